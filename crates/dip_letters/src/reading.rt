@@ -86,7 +86,7 @@ fn secret_of(text: &str) -> Option<(&str, &str)>
     }
 }
 
-#[tactic(auto, unfolding(crate::specs::Reading::number_at))]
+#[tactic(auto, unfolding(crate::specs::Reading::number_at), using(crate::proofs::NumberLemmas::number_facts))]
 fn number_of(text: &str) -> Option<(u32, &str)>
     ensures { option_map (λ p. (p.0, p.1.now)) result ≡ number_at text.now }
 {
@@ -142,13 +142,20 @@ pub fn seats_fit(body: &str) -> bool
     let mut at = body;
     let mut left: u8 = 7;
     while let Some((line, rest)) = line_of(at) {
-        if left == 0 || seat_of(line).is_none() {
+        if left == 0 || !is_seat_line(line) {
             return false;
         }
         left -= 1;
         at = rest;
     }
     at.is_empty()
+}
+
+/// Whether the line is one of a seat.
+fn is_seat_line(line: &str) -> bool
+    ensures { result ≡ is_seat_line line.now }
+{
+    seat_of(line).is_some()
 }
 
 /// The seat of a line.
@@ -165,7 +172,7 @@ pub fn seat_of<'a>(line: &'a str) -> Option<Seat<'a>>
     }
 }
 
-#[tactic(auto, unfolding(crate::specs::Reading::due_at))]
+#[tactic(auto, unfolding(crate::specs::Reading::due_at), using(crate::proofs::NumberLemmas::due_facts))]
 fn due_of(text: &str) -> Option<(u64, &str)>
     ensures { option_map (λ p. (p.0, p.1.now)) result ≡ due_at text.now }
 {
@@ -177,7 +184,7 @@ fn due_of(text: &str) -> Option<(u64, &str)>
     }
 }
 
-#[tactic(auto, unfolding(crate::specs::Reading::period_at))]
+#[tactic(auto, unfolding(crate::specs::Reading::period_at), using(crate::proofs::NumberLemmas::period_facts))]
 fn period_of(text: &str) -> Option<(u32, &str)>
     ensures { option_map (λ p. (p.0, p.1.now)) result ≡ period_at text.now }
 {

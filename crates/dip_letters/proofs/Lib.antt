@@ -4,3 +4,6 @@ pub mod WordLemmas
 pub mod FieldLemmas
 pub mod NumberLemmas
 pub mod BodyLemmas
+pub mod HeadLemmas
+pub mod CommandLemmas
+pub mod NoteLemmas

@@ -1,0 +1,3 @@
+pub mod MapChart
+pub mod MapChecks
+pub mod MapBoard

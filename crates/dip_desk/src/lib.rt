@@ -1,0 +1,4 @@
+//! The desk: the map, the orders, and what takes letters.
+#![tactic(auto)]
+
+pub mod map;

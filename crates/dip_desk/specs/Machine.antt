@@ -9,6 +9,7 @@ use Rattle.dip_letters.specs.declared.letters.LetterFault.{LetterFault}
 use Rattle.dip_letters.specs.declared.letters.LetterFault.TheVariants.{Malformed as Unreadable, TooLong as OverLong}
 use Rattle.dip_desk.specs.MapChart.{Chart, power_of}
 use Rattle.dip_desk.specs.MapBoard.{opening}
+use Rattle.dip_desk.specs.Ordering.{Ordered, lines_of, ordered}
 use Rattle.dip_desk.specs.State.{State, Game, Author, Nobody, TheMaster, Seat, Effect, Nothing, Pending, Opens, Change, NewSeat, changed, game_at, own_at, seat_at}
 use Rattle.dip_desk.specs.Texts.{numbers, opening_paper, refusal_text, show_text}
 use Rattle.dip_desk.specs.TextsRecords.{Public, Own, Head, Reply}
@@ -58,10 +59,14 @@ abbrev pub seen_in : ℕ → Option Game → Seen
 seen_in power None = record { public = None; own = None }
 seen_in power (Some g) = record { public = Some g.public; own = seat_at power g.seats }
 
+-- what ORDERS comes to: an answer to each line, and the orders that stand now
+abbrev pub orders_verdict : Chart → Ordered → Verdict
+orders_verdict m d = Taken d.answers (Pending (lines_of m d.orders))
+
 -- what a seat's command comes to, by what the seat sees alone
 abbrev pub seat_command : Chart → Request → Public → Own → Verdict
 seat_command m (Create due period grey seats) p o = refused WrongSender
-seat_command m (Orders lines) p o = refused WrongSender
+seat_command m (Orders lines) p o = orders_verdict m (ordered m p.board o.power o.pending lines)
 seat_command m Show p o = Taken (show_text m p o) Nothing
 
 abbrev pub verdict_on : Chart → Note → Seen → Verdict

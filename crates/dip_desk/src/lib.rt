@@ -2,10 +2,12 @@
 #![tactic(auto)]
 
 pub mod map;
+pub mod orders;
 pub mod texts;
 
 mod keeper;
 mod memory;
+mod ordering;
 mod taking;
 
 pub use keeper::{Author, Change, Desk, Effect, KeepFault, Keeper, NewSeat};

@@ -1,17 +1,19 @@
 //! One letter at a time.
 ghost use Rattle.std.specs.Prelude.{◌≡◌, ◌<◌, ◌==◌, ◌⊎◌, Option, IfOk, OnOk, OnErr, map as each, option_map, is_none, is_some, string_bytes, bytes_eq, count_by};
-ghost use Rattle.dip_letters.specs.Views.{note, request, seat_note, seats_in};
+ghost use Rattle.dip_letters.specs.Views.{lines_in, note, request, seat_note, seats_in};
 ghost use Rattle.dip_desk.specs.State as s;
 ghost use Rattle.dip_desk.specs.Machine as m;
 ghost use Rattle.dip_desk.specs.Rows as rows;
 ghost use Rattle.dip_desk.specs.TextsRows as texts;
 ghost use Rattle.dip_desk.specs.Faults.{faults_after};
 ghost use Rattle.dip_desk.specs.Verdicts.{verdict};
+ghost use Rattle.dip_desk.specs.Ordering.{ordered};
 
 use crate::keeper::{Author, Change, Effect, KeepFault, Keeper, NewSeat};
 use crate::map::{Board, Map, Power};
+use crate::ordering::{Ordered, order_lines, standing_orders, take_lines};
 use crate::texts::{Head, Own, Public, Refusal, Reply, Status, opening_paper_text, show_text};
-use dip_letters::{Command, Letter, LetterFault, Opening, Seat, Seats, digest};
+use dip_letters::{Command, Letter, LetterFault, Lines, Opening, Seat, Seats, digest};
 use std::alloc::{AllocError, Global};
 
 /// What is decided of a letter.
@@ -124,6 +126,28 @@ fn unknown(alloc: Global) -> Result<Verdict, AllocError>
     Ok(Verdict::Untaken(refusal_line(alloc, Refusal::Unknown)?))
 }
 
+/// What ORDERS comes to.
+fn orders_verdict(
+    alloc: Global,
+    map: &Map,
+    board: &Board,
+    own: &Own,
+    lines: Lines<'_>,
+) -> Result<Verdict, KeepFault>
+    ensures value { IfOk result (λ v. verdict v ≡ m.orders_verdict map.now (ordered map.now board.now own.now.power (texts.lines own.now.pending.items) (lines_in lines.entry))) }
+    ensures disk { faults_after result 0 ≡ 0 }
+{
+    let orders = standing_orders(alloc, map, board, own.power, own.pending.as_slice())?;
+    let mut taken = Ordered {
+        orders,
+        answers: String::new(alloc),
+    };
+    take_lines(map, board, own.power, lines, &mut taken)?;
+    let Ordered { orders, answers } = taken;
+    let pending = order_lines(alloc, map, orders.as_slice())?;
+    Ok(Verdict::Taken(answers, Effect::Pending(pending)))
+}
+
 /// What a seat's command comes to, by the public part and its own part alone.
 fn command_verdict(
     alloc: Global,
@@ -137,7 +161,7 @@ fn command_verdict(
 {
     match command {
         Command::Create(_) => Ok(refused(alloc, Refusal::WrongSender)?),
-        Command::Orders(_) => Ok(refused(alloc, Refusal::WrongSender)?),
+        Command::Orders(lines) => orders_verdict(alloc, map, &public.board, own, *lines),
         Command::Show => Ok(Verdict::Taken(
             show_text(alloc, map, public, own)?,
             Effect::Nothing,

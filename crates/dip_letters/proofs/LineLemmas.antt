@@ -237,3 +237,18 @@ utf8_behind l r utf8 =
 
 pub rest_utf8 : (text l r : List ℕ) → IsUtf8 text → Some (l, r) ≡ line_at text → IsUtf8 r
 rest_utf8 text l r utf8 line = utf8_behind l r (subst (λ (t : List ℕ). IsUtf8 t) (line_takes text (l, r) (sym line)).1 utf8)
+
+with_byte_keeps : (b : ℕ) (ls : List (List ℕ)) → length (with_byte b ls) ≤ length ls
+with_byte_keeps b [] = omega arith
+with_byte_keeps b (l ∷ ls) = omega arith
+
+-- a text has no more lines than bytes
+pub fewer_lines : (text : List ℕ) → length (split_lines text) ≤ length text
+fewer_lines [] = omega arith
+fewer_lines (b ∷ bs) =
+    let rest = fewer_lines bs in
+    let kept = with_byte_keeps b (split_lines bs) in
+    elim (b == 10) as (λ t. length (cond t ([] ∷ split_lines bs) (with_byte b (split_lines bs))) ≤ suc (length bs)) [
+      | true ↦ omega arith
+      | false ↦ omega arith
+    ]

@@ -15,3 +15,6 @@ pub use map::{Board, Map, MapFault};
 pub use memory::MemoryKeeper;
 pub use taking::{fault_reply, take};
 pub use texts::{Own, Public, Reply, reply_text};
+
+#[cfg(test)]
+mod tests;

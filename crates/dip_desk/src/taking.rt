@@ -19,9 +19,9 @@ use std::alloc::{AllocError, Global};
 /// What is decided of a letter.
 #[derive(Drop)]
 pub enum Verdict {
-    /// A reply alone.
-    Untaken(String),
-    /// A reply and an effect.
+    /// Its game, sender or secret isn't known.
+    NotKnown,
+    /// It gets these lines, and has this effect.
     Taken(String, Effect),
 }
 
@@ -119,13 +119,6 @@ fn refused(alloc: Global, refusal: Refusal) -> Result<Verdict, AllocError>
     ))
 }
 
-/// Nobody is the author, or there is no such game.
-fn unknown(alloc: Global) -> Result<Verdict, AllocError>
-    ensures { IfOk result (λ v. verdict v ≡ m.Untaken (m.refusal_line Refusal.Unknown)) }
-{
-    Ok(Verdict::Untaken(refusal_line(alloc, Refusal::Unknown)?))
-}
-
 /// What ORDERS comes to.
 fn orders_verdict(
     alloc: Global,
@@ -189,10 +182,10 @@ fn seat_verdict<K: Keeper>(
     ensures left { K.sound keeper.old → K.honest keeper.new → (s : s.State) → K.may_leave keeper.new s → K.may_leave keeper.old s }
 {
     let Some(public) = keeper.public(map, letter.game)? else {
-        return Ok(unknown(alloc)?);
+        return Ok(Verdict::NotKnown);
     };
     let Some(own) = keeper.own(map, letter.game, power)? else {
-        return Ok(unknown(alloc)?);
+        return Ok(Verdict::NotKnown);
     };
     command_verdict(alloc, map, &letter.command, &public, &own)
 }
@@ -313,7 +306,7 @@ fn not_for_master(alloc: Global, is_known: bool) -> Result<Verdict, AllocError>
     if is_known {
         refused(alloc, Refusal::WrongSender)
     } else {
-        unknown(alloc)
+        Ok(Verdict::NotKnown)
     }
 }
 
@@ -363,24 +356,31 @@ fn judge<K: Keeper>(
 {
     let author = author_of(keeper, map, letter)?;
     match author {
-        Author::Nobody => Ok((author, unknown(alloc)?)),
+        Author::Nobody => Ok((author, Verdict::NotKnown)),
         Author::TheMaster => Ok((author, master_verdict(alloc, keeper, map, letter)?)),
         Author::Seat(power) => Ok((author, seat_verdict(alloc, keeper, map, letter, power)?)),
     }
 }
 
 /// Whose letter the reply answers.
-fn head_of(alloc: Global, letter: &Letter<'_>, author: Author) -> Result<Option<Head>, AllocError>
-    ensures { IfOk result (λ h. option_map texts.head h ≡ m.head_for (note letter.now) (rows.author author)) }
+fn head_of(alloc: Global, letter: &Letter<'_>) -> Result<Head, AllocError>
+    ensures { IfOk result (λ h. texts.head h ≡ m.head_of (note letter.now)) }
 {
-    match author {
-        Author::Nobody => Ok(None),
-        Author::TheMaster | Author::Seat(_) => Ok(Some(Head {
-            game: String::from_str(alloc, letter.game)?,
-            sender: String::from_str(alloc, letter.sender)?,
-            number: letter.number,
-        })),
-    }
+    Ok(Head {
+        game: String::from_str(alloc, letter.game)?,
+        sender: String::from_str(alloc, letter.sender)?,
+        number: letter.number,
+    })
+}
+
+/// The reply to a letter whose game, sender or secret isn't known.
+fn not_known(alloc: Global) -> Result<Reply, AllocError>
+    ensures { IfOk result (λ r. texts.reply r ≡ record { head = None; text = m.refusal_line Refusal.Unknown }) }
+{
+    Ok(Reply {
+        head: None,
+        text: refusal_line(alloc, Refusal::Unknown)?,
+    })
 }
 
 /// Keeps what was decided, and gives the reply. Nothing grows behind the change.
@@ -393,7 +393,7 @@ fn settle<K: Keeper>(
     decided: Verdict,
 ) -> Result<Reply, KeepFault>
     requires { K.faults keeper.old < u64.MAX }
-    ensures reply { IfOk result (λ r. texts.reply r ≡ m.reply_of (note letter.now) (rows.author author) (verdict decided)) }
+    ensures reply { IfOk result (λ r. texts.reply r ≡ m.reply_of (note letter.now) (verdict decided)) }
     ensures ok { K.sound keeper.old → K.shows keeper.new → OnOk result (K.content keeper.new ≡ m.after (note letter.now) (rows.author author) (verdict decided) (K.content keeper.old)) }
     ensures err { K.sound keeper.old → K.shows keeper.new → OnErr result (K.content keeper.new ≡ K.content keeper.old) }
     ensures kept { K.sound keeper.old → K.honest keeper.new → OnOk result ((s : s.State) → K.may_leave keeper.new s → (s ≡ K.content keeper.new) ⊎ ((K.content keeper.new ≡ K.content keeper.old) × K.may_leave keeper.old s)) }
@@ -405,10 +405,10 @@ fn settle<K: Keeper>(
     ensures firm { K.sound keeper.old → K.honest keeper.new → OnOk result (K.sound keeper.new) }
     ensures open { K.sound keeper.old → K.honest keeper.new → K.shows keeper.old → OnOk result (K.shows keeper.new) }
 {
-    let head = head_of(alloc, letter, author)?;
     match decided {
-        Verdict::Untaken(text) => Ok(Reply { head, text }),
+        Verdict::NotKnown => Ok(not_known(alloc)?),
         Verdict::Taken(text, effect) => {
+            let head = Some(head_of(alloc, letter)?);
             let change = Change {
                 game: String::from_str(alloc, letter.game)?,
                 author,

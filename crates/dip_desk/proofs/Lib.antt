@@ -4,3 +4,6 @@ pub mod KeyedLemmas
 pub mod TextLemmas
 pub mod SeatLemmas
 pub mod OrderingLemmas
+pub mod Suiting
+pub mod Seeing
+pub mod Runs

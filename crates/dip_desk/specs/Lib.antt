@@ -15,3 +15,4 @@ pub mod OrdersFaults
 pub mod Ordering
 pub mod OrdersDummy
 pub mod OrderingRows
+pub mod View

@@ -50,6 +50,11 @@ refusal_line r = refusal_text r ++ codes "\n"
 abbrev pub refused : Refusal → Verdict
 refused r = Taken (refusal_line r) Nothing
 
+-- a seat: its game and its power
+pub record SeatName : Type 0 where
+  pub game : List ℕ
+  pub power : ℕ
+
 -- what a seat sees: the public part of its game and its own part
 pub record Seen : Type 0 where
   pub public : Option Public
@@ -58,6 +63,9 @@ pub record Seen : Type 0 where
 abbrev pub seen_in : ℕ → Option Game → Seen
 seen_in power None = record { public = None; own = None }
 seen_in power (Some g) = record { public = Some g.public; own = seat_at power g.seats }
+
+abbrev pub seen : SeatName → State → Seen
+seen seat s = seen_in seat.power (game_at seat.game s)
 
 -- what ORDERS comes to: an answer to each line, and the orders that stand now
 abbrev pub orders_verdict : Chart → Ordered → Verdict
@@ -69,13 +77,15 @@ seat_command m (Create due period grey seats) p o = refused WrongSender
 seat_command m (Orders lines) p o = orders_verdict m (ordered m p.board o.power o.pending lines)
 seat_command m Show p o = Taken (show_text m p o) Nothing
 
+-- without a game or a seat nobody is known
+abbrev pub verdict_by : Chart → Request → Option Public → Option Own → Verdict
+verdict_by m command None o = NotKnown
+verdict_by m command (Some p) None = NotKnown
+verdict_by m command (Some p) (Some o) = seat_command m command p o
+
+-- what a seat's letter comes to, by what the seat sees alone
 abbrev pub verdict_on : Chart → Note → Seen → Verdict
-verdict_on m n s = both s.public s.own
-  where
-    both : Option Public → Option Own → Verdict
-    both (Some p) (Some o) = seat_command m n.command p o
-    both (Some p) None = NotKnown
-    both None o = NotKnown
+verdict_on m n s = verdict_by m n.command s.public s.own
 
 -- a seat of a new game, where its power is one of the map
 abbrev pub new_seat : Chart → List ℕ → SeatNote → Option NewSeat

@@ -6,11 +6,13 @@ pub mod orders;
 pub mod texts;
 
 mod keeper;
+mod laws;
 mod memory;
 mod ordering;
 mod taking;
 
 pub use keeper::{Author, Change, Desk, Effect, KeepFault, Keeper, NewSeat};
+pub use laws::{answered_from_what_is_seen, settled_by_view, shown_by_others};
 pub use map::{Board, Map, MapFault};
 pub use memory::MemoryKeeper;
 pub use taking::{fault_reply, take};

@@ -1,0 +1,103 @@
+-- Histories, seen by one seat.
+use Rattle.std.proofs.Common.{◌≡◌, ◌≢◌, ℕ, ◌<◌, ◌+◌, Bool, true, false, cond, List, [], ◌∷◌, ◌++◌, map, take, length, get_or, refl, sym, ◌∙◌, ap, subst, bytes_eq}
+use Rattle.std.specs.Prelude.{◌↔◌, ◌&&◌}
+use Rattle.std.proofs.lemmas.Bool.{false≢true}
+use Rattle.std.proofs.lemmas.List.{take_more}
+use Rattle.dip_letters.specs.Notes.{Note}
+use Rattle.dip_desk.specs.MapChart.{Chart}
+use Rattle.dip_desk.specs.State.{State, Author, Seat, Effect, Nothing, Pending, Opens}
+use Rattle.dip_desk.specs.Machine.{Decides, SeatName, Seen, Step, Verdict, NotKnown, Taken, author, reply_of, seen, verdict_on}
+use Rattle.dip_desk.specs.TextsRecords.{Reply}
+use Rattle.dip_desk.specs.View.{Event, IsAnsweredFromSeen, IsHistory, IsRun, IsSettledByView, IsShownByOthers, Reaches, Turn, absorb_all, author_in, left_by, own_events, replies_to, reply_in, shown, shown_by, told, verdict_events, view, writes}
+use Rattle.dip_desk.proofs.Seeing.{absorb_all-append, step_seen, step_told, told-append}
+
+pub answered_from_seen : (m : Chart) → IsAnsweredFromSeen m
+answered_from_seen m a b n power v w da db same =
+    let seat : SeatName = record { game = n.game; power = power } in
+    let alike : v ≡ w = da ∙ ap (verdict_on m n) same ∙ sym db in
+    (ap (reply_of n) alike,
+     step_seen m seat a n (Seat power) v da
+     ∙ ap (λ (s : Seen). absorb_all m power s (shown seat n (Seat power) v)) same
+     ∙ ap (λ (x : Verdict). absorb_all m power (seen seat b) (shown seat n (Seat power) x)) alike
+     ∙ sym (step_seen m seat b n (Seat power) w db))
+
+-- what a seat sees behind the first step
+first_seen : (m : Chart) (seat : SeatName) (t : Turn) (old : State) → t.before ≡ old → Decides m t.before t.letter (author_in m t) t.verdict
+    → seen seat (left_by m t) ≡ absorb_all m seat.power (seen seat old) (shown_by m seat t)
+first_seen m seat t old here decides =
+    step_seen m seat t.before t.letter (author_in m t) t.verdict decides ∙ ap (λ (s : State). absorb_all m seat.power (seen seat s) (shown_by m seat t)) here
+
+-- a history, seen by any seat
+pub run_seen : (m : Chart) (seat : SeatName) (ts : List Turn) (old new : State) → IsRun m old ts new
+    → seen seat new ≡ absorb_all m seat.power (seen seat old) (view m seat ts)
+run_seen m seat [] old new h = ap (seen seat) h
+run_seen m seat (t ∷ ts) old new h =
+    run_seen m seat ts (left_by m t) new h.2
+    ∙ ap (λ (s : Seen). absorb_all m seat.power s (view m seat ts)) (first_seen m seat t old h.0 h.1)
+    ∙ sym (absorb_all-append m seat.power (seen seat old) (shown_by m seat t) (view m seat ts))
+
+pub run_told : (m : Chart) (seat : SeatName) (ts : List Turn) (old new : State) → IsRun m old ts new
+    → replies_to m seat ts ≡ told m seat.power (seen seat old) (view m seat ts)
+run_told m seat [] old new h = refl
+run_told m seat (t ∷ ts) old new h =
+    let first : cond (writes seat t.letter (author_in m t)) (reply_in t ∷ []) [] ≡ told m seat.power (seen seat old) (shown_by m seat t) =
+        step_told m seat t.before t.letter (author_in m t) t.verdict h.1 ∙ ap (λ (s : State). told m seat.power (seen seat s) (shown_by m seat t)) h.0 in
+    ap (λ (rs : List Reply). rs ++ replies_to m seat ts) first
+    ∙ ap (λ (rs : List Reply). told m seat.power (seen seat old) (shown_by m seat t) ++ rs)
+      (run_told m seat ts (left_by m t) new h.2 ∙ ap (λ (s : Seen). told m seat.power s (view m seat ts)) (first_seen m seat t old h.0 h.1))
+    ∙ sym (told-append m seat.power (seen seat old) (shown_by m seat t) (view m seat ts))
+
+-- settled by view
+pub settled : (m : Chart) (old new : State) (turns : List Turn) → IsRun m old turns new → IsSettledByView m old turns new
+settled m old new turns run seat first last others other same shown =
+    (run_told m seat others first last other
+     ∙ ap (λ (s : Seen). told m seat.power s (view m seat others)) same
+     ∙ ap (λ (es : List Event). told m seat.power (seen seat old) es) shown
+     ∙ sym (run_told m seat turns old new run),
+     run_seen m seat others first last other
+     ∙ ap (λ (s : Seen). absorb_all m seat.power s (view m seat others)) same
+     ∙ ap (λ (es : List Event). absorb_all m seat.power (seen seat old) es) shown
+     ∙ sym (run_seen m seat turns old new run))
+
+-- what others show a seat
+pub shown_by_others : IsShownByOthers
+shown_by_others seat n who v others = (there (bytes_eq n.game seat.game) v none, back (bytes_eq n.game seat.game) v none)
+  where
+    none : own_events (writes seat n who) n ≡ []
+    none = ap (λ (b : Bool). own_events b n) others
+    there : (b : Bool) (v : Verdict) → own_events (writes seat n who) n ≡ [] → own_events (writes seat n who) n ++ cond b (verdict_events seat.power v) [] ≢ [] → (b ≡ true) × Reaches v
+    there false v e some = absurd (some (ap (λ (es : List Event). es ++ []) e))
+    there true NotKnown e some = absurd (some (ap (λ (es : List Event). es ++ []) e))
+    there true (Taken text Nothing) e some = absurd (some (ap (λ (es : List Event). es ++ []) e))
+    there true (Taken text (Pending lines)) e some = absurd (some (ap (λ (es : List Event). es ++ []) e))
+    there true (Taken text (Opens public paper seats)) e some = (refl, tt)
+    back : (b : Bool) (v : Verdict) → own_events (writes seat n who) n ≡ [] → (b ≡ true) × Reaches v → own_events (writes seat n who) n ++ cond b (verdict_events seat.power v) [] ≢ []
+    back false v e h = absurd (false≢true h.0)
+    back true NotKnown e h = absurd h.1
+    back true (Taken text Nothing) e h = absurd h.1
+    back true (Taken text (Pending lines)) e h = absurd h.1
+    back true (Taken text (Opens public paper seats)) e h =
+        λ empty. let bad = sym (ap (λ (es : List Event). es ++ verdict_events seat.power (Taken text (Opens public paper seats))) e) ∙ empty in cc
+
+-- a history goes on by one step
+run_more : (m : Chart) (ts : List Turn) (old mid : State) (t : Turn) → IsRun m old ts mid → t.before ≡ mid → Decides m t.before t.letter (author_in m t) t.verdict
+    → IsRun m old (ts ++ t ∷ []) (left_by m t)
+run_more m [] old mid t h here decides = (here ∙ h, decides, refl)
+run_more m (u ∷ us) old mid t h here decides = (h.0, h.1, run_more m us (left_by m u) mid t h.2 here decides)
+
+pub map_more : {A B : Type 0} (f : A → B) (xs : List A) (x : A) → map f (xs ++ x ∷ []) ≡ map f xs ++ f x ∷ []
+map_more f [] x = refl
+map_more f (y ∷ ys) x = ap (λ zs. f y ∷ zs) (map_more f ys x)
+
+pub history_more : (m : Chart) (old mid new : State) (letters : List Note) (replies : List Reply) (n : Note) (r : Reply)
+    → (ts : List Turn) × IsHistory m old letters replies mid ts → Step m mid n r new → (ts : List Turn) × IsHistory m old (letters ++ n ∷ []) (replies ++ r ∷ []) new ts
+history_more m old mid new letters replies n r h step =
+    let t : Turn = record { before = mid; letter = n; verdict = step.0 } in
+    (h.0 ++ t ∷ [], record {
+      run = subst (λ (s : State). IsRun m old (h.0 ++ t ∷ []) s) (sym step.3) (run_more m h.0 old mid t h.1.run refl step.1);
+      asked = map_more (λ t. t.letter) h.0 t ∙ ap (λ (ns : List Note). ns ++ n ∷ []) h.1.asked;
+      answered = map_more (λ t. reply_in t) h.0 t ∙ ap (λ (rs : List Reply). rs ++ reply_in t ∷ []) h.1.answered ∙ ap (λ (x : Reply). replies ++ x ∷ []) (sym step.2);
+    })
+
+pub taken_more : {A B : Type 0} (f : A → B) (xs : List A) (i : ℕ) (x : A) → i < length xs → x ≡ get_or xs i x → map f (take (i + 1) xs) ≡ map f (take i xs) ++ f x ∷ []
+taken_more f xs i x lt is = ap (λ ys. map f ys) (take_more xs i x lt) ∙ map_more f (take i xs) (get_or xs i x) ∙ ap (λ y. map f (take i xs) ++ f y ∷ []) (sym is)

@@ -1,0 +1,84 @@
+-- Which effect may come from whom, and where.
+use Rattle.std.proofs.Common.{◌≡◌, ℕ, Bool, true, false, cond, List, Option, Some, None, refl, sym, subst}
+use Rattle.std.specs.Prelude.{bytes_eq}
+use Rattle.dip_letters.specs.Notes.{Note, Request, SeatNote}
+use Rattle.dip_letters.specs.Notes.Request.{Create, Orders, Show}
+use Rattle.dip_desk.specs.MapChart.{Chart}
+use Rattle.dip_desk.specs.State.{State, Game, Author, Nobody, TheMaster, Seat, Effect, Nothing, Pending, Opens, NewSeat, game_at, seat_at}
+use Rattle.dip_desk.specs.Machine.{Decides, Verdict, NotKnown, Taken, are_complete, created, master_verdict, new_seats, open_game, opening_public, refused, seen_in, verdict_by, verdict_on}
+use Rattle.dip_desk.specs.TextsRecords.{Public, Own}
+use Rattle.dip_desk.specs.declared.texts.refusals.Refusal.TheVariants.{Malformed}
+
+abbrev pub Suits : List ℕ → Author → Option Game → Effect → Type 0
+Suits name Nobody game e = ⊥
+Suits name TheMaster None Nothing = Unit {0}
+Suits name TheMaster None (Pending lines) = ⊥
+Suits name TheMaster None (Opens public paper seats) = public.game ≡ name
+Suits name TheMaster (Some g) Nothing = Unit {0}
+Suits name TheMaster (Some g) (Pending lines) = ⊥
+Suits name TheMaster (Some g) (Opens public paper seats) = ⊥
+Suits name (Seat p) None e = ⊥
+Suits name (Seat p) (Some g) Nothing = Unit {0}
+Suits name (Seat p) (Some g) (Pending lines) = Unit {0}
+Suits name (Seat p) (Some g) (Opens public paper seats) = ⊥
+
+abbrev pub VerdictSuits : List ℕ → Author → Option Game → Verdict → Type 0
+VerdictSuits name who game NotKnown = Unit {0}
+VerdictSuits name who game (Taken text e) = Suits name who game e
+
+seat_suits : (m : Chart) (name : List ℕ) (p : ℕ) (g : Game) (command : Request) (o : Option Own) → VerdictSuits name (Seat p) (Some g) (verdict_by m command (Some g.public) o)
+seat_suits m name p g command None = tt
+seat_suits m name p g (Create due period grey seats) (Some o) = tt
+seat_suits m name p g (Orders lines) (Some o) = tt
+seat_suits m name p g Show (Some o) = tt
+
+nothing_suits : (name : List ℕ) (game : Option Game) → Suits name TheMaster game Nothing
+nothing_suits name None = tt
+nothing_suits name (Some g) = tt
+
+open_suits : (m : Chart) (p : Public) (seats : List NewSeat) (game : Option Game) → VerdictSuits p.game TheMaster game (open_game m p seats game)
+open_suits m p seats None = refl
+open_suits m p seats (Some g) = tt
+
+created_suits : (m : Chart) (p : Public) (found : Option (List NewSeat)) (game : Option Game) → VerdictSuits p.game TheMaster game (created m p found game)
+created_suits m p None game = nothing_suits p.game game
+created_suits m p (Some seats) game = go (are_complete m seats)
+  where
+    go : (b : Bool) → VerdictSuits p.game TheMaster game (cond b (open_game m p seats game) (refused Malformed))
+    go true = open_suits m p seats game
+    go false = nothing_suits p.game game
+
+master_suits : (m : Chart) (n : Note) (command : Request) (game : Option Game) → VerdictSuits n.game TheMaster game (master_verdict m n command game)
+master_suits m n (Create due period grey seats) game = created_suits m (opening_public m n.game due period grey) (new_seats m n.game seats) game
+master_suits m n (Orders lines) None = tt
+master_suits m n (Orders lines) (Some g) = tt
+master_suits m n Show None = tt
+master_suits m n Show (Some g) = tt
+
+-- what is decided has an effect that may come there
+pub decides_suits : (m : Chart) (s : State) (n : Note) (who : Author) (v : Verdict) → Decides m s n who v → VerdictSuits n.game who (game_at n.game s) v
+decides_suits m s n Nobody v h = subst (λ (w : Verdict). VerdictSuits n.game Nobody (game_at n.game s) w) (sym h) tt
+decides_suits m s n TheMaster v h = subst (λ (w : Verdict). VerdictSuits n.game TheMaster (game_at n.game s) w) (sym h) (master_suits m n n.command (game_at n.game s))
+decides_suits m s n (Seat p) v h = go (game_at n.game s) h
+  where
+    go : (game : Option Game) → v ≡ verdict_on m n (seen_in p game) → VerdictSuits n.game (Seat p) game v
+    go None is = subst (λ (w : Verdict). VerdictSuits n.game (Seat p) None w) (sym is) tt
+    go (Some g) is = subst (λ (w : Verdict). VerdictSuits n.game (Seat p) (Some g) w) (sym is) (seat_suits m n.game p g n.command (seat_at p g.seats))
+
+-- a new game comes from the master, where there is none of its name
+pub opens_where : (name : List ℕ) (who : Author) (game : Option Game) (public : Public) (paper : List ℕ) (seats : List NewSeat)
+    → Suits name who game (Opens public paper seats) → (who ≡ TheMaster) × (game ≡ None) × (public.game ≡ name)
+opens_where name Nobody game public paper seats h = absurd h
+opens_where name TheMaster None public paper seats h = (refl, refl, h)
+opens_where name TheMaster (Some g) public paper seats h = absurd h
+opens_where name (Seat p) None public paper seats h = absurd h
+opens_where name (Seat p) (Some g) public paper seats h = absurd h
+
+-- orders come from a seat of a game
+pub orders_where : (name : List ℕ) (who : Author) (game : Option Game) (lines : List (List ℕ))
+    → Suits name who game (Pending lines) → (p : ℕ) × (g : Game) × (who ≡ Seat p) × (game ≡ Some g)
+orders_where name Nobody game lines h = absurd h
+orders_where name TheMaster None lines h = absurd h
+orders_where name TheMaster (Some g) lines h = absurd h
+orders_where name (Seat p) None lines h = absurd h
+orders_where name (Seat p) (Some g) lines h = (p, g, refl, refl)

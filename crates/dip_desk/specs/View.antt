@@ -1,0 +1,141 @@
+-- What one seat is shown by a history, and what follows from it alone.
+use Rattle.std.specs.Prelude.{ℕ, ◌≡◌, ◌≢◌, ◌==◌, ◌&&◌, ◌↔◌, Bool, true, false, List, [], ◌∷◌, ◌++◌, Option, None, Some, option_map, bytes_eq, flat_map, map, if◌then◌else◌}
+use Rattle.dip_letters.specs.Notes.{Note}
+use Rattle.dip_desk.specs.MapChart.{Chart}
+use Rattle.dip_desk.specs.State.{State, Author, Nobody, TheMaster, Seat, Effect, Nothing, Pending, Opens, NewSeat, fresh, with_pending}
+use Rattle.dip_desk.specs.Machine.{Decides, SeatName, Seen, Verdict, NotKnown, Taken, after, author, reply_of, seen, verdict_on}
+use Rattle.dip_desk.specs.TextsRecords.{Public, Own, Reply}
+
+-- one step of a history: the state before it, the letter, and what was decided. What it leaves follows
+pub record Turn : Type 0 where
+  pub before : State
+  pub letter : Note
+  pub verdict : Verdict
+
+abbrev pub author_in : Chart → Turn → Author
+author_in m t = author m t.letter t.before
+
+abbrev pub left_by : Chart → Turn → State
+left_by m t = after t.letter (author_in m t) t.verdict t.before
+
+abbrev pub reply_in : Turn → Reply
+reply_in t = reply_of t.letter t.verdict
+
+-- a history: each step begins where the last ended, and may be decided so
+abbrev pub IsRun : Chart → State → List Turn → State → Type 0
+IsRun m old [] new = new ≡ old
+IsRun m old (t ∷ ts) new = (t.before ≡ old) × Decides m t.before t.letter (author_in m t) t.verdict × IsRun m (left_by m t) ts new
+
+-- what a seat is shown: a letter of its own, a paper and the public part that stands after it, or its digest
+pub data Event : Type 0 where
+  OwnLetter : (letter : Note) → Event
+  Published : (public : Public) → (paper : List ℕ) → Event
+  Seated : (digest : List ℕ) → Event
+
+abbrev pub is_seat : Author → ℕ → Bool
+is_seat Nobody power = false
+is_seat TheMaster power = false
+is_seat (Seat p) power = p == power
+
+-- whether the seat is the letter's author
+abbrev pub writes : SeatName → Note → Author → Bool
+writes seat n who = bytes_eq n.game seat.game && is_seat who seat.power
+
+abbrev pub own_events : Bool → Note → List Event
+own_events mine n = if mine then OwnLetter n ∷ [] else []
+
+-- the digest that CREATE gives the power
+abbrev pub seated_in : ℕ → List NewSeat → List Event
+seated_in power [] = []
+seated_in power (s ∷ ss) = if s.power == power then Seated s.digest ∷ [] else seated_in power ss
+
+-- what an effect shows each seat of its game
+abbrev pub effect_events : ℕ → Effect → List Event
+effect_events power Nothing = []
+effect_events power (Pending lines) = []
+effect_events power (Opens public paper seats) = Published public paper ∷ seated_in power seats
+
+abbrev pub verdict_events : ℕ → Verdict → List Event
+verdict_events power NotKnown = []
+verdict_events power (Taken text effect) = effect_events power effect
+
+-- what a letter shows a seat: its own letter, and what an effect in its game shows it
+abbrev pub shown : SeatName → Note → Author → Verdict → List Event
+shown seat n who v = own_events (writes seat n who) n ++ (if bytes_eq n.game seat.game then verdict_events seat.power v else [])
+
+abbrev pub shown_by : Chart → SeatName → Turn → List Event
+shown_by m seat t = shown seat t.letter (author_in m t) t.verdict
+
+-- the view of a seat: all that a history shows it, in order
+abbrev pub view : Chart → SeatName → List Turn → List Event
+view m seat ts = flat_map (shown_by m seat) ts
+
+abbrev pub own_replies : Bool → Turn → List Reply
+own_replies mine t = if mine then reply_in t ∷ [] else []
+
+-- the replies to the seat's own letters, in order
+abbrev pub replies_to : Chart → SeatName → List Turn → List Reply
+replies_to m seat [] = []
+replies_to m seat (t ∷ ts) = own_replies (writes seat t.letter (author_in m t)) t ++ replies_to m seat ts
+
+-- what a seat's own letter does to its own part
+abbrev pub own_after : Verdict → Own → Own
+own_after NotKnown o = o
+own_after (Taken text Nothing) o = o
+own_after (Taken text (Pending lines)) o = with_pending lines o
+own_after (Taken text (Opens public paper seats)) o = o
+
+abbrev pub seated : ℕ → List ℕ → Option Own → Option Own
+seated power by None = Some (fresh (record { power = power; digest = by }))
+seated power by (Some o) = Some (record o { digest = by })
+
+-- what a seat sees after one more event
+abbrev pub absorb : Chart → ℕ → Seen → Event → Seen
+absorb m power s (OwnLetter n) = record { public = s.public; own = option_map (own_after (verdict_on m n s)) s.own }
+absorb m power s (Published public paper) = record { public = Some public; own = s.own }
+absorb m power s (Seated by) = record { public = s.public; own = seated power by s.own }
+
+abbrev pub absorb_all : Chart → ℕ → Seen → List Event → Seen
+absorb_all m power s [] = s
+absorb_all m power s (e ∷ es) = absorb_all m power (absorb m power s e) es
+
+-- what a seat is told by one more event
+abbrev pub told_at : Chart → Seen → Event → List Reply
+told_at m s (OwnLetter n) = reply_of n (verdict_on m n s) ∷ []
+told_at m s (Published public paper) = []
+told_at m s (Seated by) = []
+
+abbrev pub told : Chart → ℕ → Seen → List Event → List Reply
+told m power s [] = []
+told m power s (e ∷ es) = told_at m s e ++ told m power (absorb m power s e) es
+
+-- the turns are a history of these letters, with these replies
+pub record IsHistory (m : Chart) (old : State) (letters : List Note) (replies : List Reply) (new : State) (turns : List Turn) : Type 0 where
+  pub run : IsRun m old turns new
+  pub asked : map (λ t. t.letter) turns ≡ letters
+  pub answered : map (λ t. reply_in t) turns ≡ replies
+
+-- whatever other history begins with the same for a seat and shows it the same, tells it the same and leaves it the same
+abbrev pub IsSettledByView : Chart → State → List Turn → State → Type 0
+IsSettledByView m old turns new = (seat : SeatName) (first last : State) (others : List Turn) → IsRun m first others last
+    → seen seat first ≡ seen seat old → view m seat others ≡ view m seat turns
+    → (replies_to m seat others ≡ replies_to m seat turns) × (seen seat last ≡ seen seat new)
+
+-- a letter of a seat gets one reply in all states that the seat sees alike, and leaves them alike
+abbrev pub IsAnsweredFromSeen : Chart → Type 0
+IsAnsweredFromSeen m = (a b : State) (n : Note) (power : ℕ) (v w : Verdict) → Decides m a n (Seat power) v → Decides m b n (Seat power) w
+    → seen (record { game = n.game; power = power }) a ≡ seen (record { game = n.game; power = power }) b
+    → (reply_of n v ≡ reply_of n w)
+    × (seen (record { game = n.game; power = power }) (after n (Seat power) v a) ≡ seen (record { game = n.game; power = power }) (after n (Seat power) w b))
+
+-- what a letter of another author shows a seat of its game: a paper or its digest
+abbrev pub Reaches : Verdict → Type 0
+Reaches NotKnown = ⊥
+Reaches (Taken text Nothing) = ⊥
+Reaches (Taken text (Pending lines)) = ⊥
+Reaches (Taken text (Opens public paper seats)) = Unit {0}
+
+-- a letter of another author adds to a seat's view exactly where it publishes in its game or sets its digest
+abbrev pub IsShownByOthers : Type 0
+IsShownByOthers = (seat : SeatName) (n : Note) (who : Author) (v : Verdict) → writes seat n who ≡ false
+    → (shown seat n who v ≢ []) ↔ ((bytes_eq n.game seat.game ≡ true) × Reaches v)

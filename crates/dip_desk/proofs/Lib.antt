@@ -1,2 +1,5 @@
 pub mod MapLaws
 pub mod BoardLaws
+pub mod TokenLaws
+pub mod SpellingLaws
+pub mod FormLaws

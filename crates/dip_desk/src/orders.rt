@@ -1,0 +1,17 @@
+//! Orders: their texts, read for a board and printed.
+
+mod drafts;
+mod faults;
+mod placed;
+mod printing;
+mod reading;
+mod words;
+
+pub use faults::OrderFault;
+pub use placed::{Order, PlacedOrder};
+pub use printing::print_order;
+pub use reading::read_order;
+pub use words::{TokenList, tokens};
+
+#[cfg(test)]
+mod tests;

@@ -1,10 +1,10 @@
-use Rattle.std.proofs.Common.{◌≡◌, ℕ, ◌+◌, ◌<◌, ◌≤◌, ◌==◌, ◌⊎◌, Bool, true, false, zero, suc, length, List, [], ◌∷◌, ◌++◌, refl, sym, ◌∙◌, ap, subst, inl, inr, arith, nat_le, ◌&&◌, Option, Some, None, option_map, append_assoc, map, replicate, if◌then◌else◌}
+use Rattle.std.proofs.Common.{◌≡◌, ℕ, ◌<◌, ◌==◌, true, false, zero, suc, length, List, [], ◌∷◌, ◌++◌, refl, sym, ◌∙◌, ap, subst, inl, inr, arith, nat_le, Option, Some, None, option_map, append_assoc, map, replicate}
 use Rattle.std.proofs.lemmas.Bool.{and_parts, false≢true, cases_Bool, leb-true, le-leb, eqb-true}
 use Rattle.std.proofs.lemmas.List.{append-nil}
 use Rattle.std.proofs.lemmas.List.Folds.{list_all-append}
 use Rattle.std.specs.List.{list_all}
 use Rattle.std.specs.Cmp.Derive.{both_true}
-use Rattle.dip_desk.specs.OrdersTokens.{is_word_byte, is_word, minus, IsToken, Piece, spelled, IsParted, ArePieces, Spells}
+use Rattle.dip_desk.specs.OrdersTokens.{is_word_byte, is_word, minus, Piece, spelled, IsParted, ArePieces, Spells}
 use Rattle.std.specs.Option.{IfSome, IfNone}
 use Rattle.std.proofs.lemmas.Bool.Decides.{nat_tests}
 use Rattle.dip_desk.specs.OrdersScan.{closed, scan, tokens_at, few}
@@ -32,7 +32,6 @@ scan_trail n = subst (λ (x : List ℕ). scan [] x ≡ Some []) (append-nil (rep
 
 -- no letter or slash follows a word among pieces
 parted_ends : (t : List ℕ) (ps : List Piece) (trail : ℕ) → is_word t ≡ true → ArePieces ps → IsParted t ps → starts_word (spelled ps trail) ≡ false
-
 parted_ends t [] zero w ok apart = refl
 parted_ends t [] (suc n) w ok apart = refl
 parted_ends t (p ∷ ps) trail w ok apart = gap_ends p.gap refl
@@ -53,8 +52,8 @@ spelled_scan (p ∷ ps) trail ok =
     let next = spelled_scan ps trail more in
     scan_spaces p.gap (p.token ++ spelled ps trail) ∙ elim token [
       | inl word ↦
-        let (long, all) = and_parts (nat_le 1 (length p.token)) (list_all is_word_byte p.token) word in
-        scan_run p.token (spelled ps trail) (leb-true _ _ long) all (parted_ends p.token ps trail word more apart) ∙ ap (λ o. option_map (λ ts. p.token ∷ ts) o) next
+          let (long, all) = and_parts (nat_le 1 (length p.token)) (list_all is_word_byte p.token) word in
+          scan_run p.token (spelled ps trail) (leb-true _ _ long) all (parted_ends p.token ps trail word more apart) ∙ ap (λ o. option_map (λ ts. p.token ∷ ts) o) next
       | inr dash ↦ rw (dash, next) refl
     ]
 
@@ -151,21 +150,21 @@ scan_spelled w [] ts all h =
 scan_spelled w (b ∷ bs) ts all h =
     elim (cases_Bool (is_word_byte b)) [
       | inl word ↦
-        let longer : list_all is_word_byte (w ++ b ∷ []) ≡ true = list_all-append is_word_byte w (b ∷ []) ∙ both_true all (both_true word refl) in
-        subst (λ (x : List ℕ). Spells x ts) (append_assoc w (b ∷ []) bs) (scan_spelled (w ++ b ∷ []) bs ts longer (rw word at h))
+          let longer : list_all is_word_byte (w ++ b ∷ []) ≡ true = list_all-append is_word_byte w (b ∷ []) ∙ both_true all (both_true word refl) in
+          subst (λ (x : List ℕ). Spells x ts) (append_assoc w (b ∷ []) bs) (scan_spelled (w ++ b ∷ []) bs ts longer (rw word at h))
       | inr other ↦
-        elim (cases_Bool (b == 32)) [
-          | inl space ↦
-            let (inner, found, is) = mapped_some (λ x. closed w x) (scan [] bs) ts (sym (scan_space w b bs other space) ∙ h) in
-            spelled_space w b bs ts inner all space (scan_spelled [] bs inner refl found) is
-          | inr visible ↦
-            elim (cases_Bool (b == 45)) [
-              | inl dash ↦
-                let (inner, found, is) = mapped_some (λ x. closed w (minus ∷ x)) (scan [] bs) ts (sym (scan_minus w b bs other visible dash) ∙ h) in
-                spelled_minus w b bs ts inner all dash (scan_spelled [] bs inner refl found) is
-              | inr stray ↦ let none : None ≡ Some ts = sym (scan_stray w b bs other visible stray) ∙ h in absurd (cc)
-            ]
-        ]
+          elim (cases_Bool (b == 32)) [
+            | inl space ↦
+                let (inner, found, is) = mapped_some (λ x. closed w x) (scan [] bs) ts (sym (scan_space w b bs other space) ∙ h) in
+                spelled_space w b bs ts inner all space (scan_spelled [] bs inner refl found) is
+            | inr visible ↦
+                elim (cases_Bool (b == 45)) [
+                  | inl dash ↦
+                      let (inner, found, is) = mapped_some (λ x. closed w (minus ∷ x)) (scan [] bs) ts (sym (scan_minus w b bs other visible dash) ∙ h) in
+                      spelled_minus w b bs ts inner all dash (scan_spelled [] bs inner refl found) is
+                  | inr stray ↦ let none : None ≡ Some ts = sym (scan_stray w b bs other visible stray) ∙ h in absurd (cc)
+                ]
+          ]
     ]
 
 -- what is read is spelled so

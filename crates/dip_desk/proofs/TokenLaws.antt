@@ -1,9 +1,9 @@
-use Rattle.std.proofs.Common.{length-take, length-drop, length-append, ◌≡◌, ℕ, ◌+◌, ◌<◌, ◌≤◌, ◌==◌, ◌⊎◌, Bool, true, false, not, zero, suc, get_or, length, take, drop, List, [], ◌∷◌, ◌++◌, refl, sym, ◌∙◌, ap, subst, inl, inr, arith, nat_le, ◌&&◌, Option, Some, None, option_map, append_assoc, if◌then◌else◌}
-use Rattle.std.proofs.lemmas.Bool.{and_parts, false≢true, cases_Bool, le-leb, leb-true}
+use Rattle.std.proofs.Common.{length-take, length-drop, length-append, ◌≡◌, ℕ, ◌+◌, ◌<◌, ◌≤◌, ◌==◌, Bool, true, false, suc, get_or, length, take, drop, List, [], ◌∷◌, ◌++◌, refl, sym, ◌∙◌, ap, subst, inl, inr, arith, nat_le, Option, Some, None, option_map, append_assoc}
+use Rattle.std.proofs.lemmas.Bool.{and_parts, cases_Bool, le-leb, leb-true}
 use Rattle.std.proofs.lemmas.List.{append-nil, take-append-drop}
 use Rattle.std.specs.List.{list_all}
 use Rattle.std.specs.Cmp.Derive.{both_true}
-use Rattle.dip_desk.specs.OrdersTokens.{is_word_byte, is_word, minus, IsToken, Piece, spelled, IsParted, ArePieces, Spells}
+use Rattle.dip_desk.specs.OrdersTokens.{is_word_byte, minus}
 use Rattle.dip_desk.specs.OrdersScan.{closed, scan, tokens_at, word_length, few}
 
 -- a text that begins with a letter or a slash
@@ -29,16 +29,15 @@ closed_twice b bs (Some ts) = refl
 
 -- a word ends where no letter or slash follows
 scan_closed : (b : ℕ) (bs rest : List ℕ) → starts_word rest ≡ false → scan (b ∷ bs) rest ≡ option_map (λ ts. (b ∷ bs) ∷ ts) (scan [] rest)
-
 scan_closed b bs [] h = refl
 scan_closed b bs (x ∷ xs) h =
     rw h (elim (cases_Bool (x == 32)) [
       | inl space ↦ rw space (ap (λ o. option_map (λ ts. (b ∷ bs) ∷ ts) o) (sym (closed_none (scan [] xs))))
       | inr other ↦
-        rw other (elim (cases_Bool (x == 45)) [
-          | inl dash ↦ rw dash (closed_twice b bs (scan [] xs))
-          | inr stray ↦ rw stray refl
-        ])
+          rw other (elim (cases_Bool (x == 45)) [
+            | inl dash ↦ rw dash (closed_twice b bs (scan [] xs))
+            | inr stray ↦ rw stray refl
+          ])
     ])
 
 word_all : (text : List ℕ) → list_all is_word_byte (take (word_length text) text) ≡ true
@@ -46,19 +45,18 @@ word_all [] = refl
 word_all (b ∷ bs) =
     elim (cases_Bool (is_word_byte b)) [
       | inl word ↦
-        let e : 1 + word_length bs ≡ suc (word_length bs) = omega arith in
-        rw (word, e) (both_true word (word_all bs))
+          let e : 1 + word_length bs ≡ suc (word_length bs) = omega arith in
+          rw (word, e) (both_true word (word_all bs))
       | inr other ↦ rw other refl
     ]
 
 word_ends : (text : List ℕ) → starts_word (drop (word_length text) text) ≡ false
-
 word_ends [] = refl
 word_ends (b ∷ bs) =
     elim (cases_Bool (is_word_byte b)) [
       | inl word ↦
-        let e : 1 + word_length bs ≡ suc (word_length bs) = omega arith in
-        rw (word, e) (word_ends bs)
+          let e : 1 + word_length bs ≡ suc (word_length bs) = omega arith in
+          rw (word, e) (word_ends bs)
       | inr other ↦ rw other other
     ]
 

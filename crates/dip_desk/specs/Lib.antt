@@ -6,3 +6,5 @@ pub mod OrdersTokens
 pub mod OrdersScan
 pub mod OrdersForms
 pub mod OrdersDrafts
+pub mod OrdersRules
+pub mod OrdersTexts

@@ -1,4 +1,4 @@
-use Rattle.std.specs.Prelude.{◌≡◌, ℕ, ◌==◌, Bool, true, List, [], ◌∷◌, Option, None, Some, codes, if◌then◌else◌}
+use Rattle.std.specs.Prelude.{ℕ, ◌==◌, List, [], ◌∷◌, Option, None, Some, codes, if◌then◌else◌}
 use Rattle.std.specs.Str.{bytes_eq}
 use Rattle.std.specs.Char.{to_ascii_lowercase, is_ascii_lowercase}
 use Rattle.dip_desk.specs.OrdersTokens.{minus}
@@ -72,5 +72,5 @@ draft_at (kind ∷ at ∷ last ∷ []) = do
 draft_at (kind ∷ at ∷ verb ∷ to ∷ []) = do
   u ← mention_at kind at
   s ← spot_at to
-  if bytes_eq verb minus then Some (Move u s) else None
+  if bytes_eq (small verb) minus then Some (Move u s) else None
 draft_at _ = None

@@ -5,7 +5,6 @@ use Rattle.dip_desk.specs.OrdersTokens.{minus, Spells}
 use Rattle.dip_desk.specs.declared.map.names.Kind.{Kind}
 use Rattle.dip_desk.specs.declared.map.names.Kind.TheVariants.{Army, Fleet}
 use Rattle.dip_desk.specs.declared.orders.drafts.Spot.{Spot}
-use Rattle.dip_desk.specs.declared.orders.drafts.Mention.{Mention}
 use Rattle.dip_desk.specs.declared.orders.drafts.Draft.{Draft}
 use Rattle.dip_desk.specs.declared.orders.drafts.Draft.TheVariants.{Hold, Move}
 

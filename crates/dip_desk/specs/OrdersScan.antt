@@ -1,4 +1,4 @@
-use Rattle.std.specs.Prelude.{◌≡◌, ℕ, ◌+◌, ◌==◌, ◌<◌, nat_le, Bool, true, List, [], ◌∷◌, ◌++◌, length, map, Option, None, Some, option_map, if◌then◌else◌}
+use Rattle.std.specs.Prelude.{◌≡◌, ℕ, ◌+◌, ◌==◌, ◌<◌, nat_le, List, [], ◌∷◌, ◌++◌, length, Option, None, Some, option_map, if◌then◌else◌}
 use Rattle.dip_desk.specs.OrdersTokens.{is_word_byte, minus}
 use Rattle.dip_desk.specs.declared.orders.words.Front.{Front}
 use Rattle.dip_desk.specs.declared.orders.words.Front.TheVariants.{Token, End, Stray}

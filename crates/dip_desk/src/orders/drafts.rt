@@ -35,7 +35,11 @@ fn letter_of(b: u8) -> Option<u8>
     ensures { result ≡ letter_at b }
 {
     let small = b.to_ascii_lowercase();
-    if small.is_ascii_lowercase() { Some(small) } else { None }
+    if small.is_ascii_lowercase() {
+        Some(small)
+    } else {
+        None
+    }
 }
 
 fn code_of(a: u8, b: u8, c: u8) -> Option<[u8; 3]>
@@ -120,7 +124,7 @@ fn move_of(kind: &[u8], at: &[u8], verb: &[u8], to: &[u8]) -> Option<Draft>
 {
     let unit = mention_of(kind, at)?;
     let to = spot_of(to)?;
-    if verb != b"-".as_slice() {
+    if !is_any_case(verb, b"-") {
         return None;
     }
     Some(Draft::Move { unit, to })

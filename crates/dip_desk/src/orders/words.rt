@@ -53,6 +53,7 @@ impl<'a> TokenList<'a> {
         &self.slots[..self.count]
     }
 }
+
 ghost use Rattle.std.specs.Prelude.{nat_le};
 
 /// What stands at the front of a text.
@@ -83,6 +84,7 @@ fn skip_spaces(text: &[u8]) -> &[u8]
     }
     rest
 }
+
 ghost use Rattle.std.specs.Prelude.{◌≤◌, ◌≢◌, slice_get};
 
 fn word_len(text: &[u8]) -> usize

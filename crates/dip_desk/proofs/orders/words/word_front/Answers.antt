@@ -1,4 +1,3 @@
-use Rattle.std.proofs.Common.{sym}
 use Rattle.dip_desk.proofs.TokenLaws.{word_run}
 use Rattle.dip_desk.proofs.orders.words.word_front.Goals as goal
 

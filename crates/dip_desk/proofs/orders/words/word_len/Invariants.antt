@@ -1,4 +1,4 @@
-use Rattle.std.proofs.Common.{◌≡◌, ◌+◌, ◌≤◌, drop}
+use Rattle.std.proofs.Common.{◌≡◌, ◌+◌, drop}
 use Rattle.dip_desk.specs.OrdersScan.{word_length}
 use Rattle.dip_desk.proofs.orders.words.word_len.Given as goal
 

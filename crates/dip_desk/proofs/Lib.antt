@@ -7,3 +7,6 @@ pub mod OrderingLemmas
 pub mod Suiting
 pub mod Seeing
 pub mod Runs
+pub mod TokenLaws
+pub mod SpellingLaws
+pub mod FormLaws

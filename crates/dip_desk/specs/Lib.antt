@@ -13,6 +13,12 @@ pub mod Machine
 pub mod Verdicts
 pub mod OrdersFaults
 pub mod Ordering
-pub mod OrdersDummy
 pub mod OrderingRows
 pub mod View
+pub mod OrdersTokens
+pub mod OrdersScan
+pub mod OrdersForms
+pub mod OrdersDrafts
+pub mod OrdersRules
+pub mod OrdersTexts
+pub mod OrdersReading

@@ -1,6 +1,17 @@
-mod dummy;
+//! Orders: their texts, read for a board and printed.
+
+mod drafts;
 mod faults;
 mod placed;
-pub use dummy::{print_order, read_order};
+mod printing;
+mod reading;
+mod words;
+
 pub use faults::OrderFault;
 pub use placed::{Order, PlacedOrder};
+pub use printing::print_order;
+pub use reading::read_order;
+pub use words::{TokenList, tokens};
+
+#[cfg(test)]
+mod tests;

@@ -117,7 +117,7 @@ impl Map {
     }
 
     /// The province with a code.
-    pub fn prov(&self, code: &str) -> Option<Prov>
+    pub fn prov(&self, code: &[u8]) -> Option<Prov>
         ensures { result ≡ prov_of self.now code.now }
     {
         match self.parts.prov_index(code) {
@@ -141,7 +141,7 @@ impl Map {
     }
 
     /// The number of a province's coast with a name.
-    pub fn coast(&self, p: Prov, name: &str) -> Option<u8>
+    pub fn coast(&self, p: Prov, name: &[u8]) -> Option<u8>
         ensures { result ≡ coast_of self.now p name.now }
     {
         match self.parts.coast_index(p, name) {

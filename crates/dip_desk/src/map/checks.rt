@@ -177,7 +177,7 @@ impl Parts {
         ensures { result ≡ rest_of_codes self.now 0 self.now.provinces }
     {
         for (number, province) in self.provinces.iter().enumerate() {
-            if !answers(self.prov_index(province.code.as_str()), number) {
+            if !answers(self.prov_index(province.code.as_bytes()), number) {
                 return false;
             }
         }
@@ -199,7 +199,7 @@ impl Parts {
         ensures { result ≡ rest_of_shores self.now p 0 shores.now }
     {
         for (number, shore) in shores.iter().enumerate() {
-            if !answers(self.coast_index(p, shore.name.as_str()), number) {
+            if !answers(self.coast_index(p, shore.name.as_bytes()), number) {
                 return false;
             }
         }

@@ -184,12 +184,12 @@ impl Parts {
         }
     }
 
-    pub(crate) fn prov_index(&self, code: &str) -> Option<usize>
+    pub(crate) fn prov_index(&self, code: &[u8]) -> Option<usize>
         ensures { result ≡ prov_of self.now code.now }
     {
         self.provinces
             .iter()
-            .position(|province| province.code.as_str() == code)
+            .position(|province| province.code.as_bytes() == code)
     }
 
     pub(crate) fn power_index(&self, name: &str) -> Option<usize>
@@ -200,12 +200,12 @@ impl Parts {
             .position(|realm| realm.name.as_str() == name)
     }
 
-    pub(crate) fn coast_index(&self, p: Prov, name: &str) -> Option<usize>
+    pub(crate) fn coast_index(&self, p: Prov, name: &[u8]) -> Option<usize>
         ensures { result ≡ coast_of self.now p name.now }
     {
         self.shores(p)
             .iter()
-            .position(|shore| shore.name.as_str() == name)
+            .position(|shore| shore.name.as_bytes() == name)
     }
 
     pub(crate) fn is_army_next(&self, p: Prov, q: Prov) -> bool

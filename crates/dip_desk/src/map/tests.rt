@@ -4,12 +4,14 @@ use std::process::Abort;
 use std::test::Fail;
 
 fn the_prov(rt: &impl Abort, map: &Map, code: &str) -> Prov {
-    map.prov(code).expect(rt, "a code of the map")
+    map.prov(code.as_bytes()).expect(rt, "a code of the map")
 }
 
 fn the_place(rt: &impl Abort, map: &Map, code: &str, name: &str) -> Place {
     let prov = the_prov(rt, map, code);
-    let coast = map.coast(prov, name).expect(rt, "a coast of the province");
+    let coast = map
+        .coast(prov, name.as_bytes())
+        .expect(rt, "a coast of the province");
     Place { prov, coast }
 }
 
@@ -112,11 +114,11 @@ fn names_are_found_as_they_are_spelled(rt: HostRuntime) -> Result<(), Fail> {
     assert_eq!(rt; map.coasts(stp), 2);
     assert_eq!(rt; map.coasts(the_prov(&rt, &map, "kie")), 1);
     assert_eq!(rt; map.coasts(the_prov(&rt, &map, "mun")), 0);
-    assert_eq!(rt; map.coast(stp, "nc"), Some(0));
-    assert_eq!(rt; map.coast(stp, "sc"), Some(1));
-    assert_eq!(rt; map.coast(stp, "ec"), None);
-    assert_eq!(rt; map.prov("xyz"), None);
-    assert_eq!(rt; map.prov("STP"), None);
+    assert_eq!(rt; map.coast(stp, b"nc"), Some(0));
+    assert_eq!(rt; map.coast(stp, b"sc"), Some(1));
+    assert_eq!(rt; map.coast(stp, b"ec"), None);
+    assert_eq!(rt; map.prov(b"xyz"), None);
+    assert_eq!(rt; map.prov(b"STP"), None);
     assert_eq!(rt; map.kind(stp) == Terrain::Coast, true);
     let france = map.power("france").expect(&rt, "a power");
     assert_eq!(rt; france.index(), 2);

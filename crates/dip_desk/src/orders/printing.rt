@@ -1,0 +1,58 @@
+ghost use Rattle.std.specs.Prelude.{◌≡◌, ◌++◌, OnOk, string_bytes};
+ghost use Rattle.dip_desk.specs.MapChart.{shore};
+ghost use Rattle.dip_desk.specs.OrdersTexts.{behind_slash, place_text, kind_letter, action_text, order_text};
+
+use crate::map::{Kind, Map, Place};
+use crate::orders::placed::{Order, PlacedOrder};
+use std::alloc::AllocError;
+
+fn print_coast(name: &str, out: &mut String) -> Result<(), AllocError>
+    ensures { OnOk result (string_bytes out.new ≡ string_bytes out.old ++ behind_slash name.now) }
+{
+    if name.len() == 0 {
+        return Ok(());
+    }
+    out.push_str("/")?;
+    out.push_str(name)
+}
+
+fn print_place(map: &Map, kind: Kind, place: Place, out: &mut String) -> Result<(), AllocError>
+    ensures { OnOk result (string_bytes out.new ≡ string_bytes out.old ++ place_text map.now kind place) }
+{
+    out.push_str(map.code(place.prov))?;
+    match kind {
+        Kind::Army => Ok(()),
+        Kind::Fleet => print_coast(map.coast_name(place), out),
+    }
+}
+
+fn kind_text(kind: Kind) -> &'static str
+    ensures { result.now ≡ kind_letter kind }
+{
+    match kind {
+        Kind::Army => "A ",
+        Kind::Fleet => "F ",
+    }
+}
+
+fn print_action(map: &Map, kind: Kind, order: Order, out: &mut String) -> Result<(), AllocError>
+    ensures { OnOk result (string_bytes out.new ≡ string_bytes out.old ++ action_text map.now kind order) }
+{
+    match order {
+        Order::Hold => out.push_str(" H"),
+        Order::Move { to } => {
+            out.push_str(" - ")?;
+            print_place(map, kind, to, out)
+        }
+    }
+}
+
+/// Appends the canonical text of an order.
+pub fn print_order(map: &Map, placed: &PlacedOrder, out: &mut String) -> Result<(), AllocError>
+    ensures { OnOk result (string_bytes out.new ≡ string_bytes out.old ++ order_text map.now placed.now) }
+{
+    let unit = placed.unit;
+    out.push_str(kind_text(unit.kind))?;
+    print_place(map, unit.kind, unit.place, out)?;
+    print_action(map, unit.kind, placed.order, out)
+}

@@ -49,6 +49,13 @@ abbrev pub IsTaken : Note → List ℕ → Next → Type 0
 IsTaken n rest (Taken l r) = IsLetter l × (note l ≡ n) × (r.now ≡ rest)
 IsTaken n rest _ = ⊥
 
+-- two answers that say the same
+abbrev pub IsSameNext : Next → Next → Type 0
+IsSameNext (Taken l r) (Taken m s) = (note l ≡ note m) × (r.now ≡ s.now)
+IsSameNext (Fault f r) (Fault g s) = (f ≡ g) × (r.now ≡ s.now)
+IsSameNext End End = Unit {0}
+IsSameNext _ _ = ⊥
+
 -- what follows is shorter than the input
 abbrev pub IsShorter : List ℕ → Next → Type 0
 IsShorter input (Taken l rest) = length rest.now < length input

@@ -50,7 +50,7 @@ impl<'a> Iterator for Seats<'a> {
 }
 
 /// The order lines that a body is.
-#[tactic(auto, unfolding(crate::specs::Reading::orders_at))]
+#[tactic(auto, unfolding(crate::specs::Reading::orders_at, crate::specs::Views::lines_in))]
 pub fn orders_of(body: &str) -> Option<Lines<'_>>
     ensures { option_map lines_in result ≡ orders_at body.now }
 {
@@ -62,7 +62,7 @@ pub fn orders_of(body: &str) -> Option<Lines<'_>>
 }
 
 /// The seats that a body is.
-#[tactic(auto, unfolding(crate::specs::Reading::seats_at))]
+#[tactic(auto, unfolding(crate::specs::Reading::seats_at, crate::specs::Views::seats_in))]
 pub fn seats_of(body: &str) -> Option<Seats<'_>>
     ensures { option_map seats_in result ≡ seats_at body.now }
 {

@@ -1,5 +1,5 @@
 -- Lines of a text.
-use Rattle.std.proofs.Common.{◌≡◌, ◌≢◌, ◌<◌, ◌≤◌, ◌+◌, ◌==◌, ℕ, zero, suc, List, [], ◌∷◌, ◌++◌, Option, Some, None, Bool, true, false, option_map, position, codes, length, get_or, inl, inr, not, replicate, nat_lt, lt-ltb, take, drop, refl, sym, ap, ap₂, subst, ◌∙◌, append_assoc, rules, arith, add-one, ltb-false, cond, length-append, Bor}
+use Rattle.std.proofs.Common.{◌≡◌, ◌≢◌, ◌<◌, ◌≤◌, ◌+◌, ◌==◌, ℕ, zero, suc, List, [], ◌∷◌, ◌++◌, Option, Some, None, Bool, true, false, option_map, position, codes, length, get_or, inl, inr, not, replicate, lt-ltb, take, drop, refl, sym, ap, ap₂, subst, ◌∙◌, append_assoc, rules, arith, add-one, cond, length-append, Bor}
 use Rattle.std.proofs.lemmas.List.Quantifiers.{position-Some}
 use Rattle.std.proofs.lemmas.List.Sums.{fails_before_first}
 use Rattle.std.proofs.lemmas.Bool.{cases_lt}

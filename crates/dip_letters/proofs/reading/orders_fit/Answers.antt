@@ -1,4 +1,4 @@
-use Rattle.std.proofs.Common.{Some, ◌≡◌, ◌<◌, ap, arith, sym, ◌∙◌}
+use Rattle.std.proofs.Common.{◌<◌, ap, arith, sym, ◌∙◌}
 use Rattle.dip_letters.specs.Reading.{lines_fit}
 use Rattle.dip_letters.specs.Words.{is_order_line}
 use Rattle.dip_letters.proofs.BodyLemmas.{fit_fails, fit_more, fit_none, fit_zero}

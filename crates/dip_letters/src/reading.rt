@@ -1,6 +1,6 @@
 //! The text of a letter, from its front on.
 ghost use Rattle.std.specs.Prelude.{◌≡◌, option_map};
-ghost use Rattle.dip_letters.specs.Reading.{after_name, command_at, due_at, game_at, grey_named, head_at, is_seat_line, lines_fit, note_at, number_at, opening_at, period_at, secret_at, seat_at, sender_at, show_at, start_at};
+ghost use Rattle.dip_letters.specs.Reading.{after_name, command_at, due_at, game_at, grey_named, head_at, is_seat_line, lines_fit, note_at, number_at, opening_at, period_at, secret_at, seat_at, sender_at, show_at};
 ghost use Rattle.dip_letters.specs.Views.{head_note, parts_note, request, seat_note};
 ghost use Rattle.dip_letters.specs.Words.{is_order_line};
 
@@ -34,19 +34,7 @@ fn after<'a>(name: &str, text: &'a str) -> Option<&'a str>
     text.strip_prefix(name)
 }
 
-#[tactic(auto, unfolding(crate::specs::Reading::start_at))]
-fn start_of(text: &str) -> Option<(&str, &str)>
-    ensures { option_map (λ p. (p.0.now, p.1.now)) result ≡ start_at text.now }
-{
-    let (line, rest) = line_of(text)?;
-    let value = after("LETTER", line)?;
-    if value.is_empty() {
-        Some((value, rest))
-    } else {
-        None
-    }
-}
-
+/// The value of the line `GAME`, and what is behind that line.
 #[tactic(auto, unfolding(crate::specs::Reading::game_at))]
 fn game_of(text: &str) -> Option<(&str, &str)>
     ensures { option_map (λ p. (p.0.now, p.1.now)) result ≡ game_at text.now }
@@ -60,6 +48,7 @@ fn game_of(text: &str) -> Option<(&str, &str)>
     }
 }
 
+/// The value of the line `FROM`, and what is behind that line.
 #[tactic(auto, unfolding(crate::specs::Reading::sender_at))]
 fn sender_of(text: &str) -> Option<(&str, &str)>
     ensures { option_map (λ p. (p.0.now, p.1.now)) result ≡ sender_at text.now }
@@ -73,6 +62,7 @@ fn sender_of(text: &str) -> Option<(&str, &str)>
     }
 }
 
+/// The value of the line `SECRET`, and what is behind that line.
 #[tactic(auto, unfolding(crate::specs::Reading::secret_at))]
 fn secret_of(text: &str) -> Option<(&str, &str)>
     ensures { option_map (λ p. (p.0.now, p.1.now)) result ≡ secret_at text.now }
@@ -86,6 +76,7 @@ fn secret_of(text: &str) -> Option<(&str, &str)>
     }
 }
 
+/// The value of the line `NUMBER`, and what is behind that line.
 #[tactic(auto, unfolding(crate::specs::Reading::number_at), using(crate::proofs::NumberLemmas::number_facts))]
 fn number_of(text: &str) -> Option<(u32, &str)>
     ensures { option_map (λ p. (p.0, p.1.now)) result ≡ number_at text.now }
@@ -99,11 +90,12 @@ fn number_of(text: &str) -> Option<(u32, &str)>
     }
 }
 
+/// The lines before the command, and what is behind them.
 #[tactic(auto, unfolding(crate::specs::Reading::head_at))]
 fn head_of<'a>(text: &'a str) -> Option<(Head<'a>, &'a str)>
     ensures { option_map (λ p. (head_note p.0, p.1.now)) result ≡ head_at text.entry.now }
 {
-    let (_, rest) = start_of(text)?;
+    let rest = after("LETTER\n", text)?;
     let (game, rest) = game_of(rest)?;
     let (sender, rest) = sender_of(rest)?;
     let (secret, rest) = secret_of(rest)?;
@@ -172,6 +164,7 @@ pub fn seat_of<'a>(line: &'a str) -> Option<Seat<'a>>
     }
 }
 
+/// The tick before the first space, and what is behind that space.
 #[tactic(auto, unfolding(crate::specs::Reading::due_at), using(crate::proofs::NumberLemmas::due_facts))]
 fn due_of(text: &str) -> Option<(u64, &str)>
     ensures { option_map (λ p. (p.0, p.1.now)) result ≡ due_at text.now }
@@ -184,6 +177,7 @@ fn due_of(text: &str) -> Option<(u64, &str)>
     }
 }
 
+/// The period before the first space, and what is behind that space.
 #[tactic(auto, unfolding(crate::specs::Reading::period_at), using(crate::proofs::NumberLemmas::period_facts))]
 fn period_of(text: &str) -> Option<(u32, &str)>
     ensures { option_map (λ p. (p.0, p.1.now)) result ≡ period_at text.now }
@@ -196,6 +190,7 @@ fn period_of(text: &str) -> Option<(u32, &str)>
     }
 }
 
+/// Whether the game has grey press.
 fn grey_of(word: &str) -> Option<bool>
     ensures { result ≡ grey_named word.now }
 {
@@ -228,6 +223,7 @@ fn opening_of<'a>(line: &'a str, body: &'a str) -> Option<Command<'a>>
     }))
 }
 
+/// SHOW, which has no body.
 fn show_of<'a>(body: &'a str) -> Option<Command<'a>>
     ensures { option_map request result ≡ show_at body.entry.now }
 {
@@ -238,6 +234,7 @@ fn show_of<'a>(body: &'a str) -> Option<Command<'a>>
     }
 }
 
+/// What the command's line and the lines behind it ask for.
 #[tactic(auto, unfolding(crate::specs::Reading::command_at))]
 fn command_of<'a>(text: &'a str) -> Option<Command<'a>>
     ensures { option_map request result ≡ command_at text.entry.now }

@@ -2,6 +2,7 @@
 #![tactic(auto)]
 
 mod bodies;
+mod commands;
 mod digests;
 mod input;
 mod laws;

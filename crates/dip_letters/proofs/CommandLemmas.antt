@@ -1,9 +1,8 @@
 -- The command's line and its body, in both directions.
-use Rattle.std.proofs.Common.{◌≡◌, ◌≢◌, ◌<◌, ◌≤◌, ◌+◌, ◌^◌, ℕ, List, [], ◌∷◌, ◌++◌, Option, Some, None, Bool, true, false, codes, cond, length, map, option_map, refl, sym, ap, ap₂, subst, ◌∙◌, append_assoc, rules, arith}
+use Rattle.std.proofs.Common.{◌≡◌, ◌≤◌, ℕ, List, ◌∷◌, ◌++◌, Option, Some, None, Bool, true, false, codes, cond, map, option_map, refl, ap, subst, ◌∙◌, rules, arith}
 use Rattle.std.specs.Fmt.{decimal}
-use Rattle.std.specs.List.{AllByRecursion}
 use Rattle.std.specs.Str.{bytes_eq}
-use Rattle.dip_letters.specs.Letters.{FitsOrder, FitsRequest, FitsSeat, body_lines, command_line, seat_line, yes_or_no}
+use Rattle.dip_letters.specs.Letters.{FitsRequest, body_lines, command_line, seat_line, yes_or_no}
 use Rattle.dip_letters.specs.Lines.{AreInner, line_at, text_of}
 use Rattle.dip_letters.specs.Notes.{Request, SeatNote}
 use Rattle.dip_letters.specs.Notes.Request.{Create, Orders, Show}

@@ -1,11 +1,11 @@
 -- The lines before the command, in both directions.
-use Rattle.std.proofs.Common.{◌≡◌, ◌<◌, ◌≤◌, ◌+◌, ◌^◌, ℕ, List, [], ◌∷◌, ◌++◌, Option, Some, None, Bool, true, false, codes, length, refl, sym, ap, ap₂, subst, ◌∙◌, rules, arith}
+use Rattle.std.proofs.Common.{◌≡◌, ◌≤◌, ℕ, List, [], ◌∷◌, ◌++◌, Some, true, codes, refl, sym, ap, ap₂, subst, ◌∙◌, rules, arith}
 use Rattle.std.specs.Fmt.{decimal}
 use Rattle.std.specs.Str.Parse.{digits_value}
 use Rattle.std.proofs.lemmas.Fmt.{digits_value-decimal}
-use Rattle.dip_letters.specs.Reading.{Head, field_at, game_at, head_at, number_at, secret_at, sender_at, start_at}
-use Rattle.dip_letters.specs.Words.{is_empty, is_game, is_name, is_number, is_secret}
-use Rattle.dip_letters.proofs.BodyLemmas.{nothing}
+use Rattle.dip_letters.specs.Reading.{Head, after_name, field_at, game_at, head_at, number_at, secret_at, sender_at}
+use Rattle.dip_letters.specs.Words.{is_game, is_name, is_number, is_secret}
+use Rattle.dip_letters.proofs.NameLemmas.{after_takes}
 use Rattle.dip_letters.proofs.FieldLemmas.{bind_some, field_again, field_takes}
 use Rattle.dip_letters.proofs.NumberLemmas.{decimal_prints, number_read, number_spelled, own}
 use Rattle.dip_letters.proofs.WordLemmas.{IsPrintable, game_prints, name_prints, printable_append, printable_line, secret_prints}
@@ -29,15 +29,11 @@ number_line n most = printable_append (codes "NUMBER ") (decimal n) (search rule
 
 -- ---- what is spelled is read
 
-head_chain : (x0 x1 x2 x3 x4 x5 : List ℕ) (s g f k : List ℕ) (n : ℕ) → start_at x0 ≡ Some (s, x1) → game_at x1 ≡ Some (g, x2) → sender_at x2 ≡ Some (f, x3)
-    → secret_at x3 ≡ Some (k, x4) → number_at x4 ≡ Some (n, x5)
+head_chain : (x0 x1 x2 x3 x4 x5 : List ℕ) (g f k : List ℕ) (n : ℕ) → after_name (codes "LETTER" ++ 10 ∷ []) x0 ≡ Some x1 → game_at x1 ≡ Some (g, x2)
+    → sender_at x2 ≡ Some (f, x3) → secret_at x3 ≡ Some (k, x4) → number_at x4 ≡ Some (n, x5)
     → head_at x0 ≡ Some (record { game = g; sender = f; secret = k; number = n }, x5)
 unfolding head_at
-head_chain x0 x1 x2 x3 x4 x5 s g f k n e0 e1 e2 e3 e4 = rw (e0, e1, e2, e3, e4) refl
-
-start_again : (r : List ℕ) → start_at (codes "LETTER" ++ 10 ∷ r) ≡ Some ([], r)
-unfolding start_at
-start_again r = field_again (codes "LETTER") is_empty [] r (printable_line (codes "LETTER") start_line) refl
+head_chain x0 x1 x2 x3 x4 x5 g f k n e0 e1 e2 e3 e4 = rw (e0, e1, e2, e3, e4) refl
 
 game_again : (t r : List ℕ) → is_game t ≡ true → game_at ((codes "GAME " ++ t) ++ 10 ∷ r) ≡ Some (t, r)
 unfolding game_at
@@ -75,8 +71,8 @@ head_again h rest fits =
     let x3 : List ℕ = (codes "SECRET " ++ h.secret) ++ 10 ∷ x4 in
     let x2 : List ℕ = (codes "FROM " ++ h.sender) ++ 10 ∷ x3 in
     let x1 : List ℕ = (codes "GAME " ++ h.game) ++ 10 ∷ x2 in
-    head_chain (codes "LETTER" ++ 10 ∷ x1) x1 x2 x3 x4 rest [] h.game h.sender h.secret h.number
-    (start_again x1) (game_again h.game x2 fits.game) (sender_again h.sender x3 fits.sender) (secret_again h.secret x4 fits.secret)
+    head_chain (codes "LETTER" ++ 10 ∷ x1) x1 x2 x3 x4 rest h.game h.sender h.secret h.number
+    refl (game_again h.game x2 fits.game) (sender_again h.sender x3 fits.sender) (secret_again h.secret x4 fits.secret)
     (number_again h.number rest fits.number_least fits.number_most)
 
 -- ---- what is read is spelled
@@ -96,22 +92,21 @@ pub record IsHead (x : List ℕ) (h : Head × List ℕ) : Type 0 where
   pub is : x ≡ head_text h.0 h.1
 
 pub head_takes : (x : List ℕ) (h : Head × List ℕ) → head_at x ≡ Some h → IsHead x h
-unfolding head_at game_at sender_at secret_at start_at
+unfolding head_at game_at sender_at secret_at
 head_takes x h e =
-    let s = bind_some (start_at x) _ h e in
-    let g = bind_some (game_at s.0.1) _ h s.2 in
+    let s = bind_some (after_name (codes "LETTER" ++ 10 ∷ []) x) _ h e in
+    let g = bind_some (game_at s.0) _ h s.2 in
     let f = bind_some (sender_at g.0.1) _ h g.2 in
     let k = bind_some (secret_at f.0.1) _ h f.2 in
     let n = bind_some (number_at k.0.1) _ h k.2 in
-    let ts = field_takes (codes "LETTER") is_empty x s.0 s.1 in
-    let tg = field_takes (codes "GAME ") is_game s.0.1 g.0 g.1 in
+    let tg = field_takes (codes "GAME ") is_game s.0 g.0 g.1 in
     let tf = field_takes (codes "FROM ") is_name g.0.1 f.0 f.1 in
     let tk = field_takes (codes "SECRET ") is_secret f.0.1 k.0 k.1 in
     let tn = number_takes k.0.1 n.0 n.1 in
     let made : ◌≡◌ {A = Head × List ℕ} (record { game = g.0.0; sender = f.0.0; secret = k.0.0; number = n.0.0 }, n.0.1) h = cc in
     subst (λ (h : Head × List ℕ). IsHead x h) made (record {
       fits = record { game = tg.pass; sender = tf.pass; secret = tk.pass; number_least = tn.0; number_most = tn.1 };
-      is = ts.is ∙ ap₂ (λ v r. (codes "LETTER" ++ v) ++ 10 ∷ r) (nothing s.0.0 ts.pass) (tg.is
+      is = after_takes (codes "LETTER" ++ 10 ∷ []) x s.0 s.1 ∙ ap (λ r. codes "LETTER" ++ 10 ∷ r) (tg.is
           ∙ ap (λ r. (codes "GAME " ++ g.0.0) ++ 10 ∷ r) (tf.is
           ∙ ap (λ r. (codes "FROM " ++ f.0.0) ++ 10 ∷ r) (tk.is
           ∙ ap (λ r. (codes "SECRET " ++ k.0.0) ++ 10 ∷ r) tn.2)));

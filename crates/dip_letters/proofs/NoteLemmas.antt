@@ -1,12 +1,11 @@
 -- A letter's lines are read as its note, and the note stands in its lines.
 use Rattle.std.proofs.Common.{◌≡◌, ◌≢◌, ◌≤◌, ℕ, List, [], ◌∷◌, ◌++◌, Option, Some, None, codes, length, refl, sym, ap, ap₂, subst, ◌∙◌, rules, arith}
-use Rattle.std.specs.Fmt.{decimal}
 use Rattle.std.specs.List.{AllByRecursion}
 use Rattle.dip_letters.specs.Letters.{Fits, FitsOrder, FitsRequest, FitsSeat, body_lines, command_line, lines_of, seat_line, spelling}
 use Rattle.dip_letters.specs.Lines.{AreInner, text_of}
 use Rattle.dip_letters.specs.Notes.{Note, Request, SeatNote}
 use Rattle.dip_letters.specs.Notes.Request.{Create, Orders, Show}
-use Rattle.dip_letters.specs.Reading.{Head, command_at, head_at, note_at, ◌>>=◌}
+use Rattle.dip_letters.specs.Reading.{Head, command_at, head_at, note_at}
 use Rattle.dip_letters.proofs.BodyLemmas.{seat_prints}
 use Rattle.dip_letters.proofs.CommandLemmas.{command_again, command_prints, command_takes}
 use Rattle.dip_letters.proofs.FieldLemmas.{bind_some}

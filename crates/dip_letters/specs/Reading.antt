@@ -1,5 +1,5 @@
 -- How a text is read as a letter, on lists of bytes. The grammar is in `Letters`.
-use Rattle.std.specs.Prelude.{◌≡◌, ◌==◌, ◌&&◌, ◌||◌, not, ℕ, zero, suc, Bool, true, false, List, [], ◌∷◌, ◌++◌, Option, Some, None, codes, option_map, if◌then◌else◌}
+use Rattle.std.specs.Prelude.{◌==◌, ◌&&◌, ◌||◌, not, ℕ, zero, suc, Bool, true, false, List, [], ◌∷◌, ◌++◌, Option, Some, None, codes, option_map, if◌then◌else◌}
 use Rattle.std.specs.Str.{bytes_eq}
 use Rattle.std.specs.Str.Parse.{digits_value}
 use Rattle.dip_letters.specs.Lines.{line_at, split_lines, word_at}
@@ -25,9 +25,6 @@ field_at name test text = do
   v ← after_name name l.0
   if test v then Some (v, l.1) else None
 
-unfoldable pub start_at : List ℕ → Option (List ℕ × List ℕ)
-start_at text = field_at (codes "LETTER") is_empty text
-
 unfoldable pub game_at : List ℕ → Option (List ℕ × List ℕ)
 game_at text = field_at (codes "GAME ") is_game text
 
@@ -51,8 +48,8 @@ pub record Head : Type 0 where
 
 unfoldable pub head_at : List ℕ → Option (Head × List ℕ)
 head_at text = do
-  start ← start_at text
-  game ← game_at start.1
+  rest ← after_name (codes "LETTER" ++ 10 ∷ []) text
+  game ← game_at rest
   sender ← sender_at game.1
   secret ← secret_at sender.1
   number ← number_at secret.1

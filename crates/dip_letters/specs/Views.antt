@@ -14,11 +14,11 @@ use Rattle.dip_letters.specs.declared.reading.Head.{Head}
 use Rattle.dip_letters.specs.declared.reading.Parts.{Parts}
 
 -- the order lines that are left
-abbrev pub lines_in : Lines → List (List ℕ)
+unfoldable pub lines_in : Lines → List (List ℕ)
 lines_in l = split_lines l.text.now
 
 -- the seats that are left
-abbrev pub seats_in : Seats → List SeatNote
+unfoldable pub seats_in : Seats → List SeatNote
 seats_in s = seats_from (split_lines s.text.now)
 
 abbrev pub seat_note : Seat → SeatNote

@@ -2,8 +2,10 @@
 #![tactic(auto)]
 
 mod bodies;
+mod commands;
 mod digests;
 mod input;
+mod laws;
 mod letters;
 mod lines;
 mod print;
@@ -13,8 +15,9 @@ mod words;
 pub use bodies::{Lines, Seats};
 pub use digests::digest;
 pub use input::next_letter;
+pub use laws::{letters_differ, one_answer, read_again};
 pub use letters::{Command, Letter, LetterFault, Next, Opening, Seat};
-pub use print::{letters_differ, print_letter, read_again};
+pub use print::print_letter;
 pub use words::is_secret;
 
 #[cfg(test)]

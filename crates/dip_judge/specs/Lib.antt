@@ -1,3 +1,5 @@
 pub mod CommandLine
 pub mod ArgsGiven
 pub mod UsageFaults
+pub mod Runs
+pub mod RunFaults

@@ -2,6 +2,7 @@
 #![tactic(auto)]
 
 mod args;
+mod run;
 
 use args::{UsageFault, read_args};
 use std::alloc::Global;

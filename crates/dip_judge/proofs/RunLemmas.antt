@@ -23,15 +23,15 @@ one_of : {X : Type 0} (f : X → List ℕ) (xs : List X) (i : ℕ) (d : X) → i
 one_of f xs i d inside =
     let cut = ap (flat_map f) (sym (take-append-drop (i + 1) xs)) ∙ flat_map-append f (take (i + 1) xs) (drop (i + 1) xs) in
     let front = ap (flat_map f) (take_more xs i d inside) ∙ flat_map-append f (take i xs) (get_or xs i d ∷ [])
-      ∙ ap (λ t. flat_map f (take i xs) ++ t) (append-nil (f (get_or xs i d))) in
+    ∙ ap (λ t. flat_map f (take i xs) ++ t) (append-nil (f (get_or xs i d))) in
     cut ∙ ap (λ t. t ++ flat_map f (drop (i + 1) xs)) front
 
 -- a beginning of the second text behind the first one is a beginning of all
 part_of : (p t q : List ℕ) (size : ℕ) → p ++ take size t ≡ take (length (p ++ take size t)) ((p ++ t) ++ q)
 part_of p t q size =
     let same : (p ++ take size t) ++ (drop size t ++ q) ≡ (p ++ t) ++ q =
-      append_assoc p (take size t) (drop size t ++ q) ∙ ap (λ s. p ++ s) (sym (append_assoc (take size t) (drop size t) q) ∙ ap (λ s. s ++ q) (take-append-drop size t))
-      ∙ sym (append_assoc p t q) in
+    append_assoc p (take size t) (drop size t ++ q) ∙ ap (λ s. p ++ s) (sym (append_assoc (take size t) (drop size t) q) ∙ ap (λ s. s ++ q) (take-append-drop size t))
+    ∙ sym (append_assoc p t q) in
     sym (take-append_seam (p ++ take size t) (drop size t ++ q)) ∙ ap (λ s. take (length (p ++ take size t)) s) same
 
 -- whole texts and a beginning of the next one are a beginning of all

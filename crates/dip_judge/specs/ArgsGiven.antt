@@ -1,7 +1,8 @@
 -- What the words ask for.
-use Rattle.std.specs.Prelude.{◌≡◌, List, Some}
+use Rattle.std.specs.Prelude.{◌≡◌, true, List, Some}
 use Rattle.clap.specs.Words.{Text}
-use Rattle.dip_judge.specs.CommandLine.{IsSecret, master_given}
+use Rattle.dip_letters.specs.Words.{is_secret}
+use Rattle.dip_judge.specs.CommandLine.{master_given}
 use Rattle.dip_judge.specs.declared.args.Args.{Args}
 use Rattle.dip_judge.specs.declared.args.Args.TheVariants.{Letters}
 
@@ -11,4 +12,4 @@ IsGiven words (Letters master) = master_given words ≡ Some master.now
 
 -- the master's secret is one
 abbrev pub HasSecret : Args → Type 0
-HasSecret (Letters master) = IsSecret master.now
+HasSecret (Letters master) = is_secret master.now ≡ true

@@ -1,5 +1,5 @@
 -- The command line of the judge, in the terms of clap's definition.
-use Rattle.std.specs.Prelude.{◌≤◌, true, List, Option, Some, None, codes, length, if◌then◌else◌, option_and_then, All}
+use Rattle.std.specs.Prelude.{true, List, Option, Some, None, codes, if◌then◌else◌, option_and_then}
 use Rattle.std.specs.Str.{bytes_eq}
 use Rattle.clap.specs.Words.{App, Row, Rule, Text, first_of, new_app, new_rule, subcommand_of, with_rule, with_subcommand}
 
@@ -25,9 +25,3 @@ master_in = option_and_then (λ p. if bytes_eq p.0 (codes "letters") then first_
 -- the value that the words give to `letters --master`
 abbrev pub master_given : List Text → Option Text
 master_given words = master_in (subcommand_of judge_command words)
-
--- a secret is 8 to 64 bytes from `!` to `~`
-pub record IsSecret (s : Text) : Type 0 where
-  pub least : 8 ≤ length s
-  pub most : length s ≤ 64
-  pub visible : All (λ b. (33 ≤ b) × (b ≤ 126)) s

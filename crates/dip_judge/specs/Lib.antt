@@ -3,3 +3,4 @@ pub mod ArgsGiven
 pub mod UsageFaults
 pub mod Runs
 pub mod RunFaults
+pub mod Failures

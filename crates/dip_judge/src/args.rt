@@ -1,14 +1,15 @@
 //! The command line: which words ask for what.
-ghost use Rattle.std.specs.Prelude.{◌≡◌, ◌↔◌, IsTrue, [], IfOk, IfErr, map, option_map};
+ghost use Rattle.std.specs.Prelude.{◌≡◌, [], IfOk, IfErr, map, option_map};
 ghost use Rattle.clap.specs.Faults.{fault_of};
 ghost use Rattle.clap.specs.Words.{app_of, subcommand_of, subcommand_rows_of};
-ghost use Rattle.dip_judge.specs.CommandLine.{IsSecret, judge_command, master_in};
+ghost use Rattle.dip_judge.specs.CommandLine.{judge_command, master_in};
 ghost use Rattle.dip_judge.specs.ArgsGiven.{HasSecret, IsGiven};
 ghost use Rattle.dip_judge.specs.UsageFaults.{IsUsageFault, fault_from};
 ghost use Rattle.dip_judge.specs.declared.args.UsageFault.TheVariants.{Memory};
 
 use clap::error::ErrorKind;
 use clap::{Arg, ArgMatches, Command, Error};
+use dip_letters::is_secret;
 use std::alloc::{AllocError, Global};
 
 /// What the program is asked to do.
@@ -38,14 +39,6 @@ fn command<'a>(alloc: Global) -> Result<Command<'a>, AllocError>
     Command::new(alloc, "dip_judge")
         .subcommand_required(true)
         .subcommand(letters)
-}
-
-/// Whether a text is a secret: 8 to 64 bytes from `!` to `~`.
-fn is_secret(text: &str) -> bool
-    ensures { IsTrue result ↔ IsSecret text.now }
-{
-    let bytes = text.as_bytes();
-    8 <= bytes.len() && bytes.len() <= 64 && bytes.iter().all(|b| b'!' <= *b && *b <= b'~')
 }
 
 /// What clap makes of the words.

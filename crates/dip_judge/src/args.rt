@@ -97,3 +97,6 @@ impl From<AllocError> for UsageFault {
         UsageFault::Memory
     }
 }
+
+#[cfg(test)]
+mod tests;

@@ -1,0 +1,72 @@
+//! A letter by its parts, and what comes next in an input.
+use crate::{Lines, Seats};
+
+/// One letter.
+#[derive(Clone, Copy)]
+pub struct Letter<'a> {
+    /// 1 to 16 of `a` to `z` and `0` to `9`, a letter first.
+    pub game: &'a str,
+    /// 1 to 16 of `a` to `z`: a power or the master.
+    pub sender: &'a str,
+    /// 8 to 64 bytes from `!` to `~`.
+    pub secret: &'a str,
+    /// 1 to 999999999.
+    pub number: u32,
+    /// What is asked for.
+    pub command: Command<'a>,
+    /// The whole letter, from `LETTER` to the LF of `END`.
+    pub bytes: &'a [u8],
+}
+
+/// What a letter asks for.
+#[derive(Clone, Copy)]
+pub enum Command<'a> {
+    /// A new game.
+    Create(Opening<'a>),
+    /// 1 to 64 order lines.
+    Orders(Lines<'a>),
+    /// The state of the game.
+    Show,
+}
+
+/// A game to be opened.
+#[derive(Clone, Copy)]
+pub struct Opening<'a> {
+    /// The tick from which the first phase is due, 0 to 999999999999.
+    pub due: u64,
+    /// The ticks between two phases, 1 to 999999.
+    pub period: u32,
+    /// Whether the game has grey press.
+    pub grey: bool,
+    /// 1 to 7 seats.
+    pub seats: Seats<'a>,
+}
+
+/// A seat of a new game.
+#[derive(Clone, Copy)]
+pub struct Seat<'a> {
+    /// 1 to 16 of `a` to `z`.
+    pub power: &'a str,
+    /// 8 to 64 bytes from `!` to `~`.
+    pub secret: &'a str,
+}
+
+/// Why the bytes are no letter.
+#[derive(Clone, Copy, Debug, PartialEq, Eq)]
+pub enum LetterFault {
+    /// They are no letter of the grammar.
+    Malformed,
+    /// No letter ends within 16,384 bytes, and more bytes follow.
+    TooLong,
+}
+
+/// What comes next in an input, and the bytes behind it.
+#[derive(Clone, Copy)]
+pub enum Next<'a> {
+    /// A letter.
+    Taken(Letter<'a>, &'a [u8]),
+    /// No letter; the bytes are those behind the next line `END`.
+    Fault(LetterFault, &'a [u8]),
+    /// Nothing but empty lines.
+    End,
+}

@@ -1,10 +1,12 @@
 //! A run over a reader and a writer: letters in, replies out.
-ghost use Rattle.std.specs.Prelude.{◌≡◌, ◌<◌, ℕ, IfOk, IfErr, IfSome, IfNone, OnOk, OnErr, IsErrOf, length, take as first};
+ghost use Rattle.std.specs.Prelude.{◌≡◌, ◌<◌, ℕ, List, IfOk, IfErr, IfSome, IfNone, OnOk, OnErr, IsErrOf, length, take as first};
 ghost use Rattle.std.specs.List.{flat_map};
 ghost use Rattle.std.specs.Io.KnownBytes.{Appends};
+ghost use Rattle.dip_letters.specs.Input.{IsNext};
+ghost use Rattle.dip_desk.specs.MapRows.{view};
 ghost use Rattle.dip_desk.specs.Texts.{reply_text};
-ghost use Rattle.dip_desk.specs.Texts.Rows as rows;
-ghost use Rattle.dip_judge.specs.Runs.{IsReadToEnd, IsReadWhole};
+ghost use Rattle.dip_desk.specs.TextsRows as rows;
+ghost use Rattle.dip_judge.specs.Runs.{AnswersAll, IsReadToEnd, IsReadWhole, IsTurn};
 ghost use Rattle.dip_judge.specs.RunFaults.{IsAnsweringFault, IsReadingFault, IsTakingFault, StopsBy, faults_after_run};
 
 use dip_desk::{KeepFault, Keeper, Map, Reply, fault_reply, take};
@@ -117,10 +119,14 @@ fn step<'a, K: Keeper>(
     input: &'a [u8],
 ) -> Result<Option<(Reply, &'a [u8])>, RunFault>
     requires { K.faults keeper.old < u64.MAX }
+    ensures some { K.sound keeper.old → K.shows keeper.new → IfOk result (λ o. IfSome o (λ p.
+        IsTurn (view map.now) input.entry.now (K.content keeper.old) (rows.reply p.0) (K.content keeper.new) p.1.now)) }
     ensures shorter { IfOk result (λ o. IfSome o (λ p. length p.1.now < length input.entry.now)) }
-    ensures none { IfOk result (λ o. IfNone o (keeper.new ≡ keeper.old)) }
-    ensures count { K.faults keeper.new ≡ faults_after_run result (K.faults keeper.old) }
+    ensures none { IfOk result (λ o. IfNone o (IsNext input.entry.now Next.End × (keeper.new ≡ keeper.old))) }
     ensures fault { IfErr result IsTakingFault }
+    ensures count { K.faults keeper.new ≡ faults_after_run result (K.faults keeper.old) }
+    ensures shown { K.shows keeper.new → K.shows keeper.old }
+    ensures sound { K.sound keeper.old → K.shows keeper.new → K.sound keeper.new }
 {
     match next_letter(input) {
         Next::End => Ok(None),
@@ -144,8 +150,10 @@ fn answer_all<W: Write, K: Keeper>(
     map: &Map,
 ) -> Result<(), RunFault>
     requires { K.faults keeper.old < u64.MAX }
-    ensures count { K.faults keeper.new ≡ faults_after_run result (K.faults keeper.old) }
+    ensures answers { K.sound keeper.old → K.shows keeper.new → OnOk result (AnswersAll (view map.now) input.now
+        (K.content keeper.old) (K.content keeper.new) (W.contents writer.old) (W.contents writer.new)) }
     ensures fault { IfErr result IsAnsweringFault }
+    ensures count { K.faults keeper.new ≡ faults_after_run result (K.faults keeper.old) }
 {
     let mut rest = input;
     'letters: loop {
@@ -170,6 +178,10 @@ pub fn run_file<R: Read, W: Write, K: Keeper>(
     map: &Map,
 ) -> Result<(), RunFault>
     requires { K.faults keeper.old < u64.MAX }
+    ensures answers { K.sound keeper.old → K.shows keeper.new → OnOk result ((input : List ℕ)
+        × IsReadWhole (R.remaining reader.old) (R.remaining reader.new) input
+        × AnswersAll (view map.now) input (K.content keeper.old) (K.content keeper.new)
+        (W.contents writer.old) (W.contents writer.new)) }
     ensures ok { OnOk result (IsReadToEnd (R.remaining reader.old) (R.remaining reader.new)) }
     ensures err { IfErr result (λ f. StopsBy f (R.remaining reader.old) (R.remaining reader.new)
         (W.contents writer.old) (W.contents writer.new) keeper.old keeper.new) }

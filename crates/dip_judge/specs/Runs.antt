@@ -1,5 +1,5 @@
 -- What a run reads and writes.
-use Rattle.std.specs.Prelude.{◌≡◌, ◌≤◌, ℕ, List, [], ◌∷◌, Option, None, Some, length}
+use Rattle.std.specs.Prelude.{◌≡◌, ◌≤◌, ℕ, List, [], ◌∷◌, ◌++◌, Option, length, take}
 use Rattle.std.specs.List.{flat_map}
 use Rattle.std.specs.Io.KnownBytes.{Appends, Consumes, IsAtEnd}
 use Rattle.dip_letters.specs.Input.{IsNext}
@@ -50,3 +50,13 @@ pub record AnswersAll (m : Chart) (input : List ℕ) (old new : State) (before a
   pub run : IsRunTo m input old replies new rest
   pub end : IsNext rest End
   pub written : Appends before after (flat_map reply_text replies)
+
+-- a front of the input was answered: the replies were written, and of the last one, if there is one, a beginning
+pub record Stops (m : Chart) (input : List ℕ) (old new : State) (before after : Option (List ℕ)) : Type 0 where
+  pub replies : List Reply
+  pub last : List Reply
+  pub one : length last ≤ 1
+  pub rest : List ℕ
+  pub run : IsRunTo m input old (replies ++ last) new rest
+  pub size : ℕ
+  pub written : Appends before after (flat_map reply_text replies ++ take size (flat_map reply_text last))

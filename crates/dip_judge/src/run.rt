@@ -1,12 +1,12 @@
 //! A run over a reader and a writer: letters in, replies out.
-ghost use Rattle.std.specs.Prelude.{◌≡◌, ◌<◌, ℕ, List, IfOk, IfErr, IfSome, IfNone, OnOk, OnErr, IsErrOf, length, take as first};
+ghost use Rattle.std.specs.Prelude.{◌≡◌, ◌<◌, ◌⊎◌, ℕ, List, IfOk, IfErr, IfSome, IfNone, OnOk, OnErr, IsErrOf, length, take as first};
 ghost use Rattle.std.specs.List.{flat_map};
 ghost use Rattle.std.specs.Io.KnownBytes.{Appends};
 ghost use Rattle.dip_letters.specs.Input.{IsNext};
 ghost use Rattle.dip_desk.specs.MapRows.{view};
 ghost use Rattle.dip_desk.specs.Texts.{reply_text};
 ghost use Rattle.dip_desk.specs.TextsRows as rows;
-ghost use Rattle.dip_judge.specs.Runs.{AnswersAll, IsReadToEnd, IsReadWhole, IsTurn};
+ghost use Rattle.dip_judge.specs.Runs.{AnswersAll, IsReadToEnd, IsReadWhole, IsTurn, IsUntouched, Stops};
 ghost use Rattle.dip_judge.specs.RunFaults.{IsAnsweringFault, IsReadingFault, IsTakingFault, StopsBy, faults_after_run};
 
 use dip_desk::{KeepFault, Keeper, Map, Reply, fault_reply, take};
@@ -122,6 +122,7 @@ fn step<'a, K: Keeper>(
     ensures some { K.sound keeper.old → K.shows keeper.new → IfOk result (λ o. IfSome o (λ p.
         IsTurn (view map.now) input.entry.now (K.content keeper.old) (rows.reply p.0) (K.content keeper.new) p.1.now)) }
     ensures shorter { IfOk result (λ o. IfSome o (λ p. length p.1.now < length input.entry.now)) }
+    ensures err { K.sound keeper.old → K.shows keeper.new → OnErr result (K.content keeper.new ≡ K.content keeper.old) }
     ensures none { IfOk result (λ o. IfNone o (IsNext input.entry.now Next.End × (keeper.new ≡ keeper.old))) }
     ensures fault { IfErr result IsTakingFault }
     ensures count { K.faults keeper.new ≡ faults_after_run result (K.faults keeper.old) }
@@ -151,6 +152,8 @@ fn answer_all<W: Write, K: Keeper>(
 ) -> Result<(), RunFault>
     requires { K.faults keeper.old < u64.MAX }
     ensures answers { K.sound keeper.old → K.shows keeper.new → OnOk result (AnswersAll (view map.now) input.now
+        (K.content keeper.old) (K.content keeper.new) (W.contents writer.old) (W.contents writer.new)) }
+    ensures stops { K.sound keeper.old → K.shows keeper.new → OnErr result (Stops (view map.now) input.now
         (K.content keeper.old) (K.content keeper.new) (W.contents writer.old) (W.contents writer.new)) }
     ensures fault { IfErr result IsAnsweringFault }
     ensures count { K.faults keeper.new ≡ faults_after_run result (K.faults keeper.old) }
@@ -185,6 +188,11 @@ pub fn run_file<R: Read, W: Write, K: Keeper>(
     ensures ok { OnOk result (IsReadToEnd (R.remaining reader.old) (R.remaining reader.new)) }
     ensures err { IfErr result (λ f. StopsBy f (R.remaining reader.old) (R.remaining reader.new)
         (W.contents writer.old) (W.contents writer.new) keeper.old keeper.new) }
+    ensures stops { K.sound keeper.old → K.shows keeper.new → OnErr result (
+        IsUntouched (W.contents writer.old) (W.contents writer.new) keeper.old keeper.new
+        ⊎ ((input : List ℕ) × IsReadWhole (R.remaining reader.old) (R.remaining reader.new) input
+        × Stops (view map.now) input (K.content keeper.old) (K.content keeper.new)
+        (W.contents writer.old) (W.contents writer.new))) }
     ensures count { K.faults keeper.new ≡ faults_after_run result (K.faults keeper.old) }
 {
     let input = read_input(alloc, reader)?;

@@ -1,6 +1,6 @@
 -- Which faults a call may answer.
-use Rattle.std.specs.Prelude.{ℕ, List, Option, ◌<◌, ◌⊎◌, IfSome, Result, Ok, Err, length}
-use Rattle.dip_desk.specs.Faults.{faults_with}
+use Rattle.std.specs.Prelude.{ℕ, List, Option, ◌+◌, ◌<◌, ◌⊎◌, IfSome, Result, Ok, Err, length}
+use Rattle.dip_desk.specs.declared.keeper.KeepFault.TheVariants.{Disk}
 use Rattle.dip_judge.specs.Runs.{IsReadToEnd, IsUntouched}
 use Rattle.dip_judge.specs.declared.run.RunFault.{RunFault}
 use Rattle.dip_judge.specs.declared.run.RunFault.TheVariants.{Read, TooLong, Write, Memory, Keep}
@@ -34,5 +34,5 @@ StopsBy _ known left before after old new = IsReadToEnd known left
 
 -- the count of the keeper's faults after a call: it rises by one with a fault of the disk
 abbrev pub faults_after_run : {A : Type 0} → Result A RunFault → ℕ → ℕ
-faults_after_run (Err (Keep fault)) n = faults_with fault n
+faults_after_run (Err (Keep Disk)) n = n + 1
 faults_after_run _ n = n

@@ -43,9 +43,20 @@ impl fmt::Display for Failure {
             Failure::Usage(UsageFault::Clap(error)) => write!(f, "{error}"),
             Failure::Usage(UsageFault::Check) => writeln!(f, "dip_judge: Usage"),
             Failure::Usage(UsageFault::Memory) => writeln!(f, "dip_judge: Memory"),
-            Failure::Map(fault) => writeln!(f, "dip_judge: {fault}"),
+            Failure::Map(fault) => writeln!(f, "dip_judge: {}", number_of(*fault)),
             Failure::Run(fault) => writeln!(f, "dip_judge: {}", name_of(*fault)),
         }
+    }
+}
+
+/// The printed number of a map's fault.
+fn number_of(fault: MapFault) -> &'static str {
+    match fault {
+        MapFault::UnknownName => "M3",
+        MapFault::NotSymmetric => "M4",
+        MapFault::DoubledName => "M5",
+        MapFault::OverLimit => "M6",
+        MapFault::Memory => "M7",
     }
 }
 

@@ -3,7 +3,6 @@ ghost use Rattle.std.specs.Prelude.{◌≡◌, ◌<◌, ◌⊎◌, ℕ, List, If
 ghost use Rattle.std.specs.List.{flat_map};
 ghost use Rattle.std.specs.Io.KnownBytes.{Appends};
 ghost use Rattle.dip_letters.specs.Input.{IsNext};
-ghost use Rattle.dip_desk.specs.MapRows.{view};
 ghost use Rattle.dip_desk.specs.Texts.{reply_text};
 ghost use Rattle.dip_desk.specs.TextsRows as rows;
 ghost use Rattle.dip_judge.specs.Runs.{AnswersAll, IsReadToEnd, IsReadWhole, IsTurn, IsUntouched, Stops};
@@ -120,7 +119,7 @@ fn step<'a, K: Keeper>(
 ) -> Result<Option<(Reply, &'a [u8])>, RunFault>
     requires { K.faults keeper.old < u64.MAX }
     ensures some { K.sound keeper.old → K.shows keeper.new → IfOk result (λ o. IfSome o (λ p.
-        IsTurn (view map.now) input.entry.now (K.content keeper.old) (rows.reply p.0) (K.content keeper.new) p.1.now)) }
+        IsTurn map.now input.entry.now (K.content keeper.old) (rows.reply p.0) (K.content keeper.new) p.1.now)) }
     ensures shorter { IfOk result (λ o. IfSome o (λ p. length p.1.now < length input.entry.now)) }
     ensures err { K.sound keeper.old → K.shows keeper.new → OnErr result (K.content keeper.new ≡ K.content keeper.old) }
     ensures none { IfOk result (λ o. IfNone o (IsNext input.entry.now Next.End × (keeper.new ≡ keeper.old))) }
@@ -151,9 +150,9 @@ fn answer_all<W: Write, K: Keeper>(
     map: &Map,
 ) -> Result<(), RunFault>
     requires { K.faults keeper.old < u64.MAX }
-    ensures answers { K.sound keeper.old → K.shows keeper.new → OnOk result (AnswersAll (view map.now) input.now
+    ensures answers { K.sound keeper.old → K.shows keeper.new → OnOk result (AnswersAll map.now input.now
         (K.content keeper.old) (K.content keeper.new) (W.contents writer.old) (W.contents writer.new)) }
-    ensures stops { K.sound keeper.old → K.shows keeper.new → OnErr result (Stops (view map.now) input.now
+    ensures stops { K.sound keeper.old → K.shows keeper.new → OnErr result (Stops map.now input.now
         (K.content keeper.old) (K.content keeper.new) (W.contents writer.old) (W.contents writer.new)) }
     ensures fault { IfErr result IsAnsweringFault }
     ensures count { K.faults keeper.new ≡ faults_after_run result (K.faults keeper.old) }
@@ -183,7 +182,7 @@ pub fn run_file<R: Read, W: Write, K: Keeper>(
     requires { K.faults keeper.old < u64.MAX }
     ensures answers { K.sound keeper.old → K.shows keeper.new → OnOk result ((input : List ℕ)
         × IsReadWhole (R.remaining reader.old) (R.remaining reader.new) input
-        × AnswersAll (view map.now) input (K.content keeper.old) (K.content keeper.new)
+        × AnswersAll map.now input (K.content keeper.old) (K.content keeper.new)
         (W.contents writer.old) (W.contents writer.new)) }
     ensures ok { OnOk result (IsReadToEnd (R.remaining reader.old) (R.remaining reader.new)) }
     ensures err { IfErr result (λ f. StopsBy f (R.remaining reader.old) (R.remaining reader.new)
@@ -191,7 +190,7 @@ pub fn run_file<R: Read, W: Write, K: Keeper>(
     ensures stops { K.sound keeper.old → K.shows keeper.new → OnErr result (
         IsUntouched (W.contents writer.old) (W.contents writer.new) keeper.old keeper.new
         ⊎ ((input : List ℕ) × IsReadWhole (R.remaining reader.old) (R.remaining reader.new) input
-        × Stops (view map.now) input (K.content keeper.old) (K.content keeper.new)
+        × Stops map.now input (K.content keeper.old) (K.content keeper.new)
         (W.contents writer.old) (W.contents writer.new))) }
     ensures count { K.faults keeper.new ≡ faults_after_run result (K.faults keeper.old) }
 {

@@ -1,5 +1,4 @@
 use Rattle.std.proofs.Common.{◌++◌, ◌∷◌, [], ◌∙◌}
-use Rattle.dip_desk.specs.MapRows.{view}
 use Rattle.dip_desk.specs.TextsRows as rows
 use Rattle.std.proofs.lemmas.Result.{err_from_is_err_and}
 use Rattle.dip_judge.proofs.TurnLemmas.{run_more, stops_before, stops_in_write, written_more}
@@ -16,7 +15,7 @@ letters-preserved g c = record {
       let reply = rows.reply c.in-Some.reply in
       let turn = rw c.in-Some.is at c.in_ok-step.ensures.some (c.letters.invariant.sound sound before) shows in (
         so_far.0 ++ reply ∷ [],
-        run_more (view c.args.map.now) c.args.input.now _ so_far.0 _ c.letters.rest.now reply _ c.in-Some.after.now so_far.1 turn,
+        run_more c.args.map.now c.args.input.now _ so_far.0 _ c.letters.rest.now reply _ c.in-Some.after.now so_far.1 turn,
         written_more _ _ _ so_far.0 reply so_far.2 c.in_ok-write_reply-in-Some.ensures.ok,
       );
 }

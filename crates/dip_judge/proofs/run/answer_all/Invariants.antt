@@ -1,7 +1,6 @@
 use Rattle.std.proofs.Common.{◌≡◌, List, length}
 use Rattle.std.specs.List.{flat_map}
 use Rattle.std.specs.Io.KnownBytes.{Appends}
-use Rattle.dip_desk.specs.MapRows.{view}
 use Rattle.dip_desk.specs.Texts.{reply_text}
 use Rattle.dip_desk.specs.TextsRecords.{Reply}
 use Rattle.dip_judge.specs.Runs.{IsRunTo}
@@ -13,7 +12,7 @@ invariant-letters g l = record {
   shown : g.K.Keeper.shows l.keeper → g.K.Keeper.shows l.fn.keeper;
   sound : g.K.Keeper.sound l.fn.keeper → g.K.Keeper.shows l.keeper → g.K.Keeper.sound l.keeper;
   so_far : g.K.Keeper.sound l.fn.keeper → g.K.Keeper.shows l.keeper → (replies : List Reply)
-      × IsRunTo (view l.fn.map) l.fn.input (g.K.Keeper.content l.fn.keeper) replies (g.K.Keeper.content l.keeper) l.rest
+      × IsRunTo l.fn.map l.fn.input (g.K.Keeper.content l.fn.keeper) replies (g.K.Keeper.content l.keeper) l.rest
       × Appends (g.W.Write.contents l.fn.writer) (g.W.Write.contents l.writer) (flat_map reply_text replies);
 }
 

@@ -1,0 +1,5 @@
+pub mod MapLaws
+pub mod BoardLaws
+pub mod KeyedLemmas
+pub mod TextLemmas
+pub mod SeatLemmas

@@ -1,0 +1,11 @@
+-- How many faults of the disk a keeper has told of.
+use Rattle.std.specs.Prelude.{ℕ, ◌+◌, Result, Ok, Err}
+use Rattle.dip_desk.specs.declared.keeper.KeepFault.{KeepFault}
+use Rattle.dip_desk.specs.declared.keeper.KeepFault.TheVariants.{Memory, Disk, Damaged}
+
+-- the count after a call: a fault of the disk raises it by one
+abbrev pub faults_after : {X : Type 0} → Result X KeepFault → ℕ → ℕ
+faults_after (Ok x) n = n
+faults_after (Err Memory) n = n
+faults_after (Err Disk) n = n + 1
+faults_after (Err Damaged) n = n

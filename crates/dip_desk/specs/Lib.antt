@@ -1,0 +1,13 @@
+pub mod MapChart
+pub mod MapChecks
+pub mod MapBoard
+pub mod Texts
+pub mod TextsRecords
+pub mod TextsRows
+pub mod Keyed
+pub mod State
+pub mod Faults
+pub mod Rows
+pub mod Stored
+pub mod Machine
+pub mod Verdicts

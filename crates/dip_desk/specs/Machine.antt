@@ -1,0 +1,146 @@
+-- The desk machine: who wrote a letter, what is decided of it, what it leaves and what is replied.
+use Rattle.std.specs.Prelude.{ℕ, ◌≡◌, ◌==◌, ◌&&◌, Bool, true, false, List, [], ◌∷◌, ◌++◌, Option, None, Some, option_map, bytes_eq, codes, if◌then◌else◌, length, map, count_by}
+use Rattle.std.specs.List.{list_all}
+use Rattle.sha2.specs.Sha256.{sha256}
+use Rattle.dip_letters.specs.Digests.{seat_text}
+use Rattle.dip_letters.specs.Notes.{Note, Request, SeatNote}
+use Rattle.dip_letters.specs.Notes.Request.{Create, Orders, Show}
+use Rattle.dip_letters.specs.declared.letters.LetterFault.{LetterFault}
+use Rattle.dip_letters.specs.declared.letters.LetterFault.TheVariants.{Malformed as Unreadable, TooLong as OverLong}
+use Rattle.dip_desk.specs.MapChart.{Chart, power_of}
+use Rattle.dip_desk.specs.MapBoard.{opening}
+use Rattle.dip_desk.specs.State.{State, Game, Author, Nobody, TheMaster, Seat, Effect, Nothing, Pending, Opens, Change, NewSeat, changed, game_at, own_at, seat_at}
+use Rattle.dip_desk.specs.Texts.{numbers, opening_paper, refusal_text, show_text}
+use Rattle.dip_desk.specs.TextsRecords.{Public, Own, Head, Reply}
+use Rattle.dip_desk.specs.declared.texts.records.Status.TheVariants.{Running}
+use Rattle.dip_desk.specs.declared.texts.refusals.Refusal.{Refusal}
+use Rattle.dip_desk.specs.declared.texts.refusals.Refusal.TheVariants.{Malformed, Unknown, TooLong, WrongSender, NameTaken}
+
+-- the digest of a secret
+unfoldable pub digest : List ℕ → List ℕ → List ℕ → List ℕ
+digest game sender secret = sha256 (seat_text game sender secret)
+
+-- the master, where the desk has the digest of the letter's secret
+abbrev pub master_author : Note → State → Author
+master_author n s = if bytes_eq (digest (codes "desk") (codes "master") n.secret) s.desk.digest then TheMaster else Nobody
+
+-- the seat, where it has the digest of the letter's secret
+abbrev pub seat_author : Note → ℕ → Option Own → Author
+seat_author n power None = Nobody
+seat_author n power (Some o) = if bytes_eq (digest n.game n.sender n.secret) o.digest then Seat power else Nobody
+
+abbrev pub power_author : Note → Option ℕ → State → Author
+power_author n None s = Nobody
+power_author n (Some power) s = seat_author n power (own_at n.game power s)
+
+-- who wrote the letter
+abbrev pub author : Chart → Note → State → Author
+author m n s = if bytes_eq n.sender (codes "master") then master_author n s else power_author n (power_of m n.sender) s
+
+-- what is decided of a letter: a reply alone, or a reply and an effect
+pub data Verdict : Type 0 where
+  Untaken : (text : List ℕ) → Verdict
+  Taken : (text : List ℕ) → (effect : Effect) → Verdict
+
+abbrev pub refusal_line : Refusal → List ℕ
+refusal_line r = refusal_text r ++ codes "\n"
+
+-- refused: the letter does nothing
+abbrev pub refused : Refusal → Verdict
+refused r = Taken (refusal_line r) Nothing
+
+-- what a seat sees: the public part of its game and its own part
+pub record Seen : Type 0 where
+  pub public : Option Public
+  pub own : Option Own
+
+abbrev pub seen_in : ℕ → Option Game → Seen
+seen_in power None = record { public = None; own = None }
+seen_in power (Some g) = record { public = Some g.public; own = seat_at power g.seats }
+
+-- what a seat's command comes to, by what the seat sees alone
+abbrev pub seat_command : Chart → Request → Public → Own → Verdict
+seat_command m (Create due period grey seats) p o = refused WrongSender
+seat_command m (Orders lines) p o = refused WrongSender
+seat_command m Show p o = Taken (show_text m p o) Nothing
+
+abbrev pub verdict_on : Chart → Note → Seen → Verdict
+verdict_on m n s = both s.public s.own
+  where
+    both : Option Public → Option Own → Verdict
+    both (Some p) (Some o) = seat_command m n.command p o
+    both (Some p) None = Untaken (refusal_line Unknown)
+    both None o = Untaken (refusal_line Unknown)
+
+-- a seat of a new game, where its power is one of the map
+abbrev pub new_seat : Chart → List ℕ → SeatNote → Option NewSeat
+new_seat m game s = option_map (λ p. record { power = p; digest = digest game s.power s.secret }) (power_of m s.power)
+
+abbrev pub with_more : Option NewSeat → Option (List NewSeat) → Option (List NewSeat)
+with_more (Some s) (Some more) = Some (s ∷ more)
+with_more (Some s) None = None
+with_more None more = None
+
+abbrev pub new_seats : Chart → List ℕ → List SeatNote → Option (List NewSeat)
+new_seats m game [] = Some []
+new_seats m game (s ∷ ss) = with_more (new_seat m game s) (new_seats m game ss)
+
+-- whether each power of the map has one seat
+abbrev pub are_complete : Chart → List NewSeat → Bool
+are_complete m seats = list_all (λ p. count_by (λ s. s.power == p) seats == 1) (numbers 0 m.realms)
+
+-- the public part of a new game
+abbrev pub opening_public : Chart → List ℕ → ℕ → ℕ → Bool → Public
+opening_public m game due period grey = record { game = game; board = opening m; status = Running; due = due; period = period; grey = grey; papers = 1 }
+
+-- a new game, where its name is free
+abbrev pub open_game : Chart → Public → List NewSeat → Option Game → Verdict
+open_game m p seats None = Taken (codes "OK paper 1\n") (Opens p (opening_paper m p) seats)
+open_game m p seats (Some g) = refused NameTaken
+
+-- what CREATE comes to: the seats have to be the map's powers, each once
+abbrev pub created : Chart → Public → Option (List NewSeat) → Option Game → Verdict
+created m p None game = refused Malformed
+created m p (Some seats) game = if are_complete m seats then open_game m p seats game else refused Malformed
+
+-- any other command of the master
+abbrev pub not_for_master : Option Game → Verdict
+not_for_master None = Untaken (refusal_line Unknown)
+not_for_master (Some g) = refused WrongSender
+
+abbrev pub master_verdict : Chart → Note → Request → Option Game → Verdict
+master_verdict m n (Create due period grey seats) game = created m (opening_public m n.game due period grey) (new_seats m n.game seats) game
+master_verdict m n (Orders lines) game = not_for_master game
+master_verdict m n Show game = not_for_master game
+
+-- what may be decided of a letter
+abbrev pub Decides : Chart → State → Note → Author → Verdict → Type 0
+Decides m s n Nobody v = v ≡ Untaken (refusal_line Unknown)
+Decides m s n TheMaster v = v ≡ master_verdict m n n.command (game_at n.game s)
+Decides m s n (Seat power) v = v ≡ verdict_on m n (seen_in power (game_at n.game s))
+
+abbrev pub text_of : Verdict → List ℕ
+text_of (Untaken text) = text
+text_of (Taken text effect) = text
+
+-- the state after a letter
+abbrev pub after : Note → Author → Verdict → State → State
+after n who (Untaken text) s = s
+after n who (Taken text effect) s = changed (record { game = n.game; author = who; effect = effect }) s
+
+abbrev pub head_for : Note → Author → Option Head
+head_for n Nobody = None
+head_for n TheMaster = Some (record { game = n.game; sender = n.sender; number = n.number })
+head_for n (Seat power) = Some (record { game = n.game; sender = n.sender; number = n.number })
+
+abbrev pub reply_of : Note → Author → Verdict → Reply
+reply_of n who v = record { head = head_for n who; text = text_of v }
+
+-- one step: from old, the machine may give this reply to the letter and go on to new
+abbrev pub Step : Chart → State → Note → Reply → State → Type 0
+Step m old n r new = (v : Verdict) × Decides m old n (author m n old) v × (r ≡ reply_of n (author m n old) v) × (new ≡ after n (author m n old) v old)
+
+-- the reply to bytes that are no letter
+abbrev pub fault_reply : LetterFault → Reply
+fault_reply Unreadable = record { head = None; text = refusal_line Malformed }
+fault_reply OverLong = record { head = None; text = refusal_line TooLong }

@@ -1,0 +1,30 @@
+-- What the desk's records say, without where they lie in memory.
+use Rattle.std.specs.Prelude.{List, map, string_bytes}
+use Rattle.dip_desk.specs.State as s
+use Rattle.dip_desk.specs.TextsRows as texts
+use Rattle.dip_desk.specs.declared.keeper.Desk.{Desk}
+use Rattle.dip_desk.specs.declared.keeper.Author.{Author}
+use Rattle.dip_desk.specs.declared.keeper.Author.TheVariants.{Nobody, TheMaster, Seat}
+use Rattle.dip_desk.specs.declared.keeper.NewSeat.{NewSeat}
+use Rattle.dip_desk.specs.declared.keeper.Effect.{Effect}
+use Rattle.dip_desk.specs.declared.keeper.Effect.TheVariants.{Nothing, Pending, Opens}
+use Rattle.dip_desk.specs.declared.keeper.Change.{Change}
+
+abbrev pub desk : Desk → s.Desk
+desk d = record { digest = d.digest }
+
+abbrev pub author : Author → s.Author
+author Nobody = s.Nobody
+author TheMaster = s.TheMaster
+author (Seat power) = s.Seat power
+
+abbrev pub new_seat : NewSeat → s.NewSeat
+new_seat n = record { power = n.power; digest = n.digest }
+
+abbrev pub effect : Effect → s.Effect
+effect Nothing = s.Nothing
+effect (Pending lines) = s.Pending (texts.lines lines.items)
+effect (Opens public paper seats) = s.Opens (texts.public public) (string_bytes paper) (map new_seat seats.items)
+
+abbrev pub change : Change → s.Change
+change c = record { game = string_bytes c.game; author = author c.author; effect = effect c.effect }

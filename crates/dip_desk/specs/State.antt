@@ -1,0 +1,92 @@
+-- What the desk keeps, its named parts, and what a change makes of it.
+use Rattle.std.specs.Prelude.{ℕ, ◌≡◌, ◌==◌, Bool, true, false, List, [], ◌∷◌, ◌++◌, Option, None, Some, option_map, option_and_then, map, bytes_eq, if◌then◌else◌}
+use Rattle.dip_desk.specs.Keyed.{at, change_at}
+use Rattle.dip_desk.specs.TextsRecords.{Public, Own}
+
+-- the master's row
+pub record Desk : Type 0 where
+  pub digest : List ℕ
+
+-- a game: its public part, the texts of its papers, and the own parts of its seats
+pub record Game : Type 0 where
+  pub public : Public
+  pub papers : List (List ℕ)
+  pub seats : List Own
+
+pub record State : Type 0 where
+  pub desk : Desk
+  pub games : List Game
+
+abbrev pub name_of : Game → List ℕ
+name_of g = g.public.game
+
+-- the game of a name
+abbrev pub game_at : List ℕ → State → Option Game
+game_at name s = at bytes_eq name_of name s.games
+
+-- the seat of a power
+abbrev pub seat_at : ℕ → List Own → Option Own
+seat_at power seats = at (λ a b. a == b) (λ o. o.power) power seats
+
+-- the named parts, as a keeper answers them
+abbrev pub public_at : List ℕ → State → Option Public
+public_at name s = option_map (λ g. g.public) (game_at name s)
+
+abbrev pub own_at : List ℕ → ℕ → State → Option Own
+own_at name power s = option_and_then (λ g. seat_at power g.seats) (game_at name s)
+
+-- who wrote a letter
+pub data Author : Type 0 where
+  Nobody : Author
+  TheMaster : Author
+  Seat : (power : ℕ) → Author
+
+-- a power and its digest
+pub record NewSeat : Type 0 where
+  pub power : ℕ
+  pub digest : List ℕ
+
+-- what a change does to its game
+pub data Effect : Type 0 where
+  Nothing : Effect
+  Pending : (lines : List (List ℕ)) → Effect
+  Opens : (public : Public) → (paper : List ℕ) → (seats : List NewSeat) → Effect
+
+-- what an accepted letter changes
+pub record Change : Type 0 where
+  pub game : List ℕ
+  pub author : Author
+  pub effect : Effect
+
+-- a seat that nobody has used yet
+abbrev pub fresh : NewSeat → Own
+fresh s = record { power = s.power; digest = s.digest; vote = false; pending = []; sent = 0; items = 0 }
+
+-- the own part of a seat of the game is changed
+abbrev pub with_seat : ℕ → (Own → Own) → Game → Game
+with_seat power f g = record g { seats = change_at (λ a b. a == b) (λ o. o.power) power f g.seats }
+
+abbrev pub at_seat : List ℕ → ℕ → (Own → Own) → List Game → List Game
+at_seat name power f games = change_at bytes_eq name_of name (with_seat power f) games
+
+abbrev pub with_pending : List (List ℕ) → Own → Own
+with_pending lines o = record o { pending = lines }
+
+-- the author's standing orders
+abbrev pub ordered : Author → List ℕ → List (List ℕ) → List Game → List Game
+ordered Nobody name lines games = games
+ordered TheMaster name lines games = games
+ordered (Seat power) name lines games = at_seat name power (with_pending lines) games
+
+abbrev pub opened : Public → List ℕ → List NewSeat → Game
+opened public paper seats = record { public = public; papers = paper ∷ []; seats = map fresh seats }
+
+-- the games after a change: a new game stands last
+abbrev pub games_after : Change → Effect → List Game → List Game
+games_after c Nothing games = games
+games_after c (Pending lines) games = ordered c.author c.game lines games
+games_after c (Opens public paper seats) games = games ++ opened public paper seats ∷ []
+
+-- the state after a change
+abbrev pub changed : Change → State → State
+changed c s = record { desk = s.desk; games = games_after c c.effect s.games }

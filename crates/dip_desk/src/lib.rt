@@ -1,0 +1,15 @@
+//! The desk: games, their seats, and the letters that move them.
+#![tactic(auto)]
+
+pub mod map;
+pub mod texts;
+
+mod keeper;
+mod memory;
+mod taking;
+
+pub use keeper::{Author, Change, Desk, Effect, KeepFault, Keeper, NewSeat};
+pub use map::{Board, Map, MapFault};
+pub use memory::MemoryKeeper;
+pub use taking::{fault_reply, take};
+pub use texts::{Own, Public, Reply, reply_text};

@@ -1,0 +1,256 @@
+//! A keeper in memory.
+ghost use Rattle.std.specs.Prelude.{◌≡◌, [], ◌==◌, IfOk, bytes_eq, map as each, option_and_then, option_map, string_bytes};
+ghost use Rattle.dip_desk.specs.Keyed.{at, change_at, place};
+ghost use Rattle.dip_desk.specs.State as s;
+ghost use Rattle.dip_desk.specs.Rows as rows;
+ghost use Rattle.dip_desk.specs.TextsRows as texts;
+ghost use Rattle.dip_desk.specs.Stored as stored;
+
+use crate::keeper::{Author, Change, Desk, Effect, KeepFault, Keeper, NewSeat};
+use crate::map::{Map, Power};
+use crate::texts::{Own, Public};
+use std::alloc::{AllocError, Global};
+
+/// A game as it lies in memory.
+#[derive(Drop)]
+pub struct GameRow {
+    public: Public,
+    papers: Vec<String>,
+    seats: Vec<Own>,
+}
+
+/// A keeper of the desk's state in memory. It is gone with the program.
+#[derive(Drop)]
+pub struct MemoryKeeper {
+    alloc: Global,
+    desk: Desk,
+    games: Vec<GameRow>,
+}
+
+fn lines_copy(alloc: Global, lines: &[String]) -> Result<Vec<String>, AllocError>
+    ensures { IfOk result (λ v. texts.lines v.items ≡ texts.lines lines.now) }
+{
+    let mut copy = Vec::with_capacity(alloc, lines.len())?;
+    for line in lines {
+        copy.push(line.clone()?)?;
+    }
+    Ok(copy)
+}
+
+fn public_copy(alloc: Global, public: &Public) -> Result<Public, AllocError>
+    ensures { IfOk result (λ p. texts.public p ≡ texts.public public.now) }
+{
+    Ok(Public {
+        game: public.game.clone()?,
+        board: public.board.copy(alloc)?,
+        status: public.status,
+        due: public.due,
+        period: public.period,
+        grey: public.grey,
+        papers: public.papers,
+    })
+}
+
+fn own_copy(alloc: Global, own: &Own) -> Result<Own, AllocError>
+    ensures { IfOk result (λ o. texts.own o ≡ texts.own own.now) }
+{
+    Ok(Own {
+        power: own.power,
+        digest: own.digest,
+        vote: own.vote,
+        pending: lines_copy(alloc, own.pending.as_slice())?,
+        sent: own.sent,
+        items: own.items,
+    })
+}
+
+/// The game of that name.
+fn find_game<'a>(games: &'a [GameRow], name: &str) -> Option<&'a GameRow>
+    ensures { option_map (λ g. stored.game g.now) result ≡ at bytes_eq s.name_of name.now (each (λ g. stored.game g) games.entry.now) }
+{
+    for game in games {
+        if game.public.game.as_str() == name {
+            return Some(game);
+        }
+    }
+    None
+}
+
+/// The seat of that power.
+fn find_seat<'a>(seats: &'a [Own], power: Power) -> Option<&'a Own>
+    ensures { option_map (λ o. texts.own o.now) result ≡ s.seat_at power (each (λ o. texts.own o) seats.entry.now) }
+{
+    for seat in seats {
+        if seat.power == power {
+            return Some(seat);
+        }
+    }
+    None
+}
+
+/// The seat of that power in the game of that name.
+fn find_own<'a>(games: &'a [GameRow], name: &str, power: Power) -> Option<&'a Own>
+    ensures { option_map (λ o. texts.own o.now) result ≡ option_and_then (λ g. s.seat_at power g.seats) (at bytes_eq s.name_of name.now (each (λ g. stored.game g) games.entry.now)) }
+{
+    let game = find_game(games, name)?;
+    find_seat(game.seats.as_slice(), power)
+}
+
+/// The place of the game of that name, or the length.
+fn game_place(games: &[GameRow], name: &str) -> usize
+    ensures { result ≡ place bytes_eq s.name_of name.now (each (λ g. stored.game g) games.now) }
+{
+    for (number, game) in games.iter().enumerate() {
+        if game.public.game.as_str() == name {
+            return number;
+        }
+    }
+    games.len()
+}
+
+/// The place of the seat of that power, or the length.
+fn seat_place(seats: &[Own], power: Power) -> usize
+    ensures { result ≡ place (λ a b. a == b) (λ o. o.power) power (each (λ o. texts.own o) seats.now) }
+{
+    for (number, seat) in seats.iter().enumerate() {
+        if seat.power == power {
+            return number;
+        }
+    }
+    seats.len()
+}
+
+fn order_seat(seats: &mut Vec<Own>, power: Power, lines: Vec<String>)
+    ensures { each (λ o. texts.own o) seats.new.items ≡ change_at (λ a b. a == b) (λ o. o.power) power (s.with_pending (texts.lines lines.items)) (each (λ o. texts.own o) seats.old.items) }
+{
+    let place = seat_place(seats.as_slice(), power);
+    if place < seats.len() {
+        let seat = &mut seats[place];
+        seat.pending = lines;
+    }
+}
+
+fn order_game(games: &mut Vec<GameRow>, name: &str, power: Power, lines: Vec<String>)
+    ensures { each (λ g. stored.game g) games.new.items ≡ s.at_seat name.now power (s.with_pending (texts.lines lines.items)) (each (λ g. stored.game g) games.old.items) }
+{
+    let place = game_place(games.as_slice(), name);
+    if place < games.len() {
+        let game = &mut games[place];
+        order_seat(&mut game.seats, power, lines);
+    }
+}
+
+fn order(games: &mut Vec<GameRow>, author: Author, name: &str, lines: Vec<String>)
+    ensures { each (λ g. stored.game g) games.new.items ≡ s.ordered (rows.author author) name.now (texts.lines lines.items) (each (λ g. stored.game g) games.old.items) }
+{
+    match author {
+        Author::Seat(power) => order_game(games, name, power, lines),
+        Author::Nobody | Author::TheMaster => {}
+    }
+}
+
+fn fresh(alloc: Global, seat: &NewSeat) -> Own
+    ensures { texts.own result ≡ s.fresh (rows.new_seat seat.now) }
+{
+    Own {
+        power: seat.power,
+        digest: seat.digest,
+        vote: false,
+        pending: Vec::new(alloc),
+        sent: 0,
+        items: 0,
+    }
+}
+
+fn fresh_seats(alloc: Global, seats: &[NewSeat]) -> Result<Vec<Own>, AllocError>
+    ensures { IfOk result (λ v. each (λ o. texts.own o) v.items ≡ each s.fresh (each (λ n. rows.new_seat n) seats.now)) }
+{
+    let mut owns = Vec::with_capacity(alloc, seats.len())?;
+    for seat in seats {
+        owns.push(fresh(alloc, seat))?;
+    }
+    Ok(owns)
+}
+
+fn opened(alloc: Global, public: &Public, paper: &String, seats: &[NewSeat]) -> Result<GameRow, AllocError>
+    ensures { IfOk result (λ g. stored.game g ≡ s.opened (texts.public public.now) (string_bytes paper.now) (each (λ n. rows.new_seat n) seats.now)) }
+{
+    let mut papers = Vec::new(alloc);
+    papers.push(paper.clone()?)?;
+    Ok(GameRow {
+        public: public_copy(alloc, public)?,
+        papers,
+        seats: fresh_seats(alloc, seats)?,
+    })
+}
+
+impl MemoryKeeper {
+    ghost use Rattle.dip_desk.specs.State.{State};
+
+    /// An empty desk whose master's secret has this digest.
+    pub fn new(alloc: Global, digest: [u8; 32]) -> MemoryKeeper
+        ensures { stored.state result ≡ record { desk = record { digest = digest }; games = [] } }
+    {
+        MemoryKeeper {
+            alloc,
+            desk: Desk { digest },
+            games: Vec::new(alloc),
+        }
+    }
+}
+
+impl Keeper for MemoryKeeper {
+    ghost content = { stored.state };
+
+    ghost may_leave = { λ k left. left ≡ stored.state k };
+
+    ghost faults = { λ _. 0 };
+
+    ghost honest = { λ _. Unit {0} };
+
+    ghost shows = { λ _. Unit {0} };
+
+    ghost sound = { λ _. Unit {0} };
+
+    fn failures(&self) -> u64 {
+        0
+    }
+
+    fn desk(&mut self) -> Result<Desk, KeepFault> {
+        Ok(self.desk)
+    }
+
+    fn public(&mut self, _map: &Map, game: &str) -> Result<Option<Public>, KeepFault> {
+        match find_game(self.games.as_slice(), game) {
+            None => Ok(None),
+            Some(found) => Ok(Some(public_copy(self.alloc, &found.public)?)),
+        }
+    }
+
+    fn own(&mut self, _map: &Map, game: &str, power: Power) -> Result<Option<Own>, KeepFault> {
+        match find_own(self.games.as_slice(), game, power) {
+            None => Ok(None),
+            Some(seat) => Ok(Some(own_copy(self.alloc, seat)?)),
+        }
+    }
+
+    fn apply(&mut self, _map: &Map, change: &Change) -> Result<(), KeepFault> {
+        match &change.effect {
+            Effect::Nothing => Ok(()),
+            Effect::Pending(lines) => {
+                let copy = lines_copy(self.alloc, lines.as_slice())?;
+                order(&mut self.games, change.author, change.game.as_str(), copy);
+                Ok(())
+            }
+            Effect::Opens {
+                public,
+                paper,
+                seats,
+            } => {
+                let game = opened(self.alloc, public, paper, seats.as_slice())?;
+                self.games.push(game)?;
+                Ok(())
+            }
+        }
+    }
+}

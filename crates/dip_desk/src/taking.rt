@@ -1,0 +1,427 @@
+//! One letter at a time.
+ghost use Rattle.std.specs.Prelude.{◌≡◌, ◌<◌, ◌==◌, ◌⊎◌, Option, IfOk, OnOk, OnErr, map as each, option_map, is_none, is_some, string_bytes, bytes_eq, count_by};
+ghost use Rattle.dip_letters.specs.Views.{note, request, seat_note, seats_in};
+ghost use Rattle.dip_desk.specs.State as s;
+ghost use Rattle.dip_desk.specs.Machine as m;
+ghost use Rattle.dip_desk.specs.Rows as rows;
+ghost use Rattle.dip_desk.specs.TextsRows as texts;
+ghost use Rattle.dip_desk.specs.Faults.{faults_after};
+ghost use Rattle.dip_desk.specs.Verdicts.{verdict};
+
+use crate::keeper::{Author, Change, Effect, KeepFault, Keeper, NewSeat};
+use crate::map::{Board, Map, Power};
+use crate::texts::{Head, Own, Public, Refusal, Reply, Status, opening_paper_text, show_text};
+use dip_letters::{Command, Letter, LetterFault, Opening, Seat, Seats, digest};
+use std::alloc::{AllocError, Global};
+
+/// What is decided of a letter.
+#[derive(Drop)]
+pub enum Verdict {
+    /// A reply alone.
+    Untaken(String),
+    /// A reply and an effect.
+    Taken(String, Effect),
+}
+
+#[tactic(auto, unfolding(crate::specs::Machine::digest))]
+fn digest_of(game: &str, sender: &str, secret: &str) -> [u8; 32]
+    ensures { result ≡ m.digest game.now sender.now secret.now }
+{
+    digest(game, sender, secret)
+}
+
+/// Whether the letter's secret has this digest.
+fn opens(letter: &Letter<'_>, game: &str, sender: &str, kept: &[u8; 32]) -> bool
+    ensures { result ≡ bytes_eq (m.digest game.now sender.now letter.now.secret.now) kept.now }
+{
+    let told = digest_of(game, sender, letter.secret);
+    told.as_slice() == kept.as_slice()
+}
+
+/// The master, where the letter's secret is the desk's.
+fn master_author<K: Keeper>(keeper: &mut K, letter: &Letter<'_>) -> Result<Author, KeepFault>
+    requires { K.faults keeper.old < u64.MAX }
+    ensures value { K.sound keeper.old → K.shows keeper.new → IfOk result (λ a. rows.author a ≡ m.master_author (note letter.now) (K.content keeper.old)) }
+    ensures same { K.sound keeper.old → K.shows keeper.new → K.content keeper.new ≡ K.content keeper.old }
+    ensures count { K.faults keeper.new ≡ faults_after result (K.faults keeper.old) }
+    ensures fair { K.honest keeper.new → K.honest keeper.old }
+    ensures shown { K.shows keeper.new → K.shows keeper.old }
+    ensures sound { K.sound keeper.old → K.shows keeper.new → K.sound keeper.new }
+    ensures firm { K.sound keeper.old → K.honest keeper.new → OnOk result (K.sound keeper.new) }
+    ensures open { K.sound keeper.old → K.honest keeper.new → K.shows keeper.old → OnOk result (K.shows keeper.new) }
+    ensures left { K.sound keeper.old → K.honest keeper.new → (s : s.State) → K.may_leave keeper.new s → K.may_leave keeper.old s }
+{
+    let desk = keeper.desk()?;
+    if opens(letter, "desk", "master", &desk.digest) {
+        Ok(Author::TheMaster)
+    } else {
+        Ok(Author::Nobody)
+    }
+}
+
+/// The seat, where it has the digest of the letter's secret.
+fn seat_author(letter: &Letter<'_>, power: Power, own: &Option<Own>) -> Author
+    ensures { rows.author result ≡ m.seat_author (note letter.now) power (option_map texts.own own.now) }
+{
+    match own {
+        None => Author::Nobody,
+        Some(own) => {
+            if opens(letter, letter.game, letter.sender, &own.digest) {
+                Author::Seat(power)
+            } else {
+                Author::Nobody
+            }
+        }
+    }
+}
+
+/// Who wrote the letter.
+fn author_of<K: Keeper>(keeper: &mut K, map: &Map, letter: &Letter<'_>) -> Result<Author, KeepFault>
+    requires { K.faults keeper.old < u64.MAX }
+    ensures value { K.sound keeper.old → K.shows keeper.new → IfOk result (λ a. rows.author a ≡ m.author map.now (note letter.now) (K.content keeper.old)) }
+    ensures same { K.sound keeper.old → K.shows keeper.new → K.content keeper.new ≡ K.content keeper.old }
+    ensures count { K.faults keeper.new ≡ faults_after result (K.faults keeper.old) }
+    ensures fair { K.honest keeper.new → K.honest keeper.old }
+    ensures shown { K.shows keeper.new → K.shows keeper.old }
+    ensures sound { K.sound keeper.old → K.shows keeper.new → K.sound keeper.new }
+    ensures firm { K.sound keeper.old → K.honest keeper.new → OnOk result (K.sound keeper.new) }
+    ensures open { K.sound keeper.old → K.honest keeper.new → K.shows keeper.old → OnOk result (K.shows keeper.new) }
+    ensures left { K.sound keeper.old → K.honest keeper.new → (s : s.State) → K.may_leave keeper.new s → K.may_leave keeper.old s }
+{
+    if letter.sender == "master" {
+        return master_author(keeper, letter);
+    }
+    match map.power(letter.sender) {
+        None => Ok(Author::Nobody),
+        Some(power) => {
+            let own = keeper.own(map, letter.game, power)?;
+            Ok(seat_author(letter, power, &own))
+        }
+    }
+}
+
+/// A line of a reply.
+fn refusal_line(alloc: Global, refusal: Refusal) -> Result<String, AllocError>
+    ensures { IfOk result (λ line. string_bytes line ≡ m.refusal_line refusal) }
+{
+    format!(in alloc; "{refusal}\n")
+}
+
+/// The letter is refused, and that is kept.
+fn refused(alloc: Global, refusal: Refusal) -> Result<Verdict, AllocError>
+    ensures { IfOk result (λ v. verdict v ≡ m.refused refusal) }
+{
+    Ok(Verdict::Taken(
+        refusal_line(alloc, refusal)?,
+        Effect::Nothing,
+    ))
+}
+
+/// Nobody is the author, or there is no such game.
+fn unknown(alloc: Global) -> Result<Verdict, AllocError>
+    ensures { IfOk result (λ v. verdict v ≡ m.Untaken (m.refusal_line Refusal.Unknown)) }
+{
+    Ok(Verdict::Untaken(refusal_line(alloc, Refusal::Unknown)?))
+}
+
+/// What a seat's command comes to, by the public part and its own part alone.
+fn command_verdict(
+    alloc: Global,
+    map: &Map,
+    command: &Command<'_>,
+    public: &Public,
+    own: &Own,
+) -> Result<Verdict, KeepFault>
+    ensures value { IfOk result (λ v. verdict v ≡ m.seat_command map.now (request command.now) (texts.public public.now) (texts.own own.now)) }
+    ensures disk { faults_after result 0 ≡ 0 }
+{
+    match command {
+        Command::Create(_) => Ok(refused(alloc, Refusal::WrongSender)?),
+        Command::Orders(_) => Ok(refused(alloc, Refusal::WrongSender)?),
+        Command::Show => Ok(Verdict::Taken(
+            show_text(alloc, map, public, own)?,
+            Effect::Nothing,
+        )),
+    }
+}
+
+/// What a seat's letter comes to.
+fn seat_verdict<K: Keeper>(
+    alloc: Global,
+    keeper: &mut K,
+    map: &Map,
+    letter: &Letter<'_>,
+    power: Power,
+) -> Result<Verdict, KeepFault>
+    requires { K.faults keeper.old < u64.MAX }
+    ensures value { K.sound keeper.old → K.shows keeper.new → IfOk result (λ v. verdict v ≡ m.verdict_on map.now (note letter.now) (m.seen_in power (s.game_at letter.now.game.now (K.content keeper.old)))) }
+    ensures same { K.sound keeper.old → K.shows keeper.new → K.content keeper.new ≡ K.content keeper.old }
+    ensures count { K.faults keeper.new ≡ faults_after result (K.faults keeper.old) }
+    ensures fair { K.honest keeper.new → K.honest keeper.old }
+    ensures shown { K.shows keeper.new → K.shows keeper.old }
+    ensures sound { K.sound keeper.old → K.shows keeper.new → K.sound keeper.new }
+    ensures firm { K.sound keeper.old → K.honest keeper.new → OnOk result (K.sound keeper.new) }
+    ensures open { K.sound keeper.old → K.honest keeper.new → K.shows keeper.old → OnOk result (K.shows keeper.new) }
+    ensures left { K.sound keeper.old → K.honest keeper.new → (s : s.State) → K.may_leave keeper.new s → K.may_leave keeper.old s }
+{
+    let Some(public) = keeper.public(map, letter.game)? else {
+        return Ok(unknown(alloc)?);
+    };
+    let Some(own) = keeper.own(map, letter.game, power)? else {
+        return Ok(unknown(alloc)?);
+    };
+    command_verdict(alloc, map, &letter.command, &public, &own)
+}
+
+fn new_seat(map: &Map, game: &str, seat: &Seat<'_>) -> Option<NewSeat>
+    ensures { option_map rows.new_seat result ≡ m.new_seat map.now game.now (seat_note seat.now) }
+{
+    let power = map.power(seat.power)?;
+    Some(NewSeat {
+        power,
+        digest: digest_of(game, seat.power, seat.secret),
+    })
+}
+
+/// The seats of a new game, where each power is one of the map.
+fn new_seats(alloc: Global, map: &Map, game: &str, seats: Seats<'_>) -> Result<Option<Vec<NewSeat>>, AllocError>
+    ensures { IfOk result (λ found. option_map (λ v. each rows.new_seat v.items) found ≡ m.new_seats map.now game.now (seats_in seats.entry)) }
+{
+    let mut found = Vec::new(alloc);
+    for seat in seats {
+        match new_seat(map, game, &seat) {
+            None => return Ok(None),
+            Some(next) => found.push(next)?,
+        }
+    }
+    Ok(Some(found))
+}
+
+fn seats_of(seats: &[NewSeat], power: Power) -> usize
+    ensures { result ≡ count_by (λ s. s.power == power) (each rows.new_seat seats.now) }
+{
+    seats.iter().filter(|seat| seat.power == power).count()
+}
+
+fn has_one_seat(seats: &[NewSeat], power: Power) -> bool
+    ensures { result ≡ (count_by (λ s. s.power == power) (each rows.new_seat seats.now) == 1) }
+{
+    seats_of(seats, power) == 1
+}
+
+/// Whether each power of the map has one seat.
+fn are_complete(map: &Map, seats: &[NewSeat]) -> bool
+    ensures { result ≡ m.are_complete map.now (each rows.new_seat seats.now) }
+{
+    map.facts();
+    for index in 0..map.powers() {
+        if !has_one_seat(seats, Power::new(index as u8)) {
+            return false;
+        }
+    }
+    true
+}
+
+/// The public part of a new game.
+fn opening_public(alloc: Global, map: &Map, game: &str, opening: &Opening<'_>) -> Result<Public, AllocError>
+    ensures { IfOk result (λ p. texts.public p ≡ m.opening_public map.now game.now opening.now.due opening.now.period opening.now.grey) }
+{
+    Ok(Public {
+        game: String::from_str(alloc, game)?,
+        board: Board::opening(alloc, map)?,
+        status: Status::Running,
+        due: opening.due,
+        period: opening.period,
+        grey: opening.grey,
+        papers: 1,
+    })
+}
+
+/// A new game, where its name is free.
+fn open_game(
+    alloc: Global,
+    map: &Map,
+    public: Public,
+    seats: Vec<NewSeat>,
+    is_free: bool,
+) -> Result<Verdict, AllocError>
+    ensures { IfOk result (λ v. (game : Option s.Game) → is_free ≡ is_none game → verdict v ≡ m.open_game map.now (texts.public public) (each rows.new_seat seats.items) game) }
+{
+    if !is_free {
+        return refused(alloc, Refusal::NameTaken);
+    }
+    let paper = opening_paper_text(alloc, map, &public)?;
+    Ok(Verdict::Taken(
+        String::from_str(alloc, "OK paper 1\n")?,
+        Effect::Opens {
+            public,
+            paper,
+            seats,
+        },
+    ))
+}
+
+/// What CREATE comes to.
+fn created(
+    alloc: Global,
+    map: &Map,
+    game: &str,
+    opening: &Opening<'_>,
+    is_free: bool,
+) -> Result<Verdict, AllocError>
+    ensures { IfOk result (λ v. (known : Option s.Game) → is_free ≡ is_none known → verdict v ≡ m.created map.now
+        (m.opening_public map.now game.now opening.now.due opening.now.period opening.now.grey) (m.new_seats map.now game.now (seats_in opening.now.seats)) known) }
+{
+    let Some(seats) = new_seats(alloc, map, game, opening.seats)? else {
+        return refused(alloc, Refusal::Malformed);
+    };
+    if !are_complete(map, seats.as_slice()) {
+        return refused(alloc, Refusal::Malformed);
+    }
+    let public = opening_public(alloc, map, game, opening)?;
+    open_game(alloc, map, public, seats, is_free)
+}
+
+/// Any other command of the master.
+fn not_for_master(alloc: Global, is_known: bool) -> Result<Verdict, AllocError>
+    ensures { IfOk result (λ v. (game : Option s.Game) → is_known ≡ is_some game → verdict v ≡ m.not_for_master game) }
+{
+    if is_known {
+        refused(alloc, Refusal::WrongSender)
+    } else {
+        unknown(alloc)
+    }
+}
+
+/// What a letter of the master comes to.
+fn master_verdict<K: Keeper>(
+    alloc: Global,
+    keeper: &mut K,
+    map: &Map,
+    letter: &Letter<'_>,
+) -> Result<Verdict, KeepFault>
+    requires { K.faults keeper.old < u64.MAX }
+    ensures value { K.sound keeper.old → K.shows keeper.new → IfOk result (λ v. verdict v ≡ m.master_verdict map.now (note letter.now) (note letter.now).command (s.game_at letter.now.game.now (K.content keeper.old))) }
+    ensures same { K.sound keeper.old → K.shows keeper.new → K.content keeper.new ≡ K.content keeper.old }
+    ensures count { K.faults keeper.new ≡ faults_after result (K.faults keeper.old) }
+    ensures fair { K.honest keeper.new → K.honest keeper.old }
+    ensures shown { K.shows keeper.new → K.shows keeper.old }
+    ensures sound { K.sound keeper.old → K.shows keeper.new → K.sound keeper.new }
+    ensures firm { K.sound keeper.old → K.honest keeper.new → OnOk result (K.sound keeper.new) }
+    ensures open { K.sound keeper.old → K.honest keeper.new → K.shows keeper.old → OnOk result (K.shows keeper.new) }
+    ensures left { K.sound keeper.old → K.honest keeper.new → (s : s.State) → K.may_leave keeper.new s → K.may_leave keeper.old s }
+{
+    let known = keeper.public(map, letter.game)?;
+    match &letter.command {
+        Command::Create(opening) => Ok(created(alloc, map, letter.game, opening, known.is_none())?),
+        Command::Orders(_) | Command::Show => Ok(not_for_master(alloc, known.is_some())?),
+    }
+}
+
+/// Who wrote the letter, and what is decided of it.
+fn judge<K: Keeper>(
+    alloc: Global,
+    keeper: &mut K,
+    map: &Map,
+    letter: &Letter<'_>,
+) -> Result<(Author, Verdict), KeepFault>
+    requires { K.faults keeper.old < u64.MAX }
+    ensures author { K.sound keeper.old → K.shows keeper.new → IfOk result (λ j. rows.author j.0 ≡ m.author map.now (note letter.now) (K.content keeper.old)) }
+    ensures verdict { K.sound keeper.old → K.shows keeper.new → IfOk result (λ j. m.Decides map.now (K.content keeper.old) (note letter.now) (rows.author j.0) (verdict j.1)) }
+    ensures same { K.sound keeper.old → K.shows keeper.new → K.content keeper.new ≡ K.content keeper.old }
+    ensures count { K.faults keeper.new ≡ faults_after result (K.faults keeper.old) }
+    ensures fair { K.honest keeper.new → K.honest keeper.old }
+    ensures shown { K.shows keeper.new → K.shows keeper.old }
+    ensures sound { K.sound keeper.old → K.shows keeper.new → K.sound keeper.new }
+    ensures firm { K.sound keeper.old → K.honest keeper.new → OnOk result (K.sound keeper.new) }
+    ensures open { K.sound keeper.old → K.honest keeper.new → K.shows keeper.old → OnOk result (K.shows keeper.new) }
+    ensures left { K.sound keeper.old → K.honest keeper.new → (s : s.State) → K.may_leave keeper.new s → K.may_leave keeper.old s }
+{
+    let author = author_of(keeper, map, letter)?;
+    match author {
+        Author::Nobody => Ok((author, unknown(alloc)?)),
+        Author::TheMaster => Ok((author, master_verdict(alloc, keeper, map, letter)?)),
+        Author::Seat(power) => Ok((author, seat_verdict(alloc, keeper, map, letter, power)?)),
+    }
+}
+
+/// Whose letter the reply answers.
+fn head_of(alloc: Global, letter: &Letter<'_>, author: Author) -> Result<Option<Head>, AllocError>
+    ensures { IfOk result (λ h. option_map texts.head h ≡ m.head_for (note letter.now) (rows.author author)) }
+{
+    match author {
+        Author::Nobody => Ok(None),
+        Author::TheMaster | Author::Seat(_) => Ok(Some(Head {
+            game: String::from_str(alloc, letter.game)?,
+            sender: String::from_str(alloc, letter.sender)?,
+            number: letter.number,
+        })),
+    }
+}
+
+/// Keeps what was decided, and gives the reply. Nothing grows behind the change.
+fn settle<K: Keeper>(
+    alloc: Global,
+    keeper: &mut K,
+    map: &Map,
+    letter: &Letter<'_>,
+    author: Author,
+    decided: Verdict,
+) -> Result<Reply, KeepFault>
+    requires { K.faults keeper.old < u64.MAX }
+    ensures reply { IfOk result (λ r. texts.reply r ≡ m.reply_of (note letter.now) (rows.author author) (verdict decided)) }
+    ensures ok { K.sound keeper.old → K.shows keeper.new → OnOk result (K.content keeper.new ≡ m.after (note letter.now) (rows.author author) (verdict decided) (K.content keeper.old)) }
+    ensures err { K.sound keeper.old → K.shows keeper.new → OnErr result (K.content keeper.new ≡ K.content keeper.old) }
+    ensures kept { K.sound keeper.old → K.honest keeper.new → OnOk result ((s : s.State) → K.may_leave keeper.new s → (s ≡ K.content keeper.new) ⊎ ((K.content keeper.new ≡ K.content keeper.old) × K.may_leave keeper.old s)) }
+    ensures left { K.sound keeper.old → K.honest keeper.new → OnErr result ((s : s.State) → K.may_leave keeper.new s → K.may_leave keeper.old s ⊎ (s ≡ m.after (note letter.now) (rows.author author) (verdict decided) (K.content keeper.old))) }
+    ensures count { K.faults keeper.new ≡ faults_after result (K.faults keeper.old) }
+    ensures fair { K.honest keeper.new → K.honest keeper.old }
+    ensures shown { K.shows keeper.new → K.shows keeper.old }
+    ensures sound { K.sound keeper.old → K.shows keeper.new → K.sound keeper.new }
+    ensures firm { K.sound keeper.old → K.honest keeper.new → OnOk result (K.sound keeper.new) }
+    ensures open { K.sound keeper.old → K.honest keeper.new → K.shows keeper.old → OnOk result (K.shows keeper.new) }
+{
+    let head = head_of(alloc, letter, author)?;
+    match decided {
+        Verdict::Untaken(text) => Ok(Reply { head, text }),
+        Verdict::Taken(text, effect) => {
+            let change = Change {
+                game: String::from_str(alloc, letter.game)?,
+                author,
+                effect,
+            };
+            keeper.apply(map, &change)?;
+            Ok(Reply { head, text })
+        }
+    }
+}
+
+/// Takes one letter: one step of the desk machine.
+pub fn take<K: Keeper>(alloc: Global, keeper: &mut K, map: &Map, letter: &Letter<'_>) -> Result<Reply, KeepFault>
+    requires { K.faults keeper.old < u64.MAX }
+    ensures step { K.sound keeper.old → K.shows keeper.new → IfOk result (λ r. m.Step map.now (K.content keeper.old) (note letter.now) (texts.reply r) (K.content keeper.new)) }
+    ensures err { K.sound keeper.old → K.shows keeper.new → OnErr result (K.content keeper.new ≡ K.content keeper.old) }
+    ensures count { K.faults keeper.new ≡ faults_after result (K.faults keeper.old) }
+    ensures fair { K.honest keeper.new → K.honest keeper.old }
+    ensures shown { K.shows keeper.new → K.shows keeper.old }
+    ensures sound { K.sound keeper.old → K.shows keeper.new → K.sound keeper.new }
+    ensures firm { K.sound keeper.old → K.honest keeper.new → OnOk result (K.sound keeper.new) }
+    ensures open { K.sound keeper.old → K.honest keeper.new → K.shows keeper.old → OnOk result (K.shows keeper.new) }
+{
+    let (author, decided) = judge(alloc, keeper, map, letter)?;
+    settle(alloc, keeper, map, letter, author, decided)
+}
+
+/// The reply to bytes that are no letter.
+pub fn fault_reply(alloc: Global, fault: LetterFault) -> Result<Reply, AllocError>
+    ensures { IfOk result (λ r. texts.reply r ≡ m.fault_reply fault) }
+{
+    let refusal = match fault {
+        LetterFault::Malformed => Refusal::Malformed,
+        LetterFault::TooLong => Refusal::TooLong,
+    };
+    Ok(Reply {
+        head: None,
+        text: refusal_line(alloc, refusal)?,
+    })
+}

@@ -11,6 +11,10 @@ fn tells_the_status_and_the_word(rt: HostRuntime) -> Result<(), Fail> {
     let rows = [
         (Failure::Usage(UsageFault::Check), 2, "dip_judge: Usage\n"),
         (Failure::Usage(UsageFault::Memory), 5, "dip_judge: Memory\n"),
+        (Failure::Map(MapFault::UnknownName), 3, "dip_judge: M3\n"),
+        (Failure::Map(MapFault::NotSymmetric), 3, "dip_judge: M4\n"),
+        (Failure::Map(MapFault::DoubledName), 3, "dip_judge: M5\n"),
+        (Failure::Map(MapFault::OverLimit), 3, "dip_judge: M6\n"),
         (Failure::Map(MapFault::Memory), 3, "dip_judge: M7\n"),
         (Failure::Run(RunFault::Read), 5, "dip_judge: Read\n"),
         (Failure::Run(RunFault::TooLong), 5, "dip_judge: TooLong\n"),

@@ -1,6 +1,6 @@
 //! Why the program ends early: its exit status, and what it prints on standard error.
 ghost use Rattle.std.specs.Prelude.{◌≡◌};
-ghost use Rattle.dip_judge.specs.Failures.{status_of};
+ghost use Rattle.dip_judge.specs.Failures.{map_number, run_name, status_of};
 
 use crate::args::UsageFault;
 use crate::run::RunFault;
@@ -38,19 +38,26 @@ impl Failure {
 }
 
 impl fmt::Display for Failure {
+    ghost use Rattle.dip_judge.specs.Failures.{printed};
+
+    ghost output = { λ f. printed f };
+
     fn fmt<W: fmt::Write>(&self, f: &mut fmt::Formatter<W>) -> fmt::Result {
-        match self {
-            Failure::Usage(UsageFault::Clap(error)) => write!(f, "{error}"),
-            Failure::Usage(UsageFault::Check) => writeln!(f, "dip_judge: Usage"),
-            Failure::Usage(UsageFault::Memory) => writeln!(f, "dip_judge: Memory"),
-            Failure::Map(fault) => writeln!(f, "dip_judge: {}", number_of(*fault)),
-            Failure::Run(fault) => writeln!(f, "dip_judge: {}", name_of(*fault)),
-        }
+        let name = match self {
+            Failure::Usage(UsageFault::Clap(error)) => return write!(f, "{error}"),
+            Failure::Usage(UsageFault::Check) => "Usage",
+            Failure::Usage(UsageFault::Memory) => "Memory",
+            Failure::Map(fault) => number_of(*fault),
+            Failure::Run(fault) => name_of(*fault),
+        };
+        write!(f, "dip_judge: {name}\n")
     }
 }
 
 /// The printed number of a map's fault.
-fn number_of(fault: MapFault) -> &'static str {
+fn number_of(fault: MapFault) -> &'static str
+    ensures { result.now ≡ map_number fault }
+{
     match fault {
         MapFault::UnknownName => "M3",
         MapFault::NotSymmetric => "M4",
@@ -61,7 +68,9 @@ fn number_of(fault: MapFault) -> &'static str {
 }
 
 /// The printed name of a run's fault.
-fn name_of(fault: RunFault) -> &'static str {
+fn name_of(fault: RunFault) -> &'static str
+    ensures { result.now ≡ run_name fault }
+{
     match fault {
         RunFault::Read => "Read",
         RunFault::TooLong => "TooLong",

@@ -3,3 +3,4 @@ pub mod BoardLaws
 pub mod KeyedLemmas
 pub mod TextLemmas
 pub mod SeatLemmas
+pub mod OrderingLemmas

@@ -11,3 +11,7 @@ pub mod Rows
 pub mod Stored
 pub mod Machine
 pub mod Verdicts
+pub mod OrdersFaults
+pub mod Ordering
+pub mod OrdersDummy
+pub mod OrderingRows

@@ -9,6 +9,7 @@ use Rattle.dip_letters.specs.declared.letters.LetterFault.{LetterFault}
 use Rattle.dip_letters.specs.declared.letters.LetterFault.TheVariants.{Malformed as Unreadable, TooLong as OverLong}
 use Rattle.dip_desk.specs.MapChart.{Chart, power_of}
 use Rattle.dip_desk.specs.MapBoard.{opening}
+use Rattle.dip_desk.specs.Ordering.{Ordered, lines_of, ordered}
 use Rattle.dip_desk.specs.State.{State, Game, Author, Nobody, TheMaster, Seat, Effect, Nothing, Pending, Opens, Change, NewSeat, changed, game_at, own_at, seat_at}
 use Rattle.dip_desk.specs.Texts.{numbers, opening_paper, refusal_text, show_text}
 use Rattle.dip_desk.specs.TextsRecords.{Public, Own, Head, Reply}
@@ -37,9 +38,9 @@ power_author n (Some power) s = seat_author n power (own_at n.game power s)
 abbrev pub author : Chart → Note → State → Author
 author m n s = if bytes_eq n.sender (codes "master") then master_author n s else power_author n (power_of m n.sender) s
 
--- what is decided of a letter: a reply alone, or a reply and an effect
+-- what is decided of a letter: its game, sender or secret isn't known, or it gets these lines and has this effect
 pub data Verdict : Type 0 where
-  Untaken : (text : List ℕ) → Verdict
+  NotKnown : Verdict
   Taken : (text : List ℕ) → (effect : Effect) → Verdict
 
 abbrev pub refusal_line : Refusal → List ℕ
@@ -58,10 +59,14 @@ abbrev pub seen_in : ℕ → Option Game → Seen
 seen_in power None = record { public = None; own = None }
 seen_in power (Some g) = record { public = Some g.public; own = seat_at power g.seats }
 
+-- what ORDERS comes to: an answer to each line, and the orders that stand now
+abbrev pub orders_verdict : Chart → Ordered → Verdict
+orders_verdict m d = Taken d.answers (Pending (lines_of m d.orders))
+
 -- what a seat's command comes to, by what the seat sees alone
 abbrev pub seat_command : Chart → Request → Public → Own → Verdict
 seat_command m (Create due period grey seats) p o = refused WrongSender
-seat_command m (Orders lines) p o = refused WrongSender
+seat_command m (Orders lines) p o = orders_verdict m (ordered m p.board o.power o.pending lines)
 seat_command m Show p o = Taken (show_text m p o) Nothing
 
 abbrev pub verdict_on : Chart → Note → Seen → Verdict
@@ -69,8 +74,8 @@ verdict_on m n s = both s.public s.own
   where
     both : Option Public → Option Own → Verdict
     both (Some p) (Some o) = seat_command m n.command p o
-    both (Some p) None = Untaken (refusal_line Unknown)
-    both None o = Untaken (refusal_line Unknown)
+    both (Some p) None = NotKnown
+    both None o = NotKnown
 
 -- a seat of a new game, where its power is one of the map
 abbrev pub new_seat : Chart → List ℕ → SeatNote → Option NewSeat
@@ -105,7 +110,7 @@ created m p (Some seats) game = if are_complete m seats then open_game m p seats
 
 -- any other command of the master
 abbrev pub not_for_master : Option Game → Verdict
-not_for_master None = Untaken (refusal_line Unknown)
+not_for_master None = NotKnown
 not_for_master (Some g) = refused WrongSender
 
 abbrev pub master_verdict : Chart → Note → Request → Option Game → Verdict
@@ -115,30 +120,26 @@ master_verdict m n Show game = not_for_master game
 
 -- what may be decided of a letter
 abbrev pub Decides : Chart → State → Note → Author → Verdict → Type 0
-Decides m s n Nobody v = v ≡ Untaken (refusal_line Unknown)
+Decides m s n Nobody v = v ≡ NotKnown
 Decides m s n TheMaster v = v ≡ master_verdict m n n.command (game_at n.game s)
 Decides m s n (Seat power) v = v ≡ verdict_on m n (seen_in power (game_at n.game s))
 
-abbrev pub text_of : Verdict → List ℕ
-text_of (Untaken text) = text
-text_of (Taken text effect) = text
-
 -- the state after a letter
 abbrev pub after : Note → Author → Verdict → State → State
-after n who (Untaken text) s = s
+after n who NotKnown s = s
 after n who (Taken text effect) s = changed (record { game = n.game; author = who; effect = effect }) s
 
-abbrev pub head_for : Note → Author → Option Head
-head_for n Nobody = None
-head_for n TheMaster = Some (record { game = n.game; sender = n.sender; number = n.number })
-head_for n (Seat power) = Some (record { game = n.game; sender = n.sender; number = n.number })
+abbrev pub head_of : Note → Head
+head_of n = record { game = n.game; sender = n.sender; number = n.number }
 
-abbrev pub reply_of : Note → Author → Verdict → Reply
-reply_of n who v = record { head = head_for n who; text = text_of v }
+-- whoever isn't known gets one and the same reply
+abbrev pub reply_of : Note → Verdict → Reply
+reply_of n NotKnown = record { head = None; text = refusal_line Unknown }
+reply_of n (Taken text effect) = record { head = Some (head_of n); text = text }
 
 -- one step: from old, the machine may give this reply to the letter and go on to new
 abbrev pub Step : Chart → State → Note → Reply → State → Type 0
-Step m old n r new = (v : Verdict) × Decides m old n (author m n old) v × (r ≡ reply_of n (author m n old) v) × (new ≡ after n (author m n old) v old)
+Step m old n r new = (v : Verdict) × Decides m old n (author m n old) v × (r ≡ reply_of n v) × (new ≡ after n (author m n old) v old)
 
 -- the reply to bytes that are no letter
 abbrev pub fault_reply : LetterFault → Reply

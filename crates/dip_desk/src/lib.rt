@@ -2,10 +2,12 @@
 #![tactic(auto)]
 
 pub mod map;
+pub mod orders;
 pub mod texts;
 
 mod keeper;
 mod memory;
+mod ordering;
 mod taking;
 
 pub use keeper::{Author, Change, Desk, Effect, KeepFault, Keeper, NewSeat};
@@ -13,3 +15,6 @@ pub use map::{Board, Map, MapFault};
 pub use memory::MemoryKeeper;
 pub use taking::{fault_reply, take};
 pub use texts::{Own, Public, Reply, reply_text};
+
+#[cfg(test)]
+mod tests;

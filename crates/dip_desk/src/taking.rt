@@ -1,25 +1,27 @@
 //! One letter at a time.
 ghost use Rattle.std.specs.Prelude.{◌≡◌, ◌<◌, ◌==◌, ◌⊎◌, Option, IfOk, OnOk, OnErr, map as each, option_map, is_none, is_some, string_bytes, bytes_eq, count_by};
-ghost use Rattle.dip_letters.specs.Views.{note, request, seat_note, seats_in};
+ghost use Rattle.dip_letters.specs.Views.{lines_in, note, request, seat_note, seats_in};
 ghost use Rattle.dip_desk.specs.State as s;
 ghost use Rattle.dip_desk.specs.Machine as m;
 ghost use Rattle.dip_desk.specs.Rows as rows;
 ghost use Rattle.dip_desk.specs.TextsRows as texts;
 ghost use Rattle.dip_desk.specs.Faults.{faults_after};
 ghost use Rattle.dip_desk.specs.Verdicts.{verdict};
+ghost use Rattle.dip_desk.specs.Ordering.{ordered};
 
 use crate::keeper::{Author, Change, Effect, KeepFault, Keeper, NewSeat};
 use crate::map::{Board, Map, Power};
+use crate::ordering::{Ordered, order_lines, standing_orders, take_lines};
 use crate::texts::{Head, Own, Public, Refusal, Reply, Status, opening_paper_text, show_text};
-use dip_letters::{Command, Letter, LetterFault, Opening, Seat, Seats, digest};
+use dip_letters::{Command, Letter, LetterFault, Lines, Opening, Seat, Seats, digest};
 use std::alloc::{AllocError, Global};
 
 /// What is decided of a letter.
 #[derive(Drop)]
 pub enum Verdict {
-    /// A reply alone.
-    Untaken(String),
-    /// A reply and an effect.
+    /// Its game, sender or secret isn't known.
+    NotKnown,
+    /// It gets these lines, and has this effect.
     Taken(String, Effect),
 }
 
@@ -117,11 +119,26 @@ fn refused(alloc: Global, refusal: Refusal) -> Result<Verdict, AllocError>
     ))
 }
 
-/// Nobody is the author, or there is no such game.
-fn unknown(alloc: Global) -> Result<Verdict, AllocError>
-    ensures { IfOk result (λ v. verdict v ≡ m.Untaken (m.refusal_line Refusal.Unknown)) }
+/// What ORDERS comes to.
+fn orders_verdict(
+    alloc: Global,
+    map: &Map,
+    board: &Board,
+    own: &Own,
+    lines: Lines<'_>,
+) -> Result<Verdict, KeepFault>
+    ensures value { IfOk result (λ v. verdict v ≡ m.orders_verdict map.now (ordered map.now board.now own.now.power (texts.lines own.now.pending.items) (lines_in lines.entry))) }
+    ensures disk { faults_after result 0 ≡ 0 }
 {
-    Ok(Verdict::Untaken(refusal_line(alloc, Refusal::Unknown)?))
+    let orders = standing_orders(alloc, map, board, own.power, own.pending.as_slice())?;
+    let mut taken = Ordered {
+        orders,
+        answers: String::new(alloc),
+    };
+    take_lines(map, board, own.power, lines, &mut taken)?;
+    let Ordered { orders, answers } = taken;
+    let pending = order_lines(alloc, map, orders.as_slice())?;
+    Ok(Verdict::Taken(answers, Effect::Pending(pending)))
 }
 
 /// What a seat's command comes to, by the public part and its own part alone.
@@ -137,7 +154,7 @@ fn command_verdict(
 {
     match command {
         Command::Create(_) => Ok(refused(alloc, Refusal::WrongSender)?),
-        Command::Orders(_) => Ok(refused(alloc, Refusal::WrongSender)?),
+        Command::Orders(lines) => orders_verdict(alloc, map, &public.board, own, *lines),
         Command::Show => Ok(Verdict::Taken(
             show_text(alloc, map, public, own)?,
             Effect::Nothing,
@@ -165,10 +182,10 @@ fn seat_verdict<K: Keeper>(
     ensures left { K.sound keeper.old → K.honest keeper.new → (s : s.State) → K.may_leave keeper.new s → K.may_leave keeper.old s }
 {
     let Some(public) = keeper.public(map, letter.game)? else {
-        return Ok(unknown(alloc)?);
+        return Ok(Verdict::NotKnown);
     };
     let Some(own) = keeper.own(map, letter.game, power)? else {
-        return Ok(unknown(alloc)?);
+        return Ok(Verdict::NotKnown);
     };
     command_verdict(alloc, map, &letter.command, &public, &own)
 }
@@ -289,7 +306,7 @@ fn not_for_master(alloc: Global, is_known: bool) -> Result<Verdict, AllocError>
     if is_known {
         refused(alloc, Refusal::WrongSender)
     } else {
-        unknown(alloc)
+        Ok(Verdict::NotKnown)
     }
 }
 
@@ -339,24 +356,31 @@ fn judge<K: Keeper>(
 {
     let author = author_of(keeper, map, letter)?;
     match author {
-        Author::Nobody => Ok((author, unknown(alloc)?)),
+        Author::Nobody => Ok((author, Verdict::NotKnown)),
         Author::TheMaster => Ok((author, master_verdict(alloc, keeper, map, letter)?)),
         Author::Seat(power) => Ok((author, seat_verdict(alloc, keeper, map, letter, power)?)),
     }
 }
 
 /// Whose letter the reply answers.
-fn head_of(alloc: Global, letter: &Letter<'_>, author: Author) -> Result<Option<Head>, AllocError>
-    ensures { IfOk result (λ h. option_map texts.head h ≡ m.head_for (note letter.now) (rows.author author)) }
+fn head_of(alloc: Global, letter: &Letter<'_>) -> Result<Head, AllocError>
+    ensures { IfOk result (λ h. texts.head h ≡ m.head_of (note letter.now)) }
 {
-    match author {
-        Author::Nobody => Ok(None),
-        Author::TheMaster | Author::Seat(_) => Ok(Some(Head {
-            game: String::from_str(alloc, letter.game)?,
-            sender: String::from_str(alloc, letter.sender)?,
-            number: letter.number,
-        })),
-    }
+    Ok(Head {
+        game: String::from_str(alloc, letter.game)?,
+        sender: String::from_str(alloc, letter.sender)?,
+        number: letter.number,
+    })
+}
+
+/// The reply to a letter whose game, sender or secret isn't known.
+fn not_known(alloc: Global) -> Result<Reply, AllocError>
+    ensures { IfOk result (λ r. texts.reply r ≡ record { head = None; text = m.refusal_line Refusal.Unknown }) }
+{
+    Ok(Reply {
+        head: None,
+        text: refusal_line(alloc, Refusal::Unknown)?,
+    })
 }
 
 /// Keeps what was decided, and gives the reply. Nothing grows behind the change.
@@ -369,7 +393,7 @@ fn settle<K: Keeper>(
     decided: Verdict,
 ) -> Result<Reply, KeepFault>
     requires { K.faults keeper.old < u64.MAX }
-    ensures reply { IfOk result (λ r. texts.reply r ≡ m.reply_of (note letter.now) (rows.author author) (verdict decided)) }
+    ensures reply { IfOk result (λ r. texts.reply r ≡ m.reply_of (note letter.now) (verdict decided)) }
     ensures ok { K.sound keeper.old → K.shows keeper.new → OnOk result (K.content keeper.new ≡ m.after (note letter.now) (rows.author author) (verdict decided) (K.content keeper.old)) }
     ensures err { K.sound keeper.old → K.shows keeper.new → OnErr result (K.content keeper.new ≡ K.content keeper.old) }
     ensures kept { K.sound keeper.old → K.honest keeper.new → OnOk result ((s : s.State) → K.may_leave keeper.new s → (s ≡ K.content keeper.new) ⊎ ((K.content keeper.new ≡ K.content keeper.old) × K.may_leave keeper.old s)) }
@@ -381,10 +405,10 @@ fn settle<K: Keeper>(
     ensures firm { K.sound keeper.old → K.honest keeper.new → OnOk result (K.sound keeper.new) }
     ensures open { K.sound keeper.old → K.honest keeper.new → K.shows keeper.old → OnOk result (K.shows keeper.new) }
 {
-    let head = head_of(alloc, letter, author)?;
     match decided {
-        Verdict::Untaken(text) => Ok(Reply { head, text }),
+        Verdict::NotKnown => Ok(not_known(alloc)?),
         Verdict::Taken(text, effect) => {
+            let head = Some(head_of(alloc, letter)?);
             let change = Change {
                 game: String::from_str(alloc, letter.game)?,
                 author,

@@ -1,5 +1,5 @@
 //! The lines behind a command's line.
-ghost use Rattle.std.specs.Prelude.{◌≡◌, option_map};
+ghost use Rattle.std.specs.Prelude.{◌≡◌, ◌≤◌, length, option_map};
 ghost use Rattle.std.specs.Iterator.{YieldsFirstBy, YieldsFirstRef, item_count};
 ghost use Rattle.dip_letters.specs.Reading.{orders_at, seats_at};
 ghost use Rattle.dip_letters.specs.Views.{lines_in, seat_note, seats_in};
@@ -18,6 +18,16 @@ pub struct Lines<'a> {
 #[derive(Clone, Copy, Drop)]
 pub struct Seats<'a> {
     text: &'a str,
+}
+
+impl Lines<'_> {
+    /// A number that the lines that are left don't pass: each takes a byte of the letter.
+    #[tactic(auto, using(crate::proofs::LineLemmas::fewer_lines))]
+    pub fn most(&self) -> usize
+        ensures { length (lines_in self.now) ≤ result }
+    {
+        self.text.len()
+    }
 }
 
 impl<'a> Iterator for Lines<'a> {

@@ -1,0 +1,42 @@
+-- What the program tells whoever started it.
+use Rattle.std.specs.Prelude.{ℕ, List, ◌++◌, Option, None, Some, codes}
+use Rattle.dip_desk.specs.declared.keeper.KeepFault.TheVariants.{Disk, Damaged, Memory as no_room}
+use Rattle.dip_desk.specs.declared.map.faults.MapFault.{MapFault}
+use Rattle.dip_desk.specs.declared.map.faults.MapFault.TheVariants.{UnknownName, NotSymmetric, DoubledName, OverLimit, Memory as no_map}
+use Rattle.dip_judge.specs.declared.args.UsageFault.TheVariants.{Clap, Check, Memory as no_words}
+use Rattle.dip_judge.specs.declared.run.RunFault.{RunFault}
+use Rattle.dip_judge.specs.declared.run.RunFault.TheVariants.{Read, TooLong, Write, Memory, Keep}
+use Rattle.dip_judge.specs.declared.failures.Failure.{Failure}
+use Rattle.dip_judge.specs.declared.failures.Failure.TheVariants.{Usage, Map, Run}
+
+-- the exit status: 2 for the arguments, 3 for the map, 4 for the keeper, 5 for input, output or other want of memory
+abbrev pub status_of : Failure → ℕ
+status_of (Usage no_words) = 5
+status_of (Usage fault) = 2
+status_of (Map fault) = 3
+status_of (Run (Keep fault)) = 4
+status_of (Run fault) = 5
+
+abbrev pub map_number : MapFault → List ℕ
+map_number UnknownName = codes "M3"
+map_number NotSymmetric = codes "M4"
+map_number DoubledName = codes "M5"
+map_number OverLimit = codes "M6"
+map_number no_map = codes "M7"
+
+abbrev pub run_name : RunFault → List ℕ
+run_name Read = codes "Read"
+run_name TooLong = codes "TooLong"
+run_name Write = codes "Write"
+run_name Memory = codes "Memory"
+run_name (Keep no_room) = codes "Memory"
+run_name (Keep Disk) = codes "Disk"
+run_name (Keep Damaged) = codes "Damaged"
+
+-- what is printed: `dip_judge: `, the number or name and LF; where clap refuses the words its own text, of which nothing is said
+abbrev pub printed : Failure → Option (List ℕ)
+printed (Usage (Clap error)) = None
+printed (Usage Check) = Some (codes "dip_judge: Usage\n")
+printed (Usage no_words) = Some (codes "dip_judge: Memory\n")
+printed (Map fault) = Some (codes "dip_judge: " ++ map_number fault ++ codes "\n")
+printed (Run fault) = Some (codes "dip_judge: " ++ run_name fault ++ codes "\n")

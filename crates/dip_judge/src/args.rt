@@ -1,0 +1,102 @@
+//! The command line: which words ask for what.
+ghost use Rattle.std.specs.Prelude.{◌≡◌, [], IfOk, IfErr, map, option_map};
+ghost use Rattle.clap.specs.Faults.{fault_of};
+ghost use Rattle.clap.specs.Words.{app_of, subcommand_of, subcommand_rows_of};
+ghost use Rattle.dip_judge.specs.CommandLine.{judge_command, master_in};
+ghost use Rattle.dip_judge.specs.ArgsGiven.{HasSecret, IsGiven};
+ghost use Rattle.dip_judge.specs.UsageFaults.{IsUsageFault, fault_from};
+ghost use Rattle.dip_judge.specs.declared.args.UsageFault.TheVariants.{Memory};
+
+use clap::error::ErrorKind;
+use clap::{Arg, ArgMatches, Command, Error};
+use dip_letters::is_secret;
+use std::alloc::{AllocError, Global};
+
+/// What the program is asked to do.
+#[derive(Clone, Copy, Debug, PartialEq, Eq)]
+pub enum Args<'a> {
+    /// Take letters from standard input, with tables in memory whose master has this secret.
+    Letters { master: &'a str },
+}
+
+/// Why the words ask for nothing.
+#[derive(Drop)]
+pub enum UsageFault {
+    /// `clap` refuses the words, or help was asked for; its text says which.
+    Clap(Error),
+    /// `clap` takes the words, but `--master` is missing or no secret.
+    Check,
+    /// Memory ran out.
+    Memory,
+}
+
+/// The program's command line.
+fn command<'a>(alloc: Global) -> Result<Command<'a>, AllocError>
+    ensures { IfOk result (λ c. app_of c ≡ judge_command) }
+{
+    let master = Arg::new(alloc, "master").long("master");
+    let letters = Command::new(alloc, "letters").arg(master)?;
+    Command::new(alloc, "dip_judge")
+        .subcommand_required(true)
+        .subcommand(letters)
+}
+
+/// What clap makes of the words.
+fn matches_of<'a>(alloc: Global, words: &'a [&'a str]) -> Result<ArgMatches<'a>, UsageFault>
+    ensures taken { IfOk result (λ _. fault_of judge_command (map (λ w. w.now) words.entry.now) ≡ []) }
+    ensures found { IfOk result (λ m. subcommand_rows_of m
+        ≡ subcommand_of judge_command (map (λ w. w.now) words.entry.now)) }
+    ensures faults { IfErr result (IsUsageFault (map (λ w. w.now) words.entry.now)) }
+{
+    let matches = command(alloc)?.try_get_matches_from(words)?;
+    Ok(matches)
+}
+
+/// The value of `letters --master`.
+fn master_of<'a>(matches: &ArgMatches<'a>) -> Option<&'a str>
+    ensures { option_map (λ s. s.now) result ≡ master_in (subcommand_rows_of matches.now) }
+{
+    let (name, letters) = matches.subcommand()?;
+    if name == "letters" {
+        letters.get_str("master")
+    } else {
+        None
+    }
+}
+
+/// What the words ask for, the program's own name being the first of them.
+pub fn read_args<'a>(alloc: Global, words: &'a [&'a str]) -> Result<Args<'a>, UsageFault>
+    // clap takes the words, and gives them this command and these values.
+    ensures taken { IfOk result (λ _. fault_of judge_command (map (λ w. w.now) words.entry.now) ≡ []) }
+    ensures given { IfOk result (IsGiven (map (λ w. w.now) words.entry.now)) }
+    ensures secret { IfOk result HasSecret }
+    ensures faults { IfErr result (IsUsageFault (map (λ w. w.now) words.entry.now)) }
+{
+    let matches = matches_of(alloc, words)?;
+    match master_of(&matches) {
+        Some(master) if is_secret(master) => Ok(Args::Letters { master }),
+        _ => Err(UsageFault::Check),
+    }
+}
+
+impl From<Error> for UsageFault {
+    ghost from_gives = { λ e f. f ≡ fault_from e };
+
+    fn from(error: Error) -> UsageFault {
+        match error.kind() {
+            ErrorKind::OutOfMemory => UsageFault::Memory,
+            _ => UsageFault::Clap(error),
+        }
+    }
+}
+
+impl From<AllocError> for UsageFault {
+    ghost from_gives = { λ _ f. f ≡ Memory };
+
+    fn from(_error: AllocError) -> UsageFault {
+        UsageFault::Memory
+    }
+}
+
+#[cfg(test)]
+mod tests;

@@ -1,0 +1,123 @@
+//! The words of a command line, and what they ask for.
+use super::{Args, UsageFault, read_args};
+use clap::error::ErrorKind;
+use std::test::Fail;
+
+/// 64 bytes, the longest secret.
+const LONGEST: &str = "0123456789abcdef0123456789abcdef0123456789abcdef0123456789abcdef";
+
+#[test]
+fn takes_the_master_secret(rt: HostRuntime) -> Result<(), Fail> {
+    let alloc = rt.alloc();
+    for secret in ["master-k", "master-key", "!\"#$%&'~", LONGEST] {
+        let words = ["dip_judge", "letters", "--master", secret];
+        let Ok(Args::Letters { master }) = read_args(alloc, &words) else {
+            return Err(Fail::from(secret));
+        };
+        assert!(rt; master == secret);
+    }
+    let joined = ["dip_judge", "letters", "--master=--key--here"];
+    let Ok(Args::Letters { master }) = read_args(alloc, &joined) else {
+        return Err(Fail::from("behind an equals sign"));
+    };
+    assert!(rt; master == "--key--here");
+    Ok(())
+}
+
+#[test]
+fn refuses_what_is_no_secret(rt: HostRuntime) -> Result<(), Fail> {
+    let alloc = rt.alloc();
+    let longer = format!(in alloc; "{LONGEST}x")?;
+    for secret in [
+        "",
+        "seven77",
+        longer.as_str(),
+        "eight 88",
+        "eight\t88",
+        "eight\u{7f}88",
+        "eighté88",
+    ] {
+        let words = ["dip_judge", "letters", "--master", secret];
+        let answer = read_args(alloc, &words);
+        assert!(rt; matches!(&answer, Err(UsageFault::Check)), "at {secret}");
+    }
+    let missing = read_args(alloc, &["dip_judge", "letters"]);
+    assert!(rt; matches!(&missing, Err(UsageFault::Check)));
+    Ok(())
+}
+
+/// The kind of clap's error, where there is one.
+fn refused(alloc: std::alloc::Global, words: &[&str]) -> Option<ErrorKind> {
+    match read_args(alloc, words) {
+        Err(UsageFault::Clap(error)) => Some(error.kind()),
+        _ => None,
+    }
+}
+
+#[test]
+fn refuses_other_words(rt: HostRuntime) {
+    let alloc = rt.alloc();
+    let secret = "master-key";
+    let rows: [(&[&str], ErrorKind); 17] = [
+        (&["dip_judge"], ErrorKind::MissingSubcommand),
+        (&["dip_judge", "--help"], ErrorKind::DisplayHelp),
+        (&["dip_judge", "-h"], ErrorKind::DisplayHelp),
+        (&["dip_judge", "help"], ErrorKind::DisplayHelp),
+        (&["dip_judge", "help", "letters"], ErrorKind::DisplayHelp),
+        (&["dip_judge", "letters", "--help"], ErrorKind::DisplayHelp),
+        (
+            &["dip_judge", "init", "--store", "s", "--master", secret],
+            ErrorKind::InvalidSubcommand,
+        ),
+        (
+            &["dip_judge", "serve", "--store", "s"],
+            ErrorKind::InvalidSubcommand,
+        ),
+        (
+            &["dip_judge", "report", "--store", "s"],
+            ErrorKind::InvalidSubcommand,
+        ),
+        (
+            &["dip_judge", "letter", "--master", secret],
+            ErrorKind::InvalidSubcommand,
+        ),
+        (
+            &["dip_judge", "--master", secret],
+            ErrorKind::UnknownArgument,
+        ),
+        (
+            &["dip_judge", "letters", "--store", "s"],
+            ErrorKind::UnknownArgument,
+        ),
+        (
+            &["dip_judge", "letters", "--master", secret, "--map", "m"],
+            ErrorKind::UnknownArgument,
+        ),
+        (
+            &["dip_judge", "letters", "-m", secret],
+            ErrorKind::UnknownArgument,
+        ),
+        (
+            &["dip_judge", "letters", secret],
+            ErrorKind::UnknownArgument,
+        ),
+        (
+            &["dip_judge", "letters", "--master"],
+            ErrorKind::InvalidValue,
+        ),
+        (
+            &[
+                "dip_judge",
+                "letters",
+                "--master",
+                secret,
+                "--master",
+                secret,
+            ],
+            ErrorKind::ArgumentConflict,
+        ),
+    ];
+    for (words, kind) in rows {
+        assert!(rt; refused(alloc, words) == Some(kind), "at {words:?}");
+    }
+}

@@ -1,0 +1,119 @@
+//! Why the program ends early: its exit status, and what it prints on standard error.
+ghost use Rattle.std.specs.Prelude.{◌≡◌};
+ghost use Rattle.dip_judge.specs.Failures.{map_number, run_name, status_of};
+
+use crate::args::UsageFault;
+use crate::run::RunFault;
+use dip_desk::{KeepFault, MapFault};
+use std::alloc::AllocError;
+use std::{fmt, io};
+
+/// Why the program ends early.
+///
+/// It is printed as `dip_judge: `, its number or name and LF; where `clap` refuses the words or help was asked for, as
+/// `clap` has it.
+#[derive(Drop)]
+pub enum Failure {
+    /// The arguments ask for nothing.
+    Usage(UsageFault),
+    /// The map is none.
+    Map(MapFault),
+    /// The run over the letters ended early.
+    Run(RunFault),
+}
+
+impl Failure {
+    /// The exit status: 2 for the arguments, 3 for the map, 4 for the keeper, 5 for input, output or other want of memory.
+    pub fn status(&self) -> u8
+        ensures { result ≡ status_of self.now }
+    {
+        match self {
+            Failure::Usage(UsageFault::Memory) => 5,
+            Failure::Usage(_) => 2,
+            Failure::Map(_) => 3,
+            Failure::Run(RunFault::Keep(_)) => 4,
+            Failure::Run(_) => 5,
+        }
+    }
+}
+
+impl fmt::Display for Failure {
+    ghost use Rattle.dip_judge.specs.Failures.{printed};
+
+    ghost output = { λ f. printed f };
+
+    fn fmt<W: fmt::Write>(&self, f: &mut fmt::Formatter<W>) -> fmt::Result {
+        let name = match self {
+            Failure::Usage(UsageFault::Clap(error)) => return write!(f, "{error}"),
+            Failure::Usage(UsageFault::Check) => "Usage",
+            Failure::Usage(UsageFault::Memory) => "Memory",
+            Failure::Map(fault) => number_of(*fault),
+            Failure::Run(fault) => name_of(*fault),
+        };
+        write!(f, "dip_judge: {name}\n")
+    }
+}
+
+/// The printed number of a map's fault.
+fn number_of(fault: MapFault) -> &'static str
+    ensures { result.now ≡ map_number fault }
+{
+    match fault {
+        MapFault::UnknownName => "M3",
+        MapFault::NotSymmetric => "M4",
+        MapFault::DoubledName => "M5",
+        MapFault::OverLimit => "M6",
+        MapFault::Memory => "M7",
+    }
+}
+
+/// The printed name of a run's fault.
+fn name_of(fault: RunFault) -> &'static str
+    ensures { result.now ≡ run_name fault }
+{
+    match fault {
+        RunFault::Read => "Read",
+        RunFault::TooLong => "TooLong",
+        RunFault::Write => "Write",
+        RunFault::Memory | RunFault::Keep(KeepFault::Memory) => "Memory",
+        RunFault::Keep(KeepFault::Disk) => "Disk",
+        RunFault::Keep(KeepFault::Damaged) => "Damaged",
+    }
+}
+
+impl From<UsageFault> for Failure {
+    fn from(fault: UsageFault) -> Failure {
+        Failure::Usage(fault)
+    }
+}
+
+impl From<MapFault> for Failure {
+    fn from(fault: MapFault) -> Failure {
+        Failure::Map(fault)
+    }
+}
+
+impl From<RunFault> for Failure {
+    fn from(fault: RunFault) -> Failure {
+        Failure::Run(fault)
+    }
+}
+
+impl From<AllocError> for Failure {
+    fn from(_error: AllocError) -> Failure {
+        Failure::Usage(UsageFault::Memory)
+    }
+}
+
+/// The arguments can't be had: one is no text, or memory ran out.
+impl From<io::Error> for Failure {
+    fn from(error: io::Error) -> Failure {
+        match error.kind() {
+            io::ErrorKind::OutOfMemory => Failure::Usage(UsageFault::Memory),
+            _ => Failure::Usage(UsageFault::Check),
+        }
+    }
+}
+
+#[cfg(test)]
+mod tests;

@@ -1,0 +1,62 @@
+//! What the program tells whoever started it.
+use super::Failure;
+use crate::args::{UsageFault, read_args};
+use crate::run::RunFault;
+use dip_desk::{KeepFault, MapFault};
+use std::test::Fail;
+
+#[test]
+fn tells_the_status_and_the_word(rt: HostRuntime) -> Result<(), Fail> {
+    let alloc = rt.alloc();
+    let rows = [
+        (Failure::Usage(UsageFault::Check), 2, "dip_judge: Usage\n"),
+        (Failure::Usage(UsageFault::Memory), 5, "dip_judge: Memory\n"),
+        (Failure::Map(MapFault::UnknownName), 3, "dip_judge: M3\n"),
+        (Failure::Map(MapFault::NotSymmetric), 3, "dip_judge: M4\n"),
+        (Failure::Map(MapFault::DoubledName), 3, "dip_judge: M5\n"),
+        (Failure::Map(MapFault::OverLimit), 3, "dip_judge: M6\n"),
+        (Failure::Map(MapFault::Memory), 3, "dip_judge: M7\n"),
+        (Failure::Run(RunFault::Read), 5, "dip_judge: Read\n"),
+        (Failure::Run(RunFault::TooLong), 5, "dip_judge: TooLong\n"),
+        (Failure::Run(RunFault::Write), 5, "dip_judge: Write\n"),
+        (Failure::Run(RunFault::Memory), 5, "dip_judge: Memory\n"),
+        (
+            Failure::Run(RunFault::Keep(KeepFault::Memory)),
+            4,
+            "dip_judge: Memory\n",
+        ),
+        (
+            Failure::Run(RunFault::Keep(KeepFault::Disk)),
+            4,
+            "dip_judge: Disk\n",
+        ),
+        (
+            Failure::Run(RunFault::Keep(KeepFault::Damaged)),
+            4,
+            "dip_judge: Damaged\n",
+        ),
+    ];
+    for (failure, status, text) in rows {
+        assert_eq!(rt; failure.status(), status, "at {text}");
+        let printed = format!(in alloc; "{failure}")?;
+        assert!(rt; printed.as_str() == text, "{printed} for {text}");
+    }
+    Ok(())
+}
+
+#[test]
+fn tells_usage_as_clap_has_it(rt: HostRuntime) -> Result<(), Fail> {
+    let alloc = rt.alloc();
+    let Err(fault) = read_args(alloc, &["dip_judge", "letters", "--store", "s"]) else {
+        return Err(Fail::from("taken"));
+    };
+    let failure = Failure::from(fault);
+    assert_eq!(rt; failure.status(), 2);
+    let printed = format!(in alloc; "{failure}")?;
+    assert!(rt;
+        printed.starts_with("error: unexpected argument '--store' found\n"),
+        "{printed}"
+    );
+    assert!(rt; printed.contains("Usage: dip_judge letters"), "{printed}");
+    Ok(())
+}

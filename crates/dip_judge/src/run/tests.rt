@@ -1,0 +1,364 @@
+//! Whole inputs, and what is written for them.
+use super::{MOST_INPUT, RunFault, run_file};
+use dip_desk::{Map, MemoryKeeper};
+use dip_letters::digest;
+use std::alloc::Global;
+use std::io;
+use std::io::{Read, Write};
+use std::process::Abort;
+use std::test::Fail;
+
+const CREATE: &str =
+    "LETTER\nGAME g1\nFROM master\nSECRET master-key\nNUMBER 1\nCREATE DUE 100 PERIOD 100 GREY YES\nSEAT austria aaaaaaaa\nSEAT england eeeeeeee\nSEAT france ffffffff\nSEAT germany gggggggg\nSEAT italy iiiiiiii\nSEAT russia rrrrrrrr\nSEAT turkey tttttttt\nEND\n";
+
+const CREATED: &str = "REPLY g1 master 1\nOK paper 1\nEND\n";
+
+const HOLD: &str =
+    "LETTER\nGAME g1\nFROM england\nSECRET eeeeeeee\nNUMBER 1\nORDERS\nf  LON h\nEND\n";
+
+const HELD: &str = "REPLY g1 england 1\nOK F lon H\nEND\n";
+
+const MALFORMED: &str = "REPLY nobody 0\nL1 malformed letter\nEND\n";
+
+const TOO_LONG: &str = "REPLY nobody 0\nL5 letter over 16384 bytes\nEND\n";
+
+const UNKNOWN: &str = "REPLY nobody 0\nL2 unknown game, sender or secret\nEND\n";
+
+/// A reader of some bytes, so many at a call, which fails or ends behind them.
+#[derive(Drop)]
+struct Script<'a> {
+    bytes: &'a [u8],
+    step: usize,
+    fails: bool,
+}
+
+impl Read for Script<'_> {
+    fn read(&mut self, buf: &mut [u8]) -> io::Result<usize> {
+        let count = buf.len().min(self.step).min(self.bytes.len());
+        if count == 0 {
+            return if self.fails {
+                Err(io::ErrorKind::Other.into())
+            } else {
+                Ok(0)
+            };
+        }
+        buf[..count].copy_from_slice(&self.bytes[..count]);
+        self.bytes = &self.bytes[count..];
+        Ok(count)
+    }
+}
+
+/// A reader of so many line ends.
+#[derive(Drop)]
+struct LineEnds(usize);
+
+impl Read for LineEnds {
+    fn read(&mut self, buf: &mut [u8]) -> io::Result<usize> {
+        let count = buf.len().min(self.0);
+        buf[..count].fill(b'\n');
+        self.0 -= count;
+        Ok(count)
+    }
+}
+
+/// A writer of at most so many bytes at a call, which fails once it is full.
+#[derive(Drop)]
+struct Page {
+    bytes: Vec<u8>,
+    step: usize,
+    most: usize,
+}
+
+impl Write for Page {
+    fn write(&mut self, buf: &[u8]) -> io::Result<usize> {
+        let room = self.most.saturating_sub(self.bytes.len());
+        let count = buf.len().min(self.step).min(room);
+        if count == 0 && !buf.is_empty() {
+            return Err(io::ErrorKind::Other.into());
+        }
+        self.bytes.extend_from_slice(&buf[..count])?;
+        Ok(count)
+    }
+
+    fn flush(&mut self) -> io::Result<()> {
+        Ok(())
+    }
+}
+
+/// Runs over a reader, from a desk with no game, and gives what was written too.
+fn run_on<R: Read>(alloc: Global, reader: &mut R, map: &Map) -> (Result<(), RunFault>, Vec<u8>) {
+    let mut keeper = MemoryKeeper::new(alloc, digest("desk", "master", "master-key"));
+    let mut output = Vec::new(alloc);
+    let outcome = run_file(alloc, reader, &mut output, &mut keeper, map);
+    (outcome, output)
+}
+
+/// What is written for an input that is answered whole.
+fn replies_to(alloc: Global, map: &Map, input: &str) -> Result<Vec<u8>, Fail> {
+    let (outcome, output) = run_on(alloc, &mut input.as_bytes(), map);
+    match outcome {
+        Ok(()) => Ok(output),
+        Err(_) => Err(Fail::from("the run ended early")),
+    }
+}
+
+fn standard(alloc: Global) -> Result<Map, Fail> {
+    match Map::standard(alloc) {
+        Ok(map) => Ok(map),
+        Err(_) => Err(Fail::from("no standard map")),
+    }
+}
+
+/// Asserts that these replies are written for this input, each given in parts.
+fn assert_answers(
+    rt: &impl Abort,
+    alloc: Global,
+    map: &Map,
+    input: &[&str],
+    replies: &[&str],
+) -> Result<(), Fail> {
+    let input = input.concat(alloc)?;
+    let replies = replies.concat(alloc)?;
+    let output = replies_to(alloc, map, input.as_str())?;
+    assert!(rt; output.as_slice() == replies.as_bytes());
+    Ok(())
+}
+
+#[test]
+fn answers_what_is_read(rt: HostRuntime) -> Result<(), Fail> {
+    let alloc = rt.alloc();
+    let map = standard(alloc)?;
+    assert_answers(&rt, alloc, &map, &[], &[])?;
+    assert_answers(&rt, alloc, &map, &["LETTER\nGAME g1\n"], &[MALFORMED])?;
+    assert_answers(&rt, alloc, &map, &[CREATE, HOLD], &[CREATED, HELD])?;
+    assert_answers(
+        &rt,
+        alloc,
+        &map,
+        &[HOLD, CREATE, HOLD],
+        &[UNKNOWN, CREATED, HELD],
+    )?;
+    assert_eq!(rt; MALFORMED.len(), 39);
+    Ok(())
+}
+
+#[test]
+fn passes_empty_lines(rt: HostRuntime) -> Result<(), Fail> {
+    let alloc = rt.alloc();
+    let map = standard(alloc)?;
+    let input = ["\n", CREATE, "\n\n", HOLD, "\n"];
+    assert_answers(&rt, alloc, &map, &["\n\n\n"], &[])?;
+    assert_answers(&rt, alloc, &map, &input, &[CREATED, HELD])
+}
+
+#[test]
+fn goes_on_behind_the_next_end(rt: HostRuntime) -> Result<(), Fail> {
+    let alloc = rt.alloc();
+    let map = standard(alloc)?;
+    let tail = [CREATE, "so far\n"];
+    let byte = [CREATE, "x"];
+    let twice = ["END\nEND\n", CREATE];
+    let swallowed = ["LETTER\nGAME g1\n", CREATE, HOLD];
+    assert_answers(&rt, alloc, &map, &tail, &[CREATED, MALFORMED])?;
+    assert_answers(&rt, alloc, &map, &byte, &[CREATED, MALFORMED])?;
+    assert_answers(&rt, alloc, &map, &twice, &[MALFORMED, MALFORMED, CREATED])?;
+    assert_answers(&rt, alloc, &map, &swallowed, &[MALFORMED, UNKNOWN])?;
+    assert_answers(&rt, alloc, &map, &["LETTER\nEND"], &[MALFORMED])
+}
+
+#[test]
+fn answers_strangers_alike(rt: HostRuntime) -> Result<(), Fail> {
+    let alloc = rt.alloc();
+    let map = standard(alloc)?;
+    let expected = format!(in alloc; "{CREATED}{UNKNOWN}")?;
+    assert_eq!(rt; UNKNOWN.len(), 53);
+    for (game, sender, secret) in [
+        ("g1", "england", "eeeeeeef"),
+        ("g1", "spain", "eeeeeeee"),
+        ("g9", "england", "eeeeeeee"),
+        ("g1", "master", "master-kez"),
+    ] {
+        let letter = format!(in alloc;
+            "LETTER\nGAME {game}\nFROM {sender}\nSECRET {secret}\nNUMBER 1\nSHOW\nEND\n"
+        )?;
+        let input = format!(in alloc; "{CREATE}{letter}")?;
+        let output = replies_to(alloc, &map, input.as_str())?;
+        assert!(rt;
+            output.as_slice() == expected.as_bytes(),
+            "at {game} {sender} {secret}"
+        );
+    }
+    Ok(())
+}
+
+#[test]
+fn reads_one_spelling_of_a_letter(rt: HostRuntime) -> Result<(), Fail> {
+    let alloc = rt.alloc();
+    let map = standard(alloc)?;
+    let taken = format!(in alloc; "{CREATED}REPLY g1 england 999999999\nOK F lon H\nEND\n")?;
+    let malformed = format!(in alloc; "{CREATED}{MALFORMED}")?;
+    for (head, is_taken) in [
+        (
+            "GAME g1\nFROM england\nSECRET eeeeeeee\nNUMBER 999999999\nORDERS\n",
+            true,
+        ),
+        (
+            "GAME g1\nFROM england\nSECRET eeeeeeee\nNUMBER 1000000000\nORDERS\n",
+            false,
+        ),
+        (
+            "GAME g1\nFROM england\nSECRET eeeeeeee\nNUMBER 0\nORDERS\n",
+            false,
+        ),
+        (
+            "GAME g1\nFROM england\nSECRET eeeeeeee\nNUMBER 01\nORDERS\n",
+            false,
+        ),
+        (
+            "GAME g1\nFROM england\nSECRET eeeeeeee\nNUMBER +1\nORDERS\n",
+            false,
+        ),
+        (
+            "GAME  g1\nFROM england\nSECRET eeeeeeee\nNUMBER 1\nORDERS\n",
+            false,
+        ),
+        (
+            "GAME\tg1\nFROM england\nSECRET eeeeeeee\nNUMBER 1\nORDERS\n",
+            false,
+        ),
+        (
+            "GAME g1\r\nFROM england\r\nSECRET eeeeeeee\r\nNUMBER 1\r\nORDERS\r\n",
+            false,
+        ),
+        (
+            "GAME g1 \nFROM england\nSECRET eeeeeeee\nNUMBER 1\nORDERS\n",
+            false,
+        ),
+        (
+            "FROM england\nGAME g1\nSECRET eeeeeeee\nNUMBER 1\nORDERS\n",
+            false,
+        ),
+        (
+            "GAME g1\nFROM england\nSECRET eeeeeee\nNUMBER 1\nORDERS\n",
+            false,
+        ),
+        (
+            "GAME g1\nFROM england\nSECRET eeeeeeee\nNUMBER 1\nCLOSE\n",
+            false,
+        ),
+        (
+            "GAME g1\nFROM england\nSECRET eeeeeeee\nNUMBER 1\nORDERS\nA par\tH\n",
+            false,
+        ),
+    ] {
+        let input = format!(in alloc; "{CREATE}LETTER\n{head}F lon H\nEND\n")?;
+        let output = replies_to(alloc, &map, input.as_str())?;
+        let expected = if is_taken {
+            taken.as_str()
+        } else {
+            malformed.as_str()
+        };
+        assert!(rt; output.as_slice() == expected.as_bytes(), "at {head}");
+    }
+    Ok(())
+}
+
+#[test]
+fn bounds_a_letter(rt: HostRuntime) -> Result<(), Fail> {
+    let alloc = rt.alloc();
+    let map = standard(alloc)?;
+    for (size, reply) in [(16_384, MALFORMED), (16_385, TOO_LONG)] {
+        let mut input = String::from_str(alloc, CREATE)?;
+        input.push_str("LETTER\n")?;
+        for _ in 0..size - 12 {
+            input.push('x')?;
+        }
+        input.push_str("\nEND\n")?;
+        assert_eq!(rt; input.len(), CREATE.len() + size);
+        input.push_str(HOLD)?;
+        let output = replies_to(alloc, &map, input.as_str())?;
+        let expected = format!(in alloc; "{CREATED}{reply}{HELD}")?;
+        assert!(rt; output.as_slice() == expected.as_bytes(), "at {size}");
+    }
+    Ok(())
+}
+
+#[test]
+fn reads_and_writes_in_pieces(rt: HostRuntime) -> Result<(), Fail> {
+    let alloc = rt.alloc();
+    let map = standard(alloc)?;
+    let input = format!(in alloc; "{CREATE}{HOLD}")?;
+    let expected = format!(in alloc; "{CREATED}{HELD}")?;
+    for step in [1, 7] {
+        let mut reader = Script {
+            bytes: input.as_bytes(),
+            step,
+            fails: false,
+        };
+        let mut writer = Page {
+            bytes: Vec::new(alloc),
+            step,
+            most: 1_000,
+        };
+        let mut keeper = MemoryKeeper::new(alloc, digest("desk", "master", "master-key"));
+        let outcome = run_file(alloc, &mut reader, &mut writer, &mut keeper, &map);
+        assert!(rt; outcome == Ok(()));
+        assert!(rt; writer.bytes.as_slice() == expected.as_bytes(), "by {step}");
+    }
+    Ok(())
+}
+
+#[test]
+fn writes_nothing_where_the_reader_fails(rt: HostRuntime) -> Result<(), Fail> {
+    let alloc = rt.alloc();
+    let map = standard(alloc)?;
+    let input = format!(in alloc; "{CREATE}{HOLD}")?;
+    for count in [0, 1, CREATE.len(), input.len()] {
+        let bytes = &input.as_bytes()[..count.min(input.len())];
+        let mut reader = Script {
+            bytes,
+            step: 100,
+            fails: true,
+        };
+        let (outcome, output) = run_on(alloc, &mut reader, &map);
+        assert!(rt; outcome == Err(RunFault::Read), "behind {count} bytes");
+        assert!(rt; output.is_empty());
+    }
+    Ok(())
+}
+
+#[test]
+fn writes_a_beginning_where_the_writer_fails(rt: HostRuntime) -> Result<(), Fail> {
+    let alloc = rt.alloc();
+    let map = standard(alloc)?;
+    let input = format!(in alloc; "{CREATE}{HOLD}")?;
+    let expected = format!(in alloc; "{CREATED}{HELD}")?;
+    for most in 0..expected.len() {
+        let mut writer = Page {
+            bytes: Vec::new(alloc),
+            step: 5,
+            most,
+        };
+        let mut keeper = MemoryKeeper::new(alloc, digest("desk", "master", "master-key"));
+        let outcome = run_file(alloc, &mut input.as_bytes(), &mut writer, &mut keeper, &map);
+        assert!(rt; outcome == Err(RunFault::Write), "behind {most} bytes");
+        assert!(rt; writer.bytes.as_slice() == &expected.as_bytes()[..most]);
+    }
+    Ok(())
+}
+
+#[test]
+fn bounds_an_input(rt: HostRuntime) -> Result<(), Fail> {
+    let alloc = rt.alloc();
+    let map = standard(alloc)?;
+    let (outcome, output) = run_on(alloc, &mut LineEnds(MOST_INPUT), &map);
+    assert!(rt; outcome == Ok(()));
+    assert!(rt; output.is_empty());
+    let mut longer = CREATE
+        .as_bytes()
+        .chain(LineEnds(MOST_INPUT + 1 - CREATE.len()));
+    let (outcome, output) = run_on(alloc, &mut longer, &map);
+    assert!(rt; outcome == Err(RunFault::TooLong));
+    assert!(rt; output.is_empty());
+    Ok(())
+}

@@ -3,3 +3,5 @@ pub mod BoardLaws
 pub mod TokenLaws
 pub mod SpellingLaws
 pub mod FormLaws
+pub mod PrintLaws
+pub mod RoundTrip

@@ -10,3 +10,5 @@ pub mod Runs
 pub mod TokenLaws
 pub mod SpellingLaws
 pub mod FormLaws
+pub mod PrintLaws
+pub mod RoundTrip

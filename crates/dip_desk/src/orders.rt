@@ -2,12 +2,14 @@
 
 mod drafts;
 mod faults;
+mod laws;
 mod placed;
 mod printing;
 mod reading;
 mod words;
 
 pub use faults::OrderFault;
+pub use laws::printed_is_read;
 pub use placed::{Order, PlacedOrder};
 pub use printing::print_order;
 pub use reading::read_order;

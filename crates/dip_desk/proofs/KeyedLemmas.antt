@@ -17,8 +17,10 @@ pub at_key : {K A : Type 0} (eq : K → K → Bool) (key : A → K) (k : K) (xs 
 at_key eq key k [] x h = cc
 at_key eq key k (y ∷ ys) x h =
     let go : (b : Bool) → eq (key y) k ≡ b → eq (key x) k ≡ true =
-        elim [ true ↦ λ e. let i : cond (eq (key y) k) (Some y) (at eq key k ys) ≡ Some x = h in let j : Some y ≡ Some x = rw e at i in let m : y ≡ x = cc in rw m at e
-             | false ↦ λ e. let i : cond (eq (key y) k) (Some y) (at eq key k ys) ≡ Some x = h in at_key eq key k ys x (rw e at i) ]
+    elim [
+      | true ↦ λ e. let i : cond (eq (key y) k) (Some y) (at eq key k ys) ≡ Some x = h in let j : Some y ≡ Some x = rw e at i in let m : y ≡ x = cc in rw m at e
+      | false ↦ λ e. let i : cond (eq (key y) k) (Some y) (at eq key k ys) ≡ Some x = h in at_key eq key k ys x (rw e at i)
+    ]
     in go (eq (key y) k) refl
 
 -- the changed record is found at its key
@@ -26,8 +28,10 @@ pub at-change_at_same : {K A : Type 0} (eq : K → K → Bool) (key : A → K) (
 at-change_at_same eq key k f [] keeps = refl
 at-change_at_same {K} {A} eq key k f (x ∷ xs) keeps =
     let go : (b : Bool) → eq (key x) k ≡ b → at eq key k (cond b (f x ∷ xs) (x ∷ change_at eq key k f xs)) ≡ option_map f (cond b (Some x) (at eq key k xs)) =
-        elim [ true ↦ λ e. let kept : eq (key (f x)) k ≡ true = ap (λ y. eq y k) (keeps x) ∙ e in rw kept refl
-             | false ↦ λ e. rw e (at-change_at_same eq key k f xs keeps) ]
+    elim [
+      | true ↦ λ e. let kept : eq (key (f x)) k ≡ true = ap (λ y. eq y k) (keeps x) ∙ e in rw kept refl
+      | false ↦ λ e. rw e (at-change_at_same eq key k f xs keeps)
+    ]
     in go (eq (key x) k) refl
 
 -- and the others as they were
@@ -35,8 +39,10 @@ pub at-change_at_other : {K A : Type 0} (eq : K → K → Bool) (key : A → K) 
 at-change_at_other eq key j k f [] tells keeps differ = refl
 at-change_at_other {K} {A} eq key j k f (x ∷ xs) tells keeps differ =
     let go : (b : Bool) → eq (key x) j ≡ b → at eq key k (cond b (f x ∷ xs) (x ∷ change_at eq key j f xs)) ≡ cond (eq (key x) k) (Some x) (at eq key k xs) =
-        elim [ true ↦ λ e. let here : key x ≡ j = tells.same (key x) j e in let other : eq (key x) k ≡ false = ap (λ y. eq y k) here ∙ differ in let other_more : eq (key (f x)) k ≡ false = ap (λ y. eq y k) (keeps x) ∙ other in rw (other_more, other) refl
-             | false ↦ λ e. ap (λ o. cond (eq (key x) k) (Some x) o) (at-change_at_other eq key j k f xs tells keeps differ) ]
+    elim [
+      | true ↦ λ e. let here : key x ≡ j = tells.same (key x) j e in let other : eq (key x) k ≡ false = ap (λ y. eq y k) here ∙ differ in let other_more : eq (key (f x)) k ≡ false = ap (λ y. eq y k) (keeps x) ∙ other in rw (other_more, other) refl
+      | false ↦ λ e. ap (λ o. cond (eq (key x) k) (Some x) o) (at-change_at_other eq key j k f xs tells keeps differ)
+    ]
     in go (eq (key x) j) refl
 
 -- a change of each record that keeps its key
@@ -44,15 +50,17 @@ pub at-map : {K A : Type 0} (eq : K → K → Bool) (key : A → K) (k : K) (f :
 at-map eq key k f [] keeps = refl
 at-map {K} {A} eq key k f (x ∷ xs) keeps =
     let go : (b : Bool) → eq (key x) k ≡ b → cond (eq (key (f x)) k) (Some (f x)) (at eq key k (map f xs)) ≡ option_map f (cond (eq (key x) k) (Some x) (at eq key k xs)) =
-        elim [ true ↦ λ e. let kept : eq (key (f x)) k ≡ true = ap (λ y. eq y k) (keeps x) ∙ e in rw (e, kept) refl
-             | false ↦ λ e. let kept : eq (key (f x)) k ≡ false = ap (λ y. eq y k) (keeps x) ∙ e in rw (e, kept) (at-map eq key k f xs keeps) ]
+    elim [
+      | true ↦ λ e. let kept : eq (key (f x)) k ≡ true = ap (λ y. eq y k) (keeps x) ∙ e in rw (e, kept) refl
+      | false ↦ λ e. let kept : eq (key (f x)) k ≡ false = ap (λ y. eq y k) (keeps x) ∙ e in rw (e, kept) (at-map eq key k f xs keeps)
+    ]
     in go (eq (key x) k) refl
 
 pub at-append : {K A : Type 0} (eq : K → K → Bool) (key : A → K) (k : K) (xs ys : List A) → at eq key k (xs ++ ys) ≡ option_or (at eq key k xs) (at eq key k ys)
 at-append eq key k [] ys = refl
 at-append {K} {A} eq key k (x ∷ xs) ys =
     let go : (b : Bool) → cond b (Some x) (at eq key k (xs ++ ys)) ≡ option_or (cond b (Some x) (at eq key k xs)) (at eq key k ys) =
-        elim [ true ↦ refl | false ↦ at-append eq key k xs ys ]
+    elim [ true ↦ refl | false ↦ at-append eq key k xs ys ]
     in go (eq (key x) k)
 
 pub names_tell : Tells bytes_eq
@@ -66,16 +74,20 @@ pub change_at-place : {K A : Type 0} (eq : K → K → Bool) (key : A → K) (k 
 change_at-place eq key k f [] d lt = refl
 change_at-place {K} {A} eq key k f (x ∷ xs) d lt =
     let go : (b : Bool) → cond b 0 (place eq key k xs + 1) < suc (length xs) → cond b (f x ∷ xs) (x ∷ change_at eq key k f xs) ≡ slice_set (x ∷ xs) (cond b 0 (place eq key k xs + 1)) (f (get_or (x ∷ xs) (cond b 0 (place eq key k xs + 1)) d)) =
-        elim [ true ↦ λ w. refl
-             | false ↦ λ w. rw (add-one (place eq key k xs)) (ap (λ ys. x ∷ ys) (change_at-place eq key k f xs d (omega arith))) ]
+    elim [
+      | true ↦ λ w. refl
+      | false ↦ λ w. rw (add-one (place eq key k xs)) (ap (λ ys. x ∷ ys) (change_at-place eq key k f xs d (omega arith)))
+    ]
     in go (eq (key x) k) lt
 
 pub change_at-absent : {K A : Type 0} (eq : K → K → Bool) (key : A → K) (k : K) (f : A → A) (xs : List A) → length xs ≤ place eq key k xs → change_at eq key k f xs ≡ xs
 change_at-absent eq key k f [] le = refl
 change_at-absent {K} {A} eq key k f (x ∷ xs) le =
     let go : (b : Bool) → suc (length xs) ≤ cond b 0 (place eq key k xs + 1) → cond b (f x ∷ xs) (x ∷ change_at eq key k f xs) ≡ x ∷ xs =
-        elim [ true ↦ λ w. absurd (omega arith)
-             | false ↦ λ w. ap (λ ys. x ∷ ys) (change_at-absent eq key k f xs (omega arith)) ]
+    elim [
+      | true ↦ λ w. absurd (omega arith)
+      | false ↦ λ w. ap (λ ys. x ∷ ys) (change_at-absent eq key k f xs (omega arith))
+    ]
     in go (eq (key x) k) le
 
 -- a change in place of what the records say

@@ -14,12 +14,13 @@ use Rattle.dip_desk.proofs.Seeing.{absorb_all-append, step_seen, step_told, told
 pub answered_from_seen : (m : Chart) → IsAnsweredFromSeen m
 answered_from_seen m a b n power v w da db same =
     let seat : SeatName = record { game = n.game; power = power } in
-    let alike : v ≡ w = da ∙ ap (verdict_on m n) same ∙ sym db in
-    (ap (reply_of n) alike,
-     step_seen m seat a n (Seat power) v da
-     ∙ ap (λ (s : Seen). absorb_all m power s (shown seat n (Seat power) v)) same
-     ∙ ap (λ (x : Verdict). absorb_all m power (seen seat b) (shown seat n (Seat power) x)) alike
-     ∙ sym (step_seen m seat b n (Seat power) w db))
+    let alike : v ≡ w = da ∙ ap (verdict_on m n) same ∙ sym db in (
+      ap (reply_of n) alike,
+      step_seen m seat a n (Seat power) v da
+          ∙ ap (λ (s : Seen). absorb_all m power s (shown seat n (Seat power) v)) same
+          ∙ ap (λ (x : Verdict). absorb_all m power (seen seat b) (shown seat n (Seat power) x)) alike
+          ∙ sym (step_seen m seat b n (Seat power) w db),
+    )
 
 -- what a seat sees behind the first step
 first_seen : (m : Chart) (seat : SeatName) (t : Turn) (old : State) → t.before ≡ old → Decides m t.before t.letter (author_in m t) t.verdict
@@ -41,23 +42,24 @@ pub run_told : (m : Chart) (seat : SeatName) (ts : List Turn) (old new : State) 
 run_told m seat [] old new h = refl
 run_told m seat (t ∷ ts) old new h =
     let first : cond (writes seat t.letter (author_in m t)) (reply_in t ∷ []) [] ≡ told m seat.power (seen seat old) (shown_by m seat t) =
-        step_told m seat t.before t.letter (author_in m t) t.verdict h.1 ∙ ap (λ (s : State). told m seat.power (seen seat s) (shown_by m seat t)) h.0 in
+    step_told m seat t.before t.letter (author_in m t) t.verdict h.1 ∙ ap (λ (s : State). told m seat.power (seen seat s) (shown_by m seat t)) h.0 in
     ap (λ (rs : List Reply). rs ++ replies_to m seat ts) first
     ∙ ap (λ (rs : List Reply). told m seat.power (seen seat old) (shown_by m seat t) ++ rs)
-      (run_told m seat ts (left_by m t) new h.2 ∙ ap (λ (s : Seen). told m seat.power s (view m seat ts)) (first_seen m seat t old h.0 h.1))
+    (run_told m seat ts (left_by m t) new h.2 ∙ ap (λ (s : Seen). told m seat.power s (view m seat ts)) (first_seen m seat t old h.0 h.1))
     ∙ sym (told-append m seat.power (seen seat old) (shown_by m seat t) (view m seat ts))
 
 -- settled by view
 pub settled : (m : Chart) (old new : State) (turns : List Turn) → IsRun m old turns new → IsSettledByView m old turns new
-settled m old new turns run seat first last others other same shown =
-    (run_told m seat others first last other
-     ∙ ap (λ (s : Seen). told m seat.power s (view m seat others)) same
-     ∙ ap (λ (es : List Event). told m seat.power (seen seat old) es) shown
-     ∙ sym (run_told m seat turns old new run),
-     run_seen m seat others first last other
-     ∙ ap (λ (s : Seen). absorb_all m seat.power s (view m seat others)) same
-     ∙ ap (λ (es : List Event). absorb_all m seat.power (seen seat old) es) shown
-     ∙ sym (run_seen m seat turns old new run))
+settled m old new turns run seat first last others other same shown = (
+  run_told m seat others first last other
+      ∙ ap (λ (s : Seen). told m seat.power s (view m seat others)) same
+      ∙ ap (λ (es : List Event). told m seat.power (seen seat old) es) shown
+      ∙ sym (run_told m seat turns old new run),
+  run_seen m seat others first last other
+      ∙ ap (λ (s : Seen). absorb_all m seat.power s (view m seat others)) same
+      ∙ ap (λ (es : List Event). absorb_all m seat.power (seen seat old) es) shown
+      ∙ sym (run_seen m seat turns old new run),
+)
 
 -- what others show a seat
 pub shown_by_others : IsShownByOthers
@@ -65,12 +67,14 @@ shown_by_others seat n who v others = (there (bytes_eq n.game seat.game) v none,
   where
     none : own_events (writes seat n who) n ≡ []
     none = ap (λ (b : Bool). own_events b n) others
+
     there : (b : Bool) (v : Verdict) → own_events (writes seat n who) n ≡ [] → own_events (writes seat n who) n ++ cond b (verdict_events seat.power v) [] ≢ [] → (b ≡ true) × Reaches v
     there false v e some = absurd (some (ap (λ (es : List Event). es ++ []) e))
     there true NotKnown e some = absurd (some (ap (λ (es : List Event). es ++ []) e))
     there true (Taken text Nothing) e some = absurd (some (ap (λ (es : List Event). es ++ []) e))
     there true (Taken text (Pending lines)) e some = absurd (some (ap (λ (es : List Event). es ++ []) e))
     there true (Taken text (Opens public paper seats)) e some = (refl, tt)
+
     back : (b : Bool) (v : Verdict) → own_events (writes seat n who) n ≡ [] → (b ≡ true) × Reaches v → own_events (writes seat n who) n ++ cond b (verdict_events seat.power v) [] ≢ []
     back false v e h = absurd (false≢true h.0)
     back true NotKnown e h = absurd h.1
@@ -92,12 +96,14 @@ map_more f (y ∷ ys) x = ap (λ zs. f y ∷ zs) (map_more f ys x)
 pub history_more : (m : Chart) (old mid new : State) (letters : List Note) (replies : List Reply) (n : Note) (r : Reply)
     → (ts : List Turn) × IsHistory m old letters replies mid ts → Step m mid n r new → (ts : List Turn) × IsHistory m old (letters ++ n ∷ []) (replies ++ r ∷ []) new ts
 history_more m old mid new letters replies n r h step =
-    let t : Turn = record { before = mid; letter = n; verdict = step.0 } in
-    (h.0 ++ t ∷ [], record {
-      run = subst (λ (s : State). IsRun m old (h.0 ++ t ∷ []) s) (sym step.3) (run_more m h.0 old mid t h.1.run refl step.1);
-      asked = map_more (λ t. t.letter) h.0 t ∙ ap (λ (ns : List Note). ns ++ n ∷ []) h.1.asked;
-      answered = map_more (λ t. reply_in t) h.0 t ∙ ap (λ (rs : List Reply). rs ++ reply_in t ∷ []) h.1.answered ∙ ap (λ (x : Reply). replies ++ x ∷ []) (sym step.2);
-    })
+    let t : Turn = record { before = mid; letter = n; verdict = step.0 } in (
+      h.0 ++ t ∷ [],
+      record {
+        run = subst (λ (s : State). IsRun m old (h.0 ++ t ∷ []) s) (sym step.3) (run_more m h.0 old mid t h.1.run refl step.1);
+        asked = map_more (λ t. t.letter) h.0 t ∙ ap (λ (ns : List Note). ns ++ n ∷ []) h.1.asked;
+        answered = map_more (λ t. reply_in t) h.0 t ∙ ap (λ (rs : List Reply). rs ++ reply_in t ∷ []) h.1.answered ∙ ap (λ (x : Reply). replies ++ x ∷ []) (sym step.2);
+      },
+    )
 
 pub taken_more : {A B : Type 0} (f : A → B) (xs : List A) (i : ℕ) (x : A) → i < length xs → x ≡ get_or xs i x → map f (take (i + 1) xs) ≡ map f (take i xs) ++ f x ∷ []
 taken_more f xs i x lt is = ap (λ ys. map f ys) (take_more xs i x lt) ∙ map_more f (take i xs) (get_or xs i x) ∙ ap (λ y. map f (take i xs) ++ f y ∷ []) (sym is)

@@ -59,8 +59,8 @@ orders_seen m power p false g n text lines other known =
 orders_seen m power p true g n text lines same known =
     let it : p ≡ power = powers_tell.same p power same in
     let there : seat_at power (change_at (λ a b. a == b) (λ (o : Own). o.power) p (with_pending lines) g.seats) ≡ option_map (with_pending lines) (seat_at power g.seats) =
-        subst (λ (q : ℕ). seat_at q (change_at (λ a b. a == b) (λ (o : Own). o.power) p (with_pending lines) g.seats) ≡ option_map (with_pending lines) (seat_at q g.seats)) it
-        (at-change_at_same (λ a b. a == b) (λ (o : Own). o.power) p (with_pending lines) g.seats (λ o. refl)) in
+    subst (λ (q : ℕ). seat_at q (change_at (λ a b. a == b) (λ (o : Own). o.power) p (with_pending lines) g.seats) ≡ option_map (with_pending lines) (seat_at q g.seats)) it
+    (at-change_at_same (λ a b. a == b) (λ (o : Own). o.power) p (with_pending lines) g.seats (λ o. refl)) in
     ap (λ (o : Option Own). record { public = Some g.public; own = o }) there
     ∙ sym (ap (λ (v : Verdict). with_own (seen_in power (Some g)) (option_map (own_after v) (seat_at power g.seats))) (known refl))
 
@@ -93,21 +93,21 @@ taken_seen m power s n who text (Pending lines) h = go who (game_at n.game s) re
     go (Seat p) None is d found = let bad : ◌≡◌ {A = Option Game} None (Some found.1) = found.3 in cc
     go (Seat p) (Some g) is d found =
         let there : game_at n.game (after n (Seat p) (Taken text (Pending lines)) s) ≡ Some (with_seat p (with_pending lines) g) =
-            at-change_at_same bytes_eq name_of n.game (with_seat p (with_pending lines)) s.games (λ x. refl)
-            ∙ ap (option_map (with_seat p (with_pending lines))) (sym is) in
+        at-change_at_same bytes_eq name_of n.game (with_seat p (with_pending lines)) s.games (λ x. refl)
+        ∙ ap (option_map (with_seat p (with_pending lines))) (sym is) in
         let known : (p == power) ≡ true → verdict_on m n (seen_in power (Some g)) ≡ Taken text (Pending lines) =
-            λ mine. ap (λ (game : Option Game). verdict_on m n (seen_in power game)) is ∙ own_verdict m s n (Seat p) (Taken text (Pending lines)) power d mine in
+        λ mine. ap (λ (game : Option Game). verdict_on m n (seen_in power game)) is ∙ own_verdict m s n (Seat p) (Taken text (Pending lines)) power d mine in
         ap (seen_in power) there ∙ orders_seen m power p (p == power) g n text lines refl known
 taken_seen m power s n who text (Opens public paper seats) h =
     let found = opens_where n.game who (game_at n.game s) public paper seats (decides_suits m s n who (Taken text (Opens public paper seats)) h) in
     let new : game_at n.game (after n who (Taken text (Opens public paper seats)) s) ≡ Some (opened public paper seats) =
-        at-append bytes_eq name_of n.game s.games (opened public paper seats ∷ [])
-        ∙ ap (λ (o : Option Game). option_or o (cond (bytes_eq public.game n.game) (Some (opened public paper seats)) None)) found.1
-        ∙ ap (λ (b : Bool). cond b (Some (opened public paper seats)) None) (ap (λ (x : List ℕ). bytes_eq x n.game) found.2 ∙ names_tell.self n.game) in
+    at-append bytes_eq name_of n.game s.games (opened public paper seats ∷ [])
+    ∙ ap (λ (o : Option Game). option_or o (cond (bytes_eq public.game n.game) (Some (opened public paper seats)) None)) found.1
+    ∙ ap (λ (b : Bool). cond b (Some (opened public paper seats)) None) (ap (λ (x : List ℕ). bytes_eq x n.game) found.2 ∙ names_tell.self n.game) in
     let events : own_events (is_seat who power) n ≡ [] = ap (λ (a : Author). own_events (is_seat a power) n) found.0 in
     ap (seen_in power) new ∙ seats_opened m power (Some public) seats
     ∙ sym (ap (λ (es : List Event). absorb_all m power (seen_in power (game_at n.game s)) (es ++ Published public paper ∷ seated_in power seats)) events
-      ∙ ap (λ (game : Option Game). absorb_all m power (seen_in power game) (Published public paper ∷ seated_in power seats)) found.1)
+    ∙ ap (λ (game : Option Game). absorb_all m power (seen_in power game) (Published public paper ∷ seated_in power seats)) found.1)
 
 -- a game that the letter doesn't name stays as it is
 other_game : (m : Chart) (s : State) (n : Note) (who : Author) (text : List ℕ) (e : Effect) (name : List ℕ) → Decides m s n who (Taken text e) → bytes_eq n.game name ≡ false
@@ -174,15 +174,17 @@ step_told m seat s n who v h = mine (writes seat n who) refl ∙ sym more
     more : told m seat.power (seen seat s) (shown seat n who v) ≡ told m seat.power (seen seat s) (own_events (writes seat n who) n)
     more = told-append m seat.power (seen seat s) (own_events (writes seat n who) n) (cond (bytes_eq n.game seat.game) (verdict_events seat.power v) [])
         ∙ ap (λ (rs : List Reply). told m seat.power (seen seat s) (own_events (writes seat n who) n) ++ rs)
-          (effect_tells m seat.power (absorb_all m seat.power (seen seat s) (own_events (writes seat n who) n)) (bytes_eq n.game seat.game) v)
+        (effect_tells m seat.power (absorb_all m seat.power (seen seat s) (own_events (writes seat n who) n)) (bytes_eq n.game seat.game) v)
         ∙ append-nil (told m seat.power (seen seat s) (own_events (writes seat n who) n))
+
     both : (a b : Bool) → (a && b) ≡ true → (a ≡ true) × (b ≡ true)
     both true b e = (refl, e)
     both false b e = absurd (false≢true e)
+
     mine : (b : Bool) → writes seat n who ≡ b → cond b (reply_of n v ∷ []) [] ≡ told m seat.power (seen seat s) (own_events b n)
     mine false e = refl
     mine true e =
         let parts = both (bytes_eq n.game seat.game) (is_seat who seat.power) e in
         let known : verdict_on m n (seen seat s) ≡ v =
-            subst (λ (name : List ℕ). verdict_on m n (seen_in seat.power (game_at name s)) ≡ v) (names_tell.same n.game seat.game parts.0) (own_verdict m s n who v seat.power h parts.1) in
+        subst (λ (name : List ℕ). verdict_on m n (seen_in seat.power (game_at name s)) ≡ v) (names_tell.same n.game seat.game parts.0) (own_verdict m s n who v seat.power h parts.1) in
         sym (ap (λ (w : Verdict). reply_of n w ∷ []) known)

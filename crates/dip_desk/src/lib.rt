@@ -1,15 +1,14 @@
 //! The desk: games, their seats, and the letters that move them.
 #![tactic(auto)]
 
-pub mod map;
-pub mod orders;
-pub mod texts;
-
 mod keeper;
 mod laws;
+pub mod map;
 mod memory;
 mod ordering;
+pub mod orders;
 mod taking;
+pub mod texts;
 
 pub use keeper::{Author, Change, Desk, Effect, KeepFault, Keeper, NewSeat};
 pub use laws::{answered_from_what_is_seen, settled_by_view, shown_by_others};

@@ -172,7 +172,12 @@ fn fresh_seats(alloc: Global, seats: &[NewSeat]) -> Result<Vec<Own>, AllocError>
     Ok(owns)
 }
 
-fn opened(alloc: Global, public: &Public, paper: &String, seats: &[NewSeat]) -> Result<GameRow, AllocError>
+fn opened(
+    alloc: Global,
+    public: &Public,
+    paper: &String,
+    seats: &[NewSeat],
+) -> Result<GameRow, AllocError>
     ensures { IfOk result (λ g. stored.game g ≡ s.opened (texts.public public.now) (string_bytes paper.now) (each (λ n. rows.new_seat n) seats.now)) }
 {
     let mut papers = Vec::new(alloc);

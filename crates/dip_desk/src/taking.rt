@@ -113,10 +113,7 @@ fn refusal_line(alloc: Global, refusal: Refusal) -> Result<String, AllocError>
 fn refused(alloc: Global, refusal: Refusal) -> Result<Verdict, AllocError>
     ensures { IfOk result (λ v. verdict v ≡ m.refused refusal) }
 {
-    Ok(Verdict::Taken(
-        refusal_line(alloc, refusal)?,
-        Effect::Nothing,
-    ))
+    Ok(Verdict::Taken(refusal_line(alloc, refusal)?, Effect::Nothing))
 }
 
 /// What ORDERS comes to.
@@ -155,10 +152,7 @@ fn command_verdict(
     match command {
         Command::Create(_) => Ok(refused(alloc, Refusal::WrongSender)?),
         Command::Orders(lines) => orders_verdict(alloc, map, &public.board, own, *lines),
-        Command::Show => Ok(Verdict::Taken(
-            show_text(alloc, map, public, own)?,
-            Effect::Nothing,
-        )),
+        Command::Show => Ok(Verdict::Taken(show_text(alloc, map, public, own)?, Effect::Nothing)),
     }
 }
 
@@ -201,7 +195,12 @@ fn new_seat(map: &Map, game: &str, seat: &Seat<'_>) -> Option<NewSeat>
 }
 
 /// The seats of a new game, where each power is one of the map.
-fn new_seats(alloc: Global, map: &Map, game: &str, seats: Seats<'_>) -> Result<Option<Vec<NewSeat>>, AllocError>
+fn new_seats(
+    alloc: Global,
+    map: &Map,
+    game: &str,
+    seats: Seats<'_>,
+) -> Result<Option<Vec<NewSeat>>, AllocError>
     ensures { IfOk result (λ found. option_map (λ v. each rows.new_seat v.items) found ≡ m.new_seats map.now game.now (seats_in seats.entry)) }
 {
     let mut found = Vec::new(alloc);
@@ -240,7 +239,12 @@ fn are_complete(map: &Map, seats: &[NewSeat]) -> bool
 }
 
 /// The public part of a new game.
-fn opening_public(alloc: Global, map: &Map, game: &str, opening: &Opening<'_>) -> Result<Public, AllocError>
+fn opening_public(
+    alloc: Global,
+    map: &Map,
+    game: &str,
+    opening: &Opening<'_>,
+) -> Result<Public, AllocError>
     ensures { IfOk result (λ p. texts.public p ≡ m.opening_public map.now game.now opening.now.due opening.now.period opening.now.grey) }
 {
     Ok(Public {
@@ -421,7 +425,12 @@ fn settle<K: Keeper>(
 }
 
 /// Takes one letter: one step of the desk machine.
-pub fn take<K: Keeper>(alloc: Global, keeper: &mut K, map: &Map, letter: &Letter<'_>) -> Result<Reply, KeepFault>
+pub fn take<K: Keeper>(
+    alloc: Global,
+    keeper: &mut K,
+    map: &Map,
+    letter: &Letter<'_>,
+) -> Result<Reply, KeepFault>
     requires { K.faults keeper.old < u64.MAX }
     ensures step { K.sound keeper.old → K.shows keeper.new → IfOk result (λ r. m.Step map.now (K.content keeper.old) (note letter.now) (texts.reply r) (K.content keeper.new)) }
     ensures err { K.sound keeper.old → K.shows keeper.new → OnErr result (K.content keeper.new ≡ K.content keeper.old) }

@@ -94,7 +94,10 @@ fn answers_the_first_letters(rt: HostRuntime) -> Result<(), Fail> {
     let created = answer(&rt, alloc, &mut keeper, &map, CREATE)?;
     assert_eq!(rt; created.as_str(), "REPLY g1 master 1\nOK paper 1\nEND\n");
     let ordered = answer(&rt, alloc, &mut keeper, &map, ORDERS)?;
-    assert_eq!(rt; ordered.as_str(), "REPLY g1 england 1\nOK F edi - nth\nOK F lon H\nEND\n");
+    assert_eq!(rt;
+        ordered.as_str(),
+        "REPLY g1 england 1\nOK F edi - nth\nOK F lon H\nEND\n"
+    );
     let shown = answer(&rt, alloc, &mut keeper, &map, SHOW)?;
     let mut wanted = String::from_str(alloc, "REPLY g1 england 2\n")?;
     wanted.push_str(OPENING)?;
@@ -110,19 +113,30 @@ fn an_order_replaces_what_stands_for_its_province(rt: HostRuntime) -> Result<(),
     let mut keeper = desk(alloc);
     answer(&rt, alloc, &mut keeper, &map, CREATE)?;
     answer(&rt, alloc, &mut keeper, &map, ORDERS)?;
-    let again = with(alloc, ORDERS, "F edi - nth\nf  LON h\n", "F edi H\nA lon H\nA par H\nA lvp - bel\nF lon - yor VIA\n")?;
+    let again = with(
+        alloc,
+        ORDERS,
+        "F edi - nth\nf  LON h\n",
+        "F edi H\nA lon H\nA par H\nA lvp - bel\nF lon - yor VIA\n",
+    )?;
     let ordered = answer(&rt, alloc, &mut keeper, &map, again.as_str())?;
-    assert_eq!(rt; ordered.as_str(), "REPLY g1 england 1
+    assert_eq!(rt;
+        ordered.as_str(),
+        "REPLY g1 england 1
 OK F edi H
 O4 line 2: wrong kind of unit
 O3 line 3: no unit of yours there
 OK A lvp - bel
 O1 line 5: cannot be read
 END
-");
+"
+    );
     let shown = answer(&rt, alloc, &mut keeper, &map, SHOW)?;
     let (_, orders) = shown.as_str().split_once("INBOX 0\n").ok_or("no inbox")?;
-    assert_eq!(rt; orders, "ORDER F edi H\nORDER F lon H\nORDER A lvp - bel\nEND\n");
+    assert_eq!(rt;
+        orders,
+        "ORDER F edi H\nORDER F lon H\nORDER A lvp - bel\nEND\n"
+    );
     Ok(())
 }
 
@@ -142,7 +156,12 @@ fn whoever_is_not_known_gets_one_answer(rt: HostRuntime) -> Result<(), Fail> {
         let text = answer(&rt, alloc, &mut keeper, &map, wrong.as_str())?;
         assert_eq!(rt; text.as_str(), UNKNOWN);
     }
-    let nowhere = with(alloc, SHOW, "GAME g1\nFROM england\nSECRET eeeeeeee", "GAME g9\nFROM master\nSECRET master-key")?;
+    let nowhere = with(
+        alloc,
+        SHOW,
+        "GAME g1\nFROM england\nSECRET eeeeeeee",
+        "GAME g9\nFROM master\nSECRET master-key",
+    )?;
     let text = answer(&rt, alloc, &mut keeper, &map, nowhere.as_str())?;
     assert_eq!(rt; text.as_str(), UNKNOWN);
     Ok(())
@@ -158,19 +177,41 @@ fn refuses_in_the_order_of_the_rules(rt: HostRuntime) -> Result<(), Fail> {
     let foreign = with(alloc, CREATE, "SEAT turkey", "SEAT spain")?;
     for seats in [six.as_str(), twice.as_str(), foreign.as_str()] {
         let text = answer(&rt, alloc, &mut keeper, &map, seats)?;
-        assert_eq!(rt; text.as_str(), "REPLY g1 master 1\nL1 malformed letter\nEND\n");
+        assert_eq!(rt;
+            text.as_str(),
+            "REPLY g1 master 1\nL1 malformed letter\nEND\n"
+        );
     }
     answer(&rt, alloc, &mut keeper, &map, CREATE)?;
     let text = answer(&rt, alloc, &mut keeper, &map, six.as_str())?;
-    assert_eq!(rt; text.as_str(), "REPLY g1 master 1\nL1 malformed letter\nEND\n");
+    assert_eq!(rt;
+        text.as_str(),
+        "REPLY g1 master 1\nL1 malformed letter\nEND\n"
+    );
     let text = answer(&rt, alloc, &mut keeper, &map, CREATE)?;
     assert_eq!(rt; text.as_str(), "REPLY g1 master 1\nL11 name taken\nEND\n");
-    let own = with(alloc, CREATE, "FROM master\nSECRET master-key", "FROM england\nSECRET eeeeeeee")?;
+    let own = with(
+        alloc,
+        CREATE,
+        "FROM master\nSECRET master-key",
+        "FROM england\nSECRET eeeeeeee",
+    )?;
     let text = answer(&rt, alloc, &mut keeper, &map, own.as_str())?;
-    assert_eq!(rt; text.as_str(), "REPLY g1 england 1\nL9 command not for this sender\nEND\n");
-    let masters = with(alloc, SHOW, "FROM england\nSECRET eeeeeeee", "FROM master\nSECRET master-key")?;
+    assert_eq!(rt;
+        text.as_str(),
+        "REPLY g1 england 1\nL9 command not for this sender\nEND\n"
+    );
+    let masters = with(
+        alloc,
+        SHOW,
+        "FROM england\nSECRET eeeeeeee",
+        "FROM master\nSECRET master-key",
+    )?;
     let text = answer(&rt, alloc, &mut keeper, &map, masters.as_str())?;
-    assert_eq!(rt; text.as_str(), "REPLY g1 master 2\nL9 command not for this sender\nEND\n");
+    assert_eq!(rt;
+        text.as_str(),
+        "REPLY g1 master 2\nL9 command not for this sender\nEND\n"
+    );
     Ok(())
 }
 
@@ -178,9 +219,15 @@ fn refuses_in_the_order_of_the_rules(rt: HostRuntime) -> Result<(), Fail> {
 fn what_is_no_letter_is_answered_to_nobody(rt: HostRuntime) -> Result<(), Fail> {
     let alloc = rt.alloc();
     let malformed = reply_text(alloc, &fault_reply(alloc, LetterFault::Malformed)?)?;
-    assert_eq!(rt; malformed.as_str(), "REPLY nobody 0\nL1 malformed letter\nEND\n");
+    assert_eq!(rt;
+        malformed.as_str(),
+        "REPLY nobody 0\nL1 malformed letter\nEND\n"
+    );
     let long = reply_text(alloc, &fault_reply(alloc, LetterFault::TooLong)?)?;
-    assert_eq!(rt; long.as_str(), "REPLY nobody 0\nL5 letter over 16384 bytes\nEND\n");
+    assert_eq!(rt;
+        long.as_str(),
+        "REPLY nobody 0\nL5 letter over 16384 bytes\nEND\n"
+    );
     Ok(())
 }
 

@@ -54,7 +54,10 @@ fn push_terms(public: &Public, out: &mut String) -> Result<(), AllocError>
     let period = public.period;
     let grey = yes_or_no(public.grey);
     let papers = public.papers;
-    write!(out, " DUE {due} PERIOD {period} GREY {grey} PAPERS {papers}")
+    write!(
+        out,
+        " DUE {due} PERIOD {period} GREY {grey} PAPERS {papers}"
+    )
 }
 
 /// Appends the game line.

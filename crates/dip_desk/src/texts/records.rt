@@ -1,6 +1,5 @@
 //! The records that are printed.
-use crate::map::Board;
-use crate::map::Power;
+use crate::map::{Board, Power};
 
 /// How a game stands.
 #[derive(Clone, Copy, PartialEq, Eq, Debug)]

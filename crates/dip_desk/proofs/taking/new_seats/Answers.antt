@@ -15,5 +15,5 @@ pub loop-seat-preserved : goal.loop-seat-preserved
 loop-seat-preserved c =
     let more = one_found c.args.map.now c.args.game.now _ _ _ (seat_note c.in-Some.seat) (rows.new_seat c.in-Some-new_seat.next) _ c.in-Some.ensures.steps c.in-Some-new_seat.ensures c.loop-seat.invariant.2 in
     let found : map rows.new_seat c.push.new.self.items ≡ map rows.new_seat c.loop-seat.found.items ++ rows.new_seat c.in-Some-new_seat.next ∷ [] =
-        ap (λ ns. map rows.new_seat ns) c.in_ok-push-in-Some-new_seat.ensures.items ∙ map-append rows.new_seat c.loop-seat.found.items (c.in-Some-new_seat.next ∷ []) in
+    ap (λ ns. map rows.new_seat ns) c.in_ok-push-in-Some-new_seat.ensures.items ∙ map-append rows.new_seat c.loop-seat.found.items (c.in-Some-new_seat.next ∷ []) in
     (tt, tt, ap (λ (front : List NewSeat). behind front (m.new_seats c.args.map.now c.args.game.now (seats_in c.next.new.self))) found ∙ more)

@@ -2,6 +2,7 @@ use Rattle.std.specs.Prelude.{ℕ, List, [], ◌∷◌, ◌++◌, codes}
 use Rattle.dip_desk.specs.declared.map.names.Kind.{Kind}
 use Rattle.dip_desk.specs.declared.map.names.Kind.TheVariants.{Army, Fleet}
 use Rattle.dip_desk.specs.declared.map.names.Place.{Place}
+use Rattle.dip_desk.specs.declared.map.names.Unit.{Unit}
 use Rattle.dip_desk.specs.declared.orders.placed.Order.{Order}
 use Rattle.dip_desk.specs.declared.orders.placed.Order.TheVariants.{Hold, Move}
 use Rattle.dip_desk.specs.declared.orders.placed.PlacedOrder.{PlacedOrder}
@@ -21,6 +22,10 @@ place_text m Fleet a = (province m a.prov).code ++ behind_slash (shore m a).name
 abbrev pub kind_letter : Kind → List ℕ
 kind_letter Army = codes "A "
 kind_letter Fleet = codes "F "
+
+-- a unit: `A par`, `F edi`, `F stp/sc`
+unfoldable pub unit_text : Chart → Unit → List ℕ
+unit_text m u = kind_letter u.kind ++ place_text m u.kind u.place
 
 -- what a unit is to do
 abbrev pub action_text : Chart → Kind → Order → List ℕ

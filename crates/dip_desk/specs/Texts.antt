@@ -10,10 +10,8 @@ use Rattle.dip_desk.specs.declared.texts.records.Status.TheVariants.{Running}
 use Rattle.dip_desk.specs.declared.texts.refusals.Refusal.{Refusal}
 use Rattle.dip_desk.specs.declared.texts.refusals.Refusal.TheVariants.{Malformed, Unknown, TooLong, WrongSender, NameTaken}
 use Rattle.dip_desk.specs.TextsRecords.{Public, Own, Head, Reply}
-use Rattle.dip_desk.specs.MapChart.{Chart, province, realm, shore}
-use Rattle.dip_desk.specs.declared.map.names.Kind.{Kind}
-use Rattle.dip_desk.specs.declared.map.names.Kind.TheVariants.{Army, Fleet}
-use Rattle.dip_desk.specs.declared.map.names.Place.{Place}
+use Rattle.dip_desk.specs.MapChart.{Chart, province, realm}
+use Rattle.dip_desk.specs.OrdersTexts.{unit_text}
 use Rattle.dip_desk.specs.declared.map.names.Unit.{Unit}
 use Rattle.dip_desk.specs.declared.texts.board_lines.Force.{Force}
 
@@ -50,18 +48,6 @@ terms_text p = codes " DUE " ++ decimal p.due ++ codes " PERIOD " ++ decimal p.p
 unfoldable pub game_line : Public → List ℕ
 game_line p = codes "GAME " ++ p.game ++ codes " " ++ phase_text p.board.phase ++ codes " " ++ status_text p.status
     ++ terms_text p ++ codes "\n"
-
--- a slash and the coast, where the province has coasts of its own
-abbrev pub coast_text : Chart → Place → List ℕ
-coast_text m a = if length (shore m a).name == 0 then [] else codes "/" ++ (shore m a).name
-
--- `A par`, `F edi`, `F stp/sc`
-unfoldable pub unit_text : Chart → Unit → List ℕ
-unit_text m u = of_kind u.kind
-  where
-    of_kind : Kind → List ℕ
-    of_kind Army = codes "A " ++ (province m u.place.prov).code
-    of_kind Fleet = codes "F " ++ (province m u.place.prov).code ++ coast_text m u.place
 
 -- a unit that a board line lists
 abbrev pub force : Bool → Unit → Force

@@ -11,7 +11,7 @@ mod words;
 pub use faults::OrderFault;
 pub use laws::printed_is_read;
 pub use placed::{Order, PlacedOrder};
-pub use printing::print_order;
+pub use printing::{print_order, print_unit};
 pub use reading::read_order;
 pub use words::{TokenList, tokens};
 

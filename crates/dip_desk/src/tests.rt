@@ -1,4 +1,5 @@
 use crate::map::Map;
+use crate::texts::opening_paper_text;
 use crate::{KeepFault, Keeper, MemoryKeeper, fault_reply, reply_text, take};
 use dip_letters::{Letter, LetterFault, Next, digest, next_letter};
 use std::alloc::Global;
@@ -247,5 +248,10 @@ fn the_parts_of_a_new_game_are_kept(rt: HostRuntime) -> Result<(), Fail> {
     let own = keeper.own(&map, "g1", england)?.ok_or("no seat")?;
     assert!(rt; own.digest == digest("g1", "england", "eeeeeeee") && own.pending.is_empty());
     assert!(rt; keeper.public(&map, "g2")?.is_none());
+    let paper = opening_paper_text(alloc, &map, &public)?;
+    let mut wanted = String::from_str(alloc, "PAPER 1 opening\n")?;
+    wanted.push_str(OPENING)?;
+    wanted.push_str("END\n")?;
+    assert_eq!(rt; paper.as_str(), wanted.as_str());
     Ok(())
 }

@@ -6,7 +6,6 @@ mod records;
 mod refusals;
 mod replies;
 mod show;
-mod units;
 
 pub use board_lines::push_board_lines;
 pub use game_line::push_game_line;

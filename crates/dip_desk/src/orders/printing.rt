@@ -1,8 +1,8 @@
 ghost use Rattle.std.specs.Prelude.{◌≡◌, ◌++◌, OnOk, string_bytes};
 ghost use Rattle.dip_desk.specs.MapChart.{shore};
-ghost use Rattle.dip_desk.specs.OrdersTexts.{behind_slash, place_text, kind_letter, action_text, order_text};
+ghost use Rattle.dip_desk.specs.OrdersTexts.{behind_slash, place_text, kind_letter, action_text, order_text, unit_text};
 
-use crate::map::{Kind, Map, Place};
+use crate::map::{Kind, Map, Place, Unit};
 use crate::orders::placed::{Order, PlacedOrder};
 use std::alloc::AllocError;
 
@@ -33,6 +33,15 @@ fn kind_text(kind: Kind) -> &'static str
         Kind::Army => "A ",
         Kind::Fleet => "F ",
     }
+}
+
+/// Appends a unit: its kind, its province and, for a fleet, the coast.
+#[tactic(auto, unfolding(crate::specs::OrdersTexts::unit_text))]
+pub fn print_unit(map: &Map, unit: &Unit, out: &mut String) -> Result<(), AllocError>
+    ensures { OnOk result (string_bytes out.new ≡ string_bytes out.old ++ unit_text map.now unit.now) }
+{
+    out.push_str(kind_text(unit.kind))?;
+    print_place(map, unit.kind, unit.place, out)
 }
 
 fn print_action(map: &Map, kind: Kind, order: Order, out: &mut String) -> Result<(), AllocError>

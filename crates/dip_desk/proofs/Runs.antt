@@ -105,5 +105,5 @@ history_more m old mid new letters replies n r h step =
       },
     )
 
-pub taken_more : {A B : Type 0} (f : A → B) (xs : List A) (i : ℕ) (x : A) → i < length xs → x ≡ get_or xs i x → map f (take (i + 1) xs) ≡ map f (take i xs) ++ f x ∷ []
-taken_more f xs i x lt is = ap (λ ys. map f ys) (take_more xs i x lt) ∙ map_more f (take i xs) (get_or xs i x) ∙ ap (λ y. map f (take i xs) ++ f y ∷ []) (sym is)
+pub taken_more : {A B : Type 0} (f : A → B) (xs : List A) (i : ℕ) (d : A) → i < length xs → map f (take (i + 1) xs) ≡ map f (take i xs) ++ f (get_or xs i d) ∷ []
+taken_more f xs i d lt = ap (λ ys. map f ys) (take_more xs i d lt) ∙ map_more f (take i xs) (get_or xs i d)

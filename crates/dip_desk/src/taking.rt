@@ -1,5 +1,5 @@
 //! One letter at a time.
-ghost use Rattle.std.specs.Prelude.{◌≡◌, ◌<◌, ◌==◌, ◌⊎◌, Option, IfOk, OnOk, OnErr, map as each, option_map, is_none, is_some, string_bytes, bytes_eq, count_by};
+ghost use Rattle.std.specs.Prelude.{◌≡◌, ◌<◌, ◌==◌, ◌⊎◌, ℕ, List, take as first, IfErr, Option, IfOk, OnOk, OnErr, map as each, option_map, is_none, is_some, string_bytes, bytes_eq, count_by};
 ghost use Rattle.dip_letters.specs.Views.{lines_in, note, request, seat_note, seats_in};
 ghost use Rattle.dip_desk.specs.State as s;
 ghost use Rattle.dip_desk.specs.Machine as m;
@@ -8,6 +8,8 @@ ghost use Rattle.dip_desk.specs.TextsRows as texts;
 ghost use Rattle.dip_desk.specs.Faults.{faults_after};
 ghost use Rattle.dip_desk.specs.Verdicts.{verdict};
 ghost use Rattle.dip_desk.specs.Ordering.{ordered};
+ghost use Rattle.dip_desk.specs.TextsRecords as records;
+ghost use Rattle.dip_desk.specs.View.{IsHistory, IsSettledByView, Turn};
 
 use crate::keeper::{Author, Change, Effect, KeepFault, Keeper, NewSeat};
 use crate::map::{Board, Map, Power};
@@ -434,6 +436,9 @@ pub fn take<K: Keeper>(
     requires { K.faults keeper.old < u64.MAX }
     ensures step { K.sound keeper.old → K.shows keeper.new → IfOk result (λ r. m.Step map.now (K.content keeper.old) (note letter.now) (texts.reply r) (K.content keeper.new)) }
     ensures err { K.sound keeper.old → K.shows keeper.new → OnErr result (K.content keeper.new ≡ K.content keeper.old) }
+    // What a crash leaves: behind a reply that was kept the state after it, behind a fault the state before or after the letter.
+    ensures kept { K.sound keeper.old → K.honest keeper.new → K.shows keeper.old → OnOk result ((s : s.State) → K.may_leave keeper.new s → (s ≡ K.content keeper.new) ⊎ ((K.content keeper.new ≡ K.content keeper.old) × K.may_leave keeper.old s)) }
+    ensures left { K.sound keeper.old → K.honest keeper.new → K.shows keeper.old → OnErr result ((s : s.State) → K.may_leave keeper.new s → K.may_leave keeper.old s ⊎ ((r : records.Reply) × m.Step map.now (K.content keeper.old) (note letter.now) r s)) }
     ensures count { K.faults keeper.new ≡ faults_after result (K.faults keeper.old) }
     ensures fair { K.honest keeper.new → K.honest keeper.old }
     ensures shown { K.shows keeper.new → K.shows keeper.old }
@@ -441,8 +446,41 @@ pub fn take<K: Keeper>(
     ensures firm { K.sound keeper.old → K.honest keeper.new → OnOk result (K.sound keeper.new) }
     ensures open { K.sound keeper.old → K.honest keeper.new → K.shows keeper.old → OnOk result (K.shows keeper.new) }
 {
-    let (author, decided) = judge(alloc, keeper, map, letter)?;
-    settle(alloc, keeper, map, letter, author, decided)
+    let judged = judge(alloc, keeper, map, letter)?;
+    settle(alloc, keeper, map, letter, judged.0, judged.1)
+}
+
+/// Takes letters in turn, up to the first that a keeper gives no answer to; the letters before it stay taken.
+///
+/// # Errors
+/// The replies to the letters before, and the keeper's fault.
+pub fn run<K: Keeper>(
+    alloc: Global,
+    keeper: &mut K,
+    map: &Map,
+    letters: &[Letter<'_>],
+) -> Result<Vec<Reply>, (Vec<Reply>, KeepFault)>
+    requires { K.faults keeper.old < u64.MAX }
+    // The replies are those of a history of the machine over all letters, and each seat's view settles what it is told.
+    ensures run { K.sound keeper.old → K.shows keeper.new → IfOk result (λ replies. (turns : List Turn)
+        × IsHistory map.now (K.content keeper.old) (each (λ l. note l) letters.now) (each (λ r. texts.reply r) replies.items) (K.content keeper.new) turns
+        × IsSettledByView map.now (K.content keeper.old) turns (K.content keeper.new)) }
+    // Up to a fault the same of the letters before it.
+    ensures err { K.sound keeper.old → K.shows keeper.new → IfErr result (λ e. (n : ℕ) × (turns : List Turn)
+        × IsHistory map.now (K.content keeper.old) (each (λ l. note l) (first n letters.now)) (each (λ r. texts.reply r) e.0.items) (K.content keeper.new) turns) }
+    ensures open { K.sound keeper.old → K.honest keeper.new → K.shows keeper.old → OnOk result (K.shows keeper.new) }
+{
+    let mut replies = match Vec::with_capacity(alloc, letters.len()) {
+        Ok(replies) => replies,
+        Err(_) => return Err((Vec::new(alloc), KeepFault::Memory)),
+    };
+    for letter in letters {
+        match take(alloc, keeper, map, letter) {
+            Ok(reply) => replies.push_reserved(reply),
+            Err(fault) => return Err((replies, fault)),
+        }
+    }
+    Ok(replies)
 }
 
 /// The reply to bytes that are no letter.

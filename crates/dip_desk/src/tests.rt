@@ -1,6 +1,6 @@
 use crate::map::Map;
 use crate::texts::opening_paper_text;
-use crate::{KeepFault, Keeper, MemoryKeeper, fault_reply, reply_text, take};
+use crate::{KeepFault, Keeper, MemoryKeeper, fault_reply, reply_text, run, take};
 use dip_letters::{Letter, LetterFault, Next, digest, next_letter};
 use std::alloc::Global;
 use std::process::Abort;
@@ -253,5 +253,41 @@ fn the_parts_of_a_new_game_are_kept(rt: HostRuntime) -> Result<(), Fail> {
     wanted.push_str(OPENING)?;
     wanted.push_str("END\n")?;
     assert_eq!(rt; paper.as_str(), wanted.as_str());
+    Ok(())
+}
+
+#[test]
+fn a_run_takes_letter_by_letter(rt: HostRuntime) -> Result<(), Fail> {
+    let alloc = rt.alloc();
+    let map = Map::standard(alloc)?;
+    let mut keeper = desk(alloc);
+    let letters = [letter(&rt, CREATE), letter(&rt, ORDERS), letter(&rt, SHOW)];
+    match run(alloc, &mut keeper, &map, letters.as_slice()) {
+        Ok(replies) => {
+            assert_eq!(rt; replies.len(), 3);
+            let created = reply_text(alloc, &replies[0])?;
+            assert_eq!(rt; created.as_str(), "REPLY g1 master 1\nOK paper 1\nEND\n");
+            let ordered = reply_text(alloc, &replies[1])?;
+            assert_eq!(rt; ordered.as_str(), "REPLY g1 england 1\nOK F edi - nth\nOK F lon H\nEND\n");
+            Ok(())
+        }
+        Err(_) => Err(Fail::from("a fault")),
+    }
+}
+
+#[test]
+fn what_others_order_is_not_shown(rt: HostRuntime) -> Result<(), Fail> {
+    let alloc = rt.alloc();
+    let map = Map::standard(alloc)?;
+    let mut quiet = desk(alloc);
+    answer(&rt, alloc, &mut quiet, &map, CREATE)?;
+    let before = answer(&rt, alloc, &mut quiet, &map, SHOW)?;
+    let mut busy = desk(alloc);
+    answer(&rt, alloc, &mut busy, &map, CREATE)?;
+    let mine = with(alloc, ORDERS, "england\nSECRET eeeeeeee\nNUMBER 1\nORDERS\nF edi - nth\nf  LON h\n", "france\nSECRET ffffffff\nNUMBER 1\nORDERS\nA par - bur\n")?;
+    let ordered = answer(&rt, alloc, &mut busy, &map, mine.as_str())?;
+    assert_eq!(rt; ordered.as_str(), "REPLY g1 france 1\nOK A par - bur\nEND\n");
+    let after = answer(&rt, alloc, &mut busy, &map, SHOW)?;
+    assert_eq!(rt; before.as_str(), after.as_str());
     Ok(())
 }

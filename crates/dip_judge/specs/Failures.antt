@@ -3,6 +3,9 @@ use Rattle.std.specs.Prelude.{ℕ, List, ◌++◌, Option, None, Some, codes}
 use Rattle.dip_desk.specs.declared.keeper.KeepFault.TheVariants.{Disk, Damaged, Memory as no_room}
 use Rattle.dip_desk.specs.declared.map.faults.MapFault.{MapFault}
 use Rattle.dip_desk.specs.declared.map.faults.MapFault.TheVariants.{UnknownName, NotSymmetric, DoubledName, OverLimit, Memory as no_map}
+use Rattle.std.specs.declared.io.ErrorKind.{ErrorKind}
+use Rattle.std.specs.declared.io.ErrorKind.TheVariants.{OutOfMemory}
+use Rattle.dip_judge.specs.declared.args.UsageFault.{UsageFault}
 use Rattle.dip_judge.specs.declared.args.UsageFault.TheVariants.{Clap, Check, Memory as no_words}
 use Rattle.dip_judge.specs.declared.run.RunFault.{RunFault}
 use Rattle.dip_judge.specs.declared.run.RunFault.TheVariants.{Read, TooLong, Write, Memory, Keep}
@@ -40,3 +43,8 @@ printed (Usage Check) = Some (codes "dip_judge: Usage\n")
 printed (Usage no_words) = Some (codes "dip_judge: Memory\n")
 printed (Map fault) = Some (codes "dip_judge: " ++ map_number fault ++ codes "\n")
 printed (Run fault) = Some (codes "dip_judge: " ++ run_name fault ++ codes "\n")
+
+-- why there are no arguments: want of memory, or one of them is no text
+abbrev pub words_fault : ErrorKind → UsageFault
+words_fault OutOfMemory = no_words
+words_fault kind = Check

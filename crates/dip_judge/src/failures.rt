@@ -1,6 +1,9 @@
 //! Why the program ends early: its exit status, and what it prints on standard error.
 ghost use Rattle.std.specs.Prelude.{◌≡◌};
-ghost use Rattle.dip_judge.specs.Failures.{map_number, run_name, status_of};
+ghost use Rattle.dip_judge.specs.Failures.{map_number, run_name, status_of, words_fault};
+ghost use Rattle.dip_judge.specs.declared.args.UsageFault.TheVariants.{Memory as no_words};
+ghost use Rattle.dip_judge.specs.declared.failures.Failure.TheVariants.{Usage, Map, Run};
+ghost use Rattle.std.specs.IoError.{error_kind};
 
 use crate::args::UsageFault;
 use crate::run::RunFault;
@@ -82,24 +85,32 @@ fn name_of(fault: RunFault) -> &'static str
 }
 
 impl From<UsageFault> for Failure {
+    ghost from_gives = { λ fault f. f ≡ Usage fault };
+
     fn from(fault: UsageFault) -> Failure {
         Failure::Usage(fault)
     }
 }
 
 impl From<MapFault> for Failure {
+    ghost from_gives = { λ fault f. f ≡ Map fault };
+
     fn from(fault: MapFault) -> Failure {
         Failure::Map(fault)
     }
 }
 
 impl From<RunFault> for Failure {
+    ghost from_gives = { λ fault f. f ≡ Run fault };
+
     fn from(fault: RunFault) -> Failure {
         Failure::Run(fault)
     }
 }
 
 impl From<AllocError> for Failure {
+    ghost from_gives = { λ _ f. f ≡ Usage no_words };
+
     fn from(_error: AllocError) -> Failure {
         Failure::Usage(UsageFault::Memory)
     }
@@ -107,6 +118,8 @@ impl From<AllocError> for Failure {
 
 /// The arguments can't be had: one is no text, or memory ran out.
 impl From<io::Error> for Failure {
+    ghost from_gives = { λ error f. f ≡ Usage (words_fault (error_kind error)) };
+
     fn from(error: io::Error) -> Failure {
         match error.kind() {
             io::ErrorKind::OutOfMemory => Failure::Usage(UsageFault::Memory),

@@ -1,5 +1,5 @@
 -- What the desk's records say, without where they lie in memory.
-use Rattle.std.specs.Prelude.{List, map, string_bytes}
+use Rattle.std.specs.Prelude.{List, map, option_map, string_bytes}
 use Rattle.dip_desk.specs.State as s
 use Rattle.dip_desk.specs.TextsRows as texts
 use Rattle.dip_desk.specs.declared.keeper.Desk.{Desk}
@@ -11,7 +11,7 @@ use Rattle.dip_desk.specs.declared.keeper.Effect.TheVariants.{Nothing, Pending, 
 use Rattle.dip_desk.specs.declared.keeper.Change.{Change}
 
 abbrev pub desk : Desk → s.Desk
-desk d = record { digest = d.digest }
+desk d = record { digest = d.digest; kept = option_map texts.kept d.kept }
 
 abbrev pub author : Author → s.Author
 author Nobody = s.Nobody

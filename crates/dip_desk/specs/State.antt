@@ -1,11 +1,12 @@
 -- What the desk keeps, its named parts, and what a change makes of it.
 use Rattle.std.specs.Prelude.{ℕ, ◌≡◌, ◌==◌, Bool, true, false, List, [], ◌∷◌, ◌++◌, Option, None, Some, option_map, option_and_then, map, bytes_eq, if◌then◌else◌}
 use Rattle.dip_desk.specs.Keyed.{at, change_at}
-use Rattle.dip_desk.specs.TextsRecords.{Public, Own}
+use Rattle.dip_desk.specs.TextsRecords.{Public, Own, Kept}
 
 -- the master's row
 pub record Desk : Type 0 where
   pub digest : List ℕ
+  pub kept : Option Kept
 
 -- a game: its public part, the texts of its papers, and the own parts of its seats
 pub record Game : Type 0 where
@@ -60,7 +61,7 @@ pub record Change : Type 0 where
 
 -- a seat that nobody has used yet
 abbrev pub fresh : NewSeat → Own
-fresh s = record { power = s.power; digest = s.digest; vote = false; pending = []; sent = 0; items = 0 }
+fresh s = record { power = s.power; digest = s.digest; vote = false; pending = []; kept = None; sent = 0; items = 0 }
 
 -- the own part of a seat of the game is changed
 abbrev pub with_seat : ℕ → (Own → Own) → Game → Game

@@ -13,12 +13,19 @@ pub record Public : Type 0 where
   pub grey : Bool
   pub papers : ℕ
 
+-- the last letter of an author that was recorded, and its reply
+pub record Kept : Type 0 where
+  pub number : ℕ
+  pub sum : List ℕ
+  pub reply : List ℕ
+
 -- what a seat may know beside it, but for the items of its inbox
 pub record Own : Type 0 where
   pub power : ℕ
   pub digest : List ℕ
   pub vote : Bool
   pub pending : List (List ℕ)
+  pub kept : Option Kept
   pub sent : ℕ
   pub items : ℕ
 

@@ -6,14 +6,16 @@ ghost use Rattle.dip_desk.specs.TextsRows as texts;
 ghost use Rattle.dip_desk.specs.Faults.{faults_after};
 
 use crate::map::{Map, Power};
-use crate::texts::{Own, Public};
+use crate::texts::{Kept, Own, Public};
 use std::alloc::{AllocError, AllocFailed};
 
 /// The master's row.
-#[derive(Clone, Copy)]
+#[derive(Drop)]
 pub struct Desk {
     /// SHA-256 of `desk`, LF, `master`, LF and the master's secret.
     pub digest: [u8; 32],
+    /// The master's last letter, if one is recorded.
+    pub kept: Option<Kept>,
 }
 
 /// Who wrote a letter.

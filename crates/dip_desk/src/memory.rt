@@ -8,7 +8,7 @@ ghost use Rattle.dip_desk.specs.Stored as stored;
 
 use crate::keeper::{Author, Change, Desk, Effect, KeepFault, Keeper, NewSeat};
 use crate::map::{Map, Power};
-use crate::texts::{Own, Public};
+use crate::texts::{Kept, Own, Public};
 use std::alloc::{AllocError, Global};
 
 /// A game as it lies in memory.
@@ -51,6 +51,19 @@ fn public_copy(alloc: Global, public: &Public) -> Result<Public, AllocError>
     })
 }
 
+fn kept_copy(kept: &Option<Kept>) -> Result<Option<Kept>, AllocError>
+    ensures { IfOk result (λ k. option_map texts.kept k ≡ option_map texts.kept kept.now) }
+{
+    match kept {
+        None => Ok(None),
+        Some(kept) => Ok(Some(Kept {
+            number: kept.number,
+            sum: kept.sum,
+            reply: kept.reply.clone()?,
+        })),
+    }
+}
+
 fn own_copy(alloc: Global, own: &Own) -> Result<Own, AllocError>
     ensures { IfOk result (λ o. texts.own o ≡ texts.own own.now) }
 {
@@ -59,6 +72,7 @@ fn own_copy(alloc: Global, own: &Own) -> Result<Own, AllocError>
         digest: own.digest,
         vote: own.vote,
         pending: lines_copy(alloc, own.pending.as_slice())?,
+        kept: kept_copy(&own.kept)?,
         sent: own.sent,
         items: own.items,
     })
@@ -157,6 +171,7 @@ fn fresh(alloc: Global, seat: &NewSeat) -> Own
         digest: seat.digest,
         vote: false,
         pending: Vec::new(alloc),
+        kept: None,
         sent: 0,
         items: 0,
     }
@@ -194,11 +209,14 @@ impl MemoryKeeper {
 
     /// An empty desk whose master's secret has this digest.
     pub fn new(alloc: Global, digest: [u8; 32]) -> MemoryKeeper
-        ensures { stored.state result ≡ record { desk = record { digest = digest }; games = [] } }
+        ensures { stored.state result ≡ record { desk = record { digest = digest; kept = None }; games = [] } }
     {
         MemoryKeeper {
             alloc,
-            desk: Desk { digest },
+            desk: Desk {
+                digest,
+                kept: None,
+            },
             games: Vec::new(alloc),
         }
     }
@@ -222,7 +240,10 @@ impl Keeper for MemoryKeeper {
     }
 
     fn desk(&mut self) -> Result<Desk, KeepFault> {
-        Ok(self.desk)
+        Ok(Desk {
+            digest: self.desk.digest,
+            kept: kept_copy(&self.desk.kept)?,
+        })
     }
 
     fn public(&mut self, _map: &Map, game: &str) -> Result<Option<Public>, KeepFault> {

@@ -10,7 +10,7 @@ mod show;
 pub use board_lines::push_board_lines;
 pub use game_line::push_game_line;
 pub use opening_paper::opening_paper_text;
-pub use records::{Head, Own, Public, Reply, Status};
+pub use records::{Head, Kept, Own, Public, Reply, Status};
 pub use refusals::Refusal;
 pub use replies::reply_text;
 pub use show::show_text;

@@ -27,6 +27,17 @@ pub struct Public {
     pub papers: u32,
 }
 
+/// The last letter of an author that was recorded, and its reply.
+#[derive(Drop)]
+pub struct Kept {
+    /// The letter's number.
+    pub number: u32,
+    /// SHA-256 of the letter's bytes.
+    pub sum: [u8; 32],
+    /// The whole text of the reply.
+    pub reply: String,
+}
+
 /// What a seat may know beside the public part: its own part, but for the items of its inbox.
 #[derive(Drop)]
 pub struct Own {
@@ -38,6 +49,8 @@ pub struct Own {
     pub vote: bool,
     /// The canonical lines of its standing orders, by province.
     pub pending: Vec<String>,
+    /// Its last letter, if it has sent one that is recorded.
+    pub kept: Option<Kept>,
     /// How many press letters it has sent.
     pub sent: u32,
     /// How many items its inbox has.

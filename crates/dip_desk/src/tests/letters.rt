@@ -1,0 +1,293 @@
+use crate::map::Map;
+use crate::texts::opening_paper_text;
+use crate::{KeepFault, Keeper, MemoryKeeper, fault_reply, reply_text, run, take};
+use dip_letters::{Letter, LetterFault, Next, digest, next_letter};
+use std::alloc::Global;
+use std::process::Abort;
+use std::test::Fail;
+
+pub const CREATE: &str = "LETTER
+GAME g1
+FROM master
+SECRET master-key
+NUMBER 1
+CREATE DUE 100 PERIOD 100 GREY YES
+SEAT austria aaaaaaaa
+SEAT england eeeeeeee
+SEAT france ffffffff
+SEAT germany gggggggg
+SEAT italy iiiiiiii
+SEAT russia rrrrrrrr
+SEAT turkey tttttttt
+END
+";
+
+pub const ORDERS: &str = "LETTER
+GAME g1
+FROM england
+SECRET eeeeeeee
+NUMBER 1
+ORDERS
+F edi - nth
+f  LON h
+END
+";
+
+pub const SHOW: &str = "LETTER
+GAME g1
+FROM england
+SECRET eeeeeeee
+NUMBER 2
+SHOW
+END
+";
+
+const OPENING: &str = "GAME g1 S1901M running DUE 100 PERIOD 100 GREY YES PAPERS 1
+austria 3/3: A bud, F tri, A vie | bud tri vie
+england 3/3: F edi, F lon, A lvp | edi lon lvp
+france 3/3: F bre, A mar, A par | bre mar par
+germany 3/3: A ber, F kie, A mun | ber kie mun
+italy 3/3: F nap, A rom, A ven | nap rom ven
+russia 4/4: A mos, F sev, F stp/sc, A war | mos sev stp war
+turkey 3/3: F ank, A con, A smy | ank con smy
+";
+
+const UNKNOWN: &str = "REPLY nobody 0\nL2 unknown game, sender or secret\nEND\n";
+
+pub fn letter<'a>(rt: &impl Abort, text: &'a str) -> Letter<'a> {
+    let Next::Taken(letter, _) = next_letter(text.as_bytes()) else {
+        panic!(rt; "no letter");
+    };
+    letter
+}
+
+pub fn desk(alloc: Global) -> MemoryKeeper {
+    MemoryKeeper::new(alloc, digest("desk", "master", "master-key"))
+}
+
+/// The text of the reply to a letter.
+fn answer(
+    rt: &impl Abort,
+    alloc: Global,
+    keeper: &mut MemoryKeeper,
+    map: &Map,
+    text: &str,
+) -> Result<String, KeepFault> {
+    assert!(rt; keeper.failures() == 0);
+    let reply = take(alloc, keeper, map, &letter(rt, text))?;
+    Ok(reply_text(alloc, &reply)?)
+}
+
+/// The same letter with another piece of text in the place of the first such piece.
+fn with(alloc: Global, text: &str, old: &str, new: &str) -> Result<String, Fail> {
+    let (before, behind) = text.split_once(old).ok_or("no such text")?;
+    let mut changed = String::from_str(alloc, before)?;
+    changed.push_str(new)?;
+    changed.push_str(behind)?;
+    Ok(changed)
+}
+
+#[test]
+fn answers_the_first_letters(rt: HostRuntime) -> Result<(), Fail> {
+    let alloc = rt.alloc();
+    let map = Map::standard(alloc)?;
+    let mut keeper = desk(alloc);
+    let created = answer(&rt, alloc, &mut keeper, &map, CREATE)?;
+    assert_eq!(rt; created.as_str(), "REPLY g1 master 1\nOK paper 1\nEND\n");
+    let ordered = answer(&rt, alloc, &mut keeper, &map, ORDERS)?;
+    assert_eq!(rt;
+        ordered.as_str(),
+        "REPLY g1 england 1\nOK F edi - nth\nOK F lon H\nEND\n"
+    );
+    let shown = answer(&rt, alloc, &mut keeper, &map, SHOW)?;
+    let mut wanted = String::from_str(alloc, "REPLY g1 england 2\n")?;
+    wanted.push_str(OPENING)?;
+    wanted.push_str("VOTE NO\nSENT 0 INBOX 0\nORDER F edi - nth\nORDER F lon H\nEND\n")?;
+    assert_eq!(rt; shown.as_str(), wanted.as_str());
+    Ok(())
+}
+
+#[test]
+fn an_order_replaces_what_stands_for_its_province(rt: HostRuntime) -> Result<(), Fail> {
+    let alloc = rt.alloc();
+    let map = Map::standard(alloc)?;
+    let mut keeper = desk(alloc);
+    answer(&rt, alloc, &mut keeper, &map, CREATE)?;
+    answer(&rt, alloc, &mut keeper, &map, ORDERS)?;
+    let again = with(
+        alloc,
+        ORDERS,
+        "F edi - nth\nf  LON h\n",
+        "F edi H\nA lon H\nA par H\nA lvp - bel\nF lon - yor VIA\n",
+    )?;
+    let ordered = answer(&rt, alloc, &mut keeper, &map, again.as_str())?;
+    assert_eq!(rt;
+        ordered.as_str(),
+        "REPLY g1 england 1
+OK F edi H
+O4 line 2: wrong kind of unit
+O3 line 3: no unit of yours there
+OK A lvp - bel
+O1 line 5: cannot be read
+END
+"
+    );
+    let shown = answer(&rt, alloc, &mut keeper, &map, SHOW)?;
+    let (_, orders) = shown.as_str().split_once("INBOX 0\n").ok_or("no inbox")?;
+    assert_eq!(rt;
+        orders,
+        "ORDER F edi H\nORDER F lon H\nORDER A lvp - bel\nEND\n"
+    );
+    Ok(())
+}
+
+#[test]
+fn whoever_is_not_known_gets_one_answer(rt: HostRuntime) -> Result<(), Fail> {
+    let alloc = rt.alloc();
+    let map = Map::standard(alloc)?;
+    let mut keeper = desk(alloc);
+    answer(&rt, alloc, &mut keeper, &map, CREATE)?;
+    for (old, new) in [
+        ("SECRET eeeeeeee", "SECRET ffffffff"),
+        ("FROM england", "FROM spain"),
+        ("GAME g1", "GAME g9"),
+        ("FROM england", "FROM master"),
+    ] {
+        let wrong = with(alloc, SHOW, old, new)?;
+        let text = answer(&rt, alloc, &mut keeper, &map, wrong.as_str())?;
+        assert_eq!(rt; text.as_str(), UNKNOWN);
+    }
+    let nowhere = with(
+        alloc,
+        SHOW,
+        "GAME g1\nFROM england\nSECRET eeeeeeee",
+        "GAME g9\nFROM master\nSECRET master-key",
+    )?;
+    let text = answer(&rt, alloc, &mut keeper, &map, nowhere.as_str())?;
+    assert_eq!(rt; text.as_str(), UNKNOWN);
+    Ok(())
+}
+
+#[test]
+fn refuses_in_the_order_of_the_rules(rt: HostRuntime) -> Result<(), Fail> {
+    let alloc = rt.alloc();
+    let map = Map::standard(alloc)?;
+    let mut keeper = desk(alloc);
+    let six = with(alloc, CREATE, "SEAT turkey tttttttt\n", "")?;
+    let twice = with(alloc, CREATE, "SEAT turkey", "SEAT russia")?;
+    let foreign = with(alloc, CREATE, "SEAT turkey", "SEAT spain")?;
+    for seats in [six.as_str(), twice.as_str(), foreign.as_str()] {
+        let text = answer(&rt, alloc, &mut keeper, &map, seats)?;
+        assert_eq!(rt;
+            text.as_str(),
+            "REPLY g1 master 1\nL1 malformed letter\nEND\n"
+        );
+    }
+    answer(&rt, alloc, &mut keeper, &map, CREATE)?;
+    let text = answer(&rt, alloc, &mut keeper, &map, six.as_str())?;
+    assert_eq!(rt;
+        text.as_str(),
+        "REPLY g1 master 1\nL1 malformed letter\nEND\n"
+    );
+    let text = answer(&rt, alloc, &mut keeper, &map, CREATE)?;
+    assert_eq!(rt; text.as_str(), "REPLY g1 master 1\nL11 name taken\nEND\n");
+    let own = with(
+        alloc,
+        CREATE,
+        "FROM master\nSECRET master-key",
+        "FROM england\nSECRET eeeeeeee",
+    )?;
+    let text = answer(&rt, alloc, &mut keeper, &map, own.as_str())?;
+    assert_eq!(rt;
+        text.as_str(),
+        "REPLY g1 england 1\nL9 command not for this sender\nEND\n"
+    );
+    let masters = with(
+        alloc,
+        SHOW,
+        "FROM england\nSECRET eeeeeeee",
+        "FROM master\nSECRET master-key",
+    )?;
+    let text = answer(&rt, alloc, &mut keeper, &map, masters.as_str())?;
+    assert_eq!(rt;
+        text.as_str(),
+        "REPLY g1 master 2\nL9 command not for this sender\nEND\n"
+    );
+    Ok(())
+}
+
+#[test]
+fn what_is_no_letter_is_answered_to_nobody(rt: HostRuntime) -> Result<(), Fail> {
+    let alloc = rt.alloc();
+    let malformed = reply_text(alloc, &fault_reply(alloc, LetterFault::Malformed)?)?;
+    assert_eq!(rt;
+        malformed.as_str(),
+        "REPLY nobody 0\nL1 malformed letter\nEND\n"
+    );
+    let long = reply_text(alloc, &fault_reply(alloc, LetterFault::TooLong)?)?;
+    assert_eq!(rt;
+        long.as_str(),
+        "REPLY nobody 0\nL5 letter over 16384 bytes\nEND\n"
+    );
+    Ok(())
+}
+
+#[test]
+fn the_parts_of_a_new_game_are_kept(rt: HostRuntime) -> Result<(), Fail> {
+    let alloc = rt.alloc();
+    let map = Map::standard(alloc)?;
+    let mut keeper = desk(alloc);
+    answer(&rt, alloc, &mut keeper, &map, CREATE)?;
+    assert!(rt; keeper.failures() == 0);
+    let desk = keeper.desk()?;
+    assert!(rt; desk.digest == digest("desk", "master", "master-key"));
+    let public = keeper.public(&map, "g1")?.ok_or("no game")?;
+    assert!(rt; public.due == 100 && public.period == 100 && public.grey && public.papers == 1);
+    assert!(rt; public.board.is_of(&map));
+    let england = map.power("england").ok_or("no england")?;
+    let own = keeper.own(&map, "g1", england)?.ok_or("no seat")?;
+    assert!(rt; own.digest == digest("g1", "england", "eeeeeeee") && own.pending.is_empty());
+    assert!(rt; keeper.public(&map, "g2")?.is_none());
+    let paper = opening_paper_text(alloc, &map, &public)?;
+    let mut wanted = String::from_str(alloc, "PAPER 1 opening\n")?;
+    wanted.push_str(OPENING)?;
+    wanted.push_str("END\n")?;
+    assert_eq!(rt; paper.as_str(), wanted.as_str());
+    Ok(())
+}
+
+#[test]
+fn a_run_takes_letter_by_letter(rt: HostRuntime) -> Result<(), Fail> {
+    let alloc = rt.alloc();
+    let map = Map::standard(alloc)?;
+    let mut keeper = desk(alloc);
+    let letters = [letter(&rt, CREATE), letter(&rt, ORDERS), letter(&rt, SHOW)];
+    match run(alloc, &mut keeper, &map, letters.as_slice()) {
+        Ok(replies) => {
+            assert_eq!(rt; replies.len(), 3);
+            let created = reply_text(alloc, &replies[0])?;
+            assert_eq!(rt; created.as_str(), "REPLY g1 master 1\nOK paper 1\nEND\n");
+            let ordered = reply_text(alloc, &replies[1])?;
+            assert_eq!(rt; ordered.as_str(), "REPLY g1 england 1\nOK F edi - nth\nOK F lon H\nEND\n");
+            Ok(())
+        }
+        Err(_) => Err(Fail::from("a fault")),
+    }
+}
+
+#[test]
+fn what_others_order_is_not_shown(rt: HostRuntime) -> Result<(), Fail> {
+    let alloc = rt.alloc();
+    let map = Map::standard(alloc)?;
+    let mut quiet = desk(alloc);
+    answer(&rt, alloc, &mut quiet, &map, CREATE)?;
+    let before = answer(&rt, alloc, &mut quiet, &map, SHOW)?;
+    let mut busy = desk(alloc);
+    answer(&rt, alloc, &mut busy, &map, CREATE)?;
+    let mine = with(alloc, ORDERS, "england\nSECRET eeeeeeee\nNUMBER 1\nORDERS\nF edi - nth\nf  LON h\n", "france\nSECRET ffffffff\nNUMBER 1\nORDERS\nA par - bur\n")?;
+    let ordered = answer(&rt, alloc, &mut busy, &map, mine.as_str())?;
+    assert_eq!(rt; ordered.as_str(), "REPLY g1 france 1\nOK A par - bur\nEND\n");
+    let after = answer(&rt, alloc, &mut busy, &map, SHOW)?;
+    assert_eq!(rt; before.as_str(), after.as_str());
+    Ok(())
+}

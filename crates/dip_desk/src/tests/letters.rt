@@ -54,14 +54,14 @@ turkey 3/3: F ank, A con, A smy | ank con smy
 
 const UNKNOWN: &str = "REPLY nobody 0\nL2 unknown game, sender or secret\nEND\n";
 
-pub fn letter<'a>(rt: &impl Abort, text: &'a str) -> Letter<'a> {
+pub(crate) fn letter<'a>(rt: &impl Abort, text: &'a str) -> Letter<'a> {
     let Next::Taken(letter, _) = next_letter(text.as_bytes()) else {
         panic!(rt; "no letter");
     };
     letter
 }
 
-pub fn desk(alloc: Global) -> MemoryKeeper {
+pub(crate) fn desk(alloc: Global) -> MemoryKeeper {
     MemoryKeeper::new(alloc, digest("desk", "master", "master-key"))
 }
 

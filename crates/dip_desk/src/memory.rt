@@ -213,10 +213,7 @@ impl MemoryKeeper {
     {
         MemoryKeeper {
             alloc,
-            desk: Desk {
-                digest,
-                kept: None,
-            },
+            desk: Desk { digest, kept: None },
             games: Vec::new(alloc),
         }
     }

@@ -113,11 +113,7 @@ fn a_fault_is_handed_on_and_changes_nothing(rt: HostRuntime) -> Result<(), Fail>
                 fault,
                 told: 0,
             };
-            let letters = [
-                letter(&rt, CREATE),
-                letter(&rt, ORDERS),
-                letter(&rt, SHOW),
-            ];
+            let letters = [letter(&rt, CREATE), letter(&rt, ORDERS), letter(&rt, SHOW)];
             match run(alloc, &mut keeper, &map, letters.as_slice()) {
                 Ok(replies) => assert_eq!(rt; replies.len(), 3),
                 Err((replies, told)) => {

@@ -268,7 +268,10 @@ fn a_run_takes_letter_by_letter(rt: HostRuntime) -> Result<(), Fail> {
             let created = reply_text(alloc, &replies[0])?;
             assert_eq!(rt; created.as_str(), "REPLY g1 master 1\nOK paper 1\nEND\n");
             let ordered = reply_text(alloc, &replies[1])?;
-            assert_eq!(rt; ordered.as_str(), "REPLY g1 england 1\nOK F edi - nth\nOK F lon H\nEND\n");
+            assert_eq!(rt;
+                ordered.as_str(),
+                "REPLY g1 england 1\nOK F edi - nth\nOK F lon H\nEND\n"
+            );
             Ok(())
         }
         Err(_) => Err(Fail::from("a fault")),
@@ -284,10 +287,42 @@ fn what_others_order_is_not_shown(rt: HostRuntime) -> Result<(), Fail> {
     let before = answer(&rt, alloc, &mut quiet, &map, SHOW)?;
     let mut busy = desk(alloc);
     answer(&rt, alloc, &mut busy, &map, CREATE)?;
-    let mine = with(alloc, ORDERS, "england\nSECRET eeeeeeee\nNUMBER 1\nORDERS\nF edi - nth\nf  LON h\n", "france\nSECRET ffffffff\nNUMBER 1\nORDERS\nA par - bur\n")?;
+    let mine = with(
+        alloc,
+        ORDERS,
+        "england\nSECRET eeeeeeee\nNUMBER 1\nORDERS\nF edi - nth\nf  LON h\n",
+        "france\nSECRET ffffffff\nNUMBER 1\nORDERS\nA par - bur\n",
+    )?;
     let ordered = answer(&rt, alloc, &mut busy, &map, mine.as_str())?;
-    assert_eq!(rt; ordered.as_str(), "REPLY g1 france 1\nOK A par - bur\nEND\n");
+    assert_eq!(rt;
+        ordered.as_str(),
+        "REPLY g1 france 1\nOK A par - bur\nEND\n"
+    );
     let after = answer(&rt, alloc, &mut busy, &map, SHOW)?;
     assert_eq!(rt; before.as_str(), after.as_str());
+    Ok(())
+}
+
+#[test]
+fn a_refused_letter_changes_nothing(rt: HostRuntime) -> Result<(), Fail> {
+    let alloc = rt.alloc();
+    let map = Map::standard(alloc)?;
+    let mut keeper = desk(alloc);
+    answer(&rt, alloc, &mut keeper, &map, CREATE)?;
+    answer(&rt, alloc, &mut keeper, &map, ORDERS)?;
+    let before = answer(&rt, alloc, &mut keeper, &map, SHOW)?;
+    let own = with(
+        alloc,
+        CREATE,
+        "FROM master\nSECRET master-key",
+        "FROM england\nSECRET eeeeeeee",
+    )?;
+    let stranger = with(alloc, ORDERS, "eeeeeeee", "ffffffff")?;
+    let unread = with(alloc, ORDERS, "F edi - nth\nf  LON h\n", "F edi - xyz\n")?;
+    for refused in [own.as_str(), CREATE, stranger.as_str(), unread.as_str()] {
+        answer(&rt, alloc, &mut keeper, &map, refused)?;
+        let after = answer(&rt, alloc, &mut keeper, &map, SHOW)?;
+        assert_eq!(rt; before.as_str(), after.as_str());
+    }
     Ok(())
 }

@@ -9,12 +9,12 @@ pub loop-letter-preserved : goal.loop-letter-preserved
 loop-letter-preserved g c =
     let content = g.K.Keeper.content in
     let replies : map (λ r. texts.reply r) c.push_reserved.new.self.items ≡ map (λ r. texts.reply r) c.loop-letter.replies.items ++ texts.reply c.in-Ok-take.reply ∷ [] =
-        ap (λ rs. map (λ r. texts.reply r) rs) c.push_reserved.ensures.items ∙ map_more (λ r. texts.reply r) c.loop-letter.replies.items c.in-Ok-take.reply in
+    ap (λ rs. map (λ r. texts.reply r) rs) c.push_reserved.ensures.items ∙ map_more (λ r. texts.reply r) c.loop-letter.replies.items c.in-Ok-take.reply in
     record {
       sound = λ sound shows. c.take.ensures.sound (c.loop-letter.invariant.sound sound (c.take.ensures.shown shows)) shows;
       steps = λ sound shows.
-        let more = history_more c.args.map.now (content c.args.keeper.now) (content c.loop-letter.keeper) (content c.take.new.keeper) _ _ _ (texts.reply c.in-Ok-take.reply) (c.loop-letter.invariant.steps sound (c.take.ensures.shown shows)) (c.in-Ok-take.ensures.step (c.loop-letter.invariant.sound sound (c.take.ensures.shown shows)) shows) in
-        (more.0, record { run = more.1.run; asked = more.1.asked ∙ sym (taken_more (λ x. note x) c.args.letters.now c.loop-letter.letter-index _ (omega arith)); answered = more.1.answered ∙ sym replies });
+          let more = history_more c.args.map.now (content c.args.keeper.now) (content c.loop-letter.keeper) (content c.take.new.keeper) _ _ _ (texts.reply c.in-Ok-take.reply) (c.loop-letter.invariant.steps sound (c.take.ensures.shown shows)) (c.in-Ok-take.ensures.step (c.loop-letter.invariant.sound sound (c.take.ensures.shown shows)) shows) in
+          (more.0, record { run = more.1.run; asked = more.1.asked ∙ sym (taken_more (λ x. note x) c.args.letters.now c.loop-letter.letter-index _ (omega arith)); answered = more.1.answered ∙ sym replies });
       faults = c.in-Ok-take.ensures.count ∙ c.loop-letter.invariant.faults;
       «open» = λ sound shows honest. let before = c.loop-letter.invariant.open sound shows (c.take.ensures.fair honest) in (c.in-Ok-take.ensures.open before.1 honest before.0, c.in-Ok-take.ensures.firm before.1 honest);
       count = omega arith;

@@ -36,46 +36,52 @@ fn the_place(rt: &impl Abort, map: &Map, code: &[u8], coast: &[u8]) -> Place {
     Place { prov, coast }
 }
 
+/// A power, its line, and the canonical text or the fault.
+const OPENING: &str = "england: F edi - nth = F edi - nth
+england: f  LON h = F lon H
+england: A lvp - bel = A lvp - bel
+england: A lvp-yor = A lvp - yor
+england: A lvp - yor VIA = O1 cannot be read
+england: A lvp - via = O2 unknown province
+england: A lvp - yor/nc = O7 wrong coast
+england: A lvp - mun = O5 out of reach
+england: F edi - nrg = O2 unknown province
+england: F edi. = O1 cannot be read
+russia: F stp/nc H = F stp/sc H
+russia: F STP - BOT = F stp/sc - bot
+russia: F stp - bar = O5 out of reach
+russia: F stp/ec H = O7 wrong coast
+russia: F sev/nc H = O7 wrong coast
+france: A mar - spa/nc = O7 wrong coast
+france: A mar - spa = A mar - spa
+france: A par - xyz = O2 unknown province
+france: A xyz - par = O2 unknown province
+france: F par H = O4 wrong kind of unit
+france: A mun H = O3 no unit of yours there
+france: A par - = O1 cannot be read
+france: A par - - bur = O1 cannot be read
+france: A par - bur - mun = O1 cannot be read
+france: BUILD A par = O1 cannot be read
+france:  = O1 cannot be read
+austria: A vie - ven = O5 out of reach
+italy: A ven - ven = O5 out of reach
+italy: A ven - apu = A ven - apu
+";
+
 #[test]
 fn orders_on_the_opening_board(rt: HostRuntime) -> Result<(), Fail> {
     let alloc = rt.alloc();
     let map = Map::standard(alloc)?;
     let board = Board::opening(alloc, &map)?;
-    let cases = [
-        ("england", "F edi - nth", "F edi - nth"),
-        ("england", "f  LON h", "F lon H"),
-        ("england", "A lvp - bel", "A lvp - bel"),
-        ("england", "A lvp-yor", "A lvp - yor"),
-        ("england", "A lvp - yor VIA", "O1 cannot be read"),
-        ("england", "A lvp - via", "O2 unknown province"),
-        ("england", "A lvp - yor/nc", "O7 wrong coast"),
-        ("england", "A lvp - mun", "O5 out of reach"),
-        ("england", "F edi - nrg", "O2 unknown province"),
-        ("england", "F edi.", "O1 cannot be read"),
-        ("russia", "F stp/nc H", "F stp/sc H"),
-        ("russia", "F STP - BOT", "F stp/sc - bot"),
-        ("russia", "F stp - bar", "O5 out of reach"),
-        ("russia", "F stp/ec H", "O7 wrong coast"),
-        ("russia", "F sev/nc H", "O7 wrong coast"),
-        ("france", "A mar - spa/nc", "O7 wrong coast"),
-        ("france", "A mar - spa", "A mar - spa"),
-        ("france", "A par - xyz", "O2 unknown province"),
-        ("france", "A xyz - par", "O2 unknown province"),
-        ("france", "F par H", "O4 wrong kind of unit"),
-        ("france", "A mun H", "O3 no unit of yours there"),
-        ("france", "A par -", "O1 cannot be read"),
-        ("france", "A par - - bur", "O1 cannot be read"),
-        ("france", "A par - bur - mun", "O1 cannot be read"),
-        ("france", "BUILD A par", "O1 cannot be read"),
-        ("france", "", "O1 cannot be read"),
-        ("austria", "A vie - ven", "O5 out of reach"),
-        ("italy", "A ven - ven", "O5 out of reach"),
-        ("italy", "A ven - apu", "A ven - apu"),
-    ];
-    for (name, line, wanted) in cases {
+    let mut count = 0u32;
+    for case in OPENING.lines() {
+        let (name, rest) = case.split_once(": ").expect(&rt, "a power");
+        let (line, wanted) = rest.split_once(" = ").expect(&rt, "an answer");
         let text = answer(alloc, &map, &board, the_power(&rt, &map, name), line)?;
         assert_eq!(rt; text.as_str(), wanted);
+        count = count.saturating_add(1);
     }
+    assert_eq!(rt; count, 29);
     Ok(())
 }
 
@@ -100,22 +106,26 @@ fn lone_fleet(
     Ok(Board::of(units, Vec::new(alloc), Vec::new(alloc), owners, phase))
 }
 
+/// Where France's only fleet stands, its line, and the canonical text or the fault.
+const LONE: &str = "mao: F mao - spa = O6 coast needed
+mao: F mao - spa/nc = F mao - spa/nc
+mao: F mao - spa/ec = O7 wrong coast
+gas: F gas - spa = F gas - spa/nc
+gas: F gas - spa/sc = O7 wrong coast
+lyo: F lyo - spa = F lyo - spa/sc
+lyo: F lyo - naf = O5 out of reach
+lyo: F lyo - lyo = O5 out of reach
+";
+
 #[test]
 fn fleets_and_coasts(rt: HostRuntime) -> Result<(), Fail> {
     let alloc = rt.alloc();
     let map = Map::standard(alloc)?;
     let france = the_power(&rt, &map, "france");
-    let cases = [
-        (b"mao", "F mao - spa", "O6 coast needed"),
-        (b"mao", "F mao - spa/nc", "F mao - spa/nc"),
-        (b"gas", "F gas - spa", "F gas - spa/nc"),
-        (b"gas", "F gas - spa/sc", "O7 wrong coast"),
-        (b"lyo", "F lyo - spa", "F lyo - spa/sc"),
-        (b"lyo", "F lyo - naf", "O5 out of reach"),
-        (b"lyo", "F lyo - lyo", "O5 out of reach"),
-    ];
-    for (code, line, wanted) in cases {
-        let board = lone_fleet(&rt, alloc, &map, code, Season::SpringMoves)?;
+    for case in LONE.lines() {
+        let (code, rest) = case.split_once(": ").expect(&rt, "a province");
+        let (line, wanted) = rest.split_once(" = ").expect(&rt, "an answer");
+        let board = lone_fleet(&rt, alloc, &map, code.as_bytes(), Season::SpringMoves)?;
         assert!(rt; board.is_of(&map));
         let text = answer(alloc, &map, &board, france, line)?;
         assert_eq!(rt; text.as_str(), wanted);

@@ -3,9 +3,9 @@ use Rattle.std.specs.Prelude.{true, List, Option, Some, None, codes, ifâ—Œthenâ—
 use Rattle.std.specs.Str.{bytes_eq}
 use Rattle.clap.specs.Words.{App, Row, Rule, Text, first_of, new_app, new_rule, subcommand_of, with_rule, with_subcommand}
 
--- the option `--master S`
+-- the option `--master SECRET`
 abbrev pub master_option : Rule
-master_option = record (new_rule (codes "master")) { long = Some (codes "master") }
+master_option = record (new_rule (codes "master")) { long = Some (codes "master"); value_names = 1 }
 
 -- the command `letters`
 abbrev pub letters_command : App

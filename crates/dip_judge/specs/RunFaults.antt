@@ -1,5 +1,5 @@
 -- Which faults a call may answer.
-use Rattle.std.specs.Prelude.{ℕ, List, Option, ◌+◌, ◌<◌, ◌⊎◌, IfSome, Result, Ok, Err, length}
+use Rattle.std.specs.Prelude.{ℕ, List, Option, ◌+◌, ◌<◌, ◌⊎◌, IfSome, Result, Err, length}
 use Rattle.dip_desk.specs.declared.keeper.KeepFault.TheVariants.{Disk}
 use Rattle.dip_judge.specs.Runs.{IsReadToEnd, IsUntouched}
 use Rattle.dip_judge.specs.declared.run.RunFault.{RunFault}

@@ -1,8 +1,9 @@
 //! The command line: which words ask for what.
-ghost use Rattle.std.specs.Prelude.{◌≡◌, [], IfOk, IfErr, map, option_map};
+ghost use Rattle.std.specs.Prelude.{◌≡◌, false, [], IfOk, IfErr, map, option_map};
 ghost use Rattle.clap.specs.Faults.{fault_of};
-ghost use Rattle.clap.specs.Words.{app_of, subcommand_of, subcommand_rows_of};
-ghost use Rattle.dip_judge.specs.CommandLine.{judge_command, master_in};
+ghost use Rattle.clap.specs.Words.{IsPlainArg, app_of, rule_of, subcommand_of, subcommand_rows_of};
+ghost use Rattle.clap.specs.declared.builder.command.Command.TheViews.{out-Command as fields_of};
+ghost use Rattle.dip_judge.specs.CommandLine.{judge_command, letters_command, master_in, master_option};
 ghost use Rattle.dip_judge.specs.ArgsGiven.{HasSecret, IsGiven};
 ghost use Rattle.dip_judge.specs.UsageFaults.{IsUsageFault, fault_from};
 ghost use Rattle.dip_judge.specs.declared.args.UsageFault.TheVariants.{Memory};
@@ -30,12 +31,32 @@ pub enum UsageFault {
     Memory,
 }
 
+/// The option `--master SECRET`.
+fn master_arg<'a>(alloc: Global) -> Arg<'a>
+    ensures rule { rule_of result ≡ master_option }
+    ensures plain { IsPlainArg result }
+    ensures local { result.global ≡ false }
+{
+    Arg::new(alloc, "master")
+        .long("master")
+        .value_name("SECRET")
+        .help("The master's secret: 8 to 64 printable ASCII characters, no space")
+}
+
+/// The command `letters`.
+fn letters_command<'a>(alloc: Global) -> Result<Command<'a>, AllocError>
+    ensures app { IfOk result (λ c. app_of c ≡ letters_command) }
+    ensures local { IfOk result (λ c. (fields_of c).has_globals ≡ false) }
+{
+    let command = Command::new(alloc, "letters").arg(master_arg(alloc))?;
+    Ok(command.about("Answers the letters on standard input, with games in memory"))
+}
+
 /// The program's command line.
-fn command<'a>(alloc: Global) -> Result<Command<'a>, AllocError>
+fn judge_command<'a>(alloc: Global) -> Result<Command<'a>, AllocError>
     ensures { IfOk result (λ c. app_of c ≡ judge_command) }
 {
-    let master = Arg::new(alloc, "master").long("master");
-    let letters = Command::new(alloc, "letters").arg(master)?;
+    let letters = letters_command(alloc)?;
     Command::new(alloc, "dip_judge")
         .subcommand_required(true)
         .subcommand(letters)
@@ -48,7 +69,7 @@ fn matches_of<'a>(alloc: Global, words: &'a [&'a str]) -> Result<ArgMatches<'a>,
         ≡ subcommand_of judge_command (map (λ w. w.now) words.entry.now)) }
     ensures faults { IfErr result (IsUsageFault (map (λ w. w.now) words.entry.now)) }
 {
-    let matches = command(alloc)?.try_get_matches_from(words)?;
+    let matches = judge_command(alloc)?.try_get_matches_from(words)?;
     Ok(matches)
 }
 

@@ -60,3 +60,20 @@ fn tells_usage_as_clap_has_it(rt: HostRuntime) -> Result<(), Fail> {
     assert!(rt; printed.contains("Usage: dip_judge letters"), "{printed}");
     Ok(())
 }
+
+#[test]
+fn tells_help_as_clap_has_it(rt: HostRuntime) -> Result<(), Fail> {
+    let alloc = rt.alloc();
+    let Err(fault) = read_args(alloc, &["dip_judge", "letters", "--help"]) else {
+        return Err(Fail::from("taken"));
+    };
+    let failure = Failure::from(fault);
+    assert_eq!(rt; failure.status(), 2);
+    let printed = format!(in alloc; "{failure}")?;
+    assert!(rt;
+        printed.contains("Usage: dip_judge letters [OPTIONS]\n"),
+        "{printed}"
+    );
+    assert!(rt; printed.contains("--master <SECRET>"), "{printed}");
+    Ok(())
+}

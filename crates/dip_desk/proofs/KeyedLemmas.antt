@@ -1,6 +1,6 @@
 -- Lists of records that are found by a key.
-use Rattle.std.proofs.Common.{◌≡◌, ℕ, ◌<◌, ◌≤◌, ◌+◌, Bool, true, false, cond, List, [], ◌∷◌, map, length, get_or, add-one, suc, refl, sym, ◌∙◌, ap, arith, ◌++◌, Option, Some, None, eqb, option_map, bytes_eq}
-use Rattle.std.specs.Prelude.{slice_set, if◌then◌else◌}
+use Rattle.std.proofs.Common.{◌≡◌, ℕ, ◌<◌, ◌≤◌, ◌+◌, Bool, true, false, cond, List, [], ◌∷◌, map, length, get_or, add-one, suc, refl, sym, ◌∙◌, ap, arith, ◌++◌, Some, eqb, option_map, bytes_eq}
+use Rattle.std.specs.Prelude.{slice_set}
 use Rattle.std.specs.Option.{option_or}
 use Rattle.std.proofs.lemmas.Bool.{eqb-true, eq-eqb}
 use Rattle.std.proofs.lemmas.Slice.Eq.{bytes_eq-Decides}

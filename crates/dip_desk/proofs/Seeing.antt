@@ -4,14 +4,14 @@ use Rattle.std.specs.Prelude.{◌&&◌}
 use Rattle.std.specs.Option.{option_or}
 use Rattle.std.proofs.lemmas.Bool.{false≢true}
 use Rattle.dip_letters.specs.Notes.{Note}
-use Rattle.dip_desk.specs.Keyed.{at, change_at}
+use Rattle.dip_desk.specs.Keyed.{change_at}
 use Rattle.dip_desk.specs.MapChart.{Chart}
-use Rattle.dip_desk.specs.State.{State, Game, Author, Nobody, TheMaster, Seat, Effect, Nothing, Pending, Opens, NewSeat, changed, fresh, game_at, name_of, opened, seat_at, with_pending, with_seat}
+use Rattle.dip_desk.specs.State.{State, Game, Author, Nobody, TheMaster, Seat, Effect, Nothing, Pending, Opens, NewSeat, fresh, game_at, name_of, opened, seat_at, with_pending, with_seat}
 use Rattle.dip_desk.specs.Machine.{Decides, SeatName, Seen, Verdict, NotKnown, Taken, after, reply_of, seen, seen_in, verdict_on}
 use Rattle.dip_desk.specs.TextsRecords.{Public, Own, Reply}
-use Rattle.dip_desk.specs.View.{Event, OwnLetter, Published, Seated, absorb, absorb_all, effect_events, is_seat, own_after, own_events, seated_in, shown, told, told_at, verdict_events, writes}
+use Rattle.dip_desk.specs.View.{Event, Published, Seated, absorb, absorb_all, effect_events, is_seat, own_after, own_events, seated_in, shown, told, told_at, verdict_events, writes}
 use Rattle.dip_desk.proofs.KeyedLemmas.{at-append, at-change_at_other, at-change_at_same, names_tell, powers_tell}
-use Rattle.dip_desk.proofs.Suiting.{Suits, decides_suits, opens_where, orders_where}
+use Rattle.dip_desk.proofs.Suiting.{decides_suits, opens_where, orders_where}
 
 -- events one after another
 pub absorb_all-append : (m : Chart) (power : ℕ) (s : Seen) (es fs : List Event) → absorb_all m power s (es ++ fs) ≡ absorb_all m power (absorb_all m power s es) fs

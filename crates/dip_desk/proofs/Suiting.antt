@@ -1,7 +1,6 @@
 -- Which effect may come from whom, and where.
 use Rattle.std.proofs.Common.{◌≡◌, ℕ, Bool, true, false, cond, List, Option, Some, None, refl, sym, subst}
-use Rattle.std.specs.Prelude.{bytes_eq}
-use Rattle.dip_letters.specs.Notes.{Note, Request, SeatNote}
+use Rattle.dip_letters.specs.Notes.{Note, Request}
 use Rattle.dip_letters.specs.Notes.Request.{Create, Orders, Show}
 use Rattle.dip_desk.specs.MapChart.{Chart}
 use Rattle.dip_desk.specs.State.{State, Game, Author, Nobody, TheMaster, Seat, Effect, Nothing, Pending, Opens, NewSeat, game_at, seat_at}

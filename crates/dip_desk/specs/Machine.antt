@@ -1,5 +1,5 @@
 -- The desk machine: who wrote a letter, what is decided of it, what it leaves and what is replied.
-use Rattle.std.specs.Prelude.{ℕ, ◌≡◌, ◌==◌, ◌&&◌, Bool, true, false, List, [], ◌∷◌, ◌++◌, Option, None, Some, option_map, bytes_eq, codes, if◌then◌else◌, length, map, count_by}
+use Rattle.std.specs.Prelude.{ℕ, ◌≡◌, ◌==◌, Bool, List, [], ◌∷◌, ◌++◌, Option, None, Some, option_map, bytes_eq, codes, if◌then◌else◌, count_by}
 use Rattle.std.specs.List.{list_all}
 use Rattle.sha2.specs.Sha256.{sha256}
 use Rattle.dip_letters.specs.Digests.{seat_text}
@@ -10,7 +10,7 @@ use Rattle.dip_letters.specs.declared.letters.LetterFault.TheVariants.{Malformed
 use Rattle.dip_desk.specs.MapChart.{Chart, power_of}
 use Rattle.dip_desk.specs.MapBoard.{opening}
 use Rattle.dip_desk.specs.Ordering.{Ordered, lines_of, ordered}
-use Rattle.dip_desk.specs.State.{State, Game, Author, Nobody, TheMaster, Seat, Effect, Nothing, Pending, Opens, Change, NewSeat, changed, game_at, own_at, seat_at}
+use Rattle.dip_desk.specs.State.{State, Game, Author, Nobody, TheMaster, Seat, Effect, Nothing, Pending, Opens, NewSeat, changed, game_at, own_at, seat_at}
 use Rattle.dip_desk.specs.Texts.{numbers, opening_paper, refusal_text, show_text}
 use Rattle.dip_desk.specs.TextsRecords.{Public, Own, Head, Reply}
 use Rattle.dip_desk.specs.declared.texts.records.Status.TheVariants.{Running}

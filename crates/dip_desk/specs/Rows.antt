@@ -1,5 +1,5 @@
 -- What the desk's records say, without where they lie in memory.
-use Rattle.std.specs.Prelude.{List, map, option_map, string_bytes}
+use Rattle.std.specs.Prelude.{map, option_map, string_bytes}
 use Rattle.dip_desk.specs.State as s
 use Rattle.dip_desk.specs.TextsRows as texts
 use Rattle.dip_desk.specs.declared.keeper.Desk.{Desk}

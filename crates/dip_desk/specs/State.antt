@@ -1,5 +1,5 @@
 -- What the desk keeps, its named parts, and what a change makes of it.
-use Rattle.std.specs.Prelude.{ℕ, ◌≡◌, ◌==◌, Bool, true, false, List, [], ◌∷◌, ◌++◌, Option, None, Some, option_map, option_and_then, map, bytes_eq, if◌then◌else◌}
+use Rattle.std.specs.Prelude.{ℕ, ◌==◌, false, List, [], ◌∷◌, ◌++◌, Option, None, option_map, option_and_then, map, bytes_eq}
 use Rattle.dip_desk.specs.Keyed.{at, change_at}
 use Rattle.dip_desk.specs.TextsRecords.{Public, Own, Kept}
 

@@ -1,5 +1,5 @@
 -- What a keeper in memory has in its lists.
-use Rattle.std.specs.Prelude.{List, map, string_bytes}
+use Rattle.std.specs.Prelude.{map}
 use Rattle.dip_desk.specs.State as s
 use Rattle.dip_desk.specs.Rows as rows
 use Rattle.dip_desk.specs.TextsRows as texts

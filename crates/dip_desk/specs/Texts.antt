@@ -1,5 +1,5 @@
 -- The printed texts: each is a function of its record. Every line ends with LF.
-use Rattle.std.specs.Prelude.{ℕ, Bool, true, false, List, [], ◌∷◌, ◌++◌, ◌==◌, ◌+◌, codes, if◌then◌else◌, map, filter, fold, flat_map, length, nat_lt, Option, None, Some, slice_index_or}
+use Rattle.std.specs.Prelude.{ℕ, Bool, true, false, List, [], ◌∷◌, ◌++◌, ◌==◌, ◌+◌, codes, if◌then◌else◌, map, filter, flat_map, length, Option, None, Some, slice_index_or}
 use Rattle.std.specs.Fmt.{decimal}
 use Rattle.dip_desk.specs.declared.map.boards.Phase.{Phase}
 use Rattle.dip_desk.specs.MapBoard.{Position}

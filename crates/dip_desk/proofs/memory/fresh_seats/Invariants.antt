@@ -1,9 +1,6 @@
-use Rattle.std.proofs.Common.{◌≡◌, ◌+◌, ◌==◌, drop, take, map, bytes_eq}
-use Rattle.dip_desk.specs.Keyed.{place}
+use Rattle.std.proofs.Common.{◌≡◌, take, map}
 use Rattle.dip_desk.specs.State as s
 use Rattle.dip_desk.specs.Rows as rows
-use Rattle.dip_desk.specs.Stored as stored
-use Rattle.dip_desk.specs.TextsRecords.{Own}
 use Rattle.dip_desk.specs.TextsRows as texts
 use Rattle.dip_desk.proofs.memory.fresh_seats.Given as goal
 

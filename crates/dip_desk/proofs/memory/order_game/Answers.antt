@@ -1,4 +1,4 @@
-use Rattle.std.proofs.Common.{◌≡◌, ◌<◌, ◌≤◌, ℕ, length, get_or, refl, arith, map, bytes_eq, ap, List}
+use Rattle.std.proofs.Common.{◌≡◌, ◌<◌, length, get_or, arith, map, bytes_eq, ap, List}
 use Rattle.dip_desk.specs.Keyed.{place}
 use Rattle.dip_desk.specs.State as s
 use Rattle.dip_desk.specs.Stored as stored

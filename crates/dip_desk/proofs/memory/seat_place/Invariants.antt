@@ -1,8 +1,5 @@
-use Rattle.std.proofs.Common.{◌≡◌, ◌+◌, ◌==◌, drop, take, map, bytes_eq}
+use Rattle.std.proofs.Common.{◌≡◌, ◌+◌, ◌==◌, drop, map}
 use Rattle.dip_desk.specs.Keyed.{place}
-use Rattle.dip_desk.specs.State as s
-use Rattle.dip_desk.specs.Rows as rows
-use Rattle.dip_desk.specs.Stored as stored
 use Rattle.dip_desk.specs.TextsRecords.{Own}
 use Rattle.dip_desk.specs.TextsRows as texts
 use Rattle.dip_desk.proofs.memory.seat_place.Given as goal

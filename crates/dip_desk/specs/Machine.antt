@@ -1,5 +1,5 @@
 -- The desk machine: who wrote a letter, what is decided of it, what it leaves and what is replied.
-use Rattle.std.specs.Prelude.{ℕ, ◌≡◌, ◌==◌, Bool, List, [], ◌∷◌, ◌++◌, Option, None, Some, option_map, bytes_eq, codes, if◌then◌else◌, count_by}
+use Rattle.std.specs.Prelude.{true, ℕ, ◌≡◌, ◌==◌, Bool, List, [], ◌∷◌, ◌++◌, Option, None, Some, option_map, bytes_eq, codes, if◌then◌else◌, count_by}
 use Rattle.std.specs.List.{list_all}
 use Rattle.sha2.specs.Sha256.{sha256}
 use Rattle.dip_letters.specs.Digests.{seat_text}
@@ -9,7 +9,7 @@ use Rattle.dip_letters.specs.declared.letters.LetterFault.{LetterFault}
 use Rattle.dip_letters.specs.declared.letters.LetterFault.TheVariants.{Malformed as Unreadable, TooLong as OverLong}
 use Rattle.dip_desk.specs.MapChart.{Chart, power_of}
 use Rattle.dip_desk.specs.MapBoard.{opening}
-use Rattle.dip_desk.specs.Ordering.{Ordered, lines_of, ordered}
+use Rattle.dip_desk.specs.Ordering.{Ordered, has_foreign, lines_of, ordered}
 use Rattle.dip_desk.specs.State.{State, Game, Author, Nobody, TheMaster, Seat, Effect, Nothing, Pending, Opens, NewSeat, changed, game_at, own_at, seat_at}
 use Rattle.dip_desk.specs.Texts.{numbers, opening_paper, refusal_text, show_text}
 use Rattle.dip_desk.specs.TextsRecords.{Public, Own, Head, Reply}
@@ -86,6 +86,19 @@ verdict_by m command (Some p) (Some o) = seat_command m command p o
 -- what a seat's letter comes to, by what the seat sees alone
 abbrev pub verdict_on : Chart → Note → Seen → Verdict
 verdict_on m n s = verdict_by m n.command s.public s.own
+
+-- the seat has a standing line that is no order on the board
+abbrev pub IsForeignTo : Chart → Option Public → Option Own → Type 0
+IsForeignTo m (Some p) (Some o) = has_foreign m p.board o.power o.pending ≡ true
+IsForeignTo m (Some p) None = ⊥
+IsForeignTo m None o = ⊥
+
+abbrev pub IsForeign : Chart → Seen → Type 0
+IsForeign m s = IsForeignTo m s.public s.own
+
+-- a seat of the letter's game has such a line
+abbrev pub HasForeignLine : Chart → State → Note → Type 0
+HasForeignLine m s n = (power : ℕ) × IsForeign m (seen_in power (game_at n.game s))
 
 -- a seat of a new game, where its power is one of the map
 abbrev pub new_seat : Chart → List ℕ → SeatNote → Option NewSeat

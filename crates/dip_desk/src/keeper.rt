@@ -1,5 +1,5 @@
 //! What keeps the desk's state.
-ghost use Rattle.std.specs.Prelude.{◌≡◌, ◌⊎◌, ℕ, ◌<◌, IfOk, OnOk, OnErr, option_map};
+ghost use Rattle.std.specs.Prelude.{◌≡◌, ◌⊎◌, ℕ, ◌<◌, IfOk, IsErrOf, OnOk, OnErr, option_map};
 ghost use Rattle.dip_desk.specs.State.{State, changed, own_at, public_at};
 ghost use Rattle.dip_desk.specs.Rows as rows;
 ghost use Rattle.dip_desk.specs.TextsRows as texts;
@@ -116,6 +116,7 @@ pub trait Keeper {
         requires { faults self.old < u64.MAX }
         ensures value { sound self.old → shows self.new → IfOk result (λ d. rows.desk d ≡ (content self.old).desk) }
         ensures same { sound self.old → shows self.new → content self.new ≡ content self.old }
+        ensures sane { sound self.old → shows self.new → IsErrOf result KeepFault.Damaged → ⊥ }
         ensures count { faults self.new ≡ faults_after result (faults self.old) }
         ensures fair { honest self.new → honest self.old }
         ensures shown { shows self.new → shows self.old }
@@ -129,6 +130,7 @@ pub trait Keeper {
         requires { faults self.old < u64.MAX }
         ensures value { sound self.old → shows self.new → IfOk result (λ p. option_map texts.public p ≡ public_at game.now (content self.old)) }
         ensures same { sound self.old → shows self.new → content self.new ≡ content self.old }
+        ensures sane { sound self.old → shows self.new → IsErrOf result KeepFault.Damaged → ⊥ }
         ensures count { faults self.new ≡ faults_after result (faults self.old) }
         ensures fair { honest self.new → honest self.old }
         ensures shown { shows self.new → shows self.old }
@@ -142,6 +144,7 @@ pub trait Keeper {
         requires { faults self.old < u64.MAX }
         ensures value { sound self.old → shows self.new → IfOk result (λ o. option_map texts.own o ≡ own_at game.now power (content self.old)) }
         ensures same { sound self.old → shows self.new → content self.new ≡ content self.old }
+        ensures sane { sound self.old → shows self.new → IsErrOf result KeepFault.Damaged → ⊥ }
         ensures count { faults self.new ≡ faults_after result (faults self.old) }
         ensures fair { honest self.new → honest self.old }
         ensures shown { shows self.new → shows self.old }
@@ -155,6 +158,7 @@ pub trait Keeper {
         requires { faults self.old < u64.MAX }
         ensures ok { sound self.old → shows self.new → OnOk result (content self.new ≡ changed (rows.change change.now) (content self.old)) }
         ensures err { sound self.old → shows self.new → OnErr result (content self.new ≡ content self.old) }
+        ensures sane { sound self.old → shows self.new → IsErrOf result KeepFault.Damaged → ⊥ }
         ensures kept { sound self.old → honest self.new → OnOk result ((s : State) → may_leave self.new s → s ≡ content self.new) }
         ensures left { sound self.old → honest self.new → OnErr result ((s : State) → may_leave self.new s → may_leave self.old s ⊎ (s ≡ changed (rows.change change.now) (content self.old))) }
         ensures count { faults self.new ≡ faults_after result (faults self.old) }

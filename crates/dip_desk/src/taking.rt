@@ -1,13 +1,13 @@
 //! One letter at a time.
-ghost use Rattle.std.specs.Prelude.{◌≡◌, ◌<◌, ◌==◌, ◌⊎◌, ℕ, List, take as first, IfErr, Option, IfOk, OnOk, OnErr, map as each, option_map, is_none, is_some, string_bytes, bytes_eq, count_by};
+ghost use Rattle.std.specs.Prelude.{◌≡◌, ◌<◌, ◌==◌, ◌⊎◌, ℕ, List, take as first, IfErr, IsErrOf, true, Option, IfOk, OnOk, OnErr, map as each, option_map, is_none, is_some, string_bytes, bytes_eq, count_by};
 ghost use Rattle.dip_letters.specs.Views.{lines_in, note, request, seat_note, seats_in};
 ghost use Rattle.dip_desk.specs.State as s;
 ghost use Rattle.dip_desk.specs.Machine as m;
 ghost use Rattle.dip_desk.specs.Rows as rows;
 ghost use Rattle.dip_desk.specs.TextsRows as texts;
-ghost use Rattle.dip_desk.specs.Faults.{faults_after};
+ghost use Rattle.dip_desk.specs.Faults.{faults_after, faults_after_run};
 ghost use Rattle.dip_desk.specs.Verdicts.{verdict};
-ghost use Rattle.dip_desk.specs.Ordering.{ordered};
+ghost use Rattle.dip_desk.specs.Ordering.{has_foreign, ordered};
 ghost use Rattle.dip_desk.specs.TextsRecords as records;
 ghost use Rattle.dip_desk.specs.View.{IsHistory, IsSettledByView, Turn};
 
@@ -47,6 +47,7 @@ fn master_author<K: Keeper>(keeper: &mut K, letter: &Letter<'_>) -> Result<Autho
     requires { K.faults keeper.old < u64.MAX }
     ensures value { K.sound keeper.old → K.shows keeper.new → IfOk result (λ a. rows.author a ≡ m.master_author (note letter.now) (K.content keeper.old)) }
     ensures same { K.sound keeper.old → K.shows keeper.new → K.content keeper.new ≡ K.content keeper.old }
+    ensures sane { K.sound keeper.old → K.shows keeper.new → IsErrOf result KeepFault.Damaged → ⊥ }
     ensures count { K.faults keeper.new ≡ faults_after result (K.faults keeper.old) }
     ensures fair { K.honest keeper.new → K.honest keeper.old }
     ensures shown { K.shows keeper.new → K.shows keeper.old }
@@ -84,6 +85,7 @@ fn author_of<K: Keeper>(keeper: &mut K, map: &Map, letter: &Letter<'_>) -> Resul
     requires { K.faults keeper.old < u64.MAX }
     ensures value { K.sound keeper.old → K.shows keeper.new → IfOk result (λ a. rows.author a ≡ m.author map.now (note letter.now) (K.content keeper.old)) }
     ensures same { K.sound keeper.old → K.shows keeper.new → K.content keeper.new ≡ K.content keeper.old }
+    ensures sane { K.sound keeper.old → K.shows keeper.new → IsErrOf result KeepFault.Damaged → ⊥ }
     ensures count { K.faults keeper.new ≡ faults_after result (K.faults keeper.old) }
     ensures fair { K.honest keeper.new → K.honest keeper.old }
     ensures shown { K.shows keeper.new → K.shows keeper.old }
@@ -128,6 +130,7 @@ fn orders_verdict(
 ) -> Result<Verdict, KeepFault>
     ensures value { IfOk result (λ v. verdict v ≡ m.orders_verdict map.now (ordered map.now board.now own.now.power (texts.lines own.now.pending.items) (lines_in lines.entry))) }
     ensures disk { faults_after result 0 ≡ 0 }
+    ensures sane { IsErrOf result KeepFault.Damaged → has_foreign map.now board.now own.now.power (texts.lines own.now.pending.items) ≡ true }
 {
     let orders = standing_orders(alloc, map, board, own.power, own.pending.as_slice())?;
     let mut taken = Ordered {
@@ -150,6 +153,7 @@ fn command_verdict(
 ) -> Result<Verdict, KeepFault>
     ensures value { IfOk result (λ v. verdict v ≡ m.seat_command map.now (request command.now) (texts.public public.now) (texts.own own.now)) }
     ensures disk { faults_after result 0 ≡ 0 }
+    ensures sane { IsErrOf result KeepFault.Damaged → has_foreign map.now public.now.board own.now.power (texts.lines own.now.pending.items) ≡ true }
 {
     match command {
         Command::Create(_) => Ok(refused(alloc, Refusal::WrongSender)?),
@@ -169,6 +173,7 @@ fn seat_verdict<K: Keeper>(
     requires { K.faults keeper.old < u64.MAX }
     ensures value { K.sound keeper.old → K.shows keeper.new → IfOk result (λ v. verdict v ≡ m.verdict_on map.now (note letter.now) (m.seen_in power (s.game_at letter.now.game.now (K.content keeper.old)))) }
     ensures same { K.sound keeper.old → K.shows keeper.new → K.content keeper.new ≡ K.content keeper.old }
+    ensures sane { K.sound keeper.old → K.shows keeper.new → IsErrOf result KeepFault.Damaged → m.IsForeign map.now (m.seen_in power (s.game_at letter.now.game.now (K.content keeper.old))) }
     ensures count { K.faults keeper.new ≡ faults_after result (K.faults keeper.old) }
     ensures fair { K.honest keeper.new → K.honest keeper.old }
     ensures shown { K.shows keeper.new → K.shows keeper.old }
@@ -326,6 +331,7 @@ fn master_verdict<K: Keeper>(
     requires { K.faults keeper.old < u64.MAX }
     ensures value { K.sound keeper.old → K.shows keeper.new → IfOk result (λ v. verdict v ≡ m.master_verdict map.now (note letter.now) (note letter.now).command (s.game_at letter.now.game.now (K.content keeper.old))) }
     ensures same { K.sound keeper.old → K.shows keeper.new → K.content keeper.new ≡ K.content keeper.old }
+    ensures sane { K.sound keeper.old → K.shows keeper.new → IsErrOf result KeepFault.Damaged → ⊥ }
     ensures count { K.faults keeper.new ≡ faults_after result (K.faults keeper.old) }
     ensures fair { K.honest keeper.new → K.honest keeper.old }
     ensures shown { K.shows keeper.new → K.shows keeper.old }
@@ -352,6 +358,7 @@ fn judge<K: Keeper>(
     ensures author { K.sound keeper.old → K.shows keeper.new → IfOk result (λ j. rows.author j.0 ≡ m.author map.now (note letter.now) (K.content keeper.old)) }
     ensures verdict { K.sound keeper.old → K.shows keeper.new → IfOk result (λ j. m.Decides map.now (K.content keeper.old) (note letter.now) (rows.author j.0) (verdict j.1)) }
     ensures same { K.sound keeper.old → K.shows keeper.new → K.content keeper.new ≡ K.content keeper.old }
+    ensures sane { K.sound keeper.old → K.shows keeper.new → IsErrOf result KeepFault.Damaged → m.HasForeignLine map.now (K.content keeper.old) (note letter.now) }
     ensures count { K.faults keeper.new ≡ faults_after result (K.faults keeper.old) }
     ensures fair { K.honest keeper.new → K.honest keeper.old }
     ensures shown { K.shows keeper.new → K.shows keeper.old }
@@ -402,6 +409,7 @@ fn settle<K: Keeper>(
     ensures reply { IfOk result (λ r. texts.reply r ≡ m.reply_of (note letter.now) (verdict decided)) }
     ensures ok { K.sound keeper.old → K.shows keeper.new → OnOk result (K.content keeper.new ≡ m.after (note letter.now) (rows.author author) (verdict decided) (K.content keeper.old)) }
     ensures err { K.sound keeper.old → K.shows keeper.new → OnErr result (K.content keeper.new ≡ K.content keeper.old) }
+    ensures sane { K.sound keeper.old → K.shows keeper.new → IsErrOf result KeepFault.Damaged → ⊥ }
     ensures kept { K.sound keeper.old → K.honest keeper.new → OnOk result ((s : s.State) → K.may_leave keeper.new s → (s ≡ K.content keeper.new) ⊎ ((K.content keeper.new ≡ K.content keeper.old) × K.may_leave keeper.old s)) }
     ensures left { K.sound keeper.old → K.honest keeper.new → OnErr result ((s : s.State) → K.may_leave keeper.new s → K.may_leave keeper.old s ⊎ (s ≡ m.after (note letter.now) (rows.author author) (verdict decided) (K.content keeper.old))) }
     ensures count { K.faults keeper.new ≡ faults_after result (K.faults keeper.old) }
@@ -436,6 +444,7 @@ pub fn take<K: Keeper>(
     requires { K.faults keeper.old < u64.MAX }
     ensures step { K.sound keeper.old → K.shows keeper.new → IfOk result (λ r. m.Step map.now (K.content keeper.old) (note letter.now) (texts.reply r) (K.content keeper.new)) }
     ensures err { K.sound keeper.old → K.shows keeper.new → OnErr result (K.content keeper.new ≡ K.content keeper.old) }
+    ensures sane { K.sound keeper.old → K.shows keeper.new → IsErrOf result KeepFault.Damaged → m.HasForeignLine map.now (K.content keeper.old) (note letter.now) }
     // What a crash leaves: behind a reply that was kept the state after it, behind a fault the state before or after the letter.
     ensures kept { K.sound keeper.old → K.honest keeper.new → K.shows keeper.old → OnOk result ((s : s.State) → K.may_leave keeper.new s → (s ≡ K.content keeper.new) ⊎ ((K.content keeper.new ≡ K.content keeper.old) × K.may_leave keeper.old s)) }
     ensures left { K.sound keeper.old → K.honest keeper.new → K.shows keeper.old → OnErr result ((s : s.State) → K.may_leave keeper.new s → K.may_leave keeper.old s ⊎ ((r : records.Reply) × m.Step map.now (K.content keeper.old) (note letter.now) r s)) }
@@ -468,6 +477,7 @@ pub fn run<K: Keeper>(
     // Up to a fault the same of the letters before it.
     ensures err { K.sound keeper.old → K.shows keeper.new → IfErr result (λ e. (n : ℕ) × (turns : List Turn)
         × IsHistory map.now (K.content keeper.old) (each (λ l. note l) (first n letters.now)) (each (λ r. texts.reply r) e.0.items) (K.content keeper.new) turns) }
+    ensures count { K.faults keeper.new ≡ faults_after_run result (K.faults keeper.old) }
     ensures open { K.sound keeper.old → K.honest keeper.new → K.shows keeper.old → OnOk result (K.shows keeper.new) }
 {
     let mut replies = match Vec::with_capacity(alloc, letters.len()) {

@@ -1,5 +1,5 @@
 //! A keeper that fails at one of its calls.
-ghost use Rattle.std.specs.Prelude.{◌≡◌, ◌<◌, MatchOption};
+ghost use Rattle.std.specs.Prelude.{◌≡◌, ◌<◌, IfSome, MatchOption};
 ghost use Rattle.dip_desk.specs.Faults.{faults_with};
 
 use crate::map::{Map, Power};
@@ -13,7 +13,8 @@ pub struct Failing {
     inner: MemoryKeeper,
     /// How many calls go well before it.
     left: u32,
-    fault: KeepFault,
+    /// Whether it is a fault of the disk, or else want of memory.
+    is_disk: bool,
     told: u64,
 }
 
@@ -22,19 +23,18 @@ impl Failing {
     fn fault_now(&mut self) -> Option<KeepFault>
         requires { self.old.told < u64.MAX }
         ensures inner { self.new.inner ≡ self.old.inner }
+        ensures sane { IfSome result (λ fault. fault ≡ KeepFault.Damaged → ⊥) }
         ensures count { MatchOption result (self.new.told ≡ self.old.told) (λ fault. self.new.told ≡ faults_with fault self.old.told) }
     {
         if self.left > 0 {
             self.left -= 1;
             return None;
         }
-        match self.fault {
-            KeepFault::Disk => {
-                self.told += 1;
-                Some(KeepFault::Disk)
-            }
-            KeepFault::Memory => Some(KeepFault::Memory),
-            KeepFault::Damaged => Some(KeepFault::Damaged),
+        if self.is_disk {
+            self.told += 1;
+            Some(KeepFault::Disk)
+        } else {
+            Some(KeepFault::Memory)
         }
     }
 }
@@ -105,12 +105,17 @@ fn a_fault_is_handed_on_and_changes_nothing(rt: HostRuntime) -> Result<(), Fail>
     let alloc = rt.alloc();
     let map = Map::standard(alloc)?;
     let england = map.power("england").ok_or("no england")?;
-    for fault in [KeepFault::Disk, KeepFault::Memory, KeepFault::Damaged] {
+    for is_disk in [true, false] {
+        let fault = if is_disk {
+            KeepFault::Disk
+        } else {
+            KeepFault::Memory
+        };
         for calls in 0..12 {
             let mut keeper = Failing {
                 inner: desk(alloc),
                 left: calls,
-                fault,
+                is_disk,
                 told: 0,
             };
             let letters = [letter(&rt, CREATE), letter(&rt, ORDERS), letter(&rt, SHOW)];

@@ -1,14 +1,7 @@
-pub mod MapLaws
-pub mod BoardLaws
 pub mod KeyedLemmas
-pub mod TextLemmas
+pub mod NumberLemmas
 pub mod SeatLemmas
 pub mod OrderingLemmas
 pub mod Suiting
 pub mod Seeing
 pub mod Runs
-pub mod TokenLaws
-pub mod SpellingLaws
-pub mod FormLaws
-pub mod PrintLaws
-pub mod RoundTrip

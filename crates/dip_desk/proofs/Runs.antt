@@ -3,10 +3,10 @@ use Rattle.std.proofs.Common.{◌≡◌, ◌≢◌, ℕ, ◌<◌, ◌+◌, Bool,
 use Rattle.std.proofs.lemmas.Bool.{false≢true}
 use Rattle.std.proofs.lemmas.List.{take_more}
 use Rattle.dip_letters.specs.Notes.{Note}
-use Rattle.dip_desk.specs.MapChart.{Chart}
+use Rattle.dip_map.specs.Charts.{Chart}
 use Rattle.dip_desk.specs.State.{State, Seat, Nothing, Pending, Opens}
 use Rattle.dip_desk.specs.Machine.{Decides, SeatName, Seen, Step, Verdict, NotKnown, Taken, reply_of, seen, verdict_on}
-use Rattle.dip_desk.specs.TextsRecords.{Reply}
+use Rattle.dip_reports.specs.Records.{Reply}
 use Rattle.dip_desk.specs.View.{Event, IsAnsweredFromSeen, IsHistory, IsRun, IsSettledByView, IsShownByOthers, Reaches, Turn, absorb_all, author_in, left_by, own_events, replies_to, reply_in, shown, shown_by, told, verdict_events, view, writes}
 use Rattle.dip_desk.proofs.Seeing.{absorb_all-append, step_seen, step_told, told-append}
 

@@ -2,7 +2,7 @@
 use Rattle.std.proofs.Common.{◌≡◌, List, [], ◌∷◌, ◌++◌, Option, None, Some, refl, ap, append_assoc, sym, ◌∙◌, ℕ}
 use Rattle.dip_desk.specs.State.{NewSeat}
 use Rattle.dip_letters.specs.Notes.{SeatNote}
-use Rattle.dip_desk.specs.MapChart.{Chart}
+use Rattle.dip_map.specs.Charts.{Chart}
 use Rattle.dip_desk.specs.Machine.{new_seat, new_seats, with_more}
 
 -- what is found behind these

@@ -5,10 +5,10 @@ use Rattle.std.specs.Option.{option_or}
 use Rattle.std.proofs.lemmas.Bool.{false≢true}
 use Rattle.dip_letters.specs.Notes.{Note}
 use Rattle.dip_desk.specs.Keyed.{change_at}
-use Rattle.dip_desk.specs.MapChart.{Chart}
+use Rattle.dip_map.specs.Charts.{Chart}
 use Rattle.dip_desk.specs.State.{State, Game, Author, Nobody, TheMaster, Seat, Effect, Nothing, Pending, Opens, NewSeat, fresh, game_at, name_of, opened, seat_at, with_pending, with_seat}
 use Rattle.dip_desk.specs.Machine.{Decides, SeatName, Seen, Verdict, NotKnown, Taken, after, reply_of, seen, seen_in, verdict_on}
-use Rattle.dip_desk.specs.TextsRecords.{Public, Own, Reply}
+use Rattle.dip_reports.specs.Records.{Public, Own, Reply}
 use Rattle.dip_desk.specs.View.{Event, Published, Seated, absorb, absorb_all, effect_events, is_seat, own_after, own_events, seated_in, shown, told, told_at, verdict_events, writes}
 use Rattle.dip_desk.proofs.KeyedLemmas.{at-append, at-change_at_other, at-change_at_same, names_tell, powers_tell}
 use Rattle.dip_desk.proofs.Suiting.{decides_suits, opens_where, orders_where}

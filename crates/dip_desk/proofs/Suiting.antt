@@ -2,11 +2,11 @@
 use Rattle.std.proofs.Common.{◌≡◌, ℕ, Bool, true, false, cond, List, Option, Some, None, refl, sym, subst}
 use Rattle.dip_letters.specs.Notes.{Note, Request}
 use Rattle.dip_letters.specs.Notes.Request.{Create, Orders, Show}
-use Rattle.dip_desk.specs.MapChart.{Chart}
+use Rattle.dip_map.specs.Charts.{Chart}
 use Rattle.dip_desk.specs.State.{State, Game, Author, Nobody, TheMaster, Seat, Effect, Nothing, Pending, Opens, NewSeat, game_at, seat_at}
 use Rattle.dip_desk.specs.Machine.{Decides, Verdict, NotKnown, Taken, are_complete, created, master_verdict, new_seats, open_game, opening_public, refused, seen_in, verdict_by, verdict_on}
-use Rattle.dip_desk.specs.TextsRecords.{Public, Own}
-use Rattle.dip_desk.specs.declared.texts.refusals.Refusal.TheVariants.{Malformed}
+use Rattle.dip_reports.specs.Records.{Public, Own}
+use Rattle.dip_reports.specs.declared.refusals.Refusal.TheVariants.{Malformed}
 
 abbrev pub Suits : List ℕ → Author → Option Game → Effect → Type 0
 Suits name Nobody game e = ⊥

@@ -1,9 +1,3 @@
-pub mod MapChart
-pub mod MapChecks
-pub mod MapBoard
-pub mod Texts
-pub mod TextsRecords
-pub mod TextsRows
 pub mod Keyed
 pub mod State
 pub mod Faults
@@ -11,14 +5,6 @@ pub mod Rows
 pub mod Stored
 pub mod Machine
 pub mod Verdicts
-pub mod OrdersFaults
 pub mod Ordering
 pub mod OrderingRows
 pub mod View
-pub mod OrdersTokens
-pub mod OrdersScan
-pub mod OrdersForms
-pub mod OrdersDrafts
-pub mod OrdersRules
-pub mod OrdersTexts
-pub mod OrdersReading

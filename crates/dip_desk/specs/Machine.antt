@@ -7,15 +7,15 @@ use Rattle.dip_letters.specs.Notes.{Note, Request, SeatNote}
 use Rattle.dip_letters.specs.Notes.Request.{Create, Orders, Show}
 use Rattle.dip_letters.specs.declared.letters.LetterFault.{LetterFault}
 use Rattle.dip_letters.specs.declared.letters.LetterFault.TheVariants.{Malformed as Unreadable, TooLong as OverLong}
-use Rattle.dip_desk.specs.MapChart.{Chart, power_of}
-use Rattle.dip_desk.specs.MapBoard.{opening}
+use Rattle.dip_map.specs.Charts.{Chart, power_of}
+use Rattle.dip_map.specs.Boards.{opening}
 use Rattle.dip_desk.specs.Ordering.{Ordered, has_foreign, lines_of, ordered}
 use Rattle.dip_desk.specs.State.{State, Game, Author, Nobody, TheMaster, Seat, Effect, Nothing, Pending, Opens, NewSeat, changed, game_at, own_at, seat_at}
-use Rattle.dip_desk.specs.Texts.{numbers, opening_paper, refusal_text, show_text}
-use Rattle.dip_desk.specs.TextsRecords.{Public, Own, Head, Reply}
-use Rattle.dip_desk.specs.declared.texts.records.Status.TheVariants.{Running}
-use Rattle.dip_desk.specs.declared.texts.refusals.Refusal.{Refusal}
-use Rattle.dip_desk.specs.declared.texts.refusals.Refusal.TheVariants.{Malformed, Unknown, TooLong, WrongSender, NameTaken}
+use Rattle.dip_reports.specs.Texts.{numbers, opening_paper, refusal_text, show_text}
+use Rattle.dip_reports.specs.Records.{Public, Own, Head, Reply}
+use Rattle.dip_reports.specs.declared.records.Status.TheVariants.{Running}
+use Rattle.dip_reports.specs.declared.refusals.Refusal.{Refusal}
+use Rattle.dip_reports.specs.declared.refusals.Refusal.TheVariants.{Malformed, Unknown, TooLong, WrongSender, NameTaken}
 
 -- the digest of a secret
 unfoldable pub digest : List ℕ → List ℕ → List ℕ → List ℕ

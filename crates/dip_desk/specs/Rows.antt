@@ -1,7 +1,7 @@
 -- What the desk's records say, without where they lie in memory.
 use Rattle.std.specs.Prelude.{map, option_map, string_bytes}
 use Rattle.dip_desk.specs.State as s
-use Rattle.dip_desk.specs.TextsRows as texts
+use Rattle.dip_reports.specs.Rows as texts
 use Rattle.dip_desk.specs.declared.keeper.Desk.{Desk}
 use Rattle.dip_desk.specs.declared.keeper.Author.{Author}
 use Rattle.dip_desk.specs.declared.keeper.Author.TheVariants.{Nobody, TheMaster, Seat}

@@ -1,7 +1,7 @@
 -- What the desk keeps, its named parts, and what a change makes of it.
 use Rattle.std.specs.Prelude.{ℕ, ◌==◌, false, List, [], ◌∷◌, ◌++◌, Option, None, option_map, option_and_then, map, bytes_eq}
 use Rattle.dip_desk.specs.Keyed.{at, change_at}
-use Rattle.dip_desk.specs.TextsRecords.{Public, Own, Kept}
+use Rattle.dip_reports.specs.Records.{Public, Own, Kept}
 
 -- the master's row
 pub record Desk : Type 0 where

@@ -1,10 +1,10 @@
 -- What one seat is shown by a history, and what follows from it alone.
 use Rattle.std.specs.Prelude.{ℕ, ◌≡◌, ◌≢◌, ◌==◌, ◌&&◌, ◌↔◌, Bool, true, false, List, [], ◌∷◌, ◌++◌, Option, None, Some, option_map, bytes_eq, flat_map, map, if◌then◌else◌}
 use Rattle.dip_letters.specs.Notes.{Note}
-use Rattle.dip_desk.specs.MapChart.{Chart}
+use Rattle.dip_map.specs.Charts.{Chart}
 use Rattle.dip_desk.specs.State.{State, Author, Nobody, TheMaster, Seat, Effect, Nothing, Pending, Opens, NewSeat, fresh, with_pending}
 use Rattle.dip_desk.specs.Machine.{Decides, SeatName, Seen, Verdict, NotKnown, Taken, after, author, reply_of, seen, verdict_on}
-use Rattle.dip_desk.specs.TextsRecords.{Public, Own, Reply}
+use Rattle.dip_reports.specs.Records.{Public, Own, Reply}
 
 -- one step of a history: the state before it, the letter, and what was decided. What it leaves follows
 pub record Turn : Type 0 where

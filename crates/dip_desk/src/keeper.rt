@@ -2,11 +2,11 @@
 ghost use Rattle.std.specs.Prelude.{◌≡◌, ◌⊎◌, ℕ, ◌<◌, IfOk, IsErrOf, OnOk, OnErr, option_map};
 ghost use Rattle.dip_desk.specs.State.{State, changed, own_at, public_at};
 ghost use Rattle.dip_desk.specs.Rows as rows;
-ghost use Rattle.dip_desk.specs.TextsRows as texts;
+ghost use Rattle.dip_reports.specs.Rows as texts;
 ghost use Rattle.dip_desk.specs.Faults.{faults_after};
 
-use crate::map::{Map, Power};
-use crate::texts::{Kept, Own, Public};
+use dip_map::{Map, Power};
+use dip_reports::{Kept, Own, Public};
 use std::alloc::{AllocError, AllocFailed};
 
 /// The master's row.

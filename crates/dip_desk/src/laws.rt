@@ -1,6 +1,6 @@
 //! Laws of the desk machine, each the contract of a function that does nothing.
 ghost use Rattle.std.specs.Prelude.{List};
-ghost use Rattle.dip_desk.specs.MapChart.{Chart};
+ghost use Rattle.dip_map.specs.Charts.{Chart};
 ghost use Rattle.dip_desk.specs.State.{State};
 ghost use Rattle.dip_desk.specs.View.{IsAnsweredFromSeen, IsRun, IsSettledByView, IsShownByOthers, Turn};
 

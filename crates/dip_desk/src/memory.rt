@@ -3,12 +3,12 @@ ghost use Rattle.std.specs.Prelude.{◌≡◌, [], ◌==◌, IfOk, bytes_eq, map
 ghost use Rattle.dip_desk.specs.Keyed.{at, change_at, place};
 ghost use Rattle.dip_desk.specs.State as s;
 ghost use Rattle.dip_desk.specs.Rows as rows;
-ghost use Rattle.dip_desk.specs.TextsRows as texts;
+ghost use Rattle.dip_reports.specs.Rows as texts;
 ghost use Rattle.dip_desk.specs.Stored as stored;
 
 use crate::keeper::{Author, Change, Desk, Effect, KeepFault, Keeper, NewSeat};
-use crate::map::{Map, Power};
-use crate::texts::{Kept, Own, Public};
+use dip_map::{Map, Power};
+use dip_reports::{Kept, Own, Public};
 use std::alloc::{AllocError, Global};
 
 /// A game as it lies in memory.

@@ -4,18 +4,18 @@ ghost use Rattle.dip_letters.specs.Views.{lines_in, note, request, seat_note, se
 ghost use Rattle.dip_desk.specs.State as s;
 ghost use Rattle.dip_desk.specs.Machine as m;
 ghost use Rattle.dip_desk.specs.Rows as rows;
-ghost use Rattle.dip_desk.specs.TextsRows as texts;
+ghost use Rattle.dip_reports.specs.Rows as texts;
 ghost use Rattle.dip_desk.specs.Faults.{faults_after, faults_after_run};
 ghost use Rattle.dip_desk.specs.Verdicts.{verdict};
 ghost use Rattle.dip_desk.specs.Ordering.{has_foreign, ordered};
-ghost use Rattle.dip_desk.specs.TextsRecords as records;
+ghost use Rattle.dip_reports.specs.Records as records;
 ghost use Rattle.dip_desk.specs.View.{IsHistory, IsSettledByView, Turn};
 
 use crate::keeper::{Author, Change, Effect, KeepFault, Keeper, NewSeat};
-use crate::map::{Board, Map, Power};
 use crate::ordering::{Ordered, order_lines, standing_orders, take_lines};
-use crate::texts::{Head, Own, Public, Refusal, Reply, Status, opening_paper_text, show_text};
 use dip_letters::{Command, Letter, LetterFault, Lines, Opening, Seat, Seats, digest};
+use dip_map::{Board, Map, Power};
+use dip_reports::{Head, Own, Public, Refusal, Reply, Status, opening_paper_text, show_text};
 use std::alloc::{AllocError, Global};
 
 /// What is decided of a letter.

@@ -6,7 +6,7 @@ use Rattle.std.proofs.lemmas.List.Concat.{flat_map-append}
 use Rattle.std.specs.Fmt.{decimal}
 use Rattle.std.specs.List.{flat_map}
 use Rattle.std.specs.Io.KnownBytes.{Appends}
-use Rattle.dip_desk.specs.Texts.{reply_text}
+use Rattle.dip_reports.specs.Texts.{reply_text}
 use Rattle.std.proofs.KnownBytes.{Appends-trans}
 
 -- one write more

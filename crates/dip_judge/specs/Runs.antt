@@ -7,10 +7,10 @@ use Rattle.dip_letters.specs.Views.{note}
 use Rattle.dip_letters.specs.declared.letters.Next.{Next}
 use Rattle.dip_letters.specs.declared.letters.Next.TheVariants.{Taken, Fault, End}
 use Rattle.dip_desk.specs.Machine.{Step, fault_reply}
-use Rattle.dip_desk.specs.MapChart.{Chart}
+use Rattle.dip_map.specs.Charts.{Chart}
 use Rattle.dip_desk.specs.State.{State}
-use Rattle.dip_desk.specs.Texts.{reply_text}
-use Rattle.dip_desk.specs.TextsRecords.{Reply}
+use Rattle.dip_reports.specs.Texts.{reply_text}
+use Rattle.dip_reports.specs.Records.{Reply}
 
 -- the reader gave the whole input, which is within the limit, and nothing is left
 pub record IsReadWhole (before after : Option (List ℕ)) (input : List ℕ) : Type 0 where

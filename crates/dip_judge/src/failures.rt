@@ -7,7 +7,8 @@ ghost use Rattle.std.specs.IoError.{error_kind};
 
 use crate::args::UsageFault;
 use crate::run::RunFault;
-use dip_desk::{KeepFault, MapFault};
+use dip_desk::KeepFault;
+use dip_map::MapFault;
 use std::alloc::AllocError;
 use std::{fmt, io};
 

@@ -6,8 +6,9 @@ mod failures;
 mod run;
 
 use args::read_args;
-use dip_desk::{Map, MemoryKeeper};
+use dip_desk::MemoryKeeper;
 use dip_letters::digest;
+use dip_map::Map;
 use failures::Failure;
 use run::run_file;
 use std::alloc::Global;

@@ -3,13 +3,15 @@ ghost use Rattle.std.specs.Prelude.{◌≡◌, ◌<◌, ◌⊎◌, ℕ, List, If
 ghost use Rattle.std.specs.List.{flat_map};
 ghost use Rattle.std.specs.Io.KnownBytes.{Appends};
 ghost use Rattle.dip_letters.specs.Input.{IsNext};
-ghost use Rattle.dip_desk.specs.Texts.{reply_text};
-ghost use Rattle.dip_desk.specs.TextsRows as rows;
+ghost use Rattle.dip_reports.specs.Texts.{reply_text};
+ghost use Rattle.dip_reports.specs.Rows as rows;
 ghost use Rattle.dip_judge.specs.Runs.{AnswersAll, IsReadToEnd, IsReadWhole, IsTurn, IsUntouched, Stops};
 ghost use Rattle.dip_judge.specs.RunFaults.{IsAnsweringFault, IsReadingFault, IsTakingFault, StopsBy, faults_after_run};
 
-use dip_desk::{KeepFault, Keeper, Map, Reply, fault_reply, take};
+use dip_desk::{KeepFault, Keeper, fault_reply, take};
 use dip_letters::{Next, next_letter};
+use dip_map::Map;
+use dip_reports::Reply;
 use itoa::Buffer;
 use std::alloc::Global;
 use std::io::{Read, Write};

@@ -2,9 +2,10 @@
 ghost use Rattle.std.specs.Prelude.{◌≡◌, ◌<◌, IfSome, MatchOption};
 ghost use Rattle.dip_desk.specs.Faults.{faults_with};
 
-use crate::map::{Map, Power};
 use crate::tests::letters::{CREATE, ORDERS, SHOW, desk, letter};
-use crate::{Change, Desk, KeepFault, Keeper, MemoryKeeper, Own, Public, run};
+use crate::{Change, Desk, KeepFault, Keeper, MemoryKeeper, run};
+use dip_map::{Map, Power};
+use dip_reports::{Own, Public};
 use std::test::Fail;
 
 /// A keeper in memory that answers a fault at one of its calls.

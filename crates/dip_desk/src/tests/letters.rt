@@ -1,7 +1,7 @@
-use crate::map::Map;
-use crate::texts::opening_paper_text;
-use crate::{KeepFault, Keeper, MemoryKeeper, fault_reply, reply_text, run, take};
+use crate::{KeepFault, Keeper, MemoryKeeper, fault_reply, run, take};
 use dip_letters::{Letter, LetterFault, Next, digest, next_letter};
+use dip_map::Map;
+use dip_reports::{opening_paper_text, reply_text};
 use std::alloc::Global;
 use std::process::Abort;
 use std::test::Fail;

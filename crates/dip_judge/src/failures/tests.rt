@@ -2,7 +2,8 @@
 use super::Failure;
 use crate::args::{UsageFault, read_args};
 use crate::run::RunFault;
-use dip_desk::{KeepFault, MapFault};
+use dip_desk::KeepFault;
+use dip_map::MapFault;
 use std::test::Fail;
 
 #[test]

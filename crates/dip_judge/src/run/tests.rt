@@ -1,7 +1,8 @@
 //! Whole inputs, and what is written for them.
 use super::{MOST_INPUT, RunFault, run_file};
-use dip_desk::{Map, MemoryKeeper};
+use dip_desk::MemoryKeeper;
 use dip_letters::digest;
+use dip_map::Map;
 use std::alloc::Global;
 use std::io;
 use std::io::{Read, Write};

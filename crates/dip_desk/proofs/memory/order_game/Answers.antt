@@ -2,8 +2,8 @@ use Rattle.std.proofs.Common.{◌≡◌, ◌<◌, length, get_or, arith, map, by
 use Rattle.dip_desk.specs.Keyed.{place}
 use Rattle.dip_desk.specs.State as s
 use Rattle.dip_desk.specs.Stored as stored
-use Rattle.dip_desk.specs.TextsRecords.{Own}
-use Rattle.dip_desk.specs.TextsRows as texts
+use Rattle.dip_reports.specs.Records.{Own}
+use Rattle.dip_reports.specs.Rows as texts
 use Rattle.dip_desk.proofs.KeyedLemmas.{said_kept, said_set}
 use Rattle.dip_desk.proofs.memory.order_game.Goals as goal
 

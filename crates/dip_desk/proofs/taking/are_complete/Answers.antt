@@ -1,9 +1,9 @@
 use Rattle.std.proofs.Common.{◌≡◌, ◌==◌, ℕ, Bool, true, false, map, sym, ◌∙◌, arith}
 use Rattle.std.specs.Prelude.{count_by}
-use Rattle.dip_desk.specs.MapChart.{no_realm}
+use Rattle.dip_map.specs.Charts.{no_realm}
 use Rattle.dip_desk.specs.Rows as rows
 use Rattle.dip_desk.specs.State.{NewSeat}
-use Rattle.dip_desk.proofs.TextLemmas.{all_fails, all_holds}
+use Rattle.dip_desk.proofs.NumberLemmas.{all_fails, all_holds}
 use Rattle.dip_desk.proofs.taking.are_complete.Goals as goal
 
 pub returns-then-not-has_one_seat : goal.returns-then-not-has_one_seat

@@ -1,7 +1,7 @@
 use Rattle.std.proofs.Common.{◌≡◌, [], ◌∷◌, ◌++◌, map, take, arith, sym, ap, ◌∙◌}
 use Rattle.std.proofs.lemmas.List.{take_all}
 use Rattle.dip_letters.specs.Views.{note}
-use Rattle.dip_desk.specs.TextsRows as texts
+use Rattle.dip_reports.specs.Rows as texts
 use Rattle.dip_desk.proofs.Runs.{history_more, map_more, settled, taken_more}
 use Rattle.dip_desk.proofs.taking.run.Goals as goal
 

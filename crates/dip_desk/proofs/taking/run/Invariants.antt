@@ -1,6 +1,6 @@
 use Rattle.std.proofs.Common.{◌≡◌, List, map, take, length, vec_len, vec_capacity}
 use Rattle.dip_letters.specs.Views.{note}
-use Rattle.dip_desk.specs.TextsRows as texts
+use Rattle.dip_reports.specs.Rows as texts
 use Rattle.dip_desk.specs.View.{IsHistory, Turn}
 use Rattle.dip_desk.proofs.taking.run.Given as goal
 

@@ -1,8 +1,8 @@
 use Rattle.std.proofs.Common.{◌≡◌, List, length}
 use Rattle.std.specs.List.{flat_map}
 use Rattle.std.specs.Io.KnownBytes.{Appends}
-use Rattle.dip_desk.specs.Texts.{reply_text}
-use Rattle.dip_desk.specs.TextsRecords.{Reply}
+use Rattle.dip_reports.specs.Texts.{reply_text}
+use Rattle.dip_reports.specs.Records.{Reply}
 use Rattle.dip_judge.specs.Runs.{IsRunTo}
 use Rattle.dip_judge.proofs.run.answer_all.Given as goal
 

@@ -1,0 +1,42 @@
+use Rattle.std.proofs.Common.{◌≡◌, ℕ, ◌+◌, ◌<◌, length, drop, List, [], ◌∷◌, ◌++◌, Option, Some, None, append_assoc, ◌∙◌, true, zero, suc, get_or, arith, cond, nat_lt, inl, inr, refl, ◌==◌}
+use Rattle.std.proofs.lemmas.List.{drop_more}
+use Rattle.std.proofs.lemmas.Bool.{cases_Bool}
+use Rattle.std.specs.List.{list_any, position_or_len}
+use Rattle.dip_map.specs.Charts.{Chart, Province, IsMap, no_province}
+use Rattle.dip_map.specs.Boards.{IsOf, is_some_power, owner_at, owners_from, opening}
+
+pub owners_step : (m : Chart) (front all : List (Option ℕ)) (i : ℕ) → i < length m.provinces → front ++ owners_from m i (drop i m.provinces) ≡ all
+    → (front ++ owner_at m i ∷ []) ++ owners_from m (i + 1) (drop (i + 1) m.provinces) ≡ all
+owners_step m front all i h before =
+    let cut = drop_more m.provinces i no_province h in
+    append_assoc front (owner_at m i ∷ []) (owners_from m (i + 1) (drop (i + 1) m.provinces)) ∙ rw cut at before
+
+owners_count : (m : Chart) (i : ℕ) (ps : List Province) → length (owners_from m i ps) ≡ length ps
+owners_count m i [] = omega arith
+owners_count m i (p ∷ ps) = omega (arith, owners_count m (i + 1) ps)
+
+-- a number that is answered only below a bound is below it
+below_bound : (m : Chart) (n : ℕ) → is_some_power m (cond (nat_lt n (length m.realms)) (Some n) None) ≡ true
+below_bound m n =
+    elim (cases_Bool (nat_lt n (length m.realms))) [
+      | inl low ↦ rw (low, low) refl
+      | inr past ↦ rw past refl
+    ]
+
+owner_within : (m : Chart) (p : ℕ) → is_some_power m (owner_at m p) ≡ true
+owner_within m p = below_bound m (position_or_len (λ r. list_any (λ x. x == p) r.home) m.realms)
+
+owners_within : (m : Chart) (i : ℕ) (ps : List Province) (k : ℕ) (d : Option ℕ) → k < length (owners_from m i ps) → is_some_power m (get_or (owners_from m i ps) k d) ≡ true
+owners_within m i [] k d h = absurd (omega arith)
+owners_within m i (p ∷ ps) zero d h = owner_within m i
+owners_within m i (p ∷ ps) (suc k) d h = let low : k < length (owners_from m (i + 1) ps) = omega arith in owners_within m (i + 1) ps k d low
+
+-- the board of the opening is one of its map
+pub opening_law : (m : Chart) → IsMap m → IsOf m (opening m)
+opening_law m ok = record {
+  units = ok.units;
+  dislodged = λ k d h. absurd (omega arith);
+  standoff = λ k d h. absurd (omega arith);
+  owners = owners_within m 0 m.provinces;
+  owners_count = owners_count m 0 m.provinces;
+}

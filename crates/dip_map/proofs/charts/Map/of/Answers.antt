@@ -1,0 +1,6 @@
+use Rattle.std.proofs.Common.{sym}
+use Rattle.dip_map.proofs.MapLaws.{map_law}
+use Rattle.dip_map.proofs.charts.Map.of.Goals as goal
+
+pub invariant_of-result : goal.invariant_of-result
+invariant_of-result c = map_law _ (sym c.in_default.ensures)

@@ -1,0 +1,197 @@
+ghost use Rattle.std.specs.Prelude.{◌≡◌, ◌<◌, length, All, MatchResult, true};
+ghost use Rattle.dip_map.specs.Charts.{IsMap, province, realm, shore, army_next, fleet_next, home, prov_of, power_of, coast_of, is_centre};
+ghost use Rattle.dip_map.specs.Charts.{is_fleet_place, may_stand, is_unit, is_army_next, is_fleet_next};
+ghost use Rattle.dip_map.specs.Checks.{first_fault};
+
+use crate::faults::MapFault;
+use crate::names::{Kind, Place, Power, Prov, Terrain, Unit};
+use crate::parts::{Parts, Realm};
+use std::marker::Model;
+
+/// A map whose parts were checked: within limits, well formed, each neighbour named back.
+///
+/// The look-ups take any number: what isn't on the map has empty names and lists.
+#[derive(Drop)]
+pub struct Map {
+    parts: Parts,
+}
+
+impl Model for Map {
+    ghost use Rattle.dip_map.specs.Charts.{Chart, IsMap};
+
+    ghost Value = { Chart };
+
+    ghost view = { λ m. m.parts };
+
+    ghost invariant = { λ m. IsMap m.parts };
+}
+
+impl Map {
+    /// The map of these parts, or the first fault that they have.
+    pub fn of(parts: Parts) -> Result<Map, MapFault>
+        ensures { MatchResult result (λ m. (first_fault parts ≡ None) × (m ≡ parts)) (λ e. first_fault parts ≡ Some e) }
+    {
+        if let Some(fault) = parts.first_fault() {
+            return Err(fault);
+        }
+        Ok(Map { parts })
+    }
+
+    /// What each map keeps.
+    pub fn facts(&self)
+        ensures { IsMap self.now }
+    {
+        let _ = &self.parts;
+    }
+
+    /// How many provinces there are.
+    pub fn provinces(&self) -> usize
+        ensures { result ≡ length self.now.provinces }
+    {
+        self.parts.provinces.len()
+    }
+
+    /// How many powers there are.
+    pub fn powers(&self) -> usize
+        ensures { result ≡ length self.now.realms }
+    {
+        self.parts.realms.len()
+    }
+
+    /// Where an army goes from a province.
+    pub fn army_next(&self, p: Prov) -> &[Prov]
+        ensures list { result.now ≡ army_next self.now p }
+        ensures within { All (λ q. q < length self.now.provinces) result.now }
+    {
+        self.parts.army_next(p)
+    }
+
+    /// Where a fleet goes from a place.
+    pub fn fleet_next(&self, a: Place) -> &[Place]
+        ensures list { result.now ≡ fleet_next self.now a }
+        ensures within { All (λ b. is_fleet_place self.now b ≡ true) result.now }
+    {
+        self.parts.fleet_next(a)
+    }
+
+    /// Whether an army goes from one province to the other.
+    pub fn is_army_next(&self, p: Prov, q: Prov) -> bool
+        ensures { result ≡ is_army_next self.now p q }
+    {
+        self.parts.is_army_next(p, q)
+    }
+
+    /// Whether a fleet goes from one place to the other.
+    pub fn is_fleet_next(&self, a: Place, b: Place) -> bool
+        ensures { result ≡ is_fleet_next self.now a b }
+    {
+        self.parts.is_fleet_next(a, b)
+    }
+
+    /// What a province is.
+    pub fn kind(&self, p: Prov) -> Terrain
+        ensures { result ≡ (province self.now p).terrain }
+    {
+        self.parts.kind(p)
+    }
+
+    /// Whether a province is a supply centre.
+    pub fn is_centre(&self, p: Prov) -> bool
+        ensures { result ≡ is_centre self.now p }
+    {
+        self.parts.is_centre(p)
+    }
+
+    /// The code of a province, three letters.
+    pub fn code(&self, p: Prov) -> &str
+        ensures { result.now ≡ (province self.now p).code }
+    {
+        self.parts.code(p)
+    }
+
+    /// The full name of a province.
+    pub fn name(&self, p: Prov) -> &str
+        ensures { result.now ≡ (province self.now p).name }
+    {
+        self.parts.name(p)
+    }
+
+    /// The province with a code.
+    pub fn prov(&self, code: &[u8]) -> Option<Prov>
+        ensures { result ≡ prov_of self.now code.now }
+    {
+        match self.parts.prov_index(code) {
+            Some(index) => Some(Prov::new(index as u8)),
+            None => None,
+        }
+    }
+
+    /// How many coasts a province has, 1 where it has none of its own and takes fleets.
+    pub fn coasts(&self, p: Prov) -> usize
+        ensures { result ≡ length (province self.now p).shores }
+    {
+        self.parts.coasts(p)
+    }
+
+    /// The name of a place's coast, empty where the province has no coasts of its own.
+    pub fn coast_name(&self, a: Place) -> &str
+        ensures { result.now ≡ (shore self.now a).name }
+    {
+        self.parts.coast_name(a)
+    }
+
+    /// The number of a province's coast with a name.
+    pub fn coast(&self, p: Prov, name: &[u8]) -> Option<u8>
+        ensures { result ≡ coast_of self.now p name.now }
+    {
+        match self.parts.coast_index(p, name) {
+            Some(index) => Some(index as u8),
+            None => None,
+        }
+    }
+
+    /// The home centres of a power.
+    pub fn home(&self, power: Power) -> &[Prov]
+        ensures list { result.now ≡ home self.now power }
+        ensures within { All (λ p. p < length self.now.provinces) result.now }
+    {
+        self.parts.home(power)
+    }
+
+    /// The name of a power.
+    pub fn power_name(&self, power: Power) -> &str
+        ensures { result.now ≡ (realm self.now power).name }
+    {
+        self.parts.power_name(power)
+    }
+
+    /// The power with a name.
+    pub fn power(&self, name: &str) -> Option<Power>
+        ensures { result ≡ power_of self.now name.now }
+    {
+        match self.parts.power_index(name) {
+            Some(index) => Some(Power::new(index as u8)),
+            None => None,
+        }
+    }
+
+    /// Whether a unit of that kind may be at the place, which is then one of the map.
+    pub fn may_stand(&self, kind: Kind, place: Place) -> bool
+        ensures { result ≡ may_stand self.now kind place }
+    {
+        self.parts.may_stand(kind, place)
+    }
+
+    /// Whether a unit is one of the map.
+    pub fn is_unit(&self, unit: &Unit) -> bool
+        ensures { result ≡ is_unit self.now unit.now }
+    {
+        self.parts.is_unit(unit)
+    }
+
+    pub(crate) fn realms(&self) -> &[Realm]
+        ensures { result.now ≡ self.now.realms }
+    {
+        self.parts.realms.as_slice()
+    }
+}

@@ -1,0 +1,5 @@
+pub mod TokenLaws
+pub mod SpellingLaws
+pub mod FormLaws
+pub mod PrintLaws
+pub mod RoundTrip

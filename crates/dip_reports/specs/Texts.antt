@@ -1,0 +1,129 @@
+-- The printed texts: each is a function of its record. Every line ends with LF.
+use Rattle.std.specs.Prelude.{ℕ, Bool, true, false, List, [], ◌∷◌, ◌++◌, ◌==◌, ◌+◌, codes, if◌then◌else◌, map, filter, flat_map, length, Option, None, Some, slice_index_or}
+use Rattle.std.specs.Fmt.{decimal}
+use Rattle.dip_map.specs.declared.boards.Phase.{Phase}
+use Rattle.dip_map.specs.Boards.{Position}
+use Rattle.dip_map.specs.declared.boards.Season.{Season}
+use Rattle.dip_map.specs.declared.boards.Season.TheVariants.{SpringMoves, SpringRetreats, FallMoves, FallRetreats, Winter}
+use Rattle.dip_reports.specs.declared.records.Status.{Status}
+use Rattle.dip_reports.specs.declared.records.Status.TheVariants.{Running}
+use Rattle.dip_reports.specs.declared.refusals.Refusal.{Refusal}
+use Rattle.dip_reports.specs.declared.refusals.Refusal.TheVariants.{Malformed, Unknown, TooLong, WrongSender, NameTaken}
+use Rattle.dip_reports.specs.Records.{Public, Own, Head, Reply}
+use Rattle.dip_map.specs.Charts.{Chart, province, realm}
+use Rattle.dip_orders.specs.Texts.{unit_text}
+use Rattle.dip_map.specs.declared.names.Unit.{Unit}
+use Rattle.dip_reports.specs.declared.board_lines.Force.{Force}
+
+-- `S1901M` and so on: the season, the year, and M for movement, R for retreats, A for adjustment
+unfoldable pub phase_text : Phase → List ℕ
+phase_text p = season_text p.season (decimal p.year)
+  where
+    season_text : Season → List ℕ → List ℕ
+    season_text SpringMoves year = codes "S" ++ year ++ codes "M"
+    season_text SpringRetreats year = codes "S" ++ year ++ codes "R"
+    season_text FallMoves year = codes "F" ++ year ++ codes "M"
+    season_text FallRetreats year = codes "F" ++ year ++ codes "R"
+    season_text Winter year = codes "W" ++ year ++ codes "A"
+
+unfoldable pub status_text : Status → List ℕ
+status_text Running = codes "running"
+
+abbrev pub yes_or_no : Bool → List ℕ
+yes_or_no b = if b then codes "YES" else codes "NO"
+
+unfoldable pub refusal_text : Refusal → List ℕ
+refusal_text Malformed = codes "L1 malformed letter"
+refusal_text Unknown = codes "L2 unknown game, sender or secret"
+refusal_text TooLong = codes "L5 letter over 16384 bytes"
+refusal_text WrongSender = codes "L9 command not for this sender"
+refusal_text NameTaken = codes "L11 name taken"
+
+-- when the next tick is due, what may be sent, and how many papers there are
+abbrev pub terms_text : Public → List ℕ
+terms_text p = codes " DUE " ++ decimal p.due ++ codes " PERIOD " ++ decimal p.period ++ codes " GREY " ++ yes_or_no p.grey
+    ++ codes " PAPERS " ++ decimal p.papers
+
+-- the game line
+unfoldable pub game_line : Public → List ℕ
+game_line p = codes "GAME " ++ p.game ++ codes " " ++ phase_text p.board.phase ++ codes " " ++ status_text p.status
+    ++ terms_text p ++ codes "\n"
+
+-- a unit that a board line lists
+abbrev pub force : Bool → Unit → Force
+force dislodged u = record { unit = u; dislodged = dislodged }
+
+-- the units of a power, standing and dislodged
+abbrev pub forces : Position → ℕ → List Force
+forces b power = map (force false) (filter (λ u. u.power == power) b.units)
+    ++ map (λ d. force true d.unit) (filter (λ d. d.unit.power == power) b.dislodged)
+
+-- the numbers of the items of a list, the first of which is number i
+abbrev pub numbers : {A : Type 0} → ℕ → List A → List ℕ
+numbers i [] = []
+numbers i (x ∷ xs) = i ∷ numbers (i + 1) xs
+
+abbrev pub in_province : List Force → ℕ → List Force
+in_province fs p = filter (λ f. f.unit.place.prov == p) fs
+
+abbrev pub by_province : Chart → List Force → List Force
+by_province m fs = flat_map (in_province fs) (numbers 0 m.provinces)
+
+abbrev pub is_owner : ℕ → Option ℕ → Bool
+is_owner power None = false
+is_owner power (Some p) = p == power
+
+-- who owns a province, if anybody does
+abbrev pub owner : Position → ℕ → Option ℕ
+owner b p = slice_index_or b.owners p None
+
+-- the centres that a power owns, by province
+abbrev pub centres : Chart → Position → ℕ → List ℕ
+centres m b power = filter (λ p. is_owner power (owner b p)) (numbers 0 m.provinces)
+
+-- texts with a separator between them, or `-` where there is none
+abbrev pub listed : List ℕ → List (List ℕ) → List ℕ
+listed separator [] = codes "-"
+listed separator (t ∷ ts) = t ++ flat_map (λ u. separator ++ u) ts
+
+-- a unit, with `*` behind it where it is dislodged
+abbrev pub force_text : Chart → Force → List ℕ
+force_text m f = unit_text m f.unit ++ (if f.dislodged then codes "*" else [])
+
+-- `power centres/units: units | centres`
+unfoldable pub listing : Chart → List ℕ → List ℕ → List Force → List ℕ
+listing m name owned units = name ++ codes " " ++ decimal (length owned) ++ codes "/" ++ decimal (length units) ++ codes ": "
+    ++ listed (codes ", ") (map (force_text m) units) ++ codes " | " ++ listed (codes " ") (map (λ p. (province m p).code) owned) ++ codes "\n"
+
+-- the line of a power
+unfoldable pub board_line : Chart → Position → ℕ → List ℕ
+board_line m b power = listing m (realm m power).name (centres m b power) (by_province m (forces b power))
+
+-- a line for each power, by name
+unfoldable pub board_lines : Chart → Position → List ℕ
+board_lines m b = flat_map (board_line m b) (numbers 0 m.realms)
+
+-- the first paper of a game
+abbrev pub opening_paper : Chart → Public → List ℕ
+opening_paper m p = codes "PAPER 1 opening\n" ++ game_line p ++ board_lines m p.board ++ codes "END\n"
+
+-- a line for each standing order
+abbrev pub order_lines : List (List ℕ) → List ℕ
+order_lines orders = flat_map (λ o. codes "ORDER " ++ o ++ codes "\n") orders
+
+-- what a seat alone may know
+abbrev pub own_lines : Own → List ℕ
+own_lines o = codes "VOTE " ++ yes_or_no o.vote ++ codes "\nSENT " ++ decimal o.sent ++ codes " INBOX " ++ decimal o.items ++ codes "\n"
+    ++ order_lines o.pending
+
+-- what SHOW answers
+abbrev pub show_text : Chart → Public → Own → List ℕ
+show_text m p o = game_line p ++ board_lines m p.board ++ own_lines o
+
+abbrev pub head_text : Option Head → List ℕ
+head_text None = codes "REPLY nobody 0\n"
+head_text (Some h) = codes "REPLY " ++ h.game ++ codes " " ++ h.sender ++ codes " " ++ decimal h.number ++ codes "\n"
+
+-- a reply: its head, its lines, END
+abbrev pub reply_text : Reply → List ℕ
+reply_text r = head_text r.head ++ r.text ++ codes "END\n"

@@ -1,0 +1,18 @@
+//! Records of a game and their printed texts.
+#![tactic(auto)]
+
+mod board_lines;
+mod game_line;
+mod opening_paper;
+mod records;
+mod refusals;
+mod replies;
+mod show;
+
+pub use board_lines::push_board_lines;
+pub use game_line::{push_game_line, push_phase};
+pub use opening_paper::opening_paper_text;
+pub use records::{Head, Kept, Own, Public, Reply, Status};
+pub use refusals::Refusal;
+pub use replies::reply_text;
+pub use show::show_text;

@@ -1,0 +1,22 @@
+//! The opening paper.
+ghost use Rattle.std.specs.Prelude.{◌≡◌, IfOk, string_bytes};
+ghost use Rattle.dip_reports.specs.Texts.{opening_paper};
+ghost use Rattle.dip_reports.specs.Rows as rows;
+
+use crate::board_lines::push_board_lines;
+use crate::game_line::push_game_line;
+use crate::records::Public;
+use dip_map::Map;
+use std::alloc::{AllocError, Global};
+
+/// The text of a game's first paper.
+pub fn opening_paper_text(alloc: Global, map: &Map, public: &Public) -> Result<String, AllocError>
+    ensures { IfOk result (λ text. string_bytes text ≡ opening_paper map.now (rows.public public.now)) }
+{
+    let mut out = String::new(alloc);
+    out.push_str("PAPER 1 opening\n")?;
+    push_game_line(public, &mut out)?;
+    push_board_lines(alloc, map, &public.board, &mut out)?;
+    out.push_str("END\n")?;
+    Ok(out)
+}

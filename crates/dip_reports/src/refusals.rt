@@ -1,0 +1,35 @@
+//! Why a letter is refused.
+use std::fmt;
+
+/// Why a letter is refused, printed as its line of the reply.
+#[derive(Clone, Copy, PartialEq, Eq, Debug)]
+pub enum Refusal {
+    /// The bytes are no letter, or the seats of CREATE aren't the map's powers, each once.
+    Malformed,
+    /// Nobody is the author, or the master's letter names no game.
+    Unknown,
+    /// The letter has more than 16,384 bytes.
+    TooLong,
+    /// The command isn't for this sender.
+    WrongSender,
+    /// A game of this name exists.
+    NameTaken,
+}
+
+impl fmt::Display for Refusal {
+    ghost use Rattle.std.specs.Prelude.{Some};
+    ghost use Rattle.dip_reports.specs.Texts.{refusal_text};
+
+    ghost output = { λ r. Some (refusal_text r) };
+
+    #[tactic(auto, unfolding(crate::specs::Texts::refusal_text))]
+    fn fmt<W: fmt::Write>(&self, f: &mut fmt::Formatter<W>) -> fmt::Result {
+        match self {
+            Refusal::Malformed => write!(f, "L1 malformed letter"),
+            Refusal::Unknown => write!(f, "L2 unknown game, sender or secret"),
+            Refusal::TooLong => write!(f, "L5 letter over 16384 bytes"),
+            Refusal::WrongSender => write!(f, "L9 command not for this sender"),
+            Refusal::NameTaken => write!(f, "L11 name taken"),
+        }
+    }
+}

@@ -2,10 +2,10 @@
 use Rattle.std.proofs.Common.{◌≡◌, ◌≢◌, ℕ, ◌<◌, ◌+◌, Bool, true, false, cond, List, [], ◌∷◌, ◌++◌, map, take, length, get_or, refl, sym, ◌∙◌, ap, subst, bytes_eq}
 use Rattle.std.proofs.lemmas.Bool.{false≢true}
 use Rattle.std.proofs.lemmas.List.{take_more}
-use Rattle.dip_letters.specs.Notes.{Note}
+use Rattle.dip_desk.specs.Mail.{Mail}
 use Rattle.dip_map.specs.Charts.{Chart}
 use Rattle.dip_desk.specs.State.{State, Seat, Nothing, Pending, Opens}
-use Rattle.dip_desk.specs.Machine.{Decides, SeatName, Seen, Step, Verdict, NotKnown, Taken, reply_of, seen, verdict_on}
+use Rattle.dip_desk.specs.Machine.{Decides, SeatName, Seen, Step, Verdict, NotKnown, Old, Taken, reply_of, seen, verdict_on}
 use Rattle.dip_reports.specs.Records.{Reply}
 use Rattle.dip_desk.specs.View.{Event, IsAnsweredFromSeen, IsHistory, IsRun, IsSettledByView, IsShownByOthers, Reaches, Turn, absorb_all, author_in, left_by, own_events, replies_to, reply_in, shown, shown_by, told, verdict_events, view, writes}
 use Rattle.dip_desk.proofs.Seeing.{absorb_all-append, step_seen, step_told, told-append}
@@ -70,6 +70,7 @@ shown_by_others seat n who v others = (there (bytes_eq n.game seat.game) v none,
     there : (b : Bool) (v : Verdict) → own_events (writes seat n who) n ≡ [] → own_events (writes seat n who) n ++ cond b (verdict_events seat.power v) [] ≢ [] → (b ≡ true) × Reaches v
     there false v e some = absurd (some (ap (λ (es : List Event). es ++ []) e))
     there true NotKnown e some = absurd (some (ap (λ (es : List Event). es ++ []) e))
+    there true (Old text) e some = absurd (some (ap (λ (es : List Event). es ++ []) e))
     there true (Taken text Nothing) e some = absurd (some (ap (λ (es : List Event). es ++ []) e))
     there true (Taken text (Pending lines)) e some = absurd (some (ap (λ (es : List Event). es ++ []) e))
     there true (Taken text (Opens public paper seats)) e some = (refl, tt)
@@ -77,6 +78,7 @@ shown_by_others seat n who v others = (there (bytes_eq n.game seat.game) v none,
     back : (b : Bool) (v : Verdict) → own_events (writes seat n who) n ≡ [] → (b ≡ true) × Reaches v → own_events (writes seat n who) n ++ cond b (verdict_events seat.power v) [] ≢ []
     back false v e h = absurd (false≢true h.0)
     back true NotKnown e h = absurd h.1
+    back true (Old text) e h = absurd h.1
     back true (Taken text Nothing) e h = absurd h.1
     back true (Taken text (Pending lines)) e h = absurd h.1
     back true (Taken text (Opens public paper seats)) e h =
@@ -92,14 +94,14 @@ pub map_more : {A B : Type 0} (f : A → B) (xs : List A) (x : A) → map f (xs 
 map_more f [] x = refl
 map_more f (y ∷ ys) x = ap (λ zs. f y ∷ zs) (map_more f ys x)
 
-pub history_more : (m : Chart) (old mid new : State) (letters : List Note) (replies : List Reply) (n : Note) (r : Reply)
+pub history_more : (m : Chart) (old mid new : State) (letters : List Mail) (replies : List Reply) (n : Mail) (r : Reply)
     → (ts : List Turn) × IsHistory m old letters replies mid ts → Step m mid n r new → (ts : List Turn) × IsHistory m old (letters ++ n ∷ []) (replies ++ r ∷ []) new ts
 history_more m old mid new letters replies n r h step =
     let t : Turn = record { before = mid; letter = n; verdict = step.0 } in (
       h.0 ++ t ∷ [],
       record {
         run = subst (λ (s : State). IsRun m old (h.0 ++ t ∷ []) s) (sym step.3) (run_more m h.0 old mid t h.1.run refl step.1);
-        asked = map_more (λ t. t.letter) h.0 t ∙ ap (λ (ns : List Note). ns ++ n ∷ []) h.1.asked;
+        asked = map_more (λ t. t.letter) h.0 t ∙ ap (λ (ns : List Mail). ns ++ n ∷ []) h.1.asked;
         answered = map_more (λ t. reply_in t) h.0 t ∙ ap (λ (rs : List Reply). rs ++ reply_in t ∷ []) h.1.answered ∙ ap (λ (x : Reply). replies ++ x ∷ []) (sym step.2);
       },
     )

@@ -3,6 +3,7 @@ pub mod State
 pub mod Faults
 pub mod Rows
 pub mod Stored
+pub mod Mail
 pub mod Machine
 pub mod Verdicts
 pub mod Ordering

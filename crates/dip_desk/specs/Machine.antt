@@ -1,50 +1,69 @@
 -- The desk machine: who wrote a letter, what is decided of it, what it leaves and what is replied.
-use Rattle.std.specs.Prelude.{true, ℕ, ◌≡◌, ◌==◌, Bool, List, [], ◌∷◌, ◌++◌, Option, None, Some, option_map, bytes_eq, codes, if◌then◌else◌, count_by}
+use Rattle.std.specs.Prelude.{true, ℕ, ◌≡◌, ◌==◌, Bool, List, [], ◌∷◌, ◌++◌, Option, None, Some, option_map, unwrap_or, bytes_eq, nat_lt, codes, if◌then◌else◌, count_by}
 use Rattle.std.specs.List.{list_all}
 use Rattle.sha2.specs.Sha256.{sha256}
 use Rattle.dip_letters.specs.Digests.{seat_text}
-use Rattle.dip_letters.specs.Notes.{Note, Request, SeatNote}
+use Rattle.dip_letters.specs.Notes.{Request, SeatNote}
 use Rattle.dip_letters.specs.Notes.Request.{Create, Orders, Show}
 use Rattle.dip_letters.specs.declared.letters.LetterFault.{LetterFault}
 use Rattle.dip_letters.specs.declared.letters.LetterFault.TheVariants.{Malformed as Unreadable, TooLong as OverLong}
 use Rattle.dip_map.specs.Charts.{Chart, power_of}
 use Rattle.dip_map.specs.Boards.{opening}
+use Rattle.dip_desk.specs.Mail.{Mail}
 use Rattle.dip_desk.specs.Ordering.{Ordered, has_foreign, lines_of, ordered}
 use Rattle.dip_desk.specs.State.{State, Game, Author, Nobody, TheMaster, Seat, Effect, Nothing, Pending, Opens, NewSeat, changed, game_at, own_at, seat_at}
 use Rattle.dip_reports.specs.Texts.{numbers, opening_paper, refusal_text, show_text}
-use Rattle.dip_reports.specs.Records.{Public, Own, Head, Reply}
+use Rattle.dip_reports.specs.Records.{Public, Own, Kept, Head, Reply}
 use Rattle.dip_reports.specs.declared.records.Status.TheVariants.{Running}
 use Rattle.dip_reports.specs.declared.refusals.Refusal.{Refusal}
-use Rattle.dip_reports.specs.declared.refusals.Refusal.TheVariants.{Malformed, Unknown, TooLong, WrongSender, NameTaken}
+use Rattle.dip_reports.specs.declared.refusals.Refusal.TheVariants.{Malformed, Unknown, Stale, NumberUsed, TooLong, WrongSender, NameTaken}
 
 -- the digest of a secret
 unfoldable pub digest : List ℕ → List ℕ → List ℕ → List ℕ
 digest game sender secret = sha256 (seat_text game sender secret)
 
 -- the master, where the desk has the digest of the letter's secret
-abbrev pub master_author : Note → State → Author
+abbrev pub master_author : Mail → State → Author
 master_author n s = if bytes_eq (digest (codes "desk") (codes "master") n.secret) s.desk.digest then TheMaster else Nobody
 
 -- the seat, where it has the digest of the letter's secret
-abbrev pub seat_author : Note → ℕ → Option Own → Author
+abbrev pub seat_author : Mail → ℕ → Option Own → Author
 seat_author n power None = Nobody
 seat_author n power (Some o) = if bytes_eq (digest n.game n.sender n.secret) o.digest then Seat power else Nobody
 
-abbrev pub power_author : Note → Option ℕ → State → Author
+abbrev pub power_author : Mail → Option ℕ → State → Author
 power_author n None s = Nobody
 power_author n (Some power) s = seat_author n power (own_at n.game power s)
 
 -- who wrote the letter
-abbrev pub author : Chart → Note → State → Author
+abbrev pub author : Chart → Mail → State → Author
 author m n s = if bytes_eq n.sender (codes "master") then master_author n s else power_author n (power_of m n.sender) s
 
--- what is decided of a letter: its game, sender or secret isn't known, or it gets these lines and has this effect
+-- what is decided of a letter: its game, sender or secret isn't known; its number is an old one, and it gets these lines;
+-- or it gets these lines, has this effect and is kept
 pub data Verdict : Type 0 where
   NotKnown : Verdict
+  Old : (text : List ℕ) → Verdict
   Taken : (text : List ℕ) → (effect : Effect) → Verdict
 
 abbrev pub refusal_line : Refusal → List ℕ
 refusal_line r = refusal_text r ++ codes "\n"
+
+-- a letter with its author's last number: the same letter again gets the same reply
+abbrev pub repeated : Mail → Kept → List ℕ
+repeated n k = if bytes_eq n.sum k.sum then k.reply else refusal_line (NumberUsed k.number)
+
+-- what an old number comes to; None where the number is new
+abbrev pub old_number : Mail → Option Kept → Option Verdict
+old_number n None = None
+old_number n (Some k) =
+    if nat_lt n.number k.number then Some (Old (refusal_line (Stale k.number)))
+    else if n.number == k.number then Some (Old (repeated n k))
+    else None
+
+-- an old number is answered as such, and changes nothing; a new one is decided by its command
+abbrev pub by_number : Mail → Option Kept → Verdict → Verdict
+by_number n k v = unwrap_or (old_number n k) v
 
 -- refused: the letter does nothing
 abbrev pub refused : Refusal → Verdict
@@ -78,14 +97,14 @@ seat_command m (Orders lines) p o = orders_verdict m (ordered m p.board o.power 
 seat_command m Show p o = Taken (show_text m p o) Nothing
 
 -- without a game or a seat nobody is known
-abbrev pub verdict_by : Chart → Request → Option Public → Option Own → Verdict
-verdict_by m command None o = NotKnown
-verdict_by m command (Some p) None = NotKnown
-verdict_by m command (Some p) (Some o) = seat_command m command p o
+abbrev pub verdict_by : Chart → Mail → Option Public → Option Own → Verdict
+verdict_by m n None o = NotKnown
+verdict_by m n (Some p) None = NotKnown
+verdict_by m n (Some p) (Some o) = by_number n o.kept (seat_command m n.command p o)
 
 -- what a seat's letter comes to, by what the seat sees alone
-abbrev pub verdict_on : Chart → Note → Seen → Verdict
-verdict_on m n s = verdict_by m n.command s.public s.own
+abbrev pub verdict_on : Chart → Mail → Seen → Verdict
+verdict_on m n s = verdict_by m n s.public s.own
 
 -- the seat has a standing line that is no order on the board
 abbrev pub IsForeignTo : Chart → Option Public → Option Own → Type 0
@@ -97,7 +116,7 @@ abbrev pub IsForeign : Chart → Seen → Type 0
 IsForeign m s = IsForeignTo m s.public s.own
 
 -- a seat of the letter's game has such a line
-abbrev pub HasForeignLine : Chart → State → Note → Type 0
+abbrev pub HasForeignLine : Chart → State → Mail → Type 0
 HasForeignLine m s n = (power : ℕ) × IsForeign m (seen_in power (game_at n.game s))
 
 -- a seat of a new game, where its power is one of the map
@@ -131,37 +150,44 @@ abbrev pub created : Chart → Public → Option (List NewSeat) → Option Game 
 created m p None game = refused Malformed
 created m p (Some seats) game = if are_complete m seats then open_game m p seats game else refused Malformed
 
--- any other command of the master
-abbrev pub not_for_master : Option Game → Verdict
-not_for_master None = NotKnown
-not_for_master (Some g) = refused WrongSender
+-- any other command of the master, whose game has to be there
+abbrev pub not_for_master : Mail → Option Kept → Option Game → Verdict
+not_for_master n k None = NotKnown
+not_for_master n k (Some g) = by_number n k (refused WrongSender)
 
-abbrev pub master_verdict : Chart → Note → Request → Option Game → Verdict
-master_verdict m n (Create due period grey seats) game = created m (opening_public m n.game due period grey) (new_seats m n.game seats) game
-master_verdict m n (Orders lines) game = not_for_master game
-master_verdict m n Show game = not_for_master game
+-- what a letter of the master comes to, by what is kept of the last one
+abbrev pub master_verdict : Chart → Mail → Option Kept → Request → Option Game → Verdict
+master_verdict m n k (Create due period grey seats) game = by_number n k (created m (opening_public m n.game due period grey) (new_seats m n.game seats) game)
+master_verdict m n k (Orders lines) game = not_for_master n k game
+master_verdict m n k Show game = not_for_master n k game
 
 -- what may be decided of a letter
-abbrev pub Decides : Chart → State → Note → Author → Verdict → Type 0
+abbrev pub Decides : Chart → State → Mail → Author → Verdict → Type 0
 Decides m s n Nobody v = v ≡ NotKnown
-Decides m s n TheMaster v = v ≡ master_verdict m n n.command (game_at n.game s)
+Decides m s n TheMaster v = v ≡ master_verdict m n s.desk.kept n.command (game_at n.game s)
 Decides m s n (Seat power) v = v ≡ verdict_on m n (seen_in power (game_at n.game s))
 
--- the state after a letter
-abbrev pub after : Note → Author → Verdict → State → State
-after n who NotKnown s = s
-after n who (Taken text effect) s = changed (record { game = n.game; author = who; effect = effect }) s
+-- what is kept of a letter
+abbrev pub kept_of : Mail → List ℕ → Kept
+kept_of n text = record { number = n.number; sum = n.sum; reply = text }
 
-abbrev pub head_of : Note → Head
+-- the state after a letter
+abbrev pub after : Mail → Author → Verdict → State → State
+after n who NotKnown s = s
+after n who (Old text) s = s
+after n who (Taken text effect) s = changed (record { game = n.game; author = who; kept = kept_of n text; effect = effect }) s
+
+abbrev pub head_of : Mail → Head
 head_of n = record { game = n.game; sender = n.sender; number = n.number }
 
 -- whoever isn't known gets one and the same reply
-abbrev pub reply_of : Note → Verdict → Reply
+abbrev pub reply_of : Mail → Verdict → Reply
 reply_of n NotKnown = record { head = None; text = refusal_line Unknown }
+reply_of n (Old text) = record { head = Some (head_of n); text = text }
 reply_of n (Taken text effect) = record { head = Some (head_of n); text = text }
 
 -- one step: from old, the machine may give this reply to the letter and go on to new
-abbrev pub Step : Chart → State → Note → Reply → State → Type 0
+abbrev pub Step : Chart → State → Mail → Reply → State → Type 0
 Step m old n r new = (v : Verdict) × Decides m old n (author m n old) v × (r ≡ reply_of n v) × (new ≡ after n (author m n old) v old)
 
 -- the reply to bytes that are no letter

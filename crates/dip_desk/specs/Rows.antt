@@ -27,4 +27,4 @@ effect (Pending lines) = s.Pending (texts.lines lines.items)
 effect (Opens public paper seats) = s.Opens (texts.public public) (string_bytes paper) (map new_seat seats.items)
 
 abbrev pub change : Change → s.Change
-change c = record { game = string_bytes c.game; author = author c.author; effect = effect c.effect }
+change c = record { game = string_bytes c.game; author = author c.author; kept = texts.kept c.kept; effect = effect c.effect }

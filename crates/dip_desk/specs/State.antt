@@ -1,5 +1,5 @@
 -- What the desk keeps, its named parts, and what a change makes of it.
-use Rattle.std.specs.Prelude.{ℕ, ◌==◌, false, List, [], ◌∷◌, ◌++◌, Option, None, option_map, option_and_then, map, bytes_eq}
+use Rattle.std.specs.Prelude.{ℕ, ◌==◌, false, List, [], ◌∷◌, ◌++◌, Option, None, Some, option_map, option_and_then, map, bytes_eq}
 use Rattle.dip_desk.specs.Keyed.{at, change_at}
 use Rattle.dip_reports.specs.Records.{Public, Own, Kept}
 
@@ -53,10 +53,11 @@ pub data Effect : Type 0 where
   Pending : (lines : List (List ℕ)) → Effect
   Opens : (public : Public) → (paper : List ℕ) → (seats : List NewSeat) → Effect
 
--- what an accepted letter changes
+-- what an accepted letter changes: what is kept of it, and its effect
 pub record Change : Type 0 where
   pub game : List ℕ
   pub author : Author
+  pub kept : Kept
   pub effect : Effect
 
 -- a seat that nobody has used yet
@@ -70,24 +71,41 @@ with_seat power f g = record g { seats = change_at (λ a b. a == b) (λ o. o.pow
 abbrev pub at_seat : List ℕ → ℕ → (Own → Own) → List Game → List Game
 at_seat name power f games = change_at bytes_eq name_of name (with_seat power f) games
 
-abbrev pub with_pending : List (List ℕ) → Own → Own
-with_pending lines o = record o { pending = lines }
+-- the standing orders that an effect gives its author, where it gives any
+abbrev pub pending_in : Effect → Option (List (List ℕ))
+pending_in Nothing = None
+pending_in (Pending lines) = Some lines
+pending_in (Opens public paper seats) = None
 
--- the author's standing orders
-abbrev pub ordered : Author → List ℕ → List (List ℕ) → List Game → List Game
-ordered Nobody name lines games = games
-ordered TheMaster name lines games = games
-ordered (Seat power) name lines games = at_seat name power (with_pending lines) games
+-- a seat's own part after a letter of its own
+abbrev pub own_after : Kept → Option (List (List ℕ)) → Own → Own
+own_after k None o = record o { kept = Some k }
+own_after k (Some lines) o = record o { kept = Some k; pending = lines }
+
+-- the author's own part, where it is a seat
+abbrev pub seats_after : Author → List ℕ → Kept → Option (List (List ℕ)) → List Game → List Game
+seats_after Nobody name k lines games = games
+seats_after TheMaster name k lines games = games
+seats_after (Seat power) name k lines games = at_seat name power (own_after k lines) games
 
 abbrev pub opened : Public → List ℕ → List NewSeat → Game
 opened public paper seats = record { public = public; papers = paper ∷ []; seats = map fresh seats }
 
--- the games after a change: a new game stands last
-abbrev pub games_after : Change → Effect → List Game → List Game
-games_after c Nothing games = games
-games_after c (Pending lines) games = ordered c.author c.game lines games
-games_after c (Opens public paper seats) games = games ++ opened public paper seats ∷ []
+-- the games with the one that an effect opens: it stands last
+abbrev pub with_opened : Effect → List Game → List Game
+with_opened Nothing games = games
+with_opened (Pending lines) games = games
+with_opened (Opens public paper seats) games = games ++ opened public paper seats ∷ []
+
+-- the master's row, where the letter is the master's
+abbrev pub desk_after : Author → Kept → Desk → Desk
+desk_after Nobody k d = d
+desk_after TheMaster k d = record d { kept = Some k }
+desk_after (Seat power) k d = d
 
 -- the state after a change
 abbrev pub changed : Change → State → State
-changed c s = record { desk = s.desk; games = games_after c c.effect s.games }
+changed c s = record {
+  desk = desk_after c.author c.kept s.desk;
+  games = seats_after c.author c.game c.kept (pending_in c.effect) (with_opened c.effect s.games);
+}

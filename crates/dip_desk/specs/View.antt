@@ -1,15 +1,15 @@
 -- What one seat is shown by a history, and what follows from it alone.
 use Rattle.std.specs.Prelude.{ℕ, ◌≡◌, ◌≢◌, ◌==◌, ◌&&◌, ◌↔◌, Bool, true, false, List, [], ◌∷◌, ◌++◌, Option, None, Some, option_map, bytes_eq, flat_map, map, if◌then◌else◌}
-use Rattle.dip_letters.specs.Notes.{Note}
+use Rattle.dip_desk.specs.Mail.{Mail}
 use Rattle.dip_map.specs.Charts.{Chart}
-use Rattle.dip_desk.specs.State.{State, Author, Nobody, TheMaster, Seat, Effect, Nothing, Pending, Opens, NewSeat, fresh, with_pending}
-use Rattle.dip_desk.specs.Machine.{Decides, SeatName, Seen, Verdict, NotKnown, Taken, after, author, reply_of, seen, verdict_on}
+use Rattle.dip_desk.specs.State.{State, Author, Nobody, TheMaster, Seat, Effect, Nothing, Pending, Opens, NewSeat, fresh, own_after, pending_in}
+use Rattle.dip_desk.specs.Machine.{Decides, SeatName, Seen, Verdict, NotKnown, Old, Taken, after, author, kept_of, reply_of, seen, verdict_on}
 use Rattle.dip_reports.specs.Records.{Public, Own, Reply}
 
 -- one step of a history: the state before it, the letter, and what was decided. What it leaves follows
 pub record Turn : Type 0 where
   pub before : State
-  pub letter : Note
+  pub letter : Mail
   pub verdict : Verdict
 
 abbrev pub author_in : Chart → Turn → Author
@@ -28,7 +28,7 @@ IsRun m old (t ∷ ts) new = (t.before ≡ old) × Decides m t.before t.letter (
 
 -- what a seat is shown: a letter of its own, a paper and the public part that stands after it, or its digest
 pub data Event : Type 0 where
-  OwnLetter : (letter : Note) → Event
+  OwnLetter : (letter : Mail) → Event
   Published : (public : Public) → (paper : List ℕ) → Event
   Seated : (digest : List ℕ) → Event
 
@@ -38,10 +38,10 @@ is_seat TheMaster power = false
 is_seat (Seat p) power = p == power
 
 -- whether the seat is the letter's author
-abbrev pub writes : SeatName → Note → Author → Bool
+abbrev pub writes : SeatName → Mail → Author → Bool
 writes seat n who = bytes_eq n.game seat.game && is_seat who seat.power
 
-abbrev pub own_events : Bool → Note → List Event
+abbrev pub own_events : Bool → Mail → List Event
 own_events mine n = if mine then OwnLetter n ∷ [] else []
 
 -- the digest that CREATE gives the power
@@ -57,10 +57,11 @@ effect_events power (Opens public paper seats) = Published public paper ∷ seat
 
 abbrev pub verdict_events : ℕ → Verdict → List Event
 verdict_events power NotKnown = []
+verdict_events power (Old text) = []
 verdict_events power (Taken text effect) = effect_events power effect
 
 -- what a letter shows a seat: its own letter, and what an effect in its game shows it
-abbrev pub shown : SeatName → Note → Author → Verdict → List Event
+abbrev pub shown : SeatName → Mail → Author → Verdict → List Event
 shown seat n who v = own_events (writes seat n who) n ++ (if bytes_eq n.game seat.game then verdict_events seat.power v else [])
 
 abbrev pub shown_by : Chart → SeatName → Turn → List Event
@@ -79,11 +80,10 @@ replies_to m seat [] = []
 replies_to m seat (t ∷ ts) = own_replies (writes seat t.letter (author_in m t)) t ++ replies_to m seat ts
 
 -- what a seat's own letter does to its own part
-abbrev pub own_after : Verdict → Own → Own
-own_after NotKnown o = o
-own_after (Taken text Nothing) o = o
-own_after (Taken text (Pending lines)) o = with_pending lines o
-own_after (Taken text (Opens public paper seats)) o = o
+abbrev pub own_by : Mail → Verdict → Own → Own
+own_by n NotKnown o = o
+own_by n (Old text) o = o
+own_by n (Taken text effect) o = own_after (kept_of n text) (pending_in effect) o
 
 abbrev pub seated : ℕ → List ℕ → Option Own → Option Own
 seated power by None = Some (fresh (record { power = power; digest = by }))
@@ -91,7 +91,7 @@ seated power by (Some o) = Some (record o { digest = by })
 
 -- what a seat sees after one more event
 abbrev pub absorb : Chart → ℕ → Seen → Event → Seen
-absorb m power s (OwnLetter n) = record { public = s.public; own = option_map (own_after (verdict_on m n s)) s.own }
+absorb m power s (OwnLetter n) = record { public = s.public; own = option_map (own_by n (verdict_on m n s)) s.own }
 absorb m power s (Published public paper) = record { public = Some public; own = s.own }
 absorb m power s (Seated by) = record { public = s.public; own = seated power by s.own }
 
@@ -110,7 +110,7 @@ told m power s [] = []
 told m power s (e ∷ es) = told_at m s e ++ told m power (absorb m power s e) es
 
 -- the turns are a history of these letters, with these replies
-pub record IsHistory (m : Chart) (old : State) (letters : List Note) (replies : List Reply) (new : State) (turns : List Turn) : Type 0 where
+pub record IsHistory (m : Chart) (old : State) (letters : List Mail) (replies : List Reply) (new : State) (turns : List Turn) : Type 0 where
   pub run : IsRun m old turns new
   pub asked : map (λ t. t.letter) turns ≡ letters
   pub answered : map (λ t. reply_in t) turns ≡ replies
@@ -123,7 +123,7 @@ IsSettledByView m old turns new = (seat : SeatName) (first last : State) (others
 
 -- a letter of a seat gets one reply in all states that the seat sees alike, and leaves them alike
 abbrev pub IsAnsweredFromSeen : Chart → Type 0
-IsAnsweredFromSeen m = (a b : State) (n : Note) (power : ℕ) (v w : Verdict) → Decides m a n (Seat power) v → Decides m b n (Seat power) w
+IsAnsweredFromSeen m = (a b : State) (n : Mail) (power : ℕ) (v w : Verdict) → Decides m a n (Seat power) v → Decides m b n (Seat power) w
     → seen (record { game = n.game; power = power }) a ≡ seen (record { game = n.game; power = power }) b
     → (reply_of n v ≡ reply_of n w)
     × (seen (record { game = n.game; power = power }) (after n (Seat power) v a) ≡ seen (record { game = n.game; power = power }) (after n (Seat power) w b))
@@ -131,11 +131,12 @@ IsAnsweredFromSeen m = (a b : State) (n : Note) (power : ℕ) (v w : Verdict) �
 -- what a letter of another author shows a seat of its game: a paper or its digest
 abbrev pub Reaches : Verdict → Type 0
 Reaches NotKnown = ⊥
+Reaches (Old text) = ⊥
 Reaches (Taken text Nothing) = ⊥
 Reaches (Taken text (Pending lines)) = ⊥
 Reaches (Taken text (Opens public paper seats)) = Unit {0}
 
 -- a letter of another author adds to a seat's view exactly where it publishes in its game or sets its digest
 abbrev pub IsShownByOthers : Type 0
-IsShownByOthers = (seat : SeatName) (n : Note) (who : Author) (v : Verdict) → writes seat n who ≡ false
+IsShownByOthers = (seat : SeatName) (n : Mail) (who : Author) (v : Verdict) → writes seat n who ≡ false
     → (shown seat n who v ≢ []) ↔ ((bytes_eq n.game seat.game ≡ true) × Reaches v)

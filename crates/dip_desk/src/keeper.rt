@@ -51,8 +51,11 @@ pub enum Effect {
 /// What an accepted letter changes.
 #[derive(Drop)]
 pub struct Change {
+    /// The letter's game.
     pub game: String,
     pub author: Author,
+    /// What is kept of the letter, for its author.
+    pub kept: Kept,
     pub effect: Effect,
 }
 

@@ -1,5 +1,5 @@
 //! A keeper in memory.
-ghost use Rattle.std.specs.Prelude.{◌≡◌, [], ◌==◌, IfOk, bytes_eq, map as each, option_and_then, option_map, string_bytes};
+ghost use Rattle.std.specs.Prelude.{◌≡◌, [], ◌==◌, IfOk, OnErr, OnOk, bytes_eq, map as each, option_and_then, option_map, string_bytes};
 ghost use Rattle.dip_desk.specs.Keyed.{at, change_at, place};
 ghost use Rattle.dip_desk.specs.State as s;
 ghost use Rattle.dip_desk.specs.Rows as rows;
@@ -51,16 +51,22 @@ fn public_copy(alloc: Global, public: &Public) -> Result<Public, AllocError>
     })
 }
 
-fn kept_copy(kept: &Option<Kept>) -> Result<Option<Kept>, AllocError>
+fn kept_copy(kept: &Kept) -> Result<Kept, AllocError>
+    ensures { IfOk result (λ k. texts.kept k ≡ texts.kept kept.now) }
+{
+    Ok(Kept {
+        number: kept.number,
+        sum: kept.sum,
+        reply: kept.reply.clone()?,
+    })
+}
+
+fn last_copy(kept: &Option<Kept>) -> Result<Option<Kept>, AllocError>
     ensures { IfOk result (λ k. option_map texts.kept k ≡ option_map texts.kept kept.now) }
 {
     match kept {
         None => Ok(None),
-        Some(kept) => Ok(Some(Kept {
-            number: kept.number,
-            sum: kept.sum,
-            reply: kept.reply.clone()?,
-        })),
+        Some(kept) => Ok(Some(kept_copy(kept)?)),
     }
 }
 
@@ -72,7 +78,7 @@ fn own_copy(alloc: Global, own: &Own) -> Result<Own, AllocError>
         digest: own.digest,
         vote: own.vote,
         pending: lines_copy(alloc, own.pending.as_slice())?,
-        kept: kept_copy(&own.kept)?,
+        kept: last_copy(&own.kept)?,
         sent: own.sent,
         items: own.items,
     })
@@ -134,32 +140,40 @@ fn seat_place(seats: &[Own], power: Power) -> usize
     seats.len()
 }
 
-fn order_seat(seats: &mut Vec<Own>, power: Power, lines: Vec<String>)
-    ensures { each (λ o. texts.own o) seats.new.items ≡ change_at (λ a b. a == b) (λ o. o.power) power (s.with_pending (texts.lines lines.items)) (each (λ o. texts.own o) seats.old.items) }
+/// What a letter of its own changes in a seat: it is kept, and its orders stand where it has any.
+fn record_own(own: &mut Own, kept: Kept, lines: Option<Vec<String>>)
+    ensures { texts.own own.new ≡ s.own_after (texts.kept kept) (option_map (λ l. texts.lines l.items) lines) (texts.own own.old) }
 {
-    let place = seat_place(seats.as_slice(), power);
-    if place < seats.len() {
-        let seat = &mut seats[place];
-        seat.pending = lines;
+    own.kept = Some(kept);
+    if let Some(lines) = lines {
+        own.pending = lines;
     }
 }
 
-fn order_game(games: &mut Vec<GameRow>, name: &str, power: Power, lines: Vec<String>)
-    ensures { each (λ g. stored.game g) games.new.items ≡ s.at_seat name.now power (s.with_pending (texts.lines lines.items)) (each (λ g. stored.game g) games.old.items) }
+fn record_seat(seats: &mut Vec<Own>, power: Power, kept: Kept, lines: Option<Vec<String>>)
+    ensures { each (λ o. texts.own o) seats.new.items ≡ change_at (λ a b. a == b) (λ o. o.power) power
+        (s.own_after (texts.kept kept) (option_map (λ l. texts.lines l.items) lines)) (each (λ o. texts.own o) seats.old.items) }
+{
+    let place = seat_place(seats.as_slice(), power);
+    if place < seats.len() {
+        record_own(&mut seats[place], kept, lines);
+    }
+}
+
+fn record_game(
+    games: &mut Vec<GameRow>,
+    name: &str,
+    power: Power,
+    kept: Kept,
+    lines: Option<Vec<String>>,
+)
+    ensures { each (λ g. stored.game g) games.new.items ≡ s.at_seat name.now power
+        (s.own_after (texts.kept kept) (option_map (λ l. texts.lines l.items) lines)) (each (λ g. stored.game g) games.old.items) }
 {
     let place = game_place(games.as_slice(), name);
     if place < games.len() {
         let game = &mut games[place];
-        order_seat(&mut game.seats, power, lines);
-    }
-}
-
-fn order(games: &mut Vec<GameRow>, author: Author, name: &str, lines: Vec<String>)
-    ensures { each (λ g. stored.game g) games.new.items ≡ s.ordered (rows.author author) name.now (texts.lines lines.items) (each (λ g. stored.game g) games.old.items) }
-{
-    match author {
-        Author::Seat(power) => order_game(games, name, power, lines),
-        Author::Nobody | Author::TheMaster => {}
+        record_seat(&mut game.seats, power, kept, lines);
     }
 }
 
@@ -204,6 +218,33 @@ fn opened(
     })
 }
 
+/// The standing orders that an effect gives its author, where it gives any.
+fn pending_copy(alloc: Global, effect: &Effect) -> Result<Option<Vec<String>>, AllocError>
+    ensures { IfOk result (λ o. option_map (λ l. texts.lines l.items) o ≡ s.pending_in (rows.effect effect.now)) }
+{
+    match effect {
+        Effect::Nothing | Effect::Opens { .. } => Ok(None),
+        Effect::Pending(lines) => Ok(Some(lines_copy(alloc, lines.as_slice())?)),
+    }
+}
+
+/// The game that an effect opens stands last.
+fn open_game(alloc: Global, games: &mut Vec<GameRow>, effect: &Effect) -> Result<(), AllocError>
+    ensures ok { OnOk result (each (λ g. stored.game g) games.new.items ≡ s.with_opened (rows.effect effect.now) (each (λ g. stored.game g) games.old.items)) }
+    ensures err { OnErr result (games.new.items ≡ games.old.items) }
+{
+    if let Effect::Opens {
+        public,
+        paper,
+        seats,
+    } = effect
+    {
+        let game = opened(alloc, public, paper, seats.as_slice())?;
+        games.push(game)?;
+    }
+    Ok(())
+}
+
 impl MemoryKeeper {
     ghost use Rattle.dip_desk.specs.State.{State};
 
@@ -239,7 +280,7 @@ impl Keeper for MemoryKeeper {
     fn desk(&mut self) -> Result<Desk, KeepFault> {
         Ok(Desk {
             digest: self.desk.digest,
-            kept: kept_copy(&self.desk.kept)?,
+            kept: last_copy(&self.desk.kept)?,
         })
     }
 
@@ -258,22 +299,20 @@ impl Keeper for MemoryKeeper {
     }
 
     fn apply(&mut self, _map: &Map, change: &Change) -> Result<(), KeepFault> {
-        match &change.effect {
-            Effect::Nothing => Ok(()),
-            Effect::Pending(lines) => {
-                let copy = lines_copy(self.alloc, lines.as_slice())?;
-                order(&mut self.games, change.author, change.game.as_str(), copy);
-                Ok(())
-            }
-            Effect::Opens {
-                public,
-                paper,
-                seats,
-            } => {
-                let game = opened(self.alloc, public, paper, seats.as_slice())?;
-                self.games.push(game)?;
-                Ok(())
-            }
+        let kept = kept_copy(&change.kept)?;
+        let lines = pending_copy(self.alloc, &change.effect)?;
+        open_game(self.alloc, &mut self.games, &change.effect)?;
+        match change.author {
+            Author::Nobody => {}
+            Author::TheMaster => self.desk.kept = Some(kept),
+            Author::Seat(power) => record_game(
+                &mut self.games,
+                change.game.as_str(),
+                power,
+                kept,
+                lines,
+            ),
         }
+        Ok(())
     }
 }

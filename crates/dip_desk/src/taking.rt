@@ -1,6 +1,7 @@
 //! One letter at a time.
-ghost use Rattle.std.specs.Prelude.{◌≡◌, ◌<◌, ◌==◌, ◌⊎◌, ℕ, List, take as first, IfErr, IsErrOf, true, Option, IfOk, OnOk, OnErr, map as each, option_map, is_none, is_some, string_bytes, bytes_eq, count_by};
-ghost use Rattle.dip_letters.specs.Views.{lines_in, note, request, seat_note, seats_in};
+ghost use Rattle.std.specs.Prelude.{◌≡◌, ◌<◌, ◌==◌, ◌⊎◌, ℕ, List, take as first, IfErr, IsErrOf, true, Option, Some, IfOk, OnOk, OnErr, map as each, option_map, is_none, is_some, string_bytes, bytes_eq, count_by};
+ghost use Rattle.dip_letters.specs.Views.{lines_in, request, seat_note, seats_in};
+ghost use Rattle.dip_desk.specs.Mail.{mail};
 ghost use Rattle.dip_desk.specs.State as s;
 ghost use Rattle.dip_desk.specs.Machine as m;
 ghost use Rattle.dip_desk.specs.Rows as rows;
@@ -13,9 +14,9 @@ ghost use Rattle.dip_desk.specs.View.{IsHistory, IsSettledByView, Turn};
 
 use crate::keeper::{Author, Change, Effect, KeepFault, Keeper, NewSeat};
 use crate::ordering::{Ordered, order_lines, standing_orders, take_lines};
-use dip_letters::{Command, Letter, LetterFault, Lines, Opening, Seat, Seats, digest};
+use dip_letters::{Command, Letter, LetterFault, Lines, Opening, Seat, Seats, digest, sum};
 use dip_map::{Board, Map, Power};
-use dip_reports::{Head, Own, Public, Refusal, Reply, Status, opening_paper_text, show_text};
+use dip_reports::{Head, Kept, Own, Public, Refusal, Reply, Status, opening_paper_text, show_text};
 use std::alloc::{AllocError, Global};
 
 /// What is decided of a letter.
@@ -23,7 +24,9 @@ use std::alloc::{AllocError, Global};
 pub enum Verdict {
     /// Its game, sender or secret isn't known.
     NotKnown,
-    /// It gets these lines, and has this effect.
+    /// Its number is an old one: it gets these lines, and nothing is kept of it.
+    Old(String),
+    /// It gets these lines, has this effect, and is kept.
     Taken(String, Effect),
 }
 
@@ -42,70 +45,6 @@ fn opens(letter: &Letter<'_>, game: &str, sender: &str, kept: &[u8; 32]) -> bool
     told.as_slice() == kept.as_slice()
 }
 
-/// The master, where the letter's secret is the desk's.
-fn master_author<K: Keeper>(keeper: &mut K, letter: &Letter<'_>) -> Result<Author, KeepFault>
-    requires { K.faults keeper.old < u64.MAX }
-    ensures value { K.sound keeper.old → K.shows keeper.new → IfOk result (λ a. rows.author a ≡ m.master_author (note letter.now) (K.content keeper.old)) }
-    ensures same { K.sound keeper.old → K.shows keeper.new → K.content keeper.new ≡ K.content keeper.old }
-    ensures sane { K.sound keeper.old → K.shows keeper.new → IsErrOf result KeepFault.Damaged → ⊥ }
-    ensures count { K.faults keeper.new ≡ faults_after result (K.faults keeper.old) }
-    ensures fair { K.honest keeper.new → K.honest keeper.old }
-    ensures shown { K.shows keeper.new → K.shows keeper.old }
-    ensures sound { K.sound keeper.old → K.shows keeper.new → K.sound keeper.new }
-    ensures firm { K.sound keeper.old → K.honest keeper.new → OnOk result (K.sound keeper.new) }
-    ensures open { K.sound keeper.old → K.honest keeper.new → K.shows keeper.old → OnOk result (K.shows keeper.new) }
-    ensures left { K.sound keeper.old → K.honest keeper.new → (s : s.State) → K.may_leave keeper.new s → K.may_leave keeper.old s }
-{
-    let desk = keeper.desk()?;
-    if opens(letter, "desk", "master", &desk.digest) {
-        Ok(Author::TheMaster)
-    } else {
-        Ok(Author::Nobody)
-    }
-}
-
-/// The seat, where it has the digest of the letter's secret.
-fn seat_author(letter: &Letter<'_>, power: Power, own: &Option<Own>) -> Author
-    ensures { rows.author result ≡ m.seat_author (note letter.now) power (option_map texts.own own.now) }
-{
-    match own {
-        None => Author::Nobody,
-        Some(own) => {
-            if opens(letter, letter.game, letter.sender, &own.digest) {
-                Author::Seat(power)
-            } else {
-                Author::Nobody
-            }
-        }
-    }
-}
-
-/// Who wrote the letter.
-fn author_of<K: Keeper>(keeper: &mut K, map: &Map, letter: &Letter<'_>) -> Result<Author, KeepFault>
-    requires { K.faults keeper.old < u64.MAX }
-    ensures value { K.sound keeper.old → K.shows keeper.new → IfOk result (λ a. rows.author a ≡ m.author map.now (note letter.now) (K.content keeper.old)) }
-    ensures same { K.sound keeper.old → K.shows keeper.new → K.content keeper.new ≡ K.content keeper.old }
-    ensures sane { K.sound keeper.old → K.shows keeper.new → IsErrOf result KeepFault.Damaged → ⊥ }
-    ensures count { K.faults keeper.new ≡ faults_after result (K.faults keeper.old) }
-    ensures fair { K.honest keeper.new → K.honest keeper.old }
-    ensures shown { K.shows keeper.new → K.shows keeper.old }
-    ensures sound { K.sound keeper.old → K.shows keeper.new → K.sound keeper.new }
-    ensures firm { K.sound keeper.old → K.honest keeper.new → OnOk result (K.sound keeper.new) }
-    ensures open { K.sound keeper.old → K.honest keeper.new → K.shows keeper.old → OnOk result (K.shows keeper.new) }
-    ensures left { K.sound keeper.old → K.honest keeper.new → (s : s.State) → K.may_leave keeper.new s → K.may_leave keeper.old s }
-{
-    if letter.sender == "master" {
-        return master_author(keeper, letter);
-    }
-    match map.power(letter.sender) {
-        None => Ok(Author::Nobody),
-        Some(power) => {
-            let own = keeper.own(map, letter.game, power)?;
-            Ok(seat_author(letter, power, &own))
-        }
-    }
-}
-
 /// A line of a reply.
 fn refusal_line(alloc: Global, refusal: Refusal) -> Result<String, AllocError>
     ensures { IfOk result (λ line. string_bytes line ≡ m.refusal_line refusal) }
@@ -118,6 +57,39 @@ fn refused(alloc: Global, refusal: Refusal) -> Result<Verdict, AllocError>
     ensures { IfOk result (λ v. verdict v ≡ m.refused refusal) }
 {
     Ok(Verdict::Taken(refusal_line(alloc, refusal)?, Effect::Nothing))
+}
+
+/// What a letter with its author's last number gets: where it is the same letter, the same reply.
+fn repeated(alloc: Global, letter: &Letter<'_>, kept: &Kept) -> Result<String, AllocError>
+    ensures { IfOk result (λ text. string_bytes text ≡ m.repeated (mail letter.now) (texts.kept kept.now)) }
+{
+    let told = sum(letter.bytes);
+    if told.as_slice() == kept.sum.as_slice() {
+        kept.reply.clone()
+    } else {
+        refusal_line(alloc, Refusal::NumberUsed(kept.number))
+    }
+}
+
+/// What an old number comes to; `None` where the number is new.
+fn old_number(
+    alloc: Global,
+    letter: &Letter<'_>,
+    kept: &Option<Kept>,
+) -> Result<Option<Verdict>, AllocError>
+    ensures { IfOk result (λ o. option_map verdict o ≡ m.old_number (mail letter.now) (option_map texts.kept kept.now)) }
+{
+    let Some(kept) = kept else {
+        return Ok(None);
+    };
+    if letter.number < kept.number {
+        let line = refusal_line(alloc, Refusal::Stale(kept.number))?;
+        return Ok(Some(Verdict::Old(line)));
+    }
+    if letter.number > kept.number {
+        return Ok(None);
+    }
+    Ok(Some(Verdict::Old(repeated(alloc, letter, kept)?)))
 }
 
 /// What ORDERS comes to.
@@ -162,18 +134,18 @@ fn command_verdict(
     }
 }
 
-/// What a seat's letter comes to.
+/// What a seat's letter comes to, by its own part and the public part.
 fn seat_verdict<K: Keeper>(
     alloc: Global,
     keeper: &mut K,
     map: &Map,
     letter: &Letter<'_>,
-    power: Power,
+    own: &Own,
 ) -> Result<Verdict, KeepFault>
     requires { K.faults keeper.old < u64.MAX }
-    ensures value { K.sound keeper.old → K.shows keeper.new → IfOk result (λ v. verdict v ≡ m.verdict_on map.now (note letter.now) (m.seen_in power (s.game_at letter.now.game.now (K.content keeper.old)))) }
+    ensures value { K.sound keeper.old → K.shows keeper.new → IfOk result (λ v. verdict v ≡ m.verdict_by map.now (mail letter.now) (s.public_at letter.now.game.now (K.content keeper.old)) (Some (texts.own own.now))) }
     ensures same { K.sound keeper.old → K.shows keeper.new → K.content keeper.new ≡ K.content keeper.old }
-    ensures sane { K.sound keeper.old → K.shows keeper.new → IsErrOf result KeepFault.Damaged → m.IsForeign map.now (m.seen_in power (s.game_at letter.now.game.now (K.content keeper.old))) }
+    ensures sane { K.sound keeper.old → K.shows keeper.new → IsErrOf result KeepFault.Damaged → m.IsForeignTo map.now (s.public_at letter.now.game.now (K.content keeper.old)) (Some (texts.own own.now)) }
     ensures count { K.faults keeper.new ≡ faults_after result (K.faults keeper.old) }
     ensures fair { K.honest keeper.new → K.honest keeper.old }
     ensures shown { K.shows keeper.new → K.shows keeper.old }
@@ -185,10 +157,10 @@ fn seat_verdict<K: Keeper>(
     let Some(public) = keeper.public(map, letter.game)? else {
         return Ok(Verdict::NotKnown);
     };
-    let Some(own) = keeper.own(map, letter.game, power)? else {
-        return Ok(Verdict::NotKnown);
-    };
-    command_verdict(alloc, map, &letter.command, &public, &own)
+    if let Some(old) = old_number(alloc, letter, &own.kept)? {
+        return Ok(old);
+    }
+    command_verdict(alloc, map, &letter.command, &public, own)
 }
 
 fn new_seat(map: &Map, game: &str, seat: &Seat<'_>) -> Option<NewSeat>
@@ -311,13 +283,38 @@ fn created(
 }
 
 /// Any other command of the master.
-fn not_for_master(alloc: Global, is_known: bool) -> Result<Verdict, AllocError>
-    ensures { IfOk result (λ v. (game : Option s.Game) → is_known ≡ is_some game → verdict v ≡ m.not_for_master game) }
+fn not_for_master(
+    alloc: Global,
+    letter: &Letter<'_>,
+    kept: &Option<Kept>,
+    is_known: bool,
+) -> Result<Verdict, AllocError>
+    ensures { IfOk result (λ v. (game : Option s.Game) → is_known ≡ is_some game → verdict v ≡ m.not_for_master (mail letter.now) (option_map texts.kept kept.now) game) }
 {
-    if is_known {
-        refused(alloc, Refusal::WrongSender)
-    } else {
-        Ok(Verdict::NotKnown)
+    if !is_known {
+        return Ok(Verdict::NotKnown);
+    }
+    match old_number(alloc, letter, kept)? {
+        Some(old) => Ok(old),
+        None => refused(alloc, Refusal::WrongSender),
+    }
+}
+
+/// What CREATE comes to, by its number and its seats.
+fn create_verdict(
+    alloc: Global,
+    map: &Map,
+    letter: &Letter<'_>,
+    opening: &Opening<'_>,
+    kept: &Option<Kept>,
+    is_free: bool,
+) -> Result<Verdict, AllocError>
+    ensures { IfOk result (λ v. (known : Option s.Game) → is_free ≡ is_none known → verdict v ≡ m.by_number (mail letter.now) (option_map texts.kept kept.now) (m.created map.now
+        (m.opening_public map.now letter.now.game.now opening.now.due opening.now.period opening.now.grey) (m.new_seats map.now letter.now.game.now (seats_in opening.now.seats)) known)) }
+{
+    match old_number(alloc, letter, kept)? {
+        Some(old) => Ok(old),
+        None => created(alloc, map, letter.game, opening, is_free),
     }
 }
 
@@ -327,9 +324,10 @@ fn master_verdict<K: Keeper>(
     keeper: &mut K,
     map: &Map,
     letter: &Letter<'_>,
+    kept: &Option<Kept>,
 ) -> Result<Verdict, KeepFault>
     requires { K.faults keeper.old < u64.MAX }
-    ensures value { K.sound keeper.old → K.shows keeper.new → IfOk result (λ v. verdict v ≡ m.master_verdict map.now (note letter.now) (note letter.now).command (s.game_at letter.now.game.now (K.content keeper.old))) }
+    ensures value { K.sound keeper.old → K.shows keeper.new → IfOk result (λ v. verdict v ≡ m.master_verdict map.now (mail letter.now) (option_map texts.kept kept.now) (mail letter.now).command (s.game_at letter.now.game.now (K.content keeper.old))) }
     ensures same { K.sound keeper.old → K.shows keeper.new → K.content keeper.new ≡ K.content keeper.old }
     ensures sane { K.sound keeper.old → K.shows keeper.new → IsErrOf result KeepFault.Damaged → ⊥ }
     ensures count { K.faults keeper.new ≡ faults_after result (K.faults keeper.old) }
@@ -342,9 +340,75 @@ fn master_verdict<K: Keeper>(
 {
     let known = keeper.public(map, letter.game)?;
     match &letter.command {
-        Command::Create(opening) => Ok(created(alloc, map, letter.game, opening, known.is_none())?),
-        Command::Orders(_) | Command::Show => Ok(not_for_master(alloc, known.is_some())?),
+        Command::Create(opening) => {
+            Ok(create_verdict(alloc, map, letter, opening, kept, known.is_none())?)
+        }
+        Command::Orders(_) | Command::Show => Ok(not_for_master(
+            alloc,
+            letter,
+            kept,
+            known.is_some(),
+        )?),
     }
+}
+
+/// Who wrote a letter that names the master, and what is decided of it.
+fn judge_master<K: Keeper>(
+    alloc: Global,
+    keeper: &mut K,
+    map: &Map,
+    letter: &Letter<'_>,
+) -> Result<(Author, Verdict), KeepFault>
+    requires { K.faults keeper.old < u64.MAX }
+    ensures author { K.sound keeper.old → K.shows keeper.new → IfOk result (λ j. rows.author j.0 ≡ m.master_author (mail letter.now) (K.content keeper.old)) }
+    ensures verdict { K.sound keeper.old → K.shows keeper.new → IfOk result (λ j. m.Decides map.now (K.content keeper.old) (mail letter.now) (rows.author j.0) (verdict j.1)) }
+    ensures same { K.sound keeper.old → K.shows keeper.new → K.content keeper.new ≡ K.content keeper.old }
+    ensures sane { K.sound keeper.old → K.shows keeper.new → IsErrOf result KeepFault.Damaged → ⊥ }
+    ensures count { K.faults keeper.new ≡ faults_after result (K.faults keeper.old) }
+    ensures fair { K.honest keeper.new → K.honest keeper.old }
+    ensures shown { K.shows keeper.new → K.shows keeper.old }
+    ensures sound { K.sound keeper.old → K.shows keeper.new → K.sound keeper.new }
+    ensures firm { K.sound keeper.old → K.honest keeper.new → OnOk result (K.sound keeper.new) }
+    ensures open { K.sound keeper.old → K.honest keeper.new → K.shows keeper.old → OnOk result (K.shows keeper.new) }
+    ensures left { K.sound keeper.old → K.honest keeper.new → (s : s.State) → K.may_leave keeper.new s → K.may_leave keeper.old s }
+{
+    let desk = keeper.desk()?;
+    if !opens(letter, "desk", "master", &desk.digest) {
+        return Ok((Author::Nobody, Verdict::NotKnown));
+    }
+    let decided = master_verdict(alloc, keeper, map, letter, &desk.kept)?;
+    Ok((Author::TheMaster, decided))
+}
+
+/// Who wrote a letter that names a power, and what is decided of it.
+fn judge_seat<K: Keeper>(
+    alloc: Global,
+    keeper: &mut K,
+    map: &Map,
+    letter: &Letter<'_>,
+    power: Power,
+) -> Result<(Author, Verdict), KeepFault>
+    requires { K.faults keeper.old < u64.MAX }
+    ensures author { K.sound keeper.old → K.shows keeper.new → IfOk result (λ j. rows.author j.0 ≡ m.seat_author (mail letter.now) power (s.own_at letter.now.game.now power (K.content keeper.old))) }
+    ensures verdict { K.sound keeper.old → K.shows keeper.new → IfOk result (λ j. m.Decides map.now (K.content keeper.old) (mail letter.now) (rows.author j.0) (verdict j.1)) }
+    ensures same { K.sound keeper.old → K.shows keeper.new → K.content keeper.new ≡ K.content keeper.old }
+    ensures sane { K.sound keeper.old → K.shows keeper.new → IsErrOf result KeepFault.Damaged → m.IsForeign map.now (m.seen_in power (s.game_at letter.now.game.now (K.content keeper.old))) }
+    ensures count { K.faults keeper.new ≡ faults_after result (K.faults keeper.old) }
+    ensures fair { K.honest keeper.new → K.honest keeper.old }
+    ensures shown { K.shows keeper.new → K.shows keeper.old }
+    ensures sound { K.sound keeper.old → K.shows keeper.new → K.sound keeper.new }
+    ensures firm { K.sound keeper.old → K.honest keeper.new → OnOk result (K.sound keeper.new) }
+    ensures open { K.sound keeper.old → K.honest keeper.new → K.shows keeper.old → OnOk result (K.shows keeper.new) }
+    ensures left { K.sound keeper.old → K.honest keeper.new → (s : s.State) → K.may_leave keeper.new s → K.may_leave keeper.old s }
+{
+    let Some(own) = keeper.own(map, letter.game, power)? else {
+        return Ok((Author::Nobody, Verdict::NotKnown));
+    };
+    if !opens(letter, letter.game, letter.sender, &own.digest) {
+        return Ok((Author::Nobody, Verdict::NotKnown));
+    }
+    let decided = seat_verdict(alloc, keeper, map, letter, &own)?;
+    Ok((Author::Seat(power), decided))
 }
 
 /// Who wrote the letter, and what is decided of it.
@@ -355,10 +419,10 @@ fn judge<K: Keeper>(
     letter: &Letter<'_>,
 ) -> Result<(Author, Verdict), KeepFault>
     requires { K.faults keeper.old < u64.MAX }
-    ensures author { K.sound keeper.old → K.shows keeper.new → IfOk result (λ j. rows.author j.0 ≡ m.author map.now (note letter.now) (K.content keeper.old)) }
-    ensures verdict { K.sound keeper.old → K.shows keeper.new → IfOk result (λ j. m.Decides map.now (K.content keeper.old) (note letter.now) (rows.author j.0) (verdict j.1)) }
+    ensures author { K.sound keeper.old → K.shows keeper.new → IfOk result (λ j. rows.author j.0 ≡ m.author map.now (mail letter.now) (K.content keeper.old)) }
+    ensures verdict { K.sound keeper.old → K.shows keeper.new → IfOk result (λ j. m.Decides map.now (K.content keeper.old) (mail letter.now) (rows.author j.0) (verdict j.1)) }
     ensures same { K.sound keeper.old → K.shows keeper.new → K.content keeper.new ≡ K.content keeper.old }
-    ensures sane { K.sound keeper.old → K.shows keeper.new → IsErrOf result KeepFault.Damaged → m.HasForeignLine map.now (K.content keeper.old) (note letter.now) }
+    ensures sane { K.sound keeper.old → K.shows keeper.new → IsErrOf result KeepFault.Damaged → m.HasForeignLine map.now (K.content keeper.old) (mail letter.now) }
     ensures count { K.faults keeper.new ≡ faults_after result (K.faults keeper.old) }
     ensures fair { K.honest keeper.new → K.honest keeper.old }
     ensures shown { K.shows keeper.new → K.shows keeper.old }
@@ -367,17 +431,18 @@ fn judge<K: Keeper>(
     ensures open { K.sound keeper.old → K.honest keeper.new → K.shows keeper.old → OnOk result (K.shows keeper.new) }
     ensures left { K.sound keeper.old → K.honest keeper.new → (s : s.State) → K.may_leave keeper.new s → K.may_leave keeper.old s }
 {
-    let author = author_of(keeper, map, letter)?;
-    match author {
-        Author::Nobody => Ok((author, Verdict::NotKnown)),
-        Author::TheMaster => Ok((author, master_verdict(alloc, keeper, map, letter)?)),
-        Author::Seat(power) => Ok((author, seat_verdict(alloc, keeper, map, letter, power)?)),
+    if letter.sender == "master" {
+        return judge_master(alloc, keeper, map, letter);
+    }
+    match map.power(letter.sender) {
+        None => Ok((Author::Nobody, Verdict::NotKnown)),
+        Some(power) => judge_seat(alloc, keeper, map, letter, power),
     }
 }
 
 /// Whose letter the reply answers.
 fn head_of(alloc: Global, letter: &Letter<'_>) -> Result<Head, AllocError>
-    ensures { IfOk result (λ h. texts.head h ≡ m.head_of (note letter.now)) }
+    ensures { IfOk result (λ h. texts.head h ≡ m.head_of (mail letter.now)) }
 {
     Ok(Head {
         game: String::from_str(alloc, letter.game)?,
@@ -396,6 +461,28 @@ fn not_known(alloc: Global) -> Result<Reply, AllocError>
     })
 }
 
+/// What a letter that is taken changes.
+fn change_of(
+    alloc: Global,
+    letter: &Letter<'_>,
+    author: Author,
+    text: String,
+    effect: Effect,
+) -> Result<Change, AllocError>
+    ensures { IfOk result (λ c. rows.change c ≡ record { game = letter.now.game.now; author = rows.author author; kept = m.kept_of (mail letter.now) (string_bytes text); effect = rows.effect effect }) }
+{
+    Ok(Change {
+        game: String::from_str(alloc, letter.game)?,
+        author,
+        kept: Kept {
+            number: letter.number,
+            sum: sum(letter.bytes),
+            reply: text,
+        },
+        effect,
+    })
+}
+
 /// Keeps what was decided, and gives the reply. Nothing grows behind the change.
 fn settle<K: Keeper>(
     alloc: Global,
@@ -406,12 +493,12 @@ fn settle<K: Keeper>(
     decided: Verdict,
 ) -> Result<Reply, KeepFault>
     requires { K.faults keeper.old < u64.MAX }
-    ensures reply { IfOk result (λ r. texts.reply r ≡ m.reply_of (note letter.now) (verdict decided)) }
-    ensures ok { K.sound keeper.old → K.shows keeper.new → OnOk result (K.content keeper.new ≡ m.after (note letter.now) (rows.author author) (verdict decided) (K.content keeper.old)) }
+    ensures reply { IfOk result (λ r. texts.reply r ≡ m.reply_of (mail letter.now) (verdict decided)) }
+    ensures ok { K.sound keeper.old → K.shows keeper.new → OnOk result (K.content keeper.new ≡ m.after (mail letter.now) (rows.author author) (verdict decided) (K.content keeper.old)) }
     ensures err { K.sound keeper.old → K.shows keeper.new → OnErr result (K.content keeper.new ≡ K.content keeper.old) }
     ensures sane { K.sound keeper.old → K.shows keeper.new → IsErrOf result KeepFault.Damaged → ⊥ }
     ensures kept { K.sound keeper.old → K.honest keeper.new → OnOk result ((s : s.State) → K.may_leave keeper.new s → (s ≡ K.content keeper.new) ⊎ ((K.content keeper.new ≡ K.content keeper.old) × K.may_leave keeper.old s)) }
-    ensures left { K.sound keeper.old → K.honest keeper.new → OnErr result ((s : s.State) → K.may_leave keeper.new s → K.may_leave keeper.old s ⊎ (s ≡ m.after (note letter.now) (rows.author author) (verdict decided) (K.content keeper.old))) }
+    ensures left { K.sound keeper.old → K.honest keeper.new → OnErr result ((s : s.State) → K.may_leave keeper.new s → K.may_leave keeper.old s ⊎ (s ≡ m.after (mail letter.now) (rows.author author) (verdict decided) (K.content keeper.old))) }
     ensures count { K.faults keeper.new ≡ faults_after result (K.faults keeper.old) }
     ensures fair { K.honest keeper.new → K.honest keeper.old }
     ensures shown { K.shows keeper.new → K.shows keeper.old }
@@ -421,14 +508,15 @@ fn settle<K: Keeper>(
 {
     match decided {
         Verdict::NotKnown => Ok(not_known(alloc)?),
+        Verdict::Old(text) => {
+            let head = Some(head_of(alloc, letter)?);
+            Ok(Reply { head, text })
+        }
         Verdict::Taken(text, effect) => {
             let head = Some(head_of(alloc, letter)?);
-            let change = Change {
-                game: String::from_str(alloc, letter.game)?,
-                author,
-                effect,
-            };
+            let change = change_of(alloc, letter, author, text, effect)?;
             keeper.apply(map, &change)?;
+            let text = change.kept.reply;
             Ok(Reply { head, text })
         }
     }
@@ -442,12 +530,12 @@ pub fn take<K: Keeper>(
     letter: &Letter<'_>,
 ) -> Result<Reply, KeepFault>
     requires { K.faults keeper.old < u64.MAX }
-    ensures step { K.sound keeper.old → K.shows keeper.new → IfOk result (λ r. m.Step map.now (K.content keeper.old) (note letter.now) (texts.reply r) (K.content keeper.new)) }
+    ensures step { K.sound keeper.old → K.shows keeper.new → IfOk result (λ r. m.Step map.now (K.content keeper.old) (mail letter.now) (texts.reply r) (K.content keeper.new)) }
     ensures err { K.sound keeper.old → K.shows keeper.new → OnErr result (K.content keeper.new ≡ K.content keeper.old) }
-    ensures sane { K.sound keeper.old → K.shows keeper.new → IsErrOf result KeepFault.Damaged → m.HasForeignLine map.now (K.content keeper.old) (note letter.now) }
+    ensures sane { K.sound keeper.old → K.shows keeper.new → IsErrOf result KeepFault.Damaged → m.HasForeignLine map.now (K.content keeper.old) (mail letter.now) }
     // What a crash leaves: behind a reply that was kept the state after it, behind a fault the state before or after the letter.
     ensures kept { K.sound keeper.old → K.honest keeper.new → K.shows keeper.old → OnOk result ((s : s.State) → K.may_leave keeper.new s → (s ≡ K.content keeper.new) ⊎ ((K.content keeper.new ≡ K.content keeper.old) × K.may_leave keeper.old s)) }
-    ensures left { K.sound keeper.old → K.honest keeper.new → K.shows keeper.old → OnErr result ((s : s.State) → K.may_leave keeper.new s → K.may_leave keeper.old s ⊎ ((r : records.Reply) × m.Step map.now (K.content keeper.old) (note letter.now) r s)) }
+    ensures left { K.sound keeper.old → K.honest keeper.new → K.shows keeper.old → OnErr result ((s : s.State) → K.may_leave keeper.new s → K.may_leave keeper.old s ⊎ ((r : records.Reply) × m.Step map.now (K.content keeper.old) (mail letter.now) r s)) }
     ensures count { K.faults keeper.new ≡ faults_after result (K.faults keeper.old) }
     ensures fair { K.honest keeper.new → K.honest keeper.old }
     ensures shown { K.shows keeper.new → K.shows keeper.old }
@@ -472,11 +560,11 @@ pub fn run<K: Keeper>(
     requires { K.faults keeper.old < u64.MAX }
     // The replies are those of a history of the machine over all letters, and each seat's view settles what it is told.
     ensures run { K.sound keeper.old → K.shows keeper.new → IfOk result (λ replies. (turns : List Turn)
-        × IsHistory map.now (K.content keeper.old) (each (λ l. note l) letters.now) (each (λ r. texts.reply r) replies.items) (K.content keeper.new) turns
+        × IsHistory map.now (K.content keeper.old) (each (λ l. mail l) letters.now) (each (λ r. texts.reply r) replies.items) (K.content keeper.new) turns
         × IsSettledByView map.now (K.content keeper.old) turns (K.content keeper.new)) }
     // Up to a fault the same of the letters before it.
     ensures err { K.sound keeper.old → K.shows keeper.new → IfErr result (λ e. (n : ℕ) × (turns : List Turn)
-        × IsHistory map.now (K.content keeper.old) (each (λ l. note l) (first n letters.now)) (each (λ r. texts.reply r) e.0.items) (K.content keeper.new) turns) }
+        × IsHistory map.now (K.content keeper.old) (each (λ l. mail l) (first n letters.now)) (each (λ r. texts.reply r) e.0.items) (K.content keeper.new) turns) }
     ensures count { K.faults keeper.new ≡ faults_after_run result (K.faults keeper.old) }
     ensures open { K.sound keeper.old → K.honest keeper.new → K.shows keeper.old → OnOk result (K.shows keeper.new) }
 {

@@ -3,7 +3,7 @@ use Rattle.std.specs.Prelude.{◌≡◌, ◌≤◌, ℕ, List, [], ◌∷◌, �
 use Rattle.std.specs.List.{flat_map}
 use Rattle.std.specs.Io.KnownBytes.{Appends, Consumes, IsAtEnd}
 use Rattle.dip_letters.specs.Input.{IsNext}
-use Rattle.dip_letters.specs.Views.{note}
+use Rattle.dip_desk.specs.Mail.{mail}
 use Rattle.dip_letters.specs.declared.letters.Next.{Next}
 use Rattle.dip_letters.specs.declared.letters.Next.TheVariants.{Taken, Fault, End}
 use Rattle.dip_desk.specs.Machine.{Step, fault_reply}
@@ -29,7 +29,7 @@ pub record IsUntouched {K : Type 0} (before after : Option (List ℕ)) (old new 
 
 -- a letter is taken by a step of the desk; a fault of the reading is answered by nobody, and changes nothing
 abbrev pub Answers : Chart → State → Next → Reply → State → List ℕ → Type 0
-Answers m old (Taken l rest) reply new after = Step m old (note l) reply new × (rest.now ≡ after)
+Answers m old (Taken l rest) reply new after = Step m old (mail l) reply new × (rest.now ≡ after)
 Answers m old (Fault fault rest) reply new after = (reply ≡ fault_reply fault) × (new ≡ old) × (rest.now ≡ after)
 Answers m old End reply new after = ⊥
 

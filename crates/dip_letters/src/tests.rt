@@ -1,4 +1,4 @@
-use crate::{Command, LetterFault, Next, digest, is_secret, next_letter, print_letter};
+use crate::{Command, LetterFault, Next, digest, is_secret, next_letter, print_letter, sum};
 use std::alloc::{AllocError, Global};
 use std::test::Fail;
 
@@ -302,4 +302,15 @@ const DIGEST: [u8; 32] = [
 #[test]
 fn knows_a_digest(rt: HostRuntime) {
     assert!(rt; digest("g1", "england", "eeeeeeee") == DIGEST);
+}
+
+/// The SHA-256 of `abc`, as FIPS 180-4's examples give it.
+const SUM_OF_ABC: [u8; 32] = [
+    0xba, 0x78, 0x16, 0xbf, 0x8f, 0x01, 0xcf, 0xea, 0x41, 0x41, 0x40, 0xde, 0x5d, 0xae, 0x22, 0x23,
+    0xb0, 0x03, 0x61, 0xa3, 0x96, 0x17, 0x7a, 0x9c, 0xb4, 0x10, 0xff, 0x61, 0xf2, 0x00, 0x15, 0xad,
+];
+
+#[test]
+fn knows_a_sum(rt: HostRuntime) {
+    assert!(rt; sum(b"abc".as_slice()) == SUM_OF_ABC);
 }

@@ -8,7 +8,7 @@ use Rattle.dip_map.specs.declared.boards.Season.TheVariants.{SpringMoves, Spring
 use Rattle.dip_reports.specs.declared.records.Status.{Status}
 use Rattle.dip_reports.specs.declared.records.Status.TheVariants.{Running}
 use Rattle.dip_reports.specs.declared.refusals.Refusal.{Refusal}
-use Rattle.dip_reports.specs.declared.refusals.Refusal.TheVariants.{Malformed, Unknown, TooLong, WrongSender, NameTaken}
+use Rattle.dip_reports.specs.declared.refusals.Refusal.TheVariants.{Malformed, Unknown, Stale, NumberUsed, TooLong, WrongSender, NameTaken}
 use Rattle.dip_reports.specs.Records.{Public, Own, Head, Reply}
 use Rattle.dip_map.specs.Charts.{Chart, province, realm}
 use Rattle.dip_orders.specs.Texts.{unit_text}
@@ -35,6 +35,8 @@ yes_or_no b = if b then codes "YES" else codes "NO"
 unfoldable pub refusal_text : Refusal → List ℕ
 refusal_text Malformed = codes "L1 malformed letter"
 refusal_text Unknown = codes "L2 unknown game, sender or secret"
+refusal_text (Stale last) = codes "L3 stale number, last is " ++ decimal last
+refusal_text (NumberUsed number) = codes "L4 number " ++ decimal number ++ codes " used by another letter"
 refusal_text TooLong = codes "L5 letter over 16384 bytes"
 refusal_text WrongSender = codes "L9 command not for this sender"
 refusal_text NameTaken = codes "L11 name taken"

@@ -8,6 +8,10 @@ pub enum Refusal {
     Malformed,
     /// Nobody is the author, or the master's letter names no game.
     Unknown,
+    /// The letter's number is below its author's last, which is this.
+    Stale(u32),
+    /// The letter's number is its author's last, this one, and that was another letter.
+    NumberUsed(u32),
     /// The letter has more than 16,384 bytes.
     TooLong,
     /// The command isn't for this sender.
@@ -27,6 +31,8 @@ impl fmt::Display for Refusal {
         match self {
             Refusal::Malformed => write!(f, "L1 malformed letter"),
             Refusal::Unknown => write!(f, "L2 unknown game, sender or secret"),
+            Refusal::Stale(last) => write!(f, "L3 stale number, last is {last}"),
+            Refusal::NumberUsed(number) => write!(f, "L4 number {number} used by another letter"),
             Refusal::TooLong => write!(f, "L5 letter over 16384 bytes"),
             Refusal::WrongSender => write!(f, "L9 command not for this sender"),
             Refusal::NameTaken => write!(f, "L11 name taken"),

@@ -1,5 +1,5 @@
 use crate::{KeepFault, Keeper, MemoryKeeper, fault_reply, run, take};
-use dip_letters::{Letter, LetterFault, Next, digest, next_letter};
+use dip_letters::{Letter, LetterFault, Next, digest, next_letter, sum};
 use dip_map::Map;
 use dip_reports::{opening_paper_text, reply_text};
 use std::alloc::Global;
@@ -117,13 +117,13 @@ fn an_order_replaces_what_stands_for_its_province(rt: HostRuntime) -> Result<(),
     let again = with(
         alloc,
         ORDERS,
-        "F edi - nth\nf  LON h\n",
-        "F edi H\nA lon H\nA par H\nA lvp - bel\nF lon - yor VIA\n",
+        "NUMBER 1\nORDERS\nF edi - nth\nf  LON h\n",
+        "NUMBER 2\nORDERS\nF edi H\nA lon H\nA par H\nA lvp - bel\nF lon - yor VIA\n",
     )?;
     let ordered = answer(&rt, alloc, &mut keeper, &map, again.as_str())?;
     assert_eq!(rt;
         ordered.as_str(),
-        "REPLY g1 england 1
+        "REPLY g1 england 2
 OK F edi H
 O4 line 2: wrong kind of unit
 O3 line 3: no unit of yours there
@@ -132,7 +132,8 @@ O1 line 5: cannot be read
 END
 "
     );
-    let shown = answer(&rt, alloc, &mut keeper, &map, SHOW)?;
+    let show = with(alloc, SHOW, "NUMBER 2", "NUMBER 3")?;
+    let shown = answer(&rt, alloc, &mut keeper, &map, show.as_str())?;
     let (_, orders) = shown.as_str().split_once("INBOX 0\n").ok_or("no inbox")?;
     assert_eq!(rt;
         orders,
@@ -168,29 +169,48 @@ fn whoever_is_not_known_gets_one_answer(rt: HostRuntime) -> Result<(), Fail> {
     Ok(())
 }
 
+/// The master's letter of this number, which asks for a game with these seats at the end of its list.
+fn masters(alloc: Global, number: &str, old: &str, new: &str) -> Result<String, Fail> {
+    let changed = with(alloc, CREATE, old, new)?;
+    with(alloc, changed.as_str(), "NUMBER 1", number)
+}
+
 #[test]
 fn refuses_in_the_order_of_the_rules(rt: HostRuntime) -> Result<(), Fail> {
     let alloc = rt.alloc();
     let map = Map::standard(alloc)?;
     let mut keeper = desk(alloc);
-    let six = with(alloc, CREATE, "SEAT turkey tttttttt\n", "")?;
-    let twice = with(alloc, CREATE, "SEAT turkey", "SEAT russia")?;
-    let foreign = with(alloc, CREATE, "SEAT turkey", "SEAT spain")?;
-    for seats in [six.as_str(), twice.as_str(), foreign.as_str()] {
+    let six = masters(alloc, "NUMBER 1", "SEAT turkey tttttttt\n", "")?;
+    let twice = masters(alloc, "NUMBER 2", "SEAT turkey", "SEAT russia")?;
+    let foreign = masters(alloc, "NUMBER 3", "SEAT turkey", "SEAT spain")?;
+    for (seats, wanted) in [
+        (
+            six.as_str(),
+            "REPLY g1 master 1\nL1 malformed letter\nEND\n",
+        ),
+        (
+            twice.as_str(),
+            "REPLY g1 master 2\nL1 malformed letter\nEND\n",
+        ),
+        (
+            foreign.as_str(),
+            "REPLY g1 master 3\nL1 malformed letter\nEND\n",
+        ),
+    ] {
         let text = answer(&rt, alloc, &mut keeper, &map, seats)?;
-        assert_eq!(rt;
-            text.as_str(),
-            "REPLY g1 master 1\nL1 malformed letter\nEND\n"
-        );
+        assert_eq!(rt; text.as_str(), wanted);
     }
-    answer(&rt, alloc, &mut keeper, &map, CREATE)?;
+    let created = with(alloc, CREATE, "NUMBER 1", "NUMBER 4")?;
+    answer(&rt, alloc, &mut keeper, &map, created.as_str())?;
+    let six = masters(alloc, "NUMBER 5", "SEAT turkey tttttttt\n", "")?;
     let text = answer(&rt, alloc, &mut keeper, &map, six.as_str())?;
     assert_eq!(rt;
         text.as_str(),
-        "REPLY g1 master 1\nL1 malformed letter\nEND\n"
+        "REPLY g1 master 5\nL1 malformed letter\nEND\n"
     );
-    let text = answer(&rt, alloc, &mut keeper, &map, CREATE)?;
-    assert_eq!(rt; text.as_str(), "REPLY g1 master 1\nL11 name taken\nEND\n");
+    let again = with(alloc, CREATE, "NUMBER 1", "NUMBER 6")?;
+    let text = answer(&rt, alloc, &mut keeper, &map, again.as_str())?;
+    assert_eq!(rt; text.as_str(), "REPLY g1 master 6\nL11 name taken\nEND\n");
     let own = with(
         alloc,
         CREATE,
@@ -202,16 +222,105 @@ fn refuses_in_the_order_of_the_rules(rt: HostRuntime) -> Result<(), Fail> {
         text.as_str(),
         "REPLY g1 england 1\nL9 command not for this sender\nEND\n"
     );
-    let masters = with(
+    let show = with(
         alloc,
         SHOW,
-        "FROM england\nSECRET eeeeeeee",
-        "FROM master\nSECRET master-key",
+        "FROM england\nSECRET eeeeeeee\nNUMBER 2",
+        "FROM master\nSECRET master-key\nNUMBER 7",
     )?;
-    let text = answer(&rt, alloc, &mut keeper, &map, masters.as_str())?;
+    let text = answer(&rt, alloc, &mut keeper, &map, show.as_str())?;
     assert_eq!(rt;
         text.as_str(),
-        "REPLY g1 master 2\nL9 command not for this sender\nEND\n"
+        "REPLY g1 master 7\nL9 command not for this sender\nEND\n"
+    );
+    Ok(())
+}
+
+#[test]
+fn a_letter_that_comes_twice_acts_once(rt: HostRuntime) -> Result<(), Fail> {
+    let alloc = rt.alloc();
+    let map = Map::standard(alloc)?;
+    let mut keeper = desk(alloc);
+    for first in [CREATE, ORDERS, SHOW] {
+        let once = answer(&rt, alloc, &mut keeper, &map, first)?;
+        let twice = answer(&rt, alloc, &mut keeper, &map, first)?;
+        assert_eq!(rt; once.as_str(), twice.as_str());
+    }
+    let third = with(
+        alloc,
+        ORDERS,
+        "NUMBER 1\nORDERS\nF edi - nth\nf  LON h\n",
+        "NUMBER 3\nORDERS\nF edi H\n",
+    )?;
+    for _ in 0..2 {
+        let text = answer(&rt, alloc, &mut keeper, &map, third.as_str())?;
+        assert_eq!(rt; text.as_str(), "REPLY g1 england 3\nOK F edi H\nEND\n");
+    }
+    let stale = answer(&rt, alloc, &mut keeper, &map, SHOW)?;
+    assert_eq!(rt;
+        stale.as_str(),
+        "REPLY g1 england 2\nL3 stale number, last is 3\nEND\n"
+    );
+    let used = with(alloc, third.as_str(), "F edi H", "F edi - nth")?;
+    let text = answer(&rt, alloc, &mut keeper, &map, used.as_str())?;
+    assert_eq!(rt;
+        text.as_str(),
+        "REPLY g1 england 3\nL4 number 3 used by another letter\nEND\n"
+    );
+    let fourth = with(alloc, SHOW, "NUMBER 2", "NUMBER 4")?;
+    let shown = answer(&rt, alloc, &mut keeper, &map, fourth.as_str())?;
+    assert!(rt;
+        shown
+            .as_str()
+            .ends_with("ORDER F edi H\nORDER F lon H\nEND\n")
+    );
+    let stale = answer(&rt, alloc, &mut keeper, &map, SHOW)?;
+    assert_eq!(rt;
+        stale.as_str(),
+        "REPLY g1 england 2\nL3 stale number, last is 4\nEND\n"
+    );
+    Ok(())
+}
+
+#[test]
+fn a_number_counts_for_its_author(rt: HostRuntime) -> Result<(), Fail> {
+    let alloc = rt.alloc();
+    let map = Map::standard(alloc)?;
+    let mut keeper = desk(alloc);
+    answer(&rt, alloc, &mut keeper, &map, CREATE)?;
+    let other = with(alloc, CREATE, "GAME g1", "GAME g2")?;
+    let text = answer(&rt, alloc, &mut keeper, &map, other.as_str())?;
+    assert_eq!(rt;
+        text.as_str(),
+        "REPLY g2 master 1\nL4 number 1 used by another letter\nEND\n"
+    );
+    let second = masters(alloc, "NUMBER 3", "GAME g1", "GAME g2")?;
+    let text = answer(&rt, alloc, &mut keeper, &map, second.as_str())?;
+    assert_eq!(rt; text.as_str(), "REPLY g2 master 3\nOK paper 1\nEND\n");
+    let third = masters(alloc, "NUMBER 2", "GAME g1", "GAME g3")?;
+    let text = answer(&rt, alloc, &mut keeper, &map, third.as_str())?;
+    assert_eq!(rt;
+        text.as_str(),
+        "REPLY g3 master 2\nL3 stale number, last is 3\nEND\n"
+    );
+    let stranger = with(alloc, ORDERS, "eeeeeeee\nNUMBER 1", "ffffffff\nNUMBER 9")?;
+    let text = answer(&rt, alloc, &mut keeper, &map, stranger.as_str())?;
+    assert_eq!(rt; text.as_str(), UNKNOWN);
+    let own = with(
+        alloc,
+        CREATE,
+        "FROM master\nSECRET master-key",
+        "FROM england\nSECRET eeeeeeee",
+    )?;
+    let text = answer(&rt, alloc, &mut keeper, &map, own.as_str())?;
+    assert_eq!(rt;
+        text.as_str(),
+        "REPLY g1 england 1\nL9 command not for this sender\nEND\n"
+    );
+    let text = answer(&rt, alloc, &mut keeper, &map, ORDERS)?;
+    assert_eq!(rt;
+        text.as_str(),
+        "REPLY g1 england 1\nL4 number 1 used by another letter\nEND\n"
     );
     Ok(())
 }
@@ -241,6 +350,9 @@ fn the_parts_of_a_new_game_are_kept(rt: HostRuntime) -> Result<(), Fail> {
     assert!(rt; keeper.failures() == 0);
     let desk = keeper.desk()?;
     assert!(rt; desk.digest == digest("desk", "master", "master-key"));
+    let kept = desk.kept.ok_or("nothing kept")?;
+    assert!(rt; kept.number == 1 && kept.sum == sum(CREATE.as_bytes()));
+    assert_eq!(rt; kept.reply.as_str(), "OK paper 1\n");
     let public = keeper.public(&map, "g1")?.ok_or("no game")?;
     assert!(rt; public.due == 100 && public.period == 100 && public.grey && public.papers == 1);
     assert!(rt; public.board.is_of(&map));
@@ -303,25 +415,51 @@ fn what_others_order_is_not_shown(rt: HostRuntime) -> Result<(), Fail> {
     Ok(())
 }
 
+/// What a SHOW of this number gives behind its head.
+fn shown(
+    rt: &impl Abort,
+    alloc: Global,
+    keeper: &mut MemoryKeeper,
+    map: &Map,
+    number: &str,
+) -> Result<String, Fail> {
+    let show = with(alloc, SHOW, "NUMBER 2", number)?;
+    let text = answer(rt, alloc, keeper, map, show.as_str())?;
+    let (_, lines) = text.as_str().split_once("\n").ok_or("no head")?;
+    Ok(String::from_str(alloc, lines)?)
+}
+
 #[test]
-fn a_refused_letter_changes_nothing(rt: HostRuntime) -> Result<(), Fail> {
+fn a_refused_letter_does_nothing(rt: HostRuntime) -> Result<(), Fail> {
     let alloc = rt.alloc();
     let map = Map::standard(alloc)?;
     let mut keeper = desk(alloc);
     answer(&rt, alloc, &mut keeper, &map, CREATE)?;
     answer(&rt, alloc, &mut keeper, &map, ORDERS)?;
-    let before = answer(&rt, alloc, &mut keeper, &map, SHOW)?;
+    let before = shown(&rt, alloc, &mut keeper, &map, "NUMBER 2")?;
     let own = with(
         alloc,
         CREATE,
-        "FROM master\nSECRET master-key",
-        "FROM england\nSECRET eeeeeeee",
+        "FROM master\nSECRET master-key\nNUMBER 1",
+        "FROM england\nSECRET eeeeeeee\nNUMBER 3",
     )?;
+    let taken = with(alloc, CREATE, "NUMBER 1", "NUMBER 2")?;
     let stranger = with(alloc, ORDERS, "eeeeeeee", "ffffffff")?;
-    let unread = with(alloc, ORDERS, "F edi - nth\nf  LON h\n", "F edi - xyz\n")?;
-    for refused in [own.as_str(), CREATE, stranger.as_str(), unread.as_str()] {
+    let unread = with(
+        alloc,
+        ORDERS,
+        "NUMBER 1\nORDERS\nF edi - nth\nf  LON h\n",
+        "NUMBER 5\nORDERS\nF edi - xyz\n",
+    )?;
+    for (refused, number) in [
+        (own.as_str(), "NUMBER 4"),
+        (unread.as_str(), "NUMBER 6"),
+        (taken.as_str(), "NUMBER 7"),
+        (stranger.as_str(), "NUMBER 8"),
+        (ORDERS, "NUMBER 9"),
+    ] {
         answer(&rt, alloc, &mut keeper, &map, refused)?;
-        let after = answer(&rt, alloc, &mut keeper, &map, SHOW)?;
+        let after = shown(&rt, alloc, &mut keeper, &map, number)?;
         assert_eq!(rt; before.as_str(), after.as_str());
     }
     Ok(())

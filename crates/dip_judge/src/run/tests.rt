@@ -192,6 +192,99 @@ fn answers_strangers_alike(rt: HostRuntime) -> Result<(), Fail> {
     Ok(())
 }
 
+/// What SHOW gives of the game behind its head, up to the standing orders.
+const SHOWN: &str =
+    "GAME g1 S1901M running DUE 100 PERIOD 100 GREY YES PAPERS 1\naustria 3/3: A bud, F tri, A vie | bud tri vie\nengland 3/3: F edi, F lon, A lvp | edi lon lvp\nfrance 3/3: F bre, A mar, A par | bre mar par\ngermany 3/3: A ber, F kie, A mun | ber kie mun\nitaly 3/3: F nap, A rom, A ven | nap rom ven\nrussia 4/4: A mos, F sev, F stp/sc, A war | mos sev stp war\nturkey 3/3: F ank, A con, A smy | ank con smy\nVOTE NO\nSENT 0 INBOX 0\n";
+
+/// A letter of a power of game g1.
+fn of_power(
+    alloc: Global,
+    power: &str,
+    secret: &str,
+    number: &str,
+    command: &str,
+) -> Result<String, Fail> {
+    Ok(format!(in alloc;
+        "LETTER\nGAME g1\nFROM {power}\nSECRET {secret}\nNUMBER {number}\n{command}END\n"
+    )?)
+}
+
+fn of_england(alloc: Global, number: &str, command: &str) -> Result<String, Fail> {
+    of_power(alloc, "england", "eeeeeeee", number, command)
+}
+
+#[test]
+fn a_letter_that_comes_twice_acts_once(rt: HostRuntime) -> Result<(), Fail> {
+    let alloc = rt.alloc();
+    let map = standard(alloc)?;
+    let first = of_england(alloc, "1", "ORDERS\nF edi - nth\nf  LON h\n")?;
+    let second = of_england(alloc, "2", "SHOW\n")?;
+    let third = of_england(alloc, "3", "ORDERS\nF edi H\n")?;
+    let used = of_england(alloc, "3", "ORDERS\nF edi - nth\n")?;
+    let fourth = of_england(alloc, "4", "SHOW\n")?;
+    let (first, second, third) = (first.as_str(), second.as_str(), third.as_str());
+    let held = "REPLY g1 england 3\nOK F edi H\nEND\n";
+    assert_answers(
+        &rt,
+        alloc,
+        &map,
+        &[
+            CREATE,
+            CREATE,
+            first,
+            second,
+            third,
+            third,
+            second,
+            used.as_str(),
+            fourth.as_str(),
+            second,
+        ],
+        &[
+            CREATED,
+            CREATED,
+            "REPLY g1 england 1\nOK F edi - nth\nOK F lon H\nEND\n",
+            "REPLY g1 england 2\n",
+            SHOWN,
+            "ORDER F edi - nth\nORDER F lon H\nEND\n",
+            held,
+            held,
+            "REPLY g1 england 2\nL3 stale number, last is 3\nEND\n",
+            "REPLY g1 england 3\nL4 number 3 used by another letter\nEND\n",
+            "REPLY g1 england 4\n",
+            SHOWN,
+            "ORDER F edi H\nORDER F lon H\nEND\n",
+            "REPLY g1 england 2\nL3 stale number, last is 4\nEND\n",
+        ],
+    )
+}
+
+#[test]
+fn what_others_order_is_not_shown(rt: HostRuntime) -> Result<(), Fail> {
+    let alloc = rt.alloc();
+    let map = standard(alloc)?;
+    let orders = of_power(alloc, "france", "ffffffff", "1", "ORDERS\nA par - bur\n")?;
+    let show = of_england(alloc, "1", "SHOW\n")?;
+    let orders = orders.as_str();
+    let show = show.as_str();
+    let ordered = "REPLY g1 france 1\nOK A par - bur\nEND\n";
+    let head = "REPLY g1 england 1\n";
+    assert_answers(
+        &rt,
+        alloc,
+        &map,
+        &[CREATE, show],
+        &[CREATED, head, SHOWN, "END\n"],
+    )?;
+    assert_answers(
+        &rt,
+        alloc,
+        &map,
+        &[CREATE, orders, show],
+        &[CREATED, ordered, head, SHOWN, "END\n"],
+    )
+}
+
 #[test]
 fn reads_one_spelling_of_a_letter(rt: HostRuntime) -> Result<(), Fail> {
     let alloc = rt.alloc();

@@ -1,6 +1,6 @@
 use Rattle.std.proofs.Common.{◌≡◌, [], ◌∷◌, ◌++◌, map, take, arith, sym, ap, ◌∙◌}
 use Rattle.std.proofs.lemmas.List.{take_all}
-use Rattle.dip_letters.specs.Views.{note}
+use Rattle.dip_desk.specs.Mail.{mail}
 use Rattle.dip_reports.specs.Rows as texts
 use Rattle.dip_desk.proofs.Runs.{history_more, map_more, settled, taken_more}
 use Rattle.dip_desk.proofs.taking.run.Goals as goal
@@ -14,7 +14,7 @@ loop-letter-preserved g c =
       sound = λ sound shows. c.take.ensures.sound (c.loop-letter.invariant.sound sound (c.take.ensures.shown shows)) shows;
       steps = λ sound shows.
           let more = history_more c.args.map.now (content c.args.keeper.now) (content c.loop-letter.keeper) (content c.take.new.keeper) _ _ _ (texts.reply c.in-Ok-take.reply) (c.loop-letter.invariant.steps sound (c.take.ensures.shown shows)) (c.in-Ok-take.ensures.step (c.loop-letter.invariant.sound sound (c.take.ensures.shown shows)) shows) in
-          (more.0, record { run = more.1.run; asked = more.1.asked ∙ sym (taken_more (λ x. note x) c.args.letters.now c.loop-letter.letter-index _ (omega arith)); answered = more.1.answered ∙ sym replies });
+          (more.0, record { run = more.1.run; asked = more.1.asked ∙ sym (taken_more (λ x. mail x) c.args.letters.now c.loop-letter.letter-index _ (omega arith)); answered = more.1.answered ∙ sym replies });
       faults = c.in-Ok-take.ensures.count ∙ c.loop-letter.invariant.faults;
       «open» = λ sound shows honest. let before = c.loop-letter.invariant.open sound shows (c.take.ensures.fair honest) in (c.in-Ok-take.ensures.open before.1 honest before.0, c.in-Ok-take.ensures.firm before.1 honest);
       count = omega arith;
@@ -26,4 +26,4 @@ returns-clause-run g c sound shows =
     let content = g.K.Keeper.content in
     let steps = c.loop-letter.invariant.steps sound shows in
     let whole : take c.loop-letter.letter-index c.args.letters.now ≡ c.args.letters.now = take_all _ _ (omega arith) in
-    (steps.0, record { run = steps.1.run; asked = steps.1.asked ∙ ap (λ ls. map (λ l. note l) ls) whole; answered = steps.1.answered }, settled c.args.map.now (content c.args.keeper.now) (content c.loop-letter.keeper) steps.0 steps.1.run)
+    (steps.0, record { run = steps.1.run; asked = steps.1.asked ∙ ap (λ ls. map (λ l. mail l) ls) whole; answered = steps.1.answered }, settled c.args.map.now (content c.args.keeper.now) (content c.loop-letter.keeper) steps.0 steps.1.run)

@@ -5,3 +5,6 @@ pub mod OrderingLemmas
 pub mod Suiting
 pub mod Seeing
 pub mod Runs
+pub mod ListLemmas
+pub mod LawfulOrders
+pub mod LawfulStates

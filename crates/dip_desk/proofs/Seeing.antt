@@ -50,7 +50,7 @@ unknown_seen m power true s n known =
     sym (ap (λ (v : Verdict). with_own s (option_map (own_by n v) s.own)) (known refl) ∙ ap (with_own s) (unknown_own s.own n))
 
 -- a seat's own part keeps its power
-own_power : (k : Kept) (lines : Option (List (List ℕ))) (o : Own) → (own_after k lines o).power ≡ o.power
+pub own_power : (k : Kept) (lines : Option (List (List ℕ))) (o : Own) → (own_after k lines o).power ≡ o.power
 own_power k None o = refl
 own_power k (Some lines) o = refl
 

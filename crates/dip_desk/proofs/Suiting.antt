@@ -28,15 +28,18 @@ VerdictSuits name who game NotKnown = Unit {0}
 VerdictSuits name who game (Old text) = Unit {0}
 VerdictSuits name who game (Taken text e) = Suits name who game e
 
--- an old number has no effect
-number_suits : (name : List ℕ) (who : Author) (game : Option Game) (n : Mail) (k : Option Kept) (v : Verdict) → VerdictSuits name who game v → VerdictSuits name who game (by_number n k v)
-number_suits name who game n None v h = h
-number_suits name who game n (Some k) v h = go (nat_lt n.number k.number) (n.number == k.number)
+-- what holds of each answer to an old number, and of what is decided of a new one
+pub number_holds : (P : Verdict → Type 0) → ((text : List ℕ) → P (Old text)) → (n : Mail) (k : Option Kept) (v : Verdict) → P v → P (by_number n k v)
+number_holds P old n None v h = h
+number_holds P old n (Some k) v h = go (nat_lt n.number k.number) (n.number == k.number)
   where
-    go : (a b : Bool) → VerdictSuits name who game (unwrap_or (cond a (Some (Old (refusal_line (Stale k.number)))) (cond b (Some (Old (repeated n k))) None)) v)
-    go true b = tt
-    go false true = tt
+    go : (a b : Bool) → P (unwrap_or (cond a (Some (Old (refusal_line (Stale k.number)))) (cond b (Some (Old (repeated n k))) None)) v)
+    go true b = old (refusal_line (Stale k.number))
+    go false true = old (repeated n k)
     go false false = h
+
+number_suits : (name : List ℕ) (who : Author) (game : Option Game) (n : Mail) (k : Option Kept) (v : Verdict) → VerdictSuits name who game v → VerdictSuits name who game (by_number n k v)
+number_suits name who game n k v h = number_holds (VerdictSuits name who game) (λ text. tt) n k v h
 
 command_suits : (m : Chart) (name : List ℕ) (p : ℕ) (g : Game) (command : Request) (o : Own) → VerdictSuits name (Seat p) (Some g) (seat_command m command g.public o)
 command_suits m name p g (Create due period grey seats) o = tt

@@ -9,3 +9,4 @@ pub mod Verdicts
 pub mod Ordering
 pub mod OrderingRows
 pub mod View
+pub mod Lawful

@@ -1,8 +1,12 @@
 //! Laws of the desk machine, each the contract of a function that does nothing.
 ghost use Rattle.std.specs.Prelude.{List};
 ghost use Rattle.dip_map.specs.Charts.{Chart};
+ghost use Rattle.dip_desk.specs.Lawful.{HasNoForeignLines, StaysLawful};
 ghost use Rattle.dip_desk.specs.State.{State};
 ghost use Rattle.dip_desk.specs.View.{IsAnsweredFromSeen, IsRun, IsSettledByView, IsShownByOthers, Turn};
+
+use dip_map::{Map, openings_are_of_their_map};
+use dip_orders::orders_are_read_again;
 
 /// A letter of a seat gets one reply in all states that the seat sees alike, and leaves them alike for it.
 pub fn answered_from_what_is_seen()
@@ -19,3 +23,13 @@ pub fn settled_by_view()
 pub fn shown_by_others()
     ensures { IsShownByOthers }
 {}
+
+/// Each letter leads from a lawful state to a lawful one, and in a lawful state no standing line is foreign to its board.
+pub fn lawful_states_stay_lawful(map: &Map)
+    ensures stays { StaysLawful map.now }
+    ensures sane { HasNoForeignLines map.now }
+{
+    map.facts();
+    openings_are_of_their_map();
+    orders_are_read_again();
+}

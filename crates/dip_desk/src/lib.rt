@@ -8,7 +8,9 @@ mod ordering;
 mod taking;
 
 pub use keeper::{Author, Change, Desk, Effect, KeepFault, Keeper, NewSeat};
-pub use laws::{answered_from_what_is_seen, settled_by_view, shown_by_others};
+pub use laws::{
+    answered_from_what_is_seen, lawful_states_stay_lawful, settled_by_view, shown_by_others,
+};
 pub use memory::MemoryKeeper;
 pub use taking::{fault_reply, run, take};
 

@@ -1,7 +1,8 @@
 //! One letter at a time.
 ghost use Rattle.std.specs.Prelude.{◌≡◌, ◌<◌, ◌==◌, ◌⊎◌, ℕ, List, take as first, IfErr, IsErrOf, true, Option, Some, IfOk, OnOk, OnErr, map as each, option_map, is_none, is_some, string_bytes, bytes_eq, count_by};
 ghost use Rattle.dip_letters.specs.Views.{lines_in, request, seat_note, seats_in};
-ghost use Rattle.dip_desk.specs.Mail.{mail};
+ghost use Rattle.dip_desk.specs.Lawful.{IsLawful};
+ghost use Rattle.dip_desk.specs.Mail.{Mail, mail};
 ghost use Rattle.dip_desk.specs.State as s;
 ghost use Rattle.dip_desk.specs.Machine as m;
 ghost use Rattle.dip_desk.specs.Rows as rows;
@@ -13,6 +14,7 @@ ghost use Rattle.dip_reports.specs.Records as records;
 ghost use Rattle.dip_desk.specs.View.{IsHistory, IsSettledByView, Turn};
 
 use crate::keeper::{Author, Change, Effect, KeepFault, Keeper, NewSeat};
+use crate::laws::lawful_states_stay_lawful;
 use crate::ordering::{Ordered, order_lines, standing_orders, take_lines};
 use dip_letters::{Command, Letter, LetterFault, Lines, Opening, Seat, Seats, digest, sum};
 use dip_map::{Board, Map, Power};
@@ -565,9 +567,14 @@ pub fn run<K: Keeper>(
     // Up to a fault the same of the letters before it.
     ensures err { K.sound keeper.old → K.shows keeper.new → IfErr result (λ e. (n : ℕ) × (turns : List Turn)
         × IsHistory map.now (K.content keeper.old) (each (λ l. mail l) (first n letters.now)) (each (λ r. texts.reply r) e.0.items) (K.content keeper.new) turns) }
+    // Damaged is told only of a standing line that is foreign to its board, and never from a lawful state on.
+    ensures sane { K.sound keeper.old → K.shows keeper.new → IfErr result (λ e. e.1 ≡ KeepFault.Damaged → (n : Mail) × m.HasForeignLine map.now (K.content keeper.new) n) }
+    ensures never { K.sound keeper.old → K.shows keeper.new → IsLawful map.now (K.content keeper.old) → IfErr result (λ e. e.1 ≡ KeepFault.Damaged → ⊥) }
+    ensures lawful { K.sound keeper.old → K.shows keeper.new → IsLawful map.now (K.content keeper.old) → IsLawful map.now (K.content keeper.new) }
     ensures count { K.faults keeper.new ≡ faults_after_run result (K.faults keeper.old) }
     ensures open { K.sound keeper.old → K.honest keeper.new → K.shows keeper.old → OnOk result (K.shows keeper.new) }
 {
+    lawful_states_stay_lawful(map);
     let mut replies = match Vec::with_capacity(alloc, letters.len()) {
         Ok(replies) => replies,
         Err(_) => return Err((Vec::new(alloc), KeepFault::Memory)),

@@ -258,7 +258,7 @@ draft_takes (a ∷ b ∷ c ∷ e ∷ f ∷ more) d h = absurd (cc)
 same_text : (t word : List ℕ) → t ≡ word → bytes_eq t word ≡ true
 same_text t word e = (bytes_eq-Decides t word).1 e
 
-draft_again : (ts : List (List ℕ)) (d : Draft) → map small ts ≡ form_of d → is_draft d ≡ true → draft_at ts ≡ Some d
+pub draft_again : (ts : List (List ℕ)) (d : Draft) → map small ts ≡ form_of d → is_draft d ≡ true → draft_at ts ≡ Some d
 draft_again [] (Hold u) h ok = absurd (cc)
 draft_again (a ∷ []) (Hold u) h ok = absurd (cc)
 draft_again (a ∷ b ∷ []) (Hold u) h ok = absurd (cc)
@@ -287,7 +287,7 @@ pub draft_law : (line : List ℕ) (ts : List (List ℕ)) (r : Option Draft) → 
 draft_law line ts None s e = (tt, λ d says. let again = draft_again says.tokens d says.form says.places in let same = one_spelling line ts says.tokens s says.spells in absurd (cc))
 draft_law line ts (Some d) s e = let (form, places) = draft_takes ts d (sym e) in (record { tokens = ts; spells = s; form = form; places = places }, tt)
 
-form_short : (d : Draft) → length (form_of d) ≤ 4
+pub form_short : (d : Draft) → length (form_of d) ≤ 4
 form_short (Hold u) = omega arith
 form_short (Move u to) = omega arith
 

@@ -3,3 +3,4 @@ pub mod SpellingLaws
 pub mod FormLaws
 pub mod PrintLaws
 pub mod RoundTrip
+pub mod ReadingLaws

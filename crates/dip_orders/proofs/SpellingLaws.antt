@@ -175,7 +175,7 @@ read_is_spelled line ts h = scan_spelled [] line ts refl h
 pub one_spelling : (line : List ℕ) (ts us : List (List ℕ)) → Spells line ts → Spells line us → ts ≡ us
 one_spelling line ts us s t = let a = spelled_is_read line ts s in let b = spelled_is_read line us t in cc
 
-few_is : (o : Option (List (List ℕ))) (ts : List (List ℕ)) → few o ≡ Some ts → o ≡ Some ts
+pub few_is : (o : Option (List (List ℕ))) (ts : List (List ℕ)) → few o ≡ Some ts → o ≡ Some ts
 few_is None ts h = absurd (cc)
 few_is (Some us) ts h =
     elim (cases_Bool (nat_le (length us) 8)) [

@@ -10,7 +10,7 @@ mod reading;
 mod words;
 
 pub use faults::OrderFault;
-pub use laws::printed_is_read;
+pub use laws::{orders_are_read_again, printed_is_read};
 pub use placed::{Order, PlacedOrder};
 pub use printing::{print_order, print_unit};
 pub use reading::read_order;

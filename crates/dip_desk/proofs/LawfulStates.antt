@@ -1,0 +1,203 @@
+-- Each step keeps a state lawful.
+use Rattle.std.proofs.Common.{◌≡◌, ℕ, ◌==◌, Bool, true, false, cond, List, [], ◌∷◌, ◌++◌, refl, sym, ap, subst, ◌∙◌, Option, Some, None, bytes_eq, map}
+use Rattle.std.specs.Prelude.{count_by}
+use Rattle.std.specs.List.{AllByRecursion, list_all}
+use Rattle.std.specs.Option.{option_or}
+use Rattle.std.proofs.lemmas.Bool.{false≢true}
+use Rattle.dip_letters.specs.Notes.{Request}
+use Rattle.dip_letters.specs.Notes.Request.{Create, Orders, Show}
+use Rattle.dip_map.specs.Boards.{Position, IsOf, opening}
+use Rattle.dip_map.specs.Charts.{Chart, IsMap}
+use Rattle.dip_reports.specs.Records.{Public, Own, Kept}
+use Rattle.dip_reports.specs.Texts.{numbers}
+use Rattle.dip_reports.specs.declared.refusals.Refusal.TheVariants.{Malformed, WrongSender}
+use Rattle.dip_desk.specs.Keyed.{at, change_at}
+use Rattle.dip_desk.specs.Lawful.{AreNamedApart, HasNoForeignLines, IsCanonical, IsLawful, IsLawfulGame, IsLawfulSeat, StaysLawful}
+use Rattle.dip_desk.specs.Machine.{Decides, IsForeignTo, Verdict, NotKnown, Old, Taken, after, are_complete, author, by_number, created, kept_of, master_verdict, new_seats, open_game, opening_public, refused, seat_command, seen_in, verdict_by, verdict_on}
+use Rattle.dip_desk.specs.Mail.{Mail}
+use Rattle.dip_desk.specs.State.{State, Game, Author, Nobody, TheMaster, Seat, Effect, Nothing, Pending, Opens, NewSeat, fresh, game_at, name_of, opened, own_after, pending_in, seat_at, with_seat}
+use Rattle.dip_desk.specs.Ordering.{has_foreign}
+use Rattle.dip_desk.proofs.KeyedLemmas.{at-append, names_tell}
+use Rattle.dip_desk.proofs.LawfulOrders.{ReadsAgain, canonical_own, ordered_canonical}
+use Rattle.dip_desk.proofs.ListLemmas.{all_at, all_change, all_last, all_of, all_same, count_change, count_map}
+use Rattle.dip_desk.proofs.Seeing.{own_power}
+use Rattle.dip_desk.proofs.Suiting.{Suits, decides_suits, number_holds, opens_where}
+
+-- names stay apart
+
+absent_change : (k j : List ℕ) (f : Game → Game) (gs : List Game) → ((g : Game) → name_of (f g) ≡ name_of g) → at bytes_eq name_of k gs ≡ None
+    → at bytes_eq name_of k (change_at bytes_eq name_of j f gs) ≡ None
+absent_change k j f [] keeps none = refl
+absent_change k j f (g ∷ gs) keeps none =
+    let skip : at bytes_eq name_of k gs ≡ None → bytes_eq (name_of g) k ≡ false → (b : Bool) → at bytes_eq name_of k (cond b (f g ∷ gs) (g ∷ change_at bytes_eq name_of j f gs)) ≡ None =
+    λ rest other. elim [
+      | true ↦ ap (λ (n : List ℕ). cond (bytes_eq n k) (Some (f g)) (at bytes_eq name_of k gs)) (keeps g) ∙ ap (λ (c : Bool). cond c (Some (f g)) (at bytes_eq name_of k gs)) other ∙ rest
+      | false ↦ ap (λ (c : Bool). cond c (Some g) (at bytes_eq name_of k (change_at bytes_eq name_of j f gs))) other ∙ absent_change k j f gs keeps rest
+    ]
+    in
+    let go : (b : Bool) → bytes_eq (name_of g) k ≡ b → cond b (Some g) (at bytes_eq name_of k gs) ≡ None
+    → at bytes_eq name_of k (cond (bytes_eq (name_of g) j) (f g ∷ gs) (g ∷ change_at bytes_eq name_of j f gs)) ≡ None =
+    elim [
+      | true ↦ λ is rest. absurd (cc)
+      | false ↦ λ is rest. skip rest is (bytes_eq (name_of g) j)
+    ]
+    in go (bytes_eq (name_of g) k) refl none
+
+apart_change : (j : List ℕ) (p : ℕ) (h : Own → Own) (gs : List Game) → AreNamedApart gs → AreNamedApart (change_at bytes_eq name_of j (with_seat p h) gs)
+apart_change j p h [] apart = tt
+apart_change j p h (g ∷ gs) apart =
+    let go : (b : Bool) → AreNamedApart (cond b (with_seat p h g ∷ gs) (g ∷ change_at bytes_eq name_of j (with_seat p h) gs)) =
+    elim [
+      | true ↦ (apart.0, apart.1)
+      | false ↦ (absent_change (name_of g) j (with_seat p h) gs (λ x. refl) apart.0, apart_change j p h gs apart.1)
+    ]
+    in go (bytes_eq (name_of g) j)
+
+unlike : (a b : List ℕ) → bytes_eq a b ≡ false → bytes_eq b a ≡ false
+unlike a b differ = go (bytes_eq b a) refl
+  where
+    go : (c : Bool) → bytes_eq b a ≡ c → c ≡ false
+    go true is = absurd (false≢true (sym differ ∙ ap (λ (x : List ℕ). bytes_eq a x) (names_tell.same b a is) ∙ names_tell.self a))
+    go false is = refl
+
+apart_last : (gs : List Game) (new : Game) → AreNamedApart gs → at bytes_eq name_of (name_of new) gs ≡ None → AreNamedApart (gs ++ new ∷ [])
+apart_last [] new apart none = (refl, tt)
+apart_last (g ∷ gs) new apart none =
+    let go : (b : Bool) → bytes_eq (name_of g) (name_of new) ≡ b → cond b (Some g) (at bytes_eq name_of (name_of new) gs) ≡ None → AreNamedApart (g ∷ (gs ++ new ∷ [])) =
+    elim [
+      | true ↦ λ is rest. absurd (cc)
+      | false ↦ λ is rest. (
+        at-append bytes_eq name_of (name_of g) gs (new ∷ [])
+            ∙ ap (λ (o : Option Game). option_or o (cond (bytes_eq (name_of new) (name_of g)) (Some new) None)) apart.0
+            ∙ ap (λ (c : Bool). cond c (Some new) None) (unlike (name_of g) (name_of new) is),
+        apart_last gs new apart.1 rest,
+      )
+    ]
+    in go (bytes_eq (name_of g) (name_of new)) refl none
+
+-- a seat's letter
+
+abbrev pub Fits : Chart → Position → ℕ → Option (List (List ℕ)) → Type 0
+Fits m b power None = Unit {0}
+Fits m b power (Some lines) = AllByRecursion (IsCanonical m b power) lines
+
+own_lawful : (m : Chart) (b : Position) (k : Kept) (lines : Option (List (List ℕ))) (o : Own) → IsLawfulSeat m b o → Fits m b o.power lines → IsLawfulSeat m b (own_after k lines o)
+own_lawful m b k None o l fits = record { pending = l.pending; sent = l.sent; items = l.items }
+own_lawful m b k (Some lines) o l fits = record { pending = fits; sent = l.sent; items = l.items }
+
+seat_game : (m : Chart) (g : Game) (p : ℕ) (k : Kept) (lines : Option (List (List ℕ))) → IsLawfulGame m g
+    → ((o : Own) → seat_at p g.seats ≡ Some o → Fits m g.public.board o.power lines) → IsLawfulGame m (with_seat p (own_after k lines) g)
+seat_game m g p k lines l fits = record {
+  board = l.board;
+  powers = all_same (λ q. count_by (λ (o : Own). o.power == q) (change_at (λ a b. a == b) (λ (o : Own). o.power) p (own_after k lines) g.seats) == 1)
+      (λ q. count_by (λ (o : Own). o.power == q) g.seats == 1) (numbers 0 m.realms)
+      (λ q. ap (λ (c : ℕ). c == 1) (count_change (λ a b. a == b) (λ (o : Own). o.power) p (own_after k lines) (λ j. j == q) g.seats (own_power k lines)))
+      ∙ l.powers;
+  seats = all_change (λ a b. a == b) (λ (o : Own). o.power) p (own_after k lines) (IsLawfulSeat m g.public.board) g.seats l.seats
+      (λ o found lo. own_lawful m g.public.board k lines o lo (fits o found));
+  papers = l.papers;
+}
+
+abbrev pub VerdictFits : Chart → Position → ℕ → Verdict → Type 0
+VerdictFits m b power NotKnown = Unit {0}
+VerdictFits m b power (Old text) = Unit {0}
+VerdictFits m b power (Taken text e) = Fits m b power (pending_in e)
+
+command_fits : (m : Chart) (p : Public) (o : Own) (command : Request) → ReadsAgain m p.board → VerdictFits m p.board o.power (seat_command m command p o)
+command_fits m p o (Create due period grey seats) again = tt
+command_fits m p o (Orders lines) again = ordered_canonical m p.board o.power o.pending lines again
+command_fits m p o Show again = tt
+
+seat_fits : (m : Chart) (n : Mail) (g : Game) (p : ℕ) (text : List ℕ) (e : Effect) → ReadsAgain m g.public.board → Taken text e ≡ verdict_on m n (seen_in p (Some g))
+    → (o : Own) → seat_at p g.seats ≡ Some o → Fits m g.public.board o.power (pending_in e)
+seat_fits m n g p text e again d o found =
+    let is : by_number n o.kept (seat_command m n.command g.public o) ≡ Taken text e = sym (d ∙ ap (λ (x : Option Own). verdict_by m n (Some g.public) x) found) in
+    subst (VerdictFits m g.public.board o.power) is
+    (number_holds (VerdictFits m g.public.board o.power) (λ t. tt) n o.kept (seat_command m n.command g.public o) (command_fits m g.public o n.command again))
+
+seats_lawful : (m : Chart) (s : State) (n : Mail) (p : ℕ) (text : List ℕ) (e : Effect) → ((b : Position) → IsOf m b → ReadsAgain m b) → Decides m s n (Seat p) (Taken text e) → IsLawful m s
+    → AllByRecursion (IsLawfulGame m) (change_at bytes_eq name_of n.game (with_seat p (own_after (kept_of n text) (pending_in e))) s.games)
+seats_lawful m s n p text e again d l =
+    all_change bytes_eq name_of n.game (with_seat p (own_after (kept_of n text) (pending_in e))) (IsLawfulGame m) s.games l.games
+    (λ g found lg. seat_game m g p (kept_of n text) (pending_in e) lg
+    (seat_fits m n g p text e (again g.public.board lg.board) (d ∙ ap (λ (x : Option Game). verdict_on m n (seen_in p x)) found)))
+
+-- a new game
+
+abbrev pub OpensLawful : Chart → Verdict → Type 0
+OpensLawful m NotKnown = Unit {0}
+OpensLawful m (Old text) = Unit {0}
+OpensLawful m (Taken text Nothing) = Unit {0}
+OpensLawful m (Taken text (Pending lines)) = Unit {0}
+OpensLawful m (Taken text (Opens public paper seats)) = (public.board ≡ opening m) × (public.papers ≡ 1) × (are_complete m seats ≡ true)
+
+created_lawful : (m : Chart) (name : List ℕ) (due period : ℕ) (grey : Bool) (found : Option (List NewSeat)) (game : Option Game)
+    → OpensLawful m (created m (opening_public m name due period grey) found game)
+created_lawful m name due period grey None game = tt
+created_lawful m name due period grey (Some seats) game = go (are_complete m seats) refl game
+  where
+    go : (b : Bool) → are_complete m seats ≡ b → (game : Option Game) → OpensLawful m (cond b (open_game m (opening_public m name due period grey) seats game) (refused Malformed))
+    go true is None = (refl, refl, is)
+    go true is (Some g) = tt
+    go false is game = tt
+
+master_lawful : (m : Chart) (n : Mail) (k : Option Kept) (command : Request) (game : Option Game) → OpensLawful m (master_verdict m n k command game)
+master_lawful m n k (Create due period grey seats) game =
+    number_holds (OpensLawful m) (λ t. tt) n k (created m (opening_public m n.game due period grey) (new_seats m n.game seats) game) (created_lawful m n.game due period grey (new_seats m n.game seats) game)
+master_lawful m n k (Orders lines) None = tt
+master_lawful m n k (Orders lines) (Some g) = number_holds (OpensLawful m) (λ t. tt) n k (refused WrongSender) tt
+master_lawful m n k Show None = tt
+master_lawful m n k Show (Some g) = number_holds (OpensLawful m) (λ t. tt) n k (refused WrongSender) tt
+
+opened_lawful : (m : Chart) (public : Public) (paper : List ℕ) (seats : List NewSeat) → IsOf m (opening m)
+    → (public.board ≡ opening m) × (public.papers ≡ 1) × (are_complete m seats ≡ true) → IsLawfulGame m (opened public paper seats)
+opened_lawful m public paper seats fine h = record {
+  board = subst (IsOf m) (sym h.0) fine;
+  powers = all_same (λ q. count_by (λ (o : Own). o.power == q) (map fresh seats) == 1) (λ q. count_by (λ (s : NewSeat). s.power == q) seats == 1) (numbers 0 m.realms)
+      (λ q. ap (λ (c : ℕ). c == 1) (count_map fresh (λ (o : Own). o.power == q) (λ (s : NewSeat). s.power == q) seats (λ s. refl)))
+      ∙ h.2;
+  seats = all_of (IsLawfulSeat m public.board) fresh seats (λ s. record { pending = tt; sent = refl; items = refl });
+  papers = h.1;
+}
+
+-- one step
+
+lawful_after : (m : Chart) → IsOf m (opening m) → ((b : Position) → IsOf m b → ReadsAgain m b) → (s : State) (n : Mail) (who : Author) (v : Verdict)
+    → Decides m s n who v → IsLawful m s → IsLawful m (after n who v s)
+lawful_after m fine again s n who NotKnown d l = l
+lawful_after m fine again s n who (Old text) d l = l
+lawful_after m fine again s n who (Taken text e) d l = go who e d (decides_suits m s n who (Taken text e) d)
+  where
+    go : (who : Author) (e : Effect) → Decides m s n who (Taken text e) → Suits n.game who (game_at n.game s) e → IsLawful m (after n who (Taken text e) s)
+    go Nobody e d suits = absurd suits
+    go TheMaster Nothing d suits = record { games = l.games; names = l.names }
+    go TheMaster (Pending lines) d suits = record { games = l.games; names = l.names }
+    go TheMaster (Opens public paper seats) d suits =
+        let found = opens_where n.game TheMaster (game_at n.game s) public paper seats suits in
+        let opens = subst (OpensLawful m) (sym d) (master_lawful m n s.desk.kept n.command (game_at n.game s)) in record {
+          games = all_last (IsLawfulGame m) s.games (opened public paper seats) l.games (opened_lawful m public paper seats fine opens);
+          names = apart_last s.games (opened public paper seats) l.names (ap (λ (name : List ℕ). at bytes_eq name_of name s.games) found.2 ∙ found.1);
+        }
+    go (Seat p) Nothing d suits = record { games = seats_lawful m s n p text Nothing again d l; names = apart_change n.game p (own_after (kept_of n text) None) s.games l.names }
+    go (Seat p) (Pending lines) d suits = record { games = seats_lawful m s n p text (Pending lines) again d l; names = apart_change n.game p (own_after (kept_of n text) (Some lines)) s.games l.names }
+    go (Seat p) (Opens public paper seats) d suits =
+        let found = opens_where n.game (Seat p) (game_at n.game s) public paper seats suits in
+        let bad : ◌≡◌ {A = Author} (Seat p) TheMaster = found.0 in cc
+
+pub stays_lawful : (m : Chart) → IsOf m (opening m) → ((b : Position) → IsOf m b → ReadsAgain m b) → StaysLawful m
+stays_lawful m fine again old n r new l step = subst (IsLawful m) (sym step.3) (lawful_after m fine again old n (author m n old) step.0 step.1 l)
+
+-- nothing foreign
+
+pub no_foreign_lines : (m : Chart) → HasNoForeignLines m
+no_foreign_lines m s n l h = go (game_at n.game s) refl h.1
+  where
+    seat : (g : Game) → IsLawfulGame m g → (o : Option Own) → seat_at h.0 g.seats ≡ o → IsForeignTo m (Some g.public) o → ⊥
+    seat g lg None is foreign = absurd foreign
+    seat g lg (Some o) is foreign =
+        let lo : IsLawfulSeat m g.public.board o = all_at (λ a b. a == b) (λ (x : Own). x.power) h.0 (IsLawfulSeat m g.public.board) g.seats o lg.seats is in
+        absurd (false≢true (sym (canonical_own m g.public.board o.power o.pending lo.pending) ∙ foreign))
+
+    go : (game : Option Game) → game_at n.game s ≡ game → IsForeignTo m (seen_in h.0 game).public (seen_in h.0 game).own → ⊥
+    go None is foreign = absurd foreign
+    go (Some g) is foreign = seat g (all_at bytes_eq name_of n.game (IsLawfulGame m) s.games g l.games is) (seat_at h.0 g.seats) refl foreign

@@ -1,0 +1,51 @@
+-- What holds of each state that the desk comes to from an empty one.
+use Rattle.std.specs.Prelude.{◌≡◌, ◌==◌, ℕ, List, [], ◌∷◌, length, true, Ok, Option, None, bytes_eq, count_by}
+use Rattle.std.specs.List.{AllByRecursion, list_all}
+use Rattle.dip_map.specs.Boards.{Position, IsOf}
+use Rattle.dip_map.specs.Charts.{Chart}
+use Rattle.dip_orders.specs.Reading.{order_of}
+use Rattle.dip_orders.specs.Texts.{order_text}
+use Rattle.dip_orders.specs.declared.placed.PlacedOrder.{PlacedOrder}
+use Rattle.dip_reports.specs.Records.{Own}
+use Rattle.dip_reports.specs.Texts.{numbers}
+use Rattle.dip_desk.specs.Keyed.{at}
+use Rattle.dip_desk.specs.Mail.{Mail}
+use Rattle.dip_desk.specs.Machine.{HasForeignLine, Step}
+use Rattle.dip_desk.specs.State.{Game, State, name_of}
+use Rattle.dip_reports.specs.Records.{Reply}
+
+-- a line is an order of the power on the board, in its canonical text
+pub record IsCanonical (m : Chart) (b : Position) (power : ℕ) (line : List ℕ) : Type 0 where
+  pub order : PlacedOrder
+  pub read : order_of m b power line ≡ Ok order
+  pub text : line ≡ order_text m order
+
+-- a seat of a game with this board: its standing lines are orders there, and it has neither sent nor received press
+pub record IsLawfulSeat (m : Chart) (b : Position) (o : Own) : Type 0 where
+  pub pending : AllByRecursion (IsCanonical m b o.power) o.pending
+  pub sent : o.sent ≡ 0
+  pub items : o.items ≡ 0
+
+-- a game: its board is one of the map, each power of the map has one seat, and its papers are counted
+pub record IsLawfulGame (m : Chart) (g : Game) : Type 0 where
+  pub board : IsOf m g.public.board
+  pub powers : list_all (λ p. count_by (λ o. o.power == p) g.seats == 1) (numbers 0 m.realms) ≡ true
+  pub seats : AllByRecursion (IsLawfulSeat m g.public.board) g.seats
+  pub papers : g.public.papers ≡ length g.papers
+
+-- no two games have one name
+abbrev pub AreNamedApart : List Game → Type 0
+AreNamedApart [] = Unit {0}
+AreNamedApart (g ∷ gs) = (at bytes_eq name_of (name_of g) gs ≡ None) × AreNamedApart gs
+
+pub record IsLawful (m : Chart) (s : State) : Type 0 where
+  pub games : AllByRecursion (IsLawfulGame m) s.games
+  pub names : AreNamedApart s.games
+
+-- each step leads from a lawful state to a lawful one
+abbrev pub StaysLawful : Chart → Type 0
+StaysLawful m = (old : State) (n : Mail) (r : Reply) (new : State) → IsLawful m old → Step m old n r new → IsLawful m new
+
+-- in a lawful state no standing line is foreign to its board
+abbrev pub HasNoForeignLines : Chart → Type 0
+HasNoForeignLines m = (s : State) (n : Mail) → IsLawful m s → HasForeignLine m s n → ⊥

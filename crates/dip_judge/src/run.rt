@@ -3,12 +3,13 @@ ghost use Rattle.std.specs.Prelude.{◌≡◌, ◌<◌, ◌⊎◌, ℕ, List, If
 ghost use Rattle.std.specs.List.{flat_map};
 ghost use Rattle.std.specs.Io.KnownBytes.{Appends};
 ghost use Rattle.dip_letters.specs.Input.{IsNext};
+ghost use Rattle.dip_desk.specs.Lawful.{IsLawful};
 ghost use Rattle.dip_reports.specs.Texts.{reply_text};
 ghost use Rattle.dip_reports.specs.Rows as rows;
 ghost use Rattle.dip_judge.specs.Runs.{AnswersAll, IsReadToEnd, IsReadWhole, IsTurn, IsUntouched, Stops};
 ghost use Rattle.dip_judge.specs.RunFaults.{IsAnsweringFault, IsReadingFault, IsTakingFault, StopsBy, faults_after_run};
 
-use dip_desk::{KeepFault, Keeper, fault_reply, take};
+use dip_desk::{KeepFault, Keeper, fault_reply, lawful_states_stay_lawful, take};
 use dip_letters::{Next, next_letter};
 use dip_map::Map;
 use dip_reports::Reply;
@@ -124,12 +125,15 @@ fn step<'a, K: Keeper>(
         IsTurn map.now input.entry.now (K.content keeper.old) (rows.reply p.0) (K.content keeper.new) p.1.now)) }
     ensures shorter { IfOk result (λ o. IfSome o (λ p. length p.1.now < length input.entry.now)) }
     ensures err { K.sound keeper.old → K.shows keeper.new → OnErr result (K.content keeper.new ≡ K.content keeper.old) }
+    ensures lawful { K.sound keeper.old → K.shows keeper.new → IsLawful map.now (K.content keeper.old) → IsLawful map.now (K.content keeper.new) }
+    ensures never { K.sound keeper.old → K.shows keeper.new → IsLawful map.now (K.content keeper.old) → IsErrOf result (RunFault.Keep KeepFault.Damaged) → ⊥ }
     ensures none { IfOk result (λ o. IfNone o (IsNext input.entry.now Next.End × (keeper.new ≡ keeper.old))) }
     ensures fault { IfErr result IsTakingFault }
     ensures count { K.faults keeper.new ≡ faults_after_run result (K.faults keeper.old) }
     ensures shown { K.shows keeper.new → K.shows keeper.old }
     ensures sound { K.sound keeper.old → K.shows keeper.new → K.sound keeper.new }
 {
+    lawful_states_stay_lawful(map);
     match next_letter(input) {
         Next::End => Ok(None),
         Next::Fault(fault, rest) => match fault_reply(alloc, fault) {
@@ -156,6 +160,7 @@ fn answer_all<W: Write, K: Keeper>(
         (K.content keeper.old) (K.content keeper.new) (W.contents writer.old) (W.contents writer.new)) }
     ensures stops { K.sound keeper.old → K.shows keeper.new → OnErr result (Stops map.now input.now
         (K.content keeper.old) (K.content keeper.new) (W.contents writer.old) (W.contents writer.new)) }
+    ensures never { K.sound keeper.old → K.shows keeper.new → IsLawful map.now (K.content keeper.old) → IsErrOf result (RunFault.Keep KeepFault.Damaged) → ⊥ }
     ensures fault { IfErr result IsAnsweringFault }
     ensures count { K.faults keeper.new ≡ faults_after_run result (K.faults keeper.old) }
 {
@@ -194,6 +199,8 @@ pub fn run_file<R: Read, W: Write, K: Keeper>(
         ⊎ ((input : List ℕ) × IsReadWhole (R.remaining reader.old) (R.remaining reader.new) input
         × Stops map.now input (K.content keeper.old) (K.content keeper.new)
         (W.contents writer.old) (W.contents writer.new))) }
+    // From a lawful content on, as an empty desk is, Damaged is never told.
+    ensures never { K.sound keeper.old → K.shows keeper.new → IsLawful map.now (K.content keeper.old) → IsErrOf result (RunFault.Keep KeepFault.Damaged) → ⊥ }
     ensures count { K.faults keeper.new ≡ faults_after_run result (K.faults keeper.old) }
 {
     let input = read_input(alloc, reader)?;

@@ -9,6 +9,7 @@ letters-preserved g c = record {
   count = c.in_ok-step.ensures.count ∙ c.letters.invariant.count;
   shown = λ shows. c.letters.invariant.shown (c.step.ensures.shown shows);
   sound = λ sound shows. c.step.ensures.sound (c.letters.invariant.sound sound (c.step.ensures.shown shows)) shows;
+  lawful = λ sound shows lawful. let before = c.step.ensures.shown shows in c.step.ensures.lawful (c.letters.invariant.sound sound before) shows (c.letters.invariant.lawful sound before lawful);
   so_far = λ sound shows.
       let before = c.step.ensures.shown shows in
       let so_far = c.letters.invariant.so_far sound before in

@@ -8,3 +8,4 @@ pub mod Runs
 pub mod ListLemmas
 pub mod LawfulOrders
 pub mod LawfulStates
+pub mod Repeating

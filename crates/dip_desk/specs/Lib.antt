@@ -10,3 +10,4 @@ pub mod Ordering
 pub mod OrderingRows
 pub mod View
 pub mod Lawful
+pub mod Repeats

@@ -2,6 +2,7 @@
 ghost use Rattle.std.specs.Prelude.{List};
 ghost use Rattle.dip_map.specs.Charts.{Chart};
 ghost use Rattle.dip_desk.specs.Lawful.{HasNoForeignLines, StaysLawful};
+ghost use Rattle.dip_desk.specs.Repeats.{ActsOnce};
 ghost use Rattle.dip_desk.specs.State.{State};
 ghost use Rattle.dip_desk.specs.View.{IsAnsweredFromSeen, IsRun, IsSettledByView, IsShownByOthers, Turn};
 
@@ -22,6 +23,11 @@ pub fn settled_by_view()
 /// A letter of somebody else shows a seat something exactly where it publishes in the seat's game or sets its digest.
 pub fn shown_by_others()
     ensures { IsShownByOthers }
+{}
+
+/// A letter that comes twice acts once: the same letter again at once gets the same reply, and changes nothing.
+pub fn letters_act_once()
+    ensures { (m : Chart) → ActsOnce m }
 {}
 
 /// Each letter leads from a lawful state to a lawful one, and in a lawful state no standing line is foreign to its board.

@@ -100,7 +100,7 @@ impl Keeper for Failing {
     }
 }
 
-/// The first letters take eight calls: two for CREATE and its change, and two and three for England's.
+/// The first letters take three calls each: for the author, for the public part, and for the change.
 #[test]
 fn a_fault_is_handed_on_and_changes_nothing(rt: HostRuntime) -> Result<(), Fail> {
     let alloc = rt.alloc();

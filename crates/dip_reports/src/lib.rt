@@ -16,3 +16,6 @@ pub use records::{Head, Kept, Own, Public, Reply, Status};
 pub use refusals::Refusal;
 pub use replies::reply_text;
 pub use show::show_text;
+
+#[cfg(test)]
+mod tests;

@@ -1,3 +1,4 @@
 pub mod Charts
 pub mod Checks
 pub mod Boards
+pub mod Faults

@@ -1,3 +1,6 @@
+//! Why there is no map.
+ghost use Rattle.std.specs.Prelude.{◌≡◌};
+
 use std::alloc::AllocError;
 use std::error::Error;
 use std::fmt;
@@ -18,21 +21,30 @@ pub enum MapFault {
 }
 
 impl fmt::Display for MapFault {
+    ghost use Rattle.std.specs.Prelude.{Some};
+    ghost use Rattle.dip_map.specs.Faults.{fault_text};
+
+    ghost output = { λ fault. Some (fault_text fault) };
+
+    #[tactic(auto, unfolding(crate::specs::Faults::fault_text))]
     fn fmt<W: fmt::Write>(&self, f: &mut fmt::Formatter<W>) -> fmt::Result {
-        let text = match self {
-            MapFault::UnknownName => "M3 unknown name",
-            MapFault::NotSymmetric => "M4 neighbour not symmetric",
-            MapFault::DoubledName => "M5 doubled name",
-            MapFault::OverLimit => "M6 over a limit",
-            MapFault::Memory => "M7 memory",
-        };
-        f.write_str(text)
+        match self {
+            MapFault::UnknownName => write!(f, "M3 unknown name"),
+            MapFault::NotSymmetric => write!(f, "M4 neighbour not symmetric"),
+            MapFault::DoubledName => write!(f, "M5 doubled name"),
+            MapFault::OverLimit => write!(f, "M6 over a limit"),
+            MapFault::Memory => write!(f, "M7 memory"),
+        }
     }
 }
 
 impl Error for MapFault {}
 
 impl From<AllocError> for MapFault {
+    ghost use Rattle.dip_map.specs.declared.faults.MapFault.TheVariants.{Memory};
+
+    ghost from_gives = { λ _ fault. fault ≡ Memory };
+
     fn from(_: AllocError) -> MapFault {
         MapFault::Memory
     }

@@ -1,8 +1,8 @@
-use crate::{KeepFault, Keeper, MemoryKeeper, fault_reply, run, take};
+use crate::{Keeper, MemoryKeeper, fault_reply, run, take};
 use dip_letters::{Letter, LetterFault, Next, digest, next_letter, sum};
 use dip_map::Map;
 use dip_reports::{opening_paper_text, reply_text};
-use std::alloc::Global;
+use std::alloc::{AllocError, Global};
 use std::process::Abort;
 use std::test::Fail;
 
@@ -52,8 +52,6 @@ russia 4/4: A mos, F sev, F stp/sc, A war | mos sev stp war
 turkey 3/3: F ank, A con, A smy | ank con smy
 ";
 
-const UNKNOWN: &str = "REPLY nobody 0\nL2 unknown game, sender or secret\nEND\n";
-
 pub(crate) fn letter<'a>(rt: &impl Abort, text: &'a str) -> Letter<'a> {
     let Next::Taken(letter, _) = next_letter(text.as_bytes()) else {
         panic!(rt; "no letter");
@@ -65,264 +63,757 @@ pub(crate) fn desk(alloc: Global) -> MemoryKeeper {
     MemoryKeeper::new(alloc, digest("desk", "master", "master-key"))
 }
 
-/// The text of the reply to a letter.
-fn answer(
-    rt: &impl Abort,
-    alloc: Global,
-    keeper: &mut MemoryKeeper,
-    map: &Map,
-    text: &str,
-) -> Result<String, KeepFault> {
-    assert!(rt; keeper.failures() == 0);
-    let reply = take(alloc, keeper, map, &letter(rt, text))?;
-    Ok(reply_text(alloc, &reply)?)
+/// What stands for the line `SEATS` of an exchange: a CREATE without its last seat.
+const SIX_SEATS: &str = "CREATE DUE 100 PERIOD 100 GREY YES
+SEAT austria aaaaaaaa
+SEAT england eeeeeeee
+SEAT france ffffffff
+SEAT germany gggggggg
+SEAT italy iiiiiiii
+SEAT russia rrrrrrrr
+";
+
+/// The letters of an exchange.
+fn letters_of(alloc: Global, exchange: &str) -> Result<String, AllocError> {
+    let mut letters = String::new(alloc);
+    for line in exchange.lines() {
+        if line == "SEATS" {
+            letters.push_str(SIX_SEATS)?;
+        } else if !line.starts_with("> ") {
+            letters.push_str(line)?;
+            letters.push_str("\n")?;
+        }
+    }
+    Ok(letters)
 }
 
-/// The same letter with another piece of text in the place of the first such piece.
-fn with(alloc: Global, text: &str, old: &str, new: &str) -> Result<String, Fail> {
-    let (before, behind) = text.split_once(old).ok_or("no such text")?;
-    let mut changed = String::from_str(alloc, before)?;
-    changed.push_str(new)?;
-    changed.push_str(behind)?;
-    Ok(changed)
+/// The replies of an exchange: its lines behind `> `, where `SHOWN` stands for the opening without orders.
+fn replies_of(alloc: Global, exchange: &str) -> Result<String, AllocError> {
+    let mut replies = String::new(alloc);
+    for line in exchange.lines() {
+        if line == "> SHOWN" {
+            replies.push_str(OPENING)?;
+            replies.push_str("VOTE NO\nSENT 0 INBOX 0\n")?;
+        } else if let Some(reply) = line.strip_prefix("> ") {
+            replies.push_str(reply)?;
+            replies.push_str("\n")?;
+        }
+    }
+    Ok(replies)
 }
+
+/// The replies to letters, from an empty desk.
+fn told(alloc: Global, letters: &str) -> Result<String, Fail> {
+    let map = Map::standard(alloc)?;
+    let mut keeper = desk(alloc);
+    let mut told = String::new(alloc);
+    let mut rest = letters.as_bytes();
+    for _ in 0..100 {
+        let Next::Taken(letter, behind) = next_letter(rest) else {
+            break;
+        };
+        let reply = take(alloc, &mut keeper, &map, &letter)?;
+        let text = reply_text(alloc, &reply)?;
+        told.push_str(text.as_str())?;
+        rest = behind;
+    }
+    Ok(told)
+}
+
+/// Asserts that the letters of an exchange get its replies.
+fn assert_exchange(rt: &impl Abort, alloc: Global, exchange: &str) -> Result<(), Fail> {
+    let letters = letters_of(alloc, exchange)?;
+    let replies = replies_of(alloc, exchange)?;
+    let told = told(alloc, letters.as_str())?;
+    assert_eq!(rt; told.as_str(), replies.as_str());
+    Ok(())
+}
+
+/// The first exchange.
+const FIRST: &str = "LETTER
+GAME g1
+FROM master
+SECRET master-key
+NUMBER 1
+SEATS
+SEAT turkey tttttttt
+END
+> REPLY g1 master 1
+> OK paper 1
+> END
+LETTER
+GAME g1
+FROM england
+SECRET eeeeeeee
+NUMBER 1
+ORDERS
+F edi - nth
+f  LON h
+END
+> REPLY g1 england 1
+> OK F edi - nth
+> OK F lon H
+> END
+LETTER
+GAME g1
+FROM england
+SECRET eeeeeeee
+NUMBER 2
+SHOW
+END
+> REPLY g1 england 2
+> SHOWN
+> ORDER F edi - nth
+> ORDER F lon H
+> END
+";
 
 #[test]
 fn answers_the_first_letters(rt: HostRuntime) -> Result<(), Fail> {
-    let alloc = rt.alloc();
-    let map = Map::standard(alloc)?;
-    let mut keeper = desk(alloc);
-    let created = answer(&rt, alloc, &mut keeper, &map, CREATE)?;
-    assert_eq!(rt; created.as_str(), "REPLY g1 master 1\nOK paper 1\nEND\n");
-    let ordered = answer(&rt, alloc, &mut keeper, &map, ORDERS)?;
-    assert_eq!(rt;
-        ordered.as_str(),
-        "REPLY g1 england 1\nOK F edi - nth\nOK F lon H\nEND\n"
-    );
-    let shown = answer(&rt, alloc, &mut keeper, &map, SHOW)?;
-    let mut wanted = String::from_str(alloc, "REPLY g1 england 2\n")?;
-    wanted.push_str(OPENING)?;
-    wanted.push_str("VOTE NO\nSENT 0 INBOX 0\nORDER F edi - nth\nORDER F lon H\nEND\n")?;
-    assert_eq!(rt; shown.as_str(), wanted.as_str());
-    Ok(())
+    assert_exchange(&rt, rt.alloc(), FIRST)
 }
+
+/// Orders for provinces that have one, and lines that are none.
+const REPLACED: &str = "LETTER
+GAME g1
+FROM master
+SECRET master-key
+NUMBER 1
+SEATS
+SEAT turkey tttttttt
+END
+> REPLY g1 master 1
+> OK paper 1
+> END
+LETTER
+GAME g1
+FROM england
+SECRET eeeeeeee
+NUMBER 1
+ORDERS
+F edi - nth
+f  LON h
+END
+> REPLY g1 england 1
+> OK F edi - nth
+> OK F lon H
+> END
+LETTER
+GAME g1
+FROM england
+SECRET eeeeeeee
+NUMBER 2
+ORDERS
+F edi H
+A lon H
+A par H
+A lvp - bel
+F lon - yor VIA
+END
+> REPLY g1 england 2
+> OK F edi H
+> O4 line 2: wrong kind of unit
+> O3 line 3: no unit of yours there
+> OK A lvp - bel
+> O1 line 5: cannot be read
+> END
+LETTER
+GAME g1
+FROM england
+SECRET eeeeeeee
+NUMBER 3
+SHOW
+END
+> REPLY g1 england 3
+> SHOWN
+> ORDER F edi H
+> ORDER F lon H
+> ORDER A lvp - bel
+> END
+";
 
 #[test]
 fn an_order_replaces_what_stands_for_its_province(rt: HostRuntime) -> Result<(), Fail> {
-    let alloc = rt.alloc();
-    let map = Map::standard(alloc)?;
-    let mut keeper = desk(alloc);
-    answer(&rt, alloc, &mut keeper, &map, CREATE)?;
-    answer(&rt, alloc, &mut keeper, &map, ORDERS)?;
-    let again = with(
-        alloc,
-        ORDERS,
-        "NUMBER 1\nORDERS\nF edi - nth\nf  LON h\n",
-        "NUMBER 2\nORDERS\nF edi H\nA lon H\nA par H\nA lvp - bel\nF lon - yor VIA\n",
-    )?;
-    let ordered = answer(&rt, alloc, &mut keeper, &map, again.as_str())?;
-    assert_eq!(rt;
-        ordered.as_str(),
-        "REPLY g1 england 2
-OK F edi H
-O4 line 2: wrong kind of unit
-O3 line 3: no unit of yours there
-OK A lvp - bel
-O1 line 5: cannot be read
-END
-"
-    );
-    let show = with(alloc, SHOW, "NUMBER 2", "NUMBER 3")?;
-    let shown = answer(&rt, alloc, &mut keeper, &map, show.as_str())?;
-    let (_, orders) = shown.as_str().split_once("INBOX 0\n").ok_or("no inbox")?;
-    assert_eq!(rt;
-        orders,
-        "ORDER F edi H\nORDER F lon H\nORDER A lvp - bel\nEND\n"
-    );
-    Ok(())
+    assert_exchange(&rt, rt.alloc(), REPLACED)
 }
+
+/// A wrong secret, power, game and master, and the master asking for a game that is not there.
+const STRANGERS: &str = "LETTER
+GAME g1
+FROM master
+SECRET master-key
+NUMBER 1
+SEATS
+SEAT turkey tttttttt
+END
+> REPLY g1 master 1
+> OK paper 1
+> END
+LETTER
+GAME g1
+FROM england
+SECRET ffffffff
+NUMBER 2
+SHOW
+END
+> REPLY nobody 0
+> L2 unknown game, sender or secret
+> END
+LETTER
+GAME g1
+FROM spain
+SECRET eeeeeeee
+NUMBER 2
+SHOW
+END
+> REPLY nobody 0
+> L2 unknown game, sender or secret
+> END
+LETTER
+GAME g9
+FROM england
+SECRET eeeeeeee
+NUMBER 2
+SHOW
+END
+> REPLY nobody 0
+> L2 unknown game, sender or secret
+> END
+LETTER
+GAME g1
+FROM master
+SECRET eeeeeeee
+NUMBER 2
+SHOW
+END
+> REPLY nobody 0
+> L2 unknown game, sender or secret
+> END
+LETTER
+GAME g9
+FROM master
+SECRET master-key
+NUMBER 2
+SHOW
+END
+> REPLY nobody 0
+> L2 unknown game, sender or secret
+> END
+";
 
 #[test]
 fn whoever_is_not_known_gets_one_answer(rt: HostRuntime) -> Result<(), Fail> {
-    let alloc = rt.alloc();
-    let map = Map::standard(alloc)?;
-    let mut keeper = desk(alloc);
-    answer(&rt, alloc, &mut keeper, &map, CREATE)?;
-    for (old, new) in [
-        ("SECRET eeeeeeee", "SECRET ffffffff"),
-        ("FROM england", "FROM spain"),
-        ("GAME g1", "GAME g9"),
-        ("FROM england", "FROM master"),
-    ] {
-        let wrong = with(alloc, SHOW, old, new)?;
-        let text = answer(&rt, alloc, &mut keeper, &map, wrong.as_str())?;
-        assert_eq!(rt; text.as_str(), UNKNOWN);
-    }
-    let nowhere = with(
-        alloc,
-        SHOW,
-        "GAME g1\nFROM england\nSECRET eeeeeeee",
-        "GAME g9\nFROM master\nSECRET master-key",
-    )?;
-    let text = answer(&rt, alloc, &mut keeper, &map, nowhere.as_str())?;
-    assert_eq!(rt; text.as_str(), UNKNOWN);
-    Ok(())
+    assert_exchange(&rt, rt.alloc(), STRANGERS)
 }
 
-/// The master's letter of this number, which asks for a game with these seats at the end of its list.
-fn masters(alloc: Global, number: &str, old: &str, new: &str) -> Result<String, Fail> {
-    let changed = with(alloc, CREATE, old, new)?;
-    with(alloc, changed.as_str(), "NUMBER 1", number)
-}
+/// Seats that are not the powers, each once; a name that is taken; commands of the other side.
+const REFUSED: &str = "LETTER
+GAME g1
+FROM master
+SECRET master-key
+NUMBER 1
+SEATS
+END
+> REPLY g1 master 1
+> L1 malformed letter
+> END
+LETTER
+GAME g1
+FROM master
+SECRET master-key
+NUMBER 2
+SEATS
+SEAT russia tttttttt
+END
+> REPLY g1 master 2
+> L1 malformed letter
+> END
+LETTER
+GAME g1
+FROM master
+SECRET master-key
+NUMBER 3
+SEATS
+SEAT spain tttttttt
+END
+> REPLY g1 master 3
+> L1 malformed letter
+> END
+LETTER
+GAME g1
+FROM master
+SECRET master-key
+NUMBER 4
+SEATS
+SEAT turkey tttttttt
+END
+> REPLY g1 master 4
+> OK paper 1
+> END
+LETTER
+GAME g1
+FROM master
+SECRET master-key
+NUMBER 5
+SEATS
+END
+> REPLY g1 master 5
+> L1 malformed letter
+> END
+LETTER
+GAME g1
+FROM master
+SECRET master-key
+NUMBER 6
+SEATS
+SEAT turkey tttttttt
+END
+> REPLY g1 master 6
+> L11 name taken
+> END
+LETTER
+GAME g1
+FROM england
+SECRET eeeeeeee
+NUMBER 1
+SEATS
+SEAT turkey tttttttt
+END
+> REPLY g1 england 1
+> L9 command not for this sender
+> END
+LETTER
+GAME g1
+FROM master
+SECRET master-key
+NUMBER 7
+SHOW
+END
+> REPLY g1 master 7
+> L9 command not for this sender
+> END
+";
 
 #[test]
 fn refuses_in_the_order_of_the_rules(rt: HostRuntime) -> Result<(), Fail> {
-    let alloc = rt.alloc();
-    let map = Map::standard(alloc)?;
-    let mut keeper = desk(alloc);
-    let six = masters(alloc, "NUMBER 1", "SEAT turkey tttttttt\n", "")?;
-    let twice = masters(alloc, "NUMBER 2", "SEAT turkey", "SEAT russia")?;
-    let foreign = masters(alloc, "NUMBER 3", "SEAT turkey", "SEAT spain")?;
-    for (seats, wanted) in [
-        (
-            six.as_str(),
-            "REPLY g1 master 1\nL1 malformed letter\nEND\n",
-        ),
-        (
-            twice.as_str(),
-            "REPLY g1 master 2\nL1 malformed letter\nEND\n",
-        ),
-        (
-            foreign.as_str(),
-            "REPLY g1 master 3\nL1 malformed letter\nEND\n",
-        ),
-    ] {
-        let text = answer(&rt, alloc, &mut keeper, &map, seats)?;
-        assert_eq!(rt; text.as_str(), wanted);
-    }
-    let created = with(alloc, CREATE, "NUMBER 1", "NUMBER 4")?;
-    answer(&rt, alloc, &mut keeper, &map, created.as_str())?;
-    let six = masters(alloc, "NUMBER 5", "SEAT turkey tttttttt\n", "")?;
-    let text = answer(&rt, alloc, &mut keeper, &map, six.as_str())?;
-    assert_eq!(rt;
-        text.as_str(),
-        "REPLY g1 master 5\nL1 malformed letter\nEND\n"
-    );
-    let again = with(alloc, CREATE, "NUMBER 1", "NUMBER 6")?;
-    let text = answer(&rt, alloc, &mut keeper, &map, again.as_str())?;
-    assert_eq!(rt; text.as_str(), "REPLY g1 master 6\nL11 name taken\nEND\n");
-    let own = with(
-        alloc,
-        CREATE,
-        "FROM master\nSECRET master-key",
-        "FROM england\nSECRET eeeeeeee",
-    )?;
-    let text = answer(&rt, alloc, &mut keeper, &map, own.as_str())?;
-    assert_eq!(rt;
-        text.as_str(),
-        "REPLY g1 england 1\nL9 command not for this sender\nEND\n"
-    );
-    let show = with(
-        alloc,
-        SHOW,
-        "FROM england\nSECRET eeeeeeee\nNUMBER 2",
-        "FROM master\nSECRET master-key\nNUMBER 7",
-    )?;
-    let text = answer(&rt, alloc, &mut keeper, &map, show.as_str())?;
-    assert_eq!(rt;
-        text.as_str(),
-        "REPLY g1 master 7\nL9 command not for this sender\nEND\n"
-    );
-    Ok(())
+    assert_exchange(&rt, rt.alloc(), REFUSED)
 }
+
+/// Each letter twice, an old number, and another letter with the last one.
+const TWICE: &str = "LETTER
+GAME g1
+FROM master
+SECRET master-key
+NUMBER 1
+SEATS
+SEAT turkey tttttttt
+END
+> REPLY g1 master 1
+> OK paper 1
+> END
+LETTER
+GAME g1
+FROM master
+SECRET master-key
+NUMBER 1
+SEATS
+SEAT turkey tttttttt
+END
+> REPLY g1 master 1
+> OK paper 1
+> END
+LETTER
+GAME g1
+FROM england
+SECRET eeeeeeee
+NUMBER 1
+ORDERS
+F edi - nth
+f  LON h
+END
+> REPLY g1 england 1
+> OK F edi - nth
+> OK F lon H
+> END
+LETTER
+GAME g1
+FROM england
+SECRET eeeeeeee
+NUMBER 1
+ORDERS
+F edi - nth
+f  LON h
+END
+> REPLY g1 england 1
+> OK F edi - nth
+> OK F lon H
+> END
+LETTER
+GAME g1
+FROM england
+SECRET eeeeeeee
+NUMBER 2
+SHOW
+END
+> REPLY g1 england 2
+> SHOWN
+> ORDER F edi - nth
+> ORDER F lon H
+> END
+LETTER
+GAME g1
+FROM england
+SECRET eeeeeeee
+NUMBER 2
+SHOW
+END
+> REPLY g1 england 2
+> SHOWN
+> ORDER F edi - nth
+> ORDER F lon H
+> END
+LETTER
+GAME g1
+FROM england
+SECRET eeeeeeee
+NUMBER 3
+ORDERS
+F edi H
+END
+> REPLY g1 england 3
+> OK F edi H
+> END
+LETTER
+GAME g1
+FROM england
+SECRET eeeeeeee
+NUMBER 3
+ORDERS
+F edi H
+END
+> REPLY g1 england 3
+> OK F edi H
+> END
+LETTER
+GAME g1
+FROM england
+SECRET eeeeeeee
+NUMBER 2
+SHOW
+END
+> REPLY g1 england 2
+> L3 stale number, last is 3
+> END
+LETTER
+GAME g1
+FROM england
+SECRET eeeeeeee
+NUMBER 3
+ORDERS
+F edi - nth
+END
+> REPLY g1 england 3
+> L4 number 3 used by another letter
+> END
+LETTER
+GAME g1
+FROM england
+SECRET eeeeeeee
+NUMBER 4
+SHOW
+END
+> REPLY g1 england 4
+> SHOWN
+> ORDER F edi H
+> ORDER F lon H
+> END
+LETTER
+GAME g1
+FROM england
+SECRET eeeeeeee
+NUMBER 2
+SHOW
+END
+> REPLY g1 england 2
+> L3 stale number, last is 4
+> END
+";
 
 #[test]
 fn a_letter_that_comes_twice_acts_once(rt: HostRuntime) -> Result<(), Fail> {
-    let alloc = rt.alloc();
-    let map = Map::standard(alloc)?;
-    let mut keeper = desk(alloc);
-    for first in [CREATE, ORDERS, SHOW] {
-        let once = answer(&rt, alloc, &mut keeper, &map, first)?;
-        let twice = answer(&rt, alloc, &mut keeper, &map, first)?;
-        assert_eq!(rt; once.as_str(), twice.as_str());
-    }
-    let third = with(
-        alloc,
-        ORDERS,
-        "NUMBER 1\nORDERS\nF edi - nth\nf  LON h\n",
-        "NUMBER 3\nORDERS\nF edi H\n",
-    )?;
-    for _ in 0..2 {
-        let text = answer(&rt, alloc, &mut keeper, &map, third.as_str())?;
-        assert_eq!(rt; text.as_str(), "REPLY g1 england 3\nOK F edi H\nEND\n");
-    }
-    let stale = answer(&rt, alloc, &mut keeper, &map, SHOW)?;
-    assert_eq!(rt;
-        stale.as_str(),
-        "REPLY g1 england 2\nL3 stale number, last is 3\nEND\n"
-    );
-    let used = with(alloc, third.as_str(), "F edi H", "F edi - nth")?;
-    let text = answer(&rt, alloc, &mut keeper, &map, used.as_str())?;
-    assert_eq!(rt;
-        text.as_str(),
-        "REPLY g1 england 3\nL4 number 3 used by another letter\nEND\n"
-    );
-    let fourth = with(alloc, SHOW, "NUMBER 2", "NUMBER 4")?;
-    let shown = answer(&rt, alloc, &mut keeper, &map, fourth.as_str())?;
-    assert!(rt;
-        shown
-            .as_str()
-            .ends_with("ORDER F edi H\nORDER F lon H\nEND\n")
-    );
-    let stale = answer(&rt, alloc, &mut keeper, &map, SHOW)?;
-    assert_eq!(rt;
-        stale.as_str(),
-        "REPLY g1 england 2\nL3 stale number, last is 4\nEND\n"
-    );
-    Ok(())
+    assert_exchange(&rt, rt.alloc(), TWICE)
 }
+
+/// The master's count is the desk's; a stranger's letter uses no number, and a refused one does.
+const COUNTS: &str = "LETTER
+GAME g1
+FROM master
+SECRET master-key
+NUMBER 1
+SEATS
+SEAT turkey tttttttt
+END
+> REPLY g1 master 1
+> OK paper 1
+> END
+LETTER
+GAME g2
+FROM master
+SECRET master-key
+NUMBER 1
+SEATS
+SEAT turkey tttttttt
+END
+> REPLY g2 master 1
+> L4 number 1 used by another letter
+> END
+LETTER
+GAME g2
+FROM master
+SECRET master-key
+NUMBER 3
+SEATS
+SEAT turkey tttttttt
+END
+> REPLY g2 master 3
+> OK paper 1
+> END
+LETTER
+GAME g3
+FROM master
+SECRET master-key
+NUMBER 2
+SEATS
+SEAT turkey tttttttt
+END
+> REPLY g3 master 2
+> L3 stale number, last is 3
+> END
+LETTER
+GAME g1
+FROM england
+SECRET ffffffff
+NUMBER 9
+SHOW
+END
+> REPLY nobody 0
+> L2 unknown game, sender or secret
+> END
+LETTER
+GAME g1
+FROM england
+SECRET eeeeeeee
+NUMBER 1
+SEATS
+SEAT turkey tttttttt
+END
+> REPLY g1 england 1
+> L9 command not for this sender
+> END
+LETTER
+GAME g1
+FROM england
+SECRET eeeeeeee
+NUMBER 1
+ORDERS
+F edi H
+END
+> REPLY g1 england 1
+> L4 number 1 used by another letter
+> END
+";
 
 #[test]
 fn a_number_counts_for_its_author(rt: HostRuntime) -> Result<(), Fail> {
-    let alloc = rt.alloc();
-    let map = Map::standard(alloc)?;
-    let mut keeper = desk(alloc);
-    answer(&rt, alloc, &mut keeper, &map, CREATE)?;
-    let other = with(alloc, CREATE, "GAME g1", "GAME g2")?;
-    let text = answer(&rt, alloc, &mut keeper, &map, other.as_str())?;
-    assert_eq!(rt;
-        text.as_str(),
-        "REPLY g2 master 1\nL4 number 1 used by another letter\nEND\n"
-    );
-    let second = masters(alloc, "NUMBER 3", "GAME g1", "GAME g2")?;
-    let text = answer(&rt, alloc, &mut keeper, &map, second.as_str())?;
-    assert_eq!(rt; text.as_str(), "REPLY g2 master 3\nOK paper 1\nEND\n");
-    let third = masters(alloc, "NUMBER 2", "GAME g1", "GAME g3")?;
-    let text = answer(&rt, alloc, &mut keeper, &map, third.as_str())?;
-    assert_eq!(rt;
-        text.as_str(),
-        "REPLY g3 master 2\nL3 stale number, last is 3\nEND\n"
-    );
-    let stranger = with(alloc, ORDERS, "eeeeeeee\nNUMBER 1", "ffffffff\nNUMBER 9")?;
-    let text = answer(&rt, alloc, &mut keeper, &map, stranger.as_str())?;
-    assert_eq!(rt; text.as_str(), UNKNOWN);
-    let own = with(
-        alloc,
-        CREATE,
-        "FROM master\nSECRET master-key",
-        "FROM england\nSECRET eeeeeeee",
-    )?;
-    let text = answer(&rt, alloc, &mut keeper, &map, own.as_str())?;
-    assert_eq!(rt;
-        text.as_str(),
-        "REPLY g1 england 1\nL9 command not for this sender\nEND\n"
-    );
-    let text = answer(&rt, alloc, &mut keeper, &map, ORDERS)?;
-    assert_eq!(rt;
-        text.as_str(),
-        "REPLY g1 england 1\nL4 number 1 used by another letter\nEND\n"
-    );
-    Ok(())
+    assert_exchange(&rt, rt.alloc(), COUNTS)
+}
+
+/// England, where nobody else has ordered.
+const ALONE: &str = "LETTER
+GAME g1
+FROM master
+SECRET master-key
+NUMBER 1
+SEATS
+SEAT turkey tttttttt
+END
+> REPLY g1 master 1
+> OK paper 1
+> END
+LETTER
+GAME g1
+FROM england
+SECRET eeeeeeee
+NUMBER 1
+SHOW
+END
+> REPLY g1 england 1
+> SHOWN
+> END
+";
+
+/// England, where France has.
+const BESIDE: &str = "LETTER
+GAME g1
+FROM master
+SECRET master-key
+NUMBER 1
+SEATS
+SEAT turkey tttttttt
+END
+> REPLY g1 master 1
+> OK paper 1
+> END
+LETTER
+GAME g1
+FROM france
+SECRET ffffffff
+NUMBER 1
+ORDERS
+A par - bur
+END
+> REPLY g1 france 1
+> OK A par - bur
+> END
+LETTER
+GAME g1
+FROM england
+SECRET eeeeeeee
+NUMBER 1
+SHOW
+END
+> REPLY g1 england 1
+> SHOWN
+> END
+";
+
+/// Refused letters between what is shown.
+const NOTHING: &str = "LETTER
+GAME g1
+FROM master
+SECRET master-key
+NUMBER 1
+SEATS
+SEAT turkey tttttttt
+END
+> REPLY g1 master 1
+> OK paper 1
+> END
+LETTER
+GAME g1
+FROM england
+SECRET eeeeeeee
+NUMBER 1
+ORDERS
+F edi - nth
+f  LON h
+END
+> REPLY g1 england 1
+> OK F edi - nth
+> OK F lon H
+> END
+LETTER
+GAME g1
+FROM england
+SECRET eeeeeeee
+NUMBER 2
+SHOW
+END
+> REPLY g1 england 2
+> SHOWN
+> ORDER F edi - nth
+> ORDER F lon H
+> END
+LETTER
+GAME g1
+FROM england
+SECRET eeeeeeee
+NUMBER 3
+SEATS
+SEAT turkey tttttttt
+END
+> REPLY g1 england 3
+> L9 command not for this sender
+> END
+LETTER
+GAME g1
+FROM england
+SECRET eeeeeeee
+NUMBER 4
+SHOW
+END
+> REPLY g1 england 4
+> SHOWN
+> ORDER F edi - nth
+> ORDER F lon H
+> END
+LETTER
+GAME g1
+FROM england
+SECRET eeeeeeee
+NUMBER 5
+ORDERS
+F edi - xyz
+END
+> REPLY g1 england 5
+> O2 line 1: unknown province
+> END
+LETTER
+GAME g1
+FROM master
+SECRET master-key
+NUMBER 2
+SEATS
+SEAT turkey tttttttt
+END
+> REPLY g1 master 2
+> L11 name taken
+> END
+LETTER
+GAME g1
+FROM england
+SECRET ffffffff
+NUMBER 6
+ORDERS
+F edi H
+END
+> REPLY nobody 0
+> L2 unknown game, sender or secret
+> END
+LETTER
+GAME g1
+FROM england
+SECRET eeeeeeee
+NUMBER 1
+ORDERS
+F edi H
+END
+> REPLY g1 england 1
+> L3 stale number, last is 5
+> END
+LETTER
+GAME g1
+FROM england
+SECRET eeeeeeee
+NUMBER 6
+SHOW
+END
+> REPLY g1 england 6
+> SHOWN
+> ORDER F edi - nth
+> ORDER F lon H
+> END
+";
+
+#[test]
+fn a_refused_letter_does_nothing(rt: HostRuntime) -> Result<(), Fail> {
+    assert_exchange(&rt, rt.alloc(), NOTHING)
+}
+
+#[test]
+fn what_others_order_is_not_shown(rt: HostRuntime) -> Result<(), Fail> {
+    assert_exchange(&rt, rt.alloc(), ALONE)?;
+    assert_exchange(&rt, rt.alloc(), BESIDE)
 }
 
 #[test]
@@ -341,29 +832,58 @@ fn what_is_no_letter_is_answered_to_nobody(rt: HostRuntime) -> Result<(), Fail> 
     Ok(())
 }
 
+/// A desk with the game of CREATE.
+fn opened(rt: &impl Abort, alloc: Global, map: &Map) -> Result<MemoryKeeper, Fail> {
+    let mut keeper = desk(alloc);
+    take(alloc, &mut keeper, map, &letter(rt, CREATE))?;
+    assert!(rt; keeper.failures() == 0);
+    Ok(keeper)
+}
+
 #[test]
-fn the_parts_of_a_new_game_are_kept(rt: HostRuntime) -> Result<(), Fail> {
+fn the_masters_row_is_kept(rt: HostRuntime) -> Result<(), Fail> {
     let alloc = rt.alloc();
     let map = Map::standard(alloc)?;
-    let mut keeper = desk(alloc);
-    answer(&rt, alloc, &mut keeper, &map, CREATE)?;
-    assert!(rt; keeper.failures() == 0);
+    let mut keeper = opened(&rt, alloc, &map)?;
     let desk = keeper.desk()?;
     assert!(rt; desk.digest == digest("desk", "master", "master-key"));
     let kept = desk.kept.ok_or("nothing kept")?;
     assert!(rt; kept.number == 1 && kept.sum == sum(CREATE.as_bytes()));
     assert_eq!(rt; kept.reply.as_str(), "OK paper 1\n");
+    Ok(())
+}
+
+#[test]
+fn the_public_part_is_kept(rt: HostRuntime) -> Result<(), Fail> {
+    let alloc = rt.alloc();
+    let map = Map::standard(alloc)?;
+    let mut keeper = opened(&rt, alloc, &map)?;
+    assert!(rt; keeper.public(&map, "g2")?.is_none());
     let public = keeper.public(&map, "g1")?.ok_or("no game")?;
     assert!(rt; public.due == 100 && public.period == 100 && public.grey && public.papers == 1);
     assert!(rt; public.board.is_of(&map));
+    Ok(())
+}
+
+#[test]
+fn the_own_part_is_kept(rt: HostRuntime) -> Result<(), Fail> {
+    let alloc = rt.alloc();
+    let map = Map::standard(alloc)?;
+    let mut keeper = opened(&rt, alloc, &map)?;
     let england = map.power("england").ok_or("no england")?;
     let own = keeper.own(&map, "g1", england)?.ok_or("no seat")?;
     assert!(rt; own.digest == digest("g1", "england", "eeeeeeee") && own.pending.is_empty());
-    assert!(rt; keeper.public(&map, "g2")?.is_none());
+    Ok(())
+}
+
+#[test]
+fn the_opening_paper_is_printed(rt: HostRuntime) -> Result<(), Fail> {
+    let alloc = rt.alloc();
+    let map = Map::standard(alloc)?;
+    let mut keeper = opened(&rt, alloc, &map)?;
+    let public = keeper.public(&map, "g1")?.ok_or("no game")?;
     let paper = opening_paper_text(alloc, &map, &public)?;
-    let mut wanted = String::from_str(alloc, "PAPER 1 opening\n")?;
-    wanted.push_str(OPENING)?;
-    wanted.push_str("END\n")?;
+    let wanted = format!(in alloc; "PAPER 1 opening\n{OPENING}END\n")?;
     assert_eq!(rt; paper.as_str(), wanted.as_str());
     Ok(())
 }
@@ -388,79 +908,4 @@ fn a_run_takes_letter_by_letter(rt: HostRuntime) -> Result<(), Fail> {
         }
         Err(_) => Err(Fail::from("a fault")),
     }
-}
-
-#[test]
-fn what_others_order_is_not_shown(rt: HostRuntime) -> Result<(), Fail> {
-    let alloc = rt.alloc();
-    let map = Map::standard(alloc)?;
-    let mut quiet = desk(alloc);
-    answer(&rt, alloc, &mut quiet, &map, CREATE)?;
-    let before = answer(&rt, alloc, &mut quiet, &map, SHOW)?;
-    let mut busy = desk(alloc);
-    answer(&rt, alloc, &mut busy, &map, CREATE)?;
-    let mine = with(
-        alloc,
-        ORDERS,
-        "england\nSECRET eeeeeeee\nNUMBER 1\nORDERS\nF edi - nth\nf  LON h\n",
-        "france\nSECRET ffffffff\nNUMBER 1\nORDERS\nA par - bur\n",
-    )?;
-    let ordered = answer(&rt, alloc, &mut busy, &map, mine.as_str())?;
-    assert_eq!(rt;
-        ordered.as_str(),
-        "REPLY g1 france 1\nOK A par - bur\nEND\n"
-    );
-    let after = answer(&rt, alloc, &mut busy, &map, SHOW)?;
-    assert_eq!(rt; before.as_str(), after.as_str());
-    Ok(())
-}
-
-/// What a SHOW of this number gives behind its head.
-fn shown(
-    rt: &impl Abort,
-    alloc: Global,
-    keeper: &mut MemoryKeeper,
-    map: &Map,
-    number: &str,
-) -> Result<String, Fail> {
-    let show = with(alloc, SHOW, "NUMBER 2", number)?;
-    let text = answer(rt, alloc, keeper, map, show.as_str())?;
-    let (_, lines) = text.as_str().split_once("\n").ok_or("no head")?;
-    Ok(String::from_str(alloc, lines)?)
-}
-
-#[test]
-fn a_refused_letter_does_nothing(rt: HostRuntime) -> Result<(), Fail> {
-    let alloc = rt.alloc();
-    let map = Map::standard(alloc)?;
-    let mut keeper = desk(alloc);
-    answer(&rt, alloc, &mut keeper, &map, CREATE)?;
-    answer(&rt, alloc, &mut keeper, &map, ORDERS)?;
-    let before = shown(&rt, alloc, &mut keeper, &map, "NUMBER 2")?;
-    let own = with(
-        alloc,
-        CREATE,
-        "FROM master\nSECRET master-key\nNUMBER 1",
-        "FROM england\nSECRET eeeeeeee\nNUMBER 3",
-    )?;
-    let taken = with(alloc, CREATE, "NUMBER 1", "NUMBER 2")?;
-    let stranger = with(alloc, ORDERS, "eeeeeeee", "ffffffff")?;
-    let unread = with(
-        alloc,
-        ORDERS,
-        "NUMBER 1\nORDERS\nF edi - nth\nf  LON h\n",
-        "NUMBER 5\nORDERS\nF edi - xyz\n",
-    )?;
-    for (refused, number) in [
-        (own.as_str(), "NUMBER 4"),
-        (unread.as_str(), "NUMBER 6"),
-        (taken.as_str(), "NUMBER 7"),
-        (stranger.as_str(), "NUMBER 8"),
-        (ORDERS, "NUMBER 9"),
-    ] {
-        answer(&rt, alloc, &mut keeper, &map, refused)?;
-        let after = shown(&rt, alloc, &mut keeper, &map, number)?;
-        assert_eq!(rt; before.as_str(), after.as_str());
-    }
-    Ok(())
 }

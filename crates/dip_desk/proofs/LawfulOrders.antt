@@ -1,10 +1,9 @@
 -- Standing lines stay orders on their board.
-use Rattle.std.proofs.Common.{◌≡◌, ℕ, ◌==◌, ◌+◌, Bool, true, false, cond, List, [], ◌∷◌, map, refl, sym, ap, subst, ◌∙◌, Option, Some, None, Result, Ok, Err}
+use Rattle.std.proofs.Common.{◌≡◌, ℕ, ◌==◌, ◌+◌, Bool, true, false, cond, List, [], ◌∷◌, refl, Result, Ok, Err}
 use Rattle.std.specs.Prelude.{nat_lt}
-use Rattle.std.specs.List.{AllByRecursion, list_any}
-use Rattle.std.specs.Result.{is_err, result_ok}
-use Rattle.dip_map.specs.Boards.{Position, IsOf}
-use Rattle.dip_map.specs.Charts.{Chart, IsMap}
+use Rattle.std.specs.List.{AllByRecursion}
+use Rattle.dip_map.specs.Boards.{Position}
+use Rattle.dip_map.specs.Charts.{Chart}
 use Rattle.dip_orders.specs.Reading.{order_of}
 use Rattle.dip_orders.specs.Texts.{order_text}
 use Rattle.dip_orders.specs.declared.faults.OrderFault.{OrderFault}

@@ -1,25 +1,26 @@
 -- Each step keeps a state lawful.
-use Rattle.std.proofs.Common.{◌≡◌, ℕ, ◌==◌, Bool, true, false, cond, List, [], ◌∷◌, ◌++◌, refl, sym, ap, subst, ◌∙◌, Option, Some, None, bytes_eq, map}
+use Rattle.std.proofs.Common.{◌≡◌, ◌<◌, ℕ, length, arith, option_map, ◌==◌, Bool, true, false, cond, List, [], ◌∷◌, ◌++◌, refl, sym, ap, subst, ◌∙◌, Option, Some, None, bytes_eq, map}
 use Rattle.std.specs.Prelude.{count_by}
-use Rattle.std.specs.List.{AllByRecursion, list_all}
+use Rattle.std.specs.List.{AllByRecursion}
 use Rattle.std.specs.Option.{option_or}
 use Rattle.std.proofs.lemmas.Bool.{false≢true}
 use Rattle.dip_letters.specs.Notes.{Request}
 use Rattle.dip_letters.specs.Notes.Request.{Create, Orders, Show}
 use Rattle.dip_map.specs.Boards.{Position, IsOf, opening}
-use Rattle.dip_map.specs.Charts.{Chart, IsMap}
+use Rattle.std.proofs.lemmas.List.Quantifiers.{position-Some}
+use Rattle.dip_letters.specs.Notes.{SeatNote}
+use Rattle.dip_map.specs.Charts.{Chart, Realm, no_realm, power_of}
 use Rattle.dip_reports.specs.Records.{Public, Own, Kept}
 use Rattle.dip_reports.specs.Texts.{numbers}
 use Rattle.dip_reports.specs.declared.refusals.Refusal.TheVariants.{Malformed, WrongSender}
 use Rattle.dip_desk.specs.Keyed.{at, change_at}
 use Rattle.dip_desk.specs.Lawful.{AreNamedApart, HasNoForeignLines, IsCanonical, IsLawful, IsLawfulGame, IsLawfulSeat, StaysLawful}
-use Rattle.dip_desk.specs.Machine.{Decides, IsForeignTo, Verdict, NotKnown, Old, Taken, after, are_complete, author, by_number, created, kept_of, master_verdict, new_seats, open_game, opening_public, refused, seat_command, seen_in, verdict_by, verdict_on}
+use Rattle.dip_desk.specs.Machine.{Decides, IsForeignTo, Verdict, NotKnown, Old, Taken, after, are_complete, author, by_number, created, digest, kept_of, master_verdict, new_seats, open_game, with_more, opening_public, refused, seat_command, seen_in, verdict_by, verdict_on}
 use Rattle.dip_desk.specs.Mail.{Mail}
 use Rattle.dip_desk.specs.State.{State, Game, Author, Nobody, TheMaster, Seat, Effect, Nothing, Pending, Opens, NewSeat, fresh, game_at, name_of, opened, own_after, pending_in, seat_at, with_seat}
-use Rattle.dip_desk.specs.Ordering.{has_foreign}
 use Rattle.dip_desk.proofs.KeyedLemmas.{at-append, names_tell}
 use Rattle.dip_desk.proofs.LawfulOrders.{ReadsAgain, canonical_own, ordered_canonical}
-use Rattle.dip_desk.proofs.ListLemmas.{all_at, all_change, all_last, all_of, all_same, count_change, count_map}
+use Rattle.dip_desk.proofs.ListLemmas.{all_at, all_change, all_last, all_map, all_same, count_change, count_map}
 use Rattle.dip_desk.proofs.Seeing.{own_power}
 use Rattle.dip_desk.proofs.Suiting.{Suits, decides_suits, number_holds, opens_where}
 
@@ -82,8 +83,8 @@ Fits m b power None = Unit {0}
 Fits m b power (Some lines) = AllByRecursion (IsCanonical m b power) lines
 
 own_lawful : (m : Chart) (b : Position) (k : Kept) (lines : Option (List (List ℕ))) (o : Own) → IsLawfulSeat m b o → Fits m b o.power lines → IsLawfulSeat m b (own_after k lines o)
-own_lawful m b k None o l fits = record { pending = l.pending; sent = l.sent; items = l.items }
-own_lawful m b k (Some lines) o l fits = record { pending = fits; sent = l.sent; items = l.items }
+own_lawful m b k None o l fits = record { power = l.power; pending = l.pending; sent = l.sent; items = l.items }
+own_lawful m b k (Some lines) o l fits = record { power = l.power; pending = fits; sent = l.sent; items = l.items }
 
 seat_game : (m : Chart) (g : Game) (p : ℕ) (k : Kept) (lines : Option (List (List ℕ))) → IsLawfulGame m g
     → ((o : Own) → seat_at p g.seats ≡ Some o → Fits m g.public.board o.power lines) → IsLawfulGame m (with_seat p (own_after k lines) g)
@@ -96,6 +97,7 @@ seat_game m g p k lines l fits = record {
   seats = all_change (λ a b. a == b) (λ (o : Own). o.power) p (own_after k lines) (IsLawfulSeat m g.public.board) g.seats l.seats
       (λ o found lo. own_lawful m g.public.board k lines o lo (fits o found));
   papers = l.papers;
+  few = l.few;
 }
 
 abbrev pub VerdictFits : Chart → Position → ℕ → Verdict → Type 0
@@ -124,40 +126,64 @@ seats_lawful m s n p text e again d l =
 
 -- a new game
 
+-- the seats of a new game are of powers of the map
+abbrev pub AreKnown : Chart → List NewSeat → Type 0
+AreKnown m seats = AllByRecursion (λ s. s.power < length m.realms) seats
+
+one_more : (m : Chart) (game : List ℕ) (n : SeatNote) (more : Option (List NewSeat)) (seats : List NewSeat) → ((rest : List NewSeat) → more ≡ Some rest → AreKnown m rest)
+    → (r : Option ℕ) → power_of m n.power ≡ r → with_more (option_map (λ p. record { power = p; digest = digest game n.power n.secret }) r) more ≡ Some seats → AreKnown m seats
+one_more m game n more seats known None found both = absurd (cc)
+one_more m game n None seats known (Some r) found both = absurd (cc)
+one_more m game n (Some rest) seats known (Some r) found both =
+    let all : (record { power = r; digest = digest game n.power n.secret }) ∷ rest ≡ seats = cc in
+    subst (AreKnown m) all ((position-Some (λ (x : Realm). bytes_eq x.name n.power) m.realms r no_realm found).0, known rest refl)
+
+seats_known : (m : Chart) (game : List ℕ) (notes : List SeatNote) (seats : List NewSeat) → new_seats m game notes ≡ Some seats → AreKnown m seats
+seats_known m game [] seats is = let none : [] ≡ seats = cc in subst (AreKnown m) none tt
+seats_known m game (n ∷ ns) seats is = one_more m game n (new_seats m game ns) seats (seats_known m game ns) (power_of m n.power) refl is
+
+pub record IsLawfulOpening (m : Chart) (public : Public) (seats : List NewSeat) : Type 0 where
+  pub board : public.board ≡ opening m
+  pub papers : public.papers ≡ 1
+  pub complete : are_complete m seats ≡ true
+  pub known : AreKnown m seats
+
 abbrev pub OpensLawful : Chart → Verdict → Type 0
 OpensLawful m NotKnown = Unit {0}
 OpensLawful m (Old text) = Unit {0}
 OpensLawful m (Taken text Nothing) = Unit {0}
 OpensLawful m (Taken text (Pending lines)) = Unit {0}
-OpensLawful m (Taken text (Opens public paper seats)) = (public.board ≡ opening m) × (public.papers ≡ 1) × (are_complete m seats ≡ true)
+OpensLawful m (Taken text (Opens public paper seats)) = IsLawfulOpening m public seats
 
 created_lawful : (m : Chart) (name : List ℕ) (due period : ℕ) (grey : Bool) (found : Option (List NewSeat)) (game : Option Game)
-    → OpensLawful m (created m (opening_public m name due period grey) found game)
-created_lawful m name due period grey None game = tt
-created_lawful m name due period grey (Some seats) game = go (are_complete m seats) refl game
+    → ((seats : List NewSeat) → found ≡ Some seats → AreKnown m seats) → OpensLawful m (created m (opening_public m name due period grey) found game)
+created_lawful m name due period grey None game known = tt
+created_lawful m name due period grey (Some seats) game known = go (are_complete m seats) refl game
   where
     go : (b : Bool) → are_complete m seats ≡ b → (game : Option Game) → OpensLawful m (cond b (open_game m (opening_public m name due period grey) seats game) (refused Malformed))
-    go true is None = (refl, refl, is)
+    go true is None = record { board = refl; papers = refl; complete = is; known = known seats refl }
     go true is (Some g) = tt
     go false is game = tt
 
 master_lawful : (m : Chart) (n : Mail) (k : Option Kept) (command : Request) (game : Option Game) → OpensLawful m (master_verdict m n k command game)
 master_lawful m n k (Create due period grey seats) game =
-    number_holds (OpensLawful m) (λ t. tt) n k (created m (opening_public m n.game due period grey) (new_seats m n.game seats) game) (created_lawful m n.game due period grey (new_seats m n.game seats) game)
+    number_holds (OpensLawful m) (λ t. tt) n k (created m (opening_public m n.game due period grey) (new_seats m n.game seats) game)
+        (created_lawful m n.game due period grey (new_seats m n.game seats) game (seats_known m n.game seats))
 master_lawful m n k (Orders lines) None = tt
 master_lawful m n k (Orders lines) (Some g) = number_holds (OpensLawful m) (λ t. tt) n k (refused WrongSender) tt
 master_lawful m n k Show None = tt
 master_lawful m n k Show (Some g) = number_holds (OpensLawful m) (λ t. tt) n k (refused WrongSender) tt
 
 opened_lawful : (m : Chart) (public : Public) (paper : List ℕ) (seats : List NewSeat) → IsOf m (opening m)
-    → (public.board ≡ opening m) × (public.papers ≡ 1) × (are_complete m seats ≡ true) → IsLawfulGame m (opened public paper seats)
+    → IsLawfulOpening m public seats → IsLawfulGame m (opened public paper seats)
 opened_lawful m public paper seats fine h = record {
-  board = subst (IsOf m) (sym h.0) fine;
+  board = subst (IsOf m) (sym h.board) fine;
   powers = all_same (λ q. count_by (λ (o : Own). o.power == q) (map fresh seats) == 1) (λ q. count_by (λ (s : NewSeat). s.power == q) seats == 1) (numbers 0 m.realms)
       (λ q. ap (λ (c : ℕ). c == 1) (count_map fresh (λ (o : Own). o.power == q) (λ (s : NewSeat). s.power == q) seats (λ s. refl)))
-      ∙ h.2;
-  seats = all_of (IsLawfulSeat m public.board) fresh seats (λ s. record { pending = tt; sent = refl; items = refl });
-  papers = h.1;
+      ∙ h.complete;
+  seats = all_map (λ s. s.power < length m.realms) (IsLawfulSeat m public.board) fresh seats (λ s low. record { power = low; pending = tt; sent = refl; items = refl }) h.known;
+  papers = h.papers;
+  few = omega (arith, h.papers);
 }
 
 -- one step

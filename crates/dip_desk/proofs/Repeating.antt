@@ -1,18 +1,18 @@
 -- A letter that comes twice acts once.
-use Rattle.std.proofs.Common.{◌≡◌, ℕ, ◌<◌, ◌==◌, Bool, true, false, cond, List, [], ◌∷◌, ◌++◌, refl, sym, ap, subst, ◌∙◌, arith, Option, Some, None, option_map, unwrap_or, nat_lt, bytes_eq, codes}
+use Rattle.std.proofs.Common.{◌≡◌, ℕ, ◌<◌, ◌==◌, Bool, true, false, cond, List, [], ◌∷◌, refl, sym, ap, subst, ◌∙◌, arith, Option, Some, None, option_map, unwrap_or, nat_lt, bytes_eq, codes}
 use Rattle.std.specs.Prelude.{option_and_then}
-use Rattle.std.proofs.lemmas.Bool.{false≢true, eq-eqb, ltb-true}
+use Rattle.std.proofs.lemmas.Bool.{eq-eqb, ltb-true}
 use Rattle.dip_letters.specs.Notes.{Request}
 use Rattle.dip_letters.specs.Notes.Request.{Create, Orders, Show}
 use Rattle.dip_map.specs.Charts.{Chart, power_of}
-use Rattle.dip_reports.specs.Records.{Public, Own, Kept, Reply}
+use Rattle.dip_reports.specs.Records.{Own, Kept, Reply}
 use Rattle.dip_reports.specs.declared.refusals.Refusal.TheVariants.{NumberUsed, Stale}
 use Rattle.dip_desk.specs.Keyed.{at, change_at}
 use Rattle.dip_desk.specs.Machine.{Decides, Step, Verdict, NotKnown, Old, Taken, after, author, by_number, digest, kept_of, master_author, master_verdict, not_for_master, power_author, refusal_line, repeated, reply_of, seat_author, seat_command, seen_in, verdict_by, verdict_on}
 use Rattle.dip_desk.specs.Mail.{Mail}
 use Rattle.dip_desk.specs.Repeats.{ActsOnce}
-use Rattle.dip_desk.specs.State.{State, Game, Author, Nobody, TheMaster, Seat, Effect, Nothing, Pending, Opens, NewSeat, game_at, name_of, own_after, own_at, pending_in, seat_at, with_seat}
-use Rattle.dip_desk.proofs.KeyedLemmas.{at-change_at_same, names_tell, powers_tell}
+use Rattle.dip_desk.specs.State.{State, Game, Author, Nobody, TheMaster, Seat, Effect, Nothing, Pending, Opens, game_at, name_of, own_after, own_at, pending_in, seat_at, with_seat}
+use Rattle.dip_desk.proofs.KeyedLemmas.{at-change_at_same, names_tell}
 use Rattle.dip_desk.proofs.Seeing.{own_power}
 use Rattle.dip_desk.proofs.Suiting.{Suits, decides_suits, opens_where, seat_where}
 

@@ -8,7 +8,7 @@ use Rattle.dip_desk.specs.State.{State, Game, Author, Nobody, TheMaster, Seat, E
 use Rattle.dip_desk.specs.Machine.{Decides, Verdict, NotKnown, Old, Taken, are_complete, by_number, created, master_verdict, new_seats, open_game, opening_public, refusal_line, refused, repeated, seat_command, seen_in, verdict_by, verdict_on}
 use Rattle.dip_desk.specs.View.{effect_events}
 use Rattle.dip_reports.specs.Records.{Public, Own, Kept}
-use Rattle.dip_reports.specs.declared.refusals.Refusal.TheVariants.{Malformed, NumberUsed, Stale, WrongSender}
+use Rattle.dip_reports.specs.declared.refusals.Refusal.TheVariants.{Malformed, Stale, WrongSender}
 
 abbrev pub Suits : List ℕ → Author → Option Game → Effect → Type 0
 Suits name Nobody game e = ⊥

@@ -1,5 +1,5 @@
 -- What holds of each state that the desk comes to from an empty one.
-use Rattle.std.specs.Prelude.{◌≡◌, ◌==◌, ℕ, List, [], ◌∷◌, length, true, Ok, Option, None, bytes_eq, count_by}
+use Rattle.std.specs.Prelude.{◌≡◌, ◌<◌, ◌≤◌, ◌==◌, ℕ, List, [], ◌∷◌, length, true, Ok, None, bytes_eq, count_by}
 use Rattle.std.specs.List.{AllByRecursion, list_all}
 use Rattle.dip_map.specs.Boards.{Position, IsOf}
 use Rattle.dip_map.specs.Charts.{Chart}
@@ -20,18 +20,21 @@ pub record IsCanonical (m : Chart) (b : Position) (power : ℕ) (line : List ℕ
   pub read : order_of m b power line ≡ Ok order
   pub text : line ≡ order_text m order
 
--- a seat of a game with this board: its standing lines are orders there, and it has neither sent nor received press
+-- a seat of a game with this board: it is of a power of the map, its standing lines are orders there, and it has neither sent nor
+-- received press
 pub record IsLawfulSeat (m : Chart) (b : Position) (o : Own) : Type 0 where
+  pub power : o.power < length m.realms
   pub pending : AllByRecursion (IsCanonical m b o.power) o.pending
   pub sent : o.sent ≡ 0
   pub items : o.items ≡ 0
 
--- a game: its board is one of the map, each power of the map has one seat, and its papers are counted
+-- a game: its board is one of the map, each power of the map has one seat, and its papers are counted and no more than a game may have
 pub record IsLawfulGame (m : Chart) (g : Game) : Type 0 where
   pub board : IsOf m g.public.board
   pub powers : list_all (λ p. count_by (λ o. o.power == p) g.seats == 1) (numbers 0 m.realms) ≡ true
   pub seats : AllByRecursion (IsLawfulSeat m g.public.board) g.seats
   pub papers : g.public.papers ≡ length g.papers
+  pub few : g.public.papers ≤ 999999999
 
 -- no two games have one name
 abbrev pub AreNamedApart : List Game → Type 0

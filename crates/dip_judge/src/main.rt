@@ -8,7 +8,7 @@ mod run;
 use args::read_args;
 use dip_desk::MemoryKeeper;
 use dip_letters::digest;
-use dip_map::Map;
+use dip_map::{Map, STANDARD};
 use failures::Failure;
 use run::run_file;
 use std::alloc::Global;
@@ -18,7 +18,7 @@ use std::{env, io};
 
 /// Answers the letters of standard input, with tables in memory whose master has this secret.
 fn answer_letters<R: Print + Input>(rt: &R, alloc: Global, master: &str) -> Result<(), Failure> {
-    let map = Map::standard(alloc)?;
+    let map = Map::from_toml(alloc, STANDARD)?;
     let mut keeper = MemoryKeeper::new(alloc, digest("desk", "master", master));
     let mut reader = rt.reader();
     let mut writer = io::writer(rt);

@@ -8,7 +8,7 @@ use Rattle.dip_map.specs.declared.names.Place.{Place}
 use Rattle.dip_map.specs.declared.faults.MapFault.{MapFault}
 use Rattle.dip_map.specs.declared.faults.MapFault.TheVariants.{OverLimit, UnknownName, DoubledName, NotSymmetric}
 use Rattle.dip_map.specs.Charts.{Chart, Province, Shore, Realm, IsMap, no_province, no_shore, no_realm, province, army_next, fleet_next, is_army_next, is_fleet_next, is_fleet_place, is_province, is_realm, is_unit, opening_units, prov_of, power_of, coast_of}
-use Rattle.dip_map.specs.Checks.{answers, is_within_limits, is_well_formed, rest_of_codes, rest_of_names, rest_of_shores, rest_of_coasts, is_distinct, is_named_back, rest_is_mutual, are_named_back, rest_of_shores_is_mutual, rest_is_mutual_by_sea, is_mutual, first_fault}
+use Rattle.dip_map.specs.Checks.{answers, is_within_limits, is_well_formed, rest_of_codes, rest_of_names, rest_of_shores, rest_of_coasts, is_allowed, is_distinct, is_single, is_named_back, rest_is_mutual, are_named_back, rest_of_shores_is_mutual, rest_is_mutual_by_sea, is_mutual, first_fault}
 
 -- what a test says of each element it says of the one at an index
 pub test_at : {A : Type 0} (f : A → Bool) (xs : List A) (k : ℕ) (d : A) → list_all f xs ≡ true → k < length xs → f (get_or xs k d) ≡ true
@@ -206,8 +206,10 @@ pub map_law : (m : Chart) → first_fault m ≡ None → IsMap m
 map_law m none =
     let (limits, a) = no_fault (is_within_limits m) OverLimit _ none in
     let (formed, b) = no_fault (is_well_formed m) UnknownName _ a in
-    let (distinct, d) = no_fault (is_distinct m) DoubledName _ b in
-    let (back, _) = no_fault (is_mutual m) NotSymmetric _ d in
+    let (allowed, c) = no_fault (is_allowed m) UnknownName _ b in
+    let (distinct, d) = no_fault (is_distinct m) DoubledName _ c in
+    let (single, e) = no_fault (is_single m) DoubledName _ d in
+    let (back, _) = no_fault (is_mutual m) NotSymmetric _ e in
     let few = limits_law m limits in
     let (lands, powers) = and_parts _ _ formed in
     let (codes, names_coasts) = and_parts _ _ distinct in

@@ -1,7 +1,7 @@
 use Rattle.std.specs.Prelude.{◌≡◌, ℕ, ◌<◌, ◌≤◌, ◌==◌, ◌&&◌, ◌||◌, nat_lt, nat_le, not, All, Bool, true, false, List, [], length, flat_map, Option, Some, slice_index_or, codes}
 use Rattle.std.specs.List.{list_any, list_all, position}
 use Rattle.std.specs.Str.{bytes_eq}
-use Rattle.std.specs.Char.{is_ascii_lowercase}
+pub use Rattle.dip_mapfile.specs.Forms.{is_code, is_coast_name, is_full_name, is_power_name}
 use Rattle.dip_map.specs.declared.names.Terrain.{Terrain}
 use Rattle.dip_map.specs.declared.names.Terrain.TheVariants.{Inland, Coast, Sea}
 use Rattle.dip_map.specs.declared.names.Kind.{Kind}
@@ -113,30 +113,6 @@ may_stand m Fleet a = is_fleet_place m a
 -- whether the unit is one of the map
 abbrev pub is_unit : Chart → Piece → Bool
 is_unit m u = nat_lt u.power (length m.realms) && may_stand m u.kind u.place
-
--- a code: three letters
-abbrev pub is_code : List ℕ → Bool
-is_code text = (length text == 3) && list_all is_ascii_lowercase text
-
--- the name of a coast: two letters
-abbrev pub is_coast_name : List ℕ → Bool
-is_coast_name text = (length text == 2) && list_all is_ascii_lowercase text
-
--- a printable byte
-abbrev pub is_printable : ℕ → Bool
-is_printable b = nat_le 32 b && nat_le b 126
-
--- a full name: 1 to 40 printable bytes
-abbrev pub is_full_name : List ℕ → Bool
-is_full_name text = nat_le 1 (length text) && (nat_le (length text) 40 && list_all is_printable text)
-
--- a word that letters use for something else
-abbrev pub is_taken : List ℕ → Bool
-is_taken text = bytes_eq text (codes "master") || (bytes_eq text (codes "all") || (bytes_eq text (codes "nobody") || bytes_eq text (codes "you")))
-
--- a power's name: 1 to 16 letters, and none of those words
-abbrev pub is_power_name : List ℕ → Bool
-is_power_name text = nat_le 1 (length text) && (nat_le (length text) 16 && (list_all is_ascii_lowercase text && not (is_taken text)))
 
 -- one coast, without a name
 abbrev pub has_one_shore : List Shore → Bool

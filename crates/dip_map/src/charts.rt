@@ -1,11 +1,14 @@
-ghost use Rattle.std.specs.Prelude.{◌≡◌, ◌<◌, length, All, MatchResult, true};
+ghost use Rattle.std.specs.Prelude.{◌≡◌, ◌<◌, length, All, IfOk, true};
 ghost use Rattle.dip_map.specs.Charts.{IsMap, province, realm, shore, army_next, fleet_next, home, prov_of, power_of, coast_of, is_centre};
 ghost use Rattle.dip_map.specs.Charts.{is_fleet_place, may_stand, is_unit, is_army_next, is_fleet_next};
-ghost use Rattle.dip_map.specs.Checks.{first_fault};
+ghost use Rattle.dip_map.specs.Stated.{Gives, checked, stated};
 
 use crate::faults::MapFault;
 use crate::names::{Kind, Place, Power, Prov, Terrain, Unit};
 use crate::parts::{Parts, Realm};
+use crate::stated::parts_in;
+use dip_mapfile::{draft_of, tables_of};
+use std::alloc::Global;
 use std::marker::Model;
 
 /// A map whose parts were checked: within limits, well formed, each neighbour named back.
@@ -27,9 +30,24 @@ impl Model for Map {
 }
 
 impl Map {
+    /// The map that a text states: TOML with the map's name, its powers and its provinces, as `STANDARD` has them.
+    ///
+    /// Else the first fault: `NotToml`, `WrongField`, `OverLimit`, `UnknownName`, `DoubledName`, `NotSymmetric`, in that order. Want of memory
+    /// may come in place of any.
+    #[tactic(auto, unfolding(crate::specs::Stated::stated))]
+    pub fn from_toml(alloc: Global, text: &str) -> Result<Map, MapFault>
+        ensures stated { Gives (λ m. m) result (stated text.now) }
+        ensures lawful { IfOk result IsMap }
+    {
+        let file = tables_of(alloc, text)?;
+        let draft = draft_of(alloc, &file)?;
+        let parts = parts_in(alloc, &draft)?;
+        Map::of(parts)
+    }
+
     /// The map of these parts, or the first fault that they have.
-    pub fn of(parts: Parts) -> Result<Map, MapFault>
-        ensures { MatchResult result (λ m. (first_fault parts ≡ None) × (m ≡ parts)) (λ e. first_fault parts ≡ Some e) }
+    fn of(parts: Parts) -> Result<Map, MapFault>
+        ensures { Gives (λ m. m) result (checked parts) }
     {
         if let Some(fault) = parts.first_fault() {
             return Err(fault);

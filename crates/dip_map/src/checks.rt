@@ -1,7 +1,6 @@
 ghost use Rattle.std.specs.Prelude.{◌≡◌, ◌==◌, ◌≤◌, length, true};
 ghost use Rattle.std.specs.List.{list_all};
-ghost use Rattle.std.specs.Char.{is_ascii_lowercase};
-ghost use Rattle.dip_map.specs.Charts.{is_printable, is_taken, is_code, is_coast_name, is_full_name, is_power_name};
+ghost use Rattle.dip_map.specs.Charts.{is_coast_name};
 ghost use Rattle.dip_map.specs.Charts.{has_one_shore, has_named_shores, is_shaped, is_province, is_centre, is_realm, is_unit};
 ghost use Rattle.dip_map.specs.Checks.{answers, is_within_limits, is_well_formed, rest_of_codes, rest_of_names, rest_of_shores, rest_of_coasts, is_distinct};
 ghost use Rattle.dip_map.specs.Checks.{is_named_back, rest_is_mutual, are_named_back, rest_of_shores_is_mutual, rest_is_mutual_by_sea, is_mutual, first_fault};
@@ -9,60 +8,13 @@ ghost use Rattle.dip_map.specs.Checks.{is_named_back, rest_is_mutual, are_named_
 use crate::faults::MapFault;
 use crate::names::{Place, Prov, Terrain, Unit};
 use crate::parts::{Parts, Province, Realm, Shore};
-
-fn is_lowercase(text: &[u8]) -> bool
-    ensures { result ≡ list_all is_ascii_lowercase text.now }
-{
-    text.iter().all(|b| b.is_ascii_lowercase())
-}
-
-fn is_printable(text: &[u8]) -> bool
-    ensures { result ≡ list_all is_printable text.now }
-{
-    text.iter().all(|b| is_printable_byte(*b))
-}
-
-fn is_printable_byte(b: u8) -> bool
-    ensures { result ≡ is_printable b }
-{
-    32 <= b && b <= 126
-}
-
-fn is_taken(text: &str) -> bool
-    ensures { result ≡ is_taken text.now }
-{
-    text == "master" || text == "all" || text == "nobody" || text == "you"
-}
-
-fn is_code(text: &str) -> bool
-    ensures { result ≡ is_code text.now }
-{
-    text.len() == 3 && is_lowercase(text.as_bytes())
-}
-
-fn is_coast_name(text: &str) -> bool
-    ensures { result ≡ is_coast_name text.now }
-{
-    text.len() == 2 && is_lowercase(text.as_bytes())
-}
-
-fn is_full_name(text: &str) -> bool
-    ensures { result ≡ is_full_name text.now }
-{
-    1 <= text.len() && text.len() <= 40 && is_printable(text.as_bytes())
-}
-
-fn is_power_name(text: &str) -> bool
-    ensures { result ≡ is_power_name text.now }
-{
-    1 <= text.len() && text.len() <= 16 && is_lowercase(text.as_bytes()) && !is_taken(text)
-}
+use dip_mapfile::{is_code, is_coast_name, is_full_name, is_power_name};
 
 impl Shore {
     fn is_named(&self) -> bool
         ensures { result ≡ is_coast_name self.now.name }
     {
-        is_coast_name(self.name.as_str())
+        is_coast_name(self.name.as_bytes())
     }
 
     fn is_unnamed(&self) -> bool
@@ -111,7 +63,7 @@ impl Province {
     fn is_well_formed(&self) -> bool
         ensures { result ≡ is_province self.now }
     {
-        is_code(self.code.as_str()) && is_full_name(self.name.as_str()) && self.is_shaped()
+        is_code(self.code.as_bytes()) && is_full_name(self.name.as_str()) && self.is_shaped()
     }
 }
 
@@ -297,7 +249,13 @@ impl Parts {
         if !self.is_well_formed() {
             return Some(MapFault::UnknownName);
         }
+        if !self.is_allowed() {
+            return Some(MapFault::UnknownName);
+        }
         if !self.is_distinct() {
+            return Some(MapFault::DoubledName);
+        }
+        if !self.is_single() {
             return Some(MapFault::DoubledName);
         }
         if !self.is_mutual() {

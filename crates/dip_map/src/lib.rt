@@ -4,18 +4,20 @@
 mod boards;
 mod charts;
 mod checks;
+mod entries;
 mod faults;
 mod laws;
 mod names;
 mod parts;
 mod standard;
+mod stated;
 
 pub use boards::{Board, Dislodged, Phase, Season};
 pub use charts::Map;
 pub use faults::MapFault;
 pub use laws::openings_are_of_their_map;
 pub use names::{Kind, Place, Power, Prov, Terrain, Unit};
-pub use parts::{Parts, Province, Realm, Shore};
+pub use standard::STANDARD;
 
 #[cfg(test)]
 mod tests;

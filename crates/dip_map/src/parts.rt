@@ -77,7 +77,7 @@ impl Model for Parts {
     ghost view = { λ m. record { name = string_bytes m.name; realms = m.realms.items; provinces = m.provinces.items } };
 }
 
-fn is_sea(terrain: Terrain) -> bool
+pub(crate) fn is_sea(terrain: Terrain) -> bool
     ensures { result ≡ is_sea terrain }
 {
     match terrain {

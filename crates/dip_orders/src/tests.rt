@@ -1,5 +1,5 @@
 use crate::{OrderFault, print_order, read_order, tokens};
-use dip_map::{Board, Kind, Map, Phase, Place, Power, Season, Unit};
+use dip_map::{Board, Kind, Map, Phase, Place, Power, STANDARD, Season, Unit};
 use std::alloc::{AllocError, Global};
 use std::process::Abort;
 use std::test::Fail;
@@ -71,7 +71,7 @@ italy: A ven - apu = A ven - apu
 #[test]
 fn orders_on_the_opening_board(rt: HostRuntime) -> Result<(), Fail> {
     let alloc = rt.alloc();
-    let map = Map::standard(alloc)?;
+    let map = Map::from_toml(alloc, STANDARD)?;
     let board = Board::opening(alloc, &map)?;
     let mut count = 0u32;
     for case in OPENING.lines() {
@@ -120,7 +120,7 @@ lyo: F lyo - lyo = O5 out of reach
 #[test]
 fn fleets_and_coasts(rt: HostRuntime) -> Result<(), Fail> {
     let alloc = rt.alloc();
-    let map = Map::standard(alloc)?;
+    let map = Map::from_toml(alloc, STANDARD)?;
     let france = the_power(&rt, &map, "france");
     for case in LONE.lines() {
         let (code, rest) = case.split_once(": ").expect(&rt, "a province");
@@ -139,7 +139,7 @@ fn fleets_and_coasts(rt: HostRuntime) -> Result<(), Fail> {
 #[test]
 fn a_line_of_minus_signs_is_no_order(rt: HostRuntime) -> Result<(), Fail> {
     let alloc = rt.alloc();
-    let map = Map::standard(alloc)?;
+    let map = Map::from_toml(alloc, STANDARD)?;
     let board = Board::opening(alloc, &map)?;
     let mut line = String::new(alloc);
     for _ in 0..100 {

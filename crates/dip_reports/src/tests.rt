@@ -1,5 +1,7 @@
 use crate::{Refusal, Reply, push_board_lines, push_phase, reply_text};
-use dip_map::{Board, Dislodged, Kind, Map, Phase, Place, Power, Prov, Season, Unit};
+use dip_map::{
+    Board, Dislodged, Kind, Map, Phase, Place, Power, Prov, STANDARD, Season, Unit,
+};
 use std::process::Abort;
 use std::test::Fail;
 
@@ -28,7 +30,7 @@ fn the_unit(
 #[test]
 fn board_lines_come_by_province(rt: HostRuntime) -> Result<(), Fail> {
     let alloc = rt.alloc();
-    let map = Map::standard(alloc)?;
+    let map = Map::from_toml(alloc, STANDARD)?;
     let mut units = Vec::new(alloc);
     units.push(the_unit(&rt, &map, "russia", Kind::Fleet, b"stp", b"nc"))?;
     units.push(the_unit(&rt, &map, "france", Kind::Army, b"nwy", b""))?;

@@ -4,7 +4,7 @@ ghost use Rattle.dip_desk.specs.Faults.{faults_with};
 
 use crate::tests::letters::{CREATE, ORDERS, SHOW, desk, letter};
 use crate::{Change, Desk, KeepFault, Keeper, MemoryKeeper, run};
-use dip_map::{Map, Power};
+use dip_map::{Map, Power, STANDARD};
 use dip_reports::{Own, Public};
 use std::test::Fail;
 
@@ -104,7 +104,7 @@ impl Keeper for Failing {
 #[test]
 fn a_fault_is_handed_on_and_changes_nothing(rt: HostRuntime) -> Result<(), Fail> {
     let alloc = rt.alloc();
-    let map = Map::standard(alloc)?;
+    let map = Map::from_toml(alloc, STANDARD)?;
     let england = map.power("england").ok_or("no england")?;
     for is_disk in [true, false] {
         let fault = if is_disk {

@@ -1,6 +1,6 @@
 use crate::{Keeper, MemoryKeeper, fault_reply, run, take};
 use dip_letters::{Letter, LetterFault, Next, digest, next_letter, sum};
-use dip_map::Map;
+use dip_map::{Map, STANDARD};
 use dip_reports::{opening_paper_text, reply_text};
 use std::alloc::{AllocError, Global};
 use std::process::Abort;
@@ -104,7 +104,7 @@ fn replies_of(alloc: Global, exchange: &str) -> Result<String, AllocError> {
 
 /// The replies to letters, from an empty desk.
 fn told(alloc: Global, letters: &str) -> Result<String, Fail> {
-    let map = Map::standard(alloc)?;
+    let map = Map::from_toml(alloc, STANDARD)?;
     let mut keeper = desk(alloc);
     let mut told = String::new(alloc);
     let mut rest = letters.as_bytes();
@@ -843,7 +843,7 @@ fn opened(rt: &impl Abort, alloc: Global, map: &Map) -> Result<MemoryKeeper, Fai
 #[test]
 fn the_masters_row_is_kept(rt: HostRuntime) -> Result<(), Fail> {
     let alloc = rt.alloc();
-    let map = Map::standard(alloc)?;
+    let map = Map::from_toml(alloc, STANDARD)?;
     let mut keeper = opened(&rt, alloc, &map)?;
     let desk = keeper.desk()?;
     assert!(rt; desk.digest == digest("desk", "master", "master-key"));
@@ -856,7 +856,7 @@ fn the_masters_row_is_kept(rt: HostRuntime) -> Result<(), Fail> {
 #[test]
 fn the_public_part_is_kept(rt: HostRuntime) -> Result<(), Fail> {
     let alloc = rt.alloc();
-    let map = Map::standard(alloc)?;
+    let map = Map::from_toml(alloc, STANDARD)?;
     let mut keeper = opened(&rt, alloc, &map)?;
     assert!(rt; keeper.public(&map, "g2")?.is_none());
     let public = keeper.public(&map, "g1")?.ok_or("no game")?;
@@ -868,7 +868,7 @@ fn the_public_part_is_kept(rt: HostRuntime) -> Result<(), Fail> {
 #[test]
 fn the_own_part_is_kept(rt: HostRuntime) -> Result<(), Fail> {
     let alloc = rt.alloc();
-    let map = Map::standard(alloc)?;
+    let map = Map::from_toml(alloc, STANDARD)?;
     let mut keeper = opened(&rt, alloc, &map)?;
     let england = map.power("england").ok_or("no england")?;
     let own = keeper.own(&map, "g1", england)?.ok_or("no seat")?;
@@ -879,7 +879,7 @@ fn the_own_part_is_kept(rt: HostRuntime) -> Result<(), Fail> {
 #[test]
 fn the_opening_paper_is_printed(rt: HostRuntime) -> Result<(), Fail> {
     let alloc = rt.alloc();
-    let map = Map::standard(alloc)?;
+    let map = Map::from_toml(alloc, STANDARD)?;
     let mut keeper = opened(&rt, alloc, &map)?;
     let public = keeper.public(&map, "g1")?.ok_or("no game")?;
     let paper = opening_paper_text(alloc, &map, &public)?;
@@ -891,7 +891,7 @@ fn the_opening_paper_is_printed(rt: HostRuntime) -> Result<(), Fail> {
 #[test]
 fn a_run_takes_letter_by_letter(rt: HostRuntime) -> Result<(), Fail> {
     let alloc = rt.alloc();
-    let map = Map::standard(alloc)?;
+    let map = Map::from_toml(alloc, STANDARD)?;
     let mut keeper = desk(alloc);
     let letters = [letter(&rt, CREATE), letter(&rt, ORDERS), letter(&rt, SHOW)];
     match run(alloc, &mut keeper, &map, letters.as_slice()) {

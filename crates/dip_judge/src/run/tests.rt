@@ -2,7 +2,7 @@
 use super::{MOST_INPUT, RunFault, run_file};
 use dip_desk::MemoryKeeper;
 use dip_letters::digest;
-use dip_map::Map;
+use dip_map::{Map, STANDARD};
 use std::alloc::Global;
 use std::io;
 use std::io::{Read, Write};
@@ -104,7 +104,7 @@ fn replies_to(alloc: Global, map: &Map, input: &str) -> Result<Vec<u8>, Fail> {
 }
 
 fn standard(alloc: Global) -> Result<Map, Fail> {
-    match Map::standard(alloc) {
+    match Map::from_toml(alloc, STANDARD) {
         Ok(map) => Ok(map),
         Err(_) => Err(Fail::from("no standard map")),
     }

@@ -1,0 +1,160 @@
+-- The map that a text states, or its first fault: the file's own (M1, M2), its limits (M6), its codes looked up (M3), and the checks of
+-- a map's parts (M3, M5, M4). Want of memory (M7) may come in place of any.
+use Rattle.std.specs.Prelude.{◌≡◌, ℕ, ◌+◌, ◌&&◌, nat_le, Bool, List, [], ◌∷◌, length, Option, Some, None, Result, Ok, Err, option_and_then, slice_get, if◌then◌else◌}
+use Rattle.std.specs.List.{position}
+use Rattle.std.specs.Str.{bytes_eq}
+use Rattle.dip_mapfile.specs.declared.faults.FileFault.{FileFault}
+use Rattle.dip_mapfile.specs.declared.faults.FileFault.TheVariants.{NotToml as no_toml, WrongField as wrong_field, Memory as no_room}
+use Rattle.dip_mapfile.specs.declared.drafts.Land.{Land}
+use Rattle.dip_mapfile.specs.declared.drafts.Land.TheVariants.{Inland as inland, Coast as coast, Sea as sea}
+use Rattle.dip_mapfile.specs.declared.drafts.Piece.{Piece}
+use Rattle.dip_mapfile.specs.declared.drafts.Piece.TheVariants.{Army as army, Fleet as fleet}
+use Rattle.dip_mapfile.specs.Drafts.{Site, Standing, Draft, Province as Written, Shore as Strand, Power as Side}
+use Rattle.dip_mapfile.specs.Files.{file_in, draft_at}
+use Rattle.dip_map.specs.declared.faults.MapFault.{MapFault}
+use Rattle.dip_map.specs.declared.faults.MapFault.TheVariants.{NotToml, WrongField, UnknownName, OverLimit, Memory}
+use Rattle.dip_map.specs.declared.names.Kind.TheVariants.{Army, Fleet}
+use Rattle.dip_map.specs.declared.names.Place.{Place}
+use Rattle.dip_map.specs.declared.names.Terrain.{Terrain}
+use Rattle.dip_map.specs.declared.names.Terrain.TheVariants.{Inland, Coast, Sea}
+use Rattle.dip_map.specs.declared.names.Unit.{Unit as Unit_}
+use Rattle.dip_map.specs.Charts.{Chart, Province, Realm, Shore}
+use Rattle.dip_map.specs.Checks.{first_fault}
+
+-- what is made of what was read, or the first fault
+infixl 10 ◌>>=◌
+abbrev pub ◌>>=◌ : {A B : Type 0} → Result A MapFault → (A → Result B MapFault) → Result B MapFault
+(Ok x) >>= f = f x
+(Err e) >>= f = Err e
+
+-- it ends with this fault; want of memory may come in any place
+abbrev pub Fails : {Y : Type 0} → MapFault → Result Y MapFault → Type 0
+Fails Memory read = Unit {0}
+Fails e read = read ≡ Err e
+
+-- what a function returned is what is stated, unless memory ran out
+abbrev pub Gives : {X Y : Type 0} → (X → Y) → Result X MapFault → Result Y MapFault → Type 0
+Gives view (Ok x) read = read ≡ Ok (view x)
+Gives view (Err e) read = Fails e read
+
+-- a fault of the file is one of the map
+abbrev pub of_file : FileFault → MapFault
+of_file no_toml = NotToml
+of_file wrong_field = WrongField
+of_file no_room = Memory
+
+abbrev pub from_file : {A : Type 0} → Result A FileFault → Result A MapFault
+from_file (Ok x) = Ok x
+from_file (Err e) = Err (of_file e)
+
+-- what is defined
+abbrev pub known : {A : Type 0} → Option A → Result A MapFault
+known (Some x) = Ok x
+known None = Err UnknownName
+
+-- each of a list, looked up the same way
+abbrev pub each : {A B : Type 0} → (A → Result B MapFault) → List A → Result (List B) MapFault
+each f [] = Ok []
+each f (x ∷ xs) = do
+  y ← f x
+  ys ← each f xs
+  Ok (y ∷ ys)
+
+-- the same, for what stands in a list from number k on
+abbrev pub each_from : {A B : Type 0} → (ℕ → A → Result B MapFault) → ℕ → List A → Result (List B) MapFault
+each_from f k [] = Ok []
+each_from f k (x ∷ xs) = do
+  y ← f k x
+  ys ← each_from f (k + 1) xs
+  Ok (y ∷ ys)
+
+-- the number of a code
+unfoldable pub prov_at : Draft → List ℕ → Result ℕ MapFault
+prov_at d code = known (position (λ p. bytes_eq p.code code) d.provinces)
+
+-- the number of a coast; what has no name is the only one of a province that has no coasts of its own
+unfoldable pub coast_at : Draft → ℕ → List ℕ → Result ℕ MapFault
+coast_at d p name = known (option_and_then (λ (l : Written). position (λ s. bytes_eq s.name name) l.shores) (slice_get d.provinces p))
+
+-- a place where a fleet may be
+unfoldable pub place_at : Draft → Site → Result Place MapFault
+place_at d s = do
+  p ← prov_at d s.code
+  k ← coast_at d p s.coast
+  Ok (record { prov = p; coast = k })
+
+-- a unit of a power
+abbrev pub unit_of : Draft → ℕ → Piece → Site → Result Unit_ MapFault
+unit_of d r army s = do
+  p ← prov_at d s.code
+  Ok (record { power = r; kind = Army; place = record { prov = p; coast = 0 } })
+unit_of d r fleet s = do
+  a ← place_at d s
+  Ok (record { power = r; kind = Fleet; place = a })
+
+abbrev pub unit_at : Draft → ℕ → Standing → Result Unit_ MapFault
+unit_at d r u = unit_of d r u.piece u.site
+
+-- a coast
+unfoldable pub shore_at : Draft → Strand → Result Shore MapFault
+shore_at d s = do
+  next ← each (place_at d) s.next
+  Ok (record { name = s.name; next = next })
+
+abbrev pub terrain_of : Land → Terrain
+terrain_of inland = Inland
+terrain_of coast = Coast
+terrain_of sea = Sea
+
+-- a province
+unfoldable pub province_at : Draft → Written → Result Province MapFault
+province_at d p = do
+  next ← each (prov_at d) p.army
+  shores ← each (shore_at d) p.shores
+  Ok (record { code = p.code; name = p.name; terrain = terrain_of p.land; centre = p.centre; army = next; shores = shores })
+
+-- a power
+unfoldable pub realm_at : Draft → ℕ → Side → Result Realm MapFault
+realm_at d r p = do
+  home ← each (prov_at d) p.home
+  units ← each (unit_at d r) p.units
+  Ok (record { name = p.name; home = home; units = units })
+
+-- the parts of the map, each code looked up
+unfoldable pub chart_at : Draft → Result Chart MapFault
+chart_at d = do
+  realms ← each_from (realm_at d) 0 d.powers
+  provinces ← each (province_at d) d.provinces
+  Ok (record { name = d.name; realms = realms; provinces = provinces })
+
+-- whether a map may have so many powers and provinces
+abbrev pub is_few : Draft → Bool
+is_few d = (nat_le 1 (length d.powers) && nat_le (length d.powers) 7) && (nat_le 1 (length d.provinces) && nat_le (length d.provinces) 200)
+
+abbrev pub limited : Draft → Result Draft MapFault
+limited d = if is_few d then Ok d else Err OverLimit
+
+-- the parts of the map, within the limits
+abbrev pub parts_at : Draft → Result Chart MapFault
+parts_at d = limited d >>= chart_at
+
+-- what passes the checks of a map's parts
+abbrev pub checked_by : Option MapFault → Chart → Result Chart MapFault
+checked_by None m = Ok m
+checked_by (Some e) m = Err e
+
+abbrev pub checked : Chart → Result Chart MapFault
+checked m = checked_by (first_fault m) m
+
+-- the map that a file's draft states
+abbrev pub chart_of : Draft → Result Chart MapFault
+chart_of d = do
+  m ← parts_at d
+  checked m
+
+-- the map that a text states
+unfoldable pub stated : List ℕ → Result Chart MapFault
+stated text = do
+  file ← from_file (file_in text)
+  draft ← from_file (draft_at file)
+  chart_of draft

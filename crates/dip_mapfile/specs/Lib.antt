@@ -1,0 +1,4 @@
+pub mod Forms
+pub mod Drafts
+pub mod Fields
+pub mod Files

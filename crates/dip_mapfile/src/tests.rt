@@ -1,0 +1,78 @@
+use crate::{FileFault, Land, Piece, draft_of, is_code, is_coast_name, is_full_name, is_power_name, tables_of};
+use std::test::Fail;
+
+const ISLES: &str = "name = \"isles\"
+[powers.west]
+home = [\"ard\"]
+units = [\"A ard\", \"F bay/nc\"]
+[provinces.ard]
+name = \"Ard\"
+kind = \"inland\"
+centre = true
+army = [\"bay\"]
+[provinces.bay]
+name = \"Bay\"
+kind = \"coast\"
+army = [\"ard\"]
+[provinces.bay.coasts]
+nc = [\"sea\"]
+sc = []
+[provinces.sea]
+name = \"Sea\"
+kind = \"sea\"
+fleet = [\"bay/nc\"]
+";
+
+#[test]
+fn provinces_are_read_by_code(rt: HostRuntime) -> Result<(), Fail> {
+    let alloc = rt.alloc();
+    let file = tables_of(alloc, ISLES).expect(&rt, "TOML");
+    let draft = draft_of(alloc, &file).expect(&rt, "fields");
+    assert_eq!(rt; draft.name, "isles");
+    assert_eq!(rt; draft.provinces.len(), 3);
+    let bay = draft.provinces.get(1).expect(&rt, "a province");
+    assert_eq!(rt; bay.code, "bay");
+    assert_eq!(rt; bay.name, "Bay");
+    assert!(rt; bay.land == Land::Coast);
+    assert!(rt; !bay.centre);
+    assert_eq!(rt; bay.coast(b"sc"), Some(1));
+    assert_eq!(rt; bay.coast(b""), None);
+    Ok(())
+}
+
+#[test]
+fn powers_are_read_by_name(rt: HostRuntime) -> Result<(), Fail> {
+    let alloc = rt.alloc();
+    let file = tables_of(alloc, ISLES).expect(&rt, "TOML");
+    let draft = draft_of(alloc, &file).expect(&rt, "fields");
+    assert_eq!(rt; draft.powers.len(), 1);
+    let west = draft.powers.get(0).expect(&rt, "a power");
+    assert_eq!(rt; west.name, "west");
+    assert_eq!(rt; west.home.len(), 1);
+    let fleet = west.units.get(1).expect(&rt, "a unit");
+    assert!(rt; fleet.piece == Piece::Fleet);
+    assert!(rt; fleet.site.code == b"bay");
+    assert!(rt; fleet.site.coast == b"nc");
+    Ok(())
+}
+
+#[test]
+fn texts_that_are_no_file_have_their_fault(rt: HostRuntime) -> Result<(), Fail> {
+    let alloc = rt.alloc();
+    assert!(rt; tables_of(alloc, "name = ").err() == Some(FileFault::NotToml));
+    let file = tables_of(alloc, "name = \"none\"").expect(&rt, "TOML");
+    assert!(rt; draft_of(alloc, &file).err() == Some(FileFault::WrongField));
+    Ok(())
+}
+
+#[test]
+fn forms_have_their_bounds(rt: HostRuntime) -> Result<(), Fail> {
+    assert!(rt; is_code(b"bud") && !is_code(b"bu") && !is_code(b"budd") && !is_code(b"Bud"));
+    assert!(rt; is_coast_name(b"nc") && !is_coast_name(b"n") && !is_coast_name(b"n1"));
+    assert!(rt; is_full_name("St Petersburg") && !is_full_name("") && !is_full_name("a\tb"));
+    assert!(rt; is_power_name("abcdefghijklmnop") && !is_power_name("abcdefghijklmnopq"));
+    for word in ["master", "all", "nobody", "you", "", "France"] {
+        assert!(rt; !is_power_name(word));
+    }
+    Ok(())
+}

@@ -51,8 +51,8 @@ fn powers_are_read_by_name(rt: HostRuntime) -> Result<(), Fail> {
     assert_eq!(rt; west.home.len(), 1);
     let fleet = west.units.get(1).expect(&rt, "a unit");
     assert!(rt; fleet.piece == Piece::Fleet);
-    assert!(rt; fleet.site.code == b"bay");
-    assert!(rt; fleet.site.coast == b"nc");
+    assert!(rt; fleet.site.code == b"bay".as_slice());
+    assert!(rt; fleet.site.coast == b"nc".as_slice());
     Ok(())
 }
 

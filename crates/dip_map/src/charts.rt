@@ -1,11 +1,15 @@
-ghost use Rattle.std.specs.Prelude.{◌≡◌, ◌<◌, length, All, MatchResult, true};
+ghost use Rattle.std.specs.Prelude.{◌≡◌, ◌≢◌, ◌<◌, length, All, MatchResult, true};
 ghost use Rattle.dip_map.specs.Charts.{IsMap, province, realm, shore, army_next, fleet_next, home, prov_of, power_of, coast_of, is_centre};
 ghost use Rattle.dip_map.specs.Charts.{is_fleet_place, may_stand, is_unit, is_army_next, is_fleet_next};
 ghost use Rattle.dip_map.specs.Checks.{first_fault};
+ghost use Rattle.dip_map.specs.Walks.{IsDistance};
+ghost use Rattle.dip_map.specs.declared.faults.MapFault.TheVariants.{Memory};
 
+use crate::distances::Distances;
 use crate::faults::MapFault;
 use crate::names::{Kind, Place, Power, Prov, Terrain, Unit};
 use crate::parts::{Parts, Realm};
+use std::alloc::Global;
 use std::marker::Model;
 
 /// A map whose parts were checked: within limits, well formed, each neighbour named back.
@@ -14,27 +18,32 @@ use std::marker::Model;
 #[derive(Drop)]
 pub struct Map {
     parts: Parts,
+    distances: Distances,
 }
 
 impl Model for Map {
     ghost use Rattle.dip_map.specs.Charts.{Chart, IsMap};
+    ghost use Rattle.dip_map.specs.Distances.{AreDistances};
 
     ghost Value = { Chart };
 
     ghost view = { λ m. m.parts };
 
-    ghost invariant = { λ m. IsMap m.parts };
+    ghost invariant = { λ m. IsMap m.parts × AreDistances m.parts m.distances };
 }
 
 impl Map {
     /// The map of these parts, or the first fault that they have.
-    pub fn of(parts: Parts) -> Result<Map, MapFault>
-        ensures { MatchResult result (λ m. (first_fault parts ≡ None) × (m ≡ parts)) (λ e. first_fault parts ≡ Some e) }
+    ///
+    /// Memory is asked for where they have none.
+    pub fn of(alloc: Global, parts: Parts) -> Result<Map, MapFault>
+        ensures { MatchResult result (λ m. (first_fault parts ≡ None) × (m ≡ parts)) (λ e. (e ≢ Memory → first_fault parts ≡ Some e) × (e ≡ Memory → first_fault parts ≡ None)) }
     {
         if let Some(fault) = parts.first_fault() {
             return Err(fault);
         }
-        Ok(Map { parts })
+        let distances = Distances::of(alloc, &parts)?;
+        Ok(Map { parts, distances })
     }
 
     /// What each map keeps.
@@ -187,6 +196,15 @@ impl Map {
         ensures { result ≡ is_unit self.now unit.now }
     {
         self.parts.is_unit(unit)
+    }
+
+    /// The least number of steps from a place to a home centre of the power, 1,000 where none leads there.
+    ///
+    /// A fleet goes by its neighbours, an army by those of either kind, over water too.
+    pub fn distance(&self, kind: Kind, place: Place, power: Power) -> u16
+        ensures { IsDistance self.now kind place power result }
+    {
+        self.distances.noted(kind, place, power)
     }
 
     pub(crate) fn realms(&self) -> &[Realm]

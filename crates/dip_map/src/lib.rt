@@ -4,6 +4,7 @@
 mod boards;
 mod charts;
 mod checks;
+mod distances;
 mod faults;
 mod laws;
 mod names;

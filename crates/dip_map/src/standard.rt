@@ -206,11 +206,12 @@ impl Map {
         let name = String::from_str(alloc, "standard")?;
         let realms = realms_of(alloc)?;
         let provinces = provinces_of(alloc)?;
-        Map::of(Parts {
+        let parts = Parts {
             name,
             realms,
             provinces,
-        })
+        };
+        Map::of(alloc, parts)
     }
 }
 

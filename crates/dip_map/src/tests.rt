@@ -132,6 +132,24 @@ fn names_are_found_as_they_are_spelled(rt: HostRuntime) -> Result<(), Fail> {
 }
 
 #[test]
+fn a_distance_is_to_the_nearest_home_centre(rt: HostRuntime) -> Result<(), Fail> {
+    let map = Map::standard(rt.alloc())?;
+    let distances = [
+        (Kind::Army, "par", "", "england", 3),
+        (Kind::Fleet, "por", "", "austria", 6),
+        (Kind::Fleet, "stp", "nc", "russia", 0),
+    ];
+    for (kind, code, coast, name, steps) in distances {
+        let prov = the_prov(&rt, &map, code);
+        let coast = map.coast(prov, coast.as_bytes()).unwrap_or(0);
+        let power = map.power(name).expect(&rt, "a power");
+        let place = Place { prov, coast };
+        assert_eq!(rt; map.distance(kind, place, power), steps);
+    }
+    Ok(())
+}
+
+#[test]
 fn the_opening_has_each_unit_in_its_home(rt: HostRuntime) -> Result<(), Fail> {
     let alloc = rt.alloc();
     let map = Map::standard(alloc)?;

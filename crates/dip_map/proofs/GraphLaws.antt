@@ -88,12 +88,17 @@ shores_most Sea r h =
     let one = (and_parts (has_one_shore r.shores) _ h).0 in
     omega (arith, eqb-true (length r.shores) 1 (and_parts (length r.shores == 1) _ one).0)
 
+well_shaped : (r : Province) → is_province r ≡ true → is_shaped r.terrain r ≡ true
+well_shaped r h =
+    let rest = (and_parts (is_code r.code) (is_full_name r.name && is_shaped r.terrain r) h).1 in
+    (and_parts (is_full_name r.name) (is_shaped r.terrain r) rest).1
+
 pub few_coasts : (m : Chart) (a : Place) → IsMap m → is_fleet_place m a ≡ true → a.coast < 4
 few_coasts m a ok h =
     let (on, shore) = and_parts (nat_lt a.prov (length m.provinces)) (nat_lt a.coast (length (province m a.prov).shores)) h in
-    let formed = ok.provinces a.prov (ltb-true a.prov (length m.provinces) on) in
-    let shaped = (and_parts _ _ (and_parts _ _ formed).1).1 in
-    let most = shores_most (province m a.prov).terrain (province m a.prov) shaped in
+    let r : Province = province m a.prov in
+    let formed : is_province r ≡ true = ok.provinces a.prov (ltb-true a.prov (length m.provinces) on) in
+    let most : length r.shores ≤ 4 = shores_most r.terrain r (well_shaped r formed) in
     omega (arith, ltb-true a.coast (length (province m a.prov).shores) shore)
 
 -- the graph of fleets

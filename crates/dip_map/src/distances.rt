@@ -2,7 +2,8 @@
 ghost use Rattle.std.specs.Prelude.{◌≡◌, ◌<◌, ◌≤◌, ◌++◌, length, map, IfOk};
 ghost use Rattle.std.specs.List.{flat_map};
 ghost use Rattle.dip_walk.specs.Walk.{rows_of};
-ghost use Rattle.dip_map.specs.Charts.{IsMap, province};
+ghost use Rattle.dip_map.specs.Charts.{IsMap, fleet_next};
+ghost use Rattle.dip_map.specs.declared.names.Kind.TheVariants.{Fleet};
 ghost use Rattle.dip_map.specs.Walks.{ways, is_home};
 ghost use Rattle.dip_map.specs.Distances.{vertex, place_at, is_haven, vertices, row, is_home_at, graph, homes, AreTables, noted_at, noted, AreDistances};
 
@@ -126,7 +127,8 @@ fn is_home(parts: &Parts, power: Power, p: Prov) -> bool
 fn is_haven(parts: &Parts, power: Power, a: Place) -> bool
     ensures { result ≡ is_haven parts.now power a }
 {
-    parts.is_fleet_place(a) && is_home(parts, power, a.prov)
+    let prov = a.prov;
+    parts.is_fleet_place(a) && is_home(parts, power, prov)
 }
 
 fn vertices(parts: &Parts, kind: Kind) -> usize

@@ -1,7 +1,7 @@
 -- What the tables note are distances.
 use Rattle.std.proofs.Common.{◌≡◌, ℕ, ◌+◌, ◌<◌, ◌≤◌, Bool, true, false, get_or, length, map, List, [], ◌∷◌, ◌++◌, refl, sym, ◌∙◌, ap, subst, inl, inr, arith, nat_lt, cond}
 use Rattle.std.proofs.lemmas.Bool.{cases_lt, lt-ltb, le-ltb}
-use Rattle.std.proofs.lemmas.List.{get_or_past, get_or_append_left, get_or_push, length_push, map_push}
+use Rattle.std.proofs.lemmas.List.{get_or_past, get_or_append_left, get_or_push, length_push, map_push, length-map}
 use Rattle.std.specs.List.{range_with_len}
 use Rattle.std.specs.Prelude.{Vec}
 use Rattle.std.specs.declared.alloc.Global.{Global}
@@ -28,6 +28,11 @@ length-graph m kind = length-map-range_with_len (λ v. row m kind v) 0 (vertices
 
 pub length-homes : (m : Chart) (kind : Kind) (r : ℕ) → length (homes m kind r) ≡ vertices m kind
 length-homes m kind r = length-map-range_with_len (λ v. is_home_at m kind r v) 0 (vertices m kind)
+
+pub few_rows : (m : Chart) (kind : Kind) (g : List (Vec ℕ Global)) → length m.provinces ≤ 200 → rows_of g ≡ graph m kind → length g < 999
+few_rows m kind g few same =
+    let count : length g ≡ vertices m kind = sym (length-map g (λ (r : Vec ℕ Global). r.items)) ∙ ap (λ (xs : List (List ℕ)). length xs) same ∙ length-graph m kind in
+    omega (arith, vertices_most m kind few)
 
 -- one more vertex
 
@@ -63,6 +68,15 @@ tables_step m kind n tables table before new = record {
                 (subst (λ (t : List ℕ). AreLeast (graph m kind) (homes m kind n) t) (sym same) new)
       ];
 }
+
+-- the same, as a loop has it
+pub tables_more : (m : Chart) (kind : Kind) (n r : ℕ) (front : List (Vec ℕ Global)) (table : Vec ℕ Global) (g : List (List ℕ)) (h : List Bool) → AreTables m kind n (rows_of front)
+    → g ≡ graph m kind → h ≡ homes m kind r → r ≡ n → AreLeast g h table.items → AreTables m kind (n + 1) (rows_of (front ++ table ∷ []))
+tables_more m kind n r front table g h before same_graph same_homes same new =
+    let in_graph = subst (λ (x : List (List ℕ)). AreLeast x h table.items) same_graph new in
+    let to_homes = subst (λ (x : List Bool). AreLeast (graph m kind) x table.items) same_homes in_graph in
+    let least = subst (λ (x : ℕ). AreLeast (graph m kind) (homes m kind x) table.items) same to_homes in
+    rw (map_push (λ (x : Vec ℕ Global). x.items) front table) (tables_step m kind n (rows_of front) table.items before least)
 
 -- where there is no walk
 

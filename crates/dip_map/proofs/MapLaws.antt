@@ -6,7 +6,7 @@ use Rattle.std.specs.List.{list_any, list_all}
 use Rattle.std.specs.Cmp.Derive.{both_true}
 use Rattle.dip_map.specs.declared.names.Place.{Place}
 use Rattle.dip_map.specs.declared.faults.MapFault.{MapFault}
-use Rattle.dip_map.specs.declared.faults.MapFault.TheVariants.{OverLimit, UnknownName, DoubledName, NotSymmetric, Memory}
+use Rattle.dip_map.specs.declared.faults.MapFault.TheVariants.{OverLimit, UnknownName, DoubledName, NotSymmetric}
 use Rattle.dip_map.specs.Charts.{Chart, Province, Shore, Realm, IsMap, no_province, no_shore, no_realm, province, army_next, fleet_next, is_army_next, is_fleet_next, is_fleet_place, is_province, is_realm, is_unit, opening_units, prov_of, power_of, coast_of}
 use Rattle.dip_map.specs.Checks.{answers, is_within_limits, is_well_formed, rest_of_codes, rest_of_names, rest_of_shores, rest_of_coasts, is_distinct, is_named_back, rest_is_mutual, are_named_back, rest_of_shores_is_mutual, rest_is_mutual_by_sea, is_mutual, first_fault}
 
@@ -200,20 +200,6 @@ limits_law m t =
     let (a, b) = and_parts _ _ powers in
     let (c, d) = and_parts _ _ lands in
     ((leb-true _ _ a, leb-true _ _ b), (leb-true _ _ c, leb-true _ _ d))
-
--- a fault that isn't the first one is further on
-further : (b : Bool) (f g : MapFault) (rest : Option MapFault) → (f ≡ g → ⊥) → (if not b then Some f else rest) ≡ Some g → rest ≡ Some g
-further true f g rest other h = h
-further false f g rest other h = absurd (other (cc))
-
--- want of memory is no fault of a map's parts
-pub never_memory : (m : Chart) → first_fault m ≡ Some Memory → ⊥
-never_memory m h =
-    let a = further (is_within_limits m) OverLimit Memory _ (λ e. cc) h in
-    let b = further (is_well_formed m) UnknownName Memory _ (λ e. cc) a in
-    let c = further (is_distinct m) DoubledName Memory _ (λ e. cc) b in
-    let d = further (is_mutual m) NotSymmetric Memory None (λ e. cc) c in
-    cc
 
 -- parts without a fault are a map
 pub map_law : (m : Chart) → first_fault m ≡ None → IsMap m

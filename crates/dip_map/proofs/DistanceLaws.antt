@@ -1,5 +1,5 @@
 -- What the tables note are distances.
-use Rattle.std.proofs.Common.{◌≡◌, ℕ, ◌+◌, ◌<◌, ◌≤◌, Bool, true, false, get_or, length, map, List, [], ◌∷◌, ◌++◌, refl, sym, ◌∙◌, ap, subst, inl, inr, arith, nat_lt, cond}
+use Rattle.std.proofs.Common.{◌≡◌, ℕ, ◌+◌, ◌<◌, ◌≤◌, Bool, get_or, length, map, List, [], ◌∷◌, ◌++◌, sym, ◌∙◌, ap, subst, inl, inr, arith, nat_lt, cond}
 use Rattle.std.proofs.lemmas.Bool.{cases_lt, lt-ltb, le-ltb}
 use Rattle.std.proofs.lemmas.List.{get_or_past, get_or_append_left, get_or_push, length_push, map_push, length-map}
 use Rattle.std.specs.List.{range_with_len}
@@ -65,7 +65,7 @@ tables_step m kind n tables table before new = record {
             let e : r ≡ n = omega arith in
             let same : get_or (tables ++ table ∷ []) n [] ≡ table = get_or_push tables table [] n before.count in
             subst (λ (k : ℕ). AreLeast (graph m kind) (homes m kind k) (get_or (tables ++ table ∷ []) k [])) (sym e)
-                (subst (λ (t : List ℕ). AreLeast (graph m kind) (homes m kind n) t) (sym same) new)
+            (subst (λ (t : List ℕ). AreLeast (graph m kind) (homes m kind n) t) (sym same) new)
       ];
 }
 

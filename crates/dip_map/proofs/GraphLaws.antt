@@ -1,16 +1,16 @@
 -- What the graphs of a map have at a vertex.
-use Rattle.std.proofs.Common.{◌≡◌, ℕ, ◌+◌, ◌*◌, ◌/◌, ◌%◌, ◌<◌, ◌≤◌, ◌==◌, ◌&&◌, ◌++◌, Bool, true, false, get_or, length, map, flat_map, List, [], ◌∷◌, refl, sym, ◌∙◌, ap, subst, inl, inr, arith, nat_lt}
+use Rattle.std.proofs.Common.{◌≡◌, ℕ, ◌<◌, ◌≤◌, ◌==◌, ◌&&◌, ◌++◌, true, false, get_or, length, map, flat_map, List, [], sym, ◌∙◌, ap, inl, inr, arith, nat_lt}
 use Rattle.std.proofs.lemmas.Bool.{and_parts, or_cases, false≢true, cases_lt, eqb-true, leb-true, ltb-true, le-ltb, and_left, false_from_ne_true}
 use Rattle.std.proofs.lemmas.List.{get_or_past}
 use Rattle.std.proofs.lemmas.List.FromFn.{get_or-map-range_with_len, length-map-range_with_len}
 use Rattle.std.proofs.lemmas.Nat.{div-mul-add, mod-mul-add}
-use Rattle.std.specs.List.{list_any, list_all, range_with_len}
+use Rattle.std.specs.List.{list_any, list_all}
 use Rattle.dip_map.specs.declared.names.Kind.{Kind}
 use Rattle.dip_map.specs.declared.names.Kind.TheVariants.{Army, Fleet}
 use Rattle.dip_map.specs.declared.names.Place.{Place}
 use Rattle.dip_map.specs.declared.names.Terrain.{Terrain}
 use Rattle.dip_map.specs.declared.names.Terrain.TheVariants.{Inland, Coast, Sea}
-use Rattle.dip_map.specs.Charts.{Chart, Province, Realm, Shore, IsMap, no_province, no_shore, no_realm, province, realm, fleet_next, home, is_centre, is_fleet_place, is_shaped, has_one_shore, has_named_shores, is_province, is_realm, is_code, is_full_name, is_power_name, is_unit}
+use Rattle.dip_map.specs.Charts.{Chart, Province, Realm, IsMap, no_province, no_shore, no_realm, province, realm, fleet_next, home, is_centre, is_fleet_place, is_shaped, has_one_shore, has_named_shores, is_province, is_code, is_full_name, is_power_name}
 use Rattle.dip_map.specs.Walks.{ways, is_home}
 use Rattle.dip_map.specs.Distances.{vertex, place_at, is_haven, vertices, row, is_home_at, graph, homes}
 use Rattle.dip_map.proofs.MapLaws.{test_found, place_eq}

@@ -1,15 +1,15 @@
 -- Walks on a map are walks in its graphs.
-use Rattle.std.proofs.Common.{◌≡◌, ℕ, ◌<◌, ◌≤◌, ◌==◌, ◌&&◌, Bool, true, false, zero, suc, length, map, List, [], ◌∷◌, refl, sym, ◌∙◌, ap, subst, inl, inr, arith}
+use Rattle.std.proofs.Common.{◌≡◌, ℕ, ◌<◌, ◌≤◌, ◌==◌, ◌&&◌, true, zero, suc, length, map, List, [], ◌∷◌, refl, sym, ◌∙◌, ap, subst, inl, inr}
 use Rattle.std.proofs.lemmas.Bool.{and_parts, false≢true, cases_Bool, eqb-true, eq-eqb}
 use Rattle.std.specs.List.{list_any}
 use Rattle.std.specs.Cmp.Derive.{both_true}
-use Rattle.dip_walk.specs.Walk.{has_edge, Walk as Way}
+use Rattle.dip_walk.specs.Walk.{Walk as Way}
 use Rattle.dip_map.specs.declared.names.Kind.{Kind}
 use Rattle.dip_map.specs.declared.names.Kind.TheVariants.{Army, Fleet}
 use Rattle.dip_map.specs.declared.names.Place.{Place}
 use Rattle.dip_map.specs.Charts.{Chart, IsMap, fleet_next, is_fleet_next, is_fleet_place}
-use Rattle.dip_map.specs.Walks.{ways, is_home, ArmyWalk, FleetWalk, Walk}
-use Rattle.dip_map.specs.Distances.{vertex, is_haven, graph, homes}
+use Rattle.dip_map.specs.Walks.{is_home, ArmyWalk, FleetWalk, Walk}
+use Rattle.dip_map.specs.Distances.{vertex, graph, homes}
 use Rattle.dip_map.proofs.MapLaws.{afloat, place_eq}
 use Rattle.dip_map.proofs.GraphLaws.{land_row, land_home, sea_row, sea_home, few_coasts, no_power_no_home}
 
@@ -68,10 +68,11 @@ neighbour_coast m a b ok next = few_coasts m b ok (afloat m b a (ok.fleet_symmet
 pub sail_to : (m : Chart) (r : ℕ) → IsMap m → (n : ℕ) (a : Place) → a.coast < 4 → FleetWalk m r n a → Way (graph m Fleet) (homes m Fleet r) (vertex a) n
 sail_to m r ok zero a low w = sea_home m r a low ∙ w
 sail_to m r ok (suc n) a low w =
-    let (b, next, more) = w in
-    (vertex b,
-     ap (λ (xs : List ℕ). list_any (λ x. x == vertex b) xs) (sea_row m a low) ∙ edge_to b (fleet_next m a) next,
-     sail_to m r ok n b (neighbour_coast m a b ok next) more)
+    let (b, next, more) = w in (
+      vertex b,
+      ap (λ (xs : List ℕ). list_any (λ x. x == vertex b) xs) (sea_row m a low) ∙ edge_to b (fleet_next m a) next,
+      sail_to m r ok n b (neighbour_coast m a b ok next) more,
+    )
 
 pub sail_back : (m : Chart) (r : ℕ) → IsMap m → (n : ℕ) (a : Place) → a.coast < 4 → Way (graph m Fleet) (homes m Fleet r) (vertex a) n → FleetWalk m r n a
 sail_back m r ok zero a low w = sym (sea_home m r a low) ∙ w

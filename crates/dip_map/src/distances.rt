@@ -141,12 +141,7 @@ fn vertices(parts: &Parts, kind: Kind) -> usize
     }
 }
 
-fn row_of(
-    alloc: Global,
-    parts: &Parts,
-    kind: Kind,
-    vertex: usize,
-) -> Result<Vec<usize>, AllocError>
+fn row_of(alloc: Global, parts: &Parts, kind: Kind, vertex: usize) -> Result<Vec<usize>, AllocError>
     requires few { length parts.now.provinces ≤ 200 }
     requires within { vertex < vertices parts.now kind }
     ensures { IfOk result (λ v. v.items ≡ row parts.now kind vertex) }
@@ -180,12 +175,7 @@ fn graph_of(alloc: Global, parts: &Parts, kind: Kind) -> Result<Vec<Vec<usize>>,
     Ok(graph)
 }
 
-fn homes_of(
-    alloc: Global,
-    parts: &Parts,
-    kind: Kind,
-    power: Power,
-) -> Result<Vec<bool>, AllocError>
+fn homes_of(alloc: Global, parts: &Parts, kind: Kind, power: Power) -> Result<Vec<bool>, AllocError>
     requires { length parts.now.provinces ≤ 200 }
     ensures { IfOk result (λ v. v.items ≡ homes parts.now kind power) }
 {

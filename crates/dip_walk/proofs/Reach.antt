@@ -1,4 +1,4 @@
-use Rattle.std.proofs.Common.{◌≡◌, ◌≢◌, ℕ, ◌+◌, ◌<◌, ◌≤◌, ◌==◌, ◌&&◌, ◌||◌, not, ◌⊎◌, Bool, true, false, zero, suc, get_or, drop, length, cond, List, [], ◌∷◌, refl, sym, ◌∙◌, ap, subst, inl, inr, arith}
+use Rattle.std.proofs.Common.{◌≡◌, ℕ, ◌+◌, ◌<◌, ◌≤◌, ◌==◌, not, ◌⊎◌, Bool, true, false, zero, suc, get_or, drop, length, cond, List, [], ◌∷◌, refl, sym, ◌∙◌, ap, inl, inr, arith}
 use Rattle.std.proofs.lemmas.Bool.{and_parts, false≢true, cases_Bool, cases_lt, eqb-true, eq-eqb}
 use Rattle.std.proofs.lemmas.Bool.Decides.{nat_tests}
 use Rattle.std.proofs.lemmas.List.{drop_more}
@@ -39,8 +39,8 @@ witness f (x ∷ xs) h =
     elim (cases_Bool (f x)) [
       | inl e ↦ (x, rw (eq-eqb x x refl), e)
       | inr e ↦
-        let (c, in_xs, fc) = witness f xs (rw e at h) in
-        (c, elim (cases_Bool (x == c)) [ inl s ↦ rw s | inr s ↦ rw (s, in_xs) ], fc)
+          let (c, in_xs, fc) = witness f xs (rw e at h) in
+          (c, elim (cases_Bool (x == c)) [ inl s ↦ rw s | inr s ↦ rw (s, in_xs) ], fc)
     ]
 
 present : (f : ℕ → Bool) (row : List ℕ) (c : ℕ) → list_any (λ x. x == c) row ≡ true → f c ≡ true → list_any f row ≡ true
@@ -49,8 +49,8 @@ present f (x ∷ xs) c h fc =
     elim (cases_Bool (x == c)) [
       | inl s ↦ let e : f x ≡ true = rw (eqb-true x c s) fc in rw e
       | inr s ↦
-        let more : list_any f xs ≡ true = present f xs c (rw s at h) fc in
-        elim (cases_Bool (f x)) [ inl e ↦ rw e | inr e ↦ rw (e, more) ]
+          let more : list_any f xs ≡ true = present f xs c (rw s at h) fc in
+          elim (cases_Bool (f x)) [ inl e ↦ rw e | inr e ↦ rw (e, more) ]
     ]
 
 reached_far : (dist : List ℕ) (level d : ℕ) (row : List ℕ) → is_reached dist level d row ≡ true → d ≡ 1000
@@ -85,7 +85,7 @@ length-swept dist level i (r ∷ rs) = ap suc (length-swept dist level (i + 1) r
 
 after : (rows : List (List ℕ)) (dist : List ℕ) (level a : ℕ) → length dist ≡ length rows
     → ((is_reached dist level (at dist a) (get_or rows a []) ≡ true) × (at (swept dist level 0 rows) a ≡ level + 1))
-      ⊎ ((is_reached dist level (at dist a) (get_or rows a []) ≡ false) × (at (swept dist level 0 rows) a ≡ at dist a))
+    ⊎ ((is_reached dist level (at dist a) (get_or rows a []) ≡ false) × (at (swept dist level 0 rows) a ≡ at dist a))
 after rows dist level a same =
     let e : 0 + a ≡ a = omega arith in
     let found = rw e at (swept_at dist level 0 rows a (omega arith)) in
@@ -102,8 +102,8 @@ some_unmarked dist level i (r ∷ rs) h q =
     let cut = drop_more dist i 1000 (omega arith) in
     rw cut (elim (cases_Bool (is_reached dist level (at dist i) r)) [
       | inl s ↦
-        let far : at dist i == 1000 ≡ true = eq-eqb _ _ (reached_far dist level (at dist i) r s) in
-        rw far (omega arith)
+          let far : at dist i == 1000 ≡ true = eq-eqb _ _ (reached_far dist level (at dist i) r s) in
+          rw far (omega arith)
       | inr s ↦ let more = some_unmarked dist level (i + 1) rs (omega arith) (rw s at q) in omega arith
     ])
 
@@ -114,8 +114,8 @@ kept dist level i (r ∷ rs) h small =
     let more = kept dist level (i + 1) rs (omega arith) small in
     rw cut (elim (cases_Bool (is_reached dist level (at dist i) r)) [
       | inl s ↦
-        let low : (level + 1) == 1000 ≡ false = grind (arith, nat_tests) in
-        rw (s, low) (omega arith)
+          let low : (level + 1) == 1000 ≡ false = grind (arith, nat_tests) in
+          rw (s, low) (omega arith)
       | inr s ↦ rw s (omega arith)
     ])
 
@@ -125,13 +125,13 @@ fewer dist level i (r ∷ rs) h small q =
     let cut = drop_more dist i 1000 (omega arith) in
     rw cut (elim (cases_Bool (is_reached dist level (at dist i) r)) [
       | inl s ↦
-        let low : (level + 1) == 1000 ≡ false = grind (arith, nat_tests) in
-        let far : at dist i == 1000 ≡ true = eq-eqb _ _ (reached_far dist level (at dist i) r s) in
-        let more = kept dist level (i + 1) rs (omega arith) small in
-        rw (s, low, far) (omega arith)
+          let low : (level + 1) == 1000 ≡ false = grind (arith, nat_tests) in
+          let far : at dist i == 1000 ≡ true = eq-eqb _ _ (reached_far dist level (at dist i) r s) in
+          let more = kept dist level (i + 1) rs (omega arith) small in
+          rw (s, low, far) (omega arith)
       | inr s ↦
-        let more = fewer dist level (i + 1) rs (omega arith) small (rw s at q) in
-        rw s (omega arith)
+          let more = fewer dist level (i + 1) rs (omega arith) small (rw s at q) in
+          rw s (omega arith)
     ])
 
 -- a level is kept
@@ -141,10 +141,10 @@ step_walk : (rows : List (List ℕ)) (homes : List Bool) (dist : List ℕ) (leve
 step_walk rows homes dist level a v h =
     elim (after rows dist level a v.count) [
       | inl p ↦
-        let (c, edge, same) = reached_by dist level (at dist a) (get_or rows a []) p.0 in
-        let inner : Walk rows homes c level = let low : at dist c < 1000 = omega (arith, v.room, v.few) in rw same at (v.walk c low) in
-        let next : at (swept dist level 0 rows) a ≡ suc level = omega (arith, p.1) in
-        rw next (c, edge, inner)
+          let (c, edge, same) = reached_by dist level (at dist a) (get_or rows a []) p.0 in
+          let inner : Walk rows homes c level = let low : at dist c < 1000 = omega (arith, v.room, v.few) in rw same at (v.walk c low) in
+          let next : at (swept dist level 0 rows) a ≡ suc level = omega (arith, p.1) in
+          rw next (c, edge, inner)
       | inr p ↦ let low : at dist a < 1000 = omega (arith, p.1) in rw p.1 (v.walk a low)
     ]
 
@@ -170,17 +170,17 @@ not_farther : (rows : List (List ℕ)) (homes : List Bool) (dist : List ℕ) (le
 not_farther rows homes dist level a c v edge rest near =
     elim (nat_cases (at dist c) level) [
       | inl below ↦
-        let low : at dist c < 1000 = omega (arith, v.room, v.few) in
-        let e : at dist c + 1 ≡ suc (at dist c) = omega arith in
-        rw e (v.least a (suc (at dist c)) (omega arith) (c, edge, v.walk c low))
+          let low : at dist c < 1000 = omega (arith, v.room, v.few) in
+          let e : at dist c + 1 ≡ suc (at dist c) = omega arith in
+          rw e (v.least a (suc (at dist c)) (omega arith) (c, edge, v.walk c low))
       | inr not_below ↦
-        let same : at dist c ≡ level = omega arith in
-        elim (nat_cases (at dist a) 1000) [
-          | inl low ↦ omega (arith, v.near a low)
-          | inr far ↦
-            let e : at dist a ≡ 1000 = omega (arith, v.capped a) in
-            absurd (false≢true (sym rest ∙ reached_from dist level (at dist a) (get_or rows a []) c e edge same))
-        ]
+          let same : at dist c ≡ level = omega arith in
+          elim (nat_cases (at dist a) 1000) [
+            | inl low ↦ omega (arith, v.near a low)
+            | inr far ↦
+                let e : at dist a ≡ 1000 = omega (arith, v.capped a) in
+                absurd (false≢true (sym rest ∙ reached_from dist level (at dist a) (get_or rows a []) c e edge same))
+          ]
     ]
   where
     nat_cases : (m n : ℕ) → (m < n) ⊎ (n ≤ m)
@@ -198,11 +198,11 @@ step_least rows homes dist level a (suc m) v small h w =
     let near : at dist c ≤ m = v.least c m (omega arith) inner in
     elim (after rows dist level a v.count) [
       | inl p ↦
-        let far : at dist a ≡ 1000 = reached_far dist level (at dist a) (get_or rows a []) p.0 in
-        elim (cases_lt m level) [
-          | inl below ↦ absurd (omega (arith, far, v.least a (suc m) (omega arith) w))
-          | inr top ↦ omega (arith, p.1)
-        ]
+          let far : at dist a ≡ 1000 = reached_far dist level (at dist a) (get_or rows a []) p.0 in
+          elim (cases_lt m level) [
+            | inl below ↦ absurd (omega (arith, far, v.least a (suc m) (omega arith) w))
+            | inr top ↦ omega (arith, p.1)
+          ]
       | inr p ↦ omega (arith, p.1, not_farther rows homes dist level a c v edge p.0 (omega arith))
     ]
 
@@ -212,16 +212,18 @@ level_step rows homes dist level v q =
     let same : length dist ≡ 0 + length rows = omega (arith, v.count) in
     let some : 1 ≤ unmarked dist = some_unmarked dist level 0 rows same q in
     let small : level + 1 < 1000 = omega (arith, v.room, v.few) in
-    let less : unmarked (swept dist level 0 rows) < unmarked dist = fewer dist level 0 rows same small q in
-    (record {
-      count = length-swept dist level 0 rows;
-      capped = λ a. step_capped rows homes dist level a v small;
-      walk = λ a h. step_walk rows homes dist level a v h;
-      near = λ a h. step_near rows homes dist level a v h;
-      least = λ a m h w. step_least rows homes dist level a m v small h w;
-      room = omega (arith, v.room);
-      few = v.few;
-    }, less)
+    let less : unmarked (swept dist level 0 rows) < unmarked dist = fewer dist level 0 rows same small q in (
+      record {
+        count = length-swept dist level 0 rows;
+        capped = λ a. step_capped rows homes dist level a v small;
+        walk = λ a h. step_walk rows homes dist level a v h;
+        near = λ a h. step_near rows homes dist level a v h;
+        least = λ a m h w. step_least rows homes dist level a m v small h w;
+        room = omega (arith, v.room);
+        few = v.few;
+      },
+      less,
+    )
 
 -- the end
 
@@ -245,13 +247,15 @@ all_found rows homes dist level v q a (suc m) w =
     let e : 0 + a ≡ a = omega arith in
     let rest : is_reached dist level (at dist a) (get_or rows a []) ≡ false = rw e at (quiet_at dist level 0 rows a q) in
     let bound : at dist c ≤ level = v.near c low in
-    let one_more : at dist a ≤ at dist c + 1 = not_farther rows homes dist level a c v edge rest bound in
-    (elim (cases_lt (at dist a) 1000) [
-      | inl below ↦ below
-      | inr far ↦
-        -- then c is at the last level, and a would be reached
-        absurd (omega (arith, v.room, v.few, one_more, bound))
-    ], omega arith)
+    let one_more : at dist a ≤ at dist c + 1 = not_farther rows homes dist level a c v edge rest bound in (
+      elim (cases_lt (at dist a) 1000) [
+        | inl below ↦ below
+        | inr far ↦
+            -- then c is at the last level, and a would be reached
+            absurd (omega (arith, v.room, v.few, one_more, bound))
+      ],
+      omega arith,
+    )
 
 pub level_end : (rows : List (List ℕ)) (homes : List Bool) (dist : List ℕ) (level : ℕ) → IsLevel rows homes dist level → is_quiet dist level 0 rows ≡ true → AreLeast rows homes dist
 level_end rows homes dist level v q = record {

@@ -15,4 +15,4 @@ loop-number-preserved c =
     let same_graph = ap (λ (g : List (Vec ℕ Global)). rows_of g) c.as_slice.ensures.value ∙ c.in_ok-graph.ensures in
     let same_homes = c.as_slice-in-loop-number.ensures.value ∙ c.in_ok-homes.ensures in
     rw c.in_ok-push.ensures.items
-        (tables_more c.args.parts.now c.args.kind c.loop-number.number _ _ _ _ _ c.loop-number.invariant same_graph same_homes c.new.ensures c.in_ok-table.ensures)
+    (tables_more c.args.parts.now c.args.kind c.loop-number.number _ _ _ _ _ c.loop-number.invariant same_graph same_homes c.new.ensures c.in_ok-table.ensures)

@@ -94,16 +94,16 @@ no_coast m r a ok over k w = let low : a.coast < 4 = few_coasts m a ok (sails_fr
 
 -- where a table has the least distances
 
-by_land : (m : Chart) (r : ℕ) (dist : List ℕ) (a : Place) → IsMap m → AreLeast (graph m Army) (homes m Army r) dist → IsDistance m Army a r (at dist a.prov)
-by_land m r dist a ok table = record {
+of_army : (m : Chart) (r : ℕ) (dist : List ℕ) (a : Place) → IsMap m → AreLeast (graph m Army) (homes m Army r) dist → IsDistance m Army a r (at dist a.prov)
+of_army m r dist a ok table = record {
   walk = λ h. march_back m r ok (at dist a.prov) a.prov (table.walk a.prov h);
   least = λ k w. table.least a.prov k (march_to m r ok k a.prov w);
   none = λ k w. table.none a.prov k (march_to m r ok k a.prov w);
   most = table.capped a.prov;
 }
 
-by_sea : (m : Chart) (r : ℕ) (dist : List ℕ) (a : Place) → IsMap m → a.coast < 4 → AreLeast (graph m Fleet) (homes m Fleet r) dist → IsDistance m Fleet a r (at dist (vertex a))
-by_sea m r dist a ok low table = record {
+of_fleet : (m : Chart) (r : ℕ) (dist : List ℕ) (a : Place) → IsMap m → a.coast < 4 → AreLeast (graph m Fleet) (homes m Fleet r) dist → IsDistance m Fleet a r (at dist (vertex a))
+of_fleet m r dist a ok low table = record {
   walk = λ h. sail_back m r ok (at dist (vertex a)) a low (table.walk (vertex a) h);
   least = λ k w. table.least (vertex a) k (sail_to m r ok k a low w);
   none = λ k w. table.none (vertex a) k (sail_to m r ok k a low w);
@@ -114,31 +114,31 @@ by_sea m r dist a ok low table = record {
 no_table : (m : Chart) (kind : Kind) (tables : List (List ℕ)) (r v : ℕ) → AreTables m kind (length m.realms) tables → length m.realms ≤ r → noted_at tables r v ≡ 1000
 no_table m kind tables r v known past = ap (λ (t : List ℕ). at t v) (get_or_past tables r [] (omega (arith, known.count)))
 
-land_noted : (m : Chart) (tables : List (List ℕ)) (a : Place) (r : ℕ) → IsMap m → AreTables m Army (length m.realms) tables → IsDistance m Army a r (noted_at tables r a.prov)
-land_noted m tables a r ok known =
+army_noted : (m : Chart) (tables : List (List ℕ)) (a : Place) (r : ℕ) → IsMap m → AreTables m Army (length m.realms) tables → IsDistance m Army a r (noted_at tables r a.prov)
+army_noted m tables a r ok known =
     elim (cases_lt r (length m.realms)) [
-      | inl low ↦ by_land m r (get_or tables r []) a ok (known.least r low)
+      | inl low ↦ of_army m r (get_or tables r []) a ok (known.least r low)
       | inr past ↦ rw (no_table m Army tables r a.prov known past) (far m Army a r (λ k w. no_walk m Army r past k a w))
     ]
 
-sea_noted : (m : Chart) (tables : List (List ℕ)) (a : Place) (r : ℕ) → IsMap m → AreTables m Fleet (length m.realms) tables
+fleet_noted : (m : Chart) (tables : List (List ℕ)) (a : Place) (r : ℕ) → IsMap m → AreTables m Fleet (length m.realms) tables
     → IsDistance m Fleet a r (cond (nat_lt a.coast 4) (noted_at tables r (vertex a)) 1000)
-sea_noted m tables a r ok known =
+fleet_noted m tables a r ok known =
     elim (cases_lt a.coast 4) [
       | inr over ↦ rw (le-ltb a.coast 4 over) (far m Fleet a r (no_coast m r a ok over))
       | inl few ↦
           rw (lt-ltb a.coast 4 few) (elim (cases_lt r (length m.realms)) [
-            | inl low ↦ by_sea m r (get_or tables r []) a ok few (known.least r low)
+            | inl low ↦ of_fleet m r (get_or tables r []) a ok few (known.least r low)
             | inr past ↦ rw (no_table m Fleet tables r (vertex a) known past) (far m Fleet a r (λ k w. no_walk m Fleet r past k a w))
           ])
     ]
 
-each_noted : (m : Chart) (d : Distances) → IsMap m → AreTables m Army (length m.realms) (rows_of d.by_land.items) → AreTables m Fleet (length m.realms) (rows_of d.by_sea.items)
+each_noted : (m : Chart) (d : Distances) → IsMap m → AreTables m Army (length m.realms) (rows_of d.armies.items) → AreTables m Fleet (length m.realms) (rows_of d.fleets.items)
     → (kind : Kind) (a : Place) (r : ℕ) → IsDistance m kind a r (noted d kind a r)
-each_noted m d ok land sea Army a r = land_noted m (rows_of d.by_land.items) a r ok land
-each_noted m d ok land sea Fleet a r = sea_noted m (rows_of d.by_sea.items) a r ok sea
+each_noted m d ok armies fleets Army a r = army_noted m (rows_of d.armies.items) a r ok armies
+each_noted m d ok armies fleets Fleet a r = fleet_noted m (rows_of d.fleets.items) a r ok fleets
 
 -- the tables of all powers note the distances
-pub distances_law : (m : Chart) (d : Distances) → IsMap m → AreTables m Army (length m.realms) (rows_of d.by_land.items) → AreTables m Fleet (length m.realms) (rows_of d.by_sea.items)
+pub distances_law : (m : Chart) (d : Distances) → IsMap m → AreTables m Army (length m.realms) (rows_of d.armies.items) → AreTables m Fleet (length m.realms) (rows_of d.fleets.items)
     → AreDistances m d
-distances_law m d ok land sea = record { each = each_noted m d ok land sea }
+distances_law m d ok armies fleets = record { each = each_noted m d ok armies fleets }

@@ -61,15 +61,15 @@ no_ways_past : (m : Chart) (p : ℕ) → length m.provinces ≤ p → ways m p �
 no_ways_past m p past =
     ap (λ (x : Province). x.army ++ flat_map (λ s. map (λ b. b.prov) s.next) x.shores) (get_or_past m.provinces p no_province past)
 
-pub land_row : (m : Chart) (p : ℕ) → get_or (graph m Army) p [] ≡ ways m p
-land_row m p =
+pub army_row : (m : Chart) (p : ℕ) → get_or (graph m Army) p [] ≡ ways m p
+army_row m p =
     elim (cases_lt p (length m.provinces)) [
       | inl low ↦ row_within m Army p low
       | inr past ↦ row_past m Army p past ∙ sym (no_ways_past m p past)
     ]
 
-pub land_home : (m : Chart) (r p : ℕ) → IsMap m → get_or (homes m Army r) p false ≡ is_home m r p
-land_home m r p ok =
+pub army_home : (m : Chart) (r p : ℕ) → IsMap m → get_or (homes m Army r) p false ≡ is_home m r p
+army_home m r p ok =
     elim (cases_lt p (length m.provinces)) [
       | inl low ↦ home_within m Army r p low
       | inr past ↦ home_past m Army r p past ∙ sym (no_home_past m r p ok past)
@@ -106,8 +106,8 @@ few_coasts m a ok h =
 place_vertex : (a : Place) → a.coast < 4 → place_at (vertex a) ≡ a
 place_vertex a low = place_eq (place_at (vertex a)) a (div-mul-add a.prov 4 a.coast low) (mod-mul-add a.prov 4 a.coast low)
 
-no_sea_ways_past : (m : Chart) (a : Place) → length m.provinces ≤ a.prov → fleet_next m a ≡ []
-no_sea_ways_past m a past =
+no_next_past : (m : Chart) (a : Place) → length m.provinces ≤ a.prov → fleet_next m a ≡ []
+no_next_past m a past =
     ap (λ (x : Province). (get_or x.shores a.coast no_shore).next) (get_or_past m.provinces a.prov no_province past)
 
 no_haven_past : (m : Chart) (r : ℕ) (a : Place) → length m.provinces ≤ a.prov → is_haven m r a ≡ false
@@ -115,15 +115,15 @@ no_haven_past m r a past =
     let off : nat_lt a.prov (length m.provinces) ≡ false = le-ltb a.prov (length m.provinces) past in
     and_left (is_fleet_place m a) (is_home m r a.prov) (and_left (nat_lt a.prov (length m.provinces)) _ off)
 
-pub sea_row : (m : Chart) (a : Place) → a.coast < 4 → get_or (graph m Fleet) (vertex a) [] ≡ map (λ b. vertex b) (fleet_next m a)
-sea_row m a low =
+pub fleet_row : (m : Chart) (a : Place) → a.coast < 4 → get_or (graph m Fleet) (vertex a) [] ≡ map (λ b. vertex b) (fleet_next m a)
+fleet_row m a low =
     elim (cases_lt a.prov (length m.provinces)) [
       | inl on ↦ row_within m Fleet (vertex a) (omega arith) ∙ ap (λ (b : Place). map (λ x. vertex x) (fleet_next m b)) (place_vertex a low)
-      | inr past ↦ row_past m Fleet (vertex a) (omega arith) ∙ sym (ap (λ (xs : List Place). map (λ x. vertex x) xs) (no_sea_ways_past m a past))
+      | inr past ↦ row_past m Fleet (vertex a) (omega arith) ∙ sym (ap (λ (xs : List Place). map (λ x. vertex x) xs) (no_next_past m a past))
     ]
 
-pub sea_home : (m : Chart) (r : ℕ) (a : Place) → a.coast < 4 → get_or (homes m Fleet r) (vertex a) false ≡ is_haven m r a
-sea_home m r a low =
+pub fleet_home : (m : Chart) (r : ℕ) (a : Place) → a.coast < 4 → get_or (homes m Fleet r) (vertex a) false ≡ is_haven m r a
+fleet_home m r a low =
     elim (cases_lt a.prov (length m.provinces)) [
       | inl on ↦ home_within m Fleet r (vertex a) (omega arith) ∙ ap (λ (b : Place). is_haven m r b) (place_vertex a low)
       | inr past ↦ home_past m Fleet r (vertex a) (omega arith) ∙ sym (no_haven_past m r a past)

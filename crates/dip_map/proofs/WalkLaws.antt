@@ -11,21 +11,21 @@ use Rattle.dip_map.specs.Charts.{Chart, IsMap, fleet_next, is_fleet_next, is_fle
 use Rattle.dip_map.specs.Walks.{is_home, ArmyWalk, FleetWalk, Walk}
 use Rattle.dip_map.specs.Distances.{vertex, graph, homes}
 use Rattle.dip_map.proofs.MapLaws.{afloat, place_eq}
-use Rattle.dip_map.proofs.GraphLaws.{land_row, land_home, sea_row, sea_home, few_coasts, no_power_no_home}
+use Rattle.dip_map.proofs.GraphLaws.{army_row, army_home, fleet_row, fleet_home, few_coasts, no_power_no_home}
 
 -- armies
 
 pub march_to : (m : Chart) (r : ℕ) → IsMap m → (n p : ℕ) → ArmyWalk m r n p → Way (graph m Army) (homes m Army r) p n
-march_to m r ok zero p w = land_home m r p ok ∙ w
+march_to m r ok zero p w = army_home m r p ok ∙ w
 march_to m r ok (suc n) p w =
     let (q, next, more) = w in
-    (q, ap (λ (xs : List ℕ). list_any (λ x. x == q) xs) (land_row m p) ∙ next, march_to m r ok n q more)
+    (q, ap (λ (xs : List ℕ). list_any (λ x. x == q) xs) (army_row m p) ∙ next, march_to m r ok n q more)
 
 pub march_back : (m : Chart) (r : ℕ) → IsMap m → (n p : ℕ) → Way (graph m Army) (homes m Army r) p n → ArmyWalk m r n p
-march_back m r ok zero p w = sym (land_home m r p ok) ∙ w
+march_back m r ok zero p w = sym (army_home m r p ok) ∙ w
 march_back m r ok (suc n) p w =
     let (q, next, more) = w in
-    (q, sym (ap (λ (xs : List ℕ). list_any (λ x. x == q) xs) (land_row m p)) ∙ next, march_back m r ok n q more)
+    (q, sym (ap (λ (xs : List ℕ). list_any (λ x. x == q) xs) (army_row m p)) ∙ next, march_back m r ok n q more)
 
 -- fleets
 
@@ -66,19 +66,19 @@ neighbour_coast : (m : Chart) (a b : Place) → IsMap m → is_fleet_next m a b 
 neighbour_coast m a b ok next = few_coasts m b ok (afloat m b a (ok.fleet_symmetric a b next))
 
 pub sail_to : (m : Chart) (r : ℕ) → IsMap m → (n : ℕ) (a : Place) → a.coast < 4 → FleetWalk m r n a → Way (graph m Fleet) (homes m Fleet r) (vertex a) n
-sail_to m r ok zero a low w = sea_home m r a low ∙ w
+sail_to m r ok zero a low w = fleet_home m r a low ∙ w
 sail_to m r ok (suc n) a low w =
     let (b, next, more) = w in (
       vertex b,
-      ap (λ (xs : List ℕ). list_any (λ x. x == vertex b) xs) (sea_row m a low) ∙ edge_to b (fleet_next m a) next,
+      ap (λ (xs : List ℕ). list_any (λ x. x == vertex b) xs) (fleet_row m a low) ∙ edge_to b (fleet_next m a) next,
       sail_to m r ok n b (neighbour_coast m a b ok next) more,
     )
 
 pub sail_back : (m : Chart) (r : ℕ) → IsMap m → (n : ℕ) (a : Place) → a.coast < 4 → Way (graph m Fleet) (homes m Fleet r) (vertex a) n → FleetWalk m r n a
-sail_back m r ok zero a low w = sym (sea_home m r a low) ∙ w
+sail_back m r ok zero a low w = sym (fleet_home m r a low) ∙ w
 sail_back m r ok (suc n) a low w =
     let (v, edge, more) = w in
-    let (b, next, same) = edge_back v (fleet_next m a) (sym (ap (λ (xs : List ℕ). list_any (λ x. x == v) xs) (sea_row m a low)) ∙ edge) in
+    let (b, next, same) = edge_back v (fleet_next m a) (sym (ap (λ (xs : List ℕ). list_any (λ x. x == v) xs) (fleet_row m a low)) ∙ edge) in
     (b, next, sail_back m r ok n b (neighbour_coast m a b ok next) (subst (λ (u : ℕ). Way (graph m Fleet) (homes m Fleet r) u n) (sym same) more))
 
 -- no walk leads to a home centre of a power that isn't there

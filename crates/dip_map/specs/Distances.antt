@@ -54,8 +54,8 @@ noted_at tables r v = at (slice_index_or tables r []) v
 
 -- the distance that the tables note for a place
 abbrev pub noted : Distances → Kind → Place → ℕ → ℕ
-noted d Army a r = noted_at (rows_of d.by_land.items) r a.prov
-noted d Fleet a r = if nat_lt a.coast 4 then noted_at (rows_of d.by_sea.items) r (vertex a) else 1000
+noted d Army a r = noted_at (rows_of d.armies.items) r a.prov
+noted d Fleet a r = if nat_lt a.coast 4 then noted_at (rows_of d.fleets.items) r (vertex a) else 1000
 
 -- what the tables note are the distances on the map
 pub record AreDistances (m : Chart) (d : Distances) : Type 0 where

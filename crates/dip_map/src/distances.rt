@@ -18,8 +18,8 @@ const FAR: u16 = 1000;
 /// The distances to each power's home centres, by provinces for armies and by places for fleets.
 #[derive(Drop)]
 pub(crate) struct Distances {
-    by_land: Vec<Vec<u16>>,
-    by_sea: Vec<Vec<u16>>,
+    armies: Vec<Vec<u16>>,
+    fleets: Vec<Vec<u16>>,
 }
 
 impl Distances {
@@ -28,9 +28,9 @@ impl Distances {
         requires { IsMap parts.now }
         ensures { IfOk result (λ d. AreDistances parts.now d) }
     {
-        let by_land = tables_of(alloc, parts, Kind::Army)?;
-        let by_sea = tables_of(alloc, parts, Kind::Fleet)?;
-        Ok(Distances { by_land, by_sea })
+        let armies = tables_of(alloc, parts, Kind::Army)?;
+        let fleets = tables_of(alloc, parts, Kind::Fleet)?;
+        Ok(Distances { armies, fleets })
     }
 
     /// The distance that is noted for a place.
@@ -38,16 +38,16 @@ impl Distances {
         ensures { result ≡ noted self.now kind place power }
     {
         match kind {
-            Kind::Army => noted_at(self.by_land.as_slice(), power, place.prov.index() as usize),
-            Kind::Fleet => self.noted_by_sea(place, power),
+            Kind::Army => noted_at(self.armies.as_slice(), power, place.prov.index() as usize),
+            Kind::Fleet => self.noted_of_fleets(place, power),
         }
     }
 
-    fn noted_by_sea(&self, place: Place, power: Power) -> u16
+    fn noted_of_fleets(&self, place: Place, power: Power) -> u16
         ensures { result ≡ noted self.now Fleet place power }
     {
         if place.coast < 4 {
-            noted_at(self.by_sea.as_slice(), power, vertex(place))
+            noted_at(self.fleets.as_slice(), power, vertex(place))
         } else {
             FAR
         }

@@ -1,3 +1,6 @@
 pub mod MapLaws
 pub mod BoardLaws
 pub mod Front
+pub mod GraphLaws
+pub mod WalkLaws
+pub mod DistanceLaws

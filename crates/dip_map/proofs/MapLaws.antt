@@ -17,7 +17,7 @@ test_at f (x ∷ xs) zero d a h = (and_parts (f x) (list_all f xs) a).0
 test_at f (x ∷ xs) (suc k) d a h = let low : k < length xs = omega arith in test_at f xs k d (and_parts (f x) (list_all f xs) a).1 low
 
 -- what a test says of each element it says of one that is found
-test_found : (f : ℕ → Bool) (xs : List ℕ) (q : ℕ) → list_all f xs ≡ true → list_any (λ x. x == q) xs ≡ true → f q ≡ true
+pub test_found : (f : ℕ → Bool) (xs : List ℕ) (q : ℕ) → list_all f xs ≡ true → list_any (λ x. x == q) xs ≡ true → f q ≡ true
 test_found f [] q a h = absurd (false≢true h)
 test_found f (x ∷ xs) q a h =
     let (here, more) = and_parts (f x) (list_all f xs) a in
@@ -30,7 +30,7 @@ test_found f (x ∷ xs) q a h =
 same_place : Place → Place → Bool
 same_place a b = (a.prov == b.prov) && (a.coast == b.coast)
 
-place_eq : (x q : Place) → x.prov ≡ q.prov → x.coast ≡ q.coast → x ≡ q
+pub place_eq : (x q : Place) → x.prov ≡ q.prov → x.coast ≡ q.coast → x ≡ q
 place_eq x q e f = λ i. record { prov = e i; coast = f i }
 
 -- the same of places
@@ -161,7 +161,7 @@ sea_law m t a b h =
     rw z at (sea_rest m 0 m.provinces a.prov a.coast b t h)
 
 -- what has a fleet's neighbour is a place of the map
-afloat : (m : Chart) (b a : Place) → is_fleet_next m b a ≡ true → is_fleet_place m b ≡ true
+pub afloat : (m : Chart) (b a : Place) → is_fleet_next m b a ≡ true → is_fleet_place m b ≡ true
 afloat m b a h =
     elim (cases_lt b.coast (length (province m b.prov).shores)) [
       | inl low ↦

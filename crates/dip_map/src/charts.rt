@@ -2,7 +2,9 @@ ghost use Rattle.std.specs.Prelude.{◌≡◌, ◌<◌, length, All, IfOk, true}
 ghost use Rattle.dip_map.specs.Charts.{IsMap, province, realm, shore, army_next, fleet_next, home, prov_of, power_of, coast_of, is_centre};
 ghost use Rattle.dip_map.specs.Charts.{is_fleet_place, may_stand, is_unit, is_army_next, is_fleet_next};
 ghost use Rattle.dip_map.specs.Stated.{Gives, checked, stated};
+ghost use Rattle.dip_map.specs.Walks.{IsDistance};
 
+use crate::distances::Distances;
 use crate::faults::MapFault;
 use crate::names::{Kind, Place, Power, Prov, Terrain, Unit};
 use crate::parts::{Parts, Realm};
@@ -17,16 +19,18 @@ use std::marker::Model;
 #[derive(Drop)]
 pub struct Map {
     parts: Parts,
+    distances: Distances,
 }
 
 impl Model for Map {
     ghost use Rattle.dip_map.specs.Charts.{Chart, IsMap};
+    ghost use Rattle.dip_map.specs.Distances.{AreDistances};
 
     ghost Value = { Chart };
 
     ghost view = { λ m. m.parts };
 
-    ghost invariant = { λ m. IsMap m.parts };
+    ghost invariant = { λ m. IsMap m.parts × AreDistances m.parts m.distances };
 }
 
 impl Map {
@@ -42,17 +46,18 @@ impl Map {
         let file = tables_of(alloc, text)?;
         let draft = draft_of(alloc, &file)?;
         let parts = parts_in(alloc, &draft)?;
-        Map::of(parts)
+        Map::of(alloc, parts)
     }
 
     /// The map of these parts, or the first fault that they have.
-    fn of(parts: Parts) -> Result<Map, MapFault>
+    fn of(alloc: Global, parts: Parts) -> Result<Map, MapFault>
         ensures { Gives (λ m. m) result (checked parts) }
     {
         if let Some(fault) = parts.first_fault() {
             return Err(fault);
         }
-        Ok(Map { parts })
+        let distances = Distances::of(alloc, &parts)?;
+        Ok(Map { parts, distances })
     }
 
     /// What each map keeps.
@@ -205,6 +210,15 @@ impl Map {
         ensures { result ≡ is_unit self.now unit.now }
     {
         self.parts.is_unit(unit)
+    }
+
+    /// The least number of steps from a place to a home centre of the power, 1,000 where none leads there.
+    ///
+    /// A fleet goes by its neighbours, an army by those of either kind, over water too.
+    pub fn distance(&self, kind: Kind, place: Place, power: Power) -> u16
+        ensures { IsDistance self.now kind place power result }
+    {
+        self.distances.noted(kind, place, power)
     }
 
     pub(crate) fn realms(&self) -> &[Realm]

@@ -4,6 +4,7 @@
 mod boards;
 mod charts;
 mod checks;
+mod distances;
 mod entries;
 mod faults;
 mod laws;

@@ -97,7 +97,7 @@ impl Parts {
         }
     }
 
-    fn shores(&self, p: Prov) -> &[Shore]
+    pub(crate) fn shores(&self, p: Prov) -> &[Shore]
         ensures { result.now ≡ (province self.now p).shores }
     {
         match self.provinces.get(p.index() as usize) {
@@ -220,7 +220,7 @@ impl Parts {
         self.fleet_next(a).contains(&b)
     }
 
-    fn is_fleet_place(&self, a: Place) -> bool
+    pub(crate) fn is_fleet_place(&self, a: Place) -> bool
         ensures { result ≡ is_fleet_place self.now a }
     {
         (a.prov.index() as usize) < self.provinces.len() && (a.coast as usize) < self.coasts(a.prov)

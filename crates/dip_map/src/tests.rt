@@ -1,4 +1,4 @@
-use crate::{Board, Map, Prov, STANDARD, Season, Terrain};
+use crate::{Board, Kind, Map, Place, Prov, STANDARD, Season, Terrain};
 use std::process::Abort;
 use std::test::Fail;
 
@@ -32,6 +32,24 @@ fn names_are_found_as_they_are_spelled(rt: HostRuntime) -> Result<(), Fail> {
 }
 
 #[test]
+fn a_distance_is_to_the_nearest_home_centre(rt: HostRuntime) -> Result<(), Fail> {
+    let map = Map::from_toml(rt.alloc(), STANDARD)?;
+    let distances = [
+        (Kind::Army, "par", "", "england", 3),
+        (Kind::Fleet, "por", "", "austria", 6),
+        (Kind::Fleet, "stp", "nc", "russia", 0),
+    ];
+    for (kind, code, coast, name, steps) in distances {
+        let prov = the_prov(&rt, &map, code);
+        let coast = map.coast(prov, coast.as_bytes()).unwrap_or(0);
+        let power = map.power(name).expect(&rt, "a power");
+        let place = Place { prov, coast };
+        assert_eq!(rt; map.distance(kind, place, power), steps);
+    }
+    Ok(())
+}
+
+#[test]
 fn the_opening_is_a_board_of_its_map(rt: HostRuntime) -> Result<(), Fail> {
     let alloc = rt.alloc();
     let map = Map::from_toml(alloc, STANDARD)?;
@@ -61,6 +79,37 @@ fn a_copy_equals_its_board(rt: HostRuntime) -> Result<(), Fail> {
     assert!(rt; copy.owners() == board.owners());
     for unit in board.units() {
         assert!(rt; map.home(unit.power).contains(&unit.place.prov));
+    }
+    Ok(())
+}
+
+/// Two provinces without neighbours, one of them a home centre.
+const TWO: &str = "name = \"two\"
+[powers.west]
+home = [\"ard\"]
+units = []
+[provinces.ard]
+name = \"Ard\"
+kind = \"coast\"
+centre = true
+army = []
+fleet = []
+[provinces.bay]
+name = \"Bay\"
+kind = \"coast\"
+army = []
+fleet = []
+";
+
+#[test]
+fn what_no_walk_leads_to_is_far(rt: HostRuntime) -> Result<(), Fail> {
+    let map = Map::from_toml(rt.alloc(), TWO)?;
+    let west = map.power("west").expect(&rt, "a power");
+    for (code, steps) in [("ard", 0), ("bay", 1000)] {
+        let prov = the_prov(&rt, &map, code);
+        let place = Place { prov, coast: 0 };
+        assert_eq!(rt; map.distance(Kind::Army, place, west), steps);
+        assert_eq!(rt; map.distance(Kind::Fleet, place, west), steps);
     }
     Ok(())
 }

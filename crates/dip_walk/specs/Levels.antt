@@ -1,0 +1,22 @@
+use Rattle.std.specs.Prelude.{ℕ, ◌+◌, ◌==◌, ◌&&◌, not, Bool, true, List, [], ◌∷◌, if◌then◌else◌}
+use Rattle.std.specs.List.{list_any}
+use Rattle.dip_walk.specs.Walk.{at}
+
+-- a vertex of this distance and these neighbours is reached next
+abbrev pub is_reached : List ℕ → ℕ → ℕ → List ℕ → Bool
+is_reached dist level d row = (d == 1000) && list_any (λ c. at dist c == level) row
+
+-- the distances after one more level, from vertex i on
+abbrev pub swept : List ℕ → ℕ → ℕ → List (List ℕ) → List ℕ
+swept dist level i [] = []
+swept dist level i (r ∷ rs) = (if is_reached dist level (at dist i) r then level + 1 else at dist i) ∷ swept dist level (i + 1) rs
+
+-- no vertex from i on is reached next
+abbrev pub is_quiet : List ℕ → ℕ → ℕ → List (List ℕ) → Bool
+is_quiet dist level i [] = true
+is_quiet dist level i (r ∷ rs) = not (is_reached dist level (at dist i) r) && is_quiet dist level (i + 1) rs
+
+-- the distances of the homes alone
+abbrev pub started : List Bool → List ℕ
+started [] = []
+started (h ∷ hs) = (if h then 0 else 1000) ∷ started hs

@@ -1,26 +1,37 @@
 -- What the program tells whoever started it.
-use Rattle.std.specs.Prelude.{ℕ, List, ◌++◌, Option, None, Some, codes}
+use Rattle.std.specs.Prelude.{ℕ, List, ◌++◌, Option, None, Some, IsSome, codes}
 use Rattle.dip_desk.specs.declared.keeper.KeepFault.TheVariants.{Disk, Damaged, Memory as no_room}
 use Rattle.dip_map.specs.declared.faults.MapFault.{MapFault}
-use Rattle.dip_map.specs.declared.faults.MapFault.TheVariants.{UnknownName, NotSymmetric, DoubledName, OverLimit, Memory as no_map}
+use Rattle.dip_map.specs.declared.faults.MapFault.TheVariants.{NotToml, WrongField, UnknownName, NotSymmetric, DoubledName, OverLimit, Memory as no_map}
 use Rattle.std.specs.declared.io.ErrorKind.{ErrorKind}
 use Rattle.std.specs.declared.io.ErrorKind.TheVariants.{OutOfMemory}
 use Rattle.dip_judge.specs.declared.args.UsageFault.{UsageFault}
 use Rattle.dip_judge.specs.declared.args.UsageFault.TheVariants.{Clap, Check, Memory as no_words}
 use Rattle.dip_judge.specs.declared.run.RunFault.{RunFault}
 use Rattle.dip_judge.specs.declared.run.RunFault.TheVariants.{Read, TooLong, Write, Memory, Keep}
+use Rattle.dip_judge.specs.declared.reading.ReadFault.TheVariants.{Memory as no_bytes}
+use Rattle.dip_judge.specs.declared.map_file.FileFault.{FileFault}
+use Rattle.dip_judge.specs.declared.map_file.FileFault.TheVariants.{Unread}
 use Rattle.dip_judge.specs.declared.failures.Failure.{Failure}
-use Rattle.dip_judge.specs.declared.failures.Failure.TheVariants.{Usage, Map, Run}
+use Rattle.dip_judge.specs.declared.failures.Failure.TheVariants.{Usage, MapFile, Map, Run}
 
--- the exit status: 2 for the arguments, 3 for the map, 4 for the keeper, 5 for input, output or other want of memory
+-- the exit status: 2 for the arguments, 3 for the map, 4 for the keeper, 5 for a map's file, input, output or other want of memory
 abbrev pub status_of : Failure → ℕ
 status_of (Usage no_words) = 5
 status_of (Usage fault) = 2
+status_of (MapFile fault) = 5
 status_of (Map fault) = 3
 status_of (Run (Keep fault)) = 4
 status_of (Run fault) = 5
 
+-- want of memory has its own name; any other fault of the map's file is told as one of reading
+abbrev pub file_name : FileFault → List ℕ
+file_name (Unread no_bytes) = codes "Memory"
+file_name fault = codes "Read"
+
 abbrev pub map_number : MapFault → List ℕ
+map_number NotToml = codes "M1"
+map_number WrongField = codes "M2"
 map_number UnknownName = codes "M3"
 map_number NotSymmetric = codes "M4"
 map_number DoubledName = codes "M5"
@@ -41,8 +52,15 @@ abbrev pub printed : Failure → Option (List ℕ)
 printed (Usage (Clap error)) = None
 printed (Usage Check) = Some (codes "dip_judge: Usage\n")
 printed (Usage no_words) = Some (codes "dip_judge: Memory\n")
+printed (MapFile fault) = Some (codes "dip_judge: " ++ file_name fault ++ codes "\n")
 printed (Map fault) = Some (codes "dip_judge: " ++ map_number fault ++ codes "\n")
 printed (Run fault) = Some (codes "dip_judge: " ++ run_name fault ++ codes "\n")
+
+-- why there is no map: it is none, or its file, where one is named, has no text
+abbrev pub IsMapFailure : {A : Type 0} → Option A → Failure → Type 0
+IsMapFailure path (Map fault) = Unit {0}
+IsMapFailure path (MapFile fault) = IsSome path
+IsMapFailure path _ = ⊥
 
 -- why there are no arguments: want of memory, or one of them is no text
 abbrev pub words_fault : ErrorKind → UsageFault

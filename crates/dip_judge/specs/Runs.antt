@@ -1,7 +1,7 @@
 -- What a run reads and writes.
 use Rattle.std.specs.Prelude.{◌≡◌, ◌≤◌, ℕ, List, [], ◌∷◌, ◌++◌, Option, length, take}
 use Rattle.std.specs.List.{flat_map}
-use Rattle.std.specs.Io.KnownBytes.{Appends, Consumes, IsAtEnd}
+use Rattle.std.specs.Io.KnownBytes.{Appends}
 use Rattle.dip_letters.specs.Input.{IsNext}
 use Rattle.dip_desk.specs.Mail.{mail}
 use Rattle.dip_letters.specs.declared.letters.Next.{Next}
@@ -11,12 +11,11 @@ use Rattle.dip_map.specs.Charts.{Chart}
 use Rattle.dip_desk.specs.State.{State}
 use Rattle.dip_reports.specs.Texts.{reply_text}
 use Rattle.dip_reports.specs.Records.{Reply}
+use Rattle.dip_judge.specs.Reading.{IsReadWithin}
 
 -- the reader gave the whole input, which is within the limit, and nothing is left
-pub record IsReadWhole (before after : Option (List ℕ)) (input : List ℕ) : Type 0 where
-  pub read : Consumes before after input
-  pub end : IsAtEnd after
-  pub most : length input ≤ 16777216
+abbrev pub IsReadWhole : Option (List ℕ) → Option (List ℕ) → List ℕ → Type 0
+IsReadWhole before after input = IsReadWithin 16777216 before after input
 
 -- the same of some input
 abbrev pub IsReadToEnd : Option (List ℕ) → Option (List ℕ) → Type 0

@@ -3,7 +3,7 @@ ghost use Rattle.std.specs.Prelude.{◌≡◌, false, [], IfOk, IfErr, map, opti
 ghost use Rattle.clap.specs.Faults.{fault_of};
 ghost use Rattle.clap.specs.Words.{IsPlainArg, app_of, rule_of, subcommand_of, subcommand_rows_of};
 ghost use Rattle.clap.specs.declared.builder.command.Command.TheViews.{out-Command as fields_of};
-ghost use Rattle.dip_judge.specs.CommandLine.{judge_command, letters_command, master_in, master_option};
+ghost use Rattle.dip_judge.specs.CommandLine.{judge_command, letters_command, map_option, master_option, value_in};
 ghost use Rattle.dip_judge.specs.ArgsGiven.{HasSecret, IsGiven};
 ghost use Rattle.dip_judge.specs.UsageFaults.{IsUsageFault, fault_from};
 ghost use Rattle.dip_judge.specs.declared.args.UsageFault.TheVariants.{Memory};
@@ -16,8 +16,12 @@ use std::alloc::{AllocError, Global};
 /// What the program is asked to do.
 #[derive(Clone, Copy, Debug, PartialEq, Eq)]
 pub enum Args<'a> {
-    /// Take letters from standard input, with tables in memory whose master has this secret.
-    Letters { master: &'a str },
+    /// Take letters from standard input, with tables in memory whose master has this secret, and the map of this file;
+    /// where none is named the standard map.
+    Letters {
+        master: &'a str,
+        map: Option<&'a str>,
+    },
 }
 
 /// Why the words ask for nothing.
@@ -43,12 +47,26 @@ fn master_arg<'a>(alloc: Global) -> Arg<'a>
         .help("The master's secret: 8 to 64 printable ASCII characters, no space")
 }
 
+/// The option `--map FILE`.
+fn map_arg<'a>(alloc: Global) -> Arg<'a>
+    ensures rule { rule_of result ≡ map_option }
+    ensures plain { IsPlainArg result }
+    ensures local { result.global ≡ false }
+{
+    Arg::new(alloc, "map")
+        .long("map")
+        .value_name("FILE")
+        .help("The map's file, in TOML; without it, the standard map")
+}
+
 /// The command `letters`.
 fn letters_command<'a>(alloc: Global) -> Result<Command<'a>, AllocError>
     ensures app { IfOk result (λ c. app_of c ≡ letters_command) }
     ensures local { IfOk result (λ c. (fields_of c).has_globals ≡ false) }
 {
-    let command = Command::new(alloc, "letters").arg(master_arg(alloc))?;
+    let command = Command::new(alloc, "letters")
+        .arg(master_arg(alloc))?
+        .arg(map_arg(alloc))?;
     Ok(command.about("Answers the letters on standard input, with games in memory"))
 }
 
@@ -73,13 +91,13 @@ fn matches_of<'a>(alloc: Global, words: &'a [&'a str]) -> Result<ArgMatches<'a>,
     Ok(matches)
 }
 
-/// The value of `letters --master`.
-fn master_of<'a>(matches: &ArgMatches<'a>) -> Option<&'a str>
-    ensures { option_map (λ s. s.now) result ≡ master_in (subcommand_rows_of matches.now) }
+/// The value of an option of `letters`.
+fn value_of<'a>(matches: &ArgMatches<'a>, option: &str) -> Option<&'a str>
+    ensures { option_map (λ s. s.now) result ≡ value_in option.now (subcommand_rows_of matches.now) }
 {
     let (name, letters) = matches.subcommand()?;
     if name == "letters" {
-        letters.get_str("master")
+        letters.get_str(option)
     } else {
         None
     }
@@ -94,8 +112,9 @@ pub fn read_args<'a>(alloc: Global, words: &'a [&'a str]) -> Result<Args<'a>, Us
     ensures faults { IfErr result (IsUsageFault (map (λ w. w.now) words.entry.now)) }
 {
     let matches = matches_of(alloc, words)?;
-    match master_of(&matches) {
-        Some(master) if is_secret(master) => Ok(Args::Letters { master }),
+    let map = value_of(&matches, "map");
+    match value_of(&matches, "master") {
+        Some(master) if is_secret(master) => Ok(Args::Letters { master, map }),
         _ => Err(UsageFault::Check),
     }
 }

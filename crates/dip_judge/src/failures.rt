@@ -1,11 +1,13 @@
 //! Why the program ends early: its exit status, and what it prints on standard error.
 ghost use Rattle.std.specs.Prelude.{◌≡◌};
-ghost use Rattle.dip_judge.specs.Failures.{map_number, run_name, status_of, words_fault};
+ghost use Rattle.dip_judge.specs.Failures.{file_name, map_number, run_name, status_of, words_fault};
 ghost use Rattle.dip_judge.specs.declared.args.UsageFault.TheVariants.{Memory as no_words};
-ghost use Rattle.dip_judge.specs.declared.failures.Failure.TheVariants.{Usage, Map, Run};
+ghost use Rattle.dip_judge.specs.declared.failures.Failure.TheVariants.{Usage, MapFile, Map, Run};
 ghost use Rattle.std.specs.IoError.{error_kind};
 
 use crate::args::UsageFault;
+use crate::map_file::FileFault;
+use crate::reading::ReadFault;
 use crate::run::RunFault;
 use dip_desk::KeepFault;
 use dip_map::MapFault;
@@ -20,6 +22,8 @@ use std::{fmt, io};
 pub enum Failure {
     /// The arguments ask for nothing.
     Usage(UsageFault),
+    /// The map's file has no text.
+    MapFile(FileFault),
     /// The map is none.
     Map(MapFault),
     /// The run over the letters ended early.
@@ -27,13 +31,15 @@ pub enum Failure {
 }
 
 impl Failure {
-    /// The exit status: 2 for the arguments, 3 for the map, 4 for the keeper, 5 for input, output or other want of memory.
+    /// The exit status: 2 for the arguments, 3 for the map, 4 for the keeper, 5 for a map's file, input, output or other want
+    /// of memory.
     pub fn status(&self) -> u8
         ensures { result ≡ status_of self.now }
     {
         match self {
             Failure::Usage(UsageFault::Memory) => 5,
             Failure::Usage(_) => 2,
+            Failure::MapFile(_) => 5,
             Failure::Map(_) => 3,
             Failure::Run(RunFault::Keep(_)) => 4,
             Failure::Run(_) => 5,
@@ -51,10 +57,21 @@ impl fmt::Display for Failure {
             Failure::Usage(UsageFault::Clap(error)) => return write!(f, "{error}"),
             Failure::Usage(UsageFault::Check) => "Usage",
             Failure::Usage(UsageFault::Memory) => "Memory",
+            Failure::MapFile(fault) => name_of_file(*fault),
             Failure::Map(fault) => number_of(*fault),
             Failure::Run(fault) => name_of(*fault),
         };
         write!(f, "dip_judge: {name}\n")
+    }
+}
+
+/// The printed name of a fault of the map's file.
+fn name_of_file(fault: FileFault) -> &'static str
+    ensures { result.now ≡ file_name fault }
+{
+    match fault {
+        FileFault::Unread(ReadFault::Memory) => "Memory",
+        FileFault::Unread(_) | FileFault::NotUtf8 => "Read",
     }
 }
 
@@ -63,6 +80,8 @@ fn number_of(fault: MapFault) -> &'static str
     ensures { result.now ≡ map_number fault }
 {
     match fault {
+        MapFault::NotToml => "M1",
+        MapFault::WrongField => "M2",
         MapFault::UnknownName => "M3",
         MapFault::NotSymmetric => "M4",
         MapFault::DoubledName => "M5",
@@ -90,6 +109,14 @@ impl From<UsageFault> for Failure {
 
     fn from(fault: UsageFault) -> Failure {
         Failure::Usage(fault)
+    }
+}
+
+impl From<FileFault> for Failure {
+    ghost from_gives = { λ fault f. f ≡ MapFile fault };
+
+    fn from(fault: FileFault) -> Failure {
+        Failure::MapFile(fault)
     }
 }
 

@@ -3,22 +3,30 @@
 
 mod args;
 mod failures;
+mod map_file;
+mod reading;
 mod run;
 
 use args::read_args;
 use dip_desk::MemoryKeeper;
 use dip_letters::digest;
-use dip_map::{Map, STANDARD};
 use failures::Failure;
+use map_file::read_map;
 use run::run_file;
 use std::alloc::Global;
 use std::env::Env;
 use std::process::ExitCode;
+use std::rt::Files;
 use std::{env, io};
 
-/// Answers the letters of standard input, with tables in memory whose master has this secret.
-fn answer_letters<R: Print + Input>(rt: &R, alloc: Global, master: &str) -> Result<(), Failure> {
-    let map = Map::from_toml(alloc, STANDARD)?;
+/// Answers the letters of standard input, with tables in memory whose master has this secret, over the map of this file.
+fn answer_letters<R: Files + Print + Input>(
+    rt: &R,
+    alloc: Global,
+    master: &str,
+    map: Option<&str>,
+) -> Result<(), Failure> {
+    let map = read_map(rt, alloc, map)?;
     let mut keeper = MemoryKeeper::new(alloc, digest("desk", "master", master));
     let mut reader = rt.reader();
     let mut writer = io::writer(rt);
@@ -27,7 +35,7 @@ fn answer_letters<R: Print + Input>(rt: &R, alloc: Global, master: &str) -> Resu
 }
 
 /// Does what the arguments ask for.
-fn do_as_asked<R: Env + AllocGlobal + Print + Input>(rt: &R) -> Result<(), Failure> {
+fn do_as_asked<R: Env + AllocGlobal + Files + Print + Input>(rt: &R) -> Result<(), Failure> {
     let alloc = rt.alloc();
     let words = env::args(rt)?.collect::<Vec<String>>(alloc)?;
     let texts = words
@@ -35,7 +43,7 @@ fn do_as_asked<R: Env + AllocGlobal + Print + Input>(rt: &R) -> Result<(), Failu
         .map(|word| word.as_str())
         .collect::<Vec<&str>>(alloc)?;
     match read_args(alloc, texts.as_slice())? {
-        args::Args::Letters { master } => answer_letters(rt, alloc, master),
+        args::Args::Letters { master, map } => answer_letters(rt, alloc, master, map),
     }
 }
 

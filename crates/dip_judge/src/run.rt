@@ -9,6 +9,7 @@ ghost use Rattle.dip_reports.specs.Rows as rows;
 ghost use Rattle.dip_judge.specs.Runs.{AnswersAll, IsReadToEnd, IsReadWhole, IsTurn, IsUntouched, Stops};
 ghost use Rattle.dip_judge.specs.RunFaults.{IsAnsweringFault, IsReadingFault, IsTakingFault, StopsBy, faults_after_run};
 
+use crate::reading::{ReadFault, read_whole};
 use dip_desk::{KeepFault, Keeper, fault_reply, lawful_states_stay_lawful, take};
 use dip_letters::{Next, next_letter};
 use dip_map::Map;
@@ -41,19 +42,12 @@ fn read_input<R: Read>(alloc: Global, reader: &mut R) -> Result<Vec<u8>, RunFaul
     ensures long { IsErrOf result RunFault.TooLong → IfSome (R.remaining reader.old) (λ input. MOST_INPUT < length input) }
     ensures faults { IfErr result IsReadingFault }
 {
-    let mut input = Vec::new(alloc);
-    let mut buffer = [0u8; 65536];
-    'reading: while input.len() <= MOST_INPUT {
-        match reader.read(&mut buffer) {
-            Err(_) => return Err(RunFault::Read),
-            Ok(0) => return Ok(input),
-            Ok(n) => match input.extend_from_slice(&buffer[..n]) {
-                Err(_) => return Err(RunFault::Memory),
-                Ok(()) => {}
-            },
-        }
+    match read_whole(alloc, reader, MOST_INPUT) {
+        Ok(input) => Ok(input),
+        Err(ReadFault::Read) => Err(RunFault::Read),
+        Err(ReadFault::TooLong) => Err(RunFault::TooLong),
+        Err(ReadFault::Memory) => Err(RunFault::Memory),
     }
-    Err(RunFault::TooLong)
 }
 
 /// Writes all of a text, or a beginning of it.

@@ -11,16 +11,40 @@ fn takes_the_master_secret(rt: HostRuntime) -> Result<(), Fail> {
     let alloc = rt.alloc();
     for secret in ["master-k", "master-key", "!\"#$%&'~", LONGEST] {
         let words = ["dip_judge", "letters", "--master", secret];
-        let Ok(Args::Letters { master }) = read_args(alloc, &words) else {
+        let Ok(Args::Letters { master, map }) = read_args(alloc, &words) else {
             return Err(Fail::from(secret));
         };
         assert!(rt; master == secret);
+        assert!(rt; map.is_none());
     }
     let joined = ["dip_judge", "letters", "--master=--key--here"];
-    let Ok(Args::Letters { master }) = read_args(alloc, &joined) else {
+    let Ok(Args::Letters { master, .. }) = read_args(alloc, &joined) else {
         return Err(Fail::from("behind an equals sign"));
     };
     assert!(rt; master == "--key--here");
+    Ok(())
+}
+
+#[test]
+fn takes_the_maps_file(rt: HostRuntime) -> Result<(), Fail> {
+    let alloc = rt.alloc();
+    let rows: [(&[&str], &str); 3] = [
+        (
+            &["--master", "master-key", "--map", "a map.toml"],
+            "a map.toml",
+        ),
+        (&["--map=--map", "--master", "master-key"], "--map"),
+        (&["--master", "master-key", "--map=m=é"], "m=é"),
+    ];
+    for (options, file) in rows {
+        let mut words = vec![in alloc; "dip_judge", "letters"]?;
+        words.extend_from_slice(options)?;
+        let Ok(Args::Letters { master, map }) = read_args(alloc, words.as_slice()) else {
+            return Err(Fail::from(file));
+        };
+        assert!(rt; master == "master-key");
+        assert!(rt; map == Some(file));
+    }
     Ok(())
 }
 
@@ -41,7 +65,7 @@ fn refuses_what_is_no_secret(rt: HostRuntime) -> Result<(), Fail> {
         let answer = read_args(alloc, &words);
         assert!(rt; matches!(&answer, Err(UsageFault::Check)), "at {secret}");
     }
-    let missing = read_args(alloc, &["dip_judge", "letters"]);
+    let missing = read_args(alloc, &["dip_judge", "letters", "--map", "master-key"]);
     assert!(rt; matches!(&missing, Err(UsageFault::Check)));
     Ok(())
 }
@@ -58,7 +82,7 @@ fn refused(alloc: std::alloc::Global, words: &[&str]) -> Option<ErrorKind> {
 fn refuses_other_words(rt: HostRuntime) {
     let alloc = rt.alloc();
     let secret = "master-key";
-    let rows: [(&[&str], ErrorKind); 17] = [
+    let rows: [(&[&str], ErrorKind); 19] = [
         (&["dip_judge"], ErrorKind::MissingSubcommand),
         (&["dip_judge", "--help"], ErrorKind::DisplayHelp),
         (&["dip_judge", "-h"], ErrorKind::DisplayHelp),
@@ -90,8 +114,25 @@ fn refuses_other_words(rt: HostRuntime) {
             ErrorKind::UnknownArgument,
         ),
         (
-            &["dip_judge", "letters", "--master", secret, "--map", "m"],
+            &["dip_judge", "--map", "m", "letters", "--master", secret],
             ErrorKind::UnknownArgument,
+        ),
+        (
+            &["dip_judge", "letters", "--master", secret, "--map"],
+            ErrorKind::InvalidValue,
+        ),
+        (
+            &[
+                "dip_judge",
+                "letters",
+                "--master",
+                secret,
+                "--map",
+                "m",
+                "--map",
+                "m",
+            ],
+            ErrorKind::ArgumentConflict,
         ),
         (
             &["dip_judge", "letters", "-m", secret],

@@ -1,6 +1,8 @@
 //! What the program tells whoever started it.
 use super::Failure;
 use crate::args::{UsageFault, read_args};
+use crate::map_file::FileFault;
+use crate::reading::ReadFault;
 use crate::run::RunFault;
 use dip_desk::KeepFault;
 use dip_map::MapFault;
@@ -12,6 +14,8 @@ fn tells_the_status_and_the_word(rt: HostRuntime) -> Result<(), Fail> {
     let rows = [
         (Failure::Usage(UsageFault::Check), 2, "dip_judge: Usage\n"),
         (Failure::Usage(UsageFault::Memory), 5, "dip_judge: Memory\n"),
+        (Failure::Map(MapFault::NotToml), 3, "dip_judge: M1\n"),
+        (Failure::Map(MapFault::WrongField), 3, "dip_judge: M2\n"),
         (Failure::Map(MapFault::UnknownName), 3, "dip_judge: M3\n"),
         (Failure::Map(MapFault::NotSymmetric), 3, "dip_judge: M4\n"),
         (Failure::Map(MapFault::DoubledName), 3, "dip_judge: M5\n"),
@@ -41,6 +45,23 @@ fn tells_the_status_and_the_word(rt: HostRuntime) -> Result<(), Fail> {
         assert_eq!(rt; failure.status(), status, "at {text}");
         let printed = format!(in alloc; "{failure}")?;
         assert!(rt; printed.as_str() == text, "{printed} for {text}");
+    }
+    Ok(())
+}
+
+#[test]
+fn tells_what_is_wrong_with_the_maps_file(rt: HostRuntime) -> Result<(), Fail> {
+    let alloc = rt.alloc();
+    for (fault, text) in [
+        (FileFault::Unread(ReadFault::Read), "dip_judge: Read\n"),
+        (FileFault::Unread(ReadFault::TooLong), "dip_judge: Read\n"),
+        (FileFault::Unread(ReadFault::Memory), "dip_judge: Memory\n"),
+        (FileFault::NotUtf8, "dip_judge: Read\n"),
+    ] {
+        let failure = Failure::MapFile(fault);
+        assert_eq!(rt; failure.status(), 5, "at {fault:?}");
+        let printed = format!(in alloc; "{failure}")?;
+        assert!(rt; printed.as_str() == text, "{printed} at {fault:?}");
     }
     Ok(())
 }
@@ -76,5 +97,6 @@ fn tells_help_as_clap_has_it(rt: HostRuntime) -> Result<(), Fail> {
         "{printed}"
     );
     assert!(rt; printed.contains("--master <SECRET>"), "{printed}");
+    assert!(rt; printed.contains("--map <FILE>"), "{printed}");
     Ok(())
 }

@@ -19,15 +19,12 @@ use Rattle.dip_map.proofs.WalkLaws.{march_to, march_back, sails_from, sail_to, s
 
 -- the graphs are small
 
-pub vertices_most : (m : Chart) (kind : Kind) → length m.provinces ≤ 200 → vertices m kind ≤ 800
+vertices_most : (m : Chart) (kind : Kind) → length m.provinces ≤ 200 → vertices m kind ≤ 800
 vertices_most m Army few = omega arith
 vertices_most m Fleet few = omega arith
 
-pub length-graph : (m : Chart) (kind : Kind) → length (graph m kind) ≡ vertices m kind
+length-graph : (m : Chart) (kind : Kind) → length (graph m kind) ≡ vertices m kind
 length-graph m kind = length-map-range_with_len (λ v. row m kind v) 0 (vertices m kind)
-
-pub length-homes : (m : Chart) (kind : Kind) (r : ℕ) → length (homes m kind r) ≡ vertices m kind
-length-homes m kind r = length-map-range_with_len (λ v. is_home_at m kind r v) 0 (vertices m kind)
 
 pub few_rows : (m : Chart) (kind : Kind) (g : List (Vec ℕ Global)) → length m.provinces ≤ 200 → rows_of g ≡ graph m kind → length g < 999
 few_rows m kind g few same =

@@ -2,11 +2,14 @@
 use super::{FileFault, MOST_MAP, read_map, read_text};
 use crate::failures::Failure;
 use crate::reading::ReadFault;
+use crate::run::run_file;
+use dip_desk::MemoryKeeper;
+use dip_letters::digest;
 use std::alloc::Global;
-use std::io;
 use std::io::Read;
 use std::rt::Files;
 use std::test::Fail;
+use std::{fs, io};
 
 /// A reader of some bytes, which fails behind them.
 #[derive(Drop)]
@@ -101,5 +104,169 @@ fn takes_the_standard_map_where_no_file_is_named(rt: HostRuntime) -> Result<(), 
         return Err(Fail::from("no map"));
     };
     assert!(rt; map.provinces() == 75);
+    Ok(())
+}
+
+/// A map without a fault, and one with each fault that a text can have, by its number.
+const FAULTS: [(&str, &str); 6] = [
+    ("name = ", "dip_judge: M1\n"),
+    ("name = \"none\"\n", "dip_judge: M2\n"),
+    (
+        "name = \"one\"
+[powers.west]
+home = [\"bay\"]
+units = []
+[provinces.ard]
+name = \"Ard\"
+kind = \"inland\"
+centre = true
+army = []
+",
+        "dip_judge: M3\n",
+    ),
+    (
+        "name = \"two\"
+[powers.west]
+home = [\"ard\"]
+units = []
+[provinces.ard]
+name = \"Ard\"
+kind = \"inland\"
+centre = true
+army = []
+[provinces.bay]
+name = \"Bay\"
+kind = \"inland\"
+army = [\"ard\"]
+",
+        "dip_judge: M4\n",
+    ),
+    (
+        "name = \"one\"
+[powers.west]
+home = [\"ard\", \"ard\"]
+units = []
+[provinces.ard]
+name = \"Ard\"
+kind = \"inland\"
+centre = true
+army = []
+",
+        "dip_judge: M5\n",
+    ),
+    (
+        "name = \"none\"\n[powers]\n[provinces]\n",
+        "dip_judge: M6\n",
+    ),
+];
+
+#[test]
+fn tells_the_fault_of_a_map(rt: HostRuntime) -> Result<(), Fail> {
+    let alloc = rt.alloc();
+    for (text, line) in FAULTS {
+        fs::write(&rt, "fault.toml", text)?;
+        let Err(failure) = read_map(&rt, alloc, Some("fault.toml")) else {
+            return Err(Fail::from(line));
+        };
+        assert_eq!(rt; failure.status(), 3, "{line}");
+        let told = format!(in alloc; "{failure}")?;
+        assert!(rt; told.as_str() == line, "{told} for {line}");
+    }
+    Ok(())
+}
+
+#[test]
+fn tells_a_file_that_is_no_text(rt: HostRuntime) -> Result<(), Fail> {
+    let alloc = rt.alloc();
+    fs::write(&rt, "bytes.toml", b"name = \"\xff\"")?;
+    let Err(failure) = read_map(&rt, alloc, Some("bytes.toml")) else {
+        return Err(Fail::from("a map"));
+    };
+    assert_eq!(rt; failure.status(), 5);
+    let told = format!(in alloc; "{failure}")?;
+    assert!(rt; told.as_str() == "dip_judge: Read\n");
+    Ok(())
+}
+
+/// Two powers and five provinces.
+const FIVE: &str = "name = \"five\"
+[powers.east]
+home = [\"bay\"]
+units = [\"F bay/nc\"]
+[powers.west]
+home = [\"ard\", \"cay\"]
+units = [\"A ard\", \"F cay\"]
+[provinces.ard]
+name = \"Ard\"
+kind = \"inland\"
+centre = true
+army = [\"bay\", \"cay\"]
+[provinces.bay]
+name = \"Bay\"
+kind = \"coast\"
+centre = true
+army = [\"ard\"]
+[provinces.bay.coasts]
+nc = [\"sea\"]
+sc = [\"cay\", \"sea\"]
+[provinces.cay]
+name = \"Cay\"
+kind = \"coast\"
+centre = true
+army = [\"ard\"]
+fleet = [\"bay/sc\", \"sea\"]
+[provinces.oak]
+name = \"Oak\"
+kind = \"coast\"
+army = []
+fleet = []
+[provinces.sea]
+name = \"Sea\"
+kind = \"sea\"
+fleet = [\"bay/nc\", \"bay/sc\", \"cay\"]
+";
+
+const LETTERS: &str = "LETTER
+GAME g1
+FROM master
+SECRET master-key
+NUMBER 1
+CREATE DUE 100 PERIOD 100 GREY YES
+SEAT east eeeeeeee
+SEAT west wwwwwwww
+END
+LETTER
+GAME g1
+FROM west
+SECRET wwwwwwww
+NUMBER 1
+SHOW
+END
+";
+
+const REPLIES: &str = "REPLY g1 master 1
+OK paper 1
+END
+REPLY g1 west 1
+GAME g1 S1901M running DUE 100 PERIOD 100 GREY YES PAPERS 1
+east 1/1: F bay/nc | bay
+west 2/2: A ard, F cay | ard cay
+VOTE NO
+SENT 0 INBOX 0
+END
+";
+
+#[test]
+fn a_game_is_played_on_the_map_of_a_file(rt: HostRuntime) -> Result<(), Fail> {
+    let alloc = rt.alloc();
+    fs::write(&rt, "five.toml", FIVE)?;
+    let Ok(map) = read_map(&rt, alloc, Some("five.toml")) else {
+        return Err(Fail::from("no map"));
+    };
+    let mut keeper = MemoryKeeper::new(alloc, digest("desk", "master", "master-key"));
+    let mut written = Vec::new(alloc);
+    let ended = run_file(alloc, &mut LETTERS.as_bytes(), &mut written, &mut keeper, &map);
+    assert!(rt; ended.is_ok());
+    assert!(rt; written.as_slice() == REPLIES.as_bytes());
     Ok(())
 }

@@ -168,7 +168,7 @@ created_lawful m name due period grey (Some seats) game known = go (are_complete
 master_lawful : (m : Chart) (n : Mail) (k : Option Kept) (command : Request) (game : Option Game) → OpensLawful m (master_verdict m n k command game)
 master_lawful m n k (Create due period grey seats) game =
     number_holds (OpensLawful m) (λ t. tt) n k (created m (opening_public m n.game due period grey) (new_seats m n.game seats) game)
-        (created_lawful m n.game due period grey (new_seats m n.game seats) game (seats_known m n.game seats))
+    (created_lawful m n.game due period grey (new_seats m n.game seats) game (seats_known m n.game seats))
 master_lawful m n k (Orders lines) None = tt
 master_lawful m n k (Orders lines) (Some g) = number_holds (OpensLawful m) (λ t. tt) n k (refused WrongSender) tt
 master_lawful m n k Show None = tt

@@ -8,7 +8,7 @@ ghost use Rattle.dip_map.specs.Checks.{is_named_back, rest_is_mutual, are_named_
 use crate::faults::MapFault;
 use crate::names::{Place, Prov, Terrain, Unit};
 use crate::parts::{Parts, Province, Realm, Shore};
-use dip_mapfile::{is_code, is_coast_name, is_full_name, is_power_name};
+use dip_mapfile::{is_coast_name, is_code, is_full_name, is_power_name};
 
 impl Shore {
     fn is_named(&self) -> bool

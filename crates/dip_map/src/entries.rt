@@ -17,7 +17,9 @@ fn leads_away(p: Prov, next: &[Place]) -> bool
 fn lead_away(p: Prov, shores: &[Shore]) -> bool
     ensures { result ≡ lead_away p shores.now }
 {
-    shores.iter().all(|shore| leads_away(p, shore.next.as_slice()))
+    shores
+        .iter()
+        .all(|shore| leads_away(p, shore.next.as_slice()))
 }
 
 fn are_provs_single(provs: &[Prov]) -> bool
@@ -125,9 +127,7 @@ fn is_held_by(realms: &[Realm], p: Prov) -> bool
 fn is_any_held_by(realms: &[Realm], units: &[Unit]) -> bool
     ensures { result ≡ list_any (λ u. is_held_by realms.now u.place.prov) units.now }
 {
-    units
-        .iter()
-        .any(|unit| is_held_by(realms, unit.place.prov))
+    units.iter().any(|unit| is_held_by(realms, unit.place.prov))
 }
 
 fn are_homes_single(realms: &[Realm]) -> bool

@@ -7,9 +7,7 @@ ghost use Rattle.dip_map.specs.Stated.{Gives, each, each_from, known, prov_at, c
 use crate::faults::MapFault;
 use crate::names::{Kind, Place, Power, Prov, Terrain, Unit};
 use crate::parts::{Parts, Province, Realm, Shore};
-use dip_mapfile::{
-    Draft, Land, Piece, PowerDraft, ProvinceDraft, ShoreDraft, Site, UnitDraft,
-};
+use dip_mapfile::{Draft, Land, Piece, PowerDraft, ProvinceDraft, ShoreDraft, Site, UnitDraft};
 use std::alloc::Global;
 
 #[tactic(auto, unfolding(crate::specs::Stated::prov_at))]
@@ -104,7 +102,12 @@ fn places_of(alloc: Global, draft: &Draft<'_>, sites: &[Site<'_>]) -> Result<Vec
     Ok(places)
 }
 
-fn units_of(alloc: Global, draft: &Draft<'_>, power: Power, units: &[UnitDraft<'_>]) -> Result<Vec<Unit>, MapFault>
+fn units_of(
+    alloc: Global,
+    draft: &Draft<'_>,
+    power: Power,
+    units: &[UnitDraft<'_>],
+) -> Result<Vec<Unit>, MapFault>
     requires few { length draft.now.provinces ≤ 200 }
     ensures { Gives (λ v. v.items) result (each (unit_at draft.now power) units.now) }
 {
@@ -127,7 +130,11 @@ fn shore_of(alloc: Global, draft: &Draft<'_>, shore: &ShoreDraft<'_>) -> Result<
     Ok(Shore { name, next })
 }
 
-fn each_shore_of(alloc: Global, draft: &Draft<'_>, shores: &[ShoreDraft<'_>]) -> Result<Vec<Shore>, MapFault>
+fn each_shore_of(
+    alloc: Global,
+    draft: &Draft<'_>,
+    shores: &[ShoreDraft<'_>],
+) -> Result<Vec<Shore>, MapFault>
     requires few { length draft.now.provinces ≤ 200 }
     ensures { Gives (λ v. v.items) result (each (shore_at draft.now) shores.now) }
 {
@@ -151,7 +158,11 @@ fn terrain_of(land: Land) -> Terrain
 
 /// A province.
 #[tactic(auto, unfolding(crate::specs::Stated::province_at))]
-fn province_of(alloc: Global, draft: &Draft<'_>, written: &ProvinceDraft<'_>) -> Result<Province, MapFault>
+fn province_of(
+    alloc: Global,
+    draft: &Draft<'_>,
+    written: &ProvinceDraft<'_>,
+) -> Result<Province, MapFault>
     requires few { length draft.now.provinces ≤ 200 }
     ensures { Gives (λ p. p) result (province_at draft.now written.now) }
 {
@@ -183,7 +194,12 @@ fn provinces_of(alloc: Global, draft: &Draft<'_>) -> Result<Vec<Province>, MapFa
 
 /// A power.
 #[tactic(auto, unfolding(crate::specs::Stated::realm_at))]
-fn realm_of(alloc: Global, draft: &Draft<'_>, power: Power, side: &PowerDraft<'_>) -> Result<Realm, MapFault>
+fn realm_of(
+    alloc: Global,
+    draft: &Draft<'_>,
+    power: Power,
+    side: &PowerDraft<'_>,
+) -> Result<Realm, MapFault>
     requires few { length draft.now.provinces ≤ 200 }
     ensures { Gives (λ r. r) result (realm_at draft.now power side.now) }
 {

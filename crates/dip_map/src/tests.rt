@@ -1,4 +1,4 @@
-use crate::{Board, Kind, Map, Place, Prov, STANDARD, Season, Terrain};
+use crate::{Board, Kind, Map, Place, Power, Prov, STANDARD, Season, Terrain};
 use std::process::Abort;
 use std::test::Fail;
 
@@ -101,15 +101,18 @@ army = []
 fleet = []
 ";
 
+fn steps_from(map: &Map, kind: Kind, prov: Prov, power: Power) -> u16 {
+    map.distance(kind, Place { prov, coast: 0 }, power)
+}
+
 #[test]
 fn what_no_walk_leads_to_is_far(rt: HostRuntime) -> Result<(), Fail> {
     let map = Map::from_toml(rt.alloc(), TWO)?;
     let west = map.power("west").expect(&rt, "a power");
     for (code, steps) in [("ard", 0), ("bay", 1000)] {
         let prov = the_prov(&rt, &map, code);
-        let place = Place { prov, coast: 0 };
-        assert_eq!(rt; map.distance(Kind::Army, place, west), steps);
-        assert_eq!(rt; map.distance(Kind::Fleet, place, west), steps);
+        assert_eq!(rt; steps_from(&map, Kind::Army, prov, west), steps);
+        assert_eq!(rt; steps_from(&map, Kind::Fleet, prov, west), steps);
     }
     Ok(())
 }

@@ -148,8 +148,8 @@ province_at code value = do
   army ← army_at land fields
   shores ← shores_at land fields
   if is_sound code land centre fields
-    then Ok (record { code = code; name = name; land = land; centre = centre; army = army; shores = shores })
-    else Err WrongField
+      then Ok (record { code = code; name = name; land = land; centre = centre; army = army; shores = shores })
+      else Err WrongField
 
 -- a power
 unfoldable pub power_at : List ℕ → Data → Result Power FileFault
@@ -160,8 +160,8 @@ power_at name value = do
   standings ← field_at (codes "units") fields
   units ← standings_at standings
   if is_power_name name && keys_are_among (codes "home" ∷ codes "units" ∷ []) fields
-    then Ok (record { name = name; home = home; units = units })
-    else Err WrongField
+      then Ok (record { name = name; home = home; units = units })
+      else Err WrongField
 
 -- all that a file writes
 unfoldable pub draft_at : Members → Result Draft FileFault
@@ -172,8 +172,8 @@ draft_at file = do
   lands ← table_at (codes "provinces") file
   provinces ← each_member province_at lands
   if keys_are_among (codes "name" ∷ codes "powers" ∷ codes "provinces" ∷ []) file
-    then Ok (record { name = name; powers = powers; provinces = provinces })
-    else Err WrongField
+      then Ok (record { name = name; powers = powers; provinces = provinces })
+      else Err WrongField
 
 -- the TOML of a text
 abbrev pub parsed : Option Members → Result Members FileFault

@@ -56,7 +56,10 @@ fn has_keys_of(land: Land, fields: &Table) -> bool
     match land {
         Land::Inland => has_keys_among(fields, &["name", "kind", "centre", "army"]),
         Land::Coast => {
-            has_keys_among(fields, &["name", "kind", "centre", "army", "fleet", "coasts"])
+            has_keys_among(
+                fields,
+                &["name", "kind", "centre", "army", "fleet", "coasts"],
+            )
         }
         Land::Sea => has_keys_among(fields, &["name", "kind", "centre", "fleet"]),
     }
@@ -160,7 +163,11 @@ fn shores_of(alloc: Global, land: Land, fields: &Table) -> Result<Vec<ShoreDraft
 
 /// A province.
 #[tactic(auto, unfolding(crate::specs::Files::province_at))]
-fn province_of<'a>(alloc: Global, code: &'a str, value: &'a Value) -> Result<ProvinceDraft<'a>, FileFault>
+fn province_of<'a>(
+    alloc: Global,
+    code: &'a str,
+    value: &'a Value,
+) -> Result<ProvinceDraft<'a>, FileFault>
     ensures { Gives (λ p. p) result (province_at code.now (view value.now)) }
 {
     let fields = table_in(value)?;

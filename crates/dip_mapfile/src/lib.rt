@@ -13,7 +13,7 @@ mod places;
 pub use drafts::{Draft, Land, Piece, PowerDraft, ProvinceDraft, ShoreDraft, Site, UnitDraft};
 pub use faults::FileFault;
 pub use files::{draft_of, tables_of};
-pub use forms::{is_code, is_coast_name, is_full_name, is_power_name};
+pub use forms::{is_coast_name, is_code, is_full_name, is_power_name};
 
 #[cfg(test)]
 mod tests;

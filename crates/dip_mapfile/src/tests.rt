@@ -1,4 +1,7 @@
-use crate::{FileFault, Land, Piece, draft_of, is_code, is_coast_name, is_full_name, is_power_name, tables_of};
+use crate::{
+    FileFault, Land, Piece, draft_of, is_coast_name, is_code, is_full_name, is_power_name,
+    tables_of,
+};
 use std::test::Fail;
 
 const ISLES: &str = "name = \"isles\"

@@ -1,7 +1,5 @@
 use crate::{Refusal, Reply, push_board_lines, push_phase, reply_text};
-use dip_map::{
-    Board, Dislodged, Kind, Map, Phase, Place, Power, Prov, STANDARD, Season, Unit,
-};
+use dip_map::{Board, Dislodged, Kind, Map, Phase, Place, Power, Prov, STANDARD, Season, Unit};
 use std::process::Abort;
 use std::test::Fail;
 

@@ -265,7 +265,13 @@ fn a_game_is_played_on_the_map_of_a_file(rt: HostRuntime) -> Result<(), Fail> {
     };
     let mut keeper = MemoryKeeper::new(alloc, digest("desk", "master", "master-key"));
     let mut written = Vec::new(alloc);
-    let ended = run_file(alloc, &mut LETTERS.as_bytes(), &mut written, &mut keeper, &map);
+    let ended = run_file(
+        alloc,
+        &mut LETTERS.as_bytes(),
+        &mut written,
+        &mut keeper,
+        &map,
+    );
     assert!(rt; ended.is_ok());
     assert!(rt; written.as_slice() == REPLIES.as_bytes());
     Ok(())

@@ -5,7 +5,13 @@ use std::process::Abort;
 use std::test::Fail;
 
 /// The text with a part of it replaced.
-fn changed(rt: &impl Abort, alloc: Global, text: &str, old: &str, new: &str) -> Result<String, AllocError> {
+fn changed(
+    rt: &impl Abort,
+    alloc: Global,
+    text: &str,
+    old: &str,
+    new: &str,
+) -> Result<String, AllocError> {
     let (front, back) = text.split_once(old).expect(rt, "the old part stands there");
     let mut made = String::from_str(alloc, front)?;
     made.push_str(new)?;
@@ -24,19 +30,24 @@ const NO_VIE: (&str, &str) = (
     "[\"gal\", \"rum\", \"ser\", \"tri\", \"vie\"]",
     "[\"gal\", \"rum\", \"ser\", \"tri\"]",
 );
+
 const HOME_GAL: (&str, &str) = (
     "home = [\"bud\", \"tri\", \"vie\"]",
     "home = [\"bud\", \"tri\", \"gal\"]",
 );
+
 const TWO_VIENNAS: (&str, &str) = ("\"Budapest\"", "\"Vienna\"");
+
 const LAKE: (&str, &str) = (
     "\"Bohemia\"\nkind = \"inland\"",
     "\"Bohemia\"\nkind = \"lake\"",
 );
+
 const EIGHTH: (&str, &str) = (
     "[provinces.adr]",
     "[powers.wales]\nhome = []\nunits = []\n[provinces.adr]",
 );
+
 const NAME_TWICE: (&str, &str) = (
     "name = \"standard\"\n",
     "name = \"standard\"\nname = \"standard\"\n",
@@ -127,7 +138,12 @@ kind = \"sea\"
 fleet = [\"bay/nc\", \"bay/sc\", \"cay\"]
 ";
 
-fn check_changes(rt: &impl Abort, alloc: Global, rows: &[(&str, &str)], fault: MapFault) -> Result<(), AllocError> {
+fn check_changes(
+    rt: &impl Abort,
+    alloc: Global,
+    rows: &[(&str, &str)],
+    fault: MapFault,
+) -> Result<(), AllocError> {
     for (old, new) in rows {
         let text = changed(rt, alloc, FIVE, old, new)?;
         assert!(rt; fault_of(alloc, text.as_str()) == Some(fault));
@@ -170,16 +186,25 @@ fn fields_are_of_their_type_and_form(rt: HostRuntime) -> Result<(), Fail> {
         ("name = \"Oak\"\n", ""),
         ("name = \"Oak\"", "name = \"\""),
         ("name = \"Oak\"", "name = \"\\u00e9\""),
-        ("name = \"Oak\"", "name = \"abcdefghij abcdefghij abcdefghij abcdefgh\""),
+        (
+            "name = \"Oak\"",
+            "name = \"abcdefghij abcdefghij abcdefghij abcdefgh\"",
+        ),
         ("name = \"Oak\"", "name = \"Oak\"\ncentre = 1"),
         ("name = \"Oak\"", "name = \"Oak\"\nowner = \"west\""),
         ("army = []\n", ""),
         ("fleet = []\n", ""),
-        ("army = [\"bay\", \"cay\"]\n", "army = [\"bay\", \"cay\"]\nfleet = []\n"),
+        (
+            "army = [\"bay\", \"cay\"]\n",
+            "army = [\"bay\", \"cay\"]\nfleet = []\n",
+        ),
         ("army = [\"bay\", \"cay\"]", "army = [\"bay/nc\", \"cay\"]"),
         ("nc = [\"sea\"]\n", ""),
         ("nc = [\"sea\"]\n", "nc = [\"sea\"]\nncs = []\n"),
-        ("[provinces.bay.coasts]\n", "fleet = []\n[provinces.bay.coasts]\n"),
+        (
+            "[provinces.bay.coasts]\n",
+            "fleet = []\n[provinces.bay.coasts]\n",
+        ),
         ("kind = \"sea\"\n", "kind = \"sea\"\narmy = []\n"),
         ("kind = \"sea\"\n", ""),
     ];
@@ -202,7 +227,10 @@ fn codes_are_defined_and_allowed(rt: HostRuntime) -> Result<(), Fail> {
         ("army = [\"bay\", \"cay\"]", "army = [\"ard\", \"bay\"]"),
         ("nc = [\"sea\"]", "nc = [\"bay/sc\", \"sea\"]"),
         ("nc = [\"sea\"]", "nc = [\"ard\", \"sea\"]"),
-        ("fleet = [\"bay/sc\", \"sea\"]", "fleet = [\"bay\", \"sea\"]"),
+        (
+            "fleet = [\"bay/sc\", \"sea\"]",
+            "fleet = [\"bay\", \"sea\"]",
+        ),
     ];
     check_changes(&rt, rt.alloc(), &rows, MapFault::UnknownName)?;
     Ok(())
@@ -224,7 +252,10 @@ fn nothing_stands_twice(rt: HostRuntime) -> Result<(), Fail> {
     let rows = [
         ("army = [\"ard\"]", "army = []"),
         ("nc = [\"sea\"]", "nc = []"),
-        ("fleet = [\"bay/sc\", \"sea\"]", "fleet = [\"bay/nc\", \"sea\"]"),
+        (
+            "fleet = [\"bay/sc\", \"sea\"]",
+            "fleet = [\"bay/nc\", \"sea\"]",
+        ),
         ("fleet = []", "fleet = [\"sea\"]"),
     ];
     check_changes(&rt, alloc, &rows, MapFault::NotSymmetric)?;

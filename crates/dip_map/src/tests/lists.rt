@@ -313,13 +313,14 @@ fn armies_go_where_the_list_says(rt: HostRuntime) -> Result<(), Fail> {
 /// How many fleet's neighbours a line lists; they are the place's.
 fn check_fleet(rt: &impl Abort, map: &Map, line: &str) -> usize {
     let (text, list) = line.split_once(": ").expect(rt, "a place and a list");
-    let a = the_place(rt, map, text);
+    let next = map.fleet_next(the_place(rt, map, text));
     let mut count = 0usize;
     for word in list.split(' ') {
-        assert!(rt; map.fleet_next(a).contains(&the_place(rt, map, word)));
+        let b = the_place(rt, map, word);
+        assert!(rt; next.contains(&b));
         count = count.saturating_add(1);
     }
-    assert_eq!(rt; map.fleet_next(a).len(), count);
+    assert_eq!(rt; next.len(), count);
     count
 }
 
@@ -403,10 +404,7 @@ fn has_unit(rt: &impl Abort, map: &Map, board: &Board, name: &str, word: &str) -
         },
     };
     let power = map.power(name).expect(rt, "a power");
-    board
-        .units()
-        .iter()
-        .any(|unit| unit.power == power && unit.kind == kind && unit.place == place)
+    board.units().iter().any(|unit| unit.power == power && unit.kind == kind && unit.place == place)
 }
 
 #[test]

@@ -166,11 +166,11 @@ fn tells_the_fault_of_a_map(rt: HostRuntime) -> Result<(), Fail> {
     for (text, line) in FAULTS {
         fs::write(&rt, "fault.toml", text)?;
         let Err(failure) = read_map(&rt, alloc, Some("fault.toml")) else {
-            return Err(Fail::from(line));
+            return Err(Fail::from("a map"));
         };
-        assert_eq!(rt; failure.status(), 3, "{line}");
+        assert_eq!(rt; failure.status(), 3);
         let told = format!(in alloc; "{failure}")?;
-        assert!(rt; told.as_str() == line, "{told} for {line}");
+        assert!(rt; told.as_str() == line);
     }
     Ok(())
 }

@@ -368,7 +368,7 @@ fn bounds_a_letter(rt: HostRuntime) -> Result<(), Fail> {
             input.push('x')?;
         }
         input.push_str("\nEND\n")?;
-        assert_eq!(rt; input.len(), CREATE.len() + size);
+        assert_eq!(rt; input.len(), CREATE.len().saturating_add(size));
         input.push_str(HOLD)?;
         let output = replies_to(alloc, &map, input.as_str())?;
         let expected = format!(in alloc; "{CREATED}{reply}{HELD}")?;

@@ -1,8 +1,10 @@
-use Rattle.std.proofs.Common.{◌≡◌, ℕ, ◌+◌, ◌<◌, length, drop, List, [], ◌∷◌, ◌++◌, Option, Some, None, append_assoc, ◌∙◌, true, zero, suc, get_or, arith, cond, nat_lt, inl, inr, refl, ◌==◌}
-use Rattle.std.proofs.lemmas.List.{drop_more}
+use Rattle.std.proofs.Common.{◌≡◌, ℕ, ◌+◌, ◌<◌, length, drop, List, [], ◌∷◌, ◌++◌, Option, Some, None, append_assoc, ◌∙◌, true, zero, suc, get_or, arith, cond, nat_lt, inl, inr, refl, ◌==◌, Bool, not, map, ap, ◌&&◌, ◌||◌, ◌-◌, take, sym}
+use Rattle.std.proofs.lemmas.List.{drop_more, take_rest}
 use Rattle.std.proofs.lemmas.Bool.{cases_Bool}
 use Rattle.std.specs.List.{list_any, position_or_len}
-use Rattle.dip_map.specs.Charts.{Chart, Province, IsMap, no_province}
+use Rattle.dip_map.specs.declared.boards.Dislodged.{Dislodged}
+use Rattle.dip_map.specs.declared.names.Unit.{Unit as Piece}
+use Rattle.dip_map.specs.Charts.{Chart, Province, IsMap, no_province, are_units_single}
 use Rattle.dip_map.specs.Boards.{IsOf, is_some_power, owner_at, owners_from, opening}
 
 pub owners_step : (m : Chart) (front all : List (Option ℕ)) (i : ℕ) → i < length m.provinces → front ++ owners_from m i (drop i m.provinces) ≡ all
@@ -14,6 +16,19 @@ owners_step m front all i h before =
 owners_count : (m : Chart) (i : ℕ) (ps : List Province) → length (owners_from m i ps) ≡ length ps
 owners_count m i [] = omega arith
 owners_count m i (p ∷ ps) = omega (arith, owners_count m (i + 1) ps)
+
+-- a unit's test over what was dislodged
+left_by : (f : Piece → Bool) (ds : List Dislodged) → list_any f (map (λ d. d.unit) ds) ≡ list_any (λ d. f d.unit) ds
+left_by f [] = refl
+left_by f (d ∷ ds) = ap (λ (b : Bool). f d.unit || b) (left_by f ds)
+
+-- the next of what was dislodged, and what is behind it
+pub dislodged_step : (ds : List Dislodged) (i : ℕ) (d : Dislodged) → i < length ds → d ≡ get_or ds i d → are_units_single (map (λ x. x.unit) (drop i ds))
+    ≡ (not (list_any (λ x. x.unit.place.prov == d.unit.place.prov) (take (length ds - (i + 1)) (drop (i + 1) ds))) && are_units_single (map (λ x. x.unit) (drop (i + 1) ds)))
+dislodged_step ds i d h is =
+    let rest : List Dislodged = drop (i + 1) ds in
+    let cut : drop i ds ≡ d ∷ rest = drop_more ds i d h ∙ ap (λ (x : Dislodged). x ∷ rest) (sym is) in
+    rw (cut, take_rest ds (i + 1)) (ap (λ (b : Bool). not b && are_units_single (map (λ x. x.unit) rest)) (left_by (λ v. v.place.prov == d.unit.place.prov) rest))
 
 -- a number that is answered only below a bound is below it
 below_bound : (m : Chart) (n : ℕ) → is_some_power m (cond (nat_lt n (length m.realms)) (Some n) None) ≡ true
@@ -35,7 +50,9 @@ owners_within m i (p ∷ ps) (suc k) d h = let low : k < length (owners_from m (
 pub opening_law : (m : Chart) → IsMap m → IsOf m (opening m)
 opening_law m ok = record {
   units = ok.units;
+  apart = ok.openings_single;
   dislodged = λ k d h. absurd (omega arith);
+  dislodged_apart = refl;
   standoff = λ k d h. absurd (omega arith);
   owners = owners_within m 0 m.provinces;
   owners_count = owners_count m 0 m.provinces;

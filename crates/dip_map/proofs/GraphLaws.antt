@@ -13,7 +13,7 @@ use Rattle.dip_map.specs.declared.names.Terrain.TheVariants.{Inland, Coast, Sea}
 use Rattle.dip_map.specs.Charts.{Chart, Province, Realm, IsMap, no_province, no_shore, no_realm, province, realm, fleet_next, home, is_centre, is_fleet_place, is_shaped, has_one_shore, has_named_shores, is_province, is_code, is_full_name, is_power_name}
 use Rattle.dip_map.specs.Walks.{ways, is_home}
 use Rattle.dip_map.specs.Distances.{vertex, place_at, is_haven, vertices, row, is_home_at, graph, homes}
-use Rattle.dip_map.proofs.MapLaws.{test_found, place_eq}
+use Rattle.dip_map.proofs.Found.{test_found, place_eq}
 
 -- at each vertex of the graph, and past them
 

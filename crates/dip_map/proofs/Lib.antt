@@ -1,3 +1,5 @@
+pub mod Found
+pub mod EntryLaws
 pub mod MapLaws
 pub mod BoardLaws
 pub mod Front

@@ -1,5 +1,5 @@
 use Rattle.std.proofs.Common.{zero-add, ◌≡◌, ℕ, ◌+◌, ◌<◌, ◌≤◌, ◌==◌, Bool, true, false, not, zero, suc, get_or, length, List, [], ◌∷◌, refl, ◌∙◌, ap, subst, inl, inr, arith, ◌&&◌, Option, Some, None, flat_map, if◌then◌else◌}
-use Rattle.std.proofs.lemmas.Bool.{and_parts, false≢true, cases_Bool, cases_lt, eqb-true, eq-eqb, lt-ltb, leb-true}
+use Rattle.std.proofs.lemmas.Bool.{and_parts, false≢true, cases_lt, eqb-true, eq-eqb, lt-ltb, leb-true}
 use Rattle.std.proofs.lemmas.List.{get_or_past}
 use Rattle.std.proofs.lemmas.List.Folds.{list_any_at, list_all-append}
 use Rattle.std.specs.List.{list_any, list_all}
@@ -9,42 +9,8 @@ use Rattle.dip_map.specs.declared.faults.MapFault.{MapFault}
 use Rattle.dip_map.specs.declared.faults.MapFault.TheVariants.{OverLimit, UnknownName, DoubledName, NotSymmetric}
 use Rattle.dip_map.specs.Charts.{Chart, Province, Shore, Realm, IsMap, no_province, no_shore, no_realm, province, army_next, fleet_next, is_army_next, is_fleet_next, is_fleet_place, is_province, is_realm, is_unit, opening_units, prov_of, power_of, coast_of}
 use Rattle.dip_map.specs.Checks.{answers, is_within_limits, is_well_formed, rest_of_codes, rest_of_names, rest_of_shores, rest_of_coasts, is_allowed, is_distinct, is_single, is_named_back, rest_is_mutual, are_named_back, rest_of_shores_is_mutual, rest_is_mutual_by_sea, is_mutual, first_fault}
-
--- what a test says of each element it says of the one at an index
-pub test_at : {A : Type 0} (f : A → Bool) (xs : List A) (k : ℕ) (d : A) → list_all f xs ≡ true → k < length xs → f (get_or xs k d) ≡ true
-test_at f [] k d a h = absurd (omega arith)
-test_at f (x ∷ xs) zero d a h = (and_parts (f x) (list_all f xs) a).0
-test_at f (x ∷ xs) (suc k) d a h = let low : k < length xs = omega arith in test_at f xs k d (and_parts (f x) (list_all f xs) a).1 low
-
--- what a test says of each element it says of one that is found
-pub test_found : (f : ℕ → Bool) (xs : List ℕ) (q : ℕ) → list_all f xs ≡ true → list_any (λ x. x == q) xs ≡ true → f q ≡ true
-test_found f [] q a h = absurd (false≢true h)
-test_found f (x ∷ xs) q a h =
-    let (here, more) = and_parts (f x) (list_all f xs) a in
-    elim (cases_Bool (x == q)) [
-      | inl same ↦ subst (λ (n : ℕ). f n ≡ true) (eqb-true x q same) here
-      | inr other ↦ test_found f xs q more (rw other at h)
-    ]
-
--- whether two places are one
-same_place : Place → Place → Bool
-same_place a b = (a.prov == b.prov) && (a.coast == b.coast)
-
-pub place_eq : (x q : Place) → x.prov ≡ q.prov → x.coast ≡ q.coast → x ≡ q
-place_eq x q e f = λ i. record { prov = e i; coast = f i }
-
--- the same of places
-place_found : (f : Place → Bool) (xs : List Place) (q : Place) → list_all f xs ≡ true → list_any (λ x. (x.prov == q.prov) && (x.coast == q.coast)) xs ≡ true → f q ≡ true
-place_found f [] q a h = absurd (false≢true h)
-place_found f (x ∷ xs) q a h =
-    let (here, more) = and_parts (f x) (list_all f xs) a in
-    elim (cases_Bool ((x.prov == q.prov) && (x.coast == q.coast))) [
-      | inl same ↦
-          let (ps, cs) = and_parts (x.prov == q.prov) (x.coast == q.coast) same in
-          let e : x ≡ q = place_eq x q (eqb-true x.prov q.prov ps) (eqb-true x.coast q.coast cs) in
-          subst (λ (n : Place). f n ≡ true) e here
-      | inr other ↦ place_found f xs q more (rw other at h)
-    ]
+use Rattle.dip_map.proofs.Found.{test_at, test_found, place_found}
+use Rattle.dip_map.proofs.EntryLaws.{army_single_law, fleet_single_law, homes_law, openings_law, army_away_law, fleet_away_law}
 
 -- a look-up that passes the test answered the number
 answers_is : (o : Option ℕ) (k : ℕ) → answers o k ≡ true → o ≡ Some k
@@ -215,6 +181,8 @@ map_law m none =
     let (codes, names_coasts) = and_parts _ _ distinct in
     let (names, coasts) = and_parts _ _ names_coasts in
     let (land, sea) = and_parts _ _ back in
+    let (neighbours, rest) = and_parts _ _ (and_parts _ _ single).1 in
+    let (homes, openings) = and_parts _ _ rest in
     record {
       realms_least = few.0.0;
       realms_most = few.0.1;
@@ -227,7 +195,13 @@ map_law m none =
       coasts_found = λ a h. let z : 0 + a.prov ≡ a.prov = zero-add a.prov in rw z at (coasts_law m 0 m.provinces a.prov a.coast coasts h);
       army_symmetric = land_law m land;
       army_within = within_law m land;
+      army_single = army_single_law m neighbours;
+      army_away = army_away_law m allowed;
       fleet_symmetric = sea_law m sea;
       fleet_within = afloat_law m sea;
+      fleet_single = fleet_single_law m neighbours;
+      fleet_away = fleet_away_law m allowed;
+      homes_single = homes_law m.realms homes;
       units = λ k d h. test_at (λ u. is_unit m u) (opening_units m) k d (units_law m m.realms powers) h;
+      openings_single = openings_law m.realms openings;
     }

@@ -10,7 +10,8 @@ use Rattle.dip_map.specs.declared.names.Place.{Place}
 use Rattle.dip_map.specs.Charts.{Chart, IsMap, fleet_next, is_fleet_next, is_fleet_place}
 use Rattle.dip_map.specs.Walks.{is_home, ArmyWalk, FleetWalk, Walk}
 use Rattle.dip_map.specs.Distances.{vertex, graph, homes}
-use Rattle.dip_map.proofs.MapLaws.{afloat, place_eq}
+use Rattle.dip_map.proofs.Found.{place_eq}
+use Rattle.dip_map.proofs.MapLaws.{afloat}
 use Rattle.dip_map.proofs.GraphLaws.{army_row, army_home, fleet_row, fleet_home, few_coasts, no_power_no_home}
 
 -- armies

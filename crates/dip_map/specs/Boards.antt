@@ -1,10 +1,10 @@
-use Rattle.std.specs.Prelude.{◌≡◌, ℕ, ◌<◌, ◌==◌, ◌+◌, nat_lt, ◌&&◌, Bool, true, All, List, [], ◌∷◌, length, Option, None, Some}
+use Rattle.std.specs.Prelude.{◌≡◌, ℕ, ◌<◌, ◌==◌, ◌+◌, nat_lt, ◌&&◌, Bool, true, All, List, [], ◌∷◌, map, length, Option, None, Some}
 use Rattle.std.specs.List.{list_any, position}
 use Rattle.dip_map.specs.declared.boards.Season.TheVariants.{SpringMoves}
 use Rattle.dip_map.specs.declared.names.Unit.{Unit as Piece}
 use Rattle.dip_map.specs.declared.boards.Dislodged.{Dislodged}
 use Rattle.dip_map.specs.declared.boards.Phase.{Phase}
-use Rattle.dip_map.specs.Charts.{Chart, Province, is_unit, opening_units}
+use Rattle.dip_map.specs.Charts.{Chart, Province, is_unit, opening_units, are_units_single}
 
 -- what stands on a board
 pub record Position : Type 0 where
@@ -28,10 +28,12 @@ is_some_power m (Some r) = nat_lt r (length m.realms)
 abbrev pub is_dislodged : Chart → Dislodged → Bool
 is_dislodged m d = is_unit m d.unit && is_some_prov m d.origin
 
--- the board is one of the map
+-- the board is one of the map; no two units stand in one province, and no two were dislodged from one
 pub record IsOf (m : Chart) (b : Position) : Type 0 where
   pub units : All (λ u. is_unit m u ≡ true) b.units
+  pub apart : are_units_single b.units ≡ true
   pub dislodged : All (λ d. is_dislodged m d ≡ true) b.dislodged
+  pub dislodged_apart : are_units_single (map (λ d. d.unit) b.dislodged) ≡ true
   pub standoff : All (λ p. p < length m.provinces) b.standoff
   pub owners : All (λ o. is_some_power m o ≡ true) b.owners
   pub owners_count : length b.owners ≡ length m.provinces

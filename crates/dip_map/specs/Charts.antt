@@ -1,4 +1,4 @@
-use Rattle.std.specs.Prelude.{◌≡◌, ℕ, ◌<◌, ◌≤◌, ◌==◌, ◌&&◌, ◌||◌, nat_lt, nat_le, not, All, Bool, true, false, List, [], length, flat_map, Option, Some, slice_index_or, codes}
+use Rattle.std.specs.Prelude.{◌≡◌, ◌≢◌, ℕ, ◌<◌, ◌≤◌, ◌==◌, ◌&&◌, ◌||◌, nat_lt, nat_le, not, All, Bool, true, false, List, [], ◌∷◌, length, flat_map, Option, Some, slice_index_or}
 use Rattle.std.specs.List.{list_any, list_all, position}
 use Rattle.std.specs.Str.{bytes_eq}
 pub use Rattle.dip_mapfile.specs.Forms.{is_code, is_coast_name, is_full_name, is_power_name}
@@ -144,6 +144,21 @@ is_realm m r = is_power_name r.name && (list_all (λ p. is_centre m p) r.home &&
 abbrev pub opening_units : Chart → List Piece
 opening_units m = flat_map (λ r. r.units) m.realms
 
+-- no province stands twice in a list
+abbrev pub are_provs_single : List ℕ → Bool
+are_provs_single [] = true
+are_provs_single (p ∷ ps) = not (list_any (λ q. q == p) ps) && are_provs_single ps
+
+-- no place stands twice in a list
+abbrev pub are_places_single : List Place → Bool
+are_places_single [] = true
+are_places_single (a ∷ more) = not (list_any (λ b. (b.prov == a.prov) && (b.coast == a.coast)) more) && are_places_single more
+
+-- no two units of a list stand in one province
+abbrev pub are_units_single : List Piece → Bool
+are_units_single [] = true
+are_units_single (u ∷ us) = not (list_any (λ v. v.place.prov == u.place.prov) us) && are_units_single us
+
 -- what each map keeps
 pub record IsMap (m : Chart) : Type 0 where
   pub realms_least : 1 ≤ length m.realms
@@ -157,6 +172,12 @@ pub record IsMap (m : Chart) : Type 0 where
   pub coasts_found : (a : Place) → a.coast < length (province m a.prov).shores → coast_of m a.prov (shore m a).name ≡ Some a.coast
   pub army_symmetric : (p q : ℕ) → is_army_next m p q ≡ true → is_army_next m q p ≡ true
   pub army_within : (p : ℕ) → All (λ q. q < length m.provinces) (army_next m p)
+  pub army_single : (p : ℕ) → are_provs_single (army_next m p) ≡ true
+  pub army_away : (p q : ℕ) → is_army_next m p q ≡ true → (q ≢ p) × (is_sea (province m q).terrain ≡ false)
   pub fleet_symmetric : (a b : Place) → is_fleet_next m a b ≡ true → is_fleet_next m b a ≡ true
   pub fleet_within : (a : Place) → All (λ b. is_fleet_place m b ≡ true) (fleet_next m a)
+  pub fleet_single : (a : Place) → are_places_single (fleet_next m a) ≡ true
+  pub fleet_away : (a b : Place) → is_fleet_next m a b ≡ true → b.prov ≢ a.prov
+  pub homes_single : (r : ℕ) → are_provs_single (home m r) ≡ true
   pub units : All (λ u. is_unit m u ≡ true) (opening_units m)
+  pub openings_single : are_units_single (opening_units m) ≡ true

@@ -4,8 +4,7 @@ use Rattle.std.specs.Str.{bytes_eq}
 use Rattle.dip_map.specs.declared.names.Place.{Place}
 use Rattle.dip_map.specs.declared.faults.MapFault.{MapFault}
 use Rattle.dip_map.specs.declared.faults.MapFault.TheVariants.{UnknownName, NotSymmetric, DoubledName, OverLimit}
-use Rattle.dip_map.specs.declared.names.Unit.{Unit as Piece}
-use Rattle.dip_map.specs.Charts.{Chart, Province, Realm, Shore, province, is_sea, is_army_next, is_fleet_next, is_province, is_realm, prov_of, power_of, coast_of}
+use Rattle.dip_map.specs.Charts.{Chart, Province, Realm, Shore, province, is_sea, is_army_next, is_fleet_next, is_province, is_realm, prov_of, power_of, coast_of, are_provs_single, are_places_single, are_units_single}
 
 -- whether a look-up answered this number
 abbrev pub answers : Option ℕ → ℕ → Bool
@@ -87,23 +86,10 @@ rest_is_allowed m p (r ∷ rs) = (list_all (λ q. may_march m p q) r.army && lea
 abbrev pub is_allowed : Chart → Bool
 is_allowed m = rest_is_allowed m 0 m.provinces
 
--- no number, place or full name stands twice in a list
-abbrev pub are_provs_single : List ℕ → Bool
-are_provs_single [] = true
-are_provs_single (p ∷ ps) = not (list_any (λ q. q == p) ps) && are_provs_single ps
-
-abbrev pub are_places_single : List Place → Bool
-are_places_single [] = true
-are_places_single (a ∷ more) = not (list_any (λ b. (b.prov == a.prov) && (b.coast == a.coast)) more) && are_places_single more
-
+-- no full name stands twice in a list
 abbrev pub are_names_single : List Province → Bool
 are_names_single [] = true
 are_names_single (r ∷ rs) = not (list_any (λ t. bytes_eq t.name r.name) rs) && are_names_single rs
-
--- no two units of a list stand in one province
-abbrev pub are_units_single : List Piece → Bool
-are_units_single [] = true
-are_units_single (u ∷ us) = not (list_any (λ v. v.place.prov == u.place.prov) us) && are_units_single us
 
 -- no neighbour of a province stands twice in a list of it
 abbrev pub has_single_neighbours : Province → Bool

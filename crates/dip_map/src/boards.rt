@@ -1,10 +1,11 @@
-ghost use Rattle.std.specs.Prelude.{◌≡◌, ◌<◌, ◌↔◌, length, IfOk, IsTrue, All, true};
+ghost use Rattle.std.specs.Prelude.{◌≡◌, ◌<◌, ◌↔◌, length, map, IfOk, IsTrue, All, true};
 ghost use Rattle.std.specs.Prelude.{◌==◌};
 ghost use Rattle.std.specs.List.{list_any, position, flat_map};
-ghost use Rattle.dip_map.specs.Charts.{is_unit, opening_units};
+ghost use Rattle.dip_map.specs.Charts.{is_unit, opening_units, are_units_single};
 ghost use Rattle.dip_map.specs.Boards.{is_some_prov, is_some_power, is_dislodged, IsOf, owner_at, owners_from, opening};
 
 use crate::charts::Map;
+use crate::entries::are_units_single;
 use crate::names::{Power, Prov, Unit};
 use crate::parts::Realm;
 use std::alloc::{AllocError, Global};
@@ -145,14 +146,20 @@ impl Board {
         self.phase
     }
 
-    /// Whether the board is one of this map.
+    /// Whether the board is one of this map, with at most one standing and one dislodged unit a province.
     pub fn is_of(&self, map: &Map) -> bool
         ensures { IsTrue result ↔ IsOf map.now self.now }
     {
         if !are_units_of(map, self.units()) {
             return false;
         }
+        if !are_units_single(self.units()) {
+            return false;
+        }
         if !are_dislodged_of(map, self.dislodged()) {
+            return false;
+        }
+        if !are_dislodged_single(self.dislodged()) {
             return false;
         }
         if !are_provinces_of(map, self.standoff()) {
@@ -205,6 +212,23 @@ fn are_dislodged_of(map: &Map, units: &[Dislodged]) -> bool
 {
     for unit in units {
         if !is_dislodged_of(map, unit) {
+            return false;
+        }
+    }
+    true
+}
+
+fn is_left_by(units: &[Dislodged], p: Prov) -> bool
+    ensures { result ≡ list_any (λ d. d.unit.place.prov == p) units.now }
+{
+    units.iter().any(|dislodged| dislodged.unit.place.prov == p)
+}
+
+fn are_dislodged_single(units: &[Dislodged]) -> bool
+    ensures { result ≡ are_units_single (map (λ d. d.unit) units.now) }
+{
+    for (number, dislodged) in units.iter().enumerate() {
+        if is_left_by(&units[number + 1..], dislodged.unit.place.prov) {
             return false;
         }
     }

@@ -13,7 +13,7 @@ use dip_mapfile::{draft_of, tables_of};
 use std::alloc::Global;
 use std::marker::Model;
 
-/// A map whose parts were checked: within limits, well formed, each neighbour named back.
+/// A map whose parts were checked: within limits, well formed, nothing twice, each neighbour allowed and named back.
 ///
 /// The look-ups take any number: what isn't on the map has empty names and lists.
 #[derive(Drop)]

@@ -2,7 +2,8 @@
 ghost use Rattle.std.specs.Prelude.{◌≡◌, ◌==◌, ◌&&◌, ◌≤◌, not, length};
 ghost use Rattle.std.specs.List.{list_all, list_any};
 ghost use Rattle.std.specs.Str.{bytes_eq};
-ghost use Rattle.dip_map.specs.Checks.{may_march, lead_away, rest_is_allowed, is_allowed, are_provs_single, are_places_single, are_names_single, are_units_single};
+ghost use Rattle.dip_map.specs.Charts.{are_provs_single, are_places_single, are_units_single};
+ghost use Rattle.dip_map.specs.Checks.{may_march, lead_away, rest_is_allowed, is_allowed, are_names_single};
 ghost use Rattle.dip_map.specs.Checks.{has_single_neighbours, is_home_of, is_held_by, are_homes_single, are_openings_single, is_single};
 
 use crate::names::{Place, Prov, Unit};
@@ -69,7 +70,8 @@ fn is_held(units: &[Unit], p: Prov) -> bool
     units.iter().any(|unit| unit.place.prov == p)
 }
 
-fn are_units_single(units: &[Unit]) -> bool
+/// Whether no two of these units stand in one province.
+pub(crate) fn are_units_single(units: &[Unit]) -> bool
     ensures { result ≡ are_units_single units.now }
 {
     for (number, unit) in units.iter().enumerate() {

@@ -2,6 +2,7 @@ use crate::{Board, Kind, Map, Place, Power, Prov, STANDARD, Season, Terrain};
 use std::process::Abort;
 use std::test::Fail;
 
+mod boards;
 mod faults;
 mod lists;
 

@@ -1,5 +1,5 @@
 use Rattle.std.proofs.Common.{◌≡◌, drop}
-use Rattle.dip_map.specs.Checks.{are_provs_single}
+use Rattle.dip_map.specs.Charts.{are_provs_single}
 use Rattle.dip_map.proofs.entries.are_provs_single.Given as goal
 
 abbrev pub invariant-loop-number : goal.invariant-loop-number

@@ -1,6 +1,12 @@
-pub mod TokenLaws
-pub mod SpellingLaws
-pub mod FormLaws
-pub mod PrintLaws
+pub mod KeptLaws
+pub mod FindLaws
+pub mod RetreatLaws
+pub mod AllowanceLaws
+pub mod CheckLaws
+pub mod StepLaws
+pub mod SpotLaws
+pub mod DraftLaws
+pub mod AgainLaws
 pub mod RoundTrip
 pub mod ReadingLaws
+pub mod LawfulLaws

@@ -1,55 +1,62 @@
--- The two ways to say what a line is read as: the relation of the rules, and the function of the line.
-use Rattle.std.proofs.Common.{◌≡◌, ℕ, ◌≤◌, length, List, refl, sym, ap, ◌∙◌, inl, inr, arith, nat_le, Option, Some, None, Ok, Err, map, option_and_then}
-use Rattle.std.proofs.lemmas.List.{length-map}
-use Rattle.std.proofs.lemmas.Bool.{le-leb}
+-- The two ways to say what a line is read as, and what follows of an order's own text.
+use Rattle.std.proofs.Common.{◌≡◌, ℕ, true, List, [], refl, sym, ap, ◌∙◌, Option, Some, None, Ok, Err}
 use Rattle.dip_map.specs.Charts.{Chart, IsMap}
 use Rattle.dip_map.specs.Boards.{Position, IsOf}
-use Rattle.dip_orders.specs.Drafts.{draft_at}
-use Rattle.dip_orders.specs.Forms.{Says, form_of, small}
-use Rattle.dip_orders.specs.Reading.{answer_to, draft_in, order_of}
-use Rattle.dip_orders.specs.Rules.{IsReading}
-use Rattle.dip_orders.specs.Scan.{few, tokens_at}
+use Rattle.dip_forms.specs.Forms.{Says, is_draft}
+use Rattle.dip_forms.specs.Reading.{draft_in}
+use Rattle.dip_forms.specs.Texts.{canonical_text}
+use Rattle.dip_forms.specs.declared.drafts.Draft.{Draft}
+use Rattle.dip_orders.specs.Reading.{answer_to, order_of}
+use Rattle.dip_orders.specs.Rules.{answer, checks_of, order_in}
 use Rattle.dip_orders.specs.Texts.{order_text}
-use Rattle.dip_orders.specs.declared.drafts.Draft.{Draft}
 use Rattle.dip_orders.specs.declared.faults.OrderFault.TheVariants.{CannotBeRead}
 use Rattle.dip_orders.specs.declared.placed.PlacedOrder.{PlacedOrder}
-use Rattle.dip_orders.proofs.FormLaws.{draft_again, draft_law, form_short}
-use Rattle.dip_orders.proofs.RoundTrip.{round_trip}
-use Rattle.dip_orders.proofs.SpellingLaws.{few_is, read_is_spelled, spelled_is_read}
+use Rattle.dip_orders.proofs.CheckLaws.{holds_ok, ok_holds}
+use Rattle.dip_orders.proofs.DraftLaws.{printed}
+use Rattle.dip_orders.proofs.RoundTrip.{checks_alone, order_again}
 
-few_of : (ts : List (List ℕ)) → length ts ≤ 8 → few (Some ts) ≡ Some ts
-few_of ts h = rw (le-leb (length ts) 8 h) refl
+-- what is known of forms
+pub record Forms : Type 0 where
+  pub said : (line : List ℕ) (d : Draft) → Says line d → draft_in line ≡ Some d
+  pub read : (line : List ℕ) (d : Draft) → draft_in line ≡ Some d → Says line d
+  pub again : (d : Draft) → is_draft d ≡ true → Says (canonical_text d) d
 
--- what a line says is what is read
-says_read : (line : List ℕ) (d : Draft) → Says line d → draft_in line ≡ Some d
-unfolding draft_in
-says_read line d says =
-    let count : length (map small says.tokens) ≡ length (form_of d) = ap length says.form in
-    let short = form_short d in
-    rw (spelled_is_read line says.tokens says.spells, few_of says.tokens (omega (arith, length-map says.tokens small, count, short))) (draft_again says.tokens d says.form says.places)
-
--- what is read is what the line says
-read_says : (line : List ℕ) (d : Draft) → draft_in line ≡ Some d → Says line d
-unfolding draft_in
-read_says line d h = go (few (tokens_at line)) refl h
-  where
-    go : (o : Option (List (List ℕ))) → few (tokens_at line) ≡ o → option_and_then draft_at o ≡ Some d → Says line d
-    go None is found = absurd (cc)
-    go (Some ts) is found = (draft_law line ts (Some d) (read_is_spelled line ts (few_is (tokens_at line) ts is)) (sym found)).0
-
-order_reading : (m : Chart) (b : Position) (power : ℕ) (line : List ℕ) (o : PlacedOrder) → order_of m b power line ≡ Ok o → IsReading m b power line (Ok o)
+-- a line that is an order says something, of which it is the answer
+pub read_form : (m : Chart) (b : Position) (power : ℕ) (pending : List PlacedOrder) (line : List ℕ) (o : PlacedOrder) → order_of m b power pending line ≡ Ok o
+    → (d : Draft) × (draft_in line ≡ Some d) × (answer m b power pending d ≡ Ok o)
 unfolding order_of
-order_reading m b power line o h = go (draft_in line) refl h
+read_form m b power pending line o h = go (draft_in line) refl h
   where
-    go : (r : Option Draft) → draft_in line ≡ r → answer_to m b power r ≡ Ok o → IsReading m b power line (Ok o)
+    go : (r : Option Draft) → draft_in line ≡ r → answer_to m b power pending r ≡ Ok o → (d : Draft) × (draft_in line ≡ Some d) × (answer m b power pending d ≡ Ok o)
     go None is found = let bad : Err CannotBeRead ≡ Ok o = found in absurd (cc)
-    go (Some d) is found = inl (d, read_says line d is, found)
+    go (Some d) is found = (d, is, found)
 
-reading_order : (m : Chart) (b : Position) (power : ℕ) (line : List ℕ) (o : PlacedOrder) → IsReading m b power line (Ok o) → order_of m b power line ≡ Ok o
+form_read : (m : Chart) (b : Position) (power : ℕ) (pending : List PlacedOrder) (line : List ℕ) (d : Draft) (o : PlacedOrder) → draft_in line ≡ Some d → answer m b power pending d ≡ Ok o
+    → order_of m b power pending line ≡ Ok o
 unfolding order_of
-reading_order m b power line o (inr (_, h)) = absurd (cc)
-reading_order m b power line o (inl (d, says, h)) = ap (answer_to m b power) (says_read line d says) ∙ h
+form_read m b power pending line d o is h = ap (answer_to m b power pending) is ∙ h
 
 -- the text of an order that was read is read again as the same order
-pub read_again : (m : Chart) (b : Position) (power : ℕ) (line : List ℕ) (o : PlacedOrder) → IsMap m → IsOf m b → order_of m b power line ≡ Ok o → order_of m b power (order_text m o) ≡ Ok o
-read_again m b power line o ok of h = reading_order m b power (order_text m o) o (round_trip m b power line o ok of (order_reading m b power line o h))
+pub read_again : Forms → (m : Chart) (b : Position) (power : ℕ) (pending : List PlacedOrder) (line : List ℕ) (o : PlacedOrder) → IsMap m → IsOf m b → order_of m b power pending line ≡ Ok o
+    → order_of m b power pending (order_text m o) ≡ Ok o
+read_again forms m b power pending line o ok of h =
+    let (d, is, found) = read_form m b power pending line o h in
+    let again = order_again m b power pending d o ok of (forms.read line d is).places found in
+    let said : draft_in (canonical_text (printed m o.unit o.order)) ≡ Some (printed m o.unit o.order) = forms.said _ _ (forms.again (printed m o.unit o.order) again.fine) in
+    form_read m b power pending (order_text m o) (printed m o.unit o.order) o (ap draft_in again.text ∙ said) again.same
+
+-- an order beside others that stand is one beside none
+pub read_alone : (m : Chart) (b : Position) (power : ℕ) (pending : List PlacedOrder) (line : List ℕ) (o : PlacedOrder) → order_of m b power pending line ≡ Ok o → order_of m b power [] line ≡ Ok o
+read_alone m b power pending line o h =
+    let (d, is, found) = read_form m b power pending line o h in
+    let (checks, same) = ok_holds (checks_of m b power pending d) (order_in m b power d) o found in
+    form_read m b power [] line d o is (holds_ok (checks_of m b power [] d) (order_in m b power d) (checks_alone m b power pending d checks) ∙ ap (λ x. Ok x) same)
+
+-- two orders with one text are one order
+pub told_apart : Forms → (m : Chart) (b : Position) (power : ℕ) (ps qs : List PlacedOrder) (line text : List ℕ) (o p : PlacedOrder) → IsMap m → IsOf m b → order_of m b power ps line ≡ Ok o
+    → order_of m b power qs text ≡ Ok p → order_text m o ≡ order_text m p → o ≡ p
+told_apart forms m b power ps qs line text o p ok of h k same =
+    let first : order_of m b power [] (order_text m o) ≡ Ok o = read_again forms m b power [] line o ok of (read_alone m b power ps line o h) in
+    let second : order_of m b power [] (order_text m p) ≡ Ok p = read_again forms m b power [] text p ok of (read_alone m b power qs text p k) in
+    let one : Ok o ≡ Ok p = sym first ∙ (ap (order_of m b power []) same ∙ second) in
+    cc

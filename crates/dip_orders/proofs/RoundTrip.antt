@@ -1,228 +1,389 @@
-use Rattle.std.proofs.Common.{◌≡◌, ℕ, ◌<◌, ◌==◌, Bool, true, false, suc, get_or, length, List, [], ◌∷◌, refl, sym, ◌∙◌, ap, subst, inl, inr, arith, nat_le, nat_lt, ◌&&◌, cond, Option, Some, None, Result, Ok, Err, find}
-use Rattle.std.proofs.lemmas.Bool.{and_parts, false≢true, cases_Bool, eqb-true, ltb-true}
-use Rattle.std.proofs.lemmas.Slice.Eq.{bytes_eq-Decides}
-use Rattle.std.specs.List.{position, position_or_len}
-use Rattle.std.specs.Option.{ok_or, is_some}
-use Rattle.std.specs.Str.{bytes_eq}
+-- The text of an order that was read is read again as the same order.
+use Rattle.std.proofs.Common.{◌≡◌, ℕ, ◌<◌, ◌==◌, ◌&&◌, ◌||◌, Bool, true, List, [], ◌∷◌, ◌++◌, refl, sym, ◌∙◌, ap, subst, Option, None, Ok, is_some, nat_lt, option_map, arith}
+use Rattle.std.proofs.lemmas.Bool.{and_parts, lt-ltb, ltb-true}
+use Rattle.std.specs.List.{list_any}
+use Rattle.std.specs.Option.{unwrap_or}
+use Rattle.std.specs.Cmp.Derive.{both_true}
 use Rattle.dip_map.specs.declared.names.Kind.{Kind}
 use Rattle.dip_map.specs.declared.names.Kind.TheVariants.{Army, Fleet}
 use Rattle.dip_map.specs.declared.names.Place.{Place}
 use Rattle.dip_map.specs.declared.names.Unit.{Unit as Piece}
-use Rattle.dip_orders.specs.declared.drafts.Spot.{Spot}
-use Rattle.dip_orders.specs.declared.drafts.Mention.{Mention}
-use Rattle.dip_orders.specs.declared.drafts.Draft.{Draft}
-use Rattle.dip_orders.specs.declared.drafts.Draft.TheVariants.{Hold as HoldDraft, Move as MoveDraft}
-use Rattle.dip_orders.specs.declared.placed.Order.TheVariants.{Hold, Move}
-use Rattle.dip_orders.specs.declared.placed.PlacedOrder.{PlacedOrder}
-use Rattle.dip_orders.specs.declared.faults.OrderFault.{OrderFault}
-use Rattle.dip_orders.specs.declared.faults.OrderFault.TheVariants.{UnknownProvince, NoUnitThere, WrongKind, OutOfReach, CoastNeeded, WrongCoast, NotInThisPhase}
-use Rattle.dip_map.specs.Charts.{Chart, IsMap, province, shore, prov_of, coast_of, fleet_next, is_unit, may_stand, is_fleet_place}
+use Rattle.dip_map.specs.declared.boards.Dislodged.{Dislodged}
+use Rattle.dip_map.specs.Charts.{Chart, IsMap, home, province}
 use Rattle.dip_map.specs.Boards.{Position, IsOf}
-use Rattle.dip_orders.specs.Forms.{is_spot, is_coast, are_letters, is_draft, Says}
+use Rattle.dip_forms.specs.Forms.{is_coast, are_letters, is_spot, is_draft}
+use Rattle.dip_forms.specs.Texts.{canonical_text}
+use Rattle.dip_forms.specs.declared.drafts.Spot.{Spot}
+use Rattle.dip_forms.specs.declared.drafts.Mention.{Mention}
+use Rattle.dip_forms.specs.declared.drafts.Draft.{Draft}
+use Rattle.dip_forms.specs.declared.drafts.Draft.TheVariants.{Hold as HoldForm, Move as MoveForm, SupportHold, SupportMove, Convoy, Retreat, Disband, Build, Remove}
+use Rattle.dip_orders.specs.Allowances.{builds_due, is_vacant, owns, removals_due}
+use Rattle.dip_orders.specs.Checks.{Check, must}
+use Rattle.dip_orders.specs.Retreats.{retreats_of}
+use Rattle.dip_orders.specs.Rules.{site, site_checks, unit_checks, move_checks, move_place, other_checks, retreat_checks, is_supportable, unit_of, the_unit, dislodged_of, the_dislodged, the_other, checks_of, order_in, answer}
+use Rattle.dip_orders.specs.Tests.{builds_elsewhere, is_coastal, may_build, is_kind, is_at_sea, is_on_map, prov_named, no_unit, other_at, knows_coast, place_in, could_move, may_convoy, removals_elsewhere}
 use Rattle.dip_orders.specs.Texts.{order_text}
-use Rattle.dip_orders.specs.Rules.{◌>>=◌, need, is_movement, is_kind, prov_at, unit_at, knows_coast, ordered_unit, may_march, march_to, first_in, count_in, named_in, coast_to, sail_to, go_to, hold_order, move_order, placed, IsReading}
-use Rattle.dip_orders.proofs.PrintLaws.{written, coast_for, spot_of, mention_of, IsPlaceOf, spot_fine, says_hold, says_move}
+use Rattle.dip_orders.specs.declared.faults.OrderFault.TheVariants.{SupportOutOfReach, WrongKind, NoConvoyThere, WrongCoast, AllowanceUsed}
+use Rattle.dip_orders.specs.declared.placed.Order.TheVariants.{Hold as Holds, Move as Moves, SupportHold as SupportsHold, SupportMove as SupportsMove, Convoy as Convoys, Retreat as Retreats, Disband as Disbands, Build as Builds, Remove as Removes}
+use Rattle.dip_orders.specs.declared.placed.PlacedOrder.{PlacedOrder}
+use Rattle.dip_orders.proofs.AgainLaws.{built_again, dislodged_again, left_again, moved_again, unit_again}
+use Rattle.dip_orders.proofs.CheckLaws.{Hold, hold_back, hold_both, hold_front, holds_ok, ok_holds}
+use Rattle.dip_orders.proofs.DraftLaws.{NamesArmy, order_canonical, printed}
+use Rattle.dip_orders.proofs.SpotLaws.{bare_fine, bare_spot, code_named, code_on_map, coast_for, mention_of, named_low, place_low, spot_fine, spot_of}
 
--- what a chain of checks answers came through its first link
-link : {A B : Type 0} (r : Result A OrderFault) (f : A → Result B OrderFault) (y : B) → (r >>= f) ≡ Ok y → (x : A) × (r ≡ Ok x) × (f x ≡ Ok y)
-link (Ok x) f y h = (x, refl, h)
-link (Err e) f y h = absurd (cc)
+-- an order is what its own text says
+pub record Again (m : Chart) (b : Position) (power : ℕ) (pending : List PlacedOrder) (o : PlacedOrder) : Type 0 where
+  pub fine : is_draft (printed m o.unit o.order) ≡ true
+  pub text : order_text m o ≡ canonical_text (printed m o.unit o.order)
+  pub same : answer m b power pending (printed m o.unit o.order) ≡ Ok o
 
--- a check that was passed
-met : {A : Type 0} (b : Bool) (e : OrderFault) (x y : A) → need b e x ≡ Ok y → (b ≡ true) × (x ≡ y)
-met true e x y h = (refl, cc)
-met false e x y h = absurd (cc)
+make : (m : Chart) (b : Position) (power : ℕ) (pending : List PlacedOrder) (o : PlacedOrder) → NamesArmy o.order → is_draft (printed m o.unit o.order) ≡ true
+    → Hold (checks_of m b power pending (printed m o.unit o.order)) → order_in m b power (printed m o.unit o.order) ≡ o → Again m b power pending o
+make m b power pending o army fine checks same = record {
+  fine = fine;
+  text = order_canonical m o.unit o.order army;
+  same = holds_ok (checks_of m b power pending (printed m o.unit o.order)) (order_in m b power (printed m o.unit o.order)) checks ∙ ap (λ x. Ok x) same;
+}
 
--- a look-up that found
-had : {A : Type 0} (o : Option A) (e : OrderFault) (y : A) → ok_or o e ≡ Ok y → o ≡ Some y
-had None e y h = absurd (cc)
-had (Some x) e y h = cc
+-- the coast of a word of a place
+pub coast_fine : (s : Spot) → is_spot s ≡ true → is_coast s.coast ≡ true
+coast_fine s h = (and_parts (are_letters 3 s.code) (is_coast s.coast) h).1
 
--- what is found passes the test
-find_passes : {A : Type 0} (p : A → Bool) (xs : List A) (y : A) → find p xs ≡ Some y → p y ≡ true
-find_passes p [] y h = absurd (cc)
-find_passes p (x ∷ xs) y h =
-    elim (cases_Bool (p x)) [
-      | inl yes_here ↦ let is : Some x ≡ Some y = rw yes_here at h in let e : x ≡ y = cc in subst (λ z. p z ≡ true) e yes_here
-      | inr other ↦ find_passes p xs y (rw other at h)
-    ]
+pub hold_again : (m : Chart) (b : Position) (power : ℕ) (pending : List PlacedOrder) (u : Mention) → IsMap m → IsOf m b → Hold (checks_of m b power pending (HoldForm u))
+    → Again m b power pending (order_in m b power (HoldForm u))
+hold_again m b power pending u ok of h =
+    let unit = unit_again m b power u ok of h.1.1 in
+    let the : Piece = the_unit m b power u in
+    make m b power pending (order_in m b power (HoldForm u)) tt (both_true (spot_fine m ok the.kind the.place unit.place) refl) (h.0, (unit.on, unit.checks))
+    (ap (λ x. record { unit = x; order = Holds }) unit.same)
 
--- what is found is an element
-find_among : {A : Type 0} (p : A → Bool) (q : A → Bool) (xs : List A) (y : A) → ((k : ℕ) (d : A) → k < length xs → q (get_or xs k d) ≡ true) → find p xs ≡ Some y → q y ≡ true
-find_among p q [] y all h = absurd (cc)
-find_among p q (x ∷ xs) y all h =
-    elim (cases_Bool (p x)) [
-      | inl here ↦ let is : Some x ≡ Some y = rw here at h in let e : x ≡ y = cc in subst (λ z. q z ≡ true) e (all 0 x (omega arith))
-      | inr other ↦ find_among p q xs y (λ k d low. all (suc k) d (omega arith)) (rw other at h)
-    ]
+-- a move whose unit and destination are told in other words
+move_back : (m : Chart) (v unit : Piece) (r q : ℕ) (coast : Option (List ℕ)) (via : Bool) → v ≡ unit → r ≡ q → Hold (move_checks m unit.kind unit.place q coast via) → Hold (move_checks m v.kind v.place r coast via)
+move_back m v unit r q coast via e f h =
+    subst (λ (x : Piece). Hold (move_checks m x.kind x.place r coast via)) (sym e) (subst (λ (n : ℕ). Hold (move_checks m unit.kind unit.place n coast via)) (sym f) h)
 
--- the first that passes a test also passes first a narrower one
-find_narrow : {A : Type 0} (p q : A → Bool) (xs : List A) (y : A) → find p xs ≡ Some y → q y ≡ true → find (λ x. p x && q x) xs ≡ Some y
-find_narrow p q [] y h n = absurd (cc)
-find_narrow p q (x ∷ xs) y h n =
-    elim (cases_Bool (p x)) [
-      | inl here ↦
-          let is : Some x ≡ Some y = rw here at h in
-          let e : x ≡ y = cc in
-          let more : q x ≡ true = subst (λ z. q z ≡ true) (sym e) n in
-          rw (here, more) is
-      | inr other ↦ rw other (find_narrow p q xs y (rw other at h) n)
-    ]
+moved_order : (m : Chart) (v unit : Piece) (r q : ℕ) (coast : Option (List ℕ)) (via : Bool) (to : Place) → v ≡ unit → r ≡ q → move_place m unit.kind unit.place q coast ≡ to
+    → ◌≡◌ {A = PlacedOrder} (record { unit = v; order = Moves (move_place m v.kind v.place r coast) via }) (record { unit = unit; order = Moves to via })
+moved_order m v unit r q coast via to e f h =
+    ap (λ (x : Piece). record { unit = x; order = Moves (move_place m x.kind x.place r coast) via }) e
+    ∙ (ap (λ (n : ℕ). record { unit = unit; order = Moves (move_place m unit.kind unit.place n coast) via }) f ∙ ap (λ (a : Place). record { unit = unit; order = Moves a via }) h)
 
--- a position is one of the list
-position_low : {A : Type 0} (p : A → Bool) (xs : List A) (i : ℕ) → position p xs ≡ Some i → i < length xs
-position_low p xs i h = below (position_or_len p xs) (length xs) i h
+pub move_again : (m : Chart) (b : Position) (power : ℕ) (pending : List PlacedOrder) (u : Mention) (to : Spot) (via : Bool) → IsMap m → IsOf m b → is_draft (MoveForm u to via) ≡ true
+    → Hold (checks_of m b power pending (MoveForm u to via)) → Again m b power pending (order_in m b power (MoveForm u to via))
+move_again m b power pending u to via ok of fine h =
+    let q : ℕ = prov_named m to in
+    let the : Piece = the_unit m b power u in
+    let word = (and_parts (is_spot to) true (and_parts (is_spot u.at) (is_spot to && true) fine).1).0 in
+    let unit = unit_again m b power u ok of (hold_front (unit_checks m (unit_of m b power u) u) _ h.1.1.1) in
+    let moved = moved_again m ok the.kind the.place q to.coast via (coast_fine to word) (named_low m to h.1.1.0) (hold_back (unit_checks m (unit_of m b power u) u) _ h.1.1.1) in
+    let place : Place = move_place m the.kind the.place q to.coast in
+    let low = place_low m the.kind place moved.on in
+    let named : prov_named m (spot_of m the.kind place) ≡ q = code_named m ok place.prov (coast_for m the.kind place) low ∙ moved.at in
+    make m b power pending (order_in m b power (MoveForm u to via)) tt
+    (both_true (spot_fine m ok the.kind the.place unit.place) (both_true (spot_fine m ok the.kind place moved.on) refl)) (
+      h.0,
+      (
+        unit.on,
+        (
+          code_on_map m ok place.prov (coast_for m the.kind place) low,
+          hold_both (unit_checks m (unit_of m b power (mention_of m the.kind the.place)) (mention_of m the.kind the.place)) _ unit.checks (move_back m _ the _ q (coast_for m the.kind place) via unit.same named moved.checks),
+        ),
+      ),
+    )
+    (moved_order m _ the _ q (coast_for m the.kind place) via place unit.same named moved.same)
+
+-- the other unit, told in other words
+other_back : (m : Chart) (b : Position) (k : Kind) (p q : ℕ) (coast : Option (List ℕ)) → p ≡ q → Hold (other_checks m b k q coast) → Hold (other_checks m b k p None)
+other_back m b k p q coast e h = (ap (λ n. is_some (other_at b k n)) e ∙ h.0, (refl, tt))
+
+-- a province that is named, told by its code alone
+bare_named : (m : Chart) → IsMap m → (s : Spot) → is_on_map m s ≡ true → prov_named m (bare_spot m (prov_named m s)) ≡ prov_named m s
+bare_named m ok s on = code_named m ok (prov_named m s) None (named_low m s on)
+
+bare_on : (m : Chart) → IsMap m → (s : Spot) → is_on_map m s ≡ true → is_on_map m (bare_spot m (prov_named m s)) ≡ true
+bare_on m ok s on = code_on_map m ok (prov_named m s) None (named_low m s on)
+
+reach_back : (m : Chart) (v unit : Piece) (r q : ℕ) → v ≡ unit → r ≡ q → could_move m unit.kind unit.place q ≡ true → could_move m v.kind v.place r ≡ true
+reach_back m v unit r q e f h = ap (λ (x : Piece). could_move m x.kind x.place r) e ∙ (ap (λ n. could_move m unit.kind unit.place n) f ∙ h)
+
+held_order : (v unit : Piece) (k : Kind) (r q : ℕ) → v ≡ unit → r ≡ q
+    → ◌≡◌ {A = PlacedOrder} (record { unit = v; order = SupportsHold (record { kind = k; prov = r }) }) (record { unit = unit; order = SupportsHold (record { kind = k; prov = q }) })
+held_order v unit k r q e f = λ i. record { unit = e i; order = SupportsHold (record { kind = k; prov = f i }) }
+
+pub support_hold_again : (m : Chart) (b : Position) (power : ℕ) (pending : List PlacedOrder) (u other : Mention) (held : Bool) → IsMap m → IsOf m b
+    → Hold (checks_of m b power pending (SupportHold u other held)) → Again m b power pending (order_in m b power (SupportHold u other held))
+support_hold_again m b power pending u other held ok of h =
+    let q : ℕ = prov_named m other.at in
+    let the : Piece = the_unit m b power u in
+    let reach : List Check = must (could_move m the.kind the.place q) SupportOutOfReach ∷ [] in
+    let others : List Check = other_checks m b other.kind q other.at.coast ++ reach in
+    let unit = unit_again m b power u ok of (hold_front (unit_checks m (unit_of m b power u) u) others h.1.1.1) in
+    let rest = hold_back (unit_checks m (unit_of m b power u) u) others h.1.1.1 in
+    let there = hold_front (other_checks m b other.kind q other.at.coast) reach rest in
+    let near = hold_back (other_checks m b other.kind q other.at.coast) reach rest in
+    let again : Piece = the_unit m b power (mention_of m the.kind the.place) in
+    let r : ℕ = prov_named m (bare_spot m q) in
+    let behind : List Check = must (could_move m again.kind again.place r) SupportOutOfReach ∷ [] in
+    let named = bare_named m ok other.at h.1.1.0 in
+    make m b power pending (order_in m b power (SupportHold u other held)) tt
+    (both_true (spot_fine m ok the.kind the.place unit.place) (both_true (bare_fine m ok q (named_low m other.at h.1.1.0)) refl)) (
+      h.0,
+      (
+        unit.on,
+        (
+          bare_on m ok other.at h.1.1.0,
+          hold_both (unit_checks m (unit_of m b power (mention_of m the.kind the.place)) (mention_of m the.kind the.place)) (other_checks m b other.kind r None ++ behind) unit.checks
+              (hold_both (other_checks m b other.kind r None) behind (other_back m b other.kind r q other.at.coast named there)
+              (reach_back m again the r q unit.same named near.0, tt)),
+        ),
+      ),
+    )
+    (held_order _ the other.kind _ q unit.same named)
+
+supportable_back : (m : Chart) (v unit x y : Piece) (r q : ℕ) → v ≡ unit → x ≡ y → r ≡ q → is_supportable m unit y q ≡ true → is_supportable m v x r ≡ true
+supportable_back m v unit x y r q e f g h = ap (λ z. is_supportable m z x r) e ∙ (ap (λ z. is_supportable m unit z r) f ∙ (ap (λ n. is_supportable m unit y n) g ∙ h))
+
+aided_order : (v unit : Piece) (k : Kind) (r q to there : ℕ) → v ≡ unit → r ≡ q → to ≡ there
+    → ◌≡◌ {A = PlacedOrder} (record { unit = v; order = SupportsMove (record { kind = k; prov = r }) to }) (record { unit = unit; order = SupportsMove (record { kind = k; prov = q }) there })
+aided_order v unit k r q to there e f g = λ i. record { unit = e i; order = SupportsMove (record { kind = k; prov = f i }) (g i) }
+
+pub support_move_again : (m : Chart) (b : Position) (power : ℕ) (pending : List PlacedOrder) (u other : Mention) (to : Spot) → IsMap m → IsOf m b
+    → Hold (checks_of m b power pending (SupportMove u other to)) → Again m b power pending (order_in m b power (SupportMove u other to))
+support_move_again m b power pending u other to ok of h =
+    let p : ℕ = prov_named m other.at in
+    let q : ℕ = prov_named m to in
+    let the : Piece = the_unit m b power u in
+    let reach : List Check = must (is_supportable m the (the_other m b other) q) SupportOutOfReach ∷ [] in
+    let others : List Check = other_checks m b other.kind p other.at.coast ++ reach in
+    let unit = unit_again m b power u ok of (hold_front (unit_checks m (unit_of m b power u) u) others h.1.1.1.1) in
+    let rest = hold_back (unit_checks m (unit_of m b power u) u) others h.1.1.1.1 in
+    let there = hold_front (other_checks m b other.kind p other.at.coast) reach rest in
+    let near = hold_back (other_checks m b other.kind p other.at.coast) reach rest in
+    let again : Piece = the_unit m b power (mention_of m the.kind the.place) in
+    let r : ℕ = prov_named m (bare_spot m p) in
+    let t : ℕ = prov_named m (bare_spot m q) in
+    let mover : Piece = unwrap_or (other_at b other.kind r) no_unit in
+    let behind : List Check = must (is_supportable m again mover t) SupportOutOfReach ∷ [] in
+    let from = bare_named m ok other.at h.1.1.0 in
+    let named = bare_named m ok to h.1.1.1.0 in
+    make m b power pending (order_in m b power (SupportMove u other to)) tt
+    (both_true (spot_fine m ok the.kind the.place unit.place) (both_true (bare_fine m ok p (named_low m other.at h.1.1.0)) (both_true (bare_fine m ok q (named_low m to h.1.1.1.0)) refl))) (
+      h.0,
+      (
+        unit.on,
+        (
+          bare_on m ok other.at h.1.1.0,
+          (
+            bare_on m ok to h.1.1.1.0,
+            hold_both (unit_checks m (unit_of m b power (mention_of m the.kind the.place)) (mention_of m the.kind the.place)) (other_checks m b other.kind r None ++ behind) unit.checks
+                (hold_both (other_checks m b other.kind r None) behind (other_back m b other.kind r p other.at.coast from there)
+                (supportable_back m again the mover (the_other m b other) t q unit.same (ap (λ n. unwrap_or (other_at b other.kind n) no_unit) from) named near.0, tt)),
+          ),
+        ),
+      ),
+    )
+    (aided_order _ the other.kind _ p _ q unit.same from named)
+
+carried_order : (v unit : Piece) (r q to there : ℕ) → v ≡ unit → r ≡ q → to ≡ there
+    → ◌≡◌ {A = PlacedOrder} (record { unit = v; order = Convoys (record { kind = Army; prov = r }) to }) (record { unit = unit; order = Convoys (record { kind = Army; prov = q }) there })
+carried_order v unit r q to there e f g = λ i. record { unit = e i; order = Convoys (record { kind = Army; prov = f i }) (g i) }
+
+-- what is checked of a convoy behind its fleet, told by codes alone
+abbrev again_checks : Chart → Position → Piece → ℕ → ℕ → List Check
+again_checks m b x r t =
+    must (is_kind x.kind Fleet) WrongKind
+    ∷ must (is_at_sea (province m x.place.prov).terrain) NoConvoyThere
+    ∷ (other_checks m b Army r None ++ must (knows_coast m t None) WrongCoast ∷ must (may_convoy m r t) NoConvoyThere ∷ [])
+
+pub convoy_again : (m : Chart) (b : Position) (power : ℕ) (pending : List PlacedOrder) (u : Mention) (army to : Spot) → IsMap m → IsOf m b
+    → Hold (checks_of m b power pending (Convoy u army to)) → Again m b power pending (order_in m b power (Convoy u army to))
+convoy_again m b power pending u army to ok of h =
+    let p : ℕ = prov_named m army in
+    let q : ℕ = prov_named m to in
+    let the : Piece = the_unit m b power u in
+    let last : List Check = must (knows_coast m q to.coast) WrongCoast ∷ must (may_convoy m p q) NoConvoyThere ∷ [] in
+    let others : List Check = must (is_kind the.kind Fleet) WrongKind ∷ must (is_at_sea (province m the.place.prov).terrain) NoConvoyThere ∷ (other_checks m b Army p army.coast ++ last) in
+    let unit = unit_again m b power u ok of (hold_front (unit_checks m (unit_of m b power u) u) others h.1.1.1.1) in
+    let rest = hold_back (unit_checks m (unit_of m b power u) u) others h.1.1.1.1 in
+    let there = hold_front (other_checks m b Army p army.coast) last rest.1.1 in
+    let near = hold_back (other_checks m b Army p army.coast) last rest.1.1 in
+    let r : ℕ = prov_named m (bare_spot m p) in
+    let t : ℕ = prov_named m (bare_spot m q) in
+    let from = bare_named m ok army h.1.1.0 in
+    let named = bare_named m ok to h.1.1.1.0 in
+    make m b power pending (order_in m b power (Convoy u army to)) refl
+    (both_true (spot_fine m ok the.kind the.place unit.place) (both_true (bare_fine m ok p (named_low m army h.1.1.0)) (both_true (bare_fine m ok q (named_low m to h.1.1.1.0)) refl))) (
+      h.0,
+      (
+        unit.on,
+        (
+          bare_on m ok army h.1.1.0,
+          (
+            bare_on m ok to h.1.1.1.0,
+            hold_both (unit_checks m (unit_of m b power (mention_of m the.kind the.place)) (mention_of m the.kind the.place)) (again_checks m b (the_unit m b power (mention_of m the.kind the.place)) r t) unit.checks (
+              ap (λ (x : Piece). is_kind x.kind Fleet) unit.same ∙ rest.0,
+              (
+                ap (λ (x : Piece). is_at_sea (province m x.place.prov).terrain) unit.same ∙ rest.1.0,
+                hold_both (other_checks m b Army r None) (must (knows_coast m t None) WrongCoast ∷ must (may_convoy m r t) NoConvoyThere ∷ []) (other_back m b Army r p army.coast from there)
+                    (refl, (ap (λ n. may_convoy m n t) from ∙ (ap (λ n. may_convoy m p n) named ∙ near.1.0), tt)),
+              ),
+            ),
+          ),
+        ),
+      ),
+    )
+    (carried_order _ the _ p _ q unit.same from named)
+
+pub disband_again : (m : Chart) (b : Position) (power : ℕ) (pending : List PlacedOrder) (u : Mention) → IsMap m → IsOf m b → Hold (checks_of m b power pending (Disband u))
+    → Again m b power pending (order_in m b power (Disband u))
+disband_again m b power pending u ok of h =
+    let unit = dislodged_again m b power u ok of h.1.1 in
+    let the : Dislodged = the_dislodged m b power u in
+    make m b power pending (order_in m b power (Disband u)) tt (both_true (spot_fine m ok the.unit.kind the.unit.place unit.place) refl) (h.0, (unit.on, unit.checks))
+    (ap (λ (x : Dislodged). record { unit = x.unit; order = Disbands }) unit.same)
+
+-- a retreat whose unit and destination are told in other words
+left_back : (m : Chart) (b : Position) (v d : Dislodged) (r q : ℕ) (coast : Option (List ℕ)) → v ≡ d → r ≡ q → Hold (retreat_checks m d.unit.kind (retreats_of m b d) q coast)
+    → Hold (retreat_checks m v.unit.kind (retreats_of m b v) r coast)
+left_back m b v d r q coast e f h =
+    subst (λ (x : Dislodged). Hold (retreat_checks m x.unit.kind (retreats_of m b x) r coast)) (sym e)
+    (subst (λ (n : ℕ). Hold (retreat_checks m d.unit.kind (retreats_of m b d) n coast)) (sym f) h)
+
+left_order : (m : Chart) (b : Position) (v d : Dislodged) (r q : ℕ) (coast : Option (List ℕ)) (to : Place) → v ≡ d → r ≡ q → place_in m (retreats_of m b d) q coast ≡ to
+    → ◌≡◌ {A = PlacedOrder} (record { unit = v.unit; order = Retreats (place_in m (retreats_of m b v) r coast) }) (record { unit = d.unit; order = Retreats to })
+left_order m b v d r q coast to e f h =
+    ap (λ (x : Dislodged). record { unit = x.unit; order = Retreats (place_in m (retreats_of m b x) r coast) }) e
+    ∙ (ap (λ (n : ℕ). record { unit = d.unit; order = Retreats (place_in m (retreats_of m b d) n coast) }) f ∙ ap (λ (a : Place). record { unit = d.unit; order = Retreats a }) h)
+
+pub retreat_again : (m : Chart) (b : Position) (power : ℕ) (pending : List PlacedOrder) (u : Mention) (to : Spot) → IsMap m → IsOf m b → is_draft (Retreat u to) ≡ true
+    → Hold (checks_of m b power pending (Retreat u to)) → Again m b power pending (order_in m b power (Retreat u to))
+retreat_again m b power pending u to ok of fine h =
+    let q : ℕ = prov_named m to in
+    let the : Dislodged = the_dislodged m b power u in
+    let word = (and_parts (is_spot to) true (and_parts (is_spot u.at) (is_spot to && true) fine).1).0 in
+    let checks = unit_checks m (option_map (λ d. d.unit) (dislodged_of m b power u)) u in
+    let unit = dislodged_again m b power u ok of (hold_front checks _ h.1.1.1) in
+    let left = left_again m ok b the.origin the.unit.kind the.unit.place q to.coast (coast_fine to word) (named_low m to h.1.1.0) (hold_back checks _ h.1.1.1) in
+    let place : Place = place_in m (retreats_of m b the) q to.coast in
+    let low = place_low m the.unit.kind place left.on in
+    let named : prov_named m (spot_of m the.unit.kind place) ≡ q = code_named m ok place.prov (coast_for m the.unit.kind place) low ∙ left.at in
+    make m b power pending (order_in m b power (Retreat u to)) tt
+    (both_true (spot_fine m ok the.unit.kind the.unit.place unit.place) (both_true (spot_fine m ok the.unit.kind place left.on) refl)) (
+      h.0,
+      (
+        unit.on,
+        (
+          code_on_map m ok place.prov (coast_for m the.unit.kind place) low,
+          hold_both (unit_checks m (option_map (λ d. d.unit) (dislodged_of m b power (mention_of m the.unit.kind the.unit.place))) (mention_of m the.unit.kind the.unit.place)) _ unit.checks
+              (left_back m b _ the _ q (coast_for m the.unit.kind place) unit.same named left.checks),
+        ),
+      ),
+    )
+    (left_order m b _ the _ q (coast_for m the.unit.kind place) place unit.same named left.same)
+
+pub remove_again : (m : Chart) (b : Position) (power : ℕ) (pending : List PlacedOrder) (u : Mention) → IsMap m → IsOf m b → Hold (checks_of m b power pending (Remove u))
+    → Again m b power pending (order_in m b power (Remove u))
+remove_again m b power pending u ok of h =
+    let unit = unit_again m b power u ok of (hold_front (unit_checks m (unit_of m b power u) u) (must (nat_lt (removals_elsewhere pending (prov_named m u.at)) (removals_due b power)) AllowanceUsed ∷ []) h.1.1) in
+    let due = hold_back (unit_checks m (unit_of m b power u) u) (must (nat_lt (removals_elsewhere pending (prov_named m u.at)) (removals_due b power)) AllowanceUsed ∷ []) h.1.1 in
+    let the : Piece = the_unit m b power u in
+    make m b power pending (order_in m b power (Remove u)) tt (both_true (spot_fine m ok the.kind the.place unit.place) refl) (
+      h.0,
+      (
+        unit.on,
+        hold_both (unit_checks m (unit_of m b power (mention_of m the.kind the.place)) (mention_of m the.kind the.place))
+            (must (nat_lt (removals_elsewhere pending (prov_named m (spot_of m the.kind the.place))) (removals_due b power)) AllowanceUsed ∷ []) unit.checks
+            (ap (λ n. nat_lt (removals_elsewhere pending n) (removals_due b power)) unit.named ∙ due.0, tt),
+      ),
+    )
+    (ap (λ x. record { unit = x; order = Removes }) unit.same)
+
+built_order : (m : Chart) (power : ℕ) (k : Kind) (r p : ℕ) (coast : Option (List ℕ)) (a : Place) → r ≡ p → site m p coast ≡ a
+    → ◌≡◌ {A = PlacedOrder} (record { unit = record { power = power; kind = k; place = site m r coast }; order = Builds }) (record { unit = record { power = power; kind = k; place = a }; order = Builds })
+built_order m power k r p coast a e f =
+    ap (λ n. record { unit = record { power = power; kind = k; place = site m n coast }; order = Builds }) e ∙ ap (λ x. record { unit = record { power = power; kind = k; place = x }; order = Builds }) f
+
+pub build_again : (m : Chart) (b : Position) (power : ℕ) (pending : List PlacedOrder) (u : Mention) → IsMap m → is_draft (Build u) ≡ true → Hold (checks_of m b power pending (Build u))
+    → Again m b power pending (order_in m b power (Build u))
+build_again m b power pending u ok fine h =
+    let p : ℕ = prov_named m u.at in
+    let low = named_low m u.at h.1.0 in
+    let coast = coast_fine u.at (and_parts (is_spot u.at) true fine).0 in
+    let due : List Check = must (nat_lt (builds_elsewhere pending p) (builds_due m b power)) AllowanceUsed ∷ [] in
+    let (home, more) = and_parts (list_any (λ x. x == p) (home m power)) _ h.1.1.0 in
+    let (owned, vacant) = and_parts (owns b power p) (is_vacant b p && (is_kind u.kind Army || is_coastal (province m p).terrain)) more in
+    let (empty, fit) = and_parts (is_vacant b p) (is_kind u.kind Army || is_coastal (province m p).terrain) vacant in
+    let built = built_again m ok u.kind p u.at.coast coast low fit (hold_front (site_checks m u.kind p u.at.coast) due h.1.1.1) in
+    let used = hold_back (site_checks m u.kind p u.at.coast) due h.1.1.1 in
+    let place : Place = site m p u.at.coast in
+    let r : ℕ = prov_named m (spot_of m u.kind place) in
+    let named : r ≡ p = code_named m ok place.prov (coast_for m u.kind place) (place_low m u.kind place built.on) ∙ built.at in
+    make m b power pending (order_in m b power (Build u)) tt (both_true (spot_fine m ok u.kind place built.on) refl) (
+      h.0,
+      (
+        code_on_map m ok place.prov (coast_for m u.kind place) (place_low m u.kind place built.on),
+        (
+          ap (λ n. may_build m b power u.kind n) named ∙ h.1.1.0,
+          hold_both (site_checks m u.kind r (coast_for m u.kind place)) (must (nat_lt (builds_elsewhere pending r) (builds_due m b power)) AllowanceUsed ∷ [])
+              (subst (λ (n : ℕ). Hold (site_checks m u.kind n (coast_for m u.kind place))) (sym named) built.checks)
+              (ap (λ n. nat_lt (builds_elsewhere pending n) (builds_due m b power)) named ∙ used.0, tt),
+        ),
+      ),
+    )
+    (built_order m power u.kind r p (coast_for m u.kind place) place named built.same)
+
+-- an order that was read is what its own text says
+pub order_again : (m : Chart) (b : Position) (power : ℕ) (pending : List PlacedOrder) (d : Draft) (o : PlacedOrder) → IsMap m → IsOf m b → is_draft d ≡ true → answer m b power pending d ≡ Ok o
+    → Again m b power pending o
+order_again m b power pending d o ok of fine h =
+    let (checks, same) = ok_holds (checks_of m b power pending d) (order_in m b power d) o h in
+    subst (λ (x : PlacedOrder). Again m b power pending x) same (by_form d fine checks)
   where
-    below : (n len i : ℕ) → cond (nat_lt n len) (Some n) None ≡ Some i → i < len
-    below n len i h =
-        elim (cases_Bool (nat_lt n len)) [
-          | inl low ↦ let is : Some n ≡ Some i = rw low at h in let e : n ≡ i = cc in subst (λ z. z < len) e (ltb-true _ _ low)
-          | inr past ↦ let none : None ≡ Some i = rw past at h in absurd (cc)
-        ]
+    by_form : (c : Draft) → is_draft c ≡ true → Hold (checks_of m b power pending c) → Again m b power pending (order_in m b power c)
+    by_form (HoldForm u) fine h = hold_again m b power pending u ok of h
+    by_form (MoveForm u to via) fine h = move_again m b power pending u to via ok of fine h
+    by_form (SupportHold u other held) fine h = support_hold_again m b power pending u other held ok of h
+    by_form (SupportMove u other to) fine h = support_move_again m b power pending u other to ok of h
+    by_form (Convoy u army to) fine h = convoy_again m b power pending u army to ok of h
+    by_form (Retreat u to) fine h = retreat_again m b power pending u to ok of fine h
+    by_form (Disband u) fine h = disband_again m b power pending u ok of h
+    by_form (Build u) fine h = build_again m b power pending u ok fine h
+    by_form (Remove u) fine h = remove_again m b power pending u ok of h
 
--- the unit that was ordered
-pub record IsOrdered (m : Chart) (b : Position) (power : ℕ) (unit : Piece) : Type 0 where
-  pub found : unit_at b power unit.place.prov ≡ Some unit
-  pub stands : may_stand m unit.kind unit.place ≡ true
+-- what stands besides can only refuse an order
+none_elsewhere : (n due : ℕ) → nat_lt n due ≡ true → nat_lt 0 due ≡ true
+none_elsewhere n due h = let low : n < due = ltb-true _ _ h in lt-ltb _ _ (omega arith)
 
-ordered : (m : Chart) (b : Position) (power : ℕ) (u : Mention) (p : ℕ) (unit : Piece) → IsOf m b → ordered_unit m b power u p ≡ Ok unit → IsOrdered m b power unit
-ordered m b power u p unit of h =
-    let (first, e1, h1) = link (ok_or (unit_at b power p) NoUnitThere) (λ x. need (is_kind x.kind u.kind) WrongKind x >>= (λ y. need (knows_coast m p u.at.coast) WrongCoast y)) unit h in
-    let (kept, e2, h2) = link (need (is_kind first.kind u.kind) WrongKind first) (λ y. need (knows_coast m p u.at.coast) WrongCoast y) unit h1 in
-    let same = (met (is_kind first.kind u.kind) WrongKind first kept e2).1 ∙ (met (knows_coast m p u.at.coast) WrongCoast kept unit h2).1 in
-    let there : unit_at b power p ≡ Some unit = had (unit_at b power p) NoUnitThere first e1 ∙ ap (λ x. Some x) same in
-    let own = find_passes (λ x. (x.power == power) && (x.place.prov == p)) b.units unit there in
-    let at : unit.place.prov ≡ p = eqb-true _ _ (and_parts (unit.power == power) (unit.place.prov == p) own).1 in
-    let on = find_among (λ x. (x.power == power) && (x.place.prov == p)) (λ x. is_unit m x) b.units unit of.units there in
-    record {
-      found = subst (λ (n : ℕ). unit_at b power n ≡ Some unit) (sym at) there;
-      stands = (and_parts (nat_lt unit.power (length m.realms)) (may_stand m unit.kind unit.place) on).1;
-    }
-
-place_of : (m : Chart) (k : Kind) (a : Place) → may_stand m k a ≡ true → IsPlaceOf m k a
-place_of m Army a h = ltb-true _ _ (and_parts _ _ h).0
-place_of m Fleet a h = h
-
-place_low : (m : Chart) (k : Kind) (a : Place) → IsPlaceOf m k a → a.prov < length m.provinces
-place_low m Army a h = h
-place_low m Fleet a h = ltb-true _ _ (and_parts (nat_lt a.prov (length m.provinces)) (nat_lt a.coast (length (province m a.prov).shores)) h).0
-
-prov_again : (m : Chart) → IsMap m → (k : Kind) (a : Place) → IsPlaceOf m k a → prov_at m (spot_of m k a) ≡ Ok a.prov
-prov_again m ok k a at = ap (λ x. ok_or x UnknownProvince) (ok.codes_found a.prov (place_low m k a at))
-
-is_kind_self : (k : Kind) → is_kind k k ≡ true
-is_kind_self Army = refl
-is_kind_self Fleet = refl
-
-knows_own : (m : Chart) → IsMap m → (k : Kind) (a : Place) → IsPlaceOf m k a → knows_coast m a.prov (coast_for m k a) ≡ true
-knows_own m ok Army a at = refl
-knows_own m ok Fleet a at = by_name (shore m a).name (ok.coasts_found a (ltb-true _ _ (and_parts (nat_lt a.prov (length m.provinces)) (nat_lt a.coast (length (province m a.prov).shores)) at).1))
-  where
-    by_name : (name : List ℕ) → coast_of m a.prov name ≡ Some a.coast → knows_coast m a.prov (written name) ≡ true
-    by_name [] h = refl
-    by_name (b ∷ bs) h = ap (λ x. is_some x) h
-
-ordered_again : (m : Chart) (b : Position) (power : ℕ) (unit : Piece) → IsMap m → IsOrdered m b power unit → ordered_unit m b power (mention_of m unit.kind unit.place) unit.place.prov ≡ Ok unit
-ordered_again m b power unit ok is =
-    let known = knows_own m ok unit.kind unit.place (place_of m unit.kind unit.place is.stands) in
-    rw (is.found, is_kind_self unit.kind, known) refl
-
-marched : (m : Chart) (p q : ℕ) (coast : Option (List ℕ)) (to : Place) → q < length m.provinces → march_to m p q coast ≡ Ok to → (to.prov < length m.provinces) × (march_to m p to.prov None ≡ Ok to)
-marched m p q (Some c) to low h = absurd (cc)
-marched m p q None to low h =
-    let (goes, is) = met (may_march m p q) OutOfReach (record { prov = q; coast = 0 }) to h in
-    let again : march_to m p q None ≡ Ok (record { prov = q; coast = 0 }) = rw goes refl in
-    subst (λ (x : Place). (x.prov < length m.provinces) × (march_to m p x.prov None ≡ Ok x)) is (low, again)
-
--- the place of a fleet's move is one of the map, in the province that was named
-named_place : (m : Chart) (a : Place) (q : ℕ) (to : Place) → IsMap m → find (λ b. b.prov == q) (fleet_next m a) ≡ Some to → (is_fleet_place m to ≡ true) × (to.prov ≡ q)
-named_place m a q to ok h = (find_among (λ b. b.prov == q) (λ b. is_fleet_place m b) (fleet_next m a) to (ok.fleet_within a) h, eqb-true to.prov q (find_passes (λ b. b.prov == q) (fleet_next m a) to h))
-
-sailed_bare : (m : Chart) (a : Place) (q : ℕ) (to : Place) (name : List ℕ) → first_in (fleet_next m a) q ≡ Some to → nat_le (count_in (fleet_next m a) q) 1 ≡ true → (shore m to).name ≡ name
-    → sail_to m a q (written name) ≡ Ok to
-sailed_bare m a q to [] first few e = rw (first, few) refl
-sailed_bare m a q to (b ∷ bs) first few e =
-    let found : named_in m (fleet_next m a) q (b ∷ bs) ≡ Some to =
-    find_narrow (λ x. x.prov == q) (λ x. bytes_eq (shore m x).name (b ∷ bs)) (fleet_next m a) to first ((bytes_eq-Decides (shore m to).name (b ∷ bs)).1 e) in
-    rw (first, found) refl
-
-written_coast : (c : List ℕ) → is_coast (Some c) ≡ true → written c ≡ Some c
-written_coast [] h = absurd (false≢true h)
-written_coast (b ∷ bs) h = refl
-
-sailed : (m : Chart) (a : Place) (q : ℕ) (coast : Option (List ℕ)) (to : Place) → IsMap m → is_coast coast ≡ true → sail_to m a q coast ≡ Ok to
-    → (is_fleet_place m to ≡ true) × ((to.prov ≡ q) × (sail_to m a q (written (shore m to).name) ≡ Ok to))
-sailed m a q None to ok fine h =
-    let (f, e1, h1) = link (ok_or (first_in (fleet_next m a) q) OutOfReach) (λ x. coast_to m (fleet_next m a) q None x) to h in
-    let (few, same) = met (nat_le (count_in (fleet_next m a) q) 1) CoastNeeded f to h1 in
-    let first : first_in (fleet_next m a) q ≡ Some to = had (first_in (fleet_next m a) q) OutOfReach f e1 ∙ ap (λ x. Some x) same in
-    let (on, at) = named_place m a q to ok first in
-    (on, (at, sailed_bare m a q to (shore m to).name first few refl))
-sailed m a q (Some c) to ok fine h =
-    let (f, e1, h1) = link (ok_or (first_in (fleet_next m a) q) OutOfReach) (λ x. coast_to m (fleet_next m a) q (Some c) x) to h in
-    let found : named_in m (fleet_next m a) q c ≡ Some to = had (named_in m (fleet_next m a) q c) WrongCoast to h1 in
-    let passes = find_passes (λ b. (b.prov == q) && bytes_eq (shore m b).name c) (fleet_next m a) to found in
-    let on = find_among (λ b. (b.prov == q) && bytes_eq (shore m b).name c) (λ b. is_fleet_place m b) (fleet_next m a) to (ok.fleet_within a) found in
-    let (here, name) = and_parts (to.prov == q) (bytes_eq (shore m to).name c) passes in
-    let e : written (shore m to).name ≡ Some c = ap (λ x. written x) ((bytes_eq-Decides (shore m to).name c).0 name) ∙ written_coast c fine in
-    (on, (eqb-true to.prov q here, ap (λ x. sail_to m a q x) e ∙ h))
-
--- where a unit of a kind goes is told by what is printed of it
-gone : (m : Chart) (k : Kind) (a : Place) (q : ℕ) (coast : Option (List ℕ)) (to : Place) → IsMap m → is_coast coast ≡ true → q < length m.provinces → go_to m k a q coast ≡ Ok to
-    → IsPlaceOf m k to × (go_to m k a to.prov (coast_for m k to) ≡ Ok to)
-gone m Army a q coast to ok fine low h = marched m a.prov q coast to low h
-gone m Fleet a q coast to ok fine low h =
-    let (on, more) = sailed m a q coast to ok fine h in
-    let (at, again) = more in
-    (on, subst (λ (n : ℕ). sail_to m a n (written (shore m to).name) ≡ Ok to) (sym at) again)
-
-hold_law : (m : Chart) (b : Position) (power : ℕ) (u : Mention) (o : PlacedOrder) → IsMap m → IsOf m b → hold_order m b power u ≡ Ok o
-    → (d : Draft) × Says (order_text m o) d × (placed m b power d ≡ Ok o)
-hold_law m b power u o ok of h =
-    let (p, e1, h1) = link (prov_at m u.at) (λ x. ordered_unit m b power u x >>= (λ y. Ok (record { unit = y; order = Hold }))) o h in
-    let (unit, e2, h2) = link (ordered_unit m b power u p) (λ y. Ok (record { unit = y; order = Hold })) o h1 in
-    let is : record { unit = unit; order = Hold } ≡ o = cc in
-    let own = ordered m b power u p unit of e2 in
-    let at = place_of m unit.kind unit.place own.stands in
-    let says = says_hold m unit.kind unit.place (spot_fine m ok unit.kind unit.place at) in
-    let again : placed m b power (HoldDraft (mention_of m unit.kind unit.place)) ≡ Ok (record { unit = unit; order = Hold }) = rw (prov_again m ok unit.kind unit.place at, ordered_again m b power unit ok own) refl in
-    subst (λ (x : PlacedOrder). (d : Draft) × Says (order_text m x) d × (placed m b power d ≡ Ok x)) is (HoldDraft (mention_of m unit.kind unit.place), says, again)
-
--- a move, told by what is printed of it
-move_again : (m : Chart) (b : Position) (power : ℕ) (spot : Spot) (q : ℕ) (unit : Piece) (to : Place) (o : PlacedOrder) → IsMap m → is_coast spot.coast ≡ true → IsOrdered m b power unit → prov_at m spot ≡ Ok q
-    → go_to m unit.kind unit.place q spot.coast ≡ Ok to → record { unit = unit; order = Move to } ≡ o → (d : Draft) × Says (order_text m o) d × (placed m b power d ≡ Ok o)
-move_again m b power spot q unit to o ok fine own e2 e4 is =
-    let low = position_low (λ r. bytes_eq r.code spot.code) m.provinces q (had (prov_of m spot.code) UnknownProvince q e2) in
-    let (there, again) = gone m unit.kind unit.place q spot.coast to ok fine low e4 in
-    let at = place_of m unit.kind unit.place own.stands in
-    let says = says_move m unit.kind unit.place to (spot_fine m ok unit.kind unit.place at) (spot_fine m ok unit.kind to there) in
-    let whole : placed m b power (MoveDraft (mention_of m unit.kind unit.place) (spot_of m unit.kind to)) ≡ Ok (record { unit = unit; order = Move to }) =
-    rw (prov_again m ok unit.kind unit.place at, prov_again m ok unit.kind to there, ordered_again m b power unit ok own, again) refl in
-    subst (λ (x : PlacedOrder). (d : Draft) × Says (order_text m x) d × (placed m b power d ≡ Ok x)) is (MoveDraft (mention_of m unit.kind unit.place) (spot_of m unit.kind to), says, whole)
-
-move_law : (m : Chart) (b : Position) (power : ℕ) (u : Mention) (spot : Spot) (o : PlacedOrder) → IsMap m → IsOf m b → is_coast spot.coast ≡ true → move_order m b power u spot ≡ Ok o
-    → (d : Draft) × Says (order_text m o) d × (placed m b power d ≡ Ok o)
-move_law m b power u spot o ok of fine h =
-    let (p, e1, h1) = link (prov_at m u.at) (λ x. prov_at m spot >>= (λ y. ordered_unit m b power u x >>= (λ z. go_to m z.kind z.place y spot.coast >>= (λ w. Ok (record { unit = z; order = Move w }))))) o h in
-    let (q, e2, h2) = link (prov_at m spot) (λ y. ordered_unit m b power u p >>= (λ z. go_to m z.kind z.place y spot.coast >>= (λ w. Ok (record { unit = z; order = Move w })))) o h1 in
-    let (unit, e3, h3) = link (ordered_unit m b power u p) (λ z. go_to m z.kind z.place q spot.coast >>= (λ w. Ok (record { unit = z; order = Move w }))) o h2 in
-    let (to, e4, h4) = link (go_to m unit.kind unit.place q spot.coast) (λ w. Ok (record { unit = unit; order = Move w })) o h3 in
-    move_again m b power spot q unit to o ok fine (ordered m b power u p unit of e3) e2 e4 (cc)
-
-placed_law : (m : Chart) (b : Position) (power : ℕ) (d : Draft) (o : PlacedOrder) → IsMap m → IsOf m b → is_draft d ≡ true → placed m b power d ≡ Ok o
-    → (c : Draft) × Says (order_text m o) c × (placed m b power c ≡ Ok o)
-placed_law m b power (HoldDraft u) o ok of fine h = hold_law m b power u o ok of h
-placed_law m b power (MoveDraft u to) o ok of fine h =
-    let spot = (and_parts (is_spot u.at) (is_spot to) fine).1 in
-    move_law m b power u to o ok of (and_parts (are_letters 3 to.code) (is_coast to.coast) spot).1 h
-
--- the text of an order that was read is read again as the same order
-pub round_trip : (m : Chart) (b : Position) (power : ℕ) (line : List ℕ) (o : PlacedOrder) → IsMap m → IsOf m b → IsReading m b power line (Ok o) → IsReading m b power (order_text m o) (Ok o)
-round_trip m b power line o ok of (inr (_, h)) = absurd (cc)
-round_trip m b power line o ok of (inl (d, says, h)) =
-    elim (cases_Bool (is_movement b.phase.season)) [
-      | inl moving ↦
-          let (c, again, same) = placed_law m b power d o ok of says.places (rw moving at h) in
-          inl (c, again, rw moving same)
-      | inr other ↦ let none : Err NotInThisPhase ≡ Ok o = rw other at h in absurd (cc)
-    ]
+pub checks_alone : (m : Chart) (b : Position) (power : ℕ) (pending : List PlacedOrder) (d : Draft) → Hold (checks_of m b power pending d) → Hold (checks_of m b power [] d)
+checks_alone m b power pending (HoldForm u) h = h
+checks_alone m b power pending (MoveForm u to via) h = h
+checks_alone m b power pending (SupportHold u other held) h = h
+checks_alone m b power pending (SupportMove u other to) h = h
+checks_alone m b power pending (Convoy u army to) h = h
+checks_alone m b power pending (Retreat u to) h = h
+checks_alone m b power pending (Disband u) h = h
+checks_alone m b power pending (Build u) h =
+    let p : ℕ = prov_named m u.at in
+    let site_ok : List Check = site_checks m u.kind p u.at.coast in
+    let due : List Check = must (nat_lt (builds_elsewhere pending p) (builds_due m b power)) AllowanceUsed ∷ [] in (
+      h.0,
+      (
+        h.1.0,
+        (
+          h.1.1.0,
+          hold_both site_ok (must (nat_lt 0 (builds_due m b power)) AllowanceUsed ∷ []) (hold_front site_ok due h.1.1.1)
+              (none_elsewhere (builds_elsewhere pending p) (builds_due m b power) (hold_back site_ok due h.1.1.1).0, tt),
+        ),
+      ),
+    )
+checks_alone m b power pending (Remove u) h =
+    let p : ℕ = prov_named m u.at in
+    let unit : List Check = unit_checks m (unit_of m b power u) u in
+    let due : List Check = must (nat_lt (removals_elsewhere pending p) (removals_due b power)) AllowanceUsed ∷ [] in (
+      h.0,
+      (
+        h.1.0,
+        hold_both unit (must (nat_lt 0 (removals_due b power)) AllowanceUsed ∷ []) (hold_front unit due h.1.1)
+            (none_elsewhere (removals_elsewhere pending p) (removals_due b power) (hold_back unit due h.1.1).0, tt),
+      ),
+    )

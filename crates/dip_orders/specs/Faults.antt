@@ -1,6 +1,6 @@
 use Rattle.std.specs.Prelude.{ℕ, List, codes}
 use Rattle.dip_orders.specs.declared.faults.OrderFault.{OrderFault}
-use Rattle.dip_orders.specs.declared.faults.OrderFault.TheVariants.{CannotBeRead, UnknownProvince, NoUnitThere, WrongKind, OutOfReach, CoastNeeded, WrongCoast, NotInThisPhase}
+use Rattle.dip_orders.specs.declared.faults.OrderFault.TheVariants.{CannotBeRead, UnknownProvince, NoUnitThere, WrongKind, OutOfReach, CoastNeeded, WrongCoast, NoSuchUnit, SupportOutOfReach, NoConvoyThere, NotInThisPhase, NoBuildThere, AllowanceUsed, NoSuchRetreat}
 
 -- the number of a fault, as printed behind O
 abbrev pub fault_number : OrderFault → ℕ
@@ -11,7 +11,13 @@ fault_number WrongKind = 4
 fault_number OutOfReach = 5
 fault_number CoastNeeded = 6
 fault_number WrongCoast = 7
+fault_number NoSuchUnit = 8
+fault_number SupportOutOfReach = 9
+fault_number NoConvoyThere = 10
 fault_number NotInThisPhase = 11
+fault_number NoBuildThere = 12
+fault_number AllowanceUsed = 13
+fault_number NoSuchRetreat = 14
 
 -- a fault in words, as printed
 abbrev pub fault_words : OrderFault → List ℕ
@@ -22,4 +28,10 @@ fault_words WrongKind = codes "wrong kind of unit"
 fault_words OutOfReach = codes "out of reach"
 fault_words CoastNeeded = codes "coast needed"
 fault_words WrongCoast = codes "wrong coast"
+fault_words NoSuchUnit = codes "no such unit to support or convoy"
+fault_words SupportOutOfReach = codes "support out of reach"
+fault_words NoConvoyThere = codes "no convoy there"
 fault_words NotInThisPhase = codes "not in this phase"
+fault_words NoBuildThere = codes "no build there"
+fault_words AllowanceUsed = codes "allowance used"
+fault_words NoSuchRetreat = codes "no such retreat"

@@ -1,8 +1,10 @@
 pub mod Faults
-pub mod Tokens
-pub mod Scan
-pub mod Forms
-pub mod Drafts
+pub mod Retreats
+pub mod Allowances
+pub mod Checks
+pub mod Tests
 pub mod Rules
+pub mod Lawful
+pub mod Steps
 pub mod Texts
 pub mod Reading

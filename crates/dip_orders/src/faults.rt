@@ -1,25 +1,37 @@
 ghost use Rattle.std.specs.Prelude.{◌≡◌};
 ghost use Rattle.dip_orders.specs.Faults.{fault_number, fault_words};
 
-/// Why a line is no order of this board.
+/// Why a line is no order of a power on a board: the first rule that it breaks.
 #[derive(Clone, Copy, PartialEq, Eq, Debug)]
 pub enum OrderFault {
-    /// The line has none of the forms of an order.
+    /// O1: the line has none of the forms of an order.
     CannotBeRead,
-    /// A code that isn't on the map.
+    /// O2: a code that isn't on the map.
     UnknownProvince,
-    /// The power has no standing unit there.
+    /// O3: the power has no unit there: a standing one, or a dislodged one for a retreat or to disband.
     NoUnitThere,
-    /// The unit there is of the other kind.
+    /// O4: the unit there is of the other kind, or a fleet was told to go by convoy, or an army to convoy.
     WrongKind,
-    /// The unit can't go there.
+    /// O5: the unit can't go there.
     OutOfReach,
-    /// Two coasts can be reached, and none is told.
+    /// O6: a fleet may come to two coasts, and none is told.
     CoastNeeded,
-    /// A coast that the province hasn't, that can't be reached, or that an army was told.
+    /// O7: a coast that the province hasn't, that can't be reached, or that an army was told.
     WrongCoast,
-    /// The form belongs to another phase.
+    /// O8: no standing unit of that kind to support or to convoy.
+    NoSuchUnit,
+    /// O9: the supporter can't go where its support is aimed, or the supported unit can't.
+    SupportOutOfReach,
+    /// O10: no convoy leads there, or the fleet isn't at sea.
+    NoConvoyThere,
+    /// O11: the form belongs to another phase.
     NotInThisPhase,
+    /// O12: the province is no vacant home centre that the power owns, or no coast for a fleet.
+    NoBuildThere,
+    /// O13: the power may build, or has to remove, no more than what stands already.
+    AllowanceUsed,
+    /// O14: the dislodged unit may not retreat there.
+    NoSuchRetreat,
 }
 
 impl OrderFault {
@@ -35,7 +47,13 @@ impl OrderFault {
             OrderFault::OutOfReach => 5,
             OrderFault::CoastNeeded => 6,
             OrderFault::WrongCoast => 7,
+            OrderFault::NoSuchUnit => 8,
+            OrderFault::SupportOutOfReach => 9,
+            OrderFault::NoConvoyThere => 10,
             OrderFault::NotInThisPhase => 11,
+            OrderFault::NoBuildThere => 12,
+            OrderFault::AllowanceUsed => 13,
+            OrderFault::NoSuchRetreat => 14,
         }
     }
 
@@ -51,7 +69,13 @@ impl OrderFault {
             OrderFault::OutOfReach => "out of reach",
             OrderFault::CoastNeeded => "coast needed",
             OrderFault::WrongCoast => "wrong coast",
+            OrderFault::NoSuchUnit => "no such unit to support or convoy",
+            OrderFault::SupportOutOfReach => "support out of reach",
+            OrderFault::NoConvoyThere => "no convoy there",
             OrderFault::NotInThisPhase => "not in this phase",
+            OrderFault::NoBuildThere => "no build there",
+            OrderFault::AllowanceUsed => "allowance used",
+            OrderFault::NoSuchRetreat => "no such retreat",
         }
     }
 }

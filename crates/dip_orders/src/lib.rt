@@ -1,20 +1,28 @@
-//! Orders: their texts, read for a board and printed.
+//! Orders: read for a board and printed; where a dislodged unit may go, and how many units may be built.
 #![tactic(auto)]
 
-mod drafts;
+mod allowances;
+mod builds;
 mod faults;
 mod laws;
+mod moves;
+mod phases;
 mod placed;
 mod printing;
 mod reading;
-mod words;
+mod retreating;
+mod supports;
+mod units;
+mod withdrawals;
 
+pub use allowances::allowance;
+pub use dip_forms::{TokenList, tokens};
 pub use faults::OrderFault;
-pub use laws::{orders_are_read_again, printed_is_read};
-pub use placed::{Order, PlacedOrder};
+pub use laws::{orders_are_lawful, orders_are_read_again};
+pub use placed::{Order, Other, PlacedOrder};
 pub use printing::{print_order, print_unit};
 pub use reading::read_order;
-pub use words::{TokenList, tokens};
+pub use retreating::retreats;
 
 #[cfg(test)]
 mod tests;

@@ -1,9 +1,9 @@
 ghost use Rattle.std.specs.Prelude.{◌≡◌, ◌++◌, OnOk, string_bytes};
-ghost use Rattle.dip_map.specs.Charts.{shore};
-ghost use Rattle.dip_orders.specs.Texts.{behind_slash, place_text, kind_letter, action_text, order_text, unit_text};
+ghost use Rattle.dip_map.specs.Charts.{province, shore};
+ghost use Rattle.dip_orders.specs.Texts.{behind_slash, place_text, kind_letter, other_text, verb_text, via_text, action_text, order_text, unit_text};
 
-use crate::placed::{Order, PlacedOrder};
-use dip_map::{Kind, Map, Place, Unit};
+use crate::placed::{Order, Other, PlacedOrder};
+use dip_map::{Kind, Map, Place, Prov, Unit};
 use std::alloc::AllocError;
 
 fn print_coast(name: &str, out: &mut String) -> Result<(), AllocError>
@@ -44,15 +44,86 @@ pub fn print_unit(map: &Map, unit: &Unit, out: &mut String) -> Result<(), AllocE
     print_place(map, unit.kind, unit.place, out)
 }
 
+fn print_other(map: &Map, at: Other, out: &mut String) -> Result<(), AllocError>
+    ensures { OnOk result (string_bytes out.new ≡ string_bytes out.old ++ other_text map.now at) }
+{
+    out.push_str(kind_text(at.kind))?;
+    out.push_str(map.code(at.prov))
+}
+
+fn via_text(via: bool) -> &'static str
+    ensures { result.now ≡ via_text via }
+{
+    if via { " VIA" } else { "" }
+}
+
+fn print_to(map: &Map, to: Prov, out: &mut String) -> Result<(), AllocError>
+    ensures { OnOk result (string_bytes out.new ≡ string_bytes out.old ++ codes " - " ++ (province map.now to).code) }
+{
+    out.push_str(" - ")?;
+    out.push_str(map.code(to))
+}
+
+ghost use Rattle.std.specs.Prelude.{codes};
+
+fn print_move(
+    map: &Map,
+    kind: Kind,
+    to: Place,
+    via: bool,
+    out: &mut String,
+) -> Result<(), AllocError>
+    ensures { OnOk result (string_bytes out.new ≡ string_bytes out.old ++ codes " - " ++ place_text map.now kind to ++ via_text via) }
+{
+    out.push_str(" - ")?;
+    print_place(map, kind, to, out)?;
+    out.push_str(via_text(via))
+}
+
+fn print_help(map: &Map, verb: &str, at: Other, out: &mut String) -> Result<(), AllocError>
+    ensures { OnOk result (string_bytes out.new ≡ string_bytes out.old ++ verb.now ++ other_text map.now at) }
+{
+    out.push_str(verb)?;
+    print_other(map, at, out)
+}
+
+fn print_retreat(map: &Map, kind: Kind, to: Place, out: &mut String) -> Result<(), AllocError>
+    ensures { OnOk result (string_bytes out.new ≡ string_bytes out.old ++ codes " R " ++ place_text map.now kind to) }
+{
+    out.push_str(" R ")?;
+    print_place(map, kind, to, out)
+}
+
 fn print_action(map: &Map, kind: Kind, order: Order, out: &mut String) -> Result<(), AllocError>
     ensures { OnOk result (string_bytes out.new ≡ string_bytes out.old ++ action_text map.now kind order) }
 {
     match order {
         Order::Hold => out.push_str(" H"),
-        Order::Move { to } => {
-            out.push_str(" - ")?;
-            print_place(map, kind, to, out)
+        Order::Move { to, via } => print_move(map, kind, to, via, out),
+        Order::SupportHold { at } => print_help(map, " S ", at, out),
+        Order::SupportMove { at, to } => {
+            print_help(map, " S ", at, out)?;
+            print_to(map, to, out)
         }
+        Order::Convoy { at, to } => {
+            print_help(map, " C ", at, out)?;
+            print_to(map, to, out)
+        }
+        Order::Retreat { to } => print_retreat(map, kind, to, out),
+        Order::Disband => out.push_str(" D"),
+        Order::Build | Order::Remove => Ok(()),
+    }
+}
+
+fn verb_text(order: &Order) -> &'static str
+    ensures { result.now ≡ verb_text order.now }
+{
+    match order {
+        Order::Build => "BUILD ",
+        Order::Remove => "REMOVE ",
+        Order::Hold | Order::Move { .. } | Order::SupportHold { .. } => "",
+        Order::SupportMove { .. } | Order::Convoy { .. } => "",
+        Order::Retreat { .. } | Order::Disband => "",
     }
 }
 
@@ -61,6 +132,7 @@ pub fn print_order(map: &Map, placed: &PlacedOrder, out: &mut String) -> Result<
     ensures { OnOk result (string_bytes out.new ≡ string_bytes out.old ++ order_text map.now placed.now) }
 {
     let unit = placed.unit;
+    out.push_str(verb_text(&placed.order))?;
     out.push_str(kind_text(unit.kind))?;
     print_place(map, unit.kind, unit.place, out)?;
     print_action(map, unit.kind, placed.order, out)

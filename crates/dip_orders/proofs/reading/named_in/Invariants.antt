@@ -1,6 +1,0 @@
-use Rattle.std.proofs.Common.{◌≡◌, drop}
-use Rattle.dip_orders.specs.Rules.{named_in}
-use Rattle.dip_orders.proofs.reading.named_in.Given as goal
-
-abbrev pub invariant-loop-place : goal.invariant-loop-place
-invariant-loop-place l = named_in l.map (drop l.place-index l.places) l.q l.name ≡ named_in l.map l.places l.q l.name

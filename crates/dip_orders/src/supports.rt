@@ -1,0 +1,128 @@
+//! Supports and convoys.
+ghost use Rattle.std.specs.Prelude.{◌≡◌};
+ghost use Rattle.dip_map.specs.Charts.{province};
+ghost use Rattle.dip_orders.specs.Rules.{is_supportable};
+ghost use Rattle.dip_orders.specs.Steps.{carrier, convoy_order, support_hold_order, support_move_order};
+ghost use Rattle.dip_orders.specs.Tests.{is_at_sea};
+
+use crate::faults::OrderFault;
+use crate::moves::{could_come, could_move, may_convoy};
+use crate::placed::{Order, Other, PlacedOrder};
+use crate::units::{checked_other, checked_unit, has_coast, is_kind, prov_of, unit_at};
+use dip_forms::{Mention, Spot};
+use dip_map::{Board, Kind, Map, Power, Prov, Terrain, Unit};
+
+pub(crate) fn support_hold_of(
+    map: &Map,
+    board: &Board,
+    power: Power,
+    mention: Mention,
+    other: Mention,
+) -> Result<PlacedOrder, OrderFault>
+    ensures { result ≡ support_hold_order map.now board.now power mention other }
+{
+    let prov = prov_of(map, mention.at)?;
+    let q = prov_of(map, other.at)?;
+    let unit = checked_unit(map, unit_at(board, power, prov), mention, prov)?;
+    checked_other(map, board, other.kind, q, other.at.coast)?;
+    if !could_move(map, &unit, q) {
+        return Err(OrderFault::SupportOutOfReach);
+    }
+    let at = Other {
+        kind: other.kind,
+        prov: q,
+    };
+    Ok(PlacedOrder {
+        unit,
+        order: Order::SupportHold { at },
+    })
+}
+
+/// Whether a unit may support the move of another one to q.
+fn is_supportable(map: &Map, unit: &Unit, other: &Unit, q: Prov) -> bool
+    ensures { result ≡ is_supportable map.now unit.now other.now q }
+{
+    could_move(map, unit, q) && other.place.prov != unit.place.prov && could_come(map, other, q)
+}
+
+pub(crate) fn support_move_of(
+    map: &Map,
+    board: &Board,
+    power: Power,
+    mention: Mention,
+    other: Mention,
+    to: Spot,
+) -> Result<PlacedOrder, OrderFault>
+    ensures { result ≡ support_move_order map.now board.now power mention other to }
+{
+    let prov = prov_of(map, mention.at)?;
+    let from = prov_of(map, other.at)?;
+    let q = prov_of(map, to)?;
+    let unit = checked_unit(map, unit_at(board, power, prov), mention, prov)?;
+    let mover = checked_other(map, board, other.kind, from, other.at.coast)?;
+    if !is_supportable(map, &unit, &mover, q) {
+        return Err(OrderFault::SupportOutOfReach);
+    }
+    let at = Other {
+        kind: other.kind,
+        prov: from,
+    };
+    Ok(PlacedOrder {
+        unit,
+        order: Order::SupportMove { at, to: q },
+    })
+}
+
+fn is_at_sea(map: &Map, p: Prov) -> bool
+    ensures { result ≡ is_at_sea (province map.now p).terrain }
+{
+    match map.kind(p) {
+        Terrain::Sea => true,
+        Terrain::Inland | Terrain::Coast => false,
+    }
+}
+
+/// The fleet of a convoy: a fleet at sea.
+fn carrier(map: &Map, unit: &Unit) -> Result<Unit, OrderFault>
+    ensures { result ≡ carrier map.now unit.now }
+{
+    if !is_kind(unit.kind, Kind::Fleet) {
+        return Err(OrderFault::WrongKind);
+    }
+    if !is_at_sea(map, unit.place.prov) {
+        return Err(OrderFault::NoConvoyThere);
+    }
+    Ok(*unit)
+}
+
+pub(crate) fn convoy_of(
+    map: &Map,
+    board: &Board,
+    power: Power,
+    mention: Mention,
+    army: Spot,
+    to: Spot,
+) -> Result<PlacedOrder, OrderFault>
+    ensures { result ≡ convoy_order map.now board.now power mention army to }
+{
+    let prov = prov_of(map, mention.at)?;
+    let from = prov_of(map, army)?;
+    let q = prov_of(map, to)?;
+    let unit = checked_unit(map, unit_at(board, power, prov), mention, prov)?;
+    let unit = carrier(map, &unit)?;
+    checked_other(map, board, Kind::Army, from, army.coast)?;
+    if !has_coast(map, q, to.coast) {
+        return Err(OrderFault::WrongCoast);
+    }
+    if !may_convoy(map, from, q) {
+        return Err(OrderFault::NoConvoyThere);
+    }
+    let at = Other {
+        kind: Kind::Army,
+        prov: from,
+    };
+    Ok(PlacedOrder {
+        unit,
+        order: Order::Convoy { at, to: q },
+    })
+}

@@ -1,0 +1,82 @@
+//! What lines give, as text.
+use super::the_power;
+use crate::{OrderFault, PlacedOrder, print_order, read_order};
+use dip_map::{Board, Map, Power};
+use std::alloc::{AllocError, Global};
+use std::process::Abort;
+
+/// The canonical text of an order, or a fault's number and words.
+fn text_of(
+    alloc: Global,
+    map: &Map,
+    read: Result<PlacedOrder, OrderFault>,
+) -> Result<String, AllocError> {
+    match read {
+        Ok(placed) => {
+            let mut text = String::new(alloc);
+            print_order(map, &placed, &mut text)?;
+            Ok(text)
+        }
+        Err(fault) => {
+            let number = fault.number();
+            let words = fault.words();
+            format!(in alloc; "O{number} {words}")
+        }
+    }
+}
+
+/// The orders that a power gave before, each read beside those ahead of it.
+fn pending_of(
+    rt: &impl Abort,
+    alloc: Global,
+    map: &Map,
+    board: &Board,
+    power: Power,
+    given: &str,
+) -> Result<Vec<PlacedOrder>, AllocError> {
+    let mut pending = Vec::new(alloc);
+    if given.is_empty() {
+        return Ok(pending);
+    }
+    for line in given.split(", ") {
+        let read = read_order(map, board, power, pending.as_slice(), line);
+        pending.push(read.ok().expect(rt, "an order given before"))?;
+    }
+    Ok(pending)
+}
+
+/// What a line gives behind the orders given before.
+pub fn answer(
+    rt: &impl Abort,
+    alloc: Global,
+    map: &Map,
+    board: &Board,
+    who: &str,
+    line: &str,
+) -> Result<String, AllocError> {
+    let (name, given) = who.split_once(" after ").unwrap_or((who, ""));
+    let power = the_power(rt, map, name);
+    let pending = pending_of(rt, alloc, map, board, power, given)?;
+    let read = read_order(map, board, power, pending.as_slice(), line);
+    text_of(alloc, map, read)
+}
+
+/// How many cases there are, each of which is right: `france: A par H = A par H`, and with the orders that the power gave
+/// before, `france after BUILD A par, BUILD A mar: BUILD A bre = O13 allowance used`.
+pub fn check(
+    rt: &impl Abort,
+    alloc: Global,
+    map: &Map,
+    board: &Board,
+    cases: &str,
+) -> Result<u32, AllocError> {
+    let mut count = 0u32;
+    for case in cases.lines() {
+        let (who, rest) = case.split_once(": ").expect(rt, "a power");
+        let (line, wanted) = rest.split_once(" = ").expect(rt, "an answer");
+        let text = answer(rt, alloc, map, board, who, line)?;
+        assert_eq!(rt; text.as_str(), wanted, "at {case}");
+        count = count.saturating_add(1);
+    }
+    Ok(count)
+}

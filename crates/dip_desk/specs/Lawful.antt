@@ -17,7 +17,7 @@ use Rattle.dip_reports.specs.Records.{Reply}
 -- a line is an order of the power on the board, in its canonical text
 pub record IsCanonical (m : Chart) (b : Position) (power : ℕ) (line : List ℕ) : Type 0 where
   pub order : PlacedOrder
-  pub read : order_of m b power line ≡ Ok order
+  pub read : order_of m b power [] line ≡ Ok order
   pub text : line ≡ order_text m order
 
 -- a seat of a game with this board: it is of a power of the map, its standing lines are orders there, and it has neither sent nor

@@ -46,7 +46,7 @@ fn pending_of(
 }
 
 /// What a line gives behind the orders given before.
-pub fn answer(
+pub(crate) fn answer(
     rt: &impl Abort,
     alloc: Global,
     map: &Map,
@@ -63,7 +63,7 @@ pub fn answer(
 
 /// How many cases there are, each of which is right: `france: A par H = A par H`, and with the orders that the power gave
 /// before, `france after BUILD A par, BUILD A mar: BUILD A bre = O13 allowance used`.
-pub fn check(
+pub(crate) fn check(
     rt: &impl Abort,
     alloc: Global,
     map: &Map,

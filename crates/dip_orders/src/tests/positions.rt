@@ -3,7 +3,7 @@ use dip_map::{Kind, Map, Place, Power, Prov, Unit};
 use std::alloc::{AllocError, Global};
 
 /// The provinces whose codes are in the text, in the map's order.
-pub fn provs_of(alloc: Global, map: &Map, codes: &str) -> Result<Vec<Prov>, AllocError> {
+pub(crate) fn provs_of(alloc: Global, map: &Map, codes: &str) -> Result<Vec<Prov>, AllocError> {
     map.facts();
     let mut provs = Vec::new(alloc);
     for index in 0..map.provinces() {
@@ -16,7 +16,7 @@ pub fn provs_of(alloc: Global, map: &Map, codes: &str) -> Result<Vec<Prov>, Allo
 }
 
 /// A power's units of one kind in these provinces.
-pub fn units_of(
+pub(crate) fn units_of(
     alloc: Global,
     map: &Map,
     power: Power,

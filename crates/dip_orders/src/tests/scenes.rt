@@ -119,7 +119,7 @@ fn owners_in(alloc: Global, map: &Map, lists: &str) -> Result<Vec<Option<Power>>
 }
 
 /// The board of a scene in a season of 1901.
-pub fn board_of(
+pub(crate) fn board_of(
     rt: &impl Abort,
     alloc: Global,
     map: &Map,

@@ -11,7 +11,7 @@ abbrev pub capital : Kind → List ℕ
 capital Army = codes "A"
 capital Fleet = codes "F"
 
--- the tokens of each form as they are printed: places in small letters, the other words in capitals
+-- the tokens of each form as its own text has them: places in small letters, the other words in capitals
 abbrev pub printed_tokens : Draft → List (List ℕ)
 printed_tokens (Hold u) = capital u.kind ∷ spot_text u.at ∷ codes "H" ∷ []
 printed_tokens (Move u to via) = capital u.kind ∷ spot_text u.at ∷ minus ∷ spot_text to ∷ (if via then codes "VIA" ∷ [] else [])
@@ -29,6 +29,6 @@ joined [] = []
 joined (t ∷ []) = t
 joined (t ∷ u ∷ ts) = t ++ 32 ∷ joined (u ∷ ts)
 
--- the canonical text of a draft
+-- the text of a draft: all that it says, spelled in one way
 abbrev pub canonical_text : Draft → List ℕ
 canonical_text d = joined (printed_tokens d)

@@ -84,7 +84,7 @@ fn print_draft(draft: Draft, out: &mut Vec<u8>) -> Result<(), AllocError> {
     }
 }
 
-/// A line, and its canonical text.
+/// A line, and the text of what it says.
 const FORMS: &str = "A par H = A par H
 a PAR h = A par H
   A   par   H   = A par H

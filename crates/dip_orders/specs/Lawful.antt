@@ -1,4 +1,4 @@
--- What holds of each order that is read: the unit is there, and what it is to do the rules allow.
+-- What holds of each order that is read: the unit is there, or may be built, and what it is to do the rules allow.
 use Rattle.std.specs.Prelude.{◌≡◌, ℕ, ◌<◌, ◌==◌, not, Bool, true, false, List, Some, if◌then◌else◌}
 use Rattle.dip_map.specs.declared.names.Kind.{Kind}
 use Rattle.dip_map.specs.declared.names.Kind.TheVariants.{Army, Fleet}
@@ -39,7 +39,7 @@ pub record MayHold (m : Chart) (b : Position) (u : Piece) (at : Other) : Type 0 
   pub there : IsThere b at other
   pub reach : could_move m u.kind u.place at.prov ≡ true
 
--- a support of a move: the unit is there and isn't the supporter, and both could come to where it goes
+-- a support of a move: the unit is there and isn't the supporter, which could move to where the unit could come
 pub record MayAid (m : Chart) (b : Position) (u : Piece) (at : Other) (to : ℕ) : Type 0 where
   pub other : Piece
   pub there : IsThere b at other

@@ -65,7 +65,7 @@ other_checks m b k p coast =
     ∷ must (knows_coast m p coast) WrongCoast
     ∷ []
 
--- a support of a move to q by another unit: both could come there, and it isn't the supporter
+-- a support of a move to q by another unit: the supporter could move there, the other could come there, and they are two
 abbrev pub is_supportable : Chart → Piece → Piece → ℕ → Bool
 is_supportable m u other q = could_move m u.kind u.place q && (not (other.place.prov == u.place.prov) && could_come m other q)
 

@@ -1,4 +1,4 @@
--- The reading of an order line step by step, as the code goes: each function of it gives the one of its name here.
+-- The reading of an order line step by step, as the code goes: each function of it gives one of these.
 use Rattle.std.specs.Prelude.{ℕ, nat_le, nat_lt, Bool, true, false, List, length, Option, None, Some, Result, Ok, Err, is_none, if◌then◌else◌}
 use Rattle.std.specs.Option.{ok_or}
 use Rattle.dip_map.specs.declared.names.Kind.{Kind}

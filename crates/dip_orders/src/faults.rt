@@ -16,11 +16,11 @@ pub enum OrderFault {
     OutOfReach,
     /// O6: a fleet may come to two coasts, and none is told.
     CoastNeeded,
-    /// O7: a coast that the province hasn't, that can't be reached, or that an army was told.
+    /// O7: a coast that the province hasn't, that can't be reached, or that an army is to go to.
     WrongCoast,
     /// O8: no standing unit of that kind to support or to convoy.
     NoSuchUnit,
-    /// O9: the supporter can't go where its support is aimed, or the supported unit can't.
+    /// O9: the supporter can't move where its support is aimed, the supported unit can't come there, or they are one.
     SupportOutOfReach,
     /// O10: no convoy leads there, or the fleet isn't at sea.
     NoConvoyThere,
@@ -28,7 +28,7 @@ pub enum OrderFault {
     NotInThisPhase,
     /// O12: the province is no vacant home centre that the power owns, or no coast for a fleet.
     NoBuildThere,
-    /// O13: the power may build, or has to remove, no more than what stands already.
+    /// O13: the power may build, or has to remove, no more than what stands already in other provinces.
     AllowanceUsed,
     /// O14: the dislodged unit may not retreat there.
     NoSuchRetreat,

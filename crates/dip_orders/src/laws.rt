@@ -19,7 +19,7 @@ pub fn orders_are_read_again()
     forms_are_read();
 }
 
-/// An order that was read is lawful: its unit is there, and the rules allow what it is to do. A law: it does nothing.
+/// An order that was read is lawful: its unit is there, or may be built, and the rules allow what it is to do. A law: it does nothing.
 pub fn orders_are_lawful()
     ensures { (m : Chart) (b : Position) (power : ℕ) (pending : List AnOrder) (line : List ℕ) (o : AnOrder) → IsMap m → IsOf m b → order_of m b power pending line ≡ Ok o → IsLawful m b power pending o }
 {

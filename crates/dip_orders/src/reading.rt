@@ -55,7 +55,7 @@ fn in_phase(
 /// The order of a power that a line states on this board, or the first rule that it breaks, in the order of O1, O11, O2,
 /// what is wrong with the ordered unit, and what belongs to the form.
 ///
-/// `pending` holds the power's orders that stand: as many builds, or removals, as are due may stand in other provinces.
+/// `pending` holds the power's orders that stand: a build, or a removal, is read where fewer than are due stand in other provinces.
 #[tactic(auto, unfolding(crate::specs::Reading::order_of))]
 pub fn read_order(
     map: &Map,

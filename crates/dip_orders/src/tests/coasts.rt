@@ -4,7 +4,7 @@ use super::scenes::{Scene, board_of};
 use dip_map::{Map, STANDARD, Season};
 use std::test::Fail;
 
-/// Fleets beside provinces of two coasts, and one in the south of Spain.
+/// Fleets beside provinces of two coasts and on such coasts, and an army in such a province.
 const FLEETS: Scene = Scene {
     standing: "france F mao, france F gas, france F lyo, italy F spa/sc, turkey F con, turkey F aeg, turkey F bla, \
                russia F stp/nc, england F bot, austria A bul",

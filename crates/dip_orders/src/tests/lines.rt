@@ -54,7 +54,7 @@ fn case_and_spaces_are_free(rt: HostRuntime) -> Result<(), Fail> {
     Ok(())
 }
 
-/// The line cut in two, and what it is with a space there: behind the kind and the code, before and behind the line.
+/// The line cut in two, and what it is with a space there.
 const CUTS: [(&str, &str, &str); 8] = [
     ("", "A par H", "A par H"),
     ("A", " par H", "A par H"),

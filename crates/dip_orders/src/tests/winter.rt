@@ -4,7 +4,7 @@ use super::scenes::{Scene, board_of};
 use dip_map::{Map, STANDARD, Season};
 use std::test::Fail;
 
-/// Russia and France may build two units each and Italy one, though they want room or units for more; Austria has as
+/// Russia and France may build two units each and Italy one, though Russia has no centre and the others no room for more; Austria has as
 /// many units as centres, and Germany and Turkey have one too many, England two.
 const SNOW: Scene = Scene {
     standing: "russia F sev, russia A ukr, france A bur, england A mar, england F nth, italy F nap, austria A gal, \

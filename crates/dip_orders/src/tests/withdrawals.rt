@@ -4,7 +4,7 @@ use super::scenes::{Scene, board_of};
 use dip_map::{Map, STANDARD, Season};
 use std::test::Fail;
 
-/// The army in Munich was dislodged from Burgundy.
+/// The army in Munich was dislodged by one that came from Burgundy.
 const BESIDE: Scene = Scene {
     standing: "france A mun, france A ruh",
     dislodged: "germany A mun from bur",

@@ -10,3 +10,4 @@ pub mod AgainLaws
 pub mod RoundTrip
 pub mod ReadingLaws
 pub mod LawfulLaws
+pub mod StandingLaws

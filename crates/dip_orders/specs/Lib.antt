@@ -8,3 +8,4 @@ pub mod Lawful
 pub mod Steps
 pub mod Texts
 pub mod Reading
+pub mod Standing

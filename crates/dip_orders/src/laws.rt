@@ -6,6 +6,8 @@ ghost use Rattle.dip_orders.specs.Lawful.{IsLawful};
 ghost use Rattle.dip_orders.specs.Reading.{order_of};
 ghost use Rattle.dip_orders.specs.Texts.{order_text};
 ghost use Rattle.dip_orders.specs.declared.placed.PlacedOrder.{PlacedOrder as AnOrder};
+ghost use Rattle.std.specs.Prelude.{Contains, true};
+ghost use Rattle.dip_orders.specs.Standing.{IsOnly, is_in_force, are_in_force, standing_orders, units_of};
 
 use dip_forms::forms_are_read;
 
@@ -25,3 +27,11 @@ pub fn orders_are_lawful()
 {
     forms_are_read();
 }
+
+/// The orders that stand are those of the units of the board, one for each, and each is in force. An order in force of a unit of the board
+/// stands where no other is that unit's. A law: it does nothing.
+pub fn each_unit_has_one_order()
+    ensures units { (b : Position) (pending : List AnOrder) → units_of (standing_orders b pending) ≡ b.units }
+    ensures in_force { (b : Position) (pending : List AnOrder) → are_in_force (standing_orders b pending) ≡ true }
+    ensures kept { (b : Position) (pending : List AnOrder) (o : AnOrder) → Contains pending o → Contains b.units o.unit → is_in_force o ≡ true → IsOnly o pending → Contains (standing_orders b pending) o }
+{}

@@ -11,6 +11,7 @@ mod placed;
 mod printing;
 mod reading;
 mod retreating;
+mod standing;
 mod supports;
 mod units;
 mod withdrawals;
@@ -18,11 +19,12 @@ mod withdrawals;
 pub use allowances::allowance;
 pub use dip_forms::{TokenList, tokens};
 pub use faults::OrderFault;
-pub use laws::{orders_are_lawful, orders_are_read_again};
+pub use laws::{each_unit_has_one_order, orders_are_lawful, orders_are_read_again};
 pub use placed::{Order, Other, PlacedOrder};
 pub use printing::{print_order, print_unit};
 pub use reading::read_order;
 pub use retreating::retreats;
+pub use standing::Orders;
 
 #[cfg(test)]
 mod tests;

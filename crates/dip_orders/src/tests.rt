@@ -14,6 +14,7 @@ mod positions;
 mod printing;
 mod retreats;
 mod scenes;
+mod standing;
 mod supporting;
 mod winter;
 mod withdrawals;

@@ -26,7 +26,7 @@ fn text_of(
 }
 
 /// The orders that a power gave before, each read beside those ahead of it.
-fn pending_of(
+pub(crate) fn pending_of(
     rt: &impl Abort,
     alloc: Global,
     map: &Map,

@@ -1,0 +1,96 @@
+//! The orders that stand when a movement is decided.
+use super::answers::pending_of;
+use super::scenes::{Scene, board_of};
+use super::the_power;
+use crate::{Order, Orders, PlacedOrder, print_order};
+use dip_map::{Board, Map, Place, STANDARD, Season};
+use std::alloc::{AllocError, Global};
+use std::test::Fail;
+
+/// The board that orders are read on, and the one on which they stand, where an army is gone.
+const BEFORE: Scene = Scene {
+    standing: "france A par, france A mar, france A gas",
+    dislodged: "",
+    standoff: "",
+    owned: "",
+};
+
+const BEHIND: Scene = Scene {
+    standing: "france A par, france A mar",
+    dislodged: "",
+    standoff: "",
+    owned: "",
+};
+
+/// The orders given, and those that stand.
+const CASES: [(&str, &str); 5] = [
+    ("", "A par H, A mar H"),
+    ("A mar - spa", "A par H, A mar - spa"),
+    (
+        "A mar S A par - bur, A par - bur",
+        "A par - bur, A mar S A par - bur",
+    ),
+    ("A par - bur, A par - bre", "A par - bur, A mar H"),
+    ("A gas - bre, A par - bur", "A par - bur, A mar H"),
+];
+
+/// The orders that stand on a board.
+fn standing_text(
+    alloc: Global,
+    map: &Map,
+    board: &Board,
+    pending: &[PlacedOrder],
+) -> Result<String, AllocError> {
+    let orders = Orders::standing(alloc, board, pending)?;
+    let mut text = String::new(alloc);
+    for placed in orders.as_slice() {
+        if !text.is_empty() {
+            text.push_str(", ")?;
+        }
+        print_order(map, placed, &mut text)?;
+    }
+    Ok(text)
+}
+
+#[test]
+fn each_unit_has_one_order(rt: HostRuntime) -> Result<(), Fail> {
+    let alloc = rt.alloc();
+    let map = Map::from_toml(alloc, STANDARD)?;
+    let france = the_power(&rt, &map, "france");
+    let before = board_of(&rt, alloc, &map, Season::SpringMoves, BEFORE)?;
+    let behind = board_of(&rt, alloc, &map, Season::SpringMoves, BEHIND)?;
+    for (given, wanted) in CASES {
+        let pending = pending_of(&rt, alloc, &map, &before, france, given)?;
+        let text = standing_text(alloc, &map, &behind, pending.as_slice())?;
+        assert_eq!(rt; text.as_str(), wanted, "at {given}");
+    }
+    Ok(())
+}
+
+/// One of six orders that no phase of movement has, of a unit at that place.
+fn order_out_of_force(number: u8, to: Place) -> Order {
+    match number {
+        0 => Order::Move { to, via: false },
+        1 => Order::Move { to, via: true },
+        2 => Order::Retreat { to },
+        3 => Order::Disband,
+        4 => Order::Build,
+        _ => Order::Remove,
+    }
+}
+
+#[test]
+fn what_is_not_in_force_is_left_out(rt: HostRuntime) -> Result<(), Fail> {
+    let alloc = rt.alloc();
+    let map = Map::from_toml(alloc, STANDARD)?;
+    let board = board_of(&rt, alloc, &map, Season::SpringMoves, BEHIND)?;
+    for unit in board.units() {
+        for number in 0u8..6 {
+            let order = order_out_of_force(number, unit.place);
+            let pending = [PlacedOrder { unit: *unit, order }];
+            let text = standing_text(alloc, &map, &board, &pending)?;
+            assert_eq!(rt; text.as_str(), "A par H, A mar H", "at {number}");
+        }
+    }
+    Ok(())
+}

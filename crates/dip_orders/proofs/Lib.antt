@@ -11,3 +11,4 @@ pub mod RoundTrip
 pub mod ReadingLaws
 pub mod LawfulLaws
 pub mod StandingLaws
+pub mod PrintLaws

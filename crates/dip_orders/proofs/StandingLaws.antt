@@ -1,16 +1,14 @@
 -- The orders that stand: each in force, one for each unit, and those given among them.
-use Rattle.std.proofs.Common.{◌≡◌, ℕ, ◌<◌, ◌==◌, ◌&&◌, ◌⊎◌, Bool, true, false, zero, suc, length, get_or, List, [], ◌∷◌, refl, sym, ap, subst, inl, inr, arith, not, Option, Some, None, find, map}
+use Rattle.std.proofs.Common.{◌≡◌, ℕ, ◌<◌, ◌==◌, ◌&&◌, ◌⊎◌, Bool, true, false, zero, suc, length, get_or, List, [], ◌∷◌, refl, ap, subst, inl, inr, arith, Option, Some, None, find, map}
 use Rattle.std.specs.Prelude.{Contains, option_map}
 use Rattle.std.specs.Option.{unwrap_or}
 use Rattle.std.proofs.lemmas.Bool.{cases_Bool, and_parts, and_from, eqb-true}
 use Rattle.dip_map.specs.declared.names.Kind.{Kind}
 use Rattle.dip_map.specs.declared.names.Kind.TheVariants.{Army, Fleet}
-use Rattle.dip_map.specs.declared.names.Place.{Place}
 use Rattle.dip_map.specs.declared.names.Unit.{Unit as Piece}
 use Rattle.dip_map.specs.Boards.{Position}
 use Rattle.dip_orders.specs.Tests.{is_kind}
 use Rattle.dip_orders.specs.Standing.{is_done_from, is_in_force, are_in_force, is_same_unit, found_order, order_among, standing_orders, units_of, IsOnly}
-use Rattle.dip_orders.specs.declared.placed.Order.{Order}
 use Rattle.dip_orders.specs.declared.placed.Order.TheVariants.{Hold}
 use Rattle.dip_orders.specs.declared.placed.PlacedOrder.{PlacedOrder}
 use Rattle.dip_orders.proofs.FindLaws.{find_passes}

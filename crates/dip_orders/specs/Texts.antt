@@ -1,4 +1,4 @@
-use Rattle.std.specs.Prelude.{ℕ, Bool, List, [], ◌∷◌, ◌++◌, codes, if◌then◌else◌}
+use Rattle.std.specs.Prelude.{◌≡◌, ℕ, Bool, List, [], ◌∷◌, ◌++◌, codes, if◌then◌else◌}
 use Rattle.dip_map.specs.declared.names.Kind.{Kind}
 use Rattle.dip_map.specs.declared.names.Kind.TheVariants.{Army, Fleet}
 use Rattle.dip_map.specs.declared.names.Place.{Place}
@@ -63,3 +63,8 @@ action_text m kind Remove = []
 -- the canonical text of an order
 abbrev pub order_text : Chart → PlacedOrder → List ℕ
 order_text m o = verb_text o.order ++ (kind_letter o.unit.kind ++ (place_text m o.unit.kind o.unit.place ++ action_text m o.unit.kind o.order))
+
+-- a text that stood is as it was, and more may stand behind it
+pub record Extends (old new : List ℕ) : Type 0 where
+  pub rest : List ℕ
+  pub same : new ≡ old ++ rest

@@ -1,13 +1,14 @@
-ghost use Rattle.std.specs.Prelude.{◌≡◌, ◌++◌, OnOk, string_bytes};
+ghost use Rattle.std.specs.Prelude.{◌≡◌, ◌++◌, OnOk, OnErr, codes, string_bytes};
 ghost use Rattle.dip_map.specs.Charts.{province, shore};
-ghost use Rattle.dip_orders.specs.Texts.{behind_slash, place_text, kind_letter, other_text, verb_text, via_text, action_text, order_text, unit_text};
+ghost use Rattle.dip_orders.specs.Texts.{behind_slash, place_text, kind_letter, other_text, verb_text, via_text, action_text, order_text, unit_text, Extends};
 
 use crate::placed::{Order, Other, PlacedOrder};
 use dip_map::{Kind, Map, Place, Prov, Unit};
 use std::alloc::AllocError;
 
 fn print_coast(name: &str, out: &mut String) -> Result<(), AllocError>
-    ensures { OnOk result (string_bytes out.new ≡ string_bytes out.old ++ behind_slash name.now) }
+    ensures text { OnOk result (string_bytes out.new ≡ string_bytes out.old ++ behind_slash name.now) }
+    ensures more { Extends (string_bytes out.old) (string_bytes out.new) }
 {
     if name.len() == 0 {
         return Ok(());
@@ -17,7 +18,8 @@ fn print_coast(name: &str, out: &mut String) -> Result<(), AllocError>
 }
 
 fn print_place(map: &Map, kind: Kind, place: Place, out: &mut String) -> Result<(), AllocError>
-    ensures { OnOk result (string_bytes out.new ≡ string_bytes out.old ++ place_text map.now kind place) }
+    ensures text { OnOk result (string_bytes out.new ≡ string_bytes out.old ++ place_text map.now kind place) }
+    ensures more { Extends (string_bytes out.old) (string_bytes out.new) }
 {
     out.push_str(map.code(place.prov))?;
     match kind {
@@ -35,17 +37,31 @@ fn kind_text(kind: Kind) -> &'static str
     }
 }
 
-/// Appends a unit: its kind, its province and, for a fleet, the coast.
 #[tactic(auto, unfolding(crate::specs::Texts::unit_text))]
-pub fn print_unit(map: &Map, unit: &Unit, out: &mut String) -> Result<(), AllocError>
-    ensures { OnOk result (string_bytes out.new ≡ string_bytes out.old ++ unit_text map.now unit.now) }
+fn append_unit(map: &Map, unit: &Unit, out: &mut String) -> Result<(), AllocError>
+    ensures text { OnOk result (string_bytes out.new ≡ string_bytes out.old ++ unit_text map.now unit.now) }
+    ensures more { Extends (string_bytes out.old) (string_bytes out.new) }
 {
     out.push_str(kind_text(unit.kind))?;
     print_place(map, unit.kind, unit.place, out)
 }
 
+/// Appends a unit: its kind, its province and, for a fleet, the coast. Where memory is short nothing is appended.
+pub fn print_unit(map: &Map, unit: &Unit, out: &mut String) -> Result<(), AllocError>
+    ensures text { OnOk result (string_bytes out.new ≡ string_bytes out.old ++ unit_text map.now unit.now) }
+    ensures unchanged { OnErr result (string_bytes out.new ≡ string_bytes out.old) }
+{
+    let before = out.len();
+    let printed = append_unit(map, unit, out);
+    if printed.is_err() {
+        out.truncate(before);
+    }
+    printed
+}
+
 fn print_other(map: &Map, at: Other, out: &mut String) -> Result<(), AllocError>
-    ensures { OnOk result (string_bytes out.new ≡ string_bytes out.old ++ other_text map.now at) }
+    ensures text { OnOk result (string_bytes out.new ≡ string_bytes out.old ++ other_text map.now at) }
+    ensures more { Extends (string_bytes out.old) (string_bytes out.new) }
 {
     out.push_str(kind_text(at.kind))?;
     out.push_str(map.code(at.prov))
@@ -58,13 +74,12 @@ fn via_text(via: bool) -> &'static str
 }
 
 fn print_to(map: &Map, to: Prov, out: &mut String) -> Result<(), AllocError>
-    ensures { OnOk result (string_bytes out.new ≡ string_bytes out.old ++ codes " - " ++ (province map.now to).code) }
+    ensures text { OnOk result (string_bytes out.new ≡ string_bytes out.old ++ codes " - " ++ (province map.now to).code) }
+    ensures more { Extends (string_bytes out.old) (string_bytes out.new) }
 {
     out.push_str(" - ")?;
     out.push_str(map.code(to))
 }
-
-ghost use Rattle.std.specs.Prelude.{codes};
 
 fn print_move(
     map: &Map,
@@ -73,7 +88,8 @@ fn print_move(
     via: bool,
     out: &mut String,
 ) -> Result<(), AllocError>
-    ensures { OnOk result (string_bytes out.new ≡ string_bytes out.old ++ codes " - " ++ place_text map.now kind to ++ via_text via) }
+    ensures text { OnOk result (string_bytes out.new ≡ string_bytes out.old ++ codes " - " ++ place_text map.now kind to ++ via_text via) }
+    ensures more { Extends (string_bytes out.old) (string_bytes out.new) }
 {
     out.push_str(" - ")?;
     print_place(map, kind, to, out)?;
@@ -81,21 +97,24 @@ fn print_move(
 }
 
 fn print_help(map: &Map, verb: &str, at: Other, out: &mut String) -> Result<(), AllocError>
-    ensures { OnOk result (string_bytes out.new ≡ string_bytes out.old ++ verb.now ++ other_text map.now at) }
+    ensures text { OnOk result (string_bytes out.new ≡ string_bytes out.old ++ verb.now ++ other_text map.now at) }
+    ensures more { Extends (string_bytes out.old) (string_bytes out.new) }
 {
     out.push_str(verb)?;
     print_other(map, at, out)
 }
 
 fn print_retreat(map: &Map, kind: Kind, to: Place, out: &mut String) -> Result<(), AllocError>
-    ensures { OnOk result (string_bytes out.new ≡ string_bytes out.old ++ codes " R " ++ place_text map.now kind to) }
+    ensures text { OnOk result (string_bytes out.new ≡ string_bytes out.old ++ codes " R " ++ place_text map.now kind to) }
+    ensures more { Extends (string_bytes out.old) (string_bytes out.new) }
 {
     out.push_str(" R ")?;
     print_place(map, kind, to, out)
 }
 
 fn print_action(map: &Map, kind: Kind, order: Order, out: &mut String) -> Result<(), AllocError>
-    ensures { OnOk result (string_bytes out.new ≡ string_bytes out.old ++ action_text map.now kind order) }
+    ensures text { OnOk result (string_bytes out.new ≡ string_bytes out.old ++ action_text map.now kind order) }
+    ensures more { Extends (string_bytes out.old) (string_bytes out.new) }
 {
     match order {
         Order::Hold => out.push_str(" H"),
@@ -127,13 +146,26 @@ fn verb_text(order: &Order) -> &'static str
     }
 }
 
-/// Appends the canonical text of an order.
-pub fn print_order(map: &Map, placed: &PlacedOrder, out: &mut String) -> Result<(), AllocError>
-    ensures { OnOk result (string_bytes out.new ≡ string_bytes out.old ++ order_text map.now placed.now) }
+fn append_order(map: &Map, placed: &PlacedOrder, out: &mut String) -> Result<(), AllocError>
+    ensures text { OnOk result (string_bytes out.new ≡ string_bytes out.old ++ order_text map.now placed.now) }
+    ensures more { Extends (string_bytes out.old) (string_bytes out.new) }
 {
     let unit = placed.unit;
     out.push_str(verb_text(&placed.order))?;
     out.push_str(kind_text(unit.kind))?;
     print_place(map, unit.kind, unit.place, out)?;
     print_action(map, unit.kind, placed.order, out)
+}
+
+/// Appends the canonical text of an order. Where memory is short nothing is appended.
+pub fn print_order(map: &Map, placed: &PlacedOrder, out: &mut String) -> Result<(), AllocError>
+    ensures text { OnOk result (string_bytes out.new ≡ string_bytes out.old ++ order_text map.now placed.now) }
+    ensures unchanged { OnErr result (string_bytes out.new ≡ string_bytes out.old) }
+{
+    let before = out.len();
+    let printed = append_order(map, placed, out);
+    if printed.is_err() {
+        out.truncate(before);
+    }
+    printed
 }

@@ -1,0 +1,16 @@
+pub mod OneAnswer
+pub mod CornerLaws
+pub mod Rises
+pub mod FromEquations
+pub mod Progress
+pub mod Counting
+pub mod Following
+pub mod FromSteps
+pub mod TableLaws
+pub mod RingLaws
+pub mod Continuing
+pub mod ChainLaws
+pub mod Giving
+pub mod Rounds
+pub mod Situated
+pub mod ResultLaws

@@ -1,0 +1,261 @@
+-- The lists of a resolution, and what they say together.
+use Rattle.std.proofs.Common.{◌≡◌, ℕ, ◌≤◌, ◌<◌, ◌+◌, List, [], ◌∷◌, ◌++◌, length, drop, All, refl, sym, subst, ap, ◌∙◌, append_assoc, append-nil, inl, inr, suc, arith}
+use Rattle.std.specs.Prelude.{◌==◌, nat_lt, Bool, true, false, ◌&&◌, ◌||◌, filter, None, Some}
+use Rattle.std.specs.List.{list_any, list_all}
+use Rattle.std.proofs.lemmas.Bool.{cases_Bool, both_ways, cases_lt, or_left, or_right, and_parts}
+use Rattle.std.proofs.lemmas.Bool.Decides.{nat_tests}
+use Rattle.std.proofs.lemmas.List.{drop_more}
+use Rattle.std.proofs.Math.Path.{fun_ext}
+use mathlib.Core.Logic.{◌⊎◌}
+use Rattle.std.specs.List.{AllByRecursion}
+use Rattle.std.proofs.lemmas.List.Elements.{All-from_recursion, recursion_from_All}
+use Rattle.std.proofs.lemmas.Bool.{ltb-true}
+use Rattle.dip_map.specs.declared.names.Kind.{Kind}
+use Rattle.dip_map.specs.declared.names.Kind.TheVariants.{Army, Fleet}
+use Rattle.dip_map.specs.declared.names.Place.{Place}
+use Rattle.dip_map.specs.Boards.{Position, IsOf}
+use Rattle.dip_map.specs.Charts.{Chart, Province, no_province, may_stand, is_unit}
+use Rattle.dip_orders.specs.Standing.{units_of, are_in_force}
+use Rattle.dip_decide.specs.declared.decisions.Resolution.{Resolution}
+use Rattle.dip_decide.specs.Deciding as Deciding
+use Rattle.dip_decide.specs.Deciding.Step.{Forced as Forces, Circle as Circles, Knot as Knots}
+use Rattle.dip_decide.specs.Matching.{order_at, provinces_of, supports_in, situation}
+use Rattle.dip_decide.proofs.TableLaws.{none_behind}
+use Rattle.dip_decide.proofs.FromSteps.{known_unbroken, satisfied, knot_open}
+use Rattle.dip_decide.proofs.Continuing.{give_grows}
+use Rattle.dip_decide.proofs.Counting.{open_among, fewer}
+use Rattle.dip_decide.proofs.OneAnswer.{open_one, same_self}
+use Rattle.dip_decide.proofs.Progress.{listed_decision, arrives}
+use Rattle.dip_decide.proofs.Rises.{count_le}
+use Rattle.dip_decide.proofs.Rounds.{knotted}
+use Rattle.dip_decide.proofs.Situated.{situated}
+use Rattle.dip_orders.specs.declared.placed.PlacedOrder.{PlacedOrder}
+use Rattle.dip_decide.specs.declared.decisions.Decision.{Decision}
+use Rattle.dip_decide.specs.declared.decisions.Decision.TheVariants.{Move, Path, Support}
+use Rattle.dip_decide.specs.declared.decisions.Step as Written
+use Rattle.dip_decide.specs.declared.decisions.Step.TheVariants.{Forced, Circle, Knot}
+use Rattle.dip_decide.specs.Deciding.{Known, Assignment, is_among, is_broken, IsCompletion, Explains, IsCircle, IsKnot, give}
+use Rattle.dip_decide.specs.Movement.{Situation, IsSituation, is_listed, is_decided, at_first, rule, mentions, Satisfies}
+use Rattle.dip_decide.specs.Results.{numbers_from, is_true, breaks, are_ascending, AreInOrder, AreExplained, values_in, broken_in, decided_in, IsListing}
+use Rattle.dip_decide.specs.Steps.{paths_of, decisions, is_unknown, steps_of, IsStarted, Advances, IsComplete}
+use Rattle.dip_decide.proofs.ChainLaws.{listed_kept}
+use Rattle.dip_decide.proofs.Giving.{among_paths}
+
+pub numbers_step : (ps : List Province) (front all : List ℕ) (i : ℕ) → i < length ps → front ++ numbers_from i (drop i ps) ≡ all → (front ++ i ∷ []) ++ numbers_from (i + 1) (drop (i + 1) ps) ≡ all
+numbers_step ps front all i h before =
+    let cut = drop_more ps i no_province h in
+    append_assoc front (i ∷ []) (numbers_from (i + 1) (drop (i + 1) ps)) ∙ rw cut at before
+
+pub broken_any : (steps : List Written.Step) (p : ℕ) → is_broken (steps_of steps) (Path p) ≡ list_any (λ s. breaks s p) steps
+broken_any [] p = refl
+broken_any (Forced d ∷ steps) p = broken_any steps p
+broken_any (Circle ps ∷ steps) p = broken_any steps p
+broken_any (Knot ps ∷ steps) p = rw (among_paths ps.items p, broken_any steps p) refl
+
+-- a number is counted where it is none before the first, and there are so many behind it
+listed_number : (ps : List Province) (i p : ℕ) → i ≤ p → p < i + length ps → is_listed (numbers_from i ps) p ≡ true
+listed_number [] i p h l = absurd (omega arith)
+listed_number (x ∷ ps) i p h l = go (cases_Bool (i == p)) (λ g. listed_number ps (i + 1) p g (omega arith))
+  where
+    go : ((i == p) ≡ true) ⊎ ((i == p) ≡ false) → (i + 1 ≤ p → is_listed (numbers_from (i + 1) ps) p ≡ true) → (i == p || is_listed (numbers_from (i + 1) ps) p) ≡ true
+    go (inl e) _ = or_left _ _ e
+    go (inr e) f = or_right (i == p) _ (f (grind (arith, nat_tests)))
+
+-- the list of those of which something holds says it of each, where it holds of none behind the provinces
+pub listed_all : (t : ℕ → Bool) (ps : List Province) (p : ℕ) → (length ps ≤ p → t p ≡ false) → is_listed (filter t (numbers_from 0 ps)) p ≡ t p
+listed_all t ps p h = listed_kept t (numbers_from 0 ps) p ∙ go (cases_lt p (length ps))
+  where
+    right : (b : Bool) → (b && true) ≡ b
+    right true = refl
+    right false = refl
+
+    go : (p < length ps) ⊎ (length ps ≤ p) → (t p && is_listed (numbers_from 0 ps) p) ≡ t p
+    go (inl l) = rw (listed_number ps 0 p (omega arith) (omega arith)) (right (t p))
+    go (inr l) = rw (h l) refl
+
+-- the numbers ascend, and so do those that are kept
+ascending_above : (t : ℕ → Bool) (ps : List Province) (i j : ℕ) → j < i → list_all (λ q. nat_lt j q) (filter t (numbers_from i ps)) ≡ true
+ascending_above t [] i j h = refl
+ascending_above t (x ∷ ps) i j h = go (cases_Bool (t i)) (ascending_above t ps (i + 1) j (omega arith))
+  where
+    go : (t i ≡ true) ⊎ (t i ≡ false) → list_all (λ q. nat_lt j q) (filter t (numbers_from (i + 1) ps)) ≡ true → list_all (λ q. nat_lt j q) (filter t (numbers_from i (x ∷ ps))) ≡ true
+    go (inl e) r = let l : nat_lt j i ≡ true = grind (arith, nat_tests) in rw (e, l, r) refl
+    go (inr e) r = rw e r
+
+pub ascending : (t : ℕ → Bool) (ps : List Province) (i : ℕ) → are_ascending (filter t (numbers_from i ps)) ≡ true
+ascending t [] i = refl
+ascending t (x ∷ ps) i = go (cases_Bool (t i)) (ascending t ps (i + 1))
+  where
+    go : (t i ≡ true) ⊎ (t i ≡ false) → are_ascending (filter t (numbers_from (i + 1) ps)) ≡ true → are_ascending (filter t (numbers_from i (x ∷ ps))) ≡ true
+    go (inl e) r = rw (e, ascending_above t ps (i + 1) i (omega arith), r) refl
+    go (inr e) r = rw e r
+
+-- the values that are known in the end
+abbrev pub known_values : Known → Assignment
+known_values k d = is_true (k d)
+
+abbrev pub IsBehind : Situation → List Province → Type 0
+IsBehind s ps = (p : ℕ) → length ps ≤ p → (is_decided s (Move p) ≡ false) × (is_decided s (Path p) ≡ false) × (is_decided s (Support p) ≡ false)
+
+known_right : (k : Known) → IsCompletion k (known_values k)
+known_right k d v h = rw h refl
+
+known_explained : (s : Situation) (steps : List Deciding.Step) (k : Known) → IsComplete s steps k → AreExplained s steps (known_values k)
+known_explained s steps k c = rw (append-nil steps) at (c.explained.on (known_values k) [] (known_right k) (λ d. let v = c.all d in v.1 ∙ ap Some (sym (rw v.1 refl))))
+
+module _ (s : Situation) (i : IsSituation s) (ps : List Province) (behind : IsBehind s ps) (steps : List Written.Step) (k : Known) (c : IsComplete s (steps_of steps) k) (r : Resolution) (l : IsListing steps k ps r) where
+  first_known : (d : Decision) → is_decided s d ≡ false → k d ≡ Some false
+  first_known d h = c.explained.grows d false (rw h refl)
+
+  values_known : values_in r ≡ known_values k
+  values_known = fun_ext go
+    where
+      go : (d : Decision) → values_in r d ≡ is_true (k d)
+      go (Move p) = rw l.moves (listed_all (λ q. is_true (k (Move q))) ps p (λ h. rw (first_known (Move p) (behind p h).0) refl))
+      go (Path p) = rw l.paths (listed_all (λ q. is_true (k (Path q))) ps p (λ h. rw (first_known (Path p) (behind p h).1) refl))
+      go (Support p) = rw l.supports (listed_all (λ q. is_true (k (Support q))) ps p (λ h. rw (first_known (Support p) (behind p h).2) refl))
+
+  pub explained : AreExplained s (steps_of steps) (values_in r)
+  explained = rw values_known (known_explained s (steps_of steps) k c)
+
+  no_move : (more : List Written.Step) (p : ℕ) → is_broken (steps_of more) (Move p) ≡ false
+  no_move [] p = refl
+  no_move (Forced d ∷ more) p = no_move more p
+  no_move (Circle qs ∷ more) p = no_move more p
+  no_move (Knot qs ∷ more) p = rw (apart qs.items, no_move more p) refl
+    where
+      apart : (qs : List ℕ) → is_among (Move p) (paths_of qs) ≡ false
+      apart [] = refl
+      apart (q ∷ qs) = apart qs
+
+  no_support : (more : List Written.Step) (p : ℕ) → is_broken (steps_of more) (Support p) ≡ false
+  no_support [] p = refl
+  no_support (Forced d ∷ more) p = no_support more p
+  no_support (Circle qs ∷ more) p = no_support more p
+  no_support (Knot qs ∷ more) p = rw (apart qs.items, no_support more p) refl
+    where
+      apart : (qs : List ℕ) → is_among (Support p) (paths_of qs) ≡ false
+      apart [] = refl
+      apart (q ∷ qs) = apart qs
+
+  pub broken : (d : Decision) → broken_in r d ≡ is_broken (steps_of steps) d
+  broken (Move p) = sym (no_move steps p)
+  broken (Support p) = sym (no_support steps p)
+  broken (Path p) =
+      rw l.broken (listed_all (λ q. list_any (λ x. breaks x q) steps) ps p (λ h. sym (broken_any steps p) ∙ known_unbroken (rule s) (mentions s) (values_in r) (Path p) false (steps_of steps) (at_first s) explained (rw (behind p h).1 refl))
+      ∙ sym (broken_any steps p))
+
+  pub equations : Satisfies s (broken_in r) (values_in r)
+  equations d = rw (broken d) (satisfied s (steps_of steps) (values_in r) explained d)
+
+  pub ordered : AreInOrder r
+  ordered = (rw l.moves (ascending (λ q. is_true (k (Move q))) ps 0), rw l.paths (ascending (λ q. is_true (k (Path q))) ps 0), rw l.supports (ascending (λ q. is_true (k (Support q))) ps 0), rw l.broken (ascending (λ q. list_any (λ x. breaks x q) steps) ps 0))
+
+-- units of a map stand in its provinces
+
+place_within : (m : Chart) (kind : Kind) (a : Place) → may_stand m kind a ≡ true → a.prov < length m.provinces
+place_within m Army a h = ltb-true _ _ (and_parts _ _ h).0
+place_within m Fleet a h = ltb-true _ _ (and_parts _ _ h).0
+
+orders_within : (m : Chart) (orders : List PlacedOrder) → AllByRecursion (λ u. is_unit m u ≡ true) (units_of orders) → AllByRecursion (λ o. o.unit.place.prov < length m.provinces) orders
+orders_within m [] a = tt
+orders_within m (o ∷ orders) a = (place_within m o.unit.kind o.unit.place (and_parts _ _ a.0).1, orders_within m orders a.1)
+
+pub within : (m : Chart) (b : Position) (orders : List PlacedOrder) → IsOf m b → units_of orders ≡ b.units → All (λ o. o.unit.place.prov < length m.provinces) orders
+within m b orders o e = All-from_recursion _ _ (orders_within m orders (recursion_from_All _ _ (rw (← e) at o.units)))
+
+none_supported : (m : Chart) (orders : List PlacedOrder) (ps : List ℕ) → list_any (λ p. supports_in (order_at orders) None p) ps ≡ false
+none_supported m orders [] = refl
+none_supported m orders (p ∷ ps) = none_supported m orders ps
+
+pub behind_all : (m : Chart) (orders : List PlacedOrder) → All (λ o. o.unit.place.prov < length m.provinces) orders → IsBehind (situation m orders) m.provinces
+behind_all m orders a p h =
+    let n : order_at orders p ≡ None = none_behind orders (length m.provinces) p (recursion_from_All _ _ a) h in
+    (rw n refl, rw n refl, rw n (none_supported m orders (provinces_of orders)))
+
+-- as many steps as decisions at most
+
+advances : (s : Situation) → IsSituation s → (k : Known) → IsStarted s k → (ds : List Decision) (b : Bool) (d : Decision) → ((e : Decision) → is_among e ds ≡ true → k e ≡ None) → is_among d ds ≡ true → Advances (decisions s.places) k (give k ds b)
+advances s i k z ds b d o h = record {
+  grows = give_grows k ds b o;
+  one = d;
+  inside = listed_decision s i k z d (o d h);
+  before = o d h;
+  value = b;
+  after = rw h refl;
+}
+
+started_on : (s : Situation) (k : Known) (ds : List Decision) (b : Bool) → IsStarted s k → ((e : Decision) → is_among e ds ≡ true → k e ≡ None) → IsStarted s (give k ds b)
+started_on s k ds b z o d h = give_grows k ds b o d false (z d h)
+
+circle_some : (s : Situation) (k : Known) (ds : List Decision) → IsCircle (rule s) k ds → (d : Decision) × (is_among d ds ≡ true)
+circle_some s k [] c = absurd c.round
+circle_some s k (d ∷ ds) c = (d, or_left _ _ (same_self d))
+
+knot_some : (s : Situation) → IsSituation s → (k : Known) → IsStarted s k → (ds : List Decision) → IsKnot (rule s) (mentions s) k ds → (d : Decision) × (is_among d ds ≡ true)
+knot_some s i k z ds n =
+    let a = arrives s i k z n.stuck.none_forced n.stuck.no_circle n.stuck.some n.stuck.is_open in
+    (a.path, (n.exact a.path).1 (knotted s i k z n.stuck.none_forced n.stuck.no_circle a.path a.is_open))
+
+few_from : (s : Situation) → IsSituation s → (a : Assignment) (steps : List Deciding.Step) (k : Known) → IsStarted s k → Explains (rule s) (mentions s) k steps a → length steps ≤ open_among k (decisions s.places)
+few_from s i a [] k z e = omega arith
+few_from s i a (Forces d ∷ steps) k z e =
+    let o = open_one k d e.0.is_open in
+    let l = few_from s i a steps (give k (d ∷ []) (a d)) (started_on s k (d ∷ []) (a d) z o) e.1 in
+    let f = fewer (decisions s.places) k (give k (d ∷ []) (a d)) (advances s i k z (d ∷ []) (a d) d o (or_left _ _ (same_self d))) in
+    omega arith
+few_from s i a (Circles ds ∷ steps) k z e =
+    let c = circle_some s k ds e.0 in
+    let l = few_from s i a steps (give k ds true) (started_on s k ds true z e.0.unknown) e.1 in
+    let f = fewer (decisions s.places) k (give k ds true) (advances s i k z ds true c.0 e.0.unknown c.1) in
+    omega arith
+few_from s i a (Knots ds ∷ steps) k z e =
+    let o = knot_open (rule s) (mentions s) k ds e.0 in
+    let c = knot_some s i k z ds e.0 in
+    let l = few_from s i a steps (give k ds false) (started_on s k ds false z o) e.1 in
+    let f = fewer (decisions s.places) k (give k ds false) (advances s i k z ds false c.0 o c.1) in
+    omega arith
+
+open_first : (s : Situation) (d : Decision) → is_unknown (at_first s d) ≡ true → is_decided s d ≡ true
+open_first s d h = go (is_decided s d) refl
+  where
+    go : (b : Bool) → is_decided s d ≡ b → is_decided s d ≡ true
+    go true e = e
+    go false e = absurd (both_ways false refl (rw e at h))
+
+pub few : (s : Situation) → IsSituation s → (steps : List Deciding.Step) (a : Assignment) → AreExplained s steps a → length steps ≤ decided_in s
+few s i steps a e =
+    let l = few_from s i a steps (at_first s) (λ d h. rw h refl) e in
+    let m : open_among (at_first s) (decisions s.places) ≤ decided_in s = count_le _ _ (decisions s.places) (open_first s) in
+    omega arith
+
+-- all of it together
+pub record IsResolved (s : Situation) (r : Resolution) : Type 0 where
+  pub equations : Satisfies s (broken_in r) (values_in r)
+  pub explained : AreExplained s (steps_of r.steps.items) (values_in r)
+  pub broken : (d : Decision) → broken_in r d ≡ is_broken (steps_of r.steps.items) d
+  pub few : length r.steps.items ≤ decided_in s
+  pub ordered : AreInOrder r
+
+length_steps : (steps : List Written.Step) → length (steps_of steps) ≡ length steps
+length_steps [] = refl
+length_steps (x ∷ steps) = ap suc (length_steps steps)
+
+resolved : (s : Situation) → IsSituation s → (ps : List Province) → IsBehind s ps → (steps : List Written.Step) (k : Known) → IsComplete s (steps_of steps) k → (r : Resolution) → IsListing steps k ps r → IsResolved s r
+resolved s i ps behind steps k c r l =
+    let e = explained s i ps behind steps k c r l in
+    let f = few s i (steps_of steps) (values_in r) e in
+    let n = length_steps steps in
+    let m : length steps ≤ decided_in s = omega arith in
+    record {
+      equations = equations s i ps behind steps k c r l;
+      explained = subst (λ (x : List Written.Step). AreExplained s (steps_of x) (values_in r)) (sym l.steps) e;
+      broken = subst (λ (x : List Written.Step). (d : Decision) → broken_in r d ≡ is_broken (steps_of x) d) (sym l.steps) (broken s i ps behind steps k c r l);
+      few = subst (λ (x : List Written.Step). length x ≤ decided_in s) (sym l.steps) m;
+      ordered = ordered s i ps behind steps k c r l;
+    }
+
+-- of the orders of a board
+pub resolved_board : (m : Chart) (b : Position) (orders : List PlacedOrder) → IsOf m b → units_of orders ≡ b.units → are_in_force orders ≡ true → (steps : List Written.Step) (k : Known) (t : Situation) → t ≡ situation m orders → IsComplete t (steps_of steps) k → (r : Resolution) → IsListing steps k m.provinces r → IsResolved (situation m orders) r
+resolved_board m b orders o u f steps k t e c r l =
+    resolved (situation m orders) (situated m orders f (rw u o.apart)) m.provinces (behind_all m orders (within m b orders o u)) steps k (subst (λ (x : Situation). IsComplete x (steps_of steps) k) e c) r l

@@ -1,0 +1,80 @@
+-- The table of a movement's orders shows their situation.
+use Rattle.std.proofs.Common.{◌≡◌, ℕ, ◌+◌, ◌<◌, ◌≤◌, length, drop, List, [], ◌∷◌, ◌++◌, append_assoc, ◌∙◌, zero, suc, arith, refl, ap, sym, inl, inr, All, map, get_or}
+use Rattle.std.specs.Prelude.{◌==◌, Bool, true, false, Option, None, Some, is_some}
+use Rattle.std.specs.List.{list_any, slice_index_or}
+use Rattle.std.specs.List.{AllByRecursion}
+use Rattle.std.proofs.lemmas.List.{drop_more}
+use Rattle.std.proofs.lemmas.List.Elements.{recursion_from_All}
+use Rattle.std.proofs.lemmas.Bool.{cases_Bool, eqb-true, cases_lt}
+use Rattle.std.proofs.Math.Path.{fun_ext}
+use mathlib.Core.Logic.{◌⊎◌}
+use Rattle.dip_map.specs.Charts.{Chart, Province, no_province}
+use Rattle.dip_orders.specs.declared.placed.PlacedOrder.{PlacedOrder}
+use Rattle.dip_decide.specs.Matching.{order_at, provinces_of, target_of, is_convoyed, supports_in, situation, situation_by}
+use Rattle.dip_decide.specs.declared.decisions.Decision.{Decision}
+use Rattle.dip_decide.specs.declared.decisions.Decision.TheVariants.{Move, Path, Support}
+use Rattle.dip_decide.specs.declared.table.Table.{Table}
+use Rattle.dip_decide.specs.declared.values.Values.{Values}
+use Rattle.dip_decide.specs.Movement.{at_first}
+use Rattle.dip_decide.specs.Given.{rows_from, entry, seen, given, at_start, moves_at_start, paths_at_start, supports_at_start}
+
+pub rows_step : (orders : List PlacedOrder) (ps : List Province) (front all : List (Option PlacedOrder)) (i : ℕ) → i < length ps → front ++ rows_from orders i (drop i ps) ≡ all
+    → (front ++ order_at orders i ∷ []) ++ rows_from orders (i + 1) (drop (i + 1) ps) ≡ all
+rows_step orders ps front all i h before =
+    let cut = drop_more ps i no_province h in
+    append_assoc front (order_at orders i ∷ []) (rows_from orders (i + 1) (drop (i + 1) ps)) ∙ rw cut at before
+
+-- the row of a province that is counted, and of one behind them
+entry_within : (orders : List PlacedOrder) (ps : List Province) (i p : ℕ) → p < length ps → entry (rows_from orders i ps) p ≡ order_at orders (i + p)
+entry_within orders [] i p h = absurd (omega arith)
+entry_within orders (x ∷ ps) i zero h = ap (order_at orders) (omega arith)
+entry_within orders (x ∷ ps) i (suc p) h = entry_within orders ps (i + 1) p (omega arith) ∙ ap (order_at orders) (omega arith)
+
+entry_behind : (orders : List PlacedOrder) (ps : List Province) (i p : ℕ) → length ps ≤ p → entry (rows_from orders i ps) p ≡ None
+entry_behind orders [] i p h = refl
+entry_behind orders (x ∷ ps) i zero h = absurd (omega arith)
+entry_behind orders (x ∷ ps) i (suc p) h = entry_behind orders ps (i + 1) p (omega arith)
+
+-- no order stands at a number that is no province's
+pub none_behind : (orders : List PlacedOrder) (n p : ℕ) → AllByRecursion (λ o. o.unit.place.prov < n) orders → n ≤ p → order_at orders p ≡ None
+none_behind [] n p a h = refl
+none_behind (o ∷ orders) n p a h = go (cases_Bool (o.unit.place.prov == p)) (none_behind orders n p a.1 h)
+  where
+    go : ((o.unit.place.prov == p) ≡ true) ⊎ ((o.unit.place.prov == p) ≡ false) → order_at orders p ≡ None → order_at (o ∷ orders) p ≡ None
+    go (inl e) _ = let x = eqb-true _ _ e in let y = a.0 in absurd (omega arith)
+    go (inr e) r = rw e r
+
+pub entries : (m : Chart) (orders : List PlacedOrder) → All (λ o. o.unit.place.prov < length m.provinces) orders → entry (rows_from orders 0 m.provinces) ≡ order_at orders
+entries m orders a = fun_ext (λ p. go p (cases_lt p (length m.provinces)))
+  where
+    go : (p : ℕ) → (p < length m.provinces) ⊎ (length m.provinces ≤ p) → entry (rows_from orders 0 m.provinces) p ≡ order_at orders p
+    go p (inl h) = entry_within orders m.provinces 0 p h ∙ ap (order_at orders) (omega arith)
+    go p (inr h) = entry_behind orders m.provinces 0 p h ∙ sym (none_behind orders (length m.provinces) p (recursion_from_All _ _ a) h)
+
+pub seen_law : (m : Chart) (orders : List PlacedOrder) → All (λ o. o.unit.place.prov < length m.provinces) orders → situation_by m (provinces_of orders) (entry (rows_from orders 0 m.provinces)) ≡ situation m orders
+seen_law m orders a = ap (situation_by m (provinces_of orders)) (entries m orders a)
+
+-- a value for each row
+pub row_step : (f : Option PlacedOrder → Option Bool) (rows : List (Option PlacedOrder)) (row : Option PlacedOrder) (value : Option Bool) (front all : List (Option Bool)) (i : ℕ) → i < length rows → row ≡ get_or rows i row → value ≡ f row
+    → front ++ map f (drop i rows) ≡ all → (front ++ value ∷ []) ++ map f (drop (i + 1) rows) ≡ all
+row_step f rows row value front all i h is v before =
+    let cut : drop i rows ≡ row ∷ drop (i + 1) rows = drop_more rows i row h ∙ ap (λ (x : Option PlacedOrder). x ∷ drop (i + 1) rows) (sym is) in
+    let next : front ++ f row ∷ map f (drop (i + 1) rows) ≡ all = rw cut at before in
+    append_assoc front (value ∷ []) (map f (drop (i + 1) rows)) ∙ rw v next
+
+value_at : (f : Option PlacedOrder → Option Bool) → f None ≡ Some false → (rows : List (Option PlacedOrder)) (p : ℕ) → slice_index_or (map f rows) p (Some false) ≡ f (entry rows p)
+value_at f n [] p = sym n
+value_at f n (r ∷ rows) zero = refl
+value_at f n (r ∷ rows) (suc p) = value_at f n rows p
+
+none_any : (ps : List ℕ) → list_any (λ p. false) ps ≡ false
+none_any [] = refl
+none_any (p ∷ ps) = none_any ps
+
+pub starts : (t : Table) (v : Values) → v.moves.items ≡ moves_at_start t.rows.items → v.paths.items ≡ paths_at_start t.map.now t.rows.items → v.supports.items ≡ supports_at_start t t.rows.items → given v ≡ at_first (seen t)
+starts t v m p s = fun_ext go
+  where
+    go : (d : Decision) → given v d ≡ at_first (seen t) d
+    go (Move q) = rw m (value_at (λ row. at_start (is_some (target_of row))) refl t.rows.items q)
+    go (Path q) = rw p (value_at (λ row. at_start (is_convoyed t.map.now row)) refl t.rows.items q)
+    go (Support q) = rw s (value_at (λ row. at_start (list_any (λ x. supports_in (entry t.rows.items) row x) t.places.items)) (ap at_start (none_any t.places.items)) t.rows.items q)

@@ -1,0 +1,9 @@
+pub mod Deciding
+pub mod Movement
+pub mod Matching
+pub mod Chains
+pub mod Given
+pub mod Corners
+pub mod Steps
+pub mod Rings
+pub mod Results

@@ -1,0 +1,67 @@
+-- What a resolution says.
+use Rattle.std.specs.Prelude.{◌≡◌, ℕ, ◌+◌, ◌&&◌, nat_lt, Bool, true, false, List, [], ◌∷◌, filter, Option, None, Some}
+use Rattle.std.specs.List.{slice_index_or, list_any, list_all, count_by}
+use Rattle.dip_map.specs.Charts.{Province}
+use Rattle.dip_decide.specs.declared.decisions.Decision.{Decision}
+use Rattle.dip_decide.specs.declared.decisions.Decision.TheVariants.{Move, Path, Support}
+use Rattle.dip_decide.specs.declared.decisions.Resolution.{Resolution}
+use Rattle.dip_decide.specs.declared.decisions.Step as Written
+use Rattle.dip_decide.specs.declared.decisions.Step.TheVariants.{Forced, Circle, Knot}
+use Rattle.dip_decide.specs.Deciding.{Assignment, Known, Step, Explains}
+use Rattle.dip_decide.specs.Movement.{Situation, is_listed, is_decided, at_first, rule, mentions}
+use Rattle.dip_decide.specs.Steps.{decisions}
+
+-- the values that a resolution gives
+abbrev pub values_in : Resolution → Assignment
+values_in r (Move p) = is_listed r.moves.items p
+values_in r (Path p) = is_listed r.paths.items p
+values_in r (Support p) = is_listed r.supports.items p
+
+-- the paths that it broke
+abbrev pub broken_in : Resolution → Decision → Bool
+broken_in r (Path p) = is_listed r.broken.items p
+broken_in r _ = false
+
+-- the steps lead from the first to the last to these values
+abbrev pub AreExplained : Situation → List Step → Assignment → Type 0
+AreExplained s steps a = Explains (rule s) (mentions s) (at_first s) steps a
+
+-- how many decisions there are
+abbrev pub decided_in : Situation → ℕ
+decided_in s = count_by (is_decided s) (decisions s.places)
+
+-- the provinces come by code, each once
+abbrev pub are_ascending : List ℕ → Bool
+are_ascending [] = true
+are_ascending (p ∷ ps) = list_all (λ q. nat_lt p q) ps && are_ascending ps
+
+abbrev pub AreInOrder : Resolution → Type 0
+AreInOrder r = (are_ascending r.moves.items ≡ true) × (are_ascending r.paths.items ≡ true) × (are_ascending r.supports.items ≡ true) × (are_ascending r.broken.items ≡ true)
+
+-- the numbers of provinces, from i on
+abbrev pub numbers_from : ℕ → List Province → List ℕ
+numbers_from i [] = []
+numbers_from i (_ ∷ more) = i ∷ numbers_from (i + 1) more
+
+-- it is known and true
+abbrev pub is_true : Option Bool → Bool
+is_true None = false
+is_true (Some v) = v
+
+-- the provinces of a column with true
+abbrev pub trues : List (Option Bool) → List Province → List ℕ
+trues column ps = filter (λ p. is_true (slice_index_or column p (Some false))) (numbers_from 0 ps)
+
+-- a step breaks the path of p
+abbrev pub breaks : Written.Step → ℕ → Bool
+breaks (Forced d) p = false
+breaks (Circle ps) p = false
+breaks (Knot ps) p = is_listed ps.items p
+
+-- the lists are those of the values and of the broken paths
+pub record IsListing (written : List Written.Step) (k : Known) (ps : List Province) (r : Resolution) : Type 0 where
+  pub moves : r.moves.items ≡ filter (λ p. is_true (k (Move p))) (numbers_from 0 ps)
+  pub paths : r.paths.items ≡ filter (λ p. is_true (k (Path p))) (numbers_from 0 ps)
+  pub supports : r.supports.items ≡ filter (λ p. is_true (k (Support p))) (numbers_from 0 ps)
+  pub broken : r.broken.items ≡ filter (λ p. list_any (λ s. breaks s p) written) (numbers_from 0 ps)
+  pub steps : r.steps.items ≡ written

@@ -1,0 +1,118 @@
+ghost use Rattle.std.specs.Prelude.{◌≡◌, None, IfOk};
+ghost use Rattle.dip_decide.specs.declared.decisions.Decision.TheVariants.{Move};
+ghost use Rattle.dip_decide.specs.Given.{seen, given};
+ghost use Rattle.dip_decide.specs.Movement.{IsSituation};
+ghost use Rattle.dip_decide.specs.Rings.{waits_for, from_on, RingOr, RingAt, CircleOr};
+ghost use Rattle.dip_decide.specs.Steps.{is_unknown, IsStarted, open_paths};
+
+use crate::decisions::Decision;
+use crate::lists::{copy_of, is_in};
+use crate::table::Table;
+use crate::values::Values;
+use dip_map::Prov;
+use std::alloc::{AllocError, Global};
+
+fn is_open(values: &Values, d: &Decision) -> bool
+    ensures { result ≡ is_unknown (given values.now d.now) }
+{
+    values.look(d).is_none()
+}
+
+/// The unit at the destination of another, where its move is open.
+fn waits_for(table: &Table, values: &Values, p: Prov) -> Option<Prov>
+    ensures { result ≡ waits_for (seen table.now) (given values.now) p }
+{
+    match table.target(p) {
+        Some(q) => if is_open(values, &Decision::Move(q)) {
+            Some(q)
+        } else {
+            None
+        },
+        None => None,
+    }
+}
+
+/// The part of a trail from a province on.
+fn from_on(alloc: Global, trail: &[Prov], p: Prov) -> Result<Vec<Prov>, AllocError>
+    ensures { IfOk result (λ v. v.items ≡ from_on p trail.now) }
+{
+    for (index, place) in trail.iter().enumerate() {
+        if *place == p {
+            return copy_of(alloc, &trail[index..]);
+        }
+    }
+    Ok(Vec::new(alloc))
+}
+
+/// The ring into which one comes from an open move, each time to the one that it waits for.
+fn ring_from(
+    alloc: Global,
+    table: &Table,
+    values: &Values,
+    start: Prov,
+) -> Result<Option<Vec<Prov>>, AllocError>
+    requires situation { IsSituation (seen table.now) }
+    requires started { IsStarted (seen table.now) (given values.now) }
+    requires unknown { given values.now (Move start) ≡ None }
+    ensures { IfOk result (RingOr (seen table.now) (given values.now) start) }
+{
+    let mut trail = Vec::new(alloc);
+    let mut here = start;
+    'walk: while !is_in(trail.as_slice(), here) {
+        trail.push(here)?;
+        match waits_for(table, values, here) {
+            Some(next) => here = next,
+            None => return Ok(None),
+        }
+    }
+    let ring = from_on(alloc, trail.as_slice(), here)?;
+    Ok(Some(ring))
+}
+
+/// The ring into which one comes from a unit, if its move is open.
+fn ring_at(
+    alloc: Global,
+    table: &Table,
+    values: &Values,
+    p: Prov,
+) -> Result<Option<Vec<Prov>>, AllocError>
+    requires situation { IsSituation (seen table.now) }
+    requires started { IsStarted (seen table.now) (given values.now) }
+    ensures { IfOk result (RingAt (seen table.now) (given values.now) p) }
+{
+    if !is_open(values, &Decision::Move(p)) {
+        return Ok(None);
+    }
+    ring_from(alloc, table, values, p)
+}
+
+/// A ring of open moves, if there is one.
+pub(crate) fn ring_in(
+    alloc: Global,
+    table: &Table,
+    values: &Values,
+) -> Result<Option<Vec<Prov>>, AllocError>
+    requires situation { IsSituation (seen table.now) }
+    requires started { IsStarted (seen table.now) (given values.now) }
+    ensures { IfOk result (CircleOr (seen table.now) (given values.now) table.now.places.items) }
+{
+    for place in &table.places {
+        if let Some(ring) = ring_at(alloc, table, values, *place)? {
+            return Ok(Some(ring));
+        }
+    }
+    Ok(None)
+}
+
+/// The units whose path is open.
+pub(crate) fn open_paths(
+    alloc: Global,
+    table: &Table,
+    values: &Values,
+) -> Result<Vec<Prov>, AllocError>
+    ensures { IfOk result (λ v. v.items ≡ open_paths (given values.now) table.now.places.items) }
+{
+    let mut paths = copy_of(alloc, table.places.as_slice())?;
+    paths.retain(|p| is_open(values, &Decision::Path(*p)));
+    Ok(paths)
+}

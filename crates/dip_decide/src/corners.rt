@@ -1,0 +1,237 @@
+ghost use Rattle.std.specs.Prelude.{◌≡◌, not, Some, IfOk, filter};
+ghost use Rattle.std.specs.List.{list_all};
+ghost use Rattle.dip_decide.specs.Corners.{rises, values};
+ghost use Rattle.dip_decide.specs.Given.{seen};
+ghost use Rattle.dip_decide.specs.declared.decisions.Decision.TheVariants.{Move, Path};
+ghost use Rattle.dip_decide.specs.Movement.{has_path, support, support_against, attack, hold, prevent, opposition, beats, succeeds, cuts, is_support, is_entered, serves, path_rule, rule};
+
+use crate::chains::joins;
+use crate::decisions::Decision;
+use crate::lists::copy_of;
+use crate::table::Table;
+use crate::values::Values;
+use dip_map::Prov;
+use std::alloc::{AllocError, Global};
+
+/// The completion at which the rule of a decision is least, or greatest.
+#[derive(Clone, Copy)]
+pub(crate) struct Corner<'a> {
+    pub(crate) table: &'a Table<'a>,
+    pub(crate) known: &'a Values,
+    pub(crate) of: &'a Decision,
+    pub(crate) high: bool,
+}
+
+impl Corner<'_> {
+    fn rises(&self, d: &Decision) -> bool
+        ensures { result ≡ rises (seen self.now.table.now) self.now.of.now d.now }
+    {
+        match *self.of {
+            Decision::Move(p) => self.move_rises(p, d),
+            Decision::Path(_) | Decision::Support(_) => false,
+        }
+    }
+
+    fn move_rises(&self, p: Prov, d: &Decision) -> bool
+        ensures { result ≡ rises (seen self.now.table.now) (Move p) d.now }
+    {
+        match d {
+            Decision::Move(q) => self.table.goes(p, *q),
+            Decision::Path(q) => *q == p,
+            Decision::Support(h) => self.table.supports(*h, p),
+        }
+    }
+
+    fn value(&self, d: &Decision) -> bool
+        ensures { result ≡ values self.now d.now }
+    {
+        match self.known.look(d) {
+            Some(value) => value,
+            None => if self.rises(d) { self.high } else { !self.high },
+        }
+    }
+
+    fn has_path(&self, p: Prov) -> bool
+        ensures { result ≡ has_path (seen self.now.table.now) (values self.now) p }
+    {
+        !self.table.is_convoyed(p) || self.value(&Decision::Path(p))
+    }
+
+    fn support(&self, p: Prov) -> usize
+        ensures { result ≡ support (seen self.now.table.now) (values self.now) p }
+    {
+        self.table
+            .places
+            .iter()
+            .filter(|h| self.table.supports(**h, p) && self.value(&Decision::Support(**h)))
+            .count()
+    }
+
+    fn support_against(&self, p: Prov, q: Prov) -> usize
+        ensures { result ≡ support_against (seen self.now.table.now) (values self.now) p q }
+    {
+        self.table
+            .places
+            .iter()
+            .filter(|h| {
+                self.table.supports(**h, p)
+                    && self.value(&Decision::Support(**h))
+                    && !self.table.same_power(**h, q)
+            })
+            .count()
+    }
+
+    fn attack(&self, p: Prov, q: Prov) -> usize
+        ensures { result ≡ attack (seen self.now.table.now) (values self.now) p q }
+    {
+        if !self.has_path(p) {
+            0
+        } else if !self.table.is_occupied(q)
+            || (self.value(&Decision::Move(q)) && !self.table.head_to_head(p, q))
+        {
+            1 + self.support(p)
+        } else if self.table.same_power(p, q) {
+            0
+        } else {
+            1 + self.support_against(p, q)
+        }
+    }
+
+    fn hold(&self, q: Prov) -> usize
+        ensures { result ≡ hold (seen self.now.table.now) (values self.now) q }
+    {
+        if !self.table.is_occupied(q) || self.value(&Decision::Move(q)) {
+            0
+        } else if self.table.has_move(q) {
+            1
+        } else {
+            1 + self.support(q)
+        }
+    }
+
+    fn prevent(&self, p: Prov, q: Prov) -> usize
+        ensures { result ≡ prevent (seen self.now.table.now) (values self.now) p q }
+    {
+        if !self.has_path(p) || (self.table.head_to_head(p, q) && self.value(&Decision::Move(q))) {
+            0
+        } else {
+            1 + self.support(p)
+        }
+    }
+
+    fn opposition(&self, p: Prov, q: Prov) -> usize
+        ensures { result ≡ opposition (seen self.now.table.now) (values self.now) p q }
+    {
+        if self.table.head_to_head(p, q) {
+            1 + self.support(q)
+        } else {
+            self.hold(q)
+        }
+    }
+
+    fn beats(&self, p: Prov, q: Prov, w: Prov) -> bool
+        ensures { result ≡ beats (seen self.now.table.now) (values self.now) p q w }
+    {
+        w == p || !self.table.goes(w, q) || self.prevent(w, q) < self.attack(p, q)
+    }
+
+    fn are_free(&self, p: Prov, q: Prov) -> bool
+        ensures { result ≡ list_all (beats (seen self.now.table.now) (values self.now) p q) self.now.table.now.places.items }
+    {
+        self.table.places.iter().all(|w| self.beats(p, q, *w))
+    }
+
+    fn succeeds(&self, p: Prov, q: Prov) -> bool
+        ensures { result ≡ succeeds (seen self.now.table.now) (values self.now) p q }
+    {
+        self.are_free(p, q) && self.opposition(p, q) < self.attack(p, q)
+    }
+
+    fn cuts(&self, h: Prov, x: Prov) -> bool
+        ensures { result ≡ cuts (seen self.now.table.now) (values self.now) h x }
+    {
+        self.table.goes(x, h)
+            && !self.table.same_power(x, h)
+            && if self.table.aims(h, x) {
+                self.value(&Decision::Move(x))
+            } else {
+                self.has_path(x)
+            }
+    }
+
+    fn is_uncut(&self, h: Prov) -> bool
+        ensures { result ≡ list_all (λ x. not (cuts (seen self.now.table.now) (values self.now) h x)) self.now.table.now.places.items }
+    {
+        self.table.places.iter().all(|x| !self.cuts(h, *x))
+    }
+
+    fn is_support(&self, h: Prov) -> bool
+        ensures { result ≡ is_support (seen self.now.table.now) h }
+    {
+        self.table.places.iter().any(|p| self.table.supports(h, *p))
+    }
+
+    /// Whether the move of a unit succeeds.
+    fn move_rule(&self, p: Prov) -> bool
+        ensures { result ≡ rule (seen self.now.table.now) (Move p) (values self.now) }
+    {
+        match self.table.target(p) {
+            Some(q) => self.succeeds(p, q),
+            None => false,
+        }
+    }
+
+    /// Whether a move that succeeds enters a province.
+    fn is_entered(&self, x: Prov) -> bool
+        ensures { result ≡ is_entered (seen self.now.table.now) (values self.now) x }
+    {
+        self.table.places.iter().any(|m| self.table.goes(*m, x) && self.value(&Decision::Move(*m)))
+    }
+
+    fn serves(&self, p: Prov, x: Prov) -> bool
+        ensures { result ≡ serves (seen self.now.table.now) (values self.now) p x }
+    {
+        self.table.convoys(x, p) && !self.is_entered(x)
+    }
+
+    /// The fleets that serve the move of a unit.
+    fn fleets(&self, alloc: Global, p: Prov) -> Result<Vec<Prov>, AllocError>
+        ensures { IfOk result (λ v. v.items ≡ filter (serves (seen self.now.table.now) (values self.now) p) self.now.table.now.places.items) }
+    {
+        let mut fleets = copy_of(alloc, self.table.places.as_slice())?;
+        fleets.retain(|x| self.serves(p, *x));
+        Ok(fleets)
+    }
+
+    /// Whether the move by convoy of a unit to a province has a path.
+    fn has_chain(&self, alloc: Global, p: Prov, q: Prov) -> Result<bool, AllocError>
+        ensures { IfOk result (λ b. b ≡ path_rule (seen self.now.table.now) (values self.now) p (Some q)) }
+    {
+        let fleets = self.fleets(alloc, p)?;
+        joins(alloc, self.table, fleets.as_slice(), p, q)
+    }
+
+    /// Whether the move of a unit is one by convoy that has a path.
+    fn path_rule(&self, alloc: Global, p: Prov) -> Result<bool, AllocError>
+        ensures { IfOk result (λ b. b ≡ rule (seen self.now.table.now) (Path p) (values self.now)) }
+    {
+        if !self.table.is_convoyed(p) {
+            return Ok(false);
+        }
+        match self.table.target(p) {
+            Some(q) => self.has_chain(alloc, p, q),
+            None => Ok(false),
+        }
+    }
+
+    /// The equation of a decision.
+    pub(crate) fn rule(&self, alloc: Global, d: &Decision) -> Result<bool, AllocError>
+        ensures { IfOk result (λ b. b ≡ rule (seen self.now.table.now) d.now (values self.now)) }
+    {
+        match d {
+            Decision::Move(p) => Ok(self.move_rule(*p)),
+            Decision::Path(p) => self.path_rule(alloc, *p),
+            Decision::Support(h) => Ok(self.is_support(*h) && self.is_uncut(*h)),
+        }
+    }
+}

@@ -1,0 +1,19 @@
+ghost use Rattle.std.specs.Prelude.{◌≡◌, IfOk};
+ghost use Rattle.dip_decide.specs.Movement.{is_listed};
+
+use dip_map::Prov;
+use std::alloc::{AllocError, Global};
+
+/// A list of the same provinces.
+pub(crate) fn copy_of(alloc: Global, list: &[Prov]) -> Result<Vec<Prov>, AllocError>
+    ensures { IfOk result (λ v. v.items ≡ list.now) }
+{
+    list.to_vec(alloc)
+}
+
+/// Whether a province is one of these.
+pub(crate) fn is_in(list: &[Prov], p: Prov) -> bool
+    ensures { result ≡ is_listed list.now p }
+{
+    list.contains(&p)
+}

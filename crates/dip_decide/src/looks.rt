@@ -1,0 +1,262 @@
+ghost use Rattle.std.specs.Prelude.{◌≡◌, ◌==◌, Some};
+ghost use Rattle.std.specs.List.{list_any};
+ghost use Rattle.dip_map.specs.Charts.{province, shore};
+ghost use Rattle.dip_orders.specs.Tests.{is_kind, is_at_sea};
+ghost use Rattle.dip_decide.specs.Given.{entry, seen};
+ghost use Rattle.dip_decide.specs.Matching.{destination, target_of, goes_by_convoy, is_convoyed, is_there, is_matched, supports_in, direction, is_carried, convoys_in, is_sea_next};
+ghost use Rattle.dip_decide.specs.Movement.{goes, head_to_head, has_move, is_at};
+
+use crate::table::Table;
+use dip_map::{Kind, Map, Place, Prov, Terrain};
+use dip_orders::{Order, Other, PlacedOrder};
+
+/// Where an order sends its unit.
+fn destination(order: Order) -> Option<Prov>
+    ensures { result ≡ destination order }
+{
+    match order {
+        Order::Move { to, .. } => Some(to.prov),
+        _ => None,
+    }
+}
+
+/// The province into which an order supports a move.
+fn direction(order: Order) -> Option<Prov>
+    ensures { result ≡ direction order }
+{
+    match order {
+        Order::SupportMove { to, .. } => Some(to),
+        _ => None,
+    }
+}
+
+/// Whether a unit of this kind, in this province, is sent by convoy.
+fn goes_by_convoy(map: &Map, kind: Kind, p: Prov, order: Order) -> bool
+    ensures { result ≡ goes_by_convoy map.now kind p order }
+{
+    match (kind, order) {
+        (Kind::Army, Order::Move { to, via }) => via || !map.is_army_next(p, to.prov),
+        _ => false,
+    }
+}
+
+/// Where a unit goes that has this order, if one is there.
+pub(crate) fn target_of(row: &Option<PlacedOrder>) -> Option<Prov>
+    ensures { result ≡ target_of row.now }
+{
+    match row {
+        Some(placed) => destination(placed.order),
+        None => None,
+    }
+}
+
+/// Whether a unit goes by convoy that has this order, if one is there.
+pub(crate) fn is_convoyed_of(map: &Map, row: &Option<PlacedOrder>) -> bool
+    ensures { result ≡ is_convoyed map.now row.now }
+{
+    match row {
+        Some(placed) => {
+            goes_by_convoy(map, placed.unit.kind, placed.unit.place.prov, placed.order)
+        }
+        None => false,
+    }
+}
+
+fn is_kind(kind: Kind, other: Kind) -> bool
+    ensures { result ≡ is_kind kind other }
+{
+    match (kind, other) {
+        (Kind::Army, Kind::Army) | (Kind::Fleet, Kind::Fleet) => true,
+        _ => false,
+    }
+}
+
+/// Whether a fleet goes from a place to a province.
+fn is_place_next(map: &Map, place: Place, q: Prov) -> bool
+    ensures { result ≡ list_any (λ b. b.prov == q) (shore map.now place).next }
+{
+    map.fleet_next(place).iter().any(|other| other.prov == q)
+}
+
+/// Whether a fleet goes from one province to the other, from any coast to any.
+fn is_sea_next(map: &Map, p: Prov, q: Prov) -> bool
+    ensures { result ≡ is_sea_next map.now p q }
+{
+    map.facts();
+    for index in 0..map.coasts(p) {
+        let place = Place {
+            prov: p,
+            coast: index as u8,
+        };
+        if is_place_next(map, place, q) {
+            return true;
+        }
+    }
+    false
+}
+
+impl Table<'_> {
+    /// The order of the unit in a province.
+    fn order(&self, p: Prov) -> Option<PlacedOrder>
+        ensures { result ≡ entry self.now.rows.items p }
+    {
+        match self.rows.get(usize::from(p.index())) {
+            Some(order) => *order,
+            None => None,
+        }
+    }
+
+    pub(crate) fn is_occupied(&self, p: Prov) -> bool
+        ensures { result ≡ (seen self.now).is_occupied p }
+    {
+        self.order(p).is_some()
+    }
+
+    pub(crate) fn same_power(&self, p: Prov, q: Prov) -> bool
+        ensures { result ≡ (seen self.now).same_power p q }
+    {
+        match (self.order(p), self.order(q)) {
+            (Some(x), Some(y)) => x.unit.power == y.unit.power,
+            _ => false,
+        }
+    }
+
+    pub(crate) fn target(&self, p: Prov) -> Option<Prov>
+        ensures { result ≡ (seen self.now).target p }
+    {
+        target_of(&self.order(p))
+    }
+
+    pub(crate) fn is_convoyed(&self, p: Prov) -> bool
+        ensures { result ≡ (seen self.now).convoyed p }
+    {
+        is_convoyed_of(self.map, &self.order(p))
+    }
+
+    fn is_there(&self, at: Other, p: Prov) -> bool
+        ensures { result ≡ is_there at (entry self.now.rows.items p) }
+    {
+        match self.order(p) {
+            Some(placed) => is_kind(placed.unit.kind, at.kind),
+            None => false,
+        }
+    }
+
+    fn is_matched(&self, order: Order, p: Prov) -> bool
+        ensures { result ≡ is_matched (entry self.now.rows.items) order p }
+    {
+        match order {
+            Order::SupportHold { at } => at.prov == p && self.is_there(at, p) && !self.has_move(p),
+            Order::SupportMove { at, to } => at.prov == p
+                && self.is_there(at, p)
+                && self.goes(p, to),
+            _ => false,
+        }
+    }
+
+    /// Whether a unit that has this order supports the one in a province.
+    fn supports_of(&self, row: &Option<PlacedOrder>, p: Prov) -> bool
+        ensures { result ≡ supports_in (entry self.now.rows.items) row.now p }
+    {
+        match row {
+            Some(placed) => self.is_matched(placed.order, p),
+            None => false,
+        }
+    }
+
+    pub(crate) fn supports(&self, h: Prov, p: Prov) -> bool
+        ensures { result ≡ (seen self.now).supports h p }
+    {
+        self.supports_of(&self.order(h), p)
+    }
+
+    /// Whether a unit that has this order supports one.
+    pub(crate) fn is_support_of(&self, row: &Option<PlacedOrder>) -> bool
+        ensures { result ≡ list_any (λ p. supports_in (entry self.now.rows.items) row.now p) self.now.places.items }
+    {
+        self.places.iter().any(|p| self.supports_of(row, *p))
+    }
+
+    fn is_carried(&self, order: Order, p: Prov) -> bool
+        ensures { result ≡ is_carried self.now.map.now (entry self.now.rows.items) order p }
+    {
+        match order {
+            Order::Convoy { at, to } => {
+                at.prov == p && self.is_there(at, p) && self.is_convoyed(p) && self.goes(p, to)
+            }
+            _ => false,
+        }
+    }
+
+    fn is_at_sea(&self, p: Prov) -> bool
+        ensures { result ≡ is_at_sea (province self.now.map.now p).terrain }
+    {
+        match self.map.kind(p) {
+            Terrain::Sea => true,
+            Terrain::Inland | Terrain::Coast => false,
+        }
+    }
+
+    /// Whether a unit that has this order is a fleet in a sea that convoys the one in a province.
+    fn convoys_of(&self, placed: &PlacedOrder, p: Prov) -> bool
+        ensures { result ≡ convoys_in self.now.map.now (entry self.now.rows.items) (Some placed.now) p }
+    {
+        is_kind(placed.unit.kind, Kind::Fleet)
+            && self.is_at_sea(placed.unit.place.prov)
+            && self.is_carried(placed.order, p)
+    }
+
+    pub(crate) fn convoys(&self, x: Prov, p: Prov) -> bool
+        ensures { result ≡ (seen self.now).convoys x p }
+    {
+        match self.order(x) {
+            Some(placed) => self.convoys_of(&placed, p),
+            None => false,
+        }
+    }
+
+    pub(crate) fn is_next(&self, p: Prov, q: Prov) -> bool
+        ensures { result ≡ (seen self.now).next p q }
+    {
+        is_sea_next(self.map, p, q)
+    }
+
+    fn aim(&self, h: Prov) -> Option<Prov>
+        ensures { result ≡ (seen self.now).aim h }
+    {
+        match self.order(h) {
+            Some(placed) => direction(placed.order),
+            None => None,
+        }
+    }
+
+    pub(crate) fn aims(&self, h: Prov, p: Prov) -> bool
+        ensures { result ≡ is_at ((seen self.now).aim h) p }
+    {
+        match self.aim(h) {
+            Some(q) => q == p,
+            None => false,
+        }
+    }
+
+    pub(crate) fn goes(&self, p: Prov, q: Prov) -> bool
+        ensures { result ≡ goes (seen self.now) p q }
+    {
+        match self.target(p) {
+            Some(t) => t == q,
+            None => false,
+        }
+    }
+
+    pub(crate) fn has_move(&self, p: Prov) -> bool
+        ensures { result ≡ has_move (seen self.now) p }
+    {
+        self.target(p).is_some()
+    }
+
+    pub(crate) fn head_to_head(&self, p: Prov, q: Prov) -> bool
+        ensures { result ≡ head_to_head (seen self.now) p q }
+    {
+        self.goes(p, q) && self.goes(q, p) && !self.is_convoyed(p) && !self.is_convoyed(q)
+    }
+}

@@ -1,0 +1,125 @@
+ghost use Rattle.std.specs.Prelude.{◌≡◌, ◌≤◌, IfOk, length, filter};
+ghost use Rattle.std.specs.List.{list_any};
+ghost use Rattle.dip_map.specs.Boards.{IsOf};
+ghost use Rattle.dip_orders.specs.Standing.{units_of};
+ghost use Rattle.dip_decide.specs.declared.decisions.Decision.{Decision as ADecision};
+ghost use Rattle.dip_decide.specs.Deciding.{is_broken};
+ghost use Rattle.dip_decide.specs.Given.{given};
+ghost use Rattle.dip_decide.specs.Matching.{situation};
+ghost use Rattle.dip_decide.specs.Movement.{Satisfies};
+ghost use Rattle.dip_decide.specs.Results.{values_in, broken_in, AreExplained, AreInOrder, decided_in, is_true, trues, breaks, numbers_from, IsListing};
+ghost use Rattle.dip_decide.specs.Steps.{steps_of};
+
+use crate::decisions::{Resolution, Step};
+use crate::lists::is_in;
+use crate::starting::values_at_start;
+use crate::table::table_of;
+use crate::turns::explain;
+use crate::values::{Values, value_at};
+use dip_map::{Board, Map, Prov};
+use dip_orders::Orders;
+use std::alloc::{AllocError, Global};
+
+fn is_true(value: Option<bool>) -> bool
+    ensures { result ≡ is_true value }
+{
+    match value {
+        Some(value) => value,
+        None => false,
+    }
+}
+
+/// All provinces of a map, by code.
+fn all_provinces(alloc: Global, map: &Map) -> Result<Vec<Prov>, AllocError>
+    ensures { IfOk result (λ v. v.items ≡ numbers_from 0 map.now.provinces) }
+{
+    map.facts();
+    let mut all = Vec::new(alloc);
+    for index in 0..map.provinces() {
+        all.push(Prov::new(index as u8))?;
+    }
+    Ok(all)
+}
+
+/// The provinces of a column with true, by code.
+fn trues(alloc: Global, map: &Map, column: &[Option<bool>]) -> Result<Vec<Prov>, AllocError>
+    ensures { IfOk result (λ v. v.items ≡ trues column.now map.now.provinces) }
+{
+    let mut found = all_provinces(alloc, map)?;
+    found.retain(|p| is_true(value_at(column, *p)));
+    Ok(found)
+}
+
+/// Whether a step breaks the path of a unit.
+fn breaks(step: &Step, p: Prov) -> bool
+    ensures { result ≡ breaks step.now p }
+{
+    match step {
+        Step::Knot(units) => is_in(units.as_slice(), p),
+        Step::Forced(_) | Step::Circle(_) => false,
+    }
+}
+
+fn is_broken(steps: &[Step], p: Prov) -> bool
+    ensures { result ≡ list_any (λ s. breaks s p) steps.now }
+{
+    steps.iter().any(|step| breaks(step, p))
+}
+
+/// The units whose paths the steps break, by code.
+fn broken_by(alloc: Global, map: &Map, steps: &[Step]) -> Result<Vec<Prov>, AllocError>
+    ensures { IfOk result (λ v. v.items ≡ filter (λ p. list_any (λ s. breaks s p) steps.now) (numbers_from 0 map.now.provinces)) }
+{
+    let mut found = all_provinces(alloc, map)?;
+    found.retain(|p| is_broken(steps, *p));
+    Ok(found)
+}
+
+/// The lists of what was decided, with the steps.
+fn resolution_of(
+    alloc: Global,
+    map: &Map,
+    values: &Values,
+    steps: Vec<Step>,
+) -> Result<Resolution, AllocError>
+    ensures { IfOk result (λ r. IsListing steps.items (given values.now) map.now.provinces r) }
+{
+    let moves = trues(alloc, map, values.moves.as_slice())?;
+    let paths = trues(alloc, map, values.paths.as_slice())?;
+    let supports = trues(alloc, map, values.supports.as_slice())?;
+    let broken = broken_by(alloc, map, steps.as_slice())?;
+    Ok(Resolution {
+        moves,
+        paths,
+        supports,
+        broken,
+        steps,
+    })
+}
+
+/// What comes of the orders of a movement: one for each unit of the board.
+///
+/// The values satisfy the decision equations, and the steps explain them: each decision was forced by those before it, or was
+/// settled with a circle or with a knot, which is taken only where nothing is forced and there is no circle. There are at most
+/// as many steps as decisions. The only error is want of memory.
+pub fn resolve(
+    alloc: Global,
+    map: &Map,
+    board: &Board,
+    orders: &Orders,
+) -> Result<Resolution, AllocError>
+    requires is_of { IsOf map.now board.now }
+    requires orders { units_of orders.now ≡ board.now.units }
+    ensures equations { IfOk result (λ r. Satisfies (situation map.now orders.now) (broken_in r) (values_in r)) }
+    ensures explained { IfOk result (λ r. AreExplained (situation map.now orders.now) (steps_of r.steps.items) (values_in r)) }
+    ensures broken { IfOk result (λ r. (d : ADecision) → broken_in r d ≡ is_broken (steps_of r.steps.items) d) }
+    ensures few { IfOk result (λ r. length r.steps.items ≤ decided_in (situation map.now orders.now)) }
+    ensures ordered { IfOk result AreInOrder }
+{
+    orders.facts();
+    let _ = board.units();
+    let table = table_of(alloc, map, orders.as_slice())?;
+    let mut values = values_at_start(alloc, &table)?;
+    let steps = explain(alloc, &table, &mut values)?;
+    resolution_of(alloc, map, &values, steps)
+}

@@ -1,0 +1,59 @@
+ghost use Rattle.std.specs.Prelude.{◌≡◌, map, IfOk};
+ghost use Rattle.dip_decide.specs.Given.{at_start, moves_at_start, paths_at_start, supports_at_start, seen, given};
+ghost use Rattle.dip_decide.specs.Movement.{at_first};
+
+use crate::looks::{is_convoyed_of, target_of};
+use crate::table::Table;
+use crate::values::Values;
+use std::alloc::{AllocError, Global};
+
+/// What is known at first: nothing of what is to be decided, and of all else that it is false.
+fn at_start(is_decided: bool) -> Option<bool>
+    ensures { result ≡ at_start is_decided }
+{
+    if is_decided { None } else { Some(false) }
+}
+
+fn moves_at_start(alloc: Global, table: &Table) -> Result<Vec<Option<bool>>, AllocError>
+    ensures { IfOk result (λ v. v.items ≡ moves_at_start table.now.rows.items) }
+{
+    let mut moves = Vec::new(alloc);
+    for row in &table.rows {
+        moves.push(at_start(target_of(row).is_some()))?;
+    }
+    Ok(moves)
+}
+
+fn paths_at_start(alloc: Global, table: &Table) -> Result<Vec<Option<bool>>, AllocError>
+    ensures { IfOk result (λ v. v.items ≡ paths_at_start table.now.map.now table.now.rows.items) }
+{
+    let mut paths = Vec::new(alloc);
+    for row in &table.rows {
+        paths.push(at_start(is_convoyed_of(table.map, row)))?;
+    }
+    Ok(paths)
+}
+
+fn supports_at_start(alloc: Global, table: &Table) -> Result<Vec<Option<bool>>, AllocError>
+    ensures { IfOk result (λ v. v.items ≡ supports_at_start table.now table.now.rows.items) }
+{
+    let mut supports = Vec::new(alloc);
+    for row in &table.rows {
+        supports.push(at_start(table.is_support_of(row)))?;
+    }
+    Ok(supports)
+}
+
+/// The values before the first step.
+pub(crate) fn values_at_start(alloc: Global, table: &Table) -> Result<Values, AllocError>
+    ensures { IfOk result (λ v. given v ≡ at_first (seen table.now)) }
+{
+    let moves = moves_at_start(alloc, table)?;
+    let paths = paths_at_start(alloc, table)?;
+    let supports = supports_at_start(alloc, table)?;
+    Ok(Values {
+        moves,
+        paths,
+        supports,
+    })
+}

@@ -1,0 +1,87 @@
+ghost use Rattle.std.specs.Prelude.{◌≡◌, ◌∷◌, [], None, Some, true, false};
+ghost use Rattle.std.specs.List.{slice_index_or};
+ghost use Rattle.dip_decide.specs.Deciding.{give};
+ghost use Rattle.dip_decide.specs.Given.{given};
+ghost use Rattle.dip_decide.specs.Rings.{AreOpen, ArePathsOpen};
+ghost use Rattle.dip_decide.specs.Steps.{moves_of, paths_of};
+ghost use Rattle.dip_map.specs.Charts.{are_provs_single};
+
+use crate::decisions::Decision;
+use dip_map::Prov;
+
+/// The values that were given so far, by the numbers of the provinces; none where the decision is open.
+#[derive(Drop)]
+pub(crate) struct Values {
+    pub(crate) moves: Vec<Option<bool>>,
+    pub(crate) paths: Vec<Option<bool>>,
+    pub(crate) supports: Vec<Option<bool>>,
+}
+
+/// A value of a list. Behind its end there is nothing to decide.
+pub(crate) fn value_at(list: &[Option<bool>], p: Prov) -> Option<bool>
+    ensures { result ≡ slice_index_or list.now p (Some false) }
+{
+    match list.get(usize::from(p.index())) {
+        Some(value) => *value,
+        None => Some(false),
+    }
+}
+
+impl Values {
+    /// The value that a decision was given.
+    pub(crate) fn look(&self, d: &Decision) -> Option<bool>
+        ensures { result ≡ given self.now d.now }
+    {
+        match d {
+            Decision::Move(p) => value_at(&self.moves, *p),
+            Decision::Path(p) => value_at(&self.paths, *p),
+            Decision::Support(p) => value_at(&self.supports, *p),
+        }
+    }
+
+    /// Gives an open decision its value.
+    pub(crate) fn give(&mut self, d: &Decision, value: bool)
+        requires { given self.old d.now ≡ None }
+        ensures { given self.new ≡ give (given self.old) (d.now ∷ []) value }
+    {
+        match d {
+            Decision::Move(p) => {
+                if let Some(place) = self.moves.get_mut(usize::from(p.index())) {
+                    *place = Some(value);
+                }
+            }
+            Decision::Path(p) => {
+                if let Some(place) = self.paths.get_mut(usize::from(p.index())) {
+                    *place = Some(value);
+                }
+            }
+            Decision::Support(p) => {
+                if let Some(place) = self.supports.get_mut(usize::from(p.index())) {
+                    *place = Some(value);
+                }
+            }
+        }
+    }
+
+    /// Gives true to these moves.
+    pub(crate) fn give_moves(&mut self, units: &[Prov])
+        requires distinct { are_provs_single units.now ≡ true }
+        requires unknown { AreOpen (given self.old) units.now }
+        ensures { given self.new ≡ give (given self.old) (moves_of units.now) true }
+    {
+        for p in units {
+            self.give(&Decision::Move(*p), true);
+        }
+    }
+
+    /// Gives false to the paths of these moves.
+    pub(crate) fn break_paths(&mut self, units: &[Prov])
+        requires distinct { are_provs_single units.now ≡ true }
+        requires unknown { ArePathsOpen (given self.old) units.now }
+        ensures { given self.new ≡ give (given self.old) (paths_of units.now) false }
+    {
+        for p in units {
+            self.give(&Decision::Path(*p), false);
+        }
+    }
+}

@@ -2,7 +2,7 @@
 use super::scenes::{Scene, board_of};
 use super::the_power;
 use crate::allowance;
-use dip_map::{Map, STANDARD, Season};
+use dip_map::{Map, MapFault, STANDARD, Season};
 use std::alloc::{AllocError, Global};
 use std::process::Abort;
 use std::test::Fail;
@@ -42,20 +42,22 @@ const CASES: [(&str, &str, &str, i16); 6] = [
     ),
 ];
 
-fn allowance_of(
+/// France has this allowance on the board of a scene.
+fn check_allowance(
     rt: &impl Abort,
     alloc: Global,
     map: &Map,
     scene: Scene,
-) -> Result<i16, AllocError> {
+    wanted: i16,
+) -> Result<(), AllocError> {
     let board = board_of(rt, alloc, map, Season::Winter, scene)?;
     assert!(rt; board.is_of(map));
-    Ok(allowance(map, &board, the_power(rt, map, "france")))
+    let found = allowance(map, &board, the_power(rt, map, "france"));
+    assert!(rt; found == wanted);
+    Ok(())
 }
 
-#[test]
-fn centres_less_units_within_vacant_homes(rt: HostRuntime) -> Result<(), Fail> {
-    let alloc = rt.alloc();
+fn check_cases(rt: &impl Abort, alloc: Global) -> Result<(), MapFault> {
     let map = Map::from_toml(alloc, STANDARD)?;
     for (owned, standing, dislodged, wanted) in CASES {
         let standoff = "";
@@ -65,7 +67,13 @@ fn centres_less_units_within_vacant_homes(rt: HostRuntime) -> Result<(), Fail> {
             standoff,
             owned,
         };
-        assert_eq!(rt; allowance_of(&rt, alloc, &map, scene)?, wanted);
+        check_allowance(rt, alloc, &map, scene, wanted)?;
     }
+    Ok(())
+}
+
+#[test]
+fn centres_less_units_within_vacant_homes(rt: HostRuntime) -> Result<(), Fail> {
+    check_cases(&rt, rt.alloc())?;
     Ok(())
 }

@@ -1,7 +1,7 @@
 //! Bytes, case and spaces of lines.
 use super::answers::{answer, check_opening};
 use super::{assert_count, assert_text};
-use dip_map::{Board, Map, STANDARD};
+use dip_map::{Board, Map, MapFault, STANDARD};
 use std::alloc::{AllocError, Global};
 use std::process::Abort;
 use std::test::Fail;
@@ -130,12 +130,16 @@ fn check_long(rt: &impl Abort, alloc: Global, map: &Map, board: &Board) -> Resul
     Ok(())
 }
 
-#[test]
-fn more_bytes_are_harmless_only_as_spaces(rt: HostRuntime) -> Result<(), Fail> {
-    let alloc = rt.alloc();
+fn check_more_bytes(rt: &impl Abort, alloc: Global) -> Result<u32, MapFault> {
     let map = Map::from_toml(alloc, STANDARD)?;
     let board = Board::opening(alloc, &map)?;
-    assert_count(&rt, check_cuts(&rt, alloc, &map, &board)?, 1024);
-    check_long(&rt, alloc, &map, &board)?;
+    check_long(rt, alloc, &map, &board)?;
+    Ok(check_cuts(rt, alloc, &map, &board)?)
+}
+
+#[test]
+fn more_bytes_are_harmless_only_as_spaces(rt: HostRuntime) -> Result<(), Fail> {
+    let count = check_more_bytes(&rt, rt.alloc())?;
+    assert_count(&rt, count, 1024);
     Ok(())
 }

@@ -2,7 +2,7 @@
 use super::answers::answer;
 use super::assert_count;
 use super::scenes::{Scene, board_of};
-use dip_map::{Board, Map, STANDARD, Season};
+use dip_map::{Board, Map, MapFault, STANDARD, Season};
 use std::alloc::{AllocError, Global};
 use std::process::Abort;
 use std::test::Fail;
@@ -104,14 +104,18 @@ fn check_lines(
     Ok(count)
 }
 
-#[test]
-fn a_form_belongs_to_one_phase(rt: HostRuntime) -> Result<(), Fail> {
-    let alloc = rt.alloc();
+fn check_seasons(rt: &impl Abort, alloc: Global) -> Result<u32, MapFault> {
     let map = Map::from_toml(alloc, STANDARD)?;
     let mut count = 0u32;
     for season in SEASONS {
-        count = count.saturating_add(check_lines(&rt, alloc, &map, season)?);
+        count = count.saturating_add(check_lines(rt, alloc, &map, season)?);
     }
+    Ok(count)
+}
+
+#[test]
+fn a_form_belongs_to_one_phase(rt: HostRuntime) -> Result<(), Fail> {
+    let count = check_seasons(&rt, rt.alloc())?;
     assert_count(&rt, count, 110);
     Ok(())
 }

@@ -2,7 +2,7 @@
 use super::answers::{answer, check};
 use super::scenes::{Scene, board_of};
 use super::{assert_count, assert_text};
-use dip_map::{Board, Map, STANDARD, Season};
+use dip_map::{Board, Map, MapFault, STANDARD, Season};
 use std::alloc::{AllocError, Global};
 use std::process::Abort;
 use std::test::Fail;
@@ -88,9 +88,7 @@ fn check_texts(
     check(rt, alloc, map, &board, cases)
 }
 
-#[test]
-fn each_kind_of_order_has_its_text(rt: HostRuntime) -> Result<(), Fail> {
-    let alloc = rt.alloc();
+fn check_all(rt: &impl Abort, alloc: Global) -> Result<(), MapFault> {
     let map = Map::from_toml(alloc, STANDARD)?;
     let tables = [
         (Season::FallMoves, MOVES, 13),
@@ -98,8 +96,14 @@ fn each_kind_of_order_has_its_text(rt: HostRuntime) -> Result<(), Fail> {
         (Season::Winter, BUILDS, 6),
     ];
     for (season, cases, wanted) in tables {
-        let count = check_texts(&rt, alloc, &map, season, cases)?;
-        assert_count(&rt, count, wanted);
+        let count = check_texts(rt, alloc, &map, season, cases)?;
+        assert_count(rt, count, wanted);
     }
+    Ok(())
+}
+
+#[test]
+fn each_kind_of_order_has_its_text(rt: HostRuntime) -> Result<(), Fail> {
+    check_all(&rt, rt.alloc())?;
     Ok(())
 }

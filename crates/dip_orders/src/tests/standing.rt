@@ -3,7 +3,7 @@ use super::answers::pending_of;
 use super::scenes::{Scene, board_of};
 use super::{assert_text, the_power};
 use crate::{Order, Orders, PlacedOrder, print_order};
-use dip_map::{Board, Map, Place, STANDARD, Season, Unit};
+use dip_map::{Board, Map, MapFault, Place, STANDARD, Season, Unit};
 use std::alloc::{AllocError, Global};
 use std::process::Abort;
 use std::test::Fail;
@@ -67,14 +67,18 @@ fn text_behind(
     standing_text(alloc, map, &behind, pending.as_slice())
 }
 
-#[test]
-fn each_unit_has_one_order(rt: HostRuntime) -> Result<(), Fail> {
-    let alloc = rt.alloc();
+fn check_given(rt: &impl Abort, alloc: Global) -> Result<(), MapFault> {
     let map = Map::from_toml(alloc, STANDARD)?;
     for (given, wanted) in CASES {
-        let text = text_behind(&rt, alloc, &map, given)?;
-        assert_text(&rt, text.as_str(), wanted, given);
+        let text = text_behind(rt, alloc, &map, given)?;
+        assert_text(rt, text.as_str(), wanted, given);
     }
+    Ok(())
+}
+
+#[test]
+fn each_unit_has_one_order(rt: HostRuntime) -> Result<(), Fail> {
+    check_given(&rt, rt.alloc())?;
     Ok(())
 }
 
@@ -112,13 +116,17 @@ fn check_out_of_force(
     Ok(())
 }
 
+fn check_units(rt: &impl Abort, alloc: Global) -> Result<(), MapFault> {
+    let map = Map::from_toml(alloc, STANDARD)?;
+    let board = board_of(rt, alloc, &map, Season::SpringMoves, BEHIND)?;
+    for unit in board.units() {
+        check_out_of_force(rt, alloc, &map, &board, unit)?;
+    }
+    Ok(())
+}
+
 #[test]
 fn what_is_not_in_force_is_left_out(rt: HostRuntime) -> Result<(), Fail> {
-    let alloc = rt.alloc();
-    let map = Map::from_toml(alloc, STANDARD)?;
-    let board = board_of(&rt, alloc, &map, Season::SpringMoves, BEHIND)?;
-    for unit in board.units() {
-        check_out_of_force(&rt, alloc, &map, &board, unit)?;
-    }
+    check_units(&rt, rt.alloc())?;
     Ok(())
 }

@@ -1,15 +1,22 @@
 -- The orders that stand: each in force, one for each unit, and those given among them.
-use Rattle.std.proofs.Common.{◌≡◌, ℕ, ◌<◌, ◌==◌, ◌&&◌, ◌⊎◌, Bool, true, false, zero, suc, length, get_or, List, [], ◌∷◌, refl, ap, subst, inl, inr, arith, Option, Some, None, find, map}
+use Rattle.std.proofs.Common.{◌≡◌, ℕ, ◌<◌, ◌==◌, ◌&&◌, ◌⊎◌, Bool, true, false, zero, suc, length, get_or, List, [], ◌∷◌, refl, sym, ap, subst, inl, inr, arith, not, Option, Some, None, find, map, ◌≢◌}
 use Rattle.std.specs.Prelude.{Contains, option_map}
 use Rattle.std.specs.Option.{unwrap_or}
-use Rattle.std.proofs.lemmas.Bool.{cases_Bool, and_parts, and_from, eqb-true}
+use Rattle.std.proofs.lemmas.Bool.{cases_Bool, and_parts, and_from, eqb-true, not-true}
+use Rattle.std.proofs.lemmas.Bool.Decides.{eqb_tells}
 use Rattle.dip_map.specs.declared.names.Kind.{Kind}
 use Rattle.dip_map.specs.declared.names.Kind.TheVariants.{Army, Fleet}
+use Rattle.dip_map.specs.declared.names.Place.{Place}
 use Rattle.dip_map.specs.declared.names.Unit.{Unit as Piece}
+use Rattle.dip_map.specs.declared.boards.Season.{Season}
+use Rattle.dip_map.specs.declared.boards.Season.TheVariants.{SpringMoves, SpringRetreats, FallMoves, FallRetreats, Winter}
+use Rattle.dip_map.specs.Charts.{Chart, IsMap, province, is_army_next}
 use Rattle.dip_map.specs.Boards.{Position}
-use Rattle.dip_orders.specs.Tests.{is_kind}
+use Rattle.dip_orders.specs.Lawful.{IsLawful, IsAllowed, Reaches}
+use Rattle.dip_orders.specs.Tests.{is_kind, is_coastal, is_movement, is_retreat, is_adjustment, may_convoy, may_march}
 use Rattle.dip_orders.specs.Standing.{is_done_from, is_in_force, are_in_force, is_same_unit, found_order, order_among, standing_orders, units_of, IsOnly}
-use Rattle.dip_orders.specs.declared.placed.Order.TheVariants.{Hold}
+use Rattle.dip_orders.specs.declared.placed.Order.{Order}
+use Rattle.dip_orders.specs.declared.placed.Order.TheVariants.{Hold, Move, SupportHold, SupportMove, Convoy, Retreat, Disband, Build, Remove}
 use Rattle.dip_orders.specs.declared.placed.PlacedOrder.{PlacedOrder}
 use Rattle.dip_orders.proofs.FindLaws.{find_passes}
 
@@ -101,3 +108,57 @@ standing_kept b pending o given there force only =
     let found : found_order pending o.unit ≡ Some o = only_is_found pending o given force only in
     let is : order_among pending o.unit ≡ o = rw found refl in
     subst (λ p. Contains (standing_orders b pending) p) is made
+
+neither : (a b : ℕ) → a ≢ b → (a == b) ≡ false
+neither a b h = elim (eqb_tells a b) [ inl same ↦ absurd (h same.1) | inr other ↦ other.0 ]
+
+convoy_away : (m : Chart) (p q : ℕ) → may_convoy m p q ≡ true → q ≢ p
+convoy_away m p q h e =
+    let rest = (and_parts (is_coastal (province m p).terrain) (is_coastal (province m q).terrain && not (p == q)) h).1 in
+    let apart : (p == q) ≡ false = not-true (p == q) (and_parts (is_coastal (province m q).terrain) (not (p == q)) rest).1 in
+    elim (eqb_tells p q) [
+      | inl same ↦ let yes : (p == q) ≡ true = same.0 in absurd (cc)
+      | inr other ↦ absurd (other.1 (sym e))
+    ]
+
+march_away : (m : Chart) → IsMap m → (p q : ℕ) → may_march m p q ≡ true → q ≢ p
+march_away m laws p q h =
+    elim (cases_Bool (is_army_next m p q)) [
+      | inl next ↦ (laws.army_away p q next).0
+      | inr other ↦ convoy_away m p q (rw other at h)
+    ]
+
+-- where a unit can go is another province
+reach_away : (m : Chart) → IsMap m → (k : Kind) (a to : Place) (via : Bool) → Reaches m k a to via → to.prov ≢ a.prov
+reach_away m laws Army a to true h = convoy_away m a.prov to.prov h.1
+reach_away m laws Army a to false h = march_away m laws a.prov to.prov h.1
+reach_away m laws Fleet a to via h = laws.fleet_away a to h.1
+
+no_phase_of_both : (s : Season) → is_movement s ≡ true → is_retreat s ≡ true → ⊥
+no_phase_of_both SpringMoves f g = absurd (cc)
+no_phase_of_both SpringRetreats f g = absurd (cc)
+no_phase_of_both FallMoves f g = absurd (cc)
+no_phase_of_both FallRetreats f g = absurd (cc)
+no_phase_of_both Winter f g = absurd (cc)
+
+no_winter_moves : (s : Season) → is_movement s ≡ true → is_adjustment s ≡ true → ⊥
+no_winter_moves SpringMoves f g = absurd (cc)
+no_winter_moves SpringRetreats f g = absurd (cc)
+no_winter_moves FallMoves f g = absurd (cc)
+no_winter_moves FallRetreats f g = absurd (cc)
+no_winter_moves Winter f g = absurd (cc)
+
+allowed_in_force : (m : Chart) → IsMap m → (b : Position) (power : ℕ) (pending : List PlacedOrder) (u : Piece) (o : Order) → is_movement b.phase.season ≡ true → IsAllowed m b power pending u o → is_done_from u.place.prov o ≡ true
+allowed_in_force m laws b power pending u Hold now h = refl
+allowed_in_force m laws b power pending u (Move to via) now h = rw (neither to.prov u.place.prov (reach_away m laws u.kind u.place to via h.1.1)) refl
+allowed_in_force m laws b power pending u (SupportHold at) now h = refl
+allowed_in_force m laws b power pending u (SupportMove at to) now h = refl
+allowed_in_force m laws b power pending u (Convoy at to) now h = refl
+allowed_in_force m laws b power pending u (Retreat to) now h = absurd (no_phase_of_both b.phase.season now h.0)
+allowed_in_force m laws b power pending u Disband now h = absurd (no_phase_of_both b.phase.season now h.0)
+allowed_in_force m laws b power pending u Build now h = absurd (no_winter_moves b.phase.season now h.0)
+allowed_in_force m laws b power pending u Remove now h = absurd (no_winter_moves b.phase.season now h.0)
+
+-- a lawful order of a phase of movement is in force
+pub lawful_in_force : (m : Chart) (b : Position) (power : ℕ) (pending : List PlacedOrder) (o : PlacedOrder) → IsMap m → is_movement b.phase.season ≡ true → IsLawful m b power pending o → is_in_force o ≡ true
+lawful_in_force m b power pending o laws now h = allowed_in_force m laws b power pending o.unit o.order now h

@@ -7,6 +7,7 @@ ghost use Rattle.dip_orders.specs.Reading.{order_of};
 ghost use Rattle.dip_orders.specs.Texts.{order_text};
 ghost use Rattle.dip_orders.specs.declared.placed.PlacedOrder.{PlacedOrder as AnOrder};
 ghost use Rattle.std.specs.Prelude.{Contains, true};
+ghost use Rattle.dip_orders.specs.Tests.{is_movement};
 ghost use Rattle.dip_orders.specs.Standing.{IsOnly, is_in_force, are_in_force, standing_orders, units_of};
 
 use dip_forms::forms_are_read;
@@ -35,3 +36,10 @@ pub fn each_unit_has_one_order()
     ensures in_force { (b : Position) (pending : List AnOrder) → are_in_force (standing_orders b pending) ≡ true }
     ensures kept { (b : Position) (pending : List AnOrder) (o : AnOrder) → Contains pending o → Contains b.units o.unit → is_in_force o ≡ true → IsOnly o pending → Contains (standing_orders b pending) o }
 {}
+
+/// An order that was read in a phase of movement is in force. A law: it does nothing.
+pub fn orders_read_are_in_force()
+    ensures { (m : Chart) (b : Position) (power : ℕ) (pending : List AnOrder) (line : List ℕ) (o : AnOrder) → IsMap m → IsOf m b → is_movement b.phase.season ≡ true → order_of m b power pending line ≡ Ok o → is_in_force o ≡ true }
+{
+    orders_are_lawful();
+}

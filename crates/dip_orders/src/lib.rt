@@ -19,7 +19,9 @@ mod withdrawals;
 pub use allowances::allowance;
 pub use dip_forms::{TokenList, tokens};
 pub use faults::OrderFault;
-pub use laws::{each_unit_has_one_order, orders_are_lawful, orders_are_read_again};
+pub use laws::{
+    each_unit_has_one_order, orders_are_lawful, orders_are_read_again, orders_read_are_in_force,
+};
 pub use placed::{Order, Other, PlacedOrder};
 pub use printing::{print_order, print_unit};
 pub use reading::read_order;

@@ -33,7 +33,7 @@ impl Orders {
     /// that was given none holds.
     ///
     /// An order of another phase is not in force, nor is a move to the unit's own province: no such order is ever read in a phase of
-    /// movement, and what decides it is spared them. An order of a unit that isn't on the board is left out. The only error is want of
+    /// movement (`orders_read_are_in_force`), and what decides it is spared them. An order of a unit that isn't on the board is left out. The only error is want of
     /// memory.
     pub fn standing(
         alloc: Global,

@@ -1,7 +1,8 @@
 //! What lines give, as text.
-use super::the_power;
+use super::scenes::{Scene, board_of};
+use super::{assert_count, assert_text, the_power};
 use crate::{OrderFault, PlacedOrder, print_order, read_order};
-use dip_map::{Board, Map, Power};
+use dip_map::{Board, Map, MapFault, Power, STANDARD, Season};
 use std::alloc::{AllocError, Global};
 use std::process::Abort;
 
@@ -61,8 +62,23 @@ pub(crate) fn answer(
     text_of(alloc, map, read)
 }
 
-/// How many cases there are, each of which is right: `france: A par H = A par H`, and with the orders that the power gave
-/// before, `france after BUILD A par, BUILD A mar: BUILD A bre = O13 allowance used`.
+/// A case is right: `france: A par H = A par H`, and with the orders that the power gave before,
+/// `france after BUILD A par, BUILD A mar: BUILD A bre = O13 allowance used`.
+fn check_case(
+    rt: &impl Abort,
+    alloc: Global,
+    map: &Map,
+    board: &Board,
+    case: &str,
+) -> Result<(), AllocError> {
+    let (who, rest) = case.split_once(": ").expect(rt, "a power");
+    let (line, wanted) = rest.split_once(" = ").expect(rt, "an answer");
+    let text = answer(rt, alloc, map, board, who, line)?;
+    assert_text(rt, text.as_str(), wanted, case);
+    Ok(())
+}
+
+/// How many cases there are, each of which is right.
 pub(crate) fn check(
     rt: &impl Abort,
     alloc: Global,
@@ -72,11 +88,44 @@ pub(crate) fn check(
 ) -> Result<u32, AllocError> {
     let mut count = 0u32;
     for case in cases.lines() {
-        let (who, rest) = case.split_once(": ").expect(rt, "a power");
-        let (line, wanted) = rest.split_once(" = ").expect(rt, "an answer");
-        let text = answer(rt, alloc, map, board, who, line)?;
-        assert_eq!(rt; text.as_str(), wanted, "at {case}");
+        check_case(rt, alloc, map, board, case)?;
         count = count.saturating_add(1);
     }
     Ok(count)
+}
+
+/// Lines on the board of a scene, and how many there are.
+#[derive(Clone, Copy)]
+pub struct Table {
+    pub season: Season,
+    pub scene: Scene,
+    pub cases: &'static str,
+    pub count: u32,
+}
+
+fn check_table(rt: &impl Abort, alloc: Global, map: &Map, table: &Table) -> Result<(), AllocError> {
+    let board = board_of(rt, alloc, map, table.season, table.scene)?;
+    let count = check(rt, alloc, map, &board, table.cases)?;
+    assert_count(rt, count, table.count);
+    Ok(())
+}
+
+/// Each case of the tables is right.
+pub(crate) fn check_tables(
+    rt: &impl Abort,
+    alloc: Global,
+    tables: &[Table],
+) -> Result<(), MapFault> {
+    let map = Map::from_toml(alloc, STANDARD)?;
+    for table in tables {
+        check_table(rt, alloc, &map, table)?;
+    }
+    Ok(())
+}
+
+/// How many cases there are on the board of the opening, each of which is right.
+pub(crate) fn check_opening(rt: &impl Abort, alloc: Global, cases: &str) -> Result<u32, MapFault> {
+    let map = Map::from_toml(alloc, STANDARD)?;
+    let board = Board::opening(alloc, &map)?;
+    Ok(check(rt, alloc, &map, &board, cases)?)
 }

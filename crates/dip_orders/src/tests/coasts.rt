@@ -1,7 +1,7 @@
 //! Fleets and the coasts that they come to.
-use super::answers::check;
-use super::scenes::{Scene, board_of};
-use dip_map::{Map, STANDARD, Season};
+use super::answers::{Table, check_tables};
+use super::scenes::Scene;
+use dip_map::Season;
 use std::test::Fail;
 
 /// Fleets beside provinces of two coasts and on such coasts, and an army in such a province.
@@ -46,12 +46,15 @@ austria: A bul/ec - gre = A bul - gre
 austria: A bul/nc - gre = O7 wrong coast
 ";
 
+const TABLES: [Table; 1] = [Table {
+    season: Season::SpringMoves,
+    scene: FLEETS,
+    cases: COASTS,
+    count: 30,
+}];
+
 #[test]
 fn a_fleet_comes_to_a_coast(rt: HostRuntime) -> Result<(), Fail> {
-    let alloc = rt.alloc();
-    let map = Map::from_toml(alloc, STANDARD)?;
-    let board = board_of(&rt, alloc, &map, Season::SpringMoves, FLEETS)?;
-    let count = check(&rt, alloc, &map, &board, COASTS)?;
-    assert_eq!(rt; count, 30);
+    check_tables(&rt, rt.alloc(), &TABLES)?;
     Ok(())
 }

@@ -1,6 +1,7 @@
 //! Bytes, case and spaces of lines.
-use super::answers::{answer, check};
-use dip_map::{Board, Map, STANDARD};
+use super::answers::{answer, check_opening};
+use super::{assert_count, assert_text};
+use dip_map::{Board, Map, MapFault, STANDARD};
 use std::alloc::{AllocError, Global};
 use std::process::Abort;
 use std::test::Fail;
@@ -46,11 +47,8 @@ russia: a mos s f sEv/NC = O7 wrong coast
 
 #[test]
 fn case_and_spaces_are_free(rt: HostRuntime) -> Result<(), Fail> {
-    let alloc = rt.alloc();
-    let map = Map::from_toml(alloc, STANDARD)?;
-    let board = Board::opening(alloc, &map)?;
-    let count = check(&rt, alloc, &map, &board, SPACES)?;
-    assert_eq!(rt; count, 36);
+    let count = check_opening(&rt, rt.alloc(), SPACES)?;
+    assert_count(&rt, count, 36);
     Ok(())
 }
 
@@ -66,58 +64,82 @@ const CUTS: [(&str, &str, &str); 8] = [
     ("A par H", "", "A par H"),
 ];
 
-/// How many lines there are with a byte put into the cut; they are no orders but for the space.
-fn check_cut(
+/// A line of France has this answer.
+fn check_line(
     rt: &impl Abort,
     alloc: Global,
     map: &Map,
     board: &Board,
-    before: &str,
-    behind: &str,
-    spaced: &str,
-) -> Result<u32, AllocError> {
+    line: &str,
+    wanted: &str,
+) -> Result<(), AllocError> {
+    let text = answer(rt, alloc, map, board, "france", line)?;
+    assert_text(rt, text.as_str(), wanted, line);
+    Ok(())
+}
+
+/// A line with a byte put into the cut is no order but for the space.
+fn check_byte(
+    rt: &impl Abort,
+    alloc: Global,
+    map: &Map,
+    board: &Board,
+    cut: (&str, &str, &str),
+    byte: u8,
+) -> Result<(), AllocError> {
+    let (before, behind, spaced) = cut;
+    let c = byte as char;
+    let line = format!(in alloc; "{before}{c}{behind}")?;
+    let wanted = if byte == b' ' {
+        spaced
+    } else {
+        "O1 cannot be read"
+    };
+    check_line(rt, alloc, map, board, line.as_str(), wanted)
+}
+
+/// How many lines there are with a byte put into a cut, each of which is right.
+fn check_cuts(rt: &impl Abort, alloc: Global, map: &Map, board: &Board) -> Result<u32, AllocError> {
     let mut count = 0u32;
-    for code in 0u8..128 {
-        let c = code as char;
-        let line = format!(in alloc; "{before}{c}{behind}")?;
-        let text = answer(rt, alloc, map, board, "france", line.as_str())?;
-        let wanted = if c == ' ' {
-            spaced
-        } else {
-            "O1 cannot be read"
-        };
-        assert_eq!(rt; text.as_str(), wanted, "at {line}");
-        count = count.saturating_add(1);
+    for cut in CUTS {
+        for byte in 0u8..128 {
+            check_byte(rt, alloc, map, board, cut, byte)?;
+            count = count.saturating_add(1);
+        }
     }
     Ok(count)
 }
 
-#[test]
-fn one_more_byte_is_harmless_only_as_a_space(rt: HostRuntime) -> Result<(), Fail> {
-    let alloc = rt.alloc();
-    let map = Map::from_toml(alloc, STANDARD)?;
-    let board = Board::opening(alloc, &map)?;
-    let mut count = 0u32;
-    for (before, behind, spaced) in CUTS {
-        let tried = check_cut(&rt, alloc, &map, &board, before, behind, spaced)?;
-        count = count.saturating_add(tried);
+/// A piece a hundred times.
+fn repeated(alloc: Global, piece: &str) -> Result<String, AllocError> {
+    let mut line = String::new(alloc);
+    for _ in 0..100 {
+        line.push_str(piece)?;
     }
-    assert_eq!(rt; count, 1024);
+    Ok(line)
+}
+
+const PIECES: [&str; 8] = ["-", "a", "A", " ", "/", "a ", "A par H", "é"];
+
+/// A line of a hundred pieces is no order.
+fn check_long(rt: &impl Abort, alloc: Global, map: &Map, board: &Board) -> Result<(), AllocError> {
+    for piece in PIECES {
+        let line = repeated(alloc, piece)?;
+        check_line(rt, alloc, map, board, line.as_str(), "O1 cannot be read")?;
+    }
     Ok(())
 }
 
-#[test]
-fn long_lines_are_no_orders(rt: HostRuntime) -> Result<(), Fail> {
-    let alloc = rt.alloc();
+fn check_more_bytes(rt: &impl Abort, alloc: Global) -> Result<u32, MapFault> {
     let map = Map::from_toml(alloc, STANDARD)?;
     let board = Board::opening(alloc, &map)?;
-    for piece in ["-", "a", "A", " ", "/", "a ", "A par H", "é"] {
-        let mut line = String::new(alloc);
-        for _ in 0..100 {
-            line.push_str(piece)?;
-        }
-        let text = answer(&rt, alloc, &map, &board, "france", line.as_str())?;
-        assert_eq!(rt; text.as_str(), "O1 cannot be read", "at {piece}");
-    }
+    check_long(rt, alloc, &map, &board)?;
+    Ok(check_cuts(rt, alloc, &map, &board)?)
+}
+
+#[test]
+fn more_bytes_are_harmless_only_as_spaces(rt: HostRuntime) -> Result<(), Fail> {
+    let count = check_more_bytes(&rt, rt.alloc())?;
+    assert_count(&rt, count, 1024);
     Ok(())
 }

@@ -1,7 +1,7 @@
 //! Lines that hold and move.
-use super::answers::check;
-use super::scenes::{FIELD, board_of};
-use dip_map::{Map, STANDARD, Season};
+use super::answers::{Table, check_tables};
+use super::scenes::FIELD;
+use dip_map::Season;
 use std::test::Fail;
 
 /// A power, its line, and the canonical text or the fault. A line that breaks two rules has the fault of the first.
@@ -22,16 +22,6 @@ france: F mao H = F mao H
 russia: F stp/ec H = O7 wrong coast
 russia: F stp/sc H = F stp/sc H
 ";
-
-#[test]
-fn faults_of_holds_come_in_order(rt: HostRuntime) -> Result<(), Fail> {
-    let alloc = rt.alloc();
-    let map = Map::from_toml(alloc, STANDARD)?;
-    let board = board_of(&rt, alloc, &map, Season::SpringMoves, FIELD)?;
-    let count = check(&rt, alloc, &map, &board, HOLDS)?;
-    assert_eq!(rt; count, 16);
-    Ok(())
-}
 
 /// The same of fleets that move.
 const FLEETS: &str = "england: F lon - = O1 cannot be read
@@ -59,16 +49,6 @@ france: F mao - spa VIA = O4 wrong kind of unit
 france: F mao - eng = F mao - eng
 turkey: F con - bul = O6 coast needed
 ";
-
-#[test]
-fn faults_of_fleets_moves_come_in_order(rt: HostRuntime) -> Result<(), Fail> {
-    let alloc = rt.alloc();
-    let map = Map::from_toml(alloc, STANDARD)?;
-    let board = board_of(&rt, alloc, &map, Season::FallMoves, FIELD)?;
-    let count = check(&rt, alloc, &map, &board, FLEETS)?;
-    assert_eq!(rt; count, 24);
-    Ok(())
-}
 
 /// The same of armies that move.
 const ARMIES: &str = "france: A par - = O1 cannot be read
@@ -107,12 +87,29 @@ france: A mar - tun = A mar - tun
 france: A mar - tun VIA = A mar - tun VIA
 ";
 
+const TABLES: [Table; 3] = [
+    Table {
+        season: Season::SpringMoves,
+        scene: FIELD,
+        cases: HOLDS,
+        count: 16,
+    },
+    Table {
+        season: Season::FallMoves,
+        scene: FIELD,
+        cases: FLEETS,
+        count: 24,
+    },
+    Table {
+        season: Season::SpringMoves,
+        scene: FIELD,
+        cases: ARMIES,
+        count: 34,
+    },
+];
+
 #[test]
-fn faults_of_armies_moves_come_in_order(rt: HostRuntime) -> Result<(), Fail> {
-    let alloc = rt.alloc();
-    let map = Map::from_toml(alloc, STANDARD)?;
-    let board = board_of(&rt, alloc, &map, Season::SpringMoves, FIELD)?;
-    let count = check(&rt, alloc, &map, &board, ARMIES)?;
-    assert_eq!(rt; count, 34);
+fn faults_of_holds_and_moves_come_in_order(rt: HostRuntime) -> Result<(), Fail> {
+    check_tables(&rt, rt.alloc(), &TABLES)?;
     Ok(())
 }

@@ -1,6 +1,6 @@
 //! Lines on the board of the opening.
-use super::answers::check;
-use dip_map::{Board, Map, STANDARD};
+use super::answers::check_opening;
+use super::assert_count;
 use std::test::Fail;
 
 /// A power, its line, and the canonical text or the fault.
@@ -48,10 +48,7 @@ turkey: F ank S A con = F ank S A con
 
 #[test]
 fn orders_on_the_opening_board(rt: HostRuntime) -> Result<(), Fail> {
-    let alloc = rt.alloc();
-    let map = Map::from_toml(alloc, STANDARD)?;
-    let board = Board::opening(alloc, &map)?;
-    let count = check(&rt, alloc, &map, &board, OPENING)?;
-    assert_eq!(rt; count, 40);
+    let count = check_opening(&rt, rt.alloc(), OPENING)?;
+    assert_count(&rt, count, 40);
     Ok(())
 }

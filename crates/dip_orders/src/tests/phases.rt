@@ -1,7 +1,10 @@
 //! Which forms belong to which phase.
 use super::answers::answer;
+use super::assert_count;
 use super::scenes::{Scene, board_of};
-use dip_map::{Map, STANDARD, Season};
+use dip_map::{Board, Map, MapFault, STANDARD, Season};
+use std::alloc::{AllocError, Global};
+use std::process::Abort;
 use std::test::Fail;
 
 /// A unit that stands and one that was dislodged, of each of two powers.
@@ -67,22 +70,52 @@ const SEASONS: [Season; 5] = [
     Season::Winter,
 ];
 
-#[test]
-fn a_form_belongs_to_one_phase(rt: HostRuntime) -> Result<(), Fail> {
-    let alloc = rt.alloc();
+/// A line has its phase, or is refused.
+fn check_line(
+    rt: &impl Abort,
+    alloc: Global,
+    map: &Map,
+    board: &Board,
+    line: &str,
+    is_in_phase: bool,
+) -> Result<(), AllocError> {
+    let text = answer(rt, alloc, map, board, "france", line)?;
+    let is_refused = text.as_str() == "O11 not in this phase";
+    assert_eq!(rt; is_refused, !is_in_phase, "at {line}");
+    Ok(())
+}
+
+/// How many lines there are, each of which has its phase or is refused.
+fn check_lines(
+    rt: &impl Abort,
+    alloc: Global,
+    map: &Map,
+    season: Season,
+) -> Result<u32, AllocError> {
+    let board = board_of(rt, alloc, map, season, BOTH)?;
+    let mut count = 0u32;
+    for (letter, lines) in FORMS {
+        let is_in_phase = letter == letter_of(season);
+        for line in lines.lines() {
+            check_line(rt, alloc, map, &board, line, is_in_phase)?;
+            count = count.saturating_add(1);
+        }
+    }
+    Ok(count)
+}
+
+fn check_seasons(rt: &impl Abort, alloc: Global) -> Result<u32, MapFault> {
     let map = Map::from_toml(alloc, STANDARD)?;
     let mut count = 0u32;
     for season in SEASONS {
-        let board = board_of(&rt, alloc, &map, season, BOTH)?;
-        for (letter, lines) in FORMS {
-            for line in lines.lines() {
-                let text = answer(&rt, alloc, &map, &board, "france", line)?;
-                let is_refused = text.as_str() == "O11 not in this phase";
-                assert_eq!(rt; is_refused, letter != letter_of(season), "at {line}");
-                count = count.saturating_add(1);
-            }
-        }
+        count = count.saturating_add(check_lines(rt, alloc, &map, season)?);
     }
-    assert_eq!(rt; count, 110);
+    Ok(count)
+}
+
+#[test]
+fn a_form_belongs_to_one_phase(rt: HostRuntime) -> Result<(), Fail> {
+    let count = check_seasons(&rt, rt.alloc())?;
+    assert_count(&rt, count, 110);
     Ok(())
 }

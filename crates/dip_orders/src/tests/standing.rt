@@ -1,10 +1,11 @@
 //! The orders that stand when a movement is decided.
 use super::answers::pending_of;
 use super::scenes::{Scene, board_of};
-use super::the_power;
+use super::{assert_text, the_power};
 use crate::{Order, Orders, PlacedOrder, print_order};
-use dip_map::{Board, Map, Place, STANDARD, Season};
+use dip_map::{Board, Map, MapFault, Place, STANDARD, Season, Unit};
 use std::alloc::{AllocError, Global};
+use std::process::Abort;
 use std::test::Fail;
 
 /// The board that orders are read on, and the one on which they stand, where an army is gone.
@@ -52,18 +53,32 @@ fn standing_text(
     Ok(text)
 }
 
+/// The orders that stand behind the lines that France gave.
+fn text_behind(
+    rt: &impl Abort,
+    alloc: Global,
+    map: &Map,
+    given: &str,
+) -> Result<String, AllocError> {
+    let france = the_power(rt, map, "france");
+    let before = board_of(rt, alloc, map, Season::SpringMoves, BEFORE)?;
+    let behind = board_of(rt, alloc, map, Season::SpringMoves, BEHIND)?;
+    let pending = pending_of(rt, alloc, map, &before, france, given)?;
+    standing_text(alloc, map, &behind, pending.as_slice())
+}
+
+fn check_given(rt: &impl Abort, alloc: Global) -> Result<(), MapFault> {
+    let map = Map::from_toml(alloc, STANDARD)?;
+    for (given, wanted) in CASES {
+        let text = text_behind(rt, alloc, &map, given)?;
+        assert_text(rt, text.as_str(), wanted, given);
+    }
+    Ok(())
+}
+
 #[test]
 fn each_unit_has_one_order(rt: HostRuntime) -> Result<(), Fail> {
-    let alloc = rt.alloc();
-    let map = Map::from_toml(alloc, STANDARD)?;
-    let france = the_power(&rt, &map, "france");
-    let before = board_of(&rt, alloc, &map, Season::SpringMoves, BEFORE)?;
-    let behind = board_of(&rt, alloc, &map, Season::SpringMoves, BEHIND)?;
-    for (given, wanted) in CASES {
-        let pending = pending_of(&rt, alloc, &map, &before, france, given)?;
-        let text = standing_text(alloc, &map, &behind, pending.as_slice())?;
-        assert_eq!(rt; text.as_str(), wanted, "at {given}");
-    }
+    check_given(&rt, rt.alloc())?;
     Ok(())
 }
 
@@ -79,18 +94,39 @@ fn order_out_of_force(number: u8, to: Place) -> Order {
     }
 }
 
+/// The units of a board hold whatever of these orders one of them was given.
+fn check_out_of_force(
+    rt: &impl Abort,
+    alloc: Global,
+    map: &Map,
+    board: &Board,
+    unit: &Unit,
+) -> Result<(), AllocError> {
+    for number in 0u8..6 {
+        let order = order_out_of_force(number, unit.place);
+        let pending = [PlacedOrder { unit: *unit, order }];
+        let text = standing_text(alloc, map, board, &pending)?;
+        assert_text(
+            rt,
+            text.as_str(),
+            "A par H, A mar H",
+            "an order out of force",
+        );
+    }
+    Ok(())
+}
+
+fn check_units(rt: &impl Abort, alloc: Global) -> Result<(), MapFault> {
+    let map = Map::from_toml(alloc, STANDARD)?;
+    let board = board_of(rt, alloc, &map, Season::SpringMoves, BEHIND)?;
+    for unit in board.units() {
+        check_out_of_force(rt, alloc, &map, &board, unit)?;
+    }
+    Ok(())
+}
+
 #[test]
 fn what_is_not_in_force_is_left_out(rt: HostRuntime) -> Result<(), Fail> {
-    let alloc = rt.alloc();
-    let map = Map::from_toml(alloc, STANDARD)?;
-    let board = board_of(&rt, alloc, &map, Season::SpringMoves, BEHIND)?;
-    for unit in board.units() {
-        for number in 0u8..6 {
-            let order = order_out_of_force(number, unit.place);
-            let pending = [PlacedOrder { unit: *unit, order }];
-            let text = standing_text(alloc, &map, &board, &pending)?;
-            assert_eq!(rt; text.as_str(), "A par H, A mar H", "at {number}");
-        }
-    }
+    check_units(&rt, rt.alloc())?;
     Ok(())
 }

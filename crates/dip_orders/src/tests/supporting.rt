@@ -1,7 +1,7 @@
 //! Lines that support and convoy.
-use super::answers::check;
-use super::scenes::{FIELD, board_of};
-use dip_map::{Map, STANDARD, Season};
+use super::answers::{Table, check_tables};
+use super::scenes::FIELD;
+use dip_map::Season;
 use std::test::Fail;
 
 /// A power, its line, and the canonical text or the fault. A line that breaks two rules has the fault of the first.
@@ -35,16 +35,6 @@ russia: A fin S F stp/nc = A fin S F stp
 russia: A fin S F stp/ec = O7 wrong coast
 russia: F stp/nc S A fin H = F stp/sc S A fin
 ";
-
-#[test]
-fn faults_of_supports_to_hold_come_in_order(rt: HostRuntime) -> Result<(), Fail> {
-    let alloc = rt.alloc();
-    let map = Map::from_toml(alloc, STANDARD)?;
-    let board = board_of(&rt, alloc, &map, Season::SpringMoves, FIELD)?;
-    let count = check(&rt, alloc, &map, &board, HOLDS)?;
-    assert_eq!(rt; count, 29);
-    Ok(())
-}
 
 /// The same of supports of moves.
 const MOVES: &str = "france: A par S A mar - = O1 cannot be read
@@ -87,16 +77,6 @@ england: F nth S F stp/nc - nwy = O9 support out of reach
 england: F nth S A fin - nwy = F nth S A fin - nwy
 ";
 
-#[test]
-fn faults_of_supports_of_moves_come_in_order(rt: HostRuntime) -> Result<(), Fail> {
-    let alloc = rt.alloc();
-    let map = Map::from_toml(alloc, STANDARD)?;
-    let board = board_of(&rt, alloc, &map, Season::FallMoves, FIELD)?;
-    let count = check(&rt, alloc, &map, &board, MOVES)?;
-    assert_eq!(rt; count, 38);
-    Ok(())
-}
-
 /// The same of convoys.
 const CONVOYS: &str = "england: F nth C A yor = O1 cannot be read
 england: F nth C F lon - bel = O1 cannot be read
@@ -132,12 +112,29 @@ france: F mao C A gas - spa/ec = O7 wrong coast
 france: F mao C A pie - tun = F mao C A pie - tun
 ";
 
+const TABLES: [Table; 3] = [
+    Table {
+        season: Season::SpringMoves,
+        scene: FIELD,
+        cases: HOLDS,
+        count: 29,
+    },
+    Table {
+        season: Season::FallMoves,
+        scene: FIELD,
+        cases: MOVES,
+        count: 38,
+    },
+    Table {
+        season: Season::SpringMoves,
+        scene: FIELD,
+        cases: CONVOYS,
+        count: 32,
+    },
+];
+
 #[test]
-fn faults_of_convoys_come_in_order(rt: HostRuntime) -> Result<(), Fail> {
-    let alloc = rt.alloc();
-    let map = Map::from_toml(alloc, STANDARD)?;
-    let board = board_of(&rt, alloc, &map, Season::SpringMoves, FIELD)?;
-    let count = check(&rt, alloc, &map, &board, CONVOYS)?;
-    assert_eq!(rt; count, 32);
+fn faults_of_supports_and_convoys_come_in_order(rt: HostRuntime) -> Result<(), Fail> {
+    check_tables(&rt, rt.alloc(), &TABLES)?;
     Ok(())
 }

@@ -1,7 +1,7 @@
 //! Lines of the Winter.
-use super::answers::check;
-use super::scenes::{Scene, board_of};
-use dip_map::{Map, STANDARD, Season};
+use super::answers::{Table, check_tables};
+use super::scenes::Scene;
+use dip_map::Season;
 use std::test::Fail;
 
 /// Russia and France may build two units each and Italy one, though Russia has no centre and the others no room for more; Austria has as
@@ -67,16 +67,6 @@ germany: BUILD A mun = O12 no build there
 turkey: BUILD A ank = O12 no build there
 ";
 
-#[test]
-fn builds_stay_within_the_allowance(rt: HostRuntime) -> Result<(), Fail> {
-    let alloc = rt.alloc();
-    let map = Map::from_toml(alloc, STANDARD)?;
-    let board = board_of(&rt, alloc, &map, Season::Winter, SNOW)?;
-    let count = check(&rt, alloc, &map, &board, BUILDS)?;
-    assert_eq!(rt; count, 48);
-    Ok(())
-}
-
 /// The same of removals.
 const REMOVALS: &str = "turkey: REMOVE = O1 cannot be read
 turkey: REMOVE aeg = O1 cannot be read
@@ -106,12 +96,23 @@ austria: REMOVE A gal = O13 allowance used
 france: REMOVE A bur = O13 allowance used
 ";
 
+const TABLES: [Table; 2] = [
+    Table {
+        season: Season::Winter,
+        scene: SNOW,
+        cases: BUILDS,
+        count: 48,
+    },
+    Table {
+        season: Season::Winter,
+        scene: SNOW,
+        cases: REMOVALS,
+        count: 26,
+    },
+];
+
 #[test]
-fn removals_stay_within_what_is_owed(rt: HostRuntime) -> Result<(), Fail> {
-    let alloc = rt.alloc();
-    let map = Map::from_toml(alloc, STANDARD)?;
-    let board = board_of(&rt, alloc, &map, Season::Winter, SNOW)?;
-    let count = check(&rt, alloc, &map, &board, REMOVALS)?;
-    assert_eq!(rt; count, 26);
+fn builds_and_removals_stay_within_the_allowance(rt: HostRuntime) -> Result<(), Fail> {
+    check_tables(&rt, rt.alloc(), &TABLES)?;
     Ok(())
 }

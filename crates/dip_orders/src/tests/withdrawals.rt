@@ -1,7 +1,7 @@
 //! Lines of dislodged units.
-use super::answers::check;
-use super::scenes::{Scene, board_of};
-use dip_map::{Map, STANDARD, Season};
+use super::answers::{Table, check_tables};
+use super::scenes::Scene;
+use dip_map::Season;
 use std::test::Fail;
 
 /// The army in Munich was dislodged by one that came from Burgundy.
@@ -33,16 +33,6 @@ germany: A mun R mun = O14 no such retreat
 germany: A mun R par = O14 no such retreat
 germany: A mun D = A mun D
 ";
-
-#[test]
-fn an_army_retreats_to_what_is_open(rt: HostRuntime) -> Result<(), Fail> {
-    let alloc = rt.alloc();
-    let map = Map::from_toml(alloc, STANDARD)?;
-    let board = board_of(&rt, alloc, &map, Season::SpringRetreats, BESIDE)?;
-    let count = check(&rt, alloc, &map, &board, MUNICH)?;
-    assert_eq!(rt; count, 10);
-    Ok(())
-}
 
 /// The same. A line that breaks two rules has the fault of the first.
 const RETREATS: &str = "germany: A mun R = O1 cannot be read
@@ -92,16 +82,6 @@ russia: F stp/ec R lvn = O7 wrong coast
 russia: F stp/nc R lvn = F stp/sc R lvn
 ";
 
-#[test]
-fn faults_of_retreats_come_in_order(rt: HostRuntime) -> Result<(), Fail> {
-    let alloc = rt.alloc();
-    let map = Map::from_toml(alloc, STANDARD)?;
-    let board = board_of(&rt, alloc, &map, Season::FallRetreats, ROUT)?;
-    let count = check(&rt, alloc, &map, &board, RETREATS)?;
-    assert_eq!(rt; count, 45);
-    Ok(())
-}
-
 /// The same of lines that disband.
 const DISBANDS: &str = "germany: A mun D D = O1 cannot be read
 germany: A mun D tyr = O1 cannot be read
@@ -117,12 +97,29 @@ russia: F stp/nc D = F stp/sc D
 italy: a TUS d = A tus D
 ";
 
+const TABLES: [Table; 3] = [
+    Table {
+        season: Season::SpringRetreats,
+        scene: BESIDE,
+        cases: MUNICH,
+        count: 10,
+    },
+    Table {
+        season: Season::FallRetreats,
+        scene: ROUT,
+        cases: RETREATS,
+        count: 45,
+    },
+    Table {
+        season: Season::SpringRetreats,
+        scene: ROUT,
+        cases: DISBANDS,
+        count: 12,
+    },
+];
+
 #[test]
-fn faults_of_disbanding_come_in_order(rt: HostRuntime) -> Result<(), Fail> {
-    let alloc = rt.alloc();
-    let map = Map::from_toml(alloc, STANDARD)?;
-    let board = board_of(&rt, alloc, &map, Season::SpringRetreats, ROUT)?;
-    let count = check(&rt, alloc, &map, &board, DISBANDS)?;
-    assert_eq!(rt; count, 12);
+fn faults_of_retreats_and_disbanding_come_in_order(rt: HostRuntime) -> Result<(), Fail> {
+    check_tables(&rt, rt.alloc(), &TABLES)?;
     Ok(())
 }

@@ -1,9 +1,9 @@
 -- What the orders of a movement come to: who goes where and how, and which supports and convoys match.
 use Rattle.std.specs.Prelude.{ℕ, ◌==◌, ◌&&◌, ◌||◌, not, Bool, false, List, map, find, Option, None, Some, is_some}
 use Rattle.std.specs.List.{list_any}
-use Rattle.dip_map.specs.declared.names.Kind.{Kind}
-use Rattle.dip_map.specs.declared.names.Kind.TheVariants.{Army, Fleet}
-use Rattle.dip_map.specs.Charts.{Chart, province, is_army_next}
+use Rattle.dip_parts.specs.declared.names.Kind.{Kind}
+use Rattle.dip_parts.specs.declared.names.Kind.TheVariants.{Army, Fleet}
+use Rattle.dip_parts.specs.Charts.{Chart, province, is_army_next}
 use Rattle.dip_orders.specs.Tests.{is_kind, is_at_sea}
 use Rattle.dip_orders.specs.declared.placed.Other.{Other}
 use Rattle.dip_orders.specs.declared.placed.Order.{Order}

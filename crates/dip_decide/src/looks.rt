@@ -1,6 +1,6 @@
 ghost use Rattle.std.specs.Prelude.{◌≡◌, ◌==◌, Some};
 ghost use Rattle.std.specs.List.{list_any};
-ghost use Rattle.dip_map.specs.Charts.{province, shore};
+ghost use Rattle.dip_parts.specs.Charts.{province, shore};
 ghost use Rattle.dip_orders.specs.Tests.{is_kind, is_at_sea};
 ghost use Rattle.dip_decide.specs.Given.{entry, seen};
 ghost use Rattle.dip_decide.specs.Matching.{destination, target_of, goes_by_convoy, is_convoyed, is_there, is_matched, supports_in, direction, is_carried, convoys_in, is_sea_next};

@@ -4,7 +4,7 @@ ghost use Rattle.dip_decide.specs.Deciding.{give};
 ghost use Rattle.dip_decide.specs.Given.{given};
 ghost use Rattle.dip_decide.specs.Rings.{AreOpen, ArePathsOpen};
 ghost use Rattle.dip_decide.specs.Steps.{moves_of, paths_of};
-ghost use Rattle.dip_map.specs.Charts.{are_provs_single};
+ghost use Rattle.dip_parts.specs.Charts.{are_provs_single};
 
 use crate::decisions::Decision;
 use dip_map::Prov;

@@ -9,7 +9,7 @@ use Rattle.dip_letters.specs.Notes.Request.{Create, Orders, Show}
 use Rattle.dip_map.specs.Boards.{Position, IsOf, opening}
 use Rattle.std.proofs.lemmas.List.Quantifiers.{position-Some}
 use Rattle.dip_letters.specs.Notes.{SeatNote}
-use Rattle.dip_map.specs.Charts.{Chart, Realm, no_realm, power_of}
+use Rattle.dip_parts.specs.Charts.{Chart, Realm, no_realm, power_of}
 use Rattle.dip_reports.specs.Records.{Public, Own, Kept}
 use Rattle.dip_reports.specs.Texts.{numbers}
 use Rattle.dip_reports.specs.declared.refusals.Refusal.TheVariants.{Malformed, WrongSender}

@@ -248,7 +248,7 @@ fn open_game(alloc: Global, games: &mut Vec<GameRow>, effect: &Effect) -> Result
 impl MemoryKeeper {
     ghost use Rattle.dip_desk.specs.Lawful.{IsLawful};
     ghost use Rattle.dip_desk.specs.State.{State};
-    ghost use Rattle.dip_map.specs.Charts.{Chart};
+    ghost use Rattle.dip_parts.specs.Charts.{Chart};
 
     /// An empty desk whose master's secret has this digest.
     pub fn new(alloc: Global, digest: [u8; 32]) -> MemoryKeeper

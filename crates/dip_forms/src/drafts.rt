@@ -1,4 +1,4 @@
-use dip_map::Kind;
+use dip_parts::Kind;
 
 /// A place as written: a province's code and, where one is written, a coast's name.
 #[derive(Clone, Copy)]

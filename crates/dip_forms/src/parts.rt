@@ -3,7 +3,7 @@ ghost use Rattle.dip_forms.specs.Drafts.{is_any_case, letter_at, code_at, coast_
 ghost use Rattle.dip_forms.specs.Forms.{small};
 
 use crate::drafts::{Mention, Spot};
-use dip_map::Kind;
+use dip_parts::Kind;
 
 fn letter_of(b: u8) -> Option<u8>
     ensures { result ≡ letter_at b }

@@ -1,5 +1,5 @@
 use crate::{Draft, Mention, Spot, draft_of_line, tokens};
-use dip_map::Kind;
+use dip_parts::Kind;
 use std::alloc::{AllocError, Global};
 use std::test::Fail;
 

@@ -3,8 +3,8 @@ use Rattle.std.proofs.lemmas.List.{drop_more, take_rest}
 use Rattle.std.proofs.lemmas.Bool.{cases_Bool}
 use Rattle.std.specs.List.{list_any, position_or_len}
 use Rattle.dip_map.specs.declared.boards.Dislodged.{Dislodged}
-use Rattle.dip_map.specs.declared.names.Unit.{Unit as Piece}
-use Rattle.dip_map.specs.Charts.{Chart, Province, IsMap, no_province, are_units_single}
+use Rattle.dip_parts.specs.declared.names.Unit.{Unit as Piece}
+use Rattle.dip_parts.specs.Charts.{Chart, Province, IsMap, no_province, are_units_single}
 use Rattle.dip_map.specs.Boards.{IsOf, is_some_power, owner_at, owners_from, opening}
 
 pub owners_step : (m : Chart) (front all : List (Option ℕ)) (i : ℕ) → i < length m.provinces → front ++ owners_from m i (drop i m.provinces) ≡ all

@@ -1,6 +1,6 @@
 use Rattle.std.proofs.Common.{◌≡◌, ℕ, ◌+◌, List, [], ◌∷◌, ◌++◌, Result, Ok, Err, refl, ap, append_assoc}
-use Rattle.dip_map.specs.declared.faults.MapFault.{MapFault}
-use Rattle.dip_map.specs.declared.faults.MapFault.TheVariants.{Memory}
+use Rattle.dip_parts.specs.declared.faults.MapFault.{MapFault}
+use Rattle.dip_parts.specs.declared.faults.MapFault.TheVariants.{Memory}
 use Rattle.dip_map.specs.Stated.{◌>>=◌, each, each_from, Fails}
 
 -- what is looked up behind these

@@ -1,10 +1,10 @@
 use Rattle.std.specs.Prelude.{◌≡◌, ℕ, ◌<◌, ◌==◌, ◌+◌, nat_lt, ◌&&◌, Bool, true, All, List, [], ◌∷◌, map, length, Option, None, Some}
 use Rattle.std.specs.List.{list_any, position}
 use Rattle.dip_map.specs.declared.boards.Season.TheVariants.{SpringMoves}
-use Rattle.dip_map.specs.declared.names.Unit.{Unit as Piece}
+use Rattle.dip_parts.specs.declared.names.Unit.{Unit as Piece}
 use Rattle.dip_map.specs.declared.boards.Dislodged.{Dislodged}
 use Rattle.dip_map.specs.declared.boards.Phase.{Phase}
-use Rattle.dip_map.specs.Charts.{Chart, Province, is_unit, opening_units, are_units_single}
+use Rattle.dip_parts.specs.Charts.{Chart, Province, is_unit, opening_units, are_units_single}
 
 -- what stands on a board
 pub record Position : Type 0 where

@@ -1,10 +1,8 @@
-pub mod Charts
-pub mod Checks
-pub mod Walks
-pub mod Distances
 pub mod Boards
-pub mod Faults
 pub mod Stated
-pub use Rattle.dip_mapfile.specs.Forms
+pub use Rattle.dip_parts.specs.Charts
+pub use Rattle.dip_parts.specs.Checks
+pub use Rattle.dip_distances.specs.Walks
+pub use Rattle.dip_distances.specs.Distances
 pub use Rattle.dip_mapfile.specs.Drafts
 pub use Rattle.dip_mapfile.specs.Files

@@ -4,22 +4,22 @@ use Rattle.std.specs.Prelude.{◌≡◌, ℕ, ◌+◌, ◌&&◌, nat_le, Bool, L
 use Rattle.std.specs.List.{position}
 use Rattle.std.specs.Str.{bytes_eq}
 use Rattle.dip_mapfile.specs.declared.faults.FileFault.{FileFault}
-use Rattle.dip_mapfile.specs.declared.faults.FileFault.TheVariants.{NotToml as no_toml, WrongField as wrong_field, Memory as no_room}
 use Rattle.dip_mapfile.specs.declared.drafts.Land.{Land}
 use Rattle.dip_mapfile.specs.declared.drafts.Land.TheVariants.{Inland as inland, Coast as coast, Sea as sea}
 use Rattle.dip_mapfile.specs.declared.drafts.Piece.{Piece}
 use Rattle.dip_mapfile.specs.declared.drafts.Piece.TheVariants.{Army as army, Fleet as fleet}
 use Rattle.dip_mapfile.specs.Drafts.{Site, Standing, Draft, Province as Written, Shore as Strand, Power as Side}
 use Rattle.dip_mapfile.specs.Files.{file_in, draft_at}
-use Rattle.dip_map.specs.declared.faults.MapFault.{MapFault}
-use Rattle.dip_map.specs.declared.faults.MapFault.TheVariants.{NotToml, WrongField, UnknownName, OverLimit, Memory}
-use Rattle.dip_map.specs.declared.names.Kind.TheVariants.{Army, Fleet}
-use Rattle.dip_map.specs.declared.names.Place.{Place}
-use Rattle.dip_map.specs.declared.names.Terrain.{Terrain}
-use Rattle.dip_map.specs.declared.names.Terrain.TheVariants.{Inland, Coast, Sea}
-use Rattle.dip_map.specs.declared.names.Unit.{Unit as Unit_}
-use Rattle.dip_map.specs.Charts.{Chart, Province, Realm, Shore}
-use Rattle.dip_map.specs.Checks.{first_fault}
+use Rattle.dip_parts.specs.declared.faults.MapFault.{MapFault}
+use Rattle.dip_parts.specs.declared.faults.MapFault.TheVariants.{UnknownName, OverLimit, Memory}
+use Rattle.dip_parts.specs.declared.names.Kind.TheVariants.{Army, Fleet}
+use Rattle.dip_parts.specs.declared.names.Place.{Place}
+use Rattle.dip_parts.specs.declared.names.Terrain.{Terrain}
+use Rattle.dip_parts.specs.declared.names.Terrain.TheVariants.{Inland, Coast, Sea}
+use Rattle.dip_parts.specs.declared.names.Unit.{Unit as Unit_}
+use Rattle.dip_parts.specs.Charts.{Chart, Province, Realm, Shore}
+use Rattle.dip_parts.specs.Checks.{first_fault}
+use Rattle.dip_parts.specs.Faults.{of_file}
 
 -- what is made of what was read, or the first fault
 infixl 10 ◌>>=◌
@@ -38,11 +38,6 @@ Gives view (Ok x) read = read ≡ Ok (view x)
 Gives view (Err e) read = Fails e read
 
 -- a fault of the file is one of the map
-abbrev pub of_file : FileFault → MapFault
-of_file no_toml = NotToml
-of_file wrong_field = WrongField
-of_file no_room = Memory
-
 abbrev pub from_file : {A : Type 0} → Result A FileFault → Result A MapFault
 from_file (Ok x) = Ok x
 from_file (Err e) = Err (of_file e)

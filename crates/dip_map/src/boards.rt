@@ -1,13 +1,11 @@
 ghost use Rattle.std.specs.Prelude.{◌≡◌, ◌<◌, ◌↔◌, length, map, IfOk, IsTrue, All, true};
 ghost use Rattle.std.specs.Prelude.{◌==◌};
 ghost use Rattle.std.specs.List.{list_any, position, flat_map};
-ghost use Rattle.dip_map.specs.Charts.{is_unit, opening_units, are_units_single};
+ghost use Rattle.dip_parts.specs.Charts.{is_unit, opening_units, are_units_single};
 ghost use Rattle.dip_map.specs.Boards.{is_some_prov, is_some_power, is_dislodged, IsOf, owner_at, owners_from, opening};
 
 use crate::charts::Map;
-use crate::entries::are_units_single;
-use crate::names::{Power, Prov, Unit};
-use crate::parts::Realm;
+use dip_parts::{Power, Prov, Realm, Unit, are_units_single};
 use std::alloc::{AllocError, Global};
 use std::marker::Model;
 

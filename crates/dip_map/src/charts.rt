@@ -1,15 +1,13 @@
 ghost use Rattle.std.specs.Prelude.{◌≡◌, ◌<◌, length, All, IfOk, true};
-ghost use Rattle.dip_map.specs.Charts.{IsMap, province, realm, shore, army_next, fleet_next, home, prov_of, power_of, coast_of, is_centre};
-ghost use Rattle.dip_map.specs.Charts.{is_fleet_place, may_stand, is_unit, is_army_next, is_fleet_next};
+ghost use Rattle.dip_parts.specs.Charts.{IsMap, province, realm, shore, army_next, fleet_next, home, prov_of, power_of, coast_of, is_centre};
+ghost use Rattle.dip_parts.specs.Charts.{is_fleet_place, may_stand, is_unit, is_army_next, is_fleet_next};
 ghost use Rattle.dip_map.specs.Stated.{Gives, checked, stated};
-ghost use Rattle.dip_map.specs.Walks.{IsDistance};
+ghost use Rattle.dip_distances.specs.Walks.{IsDistance};
 
-use crate::distances::Distances;
-use crate::faults::MapFault;
-use crate::names::{Kind, Place, Power, Prov, Terrain, Unit};
-use crate::parts::{Parts, Realm};
 use crate::stated::parts_in;
+use dip_distances::Distances;
 use dip_mapfile::{draft_of, tables_of};
+use dip_parts::{Kind, MapFault, Parts, Place, Power, Prov, Realm, Terrain, Unit};
 use std::alloc::Global;
 use std::marker::Model;
 
@@ -23,8 +21,8 @@ pub struct Map {
 }
 
 impl Model for Map {
-    ghost use Rattle.dip_map.specs.Charts.{Chart, IsMap};
-    ghost use Rattle.dip_map.specs.Distances.{AreDistances};
+    ghost use Rattle.dip_parts.specs.Charts.{Chart, IsMap};
+    ghost use Rattle.dip_distances.specs.Distances.{AreDistances};
 
     ghost Value = { Chart };
 

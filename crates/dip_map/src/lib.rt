@@ -1,23 +1,16 @@
-//! The map: provinces and powers, where units go, and the board.
+//! The map, read and checked, and the board.
 #![tactic(auto)]
 
 mod boards;
 mod charts;
-mod checks;
-mod distances;
-mod entries;
-mod faults;
 mod laws;
-mod names;
-mod parts;
 mod standard;
 mod stated;
 
 pub use boards::{Board, Dislodged, Phase, Season};
 pub use charts::Map;
-pub use faults::MapFault;
+pub use dip_parts::{Kind, MapFault, Place, Power, Prov, Terrain, Unit};
 pub use laws::openings_are_of_their_map;
-pub use names::{Kind, Place, Power, Prov, Terrain, Unit};
 pub use standard::STANDARD;
 
 #[cfg(test)]

@@ -4,10 +4,8 @@ ghost use Rattle.std.specs.List.{position};
 ghost use Rattle.std.specs.Str.{bytes_eq};
 ghost use Rattle.dip_map.specs.Stated.{Gives, each, each_from, known, prov_at, coast_at, place_at, unit_of, unit_at, shore_at, terrain_of, province_at, realm_at, chart_at, parts_at};
 
-use crate::faults::MapFault;
-use crate::names::{Kind, Place, Power, Prov, Terrain, Unit};
-use crate::parts::{Parts, Province, Realm, Shore};
 use dip_mapfile::{Draft, Land, Piece, PowerDraft, ProvinceDraft, ShoreDraft, Site, UnitDraft};
+use dip_parts::{Kind, MapFault, Parts, Place, Power, Prov, Province, Realm, Shore, Terrain, Unit};
 use std::alloc::Global;
 
 #[tactic(auto, unfolding(crate::specs::Stated::prov_at))]

@@ -11,24 +11,33 @@ fn the_prov(rt: &impl Abort, map: &Map, code: &str) -> Prov {
 }
 
 #[test]
+fn coasts_are_found_as_they_are_spelled(rt: HostRuntime) -> Result<(), Fail> {
+    let map = Map::from_toml(rt.alloc(), STANDARD)?;
+    let rows = [
+        ("stp", "nc", Some(0), 2),
+        ("stp", "sc", Some(1), 2),
+        ("stp", "ec", None, 2),
+        ("kie", "", Some(0), 1),
+        ("mun", "", None, 0),
+    ];
+    for (code, name, coast, coasts) in rows {
+        let prov = the_prov(&rt, &map, code);
+        assert!(rt; map.coast(prov, name.as_bytes()) == coast);
+        assert!(rt; map.coasts(prov) == coasts);
+    }
+    Ok(())
+}
+
+#[test]
 fn names_are_found_as_they_are_spelled(rt: HostRuntime) -> Result<(), Fail> {
     let map = Map::from_toml(rt.alloc(), STANDARD)?;
-    let stp = the_prov(&rt, &map, "stp");
-    assert_eq!(rt; map.name(stp), "St Petersburg");
-    assert_eq!(rt; map.code(stp), "stp");
-    assert_eq!(rt; map.coasts(stp), 2);
-    assert_eq!(rt; map.coasts(the_prov(&rt, &map, "kie")), 1);
-    assert_eq!(rt; map.coasts(the_prov(&rt, &map, "mun")), 0);
-    assert_eq!(rt; map.coast(stp, b"nc"), Some(0));
-    assert_eq!(rt; map.coast(stp, b"sc"), Some(1));
-    assert_eq!(rt; map.coast(stp, b"ec"), None);
-    assert_eq!(rt; map.prov(b"xyz"), None);
-    assert_eq!(rt; map.prov(b"STP"), None);
-    assert_eq!(rt; map.kind(stp) == Terrain::Coast, true);
-    let france = map.power("france").expect(&rt, "a power");
-    assert_eq!(rt; france.index(), 2);
-    assert_eq!(rt; map.power_name(france), "france");
-    assert_eq!(rt; map.power("spain"), None);
+    for code in ["xyz", "STP", "st"] {
+        assert!(rt; map.prov(code.as_bytes()).is_none());
+    }
+    for (name, power) in [("france", Some(Power::new(2))), ("spain", None)] {
+        assert!(rt; map.power(name) == power);
+    }
+    assert!(rt; map.power_name(Power::new(2)) == "france");
     Ok(())
 }
 
@@ -50,23 +59,32 @@ fn a_distance_is_to_the_nearest_home_centre(rt: HostRuntime) -> Result<(), Fail>
     Ok(())
 }
 
+/// How many provinces of the board have an owner.
+fn owned(board: &Board) -> usize {
+    board
+        .owners()
+        .iter()
+        .filter(|owner| owner.is_some())
+        .count()
+}
+
 #[test]
 fn the_opening_is_a_board_of_its_map(rt: HostRuntime) -> Result<(), Fail> {
     let alloc = rt.alloc();
     let map = Map::from_toml(alloc, STANDARD)?;
     let board = Board::opening(alloc, &map)?;
     assert!(rt; board.is_of(&map));
-    assert_eq!(rt; board.dislodged().len(), 0);
-    assert_eq!(rt; board.standoff().len(), 0);
-    assert_eq!(rt; board.owners().len(), 75);
-    assert_eq!(rt; board.phase().year, 1901);
-    assert!(rt; board.phase().season == Season::SpringMoves);
-    let owned = board
-        .owners()
-        .iter()
-        .filter(|owner| owner.is_some())
-        .count();
-    assert_eq!(rt; owned, 22);
+    let counts = [
+        (board.dislodged().len(), 0),
+        (board.standoff().len(), 0),
+        (board.owners().len(), 75),
+        (owned(&board), 22),
+    ];
+    for (count, expected) in counts {
+        assert!(rt; count == expected);
+    }
+    let phase = board.phase();
+    assert!(rt; phase.year == 1901 && phase.season == Season::SpringMoves);
     Ok(())
 }
 

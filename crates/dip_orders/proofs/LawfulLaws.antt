@@ -5,12 +5,12 @@ use Rattle.std.specs.Option.{unwrap_or}
 use Rattle.std.specs.Str.{bytes_eq}
 use Rattle.std.specs.Cmp.Derive.{both_true}
 use Rattle.std.specs.List.{list_any}
-use Rattle.dip_map.specs.declared.names.Kind.{Kind}
-use Rattle.dip_map.specs.declared.names.Kind.TheVariants.{Army, Fleet}
-use Rattle.dip_map.specs.declared.names.Place.{Place}
-use Rattle.dip_map.specs.declared.names.Unit.{Unit as Piece}
+use Rattle.dip_parts.specs.declared.names.Kind.{Kind}
+use Rattle.dip_parts.specs.declared.names.Kind.TheVariants.{Army, Fleet}
+use Rattle.dip_parts.specs.declared.names.Place.{Place}
+use Rattle.dip_parts.specs.declared.names.Unit.{Unit as Piece}
 use Rattle.dip_map.specs.declared.boards.Dislodged.{Dislodged}
-use Rattle.dip_map.specs.Charts.{Chart, IsMap, fleet_next, home, province, shore}
+use Rattle.dip_parts.specs.Charts.{Chart, IsMap, fleet_next, home, province, shore}
 use Rattle.dip_map.specs.Boards.{Position, IsOf}
 use Rattle.dip_forms.specs.Forms.{is_draft, is_spot}
 use Rattle.dip_forms.specs.declared.drafts.Draft.{Draft}

@@ -3,12 +3,12 @@ use Rattle.std.proofs.Common.{◌≡◌, ℕ, ◌==◌, Bool, true, false, List,
 use Rattle.std.specs.Option.{ok_or, unwrap_or}
 use Rattle.std.specs.List.{list_any}
 use Rattle.std.proofs.lemmas.Bool.{cases_Bool, eqb-true}
-use Rattle.dip_map.specs.declared.names.Kind.{Kind}
-use Rattle.dip_map.specs.declared.names.Kind.TheVariants.{Army, Fleet}
-use Rattle.dip_map.specs.declared.names.Place.{Place}
-use Rattle.dip_map.specs.declared.names.Unit.{Unit as Piece}
+use Rattle.dip_parts.specs.declared.names.Kind.{Kind}
+use Rattle.dip_parts.specs.declared.names.Kind.TheVariants.{Army, Fleet}
+use Rattle.dip_parts.specs.declared.names.Place.{Place}
+use Rattle.dip_parts.specs.declared.names.Unit.{Unit as Piece}
 use Rattle.dip_map.specs.declared.boards.Dislodged.{Dislodged}
-use Rattle.dip_map.specs.Charts.{Chart, province, army_next, fleet_next, is_army_next, coast_of, prov_of}
+use Rattle.dip_parts.specs.Charts.{Chart, province, army_next, fleet_next, is_army_next, coast_of, prov_of}
 use Rattle.dip_map.specs.Boards.{Position}
 use Rattle.dip_forms.specs.declared.drafts.Spot.{Spot}
 use Rattle.dip_forms.specs.declared.drafts.Mention.{Mention}

@@ -1,6 +1,6 @@
 use Rattle.std.specs.Prelude.{ℕ, ◌+◌, ◌-◌, ◌==◌, ◌&&◌, not, min, ℤ, pos, ◌-ℤ◌, Bool, false, Option, None, Some, count_by, slice_index_or}
 use Rattle.std.specs.List.{list_any}
-use Rattle.dip_map.specs.Charts.{Chart, home}
+use Rattle.dip_parts.specs.Charts.{Chart, home}
 use Rattle.dip_map.specs.Boards.{Position}
 use Rattle.dip_orders.specs.Retreats.{is_held}
 

@@ -1,10 +1,10 @@
 use Rattle.std.specs.Prelude.{◌≡◌, ℕ, ◌==◌, ◌&&◌, not, Bool, true, false, List, Option, None, Some, map, filter}
 use Rattle.std.specs.List.{list_any}
-use Rattle.dip_map.specs.declared.names.Kind.{Kind}
-use Rattle.dip_map.specs.declared.names.Kind.TheVariants.{Army, Fleet}
-use Rattle.dip_map.specs.declared.names.Place.{Place}
+use Rattle.dip_parts.specs.declared.names.Kind.{Kind}
+use Rattle.dip_parts.specs.declared.names.Kind.TheVariants.{Army, Fleet}
+use Rattle.dip_parts.specs.declared.names.Place.{Place}
 use Rattle.dip_map.specs.declared.boards.Dislodged.{Dislodged}
-use Rattle.dip_map.specs.Charts.{Chart, army_next, fleet_next}
+use Rattle.dip_parts.specs.Charts.{Chart, army_next, fleet_next}
 use Rattle.dip_map.specs.Boards.{Position}
 
 -- the places of an army in these provinces: none tells a coast

@@ -1,12 +1,12 @@
 -- The rules of reading an order line: for each form its checks, in order, and the order that it is where all of them hold.
 use Rattle.std.specs.Prelude.{◌≡◌, ℕ, nat_le, nat_lt, ◌==◌, ◌&&◌, ◌||◌, not, Bool, List, [], ◌∷◌, ◌++◌, length, map, Option, None, Some, Result, Err, is_some, is_none, option_map, ◌⊎◌, if◌then◌else◌}
 use Rattle.std.specs.Option.{unwrap_or}
-use Rattle.dip_map.specs.declared.names.Kind.{Kind}
-use Rattle.dip_map.specs.declared.names.Kind.TheVariants.{Army, Fleet}
-use Rattle.dip_map.specs.declared.names.Place.{Place}
-use Rattle.dip_map.specs.declared.names.Unit.{Unit as Piece}
+use Rattle.dip_parts.specs.declared.names.Kind.{Kind}
+use Rattle.dip_parts.specs.declared.names.Kind.TheVariants.{Army, Fleet}
+use Rattle.dip_parts.specs.declared.names.Place.{Place}
+use Rattle.dip_parts.specs.declared.names.Unit.{Unit as Piece}
 use Rattle.dip_map.specs.declared.boards.Dislodged.{Dislodged}
-use Rattle.dip_map.specs.Charts.{Chart, province, fleet_next, coast_of}
+use Rattle.dip_parts.specs.Charts.{Chart, province, fleet_next, coast_of}
 use Rattle.dip_map.specs.Boards.{Position}
 use Rattle.dip_forms.specs.Forms.{Says, spots_of}
 use Rattle.dip_forms.specs.declared.drafts.Mention.{Mention}

@@ -1,12 +1,12 @@
 -- The reading of an order line step by step, as the code goes: each function of it gives one of these.
 use Rattle.std.specs.Prelude.{ℕ, nat_le, nat_lt, Bool, true, false, List, length, Option, None, Some, Result, Ok, Err, is_none, if◌then◌else◌}
 use Rattle.std.specs.Option.{ok_or}
-use Rattle.dip_map.specs.declared.names.Kind.{Kind}
-use Rattle.dip_map.specs.declared.names.Kind.TheVariants.{Army, Fleet}
-use Rattle.dip_map.specs.declared.names.Place.{Place}
-use Rattle.dip_map.specs.declared.names.Unit.{Unit as Piece}
+use Rattle.dip_parts.specs.declared.names.Kind.{Kind}
+use Rattle.dip_parts.specs.declared.names.Kind.TheVariants.{Army, Fleet}
+use Rattle.dip_parts.specs.declared.names.Place.{Place}
+use Rattle.dip_parts.specs.declared.names.Unit.{Unit as Piece}
 use Rattle.dip_map.specs.declared.boards.Dislodged.{Dislodged}
-use Rattle.dip_map.specs.Charts.{Chart, province, fleet_next, is_army_next, prov_of, coast_of}
+use Rattle.dip_parts.specs.Charts.{Chart, province, fleet_next, is_army_next, prov_of, coast_of}
 use Rattle.dip_map.specs.Boards.{Position}
 use Rattle.dip_forms.specs.declared.drafts.Spot.{Spot}
 use Rattle.dip_forms.specs.declared.drafts.Mention.{Mention}

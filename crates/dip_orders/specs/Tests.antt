@@ -3,16 +3,16 @@ use Rattle.std.specs.Prelude.{ℕ, ◌==◌, ◌&&◌, ◌||◌, nat_le, not, Bo
 use Rattle.std.specs.Option.{unwrap_or}
 use Rattle.std.specs.List.{list_any}
 use Rattle.std.specs.Str.{bytes_eq}
-use Rattle.dip_map.specs.declared.names.Kind.{Kind}
-use Rattle.dip_map.specs.declared.names.Kind.TheVariants.{Army, Fleet}
-use Rattle.dip_map.specs.declared.names.Terrain.{Terrain}
-use Rattle.dip_map.specs.declared.names.Terrain.TheVariants.{Inland, Coast, Sea}
-use Rattle.dip_map.specs.declared.names.Place.{Place}
-use Rattle.dip_map.specs.declared.names.Unit.{Unit as Piece}
+use Rattle.dip_parts.specs.declared.names.Kind.{Kind}
+use Rattle.dip_parts.specs.declared.names.Kind.TheVariants.{Army, Fleet}
+use Rattle.dip_parts.specs.declared.names.Terrain.{Terrain}
+use Rattle.dip_parts.specs.declared.names.Terrain.TheVariants.{Inland, Coast, Sea}
+use Rattle.dip_parts.specs.declared.names.Place.{Place}
+use Rattle.dip_parts.specs.declared.names.Unit.{Unit as Piece}
 use Rattle.dip_map.specs.declared.boards.Dislodged.{Dislodged}
 use Rattle.dip_map.specs.declared.boards.Season.{Season}
 use Rattle.dip_map.specs.declared.boards.Season.TheVariants.{SpringMoves, SpringRetreats, FallMoves, FallRetreats, Winter}
-use Rattle.dip_map.specs.Charts.{Chart, province, shore, fleet_next, home, is_army_next, prov_of, coast_of}
+use Rattle.dip_parts.specs.Charts.{Chart, province, shore, fleet_next, home, is_army_next, prov_of, coast_of}
 use Rattle.dip_map.specs.Boards.{Position}
 use Rattle.dip_forms.specs.declared.drafts.Spot.{Spot}
 use Rattle.dip_forms.specs.declared.drafts.Draft.{Draft}

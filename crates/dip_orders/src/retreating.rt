@@ -1,6 +1,6 @@
 ghost use Rattle.std.specs.Prelude.{◌≡◌, ◌↔◌, IsTrue, IfOk, true};
-ghost use Rattle.dip_map.specs.Charts.{are_places_single};
-ghost use Rattle.dip_map.specs.declared.names.Place.{Place as APlace};
+ghost use Rattle.dip_parts.specs.Charts.{are_places_single};
+ghost use Rattle.dip_parts.specs.declared.names.Place.{Place as APlace};
 ghost use Rattle.dip_orders.specs.Retreats.{on_foot, next_places, is_held, is_origin, is_open, retreats_of, is_place_among, MayRetreat};
 
 use dip_map::{Board, Dislodged, Kind, Map, Place, Prov};

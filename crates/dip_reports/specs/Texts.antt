@@ -10,9 +10,9 @@ use Rattle.dip_reports.specs.declared.records.Status.TheVariants.{Running}
 use Rattle.dip_reports.specs.declared.refusals.Refusal.{Refusal}
 use Rattle.dip_reports.specs.declared.refusals.Refusal.TheVariants.{Malformed, Unknown, Stale, NumberUsed, TooLong, WrongSender, NameTaken}
 use Rattle.dip_reports.specs.Records.{Public, Own, Head, Reply}
-use Rattle.dip_map.specs.Charts.{Chart, province, realm}
+use Rattle.dip_parts.specs.Charts.{Chart, province, realm}
 use Rattle.dip_orders.specs.Texts.{unit_text}
-use Rattle.dip_map.specs.declared.names.Unit.{Unit}
+use Rattle.dip_parts.specs.declared.names.Unit.{Unit}
 use Rattle.dip_reports.specs.declared.board_lines.Force.{Force}
 
 -- `S1901M` and so on: the season, the year, and M for movement, R for retreats, A for adjustment

@@ -6,7 +6,24 @@ use crate::reading::ReadFault;
 use crate::run::RunFault;
 use dip_desk::KeepFault;
 use dip_map::MapFault;
+use std::alloc::{AllocError, Global};
+use std::process::Abort;
 use std::test::Fail;
+
+fn assert_told(
+    rt: &impl Abort,
+    alloc: Global,
+    failure: &Failure,
+    status: u8,
+    text: &str,
+) -> Result<(), AllocError> {
+    let printed = format!(in alloc; "{failure}")?;
+    assert!(rt;
+        failure.status() == status && printed.as_str() == text,
+        "{printed} for {text}"
+    );
+    Ok(())
+}
 
 #[test]
 fn tells_the_status_and_the_word(rt: HostRuntime) -> Result<(), Fail> {
@@ -42,9 +59,7 @@ fn tells_the_status_and_the_word(rt: HostRuntime) -> Result<(), Fail> {
         ),
     ];
     for (failure, status, text) in rows {
-        assert_eq!(rt; failure.status(), status, "at {text}");
-        let printed = format!(in alloc; "{failure}")?;
-        assert!(rt; printed.as_str() == text, "{printed} for {text}");
+        assert_told(&rt, alloc, &failure, status, text)?;
     }
     Ok(())
 }
@@ -59,9 +74,7 @@ fn tells_what_is_wrong_with_the_maps_file(rt: HostRuntime) -> Result<(), Fail> {
         (FileFault::NotUtf8, "dip_judge: Read\n"),
     ] {
         let failure = Failure::MapFile(fault);
-        assert_eq!(rt; failure.status(), 5, "at {fault:?}");
-        let printed = format!(in alloc; "{failure}")?;
-        assert!(rt; printed.as_str() == text, "{printed} at {fault:?}");
+        assert_told(&rt, alloc, &failure, 5, text)?;
     }
     Ok(())
 }

@@ -167,11 +167,30 @@ fn goes_on_behind_the_next_end(rt: HostRuntime) -> Result<(), Fail> {
     assert_answers(&rt, alloc, &map, &["LETTER\nEND"], &[MALFORMED])
 }
 
+fn assert_unknown(
+    rt: &impl Abort,
+    alloc: Global,
+    map: &Map,
+    game: &str,
+    sender: &str,
+    secret: &str,
+) -> Result<(), Fail> {
+    let letter = format!(in alloc;
+        "LETTER\nGAME {game}\nFROM {sender}\nSECRET {secret}\nNUMBER 1\nSHOW\nEND\n"
+    )?;
+    assert_answers(
+        rt,
+        alloc,
+        map,
+        &[CREATE, letter.as_str()],
+        &[CREATED, UNKNOWN],
+    )
+}
+
 #[test]
 fn answers_strangers_alike(rt: HostRuntime) -> Result<(), Fail> {
     let alloc = rt.alloc();
     let map = standard(alloc)?;
-    let expected = format!(in alloc; "{CREATED}{UNKNOWN}")?;
     assert_eq!(rt; UNKNOWN.len(), 53);
     for (game, sender, secret) in [
         ("g1", "england", "eeeeeeef"),
@@ -179,15 +198,7 @@ fn answers_strangers_alike(rt: HostRuntime) -> Result<(), Fail> {
         ("g9", "england", "eeeeeeee"),
         ("g1", "master", "master-kez"),
     ] {
-        let letter = format!(in alloc;
-            "LETTER\nGAME {game}\nFROM {sender}\nSECRET {secret}\nNUMBER 1\nSHOW\nEND\n"
-        )?;
-        let input = format!(in alloc; "{CREATE}{letter}")?;
-        let output = replies_to(alloc, &map, input.as_str())?;
-        assert!(rt;
-            output.as_slice() == expected.as_bytes(),
-            "at {game} {sender} {secret}"
-        );
+        assert_unknown(&rt, alloc, &map, game, sender, secret)?;
     }
     Ok(())
 }
@@ -285,96 +296,94 @@ fn what_others_order_is_not_shown(rt: HostRuntime) -> Result<(), Fail> {
     )
 }
 
+/// The reply to the letter with the greatest number.
+const TAKEN: &str = "REPLY g1 england 999999999\nOK F lon H\nEND\n";
+
 #[test]
 fn reads_one_spelling_of_a_letter(rt: HostRuntime) -> Result<(), Fail> {
     let alloc = rt.alloc();
     let map = standard(alloc)?;
-    let taken = format!(in alloc; "{CREATED}REPLY g1 england 999999999\nOK F lon H\nEND\n")?;
-    let malformed = format!(in alloc; "{CREATED}{MALFORMED}")?;
-    for (head, is_taken) in [
+    for (head, reply) in [
         (
             "GAME g1\nFROM england\nSECRET eeeeeeee\nNUMBER 999999999\nORDERS\n",
-            true,
+            TAKEN,
         ),
         (
             "GAME g1\nFROM england\nSECRET eeeeeeee\nNUMBER 1000000000\nORDERS\n",
-            false,
+            MALFORMED,
         ),
         (
             "GAME g1\nFROM england\nSECRET eeeeeeee\nNUMBER 0\nORDERS\n",
-            false,
+            MALFORMED,
         ),
         (
             "GAME g1\nFROM england\nSECRET eeeeeeee\nNUMBER 01\nORDERS\n",
-            false,
+            MALFORMED,
         ),
         (
             "GAME g1\nFROM england\nSECRET eeeeeeee\nNUMBER +1\nORDERS\n",
-            false,
+            MALFORMED,
         ),
         (
             "GAME  g1\nFROM england\nSECRET eeeeeeee\nNUMBER 1\nORDERS\n",
-            false,
+            MALFORMED,
         ),
         (
             "GAME\tg1\nFROM england\nSECRET eeeeeeee\nNUMBER 1\nORDERS\n",
-            false,
+            MALFORMED,
         ),
         (
             "GAME g1\r\nFROM england\r\nSECRET eeeeeeee\r\nNUMBER 1\r\nORDERS\r\n",
-            false,
+            MALFORMED,
         ),
         (
             "GAME g1 \nFROM england\nSECRET eeeeeeee\nNUMBER 1\nORDERS\n",
-            false,
+            MALFORMED,
         ),
         (
             "FROM england\nGAME g1\nSECRET eeeeeeee\nNUMBER 1\nORDERS\n",
-            false,
+            MALFORMED,
         ),
         (
             "GAME g1\nFROM england\nSECRET eeeeeee\nNUMBER 1\nORDERS\n",
-            false,
+            MALFORMED,
         ),
         (
             "GAME g1\nFROM england\nSECRET eeeeeeee\nNUMBER 1\nCLOSE\n",
-            false,
+            MALFORMED,
         ),
         (
             "GAME g1\nFROM england\nSECRET eeeeeeee\nNUMBER 1\nORDERS\nA par\tH\n",
-            false,
+            MALFORMED,
         ),
     ] {
-        let input = format!(in alloc; "{CREATE}LETTER\n{head}F lon H\nEND\n")?;
-        let output = replies_to(alloc, &map, input.as_str())?;
-        let expected = if is_taken {
-            taken.as_str()
-        } else {
-            malformed.as_str()
-        };
-        assert!(rt; output.as_slice() == expected.as_bytes(), "at {head}");
+        let input = [CREATE, "LETTER\n", head, "F lon H\nEND\n"];
+        assert_answers(&rt, alloc, &map, &input, &[CREATED, reply])?;
     }
     Ok(())
+}
+
+/// Asserts that this is the reply to a letter of that size, and that the next one is answered.
+fn assert_bound(
+    rt: &impl Abort,
+    alloc: Global,
+    map: &Map,
+    size: usize,
+    reply: &str,
+) -> Result<(), Fail> {
+    let filling = "x".repeat(alloc, size.saturating_sub(12))?;
+    let letter = ["LETTER\n", filling.as_str(), "\nEND\n"].concat(alloc)?;
+    assert!(rt; letter.len() == size);
+    let input = [CREATE, letter.as_str(), HOLD];
+    assert_answers(rt, alloc, map, &input, &[CREATED, reply, HELD])
 }
 
 #[test]
 fn bounds_a_letter(rt: HostRuntime) -> Result<(), Fail> {
     let alloc = rt.alloc();
     let map = standard(alloc)?;
-    for (size, reply) in [(16_384, MALFORMED), (16_385, TOO_LONG)] {
-        let mut input = String::from_str(alloc, CREATE)?;
-        input.push_str("LETTER\n")?;
-        for _ in 0..size - 12 {
-            input.push('x')?;
-        }
-        input.push_str("\nEND\n")?;
-        assert_eq!(rt; input.len(), CREATE.len().saturating_add(size));
-        input.push_str(HOLD)?;
-        let output = replies_to(alloc, &map, input.as_str())?;
-        let expected = format!(in alloc; "{CREATED}{reply}{HELD}")?;
-        assert!(rt; output.as_slice() == expected.as_bytes(), "at {size}");
-    }
-    Ok(())
+    assert_bound(&rt, alloc, &map, 16_384, MALFORMED)?;
+    assert_bound(&rt, alloc, &map, 16_385, TOO_LONG)
 }
 
 #[test]

@@ -1,5 +1,5 @@
 use Rattle.std.proofs.Common.{◌≡◌, drop, map}
-use Rattle.dip_map.specs.Charts.{are_units_single}
+use Rattle.dip_parts.specs.Charts.{are_units_single}
 use Rattle.dip_map.proofs.boards.are_dislodged_single.Given as goal
 
 abbrev pub invariant-loop-number : goal.invariant-loop-number

@@ -1,6 +1,6 @@
 use Rattle.std.proofs.Common.{◌≡◌, ℕ, ◌<◌, get_or, true}
-use Rattle.dip_map.specs.Charts.{is_unit}
-use Rattle.dip_map.specs.declared.names.Unit.{Unit as Piece}
+use Rattle.dip_parts.specs.Charts.{is_unit}
+use Rattle.dip_parts.specs.declared.names.Unit.{Unit as Piece}
 use Rattle.dip_map.proofs.boards.are_units_of.Given as goal
 
 abbrev pub invariant-loop-unit : goal.invariant-loop-unit

@@ -14,3 +14,6 @@ pub mod Giving
 pub mod Rounds
 pub mod Situated
 pub mod ResultLaws
+pub mod Chaining
+pub mod Cycles
+pub mod Stands

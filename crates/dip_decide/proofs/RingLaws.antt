@@ -105,7 +105,7 @@ trail_left s k start trail here t h = (suc (length trail), subst (λ (x : ℕ). 
 abbrev pub IsFrom : ℕ → List ℕ → Type 0
 IsFrom p ps = (rest : List ℕ) × (ps ≡ p ∷ rest)
 
-from_shape : (trail : List ℕ) (here : ℕ) → is_listed trail here ≡ true → IsFrom here (from_on here trail)
+pub from_shape : (trail : List ℕ) (here : ℕ) → is_listed trail here ≡ true → IsFrom here (from_on here trail)
 from_shape [] here h = absurd (both_ways false refl h)
 from_shape (p ∷ ps) here h = go (cases_Bool (p == here)) (from_shape ps here)
   where
@@ -121,7 +121,7 @@ from_waiting s k (p ∷ ps) here end w = go (cases_Bool (p == here)) (from_waiti
     go (inl e) _ = rw e w
     go (inr e) f = rw e f
 
-from_distinct : (trail : List ℕ) (here : ℕ) → AreDistinct (moves_of trail) → AreDistinct (moves_of (from_on here trail))
+pub from_distinct : (trail : List ℕ) (here : ℕ) → AreDistinct (moves_of trail) → AreDistinct (moves_of (from_on here trail))
 from_distinct [] here d = tt
 from_distinct (p ∷ ps) here d = go (cases_Bool (p == here)) (from_distinct ps here d.1)
   where

@@ -7,3 +7,4 @@ pub mod Corners
 pub mod Steps
 pub mod Rings
 pub mod Results
+pub mod Laws

@@ -6,6 +6,7 @@ mod circles;
 mod corners;
 mod decisions;
 mod forcing;
+mod laws;
 mod lists;
 mod looks;
 mod resolving;
@@ -16,4 +17,8 @@ mod turns;
 mod values;
 
 pub use decisions::{Decision, Resolution, Step};
+pub use laws::{
+    boards_are_situations, chains_are_found, corners_decide, equations_are_lawful,
+    explained_is_lawful, knots_are_found, one_answer,
+};
 pub use resolving::resolve;

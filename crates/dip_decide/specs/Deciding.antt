@@ -1,8 +1,10 @@
+-- Decisions and their values: what is forced, circles, knots, and steps that explain. Nothing here speaks of the game but that there are
+-- moves, paths and supports: `rule` gives the value of a decision by those of the others, and `mentions` tells whom it names.
 use Rattle.std.specs.Prelude.{◌≡◌, ◌≤◌, ◌↔◌, ◌==◌, Bool, true, false, ◌||◌, List, [], ◌∷◌, length, Option, None, Some, cond}
 use Rattle.dip_decide.specs.declared.decisions.Decision.{Decision}
 use Rattle.dip_decide.specs.declared.decisions.Decision.TheVariants.{Move, Path, Support}
 
--- one decision and not another
+-- the two are one decision
 abbrev pub same : Decision → Decision → Bool
 same (Move p) (Move q) = p == q
 same (Path p) (Path q) = p == q

@@ -1,3 +1,4 @@
+-- The rules of movement: strengths, the decision equations, and whom each equation mentions. A unit is named by its province.
 use Rattle.std.specs.Prelude.{◌≡◌, ℕ, ◌+◌, ◌==◌, nat_lt, Bool, true, false, not, ◌&&◌, ◌||◌, List, length, Option, None, Some, if◌then◌else◌, suc, zero}
 use Rattle.std.specs.List.{list_all, list_any, count_by}
 use Rattle.std.specs.Option.{is_some}
@@ -6,7 +7,7 @@ use Rattle.dip_decide.specs.declared.decisions.Decision.{Decision}
 use Rattle.dip_decide.specs.declared.decisions.Decision.TheVariants.{Move, Path, Support}
 use Rattle.dip_decide.specs.Deciding.{Assignment, Equation, Known, Mentions}
 
--- what movement needs of a map, a board and its orders: a unit is named by its province
+-- what movement needs of a map, a board and its orders
 pub record Situation : Type 0 where
   -- the provinces with a unit
   pub places : List ℕ
@@ -26,6 +27,7 @@ pub record Situation : Type 0 where
   -- neighbours for a fleet, of any coast
   pub next : ℕ → ℕ → Bool
 
+-- it goes to q, where it goes
 abbrev pub is_at : Option ℕ → ℕ → Bool
 is_at None q = false
 is_at (Some p) q = p == q
@@ -34,6 +36,7 @@ is_at (Some p) q = p == q
 abbrev pub goes : Situation → ℕ → ℕ → Bool
 goes s p q = is_at (s.target p) q
 
+-- the unit in p has a move
 abbrev pub has_move : Situation → ℕ → Bool
 has_move s p = is_some (s.target p)
 
@@ -41,19 +44,19 @@ has_move s p = is_some (s.target p)
 abbrev pub has_path : Situation → Assignment → ℕ → Bool
 has_path s a p = not (s.convoyed p) || a (Path p)
 
--- the two go to one another's provinces, neither by convoy
+-- head to head: the two go to one another's provinces, neither by convoy
 abbrev pub head_to_head : Situation → ℕ → ℕ → Bool
 head_to_head s p q = (goes s p q && goes s q p) && (not (s.convoyed p) && not (s.convoyed q))
 
--- how many given supports the unit in p has
+-- how many given supports the unit in p has; each counts 1
 abbrev pub support : Situation → Assignment → ℕ → ℕ
 support s a p = count_by (λ h. s.supports h p && a (Support h)) s.places
 
--- those of other powers than that of the unit in q
+-- how many of them are of other powers than the unit in q
 abbrev pub support_against : Situation → Assignment → ℕ → ℕ → ℕ
 support_against s a p q = count_by (λ h. (s.supports h p && a (Support h)) && not (s.same_power h q)) s.places
 
--- the strength of the move from p to q
+-- attack: the strength of the move from p to q
 abbrev pub attack : Situation → Assignment → ℕ → ℕ → ℕ
 attack s a p q =
     if not (has_path s a p) then 0
@@ -61,15 +64,18 @@ attack s a p q =
     else if s.same_power p q then 0
     else 1 + support_against s a p q
 
+-- hold: the strength of what is in q against moves into it
 abbrev pub hold : Situation → Assignment → ℕ → ℕ
 hold s a q =
     if not (s.is_occupied q) || a (Move q) then 0
     else if has_move s q then 1
     else 1 + support s a q
 
+-- defend: the strength of the move of p against a move head to head with it
 abbrev pub defend : Situation → Assignment → ℕ → ℕ
 defend s a p = 1 + support s a p
 
+-- prevent: the strength of the move from p to q against other moves there; the loser of a head-to-head fight prevents nobody
 abbrev pub prevent : Situation → Assignment → ℕ → ℕ → ℕ
 prevent s a p q = if not (has_path s a p) || (head_to_head s p q && a (Move q)) then 0 else 1 + support s a p
 
@@ -77,22 +83,24 @@ prevent s a p q = if not (has_path s a p) || (head_to_head s p q && a (Move q)) 
 abbrev pub opposition : Situation → Assignment → ℕ → ℕ → ℕ
 opposition s a p q = if head_to_head s p q then defend s a q else hold s a q
 
--- no other move to q prevents the one from p
+-- the move from p to q has more than the unit in w has to prevent it, if that one goes there too
 abbrev pub beats : Situation → Assignment → ℕ → ℕ → ℕ → Bool
 beats s a p q w = (w == p || not (goes s w q)) || nat_lt (prevent s a w q) (attack s a p q)
 
--- the move from p to q succeeds
+-- the move from p to q succeeds: its attack exceeds what each other move there has to prevent it, and what the destination sets against it
 abbrev pub succeeds : Situation → Assignment → ℕ → ℕ → Bool
 succeeds s a p q = list_all (beats s a p q) s.places && nat_lt (opposition s a p q) (attack s a p q)
 
+-- the equation of the move of p, which goes there
 abbrev pub move_rule : Situation → Assignment → ℕ → Option ℕ → Bool
 move_rule s a p None = false
 move_rule s a p (Some q) = succeeds s a p q
 
--- the move of x cuts the support of h
+-- the move of x cuts the support of h: it is of another power and has a path; from where h supports a move to, only if it succeeds
 abbrev pub cuts : Situation → Assignment → ℕ → ℕ → Bool
 cuts s a h x = (goes s x h && not (s.same_power x h)) && (if is_at (s.aim h) x then a (Move x) else has_path s a x)
 
+-- the unit in h has a support that matches
 abbrev pub is_support : Situation → ℕ → Bool
 is_support s h = list_any (λ p. s.supports h p) s.places
 
@@ -104,11 +112,12 @@ is_entered s a x = list_any (λ m. goes s m x && a (Move m)) s.places
 abbrev pub serves : Situation → Assignment → ℕ → ℕ → Bool
 serves s a p x = s.convoys x p && not (is_entered s a x)
 
--- one to n of the places that pass lead from p to q
+-- a chain of at most n of the places that pass leads from p to q; `chains_are_found` says that a longer one needs no more than all places
 abbrev pub joins : (ℕ → Bool) → (ℕ → ℕ → Bool) → List ℕ → ℕ → ℕ → ℕ → Bool
 joins test next places q zero p = false
 joins test next places q (suc n) p = list_any (λ x. (test x && next p x) && (next x q || joins test next places q n x)) places
 
+-- the equation of the path of p, which goes there
 abbrev pub path_rule : Situation → Assignment → ℕ → Option ℕ → Bool
 path_rule s a p None = false
 path_rule s a p (Some q) = joins (serves s a p) s.next s.places q (suc (length s.places)) p

@@ -1,0 +1,20 @@
+mod chains;
+mod circles;
+mod completions;
+mod decisions;
+mod equations;
+mod explaining;
+mod fields;
+mod forcing;
+mod knots;
+mod mentions;
+mod outcomes;
+mod resolving;
+mod strengths;
+
+pub(crate) use completions::Completion;
+pub(crate) use decisions::{Decision, Known, Step};
+pub(crate) use explaining::is_explained;
+pub(crate) use fields::{Field, destination, moves_to, origin, supports_any};
+pub(crate) use outcomes::{Outcome, PlainFault};
+pub(crate) use resolving::resolve_plainly;

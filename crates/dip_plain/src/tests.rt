@@ -1,0 +1,12 @@
+mod compare;
+mod dice;
+mod draws;
+mod generated;
+mod land;
+mod laws;
+mod rings;
+mod scenes;
+mod sea;
+mod steps;
+mod told;
+mod words;

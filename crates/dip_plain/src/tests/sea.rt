@@ -3,7 +3,7 @@ use super::compare::check_knots;
 use std::test::Fail;
 
 /// The provinces of the armies of the knot, if there is one, and the paper.
-const WORKED: [(&str, &str); 6] = [
+pub(crate) const WORKED: [(&str, &str); 6] = [
     (
         "",
         "england A lon - bel: moves
@@ -56,7 +56,7 @@ fn worked_papers_by_convoy(rt: HostRuntime) -> Result<(), Fail> {
 }
 
 /// Each shows a rule that a resolver could miss and still print all papers above.
-const RULES: [(&str, &str); 13] = [
+pub(crate) const RULES: [(&str, &str); 13] = [
     // a fleet that is attacked and stays keeps its convoy
     (
         "",

@@ -8,5 +8,7 @@ mod rings;
 mod scenes;
 mod sea;
 mod steps;
+mod tallies;
 mod told;
+mod variations;
 mod words;

@@ -182,6 +182,18 @@ fn with_help(
     Ok(helped)
 }
 
+/// The orders with moves or help for most of those who hold.
+pub(crate) fn redraw(
+    alloc: Global,
+    dice: &mut Dice,
+    map: &Map,
+    voyages: u32,
+    orders: &[PlacedOrder],
+) -> Result<Vec<PlacedOrder>, AllocError> {
+    let moved = with_moves(alloc, dice, map, voyages, orders)?;
+    with_help(alloc, dice, map, moved.as_slice())
+}
+
 /// The orders of one board.
 pub(crate) fn draw_orders(
     alloc: Global,
@@ -191,6 +203,5 @@ pub(crate) fn draw_orders(
     sites: &[Unit],
 ) -> Result<Vec<PlacedOrder>, AllocError> {
     let units = draw_units(alloc, dice, map, recipe, sites)?;
-    let moved = with_moves(alloc, dice, map, recipe.voyages, units.as_slice())?;
-    with_help(alloc, dice, map, moved.as_slice())
+    redraw(alloc, dice, map, recipe.voyages, units.as_slice())
 }

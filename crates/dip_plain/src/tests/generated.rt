@@ -1,13 +1,11 @@
 //! Boards by chance.
-use super::compare::compare;
 use super::dice::Dice;
 use super::draws::{Recipe, draw_orders};
-use super::scenes::board_of;
 use super::steps::sites_of;
-use crate::plain::{Field, Outcome, PlainFault, Step};
-use dip_map::{Board, Map, STANDARD, Unit};
-use dip_orders::PlacedOrder;
-use std::alloc::{AllocError, Global};
+use super::tallies::{Tally, compare_orders};
+use crate::plain::PlainFault;
+use dip_map::{Map, STANDARD, Unit};
+use std::alloc::Global;
 use std::process::Abort;
 use std::test::Fail;
 
@@ -27,50 +25,6 @@ const BY_SEA: Recipe = Recipe {
     voyages: 80,
 };
 
-/// What came up on the boards.
-#[derive(Clone, Copy, Debug)]
-struct Tally {
-    circles: u32,
-    knots: u32,
-    meetings: u32,
-}
-
-fn has_meeting(field: Field) -> bool {
-    field
-        .orders
-        .iter()
-        .any(|placed| field.opponent(placed).is_some())
-}
-
-fn one_if(holds: bool) -> u32 {
-    if holds { 1 } else { 0 }
-}
-
-impl Tally {
-    fn add(&mut self, field: Field, outcome: &Outcome) {
-        let steps = outcome.steps.as_slice();
-        let has_circle = steps.iter().any(|step| matches!(step, Step::Circle(_)));
-        let has_knot = steps.iter().any(|step| matches!(step, Step::Knot(_)));
-        self.circles = self.circles.saturating_add(one_if(has_circle));
-        self.knots = self.knots.saturating_add(one_if(has_knot));
-        self.meetings = self.meetings.saturating_add(one_if(has_meeting(field)));
-    }
-}
-
-/// The board on which the orders are given.
-fn board_for(
-    rt: &impl Abort,
-    alloc: Global,
-    map: &Map,
-    orders: &[PlacedOrder],
-) -> Result<Board, AllocError> {
-    let mut units = Vec::new(alloc);
-    for placed in orders {
-        units.push(placed.unit)?;
-    }
-    board_of(rt, alloc, map, units)
-}
-
 /// Compares the resolvers over one board.
 fn compare_board(
     rt: &impl Abort,
@@ -82,11 +36,7 @@ fn compare_board(
     tally: &mut Tally,
 ) -> Result<(), PlainFault> {
     let orders = draw_orders(alloc, dice, map, recipe, sites)?;
-    let orders = orders.as_slice();
-    let board = board_for(rt, alloc, map, orders)?;
-    let outcome = compare(rt, alloc, map, &board, orders)?;
-    tally.add(Field { map, orders }, &outcome);
-    Ok(())
+    compare_orders(rt, alloc, map, orders.as_slice(), tally)
 }
 
 /// Compares the resolvers over a number of boards.
@@ -98,11 +48,7 @@ fn compare_boards(
 ) -> Result<Tally, PlainFault> {
     let map = Map::from_toml(alloc, STANDARD).ok().expect(rt, "the map");
     let sites = sites_of(rt, alloc, &map, recipe.sites)?;
-    let mut tally = Tally {
-        circles: 0,
-        knots: 0,
-        meetings: 0,
-    };
+    let mut tally = Tally::default();
     let mut dice = Dice::new(1901);
     for _ in 0..boards {
         compare_board(

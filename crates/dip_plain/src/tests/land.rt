@@ -3,7 +3,7 @@ use super::compare::check_papers;
 use std::test::Fail;
 
 /// The plain cases: supports, standoffs, circles, fights head to head.
-const WORKED: [&str; 10] = [
+pub(crate) const WORKED: [&str; 10] = [
     "france A mar S A par - bur: given
 france A par - bur: moves
 germany A mun - bur: bounced",
@@ -48,7 +48,7 @@ fn worked_papers_by_land(rt: HostRuntime) -> Result<(), Fail> {
 }
 
 /// Each shows a rule that a resolver could miss and still print all papers above.
-const RULES: [&str; 22] = [
+pub(crate) const RULES: [&str; 23] = [
     // a foreigner's support doesn't help a power against its own unit
     "germany A ber H: holds
 germany F kie - ber: bounced
@@ -147,11 +147,14 @@ germany A mun S A bur: void",
 france A ruh S A bur - mun: given
 germany A mun - boh: bounced, dislodged
 russia A sil - boh: bounced",
-    // an army that can't walk there and has no fleets has no effect: it prevents nobody and cuts nothing
+    // an army that can't walk there and has no fleets prevents nobody
     "england A lon - bel: no route
-england A yor - hol: no route
-france A hol S A pic - bel: given
 france A pic - bel: moves",
+    // and cuts nothing
+    "england A yor - hol: no route
+france A hol S A pic - bel: given
+france A pic - bel: moves
+germany A bel H: holds, dislodged",
 ];
 
 #[test]

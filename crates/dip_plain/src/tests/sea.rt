@@ -3,7 +3,7 @@ use super::compare::check_knots;
 use std::test::Fail;
 
 /// The provinces of the armies of the knot, if there is one, and the paper.
-const WORKED: [(&str, &str); 6] = [
+pub(crate) const WORKED: [(&str, &str); 6] = [
     (
         "",
         "england A lon - bel: moves
@@ -56,7 +56,7 @@ fn worked_papers_by_convoy(rt: HostRuntime) -> Result<(), Fail> {
 }
 
 /// Each shows a rule that a resolver could miss and still print all papers above.
-const RULES: [(&str, &str); 13] = [
+pub(crate) const RULES: [(&str, &str); 14] = [
     // a fleet that is attacked and stays keeps its convoy
     (
         "",
@@ -150,6 +150,17 @@ england F wes C A lon - tun: convoys",
         "england A lon - tun: no route
 england F eng C A lon - tun: convoys
 england F wes C A lon - tun: convoys",
+    ),
+    // a circle far away is taken before the knot
+    (
+        "bre",
+        "england F lon S F wal - eng: given
+england F wal - eng: moves
+france A bre - lon: no route
+france F eng C A bre - lon: convoys, dislodged
+turkey A con - smy: moves
+turkey A smy - ank: moves
+turkey F ank - con: moves",
     ),
     // an army attacks the support of the attack on its fleet, and is no paradox where another fleet carries it too
     (

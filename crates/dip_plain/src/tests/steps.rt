@@ -29,7 +29,7 @@ pub(crate) fn is_at_sea(map: &Map, unit: &Unit) -> bool {
 }
 
 /// One of three powers.
-fn draw_power(dice: &mut Dice) -> Power {
+pub(crate) fn draw_power(dice: &mut Dice) -> Power {
     dice.pick(&[Power::new(1), Power::new(2), Power::new(3)])
         .unwrap_or(Power::new(0))
 }

@@ -27,7 +27,7 @@ pub record Situation : Type 0 where
   -- neighbours for a fleet, of any coast
   pub next : ℕ → ℕ → Bool
 
--- it goes to q, where it goes
+-- where it goes is q
 abbrev pub is_at : Option ℕ → ℕ → Bool
 is_at None q = false
 is_at (Some p) q = p == q

@@ -11,4 +11,7 @@ pub mod RoundTrip
 pub mod ReadingLaws
 pub mod LawfulLaws
 pub mod StandingLaws
+pub mod PlaceLaws
 pub mod PrintLaws
+pub mod LawfulReadLaws
+pub mod PlayLaws

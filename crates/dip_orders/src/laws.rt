@@ -1,30 +1,25 @@
 //! Laws of orders, each the contract of a function that does nothing.
-ghost use Rattle.std.specs.Prelude.{◌≡◌, List, [], ℕ, Ok};
-ghost use Rattle.dip_board.specs.Boards.{IsOf, Position};
-ghost use Rattle.dip_chart.specs.Charts.{Chart, IsMap};
-ghost use Rattle.dip_orders.specs.Lawful.{IsLawful};
-ghost use Rattle.dip_orders.specs.Reading.{order_of};
-ghost use Rattle.dip_orders.specs.Texts.{order_text};
-ghost use Rattle.dip_orders.specs.declared.placed.PlacedOrder.{PlacedOrder as AnOrder};
-ghost use Rattle.std.specs.Prelude.{Contains, true};
-ghost use Rattle.dip_orders.specs.Tests.{is_movement};
-ghost use Rattle.dip_orders.specs.Standing.{IsOnly, is_in_force, are_in_force, standing_orders, units_of};
+ghost use Rattle.dip_orders.specs.Laws.{AidersCouldMove, BuildsAreInVacantHomes, BuildsHaveRoom, HoldersCouldMove};
+ghost use Rattle.dip_orders.specs.Laws.{LawfulOrdersAreRead, NoMoreHaveRoom, NoneRetreatsToItsAttacker, OnlyMovementIsInForce};
+ghost use Rattle.dip_orders.specs.Laws.{OrdersAreLawful, OrdersAreOfTheirPhase, OrdersInForceStand, OrdersReadAreInForce};
+ghost use Rattle.dip_orders.specs.Laws.{OrdersStandAlone, RemovalsAreSurplus, RetreatsAreToVacantProvinces, StandingIsInForce};
+ghost use Rattle.dip_orders.specs.Laws.{TextsAreReadAgain, TextsTellOrdersApart, UnitsHaveOneOrder};
 
 use dip_forms::forms_are_read;
 
 /// The text of an order that was read is read again as the same order, beside the same standing orders or none; and two orders of a power
 /// on a board with one text are one order.
 pub fn orders_are_read_again()
-    ensures again { (m : Chart) (b : Position) (power : ℕ) (pending : List AnOrder) (line : List ℕ) (o : AnOrder) → IsMap m → IsOf m b → order_of m b power pending line ≡ Ok o → order_of m b power pending (order_text m o) ≡ Ok o }
-    ensures alone { (m : Chart) (b : Position) (power : ℕ) (pending : List AnOrder) (line : List ℕ) (o : AnOrder) → order_of m b power pending line ≡ Ok o → order_of m b power [] line ≡ Ok o }
-    ensures apart { (m : Chart) (b : Position) (power : ℕ) (ps qs : List AnOrder) (line text : List ℕ) (o p : AnOrder) → IsMap m → IsOf m b → order_of m b power ps line ≡ Ok o → order_of m b power qs text ≡ Ok p → order_text m o ≡ order_text m p → o ≡ p }
+    ensures again { TextsAreReadAgain }
+    ensures alone { OrdersStandAlone }
+    ensures apart { TextsTellOrdersApart }
 {
     forms_are_read();
 }
 
 /// An order that was read is lawful: its unit is there, or may be built, and the rules allow what it is to do. A law: it does nothing.
 pub fn orders_are_lawful()
-    ensures { (m : Chart) (b : Position) (power : ℕ) (pending : List AnOrder) (line : List ℕ) (o : AnOrder) → IsMap m → IsOf m b → order_of m b power pending line ≡ Ok o → IsLawful m b power pending o }
+    ensures { OrdersAreLawful }
 {
     forms_are_read();
 }
@@ -32,14 +27,64 @@ pub fn orders_are_lawful()
 /// The orders that stand are those of the units of the board, one for each, and each is in force. An order in force of a unit of the board
 /// stands where no other is that unit's. A law: it does nothing.
 pub fn each_unit_has_one_order()
-    ensures units { (b : Position) (pending : List AnOrder) → units_of (standing_orders b pending) ≡ b.units }
-    ensures in_force { (b : Position) (pending : List AnOrder) → are_in_force (standing_orders b pending) ≡ true }
-    ensures kept { (b : Position) (pending : List AnOrder) (o : AnOrder) → Contains pending o → Contains b.units o.unit → is_in_force o ≡ true → IsOnly o pending → Contains (standing_orders b pending) o }
+    ensures units { UnitsHaveOneOrder }
+    ensures in_force { StandingIsInForce }
+    ensures kept { OrdersInForceStand }
 {}
 
 /// An order that was read in a phase of movement is in force. A law: it does nothing.
 pub fn orders_read_are_in_force()
-    ensures { (m : Chart) (b : Position) (power : ℕ) (pending : List AnOrder) (line : List ℕ) (o : AnOrder) → IsMap m → IsOf m b → is_movement b.phase.season ≡ true → order_of m b power pending line ≡ Ok o → is_in_force o ≡ true }
+    ensures { OrdersReadAreInForce }
+{
+    orders_are_lawful();
+}
+
+/// Each lawful order is read from its own text: what is lawful is just what can be ordered. A law: it does nothing.
+pub fn lawful_orders_are_read()
+    ensures { LawfulOrdersAreRead }
+{
+    forms_are_read();
+}
+
+/// What a power may build has room: a vacant home centre for each unit, and as many centres more than units; and no more has room.
+/// What it has to remove is what it has more units than centres. A law: it does nothing.
+pub fn allowances_have_room()
+    ensures builds { BuildsHaveRoom }
+    ensures most { NoMoreHaveRoom }
+    ensures removals { RemovalsAreSurplus }
+{}
+
+/// No dislodged unit retreats to where its attacker came from. A law: it does nothing.
+pub fn none_retreats_to_its_attacker()
+    ensures { NoneRetreatsToItsAttacker }
+{
+    orders_are_lawful();
+}
+
+/// A retreat leads to where no unit stands and no standoff was; a build is in a home centre of the power that it owns, where no
+/// unit stands or was dislodged. A law: it does nothing.
+pub fn retreats_and_builds_are_to_vacant_provinces()
+    ensures retreats { RetreatsAreToVacantProvinces }
+    ensures builds { BuildsAreInVacantHomes }
+{
+    orders_are_lawful();
+}
+
+/// A unit that supports could itself be ordered to move, from the coast where it is and without a convoy, to the province into
+/// which it gives its support. A law: it does nothing.
+pub fn supporters_could_move()
+    ensures held { HoldersCouldMove }
+    ensures moved { AidersCouldMove }
+{
+    orders_are_lawful();
+    lawful_orders_are_read();
+}
+
+/// Every order that can be given is one of the phase, and no order of another phase is in force when a movement is decided. A law:
+/// it does nothing.
+pub fn orders_are_of_their_phase()
+    ensures given { OrdersAreOfTheirPhase }
+    ensures in_force { OnlyMovementIsInForce }
 {
     orders_are_lawful();
 }

@@ -14,7 +14,7 @@ any_kept keep test true h [] = refl
 any_kept keep test false h [] = refl
 any_kept keep test all h (x ∷ xs) = grind (arith, h x, any_kept keep test all h xs)
 
-count_cons : {A : Type 0} (test : A → Bool) (x : A) (xs : List A) → count_by test (x ∷ xs) ≡ cond (test x) 1 0 + count_by test xs
+pub count_cons : {A : Type 0} (test : A → Bool) (x : A) (xs : List A) → count_by test (x ∷ xs) ≡ cond (test x) 1 0 + count_by test xs
 count_cons test x xs = sum_by-cons (λ y. cond (test y) 1 0) x xs
 
 pub count_kept : {A : Type 0} (keep test : A → Bool) (all : Bool) → ((x : A) → test x ≡ true → keep x ≡ all) → (xs : List A) → count_by test (filter keep xs) ≡ if all then count_by test xs else 0

@@ -11,4 +11,6 @@ pub mod RoundTrip
 pub mod ReadingLaws
 pub mod LawfulLaws
 pub mod StandingLaws
+pub mod PlaceLaws
+pub mod LawfulReadLaws
 pub mod PrintLaws

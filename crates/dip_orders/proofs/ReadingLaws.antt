@@ -31,7 +31,7 @@ read_form m b power pending line o h = go (draft_in line) refl h
     go None is found = let bad : Err CannotBeRead ≡ Ok o = found in absurd (cc)
     go (Some d) is found = (d, is, found)
 
-form_read : (m : Chart) (b : Position) (power : ℕ) (pending : List PlacedOrder) (line : List ℕ) (d : Draft) (o : PlacedOrder) → draft_in line ≡ Some d → answer m b power pending d ≡ Ok o
+pub form_read : (m : Chart) (b : Position) (power : ℕ) (pending : List PlacedOrder) (line : List ℕ) (d : Draft) (o : PlacedOrder) → draft_in line ≡ Some d → answer m b power pending d ≡ Ok o
     → order_of m b power pending line ≡ Ok o
 unfolding order_of
 form_read m b power pending line d o is h = ap (answer_to m b power pending) is ∙ h

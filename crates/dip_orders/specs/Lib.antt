@@ -9,3 +9,4 @@ pub mod Steps
 pub mod Texts
 pub mod Reading
 pub mod Standing
+pub mod Laws

@@ -3,6 +3,7 @@ ghost use Rattle.std.specs.Prelude.{◌≡◌, List, [], ℕ, Ok};
 ghost use Rattle.dip_map.specs.Boards.{IsOf, Position};
 ghost use Rattle.dip_parts.specs.Charts.{Chart, IsMap};
 ghost use Rattle.dip_orders.specs.Lawful.{IsLawful};
+ghost use Rattle.dip_orders.specs.Laws.{LawfulOrdersAreRead};
 ghost use Rattle.dip_orders.specs.Reading.{order_of};
 ghost use Rattle.dip_orders.specs.Texts.{order_text};
 ghost use Rattle.dip_orders.specs.declared.placed.PlacedOrder.{PlacedOrder as AnOrder};
@@ -42,4 +43,11 @@ pub fn orders_read_are_in_force()
     ensures { (m : Chart) (b : Position) (power : ℕ) (pending : List AnOrder) (line : List ℕ) (o : AnOrder) → IsMap m → IsOf m b → is_movement b.phase.season ≡ true → order_of m b power pending line ≡ Ok o → is_in_force o ≡ true }
 {
     orders_are_lawful();
+}
+
+/// Each lawful order is read from its own text: what is lawful is just what can be ordered. A law: it does nothing.
+pub fn lawful_orders_are_read()
+    ensures { LawfulOrdersAreRead }
+{
+    forms_are_read();
 }

@@ -26,7 +26,7 @@ apart_from x (y ∷ ys) h =
     let parts = or_parts (y == x) (list_any (λ z. z == x) ys) h in
     (eqb_sym x y parts.0, apart_from x ys parts.1)
 
-distinct_from : (xs : List ℕ) → are_provs_single xs ≡ true → IsDistinct eqb xs
+pub distinct_from : (xs : List ℕ) → are_provs_single xs ≡ true → IsDistinct eqb xs
 unfolding IsDistinct
 distinct_from [] h = tt
 distinct_from (x ∷ xs) h =

@@ -39,7 +39,7 @@ use Rattle.dip_orders.proofs.RoundTrip.{Again}
 use Rattle.dip_orders.proofs.SpotLaws.{IsPlaceOf, bare_fine, bare_spot, code_named, code_on_map, coast_for, mention_of, place_low, spot_fine, spot_of, stands_at, test_at, written}
 
 -- an element that a test meets is at an index
-any_at : {A : Type 0} (q : A → Bool) (xs : List A) → list_any q xs ≡ true → (k : ℕ) × (k < length xs) × ((d : A) → q (get_or xs k d) ≡ true)
+pub any_at : {A : Type 0} (q : A → Bool) (xs : List A) → list_any q xs ≡ true → (k : ℕ) × (k < length xs) × ((d : A) → q (get_or xs k d) ≡ true)
 any_at q [] h = absurd (false≢true h)
 any_at q (x ∷ xs) h =
     elim (cases_Bool (q x)) [
@@ -221,21 +221,24 @@ centre_low m p h =
       | inr past ↦ absurd (false≢true (sym (ap (λ (r : Province). r.centre) (past_province m p past)) ∙ h))
     ]
 
-home_low : (m : Chart) (power p : ℕ) → IsMap m → list_any (λ x. x == p) (home m power) ≡ true → p < length m.provinces
-home_low m power p ok h =
+pub home_centre : (m : Chart) (power p : ℕ) → IsMap m → list_any (λ x. x == p) (home m power) ≡ true → is_centre m p ≡ true
+home_centre m power p ok h =
     elim (cases_Bool (nat_lt power (length m.realms))) [
       | inl low ↦
           let (_, rest) = and_parts (is_power_name (realm m power).name) _ (ok.realms power (ltb-true _ _ low)) in
           let (centres, _) = and_parts (list_all (λ x. is_centre m x) (home m power)) _ rest in
           let (k, there, met) = any_at (λ x. x == p) (home m power) h in
           let centre : is_centre m (get_or (home m power) k 0) ≡ true = test_at (λ x. is_centre m x) (home m power) k 0 centres there in
-          centre_low m p (subst (λ n. is_centre m n ≡ true) (eqb-true _ _ (met 0)) centre)
+          subst (λ n. is_centre m n ≡ true) (eqb-true _ _ (met 0)) centre
       | inr past ↦
           let none : realm m power ≡ no_realm = get_or_past m.realms power no_realm (ltb-false _ _ past) in
           let empty : home m power ≡ [] = ap (λ (r : Realm). r.home) none in
           let bad : list_any (λ x. x == p) [] ≡ true = sym (ap (λ ps. list_any (λ x. x == p) ps) empty) ∙ h in
           absurd (false≢true bad)
     ]
+
+home_low : (m : Chart) (power p : ℕ) → IsMap m → list_any (λ x. x == p) (home m power) ≡ true → p < length m.provinces
+home_low m power p ok h = centre_low m p (home_centre m power p ok h)
 
 told_site : (m : Chart) (k : Kind) (a : Place) → IsMap m → a.prov < length m.provinces → IsSite m k a → ToldSite m k a
 told_site m Army a ok low h = record { on = low; checks = (refl, tt); same = sym h }

@@ -12,5 +12,6 @@ pub mod ReadingLaws
 pub mod LawfulLaws
 pub mod StandingLaws
 pub mod PlaceLaws
-pub mod LawfulReadLaws
 pub mod PrintLaws
+pub mod LawfulReadLaws
+pub mod PlayLaws

@@ -22,7 +22,7 @@ use Rattle.dip_orders.proofs.SpotLaws.{shape_of, test_at, written}
 pub same_place : (a b : Place) → a.prov ≡ b.prov → a.coast ≡ b.coast → a ≡ b
 same_place a b e f = λ i. record { prov = e i; coast = f i }
 
-place_itself : (a : Place) → ((a.prov == a.prov) && (a.coast == a.coast)) ≡ true
+pub place_itself : (a : Place) → ((a.prov == a.prov) && (a.coast == a.coast)) ≡ true
 place_itself a = both_true (eq-eqb a.prov a.prov refl) (eq-eqb a.coast a.coast refl)
 
 among_first : (x : Place) (xs : List Place) → is_place_among x (x ∷ xs) ≡ true

@@ -3,7 +3,7 @@ ghost use Rattle.std.specs.Prelude.{◌≡◌, List, [], ℕ, Ok};
 ghost use Rattle.dip_map.specs.Boards.{IsOf, Position};
 ghost use Rattle.dip_parts.specs.Charts.{Chart, IsMap};
 ghost use Rattle.dip_orders.specs.Lawful.{IsLawful};
-ghost use Rattle.dip_orders.specs.Laws.{LawfulOrdersAreRead};
+ghost use Rattle.dip_orders.specs.Laws.{AidersCouldMove, BuildsAreInVacantHomes, BuildsHaveRoom, HoldersCouldMove, LawfulOrdersAreRead, NoMoreHaveRoom, NoneRetreatsToItsAttacker, OnlyMovementIsInForce, OrdersAreOfTheirPhase, RemovalsAreSurplus, RetreatsAreToVacantProvinces};
 ghost use Rattle.dip_orders.specs.Reading.{order_of};
 ghost use Rattle.dip_orders.specs.Texts.{order_text};
 ghost use Rattle.dip_orders.specs.declared.placed.PlacedOrder.{PlacedOrder as AnOrder};
@@ -50,4 +50,47 @@ pub fn lawful_orders_are_read()
     ensures { LawfulOrdersAreRead }
 {
     forms_are_read();
+}
+
+/// What a power may build has room: a vacant home centre for each unit, and as many centres more than units; and no more has room.
+/// What it has to remove is what it has more units than centres. A law: it does nothing.
+pub fn allowances_have_room()
+    ensures builds { BuildsHaveRoom }
+    ensures most { NoMoreHaveRoom }
+    ensures removals { RemovalsAreSurplus }
+{}
+
+/// No dislodged unit retreats to where its attacker came from. A law: it does nothing.
+pub fn none_retreats_to_its_attacker()
+    ensures { NoneRetreatsToItsAttacker }
+{
+    orders_are_lawful();
+}
+
+/// A retreat leads to where no unit stands and no standoff was; a build is in a home centre of the power that it owns, where no
+/// unit stands or was dislodged. A law: it does nothing.
+pub fn retreats_and_builds_are_to_vacant_provinces()
+    ensures retreats { RetreatsAreToVacantProvinces }
+    ensures builds { BuildsAreInVacantHomes }
+{
+    orders_are_lawful();
+}
+
+/// A unit that supports could itself be ordered to move, from the coast where it is and without a convoy, to the province into
+/// which it gives its support. A law: it does nothing.
+pub fn supporters_could_move()
+    ensures held { HoldersCouldMove }
+    ensures moved { AidersCouldMove }
+{
+    orders_are_lawful();
+    lawful_orders_are_read();
+}
+
+/// Every order that can be given is one of the phase, and no order of another phase is in force when a movement is decided. A law:
+/// it does nothing.
+pub fn orders_are_of_their_phase()
+    ensures given { OrdersAreOfTheirPhase }
+    ensures in_force { OnlyMovementIsInForce }
+{
+    orders_are_lawful();
 }

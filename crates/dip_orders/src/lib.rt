@@ -20,8 +20,10 @@ pub use allowances::allowance;
 pub use dip_forms::{TokenList, tokens};
 pub use faults::OrderFault;
 pub use laws::{
-    each_unit_has_one_order, lawful_orders_are_read, orders_are_lawful, orders_are_read_again,
-    orders_read_are_in_force,
+    allowances_have_room, each_unit_has_one_order, lawful_orders_are_read,
+    none_retreats_to_its_attacker, orders_are_lawful, orders_are_of_their_phase,
+    orders_are_read_again, orders_read_are_in_force, retreats_and_builds_are_to_vacant_provinces,
+    supporters_could_move,
 };
 pub use placed::{Order, Other, PlacedOrder};
 pub use printing::{print_order, print_unit};

@@ -2,3 +2,4 @@ pub mod Forms
 pub mod Drafts
 pub mod Fields
 pub mod Files
+pub mod Tables

@@ -1,2 +1,2 @@
-pub mod BoardLaws
 pub mod Front
+pub mod TellingLaws

@@ -1,8 +1,7 @@
-//! Laws of maps and boards, each the contract of a function that does nothing.
-ghost use Rattle.dip_map.specs.Boards.{IsOf, opening};
-ghost use Rattle.dip_parts.specs.Charts.{Chart, IsMap};
+//! Laws of maps, each the contract of a function that does nothing.
+ghost use Rattle.dip_map.specs.Telling.{StatesWhatItTells};
 
-/// The board of a map's opening is one of that map.
-pub fn openings_are_of_their_map()
-    ensures { (m : Chart) → IsMap m → IsOf m (opening m) }
+/// A text states only the map that its file tells: each province and each power by a table of its own. A law: it does nothing.
+pub fn maps_are_told_by_their_files()
+    ensures { StatesWhatItTells }
 {}

@@ -9,18 +9,19 @@ use Rattle.std.proofs.Common.{Ordering, Less, Equal, Greater}
 use Rattle.std.specs.Ordering.{nat_cmp, is_eq, match_ordering}
 use Rattle.std.specs.Str.{bytes_eq}
 use Rattle.toml.specs.Data.{Data, string, integer, float, boolean, datetime, array, table, Items, no_items, item, Members, no_members, member, get_item, get_member, as_str, as_array, as_table, as_bool}
-use Rattle.dip_mapfile.specs.declared.faults.FileFault.{FileFault}
-use Rattle.dip_mapfile.specs.declared.faults.FileFault.TheVariants.{WrongField}
-use Rattle.dip_mapfile.specs.declared.drafts.Land.{Land}
-use Rattle.dip_mapfile.specs.declared.drafts.Land.TheVariants.{Inland, Coast, Sea}
-use Rattle.dip_mapfile.specs.Forms.{is_code, is_full_name, is_power_name}
-use Rattle.dip_mapfile.specs.Drafts.{Shore, Standing, Province, Power, Draft}
-use Rattle.dip_mapfile.specs.Fields.{◌>>=◌, wanted, each_item, each_member, field_at, text_at, table_at, flag_of, keys_are_among}
-use Rattle.dip_mapfile.specs.Files.{army_at, code_at, codes_at, draft_at, is_sound, keys_of, land_in, name_at, power_at, province_at, shores_at, standings_at}
+use Rattle.dip_names.specs.declared.faults.MapFault.{MapFault}
+use Rattle.dip_names.specs.declared.faults.MapFault.TheVariants.{WrongField}
+use Rattle.dip_names.specs.declared.names.Terrain.{Terrain}
+use Rattle.dip_names.specs.declared.names.Terrain.TheVariants.{Inland, Coast, Sea}
+use Rattle.dip_names.specs.Forms.{is_code, is_full_name, is_power_name}
+use Rattle.dip_mapfile.specs.Drafts.{ShoreDraft, UnitDraft, ProvinceDraft, PowerDraft, Draft}
+use Rattle.dip_mapfile.specs.Fields.{wanted, each_item, each_member, field_at, text_at, table_at, flag_of, keys_are_among}
+use Rattle.dip_names.specs.Results.{◌>>=◌}
+use Rattle.dip_mapfile.specs.Files.{army_at, code_at, codes_at, draft_at, is_sound, keys_of, terrain_in, name_at, power_at, province_at, shores_at, units_at}
 use Rattle.dip_mapfile.specs.Tables.{Names, Says}
 
 -- what came of what was read, one behind the other
-pub bind_ok : {A B : Type 0} (r : Result A FileFault) (f : A → Result B FileFault) (y : B) → r >>= f ≡ Ok y → (x : A) × (r ≡ Ok x) × (f x ≡ Ok y)
+pub bind_ok : {A B : Type 0} (r : Result A MapFault) (f : A → Result B MapFault) (y : B) → r >>= f ≡ Ok y → (x : A) × (r ≡ Ok x) × (f x ≡ Ok y)
 bind_ok (Ok x) f y h = (x, refl, h)
 bind_ok (Err e) f y h = absurd (cc)
 
@@ -103,7 +104,7 @@ pub contains_first : {A : Type 0} (x : A) (xs : List A) → Contains (x ∷ xs) 
 contains_first x xs = (0, omega arith, refl)
 
 -- the items of a list are the texts that were read
-pub items_to : {A : Type 0} (f : Data → Result A FileFault) (spell : A → List ℕ) → ((v : Data) (x : A) → f v ≡ Ok x → v ≡ string (spell x)) → (ds : Items) (xs : List A) → each_item f ds ≡ Ok xs
+pub items_to : {A : Type 0} (f : Data → Result A MapFault) (spell : A → List ℕ) → ((v : Data) (x : A) → f v ≡ Ok x → v ≡ string (spell x)) → (ds : Items) (xs : List A) → each_item f ds ≡ Ok xs
     → (x : A) → Contains xs x → (n : ℕ) × (get_item n ds ≡ Some (string (spell x)))
 items_to f spell spelled no_items xs h x c =
     let e : [] ≡ xs = cc in
@@ -118,7 +119,7 @@ items_to f spell spelled (item d ds) xs h x c =
       | inr more ↦ let (n, at) = items_to f spell spelled ds ys others x more in (suc n, at)
     ]
 
-pub items_from : {A : Type 0} (f : Data → Result A FileFault) (spell : A → List ℕ) → ((v : Data) (x : A) → f v ≡ Ok x → v ≡ string (spell x)) → (ds : Items) (xs : List A) → each_item f ds ≡ Ok xs
+pub items_from : {A : Type 0} (f : Data → Result A MapFault) (spell : A → List ℕ) → ((v : Data) (x : A) → f v ≡ Ok x → v ≡ string (spell x)) → (ds : Items) (xs : List A) → each_item f ds ≡ Ok xs
     → (n : ℕ) (text : List ℕ) → get_item n ds ≡ Some (string text) → (x : A) × Contains xs x × (spell x ≡ text)
 items_from f spell spelled no_items xs h n text at = absurd (cc)
 items_from f spell spelled (item d ds) xs h zero text at =
@@ -160,7 +161,7 @@ member_past c key d ms h = match_other (slice_cmp nat_cmp c key) (get_member c m
         ]
 
 -- where a key stands first, its member is what was read there
-pub member_at : {A : Type 0} (f : List ℕ → Data → Result A FileFault) (code : A → List ℕ) → ((key : List ℕ) (v : Data) (x : A) → f key v ≡ Ok x → code x ≡ key)
+pub member_at : {A : Type 0} (f : List ℕ → Data → Result A MapFault) (code : A → List ℕ) → ((key : List ℕ) (v : Data) (x : A) → f key v ≡ Ok x → code x ≡ key)
     → (ms : Members) (xs : List A) → each_member f ms ≡ Ok xs → (c : List ℕ) (i : ℕ) (none : A) → i < length xs → bytes_eq (code (get_or xs i none)) c ≡ true
     → ((k : ℕ) → k < i → bytes_eq (code (get_or xs k none)) c ≡ false) → (v : Data) × (get_member c ms ≡ Some v) × (f c v ≡ Ok (get_or xs i none))
 member_at {A = A} f code keyed no_members xs h c i none low here first =
@@ -232,16 +233,16 @@ no_codes t key none = record {
 }
 
 -- what is known of a province's table
-pub record ProvinceRead (t : Members) (w : Province) : Type 0 where
+pub record ProvinceRead (t : Members) (w : ProvinceDraft) : Type 0 where
   pub name : Says t (codes "name") w.name
   pub word : List ℕ
   pub kind : Says t (codes "kind") word
-  pub land : land_in word ≡ Ok w.land
+  pub terrain : terrain_in word ≡ Ok w.terrain
   pub flag : flag_of (get_member (codes "centre") t) ≡ Ok w.centre
   pub army : ListsCodes t (codes "army") w.army
-  pub shores : shores_at w.land t ≡ Ok w.shores
+  pub shores : shores_at w.terrain t ≡ Ok w.shores
 
-army_read : (l : Land) (code : List ℕ) (centre : Bool) (t : Members) (cs : List (List ℕ)) → army_at l t ≡ Ok cs → is_sound code l centre t ≡ true → ListsCodes t (codes "army") cs
+army_read : (l : Terrain) (code : List ℕ) (centre : Bool) (t : Members) (cs : List (List ℕ)) → army_at l t ≡ Ok cs → is_sound code l centre t ≡ true → ListsCodes t (codes "army") cs
 army_read Inland code centre t cs h sound = lists_codes t (codes "army") cs h
 army_read Coast code centre t cs h sound = lists_codes t (codes "army") cs h
 army_read Sea code centre t cs h sound =
@@ -251,22 +252,22 @@ army_read Sea code centre t cs h sound =
     subst (λ xs. ListsCodes t (codes "army") xs) e (no_codes t (codes "army") (no_field (keys_of Sea) t (codes "army") keys refl))
 
 -- the word of what a province is
-abbrev pub land_word : Land → List ℕ
-land_word Inland = codes "inland"
-land_word Coast = codes "coast"
-land_word Sea = codes "sea"
+abbrev pub terrain_word : Terrain → List ℕ
+terrain_word Inland = codes "inland"
+terrain_word Coast = codes "coast"
+terrain_word Sea = codes "sea"
 
-pub land_is : (word : List ℕ) (l : Land) → land_in word ≡ Ok l → word ≡ land_word l
-unfolding land_in
-land_is word l h =
+pub terrain_is : (word : List ℕ) (l : Terrain) → terrain_in word ≡ Ok l → word ≡ terrain_word l
+unfolding terrain_in
+terrain_is word l h =
     elim (cases_Bool (bytes_eq word (codes "inland"))) [
-      | inl inland ↦ let e : Ok Inland ≡ Ok l = rw inland at h in let is : Inland ≡ l = cc in (bytes_eq-Decides word (codes "inland")).0 inland ∙ ap land_word is
+      | inl inland ↦ let e : Ok Inland ≡ Ok l = rw inland at h in let is : Inland ≡ l = cc in (bytes_eq-Decides word (codes "inland")).0 inland ∙ ap terrain_word is
       | inr not_inland ↦
           elim (cases_Bool (bytes_eq word (codes "coast"))) [
-            | inl coast ↦ let e : Ok Coast ≡ Ok l = rw (not_inland, coast) at h in let is : Coast ≡ l = cc in (bytes_eq-Decides word (codes "coast")).0 coast ∙ ap land_word is
+            | inl coast ↦ let e : Ok Coast ≡ Ok l = rw (not_inland, coast) at h in let is : Coast ≡ l = cc in (bytes_eq-Decides word (codes "coast")).0 coast ∙ ap terrain_word is
             | inr not_coast ↦
                 elim (cases_Bool (bytes_eq word (codes "sea"))) [
-                  | inl sea ↦ let e : Ok Sea ≡ Ok l = rw (not_inland, not_coast, sea) at h in let is : Sea ≡ l = cc in (bytes_eq-Decides word (codes "sea")).0 sea ∙ ap land_word is
+                  | inl sea ↦ let e : Ok Sea ≡ Ok l = rw (not_inland, not_coast, sea) at h in let is : Sea ≡ l = cc in (bytes_eq-Decides word (codes "sea")).0 sea ∙ ap terrain_word is
                   | inr not_sea ↦ let e : Err WrongField ≡ Ok l = rw (not_inland, not_coast, not_sea) at h in absurd (cc)
                 ]
           ]
@@ -280,55 +281,55 @@ flag_is (Some v) b h =
     (λ yes_b. ap (λ x. Some x) (is ∙ ap (λ x. boolean x) yes_b), λ same. let both : Some (boolean b) ≡ Some (boolean true) = ap (λ x. Some x) (sym is) ∙ same in cc)
 
 -- what is read of a province's table, one field behind the other
-abbrev with_shores : List ℕ → Members → List ℕ → Land → Bool → List (List ℕ) → List Shore → Result Province FileFault
+abbrev with_shores : List ℕ → Members → List ℕ → Terrain → Bool → List (List ℕ) → List ShoreDraft → Result ProvinceDraft MapFault
 with_shores code fields name land centre army shores =
-    cond (is_sound code land centre fields) (Ok (record { code = code; name = name; land = land; centre = centre; army = army; shores = shores })) (Err WrongField)
+    cond (is_sound code land centre fields) (Ok (record { code = code; name = name; terrain = land; centre = centre; army = army; shores = shores })) (Err WrongField)
 
-abbrev with_army : List ℕ → Members → List ℕ → Land → Bool → List (List ℕ) → Result Province FileFault
+abbrev with_army : List ℕ → Members → List ℕ → Terrain → Bool → List (List ℕ) → Result ProvinceDraft MapFault
 with_army code fields name land centre army = shores_at land fields >>= with_shores code fields name land centre army
 
-abbrev with_centre : List ℕ → Members → List ℕ → Land → Bool → Result Province FileFault
+abbrev with_centre : List ℕ → Members → List ℕ → Terrain → Bool → Result ProvinceDraft MapFault
 with_centre code fields name land centre = army_at land fields >>= with_army code fields name land centre
 
-abbrev with_land : List ℕ → Members → List ℕ → Land → Result Province FileFault
+abbrev with_land : List ℕ → Members → List ℕ → Terrain → Result ProvinceDraft MapFault
 with_land code fields name land = flag_of (get_member (codes "centre") fields) >>= with_centre code fields name land
 
-abbrev with_word : List ℕ → Members → List ℕ → List ℕ → Result Province FileFault
-with_word code fields name word = land_in word >>= with_land code fields name
+abbrev with_word : List ℕ → Members → List ℕ → List ℕ → Result ProvinceDraft MapFault
+with_word code fields name word = terrain_in word >>= with_land code fields name
 
-abbrev with_name : List ℕ → Members → List ℕ → Result Province FileFault
+abbrev with_name : List ℕ → Members → List ℕ → Result ProvinceDraft MapFault
 with_name code fields name = text_at (codes "kind") fields >>= with_word code fields name
 
-abbrev with_fields : List ℕ → Members → Result Province FileFault
+abbrev with_fields : List ℕ → Members → Result ProvinceDraft MapFault
 with_fields code fields = name_at fields >>= with_name code fields
 
 -- a province that was read: its table, and what is known of it
-pub record ReadProvince (code : List ℕ) (v : Data) (w : Province) : Type 0 where
+pub record ReadProvince (code : List ℕ) (v : Data) (w : ProvinceDraft) : Type 0 where
   pub fields : Members
   pub is : v ≡ table fields
   pub code_same : w.code ≡ code
   pub read : ProvinceRead fields w
 
-pub province_read : (code : List ℕ) (v : Data) (w : Province) → province_at code v ≡ Ok w → ReadProvince code v w
+pub province_read : (code : List ℕ) (v : Data) (w : ProvinceDraft) → province_at code v ≡ Ok w → ReadProvince code v w
 unfolding province_at
 province_read code v w h =
     let (t, tab, h1) = bind_ok (wanted (as_table v)) (with_fields code) w h in
     let (name, named, h2) = bind_ok (name_at t) (with_name code t) w h1 in
     let (word, worded, h3) = bind_ok (text_at (codes "kind") t) (with_word code t name) w h2 in
-    let (land, landed, h4) = bind_ok (land_in word) (with_land code t name) w h3 in
+    let (land, landed, h4) = bind_ok (terrain_in word) (with_land code t name) w h3 in
     let (centre, flagged, h5) = bind_ok (flag_of (get_member (codes "centre") t)) (with_centre code t name land) w h4 in
     let (army, listed, h6) = bind_ok (army_at land t) (with_army code t name land centre) w h5 in
     let (shores, shored, h7) = bind_ok (shores_at land t) (with_shores code t name land centre army) w h6 in
-    let (sound, same) = if_ok (is_sound code land centre t) (record { code = code; name = name; land = land; centre = centre; army = army; shores = shores }) w h7 in
+    let (sound, same) = if_ok (is_sound code land centre t) (record { code = code; name = name; terrain = land; centre = centre; army = army; shores = shores }) w h7 in
     record {
       fields = t;
       is = is_table v t (wanted_ok (as_table v) t tab);
-      code_same = sym (ap (λ (x : Province). x.code) same);
-      read = subst (λ (x : Province). ProvinceRead t x) same (record {
+      code_same = sym (ap (λ (x : ProvinceDraft). x.code) same);
+      read = subst (λ (x : ProvinceDraft). ProvinceRead t x) same (record {
         name = name_is t name named;
         word = word;
         kind = text_is (codes "kind") t word worded;
-        land = landed;
+        terrain = landed;
         flag = flagged;
         army = army_read land code centre t army listed sound;
         shores = shored;
@@ -336,62 +337,62 @@ province_read code v w h =
     }
 
 -- what is read of a power's table
-abbrev with_units : List ℕ → Members → List (List ℕ) → List Standing → Result Power FileFault
+abbrev with_units : List ℕ → Members → List (List ℕ) → List UnitDraft → Result PowerDraft MapFault
 with_units name fields home units =
     cond (is_power_name name && keys_are_among (codes "home" ∷ codes "units" ∷ []) fields) (Ok (record { name = name; home = home; units = units })) (Err WrongField)
 
-abbrev with_standings : List ℕ → Members → List (List ℕ) → Data → Result Power FileFault
-with_standings name fields home standings = standings_at standings >>= with_units name fields home
+abbrev with_standings : List ℕ → Members → List (List ℕ) → Data → Result PowerDraft MapFault
+with_standings name fields home standings = units_at standings >>= with_units name fields home
 
-abbrev with_home : List ℕ → Members → List (List ℕ) → Result Power FileFault
+abbrev with_home : List ℕ → Members → List (List ℕ) → Result PowerDraft MapFault
 with_home name fields home = field_at (codes "units") fields >>= with_standings name fields home
 
-abbrev with_homes : List ℕ → Members → Data → Result Power FileFault
+abbrev with_homes : List ℕ → Members → Data → Result PowerDraft MapFault
 with_homes name fields homes = codes_at homes >>= with_home name fields
 
-abbrev with_table : List ℕ → Members → Result Power FileFault
+abbrev with_table : List ℕ → Members → Result PowerDraft MapFault
 with_table name fields = field_at (codes "home") fields >>= with_homes name fields
 
-pub record PowerRead (t : Members) (w : Power) : Type 0 where
+pub record PowerRead (t : Members) (w : PowerDraft) : Type 0 where
   pub home : ListsCodes t (codes "home") w.home
 
-pub record ReadPower (name : List ℕ) (v : Data) (w : Power) : Type 0 where
+pub record ReadPower (name : List ℕ) (v : Data) (w : PowerDraft) : Type 0 where
   pub fields : Members
   pub is : v ≡ table fields
   pub name_same : w.name ≡ name
   pub read : PowerRead fields w
 
-pub power_read : (name : List ℕ) (v : Data) (w : Power) → power_at name v ≡ Ok w → ReadPower name v w
+pub power_read : (name : List ℕ) (v : Data) (w : PowerDraft) → power_at name v ≡ Ok w → ReadPower name v w
 unfolding power_at
 power_read name v w h =
     let (t, tab, h1) = bind_ok (wanted (as_table v)) (with_table name) w h in
     let (homes, field, h2) = bind_ok (field_at (codes "home") t) (with_homes name t) w h1 in
     let (home, listed, h3) = bind_ok (codes_at homes) (with_home name t) w h2 in
     let (standings, there, h4) = bind_ok (field_at (codes "units") t) (with_standings name t home) w h3 in
-    let (units, stood, h5) = bind_ok (standings_at standings) (with_units name t home) w h4 in
+    let (units, stood, h5) = bind_ok (units_at standings) (with_units name t home) w h4 in
     let (sound, same) = if_ok (is_power_name name && keys_are_among (codes "home" ∷ codes "units" ∷ []) t) (record { name = name; home = home; units = units }) w h5 in
     record {
       fields = t;
       is = is_table v t (wanted_ok (as_table v) t tab);
-      name_same = sym (ap (λ (x : Power). x.name) same);
-      read = subst (λ (x : Power). PowerRead t x) same (record { home = lists_codes t (codes "home") home (ap (λ r. r >>= codes_at) field ∙ listed) });
+      name_same = sym (ap (λ (x : PowerDraft). x.name) same);
+      read = subst (λ (x : PowerDraft). PowerRead t x) same (record { home = lists_codes t (codes "home") home (ap (λ r. r >>= codes_at) field ∙ listed) });
     }
 
 -- what is read of a file
-abbrev with_provinces : Members → List ℕ → List Power → List Province → Result Draft FileFault
+abbrev with_provinces : Members → List ℕ → List PowerDraft → List ProvinceDraft → Result Draft MapFault
 with_provinces file name powers provinces =
     cond (keys_are_among (codes "name" ∷ codes "powers" ∷ codes "provinces" ∷ []) file) (Ok (record { name = name; powers = powers; provinces = provinces })) (Err WrongField)
 
-abbrev with_lands : Members → List ℕ → List Power → Members → Result Draft FileFault
+abbrev with_lands : Members → List ℕ → List PowerDraft → Members → Result Draft MapFault
 with_lands file name powers lands = each_member province_at lands >>= with_provinces file name powers
 
-abbrev with_powers : Members → List ℕ → List Power → Result Draft FileFault
+abbrev with_powers : Members → List ℕ → List PowerDraft → Result Draft MapFault
 with_powers file name powers = table_at (codes "provinces") file >>= with_lands file name powers
 
-abbrev with_realms : Members → List ℕ → Members → Result Draft FileFault
+abbrev with_realms : Members → List ℕ → Members → Result Draft MapFault
 with_realms file name realms = each_member power_at realms >>= with_powers file name
 
-abbrev with_map_name : Members → List ℕ → Result Draft FileFault
+abbrev with_map_name : Members → List ℕ → Result Draft MapFault
 with_map_name file name = table_at (codes "powers") file >>= with_realms file name
 
 -- a file that was read: its tables of powers and of provinces

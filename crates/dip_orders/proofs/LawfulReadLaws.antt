@@ -5,13 +5,13 @@ use Rattle.std.proofs.lemmas.List.{get_or_past}
 use Rattle.std.specs.List.{list_any, list_all}
 use Rattle.std.specs.Option.{unwrap_or}
 use Rattle.std.specs.Cmp.Derive.{both_true}
-use Rattle.dip_parts.specs.declared.names.Kind.{Kind}
-use Rattle.dip_parts.specs.declared.names.Kind.TheVariants.{Army, Fleet}
-use Rattle.dip_parts.specs.declared.names.Place.{Place}
-use Rattle.dip_parts.specs.declared.names.Unit.{Unit as Piece}
-use Rattle.dip_map.specs.declared.boards.Dislodged.{Dislodged}
-use Rattle.dip_parts.specs.Charts.{Chart, IsMap, Province, Realm, are_places_single, army_next, fleet_next, home, no_province, no_realm, province, realm, shore, coast_of, is_army_next, is_fleet_place, is_unit, is_centre, is_power_name, may_stand}
-use Rattle.dip_map.specs.Boards.{Position, IsOf, is_dislodged, is_some_prov}
+use Rattle.dip_names.specs.declared.names.Kind.{Kind}
+use Rattle.dip_names.specs.declared.names.Kind.TheVariants.{Army, Fleet}
+use Rattle.dip_names.specs.declared.names.Place.{Place}
+use Rattle.dip_names.specs.declared.names.Unit.{Unit as Piece}
+use Rattle.dip_board.specs.declared.boards.Dislodged.{Dislodged}
+use Rattle.dip_chart.specs.Charts.{Chart, IsMap, Province, Realm, are_places_single, army_next, fleet_next, home, no_province, no_realm, province, realm, shore, coast_of, is_army_next, is_fleet_place, is_unit, is_centre, is_power_name, may_stand}
+use Rattle.dip_board.specs.Boards.{Position, IsOf, is_dislodged, is_some_prov}
 use Rattle.dip_forms.specs.Forms.{is_draft, is_spot}
 use Rattle.dip_orders.specs.Allowances.{builds_due, removals_due}
 use Rattle.dip_forms.specs.Texts.{canonical_text}
@@ -21,7 +21,8 @@ use Rattle.dip_orders.specs.Laws.{LawfulOrdersAreRead}
 use Rattle.dip_orders.specs.Lawful.{IsAllowed, IsSite, IsThere, MayAid, MayCarry, MayCome, Reaches, Stands}
 use Rattle.dip_orders.specs.Retreats.{is_place_among, next_places, on_foot, retreats_of}
 use Rattle.dip_orders.specs.Rules.{checks_of, unit_checks, move_checks, move_place, other_checks, order_in, retreat_checks, site, site_checks, is_supportable, unit_of, the_unit, dislodged_of, the_dislodged}
-use Rattle.dip_orders.specs.Tests.{is_adjustment, is_retreat, army_place, could_move, first_in, is_at_sea, is_coastal, is_kind, is_on_map, may_build, may_convoy, may_march, no_dislodged, no_place, no_unit, other_at, place_in, prov_named, unit_at, dislodged_at, knows_coast, builds_elsewhere, removals_elsewhere}
+use Rattle.dip_orders.specs.Tests.{is_adjustment, is_retreat, army_place, could_move, first_in, is_on_map, may_build, may_convoy, may_march, no_dislodged, no_place, no_unit, other_at, place_in, prov_named, unit_at, dislodged_at, knows_coast, builds_elsewhere, removals_elsewhere}
+use Rattle.dip_names.specs.Kinds.{is_sea, is_coastal, is_kind}
 use Rattle.dip_orders.specs.Texts.{order_text}
 use Rattle.dip_orders.specs.declared.faults.OrderFault.TheVariants.{OutOfReach, SupportOutOfReach, WrongKind, NoBuildThere, NoConvoyThere, WrongCoast, AllowanceUsed, NoSuchRetreat}
 use Rattle.dip_orders.specs.declared.placed.Other.{Other}
@@ -306,7 +307,7 @@ aided_checks m b k x n t = other_checks m b k n None ++ must (is_supportable m x
 abbrev carried_checks : Chart → Position → Piece → ℕ → ℕ → List Check
 carried_checks m b x n t =
     must (is_kind x.kind Fleet) WrongKind
-    ∷ must (is_at_sea (province m x.place.prov).terrain) NoConvoyThere
+    ∷ must (is_sea (province m x.place.prov).terrain) NoConvoyThere
     ∷ (other_checks m b Army n None ++ must (knows_coast m t None) WrongCoast ∷ must (may_convoy m n t) NoConvoyThere ∷ [])
 
 abbrev due_checks : Position → ℕ → List PlacedOrder → ℕ → List Check

@@ -7,20 +7,20 @@ use Rattle.std.proofs.lemmas.Map.Made.{is_member-Decides, length-le_from_is_memb
 use Rattle.std.specs.Cmp.{nat_eq_equiv, unsigned_Decides}
 use Rattle.std.specs.List.{list_any}
 use Rattle.std.specs.Option.{unwrap_or}
-use Rattle.dip_parts.specs.declared.names.Kind.{Kind}
-use Rattle.dip_parts.specs.declared.names.Kind.TheVariants.{Army, Fleet}
-use Rattle.dip_parts.specs.declared.names.Place.{Place}
-use Rattle.dip_parts.specs.declared.names.Unit.{Unit as Piece}
-use Rattle.dip_map.specs.declared.boards.Dislodged.{Dislodged}
-use Rattle.dip_map.specs.declared.boards.Season.{Season}
-use Rattle.dip_map.specs.declared.boards.Season.TheVariants.{SpringMoves, SpringRetreats, FallMoves, FallRetreats, Winter}
-use Rattle.dip_parts.specs.Charts.{Chart, IsMap, are_provs_single, are_units_single, fleet_next, home, is_fleet_next}
-use Rattle.dip_map.specs.Boards.{Position, IsOf}
-use Rattle.dip_orders.specs.Allowances.{centres_owned, is_left, is_power, is_vacant, owner, owns, units_counted, vacant_homes}
+use Rattle.dip_names.specs.declared.names.Kind.{Kind}
+use Rattle.dip_names.specs.declared.names.Kind.TheVariants.{Army, Fleet}
+use Rattle.dip_names.specs.declared.names.Place.{Place}
+use Rattle.dip_names.specs.declared.names.Unit.{Unit as Piece}
+use Rattle.dip_board.specs.declared.boards.Dislodged.{Dislodged}
+use Rattle.dip_board.specs.declared.boards.Season.{Season}
+use Rattle.dip_board.specs.declared.boards.Season.TheVariants.{SpringMoves, SpringRetreats, FallMoves, FallRetreats, Winter}
+use Rattle.dip_chart.specs.Charts.{Chart, IsMap, are_provs_single, are_units_single, fleet_next, home, is_fleet_next}
+use Rattle.dip_board.specs.Boards.{Position, IsOf, centres_owned, is_left, is_power, is_vacant, owner, owns, units_counted, is_held}
+use Rattle.dip_orders.specs.Allowances.{vacant_homes}
 use Rattle.dip_orders.specs.Laws.{AidersCouldMove, AreVacantHomes, BuildsAreInVacantHomes, BuildsHaveRoom, CouldMove, HoldersCouldMove, IsEmpty, IsGiven, IsNeighbour, IsVacantHome, LawfulOrdersAreRead, NoMoreHaveRoom, NoneRetreatsToItsAttacker, OnlyMovementIsInForce, OrdersAreOfTheirPhase, RemovalsAreSurplus, RetreatsAreToVacantProvinces, belongs, is_of_movement, is_of_retreats, is_of_winter}
 use Rattle.dip_orders.specs.Lawful.{IsAllowed, IsLawful, Reaches, Stands}
 use Rattle.dip_orders.specs.Reading.{order_of}
-use Rattle.dip_orders.specs.Retreats.{MayRetreat, is_held, is_origin}
+use Rattle.dip_orders.specs.Retreats.{MayRetreat, is_origin}
 use Rattle.dip_orders.specs.Standing.{is_done_from, is_in_force, standing_orders}
 use Rattle.dip_orders.specs.Tests.{could_move, dislodged_at, first_in, is_adjustment, is_movement, is_retreat, may_convoy, no_place}
 use Rattle.dip_orders.specs.Texts.{order_text}

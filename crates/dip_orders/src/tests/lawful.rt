@@ -2,7 +2,9 @@
 use super::assert_count;
 use super::scenes::{FIELD, Scene, board_of};
 use crate::{Order, PlacedOrder, print_order, read_order};
-use dip_map::{Board, Kind, Map, MapFault, Place, STANDARD, Season, Unit};
+use dip_board::{Board, Season};
+use dip_map::{Map, STANDARD};
+use dip_names::{Kind, Place, Unit};
 use std::alloc::{AllocError, Global};
 use std::process::Abort;
 use std::test::Fail;

@@ -1,0 +1,4 @@
+pub mod Found
+pub mod KeyLaws
+pub mod EntryLaws
+pub mod MapLaws

@@ -61,7 +61,14 @@ impl Board {
         owners: Vec<Option<Power>>,
         phase: Phase,
     ) -> Board
-        ensures { result ≡ record { units = units.items; dislodged = dislodged.items; standoff = standoff.items; owners = owners.items; phase = phase } }
+        ensures { result ≡ record {
+          units = units.items;
+          dislodged = dislodged.items;
+          standoff = standoff.items;
+          owners =
+              owners.items;
+          phase = phase;
+        } }
     {
         Board {
             units,

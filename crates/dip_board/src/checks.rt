@@ -151,7 +151,9 @@ fn are_ascending(provinces: &[Prov]) -> bool
 
 fn are_owners_of_centres(map: &Map, owners: &[Option<Power>]) -> bool
     requires { length owners.now ≡ length map.now.provinces }
-    ensures { IsTrue result ↔ ((p : ℕ) → is_some (slice_index_or owners.now p None) ≡ true → is_centre map.now p ≡ true) }
+    ensures { IsTrue result
+        ↔
+        ((p : ℕ) → is_some (slice_index_or owners.now p None) ≡ true → is_centre map.now p ≡ true) }
 {
     map.facts();
     for (number, owner) in owners.iter().enumerate() {

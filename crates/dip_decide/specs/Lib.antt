@@ -8,3 +8,4 @@ pub mod Steps
 pub mod Rings
 pub mod Results
 pub mod Laws
+pub mod Statements

@@ -24,7 +24,9 @@ fn linked(
     to: Prov,
     joined: &[Prov],
 ) -> Result<Vec<Prov>, AllocError>
-    ensures { IfOk result (λ v. v.items ≡ filter (is_linked (seen table.now).next fleets.now to joined.now) fleets.now) }
+    ensures { IfOk result
+        (λ v. v.items ≡ filter (is_linked (seen table.now).next fleets.now to joined.now)
+        fleets.now) }
 {
     let mut more = copy_of(alloc, fleets)?;
     more.retain(|fleet| is_linked(table, fleets, to, joined, *fleet));
@@ -56,7 +58,9 @@ pub(crate) fn joins(
     from: Prov,
     to: Prov,
 ) -> Result<bool, AllocError>
-    ensures { IfOk result (λ b. b ≡ is_linked (seen table.now).next fleets.now to (joined_by (seen table.now).next fleets.now to (length table.now.places.items)) from) }
+    ensures { IfOk result
+        (λ b. b ≡ is_linked (seen table.now).next fleets.now to
+        (joined_by (seen table.now).next fleets.now to (length table.now.places.items)) from) }
 {
     let joined = joined_by(alloc, table, fleets, to, table.places.len())?;
     Ok(is_linked(table, fleets, to, joined.as_slice(), from))

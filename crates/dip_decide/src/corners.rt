@@ -137,7 +137,8 @@ impl Corner<'_> {
     }
 
     fn are_free(&self, p: Prov, q: Prov) -> bool
-        ensures { result ≡ list_all (beats (seen self.now.table.now) (values self.now) p q) self.now.table.now.places.items }
+        ensures { result ≡ list_all (beats (seen self.now.table.now) (values self.now) p q)
+            self.now.table.now.places.items }
     {
         self.table.places.iter().all(|w| self.beats(p, q, *w))
     }
@@ -161,7 +162,9 @@ impl Corner<'_> {
     }
 
     fn is_uncut(&self, h: Prov) -> bool
-        ensures { result ≡ list_all (λ x. not (cuts (seen self.now.table.now) (values self.now) h x)) self.now.table.now.places.items }
+        ensures { result ≡ list_all
+            (λ x. not (cuts (seen self.now.table.now) (values self.now) h x))
+            self.now.table.now.places.items }
     {
         self.table.places.iter().all(|x| !self.cuts(h, *x))
     }
@@ -197,7 +200,9 @@ impl Corner<'_> {
 
     /// The fleets that serve the move of a unit.
     fn fleets(&self, alloc: Global, p: Prov) -> Result<Vec<Prov>, AllocError>
-        ensures { IfOk result (λ v. v.items ≡ filter (serves (seen self.now.table.now) (values self.now) p) self.now.table.now.places.items) }
+        ensures { IfOk result
+            (λ v. v.items ≡ filter (serves (seen self.now.table.now) (values self.now) p)
+            self.now.table.now.places.items) }
     {
         let mut fleets = copy_of(alloc, self.table.places.as_slice())?;
         fleets.retain(|x| self.serves(p, *x));
@@ -206,7 +211,8 @@ impl Corner<'_> {
 
     /// Whether the move by convoy of a unit to a province has a path.
     fn has_chain(&self, alloc: Global, p: Prov, q: Prov) -> Result<bool, AllocError>
-        ensures { IfOk result (λ b. b ≡ path_rule (seen self.now.table.now) (values self.now) p (Some q)) }
+        ensures { IfOk result
+            (λ b. b ≡ path_rule (seen self.now.table.now) (values self.now) p (Some q)) }
     {
         let fleets = self.fleets(alloc, p)?;
         joins(alloc, self.table, fleets.as_slice(), p, q)

@@ -165,7 +165,8 @@ impl Table<'_> {
 
     /// Whether a unit that has this order supports one.
     pub(crate) fn is_support_of(&self, row: &Option<PlacedOrder>) -> bool
-        ensures { result ≡ list_any (λ p. supports_in (entry self.now.rows.items) row.now p) self.now.places.items }
+        ensures { result ≡ list_any (λ p. supports_in (entry self.now.rows.items) row.now p)
+            self.now.places.items }
     {
         self.places.iter().any(|p| self.supports_of(row, *p))
     }
@@ -183,7 +184,8 @@ impl Table<'_> {
 
     /// Whether a unit that has this order is a fleet in a sea that convoys the one in a province.
     fn convoys_of(&self, placed: &PlacedOrder, p: Prov) -> bool
-        ensures { result ≡ convoys_in self.now.map.now (entry self.now.rows.items) (Some placed.now) p }
+        ensures { result ≡ convoys_in self.now.map.now (entry self.now.rows.items) (Some placed.now)
+            p }
     {
         placed.unit.kind.is(Kind::Fleet)
             && self.map.terrain(placed.unit.place.prov).is_sea()

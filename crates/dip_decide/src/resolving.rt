@@ -71,7 +71,9 @@ fn is_broken(steps: &[Step], p: Prov) -> bool
 
 /// The units whose paths the steps break, by code.
 fn broken_by(alloc: Global, map: &Map, steps: &[Step]) -> Result<Vec<Prov>, AllocError>
-    ensures { IfOk result (λ v. v.items ≡ filter (λ p. list_any (λ s. breaks s p) steps.now) (numbers_from 0 map.now.provinces)) }
+    ensures { IfOk result
+        (λ v. v.items ≡ filter (λ p. list_any (λ s. breaks s p) steps.now)
+        (numbers_from 0 map.now.provinces)) }
 {
     let mut found = all_provinces(alloc, map)?;
     found.retain(|p| is_broken(steps, *p));
@@ -113,10 +115,14 @@ pub fn resolve(
 ) -> Result<Resolution, AllocError>
     requires is_of { IsOf map.now board.now }
     requires orders { units_of orders.now ≡ board.now.units }
-    ensures equations { IfOk result (λ r. Satisfies (situation map.now orders.now) (broken_in r) (values_in r)) }
-    ensures explained { IfOk result (λ r. AreExplained (situation map.now orders.now) (steps_of r.steps.items) (values_in r)) }
-    ensures broken { IfOk result (λ r. (d : ADecision) → broken_in r d ≡ is_broken (steps_of r.steps.items) d) }
-    ensures few { IfOk result (λ r. length r.steps.items ≤ decided_in (situation map.now orders.now)) }
+    ensures equations { IfOk result
+        (λ r. Satisfies (situation map.now orders.now) (broken_in r) (values_in r)) }
+    ensures explained { IfOk result
+        (λ r. AreExplained (situation map.now orders.now) (steps_of r.steps.items) (values_in r)) }
+    ensures broken { IfOk result
+        (λ r. (d : ADecision) → broken_in r d ≡ is_broken (steps_of r.steps.items) d) }
+    ensures few { IfOk result
+        (λ r. length r.steps.items ≤ decided_in (situation map.now orders.now)) }
     ensures ordered { IfOk result AreInOrder }
 {
     orders.facts();

@@ -20,7 +20,9 @@ fn settle(
     d: &Decision,
 ) -> Result<bool, AllocError>
     requires situation { IsSituation (seen table.now) }
-    ensures { IfOk result (λ any. IsSettled (seen table.now) (d.now ∷ []) any (steps_of steps.old.items) (given values.old) (steps_of steps.new.items) (given values.new)) }
+    ensures { IfOk result
+        (λ any. IsSettled (seen table.now) (d.now ∷ []) any (steps_of steps.old.items)
+        (given values.old) (steps_of steps.new.items) (given values.new)) }
 {
     if values.look(d).is_some() {
         return Ok(false);
@@ -44,7 +46,9 @@ fn settle_unit(
     p: Prov,
 ) -> Result<bool, AllocError>
     requires situation { IsSituation (seen table.now) }
-    ensures { IfOk result (λ any. IsSettled (seen table.now) (decisions (p ∷ [])) any (steps_of steps.old.items) (given values.old) (steps_of steps.new.items) (given values.new)) }
+    ensures { IfOk result
+        (λ any. IsSettled (seen table.now) (decisions (p ∷ [])) any (steps_of steps.old.items)
+        (given values.old) (steps_of steps.new.items) (given values.new)) }
 {
     let by_move = settle(alloc, table, values, steps, &Decision::Move(p))?;
     let by_path = settle(alloc, table, values, steps, &Decision::Path(p))?;
@@ -60,7 +64,10 @@ pub(crate) fn pass(
     steps: &mut Vec<Step>,
 ) -> Result<bool, AllocError>
     requires situation { IsSituation (seen table.now) }
-    ensures { IfOk result (λ any. IsSettled (seen table.now) (decisions table.now.places.items) any (steps_of steps.old.items) (given values.old) (steps_of steps.new.items) (given values.new)) }
+    ensures { IfOk result
+        (λ any. IsSettled (seen table.now) (decisions table.now.places.items) any
+        (steps_of steps.old.items) (given values.old) (steps_of steps.new.items)
+        (given values.new)) }
 {
     let mut changed = false;
     for place in &table.places {

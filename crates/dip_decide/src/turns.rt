@@ -25,7 +25,9 @@ fn take_circle(
     requires started { IsStarted (seen table.now) (given values.old) }
     requires some { IsNonEmpty units.items }
     requires circle { IsCircle (rule (seen table.now)) (given values.old) (moves_of units.items) }
-    ensures { OnOk result (IsTurn (seen table.now) true (steps_of steps.old.items) (given values.old) (steps_of steps.new.items) (given values.new)) }
+    ensures { OnOk result
+        (IsTurn (seen table.now) true (steps_of steps.old.items) (given values.old)
+        (steps_of steps.new.items) (given values.new)) }
 {
     let _ = &table.places;
     values.give_moves(units.as_slice());
@@ -43,8 +45,11 @@ fn take_knot(
     requires situation { IsSituation (seen table.now) }
     requires started { IsStarted (seen table.now) (given values.old) }
     requires some { IsNonEmpty units.items }
-    requires knot { IsKnot (rule (seen table.now)) (mentions (seen table.now)) (given values.old) (paths_of units.items) }
-    ensures { OnOk result (IsTurn (seen table.now) true (steps_of steps.old.items) (given values.old) (steps_of steps.new.items) (given values.new)) }
+    requires knot { IsKnot (rule (seen table.now)) (mentions (seen table.now)) (given values.old)
+        (paths_of units.items) }
+    ensures { OnOk result
+        (IsTurn (seen table.now) true (steps_of steps.old.items) (given values.old)
+        (steps_of steps.new.items) (given values.new)) }
 {
     let _ = &table.places;
     values.break_paths(units.as_slice());
@@ -62,7 +67,9 @@ fn turn_unforced(
     requires situation { IsSituation (seen table.now) }
     requires started { IsStarted (seen table.now) (given values.old) }
     requires unforced { NoneForced (seen table.now) (given values.old) }
-    ensures { IfOk result (λ any. IsTurn (seen table.now) any (steps_of steps.old.items) (given values.old) (steps_of steps.new.items) (given values.new)) }
+    ensures { IfOk result
+        (λ any. IsTurn (seen table.now) any (steps_of steps.old.items) (given values.old)
+        (steps_of steps.new.items) (given values.new)) }
 {
     if let Some(ring) = ring_in(alloc, table, values)? {
         take_circle(table, values, steps, ring)?;
@@ -85,7 +92,9 @@ fn turn(
 ) -> Result<bool, AllocError>
     requires situation { IsSituation (seen table.now) }
     requires started { IsStarted (seen table.now) (given values.old) }
-    ensures { IfOk result (λ any. IsTurn (seen table.now) any (steps_of steps.old.items) (given values.old) (steps_of steps.new.items) (given values.new)) }
+    ensures { IfOk result
+        (λ any. IsTurn (seen table.now) any (steps_of steps.old.items) (given values.old)
+        (steps_of steps.new.items) (given values.new)) }
 {
     if pass(alloc, table, values, steps)? {
         return Ok(true);
@@ -101,7 +110,8 @@ pub(crate) fn explain(
 ) -> Result<Vec<Step>, AllocError>
     requires situation { IsSituation (seen table.now) }
     requires first { given values.old ≡ at_first (seen table.now) }
-    ensures { IfOk result (λ steps. IsComplete (seen table.now) (steps_of steps.items) (given values.new)) }
+    ensures { IfOk result
+        (λ steps. IsComplete (seen table.now) (steps_of steps.items) (given values.new)) }
 {
     let mut steps = Vec::new(alloc);
     let mut goes_on = true;

@@ -193,7 +193,8 @@ fn homes_of(alloc: Global, parts: &Parts, kind: Kind, power: Power) -> Result<Ve
 
 fn tables_of(alloc: Global, parts: &Parts, kind: Kind) -> Result<Vec<Vec<u16>>, AllocError>
     requires { IsMap parts.now }
-    ensures { IfOk result (λ v. AreTables parts.now kind (length parts.now.realms) (rows_of v.items)) }
+    ensures { IfOk result
+        (λ v. AreTables parts.now kind (length parts.now.realms) (rows_of v.items)) }
 {
     let graph = graph_of(alloc, parts, kind)?;
     let mut tables = Vec::new(alloc);

@@ -25,7 +25,8 @@ pub fn print_letter(alloc: Global, letter: &Letter<'_>) -> Result<Vec<u8>, Alloc
 
 /// Appends a name, a value and LF.
 fn push_line(text: &mut String, name: &str, value: &str) -> Result<(), AllocError>
-    ensures { OnOk result (string_bytes text.new ≡ string_bytes text.old ++ ((name.now ++ value.now) ++ 10 ∷ [])) }
+    ensures { OnOk result
+        (string_bytes text.new ≡ string_bytes text.old ++ ((name.now ++ value.now) ++ 10 ∷ [])) }
 {
     text.push_str(name)?;
     text.push_str(value)?;
@@ -34,7 +35,10 @@ fn push_line(text: &mut String, name: &str, value: &str) -> Result<(), AllocErro
 
 /// Appends a command's line and its body.
 fn push_command(alloc: Global, text: &mut String, command: Command<'_>) -> Result<(), AllocError>
-    ensures { OnOk result (string_bytes text.new ≡ string_bytes text.old ++ (command_line (request command.entry) ++ 10 ∷ text_of (body_lines (request command.entry)))) }
+    ensures { OnOk result
+        (string_bytes text.new ≡ string_bytes text.old ++
+        (command_line (request command.entry) ++ 10 ∷ text_of
+        (body_lines (request command.entry)))) }
 {
     match command {
         Command::Create(opening) => {
@@ -52,7 +56,9 @@ fn push_command(alloc: Global, text: &mut String, command: Command<'_>) -> Resul
 
 /// What follows `CREATE` in its line.
 fn opening_line(alloc: Global, opening: Opening<'_>) -> Result<String, AllocError>
-    ensures { IfOk result (λ s. codes "CREATE " ++ string_bytes s ≡ command_line (request (Command.Create opening.entry))) }
+    ensures { IfOk result
+        (λ s. codes "CREATE " ++ string_bytes s ≡ command_line
+        (request (Command.Create opening.entry))) }
 {
     let grey = yes_or_no(opening.grey);
     format!(in alloc; "DUE {} PERIOD {} GREY {grey}", opening.due, opening.period)
@@ -66,7 +72,8 @@ fn yes_or_no(answer: bool) -> &'static str
 
 /// Appends the lines of orders.
 fn push_lines(text: &mut String, lines: Lines<'_>) -> Result<(), AllocError>
-    ensures { OnOk result (string_bytes text.new ≡ string_bytes text.old ++ text_of (lines_in lines.entry)) }
+    ensures { OnOk result
+        (string_bytes text.new ≡ string_bytes text.old ++ text_of (lines_in lines.entry)) }
 {
     for line in lines {
         push_line(text, "", line)?;
@@ -76,7 +83,9 @@ fn push_lines(text: &mut String, lines: Lines<'_>) -> Result<(), AllocError>
 
 /// Appends the lines of seats.
 fn push_seats(text: &mut String, seats: Seats<'_>) -> Result<(), AllocError>
-    ensures { OnOk result (string_bytes text.new ≡ string_bytes text.old ++ text_of (map seat_line (seats_in seats.entry))) }
+    ensures { OnOk result
+        (string_bytes text.new ≡ string_bytes text.old ++ text_of
+        (map seat_line (seats_in seats.entry))) }
 {
     for seat in seats {
         text.push_str("SEAT ")?;

@@ -82,7 +82,8 @@ fn is_sound(code: &str, terrain: Terrain, centre: bool, fields: &Table) -> bool
 
 /// Where an army goes; a sea has no such list.
 fn army_of(alloc: Global, terrain: Terrain, fields: &Table) -> Result<Vec<&str>, MapFault>
-    ensures { Gives (λ v. map (λ s. s.now) v.items) result (army_at terrain (table_view fields.now)) }
+    ensures { Gives (λ v. map (λ s. s.now) v.items) result
+        (army_at terrain (table_view fields.now)) }
 {
     match terrain {
         Terrain::Inland | Terrain::Coast => {

@@ -91,7 +91,8 @@ fn unit_of(value: &Value) -> Result<UnitDraft<'_>, MapFault>
 }
 
 fn codes_in<'a>(alloc: Global, array: &'a Array) -> Result<Vec<&'a str>, MapFault>
-    ensures { Gives (λ v. map (λ s. s.now) v.items) result (each_item code_at (array_view array.now)) }
+    ensures { Gives (λ v. map (λ s. s.now) v.items) result
+        (each_item code_at (array_view array.now)) }
 {
     let mut codes = Vec::new(alloc);
     for value in array.iter() {

@@ -1,5 +1,5 @@
 -- The laws of orders, as statements.
-use Rattle.std.specs.Prelude.{◌≡◌, ◌≢◌, ◌≤◌, ◌+◌, ℕ, pos, negsuc, suc, length, Bool, true, false, Contains, List, Some, Ok}
+use Rattle.std.specs.Prelude.{◌≡◌, ◌≢◌, ◌≤◌, ◌+◌, ℕ, pos, negsuc, suc, length, Bool, true, false, Contains, List, [], Some, Ok}
 use Rattle.dip_names.specs.declared.names.Kind.{Kind}
 use Rattle.dip_names.specs.declared.names.Kind.TheVariants.{Army, Fleet}
 use Rattle.dip_names.specs.declared.names.Place.{Place}
@@ -8,16 +8,64 @@ use Rattle.dip_chart.specs.Charts.{Chart, IsMap, are_provs_single, home, is_army
 use Rattle.dip_board.specs.declared.boards.Dislodged.{Dislodged}
 use Rattle.dip_board.specs.declared.boards.Season.{Season}
 use Rattle.dip_board.specs.declared.boards.Season.TheVariants.{SpringMoves, SpringRetreats, FallMoves, FallRetreats, Winter}
-use Rattle.dip_board.specs.Boards.{Position, IsOf, centres_owned, owner, units_counted}
+use Rattle.dip_board.specs.Boards.{Position, IsOf}
 use Rattle.dip_orders.specs.Allowances.{allowance}
+use Rattle.dip_board.specs.Boards.{centres_owned, owner, units_counted}
 use Rattle.dip_orders.specs.Lawful.{IsLawful}
 use Rattle.dip_orders.specs.Reading.{order_of}
-use Rattle.dip_orders.specs.Standing.{standing_orders}
+use Rattle.dip_orders.specs.Standing.{IsOnly, is_in_force, are_in_force, standing_orders, units_of}
+use Rattle.dip_orders.specs.Tests.{is_movement}
 use Rattle.dip_orders.specs.Texts.{order_text}
 use Rattle.dip_orders.specs.declared.placed.Order.{Order}
 use Rattle.dip_orders.specs.declared.placed.Order.TheVariants.{Hold, Move, SupportHold, SupportMove, Convoy, Retreat, Disband, Build, Remove}
 use Rattle.dip_orders.specs.declared.placed.Other.{Other}
 use Rattle.dip_orders.specs.declared.placed.PlacedOrder.{PlacedOrder}
+
+-- the text of an order that was read is read again as that order
+abbrev pub TextsAreReadAgain : Type 0
+TextsAreReadAgain =
+    (m : Chart) (b : Position) (power : ℕ) (pending : List PlacedOrder) (line : List ℕ) (o : PlacedOrder) → IsMap m → IsOf m b
+    → order_of m b power pending line ≡ Ok o → order_of m b power pending (order_text m o) ≡ Ok o
+
+-- an order that was read beside others is read without them too
+abbrev pub OrdersStandAlone : Type 0
+OrdersStandAlone =
+    (m : Chart) (b : Position) (power : ℕ) (pending : List PlacedOrder) (line : List ℕ) (o : PlacedOrder)
+    → order_of m b power pending line ≡ Ok o → order_of m b power [] line ≡ Ok o
+
+-- two orders of a power on a board with one text are one order
+abbrev pub TextsTellOrdersApart : Type 0
+TextsTellOrdersApart =
+    (m : Chart) (b : Position) (power : ℕ) (ps qs : List PlacedOrder) (line text : List ℕ) (o p : PlacedOrder) → IsMap m → IsOf m b
+    → order_of m b power ps line ≡ Ok o → order_of m b power qs text ≡ Ok p → order_text m o ≡ order_text m p → o ≡ p
+
+-- an order that was read is lawful
+abbrev pub OrdersAreLawful : Type 0
+OrdersAreLawful =
+    (m : Chart) (b : Position) (power : ℕ) (pending : List PlacedOrder) (line : List ℕ) (o : PlacedOrder) → IsMap m → IsOf m b
+    → order_of m b power pending line ≡ Ok o → IsLawful m b power pending o
+
+-- the orders that stand are those of the units of the board, one for each
+abbrev pub UnitsHaveOneOrder : Type 0
+UnitsHaveOneOrder =
+    (b : Position) (pending : List PlacedOrder) → units_of (standing_orders b pending) ≡ b.units
+
+-- each order that stands is in force
+abbrev pub StandingIsInForce : Type 0
+StandingIsInForce =
+    (b : Position) (pending : List PlacedOrder) → are_in_force (standing_orders b pending) ≡ true
+
+-- an order in force of a unit of the board stands where no other is that unit's
+abbrev pub OrdersInForceStand : Type 0
+OrdersInForceStand =
+    (b : Position) (pending : List PlacedOrder) (o : PlacedOrder) → Contains pending o → Contains b.units o.unit → is_in_force o ≡ true
+    → IsOnly o pending → Contains (standing_orders b pending) o
+
+-- an order that was read in a phase of movement is in force
+abbrev pub OrdersReadAreInForce : Type 0
+OrdersReadAreInForce =
+    (m : Chart) (b : Position) (power : ℕ) (pending : List PlacedOrder) (line : List ℕ) (o : PlacedOrder) → IsMap m → IsOf m b
+    → is_movement b.phase.season ≡ true → order_of m b power pending line ≡ Ok o → is_in_force o ≡ true
 
 -- each lawful order is read from its own text
 abbrev pub LawfulOrdersAreRead : Type 0

@@ -9,7 +9,8 @@ use dip_names::{Kind, Place, Prov, Unit};
 use std::alloc::AllocError;
 
 fn print_coast(name: &str, out: &mut String) -> Result<(), AllocError>
-    ensures text { OnOk result (string_bytes out.new ≡ string_bytes out.old ++ behind_slash name.now) }
+    ensures text { OnOk result
+        (string_bytes out.new ≡ string_bytes out.old ++ behind_slash name.now) }
     ensures more { Extends (string_bytes out.old) (string_bytes out.new) }
 {
     if name.len() == 0 {
@@ -20,7 +21,8 @@ fn print_coast(name: &str, out: &mut String) -> Result<(), AllocError>
 }
 
 fn print_place(map: &Map, kind: Kind, place: Place, out: &mut String) -> Result<(), AllocError>
-    ensures text { OnOk result (string_bytes out.new ≡ string_bytes out.old ++ place_text map.now kind place) }
+    ensures text { OnOk result
+        (string_bytes out.new ≡ string_bytes out.old ++ place_text map.now kind place) }
     ensures more { Extends (string_bytes out.old) (string_bytes out.new) }
 {
     out.push_str(map.code(place.prov))?;
@@ -41,7 +43,8 @@ fn kind_text(kind: Kind) -> &'static str
 
 #[tactic(auto, unfolding(crate::specs::Texts::unit_text))]
 fn append_unit(map: &Map, unit: &Unit, out: &mut String) -> Result<(), AllocError>
-    ensures text { OnOk result (string_bytes out.new ≡ string_bytes out.old ++ unit_text map.now unit.now) }
+    ensures text { OnOk result
+        (string_bytes out.new ≡ string_bytes out.old ++ unit_text map.now unit.now) }
     ensures more { Extends (string_bytes out.old) (string_bytes out.new) }
 {
     out.push_str(kind_text(unit.kind))?;
@@ -50,7 +53,8 @@ fn append_unit(map: &Map, unit: &Unit, out: &mut String) -> Result<(), AllocErro
 
 /// Appends a unit: its kind, its province and, for a fleet, the coast. Where memory is short nothing is appended.
 pub fn print_unit(map: &Map, unit: &Unit, out: &mut String) -> Result<(), AllocError>
-    ensures text { OnOk result (string_bytes out.new ≡ string_bytes out.old ++ unit_text map.now unit.now) }
+    ensures text { OnOk result
+        (string_bytes out.new ≡ string_bytes out.old ++ unit_text map.now unit.now) }
     ensures unchanged { OnErr result (string_bytes out.new ≡ string_bytes out.old) }
 {
     let before = out.len();
@@ -62,7 +66,8 @@ pub fn print_unit(map: &Map, unit: &Unit, out: &mut String) -> Result<(), AllocE
 }
 
 fn print_other(map: &Map, at: Other, out: &mut String) -> Result<(), AllocError>
-    ensures text { OnOk result (string_bytes out.new ≡ string_bytes out.old ++ other_text map.now at) }
+    ensures text { OnOk result
+        (string_bytes out.new ≡ string_bytes out.old ++ other_text map.now at) }
     ensures more { Extends (string_bytes out.old) (string_bytes out.new) }
 {
     out.push_str(kind_text(at.kind))?;
@@ -76,7 +81,8 @@ fn via_text(via: bool) -> &'static str
 }
 
 fn print_to(map: &Map, to: Prov, out: &mut String) -> Result<(), AllocError>
-    ensures text { OnOk result (string_bytes out.new ≡ string_bytes out.old ++ codes " - " ++ (province map.now to).code) }
+    ensures text { OnOk result
+        (string_bytes out.new ≡ string_bytes out.old ++ codes " - " ++ (province map.now to).code) }
     ensures more { Extends (string_bytes out.old) (string_bytes out.new) }
 {
     out.push_str(" - ")?;
@@ -90,7 +96,9 @@ fn print_move(
     via: bool,
     out: &mut String,
 ) -> Result<(), AllocError>
-    ensures text { OnOk result (string_bytes out.new ≡ string_bytes out.old ++ codes " - " ++ place_text map.now kind to ++ via_text via) }
+    ensures text { OnOk result
+        (string_bytes out.new ≡ string_bytes out.old ++ codes " - " ++ place_text map.now kind to ++
+        via_text via) }
     ensures more { Extends (string_bytes out.old) (string_bytes out.new) }
 {
     out.push_str(" - ")?;
@@ -99,7 +107,8 @@ fn print_move(
 }
 
 fn print_help(map: &Map, verb: &str, at: Other, out: &mut String) -> Result<(), AllocError>
-    ensures text { OnOk result (string_bytes out.new ≡ string_bytes out.old ++ verb.now ++ other_text map.now at) }
+    ensures text { OnOk result
+        (string_bytes out.new ≡ string_bytes out.old ++ verb.now ++ other_text map.now at) }
     ensures more { Extends (string_bytes out.old) (string_bytes out.new) }
 {
     out.push_str(verb)?;
@@ -107,7 +116,8 @@ fn print_help(map: &Map, verb: &str, at: Other, out: &mut String) -> Result<(), 
 }
 
 fn print_retreat(map: &Map, kind: Kind, to: Place, out: &mut String) -> Result<(), AllocError>
-    ensures text { OnOk result (string_bytes out.new ≡ string_bytes out.old ++ codes " R " ++ place_text map.now kind to) }
+    ensures text { OnOk result
+        (string_bytes out.new ≡ string_bytes out.old ++ codes " R " ++ place_text map.now kind to) }
     ensures more { Extends (string_bytes out.old) (string_bytes out.new) }
 {
     out.push_str(" R ")?;
@@ -115,7 +125,8 @@ fn print_retreat(map: &Map, kind: Kind, to: Place, out: &mut String) -> Result<(
 }
 
 fn print_action(map: &Map, kind: Kind, order: Order, out: &mut String) -> Result<(), AllocError>
-    ensures text { OnOk result (string_bytes out.new ≡ string_bytes out.old ++ action_text map.now kind order) }
+    ensures text { OnOk result
+        (string_bytes out.new ≡ string_bytes out.old ++ action_text map.now kind order) }
     ensures more { Extends (string_bytes out.old) (string_bytes out.new) }
 {
     match order {
@@ -149,7 +160,8 @@ fn verb_text(order: &Order) -> &'static str
 }
 
 fn append_order(map: &Map, placed: &PlacedOrder, out: &mut String) -> Result<(), AllocError>
-    ensures text { OnOk result (string_bytes out.new ≡ string_bytes out.old ++ order_text map.now placed.now) }
+    ensures text { OnOk result
+        (string_bytes out.new ≡ string_bytes out.old ++ order_text map.now placed.now) }
     ensures more { Extends (string_bytes out.old) (string_bytes out.new) }
 {
     let unit = placed.unit;
@@ -161,7 +173,8 @@ fn append_order(map: &Map, placed: &PlacedOrder, out: &mut String) -> Result<(),
 
 /// Appends the canonical text of an order. Where memory is short nothing is appended.
 pub fn print_order(map: &Map, placed: &PlacedOrder, out: &mut String) -> Result<(), AllocError>
-    ensures text { OnOk result (string_bytes out.new ≡ string_bytes out.old ++ order_text map.now placed.now) }
+    ensures text { OnOk result
+        (string_bytes out.new ≡ string_bytes out.old ++ order_text map.now placed.now) }
     ensures unchanged { OnErr result (string_bytes out.new ≡ string_bytes out.old) }
 {
     let before = out.len();

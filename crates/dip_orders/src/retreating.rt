@@ -62,7 +62,9 @@ pub fn retreats(
     unit: &Dislodged,
 ) -> Result<Vec<Place>, AllocError>
     ensures value { IfOk result (λ v. v.items ≡ retreats_of map.now board.now unit.now) }
-    ensures exact { IfOk result (λ v. (a : APlace) → IsTrue (is_place_among a v.items) ↔ MayRetreat map.now board.now unit.now a) }
+    ensures exact { IfOk result
+        (λ v. (a : APlace) → IsTrue (is_place_among a v.items)
+        ↔ MayRetreat map.now board.now unit.now a) }
     ensures single { IfOk result (λ v. are_places_single v.items ≡ true) }
 {
     map.facts();

@@ -2,8 +2,10 @@
 #![tactic(auto)]
 
 mod charts;
+mod laws;
 mod standard;
 mod stated;
 
 pub use charts::Map;
+pub use laws::maps_are_told_by_their_files;
 pub use standard::STANDARD;

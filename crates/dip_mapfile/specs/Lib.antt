@@ -1,3 +1,4 @@
 pub mod Drafts
 pub mod Fields
 pub mod Files
+pub mod Tables

@@ -8,6 +8,7 @@ use std::test::Fail;
 mod allowances;
 mod answers;
 mod coasts;
+mod lawful;
 mod lines;
 mod movement;
 mod opening;

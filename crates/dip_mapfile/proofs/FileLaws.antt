@@ -1,0 +1,425 @@
+-- What is known of a file from what was read of it.
+use Rattle.std.proofs.Common.{◌≡◌, ◌↔◌, ℕ, ◌⊎◌, ◌<◌, ◌&&◌, zero, suc, length, get_or, Contains, Bool, true, false, List, [], ◌∷◌, codes, refl, sym, ◌∙◌, ap, subst, inl, inr, arith, cond, Option, Some, None, Result, Ok, Err}
+use Rattle.std.proofs.lemmas.Bool.{and_parts, cases_Bool, false≢true}
+use Rattle.std.proofs.lemmas.Map.Text.{is_eq-slice_cmp}
+use Rattle.std.proofs.lemmas.Slice.Eq.{bytes_eq-Decides}
+use Rattle.std.specs.Cmp.Lexicographic.{slice_cmp}
+use Rattle.std.specs.List.{list_any}
+use Rattle.std.proofs.Common.{Ordering, Less, Equal, Greater}
+use Rattle.std.specs.Ordering.{nat_cmp, is_eq, match_ordering}
+use Rattle.std.specs.Str.{bytes_eq}
+use Rattle.toml.specs.Data.{Data, string, integer, float, boolean, datetime, array, table, Items, no_items, item, Members, no_members, member, get_item, get_member, as_str, as_array, as_table, as_bool}
+use Rattle.dip_names.specs.declared.faults.MapFault.{MapFault}
+use Rattle.dip_names.specs.declared.faults.MapFault.TheVariants.{WrongField}
+use Rattle.dip_names.specs.declared.names.Terrain.{Terrain}
+use Rattle.dip_names.specs.declared.names.Terrain.TheVariants.{Inland, Coast, Sea}
+use Rattle.dip_names.specs.Forms.{is_code, is_full_name, is_power_name}
+use Rattle.dip_mapfile.specs.Drafts.{ShoreDraft, UnitDraft, ProvinceDraft, PowerDraft, Draft}
+use Rattle.dip_mapfile.specs.Fields.{wanted, each_item, each_member, field_at, text_at, table_at, flag_of, keys_are_among}
+use Rattle.dip_names.specs.Results.{◌>>=◌}
+use Rattle.dip_mapfile.specs.Files.{army_at, code_at, codes_at, draft_at, is_sound, keys_of, terrain_in, name_at, power_at, province_at, shores_at, units_at}
+use Rattle.dip_mapfile.specs.Tables.{Names, Says}
+
+-- what came of what was read, one behind the other
+pub bind_ok : {A B : Type 0} (r : Result A MapFault) (f : A → Result B MapFault) (y : B) → r >>= f ≡ Ok y → (x : A) × (r ≡ Ok x) × (f x ≡ Ok y)
+bind_ok (Ok x) f y h = (x, refl, h)
+bind_ok (Err e) f y h = absurd (cc)
+
+wanted_ok : {A : Type 0} (o : Option A) (x : A) → wanted o ≡ Ok x → o ≡ Some x
+wanted_ok None x h = absurd (cc)
+wanted_ok (Some y) x h = let e : y ≡ x = cc in ap (λ z. Some z) e
+
+if_ok : {A : Type 0} (t : Bool) (x y : A) → cond t (Ok x) (Err WrongField) ≡ Ok y → (t ≡ true) × (x ≡ y)
+if_ok true x y h = (refl, cc)
+if_ok false x y h = absurd (cc)
+
+is_string : (v : Data) (s : List ℕ) → as_str v ≡ Some s → v ≡ string s
+is_string (string t) s h = let e : t ≡ s = cc in ap (λ x. string x) e
+is_string (integer z) s h = absurd (cc)
+is_string (float x) s h = absurd (cc)
+is_string (boolean b) s h = absurd (cc)
+is_string (datetime d) s h = absurd (cc)
+is_string (array ds) s h = absurd (cc)
+is_string (table ms) s h = absurd (cc)
+
+is_array : (v : Data) (ds : Items) → as_array v ≡ Some ds → v ≡ array ds
+is_array (string t) ds h = absurd (cc)
+is_array (integer z) ds h = absurd (cc)
+is_array (float x) ds h = absurd (cc)
+is_array (boolean b) ds h = absurd (cc)
+is_array (datetime d) ds h = absurd (cc)
+is_array (array es) ds h = let e : es ≡ ds = cc in ap (λ x. array x) e
+is_array (table ms) ds h = absurd (cc)
+
+is_table : (v : Data) (ms : Members) → as_table v ≡ Some ms → v ≡ table ms
+is_table (string t) ms h = absurd (cc)
+is_table (integer z) ms h = absurd (cc)
+is_table (float x) ms h = absurd (cc)
+is_table (boolean b) ms h = absurd (cc)
+is_table (datetime d) ms h = absurd (cc)
+is_table (array es) ms h = absurd (cc)
+is_table (table ns) ms h = let e : ns ≡ ms = cc in ap (λ x. table x) e
+
+is_boolean : (v : Data) (b : Bool) → as_bool v ≡ Some b → v ≡ boolean b
+is_boolean (string t) b h = absurd (cc)
+is_boolean (integer z) b h = absurd (cc)
+is_boolean (float x) b h = absurd (cc)
+is_boolean (boolean c) b h = let e : c ≡ b = cc in ap (λ x. boolean x) e
+is_boolean (datetime d) b h = absurd (cc)
+is_boolean (array es) b h = absurd (cc)
+is_boolean (table ns) b h = absurd (cc)
+
+-- a field, a text and a table
+field_is : (key : List ℕ) (t : Members) (v : Data) → field_at key t ≡ Ok v → get_member key t ≡ Some v
+unfolding field_at
+field_is key t v h = wanted_ok (get_member key t) v h
+
+pub text_is : (key : List ℕ) (t : Members) (s : List ℕ) → text_at key t ≡ Ok s → Says t key s
+unfolding text_at
+text_is key t s h =
+    let (v, field, text) = bind_ok (field_at key t) (λ v. wanted (as_str v)) s h in
+    field_is key t v field ∙ ap (λ x. Some x) (is_string v s (wanted_ok (as_str v) s text))
+
+pub table_is : (key : List ℕ) (t ms : Members) → table_at key t ≡ Ok ms → get_member key t ≡ Some (table ms)
+unfolding table_at
+table_is key t ms h =
+    let (v, field, text) = bind_ok (field_at key t) (λ v. wanted (as_table v)) ms h in
+    field_is key t v field ∙ ap (λ x. Some x) (is_table v ms (wanted_ok (as_table v) ms text))
+
+pub name_is : (t : Members) (s : List ℕ) → name_at t ≡ Ok s → Says t (codes "name") s
+unfolding name_at
+name_is t s h =
+    let (text, field, rest) = bind_ok (text_at (codes "name") t) (λ name. cond (is_full_name name) (Ok name) (Err WrongField)) s h in
+    text_is (codes "name") t s (field ∙ ap (λ x. Ok x) (if_ok (is_full_name text) text s rest).1)
+
+-- an element is the first or one of the others
+pub element_cases : {A : Type 0} (x : A) (xs : List A) (y : A) (k : ℕ) → k < length (x ∷ xs) → get_or (x ∷ xs) k y ≡ y → (x ≡ y) ⊎ Contains xs y
+element_cases x xs y zero low at = inl at
+element_cases x xs y (suc k) low at = inr (k, omega arith, at)
+
+pub contains_more : {A : Type 0} (x y : A) (xs : List A) → Contains xs y → Contains (x ∷ xs) y
+contains_more x y xs c = (suc c.0, omega (arith, c.1), c.2)
+
+pub contains_first : {A : Type 0} (x : A) (xs : List A) → Contains (x ∷ xs) x
+contains_first x xs = (0, omega arith, refl)
+
+-- the items of a list are the texts that were read
+pub items_to : {A : Type 0} (f : Data → Result A MapFault) (spell : A → List ℕ) → ((v : Data) (x : A) → f v ≡ Ok x → v ≡ string (spell x)) → (ds : Items) (xs : List A) → each_item f ds ≡ Ok xs
+    → (x : A) → Contains xs x → (n : ℕ) × (get_item n ds ≡ Some (string (spell x)))
+items_to f spell spelled no_items xs h x c =
+    let e : [] ≡ xs = cc in
+    absurd (omega (arith, c.1, ap (λ ys. length ys) e))
+items_to f spell spelled (item d ds) xs h x c =
+    let (y, first, rest) = bind_ok (f d) (λ y. each_item f ds >>= λ more. Ok (y ∷ more)) xs h in
+    let (ys, others, all) = bind_ok (each_item f ds) (λ more. Ok (y ∷ more)) xs rest in
+    let e : xs ≡ y ∷ ys = cc in
+    let there : Contains (y ∷ ys) x = subst (λ zs. Contains zs x) e c in
+    elim (element_cases y ys x there.0 there.1 there.2) [
+      | inl is ↦ (0, ap (λ v. Some v) (spelled d y first ∙ ap (λ z. string (spell z)) is))
+      | inr more ↦ let (n, at) = items_to f spell spelled ds ys others x more in (suc n, at)
+    ]
+
+pub items_from : {A : Type 0} (f : Data → Result A MapFault) (spell : A → List ℕ) → ((v : Data) (x : A) → f v ≡ Ok x → v ≡ string (spell x)) → (ds : Items) (xs : List A) → each_item f ds ≡ Ok xs
+    → (n : ℕ) (text : List ℕ) → get_item n ds ≡ Some (string text) → (x : A) × Contains xs x × (spell x ≡ text)
+items_from f spell spelled no_items xs h n text at = absurd (cc)
+items_from f spell spelled (item d ds) xs h zero text at =
+    let (y, first, rest) = bind_ok (f d) (λ y. each_item f ds >>= λ more. Ok (y ∷ more)) xs h in
+    let (ys, others, all) = bind_ok (each_item f ds) (λ more. Ok (y ∷ more)) xs rest in
+    let e : y ∷ ys ≡ xs = cc in
+    let here : d ≡ string text = cc in
+    let is : string (spell y) ≡ string text = sym (spelled d y first) ∙ here in
+    (y, subst (λ zs. Contains zs y) e (contains_first y ys), cc)
+items_from f spell spelled (item d ds) xs h (suc n) text at =
+    let (y, first, rest) = bind_ok (f d) (λ y. each_item f ds >>= λ more. Ok (y ∷ more)) xs h in
+    let (ys, others, all) = bind_ok (each_item f ds) (λ more. Ok (y ∷ more)) xs rest in
+    let e : y ∷ ys ≡ xs = cc in
+    let (x, there, is) = items_from f spell spelled ds ys others n text at in
+    (x, subst (λ zs. Contains zs x) e (contains_more y x ys there), is)
+
+-- the member of a key
+match_equal : {X : Type 0} (o : Ordering) (a b : X) → is_eq o ≡ true → match_ordering o a b a ≡ b
+match_equal Less a b h = absurd (false≢true h)
+match_equal Equal a b h = refl
+match_equal Greater a b h = absurd (false≢true h)
+
+match_other : {X : Type 0} (o : Ordering) (a b : X) → is_eq o ≡ false → match_ordering o a b a ≡ a
+match_other Less a b h = refl
+match_other Equal a b h = absurd (false≢true (sym h))
+match_other Greater a b h = refl
+
+member_here : (c key : List ℕ) (d : Data) (ms : Members) → key ≡ c → get_member c (member key d ms) ≡ Some d
+member_here c key d ms e = match_equal (slice_cmp nat_cmp c key) (get_member c ms) (Some d) (is_eq-slice_cmp c key ∙ (bytes_eq-Decides c key).1 (sym e))
+
+member_past : (c key : List ℕ) (d : Data) (ms : Members) → bytes_eq key c ≡ false → get_member c (member key d ms) ≡ get_member c ms
+member_past c key d ms h = match_other (slice_cmp nat_cmp c key) (get_member c ms) (Some d) (is_eq-slice_cmp c key ∙ not_same)
+  where
+    not_same : bytes_eq c key ≡ false
+    not_same =
+        elim (cases_Bool (bytes_eq c key)) [
+          | inl same ↦ absurd (false≢true (sym h ∙ (bytes_eq-Decides key c).1 (sym ((bytes_eq-Decides c key).0 same))))
+          | inr other ↦ other
+        ]
+
+-- where a key stands first, its member is what was read there
+pub member_at : {A : Type 0} (f : List ℕ → Data → Result A MapFault) (code : A → List ℕ) → ((key : List ℕ) (v : Data) (x : A) → f key v ≡ Ok x → code x ≡ key)
+    → (ms : Members) (xs : List A) → each_member f ms ≡ Ok xs → (c : List ℕ) (i : ℕ) (none : A) → i < length xs → bytes_eq (code (get_or xs i none)) c ≡ true
+    → ((k : ℕ) → k < i → bytes_eq (code (get_or xs k none)) c ≡ false) → (v : Data) × (get_member c ms ≡ Some v) × (f c v ≡ Ok (get_or xs i none))
+member_at {A = A} f code keyed no_members xs h c i none low here first =
+    let e : [] ≡ xs = cc in
+    absurd (omega (arith, low, ap (λ ys. length ys) e))
+member_at {A = A} f code keyed (member key d ms) xs h c i none low here first =
+    let (y, read, rest) = bind_ok (f key d) (λ y. each_member f ms >>= λ more. Ok (y ∷ more)) xs h in
+    let (ys, others, all) = bind_ok (each_member f ms) (λ more. Ok (y ∷ more)) xs rest in
+    let e : xs ≡ y ∷ ys = cc in
+    subst (λ zs. (v : Data) × (get_member c (member key d ms) ≡ Some v) × (f c v ≡ Ok (get_or zs i none))) (sym e)
+    (go y ys read (λ j l at before. member_at f code keyed ms ys others c j none l at before) i (subst (λ zs. i < length zs) e low) (subst (λ zs. bytes_eq (code (get_or zs i none)) c ≡ true) e here)
+    (subst (λ zs. (k : ℕ) → k < i → bytes_eq (code (get_or zs k none)) c ≡ false) e first))
+  where
+    go : (y : A) (ys : List A) → f key d ≡ Ok y
+        → ((j : ℕ) → j < length ys → bytes_eq (code (get_or ys j none)) c ≡ true → ((k : ℕ) → k < j → bytes_eq (code (get_or ys k none)) c ≡ false) → (v : Data) × (get_member c ms ≡ Some v) × (f c v ≡ Ok (get_or ys j none)))
+        → (j : ℕ) → j < length (y ∷ ys) → bytes_eq (code (get_or (y ∷ ys) j none)) c ≡ true
+        → ((k : ℕ) → k < j → bytes_eq (code (get_or (y ∷ ys) k none)) c ≡ false) → (v : Data) × (get_member c (member key d ms) ≡ Some v) × (f c v ≡ Ok (get_or (y ∷ ys) j none))
+    go y ys read again zero low here first =
+        let same : key ≡ c = sym (keyed key d y read) ∙ (bytes_eq-Decides (code y) c).0 here in
+        (d, member_here c key d ms same, ap (λ k. f k d) (sym same) ∙ read)
+    go y ys read again (suc j) low here first =
+        let other : bytes_eq key c ≡ false = ap (λ k. bytes_eq k c) (sym (keyed key d y read)) ∙ first 0 (omega arith) in
+        let (v, there, is) = again j (omega (arith, low)) here (λ k l. first (suc k) (omega (arith, l))) in
+        (v, member_past c key d ms other ∙ there, is)
+
+-- no other key is a field
+no_field : (keys : List (List ℕ)) (t : Members) (c : List ℕ) → keys_are_among keys t ≡ true → list_any (λ k. bytes_eq k c) keys ≡ false → get_member c t ≡ None
+no_field keys no_members c among none = refl
+no_field keys (member key d ms) c among none =
+    let (one, rest) = and_parts (list_any (λ k. bytes_eq k key) keys) (keys_are_among keys ms) among in
+    elim (cases_Bool (bytes_eq key c)) [
+      | inl same ↦ let e : key ≡ c = (bytes_eq-Decides key c).0 same in absurd (false≢true (sym none ∙ (ap (λ x. list_any (λ k. bytes_eq k x) keys) (sym e) ∙ one)))
+      | inr other ↦ member_past c key d ms other ∙ no_field keys ms c rest none
+    ]
+
+-- a list of codes
+pub code_is : (v : Data) (c : List ℕ) → code_at v ≡ Ok c → v ≡ string c
+unfolding code_at
+code_is v c h =
+    let (text, read, rest) = bind_ok (wanted (as_str v)) (λ text. cond (is_code text) (Ok text) (Err WrongField)) c h in
+    is_string v text (wanted_ok (as_str v) text read) ∙ ap (λ x. string x) (if_ok (is_code text) text c rest).1
+
+-- what is known of a list of codes in a table
+pub record ListsCodes (t : Members) (key : List ℕ) (cs : List (List ℕ)) : Type 0 where
+  pub to : (c : List ℕ) → Contains cs c → Names t key c
+  pub from : (c : List ℕ) → Names t key c → Contains cs c
+
+pub lists_codes : (t : Members) (key : List ℕ) (cs : List (List ℕ)) → (field_at key t >>= codes_at) ≡ Ok cs → ListsCodes t key cs
+unfolding codes_at
+lists_codes t key cs h =
+    let (v, field, list) = bind_ok (field_at key t) codes_at cs h in
+    let (ds, array_read, read) = bind_ok (wanted (as_array v)) (λ items. each_item code_at items) cs list in
+    let is : get_member key t ≡ Some (array ds) = field_is key t v field ∙ ap (λ x. Some x) (is_array v ds (wanted_ok (as_array v) ds array_read)) in
+    record {
+      to = λ c there. (ds, is, items_to code_at (λ x. x) code_is ds cs read c there);
+      from = λ c names.
+          let same : Some (array names.0) ≡ Some (array ds) = sym names.1 ∙ is in
+          let e : names.0 ≡ ds = cc in
+          let at : get_item names.2.0 ds ≡ Some (string c) = ap (λ x. get_item names.2.0 x) (sym e) ∙ names.2.1 in
+          let (x, there, spelled) = items_from code_at (λ x. x) code_is ds cs read names.2.0 c at in
+          subst (λ x. Contains cs x) spelled there;
+    }
+
+-- a sea has no list of an army's neighbours
+no_codes : (t : Members) (key : List ℕ) → get_member key t ≡ None → ListsCodes t key []
+no_codes t key none = record {
+  to = λ c there. absurd (omega (arith, there.1));
+  from = λ c names. let bad : None ≡ Some (array names.0) = sym none ∙ names.1 in absurd (cc);
+}
+
+-- what is known of a province's table
+pub record ProvinceRead (t : Members) (w : ProvinceDraft) : Type 0 where
+  pub name : Says t (codes "name") w.name
+  pub word : List ℕ
+  pub kind : Says t (codes "kind") word
+  pub terrain : terrain_in word ≡ Ok w.terrain
+  pub flag : flag_of (get_member (codes "centre") t) ≡ Ok w.centre
+  pub army : ListsCodes t (codes "army") w.army
+  pub shores : shores_at w.terrain t ≡ Ok w.shores
+
+army_read : (l : Terrain) (code : List ℕ) (centre : Bool) (t : Members) (cs : List (List ℕ)) → army_at l t ≡ Ok cs → is_sound code l centre t ≡ true → ListsCodes t (codes "army") cs
+army_read Inland code centre t cs h sound = lists_codes t (codes "army") cs h
+army_read Coast code centre t cs h sound = lists_codes t (codes "army") cs h
+army_read Sea code centre t cs h sound =
+    let (_, rest) = and_parts (is_code code) _ sound in
+    let (keys, _) = and_parts (keys_are_among (keys_of Sea) t) _ rest in
+    let e : [] ≡ cs = cc in
+    subst (λ xs. ListsCodes t (codes "army") xs) e (no_codes t (codes "army") (no_field (keys_of Sea) t (codes "army") keys refl))
+
+-- the word of what a province is
+abbrev pub terrain_word : Terrain → List ℕ
+terrain_word Inland = codes "inland"
+terrain_word Coast = codes "coast"
+terrain_word Sea = codes "sea"
+
+pub terrain_is : (word : List ℕ) (l : Terrain) → terrain_in word ≡ Ok l → word ≡ terrain_word l
+unfolding terrain_in
+terrain_is word l h =
+    elim (cases_Bool (bytes_eq word (codes "inland"))) [
+      | inl inland ↦ let e : Ok Inland ≡ Ok l = rw inland at h in let is : Inland ≡ l = cc in (bytes_eq-Decides word (codes "inland")).0 inland ∙ ap terrain_word is
+      | inr not_inland ↦
+          elim (cases_Bool (bytes_eq word (codes "coast"))) [
+            | inl coast ↦ let e : Ok Coast ≡ Ok l = rw (not_inland, coast) at h in let is : Coast ≡ l = cc in (bytes_eq-Decides word (codes "coast")).0 coast ∙ ap terrain_word is
+            | inr not_coast ↦
+                elim (cases_Bool (bytes_eq word (codes "sea"))) [
+                  | inl sea ↦ let e : Ok Sea ≡ Ok l = rw (not_inland, not_coast, sea) at h in let is : Sea ≡ l = cc in (bytes_eq-Decides word (codes "sea")).0 sea ∙ ap terrain_word is
+                  | inr not_sea ↦ let e : Err WrongField ≡ Ok l = rw (not_inland, not_coast, not_sea) at h in absurd (cc)
+                ]
+          ]
+    ]
+
+-- whether a flag is set
+pub flag_is : (o : Option Data) (b : Bool) → flag_of o ≡ Ok b → (b ≡ true) ↔ (o ≡ Some (boolean true))
+flag_is None b h = let e : false ≡ b = cc in (λ is. absurd (cc), λ is. absurd (cc))
+flag_is (Some v) b h =
+    let is : v ≡ boolean b = is_boolean v b (wanted_ok (as_bool v) b h) in
+    (λ yes_b. ap (λ x. Some x) (is ∙ ap (λ x. boolean x) yes_b), λ same. let both : Some (boolean b) ≡ Some (boolean true) = ap (λ x. Some x) (sym is) ∙ same in cc)
+
+-- what is read of a province's table, one field behind the other
+abbrev with_shores : List ℕ → Members → List ℕ → Terrain → Bool → List (List ℕ) → List ShoreDraft → Result ProvinceDraft MapFault
+with_shores code fields name land centre army shores =
+    cond (is_sound code land centre fields) (Ok (record { code = code; name = name; terrain = land; centre = centre; army = army; shores = shores })) (Err WrongField)
+
+abbrev with_army : List ℕ → Members → List ℕ → Terrain → Bool → List (List ℕ) → Result ProvinceDraft MapFault
+with_army code fields name land centre army = shores_at land fields >>= with_shores code fields name land centre army
+
+abbrev with_centre : List ℕ → Members → List ℕ → Terrain → Bool → Result ProvinceDraft MapFault
+with_centre code fields name land centre = army_at land fields >>= with_army code fields name land centre
+
+abbrev with_land : List ℕ → Members → List ℕ → Terrain → Result ProvinceDraft MapFault
+with_land code fields name land = flag_of (get_member (codes "centre") fields) >>= with_centre code fields name land
+
+abbrev with_word : List ℕ → Members → List ℕ → List ℕ → Result ProvinceDraft MapFault
+with_word code fields name word = terrain_in word >>= with_land code fields name
+
+abbrev with_name : List ℕ → Members → List ℕ → Result ProvinceDraft MapFault
+with_name code fields name = text_at (codes "kind") fields >>= with_word code fields name
+
+abbrev with_fields : List ℕ → Members → Result ProvinceDraft MapFault
+with_fields code fields = name_at fields >>= with_name code fields
+
+-- a province that was read: its table, and what is known of it
+pub record ReadProvince (code : List ℕ) (v : Data) (w : ProvinceDraft) : Type 0 where
+  pub fields : Members
+  pub is : v ≡ table fields
+  pub code_same : w.code ≡ code
+  pub read : ProvinceRead fields w
+
+pub province_read : (code : List ℕ) (v : Data) (w : ProvinceDraft) → province_at code v ≡ Ok w → ReadProvince code v w
+unfolding province_at
+province_read code v w h =
+    let (t, tab, h1) = bind_ok (wanted (as_table v)) (with_fields code) w h in
+    let (name, named, h2) = bind_ok (name_at t) (with_name code t) w h1 in
+    let (word, worded, h3) = bind_ok (text_at (codes "kind") t) (with_word code t name) w h2 in
+    let (land, landed, h4) = bind_ok (terrain_in word) (with_land code t name) w h3 in
+    let (centre, flagged, h5) = bind_ok (flag_of (get_member (codes "centre") t)) (with_centre code t name land) w h4 in
+    let (army, listed, h6) = bind_ok (army_at land t) (with_army code t name land centre) w h5 in
+    let (shores, shored, h7) = bind_ok (shores_at land t) (with_shores code t name land centre army) w h6 in
+    let (sound, same) = if_ok (is_sound code land centre t) (record { code = code; name = name; terrain = land; centre = centre; army = army; shores = shores }) w h7 in
+    record {
+      fields = t;
+      is = is_table v t (wanted_ok (as_table v) t tab);
+      code_same = sym (ap (λ (x : ProvinceDraft). x.code) same);
+      read = subst (λ (x : ProvinceDraft). ProvinceRead t x) same (record {
+        name = name_is t name named;
+        word = word;
+        kind = text_is (codes "kind") t word worded;
+        terrain = landed;
+        flag = flagged;
+        army = army_read land code centre t army listed sound;
+        shores = shored;
+      });
+    }
+
+-- what is read of a power's table
+abbrev with_units : List ℕ → Members → List (List ℕ) → List UnitDraft → Result PowerDraft MapFault
+with_units name fields home units =
+    cond (is_power_name name && keys_are_among (codes "home" ∷ codes "units" ∷ []) fields) (Ok (record { name = name; home = home; units = units })) (Err WrongField)
+
+abbrev with_standings : List ℕ → Members → List (List ℕ) → Data → Result PowerDraft MapFault
+with_standings name fields home standings = units_at standings >>= with_units name fields home
+
+abbrev with_home : List ℕ → Members → List (List ℕ) → Result PowerDraft MapFault
+with_home name fields home = field_at (codes "units") fields >>= with_standings name fields home
+
+abbrev with_homes : List ℕ → Members → Data → Result PowerDraft MapFault
+with_homes name fields homes = codes_at homes >>= with_home name fields
+
+abbrev with_table : List ℕ → Members → Result PowerDraft MapFault
+with_table name fields = field_at (codes "home") fields >>= with_homes name fields
+
+pub record PowerRead (t : Members) (w : PowerDraft) : Type 0 where
+  pub home : ListsCodes t (codes "home") w.home
+
+pub record ReadPower (name : List ℕ) (v : Data) (w : PowerDraft) : Type 0 where
+  pub fields : Members
+  pub is : v ≡ table fields
+  pub name_same : w.name ≡ name
+  pub read : PowerRead fields w
+
+pub power_read : (name : List ℕ) (v : Data) (w : PowerDraft) → power_at name v ≡ Ok w → ReadPower name v w
+unfolding power_at
+power_read name v w h =
+    let (t, tab, h1) = bind_ok (wanted (as_table v)) (with_table name) w h in
+    let (homes, field, h2) = bind_ok (field_at (codes "home") t) (with_homes name t) w h1 in
+    let (home, listed, h3) = bind_ok (codes_at homes) (with_home name t) w h2 in
+    let (standings, there, h4) = bind_ok (field_at (codes "units") t) (with_standings name t home) w h3 in
+    let (units, stood, h5) = bind_ok (units_at standings) (with_units name t home) w h4 in
+    let (sound, same) = if_ok (is_power_name name && keys_are_among (codes "home" ∷ codes "units" ∷ []) t) (record { name = name; home = home; units = units }) w h5 in
+    record {
+      fields = t;
+      is = is_table v t (wanted_ok (as_table v) t tab);
+      name_same = sym (ap (λ (x : PowerDraft). x.name) same);
+      read = subst (λ (x : PowerDraft). PowerRead t x) same (record { home = lists_codes t (codes "home") home (ap (λ r. r >>= codes_at) field ∙ listed) });
+    }
+
+-- what is read of a file
+abbrev with_provinces : Members → List ℕ → List PowerDraft → List ProvinceDraft → Result Draft MapFault
+with_provinces file name powers provinces =
+    cond (keys_are_among (codes "name" ∷ codes "powers" ∷ codes "provinces" ∷ []) file) (Ok (record { name = name; powers = powers; provinces = provinces })) (Err WrongField)
+
+abbrev with_lands : Members → List ℕ → List PowerDraft → Members → Result Draft MapFault
+with_lands file name powers lands = each_member province_at lands >>= with_provinces file name powers
+
+abbrev with_powers : Members → List ℕ → List PowerDraft → Result Draft MapFault
+with_powers file name powers = table_at (codes "provinces") file >>= with_lands file name powers
+
+abbrev with_realms : Members → List ℕ → Members → Result Draft MapFault
+with_realms file name realms = each_member power_at realms >>= with_powers file name
+
+abbrev with_map_name : Members → List ℕ → Result Draft MapFault
+with_map_name file name = table_at (codes "powers") file >>= with_realms file name
+
+-- a file that was read: its tables of powers and of provinces
+pub record ReadFile (file : Members) (d : Draft) : Type 0 where
+  pub name : Says file (codes "name") d.name
+  pub realms : Members
+  pub has_realms : get_member (codes "powers") file ≡ Some (table realms)
+  pub powers : each_member power_at realms ≡ Ok d.powers
+  pub lands : Members
+  pub has_lands : get_member (codes "provinces") file ≡ Some (table lands)
+  pub provinces : each_member province_at lands ≡ Ok d.provinces
+
+pub file_read : (file : Members) (d : Draft) → draft_at file ≡ Ok d → ReadFile file d
+unfolding draft_at
+file_read file d h =
+    let (name, named, h1) = bind_ok (text_at (codes "name") file) (with_map_name file) d h in
+    let (realms, tab, h2) = bind_ok (table_at (codes "powers") file) (with_realms file name) d h1 in
+    let (powers, each, h3) = bind_ok (each_member power_at realms) (with_powers file name) d h2 in
+    let (lands, other, h4) = bind_ok (table_at (codes "provinces") file) (with_lands file name powers) d h3 in
+    let (provinces, all, h5) = bind_ok (each_member province_at lands) (with_provinces file name powers) d h4 in
+    let (keys, same) = if_ok (keys_are_among (codes "name" ∷ codes "powers" ∷ codes "provinces" ∷ []) file) (record { name = name; powers = powers; provinces = provinces }) d h5 in
+    subst (λ (x : Draft). ReadFile file x) same (record {
+      name = text_is (codes "name") file name named;
+      realms = realms;
+      has_realms = table_is (codes "powers") file realms tab;
+      powers = each;
+      lands = lands;
+      has_lands = table_is (codes "provinces") file lands other;
+      provinces = all;
+    })

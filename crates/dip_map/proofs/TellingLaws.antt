@@ -17,7 +17,7 @@ use Rattle.dip_mapfile.proofs.FileLaws.{ListsCodes, ProvinceRead, ReadFile, Read
 use Rattle.dip_mapfile.proofs.FileLaws as file_laws
 use Rattle.dip_chart.specs.Charts.{Chart, IsMap, Province, Realm, army_next, home, is_army_next, no_province, no_realm, power_of, prov_of, province, realm}
 use Rattle.dip_chart.specs.Checks.{first_fault}
-use Rattle.dip_map.specs.Stated.{chart_at, chart_of, checked, checked_by, each, each_from, is_few, known, limited, parts_at, prov_at, province_at, realm_at, shore_at, stated, unit_at}
+use Rattle.dip_map.specs.Stated.{chart_at, chart_of, check, check_by, each, each_from, is_few, or_unknown, within_limits, parts_at, prov_at, province_at, realm_at, shore_at, map_in, unit_at}
 use Rattle.dip_map.specs.Telling.{IsTold, IsToldPower, StatesWhatItTells, Tells, terrain_word}
 
 -- what stands for a draft that isn't there
@@ -93,7 +93,7 @@ record ChartRead (d : Draft) (m : Chart) : Type 0 where
   pub realms : each_from (realm_at d) 0 d.powers ≡ Ok m.realms
   pub provinces : each (province_at d) d.provinces ≡ Ok m.provinces
 
-passes : (o : Option MapFault) (n m : Chart) → checked_by o n ≡ Ok m → n ≡ m
+passes : (o : Option MapFault) (n m : Chart) → check_by o n ≡ Ok m → n ≡ m
 passes None n m h = cc
 passes (Some e) n m h = absurd (cc)
 
@@ -110,8 +110,8 @@ with_realms d realms = each (province_at d) d.provinces >>= with_provinces d rea
 chart_read : (d : Draft) (m : Chart) → chart_of d ≡ Ok m → ChartRead d m
 unfolding chart_at
 chart_read d m h =
-    let (n, parts, check) = bind_ok (parts_at d) checked m h in
-    let (e, few, made) = bind_ok (limited d) chart_at n parts in
+    let (n, parts, check) = bind_ok (parts_at d) check m h in
+    let (e, few, made) = bind_ok (within_limits d) chart_at n parts in
     let same : e ≡ d = sym (within (is_few d) d e few) in
     let at : chart_at d ≡ Ok n = subst (λ x. chart_at x ≡ Ok n) same made in
     let (realms, r, rest) = bind_ok (each_from (realm_at d) 0 d.powers) (with_realms d) n at in
@@ -174,7 +174,7 @@ lengths_from f k (z ∷ zs) ys h =
     let e : first ∷ more ≡ ys = cc in
     ap (λ n. suc n) (lengths_from f (k + 1) zs more others) ∙ ap (λ us. length us) e
 
-known_ok : {A : Type 0} (o : Option A) (x : A) → known o ≡ Ok x → o ≡ Some x
+known_ok : {A : Type 0} (o : Option A) (x : A) → or_unknown o ≡ Ok x → o ≡ Some x
 known_ok None x h = absurd (cc)
 known_ok (Some y) x h = let e : y ≡ x = cc in ap (λ z. Some z) e
 
@@ -282,7 +282,7 @@ power_told file d m ok f c r low =
       record { home = λ p there. listed d m made.fields (codes "home") (get_or d.powers r no_power).home (home m r) ok c made.read.home of.home p there },
     )
 
-found_file : (o : Option Members) (file : Members) → files.parsed o ≡ Ok file → o ≡ Some file
+found_file : (o : Option Members) (file : Members) → files.or_no_toml o ≡ Ok file → o ≡ Some file
 found_file None file h = absurd (cc)
 found_file (Some x) file h = let e : x ≡ file = cc in ap (λ z. Some z) e
 
@@ -292,7 +292,7 @@ parsed_file text file h = found_file (parse_document text) file h
 
 -- a text states only the map that its file tells
 pub states_what_it_tells : StatesWhatItTells
-unfolding stated
+unfolding map_in
 states_what_it_tells text m ok h =
     let (file, parsed, rest) = bind_ok (files.file_in text) (λ file. files.draft_at file >>= chart_of) m h in
     let (d, drafted, made) = bind_ok (files.draft_at file) chart_of m rest in

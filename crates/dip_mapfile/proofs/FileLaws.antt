@@ -15,7 +15,7 @@ use Rattle.dip_names.specs.declared.names.Terrain.{Terrain}
 use Rattle.dip_names.specs.declared.names.Terrain.TheVariants.{Inland, Coast, Sea}
 use Rattle.dip_names.specs.Forms.{is_code, is_full_name, is_power_name}
 use Rattle.dip_mapfile.specs.Drafts.{ShoreDraft, UnitDraft, ProvinceDraft, PowerDraft, Draft}
-use Rattle.dip_mapfile.specs.Fields.{wanted, each_item, each_member, field_at, text_at, table_at, flag_of, keys_are_among}
+use Rattle.dip_mapfile.specs.Fields.{or_wrong, each_item, each_member, field_at, text_at, table_at, flag_of, keys_are_among}
 use Rattle.dip_names.specs.Results.{◌>>=◌}
 use Rattle.dip_mapfile.specs.Files.{army_at, code_at, codes_at, draft_at, is_sound, keys_of, terrain_in, name_at, power_at, province_at, shores_at, units_at}
 use Rattle.dip_mapfile.specs.Tables.{Names, Says}
@@ -25,7 +25,7 @@ pub bind_ok : {A B : Type 0} (r : Result A MapFault) (f : A → Result B MapFaul
 bind_ok (Ok x) f y h = (x, refl, h)
 bind_ok (Err e) f y h = absurd (cc)
 
-wanted_ok : {A : Type 0} (o : Option A) (x : A) → wanted o ≡ Ok x → o ≡ Some x
+wanted_ok : {A : Type 0} (o : Option A) (x : A) → or_wrong o ≡ Ok x → o ≡ Some x
 wanted_ok None x h = absurd (cc)
 wanted_ok (Some y) x h = let e : y ≡ x = cc in ap (λ z. Some z) e
 
@@ -77,13 +77,13 @@ field_is key t v h = wanted_ok (get_member key t) v h
 pub text_is : (key : List ℕ) (t : Members) (s : List ℕ) → text_at key t ≡ Ok s → Says t key s
 unfolding text_at
 text_is key t s h =
-    let (v, field, text) = bind_ok (field_at key t) (λ v. wanted (as_str v)) s h in
+    let (v, field, text) = bind_ok (field_at key t) (λ v. or_wrong (as_str v)) s h in
     field_is key t v field ∙ ap (λ x. Some x) (is_string v s (wanted_ok (as_str v) s text))
 
 pub table_is : (key : List ℕ) (t ms : Members) → table_at key t ≡ Ok ms → get_member key t ≡ Some (table ms)
 unfolding table_at
 table_is key t ms h =
-    let (v, field, text) = bind_ok (field_at key t) (λ v. wanted (as_table v)) ms h in
+    let (v, field, text) = bind_ok (field_at key t) (λ v. or_wrong (as_table v)) ms h in
     field_is key t v field ∙ ap (λ x. Some x) (is_table v ms (wanted_ok (as_table v) ms text))
 
 pub name_is : (t : Members) (s : List ℕ) → name_at t ≡ Ok s → Says t (codes "name") s
@@ -201,7 +201,7 @@ no_field keys (member key d ms) c among none =
 pub code_is : (v : Data) (c : List ℕ) → code_at v ≡ Ok c → v ≡ string c
 unfolding code_at
 code_is v c h =
-    let (text, read, rest) = bind_ok (wanted (as_str v)) (λ text. cond (is_code text) (Ok text) (Err WrongField)) c h in
+    let (text, read, rest) = bind_ok (or_wrong (as_str v)) (λ text. cond (is_code text) (Ok text) (Err WrongField)) c h in
     is_string v text (wanted_ok (as_str v) text read) ∙ ap (λ x. string x) (if_ok (is_code text) text c rest).1
 
 -- what is known of a list of codes in a table
@@ -213,7 +213,7 @@ pub lists_codes : (t : Members) (key : List ℕ) (cs : List (List ℕ)) → (fie
 unfolding codes_at
 lists_codes t key cs h =
     let (v, field, list) = bind_ok (field_at key t) codes_at cs h in
-    let (ds, array_read, read) = bind_ok (wanted (as_array v)) (λ items. each_item code_at items) cs list in
+    let (ds, array_read, read) = bind_ok (or_wrong (as_array v)) (λ items. each_item code_at items) cs list in
     let is : get_member key t ≡ Some (array ds) = field_is key t v field ∙ ap (λ x. Some x) (is_array v ds (wanted_ok (as_array v) ds array_read)) in
     record {
       to = λ c there. (ds, is, items_to code_at (λ x. x) code_is ds cs read c there);
@@ -313,7 +313,7 @@ pub record ReadProvince (code : List ℕ) (v : Data) (w : ProvinceDraft) : Type 
 pub province_read : (code : List ℕ) (v : Data) (w : ProvinceDraft) → province_at code v ≡ Ok w → ReadProvince code v w
 unfolding province_at
 province_read code v w h =
-    let (t, tab, h1) = bind_ok (wanted (as_table v)) (with_fields code) w h in
+    let (t, tab, h1) = bind_ok (or_wrong (as_table v)) (with_fields code) w h in
     let (name, named, h2) = bind_ok (name_at t) (with_name code t) w h1 in
     let (word, worded, h3) = bind_ok (text_at (codes "kind") t) (with_word code t name) w h2 in
     let (land, landed, h4) = bind_ok (terrain_in word) (with_land code t name) w h3 in
@@ -365,7 +365,7 @@ pub record ReadPower (name : List ℕ) (v : Data) (w : PowerDraft) : Type 0 wher
 pub power_read : (name : List ℕ) (v : Data) (w : PowerDraft) → power_at name v ≡ Ok w → ReadPower name v w
 unfolding power_at
 power_read name v w h =
-    let (t, tab, h1) = bind_ok (wanted (as_table v)) (with_table name) w h in
+    let (t, tab, h1) = bind_ok (or_wrong (as_table v)) (with_table name) w h in
     let (homes, field, h2) = bind_ok (field_at (codes "home") t) (with_homes name t) w h1 in
     let (home, listed, h3) = bind_ok (codes_at homes) (with_home name t) w h2 in
     let (standings, there, h4) = bind_ok (field_at (codes "units") t) (with_standings name t home) w h3 in

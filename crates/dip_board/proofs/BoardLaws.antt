@@ -5,7 +5,7 @@ use Rattle.std.proofs.lemmas.Bool.{cases_Bool, cases_lt, false≢true, le-ltb}
 use Rattle.std.proofs.lemmas.List.Sums.{passes_at_first}
 use Rattle.std.specs.List.{list_any, position_or_len}
 use Rattle.dip_board.specs.declared.boards.Dislodged.{Dislodged}
-use Rattle.dip_names.specs.declared.names.Unit.{Unit as Piece}
+use Rattle.dip_names.specs.declared.names.Unit.{Unit as AUnit}
 use Rattle.dip_chart.specs.Charts.{Chart, Province, Realm, IsMap, no_province, no_realm, is_centre, are_units_single}
 use Rattle.dip_board.specs.Boards.{IsOf, is_some_power, owner_at, owners_from, opening}
 
@@ -20,7 +20,7 @@ owners_count m i [] = omega arith
 owners_count m i (p ∷ ps) = omega (arith, owners_count m (i + 1) ps)
 
 -- a unit's test over what was dislodged
-left_by : (f : Piece → Bool) (ds : List Dislodged) → list_any f (map (λ d. d.unit) ds) ≡ list_any (λ d. f d.unit) ds
+left_by : (f : AUnit → Bool) (ds : List Dislodged) → list_any f (map (λ d. d.unit) ds) ≡ list_any (λ d. f d.unit) ds
 left_by f [] = refl
 left_by f (d ∷ ds) = ap (λ (b : Bool). f d.unit || b) (left_by f ds)
 

@@ -2,14 +2,14 @@
 use Rattle.std.specs.Prelude.{◌≡◌, ℕ, ◌<◌, ◌==◌, ◌+◌, nat_lt, ◌&&◌, Bool, true, false, All, List, [], ◌∷◌, map, length, Option, None, Some, is_some, not, count_by}
 use Rattle.std.specs.List.{list_any, list_all, position, slice_index_or}
 use Rattle.dip_board.specs.declared.boards.Season.TheVariants.{SpringMoves}
-use Rattle.dip_names.specs.declared.names.Unit.{Unit as Piece}
+use Rattle.dip_names.specs.declared.names.Unit.{Unit as AUnit}
 use Rattle.dip_board.specs.declared.boards.Dislodged.{Dislodged}
 use Rattle.dip_board.specs.declared.boards.Phase.{Phase}
 use Rattle.dip_chart.specs.Charts.{Chart, Province, is_unit, is_centre, opening_units, are_units_single}
 
 -- what stands on a board
 pub record Position : Type 0 where
-  pub units : List Piece
+  pub units : List AUnit
   pub dislodged : List Dislodged
   pub standoff : List ℕ
   pub owners : List (Option ℕ)

@@ -4,7 +4,7 @@ use Rattle.std.proofs.lemmas.Bool.{and_parts, and_from, false≢true, not-true, 
 use Rattle.std.proofs.lemmas.List.Folds.{list_any-append}
 use Rattle.std.specs.List.{list_any, list_all}
 use Rattle.dip_names.specs.declared.names.Place.{Place}
-use Rattle.dip_names.specs.declared.names.Unit.{Unit as Piece}
+use Rattle.dip_names.specs.declared.names.Unit.{Unit as AUnit}
 use Rattle.dip_chart.specs.Charts.{Chart, Province, Shore, Realm, no_province, no_shore, no_realm, province, army_next, fleet_next, is_army_next, is_fleet_next, are_provs_single, are_places_single, are_units_single}
 use Rattle.dip_names.specs.Kinds.{is_sea}
 use Rattle.dip_chart.specs.Checks.{may_march, lead_away, rest_is_allowed, is_allowed, has_single_neighbours, is_held_by, are_homes_single, are_openings_single}
@@ -61,22 +61,22 @@ homes_law (x ∷ rs) t zero = (and_parts (are_provs_single x.home) _ (and_parts 
 homes_law (x ∷ rs) t (suc r) = homes_law rs (and_parts _ (are_homes_single rs) t).1 r
 
 -- units of two lists that share no province
-joined : (held : ℕ → Bool) (us vs : List Piece) → ((p : ℕ) → list_any (λ v. v.place.prov == p) vs ≡ held p) → are_units_single us ≡ true → are_units_single vs ≡ true
+joined : (held : ℕ → Bool) (us vs : List AUnit) → ((p : ℕ) → list_any (λ v. v.place.prov == p) vs ≡ held p) → are_units_single us ≡ true → are_units_single vs ≡ true
     → not (list_any (λ u. held u.place.prov) us) ≡ true → are_units_single (us ++ vs) ≡ true
 joined held [] vs same own others none = others
 joined held (u ∷ us) vs same own others none =
     let (first, more) = and_parts (not (list_any (λ v. v.place.prov == u.place.prov) us)) (are_units_single us) own in
     let (free, rest) = or_parts (held u.place.prov) (list_any (λ x. held x.place.prov) us) (not-true _ none) in
     let apart : list_any (λ v. v.place.prov == u.place.prov) (us ++ vs) ≡ false =
-    list_any-append (λ (v : Piece). v.place.prov == u.place.prov) us vs ∙ or_from _ _ (not-true _ first) (same u.place.prov ∙ free) in
+    list_any-append (λ (v : AUnit). v.place.prov == u.place.prov) us vs ∙ or_from _ _ (not-true _ first) (same u.place.prov ∙ free) in
     and_from _ _ (not_from_false _ apart) (joined held us vs same more others (not_from_false _ rest))
 
 -- whether one of the opening's units stands in a province, power by power
 held_law : (rs : List Realm) (p : ℕ) → list_any (λ u. u.place.prov == p) (flat_map (λ r. r.units) rs) ≡ is_held_by rs p
 held_law [] p = refl
 held_law (r ∷ rs) p =
-    list_any-append (λ (u : Piece). u.place.prov == p) r.units (flat_map (λ x. x.units) rs)
-    ∙ ap (λ (b : Bool). list_any (λ (u : Piece). u.place.prov == p) r.units || b) (held_law rs p)
+    list_any-append (λ (u : AUnit). u.place.prov == p) r.units (flat_map (λ x. x.units) rs)
+    ∙ ap (λ (b : Bool). list_any (λ (u : AUnit). u.place.prov == p) r.units || b) (held_law rs p)
 
 pub openings_law : (rs : List Realm) → are_openings_single rs ≡ true → are_units_single (flat_map (λ r. r.units) rs) ≡ true
 openings_law [] t = refl

@@ -11,7 +11,7 @@ use Rattle.dip_names.specs.declared.names.Terrain.TheVariants.{Inland, Coast, Se
 use Rattle.dip_names.specs.declared.names.Kind.{Kind}
 use Rattle.dip_names.specs.declared.names.Kind.TheVariants.{Army, Fleet}
 use Rattle.dip_names.specs.declared.names.Place.{Place}
-use Rattle.dip_names.specs.declared.names.Unit.{Unit as Piece}
+use Rattle.dip_names.specs.declared.names.Unit.{Unit as AUnit}
 
 -- a coast, and where a fleet goes from it; a province that takes fleets and has no coasts of its own has one with no name
 pub record Shore : Type 0 where
@@ -31,7 +31,7 @@ pub record Province : Type 0 where
 pub record Realm : Type 0 where
   pub name : List ℕ
   pub home : List ℕ
-  pub units : List Piece
+  pub units : List AUnit
 
 -- a map
 pub record Chart : Type 0 where
@@ -113,7 +113,7 @@ may_stand m Army a = is_army_place m a
 may_stand m Fleet a = is_fleet_place m a
 
 -- whether the unit is one of the map
-abbrev pub is_unit : Chart → Piece → Bool
+abbrev pub is_unit : Chart → AUnit → Bool
 is_unit m u = nat_lt u.power (length m.realms) && may_stand m u.kind u.place
 
 -- one coast, without a name
@@ -143,7 +143,7 @@ abbrev pub is_realm : Chart → Realm → Bool
 is_realm m r = is_power_name r.name && (list_all (λ p. is_centre m p) r.home && list_all (λ u. is_unit m u) r.units)
 
 -- the units of the opening, power by power
-abbrev pub opening_units : Chart → List Piece
+abbrev pub opening_units : Chart → List AUnit
 opening_units m = flat_map (λ r. r.units) m.realms
 
 -- no province stands twice in a list
@@ -157,7 +157,7 @@ are_places_single [] = true
 are_places_single (a ∷ more) = not (list_any (λ b. (b.prov == a.prov) && (b.coast == a.coast)) more) && are_places_single more
 
 -- no two units of a list stand in one province
-abbrev pub are_units_single : List Piece → Bool
+abbrev pub are_units_single : List AUnit → Bool
 are_units_single [] = true
 are_units_single (u ∷ us) = not (list_any (λ v. v.place.prov == u.place.prov) us) && are_units_single us
 

@@ -6,7 +6,7 @@ use Rattle.std.proofs.lemmas.Bool.{cases_Bool, both_ways, or_left, or_right, eqb
 use mathlib.Core.Logic.{◌⊎◌}
 use Rattle.dip_names.specs.declared.names.Kind.TheVariants.{Army, Fleet}
 use Rattle.dip_names.specs.declared.names.Kind.{Kind}
-use Rattle.dip_names.specs.declared.names.Unit.{Unit as Piece}
+use Rattle.dip_names.specs.declared.names.Unit.{Unit as AUnit}
 use Rattle.dip_chart.specs.Charts.{Chart, are_provs_single, are_units_single}
 use Rattle.dip_orders.specs.Standing.{is_in_force, are_in_force, units_of}
 use Rattle.dip_orders.specs.declared.placed.Order.{Order}
@@ -39,7 +39,7 @@ distinct_places : (orders : List PlacedOrder) → are_provs_single (provinces_of
 distinct_places [] = refl
 distinct_places (o ∷ orders) = rw (others orders, distinct_places orders) refl
   where
-    others : (more : List PlacedOrder) → list_any (λ q. q == o.unit.place.prov) (provinces_of more) ≡ list_any (λ (v : Piece). v.place.prov == o.unit.place.prov) (units_of more)
+    others : (more : List PlacedOrder) → list_any (λ q. q == o.unit.place.prov) (provinces_of more) ≡ list_any (λ (v : AUnit). v.place.prov == o.unit.place.prov) (units_of more)
     others [] = refl
     others (x ∷ more) = ap (λ (b : Bool). (x.unit.place.prov == o.unit.place.prov) || b) (others more)
 

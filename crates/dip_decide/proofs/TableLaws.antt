@@ -16,7 +16,7 @@ use Rattle.dip_decide.specs.declared.decisions.Decision.TheVariants.{Move, Path,
 use Rattle.dip_decide.specs.declared.table.Table.{Table}
 use Rattle.dip_decide.specs.declared.values.Values.{Values}
 use Rattle.dip_decide.specs.Movement.{at_first}
-use Rattle.dip_decide.specs.Given.{rows_from, entry, seen, given, at_start, moves_at_start, paths_at_start, supports_at_start}
+use Rattle.dip_decide.specs.Given.{rows_from, entry, situation_of, known_of, at_start, moves_at_start, paths_at_start, supports_at_start}
 
 pub rows_step : (orders : List PlacedOrder) (ps : List Province) (front all : List (Option PlacedOrder)) (i : ℕ) → i < length ps → front ++ rows_from orders i (drop i ps) ≡ all
     → (front ++ order_at orders i ∷ []) ++ rows_from orders (i + 1) (drop (i + 1) ps) ≡ all
@@ -71,10 +71,10 @@ none_any : (ps : List ℕ) → list_any (λ p. false) ps ≡ false
 none_any [] = refl
 none_any (p ∷ ps) = none_any ps
 
-pub starts : (t : Table) (v : Values) → v.moves.items ≡ moves_at_start t.rows.items → v.paths.items ≡ paths_at_start t.map.now t.rows.items → v.supports.items ≡ supports_at_start t t.rows.items → given v ≡ at_first (seen t)
+pub starts : (t : Table) (v : Values) → v.moves.items ≡ moves_at_start t.rows.items → v.paths.items ≡ paths_at_start t.map.now t.rows.items → v.supports.items ≡ supports_at_start t t.rows.items → known_of v ≡ at_first (situation_of t)
 starts t v m p s = fun_ext go
   where
-    go : (d : Decision) → given v d ≡ at_first (seen t) d
+    go : (d : Decision) → known_of v d ≡ at_first (situation_of t) d
     go (Move q) = rw m (value_at (λ row. at_start (is_some (target_of row))) refl t.rows.items q)
     go (Path q) = rw p (value_at (λ row. at_start (is_convoyed t.map.now row)) refl t.rows.items q)
     go (Support q) = rw s (value_at (λ row. at_start (list_any (λ x. supports_in (entry t.rows.items) row x) t.places.items)) (ap at_start (none_any t.places.items)) t.rows.items q)

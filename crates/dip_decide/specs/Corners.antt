@@ -5,7 +5,7 @@ use Rattle.dip_decide.specs.declared.decisions.Decision.TheVariants.{Move, Path,
 use Rattle.dip_decide.specs.declared.corners.Corner.{Corner}
 use Rattle.dip_decide.specs.Deciding.{Assignment, Known}
 use Rattle.dip_decide.specs.Movement.{Situation, goes}
-use Rattle.dip_decide.specs.Given.{seen, given}
+use Rattle.dip_decide.specs.Given.{situation_of, known_of}
 
 -- the decisions with which the rule of each rises
 abbrev pub rises : Situation → Decision → Decision → Bool
@@ -24,4 +24,4 @@ corner r k b e = at_corner r b e (k e)
 
 -- the values at the corner
 abbrev pub values : Corner → Assignment
-values c = corner (rises (seen c.table.now) c.of.now) (given c.known.now) c.high
+values c = corner (rises (situation_of c.table.now) c.of.now) (known_of c.known.now) c.high

@@ -22,14 +22,14 @@ rows_from orders i [] = []
 rows_from orders i (_ ∷ more) = order_at orders i ∷ rows_from orders (i + 1) more
 
 -- the situation of a table
-abbrev pub seen : Table → Situation
-seen t = situation_by t.map.now t.places.items (entry t.rows.items)
+abbrev pub situation_of : Table → Situation
+situation_of t = situation_by t.map.now t.places.items (entry t.rows.items)
 
 -- what is known; a province behind the lists has nothing to decide
-abbrev pub given : Values → Known
-given k (Move p) = slice_index_or k.moves.items p (Some false)
-given k (Path p) = slice_index_or k.paths.items p (Some false)
-given k (Support p) = slice_index_or k.supports.items p (Some false)
+abbrev pub known_of : Values → Known
+known_of k (Move p) = slice_index_or k.moves.items p (Some false)
+known_of k (Path p) = slice_index_or k.paths.items p (Some false)
+known_of k (Support p) = slice_index_or k.supports.items p (Some false)
 
 -- what is known at first of one that is decided, or isn't
 abbrev pub at_start : Bool → Option Bool

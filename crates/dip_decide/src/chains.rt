@@ -1,7 +1,7 @@
 //! Convoys: whether fleets that are not dislodged lead from a unit to its destination.
 ghost use Rattle.std.specs.Prelude.{◌≡◌, IfOk, filter, length};
 ghost use Rattle.dip_decide.specs.Chains.{is_linked, joined_by};
-ghost use Rattle.dip_decide.specs.Given.{seen};
+ghost use Rattle.dip_decide.specs.Given.{situation_of};
 
 use crate::lists::{copy_of, is_in};
 use crate::table::Table;
@@ -10,7 +10,7 @@ use std::alloc::{AllocError, Global};
 
 /// Whether a fleet next to `from` is next to `to`, or is joined to it.
 fn is_linked(table: &Table, fleets: &[Prov], to: Prov, joined: &[Prov], from: Prov) -> bool
-    ensures { result ≡ is_linked (seen table.now).next fleets.now to joined.now from }
+    ensures { result ≡ is_linked (situation_of table.now).next fleets.now to joined.now from }
 {
     fleets.iter().any(|fleet| table.is_next(from, *fleet)
         && (table.is_next(*fleet, to) || is_in(joined, *fleet)))
@@ -25,7 +25,7 @@ fn linked(
     joined: &[Prov],
 ) -> Result<Vec<Prov>, AllocError>
     ensures { IfOk result
-        (λ v. v.items ≡ filter (is_linked (seen table.now).next fleets.now to joined.now)
+        (λ v. v.items ≡ filter (is_linked (situation_of table.now).next fleets.now to joined.now)
         fleets.now) }
 {
     let mut more = copy_of(alloc, fleets)?;
@@ -41,7 +41,8 @@ fn joined_by(
     to: Prov,
     most: usize,
 ) -> Result<Vec<Prov>, AllocError>
-    ensures { IfOk result (λ v. v.items ≡ joined_by (seen table.now).next fleets.now to most) }
+    ensures { IfOk result
+        (λ v. v.items ≡ joined_by (situation_of table.now).next fleets.now to most) }
 {
     let mut joined = Vec::new(alloc);
     for _turn in 0..most {
@@ -59,8 +60,9 @@ pub(crate) fn joins(
     to: Prov,
 ) -> Result<bool, AllocError>
     ensures { IfOk result
-        (λ b. b ≡ is_linked (seen table.now).next fleets.now to
-        (joined_by (seen table.now).next fleets.now to (length table.now.places.items)) from) }
+        (λ b. b ≡ is_linked (situation_of table.now).next fleets.now to
+        (joined_by (situation_of table.now).next fleets.now to (length table.now.places.items))
+        from) }
 {
     let joined = joined_by(alloc, table, fleets, to, table.places.len())?;
     Ok(is_linked(table, fleets, to, joined.as_slice(), from))

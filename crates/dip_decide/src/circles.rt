@@ -1,7 +1,7 @@
 //! Circles of moves, and the paths of a knot.
 ghost use Rattle.std.specs.Prelude.{◌≡◌, None, IfOk};
 ghost use Rattle.dip_decide.specs.declared.decisions.Decision.TheVariants.{Move};
-ghost use Rattle.dip_decide.specs.Given.{seen, given};
+ghost use Rattle.dip_decide.specs.Given.{situation_of, known_of};
 ghost use Rattle.dip_decide.specs.Movement.{IsSituation};
 ghost use Rattle.dip_decide.specs.Rings.{waits_for, from_on, RingOr, RingAt, CircleOr};
 ghost use Rattle.dip_decide.specs.Steps.{is_unknown, IsStarted, open_paths};
@@ -14,14 +14,14 @@ use dip_names::Prov;
 use std::alloc::{AllocError, Global};
 
 fn is_open(values: &Values, d: &Decision) -> bool
-    ensures { result ≡ is_unknown (given values.now d.now) }
+    ensures { result ≡ is_unknown (known_of values.now d.now) }
 {
     values.look(d).is_none()
 }
 
 /// The unit at the destination of another, where its move is open.
 fn waits_for(table: &Table, values: &Values, p: Prov) -> Option<Prov>
-    ensures { result ≡ waits_for (seen table.now) (given values.now) p }
+    ensures { result ≡ waits_for (situation_of table.now) (known_of values.now) p }
 {
     match table.target(p) {
         Some(q) => if is_open(values, &Decision::Move(q)) {
@@ -52,10 +52,10 @@ fn ring_from(
     values: &Values,
     start: Prov,
 ) -> Result<Option<Vec<Prov>>, AllocError>
-    requires situation { IsSituation (seen table.now) }
-    requires started { IsStarted (seen table.now) (given values.now) }
-    requires unknown { given values.now (Move start) ≡ None }
-    ensures { IfOk result (RingOr (seen table.now) (given values.now) start) }
+    requires situation { IsSituation (situation_of table.now) }
+    requires started { IsStarted (situation_of table.now) (known_of values.now) }
+    requires unknown { known_of values.now (Move start) ≡ None }
+    ensures { IfOk result (RingOr (situation_of table.now) (known_of values.now) start) }
 {
     let mut trail = Vec::new(alloc);
     let mut here = start;
@@ -77,9 +77,9 @@ fn ring_at(
     values: &Values,
     p: Prov,
 ) -> Result<Option<Vec<Prov>>, AllocError>
-    requires situation { IsSituation (seen table.now) }
-    requires started { IsStarted (seen table.now) (given values.now) }
-    ensures { IfOk result (RingAt (seen table.now) (given values.now) p) }
+    requires situation { IsSituation (situation_of table.now) }
+    requires started { IsStarted (situation_of table.now) (known_of values.now) }
+    ensures { IfOk result (RingAt (situation_of table.now) (known_of values.now) p) }
 {
     if !is_open(values, &Decision::Move(p)) {
         return Ok(None);
@@ -93,9 +93,10 @@ pub(crate) fn ring_in(
     table: &Table,
     values: &Values,
 ) -> Result<Option<Vec<Prov>>, AllocError>
-    requires situation { IsSituation (seen table.now) }
-    requires started { IsStarted (seen table.now) (given values.now) }
-    ensures { IfOk result (CircleOr (seen table.now) (given values.now) table.now.places.items) }
+    requires situation { IsSituation (situation_of table.now) }
+    requires started { IsStarted (situation_of table.now) (known_of values.now) }
+    ensures { IfOk result
+        (CircleOr (situation_of table.now) (known_of values.now) table.now.places.items) }
 {
     for place in &table.places {
         if let Some(ring) = ring_at(alloc, table, values, *place)? {
@@ -111,7 +112,7 @@ pub(crate) fn open_paths(
     table: &Table,
     values: &Values,
 ) -> Result<Vec<Prov>, AllocError>
-    ensures { IfOk result (λ v. v.items ≡ open_paths (given values.now) table.now.places.items) }
+    ensures { IfOk result (λ v. v.items ≡ open_paths (known_of values.now) table.now.places.items) }
 {
     let mut paths = copy_of(alloc, table.places.as_slice())?;
     paths.retain(|p| is_open(values, &Decision::Path(*p)));

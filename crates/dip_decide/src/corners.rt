@@ -2,7 +2,7 @@
 ghost use Rattle.std.specs.Prelude.{◌≡◌, not, Some, IfOk, filter};
 ghost use Rattle.std.specs.List.{list_all};
 ghost use Rattle.dip_decide.specs.Corners.{rises, values};
-ghost use Rattle.dip_decide.specs.Given.{seen};
+ghost use Rattle.dip_decide.specs.Given.{situation_of};
 ghost use Rattle.dip_decide.specs.declared.decisions.Decision.TheVariants.{Move, Path};
 ghost use Rattle.dip_decide.specs.Movement.{has_path, support, support_against, attack, hold, prevent, opposition, beats, succeeds, cuts, is_support, is_entered, serves, path_rule, rule};
 
@@ -25,7 +25,7 @@ pub(crate) struct Corner<'a> {
 
 impl Corner<'_> {
     fn rises(&self, d: &Decision) -> bool
-        ensures { result ≡ rises (seen self.now.table.now) self.now.of.now d.now }
+        ensures { result ≡ rises (situation_of self.now.table.now) self.now.of.now d.now }
     {
         match *self.of {
             Decision::Move(p) => self.move_rises(p, d),
@@ -34,7 +34,7 @@ impl Corner<'_> {
     }
 
     fn move_rises(&self, p: Prov, d: &Decision) -> bool
-        ensures { result ≡ rises (seen self.now.table.now) (Move p) d.now }
+        ensures { result ≡ rises (situation_of self.now.table.now) (Move p) d.now }
     {
         match d {
             Decision::Move(q) => self.table.goes(p, *q),
@@ -53,13 +53,13 @@ impl Corner<'_> {
     }
 
     fn has_path(&self, p: Prov) -> bool
-        ensures { result ≡ has_path (seen self.now.table.now) (values self.now) p }
+        ensures { result ≡ has_path (situation_of self.now.table.now) (values self.now) p }
     {
         !self.table.is_convoyed(p) || self.value(&Decision::Path(p))
     }
 
     fn support(&self, p: Prov) -> usize
-        ensures { result ≡ support (seen self.now.table.now) (values self.now) p }
+        ensures { result ≡ support (situation_of self.now.table.now) (values self.now) p }
     {
         self.table
             .places
@@ -69,7 +69,7 @@ impl Corner<'_> {
     }
 
     fn support_against(&self, p: Prov, q: Prov) -> usize
-        ensures { result ≡ support_against (seen self.now.table.now) (values self.now) p q }
+        ensures { result ≡ support_against (situation_of self.now.table.now) (values self.now) p q }
     {
         self.table
             .places
@@ -83,7 +83,7 @@ impl Corner<'_> {
     }
 
     fn attack(&self, p: Prov, q: Prov) -> usize
-        ensures { result ≡ attack (seen self.now.table.now) (values self.now) p q }
+        ensures { result ≡ attack (situation_of self.now.table.now) (values self.now) p q }
     {
         if !self.has_path(p) {
             0
@@ -99,7 +99,7 @@ impl Corner<'_> {
     }
 
     fn hold(&self, q: Prov) -> usize
-        ensures { result ≡ hold (seen self.now.table.now) (values self.now) q }
+        ensures { result ≡ hold (situation_of self.now.table.now) (values self.now) q }
     {
         if !self.table.is_occupied(q) || self.value(&Decision::Move(q)) {
             0
@@ -111,7 +111,7 @@ impl Corner<'_> {
     }
 
     fn prevent(&self, p: Prov, q: Prov) -> usize
-        ensures { result ≡ prevent (seen self.now.table.now) (values self.now) p q }
+        ensures { result ≡ prevent (situation_of self.now.table.now) (values self.now) p q }
     {
         if !self.has_path(p) || (self.table.head_to_head(p, q) && self.value(&Decision::Move(q))) {
             0
@@ -121,7 +121,7 @@ impl Corner<'_> {
     }
 
     fn opposition(&self, p: Prov, q: Prov) -> usize
-        ensures { result ≡ opposition (seen self.now.table.now) (values self.now) p q }
+        ensures { result ≡ opposition (situation_of self.now.table.now) (values self.now) p q }
     {
         if self.table.head_to_head(p, q) {
             1 + self.support(q)
@@ -131,26 +131,26 @@ impl Corner<'_> {
     }
 
     fn beats(&self, p: Prov, q: Prov, w: Prov) -> bool
-        ensures { result ≡ beats (seen self.now.table.now) (values self.now) p q w }
+        ensures { result ≡ beats (situation_of self.now.table.now) (values self.now) p q w }
     {
         w == p || !self.table.goes(w, q) || self.prevent(w, q) < self.attack(p, q)
     }
 
     fn are_free(&self, p: Prov, q: Prov) -> bool
-        ensures { result ≡ list_all (beats (seen self.now.table.now) (values self.now) p q)
+        ensures { result ≡ list_all (beats (situation_of self.now.table.now) (values self.now) p q)
             self.now.table.now.places.items }
     {
         self.table.places.iter().all(|w| self.beats(p, q, *w))
     }
 
     fn succeeds(&self, p: Prov, q: Prov) -> bool
-        ensures { result ≡ succeeds (seen self.now.table.now) (values self.now) p q }
+        ensures { result ≡ succeeds (situation_of self.now.table.now) (values self.now) p q }
     {
         self.are_free(p, q) && self.opposition(p, q) < self.attack(p, q)
     }
 
     fn cuts(&self, h: Prov, x: Prov) -> bool
-        ensures { result ≡ cuts (seen self.now.table.now) (values self.now) h x }
+        ensures { result ≡ cuts (situation_of self.now.table.now) (values self.now) h x }
     {
         self.table.goes(x, h)
             && !self.table.same_power(x, h)
@@ -163,21 +163,21 @@ impl Corner<'_> {
 
     fn is_uncut(&self, h: Prov) -> bool
         ensures { result ≡ list_all
-            (λ x. not (cuts (seen self.now.table.now) (values self.now) h x))
+            (λ x. not (cuts (situation_of self.now.table.now) (values self.now) h x))
             self.now.table.now.places.items }
     {
         self.table.places.iter().all(|x| !self.cuts(h, *x))
     }
 
     fn is_support(&self, h: Prov) -> bool
-        ensures { result ≡ is_support (seen self.now.table.now) h }
+        ensures { result ≡ is_support (situation_of self.now.table.now) h }
     {
         self.table.places.iter().any(|p| self.table.supports(h, *p))
     }
 
     /// Whether the move of a unit succeeds.
     fn move_rule(&self, p: Prov) -> bool
-        ensures { result ≡ rule (seen self.now.table.now) (Move p) (values self.now) }
+        ensures { result ≡ rule (situation_of self.now.table.now) (Move p) (values self.now) }
     {
         match self.table.target(p) {
             Some(q) => self.succeeds(p, q),
@@ -187,13 +187,13 @@ impl Corner<'_> {
 
     /// Whether a move that succeeds enters a province.
     fn is_entered(&self, x: Prov) -> bool
-        ensures { result ≡ is_entered (seen self.now.table.now) (values self.now) x }
+        ensures { result ≡ is_entered (situation_of self.now.table.now) (values self.now) x }
     {
         self.table.places.iter().any(|m| self.table.goes(*m, x) && self.value(&Decision::Move(*m)))
     }
 
     fn serves(&self, p: Prov, x: Prov) -> bool
-        ensures { result ≡ serves (seen self.now.table.now) (values self.now) p x }
+        ensures { result ≡ serves (situation_of self.now.table.now) (values self.now) p x }
     {
         self.table.convoys(x, p) && !self.is_entered(x)
     }
@@ -201,7 +201,7 @@ impl Corner<'_> {
     /// The fleets that serve the move of a unit.
     fn fleets(&self, alloc: Global, p: Prov) -> Result<Vec<Prov>, AllocError>
         ensures { IfOk result
-            (λ v. v.items ≡ filter (serves (seen self.now.table.now) (values self.now) p)
+            (λ v. v.items ≡ filter (serves (situation_of self.now.table.now) (values self.now) p)
             self.now.table.now.places.items) }
     {
         let mut fleets = copy_of(alloc, self.table.places.as_slice())?;
@@ -212,7 +212,7 @@ impl Corner<'_> {
     /// Whether the move by convoy of a unit to a province has a path.
     fn has_chain(&self, alloc: Global, p: Prov, q: Prov) -> Result<bool, AllocError>
         ensures { IfOk result
-            (λ b. b ≡ path_rule (seen self.now.table.now) (values self.now) p (Some q)) }
+            (λ b. b ≡ path_rule (situation_of self.now.table.now) (values self.now) p (Some q)) }
     {
         let fleets = self.fleets(alloc, p)?;
         joins(alloc, self.table, fleets.as_slice(), p, q)
@@ -220,7 +220,8 @@ impl Corner<'_> {
 
     /// Whether the move of a unit is one by convoy that has a path.
     fn path_rule(&self, alloc: Global, p: Prov) -> Result<bool, AllocError>
-        ensures { IfOk result (λ b. b ≡ rule (seen self.now.table.now) (Path p) (values self.now)) }
+        ensures { IfOk result
+            (λ b. b ≡ rule (situation_of self.now.table.now) (Path p) (values self.now)) }
     {
         if !self.table.is_convoyed(p) {
             return Ok(false);
@@ -233,7 +234,8 @@ impl Corner<'_> {
 
     /// The equation of a decision.
     pub(crate) fn rule(&self, alloc: Global, d: &Decision) -> Result<bool, AllocError>
-        ensures { IfOk result (λ b. b ≡ rule (seen self.now.table.now) d.now (values self.now)) }
+        ensures { IfOk result
+            (λ b. b ≡ rule (situation_of self.now.table.now) d.now (values self.now)) }
     {
         match d {
             Decision::Move(p) => Ok(self.move_rule(*p)),

@@ -1,6 +1,6 @@
 //! The value to which a decision is forced.
 ghost use Rattle.std.specs.Prelude.{◌≡◌, None, IfOk};
-ghost use Rattle.dip_decide.specs.Given.{seen, given, IsAnswer};
+ghost use Rattle.dip_decide.specs.Given.{situation_of, known_of, IsAnswer};
 ghost use Rattle.dip_decide.specs.Movement.{rule, IsSituation};
 
 use crate::corners::Corner;
@@ -16,9 +16,9 @@ pub(crate) fn forced<'a>(
     known: &'a Values,
     of: &'a Decision,
 ) -> Result<Option<bool>, AllocError>
-    requires unknown { given known.now of.now ≡ None }
-    requires situation { IsSituation (seen table.now) }
-    ensures { IfOk result (IsAnswer (rule (seen table.now)) (given known.now) of.now) }
+    requires unknown { known_of known.now of.now ≡ None }
+    requires situation { IsSituation (situation_of table.now) }
+    ensures { IfOk result (IsAnswer (rule (situation_of table.now)) (known_of known.now) of.now) }
 {
     let least = Corner {
         table,

@@ -8,7 +8,7 @@ mod decisions;
 mod forcing;
 mod laws;
 mod lists;
-mod looks;
+mod matching;
 mod resolving;
 mod settling;
 mod starting;

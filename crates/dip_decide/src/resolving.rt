@@ -5,7 +5,7 @@ ghost use Rattle.dip_board.specs.Boards.{IsOf};
 ghost use Rattle.dip_orders.specs.Standing.{units_of};
 ghost use Rattle.dip_decide.specs.declared.decisions.Decision.{Decision as ADecision};
 ghost use Rattle.dip_decide.specs.Deciding.{is_broken};
-ghost use Rattle.dip_decide.specs.Given.{given};
+ghost use Rattle.dip_decide.specs.Given.{known_of};
 ghost use Rattle.dip_decide.specs.Matching.{situation};
 ghost use Rattle.dip_decide.specs.Movement.{Satisfies};
 ghost use Rattle.dip_decide.specs.Results.{values_in, broken_in, AreExplained, AreInOrder, decided_in, is_true, trues, breaks, numbers_from, IsListing};
@@ -87,7 +87,7 @@ fn resolution_of(
     values: &Values,
     steps: Vec<Step>,
 ) -> Result<Resolution, AllocError>
-    ensures { IfOk result (λ r. IsListing steps.items (given values.now) map.now.provinces r) }
+    ensures { IfOk result (λ r. IsListing steps.items (known_of values.now) map.now.provinces r) }
 {
     let moves = trues(alloc, map, values.moves.as_slice())?;
     let paths = trues(alloc, map, values.paths.as_slice())?;

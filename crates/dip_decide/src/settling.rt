@@ -1,6 +1,6 @@
 //! A pass over the open decisions, in which each that is forced gets its value.
 ghost use Rattle.std.specs.Prelude.{◌∷◌, [], IfOk};
-ghost use Rattle.dip_decide.specs.Given.{seen, given};
+ghost use Rattle.dip_decide.specs.Given.{situation_of, known_of};
 ghost use Rattle.dip_decide.specs.Movement.{IsSituation};
 ghost use Rattle.dip_decide.specs.Steps.{steps_of, decisions, IsSettled};
 
@@ -19,10 +19,10 @@ fn settle(
     steps: &mut Vec<Step>,
     d: &Decision,
 ) -> Result<bool, AllocError>
-    requires situation { IsSituation (seen table.now) }
+    requires situation { IsSituation (situation_of table.now) }
     ensures { IfOk result
-        (λ any. IsSettled (seen table.now) (d.now ∷ []) any (steps_of steps.old.items)
-        (given values.old) (steps_of steps.new.items) (given values.new)) }
+        (λ any. IsSettled (situation_of table.now) (d.now ∷ []) any (steps_of steps.old.items)
+        (known_of values.old) (steps_of steps.new.items) (known_of values.new)) }
 {
     if values.look(d).is_some() {
         return Ok(false);
@@ -45,10 +45,11 @@ fn settle_unit(
     steps: &mut Vec<Step>,
     p: Prov,
 ) -> Result<bool, AllocError>
-    requires situation { IsSituation (seen table.now) }
+    requires situation { IsSituation (situation_of table.now) }
     ensures { IfOk result
-        (λ any. IsSettled (seen table.now) (decisions (p ∷ [])) any (steps_of steps.old.items)
-        (given values.old) (steps_of steps.new.items) (given values.new)) }
+        (λ any. IsSettled (situation_of table.now) (decisions (p ∷ [])) any
+        (steps_of steps.old.items) (known_of values.old) (steps_of steps.new.items)
+        (known_of values.new)) }
 {
     let by_move = settle(alloc, table, values, steps, &Decision::Move(p))?;
     let by_path = settle(alloc, table, values, steps, &Decision::Path(p))?;
@@ -63,11 +64,11 @@ pub(crate) fn pass(
     values: &mut Values,
     steps: &mut Vec<Step>,
 ) -> Result<bool, AllocError>
-    requires situation { IsSituation (seen table.now) }
+    requires situation { IsSituation (situation_of table.now) }
     ensures { IfOk result
-        (λ any. IsSettled (seen table.now) (decisions table.now.places.items) any
-        (steps_of steps.old.items) (given values.old) (steps_of steps.new.items)
-        (given values.new)) }
+        (λ any. IsSettled (situation_of table.now) (decisions table.now.places.items) any
+        (steps_of steps.old.items) (known_of values.old) (steps_of steps.new.items)
+        (known_of values.new)) }
 {
     let mut changed = false;
     for place in &table.places {

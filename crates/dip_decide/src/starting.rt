@@ -1,9 +1,9 @@
 //! The values at the start: what is no decision is known to be false.
 ghost use Rattle.std.specs.Prelude.{◌≡◌, map, IfOk};
-ghost use Rattle.dip_decide.specs.Given.{at_start, moves_at_start, paths_at_start, supports_at_start, seen, given};
+ghost use Rattle.dip_decide.specs.Given.{at_start, moves_at_start, paths_at_start, supports_at_start, situation_of, known_of};
 ghost use Rattle.dip_decide.specs.Movement.{at_first};
 
-use crate::looks::{is_convoyed_of, target_of};
+use crate::matching::{is_convoyed_of, target_of};
 use crate::table::Table;
 use crate::values::Values;
 use std::alloc::{AllocError, Global};
@@ -47,7 +47,7 @@ fn supports_at_start(alloc: Global, table: &Table) -> Result<Vec<Option<bool>>, 
 
 /// The values before the first step.
 pub(crate) fn values_at_start(alloc: Global, table: &Table) -> Result<Values, AllocError>
-    ensures { IfOk result (λ v. given v ≡ at_first (seen table.now)) }
+    ensures { IfOk result (λ v. known_of v ≡ at_first (situation_of table.now)) }
 {
     let moves = moves_at_start(alloc, table)?;
     let paths = paths_at_start(alloc, table)?;

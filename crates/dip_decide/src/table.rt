@@ -1,7 +1,7 @@
 //! The orders of a movement by province.
 ghost use Rattle.std.specs.Prelude.{◌≡◌, ◌<◌, length, All, IfOk};
 ghost use Rattle.dip_decide.specs.Matching.{order_at, provinces_of, situation};
-ghost use Rattle.dip_decide.specs.Given.{rows_from, seen};
+ghost use Rattle.dip_decide.specs.Given.{rows_from, situation_of};
 
 use dip_map::Map;
 use dip_names::Prov;
@@ -61,7 +61,7 @@ pub(crate) fn table_of<'a>(
     orders: &[PlacedOrder],
 ) -> Result<Table<'a>, AllocError>
     requires within { All (λ o. o.unit.place.prov < length map.now.provinces) orders.now }
-    ensures { IfOk result (λ t. seen t ≡ situation map.now orders.now) }
+    ensures { IfOk result (λ t. situation_of t ≡ situation map.now orders.now) }
 {
     let places = places_of(alloc, orders)?;
     let rows = rows_of(alloc, map, orders)?;

@@ -1,7 +1,7 @@
 //! Steps one after the other: passes, then a circle, then the knot, until all is decided.
 ghost use Rattle.std.specs.Prelude.{◌≡◌, IfOk, OnOk, true};
 ghost use Rattle.dip_decide.specs.Deciding.{IsCircle, IsKnot};
-ghost use Rattle.dip_decide.specs.Given.{seen, given};
+ghost use Rattle.dip_decide.specs.Given.{situation_of, known_of};
 ghost use Rattle.dip_decide.specs.Movement.{at_first, rule, mentions, IsSituation};
 ghost use Rattle.dip_decide.specs.Rings.{IsNonEmpty};
 ghost use Rattle.dip_decide.specs.Steps.{moves_of, paths_of, steps_of, NoneForced, IsStarted, IsTurn, IsComplete};
@@ -21,13 +21,14 @@ fn take_circle(
     steps: &mut Vec<Step>,
     units: Vec<Prov>,
 ) -> Result<(), AllocError>
-    requires situation { IsSituation (seen table.now) }
-    requires started { IsStarted (seen table.now) (given values.old) }
+    requires situation { IsSituation (situation_of table.now) }
+    requires started { IsStarted (situation_of table.now) (known_of values.old) }
     requires some { IsNonEmpty units.items }
-    requires circle { IsCircle (rule (seen table.now)) (given values.old) (moves_of units.items) }
+    requires circle { IsCircle (rule (situation_of table.now)) (known_of values.old)
+        (moves_of units.items) }
     ensures { OnOk result
-        (IsTurn (seen table.now) true (steps_of steps.old.items) (given values.old)
-        (steps_of steps.new.items) (given values.new)) }
+        (IsTurn (situation_of table.now) true (steps_of steps.old.items) (known_of values.old)
+        (steps_of steps.new.items) (known_of values.new)) }
 {
     let _ = &table.places;
     values.give_moves(units.as_slice());
@@ -42,14 +43,14 @@ fn take_knot(
     steps: &mut Vec<Step>,
     units: Vec<Prov>,
 ) -> Result<(), AllocError>
-    requires situation { IsSituation (seen table.now) }
-    requires started { IsStarted (seen table.now) (given values.old) }
+    requires situation { IsSituation (situation_of table.now) }
+    requires started { IsStarted (situation_of table.now) (known_of values.old) }
     requires some { IsNonEmpty units.items }
-    requires knot { IsKnot (rule (seen table.now)) (mentions (seen table.now)) (given values.old)
-        (paths_of units.items) }
+    requires knot { IsKnot (rule (situation_of table.now)) (mentions (situation_of table.now))
+        (known_of values.old) (paths_of units.items) }
     ensures { OnOk result
-        (IsTurn (seen table.now) true (steps_of steps.old.items) (given values.old)
-        (steps_of steps.new.items) (given values.new)) }
+        (IsTurn (situation_of table.now) true (steps_of steps.old.items) (known_of values.old)
+        (steps_of steps.new.items) (known_of values.new)) }
 {
     let _ = &table.places;
     values.break_paths(units.as_slice());
@@ -64,12 +65,12 @@ fn turn_unforced(
     values: &mut Values,
     steps: &mut Vec<Step>,
 ) -> Result<bool, AllocError>
-    requires situation { IsSituation (seen table.now) }
-    requires started { IsStarted (seen table.now) (given values.old) }
-    requires unforced { NoneForced (seen table.now) (given values.old) }
+    requires situation { IsSituation (situation_of table.now) }
+    requires started { IsStarted (situation_of table.now) (known_of values.old) }
+    requires unforced { NoneForced (situation_of table.now) (known_of values.old) }
     ensures { IfOk result
-        (λ any. IsTurn (seen table.now) any (steps_of steps.old.items) (given values.old)
-        (steps_of steps.new.items) (given values.new)) }
+        (λ any. IsTurn (situation_of table.now) any (steps_of steps.old.items) (known_of values.old)
+        (steps_of steps.new.items) (known_of values.new)) }
 {
     if let Some(ring) = ring_in(alloc, table, values)? {
         take_circle(table, values, steps, ring)?;
@@ -90,11 +91,11 @@ fn turn(
     values: &mut Values,
     steps: &mut Vec<Step>,
 ) -> Result<bool, AllocError>
-    requires situation { IsSituation (seen table.now) }
-    requires started { IsStarted (seen table.now) (given values.old) }
+    requires situation { IsSituation (situation_of table.now) }
+    requires started { IsStarted (situation_of table.now) (known_of values.old) }
     ensures { IfOk result
-        (λ any. IsTurn (seen table.now) any (steps_of steps.old.items) (given values.old)
-        (steps_of steps.new.items) (given values.new)) }
+        (λ any. IsTurn (situation_of table.now) any (steps_of steps.old.items) (known_of values.old)
+        (steps_of steps.new.items) (known_of values.new)) }
 {
     if pass(alloc, table, values, steps)? {
         return Ok(true);
@@ -108,10 +109,11 @@ pub(crate) fn explain(
     table: &Table,
     values: &mut Values,
 ) -> Result<Vec<Step>, AllocError>
-    requires situation { IsSituation (seen table.now) }
-    requires first { given values.old ≡ at_first (seen table.now) }
+    requires situation { IsSituation (situation_of table.now) }
+    requires first { known_of values.old ≡ at_first (situation_of table.now) }
     ensures { IfOk result
-        (λ steps. IsComplete (seen table.now) (steps_of steps.items) (given values.new)) }
+        (λ steps. IsComplete (situation_of table.now) (steps_of steps.items)
+        (known_of values.new)) }
 {
     let mut steps = Vec::new(alloc);
     let mut goes_on = true;

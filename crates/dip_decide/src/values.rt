@@ -2,7 +2,7 @@
 ghost use Rattle.std.specs.Prelude.{◌≡◌, ◌∷◌, [], None, Some, true, false};
 ghost use Rattle.std.specs.List.{slice_index_or};
 ghost use Rattle.dip_decide.specs.Deciding.{give};
-ghost use Rattle.dip_decide.specs.Given.{given};
+ghost use Rattle.dip_decide.specs.Given.{known_of};
 ghost use Rattle.dip_decide.specs.Rings.{AreOpen, ArePathsOpen};
 ghost use Rattle.dip_decide.specs.Steps.{moves_of, paths_of};
 ghost use Rattle.dip_chart.specs.Charts.{are_provs_single};
@@ -31,7 +31,7 @@ pub(crate) fn value_at(list: &[Option<bool>], p: Prov) -> Option<bool>
 impl Values {
     /// The value that a decision was given.
     pub(crate) fn look(&self, d: &Decision) -> Option<bool>
-        ensures { result ≡ given self.now d.now }
+        ensures { result ≡ known_of self.now d.now }
     {
         match d {
             Decision::Move(p) => value_at(&self.moves, *p),
@@ -42,8 +42,8 @@ impl Values {
 
     /// Gives an open decision its value.
     pub(crate) fn give(&mut self, d: &Decision, value: bool)
-        requires { given self.old d.now ≡ None }
-        ensures { given self.new ≡ give (given self.old) (d.now ∷ []) value }
+        requires { known_of self.old d.now ≡ None }
+        ensures { known_of self.new ≡ give (known_of self.old) (d.now ∷ []) value }
     {
         match d {
             Decision::Move(p) => {
@@ -67,8 +67,8 @@ impl Values {
     /// Gives true to these moves.
     pub(crate) fn give_moves(&mut self, units: &[Prov])
         requires distinct { are_provs_single units.now ≡ true }
-        requires unknown { AreOpen (given self.old) units.now }
-        ensures { given self.new ≡ give (given self.old) (moves_of units.now) true }
+        requires unknown { AreOpen (known_of self.old) units.now }
+        ensures { known_of self.new ≡ give (known_of self.old) (moves_of units.now) true }
     {
         for p in units {
             self.give(&Decision::Move(*p), true);
@@ -78,8 +78,8 @@ impl Values {
     /// Gives false to the paths of these moves.
     pub(crate) fn break_paths(&mut self, units: &[Prov])
         requires distinct { are_provs_single units.now ≡ true }
-        requires unknown { ArePathsOpen (given self.old) units.now }
-        ensures { given self.new ≡ give (given self.old) (paths_of units.now) false }
+        requires unknown { ArePathsOpen (known_of self.old) units.now }
+        ensures { known_of self.new ≡ give (known_of self.old) (paths_of units.now) false }
     {
         for p in units {
             self.give(&Decision::Path(*p), false);

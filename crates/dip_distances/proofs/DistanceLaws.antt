@@ -12,7 +12,7 @@ use Rattle.dip_names.specs.declared.names.Kind.TheVariants.{Army, Fleet}
 use Rattle.dip_names.specs.declared.names.Place.{Place}
 use Rattle.dip_chart.specs.Charts.{Chart, IsMap}
 use Rattle.dip_distances.specs.Walks.{Walk, IsDistance}
-use Rattle.dip_distances.specs.Distances.{vertex, vertices, row, is_home_at, graph, homes, AreTables, Tables, noted_at, noted, AreDistances}
+use Rattle.dip_distances.specs.Distances.{vertex, vertices, row, is_home_at, graph, homes, AreTables, Tables, noted_at, distance_in, AreDistances}
 use Rattle.dip_distances.proofs.GraphLaws.{few_coasts}
 use Rattle.dip_distances.proofs.WalkLaws.{march_to, march_back, sails_from, sail_to, sail_back, no_walk}
 
@@ -130,7 +130,7 @@ fleet_noted m tables a r ok known =
     ]
 
 each_noted : (m : Chart) (d : Tables) → IsMap m → AreTables m Army (length m.realms) d.armies → AreTables m Fleet (length m.realms) d.fleets
-    → (kind : Kind) (a : Place) (r : ℕ) → IsDistance m kind a r (noted d kind a r)
+    → (kind : Kind) (a : Place) (r : ℕ) → IsDistance m kind a r (distance_in d kind a r)
 each_noted m d ok armies fleets Army a r = army_noted m d.armies a r ok armies
 each_noted m d ok armies fleets Fleet a r = fleet_noted m d.fleets a r ok fleets
 

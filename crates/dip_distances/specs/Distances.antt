@@ -59,10 +59,10 @@ pub record Tables : Type 0 where
   pub fleets : List (List ℕ)
 
 -- the distance that the tables note for a place
-abbrev pub noted : Tables → Kind → Place → ℕ → ℕ
-noted d Army a r = noted_at d.armies r a.prov
-noted d Fleet a r = if nat_lt a.coast 4 then noted_at d.fleets r (vertex a) else 1000
+abbrev pub distance_in : Tables → Kind → Place → ℕ → ℕ
+distance_in d Army a r = noted_at d.armies r a.prov
+distance_in d Fleet a r = if nat_lt a.coast 4 then noted_at d.fleets r (vertex a) else 1000
 
 -- what the tables note are the distances on the map
 pub record AreDistances (m : Chart) (d : Tables) : Type 0 where
-  pub each : (kind : Kind) (a : Place) (r : ℕ) → IsDistance m kind a r (noted d kind a r)
+  pub each : (kind : Kind) (a : Place) (r : ℕ) → IsDistance m kind a r (distance_in d kind a r)

@@ -6,7 +6,7 @@ ghost use Rattle.dip_chart.specs.Charts.{IsMap, fleet_next};
 ghost use Rattle.dip_names.specs.declared.names.Kind.TheVariants.{Fleet};
 ghost use Rattle.dip_distances.specs.Walks.{ways};
 ghost use Rattle.dip_chart.specs.Charts.{is_home};
-ghost use Rattle.dip_distances.specs.Distances.{vertex, place_at, is_haven, vertices, row, is_home_at, graph, homes, AreTables, noted_at, noted, AreDistances};
+ghost use Rattle.dip_distances.specs.Distances.{vertex, place_at, is_haven, vertices, row, is_home_at, graph, homes, AreTables, noted_at, distance_in, AreDistances};
 
 use dip_chart::Parts;
 use dip_names::{Kind, Place, Power, Prov};
@@ -46,7 +46,7 @@ impl Distances {
 
     /// The distance that is noted for a place.
     pub fn noted(&self, kind: Kind, place: Place, power: Power) -> u16
-        ensures { result ≡ noted self.now kind place power }
+        ensures { result ≡ distance_in self.now kind place power }
     {
         match kind {
             Kind::Army => noted_at(self.armies.as_slice(), power, place.prov.index() as usize),
@@ -55,7 +55,7 @@ impl Distances {
     }
 
     fn noted_of_fleets(&self, place: Place, power: Power) -> u16
-        ensures { result ≡ noted self.now Fleet place power }
+        ensures { result ≡ distance_in self.now Fleet place power }
     {
         if place.coast < 4 {
             noted_at(self.fleets.as_slice(), power, vertex(place))

@@ -4,10 +4,10 @@ use Rattle.std.proofs.lemmas.List.{append-nil}
 use Rattle.std.proofs.lemmas.List.Folds.{list_all-append}
 use Rattle.std.specs.List.{list_all}
 use Rattle.std.specs.Cmp.Derive.{both_true}
-use Rattle.dip_forms.specs.Tokens.{is_word_byte, is_word, minus, Piece, spelled, IsParted, ArePieces, Spells}
+use Rattle.dip_forms.specs.Tokens.{is_word_byte, is_word, minus, Piece, spelling_of, IsParted, ArePieces, Spells}
 use Rattle.std.specs.Option.{IfSome, IfNone}
 use Rattle.std.proofs.lemmas.Bool.Decides.{nat_tests}
-use Rattle.dip_forms.specs.Scan.{closed, scan, tokens_at, few}
+use Rattle.dip_forms.specs.Scan.{with_word, scan, tokens_at, few}
 use Rattle.dip_forms.proofs.TokenLaws.{starts_word, scan_run}
 
 -- what a mapped option holds
@@ -23,7 +23,7 @@ scan_spaces : (n : ℕ) (rest : List ℕ) → scan [] (replicate n 32 ++ rest) �
 scan_spaces zero rest = refl
 scan_spaces (suc n) rest = closed_same (scan [] (replicate n 32 ++ rest)) ∙ scan_spaces n rest
   where
-    closed_same : (o : Option (List (List ℕ))) → option_map (λ ts. closed [] ts) o ≡ o
+    closed_same : (o : Option (List (List ℕ))) → option_map (λ ts. with_word [] ts) o ≡ o
     closed_same None = refl
     closed_same (Some ts) = refl
 
@@ -31,12 +31,12 @@ scan_trail : (n : ℕ) → scan [] (replicate n 32) ≡ Some []
 scan_trail n = subst (λ (x : List ℕ). scan [] x ≡ Some []) (append-nil (replicate n 32)) (scan_spaces n [])
 
 -- no letter or slash follows a word among pieces
-parted_ends : (t : List ℕ) (ps : List Piece) (trail : ℕ) → is_word t ≡ true → ArePieces ps → IsParted t ps → starts_word (spelled ps trail) ≡ false
+parted_ends : (t : List ℕ) (ps : List Piece) (trail : ℕ) → is_word t ≡ true → ArePieces ps → IsParted t ps → starts_word (spelling_of ps trail) ≡ false
 parted_ends t [] zero w ok apart = refl
 parted_ends t [] (suc n) w ok apart = refl
 parted_ends t (p ∷ ps) trail w ok apart = gap_ends p.gap refl
   where
-    gap_ends : (g : ℕ) → g ≡ p.gap → starts_word (replicate g 32 ++ (p.token ++ spelled ps trail)) ≡ false
+    gap_ends : (g : ℕ) → g ≡ p.gap → starts_word (replicate g 32 ++ (p.token ++ spelling_of ps trail)) ≡ false
     gap_ends (suc n) e = refl
     gap_ends zero e =
         elim ok.0 [
@@ -44,16 +44,16 @@ parted_ends t (p ∷ ps) trail w ok apart = gap_ends p.gap refl
           | inr dash ↦ rw dash refl
         ]
 
-spelled_scan : (ps : List Piece) (trail : ℕ) → ArePieces ps → scan [] (spelled ps trail) ≡ Some (tokens_of ps)
+spelled_scan : (ps : List Piece) (trail : ℕ) → ArePieces ps → scan [] (spelling_of ps trail) ≡ Some (tokens_of ps)
 spelled_scan [] trail ok = scan_trail trail
 spelled_scan (p ∷ ps) trail ok =
     let (token, behind) = ok in
     let (apart, more) = behind in
     let next = spelled_scan ps trail more in
-    scan_spaces p.gap (p.token ++ spelled ps trail) ∙ elim token [
+    scan_spaces p.gap (p.token ++ spelling_of ps trail) ∙ elim token [
       | inl word ↦
           let (long, all) = and_parts (nat_le 1 (length p.token)) (list_all is_word_byte p.token) word in
-          scan_run p.token (spelled ps trail) (leb-true _ _ long) all (parted_ends p.token ps trail word more apart) ∙ ap (λ o. option_map (λ ts. p.token ∷ ts) o) next
+          scan_run p.token (spelling_of ps trail) (leb-true _ _ long) all (parted_ends p.token ps trail word more apart) ∙ ap (λ o. option_map (λ ts. p.token ∷ ts) o) next
       | inr dash ↦ rw (dash, next) refl
     ]
 
@@ -71,7 +71,7 @@ abbrev trailed : List Piece → ℕ → ℕ
 trailed [] n = suc n
 trailed (p ∷ ps) n = n
 
-spelled_spaced : (ps : List Piece) (n : ℕ) → spelled (spaced ps) (trailed ps n) ≡ 32 ∷ spelled ps n
+spelled_spaced : (ps : List Piece) (n : ℕ) → spelling_of (spaced ps) (trailed ps n) ≡ 32 ∷ spelling_of ps n
 spelled_spaced [] n = refl
 spelled_spaced (p ∷ ps) n = refl
 
@@ -92,7 +92,7 @@ minus_parted [] = tt
 minus_parted (p ∷ ps) = λ m _. absurd (false≢true m)
 
 -- a word that ends before what is spelled
-word_before : (w line : List ℕ) (ts : List (List ℕ)) (s : Spells line ts) → list_all is_word_byte w ≡ true → IsParted w s.pieces → Spells (w ++ line) (closed w ts)
+word_before : (w line : List ℕ) (ts : List (List ℕ)) (s : Spells line ts) → list_all is_word_byte w ≡ true → IsParted w s.pieces → Spells (w ++ line) (with_word w ts)
 word_before [] line ts s all apart = s
 word_before (b ∷ bs) line ts s all apart = record {
   pieces = record { gap = 0; token = b ∷ bs } ∷ s.pieces;
@@ -121,10 +121,10 @@ minus_before line ts s = record {
 }
 
 -- what a scan does with a byte
-scan_space : (w : List ℕ) (b : ℕ) (bs : List ℕ) → is_word_byte b ≡ false → (b == 32) ≡ true → scan w (b ∷ bs) ≡ option_map (λ ts. closed w ts) (scan [] bs)
+scan_space : (w : List ℕ) (b : ℕ) (bs : List ℕ) → is_word_byte b ≡ false → (b == 32) ≡ true → scan w (b ∷ bs) ≡ option_map (λ ts. with_word w ts) (scan [] bs)
 scan_space w b bs other space = rw (other, space) refl
 
-scan_minus : (w : List ℕ) (b : ℕ) (bs : List ℕ) → is_word_byte b ≡ false → (b == 32) ≡ false → (b == 45) ≡ true → scan w (b ∷ bs) ≡ option_map (λ ts. closed w (minus ∷ ts)) (scan [] bs)
+scan_minus : (w : List ℕ) (b : ℕ) (bs : List ℕ) → is_word_byte b ≡ false → (b == 32) ≡ false → (b == 45) ≡ true → scan w (b ∷ bs) ≡ option_map (λ ts. with_word w (minus ∷ ts)) (scan [] bs)
 scan_minus w b bs other visible dash = rw (other, visible, dash) refl
 
 scan_stray : (w : List ℕ) (b : ℕ) (bs : List ℕ) → is_word_byte b ≡ false → (b == 32) ≡ false → (b == 45) ≡ false → scan w (b ∷ bs) ≡ None
@@ -133,19 +133,19 @@ scan_stray w b bs other visible stray = rw (other, visible, stray) refl
 abbrev nothing : Spells [] []
 nothing = record { pieces = []; trail = 0; well_formed = tt; text = refl; same = refl }
 
-spelled_space : (w : List ℕ) (b : ℕ) (bs : List ℕ) (ts inner : List (List ℕ)) → list_all is_word_byte w ≡ true → (b == 32) ≡ true → Spells bs inner → closed w inner ≡ ts → Spells (w ++ b ∷ bs) ts
+spelled_space : (w : List ℕ) (b : ℕ) (bs : List ℕ) (ts inner : List (List ℕ)) → list_all is_word_byte w ≡ true → (b == 32) ≡ true → Spells bs inner → with_word w inner ≡ ts → Spells (w ++ b ∷ bs) ts
 spelled_space w b bs ts inner all space s is =
-    let whole : Spells (w ++ 32 ∷ bs) (closed w inner) = word_before w (32 ∷ bs) inner (space_before bs inner s) all (spaced_parted w s.pieces) in
+    let whole : Spells (w ++ 32 ∷ bs) (with_word w inner) = word_before w (32 ∷ bs) inner (space_before bs inner s) all (spaced_parted w s.pieces) in
     subst (λ (x : ℕ). Spells (w ++ x ∷ bs) ts) (sym (eqb-true b 32 space)) (subst (λ (y : List (List ℕ)). Spells (w ++ 32 ∷ bs) y) is whole)
 
-spelled_minus : (w : List ℕ) (b : ℕ) (bs : List ℕ) (ts inner : List (List ℕ)) → list_all is_word_byte w ≡ true → (b == 45) ≡ true → Spells bs inner → closed w (minus ∷ inner) ≡ ts → Spells (w ++ b ∷ bs) ts
+spelled_minus : (w : List ℕ) (b : ℕ) (bs : List ℕ) (ts inner : List (List ℕ)) → list_all is_word_byte w ≡ true → (b == 45) ≡ true → Spells bs inner → with_word w (minus ∷ inner) ≡ ts → Spells (w ++ b ∷ bs) ts
 spelled_minus w b bs ts inner all dash s is =
-    let whole : Spells (w ++ 45 ∷ bs) (closed w (minus ∷ inner)) = word_before w (45 ∷ bs) (minus ∷ inner) (minus_before bs inner s) all (λ _ m. absurd (false≢true m)) in
+    let whole : Spells (w ++ 45 ∷ bs) (with_word w (minus ∷ inner)) = word_before w (45 ∷ bs) (minus ∷ inner) (minus_before bs inner s) all (λ _ m. absurd (false≢true m)) in
     subst (λ (x : ℕ). Spells (w ++ x ∷ bs) ts) (sym (eqb-true b 45 dash)) (subst (λ (y : List (List ℕ)). Spells (w ++ 45 ∷ bs) y) is whole)
 
 scan_spelled : (w bs : List ℕ) (ts : List (List ℕ)) → list_all is_word_byte w ≡ true → scan w bs ≡ Some ts → Spells (w ++ bs) ts
 scan_spelled w [] ts all h =
-    let is : closed w [] ≡ ts = cc in
+    let is : with_word w [] ≡ ts = cc in
     subst (λ (y : List (List ℕ)). Spells (w ++ []) y) is (word_before w [] [] nothing all tt)
 scan_spelled w (b ∷ bs) ts all h =
     elim (cases_Bool (is_word_byte b)) [
@@ -155,12 +155,12 @@ scan_spelled w (b ∷ bs) ts all h =
       | inr other ↦
           elim (cases_Bool (b == 32)) [
             | inl space ↦
-                let (inner, found, is) = mapped_some (λ x. closed w x) (scan [] bs) ts (sym (scan_space w b bs other space) ∙ h) in
+                let (inner, found, is) = mapped_some (λ x. with_word w x) (scan [] bs) ts (sym (scan_space w b bs other space) ∙ h) in
                 spelled_space w b bs ts inner all space (scan_spelled [] bs inner refl found) is
             | inr visible ↦
                 elim (cases_Bool (b == 45)) [
                   | inl dash ↦
-                      let (inner, found, is) = mapped_some (λ x. closed w (minus ∷ x)) (scan [] bs) ts (sym (scan_minus w b bs other visible dash) ∙ h) in
+                      let (inner, found, is) = mapped_some (λ x. with_word w (minus ∷ x)) (scan [] bs) ts (sym (scan_minus w b bs other visible dash) ∙ h) in
                       spelled_minus w b bs ts inner all dash (scan_spelled [] bs inner refl found) is
                   | inr stray ↦ let none : None ≡ Some ts = sym (scan_stray w b bs other visible stray) ∙ h in absurd (cc)
                 ]

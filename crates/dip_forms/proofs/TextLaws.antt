@@ -12,9 +12,9 @@ use Rattle.dip_names.specs.declared.names.Kind.TheVariants.{Army, Fleet}
 use Rattle.dip_forms.specs.declared.drafts.Spot.{Spot}
 use Rattle.dip_forms.specs.declared.drafts.Draft.{Draft}
 use Rattle.dip_forms.specs.declared.drafts.Draft.TheVariants.{Hold, Move, SupportHold, SupportMove, Convoy, Retreat, Disband, Build, Remove}
-use Rattle.dip_forms.specs.Tokens.{minus, is_word_byte, is_word, IsToken, IsParted, ArePieces, Piece, spelled}
+use Rattle.dip_forms.specs.Tokens.{minus, is_word_byte, is_word, IsToken, IsParted, ArePieces, Piece, spelling_of}
 use Rattle.dip_forms.specs.Forms.{are_letters, coast_text, is_coast, spot_text, is_spot, kind_text, form_of, is_draft, small, Says}
-use Rattle.dip_forms.specs.Texts.{capital, printed_tokens, joined, canonical_text}
+use Rattle.dip_forms.specs.Texts.{capital, printed_tokens, text_of_tokens, canonical_text}
 use Rattle.dip_forms.proofs.PartLaws.{letter_small, one_spot, two_spots, three_spots}
 
 -- small letters are word bytes, and stay
@@ -123,7 +123,7 @@ pieces_fine [] ws h = tt
 pieces_fine (t ∷ ts) [] h = absurd h
 pieces_fine (t ∷ ts) (w ∷ ws) h = (h.0.0, (behind_parted t ts, behind_fine ts ws h.1))
 
-joined_text : (ts : List (List ℕ)) → joined ts ≡ spelled (pieces_of ts) 0
+joined_text : (ts : List (List ℕ)) → text_of_tokens ts ≡ spelling_of (pieces_of ts) 0
 joined_text [] = refl
 joined_text (t ∷ []) = sym (append-nil t)
 joined_text (t ∷ u ∷ us) = ap (λ x. t ++ 32 ∷ x) (joined_text (u ∷ us))

@@ -4,7 +4,7 @@ use Rattle.std.proofs.lemmas.List.{append-nil, take-append-drop}
 use Rattle.std.specs.List.{list_all}
 use Rattle.std.specs.Cmp.Derive.{both_true}
 use Rattle.dip_forms.specs.Tokens.{is_word_byte, minus}
-use Rattle.dip_forms.specs.Scan.{closed, scan, tokens_at, word_length, few}
+use Rattle.dip_forms.specs.Scan.{with_word, scan, tokens_at, word_length, few}
 
 -- a text that begins with a letter or a slash
 abbrev pub starts_word : List ℕ → Bool
@@ -18,12 +18,12 @@ scan_word w (b ∷ bs) rest h =
     let (hb, more) = and_parts (is_word_byte b) (list_all is_word_byte bs) h in
     rw hb (scan_word (w ++ b ∷ []) bs rest more ∙ ap (λ x. scan x rest) (append_assoc w (b ∷ []) bs))
 
-closed_none : (o : Option (List (List ℕ))) → option_map (λ ts. closed [] ts) o ≡ o
+closed_none : (o : Option (List (List ℕ))) → option_map (λ ts. with_word [] ts) o ≡ o
 closed_none None = refl
 closed_none (Some ts) = refl
 
 closed_twice : (b : ℕ) (bs : List ℕ) (o : Option (List (List ℕ)))
-    → option_map (λ ts. closed (b ∷ bs) (minus ∷ ts)) o ≡ option_map (λ ts. (b ∷ bs) ∷ ts) (option_map (λ ts. closed [] (minus ∷ ts)) o)
+    → option_map (λ ts. with_word (b ∷ bs) (minus ∷ ts)) o ≡ option_map (λ ts. (b ∷ bs) ∷ ts) (option_map (λ ts. with_word [] (minus ∷ ts)) o)
 closed_twice b bs None = refl
 closed_twice b bs (Some ts) = refl
 

@@ -5,17 +5,17 @@ use Rattle.dip_forms.specs.declared.words.Front.{Front}
 use Rattle.dip_forms.specs.declared.words.Front.TheVariants.{Token, End, Stray}
 
 -- a word that ends here comes before the tokens behind it
-abbrev pub closed : List ℕ → List (List ℕ) → List (List ℕ)
-closed [] ts = ts
-closed (b ∷ bs) ts = (b ∷ bs) ∷ ts
+abbrev pub with_word : List ℕ → List (List ℕ) → List (List ℕ)
+with_word [] ts = ts
+with_word (b ∷ bs) ts = (b ∷ bs) ∷ ts
 
 -- the tokens of a text behind the beginning of a word
 abbrev pub scan : List ℕ → List ℕ → Option (List (List ℕ))
-scan w [] = Some (closed w [])
+scan w [] = Some (with_word w [])
 scan w (b ∷ bs) =
     if is_word_byte b then scan (w ++ b ∷ []) bs
-    else if b == 32 then option_map (λ ts. closed w ts) (scan [] bs)
-    else if b == 45 then option_map (λ ts. closed w (minus ∷ ts)) (scan [] bs)
+    else if b == 32 then option_map (λ ts. with_word w ts) (scan [] bs)
+    else if b == 45 then option_map (λ ts. with_word w (minus ∷ ts)) (scan [] bs)
     else None
 
 -- the tokens of a text

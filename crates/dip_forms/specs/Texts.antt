@@ -25,11 +25,11 @@ printed_tokens (Build u) = codes "BUILD" ∷ capital u.kind ∷ spot_text u.at �
 printed_tokens (Remove u) = codes "REMOVE" ∷ capital u.kind ∷ spot_text u.at ∷ []
 
 -- texts with a space between each two
-abbrev pub joined : List (List ℕ) → List ℕ
-joined [] = []
-joined (t ∷ []) = t
-joined (t ∷ u ∷ ts) = t ++ 32 ∷ joined (u ∷ ts)
+abbrev pub text_of_tokens : List (List ℕ) → List ℕ
+text_of_tokens [] = []
+text_of_tokens (t ∷ []) = t
+text_of_tokens (t ∷ u ∷ ts) = t ++ 32 ∷ text_of_tokens (u ∷ ts)
 
 -- the text of a draft: all that it says, spelled in one way
 abbrev pub canonical_text : Draft → List ℕ
-canonical_text d = joined (printed_tokens d)
+canonical_text d = text_of_tokens (printed_tokens d)

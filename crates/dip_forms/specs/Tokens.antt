@@ -25,9 +25,9 @@ pub record Piece : Type 0 where
   pub token : List ℕ
 
 -- the text of these pieces, with so many spaces behind the last
-abbrev pub spelled : List Piece → ℕ → List ℕ
-spelled [] trail = replicate trail 32
-spelled (p ∷ ps) trail = replicate p.gap 32 ++ (p.token ++ spelled ps trail)
+abbrev pub spelling_of : List Piece → ℕ → List ℕ
+spelling_of [] trail = replicate trail 32
+spelling_of (p ∷ ps) trail = replicate p.gap 32 ++ (p.token ++ spelling_of ps trail)
 
 -- a space parts two words
 abbrev pub IsParted : List ℕ → List Piece → Type 0
@@ -44,5 +44,5 @@ pub record Spells (line : List ℕ) (tokens : List (List ℕ)) : Type 0 where
   pub pieces : List Piece
   pub trail : ℕ
   pub well_formed : ArePieces pieces
-  pub text : line ≡ spelled pieces trail
+  pub text : line ≡ spelling_of pieces trail
   pub same : map (λ p. p.token) pieces ≡ tokens

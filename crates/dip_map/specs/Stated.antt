@@ -10,15 +10,15 @@ use Rattle.dip_names.specs.declared.faults.MapFault.TheVariants.{UnknownName, Ov
 use Rattle.dip_names.specs.declared.names.Kind.{Kind}
 use Rattle.dip_names.specs.declared.names.Kind.TheVariants.{Army, Fleet}
 use Rattle.dip_names.specs.declared.names.Place.{Place}
-use Rattle.dip_names.specs.declared.names.Unit.{Unit as Unit_}
+use Rattle.dip_names.specs.declared.names.Unit.{Unit as AUnit}
 use Rattle.dip_chart.specs.Charts.{Chart, Province, Realm, Shore}
 use Rattle.dip_chart.specs.Checks.{first_fault}
 use Rattle.dip_names.specs.Results.{◌>>=◌}
 
 -- what is defined
-abbrev pub known : {A : Type 0} → Option A → Result A MapFault
-known (Some x) = Ok x
-known None = Err UnknownName
+abbrev pub or_unknown : {A : Type 0} → Option A → Result A MapFault
+or_unknown (Some x) = Ok x
+or_unknown None = Err UnknownName
 
 -- each of a list, looked up the same way
 abbrev pub each : {A B : Type 0} → (A → Result B MapFault) → List A → Result (List B) MapFault
@@ -38,11 +38,11 @@ each_from f k (x ∷ xs) = do
 
 -- the number of a code
 unfoldable pub prov_at : Draft → List ℕ → Result ℕ MapFault
-prov_at d code = known (position (λ p. bytes_eq p.code code) d.provinces)
+prov_at d code = or_unknown (position (λ p. bytes_eq p.code code) d.provinces)
 
 -- the number of a coast; what has no name is the only one of a province that has no coasts of its own
 unfoldable pub coast_at : Draft → ℕ → List ℕ → Result ℕ MapFault
-coast_at d p name = known (option_and_then (λ (l : ProvinceDraft). position (λ s. bytes_eq s.name name) l.shores) (slice_get d.provinces p))
+coast_at d p name = or_unknown (option_and_then (λ (l : ProvinceDraft). position (λ s. bytes_eq s.name name) l.shores) (slice_get d.provinces p))
 
 -- a place where a fleet may be
 unfoldable pub place_at : Draft → Site → Result Place MapFault
@@ -52,7 +52,7 @@ place_at d s = do
   Ok (record { prov = p; coast = k })
 
 -- a unit of a power
-abbrev pub unit_of : Draft → ℕ → Kind → Site → Result Unit_ MapFault
+abbrev pub unit_of : Draft → ℕ → Kind → Site → Result AUnit MapFault
 unit_of d r Army s = do
   p ← prov_at d s.code
   Ok (record { power = r; kind = Army; place = record { prov = p; coast = 0 } })
@@ -60,7 +60,7 @@ unit_of d r Fleet s = do
   a ← place_at d s
   Ok (record { power = r; kind = Fleet; place = a })
 
-abbrev pub unit_at : Draft → ℕ → UnitDraft → Result Unit_ MapFault
+abbrev pub unit_at : Draft → ℕ → UnitDraft → Result AUnit MapFault
 unit_at d r u = unit_of d r u.kind u.site
 
 -- a coast
@@ -94,30 +94,30 @@ chart_at d = do
 abbrev pub is_few : Draft → Bool
 is_few d = (nat_le 1 (length d.powers) && nat_le (length d.powers) 7) && (nat_le 1 (length d.provinces) && nat_le (length d.provinces) 200)
 
-abbrev pub limited : Draft → Result Draft MapFault
-limited d = if is_few d then Ok d else Err OverLimit
+abbrev pub within_limits : Draft → Result Draft MapFault
+within_limits d = if is_few d then Ok d else Err OverLimit
 
 -- the parts of the map, within the limits
 abbrev pub parts_at : Draft → Result Chart MapFault
-parts_at d = limited d >>= chart_at
+parts_at d = within_limits d >>= chart_at
 
 -- what passes the checks of a map's parts
-abbrev pub checked_by : Option MapFault → Chart → Result Chart MapFault
-checked_by None m = Ok m
-checked_by (Some e) m = Err e
+abbrev pub check_by : Option MapFault → Chart → Result Chart MapFault
+check_by None m = Ok m
+check_by (Some e) m = Err e
 
-abbrev pub checked : Chart → Result Chart MapFault
-checked m = checked_by (first_fault m) m
+abbrev pub check : Chart → Result Chart MapFault
+check m = check_by (first_fault m) m
 
 -- the map that a file's draft states
 abbrev pub chart_of : Draft → Result Chart MapFault
 chart_of d = do
   m ← parts_at d
-  checked m
+  check m
 
 -- the map that a text states
-unfoldable pub stated : List ℕ → Result Chart MapFault
-stated text = do
+unfoldable pub map_in : List ℕ → Result Chart MapFault
+map_in text = do
   file ← file_in text
   draft ← draft_at file
   chart_of draft

@@ -2,7 +2,7 @@
 ghost use Rattle.std.specs.Prelude.{◌≡◌, ◌<◌, length, All, IfOk, true};
 ghost use Rattle.dip_chart.specs.Charts.{IsMap, province, realm, shore, army_next, fleet_next, home, is_home, prov_of, power_of, coast_of, is_centre};
 ghost use Rattle.dip_chart.specs.Charts.{is_fleet_place, may_stand, is_unit, is_army_next, is_fleet_next};
-ghost use Rattle.dip_map.specs.Stated.{checked, stated};
+ghost use Rattle.dip_map.specs.Stated.{check, map_in};
 ghost use Rattle.dip_names.specs.Results.{Gives};
 ghost use Rattle.dip_distances.specs.Walks.{IsDistance};
 
@@ -39,9 +39,9 @@ impl Map {
     ///
     /// Else the first fault: `NotToml`, `WrongField`, `OverLimit`, `UnknownName`, `DoubledName`, `NotSymmetric`, in that order. Want of memory
     /// may come in place of any.
-    #[tactic(auto, unfolding(crate::specs::Stated::stated))]
+    #[tactic(auto, unfolding(crate::specs::Stated::map_in))]
     pub fn from_toml(alloc: Global, text: &str) -> Result<Map, MapFault>
-        ensures stated { Gives (λ m. m) result (stated text.now) }
+        ensures stated { Gives (λ m. m) result (map_in text.now) }
         ensures lawful { IfOk result IsMap }
     {
         let file = tables_of(alloc, text)?;
@@ -52,7 +52,7 @@ impl Map {
 
     /// The map of these parts, or the first fault that they have.
     fn of(alloc: Global, parts: Parts) -> Result<Map, MapFault>
-        ensures { Gives (λ m. m) result (checked parts) }
+        ensures { Gives (λ m. m) result (check parts) }
     {
         if let Some(fault) = parts.first_fault() {
             return Err(fault);

@@ -2,7 +2,7 @@
 ghost use Rattle.std.specs.Prelude.{◌≡◌, ◌≤◌, length, map};
 ghost use Rattle.std.specs.List.{position};
 ghost use Rattle.std.specs.Str.{bytes_eq};
-ghost use Rattle.dip_map.specs.Stated.{each, each_from, known, prov_at, coast_at, place_at, unit_of, unit_at, shore_at, province_at, realm_at, chart_at, parts_at};
+ghost use Rattle.dip_map.specs.Stated.{each, each_from, or_unknown, prov_at, coast_at, place_at, unit_of, unit_at, shore_at, province_at, realm_at, chart_at, parts_at};
 ghost use Rattle.dip_names.specs.Results.{Gives};
 
 use dip_chart::{Parts, Province, Realm, Shore};

@@ -8,9 +8,9 @@ use Rattle.dip_names.specs.declared.faults.MapFault.TheVariants.{WrongField, Mem
 use Rattle.dip_names.specs.Results.{◌>>=◌}
 
 -- what is there and of the type that is wanted
-abbrev pub wanted : {A : Type 0} → Option A → Result A MapFault
-wanted (Some x) = Ok x
-wanted None = Err WrongField
+abbrev pub or_wrong : {A : Type 0} → Option A → Result A MapFault
+or_wrong (Some x) = Ok x
+or_wrong None = Err WrongField
 
 -- each item of an array, read the same way
 abbrev pub each_item : {A : Type 0} → (Data → Result A MapFault) → Items → Result (List A) MapFault
@@ -30,24 +30,24 @@ each_member f (member key d ds) = do
 
 -- the field of a key
 unfoldable pub field_at : List ℕ → Members → Result Data MapFault
-field_at key fields = wanted (get_member key fields)
+field_at key fields = or_wrong (get_member key fields)
 
 -- a text
 unfoldable pub text_at : List ℕ → Members → Result (List ℕ) MapFault
 text_at key fields = do
   value ← field_at key fields
-  wanted (as_str value)
+  or_wrong (as_str value)
 
 -- a table
 unfoldable pub table_at : List ℕ → Members → Result Members MapFault
 table_at key fields = do
   value ← field_at key fields
-  wanted (as_table value)
+  or_wrong (as_table value)
 
 -- whether an option that may be there is set
 abbrev pub flag_of : Option Data → Result Bool MapFault
 flag_of None = Ok false
-flag_of (Some value) = wanted (as_bool value)
+flag_of (Some value) = or_wrong (as_bool value)
 
 -- each key is one of these
 abbrev pub keys_are_among : List (List ℕ) → Members → Bool

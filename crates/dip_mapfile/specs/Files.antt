@@ -11,13 +11,13 @@ use Rattle.dip_names.specs.declared.names.Terrain.TheVariants.{Inland, Coast, Se
 use Rattle.dip_names.specs.declared.names.Kind.TheVariants.{Army, Fleet}
 use Rattle.dip_names.specs.Forms.{is_code, is_coast_name, is_full_name, is_power_name}
 use Rattle.dip_mapfile.specs.Drafts.{Site, ShoreDraft, ProvinceDraft, UnitDraft, PowerDraft, Draft}
-use Rattle.dip_mapfile.specs.Fields.{wanted, each_item, each_member, field_at, text_at, table_at, flag_of, keys_are_among}
+use Rattle.dip_mapfile.specs.Fields.{or_wrong, each_item, each_member, field_at, text_at, table_at, flag_of, keys_are_among}
 use Rattle.dip_names.specs.Results.{◌>>=◌}
 
 -- a code of three letters
 unfoldable pub code_at : Data → Result (List ℕ) MapFault
 code_at value = do
-  text ← wanted (as_str value)
+  text ← or_wrong (as_str value)
   if is_code text then Ok text else Err WrongField
 
 -- what stands behind a place's code: nothing, or a slash and the name of a coast
@@ -36,7 +36,7 @@ site_in text =
 -- a field that is a place
 unfoldable pub site_at : Data → Result Site MapFault
 site_at value = do
-  text ← wanted (as_str value)
+  text ← or_wrong (as_str value)
   site_in text
 
 -- a unit by its letter: an army's place has no coast
@@ -54,23 +54,23 @@ unit_in text = Err WrongField
 -- a field that is a unit
 unfoldable pub unit_at : Data → Result UnitDraft MapFault
 unit_at value = do
-  text ← wanted (as_str value)
+  text ← or_wrong (as_str value)
   unit_in text
 
 -- lists of codes, places and units
 unfoldable pub codes_at : Data → Result (List (List ℕ)) MapFault
 codes_at value = do
-  items ← wanted (as_array value)
+  items ← or_wrong (as_array value)
   each_item code_at items
 
 unfoldable pub sites_at : Data → Result (List Site) MapFault
 sites_at value = do
-  items ← wanted (as_array value)
+  items ← or_wrong (as_array value)
   each_item site_at items
 
 unfoldable pub units_at : Data → Result (List UnitDraft) MapFault
 units_at value = do
-  items ← wanted (as_array value)
+  items ← or_wrong (as_array value)
   each_item unit_at items
 
 -- a full name
@@ -113,7 +113,7 @@ shore_at name value = do
 -- 2 to 4 coasts
 unfoldable pub shores_in : Data → Result (List ShoreDraft) MapFault
 shores_in value = do
-  coasts ← wanted (as_table value)
+  coasts ← or_wrong (as_table value)
   shores ← each_member shore_at coasts
   if nat_le 2 (length shores) && nat_le (length shores) 4 then Ok shores else Err WrongField
 
@@ -141,7 +141,7 @@ is_sound code terrain centre fields = is_code code && (keys_are_among (keys_of t
 -- a province
 unfoldable pub province_at : List ℕ → Data → Result ProvinceDraft MapFault
 province_at code value = do
-  fields ← wanted (as_table value)
+  fields ← or_wrong (as_table value)
   name ← name_at fields
   word ← text_at (codes "kind") fields
   terrain ← terrain_in word
@@ -155,7 +155,7 @@ province_at code value = do
 -- a power
 unfoldable pub power_at : List ℕ → Data → Result PowerDraft MapFault
 power_at name value = do
-  fields ← wanted (as_table value)
+  fields ← or_wrong (as_table value)
   homes ← field_at (codes "home") fields
   home ← codes_at homes
   standings ← field_at (codes "units") fields
@@ -177,9 +177,9 @@ draft_at file = do
       else Err WrongField
 
 -- the TOML of a text
-abbrev pub parsed : Option Members → Result Members MapFault
-parsed (Some file) = Ok file
-parsed None = Err NotToml
+abbrev pub or_no_toml : Option Members → Result Members MapFault
+or_no_toml (Some file) = Ok file
+or_no_toml None = Err NotToml
 
 unfoldable pub file_in : List ℕ → Result Members MapFault
-file_in text = parsed (parse_document text)
+file_in text = or_no_toml (parse_document text)

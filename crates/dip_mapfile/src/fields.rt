@@ -4,7 +4,7 @@ ghost use Rattle.std.specs.List.{list_any};
 ghost use Rattle.std.specs.Str.{bytes_eq};
 ghost use Rattle.toml.specs.Data.{get_member, as_str, as_table, as_array};
 ghost use Rattle.toml.specs.View.{view, table_view, array_view};
-ghost use Rattle.dip_mapfile.specs.Fields.{wanted, field_at, text_at, table_at, flag_of, keys_are_among};
+ghost use Rattle.dip_mapfile.specs.Fields.{or_wrong, field_at, text_at, table_at, flag_of, keys_are_among};
 ghost use Rattle.dip_names.specs.Results.{Gives};
 
 use dip_names::MapFault;
@@ -30,7 +30,7 @@ pub(crate) fn field_of<'a>(table: &'a Table, key: &str) -> Result<&'a Value, Map
 
 /// The text that a value is.
 pub(crate) fn text_in(value: &Value) -> Result<&str, MapFault>
-    ensures { Gives (λ s. s.now) result (wanted (as_str (view value.now))) }
+    ensures { Gives (λ s. s.now) result (or_wrong (as_str (view value.now))) }
 {
     match value.as_str() {
         Some(text) => Ok(text),
@@ -40,7 +40,7 @@ pub(crate) fn text_in(value: &Value) -> Result<&str, MapFault>
 
 /// The table that a value is.
 pub(crate) fn table_in(value: &Value) -> Result<&Table, MapFault>
-    ensures { Gives (λ t. table_view t.now) result (wanted (as_table (view value.now))) }
+    ensures { Gives (λ t. table_view t.now) result (or_wrong (as_table (view value.now))) }
 {
     match value.as_table() {
         Some(table) => Ok(table),
@@ -50,7 +50,7 @@ pub(crate) fn table_in(value: &Value) -> Result<&Table, MapFault>
 
 /// The array that a value is.
 pub(crate) fn array_in(value: &Value) -> Result<&Array, MapFault>
-    ensures { Gives (λ a. array_view a.now) result (wanted (as_array (view value.now))) }
+    ensures { Gives (λ a. array_view a.now) result (or_wrong (as_array (view value.now))) }
 {
     match value.as_array() {
         Some(array) => Ok(array),

@@ -12,7 +12,7 @@ use Rattle.dip_names.specs.declared.names.Kind.TheVariants.{Army, Fleet}
 use Rattle.dip_names.specs.declared.names.Terrain.{Terrain}
 use Rattle.dip_names.specs.declared.names.Terrain.TheVariants.{Inland, Coast, Sea}
 use Rattle.dip_names.specs.declared.names.Place.{Place}
-use Rattle.dip_names.specs.declared.names.Unit.{Unit as Piece}
+use Rattle.dip_names.specs.declared.names.Unit.{Unit as AUnit}
 use Rattle.dip_board.specs.declared.boards.Dislodged.{Dislodged}
 use Rattle.dip_chart.specs.Charts.{Chart, IsMap, Province, Shore, no_shore, coast_of, is_shaped, has_one_shore, has_named_shores, province, shore, fleet_next, is_fleet_place, is_unit, may_stand}
 use Rattle.dip_board.specs.Boards.{Position, IsOf, is_dislodged, is_some_prov}
@@ -20,7 +20,7 @@ use Rattle.dip_forms.specs.Forms.{is_coast}
 use Rattle.dip_forms.specs.declared.drafts.Mention.{Mention}
 use Rattle.dip_orders.specs.Retreats.{is_open, next_places}
 use Rattle.dip_orders.specs.Rules.{unit_checks, sail_checks, move_checks, move_place, site, site_checks, retreat_checks, unit_of, the_unit, dislodged_of, the_dislodged}
-use Rattle.dip_orders.specs.Tests.{is_on_map, prov_named, no_place, no_unit, no_dislodged, unit_at, dislodged_at, knows_coast, first_in, named_in, place_in}
+use Rattle.dip_orders.specs.Conditions.{is_on_map, prov_named, no_place, no_unit, no_dislodged, unit_at, dislodged_at, knows_coast, first_in, named_in, place_in}
 use Rattle.dip_names.specs.Kinds.{is_coastal, is_kind}
 use Rattle.dip_orders.specs.declared.faults.OrderFault.{OrderFault}
 use Rattle.dip_orders.specs.declared.faults.OrderFault.TheVariants.{OutOfReach, NoSuchRetreat}
@@ -33,12 +33,12 @@ is_kind_self Army = refl
 is_kind_self Fleet = refl
 
 -- a unit that was found in its province is named by what is printed of it
-pub record NamedAgain (m : Chart) (found : Option Piece) (u : Mention) (unit : Piece) : Type 0 where
+pub record NamedAgain (m : Chart) (found : Option AUnit) (u : Mention) (unit : AUnit) : Type 0 where
   pub at : prov_named m (spot_of m unit.kind unit.place) ≡ prov_named m u.at
   pub on : is_on_map m (spot_of m unit.kind unit.place) ≡ true
   pub checks : Hold (unit_checks m found (mention_of m unit.kind unit.place))
 
-pub named_again : (m : Chart) → IsMap m → (found : Option Piece) (u : Mention) (unit : Piece) → found ≡ Some unit → unit.place.prov ≡ prov_named m u.at → IsPlaceOf m unit.kind unit.place
+pub named_again : (m : Chart) → IsMap m → (found : Option AUnit) (u : Mention) (unit : AUnit) → found ≡ Some unit → unit.place.prov ≡ prov_named m u.at → IsPlaceOf m unit.kind unit.place
     → NamedAgain m found u unit
 named_again m ok found u unit is at stands =
     let low = place_low m unit.kind unit.place stands in
@@ -62,7 +62,7 @@ pub record UnitAgain (m : Chart) (b : Position) (power : ℕ) (u : Mention) : Ty
 
 pub unit_again : (m : Chart) (b : Position) (power : ℕ) (u : Mention) → IsMap m → IsOf m b → Hold (unit_checks m (unit_of m b power u) u) → UnitAgain m b power u
 unit_again m b power u ok of h =
-    let unit : Piece = the_unit m b power u in
+    let unit : AUnit = the_unit m b power u in
     let there : unit_of m b power u ≡ Some unit = some_is (unit_of m b power u) no_unit h.0 in
     let own = find_passes (λ x. (x.power == power) && (x.place.prov == prov_named m u.at)) b.units unit there in
     let at : unit.place.prov ≡ prov_named m u.at = eqb-true _ _ (and_parts (unit.power == power) (unit.place.prov == prov_named m u.at) own).1 in
@@ -74,7 +74,7 @@ unit_again m b power u ok of h =
       prov = at;
       place = stands;
       on = again.on;
-      checks = subst (λ (o : Option Piece). Hold (unit_checks m o (mention_of m unit.kind unit.place))) (sym (ap (λ n. unit_at b power n) again.at)) again.checks;
+      checks = subst (λ (o : Option AUnit). Hold (unit_checks m o (mention_of m unit.kind unit.place))) (sym (ap (λ n. unit_at b power n) again.at)) again.checks;
       named = again.at;
       same = ap (λ n. unwrap_or (unit_at b power n) no_unit) again.at;
     }

@@ -8,7 +8,7 @@ use Rattle.std.proofs.lemmas.Bool.{and_parts, or_parts, or_cases, eqb-true, ltb-
 use Rattle.std.proofs.lemmas.List.{length-map}
 use Rattle.std.proofs.lemmas.List.Sums.{count_by-le-length}
 use Rattle.std.proofs.lemmas.Map.Steps.{length-le_from_distinct_below}
-use Rattle.dip_names.specs.declared.names.Unit.{Unit as Piece}
+use Rattle.dip_names.specs.declared.names.Unit.{Unit as AUnit}
 use Rattle.dip_names.specs.declared.names.Kind.{Kind}
 use Rattle.dip_names.specs.declared.names.Kind.TheVariants.{Army, Fleet}
 use Rattle.dip_board.specs.declared.boards.Dislodged.{Dislodged}
@@ -46,34 +46,34 @@ below_from n (x ∷ xs) low q h =
 pub numbers_few : (n : ℕ) (xs : List ℕ) → are_provs_single xs ≡ true → All (λ x. x < n) xs → length xs ≤ n
 numbers_few n xs single low = length-le_from_distinct_below xs n (distinct_from xs single) (below_from n xs low)
 
-abbrev provs_of : List Piece → List ℕ
+abbrev provs_of : List AUnit → List ℕ
 provs_of us = map (λ u. u.place.prov) us
 
-held_once : (p : ℕ) (us : List Piece) → list_any (λ q. q == p) (provs_of us) ≡ list_any (λ v. v.place.prov == p) us
+held_once : (p : ℕ) (us : List AUnit) → list_any (λ q. q == p) (provs_of us) ≡ list_any (λ v. v.place.prov == p) us
 held_once p [] = refl
 held_once p (u ∷ us) = rw (held_once p us) refl
 
-provs_single : (us : List Piece) → are_provs_single (provs_of us) ≡ are_units_single us
+provs_single : (us : List AUnit) → are_provs_single (provs_of us) ≡ are_units_single us
 provs_single [] = refl
 provs_single (u ∷ us) = rw (held_once u.place.prov us, provs_single us) refl
 
-stands_below : (m : Chart) (u : Piece) → is_unit m u ≡ true → u.place.prov < length m.provinces
+stands_below : (m : Chart) (u : AUnit) → is_unit m u ≡ true → u.place.prov < length m.provinces
 stands_below m u h = place u.kind (and_parts (nat_lt u.power (length m.realms)) (may_stand m u.kind u.place) h).1
   where
     place : (k : Kind) → may_stand m k u.place ≡ true → u.place.prov < length m.provinces
     place Army is = ltb-true _ _ (and_parts (nat_lt u.place.prov (length m.provinces)) _ is).0
     place Fleet is = ltb-true _ _ (and_parts (nat_lt u.place.prov (length m.provinces)) _ is).0
 
-provs_below : (m : Chart) (us : List Piece) → All (λ u. is_unit m u ≡ true) us → (k d : ℕ) → k < length (provs_of us) → get_or (provs_of us) k d < length m.provinces
+provs_below : (m : Chart) (us : List AUnit) → All (λ u. is_unit m u ≡ true) us → (k d : ℕ) → k < length (provs_of us) → get_or (provs_of us) k d < length m.provinces
 provs_below m [] all k d h = absurd (omega arith)
 provs_below m (u ∷ us) all zero d h = stands_below m u (all 0 u (omega arith))
 provs_below m (u ∷ us) all (suc k) d h = provs_below m us (λ j e l. all (suc j) e (omega arith)) k d (omega arith)
 
 -- where no two units stand in one province, they are no more than the provinces
-pub units_few : (m : Chart) (us : List Piece) → are_units_single us ≡ true → All (λ u. is_unit m u ≡ true) us → length us ≤ length m.provinces
+pub units_few : (m : Chart) (us : List AUnit) → are_units_single us ≡ true → All (λ u. is_unit m u ≡ true) us → length us ≤ length m.provinces
 units_few m us single all =
     let few = numbers_few (length m.provinces) (provs_of us) (provs_single us ∙ single) (provs_below m us all) in
-    omega (arith, few, length-map us (λ (u : Piece). u.place.prov))
+    omega (arith, few, length-map us (λ (u : AUnit). u.place.prov))
 
 dislodged_units : (m : Chart) (ds : List Dislodged) → All (λ d. is_dislodged m d ≡ true) ds → All (λ u. is_unit m u ≡ true) (map (λ d. d.unit) ds)
 dislodged_units m [] all k u h = absurd (omega arith)

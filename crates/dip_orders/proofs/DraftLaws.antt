@@ -3,7 +3,7 @@ use Rattle.std.proofs.Common.{◌≡◌, ℕ, Bool, true, false, List, [], ◌�
 use Rattle.std.proofs.lemmas.List.{append-nil}
 use Rattle.dip_names.specs.declared.names.Kind.{Kind}
 use Rattle.dip_names.specs.declared.names.Kind.TheVariants.{Army, Fleet}
-use Rattle.dip_names.specs.declared.names.Unit.{Unit as Piece}
+use Rattle.dip_names.specs.declared.names.Unit.{Unit as AUnit}
 use Rattle.dip_chart.specs.Charts.{Chart, province}
 use Rattle.dip_forms.specs.Texts.{capital, canonical_text}
 use Rattle.dip_forms.specs.declared.drafts.Mention.{Mention}
@@ -20,7 +20,7 @@ abbrev pub other_of : Chart → Other → Mention
 other_of m at = record { kind = at.kind; at = bare_spot m at.prov }
 
 -- what is printed of an order
-abbrev pub printed : Chart → Piece → Order → Draft
+abbrev pub printed : Chart → AUnit → Order → Draft
 printed m u Holds = Hold (mention_of m u.kind u.place)
 printed m u (Moves to via) = Move (mention_of m u.kind u.place) (spot_of m u.kind to) via
 printed m u (SupportsHold at) = SupportHold (mention_of m u.kind u.place) (other_of m at) false
@@ -75,7 +75,7 @@ carry_text k s t code to e =
     capital_letter k (s ++ (codes " C " ++ (((kind_letter Army ++ code) ++ codes " - ") ++ to))) ∙ rw (e, append-nil code, append-nil to, append_assoc code (codes " - ") to) refl
 
 -- the text of an order is the canonical text of what is printed of it
-pub order_canonical : (m : Chart) (u : Piece) (o : Order) → NamesArmy o → order_text m (record { unit = u; order = o }) ≡ canonical_text (printed m u o)
+pub order_canonical : (m : Chart) (u : AUnit) (o : Order) → NamesArmy o → order_text m (record { unit = u; order = o }) ≡ canonical_text (printed m u o)
 order_canonical m u Holds h = word_text u.kind _ _ (codes " H") (place_spot m u.kind u.place)
 order_canonical m u (Moves to true) h = move_text u.kind _ _ _ _ true (place_spot m u.kind u.place) (place_spot m u.kind to)
 order_canonical m u (Moves to false) h = move_text u.kind _ _ _ _ false (place_spot m u.kind u.place) (place_spot m u.kind to) ∙ rw append-nil refl

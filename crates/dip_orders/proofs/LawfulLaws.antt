@@ -8,7 +8,7 @@ use Rattle.std.specs.List.{list_any}
 use Rattle.dip_names.specs.declared.names.Kind.{Kind}
 use Rattle.dip_names.specs.declared.names.Kind.TheVariants.{Army, Fleet}
 use Rattle.dip_names.specs.declared.names.Place.{Place}
-use Rattle.dip_names.specs.declared.names.Unit.{Unit as Piece}
+use Rattle.dip_names.specs.declared.names.Unit.{Unit as AUnit}
 use Rattle.dip_board.specs.declared.boards.Dislodged.{Dislodged}
 use Rattle.dip_chart.specs.Charts.{Chart, IsMap, fleet_next, home, province, shore}
 use Rattle.dip_board.specs.Boards.{Position, IsOf}
@@ -22,7 +22,7 @@ use Rattle.dip_orders.specs.Lawful.{IsLawful, IsSite, Reaches}
 use Rattle.dip_orders.specs.Retreats.{is_place_among, retreats_of}
 use Rattle.dip_orders.specs.Reading.{order_of}
 use Rattle.dip_orders.specs.Rules.{unit_checks, sail_checks, move_checks, move_place, other_checks, retreat_checks, site, site_checks, is_supportable, unit_of, the_unit, dislodged_of, the_dislodged, the_other, checks_of, order_in}
-use Rattle.dip_orders.specs.Tests.{prov_named, no_place, no_unit, other_at, knows_coast, first_in, named_in, place_in, could_move, could_come, may_convoy, may_build, builds_elsewhere, removals_elsewhere}
+use Rattle.dip_orders.specs.Conditions.{prov_named, no_place, no_unit, other_at, knows_coast, first_in, named_in, place_in, could_move, could_come, may_convoy, may_build, builds_elsewhere, removals_elsewhere}
 use Rattle.dip_names.specs.Kinds.{is_kind, is_coastal, is_sea}
 use Rattle.dip_orders.specs.declared.faults.OrderFault.{OrderFault}
 use Rattle.dip_orders.specs.declared.faults.OrderFault.TheVariants.{OutOfReach, SupportOutOfReach, WrongKind, NoConvoyThere, WrongCoast, AllowanceUsed, NoSuchRetreat}
@@ -65,12 +65,12 @@ lawful_form : (m : Chart) (b : Position) (power : ℕ) (pending : List PlacedOrd
     → IsLawful m b power pending (order_in m b power d)
 lawful_form m b power pending (HoldForm u) ok of fine h = (h.0, record { there = (unit_again m b power u ok of h.1.1).found })
 lawful_form m b power pending (MoveForm u to via) ok of fine h =
-    let the : Piece = the_unit m b power u in
+    let the : AUnit = the_unit m b power u in
     let moves : List Check = move_checks m the.kind the.place (prov_named m to) to.coast via in
     let unit = unit_again m b power u ok of (hold_front (unit_checks m (unit_of m b power u) u) moves h.1.1.1) in
     (h.0, (record { there = unit.found }, moved_reaches m the.kind the.place (prov_named m to) to.coast via (hold_back (unit_checks m (unit_of m b power u) u) moves h.1.1.1)))
 lawful_form m b power pending (SupportHold u other held) ok of fine h =
-    let the : Piece = the_unit m b power u in
+    let the : AUnit = the_unit m b power u in
     let q : ℕ = prov_named m other.at in
     let reach : List Check = must (could_move m the.kind the.place q) SupportOutOfReach ∷ [] in
     let there : List Check = other_checks m b other.kind q other.at.coast in
@@ -87,7 +87,7 @@ lawful_form m b power pending (SupportHold u other held) ok of fine h =
       ),
     )
 lawful_form m b power pending (SupportMove u other to) ok of fine h =
-    let the : Piece = the_unit m b power u in
+    let the : AUnit = the_unit m b power u in
     let p : ℕ = prov_named m other.at in
     let q : ℕ = prov_named m to in
     let reach : List Check = must (is_supportable m the (the_other m b other) q) SupportOutOfReach ∷ [] in
@@ -109,7 +109,7 @@ lawful_form m b power pending (SupportMove u other to) ok of fine h =
       ),
     )
 lawful_form m b power pending (Convoy u army to) ok of fine h =
-    let the : Piece = the_unit m b power u in
+    let the : AUnit = the_unit m b power u in
     let p : ℕ = prov_named m army in
     let q : ℕ = prov_named m to in
     let last : List Check = must (knows_coast m q to.coast) WrongCoast ∷ must (may_convoy m p q) NoConvoyThere ∷ [] in

@@ -8,7 +8,7 @@ use Rattle.std.specs.Cmp.Derive.{both_true}
 use Rattle.dip_names.specs.declared.names.Kind.{Kind}
 use Rattle.dip_names.specs.declared.names.Kind.TheVariants.{Army, Fleet}
 use Rattle.dip_names.specs.declared.names.Place.{Place}
-use Rattle.dip_names.specs.declared.names.Unit.{Unit as Piece}
+use Rattle.dip_names.specs.declared.names.Unit.{Unit as AUnit}
 use Rattle.dip_board.specs.declared.boards.Dislodged.{Dislodged}
 use Rattle.dip_chart.specs.Charts.{Chart, IsMap, Province, Realm, are_places_single, army_next, fleet_next, home, no_province, no_realm, province, realm, shore, coast_of, is_army_next, is_fleet_place, is_unit, is_centre, is_power_name, may_stand}
 use Rattle.dip_board.specs.Boards.{Position, IsOf, is_dislodged, is_some_prov}
@@ -21,7 +21,7 @@ use Rattle.dip_orders.specs.Laws.{LawfulOrdersAreRead}
 use Rattle.dip_orders.specs.Lawful.{IsAllowed, IsSite, IsThere, MayAid, MayCarry, MayCome, Reaches, Stands}
 use Rattle.dip_orders.specs.Retreats.{is_place_among, next_places, on_foot, retreats_of}
 use Rattle.dip_orders.specs.Rules.{checks_of, unit_checks, move_checks, move_place, other_checks, order_in, retreat_checks, site, site_checks, is_supportable, unit_of, the_unit, dislodged_of, the_dislodged}
-use Rattle.dip_orders.specs.Tests.{is_adjustment, is_retreat, army_place, could_move, first_in, is_on_map, may_build, may_convoy, may_march, no_dislodged, no_place, no_unit, other_at, place_in, prov_named, unit_at, dislodged_at, knows_coast, builds_elsewhere, removals_elsewhere}
+use Rattle.dip_orders.specs.Conditions.{is_adjustment, is_retreat, army_place, could_move, first_in, is_on_map, may_build, may_convoy, may_march, no_dislodged, no_place, no_unit, other_at, place_in, prov_named, unit_at, dislodged_at, knows_coast, builds_elsewhere, removals_elsewhere}
 use Rattle.dip_names.specs.Kinds.{is_sea, is_coastal, is_kind}
 use Rattle.dip_orders.specs.Texts.{order_text}
 use Rattle.dip_orders.specs.declared.faults.OrderFault.TheVariants.{OutOfReach, SupportOutOfReach, WrongKind, NoBuildThere, NoConvoyThere, WrongCoast, AllowanceUsed, NoSuchRetreat}
@@ -49,14 +49,14 @@ any_at q (x ∷ xs) h =
     ]
 
 -- a unit is told by what is printed of it
-record Told (m : Chart) (u : Piece) : Type 0 where
+record Told (m : Chart) (u : AUnit) : Type 0 where
   pub low : u.place.prov < length m.provinces
   pub fine : is_spot (spot_of m u.kind u.place) ≡ true
   pub named : prov_named m (spot_of m u.kind u.place) ≡ u.place.prov
   pub on : is_on_map m (spot_of m u.kind u.place) ≡ true
-  pub checks : (found : Option Piece) → found ≡ Some u → Hold (unit_checks m found (mention_of m u.kind u.place))
+  pub checks : (found : Option AUnit) → found ≡ Some u → Hold (unit_checks m found (mention_of m u.kind u.place))
 
-told : (m : Chart) (u : Piece) → IsMap m → IsPlaceOf m u.kind u.place → Told m u
+told : (m : Chart) (u : AUnit) → IsMap m → IsPlaceOf m u.kind u.place → Told m u
 told m u ok at =
     let low = place_low m u.kind u.place at in
     let named = code_named m ok u.place.prov (coast_for m u.kind u.place) low in
@@ -68,16 +68,16 @@ told m u ok at =
       checks = λ found is. (named_again m ok found (mention_of m u.kind u.place) u is (sym named) at).checks;
     }
 
-unit_on_map : (m : Chart) (u : Piece) → is_unit m u ≡ true → IsPlaceOf m u.kind u.place
+unit_on_map : (m : Chart) (u : AUnit) → is_unit m u ≡ true → IsPlaceOf m u.kind u.place
 unit_on_map m u on = stands_at m u.kind u.place (and_parts (nat_lt u.power (length m.realms)) (may_stand m u.kind u.place) on).1
 
 -- the standing unit that an order names
-record ToldUnit (m : Chart) (b : Position) (power : ℕ) (u : Piece) : Type 0 where
+record ToldUnit (m : Chart) (b : Position) (power : ℕ) (u : AUnit) : Type 0 where
   pub told : Told m u
   pub checks : Hold (unit_checks m (unit_of m b power (mention_of m u.kind u.place)) (mention_of m u.kind u.place))
   pub same : the_unit m b power (mention_of m u.kind u.place) ≡ u
 
-told_unit : (m : Chart) (b : Position) (power : ℕ) (u : Piece) → IsMap m → IsOf m b → Stands b power u → ToldUnit m b power u
+told_unit : (m : Chart) (b : Position) (power : ℕ) (u : AUnit) → IsMap m → IsOf m b → Stands b power u → ToldUnit m b power u
 told_unit m b power u ok of stands =
     let on = find_among (λ x. (x.power == power) && (x.place.prov == u.place.prov)) (λ x. is_unit m x) b.units u of.units stands.there in
     let words = told m u ok (unit_on_map m u on) in
@@ -271,40 +271,40 @@ back_three : {A : Type 0} (P : A → ℕ → ℕ → Type 0) (v u : A) (r q t to
 back_three P v u r q t to e f g h = subst (λ x. P x r t) (sym e) (subst (λ n. P u n t) (sym f) (subst (λ n. P u q n) (sym g) h))
 
 -- the other unit is on the map
-other_low : (m : Chart) (b : Position) (at : Other) (x : Piece) → IsOf m b → IsThere b at x → at.prov < length m.provinces
+other_low : (m : Chart) (b : Position) (at : Other) (x : AUnit) → IsOf m b → IsThere b at x → at.prov < length m.provinces
 other_low m b at x of there =
-    let test : Piece → Bool = λ u. is_kind u.kind at.kind && (u.place.prov == at.prov) in
+    let test : AUnit → Bool = λ u. is_kind u.kind at.kind && (u.place.prov == at.prov) in
     let on = find_among test (λ u. is_unit m u) b.units x of.units there.there in
     let here : x.place.prov ≡ at.prov = eqb-true _ _ (and_parts (is_kind x.kind at.kind) (x.place.prov == at.prov) (find_passes test b.units x there.there)).1 in
     subst (λ n. n < length m.provinces) here (place_low m x.kind x.place (unit_on_map m x on))
 
-move_again : (m : Chart) (b : Position) (power : ℕ) (pending : List PlacedOrder) (u : Piece) (to : Place) (via : Bool) → IsMap m → IsOf m b → IsAllowed m b power pending u (Moves to via)
+move_again : (m : Chart) (b : Position) (power : ℕ) (pending : List PlacedOrder) (u : AUnit) (to : Place) (via : Bool) → IsMap m → IsOf m b → IsAllowed m b power pending u (Moves to via)
     → Again m b power pending (record { unit = u; order = Moves to via })
 move_again m b power pending u to via ok of h =
     let unit = told_unit m b power u ok of h.1.0 in
     let move = told_move m u.kind u.place to via ok h.1.1 in
     let low = place_low m u.kind to move.on in
     let coast = coast_for m u.kind to in
-    let both = back_two {A = Piece} (λ x n. Hold (move_checks m x.kind x.place n coast via) × (◌≡◌ {A = PlacedOrder} (record { unit = x; order = Moves (move_place m x.kind x.place n coast) via }) (record { unit = u; order = Moves to via })))
+    let both = back_two {A = AUnit} (λ x n. Hold (move_checks m x.kind x.place n coast via) × (◌≡◌ {A = PlacedOrder} (record { unit = x; order = Moves (move_place m x.kind x.place n coast) via }) (record { unit = u; order = Moves to via })))
     (the_unit m b power (mention_of m u.kind u.place)) u (prov_named m (spot_of m u.kind to)) to.prov unit.same (code_named m ok to.prov coast low) (move.checks, ap (λ (a : Place). record { unit = u; order = Moves a via }) move.same) in
     make m b power pending (record { unit = u; order = Moves to via }) tt (both_true unit.told.fine (both_true (spot_fine m ok u.kind to move.on) refl))
     (h.0, (unit.told.on, (code_on_map m ok to.prov coast low, hold_both (unit_checks m (unit_of m b power (mention_of m u.kind u.place)) (mention_of m u.kind u.place)) _ unit.checks both.0)))
     both.1
 
-hold_again : (m : Chart) (b : Position) (power : ℕ) (pending : List PlacedOrder) (u : Piece) → IsMap m → IsOf m b → IsAllowed m b power pending u Holds
+hold_again : (m : Chart) (b : Position) (power : ℕ) (pending : List PlacedOrder) (u : AUnit) → IsMap m → IsOf m b → IsAllowed m b power pending u Holds
     → Again m b power pending (record { unit = u; order = Holds })
 hold_again m b power pending u ok of h =
     let unit = told_unit m b power u ok of h.1 in
-    make m b power pending (record { unit = u; order = Holds }) tt (both_true unit.told.fine refl) (h.0, (unit.told.on, unit.checks)) (ap (λ (x : Piece). record { unit = x; order = Holds }) unit.same)
+    make m b power pending (record { unit = u; order = Holds }) tt (both_true unit.told.fine refl) (h.0, (unit.told.on, unit.checks)) (ap (λ (x : AUnit). record { unit = x; order = Holds }) unit.same)
 
 -- what is checked of a support or a convoy behind its unit, told by codes alone
-abbrev held_checks : Chart → Position → Kind → Piece → ℕ → List Check
+abbrev held_checks : Chart → Position → Kind → AUnit → ℕ → List Check
 held_checks m b k x n = other_checks m b k n None ++ must (could_move m x.kind x.place n) SupportOutOfReach ∷ []
 
-abbrev aided_checks : Chart → Position → Kind → Piece → ℕ → ℕ → List Check
+abbrev aided_checks : Chart → Position → Kind → AUnit → ℕ → ℕ → List Check
 aided_checks m b k x n t = other_checks m b k n None ++ must (is_supportable m x (unwrap_or (other_at b k n) no_unit) t) SupportOutOfReach ∷ []
 
-abbrev carried_checks : Chart → Position → Piece → ℕ → ℕ → List Check
+abbrev carried_checks : Chart → Position → AUnit → ℕ → ℕ → List Check
 carried_checks m b x n t =
     must (is_kind x.kind Fleet) WrongKind
     ∷ must (is_sea (province m x.place.prov).terrain) NoConvoyThere
@@ -313,12 +313,12 @@ carried_checks m b x n t =
 abbrev due_checks : Position → ℕ → List PlacedOrder → ℕ → List Check
 due_checks b power pending n = must (nat_lt (removals_elsewhere pending n) (removals_due b power)) AllowanceUsed ∷ []
 
-support_hold_again : (m : Chart) (b : Position) (power : ℕ) (pending : List PlacedOrder) (u : Piece) (at : Other) → IsMap m → IsOf m b → IsAllowed m b power pending u (SupportsHold at)
+support_hold_again : (m : Chart) (b : Position) (power : ℕ) (pending : List PlacedOrder) (u : AUnit) (at : Other) → IsMap m → IsOf m b → IsAllowed m b power pending u (SupportsHold at)
     → Again m b power pending (record { unit = u; order = SupportsHold at })
 support_hold_again m b power pending u at ok of h =
     let unit = told_unit m b power u ok of h.1.0 in
     let prov = told_province m at.prov ok (move_low m u.kind u.place at.prov ok h.1.1.reach) in
-    let both = back_two {A = Piece} (λ x n. Hold (held_checks m b at.kind x n)
+    let both = back_two {A = AUnit} (λ x n. Hold (held_checks m b at.kind x n)
     × (◌≡◌ {A = PlacedOrder} (record { unit = x; order = SupportsHold (record { kind = at.kind; prov = n }) }) (record { unit = u; order = SupportsHold at })))
     (the_unit m b power (mention_of m u.kind u.place)) u (prov_named m (bare_spot m at.prov)) at.prov unit.same prov.named
     ((ap (λ o. is_some o) h.1.1.there.there, (refl, (h.1.1.reach, tt))), refl) in
@@ -326,7 +326,7 @@ support_hold_again m b power pending u at ok of h =
     (h.0, (unit.told.on, (prov.on, hold_both (unit_checks m (unit_of m b power (mention_of m u.kind u.place)) (mention_of m u.kind u.place)) (held_checks m b at.kind (the_unit m b power (mention_of m u.kind u.place)) (prov_named m (bare_spot m at.prov))) unit.checks both.0)))
     both.1
 
-support_move_again : (m : Chart) (b : Position) (power : ℕ) (pending : List PlacedOrder) (u : Piece) (at : Other) (to : ℕ) → IsMap m → IsOf m b → IsAllowed m b power pending u (SupportsMove at to)
+support_move_again : (m : Chart) (b : Position) (power : ℕ) (pending : List PlacedOrder) (u : AUnit) (at : Other) (to : ℕ) → IsMap m → IsOf m b → IsAllowed m b power pending u (SupportsMove at to)
     → Again m b power pending (record { unit = u; order = SupportsMove at to })
 support_move_again m b power pending u at to ok of h =
     let aid : MayAid m b u at to = h.1.1 in
@@ -335,7 +335,7 @@ support_move_again m b power pending u at to ok of h =
     let prov = told_province m to ok (move_low m u.kind u.place to ok aid.reach) in
     let reach : is_supportable m u aid.other to ≡ true = and_from _ _ aid.reach (and_from _ _ (ap (λ x. not x) aid.apart) aid.comes) in
     let there : other_at b at.kind at.prov ≡ Some aid.other = aid.there.there in
-    let both = back_three {A = Piece} (λ x n t. Hold (aided_checks m b at.kind x n t)
+    let both = back_three {A = AUnit} (λ x n t. Hold (aided_checks m b at.kind x n t)
     × (◌≡◌ {A = PlacedOrder} (record { unit = x; order = SupportsMove (record { kind = at.kind; prov = n }) t }) (record { unit = u; order = SupportsMove at to })))
     (the_unit m b power (mention_of m u.kind u.place)) u (prov_named m (bare_spot m at.prov)) at.prov (prov_named m (bare_spot m to)) to unit.same from.named prov.named
     ((ap (λ o. is_some o) there, (refl, (ap (λ o. is_supportable m u (unwrap_or o no_unit) to) there ∙ reach, tt))), refl) in
@@ -343,7 +343,7 @@ support_move_again m b power pending u at to ok of h =
     (h.0, (unit.told.on, (from.on, (prov.on, hold_both (unit_checks m (unit_of m b power (mention_of m u.kind u.place)) (mention_of m u.kind u.place)) (aided_checks m b at.kind (the_unit m b power (mention_of m u.kind u.place)) (prov_named m (bare_spot m at.prov)) (prov_named m (bare_spot m to))) unit.checks both.0))))
     both.1
 
-convoy_again : (m : Chart) (b : Position) (power : ℕ) (pending : List PlacedOrder) (u : Piece) (at : Other) (to : ℕ) → IsMap m → IsOf m b → IsAllowed m b power pending u (Convoys at to)
+convoy_again : (m : Chart) (b : Position) (power : ℕ) (pending : List PlacedOrder) (u : AUnit) (at : Other) (to : ℕ) → IsMap m → IsOf m b → IsAllowed m b power pending u (Convoys at to)
     → Again m b power pending (record { unit = u; order = Convoys at to })
 convoy_again m b power pending u at to ok of h =
     let carry : MayCarry m b u at to = h.1.1 in
@@ -352,7 +352,7 @@ convoy_again m b power pending u at to ok of h =
     let from = told_province m at.prov ok coasts.0 in
     let prov = told_province m to ok coasts.1 in
     let there : other_at b Army at.prov ≡ Some carry.other = ap (λ k. other_at b k at.prov) (sym carry.army) ∙ carry.there.there in
-    let both = back_three {A = Piece} (λ x n t. Hold (carried_checks m b x n t)
+    let both = back_three {A = AUnit} (λ x n t. Hold (carried_checks m b x n t)
     × (◌≡◌ {A = PlacedOrder} (record { unit = x; order = Convoys (record { kind = Army; prov = n }) t }) (record { unit = u; order = Convoys at to })))
     (the_unit m b power (mention_of m u.kind u.place)) u (prov_named m (bare_spot m at.prov)) at.prov (prov_named m (bare_spot m to)) to unit.same from.named prov.named (
       (ap (λ k. is_kind k Fleet) carry.fleet, (carry.sea, (ap (λ o. is_some o) there, (refl, (refl, (carry.coasts, tt)))))),
@@ -378,12 +378,12 @@ left_again m b power pending d to ok of now there among =
     (now, (unit.told.on, (code_on_map m ok to.prov coast low, hold_both (unit_checks m (option_map (λ x. x.unit) (dislodged_of m b power (mention_of m d.unit.kind d.unit.place))) (mention_of m d.unit.kind d.unit.place)) _ unit.checks both.0)))
     both.1
 
-retreat_again : (m : Chart) (b : Position) (power : ℕ) (pending : List PlacedOrder) (u : Piece) (to : Place) → IsMap m → IsOf m b → IsAllowed m b power pending u (Retreats to)
+retreat_again : (m : Chart) (b : Position) (power : ℕ) (pending : List PlacedOrder) (u : AUnit) (to : Place) → IsMap m → IsOf m b → IsAllowed m b power pending u (Retreats to)
     → Again m b power pending (record { unit = u; order = Retreats to })
 retreat_again m b power pending u to ok of h =
     let d : Dislodged = h.1.dislodged in
-    let there : dislodged_at b power d.unit.place.prov ≡ Some d = ap (λ (x : Piece). dislodged_at b power x.place.prov) h.1.there.unit ∙ h.1.there.there in
-    subst (λ (x : Piece). Again m b power pending (record { unit = x; order = Retreats to })) h.1.there.unit (left_again m b power pending d to ok of h.0 there h.1.retreat)
+    let there : dislodged_at b power d.unit.place.prov ≡ Some d = ap (λ (x : AUnit). dislodged_at b power x.place.prov) h.1.there.unit ∙ h.1.there.there in
+    subst (λ (x : AUnit). Again m b power pending (record { unit = x; order = Retreats to })) h.1.there.unit (left_again m b power pending d to ok of h.0 there h.1.retreat)
 
 gone_again : (m : Chart) (b : Position) (power : ℕ) (pending : List PlacedOrder) (d : Dislodged) → IsMap m → IsOf m b → is_retreat b.phase.season ≡ true
     → dislodged_at b power d.unit.place.prov ≡ Some d → Again m b power pending (record { unit = d.unit; order = Disbands })
@@ -391,14 +391,14 @@ gone_again m b power pending d ok of now there =
     let unit = told_dislodged m b power d ok of there in
     make m b power pending (record { unit = d.unit; order = Disbands }) tt (both_true unit.told.fine refl) (now, (unit.told.on, unit.checks)) (ap (λ (x : Dislodged). record { unit = x.unit; order = Disbands }) unit.same)
 
-disband_again : (m : Chart) (b : Position) (power : ℕ) (pending : List PlacedOrder) (u : Piece) → IsMap m → IsOf m b → IsAllowed m b power pending u Disbands
+disband_again : (m : Chart) (b : Position) (power : ℕ) (pending : List PlacedOrder) (u : AUnit) → IsMap m → IsOf m b → IsAllowed m b power pending u Disbands
     → Again m b power pending (record { unit = u; order = Disbands })
 disband_again m b power pending u ok of h =
     let (now, (d, is)) = h in
-    let there : dislodged_at b power d.unit.place.prov ≡ Some d = ap (λ (x : Piece). dislodged_at b power x.place.prov) is.unit ∙ is.there in
-    subst (λ (x : Piece). Again m b power pending (record { unit = x; order = Disbands })) is.unit (gone_again m b power pending d ok of now there)
+    let there : dislodged_at b power d.unit.place.prov ≡ Some d = ap (λ (x : AUnit). dislodged_at b power x.place.prov) is.unit ∙ is.there in
+    subst (λ (x : AUnit). Again m b power pending (record { unit = x; order = Disbands })) is.unit (gone_again m b power pending d ok of now there)
 
-built_again : (m : Chart) (b : Position) (power : ℕ) (pending : List PlacedOrder) (u : Piece) → IsMap m → is_adjustment b.phase.season ≡ true → u.power ≡ power → MayCome m b power pending u
+built_again : (m : Chart) (b : Position) (power : ℕ) (pending : List PlacedOrder) (u : AUnit) → IsMap m → is_adjustment b.phase.season ≡ true → u.power ≡ power → MayCome m b power pending u
     → Again m b power pending (record { unit = u; order = Builds })
 built_again m b power pending u ok now own h =
     let (home, _) = and_parts (list_any (λ x. x == u.place.prov) (home m power)) _ h.home in
@@ -416,7 +416,7 @@ built_again m b power pending u ok now own h =
     ) in
     make m b power pending (record { unit = u; order = Builds }) tt (both_true words.fine refl) (now, (words.on, both.0)) both.1
 
-remove_again : (m : Chart) (b : Position) (power : ℕ) (pending : List PlacedOrder) (u : Piece) → IsMap m → IsOf m b → IsAllowed m b power pending u Removes
+remove_again : (m : Chart) (b : Position) (power : ℕ) (pending : List PlacedOrder) (u : AUnit) → IsMap m → IsOf m b → IsAllowed m b power pending u Removes
     → Again m b power pending (record { unit = u; order = Removes })
 remove_again m b power pending u ok of h =
     let unit = told_unit m b power u ok of h.1.unit in
@@ -424,9 +424,9 @@ remove_again m b power pending u ok of h =
     let checks = back (λ n. Hold (due_checks b power pending n)) (prov_named m (spot_of m u.kind u.place)) u.place.prov unit.told.named (due, tt) in
     make m b power pending (record { unit = u; order = Removes }) tt (both_true unit.told.fine refl)
     (h.0, (unit.told.on, hold_both (unit_checks m (unit_of m b power (mention_of m u.kind u.place)) (mention_of m u.kind u.place)) (due_checks b power pending (prov_named m (spot_of m u.kind u.place))) unit.checks checks))
-    (ap (λ (x : Piece). record { unit = x; order = Removes }) unit.same)
+    (ap (λ (x : AUnit). record { unit = x; order = Removes }) unit.same)
 
-allowed_again : (m : Chart) (b : Position) (power : ℕ) (pending : List PlacedOrder) (u : Piece) (o : Order) → IsMap m → IsOf m b → IsAllowed m b power pending u o
+allowed_again : (m : Chart) (b : Position) (power : ℕ) (pending : List PlacedOrder) (u : AUnit) (o : Order) → IsMap m → IsOf m b → IsAllowed m b power pending u o
     → Again m b power pending (record { unit = u; order = o })
 allowed_again m b power pending u Holds ok of h = hold_again m b power pending u ok of h
 allowed_again m b power pending u (Moves to via) ok of h = move_again m b power pending u to via ok of h

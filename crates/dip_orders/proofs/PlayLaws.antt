@@ -10,7 +10,7 @@ use Rattle.std.specs.Option.{unwrap_or}
 use Rattle.dip_names.specs.declared.names.Kind.{Kind}
 use Rattle.dip_names.specs.declared.names.Kind.TheVariants.{Army, Fleet}
 use Rattle.dip_names.specs.declared.names.Place.{Place}
-use Rattle.dip_names.specs.declared.names.Unit.{Unit as Piece}
+use Rattle.dip_names.specs.declared.names.Unit.{Unit as AUnit}
 use Rattle.dip_board.specs.declared.boards.Dislodged.{Dislodged}
 use Rattle.dip_board.specs.declared.boards.Season.{Season}
 use Rattle.dip_board.specs.declared.boards.Season.TheVariants.{SpringMoves, SpringRetreats, FallMoves, FallRetreats, Winter}
@@ -24,7 +24,7 @@ use Rattle.dip_orders.specs.Reading.{order_of}
 use Rattle.dip_orders.specs.Retreats.{MayRetreat, is_origin}
 use Rattle.dip_board.specs.Boards.{is_held}
 use Rattle.dip_orders.specs.Standing.{is_done_from, is_in_force, standing_orders}
-use Rattle.dip_orders.specs.Tests.{could_move, dislodged_at, first_in, is_adjustment, is_movement, is_retreat, may_convoy, no_place}
+use Rattle.dip_orders.specs.Conditions.{could_move, dislodged_at, first_in, is_adjustment, is_movement, is_retreat, may_convoy, no_place}
 use Rattle.dip_orders.specs.Texts.{order_text}
 use Rattle.dip_orders.specs.declared.placed.Order.{Order}
 use Rattle.dip_orders.specs.declared.placed.Order.TheVariants.{Hold, Move, SupportHold, SupportMove, Convoy, Retreat, Disband, Build, Remove}
@@ -193,13 +193,13 @@ not_from None p past h = absurd (cc)
 not_from (Some q) p past h = let e : q ≡ p = cc in false≢true (sym past ∙ eq-eqb q p e)
 
 -- what holds of a retreat that was given
-record Left (m : Chart) (b : Position) (power : ℕ) (u : Piece) (to : Place) : Type 0 where
+record Left (m : Chart) (b : Position) (power : ℕ) (u : AUnit) (to : Place) : Type 0 where
   pub dislodged : Dislodged
   pub found : dislodged_at b power u.place.prov ≡ Some dislodged
   pub unit : dislodged.unit ≡ u
   pub may : MayRetreat m b dislodged to
 
-left_given : AreLawful → (m : Chart) (b : Position) (power : ℕ) (pending : List PlacedOrder) (u : Piece) (to : Place) → IsMap m → IsOf m b → IsGiven m b power pending (record { unit = u; order = Retreat to }) → Left m b power u to
+left_given : AreLawful → (m : Chart) (b : Position) (power : ℕ) (pending : List PlacedOrder) (u : AUnit) (to : Place) → IsMap m → IsOf m b → IsGiven m b power pending (record { unit = u; order = Retreat to }) → Left m b power u to
 left_given lawful m b power pending u to ok of given =
     let leave = (lawful m b power pending given.0 (record { unit = u; order = Retreat to }) ok of given.1).1 in
     record { dislodged = leave.dislodged; found = leave.there.there; unit = leave.there.unit; may = (retreats_exact m b leave.dislodged to).0 leave.retreat }
@@ -207,7 +207,7 @@ left_given lawful m b power pending u to ok of given =
 pub none_retreats_to_its_attacker : AreLawful → NoneRetreatsToItsAttacker
 none_retreats_to_its_attacker lawful m b power pending u to d ok of given among is =
     let left = left_given lawful m b power pending u to ok of given in
-    let at : d.unit.place.prov ≡ left.dislodged.unit.place.prov = ap (λ (x : Piece). x.place.prov) (is ∙ sym left.unit) in
+    let at : d.unit.place.prov ≡ left.dislodged.unit.place.prov = ap (λ (x : AUnit). x.place.prov) (is ∙ sym left.unit) in
     let same : left.dislodged ≡ d = one_dislodged (λ x. (x.unit.power == power) && (x.unit.place.prov == u.place.prov)) b.dislodged left.dislodged d of.dislodged_apart left.found among at in
     subst (λ (x : Dislodged). x.origin ≢ Some to.prov) same (not_from left.dislodged.origin to.prov left.may.not_origin)
 
@@ -225,7 +225,7 @@ builds_are_in_vacant_homes lawful m b power pending u ok of given =
     (come.power, vacant_home m b power u.place.prov ok at_home own vacant)
 
 -- a unit that could move to a province could be ordered to
-could_move_to : LawfulOrdersAreRead → (m : Chart) (b : Position) (power : ℕ) (pending : List PlacedOrder) (u : Piece) (p : ℕ) → IsMap m → IsOf m b → is_movement b.phase.season ≡ true
+could_move_to : LawfulOrdersAreRead → (m : Chart) (b : Position) (power : ℕ) (pending : List PlacedOrder) (u : AUnit) (p : ℕ) → IsMap m → IsOf m b → is_movement b.phase.season ≡ true
     → Stands b power u → could_move m u.kind u.place p ≡ true → CouldMove m b power pending u p
 could_move_to readable m b power pending u p ok of now stands reach = by_kind u.kind refl reach
   where
@@ -275,7 +275,7 @@ in_winter FallMoves o now is = absurd (false≢true now)
 in_winter FallRetreats o now is = absurd (false≢true now)
 in_winter Winter o now is = is
 
-allowed_belongs : (m : Chart) (b : Position) (power : ℕ) (pending : List PlacedOrder) (u : Piece) (o : Order) → IsAllowed m b power pending u o → belongs b.phase.season o ≡ true
+allowed_belongs : (m : Chart) (b : Position) (power : ℕ) (pending : List PlacedOrder) (u : AUnit) (o : Order) → IsAllowed m b power pending u o → belongs b.phase.season o ≡ true
 allowed_belongs m b power pending u Hold h = in_movement b.phase.season Hold h.0 refl
 allowed_belongs m b power pending u (Move to via) h = in_movement b.phase.season (Move to via) h.0 refl
 allowed_belongs m b power pending u (SupportHold at) h = in_movement b.phase.season (SupportHold at) h.0 refl

@@ -7,7 +7,7 @@ use Rattle.std.specs.Cmp.Derive.{both_true}
 use Rattle.dip_names.specs.declared.names.Kind.{Kind}
 use Rattle.dip_names.specs.declared.names.Kind.TheVariants.{Army, Fleet}
 use Rattle.dip_names.specs.declared.names.Place.{Place}
-use Rattle.dip_names.specs.declared.names.Unit.{Unit as Piece}
+use Rattle.dip_names.specs.declared.names.Unit.{Unit as AUnit}
 use Rattle.dip_board.specs.declared.boards.Dislodged.{Dislodged}
 use Rattle.dip_chart.specs.Charts.{Chart, IsMap, home, province}
 use Rattle.dip_board.specs.Boards.{Position, IsOf}
@@ -22,7 +22,7 @@ use Rattle.dip_board.specs.Boards.{is_vacant, owns}
 use Rattle.dip_orders.specs.Checks.{Check, must}
 use Rattle.dip_orders.specs.Retreats.{retreats_of}
 use Rattle.dip_orders.specs.Rules.{site, site_checks, unit_checks, move_checks, move_place, other_checks, retreat_checks, is_supportable, unit_of, the_unit, dislodged_of, the_dislodged, the_other, checks_of, order_in, answer}
-use Rattle.dip_orders.specs.Tests.{builds_elsewhere, may_build, is_on_map, prov_named, no_unit, other_at, knows_coast, place_in, could_move, may_convoy, removals_elsewhere}
+use Rattle.dip_orders.specs.Conditions.{builds_elsewhere, may_build, is_on_map, prov_named, no_unit, other_at, knows_coast, place_in, could_move, may_convoy, removals_elsewhere}
 use Rattle.dip_names.specs.Kinds.{is_coastal, is_kind, is_sea}
 use Rattle.dip_orders.specs.Texts.{order_text}
 use Rattle.dip_orders.specs.declared.faults.OrderFault.TheVariants.{SupportOutOfReach, WrongKind, NoConvoyThere, WrongCoast, AllowanceUsed}
@@ -55,26 +55,26 @@ pub hold_again : (m : Chart) (b : Position) (power : ℕ) (pending : List Placed
     → Again m b power pending (order_in m b power (HoldForm u))
 hold_again m b power pending u ok of h =
     let unit = unit_again m b power u ok of h.1.1 in
-    let the : Piece = the_unit m b power u in
+    let the : AUnit = the_unit m b power u in
     make m b power pending (order_in m b power (HoldForm u)) tt (both_true (spot_fine m ok the.kind the.place unit.place) refl) (h.0, (unit.on, unit.checks))
     (ap (λ x. record { unit = x; order = Holds }) unit.same)
 
 -- a move whose unit and destination are told in other words
-move_back : (m : Chart) (v unit : Piece) (r q : ℕ) (coast : Option (List ℕ)) (via : Bool) → v ≡ unit → r ≡ q → Hold (move_checks m unit.kind unit.place q coast via) → Hold (move_checks m v.kind v.place r coast via)
+move_back : (m : Chart) (v unit : AUnit) (r q : ℕ) (coast : Option (List ℕ)) (via : Bool) → v ≡ unit → r ≡ q → Hold (move_checks m unit.kind unit.place q coast via) → Hold (move_checks m v.kind v.place r coast via)
 move_back m v unit r q coast via e f h =
-    subst (λ (x : Piece). Hold (move_checks m x.kind x.place r coast via)) (sym e) (subst (λ (n : ℕ). Hold (move_checks m unit.kind unit.place n coast via)) (sym f) h)
+    subst (λ (x : AUnit). Hold (move_checks m x.kind x.place r coast via)) (sym e) (subst (λ (n : ℕ). Hold (move_checks m unit.kind unit.place n coast via)) (sym f) h)
 
-moved_order : (m : Chart) (v unit : Piece) (r q : ℕ) (coast : Option (List ℕ)) (via : Bool) (to : Place) → v ≡ unit → r ≡ q → move_place m unit.kind unit.place q coast ≡ to
+moved_order : (m : Chart) (v unit : AUnit) (r q : ℕ) (coast : Option (List ℕ)) (via : Bool) (to : Place) → v ≡ unit → r ≡ q → move_place m unit.kind unit.place q coast ≡ to
     → ◌≡◌ {A = PlacedOrder} (record { unit = v; order = Moves (move_place m v.kind v.place r coast) via }) (record { unit = unit; order = Moves to via })
 moved_order m v unit r q coast via to e f h =
-    ap (λ (x : Piece). record { unit = x; order = Moves (move_place m x.kind x.place r coast) via }) e
+    ap (λ (x : AUnit). record { unit = x; order = Moves (move_place m x.kind x.place r coast) via }) e
     ∙ (ap (λ (n : ℕ). record { unit = unit; order = Moves (move_place m unit.kind unit.place n coast) via }) f ∙ ap (λ (a : Place). record { unit = unit; order = Moves a via }) h)
 
 pub move_again : (m : Chart) (b : Position) (power : ℕ) (pending : List PlacedOrder) (u : Mention) (to : Spot) (via : Bool) → IsMap m → IsOf m b → is_draft (MoveForm u to via) ≡ true
     → Hold (checks_of m b power pending (MoveForm u to via)) → Again m b power pending (order_in m b power (MoveForm u to via))
 move_again m b power pending u to via ok of fine h =
     let q : ℕ = prov_named m to in
-    let the : Piece = the_unit m b power u in
+    let the : AUnit = the_unit m b power u in
     let word = (and_parts (is_spot to) true (and_parts (is_spot u.at) (is_spot to && true) fine).1).0 in
     let unit = unit_again m b power u ok of (hold_front (unit_checks m (unit_of m b power u) u) _ h.1.1.1) in
     let moved = moved_again m ok the.kind the.place q to.coast via (coast_fine to word) (named_low m to h.1.1.0) (hold_back (unit_checks m (unit_of m b power u) u) _ h.1.1.1) in
@@ -105,10 +105,10 @@ bare_named m ok s on = code_named m ok (prov_named m s) None (named_low m s on)
 bare_on : (m : Chart) → IsMap m → (s : Spot) → is_on_map m s ≡ true → is_on_map m (bare_spot m (prov_named m s)) ≡ true
 bare_on m ok s on = code_on_map m ok (prov_named m s) None (named_low m s on)
 
-reach_back : (m : Chart) (v unit : Piece) (r q : ℕ) → v ≡ unit → r ≡ q → could_move m unit.kind unit.place q ≡ true → could_move m v.kind v.place r ≡ true
-reach_back m v unit r q e f h = ap (λ (x : Piece). could_move m x.kind x.place r) e ∙ (ap (λ n. could_move m unit.kind unit.place n) f ∙ h)
+reach_back : (m : Chart) (v unit : AUnit) (r q : ℕ) → v ≡ unit → r ≡ q → could_move m unit.kind unit.place q ≡ true → could_move m v.kind v.place r ≡ true
+reach_back m v unit r q e f h = ap (λ (x : AUnit). could_move m x.kind x.place r) e ∙ (ap (λ n. could_move m unit.kind unit.place n) f ∙ h)
 
-held_order : (v unit : Piece) (k : Kind) (r q : ℕ) → v ≡ unit → r ≡ q
+held_order : (v unit : AUnit) (k : Kind) (r q : ℕ) → v ≡ unit → r ≡ q
     → ◌≡◌ {A = PlacedOrder} (record { unit = v; order = SupportsHold (record { kind = k; prov = r }) }) (record { unit = unit; order = SupportsHold (record { kind = k; prov = q }) })
 held_order v unit k r q e f = λ i. record { unit = e i; order = SupportsHold (record { kind = k; prov = f i }) }
 
@@ -116,14 +116,14 @@ pub support_hold_again : (m : Chart) (b : Position) (power : ℕ) (pending : Lis
     → Hold (checks_of m b power pending (SupportHold u other held)) → Again m b power pending (order_in m b power (SupportHold u other held))
 support_hold_again m b power pending u other held ok of h =
     let q : ℕ = prov_named m other.at in
-    let the : Piece = the_unit m b power u in
+    let the : AUnit = the_unit m b power u in
     let reach : List Check = must (could_move m the.kind the.place q) SupportOutOfReach ∷ [] in
     let others : List Check = other_checks m b other.kind q other.at.coast ++ reach in
     let unit = unit_again m b power u ok of (hold_front (unit_checks m (unit_of m b power u) u) others h.1.1.1) in
     let rest = hold_back (unit_checks m (unit_of m b power u) u) others h.1.1.1 in
     let there = hold_front (other_checks m b other.kind q other.at.coast) reach rest in
     let near = hold_back (other_checks m b other.kind q other.at.coast) reach rest in
-    let again : Piece = the_unit m b power (mention_of m the.kind the.place) in
+    let again : AUnit = the_unit m b power (mention_of m the.kind the.place) in
     let r : ℕ = prov_named m (bare_spot m q) in
     let behind : List Check = must (could_move m again.kind again.place r) SupportOutOfReach ∷ [] in
     let named = bare_named m ok other.at h.1.1.0 in
@@ -142,10 +142,10 @@ support_hold_again m b power pending u other held ok of h =
     )
     (held_order _ the other.kind _ q unit.same named)
 
-supportable_back : (m : Chart) (v unit x y : Piece) (r q : ℕ) → v ≡ unit → x ≡ y → r ≡ q → is_supportable m unit y q ≡ true → is_supportable m v x r ≡ true
+supportable_back : (m : Chart) (v unit x y : AUnit) (r q : ℕ) → v ≡ unit → x ≡ y → r ≡ q → is_supportable m unit y q ≡ true → is_supportable m v x r ≡ true
 supportable_back m v unit x y r q e f g h = ap (λ z. is_supportable m z x r) e ∙ (ap (λ z. is_supportable m unit z r) f ∙ (ap (λ n. is_supportable m unit y n) g ∙ h))
 
-aided_order : (v unit : Piece) (k : Kind) (r q to there : ℕ) → v ≡ unit → r ≡ q → to ≡ there
+aided_order : (v unit : AUnit) (k : Kind) (r q to there : ℕ) → v ≡ unit → r ≡ q → to ≡ there
     → ◌≡◌ {A = PlacedOrder} (record { unit = v; order = SupportsMove (record { kind = k; prov = r }) to }) (record { unit = unit; order = SupportsMove (record { kind = k; prov = q }) there })
 aided_order v unit k r q to there e f g = λ i. record { unit = e i; order = SupportsMove (record { kind = k; prov = f i }) (g i) }
 
@@ -154,17 +154,17 @@ pub support_move_again : (m : Chart) (b : Position) (power : ℕ) (pending : Lis
 support_move_again m b power pending u other to ok of h =
     let p : ℕ = prov_named m other.at in
     let q : ℕ = prov_named m to in
-    let the : Piece = the_unit m b power u in
+    let the : AUnit = the_unit m b power u in
     let reach : List Check = must (is_supportable m the (the_other m b other) q) SupportOutOfReach ∷ [] in
     let others : List Check = other_checks m b other.kind p other.at.coast ++ reach in
     let unit = unit_again m b power u ok of (hold_front (unit_checks m (unit_of m b power u) u) others h.1.1.1.1) in
     let rest = hold_back (unit_checks m (unit_of m b power u) u) others h.1.1.1.1 in
     let there = hold_front (other_checks m b other.kind p other.at.coast) reach rest in
     let near = hold_back (other_checks m b other.kind p other.at.coast) reach rest in
-    let again : Piece = the_unit m b power (mention_of m the.kind the.place) in
+    let again : AUnit = the_unit m b power (mention_of m the.kind the.place) in
     let r : ℕ = prov_named m (bare_spot m p) in
     let t : ℕ = prov_named m (bare_spot m q) in
-    let mover : Piece = unwrap_or (other_at b other.kind r) no_unit in
+    let mover : AUnit = unwrap_or (other_at b other.kind r) no_unit in
     let behind : List Check = must (is_supportable m again mover t) SupportOutOfReach ∷ [] in
     let from = bare_named m ok other.at h.1.1.0 in
     let named = bare_named m ok to h.1.1.1.0 in
@@ -186,12 +186,12 @@ support_move_again m b power pending u other to ok of h =
     )
     (aided_order _ the other.kind _ p _ q unit.same from named)
 
-carried_order : (v unit : Piece) (r q to there : ℕ) → v ≡ unit → r ≡ q → to ≡ there
+carried_order : (v unit : AUnit) (r q to there : ℕ) → v ≡ unit → r ≡ q → to ≡ there
     → ◌≡◌ {A = PlacedOrder} (record { unit = v; order = Convoys (record { kind = Army; prov = r }) to }) (record { unit = unit; order = Convoys (record { kind = Army; prov = q }) there })
 carried_order v unit r q to there e f g = λ i. record { unit = e i; order = Convoys (record { kind = Army; prov = f i }) (g i) }
 
 -- what is checked of a convoy behind its fleet, told by codes alone
-abbrev again_checks : Chart → Position → Piece → ℕ → ℕ → List Check
+abbrev again_checks : Chart → Position → AUnit → ℕ → ℕ → List Check
 again_checks m b x r t =
     must (is_kind x.kind Fleet) WrongKind
     ∷ must (is_sea (province m x.place.prov).terrain) NoConvoyThere
@@ -202,7 +202,7 @@ pub convoy_again : (m : Chart) (b : Position) (power : ℕ) (pending : List Plac
 convoy_again m b power pending u army to ok of h =
     let p : ℕ = prov_named m army in
     let q : ℕ = prov_named m to in
-    let the : Piece = the_unit m b power u in
+    let the : AUnit = the_unit m b power u in
     let last : List Check = must (knows_coast m q to.coast) WrongCoast ∷ must (may_convoy m p q) NoConvoyThere ∷ [] in
     let others : List Check = must (is_kind the.kind Fleet) WrongKind ∷ must (is_sea (province m the.place.prov).terrain) NoConvoyThere ∷ (other_checks m b Army p army.coast ++ last) in
     let unit = unit_again m b power u ok of (hold_front (unit_checks m (unit_of m b power u) u) others h.1.1.1.1) in
@@ -223,9 +223,9 @@ convoy_again m b power pending u army to ok of h =
           (
             bare_on m ok to h.1.1.1.0,
             hold_both (unit_checks m (unit_of m b power (mention_of m the.kind the.place)) (mention_of m the.kind the.place)) (again_checks m b (the_unit m b power (mention_of m the.kind the.place)) r t) unit.checks (
-              ap (λ (x : Piece). is_kind x.kind Fleet) unit.same ∙ rest.0,
+              ap (λ (x : AUnit). is_kind x.kind Fleet) unit.same ∙ rest.0,
               (
-                ap (λ (x : Piece). is_sea (province m x.place.prov).terrain) unit.same ∙ rest.1.0,
+                ap (λ (x : AUnit). is_sea (province m x.place.prov).terrain) unit.same ∙ rest.1.0,
                 hold_both (other_checks m b Army r None) (must (knows_coast m t None) WrongCoast ∷ must (may_convoy m r t) NoConvoyThere ∷ []) (other_back m b Army r p army.coast from there)
                     (refl, (ap (λ n. may_convoy m n t) from ∙ (ap (λ n. may_convoy m p n) named ∙ near.1.0), tt)),
               ),
@@ -288,7 +288,7 @@ pub remove_again : (m : Chart) (b : Position) (power : ℕ) (pending : List Plac
 remove_again m b power pending u ok of h =
     let unit = unit_again m b power u ok of (hold_front (unit_checks m (unit_of m b power u) u) (must (nat_lt (removals_elsewhere pending (prov_named m u.at)) (removals_due b power)) AllowanceUsed ∷ []) h.1.1) in
     let due = hold_back (unit_checks m (unit_of m b power u) u) (must (nat_lt (removals_elsewhere pending (prov_named m u.at)) (removals_due b power)) AllowanceUsed ∷ []) h.1.1 in
-    let the : Piece = the_unit m b power u in
+    let the : AUnit = the_unit m b power u in
     make m b power pending (order_in m b power (Remove u)) tt (both_true (spot_fine m ok the.kind the.place unit.place) refl) (
       h.0,
       (

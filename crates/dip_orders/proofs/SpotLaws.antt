@@ -15,7 +15,7 @@ use Rattle.dip_chart.specs.Charts.{Chart, Province, Shore, IsMap, no_shore, prov
 use Rattle.dip_forms.specs.Forms.{are_letters, coast_text, is_coast, spot_text, is_spot}
 use Rattle.dip_forms.specs.declared.drafts.Spot.{Spot}
 use Rattle.dip_forms.specs.declared.drafts.Mention.{Mention}
-use Rattle.dip_orders.specs.Tests.{is_on_map, prov_named, knows_coast}
+use Rattle.dip_orders.specs.Conditions.{is_on_map, prov_named, knows_coast}
 use Rattle.dip_orders.specs.Texts.{behind_slash, place_text}
 use Rattle.dip_orders.proofs.FindLaws.{some_is, position_low}
 

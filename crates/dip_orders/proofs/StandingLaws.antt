@@ -7,13 +7,13 @@ use Rattle.std.proofs.lemmas.Bool.Decides.{eqb_tells}
 use Rattle.dip_names.specs.declared.names.Kind.{Kind}
 use Rattle.dip_names.specs.declared.names.Kind.TheVariants.{Army, Fleet}
 use Rattle.dip_names.specs.declared.names.Place.{Place}
-use Rattle.dip_names.specs.declared.names.Unit.{Unit as Piece}
+use Rattle.dip_names.specs.declared.names.Unit.{Unit as AUnit}
 use Rattle.dip_board.specs.declared.boards.Season.{Season}
 use Rattle.dip_board.specs.declared.boards.Season.TheVariants.{SpringMoves, SpringRetreats, FallMoves, FallRetreats, Winter}
 use Rattle.dip_chart.specs.Charts.{Chart, IsMap, province, is_army_next}
 use Rattle.dip_board.specs.Boards.{Position}
 use Rattle.dip_orders.specs.Lawful.{IsLawful, IsAllowed, Reaches}
-use Rattle.dip_orders.specs.Tests.{is_movement, is_retreat, is_adjustment, may_convoy, may_march}
+use Rattle.dip_orders.specs.Conditions.{is_movement, is_retreat, is_adjustment, may_convoy, may_march}
 use Rattle.dip_names.specs.Kinds.{is_kind, is_coastal}
 use Rattle.dip_orders.specs.Standing.{is_done_from, is_in_force, are_in_force, is_same_unit, found_order, order_among, standing_orders, units_of, IsOnly}
 use Rattle.dip_orders.specs.declared.placed.Order.{Order}
@@ -59,7 +59,7 @@ kind_itself Army = refl
 kind_itself Fleet = refl
 
 -- two units that the test calls one are one
-same_unit : (u v : Piece) → is_same_unit u v ≡ true → u ≡ v
+same_unit : (u v : AUnit) → is_same_unit u v ≡ true → u ≡ v
 same_unit u v h =
     let (power, rest) = and_parts (u.power == v.power) _ h in
     let (kind, place) = and_parts (is_kind u.kind v.kind) _ rest in
@@ -71,25 +71,25 @@ same_unit u v h =
     let parts : record { power = u.power; kind = u.kind; place = record { prov = u.place.prov; coast = u.place.coast } } ≡ record { power = v.power; kind = v.kind; place = record { prov = v.place.prov; coast = v.place.coast } } = rw (e1, e2, e3, e4) refl in
     parts
 
-unit_itself : (u : Piece) → is_same_unit u u ≡ true
+unit_itself : (u : AUnit) → is_same_unit u u ≡ true
 unit_itself u = rw (kind_itself u.kind) (grind arith)
 
 -- what is found for a unit is in force where it stands
-found_in_force : (pending : List PlacedOrder) (u : Piece) (found : Option PlacedOrder) → found_order pending u ≡ found → is_done_from u.place.prov (unwrap_or (option_map (λ o. o.order) found) Hold) ≡ true
+found_in_force : (pending : List PlacedOrder) (u : AUnit) (found : Option PlacedOrder) → found_order pending u ≡ found → is_done_from u.place.prov (unwrap_or (option_map (λ o. o.order) found) Hold) ≡ true
 found_in_force pending u None h = refl
 found_in_force pending u (Some o) h =
     let (same, force) = and_parts (is_same_unit o.unit u) (is_in_force o) (find_passes _ pending o h) in
     subst (λ v. is_done_from v.place.prov o.order ≡ true) (same_unit o.unit u same) force
 
 -- every order that stands is in force
-pub orders_in_force : (pending : List PlacedOrder) (us : List Piece) → are_in_force (map (order_among pending) us) ≡ true
+pub orders_in_force : (pending : List PlacedOrder) (us : List AUnit) → are_in_force (map (order_among pending) us) ≡ true
 orders_in_force pending [] = refl
 orders_in_force pending (u ∷ us) = and_from _ _ (found_in_force pending u (found_order pending u) refl) (orders_in_force pending us)
 
 pub standing_in_force : (b : Position) (pending : List PlacedOrder) → are_in_force (standing_orders b pending) ≡ true
 standing_in_force b pending = orders_in_force pending b.units
 
-units_of_all : (pending : List PlacedOrder) (us : List Piece) → units_of (map (order_among pending) us) ≡ us
+units_of_all : (pending : List PlacedOrder) (us : List AUnit) → units_of (map (order_among pending) us) ≡ us
 units_of_all pending [] = refl
 units_of_all pending (u ∷ us) = ap (λ vs. u ∷ vs) (units_of_all pending us)
 
@@ -149,7 +149,7 @@ no_winter_moves FallMoves f g = absurd (cc)
 no_winter_moves FallRetreats f g = absurd (cc)
 no_winter_moves Winter f g = absurd (cc)
 
-allowed_in_force : (m : Chart) → IsMap m → (b : Position) (power : ℕ) (pending : List PlacedOrder) (u : Piece) (o : Order) → is_movement b.phase.season ≡ true → IsAllowed m b power pending u o → is_done_from u.place.prov o ≡ true
+allowed_in_force : (m : Chart) → IsMap m → (b : Position) (power : ℕ) (pending : List PlacedOrder) (u : AUnit) (o : Order) → is_movement b.phase.season ≡ true → IsAllowed m b power pending u o → is_done_from u.place.prov o ≡ true
 allowed_in_force m laws b power pending u Hold now h = refl
 allowed_in_force m laws b power pending u (Move to via) now h = rw (neither to.prov u.place.prov (reach_away m laws u.kind u.place to via h.1.1)) refl
 allowed_in_force m laws b power pending u (SupportHold at) now h = refl

@@ -6,7 +6,7 @@ use Rattle.std.proofs.lemmas.Bool.{cases_Bool, eqb-true}
 use Rattle.dip_names.specs.declared.names.Kind.{Kind}
 use Rattle.dip_names.specs.declared.names.Kind.TheVariants.{Army, Fleet}
 use Rattle.dip_names.specs.declared.names.Place.{Place}
-use Rattle.dip_names.specs.declared.names.Unit.{Unit as Piece}
+use Rattle.dip_names.specs.declared.names.Unit.{Unit as AUnit}
 use Rattle.dip_board.specs.declared.boards.Dislodged.{Dislodged}
 use Rattle.dip_chart.specs.Charts.{Chart, province, army_next, fleet_next, is_army_next, coast_of, prov_of}
 use Rattle.dip_board.specs.Boards.{Position}
@@ -18,9 +18,9 @@ use Rattle.dip_forms.specs.Forms.{spots_of}
 use Rattle.dip_orders.specs.Checks.{Check, must, outcome}
 use Rattle.dip_orders.specs.Retreats.{is_open, next_places, on_foot}
 use Rattle.dip_orders.specs.Rules.{unit_checks, sail_checks, move_checks, move_place, other_checks, site_checks, site, unit_of, the_unit, dislodged_of, the_dislodged, retreat_checks, own_checks, order_in, answer}
-use Rattle.dip_orders.specs.Steps.{need, prov_at, checked_unit, sail_to, go_to, checked_other, site_at, placed, in_phase, hold_order, move_order, support_hold_order, support_move_order, convoy_order, carrier, build_order, remove_order, checked_dislodged, leave_to, retreat_order, disband_order}
+use Rattle.dip_orders.specs.Checking.{need, prov_at, checked_unit, sail_to, go_to, checked_other, site_at, order_steps, in_phase, hold_order, move_order, support_hold_order, support_move_order, convoy_order, carrier, build_order, remove_order, checked_dislodged, leave_to, retreat_order, disband_order}
 use Rattle.dip_names.specs.Results.{◌>>=◌}
-use Rattle.dip_orders.specs.Tests.{is_in_phase, is_on_map, prov_named, no_place, no_unit, no_dislodged, army_place, other_at, knows_coast, first_in, count_in, named_in, place_in, may_convoy, may_march}
+use Rattle.dip_orders.specs.Conditions.{is_in_phase, is_on_map, prov_named, no_place, no_unit, no_dislodged, army_place, other_at, knows_coast, first_in, count_in, named_in, place_in, may_convoy, may_march}
 use Rattle.dip_names.specs.Kinds.{is_kind, is_sea}
 use Rattle.dip_orders.specs.declared.faults.OrderFault.{OrderFault}
 use Rattle.dip_orders.specs.declared.faults.OrderFault.TheVariants.{UnknownProvince, WrongKind, OutOfReach, CoastNeeded, WrongCoast, NoSuchUnit, NoConvoyThere, NotInThisPhase, NoSuchRetreat}
@@ -29,29 +29,29 @@ use Rattle.dip_orders.specs.declared.placed.PlacedOrder.{PlacedOrder}
 use Rattle.dip_orders.proofs.RetreatLaws.{first_open, count_open, named_open}
 use Rattle.dip_orders.proofs.CheckLaws.{Comes, if_step, need_step, need_last, found_step}
 
-unit_tests : {B : Type 0} (k c : Bool) (x : Piece) (f : Piece → Result B OrderFault) (cs : List Check) (y : B) → f x ≡ outcome cs y
+unit_tests : {B : Type 0} (k c : Bool) (x : AUnit) (f : AUnit → Result B OrderFault) (cs : List Check) (y : B) → f x ≡ outcome cs y
     → ((need k WrongKind x >>= (λ kept. need c WrongCoast kept)) >>= f) ≡ outcome (must k WrongKind ∷ must c WrongCoast ∷ cs) y
 unit_tests true true x f cs y h = h
 unit_tests true false x f cs y h = refl
 unit_tests false c x f cs y h = refl
 
 -- the ordered unit, and what is behind it
-unit_step : {B : Type 0} (m : Chart) (found : Option Piece) (u : Mention) (f : Piece → Result B OrderFault) (cs : List Check) (y : B) → Comes (f (unwrap_or found no_unit)) cs y
+unit_step : {B : Type 0} (m : Chart) (found : Option AUnit) (u : Mention) (f : AUnit → Result B OrderFault) (cs : List Check) (y : B) → Comes (f (unwrap_or found no_unit)) cs y
     → Comes (checked_unit m found u (prov_named m u.at) >>= f) (unit_checks m found u ++ cs) y
 unit_step m None u f cs y h = record { is = refl }
 unit_step m (Some x) u f cs y h = record { is = unit_tests (is_kind x.kind u.kind) (knows_coast m (prov_named m u.at) u.at.coast) x f cs y h.is }
 
-other_tests : {B : Type 0} (c : Bool) (x : Piece) (f : Piece → Result B OrderFault) (cs : List Check) (y : B) → f x ≡ outcome cs y
+other_tests : {B : Type 0} (c : Bool) (x : AUnit) (f : AUnit → Result B OrderFault) (cs : List Check) (y : B) → f x ≡ outcome cs y
     → (need c WrongCoast x >>= f) ≡ outcome (must c WrongCoast ∷ cs) y
 other_tests true x f cs y h = h
 other_tests false x f cs y h = refl
 
 -- the other unit, and what is behind it
-other_step : {B : Type 0} (m : Chart) (b : Position) (k : Kind) (p : ℕ) (coast : Option (List ℕ)) (f : Piece → Result B OrderFault) (cs : List Check) (y : B)
+other_step : {B : Type 0} (m : Chart) (b : Position) (k : Kind) (p : ℕ) (coast : Option (List ℕ)) (f : AUnit → Result B OrderFault) (cs : List Check) (y : B)
     → Comes (f (unwrap_or (other_at b k p) no_unit)) cs y → Comes (checked_other m b k p coast >>= f) (other_checks m b k p coast ++ cs) y
 other_step m b k p coast f cs y h = record { is = go (other_at b k p) h.is }
   where
-    go : (o : Option Piece) → f (unwrap_or o no_unit) ≡ outcome cs y
+    go : (o : Option AUnit) → f (unwrap_or o no_unit) ≡ outcome cs y
         → ((ok_or o NoSuchUnit >>= (λ unit. need (knows_coast m p coast) WrongCoast unit)) >>= f) ≡ outcome (must (is_some o) NoSuchUnit ∷ must (knows_coast m p coast) WrongCoast ∷ cs) y
     go None h = refl
     go (Some x) h = other_tests (knows_coast m p coast) x f cs y h
@@ -96,7 +96,7 @@ code_step : {B : Type 0} (m : Chart) (s : Spot) (f : ℕ → Result B OrderFault
     → Comes (prov_at m s >>= f) (must (is_on_map m s) UnknownProvince ∷ cs) y
 code_step m s f cs y h = found_step (prov_of m s.code) UnknownProvince (length m.provinces) f cs y h
 
-carrier_step : {B : Type 0} (m : Chart) (x : Piece) (f : Piece → Result B OrderFault) (cs : List Check) (y : B) → Comes (f x) cs y
+carrier_step : {B : Type 0} (m : Chart) (x : AUnit) (f : AUnit → Result B OrderFault) (cs : List Check) (y : B) → Comes (f x) cs y
     → Comes (carrier m x >>= f) (must (is_kind x.kind Fleet) WrongKind ∷ must (is_sea (province m x.place.prov).terrain) NoConvoyThere ∷ cs) y
 carrier_step m x f cs y h = record { is = go (is_kind x.kind Fleet) }
   where
@@ -239,11 +239,11 @@ retreat_steps m b power pending u to =
 
 -- the reader's answer is that of the rules
 pub steps_law : (m : Chart) (b : Position) (power : ℕ) (pending : List PlacedOrder) (d : Draft) → in_phase m b power pending d ≡ answer m b power pending d
-steps_law m b power pending d = if_step (is_in_phase d b.phase.season) NotInThisPhase (placed m b power pending d)
+steps_law m b power pending d = if_step (is_in_phase d b.phase.season) NotInThisPhase (order_steps m b power pending d)
     (map (λ s. must (is_on_map m s) UnknownProvince) (spots_of d) ++ own_checks m b power pending d) (order_in m b power d) (form_steps m b power pending d)
   where
     form_steps : (m : Chart) (b : Position) (power : ℕ) (pending : List PlacedOrder) (d : Draft)
-        → placed m b power pending d ≡ outcome (map (λ s. must (is_on_map m s) UnknownProvince) (spots_of d) ++ own_checks m b power pending d) (order_in m b power d)
+        → order_steps m b power pending d ≡ outcome (map (λ s. must (is_on_map m s) UnknownProvince) (spots_of d) ++ own_checks m b power pending d) (order_in m b power d)
     form_steps m b power pending (HoldForm u) = (hold_steps m b power pending u).is
     form_steps m b power pending (MoveForm u to via) = (move_steps m b power pending u to via).is
     form_steps m b power pending (SupportHold u other held) = (support_hold_steps m b power pending u other held).is

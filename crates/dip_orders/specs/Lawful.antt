@@ -3,13 +3,13 @@ use Rattle.std.specs.Prelude.{◌≡◌, ℕ, ◌<◌, ◌==◌, not, Bool, true
 use Rattle.dip_names.specs.declared.names.Kind.{Kind}
 use Rattle.dip_names.specs.declared.names.Kind.TheVariants.{Army, Fleet}
 use Rattle.dip_names.specs.declared.names.Place.{Place}
-use Rattle.dip_names.specs.declared.names.Unit.{Unit as Piece}
+use Rattle.dip_names.specs.declared.names.Unit.{Unit as AUnit}
 use Rattle.dip_board.specs.declared.boards.Dislodged.{Dislodged}
 use Rattle.dip_chart.specs.Charts.{Chart, province, is_fleet_next, is_fleet_place}
 use Rattle.dip_board.specs.Boards.{Position}
 use Rattle.dip_orders.specs.Allowances.{builds_due, removals_due}
 use Rattle.dip_orders.specs.Retreats.{is_place_among, retreats_of}
-use Rattle.dip_orders.specs.Tests.{is_movement, is_retreat, is_adjustment, army_place, unit_at, dislodged_at, other_at, could_move, could_come, may_convoy, may_march, may_build, builds_elsewhere, removals_elsewhere}
+use Rattle.dip_orders.specs.Conditions.{is_movement, is_retreat, is_adjustment, army_place, unit_at, dislodged_at, other_at, could_move, could_come, may_convoy, may_march, may_build, builds_elsewhere, removals_elsewhere}
 use Rattle.dip_names.specs.Kinds.{is_sea}
 use Rattle.dip_orders.specs.declared.placed.Other.{Other}
 use Rattle.dip_orders.specs.declared.placed.Order.{Order}
@@ -22,43 +22,43 @@ Reaches m Army a to via = (to ≡ army_place to.prov) × ((if via then may_convo
 Reaches m Fleet a to via = (not via ≡ true) × (is_fleet_next m a to ≡ true)
 
 -- the power's standing unit
-pub record Stands (b : Position) (power : ℕ) (u : Piece) : Type 0 where
+pub record Stands (b : Position) (power : ℕ) (u : AUnit) : Type 0 where
   pub there : unit_at b power u.place.prov ≡ Some u
 
 -- the power's dislodged unit
-pub record IsDislodged (b : Position) (power : ℕ) (d : Dislodged) (u : Piece) : Type 0 where
+pub record IsDislodged (b : Position) (power : ℕ) (d : Dislodged) (u : AUnit) : Type 0 where
   pub there : dislodged_at b power u.place.prov ≡ Some d
   pub unit : d.unit ≡ u
 
 -- a unit of that kind stands in that province
-pub record IsThere (b : Position) (at : Other) (x : Piece) : Type 0 where
+pub record IsThere (b : Position) (at : Other) (x : AUnit) : Type 0 where
   pub there : other_at b at.kind at.prov ≡ Some x
 
 -- a support of a unit that stays: it is there, and the supporter could move to it
-pub record MayHold (m : Chart) (b : Position) (u : Piece) (at : Other) : Type 0 where
-  pub other : Piece
+pub record MayHold (m : Chart) (b : Position) (u : AUnit) (at : Other) : Type 0 where
+  pub other : AUnit
   pub there : IsThere b at other
   pub reach : could_move m u.kind u.place at.prov ≡ true
 
 -- a support of a move: the unit is there and isn't the supporter, which could move to where the unit could come
-pub record MayAid (m : Chart) (b : Position) (u : Piece) (at : Other) (to : ℕ) : Type 0 where
-  pub other : Piece
+pub record MayAid (m : Chart) (b : Position) (u : AUnit) (at : Other) (to : ℕ) : Type 0 where
+  pub other : AUnit
   pub there : IsThere b at other
   pub apart : (other.place.prov == u.place.prov) ≡ false
   pub reach : could_move m u.kind u.place to ≡ true
   pub comes : could_come m other to ≡ true
 
 -- a convoy: a fleet at sea, for an army that is there, between two coasts
-pub record MayCarry (m : Chart) (b : Position) (u : Piece) (at : Other) (to : ℕ) : Type 0 where
+pub record MayCarry (m : Chart) (b : Position) (u : AUnit) (at : Other) (to : ℕ) : Type 0 where
   pub fleet : u.kind ≡ Fleet
   pub sea : is_sea (province m u.place.prov).terrain ≡ true
   pub army : at.kind ≡ Army
-  pub other : Piece
+  pub other : AUnit
   pub there : IsThere b at other
   pub coasts : may_convoy m at.prov to ≡ true
 
 -- a retreat: the unit was dislodged, and the place is one of its retreats
-pub record MayLeave (m : Chart) (b : Position) (power : ℕ) (u : Piece) (to : Place) : Type 0 where
+pub record MayLeave (m : Chart) (b : Position) (power : ℕ) (u : AUnit) (to : Place) : Type 0 where
   pub dislodged : Dislodged
   pub there : IsDislodged b power dislodged u
   pub retreat : is_place_among to (retreats_of m b dislodged) ≡ true
@@ -69,19 +69,19 @@ IsSite m Army a = a ≡ army_place a.prov
 IsSite m Fleet a = is_fleet_place m a ≡ true
 
 -- a build: a unit of the power, in a home centre where it may be built, and fewer builds stand elsewhere than are due
-pub record MayCome (m : Chart) (b : Position) (builder : ℕ) (pending : List PlacedOrder) (u : Piece) : Type 0 where
+pub record MayCome (m : Chart) (b : Position) (builder : ℕ) (pending : List PlacedOrder) (u : AUnit) : Type 0 where
   pub power : u.power ≡ builder
   pub home : may_build m b builder u.kind u.place.prov ≡ true
   pub place : IsSite m u.kind u.place
   pub due : builds_elsewhere pending u.place.prov < builds_due m b builder
 
 -- a removal: the unit is there, and fewer removals stand elsewhere than are due
-pub record MayGo (m : Chart) (b : Position) (power : ℕ) (pending : List PlacedOrder) (u : Piece) : Type 0 where
+pub record MayGo (m : Chart) (b : Position) (power : ℕ) (pending : List PlacedOrder) (u : AUnit) : Type 0 where
   pub unit : Stands b power u
   pub due : removals_elsewhere pending u.place.prov < removals_due b power
 
 -- a unit is allowed what it is to do
-abbrev pub IsAllowed : Chart → Position → ℕ → List PlacedOrder → Piece → Order → Type 0
+abbrev pub IsAllowed : Chart → Position → ℕ → List PlacedOrder → AUnit → Order → Type 0
 IsAllowed m b power pending u Hold = (is_movement b.phase.season ≡ true) × Stands b power u
 IsAllowed m b power pending u (Move to via) = (is_movement b.phase.season ≡ true) × (Stands b power u × Reaches m u.kind u.place to via)
 IsAllowed m b power pending u (SupportHold at) = (is_movement b.phase.season ≡ true) × (Stands b power u × MayHold m b u at)

@@ -3,7 +3,7 @@ use Rattle.std.specs.Prelude.{◌≡◌, ◌≢◌, ◌≤◌, ◌+◌, ℕ, pos
 use Rattle.dip_names.specs.declared.names.Kind.{Kind}
 use Rattle.dip_names.specs.declared.names.Kind.TheVariants.{Army, Fleet}
 use Rattle.dip_names.specs.declared.names.Place.{Place}
-use Rattle.dip_names.specs.declared.names.Unit.{Unit as Piece}
+use Rattle.dip_names.specs.declared.names.Unit.{Unit as AUnit}
 use Rattle.dip_chart.specs.Charts.{Chart, IsMap, are_provs_single, home, is_army_next, is_fleet_next, province}
 use Rattle.dip_board.specs.declared.boards.Dislodged.{Dislodged}
 use Rattle.dip_board.specs.declared.boards.Season.{Season}
@@ -14,7 +14,7 @@ use Rattle.dip_board.specs.Boards.{centres_owned, owner, units_counted}
 use Rattle.dip_orders.specs.Lawful.{IsLawful}
 use Rattle.dip_orders.specs.Reading.{order_of}
 use Rattle.dip_orders.specs.Standing.{IsOnly, is_in_force, are_in_force, standing_orders, units_of}
-use Rattle.dip_orders.specs.Tests.{is_movement}
+use Rattle.dip_orders.specs.Conditions.{is_movement}
 use Rattle.dip_orders.specs.Texts.{order_text}
 use Rattle.dip_orders.specs.declared.placed.Order.{Order}
 use Rattle.dip_orders.specs.declared.placed.Order.TheVariants.{Hold, Move, SupportHold, SupportMove, Convoy, Retreat, Disband, Build, Remove}
@@ -80,7 +80,7 @@ IsGiven m b power pending o = (line : List ℕ) × (order_of m b power pending l
 
 -- no unit stands in the province
 abbrev pub IsEmpty : Position → ℕ → Type 0
-IsEmpty b p = (u : Piece) → Contains b.units u → u.place.prov ≢ p
+IsEmpty b p = (u : AUnit) → Contains b.units u → u.place.prov ≢ p
 
 -- a home centre of the power that it owns, in which no unit stands, and from which none was dislodged
 pub record IsVacantHome (m : Chart) (b : Position) (power p : ℕ) : Type 0 where
@@ -114,21 +114,21 @@ RemovalsAreSurplus = (m : Chart) (b : Position) (power n : ℕ) → allowance m 
 -- no dislodged unit retreats to where its attacker came from
 abbrev pub NoneRetreatsToItsAttacker : Type 0
 NoneRetreatsToItsAttacker =
-    (m : Chart) (b : Position) (power : ℕ) (pending : List PlacedOrder) (u : Piece) (to : Place) (d : Dislodged)
+    (m : Chart) (b : Position) (power : ℕ) (pending : List PlacedOrder) (u : AUnit) (to : Place) (d : Dislodged)
     → IsMap m → IsOf m b → IsGiven m b power pending (record { unit = u; order = Retreat to })
     → Contains b.dislodged d → d.unit ≡ u → d.origin ≢ Some to.prov
 
 -- a retreat leads to where no unit stands, and no standoff was
 abbrev pub RetreatsAreToVacantProvinces : Type 0
 RetreatsAreToVacantProvinces =
-    (m : Chart) (b : Position) (power : ℕ) (pending : List PlacedOrder) (u : Piece) (to : Place)
+    (m : Chart) (b : Position) (power : ℕ) (pending : List PlacedOrder) (u : AUnit) (to : Place)
     → IsMap m → IsOf m b → IsGiven m b power pending (record { unit = u; order = Retreat to })
     → IsEmpty b to.prov × (Contains b.standoff to.prov → ⊥)
 
 -- a build is in a vacant home centre of the power
 abbrev pub BuildsAreInVacantHomes : Type 0
 BuildsAreInVacantHomes =
-    (m : Chart) (b : Position) (power : ℕ) (pending : List PlacedOrder) (u : Piece)
+    (m : Chart) (b : Position) (power : ℕ) (pending : List PlacedOrder) (u : AUnit)
     → IsMap m → IsOf m b → IsGiven m b power pending (record { unit = u; order = Build })
     → (u.power ≡ power) × IsVacantHome m b power u.place.prov
 
@@ -138,7 +138,7 @@ IsNeighbour m Army a to = is_army_next m a.prov to.prov ≡ true
 IsNeighbour m Fleet a to = is_fleet_next m a to ≡ true
 
 -- a unit could itself be ordered to move to the province, without a convoy
-pub record CouldMove (m : Chart) (b : Position) (power : ℕ) (pending : List PlacedOrder) (u : Piece) (p : ℕ) : Type 0 where
+pub record CouldMove (m : Chart) (b : Position) (power : ℕ) (pending : List PlacedOrder) (u : AUnit) (p : ℕ) : Type 0 where
   pub to : Place
   pub there : to.prov ≡ p
   pub next : IsNeighbour m u.kind u.place to
@@ -147,14 +147,14 @@ pub record CouldMove (m : Chart) (b : Position) (power : ℕ) (pending : List Pl
 -- a unit that supports another one where it stays could itself move there
 abbrev pub HoldersCouldMove : Type 0
 HoldersCouldMove =
-    (m : Chart) (b : Position) (power : ℕ) (pending : List PlacedOrder) (u : Piece) (at : Other)
+    (m : Chart) (b : Position) (power : ℕ) (pending : List PlacedOrder) (u : AUnit) (at : Other)
     → IsMap m → IsOf m b → IsGiven m b power pending (record { unit = u; order = SupportHold at })
     → CouldMove m b power pending u at.prov
 
 -- a unit that supports a move could itself move to where it leads
 abbrev pub AidersCouldMove : Type 0
 AidersCouldMove =
-    (m : Chart) (b : Position) (power : ℕ) (pending : List PlacedOrder) (u : Piece) (at : Other) (to : ℕ)
+    (m : Chart) (b : Position) (power : ℕ) (pending : List PlacedOrder) (u : AUnit) (at : Other) (to : ℕ)
     → IsMap m → IsOf m b → IsGiven m b power pending (record { unit = u; order = SupportMove at to })
     → CouldMove m b power pending u to
 

@@ -2,10 +2,10 @@ pub mod Faults
 pub mod Retreats
 pub mod Allowances
 pub mod Checks
-pub mod Tests
+pub mod Conditions
 pub mod Rules
 pub mod Lawful
-pub mod Steps
+pub mod Checking
 pub mod Texts
 pub mod Reading
 pub mod Standing

@@ -4,7 +4,7 @@ use Rattle.std.specs.Option.{unwrap_or}
 use Rattle.dip_names.specs.declared.names.Kind.{Kind}
 use Rattle.dip_names.specs.declared.names.Kind.TheVariants.{Army, Fleet}
 use Rattle.dip_names.specs.declared.names.Place.{Place}
-use Rattle.dip_names.specs.declared.names.Unit.{Unit as Piece}
+use Rattle.dip_names.specs.declared.names.Unit.{Unit as AUnit}
 use Rattle.dip_board.specs.declared.boards.Dislodged.{Dislodged}
 use Rattle.dip_chart.specs.Charts.{Chart, province, fleet_next, coast_of}
 use Rattle.dip_board.specs.Boards.{Position}
@@ -15,7 +15,7 @@ use Rattle.dip_forms.specs.declared.drafts.Draft.TheVariants.{Hold, Move, Suppor
 use Rattle.dip_orders.specs.Allowances.{builds_due, removals_due}
 use Rattle.dip_orders.specs.Checks.{Check, must, outcome}
 use Rattle.dip_orders.specs.Retreats.{retreats_of}
-use Rattle.dip_orders.specs.Tests.{is_in_phase, is_on_map, prov_named, no_unit, no_dislodged, army_place, unit_at, dislodged_at, other_at, knows_coast, first_in, has_coast_in, is_settled_in, place_in, could_move, may_convoy, may_march, could_come, may_build, builds_elsewhere, removals_elsewhere}
+use Rattle.dip_orders.specs.Conditions.{is_in_phase, is_on_map, prov_named, no_unit, no_dislodged, army_place, unit_at, dislodged_at, other_at, knows_coast, first_in, has_coast_in, is_settled_in, place_in, could_move, may_convoy, may_march, could_come, may_build, builds_elsewhere, removals_elsewhere}
 use Rattle.dip_names.specs.Kinds.{is_kind, is_sea}
 use Rattle.dip_orders.specs.declared.faults.OrderFault.{OrderFault}
 use Rattle.dip_orders.specs.declared.faults.OrderFault.TheVariants.{CannotBeRead, UnknownProvince, NoUnitThere, WrongKind, OutOfReach, CoastNeeded, WrongCoast, NoSuchUnit, SupportOutOfReach, NoConvoyThere, NotInThisPhase, NoBuildThere, AllowanceUsed, NoSuchRetreat}
@@ -27,7 +27,7 @@ abbrev pub form_checks : Chart → Position → Draft → List Check
 form_checks m b d = must (is_in_phase d b.phase.season) NotInThisPhase ∷ map (λ s. must (is_on_map m s) UnknownProvince) (spots_of d)
 
 -- the ordered unit is there and of the kind that is written, and the coast that is written is one of its province
-abbrev pub unit_checks : Chart → Option Piece → Mention → List Check
+abbrev pub unit_checks : Chart → Option AUnit → Mention → List Check
 unit_checks m found u =
     must (is_some found) NoUnitThere
     ∷ must (is_kind (unwrap_or found no_unit).kind u.kind) WrongKind
@@ -67,7 +67,7 @@ other_checks m b k p coast =
     ∷ []
 
 -- a support of a move to q by another unit: the supporter could move there, the other could come there, and they are two
-abbrev pub is_supportable : Chart → Piece → Piece → ℕ → Bool
+abbrev pub is_supportable : Chart → AUnit → AUnit → ℕ → Bool
 is_supportable m u other q = could_move m u.kind u.place q && (not (other.place.prov == u.place.prov) && could_come m other q)
 
 -- a retreat to the province q
@@ -88,10 +88,10 @@ site m p None = army_place p
 site m p (Some name) = record { prov = p; coast = unwrap_or (coast_of m p name) 0 }
 
 -- the unit that a line orders, where it is one on the board
-abbrev pub unit_of : Chart → Position → ℕ → Mention → Option Piece
+abbrev pub unit_of : Chart → Position → ℕ → Mention → Option AUnit
 unit_of m b power u = unit_at b power (prov_named m u.at)
 
-abbrev pub the_unit : Chart → Position → ℕ → Mention → Piece
+abbrev pub the_unit : Chart → Position → ℕ → Mention → AUnit
 the_unit m b power u = unwrap_or (unit_of m b power u) no_unit
 
 -- the dislodged unit that it orders
@@ -106,7 +106,7 @@ abbrev pub retreats_for : Chart → Position → ℕ → Mention → List Place
 retreats_for m b power u = retreats_of m b (the_dislodged m b power u)
 
 -- the unit that a support names
-abbrev pub the_other : Chart → Position → Mention → Piece
+abbrev pub the_other : Chart → Position → Mention → AUnit
 the_other m b other = unwrap_or (other_at b other.kind (prov_named m other.at)) no_unit
 
 -- the checks that belong to a form

@@ -2,7 +2,7 @@
 use Rattle.std.specs.Prelude.{◌≡◌, ℕ, ◌==◌, ◌&&◌, not, Bool, true, false, Contains, List, Option, map, find, option_map}
 use Rattle.std.specs.List.{list_all}
 use Rattle.std.specs.Option.{unwrap_or}
-use Rattle.dip_names.specs.declared.names.Unit.{Unit as Piece}
+use Rattle.dip_names.specs.declared.names.Unit.{Unit as AUnit}
 use Rattle.dip_board.specs.Boards.{Position}
 use Rattle.dip_names.specs.Kinds.{is_kind}
 use Rattle.dip_orders.specs.declared.placed.Order.{Order}
@@ -29,15 +29,15 @@ abbrev pub are_in_force : List PlacedOrder → Bool
 are_in_force orders = list_all is_in_force orders
 
 -- two units are one: a power's, of one kind, at one place
-abbrev pub is_same_unit : Piece → Piece → Bool
+abbrev pub is_same_unit : AUnit → AUnit → Bool
 is_same_unit u v = (u.power == v.power) && (is_kind u.kind v.kind && ((u.place.prov == v.place.prov) && (u.place.coast == v.place.coast)))
 
 -- the first order in force that is the unit's own
-abbrev pub found_order : List PlacedOrder → Piece → Option PlacedOrder
+abbrev pub found_order : List PlacedOrder → AUnit → Option PlacedOrder
 found_order pending u = find (λ o. is_same_unit o.unit u && is_in_force o) pending
 
 -- the order of a unit: the first in force that is its own, else it holds
-abbrev pub order_among : List PlacedOrder → Piece → PlacedOrder
+abbrev pub order_among : List PlacedOrder → AUnit → PlacedOrder
 order_among pending u = record { unit = u; order = unwrap_or (option_map (λ o. o.order) (found_order pending u)) Hold }
 
 -- the orders that stand: one for each unit, in the board's order
@@ -45,7 +45,7 @@ abbrev pub standing_orders : Position → List PlacedOrder → List PlacedOrder
 standing_orders b pending = map (order_among pending) b.units
 
 -- whose orders they are
-abbrev pub units_of : List PlacedOrder → List Piece
+abbrev pub units_of : List PlacedOrder → List AUnit
 units_of orders = map (λ o. o.unit) orders
 
 -- no other of the orders is its unit's

@@ -2,8 +2,8 @@
 ghost use Rattle.std.specs.Prelude.{◌≡◌, ◌==◌, ◌&&◌, not, count_by};
 ghost use Rattle.std.specs.List.{list_any};
 ghost use Rattle.dip_chart.specs.Charts.{home};
-ghost use Rattle.dip_orders.specs.Steps.{site_at, build_order, remove_order};
-ghost use Rattle.dip_orders.specs.Tests.{may_build, is_build, is_remove, builds_elsewhere, removals_elsewhere};
+ghost use Rattle.dip_orders.specs.Checking.{site_at, build_order, remove_order};
+ghost use Rattle.dip_orders.specs.Conditions.{may_build, is_build, is_remove, builds_elsewhere, removals_elsewhere};
 
 use crate::allowances::{builds_due, removals_due};
 use crate::faults::OrderFault;

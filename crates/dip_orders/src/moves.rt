@@ -2,8 +2,8 @@
 ghost use Rattle.std.specs.Prelude.{◌≡◌, ◌==◌, ◌&&◌};
 ghost use Rattle.std.specs.Str.{bytes_eq};
 ghost use Rattle.dip_chart.specs.Charts.{province, shore};
-ghost use Rattle.dip_orders.specs.Steps.{march_to, coast_to, sail_to, go_to, hold_order, move_order};
-ghost use Rattle.dip_orders.specs.Tests.{may_convoy, may_march, first_in, count_in, named_in, could_move, could_come};
+ghost use Rattle.dip_orders.specs.Checking.{march_to, coast_to, sail_to, go_to, hold_order, move_order};
+ghost use Rattle.dip_orders.specs.Conditions.{may_convoy, may_march, first_in, count_in, named_in, could_move, could_come};
 
 use crate::faults::OrderFault;
 use crate::placed::{Order, PlacedOrder};

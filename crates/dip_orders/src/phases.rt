@@ -1,6 +1,6 @@
 //! Which orders belong to which phases.
 ghost use Rattle.std.specs.Prelude.{◌≡◌};
-ghost use Rattle.dip_orders.specs.Tests.{is_movement, is_retreat, is_adjustment, is_in_phase};
+ghost use Rattle.dip_orders.specs.Conditions.{is_movement, is_retreat, is_adjustment, is_in_phase};
 
 use dip_board::Season;
 use dip_forms::Draft;

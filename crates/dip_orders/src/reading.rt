@@ -2,7 +2,7 @@
 ghost use Rattle.std.specs.Prelude.{◌≡◌};
 ghost use Rattle.dip_orders.specs.Reading.{order_of};
 ghost use Rattle.dip_orders.specs.Rules.{IsReading};
-ghost use Rattle.dip_orders.specs.Steps.{in_phase, placed};
+ghost use Rattle.dip_orders.specs.Checking.{in_phase, order_steps};
 
 use crate::builds::{build_of, remove_of};
 use crate::faults::OrderFault;
@@ -23,7 +23,7 @@ fn placed_of(
     pending: &[PlacedOrder],
     draft: Draft,
 ) -> Result<PlacedOrder, OrderFault>
-    ensures { result ≡ placed map.now board.now power pending.now draft }
+    ensures { result ≡ order_steps map.now board.now power pending.now draft }
 {
     match draft {
         Draft::Hold { unit } => hold_of(map, board, power, unit),

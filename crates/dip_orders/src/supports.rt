@@ -2,7 +2,7 @@
 ghost use Rattle.std.specs.Prelude.{◌≡◌};
 ghost use Rattle.dip_chart.specs.Charts.{province};
 ghost use Rattle.dip_orders.specs.Rules.{is_supportable};
-ghost use Rattle.dip_orders.specs.Steps.{carrier, convoy_order, support_hold_order, support_move_order};
+ghost use Rattle.dip_orders.specs.Checking.{carrier, convoy_order, support_hold_order, support_move_order};
 
 use crate::faults::OrderFault;
 use crate::moves::{could_come, could_move, may_convoy};

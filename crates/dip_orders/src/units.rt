@@ -1,7 +1,7 @@
 //! The units that a line names, as they stand on the board.
 ghost use Rattle.std.specs.Prelude.{◌≡◌, ◌==◌, ◌&&◌, find, Some};
-ghost use Rattle.dip_orders.specs.Steps.{prov_at, checked_unit, checked_dislodged, checked_other};
-ghost use Rattle.dip_orders.specs.Tests.{unit_at, dislodged_at, other_at, knows_coast};
+ghost use Rattle.dip_orders.specs.Checking.{prov_at, checked_unit, checked_dislodged, checked_other};
+ghost use Rattle.dip_orders.specs.Conditions.{unit_at, dislodged_at, other_at, knows_coast};
 ghost use Rattle.dip_names.specs.Kinds.{is_kind};
 
 use crate::faults::OrderFault;

@@ -1,6 +1,6 @@
 //! Orders of dislodged units: retreats, and to disband.
 ghost use Rattle.std.specs.Prelude.{◌≡◌};
-ghost use Rattle.dip_orders.specs.Steps.{leave_to, withdraw_to, disband_order, retreat_order};
+ghost use Rattle.dip_orders.specs.Checking.{leave_to, withdraw_to, disband_order, retreat_order};
 
 use crate::faults::OrderFault;
 use crate::moves::sail_to;

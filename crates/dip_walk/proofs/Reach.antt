@@ -5,7 +5,7 @@ use Rattle.std.proofs.lemmas.Bool.Decides.{nat_tests}
 use Rattle.std.proofs.lemmas.List.{drop_more}
 use Rattle.std.specs.List.{list_any}
 use Rattle.dip_walk.specs.Walk.{Walk, at, has_edge, AreLeast}
-use Rattle.dip_walk.specs.Levels.{is_reached, swept, is_quiet, started}
+use Rattle.dip_walk.specs.Levels.{is_reached, sweep_from, is_quiet, levels_at_start}
 
 -- how many vertices have no distance
 abbrev pub unmarked : List ℕ → ℕ
@@ -73,20 +73,20 @@ reached_from dist level d row c far edge same =
 -- one more level
 
 swept_at : (dist : List ℕ) (level i : ℕ) (rs : List (List ℕ)) (k : ℕ) → length dist ≡ i + length rs
-    → at (swept dist level i rs) k ≡ cond (is_reached dist level (at dist (i + k)) (get_or rs k [])) (level + 1) (at dist (i + k))
+    → at (sweep_from dist level i rs) k ≡ cond (is_reached dist level (at dist (i + k)) (get_or rs k [])) (level + 1) (at dist (i + k))
 swept_at dist level i [] k h = rw (none_reached dist level (at dist (i + k)), past dist (i + k) (omega arith))
 swept_at dist level i (r ∷ rs) zero h = let e : i + 0 ≡ i = omega arith in rw e refl
 swept_at dist level i (r ∷ rs) (suc k) h =
     let e : i + suc k ≡ (i + 1) + k = omega arith in
     rw e (swept_at dist level (i + 1) rs k (omega arith))
 
-length-swept : (dist : List ℕ) (level i : ℕ) (rs : List (List ℕ)) → length (swept dist level i rs) ≡ length rs
+length-swept : (dist : List ℕ) (level i : ℕ) (rs : List (List ℕ)) → length (sweep_from dist level i rs) ≡ length rs
 length-swept dist level i [] = refl
 length-swept dist level i (r ∷ rs) = ap suc (length-swept dist level (i + 1) rs)
 
 after : (rows : List (List ℕ)) (dist : List ℕ) (level a : ℕ) → length dist ≡ length rows
-    → ((is_reached dist level (at dist a) (get_or rows a []) ≡ true) × (at (swept dist level 0 rows) a ≡ level + 1))
-    ⊎ ((is_reached dist level (at dist a) (get_or rows a []) ≡ false) × (at (swept dist level 0 rows) a ≡ at dist a))
+    → ((is_reached dist level (at dist a) (get_or rows a []) ≡ true) × (at (sweep_from dist level 0 rows) a ≡ level + 1))
+    ⊎ ((is_reached dist level (at dist a) (get_or rows a []) ≡ false) × (at (sweep_from dist level 0 rows) a ≡ at dist a))
 after rows dist level a same =
     let e : 0 + a ≡ a = omega arith in
     let found = rw e at (swept_at dist level 0 rows a (omega arith)) in
@@ -108,7 +108,7 @@ some_unmarked dist level i (r ∷ rs) h q =
       | inr s ↦ let more = some_unmarked dist level (i + 1) rs (omega arith) (rw s at q) in omega arith
     ])
 
-kept : (dist : List ℕ) (level i : ℕ) (rs : List (List ℕ)) → length dist ≡ i + length rs → level + 1 < 1000 → unmarked (swept dist level i rs) ≤ unmarked (drop i dist)
+kept : (dist : List ℕ) (level i : ℕ) (rs : List (List ℕ)) → length dist ≡ i + length rs → level + 1 < 1000 → unmarked (sweep_from dist level i rs) ≤ unmarked (drop i dist)
 kept dist level i [] h small = omega arith
 kept dist level i (r ∷ rs) h small =
     let cut = drop_more dist i 1000 (omega arith) in
@@ -120,7 +120,7 @@ kept dist level i (r ∷ rs) h small =
       | inr s ↦ rw s (omega arith)
     ])
 
-fewer : (dist : List ℕ) (level i : ℕ) (rs : List (List ℕ)) → length dist ≡ i + length rs → level + 1 < 1000 → is_quiet dist level i rs ≡ false → unmarked (swept dist level i rs) < unmarked (drop i dist)
+fewer : (dist : List ℕ) (level i : ℕ) (rs : List (List ℕ)) → length dist ≡ i + length rs → level + 1 < 1000 → is_quiet dist level i rs ≡ false → unmarked (sweep_from dist level i rs) < unmarked (drop i dist)
 fewer dist level i [] h small q = absurd (false≢true (sym q))
 fewer dist level i (r ∷ rs) h small q =
     let cut = drop_more dist i 1000 (omega arith) in
@@ -138,19 +138,19 @@ fewer dist level i (r ∷ rs) h small q =
 -- a level is kept
 
 step_walk : (rows : List (List ℕ)) (homes : List Bool) (dist : List ℕ) (level a : ℕ) → IsLevel rows homes dist level
-    → at (swept dist level 0 rows) a < 1000 → Walk rows homes a (at (swept dist level 0 rows) a)
+    → at (sweep_from dist level 0 rows) a < 1000 → Walk rows homes a (at (sweep_from dist level 0 rows) a)
 step_walk rows homes dist level a v h =
     elim (after rows dist level a v.count) [
       | inl p ↦
           let (c, edge, same) = reached_by dist level (at dist a) (get_or rows a []) p.0 in
           let inner : Walk rows homes c level = let low : at dist c < 1000 = omega (arith, v.room, v.few) in rw same at (v.walk c low) in
-          let next : at (swept dist level 0 rows) a ≡ suc level = omega (arith, p.1) in
+          let next : at (sweep_from dist level 0 rows) a ≡ suc level = omega (arith, p.1) in
           rw next (c, edge, inner)
       | inr p ↦ let low : at dist a < 1000 = omega (arith, p.1) in rw p.1 (v.walk a low)
     ]
 
 step_near : (rows : List (List ℕ)) (homes : List Bool) (dist : List ℕ) (level a : ℕ) → IsLevel rows homes dist level
-    → at (swept dist level 0 rows) a < 1000 → at (swept dist level 0 rows) a ≤ level + 1
+    → at (sweep_from dist level 0 rows) a < 1000 → at (sweep_from dist level 0 rows) a ≤ level + 1
 step_near rows homes dist level a v h =
     elim (after rows dist level a v.count) [
       | inl p ↦ omega (arith, p.1)
@@ -158,7 +158,7 @@ step_near rows homes dist level a v h =
     ]
 
 step_capped : (rows : List (List ℕ)) (homes : List Bool) (dist : List ℕ) (level a : ℕ) → IsLevel rows homes dist level → level + 1 < 1000
-    → at (swept dist level 0 rows) a ≤ 1000
+    → at (sweep_from dist level 0 rows) a ≤ 1000
 step_capped rows homes dist level a v small =
     elim (after rows dist level a v.count) [
       | inl p ↦ omega (arith, p.1)
@@ -188,7 +188,7 @@ not_farther rows homes dist level a c v edge rest near =
     nat_cases m n = cases_lt m n
 
 step_least : (rows : List (List ℕ)) (homes : List Bool) (dist : List ℕ) (level a m : ℕ) → IsLevel rows homes dist level → level + 1 < 1000 → m ≤ level + 1
-    → Walk rows homes a m → at (swept dist level 0 rows) a ≤ m
+    → Walk rows homes a m → at (sweep_from dist level 0 rows) a ≤ m
 step_least rows homes dist level a zero v small h w =
     elim (after rows dist level a v.count) [
       | inl p ↦ let far = reached_far dist level (at dist a) (get_or rows a []) p.0 in absurd (omega (arith, far, v.least a 0 (omega arith) w))
@@ -208,12 +208,12 @@ step_least rows homes dist level a (suc m) v small h w =
     ]
 
 pub level_step : (rows : List (List ℕ)) (homes : List Bool) (dist : List ℕ) (level : ℕ) → IsLevel rows homes dist level → is_quiet dist level 0 rows ≡ false
-    → IsLevel rows homes (swept dist level 0 rows) (level + 1) × (unmarked (swept dist level 0 rows) < unmarked dist)
+    → IsLevel rows homes (sweep_from dist level 0 rows) (level + 1) × (unmarked (sweep_from dist level 0 rows) < unmarked dist)
 level_step rows homes dist level v q =
     let same : length dist ≡ 0 + length rows = omega (arith, v.count) in
     let some : 1 ≤ unmarked dist = some_unmarked dist level 0 rows same q in
     let small : level + 1 < 1000 = omega (arith, v.room, v.few) in
-    let less : unmarked (swept dist level 0 rows) < unmarked dist = fewer dist level 0 rows same small q in (
+    let less : unmarked (sweep_from dist level 0 rows) < unmarked dist = fewer dist level 0 rows same small q in (
       record {
         count = length-swept dist level 0 rows;
         capped = λ a. step_capped rows homes dist level a v small;
@@ -268,12 +268,12 @@ level_end rows homes dist level v q = record {
 
 -- the beginning
 
-started_at : (homes : List Bool) (a : ℕ) → at (started homes) a ≡ cond (get_or homes a false) 0 1000
+started_at : (homes : List Bool) (a : ℕ) → at (levels_at_start homes) a ≡ cond (get_or homes a false) 0 1000
 started_at [] a = refl
 started_at (h ∷ hs) zero = refl
 started_at (h ∷ hs) (suc a) = started_at hs a
 
-length-started : (homes : List Bool) → length (started homes) ≡ length homes
+length-started : (homes : List Bool) → length (levels_at_start homes) ≡ length homes
 length-started [] = refl
 length-started (h ∷ hs) = ap suc (length-started hs)
 
@@ -281,31 +281,31 @@ unmarked_le : (ds : List ℕ) → unmarked ds ≤ length ds
 unmarked_le [] = omega arith
 unmarked_le (d ∷ ds) = let more = unmarked_le ds in elim (cases_Bool (d == 1000)) [ inl e ↦ rw e (omega arith) | inr e ↦ rw e (omega arith) ]
 
-at_start : (homes : List Bool) (a : ℕ) → ((get_or homes a false ≡ true) × (at (started homes) a ≡ 0)) ⊎ ((get_or homes a false ≡ false) × (at (started homes) a ≡ 1000))
+at_start : (homes : List Bool) (a : ℕ) → ((get_or homes a false ≡ true) × (at (levels_at_start homes) a ≡ 0)) ⊎ ((get_or homes a false ≡ false) × (at (levels_at_start homes) a ≡ 1000))
 at_start homes a =
     let found = started_at homes a in
     elim (cases_Bool (get_or homes a false)) [ inl e ↦ inl (e, rw e at found) | inr e ↦ inr (e, rw e at found) ]
 
-start_walk : (rows : List (List ℕ)) (homes : List Bool) (a : ℕ) → at (started homes) a < 1000 → Walk rows homes a (at (started homes) a)
+start_walk : (rows : List (List ℕ)) (homes : List Bool) (a : ℕ) → at (levels_at_start homes) a < 1000 → Walk rows homes a (at (levels_at_start homes) a)
 start_walk rows homes a h = elim (at_start homes a) [ inl p ↦ rw p.1 p.0 | inr p ↦ absurd (omega (arith, p.1)) ]
 
-start_near : (homes : List Bool) (a : ℕ) → at (started homes) a < 1000 → at (started homes) a ≤ 0
+start_near : (homes : List Bool) (a : ℕ) → at (levels_at_start homes) a < 1000 → at (levels_at_start homes) a ≤ 0
 start_near homes a h = elim (at_start homes a) [ inl p ↦ omega (arith, p.1) | inr p ↦ absurd (omega (arith, p.1)) ]
 
-start_capped : (homes : List Bool) (a : ℕ) → at (started homes) a ≤ 1000
+start_capped : (homes : List Bool) (a : ℕ) → at (levels_at_start homes) a ≤ 1000
 start_capped homes a = elim (at_start homes a) [ inl p ↦ omega (arith, p.1) | inr p ↦ omega (arith, p.1) ]
 
-start_least : (rows : List (List ℕ)) (homes : List Bool) (a m : ℕ) → m ≤ 0 → Walk rows homes a m → at (started homes) a ≤ m
+start_least : (rows : List (List ℕ)) (homes : List Bool) (a m : ℕ) → m ≤ 0 → Walk rows homes a m → at (levels_at_start homes) a ≤ m
 start_least rows homes a zero h w = elim (at_start homes a) [ inl p ↦ omega (arith, p.1) | inr p ↦ absurd (false≢true (sym p.0 ∙ w)) ]
 start_least rows homes a (suc m) h w = absurd (omega arith)
 
-pub level_start : (rows : List (List ℕ)) (homes : List Bool) → length homes ≡ length rows → length rows < 999 → IsLevel rows homes (started homes) 0
+pub level_start : (rows : List (List ℕ)) (homes : List Bool) → length homes ≡ length rows → length rows < 999 → IsLevel rows homes (levels_at_start homes) 0
 level_start rows homes same few = record {
   count = length-started homes ∙ same;
   capped = start_capped homes;
   walk = start_walk rows homes;
   near = start_near homes;
   least = start_least rows homes;
-  room = omega (arith, unmarked_le (started homes), length-started homes);
+  room = omega (arith, unmarked_le (levels_at_start homes), length-started homes);
   few = few;
 }

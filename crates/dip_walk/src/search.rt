@@ -2,7 +2,7 @@
 ghost use Rattle.std.specs.Prelude.{◌≡◌, ◌<◌, ◌==◌, length, IfOk};
 ghost use Rattle.std.specs.List.{list_any};
 ghost use Rattle.dip_walk.specs.Walk.{rows_of, at, AreLeast};
-ghost use Rattle.dip_walk.specs.Levels.{is_reached, swept, is_quiet, started};
+ghost use Rattle.dip_walk.specs.Levels.{is_reached, sweep_from, is_quiet, levels_at_start};
 
 use std::alloc::{AllocError, Global};
 
@@ -42,7 +42,7 @@ fn sweep(
     level: u16,
 ) -> Result<Vec<u16>, AllocError>
     requires { level < 1000 }
-    ensures { IfOk result (λ v. v.items ≡ swept distances.now level 0 (rows_of graph.now)) }
+    ensures { IfOk result (λ v. v.items ≡ sweep_from distances.now level 0 (rows_of graph.now)) }
 {
     let mut next = Vec::new(alloc);
     for (vertex, row) in graph.iter().enumerate() {
@@ -75,7 +75,7 @@ fn rests(graph: &[Vec<usize>], distances: &[u16], level: u16) -> bool
 
 /// The distances of the homes alone.
 fn start(alloc: Global, homes: &[bool]) -> Result<Vec<u16>, AllocError>
-    ensures { IfOk result (λ v. v.items ≡ started homes.now) }
+    ensures { IfOk result (λ v. v.items ≡ levels_at_start homes.now) }
 {
     let mut distances = Vec::new(alloc);
     for home in homes {

@@ -1,11 +1,11 @@
 use Rattle.std.proofs.Common.{◌-◌, length}
-use Rattle.dip_decide.specs.Given.{seen, given}
+use Rattle.dip_decide.specs.Given.{situation_of, known_of}
 use Rattle.dip_decide.specs.Rings.{IsTrail}
 use Rattle.dip_decide.specs.Steps.{decisions}
 use Rattle.dip_decide.proofs.circles.ring_from.Given as goal
 
 abbrev pub invariant-walk : goal.invariant-walk
-invariant-walk l = IsTrail (seen l.table) (given l.values) l.fn.start l.trail.items l.here
+invariant-walk l = IsTrail (situation_of l.table) (known_of l.values) l.fn.start l.trail.items l.here
 
 abbrev pub decreases-walk : goal.decreases-walk
 decreases-walk l = length (decisions l.table.places.items) - length l.trail.items

@@ -1,5 +1,5 @@
 use Rattle.std.proofs.Common.{sym, ◌∙◌, ap, ◌≡◌, subst}
-use Rattle.dip_decide.specs.Given.{given, seen}
+use Rattle.dip_decide.specs.Given.{known_of, situation_of}
 use Rattle.dip_decide.specs.Matching.{situation}
 use Rattle.dip_decide.specs.Movement.{IsSituation}
 use Rattle.dip_decide.proofs.Situated.{situated}
@@ -12,30 +12,30 @@ table_of-requires c = record { within = rw c.as_slice.ensures (within c.args.map
 
 pub explain-requires-clause-situation : goal.explain-requires-clause-situation
 explain-requires-clause-situation c =
-    let e : seen c.in_ok-table.table ≡ situation c.args.map.now c.args.orders.now = c.in_ok-table.ensures ∙ ap (situation c.args.map.now) c.as_slice.ensures in
+    let e : situation_of c.in_ok-table.table ≡ situation c.args.map.now c.args.orders.now = c.in_ok-table.ensures ∙ ap (situation c.args.map.now) c.as_slice.ensures in
     subst IsSituation (sym e) (situated c.args.map.now c.args.orders.now c.facts.ensures (rw c.requires.orders c.requires.is_of.apart))
 
 pub returns-clause-equations : goal.returns-clause-equations
 returns-clause-equations c =
-    let e : seen c.in_ok-table.table ≡ situation c.args.map.now c.args.orders.now = c.in_ok-table.ensures ∙ ap (situation c.args.map.now) c.as_slice.ensures in
-    if_ok_more _ _ c.resolution_of.result (λ r l. (resolved_board c.args.map.now c.args.board.now c.args.orders.now c.requires.is_of c.requires.orders c.facts.ensures c.in_ok-steps.steps.items (given c.explain.new.values) (seen c.in_ok-table.table) e c.in_ok-steps.ensures r l).equations) c.resolution_of.ensures
+    let e : situation_of c.in_ok-table.table ≡ situation c.args.map.now c.args.orders.now = c.in_ok-table.ensures ∙ ap (situation c.args.map.now) c.as_slice.ensures in
+    if_ok_more _ _ c.resolution_of.result (λ r l. (resolved_board c.args.map.now c.args.board.now c.args.orders.now c.requires.is_of c.requires.orders c.facts.ensures c.in_ok-steps.steps.items (known_of c.explain.new.values) (situation_of c.in_ok-table.table) e c.in_ok-steps.ensures r l).equations) c.resolution_of.ensures
 
 pub returns-clause-explained : goal.returns-clause-explained
 returns-clause-explained c =
-    let e : seen c.in_ok-table.table ≡ situation c.args.map.now c.args.orders.now = c.in_ok-table.ensures ∙ ap (situation c.args.map.now) c.as_slice.ensures in
-    if_ok_more _ _ c.resolution_of.result (λ r l. (resolved_board c.args.map.now c.args.board.now c.args.orders.now c.requires.is_of c.requires.orders c.facts.ensures c.in_ok-steps.steps.items (given c.explain.new.values) (seen c.in_ok-table.table) e c.in_ok-steps.ensures r l).explained) c.resolution_of.ensures
+    let e : situation_of c.in_ok-table.table ≡ situation c.args.map.now c.args.orders.now = c.in_ok-table.ensures ∙ ap (situation c.args.map.now) c.as_slice.ensures in
+    if_ok_more _ _ c.resolution_of.result (λ r l. (resolved_board c.args.map.now c.args.board.now c.args.orders.now c.requires.is_of c.requires.orders c.facts.ensures c.in_ok-steps.steps.items (known_of c.explain.new.values) (situation_of c.in_ok-table.table) e c.in_ok-steps.ensures r l).explained) c.resolution_of.ensures
 
 pub returns-clause-broken : goal.returns-clause-broken
 returns-clause-broken c =
-    let e : seen c.in_ok-table.table ≡ situation c.args.map.now c.args.orders.now = c.in_ok-table.ensures ∙ ap (situation c.args.map.now) c.as_slice.ensures in
-    if_ok_more _ _ c.resolution_of.result (λ r l. (resolved_board c.args.map.now c.args.board.now c.args.orders.now c.requires.is_of c.requires.orders c.facts.ensures c.in_ok-steps.steps.items (given c.explain.new.values) (seen c.in_ok-table.table) e c.in_ok-steps.ensures r l).broken) c.resolution_of.ensures
+    let e : situation_of c.in_ok-table.table ≡ situation c.args.map.now c.args.orders.now = c.in_ok-table.ensures ∙ ap (situation c.args.map.now) c.as_slice.ensures in
+    if_ok_more _ _ c.resolution_of.result (λ r l. (resolved_board c.args.map.now c.args.board.now c.args.orders.now c.requires.is_of c.requires.orders c.facts.ensures c.in_ok-steps.steps.items (known_of c.explain.new.values) (situation_of c.in_ok-table.table) e c.in_ok-steps.ensures r l).broken) c.resolution_of.ensures
 
 pub returns-clause-few : goal.returns-clause-few
 returns-clause-few c =
-    let e : seen c.in_ok-table.table ≡ situation c.args.map.now c.args.orders.now = c.in_ok-table.ensures ∙ ap (situation c.args.map.now) c.as_slice.ensures in
-    if_ok_more _ _ c.resolution_of.result (λ r l. (resolved_board c.args.map.now c.args.board.now c.args.orders.now c.requires.is_of c.requires.orders c.facts.ensures c.in_ok-steps.steps.items (given c.explain.new.values) (seen c.in_ok-table.table) e c.in_ok-steps.ensures r l).few) c.resolution_of.ensures
+    let e : situation_of c.in_ok-table.table ≡ situation c.args.map.now c.args.orders.now = c.in_ok-table.ensures ∙ ap (situation c.args.map.now) c.as_slice.ensures in
+    if_ok_more _ _ c.resolution_of.result (λ r l. (resolved_board c.args.map.now c.args.board.now c.args.orders.now c.requires.is_of c.requires.orders c.facts.ensures c.in_ok-steps.steps.items (known_of c.explain.new.values) (situation_of c.in_ok-table.table) e c.in_ok-steps.ensures r l).few) c.resolution_of.ensures
 
 pub returns-clause-ordered : goal.returns-clause-ordered
 returns-clause-ordered c =
-    let e : seen c.in_ok-table.table ≡ situation c.args.map.now c.args.orders.now = c.in_ok-table.ensures ∙ ap (situation c.args.map.now) c.as_slice.ensures in
-    if_ok_more _ _ c.resolution_of.result (λ r l. (resolved_board c.args.map.now c.args.board.now c.args.orders.now c.requires.is_of c.requires.orders c.facts.ensures c.in_ok-steps.steps.items (given c.explain.new.values) (seen c.in_ok-table.table) e c.in_ok-steps.ensures r l).ordered) c.resolution_of.ensures
+    let e : situation_of c.in_ok-table.table ≡ situation c.args.map.now c.args.orders.now = c.in_ok-table.ensures ∙ ap (situation c.args.map.now) c.as_slice.ensures in
+    if_ok_more _ _ c.resolution_of.result (λ r l. (resolved_board c.args.map.now c.args.board.now c.args.orders.now c.requires.is_of c.requires.orders c.facts.ensures c.in_ok-steps.steps.items (known_of c.explain.new.values) (situation_of c.in_ok-table.table) e c.in_ok-steps.ensures r l).ordered) c.resolution_of.ensures

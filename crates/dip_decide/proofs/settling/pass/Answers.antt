@@ -1,12 +1,12 @@
 use Rattle.std.proofs.lemmas.List.{take_all}
-use Rattle.dip_decide.specs.Given.{seen}
+use Rattle.dip_decide.specs.Given.{situation_of}
 use Rattle.dip_decide.proofs.Continuing.{pass_step}
 use Rattle.dip_decide.proofs.settling.pass.Goals as goal
 
 pub loop-place-preserved : goal.loop-place-preserved
 loop-place-preserved c =
     let lt = rw c.deref-place-items.ensures.value at c.loop-place-test.true in
-    pass_step (seen c.args.table.now) c.args.table.now.places.items c.loop-place.place-index c.place-item.result _ _ _ _ _ _ _ _ lt (rw c.deref-place-items.ensures.value at c.place-item.is) c.loop-place.invariant c.in_ok-settled.ensures
+    pass_step (situation_of c.args.table.now) c.args.table.now.places.items c.loop-place.place-index c.place-item.result _ _ _ _ _ _ _ _ lt (rw c.deref-place-items.ensures.value at c.place-item.is) c.loop-place.invariant c.in_ok-settled.ensures
 
 pub returns : goal.returns
 returns c =

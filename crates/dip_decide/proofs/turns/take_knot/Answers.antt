@@ -1,17 +1,17 @@
 use Rattle.std.proofs.lemmas.List.{map_push}
-use Rattle.dip_decide.specs.Given.{seen, given}
+use Rattle.dip_decide.specs.Given.{situation_of, known_of}
 use Rattle.dip_decide.specs.Movement.{rule, mentions}
 use Rattle.dip_decide.specs.Steps.{steps_of}
 use Rattle.dip_decide.proofs.Rounds.{knot_taken, knot_single, knot_opened}
 use Rattle.dip_decide.proofs.turns.take_knot.Goals as goal
 
 pub break_paths-requires-clause-distinct : goal.break_paths-requires-clause-distinct
-break_paths-requires-clause-distinct c = let s = seen c.args.table.now in rw c.as_slice.ensures.value (knot_single (rule s) (mentions s) (given c.args.values.now) c.args.units.items c.requires.knot)
+break_paths-requires-clause-distinct c = let s = situation_of c.args.table.now in rw c.as_slice.ensures.value (knot_single (rule s) (mentions s) (known_of c.args.values.now) c.args.units.items c.requires.knot)
 
 pub break_paths-requires-clause-unknown : goal.break_paths-requires-clause-unknown
-break_paths-requires-clause-unknown c = let s = seen c.args.table.now in rw c.as_slice.ensures.value (knot_opened (rule s) (mentions s) (given c.args.values.now) c.args.units.items c.requires.knot)
+break_paths-requires-clause-unknown c = let s = situation_of c.args.table.now in rw c.as_slice.ensures.value (knot_opened (rule s) (mentions s) (known_of c.args.values.now) c.args.units.items c.requires.knot)
 
 pub returns : goal.returns
 returns c =
     rw (c.break_paths.ensures, c.as_slice.ensures.value, c.in_ok-push.ensures.items, map_push)
-    (knot_taken (seen c.args.table.now) (steps_of c.args.steps.now.items) (given c.args.values.now) c.args.units.items c.requires.situation c.requires.started c.requires.some c.requires.knot)
+    (knot_taken (situation_of c.args.table.now) (steps_of c.args.steps.now.items) (known_of c.args.values.now) c.args.units.items c.requires.situation c.requires.started c.requires.some c.requires.knot)

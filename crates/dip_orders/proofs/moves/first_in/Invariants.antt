@@ -1,5 +1,5 @@
 use Rattle.std.proofs.Common.{◌≡◌, drop}
-use Rattle.dip_orders.specs.Tests.{first_in}
+use Rattle.dip_orders.specs.Conditions.{first_in}
 use Rattle.dip_orders.proofs.moves.first_in.Given as goal
 
 abbrev pub invariant-loop-place : goal.invariant-loop-place

@@ -1,5 +1,5 @@
 use Rattle.std.proofs.Common.{◌≡◌, drop}
-use Rattle.dip_orders.specs.Tests.{named_in}
+use Rattle.dip_orders.specs.Conditions.{named_in}
 use Rattle.dip_orders.proofs.moves.named_in.Given as goal
 
 abbrev pub invariant-loop-place : goal.invariant-loop-place

@@ -3,7 +3,7 @@ ghost use Rattle.std.specs.Prelude.{◌≡◌, ◌==◌, Some};
 ghost use Rattle.std.specs.List.{list_any};
 ghost use Rattle.dip_chart.specs.Charts.{province, shore};
 ghost use Rattle.dip_names.specs.Kinds.{is_kind, is_sea};
-ghost use Rattle.dip_decide.specs.Given.{entry, seen};
+ghost use Rattle.dip_decide.specs.Given.{entry, situation_of};
 ghost use Rattle.dip_decide.specs.Matching.{destination, target_of, goes_by_convoy, is_convoyed, is_there, is_matched, supports_in, direction, is_carried, convoys_in, is_sea_next};
 ghost use Rattle.dip_decide.specs.Movement.{goes, head_to_head, has_move, is_at};
 
@@ -100,13 +100,13 @@ impl Table<'_> {
     }
 
     pub(crate) fn is_occupied(&self, p: Prov) -> bool
-        ensures { result ≡ (seen self.now).is_occupied p }
+        ensures { result ≡ (situation_of self.now).is_occupied p }
     {
         self.order(p).is_some()
     }
 
     pub(crate) fn same_power(&self, p: Prov, q: Prov) -> bool
-        ensures { result ≡ (seen self.now).same_power p q }
+        ensures { result ≡ (situation_of self.now).same_power p q }
     {
         match (self.order(p), self.order(q)) {
             (Some(x), Some(y)) => x.unit.power == y.unit.power,
@@ -115,13 +115,13 @@ impl Table<'_> {
     }
 
     pub(crate) fn target(&self, p: Prov) -> Option<Prov>
-        ensures { result ≡ (seen self.now).target p }
+        ensures { result ≡ (situation_of self.now).target p }
     {
         target_of(&self.order(p))
     }
 
     pub(crate) fn is_convoyed(&self, p: Prov) -> bool
-        ensures { result ≡ (seen self.now).convoyed p }
+        ensures { result ≡ (situation_of self.now).convoyed p }
     {
         is_convoyed_of(self.map, &self.order(p))
     }
@@ -158,7 +158,7 @@ impl Table<'_> {
     }
 
     pub(crate) fn supports(&self, h: Prov, p: Prov) -> bool
-        ensures { result ≡ (seen self.now).supports h p }
+        ensures { result ≡ (situation_of self.now).supports h p }
     {
         self.supports_of(&self.order(h), p)
     }
@@ -193,7 +193,7 @@ impl Table<'_> {
     }
 
     pub(crate) fn convoys(&self, x: Prov, p: Prov) -> bool
-        ensures { result ≡ (seen self.now).convoys x p }
+        ensures { result ≡ (situation_of self.now).convoys x p }
     {
         match self.order(x) {
             Some(placed) => self.convoys_of(&placed, p),
@@ -202,13 +202,13 @@ impl Table<'_> {
     }
 
     pub(crate) fn is_next(&self, p: Prov, q: Prov) -> bool
-        ensures { result ≡ (seen self.now).next p q }
+        ensures { result ≡ (situation_of self.now).next p q }
     {
         is_sea_next(self.map, p, q)
     }
 
     fn aim(&self, h: Prov) -> Option<Prov>
-        ensures { result ≡ (seen self.now).aim h }
+        ensures { result ≡ (situation_of self.now).aim h }
     {
         match self.order(h) {
             Some(placed) => direction(placed.order),
@@ -217,7 +217,7 @@ impl Table<'_> {
     }
 
     pub(crate) fn aims(&self, h: Prov, p: Prov) -> bool
-        ensures { result ≡ is_at ((seen self.now).aim h) p }
+        ensures { result ≡ is_at ((situation_of self.now).aim h) p }
     {
         match self.aim(h) {
             Some(q) => q == p,
@@ -226,7 +226,7 @@ impl Table<'_> {
     }
 
     pub(crate) fn goes(&self, p: Prov, q: Prov) -> bool
-        ensures { result ≡ goes (seen self.now) p q }
+        ensures { result ≡ goes (situation_of self.now) p q }
     {
         match self.target(p) {
             Some(t) => t == q,
@@ -235,13 +235,13 @@ impl Table<'_> {
     }
 
     pub(crate) fn has_move(&self, p: Prov) -> bool
-        ensures { result ≡ has_move (seen self.now) p }
+        ensures { result ≡ has_move (situation_of self.now) p }
     {
         self.target(p).is_some()
     }
 
     pub(crate) fn head_to_head(&self, p: Prov, q: Prov) -> bool
-        ensures { result ≡ head_to_head (seen self.now) p q }
+        ensures { result ≡ head_to_head (situation_of self.now) p q }
     {
         self.goes(p, q) && self.goes(q, p) && !self.is_convoyed(p) && !self.is_convoyed(q)
     }

@@ -4,7 +4,7 @@ use Rattle.std.specs.Option.{ok_or}
 use Rattle.dip_names.specs.declared.names.Kind.{Kind}
 use Rattle.dip_names.specs.declared.names.Kind.TheVariants.{Army, Fleet}
 use Rattle.dip_names.specs.declared.names.Place.{Place}
-use Rattle.dip_names.specs.declared.names.Unit.{Unit as Piece}
+use Rattle.dip_names.specs.declared.names.Unit.{Unit as AUnit}
 use Rattle.dip_board.specs.declared.boards.Dislodged.{Dislodged}
 use Rattle.dip_chart.specs.Charts.{Chart, province, fleet_next, is_army_next, prov_of, coast_of}
 use Rattle.dip_board.specs.Boards.{Position}
@@ -15,7 +15,7 @@ use Rattle.dip_forms.specs.declared.drafts.Draft.TheVariants.{Hold, Move, Suppor
 use Rattle.dip_orders.specs.Allowances.{builds_due, removals_due}
 use Rattle.dip_orders.specs.Retreats.{is_open}
 use Rattle.dip_orders.specs.Rules.{is_supportable}
-use Rattle.dip_orders.specs.Tests.{is_in_phase, army_place, unit_at, dislodged_at, other_at, knows_coast, first_in, count_in, named_in, could_move, may_convoy, may_march, may_build, builds_elsewhere, removals_elsewhere}
+use Rattle.dip_orders.specs.Conditions.{is_in_phase, army_place, unit_at, dislodged_at, other_at, knows_coast, first_in, count_in, named_in, could_move, may_convoy, may_march, may_build, builds_elsewhere, removals_elsewhere}
 use Rattle.dip_names.specs.Kinds.{is_kind, is_sea}
 use Rattle.dip_orders.specs.declared.faults.OrderFault.{OrderFault}
 use Rattle.dip_orders.specs.declared.faults.OrderFault.TheVariants.{UnknownProvince, NoUnitThere, WrongKind, OutOfReach, CoastNeeded, WrongCoast, NoSuchUnit, SupportOutOfReach, NoConvoyThere, NotInThisPhase, NoBuildThere, AllowanceUsed, NoSuchRetreat}
@@ -33,7 +33,7 @@ abbrev pub prov_at : Chart → Spot → Result ℕ OrderFault
 prov_at m s = ok_or (prov_of m s.code) UnknownProvince
 
 -- the unit that was found, as it is written
-abbrev pub checked_unit : Chart → Option Piece → Mention → ℕ → Result Piece OrderFault
+abbrev pub checked_unit : Chart → Option AUnit → Mention → ℕ → Result AUnit OrderFault
 checked_unit m found u p = do
   unit ← ok_or found NoUnitThere
   kept ← need (is_kind unit.kind u.kind) WrongKind unit
@@ -65,7 +65,7 @@ go_to m Fleet a q coast true = Err WrongKind
 go_to m Fleet a q coast false = sail_to m (fleet_next m a) q coast OutOfReach
 
 -- the other unit, as it is written
-abbrev pub checked_other : Chart → Position → Kind → ℕ → Option (List ℕ) → Result Piece OrderFault
+abbrev pub checked_other : Chart → Position → Kind → ℕ → Option (List ℕ) → Result AUnit OrderFault
 checked_other m b k p coast = do
   unit ← ok_or (other_at b k p) NoSuchUnit
   need (knows_coast m p coast) WrongCoast unit
@@ -120,7 +120,7 @@ support_move_order m b power u other to = do
   need (is_supportable m unit mover q) SupportOutOfReach (record { unit = unit; order = SupportsMove (record { kind = other.kind; prov = from }) q })
 
 -- the fleet of a convoy
-abbrev pub carrier : Chart → Piece → Result Piece OrderFault
+abbrev pub carrier : Chart → AUnit → Result AUnit OrderFault
 carrier m unit = do
   fleet ← need (is_kind unit.kind Fleet) WrongKind unit
   need (is_sea (province m fleet.place.prov).terrain) NoConvoyThere fleet
@@ -171,17 +171,17 @@ remove_order m b power pending u = do
   need (nat_lt (removals_elsewhere pending p) (removals_due b power)) AllowanceUsed (record { unit = unit; order = Removes })
 
 -- the order that a form is on this board, or its first fault
-abbrev pub placed : Chart → Position → ℕ → List PlacedOrder → Draft → Result PlacedOrder OrderFault
-placed m b power pending (Hold u) = hold_order m b power u
-placed m b power pending (Move u to via) = move_order m b power u to via
-placed m b power pending (SupportHold u other held) = support_hold_order m b power u other
-placed m b power pending (SupportMove u other to) = support_move_order m b power u other to
-placed m b power pending (Convoy u army to) = convoy_order m b power u army to
-placed m b power pending (Retreat u to) = retreat_order m b power u to
-placed m b power pending (Disband u) = disband_order m b power u
-placed m b power pending (Build u) = build_order m b power pending u
-placed m b power pending (Remove u) = remove_order m b power pending u
+abbrev pub order_steps : Chart → Position → ℕ → List PlacedOrder → Draft → Result PlacedOrder OrderFault
+order_steps m b power pending (Hold u) = hold_order m b power u
+order_steps m b power pending (Move u to via) = move_order m b power u to via
+order_steps m b power pending (SupportHold u other held) = support_hold_order m b power u other
+order_steps m b power pending (SupportMove u other to) = support_move_order m b power u other to
+order_steps m b power pending (Convoy u army to) = convoy_order m b power u army to
+order_steps m b power pending (Retreat u to) = retreat_order m b power u to
+order_steps m b power pending (Disband u) = disband_order m b power u
+order_steps m b power pending (Build u) = build_order m b power pending u
+order_steps m b power pending (Remove u) = remove_order m b power pending u
 
 -- the same, behind the check of the phase
 abbrev pub in_phase : Chart → Position → ℕ → List PlacedOrder → Draft → Result PlacedOrder OrderFault
-in_phase m b power pending d = if is_in_phase d b.phase.season then placed m b power pending d else Err NotInThisPhase
+in_phase m b power pending d = if is_in_phase d b.phase.season then order_steps m b power pending d else Err NotInThisPhase

@@ -9,7 +9,7 @@ use Rattle.dip_names.specs.declared.names.Kind.TheVariants.{Army, Fleet}
 use Rattle.dip_names.specs.declared.names.Terrain.{Terrain}
 use Rattle.dip_names.specs.declared.names.Terrain.TheVariants.{Inland, Coast, Sea}
 use Rattle.dip_names.specs.declared.names.Place.{Place}
-use Rattle.dip_names.specs.declared.names.Unit.{Unit as Piece}
+use Rattle.dip_names.specs.declared.names.Unit.{Unit as AUnit}
 use Rattle.dip_board.specs.declared.boards.Dislodged.{Dislodged}
 use Rattle.dip_board.specs.declared.boards.Season.{Season}
 use Rattle.dip_board.specs.declared.boards.Season.TheVariants.{SpringMoves, SpringRetreats, FallMoves, FallRetreats, Winter}
@@ -71,7 +71,7 @@ prov_named m s = unwrap_or (prov_of m s.code) (length m.provinces)
 abbrev pub no_place : Place
 no_place = record { prov = 0; coast = 0 }
 
-abbrev pub no_unit : Piece
+abbrev pub no_unit : AUnit
 no_unit = record { power = 0; kind = Army; place = no_place }
 
 abbrev pub no_dislodged : Dislodged
@@ -82,7 +82,7 @@ abbrev pub army_place : ℕ → Place
 army_place p = record { prov = p; coast = 0 }
 
 -- the standing unit of a power in a province
-abbrev pub unit_at : Position → ℕ → ℕ → Option Piece
+abbrev pub unit_at : Position → ℕ → ℕ → Option AUnit
 unit_at b power p = find (λ u. (u.power == power) && (u.place.prov == p)) b.units
 
 -- the dislodged unit of a power in a province
@@ -90,7 +90,7 @@ abbrev pub dislodged_at : Position → ℕ → ℕ → Option Dislodged
 dislodged_at b power p = find (λ d. (d.unit.power == power) && (d.unit.place.prov == p)) b.dislodged
 
 -- the standing unit of a kind in a province, of any power
-abbrev pub other_at : Position → Kind → ℕ → Option Piece
+abbrev pub other_at : Position → Kind → ℕ → Option AUnit
 other_at b k p = find (λ u. is_kind u.kind k && (u.place.prov == p)) b.units
 
 -- the province has the coast that is written, if one is
@@ -137,7 +137,7 @@ abbrev pub may_march : Chart → ℕ → ℕ → Bool
 may_march m p q = is_army_next m p q || may_convoy m p q
 
 -- a unit could come to a province: it could move there, or is an army that a convoy may take there
-abbrev pub could_come : Chart → Piece → ℕ → Bool
+abbrev pub could_come : Chart → AUnit → ℕ → Bool
 could_come m u q = could_move m u.kind u.place q || (is_kind u.kind Army && may_convoy m u.place.prov q)
 
 -- a unit may be built: the province is a home centre of the power, owned by it and without a unit, and for a fleet coastal

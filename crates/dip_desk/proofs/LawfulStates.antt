@@ -10,19 +10,19 @@ use Rattle.dip_board.specs.Boards.{Position, IsOf, opening}
 use Rattle.std.proofs.lemmas.List.Quantifiers.{position-Some}
 use Rattle.dip_letters.specs.Notes.{SeatNote}
 use Rattle.dip_chart.specs.Charts.{Chart, Realm, no_realm, power_of}
-use Rattle.dip_reports.specs.Records.{Public, Own, Kept}
+use Rattle.dip_reports.specs.Records.{Public, Own, Kept, Standing}
 use Rattle.dip_reports.specs.Texts.{numbers}
 use Rattle.dip_reports.specs.declared.refusals.Refusal.TheVariants.{Malformed, WrongSender}
 use Rattle.dip_desk.specs.Keyed.{at, change_at}
-use Rattle.dip_desk.specs.Lawful.{AreNamedApart, HasNoForeignLines, IsCanonical, IsLawful, IsLawfulGame, IsLawfulSeat, StaysLawful}
-use Rattle.dip_desk.specs.Machine.{Decides, IsForeignTo, Verdict, NotKnown, Old, Taken, after, are_complete, author, by_number, created, digest, kept_of, master_verdict, new_seats, open_game, with_more, opening_public, refused, seat_command, seen_in, verdict_by, verdict_on}
+use Rattle.dip_desk.specs.Lawful.{AreAscending, AreNamedApart, IsNeverDamaged, IsCanonical, IsLawful, IsLawfulGame, IsLawfulSeat, StaysLawful}
+use Rattle.dip_desk.specs.Machine.{Decides, IsForeignTo, Verdict, MasterDecides, NotKnown, Again, OutOfTurn, Taken, after, are_complete, author, created, digest, kept_of, new_seats, open_game, with_more, opening_public, refused, seat_command, seat_verdict, seen_in, verdict_by, verdict_on}
 use Rattle.dip_desk.specs.Mail.{Mail}
 use Rattle.dip_desk.specs.State.{State, Game, Author, Nobody, TheMaster, Seat, Effect, Nothing, Pending, Opens, NewSeat, fresh, game_at, name_of, opened, own_after, pending_in, seat_at, with_seat}
 use Rattle.dip_desk.proofs.KeyedLemmas.{at-append, names_tell}
-use Rattle.dip_desk.proofs.LawfulOrders.{ReadsAgain, canonical_own, ordered_canonical}
+use Rattle.dip_desk.proofs.LawfulOrders.{ReadsAgain, canonical_own, ordered_ascending, ordered_canonical}
 use Rattle.dip_desk.proofs.ListLemmas.{all_at, all_change, all_last, all_map, all_same, count_change, count_map}
 use Rattle.dip_desk.proofs.Seeing.{own_power}
-use Rattle.dip_desk.proofs.Suiting.{Suits, decides_suits, number_holds, opens_where}
+use Rattle.dip_desk.proofs.Suiting.{Suits, decides_suits, numbered_holds, opens_where, seat_holds}
 
 -- names stay apart
 
@@ -78,16 +78,16 @@ apart_last (g ∷ gs) new apart none =
 
 -- a seat's letter
 
-abbrev pub Fits : Chart → Position → ℕ → Option (List (List ℕ)) → Type 0
+abbrev pub Fits : Chart → Position → ℕ → Option (List Standing) → Type 0
 Fits m b power None = Unit {0}
-Fits m b power (Some lines) = AllByRecursion (IsCanonical m b power) lines
+Fits m b power (Some orders) = AllByRecursion (IsCanonical m b power) orders × AreAscending (map (λ (s : Standing). s.province) orders)
 
-own_lawful : (m : Chart) (b : Position) (k : Kept) (lines : Option (List (List ℕ))) (o : Own) → IsLawfulSeat m b o → Fits m b o.power lines → IsLawfulSeat m b (own_after k lines o)
-own_lawful m b k None o l fits = record { power = l.power; pending = l.pending; sent = l.sent; items = l.items }
-own_lawful m b k (Some lines) o l fits = record { power = l.power; pending = fits; sent = l.sent; items = l.items }
+own_lawful : (m : Chart) (b : Position) (k : Kept) (lines : Option (List Standing)) (o : Own) → IsLawfulSeat m b o → Fits m b o.power lines → IsLawfulSeat m b (own_after k lines o)
+own_lawful m b k None o l fits = record { power = l.power; pending = l.pending; ascending = l.ascending; sent = l.sent; items = l.items }
+own_lawful m b k (Some orders) o l fits = record { power = l.power; pending = fits.0; ascending = fits.1; sent = l.sent; items = l.items }
 
-seat_game : (m : Chart) (g : Game) (p : ℕ) (k : Kept) (lines : Option (List (List ℕ))) → IsLawfulGame m g
-    → ((o : Own) → seat_at p g.seats ≡ Some o → Fits m g.public.board o.power lines) → IsLawfulGame m (with_seat p (own_after k lines) g)
+seat_game : (m : Chart) (g : Game) (p : ℕ) (k : Kept) (lines : Option (List Standing)) → IsLawfulGame m g
+    → ((o : Own) → seat_at p g.seats ≡ Some o → IsLawfulSeat m g.public.board o → Fits m g.public.board o.power lines) → IsLawfulGame m (with_seat p (own_after k lines) g)
 seat_game m g p k lines l fits = record {
   board = l.board;
   powers = all_same (λ q. count_by (λ (o : Own). o.power == q) (change_at (λ a b. a == b) (λ (o : Own). o.power) p (own_after k lines) g.seats) == 1)
@@ -95,32 +95,34 @@ seat_game m g p k lines l fits = record {
       (λ q. ap (λ (c : ℕ). c == 1) (count_change (λ a b. a == b) (λ (o : Own). o.power) p (own_after k lines) (λ j. j == q) g.seats (own_power k lines)))
       ∙ l.powers;
   seats = all_change (λ a b. a == b) (λ (o : Own). o.power) p (own_after k lines) (IsLawfulSeat m g.public.board) g.seats l.seats
-      (λ o found lo. own_lawful m g.public.board k lines o lo (fits o found));
+      (λ o found lo. own_lawful m g.public.board k lines o lo (fits o found lo));
   papers = l.papers;
   few = l.few;
 }
 
 abbrev pub VerdictFits : Chart → Position → ℕ → Verdict → Type 0
 VerdictFits m b power NotKnown = Unit {0}
-VerdictFits m b power (Old text) = Unit {0}
+VerdictFits m b power (Again text) = Unit {0}
+VerdictFits m b power (OutOfTurn text) = Unit {0}
 VerdictFits m b power (Taken text e) = Fits m b power (pending_in e)
 
-command_fits : (m : Chart) (p : Public) (o : Own) (command : Request) → ReadsAgain m p.board → VerdictFits m p.board o.power (seat_command m command p o)
-command_fits m p o (Create due period grey seats) again = tt
-command_fits m p o (Orders lines) again = ordered_canonical m p.board o.power o.pending lines again
-command_fits m p o Show again = tt
+command_fits : (m : Chart) (p : Public) (o : Own) (command : Request) → ReadsAgain m p.board → IsLawfulSeat m p.board o → VerdictFits m p.board o.power (seat_command m command p o)
+command_fits m p o (Create due period grey seats) again l = tt
+command_fits m p o (Orders lines) again l =
+    (ordered_canonical m p.board o.power o.pending lines again, ordered_ascending m p.board o.power o.pending lines l.pending l.ascending)
+command_fits m p o Show again l = tt
 
 seat_fits : (m : Chart) (n : Mail) (g : Game) (p : ℕ) (text : List ℕ) (e : Effect) → ReadsAgain m g.public.board → Taken text e ≡ verdict_on m n (seen_in p (Some g))
-    → (o : Own) → seat_at p g.seats ≡ Some o → Fits m g.public.board o.power (pending_in e)
-seat_fits m n g p text e again d o found =
-    let is : by_number n o.kept (seat_command m n.command g.public o) ≡ Taken text e = sym (d ∙ ap (λ (x : Option Own). verdict_by m n (Some g.public) x) found) in
+    → (o : Own) → seat_at p g.seats ≡ Some o → IsLawfulSeat m g.public.board o → Fits m g.public.board o.power (pending_in e)
+seat_fits m n g p text e again d o found l =
+    let is : seat_verdict m n g.public o ≡ Taken text e = sym (d ∙ ap (λ (x : Option Own). verdict_by m n (Some g.public) x) found) in
     subst (VerdictFits m g.public.board o.power) is
-    (number_holds (VerdictFits m g.public.board o.power) (λ t. tt) n o.kept (seat_command m n.command g.public o) (command_fits m g.public o n.command again))
+    (seat_holds (VerdictFits m g.public.board o.power) (λ t. tt) (λ t. tt) n o.kept (seat_command m n.note.command g.public o) (command_fits m g.public o n.note.command again l))
 
 seats_lawful : (m : Chart) (s : State) (n : Mail) (p : ℕ) (text : List ℕ) (e : Effect) → ((b : Position) → IsOf m b → ReadsAgain m b) → Decides m s n (Seat p) (Taken text e) → IsLawful m s
-    → AllByRecursion (IsLawfulGame m) (change_at bytes_eq name_of n.game (with_seat p (own_after (kept_of n text) (pending_in e))) s.games)
+    → AllByRecursion (IsLawfulGame m) (change_at bytes_eq name_of n.note.game (with_seat p (own_after (kept_of n text) (pending_in e))) s.games)
 seats_lawful m s n p text e again d l =
-    all_change bytes_eq name_of n.game (with_seat p (own_after (kept_of n text) (pending_in e))) (IsLawfulGame m) s.games l.games
+    all_change bytes_eq name_of n.note.game (with_seat p (own_after (kept_of n text) (pending_in e))) (IsLawfulGame m) s.games l.games
     (λ g found lg. seat_game m g p (kept_of n text) (pending_in e) lg
     (seat_fits m n g p text e (again g.public.board lg.board) (d ∙ ap (λ (x : Option Game). verdict_on m n (seen_in p x)) found)))
 
@@ -150,7 +152,8 @@ pub record IsLawfulOpening (m : Chart) (public : Public) (seats : List NewSeat) 
 
 abbrev pub OpensLawful : Chart → Verdict → Type 0
 OpensLawful m NotKnown = Unit {0}
-OpensLawful m (Old text) = Unit {0}
+OpensLawful m (Again text) = Unit {0}
+OpensLawful m (OutOfTurn text) = Unit {0}
 OpensLawful m (Taken text Nothing) = Unit {0}
 OpensLawful m (Taken text (Pending lines)) = Unit {0}
 OpensLawful m (Taken text (Opens public paper seats)) = IsLawfulOpening m public seats
@@ -165,14 +168,14 @@ created_lawful m name due period grey (Some seats) game known = go (are_complete
     go true is (Some g) = tt
     go false is game = tt
 
-master_lawful : (m : Chart) (n : Mail) (k : Option Kept) (command : Request) (game : Option Game) → OpensLawful m (master_verdict m n k command game)
-master_lawful m n k (Create due period grey seats) game =
-    number_holds (OpensLawful m) (λ t. tt) n k (created m (opening_public m n.game due period grey) (new_seats m n.game seats) game)
-    (created_lawful m n.game due period grey (new_seats m n.game seats) game (seats_known m n.game seats))
-master_lawful m n k (Orders lines) None = tt
-master_lawful m n k (Orders lines) (Some g) = number_holds (OpensLawful m) (λ t. tt) n k (refused WrongSender) tt
-master_lawful m n k Show None = tt
-master_lawful m n k Show (Some g) = number_holds (OpensLawful m) (λ t. tt) n k (refused WrongSender) tt
+master_lawful : (m : Chart) (n : Mail) (k : Option Kept) (command : Request) (game : Option Game) (v : Verdict) → MasterDecides m n k command game v → OpensLawful m v
+master_lawful m n k (Create due period grey seats) game v h =
+    numbered_holds (OpensLawful m) (λ t. tt) (λ t. tt) n k (λ w. w ≡ created m (opening_public m n.note.game due period grey) (new_seats m n.note.game seats) game) v
+    (λ is. subst (OpensLawful m) (sym is) (created_lawful m n.note.game due period grey (new_seats m n.note.game seats) game (seats_known m n.note.game seats))) h
+master_lawful m n k (Orders lines) None v h = subst (OpensLawful m) (sym h) tt
+master_lawful m n k (Orders lines) (Some g) v h = numbered_holds (OpensLawful m) (λ t. tt) (λ t. tt) n k (λ w. w ≡ refused WrongSender) v (λ is. subst (OpensLawful m) (sym is) tt) h
+master_lawful m n k Show None v h = subst (OpensLawful m) (sym h) tt
+master_lawful m n k Show (Some g) v h = numbered_holds (OpensLawful m) (λ t. tt) (λ t. tt) n k (λ w. w ≡ refused WrongSender) v (λ is. subst (OpensLawful m) (sym is) tt) h
 
 opened_lawful : (m : Chart) (public : Public) (paper : List ℕ) (seats : List NewSeat) → IsOf m (opening m)
     → IsLawfulOpening m public seats → IsLawfulGame m (opened public paper seats)
@@ -181,7 +184,7 @@ opened_lawful m public paper seats fine h = record {
   powers = all_same (λ q. count_by (λ (o : Own). o.power == q) (map fresh seats) == 1) (λ q. count_by (λ (s : NewSeat). s.power == q) seats == 1) (numbers 0 m.realms)
       (λ q. ap (λ (c : ℕ). c == 1) (count_map fresh (λ (o : Own). o.power == q) (λ (s : NewSeat). s.power == q) seats (λ s. refl)))
       ∙ h.complete;
-  seats = all_map (λ s. s.power < length m.realms) (IsLawfulSeat m public.board) fresh seats (λ s low. record { power = low; pending = tt; sent = refl; items = refl }) h.known;
+  seats = all_map (λ s. s.power < length m.realms) (IsLawfulSeat m public.board) fresh seats (λ s low. record { power = low; pending = tt; ascending = tt; sent = refl; items = refl }) h.known;
   papers = h.papers;
   few = omega (arith, h.papers);
 }
@@ -191,39 +194,42 @@ opened_lawful m public paper seats fine h = record {
 lawful_after : (m : Chart) → IsOf m (opening m) → ((b : Position) → IsOf m b → ReadsAgain m b) → (s : State) (n : Mail) (who : Author) (v : Verdict)
     → Decides m s n who v → IsLawful m s → IsLawful m (after n who v s)
 lawful_after m fine again s n who NotKnown d l = l
-lawful_after m fine again s n who (Old text) d l = l
+lawful_after m fine again s n who (Again text) d l = l
+lawful_after m fine again s n who (OutOfTurn text) d l = l
 lawful_after m fine again s n who (Taken text e) d l = go who e d (decides_suits m s n who (Taken text e) d)
   where
-    go : (who : Author) (e : Effect) → Decides m s n who (Taken text e) → Suits n.game who (game_at n.game s) e → IsLawful m (after n who (Taken text e) s)
+    go : (who : Author) (e : Effect) → Decides m s n who (Taken text e) → Suits n.note.game who (game_at n.note.game s) e → IsLawful m (after n who (Taken text e) s)
     go Nobody e d suits = absurd suits
     go TheMaster Nothing d suits = record { games = l.games; names = l.names }
     go TheMaster (Pending lines) d suits = record { games = l.games; names = l.names }
     go TheMaster (Opens public paper seats) d suits =
-        let found = opens_where n.game TheMaster (game_at n.game s) public paper seats suits in
-        let opens = subst (OpensLawful m) (sym d) (master_lawful m n s.desk.kept n.command (game_at n.game s)) in record {
+        let found = opens_where n.note.game TheMaster (game_at n.note.game s) public paper seats suits in
+        let opens = master_lawful m n s.desk.kept n.note.command (game_at n.note.game s) (Taken text (Opens public paper seats)) d in record {
           games = all_last (IsLawfulGame m) s.games (opened public paper seats) l.games (opened_lawful m public paper seats fine opens);
           names = apart_last s.games (opened public paper seats) l.names (ap (λ (name : List ℕ). at bytes_eq name_of name s.games) found.2 ∙ found.1);
         }
-    go (Seat p) Nothing d suits = record { games = seats_lawful m s n p text Nothing again d l; names = apart_change n.game p (own_after (kept_of n text) None) s.games l.names }
-    go (Seat p) (Pending lines) d suits = record { games = seats_lawful m s n p text (Pending lines) again d l; names = apart_change n.game p (own_after (kept_of n text) (Some lines)) s.games l.names }
+    go (Seat p) Nothing d suits = record { games = seats_lawful m s n p text Nothing again d l; names = apart_change n.note.game p (own_after (kept_of n text) None) s.games l.names }
+    go (Seat p) (Pending lines) d suits = record { games = seats_lawful m s n p text (Pending lines) again d l; names = apart_change n.note.game p (own_after (kept_of n text) (Some lines)) s.games l.names }
     go (Seat p) (Opens public paper seats) d suits =
-        let found = opens_where n.game (Seat p) (game_at n.game s) public paper seats suits in
+        let found = opens_where n.note.game (Seat p) (game_at n.note.game s) public paper seats suits in
         let bad : ◌≡◌ {A = Author} (Seat p) TheMaster = found.0 in cc
 
 pub stays_lawful : (m : Chart) → IsOf m (opening m) → ((b : Position) → IsOf m b → ReadsAgain m b) → StaysLawful m
 stays_lawful m fine again old n r new l step = subst (IsLawful m) (sym step.3) (lawful_after m fine again old n (author m n old) step.0 step.1 l)
 
--- nothing foreign
+-- nothing Damaged
 
-pub no_foreign_lines : (m : Chart) → HasNoForeignLines m
-no_foreign_lines m s n l h = go (game_at n.game s) refl h.1
+pub never_damaged : (m : Chart) → IsNeverDamaged m
+never_damaged m s n Nobody l h = h
+never_damaged m s n TheMaster l h = h
+never_damaged m s n (Seat power) l h = go (game_at n.note.game s) refl h
   where
-    seat : (g : Game) → IsLawfulGame m g → (o : Option Own) → seat_at h.0 g.seats ≡ o → IsForeignTo m (Some g.public) o → ⊥
+    seat : (g : Game) → IsLawfulGame m g → (o : Option Own) → seat_at power g.seats ≡ o → IsForeignTo m (Some g.public) o → ⊥
     seat g lg None is foreign = absurd foreign
     seat g lg (Some o) is foreign =
-        let lo : IsLawfulSeat m g.public.board o = all_at (λ a b. a == b) (λ (x : Own). x.power) h.0 (IsLawfulSeat m g.public.board) g.seats o lg.seats is in
+        let lo : IsLawfulSeat m g.public.board o = all_at (λ a b. a == b) (λ (x : Own). x.power) power (IsLawfulSeat m g.public.board) g.seats o lg.seats is in
         absurd (false≢true (sym (canonical_own m g.public.board o.power o.pending lo.pending) ∙ foreign))
 
-    go : (game : Option Game) → game_at n.game s ≡ game → IsForeignTo m (seen_in h.0 game).public (seen_in h.0 game).own → ⊥
+    go : (game : Option Game) → game_at n.note.game s ≡ game → IsForeignTo m (seen_in power game).public (seen_in power game).own → ⊥
     go None is foreign = absurd foreign
-    go (Some g) is foreign = seat g (all_at bytes_eq name_of n.game (IsLawfulGame m) s.games g l.games is) (seat_at h.0 g.seats) refl foreign
+    go (Some g) is foreign = seat g (all_at bytes_eq name_of n.note.game (IsLawfulGame m) s.games g l.games is) (seat_at power g.seats) refl foreign

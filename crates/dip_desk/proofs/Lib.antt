@@ -5,7 +5,11 @@ pub mod OrderingLemmas
 pub mod Suiting
 pub mod Seeing
 pub mod Runs
+pub mod Others
+pub mod Stranging
 pub mod ListLemmas
 pub mod LawfulOrders
 pub mod LawfulStates
 pub mod Repeating
+pub mod Sighting
+pub mod Keepings

@@ -5,10 +5,10 @@ use Rattle.std.proofs.lemmas.Bool.{eq-eqb, ltb-true}
 use Rattle.dip_letters.specs.Notes.{Request}
 use Rattle.dip_letters.specs.Notes.Request.{Create, Orders, Show}
 use Rattle.dip_chart.specs.Charts.{Chart, power_of}
-use Rattle.dip_reports.specs.Records.{Own, Kept, Reply}
-use Rattle.dip_reports.specs.declared.refusals.Refusal.TheVariants.{NumberUsed, Stale}
+use Rattle.dip_reports.specs.Records.{Own, Kept, Reply, Standing}
+use Rattle.dip_reports.specs.declared.refusals.Refusal.TheVariants.{NumberUsed, Stale, WrongSender}
 use Rattle.dip_desk.specs.Keyed.{at, change_at}
-use Rattle.dip_desk.specs.Machine.{Decides, Step, Verdict, NotKnown, Old, Taken, after, author, by_number, digest, kept_of, master_author, master_verdict, not_for_master, power_author, refusal_line, repeated, reply_of, seat_author, seat_command, seen_in, verdict_by, verdict_on}
+use Rattle.dip_desk.specs.Machine.{Decides, MasterDecides, NumberedBy, Step, Verdict, NotKnown, Again, OutOfTurn, Taken, after, author, created, digest, kept_of, master_author, new_seats, old_number, opening_public, power_author, refusal_line, refused, repeated, reply_of, seat_author, seat_command, seen_in, verdict_by, verdict_on}
 use Rattle.dip_desk.specs.Mail.{Mail}
 use Rattle.dip_desk.specs.Repeats.{ActsOnce}
 use Rattle.dip_desk.specs.State.{State, Game, Author, Nobody, TheMaster, Seat, Effect, Nothing, Pending, Opens, game_at, name_of, own_after, own_at, pending_in, seat_at, with_seat}
@@ -16,11 +16,23 @@ use Rattle.dip_desk.proofs.KeyedLemmas.{at-change_at_same, names_tell}
 use Rattle.dip_desk.proofs.Seeing.{own_power}
 use Rattle.dip_desk.proofs.Suiting.{Suits, decides_suits, opens_where, seat_where}
 
+numbered_one : (o : Option Verdict) (w a b : Verdict) → NumberedBy o (λ v. v ≡ w) a → NumberedBy o (λ v. v ≡ w) b → a ≡ b
+numbered_one None w a b x y = x ∙ sym y
+numbered_one (Some old) w a b x y = x ∙ sym y
+
 -- the machine decides a letter in one way
 decides_one : (m : Chart) (s : State) (n : Mail) (who : Author) (v w : Verdict) → Decides m s n who v → Decides m s n who w → v ≡ w
 decides_one m s n Nobody v w d e = d ∙ sym e
-decides_one m s n TheMaster v w d e = d ∙ sym e
 decides_one m s n (Seat p) v w d e = d ∙ sym e
+decides_one m s n TheMaster v w d e = go n.note.command (game_at n.note.game s) d e
+  where
+    go : (command : Request) (game : Option Game) → MasterDecides m n s.desk.kept command game v → MasterDecides m n s.desk.kept command game w → v ≡ w
+    go (Create due period grey seats) game x y =
+        numbered_one (old_number n s.desk.kept) (created m (opening_public m n.note.game due period grey) (new_seats m n.note.game seats) game) v w x y
+    go (Orders lines) None x y = x ∙ sym y
+    go (Orders lines) (Some g) x y = numbered_one (old_number n s.desk.kept) (refused WrongSender) v w x y
+    go Show None x y = x ∙ sym y
+    go Show (Some g) x y = numbered_one (old_number n s.desk.kept) (refused WrongSender) v w x y
 
 not_below : (a : ℕ) → nat_lt a a ≡ false
 not_below a = go (nat_lt a a) refl
@@ -30,11 +42,11 @@ not_below a = go (nat_lt a a) refl
     go false is = refl
 
 -- the number that was just kept, of the same letter
-number_again : (n : Mail) (text : List ℕ) (v : Verdict) → by_number n (Some (kept_of n text)) v ≡ Old text
-number_again n text v =
-    ap (λ (b : Bool). unwrap_or (cond b (Some (Old (refusal_line (Stale n.number)))) (cond (n.number == n.number) (Some (Old (repeated n (kept_of n text)))) None)) v) (not_below n.number)
-    ∙ ap (λ (b : Bool). unwrap_or (cond b (Some (Old (repeated n (kept_of n text)))) None) v) (eq-eqb n.number n.number refl)
-    ∙ ap (λ (b : Bool). Old (cond b text (refusal_line (NumberUsed n.number)))) (names_tell.self n.sum)
+number_again : (n : Mail) (text : List ℕ) → old_number n (Some (kept_of n text)) ≡ Some (Again text)
+number_again n text =
+    ap (λ (b : Bool). cond b (Some (OutOfTurn (refusal_line (Stale n.note.number)))) (cond (n.note.number == n.note.number) (Some (repeated n (kept_of n text))) None)) (not_below n.note.number)
+    ∙ ap (λ (b : Bool). cond b (Some (repeated n (kept_of n text))) None) (eq-eqb n.note.number n.note.number refl)
+    ∙ ap (λ (b : Bool). Some (cond b (Again text) (OutOfTurn (refusal_line (NumberUsed n.note.number))))) (names_tell.self n.sum)
 
 -- an author is told by digests alone
 
@@ -47,7 +59,7 @@ seat_author_same n power None (Some b) e = absurd (cc)
 seat_author_same n power (Some a) None e = absurd (cc)
 seat_author_same n power (Some a) (Some b) e =
     let same : a.digest ≡ b.digest = cc in
-    ap (λ (x : List ℕ). cond (bytes_eq (digest n.game n.sender n.secret) x) (Seat power) Nobody) same
+    ap (λ (x : List ℕ). cond (bytes_eq (digest n.note.game n.note.sender n.note.secret) x) (Seat power) Nobody) same
 
 no_seat : (b : Bool) (p : ℕ) → cond b TheMaster Nobody ≡ Seat p → ⊥
 no_seat true p e = let bad : ◌≡◌ {A = Author} TheMaster (Seat p) = e in absurd (cc)
@@ -55,42 +67,42 @@ no_seat false p e = let bad : ◌≡◌ {A = Author} Nobody (Seat p) = e in absu
 
 no_master : (n : Mail) (power : ℕ) (o : Option Own) → seat_author n power o ≡ TheMaster → ⊥
 no_master n power None e = let bad : ◌≡◌ {A = Author} Nobody TheMaster = e in absurd (cc)
-no_master n power (Some o) e = go (bytes_eq (digest n.game n.sender n.secret) o.digest) e
+no_master n power (Some o) e = go (bytes_eq (digest n.note.game n.note.sender n.note.secret) o.digest) e
   where
     go : (b : Bool) → cond b (Seat power) Nobody ≡ TheMaster → ⊥
     go true e = let bad : ◌≡◌ {A = Author} (Seat power) TheMaster = e in absurd (cc)
     go false e = let bad : ◌≡◌ {A = Author} Nobody TheMaster = e in absurd (cc)
 
 master_stays : (m : Chart) (n : Mail) (s t : State) → t.desk.digest ≡ s.desk.digest → author m n s ≡ TheMaster → author m n t ≡ TheMaster
-master_stays m n s t same is = go (bytes_eq n.sender (codes "master")) is
+master_stays m n s t same is = go (bytes_eq n.note.sender (codes "master")) is
   where
     other : (power : Option ℕ) → power_author n power s ≡ TheMaster → ⊥
     other None e = let bad : ◌≡◌ {A = Author} Nobody TheMaster = e in absurd (cc)
-    other (Some power) e = no_master n power (own_at n.game power s) e
+    other (Some power) e = no_master n power (own_at n.note.game power s) e
 
-    go : (b : Bool) → cond b (master_author n s) (power_author n (power_of m n.sender) s) ≡ TheMaster
-        → cond b (master_author n t) (power_author n (power_of m n.sender) t) ≡ TheMaster
-    go true e = ap (λ (d : List ℕ). cond (bytes_eq (digest (codes "desk") (codes "master") n.secret) d) TheMaster Nobody) same ∙ e
-    go false e = absurd (other (power_of m n.sender) e)
+    go : (b : Bool) → cond b (master_author n s) (power_author n (power_of m n.note.sender) s) ≡ TheMaster
+        → cond b (master_author n t) (power_author n (power_of m n.note.sender) t) ≡ TheMaster
+    go true e = ap (λ (d : List ℕ). cond (bytes_eq (digest (codes "desk") (codes "master") n.note.secret) d) TheMaster Nobody) same ∙ e
+    go false e = absurd (other (power_of m n.note.sender) e)
 
-seat_stays : (m : Chart) (n : Mail) (p : ℕ) (s t : State) → ((q : ℕ) → digest_of (own_at n.game q t) ≡ digest_of (own_at n.game q s)) → author m n s ≡ Seat p → author m n t ≡ Seat p
-seat_stays m n p s t same is = go (bytes_eq n.sender (codes "master")) is
+seat_stays : (m : Chart) (n : Mail) (p : ℕ) (s t : State) → ((q : ℕ) → digest_of (own_at n.note.game q t) ≡ digest_of (own_at n.note.game q s)) → author m n s ≡ Seat p → author m n t ≡ Seat p
+seat_stays m n p s t same is = go (bytes_eq n.note.sender (codes "master")) is
   where
     power : (q : Option ℕ) → power_author n q s ≡ Seat p → power_author n q t ≡ Seat p
     power None e = e
-    power (Some q) e = seat_author_same n q (own_at n.game q t) (own_at n.game q s) (same q) ∙ e
+    power (Some q) e = seat_author_same n q (own_at n.note.game q t) (own_at n.note.game q s) (same q) ∙ e
 
-    go : (b : Bool) → cond b (master_author n s) (power_author n (power_of m n.sender) s) ≡ Seat p
-        → cond b (master_author n t) (power_author n (power_of m n.sender) t) ≡ Seat p
-    go true e = absurd (no_seat (bytes_eq (digest (codes "desk") (codes "master") n.secret) s.desk.digest) p e)
-    go false e = power (power_of m n.sender) e
+    go : (b : Bool) → cond b (master_author n s) (power_author n (power_of m n.note.sender) s) ≡ Seat p
+        → cond b (master_author n t) (power_author n (power_of m n.note.sender) t) ≡ Seat p
+    go true e = absurd (no_seat (bytes_eq (digest (codes "desk") (codes "master") n.note.secret) s.desk.digest) p e)
+    go false e = power (power_of m n.note.sender) e
 
-own_digest : (k : Kept) (lines : Option (List (List ℕ))) (o : Own) → (own_after k lines o).digest ≡ o.digest
+own_digest : (k : Kept) (lines : Option (List Standing)) (o : Own) → (own_after k lines o).digest ≡ o.digest
 own_digest k None o = refl
-own_digest k (Some lines) o = refl
+own_digest k (Some orders) o = refl
 
 -- a letter that a seat has sent leaves each seat its digest
-digests_stay : (k : Kept) (lines : Option (List (List ℕ))) (p q : ℕ) (os : List Own)
+digests_stay : (k : Kept) (lines : Option (List Standing)) (p q : ℕ) (os : List Own)
     → digest_of (seat_at q (change_at (λ a b. a == b) (λ (o : Own). o.power) p (own_after k lines) os)) ≡ digest_of (seat_at q os)
 digests_stay k lines p q [] = refl
 digests_stay k lines p q (o ∷ os) =
@@ -114,81 +126,85 @@ digests_stay k lines p q (o ∷ os) =
     skipped false o os rest = rest
 
 -- the game of a seat's letter, behind it
-game_behind : (s : State) (n : Mail) (p : ℕ) (f : Own → Own) (g : Game) → game_at n.game s ≡ Some g
-    → at bytes_eq name_of n.game (change_at bytes_eq name_of n.game (with_seat p f) s.games) ≡ Some (with_seat p f g)
-game_behind s n p f g found = at-change_at_same bytes_eq name_of n.game (with_seat p f) s.games (λ x. refl) ∙ ap (option_map (with_seat p f)) found
+game_behind : (s : State) (n : Mail) (p : ℕ) (f : Own → Own) (g : Game) → game_at n.note.game s ≡ Some g
+    → at bytes_eq name_of n.note.game (change_at bytes_eq name_of n.note.game (with_seat p f) s.games) ≡ Some (with_seat p f g)
+game_behind s n p f g found = at-change_at_same bytes_eq name_of n.note.game (with_seat p f) s.games (λ x. refl) ∙ ap (option_map (with_seat p f)) found
 
-owns_stay : (s : State) (n : Mail) (p : ℕ) (k : Kept) (lines : Option (List (List ℕ))) (g : Game) → game_at n.game s ≡ Some g → (q : ℕ)
-    → digest_of (option_and_then (λ x. seat_at q x.seats) (at bytes_eq name_of n.game (change_at bytes_eq name_of n.game (with_seat p (own_after k lines)) s.games)))
-    ≡ digest_of (own_at n.game q s)
+owns_stay : (s : State) (n : Mail) (p : ℕ) (k : Kept) (lines : Option (List Standing)) (g : Game) → game_at n.note.game s ≡ Some g → (q : ℕ)
+    → digest_of (option_and_then (λ x. seat_at q x.seats) (at bytes_eq name_of n.note.game (change_at bytes_eq name_of n.note.game (with_seat p (own_after k lines)) s.games)))
+    ≡ digest_of (own_at n.note.game q s)
 owns_stay s n p k lines g found q =
     ap (λ (x : Option Game). digest_of (option_and_then (λ (y : Game). seat_at q y.seats) x)) (game_behind s n p (own_after k lines) g found)
     ∙ digests_stay k lines p q g.seats
     ∙ sym (ap (λ (x : Option Game). digest_of (option_and_then (λ (y : Game). seat_at q y.seats) x)) found)
 
-own_kept : (k : Kept) (lines : Option (List (List ℕ))) (o : Own) → (own_after k lines o).kept ≡ Some k
+own_kept : (k : Kept) (lines : Option (List Standing)) (o : Own) → (own_after k lines o).kept ≡ Some k
 own_kept k None o = refl
-own_kept k (Some lines) o = refl
+own_kept k (Some orders) o = refl
 
 -- a seat's letter that was taken, decided again
-seat_again : (m : Chart) (s : State) (n : Mail) (p : ℕ) (text : List ℕ) (e : Effect) (g : Game) → game_at n.game s ≡ Some g → Taken text e ≡ verdict_on m n (seen_in p (Some g))
-    → verdict_on m n (seen_in p (at bytes_eq name_of n.game (change_at bytes_eq name_of n.game (with_seat p (own_after (kept_of n text) (pending_in e))) s.games))) ≡ Old text
+seat_again : (m : Chart) (s : State) (n : Mail) (p : ℕ) (text : List ℕ) (e : Effect) (g : Game) → game_at n.note.game s ≡ Some g → Taken text e ≡ verdict_on m n (seen_in p (Some g))
+    → verdict_on m n (seen_in p (at bytes_eq name_of n.note.game (change_at bytes_eq name_of n.note.game (with_seat p (own_after (kept_of n text) (pending_in e))) s.games))) ≡ Again text
 seat_again m s n p text e g found d =
     let f : Own → Own = own_after (kept_of n text) (pending_in e) in
     ap (λ (x : Option Game). verdict_on m n (seen_in p x)) (game_behind s n p f g found)
     ∙ ap (λ (o : Option Own). verdict_by m n (Some g.public) o) (at-change_at_same (λ a b. a == b) (λ (o : Own). o.power) p f g.seats (own_power (kept_of n text) (pending_in e)))
     ∙ known (seat_at p g.seats) d
   where
-    known : (o : Option Own) → Taken text e ≡ verdict_by m n (Some g.public) o → verdict_by m n (Some g.public) (option_map (own_after (kept_of n text) (pending_in e)) o) ≡ Old text
+    known : (o : Option Own) → Taken text e ≡ verdict_by m n (Some g.public) o → verdict_by m n (Some g.public) (option_map (own_after (kept_of n text) (pending_in e)) o) ≡ Again text
     known None d = let bad : ◌≡◌ {A = Verdict} (Taken text e) NotKnown = d in absurd (cc)
     known (Some o) d =
-        ap (λ (k : Option Kept). by_number n k (seat_command m n.command g.public (own_after (kept_of n text) (pending_in e) o))) (own_kept (kept_of n text) (pending_in e) o)
-        ∙ number_again n text (seat_command m n.command g.public (own_after (kept_of n text) (pending_in e) o))
+        ap (λ (k : Option Kept). unwrap_or (old_number n k) (seat_command m n.note.command g.public (own_after (kept_of n text) (pending_in e) o))) (own_kept (kept_of n text) (pending_in e) o)
+        ∙ ap (λ (old : Option Verdict). unwrap_or old (seat_command m n.note.command g.public (own_after (kept_of n text) (pending_in e) o))) (number_again n text)
+
+known_again : (n : Mail) (text : List ℕ) (New : Verdict → Type 0) → NumberedBy (old_number n (Some (kept_of n text))) New (Again text)
+known_again n text New = subst (λ (o : Option Verdict). NumberedBy o New (Again text)) (sym (number_again n text)) refl
 
 -- a letter of the master that was taken, decided again
 master_again : (m : Chart) (n : Mail) (k : Option Kept) (text : List ℕ) (e : Effect) (command : Request) (game after : Option Game)
-    → Taken text e ≡ master_verdict m n k command game → ((g : Game) → game ≡ Some g → after ≡ Some g) → master_verdict m n (Some (kept_of n text)) command after ≡ Old text
-master_again m n k text e (Create due period grey seats) game after d stays = number_again n text _
+    → MasterDecides m n k command game (Taken text e) → ((g : Game) → game ≡ Some g → after ≡ Some g) → MasterDecides m n (Some (kept_of n text)) command after (Again text)
+master_again m n k text e (Create due period grey seats) game after d stays =
+    known_again n text (λ w. w ≡ created m (opening_public m n.note.game due period grey) (new_seats m n.note.game seats) after)
 master_again m n k text e (Orders lines) None after d stays = let bad : ◌≡◌ {A = Verdict} (Taken text e) NotKnown = d in absurd (cc)
 master_again m n k text e (Orders lines) (Some g) after d stays =
-    ap (λ (x : Option Game). not_for_master n (Some (kept_of n text)) x) (stays g refl) ∙ number_again n text _
+    subst (λ (x : Option Game). MasterDecides m n (Some (kept_of n text)) (Orders lines) x (Again text)) (sym (stays g refl)) (known_again n text (λ w. w ≡ refused WrongSender))
 master_again m n k text e Show None after d stays = let bad : ◌≡◌ {A = Verdict} (Taken text e) NotKnown = d in absurd (cc)
 master_again m n k text e Show (Some g) after d stays =
-    ap (λ (x : Option Game). not_for_master n (Some (kept_of n text)) x) (stays g refl) ∙ number_again n text _
+    subst (λ (x : Option Game). MasterDecides m n (Some (kept_of n text)) Show x (Again text)) (sym (stays g refl)) (known_again n text (λ w. w ≡ refused WrongSender))
 
 -- who is decided so again
-abbrev pub Again : Chart → State → Mail → List ℕ → Type 0
-Again m s n text = (who : Author) × (author m n s ≡ who) × Decides m s n who (Old text)
+abbrev pub IsRepeat : Chart → State → Mail → List ℕ → Type 0
+IsRepeat m s n text = (who : Author) × (author m n s ≡ who) × Decides m s n who (Again text)
 
 taken_again : (m : Chart) (s : State) (n : Mail) (who : Author) (text : List ℕ) (e : Effect) → author m n s ≡ who → Decides m s n who (Taken text e)
-    → Suits n.game who (game_at n.game s) e → Again m (after n who (Taken text e) s) n text
+    → Suits n.note.game who (game_at n.note.game s) e → IsRepeat m (after n who (Taken text e) s) n text
 taken_again m s n Nobody text e is d suits = absurd suits
 taken_again m s n TheMaster text Nothing is d suits =
-    (TheMaster, master_stays m n s (after n TheMaster (Taken text Nothing) s) refl is, sym (master_again m n s.desk.kept text Nothing n.command (game_at n.game s) (game_at n.game s) d (λ g e. e)))
-taken_again m s n TheMaster text (Pending lines) is d suits =
-    (TheMaster, master_stays m n s (after n TheMaster (Taken text (Pending lines)) s) refl is, sym (master_again m n s.desk.kept text (Pending lines) n.command (game_at n.game s) (game_at n.game s) d (λ g e. e)))
+    (TheMaster, master_stays m n s (after n TheMaster (Taken text Nothing) s) refl is, (master_again m n s.desk.kept text Nothing n.note.command (game_at n.note.game s) (game_at n.note.game s) d (λ g e. e)))
+taken_again m s n TheMaster text (Pending orders) is d suits =
+    (TheMaster, master_stays m n s (after n TheMaster (Taken text (Pending orders)) s) refl is, (master_again m n s.desk.kept text (Pending orders) n.note.command (game_at n.note.game s) (game_at n.note.game s) d (λ g e. e)))
 taken_again m s n TheMaster text (Opens public paper seats) is d suits =
     let t = after n TheMaster (Taken text (Opens public paper seats)) s in
-    let free = (opens_where n.game TheMaster (game_at n.game s) public paper seats suits).1 in (
+    let free = (opens_where n.note.game TheMaster (game_at n.note.game s) public paper seats suits).1 in (
       TheMaster,
       master_stays m n s t refl is,
-      sym (master_again m n s.desk.kept text (Opens public paper seats) n.command (game_at n.game s) (game_at n.game t) d
+      (master_again m n s.desk.kept text (Opens public paper seats) n.note.command (game_at n.note.game s) (game_at n.note.game t) d
           (λ g found. let bad : ◌≡◌ {A = Option Game} None (Some g) = sym free ∙ found in absurd (cc))),
     )
 taken_again m s n (Seat p) text Nothing is d suits =
-    let there = seat_where n.game p p (game_at n.game s) Nothing suits in (
+    let there = seat_where n.note.game p p (game_at n.note.game s) Nothing suits in (
       Seat p,
       seat_stays m n p s (after n (Seat p) (Taken text Nothing) s) (owns_stay s n p (kept_of n text) None there.0 there.1) is,
       sym (seat_again m s n p text Nothing there.0 there.1 (d ∙ ap (λ (x : Option Game). verdict_on m n (seen_in p x)) there.1)),
     )
-taken_again m s n (Seat p) text (Pending lines) is d suits =
-    let there = seat_where n.game p p (game_at n.game s) (Pending lines) suits in (
+taken_again m s n (Seat p) text (Pending orders) is d suits =
+    let there = seat_where n.note.game p p (game_at n.note.game s) (Pending orders) suits in (
       Seat p,
-      seat_stays m n p s (after n (Seat p) (Taken text (Pending lines)) s) (owns_stay s n p (kept_of n text) (Some lines) there.0 there.1) is,
-      sym (seat_again m s n p text (Pending lines) there.0 there.1 (d ∙ ap (λ (x : Option Game). verdict_on m n (seen_in p x)) there.1)),
+      seat_stays m n p s (after n (Seat p) (Taken text (Pending orders)) s) (owns_stay s n p (kept_of n text) (Some orders) there.0 there.1) is,
+      sym (seat_again m s n p text (Pending orders) there.0 there.1 (d ∙ ap (λ (x : Option Game). verdict_on m n (seen_in p x)) there.1)),
     )
 taken_again m s n (Seat p) text (Opens public paper seats) is d suits =
-    let found = opens_where n.game (Seat p) (game_at n.game s) public paper seats suits in
+    let found = opens_where n.note.game (Seat p) (game_at n.note.game s) public paper seats suits in
     let bad : ◌≡◌ {A = Author} (Seat p) TheMaster = found.0 in absurd (cc)
 
 -- the second step of a letter whose first left this state
@@ -204,8 +220,10 @@ acts_once m old mid new n first again one two = go one.0 one.1 one.2 one.3
     go : (v : Verdict) → Decides m old n (author m n old) v → first ≡ reply_of n v → mid ≡ after n (author m n old) v old → (again ≡ first) × (new ≡ mid)
     go NotKnown d told left =
         second m mid new n NotKnown first again (subst (λ (s : State). Decides m s n (author m n s) NotKnown) (sym left) d) told refl two
-    go (Old text) d told left =
-        second m mid new n (Old text) first again (subst (λ (s : State). Decides m s n (author m n s) (Old text)) (sym left) d) told refl two
+    go (Again text) d told left =
+        second m mid new n (Again text) first again (subst (λ (s : State). Decides m s n (author m n s) (Again text)) (sym left) d) told refl two
+    go (OutOfTurn text) d told left =
+        second m mid new n (OutOfTurn text) first again (subst (λ (s : State). Decides m s n (author m n s) (OutOfTurn text)) (sym left) d) told refl two
     go (Taken text e) d told left =
-        let next = subst (λ (s : State). Again m s n text) (sym left) (taken_again m old n (author m n old) text e refl d (decides_suits m old n (author m n old) (Taken text e) d)) in
-        second m mid new n (Old text) first again (subst (λ (who : Author). Decides m mid n who (Old text)) (sym next.1) next.2) told refl two
+        let next = subst (λ (s : State). IsRepeat m s n text) (sym left) (taken_again m old n (author m n old) text e refl d (decides_suits m old n (author m n old) (Taken text e) d)) in
+        second m mid new n (Again text) first again (subst (λ (who : Author). Decides m mid n who (Again text)) (sym next.1) next.2) told refl two

@@ -1,18 +1,20 @@
 -- Histories, seen by one seat.
-use Rattle.std.proofs.Common.{◌≡◌, ◌≢◌, ℕ, ◌<◌, ◌+◌, Bool, true, false, cond, List, [], ◌∷◌, ◌++◌, map, take, length, get_or, refl, sym, ◌∙◌, ap, subst, bytes_eq}
+use Rattle.std.proofs.Common.{◌≡◌, ◌≢◌, ℕ, arith, ◌<◌, ◌+◌, Bool, true, false, cond, List, [], ◌∷◌, ◌++◌, map, take, length, get_or, refl, sym, ◌∙◌, ap, subst, bytes_eq}
 use Rattle.std.proofs.lemmas.Bool.{false≢true}
-use Rattle.std.proofs.lemmas.List.{take_more}
+use Rattle.std.proofs.lemmas.List.{take_more, get_or-map, length-map}
+use Rattle.std.proofs.lemmas.List.Elements.{Contains-get_or}
+use Rattle.std.specs.Prelude.{Contains}
 use Rattle.dip_desk.specs.Mail.{Mail}
 use Rattle.dip_chart.specs.Charts.{Chart}
-use Rattle.dip_desk.specs.State.{State, Seat, Nothing, Pending, Opens}
-use Rattle.dip_desk.specs.Machine.{Decides, SeatName, Seen, Step, Verdict, NotKnown, Old, Taken, reply_of, seen, verdict_on}
+use Rattle.dip_desk.specs.State.{State, Seat}
+use Rattle.dip_desk.specs.Machine.{Decides, SeatName, Seen, Step, Verdict, reply_of, seen, verdict_on}
 use Rattle.dip_reports.specs.Records.{Reply}
-use Rattle.dip_desk.specs.View.{Event, IsAnsweredFromSeen, IsHistory, IsRun, IsSettledByView, IsShownByOthers, Reaches, Turn, absorb_all, author_in, left_by, own_events, replies_to, reply_in, shown, shown_by, told, verdict_events, view, writes}
+use Rattle.dip_desk.specs.View.{Event, IsAnsweredFromSeen, IsHistory, IsRun, IsSettledByView, Turn, absorb_all, author_in, left_by, own_events, replies_to, reply_in, shown, shown_by, told, verdict_events, view, writes}
 use Rattle.dip_desk.proofs.Seeing.{absorb_all-append, step_seen, step_told, told-append}
 
 pub answered_from_seen : (m : Chart) → IsAnsweredFromSeen m
 answered_from_seen m a b n power v w da db same =
-    let seat : SeatName = record { game = n.game; power = power } in
+    let seat : SeatName = record { game = n.note.game; power = power } in
     let alike : v ≡ w = da ∙ ap (verdict_on m n) same ∙ sym db in (
       ap (reply_of n) alike,
       step_seen m seat a n (Seat power) v da
@@ -60,30 +62,6 @@ settled m old new turns run seat first last others other same shown = (
       ∙ sym (run_seen m seat turns old new run),
 )
 
--- what others show a seat
-pub shown_by_others : IsShownByOthers
-shown_by_others seat n who v others = (there (bytes_eq n.game seat.game) v none, back (bytes_eq n.game seat.game) v none)
-  where
-    none : own_events (writes seat n who) n ≡ []
-    none = ap (λ (b : Bool). own_events b n) others
-
-    there : (b : Bool) (v : Verdict) → own_events (writes seat n who) n ≡ [] → own_events (writes seat n who) n ++ cond b (verdict_events seat.power v) [] ≢ [] → (b ≡ true) × Reaches v
-    there false v e some = absurd (some (ap (λ (es : List Event). es ++ []) e))
-    there true NotKnown e some = absurd (some (ap (λ (es : List Event). es ++ []) e))
-    there true (Old text) e some = absurd (some (ap (λ (es : List Event). es ++ []) e))
-    there true (Taken text Nothing) e some = absurd (some (ap (λ (es : List Event). es ++ []) e))
-    there true (Taken text (Pending lines)) e some = absurd (some (ap (λ (es : List Event). es ++ []) e))
-    there true (Taken text (Opens public paper seats)) e some = (refl, tt)
-
-    back : (b : Bool) (v : Verdict) → own_events (writes seat n who) n ≡ [] → (b ≡ true) × Reaches v → own_events (writes seat n who) n ++ cond b (verdict_events seat.power v) [] ≢ []
-    back false v e h = absurd (false≢true h.0)
-    back true NotKnown e h = absurd h.1
-    back true (Old text) e h = absurd h.1
-    back true (Taken text Nothing) e h = absurd h.1
-    back true (Taken text (Pending lines)) e h = absurd h.1
-    back true (Taken text (Opens public paper seats)) e h =
-        λ empty. let bad = sym (ap (λ (es : List Event). es ++ verdict_events seat.power (Taken text (Opens public paper seats))) e) ∙ empty in cc
-
 -- a history goes on by one step
 run_more : (m : Chart) (ts : List Turn) (old mid : State) (t : Turn) → IsRun m old ts mid → t.before ≡ mid → Decides m t.before t.letter (author_in m t) t.verdict
     → IsRun m old (ts ++ t ∷ []) (left_by m t)
@@ -108,3 +86,8 @@ history_more m old mid new letters replies n r h step =
 
 pub taken_more : {A B : Type 0} (f : A → B) (xs : List A) (i : ℕ) (d : A) → i < length xs → map f (take (i + 1) xs) ≡ map f (take i xs) ++ f (get_or xs i d) ∷ []
 taken_more f xs i d lt = ap (λ ys. map f ys) (take_more xs i d lt) ∙ map_more f (take i xs) (get_or xs i d)
+
+pub contains_said : {A B : Type 0} (f : A → B) (xs : List A) (i : ℕ) (d : A) → i < length xs → Contains (map f xs) (f (get_or xs i d))
+contains_said f xs i d lt =
+    let size : length (map f xs) ≡ length xs = length-map xs f in
+    subst (Contains (map f xs)) (get_or-map f xs i d (f d) lt) (Contains-get_or (map f xs) i (f d) (omega (arith, size, lt)))

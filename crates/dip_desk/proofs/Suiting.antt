@@ -1,45 +1,57 @@
 -- Which effect may come from whom, and where.
-use Rattle.std.proofs.Common.{◌≡◌, ◌==◌, ℕ, nat_lt, unwrap_or, Bool, true, false, cond, List, [], Option, Some, None, refl, sym, subst}
+use Rattle.std.proofs.Common.{◌≡◌, ◌==◌, ◌⊎◌, inl, inr, ℕ, nat_lt, unwrap_or, Bool, true, false, cond, List, [], Option, Some, None, refl, sym, subst, bytes_eq}
 use Rattle.dip_letters.specs.Notes.{Request}
 use Rattle.dip_letters.specs.Notes.Request.{Create, Orders, Show}
 use Rattle.dip_chart.specs.Charts.{Chart}
 use Rattle.dip_desk.specs.Mail.{Mail}
 use Rattle.dip_desk.specs.State.{State, Game, Author, Nobody, TheMaster, Seat, Effect, Nothing, Pending, Opens, NewSeat, game_at, seat_at}
-use Rattle.dip_desk.specs.Machine.{Decides, Verdict, NotKnown, Old, Taken, are_complete, by_number, created, master_verdict, new_seats, open_game, opening_public, refusal_line, refused, repeated, seat_command, seen_in, verdict_by, verdict_on}
+use Rattle.dip_desk.specs.Machine.{Decides, MasterDecides, NumberedBy, Verdict, NotKnown, Again, OutOfTurn, Taken, are_complete, created, new_seats, old_number, open_game, opening_public, refusal_line, refused, seat_command, seen_in, verdict_by, verdict_on}
 use Rattle.dip_desk.specs.View.{effect_events}
 use Rattle.dip_reports.specs.Records.{Public, Own, Kept}
-use Rattle.dip_reports.specs.declared.refusals.Refusal.TheVariants.{Malformed, Stale, WrongSender}
+use Rattle.dip_reports.specs.declared.refusals.Refusal.TheVariants.{Malformed, NumberUsed, Stale, WrongSender}
 
 abbrev pub Suits : List ℕ → Author → Option Game → Effect → Type 0
 Suits name Nobody game e = ⊥
 Suits name TheMaster None Nothing = Unit {0}
-Suits name TheMaster None (Pending lines) = ⊥
+Suits name TheMaster None (Pending orders) = ⊥
 Suits name TheMaster None (Opens public paper seats) = public.game ≡ name
 Suits name TheMaster (Some g) Nothing = Unit {0}
-Suits name TheMaster (Some g) (Pending lines) = ⊥
+Suits name TheMaster (Some g) (Pending orders) = ⊥
 Suits name TheMaster (Some g) (Opens public paper seats) = ⊥
 Suits name (Seat p) None e = ⊥
 Suits name (Seat p) (Some g) Nothing = Unit {0}
-Suits name (Seat p) (Some g) (Pending lines) = Unit {0}
+Suits name (Seat p) (Some g) (Pending orders) = Unit {0}
 Suits name (Seat p) (Some g) (Opens public paper seats) = ⊥
 
 abbrev pub VerdictSuits : List ℕ → Author → Option Game → Verdict → Type 0
 VerdictSuits name who game NotKnown = Unit {0}
-VerdictSuits name who game (Old text) = Unit {0}
+VerdictSuits name who game (Again text) = Unit {0}
+VerdictSuits name who game (OutOfTurn text) = Unit {0}
 VerdictSuits name who game (Taken text e) = Suits name who game e
 
 -- what holds of each answer to an old number, and of what is decided of a new one
-pub number_holds : (P : Verdict → Type 0) → ((text : List ℕ) → P (Old text)) → (n : Mail) (k : Option Kept) (v : Verdict) → P v → P (by_number n k v)
-number_holds P old n None v h = h
-number_holds P old n (Some k) v h = go (nat_lt n.number k.number) (n.number == k.number)
+pub numbered_holds : (P : Verdict → Type 0) → ((text : List ℕ) → P (Again text)) → ((text : List ℕ) → P (OutOfTurn text)) → (n : Mail) (k : Option Kept)
+    (New : Verdict → Type 0) (v : Verdict) → (New v → P v) → NumberedBy (old_number n k) New v → P v
+numbered_holds P again out n None New v new h = new h
+numbered_holds P again out n (Some k) New v new h = go (nat_lt n.note.number k.number) (n.note.number == k.number) (bytes_eq n.sum k.sum) h
   where
-    go : (a b : Bool) → P (unwrap_or (cond a (Some (Old (refusal_line (Stale k.number)))) (cond b (Some (Old (repeated n k))) None)) v)
-    go true b = old (refusal_line (Stale k.number))
-    go false true = old (repeated n k)
-    go false false = h
+    go : (a b c : Bool) → NumberedBy (cond a (Some (OutOfTurn (refusal_line (Stale k.number)))) (cond b (Some (cond c (Again k.reply) (OutOfTurn (refusal_line (NumberUsed k.number))))) None)) New v → P v
+    go true b c is = subst P (sym is) (out (refusal_line (Stale k.number)))
+    go false true true is = subst P (sym is) (again k.reply)
+    go false true false is = subst P (sym is) (out (refusal_line (NumberUsed k.number)))
+    go false false c is = new is
 
-number_suits : (name : List ℕ) (who : Author) (game : Option Game) (n : Mail) (k : Option Kept) (v : Verdict) → VerdictSuits name who game v → VerdictSuits name who game (by_number n k v)
-number_suits name who game n k v h = number_holds (VerdictSuits name who game) (λ text. tt) n k v h
+-- the same of a seat's verdict
+pub seat_holds : (P : Verdict → Type 0) → ((text : List ℕ) → P (Again text)) → ((text : List ℕ) → P (OutOfTurn text)) → (n : Mail) (k : Option Kept) (v : Verdict)
+    → P v → P (unwrap_or (old_number n k) v)
+seat_holds P again out n None v h = h
+seat_holds P again out n (Some k) v h = go (nat_lt n.note.number k.number) (n.note.number == k.number) (bytes_eq n.sum k.sum)
+  where
+    go : (a b c : Bool) → P (unwrap_or (cond a (Some (OutOfTurn (refusal_line (Stale k.number)))) (cond b (Some (cond c (Again k.reply) (OutOfTurn (refusal_line (NumberUsed k.number))))) None)) v)
+    go true b c = out (refusal_line (Stale k.number))
+    go false true true = again k.reply
+    go false true false = out (refusal_line (NumberUsed k.number))
+    go false false c = h
 
 command_suits : (m : Chart) (name : List ℕ) (p : ℕ) (g : Game) (command : Request) (o : Own) → VerdictSuits name (Seat p) (Some g) (seat_command m command g.public o)
 command_suits m name p g (Create due period grey seats) o = tt
@@ -48,7 +60,8 @@ command_suits m name p g Show o = tt
 
 seat_suits : (m : Chart) (name : List ℕ) (p : ℕ) (g : Game) (n : Mail) (o : Option Own) → VerdictSuits name (Seat p) (Some g) (verdict_by m n (Some g.public) o)
 seat_suits m name p g n None = tt
-seat_suits m name p g n (Some o) = number_suits name (Seat p) (Some g) n o.kept (seat_command m n.command g.public o) (command_suits m name p g n.command o)
+seat_suits m name p g n (Some o) =
+    seat_holds (VerdictSuits name (Seat p) (Some g)) (λ text. tt) (λ text. tt) n o.kept (seat_command m n.note.command g.public o) (command_suits m name p g n.note.command o)
 
 nothing_suits : (name : List ℕ) (game : Option Game) → Suits name TheMaster game Nothing
 nothing_suits name None = tt
@@ -66,23 +79,28 @@ created_suits m p (Some seats) game = go (are_complete m seats)
     go true = open_suits m p seats game
     go false = nothing_suits p.game game
 
-master_suits : (m : Chart) (n : Mail) (k : Option Kept) (command : Request) (game : Option Game) → VerdictSuits n.game TheMaster game (master_verdict m n k command game)
-master_suits m n k (Create due period grey seats) game =
-    number_suits n.game TheMaster game n k (created m (opening_public m n.game due period grey) (new_seats m n.game seats) game) (created_suits m (opening_public m n.game due period grey) (new_seats m n.game seats) game)
-master_suits m n k (Orders lines) None = tt
-master_suits m n k (Orders lines) (Some g) = number_suits n.game TheMaster (Some g) n k (refused WrongSender) tt
-master_suits m n k Show None = tt
-master_suits m n k Show (Some g) = number_suits n.game TheMaster (Some g) n k (refused WrongSender) tt
+master_suits : (m : Chart) (n : Mail) (k : Option Kept) (command : Request) (game : Option Game) (v : Verdict) → MasterDecides m n k command game v
+    → VerdictSuits n.note.game TheMaster game v
+master_suits m n k (Create due period grey seats) game v h =
+    numbered_holds (VerdictSuits n.note.game TheMaster game) (λ text. tt) (λ text. tt) n k
+    (λ w. w ≡ created m (opening_public m n.note.game due period grey) (new_seats m n.note.game seats) game) v
+    (λ is. subst (VerdictSuits n.note.game TheMaster game) (sym is) (created_suits m (opening_public m n.note.game due period grey) (new_seats m n.note.game seats) game)) h
+master_suits m n k (Orders lines) None v h = subst (VerdictSuits n.note.game TheMaster None) (sym h) tt
+master_suits m n k (Orders lines) (Some g) v h =
+    numbered_holds (VerdictSuits n.note.game TheMaster (Some g)) (λ text. tt) (λ text. tt) n k (λ w. w ≡ refused WrongSender) v (λ is. subst (VerdictSuits n.note.game TheMaster (Some g)) (sym is) tt) h
+master_suits m n k Show None v h = subst (VerdictSuits n.note.game TheMaster None) (sym h) tt
+master_suits m n k Show (Some g) v h =
+    numbered_holds (VerdictSuits n.note.game TheMaster (Some g)) (λ text. tt) (λ text. tt) n k (λ w. w ≡ refused WrongSender) v (λ is. subst (VerdictSuits n.note.game TheMaster (Some g)) (sym is) tt) h
 
 -- what is decided has an effect that may come there
-pub decides_suits : (m : Chart) (s : State) (n : Mail) (who : Author) (v : Verdict) → Decides m s n who v → VerdictSuits n.game who (game_at n.game s) v
-decides_suits m s n Nobody v h = subst (λ (w : Verdict). VerdictSuits n.game Nobody (game_at n.game s) w) (sym h) tt
-decides_suits m s n TheMaster v h = subst (λ (w : Verdict). VerdictSuits n.game TheMaster (game_at n.game s) w) (sym h) (master_suits m n s.desk.kept n.command (game_at n.game s))
-decides_suits m s n (Seat p) v h = go (game_at n.game s) h
+pub decides_suits : (m : Chart) (s : State) (n : Mail) (who : Author) (v : Verdict) → Decides m s n who v → VerdictSuits n.note.game who (game_at n.note.game s) v
+decides_suits m s n Nobody v h = subst (λ (w : Verdict). VerdictSuits n.note.game Nobody (game_at n.note.game s) w) (sym h) tt
+decides_suits m s n TheMaster v h = master_suits m n s.desk.kept n.note.command (game_at n.note.game s) v h
+decides_suits m s n (Seat p) v h = go (game_at n.note.game s) h
   where
-    go : (game : Option Game) → v ≡ verdict_on m n (seen_in p game) → VerdictSuits n.game (Seat p) game v
-    go None is = subst (λ (w : Verdict). VerdictSuits n.game (Seat p) None w) (sym is) tt
-    go (Some g) is = subst (λ (w : Verdict). VerdictSuits n.game (Seat p) (Some g) w) (sym is) (seat_suits m n.game p g n (seat_at p g.seats))
+    go : (game : Option Game) → v ≡ verdict_on m n (seen_in p game) → VerdictSuits n.note.game (Seat p) game v
+    go None is = subst (λ (w : Verdict). VerdictSuits n.note.game (Seat p) None w) (sym is) tt
+    go (Some g) is = subst (λ (w : Verdict). VerdictSuits n.note.game (Seat p) (Some g) w) (sym is) (seat_suits m n.note.game p g n (seat_at p g.seats))
 
 -- a new game comes from the master, where there is none of its name
 pub opens_where : (name : List ℕ) (who : Author) (game : Option Game) (public : Public) (paper : List ℕ) (seats : List NewSeat)
@@ -98,5 +116,15 @@ pub seat_where : (name : List ℕ) (p power : ℕ) (game : Option Game) (e : Eff
     → (g : Game) × (game ≡ Some g) × (effect_events power e ≡ [])
 seat_where name p power None e h = absurd h
 seat_where name p power (Some g) Nothing h = (g, refl, refl)
-seat_where name p power (Some g) (Pending lines) h = (g, refl, refl)
+seat_where name p power (Some g) (Pending orders) h = (g, refl, refl)
 seat_where name p power (Some g) (Opens public paper seats) h = absurd h
+
+-- so does the master's: it does nothing, or opens a game of its name, which is free
+pub master_where : (name : List ℕ) (game : Option Game) (e : Effect) → Suits name TheMaster game e
+    → (e ≡ Nothing) ⊎ ((public : Public) × (paper : List ℕ) × (seats : List NewSeat) × (e ≡ Opens public paper seats) × (game ≡ None) × (public.game ≡ name))
+master_where name None Nothing h = inl refl
+master_where name None (Pending orders) h = absurd h
+master_where name None (Opens public paper seats) h = inr (public, paper, seats, refl, refl, h)
+master_where name (Some g) Nothing h = inl refl
+master_where name (Some g) (Pending orders) h = absurd h
+master_where name (Some g) (Opens public paper seats) h = absurd h

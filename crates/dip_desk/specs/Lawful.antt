@@ -1,30 +1,36 @@
 -- What holds of each state that the desk comes to from an empty one.
-use Rattle.std.specs.Prelude.{◌≡◌, ◌<◌, ◌≤◌, ◌==◌, ℕ, List, [], ◌∷◌, length, true, Ok, None, bytes_eq, count_by}
+use Rattle.std.specs.Prelude.{◌≡◌, ◌<◌, ◌≤◌, ◌==◌, ℕ, List, [], ◌∷◌, length, true, Ok, None, bytes_eq, count_by, map}
 use Rattle.std.specs.List.{AllByRecursion, list_all}
 use Rattle.dip_board.specs.Boards.{Position, IsOf}
 use Rattle.dip_chart.specs.Charts.{Chart}
 use Rattle.dip_orders.specs.Reading.{order_of}
-use Rattle.dip_orders.specs.Texts.{order_text}
 use Rattle.dip_orders.specs.declared.placed.PlacedOrder.{PlacedOrder}
-use Rattle.dip_reports.specs.Records.{Own}
+use Rattle.dip_reports.specs.Records.{Own, Standing}
 use Rattle.dip_reports.specs.Texts.{numbers}
 use Rattle.dip_desk.specs.Keyed.{at}
 use Rattle.dip_desk.specs.Mail.{Mail}
-use Rattle.dip_desk.specs.Machine.{HasForeignLine, Step}
-use Rattle.dip_desk.specs.State.{Game, State, name_of}
+use Rattle.dip_desk.specs.Ordering.{kept_order}
+use Rattle.dip_desk.specs.Machine.{MayBeDamaged, Step}
+use Rattle.dip_desk.specs.State.{Author, Game, State, name_of}
 use Rattle.dip_reports.specs.Records.{Reply}
 
--- a line is an order of the power on the board, in its canonical text
-pub record IsCanonical (m : Chart) (b : Position) (power : ℕ) (line : List ℕ) : Type 0 where
+-- what is kept is an order of the power on the board, with its province and its canonical text
+pub record IsCanonical (m : Chart) (b : Position) (power : ℕ) (kept : Standing) : Type 0 where
   pub order : PlacedOrder
-  pub read : order_of m b power [] line ≡ Ok order
-  pub text : line ≡ order_text m order
+  pub read : order_of m b power [] kept.line ≡ Ok order
+  pub text : kept ≡ kept_order m order
 
--- a seat of a game with this board: it is of a power of the map, its standing lines are orders there, and it has neither sent nor
--- received press
+-- each is less than all behind it
+abbrev pub AreAscending : List ℕ → Type 0
+AreAscending [] = Unit {0}
+AreAscending (p ∷ ps) = AllByRecursion (λ q. p < q) ps × AreAscending ps
+
+-- a seat of a game with this board: it is of a power of the map; its standing orders are orders there, one a province, by province;
+-- and it has neither sent nor received press
 pub record IsLawfulSeat (m : Chart) (b : Position) (o : Own) : Type 0 where
   pub power : o.power < length m.realms
   pub pending : AllByRecursion (IsCanonical m b o.power) o.pending
+  pub ascending : AreAscending (map (λ s. s.province) o.pending)
   pub sent : o.sent ≡ 0
   pub items : o.items ≡ 0
 
@@ -49,6 +55,6 @@ pub record IsLawful (m : Chart) (s : State) : Type 0 where
 abbrev pub StaysLawful : Chart → Type 0
 StaysLawful m = (old : State) (n : Mail) (r : Reply) (new : State) → IsLawful m old → Step m old n r new → IsLawful m new
 
--- in a lawful state no standing line is foreign to its board
-abbrev pub HasNoForeignLines : Chart → Type 0
-HasNoForeignLines m = (s : State) (n : Mail) → IsLawful m s → HasForeignLine m s n → ⊥
+-- in a lawful state nothing is Damaged
+abbrev pub IsNeverDamaged : Chart → Type 0
+IsNeverDamaged m = (s : State) (n : Mail) (who : Author) → IsLawful m s → MayBeDamaged m s n who → ⊥

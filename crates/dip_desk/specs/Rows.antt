@@ -23,7 +23,7 @@ new_seat n = record { power = n.power; digest = n.digest }
 
 abbrev pub effect : Effect → s.Effect
 effect Nothing = s.Nothing
-effect (Pending lines) = s.Pending (texts.lines lines.items)
+effect (Pending orders) = s.Pending (texts.standings orders.items)
 effect (Opens public paper seats) = s.Opens (texts.public public) (string_bytes paper) (map new_seat seats.items)
 
 abbrev pub change : Change → s.Change

@@ -1,7 +1,7 @@
 -- What the desk keeps, its named parts, and what a change makes of it.
 use Rattle.std.specs.Prelude.{ℕ, ◌==◌, false, List, [], ◌∷◌, ◌++◌, Option, None, Some, option_map, option_and_then, map, bytes_eq}
 use Rattle.dip_desk.specs.Keyed.{at, change_at}
-use Rattle.dip_reports.specs.Records.{Public, Own, Kept}
+use Rattle.dip_reports.specs.Records.{Public, Own, Kept, Standing}
 
 -- the master's row
 pub record Desk : Type 0 where
@@ -50,7 +50,7 @@ pub record NewSeat : Type 0 where
 -- what a change does to its game
 pub data Effect : Type 0 where
   Nothing : Effect
-  Pending : (lines : List (List ℕ)) → Effect
+  Pending : (orders : List Standing) → Effect
   Opens : (public : Public) → (paper : List ℕ) → (seats : List NewSeat) → Effect
 
 -- what an accepted letter changes: what is kept of it, and its effect
@@ -72,18 +72,18 @@ abbrev pub at_seat : List ℕ → ℕ → (Own → Own) → List Game → List G
 at_seat name power f games = change_at bytes_eq name_of name (with_seat power f) games
 
 -- the standing orders that an effect gives its author, where it gives any
-abbrev pub pending_in : Effect → Option (List (List ℕ))
+abbrev pub pending_in : Effect → Option (List Standing)
 pending_in Nothing = None
-pending_in (Pending lines) = Some lines
+pending_in (Pending orders) = Some orders
 pending_in (Opens public paper seats) = None
 
 -- a seat's own part after a letter of its own
-abbrev pub own_after : Kept → Option (List (List ℕ)) → Own → Own
+abbrev pub own_after : Kept → Option (List Standing) → Own → Own
 own_after k None o = record o { kept = Some k }
-own_after k (Some lines) o = record o { kept = Some k; pending = lines }
+own_after k (Some orders) o = record o { kept = Some k; pending = orders }
 
 -- the author's own part, where it is a seat
-abbrev pub seats_after : Author → List ℕ → Kept → Option (List (List ℕ)) → List Game → List Game
+abbrev pub seats_after : Author → List ℕ → Kept → Option (List Standing) → List Game → List Game
 seats_after Nobody name k lines games = games
 seats_after TheMaster name k lines games = games
 seats_after (Seat power) name k lines games = at_seat name power (own_after k lines) games
@@ -94,7 +94,7 @@ opened public paper seats = record { public = public; papers = paper ∷ []; sea
 -- the games with the one that an effect opens: it stands last
 abbrev pub with_opened : Effect → List Game → List Game
 with_opened Nothing games = games
-with_opened (Pending lines) games = games
+with_opened (Pending orders) games = games
 with_opened (Opens public paper seats) games = games ++ opened public paper seats ∷ []
 
 -- the master's row, where the letter is the master's

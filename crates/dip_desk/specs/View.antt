@@ -1,9 +1,9 @@
 -- What one seat is shown by a history, and what follows from it alone.
-use Rattle.std.specs.Prelude.{ℕ, ◌≡◌, ◌≢◌, ◌==◌, ◌&&◌, ◌↔◌, Bool, true, false, List, [], ◌∷◌, ◌++◌, Option, None, Some, option_map, bytes_eq, flat_map, map, if◌then◌else◌}
+use Rattle.std.specs.Prelude.{ℕ, ◌≡◌, ◌≢◌, ◌==◌, ◌&&◌, ◌↔◌, Bool, true, false, List, [], ◌∷◌, ◌++◌, Option, None, Some, option_map, bytes_eq, filter, flat_map, length, map, ◌+◌, if◌then◌else◌}
 use Rattle.dip_desk.specs.Mail.{Mail}
 use Rattle.dip_chart.specs.Charts.{Chart}
-use Rattle.dip_desk.specs.State.{State, Author, Nobody, TheMaster, Seat, Effect, Nothing, Pending, Opens, NewSeat, fresh, own_after, pending_in}
-use Rattle.dip_desk.specs.Machine.{Decides, SeatName, Seen, Verdict, NotKnown, Old, Taken, after, author, kept_of, reply_of, seen, verdict_on}
+use Rattle.dip_desk.specs.State.{State, Game, Author, Nobody, TheMaster, Seat, Effect, Nothing, Pending, Opens, NewSeat, fresh, game_at, own_after, pending_in}
+use Rattle.dip_desk.specs.Machine.{Decides, SeatName, Seen, Verdict, NotKnown, Again, OutOfTurn, Taken, after, author, kept_of, reply_of, seen, verdict_on}
 use Rattle.dip_reports.specs.Records.{Public, Own, Reply}
 
 -- one step of a history: the state before it, the letter, and what was decided. What it leaves follows
@@ -39,7 +39,7 @@ is_seat (Seat p) power = p == power
 
 -- whether the seat is the letter's author
 abbrev pub writes : SeatName → Mail → Author → Bool
-writes seat n who = bytes_eq n.game seat.game && is_seat who seat.power
+writes seat n who = bytes_eq n.note.game seat.game && is_seat who seat.power
 
 abbrev pub own_events : Bool → Mail → List Event
 own_events mine n = if mine then OwnLetter n ∷ [] else []
@@ -52,17 +52,18 @@ seated_in power (s ∷ ss) = if s.power == power then Seated s.digest ∷ [] els
 -- what an effect shows each seat of its game
 abbrev pub effect_events : ℕ → Effect → List Event
 effect_events power Nothing = []
-effect_events power (Pending lines) = []
+effect_events power (Pending orders) = []
 effect_events power (Opens public paper seats) = Published public paper ∷ seated_in power seats
 
 abbrev pub verdict_events : ℕ → Verdict → List Event
 verdict_events power NotKnown = []
-verdict_events power (Old text) = []
+verdict_events power (Again text) = []
+verdict_events power (OutOfTurn text) = []
 verdict_events power (Taken text effect) = effect_events power effect
 
 -- what a letter shows a seat: its own letter, and what an effect in its game shows it
 abbrev pub shown : SeatName → Mail → Author → Verdict → List Event
-shown seat n who v = own_events (writes seat n who) n ++ (if bytes_eq n.game seat.game then verdict_events seat.power v else [])
+shown seat n who v = own_events (writes seat n who) n ++ (if bytes_eq n.note.game seat.game then verdict_events seat.power v else [])
 
 abbrev pub shown_by : Chart → SeatName → Turn → List Event
 shown_by m seat t = shown seat t.letter (author_in m t) t.verdict
@@ -82,7 +83,8 @@ replies_to m seat (t ∷ ts) = own_replies (writes seat t.letter (author_in m t)
 -- what a seat's own letter does to its own part
 abbrev pub own_by : Mail → Verdict → Own → Own
 own_by n NotKnown o = o
-own_by n (Old text) o = o
+own_by n (Again text) o = o
+own_by n (OutOfTurn text) o = o
 own_by n (Taken text effect) o = own_after (kept_of n text) (pending_in effect) o
 
 abbrev pub seated : ℕ → List ℕ → Option Own → Option Own
@@ -124,19 +126,36 @@ IsSettledByView m old turns new = (seat : SeatName) (first last : State) (others
 -- a letter of a seat gets one reply in all states that the seat sees alike, and leaves them alike
 abbrev pub IsAnsweredFromSeen : Chart → Type 0
 IsAnsweredFromSeen m = (a b : State) (n : Mail) (power : ℕ) (v w : Verdict) → Decides m a n (Seat power) v → Decides m b n (Seat power) w
-    → seen (record { game = n.game; power = power }) a ≡ seen (record { game = n.game; power = power }) b
+    → seen (record { game = n.note.game; power = power }) a ≡ seen (record { game = n.note.game; power = power }) b
     → (reply_of n v ≡ reply_of n w)
-    × (seen (record { game = n.game; power = power }) (after n (Seat power) v a) ≡ seen (record { game = n.game; power = power }) (after n (Seat power) w b))
+    × (seen (record { game = n.note.game; power = power }) (after n (Seat power) v a) ≡ seen (record { game = n.note.game; power = power }) (after n (Seat power) w b))
 
--- what a letter of another author shows a seat of its game: a paper or its digest
-abbrev pub Reaches : Verdict → Type 0
-Reaches NotKnown = ⊥
-Reaches (Old text) = ⊥
-Reaches (Taken text Nothing) = ⊥
-Reaches (Taken text (Pending lines)) = ⊥
-Reaches (Taken text (Opens public paper seats)) = Unit {0}
+-- no letter of another power shows a seat anything
+abbrev pub IsUnseenByOthers : Chart → Type 0
+IsUnseenByOthers m = (seat : SeatName) (s : State) (n : Mail) (power : ℕ) (v : Verdict) → Decides m s n (Seat power) v
+    → writes seat n (Seat power) ≡ false → shown seat n (Seat power) v ≡ []
 
--- a letter of another author adds to a seat's view exactly where it publishes in its game or sets its digest
-abbrev pub IsShownByOthers : Type 0
-IsShownByOthers = (seat : SeatName) (n : Mail) (who : Author) (v : Verdict) → writes seat n who ≡ false
-    → (shown seat n who v ≢ []) ↔ ((bytes_eq n.game seat.game ≡ true) × Reaches v)
+-- how many papers a game has, where there is one
+abbrev pub papers_in : Option Game → ℕ
+papers_in None = 0
+papers_in (Some g) = length g.papers
+
+-- somebody else's letter shows a seat something exactly where the seat's game has a paper more behind it
+abbrev pub IsShownByOthers : Chart → Type 0
+IsShownByOthers m = (seat : SeatName) (s : State) (n : Mail) (v : Verdict) → Decides m s n (author m n s) v
+    → writes seat n (author m n s) ≡ false
+    → (shown seat n (author m n s) v ≢ [])
+    ↔ (papers_in (game_at seat.game (after n (author m n s) v s)) ≡ papers_in (game_at seat.game s) + 1)
+
+-- whether anything is shown
+abbrev pub is_shown : List Event → Bool
+is_shown [] = false
+is_shown (e ∷ es) = true
+
+-- the turns of a history that show a seat anything
+abbrev pub turns_for : Chart → SeatName → List Turn → List Turn
+turns_for m seat ts = filter (λ t. is_shown (shown_by m seat t)) ts
+
+-- histories that differ only in turns that show the seat nothing have one view
+abbrev pub AreAlike : Chart → Type 0
+AreAlike m = (seat : SeatName) (ts us : List Turn) → turns_for m seat ts ≡ turns_for m seat us → view m seat ts ≡ view m seat us

@@ -1,13 +1,14 @@
 //! What keeps the desk's state.
-ghost use Rattle.std.specs.Prelude.{◌≡◌, ◌⊎◌, ℕ, ◌<◌, IfOk, IsErrOf, OnOk, OnErr, option_map};
-ghost use Rattle.dip_desk.specs.State.{State, changed, own_at, public_at};
+ghost use Rattle.std.specs.Prelude.{◌≡◌, ◌<◌, length, option_map};
+ghost use Rattle.dip_chart.specs.Charts.{Chart};
+ghost use Rattle.dip_desk.specs.Keeping.{Book, Changes, Looks};
+ghost use Rattle.dip_desk.specs.State.{changed, own_at, public_at};
 ghost use Rattle.dip_desk.specs.Rows as rows;
 ghost use Rattle.dip_reports.specs.Rows as texts;
-ghost use Rattle.dip_desk.specs.Faults.{faults_after};
 
 use dip_map::Map;
 use dip_names::Power;
-use dip_reports::{Kept, Own, Public};
+use dip_reports::{Kept, Own, Public, Standing};
 use std::alloc::{AllocError, AllocFailed};
 
 /// The master's row.
@@ -39,8 +40,8 @@ pub struct NewSeat {
 pub enum Effect {
     /// Nothing.
     Nothing,
-    /// The author's standing orders are these canonical lines.
-    Pending(Vec<String>),
+    /// The author's standing orders are these.
+    Pending(Vec<Standing>),
     /// A game with this public part, first paper and seats.
     Opens {
         public: Public,
@@ -93,82 +94,34 @@ impl<T: Drop> From<AllocFailed<T>> for KeepFault {
 
 /// What keeps the desk's state, however it is kept.
 pub trait Keeper {
-    /// What it has.
-    ghost content: { Self → State };
-
-    /// What an open after a crash may find.
-    ghost may_leave: { Self → State → Type 0 };
-
-    /// How many faults of the disk it has told of.
-    ghost faults: { Self → ℕ };
-
-    /// The disk has returned what was written, so far.
-    ghost honest: { Self → Type 0 };
-
-    /// It is honest and not shut, so that its content is what is kept.
-    ghost shows: { Self → Type 0 };
-
-    /// What is kept are records that a keeper wrote, and no change is under way.
-    ghost sound: { Self → Type 0 };
+    /// What contracts see of it.
+    ghost book: { Book Self };
 
     /// How many faults of the disk it has told of.
     fn failures(&self) -> u64
-        ensures { result ≡ faults self.now };
+        ensures { result ≡ book.faults self.now };
 
     /// The master's row.
     fn desk(&mut self) -> Result<Desk, KeepFault>
-        requires { faults self.old < u64.MAX }
-        ensures value { sound self.old → shows self.new → IfOk result (λ d. rows.desk d ≡ (content self.old).desk) }
-        ensures same { sound self.old → shows self.new → content self.new ≡ content self.old }
-        ensures sane { sound self.old → shows self.new → IsErrOf result KeepFault.Damaged → ⊥ }
-        ensures count { faults self.new ≡ faults_after result (faults self.old) }
-        ensures fair { honest self.new → honest self.old }
-        ensures shown { shows self.new → shows self.old }
-        ensures sound { sound self.old → shows self.new → sound self.new }
-        ensures firm { sound self.old → honest self.new → OnOk result (sound self.new) }
-        ensures open { sound self.old → honest self.new → OnOk result (shows self.new) }
-        ensures left { sound self.old → honest self.new → (s : State) → may_leave self.new s → may_leave self.old s };
+        requires { book.faults self.old < u64.MAX }
+        ensures { (m : Chart) → Looks m book self.old self.new
+            (λ d. rows.desk d ≡ (book.content m self.old).desk) ⊥ result };
 
     /// The public part of a game; `None` where there is no such game.
     fn public(&mut self, map: &Map, game: &str) -> Result<Option<Public>, KeepFault>
-        requires { faults self.old < u64.MAX }
-        ensures value { sound self.old → shows self.new → IfOk result (λ p. option_map texts.public p ≡ public_at game.now (content self.old)) }
-        ensures same { sound self.old → shows self.new → content self.new ≡ content self.old }
-        ensures sane { sound self.old → shows self.new → IsErrOf result KeepFault.Damaged → ⊥ }
-        ensures count { faults self.new ≡ faults_after result (faults self.old) }
-        ensures fair { honest self.new → honest self.old }
-        ensures shown { shows self.new → shows self.old }
-        ensures sound { sound self.old → shows self.new → sound self.new }
-        ensures firm { sound self.old → honest self.new → OnOk result (sound self.new) }
-        ensures open { sound self.old → honest self.new → OnOk result (shows self.new) }
-        ensures left { sound self.old → honest self.new → (s : State) → may_leave self.new s → may_leave self.old s };
+        requires { book.faults self.old < u64.MAX }
+        ensures { Looks map.now book self.old self.new
+            (λ p. option_map texts.public p ≡ public_at game.now (book.content map.now self.old)) ⊥ result };
 
     /// A seat's own part, all but the items of its inbox; `None` where there is no such seat.
     fn own(&mut self, map: &Map, game: &str, power: Power) -> Result<Option<Own>, KeepFault>
-        requires { faults self.old < u64.MAX }
-        ensures value { sound self.old → shows self.new → IfOk result (λ o. option_map texts.own o ≡ own_at game.now power (content self.old)) }
-        ensures same { sound self.old → shows self.new → content self.new ≡ content self.old }
-        ensures sane { sound self.old → shows self.new → IsErrOf result KeepFault.Damaged → ⊥ }
-        ensures count { faults self.new ≡ faults_after result (faults self.old) }
-        ensures fair { honest self.new → honest self.old }
-        ensures shown { shows self.new → shows self.old }
-        ensures sound { sound self.old → shows self.new → sound self.new }
-        ensures firm { sound self.old → honest self.new → OnOk result (sound self.new) }
-        ensures open { sound self.old → honest self.new → OnOk result (shows self.new) }
-        ensures left { sound self.old → honest self.new → (s : State) → may_leave self.new s → may_leave self.old s };
+        requires room { book.faults self.old < u64.MAX }
+        requires power { power < length map.now.realms }
+        ensures { Looks map.now book self.old self.new
+            (λ o. option_map texts.own o ≡ own_at game.now power (book.content map.now self.old)) ⊥ result };
 
     /// Makes the change whole or not at all.
     fn apply(&mut self, map: &Map, change: &Change) -> Result<(), KeepFault>
-        requires { faults self.old < u64.MAX }
-        ensures ok { sound self.old → shows self.new → OnOk result (content self.new ≡ changed (rows.change change.now) (content self.old)) }
-        ensures err { sound self.old → shows self.new → OnErr result (content self.new ≡ content self.old) }
-        ensures sane { sound self.old → shows self.new → IsErrOf result KeepFault.Damaged → ⊥ }
-        ensures kept { sound self.old → honest self.new → OnOk result ((s : State) → may_leave self.new s → s ≡ content self.new) }
-        ensures left { sound self.old → honest self.new → OnErr result ((s : State) → may_leave self.new s → may_leave self.old s ⊎ (s ≡ changed (rows.change change.now) (content self.old))) }
-        ensures count { faults self.new ≡ faults_after result (faults self.old) }
-        ensures fair { honest self.new → honest self.old }
-        ensures shown { shows self.new → shows self.old }
-        ensures sound { sound self.old → shows self.new → sound self.new }
-        ensures firm { sound self.old → honest self.new → OnOk result (sound self.new) }
-        ensures open { sound self.old → honest self.new → OnOk result (shows self.new) };
+        requires { book.faults self.old < u64.MAX }
+        ensures { Changes map.now book self.old self.new (changed (rows.change change.now)) (λ _. Unit {0}) result };
 }

@@ -9,7 +9,7 @@ ghost use Rattle.dip_desk.specs.Stored as stored;
 use crate::keeper::{Author, Change, Desk, Effect, KeepFault, Keeper, NewSeat};
 use dip_map::Map;
 use dip_names::Power;
-use dip_reports::{Kept, Own, Public};
+use dip_reports::{Kept, Own, Public, Standing, Status};
 use std::alloc::{AllocError, Global};
 
 /// A game as it lies in memory.
@@ -28,14 +28,46 @@ pub struct MemoryKeeper {
     games: Vec<GameRow>,
 }
 
-fn lines_copy(alloc: Global, lines: &[String]) -> Result<Vec<String>, AllocError>
-    ensures { IfOk result (λ v. texts.lines v.items ≡ texts.lines lines.now) }
+fn standing_copy(standing: &Standing) -> Result<Standing, AllocError>
+    ensures { IfOk result (λ s. texts.standing s ≡ texts.standing standing.now) }
 {
-    let mut copy = Vec::with_capacity(alloc, lines.len())?;
-    for line in lines {
-        copy.push(line.clone()?)?;
+    Ok(Standing {
+        prov: standing.prov,
+        line: standing.line.clone()?,
+    })
+}
+
+fn pending_copy(alloc: Global, pending: &[Standing]) -> Result<Vec<Standing>, AllocError>
+    ensures { IfOk result (λ v. texts.standings v.items ≡ texts.standings pending.now) }
+{
+    let mut copy = Vec::with_capacity(alloc, pending.len())?;
+    for standing in pending {
+        copy.push(standing_copy(standing)?)?;
     }
     Ok(copy)
+}
+
+fn powers_copy(alloc: Global, powers: &[Power]) -> Result<Vec<Power>, AllocError>
+    ensures { IfOk result (λ v. v.items ≡ powers.now) }
+{
+    let mut copy = Vec::with_capacity(alloc, powers.len())?;
+    for power in powers {
+        copy.push(*power)?;
+    }
+    Ok(copy)
+}
+
+fn status_copy(alloc: Global, status: &Status) -> Result<Status, AllocError>
+    ensures { IfOk result (λ s. texts.status s ≡ texts.status status.now) }
+{
+    match status {
+        Status::Running => Ok(Status::Running),
+        Status::Paused => Ok(Status::Paused),
+        Status::Closed => Ok(Status::Closed),
+        Status::Ended => Ok(Status::Ended),
+        Status::Won(power) => Ok(Status::Won(*power)),
+        Status::Drawn(powers) => Ok(Status::Drawn(powers_copy(alloc, powers.as_slice())?)),
+    }
 }
 
 fn public_copy(alloc: Global, public: &Public) -> Result<Public, AllocError>
@@ -44,7 +76,7 @@ fn public_copy(alloc: Global, public: &Public) -> Result<Public, AllocError>
     Ok(Public {
         game: public.game.clone()?,
         board: public.board.copy(alloc)?,
-        status: public.status,
+        status: status_copy(alloc, &public.status)?,
         due: public.due,
         period: public.period,
         grey: public.grey,
@@ -78,7 +110,7 @@ fn own_copy(alloc: Global, own: &Own) -> Result<Own, AllocError>
         power: own.power,
         digest: own.digest,
         vote: own.vote,
-        pending: lines_copy(alloc, own.pending.as_slice())?,
+        pending: pending_copy(alloc, own.pending.as_slice())?,
         kept: last_copy(&own.kept)?,
         sent: own.sent,
         items: own.items,
@@ -142,22 +174,22 @@ fn seat_place(seats: &[Own], power: Power) -> usize
 }
 
 /// What a letter of its own changes in a seat: it is kept, and its orders stand where it has any.
-fn record_own(own: &mut Own, kept: Kept, lines: Option<Vec<String>>)
-    ensures { texts.own own.new ≡ s.own_after (texts.kept kept) (option_map (λ l. texts.lines l.items) lines) (texts.own own.old) }
+fn record_own(own: &mut Own, kept: Kept, pending: Option<Vec<Standing>>)
+    ensures { texts.own own.new ≡ s.own_after (texts.kept kept) (option_map (λ l. texts.standings l.items) pending) (texts.own own.old) }
 {
     own.kept = Some(kept);
-    if let Some(lines) = lines {
-        own.pending = lines;
+    if let Some(pending) = pending {
+        own.pending = pending;
     }
 }
 
-fn record_seat(seats: &mut Vec<Own>, power: Power, kept: Kept, lines: Option<Vec<String>>)
+fn record_seat(seats: &mut Vec<Own>, power: Power, kept: Kept, pending: Option<Vec<Standing>>)
     ensures { each (λ o. texts.own o) seats.new.items ≡ change_at (λ a b. a == b) (λ o. o.power) power
-        (s.own_after (texts.kept kept) (option_map (λ l. texts.lines l.items) lines)) (each (λ o. texts.own o) seats.old.items) }
+        (s.own_after (texts.kept kept) (option_map (λ l. texts.standings l.items) pending)) (each (λ o. texts.own o) seats.old.items) }
 {
     let place = seat_place(seats.as_slice(), power);
     if place < seats.len() {
-        record_own(&mut seats[place], kept, lines);
+        record_own(&mut seats[place], kept, pending);
     }
 }
 
@@ -166,15 +198,15 @@ fn record_game(
     name: &str,
     power: Power,
     kept: Kept,
-    lines: Option<Vec<String>>,
+    pending: Option<Vec<Standing>>,
 )
     ensures { each (λ g. stored.game g) games.new.items ≡ s.at_seat name.now power
-        (s.own_after (texts.kept kept) (option_map (λ l. texts.lines l.items) lines)) (each (λ g. stored.game g) games.old.items) }
+        (s.own_after (texts.kept kept) (option_map (λ l. texts.standings l.items) pending)) (each (λ g. stored.game g) games.old.items) }
 {
     let place = game_place(games.as_slice(), name);
     if place < games.len() {
         let game = &mut games[place];
-        record_seat(&mut game.seats, power, kept, lines);
+        record_seat(&mut game.seats, power, kept, pending);
     }
 }
 
@@ -220,12 +252,12 @@ fn opened(
 }
 
 /// The standing orders that an effect gives its author, where it gives any.
-fn pending_copy(alloc: Global, effect: &Effect) -> Result<Option<Vec<String>>, AllocError>
-    ensures { IfOk result (λ o. option_map (λ l. texts.lines l.items) o ≡ s.pending_in (rows.effect effect.now)) }
+fn pending_in(alloc: Global, effect: &Effect) -> Result<Option<Vec<Standing>>, AllocError>
+    ensures { IfOk result (λ o. option_map (λ l. texts.standings l.items) o ≡ s.pending_in (rows.effect effect.now)) }
 {
     match effect {
         Effect::Nothing | Effect::Opens { .. } => Ok(None),
-        Effect::Pending(lines) => Ok(Some(lines_copy(alloc, lines.as_slice())?)),
+        Effect::Pending(orders) => Ok(Some(pending_copy(alloc, orders.as_slice())?)),
     }
 }
 
@@ -265,17 +297,7 @@ impl MemoryKeeper {
 }
 
 impl Keeper for MemoryKeeper {
-    ghost content = { stored.state };
-
-    ghost may_leave = { λ k left. left ≡ stored.state k };
-
-    ghost faults = { λ _. 0 };
-
-    ghost honest = { λ _. Unit {0} };
-
-    ghost shows = { λ _. Unit {0} };
-
-    ghost sound = { λ _. Unit {0} };
+    ghost book = { stored.book };
 
     fn failures(&self) -> u64 {
         0
@@ -304,7 +326,7 @@ impl Keeper for MemoryKeeper {
 
     fn apply(&mut self, _map: &Map, change: &Change) -> Result<(), KeepFault> {
         let kept = kept_copy(&change.kept)?;
-        let lines = pending_copy(self.alloc, &change.effect)?;
+        let pending = pending_in(self.alloc, &change.effect)?;
         open_game(self.alloc, &mut self.games, &change.effect)?;
         match change.author {
             Author::Nobody => {}
@@ -314,7 +336,7 @@ impl Keeper for MemoryKeeper {
                 change.game.as_str(),
                 power,
                 kept,
-                lines,
+                pending,
             ),
         }
         Ok(())

@@ -13,7 +13,7 @@ use crate::reading::{ReadFault, read_whole};
 use dip_desk::{KeepFault, Keeper, fault_reply, lawful_states_stay_lawful, take};
 use dip_letters::{Next, next_letter};
 use dip_map::Map;
-use dip_reports::Reply;
+use dip_reports::{Reply, reply_text};
 use itoa::Buffer;
 use std::alloc::Global;
 use std::io::{Read, Write};
@@ -81,8 +81,8 @@ fn write_texts<W: Write>(writer: &mut W, texts: &[&str]) -> Result<(), RunFault>
     Ok(())
 }
 
-/// Writes a reply, or a beginning of it. It needs no memory, so a letter that was taken is answered.
-fn write_reply<W: Write>(writer: &mut W, reply: &Reply) -> Result<(), RunFault>
+/// Writes a reply, or a beginning of it, piece by piece. It needs no memory, so a letter that was taken is answered.
+fn write_pieces<W: Write>(writer: &mut W, reply: &Reply) -> Result<(), RunFault>
     ensures ok { OnOk result (Appends (W.contents writer.old) (W.contents writer.new)
         (reply_text (rows.reply reply.now))) }
     ensures err { OnErr result ((size : ℕ) × Appends (W.contents writer.old) (W.contents writer.new)
@@ -107,6 +107,20 @@ fn write_reply<W: Write>(writer: &mut W, reply: &Reply) -> Result<(), RunFault>
     }
 }
 
+/// Writes a reply, or a beginning of it: in one write where there is room for its text and the writer takes it whole.
+fn write_reply<W: Write>(alloc: Global, writer: &mut W, reply: &Reply) -> Result<(), RunFault>
+    ensures ok { OnOk result (Appends (W.contents writer.old) (W.contents writer.new)
+        (reply_text (rows.reply reply.now))) }
+    ensures err { OnErr result ((size : ℕ) × Appends (W.contents writer.old) (W.contents writer.new)
+        (first size (reply_text (rows.reply reply.now)))) }
+    ensures fault { IfErr result (λ f. f ≡ RunFault.Write) }
+{
+    match reply_text(alloc, reply) {
+        Ok(text) => write_text(writer, text.as_bytes()),
+        Err(_) => write_pieces(writer, reply),
+    }
+}
+
 /// Answers what stands next in the input, and gives what is behind it.
 fn step<'a, K: Keeper>(
     alloc: Global,
@@ -114,18 +128,18 @@ fn step<'a, K: Keeper>(
     map: &Map,
     input: &'a [u8],
 ) -> Result<Option<(Reply, &'a [u8])>, RunFault>
-    requires { K.faults keeper.old < u64.MAX }
-    ensures some { K.sound keeper.old → K.shows keeper.new → IfOk result (λ o. IfSome o (λ p.
-        IsTurn map.now input.entry.now (K.content keeper.old) (rows.reply p.0) (K.content keeper.new) p.1.now)) }
+    requires { K.book.faults keeper.old < u64.MAX }
+    ensures some { K.book.sound map.now keeper.old → K.book.shows keeper.new → IfOk result (λ o. IfSome o (λ p.
+        IsTurn map.now input.entry.now (K.book.content map.now keeper.old) (rows.reply p.0) (K.book.content map.now keeper.new) p.1.now)) }
     ensures shorter { IfOk result (λ o. IfSome o (λ p. length p.1.now < length input.entry.now)) }
-    ensures err { K.sound keeper.old → K.shows keeper.new → OnErr result (K.content keeper.new ≡ K.content keeper.old) }
-    ensures lawful { K.sound keeper.old → K.shows keeper.new → IsLawful map.now (K.content keeper.old) → IsLawful map.now (K.content keeper.new) }
-    ensures never { K.sound keeper.old → K.shows keeper.new → IsLawful map.now (K.content keeper.old) → IsErrOf result (RunFault.Keep KeepFault.Damaged) → ⊥ }
+    ensures err { K.book.sound map.now keeper.old → K.book.shows keeper.new → OnErr result (K.book.content map.now keeper.new ≡ K.book.content map.now keeper.old) }
+    ensures lawful { K.book.sound map.now keeper.old → K.book.shows keeper.new → IsLawful map.now (K.book.content map.now keeper.old) → IsLawful map.now (K.book.content map.now keeper.new) }
+    ensures never { K.book.sound map.now keeper.old → K.book.shows keeper.new → IsLawful map.now (K.book.content map.now keeper.old) → IsErrOf result (RunFault.Keep KeepFault.Damaged) → ⊥ }
     ensures none { IfOk result (λ o. IfNone o (IsNext input.entry.now Next.End × (keeper.new ≡ keeper.old))) }
     ensures fault { IfErr result IsTakingFault }
-    ensures count { K.faults keeper.new ≡ faults_after_run result (K.faults keeper.old) }
-    ensures shown { K.shows keeper.new → K.shows keeper.old }
-    ensures sound { K.sound keeper.old → K.shows keeper.new → K.sound keeper.new }
+    ensures count { K.book.faults keeper.new ≡ faults_after_run result (K.book.faults keeper.old) }
+    ensures shown { K.book.shows keeper.new → K.book.shows keeper.old }
+    ensures sound { K.book.sound map.now keeper.old → K.book.shows keeper.new → K.book.sound map.now keeper.new }
 {
     lawful_states_stay_lawful(map);
     match next_letter(input) {
@@ -149,21 +163,21 @@ fn answer_all<W: Write, K: Keeper>(
     keeper: &mut K,
     map: &Map,
 ) -> Result<(), RunFault>
-    requires { K.faults keeper.old < u64.MAX }
-    ensures answers { K.sound keeper.old → K.shows keeper.new → OnOk result (AnswersAll map.now input.now
-        (K.content keeper.old) (K.content keeper.new) (W.contents writer.old) (W.contents writer.new)) }
-    ensures stops { K.sound keeper.old → K.shows keeper.new → OnErr result (Stops map.now input.now
-        (K.content keeper.old) (K.content keeper.new) (W.contents writer.old) (W.contents writer.new)) }
-    ensures never { K.sound keeper.old → K.shows keeper.new → IsLawful map.now (K.content keeper.old) → IsErrOf result (RunFault.Keep KeepFault.Damaged) → ⊥ }
+    requires { K.book.faults keeper.old < u64.MAX }
+    ensures answers { K.book.sound map.now keeper.old → K.book.shows keeper.new → OnOk result (AnswersAll map.now input.now
+        (K.book.content map.now keeper.old) (K.book.content map.now keeper.new) (W.contents writer.old) (W.contents writer.new)) }
+    ensures stops { K.book.sound map.now keeper.old → K.book.shows keeper.new → IfErr result (λ f. Stops map.now f input.now
+        (K.book.content map.now keeper.old) (K.book.content map.now keeper.new) (W.contents writer.old) (W.contents writer.new)) }
+    ensures never { K.book.sound map.now keeper.old → K.book.shows keeper.new → IsLawful map.now (K.book.content map.now keeper.old) → IsErrOf result (RunFault.Keep KeepFault.Damaged) → ⊥ }
     ensures fault { IfErr result IsAnsweringFault }
-    ensures count { K.faults keeper.new ≡ faults_after_run result (K.faults keeper.old) }
+    ensures count { K.book.faults keeper.new ≡ faults_after_run result (K.book.faults keeper.old) }
 {
     let mut rest = input;
     'letters: loop {
         match step(alloc, keeper, map, rest)? {
             None => return Ok(()),
             Some((reply, after)) => {
-                write_reply(writer, &reply)?;
+                write_reply(alloc, writer, &reply)?;
                 rest = after;
             }
         }
@@ -180,22 +194,22 @@ pub fn run_file<R: Read, W: Write, K: Keeper>(
     keeper: &mut K,
     map: &Map,
 ) -> Result<(), RunFault>
-    requires { K.faults keeper.old < u64.MAX }
-    ensures answers { K.sound keeper.old → K.shows keeper.new → OnOk result ((input : List ℕ)
+    requires { K.book.faults keeper.old < u64.MAX }
+    ensures answers { K.book.sound map.now keeper.old → K.book.shows keeper.new → OnOk result ((input : List ℕ)
         × IsReadWhole (R.remaining reader.old) (R.remaining reader.new) input
-        × AnswersAll map.now input (K.content keeper.old) (K.content keeper.new)
+        × AnswersAll map.now input (K.book.content map.now keeper.old) (K.book.content map.now keeper.new)
         (W.contents writer.old) (W.contents writer.new)) }
     ensures ok { OnOk result (IsReadToEnd (R.remaining reader.old) (R.remaining reader.new)) }
     ensures err { IfErr result (λ f. StopsBy f (R.remaining reader.old) (R.remaining reader.new)
         (W.contents writer.old) (W.contents writer.new) keeper.old keeper.new) }
-    ensures stops { K.sound keeper.old → K.shows keeper.new → OnErr result (
+    ensures stops { K.book.sound map.now keeper.old → K.book.shows keeper.new → IfErr result (λ f.
         IsUntouched (W.contents writer.old) (W.contents writer.new) keeper.old keeper.new
         ⊎ ((input : List ℕ) × IsReadWhole (R.remaining reader.old) (R.remaining reader.new) input
-        × Stops map.now input (K.content keeper.old) (K.content keeper.new)
+        × Stops map.now f input (K.book.content map.now keeper.old) (K.book.content map.now keeper.new)
         (W.contents writer.old) (W.contents writer.new))) }
     // From a lawful content on, as an empty desk is, Damaged is never told.
-    ensures never { K.sound keeper.old → K.shows keeper.new → IsLawful map.now (K.content keeper.old) → IsErrOf result (RunFault.Keep KeepFault.Damaged) → ⊥ }
-    ensures count { K.faults keeper.new ≡ faults_after_run result (K.faults keeper.old) }
+    ensures never { K.book.sound map.now keeper.old → K.book.shows keeper.new → IsLawful map.now (K.book.content map.now keeper.old) → IsErrOf result (RunFault.Keep KeepFault.Damaged) → ⊥ }
+    ensures count { K.book.faults keeper.new ≡ faults_after_run result (K.book.faults keeper.old) }
 {
     let input = read_input(alloc, reader)?;
     answer_all(alloc, input.as_slice(), writer, keeper, map)

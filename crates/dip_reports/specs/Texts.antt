@@ -2,14 +2,12 @@
 use Rattle.std.specs.Prelude.{ℕ, Bool, true, false, List, [], ◌∷◌, ◌++◌, ◌==◌, ◌+◌, codes, if◌then◌else◌, map, filter, flat_map, length, Option, None, Some, slice_index_or}
 use Rattle.std.specs.Fmt.{decimal}
 use Rattle.dip_board.specs.declared.boards.Phase.{Phase}
-use Rattle.dip_board.specs.Boards.{Position}
+use Rattle.dip_board.specs.Boards.{Position, owns}
 use Rattle.dip_board.specs.declared.boards.Season.{Season}
 use Rattle.dip_board.specs.declared.boards.Season.TheVariants.{SpringMoves, SpringRetreats, FallMoves, FallRetreats, Winter}
-use Rattle.dip_reports.specs.declared.records.Status.{Status}
-use Rattle.dip_reports.specs.declared.records.Status.TheVariants.{Running}
 use Rattle.dip_reports.specs.declared.refusals.Refusal.{Refusal}
 use Rattle.dip_reports.specs.declared.refusals.Refusal.TheVariants.{Malformed, Unknown, Stale, NumberUsed, TooLong, WrongSender, NameTaken}
-use Rattle.dip_reports.specs.Records.{Public, Own, Head, Reply}
+use Rattle.dip_reports.specs.Records.{Public, Own, Head, Reply, Standing, Status, Running, Paused, Closed, Ended, Won, Drawn}
 use Rattle.dip_chart.specs.Charts.{Chart, province, realm}
 use Rattle.dip_orders.specs.Texts.{unit_text}
 use Rattle.dip_names.specs.declared.names.Unit.{Unit}
@@ -26,8 +24,14 @@ phase_text p = season_text p.season (decimal p.year)
     season_text FallRetreats year = codes "F" ++ year ++ codes "R"
     season_text Winter year = codes "W" ++ year ++ codes "A"
 
-unfoldable pub status_text : Status → List ℕ
-status_text Running = codes "running"
+-- how a game stands, with the powers that won or share it
+unfoldable pub status_text : Chart → Status → List ℕ
+status_text m Running = codes "running"
+status_text m Paused = codes "paused"
+status_text m Closed = codes "closed"
+status_text m Ended = codes "ended"
+status_text m (Won power) = codes "won by " ++ (realm m power).name
+status_text m (Drawn powers) = codes "drawn by" ++ flat_map (λ p. codes " " ++ (realm m p).name) powers
 
 abbrev pub yes_or_no : Bool → List ℕ
 yes_or_no b = if b then codes "YES" else codes "NO"
@@ -47,8 +51,8 @@ terms_text p = codes " DUE " ++ decimal p.due ++ codes " PERIOD " ++ decimal p.p
     ++ codes " PAPERS " ++ decimal p.papers
 
 -- the game line
-unfoldable pub game_line : Public → List ℕ
-game_line p = codes "GAME " ++ p.game ++ codes " " ++ phase_text p.board.phase ++ codes " " ++ status_text p.status
+unfoldable pub game_line : Chart → Public → List ℕ
+game_line m p = codes "GAME " ++ p.game ++ codes " " ++ phase_text p.board.phase ++ codes " " ++ status_text m p.status
     ++ terms_text p ++ codes "\n"
 
 -- a unit that a board line lists
@@ -71,17 +75,9 @@ in_province fs p = filter (λ f. f.unit.place.prov == p) fs
 abbrev pub by_province : Chart → List Force → List Force
 by_province m fs = flat_map (in_province fs) (numbers 0 m.provinces)
 
-abbrev pub is_owner : ℕ → Option ℕ → Bool
-is_owner power None = false
-is_owner power (Some p) = p == power
-
--- who owns a province, if anybody does
-abbrev pub owner : Position → ℕ → Option ℕ
-owner b p = slice_index_or b.owners p None
-
 -- the centres that a power owns, by province
 abbrev pub centres : Chart → Position → ℕ → List ℕ
-centres m b power = filter (λ p. is_owner power (owner b p)) (numbers 0 m.provinces)
+centres m b power = filter (λ p. owns b power p) (numbers 0 m.provinces)
 
 -- texts with a separator between them, or `-` where there is none
 abbrev pub listed : List ℕ → List (List ℕ) → List ℕ
@@ -107,11 +103,11 @@ board_lines m b = flat_map (board_line m b) (numbers 0 m.realms)
 
 -- the first paper of a game
 abbrev pub opening_paper : Chart → Public → List ℕ
-opening_paper m p = codes "PAPER 1 opening\n" ++ game_line p ++ board_lines m p.board ++ codes "END\n"
+opening_paper m p = codes "PAPER 1 opening\n" ++ game_line m p ++ board_lines m p.board ++ codes "END\n"
 
 -- a line for each standing order
-abbrev pub order_lines : List (List ℕ) → List ℕ
-order_lines orders = flat_map (λ o. codes "ORDER " ++ o ++ codes "\n") orders
+abbrev pub order_lines : List Standing → List ℕ
+order_lines orders = flat_map (λ o. codes "ORDER " ++ o.line ++ codes "\n") orders
 
 -- what a seat alone may know
 abbrev pub own_lines : Own → List ℕ
@@ -120,7 +116,7 @@ own_lines o = codes "VOTE " ++ yes_or_no o.vote ++ codes "\nSENT " ++ decimal o.
 
 -- what SHOW answers
 abbrev pub show_text : Chart → Public → Own → List ℕ
-show_text m p o = game_line p ++ board_lines m p.board ++ own_lines o
+show_text m p o = game_line m p ++ board_lines m p.board ++ own_lines o
 
 abbrev pub head_text : Option Head → List ℕ
 head_text None = codes "REPLY nobody 0\n"

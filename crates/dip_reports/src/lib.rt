@@ -10,9 +10,9 @@ mod replies;
 mod show;
 
 pub use board_lines::push_board_lines;
-pub use game_line::{push_game_line, push_phase};
+pub use game_line::{push_game_line, push_phase, push_status};
 pub use opening_paper::opening_paper_text;
-pub use records::{Head, Kept, Own, Public, Reply, Status};
+pub use records::{Head, Kept, Outcome, Own, Public, Reply, Standing, Status};
 pub use refusals::Refusal;
 pub use replies::reply_text;
 pub use show::show_text;

@@ -15,7 +15,7 @@ pub fn opening_paper_text(alloc: Global, map: &Map, public: &Public) -> Result<S
 {
     let mut out = String::new(alloc);
     out.push_str("PAPER 1 opening\n")?;
-    push_game_line(public, &mut out)?;
+    push_game_line(map, public, &mut out)?;
     push_board_lines(alloc, map, &public.board, &mut out)?;
     out.push_str("END\n")?;
     Ok(out)

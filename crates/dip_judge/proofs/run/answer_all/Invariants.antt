@@ -4,17 +4,17 @@ use Rattle.std.specs.Io.KnownBytes.{Appends}
 use Rattle.dip_desk.specs.Lawful.{IsLawful}
 use Rattle.dip_reports.specs.Texts.{reply_text}
 use Rattle.dip_reports.specs.Records.{Reply}
-use Rattle.dip_judge.specs.Runs.{IsRunTo}
+use Rattle.dip_judge.specs.Runs.{AnswersFront}
 use Rattle.dip_judge.proofs.run.answer_all.Given as goal
 
 abbrev pub invariant-letters : goal.invariant-letters
-invariant-letters g l = record {
-  count : g.K.Keeper.faults l.keeper ≡ g.K.Keeper.faults l.fn.keeper;
-  shown : g.K.Keeper.shows l.keeper → g.K.Keeper.shows l.fn.keeper;
-  sound : g.K.Keeper.sound l.fn.keeper → g.K.Keeper.shows l.keeper → g.K.Keeper.sound l.keeper;
-  lawful : g.K.Keeper.sound l.fn.keeper → g.K.Keeper.shows l.keeper → IsLawful l.fn.map (g.K.Keeper.content l.fn.keeper) → IsLawful l.fn.map (g.K.Keeper.content l.keeper);
-  so_far : g.K.Keeper.sound l.fn.keeper → g.K.Keeper.shows l.keeper → (replies : List Reply)
-      × IsRunTo l.fn.map l.fn.input (g.K.Keeper.content l.fn.keeper) replies (g.K.Keeper.content l.keeper) l.rest
+invariant-letters g l = let b = g.K.Keeper.book in record {
+  count : b.faults l.keeper ≡ b.faults l.fn.keeper;
+  shown : b.shows l.keeper → b.shows l.fn.keeper;
+  sound : b.sound l.fn.map l.fn.keeper → b.shows l.keeper → b.sound l.fn.map l.keeper;
+  lawful : b.sound l.fn.map l.fn.keeper → b.shows l.keeper → IsLawful l.fn.map (b.content l.fn.map l.fn.keeper) → IsLawful l.fn.map (b.content l.fn.map l.keeper);
+  so_far : b.sound l.fn.map l.fn.keeper → b.shows l.keeper → (replies : List Reply)
+      × AnswersFront l.fn.map l.fn.input (b.content l.fn.map l.fn.keeper) (b.content l.fn.map l.keeper) replies l.rest
       × Appends (g.W.Write.contents l.fn.writer) (g.W.Write.contents l.writer) (flat_map reply_text replies);
 }
 

@@ -1,5 +1,5 @@
 use Rattle.dip_judge.proofs.RunLemmas.{reply_headed}
-use Rattle.dip_judge.proofs.run.write_reply.Goals as goal
+use Rattle.dip_judge.proofs.run.write_pieces.Goals as goal
 
 pub returns-in-None-clause-ok : goal.returns-in-None-clause-ok
 returns-in-None-clause-ok g c = rw (c.in-None.is, ← c.as_str-text.ensures.value) c.write_texts.ensures.ok
@@ -9,4 +9,4 @@ returns-in-None-clause-err g c = rw (c.in-None.is, ← c.as_str-text.ensures.val
 
 pub returns-in-Some-clause-err : goal.returns-in-Some-clause-err
 returns-in-Some-clause-err g c =
-    rw (c.in-Some.is, reply_headed, ← c.as_str-text.ensures.value, ← c.as_str-game.ensures.value, ← c.as_str-sender.ensures.value, ← c.format-number.ensures.text) c.write_texts-in-Some.ensures.err
+    rw (c.in-Some.is, reply_headed c.args.reply.now.outcome, ← c.as_str-text.ensures.value, ← c.as_str-game.ensures.value, ← c.as_str-sender.ensures.value, ← c.format-number.ensures.text) c.write_texts-in-Some.ensures.err

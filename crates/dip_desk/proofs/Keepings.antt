@@ -1,0 +1,62 @@
+-- A look, and then a step.
+use Rattle.std.proofs.Common.{◌≡◌, ◌⊎◌, inl, inr, Result, Ok, refl, sym, ap, subst, ◌∙◌}
+use Rattle.std.proofs.lemmas.Result.{IfOk-weaker, on_err_weaker, on_ok_weaker}
+use Rattle.dip_chart.specs.Charts.{Chart}
+use Rattle.dip_desk.specs.Faults.{faults_after}
+use Rattle.dip_desk.specs.Keeping.{Book, Keeps, Looks, Steps}
+use Rattle.dip_desk.specs.State.{State}
+use Rattle.dip_desk.specs.declared.keeper.KeepFault.{KeepFault}
+
+-- what is kept by a look and the call behind it
+pub keeps_then : {K X Y : Type 0} (m : Chart) (b : Book K) (old mid new : K) (x : X) (result : Result Y KeepFault)
+    → Keeps {X = X} m b old mid (Ok x) → Keeps m b mid new result → Keeps m b old new result
+keeps_then m b old mid new x result first second = record {
+  count = second.count ∙ ap (faults_after result) first.count;
+  fair = λ honest. first.fair (second.fair honest);
+  shown = λ shows. first.shown (second.shown shows);
+  sound = λ sound shows. second.sound (first.sound sound (second.shown shows)) shows;
+  firm = λ sound honest. second.firm (first.firm sound (second.fair honest)) honest;
+  stays_open = λ sound honest shows. second.stays_open (first.firm sound (second.fair honest)) honest (first.stays_open sound (second.fair honest) shows);
+}
+
+-- a step behind a look is a step of the state that was looked at, where it may be taken of that state
+pub steps_then : {K X Y R : Type 0} (m : Chart) (b : Book K) (old mid new : K) (x : X) (Value : X → Type 0) (Damage : Type 0) (say : Y → R)
+    (Near Far : State → R → State → Type 0) (result : Result Y KeepFault)
+    → Looks m b old mid Value Damage (Ok x) → (Blame : State → Type 0)
+    → (Value x → (r : R) (t : State) → Near (b.content m old) r t → Far (b.content m old) r t)
+    → Steps m b mid new say Near (λ s. ⊥) result → Steps m b old new say Far Blame result
+steps_then {K} {X} {Y} {R} m b old mid new x Value Damage say Near Far result look Blame further step = record {
+  keeps = keeps_then m b old mid new x result look.keeps step.keeps;
+  done = λ sound shows.
+      let before = step.keeps.shown shows in
+      let there = look.keeps.sound sound before in
+      IfOk-weaker result (λ y. Near (b.content m mid) (say y) (b.content m new)) (λ y. Far (b.content m old) (say y) (b.content m new))
+      (λ y near. further (look.value sound before) (say y) (b.content m new) (subst (λ (s : State). Near s (say y) (b.content m new)) (look.same sound before) near))
+      (step.done there shows);
+  undone = λ sound shows.
+      let before = step.keeps.shown shows in
+      on_err_weaker result (λ same. same ∙ look.same sound before) (step.undone (look.keeps.sound sound before) shows);
+  damaged = λ sound shows bad. absurd (step.damaged (look.keeps.sound sound (step.keeps.shown shows)) shows bad);
+  kept = λ sound honest shows.
+      let fair = step.keeps.fair honest in
+      let open_mid = look.keeps.stays_open sound fair shows in
+      on_ok_weaker result
+      (λ h s left. elim (h s left) [
+        | inl same ↦ inl same
+        | inr both ↦ inr (both.0 ∙ look.same sound open_mid, look.left sound fair s both.1)
+      ])
+      (step.kept (look.keeps.firm sound fair) honest open_mid);
+  left = λ sound honest shows.
+      let fair = step.keeps.fair honest in
+      let open_mid = look.keeps.stays_open sound fair shows in
+      on_err_weaker result
+      (λ h s left. elim (h s left) [
+        | inl before ↦ inl (look.left sound fair s before)
+        | inr done ↦ inr (done.0, further (look.value sound open_mid) done.0 s (subst (λ (t : State). Near t done.0 s) (look.same sound open_mid) done.1))
+      ])
+      (step.left (look.keeps.firm sound fair) honest open_mid);
+}
+
+-- what is kept by an answer says nothing of its value
+pub keeps_as : {K X Y : Type 0} (m : Chart) (b : Book K) (old new : K) (x : X) (y : Y) → Keeps {X = X} m b old new (Ok x) → Keeps {X = Y} m b old new (Ok y)
+keeps_as m b old new x y k = record { count = k.count; fair = k.fair; shown = k.shown; sound = k.sound; firm = k.firm; stays_open = k.stays_open }

@@ -1,0 +1,56 @@
+-- What is decided by an author's sight is what the machine decides.
+use Rattle.std.proofs.Common.{◌≡◌, ℕ, Bool, true, false, cond, Option, None, Some, option_map, refl, sym, ◌∙◌, ap, subst, bytes_eq, codes, is_some}
+use Rattle.std.specs.Prelude.{option_and_then}
+use Rattle.dip_chart.specs.Charts.{Chart, power_of}
+use Rattle.dip_reports.specs.Records.{Own, Reply}
+use Rattle.dip_desk.specs.Machine.{DecidedBy, Decides, IsDamagedBy, IsForeign, IsForeignSight, MayBeDamaged, Settles, Step, after, OfMaster, OfNobody, OfSeat, Seen, Sight, Verdict, author, author_of, digest, master_author, master_sight, power_author, power_sight, seat_author, seat_sight, seen_in, sight_of, verdict_on}
+use Rattle.dip_desk.specs.Mail.{Mail}
+use Rattle.dip_desk.specs.State.{Author, Game, Nobody, Seat, State, TheMaster, game_at, seat_at}
+
+-- a sight is the author's, and what is decided by it is what may be decided
+abbrev pub IsRight : Chart → Mail → State → Author → Sight → Type 0
+IsRight m n s who sight =
+    (author_of sight ≡ who) × ((v : Verdict) → DecidedBy m n sight v → Decides m s n who v) × (IsForeignSight m sight → MayBeDamaged m s n who)
+
+seat_right : (m : Chart) (n : Mail) (s : State) (p : ℕ) (game : Option Game) → game_at n.note.game s ≡ game
+    → IsRight m n s (seat_author n p (option_and_then (λ g. seat_at p g.seats) game)) (seat_sight n p (option_map (λ g. g.public) game) (option_and_then (λ g. seat_at p g.seats) game))
+seat_right m n s p None is = (refl, λ v d. d, λ bad. bad)
+seat_right m n s p (Some g) is = own (seat_at p g.seats) refl
+  where
+    own : (o : Option Own) → seat_at p g.seats ≡ o → IsRight m n s (seat_author n p o) (seat_sight n p (Some g.public) o)
+    own None e = (refl, λ v d. d, λ bad. bad)
+    own (Some o) e = told (bytes_eq (digest n.note.game n.note.sender n.note.secret) o.digest)
+      where
+        seen_is : seen_in p (game_at n.note.game s) ≡ record { public = Some g.public; own = Some o }
+        seen_is = ap (seen_in p) is ∙ ap (λ (x : Option Own). record { public = Some g.public; own = x }) e
+
+        told : (b : Bool) → IsRight m n s (cond b (Seat p) Nobody) (cond b (OfSeat p g.public o) OfNobody)
+        told true = (refl, λ v d. d ∙ sym (ap (verdict_on m n) seen_is), λ f. subst (IsForeign m) (sym seen_is) f)
+        told false = (refl, λ v d. d, λ bad. bad)
+
+pub is_right : (m : Chart) (n : Mail) (s : State) → IsRight m n s (author m n s) (sight_of m n s)
+is_right m n s = go (bytes_eq n.note.sender (codes "master"))
+  where
+    master : (b : Bool) → IsRight m n s (cond b TheMaster Nobody) (cond b (OfMaster s.desk.kept (is_some (game_at n.note.game s))) OfNobody)
+    master true = (refl, λ v d. d (game_at n.note.game s) refl, λ bad. bad)
+    master false = (refl, λ v d. d, λ bad. bad)
+
+    power : (q : Option ℕ) → IsRight m n s (power_author n q s) (power_sight n q s)
+    power None = (refl, λ v d. d, λ bad. bad)
+    power (Some q) = seat_right m n s q (game_at n.note.game s) refl
+
+    go : (b : Bool) → IsRight m n s (cond b (master_author n s) (power_author n (power_of m n.note.sender) s)) (cond b (master_sight n s) (power_sight n (power_of m n.note.sender) s))
+    go true = master (bytes_eq (digest (codes "desk") (codes "master") n.note.secret) s.desk.digest)
+    go false = power (power_of m n.note.sender)
+
+-- what is settled by a sight's verdict is a step
+pub settled_by_sight : (m : Chart) (n : Mail) (s t : State) (sight : Sight) (who : Author) (v : Verdict) (r : Reply) → sight ≡ sight_of m n s → who ≡ author_of sight
+    → DecidedBy m n sight v → Settles n who v s r t → Step m s n r t
+settled_by_sight m n s t sight who v r is whose decided done =
+    let right : IsRight m n s (author m n s) sight = subst (IsRight m n s (author m n s)) (sym is) (is_right m n s) in
+    (v, right.1 v decided, done.0, done.1 ∙ ap (λ (a : Author). after n a v s) (whose ∙ right.0))
+
+-- and a fault of the sight is one of the letter's author
+pub blamed_by_sight : (m : Chart) (n : Mail) (s : State) (sight : Sight) → sight ≡ sight_of m n s → IsForeignSight m sight → IsDamagedBy m n s
+blamed_by_sight m n s sight is bad =
+    let right : IsRight m n s (author m n s) sight = subst (IsRight m n s (author m n s)) (sym is) (is_right m n s) in right.2 bad

@@ -1,0 +1,64 @@
+-- What each call of a keeper keeps.
+use Rattle.std.specs.Prelude.{◌≡◌, ◌⊎◌, ℕ, Result, OnOk, OnErr, IfOk, IsErrOf}
+use Rattle.dip_chart.specs.Charts.{Chart}
+use Rattle.dip_desk.specs.Faults.{faults_after}
+use Rattle.dip_desk.specs.State.{State}
+use Rattle.dip_desk.specs.declared.keeper.KeepFault.{KeepFault}
+use Rattle.dip_desk.specs.declared.keeper.KeepFault.TheVariants.{Damaged}
+
+-- what contracts see of a keeper, whose names are read by a map
+pub record Book (K : Type 0) : Type 1 where
+  -- what it has
+  pub content : Chart → K → State
+  -- what an open after a crash may find
+  pub may_leave : Chart → K → State → Type 0
+  -- how many faults of the disk it has told of
+  pub faults : K → ℕ
+  -- the disk has returned what was written, so far
+  pub honest : K → Type 0
+  -- it is honest and not shut, so that its content is what is kept
+  pub shows : K → Type 0
+  -- what is kept are records that a keeper wrote by this map, and no change is under way
+  pub sound : Chart → K → Type 0
+
+-- what every call keeps, whatever it answers
+pub record Keeps {K X : Type 0} (m : Chart) (b : Book K) (old new : K) (result : Result X KeepFault) : Type 0 where
+  pub count : b.faults new ≡ faults_after result (b.faults old)
+  pub fair : b.honest new → b.honest old
+  pub shown : b.shows new → b.shows old
+  pub sound : b.sound m old → b.shows new → b.sound m new
+  pub firm : b.sound m old → b.honest new → OnOk result (b.sound m new)
+  pub stays_open : b.sound m old → b.honest new → b.shows old → OnOk result (b.shows new)
+
+-- a look: its value, what Damaged tells, and that nothing else moves
+pub record Looks {K X : Type 0} (m : Chart) (b : Book K) (old new : K) (Value : X → Type 0) (Damage : Type 0)
+    (result : Result X KeepFault) : Type 0 where
+  pub keeps : Keeps m b old new result
+  pub value : b.sound m old → b.shows new → IfOk result Value
+  pub damaged : b.sound m old → b.shows new → IsErrOf result Damaged → Damage
+  pub same : b.sound m old → b.shows new → b.content m new ≡ b.content m old
+  pub left : b.sound m old → b.honest new → (s : State) → b.may_leave m new s → b.may_leave m old s
+
+-- a change that is made whole or not at all; behind a fault a crash may leave it made or not
+pub record Changes {K X : Type 0} (m : Chart) (b : Book K) (old new : K) (change : State → State) (Fits : State → Type 0)
+    (result : Result X KeepFault) : Type 0 where
+  pub keeps : Keeps m b old new result
+  pub done : b.sound m old → b.shows new → OnOk result (b.content m new ≡ change (b.content m old))
+  pub undone : b.sound m old → b.shows new → OnErr result (b.content m new ≡ b.content m old)
+  pub fitting : b.sound m old → b.shows new → Fits (b.content m old) → IsErrOf result Damaged → ⊥
+  pub kept : b.sound m old → b.honest new → OnOk result ((s : State) → b.may_leave m new s → s ≡ b.content m new)
+  pub left : b.sound m old → b.honest new
+      → OnErr result ((s : State) → b.may_leave m new s → b.may_leave m old s ⊎ (s ≡ change (b.content m old)))
+
+-- a step of a machine, or none: where an answer is given, the step from the old content to the new one says it, and behind a
+-- fault the content stays. A crash leaves the state after an answer, and behind a fault the state before or after a step
+pub record Steps {K X R : Type 0} (m : Chart) (b : Book K) (old new : K) (say : X → R) (Step : State → R → State → Type 0)
+    (Damage : State → Type 0) (result : Result X KeepFault) : Type 0 where
+  pub keeps : Keeps m b old new result
+  pub done : b.sound m old → b.shows new → IfOk result (λ x. Step (b.content m old) (say x) (b.content m new))
+  pub undone : b.sound m old → b.shows new → OnErr result (b.content m new ≡ b.content m old)
+  pub damaged : b.sound m old → b.shows new → IsErrOf result Damaged → Damage (b.content m old)
+  pub kept : b.sound m old → b.honest new → b.shows old → OnOk result ((s : State) → b.may_leave m new s
+      → (s ≡ b.content m new) ⊎ ((b.content m new ≡ b.content m old) × b.may_leave m old s))
+  pub left : b.sound m old → b.honest new → b.shows old → OnErr result ((s : State) → b.may_leave m new s
+      → b.may_leave m old s ⊎ ((r : R) × Step (b.content m old) r s))

@@ -1,0 +1,130 @@
+//! What the author of a letter sees: all that the letter is decided by.
+ghost use Rattle.std.specs.Prelude.{◌≡◌, ◌<◌, bytes_eq};
+ghost use Rattle.dip_desk.specs.Keeping.{Looks};
+ghost use Rattle.dip_desk.specs.Machine.{author_of, digest, master_sight, power_sight, sight_of};
+ghost use Rattle.dip_desk.specs.Mail.{mail};
+ghost use Rattle.dip_desk.specs.Rows as rows;
+ghost use Rattle.dip_desk.specs.Sights as sights;
+ghost use Rattle.dip_chart.specs.Charts.{Chart};
+ghost use Rattle.std.specs.Prelude.{Some, length};
+
+use crate::keeper::{Author, Desk, KeepFault, Keeper};
+use dip_letters::{Letter, digest};
+use dip_map::Map;
+use dip_names::Power;
+use dip_reports::{Kept, Own, Public};
+
+/// What the author of a letter sees.
+#[derive(Drop)]
+pub enum Sight {
+    /// Nobody is the author.
+    Nobody,
+    /// The master: its last letter, and whether there is a game of this letter's name.
+    Master {
+        kept: Option<Kept>,
+        is_there: bool,
+    },
+    /// The seat of a power: the public part of its game, and its own part.
+    Seat {
+        power: Power,
+        public: Public,
+        own: Own,
+    },
+}
+
+/// The digest of a secret.
+#[tactic(auto, unfolding(crate::specs::Machine::digest))]
+pub fn digest_of(game: &str, sender: &str, secret: &str) -> [u8; 32]
+    ensures { result ≡ digest game.now sender.now secret.now }
+{
+    digest(game, sender, secret)
+}
+
+/// Whether the letter's secret has this digest.
+fn opens(letter: &Letter<'_>, game: &str, sender: &str, kept: &[u8; 32]) -> bool
+    ensures { result ≡ bytes_eq (digest game.now sender.now letter.now.secret.now) kept.now }
+{
+    let told = digest_of(game, sender, letter.secret);
+    told.as_slice() == kept.as_slice()
+}
+
+/// The master's row, of the desk by this map.
+fn desk_of<K: Keeper>(keeper: &mut K, map: &Map) -> Result<Desk, KeepFault>
+    requires { K.book.faults keeper.old < u64.MAX }
+    ensures { Looks map.now K.book keeper.old keeper.new
+        (λ d. rows.desk d ≡ (K.book.content map.now keeper.old).desk) ⊥ result }
+{
+    let _ = map;
+    keeper.desk()
+}
+
+/// What the master sees, where the letter's secret is the master's.
+fn look_as_master<K: Keeper>(
+    keeper: &mut K,
+    map: &Map,
+    letter: &Letter<'_>,
+) -> Result<Sight, KeepFault>
+    requires { K.book.faults keeper.old < u64.MAX }
+    ensures { Looks map.now K.book keeper.old keeper.new
+        (λ s. sights.sight s ≡ master_sight (mail letter.now) (K.book.content map.now keeper.old)) ⊥ result }
+{
+    let desk = desk_of(keeper, map)?;
+    if !opens(letter, "desk", "master", &desk.digest) {
+        return Ok(Sight::Nobody);
+    }
+    let is_there = keeper.public(map, letter.game)?.is_some();
+    Ok(Sight::Master {
+        kept: desk.kept,
+        is_there,
+    })
+}
+
+/// What the seat of a power sees, where the letter's secret is the seat's.
+fn look_as_seat<K: Keeper>(
+    keeper: &mut K,
+    map: &Map,
+    letter: &Letter<'_>,
+    power: Power,
+) -> Result<Sight, KeepFault>
+    requires room { K.book.faults keeper.old < u64.MAX }
+    requires power { power < length map.now.realms }
+    ensures { Looks map.now K.book keeper.old keeper.new
+        (λ s. sights.sight s ≡ power_sight (mail letter.now) (Some power) (K.book.content map.now keeper.old)) ⊥ result }
+{
+    let Some(own) = keeper.own(map, letter.game, power)? else {
+        return Ok(Sight::Nobody);
+    };
+    if !opens(letter, letter.game, letter.sender, &own.digest) {
+        return Ok(Sight::Nobody);
+    }
+    match keeper.public(map, letter.game)? {
+        None => Ok(Sight::Nobody),
+        Some(public) => Ok(Sight::Seat { power, public, own }),
+    }
+}
+
+/// What the author of the letter sees.
+pub fn look<K: Keeper>(keeper: &mut K, map: &Map, letter: &Letter<'_>) -> Result<Sight, KeepFault>
+    requires { K.book.faults keeper.old < u64.MAX }
+    ensures { Looks map.now K.book keeper.old keeper.new
+        (λ s. sights.sight s ≡ sight_of map.now (mail letter.now) (K.book.content map.now keeper.old)) ⊥ result }
+{
+    if letter.sender == "master" {
+        return look_as_master(keeper, map, letter);
+    }
+    match map.power(letter.sender) {
+        None => Ok(Sight::Nobody),
+        Some(power) => look_as_seat(keeper, map, letter, power),
+    }
+}
+
+/// Whose sight it is.
+pub fn author_of(sight: &Sight) -> Author
+    ensures { rows.author result ≡ author_of (sights.sight sight.now) }
+{
+    match sight {
+        Sight::Nobody => Author::Nobody,
+        Sight::Master { .. } => Author::TheMaster,
+        Sight::Seat { power, .. } => Author::Seat(*power),
+    }
+}

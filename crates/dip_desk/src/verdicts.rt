@@ -1,0 +1,72 @@
+//! What is decided of a letter, and what an old number comes to.
+ghost use Rattle.std.specs.Prelude.{◌≡◌, IfOk, option_map, string_bytes};
+ghost use Rattle.dip_desk.specs.Mail.{mail};
+ghost use Rattle.dip_desk.specs.Machine as m;
+ghost use Rattle.dip_desk.specs.Verdicts.{verdict};
+ghost use Rattle.dip_reports.specs.Rows as texts;
+
+use crate::keeper::Effect;
+use dip_letters::{Letter, sum};
+use dip_reports::{Kept, Refusal};
+use std::alloc::{AllocError, Global};
+
+/// What is decided of a letter.
+#[derive(Drop)]
+pub enum Verdict {
+    /// Its game, sender or secret isn't known.
+    NotKnown,
+    /// It is its author's last letter again: it gets these lines again.
+    Again(String),
+    /// Its number is an old one: it is refused by this line, and nothing is kept of it.
+    OutOfTurn(String),
+    /// It gets these lines, has this effect, and is kept.
+    Taken(String, Effect),
+}
+
+/// A line of a reply.
+pub fn refusal_line(alloc: Global, refusal: Refusal) -> Result<String, AllocError>
+    ensures { IfOk result (λ line. string_bytes line ≡ m.refusal_line refusal) }
+{
+    format!(in alloc; "{refusal}\n")
+}
+
+/// The letter is refused, and that is kept.
+pub fn refused(alloc: Global, refusal: Refusal) -> Result<Verdict, AllocError>
+    ensures { IfOk result (λ v. verdict v ≡ m.refused refusal) }
+{
+    Ok(Verdict::Taken(refusal_line(alloc, refusal)?, Effect::Nothing))
+}
+
+/// What a letter with its author's last number gets: where it is the same letter, the same reply.
+fn repeated(alloc: Global, letter: &Letter<'_>, kept: &Kept) -> Result<Verdict, AllocError>
+    ensures { IfOk result (λ v. verdict v ≡ m.repeated (mail letter.now) (texts.kept kept.now)) }
+{
+    let told = sum(letter.bytes);
+    if told.as_slice() == kept.sum.as_slice() {
+        Ok(Verdict::Again(kept.reply.clone()?))
+    } else {
+        let line = refusal_line(alloc, Refusal::NumberUsed(kept.number))?;
+        Ok(Verdict::OutOfTurn(line))
+    }
+}
+
+/// What an old number comes to; `None` where the number is new.
+pub fn old_number(
+    alloc: Global,
+    letter: &Letter<'_>,
+    kept: &Option<Kept>,
+) -> Result<Option<Verdict>, AllocError>
+    ensures { IfOk result (λ o. option_map verdict o ≡ m.old_number (mail letter.now) (option_map texts.kept kept.now)) }
+{
+    let Some(kept) = kept else {
+        return Ok(None);
+    };
+    if letter.number < kept.number {
+        let line = refusal_line(alloc, Refusal::Stale(kept.number))?;
+        return Ok(Some(Verdict::OutOfTurn(line)));
+    }
+    if letter.number > kept.number {
+        return Ok(None);
+    }
+    Ok(Some(repeated(alloc, letter, kept)?))
+}

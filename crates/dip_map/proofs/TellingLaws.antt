@@ -1,6 +1,12 @@
 -- A map that was stated is the one that its file tells.
-use Rattle.std.proofs.Common.{◌≡◌, ◌↔◌, ◌⊎◌, ℕ, ◌<◌, ◌+◌, ◌==◌, zero, suc, length, get_or, Contains, Bool, true, false, List, [], ◌∷◌, codes, refl, sym, ◌∙◌, ap, subst, inl, inr, arith, cond, Option, Some, None, Result, Ok, Err}
-use Rattle.std.proofs.lemmas.Bool.{cases_Bool, eqb-true, eq-eqb, false≢true}
+use Rattle.std.specs.Prelude.{slice_get, option_and_then}
+use Rattle.std.specs.Cmp.Derive.{both_true}
+use Rattle.std.proofs.lemmas.List.{take_at, drop_at}
+use Rattle.std.proofs.lemmas.Option.{slice_get-get_or}
+use Rattle.dip_names.specs.declared.names.Place.{Place}
+use Rattle.dip_names.specs.Forms.{is_code}
+use Rattle.std.proofs.Common.{◌≡◌, ◌↔◌, ◌⊎◌, ℕ, ◌<◌, ◌+◌, ◌==◌, zero, suc, length, get_or, Contains, Bool, true, false, List, [], ◌∷◌, codes, refl, sym, ◌∙◌, ap, subst, inl, inr, arith, cond, Option, Some, None, Result, Ok, Err, ◌&&◌, nat_lt, take, drop}
+use Rattle.std.proofs.lemmas.Bool.{cases_Bool, eqb-true, eq-eqb, false≢true, and_parts, lt-ltb, ltb-true}
 use Rattle.std.proofs.lemmas.List.Quantifiers.{position-Some}
 use Rattle.std.proofs.lemmas.Slice.Eq.{bytes_eq-Decides}
 use Rattle.std.specs.List.{list_any, position}
@@ -10,15 +16,15 @@ use Rattle.dip_names.specs.declared.faults.MapFault.TheVariants.{OverLimit, Unkn
 use Rattle.dip_names.specs.declared.names.Terrain.{Terrain}
 use Rattle.dip_names.specs.declared.names.Terrain.TheVariants.{Inland, Coast, Sea}
 use Rattle.dip_names.specs.Results.{◌>>=◌}
-use Rattle.dip_mapfile.specs.Drafts.{Draft, PowerDraft, ProvinceDraft}
+use Rattle.dip_mapfile.specs.Drafts.{Draft, PowerDraft, ProvinceDraft, Site, ShoreDraft}
 use Rattle.dip_mapfile.specs.Files as files
-use Rattle.dip_mapfile.specs.Tables.{HasTable, Members, Names, Says, boolean, get_member, parse_document, table}
-use Rattle.dip_mapfile.proofs.FileLaws.{ListsCodes, ProvinceRead, ReadFile, ReadPower, ReadProvince, bind_ok, contains_first, contains_more, element_cases, file_read, flag_is, member_at, power_read, province_read, terrain_is}
+use Rattle.dip_mapfile.specs.Tables.{HasTable, Members, Names, Says, boolean, get_member, parse_document, table, FleetNames, behind_slash, site_text}
+use Rattle.dip_mapfile.proofs.FileLaws.{ListsCodes, ProvinceRead, ReadFile, ReadPower, ReadProvince, bind_ok, contains_first, contains_more, element_cases, file_read, flag_is, member_at, power_read, province_read, terrain_is, ListsShore, no_shore_draft, shore_told}
 use Rattle.dip_mapfile.proofs.FileLaws as file_laws
-use Rattle.dip_chart.specs.Charts.{Chart, IsMap, Province, Realm, army_next, home, is_army_next, no_province, no_realm, power_of, prov_of, province, realm}
+use Rattle.dip_chart.specs.Charts.{Chart, IsMap, Province, Realm, army_next, home, is_army_next, no_province, no_realm, power_of, prov_of, province, realm, Shore, coast_of, is_fleet_next, is_fleet_place, no_shore, shore}
 use Rattle.dip_chart.specs.Checks.{first_fault}
-use Rattle.dip_map.specs.Stated.{chart_at, chart_of, check, check_by, each, each_from, is_few, or_unknown, within_limits, parts_at, prov_at, province_at, realm_at, shore_at, map_in, unit_at}
-use Rattle.dip_map.specs.Telling.{IsTold, IsToldPower, StatesWhatItTells, Tells, terrain_word}
+use Rattle.dip_map.specs.Stated.{chart_at, chart_of, check, check_by, each, each_from, is_few, or_unknown, within_limits, parts_at, prov_at, province_at, realm_at, shore_at, map_in, unit_at, coast_at, place_at}
+use Rattle.dip_map.specs.Telling.{IsTold, IsToldPower, StatesWhatItTells, Tells, terrain_word, place_text}
 
 -- what stands for a draft that isn't there
 abbrev no_draft : ProvinceDraft
@@ -231,6 +237,159 @@ contains_any xs p = (to xs, back xs)
               ]
         ]
 
+-- a coast of the map, and its draft
+record OfShore (d : Draft) (w : ShoreDraft) (s : Shore) : Type 0 where
+  pub name : w.name ≡ s.name
+  pub next : each (place_at d) w.next ≡ Ok s.next
+
+of_shore : (d : Draft) (w : ShoreDraft) (s : Shore) → shore_at d w ≡ Ok s → OfShore d w s
+unfolding shore_at
+of_shore d w s h =
+    let (next, a, rest) = bind_ok (each (place_at d) w.next) (λ next. Ok (record { name = w.name; next = next })) s h in
+    let is : record { name = w.name; next = next } ≡ s = cc in
+    subst (λ (x : Shore). OfShore d w x) is (record { name = refl; next = a })
+
+shore_of : (d : Draft) (w : ProvinceDraft) (r : Province) → OfDraft d w r → (k : ℕ) → k < length r.shores → OfShore d (get_or w.shores k no_shore_draft) (get_or r.shores k no_shore)
+shore_of d w r of k low = of_shore d (get_or w.shores k no_shore_draft) (get_or r.shores k no_shore) (each_at (shore_at d) w.shores r.shores of.shores k no_shore_draft no_shore low)
+
+-- what a place was looked up to is written so
+record Looked (m : Chart) (s : Site) (a : Place) : Type 0 where
+  pub on : is_fleet_place m a ≡ true
+  pub text : site_text s.code s.coast ≡ place_text m a
+
+coast_found : (d : Draft) (q k : ℕ) (name : List ℕ) → q < length d.provinces → coast_at d q name ≡ Ok k
+    → position (λ s. bytes_eq s.name name) (get_or d.provinces q no_draft).shores ≡ Some k
+unfolding coast_at
+coast_found d q k name low h =
+    let found = known_ok (option_and_then (λ (l : ProvinceDraft). position (λ s. bytes_eq s.name name) l.shores) (slice_get d.provinces q)) k h in
+    let there : slice_get d.provinces q ≡ Some (get_or d.provinces q no_draft) = slice_get-get_or d.provinces q no_draft low in
+    ap (λ o. option_and_then (λ (l : ProvinceDraft). position (λ s. bytes_eq s.name name) l.shores) o) (sym there) ∙ found
+
+looked_place : (d : Draft) (m : Chart) → ChartRead d m → (s : Site) (a : Place) → place_at d s ≡ Ok a → Looked m s a
+unfolding place_at
+looked_place d m c s a h =
+    let (q, code, rest) = bind_ok (prov_at d s.code) (λ p. coast_at d p s.coast >>= λ k. Ok (record { prov = p; coast = k })) a h in
+    let (k, coast, made) = bind_ok (coast_at d q s.coast) (λ k. Ok (record { prov = q; coast = k })) a rest in
+    let is : record { prov = q; coast = k } ≡ a = cc in
+    let (low, here) = looked_up d m c s.code q code in
+    let count = lengths (province_at d) d.provinces m.provinces c.provinces in
+    let of = province_of d m c q low in
+    let w : ProvinceDraft = get_or d.provinces q no_draft in
+    let (there, name, first) = position-Some (λ x. bytes_eq x.name s.coast) w.shores k no_shore_draft (coast_found d q k s.coast (omega (arith, count, low)) coast) in
+    let few = lengths (shore_at d) w.shores (province m q).shores of.shores in
+    let below : k < length (province m q).shores = omega (arith, few, there) in
+    let named : (get_or (province m q).shores k no_shore).name ≡ s.coast = sym (shore_of d w (province m q) of k below).name ∙ (bytes_eq-Decides (get_or w.shores k no_shore_draft).name s.coast).0 name in
+    subst (λ (x : Place). Looked m s x) is (record {
+      on = both_true (lt-ltb _ _ low) (lt-ltb _ _ below);
+      text = ap (λ x. site_text x s.coast) (sym here) ∙ ap (λ x. site_text (province m q).code x) (sym named);
+    })
+
+code_length : (m : Chart) → IsMap m → (p : ℕ) → p < length m.provinces → length (province m p).code ≡ 3
+code_length m ok p low =
+    let (code, _) = and_parts (is_code (province m p).code) _ (ok.provinces p low) in
+    eqb-true _ _ (and_parts (length (province m p).code == 3) _ code).0
+
+unslashed : (m n : List ℕ) → behind_slash m ≡ behind_slash n → m ≡ n
+unslashed [] [] h = refl
+unslashed [] (y ∷ ys) h = absurd (cc)
+unslashed (x ∷ xs) [] h = absurd (cc)
+unslashed (x ∷ xs) (y ∷ ys) h = cc
+
+-- of the places of a map one is written so
+one_place : (m : Chart) → IsMap m → (a b : Place) → is_fleet_place m a ≡ true → is_fleet_place m b ≡ true → place_text m a ≡ place_text m b → a ≡ b
+one_place m ok a b on other same =
+    let (low, there) = and_parts (nat_lt a.prov (length m.provinces)) (nat_lt a.coast (length (province m a.prov).shores)) on in
+    let (low_too, there_too) = and_parts (nat_lt b.prov (length m.provinces)) (nat_lt b.coast (length (province m b.prov).shores)) other in
+    let three = code_length m ok a.prov (ltb-true _ _ low) in
+    let three_too = code_length m ok b.prov (ltb-true _ _ low_too) in
+    let name : List ℕ = (shore m a).name in
+    let name_too : List ℕ = (shore m b).name in
+    let codes_same : (province m a.prov).code ≡ (province m b.prov).code =
+    sym (take_at (province m a.prov).code (behind_slash name) 3 three) ∙ (ap (λ x. take 3 x) same ∙ take_at (province m b.prov).code (behind_slash name_too) 3 three_too) in
+    let slashed : behind_slash name ≡ behind_slash name_too =
+    sym (drop_at (province m a.prov).code (behind_slash name) 3 three) ∙ (ap (λ x. drop 3 x) same ∙ drop_at (province m b.prov).code (behind_slash name_too) 3 three_too) in
+    let prov : a.prov ≡ b.prov = one_code m ok a.prov b.prov (ltb-true _ _ low) (ltb-true _ _ low_too) codes_same in
+    let names : name ≡ name_too = unslashed name name_too slashed in
+    let found : coast_of m a.prov name ≡ Some a.coast = ok.coasts_found a (ltb-true _ _ there) in
+    let found_too : coast_of m b.prov name_too ≡ Some b.coast = ok.coasts_found b (ltb-true _ _ there_too) in
+    let is : Some a.coast ≡ Some b.coast = sym found ∙ (ap (λ p. coast_of m p name) prov ∙ (ap (λ x. coast_of m b.prov x) names ∙ found_too)) in
+    let coast : a.coast ≡ b.coast = cc in
+    λ i. record { prov = prov i; coast = coast i }
+
+contains_place : (xs : List Place) (a : Place) → (list_any (λ x. (x.prov == a.prov) && (x.coast == a.coast)) xs ≡ true) ↔ Contains xs a
+contains_place xs a = (to xs, back xs)
+  where
+    is_same : (x : Place) → ((x.prov == a.prov) && (x.coast == a.coast)) ≡ true → x ≡ a
+    is_same x h =
+        let (prov, coast) = and_parts (x.prov == a.prov) (x.coast == a.coast) h in
+        let e : x.prov ≡ a.prov = eqb-true _ _ prov in
+        let f : x.coast ≡ a.coast = eqb-true _ _ coast in
+        λ i. record { prov = e i; coast = f i }
+
+    to : (ys : List Place) → list_any (λ x. (x.prov == a.prov) && (x.coast == a.coast)) ys ≡ true → Contains ys a
+    to [] h = absurd (false≢true h)
+    to (y ∷ ys) h =
+        elim (cases_Bool ((y.prov == a.prov) && (y.coast == a.coast))) [
+          | inl here ↦ (0, omega arith, is_same y here)
+          | inr other ↦ contains_more y a ys (to ys (rw other at h))
+        ]
+
+    back : (ys : List Place) → Contains ys a → list_any (λ x. (x.prov == a.prov) && (x.coast == a.coast)) ys ≡ true
+    back [] c = absurd (omega (arith, c.1))
+    back (y ∷ ys) c =
+        elim (element_cases y ys a c.0 c.1 c.2) [
+          | inl is ↦ rw (both_true (eq-eqb y.prov a.prov (ap (λ (x : Place). x.prov) is)) (eq-eqb y.coast a.coast (ap (λ (x : Place). x.coast) is))) refl
+          | inr rest ↦
+              elim (cases_Bool ((y.prov == a.prov) && (y.coast == a.coast))) [
+                | inl here ↦ rw here refl
+                | inr other ↦ rw other (back ys rest)
+              ]
+        ]
+
+-- where a fleet goes from a coast
+fleet_told : (d : Draft) (m : Chart) (p c : ℕ) (t : Members) (to : Place) → IsMap m → ChartRead d m → p < length m.provinces → ProvinceRead t (get_or d.provinces p no_draft)
+    → c < length (province m p).shores → is_fleet_place m to ≡ true
+    → (is_fleet_next m (record { prov = p; coast = c }) to ≡ true) ↔ FleetNames t (shore m (record { prov = p; coast = c })).name (place_text m to)
+fleet_told d m p c t to ok read_map low read there on = (named, back)
+  where
+    w : ProvinceDraft
+    w = get_or d.provinces p no_draft
+
+    s : Shore
+    s = get_or (province m p).shores c no_shore
+
+    draft : OfShore d (get_or (get_or d.provinces p no_draft).shores c no_shore_draft) (get_or (province m p).shores c no_shore)
+    draft = shore_of d (get_or d.provinces p no_draft) (province m p) (province_of d m read_map p low) c there
+
+    told : ListsShore t (get_or (get_or d.provinces p no_draft).shores c no_shore_draft).name (get_or (get_or d.provinces p no_draft).shores c no_shore_draft).next
+    told =
+        let of = province_of d m read_map p low in
+        let shores : List ShoreDraft = (get_or d.provinces p no_draft).shores in
+        let count = lengths (shore_at d) shores (province m p).shores of.shores in
+        let name : List ℕ = (get_or (province m p).shores c no_shore).name in
+        let (_, here, first) = position-Some (λ x. bytes_eq x.name name) (province m p).shores c no_shore (ok.coasts_found (record { prov = p; coast = c }) there) in
+        let same : (k : ℕ) → k < length (province m p).shores → (get_or shores k no_shore_draft).name ≡ (get_or (province m p).shores k no_shore).name = λ k l. (shore_of d (get_or d.provinces p no_draft) (province m p) of k l).name in
+        shore_told (get_or d.provinces p no_draft).terrain t shores read.shores c (omega (arith, count, there)) (
+          ap (λ x. bytes_eq x (get_or shores c no_shore_draft).name) (same c there) ∙ (ap (λ x. bytes_eq name x) (same c there) ∙ here),
+          λ k l. ap (λ x. bytes_eq x (get_or shores c no_shore_draft).name) (same k (omega (arith, l, there))) ∙ (ap (λ x. bytes_eq (get_or (province m p).shores k no_shore).name x) (same c there) ∙ first k l),
+        )
+
+    named : is_fleet_next m (record { prov = p; coast = c }) to ≡ true → FleetNames t (get_or (province m p).shores c no_shore).name (place_text m to)
+    named next =
+        let among = (contains_place (get_or (province m p).shores c no_shore).next to).0 next in
+        let (site, is_there, found) = each_back (place_at d) (get_or (get_or d.provinces p no_draft).shores c no_shore_draft).next (get_or (province m p).shores c no_shore).next draft.next to among in
+        let written : FleetNames t (get_or (get_or d.provinces p no_draft).shores c no_shore_draft).name (site_text site.code site.coast) = told.to site is_there in
+        subst (λ x. FleetNames t x (place_text m to)) draft.name
+        (subst (λ x. FleetNames t (get_or (get_or d.provinces p no_draft).shores c no_shore_draft).name x) (looked_place d m read_map site to found).text written)
+
+    back : FleetNames t (get_or (province m p).shores c no_shore).name (place_text m to) → is_fleet_next m (record { prov = p; coast = c }) to ≡ true
+    back names =
+        let (site, is_there, spelled) = told.from (place_text m to) (subst (λ x. FleetNames t x (place_text m to)) (sym draft.name) names) in
+        let (y, among, found) = each_to (place_at d) (get_or (get_or d.provinces p no_draft).shores c no_shore_draft).next (get_or (province m p).shores c no_shore).next draft.next site is_there in
+        let looked = looked_place d m read_map site y found in
+        let is : y ≡ to = one_place m ok y to looked.on on (sym looked.text ∙ spelled) in
+        (contains_place (get_or (province m p).shores c no_shore).next to).1 (subst (λ (x : Place). Contains (get_or (province m p).shores c no_shore).next x) is among)
+
 -- the word of a terrain is the one of the file's reader
 same_word : (t : Terrain) → file_laws.terrain_word t ≡ terrain_word t
 same_word Inland = refl
@@ -250,6 +409,7 @@ is_told d m p t ok c low read =
           let both = listed d m t (codes "army") w.army (army_next m p) ok c read.army of.army q there in
           let any = contains_any (army_next m p) q in
           (λ next. both.0 (any.0 next), λ names. any.1 (both.1 names));
+      fleet = λ k to there on. fleet_told d m p k t to ok c low read there on;
     }
 
 -- the table of a province

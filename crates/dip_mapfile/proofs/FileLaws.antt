@@ -1,6 +1,7 @@
 -- What is known of a file from what was read of it.
-use Rattle.std.proofs.Common.{◌≡◌, ◌↔◌, ℕ, ◌⊎◌, ◌<◌, ◌&&◌, zero, suc, length, get_or, Contains, Bool, true, false, List, [], ◌∷◌, codes, refl, sym, ◌∙◌, ap, subst, inl, inr, arith, cond, Option, Some, None, Result, Ok, Err}
-use Rattle.std.proofs.lemmas.Bool.{and_parts, cases_Bool, false≢true}
+use Rattle.std.proofs.lemmas.List.{take-append-drop}
+use Rattle.std.proofs.Common.{◌==◌, ◌++◌, nat_le, take, drop, ◌≡◌, ◌↔◌, ℕ, ◌⊎◌, ◌<◌, ◌&&◌, zero, suc, length, get_or, Contains, Bool, true, false, List, [], ◌∷◌, codes, refl, sym, ◌∙◌, ap, subst, inl, inr, arith, cond, Option, Some, None, Result, Ok, Err}
+use Rattle.std.proofs.lemmas.Bool.{and_parts, cases_Bool, eqb-true, false≢true}
 use Rattle.std.proofs.lemmas.Map.Text.{is_eq-slice_cmp}
 use Rattle.std.proofs.lemmas.Slice.Eq.{bytes_eq-Decides}
 use Rattle.std.specs.Cmp.Lexicographic.{slice_cmp}
@@ -13,12 +14,12 @@ use Rattle.dip_names.specs.declared.faults.MapFault.{MapFault}
 use Rattle.dip_names.specs.declared.faults.MapFault.TheVariants.{WrongField}
 use Rattle.dip_names.specs.declared.names.Terrain.{Terrain}
 use Rattle.dip_names.specs.declared.names.Terrain.TheVariants.{Inland, Coast, Sea}
-use Rattle.dip_names.specs.Forms.{is_code, is_full_name, is_power_name}
-use Rattle.dip_mapfile.specs.Drafts.{ShoreDraft, UnitDraft, ProvinceDraft, PowerDraft, Draft}
+use Rattle.dip_names.specs.Forms.{is_coast_name, is_code, is_full_name, is_power_name}
+use Rattle.dip_mapfile.specs.Drafts.{Site, ShoreDraft, UnitDraft, ProvinceDraft, PowerDraft, Draft}
 use Rattle.dip_mapfile.specs.Fields.{or_wrong, each_item, each_member, field_at, text_at, table_at, flag_of, keys_are_among}
 use Rattle.dip_names.specs.Results.{◌>>=◌}
-use Rattle.dip_mapfile.specs.Files.{army_at, code_at, codes_at, draft_at, is_sound, keys_of, terrain_in, name_at, power_at, province_at, shores_at, units_at}
-use Rattle.dip_mapfile.specs.Tables.{Names, Says}
+use Rattle.dip_mapfile.specs.Files.{coast_in, either_shores, only_shore_at, shore_at, shores_in, site_at, site_in, sites_at, army_at, code_at, codes_at, draft_at, is_sound, keys_of, terrain_in, name_at, power_at, province_at, shores_at, units_at}
+use Rattle.dip_mapfile.specs.Tables.{FleetNames, Names, Says, behind_slash, site_text}
 
 -- what came of what was read, one behind the other
 pub bind_ok : {A B : Type 0} (r : Result A MapFault) (f : A → Result B MapFault) (y : B) → r >>= f ≡ Ok y → (x : A) × (r ≡ Ok x) × (f x ≡ Ok y)
@@ -423,3 +424,140 @@ file_read file d h =
       has_lands = table_is (codes "provinces") file lands other;
       provinces = all;
     })
+
+-- a place is spelled by its code and its coast
+if_read : {A : Type 0} (t : Bool) (r : Result A MapFault) (y : A) → cond t r (Err WrongField) ≡ Ok y → (t ≡ true) × (r ≡ Ok y)
+if_read true r y h = (refl, h)
+if_read false r y h = absurd (cc)
+
+coast_spelled : (rest coast : List ℕ) → coast_in rest ≡ Ok coast → rest ≡ behind_slash coast
+coast_spelled [] coast h = let e : [] ≡ coast = cc in ap behind_slash e
+coast_spelled (b ∷ name) coast h =
+    let (test, same) = if_ok ((b == 47) && is_coast_name name) name coast h in
+    let (slash, named) = and_parts (b == 47) (is_coast_name name) test in
+    ap (λ x. x ∷ name) (eqb-true b 47 slash) ∙ (letters name named ∙ ap behind_slash same)
+  where
+    letters : (n : List ℕ) → is_coast_name n ≡ true → 47 ∷ n ≡ behind_slash n
+    letters [] h = absurd (false≢true h)
+    letters (x ∷ xs) h = refl
+
+record Spelled (text : List ℕ) (s : Site) : Type 0 where
+  pub spelled : text ≡ site_text s.code s.coast
+  pub code : is_code s.code ≡ true
+
+site_spelled : (text : List ℕ) (s : Site) → site_in text ≡ Ok s → Spelled text s
+unfolding site_in
+site_spelled text s h =
+    let (test, read) = if_read (nat_le 3 (length text) && is_code (take 3 text)) (coast_in (drop 3 text) >>= λ coast. Ok (record { code = take 3 text; coast = coast })) s h in
+    let (coast, there, made) = bind_ok (coast_in (drop 3 text)) (λ coast. Ok (record { code = take 3 text; coast = coast })) s read in
+    let is : record { code = take 3 text; coast = coast } ≡ s = cc in
+    let spelled : text ≡ site_text (take 3 text) coast = sym (take-append-drop 3 text) ∙ ap (λ x. take 3 text ++ x) (coast_spelled (drop 3 text) coast there) in
+    subst (λ (x : Site). Spelled text x) is (record { spelled = spelled; code = (and_parts (nat_le 3 (length text)) (is_code (take 3 text)) test).1 })
+
+site_is : (v : Data) (s : Site) → site_at v ≡ Ok s → v ≡ string (site_text s.code s.coast)
+unfolding site_at
+site_is v s h =
+    let (text, read, rest) = bind_ok (or_wrong (as_str v)) site_in s h in
+    is_string v text (wanted_ok (as_str v) text read) ∙ ap (λ x. string x) (site_spelled text s rest).spelled
+
+-- what is known of a list of places in a table
+pub record ListsSites (t : Members) (key : List ℕ) (ss : List Site) : Type 0 where
+  pub to : (s : Site) → Contains ss s → Names t key (site_text s.code s.coast)
+  pub from : (text : List ℕ) → Names t key text → (s : Site) × Contains ss s × (site_text s.code s.coast ≡ text)
+
+lists_sites : (t : Members) (key : List ℕ) (v : Data) (ss : List Site) → get_member key t ≡ Some v → sites_at v ≡ Ok ss → ListsSites t key ss
+unfolding sites_at
+lists_sites t key v ss field list =
+    let (ds, array_read, read) = bind_ok (or_wrong (as_array v)) (λ items. each_item site_at items) ss list in
+    let is : get_member key t ≡ Some (array ds) = field ∙ ap (λ x. Some x) (is_array v ds (wanted_ok (as_array v) ds array_read)) in
+    record {
+      to = λ s there. (ds, is, items_to site_at (λ (x : Site). site_text x.code x.coast) site_is ds ss read s there);
+      from = λ text names.
+          let same : Some (array names.0) ≡ Some (array ds) = sym names.1 ∙ is in
+          let e : names.0 ≡ ds = cc in
+          let at : get_item names.2.0 ds ≡ Some (string text) = ap (λ x. get_item names.2.0 x) (sym e) ∙ names.2.1 in
+          items_from site_at (λ (x : Site). site_text x.code x.coast) site_is ds ss read names.2.0 text at;
+    }
+
+-- what is known of the list of a coast
+pub record ListsShore (t : Members) (name : List ℕ) (ss : List Site) : Type 0 where
+  pub to : (s : Site) → Contains ss s → FleetNames t name (site_text s.code s.coast)
+  pub from : (text : List ℕ) → FleetNames t name text → (s : Site) × Contains ss s × (site_text s.code s.coast ≡ text)
+
+abbrev pub no_shore_draft : ShoreDraft
+no_shore_draft = record { name = []; next = [] }
+
+-- the only coast, without a name
+only_shore : (t : Members) (v : Data) (shores : List ShoreDraft) → get_member (codes "fleet") t ≡ Some v → only_shore_at v ≡ Ok shores → (i : ℕ) → i < length shores
+    → ListsShore t (get_or shores i no_shore_draft).name (get_or shores i no_shore_draft).next
+unfolding only_shore_at
+only_shore t v shores field h i low =
+    let (next, read, made) = bind_ok (sites_at v) (λ next. Ok (record { name = []; next = next } ∷ [])) shores h in
+    let is : record { name = []; next = next } ∷ [] ≡ shores = cc in
+    let lists = lists_sites t (codes "fleet") v next field read in
+    let first : i < 1 = subst (λ ss. i < length ss) (sym is) low in
+    let zero_is : 0 ≡ i = omega (arith, first) in
+    let one : ListsShore t [] next = record { to = lists.to; from = lists.from } in
+    subst (λ ss. ListsShore t (get_or ss i no_shore_draft).name (get_or ss i no_shore_draft).next) is
+    (subst (λ n. ListsShore t (get_or (record { name = []; next = next } ∷ []) n no_shore_draft).name (get_or (record { name = []; next = next } ∷ []) n no_shore_draft).next) zero_is one)
+
+-- a coast with a name
+record ReadShore (name : List ℕ) (v : Data) (s : ShoreDraft) : Type 0 where
+  pub name_same : s.name ≡ name
+  pub named : is_coast_name name ≡ true
+  pub next : sites_at v ≡ Ok s.next
+
+shore_read : (name : List ℕ) (v : Data) (s : ShoreDraft) → shore_at name v ≡ Ok s → ReadShore name v s
+unfolding shore_at
+shore_read name v s h =
+    let (next, read, made) = bind_ok (sites_at v) (λ next. cond (is_coast_name name) (Ok (record { name = name; next = next })) (Err WrongField)) s h in
+    let (named, is) = if_ok (is_coast_name name) (record { name = name; next = next }) s made in
+    subst (λ (x : ShoreDraft). ReadShore name v x) is (record { name_same = refl; named = named; next = read })
+
+-- where a name stands first among those of the coasts
+abbrev pub IsFirst : List ShoreDraft → ℕ → Type 0
+IsFirst shores i =
+    (bytes_eq (get_or shores i no_shore_draft).name (get_or shores i no_shore_draft).name ≡ true)
+    × ((k : ℕ) → k < i → bytes_eq (get_or shores k no_shore_draft).name (get_or shores i no_shore_draft).name ≡ false)
+
+named_shore : (t : Members) (v : Data) (shores : List ShoreDraft) → get_member (codes "coasts") t ≡ Some v → shores_in v ≡ Ok shores → (i : ℕ) → i < length shores → IsFirst shores i
+    → ListsShore t (get_or shores i no_shore_draft).name (get_or shores i no_shore_draft).next
+unfolding shores_in
+named_shore t v shores field h i low first =
+    let (coasts, tab, rest) = bind_ok (or_wrong (as_table v)) (λ coasts. each_member shore_at coasts >>= λ found. cond (nat_le 2 (length found) && nat_le (length found) 4) (Ok found) (Err WrongField)) shores h in
+    let (found, each, kept) = bind_ok (each_member shore_at coasts) (λ found. cond (nat_le 2 (length found) && nat_le (length found) 4) (Ok found) (Err WrongField)) shores rest in
+    let (few, same) = if_ok (nat_le 2 (length found) && nat_le (length found) 4) found shores kept in
+    let all : each_member shore_at coasts ≡ Ok shores = each ∙ ap (λ x. Ok x) same in
+    let s : ShoreDraft = get_or shores i no_shore_draft in
+    let (value, there, read) = member_at shore_at (λ (x : ShoreDraft). x.name) (λ key d x e. (shore_read key d x e).name_same) coasts shores all s.name i no_shore_draft low first.0 first.1 in
+    let made = shore_read s.name value s read in
+    let has : get_member (codes "coasts") t ≡ Some (table coasts) = field ∙ ap (λ x. Some x) (is_table v coasts (wanted_ok (as_table v) coasts tab)) in
+    by_name coasts s.name s.next made.named has (lists_sites coasts s.name value s.next there made.next)
+  where
+    by_name : (coasts : Members) (name : List ℕ) (next : List Site) → is_coast_name name ≡ true → get_member (codes "coasts") t ≡ Some (table coasts) → ListsSites coasts name next → ListsShore t name next
+    by_name coasts [] next named has lists = absurd (false≢true named)
+    by_name coasts (b ∷ bs) next named has lists = record {
+      to = λ s among. (coasts, has, lists.to s among);
+      from = λ text names.
+          let both : Some (table names.0) ≡ Some (table coasts) = sym names.1 ∙ has in
+          let e : names.0 ≡ coasts = cc in
+          lists.from text (subst (λ x. Names x (b ∷ bs) text) e names.2);
+    }
+
+-- the list of each coast of a province
+pub shore_told : (land : Terrain) (t : Members) (shores : List ShoreDraft) → shores_at land t ≡ Ok shores → (i : ℕ) → i < length shores → IsFirst shores i
+    → ListsShore t (get_or shores i no_shore_draft).name (get_or shores i no_shore_draft).next
+shore_told Inland t shores h i low first =
+    let e : [] ≡ shores = cc in
+    absurd (omega (arith, low, ap (λ (ss : List ShoreDraft). length ss) e))
+shore_told Sea t shores h i low first =
+    let (v, field, read) = bind_ok (field_at (codes "fleet") t) only_shore_at shores h in
+    only_shore t v shores (field_is (codes "fleet") t v field) read i low
+shore_told Coast t shores h i low first = either (get_member (codes "fleet") t) (get_member (codes "coasts") t) refl refl h
+  where
+    either : (fleet coasts : Option Data) → get_member (codes "fleet") t ≡ fleet → get_member (codes "coasts") t ≡ coasts → either_shores fleet coasts ≡ Ok shores
+        → ListsShore t (get_or shores i no_shore_draft).name (get_or shores i no_shore_draft).next
+    either (Some f) None is_fleet no_coasts read = only_shore t f shores is_fleet read i low
+    either None (Some c) no_fleet is_coasts read = named_shore t c shores is_coasts read i low first
+    either None None no_fleet no_coasts read = absurd (cc)
+    either (Some f) (Some c) is_fleet is_coasts read = absurd (cc)

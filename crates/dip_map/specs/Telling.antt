@@ -5,7 +5,7 @@ use Rattle.dip_names.specs.declared.names.Place.{Place}
 use Rattle.dip_names.specs.declared.names.Terrain.{Terrain}
 use Rattle.dip_names.specs.declared.names.Terrain.TheVariants.{Inland, Coast, Sea}
 use Rattle.dip_chart.specs.Charts.{Chart, IsMap, home, is_army_next, is_fleet_next, is_fleet_place, province, realm, shore}
-use Rattle.dip_map.specs.Stated.{stated}
+use Rattle.dip_map.specs.Stated.{map_in}
 
 -- the word of a terrain
 abbrev pub terrain_word : Terrain → List ℕ
@@ -44,5 +44,5 @@ pub record Tells (file : Members) (m : Chart) : Type 0 where
 -- a text states only the map that its file tells
 abbrev pub StatesWhatItTells : Type 0
 StatesWhatItTells =
-    (text : List ℕ) (m : Chart) → IsMap m → stated text ≡ Ok m
+    (text : List ℕ) (m : Chart) → IsMap m → map_in text ≡ Ok m
     → (file : Members) × (parse_document text ≡ Some file) × Tells file m

@@ -1,5 +1,7 @@
 //! A letter by its parts, and what comes next in an input.
 use crate::{Lines, Seats};
+use std::error::Error;
+use std::fmt;
 
 /// One letter.
 #[derive(Clone, Copy)]
@@ -59,6 +61,23 @@ pub enum LetterFault {
     /// No letter ends within 16,384 bytes, and more bytes follow.
     TooLong,
 }
+
+impl fmt::Display for LetterFault {
+    ghost use Rattle.std.specs.Prelude.{Some};
+    ghost use Rattle.dip_letters.specs.Faults.{fault_words};
+
+    ghost output = { λ fault. Some (fault_words fault) };
+
+    #[tactic(auto, unfolding(crate::specs::Faults::fault_words))]
+    fn fmt<W: fmt::Write>(&self, f: &mut fmt::Formatter<W>) -> fmt::Result {
+        match self {
+            LetterFault::Malformed => f.write_str("no letter of the grammar"),
+            LetterFault::TooLong => f.write_str("no end within 16,384 bytes"),
+        }
+    }
+}
+
+impl Error for LetterFault {}
 
 /// What comes next in an input, and the bytes behind it.
 #[derive(Clone, Copy)]

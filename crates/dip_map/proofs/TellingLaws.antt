@@ -1,4 +1,4 @@
--- A map that was stated is the one that its file tells.
+-- A map that a text states is the one that its file tells.
 use Rattle.std.specs.Prelude.{slice_get, option_and_then}
 use Rattle.std.specs.Cmp.Derive.{both_true}
 use Rattle.std.proofs.lemmas.List.{take_at, drop_at}
@@ -116,14 +116,14 @@ with_realms d realms = each (province_at d) d.provinces >>= with_provinces d rea
 chart_read : (d : Draft) (m : Chart) → chart_of d ≡ Ok m → ChartRead d m
 unfolding chart_at
 chart_read d m h =
-    let (n, parts, check) = bind_ok (parts_at d) check m h in
+    let (n, parts, last_check) = bind_ok (parts_at d) check m h in
     let (e, few, made) = bind_ok (within_limits d) chart_at n parts in
     let same : e ≡ d = sym (within (is_few d) d e few) in
     let at : chart_at d ≡ Ok n = subst (λ x. chart_at x ≡ Ok n) same made in
     let (realms, r, rest) = bind_ok (each_from (realm_at d) 0 d.powers) (with_realms d) n at in
     let (provinces, p, last) = bind_ok (each (province_at d) d.provinces) (with_provinces d realms) n rest in
     let is : record { name = d.name; realms = realms; provinces = provinces } ≡ n = cc in
-    let whole : record { name = d.name; realms = realms; provinces = provinces } ≡ m = is ∙ passes (first_fault n) n m check in
+    let whole : record { name = d.name; realms = realms; provinces = provinces } ≡ m = is ∙ passes (first_fault n) n m last_check in
     subst (λ (x : Chart). ChartRead d x) whole (record { name = refl; realms = r; provinces = p })
 
 -- a province and a power of the map, and their drafts
@@ -180,15 +180,15 @@ lengths_from f k (z ∷ zs) ys h =
     let e : first ∷ more ≡ ys = cc in
     ap (λ n. suc n) (lengths_from f (k + 1) zs more others) ∙ ap (λ us. length us) e
 
-known_ok : {A : Type 0} (o : Option A) (x : A) → or_unknown o ≡ Ok x → o ≡ Some x
-known_ok None x h = absurd (cc)
-known_ok (Some y) x h = let e : y ≡ x = cc in ap (λ z. Some z) e
+or_unknown_ok : {A : Type 0} (o : Option A) (x : A) → or_unknown o ≡ Ok x → o ≡ Some x
+or_unknown_ok None x h = absurd (cc)
+or_unknown_ok (Some y) x h = let e : y ≡ x = cc in ap (λ z. Some z) e
 
 -- what a code was looked up to has that code
 looked_up : (d : Draft) (m : Chart) → ChartRead d m → (code : List ℕ) (q : ℕ) → prov_at d code ≡ Ok q → (q < length m.provinces) × ((province m q).code ≡ code)
 unfolding prov_at
 looked_up d m c code q h =
-    let (low, here, first) = position-Some (λ w. bytes_eq w.code code) d.provinces q no_draft (known_ok (position (λ w. bytes_eq w.code code) d.provinces) q h) in
+    let (low, here, first) = position-Some (λ w. bytes_eq w.code code) d.provinces q no_draft (or_unknown_ok (position (λ w. bytes_eq w.code code) d.provinces) q h) in
     let there : q < length m.provinces = subst (λ n. q < n) (lengths (province_at d) d.provinces m.provinces c.provinces) low in
     (there, sym (province_of d m c q there).code ∙ (bytes_eq-Decides (get_or d.provinces q no_draft).code code).0 here)
 
@@ -261,7 +261,7 @@ coast_found : (d : Draft) (q k : ℕ) (name : List ℕ) → q < length d.provinc
     → position (λ s. bytes_eq s.name name) (get_or d.provinces q no_draft).shores ≡ Some k
 unfolding coast_at
 coast_found d q k name low h =
-    let found = known_ok (option_and_then (λ (l : ProvinceDraft). position (λ s. bytes_eq s.name name) l.shores) (slice_get d.provinces q)) k h in
+    let found = or_unknown_ok (option_and_then (λ (l : ProvinceDraft). position (λ s. bytes_eq s.name name) l.shores) (slice_get d.provinces q)) k h in
     let there : slice_get d.provinces q ≡ Some (get_or d.provinces q no_draft) = slice_get-get_or d.provinces q no_draft low in
     ap (λ o. option_and_then (λ (l : ProvinceDraft). position (λ s. bytes_eq s.name name) l.shores) o) (sym there) ∙ found
 

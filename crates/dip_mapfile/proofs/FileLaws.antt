@@ -26,9 +26,9 @@ pub bind_ok : {A B : Type 0} (r : Result A MapFault) (f : A → Result B MapFaul
 bind_ok (Ok x) f y h = (x, refl, h)
 bind_ok (Err e) f y h = absurd (cc)
 
-wanted_ok : {A : Type 0} (o : Option A) (x : A) → or_wrong o ≡ Ok x → o ≡ Some x
-wanted_ok None x h = absurd (cc)
-wanted_ok (Some y) x h = let e : y ≡ x = cc in ap (λ z. Some z) e
+or_wrong_ok : {A : Type 0} (o : Option A) (x : A) → or_wrong o ≡ Ok x → o ≡ Some x
+or_wrong_ok None x h = absurd (cc)
+or_wrong_ok (Some y) x h = let e : y ≡ x = cc in ap (λ z. Some z) e
 
 if_ok : {A : Type 0} (t : Bool) (x y : A) → cond t (Ok x) (Err WrongField) ≡ Ok y → (t ≡ true) × (x ≡ y)
 if_ok true x y h = (refl, cc)
@@ -73,19 +73,19 @@ is_boolean (table ns) b h = absurd (cc)
 -- a field, a text and a table
 field_is : (key : List ℕ) (t : Members) (v : Data) → field_at key t ≡ Ok v → get_member key t ≡ Some v
 unfolding field_at
-field_is key t v h = wanted_ok (get_member key t) v h
+field_is key t v h = or_wrong_ok (get_member key t) v h
 
 pub text_is : (key : List ℕ) (t : Members) (s : List ℕ) → text_at key t ≡ Ok s → Says t key s
 unfolding text_at
 text_is key t s h =
     let (v, field, text) = bind_ok (field_at key t) (λ v. or_wrong (as_str v)) s h in
-    field_is key t v field ∙ ap (λ x. Some x) (is_string v s (wanted_ok (as_str v) s text))
+    field_is key t v field ∙ ap (λ x. Some x) (is_string v s (or_wrong_ok (as_str v) s text))
 
 pub table_is : (key : List ℕ) (t ms : Members) → table_at key t ≡ Ok ms → get_member key t ≡ Some (table ms)
 unfolding table_at
 table_is key t ms h =
     let (v, field, text) = bind_ok (field_at key t) (λ v. or_wrong (as_table v)) ms h in
-    field_is key t v field ∙ ap (λ x. Some x) (is_table v ms (wanted_ok (as_table v) ms text))
+    field_is key t v field ∙ ap (λ x. Some x) (is_table v ms (or_wrong_ok (as_table v) ms text))
 
 pub name_is : (t : Members) (s : List ℕ) → name_at t ≡ Ok s → Says t (codes "name") s
 unfolding name_at
@@ -203,7 +203,7 @@ pub code_is : (v : Data) (c : List ℕ) → code_at v ≡ Ok c → v ≡ string 
 unfolding code_at
 code_is v c h =
     let (text, read, rest) = bind_ok (or_wrong (as_str v)) (λ text. cond (is_code text) (Ok text) (Err WrongField)) c h in
-    is_string v text (wanted_ok (as_str v) text read) ∙ ap (λ x. string x) (if_ok (is_code text) text c rest).1
+    is_string v text (or_wrong_ok (as_str v) text read) ∙ ap (λ x. string x) (if_ok (is_code text) text c rest).1
 
 -- what is known of a list of codes in a table
 pub record ListsCodes (t : Members) (key : List ℕ) (cs : List (List ℕ)) : Type 0 where
@@ -215,7 +215,7 @@ unfolding codes_at
 lists_codes t key cs h =
     let (v, field, list) = bind_ok (field_at key t) codes_at cs h in
     let (ds, array_read, read) = bind_ok (or_wrong (as_array v)) (λ items. each_item code_at items) cs list in
-    let is : get_member key t ≡ Some (array ds) = field_is key t v field ∙ ap (λ x. Some x) (is_array v ds (wanted_ok (as_array v) ds array_read)) in
+    let is : get_member key t ≡ Some (array ds) = field_is key t v field ∙ ap (λ x. Some x) (is_array v ds (or_wrong_ok (as_array v) ds array_read)) in
     record {
       to = λ c there. (ds, is, items_to code_at (λ x. x) code_is ds cs read c there);
       from = λ c names.
@@ -278,7 +278,7 @@ terrain_is word l h =
 pub flag_is : (o : Option Data) (b : Bool) → flag_of o ≡ Ok b → (b ≡ true) ↔ (o ≡ Some (boolean true))
 flag_is None b h = let e : false ≡ b = cc in (λ is. absurd (cc), λ is. absurd (cc))
 flag_is (Some v) b h =
-    let is : v ≡ boolean b = is_boolean v b (wanted_ok (as_bool v) b h) in
+    let is : v ≡ boolean b = is_boolean v b (or_wrong_ok (as_bool v) b h) in
     (λ yes_b. ap (λ x. Some x) (is ∙ ap (λ x. boolean x) yes_b), λ same. let both : Some (boolean b) ≡ Some (boolean true) = ap (λ x. Some x) (sym is) ∙ same in cc)
 
 -- what is read of a province's table, one field behind the other
@@ -324,7 +324,7 @@ province_read code v w h =
     let (sound, same) = if_ok (is_sound code land centre t) (record { code = code; name = name; terrain = land; centre = centre; army = army; shores = shores }) w h7 in
     record {
       fields = t;
-      is = is_table v t (wanted_ok (as_table v) t tab);
+      is = is_table v t (or_wrong_ok (as_table v) t tab);
       code_same = sym (ap (λ (x : ProvinceDraft). x.code) same);
       read = subst (λ (x : ProvinceDraft). ProvinceRead t x) same (record {
         name = name_is t name named;
@@ -374,7 +374,7 @@ power_read name v w h =
     let (sound, same) = if_ok (is_power_name name && keys_are_among (codes "home" ∷ codes "units" ∷ []) t) (record { name = name; home = home; units = units }) w h5 in
     record {
       fields = t;
-      is = is_table v t (wanted_ok (as_table v) t tab);
+      is = is_table v t (or_wrong_ok (as_table v) t tab);
       name_same = sym (ap (λ (x : PowerDraft). x.name) same);
       read = subst (λ (x : PowerDraft). PowerRead t x) same (record { home = lists_codes t (codes "home") home (ap (λ r. r >>= codes_at) field ∙ listed) });
     }
@@ -458,7 +458,7 @@ site_is : (v : Data) (s : Site) → site_at v ≡ Ok s → v ≡ string (site_te
 unfolding site_at
 site_is v s h =
     let (text, read, rest) = bind_ok (or_wrong (as_str v)) site_in s h in
-    is_string v text (wanted_ok (as_str v) text read) ∙ ap (λ x. string x) (site_spelled text s rest).spelled
+    is_string v text (or_wrong_ok (as_str v) text read) ∙ ap (λ x. string x) (site_spelled text s rest).spelled
 
 -- what is known of a list of places in a table
 pub record ListsSites (t : Members) (key : List ℕ) (ss : List Site) : Type 0 where
@@ -469,7 +469,7 @@ lists_sites : (t : Members) (key : List ℕ) (v : Data) (ss : List Site) → get
 unfolding sites_at
 lists_sites t key v ss field list =
     let (ds, array_read, read) = bind_ok (or_wrong (as_array v)) (λ items. each_item site_at items) ss list in
-    let is : get_member key t ≡ Some (array ds) = field ∙ ap (λ x. Some x) (is_array v ds (wanted_ok (as_array v) ds array_read)) in
+    let is : get_member key t ≡ Some (array ds) = field ∙ ap (λ x. Some x) (is_array v ds (or_wrong_ok (as_array v) ds array_read)) in
     record {
       to = λ s there. (ds, is, items_to site_at (λ (x : Site). site_text x.code x.coast) site_is ds ss read s there);
       from = λ text names.
@@ -531,7 +531,7 @@ named_shore t v shores field h i low first =
     let s : ShoreDraft = get_or shores i no_shore_draft in
     let (value, there, read) = member_at shore_at (λ (x : ShoreDraft). x.name) (λ key d x e. (shore_read key d x e).name_same) coasts shores all s.name i no_shore_draft low first.0 first.1 in
     let made = shore_read s.name value s read in
-    let has : get_member (codes "coasts") t ≡ Some (table coasts) = field ∙ ap (λ x. Some x) (is_table v coasts (wanted_ok (as_table v) coasts tab)) in
+    let has : get_member (codes "coasts") t ≡ Some (table coasts) = field ∙ ap (λ x. Some x) (is_table v coasts (or_wrong_ok (as_table v) coasts tab)) in
     by_name coasts s.name s.next made.named has (lists_sites coasts s.name value s.next there made.next)
   where
     by_name : (coasts : Members) (name : List ℕ) (next : List Site) → is_coast_name name ≡ true → get_member (codes "coasts") t ≡ Some (table coasts) → ListsSites coasts name next → ListsShore t name next

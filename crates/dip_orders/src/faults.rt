@@ -2,6 +2,9 @@
 ghost use Rattle.std.specs.Prelude.{◌≡◌};
 ghost use Rattle.dip_orders.specs.Faults.{fault_number, fault_words};
 
+use std::error::Error;
+use std::fmt;
+
 /// Why a line is no order of a power on a board: the first rule that it breaks.
 #[derive(Clone, Copy, PartialEq, Eq, Debug)]
 pub enum OrderFault {
@@ -80,3 +83,15 @@ impl OrderFault {
         }
     }
 }
+
+impl fmt::Display for OrderFault {
+    ghost use Rattle.std.specs.Prelude.{Some};
+
+    ghost output = { λ fault. Some (fault_words fault) };
+
+    fn fmt<W: fmt::Write>(&self, f: &mut fmt::Formatter<W>) -> fmt::Result {
+        f.write_str(self.words())
+    }
+}
+
+impl Error for OrderFault {}

@@ -38,7 +38,8 @@ pub(crate) fn is_vacant(board: &Board, prov: Prov) -> bool
     !is_held(board, prov) && !is_left(board, prov)
 }
 
-fn centres_owned(board: &Board, power: Power) -> usize
+/// How many centres a power owns.
+pub fn centres_owned(board: &Board, power: Power) -> usize
     ensures { result ≡ centres_owned board.now power }
 {
     board
@@ -85,8 +86,8 @@ fn vacant_homes(map: &Map, board: &Board, power: Power) -> usize
         .count()
 }
 
-/// How many units a power may build.
-pub(crate) fn builds_due(map: &Map, board: &Board, power: Power) -> usize
+/// How many units a power may build: as many as it has centres more than units, at most one in each of its vacant home centres.
+pub fn builds_due(map: &Map, board: &Board, power: Power) -> usize
     ensures { result ≡ builds_due map.now board.now power }
 {
     let centres = centres_owned(board, power);
@@ -96,8 +97,8 @@ pub(crate) fn builds_due(map: &Map, board: &Board, power: Power) -> usize
         .min(vacant_homes(map, board, power))
 }
 
-/// How many units a power has to remove.
-pub(crate) fn removals_due(board: &Board, power: Power) -> usize
+/// How many units a power has to remove: as many as it has more than centres.
+pub fn removals_due(board: &Board, power: Power) -> usize
     ensures { result ≡ removals_due board.now power }
 {
     let centres = centres_owned(board, power);

@@ -1,0 +1,23 @@
+//! Phases: what a movement, retreats, builds and removals make of a board, and what follows.
+#![tactic(auto)]
+
+mod adjusting;
+mod centres;
+mod disorder;
+mod laws;
+mod moving;
+mod orders;
+mod outcomes;
+mod phases;
+mod playing;
+mod report;
+mod retreating;
+mod standoffs;
+
+pub use dip_orders::{allowance, retreats};
+pub use laws::units_stand_apart;
+pub use playing::advance;
+pub use report::{
+    Account, Adjustment, CentreLine, Course, Fate, Movement, MovementLine, Outcome, Report,
+    RetreatLine, Waiver,
+};

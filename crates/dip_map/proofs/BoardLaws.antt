@@ -1,10 +1,12 @@
-use Rattle.std.proofs.Common.{◌≡◌, ℕ, ◌+◌, ◌<◌, length, drop, List, [], ◌∷◌, ◌++◌, Option, Some, None, append_assoc, ◌∙◌, true, zero, suc, get_or, arith, cond, nat_lt, inl, inr, refl, ◌==◌, Bool, not, map, ap, ◌&&◌, ◌||◌, ◌-◌, take, sym}
+-- The board of the opening is one of its map.
+use Rattle.std.proofs.Common.{◌≡◌, ℕ, ◌+◌, ◌<◌, length, drop, List, [], ◌∷◌, ◌++◌, Option, Some, None, append_assoc, ◌∙◌, true, zero, suc, get_or, arith, cond, nat_lt, inl, inr, refl, ◌==◌, Bool, not, map, ap, ◌&&◌, ◌||◌, ◌-◌, take, sym, is_some}
 use Rattle.std.proofs.lemmas.List.{drop_more, take_rest}
-use Rattle.std.proofs.lemmas.Bool.{cases_Bool}
+use Rattle.std.proofs.lemmas.Bool.{cases_Bool, cases_lt, false≢true, le-ltb}
+use Rattle.std.proofs.lemmas.List.Sums.{passes_at_first}
 use Rattle.std.specs.List.{list_any, position_or_len}
 use Rattle.dip_map.specs.declared.boards.Dislodged.{Dislodged}
 use Rattle.dip_parts.specs.declared.names.Unit.{Unit as Piece}
-use Rattle.dip_parts.specs.Charts.{Chart, Province, IsMap, no_province, are_units_single}
+use Rattle.dip_parts.specs.Charts.{Chart, Province, Realm, IsMap, no_province, no_realm, is_centre, are_units_single}
 use Rattle.dip_map.specs.Boards.{IsOf, is_some_power, owner_at, owners_from, opening}
 
 pub owners_step : (m : Chart) (front all : List (Option ℕ)) (i : ℕ) → i < length m.provinces → front ++ owners_from m i (drop i m.provinces) ≡ all
@@ -46,6 +48,20 @@ owners_within m i [] k d h = absurd (omega arith)
 owners_within m i (p ∷ ps) zero d h = owner_within m i
 owners_within m i (p ∷ ps) (suc k) d h = let low : k < length (owners_from m (i + 1) ps) = omega arith in owners_within m (i + 1) ps k d low
 
+-- who owns a province at the opening has it as a home, which is a centre
+owned_home : (m : Chart) → IsMap m → (p : ℕ) → is_some (owner_at m p) ≡ true → is_centre m p ≡ true
+owned_home m ok p h =
+    let test : Realm → Bool = λ r. list_any (λ x. x == p) r.home in
+    elim (cases_lt (position_or_len test m.realms) (length m.realms)) [
+      | inl low ↦ ok.homes_centres p (position_or_len test m.realms) (passes_at_first test m.realms no_realm low)
+      | inr past ↦ absurd (false≢true (rw (le-ltb _ _ past) at h))
+    ]
+
+owned_home_at : (m : Chart) → IsMap m → (i : ℕ) (ps : List Province) (k : ℕ) → is_some (get_or (owners_from m i ps) k None) ≡ true → is_centre m (i + k) ≡ true
+owned_home_at m ok i [] k h = absurd (false≢true h)
+owned_home_at m ok i (p ∷ ps) zero h = let e : i + 0 ≡ i = omega arith in rw e (owned_home m ok i h)
+owned_home_at m ok i (p ∷ ps) (suc k) h = let e : i + suc k ≡ (i + 1) + k = omega arith in rw e (owned_home_at m ok (i + 1) ps k h)
+
 -- the board of the opening is one of its map
 pub opening_law : (m : Chart) → IsMap m → IsOf m (opening m)
 opening_law m ok = record {
@@ -54,6 +70,9 @@ opening_law m ok = record {
   dislodged = λ k d h. absurd (omega arith);
   dislodged_apart = refl;
   standoff = λ k d h. absurd (omega arith);
+  standoff_once = refl;
+  standoff_empty = λ k d h. absurd (omega arith);
   owners = owners_within m 0 m.provinces;
   owners_count = owners_count m 0 m.provinces;
+  owners_centres = λ p h. let z : 0 + p ≡ p = omega arith in rw z at (owned_home_at m ok 0 m.provinces p h);
 }

@@ -1,10 +1,10 @@
-use Rattle.std.specs.Prelude.{◌≡◌, ℕ, ◌<◌, ◌==◌, ◌+◌, nat_lt, ◌&&◌, Bool, true, All, List, [], ◌∷◌, map, length, Option, None, Some}
-use Rattle.std.specs.List.{list_any, position}
+use Rattle.std.specs.Prelude.{◌≡◌, ℕ, ◌<◌, ◌==◌, ◌+◌, nat_lt, ◌&&◌, Bool, true, false, All, List, [], ◌∷◌, map, length, Option, None, Some, is_some}
+use Rattle.std.specs.List.{list_any, list_all, position, slice_index_or}
 use Rattle.dip_map.specs.declared.boards.Season.TheVariants.{SpringMoves}
 use Rattle.dip_parts.specs.declared.names.Unit.{Unit as Piece}
 use Rattle.dip_map.specs.declared.boards.Dislodged.{Dislodged}
 use Rattle.dip_map.specs.declared.boards.Phase.{Phase}
-use Rattle.dip_parts.specs.Charts.{Chart, Province, is_unit, opening_units, are_units_single}
+use Rattle.dip_parts.specs.Charts.{Chart, Province, is_unit, is_centre, opening_units, are_units_single}
 
 -- what stands on a board
 pub record Position : Type 0 where
@@ -28,15 +28,32 @@ is_some_power m (Some r) = nat_lt r (length m.realms)
 abbrev pub is_dislodged : Chart → Dislodged → Bool
 is_dislodged m d = is_unit m d.unit && is_some_prov m d.origin
 
--- the board is one of the map; no two units stand in one province, and no two were dislodged from one
+-- a unit stands in the province
+abbrev pub is_held : Position → ℕ → Bool
+is_held b p = list_any (λ u. u.place.prov == p) b.units
+
+-- each is less than all behind it
+abbrev pub are_ascending : List ℕ → Bool
+are_ascending [] = true
+are_ascending (p ∷ ps) = list_all (λ q. nat_lt p q) ps && are_ascending ps
+
+-- the owner of a province, nobody where there is none
+abbrev pub owner : Position → ℕ → Option ℕ
+owner b p = slice_index_or b.owners p None
+
+-- the board is one of the map: no two units stand in one province, and no two were dislodged from one;
+-- only centres have owners; standoffs are told once, in the order of the provinces, and left their provinces empty
 pub record IsOf (m : Chart) (b : Position) : Type 0 where
   pub units : All (λ u. is_unit m u ≡ true) b.units
   pub apart : are_units_single b.units ≡ true
   pub dislodged : All (λ d. is_dislodged m d ≡ true) b.dislodged
   pub dislodged_apart : are_units_single (map (λ d. d.unit) b.dislodged) ≡ true
   pub standoff : All (λ p. p < length m.provinces) b.standoff
+  pub standoff_once : are_ascending b.standoff ≡ true
+  pub standoff_empty : All (λ p. is_held b p ≡ false) b.standoff
   pub owners : All (λ o. is_some_power m o ≡ true) b.owners
   pub owners_count : length b.owners ≡ length m.provinces
+  pub owners_centres : (p : ℕ) → is_some (owner b p) ≡ true → is_centre m p ≡ true
 
 -- whose home centre a province is
 abbrev pub owner_at : Chart → ℕ → Option ℕ

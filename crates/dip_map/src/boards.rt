@@ -1,8 +1,10 @@
-ghost use Rattle.std.specs.Prelude.{◌≡◌, ◌<◌, ◌↔◌, length, map, IfOk, IsTrue, All, true};
-ghost use Rattle.std.specs.Prelude.{◌==◌};
-ghost use Rattle.std.specs.List.{list_any, position, flat_map};
-ghost use Rattle.dip_parts.specs.Charts.{is_unit, opening_units, are_units_single};
+//! The board of a game, and whether it is one of a map.
+ghost use Rattle.std.specs.Prelude.{◌≡◌, ◌<◌, ◌↔◌, ℕ, length, map, IfOk, IsTrue, All, true, false, None, is_some};
+ghost use Rattle.std.specs.Prelude.{◌==◌, nat_lt};
+ghost use Rattle.std.specs.List.{list_any, list_all, position, flat_map, slice_index_or};
+ghost use Rattle.dip_parts.specs.Charts.{is_unit, is_centre, opening_units, are_units_single};
 ghost use Rattle.dip_map.specs.Boards.{is_some_prov, is_some_power, is_dislodged, IsOf, owner_at, owners_from, opening};
+ghost use Rattle.dip_map.specs.Boards.{is_held, are_ascending};
 
 use crate::charts::Map;
 use dip_parts::{Power, Prov, Realm, Unit, are_units_single};
@@ -144,7 +146,15 @@ impl Board {
         self.phase
     }
 
-    /// Whether the board is one of this map, with at most one standing and one dislodged unit a province.
+    /// Whether a unit stands in the province.
+    pub fn is_held(&self, p: Prov) -> bool
+        ensures { result ≡ is_held self.now p }
+    {
+        self.units().iter().any(|unit| unit.place.prov == p)
+    }
+
+    /// Whether the board is one of this map: each part of it is, with at most one standing and one dislodged unit a province; only centres
+    /// have owners; standoffs ascend, and no unit stands there.
     pub fn is_of(&self, map: &Map) -> bool
         ensures { IsTrue result ↔ IsOf map.now self.now }
     {
@@ -163,10 +173,30 @@ impl Board {
         if !are_provinces_of(map, self.standoff()) {
             return false;
         }
+        if !are_ascending(self.standoff()) {
+            return false;
+        }
+        if !self.are_empty(self.standoff()) {
+            return false;
+        }
         if !are_owners_of(map, self.owners()) {
             return false;
         }
-        self.owners().len() == map.provinces()
+        if self.owners().len() != map.provinces() {
+            return false;
+        }
+        are_owners_of_centres(map, self.owners())
+    }
+
+    fn are_empty(&self, provinces: &[Prov]) -> bool
+        ensures { IsTrue result ↔ All (λ p. is_held self.now p ≡ false) provinces.now }
+    {
+        for province in provinces {
+            if self.is_held(*province) {
+                return false;
+            }
+        }
+        true
     }
 }
 
@@ -238,6 +268,36 @@ fn are_provinces_of(map: &Map, provinces: &[Prov]) -> bool
 {
     for province in provinces {
         if map.provinces() <= province.index() as usize {
+            return false;
+        }
+    }
+    true
+}
+
+fn is_before(p: Prov, provinces: &[Prov]) -> bool
+    ensures { result ≡ list_all (λ q. nat_lt p q) provinces.now }
+{
+    provinces.iter().all(|later| p < *later)
+}
+
+fn are_ascending(provinces: &[Prov]) -> bool
+    ensures { result ≡ are_ascending provinces.now }
+{
+    for (number, province) in provinces.iter().enumerate() {
+        if !is_before(*province, &provinces[number + 1..]) {
+            return false;
+        }
+    }
+    true
+}
+
+fn are_owners_of_centres(map: &Map, owners: &[Option<Power>]) -> bool
+    requires { length owners.now ≡ length map.now.provinces }
+    ensures { IsTrue result ↔ ((p : ℕ) → is_some (slice_index_or owners.now p None) ≡ true → is_centre map.now p ≡ true) }
+{
+    map.facts();
+    for (number, owner) in owners.iter().enumerate() {
+        if owner.is_some() && !map.is_centre(Prov::new(number as u8)) {
             return false;
         }
     }

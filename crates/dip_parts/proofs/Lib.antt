@@ -1,3 +1,4 @@
 pub mod Found
+pub mod KeyLaws
 pub mod EntryLaws
 pub mod MapLaws

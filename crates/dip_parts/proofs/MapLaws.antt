@@ -1,43 +1,21 @@
-use Rattle.std.proofs.Common.{zero-add, ◌≡◌, ℕ, ◌+◌, ◌<◌, ◌≤◌, ◌==◌, Bool, true, false, zero, suc, get_or, length, List, [], ◌∷◌, refl, ◌∙◌, ap, subst, inl, inr, arith, ◌&&◌, Option, Some, None, flat_map}
+-- Parts that pass each test are a map.
+use Rattle.std.proofs.Common.{zero-add, ◌≡◌, ℕ, ◌+◌, ◌<◌, ◌≤◌, ◌==◌, true, zero, suc, get_or, length, List, [], ◌∷◌, refl, ◌∙◌, ap, subst, inl, inr, arith, ◌&&◌, Option, Some, None, flat_map}
 use Rattle.std.proofs.lemmas.Bool.{and_parts, false≢true, cases_lt, eqb-true, eq-eqb, lt-ltb, leb-true}
 use Rattle.std.proofs.lemmas.List.{get_or_past}
 use Rattle.std.proofs.lemmas.List.Folds.{list_any_at, list_all-append}
 use Rattle.std.specs.List.{list_any, list_all}
 use Rattle.std.specs.Cmp.Derive.{both_true}
 use Rattle.dip_parts.specs.declared.names.Place.{Place}
-use Rattle.dip_parts.specs.Charts.{Chart, Province, Shore, Realm, IsMap, no_province, no_shore, no_realm, province, army_next, fleet_next, is_army_next, is_fleet_next, is_fleet_place, is_province, is_realm, is_unit, opening_units, prov_of, power_of, coast_of}
-use Rattle.dip_parts.specs.Checks.{answers, is_within_limits, is_well_formed, rest_of_codes, rest_of_names, rest_of_shores, rest_of_coasts, is_allowed, is_distinct, is_single, is_named_back, rest_is_mutual, are_named_back, rest_of_shores_is_mutual, rest_is_mutual_by_sea, is_mutual}
+use Rattle.dip_parts.specs.Charts.{Chart, Province, Shore, Realm, IsMap, no_province, no_shore, no_realm, province, army_next, fleet_next, is_army_next, is_fleet_next, is_fleet_place, is_province, is_realm, is_unit, opening_units, coast_of}
+use Rattle.dip_parts.specs.Checks.{answers, is_within_limits, is_well_formed, rest_of_shores, rest_of_coasts, is_allowed, is_distinct, is_single, is_named_back, rest_is_mutual, are_named_back, rest_of_shores_is_mutual, rest_is_mutual_by_sea, is_mutual}
 use Rattle.dip_parts.proofs.Found.{test_at, test_found, place_found}
+use Rattle.dip_parts.proofs.KeyLaws.{key_found, full_names_law, homes_centres_law, homes_apart_law}
 use Rattle.dip_parts.proofs.EntryLaws.{army_single_law, fleet_single_law, homes_law, openings_law, army_away_law, fleet_away_law}
 
 -- a look-up that passes the test answered the number
 answers_is : (o : Option ℕ) (k : ℕ) → answers o k ≡ true → o ≡ Some k
 answers_is None k h = absurd (false≢true h)
 answers_is (Some j) k h = ap (λ (n : ℕ). Some n) (eqb-true j k h)
-
-codes_law : (m : Chart) (i : ℕ) (rs : List Province) (k : ℕ) → rest_of_codes m i rs ≡ true → k < length rs → prov_of m (get_or rs k no_province).code ≡ Some (i + k)
-codes_law m i [] k t h = absurd (omega arith)
-codes_law m i (r ∷ rs) zero t h =
-    let here = (and_parts (answers (prov_of m r.code) i) (rest_of_codes m (i + 1) rs) t).0 in
-    let e : i + 0 ≡ i = omega arith in
-    rw e (answers_is (prov_of m r.code) i here)
-codes_law m i (r ∷ rs) (suc k) t h =
-    let more = (and_parts (answers (prov_of m r.code) i) (rest_of_codes m (i + 1) rs) t).1 in
-    let low : k < length rs = omega arith in
-    let e : i + suc k ≡ (i + 1) + k = omega arith in
-    rw e (codes_law m (i + 1) rs k more low)
-
-names_law : (m : Chart) (i : ℕ) (rs : List Realm) (k : ℕ) → rest_of_names m i rs ≡ true → k < length rs → power_of m (get_or rs k no_realm).name ≡ Some (i + k)
-names_law m i [] k t h = absurd (omega arith)
-names_law m i (r ∷ rs) zero t h =
-    let here = (and_parts (answers (power_of m r.name) i) (rest_of_names m (i + 1) rs) t).0 in
-    let e : i + 0 ≡ i = omega arith in
-    rw e (answers_is (power_of m r.name) i here)
-names_law m i (r ∷ rs) (suc k) t h =
-    let more = (and_parts (answers (power_of m r.name) i) (rest_of_names m (i + 1) rs) t).1 in
-    let low : k < length rs = omega arith in
-    let e : i + suc k ≡ (i + 1) + k = omega arith in
-    rw e (names_law m (i + 1) rs k more low)
 
 shores_law : (m : Chart) (p i : ℕ) (ss : List Shore) (k : ℕ) → rest_of_shores m p i ss ≡ true → k < length ss → coast_of m p (get_or ss k no_shore).name ≡ Some (i + k)
 shores_law m p i [] k t h = absurd (omega arith)
@@ -168,7 +146,8 @@ map_law m limits formed allowed distinct single back =
     let (codes, names_coasts) = and_parts _ _ distinct in
     let (names, coasts) = and_parts _ _ names_coasts in
     let (land, sea) = and_parts _ _ back in
-    let (neighbours, rest) = and_parts _ _ (and_parts _ _ single).1 in
+    let (full_names, entries) = and_parts _ _ single in
+    let (neighbours, rest) = and_parts _ _ entries in
     let (homes, openings) = and_parts _ _ rest in
     record {
       realms_least = few.0.0;
@@ -177,8 +156,11 @@ map_law m limits formed allowed distinct single back =
       provinces_most = few.1.1;
       provinces = λ p h. test_at is_province m.provinces p no_province lands h;
       realms = λ r h. test_at (λ x. is_realm m x) m.realms r no_realm powers h;
-      codes_found = λ p h. let z : 0 + p ≡ p = zero-add p in rw z at (codes_law m 0 m.provinces p codes h);
-      names_found = λ r h. let z : 0 + r ≡ r = zero-add r in rw z at (names_law m 0 m.realms r names h);
+      codes_ascend = codes;
+      names_ascend = names;
+      full_names_apart = full_names_law m.provinces full_names;
+      codes_found = λ p h. key_found (λ r. r.code) m.provinces p no_province codes h;
+      names_found = λ r h. key_found (λ r. r.name) m.realms r no_realm names h;
       coasts_found = λ a h. let z : 0 + a.prov ≡ a.prov = zero-add a.prov in rw z at (coasts_law m 0 m.provinces a.prov a.coast coasts h);
       army_symmetric = land_law m land;
       army_within = within_law m land;
@@ -188,7 +170,9 @@ map_law m limits formed allowed distinct single back =
       fleet_within = afloat_law m sea;
       fleet_single = fleet_single_law m neighbours;
       fleet_away = fleet_away_law m allowed;
+      homes_centres = homes_centres_law m powers;
       homes_single = homes_law m.realms homes;
+      homes_apart = homes_apart_law m.realms homes;
       units = λ k d h. test_at (λ u. is_unit m u) (opening_units m) k d (units_law m m.realms powers) h;
       openings_single = openings_law m.realms openings;
     }

@@ -1,6 +1,9 @@
+-- What a map is: its provinces, coasts and powers, where units go, and what holds of each map.
 use Rattle.std.specs.Prelude.{◌≡◌, ◌≢◌, ℕ, ◌<◌, ◌≤◌, ◌==◌, ◌&&◌, ◌||◌, nat_lt, nat_le, not, All, Bool, true, false, List, [], ◌∷◌, length, flat_map, Option, Some, slice_index_or}
 use Rattle.std.specs.List.{list_any, list_all, position}
 use Rattle.std.specs.Str.{bytes_eq}
+use Rattle.std.specs.Cmp.Lexicographic.{slice_cmp}
+use Rattle.std.specs.Ordering.{is_lt, nat_cmp}
 pub use Rattle.dip_mapfile.specs.Forms.{is_code, is_coast_name, is_full_name, is_power_name}
 use Rattle.dip_parts.specs.declared.names.Terrain.{Terrain}
 use Rattle.dip_parts.specs.declared.names.Terrain.TheVariants.{Inland, Coast, Sea}
@@ -159,6 +162,11 @@ abbrev pub are_units_single : List Piece → Bool
 are_units_single [] = true
 are_units_single (u ∷ us) = not (list_any (λ v. v.place.prov == u.place.prov) us) && are_units_single us
 
+-- each comes before all behind it by its key, a text, whose bytes decide
+abbrev pub are_ascending_by : {A : Type 0} → (A → List ℕ) → List A → Bool
+are_ascending_by key [] = true
+are_ascending_by key (x ∷ xs) = list_all (λ y. is_lt (slice_cmp nat_cmp (key x) (key y))) xs && are_ascending_by key xs
+
 -- what each map keeps
 pub record IsMap (m : Chart) : Type 0 where
   pub realms_least : 1 ≤ length m.realms
@@ -167,6 +175,9 @@ pub record IsMap (m : Chart) : Type 0 where
   pub provinces_most : length m.provinces ≤ 200
   pub provinces : (p : ℕ) → p < length m.provinces → is_province (province m p) ≡ true
   pub realms : (r : ℕ) → r < length m.realms → is_realm m (realm m r) ≡ true
+  pub codes_ascend : are_ascending_by (λ r. r.code) m.provinces ≡ true
+  pub names_ascend : are_ascending_by (λ r. r.name) m.realms ≡ true
+  pub full_names_apart : (p q : ℕ) → p < length m.provinces → q < length m.provinces → (province m p).name ≡ (province m q).name → p ≡ q
   pub codes_found : (p : ℕ) → p < length m.provinces → prov_of m (province m p).code ≡ Some p
   pub names_found : (r : ℕ) → r < length m.realms → power_of m (realm m r).name ≡ Some r
   pub coasts_found : (a : Place) → a.coast < length (province m a.prov).shores → coast_of m a.prov (shore m a).name ≡ Some a.coast
@@ -178,6 +189,8 @@ pub record IsMap (m : Chart) : Type 0 where
   pub fleet_within : (a : Place) → All (λ b. is_fleet_place m b ≡ true) (fleet_next m a)
   pub fleet_single : (a : Place) → are_places_single (fleet_next m a) ≡ true
   pub fleet_away : (a b : Place) → is_fleet_next m a b ≡ true → b.prov ≢ a.prov
+  pub homes_centres : (p r : ℕ) → list_any (λ x. x == p) (home m r) ≡ true → is_centre m p ≡ true
   pub homes_single : (r : ℕ) → are_provs_single (home m r) ≡ true
+  pub homes_apart : (p r s : ℕ) → list_any (λ x. x == p) (home m r) ≡ true → list_any (λ x. x == p) (home m s) ≡ true → r ≡ s
   pub units : All (λ u. is_unit m u ≡ true) (opening_units m)
   pub openings_single : are_units_single (opening_units m) ≡ true

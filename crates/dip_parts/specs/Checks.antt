@@ -1,10 +1,11 @@
+-- The checks that a map's parts have to pass, in the order of their faults.
 use Rattle.std.specs.Prelude.{ℕ, ◌+◌, ◌==◌, ◌&&◌, not, nat_le, Bool, true, false, List, [], ◌∷◌, length, Option, None, Some, if◌then◌else◌}
 use Rattle.std.specs.List.{list_all, list_any}
 use Rattle.std.specs.Str.{bytes_eq}
 use Rattle.dip_parts.specs.declared.names.Place.{Place}
 use Rattle.dip_parts.specs.declared.faults.MapFault.{MapFault}
 use Rattle.dip_parts.specs.declared.faults.MapFault.TheVariants.{UnknownName, NotSymmetric, DoubledName, OverLimit}
-use Rattle.dip_parts.specs.Charts.{Chart, Province, Realm, Shore, province, is_sea, is_army_next, is_fleet_next, is_province, is_realm, prov_of, power_of, coast_of, are_provs_single, are_places_single, are_units_single}
+use Rattle.dip_parts.specs.Charts.{Chart, Province, Realm, Shore, province, is_sea, is_army_next, is_fleet_next, is_province, is_realm, coast_of, are_ascending_by, are_provs_single, are_places_single, are_units_single}
 
 -- whether a look-up answered this number
 abbrev pub answers : Option ℕ → ℕ → Bool
@@ -19,16 +20,6 @@ is_within_limits m = (nat_le 1 (length m.realms) && nat_le (length m.realms) 7) 
 abbrev pub is_well_formed : Chart → Bool
 is_well_formed m = list_all is_province m.provinces && list_all (λ r. is_realm m r) m.realms
 
--- each code of these provinces, the first of which is number p, is that of no province before
-abbrev pub rest_of_codes : Chart → ℕ → List Province → Bool
-rest_of_codes m p [] = true
-rest_of_codes m p (r ∷ rs) = answers (prov_of m r.code) p && rest_of_codes m (p + 1) rs
-
--- each name of these powers, the first of which is number k, is that of no power before
-abbrev pub rest_of_names : Chart → ℕ → List Realm → Bool
-rest_of_names m k [] = true
-rest_of_names m k (r ∷ rs) = answers (power_of m r.name) k && rest_of_names m (k + 1) rs
-
 -- each name of these coasts of p, the first of which is number k, is that of no coast before
 abbrev pub rest_of_shores : Chart → ℕ → ℕ → List Shore → Bool
 rest_of_shores m p k [] = true
@@ -39,9 +30,9 @@ abbrev pub rest_of_coasts : Chart → ℕ → List Province → Bool
 rest_of_coasts m p [] = true
 rest_of_coasts m p (r ∷ rs) = rest_of_shores m p 0 r.shores && rest_of_coasts m (p + 1) rs
 
--- no code, no power's name and no coast's name of a province stands twice
+-- codes and powers' names ascend, so that none stands twice, and no coast's name stands twice in a province
 abbrev pub is_distinct : Chart → Bool
-is_distinct m = rest_of_codes m 0 m.provinces && (rest_of_names m 0 m.realms && rest_of_coasts m 0 m.provinces)
+is_distinct m = are_ascending_by (λ r. r.code) m.provinces && (are_ascending_by (λ r. r.name) m.realms && rest_of_coasts m 0 m.provinces)
 
 -- each of the list is a province whose army's neighbours name p back
 abbrev pub is_named_back : Chart → ℕ → List ℕ → Bool

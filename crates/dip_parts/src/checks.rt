@@ -1,8 +1,11 @@
+//! The checks that a map's parts have to pass, and the first fault.
 ghost use Rattle.std.specs.Prelude.{◌≡◌, ◌==◌, ◌≤◌, length, true, None};
 ghost use Rattle.std.specs.List.{list_all};
-ghost use Rattle.dip_parts.specs.Charts.{IsMap, is_coast_name};
+ghost use Rattle.std.specs.Cmp.Lexicographic.{slice_cmp};
+ghost use Rattle.std.specs.Ordering.{is_lt, nat_cmp};
+ghost use Rattle.dip_parts.specs.Charts.{IsMap, is_coast_name, are_ascending_by};
 ghost use Rattle.dip_parts.specs.Charts.{has_one_shore, has_named_shores, is_shaped, is_province, is_centre, is_realm, is_unit};
-ghost use Rattle.dip_parts.specs.Checks.{answers, is_within_limits, is_well_formed, rest_of_codes, rest_of_names, rest_of_shores, rest_of_coasts, is_distinct};
+ghost use Rattle.dip_parts.specs.Checks.{answers, is_within_limits, is_well_formed, rest_of_shores, rest_of_coasts, is_distinct};
 ghost use Rattle.dip_parts.specs.Checks.{is_named_back, rest_is_mutual, are_named_back, rest_of_shores_is_mutual, rest_is_mutual_by_sea, is_mutual, first_fault};
 
 use crate::faults::MapFault;
@@ -76,6 +79,20 @@ fn answers(found: Option<usize>, number: usize) -> bool
     }
 }
 
+fn is_before_codes(code: &str, provinces: &[Province]) -> bool
+    ensures { result ≡ list_all (λ r. is_lt (slice_cmp nat_cmp code.now r.code)) provinces.now }
+{
+    provinces
+        .iter()
+        .all(|province| code < province.code.as_str())
+}
+
+fn is_before_names(name: &str, realms: &[Realm]) -> bool
+    ensures { result ≡ list_all (λ r. is_lt (slice_cmp nat_cmp name.now r.name)) realms.now }
+{
+    realms.iter().all(|realm| name < realm.name.as_str())
+}
+
 impl Parts {
     fn is_within_limits(&self) -> bool
         ensures { result ≡ is_within_limits self.now }
@@ -125,22 +142,24 @@ impl Parts {
         self.are_provinces() && self.are_realms()
     }
 
-    fn has_distinct_codes(&self) -> bool
-        ensures { result ≡ rest_of_codes self.now 0 self.now.provinces }
+    fn has_ascending_codes(&self) -> bool
+        ensures { result ≡ are_ascending_by (λ r. r.code) self.now.provinces }
     {
         for (number, province) in self.provinces.iter().enumerate() {
-            if !answers(self.prov_index(province.code.as_bytes()), number) {
+            let code = province.code.as_str();
+            if !is_before_codes(code, &self.provinces[number + 1..]) {
                 return false;
             }
         }
         true
     }
 
-    fn has_distinct_names(&self) -> bool
-        ensures { result ≡ rest_of_names self.now 0 self.now.realms }
+    fn has_ascending_names(&self) -> bool
+        ensures { result ≡ are_ascending_by (λ r. r.name) self.now.realms }
     {
         for (number, realm) in self.realms.iter().enumerate() {
-            if !answers(self.power_index(realm.name.as_str()), number) {
+            let name = realm.name.as_str();
+            if !is_before_names(name, &self.realms[number + 1..]) {
                 return false;
             }
         }
@@ -174,7 +193,7 @@ impl Parts {
         requires { length self.now.provinces ≤ 200 }
         ensures { result ≡ is_distinct self.now }
     {
-        self.has_distinct_codes() && self.has_distinct_names() && self.has_distinct_coasts()
+        self.has_ascending_codes() && self.has_ascending_names() && self.has_distinct_coasts()
     }
 
     fn is_named_back(&self, p: Prov, list: &[Prov]) -> bool

@@ -10,11 +10,11 @@ use mathlib.Core.Logic.{◌⊎◌}
 use Rattle.std.specs.List.{AllByRecursion}
 use Rattle.std.proofs.lemmas.List.Elements.{All-from_recursion, recursion_from_All}
 use Rattle.std.proofs.lemmas.Bool.{ltb-true}
-use Rattle.dip_parts.specs.declared.names.Kind.{Kind}
-use Rattle.dip_parts.specs.declared.names.Kind.TheVariants.{Army, Fleet}
-use Rattle.dip_parts.specs.declared.names.Place.{Place}
-use Rattle.dip_map.specs.Boards.{Position, IsOf}
-use Rattle.dip_parts.specs.Charts.{Chart, Province, no_province, may_stand, is_unit}
+use Rattle.dip_names.specs.declared.names.Kind.{Kind}
+use Rattle.dip_names.specs.declared.names.Kind.TheVariants.{Army, Fleet}
+use Rattle.dip_names.specs.declared.names.Place.{Place}
+use Rattle.dip_board.specs.Boards.{Position, IsOf}
+use Rattle.dip_chart.specs.Charts.{Chart, Province, no_province, may_stand, is_unit}
 use Rattle.dip_orders.specs.Standing.{units_of, are_in_force}
 use Rattle.dip_decide.specs.declared.decisions.Resolution.{Resolution}
 use Rattle.dip_decide.specs.Deciding as Deciding

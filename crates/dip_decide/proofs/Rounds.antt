@@ -6,7 +6,7 @@ use Rattle.std.proofs.lemmas.Bool.{cases_Bool, both_ways, or_cases, or_left, or_
 use Rattle.std.proofs.lemmas.Bool.Decides.{nat_tests}
 use Rattle.std.specs.Prelude.{IfOk, Result, Ok, Err}
 use mathlib.Core.Logic.{◌⊎◌}
-use Rattle.dip_parts.specs.Charts.{are_provs_single}
+use Rattle.dip_chart.specs.Charts.{are_provs_single}
 use Rattle.dip_decide.specs.declared.decisions.Decision.{Decision}
 use Rattle.dip_decide.specs.declared.decisions.Decision.TheVariants.{Move, Path, Support}
 use Rattle.dip_decide.specs.Deciding.{same, is_among, Known, Equation, Mentions, IsForced, Follows, AreLinked, is_move, IsCircle, is_path, IsOpenPath, IsKnotted, IsKnot, Reaches, give, Step}

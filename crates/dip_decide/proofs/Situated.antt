@@ -4,10 +4,10 @@ use Rattle.std.specs.Prelude.{◌==◌, Bool, true, false, not, ◌||◌, Option
 use Rattle.std.specs.List.{list_any}
 use Rattle.std.proofs.lemmas.Bool.{cases_Bool, both_ways, or_left, or_right, eqb-true, and_parts, not-true}
 use mathlib.Core.Logic.{◌⊎◌}
-use Rattle.dip_parts.specs.declared.names.Kind.TheVariants.{Army, Fleet}
-use Rattle.dip_parts.specs.declared.names.Kind.{Kind}
-use Rattle.dip_parts.specs.declared.names.Unit.{Unit as Piece}
-use Rattle.dip_parts.specs.Charts.{Chart, are_provs_single, are_units_single}
+use Rattle.dip_names.specs.declared.names.Kind.TheVariants.{Army, Fleet}
+use Rattle.dip_names.specs.declared.names.Kind.{Kind}
+use Rattle.dip_names.specs.declared.names.Unit.{Unit as Piece}
+use Rattle.dip_chart.specs.Charts.{Chart, are_provs_single, are_units_single}
 use Rattle.dip_orders.specs.Standing.{is_in_force, are_in_force, units_of}
 use Rattle.dip_orders.specs.declared.placed.Order.{Order}
 use Rattle.dip_orders.specs.declared.placed.Order.TheVariants.{Hold, Move, SupportHold, SupportMove, Convoy, Retreat, Disband, Build, Remove}

@@ -8,7 +8,7 @@ use Rattle.std.proofs.lemmas.List.Elements.{recursion_from_All}
 use Rattle.std.proofs.lemmas.Bool.{cases_Bool, eqb-true, cases_lt}
 use Rattle.std.proofs.Math.Path.{fun_ext}
 use mathlib.Core.Logic.{◌⊎◌}
-use Rattle.dip_parts.specs.Charts.{Chart, Province, no_province}
+use Rattle.dip_chart.specs.Charts.{Chart, Province, no_province}
 use Rattle.dip_orders.specs.declared.placed.PlacedOrder.{PlacedOrder}
 use Rattle.dip_decide.specs.Matching.{order_at, provinces_of, target_of, is_convoyed, supports_in, situation, situation_by}
 use Rattle.dip_decide.specs.declared.decisions.Decision.{Decision}

@@ -1,10 +1,10 @@
 -- What the orders of a movement come to: who goes where and how, and which supports and convoys match.
 use Rattle.std.specs.Prelude.{ℕ, ◌==◌, ◌&&◌, ◌||◌, not, Bool, false, List, map, find, Option, None, Some, is_some}
 use Rattle.std.specs.List.{list_any}
-use Rattle.dip_parts.specs.declared.names.Kind.{Kind}
-use Rattle.dip_parts.specs.declared.names.Kind.TheVariants.{Army, Fleet}
-use Rattle.dip_parts.specs.Charts.{Chart, province, is_army_next}
-use Rattle.dip_orders.specs.Tests.{is_kind, is_at_sea}
+use Rattle.dip_names.specs.declared.names.Kind.{Kind}
+use Rattle.dip_names.specs.declared.names.Kind.TheVariants.{Army, Fleet}
+use Rattle.dip_chart.specs.Charts.{Chart, province, is_army_next}
+use Rattle.dip_names.specs.Kinds.{is_kind, is_sea}
 use Rattle.dip_orders.specs.declared.placed.Other.{Other}
 use Rattle.dip_orders.specs.declared.placed.Order.{Order}
 use Rattle.dip_orders.specs.declared.placed.Order.TheVariants.{Move, SupportHold, SupportMove, Convoy}
@@ -73,7 +73,7 @@ is_carried m who _ p = false
 -- by a fleet in a sea
 abbrev pub convoys_in : Chart → Standing → Option PlacedOrder → ℕ → Bool
 convoys_in m who None p = false
-convoys_in m who (Some o) p = is_kind o.unit.kind Fleet && (is_at_sea (province m o.unit.place.prov).terrain && is_carried m who o.order p)
+convoys_in m who (Some o) p = is_kind o.unit.kind Fleet && (is_sea (province m o.unit.place.prov).terrain && is_carried m who o.order p)
 
 -- two units are of one power
 abbrev pub is_one_power : Option PlacedOrder → Option PlacedOrder → Bool

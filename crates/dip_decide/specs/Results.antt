@@ -1,7 +1,7 @@
 -- What a resolution says.
 use Rattle.std.specs.Prelude.{◌≡◌, ℕ, ◌+◌, ◌&&◌, nat_lt, Bool, true, false, List, [], ◌∷◌, filter, Option, None, Some}
 use Rattle.std.specs.List.{slice_index_or, list_any, list_all, count_by}
-use Rattle.dip_parts.specs.Charts.{Province}
+use Rattle.dip_chart.specs.Charts.{Province}
 use Rattle.dip_decide.specs.declared.decisions.Decision.{Decision}
 use Rattle.dip_decide.specs.declared.decisions.Decision.TheVariants.{Move, Path, Support}
 use Rattle.dip_decide.specs.declared.decisions.Resolution.{Resolution}

@@ -1,10 +1,11 @@
+//! Convoys: whether fleets that are not dislodged lead from a unit to its destination.
 ghost use Rattle.std.specs.Prelude.{◌≡◌, IfOk, filter, length};
 ghost use Rattle.dip_decide.specs.Chains.{is_linked, joined_by};
 ghost use Rattle.dip_decide.specs.Given.{seen};
 
 use crate::lists::{copy_of, is_in};
 use crate::table::Table;
-use dip_map::Prov;
+use dip_names::Prov;
 use std::alloc::{AllocError, Global};
 
 /// Whether a fleet next to `from` is next to `to`, or is joined to it.

@@ -1,3 +1,4 @@
+//! Circles of moves, and the paths of a knot.
 ghost use Rattle.std.specs.Prelude.{◌≡◌, None, IfOk};
 ghost use Rattle.dip_decide.specs.declared.decisions.Decision.TheVariants.{Move};
 ghost use Rattle.dip_decide.specs.Given.{seen, given};
@@ -9,7 +10,7 @@ use crate::decisions::Decision;
 use crate::lists::{copy_of, is_in};
 use crate::table::Table;
 use crate::values::Values;
-use dip_map::Prov;
+use dip_names::Prov;
 use std::alloc::{AllocError, Global};
 
 fn is_open(values: &Values, d: &Decision) -> bool

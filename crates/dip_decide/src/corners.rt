@@ -1,3 +1,4 @@
+//! Strengths and values at the least and the greatest completion.
 ghost use Rattle.std.specs.Prelude.{◌≡◌, not, Some, IfOk, filter};
 ghost use Rattle.std.specs.List.{list_all};
 ghost use Rattle.dip_decide.specs.Corners.{rises, values};
@@ -10,7 +11,7 @@ use crate::decisions::Decision;
 use crate::lists::copy_of;
 use crate::table::Table;
 use crate::values::Values;
-use dip_map::Prov;
+use dip_names::Prov;
 use std::alloc::{AllocError, Global};
 
 /// The completion at which the rule of a decision is least, or greatest.

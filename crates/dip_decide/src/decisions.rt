@@ -1,4 +1,5 @@
-use dip_map::Prov;
+//! What is decided, and the steps that decide it.
+use dip_names::Prov;
 
 /// What is decided of the unit in a province.
 #[derive(Clone, Copy, PartialEq, Eq, Debug)]

@@ -1,3 +1,4 @@
+//! The value to which a decision is forced.
 ghost use Rattle.std.specs.Prelude.{◌≡◌, None, IfOk};
 ghost use Rattle.dip_decide.specs.Given.{seen, given, IsAnswer};
 ghost use Rattle.dip_decide.specs.Movement.{rule, IsSituation};

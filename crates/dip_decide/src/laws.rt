@@ -1,6 +1,7 @@
+//! Laws of movement, each the contract of a function that does nothing.
 ghost use Rattle.std.specs.Prelude.{◌≡◌, ◌↔◌, ℕ, Bool, true, false, List, ◌∷◌, None, suc, length};
-ghost use Rattle.dip_map.specs.Boards.{Position};
-ghost use Rattle.dip_parts.specs.Charts.{Chart};
+ghost use Rattle.dip_board.specs.Boards.{Position};
+ghost use Rattle.dip_chart.specs.Charts.{Chart};
 ghost use Rattle.dip_orders.specs.declared.placed.PlacedOrder.{PlacedOrder as AnOrder};
 ghost use Rattle.dip_decide.specs.declared.decisions.Decision.{Decision as ADecision};
 ghost use Rattle.dip_decide.specs.declared.decisions.Decision.TheVariants.{Move, Path};

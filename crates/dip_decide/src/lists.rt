@@ -1,7 +1,8 @@
+//! Lists of provinces.
 ghost use Rattle.std.specs.Prelude.{◌≡◌, IfOk};
 ghost use Rattle.dip_decide.specs.Movement.{is_listed};
 
-use dip_map::Prov;
+use dip_names::Prov;
 use std::alloc::{AllocError, Global};
 
 /// A list of the same provinces.

@@ -1,13 +1,15 @@
+//! Which orders match: where units go, and what they support and convoy.
 ghost use Rattle.std.specs.Prelude.{◌≡◌, ◌==◌, Some};
 ghost use Rattle.std.specs.List.{list_any};
-ghost use Rattle.dip_parts.specs.Charts.{province, shore};
-ghost use Rattle.dip_orders.specs.Tests.{is_kind, is_at_sea};
+ghost use Rattle.dip_chart.specs.Charts.{province, shore};
+ghost use Rattle.dip_names.specs.Kinds.{is_kind, is_sea};
 ghost use Rattle.dip_decide.specs.Given.{entry, seen};
 ghost use Rattle.dip_decide.specs.Matching.{destination, target_of, goes_by_convoy, is_convoyed, is_there, is_matched, supports_in, direction, is_carried, convoys_in, is_sea_next};
 ghost use Rattle.dip_decide.specs.Movement.{goes, head_to_head, has_move, is_at};
 
 use crate::table::Table;
-use dip_map::{Kind, Map, Place, Prov, Terrain};
+use dip_map::Map;
+use dip_names::{Kind, Place, Prov};
 use dip_orders::{Order, Other, PlacedOrder};
 
 /// Where an order sends its unit.
@@ -59,15 +61,6 @@ pub(crate) fn is_convoyed_of(map: &Map, row: &Option<PlacedOrder>) -> bool
             goes_by_convoy(map, placed.unit.kind, placed.unit.place.prov, placed.order)
         }
         None => false,
-    }
-}
-
-fn is_kind(kind: Kind, other: Kind) -> bool
-    ensures { result ≡ is_kind kind other }
-{
-    match (kind, other) {
-        (Kind::Army, Kind::Army) | (Kind::Fleet, Kind::Fleet) => true,
-        _ => false,
     }
 }
 
@@ -137,7 +130,7 @@ impl Table<'_> {
         ensures { result ≡ is_there at (entry self.now.rows.items p) }
     {
         match self.order(p) {
-            Some(placed) => is_kind(placed.unit.kind, at.kind),
+            Some(placed) => placed.unit.kind.is(at.kind),
             None => false,
         }
     }
@@ -188,21 +181,12 @@ impl Table<'_> {
         }
     }
 
-    fn is_at_sea(&self, p: Prov) -> bool
-        ensures { result ≡ is_at_sea (province self.now.map.now p).terrain }
-    {
-        match self.map.kind(p) {
-            Terrain::Sea => true,
-            Terrain::Inland | Terrain::Coast => false,
-        }
-    }
-
     /// Whether a unit that has this order is a fleet in a sea that convoys the one in a province.
     fn convoys_of(&self, placed: &PlacedOrder, p: Prov) -> bool
         ensures { result ≡ convoys_in self.now.map.now (entry self.now.rows.items) (Some placed.now) p }
     {
-        is_kind(placed.unit.kind, Kind::Fleet)
-            && self.is_at_sea(placed.unit.place.prov)
+        placed.unit.kind.is(Kind::Fleet)
+            && self.map.terrain(placed.unit.place.prov).is_sea()
             && self.is_carried(placed.order, p)
     }
 

@@ -1,6 +1,7 @@
+//! A movement as a whole: from the orders to the resolution.
 ghost use Rattle.std.specs.Prelude.{◌≡◌, ◌≤◌, IfOk, length, filter};
 ghost use Rattle.std.specs.List.{list_any};
-ghost use Rattle.dip_map.specs.Boards.{IsOf};
+ghost use Rattle.dip_board.specs.Boards.{IsOf};
 ghost use Rattle.dip_orders.specs.Standing.{units_of};
 ghost use Rattle.dip_decide.specs.declared.decisions.Decision.{Decision as ADecision};
 ghost use Rattle.dip_decide.specs.Deciding.{is_broken};
@@ -16,7 +17,9 @@ use crate::starting::values_at_start;
 use crate::table::table_of;
 use crate::turns::explain;
 use crate::values::{Values, value_at};
-use dip_map::{Board, Map, Prov};
+use dip_board::Board;
+use dip_map::Map;
+use dip_names::Prov;
 use dip_orders::Orders;
 use std::alloc::{AllocError, Global};
 

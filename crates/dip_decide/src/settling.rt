@@ -1,3 +1,4 @@
+//! A pass over the open decisions, in which each that is forced gets its value.
 ghost use Rattle.std.specs.Prelude.{◌∷◌, [], IfOk};
 ghost use Rattle.dip_decide.specs.Given.{seen, given};
 ghost use Rattle.dip_decide.specs.Movement.{IsSituation};
@@ -7,7 +8,7 @@ use crate::decisions::{Decision, Step};
 use crate::forcing::forced;
 use crate::table::Table;
 use crate::values::Values;
-use dip_map::Prov;
+use dip_names::Prov;
 use std::alloc::{AllocError, Global};
 
 /// Gives a decision the value to which it is forced, if it is open and forced, and tells whether it was.

@@ -1,3 +1,4 @@
+//! The values at the start: what is no decision is known to be false.
 ghost use Rattle.std.specs.Prelude.{◌≡◌, map, IfOk};
 ghost use Rattle.dip_decide.specs.Given.{at_start, moves_at_start, paths_at_start, supports_at_start, seen, given};
 ghost use Rattle.dip_decide.specs.Movement.{at_first};

@@ -1,8 +1,10 @@
+//! The orders of a movement by province.
 ghost use Rattle.std.specs.Prelude.{◌≡◌, ◌<◌, length, All, IfOk};
 ghost use Rattle.dip_decide.specs.Matching.{order_at, provinces_of, situation};
 ghost use Rattle.dip_decide.specs.Given.{rows_from, seen};
 
-use dip_map::{Map, Prov};
+use dip_map::Map;
+use dip_names::Prov;
 use dip_orders::PlacedOrder;
 use std::alloc::{AllocError, Global};
 

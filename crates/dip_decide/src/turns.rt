@@ -1,3 +1,4 @@
+//! Steps one after the other: passes, then a circle, then the knot, until all is decided.
 ghost use Rattle.std.specs.Prelude.{◌≡◌, IfOk, OnOk, true};
 ghost use Rattle.dip_decide.specs.Deciding.{IsCircle, IsKnot};
 ghost use Rattle.dip_decide.specs.Given.{seen, given};
@@ -10,7 +11,7 @@ use crate::decisions::Step;
 use crate::settling::pass;
 use crate::table::Table;
 use crate::values::Values;
-use dip_map::Prov;
+use dip_names::Prov;
 use std::alloc::{AllocError, Global};
 
 /// All moves of a circle succeed.

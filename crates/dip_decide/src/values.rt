@@ -1,13 +1,14 @@
+//! The values of decisions so far.
 ghost use Rattle.std.specs.Prelude.{◌≡◌, ◌∷◌, [], None, Some, true, false};
 ghost use Rattle.std.specs.List.{slice_index_or};
 ghost use Rattle.dip_decide.specs.Deciding.{give};
 ghost use Rattle.dip_decide.specs.Given.{given};
 ghost use Rattle.dip_decide.specs.Rings.{AreOpen, ArePathsOpen};
 ghost use Rattle.dip_decide.specs.Steps.{moves_of, paths_of};
-ghost use Rattle.dip_parts.specs.Charts.{are_provs_single};
+ghost use Rattle.dip_chart.specs.Charts.{are_provs_single};
 
 use crate::decisions::Decision;
-use dip_map::Prov;
+use dip_names::Prov;
 
 /// The values that were given so far, by the numbers of the provinces; none where the decision is open.
 #[derive(Drop)]

@@ -6,10 +6,10 @@ use Rattle.std.specs.Option.{option_or}
 use Rattle.std.proofs.lemmas.Bool.{false≢true}
 use Rattle.dip_letters.specs.Notes.{Request}
 use Rattle.dip_letters.specs.Notes.Request.{Create, Orders, Show}
-use Rattle.dip_map.specs.Boards.{Position, IsOf, opening}
+use Rattle.dip_board.specs.Boards.{Position, IsOf, opening}
 use Rattle.std.proofs.lemmas.List.Quantifiers.{position-Some}
 use Rattle.dip_letters.specs.Notes.{SeatNote}
-use Rattle.dip_parts.specs.Charts.{Chart, Realm, no_realm, power_of}
+use Rattle.dip_chart.specs.Charts.{Chart, Realm, no_realm, power_of}
 use Rattle.dip_reports.specs.Records.{Public, Own, Kept}
 use Rattle.dip_reports.specs.Texts.{numbers}
 use Rattle.dip_reports.specs.declared.refusals.Refusal.TheVariants.{Malformed, WrongSender}

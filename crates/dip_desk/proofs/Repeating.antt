@@ -4,7 +4,7 @@ use Rattle.std.specs.Prelude.{option_and_then}
 use Rattle.std.proofs.lemmas.Bool.{eq-eqb, ltb-true}
 use Rattle.dip_letters.specs.Notes.{Request}
 use Rattle.dip_letters.specs.Notes.Request.{Create, Orders, Show}
-use Rattle.dip_parts.specs.Charts.{Chart, power_of}
+use Rattle.dip_chart.specs.Charts.{Chart, power_of}
 use Rattle.dip_reports.specs.Records.{Own, Kept, Reply}
 use Rattle.dip_reports.specs.declared.refusals.Refusal.TheVariants.{NumberUsed, Stale}
 use Rattle.dip_desk.specs.Keyed.{at, change_at}

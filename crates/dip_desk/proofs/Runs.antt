@@ -3,7 +3,7 @@ use Rattle.std.proofs.Common.{◌≡◌, ◌≢◌, ℕ, ◌<◌, ◌+◌, Bool,
 use Rattle.std.proofs.lemmas.Bool.{false≢true}
 use Rattle.std.proofs.lemmas.List.{take_more}
 use Rattle.dip_desk.specs.Mail.{Mail}
-use Rattle.dip_parts.specs.Charts.{Chart}
+use Rattle.dip_chart.specs.Charts.{Chart}
 use Rattle.dip_desk.specs.State.{State, Seat, Nothing, Pending, Opens}
 use Rattle.dip_desk.specs.Machine.{Decides, SeatName, Seen, Step, Verdict, NotKnown, Old, Taken, reply_of, seen, verdict_on}
 use Rattle.dip_reports.specs.Records.{Reply}

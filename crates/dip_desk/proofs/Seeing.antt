@@ -5,7 +5,7 @@ use Rattle.std.specs.Option.{option_or}
 use Rattle.std.proofs.lemmas.Bool.{false≢true}
 use Rattle.dip_desk.specs.Mail.{Mail}
 use Rattle.dip_desk.specs.Keyed.{at, change_at}
-use Rattle.dip_parts.specs.Charts.{Chart}
+use Rattle.dip_chart.specs.Charts.{Chart}
 use Rattle.dip_desk.specs.State.{State, Game, Author, Nobody, TheMaster, Seat, Effect, Nothing, Pending, Opens, NewSeat, fresh, game_at, name_of, opened, own_after, pending_in, seat_at, with_seat}
 use Rattle.dip_desk.specs.Machine.{Decides, SeatName, Seen, Verdict, NotKnown, Old, Taken, after, kept_of, reply_of, seen, seen_in, verdict_on}
 use Rattle.dip_reports.specs.Records.{Public, Own, Kept, Reply}

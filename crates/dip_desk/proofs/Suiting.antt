@@ -2,7 +2,7 @@
 use Rattle.std.proofs.Common.{◌≡◌, ◌==◌, ℕ, nat_lt, unwrap_or, Bool, true, false, cond, List, [], Option, Some, None, refl, sym, subst}
 use Rattle.dip_letters.specs.Notes.{Request}
 use Rattle.dip_letters.specs.Notes.Request.{Create, Orders, Show}
-use Rattle.dip_parts.specs.Charts.{Chart}
+use Rattle.dip_chart.specs.Charts.{Chart}
 use Rattle.dip_desk.specs.Mail.{Mail}
 use Rattle.dip_desk.specs.State.{State, Game, Author, Nobody, TheMaster, Seat, Effect, Nothing, Pending, Opens, NewSeat, game_at, seat_at}
 use Rattle.dip_desk.specs.Machine.{Decides, Verdict, NotKnown, Old, Taken, are_complete, by_number, created, master_verdict, new_seats, open_game, opening_public, refusal_line, refused, repeated, seat_command, seen_in, verdict_by, verdict_on}

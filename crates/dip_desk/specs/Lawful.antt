@@ -1,8 +1,8 @@
 -- What holds of each state that the desk comes to from an empty one.
 use Rattle.std.specs.Prelude.{◌≡◌, ◌<◌, ◌≤◌, ◌==◌, ℕ, List, [], ◌∷◌, length, true, Ok, None, bytes_eq, count_by}
 use Rattle.std.specs.List.{AllByRecursion, list_all}
-use Rattle.dip_map.specs.Boards.{Position, IsOf}
-use Rattle.dip_parts.specs.Charts.{Chart}
+use Rattle.dip_board.specs.Boards.{Position, IsOf}
+use Rattle.dip_chart.specs.Charts.{Chart}
 use Rattle.dip_orders.specs.Reading.{order_of}
 use Rattle.dip_orders.specs.Texts.{order_text}
 use Rattle.dip_orders.specs.declared.placed.PlacedOrder.{PlacedOrder}

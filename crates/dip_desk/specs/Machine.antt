@@ -7,8 +7,8 @@ use Rattle.dip_letters.specs.Notes.{Request, SeatNote}
 use Rattle.dip_letters.specs.Notes.Request.{Create, Orders, Show}
 use Rattle.dip_letters.specs.declared.letters.LetterFault.{LetterFault}
 use Rattle.dip_letters.specs.declared.letters.LetterFault.TheVariants.{Malformed as Unreadable, TooLong as OverLong}
-use Rattle.dip_parts.specs.Charts.{Chart, power_of}
-use Rattle.dip_map.specs.Boards.{opening}
+use Rattle.dip_chart.specs.Charts.{Chart, power_of}
+use Rattle.dip_board.specs.Boards.{opening}
 use Rattle.dip_desk.specs.Mail.{Mail}
 use Rattle.dip_desk.specs.Ordering.{Ordered, has_foreign, lines_of, ordered}
 use Rattle.dip_desk.specs.State.{State, Game, Author, Nobody, TheMaster, Seat, Effect, Nothing, Pending, Opens, NewSeat, changed, game_at, own_at, seat_at}

@@ -1,7 +1,7 @@
 -- What one seat is shown by a history, and what follows from it alone.
 use Rattle.std.specs.Prelude.{ℕ, ◌≡◌, ◌≢◌, ◌==◌, ◌&&◌, ◌↔◌, Bool, true, false, List, [], ◌∷◌, ◌++◌, Option, None, Some, option_map, bytes_eq, flat_map, map, if◌then◌else◌}
 use Rattle.dip_desk.specs.Mail.{Mail}
-use Rattle.dip_parts.specs.Charts.{Chart}
+use Rattle.dip_chart.specs.Charts.{Chart}
 use Rattle.dip_desk.specs.State.{State, Author, Nobody, TheMaster, Seat, Effect, Nothing, Pending, Opens, NewSeat, fresh, own_after, pending_in}
 use Rattle.dip_desk.specs.Machine.{Decides, SeatName, Seen, Verdict, NotKnown, Old, Taken, after, author, kept_of, reply_of, seen, verdict_on}
 use Rattle.dip_reports.specs.Records.{Public, Own, Reply}

@@ -5,7 +5,8 @@ ghost use Rattle.dip_desk.specs.Rows as rows;
 ghost use Rattle.dip_reports.specs.Rows as texts;
 ghost use Rattle.dip_desk.specs.Faults.{faults_after};
 
-use dip_map::{Map, Power};
+use dip_map::Map;
+use dip_names::Power;
 use dip_reports::{Kept, Own, Public};
 use std::alloc::{AllocError, AllocFailed};
 

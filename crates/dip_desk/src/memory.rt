@@ -7,7 +7,8 @@ ghost use Rattle.dip_reports.specs.Rows as texts;
 ghost use Rattle.dip_desk.specs.Stored as stored;
 
 use crate::keeper::{Author, Change, Desk, Effect, KeepFault, Keeper, NewSeat};
-use dip_map::{Map, Power};
+use dip_map::Map;
+use dip_names::Power;
 use dip_reports::{Kept, Own, Public};
 use std::alloc::{AllocError, Global};
 
@@ -248,7 +249,7 @@ fn open_game(alloc: Global, games: &mut Vec<GameRow>, effect: &Effect) -> Result
 impl MemoryKeeper {
     ghost use Rattle.dip_desk.specs.Lawful.{IsLawful};
     ghost use Rattle.dip_desk.specs.State.{State};
-    ghost use Rattle.dip_parts.specs.Charts.{Chart};
+    ghost use Rattle.dip_chart.specs.Charts.{Chart};
 
     /// An empty desk whose master's secret has this digest.
     pub fn new(alloc: Global, digest: [u8; 32]) -> MemoryKeeper

@@ -17,7 +17,9 @@ use crate::keeper::{Author, Change, Effect, KeepFault, Keeper, NewSeat};
 use crate::laws::lawful_states_stay_lawful;
 use crate::ordering::{Ordered, order_lines, standing_orders, take_lines};
 use dip_letters::{Command, Letter, LetterFault, Lines, Opening, Seat, Seats, digest, sum};
-use dip_map::{Board, Map, Power};
+use dip_board::Board;
+use dip_map::Map;
+use dip_names::Power;
 use dip_reports::{Head, Kept, Own, Public, Refusal, Reply, Status, opening_paper_text, show_text};
 use std::alloc::{AllocError, Global};
 

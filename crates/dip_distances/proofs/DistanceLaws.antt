@@ -7,10 +7,10 @@ use Rattle.std.specs.Prelude.{Vec}
 use Rattle.std.specs.declared.alloc.Global.{Global}
 use Rattle.std.proofs.lemmas.List.FromFn.{length-map-range_with_len, map-range_with_len_more}
 use Rattle.dip_walk.specs.Walk.{at, rows_of, AreLeast}
-use Rattle.dip_parts.specs.declared.names.Kind.{Kind}
-use Rattle.dip_parts.specs.declared.names.Kind.TheVariants.{Army, Fleet}
-use Rattle.dip_parts.specs.declared.names.Place.{Place}
-use Rattle.dip_parts.specs.Charts.{Chart, IsMap}
+use Rattle.dip_names.specs.declared.names.Kind.{Kind}
+use Rattle.dip_names.specs.declared.names.Kind.TheVariants.{Army, Fleet}
+use Rattle.dip_names.specs.declared.names.Place.{Place}
+use Rattle.dip_chart.specs.Charts.{Chart, IsMap}
 use Rattle.dip_distances.specs.Walks.{Walk, IsDistance}
 use Rattle.dip_distances.specs.Distances.{vertex, vertices, row, is_home_at, graph, homes, AreTables, Tables, noted_at, noted, AreDistances}
 use Rattle.dip_distances.proofs.GraphLaws.{few_coasts}

@@ -5,15 +5,16 @@ use Rattle.std.proofs.lemmas.List.{get_or_past}
 use Rattle.std.proofs.lemmas.List.FromFn.{get_or-map-range_with_len, length-map-range_with_len}
 use Rattle.std.proofs.lemmas.Nat.{div-mul-add, mod-mul-add}
 use Rattle.std.specs.List.{list_any, list_all}
-use Rattle.dip_parts.specs.declared.names.Kind.{Kind}
-use Rattle.dip_parts.specs.declared.names.Kind.TheVariants.{Army, Fleet}
-use Rattle.dip_parts.specs.declared.names.Place.{Place}
-use Rattle.dip_parts.specs.declared.names.Terrain.{Terrain}
-use Rattle.dip_parts.specs.declared.names.Terrain.TheVariants.{Inland, Coast, Sea}
-use Rattle.dip_parts.specs.Charts.{Chart, Province, Realm, IsMap, no_province, no_shore, no_realm, province, realm, fleet_next, home, is_centre, is_fleet_place, is_shaped, has_one_shore, has_named_shores, is_province, is_code, is_full_name, is_power_name}
-use Rattle.dip_distances.specs.Walks.{ways, is_home}
+use Rattle.dip_names.specs.declared.names.Kind.{Kind}
+use Rattle.dip_names.specs.declared.names.Kind.TheVariants.{Army, Fleet}
+use Rattle.dip_names.specs.declared.names.Place.{Place}
+use Rattle.dip_names.specs.declared.names.Terrain.{Terrain}
+use Rattle.dip_names.specs.declared.names.Terrain.TheVariants.{Inland, Coast, Sea}
+use Rattle.dip_chart.specs.Charts.{Chart, Province, Realm, IsMap, no_province, no_shore, no_realm, province, realm, fleet_next, home, is_centre, is_fleet_place, is_shaped, has_one_shore, has_named_shores, is_province, is_code, is_full_name, is_power_name}
+use Rattle.dip_distances.specs.Walks.{ways}
+use Rattle.dip_chart.specs.Charts.{is_home}
 use Rattle.dip_distances.specs.Distances.{vertex, place_at, is_haven, vertices, row, is_home_at, graph, homes}
-use Rattle.dip_parts.proofs.Found.{test_found, place_eq}
+use Rattle.dip_chart.proofs.Found.{test_found, place_eq}
 
 -- at each vertex of the graph, and past them
 

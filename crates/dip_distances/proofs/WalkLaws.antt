@@ -4,14 +4,15 @@ use Rattle.std.proofs.lemmas.Bool.{and_parts, false≢true, cases_Bool, eqb-true
 use Rattle.std.specs.List.{list_any}
 use Rattle.std.specs.Cmp.Derive.{both_true}
 use Rattle.dip_walk.specs.Walk.{Walk as Way}
-use Rattle.dip_parts.specs.declared.names.Kind.{Kind}
-use Rattle.dip_parts.specs.declared.names.Kind.TheVariants.{Army, Fleet}
-use Rattle.dip_parts.specs.declared.names.Place.{Place}
-use Rattle.dip_parts.specs.Charts.{Chart, IsMap, fleet_next, is_fleet_next, is_fleet_place}
-use Rattle.dip_distances.specs.Walks.{is_home, ArmyWalk, FleetWalk, Walk}
+use Rattle.dip_names.specs.declared.names.Kind.{Kind}
+use Rattle.dip_names.specs.declared.names.Kind.TheVariants.{Army, Fleet}
+use Rattle.dip_names.specs.declared.names.Place.{Place}
+use Rattle.dip_chart.specs.Charts.{Chart, IsMap, fleet_next, is_fleet_next, is_fleet_place}
+use Rattle.dip_distances.specs.Walks.{ArmyWalk, FleetWalk, Walk}
+use Rattle.dip_chart.specs.Charts.{is_home}
 use Rattle.dip_distances.specs.Distances.{vertex, graph, homes}
-use Rattle.dip_parts.proofs.Found.{place_eq}
-use Rattle.dip_parts.proofs.MapLaws.{afloat}
+use Rattle.dip_chart.proofs.Found.{place_eq}
+use Rattle.dip_chart.proofs.MapLaws.{afloat}
 use Rattle.dip_distances.proofs.GraphLaws.{army_row, army_home, fleet_row, fleet_home, few_coasts, no_power_no_home}
 
 -- armies

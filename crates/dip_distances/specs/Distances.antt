@@ -1,11 +1,13 @@
+-- The graphs in which distances are searched, and what a table of distances says.
 use Rattle.std.specs.Prelude.{ℕ, ◌+◌, ◌*◌, ◌/◌, ◌%◌, ◌<◌, ◌≡◌, ◌&&◌, nat_lt, Bool, List, [], length, map, slice_index_or, if◌then◌else◌}
 use Rattle.std.specs.List.{range_with_len}
 use Rattle.dip_walk.specs.Walk.{at, AreLeast}
-use Rattle.dip_parts.specs.declared.names.Kind.{Kind}
-use Rattle.dip_parts.specs.declared.names.Kind.TheVariants.{Army, Fleet}
-use Rattle.dip_parts.specs.declared.names.Place.{Place}
-use Rattle.dip_parts.specs.Charts.{Chart, fleet_next, is_fleet_place}
-use Rattle.dip_distances.specs.Walks.{ways, is_home, IsDistance}
+use Rattle.dip_names.specs.declared.names.Kind.{Kind}
+use Rattle.dip_names.specs.declared.names.Kind.TheVariants.{Army, Fleet}
+use Rattle.dip_names.specs.declared.names.Place.{Place}
+use Rattle.dip_chart.specs.Charts.{Chart, fleet_next, is_fleet_place}
+use Rattle.dip_distances.specs.Walks.{ways, IsDistance}
+use Rattle.dip_chart.specs.Charts.{is_home}
 
 -- the vertex of a place in the graph of fleets, which has four for each province
 abbrev pub vertex : Place → ℕ

@@ -1,17 +1,14 @@
+-- The distance of a place to a home centre: the least number of steps.
 use Rattle.std.specs.Prelude.{◌≡◌, ℕ, ◌<◌, ◌≤◌, ◌==◌, ◌&&◌, Bool, true, List, ◌++◌, map, flat_map, zero, suc}
 use Rattle.std.specs.List.{list_any}
-use Rattle.dip_parts.specs.declared.names.Kind.{Kind}
-use Rattle.dip_parts.specs.declared.names.Kind.TheVariants.{Army, Fleet}
-use Rattle.dip_parts.specs.declared.names.Place.{Place}
-use Rattle.dip_parts.specs.Charts.{Chart, province, army_next, is_fleet_next, is_fleet_place, home}
+use Rattle.dip_names.specs.declared.names.Kind.{Kind}
+use Rattle.dip_names.specs.declared.names.Kind.TheVariants.{Army, Fleet}
+use Rattle.dip_names.specs.declared.names.Place.{Place}
+use Rattle.dip_chart.specs.Charts.{Chart, province, army_next, is_fleet_next, is_fleet_place, is_home}
 
 -- where an army's way may go on from a province: to neighbours of either kind
 abbrev pub ways : Chart → ℕ → List ℕ
 ways m p = army_next m p ++ flat_map (λ s. map (λ b. b.prov) s.next) (province m p).shores
-
--- whether a province is a home centre of the power
-abbrev pub is_home : Chart → ℕ → ℕ → Bool
-is_home m r p = list_any (λ x. x == p) (home m r)
 
 -- n steps by such ways lead from province p to a home centre of the power r
 abbrev pub ArmyWalk : Chart → ℕ → ℕ → ℕ → Type 0

@@ -2,12 +2,14 @@
 ghost use Rattle.std.specs.Prelude.{◌≡◌, ◌<◌, ◌≤◌, ◌++◌, length, map, IfOk};
 ghost use Rattle.std.specs.List.{flat_map};
 ghost use Rattle.dip_walk.specs.Walk.{rows_of};
-ghost use Rattle.dip_parts.specs.Charts.{IsMap, fleet_next};
-ghost use Rattle.dip_parts.specs.declared.names.Kind.TheVariants.{Fleet};
-ghost use Rattle.dip_distances.specs.Walks.{ways, is_home};
+ghost use Rattle.dip_chart.specs.Charts.{IsMap, fleet_next};
+ghost use Rattle.dip_names.specs.declared.names.Kind.TheVariants.{Fleet};
+ghost use Rattle.dip_distances.specs.Walks.{ways};
+ghost use Rattle.dip_chart.specs.Charts.{is_home};
 ghost use Rattle.dip_distances.specs.Distances.{vertex, place_at, is_haven, vertices, row, is_home_at, graph, homes, AreTables, noted_at, noted, AreDistances};
 
-use dip_parts::{Kind, Parts, Place, Power, Prov};
+use dip_chart::Parts;
+use dip_names::{Kind, Place, Power, Prov};
 use dip_walk::{distance_at, least_distances};
 use std::alloc::{AllocError, Global};
 use std::marker::Model;
@@ -127,17 +129,11 @@ fn ways_by_sea(alloc: Global, parts: &Parts, a: Place) -> Result<Vec<usize>, All
     Ok(row)
 }
 
-fn is_home(parts: &Parts, power: Power, p: Prov) -> bool
-    ensures { result ≡ is_home parts.now power p }
-{
-    parts.home(power).contains(&p)
-}
-
 fn is_haven(parts: &Parts, power: Power, a: Place) -> bool
     ensures { result ≡ is_haven parts.now power a }
 {
     let prov = a.prov;
-    parts.is_fleet_place(a) && is_home(parts, power, prov)
+    parts.is_fleet_place(a) && parts.is_home(power, prov)
 }
 
 fn vertices(parts: &Parts, kind: Kind) -> usize
@@ -167,7 +163,7 @@ fn is_home_at(parts: &Parts, kind: Kind, power: Power, vertex: usize) -> bool
     ensures { result ≡ is_home_at parts.now kind power vertex }
 {
     match kind {
-        Kind::Army => is_home(parts, power, Prov::new(vertex as u8)),
+        Kind::Army => parts.is_home(power, Prov::new(vertex as u8)),
         Kind::Fleet => is_haven(parts, power, place_at(vertex)),
     }
 }

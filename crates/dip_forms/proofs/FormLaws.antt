@@ -5,9 +5,10 @@ use Rattle.std.proofs.lemmas.Slice.Eq.{bytes_eq-Decides}
 use Rattle.std.specs.Cmp.Derive.{both_true}
 use Rattle.dip_forms.specs.Tokens.{minus}
 use Rattle.dip_forms.specs.Forms.{spot_text, is_spot, kind_text, form_of, is_draft, small}
-use Rattle.dip_forms.specs.Drafts.{◌>>=◌, is_any_case, spot_at, mention_at, closed_at, three_at, four_at, via_at, five_at, six_at, aid_at, seven_at, done_at, draft_at}
-use Rattle.dip_parts.specs.declared.names.Kind.{Kind}
-use Rattle.dip_parts.specs.declared.names.Kind.TheVariants.{Army, Fleet}
+use Rattle.dip_forms.specs.Drafts.{is_any_case, spot_at, mention_at, closed_at, three_at, four_at, via_at, five_at, six_at, aid_at, seven_at, done_at, draft_at}
+use Rattle.dip_names.specs.Options.{◌>>=◌}
+use Rattle.dip_names.specs.declared.names.Kind.{Kind}
+use Rattle.dip_names.specs.declared.names.Kind.TheVariants.{Army, Fleet}
 use Rattle.dip_forms.specs.declared.drafts.Spot.{Spot}
 use Rattle.dip_forms.specs.declared.drafts.Mention.{Mention}
 use Rattle.dip_forms.specs.declared.drafts.Draft.{Draft}

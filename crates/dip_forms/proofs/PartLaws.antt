@@ -7,9 +7,10 @@ use Rattle.std.specs.Str.{bytes_eq}
 use Rattle.std.specs.Char.{to_ascii_lowercase, is_ascii_lowercase}
 use Rattle.std.specs.Cmp.Derive.{both_true}
 use Rattle.dip_forms.specs.Forms.{are_letters, coast_text, is_coast, spot_text, is_spot, kind_text, small}
-use Rattle.dip_forms.specs.Drafts.{◌>>=◌, letter_at, code_at, coast_at, bare_at, coasted_at, spot_at, kind_at, mention_at}
-use Rattle.dip_parts.specs.declared.names.Kind.{Kind}
-use Rattle.dip_parts.specs.declared.names.Kind.TheVariants.{Army, Fleet}
+use Rattle.dip_forms.specs.Drafts.{letter_at, code_at, coast_at, bare_at, coasted_at, spot_at, kind_at, mention_at}
+use Rattle.dip_names.specs.Options.{◌>>=◌}
+use Rattle.dip_names.specs.declared.names.Kind.{Kind}
+use Rattle.dip_names.specs.declared.names.Kind.TheVariants.{Army, Fleet}
 use Rattle.dip_forms.specs.declared.drafts.Spot.{Spot}
 use Rattle.dip_forms.specs.declared.drafts.Mention.{Mention}
 

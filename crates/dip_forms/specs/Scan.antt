@@ -1,3 +1,4 @@
+-- Tokens, scanned from the front.
 use Rattle.std.specs.Prelude.{◌≡◌, ℕ, ◌+◌, ◌==◌, ◌<◌, nat_le, List, [], ◌∷◌, ◌++◌, length, Option, None, Some, option_map, if◌then◌else◌}
 use Rattle.dip_forms.specs.Tokens.{is_word_byte, minus}
 use Rattle.dip_forms.specs.declared.words.Front.{Front}

@@ -1,6 +1,7 @@
+-- The one text of a form.
 use Rattle.std.specs.Prelude.{ℕ, List, [], ◌∷◌, ◌++◌, codes, if◌then◌else◌}
-use Rattle.dip_parts.specs.declared.names.Kind.{Kind}
-use Rattle.dip_parts.specs.declared.names.Kind.TheVariants.{Army, Fleet}
+use Rattle.dip_names.specs.declared.names.Kind.{Kind}
+use Rattle.dip_names.specs.declared.names.Kind.TheVariants.{Army, Fleet}
 use Rattle.dip_forms.specs.Tokens.{minus}
 use Rattle.dip_forms.specs.Forms.{spot_text}
 use Rattle.dip_forms.specs.declared.drafts.Draft.{Draft}

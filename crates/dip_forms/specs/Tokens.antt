@@ -1,3 +1,4 @@
+-- What the tokens of a line are.
 use Rattle.std.specs.Prelude.{◌≡◌, ℕ, ◌==◌, ◌||◌, ◌&&◌, ◌≤◌, nat_le, Bool, true, ◌⊎◌, List, [], ◌∷◌, ◌++◌, length, map, replicate}
 use Rattle.std.specs.List.{list_all}
 use Rattle.std.specs.Char.{is_ascii_alphabetic}

@@ -1,4 +1,5 @@
-use dip_parts::Kind;
+//! The forms of orders, before their codes are looked up.
+use dip_names::Kind;
 
 /// A place as written: a province's code and, where one is written, a coast's name.
 #[derive(Clone, Copy)]

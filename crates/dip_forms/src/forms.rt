@@ -1,3 +1,4 @@
+//! A line read as a form, by the number of its tokens.
 ghost use Rattle.std.specs.Prelude.{◌≡◌, map, IfSome, IfNone};
 ghost use Rattle.dip_forms.specs.Drafts.{three_at, four_at, five_at, six_at, seven_at, done_at, draft_at};
 ghost use Rattle.dip_forms.specs.Forms.{Says};

@@ -1,3 +1,4 @@
+//! Laws of forms, each the contract of a function that does nothing.
 ghost use Rattle.std.specs.Prelude.{◌≡◌, List, ℕ, Some, true};
 ghost use Rattle.dip_forms.specs.Forms.{is_draft, Says};
 ghost use Rattle.dip_forms.specs.Reading.{draft_in};

@@ -1,5 +1,6 @@
+//! Lines and their forms.
 use crate::{Draft, Mention, Spot, draft_of_line, tokens};
-use dip_parts::Kind;
+use dip_names::Kind;
 use std::alloc::{AllocError, Global};
 use std::test::Fail;
 

@@ -1,3 +1,4 @@
+//! The tokens of a line.
 ghost use Rattle.std.specs.Prelude.{◌≡◌, ◌+◌, ◌<◌, ◌∷◌, ◌++◌, [], length, map, option_map, IfSome, IfNone};
 ghost use Rattle.std.specs.Prelude.{List, ℕ};
 ghost use Rattle.dip_forms.specs.Tokens.{is_word_byte, Spells};

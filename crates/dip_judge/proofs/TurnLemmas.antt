@@ -4,7 +4,7 @@ use Rattle.std.proofs.lemmas.List.Concat.{flat_map-append}
 use Rattle.std.specs.List.{flat_map}
 use Rattle.std.specs.Io.KnownBytes.{Appends}
 use Rattle.std.proofs.KnownBytes.{Appends-trans}
-use Rattle.dip_parts.specs.Charts.{Chart}
+use Rattle.dip_chart.specs.Charts.{Chart}
 use Rattle.dip_desk.specs.State.{State}
 use Rattle.dip_reports.specs.Texts.{reply_text}
 use Rattle.dip_reports.specs.Records.{Reply}

@@ -1,8 +1,8 @@
 -- What the program tells whoever started it.
 use Rattle.std.specs.Prelude.{ℕ, List, ◌++◌, Option, None, Some, IsSome, codes}
 use Rattle.dip_desk.specs.declared.keeper.KeepFault.TheVariants.{Disk, Damaged, Memory as no_room}
-use Rattle.dip_parts.specs.declared.faults.MapFault.{MapFault}
-use Rattle.dip_parts.specs.declared.faults.MapFault.TheVariants.{NotToml, WrongField, UnknownName, NotSymmetric, DoubledName, OverLimit, Memory as no_map}
+use Rattle.dip_names.specs.declared.faults.MapFault.{MapFault}
+use Rattle.dip_names.specs.declared.faults.MapFault.TheVariants.{NotToml, WrongField, UnknownName, NotSymmetric, DoubledName, OverLimit, Memory as no_map}
 use Rattle.std.specs.declared.io.ErrorKind.{ErrorKind}
 use Rattle.std.specs.declared.io.ErrorKind.TheVariants.{OutOfMemory}
 use Rattle.dip_judge.specs.declared.args.UsageFault.{UsageFault}

@@ -7,7 +7,7 @@ use Rattle.dip_desk.specs.Mail.{mail}
 use Rattle.dip_letters.specs.declared.letters.Next.{Next}
 use Rattle.dip_letters.specs.declared.letters.Next.TheVariants.{Taken, Fault, End}
 use Rattle.dip_desk.specs.Machine.{Step, fault_reply}
-use Rattle.dip_parts.specs.Charts.{Chart}
+use Rattle.dip_chart.specs.Charts.{Chart}
 use Rattle.dip_desk.specs.State.{State}
 use Rattle.dip_reports.specs.Texts.{reply_text}
 use Rattle.dip_reports.specs.Records.{Reply}

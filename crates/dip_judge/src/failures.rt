@@ -10,7 +10,7 @@ use crate::map_file::FileFault;
 use crate::reading::ReadFault;
 use crate::run::RunFault;
 use dip_desk::KeepFault;
-use dip_map::MapFault;
+use dip_names::MapFault;
 use std::alloc::AllocError;
 use std::{fmt, io};
 

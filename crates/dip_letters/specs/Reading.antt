@@ -6,11 +6,7 @@ use Rattle.dip_letters.specs.Lines.{line_at, split_lines, word_at}
 use Rattle.dip_letters.specs.Words.{is_due, is_empty, is_game, is_name, is_number, is_order_line, is_period, is_secret}
 use Rattle.dip_letters.specs.Notes.{Note, Request, SeatNote}
 use Rattle.dip_letters.specs.Notes.Request.{Create, Orders, Show}
-
-infixl 10 ◌>>=◌
-abbrev pub ◌>>=◌ : {A B : Type 0} → Option A → (A → Option B) → Option B
-None >>= f = None
-(Some x) >>= f = f x
+use Rattle.dip_names.specs.Options.{◌>>=◌}
 
 -- what follows a name at the front
 abbrev pub after_name : List ℕ → List ℕ → Option (List ℕ)

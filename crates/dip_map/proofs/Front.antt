@@ -1,7 +1,8 @@
 use Rattle.std.proofs.Common.{◌≡◌, ℕ, ◌+◌, List, [], ◌∷◌, ◌++◌, Result, Ok, Err, refl, ap, append_assoc}
-use Rattle.dip_parts.specs.declared.faults.MapFault.{MapFault}
-use Rattle.dip_parts.specs.declared.faults.MapFault.TheVariants.{Memory}
-use Rattle.dip_map.specs.Stated.{◌>>=◌, each, each_from, Fails}
+use Rattle.dip_names.specs.declared.faults.MapFault.{MapFault}
+use Rattle.dip_names.specs.declared.faults.MapFault.TheVariants.{Memory}
+use Rattle.dip_map.specs.Stated.{each, each_from}
+use Rattle.dip_names.specs.Results.{◌>>=◌, Fails}
 
 -- what is looked up behind these
 abbrev pub with_front : {A : Type 0} → List A → Result (List A) MapFault → Result (List A) MapFault

@@ -1,7 +1,6 @@
-pub mod Boards
 pub mod Stated
-pub use Rattle.dip_parts.specs.Charts
-pub use Rattle.dip_parts.specs.Checks
+pub use Rattle.dip_chart.specs.Charts
+pub use Rattle.dip_chart.specs.Checks
 pub use Rattle.dip_distances.specs.Walks
 pub use Rattle.dip_distances.specs.Distances
 pub use Rattle.dip_mapfile.specs.Drafts

@@ -3,44 +3,17 @@
 use Rattle.std.specs.Prelude.{◌≡◌, ℕ, ◌+◌, ◌&&◌, nat_le, Bool, List, [], ◌∷◌, length, Option, Some, None, Result, Ok, Err, option_and_then, slice_get, if◌then◌else◌}
 use Rattle.std.specs.List.{position}
 use Rattle.std.specs.Str.{bytes_eq}
-use Rattle.dip_mapfile.specs.declared.faults.FileFault.{FileFault}
-use Rattle.dip_mapfile.specs.declared.drafts.Land.{Land}
-use Rattle.dip_mapfile.specs.declared.drafts.Land.TheVariants.{Inland as inland, Coast as coast, Sea as sea}
-use Rattle.dip_mapfile.specs.declared.drafts.Piece.{Piece}
-use Rattle.dip_mapfile.specs.declared.drafts.Piece.TheVariants.{Army as army, Fleet as fleet}
-use Rattle.dip_mapfile.specs.Drafts.{Site, Standing, Draft, Province as Written, Shore as Strand, Power as Side}
+use Rattle.dip_mapfile.specs.Drafts.{Site, UnitDraft, Draft, ProvinceDraft, ShoreDraft, PowerDraft}
 use Rattle.dip_mapfile.specs.Files.{file_in, draft_at}
-use Rattle.dip_parts.specs.declared.faults.MapFault.{MapFault}
-use Rattle.dip_parts.specs.declared.faults.MapFault.TheVariants.{UnknownName, OverLimit, Memory}
-use Rattle.dip_parts.specs.declared.names.Kind.TheVariants.{Army, Fleet}
-use Rattle.dip_parts.specs.declared.names.Place.{Place}
-use Rattle.dip_parts.specs.declared.names.Terrain.{Terrain}
-use Rattle.dip_parts.specs.declared.names.Terrain.TheVariants.{Inland, Coast, Sea}
-use Rattle.dip_parts.specs.declared.names.Unit.{Unit as Unit_}
-use Rattle.dip_parts.specs.Charts.{Chart, Province, Realm, Shore}
-use Rattle.dip_parts.specs.Checks.{first_fault}
-use Rattle.dip_parts.specs.Faults.{of_file}
-
--- what is made of what was read, or the first fault
-infixl 10 ◌>>=◌
-abbrev pub ◌>>=◌ : {A B : Type 0} → Result A MapFault → (A → Result B MapFault) → Result B MapFault
-(Ok x) >>= f = f x
-(Err e) >>= f = Err e
-
--- it ends with this fault; want of memory may come in any place
-abbrev pub Fails : {Y : Type 0} → MapFault → Result Y MapFault → Type 0
-Fails Memory read = Unit {0}
-Fails e read = read ≡ Err e
-
--- what a function returned is what is stated, unless memory ran out
-abbrev pub Gives : {X Y : Type 0} → (X → Y) → Result X MapFault → Result Y MapFault → Type 0
-Gives view (Ok x) read = read ≡ Ok (view x)
-Gives view (Err e) read = Fails e read
-
--- a fault of the file is one of the map
-abbrev pub from_file : {A : Type 0} → Result A FileFault → Result A MapFault
-from_file (Ok x) = Ok x
-from_file (Err e) = Err (of_file e)
+use Rattle.dip_names.specs.declared.faults.MapFault.{MapFault}
+use Rattle.dip_names.specs.declared.faults.MapFault.TheVariants.{UnknownName, OverLimit}
+use Rattle.dip_names.specs.declared.names.Kind.{Kind}
+use Rattle.dip_names.specs.declared.names.Kind.TheVariants.{Army, Fleet}
+use Rattle.dip_names.specs.declared.names.Place.{Place}
+use Rattle.dip_names.specs.declared.names.Unit.{Unit as Unit_}
+use Rattle.dip_chart.specs.Charts.{Chart, Province, Realm, Shore}
+use Rattle.dip_chart.specs.Checks.{first_fault}
+use Rattle.dip_names.specs.Results.{◌>>=◌}
 
 -- what is defined
 abbrev pub known : {A : Type 0} → Option A → Result A MapFault
@@ -69,7 +42,7 @@ prov_at d code = known (position (λ p. bytes_eq p.code code) d.provinces)
 
 -- the number of a coast; what has no name is the only one of a province that has no coasts of its own
 unfoldable pub coast_at : Draft → ℕ → List ℕ → Result ℕ MapFault
-coast_at d p name = known (option_and_then (λ (l : Written). position (λ s. bytes_eq s.name name) l.shores) (slice_get d.provinces p))
+coast_at d p name = known (option_and_then (λ (l : ProvinceDraft). position (λ s. bytes_eq s.name name) l.shores) (slice_get d.provinces p))
 
 -- a place where a fleet may be
 unfoldable pub place_at : Draft → Site → Result Place MapFault
@@ -79,37 +52,32 @@ place_at d s = do
   Ok (record { prov = p; coast = k })
 
 -- a unit of a power
-abbrev pub unit_of : Draft → ℕ → Piece → Site → Result Unit_ MapFault
-unit_of d r army s = do
+abbrev pub unit_of : Draft → ℕ → Kind → Site → Result Unit_ MapFault
+unit_of d r Army s = do
   p ← prov_at d s.code
   Ok (record { power = r; kind = Army; place = record { prov = p; coast = 0 } })
-unit_of d r fleet s = do
+unit_of d r Fleet s = do
   a ← place_at d s
   Ok (record { power = r; kind = Fleet; place = a })
 
-abbrev pub unit_at : Draft → ℕ → Standing → Result Unit_ MapFault
-unit_at d r u = unit_of d r u.piece u.site
+abbrev pub unit_at : Draft → ℕ → UnitDraft → Result Unit_ MapFault
+unit_at d r u = unit_of d r u.kind u.site
 
 -- a coast
-unfoldable pub shore_at : Draft → Strand → Result Shore MapFault
+unfoldable pub shore_at : Draft → ShoreDraft → Result Shore MapFault
 shore_at d s = do
   next ← each (place_at d) s.next
   Ok (record { name = s.name; next = next })
 
-abbrev pub terrain_of : Land → Terrain
-terrain_of inland = Inland
-terrain_of coast = Coast
-terrain_of sea = Sea
-
 -- a province
-unfoldable pub province_at : Draft → Written → Result Province MapFault
+unfoldable pub province_at : Draft → ProvinceDraft → Result Province MapFault
 province_at d p = do
   next ← each (prov_at d) p.army
   shores ← each (shore_at d) p.shores
-  Ok (record { code = p.code; name = p.name; terrain = terrain_of p.land; centre = p.centre; army = next; shores = shores })
+  Ok (record { code = p.code; name = p.name; terrain = p.terrain; centre = p.centre; army = next; shores = shores })
 
 -- a power
-unfoldable pub realm_at : Draft → ℕ → Side → Result Realm MapFault
+unfoldable pub realm_at : Draft → ℕ → PowerDraft → Result Realm MapFault
 realm_at d r p = do
   home ← each (prov_at d) p.home
   units ← each (unit_at d r) p.units
@@ -150,6 +118,6 @@ chart_of d = do
 -- the map that a text states
 unfoldable pub stated : List ℕ → Result Chart MapFault
 stated text = do
-  file ← from_file (file_in text)
-  draft ← from_file (draft_at file)
+  file ← file_in text
+  draft ← draft_at file
   chart_of draft

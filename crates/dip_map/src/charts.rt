@@ -1,13 +1,16 @@
+//! A map, and what is asked of it.
 ghost use Rattle.std.specs.Prelude.{◌≡◌, ◌<◌, length, All, IfOk, true};
-ghost use Rattle.dip_parts.specs.Charts.{IsMap, province, realm, shore, army_next, fleet_next, home, prov_of, power_of, coast_of, is_centre};
-ghost use Rattle.dip_parts.specs.Charts.{is_fleet_place, may_stand, is_unit, is_army_next, is_fleet_next};
-ghost use Rattle.dip_map.specs.Stated.{Gives, checked, stated};
+ghost use Rattle.dip_chart.specs.Charts.{IsMap, province, realm, shore, army_next, fleet_next, home, is_home, prov_of, power_of, coast_of, is_centre};
+ghost use Rattle.dip_chart.specs.Charts.{is_fleet_place, may_stand, is_unit, is_army_next, is_fleet_next};
+ghost use Rattle.dip_map.specs.Stated.{checked, stated};
+ghost use Rattle.dip_names.specs.Results.{Gives};
 ghost use Rattle.dip_distances.specs.Walks.{IsDistance};
 
 use crate::stated::parts_in;
+use dip_chart::{Parts, Realm};
 use dip_distances::Distances;
 use dip_mapfile::{draft_of, tables_of};
-use dip_parts::{Kind, MapFault, Parts, Place, Power, Prov, Realm, Terrain, Unit};
+use dip_names::{Kind, MapFault, Place, Power, Prov, Terrain, Unit};
 use std::alloc::Global;
 use std::marker::Model;
 
@@ -21,7 +24,7 @@ pub struct Map {
 }
 
 impl Model for Map {
-    ghost use Rattle.dip_parts.specs.Charts.{Chart, IsMap};
+    ghost use Rattle.dip_chart.specs.Charts.{Chart, IsMap};
     ghost use Rattle.dip_distances.specs.Distances.{AreDistances};
 
     ghost Value = { Chart };
@@ -110,10 +113,10 @@ impl Map {
     }
 
     /// What a province is.
-    pub fn kind(&self, p: Prov) -> Terrain
+    pub fn terrain(&self, p: Prov) -> Terrain
         ensures { result ≡ (province self.now p).terrain }
     {
-        self.parts.kind(p)
+        self.parts.terrain(p)
     }
 
     /// Whether a province is a supply centre.
@@ -179,6 +182,13 @@ impl Map {
         self.parts.home(power)
     }
 
+    /// Whether a province is a home centre of a power.
+    pub fn is_home(&self, power: Power, p: Prov) -> bool
+        ensures { result ≡ is_home self.now power p }
+    {
+        self.parts.is_home(power, p)
+    }
+
     /// The name of a power.
     pub fn power_name(&self, power: Power) -> &str
         ensures { result.now ≡ (realm self.now power).name }
@@ -219,7 +229,8 @@ impl Map {
         self.distances.noted(kind, place, power)
     }
 
-    pub(crate) fn realms(&self) -> &[Realm]
+    /// The powers, each with its home centres and its units at the opening.
+    pub fn realms(&self) -> &[Realm]
         ensures { result.now ≡ self.now.realms }
     {
         self.parts.realms.as_slice()

@@ -2,10 +2,12 @@
 ghost use Rattle.std.specs.Prelude.{◌≡◌, ◌≤◌, length, map};
 ghost use Rattle.std.specs.List.{position};
 ghost use Rattle.std.specs.Str.{bytes_eq};
-ghost use Rattle.dip_map.specs.Stated.{Gives, each, each_from, known, prov_at, coast_at, place_at, unit_of, unit_at, shore_at, terrain_of, province_at, realm_at, chart_at, parts_at};
+ghost use Rattle.dip_map.specs.Stated.{each, each_from, known, prov_at, coast_at, place_at, unit_of, unit_at, shore_at, province_at, realm_at, chart_at, parts_at};
+ghost use Rattle.dip_names.specs.Results.{Gives};
 
-use dip_mapfile::{Draft, Land, Piece, PowerDraft, ProvinceDraft, ShoreDraft, Site, UnitDraft};
-use dip_parts::{Kind, MapFault, Parts, Place, Power, Prov, Province, Realm, Shore, Terrain, Unit};
+use dip_chart::{Parts, Province, Realm, Shore};
+use dip_mapfile::{Draft, PowerDraft, ProvinceDraft, ShoreDraft, Site, UnitDraft};
+use dip_names::{Kind, MapFault, Place, Power, Prov, Unit};
 use std::alloc::Global;
 
 #[tactic(auto, unfolding(crate::specs::Stated::prov_at))]
@@ -56,8 +58,8 @@ fn unit_of(draft: &Draft<'_>, power: Power, unit: &UnitDraft<'_>) -> Result<Unit
     requires few { length draft.now.provinces ≤ 200 }
     ensures { Gives (λ u. u) result (unit_at draft.now power unit.now) }
 {
-    match unit.piece {
-        Piece::Army => {
+    match unit.kind {
+        Kind::Army => {
             let prov = prov_of(draft, unit.site.code)?;
             Ok(Unit {
                 power,
@@ -65,7 +67,7 @@ fn unit_of(draft: &Draft<'_>, power: Power, unit: &UnitDraft<'_>) -> Result<Unit
                 place: Place { prov, coast: 0 },
             })
         }
-        Piece::Fleet => {
+        Kind::Fleet => {
             let place = place_of(draft, &unit.site)?;
             Ok(Unit {
                 power,
@@ -144,16 +146,6 @@ fn each_shore_of(
     Ok(found)
 }
 
-fn terrain_of(land: Land) -> Terrain
-    ensures { result ≡ terrain_of land }
-{
-    match land {
-        Land::Inland => Terrain::Inland,
-        Land::Coast => Terrain::Coast,
-        Land::Sea => Terrain::Sea,
-    }
-}
-
 /// A province.
 #[tactic(auto, unfolding(crate::specs::Stated::province_at))]
 fn province_of(
@@ -171,7 +163,7 @@ fn province_of(
     Ok(Province {
         code,
         name,
-        terrain: terrain_of(written.land),
+        terrain: written.terrain,
         centre: written.centre,
         army,
         shores,

@@ -3,32 +3,17 @@ use Rattle.std.specs.Prelude.{◌≡◌, ℕ, Bool, true, false, List, [], ◌�
 use Rattle.std.specs.Str.{bytes_eq}
 use Rattle.std.specs.List.{list_any}
 use Rattle.toml.specs.Data.{Data, Items, no_items, item, Members, no_members, member, get_member, as_str, as_array, as_table, as_bool}
-use Rattle.dip_mapfile.specs.declared.faults.FileFault.{FileFault}
-use Rattle.dip_mapfile.specs.declared.faults.FileFault.TheVariants.{WrongField, Memory}
-
--- what is read behind what was read, or the first fault
-infixl 10 ◌>>=◌
-abbrev pub ◌>>=◌ : {A B : Type 0} → Result A FileFault → (A → Result B FileFault) → Result B FileFault
-(Ok x) >>= f = f x
-(Err e) >>= f = Err e
-
--- reading ends with this fault; want of memory may come in any place
-abbrev pub Fails : {Y : Type 0} → FileFault → Result Y FileFault → Type 0
-Fails Memory read = Unit {0}
-Fails e read = read ≡ Err e
-
--- what a function returned is what reading gives, unless memory ran out
-abbrev pub Gives : {X Y : Type 0} → (X → Y) → Result X FileFault → Result Y FileFault → Type 0
-Gives view (Ok x) read = read ≡ Ok (view x)
-Gives view (Err e) read = Fails e read
+use Rattle.dip_names.specs.declared.faults.MapFault.{MapFault}
+use Rattle.dip_names.specs.declared.faults.MapFault.TheVariants.{WrongField, Memory}
+use Rattle.dip_names.specs.Results.{◌>>=◌}
 
 -- what is there and of the type that is wanted
-abbrev pub wanted : {A : Type 0} → Option A → Result A FileFault
+abbrev pub wanted : {A : Type 0} → Option A → Result A MapFault
 wanted (Some x) = Ok x
 wanted None = Err WrongField
 
 -- each item of an array, read the same way
-abbrev pub each_item : {A : Type 0} → (Data → Result A FileFault) → Items → Result (List A) FileFault
+abbrev pub each_item : {A : Type 0} → (Data → Result A MapFault) → Items → Result (List A) MapFault
 each_item f no_items = Ok []
 each_item f (item d ds) = do
   x ← f d
@@ -36,7 +21,7 @@ each_item f (item d ds) = do
   Ok (x ∷ more)
 
 -- each member of a table, with its key, read the same way
-abbrev pub each_member : {A : Type 0} → (List ℕ → Data → Result A FileFault) → Members → Result (List A) FileFault
+abbrev pub each_member : {A : Type 0} → (List ℕ → Data → Result A MapFault) → Members → Result (List A) MapFault
 each_member f no_members = Ok []
 each_member f (member key d ds) = do
   x ← f key d
@@ -44,23 +29,23 @@ each_member f (member key d ds) = do
   Ok (x ∷ more)
 
 -- the field of a key
-unfoldable pub field_at : List ℕ → Members → Result Data FileFault
+unfoldable pub field_at : List ℕ → Members → Result Data MapFault
 field_at key fields = wanted (get_member key fields)
 
 -- a text
-unfoldable pub text_at : List ℕ → Members → Result (List ℕ) FileFault
+unfoldable pub text_at : List ℕ → Members → Result (List ℕ) MapFault
 text_at key fields = do
   value ← field_at key fields
   wanted (as_str value)
 
 -- a table
-unfoldable pub table_at : List ℕ → Members → Result Members FileFault
+unfoldable pub table_at : List ℕ → Members → Result Members MapFault
 table_at key fields = do
   value ← field_at key fields
   wanted (as_table value)
 
 -- whether an option that may be there is set
-abbrev pub flag_of : Option Data → Result Bool FileFault
+abbrev pub flag_of : Option Data → Result Bool MapFault
 flag_of None = Ok false
 flag_of (Some value) = wanted (as_bool value)
 

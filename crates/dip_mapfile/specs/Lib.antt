@@ -1,4 +1,3 @@
-pub mod Forms
 pub mod Drafts
 pub mod Fields
 pub mod Files

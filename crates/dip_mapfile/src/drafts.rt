@@ -3,22 +3,8 @@ ghost use Rattle.std.specs.Prelude.{◌≡◌};
 ghost use Rattle.std.specs.List.{position};
 ghost use Rattle.std.specs.Str.{bytes_eq};
 
+use dip_names::{Kind, Terrain};
 use std::marker::Model;
-
-/// What a province is.
-#[derive(Clone, Copy, PartialEq, Eq, Debug)]
-pub enum Land {
-    Inland,
-    Coast,
-    Sea,
-}
-
-/// What a unit is.
-#[derive(Clone, Copy, PartialEq, Eq, Debug)]
-pub enum Piece {
-    Army,
-    Fleet,
-}
 
 /// A place as it is written: a code, and the name of a coast, which is empty where none is written.
 #[derive(Drop)]
@@ -45,9 +31,9 @@ pub struct ShoreDraft<'a> {
 }
 
 impl<'a> Model for ShoreDraft<'a> {
-    ghost use Rattle.dip_mapfile.specs.Drafts.{Shore};
+    ghost use Rattle.dip_mapfile.specs.Drafts.{ShoreDraft as ShoreFacts};
 
-    ghost Value = { Shore };
+    ghost Value = { ShoreFacts };
 
     ghost view = { λ s. record { name = s.name.now; next = s.next.items } };
 }
@@ -57,7 +43,7 @@ impl<'a> Model for ShoreDraft<'a> {
 pub struct ProvinceDraft<'a> {
     pub code: &'a str,
     pub name: &'a str,
-    pub land: Land,
+    pub terrain: Terrain,
     pub centre: bool,
     pub army: Vec<&'a str>,
     pub shores: Vec<ShoreDraft<'a>>,
@@ -65,11 +51,11 @@ pub struct ProvinceDraft<'a> {
 
 impl<'a> Model for ProvinceDraft<'a> {
     ghost use Rattle.std.specs.Prelude.{map, length, ◌≤◌};
-    ghost use Rattle.dip_mapfile.specs.Drafts.{Province};
+    ghost use Rattle.dip_mapfile.specs.Drafts.{ProvinceDraft as ProvinceFacts};
 
-    ghost Value = { Province };
+    ghost Value = { ProvinceFacts };
 
-    ghost view = { λ p. record { code = p.code.now; name = p.name.now; land = p.land; centre = p.centre; army = map (λ s. s.now) p.army.items; shores = p.shores.items } };
+    ghost view = { λ p. record { code = p.code.now; name = p.name.now; terrain = p.terrain; centre = p.centre; army = map (λ s. s.now) p.army.items; shores = p.shores.items } };
 
     ghost invariant = { λ p. length p.shores.items ≤ 4 };
 }
@@ -97,16 +83,16 @@ fn coast_index(shores: &[ShoreDraft<'_>], name: &[u8]) -> Option<usize>
 /// A unit of the opening.
 #[derive(Drop)]
 pub struct UnitDraft<'a> {
-    pub piece: Piece,
+    pub kind: Kind,
     pub site: Site<'a>,
 }
 
 impl<'a> Model for UnitDraft<'a> {
-    ghost use Rattle.dip_mapfile.specs.Drafts.{Standing};
+    ghost use Rattle.dip_mapfile.specs.Drafts.{UnitDraft as UnitFacts};
 
-    ghost Value = { Standing };
+    ghost Value = { UnitFacts };
 
-    ghost view = { λ u. record { piece = u.piece; site = u.site } };
+    ghost view = { λ u. record { kind = u.kind; site = u.site } };
 }
 
 /// A power, the codes of its home centres, and its units at the opening.
@@ -119,9 +105,9 @@ pub struct PowerDraft<'a> {
 
 impl<'a> Model for PowerDraft<'a> {
     ghost use Rattle.std.specs.Prelude.{map};
-    ghost use Rattle.dip_mapfile.specs.Drafts.{Power};
+    ghost use Rattle.dip_mapfile.specs.Drafts.{PowerDraft as PowerFacts};
 
-    ghost Value = { Power };
+    ghost Value = { PowerFacts };
 
     ghost view = { λ p. record { name = p.name.now; home = map (λ s. s.now) p.home.items; units = p.units.items } };
 }

@@ -4,16 +4,12 @@
 #![tactic(auto)]
 
 mod drafts;
-mod faults;
 mod fields;
 mod files;
-mod forms;
 mod places;
 
-pub use drafts::{Draft, Land, Piece, PowerDraft, ProvinceDraft, ShoreDraft, Site, UnitDraft};
-pub use faults::FileFault;
+pub use drafts::{Draft, PowerDraft, ProvinceDraft, ShoreDraft, Site, UnitDraft};
 pub use files::{draft_of, tables_of};
-pub use forms::{is_coast_name, is_code, is_full_name, is_power_name};
 
 #[cfg(test)]
 mod tests;

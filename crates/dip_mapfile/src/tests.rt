@@ -1,7 +1,6 @@
-use crate::{
-    FileFault, Land, Piece, draft_of, is_coast_name, is_code, is_full_name, is_power_name,
-    tables_of,
-};
+//! What a file writes, field by field.
+use crate::{draft_of, tables_of};
+use dip_names::{Kind, MapFault, Terrain};
 use std::test::Fail;
 
 const ISLES: &str = "name = \"isles\"
@@ -36,7 +35,7 @@ fn provinces_are_read_by_code(rt: HostRuntime) -> Result<(), Fail> {
     let bay = draft.provinces.get(1).expect(&rt, "a province");
     assert_eq!(rt; bay.code, "bay");
     assert_eq!(rt; bay.name, "Bay");
-    assert!(rt; bay.land == Land::Coast);
+    assert!(rt; bay.terrain == Terrain::Coast);
     assert!(rt; !bay.centre);
     assert_eq!(rt; bay.coast(b"sc"), Some(1));
     assert_eq!(rt; bay.coast(b""), None);
@@ -53,7 +52,7 @@ fn powers_are_read_by_name(rt: HostRuntime) -> Result<(), Fail> {
     assert_eq!(rt; west.name, "west");
     assert_eq!(rt; west.home.len(), 1);
     let fleet = west.units.get(1).expect(&rt, "a unit");
-    assert!(rt; fleet.piece == Piece::Fleet);
+    assert!(rt; fleet.kind == Kind::Fleet);
     assert!(rt; fleet.site.code == b"bay".as_slice());
     assert!(rt; fleet.site.coast == b"nc".as_slice());
     Ok(())
@@ -62,20 +61,8 @@ fn powers_are_read_by_name(rt: HostRuntime) -> Result<(), Fail> {
 #[test]
 fn texts_that_are_no_file_have_their_fault(rt: HostRuntime) -> Result<(), Fail> {
     let alloc = rt.alloc();
-    assert!(rt; tables_of(alloc, "name = ").err() == Some(FileFault::NotToml));
+    assert!(rt; tables_of(alloc, "name = ").err() == Some(MapFault::NotToml));
     let file = tables_of(alloc, "name = \"none\"").expect(&rt, "TOML");
-    assert!(rt; draft_of(alloc, &file).err() == Some(FileFault::WrongField));
-    Ok(())
-}
-
-#[test]
-fn forms_have_their_bounds(rt: HostRuntime) -> Result<(), Fail> {
-    assert!(rt; is_code(b"bud") && !is_code(b"bu") && !is_code(b"budd") && !is_code(b"Bud"));
-    assert!(rt; is_coast_name(b"nc") && !is_coast_name(b"n") && !is_coast_name(b"n1"));
-    assert!(rt; is_full_name("St Petersburg") && !is_full_name("") && !is_full_name("a\tb"));
-    assert!(rt; is_power_name("abcdefghijklmnop") && !is_power_name("abcdefghijklmnopq"));
-    for word in ["master", "all", "nobody", "you", "", "France"] {
-        assert!(rt; !is_power_name(word));
-    }
+    assert!(rt; draft_of(alloc, &file).err() == Some(MapFault::WrongField));
     Ok(())
 }

@@ -7,20 +7,21 @@ use Rattle.std.proofs.lemmas.Slice.Eq.{bytes_eq-Decides}
 use Rattle.std.specs.Option.{unwrap_or}
 use Rattle.std.specs.Str.{bytes_eq}
 use Rattle.std.specs.Cmp.Derive.{both_true}
-use Rattle.dip_parts.specs.declared.names.Kind.{Kind}
-use Rattle.dip_parts.specs.declared.names.Kind.TheVariants.{Army, Fleet}
-use Rattle.dip_parts.specs.declared.names.Terrain.{Terrain}
-use Rattle.dip_parts.specs.declared.names.Terrain.TheVariants.{Inland, Coast, Sea}
-use Rattle.dip_parts.specs.declared.names.Place.{Place}
-use Rattle.dip_parts.specs.declared.names.Unit.{Unit as Piece}
-use Rattle.dip_map.specs.declared.boards.Dislodged.{Dislodged}
-use Rattle.dip_parts.specs.Charts.{Chart, IsMap, Province, Shore, no_shore, coast_of, is_shaped, has_one_shore, has_named_shores, province, shore, fleet_next, is_fleet_place, is_unit, may_stand}
-use Rattle.dip_map.specs.Boards.{Position, IsOf, is_dislodged, is_some_prov}
+use Rattle.dip_names.specs.declared.names.Kind.{Kind}
+use Rattle.dip_names.specs.declared.names.Kind.TheVariants.{Army, Fleet}
+use Rattle.dip_names.specs.declared.names.Terrain.{Terrain}
+use Rattle.dip_names.specs.declared.names.Terrain.TheVariants.{Inland, Coast, Sea}
+use Rattle.dip_names.specs.declared.names.Place.{Place}
+use Rattle.dip_names.specs.declared.names.Unit.{Unit as Piece}
+use Rattle.dip_board.specs.declared.boards.Dislodged.{Dislodged}
+use Rattle.dip_chart.specs.Charts.{Chart, IsMap, Province, Shore, no_shore, coast_of, is_shaped, has_one_shore, has_named_shores, province, shore, fleet_next, is_fleet_place, is_unit, may_stand}
+use Rattle.dip_board.specs.Boards.{Position, IsOf, is_dislodged, is_some_prov}
 use Rattle.dip_forms.specs.Forms.{is_coast}
 use Rattle.dip_forms.specs.declared.drafts.Mention.{Mention}
 use Rattle.dip_orders.specs.Retreats.{is_open, next_places}
 use Rattle.dip_orders.specs.Rules.{unit_checks, sail_checks, move_checks, move_place, site, site_checks, retreat_checks, unit_of, the_unit, dislodged_of, the_dislodged}
-use Rattle.dip_orders.specs.Tests.{is_coastal, is_kind, is_on_map, prov_named, no_place, no_unit, no_dislodged, unit_at, dislodged_at, knows_coast, first_in, named_in, place_in}
+use Rattle.dip_orders.specs.Tests.{is_on_map, prov_named, no_place, no_unit, no_dislodged, unit_at, dislodged_at, knows_coast, first_in, named_in, place_in}
+use Rattle.dip_names.specs.Kinds.{is_coastal, is_kind}
 use Rattle.dip_orders.specs.declared.faults.OrderFault.{OrderFault}
 use Rattle.dip_orders.specs.declared.faults.OrderFault.TheVariants.{OutOfReach, NoSuchRetreat}
 use Rattle.dip_orders.proofs.CheckLaws.{Hold}

@@ -2,7 +2,8 @@
 use Rattle.std.proofs.Common.{◌≡◌, Bool, true, false, List, [], ◌∷◌, ◌++◌, refl, Option, Some, None, Result, Ok, Err, cond, is_some}
 use Rattle.std.specs.Option.{ok_or, unwrap_or}
 use Rattle.dip_orders.specs.Checks.{Check, must, outcome}
-use Rattle.dip_orders.specs.Steps.{◌>>=◌, need}
+use Rattle.dip_orders.specs.Steps.{need}
+use Rattle.dip_names.specs.Results.{◌>>=◌}
 use Rattle.dip_orders.specs.declared.faults.OrderFault.{OrderFault}
 
 -- all checks hold

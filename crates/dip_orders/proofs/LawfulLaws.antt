@@ -5,23 +5,25 @@ use Rattle.std.specs.Option.{unwrap_or}
 use Rattle.std.specs.Str.{bytes_eq}
 use Rattle.std.specs.Cmp.Derive.{both_true}
 use Rattle.std.specs.List.{list_any}
-use Rattle.dip_parts.specs.declared.names.Kind.{Kind}
-use Rattle.dip_parts.specs.declared.names.Kind.TheVariants.{Army, Fleet}
-use Rattle.dip_parts.specs.declared.names.Place.{Place}
-use Rattle.dip_parts.specs.declared.names.Unit.{Unit as Piece}
-use Rattle.dip_map.specs.declared.boards.Dislodged.{Dislodged}
-use Rattle.dip_parts.specs.Charts.{Chart, IsMap, fleet_next, home, province, shore}
-use Rattle.dip_map.specs.Boards.{Position, IsOf}
+use Rattle.dip_names.specs.declared.names.Kind.{Kind}
+use Rattle.dip_names.specs.declared.names.Kind.TheVariants.{Army, Fleet}
+use Rattle.dip_names.specs.declared.names.Place.{Place}
+use Rattle.dip_names.specs.declared.names.Unit.{Unit as Piece}
+use Rattle.dip_board.specs.declared.boards.Dislodged.{Dislodged}
+use Rattle.dip_chart.specs.Charts.{Chart, IsMap, fleet_next, home, province, shore}
+use Rattle.dip_board.specs.Boards.{Position, IsOf}
 use Rattle.dip_forms.specs.Forms.{is_draft, is_spot}
 use Rattle.dip_forms.specs.declared.drafts.Draft.{Draft}
 use Rattle.dip_forms.specs.declared.drafts.Draft.TheVariants.{Hold as HoldForm, Move as MoveForm, SupportHold, SupportMove, Convoy, Retreat, Disband, Build, Remove}
-use Rattle.dip_orders.specs.Allowances.{builds_due, is_vacant, owns, removals_due}
+use Rattle.dip_orders.specs.Allowances.{builds_due, removals_due}
+use Rattle.dip_board.specs.Boards.{is_vacant, owns}
 use Rattle.dip_orders.specs.Checks.{Check, must}
 use Rattle.dip_orders.specs.Lawful.{IsLawful, IsSite, Reaches}
 use Rattle.dip_orders.specs.Retreats.{is_place_among, retreats_of}
 use Rattle.dip_orders.specs.Reading.{order_of}
 use Rattle.dip_orders.specs.Rules.{unit_checks, sail_checks, move_checks, move_place, other_checks, retreat_checks, site, site_checks, is_supportable, unit_of, the_unit, dislodged_of, the_dislodged, the_other, checks_of, order_in}
-use Rattle.dip_orders.specs.Tests.{is_kind, is_coastal, is_at_sea, prov_named, no_place, no_unit, other_at, knows_coast, first_in, named_in, place_in, could_move, could_come, may_convoy, may_build, builds_elsewhere, removals_elsewhere}
+use Rattle.dip_orders.specs.Tests.{prov_named, no_place, no_unit, other_at, knows_coast, first_in, named_in, place_in, could_move, could_come, may_convoy, may_build, builds_elsewhere, removals_elsewhere}
+use Rattle.dip_names.specs.Kinds.{is_kind, is_coastal, is_sea}
 use Rattle.dip_orders.specs.declared.faults.OrderFault.{OrderFault}
 use Rattle.dip_orders.specs.declared.faults.OrderFault.TheVariants.{OutOfReach, SupportOutOfReach, WrongKind, NoConvoyThere, WrongCoast, AllowanceUsed, NoSuchRetreat}
 use Rattle.dip_orders.specs.declared.placed.PlacedOrder.{PlacedOrder}
@@ -112,7 +114,7 @@ lawful_form m b power pending (Convoy u army to) ok of fine h =
     let q : ℕ = prov_named m to in
     let last : List Check = must (knows_coast m q to.coast) WrongCoast ∷ must (may_convoy m p q) NoConvoyThere ∷ [] in
     let there : List Check = other_checks m b Army p army.coast in
-    let others : List Check = must (is_kind the.kind Fleet) WrongKind ∷ must (is_at_sea (province m the.place.prov).terrain) NoConvoyThere ∷ (there ++ last) in
+    let others : List Check = must (is_kind the.kind Fleet) WrongKind ∷ must (is_sea (province m the.place.prov).terrain) NoConvoyThere ∷ (there ++ last) in
     let unit = unit_again m b power u ok of (hold_front (unit_checks m (unit_of m b power u) u) others h.1.1.1.1) in
     let rest = hold_back (unit_checks m (unit_of m b power u) u) others h.1.1.1.1 in (
       h.0,

@@ -1,7 +1,7 @@
 -- The two ways to say what a line is read as, and what follows of an order's own text.
 use Rattle.std.proofs.Common.{◌≡◌, ℕ, true, List, [], refl, sym, ap, ◌∙◌, Option, Some, None, Ok, Err}
-use Rattle.dip_parts.specs.Charts.{Chart, IsMap}
-use Rattle.dip_map.specs.Boards.{Position, IsOf}
+use Rattle.dip_chart.specs.Charts.{Chart, IsMap}
+use Rattle.dip_board.specs.Boards.{Position, IsOf}
 use Rattle.dip_forms.specs.Forms.{Says, is_draft}
 use Rattle.dip_forms.specs.Reading.{draft_in}
 use Rattle.dip_forms.specs.Texts.{canonical_text}

@@ -4,24 +4,26 @@ use Rattle.std.proofs.lemmas.Bool.{and_parts, lt-ltb, ltb-true}
 use Rattle.std.specs.List.{list_any}
 use Rattle.std.specs.Option.{unwrap_or}
 use Rattle.std.specs.Cmp.Derive.{both_true}
-use Rattle.dip_parts.specs.declared.names.Kind.{Kind}
-use Rattle.dip_parts.specs.declared.names.Kind.TheVariants.{Army, Fleet}
-use Rattle.dip_parts.specs.declared.names.Place.{Place}
-use Rattle.dip_parts.specs.declared.names.Unit.{Unit as Piece}
-use Rattle.dip_map.specs.declared.boards.Dislodged.{Dislodged}
-use Rattle.dip_parts.specs.Charts.{Chart, IsMap, home, province}
-use Rattle.dip_map.specs.Boards.{Position, IsOf}
+use Rattle.dip_names.specs.declared.names.Kind.{Kind}
+use Rattle.dip_names.specs.declared.names.Kind.TheVariants.{Army, Fleet}
+use Rattle.dip_names.specs.declared.names.Place.{Place}
+use Rattle.dip_names.specs.declared.names.Unit.{Unit as Piece}
+use Rattle.dip_board.specs.declared.boards.Dislodged.{Dislodged}
+use Rattle.dip_chart.specs.Charts.{Chart, IsMap, home, province}
+use Rattle.dip_board.specs.Boards.{Position, IsOf}
 use Rattle.dip_forms.specs.Forms.{is_coast, are_letters, is_spot, is_draft}
 use Rattle.dip_forms.specs.Texts.{canonical_text}
 use Rattle.dip_forms.specs.declared.drafts.Spot.{Spot}
 use Rattle.dip_forms.specs.declared.drafts.Mention.{Mention}
 use Rattle.dip_forms.specs.declared.drafts.Draft.{Draft}
 use Rattle.dip_forms.specs.declared.drafts.Draft.TheVariants.{Hold as HoldForm, Move as MoveForm, SupportHold, SupportMove, Convoy, Retreat, Disband, Build, Remove}
-use Rattle.dip_orders.specs.Allowances.{builds_due, is_vacant, owns, removals_due}
+use Rattle.dip_orders.specs.Allowances.{builds_due, removals_due}
+use Rattle.dip_board.specs.Boards.{is_vacant, owns}
 use Rattle.dip_orders.specs.Checks.{Check, must}
 use Rattle.dip_orders.specs.Retreats.{retreats_of}
 use Rattle.dip_orders.specs.Rules.{site, site_checks, unit_checks, move_checks, move_place, other_checks, retreat_checks, is_supportable, unit_of, the_unit, dislodged_of, the_dislodged, the_other, checks_of, order_in, answer}
-use Rattle.dip_orders.specs.Tests.{builds_elsewhere, is_coastal, may_build, is_kind, is_at_sea, is_on_map, prov_named, no_unit, other_at, knows_coast, place_in, could_move, may_convoy, removals_elsewhere}
+use Rattle.dip_orders.specs.Tests.{builds_elsewhere, may_build, is_on_map, prov_named, no_unit, other_at, knows_coast, place_in, could_move, may_convoy, removals_elsewhere}
+use Rattle.dip_names.specs.Kinds.{is_coastal, is_kind, is_sea}
 use Rattle.dip_orders.specs.Texts.{order_text}
 use Rattle.dip_orders.specs.declared.faults.OrderFault.TheVariants.{SupportOutOfReach, WrongKind, NoConvoyThere, WrongCoast, AllowanceUsed}
 use Rattle.dip_orders.specs.declared.placed.Order.TheVariants.{Hold as Holds, Move as Moves, SupportHold as SupportsHold, SupportMove as SupportsMove, Convoy as Convoys, Retreat as Retreats, Disband as Disbands, Build as Builds, Remove as Removes}
@@ -192,7 +194,7 @@ carried_order v unit r q to there e f g = λ i. record { unit = e i; order = Con
 abbrev again_checks : Chart → Position → Piece → ℕ → ℕ → List Check
 again_checks m b x r t =
     must (is_kind x.kind Fleet) WrongKind
-    ∷ must (is_at_sea (province m x.place.prov).terrain) NoConvoyThere
+    ∷ must (is_sea (province m x.place.prov).terrain) NoConvoyThere
     ∷ (other_checks m b Army r None ++ must (knows_coast m t None) WrongCoast ∷ must (may_convoy m r t) NoConvoyThere ∷ [])
 
 pub convoy_again : (m : Chart) (b : Position) (power : ℕ) (pending : List PlacedOrder) (u : Mention) (army to : Spot) → IsMap m → IsOf m b
@@ -202,7 +204,7 @@ convoy_again m b power pending u army to ok of h =
     let q : ℕ = prov_named m to in
     let the : Piece = the_unit m b power u in
     let last : List Check = must (knows_coast m q to.coast) WrongCoast ∷ must (may_convoy m p q) NoConvoyThere ∷ [] in
-    let others : List Check = must (is_kind the.kind Fleet) WrongKind ∷ must (is_at_sea (province m the.place.prov).terrain) NoConvoyThere ∷ (other_checks m b Army p army.coast ++ last) in
+    let others : List Check = must (is_kind the.kind Fleet) WrongKind ∷ must (is_sea (province m the.place.prov).terrain) NoConvoyThere ∷ (other_checks m b Army p army.coast ++ last) in
     let unit = unit_again m b power u ok of (hold_front (unit_checks m (unit_of m b power u) u) others h.1.1.1.1) in
     let rest = hold_back (unit_checks m (unit_of m b power u) u) others h.1.1.1.1 in
     let there = hold_front (other_checks m b Army p army.coast) last rest.1.1 in
@@ -223,7 +225,7 @@ convoy_again m b power pending u army to ok of h =
             hold_both (unit_checks m (unit_of m b power (mention_of m the.kind the.place)) (mention_of m the.kind the.place)) (again_checks m b (the_unit m b power (mention_of m the.kind the.place)) r t) unit.checks (
               ap (λ (x : Piece). is_kind x.kind Fleet) unit.same ∙ rest.0,
               (
-                ap (λ (x : Piece). is_at_sea (province m x.place.prov).terrain) unit.same ∙ rest.1.0,
+                ap (λ (x : Piece). is_sea (province m x.place.prov).terrain) unit.same ∙ rest.1.0,
                 hold_both (other_checks m b Army r None) (must (knows_coast m t None) WrongCoast ∷ must (may_convoy m r t) NoConvoyThere ∷ []) (other_back m b Army r p army.coast from there)
                     (refl, (ap (λ n. may_convoy m n t) from ∙ (ap (λ n. may_convoy m p n) named ∙ near.1.0), tt)),
               ),

@@ -6,12 +6,12 @@ use Rattle.std.proofs.lemmas.List.Folds.{list_all_at}
 use Rattle.std.specs.List.{list_all}
 use Rattle.std.specs.Option.{unwrap_or}
 use Rattle.std.specs.Cmp.Derive.{both_true}
-use Rattle.dip_parts.specs.declared.names.Kind.{Kind}
-use Rattle.dip_parts.specs.declared.names.Kind.TheVariants.{Army, Fleet}
-use Rattle.dip_parts.specs.declared.names.Terrain.{Terrain}
-use Rattle.dip_parts.specs.declared.names.Terrain.TheVariants.{Inland, Coast, Sea}
-use Rattle.dip_parts.specs.declared.names.Place.{Place}
-use Rattle.dip_parts.specs.Charts.{Chart, Province, Shore, IsMap, no_shore, province, shore, prov_of, coast_of, is_shaped, is_code, is_full_name, is_coast_name, has_one_shore, has_named_shores, is_fleet_place, may_stand}
+use Rattle.dip_names.specs.declared.names.Kind.{Kind}
+use Rattle.dip_names.specs.declared.names.Kind.TheVariants.{Army, Fleet}
+use Rattle.dip_names.specs.declared.names.Terrain.{Terrain}
+use Rattle.dip_names.specs.declared.names.Terrain.TheVariants.{Inland, Coast, Sea}
+use Rattle.dip_names.specs.declared.names.Place.{Place}
+use Rattle.dip_chart.specs.Charts.{Chart, Province, Shore, IsMap, no_shore, province, shore, prov_of, coast_of, is_shaped, is_code, is_full_name, is_coast_name, has_one_shore, has_named_shores, is_fleet_place, may_stand}
 use Rattle.dip_forms.specs.Forms.{are_letters, coast_text, is_coast, spot_text, is_spot}
 use Rattle.dip_forms.specs.declared.drafts.Spot.{Spot}
 use Rattle.dip_forms.specs.declared.drafts.Mention.{Mention}

@@ -4,16 +4,17 @@ use Rattle.std.specs.Prelude.{Contains, option_map}
 use Rattle.std.specs.Option.{unwrap_or}
 use Rattle.std.proofs.lemmas.Bool.{cases_Bool, and_parts, and_from, eqb-true, not-true}
 use Rattle.std.proofs.lemmas.Bool.Decides.{eqb_tells}
-use Rattle.dip_parts.specs.declared.names.Kind.{Kind}
-use Rattle.dip_parts.specs.declared.names.Kind.TheVariants.{Army, Fleet}
-use Rattle.dip_parts.specs.declared.names.Place.{Place}
-use Rattle.dip_parts.specs.declared.names.Unit.{Unit as Piece}
-use Rattle.dip_map.specs.declared.boards.Season.{Season}
-use Rattle.dip_map.specs.declared.boards.Season.TheVariants.{SpringMoves, SpringRetreats, FallMoves, FallRetreats, Winter}
-use Rattle.dip_parts.specs.Charts.{Chart, IsMap, province, is_army_next}
-use Rattle.dip_map.specs.Boards.{Position}
+use Rattle.dip_names.specs.declared.names.Kind.{Kind}
+use Rattle.dip_names.specs.declared.names.Kind.TheVariants.{Army, Fleet}
+use Rattle.dip_names.specs.declared.names.Place.{Place}
+use Rattle.dip_names.specs.declared.names.Unit.{Unit as Piece}
+use Rattle.dip_board.specs.declared.boards.Season.{Season}
+use Rattle.dip_board.specs.declared.boards.Season.TheVariants.{SpringMoves, SpringRetreats, FallMoves, FallRetreats, Winter}
+use Rattle.dip_chart.specs.Charts.{Chart, IsMap, province, is_army_next}
+use Rattle.dip_board.specs.Boards.{Position}
 use Rattle.dip_orders.specs.Lawful.{IsLawful, IsAllowed, Reaches}
-use Rattle.dip_orders.specs.Tests.{is_kind, is_coastal, is_movement, is_retreat, is_adjustment, may_convoy, may_march}
+use Rattle.dip_orders.specs.Tests.{is_movement, is_retreat, is_adjustment, may_convoy, may_march}
+use Rattle.dip_names.specs.Kinds.{is_kind, is_coastal}
 use Rattle.dip_orders.specs.Standing.{is_done_from, is_in_force, are_in_force, is_same_unit, found_order, order_among, standing_orders, units_of, IsOnly}
 use Rattle.dip_orders.specs.declared.placed.Order.{Order}
 use Rattle.dip_orders.specs.declared.placed.Order.TheVariants.{Hold, Move, SupportHold, SupportMove, Convoy, Retreat, Disband, Build, Remove}

@@ -3,13 +3,13 @@ use Rattle.std.proofs.Common.{◌≡◌, ℕ, ◌==◌, Bool, true, false, List,
 use Rattle.std.specs.Option.{ok_or, unwrap_or}
 use Rattle.std.specs.List.{list_any}
 use Rattle.std.proofs.lemmas.Bool.{cases_Bool, eqb-true}
-use Rattle.dip_parts.specs.declared.names.Kind.{Kind}
-use Rattle.dip_parts.specs.declared.names.Kind.TheVariants.{Army, Fleet}
-use Rattle.dip_parts.specs.declared.names.Place.{Place}
-use Rattle.dip_parts.specs.declared.names.Unit.{Unit as Piece}
-use Rattle.dip_map.specs.declared.boards.Dislodged.{Dislodged}
-use Rattle.dip_parts.specs.Charts.{Chart, province, army_next, fleet_next, is_army_next, coast_of, prov_of}
-use Rattle.dip_map.specs.Boards.{Position}
+use Rattle.dip_names.specs.declared.names.Kind.{Kind}
+use Rattle.dip_names.specs.declared.names.Kind.TheVariants.{Army, Fleet}
+use Rattle.dip_names.specs.declared.names.Place.{Place}
+use Rattle.dip_names.specs.declared.names.Unit.{Unit as Piece}
+use Rattle.dip_board.specs.declared.boards.Dislodged.{Dislodged}
+use Rattle.dip_chart.specs.Charts.{Chart, province, army_next, fleet_next, is_army_next, coast_of, prov_of}
+use Rattle.dip_board.specs.Boards.{Position}
 use Rattle.dip_forms.specs.declared.drafts.Spot.{Spot}
 use Rattle.dip_forms.specs.declared.drafts.Mention.{Mention}
 use Rattle.dip_forms.specs.declared.drafts.Draft.{Draft}
@@ -18,8 +18,10 @@ use Rattle.dip_forms.specs.Forms.{spots_of}
 use Rattle.dip_orders.specs.Checks.{Check, must, outcome}
 use Rattle.dip_orders.specs.Retreats.{is_open, next_places, on_foot}
 use Rattle.dip_orders.specs.Rules.{unit_checks, sail_checks, move_checks, move_place, other_checks, site_checks, site, unit_of, the_unit, dislodged_of, the_dislodged, retreat_checks, own_checks, order_in, answer}
-use Rattle.dip_orders.specs.Steps.{◌>>=◌, need, prov_at, checked_unit, sail_to, go_to, checked_other, site_at, placed, in_phase, hold_order, move_order, support_hold_order, support_move_order, convoy_order, carrier, build_order, remove_order, checked_dislodged, leave_to, retreat_order, disband_order}
-use Rattle.dip_orders.specs.Tests.{is_in_phase, is_kind, is_on_map, prov_named, no_place, no_unit, no_dislodged, army_place, other_at, knows_coast, first_in, count_in, named_in, place_in, may_convoy, may_march, is_at_sea}
+use Rattle.dip_orders.specs.Steps.{need, prov_at, checked_unit, sail_to, go_to, checked_other, site_at, placed, in_phase, hold_order, move_order, support_hold_order, support_move_order, convoy_order, carrier, build_order, remove_order, checked_dislodged, leave_to, retreat_order, disband_order}
+use Rattle.dip_names.specs.Results.{◌>>=◌}
+use Rattle.dip_orders.specs.Tests.{is_in_phase, is_on_map, prov_named, no_place, no_unit, no_dislodged, army_place, other_at, knows_coast, first_in, count_in, named_in, place_in, may_convoy, may_march}
+use Rattle.dip_names.specs.Kinds.{is_kind, is_sea}
 use Rattle.dip_orders.specs.declared.faults.OrderFault.{OrderFault}
 use Rattle.dip_orders.specs.declared.faults.OrderFault.TheVariants.{UnknownProvince, WrongKind, OutOfReach, CoastNeeded, WrongCoast, NoSuchUnit, NoConvoyThere, NotInThisPhase, NoSuchRetreat}
 use Rattle.dip_orders.specs.declared.placed.Order.TheVariants.{Move as Moves, Retreat as Retreats}
@@ -95,16 +97,16 @@ code_step : {B : Type 0} (m : Chart) (s : Spot) (f : ℕ → Result B OrderFault
 code_step m s f cs y h = found_step (prov_of m s.code) UnknownProvince (length m.provinces) f cs y h
 
 carrier_step : {B : Type 0} (m : Chart) (x : Piece) (f : Piece → Result B OrderFault) (cs : List Check) (y : B) → Comes (f x) cs y
-    → Comes (carrier m x >>= f) (must (is_kind x.kind Fleet) WrongKind ∷ must (is_at_sea (province m x.place.prov).terrain) NoConvoyThere ∷ cs) y
+    → Comes (carrier m x >>= f) (must (is_kind x.kind Fleet) WrongKind ∷ must (is_sea (province m x.place.prov).terrain) NoConvoyThere ∷ cs) y
 carrier_step m x f cs y h = record { is = go (is_kind x.kind Fleet) }
   where
     at_sea : (c : Bool) → (need c NoConvoyThere x >>= f) ≡ outcome (must c NoConvoyThere ∷ cs) y
     at_sea true = h.is
     at_sea false = refl
 
-    go : (k : Bool) → ((need k WrongKind x >>= (λ fleet. need (is_at_sea (province m fleet.place.prov).terrain) NoConvoyThere fleet)) >>= f)
-        ≡ outcome (must k WrongKind ∷ must (is_at_sea (province m x.place.prov).terrain) NoConvoyThere ∷ cs) y
-    go true = at_sea (is_at_sea (province m x.place.prov).terrain)
+    go : (k : Bool) → ((need k WrongKind x >>= (λ fleet. need (is_sea (province m fleet.place.prov).terrain) NoConvoyThere fleet)) >>= f)
+        ≡ outcome (must k WrongKind ∷ must (is_sea (province m x.place.prov).terrain) NoConvoyThere ∷ cs) y
+    go true = at_sea (is_sea (province m x.place.prov).terrain)
     go false = refl
 
 -- the place of a unit that is built, and what is behind it

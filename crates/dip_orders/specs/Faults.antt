@@ -1,3 +1,4 @@
+-- The faults of order lines: their numbers and words.
 use Rattle.std.specs.Prelude.{ℕ, List, codes}
 use Rattle.dip_orders.specs.declared.faults.OrderFault.{OrderFault}
 use Rattle.dip_orders.specs.declared.faults.OrderFault.TheVariants.{CannotBeRead, UnknownProvince, NoUnitThere, WrongKind, OutOfReach, CoastNeeded, WrongCoast, NoSuchUnit, SupportOutOfReach, NoConvoyThere, NotInThisPhase, NoBuildThere, AllowanceUsed, NoSuchRetreat}

@@ -1,15 +1,16 @@
 -- What holds of each order that is read: the unit is there, or may be built, and what it is to do the rules allow.
 use Rattle.std.specs.Prelude.{◌≡◌, ℕ, ◌<◌, ◌==◌, not, Bool, true, false, List, Some, if◌then◌else◌}
-use Rattle.dip_parts.specs.declared.names.Kind.{Kind}
-use Rattle.dip_parts.specs.declared.names.Kind.TheVariants.{Army, Fleet}
-use Rattle.dip_parts.specs.declared.names.Place.{Place}
-use Rattle.dip_parts.specs.declared.names.Unit.{Unit as Piece}
-use Rattle.dip_map.specs.declared.boards.Dislodged.{Dislodged}
-use Rattle.dip_parts.specs.Charts.{Chart, province, is_fleet_next, is_fleet_place}
-use Rattle.dip_map.specs.Boards.{Position}
+use Rattle.dip_names.specs.declared.names.Kind.{Kind}
+use Rattle.dip_names.specs.declared.names.Kind.TheVariants.{Army, Fleet}
+use Rattle.dip_names.specs.declared.names.Place.{Place}
+use Rattle.dip_names.specs.declared.names.Unit.{Unit as Piece}
+use Rattle.dip_board.specs.declared.boards.Dislodged.{Dislodged}
+use Rattle.dip_chart.specs.Charts.{Chart, province, is_fleet_next, is_fleet_place}
+use Rattle.dip_board.specs.Boards.{Position}
 use Rattle.dip_orders.specs.Allowances.{builds_due, removals_due}
 use Rattle.dip_orders.specs.Retreats.{is_place_among, retreats_of}
-use Rattle.dip_orders.specs.Tests.{is_movement, is_retreat, is_adjustment, is_at_sea, army_place, unit_at, dislodged_at, other_at, could_move, could_come, may_convoy, may_march, may_build, builds_elsewhere, removals_elsewhere}
+use Rattle.dip_orders.specs.Tests.{is_movement, is_retreat, is_adjustment, army_place, unit_at, dislodged_at, other_at, could_move, could_come, may_convoy, may_march, may_build, builds_elsewhere, removals_elsewhere}
+use Rattle.dip_names.specs.Kinds.{is_sea}
 use Rattle.dip_orders.specs.declared.placed.Other.{Other}
 use Rattle.dip_orders.specs.declared.placed.Order.{Order}
 use Rattle.dip_orders.specs.declared.placed.Order.TheVariants.{Hold, Move, SupportHold, SupportMove, Convoy, Retreat, Disband, Build, Remove}
@@ -50,7 +51,7 @@ pub record MayAid (m : Chart) (b : Position) (u : Piece) (at : Other) (to : ℕ)
 -- a convoy: a fleet at sea, for an army that is there, between two coasts
 pub record MayCarry (m : Chart) (b : Position) (u : Piece) (at : Other) (to : ℕ) : Type 0 where
   pub fleet : u.kind ≡ Fleet
-  pub sea : is_at_sea (province m u.place.prov).terrain ≡ true
+  pub sea : is_sea (province m u.place.prov).terrain ≡ true
   pub army : at.kind ≡ Army
   pub other : Piece
   pub there : IsThere b at other

@@ -1,7 +1,7 @@
 -- Reading an order line, as a function.
 use Rattle.std.specs.Prelude.{ℕ, List, Option, None, Some, Result, Err}
-use Rattle.dip_parts.specs.Charts.{Chart}
-use Rattle.dip_map.specs.Boards.{Position}
+use Rattle.dip_chart.specs.Charts.{Chart}
+use Rattle.dip_board.specs.Boards.{Position}
 use Rattle.dip_forms.specs.Reading.{draft_in}
 use Rattle.dip_forms.specs.declared.drafts.Draft.{Draft}
 use Rattle.dip_orders.specs.Rules.{answer}

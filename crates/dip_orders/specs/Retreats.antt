@@ -1,11 +1,12 @@
+-- Where a dislodged unit may go.
 use Rattle.std.specs.Prelude.{◌≡◌, ℕ, ◌==◌, ◌&&◌, not, Bool, true, false, List, Option, None, Some, map, filter}
 use Rattle.std.specs.List.{list_any}
-use Rattle.dip_parts.specs.declared.names.Kind.{Kind}
-use Rattle.dip_parts.specs.declared.names.Kind.TheVariants.{Army, Fleet}
-use Rattle.dip_parts.specs.declared.names.Place.{Place}
-use Rattle.dip_map.specs.declared.boards.Dislodged.{Dislodged}
-use Rattle.dip_parts.specs.Charts.{Chart, army_next, fleet_next}
-use Rattle.dip_map.specs.Boards.{Position}
+use Rattle.dip_names.specs.declared.names.Kind.{Kind}
+use Rattle.dip_names.specs.declared.names.Kind.TheVariants.{Army, Fleet}
+use Rattle.dip_names.specs.declared.names.Place.{Place}
+use Rattle.dip_board.specs.declared.boards.Dislodged.{Dislodged}
+use Rattle.dip_chart.specs.Charts.{Chart, army_next, fleet_next}
+use Rattle.dip_board.specs.Boards.{Position, is_held, is_standoff}
 
 -- the places of an army in these provinces: none tells a coast
 abbrev pub on_foot : List ℕ → List Place
@@ -16,18 +17,10 @@ abbrev pub next_places : Chart → Kind → Place → List Place
 next_places m Army a = on_foot (army_next m a.prov)
 next_places m Fleet a = fleet_next m a
 
--- a standing unit is in the province
-abbrev pub is_held : Position → ℕ → Bool
-is_held b p = list_any (λ u. u.place.prov == p) b.units
-
 -- the attacker came from that province; one that came by convoy closes none
 abbrev pub is_origin : Option ℕ → ℕ → Bool
 is_origin None p = false
 is_origin (Some o) p = o == p
-
--- a standoff left the province closed
-abbrev pub is_standoff : Position → ℕ → Bool
-is_standoff b p = list_any (λ q. q == p) b.standoff
 
 -- open to a retreat: empty, not where the attacker came from, and no standoff province
 abbrev pub is_open : Position → Option ℕ → ℕ → Bool

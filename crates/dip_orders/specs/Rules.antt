@@ -1,13 +1,13 @@
 -- The rules of reading an order line: for each form its checks, in order, and the order that it is where all of them hold.
 use Rattle.std.specs.Prelude.{◌≡◌, ℕ, nat_le, nat_lt, ◌==◌, ◌&&◌, ◌||◌, not, Bool, List, [], ◌∷◌, ◌++◌, length, map, Option, None, Some, Result, Err, is_some, is_none, option_map, ◌⊎◌, if◌then◌else◌}
 use Rattle.std.specs.Option.{unwrap_or}
-use Rattle.dip_parts.specs.declared.names.Kind.{Kind}
-use Rattle.dip_parts.specs.declared.names.Kind.TheVariants.{Army, Fleet}
-use Rattle.dip_parts.specs.declared.names.Place.{Place}
-use Rattle.dip_parts.specs.declared.names.Unit.{Unit as Piece}
-use Rattle.dip_map.specs.declared.boards.Dislodged.{Dislodged}
-use Rattle.dip_parts.specs.Charts.{Chart, province, fleet_next, coast_of}
-use Rattle.dip_map.specs.Boards.{Position}
+use Rattle.dip_names.specs.declared.names.Kind.{Kind}
+use Rattle.dip_names.specs.declared.names.Kind.TheVariants.{Army, Fleet}
+use Rattle.dip_names.specs.declared.names.Place.{Place}
+use Rattle.dip_names.specs.declared.names.Unit.{Unit as Piece}
+use Rattle.dip_board.specs.declared.boards.Dislodged.{Dislodged}
+use Rattle.dip_chart.specs.Charts.{Chart, province, fleet_next, coast_of}
+use Rattle.dip_board.specs.Boards.{Position}
 use Rattle.dip_forms.specs.Forms.{Says, spots_of}
 use Rattle.dip_forms.specs.declared.drafts.Mention.{Mention}
 use Rattle.dip_forms.specs.declared.drafts.Draft.{Draft}
@@ -15,7 +15,8 @@ use Rattle.dip_forms.specs.declared.drafts.Draft.TheVariants.{Hold, Move, Suppor
 use Rattle.dip_orders.specs.Allowances.{builds_due, removals_due}
 use Rattle.dip_orders.specs.Checks.{Check, must, outcome}
 use Rattle.dip_orders.specs.Retreats.{retreats_of}
-use Rattle.dip_orders.specs.Tests.{is_in_phase, is_kind, is_at_sea, is_on_map, prov_named, no_unit, no_dislodged, army_place, unit_at, dislodged_at, other_at, knows_coast, first_in, has_coast_in, is_settled_in, place_in, could_move, may_convoy, may_march, could_come, may_build, builds_elsewhere, removals_elsewhere}
+use Rattle.dip_orders.specs.Tests.{is_in_phase, is_on_map, prov_named, no_unit, no_dislodged, army_place, unit_at, dislodged_at, other_at, knows_coast, first_in, has_coast_in, is_settled_in, place_in, could_move, may_convoy, may_march, could_come, may_build, builds_elsewhere, removals_elsewhere}
+use Rattle.dip_names.specs.Kinds.{is_kind, is_sea}
 use Rattle.dip_orders.specs.declared.faults.OrderFault.{OrderFault}
 use Rattle.dip_orders.specs.declared.faults.OrderFault.TheVariants.{CannotBeRead, UnknownProvince, NoUnitThere, WrongKind, OutOfReach, CoastNeeded, WrongCoast, NoSuchUnit, SupportOutOfReach, NoConvoyThere, NotInThisPhase, NoBuildThere, AllowanceUsed, NoSuchRetreat}
 use Rattle.dip_orders.specs.declared.placed.Order.TheVariants.{Hold as Holds, Move as Moves, SupportHold as SupportsHold, SupportMove as SupportsMove, Convoy as Convoys, Retreat as Retreats, Disband as Disbands, Build as Builds, Remove as Removes}
@@ -127,7 +128,7 @@ own_checks m b power pending (SupportMove u other to) =
 own_checks m b power pending (Convoy u army to) =
     unit_checks m (unit_of m b power u) u
     ++ must (is_kind (the_unit m b power u).kind Fleet) WrongKind
-    ∷ must (is_at_sea (province m (the_unit m b power u).place.prov).terrain) NoConvoyThere
+    ∷ must (is_sea (province m (the_unit m b power u).place.prov).terrain) NoConvoyThere
     ∷ (other_checks m b Army (prov_named m army) army.coast
     ++ must (knows_coast m (prov_named m to) to.coast) WrongCoast
     ∷ must (may_convoy m (prov_named m army) (prov_named m to)) NoConvoyThere

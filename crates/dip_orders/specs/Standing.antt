@@ -2,9 +2,9 @@
 use Rattle.std.specs.Prelude.{◌≡◌, ℕ, ◌==◌, ◌&&◌, not, Bool, true, false, Contains, List, Option, map, find, option_map}
 use Rattle.std.specs.List.{list_all}
 use Rattle.std.specs.Option.{unwrap_or}
-use Rattle.dip_parts.specs.declared.names.Unit.{Unit as Piece}
-use Rattle.dip_map.specs.Boards.{Position}
-use Rattle.dip_orders.specs.Tests.{is_kind}
+use Rattle.dip_names.specs.declared.names.Unit.{Unit as Piece}
+use Rattle.dip_board.specs.Boards.{Position}
+use Rattle.dip_names.specs.Kinds.{is_kind}
 use Rattle.dip_orders.specs.declared.placed.Order.{Order}
 use Rattle.dip_orders.specs.declared.placed.Order.TheVariants.{Hold, Move, SupportHold, SupportMove, Convoy, Retreat, Disband, Build, Remove}
 use Rattle.dip_orders.specs.declared.placed.PlacedOrder.{PlacedOrder}

@@ -1,13 +1,13 @@
 -- The reading of an order line step by step, as the code goes: each function of it gives one of these.
 use Rattle.std.specs.Prelude.{ℕ, nat_le, nat_lt, Bool, true, false, List, length, Option, None, Some, Result, Ok, Err, is_none, if◌then◌else◌}
 use Rattle.std.specs.Option.{ok_or}
-use Rattle.dip_parts.specs.declared.names.Kind.{Kind}
-use Rattle.dip_parts.specs.declared.names.Kind.TheVariants.{Army, Fleet}
-use Rattle.dip_parts.specs.declared.names.Place.{Place}
-use Rattle.dip_parts.specs.declared.names.Unit.{Unit as Piece}
-use Rattle.dip_map.specs.declared.boards.Dislodged.{Dislodged}
-use Rattle.dip_parts.specs.Charts.{Chart, province, fleet_next, is_army_next, prov_of, coast_of}
-use Rattle.dip_map.specs.Boards.{Position}
+use Rattle.dip_names.specs.declared.names.Kind.{Kind}
+use Rattle.dip_names.specs.declared.names.Kind.TheVariants.{Army, Fleet}
+use Rattle.dip_names.specs.declared.names.Place.{Place}
+use Rattle.dip_names.specs.declared.names.Unit.{Unit as Piece}
+use Rattle.dip_board.specs.declared.boards.Dislodged.{Dislodged}
+use Rattle.dip_chart.specs.Charts.{Chart, province, fleet_next, is_army_next, prov_of, coast_of}
+use Rattle.dip_board.specs.Boards.{Position}
 use Rattle.dip_forms.specs.declared.drafts.Spot.{Spot}
 use Rattle.dip_forms.specs.declared.drafts.Mention.{Mention}
 use Rattle.dip_forms.specs.declared.drafts.Draft.{Draft}
@@ -15,17 +15,13 @@ use Rattle.dip_forms.specs.declared.drafts.Draft.TheVariants.{Hold, Move, Suppor
 use Rattle.dip_orders.specs.Allowances.{builds_due, removals_due}
 use Rattle.dip_orders.specs.Retreats.{is_open}
 use Rattle.dip_orders.specs.Rules.{is_supportable}
-use Rattle.dip_orders.specs.Tests.{is_in_phase, is_kind, is_at_sea, army_place, unit_at, dislodged_at, other_at, knows_coast, first_in, count_in, named_in, could_move, may_convoy, may_march, may_build, builds_elsewhere, removals_elsewhere}
+use Rattle.dip_orders.specs.Tests.{is_in_phase, army_place, unit_at, dislodged_at, other_at, knows_coast, first_in, count_in, named_in, could_move, may_convoy, may_march, may_build, builds_elsewhere, removals_elsewhere}
+use Rattle.dip_names.specs.Kinds.{is_kind, is_sea}
 use Rattle.dip_orders.specs.declared.faults.OrderFault.{OrderFault}
 use Rattle.dip_orders.specs.declared.faults.OrderFault.TheVariants.{UnknownProvince, NoUnitThere, WrongKind, OutOfReach, CoastNeeded, WrongCoast, NoSuchUnit, SupportOutOfReach, NoConvoyThere, NotInThisPhase, NoBuildThere, AllowanceUsed, NoSuchRetreat}
 use Rattle.dip_orders.specs.declared.placed.Order.TheVariants.{Hold as Holds, Move as Moves, SupportHold as SupportsHold, SupportMove as SupportsMove, Convoy as Convoys, Retreat as Retreats, Disband as Disbands, Build as Builds, Remove as Removes}
 use Rattle.dip_orders.specs.declared.placed.PlacedOrder.{PlacedOrder}
-
--- one step behind the other: the first fault is the answer
-infixl 10 ◌>>=◌
-abbrev pub ◌>>=◌ : {A B : Type 0} → Result A OrderFault → (A → Result B OrderFault) → Result B OrderFault
-(Ok x) >>= f = f x
-(Err e) >>= f = Err e
+use Rattle.dip_names.specs.Results.{◌>>=◌}
 
 -- this value where the test holds, else the fault
 abbrev pub need : {A : Type 0} → Bool → OrderFault → A → Result A OrderFault
@@ -127,7 +123,7 @@ support_move_order m b power u other to = do
 abbrev pub carrier : Chart → Piece → Result Piece OrderFault
 carrier m unit = do
   fleet ← need (is_kind unit.kind Fleet) WrongKind unit
-  need (is_at_sea (province m fleet.place.prov).terrain) NoConvoyThere fleet
+  need (is_sea (province m fleet.place.prov).terrain) NoConvoyThere fleet
 
 abbrev pub convoy_order : Chart → Position → ℕ → Mention → Spot → Spot → Result PlacedOrder OrderFault
 convoy_order m b power u army to = do

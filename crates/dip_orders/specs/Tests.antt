@@ -3,21 +3,22 @@ use Rattle.std.specs.Prelude.{ℕ, ◌==◌, ◌&&◌, ◌||◌, nat_le, not, Bo
 use Rattle.std.specs.Option.{unwrap_or}
 use Rattle.std.specs.List.{list_any}
 use Rattle.std.specs.Str.{bytes_eq}
-use Rattle.dip_parts.specs.declared.names.Kind.{Kind}
-use Rattle.dip_parts.specs.declared.names.Kind.TheVariants.{Army, Fleet}
-use Rattle.dip_parts.specs.declared.names.Terrain.{Terrain}
-use Rattle.dip_parts.specs.declared.names.Terrain.TheVariants.{Inland, Coast, Sea}
-use Rattle.dip_parts.specs.declared.names.Place.{Place}
-use Rattle.dip_parts.specs.declared.names.Unit.{Unit as Piece}
-use Rattle.dip_map.specs.declared.boards.Dislodged.{Dislodged}
-use Rattle.dip_map.specs.declared.boards.Season.{Season}
-use Rattle.dip_map.specs.declared.boards.Season.TheVariants.{SpringMoves, SpringRetreats, FallMoves, FallRetreats, Winter}
-use Rattle.dip_parts.specs.Charts.{Chart, province, shore, fleet_next, home, is_army_next, prov_of, coast_of}
-use Rattle.dip_map.specs.Boards.{Position}
+use Rattle.dip_names.specs.Kinds.{is_kind, is_coastal}
+use Rattle.dip_names.specs.declared.names.Kind.{Kind}
+use Rattle.dip_names.specs.declared.names.Kind.TheVariants.{Army, Fleet}
+use Rattle.dip_names.specs.declared.names.Terrain.{Terrain}
+use Rattle.dip_names.specs.declared.names.Terrain.TheVariants.{Inland, Coast, Sea}
+use Rattle.dip_names.specs.declared.names.Place.{Place}
+use Rattle.dip_names.specs.declared.names.Unit.{Unit as Piece}
+use Rattle.dip_board.specs.declared.boards.Dislodged.{Dislodged}
+use Rattle.dip_board.specs.declared.boards.Season.{Season}
+use Rattle.dip_board.specs.declared.boards.Season.TheVariants.{SpringMoves, SpringRetreats, FallMoves, FallRetreats, Winter}
+use Rattle.dip_chart.specs.Charts.{Chart, province, shore, fleet_next, home, is_army_next, prov_of, coast_of}
+use Rattle.dip_board.specs.Boards.{Position}
 use Rattle.dip_forms.specs.declared.drafts.Spot.{Spot}
 use Rattle.dip_forms.specs.declared.drafts.Draft.{Draft}
 use Rattle.dip_forms.specs.declared.drafts.Draft.TheVariants.{Hold, Move, SupportHold, SupportMove, Convoy, Retreat, Disband, Build, Remove}
-use Rattle.dip_orders.specs.Allowances.{is_vacant, owns}
+use Rattle.dip_board.specs.Boards.{is_vacant, owns}
 use Rattle.dip_orders.specs.declared.placed.Order.{Order}
 use Rattle.dip_orders.specs.declared.placed.Order.TheVariants.{Hold as Holds, Move as Moves, SupportHold as SupportsHold, SupportMove as SupportsMove, Convoy as Convoys, Retreat as Retreats, Disband as Disbands, Build as Builds, Remove as Removes}
 use Rattle.dip_orders.specs.declared.placed.PlacedOrder.{PlacedOrder}
@@ -57,25 +58,6 @@ is_in_phase (Retreat u to) s = is_retreat s
 is_in_phase (Disband u) s = is_retreat s
 is_in_phase (Build u) s = is_adjustment s
 is_in_phase (Remove u) s = is_adjustment s
-
--- whether two kinds are one
-abbrev pub is_kind : Kind → Kind → Bool
-is_kind Army Army = true
-is_kind Army Fleet = false
-is_kind Fleet Army = false
-is_kind Fleet Fleet = true
-
--- whether a terrain is a coast
-abbrev pub is_coastal : Terrain → Bool
-is_coastal Inland = false
-is_coastal Coast = true
-is_coastal Sea = false
-
--- whether a terrain is the open sea
-abbrev pub is_at_sea : Terrain → Bool
-is_at_sea Inland = false
-is_at_sea Coast = false
-is_at_sea Sea = true
 
 -- the code is on the map
 abbrev pub is_on_map : Chart → Spot → Bool

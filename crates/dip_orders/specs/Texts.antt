@@ -1,13 +1,14 @@
+-- The one text of an order.
 use Rattle.std.specs.Prelude.{◌≡◌, ℕ, Bool, List, [], ◌∷◌, ◌++◌, codes, if◌then◌else◌}
-use Rattle.dip_parts.specs.declared.names.Kind.{Kind}
-use Rattle.dip_parts.specs.declared.names.Kind.TheVariants.{Army, Fleet}
-use Rattle.dip_parts.specs.declared.names.Place.{Place}
-use Rattle.dip_parts.specs.declared.names.Unit.{Unit}
+use Rattle.dip_names.specs.declared.names.Kind.{Kind}
+use Rattle.dip_names.specs.declared.names.Kind.TheVariants.{Army, Fleet}
+use Rattle.dip_names.specs.declared.names.Place.{Place}
+use Rattle.dip_names.specs.declared.names.Unit.{Unit}
 use Rattle.dip_orders.specs.declared.placed.Other.{Other}
 use Rattle.dip_orders.specs.declared.placed.Order.{Order}
 use Rattle.dip_orders.specs.declared.placed.Order.TheVariants.{Hold, Move, SupportHold, SupportMove, Convoy, Retreat, Disband, Build, Remove}
 use Rattle.dip_orders.specs.declared.placed.PlacedOrder.{PlacedOrder}
-use Rattle.dip_parts.specs.Charts.{Chart, province, shore}
+use Rattle.dip_chart.specs.Charts.{Chart, province, shore}
 
 -- a coast's name behind a slash, nothing where there is none
 abbrev pub behind_slash : List ℕ → List ℕ

@@ -1,88 +1,19 @@
+//! What a power may build or has to remove in Winter.
 ghost use Rattle.std.specs.Prelude.{◌≡◌, ◌==◌, ◌<◌, ◌^◌, count_by};
-ghost use Rattle.dip_map.specs.Boards.{IsOf};
-ghost use Rattle.dip_orders.specs.Allowances.{is_power, owns, is_left, is_vacant, centres_owned, units_counted, vacant_homes, builds_due, removals_due, allowance};
+ghost use Rattle.dip_board.specs.Boards.{IsOf};
+ghost use Rattle.dip_orders.specs.Allowances.{vacant_homes, builds_due, removals_due, allowance};
+ghost use Rattle.dip_board.specs.Boards.{is_power, owns, is_left, is_vacant, centres_owned, units_counted};
 
-use crate::retreating::is_held;
-use dip_map::{Board, Map, Power, Prov};
-
-fn is_power(power: Power, owner: Option<Power>) -> bool
-    ensures { result ≡ is_power power owner }
-{
-    match owner {
-        Some(owner) => owner == power,
-        None => false,
-    }
-}
-
-pub(crate) fn owns(board: &Board, power: Power, prov: Prov) -> bool
-    ensures { result ≡ owns board.now power prov }
-{
-    match board.owners().get(prov.index() as usize) {
-        Some(owner) => is_power(power, *owner),
-        None => false,
-    }
-}
-
-fn is_left(board: &Board, prov: Prov) -> bool
-    ensures { result ≡ is_left board.now prov }
-{
-    board
-        .dislodged()
-        .iter()
-        .any(|dislodged| dislodged.unit.place.prov == prov)
-}
-
-pub(crate) fn is_vacant(board: &Board, prov: Prov) -> bool
-    ensures { result ≡ is_vacant board.now prov }
-{
-    !is_held(board, prov) && !is_left(board, prov)
-}
-
-/// How many centres a power owns.
-pub fn centres_owned(board: &Board, power: Power) -> usize
-    ensures { result ≡ centres_owned board.now power }
-{
-    board
-        .owners()
-        .iter()
-        .filter(|owner| is_power(power, **owner))
-        .count()
-}
-
-fn standing_counted(board: &Board, power: Power) -> usize
-    ensures value { result ≡ count_by (λ u. u.power == power) board.now.units }
-    ensures bound { result < 2 ^ 63 }
-{
-    board
-        .units()
-        .iter()
-        .filter(|unit| unit.power == power)
-        .count()
-}
-
-fn dislodged_counted(board: &Board, power: Power) -> usize
-    ensures value { result ≡ count_by (λ d. d.unit.power == power) board.now.dislodged }
-    ensures bound { result < 2 ^ 63 }
-{
-    board
-        .dislodged()
-        .iter()
-        .filter(|dislodged| dislodged.unit.power == power)
-        .count()
-}
-
-fn units_counted(board: &Board, power: Power) -> usize
-    ensures { result ≡ units_counted board.now power }
-{
-    standing_counted(board, power) + dislodged_counted(board, power)
-}
+use dip_board::Board;
+use dip_map::Map;
+use dip_names::{Power, Prov};
 
 fn vacant_homes(map: &Map, board: &Board, power: Power) -> usize
     ensures { result ≡ vacant_homes map.now board.now power }
 {
     map.home(power)
         .iter()
-        .filter(|prov| owns(board, power, **prov) && is_vacant(board, **prov))
+        .filter(|prov| board.owns(power, **prov) && board.is_vacant(**prov))
         .count()
 }
 
@@ -90,8 +21,8 @@ fn vacant_homes(map: &Map, board: &Board, power: Power) -> usize
 pub fn builds_due(map: &Map, board: &Board, power: Power) -> usize
     ensures { result ≡ builds_due map.now board.now power }
 {
-    let centres = centres_owned(board, power);
-    let units = units_counted(board, power);
+    let centres = board.centres_owned(power);
+    let units = board.units_counted(power);
     centres
         .saturating_sub(units)
         .min(vacant_homes(map, board, power))
@@ -101,8 +32,8 @@ pub fn builds_due(map: &Map, board: &Board, power: Power) -> usize
 pub fn removals_due(board: &Board, power: Power) -> usize
     ensures { result ≡ removals_due board.now power }
 {
-    let centres = centres_owned(board, power);
-    let units = units_counted(board, power);
+    let centres = board.centres_owned(power);
+    let units = board.units_counted(power);
     units.saturating_sub(centres)
 }
 

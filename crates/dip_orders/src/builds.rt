@@ -1,32 +1,27 @@
 //! Orders of the Winter: builds and removals.
 ghost use Rattle.std.specs.Prelude.{◌≡◌, ◌==◌, ◌&&◌, not, count_by};
 ghost use Rattle.std.specs.List.{list_any};
-ghost use Rattle.dip_parts.specs.Charts.{home};
+ghost use Rattle.dip_chart.specs.Charts.{home};
 ghost use Rattle.dip_orders.specs.Steps.{site_at, build_order, remove_order};
 ghost use Rattle.dip_orders.specs.Tests.{may_build, is_build, is_remove, builds_elsewhere, removals_elsewhere};
 
-use crate::allowances::{builds_due, is_vacant, owns, removals_due};
+use crate::allowances::{builds_due, removals_due};
 use crate::faults::OrderFault;
-use crate::moves::is_coastal;
 use crate::placed::{Order, PlacedOrder};
-use crate::units::{checked_unit, is_kind, prov_of, unit_at};
+use crate::units::{checked_unit, prov_of, unit_at};
+use dip_board::Board;
 use dip_forms::Mention;
-use dip_map::{Board, Kind, Map, Place, Power, Prov, Unit};
-
-fn is_home(map: &Map, power: Power, p: Prov) -> bool
-    ensures { result ≡ list_any (λ x. x == p) (home map.now power) }
-{
-    map.home(power).contains(&p)
-}
+use dip_map::Map;
+use dip_names::{Kind, Place, Power, Prov, Unit};
 
 /// Whether a unit of a kind may be built there.
 fn may_build(map: &Map, board: &Board, power: Power, kind: Kind, p: Prov) -> bool
     ensures { result ≡ may_build map.now board.now power kind p }
 {
-    is_home(map, power, p)
-        && owns(board, power, p)
-        && is_vacant(board, p)
-        && (is_kind(kind, Kind::Army) || is_coastal(map, p))
+    map.is_home(power, p)
+        && board.owns(power, p)
+        && board.is_vacant(p)
+        && (kind.is(Kind::Army) || map.terrain(p).is_coastal())
 }
 
 /// Where in a province a unit is built.

@@ -1,3 +1,4 @@
+//! Why an order line is refused.
 ghost use Rattle.std.specs.Prelude.{◌≡◌};
 ghost use Rattle.dip_orders.specs.Faults.{fault_number, fault_words};
 

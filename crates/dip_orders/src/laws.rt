@@ -1,7 +1,7 @@
 //! Laws of orders, each the contract of a function that does nothing.
 ghost use Rattle.std.specs.Prelude.{◌≡◌, List, [], ℕ, Ok};
-ghost use Rattle.dip_map.specs.Boards.{IsOf, Position};
-ghost use Rattle.dip_parts.specs.Charts.{Chart, IsMap};
+ghost use Rattle.dip_board.specs.Boards.{IsOf, Position};
+ghost use Rattle.dip_chart.specs.Charts.{Chart, IsMap};
 ghost use Rattle.dip_orders.specs.Lawful.{IsLawful};
 ghost use Rattle.dip_orders.specs.Reading.{order_of};
 ghost use Rattle.dip_orders.specs.Texts.{order_text};

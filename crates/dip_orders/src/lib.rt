@@ -16,7 +16,7 @@ mod supports;
 mod units;
 mod withdrawals;
 
-pub use allowances::{allowance, builds_due, centres_owned, removals_due};
+pub use allowances::{allowance, builds_due, removals_due};
 pub use builds::{is_build, is_remove};
 pub use dip_forms::{TokenList, tokens};
 pub use faults::OrderFault;

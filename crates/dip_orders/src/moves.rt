@@ -1,30 +1,23 @@
 //! Where a unit may go, and hold and move orders.
 ghost use Rattle.std.specs.Prelude.{◌≡◌, ◌==◌, ◌&&◌};
 ghost use Rattle.std.specs.Str.{bytes_eq};
-ghost use Rattle.dip_parts.specs.Charts.{province, shore};
+ghost use Rattle.dip_chart.specs.Charts.{province, shore};
 ghost use Rattle.dip_orders.specs.Steps.{march_to, coast_to, sail_to, go_to, hold_order, move_order};
-ghost use Rattle.dip_orders.specs.Tests.{is_coastal, may_convoy, may_march, first_in, count_in, named_in, could_move, could_come};
+ghost use Rattle.dip_orders.specs.Tests.{may_convoy, may_march, first_in, count_in, named_in, could_move, could_come};
 
 use crate::faults::OrderFault;
 use crate::placed::{Order, PlacedOrder};
-use crate::units::{checked_unit, is_kind, prov_of, unit_at};
+use crate::units::{checked_unit, prov_of, unit_at};
+use dip_board::Board;
 use dip_forms::{Mention, Spot};
-use dip_map::{Board, Kind, Map, Place, Power, Prov, Terrain, Unit};
-
-pub(crate) fn is_coastal(map: &Map, p: Prov) -> bool
-    ensures { result ≡ is_coastal (province map.now p).terrain }
-{
-    match map.kind(p) {
-        Terrain::Coast => true,
-        Terrain::Inland | Terrain::Sea => false,
-    }
-}
+use dip_map::Map;
+use dip_names::{Kind, Place, Power, Prov, Unit};
 
 /// Whether a convoy may lead from p to q.
 pub(crate) fn may_convoy(map: &Map, p: Prov, q: Prov) -> bool
     ensures { result ≡ may_convoy map.now p q }
 {
-    is_coastal(map, p) && is_coastal(map, q) && p != q
+    map.terrain(p).is_coastal() && map.terrain(q).is_coastal() && p != q
 }
 
 /// Whether an army may march from p to q, on foot or by convoy.
@@ -167,8 +160,7 @@ pub(crate) fn could_move(map: &Map, unit: &Unit, q: Prov) -> bool
 pub(crate) fn could_come(map: &Map, unit: &Unit, q: Prov) -> bool
     ensures { result ≡ could_come map.now unit.now q }
 {
-    could_move(map, unit, q)
-        || is_kind(unit.kind, Kind::Army) && may_convoy(map, unit.place.prov, q)
+    could_move(map, unit, q) || unit.kind.is(Kind::Army) && may_convoy(map, unit.place.prov, q)
 }
 
 pub(crate) fn hold_of(

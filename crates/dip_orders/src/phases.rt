@@ -1,8 +1,9 @@
+//! Which orders belong to which phases.
 ghost use Rattle.std.specs.Prelude.{◌≡◌};
 ghost use Rattle.dip_orders.specs.Tests.{is_movement, is_retreat, is_adjustment, is_in_phase};
 
+use dip_board::Season;
 use dip_forms::Draft;
-use dip_map::Season;
 
 fn is_movement(season: Season) -> bool
     ensures { result ≡ is_movement season }

@@ -1,4 +1,5 @@
-use dip_map::{Kind, Place, Prov, Unit};
+//! Orders, and the units that they are given to.
+use dip_names::{Kind, Place, Prov, Unit};
 
 /// The other unit that a support or a convoy names: its kind and its province.
 #[derive(Clone, Copy, PartialEq, Eq, Debug)]

@@ -1,3 +1,4 @@
+//! An order line read on a board, or its first fault.
 ghost use Rattle.std.specs.Prelude.{◌≡◌};
 ghost use Rattle.dip_orders.specs.Reading.{order_of};
 ghost use Rattle.dip_orders.specs.Rules.{IsReading};
@@ -10,8 +11,10 @@ use crate::phases::is_in_phase;
 use crate::placed::PlacedOrder;
 use crate::supports::{convoy_of, support_hold_of, support_move_of};
 use crate::withdrawals::{disband_of, retreat_of};
+use dip_board::{Board, Phase};
 use dip_forms::{Draft, draft_of_line};
-use dip_map::{Board, Map, Phase, Power};
+use dip_map::Map;
+use dip_names::Power;
 
 fn placed_of(
     map: &Map,

@@ -1,16 +1,14 @@
+//! Where a dislodged unit may retreat.
 ghost use Rattle.std.specs.Prelude.{◌≡◌, ◌↔◌, IsTrue, IfOk, true};
-ghost use Rattle.dip_parts.specs.Charts.{are_places_single};
-ghost use Rattle.dip_parts.specs.declared.names.Place.{Place as APlace};
-ghost use Rattle.dip_orders.specs.Retreats.{on_foot, next_places, is_held, is_origin, is_open, retreats_of, is_place_among, MayRetreat};
+ghost use Rattle.dip_chart.specs.Charts.{are_places_single};
+ghost use Rattle.dip_names.specs.declared.names.Place.{Place as APlace};
+ghost use Rattle.dip_orders.specs.Retreats.{on_foot, next_places, is_origin, is_open, retreats_of, is_place_among, MayRetreat};
+ghost use Rattle.dip_board.specs.Boards.{is_held};
 
-use dip_map::{Board, Dislodged, Kind, Map, Place, Prov};
+use dip_board::{Board, Dislodged};
+use dip_map::Map;
+use dip_names::{Kind, Place, Prov};
 use std::alloc::{AllocError, Global};
-
-pub(crate) fn is_held(board: &Board, prov: Prov) -> bool
-    ensures { result ≡ is_held board.now prov }
-{
-    board.units().iter().any(|unit| unit.place.prov == prov)
-}
 
 fn is_origin(origin: Option<Prov>, prov: Prov) -> bool
     ensures { result ≡ is_origin origin prov }
@@ -25,7 +23,7 @@ fn is_origin(origin: Option<Prov>, prov: Prov) -> bool
 pub(crate) fn is_open(board: &Board, origin: Option<Prov>, prov: Prov) -> bool
     ensures { result ≡ is_open board.now origin prov }
 {
-    !is_held(board, prov) && !is_origin(origin, prov) && !board.standoff().contains(&prov)
+    !board.is_held(prov) && !is_origin(origin, prov) && !board.standoff().contains(&prov)
 }
 
 /// The places of an army in these provinces.

@@ -3,8 +3,8 @@ ghost use Rattle.std.specs.Prelude.{◌≡◌, IfOk, map, true, find};
 ghost use Rattle.dip_orders.specs.Standing.{is_done_from, is_in_force, are_in_force, is_same_unit, found_order, order_among, standing_orders};
 
 use crate::placed::{Order, PlacedOrder};
-use crate::units::is_kind;
-use dip_map::{Board, Prov, Unit};
+use dip_board::Board;
+use dip_names::{Prov, Unit};
 use std::alloc::{AllocError, Global};
 use std::marker::Model;
 
@@ -84,7 +84,7 @@ pub fn is_same_unit(unit: &Unit, other: &Unit) -> bool
     ensures { result ≡ is_same_unit unit.now other.now }
 {
     unit.power == other.power
-        && is_kind(unit.kind, other.kind)
+        && unit.kind.is(other.kind)
         && unit.place.prov == other.place.prov
         && unit.place.coast == other.place.coast
 }

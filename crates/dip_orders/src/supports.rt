@@ -1,16 +1,17 @@
 //! Supports and convoys.
 ghost use Rattle.std.specs.Prelude.{◌≡◌};
-ghost use Rattle.dip_parts.specs.Charts.{province};
+ghost use Rattle.dip_chart.specs.Charts.{province};
 ghost use Rattle.dip_orders.specs.Rules.{is_supportable};
 ghost use Rattle.dip_orders.specs.Steps.{carrier, convoy_order, support_hold_order, support_move_order};
-ghost use Rattle.dip_orders.specs.Tests.{is_at_sea};
 
 use crate::faults::OrderFault;
 use crate::moves::{could_come, could_move, may_convoy};
 use crate::placed::{Order, Other, PlacedOrder};
-use crate::units::{checked_other, checked_unit, has_coast, is_kind, prov_of, unit_at};
+use crate::units::{checked_other, checked_unit, has_coast, prov_of, unit_at};
+use dip_board::Board;
 use dip_forms::{Mention, Spot};
-use dip_map::{Board, Kind, Map, Power, Prov, Terrain, Unit};
+use dip_map::Map;
+use dip_names::{Kind, Power, Prov, Unit};
 
 pub(crate) fn support_hold_of(
     map: &Map,
@@ -73,23 +74,14 @@ pub(crate) fn support_move_of(
     })
 }
 
-fn is_at_sea(map: &Map, p: Prov) -> bool
-    ensures { result ≡ is_at_sea (province map.now p).terrain }
-{
-    match map.kind(p) {
-        Terrain::Sea => true,
-        Terrain::Inland | Terrain::Coast => false,
-    }
-}
-
 /// The fleet of a convoy: a fleet at sea.
 fn carrier(map: &Map, unit: &Unit) -> Result<Unit, OrderFault>
     ensures { result ≡ carrier map.now unit.now }
 {
-    if !is_kind(unit.kind, Kind::Fleet) {
+    if !unit.kind.is(Kind::Fleet) {
         return Err(OrderFault::WrongKind);
     }
-    if !is_at_sea(map, unit.place.prov) {
+    if !map.terrain(unit.place.prov).is_sea() {
         return Err(OrderFault::NoConvoyThere);
     }
     Ok(*unit)

@@ -1,20 +1,14 @@
 //! The units that a line names, as they stand on the board.
 ghost use Rattle.std.specs.Prelude.{◌≡◌, ◌==◌, ◌&&◌, find, Some};
 ghost use Rattle.dip_orders.specs.Steps.{prov_at, checked_unit, checked_dislodged, checked_other};
-ghost use Rattle.dip_orders.specs.Tests.{is_kind, unit_at, dislodged_at, other_at, knows_coast};
+ghost use Rattle.dip_orders.specs.Tests.{unit_at, dislodged_at, other_at, knows_coast};
+ghost use Rattle.dip_names.specs.Kinds.{is_kind};
 
 use crate::faults::OrderFault;
+use dip_board::{Board, Dislodged};
 use dip_forms::{Mention, Spot};
-use dip_map::{Board, Dislodged, Kind, Map, Power, Prov, Unit};
-
-pub(crate) fn is_kind(kind: Kind, other: Kind) -> bool
-    ensures { result ≡ is_kind kind other }
-{
-    match (kind, other) {
-        (Kind::Army, Kind::Army) | (Kind::Fleet, Kind::Fleet) => true,
-        (Kind::Army, Kind::Fleet) | (Kind::Fleet, Kind::Army) => false,
-    }
-}
+use dip_map::Map;
+use dip_names::{Kind, Power, Prov, Unit};
 
 pub(crate) fn prov_of(map: &Map, spot: Spot) -> Result<Prov, OrderFault>
     ensures { result ≡ prov_at map.now spot }
@@ -54,7 +48,7 @@ fn other_at(board: &Board, kind: Kind, prov: Prov) -> Option<Unit>
     ensures { result ≡ other_at board.now kind prov }
 {
     for unit in board.units() {
-        if is_kind(unit.kind, kind) && unit.place.prov == prov {
+        if unit.kind.is(kind) && unit.place.prov == prov {
             return Some(*unit);
         }
     }
@@ -81,7 +75,7 @@ pub(crate) fn checked_unit(
 {
     match found {
         Some(unit) => {
-            if !is_kind(unit.kind, mention.kind) {
+            if !unit.kind.is(mention.kind) {
                 return Err(OrderFault::WrongKind);
             }
             if !has_coast(map, prov, mention.at.coast) {

@@ -1,18 +1,18 @@
 -- The printed texts: each is a function of its record. Every line ends with LF.
 use Rattle.std.specs.Prelude.{ℕ, Bool, true, false, List, [], ◌∷◌, ◌++◌, ◌==◌, ◌+◌, codes, if◌then◌else◌, map, filter, flat_map, length, Option, None, Some, slice_index_or}
 use Rattle.std.specs.Fmt.{decimal}
-use Rattle.dip_map.specs.declared.boards.Phase.{Phase}
-use Rattle.dip_map.specs.Boards.{Position}
-use Rattle.dip_map.specs.declared.boards.Season.{Season}
-use Rattle.dip_map.specs.declared.boards.Season.TheVariants.{SpringMoves, SpringRetreats, FallMoves, FallRetreats, Winter}
+use Rattle.dip_board.specs.declared.boards.Phase.{Phase}
+use Rattle.dip_board.specs.Boards.{Position}
+use Rattle.dip_board.specs.declared.boards.Season.{Season}
+use Rattle.dip_board.specs.declared.boards.Season.TheVariants.{SpringMoves, SpringRetreats, FallMoves, FallRetreats, Winter}
 use Rattle.dip_reports.specs.declared.records.Status.{Status}
 use Rattle.dip_reports.specs.declared.records.Status.TheVariants.{Running}
 use Rattle.dip_reports.specs.declared.refusals.Refusal.{Refusal}
 use Rattle.dip_reports.specs.declared.refusals.Refusal.TheVariants.{Malformed, Unknown, Stale, NumberUsed, TooLong, WrongSender, NameTaken}
 use Rattle.dip_reports.specs.Records.{Public, Own, Head, Reply}
-use Rattle.dip_parts.specs.Charts.{Chart, province, realm}
+use Rattle.dip_chart.specs.Charts.{Chart, province, realm}
 use Rattle.dip_orders.specs.Texts.{unit_text}
-use Rattle.dip_parts.specs.declared.names.Unit.{Unit}
+use Rattle.dip_names.specs.declared.names.Unit.{Unit}
 use Rattle.dip_reports.specs.declared.board_lines.Force.{Force}
 
 -- `S1901M` and so on: the season, the year, and M for movement, R for retreats, A for adjustment

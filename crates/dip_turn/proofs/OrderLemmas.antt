@@ -2,9 +2,9 @@
 use Rattle.std.proofs.Common.{◌≡◌, ℕ, Bool, true, false, List, [], ◌∷◌, Option, Some, None, refl, ap, ◌∙◌, sym}
 use Rattle.std.specs.Prelude.{◌||◌, ◌&&◌}
 use Rattle.std.specs.List.{list_any}
-use Rattle.dip_parts.specs.declared.names.Kind.TheVariants.{Fleet}
-use Rattle.dip_parts.specs.Charts.{Chart, province}
-use Rattle.dip_orders.specs.Tests.{is_kind, is_at_sea}
+use Rattle.dip_names.specs.declared.names.Kind.TheVariants.{Fleet}
+use Rattle.dip_chart.specs.Charts.{Chart, province}
+use Rattle.dip_names.specs.Kinds.{is_kind, is_sea}
 use Rattle.dip_orders.specs.declared.placed.PlacedOrder.{PlacedOrder}
 use Rattle.dip_decide.specs.Matching.{is_matched, is_carried, order_at, provinces_of, situation, supports_in, convoys_in}
 use Rattle.dip_decide.specs.Movement.{is_support}
@@ -36,12 +36,12 @@ unsupported m orders h is =
 
 -- the convoy of a fleet in a sea matches where it is for one of the units
 convoyed : (m : Chart) (orders : List PlacedOrder) (x : ℕ) (o : PlacedOrder) → order_at orders x ≡ Some o
-    → ((is_kind o.unit.kind Fleet && is_at_sea (province m o.unit.place.prov).terrain) && list_any (λ w. is_carried m (order_at orders) o.order w.unit.place.prov) orders)
+    → ((is_kind o.unit.kind Fleet && is_sea (province m o.unit.place.prov).terrain) && list_any (λ w. is_carried m (order_at orders) o.order w.unit.place.prov) orders)
     ≡ is_convoy (situation m orders) x
 convoyed m orders x o is =
-    let sails : Bool = is_kind o.unit.kind Fleet && is_at_sea (province m o.unit.place.prov).terrain in
+    let sails : Bool = is_kind o.unit.kind Fleet && is_sea (province m o.unit.place.prov).terrain in
     ap (λ (b : Bool). sails && b) (any_province (is_carried m (order_at orders) o.order) orders)
-    ∙ sym (any_both (is_kind o.unit.kind Fleet) (is_at_sea (province m o.unit.place.prov).terrain) (is_carried m (order_at orders) o.order) (provinces_of orders))
+    ∙ sym (any_both (is_kind o.unit.kind Fleet) (is_sea (province m o.unit.place.prov).terrain) (is_carried m (order_at orders) o.order) (provinces_of orders))
     ∙ sym (ap (λ (w : Option PlacedOrder). list_any (λ p. convoys_in m (order_at orders) w p) (provinces_of orders)) is)
 
 and_true : (s b : Bool) → s ≡ true → b ≡ (s && b)
@@ -53,17 +53,17 @@ and_false true b is = absurd (cc)
 and_false false b is = refl
 
 pub convoyed_at_sea : (m : Chart) (orders : List PlacedOrder) (x : ℕ) (o : PlacedOrder) → order_at orders x ≡ Some o
-    → (is_kind o.unit.kind Fleet && is_at_sea (province m o.unit.place.prov).terrain) ≡ true
+    → (is_kind o.unit.kind Fleet && is_sea (province m o.unit.place.prov).terrain) ≡ true
     → list_any (λ w. is_carried m (order_at orders) o.order w.unit.place.prov) orders ≡ is_convoy (situation m orders) x
 convoyed_at_sea m orders x o is sails =
-    and_true (is_kind o.unit.kind Fleet && is_at_sea (province m o.unit.place.prov).terrain) (list_any (λ w. is_carried m (order_at orders) o.order w.unit.place.prov) orders) sails
+    and_true (is_kind o.unit.kind Fleet && is_sea (province m o.unit.place.prov).terrain) (list_any (λ w. is_carried m (order_at orders) o.order w.unit.place.prov) orders) sails
     ∙ convoyed m orders x o is
 
 pub convoyed_elsewhere : (m : Chart) (orders : List PlacedOrder) (x : ℕ) (o : PlacedOrder) → order_at orders x ≡ Some o
-    → (is_kind o.unit.kind Fleet && is_at_sea (province m o.unit.place.prov).terrain) ≡ false
-    → (is_kind o.unit.kind Fleet && is_at_sea (province m o.unit.place.prov).terrain) ≡ is_convoy (situation m orders) x
+    → (is_kind o.unit.kind Fleet && is_sea (province m o.unit.place.prov).terrain) ≡ false
+    → (is_kind o.unit.kind Fleet && is_sea (province m o.unit.place.prov).terrain) ≡ is_convoy (situation m orders) x
 convoyed_elsewhere m orders x o is stays =
-    and_false (is_kind o.unit.kind Fleet && is_at_sea (province m o.unit.place.prov).terrain) (list_any (λ w. is_carried m (order_at orders) o.order w.unit.place.prov) orders) stays
+    and_false (is_kind o.unit.kind Fleet && is_sea (province m o.unit.place.prov).terrain) (list_any (λ w. is_carried m (order_at orders) o.order w.unit.place.prov) orders) stays
     ∙ convoyed m orders x o is
 
 pub unconvoyed : (m : Chart) (orders : List PlacedOrder) (x : ℕ) → order_at orders x ≡ None → false ≡ is_convoy (situation m orders) x

@@ -1,10 +1,9 @@
 -- Centres: who owns them after Fall, and who has won.
 use Rattle.std.specs.Prelude.{ℕ, ◌+◌, ◌*◌, ◌==◌, nat_lt, Bool, true, false, List, [], ◌∷◌, find, Option, None, Some, option_map, count_by, if◌then◌else◌}
 use Rattle.std.specs.List.{filter_map}
-use Rattle.dip_parts.specs.declared.names.Unit.{Unit as Piece}
-use Rattle.dip_parts.specs.Charts.{Chart, is_centre}
-use Rattle.dip_map.specs.Boards.{Position}
-use Rattle.dip_orders.specs.Allowances.{owner, centres_owned}
+use Rattle.dip_names.specs.declared.names.Unit.{Unit as Piece}
+use Rattle.dip_chart.specs.Charts.{Chart, is_centre}
+use Rattle.dip_board.specs.Boards.{Position, owner, centres_owned}
 use Rattle.dip_turn.specs.Indices.{indices}
 use Rattle.dip_turn.specs.declared.report.CentreLine.{CentreLine}
 

@@ -1,10 +1,10 @@
 -- The distance of a unit to the home centres of a power, as a function.
 use Rattle.std.specs.Prelude.{ℕ, ◌+◌, ◌&&◌, Bool, List, zero, suc, if◌then◌else◌}
 use Rattle.std.specs.List.{list_any}
-use Rattle.dip_parts.specs.declared.names.Kind.{Kind}
-use Rattle.dip_parts.specs.declared.names.Kind.TheVariants.{Army, Fleet}
-use Rattle.dip_parts.specs.declared.names.Place.{Place}
-use Rattle.dip_parts.specs.Charts.{Chart, fleet_next, is_fleet_place}
+use Rattle.dip_names.specs.declared.names.Kind.{Kind}
+use Rattle.dip_names.specs.declared.names.Kind.TheVariants.{Army, Fleet}
+use Rattle.dip_names.specs.declared.names.Place.{Place}
+use Rattle.dip_chart.specs.Charts.{Chart, fleet_next, is_fleet_place}
 use Rattle.dip_distances.specs.Walks.{ways, is_home}
 
 -- n steps by neighbours of either kind lead from province p to a home centre of the power r

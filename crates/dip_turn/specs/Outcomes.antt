@@ -1,8 +1,8 @@
 -- What became of each order of a movement, and of its unit.
 use Rattle.std.specs.Prelude.{ℕ, Bool, List, map, not, if◌then◌else◌}
 use Rattle.std.specs.List.{list_any}
-use Rattle.dip_parts.specs.Charts.{Chart}
-use Rattle.dip_map.specs.Boards.{Position}
+use Rattle.dip_chart.specs.Charts.{Chart}
+use Rattle.dip_board.specs.Boards.{Position}
 use Rattle.dip_orders.specs.declared.placed.Order.{Order}
 use Rattle.dip_orders.specs.declared.placed.Order.TheVariants.{Hold, Move, SupportHold, SupportMove, Convoy, Retreat, Disband, Build, Remove}
 use Rattle.dip_orders.specs.declared.placed.PlacedOrder.{PlacedOrder}

@@ -1,9 +1,9 @@
 -- A phase, adjudicated: the board after it, and its report.
 use Rattle.std.specs.Prelude.{◌≡◌, List}
-use Rattle.dip_parts.specs.Charts.{Chart}
-use Rattle.dip_map.specs.declared.boards.Season.{Season}
-use Rattle.dip_map.specs.declared.boards.Season.TheVariants.{SpringMoves, SpringRetreats, FallMoves, FallRetreats, Winter}
-use Rattle.dip_map.specs.Boards.{Position}
+use Rattle.dip_chart.specs.Charts.{Chart}
+use Rattle.dip_board.specs.declared.boards.Season.{Season}
+use Rattle.dip_board.specs.declared.boards.Season.TheVariants.{SpringMoves, SpringRetreats, FallMoves, FallRetreats, Winter}
+use Rattle.dip_board.specs.Boards.{Position}
 use Rattle.dip_orders.specs.Standing.{standing_orders}
 use Rattle.dip_orders.specs.declared.placed.PlacedOrder.{PlacedOrder}
 use Rattle.dip_decide.specs.Matching.{situation}

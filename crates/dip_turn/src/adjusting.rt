@@ -8,7 +8,9 @@ ghost use Rattle.dip_turn.specs.Indices.{indices};
 
 use crate::disorder::in_disorder;
 use crate::report::Waiver;
-use dip_map::{Board, Map, Power, Unit};
+use dip_board::Board;
+use dip_map::Map;
+use dip_names::{Power, Unit};
 use dip_orders::{PlacedOrder, builds_due, is_build, is_remove, is_same_unit, removals_due};
 use std::alloc::{AllocError, Global};
 

@@ -1,12 +1,13 @@
 //! Centres: who owns them after Fall, and who has won.
 ghost use Rattle.std.specs.Prelude.{◌≡◌, ◌==◌, IfOk, None, find, count_by, length};
 ghost use Rattle.std.specs.List.{filter_map};
-ghost use Rattle.dip_orders.specs.Allowances.{owner};
+ghost use Rattle.dip_board.specs.Boards.{owner};
 ghost use Rattle.dip_turn.specs.Centres as c;
 
 use crate::report::CentreLine;
-use dip_map::{Board, Map, Power, Prov, Unit};
-use dip_orders::centres_owned;
+use dip_board::Board;
+use dip_map::Map;
+use dip_names::{Power, Prov, Unit};
 use std::alloc::{AllocError, Global};
 
 /// The unit that stands in a province.
@@ -77,7 +78,7 @@ fn centres(map: &Map) -> usize
 fn has_won(map: &Map, board: &Board, power: Power) -> bool
     ensures { result ≡ c.has_won map.now board.now power }
 {
-    let owned = centres_owned(board, power);
+    let owned = board.centres_owned(power);
     centres(map).saturating_sub(owned) < owned
 }
 
@@ -95,15 +96,6 @@ pub(crate) fn winner(map: &Map, board: &Board) -> Option<Power>
     None
 }
 
-fn owner(board: &Board, prov: Prov) -> Option<Power>
-    ensures { result ≡ owner board.now prov }
-{
-    match board.owners().get(prov.index() as usize) {
-        Some(owner) => *owner,
-        None => None,
-    }
-}
-
 fn is_same_owner(one: Option<Power>, other: Option<Power>) -> bool
     ensures { result ≡ c.is_same_owner one other }
 {
@@ -117,10 +109,10 @@ fn is_same_owner(one: Option<Power>, other: Option<Power>) -> bool
 fn centre_line(board: &Board, new: &Board, prov: Prov) -> Option<CentreLine>
     ensures { result ≡ c.centre_line board.now new.now prov }
 {
-    if is_same_owner(owner(board, prov), owner(new, prov)) {
+    if is_same_owner(board.owner(prov), new.owner(prov)) {
         return None;
     }
-    match owner(new, prov) {
+    match new.owner(prov) {
         Some(power) => Some(CentreLine { prov, power }),
         None => None,
     }

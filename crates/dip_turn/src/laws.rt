@@ -1,7 +1,7 @@
 //! Laws of the phases, each the contract of a function that does nothing.
 ghost use Rattle.std.specs.Prelude.{◌≡◌, ℕ, Bool, List, Some, false};
-ghost use Rattle.dip_map.specs.Boards.{Position};
-ghost use Rattle.dip_parts.specs.Charts.{Chart};
+ghost use Rattle.dip_board.specs.Boards.{Position};
+ghost use Rattle.dip_chart.specs.Charts.{Chart};
 ghost use Rattle.dip_orders.specs.declared.placed.PlacedOrder.{PlacedOrder as AnOrder};
 ghost use Rattle.dip_decide.specs.declared.decisions.Decision.{Decision as ADecision};
 ghost use Rattle.dip_decide.specs.Deciding.{Assignment};

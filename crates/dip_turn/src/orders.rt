@@ -1,24 +1,16 @@
 //! The orders of a movement: who goes where and how, and which supports and convoys match.
 ghost use Rattle.std.specs.Prelude.{◌≡◌, ◌==◌, ◌&&◌, Some, find, not, is_some};
 ghost use Rattle.std.specs.List.{list_any};
-ghost use Rattle.dip_orders.specs.Tests.{is_kind, is_at_sea};
-ghost use Rattle.dip_parts.specs.Charts.{province};
-ghost use Rattle.dip_parts.specs.declared.names.Kind.TheVariants.{Fleet};
+ghost use Rattle.dip_names.specs.Kinds.{is_kind, is_sea};
+ghost use Rattle.dip_chart.specs.Charts.{province};
+ghost use Rattle.dip_names.specs.declared.names.Kind.TheVariants.{Fleet};
 ghost use Rattle.dip_decide.specs.Matching.{destination, target_of, order_at, is_convoyed, is_there, is_matched, is_carried, situation};
 ghost use Rattle.dip_decide.specs.Movement.{is_at, is_listed, head_to_head, is_support};
 ghost use Rattle.dip_turn.specs.Outcomes.{is_convoy};
 
-use dip_map::{Kind, Map, Prov, Terrain};
+use dip_map::Map;
+use dip_names::{Kind, Prov};
 use dip_orders::{Order, Other, PlacedOrder};
-
-pub(crate) fn is_kind(kind: Kind, other: Kind) -> bool
-    ensures { result ≡ is_kind kind other }
-{
-    match (kind, other) {
-        (Kind::Army, Kind::Army) | (Kind::Fleet, Kind::Fleet) => true,
-        (Kind::Army, Kind::Fleet) | (Kind::Fleet, Kind::Army) => false,
-    }
-}
 
 pub(crate) fn destination(order: &Order) -> Option<Prov>
     ensures { result ≡ destination order.now }
@@ -99,7 +91,7 @@ fn is_there(orders: &[PlacedOrder], at: &Other, prov: Prov) -> bool
     ensures { result ≡ is_there at.now (order_at orders.now prov) }
 {
     match order_at(orders, prov) {
-        Some(placed) => is_kind(placed.unit.kind, at.kind),
+        Some(placed) => placed.unit.kind.is(at.kind),
         None => false,
     }
 }
@@ -153,20 +145,11 @@ fn is_carried(map: &Map, orders: &[PlacedOrder], order: &Order, prov: Prov) -> b
     }
 }
 
-fn is_at_sea(terrain: Terrain) -> bool
-    ensures { result ≡ is_at_sea terrain }
-{
-    match terrain {
-        Terrain::Sea => true,
-        Terrain::Inland | Terrain::Coast => false,
-    }
-}
-
 /// Whether a unit is a fleet in a sea.
 fn is_sailing(map: &Map, placed: &PlacedOrder) -> bool
-    ensures { result ≡ (is_kind placed.now.unit.kind Fleet && is_at_sea (province map.now placed.now.unit.place.prov).terrain) }
+    ensures { result ≡ (is_kind placed.now.unit.kind Fleet && is_sea (province map.now placed.now.unit.place.prov).terrain) }
 {
-    is_kind(placed.unit.kind, Kind::Fleet) && is_at_sea(map.kind(placed.unit.place.prov))
+    placed.unit.kind.is(Kind::Fleet) && map.terrain(placed.unit.place.prov).is_sea()
 }
 
 fn carries_any(map: &Map, orders: &[PlacedOrder], order: &Order) -> bool

@@ -10,7 +10,8 @@ use crate::orders::{is_convoy, is_listed, is_support};
 use crate::report::{Fate, MovementLine, Outcome};
 use crate::standoffs::has_path;
 use dip_decide::Resolution;
-use dip_map::{Board, Map};
+use dip_board::Board;
+use dip_map::Map;
 use dip_orders::{Order, PlacedOrder};
 use std::alloc::{AllocError, Global};
 

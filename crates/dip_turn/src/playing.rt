@@ -1,6 +1,6 @@
 //! A phase, adjudicated.
 ghost use Rattle.std.specs.Prelude.{◌≡◌, IfOk, IfErr, length};
-ghost use Rattle.dip_map.specs.Boards.{IsOf};
+ghost use Rattle.dip_board.specs.Boards.{IsOf};
 ghost use Rattle.dip_turn.specs.Phases as p;
 ghost use Rattle.dip_turn.specs.Reports.{IsMoved, IsAdjusted, LeavesMoved, LeavesRetreated, LeavesAdjusted, Leaves, IsPlayed};
 
@@ -12,7 +12,8 @@ use crate::phases::follow;
 use crate::report::{Account, Adjustment, Movement, Report};
 use crate::retreating::{after_retreats, retreat_lines};
 use dip_decide::resolve;
-use dip_map::{Board, Map, Season};
+use dip_board::{Board, Season};
+use dip_map::Map;
 use dip_orders::{Orders, PlacedOrder, each_unit_has_one_order};
 use std::alloc::{AllocError, Global};
 

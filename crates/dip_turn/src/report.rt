@@ -1,6 +1,7 @@
 //! What is told of a phase that was adjudicated.
 use dip_decide::Resolution;
-use dip_map::{Phase, Power, Prov, Unit};
+use dip_board::Phase;
+use dip_names::{Power, Prov, Unit};
 use dip_orders::{Orders, PlacedOrder};
 
 /// What became of an order in a movement.

@@ -1,3 +1,4 @@
+//! Small graphs and their distances.
 use crate::{distance_at, least_distances};
 use std::alloc::{AllocError, Global};
 use std::test::Fail;

@@ -5,7 +5,7 @@ use crate::map_file::FileFault;
 use crate::reading::ReadFault;
 use crate::run::RunFault;
 use dip_desk::KeepFault;
-use dip_map::MapFault;
+use dip_names::MapFault;
 use std::alloc::{AllocError, Global};
 use std::process::Abort;
 use std::test::Fail;

@@ -2,7 +2,9 @@
 use super::scenes::{Scene, board_of};
 use super::the_power;
 use crate::allowance;
-use dip_map::{Map, MapFault, STANDARD, Season};
+use dip_board::Season;
+use dip_map::{Map, STANDARD};
+use dip_names::MapFault;
 use std::alloc::{AllocError, Global};
 use std::process::Abort;
 use std::test::Fail;

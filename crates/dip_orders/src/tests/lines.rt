@@ -1,7 +1,9 @@
 //! Bytes, case and spaces of lines.
 use super::answers::{answer, check_opening};
 use super::{assert_count, assert_text};
-use dip_map::{Board, Map, MapFault, STANDARD};
+use dip_board::Board;
+use dip_map::{Map, STANDARD};
+use dip_names::MapFault;
 use std::alloc::{AllocError, Global};
 use std::process::Abort;
 use std::test::Fail;

@@ -2,7 +2,9 @@
 use super::answers::answer;
 use super::assert_count;
 use super::scenes::{Scene, board_of};
-use dip_map::{Board, Map, MapFault, STANDARD, Season};
+use dip_board::{Board, Season};
+use dip_map::{Map, STANDARD};
+use dip_names::MapFault;
 use std::alloc::{AllocError, Global};
 use std::process::Abort;
 use std::test::Fail;

@@ -2,7 +2,9 @@
 use super::assert_text;
 use super::scenes::{Scene, board_of};
 use crate::{print_unit, retreats};
-use dip_map::{Board, Dislodged, Map, MapFault, Place, STANDARD, Season, Unit};
+use dip_board::{Board, Dislodged, Season};
+use dip_map::{Map, STANDARD};
+use dip_names::{MapFault, Place, Unit};
 use std::alloc::{AllocError, Global};
 use std::process::Abort;
 use std::test::Fail;

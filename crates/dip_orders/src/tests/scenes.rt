@@ -1,6 +1,8 @@
 //! Boards for tests, from texts.
 use super::{the_place, the_power};
-use dip_map::{Board, Dislodged, Kind, Map, Phase, Place, Power, Prov, Season, Unit};
+use dip_board::{Board, Dislodged, Phase, Season};
+use dip_map::Map;
+use dip_names::{Kind, Place, Power, Prov, Unit};
 use std::alloc::{AllocError, Global};
 use std::process::Abort;
 

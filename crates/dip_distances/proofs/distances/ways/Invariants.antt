@@ -1,5 +1,5 @@
 use Rattle.std.proofs.Common.{◌≡◌, ◌++◌, map, drop, flat_map}
-use Rattle.dip_parts.specs.Charts.{province}
+use Rattle.dip_chart.specs.Charts.{province}
 use Rattle.dip_distances.specs.Walks.{ways}
 use Rattle.dip_distances.proofs.distances.ways.Given as goal
 

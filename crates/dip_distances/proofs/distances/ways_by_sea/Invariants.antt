@@ -1,5 +1,5 @@
 use Rattle.std.proofs.Common.{◌≡◌, map, take}
-use Rattle.dip_parts.specs.Charts.{fleet_next}
+use Rattle.dip_chart.specs.Charts.{fleet_next}
 use Rattle.dip_distances.specs.Distances.{vertex}
 use Rattle.dip_distances.proofs.distances.ways_by_sea.Given as goal
 

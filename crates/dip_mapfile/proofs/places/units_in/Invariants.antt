@@ -1,10 +1,10 @@
 use Rattle.std.proofs.Common.{◌≡◌, drop}
 use Rattle.toml.specs.View.{items_view}
 use Rattle.dip_mapfile.specs.Fields.{each_item}
-use Rattle.dip_mapfile.specs.Files.{standing_at}
+use Rattle.dip_mapfile.specs.Files.{unit_at}
 use Rattle.dip_mapfile.proofs.Front.{with_front}
 use Rattle.dip_mapfile.proofs.places.units_in.Given as goal
 
 abbrev pub invariant-loop-value : goal.invariant-loop-value
 invariant-loop-value l =
-    with_front l.units.items (each_item standing_at (items_view (drop l.value-index l.value-items))) ≡ each_item standing_at (items_view l.array.items)
+    with_front l.units.items (each_item unit_at (items_view (drop l.value-index l.value-items))) ≡ each_item unit_at (items_view l.array.items)

@@ -1,5 +1,5 @@
 use Rattle.std.proofs.Common.{◌≡◌, ◌==◌, ◌&&◌, drop, find}
-use Rattle.dip_orders.specs.Tests.{is_kind}
+use Rattle.dip_names.specs.Kinds.{is_kind}
 use Rattle.dip_orders.proofs.units.other_at.Given as goal
 
 abbrev pub invariant-loop-unit : goal.invariant-loop-unit

@@ -1,5 +1,5 @@
 use Rattle.std.proofs.Common.{arith, ◌≡◌, ◌∙◌, ap, sym}
-use Rattle.dip_parts.specs.Charts.{no_realm}
+use Rattle.dip_chart.specs.Charts.{no_realm}
 use Rattle.dip_turn.specs.Adjusting.{disorder_of}
 use Rattle.dip_turn.proofs.ListLemmas.{flat_step}
 use Rattle.dip_turn.proofs.adjusting.disorder.Goals as goal

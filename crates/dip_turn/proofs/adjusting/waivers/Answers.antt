@@ -1,5 +1,5 @@
 use Rattle.std.proofs.Common.{arith, ◌≡◌, Some, None, ap, sym, ◌∙◌}
-use Rattle.dip_parts.specs.Charts.{no_realm}
+use Rattle.dip_chart.specs.Charts.{no_realm}
 use Rattle.dip_turn.specs.Adjusting.{waiver}
 use Rattle.dip_turn.proofs.ListLemmas.{found_step, skipped_step}
 use Rattle.dip_turn.proofs.adjusting.waivers.Goals as goal

@@ -1,5 +1,5 @@
 use Rattle.std.proofs.Common.{arith, ◌≡◌, Some, None, ap, sym, ◌∙◌}
-use Rattle.dip_parts.specs.Charts.{no_province}
+use Rattle.dip_chart.specs.Charts.{no_province}
 use Rattle.dip_turn.specs.Centres.{centre_line}
 use Rattle.dip_turn.proofs.ListLemmas.{found_step, skipped_step}
 use Rattle.dip_turn.proofs.centres.centre_lines.Goals as goal

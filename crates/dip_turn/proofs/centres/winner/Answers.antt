@@ -1,5 +1,5 @@
 use Rattle.std.proofs.Common.{arith, ◌≡◌, ◌<◌, length, true, false, Some, ◌∙◌, sym, ap}
-use Rattle.dip_parts.specs.Charts.{no_realm}
+use Rattle.dip_chart.specs.Charts.{no_realm}
 use Rattle.dip_turn.specs.Centres.{has_won}
 use Rattle.dip_turn.proofs.ListLemmas.{find_here, find_step}
 use Rattle.dip_turn.proofs.centres.winner.Goals as goal

@@ -1,5 +1,5 @@
 use Rattle.std.proofs.Common.{arith}
-use Rattle.dip_parts.specs.Charts.{no_province}
+use Rattle.dip_chart.specs.Charts.{no_province}
 use Rattle.dip_turn.proofs.ListLemmas.{indices_step}
 use Rattle.dip_turn.proofs.standoffs.all_provinces.Goals as goal
 

@@ -1,0 +1,2 @@
+pub mod Boards
+pub use Rattle.dip_map.specs.Charts

@@ -1,0 +1,3 @@
+pub mod Charts
+pub mod Checks
+pub use Rattle.dip_names.specs.Forms

@@ -1,7 +1,0 @@
-use Rattle.std.proofs.Common.{◌≡◌, ℕ, ◌<◌, get_or, true}
-use Rattle.dip_parts.specs.Charts.{is_unit}
-use Rattle.dip_parts.specs.declared.names.Unit.{Unit as Piece}
-use Rattle.dip_map.proofs.boards.are_units_of.Given as goal
-
-abbrev pub invariant-loop-unit : goal.invariant-loop-unit
-invariant-loop-unit l = (k : ℕ) (d : Piece) → k < l.unit-index → is_unit l.map (get_or l.units k d) ≡ true

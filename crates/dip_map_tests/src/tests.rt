@@ -1,0 +1,140 @@
+//! The standard map and its opening.
+use dip_board::{Board, Season};
+use dip_map::{Map, STANDARD};
+use dip_names::{Kind, Place, Power, Prov, Terrain};
+use std::process::Abort;
+use std::test::Fail;
+
+mod boards;
+mod faults;
+mod lists;
+
+fn the_prov(rt: &impl Abort, map: &Map, code: &str) -> Prov {
+    map.prov(code.as_bytes()).expect(rt, "a code of the map")
+}
+
+#[test]
+fn coasts_are_found_as_they_are_spelled(rt: HostRuntime) -> Result<(), Fail> {
+    let map = Map::from_toml(rt.alloc(), STANDARD)?;
+    let rows = [
+        ("stp", "nc", Some(0), 2),
+        ("stp", "sc", Some(1), 2),
+        ("stp", "ec", None, 2),
+        ("kie", "", Some(0), 1),
+        ("mun", "", None, 0),
+    ];
+    for (code, name, coast, coasts) in rows {
+        let prov = the_prov(&rt, &map, code);
+        assert!(rt; map.coast(prov, name.as_bytes()) == coast);
+        assert!(rt; map.coasts(prov) == coasts);
+    }
+    Ok(())
+}
+
+#[test]
+fn names_are_found_as_they_are_spelled(rt: HostRuntime) -> Result<(), Fail> {
+    let map = Map::from_toml(rt.alloc(), STANDARD)?;
+    for code in ["xyz", "STP", "st"] {
+        assert!(rt; map.prov(code.as_bytes()).is_none());
+    }
+    for (name, power) in [("france", Some(Power::new(2))), ("spain", None)] {
+        assert!(rt; map.power(name) == power);
+    }
+    assert!(rt; map.power_name(Power::new(2)) == "france");
+    Ok(())
+}
+
+#[test]
+fn a_distance_is_to_the_nearest_home_centre(rt: HostRuntime) -> Result<(), Fail> {
+    let map = Map::from_toml(rt.alloc(), STANDARD)?;
+    let distances = [
+        (Kind::Army, "par", "", "england", 3),
+        (Kind::Fleet, "por", "", "austria", 6),
+        (Kind::Fleet, "stp", "nc", "russia", 0),
+    ];
+    for (kind, code, coast, name, steps) in distances {
+        let prov = the_prov(&rt, &map, code);
+        let coast = map.coast(prov, coast.as_bytes()).unwrap_or(0);
+        let power = map.power(name).expect(&rt, "a power");
+        let place = Place { prov, coast };
+        assert_eq!(rt; map.distance(kind, place, power), steps);
+    }
+    Ok(())
+}
+
+/// How many provinces of the board have an owner.
+fn owned(board: &Board) -> usize {
+    board
+        .owners()
+        .iter()
+        .filter(|owner| owner.is_some())
+        .count()
+}
+
+#[test]
+fn the_opening_is_a_board_of_its_map(rt: HostRuntime) -> Result<(), Fail> {
+    let alloc = rt.alloc();
+    let map = Map::from_toml(alloc, STANDARD)?;
+    let board = Board::opening(alloc, &map)?;
+    assert!(rt; board.is_of(&map));
+    let counts = [
+        (board.dislodged().len(), 0),
+        (board.standoff().len(), 0),
+        (board.owners().len(), 75),
+        (owned(&board), 22),
+    ];
+    for (count, expected) in counts {
+        assert!(rt; count == expected);
+    }
+    let phase = board.phase();
+    assert!(rt; phase.year == 1901 && phase.season == Season::SpringMoves);
+    Ok(())
+}
+
+#[test]
+fn a_copy_equals_its_board(rt: HostRuntime) -> Result<(), Fail> {
+    let alloc = rt.alloc();
+    let map = Map::from_toml(alloc, STANDARD)?;
+    let board = Board::opening(alloc, &map)?;
+    let copy = board.copy(alloc)?;
+    assert!(rt; copy.units() == board.units());
+    assert!(rt; copy.owners() == board.owners());
+    for unit in board.units() {
+        assert!(rt; map.home(unit.power).contains(&unit.place.prov));
+    }
+    Ok(())
+}
+
+/// Two provinces without neighbours, one of them a home centre.
+const TWO: &str = "name = \"two\"
+[powers.west]
+home = [\"ard\"]
+units = []
+[provinces.ard]
+name = \"Ard\"
+kind = \"coast\"
+centre = true
+army = []
+fleet = []
+[provinces.bay]
+name = \"Bay\"
+kind = \"coast\"
+army = []
+fleet = []
+";
+
+fn steps_from(map: &Map, kind: Kind, prov: Prov, power: Power) -> u16 {
+    map.distance(kind, Place { prov, coast: 0 }, power)
+}
+
+#[test]
+fn what_no_walk_leads_to_is_far(rt: HostRuntime) -> Result<(), Fail> {
+    let map = Map::from_toml(rt.alloc(), TWO)?;
+    let west = map.power("west").expect(&rt, "a power");
+    for (code, steps) in [("ard", 0), ("bay", 1000)] {
+        let prov = the_prov(&rt, &map, code);
+        assert_eq!(rt; steps_from(&map, Kind::Army, prov, west), steps);
+        assert_eq!(rt; steps_from(&map, Kind::Fleet, prov, west), steps);
+    }
+    Ok(())
+}

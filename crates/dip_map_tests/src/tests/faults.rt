@@ -1,0 +1,264 @@
+//! The faults of a map's file, each by a change of a text that has none.
+use dip_map::{Map, STANDARD};
+use dip_names::MapFault;
+use std::alloc::{AllocError, Global};
+use std::process::Abort;
+use std::test::Fail;
+
+/// The text with a part of it replaced.
+fn changed(
+    rt: &impl Abort,
+    alloc: Global,
+    text: &str,
+    old: &str,
+    new: &str,
+) -> Result<String, AllocError> {
+    let (front, back) = text.split_once(old).expect(rt, "the old part stands there");
+    let mut made = String::from_str(alloc, front)?;
+    made.push_str(new)?;
+    made.push_str(back)?;
+    Ok(made)
+}
+
+fn fault_of(alloc: Global, text: &str) -> Option<MapFault> {
+    match Map::from_toml(alloc, text) {
+        Ok(_) => None,
+        Err(fault) => Some(fault),
+    }
+}
+
+const NO_VIE: (&str, &str) = (
+    "[\"gal\", \"rum\", \"ser\", \"tri\", \"vie\"]",
+    "[\"gal\", \"rum\", \"ser\", \"tri\"]",
+);
+
+const HOME_GAL: (&str, &str) = (
+    "home = [\"bud\", \"tri\", \"vie\"]",
+    "home = [\"bud\", \"tri\", \"gal\"]",
+);
+
+const TWO_VIENNAS: (&str, &str) = ("\"Budapest\"", "\"Vienna\"");
+
+const LAKE: (&str, &str) = (
+    "\"Bohemia\"\nkind = \"inland\"",
+    "\"Bohemia\"\nkind = \"lake\"",
+);
+
+const EIGHTH: (&str, &str) = (
+    "[provinces.adr]",
+    "[powers.wales]\nhome = []\nunits = []\n[provinces.adr]",
+);
+
+const NAME_TWICE: (&str, &str) = (
+    "name = \"standard\"\n",
+    "name = \"standard\"\nname = \"standard\"\n",
+);
+
+#[test]
+fn each_fault_has_its_number(rt: HostRuntime) -> Result<(), Fail> {
+    let alloc = rt.alloc();
+    let sea = "\"Adriatic Sea\"\nkind = \"sea\"\n";
+    let rows = [
+        (NO_VIE.0, NO_VIE.1, Some(MapFault::NotSymmetric)),
+        (HOME_GAL.0, HOME_GAL.1, Some(MapFault::UnknownName)),
+        (TWO_VIENNAS.0, TWO_VIENNAS.1, Some(MapFault::DoubledName)),
+        (LAKE.0, LAKE.1, Some(MapFault::WrongField)),
+        (EIGHTH.0, EIGHTH.1, Some(MapFault::OverLimit)),
+        (NAME_TWICE.0, NAME_TWICE.1, Some(MapFault::NotToml)),
+        (
+            sea,
+            "\"Adriatic Sea\"\nkind = \"sea\"\ncentre = true\n",
+            Some(MapFault::WrongField),
+        ),
+        (
+            sea,
+            "\"Adriatic Sea\"\nkind = \"sea\"\ncentre = false\n",
+            None,
+        ),
+    ];
+    for (old, new, fault) in rows {
+        let text = changed(&rt, alloc, STANDARD, old, new)?;
+        assert!(rt; fault_of(alloc, text.as_str()) == fault);
+    }
+    Ok(())
+}
+
+#[test]
+fn the_first_fault_of_two_is_told(rt: HostRuntime) -> Result<(), Fail> {
+    let alloc = rt.alloc();
+    let rows = [
+        (NAME_TWICE, LAKE, MapFault::NotToml),
+        (LAKE, EIGHTH, MapFault::WrongField),
+        (EIGHTH, HOME_GAL, MapFault::OverLimit),
+        (HOME_GAL, TWO_VIENNAS, MapFault::UnknownName),
+        (TWO_VIENNAS, NO_VIE, MapFault::DoubledName),
+    ];
+    for (first, second, fault) in rows {
+        let once = changed(&rt, alloc, STANDARD, first.0, first.1)?;
+        let twice = changed(&rt, alloc, once.as_str(), second.0, second.1)?;
+        assert!(rt; fault_of(alloc, twice.as_str()) == Some(fault));
+    }
+    Ok(())
+}
+
+/// Two powers, five provinces: an inland one, one with a coast, one with two coasts, an island, and a sea.
+const FIVE: &str = "name = \"five\"
+[powers.east]
+home = [\"bay\"]
+units = [\"F bay/nc\"]
+[powers.west]
+home = [\"ard\", \"cay\"]
+units = [\"A ard\", \"F cay\"]
+[provinces.ard]
+name = \"Ard\"
+kind = \"inland\"
+centre = true
+army = [\"bay\", \"cay\"]
+[provinces.bay]
+name = \"Bay\"
+kind = \"coast\"
+centre = true
+army = [\"ard\"]
+[provinces.bay.coasts]
+nc = [\"sea\"]
+sc = [\"cay\", \"sea\"]
+[provinces.cay]
+name = \"Cay\"
+kind = \"coast\"
+centre = true
+army = [\"ard\"]
+fleet = [\"bay/sc\", \"sea\"]
+[provinces.oak]
+name = \"Oak\"
+kind = \"coast\"
+army = []
+fleet = []
+[provinces.sea]
+name = \"Sea\"
+kind = \"sea\"
+fleet = [\"bay/nc\", \"bay/sc\", \"cay\"]
+";
+
+fn check_changes(
+    rt: &impl Abort,
+    alloc: Global,
+    rows: &[(&str, &str)],
+    fault: MapFault,
+) -> Result<(), AllocError> {
+    for (old, new) in rows {
+        let text = changed(rt, alloc, FIVE, old, new)?;
+        assert!(rt; fault_of(alloc, text.as_str()) == Some(fault));
+    }
+    Ok(())
+}
+
+#[test]
+fn a_small_map_is_read(rt: HostRuntime) -> Result<(), Fail> {
+    let alloc = rt.alloc();
+    let map = Map::from_toml(alloc, FIVE)?;
+    assert_eq!(rt; map.provinces(), 5);
+    assert_eq!(rt; map.powers(), 2);
+    let west = map.power("west").expect(&rt, "a power");
+    assert_eq!(rt; map.home(west).len(), 2);
+    Ok(())
+}
+
+#[test]
+fn fields_are_of_their_type_and_form(rt: HostRuntime) -> Result<(), Fail> {
+    let rows = [
+        ("name = \"five\"", ""),
+        ("name = \"five\"", "name = 5"),
+        ("name = \"five\"", "name = \"five\"\nyear = 1901"),
+        ("home = [\"bay\"]\n", ""),
+        ("home = [\"bay\"]", "home = \"bay\""),
+        ("home = [\"bay\"]", "home = [\"bay/nc\"]"),
+        ("home = [\"bay\"]", "home = [1]"),
+        ("home = [\"bay\"]", "home = [\"bay\"]\nname = \"East\""),
+        ("\"F bay/nc\"", "\"bay\""),
+        ("\"F bay/nc\"", "\"F  bay/nc\""),
+        ("\"F bay/nc\"", "\"F bay/\""),
+        ("\"F bay/nc\"", "\"G bay\""),
+        ("\"A ard\"", "\"A ard/nc\""),
+        ("powers.east", "powers.East"),
+        ("powers.east", "powers.nobody"),
+        ("powers.east", "powers.abcdefghijklmnopq"),
+        ("provinces.oak", "provinces.oaks"),
+        ("provinces.oak", "provinces.OAK"),
+        ("name = \"Oak\"\n", ""),
+        ("name = \"Oak\"", "name = \"\""),
+        ("name = \"Oak\"", "name = \"\\u00e9\""),
+        (
+            "name = \"Oak\"",
+            "name = \"abcdefghij abcdefghij abcdefghij abcdefgh\"",
+        ),
+        ("name = \"Oak\"", "name = \"Oak\"\ncentre = 1"),
+        ("name = \"Oak\"", "name = \"Oak\"\nowner = \"west\""),
+        ("army = []\n", ""),
+        ("fleet = []\n", ""),
+        (
+            "army = [\"bay\", \"cay\"]\n",
+            "army = [\"bay\", \"cay\"]\nfleet = []\n",
+        ),
+        ("army = [\"bay\", \"cay\"]", "army = [\"bay/nc\", \"cay\"]"),
+        ("nc = [\"sea\"]\n", ""),
+        ("nc = [\"sea\"]\n", "nc = [\"sea\"]\nncs = []\n"),
+        (
+            "[provinces.bay.coasts]\n",
+            "fleet = []\n[provinces.bay.coasts]\n",
+        ),
+        ("kind = \"sea\"\n", "kind = \"sea\"\narmy = []\n"),
+        ("kind = \"sea\"\n", ""),
+    ];
+    check_changes(&rt, rt.alloc(), &rows, MapFault::WrongField)?;
+    Ok(())
+}
+
+#[test]
+fn codes_are_defined_and_allowed(rt: HostRuntime) -> Result<(), Fail> {
+    let rows = [
+        ("home = [\"bay\"]", "home = [\"xyz\"]"),
+        ("home = [\"bay\"]", "home = [\"oak\"]"),
+        ("\"F bay/nc\"", "\"F bay\""),
+        ("\"F bay/nc\"", "\"F bay/ec\""),
+        ("\"F bay/nc\"", "\"F xyz\""),
+        ("\"F bay/nc\"", "\"F ard\""),
+        ("\"A ard\"", "\"A sea\""),
+        ("\"F cay\"", "\"F cay/nc\""),
+        ("army = [\"bay\", \"cay\"]", "army = [\"bay\", \"sea\"]"),
+        ("army = [\"bay\", \"cay\"]", "army = [\"ard\", \"bay\"]"),
+        ("nc = [\"sea\"]", "nc = [\"bay/sc\", \"sea\"]"),
+        ("nc = [\"sea\"]", "nc = [\"ard\", \"sea\"]"),
+        (
+            "fleet = [\"bay/sc\", \"sea\"]",
+            "fleet = [\"bay\", \"sea\"]",
+        ),
+    ];
+    check_changes(&rt, rt.alloc(), &rows, MapFault::UnknownName)?;
+    Ok(())
+}
+
+#[test]
+fn nothing_stands_twice(rt: HostRuntime) -> Result<(), Fail> {
+    let alloc = rt.alloc();
+    let rows = [
+        ("\"Oak\"", "\"Ard\""),
+        ("army = [\"bay\", \"cay\"]", "army = [\"bay\", \"bay\"]"),
+        ("sc = [\"cay\", \"sea\"]", "sc = [\"cay\", \"cay\"]"),
+        ("home = [\"bay\"]", "home = [\"bay\", \"bay\"]"),
+        ("home = [\"bay\"]", "home = [\"cay\"]"),
+        ("\"F bay/nc\"", "\"F bay/nc\", \"A bay\""),
+        ("\"F bay/nc\"", "\"A ard\""),
+    ];
+    check_changes(&rt, alloc, &rows, MapFault::DoubledName)?;
+    let rows = [
+        ("army = [\"ard\"]", "army = []"),
+        ("nc = [\"sea\"]", "nc = []"),
+        (
+            "fleet = [\"bay/sc\", \"sea\"]",
+            "fleet = [\"bay/nc\", \"sea\"]",
+        ),
+        ("fleet = []", "fleet = [\"sea\"]"),
+    ];
+    check_changes(&rt, alloc, &rows, MapFault::NotSymmetric)?;
+    Ok(())
+}

@@ -5,3 +5,5 @@ pub mod OrderLemmas
 pub mod MovingLemmas
 pub mod CentreLemmas
 pub mod ApartLemmas
+pub mod CalendarLemmas
+pub mod OneWayLemmas

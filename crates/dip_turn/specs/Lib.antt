@@ -8,3 +8,4 @@ pub mod Adjusting
 pub mod Centres
 pub mod Phases
 pub mod Reports
+pub mod Laws

@@ -1,23 +1,30 @@
-//! Laws of the phases, each the contract of a function that does nothing.
-ghost use Rattle.std.specs.Prelude.{◌≡◌, ℕ, Bool, List, Some, false};
-ghost use Rattle.dip_board.specs.Boards.{Position};
-ghost use Rattle.dip_chart.specs.Charts.{Chart};
-ghost use Rattle.dip_orders.specs.declared.placed.PlacedOrder.{PlacedOrder as AnOrder};
-ghost use Rattle.dip_decide.specs.declared.decisions.Decision.{Decision as ADecision};
-ghost use Rattle.dip_decide.specs.Deciding.{Assignment};
-ghost use Rattle.dip_decide.specs.Laws.{AreOrders};
-ghost use Rattle.dip_decide.specs.Matching.{order_at, situation};
-ghost use Rattle.dip_decide.specs.Movement.{Satisfies};
-ghost use Rattle.dip_turn.specs.Moving.{is_driven_out, prov, unit_after};
+//! Laws of phases, each the contract of a function that does nothing.
+ghost use Rattle.dip_turn.specs.Laws.{UnitsStandApart, PhasesFollow, WinnersOwnMore, PhasesHaveOneResult};
 
-use dip_decide::{boards_are_situations, equations_are_lawful};
+use dip_decide::{boards_are_situations, equations_are_lawful, one_answer};
 
 /// After a movement no two units stand in one province: two that aren't dislodged and stand in one are the same.
 pub fn units_stand_apart()
-    ensures { (m : Chart) (b : Position) (orders : List AnOrder) (broken : ADecision → Bool) (a : Assignment) (o w : AnOrder) → AreOrders m b orders → Satisfies (situation m orders) broken a
-        → order_at orders (prov o) ≡ Some o → order_at orders (prov w) ≡ Some w → is_driven_out a orders o ≡ false → is_driven_out a orders w ≡ false
-        → (unit_after a o).place.prov ≡ (unit_after a w).place.prov → prov o ≡ prov w }
+    ensures { UnitsStandApart }
 {
     boards_are_situations();
     equations_are_lawful();
+}
+
+/// Phases follow one another in the order of the rules, time goes on, and every game ends.
+pub fn phases_follow()
+    ensures { PhasesFollow }
+{}
+
+/// Whoever has won owns more than half of all centres of the map.
+pub fn winners_own_more()
+    ensures { WinnersOwnMore }
+{}
+
+/// Two calls of `advance` on one board with the same orders come to the same board and report, but for the steps of the
+/// explanation.
+pub fn phases_have_one_result()
+    ensures { PhasesHaveOneResult }
+{
+    one_answer();
 }

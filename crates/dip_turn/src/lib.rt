@@ -15,7 +15,7 @@ mod retreating;
 mod standoffs;
 
 pub use dip_orders::{allowance, retreats};
-pub use laws::units_stand_apart;
+pub use laws::{phases_follow, phases_have_one_result, units_stand_apart, winners_own_more};
 pub use playing::advance;
 pub use report::{
     Account, Adjustment, CentreLine, Course, Fate, Movement, MovementLine, Outcome, Report,

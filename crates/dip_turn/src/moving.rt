@@ -5,8 +5,8 @@ ghost use Rattle.dip_turn.specs.Moving as m;
 
 use crate::orders::{destination, is_at, is_convoyed, is_listed};
 use crate::standoffs::standoffs_after;
-use dip_decide::Resolution;
 use dip_board::{Board, Dislodged};
+use dip_decide::Resolution;
 use dip_map::Map;
 use dip_names::{Place, Prov, Unit};
 use dip_orders::{Order, PlacedOrder, retreats};

@@ -1,6 +1,6 @@
 //! What is told of a phase that was adjudicated.
-use dip_decide::Resolution;
 use dip_board::Phase;
+use dip_decide::Resolution;
 use dip_names::{Power, Prov, Unit};
 use dip_orders::{Orders, PlacedOrder};
 

@@ -1,4 +1,4 @@
-use Rattle.std.proofs.Common.{arith, ◌≡◌, ◌∙◌, ap, sym}
+use Rattle.std.proofs.Common.{arith, ◌≡◌, ◌∙◌, ap}
 use Rattle.dip_chart.specs.Charts.{no_realm}
 use Rattle.dip_turn.specs.Adjusting.{disorder_of}
 use Rattle.dip_turn.proofs.ListLemmas.{flat_step}

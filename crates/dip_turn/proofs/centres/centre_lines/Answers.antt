@@ -1,4 +1,4 @@
-use Rattle.std.proofs.Common.{arith, ◌≡◌, Some, None, ap, sym, ◌∙◌}
+use Rattle.std.proofs.Common.{arith, ◌≡◌, ap, sym, ◌∙◌}
 use Rattle.dip_chart.specs.Charts.{no_province}
 use Rattle.dip_turn.specs.Centres.{centre_line}
 use Rattle.dip_turn.proofs.ListLemmas.{found_step, skipped_step}

@@ -1,4 +1,4 @@
-use Rattle.std.proofs.Common.{arith, ◌≡◌, ◌<◌, length, true, false, Some, ◌∙◌, sym, ap}
+use Rattle.std.proofs.Common.{arith, ◌≡◌, true, false, Some, ◌∙◌, sym, ap}
 use Rattle.dip_chart.specs.Charts.{no_realm}
 use Rattle.dip_turn.specs.Centres.{has_won}
 use Rattle.dip_turn.proofs.ListLemmas.{find_here, find_step}

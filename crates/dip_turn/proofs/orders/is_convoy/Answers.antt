@@ -1,4 +1,4 @@
-use Rattle.std.proofs.Common.{◌≡◌, Some, None, ◌∙◌, sym}
+use Rattle.std.proofs.Common.{◌∙◌, sym}
 use Rattle.dip_turn.proofs.OrderLemmas.{convoyed_at_sea, convoyed_elsewhere, unconvoyed}
 use Rattle.dip_turn.proofs.orders.is_convoy.Goals as goal
 

@@ -1,5 +1,4 @@
-use Rattle.std.proofs.Common.{◌≡◌, Some, None, ◌∙◌, sym}
-use Rattle.dip_decide.specs.Matching.{order_at}
+use Rattle.std.proofs.Common.{◌∙◌, sym}
 use Rattle.dip_turn.proofs.OrderLemmas.{supported, unsupported}
 use Rattle.dip_turn.proofs.orders.is_support.Goals as goal
 

@@ -1,4 +1,4 @@
-use Rattle.std.proofs.Common.{arith, ◌≡◌}
+use Rattle.std.proofs.Common.{arith}
 use Rattle.dip_decide.specs.Results.{values_in}
 use Rattle.dip_turn.specs.Outcomes.{line_on}
 use Rattle.dip_turn.proofs.ListLemmas.{map_step}

@@ -7,3 +7,5 @@ pub mod CentreLemmas
 pub mod ApartLemmas
 pub mod CalendarLemmas
 pub mod OneWayLemmas
+pub mod CentreLaws
+pub mod ToldLemmas

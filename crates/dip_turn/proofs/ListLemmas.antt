@@ -1,5 +1,5 @@
 -- Lists.
-use Rattle.std.proofs.Common.{◌≡◌, ℕ, map, get_or, ◌+◌, ◌<◌, Bool, true, false, cond, List, [], ◌∷◌, ◌++◌, Option, Some, None, drop, find, flat_map, length, refl, ap, sym, ◌∙◌, append_assoc, arith, zero, suc, add-one}
+use Rattle.std.proofs.Common.{◌≡◌, ℕ, map, get_or, ◌+◌, ◌<◌, Bool, true, false, List, [], ◌∷◌, ◌++◌, Option, Some, None, drop, find, flat_map, length, refl, ap, ◌∙◌, append_assoc}
 use Rattle.std.specs.List.{list_any, filter_map}
 use Rattle.std.proofs.lemmas.List.{drop_more}
 use Rattle.dip_turn.specs.Indices.{indices_from}

@@ -1,11 +1,10 @@
 -- A phase comes to one result.
-use Rattle.std.proofs.Common.{◌≡◌, ℕ, Bool, List, refl, sym, ap, ◌∙◌, subst}
+use Rattle.std.proofs.Common.{◌≡◌, List, sym, ap, ◌∙◌, subst}
 use Rattle.dip_chart.specs.Charts.{Chart}
 use Rattle.dip_board.specs.declared.boards.Season.{Season}
 use Rattle.dip_board.specs.declared.boards.Season.TheVariants.{SpringMoves, SpringRetreats, FallMoves, FallRetreats, Winter}
 use Rattle.dip_board.specs.Boards.{Position}
 use Rattle.dip_orders.specs.declared.placed.PlacedOrder.{PlacedOrder}
-use Rattle.dip_orders.specs.Standing.{standing_orders}
 use Rattle.dip_decide.specs.declared.decisions.Decision.{Decision}
 use Rattle.dip_decide.specs.Deciding.{Assignment, Step}
 use Rattle.dip_decide.specs.Matching.{situation}
@@ -20,7 +19,6 @@ use Rattle.dip_turn.specs.Phases.{Sequel, follow, sequel}
 use Rattle.dip_turn.specs.Reports.{IsMoved, IsPlayed, Leaves, LeavesAdjusted, LeavesMoved, LeavesRetreated}
 use Rattle.dip_turn.specs.declared.report.Account.{Account}
 use Rattle.dip_turn.specs.declared.report.Account.TheVariants.{Movement as OfMovement, Retreats as OfRetreats, Adjustment as OfAdjustment}
-use Rattle.dip_turn.specs.declared.report.Course.{Course}
 use Rattle.dip_turn.specs.declared.report.Movement.{Movement}
 use Rattle.dip_turn.specs.declared.report.Report.{Report}
 

@@ -1,5 +1,5 @@
 -- What a movement makes of a board. The values are those of its decisions: which moves succeed, which have a path.
-use Rattle.std.specs.Prelude.{ℕ, ◌==◌, nat_lt, not, ◌&&◌, Bool, List, [], map, filter, find, length, Option, None, Some, is_some, if◌then◌else◌}
+use Rattle.std.specs.Prelude.{ℕ, ◌==◌, nat_lt, not, ◌&&◌, Bool, List, map, filter, find, length, Option, None, Some, is_some, if◌then◌else◌}
 use Rattle.std.specs.List.{list_any}
 use Rattle.dip_names.specs.declared.names.Place.{Place}
 use Rattle.dip_names.specs.declared.names.Unit.{Unit as Piece}

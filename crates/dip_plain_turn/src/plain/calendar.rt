@@ -3,8 +3,8 @@ use super::moves::Moves;
 use super::refuges::retreat;
 use super::state::{Line, State};
 use super::winter::{adjust, allowed_builds, due_removals};
-use dip_decide::Resolution;
 use dip_board::{Phase, Season};
+use dip_decide::Resolution;
 use dip_map::Map;
 use dip_names::{Power, Prov};
 use dip_orders::PlacedOrder;
@@ -115,7 +115,12 @@ fn end_of_fall(map: &Map, state: &mut State) -> PlainCourse {
 }
 
 /// What follows the phase that was just played.
-fn follow(alloc: Global, map: &Map, state: &mut State, paper: &mut Paper) -> Result<(), AllocError> {
+fn follow(
+    alloc: Global,
+    map: &Map,
+    state: &mut State,
+    paper: &mut Paper,
+) -> Result<(), AllocError> {
     let is_somebody_dislodged = !state.dislodged.as_slice().is_empty();
     paper.course = match state.phase.season {
         Season::SpringMoves if is_somebody_dislodged => go_on(state, Season::SpringRetreats),

@@ -1,8 +1,8 @@
 //! What follows from a movement whose moves are decided.
 use super::refuges::has_refuge;
 use super::state::{Line, State, unit_in};
-use dip_decide::Resolution;
 use dip_board::Dislodged;
+use dip_decide::Resolution;
 use dip_map::Map;
 use dip_names::{Kind, Prov, Terrain, Unit};
 use dip_orders::{Order, Other, PlacedOrder};
@@ -82,7 +82,11 @@ impl Moves<'_> {
         let by_convoy = goes_by_convoy(self.map, &attacker);
         Some(Dislodged {
             unit: placed.unit,
-            origin: if by_convoy { None } else { Some(origin(&attacker)) },
+            origin: if by_convoy {
+                None
+            } else {
+                Some(origin(&attacker))
+            },
         })
     }
 
@@ -167,7 +171,11 @@ impl Moves<'_> {
                 }
             }
             Order::Convoy { at, to } => {
-                if self.orders.iter().any(|army| self.carries(placed, at, to, army)) {
+                if self
+                    .orders
+                    .iter()
+                    .any(|army| self.carries(placed, at, to, army))
+                {
                     "convoys"
                 } else {
                     "void"

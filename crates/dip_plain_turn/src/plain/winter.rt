@@ -50,7 +50,11 @@ fn steps_home(alloc: Global, map: &Map, unit: &Unit) -> Result<u16, AllocError> 
     let mut places = vec![in alloc; unit.place]?;
     for count in 0..200 {
         let home = map.home(unit.power);
-        if places.as_slice().iter().any(|place| home.contains(&place.prov)) {
+        if places
+            .as_slice()
+            .iter()
+            .any(|place| home.contains(&place.prov))
+        {
             return Ok(count);
         }
         places = ring(alloc, map, unit.kind, places.as_slice())?;
@@ -59,12 +63,7 @@ fn steps_home(alloc: Global, map: &Map, unit: &Unit) -> Result<u16, AllocError> 
 }
 
 /// Whether a unit goes before another one in disorder.
-fn goes_first(
-    alloc: Global,
-    map: &Map,
-    unit: &Unit,
-    other: &Unit,
-) -> Result<bool, AllocError> {
+fn goes_first(alloc: Global, map: &Map, unit: &Unit, other: &Unit) -> Result<bool, AllocError> {
     let here = steps_home(alloc, map, unit)?;
     let there = steps_home(alloc, map, other)?;
     if here != there {
@@ -160,14 +159,16 @@ fn remove(
     for placed in pending {
         if placed.unit.power == power && placed.order == Order::Remove {
             state.units = without(alloc, state.units.as_slice(), &placed.unit)?;
-            told.lines.push(line(&placed.unit, Order::Remove, "removed"))?;
+            told.lines
+                .push(line(&placed.unit, Order::Remove, "removed"))?;
             count += 1;
         }
     }
     for _ in count..due {
         if let Some(unit) = next_to_go(alloc, map, state.units.as_slice(), power)? {
             state.units = without(alloc, state.units.as_slice(), &unit)?;
-            told.lines.push(line(&unit, Order::Remove, "removed in disorder"))?;
+            told.lines
+                .push(line(&unit, Order::Remove, "removed in disorder"))?;
         }
     }
     Ok(())

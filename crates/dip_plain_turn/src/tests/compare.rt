@@ -1,8 +1,8 @@
 //! A phase adjudicated and played plainly, side by side, with the laws of phases.
 use super::texts::{word_of, word_of_fate, word_of_retreat};
 use crate::plain::{Line, PlainCourse, State, are_alike, play_plainly};
-use dip_decide::resolve;
 use dip_board::{Board, Season};
+use dip_decide::resolve;
 use dip_map::Map;
 use dip_names::{Power, Prov, Unit};
 use dip_orders::{Order, Orders, PlacedOrder, each_unit_has_one_order};
@@ -58,7 +58,12 @@ fn lines_of(alloc: Global, report: &Report) -> Result<Vec<Line>, AllocError> {
         }
         Account::Adjustment(told) => {
             push_lines(told.builds.as_slice(), Order::Build, "built", &mut lines)?;
-            push_lines(told.removals.as_slice(), Order::Remove, "removed", &mut lines)?;
+            push_lines(
+                told.removals.as_slice(),
+                Order::Remove,
+                "removed",
+                &mut lines,
+            )?;
             let gone = told.disorder.as_slice();
             push_lines(gone, Order::Remove, "removed in disorder", &mut lines)?;
         }
@@ -137,7 +142,13 @@ pub(crate) fn compare(
             each_unit_has_one_order();
             let orders = Orders::standing(alloc, &board, pending)?;
             let told = resolve(alloc, map, &board, &orders)?;
-            play_plainly(alloc, map, &mut state, pending, Some((orders.as_slice(), &told)))?
+            play_plainly(
+                alloc,
+                map,
+                &mut state,
+                pending,
+                Some((orders.as_slice(), &told)),
+            )?
         }
         Season::SpringRetreats | Season::FallRetreats | Season::Winter => {
             play_plainly(alloc, map, &mut state, pending, None)?
@@ -150,7 +161,10 @@ pub(crate) fn compare(
     assert!(rt; report.phase == before.phase);
     assert!(rt; course_of(report.course) == paper.course);
     let lines = lines_of(alloc, &report)?;
-    assert!(rt; are_alike(lines.as_slice(), paper.lines.as_slice()), "{lines:?} {paper:?}");
+    assert!(rt;
+        are_alike(lines.as_slice(), paper.lines.as_slice()),
+        "{lines:?} {paper:?}"
+    );
     let waived = waived_in(alloc, &report)?;
     assert!(rt; waived.as_slice() == paper.waived.as_slice(), "{paper:?}");
     let centres = centres_in(alloc, &report)?;

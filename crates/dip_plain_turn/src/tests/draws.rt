@@ -20,8 +20,16 @@ fn power_by(map: &Map, dice: &mut Dice) -> Power {
 
 /// A unit of some power in a province, if one may stand there.
 fn draw_unit(dice: &mut Dice, map: &Map, prov: Prov) -> Option<Unit> {
-    let kind = if dice.happens(55) { Kind::Army } else { Kind::Fleet };
-    let coast = if kind == Kind::Fleet && dice.happens(50) { 1 } else { 0 };
+    let kind = if dice.happens(55) {
+        Kind::Army
+    } else {
+        Kind::Fleet
+    };
+    let coast = if kind == Kind::Fleet && dice.happens(50) {
+        1
+    } else {
+        0
+    };
     let unit = Unit {
         power: power_by(map, dice),
         kind,
@@ -47,7 +55,11 @@ pub(crate) fn draw_board(
             }
         }
         let is_owned = map.is_centre(prov) && dice.happens(80);
-        owners.push(if is_owned { Some(power_by(map, dice)) } else { None })?;
+        owners.push(if is_owned {
+            Some(power_by(map, dice))
+        } else {
+            None
+        })?;
     }
     let phase = Phase {
         year: 1901,

@@ -90,12 +90,7 @@ fn play_game(
 }
 
 /// Plays games from the opening and from boards by chance.
-fn play_games(
-    rt: &impl Abort,
-    alloc: Global,
-    seed: u32,
-    games: u32,
-) -> Result<Tally, AllocError> {
+fn play_games(rt: &impl Abort, alloc: Global, seed: u32, games: u32) -> Result<Tally, AllocError> {
     let map = Map::from_toml(alloc, STANDARD).ok().expect(rt, "the map");
     let mut dice = Dice::new(seed);
     let mut tally = Tally::default();

@@ -1,7 +1,6 @@
 //! Retreats.
 use super::rows::{Row, play_rows};
-use super::scenes::{SPRING, Scene};
-use super::scenes::board_of;
+use super::scenes::{SPRING, Scene, board_of};
 use dip_board::Season;
 use dip_map::{Map, STANDARD};
 use dip_orders::{OrderFault, read_order};

@@ -63,7 +63,10 @@ fn check_paper(
     let lines = lines_of(alloc, map, report)?;
     let mut count: usize = 0;
     for text in paper.lines() {
-        assert!(rt; is_line(lines.as_slice(), text), "no line {text} in {lines:?}");
+        assert!(rt;
+            is_line(lines.as_slice(), text),
+            "no line {text} in {lines:?}"
+        );
         count = count.saturating_add(1);
     }
     assert_eq!(rt; lines.len(), count, "{lines:?}");

@@ -104,10 +104,31 @@ fn push_adjustment(
     told: &Adjustment,
     lines: &mut Vec<String>,
 ) -> Result<(), AllocError> {
-    push_units(alloc, map, told.builds.as_slice(), Order::Build, "built", lines)?;
-    push_units(alloc, map, told.removals.as_slice(), Order::Remove, "removed", lines)?;
+    push_units(
+        alloc,
+        map,
+        told.builds.as_slice(),
+        Order::Build,
+        "built",
+        lines,
+    )?;
+    push_units(
+        alloc,
+        map,
+        told.removals.as_slice(),
+        Order::Remove,
+        "removed",
+        lines,
+    )?;
     let gone = told.disorder.as_slice();
-    push_units(alloc, map, gone, Order::Remove, "removed in disorder", lines)?;
+    push_units(
+        alloc,
+        map,
+        gone,
+        Order::Remove,
+        "removed in disorder",
+        lines,
+    )?;
     for waiver in &told.waivers {
         let name = map.power_name(waiver.power);
         let builds = waiver.builds;

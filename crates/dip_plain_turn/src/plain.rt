@@ -6,4 +6,4 @@ mod winter;
 
 pub(crate) use calendar::{PlainCourse, play_plainly};
 pub(crate) use moves::{destination, goes_by_convoy, origin};
-pub(crate) use state::{Line, State, are_alike};
+pub(crate) use state::{End, Line, State, Word, are_alike};

@@ -1,6 +1,6 @@
 //! What follows from a movement whose moves are decided.
 use super::refuges::has_refuge;
-use super::state::{Line, State, unit_in};
+use super::state::{End, Line, State, Word, unit_in};
 use dip_board::Dislodged;
 use dip_decide::Resolution;
 use dip_map::Map;
@@ -150,24 +150,24 @@ impl Moves<'_> {
     }
 
     /// The word for what became of an order.
-    fn word(&self, placed: &PlacedOrder) -> &'static str {
+    fn word(&self, placed: &PlacedOrder) -> Word {
         match placed.order {
             Order::Move { .. } => {
                 if self.succeeds(placed) {
-                    "moves"
+                    Word::Moves
                 } else if self.has_path(placed) {
-                    "bounced"
+                    Word::Bounced
                 } else {
-                    "no route"
+                    Word::NoRoute
                 }
             }
             Order::SupportHold { .. } | Order::SupportMove { .. } => {
                 if !self.orders.iter().any(|other| supports(placed, other)) {
-                    "void"
+                    Word::Void
                 } else if self.told.supports.as_slice().contains(&origin(placed)) {
-                    "given"
+                    Word::Given
                 } else {
-                    "cut"
+                    Word::Cut
                 }
             }
             Order::Convoy { at, to } => {
@@ -176,12 +176,12 @@ impl Moves<'_> {
                     .iter()
                     .any(|army| self.carries(placed, at, to, army))
                 {
-                    "convoys"
+                    Word::Convoys
                 } else {
-                    "void"
+                    Word::Void
                 }
             }
-            _ => "holds",
+            _ => Word::Holds,
         }
     }
 
@@ -197,15 +197,15 @@ impl Moves<'_> {
     fn lines(&self, alloc: Global, spared: &[Dislodged]) -> Result<Vec<Line>, AllocError> {
         let mut lines = Vec::new(alloc);
         for placed in self.orders {
-            let fate = match self.dislodged(placed) {
-                None => "",
-                Some(dislodged) if spared.contains(&dislodged) => "dislodged",
-                Some(_) => "destroyed",
+            let end = match self.dislodged(placed) {
+                None => End::Stands,
+                Some(dislodged) if spared.contains(&dislodged) => End::Dislodged,
+                Some(_) => End::Destroyed,
             };
             lines.push(Line {
                 placed: *placed,
                 word: self.word(placed),
-                fate,
+                end,
             })?;
         }
         Ok(lines)

@@ -1,5 +1,5 @@
 //! Retreats.
-use super::state::{Line, State};
+use super::state::{End, Line, State, Word};
 use dip_board::Dislodged;
 use dip_map::Map;
 use dip_names::{Kind, Place, Prov, Unit};
@@ -58,30 +58,61 @@ fn is_contested(state: &State, pending: &[PlacedOrder], unit: &Unit, prov: Prov)
     })
 }
 
+/// A dislodged unit where it goes, if it does.
+fn unit_after(state: &State, pending: &[PlacedOrder], unit: &Unit) -> Option<Unit> {
+    match goal_of(pending, unit) {
+        Some(place) if !is_contested(state, pending, unit, place.prov) => {
+            Some(Unit { place, ..*unit })
+        }
+        _ => None,
+    }
+}
+
+fn lines_of(
+    alloc: Global,
+    state: &State,
+    pending: &[PlacedOrder],
+) -> Result<Vec<Line>, AllocError> {
+    let mut lines = Vec::new(alloc);
+    for dislodged in &state.dislodged {
+        let unit = dislodged.unit;
+        let is_made = unit_after(state, pending, &unit).is_some();
+        let order = order_of(pending, &unit);
+        lines.push(Line {
+            placed: PlacedOrder { unit, order },
+            word: if is_made {
+                Word::Retreats
+            } else {
+                Word::Disbands
+            },
+            end: End::Stands,
+        })?;
+    }
+    Ok(lines)
+}
+
+fn units_of(
+    alloc: Global,
+    state: &State,
+    pending: &[PlacedOrder],
+) -> Result<Vec<Unit>, AllocError> {
+    let mut units = state.units.as_slice().to_vec(alloc)?;
+    for dislodged in &state.dislodged {
+        if let Some(unit) = unit_after(state, pending, &dislodged.unit) {
+            units.push(unit)?;
+        }
+    }
+    Ok(units)
+}
+
 /// Makes the retreats on a board.
 pub(crate) fn retreat(
     alloc: Global,
     state: &mut State,
     pending: &[PlacedOrder],
 ) -> Result<Vec<Line>, AllocError> {
-    let mut lines = Vec::new(alloc);
-    let mut units = state.units.as_slice().to_vec(alloc)?;
-    for dislodged in &state.dislodged {
-        let unit = dislodged.unit;
-        let mut word = "disbands";
-        if let Some(place) = goal_of(pending, &unit) {
-            if !is_contested(state, pending, &unit, place.prov) {
-                units.push(Unit { place, ..unit })?;
-                word = "retreats";
-            }
-        }
-        let order = order_of(pending, &unit);
-        lines.push(Line {
-            placed: PlacedOrder { unit, order },
-            word,
-            fate: "",
-        })?;
-    }
+    let lines = lines_of(alloc, state, pending)?;
+    let units = units_of(alloc, state, pending)?;
     state.units = units;
     state.dislodged = Vec::new(alloc);
     state.standoff = Vec::new(alloc);

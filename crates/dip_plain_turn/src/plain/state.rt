@@ -14,12 +14,38 @@ pub(crate) struct State {
     pub phase: Phase,
 }
 
+/// What became of an order.
+#[derive(Clone, Copy, PartialEq, Eq, Debug)]
+pub(crate) enum Word {
+    Holds,
+    Moves,
+    Bounced,
+    NoRoute,
+    Given,
+    Cut,
+    Void,
+    Convoys,
+    Retreats,
+    Disbands,
+    Built,
+    Removed,
+    RemovedInDisorder,
+}
+
+/// What became of a unit in a movement.
+#[derive(Clone, Copy, PartialEq, Eq, Debug)]
+pub(crate) enum End {
+    Stands,
+    Dislodged,
+    Destroyed,
+}
+
 /// A line of a paper: an order with what became of it.
 #[derive(Clone, Copy, PartialEq, Eq, Debug)]
 pub(crate) struct Line {
     pub placed: PlacedOrder,
-    pub word: &'static str,
-    pub fate: &'static str,
+    pub word: Word,
+    pub end: End,
 }
 
 impl State {

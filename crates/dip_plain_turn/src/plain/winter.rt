@@ -1,5 +1,5 @@
 //! Builds and removals.
-use super::state::{Line, State, is_fleet};
+use super::state::{End, Line, State, Word, is_fleet};
 use dip_map::Map;
 use dip_names::{Kind, Place, Power, Prov, Unit};
 use dip_orders::{Order, PlacedOrder};
@@ -75,6 +75,15 @@ fn goes_first(alloc: Global, map: &Map, unit: &Unit, other: &Unit) -> Result<boo
     Ok(map.name(unit.place.prov) < map.name(other.place.prov))
 }
 
+/// The one of two units that goes first.
+fn sooner(alloc: Global, map: &Map, unit: &Unit, before: &Unit) -> Result<Unit, AllocError> {
+    if goes_first(alloc, map, unit, before)? {
+        Ok(*unit)
+    } else {
+        Ok(*before)
+    }
+}
+
 /// The unit of a power that no other one goes before.
 fn next_to_go(
     alloc: Global,
@@ -85,14 +94,8 @@ fn next_to_go(
     let mut first: Option<Unit> = None;
     for unit in units {
         if unit.power == power {
-            match first {
-                None => first = Some(*unit),
-                Some(before) => {
-                    if goes_first(alloc, map, unit, &before)? {
-                        first = Some(*unit);
-                    }
-                }
-            }
+            let before = first.unwrap_or(*unit);
+            first = Some(sooner(alloc, map, unit, &before)?);
         }
     }
     Ok(first)
@@ -127,11 +130,11 @@ pub(crate) struct Told {
     pub waived: Vec<(Power, usize)>,
 }
 
-fn line(unit: &Unit, order: Order, word: &'static str) -> Line {
+fn line(unit: &Unit, order: Order, word: Word) -> Line {
     Line {
         placed: PlacedOrder { unit: *unit, order },
         word,
-        fate: "",
+        end: End::Stands,
     }
 }
 
@@ -160,7 +163,7 @@ fn remove(
         if placed.unit.power == power && placed.order == Order::Remove {
             state.units = without(alloc, state.units.as_slice(), &placed.unit)?;
             told.lines
-                .push(line(&placed.unit, Order::Remove, "removed"))?;
+                .push(line(&placed.unit, Order::Remove, Word::Removed))?;
             count += 1;
         }
     }
@@ -168,7 +171,7 @@ fn remove(
         if let Some(unit) = next_to_go(alloc, map, state.units.as_slice(), power)? {
             state.units = without(alloc, state.units.as_slice(), &unit)?;
             told.lines
-                .push(line(&unit, Order::Remove, "removed in disorder"))?;
+                .push(line(&unit, Order::Remove, Word::RemovedInDisorder))?;
         }
     }
     Ok(())
@@ -187,7 +190,8 @@ fn build(
     for placed in pending {
         if placed.unit.power == power && placed.order == Order::Build {
             state.units.push(placed.unit)?;
-            told.lines.push(line(&placed.unit, Order::Build, "built"))?;
+            told.lines
+                .push(line(&placed.unit, Order::Build, Word::Built))?;
             count = count.saturating_add(1);
         }
     }

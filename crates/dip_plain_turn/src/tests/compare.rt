@@ -1,12 +1,11 @@
 //! A phase adjudicated and played plainly, side by side, with the laws of phases.
-use super::texts::{word_of, word_of_fate, word_of_retreat};
-use crate::plain::{Line, PlainCourse, State, are_alike, play_plainly};
+use crate::plain::{End, Line, PlainCourse, State, Word, are_alike, play_plainly};
 use dip_board::{Board, Season};
 use dip_decide::resolve;
 use dip_map::Map;
 use dip_names::{Power, Prov, Unit};
 use dip_orders::{Order, Orders, PlacedOrder, each_unit_has_one_order};
-use dip_turn::{Account, Course, Report, advance};
+use dip_turn::{Account, Course, Fate, Outcome, Report, advance};
 use std::alloc::{AllocError, Global};
 use std::process::Abort;
 
@@ -18,18 +17,46 @@ fn course_of(course: Course) -> PlainCourse {
     }
 }
 
+fn word_of(outcome: Outcome) -> Word {
+    match outcome {
+        Outcome::Holds => Word::Holds,
+        Outcome::Moves => Word::Moves,
+        Outcome::Bounced => Word::Bounced,
+        Outcome::NoRoute => Word::NoRoute,
+        Outcome::Given => Word::Given,
+        Outcome::Cut => Word::Cut,
+        Outcome::Void => Word::Void,
+        Outcome::Convoys => Word::Convoys,
+    }
+}
+
+fn end_of(fate: Fate) -> End {
+    match fate {
+        Fate::Stands => End::Stands,
+        Fate::Dislodged => End::Dislodged,
+        Fate::Destroyed => End::Destroyed,
+    }
+}
+
+fn line(unit: &Unit, order: &Order, word: Word) -> Line {
+    Line {
+        placed: PlacedOrder {
+            unit: *unit,
+            order: *order,
+        },
+        word,
+        end: End::Stands,
+    }
+}
+
 fn push_lines(
     units: &[Unit],
-    order: Order,
-    word: &'static str,
+    order: &Order,
+    word: Word,
     lines: &mut Vec<Line>,
 ) -> Result<(), AllocError> {
     for unit in units {
-        lines.push(Line {
-            placed: PlacedOrder { unit: *unit, order },
-            word,
-            fate: "",
-        })?;
+        lines.push(line(unit, order, word))?;
     }
     Ok(())
 }
@@ -43,7 +70,7 @@ fn lines_of(alloc: Global, report: &Report) -> Result<Vec<Line>, AllocError> {
                 lines.push(Line {
                     placed: line.placed,
                     word: word_of(line.outcome),
-                    fate: word_of_fate(line.fate),
+                    end: end_of(line.fate),
                 })?;
             }
         }
@@ -51,21 +78,30 @@ fn lines_of(alloc: Global, report: &Report) -> Result<Vec<Line>, AllocError> {
             for line in retreats {
                 lines.push(Line {
                     placed: line.placed,
-                    word: word_of_retreat(line),
-                    fate: "",
+                    word: if line.is_made {
+                        Word::Retreats
+                    } else {
+                        Word::Disbands
+                    },
+                    end: End::Stands,
                 })?;
             }
         }
         Account::Adjustment(told) => {
-            push_lines(told.builds.as_slice(), Order::Build, "built", &mut lines)?;
+            push_lines(
+                told.builds.as_slice(),
+                &Order::Build,
+                Word::Built,
+                &mut lines,
+            )?;
             push_lines(
                 told.removals.as_slice(),
-                Order::Remove,
-                "removed",
+                &Order::Remove,
+                Word::Removed,
                 &mut lines,
             )?;
             let gone = told.disorder.as_slice();
-            push_lines(gone, Order::Remove, "removed in disorder", &mut lines)?;
+            push_lines(gone, &Order::Remove, Word::RemovedInDisorder, &mut lines)?;
         }
     }
     Ok(lines)

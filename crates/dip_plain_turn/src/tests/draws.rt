@@ -281,6 +281,20 @@ fn draw_retreats(
     all_as_read(alloc, map, board, orders.as_slice())
 }
 
+/// A build of such a unit by the power whose home centre its province is.
+fn draw_build(dice: &mut Dice, map: &Map, unit: &Unit) -> Option<PlacedOrder> {
+    for number in 0..7 {
+        let power = Power::new(number);
+        if map.home(power).contains(&unit.place.prov) && dice.happens(70) {
+            return Some(PlacedOrder {
+                unit: Unit { power, ..*unit },
+                order: Order::Build,
+            });
+        }
+    }
+    None
+}
+
 /// Builds in home centres and removals of units, some of which aren't allowed.
 fn draw_adjustments(
     alloc: Global,
@@ -300,14 +314,8 @@ fn draw_adjustments(
     for index in 0..map.provinces() {
         let prov = Prov::new(u8::try_from(index).unwrap_or(0));
         if let Some(unit) = draw_unit(dice, map, prov) {
-            for number in 0..7 {
-                let power = Power::new(number);
-                if map.home(power).contains(&prov) && dice.happens(70) {
-                    orders.push(PlacedOrder {
-                        unit: Unit { power, ..unit },
-                        order: Order::Build,
-                    })?;
-                }
+            if let Some(placed) = draw_build(dice, map, &unit) {
+                orders.push(placed)?;
             }
         }
     }

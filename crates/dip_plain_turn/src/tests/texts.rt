@@ -87,12 +87,15 @@ fn push_units(
     alloc: Global,
     map: &Map,
     units: &[Unit],
-    order: Order,
+    order: &Order,
     word: &str,
     lines: &mut Vec<String>,
 ) -> Result<(), AllocError> {
     for unit in units {
-        let placed = PlacedOrder { unit: *unit, order };
+        let placed = PlacedOrder {
+            unit: *unit,
+            order: *order,
+        };
         lines.push(line_of(alloc, map, &placed, word, "")?)?;
     }
     Ok(())
@@ -108,7 +111,7 @@ fn push_adjustment(
         alloc,
         map,
         told.builds.as_slice(),
-        Order::Build,
+        &Order::Build,
         "built",
         lines,
     )?;
@@ -116,7 +119,7 @@ fn push_adjustment(
         alloc,
         map,
         told.removals.as_slice(),
-        Order::Remove,
+        &Order::Remove,
         "removed",
         lines,
     )?;
@@ -125,7 +128,7 @@ fn push_adjustment(
         alloc,
         map,
         gone,
-        Order::Remove,
+        &Order::Remove,
         "removed in disorder",
         lines,
     )?;

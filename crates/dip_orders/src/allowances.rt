@@ -17,8 +17,8 @@ fn vacant_homes(map: &Map, board: &Board, power: Power) -> usize
         .count()
 }
 
-/// How many units a power may build.
-pub(crate) fn builds_due(map: &Map, board: &Board, power: Power) -> usize
+/// How many units a power may build: as many as it has centres more than units, at most one in each of its vacant home centres.
+pub fn builds_due(map: &Map, board: &Board, power: Power) -> usize
     ensures { result ≡ builds_due map.now board.now power }
 {
     let centres = board.centres_owned(power);
@@ -28,8 +28,8 @@ pub(crate) fn builds_due(map: &Map, board: &Board, power: Power) -> usize
         .min(vacant_homes(map, board, power))
 }
 
-/// How many units a power has to remove.
-pub(crate) fn removals_due(board: &Board, power: Power) -> usize
+/// How many units a power has to remove: as many as it has more than centres.
+pub fn removals_due(board: &Board, power: Power) -> usize
     ensures { result ≡ removals_due board.now power }
 {
     let centres = board.centres_owned(power);

@@ -44,7 +44,8 @@ fn site_of(map: &Map, kind: Kind, prov: Prov, coast: Option<[u8; 2]>) -> Result<
     }
 }
 
-fn is_build(order: &Order) -> bool
+/// Whether an order builds a unit.
+pub fn is_build(order: &Order) -> bool
     ensures { result ≡ is_build order.now }
 {
     match order {
@@ -55,7 +56,8 @@ fn is_build(order: &Order) -> bool
     }
 }
 
-fn is_remove(order: &Order) -> bool
+/// Whether an order removes a unit.
+pub fn is_remove(order: &Order) -> bool
     ensures { result ≡ is_remove order.now }
 {
     match order {

@@ -16,7 +16,8 @@ mod supports;
 mod units;
 mod withdrawals;
 
-pub use allowances::allowance;
+pub use allowances::{allowance, builds_due, removals_due};
+pub use builds::{is_build, is_remove};
 pub use dip_forms::{TokenList, tokens};
 pub use faults::OrderFault;
 pub use laws::{
@@ -29,7 +30,7 @@ pub use placed::{Order, Other, PlacedOrder};
 pub use printing::{print_order, print_unit};
 pub use reading::read_order;
 pub use retreating::retreats;
-pub use standing::Orders;
+pub use standing::{Orders, is_same_unit};
 
 #[cfg(test)]
 mod tests;

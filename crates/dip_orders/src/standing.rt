@@ -79,7 +79,8 @@ fn is_in_force(placed: &PlacedOrder) -> bool
     is_done_from(placed.unit.place.prov, &placed.order)
 }
 
-fn is_same_unit(unit: &Unit, other: &Unit) -> bool
+/// Whether two units are one: a power's, of one kind, at one place.
+pub fn is_same_unit(unit: &Unit, other: &Unit) -> bool
     ensures { result ≡ is_same_unit unit.now other.now }
 {
     unit.power == other.power

@@ -1,0 +1,11 @@
+mod adjustments;
+mod centres;
+mod compare;
+mod dice;
+mod draws;
+mod games;
+mod movements;
+mod refuges;
+mod rows;
+mod scenes;
+mod texts;

@@ -1,0 +1,11 @@
+pub mod ListLemmas
+pub mod DistanceLemmas
+pub mod DisorderLemmas
+pub mod OrderLemmas
+pub mod MovingLemmas
+pub mod CentreLemmas
+pub mod ApartLemmas
+pub mod CalendarLemmas
+pub mod OneWayLemmas
+pub mod CentreLaws
+pub mod ToldLemmas

@@ -1,0 +1,107 @@
+-- A phase comes to one result.
+use Rattle.std.proofs.Common.{◌≡◌, List, sym, ap, ◌∙◌, subst}
+use Rattle.dip_chart.specs.Charts.{Chart}
+use Rattle.dip_board.specs.declared.boards.Season.{Season}
+use Rattle.dip_board.specs.declared.boards.Season.TheVariants.{SpringMoves, SpringRetreats, FallMoves, FallRetreats, Winter}
+use Rattle.dip_board.specs.Boards.{Position}
+use Rattle.dip_orders.specs.declared.placed.PlacedOrder.{PlacedOrder}
+use Rattle.dip_decide.specs.declared.decisions.Decision.{Decision}
+use Rattle.dip_decide.specs.Deciding.{Assignment, Step}
+use Rattle.dip_decide.specs.Matching.{situation}
+use Rattle.dip_decide.specs.Movement.{Situation}
+use Rattle.dip_decide.specs.Results.{AreExplained, values_in}
+use Rattle.dip_decide.specs.Steps.{steps_of}
+use Rattle.dip_turn.specs.Centres.{centre_lines}
+use Rattle.dip_turn.specs.Laws.{AreAlike, IsSame}
+use Rattle.dip_turn.specs.Moving.{after_moves}
+use Rattle.dip_turn.specs.Outcomes.{movement_lines}
+use Rattle.dip_turn.specs.Phases.{Sequel, follow, sequel}
+use Rattle.dip_turn.specs.Reports.{IsMoved, IsPlayed, Leaves, LeavesAdjusted, LeavesMoved, LeavesRetreated}
+use Rattle.dip_turn.specs.declared.report.Account.{Account}
+use Rattle.dip_turn.specs.declared.report.Account.TheVariants.{Movement as OfMovement, Retreats as OfRetreats, Adjustment as OfAdjustment}
+use Rattle.dip_turn.specs.declared.report.Movement.{Movement}
+use Rattle.dip_turn.specs.declared.report.Report.{Report}
+
+-- any two lists of steps that explain a situation come to the same values
+abbrev pub HaveOneAnswer : Type 0
+HaveOneAnswer = (s : Situation) (one two : List Step) (f g : Assignment) → AreExplained s one f → AreExplained s two g → (d : Decision) → f d ≡ g d
+
+-- two assignments with the same values are one
+same_values : (f g : Assignment) → ((d : Decision) → f d ≡ g d) → f ≡ g
+same_values f g same = λ i. λ d. same d i
+
+-- two boards left and two accounts are the same
+record AreSame (left other : Position) (t u : Account) : Type 0 where
+  board : left ≡ other
+  account : AreAlike t u
+
+moved_once : HaveOneAnswer → (m : Chart) (b : Position) (pending : List PlacedOrder) (left other : Position) (t u : Movement)
+    → IsMoved m b pending left t → IsMoved m b pending other u → AreSame left other (OfMovement t) (OfMovement u)
+moved_once one m b pending left other t u x y =
+    let orders : t.orders ≡ u.orders = x.orders ∙ sym y.orders in
+    let explained : AreExplained (situation m u.orders) (steps_of t.resolution.steps.items) (values_in t.resolution) =
+    subst (λ (os : List PlacedOrder). AreExplained (situation m os) (steps_of t.resolution.steps.items) (values_in t.resolution)) orders x.explained in
+    let values : values_in t.resolution ≡ values_in u.resolution =
+    same_values (values_in t.resolution) (values_in u.resolution)
+    (one (situation m u.orders) (steps_of t.resolution.steps.items) (steps_of u.resolution.steps.items) (values_in t.resolution) (values_in u.resolution) explained y.explained) in
+    record {
+      board =
+          x.board ∙ ap (λ (os : List PlacedOrder). after_moves m b (values_in t.resolution) os) orders
+          ∙ ap (λ (a : Assignment). after_moves m b a u.orders) values ∙ sym y.board;
+      account = (
+        orders,
+        values,
+        x.lines ∙ ap (λ (os : List PlacedOrder). movement_lines m b (values_in t.resolution) os) orders
+            ∙ ap (λ (a : Assignment). movement_lines m b a u.orders) values ∙ sym y.lines,
+      );
+    }
+
+moves_once : HaveOneAnswer → (m : Chart) (b : Position) (pending : List PlacedOrder) (left other : Position) (t u : Account)
+    → LeavesMoved m b pending left t → LeavesMoved m b pending other u → AreSame left other t u
+moves_once one m b pending left other (OfMovement t) (OfMovement u) x y = moved_once one m b pending left other t u x y
+moves_once one m b pending left other (OfMovement t) (OfRetreats u) x y = absurd y
+moves_once one m b pending left other (OfMovement t) (OfAdjustment u) x y = absurd y
+moves_once one m b pending left other (OfRetreats t) u x y = absurd x
+moves_once one m b pending left other (OfAdjustment t) u x y = absurd x
+
+retreats_once : (b : Position) (pending : List PlacedOrder) (left other : Position) (t u : Account)
+    → LeavesRetreated b pending left t → LeavesRetreated b pending other u → AreSame left other t u
+retreats_once b pending left other (OfRetreats t) (OfRetreats u) x y = record { board = x.0 ∙ sym y.0; account = x.1 ∙ sym y.1 }
+retreats_once b pending left other (OfRetreats t) (OfMovement u) x y = absurd y
+retreats_once b pending left other (OfRetreats t) (OfAdjustment u) x y = absurd y
+retreats_once b pending left other (OfMovement t) u x y = absurd x
+retreats_once b pending left other (OfAdjustment t) u x y = absurd x
+
+adjusts_once : (m : Chart) (b : Position) (pending : List PlacedOrder) (left other : Position) (t u : Account)
+    → LeavesAdjusted m b pending left t → LeavesAdjusted m b pending other u → AreSame left other t u
+adjusts_once m b pending left other (OfAdjustment t) (OfAdjustment u) x y =
+    record {
+      board = x.board ∙ sym y.board;
+      account = (x.builds ∙ sym y.builds, x.removals ∙ sym y.removals, x.disorder ∙ sym y.disorder, x.waivers ∙ sym y.waivers);
+    }
+adjusts_once m b pending left other (OfAdjustment t) (OfMovement u) x y = absurd y
+adjusts_once m b pending left other (OfAdjustment t) (OfRetreats u) x y = absurd y
+adjusts_once m b pending left other (OfMovement t) u x y = absurd x
+adjusts_once m b pending left other (OfRetreats t) u x y = absurd x
+
+leaves_once : HaveOneAnswer → (m : Chart) (season : Season) (b : Position) (pending : List PlacedOrder) (left other : Position) (t u : Account)
+    → Leaves m season b pending left t → Leaves m season b pending other u → AreSame left other t u
+leaves_once one m SpringMoves b pending left other t u x y = moves_once one m b pending left other t u x y
+leaves_once one m SpringRetreats b pending left other t u x y = retreats_once b pending left other t u x y
+leaves_once one m FallMoves b pending left other t u x y = moves_once one m b pending left other t u x y
+leaves_once one m FallRetreats b pending left other t u x y = retreats_once b pending left other t u x y
+leaves_once one m Winter b pending left other t u x y = adjusts_once m b pending left other t u x y
+
+pub plays_once : HaveOneAnswer → (m : Chart) (b : Position) (pending : List PlacedOrder) (new other : Position) (one two : Report)
+    → IsPlayed m b pending new one → IsPlayed m b pending other two → IsSame new other one two
+plays_once answer m b pending new other one two x y =
+    let left = leaves_once answer m b.phase.season b pending x.left y.left one.account two.account x.account y.account in
+    let next : sequel new one.course ≡ sequel other two.course = x.next ∙ ap (follow m b.phase.season) left.board ∙ sym y.next in
+    let board : new ≡ other = ap (λ (s : Sequel). s.board) next in
+    record {
+      board = board;
+      account = left.account;
+      phase = x.phase ∙ sym y.phase;
+      centres = x.centres ∙ ap (centre_lines m b) board ∙ sym y.centres;
+      course = ap (λ (s : Sequel). s.course) next;
+    }

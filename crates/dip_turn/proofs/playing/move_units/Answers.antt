@@ -1,0 +1,24 @@
+use Rattle.std.proofs.Common.{◌≡◌, List, ap, ◌∙◌}
+use Rattle.dip_board.specs.Boards.{Position}
+use Rattle.dip_orders.specs.declared.placed.PlacedOrder.{PlacedOrder}
+use Rattle.dip_decide.specs.Results.{values_in}
+use Rattle.dip_turn.specs.Moving.{moved_board, without_destroyed}
+use Rattle.dip_turn.specs.Outcomes.{lines_on}
+use Rattle.dip_turn.proofs.playing.move_units.Goals as goal
+
+pub returns : goal.returns
+returns c =
+    let m = c.args.map.now in
+    let a = values_in c.in_ok-resolution.resolution in
+    let orders = c.in_ok-orders.orders in
+    let moved : c.in_ok-moved.moved ≡ moved_board m c.args.board.now a orders =
+    c.in_ok-moved.ensures ∙ ap (λ (os : List PlacedOrder). moved_board m c.args.board.now a os) c.as_slice.ensures in
+    record {
+      orders = c.in_ok-orders.ensures.value;
+      explained = c.in_ok-resolution.ensures.explained;
+      board = c.in_ok-left.ensures ∙ ap (without_destroyed m) moved;
+      lines =
+          c.in_ok-lines.ensures
+          ∙ ap (λ (os : List PlacedOrder). lines_on m c.in_ok-moved.moved a os) c.as_slice-2.ensures
+          ∙ ap (λ (b : Position). lines_on m b a orders) moved;
+    }

@@ -1,0 +1,165 @@
+-- Laws of phases: what holds of each phase that is adjudicated, by the definitions.
+use Rattle.std.specs.Prelude.{◌≡◌, ℕ, ◌<◌, ◌≤◌, ◌+◌, ◌-◌, ◌*◌, Bool, true, false, not, ◌&&◌, ◌⊎◌, List, length, Option, None, Some}
+use Rattle.std.specs.List.{list_any}
+use Rattle.dip_names.specs.declared.names.Unit.{Unit as Piece}
+use Rattle.dip_chart.specs.Charts.{Chart, is_centre}
+use Rattle.dip_board.specs.declared.boards.Phase.{Phase}
+use Rattle.dip_board.specs.declared.boards.Season.{Season}
+use Rattle.dip_board.specs.declared.boards.Season.TheVariants.{SpringMoves, SpringRetreats, FallMoves, FallRetreats, Winter}
+use Rattle.dip_board.specs.Boards.{Position, owner}
+use Rattle.dip_orders.specs.declared.placed.PlacedOrder.{PlacedOrder}
+use Rattle.dip_decide.specs.declared.decisions.Decision.{Decision}
+use Rattle.dip_decide.specs.Deciding.{Assignment}
+use Rattle.dip_decide.specs.Laws.{AreOrders}
+use Rattle.dip_decide.specs.declared.decisions.Decision.TheVariants.{Move as Moves}
+use Rattle.dip_decide.specs.Matching.{is_convoyed, order_at, situation}
+use Rattle.dip_decide.specs.Movement.{Satisfies, head_to_head}
+use Rattle.dip_decide.specs.Results.{values_in}
+use Rattle.dip_orders.specs.Tests.{is_retreat}
+use Rattle.dip_turn.specs.Centres.{has_won, holder}
+use Rattle.dip_turn.specs.Moving.{contends, dislodged_unit, entrant, enters, has_moved, is_driven_out, prov, unit_after}
+use Rattle.dip_turn.specs.Phases.{has_dislodged, last_year}
+use Rattle.dip_turn.specs.Reports.{IsPlayed}
+use Rattle.dip_turn.specs.declared.report.Account.{Account}
+use Rattle.dip_turn.specs.declared.report.Account.TheVariants.{Movement as OfMovement, Retreats as OfRetreats, Adjustment as OfAdjustment}
+use Rattle.dip_turn.specs.declared.report.Course.{Course}
+use Rattle.dip_turn.specs.declared.report.Course.TheVariants.{GoesOn, Won, Ended}
+use Rattle.dip_turn.specs.declared.report.Report.{Report}
+
+-- after a movement no two units stand in one province: two that aren't dislodged and stand in one came from one
+abbrev pub UnitsStandApart : Type 0
+UnitsStandApart =
+    (m : Chart) (b : Position) (orders : List PlacedOrder) (broken : Decision → Bool) (a : Assignment) (o w : PlacedOrder)
+    → AreOrders m b orders → Satisfies (situation m orders) broken a
+    → order_at orders (prov o) ≡ Some o → order_at orders (prov w) ≡ Some w
+    → is_driven_out a orders o ≡ false → is_driven_out a orders w ≡ false
+    → (unit_after a o).place.prov ≡ (unit_after a w).place.prov → prov o ≡ prov w
+
+-- the place of a season in its year
+abbrev pub season_number : Season → ℕ
+season_number SpringMoves = 0
+season_number SpringRetreats = 1
+season_number FallMoves = 2
+season_number FallRetreats = 3
+season_number Winter = 4
+
+-- the movement of Fall and its retreats
+abbrev pub is_fall : Season → Bool
+is_fall SpringMoves = false
+is_fall SpringRetreats = false
+is_fall FallMoves = true
+is_fall FallRetreats = true
+is_fall Winter = false
+
+-- a season follows another one
+abbrev pub may_follow : Season → Season → Bool
+may_follow SpringMoves SpringRetreats = true
+may_follow SpringMoves FallMoves = true
+may_follow SpringRetreats FallMoves = true
+may_follow FallMoves FallRetreats = true
+may_follow FallMoves Winter = true
+may_follow FallMoves SpringMoves = true
+may_follow FallRetreats Winter = true
+may_follow FallRetreats SpringMoves = true
+may_follow Winter SpringMoves = true
+may_follow _ _ = false
+
+-- the year of a phase in that season behind a phase of that year: Spring is the next year's
+abbrev pub year_behind : Season → ℕ → ℕ
+year_behind SpringMoves year = year + 1
+year_behind SpringRetreats year = year
+year_behind FallMoves year = year
+year_behind FallRetreats year = year
+year_behind Winter year = year
+
+-- how many phases there are at most behind one, up to the last year's Winter
+abbrev pub phases_left : Phase → ℕ
+phases_left p = 5 * (last_year - p.year) + (4 - season_number p.season)
+
+-- the second phase is the next one of a game
+pub record IsNext (p q : Phase) : Type 0 where
+  pub season : may_follow p.season q.season ≡ true
+  pub year : q.year ≡ year_behind q.season p.year
+  pub fewer : phases_left q < phases_left p
+
+-- the phase of a board after a phase: a game that goes on has the next one, and one that is over keeps its last
+abbrev pub IsAfter : Phase → Course → Phase → Type 0
+IsAfter p GoesOn q = IsNext p q
+IsAfter p (Won r) q = q ≡ p
+IsAfter p Ended q = (q ≡ p) × (last_year ≤ p.year)
+
+-- phases follow one another in their order, and fewer and fewer are left, so that each game ends
+abbrev pub PhasesFollow : Type 0
+PhasesFollow =
+    (m : Chart) (b : Position) (pending : List PlacedOrder) (new : Position) (report : Report)
+    → IsPlayed m b pending new report → IsAfter b.phase report.course new.phase
+
+-- a power that has won owns more than half of all centres
+abbrev pub WinnersOwnMore : Type 0
+WinnersOwnMore =
+    (m : Chart) (b : Position) (pending : List PlacedOrder) (new : Position) (report : Report) (power : ℕ)
+    → IsPlayed m b pending new report → report.course ≡ Won power → has_won m new power ≡ true
+
+-- nobody is dislodged on a board whose phase is no retreat
+abbrev pub OnlyRetreatsHaveDislodged : Type 0
+OnlyRetreatsHaveDislodged =
+    (m : Chart) (b : Position) (pending : List PlacedOrder) (new : Position) (report : Report)
+    → IsPlayed m b pending new report → has_dislodged new ≡ true → is_retreat new.phase.season ≡ true
+
+-- a centre fell to the power of the unit that stands in it
+abbrev pub IsTaken : Chart → List Piece → ℕ → Option ℕ → Type 0
+IsTaken m us p r = (is_centre m p ≡ true) × (u : Piece) × (holder us p ≡ Some u) × (r ≡ Some u.power)
+
+-- the owner of a province stayed, or it is a centre with a unit of its new owner in it
+abbrev pub IsKeptOrTaken : Chart → Position → Position → ℕ → Type 0
+IsKeptOrTaken m b new p = (owner new p ≡ owner b p) ⊎ IsTaken m new.units p (owner new p)
+
+-- centres change hands in Fall alone, and only to a power with a unit there; the number of owners stays
+pub record CentresStay (m : Chart) (b new : Position) : Type 0 where
+  pub owners : (p : ℕ) → IsKeptOrTaken m b new p
+  pub count : length new.owners ≡ length b.owners
+  pub elsewhere : is_fall b.phase.season ≡ false → new.owners ≡ b.owners
+
+abbrev pub CentresChangeInFall : Type 0
+CentresChangeInFall =
+    (m : Chart) (b : Position) (pending : List PlacedOrder) (new : Position) (report : Report)
+    → IsPlayed m b pending new report → CentresStay m b new
+
+-- a unit is dislodged exactly where it stays and a successful move leads into its province
+abbrev pub DislodgedWhereEntered : Type 0
+DislodgedWhereEntered =
+    (a : Assignment) (orders : List PlacedOrder) (o : PlacedOrder)
+    → is_driven_out a orders o ≡ (not (has_moved a o) && list_any (enters a (prov o)) orders)
+
+-- the loser of a fight head to head leaves no standoff where it was to go
+abbrev pub LosersLeaveNoStandoff : Type 0
+LosersLeaveNoStandoff =
+    (m : Chart) (a : Assignment) (orders : List PlacedOrder) (p : ℕ) (o : PlacedOrder)
+    → head_to_head (situation m orders) (prov o) p ≡ true → a (Moves p) ≡ true → contends m a orders p o ≡ false
+
+-- an attacker by convoy closes no province to the retreat of the unit that it dislodged
+abbrev pub ConvoysCloseNoOrigin : Type 0
+ConvoysCloseNoOrigin =
+    (m : Chart) (a : Assignment) (orders : List PlacedOrder) (o w : PlacedOrder)
+    → entrant a orders (prov o) ≡ Some w → is_convoyed m (Some w) ≡ true → (dislodged_unit m a orders o).origin ≡ None
+
+-- the two accounts tell the same, but for the steps that explain a movement
+abbrev pub AreAlike : Account → Account → Type 0
+AreAlike (OfMovement s) (OfMovement t) = (s.orders ≡ t.orders) × (values_in s.resolution ≡ values_in t.resolution) × (s.lines.items ≡ t.lines.items)
+AreAlike (OfRetreats s) (OfRetreats t) = s.items ≡ t.items
+AreAlike (OfAdjustment s) (OfAdjustment t) = (s.builds.items ≡ t.builds.items) × (s.removals.items ≡ t.removals.items) × (s.disorder.items ≡ t.disorder.items) × (s.waivers.items ≡ t.waivers.items)
+AreAlike _ _ = ⊥
+
+-- two boards and reports are the same
+pub record IsSame (new other : Position) (one two : Report) : Type 0 where
+  pub board : new ≡ other
+  pub account : AreAlike one.account two.account
+  pub phase : one.phase ≡ two.phase
+  pub centres : one.centres.items ≡ two.centres.items
+  pub course : one.course ≡ two.course
+
+-- a phase of one board with the same orders comes to the same, whoever adjudicates it
+abbrev pub PhasesHaveOneResult : Type 0
+PhasesHaveOneResult =
+    (m : Chart) (b : Position) (pending : List PlacedOrder) (new other : Position) (one two : Report)
+    → IsPlayed m b pending new one → IsPlayed m b pending other two → IsSame new other one two

@@ -1,0 +1,11 @@
+pub mod Indices
+pub mod Distances
+pub mod Disorder
+pub mod Moving
+pub mod Outcomes
+pub mod Retreating
+pub mod Adjusting
+pub mod Centres
+pub mod Phases
+pub mod Reports
+pub mod Laws

@@ -1,0 +1,48 @@
+//! Laws of phases, each the contract of a function that does nothing.
+ghost use Rattle.dip_turn.specs.Laws.{UnitsStandApart, DislodgedWhereEntered, LosersLeaveNoStandoff, ConvoysCloseNoOrigin, OnlyRetreatsHaveDislodged, CentresChangeInFall, PhasesFollow, WinnersOwnMore, PhasesHaveOneResult};
+
+use dip_decide::{boards_are_situations, equations_are_lawful, one_answer};
+
+/// After a movement no two units stand in one province: two that aren't dislodged and stand in one are the same.
+pub fn units_stand_apart()
+    ensures { UnitsStandApart }
+{
+    boards_are_situations();
+    equations_are_lawful();
+}
+
+/// A unit is dislodged exactly where it stays and a successful move leads into its province; the loser of a fight head to head
+/// leaves no standoff where it was to go; and an attacker by convoy closes no province to a retreat.
+pub fn movements_are_told()
+    ensures dislodged { DislodgedWhereEntered }
+    ensures losers { LosersLeaveNoStandoff }
+    ensures convoys { ConvoysCloseNoOrigin }
+{}
+
+/// Nobody is dislodged on a board whose phase is no retreat.
+pub fn only_retreats_have_dislodged()
+    ensures { OnlyRetreatsHaveDislodged }
+{}
+
+/// Centres change hands after Fall and its retreats alone, and only to a power with a unit there; their number stays.
+pub fn centres_change_in_fall()
+    ensures { CentresChangeInFall }
+{}
+
+/// Phases follow one another in the order of the rules, time goes on, and every game ends.
+pub fn phases_follow()
+    ensures { PhasesFollow }
+{}
+
+/// Whoever has won owns more than half of all centres of the map.
+pub fn winners_own_more()
+    ensures { WinnersOwnMore }
+{}
+
+/// Two calls of `advance` on one board with the same orders come to the same board and report, but for the steps of the
+/// explanation.
+pub fn phases_have_one_result()
+    ensures { PhasesHaveOneResult }
+{
+    one_answer();
+}

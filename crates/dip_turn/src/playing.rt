@@ -1,0 +1,170 @@
+//! A phase, adjudicated.
+ghost use Rattle.std.specs.Prelude.{◌≡◌, IfOk, IfErr, length};
+ghost use Rattle.dip_board.specs.Boards.{IsOf};
+ghost use Rattle.dip_turn.specs.Phases as p;
+ghost use Rattle.dip_turn.specs.Reports.{IsMoved, IsAdjusted, LeavesMoved, LeavesRetreated, LeavesAdjusted, Leaves, IsPlayed};
+
+use crate::adjusting::{after_adjustment, disorder, units_built, units_given, waivers};
+use crate::centres::centre_lines;
+use crate::moving::{moved_board, without_destroyed};
+use crate::outcomes::movement_lines;
+use crate::phases::follow;
+use crate::report::{Account, Adjustment, Movement, Report};
+use crate::retreating::{after_retreats, retreat_lines};
+use dip_board::{Board, Season};
+use dip_decide::resolve;
+use dip_map::Map;
+use dip_orders::{Orders, PlacedOrder, each_unit_has_one_order};
+use std::alloc::{AllocError, Global};
+
+/// The board that a movement leaves, and what is told of it.
+fn move_units(
+    alloc: Global,
+    map: &Map,
+    board: &Board,
+    pending: &[PlacedOrder],
+) -> Result<(Board, Movement), AllocError>
+    requires of_map { IsOf map.now board.now }
+    ensures { IfOk result (λ r. IsMoved map.now board.now pending.now r.0 r.1) }
+{
+    let orders = Orders::standing(alloc, board, pending)?;
+    each_unit_has_one_order();
+    let resolution = resolve(alloc, map, board, &orders)?;
+    let moved = moved_board(alloc, map, board, &resolution, orders.as_slice())?;
+    let lines = movement_lines(alloc, map, &moved, &resolution, orders.as_slice())?;
+    let left = without_destroyed(alloc, map, &moved)?;
+    Ok((
+        left,
+        Movement {
+            orders,
+            resolution,
+            lines,
+        },
+    ))
+}
+
+/// The board that builds and removals leave, and what is told of them.
+fn adjust_units(
+    alloc: Global,
+    map: &Map,
+    board: &Board,
+    pending: &[PlacedOrder],
+) -> Result<(Board, Adjustment), AllocError>
+    ensures { IfOk result (λ r. IsAdjusted map.now board.now pending.now r.0 r.1) }
+{
+    let left = after_adjustment(alloc, map, board, pending)?;
+    let builds = units_built(alloc, pending)?;
+    let removals = units_given(alloc, board, pending)?;
+    let disorder = disorder(alloc, map, board, pending)?;
+    let waivers = waivers(alloc, map, board, pending)?;
+    Ok((
+        left,
+        Adjustment {
+            builds,
+            removals,
+            disorder,
+            waivers,
+        },
+    ))
+}
+
+fn play_movement(
+    alloc: Global,
+    map: &Map,
+    board: &Board,
+    pending: &[PlacedOrder],
+) -> Result<(Board, Account), AllocError>
+    requires of_map { IsOf map.now board.now }
+    ensures { IfOk result (λ r. LeavesMoved map.now board.now pending.now r.0 r.1) }
+{
+    let (left, movement) = move_units(alloc, map, board, pending)?;
+    Ok((left, Account::Movement(movement)))
+}
+
+fn play_retreats(
+    alloc: Global,
+    board: &Board,
+    pending: &[PlacedOrder],
+) -> Result<(Board, Account), AllocError>
+    ensures { IfOk result (λ r. LeavesRetreated board.now pending.now r.0 r.1) }
+{
+    let left = after_retreats(alloc, board, pending)?;
+    let lines = retreat_lines(alloc, board, pending)?;
+    Ok((left, Account::Retreats(lines)))
+}
+
+fn play_adjustment(
+    alloc: Global,
+    map: &Map,
+    board: &Board,
+    pending: &[PlacedOrder],
+) -> Result<(Board, Account), AllocError>
+    ensures { IfOk result (λ r. LeavesAdjusted map.now board.now pending.now r.0 r.1) }
+{
+    let (left, adjustment) = adjust_units(alloc, map, board, pending)?;
+    Ok((left, Account::Adjustment(adjustment)))
+}
+
+/// The board that its phase leaves, and what is told of it.
+fn left_by(
+    alloc: Global,
+    map: &Map,
+    board: &Board,
+    pending: &[PlacedOrder],
+) -> Result<(Board, Account), AllocError>
+    requires of_map { IsOf map.now board.now }
+    ensures { IfOk result (λ r. Leaves map.now board.now.phase.season board.now pending.now r.0 r.1) }
+{
+    match board.phase().season {
+        Season::SpringMoves | Season::FallMoves => play_movement(alloc, map, board, pending),
+        Season::SpringRetreats | Season::FallRetreats => play_retreats(alloc, board, pending),
+        Season::Winter => play_adjustment(alloc, map, board, pending),
+    }
+}
+
+fn play(
+    alloc: Global,
+    map: &Map,
+    board: &Board,
+    pending: &[PlacedOrder],
+) -> Result<(Board, Report), AllocError>
+    requires of_map { IsOf map.now board.now }
+    ensures { IfOk result (λ r. IsPlayed map.now board.now pending.now r.0 r.1) }
+{
+    let (left, account) = left_by(alloc, map, board, pending)?;
+    let (next, course) = follow(alloc, map, board.phase().season, left)?;
+    let centres = centre_lines(alloc, map, board, &next)?;
+    Ok((
+        next,
+        Report {
+            phase: board.phase(),
+            account,
+            centres,
+            course,
+        },
+    ))
+}
+
+/// Adjudicates the board's phase with the orders that stand, and gives the board after it and what is told of it.
+///
+/// In a movement each unit has the first order in force that is its own, else it holds; among the retreats a dislodged unit has
+/// the first order to retreat or disband that is its own, else it disbands; in Winter the builds and removals among the orders
+/// are made. A game that is won or has ended keeps its last phase.
+///
+/// # Errors
+/// Want of memory alone, and the board as it was.
+pub fn advance(
+    alloc: Global,
+    map: &Map,
+    board: Board,
+    pending: &[PlacedOrder],
+) -> Result<(Board, Report), (Board, AllocError)>
+    requires of_map { IsOf map.now board }
+    ensures played { IfOk result (λ r. IsPlayed map.now board pending.now r.0 r.1) }
+    ensures err { IfErr result (λ e. e.0 ≡ board) }
+{
+    match play(alloc, map, &board, pending) {
+        Ok(next) => Ok(next),
+        Err(error) => Err((board, error)),
+    }
+}

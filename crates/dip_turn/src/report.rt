@@ -1,0 +1,123 @@
+//! What is told of a phase that was adjudicated.
+use dip_board::Phase;
+use dip_decide::Resolution;
+use dip_names::{Power, Prov, Unit};
+use dip_orders::{Orders, PlacedOrder};
+
+/// What became of an order in a movement.
+#[derive(Clone, Copy, PartialEq, Eq, Debug)]
+pub enum Outcome {
+    /// The unit had no order but to stay.
+    Holds,
+    /// The move succeeded.
+    Moves,
+    /// The move failed.
+    Bounced,
+    /// The move was to go by convoy, and there was no chain of fleets to carry it.
+    NoRoute,
+    /// The support counted.
+    Given,
+    /// The support matched, and an attack cut it.
+    Cut,
+    /// The support or the convoy matched no order.
+    Void,
+    /// The convoy matched a move, whether that one came through or not.
+    Convoys,
+}
+
+/// What became of a unit in a movement.
+#[derive(Clone, Copy, PartialEq, Eq, Debug)]
+pub enum Fate {
+    /// It stands, where it was or at its destination.
+    Stands,
+    /// It was dislodged, and has to retreat or disband.
+    Dislodged,
+    /// It was dislodged and had no place to retreat to.
+    Destroyed,
+}
+
+/// A unit in a movement, its order and what became of both.
+#[derive(Clone, Copy, PartialEq, Eq, Debug)]
+pub struct MovementLine {
+    pub placed: PlacedOrder,
+    pub outcome: Outcome,
+    pub fate: Fate,
+}
+
+/// What is told of a movement.
+#[derive(Drop)]
+pub struct Movement {
+    /// One order for each unit that stood, in the board's order.
+    pub orders: Orders,
+    /// What was decided, and the steps that explain it.
+    pub resolution: Resolution,
+    /// A line for each of the orders.
+    pub lines: Vec<MovementLine>,
+}
+
+/// A dislodged unit and its order, to disband where it had none.
+#[derive(Clone, Copy, PartialEq, Eq, Debug)]
+pub struct RetreatLine {
+    pub placed: PlacedOrder,
+    /// Whether the unit retreated. If not, it disbanded.
+    pub is_made: bool,
+}
+
+/// Builds that a power might have made and didn't.
+#[derive(Clone, Copy, PartialEq, Eq, Debug)]
+pub struct Waiver {
+    pub power: Power,
+    /// How many, at least 1.
+    pub builds: usize,
+}
+
+/// What is told of a Winter.
+#[derive(Drop)]
+pub struct Adjustment {
+    /// The units that were built.
+    pub builds: Vec<Unit>,
+    /// The units that were removed by their power's order.
+    pub removals: Vec<Unit>,
+    /// The units that were removed since their power owed removals and gave none, power by power in the order in which they went.
+    pub disorder: Vec<Unit>,
+    /// The waived builds, by power.
+    pub waivers: Vec<Waiver>,
+}
+
+/// A centre that changed hands, and the power that owns it now.
+#[derive(Clone, Copy, PartialEq, Eq, Debug)]
+pub struct CentreLine {
+    pub prov: Prov,
+    pub power: Power,
+}
+
+/// What is told of a phase, by its kind.
+#[derive(Drop)]
+pub enum Account {
+    Movement(Movement),
+    /// A line for each dislodged unit, in the board's order.
+    Retreats(Vec<RetreatLine>),
+    Adjustment(Adjustment),
+}
+
+/// Whether a game goes on.
+#[derive(Clone, Copy, PartialEq, Eq, Debug)]
+pub enum Course {
+    /// The board's phase is to be played next.
+    GoesOn,
+    /// The power owns more than half of all centres.
+    Won(Power),
+    /// The last phase of the last year was played, and nobody has won.
+    Ended,
+}
+
+/// What is told of a phase that was adjudicated.
+#[derive(Drop)]
+pub struct Report {
+    /// The phase that was adjudicated.
+    pub phase: Phase,
+    pub account: Account,
+    /// The centres that changed hands, by code.
+    pub centres: Vec<CentreLine>,
+    pub course: Course,
+}

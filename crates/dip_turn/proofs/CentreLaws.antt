@@ -2,13 +2,13 @@
 use Rattle.std.proofs.Common.{◌≡◌, ◌⊎◌, inl, inr, ℕ, ◌+◌, zero, suc, Bool, true, false, cond, List, [], ◌∷◌, length, Option, None, Some, get_or, refl, sym, ap, ◌∙◌, subst, arith}
 use Rattle.std.specs.Prelude.{nat_le, nat_lt}
 use Rattle.std.proofs.lemmas.Bool.{false≢true}
-use Rattle.dip_names.specs.declared.names.Unit.{Unit as Piece}
+use Rattle.dip_names.specs.declared.names.Unit.{Unit as AUnit}
 use Rattle.dip_chart.specs.Charts.{Chart, is_centre}
 use Rattle.dip_board.specs.declared.boards.Phase.{Phase}
 use Rattle.dip_board.specs.declared.boards.Season.{Season}
 use Rattle.dip_board.specs.declared.boards.Season.TheVariants.{SpringMoves, SpringRetreats, FallMoves, FallRetreats, Winter}
 use Rattle.dip_board.specs.Boards.{Position, owner}
-use Rattle.dip_orders.specs.Tests.{is_retreat}
+use Rattle.dip_orders.specs.Conditions.{is_retreat}
 use Rattle.dip_orders.specs.declared.placed.PlacedOrder.{PlacedOrder}
 use Rattle.dip_turn.specs.Centres.{holder, owner_after, owner_by, owners_after, winner, with_owners}
 use Rattle.dip_turn.specs.Laws.{CentresStay, IsTaken, is_fall}
@@ -19,18 +19,18 @@ use Rattle.dip_turn.specs.declared.report.Account.TheVariants.{Movement as OfMov
 use Rattle.dip_turn.specs.declared.report.Course.TheVariants.{GoesOn, Ended}
 use Rattle.dip_turn.specs.declared.report.Report.{Report}
 
-taken_by : (m : Chart) (us : List Piece) (p : ℕ) (o : Option ℕ) → is_centre m p ≡ true → (h : Option Piece) → holder us p ≡ h → (owner_by h o ≡ o) ⊎ IsTaken m us p (owner_by h o)
+taken_by : (m : Chart) (us : List AUnit) (p : ℕ) (o : Option ℕ) → is_centre m p ≡ true → (h : Option AUnit) → holder us p ≡ h → (owner_by h o ≡ o) ⊎ IsTaken m us p (owner_by h o)
 taken_by m us p o centre None is = inl refl
 taken_by m us p o centre (Some u) is = inr (centre, u, is, refl)
 
-kept_or_taken : (m : Chart) (us : List Piece) (p : ℕ) (o : Option ℕ) → (owner_after m us p o ≡ o) ⊎ IsTaken m us p (owner_after m us p o)
+kept_or_taken : (m : Chart) (us : List AUnit) (p : ℕ) (o : Option ℕ) → (owner_after m us p o ≡ o) ⊎ IsTaken m us p (owner_after m us p o)
 kept_or_taken m us p o = go (is_centre m p) refl
   where
     go : (c : Bool) → is_centre m p ≡ c → (cond c (owner_by (holder us p) o) o ≡ o) ⊎ IsTaken m us p (cond c (owner_by (holder us p) o) o)
     go true is = taken_by m us p o is (holder us p) refl
     go false is = inl refl
 
-owners_at : (m : Chart) (us : List Piece) (os : List (Option ℕ)) (i p q : ℕ) → q ≡ i + p
+owners_at : (m : Chart) (us : List AUnit) (os : List (Option ℕ)) (i p q : ℕ) → q ≡ i + p
     → (get_or (owners_after m us i os) p None ≡ get_or os p None) ⊎ IsTaken m us q (get_or (owners_after m us i os) p None)
 owners_at m us [] i p q e = inl refl
 owners_at m us (o ∷ os) i zero q e =
@@ -38,7 +38,7 @@ owners_at m us (o ∷ os) i zero q e =
     subst (λ (r : ℕ). (owner_after m us i o ≡ o) ⊎ IsTaken m us r (owner_after m us i o)) same (kept_or_taken m us i o)
 owners_at m us (o ∷ os) i (suc p) q e = owners_at m us os (i + 1) p q (omega (arith, e))
 
-owners_count : (m : Chart) (us : List Piece) (os : List (Option ℕ)) (i : ℕ) → length (owners_after m us i os) ≡ length os
+owners_count : (m : Chart) (us : List AUnit) (os : List (Option ℕ)) (i : ℕ) → length (owners_after m us i os) ≡ length os
 owners_count m us [] i = refl
 owners_count m us (o ∷ os) i = ap suc (owners_count m us os (i + 1))
 
@@ -62,7 +62,7 @@ changed : (m : Chart) (b new : Position) → is_fall b.phase.season ≡ true →
 changed m b new fall owned stand = record {
   owners = λ p.
       subst (λ (os : List (Option ℕ)). (get_or os p None ≡ get_or b.owners p None) ⊎ IsTaken m new.units p (get_or os p None)) (sym owned)
-      (subst (λ (us : List Piece). (get_or (owners_after m b.units 0 b.owners) p None ≡ get_or b.owners p None) ⊎ IsTaken m us p (get_or (owners_after m b.units 0 b.owners) p None)) (sym stand)
+      (subst (λ (us : List AUnit). (get_or (owners_after m b.units 0 b.owners) p None ≡ get_or b.owners p None) ⊎ IsTaken m us p (get_or (owners_after m b.units 0 b.owners) p None)) (sym stand)
       (owners_at m b.units b.owners 0 p p (omega arith)));
   count = ap (λ (os : List (Option ℕ)). length os) owned ∙ owners_count m b.units b.owners 0;
   elsewhere = λ calm. absurd (false≢true (sym calm ∙ fall));

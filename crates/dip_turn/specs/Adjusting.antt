@@ -1,31 +1,31 @@
 -- What builds and removals make of a board.
 use Rattle.std.specs.Prelude.{ℕ, ◌==◌, ◌-◌, not, ◌&&◌, Bool, nat_lt, List, [], ◌++◌, map, filter, flat_map, count_by, Option, None, Some, if◌then◌else◌}
 use Rattle.std.specs.List.{list_any, filter_map}
-use Rattle.dip_names.specs.declared.names.Unit.{Unit as Piece}
+use Rattle.dip_names.specs.declared.names.Unit.{Unit as AUnit}
 use Rattle.dip_chart.specs.Charts.{Chart}
 use Rattle.dip_board.specs.Boards.{Position}
 use Rattle.dip_orders.specs.Allowances.{builds_due, removals_due}
 use Rattle.dip_orders.specs.Standing.{is_same_unit}
-use Rattle.dip_orders.specs.Tests.{is_build, is_remove}
+use Rattle.dip_orders.specs.Conditions.{is_build, is_remove}
 use Rattle.dip_orders.specs.declared.placed.PlacedOrder.{PlacedOrder}
 use Rattle.dip_turn.specs.Disorder.{in_disorder}
 use Rattle.dip_turn.specs.Indices.{indices}
 use Rattle.dip_turn.specs.declared.report.Waiver.{Waiver}
 
 -- the units that are built
-abbrev pub units_built : List PlacedOrder → List Piece
+abbrev pub units_built : List PlacedOrder → List AUnit
 units_built pending = map (λ o. o.unit) (filter (λ o. is_build o.order) pending)
 
 -- the removal of the unit stands
-abbrev pub is_given : List PlacedOrder → Piece → Bool
+abbrev pub is_given : List PlacedOrder → AUnit → Bool
 is_given pending u = list_any (λ o. is_remove o.order && is_same_unit o.unit u) pending
 
 -- the units whose removal stands
-abbrev pub units_given : Position → List PlacedOrder → List Piece
+abbrev pub units_given : Position → List PlacedOrder → List AUnit
 units_given b pending = filter (is_given pending) b.units
 
 -- the units without those
-abbrev pub units_kept : Position → List PlacedOrder → List Piece
+abbrev pub units_kept : Position → List PlacedOrder → List AUnit
 units_kept b pending = filter (λ u. not (is_given pending u)) b.units
 
 -- how many builds, and how many removals, of the power stand
@@ -40,23 +40,23 @@ abbrev pub removals_owed : Position → List PlacedOrder → ℕ → ℕ
 removals_owed b pending power = removals_due b power - removals_given pending power
 
 -- these units of a power
-abbrev pub units_of_power : ℕ → List Piece → List Piece
+abbrev pub units_of_power : ℕ → List AUnit → List AUnit
 units_of_power power us = filter (λ u. u.power == power) us
 
 -- the units of a power that are removed in disorder, in the order in which they go
-abbrev pub disorder_of : Chart → Position → List PlacedOrder → ℕ → List Piece
+abbrev pub disorder_of : Chart → Position → List PlacedOrder → ℕ → List AUnit
 disorder_of m b pending power = in_disorder m power (removals_owed b pending power) (units_of_power power (units_kept b pending))
 
 -- all that are removed in disorder, power by power
-abbrev pub disorder : Chart → Position → List PlacedOrder → List Piece
+abbrev pub disorder : Chart → Position → List PlacedOrder → List AUnit
 disorder m b pending = flat_map (disorder_of m b pending) (indices m.realms)
 
 -- one of these stands where the unit does
-abbrev pub is_among : List Piece → Piece → Bool
+abbrev pub is_among : List AUnit → AUnit → Bool
 is_among us u = list_any (λ v. v.place.prov == u.place.prov) us
 
 -- the units that were there and stay
-abbrev pub units_staying : Chart → Position → List PlacedOrder → List Piece
+abbrev pub units_staying : Chart → Position → List PlacedOrder → List AUnit
 units_staying m b pending = filter (λ u. not (is_among (disorder m b pending) u)) (units_kept b pending)
 
 -- the board after the builds and removals

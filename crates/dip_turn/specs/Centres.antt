@@ -1,27 +1,27 @@
 -- Centres: who owns them after Fall, and who has won.
 use Rattle.std.specs.Prelude.{ℕ, ◌+◌, ◌*◌, ◌==◌, nat_lt, Bool, true, false, List, [], ◌∷◌, find, Option, None, Some, option_map, count_by, if◌then◌else◌}
 use Rattle.std.specs.List.{filter_map}
-use Rattle.dip_names.specs.declared.names.Unit.{Unit as Piece}
+use Rattle.dip_names.specs.declared.names.Unit.{Unit as AUnit}
 use Rattle.dip_chart.specs.Charts.{Chart, is_centre}
 use Rattle.dip_board.specs.Boards.{Position, owner, centres_owned}
 use Rattle.dip_turn.specs.Indices.{indices}
 use Rattle.dip_turn.specs.declared.report.CentreLine.{CentreLine}
 
 -- the unit that stands in a province
-abbrev pub holder : List Piece → ℕ → Option Piece
+abbrev pub holder : List AUnit → ℕ → Option AUnit
 holder us p = find (λ u. u.place.prov == p) us
 
 -- who owns a centre: the power of the unit in it, and where it is empty its owner
-abbrev pub owner_by : Option Piece → Option ℕ → Option ℕ
+abbrev pub owner_by : Option AUnit → Option ℕ → Option ℕ
 owner_by None owner = owner
 owner_by (Some u) owner = Some u.power
 
 -- who owns a province: only a centre changes hands
-abbrev pub owner_after : Chart → List Piece → ℕ → Option ℕ → Option ℕ
+abbrev pub owner_after : Chart → List AUnit → ℕ → Option ℕ → Option ℕ
 owner_after m us p owner = if is_centre m p then owner_by (holder us p) owner else owner
 
 -- the owners from province i on
-abbrev pub owners_after : Chart → List Piece → ℕ → List (Option ℕ) → List (Option ℕ)
+abbrev pub owners_after : Chart → List AUnit → ℕ → List (Option ℕ) → List (Option ℕ)
 owners_after m us i [] = []
 owners_after m us i (o ∷ os) = owner_after m us i o ∷ owners_after m us (i + 1) os
 

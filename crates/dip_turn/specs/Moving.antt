@@ -2,7 +2,7 @@
 use Rattle.std.specs.Prelude.{ℕ, ◌==◌, nat_lt, not, ◌&&◌, Bool, List, map, filter, find, length, Option, None, Some, is_some, if◌then◌else◌}
 use Rattle.std.specs.List.{list_any}
 use Rattle.dip_names.specs.declared.names.Place.{Place}
-use Rattle.dip_names.specs.declared.names.Unit.{Unit as Piece}
+use Rattle.dip_names.specs.declared.names.Unit.{Unit as AUnit}
 use Rattle.dip_chart.specs.Charts.{Chart}
 use Rattle.dip_board.specs.declared.boards.Dislodged.{Dislodged}
 use Rattle.dip_board.specs.Boards.{Position}
@@ -33,7 +33,7 @@ leads_to a Build = a
 leads_to a Remove = a
 
 -- the unit of an order, at its destination
-abbrev pub at_destination : PlacedOrder → Piece
+abbrev pub at_destination : PlacedOrder → AUnit
 at_destination o = record { power = o.unit.power; kind = o.unit.kind; place = leads_to o.unit.place o.order }
 
 -- the move of the unit succeeds
@@ -41,7 +41,7 @@ abbrev pub has_moved : Assignment → PlacedOrder → Bool
 has_moved a o = a (Moves (prov o))
 
 -- the unit of an order where it stands after the movement, unless it is dislodged: at its destination where its move succeeds
-abbrev pub unit_after : Assignment → PlacedOrder → Piece
+abbrev pub unit_after : Assignment → PlacedOrder → AUnit
 unit_after a o = if has_moved a o then at_destination o else o.unit
 
 -- the move leads into that province, and succeeds
@@ -66,7 +66,7 @@ abbrev pub dislodged_unit : Chart → Assignment → List PlacedOrder → Placed
 dislodged_unit m a orders o = record { unit = o.unit; origin = origin m (entrant a orders (prov o)) }
 
 -- the units that stand after the movement
-abbrev pub standing_after : Assignment → List PlacedOrder → List Piece
+abbrev pub standing_after : Assignment → List PlacedOrder → List AUnit
 standing_after a orders = map (unit_after a) (filter (λ o. not (is_driven_out a orders o)) orders)
 
 -- the units that it dislodged
@@ -78,11 +78,11 @@ abbrev pub contends : Chart → Assignment → List PlacedOrder → ℕ → Plac
 contends m a orders p o = is_at (destination o.order) p && (not (has_moved a o) && nat_lt 0 (prevent (situation m orders) a (prov o) p))
 
 -- a standoff: a failed move into the province had prevent strength, and nobody stands there after the movement
-abbrev pub is_standoff_after : Chart → Assignment → List PlacedOrder → List Piece → ℕ → Bool
+abbrev pub is_standoff_after : Chart → Assignment → List PlacedOrder → List AUnit → ℕ → Bool
 is_standoff_after m a orders us p = list_any (contends m a orders p) orders && not (list_any (λ u. u.place.prov == p) us)
 
 -- the standoff provinces, where these units stand
-abbrev pub standoffs_after : Chart → Assignment → List PlacedOrder → List Piece → List ℕ
+abbrev pub standoffs_after : Chart → Assignment → List PlacedOrder → List AUnit → List ℕ
 standoffs_after m a orders us = filter (is_standoff_after m a orders us) (indices m.provinces)
 
 -- the board with all dislodged units

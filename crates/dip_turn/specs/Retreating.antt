@@ -3,7 +3,7 @@ use Rattle.std.specs.Prelude.{ℕ, ◌==◌, ◌&&◌, Bool, true, false, List, 
 use Rattle.std.specs.List.{filter_map}
 use Rattle.std.specs.Option.{unwrap_or}
 use Rattle.dip_names.specs.declared.names.Place.{Place}
-use Rattle.dip_names.specs.declared.names.Unit.{Unit as Piece}
+use Rattle.dip_names.specs.declared.names.Unit.{Unit as AUnit}
 use Rattle.dip_board.specs.declared.boards.Dislodged.{Dislodged}
 use Rattle.dip_board.specs.Boards.{Position}
 use Rattle.dip_orders.specs.Standing.{is_same_unit}
@@ -58,13 +58,13 @@ abbrev pub is_sought_by_one : List PlacedOrder → List Dislodged → ℕ → Bo
 is_sought_by_one pending ds p = count_by (λ d. is_in (goal pending d) p) ds == 1
 
 -- a unit at the place where it goes, if no other goes to its province; else it disbands
-abbrev pub at_refuge : List PlacedOrder → List Dislodged → Piece → Option Place → Option Piece
+abbrev pub at_refuge : List PlacedOrder → List Dislodged → AUnit → Option Place → Option AUnit
 at_refuge pending ds u None = None
 at_refuge pending ds u (Some to) =
     if is_sought_by_one pending ds to.prov then Some (record { power = u.power; kind = u.kind; place = to }) else None
 
 -- a dislodged unit where it stands after the retreats, if it does
-abbrev pub after_retreat : List PlacedOrder → List Dislodged → Dislodged → Option Piece
+abbrev pub after_retreat : List PlacedOrder → List Dislodged → Dislodged → Option AUnit
 after_retreat pending ds d = at_refuge pending ds d.unit (goal pending d)
 
 -- the board after the retreats

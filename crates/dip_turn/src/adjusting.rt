@@ -2,7 +2,7 @@
 ghost use Rattle.std.specs.Prelude.{◌≡◌, ◌==◌, ◌&&◌, not, IfOk, map, filter, flat_map, count_by};
 ghost use Rattle.std.specs.List.{list_any, filter_map};
 ghost use Rattle.dip_orders.specs.Standing.{is_same_unit};
-ghost use Rattle.dip_orders.specs.Tests.{is_build, is_remove};
+ghost use Rattle.dip_orders.specs.Conditions.{is_build, is_remove};
 ghost use Rattle.dip_turn.specs.Adjusting as a;
 ghost use Rattle.dip_turn.specs.Indices.{indices};
 

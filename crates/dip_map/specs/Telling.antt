@@ -31,7 +31,8 @@ pub record IsTold (m : Chart) (p : ℕ) (t : Members) : Type 0 where
 
 -- what its table tells of a power: its home centres, each by its code
 pub record IsToldPower (m : Chart) (r : ℕ) (t : Members) : Type 0 where
-  pub home : (p : ℕ) → p < length m.provinces → Contains (home m r) p ↔ Names t (codes "home") (province m p).code
+  pub home : (p : ℕ) → p < length m.provinces
+      → Contains (home m r) p ↔ Names t (codes "home") (province m p).code
 
 -- what a file tells of a map: its name, and each province and each power in a table of its own
 pub record Tells (file : Members) (m : Chart) : Type 0 where

@@ -5,7 +5,9 @@ pub use Rattle.toml.specs.Parse.{parse_document}
 
 -- a list in a table names a text
 abbrev pub Names : Members → List ℕ → List ℕ → Type 0
-Names t key text = (items : Items) × (get_member key t ≡ Some (array items)) × ((n : ℕ) × (get_item n items ≡ Some (string text)))
+Names t key text =
+    (items : Items) × (get_member key t ≡ Some (array items))
+    × ((n : ℕ) × (get_item n items ≡ Some (string text)))
 
 -- a field of a table is a text
 abbrev pub Says : Members → List ℕ → List ℕ → Type 0
@@ -13,7 +15,8 @@ Says t key text = get_member key t ≡ Some (string text)
 
 -- the table of a key in one of the file's tables
 abbrev pub HasTable : Members → List ℕ → List ℕ → Members → Type 0
-HasTable file group key t = (all : Members) × (get_member group file ≡ Some (table all)) × (get_member key all ≡ Some (table t))
+HasTable file group key t =
+    (all : Members) × (get_member group file ≡ Some (table all)) × (get_member key all ≡ Some (table t))
 
 -- a place as it is written: a code, and behind a slash the name of a coast, if it has one
 abbrev pub behind_slash : List ℕ → List ℕ
@@ -26,4 +29,5 @@ site_text code coast = code ++ behind_slash coast
 -- where a fleet goes from a coast of a province: the only coast has no name and the list `fleet`, another one a list in `coasts`
 abbrev pub FleetNames : Members → List ℕ → List ℕ → Type 0
 FleetNames t [] text = Names t (codes "fleet") text
-FleetNames t (b ∷ name) text = (coasts : Members) × (get_member (codes "coasts") t ≡ Some (table coasts)) × Names coasts (b ∷ name) text
+FleetNames t (b ∷ name) text =
+    (coasts : Members) × (get_member (codes "coasts") t ≡ Some (table coasts)) × Names coasts (b ∷ name) text

@@ -31,6 +31,3 @@ pub use printing::{print_order, print_unit};
 pub use reading::read_order;
 pub use retreating::retreats;
 pub use standing::{Orders, is_same_unit};
-
-#[cfg(test)]
-mod tests;

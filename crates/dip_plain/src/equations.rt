@@ -6,7 +6,7 @@ use dip_orders::PlacedOrder;
 
 impl Completion<'_> {
     /// The value that the decision's equation gives.
-    pub(crate) fn equation(&self, decision: Decision) -> bool {
+    pub fn equation(&self, decision: Decision) -> bool {
         match decision {
             Decision::Move(prov) => match self.field.unit_in(prov) {
                 Some(mover) => self.move_equation(&mover),

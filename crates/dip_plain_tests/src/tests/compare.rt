@@ -3,10 +3,10 @@ use super::laws::{keeps_laws, satisfies_equations};
 use super::scenes::{are_codes, board_in, line_of, orders_in};
 use super::told::told_of;
 use super::words::{fate_of, values_of, word_of};
-use dip_plain::{Field, Outcome, PlainFault, Step, is_explained, resolve_plainly};
 use dip_board::Board;
 use dip_map::{Map, STANDARD};
 use dip_orders::PlacedOrder;
+use dip_plain::{Field, Outcome, PlainFault, Step, is_explained, resolve_plainly};
 use std::alloc::Global;
 use std::process::Abort;
 

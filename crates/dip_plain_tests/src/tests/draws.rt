@@ -2,10 +2,10 @@
 use super::dice::Dice;
 use super::rings::{draw_ring, draw_siege};
 use super::steps::{draw_step, is_at_sea, is_coastal, placed_on, step_to};
-use dip_plain::{Field, destination, origin};
 use dip_map::Map;
 use dip_names::{Kind, Place, Prov, Unit};
 use dip_orders::{Order, Other, PlacedOrder};
+use dip_plain::{Field, destination, origin};
 use std::alloc::{AllocError, Global};
 
 /// What boards are like.

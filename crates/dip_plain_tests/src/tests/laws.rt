@@ -1,6 +1,6 @@
 //! What holds of every outcome.
-use dip_plain::{Completion, Decision, Field, Known, Outcome, destination, moves_to, origin};
 use dip_orders::PlacedOrder;
+use dip_plain::{Completion, Decision, Field, Known, Outcome, destination, moves_to, origin};
 use std::alloc::{AllocError, Global};
 
 /// The value that an outcome has for a decision.

@@ -1,10 +1,10 @@
 //! What `resolve` tells.
-use dip_plain::{Decision, Outcome, Step};
-use dip_decide::resolve;
 use dip_board::Board;
+use dip_decide::resolve;
 use dip_map::Map;
 use dip_names::Prov;
 use dip_orders::{Orders, PlacedOrder, each_unit_has_one_order};
+use dip_plain::{Decision, Outcome, Step};
 use std::alloc::{AllocError, Global};
 use std::process::Abort;
 

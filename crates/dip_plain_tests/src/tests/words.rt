@@ -1,8 +1,8 @@
 //! What a paper says of each unit.
-use dip_plain::{Field, Outcome, moves_to, origin, supports_any};
 use dip_map::Map;
 use dip_names::Prov;
 use dip_orders::{Order, PlacedOrder};
+use dip_plain::{Field, Outcome, moves_to, origin, supports_any};
 
 /// What a resolver told: the provinces of the units whose move succeeds, that have a path, whose support is given.
 #[derive(Clone, Copy)]

@@ -2,10 +2,10 @@
 use super::answers::pending_of;
 use super::scenes::{Scene, board_of};
 use super::{assert_text, the_power};
-use crate::{Order, Orders, PlacedOrder, print_order};
 use dip_board::{Board, Season};
 use dip_map::{Map, STANDARD};
 use dip_names::{MapFault, Place, Unit};
+use dip_orders::{Order, Orders, PlacedOrder, print_order};
 use std::alloc::{AllocError, Global};
 use std::process::Abort;
 use std::test::Fail;

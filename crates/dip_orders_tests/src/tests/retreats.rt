@@ -1,10 +1,10 @@
 //! Where dislodged units may go.
 use super::assert_text;
 use super::scenes::{Scene, board_of};
-use crate::{print_unit, retreats};
 use dip_board::{Board, Dislodged, Season};
 use dip_map::{Map, STANDARD};
 use dip_names::{MapFault, Place, Unit};
+use dip_orders::{print_unit, retreats};
 use std::alloc::{AllocError, Global};
 use std::process::Abort;
 use std::test::Fail;

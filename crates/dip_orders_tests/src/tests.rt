@@ -1,7 +1,7 @@
 //! Orders read, printed and in force.
-use crate::tokens;
 use dip_map::Map;
 use dip_names::{Place, Power};
+use dip_orders::tokens;
 use std::process::Abort;
 use std::test::Fail;
 

@@ -11,5 +11,6 @@ pub mod ListLemmas
 pub mod LawfulOrders
 pub mod LawfulStates
 pub mod Repeating
+pub mod RepeatingLater
 pub mod Sighting
 pub mod Keepings

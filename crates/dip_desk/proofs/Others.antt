@@ -14,17 +14,17 @@ use Rattle.dip_desk.proofs.Seeing.{other_game}
 use Rattle.dip_desk.proofs.Suiting.{Suits, decides_suits, master_where, seat_where}
 
 -- somebody else's letter shows what its verdict shows in the game
-shown_of : (seat : SeatName) (n : Mail) (who : Author) (v : Verdict) → writes seat n who ≡ false
+pub shown_of : (seat : SeatName) (n : Mail) (who : Author) (v : Verdict) → writes seat n who ≡ false
     → shown seat n who v ≡ cond (bytes_eq n.note.game seat.game) (verdict_events seat.power v) []
 shown_of seat n who v others = ap (λ (b : Bool). own_events b n ++ cond (bytes_eq n.note.game seat.game) (verdict_events seat.power v) []) others
 
-quiet : (m : Chart) (s : State) (n : Mail) (p power : ℕ) (v : Verdict) → Decides m s n (Seat p) v → verdict_events power v ≡ []
+pub quiet : (m : Chart) (s : State) (n : Mail) (p power : ℕ) (v : Verdict) → Decides m s n (Seat p) v → verdict_events power v ≡ []
 quiet m s n p power NotKnown d = refl
 quiet m s n p power (Again text) d = refl
 quiet m s n p power (OutOfTurn text) d = refl
 quiet m s n p power (Taken text e) d = (seat_where n.note.game p power (game_at n.note.game s) e (decides_suits m s n (Seat p) (Taken text e) d)).2
 
-none_if : (b : Bool) (es : List Event) → es ≡ [] → cond b es [] ≡ []
+pub none_if : (b : Bool) (es : List Event) → es ≡ [] → cond b es [] ≡ []
 none_if true es is = is
 none_if false es is = refl
 

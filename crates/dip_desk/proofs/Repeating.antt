@@ -21,7 +21,7 @@ numbered_one None w a b x y = x ∙ sym y
 numbered_one (Some old) w a b x y = x ∙ sym y
 
 -- the machine decides a letter in one way
-decides_one : (m : Chart) (s : State) (n : Mail) (who : Author) (v w : Verdict) → Decides m s n who v → Decides m s n who w → v ≡ w
+pub decides_one : (m : Chart) (s : State) (n : Mail) (who : Author) (v w : Verdict) → Decides m s n who v → Decides m s n who w → v ≡ w
 decides_one m s n Nobody v w d e = d ∙ sym e
 decides_one m s n (Seat p) v w d e = d ∙ sym e
 decides_one m s n TheMaster v w d e = go n.note.command (game_at n.note.game s) d e
@@ -73,7 +73,7 @@ no_master n power (Some o) e = go (bytes_eq (digest n.note.game n.note.sender n.
     go true e = let bad : ◌≡◌ {A = Author} (Seat power) TheMaster = e in absurd (cc)
     go false e = let bad : ◌≡◌ {A = Author} Nobody TheMaster = e in absurd (cc)
 
-master_stays : (m : Chart) (n : Mail) (s t : State) → t.desk.digest ≡ s.desk.digest → author m n s ≡ TheMaster → author m n t ≡ TheMaster
+pub master_stays : (m : Chart) (n : Mail) (s t : State) → t.desk.digest ≡ s.desk.digest → author m n s ≡ TheMaster → author m n t ≡ TheMaster
 master_stays m n s t same is = go (bytes_eq n.note.sender (codes "master")) is
   where
     other : (power : Option ℕ) → power_author n power s ≡ TheMaster → ⊥
@@ -207,23 +207,49 @@ taken_again m s n (Seat p) text (Opens public paper seats) is d suits =
     let found = opens_where n.note.game (Seat p) (game_at n.note.game s) public paper seats suits in
     let bad : ◌≡◌ {A = Author} (Seat p) TheMaster = found.0 in absurd (cc)
 
--- the second step of a letter whose first left this state
-second : (m : Chart) (mid new : State) (n : Mail) (v : Verdict) (first again : Reply) → Decides m mid n (author m n mid) v → first ≡ reply_of n v → after n (author m n mid) v mid ≡ mid
-    → Step m mid n again new → (again ≡ first) × (new ≡ mid)
-second m mid new n v first again decides told stays step =
-    let one : step.0 ≡ v = decides_one m mid n (author m n mid) step.0 v step.1 decides in
-    (step.2 ∙ ap (λ (w : Verdict). reply_of n w) one ∙ sym told, step.3 ∙ ap (λ (w : Verdict). after n (author m n mid) w mid) one ∙ stays)
+-- and its author is the same
+stays_author : (m : Chart) (s : State) (n : Mail) (who : Author) (text : List ℕ) (e : Effect) → author m n s ≡ who → Decides m s n who (Taken text e)
+    → Suits n.note.game who (game_at n.note.game s) e → author m n (after n who (Taken text e) s) ≡ who
+stays_author m s n Nobody text e is d suits = absurd suits
+stays_author m s n TheMaster text Nothing is d suits = master_stays m n s (after n TheMaster (Taken text Nothing) s) refl is
+stays_author m s n TheMaster text (Pending orders) is d suits = master_stays m n s (after n TheMaster (Taken text (Pending orders)) s) refl is
+stays_author m s n TheMaster text (Opens public paper seats) is d suits = master_stays m n s (after n TheMaster (Taken text (Opens public paper seats)) s) refl is
+stays_author m s n (Seat p) text Nothing is d suits =
+    let there = seat_where n.note.game p p (game_at n.note.game s) Nothing suits in
+    seat_stays m n p s (after n (Seat p) (Taken text Nothing) s) (owns_stay s n p (kept_of n text) None there.0 there.1) is
+stays_author m s n (Seat p) text (Pending orders) is d suits =
+    let there = seat_where n.note.game p p (game_at n.note.game s) (Pending orders) suits in
+    seat_stays m n p s (after n (Seat p) (Taken text (Pending orders)) s) (owns_stay s n p (kept_of n text) (Some orders) there.0 there.1) is
+stays_author m s n (Seat p) text (Opens public paper seats) is d suits =
+    let found = opens_where n.note.game (Seat p) (game_at n.note.game s) public paper seats suits in
+    let bad : ◌≡◌ {A = Author} (Seat p) TheMaster = found.0 in absurd (cc)
+
+-- a verdict that changes nothing
+abbrev pub StaysPut : Verdict → Type 0
+StaysPut v = (n : Mail) (who : Author) (s : State) → after n who v s ≡ s
+
+-- what the same letter comes to behind its first step
+pub repeats : (m : Chart) (old mid : State) (n : Mail) (first : Reply) → Step m old n first mid
+    → (v : Verdict) × Decides m mid n (author m n mid) v × (first ≡ reply_of n v) × StaysPut v × (author m n mid ≡ author m n old)
+repeats m old mid n first one = go one.0 one.1 one.2 one.3
+  where
+    same : mid ≡ old → author m n mid ≡ author m n old
+    same left = ap (author m n) left
+
+    go : (v : Verdict) → Decides m old n (author m n old) v → first ≡ reply_of n v → mid ≡ after n (author m n old) v old
+        → (v : Verdict) × Decides m mid n (author m n mid) v × (first ≡ reply_of n v) × StaysPut v × (author m n mid ≡ author m n old)
+    go NotKnown d told left = (NotKnown, subst (λ (s : State). Decides m s n (author m n s) NotKnown) (sym left) d, told, λ n who s. refl, same left)
+    go (Again text) d told left = (Again text, subst (λ (s : State). Decides m s n (author m n s) (Again text)) (sym left) d, told, λ n who s. refl, same left)
+    go (OutOfTurn text) d told left = (OutOfTurn text, subst (λ (s : State). Decides m s n (author m n s) (OutOfTurn text)) (sym left) d, told, λ n who s. refl, same left)
+    go (Taken text e) d told left =
+        let next = subst (λ (s : State). IsRepeat m s n text × (author m n s ≡ author m n old)) (sym left) (
+          taken_again m old n (author m n old) text e refl d (decides_suits m old n (author m n old) (Taken text e) d),
+          stays_author m old n (author m n old) text e refl d (decides_suits m old n (author m n old) (Taken text e) d),
+        ) in
+        (Again text, subst (λ (who : Author). Decides m mid n who (Again text)) (sym next.0.1) next.0.2, told, λ n who s. refl, next.1)
 
 pub acts_once : (m : Chart) → ActsOnce m
-acts_once m old mid new n first again one two = go one.0 one.1 one.2 one.3
-  where
-    go : (v : Verdict) → Decides m old n (author m n old) v → first ≡ reply_of n v → mid ≡ after n (author m n old) v old → (again ≡ first) × (new ≡ mid)
-    go NotKnown d told left =
-        second m mid new n NotKnown first again (subst (λ (s : State). Decides m s n (author m n s) NotKnown) (sym left) d) told refl two
-    go (Again text) d told left =
-        second m mid new n (Again text) first again (subst (λ (s : State). Decides m s n (author m n s) (Again text)) (sym left) d) told refl two
-    go (OutOfTurn text) d told left =
-        second m mid new n (OutOfTurn text) first again (subst (λ (s : State). Decides m s n (author m n s) (OutOfTurn text)) (sym left) d) told refl two
-    go (Taken text e) d told left =
-        let next = subst (λ (s : State). IsRepeat m s n text) (sym left) (taken_again m old n (author m n old) text e refl d (decides_suits m old n (author m n old) (Taken text e) d)) in
-        second m mid new n (Again text) first again (subst (λ (who : Author). Decides m mid n who (Again text)) (sym next.1) next.2) told refl two
+acts_once m old mid new n first again one two =
+    let next = repeats m old mid n first one in
+    let same : two.0 ≡ next.0 = decides_one m mid n (author m n mid) two.0 next.0 two.1 next.1 in
+    (two.2 ∙ ap (λ (w : Verdict). reply_of n w) same ∙ sym next.2, two.3 ∙ ap (λ (w : Verdict). after n (author m n mid) w mid) same ∙ next.3 n (author m n mid) mid)

@@ -2,7 +2,7 @@
 use Rattle.std.specs.Prelude.{ℕ, Bool, true, false, List, [], ◌∷◌, ◌++◌, ◌==◌, ◌+◌, codes, if◌then◌else◌, map, filter, flat_map, length, Option, None, Some, slice_index_or}
 use Rattle.std.specs.Fmt.{decimal}
 use Rattle.dip_board.specs.declared.boards.Phase.{Phase}
-use Rattle.dip_board.specs.Boards.{Position}
+use Rattle.dip_board.specs.Boards.{Position, owns}
 use Rattle.dip_board.specs.declared.boards.Season.{Season}
 use Rattle.dip_board.specs.declared.boards.Season.TheVariants.{SpringMoves, SpringRetreats, FallMoves, FallRetreats, Winter}
 use Rattle.dip_reports.specs.declared.refusals.Refusal.{Refusal}
@@ -75,17 +75,9 @@ in_province fs p = filter (λ f. f.unit.place.prov == p) fs
 abbrev pub by_province : Chart → List Force → List Force
 by_province m fs = flat_map (in_province fs) (numbers 0 m.provinces)
 
-abbrev pub is_owner : ℕ → Option ℕ → Bool
-is_owner power None = false
-is_owner power (Some p) = p == power
-
--- who owns a province, if anybody does
-abbrev pub owner : Position → ℕ → Option ℕ
-owner b p = slice_index_or b.owners p None
-
 -- the centres that a power owns, by province
 abbrev pub centres : Chart → Position → ℕ → List ℕ
-centres m b power = filter (λ p. is_owner power (owner b p)) (numbers 0 m.provinces)
+centres m b power = filter (λ p. owns b power p) (numbers 0 m.provinces)
 
 -- texts with a separator between them, or `-` where there is none
 abbrev pub listed : List ℕ → List (List ℕ) → List ℕ

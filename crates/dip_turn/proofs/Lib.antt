@@ -9,3 +9,4 @@ pub mod CalendarLemmas
 pub mod OneWayLemmas
 pub mod CentreLaws
 pub mod ToldLemmas
+pub mod KeptLemmas

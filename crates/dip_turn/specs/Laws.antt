@@ -1,8 +1,9 @@
 -- Laws of phases: what holds of each phase that is adjudicated, by the definitions.
-use Rattle.std.specs.Prelude.{◌≡◌, ℕ, ◌<◌, ◌≤◌, ◌+◌, ◌-◌, ◌*◌, Bool, true, false, not, ◌&&◌, ◌⊎◌, List, length, Option, None, Some}
+use Rattle.std.specs.Prelude.{◌≡◌, ℕ, ◌<◌, ◌≤◌, ◌+◌, ◌-◌, ◌*◌, Bool, true, false, not, ◌&&◌, ◌⊎◌, All, Contains, List, length, Option, None, Some}
 use Rattle.std.specs.List.{list_any}
-use Rattle.dip_names.specs.declared.names.Unit.{Unit as AUnit}
+use Rattle.dip_names.specs.declared.names.Unit.{Unit as Piece}
 use Rattle.dip_chart.specs.Charts.{Chart, is_centre}
+use Rattle.dip_board.specs.declared.boards.Dislodged.{Dislodged}
 use Rattle.dip_board.specs.declared.boards.Phase.{Phase}
 use Rattle.dip_board.specs.declared.boards.Season.{Season}
 use Rattle.dip_board.specs.declared.boards.Season.TheVariants.{SpringMoves, SpringRetreats, FallMoves, FallRetreats, Winter}
@@ -15,11 +16,13 @@ use Rattle.dip_decide.specs.declared.decisions.Decision.TheVariants.{Move as Mov
 use Rattle.dip_decide.specs.Matching.{is_convoyed, order_at, situation}
 use Rattle.dip_decide.specs.Movement.{Satisfies, head_to_head}
 use Rattle.dip_decide.specs.Results.{values_in}
-use Rattle.dip_orders.specs.Conditions.{is_retreat}
+use Rattle.dip_orders.specs.Tests.{is_retreat}
+use Rattle.dip_turn.specs.Adjusting.{after_adjustment, units_built}
 use Rattle.dip_turn.specs.Centres.{has_won, holder}
-use Rattle.dip_turn.specs.Moving.{contends, dislodged_unit, entrant, enters, has_moved, is_driven_out, prov, unit_after}
+use Rattle.dip_turn.specs.Moving.{contends, dislodged_after, dislodged_unit, entrant, enters, has_moved, is_driven_out, prov, standing_after, unit_after}
 use Rattle.dip_turn.specs.Phases.{has_dislodged, last_year}
 use Rattle.dip_turn.specs.Reports.{IsPlayed}
+use Rattle.dip_turn.specs.Retreating.{after_retreat, after_retreats}
 use Rattle.dip_turn.specs.declared.report.Account.{Account}
 use Rattle.dip_turn.specs.declared.report.Account.TheVariants.{Movement as OfMovement, Retreats as OfRetreats, Adjustment as OfAdjustment}
 use Rattle.dip_turn.specs.declared.report.Course.{Course}
@@ -100,6 +103,29 @@ WinnersOwnMore =
     (m : Chart) (b : Position) (pending : List PlacedOrder) (new : Position) (report : Report) (power : ℕ)
     → IsPlayed m b pending new report → report.course ≡ Won power → has_won m new power ≡ true
 
+-- a movement loses and doubles nobody: each unit stands after it, in its province or at its destination, or is dislodged
+pub record MovementKeepsUnits (m : Chart) (a : Assignment) (orders : List PlacedOrder) : Type 0 where
+  pub count : length (standing_after a orders) + length (dislodged_after m a orders) ≡ length orders
+  pub standing : All (λ u. (o : PlacedOrder) × Contains orders o × (is_driven_out a orders o ≡ false) × (u ≡ unit_after a o)) (standing_after a orders)
+  pub dislodged : All (λ d. (o : PlacedOrder) × Contains orders o × (is_driven_out a orders o ≡ true) × (d ≡ dislodged_unit m a orders o)) (dislodged_after m a orders)
+
+abbrev pub MovementsKeepUnits : Type 0
+MovementsKeepUnits = (m : Chart) (a : Assignment) (orders : List PlacedOrder) → MovementKeepsUnits m a orders
+
+-- after the retreats each unit stood before or is a dislodged one that retreated, and each that stood still stands
+pub record RetreatsKeepUnits (b : Position) (pending : List PlacedOrder) : Type 0 where
+  pub units : All (λ u. Contains b.units u ⊎ ((d : Dislodged) × Contains b.dislodged d × (after_retreat pending b.dislodged d ≡ Some u))) (after_retreats b pending).units
+  pub standing : All (Contains (after_retreats b pending).units) b.units
+
+abbrev pub RetreatsLoseNobodyElse : Type 0
+RetreatsLoseNobodyElse = (b : Position) (pending : List PlacedOrder) → RetreatsKeepUnits b pending
+
+-- after a Winter each unit stood before or was built
+abbrev pub WintersAddBuildsAlone : Type 0
+WintersAddBuildsAlone =
+    (m : Chart) (b : Position) (pending : List PlacedOrder)
+    → All (λ u. Contains b.units u ⊎ Contains (units_built pending) u) (after_adjustment m b pending).units
+
 -- nobody is dislodged on a board whose phase is no retreat
 abbrev pub OnlyRetreatsHaveDislodged : Type 0
 OnlyRetreatsHaveDislodged =
@@ -107,8 +133,8 @@ OnlyRetreatsHaveDislodged =
     → IsPlayed m b pending new report → has_dislodged new ≡ true → is_retreat new.phase.season ≡ true
 
 -- a centre fell to the power of the unit that stands in it
-abbrev pub IsTaken : Chart → List AUnit → ℕ → Option ℕ → Type 0
-IsTaken m us p r = (is_centre m p ≡ true) × (u : AUnit) × (holder us p ≡ Some u) × (r ≡ Some u.power)
+abbrev pub IsTaken : Chart → List Piece → ℕ → Option ℕ → Type 0
+IsTaken m us p r = (is_centre m p ≡ true) × (u : Piece) × (holder us p ≡ Some u) × (r ≡ Some u.power)
 
 -- the owner of a province stayed, or it is a centre with a unit of its new owner in it
 abbrev pub IsKeptOrTaken : Chart → Position → Position → ℕ → Type 0

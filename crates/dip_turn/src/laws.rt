@@ -1,5 +1,5 @@
 //! Laws of phases, each the contract of a function that does nothing.
-ghost use Rattle.dip_turn.specs.Laws.{UnitsStandApart, DislodgedWhereEntered, LosersLeaveNoStandoff, ConvoysCloseNoOrigin, OnlyRetreatsHaveDislodged, CentresChangeInFall, PhasesFollow, WinnersOwnMore, PhasesHaveOneResult};
+ghost use Rattle.dip_turn.specs.Laws.{UnitsStandApart, DislodgedWhereEntered, LosersLeaveNoStandoff, MovementsKeepUnits, RetreatsLoseNobodyElse, WintersAddBuildsAlone, ConvoysCloseNoOrigin, OnlyRetreatsHaveDislodged, CentresChangeInFall, PhasesFollow, WinnersOwnMore, PhasesHaveOneResult};
 
 use dip_decide::{boards_are_situations, equations_are_lawful, one_answer};
 
@@ -17,6 +17,14 @@ pub fn movements_are_told()
     ensures dislodged { DislodgedWhereEntered }
     ensures losers { LosersLeaveNoStandoff }
     ensures convoys { ConvoysCloseNoOrigin }
+{}
+
+/// Nobody is lost or doubled: after a movement each unit stands or is dislodged, after the retreats each unit stood before or
+/// retreated, and after a Winter each stood before or was built.
+pub fn units_are_kept()
+    ensures movements { MovementsKeepUnits }
+    ensures retreats { RetreatsLoseNobodyElse }
+    ensures winters { WintersAddBuildsAlone }
 {}
 
 /// Nobody is dislodged on a board whose phase is no retreat.

@@ -78,16 +78,22 @@ impl Moves<'_> {
         if self.succeeds(placed) {
             return None;
         }
-        let attacker = self.attacker(origin(placed))?;
-        let by_convoy = goes_by_convoy(self.map, &attacker);
-        Some(Dislodged {
-            unit: placed.unit,
-            origin: if by_convoy {
-                None
-            } else {
-                Some(origin(&attacker))
-            },
-        })
+        match self.attacker(origin(placed)) {
+            Some(attacker) => Some(Dislodged {
+                unit: placed.unit,
+                origin: self.closed_by(&attacker),
+            }),
+            None => None,
+        }
+    }
+
+    /// The province that an attacker closes to retreats.
+    fn closed_by(&self, attacker: &PlacedOrder) -> Option<Prov> {
+        if goes_by_convoy(self.map, attacker) {
+            None
+        } else {
+            Some(origin(attacker))
+        }
     }
 
     /// The unit where it is after the movement, if it isn't dislodged.

@@ -158,13 +158,13 @@ fn remove(
     told: &mut Told,
 ) -> Result<(), AllocError> {
     let due = due_removals(state, power);
-    let mut count = 0;
+    let mut count: usize = 0;
     for placed in pending {
         if placed.unit.power == power && placed.order == Order::Remove {
             state.units = without(alloc, state.units.as_slice(), &placed.unit)?;
             told.lines
                 .push(line(&placed.unit, Order::Remove, Word::Removed))?;
-            count += 1;
+            count = count.saturating_add(1);
         }
     }
     for _ in count..due {

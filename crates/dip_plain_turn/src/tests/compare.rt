@@ -49,18 +49,6 @@ fn line(unit: &Unit, order: &Order, word: Word) -> Line {
     }
 }
 
-fn push_lines(
-    units: &[Unit],
-    order: &Order,
-    word: Word,
-    lines: &mut Vec<Line>,
-) -> Result<(), AllocError> {
-    for unit in units {
-        lines.push(line(unit, order, word))?;
-    }
-    Ok(())
-}
-
 /// The lines of a report.
 fn lines_of(alloc: Global, report: &Report) -> Result<Vec<Line>, AllocError> {
     let mut lines = Vec::new(alloc);
@@ -88,20 +76,15 @@ fn lines_of(alloc: Global, report: &Report) -> Result<Vec<Line>, AllocError> {
             }
         }
         Account::Adjustment(told) => {
-            push_lines(
-                told.builds.as_slice(),
-                &Order::Build,
-                Word::Built,
-                &mut lines,
-            )?;
-            push_lines(
-                told.removals.as_slice(),
-                &Order::Remove,
-                Word::Removed,
-                &mut lines,
-            )?;
-            let gone = told.disorder.as_slice();
-            push_lines(gone, &Order::Remove, Word::RemovedInDisorder, &mut lines)?;
+            for unit in &told.builds {
+                lines.push(line(unit, &Order::Build, Word::Built))?;
+            }
+            for unit in &told.removals {
+                lines.push(line(unit, &Order::Remove, Word::Removed))?;
+            }
+            for unit in &told.disorder {
+                lines.push(line(unit, &Order::Remove, Word::RemovedInDisorder))?;
+            }
         }
     }
     Ok(lines)

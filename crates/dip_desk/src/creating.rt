@@ -35,7 +35,9 @@ fn new_seats(
     game: &str,
     seats: Seats<'_>,
 ) -> Result<Option<Vec<NewSeat>>, AllocError>
-    ensures { IfOk result (λ found. option_map (λ v. each rows.new_seat v.items) found ≡ m.new_seats map.now game.now (seats_in seats.entry)) }
+    ensures { IfOk result
+        (λ found. option_map (λ v. each rows.new_seat v.items) found ≡ m.new_seats map.now game.now
+        (seats_in seats.entry)) }
 {
     let mut found = Vec::new(alloc);
     for seat in seats {
@@ -79,7 +81,9 @@ fn opening_public(
     game: &str,
     opening: &Opening<'_>,
 ) -> Result<Public, AllocError>
-    ensures { IfOk result (λ p. texts.public p ≡ m.opening_public map.now game.now opening.now.due opening.now.period opening.now.grey) }
+    ensures { IfOk result
+        (λ p. texts.public p ≡ m.opening_public map.now game.now opening.now.due opening.now.period
+        opening.now.grey) }
 {
     Ok(Public {
         game: String::from_str(alloc, game)?,
@@ -100,7 +104,10 @@ fn open_game(
     seats: Vec<NewSeat>,
     is_free: bool,
 ) -> Result<Verdict, AllocError>
-    ensures { IfOk result (λ v. (game : Option s.Game) → is_free ≡ is_none game → verdict v ≡ m.open_game map.now (texts.public public) (each rows.new_seat seats.items) game) }
+    ensures { IfOk result
+        (λ v. (game : Option s.Game) → is_free ≡ is_none game
+        → verdict v ≡ m.open_game map.now (texts.public public) (each rows.new_seat seats.items)
+        game) }
 {
     if !is_free {
         return refused(alloc, Refusal::NameTaken);
@@ -124,8 +131,11 @@ fn created(
     opening: &Opening<'_>,
     is_free: bool,
 ) -> Result<Verdict, AllocError>
-    ensures { IfOk result (λ v. (known : Option s.Game) → is_free ≡ is_none known → verdict v ≡ m.created map.now
-        (m.opening_public map.now game.now opening.now.due opening.now.period opening.now.grey) (m.new_seats map.now game.now (seats_in opening.now.seats)) known) }
+    ensures { IfOk result
+        (λ v. (known : Option s.Game) → is_free ≡ is_none known
+        → verdict v ≡ m.created map.now
+        (m.opening_public map.now game.now opening.now.due opening.now.period opening.now.grey)
+        (m.new_seats map.now game.now (seats_in opening.now.seats)) known) }
 {
     let Some(seats) = new_seats(alloc, map, game, opening.seats)? else {
         return refused(alloc, Refusal::Malformed);
@@ -146,9 +156,11 @@ pub fn create_verdict(
     kept: &Option<Kept>,
     is_free: bool,
 ) -> Result<Verdict, AllocError>
-    ensures { IfOk result (λ v. (known : Option s.Game) → is_free ≡ is_none known
-        → m.NumberedBy (m.old_number (mail letter.now) (option_map texts.kept kept.now)) (λ w. w ≡ m.created map.now
-        (m.opening_public map.now letter.now.game.now opening.now.due opening.now.period opening.now.grey)
+    ensures { IfOk result
+        (λ v. (known : Option s.Game) → is_free ≡ is_none known
+        → m.NumberedBy (m.old_number (mail letter.now) (option_map texts.kept kept.now))
+        (λ w. w ≡ m.created map.now (m.opening_public map.now letter.now.game.now opening.now.due
+        opening.now.period opening.now.grey)
         (m.new_seats map.now letter.now.game.now (seats_in opening.now.seats)) known) (verdict v)) }
 {
     match old_number(alloc, letter, kept)? {

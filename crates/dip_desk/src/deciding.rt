@@ -29,9 +29,14 @@ fn orders_verdict(
     own: &Own,
     lines: Lines<'_>,
 ) -> Result<Verdict, KeepFault>
-    ensures value { IfOk result (λ v. verdict v ≡ m.orders_verdict map.now (ordered map.now board.now own.now.power (texts.standings own.now.pending.items) (lines_in lines.entry))) }
+    ensures value { IfOk result
+        (λ v. verdict v ≡ m.orders_verdict map.now
+        (ordered map.now board.now own.now.power (texts.standings own.now.pending.items)
+        (lines_in lines.entry))) }
     ensures disk { faults_after result 0 ≡ 0 }
-    ensures sane { IsErrOf result KeepFault.Damaged → has_foreign map.now board.now own.now.power (texts.standings own.now.pending.items) ≡ true }
+    ensures sane { IsErrOf result KeepFault.Damaged
+        → has_foreign map.now board.now own.now.power (texts.standings own.now.pending.items) ≡
+        true }
 {
     let orders = standing_orders(alloc, map, board, own.power, own.pending.as_slice())?;
     let mut taken = Ordered {
@@ -52,9 +57,13 @@ fn command_verdict(
     public: &Public,
     own: &Own,
 ) -> Result<Verdict, KeepFault>
-    ensures value { IfOk result (λ v. verdict v ≡ m.seat_command map.now (request command.now) (texts.public public.now) (texts.own own.now)) }
+    ensures value { IfOk result
+        (λ v. verdict v ≡ m.seat_command map.now (request command.now) (texts.public public.now)
+        (texts.own own.now)) }
     ensures disk { faults_after result 0 ≡ 0 }
-    ensures sane { IsErrOf result KeepFault.Damaged → has_foreign map.now public.now.board own.now.power (texts.standings own.now.pending.items) ≡ true }
+    ensures sane { IsErrOf result KeepFault.Damaged
+        → has_foreign map.now public.now.board own.now.power
+        (texts.standings own.now.pending.items) ≡ true }
 {
     match command {
         Command::Create(_) => Ok(refused(alloc, Refusal::WrongSender)?),
@@ -91,7 +100,10 @@ fn not_for_master(
     kept: &Option<Kept>,
     is_known: bool,
 ) -> Result<Verdict, AllocError>
-    ensures { IfOk result (λ v. (game : Option s.Game) → is_known ≡ is_some game → m.InGame map.now (mail letter.now) (option_map texts.kept kept.now) (request letter.now.command) game (verdict v)) }
+    ensures { IfOk result
+        (λ v. (game : Option s.Game) → is_known ≡ is_some game
+        → m.InGame map.now (mail letter.now) (option_map texts.kept kept.now)
+        (request letter.now.command) game (verdict v)) }
 {
     if !is_known {
         return Ok(Verdict::NotKnown);
@@ -110,8 +122,10 @@ fn master_verdict(
     kept: &Option<Kept>,
     is_there: bool,
 ) -> Result<Verdict, AllocError>
-    ensures { IfOk result (λ v. (game : Option s.Game) → is_there ≡ is_some game
-        → m.MasterDecides map.now (mail letter.now) (option_map texts.kept kept.now) (request letter.now.command) game (verdict v)) }
+    ensures { IfOk result
+        (λ v. (game : Option s.Game) → is_there ≡ is_some game
+        → m.MasterDecides map.now (mail letter.now) (option_map texts.kept kept.now)
+        (request letter.now.command) game (verdict v)) }
 {
     match &letter.command {
         Command::Create(opening) => create_verdict(alloc, map, letter, opening, kept, !is_there),
@@ -126,9 +140,11 @@ pub fn verdict_on(
     letter: &Letter<'_>,
     sight: &Sight,
 ) -> Result<Verdict, KeepFault>
-    ensures value { IfOk result (λ v. m.DecidedBy map.now (mail letter.now) (sights.sight sight.now) (verdict v)) }
+    ensures value { IfOk result
+        (λ v. m.DecidedBy map.now (mail letter.now) (sights.sight sight.now) (verdict v)) }
     ensures disk { faults_after result 0 ≡ 0 }
-    ensures sane { IsErrOf result KeepFault.Damaged → m.IsForeignSight map.now (sights.sight sight.now) }
+    ensures sane { IsErrOf result KeepFault.Damaged
+        → m.IsForeignSight map.now (sights.sight sight.now) }
 {
     match sight {
         Sight::Nobody => Ok(Verdict::NotKnown),

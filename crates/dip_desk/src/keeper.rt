@@ -111,17 +111,20 @@ pub trait Keeper {
     fn public(&mut self, map: &Map, game: &str) -> Result<Option<Public>, KeepFault>
         requires { book.faults self.old < u64.MAX }
         ensures { Looks map.now book self.old self.new
-            (λ p. option_map texts.public p ≡ public_at game.now (book.content map.now self.old)) ⊥ result };
+            (λ p. option_map texts.public p ≡ public_at game.now (book.content map.now self.old)) ⊥
+            result };
 
     /// A seat's own part, all but the items of its inbox; `None` where there is no such seat.
     fn own(&mut self, map: &Map, game: &str, power: Power) -> Result<Option<Own>, KeepFault>
         requires room { book.faults self.old < u64.MAX }
         requires power { power < length map.now.realms }
         ensures { Looks map.now book self.old self.new
-            (λ o. option_map texts.own o ≡ own_at game.now power (book.content map.now self.old)) ⊥ result };
+            (λ o. option_map texts.own o ≡ own_at game.now power (book.content map.now self.old)) ⊥
+            result };
 
     /// Makes the change whole or not at all.
     fn apply(&mut self, map: &Map, change: &Change) -> Result<(), KeepFault>
         requires { book.faults self.old < u64.MAX }
-        ensures { Changes map.now book self.old self.new (changed (rows.change change.now)) (λ _. Unit {0}) result };
+        ensures { Changes map.now book self.old self.new (changed (rows.change change.now))
+            (λ _. Unit {0}) result };
 }

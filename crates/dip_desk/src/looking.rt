@@ -66,7 +66,8 @@ fn look_as_master<K: Keeper>(
 ) -> Result<Sight, KeepFault>
     requires { K.book.faults keeper.old < u64.MAX }
     ensures { Looks map.now K.book keeper.old keeper.new
-        (λ s. sights.sight s ≡ master_sight (mail letter.now) (K.book.content map.now keeper.old)) ⊥ result }
+        (λ s. sights.sight s ≡ master_sight (mail letter.now) (K.book.content map.now keeper.old)) ⊥
+        result }
 {
     let desk = desk_of(keeper, map)?;
     if !opens(letter, "desk", "master", &desk.digest) {
@@ -89,7 +90,8 @@ fn look_as_seat<K: Keeper>(
     requires room { K.book.faults keeper.old < u64.MAX }
     requires power { power < length map.now.realms }
     ensures { Looks map.now K.book keeper.old keeper.new
-        (λ s. sights.sight s ≡ power_sight (mail letter.now) (Some power) (K.book.content map.now keeper.old)) ⊥ result }
+        (λ s. sights.sight s ≡ power_sight (mail letter.now) (Some power)
+        (K.book.content map.now keeper.old)) ⊥ result }
 {
     let Some(own) = keeper.own(map, letter.game, power)? else {
         return Ok(Sight::Nobody);
@@ -107,7 +109,8 @@ fn look_as_seat<K: Keeper>(
 pub fn look<K: Keeper>(keeper: &mut K, map: &Map, letter: &Letter<'_>) -> Result<Sight, KeepFault>
     requires { K.book.faults keeper.old < u64.MAX }
     ensures { Looks map.now K.book keeper.old keeper.new
-        (λ s. sights.sight s ≡ sight_of map.now (mail letter.now) (K.book.content map.now keeper.old)) ⊥ result }
+        (λ s. sights.sight s ≡ sight_of map.now (mail letter.now)
+        (K.book.content map.now keeper.old)) ⊥ result }
 {
     if letter.sender == "master" {
         return look_as_master(keeper, map, letter);

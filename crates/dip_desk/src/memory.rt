@@ -119,7 +119,8 @@ fn own_copy(alloc: Global, own: &Own) -> Result<Own, AllocError>
 
 /// The game of that name.
 fn find_game<'a>(games: &'a [GameRow], name: &str) -> Option<&'a GameRow>
-    ensures { option_map (λ g. stored.game g.now) result ≡ at bytes_eq s.name_of name.now (each (λ g. stored.game g) games.entry.now) }
+    ensures { option_map (λ g. stored.game g.now) result ≡ at bytes_eq s.name_of name.now
+        (each (λ g. stored.game g) games.entry.now) }
 {
     for game in games {
         if game.public.game.as_str() == name {
@@ -131,7 +132,8 @@ fn find_game<'a>(games: &'a [GameRow], name: &str) -> Option<&'a GameRow>
 
 /// The seat of that power.
 fn find_seat<'a>(seats: &'a [Own], power: Power) -> Option<&'a Own>
-    ensures { option_map (λ o. texts.own o.now) result ≡ s.seat_at power (each (λ o. texts.own o) seats.entry.now) }
+    ensures { option_map (λ o. texts.own o.now) result ≡ s.seat_at power
+        (each (λ o. texts.own o) seats.entry.now) }
 {
     for seat in seats {
         if seat.power == power {
@@ -143,7 +145,9 @@ fn find_seat<'a>(seats: &'a [Own], power: Power) -> Option<&'a Own>
 
 /// The seat of that power in the game of that name.
 fn find_own<'a>(games: &'a [GameRow], name: &str, power: Power) -> Option<&'a Own>
-    ensures { option_map (λ o. texts.own o.now) result ≡ option_and_then (λ g. s.seat_at power g.seats) (at bytes_eq s.name_of name.now (each (λ g. stored.game g) games.entry.now)) }
+    ensures { option_map (λ o. texts.own o.now) result ≡ option_and_then
+        (λ g. s.seat_at power g.seats)
+        (at bytes_eq s.name_of name.now (each (λ g. stored.game g) games.entry.now)) }
 {
     let game = find_game(games, name)?;
     find_seat(game.seats.as_slice(), power)
@@ -163,7 +167,8 @@ fn game_place(games: &[GameRow], name: &str) -> usize
 
 /// The place of the seat of that power, or the length.
 fn seat_place(seats: &[Own], power: Power) -> usize
-    ensures { result ≡ place (λ a b. a == b) (λ o. o.power) power (each (λ o. texts.own o) seats.now) }
+    ensures { result ≡ place (λ a b. a == b) (λ o. o.power) power
+        (each (λ o. texts.own o) seats.now) }
 {
     for (number, seat) in seats.iter().enumerate() {
         if seat.power == power {
@@ -175,7 +180,8 @@ fn seat_place(seats: &[Own], power: Power) -> usize
 
 /// What a letter of its own changes in a seat: it is kept, and its orders stand where it has any.
 fn record_own(own: &mut Own, kept: Kept, pending: Option<Vec<Standing>>)
-    ensures { texts.own own.new ≡ s.own_after (texts.kept kept) (option_map (λ l. texts.standings l.items) pending) (texts.own own.old) }
+    ensures { texts.own own.new ≡ s.own_after (texts.kept kept)
+        (option_map (λ l. texts.standings l.items) pending) (texts.own own.old) }
 {
     own.kept = Some(kept);
     if let Some(pending) = pending {
@@ -184,8 +190,9 @@ fn record_own(own: &mut Own, kept: Kept, pending: Option<Vec<Standing>>)
 }
 
 fn record_seat(seats: &mut Vec<Own>, power: Power, kept: Kept, pending: Option<Vec<Standing>>)
-    ensures { each (λ o. texts.own o) seats.new.items ≡ change_at (λ a b. a == b) (λ o. o.power) power
-        (s.own_after (texts.kept kept) (option_map (λ l. texts.standings l.items) pending)) (each (λ o. texts.own o) seats.old.items) }
+    ensures { each (λ o. texts.own o) seats.new.items ≡ change_at (λ a b. a == b) (λ o. o.power)
+        power (s.own_after (texts.kept kept) (option_map (λ l. texts.standings l.items) pending))
+        (each (λ o. texts.own o) seats.old.items) }
 {
     let place = seat_place(seats.as_slice(), power);
     if place < seats.len() {
@@ -201,7 +208,8 @@ fn record_game(
     pending: Option<Vec<Standing>>,
 )
     ensures { each (λ g. stored.game g) games.new.items ≡ s.at_seat name.now power
-        (s.own_after (texts.kept kept) (option_map (λ l. texts.standings l.items) pending)) (each (λ g. stored.game g) games.old.items) }
+        (s.own_after (texts.kept kept) (option_map (λ l. texts.standings l.items) pending))
+        (each (λ g. stored.game g) games.old.items) }
 {
     let place = game_place(games.as_slice(), name);
     if place < games.len() {
@@ -225,7 +233,9 @@ fn fresh(alloc: Global, seat: &NewSeat) -> Own
 }
 
 fn fresh_seats(alloc: Global, seats: &[NewSeat]) -> Result<Vec<Own>, AllocError>
-    ensures { IfOk result (λ v. each (λ o. texts.own o) v.items ≡ each s.fresh (each (λ n. rows.new_seat n) seats.now)) }
+    ensures { IfOk result
+        (λ v. each (λ o. texts.own o) v.items ≡ each s.fresh
+        (each (λ n. rows.new_seat n) seats.now)) }
 {
     let mut owns = Vec::with_capacity(alloc, seats.len())?;
     for seat in seats {
@@ -240,7 +250,9 @@ fn opened(
     paper: &String,
     seats: &[NewSeat],
 ) -> Result<GameRow, AllocError>
-    ensures { IfOk result (λ g. stored.game g ≡ s.opened (texts.public public.now) (string_bytes paper.now) (each (λ n. rows.new_seat n) seats.now)) }
+    ensures { IfOk result
+        (λ g. stored.game g ≡ s.opened (texts.public public.now) (string_bytes paper.now)
+        (each (λ n. rows.new_seat n) seats.now)) }
 {
     let mut papers = Vec::new(alloc);
     papers.push(paper.clone()?)?;
@@ -253,7 +265,8 @@ fn opened(
 
 /// The standing orders that an effect gives its author, where it gives any.
 fn pending_in(alloc: Global, effect: &Effect) -> Result<Option<Vec<Standing>>, AllocError>
-    ensures { IfOk result (λ o. option_map (λ l. texts.standings l.items) o ≡ s.pending_in (rows.effect effect.now)) }
+    ensures { IfOk result
+        (λ o. option_map (λ l. texts.standings l.items) o ≡ s.pending_in (rows.effect effect.now)) }
 {
     match effect {
         Effect::Nothing | Effect::Opens { .. } => Ok(None),
@@ -263,7 +276,9 @@ fn pending_in(alloc: Global, effect: &Effect) -> Result<Option<Vec<Standing>>, A
 
 /// The game that an effect opens stands last.
 fn open_game(alloc: Global, games: &mut Vec<GameRow>, effect: &Effect) -> Result<(), AllocError>
-    ensures ok { OnOk result (each (λ g. stored.game g) games.new.items ≡ s.with_opened (rows.effect effect.now) (each (λ g. stored.game g) games.old.items)) }
+    ensures ok { OnOk result
+        (each (λ g. stored.game g) games.new.items ≡ s.with_opened (rows.effect effect.now)
+        (each (λ g. stored.game g) games.old.items)) }
     ensures err { OnErr result (games.new.items ≡ games.old.items) }
 {
     if let Effect::Opens {
@@ -285,7 +300,8 @@ impl MemoryKeeper {
 
     /// An empty desk whose master's secret has this digest.
     pub fn new(alloc: Global, digest: [u8; 32]) -> MemoryKeeper
-        ensures empty { stored.state result ≡ record { desk = record { digest = digest; kept = None }; games = [] } }
+        ensures empty { stored.state result ≡ record
+            { desk = record { digest = digest; kept = None }; games = [] } }
         ensures lawful { (m : Chart) → IsLawful m (stored.state result) }
     {
         MemoryKeeper {

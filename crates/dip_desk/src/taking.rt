@@ -31,7 +31,9 @@ fn head_of(alloc: Global, letter: &Letter<'_>) -> Result<Head, AllocError>
 
 /// The reply to a letter whose game, sender or secret isn't known.
 fn not_known(alloc: Global) -> Result<Reply, AllocError>
-    ensures { IfOk result (λ r. texts.reply r ≡ record { outcome = Outcome.Unknown; head = None; text = m.refusal_line Refusal.Unknown }) }
+    ensures { IfOk result
+        (λ r. texts.reply r ≡ record
+        { outcome = Outcome.Unknown; head = None; text = m.refusal_line Refusal.Unknown }) }
 {
     Ok(Reply {
         outcome: Outcome::Unknown,
@@ -47,8 +49,10 @@ fn told(
     outcome: Outcome,
     text: String,
 ) -> Result<Reply, AllocError>
-    ensures { IfOk result (λ r. texts.reply r
-        ≡ record { outcome = outcome; head = Some (m.head_of (mail letter.now)); text = string_bytes text }) }
+    ensures { IfOk result
+        (λ r. texts.reply r ≡ record
+        { outcome = outcome; head = Some (m.head_of (mail letter.now)); text = string_bytes text
+        }) }
 {
     Ok(Reply {
         outcome,
@@ -65,7 +69,10 @@ fn change_of(
     text: String,
     effect: Effect,
 ) -> Result<Change, AllocError>
-    ensures { IfOk result (λ c. rows.change c ≡ record { game = letter.now.game.now; author = rows.author author; kept = m.kept_of (mail letter.now) (string_bytes text); effect = rows.effect effect }) }
+    ensures { IfOk result
+        (λ c. rows.change c ≡ record
+        { game = letter.now.game.now; author = rows.author author; kept = m.kept_of
+        (mail letter.now) (string_bytes text); effect = rows.effect effect }) }
 {
     Ok(Change {
         game: String::from_str(alloc, letter.game)?,
@@ -118,7 +125,8 @@ pub fn take<K: Keeper>(
 ) -> Result<Reply, KeepFault>
     requires { K.book.faults keeper.old < u64.MAX }
     ensures { Steps map.now K.book keeper.old keeper.new (λ r. texts.reply r)
-        (λ old r new. m.Step map.now old (mail letter.now) r new) (m.IsDamagedBy map.now (mail letter.now)) result }
+        (λ old r new. m.Step map.now old (mail letter.now) r new)
+        (m.IsDamagedBy map.now (mail letter.now)) result }
 {
     let sight = look(keeper, map, letter)?;
     let decided = verdict_on(alloc, map, letter, &sight)?;

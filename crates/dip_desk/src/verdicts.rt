@@ -56,7 +56,9 @@ pub fn old_number(
     letter: &Letter<'_>,
     kept: &Option<Kept>,
 ) -> Result<Option<Verdict>, AllocError>
-    ensures { IfOk result (λ o. option_map verdict o ≡ m.old_number (mail letter.now) (option_map texts.kept kept.now)) }
+    ensures { IfOk result
+        (λ o. option_map verdict o ≡ m.old_number (mail letter.now)
+        (option_map texts.kept kept.now)) }
 {
     let Some(kept) = kept else {
         return Ok(None);

@@ -82,7 +82,8 @@ fn judge_command<'a>(alloc: Global) -> Result<Command<'a>, AllocError>
 
 /// What clap makes of the words.
 fn matches_of<'a>(alloc: Global, words: &'a [&'a str]) -> Result<ArgMatches<'a>, UsageFault>
-    ensures taken { IfOk result (λ _. fault_of judge_command (map (λ w. w.now) words.entry.now) ≡ []) }
+    ensures taken { IfOk result
+        (λ _. fault_of judge_command (map (λ w. w.now) words.entry.now) ≡ []) }
     ensures found { IfOk result (λ m. subcommand_rows_of m
         ≡ subcommand_of judge_command (map (λ w. w.now) words.entry.now)) }
     ensures faults { IfErr result (IsUsageFault (map (λ w. w.now) words.entry.now)) }
@@ -93,7 +94,8 @@ fn matches_of<'a>(alloc: Global, words: &'a [&'a str]) -> Result<ArgMatches<'a>,
 
 /// The value of an option of `letters`.
 fn value_of<'a>(matches: &ArgMatches<'a>, option: &str) -> Option<&'a str>
-    ensures { option_map (λ s. s.now) result ≡ value_in option.now (subcommand_rows_of matches.now) }
+    ensures { option_map (λ s. s.now) result ≡ value_in option.now
+        (subcommand_rows_of matches.now) }
 {
     let (name, letters) = matches.subcommand()?;
     if name == "letters" {
@@ -106,7 +108,8 @@ fn value_of<'a>(matches: &ArgMatches<'a>, option: &str) -> Option<&'a str>
 /// What the words ask for, the program's own name being the first of them.
 pub fn read_args<'a>(alloc: Global, words: &'a [&'a str]) -> Result<Args<'a>, UsageFault>
     // clap takes the words, and gives them this command and these values.
-    ensures taken { IfOk result (λ _. fault_of judge_command (map (λ w. w.now) words.entry.now) ≡ []) }
+    ensures taken { IfOk result
+        (λ _. fault_of judge_command (map (λ w. w.now) words.entry.now) ≡ []) }
     ensures given { IfOk result (IsGiven (map (λ w. w.now) words.entry.now)) }
     ensures secret { IfOk result HasSecret }
     ensures faults { IfErr result (IsUsageFault (map (λ w. w.now) words.entry.now)) }

@@ -37,7 +37,8 @@ fn text_of(bytes: Vec<u8>) -> Result<String, FileFault>
 
 /// The text that is all that the reader has, at most `MOST_MAP` bytes of UTF-8.
 fn read_text<R: Read>(alloc: Global, reader: &mut R) -> Result<String, FileFault>
-    ensures text { IfOk result (λ t. IsFileText (R.remaining reader.old) (R.remaining reader.new) (string_bytes t)) }
+    ensures text { IfOk result
+        (λ t. IsFileText (R.remaining reader.old) (R.remaining reader.new) (string_bytes t)) }
     ensures fault { IfErr result (IsFileFault (R.remaining reader.old) (R.remaining reader.new)) }
 {
     match read_whole(alloc, reader, MOST_MAP) {

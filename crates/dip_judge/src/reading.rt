@@ -18,7 +18,8 @@ pub enum ReadFault {
 
 /// All that the reader has, at most `most` bytes.
 pub fn read_whole<R: Read>(alloc: Global, reader: &mut R, most: usize) -> Result<Vec<u8>, ReadFault>
-    ensures whole { IfOk result (λ v. IsReadWithin most (R.remaining reader.old) (R.remaining reader.new) v.items) }
+    ensures whole { IfOk result
+        (λ v. IsReadWithin most (R.remaining reader.old) (R.remaining reader.new) v.items) }
     ensures long { IsErrOf result ReadFault.TooLong → IsLonger most (R.remaining reader.old) }
 {
     let mut input = Vec::new(alloc);

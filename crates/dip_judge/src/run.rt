@@ -38,8 +38,10 @@ pub enum RunFault {
 
 /// All that the reader has, at most `MOST_INPUT` bytes.
 fn read_input<R: Read>(alloc: Global, reader: &mut R) -> Result<Vec<u8>, RunFault>
-    ensures whole { IfOk result (λ v. IsReadWhole (R.remaining reader.old) (R.remaining reader.new) v.items) }
-    ensures long { IsErrOf result RunFault.TooLong → IfSome (R.remaining reader.old) (λ input. MOST_INPUT < length input) }
+    ensures whole { IfOk result
+        (λ v. IsReadWhole (R.remaining reader.old) (R.remaining reader.new) v.items) }
+    ensures long { IsErrOf result RunFault.TooLong
+        → IfSome (R.remaining reader.old) (λ input. MOST_INPUT < length input) }
     ensures faults { IfErr result IsReadingFault }
 {
     match read_whole(alloc, reader, MOST_INPUT) {
@@ -53,7 +55,9 @@ fn read_input<R: Read>(alloc: Global, reader: &mut R) -> Result<Vec<u8>, RunFaul
 /// Writes all of a text, or a beginning of it.
 fn write_text<W: Write>(writer: &mut W, text: &[u8]) -> Result<(), RunFault>
     ensures ok { OnOk result (Appends (W.contents writer.old) (W.contents writer.new) text.now) }
-    ensures err { OnErr result ((size : ℕ) × Appends (W.contents writer.old) (W.contents writer.new) (first size text.now)) }
+    ensures err { OnErr result
+        ((size : ℕ)
+        × Appends (W.contents writer.old) (W.contents writer.new) (first size text.now)) }
     ensures fault { IfErr result (λ f. f ≡ RunFault.Write) }
 {
     let mut at = 0;
@@ -129,17 +133,27 @@ fn step<'a, K: Keeper>(
     input: &'a [u8],
 ) -> Result<Option<(Reply, &'a [u8])>, RunFault>
     requires { K.book.faults keeper.old < u64.MAX }
-    ensures some { K.book.sound map.now keeper.old → K.book.shows keeper.new → IfOk result (λ o. IfSome o (λ p.
-        IsTurn map.now input.entry.now (K.book.content map.now keeper.old) (rows.reply p.0) (K.book.content map.now keeper.new) p.1.now)) }
+    ensures some { K.book.sound map.now keeper.old → K.book.shows keeper.new
+        → IfOk result
+        (λ o. IfSome o
+        (λ p. IsTurn map.now input.entry.now (K.book.content map.now keeper.old) (rows.reply p.0)
+        (K.book.content map.now keeper.new) p.1.now)) }
     ensures shorter { IfOk result (λ o. IfSome o (λ p. length p.1.now < length input.entry.now)) }
-    ensures err { K.book.sound map.now keeper.old → K.book.shows keeper.new → OnErr result (K.book.content map.now keeper.new ≡ K.book.content map.now keeper.old) }
-    ensures lawful { K.book.sound map.now keeper.old → K.book.shows keeper.new → IsLawful map.now (K.book.content map.now keeper.old) → IsLawful map.now (K.book.content map.now keeper.new) }
-    ensures never { K.book.sound map.now keeper.old → K.book.shows keeper.new → IsLawful map.now (K.book.content map.now keeper.old) → IsErrOf result (RunFault.Keep KeepFault.Damaged) → ⊥ }
-    ensures none { IfOk result (λ o. IfNone o (IsNext input.entry.now Next.End × (keeper.new ≡ keeper.old))) }
+    ensures err { K.book.sound map.now keeper.old → K.book.shows keeper.new
+        → OnErr result (K.book.content map.now keeper.new ≡ K.book.content map.now keeper.old) }
+    ensures lawful { K.book.sound map.now keeper.old → K.book.shows keeper.new
+        → IsLawful map.now (K.book.content map.now keeper.old)
+        → IsLawful map.now (K.book.content map.now keeper.new) }
+    ensures never { K.book.sound map.now keeper.old → K.book.shows keeper.new
+        → IsLawful map.now (K.book.content map.now keeper.old)
+        → IsErrOf result (RunFault.Keep KeepFault.Damaged) → ⊥ }
+    ensures none { IfOk result
+        (λ o. IfNone o (IsNext input.entry.now Next.End × (keeper.new ≡ keeper.old))) }
     ensures fault { IfErr result IsTakingFault }
     ensures count { K.book.faults keeper.new ≡ faults_after_run result (K.book.faults keeper.old) }
     ensures shown { K.book.shows keeper.new → K.book.shows keeper.old }
-    ensures sound { K.book.sound map.now keeper.old → K.book.shows keeper.new → K.book.sound map.now keeper.new }
+    ensures sound { K.book.sound map.now keeper.old → K.book.shows keeper.new
+        → K.book.sound map.now keeper.new }
 {
     lawful_states_stay_lawful(map);
     match next_letter(input) {
@@ -164,11 +178,17 @@ fn answer_all<W: Write, K: Keeper>(
     map: &Map,
 ) -> Result<(), RunFault>
     requires { K.book.faults keeper.old < u64.MAX }
-    ensures answers { K.book.sound map.now keeper.old → K.book.shows keeper.new → OnOk result (AnswersAll map.now input.now
-        (K.book.content map.now keeper.old) (K.book.content map.now keeper.new) (W.contents writer.old) (W.contents writer.new)) }
-    ensures stops { K.book.sound map.now keeper.old → K.book.shows keeper.new → IfErr result (λ f. Stops map.now f input.now
-        (K.book.content map.now keeper.old) (K.book.content map.now keeper.new) (W.contents writer.old) (W.contents writer.new)) }
-    ensures never { K.book.sound map.now keeper.old → K.book.shows keeper.new → IsLawful map.now (K.book.content map.now keeper.old) → IsErrOf result (RunFault.Keep KeepFault.Damaged) → ⊥ }
+    ensures answers { K.book.sound map.now keeper.old → K.book.shows keeper.new
+        → OnOk result
+        (AnswersAll map.now input.now (K.book.content map.now keeper.old)
+        (K.book.content map.now keeper.new) (W.contents writer.old) (W.contents writer.new)) }
+    ensures stops { K.book.sound map.now keeper.old → K.book.shows keeper.new
+        → IfErr result
+        (λ f. Stops map.now f input.now (K.book.content map.now keeper.old)
+        (K.book.content map.now keeper.new) (W.contents writer.old) (W.contents writer.new)) }
+    ensures never { K.book.sound map.now keeper.old → K.book.shows keeper.new
+        → IsLawful map.now (K.book.content map.now keeper.old)
+        → IsErrOf result (RunFault.Keep KeepFault.Damaged) → ⊥ }
     ensures fault { IfErr result IsAnsweringFault }
     ensures count { K.book.faults keeper.new ≡ faults_after_run result (K.book.faults keeper.old) }
 {
@@ -195,20 +215,25 @@ pub fn run_file<R: Read, W: Write, K: Keeper>(
     map: &Map,
 ) -> Result<(), RunFault>
     requires { K.book.faults keeper.old < u64.MAX }
-    ensures answers { K.book.sound map.now keeper.old → K.book.shows keeper.new → OnOk result ((input : List ℕ)
-        × IsReadWhole (R.remaining reader.old) (R.remaining reader.new) input
-        × AnswersAll map.now input (K.book.content map.now keeper.old) (K.book.content map.now keeper.new)
-        (W.contents writer.old) (W.contents writer.new)) }
+    ensures answers { K.book.sound map.now keeper.old → K.book.shows keeper.new
+        → OnOk result
+        ((input : List ℕ) × IsReadWhole (R.remaining reader.old) (R.remaining reader.new) input
+        × AnswersAll map.now input (K.book.content map.now keeper.old)
+        (K.book.content map.now keeper.new) (W.contents writer.old) (W.contents writer.new)) }
     ensures ok { OnOk result (IsReadToEnd (R.remaining reader.old) (R.remaining reader.new)) }
     ensures err { IfErr result (λ f. StopsBy f (R.remaining reader.old) (R.remaining reader.new)
         (W.contents writer.old) (W.contents writer.new) keeper.old keeper.new) }
-    ensures stops { K.book.sound map.now keeper.old → K.book.shows keeper.new → IfErr result (λ f.
-        IsUntouched (W.contents writer.old) (W.contents writer.new) keeper.old keeper.new
-        ⊎ ((input : List ℕ) × IsReadWhole (R.remaining reader.old) (R.remaining reader.new) input
-        × Stops map.now f input (K.book.content map.now keeper.old) (K.book.content map.now keeper.new)
-        (W.contents writer.old) (W.contents writer.new))) }
+    ensures stops { K.book.sound map.now keeper.old → K.book.shows keeper.new
+        → IfErr result
+        (λ f. IsUntouched (W.contents writer.old) (W.contents writer.new) keeper.old keeper.new
+        ⊎
+        ((input : List ℕ) × IsReadWhole (R.remaining reader.old) (R.remaining reader.new) input
+        × Stops map.now f input (K.book.content map.now keeper.old)
+        (K.book.content map.now keeper.new) (W.contents writer.old) (W.contents writer.new))) }
     // From a lawful content on, as an empty desk is, Damaged is never told.
-    ensures never { K.book.sound map.now keeper.old → K.book.shows keeper.new → IsLawful map.now (K.book.content map.now keeper.old) → IsErrOf result (RunFault.Keep KeepFault.Damaged) → ⊥ }
+    ensures never { K.book.sound map.now keeper.old → K.book.shows keeper.new
+        → IsLawful map.now (K.book.content map.now keeper.old)
+        → IsErrOf result (RunFault.Keep KeepFault.Damaged) → ⊥ }
     ensures count { K.book.faults keeper.new ≡ faults_after_run result (K.book.faults keeper.old) }
 {
     let input = read_input(alloc, reader)?;

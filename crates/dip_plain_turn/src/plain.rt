@@ -1,3 +1,4 @@
+//! A plain program for phases, written from the rules.
 mod calendar;
 mod moves;
 mod refuges;

@@ -1,3 +1,4 @@
+//! Phases, by the rows of the rules and by whole games.
 mod adjustments;
 mod centres;
 mod compare;

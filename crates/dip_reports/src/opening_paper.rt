@@ -11,7 +11,8 @@ use std::alloc::{AllocError, Global};
 
 /// The text of a game's first paper.
 pub fn opening_paper_text(alloc: Global, map: &Map, public: &Public) -> Result<String, AllocError>
-    ensures { IfOk result (λ text. string_bytes text ≡ opening_paper map.now (rows.public public.now)) }
+    ensures { IfOk result
+        (λ text. string_bytes text ≡ opening_paper map.now (rows.public public.now)) }
 {
     let mut out = String::new(alloc);
     out.push_str("PAPER 1 opening\n")?;

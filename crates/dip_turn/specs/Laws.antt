@@ -1,7 +1,7 @@
 -- Laws of phases: what holds of each phase that is adjudicated, by the definitions.
 use Rattle.std.specs.Prelude.{◌≡◌, ℕ, ◌<◌, ◌≤◌, ◌+◌, ◌-◌, ◌*◌, Bool, true, false, not, ◌&&◌, ◌⊎◌, All, Contains, List, length, Option, None, Some}
 use Rattle.std.specs.List.{list_any}
-use Rattle.dip_names.specs.declared.names.Unit.{Unit as Piece}
+use Rattle.dip_names.specs.declared.names.Unit.{Unit as AUnit}
 use Rattle.dip_chart.specs.Charts.{Chart, is_centre}
 use Rattle.dip_board.specs.declared.boards.Dislodged.{Dislodged}
 use Rattle.dip_board.specs.declared.boards.Phase.{Phase}
@@ -16,7 +16,7 @@ use Rattle.dip_decide.specs.declared.decisions.Decision.TheVariants.{Move as Mov
 use Rattle.dip_decide.specs.Matching.{is_convoyed, order_at, situation}
 use Rattle.dip_decide.specs.Movement.{Satisfies, head_to_head}
 use Rattle.dip_decide.specs.Results.{values_in}
-use Rattle.dip_orders.specs.Tests.{is_retreat}
+use Rattle.dip_orders.specs.Conditions.{is_retreat}
 use Rattle.dip_turn.specs.Adjusting.{after_adjustment, units_built}
 use Rattle.dip_turn.specs.Centres.{has_won, holder}
 use Rattle.dip_turn.specs.Moving.{contends, dislodged_after, dislodged_unit, entrant, enters, has_moved, is_driven_out, prov, standing_after, unit_after}
@@ -133,8 +133,8 @@ OnlyRetreatsHaveDislodged =
     → IsPlayed m b pending new report → has_dislodged new ≡ true → is_retreat new.phase.season ≡ true
 
 -- a centre fell to the power of the unit that stands in it
-abbrev pub IsTaken : Chart → List Piece → ℕ → Option ℕ → Type 0
-IsTaken m us p r = (is_centre m p ≡ true) × (u : Piece) × (holder us p ≡ Some u) × (r ≡ Some u.power)
+abbrev pub IsTaken : Chart → List AUnit → ℕ → Option ℕ → Type 0
+IsTaken m us p r = (is_centre m p ≡ true) × (u : AUnit) × (holder us p ≡ Some u) × (r ≡ Some u.power)
 
 -- the owner of a province stayed, or it is a centre with a unit of its new owner in it
 abbrev pub IsKeptOrTaken : Chart → Position → Position → ℕ → Type 0

@@ -166,7 +166,8 @@ fn units_after(
     board: &Board,
     pending: &[PlacedOrder],
 ) -> Result<Vec<Unit>, AllocError>
-    ensures { IfOk result (λ v. v.items ≡ (a.after_adjustment map.now board.now pending.now).units) }
+    ensures { IfOk result
+        (λ v. v.items ≡ (a.after_adjustment map.now board.now pending.now).units) }
 {
     let gone = disorder(alloc, map, board, pending)?;
     let kept = units_kept(alloc, board, pending)?;

@@ -36,7 +36,8 @@ fn owner_after(map: &Map, units: &[Unit], prov: Prov, owner: Option<Power>) -> O
 
 fn owners_after(alloc: Global, map: &Map, board: &Board) -> Result<Vec<Option<Power>>, AllocError>
     requires owners { length board.now.owners ≡ length map.now.provinces }
-    ensures { IfOk result (λ v. v.items ≡ c.owners_after map.now board.now.units 0 board.now.owners) }
+    ensures { IfOk result
+        (λ v. v.items ≡ c.owners_after map.now board.now.units 0 board.now.owners) }
 {
     map.facts();
     let mut owners = Vec::new(alloc);

@@ -126,7 +126,8 @@ fn dislodged_after(
     resolution: &Resolution,
     orders: &[PlacedOrder],
 ) -> Result<Vec<Dislodged>, AllocError>
-    ensures { IfOk result (λ v. v.items ≡ m.dislodged_after map.now (values_in resolution.now) orders.now) }
+    ensures { IfOk result
+        (λ v. v.items ≡ m.dislodged_after map.now (values_in resolution.now) orders.now) }
 {
     orders
         .iter()
@@ -143,7 +144,8 @@ pub(crate) fn moved_board(
     resolution: &Resolution,
     orders: &[PlacedOrder],
 ) -> Result<Board, AllocError>
-    ensures { IfOk result (λ b. b ≡ m.moved_board map.now board.now (values_in resolution.now) orders.now) }
+    ensures { IfOk result
+        (λ b. b ≡ m.moved_board map.now board.now (values_in resolution.now) orders.now) }
 {
     let units = standing_after(alloc, resolution, orders)?;
     let dislodged = dislodged_after(alloc, map, resolution, orders)?;

@@ -112,7 +112,8 @@ fn is_matched(orders: &[PlacedOrder], order: &Order, prov: Prov) -> bool
 }
 
 fn matches_any(orders: &[PlacedOrder], order: &Order) -> bool
-    ensures { result ≡ list_any (λ o. is_matched (order_at orders.now) order.now o.unit.place.prov) orders.now }
+    ensures { result ≡ list_any (λ o. is_matched (order_at orders.now) order.now o.unit.place.prov)
+        orders.now }
 {
     orders
         .iter()
@@ -147,13 +148,16 @@ fn is_carried(map: &Map, orders: &[PlacedOrder], order: &Order, prov: Prov) -> b
 
 /// Whether a unit is a fleet in a sea.
 fn is_sailing(map: &Map, placed: &PlacedOrder) -> bool
-    ensures { result ≡ (is_kind placed.now.unit.kind Fleet && is_sea (province map.now placed.now.unit.place.prov).terrain) }
+    ensures { result ≡
+        (is_kind placed.now.unit.kind Fleet && is_sea
+        (province map.now placed.now.unit.place.prov).terrain) }
 {
     placed.unit.kind.is(Kind::Fleet) && map.terrain(placed.unit.place.prov).is_sea()
 }
 
 fn carries_any(map: &Map, orders: &[PlacedOrder], order: &Order) -> bool
-    ensures { result ≡ list_any (λ o. is_carried map.now (order_at orders.now) order.now o.unit.place.prov) orders.now }
+    ensures { result ≡ list_any
+        (λ o. is_carried map.now (order_at orders.now) order.now o.unit.place.prov) orders.now }
 {
     orders.iter().any(|other| is_carried(map, orders, order, other.unit.place.prov))
 }

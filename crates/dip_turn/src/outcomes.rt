@@ -21,7 +21,8 @@ fn move_outcome(
     orders: &[PlacedOrder],
     placed: &PlacedOrder,
 ) -> Outcome
-    ensures { result ≡ o.move_outcome (situation map.now orders.now) (values_in resolution.now) placed.now }
+    ensures { result ≡ o.move_outcome (situation map.now orders.now) (values_in resolution.now)
+        placed.now }
 {
     if has_moved(resolution, placed) {
         return Outcome::Moves;
@@ -39,7 +40,8 @@ fn support_outcome(
     orders: &[PlacedOrder],
     placed: &PlacedOrder,
 ) -> Outcome
-    ensures { result ≡ o.support_outcome (situation map.now orders.now) (values_in resolution.now) placed.now }
+    ensures { result ≡ o.support_outcome (situation map.now orders.now) (values_in resolution.now)
+        placed.now }
 {
     if !is_support(map, orders, placed.unit.place.prov) {
         return Outcome::Void;
@@ -90,7 +92,8 @@ fn fate_of(
     orders: &[PlacedOrder],
     placed: &PlacedOrder,
 ) -> Result<Fate, AllocError>
-    ensures { IfOk result (λ f. f ≡ o.fate_on map.now moved.now (values_in resolution.now) orders.now placed.now) }
+    ensures { IfOk result
+        (λ f. f ≡ o.fate_on map.now moved.now (values_in resolution.now) orders.now placed.now) }
 {
     if !is_driven_out(resolution, orders, placed) {
         return Ok(Fate::Stands);
@@ -111,7 +114,8 @@ fn movement_line(
     orders: &[PlacedOrder],
     placed: &PlacedOrder,
 ) -> Result<MovementLine, AllocError>
-    ensures { IfOk result (λ l. l ≡ o.line_on map.now moved.now (values_in resolution.now) orders.now placed.now) }
+    ensures { IfOk result
+        (λ l. l ≡ o.line_on map.now moved.now (values_in resolution.now) orders.now placed.now) }
 {
     let fate = fate_of(alloc, map, moved, resolution, orders, placed)?;
     Ok(MovementLine {
@@ -129,7 +133,8 @@ pub(crate) fn movement_lines(
     resolution: &Resolution,
     orders: &[PlacedOrder],
 ) -> Result<Vec<MovementLine>, AllocError>
-    ensures { IfOk result (λ v. v.items ≡ o.lines_on map.now moved.now (values_in resolution.now) orders.now) }
+    ensures { IfOk result
+        (λ v. v.items ≡ o.lines_on map.now moved.now (values_in resolution.now) orders.now) }
 {
     let mut lines = Vec::new(alloc);
     for placed in orders {

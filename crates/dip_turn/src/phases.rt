@@ -65,7 +65,8 @@ fn new_year(alloc: Global, board: Board) -> Result<(Board, Course), AllocError>
 }
 
 fn after_count(alloc: Global, map: &Map, board: Board) -> Result<(Board, Course), AllocError>
-    ensures { IfOk result (λ r. p.sequel r.0 r.1 ≡ p.after_count map.now board (c.winner map.now board)) }
+    ensures { IfOk result
+        (λ r. p.sequel r.0 r.1 ≡ p.after_count map.now board (c.winner map.now board)) }
 {
     if let Some(power) = winner(map, &board) {
         return Ok((board, Course::Won(power)));

@@ -113,7 +113,8 @@ fn left_by(
     pending: &[PlacedOrder],
 ) -> Result<(Board, Account), AllocError>
     requires of_map { IsOf map.now board.now }
-    ensures { IfOk result (λ r. Leaves map.now board.now.phase.season board.now pending.now r.0 r.1) }
+    ensures { IfOk result
+        (λ r. Leaves map.now board.now.phase.season board.now pending.now r.0 r.1) }
 {
     match board.phase().season {
         Season::SpringMoves | Season::FallMoves => play_movement(alloc, map, board, pending),

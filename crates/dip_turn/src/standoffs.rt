@@ -36,7 +36,8 @@ fn prevents(
     from: Prov,
     to: Prov,
 ) -> bool
-    ensures { result ≡ nat_lt 0 (prevent (situation map.now orders.now) (values_in resolution.now) from to) }
+    ensures { result ≡ nat_lt 0
+        (prevent (situation map.now orders.now) (values_in resolution.now) from to) }
 {
     has_path(map, resolution, orders, from)
         && !(is_head_to_head(map, orders, from, to) && is_listed(resolution.moves.as_slice(), to))
@@ -64,7 +65,8 @@ fn is_held_by(units: &[Unit], prov: Prov) -> bool
 }
 
 fn is_contended(map: &Map, resolution: &Resolution, orders: &[PlacedOrder], prov: Prov) -> bool
-    ensures { result ≡ list_any (m.contends map.now (values_in resolution.now) orders.now prov) orders.now }
+    ensures { result ≡ list_any (m.contends map.now (values_in resolution.now) orders.now prov)
+        orders.now }
 {
     orders
         .iter()
@@ -78,7 +80,8 @@ fn is_standoff_after(
     units: &[Unit],
     prov: Prov,
 ) -> bool
-    ensures { result ≡ m.is_standoff_after map.now (values_in resolution.now) orders.now units.now prov }
+    ensures { result ≡ m.is_standoff_after map.now (values_in resolution.now) orders.now units.now
+        prov }
 {
     is_contended(map, resolution, orders, prov) && !is_held_by(units, prov)
 }
@@ -103,7 +106,8 @@ pub(crate) fn standoffs_after(
     orders: &[PlacedOrder],
     units: &[Unit],
 ) -> Result<Vec<Prov>, AllocError>
-    ensures { IfOk result (λ v. v.items ≡ m.standoffs_after map.now (values_in resolution.now) orders.now units.now) }
+    ensures { IfOk result
+        (λ v. v.items ≡ m.standoffs_after map.now (values_in resolution.now) orders.now units.now) }
 {
     let mut found = all_provinces(alloc, map)?;
     found.retain(|prov| is_standoff_after(map, resolution, orders, units, *prov));

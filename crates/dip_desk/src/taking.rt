@@ -50,8 +50,10 @@ fn told(
     text: String,
 ) -> Result<Reply, AllocError>
     ensures { IfOk result
-        (λ r. texts.reply r ≡ record
-        { outcome = outcome; head = Some (m.head_of (mail letter.now)); text = string_bytes text
+        (λ r. texts.reply r ≡ record {
+          outcome = outcome;
+          head = Some (m.head_of (mail letter.now));
+          text = string_bytes text;
         }) }
 {
     Ok(Reply {
@@ -70,9 +72,13 @@ fn change_of(
     effect: Effect,
 ) -> Result<Change, AllocError>
     ensures { IfOk result
-        (λ c. rows.change c ≡ record
-        { game = letter.now.game.now; author = rows.author author; kept = m.kept_of
-        (mail letter.now) (string_bytes text); effect = rows.effect effect }) }
+        (λ c. rows.change c ≡ record {
+          game = letter.now.game.now;
+          author = rows.author author;
+          kept = m.kept_of
+              (mail letter.now) (string_bytes text);
+          effect = rows.effect effect;
+        }) }
 {
     Ok(Change {
         game: String::from_str(alloc, letter.game)?,

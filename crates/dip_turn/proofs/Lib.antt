@@ -2,6 +2,7 @@ pub mod ListLemmas
 pub mod DistanceLemmas
 pub mod DisorderLemmas
 pub mod OrderLemmas
+pub mod RefugeLemmas
 pub mod MovingLemmas
 pub mod CentreLemmas
 pub mod ApartLemmas

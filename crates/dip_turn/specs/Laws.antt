@@ -1,13 +1,14 @@
 -- Laws of phases: what holds of each phase that is adjudicated, by the definitions.
-use Rattle.std.specs.Prelude.{◌≡◌, ℕ, ◌<◌, ◌≤◌, ◌+◌, ◌-◌, ◌*◌, Bool, true, false, not, ◌&&◌, ◌⊎◌, All, Contains, List, length, Option, None, Some}
+use Rattle.std.specs.Prelude.{◌≡◌, ◌≢◌, ℕ, ◌<◌, ◌≤◌, ◌+◌, ◌-◌, ◌*◌, Bool, true, false, not, ◌&&◌, ◌⊎◌, All, Contains, List, length, Option, None, Some}
 use Rattle.std.specs.List.{list_any}
 use Rattle.dip_names.specs.declared.names.Unit.{Unit as AUnit}
-use Rattle.dip_chart.specs.Charts.{Chart, is_centre}
+use Rattle.dip_chart.specs.Charts.{Chart, IsMap, is_centre}
 use Rattle.dip_board.specs.declared.boards.Dislodged.{Dislodged}
 use Rattle.dip_board.specs.declared.boards.Phase.{Phase}
 use Rattle.dip_board.specs.declared.boards.Season.{Season}
 use Rattle.dip_board.specs.declared.boards.Season.TheVariants.{SpringMoves, SpringRetreats, FallMoves, FallRetreats, Winter}
-use Rattle.dip_board.specs.Boards.{Position, owner}
+use Rattle.dip_board.specs.Boards.{Position, IsOf, owner}
+use Rattle.dip_orders.specs.Laws.{IsEmpty, IsGiven}
 use Rattle.dip_orders.specs.declared.placed.PlacedOrder.{PlacedOrder}
 use Rattle.dip_decide.specs.declared.decisions.Decision.{Decision}
 use Rattle.dip_decide.specs.Deciding.{Assignment}
@@ -119,6 +120,27 @@ pub record RetreatsKeepUnits (b : Position) (pending : List PlacedOrder) : Type 
 
 abbrev pub RetreatsLoseNobodyElse : Type 0
 RetreatsLoseNobodyElse = (b : Position) (pending : List PlacedOrder) → RetreatsKeepUnits b pending
+
+-- a retreat leads to where nobody stands, no standoff was, and the attacker didn't come from
+pub record IsOpenTo (b : Position) (d : Dislodged) (u : AUnit) : Type 0 where
+  pub empty : IsEmpty b u.place.prov
+  pub no_standoff : Contains b.standoff u.place.prov → ⊥
+  pub not_origin : d.origin ≢ Some u.place.prov
+
+-- where the orders are ones that can be given, each unit that retreated stands in a province that was open to it
+abbrev pub RetreatsAreOpen : Type 0
+RetreatsAreOpen =
+    (m : Chart) (b : Position) (pending : List PlacedOrder) (d : Dislodged) (u : AUnit)
+    → IsMap m → IsOf m b → ((o : PlacedOrder) → Contains pending o → IsGiven m b o.unit.power pending o)
+    → Contains b.dislodged d → after_retreat pending b.dislodged d ≡ Some u → IsOpenTo b d u
+
+-- two dislodged units that end in one province are one, whatever was ordered
+abbrev pub RetreatsMeetNowhere : Type 0
+RetreatsMeetNowhere =
+    (b : Position) (pending : List PlacedOrder) (d e : Dislodged) (u v : AUnit)
+    → Contains b.dislodged d → Contains b.dislodged e
+    → after_retreat pending b.dislodged d ≡ Some u → after_retreat pending b.dislodged e ≡ Some v
+    → u.place.prov ≡ v.place.prov → d ≡ e
 
 -- after a Winter each unit stood before or was built
 abbrev pub WintersAddBuildsAlone : Type 0

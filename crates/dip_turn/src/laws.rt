@@ -1,7 +1,11 @@
 //! Laws of phases, each the contract of a function that does nothing.
-ghost use Rattle.dip_turn.specs.Laws.{UnitsStandApart, DislodgedWhereEntered, LosersLeaveNoStandoff, MovementsKeepUnits, RetreatsLoseNobodyElse, WintersAddBuildsAlone, ConvoysCloseNoOrigin, OnlyRetreatsHaveDislodged, CentresChangeInFall, PhasesFollow, WinnersOwnMore, PhasesHaveOneResult};
+ghost use Rattle.dip_turn.specs.Laws.{CentresChangeInFall, ConvoysCloseNoOrigin, DislodgedWhereEntered};
+ghost use Rattle.dip_turn.specs.Laws.{LosersLeaveNoStandoff, MovementsKeepUnits, OnlyRetreatsHaveDislodged, PhasesFollow};
+ghost use Rattle.dip_turn.specs.Laws.{PhasesHaveOneResult, RetreatsAreOpen, RetreatsLoseNobodyElse, RetreatsMeetNowhere};
+ghost use Rattle.dip_turn.specs.Laws.{UnitsStandApart, WinnersOwnMore, WintersAddBuildsAlone};
 
 use dip_decide::{boards_are_situations, equations_are_lawful, one_answer};
+use dip_orders::{none_retreats_to_its_attacker, retreats_and_builds_are_to_vacant_provinces};
 
 /// After a movement no two units stand in one province: two that aren't dislodged and stand in one are the same.
 pub fn units_stand_apart()
@@ -26,6 +30,16 @@ pub fn units_are_kept()
     ensures retreats { RetreatsLoseNobodyElse }
     ensures winters { WintersAddBuildsAlone }
 {}
+
+/// A unit that retreats comes to a province where nobody stood and no standoff was, and not to where its attacker came from, if the
+/// orders are ones that can be given; and two units never end in one province, whatever was ordered.
+pub fn retreats_are_open()
+    ensures open_to { RetreatsAreOpen }
+    ensures apart { RetreatsMeetNowhere }
+{
+    none_retreats_to_its_attacker();
+    retreats_and_builds_are_to_vacant_provinces();
+}
 
 /// Nobody is dislodged on a board whose phase is no retreat.
 pub fn only_retreats_have_dislodged()

@@ -11,3 +11,4 @@ pub mod OneWayLemmas
 pub mod CentreLaws
 pub mod ToldLemmas
 pub mod KeptLemmas
+pub mod WinnerLemmas

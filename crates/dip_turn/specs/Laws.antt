@@ -104,6 +104,12 @@ WinnersOwnMore =
     (m : Chart) (b : Position) (pending : List PlacedOrder) (new : Position) (report : Report) (power : ℕ)
     → IsPlayed m b pending new report → report.course ≡ Won power → has_won m new power ≡ true
 
+-- and nobody else does
+abbrev pub WinnersAreOne : Type 0
+WinnersAreOne =
+    (m : Chart) (b : Position) (pending : List PlacedOrder) (new : Position) (report : Report) (power other : ℕ)
+    → IsOf m b → IsPlayed m b pending new report → has_won m new power ≡ true → has_won m new other ≡ true → power ≡ other
+
 -- a movement loses and doubles nobody: each unit stands after it, in its province or at its destination, or is dislodged
 pub record MovementKeepsUnits (m : Chart) (a : Assignment) (orders : List PlacedOrder) : Type 0 where
   pub count : length (standing_after a orders) + length (dislodged_after m a orders) ≡ length orders

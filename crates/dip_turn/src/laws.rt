@@ -2,7 +2,7 @@
 ghost use Rattle.dip_turn.specs.Laws.{CentresChangeInFall, ConvoysCloseNoOrigin, DislodgedWhereEntered};
 ghost use Rattle.dip_turn.specs.Laws.{LosersLeaveNoStandoff, MovementsKeepUnits, OnlyRetreatsHaveDislodged, PhasesFollow};
 ghost use Rattle.dip_turn.specs.Laws.{PhasesHaveOneResult, RetreatsAreOpen, RetreatsLoseNobodyElse, RetreatsMeetNowhere};
-ghost use Rattle.dip_turn.specs.Laws.{UnitsStandApart, WinnersOwnMore, WintersAddBuildsAlone};
+ghost use Rattle.dip_turn.specs.Laws.{UnitsStandApart, WinnersAreOne, WinnersOwnMore, WintersAddBuildsAlone};
 
 use dip_decide::{boards_are_situations, equations_are_lawful, one_answer};
 use dip_orders::{none_retreats_to_its_attacker, retreats_and_builds_are_to_vacant_provinces};
@@ -56,9 +56,10 @@ pub fn phases_follow()
     ensures { PhasesFollow }
 {}
 
-/// Whoever has won owns more than half of all centres of the map.
+/// Whoever has won owns more than half of all centres of the map, and nobody else does.
 pub fn winners_own_more()
-    ensures { WinnersOwnMore }
+    ensures more { WinnersOwnMore }
+    ensures alone { WinnersAreOne }
 {}
 
 /// Two calls of `advance` on one board with the same orders come to the same board and report, but for the steps of the

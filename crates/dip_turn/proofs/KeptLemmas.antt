@@ -1,5 +1,6 @@
 -- Nobody is lost or doubled.
-use Rattle.std.proofs.Common.{◌≡◌, ◌⊎◌, inl, inr, ℕ, ◌+◌, Bool, true, false, cond, not, List, [], ◌∷◌, ◌++◌, Option, Some, None, map, filter, length, get_or, refl, sym, ap, ◌∙◌}
+use Rattle.std.proofs.Common.{◌≡◌, ◌⊎◌, inl, inr, ℕ, ◌+◌, Bool, true, false, cond, not, List, [], ◌∷◌, ◌++◌, Option, Some, None, map, filter, length, get_or, zero, suc, ◌<◌, arith, refl, sym, ap, ◌∙◌}
+use Rattle.std.proofs.lemmas.Bool.{cases_Bool}
 use Rattle.std.proofs.lemmas.List.{length-map}
 use Rattle.std.specs.Prelude.{All, Contains}
 use Rattle.std.specs.List.{AllByRecursion, cons_option, filter_map}
@@ -12,7 +13,7 @@ use Rattle.dip_board.specs.Boards.{Position}
 use Rattle.dip_orders.specs.declared.placed.PlacedOrder.{PlacedOrder}
 use Rattle.dip_decide.specs.Deciding.{Assignment}
 use Rattle.dip_turn.specs.Adjusting.{disorder, is_among, is_given, units_built, units_kept, units_staying}
-use Rattle.dip_turn.specs.Laws.{MovementsKeepUnits, RetreatsLoseNobodyElse, WintersAddBuildsAlone}
+use Rattle.dip_turn.specs.Laws.{MovementsKeepUnits, RetreatsLoseNobodyElse, WintersAddBuildsAlone, WintersRemoveAlone}
 use Rattle.dip_turn.specs.Moving.{dislodged_after, dislodged_unit, is_driven_out, standing_after, unit_after}
 use Rattle.dip_turn.specs.Retreating.{after_retreat, after_retreats}
 
@@ -116,3 +117,30 @@ winters_add_builds_alone m b pending =
     (All-filter (λ u. not (is_among (disorder m b pending) u)) (Contains b.units) (units_kept b pending)
     (All-filter (λ u. not (is_given pending u)) (Contains b.units) b.units (All-contains_itself b.units))))
     (weaker (Contains (units_built pending)) (StoodOrBuilt b pending) (units_built pending) (λ u h. inr h) (All-contains_itself (units_built pending)))
+
+-- an element that passes is kept
+kept_in : {X : Type 0} (p : X → Bool) (xs : List X) (x : X) → Contains xs x → p x ≡ true → Contains (filter p xs) x
+kept_in p [] x (k, low, at) t = absurd (omega arith)
+kept_in {X = X} p (y ∷ ys) x (zero, low, at) t =
+    let first : p y ≡ true = ap p at ∙ t in
+    rw first (0, (omega arith), at)
+kept_in {X = X} p (y ∷ ys) x (suc k, low, at) t =
+    let (n, below, there) = kept_in p ys x (k, (omega arith), at) t in
+    elim (cases_Bool (p y)) [
+      | inl yes_here ↦ rw yes_here (suc n, (omega arith), there)
+      | inr other ↦ rw other (n, below, there)
+    ]
+
+pub winters_remove_alone : WintersRemoveAlone
+winters_remove_alone m b pending u among =
+    elim (cases_Bool (is_given pending u)) [
+      | inl ordered ↦ inr (inl ordered)
+      | inr unordered ↦
+          let kept = kept_in (λ v. not (is_given pending v)) b.units u among (ap not unordered) in
+          elim (cases_Bool (is_among (disorder m b pending) u)) [
+            | inl gone ↦ inr (inr gone)
+            | inr stays ↦
+                inl (Contains-append_left (units_staying m b pending) (units_built pending) u
+                (kept_in (λ v. not (is_among (disorder m b pending) v)) (units_kept b pending) u kept (ap not stays)))
+          ]
+    ]

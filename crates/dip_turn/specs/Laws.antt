@@ -18,7 +18,7 @@ use Rattle.dip_decide.specs.Matching.{is_convoyed, order_at, situation}
 use Rattle.dip_decide.specs.Movement.{Satisfies, head_to_head}
 use Rattle.dip_decide.specs.Results.{values_in}
 use Rattle.dip_orders.specs.Conditions.{is_retreat}
-use Rattle.dip_turn.specs.Adjusting.{after_adjustment, units_built}
+use Rattle.dip_turn.specs.Adjusting.{after_adjustment, disorder, is_among, is_given, units_built}
 use Rattle.dip_turn.specs.Centres.{has_won, holder}
 use Rattle.dip_turn.specs.Moving.{contends, dislodged_after, dislodged_unit, entrant, enters, has_moved, is_driven_out, prov, standing_after, unit_after}
 use Rattle.dip_turn.specs.Phases.{has_dislodged, last_year}
@@ -153,6 +153,12 @@ abbrev pub WintersAddBuildsAlone : Type 0
 WintersAddBuildsAlone =
     (m : Chart) (b : Position) (pending : List PlacedOrder)
     → All (λ u. Contains b.units u ⊎ Contains (units_built pending) u) (after_adjustment m b pending).units
+
+-- each that stood stands after a Winter, or was removed: by its order, or in disorder
+abbrev pub WintersRemoveAlone : Type 0
+WintersRemoveAlone =
+    (m : Chart) (b : Position) (pending : List PlacedOrder) (u : AUnit) → Contains b.units u
+    → Contains (after_adjustment m b pending).units u ⊎ ((is_given pending u ≡ true) ⊎ (is_among (disorder m b pending) u ≡ true))
 
 -- nobody is dislodged on a board whose phase is no retreat
 abbrev pub OnlyRetreatsHaveDislodged : Type 0

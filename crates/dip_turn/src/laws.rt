@@ -3,6 +3,7 @@ ghost use Rattle.dip_turn.specs.Laws.{CentresChangeInFall, ConvoysCloseNoOrigin,
 ghost use Rattle.dip_turn.specs.Laws.{LosersLeaveNoStandoff, MovementsKeepUnits, OnlyRetreatsHaveDislodged, PhasesFollow};
 ghost use Rattle.dip_turn.specs.Laws.{PhasesHaveOneResult, RetreatsAreOpen, RetreatsLoseNobodyElse, RetreatsMeetNowhere};
 ghost use Rattle.dip_turn.specs.Laws.{UnitsStandApart, WinnersAreOne, WinnersOwnMore, WintersAddBuildsAlone};
+ghost use Rattle.dip_turn.specs.Laws.{WintersRemoveAlone};
 
 use dip_decide::{boards_are_situations, equations_are_lawful, one_answer};
 use dip_orders::{none_retreats_to_its_attacker, retreats_and_builds_are_to_vacant_provinces};
@@ -24,11 +25,12 @@ pub fn movements_are_told()
 {}
 
 /// Nobody is lost or doubled: after a movement each unit stands or is dislodged, after the retreats each unit stood before or
-/// retreated, and after a Winter each stood before or was built.
+/// retreated, and after a Winter each stood before or was built, and each that stood stands or was removed.
 pub fn units_are_kept()
     ensures movements { MovementsKeepUnits }
     ensures retreats { RetreatsLoseNobodyElse }
     ensures winters { WintersAddBuildsAlone }
+    ensures removed { WintersRemoveAlone }
 {}
 
 /// A unit that retreats comes to a province where nobody stood and no standoff was, and not to where its attacker came from, if the

@@ -1,8 +1,7 @@
 -- What the program tells whoever started it.
 use Rattle.std.specs.Prelude.{ℕ, List, ◌++◌, Option, None, Some, IsSome, codes}
 use Rattle.dip_desk.specs.declared.keeper.KeepFault.TheVariants.{Disk, Damaged, Memory as no_room}
-use Rattle.dip_names.specs.declared.faults.MapFault.{MapFault}
-use Rattle.dip_names.specs.declared.faults.MapFault.TheVariants.{NotToml, WrongField, UnknownName, NotSymmetric, DoubledName, OverLimit, Memory as no_map}
+use Rattle.dip_names.specs.Faults.{fault_name}
 use Rattle.std.specs.declared.io.ErrorKind.{ErrorKind}
 use Rattle.std.specs.declared.io.ErrorKind.TheVariants.{OutOfMemory}
 use Rattle.dip_judge.specs.declared.args.UsageFault.{UsageFault}
@@ -29,15 +28,7 @@ abbrev pub file_name : FileFault → List ℕ
 file_name (Unread no_bytes) = codes "Memory"
 file_name fault = codes "Read"
 
-abbrev pub map_number : MapFault → List ℕ
-map_number NotToml = codes "M1"
-map_number WrongField = codes "M2"
-map_number UnknownName = codes "M3"
-map_number NotSymmetric = codes "M4"
-map_number DoubledName = codes "M5"
-map_number OverLimit = codes "M6"
-map_number no_map = codes "M7"
-
+-- a run's fault has its own name, and a keeper's fault its
 abbrev pub run_name : RunFault → List ℕ
 run_name Read = codes "Read"
 run_name TooLong = codes "TooLong"
@@ -53,7 +44,7 @@ printed (Usage (Clap error)) = None
 printed (Usage Check) = Some (codes "dip_judge: Usage\n")
 printed (Usage no_words) = Some (codes "dip_judge: Memory\n")
 printed (MapFile fault) = Some (codes "dip_judge: " ++ file_name fault ++ codes "\n")
-printed (Map fault) = Some (codes "dip_judge: " ++ map_number fault ++ codes "\n")
+printed (Map fault) = Some (codes "dip_judge: " ++ fault_name fault ++ codes "\n")
 printed (Run fault) = Some (codes "dip_judge: " ++ run_name fault ++ codes "\n")
 
 -- why there is no map: it is none, or its file, where one is named, has no text

@@ -1,6 +1,6 @@
 //! Why the program ends early: its exit status, and what it prints on standard error.
 ghost use Rattle.std.specs.Prelude.{◌≡◌};
-ghost use Rattle.dip_judge.specs.Failures.{file_name, map_number, run_name, status_of, words_fault};
+ghost use Rattle.dip_judge.specs.Failures.{file_name, run_name, status_of, words_fault};
 ghost use Rattle.dip_judge.specs.declared.args.UsageFault.TheVariants.{Memory as no_words};
 ghost use Rattle.dip_judge.specs.declared.failures.Failure.TheVariants.{Usage, MapFile, Map, Run};
 ghost use Rattle.std.specs.IoError.{error_kind};
@@ -57,16 +57,16 @@ impl fmt::Display for Failure {
             Failure::Usage(UsageFault::Clap(error)) => return write!(f, "{error}"),
             Failure::Usage(UsageFault::Check) => "Usage",
             Failure::Usage(UsageFault::Memory) => "Memory",
-            Failure::MapFile(fault) => name_of_file(*fault),
-            Failure::Map(fault) => number_of(*fault),
-            Failure::Run(fault) => name_of(*fault),
+            Failure::MapFile(fault) => file_fault_name(*fault),
+            Failure::Map(fault) => fault.name(),
+            Failure::Run(fault) => run_fault_name(*fault),
         };
         write!(f, "dip_judge: {name}\n")
     }
 }
 
 /// The printed name of a fault of the map's file.
-fn name_of_file(fault: FileFault) -> &'static str
+fn file_fault_name(fault: FileFault) -> &'static str
     ensures { result.now ≡ file_name fault }
 {
     match fault {
@@ -75,23 +75,8 @@ fn name_of_file(fault: FileFault) -> &'static str
     }
 }
 
-/// The printed number of a map's fault.
-fn number_of(fault: MapFault) -> &'static str
-    ensures { result.now ≡ map_number fault }
-{
-    match fault {
-        MapFault::NotToml => "M1",
-        MapFault::WrongField => "M2",
-        MapFault::UnknownName => "M3",
-        MapFault::NotSymmetric => "M4",
-        MapFault::DoubledName => "M5",
-        MapFault::OverLimit => "M6",
-        MapFault::Memory => "M7",
-    }
-}
-
 /// The printed name of a run's fault.
-fn name_of(fault: RunFault) -> &'static str
+fn run_fault_name(fault: RunFault) -> &'static str
     ensures { result.now ≡ run_name fault }
 {
     match fault {

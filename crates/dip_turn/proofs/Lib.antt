@@ -12,3 +12,4 @@ pub mod CentreLaws
 pub mod ToldLemmas
 pub mod KeptLemmas
 pub mod WinnerLemmas
+pub mod StandoffLemmas

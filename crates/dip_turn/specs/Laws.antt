@@ -7,7 +7,7 @@ use Rattle.dip_board.specs.declared.boards.Dislodged.{Dislodged}
 use Rattle.dip_board.specs.declared.boards.Phase.{Phase}
 use Rattle.dip_board.specs.declared.boards.Season.{Season}
 use Rattle.dip_board.specs.declared.boards.Season.TheVariants.{SpringMoves, SpringRetreats, FallMoves, FallRetreats, Winter}
-use Rattle.dip_board.specs.Boards.{Position, IsOf, owner}
+use Rattle.dip_board.specs.Boards.{Position, IsOf, are_ascending, is_held, owner}
 use Rattle.dip_orders.specs.Laws.{IsEmpty, IsGiven}
 use Rattle.dip_orders.specs.declared.placed.PlacedOrder.{PlacedOrder}
 use Rattle.dip_decide.specs.declared.decisions.Decision.{Decision}
@@ -20,7 +20,7 @@ use Rattle.dip_decide.specs.Results.{values_in}
 use Rattle.dip_orders.specs.Conditions.{is_retreat}
 use Rattle.dip_turn.specs.Adjusting.{after_adjustment, disorder, is_among, is_given, units_built}
 use Rattle.dip_turn.specs.Centres.{has_won, holder}
-use Rattle.dip_turn.specs.Moving.{contends, dislodged_after, dislodged_unit, entrant, enters, has_moved, is_driven_out, prov, standing_after, unit_after}
+use Rattle.dip_turn.specs.Moving.{after_moves, contends, dislodged_after, dislodged_unit, entrant, enters, has_moved, is_driven_out, prov, standing_after, unit_after}
 use Rattle.dip_turn.specs.Phases.{has_dislodged, last_year}
 use Rattle.dip_turn.specs.Reports.{IsPlayed}
 use Rattle.dip_turn.specs.Retreating.{after_retreat, after_retreats}
@@ -190,6 +190,15 @@ abbrev pub DislodgedWhereEntered : Type 0
 DislodgedWhereEntered =
     (a : Assignment) (orders : List PlacedOrder) (o : PlacedOrder)
     → is_driven_out a orders o ≡ (not (has_moved a o) && list_any (enters a (prov o)) orders)
+
+-- standoffs after a movement are provinces of the map, once each in their order, and nobody stands there
+pub record AreLawfulStandoffs (m : Chart) (new : Position) : Type 0 where
+  pub within : All (λ p. p < length m.provinces) new.standoff
+  pub once : are_ascending new.standoff ≡ true
+  pub empty : All (λ p. is_held new p ≡ false) new.standoff
+
+abbrev pub StandoffsAreLawful : Type 0
+StandoffsAreLawful = (m : Chart) (b : Position) (a : Assignment) (orders : List PlacedOrder) → AreLawfulStandoffs m (after_moves m b a orders)
 
 -- the loser of a fight head to head leaves no standoff where it was to go
 abbrev pub LosersLeaveNoStandoff : Type 0

@@ -2,7 +2,7 @@
 ghost use Rattle.dip_turn.specs.Laws.{CentresChangeInFall, ConvoysCloseNoOrigin, DislodgedWhereEntered};
 ghost use Rattle.dip_turn.specs.Laws.{LosersLeaveNoStandoff, MovementsKeepUnits, OnlyRetreatsHaveDislodged, PhasesFollow};
 ghost use Rattle.dip_turn.specs.Laws.{PhasesHaveOneResult, RetreatsAreOpen, RetreatsLoseNobodyElse, RetreatsMeetNowhere};
-ghost use Rattle.dip_turn.specs.Laws.{UnitsStandApart, WinnersAreOne, WinnersOwnMore, WintersAddBuildsAlone};
+ghost use Rattle.dip_turn.specs.Laws.{StandoffsAreLawful, UnitsStandApart, WinnersAreOne, WinnersOwnMore, WintersAddBuildsAlone};
 ghost use Rattle.dip_turn.specs.Laws.{WintersRemoveAlone};
 
 use dip_decide::{boards_are_situations, equations_are_lawful, one_answer};
@@ -16,10 +16,12 @@ pub fn units_stand_apart()
     equations_are_lawful();
 }
 
-/// A unit is dislodged exactly where it stays and a successful move leads into its province; the loser of a fight head to head
-/// leaves no standoff where it was to go; and an attacker by convoy closes no province to a retreat.
+/// A unit is dislodged exactly where it stays and a successful move leads into its province; standoffs are provinces of the map,
+/// once each, where nobody stands; the loser of a fight head to head leaves none where it was to go; and an attacker by convoy
+/// closes no province to a retreat.
 pub fn movements_are_told()
     ensures dislodged { DislodgedWhereEntered }
+    ensures standoffs { StandoffsAreLawful }
     ensures losers { LosersLeaveNoStandoff }
     ensures convoys { ConvoysCloseNoOrigin }
 {}

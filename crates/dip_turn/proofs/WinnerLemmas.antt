@@ -6,7 +6,7 @@ use Rattle.dip_board.specs.Boards.{IsOf, Position, centres_owned, is_power, owne
 use Rattle.dip_orders.specs.declared.placed.PlacedOrder.{PlacedOrder}
 use Rattle.dip_orders.proofs.KeptLaws.{count_cons}
 use Rattle.dip_turn.specs.Centres.{centres, has_won}
-use Rattle.dip_turn.specs.Laws.{IsTaken, WinnersAreOne}
+use Rattle.dip_turn.specs.Laws.{IsTaken, OnlyCentresAreOwned, WinnersAreOne}
 use Rattle.dip_turn.specs.Reports.{IsPlayed}
 use Rattle.dip_turn.specs.declared.report.Report.{Report}
 use Rattle.dip_turn.proofs.CentreLaws.{played_centres}
@@ -58,11 +58,13 @@ one_winner m b r s all won also =
           absurd (omega (arith, ltb-true _ _ won, ltb-true _ _ also, shared r s (eqb-false r s other) b.owners, owned_centres b.owners m.provinces all))
     ]
 
+pub only_centres_are_owned : OnlyCentresAreOwned
+only_centres_are_owned m b pending new report on played p h = centre ((played_centres m b pending new report played).owners p)
+  where
+    centre : (owner new p ≡ owner b p) ⊎ IsTaken m new.units p (owner new p) → is_centre m p ≡ true
+    centre (inl same) = on.owners_centres p (sym (ap (λ (o : Option ℕ). is_some o) same) ∙ h)
+    centre (inr taken) = taken.0
+
 pub winners_are_one : WinnersAreOne
 winners_are_one m b pending new report power another on played won also =
-    let stay = played_centres m b pending new report played in
-    one_winner m new power another (λ p h. centre p h (stay.owners p)) won also
-  where
-    centre : (p : ℕ) → is_some (owner new p) ≡ true → (owner new p ≡ owner b p) ⊎ IsTaken m new.units p (owner new p) → is_centre m p ≡ true
-    centre p h (inl same) = on.owners_centres p (sym (ap (λ (o : Option ℕ). is_some o) same) ∙ h)
-    centre p h (inr taken) = taken.0
+    one_winner m new power another (only_centres_are_owned m b pending new report on played) won also

@@ -1,5 +1,5 @@
 -- Laws of phases: what holds of each phase that is adjudicated, by the definitions.
-use Rattle.std.specs.Prelude.{◌≡◌, ◌≢◌, ℕ, ◌<◌, ◌≤◌, ◌+◌, ◌-◌, ◌*◌, Bool, true, false, not, ◌&&◌, ◌⊎◌, All, Contains, List, length, Option, None, Some}
+use Rattle.std.specs.Prelude.{◌≡◌, ◌≢◌, ℕ, ◌<◌, ◌≤◌, ◌+◌, ◌-◌, ◌*◌, Bool, true, false, not, ◌&&◌, ◌⊎◌, All, Contains, List, length, Option, None, Some, is_some}
 use Rattle.std.specs.List.{list_any}
 use Rattle.dip_names.specs.declared.names.Unit.{Unit as AUnit}
 use Rattle.dip_chart.specs.Charts.{Chart, IsMap, is_centre}
@@ -184,6 +184,12 @@ abbrev pub CentresChangeInFall : Type 0
 CentresChangeInFall =
     (m : Chart) (b : Position) (pending : List PlacedOrder) (new : Position) (report : Report)
     → IsPlayed m b pending new report → CentresStay m b new
+
+-- from a board of the map on, only centres are owned
+abbrev pub OnlyCentresAreOwned : Type 0
+OnlyCentresAreOwned =
+    (m : Chart) (b : Position) (pending : List PlacedOrder) (new : Position) (report : Report)
+    → IsOf m b → IsPlayed m b pending new report → (p : ℕ) → is_some (owner new p) ≡ true → is_centre m p ≡ true
 
 -- a unit is dislodged exactly where it stays and a successful move leads into its province
 abbrev pub DislodgedWhereEntered : Type 0

@@ -1,6 +1,6 @@
 //! Laws of phases, each the contract of a function that does nothing.
 ghost use Rattle.dip_turn.specs.Laws.{CentresChangeInFall, ConvoysCloseNoOrigin, DislodgedWhereEntered};
-ghost use Rattle.dip_turn.specs.Laws.{LosersLeaveNoStandoff, MovementsKeepUnits, OnlyRetreatsHaveDislodged, PhasesFollow};
+ghost use Rattle.dip_turn.specs.Laws.{LosersLeaveNoStandoff, MovementsKeepUnits, OnlyCentresAreOwned, OnlyRetreatsHaveDislodged, PhasesFollow};
 ghost use Rattle.dip_turn.specs.Laws.{PhasesHaveOneResult, RetreatsAreOpen, RetreatsLoseNobodyElse, RetreatsMeetNowhere};
 ghost use Rattle.dip_turn.specs.Laws.{StandoffsAreLawful, UnitsStandApart, WinnersAreOne, WinnersOwnMore, WintersAddBuildsAlone};
 ghost use Rattle.dip_turn.specs.Laws.{WintersRemoveAlone};
@@ -50,9 +50,11 @@ pub fn only_retreats_have_dislodged()
     ensures { OnlyRetreatsHaveDislodged }
 {}
 
-/// Centres change hands after Fall and its retreats alone, and only to a power with a unit there; their number stays.
+/// Centres change hands after Fall and its retreats alone, and only to a power with a unit there; their number stays; and from
+/// a board of the map on only centres are owned.
 pub fn centres_change_in_fall()
-    ensures { CentresChangeInFall }
+    ensures hands { CentresChangeInFall }
+    ensures centres { OnlyCentresAreOwned }
 {}
 
 /// Phases follow one another in the order of the rules, time goes on, and every game ends.

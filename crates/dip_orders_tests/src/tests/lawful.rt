@@ -44,13 +44,15 @@ fn check_order(
     alloc: Global,
     map: &Map,
     board: &Board,
-    order: PlacedOrder,
+    order: &PlacedOrder,
 ) -> Result<(), AllocError> {
     let mut text = String::new(alloc);
-    print_order(map, &order, &mut text)?;
+    print_order(map, order, &mut text)?;
     let power = order.unit.power;
-    let read = read_order(map, board, power, &[], text.as_str());
-    assert!(rt; read == Ok(order));
+    let read = read_order(map, board, power, &[], text.as_str())
+        .ok()
+        .expect(rt, "an order");
+    assert!(rt; read == *order);
     Ok(())
 }
 
@@ -69,7 +71,7 @@ fn check_moves(
                 to: *to,
                 via: false,
             };
-            check_order(rt, alloc, map, board, PlacedOrder { unit: *unit, order })?;
+            check_order(rt, alloc, map, board, &PlacedOrder { unit: *unit, order })?;
             count = count.saturating_add(1);
         }
     }
@@ -100,7 +102,7 @@ fn check_builds(
         let power = super::the_power(rt, map, "russia");
         let unit = Unit { power, kind, place };
         let order = Order::Build;
-        check_order(rt, alloc, map, board, PlacedOrder { unit, order })?;
+        check_order(rt, alloc, map, board, &PlacedOrder { unit, order })?;
     }
     Ok(())
 }

@@ -8,7 +8,7 @@ use Rattle.dip_desk.specs.Keyed.{at, change_at}
 use Rattle.dip_chart.specs.Charts.{Chart}
 use Rattle.dip_desk.specs.State.{State, Game, Author, Nobody, TheMaster, Seat, Effect, Nothing, Pending, Opens, NewSeat, fresh, game_at, name_of, opened, own_after, pending_in, seat_at, with_seat}
 use Rattle.dip_desk.specs.Machine.{Decides, SeatName, Seen, Verdict, NotKnown, Again, OutOfTurn, Taken, after, kept_of, reply_of, seen, seen_in, verdict_on}
-use Rattle.dip_reports.specs.Records.{Public, Own, Kept, Reply, Standing}
+use Rattle.dip_records.specs.Records.{Public, Own, Kept, Reply, Standing}
 use Rattle.dip_desk.specs.View.{Event, Published, Seated, absorb, absorb_all, effect_events, is_seat, own_by, own_events, seated_in, shown, told, told_at, verdict_events, writes}
 use Rattle.dip_desk.proofs.KeyedLemmas.{at-append, at-change_at_other, at-change_at_same, names_tell, powers_tell}
 use Rattle.dip_desk.proofs.Suiting.{Suits, decides_suits, opens_where, seat_where}

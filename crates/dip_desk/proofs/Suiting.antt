@@ -5,9 +5,10 @@ use Rattle.dip_letters.specs.Notes.Request.{Create, Orders, Show}
 use Rattle.dip_chart.specs.Charts.{Chart}
 use Rattle.dip_desk.specs.Mail.{Mail}
 use Rattle.dip_desk.specs.State.{State, Game, Author, Nobody, TheMaster, Seat, Effect, Nothing, Pending, Opens, NewSeat, game_at, seat_at}
-use Rattle.dip_desk.specs.Machine.{Decides, MasterDecides, NumberedBy, Verdict, NotKnown, Again, OutOfTurn, Taken, are_complete, created, new_seats, old_number, open_game, opening_public, refusal_line, refused, seat_command, seen_in, verdict_by, verdict_on}
+use Rattle.dip_desk.specs.Machine.{Decides, MasterDecides, NumberedBy, Verdict, NotKnown, Again, OutOfTurn, Taken, are_complete, created, new_seats, old_number, open_game, opening_public, refused, seat_command, seen_in, verdict_by, verdict_on}
 use Rattle.dip_desk.specs.View.{effect_events}
-use Rattle.dip_reports.specs.Records.{Public, Own, Kept}
+use Rattle.dip_records.specs.Records.{Public, Own, Kept}
+use Rattle.dip_reports.specs.Texts.{refusal_line}
 use Rattle.dip_reports.specs.declared.refusals.Refusal.TheVariants.{Malformed, NumberUsed, Stale, WrongSender}
 
 abbrev pub Suits : List ℕ → Author → Option Game → Effect → Type 0

@@ -5,14 +5,14 @@ use Rattle.dip_board.specs.Boards.{Position, IsOf}
 use Rattle.dip_chart.specs.Charts.{Chart}
 use Rattle.dip_orders.specs.Reading.{order_of}
 use Rattle.dip_orders.specs.declared.placed.PlacedOrder.{PlacedOrder}
-use Rattle.dip_reports.specs.Records.{Own, Standing}
+use Rattle.dip_records.specs.Records.{Own, Standing}
 use Rattle.dip_reports.specs.Texts.{numbers}
 use Rattle.dip_desk.specs.Keyed.{at}
 use Rattle.dip_desk.specs.Mail.{Mail}
 use Rattle.dip_desk.specs.Ordering.{kept_order}
 use Rattle.dip_desk.specs.Machine.{MayBeDamaged, Step}
 use Rattle.dip_desk.specs.State.{Author, Game, State, name_of}
-use Rattle.dip_reports.specs.Records.{Reply}
+use Rattle.dip_records.specs.Records.{Reply}
 
 -- what is kept is an order of the power on the board, with its province and its canonical text
 pub record IsCanonical (m : Chart) (b : Position) (power : ℕ) (kept : Standing) : Type 0 where

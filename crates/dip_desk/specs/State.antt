@@ -1,7 +1,7 @@
 -- What the desk keeps, its named parts, and what a change makes of it.
 use Rattle.std.specs.Prelude.{ℕ, ◌==◌, false, List, [], ◌∷◌, ◌++◌, Option, None, Some, option_map, option_and_then, map, bytes_eq}
 use Rattle.dip_desk.specs.Keyed.{at, change_at}
-use Rattle.dip_reports.specs.Records.{Public, Own, Kept, Standing}
+use Rattle.dip_records.specs.Records.{Public, Own, Kept, Standing}
 
 -- the master's row
 pub record Desk : Type 0 where

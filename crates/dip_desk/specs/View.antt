@@ -4,7 +4,7 @@ use Rattle.dip_desk.specs.Mail.{Mail}
 use Rattle.dip_chart.specs.Charts.{Chart}
 use Rattle.dip_desk.specs.State.{State, Game, Author, Nobody, TheMaster, Seat, Effect, Nothing, Pending, Opens, NewSeat, fresh, game_at, own_after, pending_in}
 use Rattle.dip_desk.specs.Machine.{Decides, SeatName, Seen, Verdict, NotKnown, Again, OutOfTurn, Taken, after, author, kept_of, reply_of, seen, verdict_on}
-use Rattle.dip_reports.specs.Records.{Public, Own, Reply}
+use Rattle.dip_records.specs.Records.{Public, Own, Reply}
 
 -- one step of a history: the state before it, the letter, and what was decided. What it leaves follows
 pub record Turn : Type 0 where

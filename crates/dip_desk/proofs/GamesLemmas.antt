@@ -1,5 +1,5 @@
 -- Games that are found by their names among entries.
-use Rattle.std.proofs.Common.{◌≡◌, ◌<◌, ◌≤◌, ◌++◌, ◌+◌, ℕ, zero, suc, Bool, true, false, cond, not, nat_lt, List, [], ◌∷◌, Option, None, Some, length, map, get_or, option_map, option_copied, is_some, Bor, refl, sym, ap, subst, ◌∙◌, arith, bytes_eq, String, string_bytes, slice_get, slice_set, if◌then◌else◌}
+use Rattle.std.proofs.Common.{◌≡◌, ◌<◌, ◌++◌, ◌+◌, ℕ, zero, suc, Bool, true, false, cond, List, [], ◌∷◌, Option, None, Some, length, option_map, option_copied, is_some, Bor, refl, sym, ap, ◌∙◌, arith, bytes_eq, String, string_bytes, slice_get, if◌then◌else◌}
 use Rattle.std.specs.declared.alloc.Global.{Global}
 use Rattle.std.specs.List.{position_or_len, position}
 use Rattle.std.specs.Map.{keys_of, lookup, values_of}

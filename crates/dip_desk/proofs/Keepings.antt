@@ -1,5 +1,5 @@
 -- A look, and then a step.
-use Rattle.std.proofs.Common.{◌≡◌, ◌⊎◌, inl, inr, Result, Ok, refl, sym, ap, subst, ◌∙◌}
+use Rattle.std.proofs.Common.{inl, inr, Result, Ok, ap, subst, ◌∙◌}
 use Rattle.std.proofs.lemmas.Result.{IfOk-weaker, on_err_weaker, on_ok_weaker}
 use Rattle.dip_chart.specs.Charts.{Chart}
 use Rattle.dip_desk.specs.Faults.{faults_after}

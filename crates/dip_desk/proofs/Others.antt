@@ -1,14 +1,14 @@
 -- What the letters of others show a seat.
-use Rattle.std.proofs.Common.{◌≡◌, ◌≢◌, ℕ, ◌+◌, Bool, true, false, cond, List, [], ◌∷◌, ◌++◌, length, Option, Some, None, option_map, refl, sym, ◌∙◌, ap, subst, bytes_eq, arith, inl, inr}
+use Rattle.std.proofs.Common.{◌≡◌, ◌≢◌, ℕ, ◌+◌, Bool, true, false, cond, List, [], ◌∷◌, ◌++◌, Option, Some, None, option_map, refl, sym, ◌∙◌, ap, subst, bytes_eq, arith, inl, inr}
 use Rattle.std.specs.Prelude.{◌↔◌}
 use Rattle.std.specs.Option.{option_or}
 use Rattle.dip_chart.specs.Charts.{Chart}
-use Rattle.dip_records.specs.Records.{Kept, Own, Public, Standing}
+use Rattle.dip_records.specs.Records.{Own}
 use Rattle.dip_desk.specs.Keyed.{at, change_at}
 use Rattle.dip_desk.specs.Mail.{Mail}
 use Rattle.dip_desk.specs.Machine.{Decides, SeatName, Verdict, NotKnown, Again, OutOfTurn, Taken, after, author, kept_of}
-use Rattle.dip_desk.specs.State.{State, Game, Author, Nobody, TheMaster, Seat, Effect, Nothing, Pending, Opens, NewSeat, game_at, name_of, opened, own_after, pending_in, with_opened, with_seat}
-use Rattle.dip_desk.specs.View.{AreAlike, Event, IsShownByOthers, IsUnseenByOthers, Turn, effect_events, is_shown, own_events, papers_in, shown, shown_by, turns_for, verdict_events, view, writes}
+use Rattle.dip_desk.specs.State.{State, Game, Author, Nobody, TheMaster, Seat, Effect, Nothing, Pending, Opens, game_at, name_of, opened, own_after, with_seat}
+use Rattle.dip_desk.specs.View.{AreAlike, Event, IsShownByOthers, IsUnseenByOthers, Turn, is_shown, own_events, papers_in, shown, shown_by, turns_for, verdict_events, view, writes}
 use Rattle.dip_desk.proofs.KeyedLemmas.{at-append, at-change_at_other, at-change_at_same, names_tell}
 use Rattle.dip_desk.proofs.Seeing.{other_game}
 use Rattle.dip_desk.proofs.Suiting.{Suits, decides_suits, master_where, seat_where}

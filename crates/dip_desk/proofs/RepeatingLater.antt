@@ -1,18 +1,18 @@
 -- A letter that comes again behind letters of others.
-use Rattle.std.proofs.Common.{◌≡◌, ◌≢◌, inl, inr, ℕ, ◌==◌, Bool, true, false, cond, List, [], ◌∷◌, ◌++◌, refl, sym, ap, subst, ◌∙◌, Option, Some, None, option_map, bytes_eq, codes, is_some}
-use Rattle.std.specs.Prelude.{◌&&◌, option_and_then}
+use Rattle.std.proofs.Common.{◌≡◌, ◌≢◌, inl, inr, ℕ, Bool, true, false, cond, List, [], ◌∷◌, refl, sym, ap, subst, ◌∙◌, Option, Some, None, option_map, bytes_eq, codes, is_some}
+use Rattle.std.specs.Prelude.{option_and_then}
 use Rattle.dip_letters.specs.Notes.{Request}
 use Rattle.dip_letters.specs.Notes.Request.{Create, Orders, Show}
 use Rattle.dip_chart.specs.Charts.{Chart, power_of}
-use Rattle.dip_records.specs.Records.{Kept, Own, Public, Reply}
+use Rattle.dip_records.specs.Records.{Kept, Own, Public}
 use Rattle.dip_desk.specs.Keyed.{at, change_at}
-use Rattle.dip_desk.specs.Machine.{Decides, MasterDecides, NumberedBy, SeatName, Seen, Step, Verdict, NotKnown, Again, OutOfTurn, Taken, after, author, created, digest, kept_of, master_author, new_seats, old_number, opening_public, power_author, reply_of, seat_author, seen, seen_in, verdict_on}
+use Rattle.dip_desk.specs.Machine.{Decides, MasterDecides, NumberedBy, SeatName, Seen, Verdict, NotKnown, Again, OutOfTurn, Taken, after, author, created, digest, kept_of, master_author, new_seats, old_number, opening_public, power_author, reply_of, seat_author, seen, seen_in, verdict_on}
 use Rattle.dip_desk.specs.Mail.{Mail}
 use Rattle.dip_desk.specs.Repeats.{ActsOnceLater, AreOthers, has_author}
-use Rattle.dip_desk.specs.State.{State, Game, Author, Nobody, TheMaster, Seat, Effect, Nothing, Pending, Opens, NewSeat, game_at, name_of, own_after, own_at, public_at, seat_at, with_seat}
-use Rattle.dip_desk.specs.View.{Event, IsRun, Turn, absorb_all, author_in, effect_events, left_by, own_events, shown, verdict_events, writes}
+use Rattle.dip_desk.specs.State.{State, Game, Author, Nobody, TheMaster, Seat, Effect, Nothing, Pending, Opens, NewSeat, game_at, name_of, own_after, own_at, seat_at, with_seat}
+use Rattle.dip_desk.specs.View.{Event, IsRun, Turn, absorb_all, author_in, effect_events, left_by, verdict_events, writes}
 use Rattle.dip_desk.proofs.KeyedLemmas.{at-change_at_other, at-change_at_same, names_tell}
-use Rattle.dip_desk.proofs.Others.{none_if, quiet, shown_of}
+use Rattle.dip_desk.proofs.Others.{quiet, shown_of}
 use Rattle.dip_desk.proofs.Repeating.{decides_one, master_stays, repeats}
 use Rattle.dip_desk.proofs.Seeing.{step_seen}
 use Rattle.dip_desk.proofs.Suiting.{Suits, decides_suits, master_where}

@@ -1,6 +1,5 @@
 -- Histories, seen by one seat.
-use Rattle.std.proofs.Common.{◌≡◌, ◌≢◌, ℕ, arith, ◌<◌, ◌+◌, Bool, true, false, cond, List, [], ◌∷◌, ◌++◌, map, take, length, get_or, refl, sym, ◌∙◌, ap, subst, bytes_eq}
-use Rattle.std.proofs.lemmas.Bool.{false≢true}
+use Rattle.std.proofs.Common.{◌≡◌, ℕ, arith, ◌<◌, ◌+◌, cond, List, [], ◌∷◌, ◌++◌, map, take, length, get_or, refl, sym, ◌∙◌, ap, subst}
 use Rattle.std.proofs.lemmas.List.{take_more, get_or-map, length-map}
 use Rattle.std.proofs.lemmas.List.Elements.{Contains-get_or}
 use Rattle.std.specs.Prelude.{Contains}
@@ -9,7 +8,7 @@ use Rattle.dip_chart.specs.Charts.{Chart}
 use Rattle.dip_desk.specs.State.{State, Seat}
 use Rattle.dip_desk.specs.Machine.{Decides, SeatName, Seen, Step, Verdict, reply_of, seen, verdict_on}
 use Rattle.dip_records.specs.Records.{Reply}
-use Rattle.dip_desk.specs.View.{Event, IsAnsweredFromSeen, IsHistory, IsRun, IsSettledByView, Turn, absorb_all, author_in, left_by, own_events, replies_to, reply_in, shown, shown_by, told, verdict_events, view, writes}
+use Rattle.dip_desk.specs.View.{Event, IsAnsweredFromSeen, IsHistory, IsRun, IsSettledByView, Turn, absorb_all, author_in, left_by, replies_to, reply_in, shown, shown_by, told, view, writes}
 use Rattle.dip_desk.proofs.Seeing.{absorb_all-append, step_seen, step_told, told-append}
 
 pub answered_from_seen : (m : Chart) → IsAnsweredFromSeen m

@@ -1,5 +1,5 @@
 -- The desk machine: who wrote a letter, what is decided of it, what it leaves and what is replied.
-use Rattle.std.specs.Prelude.{true, ℕ, ◌≡◌, ◌==◌, Bool, List, [], ◌∷◌, ◌++◌, Option, None, Some, option_map, unwrap_or, bytes_eq, is_some, nat_lt, codes, if◌then◌else◌, count_by}
+use Rattle.std.specs.Prelude.{true, ℕ, ◌≡◌, ◌==◌, Bool, List, [], ◌∷◌, Option, None, Some, option_map, unwrap_or, bytes_eq, is_some, nat_lt, codes, if◌then◌else◌, count_by}
 use Rattle.std.specs.List.{list_all}
 use Rattle.sha2.specs.Sha256.{sha256}
 use Rattle.dip_letters.specs.Digests.{seat_text}

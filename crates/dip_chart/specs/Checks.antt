@@ -1,11 +1,11 @@
 -- The checks that a map's parts have to pass, in the order of their faults.
-use Rattle.std.specs.Prelude.{ℕ, ◌+◌, ◌==◌, ◌&&◌, not, nat_le, Bool, true, false, List, [], ◌∷◌, length, Option, None, Some, if◌then◌else◌}
+use Rattle.std.specs.Prelude.{◌≡◌, ◌↔◌, ℕ, ◌+◌, ◌==◌, ◌&&◌, not, nat_le, Bool, true, false, List, [], ◌∷◌, length, Option, None, Some, if◌then◌else◌}
 use Rattle.std.specs.List.{list_all, list_any}
 use Rattle.std.specs.Str.{bytes_eq}
 use Rattle.dip_names.specs.declared.names.Place.{Place}
 use Rattle.dip_names.specs.declared.faults.MapFault.{MapFault}
 use Rattle.dip_names.specs.declared.faults.MapFault.TheVariants.{UnknownName, NotSymmetric, DoubledName, OverLimit}
-use Rattle.dip_chart.specs.Charts.{Chart, Province, Realm, Shore, province, is_army_next, is_fleet_next, is_province, is_realm, coast_of, are_ascending_by, are_provs_single, are_places_single, are_units_single}
+use Rattle.dip_chart.specs.Charts.{Chart, IsMap, Province, Realm, Shore, province, is_army_next, is_fleet_next, is_province, is_realm, coast_of, are_ascending_by, are_provs_single, are_places_single, are_units_single}
 use Rattle.dip_names.specs.Kinds.{is_sea}
 
 -- whether a look-up answered this number
@@ -118,3 +118,7 @@ first_fault m =
     else if not (is_single m) then Some DoubledName
     else if not (is_mutual m) then Some NotSymmetric
     else None
+
+-- parts have no fault just where they are a map
+abbrev pub PassesExactly : Type 0
+PassesExactly = (m : Chart) → (first_fault m ≡ None) ↔ IsMap m

@@ -44,8 +44,8 @@ from_each P R none step d (x ∷ xs) i h =
     let z : i + 0 ≡ i = omega arith in
     let here : P i x ≡ true = subst (λ n. P n x ≡ true) z (h 0 (omega arith)) in
     step i x xs here (from_each P R none step d xs (i + 1) (λ k low.
-        let e : i + suc k ≡ (i + 1) + k = omega arith in
-        subst (λ n. P n (get_or xs k d) ≡ true) e (h (suc k) (omega (arith, low)))))
+    let e : i + suc k ≡ (i + 1) + k = omega arith in
+    subst (λ n. P n (get_or xs k d) ≡ true) e (h (suc k) (omega (arith, low)))))
 
 -- from the first one on
 from_first : {A : Type 0} (P : ℕ → A → Bool) (R : ℕ → List A → Bool) → ((i : ℕ) → R i [] ≡ true) → ((i : ℕ) (x : A) (xs : List A) → P i x ≡ true → R (i + 1) xs ≡ true → R i (x ∷ xs) ≡ true)
@@ -129,9 +129,9 @@ names_single : (rs : List Province) → ((p q : ℕ) → p < length rs → q < l
 names_single [] h = refl
 names_single (r ∷ rs) h =
     and_from _ _ (none_found _ (λ found.
-        let (k, low, same) = found_at (λ (t : Province). bytes_eq t.name r.name) rs no_province found in
-        let e : 0 ≡ suc k = h 0 (suc k) (omega arith) (omega (arith, low)) (sym ((bytes_eq-Decides (get_or rs k no_province).name r.name).0 same)) in
-        omega (arith, e)))
+    let (k, low, same) = found_at (λ (t : Province). bytes_eq t.name r.name) rs no_province found in
+    let e : 0 ≡ suc k = h 0 (suc k) (omega arith) (omega (arith, low)) (sym ((bytes_eq-Decides (get_or rs k no_province).name r.name).0 same)) in
+    omega (arith, e)))
     (names_single rs (λ p q low there same. let e : suc p ≡ suc q = h (suc p) (suc q) (omega (arith, low)) (omega (arith, there)) same in omega (arith, e)))
 
 homes_single : (rs : List Realm) → ((k : ℕ) → are_provs_single (get_or rs k no_realm).home ≡ true)
@@ -139,10 +139,10 @@ homes_single : (rs : List Realm) → ((k : ℕ) → are_provs_single (get_or rs 
 homes_single [] own apart = refl
 homes_single (r ∷ rs) own apart =
     and_from _ _ (and_from _ _ (own 0) (none_found _ (λ found.
-        let (p, here, other) = found_number (λ q. is_home_of rs q) r.home found in
-        let (k, low, there) = found_at (λ (x : Realm). list_any (λ y. y == p) x.home) rs no_realm other in
-        let e : 0 ≡ suc k = apart p 0 (suc k) here there in
-        omega (arith, e))))
+    let (p, here, other) = found_number (λ q. is_home_of rs q) r.home found in
+    let (k, low, there) = found_at (λ (x : Realm). list_any (λ y. y == p) x.home) rs no_realm other in
+    let e : 0 ≡ suc k = apart p 0 (suc k) here there in
+    omega (arith, e))))
     (homes_single rs (λ k. own (suc k)) (λ p i j a b. let e : suc i ≡ suc j = apart p (suc i) (suc j) a b in omega (arith, e)))
 
 -- units of two lists of which no two stand in one province
@@ -173,8 +173,8 @@ openings_single (r ∷ rs) h =
 single : (m : Chart) → IsMap m → is_single m ≡ true
 single m ok =
     and_from _ _ (names_single m.provinces ok.full_names_apart) (
-      and_from _ _ (all_at has_single_neighbours m.provinces no_province (λ p low. and_from _ _ (ok.army_single p) (all_at (λ (s : Shore). are_places_single s.next) (province m p).shores no_shore (λ k there. ok.fleet_single (record { prov = p; coast = k })))))
-      (and_from _ _ (homes_single m.realms ok.homes_single ok.homes_apart) (openings_single m.realms ok.openings_single))
+    and_from _ _ (all_at has_single_neighbours m.provinces no_province (λ p low. and_from _ _ (ok.army_single p) (all_at (λ (s : Shore). are_places_single s.next) (province m p).shores no_shore (λ k there. ok.fleet_single (record { prov = p; coast = k })))))
+    (and_from _ _ (homes_single m.realms ok.homes_single ok.homes_apart) (openings_single m.realms ok.openings_single))
     )
 
 -- a map has no fault

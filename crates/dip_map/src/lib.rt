@@ -7,5 +7,5 @@ mod standard;
 mod stated;
 
 pub use charts::Map;
-pub use laws::maps_are_told_by_their_files;
+pub use laws::{maps_are_spelled_by_their_files, maps_are_told_by_their_files};
 pub use standard::STANDARD;

@@ -8,8 +8,9 @@ use Rattle.std.specs.List.{list_any, list_all}
 use Rattle.std.specs.Str.{bytes_eq}
 use Rattle.dip_names.specs.declared.names.Place.{Place}
 use Rattle.dip_names.specs.declared.names.Unit.{Unit as AUnit}
+use Rattle.dip_names.specs.declared.names.Kind.TheVariants.{Army}
 use Rattle.dip_chart.specs.Charts.{Chart, Province, Shore, Realm, IsMap, no_province, no_shore, no_realm, province, is_army_next, is_fleet_next, is_province, is_realm, coast_of, are_provs_single, are_places_single, are_units_single}
-use Rattle.dip_chart.specs.Checks.{PassesExactly, answers, first_fault, is_within_limits, is_well_formed, rest_of_shores, rest_of_coasts, is_allowed, is_distinct, is_single, is_named_back, rest_is_mutual, are_named_back, rest_of_shores_is_mutual, rest_is_mutual_by_sea, is_mutual, may_march, lead_away, rest_is_allowed, are_names_single, has_single_neighbours, is_home_of, is_held_by, are_homes_single, are_openings_single}
+use Rattle.dip_chart.specs.Checks.{PassesExactly, answers, first_fault, is_within_limits, is_well_formed, rest_has_own_units, rest_of_shores, rest_of_coasts, is_allowed, is_distinct, is_single, is_named_back, rest_is_mutual, are_named_back, rest_of_shores_is_mutual, rest_is_mutual_by_sea, is_mutual, may_march, lead_away, rest_is_allowed, are_names_single, has_single_neighbours, is_home_of, is_held_by, are_homes_single, are_openings_single}
 use Rattle.dip_chart.proofs.EntryLaws.{held_law}
 use Rattle.dip_chart.proofs.MapLaws.{map_law}
 
@@ -55,8 +56,16 @@ from_first P R none step d xs h = from_each P R none step d xs 0 (λ k low. let 
 limits : (m : Chart) → IsMap m → is_within_limits m ≡ true
 limits m ok = and_from _ _ (and_from _ _ (le-leb _ _ ok.realms_least) (le-leb _ _ ok.realms_most)) (and_from _ _ (le-leb _ _ ok.provinces_least) (le-leb _ _ ok.provinces_most))
 
+abbrev no_unit : AUnit
+no_unit = record { power = 0; kind = Army; place = record { prov = 0; coast = 0 } }
+
 formed : (m : Chart) → IsMap m → is_well_formed m ≡ true
-formed m ok = and_from _ _ (all_at is_province m.provinces no_province ok.provinces) (all_at (λ r. is_realm m r) m.realms no_realm ok.realms)
+formed m ok =
+    and_from _ _ (all_at is_province m.provinces no_province ok.provinces) (and_from _ _ (all_at (λ r. is_realm m r) m.realms no_realm ok.realms) own)
+  where
+    own : rest_has_own_units 0 m.realms ≡ true
+    own = from_first (λ r (s : Realm). list_all (λ u. u.power == r) s.units) rest_has_own_units (λ i. refl) (λ i x xs here more. and_from _ _ here more) no_realm m.realms
+        (λ r low. all_at (λ u. u.power == r) (get_or m.realms r no_realm).units no_unit (λ k there. eq-eqb _ r (ok.units_own r k no_unit there)))
 
 distinct : (m : Chart) → IsMap m → is_distinct m ≡ true
 distinct m ok = and_from _ _ ok.codes_ascend (and_from _ _ ok.names_ascend coasts)

@@ -17,9 +17,16 @@ answers (Some j) k = j == k
 abbrev pub is_within_limits : Chart → Bool
 is_within_limits m = (nat_le 1 (length m.realms) && nat_le (length m.realms) 7) && (nat_le 1 (length m.provinces) && nat_le (length m.provinces) 200)
 
--- each province and each power is well formed
+-- the units of these powers' openings, the first of which is number r, are each its power's own
+abbrev pub rest_has_own_units : ℕ → List Realm → Bool
+rest_has_own_units r [] = true
+rest_has_own_units r (s ∷ ss) = list_all (λ u. u.power == r) s.units && rest_has_own_units (r + 1) ss
+
+-- each province and each power is well formed, and a power's units are its own
 abbrev pub is_well_formed : Chart → Bool
-is_well_formed m = list_all is_province m.provinces && list_all (λ r. is_realm m r) m.realms
+is_well_formed m =
+    list_all is_province m.provinces
+    && (list_all (λ r. is_realm m r) m.realms && rest_has_own_units 0 m.realms)
 
 -- each name of these coasts of p, the first of which is number k, is that of no coast before
 abbrev pub rest_of_shores : Chart → ℕ → ℕ → List Shore → Bool

@@ -1,8 +1,8 @@
 -- A text states a map just where it spells it.
-use Rattle.std.proofs.Common.{◌≡◌, ℕ, ◌<◌, ◌+◌, ◌==◌, ◌&&◌, ◌||◌, not, nat_le, nat_lt, zero, suc, length, map, get_or, Bool, true, false, List, [], ◌∷◌, refl, sym, ◌∙◌, ap, subst, inl, inr, arith, cond, Some, None, Result, Ok, slice_get, option_and_then, option_map, zero-add}
+use Rattle.std.proofs.Common.{◌≡◌, ℕ, ◌<◌, ◌+◌, ◌==◌, ◌&&◌, ◌||◌, not, nat_le, nat_lt, suc, length, map, get_or, Bool, true, false, List, [], ◌∷◌, refl, sym, ◌∙◌, ap, subst, inl, inr, arith, cond, Some, None, Result, Ok, slice_get, option_and_then, option_map, zero-add}
 use Rattle.std.proofs.lemmas.Bool.{and_from, and_parts, cases_lt, eqb-true, false≢true, le-leb, ltb-true, or_cases}
 use Rattle.std.proofs.lemmas.List.{get_or_past, length-map}
-use Rattle.std.proofs.lemmas.List.Elements.{All-from_recursion, recursion_from_All}
+use Rattle.std.proofs.lemmas.List.Elements.{recursion_from_All}
 use Rattle.std.proofs.lemmas.Option.{slice_get-get_or, slice_get-map}
 use Rattle.std.specs.List.{AllByRecursion, list_all, position, position_or_len}
 use Rattle.std.specs.Str.{bytes_eq}
@@ -24,7 +24,7 @@ use Rattle.dip_mapfile.proofs.SpellingLaws.{FitArmy, FitShores, IsBare, IsBareBy
 use Rattle.dip_chart.specs.Charts.{Chart, IsMap, Province, Realm, Shore, has_named_shores, has_one_shore, is_centre, is_fleet_place, is_shaped, is_unit, may_stand, no_province, no_realm, no_shore, province, realm, shore}
 use Rattle.dip_chart.proofs.Found.{test_at}
 use Rattle.dip_chart.proofs.CheckLaws.{no_fault}
-use Rattle.dip_map.specs.Spelled.{HasOwnUnits, SpellsMap, StatesWhatItSpells, code_of, map_draft, power_draft, province_draft, shore_draft, site_by, site_of, unit_draft}
+use Rattle.dip_map.specs.Spelled.{SpellsMap, StatesWhatItSpells, code_of, map_draft, power_draft, province_draft, shore_draft, site_by, site_of, unit_draft}
 use Rattle.dip_map.specs.Stated.{chart_at, chart_of, coast_at, each, each_from, is_few, map_in, or_unknown, place_at, prov_at, province_at, realm_at, shore_at, unit_at, unit_of}
 use Rattle.dip_map.proofs.TellingLaws.{ChartRead, chart_read, looked_place, looked_up, of_draft, of_shore, parsed_file}
 
@@ -60,102 +60,72 @@ province_spelled d m c w r h =
     let shores : w.shores ≡ map (shore_draft m) r.shores = each_spelled (shore_at d) (shore_draft m) (shore_spelled d m c) w.shores r.shores of.shores in
     λ i. record { code = code i; name = name i; terrain = terrain i; centre = centre i; army = army i; shores = shores i }
 
--- a unit that was looked up: its draft, and whose it is
-record UnitSpelled (m : Chart) (k : ℕ) (w : UnitDraft) (u : AUnit) : Type 0 where
-  pub draft : w ≡ unit_draft m u
-  pub own : u.power ≡ k
-
 abbrev army_of : ℕ → ℕ → AUnit
 army_of k p = record { power = k; kind = Army; place = record { prov = p; coast = 0 } }
 
 abbrev fleet_of : ℕ → Place → AUnit
 fleet_of k a = record { power = k; kind = Fleet; place = a }
 
-unit_spelled_by : (d : Draft) (m : Chart) → ChartRead d m → (k : ℕ) (kind : Kind) (s : Site) (u : AUnit) → unit_of d k kind s ≡ Ok u → IsBareBy kind s → UnitSpelled m k (record { kind = kind; site = s }) u
+unit_spelled_by : (d : Draft) (m : Chart) → ChartRead d m → (k : ℕ) (kind : Kind) (s : Site) (u : AUnit) → unit_of d k kind s ≡ Ok u → IsBareBy kind s → record { kind = kind; site = s } ≡ unit_draft m u
 unit_spelled_by d m c k Army s u h bare =
     let (p, found, made) = bind_ok (prov_at d s.code) (λ p. Ok (army_of k p)) u h in
     let is : army_of k p ≡ u = cc in
     let code : s.code ≡ code_of m p = sym (looked_up d m c s.code p found).1 in
     let coast : s.coast ≡ [] = bare in
-    subst (λ (x : AUnit). UnitSpelled m k (record { kind = Army; site = s }) x) is (record { draft = λ i. record { kind = Army; site = record { code = code i; coast = coast i } }; own = refl })
+    (λ i. record { kind = Army; site = record { code = code i; coast = coast i } }) ∙ ap (unit_draft m) is
 unit_spelled_by d m c k Fleet s u h bare =
     let (a, found, made) = bind_ok (place_at d s) (λ a. Ok (fleet_of k a)) u h in
     let is : fleet_of k a ≡ u = cc in
     let site : s ≡ site_of m a = (looked_place d m c s a found).site in
-    subst (λ (x : AUnit). UnitSpelled m k (record { kind = Fleet; site = s }) x) is (record { draft = λ i. record { kind = Fleet; site = site i }; own = refl })
+    (λ i. record { kind = Fleet; site = site i }) ∙ ap (unit_draft m) is
 
 -- the units of a power
-record UnitsSpelled (m : Chart) (k : ℕ) (ws : List UnitDraft) (us : List AUnit) : Type 0 where
-  pub drafts : ws ≡ map (unit_draft m) us
-  pub own : AllByRecursion (λ u. u.power ≡ k) us
-
-units_spelled : (d : Draft) (m : Chart) → ChartRead d m → (k : ℕ) (ws : List UnitDraft) (us : List AUnit) → each (unit_at d k) ws ≡ Ok us → AllByRecursion IsBare ws → UnitsSpelled m k ws us
-units_spelled d m c k [] us h bare = let e : [] ≡ us = cc in subst (λ xs. UnitsSpelled m k [] xs) e (record { drafts = refl; own = tt })
+units_spelled : (d : Draft) (m : Chart) → ChartRead d m → (k : ℕ) (ws : List UnitDraft) (us : List AUnit) → each (unit_at d k) ws ≡ Ok us → AllByRecursion IsBare ws → ws ≡ map (unit_draft m) us
+units_spelled d m c k [] us h bare = let e : [] ≡ us = cc in ap (map (unit_draft m)) e
 units_spelled d m c k (w ∷ ws) us h bare =
     let (u, found, rest) = bind_ok (unit_at d k w) (λ u. each (unit_at d k) ws >>= λ more. Ok (u ∷ more)) us h in
     let (more, others, all) = bind_ok (each (unit_at d k) ws) (λ more. Ok (u ∷ more)) us rest in
     let e : u ∷ more ≡ us = cc in
-    let here = unit_spelled_by d m c k w.kind w.site u found bare.0 in
-    let behind = units_spelled d m c k ws more others bare.1 in
-    let first : w ≡ unit_draft m u = here.draft in
-    let last : ws ≡ map (unit_draft m) more = behind.drafts in
-    subst (λ xs. UnitsSpelled m k (w ∷ ws) xs) e (record { drafts = λ i. first i ∷ last i; own = (here.own, behind.own) })
+    let first : w ≡ unit_draft m u = unit_spelled_by d m c k w.kind w.site u found bare.0 in
+    let last : ws ≡ map (unit_draft m) more = units_spelled d m c k ws more others bare.1 in
+    (λ i. first i ∷ last i) ∙ ap (map (unit_draft m)) e
 
--- powers that were looked up, the first of which is number k
-abbrev OwnFrom : ℕ → List Realm → Type 0
-OwnFrom k [] = Unit {0}
-OwnFrom k (r ∷ rs) = AllByRecursion (λ u. u.power ≡ k) r.units × OwnFrom (k + 1) rs
-
-record PowersSpelled (m : Chart) (k : ℕ) (ws : List PowerDraft) (rs : List Realm) : Type 0 where
-  pub drafts : ws ≡ map (power_draft m) rs
-  pub own : OwnFrom k rs
-
-power_spelled : (d : Draft) (m : Chart) → ChartRead d m → (k : ℕ) (w : PowerDraft) (r : Realm) → realm_at d k w ≡ Ok r → AllByRecursion IsBare w.units → (w ≡ power_draft m r) × AllByRecursion (λ u. u.power ≡ k) r.units
+-- powers that were looked up
+power_spelled : (d : Draft) (m : Chart) → ChartRead d m → (k : ℕ) (w : PowerDraft) (r : Realm) → realm_at d k w ≡ Ok r → AllByRecursion IsBare w.units → w ≡ power_draft m r
 unfolding realm_at
 power_spelled d m c k w r h bare =
     let (homes, a, rest) = bind_ok (each (prov_at d) w.home) (λ home. each (unit_at d k) w.units >>= λ units. Ok (record { name = w.name; home = home; units = units })) r h in
     let (us, b, last) = bind_ok (each (unit_at d k) w.units) (λ units. Ok (record { name = w.name; home = homes; units = units })) r rest in
     let is : record { name = w.name; home = homes; units = us } ≡ r = cc in
     let home : w.home ≡ map (code_of m) homes = codes_spelled d m c w.home homes a in
-    let read = units_spelled d m c k w.units us b bare in
-    let units : w.units ≡ map (unit_draft m) us = read.drafts in
-    subst (λ (x : Realm). (w ≡ power_draft m x) × AllByRecursion (λ u. u.power ≡ k) x.units) is (λ i. record { name = w.name; home = home i; units = units i }, read.own)
+    let units : w.units ≡ map (unit_draft m) us = units_spelled d m c k w.units us b bare in
+    (λ i. record { name = w.name; home = home i; units = units i }) ∙ ap (power_draft m) is
 
-powers_spelled : (d : Draft) (m : Chart) → ChartRead d m → (k : ℕ) (ws : List PowerDraft) (rs : List Realm) → each_from (realm_at d) k ws ≡ Ok rs → AllByRecursion (λ p. AllByRecursion IsBare p.units) ws → PowersSpelled m k ws rs
-powers_spelled d m c k [] rs h bare = let e : [] ≡ rs = cc in subst (λ xs. PowersSpelled m k [] xs) e (record { drafts = refl; own = tt })
+powers_spelled : (d : Draft) (m : Chart) → ChartRead d m → (k : ℕ) (ws : List PowerDraft) (rs : List Realm) → each_from (realm_at d) k ws ≡ Ok rs → AllByRecursion (λ p. AllByRecursion IsBare p.units) ws → ws ≡ map (power_draft m) rs
+powers_spelled d m c k [] rs h bare = let e : [] ≡ rs = cc in ap (map (power_draft m)) e
 powers_spelled d m c k (w ∷ ws) rs h bare =
     let (r, found, rest) = bind_ok (realm_at d k w) (λ u. each_from (realm_at d) (k + 1) ws >>= λ more. Ok (u ∷ more)) rs h in
     let (more, others, all) = bind_ok (each_from (realm_at d) (k + 1) ws) (λ more. Ok (r ∷ more)) rs rest in
     let e : r ∷ more ≡ rs = cc in
-    let here = power_spelled d m c k w r found bare.0 in
-    let behind = powers_spelled d m c (k + 1) ws more others bare.1 in
-    let first : w ≡ power_draft m r = here.0 in
-    let last : ws ≡ map (power_draft m) more = behind.drafts in
-    subst (λ xs. PowersSpelled m k (w ∷ ws) xs) e (record { drafts = λ i. first i ∷ last i; own = (here.1, behind.own) })
-
-own_at : (k : ℕ) (rs : List Realm) → OwnFrom k rs → (i : ℕ) → AllByRecursion (λ u. u.power ≡ k + i) (get_or rs i no_realm).units
-own_at k [] own i = tt
-own_at k (r ∷ rs) own zero = let z : k ≡ k + 0 = omega arith in subst (λ n. AllByRecursion (λ (u : AUnit). u.power ≡ n) r.units) z own.0
-own_at k (r ∷ rs) own (suc i) = let e : (k + 1) + i ≡ k + suc i = omega arith in subst (λ n. AllByRecursion (λ (u : AUnit). u.power ≡ n) (get_or rs i no_realm).units) e (own_at (k + 1) rs own.1 i)
+    let first : w ≡ power_draft m r = power_spelled d m c k w r found bare.0 in
+    let last : ws ≡ map (power_draft m) more = powers_spelled d m c (k + 1) ws more others bare.1 in
+    (λ i. first i ∷ last i) ∙ ap (map (power_draft m)) e
 
 -- the draft that a map was read from
-chart_spelled : (d : Draft) (m : Chart) → ChartRead d m → AllByRecursion (λ p. AllByRecursion IsBare p.units) d.powers → (d ≡ map_draft m) × HasOwnUnits m
+chart_spelled : (d : Draft) (m : Chart) → ChartRead d m → AllByRecursion (λ p. AllByRecursion IsBare p.units) d.powers → d ≡ map_draft m
 chart_spelled d m c bare =
-    let read = powers_spelled d m c 0 d.powers m.realms c.realms bare in
     let name : d.name ≡ m.name = c.name in
-    let powers : d.powers ≡ map (power_draft m) m.realms = read.drafts in
-    let provinces : d.provinces ≡ map (province_draft m) m.provinces = each_spelled (province_at d) (province_draft m) (province_spelled d m c) d.provinces m.provinces c.provinces in (
-      λ i. record { name = name i; powers = powers i; provinces = provinces i },
-      λ r. All-from_recursion (λ u. u.power ≡ r) (realm m r).units (subst (λ n. AllByRecursion (λ (u : AUnit). u.power ≡ n) (realm m r).units) (zero-add r) (own_at 0 m.realms read.own r)),
-    )
+    let powers : d.powers ≡ map (power_draft m) m.realms = powers_spelled d m c 0 d.powers m.realms c.realms bare in
+    let provinces : d.provinces ≡ map (province_draft m) m.provinces = each_spelled (province_at d) (province_draft m) (province_spelled d m c) d.provinces m.provinces c.provinces in
+    λ i. record { name = name i; powers = powers i; provinces = provinces i }
 
-spelled : (text : List ℕ) (m : Chart) → map_in text ≡ Ok m → SpellsMap text m × HasOwnUnits m
+spelled : (text : List ℕ) (m : Chart) → map_in text ≡ Ok m → SpellsMap text m
 unfolding map_in
 spelled text m h =
     let (file, parsed, rest) = bind_ok (file_in text) (λ file. draft_at file >>= chart_of) m h in
     let (d, drafted, made) = bind_ok (draft_at file) chart_of m rest in
-    let (is, own) = chart_spelled d m (chart_read d m made) (armies_bare file d drafted) in
-    ((file, parsed_file text file parsed, subst (λ (x : Draft). Spells file x) is (file_spelled file d drafted)), own)
+    let is = chart_spelled d m (chart_read d m made) (armies_bare file d drafted) in
+    (file, parsed_file text file parsed, subst (λ (x : Draft). Spells file x) is (file_spelled file d drafted))
 
 -- what is found in a list is found in another that tells the same of each
 first_map : {A B : Type 0} (f : A → B) (p : B → Bool) (xs : List A) → position_or_len p (map f xs) ≡ position_or_len (λ x. p (f x)) xs
@@ -216,14 +186,14 @@ identity : {A : Type 0} (P Q : A → Type 0) → ((x : A) → P x → Q x) → (
 identity P Q go [] h = tt
 identity P Q go (x ∷ xs) h = (go x h.0, identity P Q go xs h.1)
 
-realm_of : (m : Chart) → IsMap m → HasOwnUnits m → (r : ℕ) → r < length m.realms → IsRealmOf m r (realm m r)
-realm_of m ok own r low =
+realm_of : (m : Chart) → IsMap m → (r : ℕ) → r < length m.realms → IsRealmOf m r (realm m r)
+realm_of m ok r low =
     let (named, rest) = and_parts _ (list_all (λ p. is_centre m p) (realm m r).home && list_all (λ u. is_unit m u) (realm m r).units) (ok.realms r low) in
     let (homes, units) = and_parts (list_all (λ p. is_centre m p) (realm m r).home) (list_all (λ u. is_unit m u) (realm m r).units) rest in
     record {
       home = identity (λ p. is_centre m p ≡ true) (λ p. p < length m.provinces) (centre_low m) (realm m r).home (from_test (λ p. is_centre m p) (realm m r).home homes);
       units = from_test (λ u. is_unit m u) (realm m r).units units;
-      own = recursion_from_All (λ (u : AUnit). u.power ≡ r) (realm m r).units (own r);
+      own = recursion_from_All (λ (u : AUnit). u.power ≡ r) (realm m r).units (ok.units_own r);
     }
 
 -- the look-ups of a map's draft
@@ -293,16 +263,16 @@ realms_back m ok k (r ∷ rs) on =
     rw (here, behind) refl
 
 -- a map's draft states it
-chart_back : (m : Chart) → IsMap m → HasOwnUnits m → chart_of (map_draft m) ≡ Ok m
+chart_back : (m : Chart) → IsMap m → chart_of (map_draft m) ≡ Ok m
 unfolding chart_at
-chart_back m ok own =
+chart_back m ok =
     let powers : length (map (power_draft m) m.realms) ≡ length m.realms = length-map m.realms (power_draft m) in
     let lands : length (map (province_draft m) m.provinces) ≡ length m.provinces = length-map m.provinces (province_draft m) in
     let few : is_few (map_draft m) ≡ true =
     and_from _ _ (and_from _ _ (le-leb 1 (length (map (power_draft m) m.realms)) (omega (arith, powers, ok.realms_least))) (le-leb (length (map (power_draft m) m.realms)) 7 (omega (arith, powers, ok.realms_most))))
     (and_from _ _ (le-leb 1 (length (map (province_draft m) m.provinces)) (omega (arith, lands, ok.provinces_least))) (le-leb (length (map (province_draft m) m.provinces)) 200 (omega (arith, lands, ok.provinces_most)))) in
     let realms : each_from (realm_at (map_draft m)) 0 (map (power_draft m) m.realms) ≡ Ok m.realms =
-    realms_back m ok 0 m.realms (λ i low. let e : i ≡ 0 + i = sym (zero-add i) in subst (λ n. IsRealmOf m n (get_or m.realms i no_realm)) e (realm_of m ok own i low)) in
+    realms_back m ok 0 m.realms (λ i low. let e : i ≡ 0 + i = sym (zero-add i) in subst (λ n. IsRealmOf m n (get_or m.realms i no_realm)) e (realm_of m ok i low)) in
     let provinces : each (province_at (map_draft m)) (map (province_draft m) m.provinces) ≡ Ok m.provinces =
     each_back (province_at (map_draft m)) (province_draft m) (IsWithin m) (province_back m ok) m.provinces (from_index (IsWithin m) m.provinces no_province (λ p low. within m ok p)) in
     rw (few, realms, provinces, no_fault m ok) refl
@@ -426,10 +396,10 @@ province_form m ok p low =
       shores = shores_form m ok (province m p).terrain (province m p) shape on.shores;
     }
 
-power_form : (m : Chart) → IsMap m → HasOwnUnits m → (r : ℕ) → r < length m.realms → IsPower (power_draft m (realm m r))
-power_form m ok own r low =
+power_form : (m : Chart) → IsMap m → (r : ℕ) → r < length m.realms → IsPower (power_draft m (realm m r))
+power_form m ok r low =
     let named = (and_parts _ (list_all (λ p. is_centre m p) (realm m r).home && list_all (λ u. is_unit m u) (realm m r).units) (ok.realms r low)).0 in
-    let on = realm_of m ok own r low in
+    let on = realm_of m ok r low in
     record {
       name = named;
       home = images (λ q. q < length m.provinces) (λ c. is_code c ≡ true) (code_of m) (code_form m ok) (realm m r).home on.home;
@@ -440,9 +410,9 @@ forms_at : {A B : Type 0} (P : B → Type 0) (f : A → B) (xs : List A) (d : A)
 forms_at P f [] d h = tt
 forms_at P f (x ∷ xs) d h = (h 0 (omega arith), forms_at P f xs d (λ k low. h (suc k) (omega (arith, low))))
 
-draft_form : (m : Chart) → IsMap m → HasOwnUnits m → IsDraft (map_draft m)
-draft_form m ok own = record {
-  powers = forms_at IsPower (power_draft m) m.realms no_realm (power_form m ok own);
+draft_form : (m : Chart) → IsMap m → IsDraft (map_draft m)
+draft_form m ok = record {
+  powers = forms_at IsPower (power_draft m) m.realms no_realm (power_form m ok);
   provinces = forms_at IsProvince (province_draft m) m.provinces no_province (province_form m ok);
 }
 
@@ -450,12 +420,12 @@ file_found : (text : List ℕ) (file : Members) → parse_document text ≡ Some
 unfolding file_in
 file_found text file h = ap or_no_toml h
 
-stated : (text : List ℕ) (m : Chart) → IsMap m → SpellsMap text m → HasOwnUnits m → map_in text ≡ Ok m
+stated : (text : List ℕ) (m : Chart) → IsMap m → SpellsMap text m → map_in text ≡ Ok m
 unfolding map_in
-stated text m ok spells own =
+stated text m ok spells =
     let (file, parsed, is) = spells in
-    rw (file_found text file parsed, file_back file (map_draft m) is (draft_form m ok own), chart_back m ok own) refl
+    rw (file_found text file parsed, file_back file (map_draft m) is (draft_form m ok), chart_back m ok) refl
 
 -- a text states a map just where it spells it
 pub states_what_it_spells : StatesWhatItSpells
-states_what_it_spells text m ok = (spelled text m, λ both_of. stated text m ok both_of.0 both_of.1)
+states_what_it_spells text m ok = (spelled text m, stated text m ok)

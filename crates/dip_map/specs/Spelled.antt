@@ -1,10 +1,10 @@
 -- What a file that states a map writes: the map's own draft, in which each number is the code or the name that it stands for.
-use Rattle.std.specs.Prelude.{◌≡◌, ◌↔◌, ℕ, All, List, [], map, Some, Ok}
+use Rattle.std.specs.Prelude.{◌≡◌, ◌↔◌, ℕ, List, [], map, Some, Ok}
 use Rattle.dip_names.specs.declared.names.Kind.{Kind}
 use Rattle.dip_names.specs.declared.names.Kind.TheVariants.{Army, Fleet}
 use Rattle.dip_names.specs.declared.names.Place.{Place}
 use Rattle.dip_names.specs.declared.names.Unit.{Unit as AUnit}
-use Rattle.dip_chart.specs.Charts.{Chart, IsMap, Province, Realm, Shore, province, realm, shore}
+use Rattle.dip_chart.specs.Charts.{Chart, IsMap, Province, Realm, Shore, province, shore}
 use Rattle.dip_mapfile.specs.Drafts.{Draft, PowerDraft, ProvinceDraft, ShoreDraft, Site, UnitDraft}
 use Rattle.dip_mapfile.specs.Spelling.{Spells}
 use Rattle.dip_mapfile.specs.Tables.{Members, parse_document}
@@ -49,10 +49,6 @@ map_draft m = record {
   provinces = map (province_draft m) m.provinces;
 }
 
--- the opening's units that a power lists are its own
-abbrev pub HasOwnUnits : Chart → Type 0
-HasOwnUnits m = (r : ℕ) → All (λ u. u.power ≡ r) (realm m r).units
-
 -- a text spells a map: it is TOML, and its tables hold what the map's draft holds, and nothing else
 abbrev pub SpellsMap : List ℕ → Chart → Type 0
 SpellsMap text m = (file : Members) × (parse_document text ≡ Some file) × Spells file (map_draft m)
@@ -60,4 +56,4 @@ SpellsMap text m = (file : Members) × (parse_document text ≡ Some file) × Sp
 -- a text states a map just where it spells it
 abbrev pub StatesWhatItSpells : Type 0
 StatesWhatItSpells =
-    (text : List ℕ) (m : Chart) → IsMap m → (map_in text ≡ Ok m) ↔ (SpellsMap text m × HasOwnUnits m)
+    (text : List ℕ) (m : Chart) → IsMap m → (map_in text ≡ Ok m) ↔ SpellsMap text m

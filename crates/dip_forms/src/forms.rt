@@ -21,7 +21,7 @@ pub struct Mention {
 
 /// What a line says, before it is held against a board.
 #[derive(Clone, Copy)]
-pub enum Draft {
+pub enum Form {
     /// `A par H`
     Hold {
         unit: Mention,

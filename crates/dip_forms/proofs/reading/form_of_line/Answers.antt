@@ -1,11 +1,11 @@
-use Rattle.dip_forms.proofs.ReadingLaws.{draft_law, draft_long}
-use Rattle.dip_forms.proofs.forms.draft_of_line.Goals as goal
+use Rattle.dip_forms.proofs.ReadingLaws.{form_law, form_long}
+use Rattle.dip_forms.proofs.reading.form_of_line.Goals as goal
 
 pub returns-in-Some-clause-found : goal.returns-in-Some-clause-found
-returns-in-Some-clause-found c = (draft_law c.args.line.now _ c.draft_of.result c.in-Some.ensures.found (rw c.as_slice.ensures at c.draft_of.ensures)).0
+returns-in-Some-clause-found c = (form_law c.args.line.now _ c.form_of.result c.in-Some.ensures.found (rw c.as_slice.ensures at c.form_of.ensures)).0
 
 pub returns-in-Some-clause-none : goal.returns-in-Some-clause-none
-returns-in-Some-clause-none c = (draft_law c.args.line.now _ c.draft_of.result c.in-Some.ensures.found (rw c.as_slice.ensures at c.draft_of.ensures)).1
+returns-in-Some-clause-none c = (form_law c.args.line.now _ c.form_of.result c.in-Some.ensures.found (rw c.as_slice.ensures at c.form_of.ensures)).1
 
 pub returns-in-None-clause-none : goal.returns-in-None-clause-none
-returns-in-None-clause-none c = draft_long c.args.line.now c.in-None.ensures.none
+returns-in-None-clause-none c = form_long c.args.line.now c.in-None.ensures.none

@@ -12,10 +12,10 @@ use Rattle.dip_names.specs.declared.names.Unit.{Unit as AUnit}
 use Rattle.dip_board.specs.declared.boards.Dislodged.{Dislodged}
 use Rattle.dip_chart.specs.Charts.{Chart, IsMap, Province, Realm, are_places_single, army_next, fleet_next, home, no_province, no_realm, province, realm, shore, coast_of, is_army_next, is_fleet_place, is_unit, is_centre, is_power_name, may_stand}
 use Rattle.dip_board.specs.Boards.{Position, IsOf, is_dislodged, is_some_prov}
-use Rattle.dip_forms.specs.Forms.{is_draft, is_spot}
+use Rattle.dip_forms.specs.Forms.{is_form, is_spot}
 use Rattle.dip_orders.specs.Allowances.{builds_due, removals_due}
 use Rattle.dip_forms.specs.Texts.{canonical_text}
-use Rattle.dip_forms.specs.Reading.{draft_in}
+use Rattle.dip_forms.specs.Reading.{form_in}
 use Rattle.dip_orders.specs.Checks.{Check, must}
 use Rattle.dip_orders.specs.Laws.{LawfulOrdersAreRead}
 use Rattle.dip_orders.specs.Lawful.{IsAllowed, IsSite, IsThere, MayAid, MayCarry, MayCome, Reaches, Stands}
@@ -31,7 +31,7 @@ use Rattle.dip_orders.specs.declared.placed.Order.TheVariants.{Hold as Holds, Mo
 use Rattle.dip_orders.specs.declared.placed.PlacedOrder.{PlacedOrder}
 use Rattle.dip_orders.proofs.AgainLaws.{named_again}
 use Rattle.dip_orders.proofs.CheckLaws.{Hold, hold_both, holds_ok}
-use Rattle.dip_orders.proofs.DraftLaws.{NamesArmy, order_canonical, printed}
+use Rattle.dip_orders.proofs.FormLaws.{NamesArmy, order_canonical, printed}
 use Rattle.dip_orders.proofs.FindLaws.{find_among, find_passes, some_is}
 use Rattle.dip_orders.proofs.PlaceLaws.{AreOfFleets, found_one, only_shore_there, place_of, sails_to, same_place}
 use Rattle.dip_orders.proofs.ReadingLaws.{Forms, form_read}
@@ -255,7 +255,7 @@ told_site m Fleet a ok low h = let both = by_name (shore m a).name refl in recor
         ((ap (λ o. is_some o) found, (refl, tt)), same_place (site m a.prov (Some (c ∷ cs))) a refl (ap (λ o. unwrap_or o 0) found))
 
 -- an order whose form passes its checks, and is that order, is what its own text says
-make : (m : Chart) (b : Position) (power : ℕ) (pending : List PlacedOrder) (o : PlacedOrder) → NamesArmy o.order → is_draft (printed m o.unit o.order) ≡ true
+make : (m : Chart) (b : Position) (power : ℕ) (pending : List PlacedOrder) (o : PlacedOrder) → NamesArmy o.order → is_form (printed m o.unit o.order) ≡ true
     → Hold (checks_of m b power pending (printed m o.unit o.order)) → order_in m b power (printed m o.unit o.order) ≡ o → Again m b power pending o
 make m b power pending o army fine checks same = record {
   fine = fine;
@@ -442,5 +442,5 @@ allowed_again m b power pending u Removes ok of h = remove_again m b power pendi
 pub lawful_read : Forms → LawfulOrdersAreRead
 lawful_read forms m b power pending o ok of h =
     let again : Again m b power pending o = allowed_again m b power pending o.unit o.order ok of h in
-    let said : draft_in (canonical_text (printed m o.unit o.order)) ≡ Some (printed m o.unit o.order) = forms.said _ _ (forms.again (printed m o.unit o.order) again.fine) in
-    form_read m b power pending (order_text m o) (printed m o.unit o.order) o (ap draft_in again.text ∙ said) again.same
+    let said : form_in (canonical_text (printed m o.unit o.order)) ≡ Some (printed m o.unit o.order) = forms.said _ _ (forms.again (printed m o.unit o.order) again.fine) in
+    form_read m b power pending (order_text m o) (printed m o.unit o.order) o (ap form_in again.text ∙ said) again.same

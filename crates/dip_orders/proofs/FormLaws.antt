@@ -1,4 +1,4 @@
--- What is printed of an order, as a draft.
+-- What is printed of an order, as a form.
 use Rattle.std.proofs.Common.{◌≡◌, ℕ, Bool, true, false, List, [], ◌∷◌, ◌++◌, refl, ◌∙◌, ap, append_assoc, codes}
 use Rattle.std.proofs.lemmas.List.{append-nil}
 use Rattle.dip_names.specs.declared.names.Kind.{Kind}
@@ -6,9 +6,9 @@ use Rattle.dip_names.specs.declared.names.Kind.TheVariants.{Army, Fleet}
 use Rattle.dip_names.specs.declared.names.Unit.{Unit as AUnit}
 use Rattle.dip_chart.specs.Charts.{Chart, province}
 use Rattle.dip_forms.specs.Texts.{capital, canonical_text}
-use Rattle.dip_forms.specs.declared.drafts.Mention.{Mention}
-use Rattle.dip_forms.specs.declared.drafts.Draft.{Draft}
-use Rattle.dip_forms.specs.declared.drafts.Draft.TheVariants.{Hold, Move, SupportHold, SupportMove, Convoy, Retreat, Disband, Build, Remove}
+use Rattle.dip_forms.specs.declared.forms.Mention.{Mention}
+use Rattle.dip_forms.specs.declared.forms.Form.{Form}
+use Rattle.dip_forms.specs.declared.forms.Form.TheVariants.{Hold, Move, SupportHold, SupportMove, Convoy, Retreat, Disband, Build, Remove}
 use Rattle.dip_orders.specs.Texts.{kind_letter, via_text, order_text}
 use Rattle.dip_orders.specs.declared.placed.Other.{Other}
 use Rattle.dip_orders.specs.declared.placed.Order.{Order}
@@ -20,7 +20,7 @@ abbrev pub other_of : Chart → Other → Mention
 other_of m at = record { kind = at.kind; at = bare_spot m at.prov }
 
 -- what is printed of an order
-abbrev pub printed : Chart → AUnit → Order → Draft
+abbrev pub printed : Chart → AUnit → Order → Form
 printed m u Holds = Hold (mention_of m u.kind u.place)
 printed m u (Moves to via) = Move (mention_of m u.kind u.place) (spot_of m u.kind to) via
 printed m u (SupportsHold at) = SupportHold (mention_of m u.kind u.place) (other_of m at) false

@@ -111,7 +111,7 @@ told_province : (m : Chart) (p : ℕ) → IsMap m → p < length m.provinces →
 told_province m p ok low = record { fine = bare_fine m ok p low; on = code_on_map m ok p None low; named = code_named m ok p None low }
 
 -- where a unit could move, where a convoy may lead, and where another unit stands is on the map
-next_low : (m : Chart) (p q : ℕ) → IsMap m → is_army_next m p q ≡ true → q < length m.provinces
+pub next_low : (m : Chart) (p q : ℕ) → IsMap m → is_army_next m p q ≡ true → q < length m.provinces
 next_low m p q ok h =
     let (k, low, met) = any_at (λ x. x == q) (army_next m p) h in
     subst (λ n. n < length m.provinces) (eqb-true _ _ (met 0)) (ok.army_within p k 0 low)
@@ -130,7 +130,7 @@ move_low m Fleet a q ok h = sea_low m a q ok h
 past_province : (m : Chart) (p : ℕ) → nat_lt p (length m.provinces) ≡ false → province m p ≡ no_province
 past_province m p past = get_or_past m.provinces p no_province (ltb-false _ _ past)
 
-coast_low : (m : Chart) (p : ℕ) → is_coastal (province m p).terrain ≡ true → p < length m.provinces
+pub coast_low : (m : Chart) (p : ℕ) → is_coastal (province m p).terrain ≡ true → p < length m.provinces
 coast_low m p h =
     elim (cases_Bool (nat_lt p (length m.provinces))) [
       | inl low ↦ ltb-true _ _ low
@@ -143,7 +143,7 @@ convoy_low m p q h =
     (coast_low m p from, coast_low m q (and_parts (is_coastal (province m q).terrain) (not (p == q)) rest).0)
 
 -- the places of a fleet's neighbours
-fleets_next : (m : Chart) → IsMap m → (a : Place) → AreOfFleets m (fleet_next m a)
+pub fleets_next : (m : Chart) → IsMap m → (a : Place) → AreOfFleets m (fleet_next m a)
 fleets_next m ok a to among =
     let (k, low, met) = any_at (λ x. (x.prov == to.prov) && (x.coast == to.coast)) (fleet_next m a) among in
     let there : Place = get_or (fleet_next m a) k no_place in
@@ -176,7 +176,7 @@ record ToldRetreat (m : Chart) (k : Kind) (places : List Place) (to : Place) : T
   pub checks : Hold (retreat_checks m k places to.prov (coast_for m k to))
   pub same : place_in m places to.prov (coast_for m k to) ≡ to
 
-foot_coast : (ps : List ℕ) (a : Place) → is_place_among a (on_foot ps) ≡ true → a.coast ≡ 0
+pub foot_coast : (ps : List ℕ) (a : Place) → is_place_among a (on_foot ps) ≡ true → a.coast ≡ 0
 foot_coast [] a h = absurd (false≢true h)
 foot_coast (p ∷ ps) a h =
     elim (cases_Bool ((p == a.prov) && (0 == a.coast))) [
@@ -184,7 +184,7 @@ foot_coast (p ∷ ps) a h =
       | inr other ↦ foot_coast ps a (rw other at h)
     ]
 
-foot_near : (ps : List ℕ) (a : Place) → is_place_among a (on_foot ps) ≡ true → list_any (λ x. x == a.prov) ps ≡ true
+pub foot_near : (ps : List ℕ) (a : Place) → is_place_among a (on_foot ps) ≡ true → list_any (λ x. x == a.prov) ps ≡ true
 foot_near [] a h = absurd (false≢true h)
 foot_near (p ∷ ps) a h =
     elim (cases_Bool (p == a.prov)) [
@@ -215,7 +215,7 @@ record ToldSite (m : Chart) (k : Kind) (a : Place) : Type 0 where
   pub checks : Hold (site_checks m k a.prov (coast_for m k a))
   pub same : site m a.prov (coast_for m k a) ≡ a
 
-centre_low : (m : Chart) (p : ℕ) → is_centre m p ≡ true → p < length m.provinces
+pub centre_low : (m : Chart) (p : ℕ) → is_centre m p ≡ true → p < length m.provinces
 centre_low m p h =
     elim (cases_Bool (nat_lt p (length m.provinces))) [
       | inl low ↦ ltb-true _ _ low

@@ -8,7 +8,7 @@ use Rattle.dip_board.specs.declared.boards.Season.TheVariants.{SpringMoves, Spri
 use Rattle.dip_reports.specs.declared.refusals.Refusal.{Refusal}
 use Rattle.dip_reports.specs.declared.refusals.Refusal.TheVariants.{Malformed, Unknown, Stale, NumberUsed, TooLong, WrongSender, NameTaken}
 use Rattle.dip_records.specs.Records.{Public, Own, Head, Reply, Standing, Status, Running, Paused, Closed, Ended, Won, Drawn}
-use Rattle.dip_chart.specs.Charts.{Chart, province, realm}
+use Rattle.dip_chart.specs.Charts.{Chart, powers, province, provs, realm}
 use Rattle.dip_orders.specs.Faults.{fault_number, fault_words}
 use Rattle.dip_orders.specs.Texts.{order_text, unit_text}
 use Rattle.dip_orders.specs.declared.faults.OrderFault.{OrderFault}
@@ -98,11 +98,11 @@ abbrev pub in_province : List Force → ℕ → List Force
 in_province fs p = filter (λ f. f.unit.place.prov == p) fs
 
 abbrev pub by_province : Chart → List Force → List Force
-by_province m fs = flat_map (in_province fs) (numbers 0 m.provinces)
+by_province m fs = flat_map (in_province fs) (provs m)
 
 -- the centres that a power owns, by province
 abbrev pub centres : Chart → Position → ℕ → List ℕ
-centres m b power = filter (λ p. owns b power p) (numbers 0 m.provinces)
+centres m b power = filter (λ p. owns b power p) (provs m)
 
 -- texts with a separator between them, or `-` where there is none
 abbrev pub listed : List ℕ → List (List ℕ) → List ℕ
@@ -124,7 +124,7 @@ board_line m b power = listing m (realm m power).name (centres m b power) (by_pr
 
 -- a line for each power, by name
 unfoldable pub board_lines : Chart → Position → List ℕ
-board_lines m b = flat_map (board_line m b) (numbers 0 m.realms)
+board_lines m b = flat_map (board_line m b) (powers m)
 
 -- the first paper of a game
 abbrev pub opening_paper : Chart → Public → List ℕ

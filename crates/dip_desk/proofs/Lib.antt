@@ -1,5 +1,6 @@
 pub mod KeyedLemmas
 pub mod NumberLemmas
+pub mod Counting
 pub mod SeatLemmas
 pub mod OrderingLemmas
 pub mod Suiting

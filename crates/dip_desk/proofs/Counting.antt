@@ -105,8 +105,8 @@ each_but_itself {A} key kind (x ∷ xs) =
       omega (arith, head, first, itself, fewer),
       all_weaker (λ y. elsewhere key kind (key y) xs + one (kind y) ≤ count_by kind xs) (λ y. elsewhere key kind (key y) (x ∷ xs) + one (kind y) ≤ count_by kind (x ∷ xs)) xs
           (λ y less.
-              let next : elsewhere key kind (key y) (x ∷ xs) ≡ one (kind x && not (key x == key y)) + elsewhere key kind (key y) xs = more (key y) in
-              let one_more : one (kind x && not (key x == key y)) ≤ one (kind x) = at_most_one (kind x) (key x == key y) in
-              omega (arith, head, next, one_more, less))
+          let next : elsewhere key kind (key y) (x ∷ xs) ≡ one (kind x && not (key x == key y)) + elsewhere key kind (key y) xs = more (key y) in
+          let one_more : one (kind x && not (key x == key y)) ≤ one (kind x) = at_most_one (kind x) (key x == key y) in
+          omega (arith, head, next, one_more, less))
           (each_but_itself key kind xs),
     )

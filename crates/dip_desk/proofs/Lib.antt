@@ -15,3 +15,4 @@ pub mod Repeating
 pub mod RepeatingLater
 pub mod Sighting
 pub mod Keepings
+pub mod GameLemmas

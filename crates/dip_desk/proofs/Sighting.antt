@@ -3,9 +3,9 @@ use Rattle.std.proofs.Common.{◌≡◌, ℕ, Bool, true, false, cond, Option, N
 use Rattle.std.specs.Prelude.{option_and_then}
 use Rattle.dip_chart.specs.Charts.{Chart, power_of}
 use Rattle.dip_reports.specs.Records.{Own, Reply}
-use Rattle.dip_desk.specs.Machine.{DecidedBy, Decides, IsDamagedBy, IsForeign, IsForeignSight, MayBeDamaged, Settles, Step, after, OfMaster, OfNobody, OfSeat, Seen, Sight, Verdict, author, author_of, digest, master_author, master_sight, power_author, power_sight, seat_author, seat_sight, seen_in, sight_of, verdict_on}
+use Rattle.dip_desk.specs.Machine.{DecidedBy, Decides, IsDamagedBy, IsForeign, IsForeignSight, IsForeignTo, MayBeDamaged, Settles, Step, after, OfMaster, OfNobody, OfSeat, Seen, Sight, Verdict, author, author_of, digest, master_author, master_sight, power_author, power_sight, seat_author, seat_sight, seen_in, sight_of, verdict_by, verdict_on}
 use Rattle.dip_desk.specs.Mail.{Mail}
-use Rattle.dip_desk.specs.State.{Author, Game, Nobody, Seat, State, TheMaster, game_at, seat_at}
+use Rattle.dip_desk.specs.State.{Author, Game, Nobody, Seat, State, TheMaster, game_at, own_of, seat_at}
 
 -- a sight is the author's, and what is decided by it is what may be decided
 abbrev pub IsRight : Chart → Mail → State → Author → Sight → Type 0
@@ -13,19 +13,22 @@ IsRight m n s who sight =
     (author_of sight ≡ who) × ((v : Verdict) → DecidedBy m n sight v → Decides m s n who v) × (IsForeignSight m sight → MayBeDamaged m s n who)
 
 seat_right : (m : Chart) (n : Mail) (s : State) (p : ℕ) (game : Option Game) → game_at n.note.game s ≡ game
-    → IsRight m n s (seat_author n p (option_and_then (λ g. seat_at p g.seats) game)) (seat_sight n p (option_map (λ g. g.public) game) (option_and_then (λ g. seat_at p g.seats) game))
+    → IsRight m n s (seat_author n p (option_and_then (λ g. own_of (seat_at p g.seats)) game)) (seat_sight n p (option_map (λ g. g.public) game) (option_and_then (λ g. own_of (seat_at p g.seats)) game))
 seat_right m n s p None is = (refl, λ v d. d, λ bad. bad)
-seat_right m n s p (Some g) is = own (seat_at p g.seats) refl
+seat_right m n s p (Some g) is = own (own_of (seat_at p g.seats)) refl
   where
-    own : (o : Option Own) → seat_at p g.seats ≡ o → IsRight m n s (seat_author n p o) (seat_sight n p (Some g.public) o)
+    own : (o : Option Own) → own_of (seat_at p g.seats) ≡ o → IsRight m n s (seat_author n p o) (seat_sight n p (Some g.public) o)
     own None e = (refl, λ v d. d, λ bad. bad)
     own (Some o) e = told (bytes_eq (digest n.note.game n.note.sender n.note.secret) o.digest)
       where
-        seen_is : seen_in p (game_at n.note.game s) ≡ record { public = Some g.public; own = Some o }
-        seen_is = ap (seen_in p) is ∙ ap (λ (x : Option Own). record { public = Some g.public; own = x }) e
+        decided : verdict_on m n (seen_in p (game_at n.note.game s)) ≡ verdict_by m n (Some g.public) (Some o)
+        decided = ap (λ (x : Option Game). verdict_on m n (seen_in p x)) is ∙ ap (λ (x : Option Own). verdict_by m n (Some g.public) x) e
+
+        foreign : IsForeignTo m (Some g.public) (Some o) → IsForeign m (seen_in p (game_at n.note.game s))
+        foreign f = subst (λ (x : Option Game). IsForeign m (seen_in p x)) (sym is) (subst (λ (x : Option Own). IsForeignTo m (Some g.public) x) (sym e) f)
 
         told : (b : Bool) → IsRight m n s (cond b (Seat p) Nobody) (cond b (OfSeat p g.public o) OfNobody)
-        told true = (refl, λ v d. d ∙ sym (ap (verdict_on m n) seen_is), λ f. subst (IsForeign m) (sym seen_is) f)
+        told true = (refl, λ v d. d ∙ sym decided, foreign)
         told false = (refl, λ v d. d, λ bad. bad)
 
 pub is_right : (m : Chart) (n : Mail) (s : State) → IsRight m n s (author m n s) (sight_of m n s)

@@ -6,13 +6,13 @@ use Rattle.dip_chart.specs.Charts.{Chart}
 use Rattle.dip_orders.specs.Reading.{order_of}
 use Rattle.dip_orders.specs.Texts.{order_text}
 use Rattle.dip_orders.specs.declared.placed.PlacedOrder.{PlacedOrder}
-use Rattle.dip_reports.specs.Records.{Kept, Own, Standing}
+use Rattle.dip_reports.specs.Records.{Kept, Standing}
 use Rattle.dip_reports.specs.Texts.{numbers}
 use Rattle.dip_desk.specs.Keyed.{at}
 use Rattle.dip_desk.specs.Mail.{IsMail, Mail}
 use Rattle.dip_desk.specs.Ordering.{kept_orders, prov_of}
 use Rattle.dip_desk.specs.Machine.{MayBeDamaged, Step}
-use Rattle.dip_desk.specs.State.{Author, Game, State, name_of}
+use Rattle.dip_desk.specs.State.{Author, Game, Part, State, name_of, power_in}
 use Rattle.dip_reports.specs.Records.{Reply}
 
 -- each is less than all behind it
@@ -33,19 +33,20 @@ abbrev pub last_number : Option Kept → ℕ
 last_number None = 0
 last_number (Some k) = k.number
 
--- a seat of a game with this board: it is of a power of the map; its orders stand together; its last letter has a letter's number; and
--- it has neither sent nor received press
-pub record IsLawfulSeat (m : Chart) (b : Position) (o : Own) : Type 0 where
-  pub power : o.power < length m.realms
-  pub pending : AreStanding m b o.power o.pending
-  pub last : last_number o.kept ≤ 999999999
-  pub sent : o.sent ≡ 0
-  pub items : o.items ≡ 0
+-- a seat of a game with this board: it is of a power of the map; its orders stand together; its last letter has a letter's number; it
+-- has sent no more press than a seat may, and its items are counted and no more than six others may send
+pub record IsLawfulSeat (m : Chart) (b : Position) (s : Part) : Type 0 where
+  pub power : power_in s < length m.realms
+  pub pending : AreStanding m b (power_in s) s.own.pending
+  pub last : last_number s.own.kept ≤ 999999999
+  pub sent : s.own.sent ≤ 10000
+  pub items : s.own.items ≡ length s.box
+  pub box : length s.box ≤ 60000
 
 -- a game: its board is one of the map, each power of the map has one seat, and its papers are counted
 pub record IsLawfulGame (m : Chart) (g : Game) : Type 0 where
   pub board : IsOf m g.public.board
-  pub powers : list_all (λ p. count_by (λ o. o.power == p) g.seats == 1) (numbers 0 m.realms) ≡ true
+  pub powers : list_all (λ p. count_by (λ s. power_in s == p) g.seats == 1) (numbers 0 m.realms) ≡ true
   pub seats : AllByRecursion (IsLawfulSeat m g.public.board) g.seats
   pub papers : g.public.papers ≡ length g.papers
 

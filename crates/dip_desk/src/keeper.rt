@@ -2,7 +2,7 @@
 ghost use Rattle.std.specs.Prelude.{◌≡◌, ◌<◌, length, option_map};
 ghost use Rattle.dip_chart.specs.Charts.{Chart};
 ghost use Rattle.dip_desk.specs.Keeping.{Book, Changes, Looks};
-ghost use Rattle.dip_desk.specs.State.{changed, own_at, public_at};
+ghost use Rattle.dip_desk.specs.State.{own_at, public_at, state_after};
 ghost use Rattle.dip_desk.specs.Rows as rows;
 ghost use Rattle.dip_reports.specs.Rows as texts;
 
@@ -125,6 +125,6 @@ pub trait Keeper {
     /// Makes the change whole or not at all.
     fn apply(&mut self, map: &Map, change: &Change) -> Result<(), KeepFault>
         requires { book.faults self.old < u64.MAX }
-        ensures { Changes map.now book self.old self.new (changed (rows.change change.now))
+        ensures { Changes map.now book self.old self.new (state_after (rows.change change.now))
             (λ _. Unit {0}) result };
 }

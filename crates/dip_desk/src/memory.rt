@@ -1,5 +1,5 @@
 //! A keeper in memory.
-ghost use Rattle.std.specs.Prelude.{◌≡◌, [], ◌==◌, IfOk, OnErr, OnOk, bytes_eq, map as each, option_and_then, option_map, string_bytes};
+ghost use Rattle.std.specs.Prelude.{◌≡◌, ◌<◌, ℕ, List, [], ◌++◌, ◌==◌, IfOk, None, bytes_eq, map as each, option_and_then, option_map, string_bytes, vec_capacity, vec_len};
 ghost use Rattle.dip_desk.specs.Keyed.{at, change_at, place};
 ghost use Rattle.dip_desk.specs.State as s;
 ghost use Rattle.dip_desk.specs.Rows as rows;
@@ -132,8 +132,8 @@ fn find_game<'a>(games: &'a [GameRow], name: &str) -> Option<&'a GameRow>
 
 /// The seat of that power.
 fn find_seat<'a>(seats: &'a [Own], power: Power) -> Option<&'a Own>
-    ensures { option_map (λ o. texts.own o.now) result ≡ s.seat_at power
-        (each (λ o. texts.own o) seats.entry.now) }
+    ensures { option_map (λ o. texts.own o.now) result ≡ s.own_of (s.seat_at power
+        (each (λ o. stored.part o) seats.entry.now)) }
 {
     for seat in seats {
         if seat.power == power {
@@ -146,7 +146,7 @@ fn find_seat<'a>(seats: &'a [Own], power: Power) -> Option<&'a Own>
 /// The seat of that power in the game of that name.
 fn find_own<'a>(games: &'a [GameRow], name: &str, power: Power) -> Option<&'a Own>
     ensures { option_map (λ o. texts.own o.now) result ≡ option_and_then
-        (λ g. s.seat_at power g.seats)
+        (λ g. s.own_of (s.seat_at power g.seats))
         (at bytes_eq s.name_of name.now (each (λ g. stored.game g) games.entry.now)) }
 {
     let game = find_game(games, name)?;
@@ -167,8 +167,8 @@ fn game_place(games: &[GameRow], name: &str) -> usize
 
 /// The place of the seat of that power, or the length.
 fn seat_place(seats: &[Own], power: Power) -> usize
-    ensures { result ≡ place (λ a b. a == b) (λ o. o.power) power
-        (each (λ o. texts.own o) seats.now) }
+    ensures { result ≡ place (λ a b. a == b) s.power_in power
+        (each (λ o. stored.part o) seats.now) }
 {
     for (number, seat) in seats.iter().enumerate() {
         if seat.power == power {
@@ -179,9 +179,11 @@ fn seat_place(seats: &[Own], power: Power) -> usize
 }
 
 /// What a letter of its own changes in a seat: it is kept, and its orders stand where it has any.
-fn record_own(own: &mut Own, kept: Kept, pending: Option<Vec<Standing>>)
-    ensures { texts.own own.new ≡ s.own_after (texts.kept kept)
-        (option_map (λ l. texts.standings l.items) pending) (texts.own own.old) }
+fn record_own(own: &mut Own, kept: Kept, effect: &Effect, pending: Option<Vec<Standing>>)
+    requires { option_map (λ l. texts.standings l.items) pending ≡ stored.orders_in
+        (rows.effect effect.now) }
+    ensures { stored.part own.new ≡ s.with_letter (texts.kept kept) (rows.effect effect.now)
+        (stored.part own.old) }
 {
     own.kept = Some(kept);
     if let Some(pending) = pending {
@@ -189,37 +191,76 @@ fn record_own(own: &mut Own, kept: Kept, pending: Option<Vec<Standing>>)
     }
 }
 
-fn record_seat(seats: &mut Vec<Own>, power: Power, kept: Kept, pending: Option<Vec<Standing>>)
-    ensures { each (λ o. texts.own o) seats.new.items ≡ change_at (λ a b. a == b) (λ o. o.power)
-        power (s.own_after (texts.kept kept) (option_map (λ l. texts.standings l.items) pending))
-        (each (λ o. texts.own o) seats.old.items) }
+fn record_seat(
+    seats: &mut Vec<Own>,
+    power: Power,
+    kept: Kept,
+    effect: &Effect,
+    pending: Option<Vec<Standing>>,
+)
+    requires { option_map (λ l. texts.standings l.items) pending ≡ stored.orders_in
+        (rows.effect effect.now) }
+    ensures { each (λ o. stored.part o) seats.new.items ≡ change_at (λ a b. a == b) s.power_in power
+        (s.with_letter (texts.kept kept) (rows.effect effect.now))
+        (each (λ o. stored.part o) seats.old.items) }
 {
     let place = seat_place(seats.as_slice(), power);
     if place < seats.len() {
-        record_own(&mut seats[place], kept, pending);
+        record_own(&mut seats[place], kept, effect, pending);
     }
 }
 
+/// What a letter changes in its game.
 fn record_game(
-    games: &mut Vec<GameRow>,
-    name: &str,
-    power: Power,
+    game: &mut GameRow,
+    author: Author,
     kept: Kept,
+    effect: &Effect,
     pending: Option<Vec<Standing>>,
 )
-    ensures { each (λ g. stored.game g) games.new.items ≡ s.at_seat name.now power
-        (s.own_after (texts.kept kept) (option_map (λ l. texts.standings l.items) pending))
-        (each (λ g. stored.game g) games.old.items) }
+    requires { option_map (λ l. texts.standings l.items) pending ≡ stored.orders_in
+        (rows.effect effect.now) }
+    ensures { (name : List ℕ) → stored.game game.new ≡ s.game_after (record {
+      game = name;
+      author = rows.author author;
+      kept = texts.kept kept;
+      effect = rows.effect effect.now;
+    }) (stored.game game.old) }
+{
+    if let Author::Seat(power) = author {
+        record_seat(&mut game.seats, power, kept, effect, pending);
+    }
+}
+
+/// What a letter changes in the game that it names.
+fn record_games(
+    games: &mut Vec<GameRow>,
+    name: &str,
+    author: Author,
+    kept: Kept,
+    effect: &Effect,
+    pending: Option<Vec<Standing>>,
+)
+    requires { option_map (λ l. texts.standings l.items) pending ≡ stored.orders_in
+        (rows.effect effect.now) }
+    ensures content { each (λ g. stored.game g) games.new.items ≡ change_at bytes_eq s.name_of
+        name.now (s.game_after (record {
+          game = name.now;
+          author = rows.author author;
+          kept = texts.kept kept;
+          effect = rows.effect effect.now;
+        })) (each (λ g. stored.game g) games.old.items) }
+    ensures len { vec_len games.new ≡ vec_len games.old }
+    ensures room { vec_capacity games.new ≡ vec_capacity games.old }
 {
     let place = game_place(games.as_slice(), name);
     if place < games.len() {
-        let game = &mut games[place];
-        record_seat(&mut game.seats, power, kept, pending);
+        record_game(&mut games[place], author, kept, effect, pending);
     }
 }
 
 fn fresh(alloc: Global, seat: &NewSeat) -> Own
-    ensures { texts.own result ≡ s.fresh (rows.new_seat seat.now) }
+    ensures { stored.part result ≡ s.fresh (rows.new_seat seat.now) }
 {
     Own {
         power: seat.power,
@@ -234,7 +275,7 @@ fn fresh(alloc: Global, seat: &NewSeat) -> Own
 
 fn fresh_seats(alloc: Global, seats: &[NewSeat]) -> Result<Vec<Own>, AllocError>
     ensures { IfOk result
-        (λ v. each (λ o. texts.own o) v.items ≡ each s.fresh
+        (λ v. each (λ o. stored.part o) v.items ≡ each s.fresh
         (each (λ n. rows.new_seat n) seats.now)) }
 {
     let mut owns = Vec::with_capacity(alloc, seats.len())?;
@@ -244,14 +285,15 @@ fn fresh_seats(alloc: Global, seats: &[NewSeat]) -> Result<Vec<Own>, AllocError>
     Ok(owns)
 }
 
-fn opened(
+/// A new game.
+fn new_game(
     alloc: Global,
     public: &Public,
     paper: &String,
     seats: &[NewSeat],
 ) -> Result<GameRow, AllocError>
     ensures { IfOk result
-        (λ g. stored.game g ≡ s.opened (texts.public public.now) (string_bytes paper.now)
+        (λ g. stored.game g ≡ s.opening_game (texts.public public.now) (string_bytes paper.now)
         (each (λ n. rows.new_seat n) seats.now)) }
 {
     let mut papers = Vec::new(alloc);
@@ -266,7 +308,8 @@ fn opened(
 /// The standing orders that an effect gives its author, where it gives any.
 fn pending_in(alloc: Global, effect: &Effect) -> Result<Option<Vec<Standing>>, AllocError>
     ensures { IfOk result
-        (λ o. option_map (λ l. texts.standings l.items) o ≡ s.pending_in (rows.effect effect.now)) }
+        (λ o. option_map (λ l. texts.standings l.items) o ≡ stored.orders_in
+        (rows.effect effect.now)) }
 {
     match effect {
         Effect::Nothing | Effect::Opens { .. } => Ok(None),
@@ -274,23 +317,49 @@ fn pending_in(alloc: Global, effect: &Effect) -> Result<Option<Vec<Standing>>, A
     }
 }
 
-/// The game that an effect opens stands last.
-fn open_game(alloc: Global, games: &mut Vec<GameRow>, effect: &Effect) -> Result<(), AllocError>
-    ensures ok { OnOk result
-        (each (λ g. stored.game g) games.new.items ≡ s.with_opened (rows.effect effect.now)
-        (each (λ g. stored.game g) games.old.items)) }
-    ensures err { OnErr result (games.new.items ≡ games.old.items) }
+/// The game that an effect opens, where it opens one.
+fn opened_by(alloc: Global, effect: &Effect) -> Result<Option<GameRow>, AllocError>
+    ensures { IfOk result (λ o. stored.listed o ≡ s.new_games (rows.effect effect.now)) }
 {
-    if let Effect::Opens {
-        public,
-        paper,
-        seats,
-    } = effect
-    {
-        let game = opened(alloc, public, paper, seats.as_slice())?;
-        games.push(game)?;
+    match effect {
+        Effect::Opens {
+            public,
+            paper,
+            seats,
+        } => Ok(Some(new_game(alloc, public, paper, seats.as_slice())?)),
+        Effect::Nothing | Effect::Pending(_) => Ok(None),
     }
-    Ok(())
+}
+
+/// The master's last letter, where it is the master's.
+fn last_of(change: &Change) -> Result<Option<Kept>, AllocError>
+    ensures { IfOk result (λ k. option_map texts.kept k ≡ stored.last_of (rows.change change.now)) }
+{
+    match change.author {
+        Author::TheMaster => Ok(Some(kept_copy(&change.kept)?)),
+        Author::Nobody | Author::Seat(_) => Ok(None),
+    }
+}
+
+/// A new game stands last. There is room for it.
+fn put_game(games: &mut Vec<GameRow>, game: Option<GameRow>)
+    requires { vec_len games.old < vec_capacity games.old }
+    ensures { each (λ g. stored.game g) games.new.items ≡ each (λ g. stored.game g) games.old.items
+        ++ stored.listed game }
+{
+    if let Some(game) = game {
+        games.push_reserved(game);
+    }
+}
+
+/// The master's row behind a letter.
+fn record_desk(desk: &mut Desk, last: Option<Kept>)
+    ensures { rows.desk desk.new ≡ stored.desk_with (option_map texts.kept last)
+        (rows.desk desk.old) }
+{
+    if last.is_some() {
+        desk.kept = last;
+    }
 }
 
 impl MemoryKeeper {
@@ -342,19 +411,20 @@ impl Keeper for MemoryKeeper {
 
     fn apply(&mut self, _map: &Map, change: &Change) -> Result<(), KeepFault> {
         let kept = kept_copy(&change.kept)?;
+        let last = last_of(change)?;
         let pending = pending_in(self.alloc, &change.effect)?;
-        open_game(self.alloc, &mut self.games, &change.effect)?;
-        match change.author {
-            Author::Nobody => {}
-            Author::TheMaster => self.desk.kept = Some(kept),
-            Author::Seat(power) => record_game(
-                &mut self.games,
-                change.game.as_str(),
-                power,
-                kept,
-                pending,
-            ),
-        }
+        let game = opened_by(self.alloc, &change.effect)?;
+        self.games.reserve(1)?;
+        record_games(
+            &mut self.games,
+            change.game.as_str(),
+            change.author,
+            kept,
+            &change.effect,
+            pending,
+        );
+        put_game(&mut self.games, game);
+        record_desk(&mut self.desk, last);
         Ok(())
     }
 }

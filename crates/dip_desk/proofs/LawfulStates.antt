@@ -10,7 +10,7 @@ use Rattle.dip_board.specs.Boards.{Position, IsOf, opening}
 use Rattle.std.proofs.lemmas.List.Quantifiers.{position-Some}
 use Rattle.dip_letters.specs.Notes.{SeatNote}
 use Rattle.dip_chart.specs.Charts.{Chart, Realm, no_realm, power_of}
-use Rattle.dip_reports.specs.Records.{Public, Own, Kept, Standing}
+use Rattle.dip_records.specs.Records.{Public, Own, Kept, Standing}
 use Rattle.dip_reports.specs.Texts.{numbers}
 use Rattle.dip_reports.specs.declared.refusals.Refusal.TheVariants.{Malformed, NumberUsed, Stale, WrongSender}
 use Rattle.dip_desk.specs.Keyed.{at, change_at}

@@ -5,7 +5,7 @@ use Rattle.std.proofs.lemmas.Bool.{eq-eqb, ltb-true}
 use Rattle.dip_letters.specs.Notes.{Request}
 use Rattle.dip_letters.specs.Notes.Request.{Create, Orders, Show}
 use Rattle.dip_chart.specs.Charts.{Chart, power_of}
-use Rattle.dip_reports.specs.Records.{Own, Kept, Reply}
+use Rattle.dip_records.specs.Records.{Own, Kept, Reply}
 use Rattle.dip_reports.specs.declared.refusals.Refusal.TheVariants.{NumberUsed, Stale, WrongSender}
 use Rattle.dip_desk.specs.Machine.{Decides, MasterDecides, change_of, NumberedBy, Step, Verdict, NotKnown, Again, OutOfTurn, Taken, after, author, created, digest, kept_of, master_author, new_seats, old_number, opening_public, power_author, refusal_line, refused, repeated, reply_of, seat_author, seat_command, seen_in, verdict_by, verdict_on}
 use Rattle.dip_desk.specs.Mail.{Mail}

@@ -4,7 +4,7 @@ use Rattle.std.specs.Prelude.{◌&&◌, option_and_then}
 use Rattle.dip_letters.specs.Notes.{Request}
 use Rattle.dip_letters.specs.Notes.Request.{Create, Orders, Show}
 use Rattle.dip_chart.specs.Charts.{Chart, power_of}
-use Rattle.dip_reports.specs.Records.{Kept, Own, Public, Reply}
+use Rattle.dip_records.specs.Records.{Kept, Own, Public, Reply}
 use Rattle.std.specs.Option.{option_or}
 use Rattle.dip_desk.specs.Keyed.{at}
 use Rattle.dip_desk.specs.Machine.{Decides, MasterDecides, change_of, NumberedBy, SeatName, Seen, Step, Verdict, NotKnown, Again, OutOfTurn, Taken, after, author, created, digest, kept_of, master_author, new_seats, old_number, opening_public, power_author, reply_of, seat_author, seen, seen_in, verdict_on}

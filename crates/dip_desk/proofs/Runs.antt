@@ -8,7 +8,7 @@ use Rattle.dip_desk.specs.Mail.{Mail}
 use Rattle.dip_chart.specs.Charts.{Chart}
 use Rattle.dip_desk.specs.State.{State, Seat}
 use Rattle.dip_desk.specs.Machine.{Decides, SeatName, Seen, Step, Verdict, reply_of, seen, verdict_on}
-use Rattle.dip_reports.specs.Records.{Reply}
+use Rattle.dip_records.specs.Records.{Reply}
 use Rattle.dip_desk.specs.View.{Event, IsAnsweredFromSeen, IsHistory, IsRun, IsSettledByView, Turn, absorb_all, author_in, left_by, replies_to, reply_in, shown, shown_by, told, view, writes}
 use Rattle.dip_desk.proofs.Seeing.{absorb_all-append, step_seen, step_told, told-append}
 

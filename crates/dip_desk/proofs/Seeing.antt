@@ -5,7 +5,7 @@ use Rattle.std.specs.List.{list_any}
 use Rattle.std.specs.Option.{option_or}
 use Rattle.std.proofs.lemmas.Bool.{false≢true}
 use Rattle.dip_chart.specs.Charts.{Chart}
-use Rattle.dip_reports.specs.Records.{Kept, Own, Public, Reply}
+use Rattle.dip_records.specs.Records.{Kept, Own, Public, Reply}
 use Rattle.dip_desk.specs.Keyed.{at, change_at}
 use Rattle.dip_desk.specs.Mail.{Mail}
 use Rattle.dip_desk.specs.State.{State, Game, Part, Item, Author, Nobody, TheMaster, Seat, is_seat, Effect, Nothing, Pending, Votes, Delivers, Opens, Publishes, Seats, NewSeat, Change, behind_paper, fresh, game_after, game_at, name_of, new_games, opening_game, own_effect, power_in, public_after, seat_at, state_after, with_author, with_digest, with_effect, with_item, with_letter}

@@ -2,7 +2,7 @@
 use Rattle.std.proofs.Common.{◌≡◌, ℕ, Bool, true, false, cond, Option, None, Some, option_map, refl, sym, ◌∙◌, ap, subst, bytes_eq, codes, is_some}
 use Rattle.std.specs.Prelude.{option_and_then}
 use Rattle.dip_chart.specs.Charts.{Chart, power_of}
-use Rattle.dip_reports.specs.Records.{Own, Reply}
+use Rattle.dip_records.specs.Records.{Own, Reply}
 use Rattle.dip_desk.specs.Machine.{DecidedBy, Decides, IsDamagedBy, IsForeign, IsForeignSight, IsForeignTo, MayBeDamaged, Settles, Step, after, OfMaster, OfNobody, OfSeat, Seen, Sight, Verdict, author, author_of, digest, master_author, master_sight, power_author, power_sight, seat_author, seat_sight, seen_in, sight_of, verdict_by, verdict_on}
 use Rattle.dip_desk.specs.Mail.{Mail}
 use Rattle.dip_desk.specs.State.{Author, Game, Nobody, Seat, State, TheMaster, game_at, own_of, seat_at}

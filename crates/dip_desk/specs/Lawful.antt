@@ -6,14 +6,14 @@ use Rattle.dip_chart.specs.Charts.{Chart}
 use Rattle.dip_orders.specs.Reading.{order_of}
 use Rattle.dip_orders.specs.Texts.{order_text}
 use Rattle.dip_orders.specs.declared.placed.PlacedOrder.{PlacedOrder}
-use Rattle.dip_reports.specs.Records.{Kept, Standing}
+use Rattle.dip_records.specs.Records.{Kept, Standing}
 use Rattle.dip_reports.specs.Texts.{numbers}
 use Rattle.dip_desk.specs.Keyed.{at}
 use Rattle.dip_desk.specs.Mail.{IsMail, Mail}
 use Rattle.dip_desk.specs.Ordering.{kept_orders, prov_of}
 use Rattle.dip_desk.specs.Machine.{MayBeDamaged, Step}
 use Rattle.dip_desk.specs.State.{Author, Game, Part, State, name_of, power_in}
-use Rattle.dip_reports.specs.Records.{Reply}
+use Rattle.dip_records.specs.Records.{Reply}
 
 -- each is less than all behind it
 abbrev pub AreAscending : List ℕ → Type 0

@@ -13,8 +13,8 @@ use Rattle.dip_desk.specs.Mail.{Mail}
 use Rattle.dip_desk.specs.Ordering.{Ordered, has_foreign, kept_orders, ordered}
 use Rattle.dip_desk.specs.State.{State, Game, Author, Nobody, TheMaster, Seat, Change, Effect, Nothing, Pending, Opens, NewSeat, Part, game_at, own_at, own_of, public_at, seat_at, state_after}
 use Rattle.dip_reports.specs.Texts.{numbers, opening_paper, refusal_text, show_text}
-use Rattle.dip_reports.specs.Records.{Public, Own, Kept, Head, Reply, Running}
-use Rattle.dip_reports.specs.declared.records.Outcome.TheVariants.{Unknown as NoneKnown, OutOfTurn as Refused, Done}
+use Rattle.dip_records.specs.Records.{Public, Own, Kept, Head, Reply, Running}
+use Rattle.dip_records.specs.declared.records.Outcome.TheVariants.{Unknown as NoneKnown, OutOfTurn as Refused, Done}
 use Rattle.dip_reports.specs.declared.refusals.Refusal.{Refusal}
 use Rattle.dip_reports.specs.declared.refusals.Refusal.TheVariants.{Malformed, Unknown, Stale, NumberUsed, TooLong, WrongSender, NameTaken}
 

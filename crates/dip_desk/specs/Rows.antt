@@ -1,7 +1,7 @@
 -- What the desk's records say, without where they lie in memory.
 use Rattle.std.specs.Prelude.{map, option_map, string_bytes}
 use Rattle.dip_desk.specs.State as s
-use Rattle.dip_reports.specs.Rows as texts
+use Rattle.dip_records.specs.Rows as rows
 use Rattle.dip_desk.specs.declared.keeper.Desk.{Desk}
 use Rattle.dip_desk.specs.declared.keeper.Author.{Author}
 use Rattle.dip_desk.specs.declared.keeper.Author.TheVariants.{Nobody, TheMaster, Seat}
@@ -11,7 +11,7 @@ use Rattle.dip_desk.specs.declared.keeper.Effect.TheVariants.{Nothing, Pending, 
 use Rattle.dip_desk.specs.declared.keeper.Change.{Change}
 
 abbrev pub desk : Desk → s.Desk
-desk d = record { digest = d.digest; kept = option_map texts.kept d.kept }
+desk d = record { digest = d.digest; kept = option_map rows.kept d.kept }
 
 abbrev pub author : Author → s.Author
 author Nobody = s.Nobody
@@ -23,8 +23,8 @@ new_seat n = record { power = n.power; digest = n.digest }
 
 abbrev pub effect : Effect → s.Effect
 effect Nothing = s.Nothing
-effect (Pending orders) = s.Pending (texts.standings orders.items)
-effect (Opens public paper seats) = s.Opens (texts.public public) (string_bytes paper) (map new_seat seats.items)
+effect (Pending orders) = s.Pending (rows.standings orders.items)
+effect (Opens public paper seats) = s.Opens (rows.public public) (string_bytes paper) (map new_seat seats.items)
 
 abbrev pub change : Change → s.Change
-change c = record { game = string_bytes c.game; author = author c.author; kept = texts.kept c.kept; effect = effect c.effect }
+change c = record { game = string_bytes c.game; author = author c.author; kept = rows.kept c.kept; effect = effect c.effect }

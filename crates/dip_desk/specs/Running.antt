@@ -2,7 +2,7 @@
 use Rattle.std.specs.Prelude.{◌≡◌, ℕ, List, Contains, Result, OnOk, IfOk, IfErr, take}
 use Rattle.std.specs.List.{AllByRecursion}
 use Rattle.dip_chart.specs.Charts.{Chart}
-use Rattle.dip_reports.specs.Records.{Reply}
+use Rattle.dip_records.specs.Records.{Reply}
 use Rattle.dip_desk.specs.Faults.{faults_after_run}
 use Rattle.dip_desk.specs.Keeping.{Book}
 use Rattle.dip_desk.specs.Lawful.{IsLawful}

@@ -2,7 +2,7 @@
 use Rattle.std.specs.Prelude.{ℕ, ◌+◌, ◌==◌, Bool, false, List, [], ◌∷◌, ◌++◌, Option, None, Some, option_map, option_and_then, map, bytes_eq, if◌then◌else◌}
 use Rattle.std.specs.List.{list_any}
 use Rattle.dip_desk.specs.Keyed.{at, change_at}
-use Rattle.dip_reports.specs.Records.{Public, Own, Kept, Standing}
+use Rattle.dip_records.specs.Records.{Public, Own, Kept, Standing}
 
 -- the master's row
 pub record Desk : Type 0 where

@@ -5,7 +5,7 @@ use Rattle.dip_desk.specs.Mail.{Mail}
 use Rattle.dip_chart.specs.Charts.{Chart}
 use Rattle.dip_desk.specs.State.{State, Game, Author, Nobody, TheMaster, Seat, Effect, Nothing, Pending, Votes, Delivers, Opens, Publishes, Seats, Item, NewSeat, Part, behind_paper, fresh, game_at, is_seat, seat_at, with_digest, with_item, with_letter}
 use Rattle.dip_desk.specs.Machine.{Decides, SeatName, Seen, Verdict, NotKnown, Again, OutOfTurn, Taken, after, author, kept_of, reply_of, seen, verdict_on}
-use Rattle.dip_reports.specs.Records.{Public, Own, Reply}
+use Rattle.dip_records.specs.Records.{Public, Own, Reply}
 
 -- one step of a history: the state before it, the letter, and what was decided. What it leaves follows
 pub record Turn : Type 0 where

@@ -4,9 +4,9 @@ ghost use Rattle.dip_letters.specs.Views.{seat_note, seats_in};
 ghost use Rattle.dip_desk.specs.Mail.{mail};
 ghost use Rattle.dip_desk.specs.State as s;
 ghost use Rattle.dip_desk.specs.Machine as m;
-ghost use Rattle.dip_desk.specs.Rows as rows;
+ghost use Rattle.dip_desk.specs.Rows as desk_rows;
 ghost use Rattle.dip_desk.specs.Verdicts.{verdict};
-ghost use Rattle.dip_reports.specs.Rows as texts;
+ghost use Rattle.dip_records.specs.Rows as rows;
 
 use crate::keeper::{Effect, NewSeat};
 use crate::looking::digest_of;
@@ -15,11 +15,12 @@ use dip_board::Board;
 use dip_letters::{Letter, Opening, Seat, Seats};
 use dip_map::Map;
 use dip_names::Power;
-use dip_reports::{Kept, Public, Refusal, Status, opening_paper_text};
+use dip_records::{Kept, Public, Status};
+use dip_reports::{Refusal, opening_paper_text};
 use std::alloc::{AllocError, Global};
 
 fn new_seat(map: &Map, game: &str, seat: &Seat<'_>) -> Option<NewSeat>
-    ensures { option_map rows.new_seat result ≡ m.new_seat map.now game.now (seat_note seat.now) }
+    ensures { option_map desk_rows.new_seat result ≡ m.new_seat map.now game.now (seat_note seat.now) }
 {
     let power = map.power(seat.power)?;
     Some(NewSeat {
@@ -36,7 +37,7 @@ fn new_seats(
     seats: Seats<'_>,
 ) -> Result<Option<Vec<NewSeat>>, AllocError>
     ensures { IfOk result
-        (λ found. option_map (λ v. each rows.new_seat v.items) found ≡ m.new_seats map.now game.now
+        (λ found. option_map (λ v. each desk_rows.new_seat v.items) found ≡ m.new_seats map.now game.now
         (seats_in seats.entry)) }
 {
     let mut found = Vec::new(alloc);
@@ -50,20 +51,20 @@ fn new_seats(
 }
 
 fn seats_of(seats: &[NewSeat], power: Power) -> usize
-    ensures { result ≡ count_by (λ s. s.power == power) (each rows.new_seat seats.now) }
+    ensures { result ≡ count_by (λ s. s.power == power) (each desk_rows.new_seat seats.now) }
 {
     seats.iter().filter(|seat| seat.power == power).count()
 }
 
 fn has_one_seat(seats: &[NewSeat], power: Power) -> bool
-    ensures { result ≡ (count_by (λ s. s.power == power) (each rows.new_seat seats.now) == 1) }
+    ensures { result ≡ (count_by (λ s. s.power == power) (each desk_rows.new_seat seats.now) == 1) }
 {
     seats_of(seats, power) == 1
 }
 
 /// Whether each power of the map has one seat.
 fn are_complete(map: &Map, seats: &[NewSeat]) -> bool
-    ensures { result ≡ m.are_complete map.now (each rows.new_seat seats.now) }
+    ensures { result ≡ m.are_complete map.now (each desk_rows.new_seat seats.now) }
 {
     map.facts();
     for index in 0..map.powers() {
@@ -82,7 +83,7 @@ fn opening_public(
     opening: &Opening<'_>,
 ) -> Result<Public, AllocError>
     ensures { IfOk result
-        (λ p. texts.public p ≡ m.opening_public map.now game.now opening.now.due opening.now.period
+        (λ p. rows.public p ≡ m.opening_public map.now game.now opening.now.due opening.now.period
         opening.now.grey) }
 {
     Ok(Public {
@@ -106,7 +107,7 @@ fn open_game(
 ) -> Result<Verdict, AllocError>
     ensures { IfOk result
         (λ v. (game : Option s.Game) → is_free ≡ is_none game
-        → verdict v ≡ m.open_game map.now (texts.public public) (each rows.new_seat seats.items)
+        → verdict v ≡ m.open_game map.now (rows.public public) (each desk_rows.new_seat seats.items)
         game) }
 {
     if !is_free {
@@ -158,7 +159,7 @@ pub fn create_verdict(
 ) -> Result<Verdict, AllocError>
     ensures { IfOk result
         (λ v. (known : Option s.Game) → is_free ≡ is_none known
-        → m.NumberedBy (m.old_number (mail letter.now) (option_map texts.kept kept.now))
+        → m.NumberedBy (m.old_number (mail letter.now) (option_map rows.kept kept.now))
         (λ w. w ≡ m.created map.now (m.opening_public map.now letter.now.game.now opening.now.due
         opening.now.period opening.now.grey)
         (m.new_seats map.now letter.now.game.now (seats_in opening.now.seats)) known) (verdict v)) }

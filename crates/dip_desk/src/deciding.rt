@@ -8,7 +8,7 @@ ghost use Rattle.dip_desk.specs.Machine as m;
 ghost use Rattle.dip_desk.specs.Ordering.{has_foreign, ordered};
 ghost use Rattle.dip_desk.specs.Sights as sights;
 ghost use Rattle.dip_desk.specs.Verdicts.{verdict};
-ghost use Rattle.dip_reports.specs.Rows as texts;
+ghost use Rattle.dip_records.specs.Rows as rows;
 
 use crate::creating::create_verdict;
 use crate::keeper::{Effect, KeepFault};
@@ -18,7 +18,8 @@ use crate::verdicts::{Verdict, old_number, refused};
 use dip_board::Board;
 use dip_letters::{Command, Letter, Lines};
 use dip_map::Map;
-use dip_reports::{Kept, Own, Public, Refusal, show_text};
+use dip_records::{Kept, Own, Public};
+use dip_reports::{Refusal, show_text};
 use std::alloc::{AllocError, Global};
 
 /// What ORDERS comes to.
@@ -31,11 +32,11 @@ fn orders_verdict(
 ) -> Result<Verdict, KeepFault>
     ensures value { IfOk result
         (λ v. verdict v ≡ m.orders_verdict map.now
-        (ordered map.now board.now own.now.power (texts.standings own.now.pending.items)
+        (ordered map.now board.now own.now.power (rows.standings own.now.pending.items)
         (lines_in lines.entry))) }
     ensures disk { faults_after result 0 ≡ 0 }
     ensures sane { IsErrOf result KeepFault.Damaged
-        → has_foreign map.now board.now own.now.power (texts.standings own.now.pending.items) ≡
+        → has_foreign map.now board.now own.now.power (rows.standings own.now.pending.items) ≡
         true }
 {
     let orders = standing_orders(alloc, map, board, own.power, own.pending.as_slice())?;
@@ -58,12 +59,12 @@ fn command_verdict(
     own: &Own,
 ) -> Result<Verdict, KeepFault>
     ensures value { IfOk result
-        (λ v. verdict v ≡ m.seat_command map.now (request command.now) (texts.public public.now)
-        (texts.own own.now)) }
+        (λ v. verdict v ≡ m.seat_command map.now (request command.now) (rows.public public.now)
+        (rows.own own.now)) }
     ensures disk { faults_after result 0 ≡ 0 }
     ensures sane { IsErrOf result KeepFault.Damaged
         → has_foreign map.now public.now.board own.now.power
-        (texts.standings own.now.pending.items) ≡ true }
+        (rows.standings own.now.pending.items) ≡ true }
 {
     match command {
         Command::Create(_) => Ok(refused(alloc, Refusal::WrongSender)?),
@@ -81,10 +82,10 @@ fn seat_verdict(
     own: &Own,
 ) -> Result<Verdict, KeepFault>
     ensures value { IfOk result (λ v. verdict v
-        ≡ m.seat_verdict map.now (mail letter.now) (texts.public public.now) (texts.own own.now)) }
+        ≡ m.seat_verdict map.now (mail letter.now) (rows.public public.now) (rows.own own.now)) }
     ensures disk { faults_after result 0 ≡ 0 }
     ensures sane { IsErrOf result KeepFault.Damaged
-        → m.IsForeignTo map.now (Some (texts.public public.now)) (Some (texts.own own.now)) }
+        → m.IsForeignTo map.now (Some (rows.public public.now)) (Some (rows.own own.now)) }
 {
     if let Some(old) = old_number(alloc, letter, &own.kept)? {
         return Ok(old);
@@ -102,7 +103,7 @@ fn not_for_master(
 ) -> Result<Verdict, AllocError>
     ensures { IfOk result
         (λ v. (game : Option s.Game) → is_known ≡ is_some game
-        → m.InGame map.now (mail letter.now) (option_map texts.kept kept.now)
+        → m.InGame map.now (mail letter.now) (option_map rows.kept kept.now)
         (request letter.now.command) game (verdict v)) }
 {
     if !is_known {
@@ -124,7 +125,7 @@ fn master_verdict(
 ) -> Result<Verdict, AllocError>
     ensures { IfOk result
         (λ v. (game : Option s.Game) → is_there ≡ is_some game
-        → m.MasterDecides map.now (mail letter.now) (option_map texts.kept kept.now)
+        → m.MasterDecides map.now (mail letter.now) (option_map rows.kept kept.now)
         (request letter.now.command) game (verdict v)) }
 {
     match &letter.command {

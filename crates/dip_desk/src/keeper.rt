@@ -3,12 +3,12 @@ ghost use Rattle.std.specs.Prelude.{◌≡◌, ◌<◌, length, option_map};
 ghost use Rattle.dip_chart.specs.Charts.{Chart};
 ghost use Rattle.dip_desk.specs.Keeping.{Book, Changes, Looks};
 ghost use Rattle.dip_desk.specs.State.{own_at, public_at, state_after};
-ghost use Rattle.dip_desk.specs.Rows as rows;
-ghost use Rattle.dip_reports.specs.Rows as texts;
+ghost use Rattle.dip_desk.specs.Rows as desk_rows;
+ghost use Rattle.dip_records.specs.Rows as rows;
 
 use dip_map::Map;
 use dip_names::Power;
-use dip_reports::{Kept, Own, Public, Standing};
+use dip_records::{Kept, Own, Public, Standing};
 use std::alloc::{AllocError, AllocFailed};
 
 /// The master's row.
@@ -105,13 +105,13 @@ pub trait Keeper {
     fn desk(&mut self) -> Result<Desk, KeepFault>
         requires { book.faults self.old < u64.MAX }
         ensures { (m : Chart) → Looks m book self.old self.new
-            (λ d. rows.desk d ≡ (book.content m self.old).desk) ⊥ result };
+            (λ d. desk_rows.desk d ≡ (book.content m self.old).desk) ⊥ result };
 
     /// The public part of a game; `None` where there is no such game.
     fn public(&mut self, map: &Map, game: &str) -> Result<Option<Public>, KeepFault>
         requires { book.faults self.old < u64.MAX }
         ensures { Looks map.now book self.old self.new
-            (λ p. option_map texts.public p ≡ public_at game.now (book.content map.now self.old)) ⊥
+            (λ p. option_map rows.public p ≡ public_at game.now (book.content map.now self.old)) ⊥
             result };
 
     /// A seat's own part, all but the items of its inbox; `None` where there is no such seat.
@@ -119,12 +119,12 @@ pub trait Keeper {
         requires room { book.faults self.old < u64.MAX }
         requires power { power < length map.now.realms }
         ensures { Looks map.now book self.old self.new
-            (λ o. option_map texts.own o ≡ own_at game.now power (book.content map.now self.old)) ⊥
+            (λ o. option_map rows.own o ≡ own_at game.now power (book.content map.now self.old)) ⊥
             result };
 
     /// Makes the change whole or not at all.
     fn apply(&mut self, map: &Map, change: &Change) -> Result<(), KeepFault>
         requires { book.faults self.old < u64.MAX }
-        ensures { Changes map.now book self.old self.new (state_after (rows.change change.now))
+        ensures { Changes map.now book self.old self.new (state_after (desk_rows.change change.now))
             (λ _. Unit {0}) result };
 }

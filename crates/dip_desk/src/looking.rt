@@ -3,7 +3,7 @@ ghost use Rattle.std.specs.Prelude.{◌≡◌, ◌<◌, bytes_eq};
 ghost use Rattle.dip_desk.specs.Keeping.{Looks};
 ghost use Rattle.dip_desk.specs.Machine.{author_of, digest, master_sight, power_sight, sight_of};
 ghost use Rattle.dip_desk.specs.Mail.{mail};
-ghost use Rattle.dip_desk.specs.Rows as rows;
+ghost use Rattle.dip_desk.specs.Rows as desk_rows;
 ghost use Rattle.dip_desk.specs.Sights as sights;
 ghost use Rattle.dip_chart.specs.Charts.{Chart};
 ghost use Rattle.std.specs.Prelude.{Some, length};
@@ -12,7 +12,7 @@ use crate::keeper::{Author, Desk, KeepFault, Keeper};
 use dip_letters::{Letter, digest};
 use dip_map::Map;
 use dip_names::Power;
-use dip_reports::{Kept, Own, Public};
+use dip_records::{Kept, Own, Public};
 
 /// What the author of a letter sees.
 #[derive(Drop)]
@@ -52,7 +52,7 @@ fn opens(letter: &Letter<'_>, game: &str, sender: &str, kept: &[u8; 32]) -> bool
 fn desk_of<K: Keeper>(keeper: &mut K, map: &Map) -> Result<Desk, KeepFault>
     requires { K.book.faults keeper.old < u64.MAX }
     ensures { Looks map.now K.book keeper.old keeper.new
-        (λ d. rows.desk d ≡ (K.book.content map.now keeper.old).desk) ⊥ result }
+        (λ d. desk_rows.desk d ≡ (K.book.content map.now keeper.old).desk) ⊥ result }
 {
     let _ = map;
     keeper.desk()
@@ -123,7 +123,7 @@ pub fn look<K: Keeper>(keeper: &mut K, map: &Map, letter: &Letter<'_>) -> Result
 
 /// Whose sight it is.
 pub fn author_of(sight: &Sight) -> Author
-    ensures { rows.author result ≡ author_of (sights.sight sight.now) }
+    ensures { desk_rows.author result ≡ author_of (sights.sight sight.now) }
 {
     match sight {
         Sight::Nobody => Author::Nobody,

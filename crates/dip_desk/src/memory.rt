@@ -2,14 +2,14 @@
 ghost use Rattle.std.specs.Prelude.{◌≡◌, ◌<◌, ℕ, List, [], ◌++◌, ◌==◌, IfOk, None, bytes_eq, map as each, option_and_then, option_map, string_bytes, vec_capacity, vec_len};
 ghost use Rattle.dip_desk.specs.Keyed.{at, change_at, place};
 ghost use Rattle.dip_desk.specs.State as s;
-ghost use Rattle.dip_desk.specs.Rows as rows;
-ghost use Rattle.dip_reports.specs.Rows as texts;
+ghost use Rattle.dip_desk.specs.Rows as desk_rows;
+ghost use Rattle.dip_records.specs.Rows as rows;
 ghost use Rattle.dip_desk.specs.Stored as stored;
 
 use crate::keeper::{Author, Change, Desk, Effect, KeepFault, Keeper, NewSeat};
 use dip_map::Map;
 use dip_names::Power;
-use dip_reports::{Kept, Own, Public, Standing, Status};
+use dip_records::{Kept, Own, Public, Standing, Status};
 use std::alloc::{AllocError, Global};
 
 /// A game as it lies in memory.
@@ -29,7 +29,7 @@ pub struct MemoryKeeper {
 }
 
 fn standing_copy(standing: &Standing) -> Result<Standing, AllocError>
-    ensures { IfOk result (λ s. texts.standing s ≡ texts.standing standing.now) }
+    ensures { IfOk result (λ s. rows.standing s ≡ rows.standing standing.now) }
 {
     Ok(Standing {
         prov: standing.prov,
@@ -38,7 +38,7 @@ fn standing_copy(standing: &Standing) -> Result<Standing, AllocError>
 }
 
 fn pending_copy(alloc: Global, pending: &[Standing]) -> Result<Vec<Standing>, AllocError>
-    ensures { IfOk result (λ v. texts.standings v.items ≡ texts.standings pending.now) }
+    ensures { IfOk result (λ v. rows.standings v.items ≡ rows.standings pending.now) }
 {
     let mut copy = Vec::with_capacity(alloc, pending.len())?;
     for standing in pending {
@@ -58,7 +58,7 @@ fn powers_copy(alloc: Global, powers: &[Power]) -> Result<Vec<Power>, AllocError
 }
 
 fn status_copy(alloc: Global, status: &Status) -> Result<Status, AllocError>
-    ensures { IfOk result (λ s. texts.status s ≡ texts.status status.now) }
+    ensures { IfOk result (λ s. rows.status s ≡ rows.status status.now) }
 {
     match status {
         Status::Running => Ok(Status::Running),
@@ -71,7 +71,7 @@ fn status_copy(alloc: Global, status: &Status) -> Result<Status, AllocError>
 }
 
 fn public_copy(alloc: Global, public: &Public) -> Result<Public, AllocError>
-    ensures { IfOk result (λ p. texts.public p ≡ texts.public public.now) }
+    ensures { IfOk result (λ p. rows.public p ≡ rows.public public.now) }
 {
     Ok(Public {
         game: public.game.clone()?,
@@ -85,7 +85,7 @@ fn public_copy(alloc: Global, public: &Public) -> Result<Public, AllocError>
 }
 
 fn kept_copy(kept: &Kept) -> Result<Kept, AllocError>
-    ensures { IfOk result (λ k. texts.kept k ≡ texts.kept kept.now) }
+    ensures { IfOk result (λ k. rows.kept k ≡ rows.kept kept.now) }
 {
     Ok(Kept {
         number: kept.number,
@@ -95,7 +95,7 @@ fn kept_copy(kept: &Kept) -> Result<Kept, AllocError>
 }
 
 fn last_copy(kept: &Option<Kept>) -> Result<Option<Kept>, AllocError>
-    ensures { IfOk result (λ k. option_map texts.kept k ≡ option_map texts.kept kept.now) }
+    ensures { IfOk result (λ k. option_map rows.kept k ≡ option_map rows.kept kept.now) }
 {
     match kept {
         None => Ok(None),
@@ -104,7 +104,7 @@ fn last_copy(kept: &Option<Kept>) -> Result<Option<Kept>, AllocError>
 }
 
 fn own_copy(alloc: Global, own: &Own) -> Result<Own, AllocError>
-    ensures { IfOk result (λ o. texts.own o ≡ texts.own own.now) }
+    ensures { IfOk result (λ o. rows.own o ≡ rows.own own.now) }
 {
     Ok(Own {
         power: own.power,
@@ -132,7 +132,7 @@ fn find_game<'a>(games: &'a [GameRow], name: &str) -> Option<&'a GameRow>
 
 /// The seat of that power.
 fn find_seat<'a>(seats: &'a [Own], power: Power) -> Option<&'a Own>
-    ensures { option_map (λ o. texts.own o.now) result ≡ s.own_of (s.seat_at power
+    ensures { option_map (λ o. rows.own o.now) result ≡ s.own_of (s.seat_at power
         (each (λ o. stored.part o) seats.entry.now)) }
 {
     for seat in seats {
@@ -145,7 +145,7 @@ fn find_seat<'a>(seats: &'a [Own], power: Power) -> Option<&'a Own>
 
 /// The seat of that power in the game of that name.
 fn find_own<'a>(games: &'a [GameRow], name: &str, power: Power) -> Option<&'a Own>
-    ensures { option_map (λ o. texts.own o.now) result ≡ option_and_then
+    ensures { option_map (λ o. rows.own o.now) result ≡ option_and_then
         (λ g. s.own_of (s.seat_at power g.seats))
         (at bytes_eq s.name_of name.now (each (λ g. stored.game g) games.entry.now)) }
 {
@@ -180,9 +180,9 @@ fn seat_place(seats: &[Own], power: Power) -> usize
 
 /// What a letter of its own changes in a seat: it is kept, and its orders stand where it has any.
 fn record_own(own: &mut Own, kept: Kept, effect: &Effect, pending: Option<Vec<Standing>>)
-    requires { option_map (λ l. texts.standings l.items) pending ≡ stored.orders_in
-        (rows.effect effect.now) }
-    ensures { stored.part own.new ≡ s.with_letter (texts.kept kept) (rows.effect effect.now)
+    requires { option_map (λ l. rows.standings l.items) pending ≡ stored.orders_in
+        (desk_rows.effect effect.now) }
+    ensures { stored.part own.new ≡ s.with_letter (rows.kept kept) (desk_rows.effect effect.now)
         (stored.part own.old) }
 {
     own.kept = Some(kept);
@@ -198,10 +198,10 @@ fn record_seat(
     effect: &Effect,
     pending: Option<Vec<Standing>>,
 )
-    requires { option_map (λ l. texts.standings l.items) pending ≡ stored.orders_in
-        (rows.effect effect.now) }
+    requires { option_map (λ l. rows.standings l.items) pending ≡ stored.orders_in
+        (desk_rows.effect effect.now) }
     ensures { each (λ o. stored.part o) seats.new.items ≡ change_at (λ a b. a == b) s.power_in power
-        (s.with_letter (texts.kept kept) (rows.effect effect.now))
+        (s.with_letter (rows.kept kept) (desk_rows.effect effect.now))
         (each (λ o. stored.part o) seats.old.items) }
 {
     let place = seat_place(seats.as_slice(), power);
@@ -218,13 +218,13 @@ fn record_game(
     effect: &Effect,
     pending: Option<Vec<Standing>>,
 )
-    requires { option_map (λ l. texts.standings l.items) pending ≡ stored.orders_in
-        (rows.effect effect.now) }
+    requires { option_map (λ l. rows.standings l.items) pending ≡ stored.orders_in
+        (desk_rows.effect effect.now) }
     ensures { (name : List ℕ) → stored.game game.new ≡ s.game_after (record {
       game = name;
-      author = rows.author author;
-      kept = texts.kept kept;
-      effect = rows.effect effect.now;
+      author = desk_rows.author author;
+      kept = rows.kept kept;
+      effect = desk_rows.effect effect.now;
     }) (stored.game game.old) }
 {
     if let Author::Seat(power) = author {
@@ -241,14 +241,14 @@ fn record_games(
     effect: &Effect,
     pending: Option<Vec<Standing>>,
 )
-    requires { option_map (λ l. texts.standings l.items) pending ≡ stored.orders_in
-        (rows.effect effect.now) }
+    requires { option_map (λ l. rows.standings l.items) pending ≡ stored.orders_in
+        (desk_rows.effect effect.now) }
     ensures content { each (λ g. stored.game g) games.new.items ≡ change_at bytes_eq s.name_of
         name.now (s.game_after (record {
           game = name.now;
-          author = rows.author author;
-          kept = texts.kept kept;
-          effect = rows.effect effect.now;
+          author = desk_rows.author author;
+          kept = rows.kept kept;
+          effect = desk_rows.effect effect.now;
         })) (each (λ g. stored.game g) games.old.items) }
     ensures len { vec_len games.new ≡ vec_len games.old }
     ensures room { vec_capacity games.new ≡ vec_capacity games.old }
@@ -260,7 +260,7 @@ fn record_games(
 }
 
 fn fresh(alloc: Global, seat: &NewSeat) -> Own
-    ensures { stored.part result ≡ s.fresh (rows.new_seat seat.now) }
+    ensures { stored.part result ≡ s.fresh (desk_rows.new_seat seat.now) }
 {
     Own {
         power: seat.power,
@@ -276,7 +276,7 @@ fn fresh(alloc: Global, seat: &NewSeat) -> Own
 fn fresh_seats(alloc: Global, seats: &[NewSeat]) -> Result<Vec<Own>, AllocError>
     ensures { IfOk result
         (λ v. each (λ o. stored.part o) v.items ≡ each s.fresh
-        (each (λ n. rows.new_seat n) seats.now)) }
+        (each (λ n. desk_rows.new_seat n) seats.now)) }
 {
     let mut owns = Vec::with_capacity(alloc, seats.len())?;
     for seat in seats {
@@ -293,8 +293,8 @@ fn new_game(
     seats: &[NewSeat],
 ) -> Result<GameRow, AllocError>
     ensures { IfOk result
-        (λ g. stored.game g ≡ s.opening_game (texts.public public.now) (string_bytes paper.now)
-        (each (λ n. rows.new_seat n) seats.now)) }
+        (λ g. stored.game g ≡ s.opening_game (rows.public public.now) (string_bytes paper.now)
+        (each (λ n. desk_rows.new_seat n) seats.now)) }
 {
     let mut papers = Vec::new(alloc);
     papers.push(paper.clone()?)?;
@@ -308,8 +308,8 @@ fn new_game(
 /// The standing orders that an effect gives its author, where it gives any.
 fn pending_in(alloc: Global, effect: &Effect) -> Result<Option<Vec<Standing>>, AllocError>
     ensures { IfOk result
-        (λ o. option_map (λ l. texts.standings l.items) o ≡ stored.orders_in
-        (rows.effect effect.now)) }
+        (λ o. option_map (λ l. rows.standings l.items) o ≡ stored.orders_in
+        (desk_rows.effect effect.now)) }
 {
     match effect {
         Effect::Nothing | Effect::Opens { .. } => Ok(None),
@@ -319,7 +319,7 @@ fn pending_in(alloc: Global, effect: &Effect) -> Result<Option<Vec<Standing>>, A
 
 /// The game that an effect opens, where it opens one.
 fn opened_by(alloc: Global, effect: &Effect) -> Result<Option<GameRow>, AllocError>
-    ensures { IfOk result (λ o. stored.listed o ≡ s.new_games (rows.effect effect.now)) }
+    ensures { IfOk result (λ o. stored.listed o ≡ s.new_games (desk_rows.effect effect.now)) }
 {
     match effect {
         Effect::Opens {
@@ -333,7 +333,7 @@ fn opened_by(alloc: Global, effect: &Effect) -> Result<Option<GameRow>, AllocErr
 
 /// The master's last letter, where it is the master's.
 fn last_of(change: &Change) -> Result<Option<Kept>, AllocError>
-    ensures { IfOk result (λ k. option_map texts.kept k ≡ stored.last_of (rows.change change.now)) }
+    ensures { IfOk result (λ k. option_map rows.kept k ≡ stored.last_of (desk_rows.change change.now)) }
 {
     match change.author {
         Author::TheMaster => Ok(Some(kept_copy(&change.kept)?)),
@@ -354,8 +354,8 @@ fn put_game(games: &mut Vec<GameRow>, game: Option<GameRow>)
 
 /// The master's row behind a letter.
 fn record_desk(desk: &mut Desk, last: Option<Kept>)
-    ensures { rows.desk desk.new ≡ stored.desk_with (option_map texts.kept last)
-        (rows.desk desk.old) }
+    ensures { desk_rows.desk desk.new ≡ stored.desk_with (option_map rows.kept last)
+        (desk_rows.desk desk.old) }
 {
     if last.is_some() {
         desk.kept = last;

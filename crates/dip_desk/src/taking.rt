@@ -3,10 +3,10 @@ ghost use Rattle.std.specs.Prelude.{◌≡◌, ◌<◌, IfOk, None, Some, map as
 ghost use Rattle.dip_desk.specs.Keeping.{Steps};
 ghost use Rattle.dip_desk.specs.Mail.{mail};
 ghost use Rattle.dip_desk.specs.Machine as m;
-ghost use Rattle.dip_desk.specs.Rows as rows;
+ghost use Rattle.dip_desk.specs.Rows as desk_rows;
 ghost use Rattle.dip_desk.specs.Running.{Runs};
 ghost use Rattle.dip_desk.specs.Verdicts.{verdict};
-ghost use Rattle.dip_reports.specs.Rows as texts;
+ghost use Rattle.dip_records.specs.Rows as rows;
 
 use crate::deciding::verdict_on;
 use crate::keeper::{Author, Change, Effect, KeepFault, Keeper};
@@ -15,12 +15,13 @@ use crate::looking::{author_of, look};
 use crate::verdicts::{Verdict, refusal_line};
 use dip_letters::{Letter, LetterFault, sum};
 use dip_map::Map;
-use dip_reports::{Head, Kept, Outcome, Refusal, Reply};
+use dip_records::{Head, Kept, Outcome, Reply};
+use dip_reports::Refusal;
 use std::alloc::{AllocError, Global};
 
 /// Whose letter the reply answers.
 fn head_of(alloc: Global, letter: &Letter<'_>) -> Result<Head, AllocError>
-    ensures { IfOk result (λ h. texts.head h ≡ m.head_of (mail letter.now)) }
+    ensures { IfOk result (λ h. rows.head h ≡ m.head_of (mail letter.now)) }
 {
     Ok(Head {
         game: String::from_str(alloc, letter.game)?,
@@ -32,7 +33,7 @@ fn head_of(alloc: Global, letter: &Letter<'_>) -> Result<Head, AllocError>
 /// The reply to a letter whose game, sender or secret isn't known.
 fn not_known(alloc: Global) -> Result<Reply, AllocError>
     ensures { IfOk result
-        (λ r. texts.reply r ≡ record
+        (λ r. rows.reply r ≡ record
         { outcome = Outcome.Unknown; head = None; text = m.refusal_line Refusal.Unknown }) }
 {
     Ok(Reply {
@@ -50,7 +51,7 @@ fn told(
     text: String,
 ) -> Result<Reply, AllocError>
     ensures { IfOk result
-        (λ r. texts.reply r ≡ record {
+        (λ r. rows.reply r ≡ record {
           outcome = outcome;
           head = Some (m.head_of (mail letter.now));
           text = string_bytes text;
@@ -72,12 +73,12 @@ fn change_of(
     effect: Effect,
 ) -> Result<Change, AllocError>
     ensures { IfOk result
-        (λ c. rows.change c ≡ record {
+        (λ c. desk_rows.change c ≡ record {
           game = letter.now.game.now;
-          author = rows.author author;
+          author = desk_rows.author author;
           kept = m.kept_of
               (mail letter.now) (string_bytes text);
-          effect = rows.effect effect;
+          effect = desk_rows.effect effect;
         }) }
 {
     Ok(Change {
@@ -102,8 +103,8 @@ fn settle<K: Keeper>(
     decided: Verdict,
 ) -> Result<Reply, KeepFault>
     requires { K.book.faults keeper.old < u64.MAX }
-    ensures { Steps map.now K.book keeper.old keeper.new (λ r. texts.reply r)
-        (m.Settles (mail letter.now) (rows.author author) (verdict decided)) (λ _. ⊥) result }
+    ensures { Steps map.now K.book keeper.old keeper.new (λ r. rows.reply r)
+        (m.Settles (mail letter.now) (desk_rows.author author) (verdict decided)) (λ _. ⊥) result }
 {
     match decided {
         Verdict::NotKnown => Ok(not_known(alloc)?),
@@ -130,7 +131,7 @@ pub fn take<K: Keeper>(
     letter: &Letter<'_>,
 ) -> Result<Reply, KeepFault>
     requires { K.book.faults keeper.old < u64.MAX }
-    ensures { Steps map.now K.book keeper.old keeper.new (λ r. texts.reply r)
+    ensures { Steps map.now K.book keeper.old keeper.new (λ r. rows.reply r)
         (λ old r new. m.Step map.now old (mail letter.now) r new)
         (m.IsDamagedBy map.now (mail letter.now)) result }
 {
@@ -151,7 +152,7 @@ pub fn run<K: Keeper>(
 ) -> Result<Vec<Reply>, (Vec<Reply>, KeepFault)>
     requires { K.book.faults keeper.old < u64.MAX }
     ensures { Runs map.now K.book keeper.old keeper.new (each (λ l. mail l) letters.now)
-        (λ replies. each (λ r. texts.reply r) replies.items) result }
+        (λ replies. each (λ r. rows.reply r) replies.items) result }
 {
     lawful_states_stay_lawful(map);
     let mut replies = match Vec::with_capacity(alloc, letters.len()) {
@@ -169,7 +170,7 @@ pub fn run<K: Keeper>(
 
 /// The reply to bytes that are no letter.
 pub fn fault_reply(alloc: Global, fault: LetterFault) -> Result<Reply, AllocError>
-    ensures { IfOk result (λ r. texts.reply r ≡ m.fault_reply fault) }
+    ensures { IfOk result (λ r. rows.reply r ≡ m.fault_reply fault) }
 {
     let refusal = match fault {
         LetterFault::Malformed => Refusal::Malformed,

@@ -3,11 +3,12 @@ ghost use Rattle.std.specs.Prelude.{◌≡◌, IfOk, option_map, string_bytes};
 ghost use Rattle.dip_desk.specs.Mail.{mail};
 ghost use Rattle.dip_desk.specs.Machine as m;
 ghost use Rattle.dip_desk.specs.Verdicts.{verdict};
-ghost use Rattle.dip_reports.specs.Rows as texts;
+ghost use Rattle.dip_records.specs.Rows as rows;
 
 use crate::keeper::Effect;
 use dip_letters::{Letter, sum};
-use dip_reports::{Kept, Refusal};
+use dip_records::Kept;
+use dip_reports::Refusal;
 use std::alloc::{AllocError, Global};
 
 /// What is decided of a letter.
@@ -39,7 +40,7 @@ pub fn refused(alloc: Global, refusal: Refusal) -> Result<Verdict, AllocError>
 
 /// What a letter with its author's last number gets: where it is the same letter, the same reply.
 fn repeated(alloc: Global, letter: &Letter<'_>, kept: &Kept) -> Result<Verdict, AllocError>
-    ensures { IfOk result (λ v. verdict v ≡ m.repeated (mail letter.now) (texts.kept kept.now)) }
+    ensures { IfOk result (λ v. verdict v ≡ m.repeated (mail letter.now) (rows.kept kept.now)) }
 {
     let told = sum(letter.bytes);
     if told.as_slice() == kept.sum.as_slice() {
@@ -58,7 +59,7 @@ pub fn old_number(
 ) -> Result<Option<Verdict>, AllocError>
     ensures { IfOk result
         (λ o. option_map verdict o ≡ m.old_number (mail letter.now)
-        (option_map texts.kept kept.now)) }
+        (option_map rows.kept kept.now)) }
 {
     let Some(kept) = kept else {
         return Ok(None);

@@ -7,7 +7,7 @@ use Rattle.std.specs.Fmt.{decimal}
 use Rattle.std.specs.List.{flat_map}
 use Rattle.std.specs.Io.KnownBytes.{Appends}
 use Rattle.dip_reports.specs.Texts.{reply_text}
-use Rattle.dip_reports.specs.declared.records.Outcome.{Outcome}
+use Rattle.dip_records.specs.declared.records.Outcome.{Outcome}
 use Rattle.std.proofs.KnownBytes.{Appends-trans}
 
 -- one write more

@@ -15,7 +15,7 @@ use Rattle.dip_desk.specs.State.{State}
 use Rattle.dip_desk.specs.View.{IsHistory, Turn}
 use Rattle.dip_desk.proofs.Runs.{history_more, settled}
 use Rattle.dip_reports.specs.Texts.{reply_text}
-use Rattle.dip_reports.specs.Records.{Reply}
+use Rattle.dip_records.specs.Records.{Reply}
 use Rattle.dip_judge.specs.RunFaults.{IsTakingFault}
 use Rattle.dip_judge.specs.Runs.{AnswersFront, AreReplies, Finds, IsAnswered, IsTurn, IsWritten, Stops, behind, letters_in}
 use Rattle.dip_judge.specs.declared.run.RunFault.{RunFault}

@@ -11,7 +11,7 @@ use Rattle.dip_desk.specs.Machine.{Step, fault_reply}
 use Rattle.dip_chart.specs.Charts.{Chart}
 use Rattle.dip_desk.specs.State.{State}
 use Rattle.dip_reports.specs.Texts.{reply_text}
-use Rattle.dip_reports.specs.Records.{Reply}
+use Rattle.dip_records.specs.Records.{Reply}
 use Rattle.dip_judge.specs.Reading.{IsReadWithin}
 use Rattle.dip_judge.specs.declared.run.RunFault.{RunFault}
 use Rattle.dip_judge.specs.declared.run.RunFault.TheVariants.{Write}

@@ -5,7 +5,7 @@ ghost use Rattle.std.specs.Io.KnownBytes.{Appends};
 ghost use Rattle.dip_letters.specs.Input.{IsNext};
 ghost use Rattle.dip_desk.specs.Lawful.{IsLawful};
 ghost use Rattle.dip_reports.specs.Texts.{reply_text};
-ghost use Rattle.dip_reports.specs.Rows as rows;
+ghost use Rattle.dip_records.specs.Rows as rows;
 ghost use Rattle.dip_judge.specs.Runs.{AnswersAll, IsReadToEnd, IsReadWhole, IsTurn, IsUntouched, Stops};
 ghost use Rattle.dip_judge.specs.RunFaults.{IsAnsweringFault, IsReadingFault, IsTakingFault, StopsBy, faults_after_run};
 
@@ -13,7 +13,8 @@ use crate::reading::{ReadFault, read_whole};
 use dip_desk::{KeepFault, Keeper, fault_reply, lawful_states_stay_lawful, take};
 use dip_letters::{Next, next_letter};
 use dip_map::Map;
-use dip_reports::{Reply, reply_text};
+use dip_records::Reply;
+use dip_reports::reply_text;
 use itoa::Buffer;
 use std::alloc::Global;
 use std::io::{Read, Write};

@@ -7,7 +7,7 @@ use Rattle.dip_board.specs.declared.boards.Season.{Season}
 use Rattle.dip_board.specs.declared.boards.Season.TheVariants.{SpringMoves, SpringRetreats, FallMoves, FallRetreats, Winter}
 use Rattle.dip_reports.specs.declared.refusals.Refusal.{Refusal}
 use Rattle.dip_reports.specs.declared.refusals.Refusal.TheVariants.{Malformed, Unknown, Stale, NumberUsed, TooLong, WrongSender, NameTaken}
-use Rattle.dip_reports.specs.Records.{Public, Own, Head, Reply, Standing, Status, Running, Paused, Closed, Ended, Won, Drawn}
+use Rattle.dip_records.specs.Records.{Public, Own, Head, Reply, Standing, Status, Running, Paused, Closed, Ended, Won, Drawn}
 use Rattle.dip_chart.specs.Charts.{Chart, province, realm}
 use Rattle.dip_orders.specs.Texts.{unit_text}
 use Rattle.dip_names.specs.declared.names.Unit.{Unit}

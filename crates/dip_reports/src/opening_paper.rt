@@ -1,11 +1,11 @@
 //! The opening paper.
 ghost use Rattle.std.specs.Prelude.{◌≡◌, IfOk, string_bytes};
 ghost use Rattle.dip_reports.specs.Texts.{opening_paper};
-ghost use Rattle.dip_reports.specs.Rows as rows;
+ghost use Rattle.dip_records.specs.Rows as rows;
 
 use crate::board_lines::push_board_lines;
 use crate::game_line::push_game_line;
-use crate::records::Public;
+use dip_records::Public;
 use dip_map::Map;
 use std::alloc::{AllocError, Global};
 

@@ -7,7 +7,7 @@ use Rattle.dip_desk.specs.Mail.{IsMail, mail}
 use Rattle.dip_desk.specs.Running.{Answers}
 use Rattle.dip_desk.specs.State.{State}
 use Rattle.dip_desk.specs.declared.keeper.KeepFault.{KeepFault}
-use Rattle.dip_reports.specs.Rows as texts
+use Rattle.dip_records.specs.Rows as rows
 use Rattle.dip_desk.proofs.Keepings.{keeps_as, keeps_then}
 use Rattle.dip_desk.proofs.Runs.{contains_said, history_more, map_more, said_each, settled, taken_more}
 use Rattle.dip_desk.proofs.taking.run.Goals as goal
@@ -17,13 +17,13 @@ loop-letter-preserved g c =
     let b = g.K.Keeper.book in
     let m = c.args.map.now in
     let took = c.in-Ok-take.ensures in
-    let replies : map (λ r. texts.reply r) c.push_reserved.new.self.items ≡ map (λ r. texts.reply r) c.loop-letter.replies.items ++ texts.reply c.in-Ok-take.reply ∷ [] =
-    ap (λ rs. map (λ r. texts.reply r) rs) c.push_reserved.ensures.items ∙ map_more (λ r. texts.reply r) c.loop-letter.replies.items c.in-Ok-take.reply in
+    let replies : map (λ r. rows.reply r) c.push_reserved.new.self.items ≡ map (λ r. rows.reply r) c.loop-letter.replies.items ++ rows.reply c.in-Ok-take.reply ∷ [] =
+    ap (λ rs. map (λ r. rows.reply r) rs) c.push_reserved.ensures.items ∙ map_more (λ r. rows.reply r) c.loop-letter.replies.items c.in-Ok-take.reply in
     record {
       keeps = keeps_then m b _ _ _ tt _ c.loop-letter.invariant.keeps (keeps_as m b _ _ c.in-Ok-take.reply tt took.keeps);
       steps = λ sound shows.
           let before = took.keeps.shown shows in
-          let more = history_more m (b.content m c.args.keeper.now) (b.content m c.loop-letter.keeper) (b.content m c.take.new.keeper) _ _ _ (texts.reply c.in-Ok-take.reply) (c.loop-letter.invariant.steps sound before) (took.done (c.loop-letter.invariant.keeps.sound sound before) shows) in
+          let more = history_more m (b.content m c.args.keeper.now) (b.content m c.loop-letter.keeper) (b.content m c.take.new.keeper) _ _ _ (rows.reply c.in-Ok-take.reply) (c.loop-letter.invariant.steps sound before) (took.done (c.loop-letter.invariant.keeps.sound sound before) shows) in
           (more.0, record { run = more.1.run; asked = more.1.asked ∙ sym (taken_more (λ x. mail x) c.args.letters.now c.loop-letter.letter-index _ (omega arith)); answered = more.1.answered ∙ sym replies });
       lawful = λ sound shows letters lawful.
           let before = took.keeps.shown shows in
@@ -37,7 +37,7 @@ pub returns-in-Err : goal.returns-in-Err
 returns-in-Err g c =
     let b = g.K.Keeper.book in
     let m = c.args.map.now in
-    let none : map (λ r. texts.reply r) c.new.result.items ≡ [] = ap (λ rs. map (λ r. texts.reply r) rs) c.new.ensures.items in
+    let none : map (λ r. rows.reply r) c.new.result.items ≡ [] = ap (λ rs. map (λ r. rows.reply r) rs) c.new.ensures.items in
     record {
       done = λ sound shows. tt;
       undone = λ sound shows. (0, ([], record { run = refl; asked = refl; answered = sym none }, settled m (b.content m c.args.keeper.now) (b.content m c.args.keeper.now) [] refl));
@@ -61,7 +61,7 @@ returns-in-Err-take g c =
           let before = took.keeps.shown shows in
           let steps = c.loop-letter.invariant.steps sound before in
           let same = took.undone (kept.sound sound before) shows in
-          subst (λ (s : State). (k : ℕ) × Answers m (b.content m c.args.keeper.now) (take k (map (λ l. mail l) c.args.letters.now)) (map (λ r. texts.reply r) c.loop-letter.replies.items) s) (sym same) (
+          subst (λ (s : State). (k : ℕ) × Answers m (b.content m c.args.keeper.now) (take k (map (λ l. mail l) c.args.letters.now)) (map (λ r. rows.reply r) c.loop-letter.replies.items) s) (sym same) (
             c.loop-letter.letter-index,
             (
               steps.0,

@@ -1,5 +1,5 @@
 use Rattle.std.proofs.Common.{rules, refl, ◌++◌, ◌∷◌, [], ◌∙◌}
-use Rattle.dip_reports.specs.Rows as rows
+use Rattle.dip_records.specs.Rows as rows
 use Rattle.std.proofs.lemmas.Result.{err_from_is_err_and}
 use Rattle.dip_judge.proofs.TurnLemmas.{front_more, front_of, stops_before, stops_in_write, written_more}
 use Rattle.dip_judge.proofs.run.answer_all.Goals as goal

@@ -3,7 +3,7 @@ use Rattle.std.specs.List.{flat_map}
 use Rattle.std.specs.Io.KnownBytes.{Appends}
 use Rattle.dip_desk.specs.Lawful.{IsLawful}
 use Rattle.dip_reports.specs.Texts.{reply_text}
-use Rattle.dip_reports.specs.Records.{Reply}
+use Rattle.dip_records.specs.Records.{Reply}
 use Rattle.dip_judge.specs.Runs.{AnswersFront}
 use Rattle.dip_judge.proofs.run.answer_all.Given as goal
 

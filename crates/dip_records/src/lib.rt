@@ -1,0 +1,6 @@
+//! The records of a game that a desk keeps and answers.
+#![tactic(auto)]
+
+mod records;
+
+pub use records::{Head, Kept, Outcome, Own, Public, Reply, Standing, Status};

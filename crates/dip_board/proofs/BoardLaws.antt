@@ -1,23 +1,17 @@
 -- The board of the opening is one of its map.
-use Rattle.std.proofs.Common.{◌≡◌, ℕ, ◌+◌, ◌<◌, length, drop, List, [], ◌∷◌, ◌++◌, Option, Some, None, append_assoc, ◌∙◌, true, zero, suc, get_or, arith, cond, nat_lt, inl, inr, refl, ◌==◌, Bool, not, map, ap, ◌&&◌, ◌||◌, ◌-◌, take, sym, is_some}
-use Rattle.std.proofs.lemmas.List.{drop_more, take_rest}
+use Rattle.std.proofs.Common.{◌≡◌, ℕ, ◌+◌, ◌<◌, length, drop, List, [], ◌∷◌, Option, Some, None, ◌∙◌, true, zero, suc, get_or, arith, cond, nat_lt, inl, inr, refl, ◌==◌, Bool, not, map, ap, ◌&&◌, ◌||◌, ◌-◌, take, sym, is_some}
+use Rattle.std.proofs.lemmas.List.{drop_more, take_rest, length-map}
+use Rattle.std.proofs.lemmas.List.FromFn.{length-range_with_len}
 use Rattle.std.proofs.lemmas.Bool.{cases_Bool, cases_lt, false≢true, le-ltb}
 use Rattle.std.proofs.lemmas.List.Sums.{passes_at_first}
-use Rattle.std.specs.List.{list_any, position_or_len}
+use Rattle.std.specs.List.{list_any, position_or_len, range_with_len}
 use Rattle.dip_board.specs.declared.boards.Dislodged.{Dislodged}
 use Rattle.dip_names.specs.declared.names.Unit.{Unit as AUnit}
-use Rattle.dip_chart.specs.Charts.{Chart, Province, Realm, IsMap, no_province, no_realm, is_centre, are_units_single}
-use Rattle.dip_board.specs.Boards.{IsOf, is_some_power, owner_at, owners_from, opening}
+use Rattle.dip_chart.specs.Charts.{Chart, Realm, IsMap, provs, no_realm, is_centre, are_units_single}
+use Rattle.dip_board.specs.Boards.{IsOf, is_some_power, owner_at, opening}
 
-pub owners_step : (m : Chart) (front all : List (Option ℕ)) (i : ℕ) → i < length m.provinces → front ++ owners_from m i (drop i m.provinces) ≡ all
-    → (front ++ owner_at m i ∷ []) ++ owners_from m (i + 1) (drop (i + 1) m.provinces) ≡ all
-owners_step m front all i h before =
-    let cut = drop_more m.provinces i no_province h in
-    append_assoc front (owner_at m i ∷ []) (owners_from m (i + 1) (drop (i + 1) m.provinces)) ∙ rw cut at before
-
-owners_count : (m : Chart) (i : ℕ) (ps : List Province) → length (owners_from m i ps) ≡ length ps
-owners_count m i [] = omega arith
-owners_count m i (p ∷ ps) = omega (arith, owners_count m (i + 1) ps)
+owners_count : (m : Chart) → length (map (owner_at m) (provs m)) ≡ length m.provinces
+owners_count m = length-map (provs m) (owner_at m) ∙ length-range_with_len 0 (length m.provinces)
 
 -- a unit's test over what was dislodged
 left_by : (f : AUnit → Bool) (ds : List Dislodged) → list_any f (map (λ d. d.unit) ds) ≡ list_any (λ d. f d.unit) ds
@@ -43,10 +37,10 @@ below_bound m n =
 owner_within : (m : Chart) (p : ℕ) → is_some_power m (owner_at m p) ≡ true
 owner_within m p = below_bound m (position_or_len (λ r. list_any (λ x. x == p) r.home) m.realms)
 
-owners_within : (m : Chart) (i : ℕ) (ps : List Province) (k : ℕ) (d : Option ℕ) → k < length (owners_from m i ps) → is_some_power m (get_or (owners_from m i ps) k d) ≡ true
-owners_within m i [] k d h = absurd (omega arith)
-owners_within m i (p ∷ ps) zero d h = owner_within m i
-owners_within m i (p ∷ ps) (suc k) d h = let low : k < length (owners_from m (i + 1) ps) = omega arith in owners_within m (i + 1) ps k d low
+owners_within : (m : Chart) (ps : List ℕ) (k : ℕ) (d : Option ℕ) → k < length (map (owner_at m) ps) → is_some_power m (get_or (map (owner_at m) ps) k d) ≡ true
+owners_within m [] k d h = absurd (omega arith)
+owners_within m (p ∷ ps) zero d h = owner_within m p
+owners_within m (p ∷ ps) (suc k) d h = let low : k < length (map (owner_at m) ps) = omega arith in owners_within m ps k d low
 
 -- who owns a province at the opening has it as a home, which is a centre
 owned_home : (m : Chart) → IsMap m → (p : ℕ) → is_some (owner_at m p) ≡ true → is_centre m p ≡ true
@@ -57,10 +51,10 @@ owned_home m ok p h =
       | inr past ↦ absurd (false≢true (rw (le-ltb _ _ past) at h))
     ]
 
-owned_home_at : (m : Chart) → IsMap m → (i : ℕ) (ps : List Province) (k : ℕ) → is_some (get_or (owners_from m i ps) k None) ≡ true → is_centre m (i + k) ≡ true
-owned_home_at m ok i [] k h = absurd (false≢true h)
-owned_home_at m ok i (p ∷ ps) zero h = let e : i + 0 ≡ i = omega arith in rw e (owned_home m ok i h)
-owned_home_at m ok i (p ∷ ps) (suc k) h = let e : i + suc k ≡ (i + 1) + k = omega arith in rw e (owned_home_at m ok (i + 1) ps k h)
+owned_home_at : (m : Chart) → IsMap m → (i n : ℕ) (k : ℕ) → is_some (get_or (map (owner_at m) (range_with_len i n)) k None) ≡ true → is_centre m (i + k) ≡ true
+owned_home_at m ok i zero k h = absurd (false≢true h)
+owned_home_at m ok i (suc n) zero h = let e : i + 0 ≡ i = omega arith in rw e (owned_home m ok i h)
+owned_home_at m ok i (suc n) (suc k) h = let e : i + suc k ≡ (i + 1) + k = omega arith in rw e (owned_home_at m ok (i + 1) n k h)
 
 -- the board of the opening is one of its map
 pub opening_law : (m : Chart) → IsMap m → IsOf m (opening m)
@@ -72,7 +66,7 @@ opening_law m ok = record {
   standoff = λ k d h. absurd (omega arith);
   standoff_once = refl;
   standoff_empty = λ k d h. absurd (omega arith);
-  owners = owners_within m 0 m.provinces;
-  owners_count = owners_count m 0 m.provinces;
-  owners_centres = λ p h. let z : 0 + p ≡ p = omega arith in rw z at (owned_home_at m ok 0 m.provinces p h);
+  owners = owners_within m (provs m);
+  owners_count = owners_count m;
+  owners_centres = λ p h. let z : 0 + p ≡ p = omega arith in rw z at (owned_home_at m ok 0 (length m.provinces) p h);
 }

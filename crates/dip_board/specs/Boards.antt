@@ -5,7 +5,7 @@ use Rattle.dip_board.specs.declared.boards.Season.TheVariants.{SpringMoves}
 use Rattle.dip_names.specs.declared.names.Unit.{Unit as AUnit}
 use Rattle.dip_board.specs.declared.boards.Dislodged.{Dislodged}
 use Rattle.dip_board.specs.declared.boards.Phase.{Phase}
-use Rattle.dip_chart.specs.Charts.{Chart, Province, is_unit, is_centre, opening_units, are_units_single}
+use Rattle.dip_chart.specs.Charts.{Chart, provs, is_unit, is_centre, opening_units, are_units_single}
 
 -- what stands on a board
 pub record Position : Type 0 where
@@ -89,17 +89,12 @@ pub record IsOf (m : Chart) (b : Position) : Type 0 where
 abbrev pub owner_at : Chart → ℕ → Option ℕ
 owner_at m p = position (λ r. list_any (λ x. x == p) r.home) m.realms
 
--- the owners at the opening, from province i on, for so many provinces
-abbrev pub owners_from : Chart → ℕ → List Province → List (Option ℕ)
-owners_from m i [] = []
-owners_from m i (p ∷ ps) = owner_at m i ∷ owners_from m (i + 1) ps
-
 -- the board of the opening
 abbrev pub opening : Chart → Position
 opening m = record {
   units = opening_units m;
   dislodged = [];
   standoff = [];
-  owners = owners_from m 0 m.provinces;
+  owners = map (owner_at m) (provs m);
   phase = record { year = 1901; season = SpringMoves };
 }

@@ -1,8 +1,8 @@
 //! The board of a game: its parts, and the board of the opening.
-ghost use Rattle.std.specs.Prelude.{◌≡◌, ◌==◌, IfOk};
+ghost use Rattle.std.specs.Prelude.{◌≡◌, ◌==◌, IfOk, map as each};
 ghost use Rattle.std.specs.List.{list_any, position};
-ghost use Rattle.dip_chart.specs.Charts.{opening_units};
-ghost use Rattle.dip_board.specs.Boards.{IsOf, owner_at, owners_from, opening};
+ghost use Rattle.dip_chart.specs.Charts.{opening_units, provs};
+ghost use Rattle.dip_board.specs.Boards.{IsOf, owner_at, opening};
 
 use dip_chart::Realm;
 use dip_map::Map;
@@ -189,12 +189,11 @@ fn owner_of(map: &Map, p: Prov) -> Option<Power>
 }
 
 fn owners_of(alloc: Global, map: &Map) -> Result<Vec<Option<Power>>, AllocError>
-    ensures { IfOk result (λ v. v.items ≡ owners_from map.now 0 map.now.provinces) }
+    ensures { IfOk result (λ v. v.items ≡ each (owner_at map.now) (provs map.now)) }
 {
-    map.facts();
     let mut owners = Vec::new(alloc);
-    for index in 0..map.provinces() {
-        owners.push(owner_of(map, Prov::new(index as u8)))?;
+    for prov in map.each_province() {
+        owners.push(owner_of(map, prov))?;
     }
     Ok(owners)
 }

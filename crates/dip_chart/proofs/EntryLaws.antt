@@ -72,7 +72,7 @@ joined held (u ∷ us) vs same own others none =
     and_from _ _ (not_from_false _ apart) (joined held us vs same more others (not_from_false _ rest))
 
 -- whether one of the opening's units stands in a province, power by power
-held_law : (rs : List Realm) (p : ℕ) → list_any (λ u. u.place.prov == p) (flat_map (λ r. r.units) rs) ≡ is_held_by rs p
+pub held_law : (rs : List Realm) (p : ℕ) → list_any (λ u. u.place.prov == p) (flat_map (λ r. r.units) rs) ≡ is_held_by rs p
 held_law [] p = refl
 held_law (r ∷ rs) p =
     list_any-append (λ (u : AUnit). u.place.prov == p) r.units (flat_map (λ x. x.units) rs)

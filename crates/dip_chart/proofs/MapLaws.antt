@@ -6,8 +6,9 @@ use Rattle.std.proofs.lemmas.List.Folds.{list_any_at, list_all-append}
 use Rattle.std.specs.List.{list_any, list_all}
 use Rattle.std.specs.Cmp.Derive.{both_true}
 use Rattle.dip_names.specs.declared.names.Place.{Place}
+use Rattle.dip_names.specs.declared.names.Unit.{Unit as AUnit}
 use Rattle.dip_chart.specs.Charts.{Chart, Province, Shore, Realm, IsMap, no_province, no_shore, no_realm, province, army_next, fleet_next, is_army_next, is_fleet_next, is_fleet_place, is_province, is_realm, is_unit, opening_units, coast_of}
-use Rattle.dip_chart.specs.Checks.{answers, is_within_limits, is_well_formed, rest_of_shores, rest_of_coasts, is_allowed, is_distinct, is_single, is_named_back, rest_is_mutual, are_named_back, rest_of_shores_is_mutual, rest_is_mutual_by_sea, is_mutual}
+use Rattle.dip_chart.specs.Checks.{answers, is_within_limits, is_well_formed, rest_has_own_units, rest_of_shores, rest_of_coasts, is_allowed, is_distinct, is_single, is_named_back, rest_is_mutual, are_named_back, rest_of_shores_is_mutual, rest_is_mutual_by_sea, is_mutual}
 use Rattle.dip_chart.proofs.Found.{test_at, test_found, place_found}
 use Rattle.dip_chart.proofs.KeyLaws.{key_found, full_names_law, homes_centres_law, homes_apart_law}
 use Rattle.dip_chart.proofs.EntryLaws.{army_single_law, fleet_single_law, homes_law, openings_law, army_away_law, fleet_away_law}
@@ -138,11 +139,26 @@ limits_law m t =
     let (c, d) = and_parts _ _ lands in
     ((leb-true _ _ a, leb-true _ _ b), (leb-true _ _ c, leb-true _ _ d))
 
+-- a power's units are its own
+own_rest : (i : ℕ) (rs : List Realm) (r : ℕ) → rest_has_own_units i rs ≡ true → list_all (λ u. u.power == i + r) (get_or rs r no_realm).units ≡ true
+own_rest i [] r t = refl
+own_rest i (s ∷ ss) zero t = let z : i ≡ i + 0 = omega arith in subst (λ n. list_all (λ u. u.power == n) s.units ≡ true) z (and_parts (list_all (λ u. u.power == i) s.units) (rest_has_own_units (i + 1) ss) t).0
+own_rest i (s ∷ ss) (suc r) t =
+    let more = (and_parts (list_all (λ u. u.power == i) s.units) (rest_has_own_units (i + 1) ss) t).1 in
+    let e : (i + 1) + r ≡ i + suc r = omega arith in
+    subst (λ n. list_all (λ u. u.power == n) (get_or ss r no_realm).units ≡ true) e (own_rest (i + 1) ss r more)
+
+own_law : (m : Chart) → rest_has_own_units 0 m.realms ≡ true → (r k : ℕ) (d : AUnit) → k < length (get_or m.realms r no_realm).units → (get_or (get_or m.realms r no_realm).units k d).power ≡ r
+own_law m t r k d h =
+    let own : list_all (λ u. u.power == r) (get_or m.realms r no_realm).units ≡ true = subst (λ n. list_all (λ u. u.power == n) (get_or m.realms r no_realm).units ≡ true) (zero-add r) (own_rest 0 m.realms r t) in
+    eqb-true (get_or (get_or m.realms r no_realm).units k d).power r (test_at (λ u. u.power == r) (get_or m.realms r no_realm).units k d own h)
+
 -- parts that pass each test are a map
 pub map_law : (m : Chart) → is_within_limits m ≡ true → is_well_formed m ≡ true → is_allowed m ≡ true → is_distinct m ≡ true → is_single m ≡ true → is_mutual m ≡ true → IsMap m
 map_law m limits formed allowed distinct single back =
     let few = limits_law m limits in
-    let (lands, powers) = and_parts _ _ formed in
+    let (lands, realms_formed) = and_parts _ _ formed in
+    let (powers, own) = and_parts (list_all (λ r. is_realm m r) m.realms) (rest_has_own_units 0 m.realms) realms_formed in
     let (codes, names_coasts) = and_parts _ _ distinct in
     let (names, coasts) = and_parts _ _ names_coasts in
     let (land, sea) = and_parts _ _ back in
@@ -174,5 +190,6 @@ map_law m limits formed allowed distinct single back =
       homes_single = homes_law m.realms homes;
       homes_apart = homes_apart_law m.realms homes;
       units = λ k d h. test_at (λ u. is_unit m u) (opening_units m) k d (units_law m m.realms powers) h;
+      units_own = own_law m own;
       openings_single = openings_law m.realms openings;
     }

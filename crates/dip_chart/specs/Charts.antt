@@ -1,6 +1,6 @@
 -- What a map is: its provinces, coasts and powers, where units go, and what holds of each map.
 use Rattle.std.specs.Prelude.{◌≡◌, ◌≢◌, ℕ, ◌<◌, ◌≤◌, ◌==◌, ◌&&◌, ◌||◌, nat_lt, nat_le, not, All, Bool, true, false, List, [], ◌∷◌, length, flat_map, Option, Some, slice_index_or}
-use Rattle.std.specs.List.{list_any, list_all, position}
+use Rattle.std.specs.List.{list_any, list_all, position, range_with_len}
 use Rattle.std.specs.Str.{bytes_eq}
 use Rattle.std.specs.Cmp.Lexicographic.{slice_cmp}
 use Rattle.std.specs.Ordering.{is_lt, nat_cmp}
@@ -50,6 +50,13 @@ no_shore = record { name = []; next = [] }
 -- what stands for a power that isn't there
 abbrev pub no_realm : Realm
 no_realm = record { name = []; home = []; units = [] }
+
+-- the numbers of the provinces and of the powers, in their order
+abbrev pub provs : Chart → List ℕ
+provs m = range_with_len 0 (length m.provinces)
+
+abbrev pub powers : Chart → List ℕ
+powers m = range_with_len 0 (length m.realms)
 
 -- the province of a number
 abbrev pub province : Chart → ℕ → Province
@@ -192,4 +199,5 @@ pub record IsMap (m : Chart) : Type 0 where
   pub homes_single : (r : ℕ) → are_provs_single (home m r) ≡ true
   pub homes_apart : (p r s : ℕ) → is_home m r p ≡ true → is_home m s p ≡ true → r ≡ s
   pub units : All (λ u. is_unit m u ≡ true) (opening_units m)
+  pub units_own : (r : ℕ) → All (λ u. u.power ≡ r) (realm m r).units
   pub openings_single : are_units_single (opening_units m) ≡ true

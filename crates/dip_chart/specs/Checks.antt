@@ -1,11 +1,11 @@
 -- The checks that a map's parts have to pass, in the order of their faults.
-use Rattle.std.specs.Prelude.{ℕ, ◌+◌, ◌==◌, ◌&&◌, not, nat_le, Bool, true, false, List, [], ◌∷◌, length, Option, None, Some, if◌then◌else◌}
+use Rattle.std.specs.Prelude.{◌≡◌, ◌↔◌, ℕ, ◌+◌, ◌==◌, ◌&&◌, not, nat_le, Bool, true, false, List, [], ◌∷◌, length, Option, None, Some, if◌then◌else◌}
 use Rattle.std.specs.List.{list_all, list_any}
 use Rattle.std.specs.Str.{bytes_eq}
 use Rattle.dip_names.specs.declared.names.Place.{Place}
 use Rattle.dip_names.specs.declared.faults.MapFault.{MapFault}
 use Rattle.dip_names.specs.declared.faults.MapFault.TheVariants.{UnknownName, NotSymmetric, DoubledName, OverLimit}
-use Rattle.dip_chart.specs.Charts.{Chart, Province, Realm, Shore, province, is_army_next, is_fleet_next, is_province, is_realm, coast_of, are_ascending_by, are_provs_single, are_places_single, are_units_single}
+use Rattle.dip_chart.specs.Charts.{Chart, IsMap, Province, Realm, Shore, province, is_army_next, is_fleet_next, is_province, is_realm, coast_of, are_ascending_by, are_provs_single, are_places_single, are_units_single}
 use Rattle.dip_names.specs.Kinds.{is_sea}
 
 -- whether a look-up answered this number
@@ -17,9 +17,16 @@ answers (Some j) k = j == k
 abbrev pub is_within_limits : Chart → Bool
 is_within_limits m = (nat_le 1 (length m.realms) && nat_le (length m.realms) 7) && (nat_le 1 (length m.provinces) && nat_le (length m.provinces) 200)
 
--- each province and each power is well formed
+-- the units of these powers' openings, the first of which is number r, are each its power's own
+abbrev pub rest_has_own_units : ℕ → List Realm → Bool
+rest_has_own_units r [] = true
+rest_has_own_units r (s ∷ ss) = list_all (λ u. u.power == r) s.units && rest_has_own_units (r + 1) ss
+
+-- each province and each power is well formed, and a power's units are its own
 abbrev pub is_well_formed : Chart → Bool
-is_well_formed m = list_all is_province m.provinces && list_all (λ r. is_realm m r) m.realms
+is_well_formed m =
+    list_all is_province m.provinces
+    && (list_all (λ r. is_realm m r) m.realms && rest_has_own_units 0 m.realms)
 
 -- each name of these coasts of p, the first of which is number k, is that of no coast before
 abbrev pub rest_of_shores : Chart → ℕ → ℕ → List Shore → Bool
@@ -118,3 +125,7 @@ first_fault m =
     else if not (is_single m) then Some DoubledName
     else if not (is_mutual m) then Some NotSymmetric
     else None
+
+-- parts have no fault just where they are a map
+abbrev pub PassesExactly : Type 0
+PassesExactly = (m : Chart) → (first_fault m ≡ None) ↔ IsMap m

@@ -5,12 +5,13 @@ ghost use Rattle.std.specs.Cmp.Lexicographic.{slice_cmp};
 ghost use Rattle.std.specs.Ordering.{is_lt, nat_cmp};
 ghost use Rattle.dip_chart.specs.Charts.{IsMap, is_coast_name, are_ascending_by};
 ghost use Rattle.dip_chart.specs.Charts.{has_one_shore, has_named_shores, is_shaped, is_province, is_centre, is_realm, is_unit};
-ghost use Rattle.dip_chart.specs.Checks.{answers, is_within_limits, is_well_formed, rest_of_shores, rest_of_coasts, is_distinct};
+ghost use Rattle.dip_chart.specs.Checks.{answers, is_within_limits, is_well_formed, rest_has_own_units, rest_of_shores, rest_of_coasts, is_distinct};
 ghost use Rattle.dip_chart.specs.Checks.{is_named_back, rest_is_mutual, are_named_back, rest_of_shores_is_mutual, rest_is_mutual_by_sea, is_mutual, first_fault};
 
 use crate::parts::{Parts, Province, Realm, Shore};
 use dip_names::{
-    MapFault, Place, Prov, Terrain, Unit, is_coast_name, is_code, is_full_name, is_power_name,
+    MapFault, Place, Power, Prov, Terrain, Unit, is_coast_name, is_code, is_full_name,
+    is_power_name,
 };
 
 impl Shore {
@@ -93,6 +94,13 @@ fn is_before_names(name: &str, realms: &[Realm]) -> bool
     realms.iter().all(|realm| name < realm.name.as_str())
 }
 
+/// Whether these units are a power's.
+fn are_of(units: &[Unit], power: Power) -> bool
+    ensures { result ≡ list_all (λ u. u.power == power) units.now }
+{
+    units.iter().all(|unit| unit.power == power)
+}
+
 impl Parts {
     fn is_within_limits(&self) -> bool
         ensures { result ≡ is_within_limits self.now }
@@ -136,10 +144,23 @@ impl Parts {
         self.realms.iter().all(|realm| self.is_realm(realm))
     }
 
+    fn has_own_units(&self) -> bool
+        requires { length self.now.realms ≤ 7 }
+        ensures { result ≡ rest_has_own_units 0 self.now.realms }
+    {
+        for (number, realm) in self.realms.iter().enumerate() {
+            if !are_of(realm.units.as_slice(), Power::new(number as u8)) {
+                return false;
+            }
+        }
+        true
+    }
+
     fn is_well_formed(&self) -> bool
+        requires { length self.now.realms ≤ 7 }
         ensures { result ≡ is_well_formed self.now }
     {
-        self.are_provinces() && self.are_realms()
+        self.are_provinces() && self.are_realms() && self.has_own_units()
     }
 
     fn has_ascending_codes(&self) -> bool

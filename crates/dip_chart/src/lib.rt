@@ -3,7 +3,9 @@
 
 mod checks;
 mod entries;
+mod laws;
 mod parts;
 
 pub use entries::are_units_single;
+pub use laws::maps_are_parts_without_a_fault;
 pub use parts::{Parts, Province, Realm, Shore};

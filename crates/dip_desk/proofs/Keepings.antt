@@ -1,5 +1,5 @@
 -- A look, and then a step.
-use Rattle.std.proofs.Common.{◌≡◌, ◌⊎◌, inl, inr, Result, Ok, refl, sym, ap, subst, ◌∙◌}
+use Rattle.std.proofs.Common.{inl, inr, Result, Ok, ap, subst, ◌∙◌}
 use Rattle.std.proofs.lemmas.Result.{IfOk-weaker, on_err_weaker, on_ok_weaker}
 use Rattle.dip_chart.specs.Charts.{Chart}
 use Rattle.dip_desk.specs.Faults.{faults_after}
@@ -19,13 +19,15 @@ keeps_then m b old mid new x result first second = record {
   stays_open = λ sound honest shows. second.stays_open (first.firm sound (second.fair honest)) honest (first.stays_open sound (second.fair honest) shows);
 }
 
--- a step behind a look is a step of the state that was looked at, where it may be taken of that state
+-- a step behind a look is a step of the state that was looked at, where it may be taken of that state, and what the step may be
+-- Damaged by is laid to that state too
 pub steps_then : {K X Y R : Type 0} (m : Chart) (b : Book K) (old mid new : K) (x : X) (Value : X → Type 0) (Damage : Type 0) (say : Y → R)
     (Near Far : State → R → State → Type 0) (result : Result Y KeepFault)
-    → Looks m b old mid Value Damage (Ok x) → (Blame : State → Type 0)
+    → Looks m b old mid Value Damage (Ok x) → (Hurt Blame : State → Type 0)
     → (Value x → (r : R) (t : State) → Near (b.content m old) r t → Far (b.content m old) r t)
-    → Steps m b mid new say Near (λ s. ⊥) result → Steps m b old new say Far Blame result
-steps_then {K} {X} {Y} {R} m b old mid new x Value Damage say Near Far result look Blame further step = record {
+    → (Value x → Hurt (b.content m old) → Blame (b.content m old))
+    → Steps m b mid new say Near Hurt result → Steps m b old new say Far Blame result
+steps_then {K} {X} {Y} {R} m b old mid new x Value Damage say Near Far result look Hurt Blame further blamed step = record {
   keeps = keeps_then m b old mid new x result look.keeps step.keeps;
   done = λ sound shows.
       let before = step.keeps.shown shows in
@@ -36,7 +38,9 @@ steps_then {K} {X} {Y} {R} m b old mid new x Value Damage say Near Far result lo
   undone = λ sound shows.
       let before = step.keeps.shown shows in
       on_err_weaker result (λ same. same ∙ look.same sound before) (step.undone (look.keeps.sound sound before) shows);
-  damaged = λ sound shows bad. absurd (step.damaged (look.keeps.sound sound (step.keeps.shown shows)) shows bad);
+  damaged = λ sound shows bad.
+      let before = step.keeps.shown shows in
+      blamed (look.value sound before) (subst Hurt (look.same sound before) (step.damaged (look.keeps.sound sound before) shows bad));
   kept = λ sound honest shows.
       let fair = step.keeps.fair honest in
       let open_mid = look.keeps.stays_open sound fair shows in

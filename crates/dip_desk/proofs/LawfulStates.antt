@@ -11,11 +11,11 @@ use Rattle.std.proofs.lemmas.List.Quantifiers.{position-Some}
 use Rattle.dip_letters.specs.Notes.{SeatNote}
 use Rattle.dip_chart.specs.Charts.{Chart, Realm, no_realm, power_of}
 use Rattle.dip_records.specs.Records.{Public, Own, Kept, Standing}
-use Rattle.dip_reports.specs.Texts.{numbers}
+use Rattle.dip_reports.specs.Texts.{refusal_line, numbers}
 use Rattle.dip_reports.specs.declared.refusals.Refusal.TheVariants.{Malformed, NumberUsed, Stale, WrongSender}
 use Rattle.dip_desk.specs.Keyed.{at, change_at}
 use Rattle.dip_desk.specs.Lawful.{AreNamedApart, AreStanding, IsLawful, IsLawfulGame, IsLawfulSeat, IsNeverDamaged, StaysLawful, last_number}
-use Rattle.dip_desk.specs.Machine.{Decides, change_of, IsForeignTo, Verdict, MasterDecides, NumberedBy, NotKnown, Again, OutOfTurn, Taken, after, are_complete, author, created, digest, kept_of, new_seats, old_number, open_game, with_more, opening_public, refusal_line, refused, seat_command, seat_verdict, seen_in, verdict_by, verdict_on}
+use Rattle.dip_desk.specs.Machine.{Decides, change_of, IsForeignTo, Verdict, MasterDecides, NumberedBy, NotKnown, Again, OutOfTurn, Taken, after, are_complete, author, created, digest, kept_of, new_seats, old_number, open_game, with_more, opening_public, refused, seat_command, seat_verdict, seen_in, verdict_by, verdict_on}
 use Rattle.dip_desk.specs.Mail.{IsMail, Mail}
 use Rattle.dip_desk.specs.State.{State, Game, Part, Author, Nobody, TheMaster, Seat, Change, Effect, Nothing, Pending, Votes, Delivers, Opens, Publishes, Seats, NewSeat, desk_after, fresh, game_after, game_at, name_of, new_games, opening_game, own_of, papers_after, power_in, public_after, seat_at, with_author, with_effect, with_letter}
 use Rattle.dip_desk.proofs.KeyedLemmas.{at-append, names_tell}

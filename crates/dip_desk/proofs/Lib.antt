@@ -1,3 +1,4 @@
+pub mod GamesLemmas
 pub mod KeyedLemmas
 pub mod NumberLemmas
 pub mod Counting

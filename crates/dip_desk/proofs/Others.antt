@@ -3,7 +3,7 @@ use Rattle.std.proofs.Common.{◌≡◌, ◌≢◌, ℕ, ◌+◌, Bool, true, fa
 use Rattle.std.specs.Prelude.{◌↔◌}
 use Rattle.std.specs.Option.{option_or}
 use Rattle.dip_chart.specs.Charts.{Chart}
-use Rattle.dip_records.specs.Records.{Kept, Own, Public, Standing}
+use Rattle.dip_records.specs.Records.{Public}
 use Rattle.dip_desk.specs.Keyed.{at, change_at}
 use Rattle.dip_desk.specs.Mail.{Mail}
 use Rattle.dip_desk.specs.Machine.{Decides, SeatName, Verdict, NotKnown, Again, OutOfTurn, Taken, after, author, change_of, kept_of}

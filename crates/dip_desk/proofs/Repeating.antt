@@ -7,7 +7,8 @@ use Rattle.dip_letters.specs.Notes.Request.{Create, Orders, Show}
 use Rattle.dip_chart.specs.Charts.{Chart, power_of}
 use Rattle.dip_records.specs.Records.{Own, Kept, Reply}
 use Rattle.dip_reports.specs.declared.refusals.Refusal.TheVariants.{NumberUsed, Stale, WrongSender}
-use Rattle.dip_desk.specs.Machine.{Decides, MasterDecides, change_of, NumberedBy, Step, Verdict, NotKnown, Again, OutOfTurn, Taken, after, author, created, digest, kept_of, master_author, new_seats, old_number, opening_public, power_author, refusal_line, refused, repeated, reply_of, seat_author, seat_command, seen_in, verdict_by, verdict_on}
+use Rattle.dip_desk.specs.Machine.{Decides, MasterDecides, change_of, NumberedBy, Step, Verdict, NotKnown, Again, OutOfTurn, Taken, after, author, created, digest, kept_of, master_author, new_seats, old_number, opening_public, power_author, refused, repeated, reply_of, seat_author, seat_command, seen_in, verdict_by, verdict_on}
+use Rattle.dip_reports.specs.Texts.{refusal_line}
 use Rattle.dip_desk.specs.Mail.{Mail}
 use Rattle.dip_desk.specs.Repeats.{ActsOnce}
 use Rattle.dip_desk.specs.State.{State, Game, Part, Author, Nobody, TheMaster, Seat, Effect, Nothing, Pending, Votes, Delivers, Opens, Publishes, Seats, game_after, game_at, own_at, own_of, public_after, seat_at, with_effect, with_letter}

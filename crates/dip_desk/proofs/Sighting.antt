@@ -1,11 +1,13 @@
 -- What is decided by an author's sight is what the machine decides.
-use Rattle.std.proofs.Common.{◌≡◌, ℕ, Bool, true, false, cond, Option, None, Some, option_map, refl, sym, ◌∙◌, ap, subst, bytes_eq, codes, is_some}
+use Rattle.std.proofs.Common.{◌≡◌, ℕ, Bool, true, false, cond, List, Option, None, Some, option_map, refl, sym, ◌∙◌, ap, subst, bytes_eq, codes, is_some}
 use Rattle.std.specs.Prelude.{option_and_then}
 use Rattle.dip_chart.specs.Charts.{Chart, power_of}
 use Rattle.dip_records.specs.Records.{Own, Reply}
-use Rattle.dip_desk.specs.Machine.{DecidedBy, Decides, IsDamagedBy, IsForeign, IsForeignSight, IsForeignTo, MayBeDamaged, Settles, Step, after, OfMaster, OfNobody, OfSeat, Seen, Sight, Verdict, author, author_of, digest, master_author, master_sight, power_author, power_sight, seat_author, seat_sight, seen_in, sight_of, verdict_by, verdict_on}
+use Rattle.dip_desk.specs.Machine.{DecidedBy, Decides, IsDamagedBy, IsForeign, IsForeignSight, IsForeignTo, MayBeDamaged, Settles, Step, after, OfMaster, OfNobody, OfSeat, Sight, Verdict, NotKnown, Again, OutOfTurn, Taken, author, author_of, digest, master_author, master_sight, power_author, power_sight, seat_author, seat_sight, seen_in, sight_of, verdict_by, verdict_on}
 use Rattle.dip_desk.specs.Mail.{Mail}
-use Rattle.dip_desk.specs.State.{Author, Game, Nobody, Seat, State, TheMaster, game_at, own_of, seat_at}
+use Rattle.dip_desk.specs.State.{Author, Effect, Game, Nobody, Nothing, Pending, Votes, Delivers, Opens, Publishes, Seats, Seat, State, TheMaster, game_at, own_of, seat_at}
+use Rattle.dip_desk.specs.Fitting.{FitsGame, VerdictFits}
+use Rattle.dip_desk.proofs.Suiting.{IsFitting, VerdictSuits, decides_suits, opens_where}
 
 -- a sight is the author's, and what is decided by it is what may be decided
 abbrev pub IsRight : Chart → Mail → State → Author → Sight → Type 0
@@ -52,6 +54,27 @@ pub settled_by_sight : (m : Chart) (n : Mail) (s t : State) (sight : Sight) (who
 settled_by_sight m n s t sight who v r is whose decided done =
     let right : IsRight m n s (author m n s) sight = subst (IsRight m n s (author m n s)) (sym is) (is_right m n s) in
     (v, right.1 v decided, done.0, done.1 ∙ ap (λ (a : Author). after n a v s) (whose ∙ right.0))
+
+-- what is decided by a sight fits
+pub fits_by_sight : (m : Chart) (n : Mail) (s : State) (sight : Sight) (v : Verdict) → sight ≡ sight_of m n s → DecidedBy m n sight v → VerdictFits n v s
+fits_by_sight m n s sight v is decided =
+    let right : IsRight m n s (author m n s) sight = subst (IsRight m n s (author m n s)) (sym is) (is_right m n s) in
+    fits_suited n s (author m n s) v (decides_suits m s n (author m n s) v (right.1 v decided))
+  where
+    fits_effect : (name : List ℕ) (who : Author) (game : Option Game) (e : Effect) → IsFitting name who game e → FitsGame name e game
+    fits_effect name who game Nothing h = tt
+    fits_effect name who game (Pending orders) h = tt
+    fits_effect name who game (Votes draw) h = tt
+    fits_effect name who game (Delivers readers item) h = tt
+    fits_effect name who game (Publishes public paper played) h = tt
+    fits_effect name who game (Seats seat) h = tt
+    fits_effect name who game (Opens public paper seats) h = let all = opens_where name who game public paper seats h in (all.2, all.1)
+
+    fits_suited : (n : Mail) (s : State) (who : Author) (v : Verdict) → VerdictSuits n.note.game who (game_at n.note.game s) v → VerdictFits n v s
+    fits_suited n s who NotKnown h = tt
+    fits_suited n s who (Again text) h = tt
+    fits_suited n s who (OutOfTurn text) h = tt
+    fits_suited n s who (Taken text e) h = fits_effect n.note.game who (game_at n.note.game s) e h
 
 -- and a fault of the sight is one of the letter's author
 pub blamed_by_sight : (m : Chart) (n : Mail) (s : State) (sight : Sight) → sight ≡ sight_of m n s → IsForeignSight m sight → IsDamagedBy m n s

@@ -1,12 +1,12 @@
 -- Whose letters are nobody's.
 use Rattle.std.proofs.Common.{◌≡◌, ◌⊎◌, inl, inr, ℕ, Bool, true, false, cond, List, Option, Some, None, refl, sym, ap, subst, ◌∙◌, bytes_eq, codes}
-use Rattle.std.specs.Prelude.{◌↔◌, option_and_then}
+use Rattle.std.specs.Prelude.{option_and_then}
 use Rattle.dip_letters.specs.Notes.{Request}
 use Rattle.dip_letters.specs.Notes.Request.{Create, Orders, Show}
 use Rattle.dip_chart.specs.Charts.{Chart, power_of}
 use Rattle.dip_records.specs.Records.{Head, Kept, Own, Public, Reply}
 use Rattle.dip_reports.specs.declared.refusals.Refusal.TheVariants.{Malformed, WrongSender}
-use Rattle.dip_desk.specs.Machine.{Decides, MasterDecides, NotKnown, Again, OutOfTurn, Taken, Verdict, are_complete, author, created, digest, head_of, master_author, new_seats, open_game, opening_public, power_author, refused, reply_of, seat_author, seat_command, seat_verdict, seen_in, verdict_by, verdict_on}
+use Rattle.dip_desk.specs.Machine.{Decides, MasterDecides, NotKnown, Again, OutOfTurn, Taken, Verdict, are_complete, author, created, digest, head_of, master_author, new_seats, open_game, opening_public, power_author, refused, reply_of, seat_author, seat_command, seen_in, verdict_by, verdict_on}
 use Rattle.dip_desk.specs.Mail.{Mail}
 use Rattle.dip_desk.specs.State.{Author, Game, NewSeat, Nobody, Seat, State, TheMaster, game_at, own_at, own_of, seat_at}
 use Rattle.dip_desk.specs.Strangers.{IsNobodys, IsToNobodyExactly, is_create}

@@ -5,9 +5,10 @@ use Rattle.dip_letters.specs.Notes.Request.{Create, Orders, Show}
 use Rattle.dip_chart.specs.Charts.{Chart}
 use Rattle.dip_desk.specs.Mail.{Mail}
 use Rattle.dip_desk.specs.State.{State, Game, Author, Nobody, TheMaster, Seat, Effect, Nothing, Pending, Votes, Delivers, Opens, Publishes, Seats, NewSeat, game_at, own_of, seat_at}
-use Rattle.dip_desk.specs.Machine.{Decides, MasterDecides, NumberedBy, Verdict, NotKnown, Again, OutOfTurn, Taken, are_complete, created, new_seats, old_number, open_game, opening_public, refusal_line, refused, seat_command, seen_in, verdict_by, verdict_on}
+use Rattle.dip_desk.specs.Machine.{Decides, MasterDecides, NumberedBy, Verdict, NotKnown, Again, OutOfTurn, Taken, are_complete, created, new_seats, old_number, open_game, opening_public, refused, seat_command, seen_in, verdict_by, verdict_on}
 use Rattle.dip_desk.specs.View.{Suits, effect_events}
 use Rattle.dip_records.specs.Records.{Public, Own, Kept}
+use Rattle.dip_reports.specs.Texts.{refusal_line}
 use Rattle.dip_reports.specs.declared.refusals.Refusal.TheVariants.{Malformed, NumberUsed, Stale, WrongSender}
 
 -- from whom an effect comes: so far no command votes, sends press, publishes or gives a seat away

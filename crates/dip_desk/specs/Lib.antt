@@ -3,6 +3,7 @@ pub mod State
 pub mod Faults
 pub mod Rows
 pub mod Keeping
+pub mod Fitting
 pub mod Stored
 pub mod Mail
 pub mod Machine

@@ -1,5 +1,5 @@
 -- The desk machine: who wrote a letter, what is decided of it, what it leaves and what is replied.
-use Rattle.std.specs.Prelude.{true, ℕ, ◌≡◌, ◌==◌, Bool, List, [], ◌∷◌, ◌++◌, Option, None, Some, option_map, unwrap_or, bytes_eq, is_some, nat_lt, codes, if◌then◌else◌, count_by}
+use Rattle.std.specs.Prelude.{true, ℕ, ◌≡◌, ◌==◌, Bool, List, [], ◌∷◌, Option, None, Some, option_map, unwrap_or, bytes_eq, is_some, nat_lt, codes, if◌then◌else◌, count_by}
 use Rattle.std.specs.List.{list_all}
 use Rattle.sha2.specs.Sha256.{sha256}
 use Rattle.dip_letters.specs.Digests.{seat_text}
@@ -12,7 +12,7 @@ use Rattle.dip_board.specs.Boards.{opening}
 use Rattle.dip_desk.specs.Mail.{Mail}
 use Rattle.dip_desk.specs.Ordering.{Ordered, has_foreign, kept_orders, ordered}
 use Rattle.dip_desk.specs.State.{State, Game, Author, Nobody, TheMaster, Seat, Change, Effect, Nothing, Pending, Opens, NewSeat, Part, game_at, own_at, own_of, public_at, seat_at, state_after}
-use Rattle.dip_reports.specs.Texts.{numbers, opening_paper, refusal_text, show_text}
+use Rattle.dip_reports.specs.Texts.{numbers, opening_paper, paper_line, refusal_line, show_text}
 use Rattle.dip_records.specs.Records.{Public, Own, Kept, Head, Reply, Running}
 use Rattle.dip_records.specs.declared.records.Outcome.TheVariants.{Unknown as NoneKnown, OutOfTurn as Refused, Done}
 use Rattle.dip_reports.specs.declared.refusals.Refusal.{Refusal}
@@ -46,9 +46,6 @@ pub data Verdict : Type 0 where
   Again : (text : List ℕ) → Verdict
   OutOfTurn : (text : List ℕ) → Verdict
   Taken : (text : List ℕ) → (effect : Effect) → Verdict
-
-abbrev pub refusal_line : Refusal → List ℕ
-refusal_line r = refusal_text r ++ codes "\n"
 
 -- a letter with its author's last number: the same letter again gets the same reply
 abbrev pub repeated : Mail → Kept → Verdict
@@ -151,7 +148,7 @@ opening_public m game due period grey = record { game = game; board = opening m;
 
 -- a new game, where its name is free
 abbrev pub open_game : Chart → Public → List NewSeat → Option Game → Verdict
-open_game m p seats None = Taken (codes "OK paper 1\n") (Opens p (opening_paper m p) seats)
+open_game m p seats None = Taken (paper_line 1) (Opens p (opening_paper m p) seats)
 open_game m p seats (Some g) = refused NameTaken
 
 -- what CREATE comes to: the seats have to be the map's powers, each once

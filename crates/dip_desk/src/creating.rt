@@ -16,11 +16,12 @@ use dip_letters::{Letter, Opening, Seat, Seats};
 use dip_map::Map;
 use dip_names::Power;
 use dip_records::{Kept, Public, Status};
-use dip_reports::{Refusal, opening_paper_text};
+use dip_reports::{Refusal, opening_paper_text, paper_line};
 use std::alloc::{AllocError, Global};
 
 fn new_seat(map: &Map, game: &str, seat: &Seat<'_>) -> Option<NewSeat>
-    ensures { option_map desk_rows.new_seat result ≡ m.new_seat map.now game.now (seat_note seat.now) }
+    ensures { option_map desk_rows.new_seat result
+        ≡ m.new_seat map.now game.now (seat_note seat.now) }
 {
     let power = map.power(seat.power)?;
     Some(NewSeat {
@@ -37,7 +38,8 @@ fn new_seats(
     seats: Seats<'_>,
 ) -> Result<Option<Vec<NewSeat>>, AllocError>
     ensures { IfOk result
-        (λ found. option_map (λ v. each desk_rows.new_seat v.items) found ≡ m.new_seats map.now game.now
+        (λ found. option_map (λ v. each desk_rows.new_seat v.items) found
+        ≡ m.new_seats map.now game.now
         (seats_in seats.entry)) }
 {
     let mut found = Vec::new(alloc);
@@ -115,7 +117,7 @@ fn open_game(
     }
     let paper = opening_paper_text(alloc, map, &public)?;
     Ok(Verdict::Taken(
-        String::from_str(alloc, "OK paper 1\n")?,
+        paper_line(alloc, 1)?,
         Effect::Opens {
             public,
             paper,

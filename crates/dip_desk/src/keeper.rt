@@ -1,6 +1,8 @@
 //! What keeps the desk's state.
 ghost use Rattle.std.specs.Prelude.{◌≡◌, ◌<◌, length, option_map};
 ghost use Rattle.dip_chart.specs.Charts.{Chart};
+ghost use Rattle.dip_desk.specs.Faults.{keep_fault_name};
+ghost use Rattle.dip_desk.specs.Fitting.{Fits};
 ghost use Rattle.dip_desk.specs.Keeping.{Book, Changes, Looks};
 ghost use Rattle.dip_desk.specs.State.{own_at, public_at, state_after};
 ghost use Rattle.dip_desk.specs.Rows as desk_rows;
@@ -10,6 +12,8 @@ use dip_map::Map;
 use dip_names::Power;
 use dip_records::{Kept, Own, Public, Standing};
 use std::alloc::{AllocError, AllocFailed};
+use std::error::Error;
+use std::fmt;
 
 /// The master's row.
 #[derive(Drop)]
@@ -72,6 +76,31 @@ pub enum KeepFault {
     Damaged,
 }
 
+impl KeepFault {
+    /// The fault's name, as a program tells it.
+    pub fn name(self) -> &'static str
+        ensures { result.now ≡ keep_fault_name self }
+    {
+        match self {
+            KeepFault::Memory => "Memory",
+            KeepFault::Disk => "Disk",
+            KeepFault::Damaged => "Damaged",
+        }
+    }
+}
+
+impl fmt::Display for KeepFault {
+    ghost use Rattle.std.specs.Prelude.{Some};
+
+    ghost output = { λ fault. Some (keep_fault_name fault) };
+
+    fn fmt<W: fmt::Write>(&self, f: &mut fmt::Formatter<W>) -> fmt::Result {
+        f.write_str(self.name())
+    }
+}
+
+impl Error for KeepFault {}
+
 impl From<AllocError> for KeepFault {
     ghost use Rattle.dip_desk.specs.declared.keeper.KeepFault.TheVariants.{Memory};
 
@@ -126,5 +155,5 @@ pub trait Keeper {
     fn apply(&mut self, map: &Map, change: &Change) -> Result<(), KeepFault>
         requires { book.faults self.old < u64.MAX }
         ensures { Changes map.now book self.old self.new (state_after (desk_rows.change change.now))
-            (λ _. Unit {0}) result };
+            (Fits (desk_rows.change change.now)) result };
 }

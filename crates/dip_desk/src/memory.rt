@@ -1,5 +1,7 @@
 //! A keeper in memory.
-ghost use Rattle.std.specs.Prelude.{◌≡◌, ◌<◌, ℕ, List, [], ◌++◌, ◌==◌, IfOk, None, bytes_eq, map as each, option_and_then, option_map, string_bytes, vec_capacity, vec_len};
+ghost use Rattle.std.specs.Prelude.{◌≡◌, [], ◌∷◌, ◌++◌, ◌==◌, ℕ, List, None, IfOk, IsErrOf, OnErr, OnOk, bytes_eq, map as each, option_and_then, option_map, string_bytes};
+ghost use Rattle.dip_desk.specs.Faults.{faults_after};
+ghost use Rattle.dip_desk.specs.Fitting.{FitsGame};
 ghost use Rattle.dip_desk.specs.Keyed.{at, change_at, place};
 ghost use Rattle.dip_desk.specs.State as s;
 ghost use Rattle.dip_desk.specs.Rows as desk_rows;
@@ -7,25 +9,35 @@ ghost use Rattle.dip_records.specs.Rows as rows;
 ghost use Rattle.dip_desk.specs.Stored as stored;
 
 use crate::keeper::{Author, Change, Desk, Effect, KeepFault, Keeper, NewSeat};
+use dip_board::Board;
 use dip_map::Map;
 use dip_names::Power;
 use dip_records::{Kept, Own, Public, Standing, Status};
+use indexmap::IndexMap;
 use std::alloc::{AllocError, Global};
 
-/// A game as it lies in memory.
+/// A game as it lies in memory, under its name.
 #[derive(Drop)]
 pub struct GameRow {
-    public: Public,
+    board: Board,
+    status: Status,
+    due: u64,
+    period: u32,
+    grey: bool,
+    count: u32,
     papers: Vec<String>,
     seats: Vec<Own>,
 }
+
+/// The games by their names, in the order in which they were opened.
+type Games = IndexMap<String, GameRow>;
 
 /// A keeper of the desk's state in memory. It is gone with the program.
 #[derive(Drop)]
 pub struct MemoryKeeper {
     alloc: Global,
     desk: Desk,
-    games: Vec<GameRow>,
+    games: Games,
 }
 
 fn standing_copy(standing: &Standing) -> Result<Standing, AllocError>
@@ -70,17 +82,18 @@ fn status_copy(alloc: Global, status: &Status) -> Result<Status, AllocError>
     }
 }
 
-fn public_copy(alloc: Global, public: &Public) -> Result<Public, AllocError>
-    ensures { IfOk result (λ p. rows.public p ≡ rows.public public.now) }
+/// The public part of the game of that name.
+fn public_of(alloc: Global, name: &str, game: &GameRow) -> Result<Public, AllocError>
+    ensures { IfOk result (λ p. rows.public p ≡ (stored.game name.now game.now).public) }
 {
     Ok(Public {
-        game: public.game.clone()?,
-        board: public.board.copy(alloc)?,
-        status: status_copy(alloc, &public.status)?,
-        due: public.due,
-        period: public.period,
-        grey: public.grey,
-        papers: public.papers,
+        game: String::from_str(alloc, name)?,
+        board: game.board.copy(alloc)?,
+        status: status_copy(alloc, &game.status)?,
+        due: game.due,
+        period: game.period,
+        grey: game.grey,
+        papers: game.count,
     })
 }
 
@@ -118,16 +131,11 @@ fn own_copy(alloc: Global, own: &Own) -> Result<Own, AllocError>
 }
 
 /// The game of that name.
-fn find_game<'a>(games: &'a [GameRow], name: &str) -> Option<&'a GameRow>
-    ensures { option_map (λ g. stored.game g.now) result ≡ at bytes_eq s.name_of name.now
-        (each (λ g. stored.game g) games.entry.now) }
+fn find_game<'a>(games: &'a Games, name: &str) -> Option<&'a GameRow>
+    ensures { option_map (λ g. stored.game name.now g.now) result ≡ at bytes_eq s.name_of name.now
+        (stored.games games.entry.now.entries) }
 {
-    for game in games {
-        if game.public.game.as_str() == name {
-            return Some(game);
-        }
-    }
-    None
+    games.get(name)
 }
 
 /// The seat of that power.
@@ -144,25 +152,13 @@ fn find_seat<'a>(seats: &'a [Own], power: Power) -> Option<&'a Own>
 }
 
 /// The seat of that power in the game of that name.
-fn find_own<'a>(games: &'a [GameRow], name: &str, power: Power) -> Option<&'a Own>
+fn find_own<'a>(games: &'a Games, name: &str, power: Power) -> Option<&'a Own>
     ensures { option_map (λ o. rows.own o.now) result ≡ option_and_then
         (λ g. s.own_of (s.seat_at power g.seats))
-        (at bytes_eq s.name_of name.now (each (λ g. stored.game g) games.entry.now)) }
+        (at bytes_eq s.name_of name.now (stored.games games.entry.now.entries)) }
 {
     let game = find_game(games, name)?;
     find_seat(game.seats.as_slice(), power)
-}
-
-/// The place of the game of that name, or the length.
-fn game_place(games: &[GameRow], name: &str) -> usize
-    ensures { result ≡ place bytes_eq s.name_of name.now (each (λ g. stored.game g) games.now) }
-{
-    for (number, game) in games.iter().enumerate() {
-        if game.public.game.as_str() == name {
-            return number;
-        }
-    }
-    games.len()
 }
 
 /// The place of the seat of that power, or the length.
@@ -211,7 +207,7 @@ fn record_seat(
 }
 
 /// What a letter changes in its game.
-fn record_game(
+fn record_row(
     game: &mut GameRow,
     author: Author,
     kept: Kept,
@@ -220,12 +216,12 @@ fn record_game(
 )
     requires { option_map (λ l. rows.standings l.items) pending ≡ stored.orders_in
         (desk_rows.effect effect.now) }
-    ensures { (name : List ℕ) → stored.game game.new ≡ s.game_after (record {
+    ensures { (name key : List ℕ) → stored.game key game.new ≡ s.game_after (record {
       game = name;
       author = desk_rows.author author;
       kept = rows.kept kept;
       effect = desk_rows.effect effect.now;
-    }) (stored.game game.old) }
+    }) (stored.game key game.old) }
 {
     if let Author::Seat(power) = author {
         record_seat(&mut game.seats, power, kept, effect, pending);
@@ -233,8 +229,8 @@ fn record_game(
 }
 
 /// What a letter changes in the game that it names.
-fn record_games(
-    games: &mut Vec<GameRow>,
+fn record_game(
+    games: &mut Games,
     name: &str,
     author: Author,
     kept: Kept,
@@ -243,19 +239,17 @@ fn record_games(
 )
     requires { option_map (λ l. rows.standings l.items) pending ≡ stored.orders_in
         (desk_rows.effect effect.now) }
-    ensures content { each (λ g. stored.game g) games.new.items ≡ change_at bytes_eq s.name_of
-        name.now (s.game_after (record {
+    ensures { stored.games games.new.entries ≡ change_at bytes_eq s.name_of name.now
+        (s.game_after (record {
           game = name.now;
           author = desk_rows.author author;
           kept = rows.kept kept;
           effect = desk_rows.effect effect.now;
-        })) (each (λ g. stored.game g) games.old.items) }
-    ensures len { vec_len games.new ≡ vec_len games.old }
-    ensures room { vec_capacity games.new ≡ vec_capacity games.old }
+        })) (stored.games games.old.entries) }
 {
-    let place = game_place(games.as_slice(), name);
-    if place < games.len() {
-        record_game(&mut games[place], author, kept, effect, pending);
+    if let Some(place) = games.get_index_of(name) {
+        let game = &mut games[place];
+        record_row(game, author, kept, effect, pending);
     }
 }
 
@@ -285,21 +279,27 @@ fn fresh_seats(alloc: Global, seats: &[NewSeat]) -> Result<Vec<Own>, AllocError>
     Ok(owns)
 }
 
-/// A new game.
-fn new_game(
+/// A new game, but for its name.
+fn game_of(
     alloc: Global,
     public: &Public,
     paper: &String,
     seats: &[NewSeat],
 ) -> Result<GameRow, AllocError>
     ensures { IfOk result
-        (λ g. stored.game g ≡ s.opening_game (rows.public public.now) (string_bytes paper.now)
+        (λ g. (name : List ℕ) → name ≡ (rows.public public.now).game → stored.game name g
+        ≡ s.opening_game (rows.public public.now) (string_bytes paper.now)
         (each (λ n. desk_rows.new_seat n) seats.now)) }
 {
     let mut papers = Vec::new(alloc);
     papers.push(paper.clone()?)?;
     Ok(GameRow {
-        public: public_copy(alloc, public)?,
+        board: public.board.copy(alloc)?,
+        status: status_copy(alloc, &public.status)?,
+        due: public.due,
+        period: public.period,
+        grey: public.grey,
+        count: public.papers,
         papers,
         seats: fresh_seats(alloc, seats)?,
     })
@@ -308,8 +308,8 @@ fn new_game(
 /// The standing orders that an effect gives its author, where it gives any.
 fn pending_in(alloc: Global, effect: &Effect) -> Result<Option<Vec<Standing>>, AllocError>
     ensures { IfOk result
-        (λ o. option_map (λ l. rows.standings l.items) o ≡ stored.orders_in
-        (desk_rows.effect effect.now)) }
+        (λ o. option_map (λ l. rows.standings l.items) o
+        ≡ stored.orders_in (desk_rows.effect effect.now)) }
 {
     match effect {
         Effect::Nothing | Effect::Opens { .. } => Ok(None),
@@ -317,38 +317,77 @@ fn pending_in(alloc: Global, effect: &Effect) -> Result<Option<Vec<Standing>>, A
     }
 }
 
-/// The game that an effect opens, where it opens one.
-fn opened_by(alloc: Global, effect: &Effect) -> Result<Option<GameRow>, AllocError>
-    ensures { IfOk result (λ o. stored.listed o ≡ s.new_games (desk_rows.effect effect.now)) }
+/// A new game stands last. A name that is taken is none to open a game of.
+fn add_game(
+    alloc: Global,
+    games: &mut Games,
+    public: &Public,
+    paper: &String,
+    seats: &[NewSeat],
+) -> Result<(), KeepFault>
+    ensures ok { OnOk result (stored.games games.new.entries ≡ stored.games games.old.entries
+        ++ s.opening_game (rows.public public.now) (string_bytes paper.now)
+        (each (λ n. desk_rows.new_seat n) seats.now) ∷ []) }
+    ensures free { OnOk result ((f : s.Game → s.Game) → stored.games games.old.entries
+        ≡ change_at bytes_eq s.name_of (string_bytes public.now.game) f
+        (stored.games games.old.entries)) }
+    ensures err { OnErr result
+        (stored.games games.new.entries ≡ stored.games games.old.entries) }
+    ensures taken { IsErrOf result KeepFault.Damaged
+        → at bytes_eq s.name_of (string_bytes public.now.game) (stored.games games.old.entries)
+        ≡ None → ⊥ }
+    ensures disk { faults_after result 0 ≡ 0 }
 {
-    match effect {
+    if games.contains_key(public.game.as_str()) {
+        return Err(KeepFault::Damaged);
+    }
+    let game = game_of(alloc, public, paper, seats)?;
+    games.insert(public.game.clone()?, game)?;
+    Ok(())
+}
+
+/// What a change does to the games: a new one stands last, where its name is the change's and free.
+fn record_games(alloc: Global, games: &mut Games, change: &Change) -> Result<(), KeepFault>
+    ensures ok { OnOk result (stored.games games.new.entries ≡ stored.games_after
+        (desk_rows.change change.now) (stored.games games.old.entries)) }
+    ensures err { OnErr result
+        (stored.games games.new.entries ≡ stored.games games.old.entries) }
+    ensures fitting { IsErrOf result KeepFault.Damaged
+        → FitsGame (string_bytes change.now.game) (desk_rows.effect change.now.effect)
+        (at bytes_eq s.name_of (string_bytes change.now.game) (stored.games games.old.entries))
+        → ⊥ }
+    ensures disk { faults_after result 0 ≡ 0 }
+{
+    let kept = kept_copy(&change.kept)?;
+    let pending = pending_in(alloc, &change.effect)?;
+    match &change.effect {
         Effect::Opens {
             public,
             paper,
             seats,
-        } => Ok(Some(new_game(alloc, public, paper, seats.as_slice())?)),
-        Effect::Nothing | Effect::Pending(_) => Ok(None),
+        } => {
+            if public.game.as_str() != change.game.as_str() {
+                return Err(KeepFault::Damaged);
+            }
+            add_game(alloc, games, public, paper, seats.as_slice())
+        }
+        Effect::Nothing | Effect::Pending(_) => {
+            let author = change.author;
+            let name = change.game.as_str();
+            record_game(games, name, author, kept, &change.effect, pending);
+            Ok(())
+        }
     }
 }
 
 /// The master's last letter, where it is the master's.
 fn last_of(change: &Change) -> Result<Option<Kept>, AllocError>
-    ensures { IfOk result (λ k. option_map rows.kept k ≡ stored.last_of (desk_rows.change change.now)) }
+    ensures { IfOk result
+        (λ k. option_map rows.kept k ≡ stored.last_of (desk_rows.change change.now)) }
 {
     match change.author {
         Author::TheMaster => Ok(Some(kept_copy(&change.kept)?)),
         Author::Nobody | Author::Seat(_) => Ok(None),
-    }
-}
-
-/// A new game stands last. There is room for it.
-fn put_game(games: &mut Vec<GameRow>, game: Option<GameRow>)
-    requires { vec_len games.old < vec_capacity games.old }
-    ensures { each (λ g. stored.game g) games.new.items ≡ each (λ g. stored.game g) games.old.items
-        ++ stored.listed game }
-{
-    if let Some(game) = game {
-        games.push_reserved(game);
     }
 }
 
@@ -376,7 +415,7 @@ impl MemoryKeeper {
         MemoryKeeper {
             alloc,
             desk: Desk { digest, kept: None },
-            games: Vec::new(alloc),
+            games: IndexMap::new(alloc),
         }
     }
 }
@@ -396,34 +435,22 @@ impl Keeper for MemoryKeeper {
     }
 
     fn public(&mut self, _map: &Map, game: &str) -> Result<Option<Public>, KeepFault> {
-        match find_game(self.games.as_slice(), game) {
+        match find_game(&self.games, game) {
             None => Ok(None),
-            Some(found) => Ok(Some(public_copy(self.alloc, &found.public)?)),
+            Some(found) => Ok(Some(public_of(self.alloc, game, found)?)),
         }
     }
 
     fn own(&mut self, _map: &Map, game: &str, power: Power) -> Result<Option<Own>, KeepFault> {
-        match find_own(self.games.as_slice(), game, power) {
+        match find_own(&self.games, game, power) {
             None => Ok(None),
             Some(seat) => Ok(Some(own_copy(self.alloc, seat)?)),
         }
     }
 
     fn apply(&mut self, _map: &Map, change: &Change) -> Result<(), KeepFault> {
-        let kept = kept_copy(&change.kept)?;
         let last = last_of(change)?;
-        let pending = pending_in(self.alloc, &change.effect)?;
-        let game = opened_by(self.alloc, &change.effect)?;
-        self.games.reserve(1)?;
-        record_games(
-            &mut self.games,
-            change.game.as_str(),
-            change.author,
-            kept,
-            &change.effect,
-            pending,
-        );
-        put_game(&mut self.games, game);
+        record_games(self.alloc, &mut self.games, change)?;
         record_desk(&mut self.desk, last);
         Ok(())
     }

@@ -1,5 +1,6 @@
 //! One letter at a time: look, decide, keep.
 ghost use Rattle.std.specs.Prelude.{◌≡◌, ◌<◌, IfOk, None, Some, map as each, string_bytes};
+ghost use Rattle.dip_desk.specs.Fitting.{VerdictFits};
 ghost use Rattle.dip_desk.specs.Keeping.{Steps};
 ghost use Rattle.dip_desk.specs.Mail.{mail};
 ghost use Rattle.dip_desk.specs.Machine as m;
@@ -7,16 +8,17 @@ ghost use Rattle.dip_desk.specs.Rows as desk_rows;
 ghost use Rattle.dip_desk.specs.Running.{Runs};
 ghost use Rattle.dip_desk.specs.Verdicts.{verdict};
 ghost use Rattle.dip_records.specs.Rows as rows;
+ghost use Rattle.dip_reports.specs.Texts.{refusal_line};
 
 use crate::deciding::verdict_on;
 use crate::keeper::{Author, Change, Effect, KeepFault, Keeper};
 use crate::laws::lawful_states_stay_lawful;
 use crate::looking::{author_of, look};
-use crate::verdicts::{Verdict, refusal_line};
+use crate::verdicts::Verdict;
 use dip_letters::{Letter, LetterFault, sum};
 use dip_map::Map;
 use dip_records::{Head, Kept, Outcome, Reply};
-use dip_reports::Refusal;
+use dip_reports::{Refusal, refusal_line};
 use std::alloc::{AllocError, Global};
 
 /// Whose letter the reply answers.
@@ -34,7 +36,7 @@ fn head_of(alloc: Global, letter: &Letter<'_>) -> Result<Head, AllocError>
 fn not_known(alloc: Global) -> Result<Reply, AllocError>
     ensures { IfOk result
         (λ r. rows.reply r ≡ record
-        { outcome = Outcome.Unknown; head = None; text = m.refusal_line Refusal.Unknown }) }
+        { outcome = Outcome.Unknown; head = None; text = refusal_line Refusal.Unknown }) }
 {
     Ok(Reply {
         outcome: Outcome::Unknown,
@@ -104,7 +106,8 @@ fn settle<K: Keeper>(
 ) -> Result<Reply, KeepFault>
     requires { K.book.faults keeper.old < u64.MAX }
     ensures { Steps map.now K.book keeper.old keeper.new (λ r. rows.reply r)
-        (m.Settles (mail letter.now) (desk_rows.author author) (verdict decided)) (λ _. ⊥) result }
+        (m.Settles (mail letter.now) (desk_rows.author author) (verdict decided))
+        (λ s. VerdictFits (mail letter.now) (verdict decided) s → ⊥) result }
 {
     match decided {
         Verdict::NotKnown => Ok(not_known(alloc)?),

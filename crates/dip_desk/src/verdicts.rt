@@ -8,7 +8,7 @@ ghost use Rattle.dip_records.specs.Rows as rows;
 use crate::keeper::Effect;
 use dip_letters::{Letter, sum};
 use dip_records::Kept;
-use dip_reports::Refusal;
+use dip_reports::{Refusal, refusal_line};
 use std::alloc::{AllocError, Global};
 
 /// What is decided of a letter.
@@ -22,13 +22,6 @@ pub enum Verdict {
     OutOfTurn(String),
     /// It gets these lines, has this effect, and is kept.
     Taken(String, Effect),
-}
-
-/// A line of a reply.
-pub fn refusal_line(alloc: Global, refusal: Refusal) -> Result<String, AllocError>
-    ensures { IfOk result (λ line. string_bytes line ≡ m.refusal_line refusal) }
-{
-    format!(in alloc; "{refusal}\n")
 }
 
 /// The letter is refused, and that is kept.

@@ -7,12 +7,12 @@ use Rattle.std.specs.Str.{bytes_eq}
 use Rattle.std.specs.Char.{to_ascii_lowercase, is_ascii_lowercase}
 use Rattle.std.specs.Cmp.Derive.{both_true}
 use Rattle.dip_forms.specs.Forms.{are_letters, coast_text, is_coast, spot_text, is_spot, kind_text, small}
-use Rattle.dip_forms.specs.Drafts.{letter_at, code_at, coast_at, bare_at, coasted_at, spot_at, kind_at, mention_at}
+use Rattle.dip_forms.specs.Reading.{letter_at, code_at, coast_at, bare_at, coasted_at, spot_at, kind_at, mention_at}
 use Rattle.dip_names.specs.Options.{◌>>=◌}
 use Rattle.dip_names.specs.declared.names.Kind.{Kind}
 use Rattle.dip_names.specs.declared.names.Kind.TheVariants.{Army, Fleet}
-use Rattle.dip_forms.specs.declared.drafts.Spot.{Spot}
-use Rattle.dip_forms.specs.declared.drafts.Mention.{Mention}
+use Rattle.dip_forms.specs.declared.forms.Spot.{Spot}
+use Rattle.dip_forms.specs.declared.forms.Mention.{Mention}
 
 -- what a chain answers came through its first link
 pub bound : {A B : Type 0} (o : Option A) (f : A → Option B) (y : B) → (o >>= f) ≡ Some y → (x : A) × (o ≡ Some x) × (f x ≡ Some y)
@@ -201,7 +201,7 @@ spot_same (a ∷ b ∷ c ∷ x ∷ d ∷ e ∷ f ∷ more) = refl
 pub mention_same : (kind at : List ℕ) → mention_at (small kind) (small at) ≡ mention_at kind at
 mention_same kind at = rw (small_twice kind, spot_same at) refl
 
--- the places of a draft, one by one
+-- the places of a form, one by one
 pub one_spot : (s : Spot) → (is_spot s && true) ≡ true → is_spot s ≡ true
 one_spot s ok = (and_parts (is_spot s) true ok).0
 

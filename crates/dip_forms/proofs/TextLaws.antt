@@ -1,4 +1,4 @@
--- The canonical text of a draft says it.
+-- The canonical text of a form says it.
 use Rattle.std.proofs.Common.{◌≡◌, ℕ, ◌≤◌, ◌==◌, true, false, length, List, [], ◌∷◌, ◌++◌, refl, sym, ◌∙◌, ap, inl, inr, arith, Option, Some, None, map}
 use Rattle.std.proofs.lemmas.Bool.{and_parts, eqb-true, le-leb}
 use Rattle.std.proofs.Math.Bool.{or-true}
@@ -9,11 +9,11 @@ use Rattle.std.specs.Char.{to_ascii_lowercase, is_ascii_lowercase}
 use Rattle.std.specs.Cmp.Derive.{both_true}
 use Rattle.dip_names.specs.declared.names.Kind.{Kind}
 use Rattle.dip_names.specs.declared.names.Kind.TheVariants.{Army, Fleet}
-use Rattle.dip_forms.specs.declared.drafts.Spot.{Spot}
-use Rattle.dip_forms.specs.declared.drafts.Draft.{Draft}
-use Rattle.dip_forms.specs.declared.drafts.Draft.TheVariants.{Hold, Move, SupportHold, SupportMove, Convoy, Retreat, Disband, Build, Remove}
+use Rattle.dip_forms.specs.declared.forms.Spot.{Spot}
+use Rattle.dip_forms.specs.declared.forms.Form.{Form}
+use Rattle.dip_forms.specs.declared.forms.Form.TheVariants.{Hold, Move, SupportHold, SupportMove, Convoy, Retreat, Disband, Build, Remove}
 use Rattle.dip_forms.specs.Tokens.{minus, is_word_byte, is_word, IsToken, IsParted, ArePieces, Piece, spelling_of}
-use Rattle.dip_forms.specs.Forms.{are_letters, coast_text, is_coast, spot_text, is_spot, kind_text, form_of, is_draft, small, Says}
+use Rattle.dip_forms.specs.Forms.{are_letters, coast_text, is_coast, spot_text, is_spot, kind_text, form_tokens, is_form, small, Says}
 use Rattle.dip_forms.specs.Texts.{capital, printed_tokens, text_of_tokens, canonical_text}
 use Rattle.dip_forms.proofs.PartLaws.{letter_small, one_spot, two_spots, three_spots}
 
@@ -78,8 +78,8 @@ kind_printed Fleet = (inl refl, refl)
 dash : IsToken minus × (small minus ≡ minus)
 dash = (inr refl, refl)
 
--- what is printed of a draft is its form
-printed : (d : Draft) → is_draft d ≡ true → ArePrinted (printed_tokens d) (form_of d)
+-- what is printed of a form is its form
+printed : (d : Form) → is_form d ≡ true → ArePrinted (printed_tokens d) (form_tokens d)
 printed (Hold u) ok = (kind_printed u.kind, (spot_printed u.at (one_spot u.at ok), ((inl refl, refl), refl)))
 printed (Move u to true) ok = let (here, there) = two_spots u.at to ok in (kind_printed u.kind, (spot_printed u.at here, (dash, (spot_printed to there, ((inl refl, refl), refl)))))
 printed (Move u to false) ok = let (here, there) = two_spots u.at to ok in (kind_printed u.kind, (spot_printed u.at here, (dash, (spot_printed to there, refl))))
@@ -136,8 +136,8 @@ pieces_tokens : (ts : List (List ℕ)) → map (λ p. p.token) (pieces_of ts) �
 pieces_tokens [] = refl
 pieces_tokens (t ∷ ts) = ap (λ x. t ∷ x) (behind_tokens ts)
 
--- the canonical text of a draft says it
-pub canonical_says : (d : Draft) → is_draft d ≡ true → Says (canonical_text d) d
+-- the canonical text of a form says it
+pub canonical_says : (d : Form) → is_form d ≡ true → Says (canonical_text d) d
 canonical_says d ok =
     let all = printed d ok in
     record {
@@ -145,10 +145,10 @@ canonical_says d ok =
       spells = record {
         pieces = pieces_of (printed_tokens d);
         trail = 0;
-        well_formed = pieces_fine (printed_tokens d) (form_of d) all;
+        well_formed = pieces_fine (printed_tokens d) (form_tokens d) all;
         text = joined_text (printed_tokens d);
         same = pieces_tokens (printed_tokens d);
       };
-      form = printed_form (printed_tokens d) (form_of d) all;
+      form = printed_form (printed_tokens d) (form_tokens d) all;
       places = ok;
     }

@@ -4,8 +4,8 @@ use Rattle.dip_names.specs.declared.names.Kind.{Kind}
 use Rattle.dip_names.specs.declared.names.Kind.TheVariants.{Army, Fleet}
 use Rattle.dip_forms.specs.Tokens.{minus}
 use Rattle.dip_forms.specs.Forms.{spot_text}
-use Rattle.dip_forms.specs.declared.drafts.Draft.{Draft}
-use Rattle.dip_forms.specs.declared.drafts.Draft.TheVariants.{Hold, Move, SupportHold, SupportMove, Convoy, Retreat, Disband, Build, Remove}
+use Rattle.dip_forms.specs.declared.forms.Form.{Form}
+use Rattle.dip_forms.specs.declared.forms.Form.TheVariants.{Hold, Move, SupportHold, SupportMove, Convoy, Retreat, Disband, Build, Remove}
 
 -- the capital of a kind
 abbrev pub capital : Kind → List ℕ
@@ -13,7 +13,7 @@ capital Army = codes "A"
 capital Fleet = codes "F"
 
 -- the tokens of each form as its own text has them: places in small letters, the other words in capitals
-abbrev pub printed_tokens : Draft → List (List ℕ)
+abbrev pub printed_tokens : Form → List (List ℕ)
 printed_tokens (Hold u) = capital u.kind ∷ spot_text u.at ∷ codes "H" ∷ []
 printed_tokens (Move u to via) = capital u.kind ∷ spot_text u.at ∷ minus ∷ spot_text to ∷ (if via then codes "VIA" ∷ [] else [])
 printed_tokens (SupportHold u o held) = capital u.kind ∷ spot_text u.at ∷ codes "S" ∷ capital o.kind ∷ spot_text o.at ∷ (if held then codes "H" ∷ [] else [])
@@ -30,6 +30,6 @@ text_of_tokens [] = []
 text_of_tokens (t ∷ []) = t
 text_of_tokens (t ∷ u ∷ ts) = t ++ 32 ∷ text_of_tokens (u ∷ ts)
 
--- the text of a draft: all that it says, spelled in one way
-abbrev pub canonical_text : Draft → List ℕ
+-- the text of a form: all that it says, spelled in one way
+abbrev pub canonical_text : Form → List ℕ
 canonical_text d = text_of_tokens (printed_tokens d)

@@ -1,157 +1,70 @@
-//! A line read as a form, by the number of its tokens.
-ghost use Rattle.std.specs.Prelude.{◌≡◌, map, IfSome, IfNone};
-ghost use Rattle.dip_forms.specs.Drafts.{three_at, four_at, five_at, six_at, seven_at, done_at, draft_at};
-ghost use Rattle.dip_forms.specs.Forms.{Says};
-ghost use Rattle.dip_forms.specs.Reading.{draft_in};
-ghost use Rattle.dip_forms.specs.declared.drafts.Draft.{Draft};
+//! The forms of orders, before their codes are looked up.
+use dip_names::Kind;
 
-use crate::drafts::{Draft, Mention};
-use crate::parts::{is_any_case, mention_of, spot_of};
-use crate::words::tokens;
-
-/// `BUILD A par`, `REMOVE A par`, `A par H`, `A mun D`.
-fn three_of(a: &[u8], b: &[u8], c: &[u8]) -> Option<Draft>
-    ensures { result ≡ three_at a.now b.now c.now }
-{
-    if is_any_case(a, b"build") {
-        let unit = mention_of(b, c)?;
-        return Some(Draft::Build { unit });
-    }
-    if is_any_case(a, b"remove") {
-        let unit = mention_of(b, c)?;
-        return Some(Draft::Remove { unit });
-    }
-    let unit = mention_of(a, b)?;
-    if is_any_case(c, b"h") {
-        return Some(Draft::Hold { unit });
-    }
-    if is_any_case(c, b"d") {
-        return Some(Draft::Disband { unit });
-    }
-    None
+/// A place as written: a province's code and, where one is written, a coast's name.
+#[derive(Clone, Copy)]
+pub struct Spot {
+    /// Three letters, in lower case.
+    pub code: [u8; 3],
+    /// Two letters, in lower case.
+    pub coast: Option<[u8; 2]>,
 }
 
-/// `A par - bur`, `A mun R boh`.
-fn four_of(unit: Mention, verb: &[u8], to: &[u8]) -> Option<Draft>
-    ensures { result ≡ four_at unit verb.now to.now }
-{
-    let to = spot_of(to)?;
-    if is_any_case(verb, b"-") {
-        return Some(Draft::Move {
-            unit,
-            to,
-            via: false,
-        });
-    }
-    if is_any_case(verb, b"r") {
-        return Some(Draft::Retreat { unit, to });
-    }
-    None
+/// A unit as written.
+#[derive(Clone, Copy)]
+pub struct Mention {
+    /// Army or fleet.
+    pub kind: Kind,
+    /// Where it stands.
+    pub at: Spot,
 }
 
-/// `A mar S A par`, `A lon - bel VIA`.
-fn five_of(unit: Mention, verb: &[u8], a: &[u8], b: &[u8]) -> Option<Draft>
-    ensures { result ≡ five_at unit verb.now a.now b.now }
-{
-    if is_any_case(verb, b"s") {
-        let other = mention_of(a, b)?;
-        return Some(Draft::SupportHold {
-            unit,
-            other,
-            held: false,
-        });
-    }
-    let to = spot_of(a)?;
-    if is_any_case(verb, b"-") && is_any_case(b, b"via") {
-        return Some(Draft::Move {
-            unit,
-            to,
-            via: true,
-        });
-    }
-    None
-}
-
-/// `A mar S A par H`.
-fn six_of(unit: Mention, verb: &[u8], kind: &[u8], at: &[u8], last: &[u8]) -> Option<Draft>
-    ensures { result ≡ six_at unit verb.now kind.now at.now last.now }
-{
-    let other = mention_of(kind, at)?;
-    if is_any_case(verb, b"s") && is_any_case(last, b"h") {
-        return Some(Draft::SupportHold {
-            unit,
-            other,
-            held: true,
-        });
-    }
-    None
-}
-
-/// `A mar S A par - bur`, `F nth C A lon - bel`.
-fn seven_of(
-    unit: Mention,
-    verb: &[u8],
-    kind: &[u8],
-    at: &[u8],
-    sign: &[u8],
-    to: &[u8],
-) -> Option<Draft>
-    ensures { result ≡ seven_at unit verb.now kind.now at.now sign.now to.now }
-{
-    let other = mention_of(kind, at)?;
-    let to = spot_of(to)?;
-    if !is_any_case(sign, b"-") {
-        return None;
-    }
-    if is_any_case(verb, b"s") {
-        return Some(Draft::SupportMove { unit, other, to });
-    }
-    if is_any_case(verb, b"c") && is_any_case(kind, b"a") {
-        return Some(Draft::Convoy {
-            unit,
-            army: other.at,
-            to,
-        });
-    }
-    None
-}
-
-/// A unit, what it does, and the tokens behind.
-#[tactic(auto, using(crate::proofs::FormLaws::done_long))]
-fn done_of(unit: Mention, verb: &[u8], behind: &[&[u8]]) -> Option<Draft>
-    ensures { result ≡ done_at unit verb.now (map (λ t. t.now) behind.now) }
-{
-    match behind {
-        [to] => four_of(unit, verb, to),
-        [a, b] => five_of(unit, verb, a, b),
-        [kind, at, last] => six_of(unit, verb, kind, at, last),
-        [kind, at, sign, to] => seven_of(unit, verb, kind, at, sign, to),
-        _ => None,
-    }
-}
-
-fn draft_of(tokens: &[&[u8]]) -> Option<Draft>
-    ensures { result ≡ draft_at (map (λ t. t.now) tokens.now) }
-{
-    match tokens {
-        [a, b, c] => three_of(a, b, c),
-        [kind, at, verb, behind @ ..] => {
-            let unit = mention_of(kind, at)?;
-            done_of(unit, verb, behind)
-        }
-        _ => None,
-    }
-}
-
-/// What a line says, if it has the form of an order.
-#[tactic(auto, unfolding(crate::specs::Reading::draft_in))]
-pub fn draft_of_line(line: &str) -> Option<Draft>
-    ensures value { result ≡ draft_in line.now }
-    ensures found { IfSome result (λ d. Says line.now d) }
-    ensures none { IfNone result ((d : Draft) → Says line.now d → ⊥) }
-{
-    match tokens(line) {
-        Some(tokens) => draft_of(tokens.as_slice()),
-        None => None,
-    }
+/// What a line says, before it is held against a board.
+#[derive(Clone, Copy)]
+pub enum Form {
+    /// `A par H`
+    Hold {
+        unit: Mention,
+    },
+    /// `A par - bur`, `A lon - bel VIA`
+    Move {
+        unit: Mention,
+        to: Spot,
+        via: bool,
+    },
+    /// `A mar S A par`, and `A mar S A par H`, where `held`
+    SupportHold {
+        unit: Mention,
+        other: Mention,
+        held: bool,
+    },
+    /// `A mar S A par - bur`
+    SupportMove {
+        unit: Mention,
+        other: Mention,
+        to: Spot,
+    },
+    /// `F nth C A lon - bel`
+    Convoy {
+        unit: Mention,
+        army: Spot,
+        to: Spot,
+    },
+    /// `A mun R boh`
+    Retreat {
+        unit: Mention,
+        to: Spot,
+    },
+    /// `A mun D`
+    Disband {
+        unit: Mention,
+    },
+    /// `BUILD A par`, `BUILD F stp/nc`
+    Build {
+        unit: Mention,
+    },
+    /// `REMOVE A par`
+    Remove {
+        unit: Mention,
+    },
 }

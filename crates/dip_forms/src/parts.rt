@@ -1,9 +1,9 @@
 //! Parts of a form: kinds, codes, places, units.
 ghost use Rattle.std.specs.Prelude.{◌≡◌};
-ghost use Rattle.dip_forms.specs.Drafts.{is_any_case, letter_at, code_at, coast_at, spot_at, kind_at, mention_at};
+ghost use Rattle.dip_forms.specs.Reading.{is_any_case, letter_at, code_at, coast_at, spot_at, kind_at, mention_at};
 ghost use Rattle.dip_forms.specs.Forms.{small};
 
-use crate::drafts::{Mention, Spot};
+use crate::forms::{Mention, Spot};
 use dip_names::Kind;
 
 fn letter_of(b: u8) -> Option<u8>

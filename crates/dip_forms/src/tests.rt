@@ -1,5 +1,5 @@
 //! Lines and their forms.
-use crate::{Draft, Mention, Spot, draft_of_line, tokens};
+use crate::{Form, Mention, Spot, form_of_line, tokens};
 use dip_names::Kind;
 use std::alloc::{AllocError, Global};
 use std::test::Fail;
@@ -34,13 +34,13 @@ fn print_support(unit: Mention, other: Mention, out: &mut Vec<u8>) -> Result<(),
     print_mention(other, out)
 }
 
-fn print_draft(draft: Draft, out: &mut Vec<u8>) -> Result<(), AllocError> {
-    match draft {
-        Draft::Hold { unit } => {
+fn print_form(form: Form, out: &mut Vec<u8>) -> Result<(), AllocError> {
+    match form {
+        Form::Hold { unit } => {
             print_mention(unit, out)?;
             out.extend_from_slice(b" H")
         }
-        Draft::Move { unit, to, via } => {
+        Form::Move { unit, to, via } => {
             print_mention(unit, out)?;
             print_going(to, out)?;
             if via {
@@ -48,37 +48,37 @@ fn print_draft(draft: Draft, out: &mut Vec<u8>) -> Result<(), AllocError> {
             }
             Ok(())
         }
-        Draft::SupportHold { unit, other, held } => {
+        Form::SupportHold { unit, other, held } => {
             print_support(unit, other, out)?;
             if held {
                 out.extend_from_slice(b" H")?;
             }
             Ok(())
         }
-        Draft::SupportMove { unit, other, to } => {
+        Form::SupportMove { unit, other, to } => {
             print_support(unit, other, out)?;
             print_going(to, out)
         }
-        Draft::Convoy { unit, army, to } => {
+        Form::Convoy { unit, army, to } => {
             print_mention(unit, out)?;
             out.extend_from_slice(b" C A ")?;
             print_spot(army, out)?;
             print_going(to, out)
         }
-        Draft::Retreat { unit, to } => {
+        Form::Retreat { unit, to } => {
             print_mention(unit, out)?;
             out.extend_from_slice(b" R ")?;
             print_spot(to, out)
         }
-        Draft::Disband { unit } => {
+        Form::Disband { unit } => {
             print_mention(unit, out)?;
             out.extend_from_slice(b" D")
         }
-        Draft::Build { unit } => {
+        Form::Build { unit } => {
             out.extend_from_slice(b"BUILD ")?;
             print_mention(unit, out)
         }
-        Draft::Remove { unit } => {
+        Form::Remove { unit } => {
             out.extend_from_slice(b"REMOVE ")?;
             print_mention(unit, out)
         }
@@ -132,9 +132,9 @@ fn each_form_is_read(rt: HostRuntime) -> Result<(), Fail> {
     let mut count = 0u32;
     for case in FORMS.lines() {
         let (line, wanted) = case.split_once(" = ").expect(&rt, "a line and its text");
-        let draft = draft_of_line(line).expect(&rt, "a line of a form");
+        let form = form_of_line(line).expect(&rt, "a line of a form");
         let mut text = Vec::new(alloc);
-        print_draft(draft, &mut text)?;
+        print_form(form, &mut text)?;
         assert!(rt; text.as_slice() == wanted.as_bytes(), "{line}");
         count = count.saturating_add(1);
     }
@@ -242,7 +242,7 @@ WAIVE
 fn no_neighbour_of_a_form_is_read(rt: HostRuntime) {
     let mut count = 0u32;
     for line in STRAYS.lines() {
-        assert!(rt; draft_of_line(line).is_none(), "{line}");
+        assert!(rt; form_of_line(line).is_none(), "{line}");
         count = count.saturating_add(1);
     }
     assert_eq!(rt; count, 93);
@@ -262,15 +262,15 @@ fn each_byte_stands_alone_or_in_a_line(rt: HostRuntime) -> Result<(), Fail> {
     let alloc = rt.alloc();
     for b in b' '..=b'~' {
         let alone = around(alloc, "", b, "")?;
-        assert!(rt; draft_of_line(alone.as_str()).is_none());
+        assert!(rt; form_of_line(alone.as_str()).is_none());
         let verb = around(alloc, "A par ", b, " bur")?;
         let goes = matches!(b, b'-' | b'R' | b'r');
-        assert!(rt; draft_of_line(verb.as_str()).is_some() == goes);
+        assert!(rt; form_of_line(verb.as_str()).is_some() == goes);
         let last = around(alloc, "A par ", b, "")?;
         let stays = matches!(b, b'H' | b'h' | b'D' | b'd');
-        assert!(rt; draft_of_line(last.as_str()).is_some() == stays);
+        assert!(rt; form_of_line(last.as_str()).is_some() == stays);
         let inside = around(alloc, "A par", b, "- bur")?;
-        assert!(rt; draft_of_line(inside.as_str()).is_some() == (b == b' '));
+        assert!(rt; form_of_line(inside.as_str()).is_some() == (b == b' '));
     }
     Ok(())
 }
@@ -281,7 +281,7 @@ fn a_line_of_minus_signs_is_no_order(rt: HostRuntime) -> Result<(), Fail> {
     for _ in 0..100 {
         line.push_str("-")?;
     }
-    assert!(rt; draft_of_line(line.as_str()).is_none());
+    assert!(rt; form_of_line(line.as_str()).is_none());
     assert!(rt; tokens(line.as_str()).is_none());
     Ok(())
 }

@@ -43,8 +43,3 @@ part_written a b c f xs i d size inside first second =
     let t = f (get_or xs i d) in
     let q = flat_map f (drop (i + 1) xs) in
     (length (p ++ take size t), subst (λ (s : List ℕ). Appends a c s) (part_of p t q size ∙ ap (λ s. take (length (p ++ take size t)) s) (sym (one_of f xs i d inside))) (Appends-trans a b c _ _ first second))
-
--- a reply to somebody is its texts one behind the other
-pub reply_headed : (outcome : Outcome) (game sender : List ℕ) (number : ℕ) (text : List ℕ) → reply_text (record { outcome = outcome; head = Some (record { game = game; sender = sender; number = number }); text = text })
-    ≡ codes "REPLY " ++ (game ++ (codes " " ++ (sender ++ (codes " " ++ (decimal number ++ (codes "\n" ++ (text ++ codes "END\n")))))))
-reply_headed outcome game sender number text = simp append_assoc refl

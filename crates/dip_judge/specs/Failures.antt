@@ -1,6 +1,6 @@
 -- What the program tells whoever started it.
 use Rattle.std.specs.Prelude.{ℕ, List, ◌++◌, Option, None, Some, IsSome, codes}
-use Rattle.dip_desk.specs.declared.keeper.KeepFault.TheVariants.{Disk, Damaged, Memory as no_room}
+use Rattle.dip_desk.specs.Faults.{keep_fault_name}
 use Rattle.dip_names.specs.Faults.{fault_name}
 use Rattle.std.specs.declared.io.ErrorKind.{ErrorKind}
 use Rattle.std.specs.declared.io.ErrorKind.TheVariants.{OutOfMemory}
@@ -34,9 +34,13 @@ run_name Read = codes "Read"
 run_name TooLong = codes "TooLong"
 run_name Write = codes "Write"
 run_name Memory = codes "Memory"
-run_name (Keep no_room) = codes "Memory"
-run_name (Keep Disk) = codes "Disk"
-run_name (Keep Damaged) = codes "Damaged"
+run_name (Keep fault) = keep_fault_name fault
+
+-- a fault of the arguments has its name; where clap refuses the words its own text, of which nothing is said
+abbrev pub usage_text : UsageFault → Option (List ℕ)
+usage_text (Clap error) = None
+usage_text Check = Some (codes "Usage")
+usage_text no_words = Some (codes "Memory")
 
 -- what is printed: `dip_judge: `, the number or name and LF; where clap refuses the words its own text, of which nothing is said
 abbrev pub printed : Failure → Option (List ℕ)

@@ -12,6 +12,7 @@ use clap::error::ErrorKind;
 use clap::{Arg, ArgMatches, Command, Error};
 use dip_letters::is_secret;
 use std::alloc::{AllocError, Global};
+use std::fmt;
 
 /// What the program is asked to do.
 #[derive(Clone, Copy, Debug, PartialEq, Eq)]
@@ -33,6 +34,20 @@ pub enum UsageFault {
     Check,
     /// Memory ran out.
     Memory,
+}
+
+impl fmt::Display for UsageFault {
+    ghost use Rattle.dip_judge.specs.Failures.{usage_text};
+
+    ghost output = { λ fault. usage_text fault };
+
+    fn fmt<W: fmt::Write>(&self, f: &mut fmt::Formatter<W>) -> fmt::Result {
+        match self {
+            UsageFault::Clap(error) => write!(f, "{error}"),
+            UsageFault::Check => f.write_str("Usage"),
+            UsageFault::Memory => f.write_str("Memory"),
+        }
+    }
 }
 
 /// The option `--master SECRET`.

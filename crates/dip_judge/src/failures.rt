@@ -1,15 +1,13 @@
 //! Why the program ends early: its exit status, and what it prints on standard error.
 ghost use Rattle.std.specs.Prelude.{◌≡◌};
-ghost use Rattle.dip_judge.specs.Failures.{file_name, run_name, status_of, words_fault};
+ghost use Rattle.dip_judge.specs.Failures.{status_of, words_fault};
 ghost use Rattle.dip_judge.specs.declared.args.UsageFault.TheVariants.{Memory as no_words};
 ghost use Rattle.dip_judge.specs.declared.failures.Failure.TheVariants.{Usage, MapFile, Map, Run};
 ghost use Rattle.std.specs.IoError.{error_kind};
 
 use crate::args::UsageFault;
 use crate::map_file::FileFault;
-use crate::reading::ReadFault;
 use crate::run::RunFault;
-use dip_desk::KeepFault;
 use dip_names::MapFault;
 use std::alloc::AllocError;
 use std::{fmt, io};
@@ -53,39 +51,16 @@ impl fmt::Display for Failure {
     ghost output = { λ f. printed f };
 
     fn fmt<W: fmt::Write>(&self, f: &mut fmt::Formatter<W>) -> fmt::Result {
-        let name = match self {
-            Failure::Usage(UsageFault::Clap(error)) => return write!(f, "{error}"),
-            Failure::Usage(UsageFault::Check) => "Usage",
-            Failure::Usage(UsageFault::Memory) => "Memory",
-            Failure::MapFile(fault) => file_fault_name(*fault),
-            Failure::Map(fault) => fault.name(),
-            Failure::Run(fault) => run_fault_name(*fault),
-        };
-        write!(f, "dip_judge: {name}\n")
-    }
-}
-
-/// The printed name of a fault of the map's file.
-fn file_fault_name(fault: FileFault) -> &'static str
-    ensures { result.now ≡ file_name fault }
-{
-    match fault {
-        FileFault::Unread(ReadFault::Memory) => "Memory",
-        FileFault::Unread(_) | FileFault::NotUtf8 => "Read",
-    }
-}
-
-/// The printed name of a run's fault.
-fn run_fault_name(fault: RunFault) -> &'static str
-    ensures { result.now ≡ run_name fault }
-{
-    match fault {
-        RunFault::Read => "Read",
-        RunFault::TooLong => "TooLong",
-        RunFault::Write => "Write",
-        RunFault::Memory | RunFault::Keep(KeepFault::Memory) => "Memory",
-        RunFault::Keep(KeepFault::Disk) => "Disk",
-        RunFault::Keep(KeepFault::Damaged) => "Damaged",
+        match self {
+            Failure::Usage(UsageFault::Clap(error)) => write!(f, "{error}"),
+            Failure::Usage(fault) => write!(f, "dip_judge: {fault}\n"),
+            Failure::MapFile(fault) => write!(f, "dip_judge: {fault}\n"),
+            Failure::Map(fault) => {
+                let name = fault.name();
+                write!(f, "dip_judge: {name}\n")
+            }
+            Failure::Run(fault) => write!(f, "dip_judge: {fault}\n"),
+        }
     }
 }
 

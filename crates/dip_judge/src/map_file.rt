@@ -1,16 +1,17 @@
 //! The map's file: its text, and the map that it says.
 ghost use Rattle.std.specs.Prelude.{◌≡◌, ◌≤◌, IfErr, IfOk, length, string_bytes};
 ghost use Rattle.std.specs.Str.{IsUtf8};
-ghost use Rattle.dip_judge.specs.Failures.{IsMapFailure};
+ghost use Rattle.dip_judge.specs.Failures.{IsMapFailure, file_name};
 ghost use Rattle.dip_judge.specs.MapFiles.{IsFileFault, IsFileText};
 
 use crate::failures::Failure;
 use crate::reading::{ReadFault, read_whole};
 use dip_map::{Map, STANDARD};
 use std::alloc::Global;
-use std::fs;
+use std::error::Error;
 use std::io::Read;
 use std::rt::Files;
+use std::{fmt, fs};
 
 /// The most bytes of a map's file.
 pub const MOST_MAP: usize = 1_048_576;
@@ -23,6 +24,30 @@ pub enum FileFault {
     /// Its bytes aren't UTF-8.
     NotUtf8,
 }
+
+impl FileFault {
+    /// The fault's name, as the program tells it: `Memory`, or `Read` for each other reason.
+    pub fn name(self) -> &'static str
+        ensures { result.now ≡ file_name self }
+    {
+        match self {
+            FileFault::Unread(ReadFault::Memory) => "Memory",
+            FileFault::Unread(_) | FileFault::NotUtf8 => "Read",
+        }
+    }
+}
+
+impl fmt::Display for FileFault {
+    ghost use Rattle.std.specs.Prelude.{Some};
+
+    ghost output = { λ fault. Some (file_name fault) };
+
+    fn fmt<W: fmt::Write>(&self, f: &mut fmt::Formatter<W>) -> fmt::Result {
+        f.write_str(self.name())
+    }
+}
+
+impl Error for FileFault {}
 
 /// The text that these bytes are.
 fn text_of(bytes: Vec<u8>) -> Result<String, FileFault>

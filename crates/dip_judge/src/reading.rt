@@ -3,6 +3,8 @@ ghost use Rattle.std.specs.Prelude.{IfOk, IsErrOf};
 ghost use Rattle.dip_judge.specs.Reading.{IsLonger, IsReadWithin};
 
 use std::alloc::Global;
+use std::error::Error;
+use std::fmt;
 use std::io::Read;
 
 /// Why what a reader has can't be had.
@@ -15,6 +17,23 @@ pub enum ReadFault {
     /// Memory ran out.
     Memory,
 }
+
+impl fmt::Display for ReadFault {
+    ghost use Rattle.dip_judge.specs.Reading.{read_name};
+    ghost use Rattle.std.specs.Prelude.{Some};
+
+    ghost output = { λ fault. Some (read_name fault) };
+
+    fn fmt<W: fmt::Write>(&self, f: &mut fmt::Formatter<W>) -> fmt::Result {
+        f.write_str(match self {
+            ReadFault::Read => "Read",
+            ReadFault::TooLong => "TooLong",
+            ReadFault::Memory => "Memory",
+        })
+    }
+}
+
+impl Error for ReadFault {}
 
 /// All that the reader has, at most `most` bytes.
 pub fn read_whole<R: Read>(alloc: Global, reader: &mut R, most: usize) -> Result<Vec<u8>, ReadFault>

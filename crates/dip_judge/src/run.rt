@@ -6,6 +6,7 @@ ghost use Rattle.dip_letters.specs.Input.{IsNext};
 ghost use Rattle.dip_desk.specs.Lawful.{IsLawful};
 ghost use Rattle.dip_reports.specs.Texts.{reply_text};
 ghost use Rattle.dip_records.specs.Rows as rows;
+ghost use Rattle.dip_judge.specs.Failures.{run_name};
 ghost use Rattle.dip_judge.specs.Runs.{AnswersAll, IsReadToEnd, IsReadWhole, IsTurn, IsUntouched, Stops};
 ghost use Rattle.dip_judge.specs.RunFaults.{IsAnsweringFault, IsReadingFault, IsTakingFault, StopsBy, faults_after_run};
 
@@ -14,9 +15,11 @@ use dip_desk::{KeepFault, Keeper, fault_reply, lawful_states_stay_lawful, take};
 use dip_letters::{Next, next_letter};
 use dip_map::Map;
 use dip_records::Reply;
-use dip_reports::reply_text;
+use dip_reports::{reply_pieces, reply_text};
 use itoa::Buffer;
 use std::alloc::Global;
+use std::error::Error;
+use std::fmt;
 use std::io::{Read, Write};
 
 /// The most bytes of an input.
@@ -36,6 +39,33 @@ pub enum RunFault {
     /// The keeper gave no answer to a letter, which wasn't taken.
     Keep(KeepFault),
 }
+
+impl RunFault {
+    /// The fault's name, as the program tells it: a keeper's fault has its own.
+    pub fn name(self) -> &'static str
+        ensures { result.now ≡ run_name self }
+    {
+        match self {
+            RunFault::Read => "Read",
+            RunFault::TooLong => "TooLong",
+            RunFault::Write => "Write",
+            RunFault::Memory => "Memory",
+            RunFault::Keep(fault) => fault.name(),
+        }
+    }
+}
+
+impl fmt::Display for RunFault {
+    ghost use Rattle.std.specs.Prelude.{Some};
+
+    ghost output = { λ fault. Some (run_name fault) };
+
+    fn fmt<W: fmt::Write>(&self, f: &mut fmt::Formatter<W>) -> fmt::Result {
+        f.write_str(self.name())
+    }
+}
+
+impl Error for RunFault {}
 
 /// All that the reader has, at most `MOST_INPUT` bytes.
 fn read_input<R: Read>(alloc: Global, reader: &mut R) -> Result<Vec<u8>, RunFault>
@@ -94,22 +124,8 @@ fn write_pieces<W: Write>(writer: &mut W, reply: &Reply) -> Result<(), RunFault>
         (first size (reply_text (rows.reply reply.now)))) }
     ensures fault { IfErr result (λ f. f ≡ RunFault.Write) }
 {
-    let text = reply.text.as_str();
-    match &reply.head {
-        None => write_texts(writer, &["REPLY nobody 0\n", text, "END\n"]),
-        Some(head) => {
-            let mut digits = Buffer::new();
-            let number = digits.format(head.number);
-            let game = head.game.as_str();
-            let sender = head.sender.as_str();
-            write_texts(
-                writer,
-                &[
-                    "REPLY ", game, " ", sender, " ", number, "\n", text, "END\n",
-                ],
-            )
-        }
-    }
+    let mut digits = Buffer::new();
+    write_texts(writer, &reply_pieces(reply, &mut digits))
 }
 
 /// Writes a reply, or a beginning of it: in one write where there is room for its text and the writer takes it whole.

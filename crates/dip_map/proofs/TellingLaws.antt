@@ -5,29 +5,28 @@ use Rattle.std.proofs.lemmas.List.{take_at, drop_at}
 use Rattle.std.proofs.lemmas.Option.{slice_get-get_or}
 use Rattle.dip_names.specs.declared.names.Place.{Place}
 use Rattle.dip_names.specs.Forms.{is_code}
-use Rattle.std.proofs.Common.{◌≡◌, ◌↔◌, ◌⊎◌, ℕ, ◌<◌, ◌+◌, ◌==◌, zero, suc, length, get_or, Contains, Bool, true, false, List, [], ◌∷◌, codes, refl, sym, ◌∙◌, ap, subst, inl, inr, arith, cond, Option, Some, None, Result, Ok, Err, ◌&&◌, nat_lt, take, drop}
+use Rattle.std.proofs.Common.{◌≡◌, ◌↔◌, ℕ, ◌<◌, ◌+◌, ◌==◌, zero, suc, length, get_or, Contains, Bool, true, false, List, [], ◌∷◌, codes, refl, sym, ◌∙◌, ap, subst, inl, inr, arith, cond, Option, Some, None, Result, Ok, Err, ◌&&◌, nat_lt, take, drop}
 use Rattle.std.proofs.lemmas.Bool.{cases_Bool, eqb-true, eq-eqb, false≢true, and_parts, lt-ltb, ltb-true}
 use Rattle.std.proofs.lemmas.List.Quantifiers.{position-Some}
 use Rattle.std.proofs.lemmas.Slice.Eq.{bytes_eq-Decides}
 use Rattle.std.specs.List.{list_any, position}
 use Rattle.std.specs.Str.{bytes_eq}
 use Rattle.dip_names.specs.declared.faults.MapFault.{MapFault}
-use Rattle.dip_names.specs.declared.faults.MapFault.TheVariants.{OverLimit, UnknownName}
-use Rattle.dip_names.specs.declared.names.Terrain.{Terrain}
-use Rattle.dip_names.specs.declared.names.Terrain.TheVariants.{Inland, Coast, Sea}
+use Rattle.dip_names.specs.declared.faults.MapFault.TheVariants.{OverLimit}
+use Rattle.dip_names.specs.declared.names.Terrain.TheVariants.{Inland}
 use Rattle.dip_names.specs.Results.{◌>>=◌}
 use Rattle.dip_mapfile.specs.Drafts.{Draft, PowerDraft, ProvinceDraft, Site, ShoreDraft}
 use Rattle.dip_mapfile.specs.Files as files
-use Rattle.dip_mapfile.specs.Tables.{HasTable, Members, Names, Says, boolean, get_member, parse_document, table, FleetNames, behind_slash, site_text}
-use Rattle.dip_mapfile.proofs.FileLaws.{ListsCodes, ProvinceRead, ReadFile, ReadPower, ReadProvince, bind_ok, contains_first, contains_more, element_cases, file_read, flag_is, member_at, power_read, province_read, terrain_is, ListsShore, no_shore_draft, shore_told}
-use Rattle.dip_mapfile.proofs.FileLaws as file_laws
-use Rattle.dip_chart.specs.Charts.{Chart, IsMap, Province, Realm, army_next, home, is_army_next, no_province, no_realm, power_of, prov_of, province, realm, Shore, coast_of, is_fleet_next, is_fleet_place, no_shore, shore}
+use Rattle.dip_mapfile.specs.Tables.{HasTable, Members, Names, Says, get_member, parse_document, FleetNames, behind_slash, site_text, terrain_word}
+use Rattle.dip_mapfile.proofs.FileLaws.{ListsCodes, ProvinceRead, ReadFile, bind_ok, contains_first, contains_more, element_cases, file_read, flag_is, member_at, power_read, province_read, terrain_is, ListsShore, no_shore_draft, shore_told}
+use Rattle.dip_chart.specs.Charts.{Chart, IsMap, Province, Realm, army_next, home, no_province, no_realm, prov_of, province, realm, Shore, coast_of, is_fleet_next, is_fleet_place, no_shore, shore}
 use Rattle.dip_chart.specs.Checks.{first_fault}
 use Rattle.dip_map.specs.Stated.{chart_at, chart_of, check, check_by, each, each_from, is_few, or_unknown, within_limits, parts_at, prov_at, province_at, realm_at, shore_at, map_in, unit_at, coast_at, place_at}
-use Rattle.dip_map.specs.Telling.{IsTold, IsToldPower, StatesWhatItTells, Tells, terrain_word, place_text}
+use Rattle.dip_map.specs.Spelled.{site_of}
+use Rattle.dip_map.specs.Telling.{IsTold, IsToldPower, StatesWhatItTells, place_text}
 
 -- what stands for a draft that isn't there
-abbrev no_draft : ProvinceDraft
+abbrev pub no_draft : ProvinceDraft
 no_draft = record { code = []; name = []; terrain = Inland; centre = false; army = []; shores = [] }
 
 abbrev no_power : PowerDraft
@@ -59,7 +58,7 @@ each_back f (z ∷ zs) ys h y c =
       | inr behind ↦ let (x, among, made) = each_back f zs more others y behind in (x, contains_more z x zs among, made)
     ]
 
-each_at : {A B : Type 0} (f : A → Result B MapFault) (xs : List A) (ys : List B) → each f xs ≡ Ok ys → (i : ℕ) (a : A) (b : B) → i < length ys → f (get_or xs i a) ≡ Ok (get_or ys i b)
+pub each_at : {A B : Type 0} (f : A → Result B MapFault) (xs : List A) (ys : List B) → each f xs ≡ Ok ys → (i : ℕ) (a : A) (b : B) → i < length ys → f (get_or xs i a) ≡ Ok (get_or ys i b)
 each_at f [] ys h i a b low =
     let e : [] ≡ ys = cc in
     absurd (omega (arith, low, ap (λ us. length us) e))
@@ -94,12 +93,12 @@ each_from_at f k (z ∷ zs) ys h (suc i) a b low =
     (n, subst (λ us. f n (get_or zs i a) ≡ Ok (get_or us (suc i) b)) e is)
 
 -- the parts of the map that a draft states
-record ChartRead (d : Draft) (m : Chart) : Type 0 where
+pub record ChartRead (d : Draft) (m : Chart) : Type 0 where
   pub name : d.name ≡ m.name
   pub realms : each_from (realm_at d) 0 d.powers ≡ Ok m.realms
   pub provinces : each (province_at d) d.provinces ≡ Ok m.provinces
 
-passes : (o : Option MapFault) (n m : Chart) → check_by o n ≡ Ok m → n ≡ m
+pub passes : (o : Option MapFault) (n m : Chart) → check_by o n ≡ Ok m → n ≡ m
 passes None n m h = cc
 passes (Some e) n m h = absurd (cc)
 
@@ -113,7 +112,7 @@ with_provinces d realms provinces = Ok (record { name = d.name; realms = realms;
 abbrev with_realms : Draft → List Realm → Result Chart MapFault
 with_realms d realms = each (province_at d) d.provinces >>= with_provinces d realms
 
-chart_read : (d : Draft) (m : Chart) → chart_of d ≡ Ok m → ChartRead d m
+pub chart_read : (d : Draft) (m : Chart) → chart_of d ≡ Ok m → ChartRead d m
 unfolding chart_at
 chart_read d m h =
     let (n, parts, last_check) = bind_ok (parts_at d) check m h in
@@ -127,7 +126,7 @@ chart_read d m h =
     subst (λ (x : Chart). ChartRead d x) whole (record { name = refl; realms = r; provinces = p })
 
 -- a province and a power of the map, and their drafts
-record OfDraft (d : Draft) (w : ProvinceDraft) (r : Province) : Type 0 where
+pub record OfDraft (d : Draft) (w : ProvinceDraft) (r : Province) : Type 0 where
   pub code : w.code ≡ r.code
   pub name : w.name ≡ r.name
   pub terrain : w.terrain ≡ r.terrain
@@ -135,7 +134,7 @@ record OfDraft (d : Draft) (w : ProvinceDraft) (r : Province) : Type 0 where
   pub army : each (prov_at d) w.army ≡ Ok r.army
   pub shores : each (shore_at d) w.shores ≡ Ok r.shores
 
-of_draft : (d : Draft) (w : ProvinceDraft) (r : Province) → province_at d w ≡ Ok r → OfDraft d w r
+pub of_draft : (d : Draft) (w : ProvinceDraft) (r : Province) → province_at d w ≡ Ok r → OfDraft d w r
 unfolding province_at
 of_draft d w r h =
     let (army, a, rest) = bind_ok (each (prov_at d) w.army) (λ next. each (shore_at d) w.shores >>= λ shores. Ok (record { code = w.code; name = w.name; terrain = w.terrain; centre = w.centre; army = next; shores = shores })) r h in
@@ -156,7 +155,7 @@ of_power d n w r h =
     subst (λ (x : Realm). OfPower d w x) is (record { name = refl; home = a })
 
 -- the draft of a province of the map
-province_of : (d : Draft) (m : Chart) → ChartRead d m → (p : ℕ) → p < length m.provinces → OfDraft d (get_or d.provinces p no_draft) (province m p)
+pub province_of : (d : Draft) (m : Chart) → ChartRead d m → (p : ℕ) → p < length m.provinces → OfDraft d (get_or d.provinces p no_draft) (province m p)
 province_of d m c p low = of_draft d (get_or d.provinces p no_draft) (province m p) (each_at (province_at d) d.provinces m.provinces c.provinces p no_draft no_province low)
 
 power_at : (d : Draft) (m : Chart) → ChartRead d m → (r : ℕ) → r < length m.realms → OfPower d (get_or d.powers r no_power) (realm m r)
@@ -164,7 +163,7 @@ power_at d m c r low =
     let (n, is) = each_from_at (realm_at d) 0 d.powers m.realms c.realms r no_power no_realm low in
     of_power d n (get_or d.powers r no_power) (realm m r) is
 
-lengths : {A B : Type 0} (f : A → Result B MapFault) (xs : List A) (ys : List B) → each f xs ≡ Ok ys → length xs ≡ length ys
+pub lengths : {A B : Type 0} (f : A → Result B MapFault) (xs : List A) (ys : List B) → each f xs ≡ Ok ys → length xs ≡ length ys
 lengths f [] ys h = let e : [] ≡ ys = cc in ap (λ us. length us) e
 lengths f (z ∷ zs) ys h =
     let (first, found, rest) = bind_ok (f z) (λ u. each f zs >>= λ more. Ok (u ∷ more)) ys h in
@@ -172,7 +171,7 @@ lengths f (z ∷ zs) ys h =
     let e : first ∷ more ≡ ys = cc in
     ap (λ n. suc n) (lengths f zs more others) ∙ ap (λ us. length us) e
 
-lengths_from : {A B : Type 0} (f : ℕ → A → Result B MapFault) (k : ℕ) (xs : List A) (ys : List B) → each_from f k xs ≡ Ok ys → length xs ≡ length ys
+pub lengths_from : {A B : Type 0} (f : ℕ → A → Result B MapFault) (k : ℕ) (xs : List A) (ys : List B) → each_from f k xs ≡ Ok ys → length xs ≡ length ys
 lengths_from f k [] ys h = let e : [] ≡ ys = cc in ap (λ us. length us) e
 lengths_from f k (z ∷ zs) ys h =
     let (first, found, rest) = bind_ok (f k z) (λ u. each_from f (k + 1) zs >>= λ more. Ok (u ∷ more)) ys h in
@@ -180,12 +179,12 @@ lengths_from f k (z ∷ zs) ys h =
     let e : first ∷ more ≡ ys = cc in
     ap (λ n. suc n) (lengths_from f (k + 1) zs more others) ∙ ap (λ us. length us) e
 
-or_unknown_ok : {A : Type 0} (o : Option A) (x : A) → or_unknown o ≡ Ok x → o ≡ Some x
+pub or_unknown_ok : {A : Type 0} (o : Option A) (x : A) → or_unknown o ≡ Ok x → o ≡ Some x
 or_unknown_ok None x h = absurd (cc)
 or_unknown_ok (Some y) x h = let e : y ≡ x = cc in ap (λ z. Some z) e
 
 -- what a code was looked up to has that code
-looked_up : (d : Draft) (m : Chart) → ChartRead d m → (code : List ℕ) (q : ℕ) → prov_at d code ≡ Ok q → (q < length m.provinces) × ((province m q).code ≡ code)
+pub looked_up : (d : Draft) (m : Chart) → ChartRead d m → (code : List ℕ) (q : ℕ) → prov_at d code ≡ Ok q → (q < length m.provinces) × ((province m q).code ≡ code)
 unfolding prov_at
 looked_up d m c code q h =
     let (low, here, first) = position-Some (λ w. bytes_eq w.code code) d.provinces q no_draft (or_unknown_ok (position (λ w. bytes_eq w.code code) d.provinces) q h) in
@@ -238,11 +237,11 @@ contains_any xs p = (to xs, back xs)
         ]
 
 -- a coast of the map, and its draft
-record OfShore (d : Draft) (w : ShoreDraft) (s : Shore) : Type 0 where
+pub record OfShore (d : Draft) (w : ShoreDraft) (s : Shore) : Type 0 where
   pub name : w.name ≡ s.name
   pub next : each (place_at d) w.next ≡ Ok s.next
 
-of_shore : (d : Draft) (w : ShoreDraft) (s : Shore) → shore_at d w ≡ Ok s → OfShore d w s
+pub of_shore : (d : Draft) (w : ShoreDraft) (s : Shore) → shore_at d w ≡ Ok s → OfShore d w s
 unfolding shore_at
 of_shore d w s h =
     let (next, a, rest) = bind_ok (each (place_at d) w.next) (λ next. Ok (record { name = w.name; next = next })) s h in
@@ -253,9 +252,10 @@ shore_of : (d : Draft) (w : ProvinceDraft) (r : Province) → OfDraft d w r → 
 shore_of d w r of k low = of_shore d (get_or w.shores k no_shore_draft) (get_or r.shores k no_shore) (each_at (shore_at d) w.shores r.shores of.shores k no_shore_draft no_shore low)
 
 -- what a place was looked up to is written so
-record Looked (m : Chart) (s : Site) (a : Place) : Type 0 where
+pub record Looked (m : Chart) (s : Site) (a : Place) : Type 0 where
   pub on : is_fleet_place m a ≡ true
   pub text : site_text s.code s.coast ≡ place_text m a
+  pub site : s ≡ site_of m a
 
 coast_found : (d : Draft) (q k : ℕ) (name : List ℕ) → q < length d.provinces → coast_at d q name ≡ Ok k
     → position (λ s. bytes_eq s.name name) (get_or d.provinces q no_draft).shores ≡ Some k
@@ -265,7 +265,7 @@ coast_found d q k name low h =
     let there : slice_get d.provinces q ≡ Some (get_or d.provinces q no_draft) = slice_get-get_or d.provinces q no_draft low in
     ap (λ o. option_and_then (λ (l : ProvinceDraft). position (λ s. bytes_eq s.name name) l.shores) o) (sym there) ∙ found
 
-looked_place : (d : Draft) (m : Chart) → ChartRead d m → (s : Site) (a : Place) → place_at d s ≡ Ok a → Looked m s a
+pub looked_place : (d : Draft) (m : Chart) → ChartRead d m → (s : Site) (a : Place) → place_at d s ≡ Ok a → Looked m s a
 unfolding place_at
 looked_place d m c s a h =
     let (q, code, rest) = bind_ok (prov_at d s.code) (λ p. coast_at d p s.coast >>= λ k. Ok (record { prov = p; coast = k })) a h in
@@ -282,6 +282,7 @@ looked_place d m c s a h =
     subst (λ (x : Place). Looked m s x) is (record {
       on = both_true (lt-ltb _ _ low) (lt-ltb _ _ below);
       text = ap (λ x. site_text x s.coast) (sym here) ∙ ap (λ x. site_text (province m q).code x) (sym named);
+      site = let code_is = sym here in let coast_is = sym named in λ i. record { code = code_is i; coast = coast_is i };
     })
 
 code_length : (m : Chart) → IsMap m → (p : ℕ) → p < length m.provinces → length (province m p).code ≡ 3
@@ -390,12 +391,6 @@ fleet_told d m p c t to ok read_map low read there on = (named, back)
         let is : y ≡ to = one_place m ok y to looked.on on (sym looked.text ∙ spelled) in
         (contains_place (get_or (province m p).shores c no_shore).next to).1 (subst (λ (x : Place). Contains (get_or (province m p).shores c no_shore).next x) is among)
 
--- the word of a terrain is the one of the file's reader
-same_word : (t : Terrain) → file_laws.terrain_word t ≡ terrain_word t
-same_word Inland = refl
-same_word Coast = refl
-same_word Sea = refl
-
 is_told : (d : Draft) (m : Chart) (p : ℕ) (t : Members) → IsMap m → ChartRead d m → p < length m.provinces → ProvinceRead t (get_or d.provinces p no_draft) → IsTold m p t
 is_told d m p t ok c low read =
     let w : ProvinceDraft = get_or d.provinces p no_draft in
@@ -403,7 +398,7 @@ is_told d m p t ok c low read =
     let flag = flag_is (get_member (codes "centre") t) w.centre read.flag in
     record {
       name = subst (λ x. Says t (codes "name") x) of.name read.name;
-      terrain = subst (λ x. Says t (codes "kind") x) (terrain_is read.word w.terrain read.terrain ∙ (same_word w.terrain ∙ ap terrain_word of.terrain)) read.kind;
+      terrain = subst (λ x. Says t (codes "kind") x) (terrain_is read.word w.terrain read.terrain ∙ ap terrain_word of.terrain) read.kind;
       centre = (λ is. flag.0 (of.centre ∙ is), λ set. sym of.centre ∙ flag.1 set);
       army = λ q there.
           let both = listed d m t (codes "army") w.army (army_next m p) ok c read.army of.army q there in
@@ -446,7 +441,7 @@ found_file : (o : Option Members) (file : Members) → files.or_no_toml o ≡ Ok
 found_file None file h = absurd (cc)
 found_file (Some x) file h = let e : x ≡ file = cc in ap (λ z. Some z) e
 
-parsed_file : (text : List ℕ) (file : Members) → files.file_in text ≡ Ok file → parse_document text ≡ Some file
+pub parsed_file : (text : List ℕ) (file : Members) → files.file_in text ≡ Ok file → parse_document text ≡ Some file
 unfolding files.file_in
 parsed_file text file h = found_file (parse_document text) file h
 

@@ -6,3 +6,4 @@ pub use Rattle.dip_distances.specs.Distances
 pub use Rattle.dip_mapfile.specs.Drafts
 pub use Rattle.dip_mapfile.specs.Files
 pub mod Telling
+pub mod Spelled

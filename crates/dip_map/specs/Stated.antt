@@ -1,6 +1,6 @@
 -- The map that a text states, or its first fault: the file's own (M1, M2), its limits (M6), its codes looked up (M3), and the checks of
 -- a map's parts (M3, M5, M4). Want of memory (M7) may come in place of any.
-use Rattle.std.specs.Prelude.{◌≡◌, ℕ, ◌+◌, ◌&&◌, nat_le, Bool, List, [], ◌∷◌, length, Option, Some, None, Result, Ok, Err, option_and_then, slice_get, if◌then◌else◌}
+use Rattle.std.specs.Prelude.{ℕ, ◌+◌, ◌&&◌, nat_le, Bool, List, [], ◌∷◌, length, Option, Some, None, Result, Ok, Err, option_and_then, slice_get, if◌then◌else◌}
 use Rattle.std.specs.List.{position}
 use Rattle.std.specs.Str.{bytes_eq}
 use Rattle.dip_mapfile.specs.Drafts.{Site, UnitDraft, Draft, ProvinceDraft, ShoreDraft, PowerDraft}

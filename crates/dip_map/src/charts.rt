@@ -1,11 +1,12 @@
 //! A map, and what is asked of it.
 ghost use Rattle.std.specs.Prelude.{◌≡◌, ◌<◌, length, All, IfOk, true};
-ghost use Rattle.dip_chart.specs.Charts.{IsMap, province, realm, shore, army_next, fleet_next, home, is_home, prov_of, power_of, coast_of, is_centre};
+ghost use Rattle.dip_chart.specs.Charts.{IsMap, provs, powers, province, realm, shore, army_next, fleet_next, home, is_home, prov_of, power_of, coast_of, is_centre};
 ghost use Rattle.dip_chart.specs.Charts.{is_fleet_place, may_stand, is_unit, is_army_next, is_fleet_next};
 ghost use Rattle.dip_map.specs.Stated.{check, map_in};
 ghost use Rattle.dip_names.specs.Results.{Gives};
 ghost use Rattle.dip_distances.specs.Walks.{IsDistance};
 
+use crate::iterators::{Powers, Provs};
 use crate::stated::parts_in;
 use dip_chart::{Parts, Realm};
 use dip_distances::Distances;
@@ -80,6 +81,22 @@ impl Map {
         ensures { result ≡ length self.now.realms }
     {
         self.parts.realms.len()
+    }
+
+    /// The provinces, in the order of their codes.
+    pub fn each_province(&self) -> Provs
+        ensures { result ≡ provs self.now }
+    {
+        self.facts();
+        Provs::first(self.provinces())
+    }
+
+    /// The powers, in the order of their names.
+    pub fn each_power(&self) -> Powers
+        ensures { result ≡ powers self.now }
+    {
+        self.facts();
+        Powers::first(self.powers())
     }
 
     /// Where an army goes from a province.

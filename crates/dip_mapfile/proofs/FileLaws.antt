@@ -19,22 +19,22 @@ use Rattle.dip_mapfile.specs.Drafts.{Site, ShoreDraft, UnitDraft, ProvinceDraft,
 use Rattle.dip_mapfile.specs.Fields.{or_wrong, each_item, each_member, field_at, text_at, table_at, flag_of, keys_are_among}
 use Rattle.dip_names.specs.Results.{◌>>=◌}
 use Rattle.dip_mapfile.specs.Files.{coast_in, either_shores, only_shore_at, shore_at, shores_in, site_at, site_in, sites_at, army_at, code_at, codes_at, draft_at, is_sound, keys_of, terrain_in, name_at, power_at, province_at, shores_at, units_at}
-use Rattle.dip_mapfile.specs.Tables.{FleetNames, Names, Says, behind_slash, site_text}
+use Rattle.dip_mapfile.specs.Tables.{FleetNames, Names, Says, behind_slash, site_text, terrain_word}
 
 -- what came of what was read, one behind the other
 pub bind_ok : {A B : Type 0} (r : Result A MapFault) (f : A → Result B MapFault) (y : B) → r >>= f ≡ Ok y → (x : A) × (r ≡ Ok x) × (f x ≡ Ok y)
 bind_ok (Ok x) f y h = (x, refl, h)
 bind_ok (Err e) f y h = absurd (cc)
 
-or_wrong_ok : {A : Type 0} (o : Option A) (x : A) → or_wrong o ≡ Ok x → o ≡ Some x
+pub or_wrong_ok : {A : Type 0} (o : Option A) (x : A) → or_wrong o ≡ Ok x → o ≡ Some x
 or_wrong_ok None x h = absurd (cc)
 or_wrong_ok (Some y) x h = let e : y ≡ x = cc in ap (λ z. Some z) e
 
-if_ok : {A : Type 0} (t : Bool) (x y : A) → cond t (Ok x) (Err WrongField) ≡ Ok y → (t ≡ true) × (x ≡ y)
+pub if_ok : {A : Type 0} (t : Bool) (x y : A) → cond t (Ok x) (Err WrongField) ≡ Ok y → (t ≡ true) × (x ≡ y)
 if_ok true x y h = (refl, cc)
 if_ok false x y h = absurd (cc)
 
-is_string : (v : Data) (s : List ℕ) → as_str v ≡ Some s → v ≡ string s
+pub is_string : (v : Data) (s : List ℕ) → as_str v ≡ Some s → v ≡ string s
 is_string (string t) s h = let e : t ≡ s = cc in ap (λ x. string x) e
 is_string (integer z) s h = absurd (cc)
 is_string (float x) s h = absurd (cc)
@@ -43,7 +43,7 @@ is_string (datetime d) s h = absurd (cc)
 is_string (array ds) s h = absurd (cc)
 is_string (table ms) s h = absurd (cc)
 
-is_array : (v : Data) (ds : Items) → as_array v ≡ Some ds → v ≡ array ds
+pub is_array : (v : Data) (ds : Items) → as_array v ≡ Some ds → v ≡ array ds
 is_array (string t) ds h = absurd (cc)
 is_array (integer z) ds h = absurd (cc)
 is_array (float x) ds h = absurd (cc)
@@ -52,7 +52,7 @@ is_array (datetime d) ds h = absurd (cc)
 is_array (array es) ds h = let e : es ≡ ds = cc in ap (λ x. array x) e
 is_array (table ms) ds h = absurd (cc)
 
-is_table : (v : Data) (ms : Members) → as_table v ≡ Some ms → v ≡ table ms
+pub is_table : (v : Data) (ms : Members) → as_table v ≡ Some ms → v ≡ table ms
 is_table (string t) ms h = absurd (cc)
 is_table (integer z) ms h = absurd (cc)
 is_table (float x) ms h = absurd (cc)
@@ -61,7 +61,7 @@ is_table (datetime d) ms h = absurd (cc)
 is_table (array es) ms h = absurd (cc)
 is_table (table ns) ms h = let e : ns ≡ ms = cc in ap (λ x. table x) e
 
-is_boolean : (v : Data) (b : Bool) → as_bool v ≡ Some b → v ≡ boolean b
+pub is_boolean : (v : Data) (b : Bool) → as_bool v ≡ Some b → v ≡ boolean b
 is_boolean (string t) b h = absurd (cc)
 is_boolean (integer z) b h = absurd (cc)
 is_boolean (float x) b h = absurd (cc)
@@ -71,7 +71,7 @@ is_boolean (array es) b h = absurd (cc)
 is_boolean (table ns) b h = absurd (cc)
 
 -- a field, a text and a table
-field_is : (key : List ℕ) (t : Members) (v : Data) → field_at key t ≡ Ok v → get_member key t ≡ Some v
+pub field_is : (key : List ℕ) (t : Members) (v : Data) → field_at key t ≡ Ok v → get_member key t ≡ Some v
 unfolding field_at
 field_is key t v h = or_wrong_ok (get_member key t) v h
 
@@ -189,7 +189,7 @@ member_at {A = A} f code keyed (member key d ms) xs h c i none low here first =
         (v, member_past c key d ms other ∙ there, is)
 
 -- no other key is a field
-no_field : (keys : List (List ℕ)) (t : Members) (c : List ℕ) → keys_are_among keys t ≡ true → list_any (λ k. bytes_eq k c) keys ≡ false → get_member c t ≡ None
+pub no_field : (keys : List (List ℕ)) (t : Members) (c : List ℕ) → keys_are_among keys t ≡ true → list_any (λ k. bytes_eq k c) keys ≡ false → get_member c t ≡ None
 no_field keys no_members c among none = refl
 no_field keys (member key d ms) c among none =
     let (one, rest) = and_parts (list_any (λ k. bytes_eq k key) keys) (keys_are_among keys ms) among in
@@ -241,7 +241,9 @@ pub record ProvinceRead (t : Members) (w : ProvinceDraft) : Type 0 where
   pub terrain : terrain_in word ≡ Ok w.terrain
   pub flag : flag_of (get_member (codes "centre") t) ≡ Ok w.centre
   pub army : ListsCodes t (codes "army") w.army
+  pub army_list : army_at w.terrain t ≡ Ok w.army
   pub shores : shores_at w.terrain t ≡ Ok w.shores
+  pub sound : is_sound w.code w.terrain w.centre t ≡ true
 
 army_read : (l : Terrain) (code : List ℕ) (centre : Bool) (t : Members) (cs : List (List ℕ)) → army_at l t ≡ Ok cs → is_sound code l centre t ≡ true → ListsCodes t (codes "army") cs
 army_read Inland code centre t cs h sound = lists_codes t (codes "army") cs h
@@ -253,11 +255,6 @@ army_read Sea code centre t cs h sound =
     subst (λ xs. ListsCodes t (codes "army") xs) e (no_codes t (codes "army") (no_field (keys_of Sea) t (codes "army") keys refl))
 
 -- the word of what a province is
-abbrev pub terrain_word : Terrain → List ℕ
-terrain_word Inland = codes "inland"
-terrain_word Coast = codes "coast"
-terrain_word Sea = codes "sea"
-
 pub terrain_is : (word : List ℕ) (l : Terrain) → terrain_in word ≡ Ok l → word ≡ terrain_word l
 unfolding terrain_in
 terrain_is word l h =
@@ -333,7 +330,9 @@ province_read code v w h =
         terrain = landed;
         flag = flagged;
         army = army_read land code centre t army listed sound;
+        army_list = listed;
         shores = shored;
+        sound = sound;
       });
     }
 
@@ -356,6 +355,9 @@ with_table name fields = field_at (codes "home") fields >>= with_homes name fiel
 
 pub record PowerRead (t : Members) (w : PowerDraft) : Type 0 where
   pub home : ListsCodes t (codes "home") w.home
+  pub home_list : (field_at (codes "home") t >>= codes_at) ≡ Ok w.home
+  pub units_list : (field_at (codes "units") t >>= units_at) ≡ Ok w.units
+  pub keys : keys_are_among (codes "home" ∷ codes "units" ∷ []) t ≡ true
 
 pub record ReadPower (name : List ℕ) (v : Data) (w : PowerDraft) : Type 0 where
   pub fields : Members
@@ -376,7 +378,12 @@ power_read name v w h =
       fields = t;
       is = is_table v t (or_wrong_ok (as_table v) t tab);
       name_same = sym (ap (λ (x : PowerDraft). x.name) same);
-      read = subst (λ (x : PowerDraft). PowerRead t x) same (record { home = lists_codes t (codes "home") home (ap (λ r. r >>= codes_at) field ∙ listed) });
+      read = subst (λ (x : PowerDraft). PowerRead t x) same (record {
+        home = lists_codes t (codes "home") home (ap (λ r. r >>= codes_at) field ∙ listed);
+        home_list = ap (λ r. r >>= codes_at) field ∙ listed;
+        units_list = ap (λ r. r >>= units_at) there ∙ stood;
+        keys = (and_parts (is_power_name name) _ sound).1;
+      });
     }
 
 -- what is read of a file
@@ -405,6 +412,7 @@ pub record ReadFile (file : Members) (d : Draft) : Type 0 where
   pub lands : Members
   pub has_lands : get_member (codes "provinces") file ≡ Some (table lands)
   pub provinces : each_member province_at lands ≡ Ok d.provinces
+  pub keys : keys_are_among (codes "name" ∷ codes "powers" ∷ codes "provinces" ∷ []) file ≡ true
 
 pub file_read : (file : Members) (d : Draft) → draft_at file ≡ Ok d → ReadFile file d
 unfolding draft_at
@@ -423,10 +431,11 @@ file_read file d h =
       lands = lands;
       has_lands = table_is (codes "provinces") file lands other;
       provinces = all;
+      keys = keys;
     })
 
 -- a place is spelled by its code and its coast
-if_read : {A : Type 0} (t : Bool) (r : Result A MapFault) (y : A) → cond t r (Err WrongField) ≡ Ok y → (t ≡ true) × (r ≡ Ok y)
+pub if_read : {A : Type 0} (t : Bool) (r : Result A MapFault) (y : A) → cond t r (Err WrongField) ≡ Ok y → (t ≡ true) × (r ≡ Ok y)
 if_read true r y h = (refl, h)
 if_read false r y h = absurd (cc)
 
@@ -441,11 +450,11 @@ coast_spelled (b ∷ name) coast h =
     letters [] h = absurd (false≢true h)
     letters (x ∷ xs) h = refl
 
-record Spelled (text : List ℕ) (s : Site) : Type 0 where
+pub record Spelled (text : List ℕ) (s : Site) : Type 0 where
   pub spelled : text ≡ site_text s.code s.coast
   pub code : is_code s.code ≡ true
 
-site_spelled : (text : List ℕ) (s : Site) → site_in text ≡ Ok s → Spelled text s
+pub site_spelled : (text : List ℕ) (s : Site) → site_in text ≡ Ok s → Spelled text s
 unfolding site_in
 site_spelled text s h =
     let (test, read) = if_read (nat_le 3 (length text) && is_code (take 3 text)) (coast_in (drop 3 text) >>= λ coast. Ok (record { code = take 3 text; coast = coast })) s h in
@@ -454,7 +463,7 @@ site_spelled text s h =
     let spelled : text ≡ site_text (take 3 text) coast = sym (take-append-drop 3 text) ∙ ap (λ x. take 3 text ++ x) (coast_spelled (drop 3 text) coast there) in
     subst (λ (x : Site). Spelled text x) is (record { spelled = spelled; code = (and_parts (nat_le 3 (length text)) (is_code (take 3 text)) test).1 })
 
-site_is : (v : Data) (s : Site) → site_at v ≡ Ok s → v ≡ string (site_text s.code s.coast)
+pub site_is : (v : Data) (s : Site) → site_at v ≡ Ok s → v ≡ string (site_text s.code s.coast)
 unfolding site_at
 site_is v s h =
     let (text, read, rest) = bind_ok (or_wrong (as_str v)) site_in s h in
@@ -502,12 +511,12 @@ only_shore t v shores field h i low =
     (subst (λ n. ListsShore t (get_or (record { name = []; next = next } ∷ []) n no_shore_draft).name (get_or (record { name = []; next = next } ∷ []) n no_shore_draft).next) zero_is one)
 
 -- a coast with a name
-record ReadShore (name : List ℕ) (v : Data) (s : ShoreDraft) : Type 0 where
+pub record ReadShore (name : List ℕ) (v : Data) (s : ShoreDraft) : Type 0 where
   pub name_same : s.name ≡ name
   pub named : is_coast_name name ≡ true
   pub next : sites_at v ≡ Ok s.next
 
-shore_read : (name : List ℕ) (v : Data) (s : ShoreDraft) → shore_at name v ≡ Ok s → ReadShore name v s
+pub shore_read : (name : List ℕ) (v : Data) (s : ShoreDraft) → shore_at name v ≡ Ok s → ReadShore name v s
 unfolding shore_at
 shore_read name v s h =
     let (next, read, made) = bind_ok (sites_at v) (λ next. cond (is_coast_name name) (Ok (record { name = name; next = next })) (Err WrongField)) s h in

@@ -1,10 +1,10 @@
 -- How fields of a table are read: what a field says, or the fault of a field that is missing or of another type.
-use Rattle.std.specs.Prelude.{◌≡◌, ℕ, Bool, true, false, List, [], ◌∷◌, Option, Some, None, Result, Ok, Err, ◌&&◌}
+use Rattle.std.specs.Prelude.{ℕ, Bool, true, false, List, [], ◌∷◌, Option, Some, None, Result, Ok, Err, ◌&&◌}
 use Rattle.std.specs.Str.{bytes_eq}
 use Rattle.std.specs.List.{list_any}
-use Rattle.toml.specs.Data.{Data, Items, no_items, item, Members, no_members, member, get_member, as_str, as_array, as_table, as_bool}
+use Rattle.toml.specs.Data.{Data, Items, no_items, item, Members, no_members, member, get_member, as_str, as_table, as_bool}
 use Rattle.dip_names.specs.declared.faults.MapFault.{MapFault}
-use Rattle.dip_names.specs.declared.faults.MapFault.TheVariants.{WrongField, Memory}
+use Rattle.dip_names.specs.declared.faults.MapFault.TheVariants.{WrongField}
 use Rattle.dip_names.specs.Results.{◌>>=◌}
 
 -- what is there and of the type that is wanted

@@ -2,3 +2,4 @@ pub mod Drafts
 pub mod Fields
 pub mod Files
 pub mod Tables
+pub mod Spelling

@@ -2,6 +2,8 @@
 use Rattle.std.specs.Prelude.{◌≡◌, ◌++◌, ℕ, List, [], ◌∷◌, codes, Some}
 pub use Rattle.toml.specs.Data.{Data, string, boolean, array, table, Items, Members, get_item, get_member}
 pub use Rattle.toml.specs.Parse.{parse_document}
+use Rattle.dip_names.specs.declared.names.Terrain.{Terrain}
+use Rattle.dip_names.specs.declared.names.Terrain.TheVariants.{Inland, Coast, Sea}
 
 -- a list in a table names a text
 abbrev pub Names : Members → List ℕ → List ℕ → Type 0
@@ -17,6 +19,12 @@ Says t key text = get_member key t ≡ Some (string text)
 abbrev pub HasTable : Members → List ℕ → List ℕ → Members → Type 0
 HasTable file group key t =
     (all : Members) × (get_member group file ≡ Some (table all)) × (get_member key all ≡ Some (table t))
+
+-- the word of a terrain
+abbrev pub terrain_word : Terrain → List ℕ
+terrain_word Inland = codes "inland"
+terrain_word Coast = codes "coast"
+terrain_word Sea = codes "sea"
 
 -- a place as it is written: a code, and behind a slash the name of a coast, if it has one
 abbrev pub behind_slash : List ℕ → List ℕ

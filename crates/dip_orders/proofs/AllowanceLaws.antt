@@ -46,14 +46,14 @@ below_from n (x ∷ xs) low q h =
 pub numbers_few : (n : ℕ) (xs : List ℕ) → are_provs_single xs ≡ true → All (λ x. x < n) xs → length xs ≤ n
 numbers_few n xs single low = length-le_from_distinct_below xs n (distinct_from xs single) (below_from n xs low)
 
-abbrev provs_of : List AUnit → List ℕ
+abbrev pub provs_of : List AUnit → List ℕ
 provs_of us = map (λ u. u.place.prov) us
 
 held_once : (p : ℕ) (us : List AUnit) → list_any (λ q. q == p) (provs_of us) ≡ list_any (λ v. v.place.prov == p) us
 held_once p [] = refl
 held_once p (u ∷ us) = rw (held_once p us) refl
 
-provs_single : (us : List AUnit) → are_provs_single (provs_of us) ≡ are_units_single us
+pub provs_single : (us : List AUnit) → are_provs_single (provs_of us) ≡ are_units_single us
 provs_single [] = refl
 provs_single (u ∷ us) = rw (held_once u.place.prov us, provs_single us) refl
 

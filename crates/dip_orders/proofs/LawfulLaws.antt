@@ -12,9 +12,9 @@ use Rattle.dip_names.specs.declared.names.Unit.{Unit as AUnit}
 use Rattle.dip_board.specs.declared.boards.Dislodged.{Dislodged}
 use Rattle.dip_chart.specs.Charts.{Chart, IsMap, fleet_next, home, province, shore}
 use Rattle.dip_board.specs.Boards.{Position, IsOf}
-use Rattle.dip_forms.specs.Forms.{is_draft, is_spot}
-use Rattle.dip_forms.specs.declared.drafts.Draft.{Draft}
-use Rattle.dip_forms.specs.declared.drafts.Draft.TheVariants.{Hold as HoldForm, Move as MoveForm, SupportHold, SupportMove, Convoy, Retreat, Disband, Build, Remove}
+use Rattle.dip_forms.specs.Forms.{is_form, is_spot}
+use Rattle.dip_forms.specs.declared.forms.Form.{Form}
+use Rattle.dip_forms.specs.declared.forms.Form.TheVariants.{Hold as HoldForm, Move as MoveForm, SupportHold, SupportMove, Convoy, Retreat, Disband, Build, Remove}
 use Rattle.dip_orders.specs.Allowances.{builds_due, removals_due}
 use Rattle.dip_board.specs.Boards.{is_vacant, owns}
 use Rattle.dip_orders.specs.Checks.{Check, must}
@@ -61,7 +61,7 @@ site_of m Army p None on h = refl
 site_of m Army p (Some c) on h = absurd (false≢true h.0)
 site_of m Fleet p coast on h = on
 
-lawful_form : (m : Chart) (b : Position) (power : ℕ) (pending : List PlacedOrder) (d : Draft) → IsMap m → IsOf m b → is_draft d ≡ true → Hold (checks_of m b power pending d)
+lawful_form : (m : Chart) (b : Position) (power : ℕ) (pending : List PlacedOrder) (d : Form) → IsMap m → IsOf m b → is_form d ≡ true → Hold (checks_of m b power pending d)
     → IsLawful m b power pending (order_in m b power d)
 lawful_form m b power pending (HoldForm u) ok of fine h = (h.0, record { there = (unit_again m b power u ok of h.1.1).found })
 lawful_form m b power pending (MoveForm u to via) ok of fine h =

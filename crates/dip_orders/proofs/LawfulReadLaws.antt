@@ -12,10 +12,10 @@ use Rattle.dip_names.specs.declared.names.Unit.{Unit as AUnit}
 use Rattle.dip_board.specs.declared.boards.Dislodged.{Dislodged}
 use Rattle.dip_chart.specs.Charts.{Chart, IsMap, Province, Realm, are_places_single, army_next, fleet_next, home, no_province, no_realm, province, realm, shore, coast_of, is_army_next, is_fleet_place, is_unit, is_centre, is_power_name, may_stand}
 use Rattle.dip_board.specs.Boards.{Position, IsOf, is_dislodged, is_some_prov}
-use Rattle.dip_forms.specs.Forms.{is_draft, is_spot}
+use Rattle.dip_forms.specs.Forms.{is_form, is_spot}
 use Rattle.dip_orders.specs.Allowances.{builds_due, removals_due}
 use Rattle.dip_forms.specs.Texts.{canonical_text}
-use Rattle.dip_forms.specs.Reading.{draft_in}
+use Rattle.dip_forms.specs.Reading.{form_in}
 use Rattle.dip_orders.specs.Checks.{Check, must}
 use Rattle.dip_orders.specs.Laws.{LawfulOrdersAreRead}
 use Rattle.dip_orders.specs.Lawful.{IsAllowed, IsSite, IsThere, MayAid, MayCarry, MayCome, Reaches, Stands}
@@ -31,7 +31,7 @@ use Rattle.dip_orders.specs.declared.placed.Order.TheVariants.{Hold as Holds, Mo
 use Rattle.dip_orders.specs.declared.placed.PlacedOrder.{PlacedOrder}
 use Rattle.dip_orders.proofs.AgainLaws.{named_again}
 use Rattle.dip_orders.proofs.CheckLaws.{Hold, hold_both, holds_ok}
-use Rattle.dip_orders.proofs.DraftLaws.{NamesArmy, order_canonical, printed}
+use Rattle.dip_orders.proofs.FormLaws.{NamesArmy, order_canonical, printed}
 use Rattle.dip_orders.proofs.FindLaws.{find_among, find_passes, some_is}
 use Rattle.dip_orders.proofs.PlaceLaws.{AreOfFleets, found_one, only_shore_there, place_of, sails_to, same_place}
 use Rattle.dip_orders.proofs.ReadingLaws.{Forms, form_read}
@@ -111,7 +111,7 @@ told_province : (m : Chart) (p : ℕ) → IsMap m → p < length m.provinces →
 told_province m p ok low = record { fine = bare_fine m ok p low; on = code_on_map m ok p None low; named = code_named m ok p None low }
 
 -- where a unit could move, where a convoy may lead, and where another unit stands is on the map
-next_low : (m : Chart) (p q : ℕ) → IsMap m → is_army_next m p q ≡ true → q < length m.provinces
+pub next_low : (m : Chart) (p q : ℕ) → IsMap m → is_army_next m p q ≡ true → q < length m.provinces
 next_low m p q ok h =
     let (k, low, met) = any_at (λ x. x == q) (army_next m p) h in
     subst (λ n. n < length m.provinces) (eqb-true _ _ (met 0)) (ok.army_within p k 0 low)
@@ -130,7 +130,7 @@ move_low m Fleet a q ok h = sea_low m a q ok h
 past_province : (m : Chart) (p : ℕ) → nat_lt p (length m.provinces) ≡ false → province m p ≡ no_province
 past_province m p past = get_or_past m.provinces p no_province (ltb-false _ _ past)
 
-coast_low : (m : Chart) (p : ℕ) → is_coastal (province m p).terrain ≡ true → p < length m.provinces
+pub coast_low : (m : Chart) (p : ℕ) → is_coastal (province m p).terrain ≡ true → p < length m.provinces
 coast_low m p h =
     elim (cases_Bool (nat_lt p (length m.provinces))) [
       | inl low ↦ ltb-true _ _ low
@@ -143,7 +143,7 @@ convoy_low m p q h =
     (coast_low m p from, coast_low m q (and_parts (is_coastal (province m q).terrain) (not (p == q)) rest).0)
 
 -- the places of a fleet's neighbours
-fleets_next : (m : Chart) → IsMap m → (a : Place) → AreOfFleets m (fleet_next m a)
+pub fleets_next : (m : Chart) → IsMap m → (a : Place) → AreOfFleets m (fleet_next m a)
 fleets_next m ok a to among =
     let (k, low, met) = any_at (λ x. (x.prov == to.prov) && (x.coast == to.coast)) (fleet_next m a) among in
     let there : Place = get_or (fleet_next m a) k no_place in
@@ -176,7 +176,7 @@ record ToldRetreat (m : Chart) (k : Kind) (places : List Place) (to : Place) : T
   pub checks : Hold (retreat_checks m k places to.prov (coast_for m k to))
   pub same : place_in m places to.prov (coast_for m k to) ≡ to
 
-foot_coast : (ps : List ℕ) (a : Place) → is_place_among a (on_foot ps) ≡ true → a.coast ≡ 0
+pub foot_coast : (ps : List ℕ) (a : Place) → is_place_among a (on_foot ps) ≡ true → a.coast ≡ 0
 foot_coast [] a h = absurd (false≢true h)
 foot_coast (p ∷ ps) a h =
     elim (cases_Bool ((p == a.prov) && (0 == a.coast))) [
@@ -184,7 +184,7 @@ foot_coast (p ∷ ps) a h =
       | inr other ↦ foot_coast ps a (rw other at h)
     ]
 
-foot_near : (ps : List ℕ) (a : Place) → is_place_among a (on_foot ps) ≡ true → list_any (λ x. x == a.prov) ps ≡ true
+pub foot_near : (ps : List ℕ) (a : Place) → is_place_among a (on_foot ps) ≡ true → list_any (λ x. x == a.prov) ps ≡ true
 foot_near [] a h = absurd (false≢true h)
 foot_near (p ∷ ps) a h =
     elim (cases_Bool (p == a.prov)) [
@@ -215,7 +215,7 @@ record ToldSite (m : Chart) (k : Kind) (a : Place) : Type 0 where
   pub checks : Hold (site_checks m k a.prov (coast_for m k a))
   pub same : site m a.prov (coast_for m k a) ≡ a
 
-centre_low : (m : Chart) (p : ℕ) → is_centre m p ≡ true → p < length m.provinces
+pub centre_low : (m : Chart) (p : ℕ) → is_centre m p ≡ true → p < length m.provinces
 centre_low m p h =
     elim (cases_Bool (nat_lt p (length m.provinces))) [
       | inl low ↦ ltb-true _ _ low
@@ -255,7 +255,7 @@ told_site m Fleet a ok low h = let both = by_name (shore m a).name refl in recor
         ((ap (λ o. is_some o) found, (refl, tt)), same_place (site m a.prov (Some (c ∷ cs))) a refl (ap (λ o. unwrap_or o 0) found))
 
 -- an order whose form passes its checks, and is that order, is what its own text says
-make : (m : Chart) (b : Position) (power : ℕ) (pending : List PlacedOrder) (o : PlacedOrder) → NamesArmy o.order → is_draft (printed m o.unit o.order) ≡ true
+make : (m : Chart) (b : Position) (power : ℕ) (pending : List PlacedOrder) (o : PlacedOrder) → NamesArmy o.order → is_form (printed m o.unit o.order) ≡ true
     → Hold (checks_of m b power pending (printed m o.unit o.order)) → order_in m b power (printed m o.unit o.order) ≡ o → Again m b power pending o
 make m b power pending o army fine checks same = record {
   fine = fine;
@@ -442,5 +442,5 @@ allowed_again m b power pending u Removes ok of h = remove_again m b power pendi
 pub lawful_read : Forms → LawfulOrdersAreRead
 lawful_read forms m b power pending o ok of h =
     let again : Again m b power pending o = allowed_again m b power pending o.unit o.order ok of h in
-    let said : draft_in (canonical_text (printed m o.unit o.order)) ≡ Some (printed m o.unit o.order) = forms.said _ _ (forms.again (printed m o.unit o.order) again.fine) in
-    form_read m b power pending (order_text m o) (printed m o.unit o.order) o (ap draft_in again.text ∙ said) again.same
+    let said : form_in (canonical_text (printed m o.unit o.order)) ≡ Some (printed m o.unit o.order) = forms.said _ _ (forms.again (printed m o.unit o.order) again.fine) in
+    form_read m b power pending (order_text m o) (printed m o.unit o.order) o (ap form_in again.text ∙ said) again.same

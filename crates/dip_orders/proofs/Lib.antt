@@ -5,7 +5,7 @@ pub mod AllowanceLaws
 pub mod CheckLaws
 pub mod StepLaws
 pub mod SpotLaws
-pub mod DraftLaws
+pub mod FormLaws
 pub mod AgainLaws
 pub mod RoundTrip
 pub mod ReadingLaws

@@ -2,36 +2,36 @@
 use Rattle.std.proofs.Common.{◌≡◌, ℕ, true, List, [], refl, sym, ap, ◌∙◌, Option, Some, None, Ok, Err}
 use Rattle.dip_chart.specs.Charts.{Chart, IsMap}
 use Rattle.dip_board.specs.Boards.{Position, IsOf}
-use Rattle.dip_forms.specs.Forms.{Says, is_draft}
-use Rattle.dip_forms.specs.Reading.{draft_in}
+use Rattle.dip_forms.specs.Forms.{Says, is_form}
+use Rattle.dip_forms.specs.Reading.{form_in}
 use Rattle.dip_forms.specs.Texts.{canonical_text}
-use Rattle.dip_forms.specs.declared.drafts.Draft.{Draft}
+use Rattle.dip_forms.specs.declared.forms.Form.{Form}
 use Rattle.dip_orders.specs.Reading.{answer_to, order_of}
 use Rattle.dip_orders.specs.Rules.{answer, checks_of, order_in}
 use Rattle.dip_orders.specs.Texts.{order_text}
 use Rattle.dip_orders.specs.declared.faults.OrderFault.TheVariants.{CannotBeRead}
 use Rattle.dip_orders.specs.declared.placed.PlacedOrder.{PlacedOrder}
 use Rattle.dip_orders.proofs.CheckLaws.{holds_ok, ok_holds}
-use Rattle.dip_orders.proofs.DraftLaws.{printed}
+use Rattle.dip_orders.proofs.FormLaws.{printed}
 use Rattle.dip_orders.proofs.RoundTrip.{checks_alone, order_again}
 
 -- what is known of forms
 pub record Forms : Type 0 where
-  pub said : (line : List ℕ) (d : Draft) → Says line d → draft_in line ≡ Some d
-  pub read : (line : List ℕ) (d : Draft) → draft_in line ≡ Some d → Says line d
-  pub again : (d : Draft) → is_draft d ≡ true → Says (canonical_text d) d
+  pub said : (line : List ℕ) (d : Form) → Says line d → form_in line ≡ Some d
+  pub read : (line : List ℕ) (d : Form) → form_in line ≡ Some d → Says line d
+  pub again : (d : Form) → is_form d ≡ true → Says (canonical_text d) d
 
 -- a line that is an order says something, of which it is the answer
 pub read_form : (m : Chart) (b : Position) (power : ℕ) (pending : List PlacedOrder) (line : List ℕ) (o : PlacedOrder) → order_of m b power pending line ≡ Ok o
-    → (d : Draft) × (draft_in line ≡ Some d) × (answer m b power pending d ≡ Ok o)
+    → (d : Form) × (form_in line ≡ Some d) × (answer m b power pending d ≡ Ok o)
 unfolding order_of
-read_form m b power pending line o h = go (draft_in line) refl h
+read_form m b power pending line o h = go (form_in line) refl h
   where
-    go : (r : Option Draft) → draft_in line ≡ r → answer_to m b power pending r ≡ Ok o → (d : Draft) × (draft_in line ≡ Some d) × (answer m b power pending d ≡ Ok o)
+    go : (r : Option Form) → form_in line ≡ r → answer_to m b power pending r ≡ Ok o → (d : Form) × (form_in line ≡ Some d) × (answer m b power pending d ≡ Ok o)
     go None is found = let bad : Err CannotBeRead ≡ Ok o = found in absurd (cc)
     go (Some d) is found = (d, is, found)
 
-pub form_read : (m : Chart) (b : Position) (power : ℕ) (pending : List PlacedOrder) (line : List ℕ) (d : Draft) (o : PlacedOrder) → draft_in line ≡ Some d → answer m b power pending d ≡ Ok o
+pub form_read : (m : Chart) (b : Position) (power : ℕ) (pending : List PlacedOrder) (line : List ℕ) (d : Form) (o : PlacedOrder) → form_in line ≡ Some d → answer m b power pending d ≡ Ok o
     → order_of m b power pending line ≡ Ok o
 unfolding order_of
 form_read m b power pending line d o is h = ap (answer_to m b power pending) is ∙ h
@@ -42,8 +42,8 @@ pub read_again : Forms → (m : Chart) (b : Position) (power : ℕ) (pending : L
 read_again forms m b power pending line o ok of h =
     let (d, is, found) = read_form m b power pending line o h in
     let again = order_again m b power pending d o ok of (forms.read line d is).places found in
-    let said : draft_in (canonical_text (printed m o.unit o.order)) ≡ Some (printed m o.unit o.order) = forms.said _ _ (forms.again (printed m o.unit o.order) again.fine) in
-    form_read m b power pending (order_text m o) (printed m o.unit o.order) o (ap draft_in again.text ∙ said) again.same
+    let said : form_in (canonical_text (printed m o.unit o.order)) ≡ Some (printed m o.unit o.order) = forms.said _ _ (forms.again (printed m o.unit o.order) again.fine) in
+    form_read m b power pending (order_text m o) (printed m o.unit o.order) o (ap form_in again.text ∙ said) again.same
 
 -- an order beside others that stand is one beside none
 pub read_alone : (m : Chart) (b : Position) (power : ℕ) (pending : List PlacedOrder) (line : List ℕ) (o : PlacedOrder) → order_of m b power pending line ≡ Ok o → order_of m b power [] line ≡ Ok o

@@ -11,12 +11,12 @@ use Rattle.dip_names.specs.declared.names.Unit.{Unit as AUnit}
 use Rattle.dip_board.specs.declared.boards.Dislodged.{Dislodged}
 use Rattle.dip_chart.specs.Charts.{Chart, IsMap, home, province}
 use Rattle.dip_board.specs.Boards.{Position, IsOf}
-use Rattle.dip_forms.specs.Forms.{is_coast, are_letters, is_spot, is_draft}
+use Rattle.dip_forms.specs.Forms.{is_coast, are_letters, is_spot, is_form}
 use Rattle.dip_forms.specs.Texts.{canonical_text}
-use Rattle.dip_forms.specs.declared.drafts.Spot.{Spot}
-use Rattle.dip_forms.specs.declared.drafts.Mention.{Mention}
-use Rattle.dip_forms.specs.declared.drafts.Draft.{Draft}
-use Rattle.dip_forms.specs.declared.drafts.Draft.TheVariants.{Hold as HoldForm, Move as MoveForm, SupportHold, SupportMove, Convoy, Retreat, Disband, Build, Remove}
+use Rattle.dip_forms.specs.declared.forms.Spot.{Spot}
+use Rattle.dip_forms.specs.declared.forms.Mention.{Mention}
+use Rattle.dip_forms.specs.declared.forms.Form.{Form}
+use Rattle.dip_forms.specs.declared.forms.Form.TheVariants.{Hold as HoldForm, Move as MoveForm, SupportHold, SupportMove, Convoy, Retreat, Disband, Build, Remove}
 use Rattle.dip_orders.specs.Allowances.{builds_due, removals_due}
 use Rattle.dip_board.specs.Boards.{is_vacant, owns}
 use Rattle.dip_orders.specs.Checks.{Check, must}
@@ -30,16 +30,16 @@ use Rattle.dip_orders.specs.declared.placed.Order.TheVariants.{Hold as Holds, Mo
 use Rattle.dip_orders.specs.declared.placed.PlacedOrder.{PlacedOrder}
 use Rattle.dip_orders.proofs.AgainLaws.{built_again, dislodged_again, left_again, moved_again, unit_again}
 use Rattle.dip_orders.proofs.CheckLaws.{Hold, hold_back, hold_both, hold_front, holds_ok, ok_holds}
-use Rattle.dip_orders.proofs.DraftLaws.{NamesArmy, order_canonical, printed}
+use Rattle.dip_orders.proofs.FormLaws.{NamesArmy, order_canonical, printed}
 use Rattle.dip_orders.proofs.SpotLaws.{bare_fine, bare_spot, code_named, code_on_map, coast_for, mention_of, named_low, place_low, spot_fine, spot_of}
 
 -- an order is what its own text says
 pub record Again (m : Chart) (b : Position) (power : ℕ) (pending : List PlacedOrder) (o : PlacedOrder) : Type 0 where
-  pub fine : is_draft (printed m o.unit o.order) ≡ true
+  pub fine : is_form (printed m o.unit o.order) ≡ true
   pub text : order_text m o ≡ canonical_text (printed m o.unit o.order)
   pub same : answer m b power pending (printed m o.unit o.order) ≡ Ok o
 
-make : (m : Chart) (b : Position) (power : ℕ) (pending : List PlacedOrder) (o : PlacedOrder) → NamesArmy o.order → is_draft (printed m o.unit o.order) ≡ true
+make : (m : Chart) (b : Position) (power : ℕ) (pending : List PlacedOrder) (o : PlacedOrder) → NamesArmy o.order → is_form (printed m o.unit o.order) ≡ true
     → Hold (checks_of m b power pending (printed m o.unit o.order)) → order_in m b power (printed m o.unit o.order) ≡ o → Again m b power pending o
 make m b power pending o army fine checks same = record {
   fine = fine;
@@ -70,7 +70,7 @@ moved_order m v unit r q coast via to e f h =
     ap (λ (x : AUnit). record { unit = x; order = Moves (move_place m x.kind x.place r coast) via }) e
     ∙ (ap (λ (n : ℕ). record { unit = unit; order = Moves (move_place m unit.kind unit.place n coast) via }) f ∙ ap (λ (a : Place). record { unit = unit; order = Moves a via }) h)
 
-pub move_again : (m : Chart) (b : Position) (power : ℕ) (pending : List PlacedOrder) (u : Mention) (to : Spot) (via : Bool) → IsMap m → IsOf m b → is_draft (MoveForm u to via) ≡ true
+pub move_again : (m : Chart) (b : Position) (power : ℕ) (pending : List PlacedOrder) (u : Mention) (to : Spot) (via : Bool) → IsMap m → IsOf m b → is_form (MoveForm u to via) ≡ true
     → Hold (checks_of m b power pending (MoveForm u to via)) → Again m b power pending (order_in m b power (MoveForm u to via))
 move_again m b power pending u to via ok of fine h =
     let q : ℕ = prov_named m to in
@@ -257,7 +257,7 @@ left_order m b v d r q coast to e f h =
     ap (λ (x : Dislodged). record { unit = x.unit; order = Retreats (place_in m (retreats_of m b x) r coast) }) e
     ∙ (ap (λ (n : ℕ). record { unit = d.unit; order = Retreats (place_in m (retreats_of m b d) n coast) }) f ∙ ap (λ (a : Place). record { unit = d.unit; order = Retreats a }) h)
 
-pub retreat_again : (m : Chart) (b : Position) (power : ℕ) (pending : List PlacedOrder) (u : Mention) (to : Spot) → IsMap m → IsOf m b → is_draft (Retreat u to) ≡ true
+pub retreat_again : (m : Chart) (b : Position) (power : ℕ) (pending : List PlacedOrder) (u : Mention) (to : Spot) → IsMap m → IsOf m b → is_form (Retreat u to) ≡ true
     → Hold (checks_of m b power pending (Retreat u to)) → Again m b power pending (order_in m b power (Retreat u to))
 retreat_again m b power pending u to ok of fine h =
     let q : ℕ = prov_named m to in
@@ -305,7 +305,7 @@ built_order : (m : Chart) (power : ℕ) (k : Kind) (r p : ℕ) (coast : Option (
 built_order m power k r p coast a e f =
     ap (λ n. record { unit = record { power = power; kind = k; place = site m n coast }; order = Builds }) e ∙ ap (λ x. record { unit = record { power = power; kind = k; place = x }; order = Builds }) f
 
-pub build_again : (m : Chart) (b : Position) (power : ℕ) (pending : List PlacedOrder) (u : Mention) → IsMap m → is_draft (Build u) ≡ true → Hold (checks_of m b power pending (Build u))
+pub build_again : (m : Chart) (b : Position) (power : ℕ) (pending : List PlacedOrder) (u : Mention) → IsMap m → is_form (Build u) ≡ true → Hold (checks_of m b power pending (Build u))
     → Again m b power pending (order_in m b power (Build u))
 build_again m b power pending u ok fine h =
     let p : ℕ = prov_named m u.at in
@@ -335,13 +335,13 @@ build_again m b power pending u ok fine h =
     (built_order m power u.kind r p (coast_for m u.kind place) place named built.same)
 
 -- an order that was read is what its own text says
-pub order_again : (m : Chart) (b : Position) (power : ℕ) (pending : List PlacedOrder) (d : Draft) (o : PlacedOrder) → IsMap m → IsOf m b → is_draft d ≡ true → answer m b power pending d ≡ Ok o
+pub order_again : (m : Chart) (b : Position) (power : ℕ) (pending : List PlacedOrder) (d : Form) (o : PlacedOrder) → IsMap m → IsOf m b → is_form d ≡ true → answer m b power pending d ≡ Ok o
     → Again m b power pending o
 order_again m b power pending d o ok of fine h =
     let (checks, same) = ok_holds (checks_of m b power pending d) (order_in m b power d) o h in
     subst (λ (x : PlacedOrder). Again m b power pending x) same (by_form d fine checks)
   where
-    by_form : (c : Draft) → is_draft c ≡ true → Hold (checks_of m b power pending c) → Again m b power pending (order_in m b power c)
+    by_form : (c : Form) → is_form c ≡ true → Hold (checks_of m b power pending c) → Again m b power pending (order_in m b power c)
     by_form (HoldForm u) fine h = hold_again m b power pending u ok of h
     by_form (MoveForm u to via) fine h = move_again m b power pending u to via ok of fine h
     by_form (SupportHold u other held) fine h = support_hold_again m b power pending u other held ok of h
@@ -356,7 +356,7 @@ order_again m b power pending d o ok of fine h =
 none_elsewhere : (n due : ℕ) → nat_lt n due ≡ true → nat_lt 0 due ≡ true
 none_elsewhere n due h = let low : n < due = ltb-true _ _ h in lt-ltb _ _ (omega arith)
 
-pub checks_alone : (m : Chart) (b : Position) (power : ℕ) (pending : List PlacedOrder) (d : Draft) → Hold (checks_of m b power pending d) → Hold (checks_of m b power [] d)
+pub checks_alone : (m : Chart) (b : Position) (power : ℕ) (pending : List PlacedOrder) (d : Form) → Hold (checks_of m b power pending d) → Hold (checks_of m b power [] d)
 checks_alone m b power pending (HoldForm u) h = h
 checks_alone m b power pending (MoveForm u to via) h = h
 checks_alone m b power pending (SupportHold u other held) h = h

@@ -59,7 +59,7 @@ kind_itself Army = refl
 kind_itself Fleet = refl
 
 -- two units that the test calls one are one
-same_unit : (u v : AUnit) → is_same_unit u v ≡ true → u ≡ v
+pub same_unit : (u v : AUnit) → is_same_unit u v ≡ true → u ≡ v
 same_unit u v h =
     let (power, rest) = and_parts (u.power == v.power) _ h in
     let (kind, place) = and_parts (is_kind u.kind v.kind) _ rest in
@@ -71,7 +71,7 @@ same_unit u v h =
     let parts : record { power = u.power; kind = u.kind; place = record { prov = u.place.prov; coast = u.place.coast } } ≡ record { power = v.power; kind = v.kind; place = record { prov = v.place.prov; coast = v.place.coast } } = rw (e1, e2, e3, e4) refl in
     parts
 
-unit_itself : (u : AUnit) → is_same_unit u u ≡ true
+pub unit_itself : (u : AUnit) → is_same_unit u u ≡ true
 unit_itself u = rw (kind_itself u.kind) (grind arith)
 
 -- what is found for a unit is in force where it stands

@@ -10,10 +10,10 @@ use Rattle.dip_names.specs.declared.names.Unit.{Unit as AUnit}
 use Rattle.dip_board.specs.declared.boards.Dislodged.{Dislodged}
 use Rattle.dip_chart.specs.Charts.{Chart, province, army_next, fleet_next, is_army_next, coast_of, prov_of}
 use Rattle.dip_board.specs.Boards.{Position}
-use Rattle.dip_forms.specs.declared.drafts.Spot.{Spot}
-use Rattle.dip_forms.specs.declared.drafts.Mention.{Mention}
-use Rattle.dip_forms.specs.declared.drafts.Draft.{Draft}
-use Rattle.dip_forms.specs.declared.drafts.Draft.TheVariants.{Hold as HoldForm, Move as MoveForm, SupportHold, SupportMove, Convoy, Retreat, Disband, Build, Remove}
+use Rattle.dip_forms.specs.declared.forms.Spot.{Spot}
+use Rattle.dip_forms.specs.declared.forms.Mention.{Mention}
+use Rattle.dip_forms.specs.declared.forms.Form.{Form}
+use Rattle.dip_forms.specs.declared.forms.Form.TheVariants.{Hold as HoldForm, Move as MoveForm, SupportHold, SupportMove, Convoy, Retreat, Disband, Build, Remove}
 use Rattle.dip_forms.specs.Forms.{spots_of}
 use Rattle.dip_orders.specs.Checks.{Check, must, outcome}
 use Rattle.dip_orders.specs.Retreats.{is_open, next_places, on_foot}
@@ -238,11 +238,11 @@ retreat_steps m b power pending u to =
     (λ place. record { unit = (the_dislodged m b power u).unit; order = Retreats place })))))
 
 -- the reader's answer is that of the rules
-pub steps_law : (m : Chart) (b : Position) (power : ℕ) (pending : List PlacedOrder) (d : Draft) → in_phase m b power pending d ≡ answer m b power pending d
+pub steps_law : (m : Chart) (b : Position) (power : ℕ) (pending : List PlacedOrder) (d : Form) → in_phase m b power pending d ≡ answer m b power pending d
 steps_law m b power pending d = if_step (is_in_phase d b.phase.season) NotInThisPhase (order_steps m b power pending d)
     (map (λ s. must (is_on_map m s) UnknownProvince) (spots_of d) ++ own_checks m b power pending d) (order_in m b power d) (form_steps m b power pending d)
   where
-    form_steps : (m : Chart) (b : Position) (power : ℕ) (pending : List PlacedOrder) (d : Draft)
+    form_steps : (m : Chart) (b : Position) (power : ℕ) (pending : List PlacedOrder) (d : Form)
         → order_steps m b power pending d ≡ outcome (map (λ s. must (is_on_map m s) UnknownProvince) (spots_of d) ++ own_checks m b power pending d) (order_in m b power d)
     form_steps m b power pending (HoldForm u) = (hold_steps m b power pending u).is
     form_steps m b power pending (MoveForm u to via) = (move_steps m b power pending u to via).is

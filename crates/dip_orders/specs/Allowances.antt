@@ -1,6 +1,5 @@
 -- What a power may build or has to remove in Winter.
-use Rattle.std.specs.Prelude.{ℕ, ◌+◌, ◌-◌, ◌==◌, ◌&&◌, not, min, ℤ, pos, ◌-ℤ◌, Bool, false, Option, None, Some, count_by, slice_index_or}
-use Rattle.std.specs.List.{list_any}
+use Rattle.std.specs.Prelude.{ℕ, ◌-◌, ◌&&◌, min, ℤ, pos, ◌-ℤ◌, count_by}
 use Rattle.dip_chart.specs.Charts.{Chart, home}
 use Rattle.dip_board.specs.Boards.{Position, owns, is_vacant, centres_owned, units_counted}
 

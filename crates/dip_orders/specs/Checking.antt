@@ -8,10 +8,10 @@ use Rattle.dip_names.specs.declared.names.Unit.{Unit as AUnit}
 use Rattle.dip_board.specs.declared.boards.Dislodged.{Dislodged}
 use Rattle.dip_chart.specs.Charts.{Chart, province, fleet_next, is_army_next, prov_of, coast_of}
 use Rattle.dip_board.specs.Boards.{Position}
-use Rattle.dip_forms.specs.declared.drafts.Spot.{Spot}
-use Rattle.dip_forms.specs.declared.drafts.Mention.{Mention}
-use Rattle.dip_forms.specs.declared.drafts.Draft.{Draft}
-use Rattle.dip_forms.specs.declared.drafts.Draft.TheVariants.{Hold, Move, SupportHold, SupportMove, Convoy, Retreat, Disband, Build, Remove}
+use Rattle.dip_forms.specs.declared.forms.Spot.{Spot}
+use Rattle.dip_forms.specs.declared.forms.Mention.{Mention}
+use Rattle.dip_forms.specs.declared.forms.Form.{Form}
+use Rattle.dip_forms.specs.declared.forms.Form.TheVariants.{Hold, Move, SupportHold, SupportMove, Convoy, Retreat, Disband, Build, Remove}
 use Rattle.dip_orders.specs.Allowances.{builds_due, removals_due}
 use Rattle.dip_orders.specs.Retreats.{is_open}
 use Rattle.dip_orders.specs.Rules.{is_supportable}
@@ -171,7 +171,7 @@ remove_order m b power pending u = do
   need (nat_lt (removals_elsewhere pending p) (removals_due b power)) AllowanceUsed (record { unit = unit; order = Removes })
 
 -- the order that a form is on this board, or its first fault
-abbrev pub order_steps : Chart → Position → ℕ → List PlacedOrder → Draft → Result PlacedOrder OrderFault
+abbrev pub order_steps : Chart → Position → ℕ → List PlacedOrder → Form → Result PlacedOrder OrderFault
 order_steps m b power pending (Hold u) = hold_order m b power u
 order_steps m b power pending (Move u to via) = move_order m b power u to via
 order_steps m b power pending (SupportHold u other held) = support_hold_order m b power u other
@@ -183,5 +183,5 @@ order_steps m b power pending (Build u) = build_order m b power pending u
 order_steps m b power pending (Remove u) = remove_order m b power pending u
 
 -- the same, behind the check of the phase
-abbrev pub in_phase : Chart → Position → ℕ → List PlacedOrder → Draft → Result PlacedOrder OrderFault
+abbrev pub in_phase : Chart → Position → ℕ → List PlacedOrder → Form → Result PlacedOrder OrderFault
 in_phase m b power pending d = if is_in_phase d b.phase.season then order_steps m b power pending d else Err NotInThisPhase

@@ -10,3 +10,4 @@ pub mod Texts
 pub mod Reading
 pub mod Standing
 pub mod Laws
+pub mod Given

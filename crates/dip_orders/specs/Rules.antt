@@ -9,9 +9,9 @@ use Rattle.dip_board.specs.declared.boards.Dislodged.{Dislodged}
 use Rattle.dip_chart.specs.Charts.{Chart, province, fleet_next, coast_of}
 use Rattle.dip_board.specs.Boards.{Position}
 use Rattle.dip_forms.specs.Forms.{Says, spots_of}
-use Rattle.dip_forms.specs.declared.drafts.Mention.{Mention}
-use Rattle.dip_forms.specs.declared.drafts.Draft.{Draft}
-use Rattle.dip_forms.specs.declared.drafts.Draft.TheVariants.{Hold, Move, SupportHold, SupportMove, Convoy, Retreat, Disband, Build, Remove}
+use Rattle.dip_forms.specs.declared.forms.Mention.{Mention}
+use Rattle.dip_forms.specs.declared.forms.Form.{Form}
+use Rattle.dip_forms.specs.declared.forms.Form.TheVariants.{Hold, Move, SupportHold, SupportMove, Convoy, Retreat, Disband, Build, Remove}
 use Rattle.dip_orders.specs.Allowances.{builds_due, removals_due}
 use Rattle.dip_orders.specs.Checks.{Check, must, outcome}
 use Rattle.dip_orders.specs.Retreats.{retreats_of}
@@ -23,7 +23,7 @@ use Rattle.dip_orders.specs.declared.placed.Order.TheVariants.{Hold as Holds, Mo
 use Rattle.dip_orders.specs.declared.placed.PlacedOrder.{PlacedOrder}
 
 -- every form belongs to the phase, and its codes are on the map
-abbrev pub form_checks : Chart → Position → Draft → List Check
+abbrev pub form_checks : Chart → Position → Form → List Check
 form_checks m b d = must (is_in_phase d b.phase.season) NotInThisPhase ∷ map (λ s. must (is_on_map m s) UnknownProvince) (spots_of d)
 
 -- the ordered unit is there and of the kind that is written, and the coast that is written is one of its province
@@ -110,7 +110,7 @@ abbrev pub the_other : Chart → Position → Mention → AUnit
 the_other m b other = unwrap_or (other_at b other.kind (prov_named m other.at)) no_unit
 
 -- the checks that belong to a form
-abbrev pub own_checks : Chart → Position → ℕ → List PlacedOrder → Draft → List Check
+abbrev pub own_checks : Chart → Position → ℕ → List PlacedOrder → Form → List Check
 own_checks m b power pending (Hold u) = unit_checks m (unit_of m b power u) u
 own_checks m b power pending (Move u to via) =
     unit_checks m (unit_of m b power u) u
@@ -148,11 +148,11 @@ own_checks m b power pending (Remove u) =
     ∷ []
 
 -- all checks of a line, in order
-abbrev pub checks_of : Chart → Position → ℕ → List PlacedOrder → Draft → List Check
+abbrev pub checks_of : Chart → Position → ℕ → List PlacedOrder → Form → List Check
 checks_of m b power pending d = form_checks m b d ++ own_checks m b power pending d
 
 -- the order that a line is where all its checks hold
-abbrev pub order_in : Chart → Position → ℕ → Draft → PlacedOrder
+abbrev pub order_in : Chart → Position → ℕ → Form → PlacedOrder
 order_in m b power (Hold u) = record { unit = the_unit m b power u; order = Holds }
 order_in m b power (Move u to via) = record {
   unit = the_unit m b power u;
@@ -173,10 +173,10 @@ order_in m b power (Build u) = record { unit = record { power = power; kind = u.
 order_in m b power (Remove u) = record { unit = the_unit m b power u; order = Removes }
 
 -- the order that a form is on a board, or its first fault
-abbrev pub answer : Chart → Position → ℕ → List PlacedOrder → Draft → Result PlacedOrder OrderFault
+abbrev pub answer : Chart → Position → ℕ → List PlacedOrder → Form → Result PlacedOrder OrderFault
 answer m b power pending d = outcome (checks_of m b power pending d) (order_in m b power d)
 
 -- what a line is on this board: the answer to what it says, or it says nothing
 abbrev pub IsReading : Chart → Position → ℕ → List PlacedOrder → List ℕ → Result PlacedOrder OrderFault → Type 0
 IsReading m b power pending line r =
-    ((d : Draft) × Says line d × (answer m b power pending d ≡ r)) ⊎ (((d : Draft) → Says line d → ⊥) × (r ≡ Err CannotBeRead))
+    ((d : Form) × Says line d × (answer m b power pending d ≡ r)) ⊎ (((d : Form) → Says line d → ⊥) × (r ≡ Err CannotBeRead))

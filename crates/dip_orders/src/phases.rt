@@ -3,7 +3,7 @@ ghost use Rattle.std.specs.Prelude.{◌≡◌};
 ghost use Rattle.dip_orders.specs.Conditions.{is_movement, is_retreat, is_adjustment, is_in_phase};
 
 use dip_board::Season;
-use dip_forms::Draft;
+use dip_forms::Form;
 
 fn is_movement(season: Season) -> bool
     ensures { result ≡ is_movement season }
@@ -34,14 +34,14 @@ fn is_adjustment(season: Season) -> bool
 }
 
 /// Whether a form belongs to a phase of this season.
-pub(crate) fn is_in_phase(draft: &Draft, season: Season) -> bool
-    ensures { result ≡ is_in_phase draft.now season }
+pub(crate) fn is_in_phase(form: &Form, season: Season) -> bool
+    ensures { result ≡ is_in_phase form.now season }
 {
-    match draft {
-        Draft::Hold { .. } | Draft::Move { .. } => is_movement(season),
-        Draft::SupportHold { .. } | Draft::SupportMove { .. } => is_movement(season),
-        Draft::Convoy { .. } => is_movement(season),
-        Draft::Retreat { .. } | Draft::Disband { .. } => is_retreat(season),
-        Draft::Build { .. } | Draft::Remove { .. } => is_adjustment(season),
+    match form {
+        Form::Hold { .. } | Form::Move { .. } => is_movement(season),
+        Form::SupportHold { .. } | Form::SupportMove { .. } => is_movement(season),
+        Form::Convoy { .. } => is_movement(season),
+        Form::Retreat { .. } | Form::Disband { .. } => is_retreat(season),
+        Form::Build { .. } | Form::Remove { .. } => is_adjustment(season),
     }
 }

@@ -12,7 +12,7 @@ use crate::placed::PlacedOrder;
 use crate::supports::{convoy_of, support_hold_of, support_move_of};
 use crate::withdrawals::{disband_of, retreat_of};
 use dip_board::{Board, Phase};
-use dip_forms::{Draft, draft_of_line};
+use dip_forms::{Form, form_of_line};
 use dip_map::Map;
 use dip_names::Power;
 
@@ -21,22 +21,22 @@ fn placed_of(
     board: &Board,
     power: Power,
     pending: &[PlacedOrder],
-    draft: Draft,
+    form: Form,
 ) -> Result<PlacedOrder, OrderFault>
-    ensures { result ≡ order_steps map.now board.now power pending.now draft }
+    ensures { result ≡ order_steps map.now board.now power pending.now form }
 {
-    match draft {
-        Draft::Hold { unit } => hold_of(map, board, power, unit),
-        Draft::Move { unit, to, via } => move_of(map, board, power, unit, to, via),
-        Draft::SupportHold { unit, other, .. } => support_hold_of(map, board, power, unit, other),
-        Draft::SupportMove { unit, other, to } => {
+    match form {
+        Form::Hold { unit } => hold_of(map, board, power, unit),
+        Form::Move { unit, to, via } => move_of(map, board, power, unit, to, via),
+        Form::SupportHold { unit, other, .. } => support_hold_of(map, board, power, unit, other),
+        Form::SupportMove { unit, other, to } => {
             support_move_of(map, board, power, unit, other, to)
         }
-        Draft::Convoy { unit, army, to } => convoy_of(map, board, power, unit, army, to),
-        Draft::Retreat { unit, to } => retreat_of(map, board, power, unit, to),
-        Draft::Disband { unit } => disband_of(map, board, power, unit),
-        Draft::Build { unit } => build_of(map, board, power, pending, unit),
-        Draft::Remove { unit } => remove_of(map, board, power, pending, unit),
+        Form::Convoy { unit, army, to } => convoy_of(map, board, power, unit, army, to),
+        Form::Retreat { unit, to } => retreat_of(map, board, power, unit, to),
+        Form::Disband { unit } => disband_of(map, board, power, unit),
+        Form::Build { unit } => build_of(map, board, power, pending, unit),
+        Form::Remove { unit } => remove_of(map, board, power, pending, unit),
     }
 }
 
@@ -45,14 +45,14 @@ fn in_phase(
     board: &Board,
     power: Power,
     pending: &[PlacedOrder],
-    draft: Draft,
+    form: Form,
 ) -> Result<PlacedOrder, OrderFault>
-    ensures { result ≡ in_phase map.now board.now power pending.now draft }
+    ensures { result ≡ in_phase map.now board.now power pending.now form }
 {
-    if !is_in_phase(&draft, board.phase().season) {
+    if !is_in_phase(&form, board.phase().season) {
         return Err(OrderFault::NotInThisPhase);
     }
-    placed_of(map, board, power, pending, draft)
+    placed_of(map, board, power, pending, form)
 }
 
 /// The order of a power that a line states on this board, or the first rule that it breaks, in the order of O1, O11, O2,
@@ -70,8 +70,8 @@ pub fn read_order(
     ensures reading { IsReading map.now board.now power pending.now line.now result }
     ensures value { result ≡ order_of map.now board.now power pending.now line.now }
 {
-    match draft_of_line(line) {
-        Some(draft) => in_phase(map, board, power, pending, draft),
+    match form_of_line(line) {
+        Some(form) => in_phase(map, board, power, pending, form),
         None => Err(OrderFault::CannotBeRead),
     }
 }

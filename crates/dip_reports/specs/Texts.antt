@@ -1,5 +1,5 @@
 -- The printed texts: each is a function of its record. Every line ends with LF.
-use Rattle.std.specs.Prelude.{ℕ, Bool, true, false, List, [], ◌∷◌, ◌++◌, ◌==◌, ◌+◌, codes, if◌then◌else◌, map, filter, flat_map, length, Option, None, Some, slice_index_or}
+use Rattle.std.specs.Prelude.{ℕ, Bool, true, false, List, [], ◌∷◌, ◌++◌, ◌==◌, ◌+◌, codes, if◌then◌else◌, map, filter, flat_map, length, Option, None, Some, Result, Ok, Err}
 use Rattle.std.specs.Fmt.{decimal}
 use Rattle.dip_board.specs.declared.boards.Phase.{Phase}
 use Rattle.dip_board.specs.Boards.{Position, owns}
@@ -8,8 +8,11 @@ use Rattle.dip_board.specs.declared.boards.Season.TheVariants.{SpringMoves, Spri
 use Rattle.dip_reports.specs.declared.refusals.Refusal.{Refusal}
 use Rattle.dip_reports.specs.declared.refusals.Refusal.TheVariants.{Malformed, Unknown, Stale, NumberUsed, TooLong, WrongSender, NameTaken}
 use Rattle.dip_records.specs.Records.{Public, Own, Head, Reply, Standing, Status, Running, Paused, Closed, Ended, Won, Drawn}
-use Rattle.dip_chart.specs.Charts.{Chart, province, realm}
-use Rattle.dip_orders.specs.Texts.{unit_text}
+use Rattle.dip_chart.specs.Charts.{Chart, powers, province, provs, realm}
+use Rattle.dip_orders.specs.Faults.{fault_number, fault_words}
+use Rattle.dip_orders.specs.Texts.{order_text, unit_text}
+use Rattle.dip_orders.specs.declared.faults.OrderFault.{OrderFault}
+use Rattle.dip_orders.specs.declared.placed.PlacedOrder.{PlacedOrder}
 use Rattle.dip_names.specs.declared.names.Unit.{Unit}
 use Rattle.dip_reports.specs.declared.board_lines.Force.{Force}
 
@@ -45,6 +48,28 @@ refusal_text TooLong = codes "L5 letter over 16384 bytes"
 refusal_text WrongSender = codes "L9 command not for this sender"
 refusal_text NameTaken = codes "L11 name taken"
 
+-- a refusal as a reply's line
+abbrev pub refusal_line : Refusal → List ℕ
+refusal_line r = refusal_text r ++ codes "\n"
+
+-- a line of ORDERS that is refused: the fault and the line's number
+abbrev pub fault_line : ℕ → OrderFault → List ℕ
+fault_line number fault = codes "O" ++ decimal (fault_number fault) ++ codes " line " ++ decimal number ++ codes ": "
+    ++ fault_words fault ++ codes "\n"
+
+-- a line of ORDERS that is taken: `OK` and the canonical order
+abbrev pub order_line : Chart → PlacedOrder → List ℕ
+order_line m o = codes "OK " ++ order_text m o ++ codes "\n"
+
+-- what a line of ORDERS is answered
+abbrev pub line_answer : Chart → ℕ → Result PlacedOrder OrderFault → List ℕ
+line_answer m number (Ok o) = order_line m o
+line_answer m number (Err fault) = fault_line number fault
+
+-- the reply's line of a letter that published a paper: the paper's number
+abbrev pub paper_line : ℕ → List ℕ
+paper_line number = codes "OK paper " ++ decimal number ++ codes "\n"
+
 -- when the next tick is due, what may be sent, and how many papers there are
 abbrev pub terms_text : Public → List ℕ
 terms_text p = codes " DUE " ++ decimal p.due ++ codes " PERIOD " ++ decimal p.period ++ codes " GREY " ++ yes_or_no p.grey
@@ -73,11 +98,11 @@ abbrev pub in_province : List Force → ℕ → List Force
 in_province fs p = filter (λ f. f.unit.place.prov == p) fs
 
 abbrev pub by_province : Chart → List Force → List Force
-by_province m fs = flat_map (in_province fs) (numbers 0 m.provinces)
+by_province m fs = flat_map (in_province fs) (provs m)
 
 -- the centres that a power owns, by province
 abbrev pub centres : Chart → Position → ℕ → List ℕ
-centres m b power = filter (λ p. owns b power p) (numbers 0 m.provinces)
+centres m b power = filter (λ p. owns b power p) (provs m)
 
 -- texts with a separator between them, or `-` where there is none
 abbrev pub listed : List ℕ → List (List ℕ) → List ℕ
@@ -99,7 +124,7 @@ board_line m b power = listing m (realm m power).name (centres m b power) (by_pr
 
 -- a line for each power, by name
 unfoldable pub board_lines : Chart → Position → List ℕ
-board_lines m b = flat_map (board_line m b) (numbers 0 m.realms)
+board_lines m b = flat_map (board_line m b) (powers m)
 
 -- the first paper of a game
 abbrev pub opening_paper : Chart → Public → List ℕ

@@ -1,20 +1,20 @@
-//! Records of a game and their printed texts.
+//! The printed texts of a game's records, and of what letters come to.
 #![tactic(auto)]
 
+mod answers;
 mod board_lines;
 mod game_line;
 mod opening_paper;
-mod records;
 mod refusals;
 mod replies;
 mod show;
 
+pub use answers::{paper_line, push_fault, push_order, refusal_line};
 pub use board_lines::push_board_lines;
 pub use game_line::{push_game_line, push_phase, push_status};
 pub use opening_paper::opening_paper_text;
-pub use records::{Head, Kept, Outcome, Own, Public, Reply, Standing, Status};
 pub use refusals::Refusal;
-pub use replies::reply_text;
+pub use replies::{reply_pieces, reply_text};
 pub use show::show_text;
 
 #[cfg(test)]

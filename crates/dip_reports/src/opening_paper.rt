@@ -5,8 +5,8 @@ ghost use Rattle.dip_records.specs.Rows as rows;
 
 use crate::board_lines::push_board_lines;
 use crate::game_line::push_game_line;
-use dip_records::Public;
 use dip_map::Map;
+use dip_records::Public;
 use std::alloc::{AllocError, Global};
 
 /// The text of a game's first paper.

@@ -30,7 +30,7 @@ kept_or_taken m us p o = go (is_centre m p) refl
     go true is = taken_by m us p o is (holder us p) refl
     go false is = inl refl
 
-owners_at : (m : Chart) (us : List AUnit) (os : List (Option ℕ)) (i p q : ℕ) → q ≡ i + p
+pub owners_at : (m : Chart) (us : List AUnit) (os : List (Option ℕ)) (i p q : ℕ) → q ≡ i + p
     → (get_or (owners_after m us i os) p None ≡ get_or os p None) ⊎ IsTaken m us q (get_or (owners_after m us i os) p None)
 owners_at m us [] i p q e = inl refl
 owners_at m us (o ∷ os) i zero q e =
@@ -38,7 +38,7 @@ owners_at m us (o ∷ os) i zero q e =
     subst (λ (r : ℕ). (owner_after m us i o ≡ o) ⊎ IsTaken m us r (owner_after m us i o)) same (kept_or_taken m us i o)
 owners_at m us (o ∷ os) i (suc p) q e = owners_at m us os (i + 1) p q (omega (arith, e))
 
-owners_count : (m : Chart) (us : List AUnit) (os : List (Option ℕ)) (i : ℕ) → length (owners_after m us i os) ≡ length os
+pub owners_count : (m : Chart) (us : List AUnit) (os : List (Option ℕ)) (i : ℕ) → length (owners_after m us i os) ≡ length os
 owners_count m us [] i = refl
 owners_count m us (o ∷ os) i = ap suc (owners_count m us os (i + 1))
 

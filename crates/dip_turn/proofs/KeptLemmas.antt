@@ -1,5 +1,5 @@
 -- Nobody is lost or doubled.
-use Rattle.std.proofs.Common.{◌≡◌, ◌⊎◌, inl, inr, ℕ, ◌+◌, Bool, true, false, cond, not, List, [], ◌∷◌, ◌++◌, Option, Some, None, map, filter, length, get_or, zero, suc, ◌<◌, arith, refl, sym, ap, ◌∙◌}
+use Rattle.std.proofs.Common.{◌≡◌, ◌⊎◌, inl, inr, ℕ, ◌+◌, Bool, true, false, cond, not, List, [], ◌∷◌, Option, Some, None, filter, length, get_or, zero, suc, arith, refl, ap, ◌∙◌}
 use Rattle.std.proofs.lemmas.Bool.{cases_Bool}
 use Rattle.std.proofs.lemmas.List.{length-map}
 use Rattle.std.specs.Prelude.{All, Contains}
@@ -38,7 +38,7 @@ given {X} {Y} h P (x ∷ xs) all = go (h x) refl (given h P xs all.1)
 weaker : {X : Type 0} (P Q : X → Type 0) (xs : List X) → ((x : X) → P x → Q x) → All P xs → All Q xs
 weaker P Q xs step all = λ k d h. step (get_or xs k d) (all k d h)
 
-not_true : (b : Bool) → not b ≡ true → b ≡ false
+pub not_true : (b : Bool) → not b ≡ true → b ≡ false
 not_true true h = absurd (cc)
 not_true false h = refl
 
@@ -119,7 +119,7 @@ winters_add_builds_alone m b pending =
     (weaker (Contains (units_built pending)) (StoodOrBuilt b pending) (units_built pending) (λ u h. inr h) (All-contains_itself (units_built pending)))
 
 -- an element that passes is kept
-kept_in : {X : Type 0} (p : X → Bool) (xs : List X) (x : X) → Contains xs x → p x ≡ true → Contains (filter p xs) x
+pub kept_in : {X : Type 0} (p : X → Bool) (xs : List X) (x : X) → Contains xs x → p x ≡ true → Contains (filter p xs) x
 kept_in p [] x (k, low, at) t = absurd (omega arith)
 kept_in {X = X} p (y ∷ ys) x (zero, low, at) t =
     let first : p y ≡ true = ap p at ∙ t in

@@ -13,3 +13,9 @@ pub mod ToldLemmas
 pub mod KeptLemmas
 pub mod WinnerLemmas
 pub mod StandoffLemmas
+pub mod SingleLemmas
+pub mod PlaceLemmas
+pub mod MapLemmas
+pub mod CountLemmas
+pub mod DisorderCounts
+pub mod WinterLemmas

@@ -1,15 +1,12 @@
 -- Where retreats lead: never to an occupied province, a standoff or where the attacker came from, and no two to one province.
-use Rattle.std.proofs.Common.{◌≡◌, ◌≢◌, ℕ, ◌<◌, ◌≤◌, ◌+◌, ◌==◌, ◌&&◌, Bool, true, false, cond, zero, suc, List, [], ◌∷◌, length, get_or, Option, Some, None, find, count_by, Contains, refl, sym, ap, subst, ◌∙◌, inl, inr, arith, if◌then◌else◌}
+use Rattle.std.proofs.Common.{◌≡◌, ℕ, ◌<◌, ◌≤◌, ◌+◌, ◌==◌, ◌&&◌, Bool, true, false, cond, zero, suc, List, [], ◌∷◌, length, get_or, Option, Some, None, find, count_by, Contains, refl, sym, ap, subst, ◌∙◌, inl, inr, arith, if◌then◌else◌}
 use Rattle.std.proofs.lemmas.Bool.{and_parts, cases_Bool, cases_lt, eqb-true, eq-eqb}
 use Rattle.std.specs.Option.{unwrap_or}
 use Rattle.std.specs.Prelude.{option_map}
-use Rattle.dip_names.specs.Kinds.{is_kind}
-use Rattle.dip_names.specs.declared.names.Kind.{Kind}
-use Rattle.dip_names.specs.declared.names.Kind.TheVariants.{Army, Fleet}
 use Rattle.dip_names.specs.declared.names.Place.{Place}
 use Rattle.dip_names.specs.declared.names.Unit.{Unit as AUnit}
 use Rattle.dip_board.specs.declared.boards.Dislodged.{Dislodged}
-use Rattle.dip_board.specs.Boards.{Position}
+use Rattle.dip_orders.specs.Given.{orders_of_power}
 use Rattle.dip_orders.specs.Laws.{IsGiven, NoneRetreatsToItsAttacker, RetreatsAreToVacantProvinces}
 use Rattle.dip_orders.specs.Standing.{is_same_unit}
 use Rattle.dip_orders.specs.declared.placed.Order.{Order}
@@ -17,11 +14,12 @@ use Rattle.dip_orders.specs.declared.placed.Order.TheVariants.{Hold, Move, Suppo
 use Rattle.dip_orders.specs.declared.placed.PlacedOrder.{PlacedOrder}
 use Rattle.dip_orders.proofs.FindLaws.{find_passes}
 use Rattle.dip_orders.proofs.KeptLaws.{count_cons}
+use Rattle.dip_orders.proofs.StandingLaws.{same_unit}
 use Rattle.dip_turn.specs.Laws.{RetreatsAreOpen, RetreatsMeetNowhere}
 use Rattle.dip_turn.specs.Retreating.{after_retreat, at_refuge, found_retreat, goal, is_for_dislodged, is_in, is_sought_by_one, refuge}
 
 -- what is found is an element
-found_in : {A : Type 0} (p : A → Bool) (xs : List A) (y : A) → find p xs ≡ Some y → Contains xs y
+pub found_in : {A : Type 0} (p : A → Bool) (xs : List A) (y : A) → find p xs ≡ Some y → Contains xs y
 found_in p [] y h = absurd (cc)
 found_in p (x ∷ xs) y h =
     elim (cases_Bool (p x)) [
@@ -29,30 +27,18 @@ found_in p (x ∷ xs) y h =
       | inr other ↦ let (k, low, at) = found_in p xs y (rw other at h) in (suc k, (omega arith), at)
     ]
 
-one_kind : (k l : Kind) → is_kind k l ≡ true → k ≡ l
-one_kind Army Army h = refl
-one_kind Army Fleet h = absurd (cc)
-one_kind Fleet Army h = absurd (cc)
-one_kind Fleet Fleet h = refl
-
--- two units that the test calls one are one
-one_unit : (u v : AUnit) → is_same_unit u v ≡ true → u ≡ v
-one_unit u v h =
-    let (power, rest) = and_parts (u.power == v.power) _ h in
-    let (kind, place) = and_parts (is_kind u.kind v.kind) _ rest in
-    let (prov, coast) = and_parts (u.place.prov == v.place.prov) _ place in
-    let e1 : u.power ≡ v.power = eqb-true _ _ power in
-    let e2 : u.kind ≡ v.kind = one_kind _ _ kind in
-    let e3 : u.place.prov ≡ v.place.prov = eqb-true _ _ prov in
-    let e4 : u.place.coast ≡ v.place.coast = eqb-true _ _ coast in
-    λ i. record { power = e1 i; kind = e2 i; place = record { prov = e3 i; coast = e4 i } }
-
 -- the unit retreats to that place by an order of its own, and nobody else is to come to the province
-abbrev IsRefuge : List PlacedOrder → List Dislodged → Dislodged → AUnit → Type 0
-IsRefuge pending ds d u = (o : PlacedOrder) × Contains pending o × (o.unit ≡ d.unit) × (o.order ≡ Retreat u.place) × (is_sought_by_one pending ds u.place.prov ≡ true)
+pub record IsRefuge (pending : List PlacedOrder) (ds : List Dislodged) (d : Dislodged) (u : AUnit) : Type 0 where
+  pub order : PlacedOrder
+  pub among : Contains pending order
+  pub own : order.unit ≡ d.unit
+  pub to : order.order ≡ Retreat u.place
+  pub one : is_sought_by_one pending ds u.place.prov ≡ true
+  pub power : u.power ≡ d.unit.power
+  pub kind : u.kind ≡ d.unit.kind
 
 -- a unit that stands after the retreats was ordered there
-refuge_of : (pending : List PlacedOrder) (ds : List Dislodged) (d : Dislodged) (u : AUnit) → after_retreat pending ds d ≡ Some u → IsRefuge pending ds d u
+pub refuge_of : (pending : List PlacedOrder) (ds : List Dislodged) (d : Dislodged) (u : AUnit) → after_retreat pending ds d ≡ Some u → IsRefuge pending ds d u
 refuge_of pending ds d u h = found (found_retreat pending d) refl h
   where
     alone : (o : PlacedOrder) (to : Place) (b : Bool) → found_retreat pending d ≡ Some o → o.order ≡ Retreat to → is_sought_by_one pending ds to.prov ≡ b
@@ -64,7 +50,15 @@ refuge_of pending ds d u h = found (found_retreat pending d) refl h
         let there : made ≡ u = cc in
         let place : to ≡ u.place = ap (λ (x : AUnit). x.place) there in
         let own = (and_parts (is_same_unit o.unit d.unit) (is_for_dislodged o.order) (find_passes (λ x. is_same_unit x.unit d.unit && is_for_dislodged x.order) pending o is)).0 in
-        (o, found_in (λ x. is_same_unit x.unit d.unit && is_for_dislodged x.order) pending o is, one_unit o.unit d.unit own, e ∙ ap (λ (a : Place). Retreat a) place, subst (λ (a : Place). is_sought_by_one pending ds a.prov ≡ true) place one)
+        record {
+          order = o;
+          among = found_in (λ x. is_same_unit x.unit d.unit && is_for_dislodged x.order) pending o is;
+          own = same_unit o.unit d.unit own;
+          to = e ∙ ap (λ (a : Place). Retreat a) place;
+          one = subst (λ (a : Place). is_sought_by_one pending ds a.prov ≡ true) place one;
+          power = ap (λ (x : AUnit). x.power) (sym there);
+          kind = ap (λ (x : AUnit). x.kind) (sym there);
+        }
 
     ordered : (o : PlacedOrder) (k : Order) → found_retreat pending d ≡ Some o → o.order ≡ k → at_refuge pending ds d.unit (refuge k) ≡ Some u → IsRefuge pending ds d u
     ordered o (Retreat to) is e h = alone o to (is_sought_by_one pending ds to.prov) is e refl h
@@ -83,11 +77,13 @@ refuge_of pending ds d u h = found (found_retreat pending d) refl h
 
 pub retreats_are_open : NoneRetreatsToItsAttacker → RetreatsAreToVacantProvinces → RetreatsAreOpen
 retreats_are_open attacker vacant m b pending d u ok on given among h =
-    let (o, inside, same, to, one) = refuge_of pending b.dislodged d u h in
-    let mine : IsGiven m b o.unit.power pending (record { unit = o.unit; order = Retreat u.place }) =
-    subst (λ (k : Order). IsGiven m b o.unit.power pending (record { unit = o.unit; order = k })) to (given o inside) in
-    let (empty, closed) = vacant m b o.unit.power pending o.unit u.place ok on mine in
-    record { empty = empty; no_standoff = closed; not_origin = attacker m b o.unit.power pending o.unit u.place d ok on mine among (sym same) }
+    let r = refuge_of pending b.dislodged d u h in
+    let o : PlacedOrder = r.order in
+    let own : List PlacedOrder = orders_of_power o.unit.power pending in
+    let mine : IsGiven m b o.unit.power own (record { unit = o.unit; order = Retreat u.place }) =
+    subst (λ (k : Order). IsGiven m b o.unit.power own (record { unit = o.unit; order = k })) r.to (given o r.among) in
+    let (empty, closed) = vacant m b o.unit.power own o.unit u.place ok on mine in
+    record { empty = empty; no_standoff = closed; not_origin = attacker m b o.unit.power own o.unit u.place d ok on mine among (sym r.own) }
 
 counted : {A : Type 0} (f : A → Bool) (x : A) (xs : List A) → f x ≡ true → count_by f (x ∷ xs) ≡ 1 + count_by f xs
 counted f x xs t = count_cons f x xs ∙ ap (λ (b : Bool). cond b 1 0 + count_by f xs) t
@@ -127,9 +123,8 @@ one_passes {A = A} f xs d e one (k, low, at) (l, below, there) t s =
 
 pub retreats_meet_nowhere : RetreatsMeetNowhere
 retreats_meet_nowhere b pending d e u v in_d in_e h k same =
-    let (o, inside, own, to, one) = refuge_of pending b.dislodged d u h in
-    let (w, within, its, at, alone) = refuge_of pending b.dislodged e v k in
-    one_passes (λ x. is_in (goal pending x) u.place.prov) b.dislodged d e one in_d in_e (goes d u h u.place.prov refl) (goes e v k u.place.prov (sym same))
+    let r = refuge_of pending b.dislodged d u h in
+    one_passes (λ x. is_in (goal pending x) u.place.prov) b.dislodged d e r.one in_d in_e (goes d u h u.place.prov refl) (goes e v k u.place.prov (sym same))
   where
     goes : (x : Dislodged) (y : AUnit) → after_retreat pending b.dislodged x ≡ Some y → (p : ℕ) → y.place.prov ≡ p → is_in (goal pending x) p ≡ true
     goes x y is p e = step (goal pending x) is

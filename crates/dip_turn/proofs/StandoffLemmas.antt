@@ -1,16 +1,12 @@
 -- Standoffs after a movement: once each, in the order of the provinces, of the map, and empty.
-use Rattle.std.proofs.Common.{◌≡◌, ℕ, ◌<◌, ◌+◌, ◌==◌, ◌&&◌, Bool, true, false, not, nat_lt, cond, zero, suc, List, [], ◌∷◌, length, filter, refl, sym, ap, ◌∙◌, inl, inr, arith}
+use Rattle.std.proofs.Common.{◌≡◌, ℕ, ◌<◌, ◌+◌, ◌==◌, Bool, true, false, not, nat_lt, cond, List, [], ◌∷◌, length, filter, refl, inl, inr, arith}
 use Rattle.std.proofs.lemmas.Bool.{and_from, and_parts, cases_Bool, lt-ltb, not-true}
 use Rattle.std.proofs.lemmas.List.Elements.{All-filter, All-from_recursion}
-use Rattle.std.specs.Prelude.{All}
 use Rattle.std.specs.List.{AllByRecursion, list_all, list_any}
-use Rattle.dip_board.specs.Boards.{Position, are_ascending, is_held}
-use Rattle.dip_chart.specs.Charts.{Chart}
-use Rattle.dip_orders.specs.declared.placed.PlacedOrder.{PlacedOrder}
-use Rattle.dip_decide.specs.Deciding.{Assignment}
+use Rattle.dip_board.specs.Boards.{are_ascending}
 use Rattle.dip_turn.specs.Indices.{indices, indices_from}
 use Rattle.dip_turn.specs.Laws.{StandoffsAreLawful}
-use Rattle.dip_turn.specs.Moving.{after_moves, contends, is_standoff_after, standing_after}
+use Rattle.dip_turn.specs.Moving.{contends, is_standoff_after, standing_after}
 
 indices_within : {A : Type 0} (rs : List A) (i n : ℕ) → i + length rs ≡ n → AllByRecursion (λ p. p < n) (indices_from i rs)
 indices_within [] i n h = tt

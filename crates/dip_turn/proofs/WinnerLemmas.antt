@@ -1,14 +1,11 @@
 -- A winner is one: no two powers own more than half of all centres each.
-use Rattle.std.proofs.Common.{◌≡◌, ◌≢◌, ◌⊎◌, inl, inr, ℕ, ◌<◌, ◌≤◌, ◌+◌, ◌==◌, Bool, true, false, cond, zero, suc, List, [], ◌∷◌, get_or, Option, Some, None, is_some, count_by, refl, sym, ap, ◌∙◌, arith}
+use Rattle.std.proofs.Common.{◌≡◌, ◌≢◌, ◌⊎◌, inl, inr, ℕ, ◌≤◌, ◌+◌, ◌==◌, Bool, true, cond, suc, List, [], ◌∷◌, get_or, Option, Some, None, is_some, count_by, sym, ap, ◌∙◌, arith}
 use Rattle.std.proofs.lemmas.Bool.{cases_Bool, eqb-true, eqb-false, false≢true, ltb-true}
 use Rattle.dip_chart.specs.Charts.{Chart, Province, no_province, is_centre}
-use Rattle.dip_board.specs.Boards.{IsOf, Position, centres_owned, is_power, owner}
-use Rattle.dip_orders.specs.declared.placed.PlacedOrder.{PlacedOrder}
+use Rattle.dip_board.specs.Boards.{Position, is_power, owner}
 use Rattle.dip_orders.proofs.KeptLaws.{count_cons}
-use Rattle.dip_turn.specs.Centres.{centres, has_won}
+use Rattle.dip_turn.specs.Centres.{has_won}
 use Rattle.dip_turn.specs.Laws.{IsTaken, OnlyCentresAreOwned, WinnersAreOne}
-use Rattle.dip_turn.specs.Reports.{IsPlayed}
-use Rattle.dip_turn.specs.declared.report.Report.{Report}
 use Rattle.dip_turn.proofs.CentreLaws.{played_centres}
 
 -- an owner is one of two powers at most

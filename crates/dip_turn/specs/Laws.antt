@@ -7,8 +7,10 @@ use Rattle.dip_board.specs.declared.boards.Dislodged.{Dislodged}
 use Rattle.dip_board.specs.declared.boards.Phase.{Phase}
 use Rattle.dip_board.specs.declared.boards.Season.{Season}
 use Rattle.dip_board.specs.declared.boards.Season.TheVariants.{SpringMoves, SpringRetreats, FallMoves, FallRetreats, Winter}
-use Rattle.dip_board.specs.Boards.{Position, IsOf, are_ascending, is_held, owner}
-use Rattle.dip_orders.specs.Laws.{IsEmpty, IsGiven}
+use Rattle.dip_board.specs.Boards.{Position, IsOf, are_ascending, centres_owned, is_held, owner, units_counted}
+use Rattle.dip_orders.specs.Given.{AreGiven, IsEachGiven}
+use Rattle.dip_orders.specs.Laws.{IsEmpty}
+use Rattle.dip_orders.specs.declared.placed.Order.TheVariants.{Build}
 use Rattle.dip_orders.specs.declared.placed.PlacedOrder.{PlacedOrder}
 use Rattle.dip_decide.specs.declared.decisions.Decision.{Decision}
 use Rattle.dip_decide.specs.Deciding.{Assignment}
@@ -18,7 +20,7 @@ use Rattle.dip_decide.specs.Matching.{is_convoyed, order_at, situation}
 use Rattle.dip_decide.specs.Movement.{Satisfies, head_to_head}
 use Rattle.dip_decide.specs.Results.{values_in}
 use Rattle.dip_orders.specs.Conditions.{is_retreat}
-use Rattle.dip_turn.specs.Adjusting.{after_adjustment, disorder, is_among, is_given, units_built}
+use Rattle.dip_turn.specs.Adjusting.{after_adjustment, builds_given, disorder, is_among, is_given, units_built}
 use Rattle.dip_turn.specs.Centres.{has_won, holder}
 use Rattle.dip_turn.specs.Moving.{after_moves, contends, dislodged_after, dislodged_unit, entrant, enters, has_moved, is_driven_out, prov, standing_after, unit_after}
 use Rattle.dip_turn.specs.Phases.{has_dislodged, last_year}
@@ -137,7 +139,7 @@ pub record IsOpenTo (b : Position) (d : Dislodged) (u : AUnit) : Type 0 where
 abbrev pub RetreatsAreOpen : Type 0
 RetreatsAreOpen =
     (m : Chart) (b : Position) (pending : List PlacedOrder) (d : Dislodged) (u : AUnit)
-    → IsMap m → IsOf m b → ((o : PlacedOrder) → Contains pending o → IsGiven m b o.unit.power pending o)
+    → IsMap m → IsOf m b → IsEachGiven m b pending
     → Contains b.dislodged d → after_retreat pending b.dislodged d ≡ Some u → IsOpenTo b d u
 
 -- two dislodged units that end in one province are one, whatever was ordered
@@ -224,6 +226,31 @@ AreAlike (OfMovement s) (OfMovement t) = (s.orders ≡ t.orders) × (values_in s
 AreAlike (OfRetreats s) (OfRetreats t) = s.items ≡ t.items
 AreAlike (OfAdjustment s) (OfAdjustment t) = (s.builds.items ≡ t.builds.items) × (s.removals.items ≡ t.removals.items) × (s.disorder.items ≡ t.disorder.items) × (s.waivers.items ≡ t.waivers.items)
 AreAlike _ _ = ⊥
+
+-- the board after a phase is one of its map, where the orders are ones that can be given beside one another
+abbrev pub BoardsStayOfTheirMap : Type 0
+BoardsStayOfTheirMap =
+    (m : Chart) (b : Position) (pending : List PlacedOrder) (new : Position) (report : Report)
+    → IsMap m → IsOf m b → AreGiven m b pending → IsPlayed m b pending new report → IsOf m new
+
+-- what a Winter leaves a power: no more units than centres; as many as centres where it had as many or more, so that it lost
+-- none that it could keep; and else those that it had and those that it built
+pub record IsEvened (b : Position) (pending : List PlacedOrder) (new : Position) (power : ℕ) : Type 0 where
+  pub within : units_counted new power ≤ centres_owned new power
+  pub least : centres_owned b power ≤ units_counted b power → units_counted new power ≡ centres_owned b power
+  pub most : units_counted b power ≤ centres_owned b power → units_counted new power ≡ units_counted b power + builds_given pending power
+
+abbrev pub WintersEvenUnits : Type 0
+WintersEvenUnits =
+    (m : Chart) (b : Position) (pending : List PlacedOrder) (new : Position) (report : Report) (power : ℕ)
+    → IsMap m → IsOf m b → AreGiven m b pending → b.phase.season ≡ Winter → has_dislodged b ≡ false
+    → IsPlayed m b pending new report → IsEvened b pending new power
+
+-- each unit that was ordered to be built stands after the Winter
+abbrev pub BuildsStand : Type 0
+BuildsStand =
+    (m : Chart) (b : Position) (pending : List PlacedOrder) (new : Position) (report : Report) (o : PlacedOrder)
+    → b.phase.season ≡ Winter → IsPlayed m b pending new report → Contains pending o → o.order ≡ Build → Contains new.units o.unit
 
 -- two boards and reports are the same
 pub record IsSame (new other : Position) (one two : Report) : Type 0 where

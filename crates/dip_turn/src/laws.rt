@@ -1,12 +1,15 @@
 //! Laws of phases, each the contract of a function that does nothing.
-ghost use Rattle.dip_turn.specs.Laws.{CentresChangeInFall, ConvoysCloseNoOrigin, DislodgedWhereEntered};
+ghost use Rattle.dip_turn.specs.Laws.{BoardsStayOfTheirMap, BuildsStand, CentresChangeInFall, ConvoysCloseNoOrigin, DislodgedWhereEntered};
 ghost use Rattle.dip_turn.specs.Laws.{LosersLeaveNoStandoff, MovementsKeepUnits, OnlyCentresAreOwned, OnlyRetreatsHaveDislodged, PhasesFollow};
 ghost use Rattle.dip_turn.specs.Laws.{PhasesHaveOneResult, RetreatsAreOpen, RetreatsLoseNobodyElse, RetreatsMeetNowhere};
 ghost use Rattle.dip_turn.specs.Laws.{StandoffsAreLawful, UnitsStandApart, WinnersAreOne, WinnersOwnMore, WintersAddBuildsAlone};
-ghost use Rattle.dip_turn.specs.Laws.{WintersRemoveAlone};
+ghost use Rattle.dip_turn.specs.Laws.{WintersEvenUnits, WintersRemoveAlone};
 
-use dip_decide::{boards_are_situations, equations_are_lawful, one_answer};
-use dip_orders::{none_retreats_to_its_attacker, retreats_and_builds_are_to_vacant_provinces};
+use dip_decide::{boards_are_situations, equations_are_lawful, explained_is_lawful, one_answer};
+use dip_orders::{
+    each_unit_has_one_order, none_retreats_to_its_attacker, orders_are_lawful,
+    retreats_and_builds_are_to_vacant_provinces,
+};
 
 /// After a movement no two units stand in one province: two that aren't dislodged and stand in one are the same.
 pub fn units_stand_apart()
@@ -43,6 +46,26 @@ pub fn retreats_are_open()
 {
     none_retreats_to_its_attacker();
     retreats_and_builds_are_to_vacant_provinces();
+}
+
+/// The board after a phase is one of its map: each unit at a place of the map, no two in one province, standing or dislodged, and
+/// only centres owned, if the orders are ones that can be given beside one another.
+pub fn boards_stay_of_their_map()
+    ensures { BoardsStayOfTheirMap }
+{
+    units_stand_apart();
+    retreats_are_open();
+    explained_is_lawful();
+    orders_are_lawful();
+    each_unit_has_one_order();
+}
+
+/// After a Winter no power has more units than centres, and none lost more than it had to; and each unit that was built stands.
+pub fn winters_even_units()
+    ensures counts { WintersEvenUnits }
+    ensures builds { BuildsStand }
+{
+    orders_are_lawful();
 }
 
 /// Nobody is dislodged on a board whose phase is no retreat.

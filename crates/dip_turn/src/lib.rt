@@ -16,8 +16,9 @@ mod standoffs;
 
 pub use dip_orders::{allowance, retreats};
 pub use laws::{
-    centres_change_in_fall, movements_are_told, only_retreats_have_dislodged, phases_follow,
-    phases_have_one_result, retreats_are_open, units_are_kept, units_stand_apart, winners_own_more,
+    boards_stay_of_their_map, centres_change_in_fall, movements_are_told,
+    only_retreats_have_dislodged, phases_follow, phases_have_one_result, retreats_are_open,
+    units_are_kept, units_stand_apart, winners_own_more,
 };
 pub use playing::advance;
 pub use report::{

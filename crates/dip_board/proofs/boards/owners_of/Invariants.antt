@@ -1,6 +1,7 @@
-use Rattle.std.proofs.Common.{◌≡◌, ◌++◌, drop}
-use Rattle.dip_board.specs.Boards.{owners_from}
+use Rattle.std.proofs.Common.{◌≡◌, ◌++◌, map}
+use Rattle.dip_board.specs.Boards.{owner_at}
+use Rattle.dip_chart.specs.Charts.{provs}
 use Rattle.dip_board.proofs.boards.owners_of.Given as goal
 
-abbrev pub invariant-loop-index : goal.invariant-loop-index
-invariant-loop-index l = l.owners.items ++ owners_from l.map l.index (drop l.index l.map.provinces) ≡ owners_from l.map 0 l.map.provinces
+abbrev pub invariant-loop-prov : goal.invariant-loop-prov
+invariant-loop-prov l = l.owners.items ++ map (owner_at l.map) l.prov-iterator ≡ map (owner_at l.map) (provs l.map)

@@ -1,0 +1,114 @@
+-- Games that are found by their names among entries.
+use Rattle.std.proofs.Common.{◌≡◌, ◌<◌, ◌++◌, ◌+◌, ℕ, zero, suc, Bool, true, false, cond, List, [], ◌∷◌, Option, None, Some, length, option_map, option_copied, is_some, Bor, refl, sym, ap, ◌∙◌, arith, bytes_eq, String, string_bytes, slice_get, if◌then◌else◌}
+use Rattle.std.specs.declared.alloc.Global.{Global}
+use Rattle.std.specs.List.{position_or_len, position}
+use Rattle.std.specs.Map.{keys_of, lookup, values_of}
+use Rattle.std.specs.String.{string_eq}
+use Rattle.indexmap.specs.IndexMap.{insert_entry, set_value_at}
+use Rattle.indexmap.proofs.MapLemmas.{Found-position}
+use Rattle.std.proofs.lemmas.Slice.Eq.{bytes_eq-Decides}
+use Rattle.dip_desk.specs.Keyed.{at, change_at}
+use Rattle.dip_desk.specs.State as s
+use Rattle.dip_desk.specs.Stored as stored
+use Rattle.dip_desk.specs.declared.memory.GameRow.{GameRow}
+
+abbrev pub Entry : Type 0
+Entry = String Global × GameRow
+
+-- the test of a name on the keys
+abbrev pub is_named : List ℕ → String Global → Bool
+is_named name key = bytes_eq name (string_bytes key)
+
+-- whether two names are the same, whichever comes first
+pub bytes_eq-turned : (a b : List ℕ) → bytes_eq a b ≡ bytes_eq b a
+bytes_eq-turned a b = go (bytes_eq a b) (bytes_eq b a) refl refl
+  where
+    go : (x y : Bool) → bytes_eq a b ≡ x → bytes_eq b a ≡ y → x ≡ y
+    go true true e f = refl
+    go false false e f = refl
+    go true false e f = sym ((bytes_eq-Decides b a).1 (sym ((bytes_eq-Decides a b).0 e))) ∙ f
+    go false true e f = sym e ∙ (bytes_eq-Decides a b).1 (sym ((bytes_eq-Decides b a).0 f))
+
+-- what is found under a name is the game of that name
+pub game_found : (name : List ℕ) (es : List Entry)
+    → option_map (stored.game name) (lookup (is_named name) es) ≡ at bytes_eq s.name_of name (stored.games es)
+game_found name [] = refl
+game_found name (e ∷ es) = go (bytes_eq name (string_bytes e.0)) refl (game_found name es)
+  where
+    key : List ℕ
+    key = string_bytes e.0
+
+    go : (b : Bool) → bytes_eq name key ≡ b
+        → option_map (stored.game name) (lookup (is_named name) es) ≡ at bytes_eq s.name_of name (stored.games es)
+        → option_map (stored.game name) (cond b (Some e.1) (lookup (is_named name) es)) ≡ cond (bytes_eq key name) (Some (stored.game key e.1)) (at bytes_eq s.name_of name (stored.games es))
+    go true is more = rw (sym (bytes_eq-turned name key) ∙ is) (ap (λ (k : List ℕ). Some (stored.game k e.1)) ((bytes_eq-Decides name key).0 is))
+    go false is more = rw (sym (bytes_eq-turned name key) ∙ is) more
+
+-- where no game is of a name, nothing is found under it
+pub nothing_found : (name : List ℕ) (es : List Entry) → at bytes_eq s.name_of name (stored.games es) ≡ None → is_some (lookup (is_named name) es) ≡ false
+nothing_found name es none = go (lookup (is_named name) es) (game_found name es ∙ none)
+  where
+    go : (r : Option GameRow) → option_map (stored.game name) r ≡ None → is_some r ≡ false
+    go None e = refl
+    go (Some g) e = cc
+
+-- a game under a name that is free stands last
+pub game_added : (key : String Global) (row : GameRow) (game : s.Game) (es : List Entry) → is_some (lookup (is_named (string_bytes key)) es) ≡ false
+    → stored.game (string_bytes key) row ≡ game → stored.games (insert_entry string_eq es key row) ≡ stored.games es ++ game ∷ []
+game_added key row game [] free is = ap (λ (g : s.Game). g ∷ []) is
+game_added key row game (e ∷ es) free is = go (bytes_eq (string_bytes key) (string_bytes e.0)) free (λ rest. game_added key row game es rest is)
+  where
+    go : (b : Bool) → is_some (cond b (Some e.1) (lookup (is_named (string_bytes key)) es)) ≡ false
+        → (is_some (lookup (is_named (string_bytes key)) es) ≡ false → stored.games (insert_entry string_eq es key row) ≡ stored.games es ++ game ∷ [])
+        → stored.games (cond b ((e.0, row) ∷ es) (e ∷ insert_entry string_eq es key row)) ≡ stored.games (e ∷ es) ++ game ∷ []
+    go true h more = cc
+    go false h more = ap (λ (gs : List s.Game). stored.game (string_bytes e.0) e.1 ∷ gs) (more h)
+
+-- a game that is changed in its place
+pub game_set : (name : List ℕ) (f : s.Game → s.Game) (es : List Entry) (i : ℕ) (old new : GameRow) → position (is_named name) (keys_of es) ≡ Some i
+    → slice_get (values_of es) i ≡ Some old → ((key : List ℕ) → stored.game key new ≡ f (stored.game key old))
+    → stored.games (set_value_at es i new) ≡ change_at bytes_eq s.name_of name f (stored.games es)
+game_set name f es i old new there value made =
+    let found = Found-position (is_named name) es i there in
+    set es i found.or_len found.within value
+  where
+    set : (fs : List Entry) (j : ℕ) → position_or_len (is_named name) (keys_of fs) ≡ j → j < length fs → slice_get (values_of fs) j ≡ Some old
+        → stored.games (set_value_at fs j new) ≡ change_at bytes_eq s.name_of name f (stored.games fs)
+    set [] j here lt value = refl
+    set (e ∷ fs) j here lt value = go (bytes_eq name (string_bytes e.0)) refl j here lt value (set fs)
+      where
+        go : (b : Bool) → bytes_eq name (string_bytes e.0) ≡ b → (k : ℕ) → position_or_len (is_named name) (keys_of (e ∷ fs)) ≡ k → k < length (e ∷ fs)
+            → slice_get (values_of (e ∷ fs)) k ≡ Some old
+            → ((j : ℕ) → position_or_len (is_named name) (keys_of fs) ≡ j → j < length fs → slice_get (values_of fs) j ≡ Some old
+            → stored.games (set_value_at fs j new) ≡ change_at bytes_eq s.name_of name f (stored.games fs))
+            → stored.games (set_value_at (e ∷ fs) k new)
+            ≡ (if bytes_eq (string_bytes e.0) name then f (stored.game (string_bytes e.0) e.1) ∷ stored.games fs
+            else stored.game (string_bytes e.0) e.1 ∷ change_at bytes_eq s.name_of name f (stored.games fs))
+        go true is zero here lt value more =
+            let same : e.1 ≡ old = cc in
+            rw (sym (bytes_eq-turned name (string_bytes e.0)) ∙ is)
+            (ap (λ (g : s.Game). g ∷ stored.games fs) (made (string_bytes e.0) ∙ ap (λ (g : GameRow). f (stored.game (string_bytes e.0) g)) (sym same)))
+        go true is (suc k) here lt value more = let zero_first : 0 ≡ suc k = rw is at here in absurd (cc)
+        go false is zero here lt value more = let behind : 1 + position_or_len (is_named name) (keys_of fs) ≡ 0 = rw is at here in absurd (omega (arith, behind))
+        go false is (suc k) here lt value more =
+            let behind : 1 + position_or_len (is_named name) (keys_of fs) ≡ suc k = rw is at here in
+            rw (sym (bytes_eq-turned name (string_bytes e.0)) ∙ is)
+            (ap (λ (gs : List s.Game). stored.game (string_bytes e.0) e.1 ∷ gs) (more k (omega (arith, behind)) (omega (arith, lt)) value))
+
+-- where no key is the name, nothing changes
+pub game_kept : (name : List ℕ) (f : s.Game → s.Game) (es : List Entry) → is_some (lookup (is_named name) es) ≡ false
+    → stored.games es ≡ change_at bytes_eq s.name_of name f (stored.games es)
+game_kept name f [] none = refl
+game_kept name f (e ∷ es) none = go (bytes_eq name (string_bytes e.0)) refl none (game_kept name f es)
+  where
+    go : (b : Bool) → bytes_eq name (string_bytes e.0) ≡ b → is_some (cond b (Some e.1) (lookup (is_named name) es)) ≡ false
+        → (is_some (lookup (is_named name) es) ≡ false → stored.games es ≡ change_at bytes_eq s.name_of name f (stored.games es))
+        → stored.games (e ∷ es) ≡ (if bytes_eq (string_bytes e.0) name then f (stored.game (string_bytes e.0) e.1) ∷ stored.games es
+        else stored.game (string_bytes e.0) e.1 ∷ change_at bytes_eq s.name_of name f (stored.games es))
+    go true is h more = cc
+    go false is h more = rw (sym (bytes_eq-turned name (string_bytes e.0)) ∙ is) (ap (λ (gs : List s.Game). stored.game (string_bytes e.0) e.1 ∷ gs) (more h))
+
+-- what is lent is what is found
+pub game_shown : (name : List ℕ) (r : Option (Bor GameRow)) → option_map (λ g. stored.game name g.now) r ≡ option_map (stored.game name) (option_copied r)
+game_shown name None = refl
+game_shown name (Some g) = refl

@@ -1,6 +1,7 @@
 pub mod GamesLemmas
 pub mod KeyedLemmas
 pub mod NumberLemmas
+pub mod Counting
 pub mod SeatLemmas
 pub mod OrderingLemmas
 pub mod Suiting
@@ -15,3 +16,4 @@ pub mod Repeating
 pub mod RepeatingLater
 pub mod Sighting
 pub mod Keepings
+pub mod GameLemmas

@@ -5,17 +5,16 @@ use Rattle.std.proofs.lemmas.Bool.{eq-eqb, ltb-true}
 use Rattle.dip_letters.specs.Notes.{Request}
 use Rattle.dip_letters.specs.Notes.Request.{Create, Orders, Show}
 use Rattle.dip_chart.specs.Charts.{Chart, power_of}
-use Rattle.dip_records.specs.Records.{Own, Kept, Reply, Standing}
-use Rattle.dip_reports.specs.Texts.{refusal_line}
+use Rattle.dip_records.specs.Records.{Own, Kept, Reply}
 use Rattle.dip_reports.specs.declared.refusals.Refusal.TheVariants.{NumberUsed, Stale, WrongSender}
-use Rattle.dip_desk.specs.Keyed.{at, change_at}
-use Rattle.dip_desk.specs.Machine.{Decides, MasterDecides, NumberedBy, Step, Verdict, NotKnown, Again, OutOfTurn, Taken, after, author, created, digest, kept_of, master_author, new_seats, old_number, opening_public, power_author, refused, repeated, reply_of, seat_author, seat_command, seen_in, verdict_by, verdict_on}
+use Rattle.dip_desk.specs.Machine.{Decides, MasterDecides, change_of, NumberedBy, Step, Verdict, NotKnown, Again, OutOfTurn, Taken, after, author, created, digest, kept_of, master_author, new_seats, old_number, opening_public, power_author, refused, repeated, reply_of, seat_author, seat_command, seen_in, verdict_by, verdict_on}
+use Rattle.dip_reports.specs.Texts.{refusal_line}
 use Rattle.dip_desk.specs.Mail.{Mail}
 use Rattle.dip_desk.specs.Repeats.{ActsOnce}
-use Rattle.dip_desk.specs.State.{State, Game, Author, Nobody, TheMaster, Seat, Effect, Nothing, Pending, Opens, game_at, name_of, own_after, own_at, pending_in, seat_at, with_seat}
-use Rattle.dip_desk.proofs.KeyedLemmas.{at-change_at_same, names_tell}
-use Rattle.dip_desk.proofs.Seeing.{own_power}
-use Rattle.dip_desk.proofs.Suiting.{Suits, decides_suits, opens_where, seat_where}
+use Rattle.dip_desk.specs.State.{State, Game, Part, Author, Nobody, TheMaster, Seat, Effect, Nothing, Pending, Votes, Delivers, Opens, Publishes, Seats, game_after, game_at, own_at, own_of, public_after, seat_at, with_effect, with_letter}
+use Rattle.dip_desk.proofs.KeyedLemmas.{names_tell}
+use Rattle.dip_desk.proofs.Seeing.{author_part, game_behind, seat_behind}
+use Rattle.dip_desk.proofs.Suiting.{Comes, decides_suits, seat_where}
 
 numbered_one : (o : Option Verdict) (w a b : Verdict) → NumberedBy o (λ v. v ≡ w) a → NumberedBy o (λ v. v ≡ w) b → a ≡ b
 numbered_one None w a b x y = x ∙ sym y
@@ -98,132 +97,127 @@ seat_stays m n p s t same is = go (bytes_eq n.note.sender (codes "master")) is
     go true e = absurd (no_seat (bytes_eq (digest (codes "desk") (codes "master") n.note.secret) s.desk.digest) p e)
     go false e = power (power_of m n.note.sender) e
 
-own_digest : (k : Kept) (lines : Option (List Standing)) (o : Own) → (own_after k lines o).digest ≡ o.digest
-own_digest k None o = refl
-own_digest k (Some orders) o = refl
+-- a seat behind a letter that gives no seat away has its digest
+letter_digest : (k : Kept) (e : Effect) (s : Part) → (with_letter k e s).own.digest ≡ s.own.digest
+letter_digest k Nothing s = refl
+letter_digest k (Pending orders) s = refl
+letter_digest k (Votes draw) s = refl
+letter_digest k (Delivers readers item) s = refl
+letter_digest k (Opens public paper seats) s = refl
+letter_digest k (Publishes public paper played) s = refl
+letter_digest k (Seats seat) s = refl
+
+seat_digest : (p : ℕ) (game : Option Game) (e : Effect) (s : Part) → Comes (Seat p) game e → (with_effect e s).own.digest ≡ s.own.digest
+seat_digest p None e s h = absurd h
+seat_digest p (Some g) Nothing s h = refl
+seat_digest p (Some g) (Pending orders) s h = refl
+seat_digest p (Some g) (Votes draw) s h = absurd h
+seat_digest p (Some g) (Delivers readers item) s h = absurd h
+seat_digest p (Some g) (Opens public paper seats) s h = absurd h
+seat_digest p (Some g) (Publishes public paper played) s h = absurd h
+seat_digest p (Some g) (Seats seat) s h = absurd h
+
+-- what is kept of a seat's letter
+letter_kept : (k : Kept) (e : Effect) (s : Part) → (with_letter k e s).own.kept ≡ Some k
+letter_kept k Nothing s = refl
+letter_kept k (Pending orders) s = refl
+letter_kept k (Votes draw) s = refl
+letter_kept k (Delivers readers item) s = refl
+letter_kept k (Opens public paper seats) s = refl
+letter_kept k (Publishes public paper played) s = refl
+letter_kept k (Seats seat) s = refl
+
+seat_kept : (p : ℕ) (game : Option Game) (e : Effect) (s : Part) → Comes (Seat p) game e → (with_effect e s).own.kept ≡ s.own.kept
+seat_kept p None e s h = absurd h
+seat_kept p (Some g) Nothing s h = refl
+seat_kept p (Some g) (Pending orders) s h = refl
+seat_kept p (Some g) (Votes draw) s h = absurd h
+seat_kept p (Some g) (Delivers readers item) s h = absurd h
+seat_kept p (Some g) (Opens public paper seats) s h = absurd h
+seat_kept p (Some g) (Publishes public paper played) s h = absurd h
+seat_kept p (Some g) (Seats seat) s h = absurd h
 
 -- a letter that a seat has sent leaves each seat its digest
-digests_stay : (k : Kept) (lines : Option (List Standing)) (p q : ℕ) (os : List Own)
-    → digest_of (seat_at q (change_at (λ a b. a == b) (λ (o : Own). o.power) p (own_after k lines) os)) ≡ digest_of (seat_at q os)
-digests_stay k lines p q [] = refl
-digests_stay k lines p q (o ∷ os) =
-    let here : digest_of (cond ((own_after k lines o).power == q) (Some (own_after k lines o)) (seat_at q os)) ≡ digest_of (cond (o.power == q) (Some o) (seat_at q os)) =
-    ap (λ (j : ℕ). digest_of (cond (j == q) (Some (own_after k lines o)) (seat_at q os))) (own_power k lines o) ∙ found (o.power == q) o os in
-    let go : (b : Bool) → digest_of (seat_at q (cond b (own_after k lines o ∷ os) (o ∷ change_at (λ a b. a == b) (λ (o : Own). o.power) p (own_after k lines) os))) ≡ digest_of (seat_at q (o ∷ os)) =
-    elim [
-      | true ↦ here
-      | false ↦ skipped (o.power == q) o os (digests_stay k lines p q os)
-    ]
-    in go (o.power == p)
+digests_stay : (s : State) (n : Mail) (p : ℕ) (text : List ℕ) (e : Effect) (g : Game) → Comes (Seat p) (game_at n.note.game s) e → game_at n.note.game s ≡ Some g → (q : ℕ)
+    → digest_of (own_at n.note.game q (after n (Seat p) (Taken text e) s)) ≡ digest_of (own_at n.note.game q s)
+digests_stay s n p text e g comes found q =
+    ap (λ (x : Option Game). digest_of (option_and_then (λ (y : Game). own_of (seat_at q y.seats)) x)) (game_behind (change_of n (Seat p) text e) s g found)
+    ∙ ap (λ (x : Option Part). digest_of (own_of x)) (seat_behind (change_of n (Seat p) text e) g q)
+    ∙ stay (seat_at q g.seats)
+    ∙ sym (ap (λ (x : Option Game). digest_of (option_and_then (λ (y : Game). own_of (seat_at q y.seats)) x)) found)
   where
-    found : (b : Bool) (o : Own) (os : List Own) → digest_of (cond b (Some (own_after k lines o)) (seat_at q os)) ≡ digest_of (cond b (Some o) (seat_at q os))
-    found true o os = ap (λ (d : List ℕ). Some d) (own_digest k lines o)
-    found false o os = refl
+    one : (b : Bool) (x : Part) → (cond b (with_letter (kept_of n text) e x) x).own.digest ≡ x.own.digest
+    one true x = letter_digest (kept_of n text) e x
+    one false x = refl
 
-    skipped : (b : Bool) (o : Own) (os : List Own)
-        → digest_of (seat_at q (change_at (λ a b. a == b) (λ (o : Own). o.power) p (own_after k lines) os)) ≡ digest_of (seat_at q os)
-        → digest_of (cond b (Some o) (seat_at q (change_at (λ a b. a == b) (λ (o : Own). o.power) p (own_after k lines) os))) ≡ digest_of (cond b (Some o) (seat_at q os))
-    skipped true o os rest = refl
-    skipped false o os rest = rest
-
--- the game of a seat's letter, behind it
-game_behind : (s : State) (n : Mail) (p : ℕ) (f : Own → Own) (g : Game) → game_at n.note.game s ≡ Some g
-    → at bytes_eq name_of n.note.game (change_at bytes_eq name_of n.note.game (with_seat p f) s.games) ≡ Some (with_seat p f g)
-game_behind s n p f g found = at-change_at_same bytes_eq name_of n.note.game (with_seat p f) s.games (λ x. refl) ∙ ap (option_map (with_seat p f)) found
-
-owns_stay : (s : State) (n : Mail) (p : ℕ) (k : Kept) (lines : Option (List Standing)) (g : Game) → game_at n.note.game s ≡ Some g → (q : ℕ)
-    → digest_of (option_and_then (λ x. seat_at q x.seats) (at bytes_eq name_of n.note.game (change_at bytes_eq name_of n.note.game (with_seat p (own_after k lines)) s.games)))
-    ≡ digest_of (own_at n.note.game q s)
-owns_stay s n p k lines g found q =
-    ap (λ (x : Option Game). digest_of (option_and_then (λ (y : Game). seat_at q y.seats) x)) (game_behind s n p (own_after k lines) g found)
-    ∙ digests_stay k lines p q g.seats
-    ∙ sym (ap (λ (x : Option Game). digest_of (option_and_then (λ (y : Game). seat_at q y.seats) x)) found)
-
-own_kept : (k : Kept) (lines : Option (List Standing)) (o : Own) → (own_after k lines o).kept ≡ Some k
-own_kept k None o = refl
-own_kept k (Some orders) o = refl
+    stay : (o : Option Part) → digest_of (own_of (option_map (with_effect e) (option_map (author_part (Seat p) (kept_of n text) e q) o))) ≡ digest_of (own_of o)
+    stay None = refl
+    stay (Some x) = ap (λ (d : List ℕ). Some d) (seat_digest p (game_at n.note.game s) e (author_part (Seat p) (kept_of n text) e q x) comes ∙ one (p == q) x)
 
 -- a seat's letter that was taken, decided again
-seat_again : (m : Chart) (s : State) (n : Mail) (p : ℕ) (text : List ℕ) (e : Effect) (g : Game) → game_at n.note.game s ≡ Some g → Taken text e ≡ verdict_on m n (seen_in p (Some g))
-    → verdict_on m n (seen_in p (at bytes_eq name_of n.note.game (change_at bytes_eq name_of n.note.game (with_seat p (own_after (kept_of n text) (pending_in e))) s.games))) ≡ Again text
-seat_again m s n p text e g found d =
-    let f : Own → Own = own_after (kept_of n text) (pending_in e) in
-    ap (λ (x : Option Game). verdict_on m n (seen_in p x)) (game_behind s n p f g found)
-    ∙ ap (λ (o : Option Own). verdict_by m n (Some g.public) o) (at-change_at_same (λ a b. a == b) (λ (o : Own). o.power) p f g.seats (own_power (kept_of n text) (pending_in e)))
+seat_again : (m : Chart) (s : State) (n : Mail) (p : ℕ) (text : List ℕ) (e : Effect) (g : Game) → Comes (Seat p) (game_at n.note.game s) e → game_at n.note.game s ≡ Some g
+    → Taken text e ≡ verdict_on m n (seen_in p (Some g)) → verdict_on m n (seen_in p (game_at n.note.game (after n (Seat p) (Taken text e) s))) ≡ Again text
+seat_again m s n p text e g comes found d =
+    ap (λ (x : Option Game). verdict_on m n (seen_in p x)) (game_behind (change_of n (Seat p) text e) s g found)
+    ∙ ap (λ (x : Option Part). verdict_by m n (Some (public_after e g.public)) (own_of x)) (seat_behind (change_of n (Seat p) text e) g p)
     ∙ known (seat_at p g.seats) d
   where
-    known : (o : Option Own) → Taken text e ≡ verdict_by m n (Some g.public) o → verdict_by m n (Some g.public) (option_map (own_after (kept_of n text) (pending_in e)) o) ≡ Again text
+    mine : (x : Part) → (with_effect e (author_part (Seat p) (kept_of n text) e p x)).own.kept ≡ Some (kept_of n text)
+    mine x =
+        seat_kept p (game_at n.note.game s) e (author_part (Seat p) (kept_of n text) e p x) comes
+        ∙ ap (λ (b : Bool). (cond b (with_letter (kept_of n text) e x) x).own.kept) (eq-eqb p p refl) ∙ letter_kept (kept_of n text) e x
+
+    known : (o : Option Part) → Taken text e ≡ verdict_by m n (Some g.public) (own_of o)
+        → verdict_by m n (Some (public_after e g.public)) (own_of (option_map (with_effect e) (option_map (author_part (Seat p) (kept_of n text) e p) o))) ≡ Again text
     known None d = let bad : ◌≡◌ {A = Verdict} (Taken text e) NotKnown = d in absurd (cc)
-    known (Some o) d =
-        ap (λ (k : Option Kept). unwrap_or (old_number n k) (seat_command m n.note.command g.public (own_after (kept_of n text) (pending_in e) o))) (own_kept (kept_of n text) (pending_in e) o)
-        ∙ ap (λ (old : Option Verdict). unwrap_or old (seat_command m n.note.command g.public (own_after (kept_of n text) (pending_in e) o))) (number_again n text)
+    known (Some x) d =
+        let o : Own = (with_effect e (author_part (Seat p) (kept_of n text) e p x)).own in
+        ap (λ (k : Option Kept). unwrap_or (old_number n k) (seat_command m n.note.command (public_after e g.public) o)) (mine x)
+        ∙ ap (λ (old : Option Verdict). unwrap_or old (seat_command m n.note.command (public_after e g.public) o)) (number_again n text)
 
 known_again : (n : Mail) (text : List ℕ) (New : Verdict → Type 0) → NumberedBy (old_number n (Some (kept_of n text))) New (Again text)
 known_again n text New = subst (λ (o : Option Verdict). NumberedBy o New (Again text)) (sym (number_again n text)) refl
 
 -- a letter of the master that was taken, decided again
 master_again : (m : Chart) (n : Mail) (k : Option Kept) (text : List ℕ) (e : Effect) (command : Request) (game after : Option Game)
-    → MasterDecides m n k command game (Taken text e) → ((g : Game) → game ≡ Some g → after ≡ Some g) → MasterDecides m n (Some (kept_of n text)) command after (Again text)
+    → MasterDecides m n k command game (Taken text e) → ((g : Game) → game ≡ Some g → (h : Game) × (after ≡ Some h)) → MasterDecides m n (Some (kept_of n text)) command after (Again text)
 master_again m n k text e (Create due period grey seats) game after d stays =
     known_again n text (λ w. w ≡ created m (opening_public m n.note.game due period grey) (new_seats m n.note.game seats) after)
 master_again m n k text e (Orders lines) None after d stays = let bad : ◌≡◌ {A = Verdict} (Taken text e) NotKnown = d in absurd (cc)
 master_again m n k text e (Orders lines) (Some g) after d stays =
-    subst (λ (x : Option Game). MasterDecides m n (Some (kept_of n text)) (Orders lines) x (Again text)) (sym (stays g refl)) (known_again n text (λ w. w ≡ refused WrongSender))
+    subst (λ (x : Option Game). MasterDecides m n (Some (kept_of n text)) (Orders lines) x (Again text)) (sym (stays g refl).1) (known_again n text (λ w. w ≡ refused WrongSender))
 master_again m n k text e Show None after d stays = let bad : ◌≡◌ {A = Verdict} (Taken text e) NotKnown = d in absurd (cc)
 master_again m n k text e Show (Some g) after d stays =
-    subst (λ (x : Option Game). MasterDecides m n (Some (kept_of n text)) Show x (Again text)) (sym (stays g refl)) (known_again n text (λ w. w ≡ refused WrongSender))
+    subst (λ (x : Option Game). MasterDecides m n (Some (kept_of n text)) Show x (Again text)) (sym (stays g refl).1) (known_again n text (λ w. w ≡ refused WrongSender))
 
 -- who is decided so again
 abbrev pub IsRepeat : Chart → State → Mail → List ℕ → Type 0
 IsRepeat m s n text = (who : Author) × (author m n s ≡ who) × Decides m s n who (Again text)
 
 taken_again : (m : Chart) (s : State) (n : Mail) (who : Author) (text : List ℕ) (e : Effect) → author m n s ≡ who → Decides m s n who (Taken text e)
-    → Suits n.note.game who (game_at n.note.game s) e → IsRepeat m (after n who (Taken text e) s) n text
-taken_again m s n Nobody text e is d suits = absurd suits
-taken_again m s n TheMaster text Nothing is d suits =
-    (TheMaster, master_stays m n s (after n TheMaster (Taken text Nothing) s) refl is, (master_again m n s.desk.kept text Nothing n.note.command (game_at n.note.game s) (game_at n.note.game s) d (λ g e. e)))
-taken_again m s n TheMaster text (Pending orders) is d suits =
-    (TheMaster, master_stays m n s (after n TheMaster (Taken text (Pending orders)) s) refl is, (master_again m n s.desk.kept text (Pending orders) n.note.command (game_at n.note.game s) (game_at n.note.game s) d (λ g e. e)))
-taken_again m s n TheMaster text (Opens public paper seats) is d suits =
-    let t = after n TheMaster (Taken text (Opens public paper seats)) s in
-    let free = (opens_where n.note.game TheMaster (game_at n.note.game s) public paper seats suits).1 in (
-      TheMaster,
-      master_stays m n s t refl is,
-      (master_again m n s.desk.kept text (Opens public paper seats) n.note.command (game_at n.note.game s) (game_at n.note.game t) d
-          (λ g found. let bad : ◌≡◌ {A = Option Game} None (Some g) = sym free ∙ found in absurd (cc))),
-    )
-taken_again m s n (Seat p) text Nothing is d suits =
-    let there = seat_where n.note.game p p (game_at n.note.game s) Nothing suits in (
+    → Comes who (game_at n.note.game s) e → IsRepeat m (after n who (Taken text e) s) n text
+taken_again m s n Nobody text e is d comes = absurd comes
+taken_again m s n TheMaster text e is d comes = (
+  TheMaster,
+  master_stays m n s (after n TheMaster (Taken text e) s) refl is,
+  (master_again m n s.desk.kept text e n.note.command (game_at n.note.game s) (game_at n.note.game (after n TheMaster (Taken text e) s)) d
+      (λ g found. (game_after (change_of n TheMaster text e) g, game_behind (change_of n TheMaster text e) s g found))),
+)
+taken_again m s n (Seat p) text e is d comes =
+    let there = seat_where p p (game_at n.note.game s) e comes in (
       Seat p,
-      seat_stays m n p s (after n (Seat p) (Taken text Nothing) s) (owns_stay s n p (kept_of n text) None there.0 there.1) is,
-      sym (seat_again m s n p text Nothing there.0 there.1 (d ∙ ap (λ (x : Option Game). verdict_on m n (seen_in p x)) there.1)),
+      seat_stays m n p s (after n (Seat p) (Taken text e) s) (digests_stay s n p text e there.0 comes there.1) is,
+      sym (seat_again m s n p text e there.0 comes there.1 (d ∙ ap (λ (x : Option Game). verdict_on m n (seen_in p x)) there.1)),
     )
-taken_again m s n (Seat p) text (Pending orders) is d suits =
-    let there = seat_where n.note.game p p (game_at n.note.game s) (Pending orders) suits in (
-      Seat p,
-      seat_stays m n p s (after n (Seat p) (Taken text (Pending orders)) s) (owns_stay s n p (kept_of n text) (Some orders) there.0 there.1) is,
-      sym (seat_again m s n p text (Pending orders) there.0 there.1 (d ∙ ap (λ (x : Option Game). verdict_on m n (seen_in p x)) there.1)),
-    )
-taken_again m s n (Seat p) text (Opens public paper seats) is d suits =
-    let found = opens_where n.note.game (Seat p) (game_at n.note.game s) public paper seats suits in
-    let bad : ◌≡◌ {A = Author} (Seat p) TheMaster = found.0 in absurd (cc)
 
 -- and its author is the same
-stays_author : (m : Chart) (s : State) (n : Mail) (who : Author) (text : List ℕ) (e : Effect) → author m n s ≡ who → Decides m s n who (Taken text e)
-    → Suits n.note.game who (game_at n.note.game s) e → author m n (after n who (Taken text e) s) ≡ who
-stays_author m s n Nobody text e is d suits = absurd suits
-stays_author m s n TheMaster text Nothing is d suits = master_stays m n s (after n TheMaster (Taken text Nothing) s) refl is
-stays_author m s n TheMaster text (Pending orders) is d suits = master_stays m n s (after n TheMaster (Taken text (Pending orders)) s) refl is
-stays_author m s n TheMaster text (Opens public paper seats) is d suits = master_stays m n s (after n TheMaster (Taken text (Opens public paper seats)) s) refl is
-stays_author m s n (Seat p) text Nothing is d suits =
-    let there = seat_where n.note.game p p (game_at n.note.game s) Nothing suits in
-    seat_stays m n p s (after n (Seat p) (Taken text Nothing) s) (owns_stay s n p (kept_of n text) None there.0 there.1) is
-stays_author m s n (Seat p) text (Pending orders) is d suits =
-    let there = seat_where n.note.game p p (game_at n.note.game s) (Pending orders) suits in
-    seat_stays m n p s (after n (Seat p) (Taken text (Pending orders)) s) (owns_stay s n p (kept_of n text) (Some orders) there.0 there.1) is
-stays_author m s n (Seat p) text (Opens public paper seats) is d suits =
-    let found = opens_where n.note.game (Seat p) (game_at n.note.game s) public paper seats suits in
-    let bad : ◌≡◌ {A = Author} (Seat p) TheMaster = found.0 in absurd (cc)
+stays_author : (m : Chart) (s : State) (n : Mail) (who : Author) (text : List ℕ) (e : Effect) → author m n s ≡ who
+    → Comes who (game_at n.note.game s) e → author m n (after n who (Taken text e) s) ≡ who
+stays_author m s n Nobody text e is comes = absurd comes
+stays_author m s n TheMaster text e is comes = master_stays m n s (after n TheMaster (Taken text e) s) refl is
+stays_author m s n (Seat p) text e is comes =
+    let there = seat_where p p (game_at n.note.game s) e comes in
+    seat_stays m n p s (after n (Seat p) (Taken text e) s) (digests_stay s n p text e there.0 comes there.1) is
 
 -- a verdict that changes nothing
 abbrev pub StaysPut : Verdict → Type 0
@@ -244,8 +238,8 @@ repeats m old mid n first one = go one.0 one.1 one.2 one.3
     go (OutOfTurn text) d told left = (OutOfTurn text, subst (λ (s : State). Decides m s n (author m n s) (OutOfTurn text)) (sym left) d, told, λ n who s. refl, same left)
     go (Taken text e) d told left =
         let next = subst (λ (s : State). IsRepeat m s n text × (author m n s ≡ author m n old)) (sym left) (
-          taken_again m old n (author m n old) text e refl d (decides_suits m old n (author m n old) (Taken text e) d),
-          stays_author m old n (author m n old) text e refl d (decides_suits m old n (author m n old) (Taken text e) d),
+          taken_again m old n (author m n old) text e refl d (decides_suits m old n (author m n old) (Taken text e) d).0,
+          stays_author m old n (author m n old) text e refl (decides_suits m old n (author m n old) (Taken text e) d).0,
         ) in
         (Again text, subst (λ (who : Author). Decides m mid n who (Again text)) (sym next.0.1) next.0.2, told, λ n who s. refl, next.1)
 

@@ -4,18 +4,19 @@ use Rattle.std.specs.Prelude.{option_and_then}
 use Rattle.dip_letters.specs.Notes.{Request}
 use Rattle.dip_letters.specs.Notes.Request.{Create, Orders, Show}
 use Rattle.dip_chart.specs.Charts.{Chart, power_of}
-use Rattle.dip_records.specs.Records.{Kept, Own, Public}
-use Rattle.dip_desk.specs.Keyed.{at, change_at}
-use Rattle.dip_desk.specs.Machine.{Decides, MasterDecides, NumberedBy, SeatName, Seen, Verdict, NotKnown, Again, OutOfTurn, Taken, after, author, created, digest, kept_of, master_author, new_seats, old_number, opening_public, power_author, reply_of, seat_author, seen, seen_in, verdict_on}
+use Rattle.dip_records.specs.Records.{Kept, Own, Public, Reply}
+use Rattle.std.specs.Option.{option_or}
+use Rattle.dip_desk.specs.Keyed.{at}
+use Rattle.dip_desk.specs.Machine.{Decides, MasterDecides, change_of, NumberedBy, SeatName, Seen, Step, Verdict, NotKnown, Again, OutOfTurn, Taken, after, author, created, digest, kept_of, master_author, new_seats, old_number, opening_public, power_author, reply_of, seat_author, seen, seen_in, verdict_on}
 use Rattle.dip_desk.specs.Mail.{Mail}
 use Rattle.dip_desk.specs.Repeats.{ActsOnceLater, AreOthers, has_author}
-use Rattle.dip_desk.specs.State.{State, Game, Author, Nobody, TheMaster, Seat, Effect, Nothing, Pending, Opens, NewSeat, game_at, name_of, own_after, own_at, seat_at, with_seat}
-use Rattle.dip_desk.specs.View.{Event, IsRun, Turn, absorb_all, author_in, effect_events, left_by, verdict_events, writes}
-use Rattle.dip_desk.proofs.KeyedLemmas.{at-change_at_other, at-change_at_same, names_tell}
-use Rattle.dip_desk.proofs.Others.{quiet, shown_of}
+use Rattle.dip_desk.specs.State.{State, Game, Author, Nobody, TheMaster, Seat, Effect, Nothing, Pending, Opens, NewSeat, game_after, game_at, name_of, new_games, own_at, own_of, public_at, seat_at}
+use Rattle.dip_desk.specs.View.{Event, IsRun, Suits, Turn, absorb_all, author_in, effect_events, left_by, own_events, shown, verdict_events, writes}
+use Rattle.dip_desk.proofs.KeyedLemmas.{names_tell}
+use Rattle.dip_desk.proofs.Others.{none_if, quiet, seat_unpublished, shown_of}
 use Rattle.dip_desk.proofs.Repeating.{decides_one, master_stays, repeats}
-use Rattle.dip_desk.proofs.Seeing.{step_seen}
-use Rattle.dip_desk.proofs.Suiting.{Suits, decides_suits, master_where}
+use Rattle.dip_desk.proofs.Seeing.{option_or-none, other_game, same_game, step_seen}
+use Rattle.dip_desk.proofs.Suiting.{decides_suits, master_where}
 
 -- a seat that is there sees nothing of the letters of others
 
@@ -78,7 +79,7 @@ author_there m n s p is = go (bytes_eq n.note.sender (codes "master")) refl is
     same_power q None e = let bad : ◌≡◌ {A = Author} Nobody (Seat p) = e in absurd (cc)
     same_power q (Some o) e = own q (bytes_eq (digest n.note.game n.note.sender n.note.secret) o.digest) e
 
-    no_game : (q : ℕ) (game : Option Game) → seat_author n q (option_and_then (λ g. seat_at q g.seats) game) ≡ Seat p → game ≡ None → ⊥
+    no_game : (q : ℕ) (game : Option Game) → seat_author n q (option_and_then (λ g. own_of (seat_at q g.seats)) game) ≡ Seat p → game ≡ None → ⊥
     no_game q None e none = let bad : ◌≡◌ {A = Author} Nobody (Seat p) = e in absurd (cc)
     no_game q (Some g) e none = absurd (cc)
 
@@ -99,27 +100,34 @@ author_there m n s p is = go (bytes_eq n.note.sender (codes "master")) refl is
     go true is e = absurd (master (bytes_eq (digest (codes "desk") (codes "master") n.note.secret) s.desk.digest) e)
     go false is e = power (power_of m n.note.sender) e
 
-own_seen : (name : List ℕ) (p : ℕ) (s : State) → own_at name p s ≡ (seen (record { game = name; power = p }) s).own
+own_seen : (name : List ℕ) (p : ℕ) (s : State) → own_at name p s ≡ own_of (seen (record { game = name; power = p }) s).seat
 own_seen name p s = go (game_at name s)
   where
-    go : (game : Option Game) → option_and_then (λ g. seat_at p g.seats) game ≡ (seen_in p game).own
+    go : (game : Option Game) → option_and_then (λ g. own_of (seat_at p g.seats)) game ≡ own_of (seen_in p game).seat
     go None = refl
     go (Some g) = refl
 
 -- the master's row, and which games are there, stay behind the letters of others
 
-is_there_changed : (p : ℕ) (f : Own → Own) (game name : List ℕ) (s : State) → is_some (at bytes_eq name_of name (change_at bytes_eq name_of game (with_seat p f) s.games)) ≡ is_some (game_at name s)
-is_there_changed p f game name s = go (bytes_eq game name) refl
+-- a letter that opens nothing leaves the games that are there
+is_there_still : (s : State) (n : Mail) (who : Author) (text : List ℕ) (e : Effect) (name : List ℕ) → Suits n.note.game (game_at n.note.game s) e → new_games e ≡ []
+    → is_some (game_at name (after n who (Taken text e) s)) ≡ is_some (game_at name s)
+is_there_still s n who text e name suits none = go (bytes_eq n.note.game name) refl
   where
-    kept : (o : Option Game) → is_some (option_map (with_seat p f) o) ≡ is_some o
+    kept : (o : Option Game) → is_some (option_map (game_after (change_of n who text e)) o) ≡ is_some o
     kept None = refl
     kept (Some g) = refl
 
-    go : (b : Bool) → bytes_eq game name ≡ b → is_some (at bytes_eq name_of name (change_at bytes_eq name_of game (with_seat p f) s.games)) ≡ is_some (game_at name s)
-    go true same =
-        subst (λ (x : List ℕ). is_some (at bytes_eq name_of x (change_at bytes_eq name_of game (with_seat p f) s.games)) ≡ is_some (game_at x s)) (names_tell.same game name same)
-        (ap is_some (at-change_at_same bytes_eq name_of game (with_seat p f) s.games (λ g. refl)) ∙ kept (game_at game s))
-    go false differ = ap is_some (at-change_at_other bytes_eq name_of game name (with_seat p f) s.games names_tell (λ g. refl) differ)
+    here : is_some (game_at n.note.game (after n who (Taken text e) s)) ≡ is_some (game_at n.note.game s)
+    here =
+        ap is_some (same_game (change_of n who text e) s
+        ∙ ap (λ (gs : List Game). option_or (option_map (game_after (change_of n who text e)) (game_at n.note.game s)) (at bytes_eq name_of n.note.game gs)) none
+        ∙ option_or-none (option_map (game_after (change_of n who text e)) (game_at n.note.game s)))
+        ∙ kept (game_at n.note.game s)
+
+    go : (b : Bool) → bytes_eq n.note.game name ≡ b → is_some (game_at name (after n who (Taken text e) s)) ≡ is_some (game_at name s)
+    go true same = subst (λ (x : List ℕ). is_some (game_at x (after n who (Taken text e) s)) ≡ is_some (game_at x s)) (names_tell.same n.note.game name same) here
+    go false differ = ap is_some (other_game (change_of n who text e) s name suits differ)
 
 abbrev pub IsKeptFor : List ℕ → State → State → Type 0
 IsKeptFor name s t = (t.desk ≡ s.desk) × (is_some (game_at name t) ≡ is_some (game_at name s))
@@ -128,18 +136,11 @@ turn_kept : (m : Chart) (name : List ℕ) (s : State) (n : Mail) (who : Author) 
 turn_kept m name s n who NotKnown d other = (refl, refl)
 turn_kept m name s n who (Again text) d other = (refl, refl)
 turn_kept m name s n who (OutOfTurn text) d other = (refl, refl)
-turn_kept m name s n Nobody (Taken text e) d other = absurd (decides_suits m s n Nobody (Taken text e) d)
+turn_kept m name s n Nobody (Taken text e) d other = absurd (decides_suits m s n Nobody (Taken text e) d).0
 turn_kept m name s n TheMaster (Taken text e) d other = absurd (other refl)
-turn_kept m name s n (Seat p) (Taken text e) d other = go e (decides_suits m s n (Seat p) (Taken text e) d)
-  where
-    bad_open : (public : Public) (paper : List ℕ) (seats : List NewSeat) (game : Option Game) → Suits n.note.game (Seat p) game (Opens public paper seats) → ⊥
-    bad_open public paper seats None h = h
-    bad_open public paper seats (Some g) h = h
-
-    go : (e : Effect) → Suits n.note.game (Seat p) (game_at n.note.game s) e → IsKeptFor name s (after n (Seat p) (Taken text e) s)
-    go Nothing h = (refl, is_there_changed p (own_after (kept_of n text) None) n.note.game name s)
-    go (Pending orders) h = (refl, is_there_changed p (own_after (kept_of n text) (Some orders)) n.note.game name s)
-    go (Opens public paper seats) h = absurd (bad_open public paper seats (game_at n.note.game s) h)
+turn_kept m name s n (Seat p) (Taken text e) d other =
+    let fits = decides_suits m s n (Seat p) (Taken text e) d in
+    (refl, is_there_still s n (Seat p) text e name fits.1 (seat_unpublished p (game_at n.note.game s) e fits.0).0)
 
 run_kept : (m : Chart) (n : Mail) (ts : List Turn) (s t : State) → IsRun m s ts t → AreOthers m n TheMaster ts → IsKeptFor n.note.game s t
 run_kept m n [] s t run others = subst (λ (x : State). IsKeptFor n.note.game s x) (sym run) (refl, refl)
@@ -175,7 +176,7 @@ later m mid late n between v TheMaster somebody is run others d =
 later m mid late n between v (Seat p) somebody is run others d =
     let there = author_there m n mid p is in
     let same = run_unseen m n p between mid late run others there.0 in (
-      there.1 late (own_seen n.note.game p late ∙ ap (λ (x : Seen). x.own) same ∙ sym (own_seen n.note.game p mid)),
+      there.1 late (own_seen n.note.game p late ∙ ap (λ (x : Seen). own_of x.seat) same ∙ sym (own_seen n.note.game p mid)),
       d ∙ ap (verdict_on m n) (sym same),
     )
 

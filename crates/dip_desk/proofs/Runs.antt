@@ -1,8 +1,9 @@
 -- Histories, seen by one seat.
-use Rattle.std.proofs.Common.{◌≡◌, ℕ, arith, ◌<◌, ◌+◌, cond, List, [], ◌∷◌, ◌++◌, map, take, length, get_or, refl, sym, ◌∙◌, ap, subst}
+use Rattle.std.proofs.Common.{◌≡◌, ℕ, arith, zero, suc, ◌<◌, ◌+◌, cond, List, [], ◌∷◌, ◌++◌, map, take, length, get_or, refl, sym, ◌∙◌, ap, subst}
 use Rattle.std.proofs.lemmas.List.{take_more, get_or-map, length-map}
 use Rattle.std.proofs.lemmas.List.Elements.{Contains-get_or}
 use Rattle.std.specs.Prelude.{Contains}
+use Rattle.std.specs.List.{AllByRecursion}
 use Rattle.dip_desk.specs.Mail.{Mail}
 use Rattle.dip_chart.specs.Charts.{Chart}
 use Rattle.dip_desk.specs.State.{State, Seat}
@@ -90,3 +91,9 @@ pub contains_said : {A B : Type 0} (f : A → B) (xs : List A) (i : ℕ) (d : A)
 contains_said f xs i d lt =
     let size : length (map f xs) ≡ length xs = length-map xs f in
     subst (Contains (map f xs)) (get_or-map f xs i d (f d) lt) (Contains-get_or (map f xs) i (f d) (omega (arith, size, lt)))
+
+-- what holds of all that is said holds of what an element says
+pub said_each : {A B : Type 0} (P : B → Type 0) (f : A → B) (xs : List A) (i : ℕ) (d : A) → i < length xs → AllByRecursion P (map f xs) → P (f (get_or xs i d))
+said_each P f [] i d lt all = absurd (omega arith)
+said_each P f (x ∷ xs) zero d lt all = all.0
+said_each P f (x ∷ xs) (suc i) d lt all = said_each P f xs i d (omega arith) all.1

@@ -3,11 +3,11 @@ use Rattle.std.proofs.Common.{◌≡◌, ℕ, Bool, true, false, cond, List, Opt
 use Rattle.std.specs.Prelude.{option_and_then}
 use Rattle.dip_chart.specs.Charts.{Chart, power_of}
 use Rattle.dip_records.specs.Records.{Own, Reply}
-use Rattle.dip_desk.specs.Machine.{DecidedBy, Decides, IsDamagedBy, IsForeign, IsForeignSight, MayBeDamaged, Settles, Step, after, OfMaster, OfNobody, OfSeat, Sight, Verdict, NotKnown, Again, OutOfTurn, Taken, author, author_of, digest, master_author, master_sight, power_author, power_sight, seat_author, seat_sight, seen_in, sight_of, verdict_on}
+use Rattle.dip_desk.specs.Machine.{DecidedBy, Decides, IsDamagedBy, IsForeign, IsForeignSight, IsForeignTo, MayBeDamaged, Settles, Step, after, OfMaster, OfNobody, OfSeat, Sight, Verdict, NotKnown, Again, OutOfTurn, Taken, author, author_of, digest, master_author, master_sight, power_author, power_sight, seat_author, seat_sight, seen_in, sight_of, verdict_by, verdict_on}
 use Rattle.dip_desk.specs.Mail.{Mail}
-use Rattle.dip_desk.specs.State.{Author, Effect, Game, Nobody, Nothing, Opens, Pending, Seat, State, TheMaster, game_at, seat_at}
+use Rattle.dip_desk.specs.State.{Author, Effect, Game, Nobody, Nothing, Pending, Votes, Delivers, Opens, Publishes, Seats, Seat, State, TheMaster, game_at, own_of, seat_at}
 use Rattle.dip_desk.specs.Fitting.{FitsGame, VerdictFits}
-use Rattle.dip_desk.proofs.Suiting.{Suits, VerdictSuits, decides_suits, opens_where}
+use Rattle.dip_desk.proofs.Suiting.{IsFitting, VerdictSuits, decides_suits, opens_where}
 
 -- a sight is the author's, and what is decided by it is what may be decided
 abbrev pub IsRight : Chart → Mail → State → Author → Sight → Type 0
@@ -15,19 +15,22 @@ IsRight m n s who sight =
     (author_of sight ≡ who) × ((v : Verdict) → DecidedBy m n sight v → Decides m s n who v) × (IsForeignSight m sight → MayBeDamaged m s n who)
 
 seat_right : (m : Chart) (n : Mail) (s : State) (p : ℕ) (game : Option Game) → game_at n.note.game s ≡ game
-    → IsRight m n s (seat_author n p (option_and_then (λ g. seat_at p g.seats) game)) (seat_sight n p (option_map (λ g. g.public) game) (option_and_then (λ g. seat_at p g.seats) game))
+    → IsRight m n s (seat_author n p (option_and_then (λ g. own_of (seat_at p g.seats)) game)) (seat_sight n p (option_map (λ g. g.public) game) (option_and_then (λ g. own_of (seat_at p g.seats)) game))
 seat_right m n s p None is = (refl, λ v d. d, λ bad. bad)
-seat_right m n s p (Some g) is = own (seat_at p g.seats) refl
+seat_right m n s p (Some g) is = own (own_of (seat_at p g.seats)) refl
   where
-    own : (o : Option Own) → seat_at p g.seats ≡ o → IsRight m n s (seat_author n p o) (seat_sight n p (Some g.public) o)
+    own : (o : Option Own) → own_of (seat_at p g.seats) ≡ o → IsRight m n s (seat_author n p o) (seat_sight n p (Some g.public) o)
     own None e = (refl, λ v d. d, λ bad. bad)
     own (Some o) e = told (bytes_eq (digest n.note.game n.note.sender n.note.secret) o.digest)
       where
-        seen_is : seen_in p (game_at n.note.game s) ≡ record { public = Some g.public; own = Some o }
-        seen_is = ap (seen_in p) is ∙ ap (λ (x : Option Own). record { public = Some g.public; own = x }) e
+        decided : verdict_on m n (seen_in p (game_at n.note.game s)) ≡ verdict_by m n (Some g.public) (Some o)
+        decided = ap (λ (x : Option Game). verdict_on m n (seen_in p x)) is ∙ ap (λ (x : Option Own). verdict_by m n (Some g.public) x) e
+
+        foreign : IsForeignTo m (Some g.public) (Some o) → IsForeign m (seen_in p (game_at n.note.game s))
+        foreign f = subst (λ (x : Option Game). IsForeign m (seen_in p x)) (sym is) (subst (λ (x : Option Own). IsForeignTo m (Some g.public) x) (sym e) f)
 
         told : (b : Bool) → IsRight m n s (cond b (Seat p) Nobody) (cond b (OfSeat p g.public o) OfNobody)
-        told true = (refl, λ v d. d ∙ sym (ap (verdict_on m n) seen_is), λ f. subst (IsForeign m) (sym seen_is) f)
+        told true = (refl, λ v d. d ∙ sym decided, foreign)
         told false = (refl, λ v d. d, λ bad. bad)
 
 pub is_right : (m : Chart) (n : Mail) (s : State) → IsRight m n s (author m n s) (sight_of m n s)
@@ -58,9 +61,13 @@ fits_by_sight m n s sight v is decided =
     let right : IsRight m n s (author m n s) sight = subst (IsRight m n s (author m n s)) (sym is) (is_right m n s) in
     fits_suited n s (author m n s) v (decides_suits m s n (author m n s) v (right.1 v decided))
   where
-    fits_effect : (name : List ℕ) (who : Author) (game : Option Game) (e : Effect) → Suits name who game e → FitsGame name e game
+    fits_effect : (name : List ℕ) (who : Author) (game : Option Game) (e : Effect) → IsFitting name who game e → FitsGame name e game
     fits_effect name who game Nothing h = tt
     fits_effect name who game (Pending orders) h = tt
+    fits_effect name who game (Votes draw) h = tt
+    fits_effect name who game (Delivers readers item) h = tt
+    fits_effect name who game (Publishes public paper played) h = tt
+    fits_effect name who game (Seats seat) h = tt
     fits_effect name who game (Opens public paper seats) h = let all = opens_where name who game public paper seats h in (all.2, all.1)
 
     fits_suited : (n : Mail) (s : State) (who : Author) (v : Verdict) → VerdictSuits n.note.game who (game_at n.note.game s) v → VerdictFits n v s

@@ -8,7 +8,7 @@ use Rattle.dip_records.specs.Records.{Head, Kept, Own, Public, Reply}
 use Rattle.dip_reports.specs.declared.refusals.Refusal.TheVariants.{Malformed, WrongSender}
 use Rattle.dip_desk.specs.Machine.{Decides, MasterDecides, NotKnown, Again, OutOfTurn, Taken, Verdict, are_complete, author, created, digest, head_of, master_author, new_seats, open_game, opening_public, power_author, refused, reply_of, seat_author, seat_command, seen_in, verdict_by, verdict_on}
 use Rattle.dip_desk.specs.Mail.{Mail}
-use Rattle.dip_desk.specs.State.{Author, Game, NewSeat, Nobody, Seat, State, TheMaster, game_at, seat_at}
+use Rattle.dip_desk.specs.State.{Author, Game, NewSeat, Nobody, Seat, State, TheMaster, game_at, own_at, own_of, seat_at}
 use Rattle.dip_desk.specs.Strangers.{IsNobodys, IsToNobodyExactly, is_create}
 use Rattle.dip_desk.proofs.Suiting.{numbered_holds, seat_holds}
 
@@ -57,18 +57,18 @@ seat_there m n s p is v d = go (bytes_eq n.note.sender (codes "master")) is
     decided : (g : Game) (o : Own) → IsKnown (verdict_by m n (Some g.public) (Some o))
     decided g o = seat_holds IsKnown (λ t. tt) (λ t. tt) n o.kept (seat_command m n.note.command g.public o) (command_known m n.note.command g.public o)
 
-    own : (q : ℕ) (game : Option Game) → seat_author n q (option_and_then (λ g. seat_at q g.seats) game) ≡ Seat p → v ≡ verdict_on m n (seen_in p game) → IsKnown v
+    own : (q : ℕ) (game : Option Game) → seat_author n q (option_and_then (λ g. own_of (seat_at q g.seats)) game) ≡ Seat p → v ≡ verdict_on m n (seen_in p game) → IsKnown v
     own q None e is = let bad : ◌≡◌ {A = Author} Nobody (Seat p) = e in absurd (cc)
-    own q (Some g) e is = found (seat_at q g.seats) refl e
+    own q (Some g) e is = found (own_of (seat_at q g.seats)) refl e
       where
-        found : (o : Option Own) → seat_at q g.seats ≡ o → seat_author n q o ≡ Seat p → IsKnown v
+        found : (o : Option Own) → own_of (seat_at q g.seats) ≡ o → seat_author n q o ≡ Seat p → IsKnown v
         found None at e = let bad : ◌≡◌ {A = Author} Nobody (Seat p) = e in absurd (cc)
         found (Some o) at e = told (bytes_eq (digest n.note.game n.note.sender n.note.secret) o.digest) e
           where
             told : (b : Bool) → cond b (Seat q) Nobody ≡ Seat p → IsKnown v
             told true e =
                 let same : q ≡ p = cc in
-                let there : seat_at p g.seats ≡ Some o = subst (λ (x : ℕ). seat_at x g.seats ≡ Some o) same at in
+                let there : own_of (seat_at p g.seats) ≡ Some o = subst (λ (x : ℕ). own_of (seat_at x g.seats) ≡ Some o) same at in
                 subst IsKnown (sym (is ∙ ap (λ (x : Option Own). verdict_by m n (Some g.public) x) there)) (decided g o)
             told false e = let bad : ◌≡◌ {A = Author} Nobody (Seat p) = e in absurd (cc)
 

@@ -2,13 +2,17 @@
 use Rattle.std.specs.Prelude.{◌≡◌, List, ℕ, Option, None}
 use Rattle.dip_desk.specs.Machine.{Verdict, NotKnown, Again, OutOfTurn, Taken}
 use Rattle.dip_desk.specs.Mail.{Mail}
-use Rattle.dip_desk.specs.State.{Change, Effect, Game, Nothing, Opens, Pending, State, game_at}
+use Rattle.dip_desk.specs.State.{Change, Effect, Game, Nothing, Pending, Votes, Delivers, Opens, Publishes, Seats, State, game_at}
 
 -- an effect that fits what a state has of the game that it names: a new game has that name, and there is none of it yet
 abbrev pub FitsGame : List ℕ → Effect → Option Game → Type 0
 FitsGame name Nothing game = Unit {0}
 FitsGame name (Pending orders) game = Unit {0}
+FitsGame name (Votes draw) game = Unit {0}
+FitsGame name (Delivers readers item) game = Unit {0}
 FitsGame name (Opens public paper seats) game = (public.game ≡ name) × (game ≡ None)
+FitsGame name (Publishes public paper played) game = Unit {0}
+FitsGame name (Seats seat) game = Unit {0}
 
 -- a change that a keeper has no reason to refuse
 abbrev pub Fits : Change → State → Type 0

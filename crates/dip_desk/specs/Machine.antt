@@ -11,7 +11,7 @@ use Rattle.dip_chart.specs.Charts.{Chart, power_of}
 use Rattle.dip_board.specs.Boards.{opening}
 use Rattle.dip_desk.specs.Mail.{Mail}
 use Rattle.dip_desk.specs.Ordering.{Ordered, has_foreign, kept_orders, ordered}
-use Rattle.dip_desk.specs.State.{State, Game, Author, Nobody, TheMaster, Seat, Effect, Nothing, Pending, Opens, NewSeat, changed, game_at, own_at, public_at, seat_at}
+use Rattle.dip_desk.specs.State.{State, Game, Author, Nobody, TheMaster, Seat, Change, Effect, Nothing, Pending, Opens, NewSeat, Part, game_at, own_at, own_of, public_at, seat_at, state_after}
 use Rattle.dip_reports.specs.Texts.{numbers, opening_paper, paper_line, refusal_line, show_text}
 use Rattle.dip_records.specs.Records.{Public, Own, Kept, Head, Reply, Running}
 use Rattle.dip_records.specs.declared.records.Outcome.TheVariants.{Unknown as NoneKnown, OutOfTurn as Refused, Done}
@@ -73,14 +73,14 @@ pub record SeatName : Type 0 where
   pub game : List ℕ
   pub power : ℕ
 
--- what a seat sees: the public part of its game and its own part
+-- what a seat sees: the public part of its game, and its own part with its inbox
 pub record Seen : Type 0 where
   pub public : Option Public
-  pub own : Option Own
+  pub seat : Option Part
 
 abbrev pub seen_in : ℕ → Option Game → Seen
-seen_in power None = record { public = None; own = None }
-seen_in power (Some g) = record { public = Some g.public; own = seat_at power g.seats }
+seen_in power None = record { public = None; seat = None }
+seen_in power (Some g) = record { public = Some g.public; seat = seat_at power g.seats }
 
 abbrev pub seen : SeatName → State → Seen
 seen seat s = seen_in seat.power (game_at seat.game s)
@@ -107,7 +107,7 @@ verdict_by m n (Some p) (Some o) = seat_verdict m n p o
 
 -- what a seat's letter comes to, by what the seat sees alone
 abbrev pub verdict_on : Chart → Mail → Seen → Verdict
-verdict_on m n s = verdict_by m n s.public s.own
+verdict_on m n s = verdict_by m n s.public (own_of s.seat)
 
 -- the seat has a standing line that is no order on the board
 abbrev pub IsForeignTo : Chart → Option Public → Option Own → Type 0
@@ -116,7 +116,7 @@ IsForeignTo m (Some p) None = ⊥
 IsForeignTo m None o = ⊥
 
 abbrev pub IsForeign : Chart → Seen → Type 0
-IsForeign m s = IsForeignTo m s.public s.own
+IsForeign m s = IsForeignTo m s.public (own_of s.seat)
 
 -- what the record of a letter's author may be Damaged by: a seat's by its own standing lines alone, the master's and nobody's by
 -- nothing
@@ -231,12 +231,16 @@ IsForeignSight m (OfSeat power public own) = IsForeignTo m (Some public) (Some o
 abbrev pub kept_of : Mail → List ℕ → Kept
 kept_of n text = record { number = n.note.number; sum = n.sum; reply = text }
 
+-- what a letter that is taken changes
+abbrev pub change_of : Mail → Author → List ℕ → Effect → Change
+change_of n who text effect = record { game = n.note.game; author = who; kept = kept_of n text; effect = effect }
+
 -- the state after a letter
 abbrev pub after : Mail → Author → Verdict → State → State
 after n who NotKnown s = s
 after n who (Again text) s = s
 after n who (OutOfTurn text) s = s
-after n who (Taken text effect) s = changed (record { game = n.note.game; author = who; kept = kept_of n text; effect = effect }) s
+after n who (Taken text effect) s = state_after (change_of n who text effect) s
 
 abbrev pub head_of : Mail → Head
 head_of n = record { game = n.note.game; sender = n.note.sender; number = n.note.number }

@@ -1,8 +1,9 @@
 -- What one seat is shown by a history, and what follows from it alone.
 use Rattle.std.specs.Prelude.{ℕ, ◌≡◌, ◌≢◌, ◌==◌, ◌&&◌, ◌↔◌, Bool, true, false, List, [], ◌∷◌, ◌++◌, Option, None, Some, option_map, bytes_eq, filter, flat_map, length, map, ◌+◌, if◌then◌else◌}
+use Rattle.std.specs.List.{list_any}
 use Rattle.dip_desk.specs.Mail.{Mail}
 use Rattle.dip_chart.specs.Charts.{Chart}
-use Rattle.dip_desk.specs.State.{State, Game, Author, Nobody, TheMaster, Seat, Effect, Nothing, Pending, Opens, NewSeat, fresh, game_at, own_after, pending_in}
+use Rattle.dip_desk.specs.State.{State, Game, Author, Nobody, TheMaster, Seat, Effect, Nothing, Pending, Votes, Delivers, Opens, Publishes, Seats, Item, NewSeat, Part, behind_paper, fresh, game_at, is_seat, seat_at, with_digest, with_item, with_letter}
 use Rattle.dip_desk.specs.Machine.{Decides, SeatName, Seen, Verdict, NotKnown, Again, OutOfTurn, Taken, after, author, kept_of, reply_of, seen, verdict_on}
 use Rattle.dip_records.specs.Records.{Public, Own, Reply}
 
@@ -26,16 +27,13 @@ abbrev pub IsRun : Chart → State → List Turn → State → Type 0
 IsRun m old [] new = new ≡ old
 IsRun m old (t ∷ ts) new = (t.before ≡ old) × Decides m t.before t.letter (author_in m t) t.verdict × IsRun m (left_by m t) ts new
 
--- what a seat is shown: a letter of its own, a paper and the public part that stands after it, or its digest
+-- what a seat is shown: a letter of its own; press that came to it; a paper, the public part that stands after it and whether a phase
+-- was played; or its digest
 pub data Event : Type 0 where
   OwnLetter : (letter : Mail) → Event
-  Published : (public : Public) → (paper : List ℕ) → Event
+  Heard : (item : Item) → Event
+  Published : (public : Public) → (paper : List ℕ) → (played : Bool) → Event
   Seated : (digest : List ℕ) → Event
-
-abbrev pub is_seat : Author → ℕ → Bool
-is_seat Nobody power = false
-is_seat TheMaster power = false
-is_seat (Seat p) power = p == power
 
 -- whether the seat is the letter's author
 abbrev pub writes : SeatName → Mail → Author → Bool
@@ -53,7 +51,11 @@ seated_in power (s ∷ ss) = if s.power == power then Seated s.digest ∷ [] els
 abbrev pub effect_events : ℕ → Effect → List Event
 effect_events power Nothing = []
 effect_events power (Pending orders) = []
-effect_events power (Opens public paper seats) = Published public paper ∷ seated_in power seats
+effect_events power (Votes draw) = []
+effect_events power (Delivers readers item) = if list_any (λ p. p == power) readers then Heard item ∷ [] else []
+effect_events power (Opens public paper seats) = Published public paper false ∷ seated_in power seats
+effect_events power (Publishes public paper played) = Published public paper played ∷ []
+effect_events power (Seats seat) = if seat.power == power then Seated seat.digest ∷ [] else []
 
 abbrev pub verdict_events : ℕ → Verdict → List Event
 verdict_events power NotKnown = []
@@ -80,22 +82,23 @@ abbrev pub replies_to : Chart → SeatName → List Turn → List Reply
 replies_to m seat [] = []
 replies_to m seat (t ∷ ts) = own_replies (writes seat t.letter (author_in m t)) t ++ replies_to m seat ts
 
--- what a seat's own letter does to its own part
-abbrev pub own_by : Mail → Verdict → Own → Own
-own_by n NotKnown o = o
-own_by n (Again text) o = o
-own_by n (OutOfTurn text) o = o
-own_by n (Taken text effect) o = own_after (kept_of n text) (pending_in effect) o
+-- what a seat's own letter does to its part
+abbrev pub part_by : Mail → Verdict → Part → Part
+part_by n NotKnown s = s
+part_by n (Again text) s = s
+part_by n (OutOfTurn text) s = s
+part_by n (Taken text effect) s = with_letter (kept_of n text) effect s
 
-abbrev pub seated : ℕ → List ℕ → Option Own → Option Own
+abbrev pub seated : ℕ → List ℕ → Option Part → Option Part
 seated power by None = Some (fresh (record { power = power; digest = by }))
-seated power by (Some o) = Some (record o { digest = by })
+seated power by (Some s) = Some (with_digest by s)
 
 -- what a seat sees after one more event
 abbrev pub absorb : Chart → ℕ → Seen → Event → Seen
-absorb m power s (OwnLetter n) = record { public = s.public; own = option_map (own_by n (verdict_on m n s)) s.own }
-absorb m power s (Published public paper) = record { public = Some public; own = s.own }
-absorb m power s (Seated by) = record { public = s.public; own = seated power by s.own }
+absorb m power s (OwnLetter n) = record { public = s.public; seat = option_map (part_by n (verdict_on m n s)) s.seat }
+absorb m power s (Heard item) = record { public = s.public; seat = option_map (with_item item) s.seat }
+absorb m power s (Published public paper played) = record { public = Some public; seat = option_map (behind_paper played) s.seat }
+absorb m power s (Seated by) = record { public = s.public; seat = seated power by s.seat }
 
 abbrev pub absorb_all : Chart → ℕ → Seen → List Event → Seen
 absorb_all m power s [] = s
@@ -104,7 +107,8 @@ absorb_all m power s (e ∷ es) = absorb_all m power (absorb m power s e) es
 -- what a seat is told by one more event
 abbrev pub told_at : Chart → Seen → Event → List Reply
 told_at m s (OwnLetter n) = reply_of n (verdict_on m n s) ∷ []
-told_at m s (Published public paper) = []
+told_at m s (Heard item) = []
+told_at m s (Published public paper played) = []
 told_at m s (Seated by) = []
 
 abbrev pub told : Chart → ℕ → Seen → List Event → List Reply
@@ -116,6 +120,31 @@ pub record IsHistory (m : Chart) (old : State) (letters : List Mail) (replies : 
   pub run : IsRun m old turns new
   pub asked : map (λ t. t.letter) turns ≡ letters
   pub answered : map (λ t. reply_in t) turns ≡ replies
+
+-- where an effect may come: opening a game needs a free name, which the game bears; all others need the game, which keeps its name, and
+-- a new digest its seat
+abbrev pub Suits : List ℕ → Option Game → Effect → Type 0
+Suits name None Nothing = Unit {0}
+Suits name None (Pending orders) = ⊥
+Suits name None (Votes draw) = ⊥
+Suits name None (Delivers readers item) = ⊥
+Suits name None (Opens public paper seats) = public.game ≡ name
+Suits name None (Publishes public paper played) = ⊥
+Suits name None (Seats seat) = ⊥
+Suits name (Some g) Nothing = Unit {0}
+Suits name (Some g) (Pending orders) = Unit {0}
+Suits name (Some g) (Votes draw) = Unit {0}
+Suits name (Some g) (Delivers readers item) = Unit {0}
+Suits name (Some g) (Opens public paper seats) = ⊥
+Suits name (Some g) (Publishes public paper played) = public.game ≡ g.public.game
+Suits name (Some g) (Seats seat) = (s : Part) × (seat_at seat.power g.seats ≡ Some s)
+
+-- what each seat sees behind an effect is what its events say, where the effect may come: the author knows of its own letter, and
+-- nobody sees more
+abbrev pub AreEffectsShown : Chart → Type 0
+AreEffectsShown m = (seat : SeatName) (s : State) (n : Mail) (who : Author) (text : List ℕ) (e : Effect) → Suits n.note.game (game_at n.note.game s) e
+    → (writes seat n who ≡ true → verdict_on m n (seen seat s) ≡ Taken text e)
+    → seen seat (after n who (Taken text e) s) ≡ absorb_all m seat.power (seen seat s) (shown seat n who (Taken text e))
 
 -- whatever other history begins with the same for a seat and shows it the same, tells it the same and leaves it the same
 abbrev pub IsSettledByView : Chart → State → List Turn → State → Type 0

@@ -4,7 +4,7 @@ ghost use Rattle.dip_chart.specs.Charts.{Chart};
 ghost use Rattle.dip_desk.specs.Faults.{keep_fault_name};
 ghost use Rattle.dip_desk.specs.Fitting.{Fits};
 ghost use Rattle.dip_desk.specs.Keeping.{Book, Changes, Looks};
-ghost use Rattle.dip_desk.specs.State.{changed, own_at, public_at};
+ghost use Rattle.dip_desk.specs.State.{own_at, public_at, state_after};
 ghost use Rattle.dip_desk.specs.Rows as desk_rows;
 ghost use Rattle.dip_records.specs.Rows as rows;
 
@@ -154,6 +154,6 @@ pub trait Keeper {
     /// Makes the change whole or not at all.
     fn apply(&mut self, map: &Map, change: &Change) -> Result<(), KeepFault>
         requires { book.faults self.old < u64.MAX }
-        ensures { Changes map.now book self.old self.new (changed (desk_rows.change change.now))
+        ensures { Changes map.now book self.old self.new (state_after (desk_rows.change change.now))
             (Fits (desk_rows.change change.now)) result };
 }

@@ -140,8 +140,8 @@ fn find_game<'a>(games: &'a Games, name: &str) -> Option<&'a GameRow>
 
 /// The seat of that power.
 fn find_seat<'a>(seats: &'a [Own], power: Power) -> Option<&'a Own>
-    ensures { option_map (λ o. rows.own o.now) result ≡ s.seat_at power
-        (each (λ o. rows.own o) seats.entry.now) }
+    ensures { option_map (λ o. rows.own o.now) result ≡ s.own_of (s.seat_at power
+        (each (λ o. stored.part o) seats.entry.now)) }
 {
     for seat in seats {
         if seat.power == power {
@@ -154,7 +154,7 @@ fn find_seat<'a>(seats: &'a [Own], power: Power) -> Option<&'a Own>
 /// The seat of that power in the game of that name.
 fn find_own<'a>(games: &'a Games, name: &str, power: Power) -> Option<&'a Own>
     ensures { option_map (λ o. rows.own o.now) result ≡ option_and_then
-        (λ g. s.seat_at power g.seats)
+        (λ g. s.own_of (s.seat_at power g.seats))
         (at bytes_eq s.name_of name.now (stored.games games.entry.now.entries)) }
 {
     let game = find_game(games, name)?;
@@ -163,8 +163,8 @@ fn find_own<'a>(games: &'a Games, name: &str, power: Power) -> Option<&'a Own>
 
 /// The place of the seat of that power, or the length.
 fn seat_place(seats: &[Own], power: Power) -> usize
-    ensures { result ≡ place (λ a b. a == b) (λ o. o.power) power
-        (each (λ o. rows.own o) seats.now) }
+    ensures { result ≡ place (λ a b. a == b) s.power_in power
+        (each (λ o. stored.part o) seats.now) }
 {
     for (number, seat) in seats.iter().enumerate() {
         if seat.power == power {
@@ -175,9 +175,11 @@ fn seat_place(seats: &[Own], power: Power) -> usize
 }
 
 /// What a letter of its own changes in a seat: it is kept, and its orders stand where it has any.
-fn record_own(own: &mut Own, kept: Kept, pending: Option<Vec<Standing>>)
-    ensures { rows.own own.new ≡ s.own_after (rows.kept kept)
-        (option_map (λ l. rows.standings l.items) pending) (rows.own own.old) }
+fn record_own(own: &mut Own, kept: Kept, effect: &Effect, pending: Option<Vec<Standing>>)
+    requires { option_map (λ l. rows.standings l.items) pending ≡ stored.orders_in
+        (desk_rows.effect effect.now) }
+    ensures { stored.part own.new ≡ s.with_letter (rows.kept kept) (desk_rows.effect effect.now)
+        (stored.part own.old) }
 {
     own.kept = Some(kept);
     if let Some(pending) = pending {
@@ -185,36 +187,74 @@ fn record_own(own: &mut Own, kept: Kept, pending: Option<Vec<Standing>>)
     }
 }
 
-fn record_seat(seats: &mut Vec<Own>, power: Power, kept: Kept, pending: Option<Vec<Standing>>)
-    ensures { each (λ o. rows.own o) seats.new.items ≡ change_at (λ a b. a == b) (λ o. o.power)
-        power (s.own_after (rows.kept kept) (option_map (λ l. rows.standings l.items) pending))
-        (each (λ o. rows.own o) seats.old.items) }
+fn record_seat(
+    seats: &mut Vec<Own>,
+    power: Power,
+    kept: Kept,
+    effect: &Effect,
+    pending: Option<Vec<Standing>>,
+)
+    requires { option_map (λ l. rows.standings l.items) pending ≡ stored.orders_in
+        (desk_rows.effect effect.now) }
+    ensures { each (λ o. stored.part o) seats.new.items ≡ change_at (λ a b. a == b) s.power_in power
+        (s.with_letter (rows.kept kept) (desk_rows.effect effect.now))
+        (each (λ o. stored.part o) seats.old.items) }
 {
     let place = seat_place(seats.as_slice(), power);
     if place < seats.len() {
-        record_own(&mut seats[place], kept, pending);
+        record_own(&mut seats[place], kept, effect, pending);
     }
 }
 
+/// What a letter changes in its game.
+fn record_row(
+    game: &mut GameRow,
+    author: Author,
+    kept: Kept,
+    effect: &Effect,
+    pending: Option<Vec<Standing>>,
+)
+    requires { option_map (λ l. rows.standings l.items) pending ≡ stored.orders_in
+        (desk_rows.effect effect.now) }
+    ensures { (name key : List ℕ) → stored.game key game.new ≡ s.game_after (record {
+      game = name;
+      author = desk_rows.author author;
+      kept = rows.kept kept;
+      effect = desk_rows.effect effect.now;
+    }) (stored.game key game.old) }
+{
+    if let Author::Seat(power) = author {
+        record_seat(&mut game.seats, power, kept, effect, pending);
+    }
+}
+
+/// What a letter changes in the game that it names.
 fn record_game(
     games: &mut Games,
     name: &str,
-    power: Power,
+    author: Author,
     kept: Kept,
+    effect: &Effect,
     pending: Option<Vec<Standing>>,
 )
-    ensures { stored.games games.new.entries ≡ s.at_seat name.now power
-        (s.own_after (rows.kept kept) (option_map (λ l. rows.standings l.items) pending))
-        (stored.games games.old.entries) }
+    requires { option_map (λ l. rows.standings l.items) pending ≡ stored.orders_in
+        (desk_rows.effect effect.now) }
+    ensures { stored.games games.new.entries ≡ change_at bytes_eq s.name_of name.now
+        (s.game_after (record {
+          game = name.now;
+          author = desk_rows.author author;
+          kept = rows.kept kept;
+          effect = desk_rows.effect effect.now;
+        })) (stored.games games.old.entries) }
 {
     if let Some(place) = games.get_index_of(name) {
         let game = &mut games[place];
-        record_seat(&mut game.seats, power, kept, pending);
+        record_row(game, author, kept, effect, pending);
     }
 }
 
 fn fresh(alloc: Global, seat: &NewSeat) -> Own
-    ensures { rows.own result ≡ s.fresh (desk_rows.new_seat seat.now) }
+    ensures { stored.part result ≡ s.fresh (desk_rows.new_seat seat.now) }
 {
     Own {
         power: seat.power,
@@ -229,7 +269,7 @@ fn fresh(alloc: Global, seat: &NewSeat) -> Own
 
 fn fresh_seats(alloc: Global, seats: &[NewSeat]) -> Result<Vec<Own>, AllocError>
     ensures { IfOk result
-        (λ v. each (λ o. rows.own o) v.items ≡ each s.fresh
+        (λ v. each (λ o. stored.part o) v.items ≡ each s.fresh
         (each (λ n. desk_rows.new_seat n) seats.now)) }
 {
     let mut owns = Vec::with_capacity(alloc, seats.len())?;
@@ -248,7 +288,7 @@ fn game_of(
 ) -> Result<GameRow, AllocError>
     ensures { IfOk result
         (λ g. (name : List ℕ) → name ≡ (rows.public public.now).game → stored.game name g
-        ≡ s.opened (rows.public public.now) (string_bytes paper.now)
+        ≡ s.opening_game (rows.public public.now) (string_bytes paper.now)
         (each (λ n. desk_rows.new_seat n) seats.now)) }
 {
     let mut papers = Vec::new(alloc);
@@ -269,7 +309,7 @@ fn game_of(
 fn pending_in(alloc: Global, effect: &Effect) -> Result<Option<Vec<Standing>>, AllocError>
     ensures { IfOk result
         (λ o. option_map (λ l. rows.standings l.items) o
-        ≡ s.pending_in (desk_rows.effect effect.now)) }
+        ≡ stored.orders_in (desk_rows.effect effect.now)) }
 {
     match effect {
         Effect::Nothing | Effect::Opens { .. } => Ok(None),
@@ -286,8 +326,11 @@ fn add_game(
     seats: &[NewSeat],
 ) -> Result<(), KeepFault>
     ensures ok { OnOk result (stored.games games.new.entries ≡ stored.games games.old.entries
-        ++ s.opened (rows.public public.now) (string_bytes paper.now)
+        ++ s.opening_game (rows.public public.now) (string_bytes paper.now)
         (each (λ n. desk_rows.new_seat n) seats.now) ∷ []) }
+    ensures free { OnOk result ((f : s.Game → s.Game) → stored.games games.old.entries
+        ≡ change_at bytes_eq s.name_of (string_bytes public.now.game) f
+        (stored.games games.old.entries)) }
     ensures err { OnErr result
         (stored.games games.new.entries ≡ stored.games games.old.entries) }
     ensures taken { IsErrOf result KeepFault.Damaged
@@ -303,26 +346,59 @@ fn add_game(
     Ok(())
 }
 
-/// The game that an effect opens stands last.
-fn open_game(alloc: Global, games: &mut Games, effect: &Effect) -> Result<(), KeepFault>
-    ensures ok { OnOk result (stored.games games.new.entries
-        ≡ s.with_opened (desk_rows.effect effect.now) (stored.games games.old.entries)) }
+/// What a change does to the games: a new one stands last, where its name is the change's and free.
+fn record_games(alloc: Global, games: &mut Games, change: &Change) -> Result<(), KeepFault>
+    ensures ok { OnOk result (stored.games games.new.entries ≡ stored.games_after
+        (desk_rows.change change.now) (stored.games games.old.entries)) }
     ensures err { OnErr result
         (stored.games games.new.entries ≡ stored.games games.old.entries) }
-    ensures fitting { IsErrOf result KeepFault.Damaged → (name : List ℕ)
-        → FitsGame name (desk_rows.effect effect.now)
-        (at bytes_eq s.name_of name (stored.games games.old.entries)) → ⊥ }
+    ensures fitting { IsErrOf result KeepFault.Damaged
+        → FitsGame (string_bytes change.now.game) (desk_rows.effect change.now.effect)
+        (at bytes_eq s.name_of (string_bytes change.now.game) (stored.games games.old.entries))
+        → ⊥ }
     ensures disk { faults_after result 0 ≡ 0 }
 {
-    if let Effect::Opens {
-        public,
-        paper,
-        seats,
-    } = effect
-    {
-        add_game(alloc, games, public, paper, seats.as_slice())?;
+    let kept = kept_copy(&change.kept)?;
+    let pending = pending_in(alloc, &change.effect)?;
+    match &change.effect {
+        Effect::Opens {
+            public,
+            paper,
+            seats,
+        } => {
+            if public.game.as_str() != change.game.as_str() {
+                return Err(KeepFault::Damaged);
+            }
+            add_game(alloc, games, public, paper, seats.as_slice())
+        }
+        Effect::Nothing | Effect::Pending(_) => {
+            let author = change.author;
+            let name = change.game.as_str();
+            record_game(games, name, author, kept, &change.effect, pending);
+            Ok(())
+        }
     }
-    Ok(())
+}
+
+/// The master's last letter, where it is the master's.
+fn last_of(change: &Change) -> Result<Option<Kept>, AllocError>
+    ensures { IfOk result
+        (λ k. option_map rows.kept k ≡ stored.last_of (desk_rows.change change.now)) }
+{
+    match change.author {
+        Author::TheMaster => Ok(Some(kept_copy(&change.kept)?)),
+        Author::Nobody | Author::Seat(_) => Ok(None),
+    }
+}
+
+/// The master's row behind a letter.
+fn record_desk(desk: &mut Desk, last: Option<Kept>)
+    ensures { desk_rows.desk desk.new ≡ stored.desk_with (option_map rows.kept last)
+        (desk_rows.desk desk.old) }
+{
+    if last.is_some() {
+        desk.kept = last;
+    }
 }
 
 impl MemoryKeeper {
@@ -373,20 +449,9 @@ impl Keeper for MemoryKeeper {
     }
 
     fn apply(&mut self, _map: &Map, change: &Change) -> Result<(), KeepFault> {
-        let kept = kept_copy(&change.kept)?;
-        let pending = pending_in(self.alloc, &change.effect)?;
-        open_game(self.alloc, &mut self.games, &change.effect)?;
-        match change.author {
-            Author::Nobody => {}
-            Author::TheMaster => self.desk.kept = Some(kept),
-            Author::Seat(power) => record_game(
-                &mut self.games,
-                change.game.as_str(),
-                power,
-                kept,
-                pending,
-            ),
-        }
+        let last = last_of(change)?;
+        record_games(self.alloc, &mut self.games, change)?;
+        record_desk(&mut self.desk, last);
         Ok(())
     }
 }

@@ -5,7 +5,7 @@ use Rattle.dip_desk.specs.declared.keeper.KeepFault.TheVariants.{Damaged}
 use Rattle.dip_judge.proofs.run.step.Goals as goal
 
 pub returns-in-Ok-take-clause-lawful : goal.returns-in-Ok-take-clause-lawful
-returns-in-Ok-take-clause-lawful g c sound shows lawful = c.lawful_states_stay_lawful.ensures.stays _ _ _ _ lawful (c.in-Ok-take.ensures.done sound shows)
+returns-in-Ok-take-clause-lawful g c sound shows lawful = c.lawful_states_stay_lawful.ensures.stays _ (mail c.in-Taken.letter) _ _ c.in-Taken.ensures.next.0.fits lawful (c.in-Ok-take.ensures.done sound shows)
 
 pub returns-in-Err-take-clause-never : goal.returns-in-Err-take-clause-never
 returns-in-Err-take-clause-never g c sound shows lawful damaged =

@@ -1,8 +1,14 @@
-//! Plain phases, for tests alone: what a phase makes of a board and what its paper tells, written from the rules of play. What is
-//! adjudicated is compared with it, on boards worked by hand and over whole games by chance.
+//! Plain phases, for tests alone: what a phase makes of a board and what its paper tells, written from the rules of play, and a phase
+//! adjudicated compared with it.
 #![tactic(auto)]
 
-#[cfg(test)]
-mod plain;
-#[cfg(test)]
-mod tests;
+mod calendar;
+mod comparing;
+mod moves;
+mod refuges;
+mod state;
+mod winter;
+
+pub use comparing::{Mismatch, compare};
+pub use moves::{destination, goes_by_convoy, origin};
+pub use state::State;

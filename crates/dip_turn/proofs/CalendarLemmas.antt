@@ -9,7 +9,7 @@ use Rattle.dip_board.specs.declared.boards.Season.TheVariants.{SpringMoves, Spri
 use Rattle.dip_board.specs.Boards.{Position}
 use Rattle.dip_orders.specs.declared.placed.PlacedOrder.{PlacedOrder}
 use Rattle.dip_turn.specs.Centres.{winner, with_owners, has_won}
-use Rattle.dip_turn.specs.Indices.{indices}
+use Rattle.dip_outcomes.specs.Indices.{indices}
 use Rattle.dip_turn.specs.Laws.{IsAfter, may_follow, season_number, year_behind}
 use Rattle.dip_turn.specs.Phases.{Sequel, after_count, follow, goes_on, has_dislodged, last_year, needs_adjustment, new_year, sequel, year_end}
 use Rattle.dip_turn.specs.Reports.{IsPlayed, Leaves, LeavesAdjusted, LeavesMoved, LeavesRetreated}

@@ -13,8 +13,8 @@ use Rattle.dip_decide.specs.Results.{AreExplained, values_in}
 use Rattle.dip_decide.specs.Steps.{steps_of}
 use Rattle.dip_turn.specs.Centres.{centre_lines}
 use Rattle.dip_turn.specs.Laws.{AreAlike, IsSame}
-use Rattle.dip_turn.specs.Moving.{after_moves}
-use Rattle.dip_turn.specs.Outcomes.{movement_lines}
+use Rattle.dip_outcomes.specs.Moving.{after_moves}
+use Rattle.dip_outcomes.specs.Outcomes.{movement_lines}
 use Rattle.dip_turn.specs.Phases.{Sequel, follow, sequel}
 use Rattle.dip_turn.specs.Reports.{IsMoved, IsPlayed, Leaves, LeavesAdjusted, LeavesMoved, LeavesRetreated}
 use Rattle.dip_turn.specs.declared.report.Account.{Account}

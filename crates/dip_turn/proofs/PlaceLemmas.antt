@@ -22,7 +22,7 @@ use Rattle.dip_orders.specs.declared.placed.PlacedOrder.{PlacedOrder}
 use Rattle.dip_orders.proofs.LawfulReadLaws.{centre_low, coast_low, fleets_next, foot_coast, foot_near, home_centre, next_low}
 use Rattle.dip_orders.proofs.RetreatLaws.{retreats_exact}
 use Rattle.dip_orders.proofs.SpotLaws.{shape_of}
-use Rattle.dip_turn.specs.Moving.{leads_to}
+use Rattle.dip_outcomes.specs.Moving.{leads_to}
 
 coast_dry : (t : Terrain) → is_coastal t ≡ true → is_sea t ≡ false
 coast_dry Inland h = refl

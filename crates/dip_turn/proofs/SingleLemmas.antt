@@ -10,7 +10,7 @@ use Rattle.dip_orders.specs.Standing.{units_of}
 use Rattle.dip_orders.specs.declared.placed.PlacedOrder.{PlacedOrder}
 use Rattle.dip_orders.proofs.StandingLaws.{element_cases}
 use Rattle.dip_decide.specs.Matching.{order_at}
-use Rattle.dip_turn.proofs.KeptLemmas.{kept_in}
+use Rattle.dip_outcomes.proofs.KeptLemmas.{kept_in}
 
 -- a test that no element passes
 pub nobody : {A : Type 0} (q : A → Bool) (xs : List A) → ((x : A) → Contains xs x → q x ≡ true → ⊥) → list_any q xs ≡ false

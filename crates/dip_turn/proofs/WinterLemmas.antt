@@ -23,7 +23,7 @@ use Rattle.dip_orders.proofs.KeptLaws.{count_cons}
 use Rattle.dip_orders.proofs.LawfulReadLaws.{any_at}
 use Rattle.dip_orders.proofs.StandingLaws.{same_unit, unit_itself}
 use Rattle.dip_turn.specs.Adjusting.{after_adjustment, builds_given, disorder, disorder_of, is_among, is_given, removals_given, removals_owed, units_built, units_kept, units_of_power, units_staying}
-use Rattle.dip_turn.specs.Indices.{indices}
+use Rattle.dip_outcomes.specs.Indices.{indices}
 use Rattle.dip_turn.specs.Laws.{BuildsStand, IsEvened, WintersEvenUnits}
 use Rattle.dip_turn.specs.Phases.{Sequel, follow, has_dislodged, in_phase, last_year, new_year, sequel}
 use Rattle.dip_turn.specs.Reports.{IsPlayed, Leaves, LeavesAdjusted}
@@ -33,7 +33,7 @@ use Rattle.dip_turn.specs.declared.report.Course.TheVariants.{GoesOn, Ended}
 use Rattle.dip_turn.specs.declared.report.Report.{Report}
 use Rattle.dip_turn.proofs.CountLemmas.{count_append, count_kept, count_map, fewer, flat_among, flat_from, index_among, kept_alike, kept_in_turn, one_if, some_or_none}
 use Rattle.dip_turn.proofs.DisorderCounts.{goes_among, stays_count}
-use Rattle.dip_turn.proofs.KeptLemmas.{kept_in}
+use Rattle.dip_outcomes.proofs.KeptLemmas.{kept_in}
 use Rattle.dip_turn.proofs.MapLemmas.{AreEachLawful, come_of, each_lawful}
 use Rattle.dip_turn.proofs.RefugeLemmas.{found_in}
 use Rattle.dip_turn.proofs.SingleLemmas.{alone, behind, first, kept_from, made_among, made_from, others_single, single_filtered, single_kept, somebody}

@@ -9,7 +9,7 @@ use Rattle.dip_orders.specs.Standing.{is_same_unit}
 use Rattle.dip_orders.specs.Conditions.{is_build, is_remove}
 use Rattle.dip_orders.specs.declared.placed.PlacedOrder.{PlacedOrder}
 use Rattle.dip_turn.specs.Disorder.{in_disorder}
-use Rattle.dip_turn.specs.Indices.{indices}
+use Rattle.dip_outcomes.specs.Indices.{indices}
 use Rattle.dip_turn.specs.declared.report.Waiver.{Waiver}
 
 -- the units that are built

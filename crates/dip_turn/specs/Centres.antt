@@ -4,7 +4,7 @@ use Rattle.std.specs.List.{filter_map}
 use Rattle.dip_names.specs.declared.names.Unit.{Unit as AUnit}
 use Rattle.dip_chart.specs.Charts.{Chart, is_centre}
 use Rattle.dip_board.specs.Boards.{Position, owner, centres_owned}
-use Rattle.dip_turn.specs.Indices.{indices}
+use Rattle.dip_outcomes.specs.Indices.{indices}
 use Rattle.dip_turn.specs.declared.report.CentreLine.{CentreLine}
 
 -- the unit that stands in a province

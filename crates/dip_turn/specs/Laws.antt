@@ -1,28 +1,20 @@
 -- Laws of phases: what holds of each phase that is adjudicated, by the definitions.
-use Rattle.std.specs.Prelude.{◌≡◌, ◌≢◌, ℕ, ◌<◌, ◌≤◌, ◌+◌, ◌-◌, ◌*◌, Bool, true, false, not, ◌&&◌, ◌⊎◌, All, Contains, List, length, Option, None, Some, is_some}
-use Rattle.std.specs.List.{list_any}
+use Rattle.std.specs.Prelude.{◌≡◌, ◌≢◌, ℕ, ◌<◌, ◌≤◌, ◌+◌, ◌-◌, ◌*◌, Bool, true, false, ◌⊎◌, All, Contains, List, length, Option, Some, is_some}
 use Rattle.dip_names.specs.declared.names.Unit.{Unit as AUnit}
 use Rattle.dip_chart.specs.Charts.{Chart, IsMap, is_centre}
 use Rattle.dip_board.specs.declared.boards.Dislodged.{Dislodged}
 use Rattle.dip_board.specs.declared.boards.Phase.{Phase}
 use Rattle.dip_board.specs.declared.boards.Season.{Season}
 use Rattle.dip_board.specs.declared.boards.Season.TheVariants.{SpringMoves, SpringRetreats, FallMoves, FallRetreats, Winter}
-use Rattle.dip_board.specs.Boards.{Position, IsOf, are_ascending, centres_owned, is_held, owner, units_counted}
+use Rattle.dip_board.specs.Boards.{Position, IsOf, centres_owned, owner, units_counted}
 use Rattle.dip_orders.specs.Given.{AreGiven, IsEachGiven}
 use Rattle.dip_orders.specs.Laws.{IsEmpty}
 use Rattle.dip_orders.specs.declared.placed.Order.TheVariants.{Build}
 use Rattle.dip_orders.specs.declared.placed.PlacedOrder.{PlacedOrder}
-use Rattle.dip_decide.specs.declared.decisions.Decision.{Decision}
-use Rattle.dip_decide.specs.Deciding.{Assignment}
-use Rattle.dip_decide.specs.Laws.{AreOrders}
-use Rattle.dip_decide.specs.declared.decisions.Decision.TheVariants.{Move as Moves}
-use Rattle.dip_decide.specs.Matching.{is_convoyed, order_at, situation}
-use Rattle.dip_decide.specs.Movement.{Satisfies, head_to_head}
 use Rattle.dip_decide.specs.Results.{values_in}
 use Rattle.dip_orders.specs.Conditions.{is_retreat}
 use Rattle.dip_turn.specs.Adjusting.{after_adjustment, builds_given, disorder, is_among, is_given, units_built}
 use Rattle.dip_turn.specs.Centres.{has_won, holder}
-use Rattle.dip_turn.specs.Moving.{after_moves, contends, dislodged_after, dislodged_unit, entrant, enters, has_moved, is_driven_out, prov, standing_after, unit_after}
 use Rattle.dip_turn.specs.Phases.{has_dislodged, last_year}
 use Rattle.dip_turn.specs.Reports.{IsPlayed}
 use Rattle.dip_turn.specs.Retreating.{after_retreat, after_retreats}
@@ -31,15 +23,6 @@ use Rattle.dip_turn.specs.declared.report.Account.TheVariants.{Movement as OfMov
 use Rattle.dip_turn.specs.declared.report.Course.{Course}
 use Rattle.dip_turn.specs.declared.report.Course.TheVariants.{GoesOn, Won, Ended}
 use Rattle.dip_turn.specs.declared.report.Report.{Report}
-
--- after a movement no two units stand in one province: two that aren't dislodged and stand in one came from one
-abbrev pub UnitsStandApart : Type 0
-UnitsStandApart =
-    (m : Chart) (b : Position) (orders : List PlacedOrder) (broken : Decision → Bool) (a : Assignment) (o w : PlacedOrder)
-    → AreOrders m b orders → Satisfies (situation m orders) broken a
-    → order_at orders (prov o) ≡ Some o → order_at orders (prov w) ≡ Some w
-    → is_driven_out a orders o ≡ false → is_driven_out a orders w ≡ false
-    → (unit_after a o).place.prov ≡ (unit_after a w).place.prov → prov o ≡ prov w
 
 -- the place of a season in its year
 abbrev pub season_number : Season → ℕ
@@ -112,15 +95,6 @@ WinnersAreOne =
     (m : Chart) (b : Position) (pending : List PlacedOrder) (new : Position) (report : Report) (power other : ℕ)
     → IsOf m b → IsPlayed m b pending new report → has_won m new power ≡ true → has_won m new other ≡ true → power ≡ other
 
--- a movement loses and doubles nobody: each unit stands after it, in its province or at its destination, or is dislodged
-pub record MovementKeepsUnits (m : Chart) (a : Assignment) (orders : List PlacedOrder) : Type 0 where
-  pub count : length (standing_after a orders) + length (dislodged_after m a orders) ≡ length orders
-  pub standing : All (λ u. (o : PlacedOrder) × Contains orders o × (is_driven_out a orders o ≡ false) × (u ≡ unit_after a o)) (standing_after a orders)
-  pub dislodged : All (λ d. (o : PlacedOrder) × Contains orders o × (is_driven_out a orders o ≡ true) × (d ≡ dislodged_unit m a orders o)) (dislodged_after m a orders)
-
-abbrev pub MovementsKeepUnits : Type 0
-MovementsKeepUnits = (m : Chart) (a : Assignment) (orders : List PlacedOrder) → MovementKeepsUnits m a orders
-
 -- after the retreats each unit stood before or is a dislodged one that retreated, and each that stood still stands
 pub record RetreatsKeepUnits (b : Position) (pending : List PlacedOrder) : Type 0 where
   pub units : All (λ u. Contains b.units u ⊎ ((d : Dislodged) × Contains b.dislodged d × (after_retreat pending b.dislodged d ≡ Some u))) (after_retreats b pending).units
@@ -192,33 +166,6 @@ abbrev pub OnlyCentresAreOwned : Type 0
 OnlyCentresAreOwned =
     (m : Chart) (b : Position) (pending : List PlacedOrder) (new : Position) (report : Report)
     → IsOf m b → IsPlayed m b pending new report → (p : ℕ) → is_some (owner new p) ≡ true → is_centre m p ≡ true
-
--- a unit is dislodged exactly where it stays and a successful move leads into its province
-abbrev pub DislodgedWhereEntered : Type 0
-DislodgedWhereEntered =
-    (a : Assignment) (orders : List PlacedOrder) (o : PlacedOrder)
-    → is_driven_out a orders o ≡ (not (has_moved a o) && list_any (enters a (prov o)) orders)
-
--- standoffs after a movement are provinces of the map, once each in their order, and nobody stands there
-pub record AreLawfulStandoffs (m : Chart) (new : Position) : Type 0 where
-  pub within : All (λ p. p < length m.provinces) new.standoff
-  pub once : are_ascending new.standoff ≡ true
-  pub empty : All (λ p. is_held new p ≡ false) new.standoff
-
-abbrev pub StandoffsAreLawful : Type 0
-StandoffsAreLawful = (m : Chart) (b : Position) (a : Assignment) (orders : List PlacedOrder) → AreLawfulStandoffs m (after_moves m b a orders)
-
--- the loser of a fight head to head leaves no standoff where it was to go
-abbrev pub LosersLeaveNoStandoff : Type 0
-LosersLeaveNoStandoff =
-    (m : Chart) (a : Assignment) (orders : List PlacedOrder) (p : ℕ) (o : PlacedOrder)
-    → head_to_head (situation m orders) (prov o) p ≡ true → a (Moves p) ≡ true → contends m a orders p o ≡ false
-
--- an attacker by convoy closes no province to the retreat of the unit that it dislodged
-abbrev pub ConvoysCloseNoOrigin : Type 0
-ConvoysCloseNoOrigin =
-    (m : Chart) (a : Assignment) (orders : List PlacedOrder) (o w : PlacedOrder)
-    → entrant a orders (prov o) ≡ Some w → is_convoyed m (Some w) ≡ true → (dislodged_unit m a orders o).origin ≡ None
 
 -- the two accounts tell the same, but for the steps that explain a movement
 abbrev pub AreAlike : Account → Account → Type 0

@@ -1,8 +1,5 @@
-pub mod Indices
 pub mod Distances
 pub mod Disorder
-pub mod Moving
-pub mod Outcomes
 pub mod Retreating
 pub mod Adjusting
 pub mod Centres

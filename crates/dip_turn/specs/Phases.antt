@@ -7,7 +7,7 @@ use Rattle.dip_board.specs.declared.boards.Season.TheVariants.{SpringMoves, Spri
 use Rattle.dip_board.specs.Boards.{Position}
 use Rattle.dip_orders.specs.Allowances.{builds_due, removals_due}
 use Rattle.dip_turn.specs.Centres.{with_owners, winner}
-use Rattle.dip_turn.specs.Indices.{indices}
+use Rattle.dip_outcomes.specs.Indices.{indices}
 use Rattle.dip_turn.specs.declared.report.Course.{Course}
 use Rattle.dip_turn.specs.declared.report.Course.TheVariants.{GoesOn, Won, Ended}
 

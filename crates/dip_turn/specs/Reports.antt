@@ -11,8 +11,8 @@ use Rattle.dip_decide.specs.Results.{AreExplained, values_in}
 use Rattle.dip_decide.specs.Steps.{steps_of}
 use Rattle.dip_turn.specs.Adjusting as adjusting
 use Rattle.dip_turn.specs.Centres.{centre_lines}
-use Rattle.dip_turn.specs.Moving.{after_moves}
-use Rattle.dip_turn.specs.Outcomes.{movement_lines}
+use Rattle.dip_outcomes.specs.Moving.{after_moves}
+use Rattle.dip_outcomes.specs.Outcomes.{movement_lines}
 use Rattle.dip_turn.specs.Phases.{sequel, follow}
 use Rattle.dip_turn.specs.Retreating.{after_retreats, retreat_lines}
 use Rattle.dip_turn.specs.declared.report.Account.{Account}

@@ -4,7 +4,7 @@ ghost use Rattle.std.specs.List.{list_any, filter_map};
 ghost use Rattle.dip_orders.specs.Standing.{is_same_unit};
 ghost use Rattle.dip_orders.specs.Conditions.{is_build, is_remove};
 ghost use Rattle.dip_turn.specs.Adjusting as a;
-ghost use Rattle.dip_turn.specs.Indices.{indices};
+ghost use Rattle.dip_outcomes.specs.Indices.{indices};
 
 use crate::disorder::in_disorder;
 use crate::report::Waiver;

@@ -1,38 +1,19 @@
 //! Laws of phases, each the contract of a function that does nothing.
-ghost use Rattle.dip_turn.specs.Laws.{BoardsStayOfTheirMap, BuildsStand, CentresChangeInFall, ConvoysCloseNoOrigin, DislodgedWhereEntered};
-ghost use Rattle.dip_turn.specs.Laws.{LosersLeaveNoStandoff, MovementsKeepUnits, OnlyCentresAreOwned, OnlyRetreatsHaveDislodged, PhasesFollow};
+ghost use Rattle.dip_turn.specs.Laws.{BoardsStayOfTheirMap, BuildsStand, CentresChangeInFall};
+ghost use Rattle.dip_turn.specs.Laws.{OnlyCentresAreOwned, OnlyRetreatsHaveDislodged, PhasesFollow};
 ghost use Rattle.dip_turn.specs.Laws.{PhasesHaveOneResult, RetreatsAreOpen, RetreatsLoseNobodyElse, RetreatsMeetNowhere};
-ghost use Rattle.dip_turn.specs.Laws.{StandoffsAreLawful, UnitsStandApart, WinnersAreOne, WinnersOwnMore, WintersAddBuildsAlone};
-ghost use Rattle.dip_turn.specs.Laws.{WintersEvenUnits, WintersRemoveAlone};
+ghost use Rattle.dip_turn.specs.Laws.{WinnersAreOne, WinnersOwnMore, WintersAddBuildsAlone, WintersEvenUnits, WintersRemoveAlone};
 
-use dip_decide::{boards_are_situations, equations_are_lawful, explained_is_lawful, one_answer};
+use dip_decide::{explained_is_lawful, one_answer};
 use dip_orders::{
     each_unit_has_one_order, none_retreats_to_its_attacker, orders_are_lawful,
     retreats_and_builds_are_to_vacant_provinces,
 };
+use dip_outcomes::units_stand_apart;
 
-/// After a movement no two units stand in one province: two that aren't dislodged and stand in one are the same.
-pub fn units_stand_apart()
-    ensures { UnitsStandApart }
-{
-    boards_are_situations();
-    equations_are_lawful();
-}
-
-/// A unit is dislodged exactly where it stays and a successful move leads into its province; standoffs are provinces of the map,
-/// once each, where nobody stands; the loser of a fight head to head leaves none where it was to go; and an attacker by convoy
-/// closes no province to a retreat.
-pub fn movements_are_told()
-    ensures dislodged { DislodgedWhereEntered }
-    ensures standoffs { StandoffsAreLawful }
-    ensures losers { LosersLeaveNoStandoff }
-    ensures convoys { ConvoysCloseNoOrigin }
-{}
-
-/// Nobody is lost or doubled: after a movement each unit stands or is dislodged, after the retreats each unit stood before or
-/// retreated, and after a Winter each stood before or was built, and each that stood stands or was removed.
+/// Nobody is lost or doubled: after the retreats each unit stood before or retreated, and after a Winter each stood before or was
+/// built, and each that stood stands or was removed.
 pub fn units_are_kept()
-    ensures movements { MovementsKeepUnits }
     ensures retreats { RetreatsLoseNobodyElse }
     ensures winters { WintersAddBuildsAlone }
     ensures removed { WintersRemoveAlone }

@@ -6,8 +6,6 @@ ghost use Rattle.dip_turn.specs.Reports.{IsMoved, IsAdjusted, LeavesMoved, Leave
 
 use crate::adjusting::{after_adjustment, disorder, units_built, units_given, waivers};
 use crate::centres::centre_lines;
-use crate::moving::{moved_board, without_destroyed};
-use crate::outcomes::movement_lines;
 use crate::phases::follow;
 use crate::report::{Account, Adjustment, Movement, Report};
 use crate::retreating::{after_retreats, retreat_lines};
@@ -15,6 +13,7 @@ use dip_board::{Board, Season};
 use dip_decide::resolve;
 use dip_map::Map;
 use dip_orders::{Orders, PlacedOrder, each_unit_has_one_order};
+use dip_outcomes::{moved_board, movement_lines, without_destroyed};
 use std::alloc::{AllocError, Global};
 
 /// The board that a movement leaves, and what is told of it.

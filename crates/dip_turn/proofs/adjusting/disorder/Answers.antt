@@ -1,7 +1,7 @@
 use Rattle.std.proofs.Common.{arith, ◌≡◌, ◌∙◌, ap}
 use Rattle.dip_chart.specs.Charts.{no_realm}
 use Rattle.dip_turn.specs.Adjusting.{disorder_of}
-use Rattle.dip_turn.proofs.ListLemmas.{flat_step}
+use Rattle.dip_outcomes.proofs.ListLemmas.{flat_step}
 use Rattle.dip_turn.proofs.adjusting.disorder.Goals as goal
 
 pub loop-index-preserved : goal.loop-index-preserved

@@ -1,6 +1,6 @@
 use Rattle.std.proofs.Common.{◌≡◌, ◌++◌, drop, flat_map}
 use Rattle.dip_turn.specs.Adjusting.{disorder_of}
-use Rattle.dip_turn.specs.Indices.{indices_from}
+use Rattle.dip_outcomes.specs.Indices.{indices_from}
 use Rattle.dip_turn.proofs.adjusting.disorder.Given as goal
 
 abbrev pub invariant-loop-index : goal.invariant-loop-index

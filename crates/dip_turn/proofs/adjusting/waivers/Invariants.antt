@@ -1,7 +1,7 @@
 use Rattle.std.proofs.Common.{◌≡◌, ◌++◌, drop}
 use Rattle.std.specs.List.{filter_map}
 use Rattle.dip_turn.specs.Adjusting.{waiver}
-use Rattle.dip_turn.specs.Indices.{indices_from}
+use Rattle.dip_outcomes.specs.Indices.{indices_from}
 use Rattle.dip_turn.proofs.adjusting.waivers.Given as goal
 
 abbrev pub invariant-loop-index : goal.invariant-loop-index

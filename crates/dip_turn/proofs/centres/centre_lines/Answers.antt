@@ -1,7 +1,7 @@
 use Rattle.std.proofs.Common.{arith, ◌≡◌, ap, sym, ◌∙◌}
 use Rattle.dip_chart.specs.Charts.{no_province}
 use Rattle.dip_turn.specs.Centres.{centre_line}
-use Rattle.dip_turn.proofs.ListLemmas.{found_step, skipped_step}
+use Rattle.dip_outcomes.proofs.ListLemmas.{found_step, skipped_step}
 use Rattle.dip_turn.proofs.centres.centre_lines.Goals as goal
 use Rattle.dip_turn.proofs.centres.centre_lines.Goals.{in-Some+in_ok-push, in_default}
 

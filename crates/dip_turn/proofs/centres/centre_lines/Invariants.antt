@@ -1,7 +1,7 @@
 use Rattle.std.proofs.Common.{◌≡◌, ◌++◌, drop}
 use Rattle.std.specs.List.{filter_map}
 use Rattle.dip_turn.specs.Centres.{centre_line}
-use Rattle.dip_turn.specs.Indices.{indices_from}
+use Rattle.dip_outcomes.specs.Indices.{indices_from}
 use Rattle.dip_turn.proofs.centres.centre_lines.Given as goal
 
 abbrev pub invariant-loop-index : goal.invariant-loop-index

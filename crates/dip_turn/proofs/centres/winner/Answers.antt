@@ -1,7 +1,7 @@
 use Rattle.std.proofs.Common.{arith, ◌≡◌, true, false, Some, ◌∙◌, sym, ap}
 use Rattle.dip_chart.specs.Charts.{no_realm}
 use Rattle.dip_turn.specs.Centres.{has_won}
-use Rattle.dip_turn.proofs.ListLemmas.{find_here, find_step}
+use Rattle.dip_outcomes.proofs.ListLemmas.{find_here, find_step}
 use Rattle.dip_turn.proofs.centres.winner.Goals as goal
 
 pub loop-index-preserved : goal.loop-index-preserved

@@ -1,5 +1,5 @@
 use Rattle.std.proofs.Common.{◌≡◌, drop, find}
-use Rattle.dip_turn.specs.Indices.{indices_from}
+use Rattle.dip_outcomes.specs.Indices.{indices_from}
 use Rattle.dip_turn.specs.Centres.{has_won}
 use Rattle.dip_turn.proofs.centres.winner.Given as goal
 

@@ -1,6 +1,6 @@
 use Rattle.std.proofs.Common.{◌≡◌, drop}
 use Rattle.std.specs.List.{list_any}
-use Rattle.dip_turn.specs.Indices.{indices_from}
+use Rattle.dip_outcomes.specs.Indices.{indices_from}
 use Rattle.dip_turn.specs.Phases.{is_uneven}
 use Rattle.dip_turn.proofs.phases.needs_adjustment.Given as goal
 

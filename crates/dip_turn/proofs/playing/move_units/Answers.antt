@@ -2,8 +2,8 @@ use Rattle.std.proofs.Common.{◌≡◌, List, ap, ◌∙◌}
 use Rattle.dip_board.specs.Boards.{Position}
 use Rattle.dip_orders.specs.declared.placed.PlacedOrder.{PlacedOrder}
 use Rattle.dip_decide.specs.Results.{values_in}
-use Rattle.dip_turn.specs.Moving.{moved_board, without_destroyed}
-use Rattle.dip_turn.specs.Outcomes.{lines_on}
+use Rattle.dip_outcomes.specs.Moving.{moved_board, without_destroyed}
+use Rattle.dip_outcomes.specs.Outcomes.{lines_on}
 use Rattle.dip_turn.proofs.playing.move_units.Goals as goal
 
 pub returns : goal.returns

@@ -1,0 +1,7 @@
+pub mod ListLemmas
+pub mod OrderLemmas
+pub mod MovingLemmas
+pub mod ApartLemmas
+pub mod ToldLemmas
+pub mod KeptLemmas
+pub mod StandoffLemmas

@@ -1,0 +1,4 @@
+pub mod Indices
+pub mod Moving
+pub mod Outcomes
+pub mod Laws

@@ -1,0 +1,5 @@
+//! Phases, by whole games.
+mod compare;
+mod dice;
+mod draws;
+mod games;

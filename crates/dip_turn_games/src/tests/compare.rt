@@ -1,0 +1,23 @@
+//! A phase compared with the plain program.
+use dip_board::Board;
+use dip_map::Map;
+use dip_orders::PlacedOrder;
+use dip_plain_turn::Mismatch;
+use dip_turn::Report;
+use std::alloc::{AllocError, Global};
+use std::process::Abort;
+
+/// Adjudicates the phase of a board as the plain program does.
+pub(crate) fn compare(
+    rt: &impl Abort,
+    alloc: Global,
+    map: &Map,
+    board: Board,
+    pending: &[PlacedOrder],
+) -> Result<(Board, Report), AllocError> {
+    match dip_plain_turn::compare(alloc, map, board, pending) {
+        Ok(played) => Ok(played),
+        Err(Mismatch::Memory(error)) => Err(error),
+        Err(Mismatch::Differs(what)) => panic!(rt; "they differ in {what}"),
+    }
+}

@@ -11,6 +11,7 @@ pub mod Others
 pub mod Stranging
 pub mod ListLemmas
 pub mod LawfulOrders
+pub mod Handing
 pub mod LawfulStates
 pub mod Repeating
 pub mod RepeatingLater

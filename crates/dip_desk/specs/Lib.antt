@@ -13,6 +13,7 @@ pub mod Ordering
 pub mod OrderingRows
 pub mod View
 pub mod Lawful
+pub mod Handing
 pub mod Running
 pub mod Repeats
 pub mod Strangers

@@ -7,8 +7,8 @@ use Rattle.std.specs.String.{string_eq}
 use Rattle.indexmap.specs.IndexMap.{insert_entry, set_value_at}
 use Rattle.indexmap.proofs.MapLemmas.{Found-position}
 use Rattle.std.proofs.lemmas.Slice.Eq.{bytes_eq-Decides}
-use Rattle.dip_desk.specs.Keyed.{at, change_at}
-use Rattle.dip_desk.specs.State as s
+use Rattle.dip_machine.specs.Keyed.{at, change_at}
+use Rattle.dip_machine.specs.State as s
 use Rattle.dip_desk.specs.Stored as stored
 use Rattle.dip_desk.specs.declared.memory.GameRow.{GameRow}
 

@@ -2,10 +2,10 @@
 use Rattle.std.proofs.Common.{inl, inr, Result, Ok, ap, subst, ◌∙◌}
 use Rattle.std.proofs.lemmas.Result.{IfOk-weaker, on_err_weaker, on_ok_weaker}
 use Rattle.dip_chart.specs.Charts.{Chart}
-use Rattle.dip_desk.specs.Faults.{faults_after}
+use Rattle.dip_machine.specs.Faults.{faults_after}
 use Rattle.dip_desk.specs.Keeping.{Book, Keeps, Looks, Steps}
-use Rattle.dip_desk.specs.State.{State}
-use Rattle.dip_desk.specs.declared.keeper.KeepFault.{KeepFault}
+use Rattle.dip_machine.specs.State.{State}
+use Rattle.dip_machine.specs.declared.faults.KeepFault.{KeepFault}
 
 -- what is kept by a look and the call behind it
 pub keeps_then : {K X Y : Type 0} (m : Chart) (b : Book K) (old mid new : K) (x : X) (result : Result Y KeepFault)

@@ -3,11 +3,11 @@ use Rattle.std.proofs.Common.{◌≡◌, ℕ, Bool, true, false, cond, List, Opt
 use Rattle.std.specs.Prelude.{option_and_then}
 use Rattle.dip_chart.specs.Charts.{Chart, power_of}
 use Rattle.dip_records.specs.Records.{Own, Reply}
-use Rattle.dip_desk.specs.Machine.{DecidedBy, Decides, IsDamagedBy, IsForeign, IsForeignSight, IsForeignTo, MayBeDamaged, Settles, Step, after, OfMaster, OfNobody, OfSeat, Sight, Verdict, NotKnown, Again, OutOfTurn, Taken, author, author_of, digest, master_author, master_sight, power_author, power_sight, seat_author, seat_sight, seen_in, sight_of, verdict_by, verdict_on}
-use Rattle.dip_desk.specs.Mail.{Mail}
-use Rattle.dip_desk.specs.State.{Author, Effect, Game, Nobody, Nothing, Pending, Votes, Delivers, Opens, Publishes, Seats, Seat, State, TheMaster, game_at, own_of, seat_at}
+use Rattle.dip_machine.specs.Machine.{DecidedBy, Decides, IsDamagedBy, IsForeign, IsForeignSight, IsForeignTo, MayBeDamaged, Settles, Step, after, OfMaster, OfNobody, OfSeat, Sight, Verdict, NotKnown, Again, OutOfTurn, Taken, author, author_of, digest, master_author, master_sight, power_author, power_sight, seat_author, seat_sight, seen_in, sight_of, verdict_by, verdict_on}
+use Rattle.dip_machine.specs.Mail.{Mail}
+use Rattle.dip_machine.specs.State.{Author, Effect, Game, Nobody, Nothing, Pending, Votes, Delivers, Opens, Publishes, Seats, Seat, State, TheMaster, game_at, own_of, seat_at}
 use Rattle.dip_desk.specs.Fitting.{FitsGame, VerdictFits}
-use Rattle.dip_desk.proofs.Suiting.{IsFitting, VerdictSuits, decides_suits, opens_where}
+use Rattle.dip_machine.proofs.Suiting.{IsFitting, VerdictSuits, decides_suits, opens_where}
 
 -- a sight is the author's, and what is decided by it is what may be decided
 abbrev pub IsRight : Chart → Mail → State → Author → Sight → Type 0

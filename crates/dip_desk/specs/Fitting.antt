@@ -1,8 +1,8 @@
 -- What a keeper may be asked to keep.
 use Rattle.std.specs.Prelude.{◌≡◌, List, ℕ, Option, None}
-use Rattle.dip_desk.specs.Machine.{Verdict, NotKnown, Again, OutOfTurn, Taken}
-use Rattle.dip_desk.specs.Mail.{Mail}
-use Rattle.dip_desk.specs.State.{Change, Effect, Game, Nothing, Pending, Votes, Delivers, Opens, Publishes, Seats, State, game_at}
+use Rattle.dip_machine.specs.Machine.{Verdict, NotKnown, Again, OutOfTurn, Taken}
+use Rattle.dip_machine.specs.Mail.{Mail}
+use Rattle.dip_machine.specs.State.{Change, Effect, Game, Nothing, Pending, Votes, Delivers, Opens, Publishes, Seats, State, game_at}
 
 -- an effect that fits what a state has of the game that it names: a new game has that name, and there is none of it yet
 abbrev pub FitsGame : List ℕ → Effect → Option Game → Type 0

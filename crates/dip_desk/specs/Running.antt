@@ -3,15 +3,15 @@ use Rattle.std.specs.Prelude.{◌≡◌, ℕ, List, Contains, Result, OnOk, IfOk
 use Rattle.std.specs.List.{AllByRecursion}
 use Rattle.dip_chart.specs.Charts.{Chart}
 use Rattle.dip_records.specs.Records.{Reply}
-use Rattle.dip_desk.specs.Faults.{faults_after_run}
+use Rattle.dip_machine.specs.Faults.{faults_after_run}
 use Rattle.dip_desk.specs.Keeping.{Book}
-use Rattle.dip_desk.specs.Lawful.{IsLawful}
-use Rattle.dip_desk.specs.Machine.{IsDamagedBy}
-use Rattle.dip_desk.specs.Mail.{IsMail, Mail}
-use Rattle.dip_desk.specs.State.{State}
-use Rattle.dip_desk.specs.View.{IsHistory, IsSettledByView, Turn}
-use Rattle.dip_desk.specs.declared.keeper.KeepFault.{KeepFault}
-use Rattle.dip_desk.specs.declared.keeper.KeepFault.TheVariants.{Damaged}
+use Rattle.dip_machine.specs.Lawful.{IsLawful}
+use Rattle.dip_machine.specs.Machine.{IsDamagedBy}
+use Rattle.dip_machine.specs.Mail.{IsMail, Mail}
+use Rattle.dip_machine.specs.State.{State}
+use Rattle.dip_machine.specs.View.{IsHistory, IsSettledByView, Turn}
+use Rattle.dip_machine.specs.declared.faults.KeepFault.{KeepFault}
+use Rattle.dip_machine.specs.declared.faults.KeepFault.TheVariants.{Damaged}
 
 -- the replies are those of a history of the machine over the letters, and each seat's view settles what it is told
 abbrev pub Answers : Chart → State → List Mail → List Reply → State → Type 0

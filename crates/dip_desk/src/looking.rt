@@ -1,44 +1,18 @@
-//! What the author of a letter sees: all that the letter is decided by.
+//! Looking up what the author of a letter sees.
 ghost use Rattle.std.specs.Prelude.{◌≡◌, ◌<◌, bytes_eq};
 ghost use Rattle.dip_desk.specs.Keeping.{Looks};
-ghost use Rattle.dip_desk.specs.Machine.{author_of, digest, master_sight, power_sight, sight_of};
-ghost use Rattle.dip_desk.specs.Mail.{mail};
-ghost use Rattle.dip_desk.specs.Rows as desk_rows;
-ghost use Rattle.dip_desk.specs.Sights as sights;
+ghost use Rattle.dip_machine.specs.Machine.{digest, master_sight, power_sight, sight_of};
+ghost use Rattle.dip_machine.specs.Mail.{mail};
+ghost use Rattle.dip_machine.specs.Rows as desk_rows;
+ghost use Rattle.dip_machine.specs.Sights as sights;
 ghost use Rattle.dip_chart.specs.Charts.{Chart};
 ghost use Rattle.std.specs.Prelude.{Some, length};
 
-use crate::keeper::{Author, Desk, KeepFault, Keeper};
-use dip_letters::{Letter, digest};
+use crate::keeper::Keeper;
+use dip_letters::Letter;
+use dip_machine::{Desk, KeepFault, Sight, digest_of};
 use dip_map::Map;
 use dip_names::Power;
-use dip_records::{Kept, Own, Public};
-
-/// What the author of a letter sees.
-#[derive(Drop)]
-pub enum Sight {
-    /// Nobody is the author.
-    Nobody,
-    /// The master: its last letter, and whether there is a game of this letter's name.
-    Master {
-        kept: Option<Kept>,
-        is_there: bool,
-    },
-    /// The seat of a power: the public part of its game, and its own part.
-    Seat {
-        power: Power,
-        public: Public,
-        own: Own,
-    },
-}
-
-/// The digest of a secret.
-#[tactic(auto, unfolding(crate::specs::Machine::digest))]
-pub fn digest_of(game: &str, sender: &str, secret: &str) -> [u8; 32]
-    ensures { result ≡ digest game.now sender.now secret.now }
-{
-    digest(game, sender, secret)
-}
 
 /// Whether the letter's secret has this digest.
 fn opens(letter: &Letter<'_>, game: &str, sender: &str, kept: &[u8; 32]) -> bool
@@ -118,16 +92,5 @@ pub fn look<K: Keeper>(keeper: &mut K, map: &Map, letter: &Letter<'_>) -> Result
     match map.power(letter.sender) {
         None => Ok(Sight::Nobody),
         Some(power) => look_as_seat(keeper, map, letter, power),
-    }
-}
-
-/// Whose sight it is.
-pub fn author_of(sight: &Sight) -> Author
-    ensures { desk_rows.author result ≡ author_of (sights.sight sight.now) }
-{
-    match sight {
-        Sight::Nobody => Author::Nobody,
-        Sight::Master { .. } => Author::TheMaster,
-        Sight::Seat { power, .. } => Author::Seat(*power),
     }
 }

@@ -1,15 +1,16 @@
 //! A keeper in memory.
 ghost use Rattle.std.specs.Prelude.{◌≡◌, [], ◌∷◌, ◌++◌, ◌==◌, ℕ, List, None, IfOk, IsErrOf, OnErr, OnOk, bytes_eq, map as each, option_and_then, option_map, string_bytes};
-ghost use Rattle.dip_desk.specs.Faults.{faults_after};
+ghost use Rattle.dip_machine.specs.Faults.{faults_after};
 ghost use Rattle.dip_desk.specs.Fitting.{FitsGame};
-ghost use Rattle.dip_desk.specs.Keyed.{at, change_at, place};
-ghost use Rattle.dip_desk.specs.State as s;
-ghost use Rattle.dip_desk.specs.Rows as desk_rows;
+ghost use Rattle.dip_machine.specs.Keyed.{at, change_at, place};
+ghost use Rattle.dip_machine.specs.State as s;
+ghost use Rattle.dip_machine.specs.Rows as desk_rows;
 ghost use Rattle.dip_records.specs.Rows as rows;
 ghost use Rattle.dip_desk.specs.Stored as stored;
 
-use crate::keeper::{Author, Change, Desk, Effect, KeepFault, Keeper, NewSeat};
+use crate::keeper::Keeper;
 use dip_board::Board;
+use dip_machine::{Author, Change, Desk, Effect, KeepFault, NewSeat};
 use dip_map::Map;
 use dip_names::Power;
 use dip_records::{Kept, Own, Public, Standing, Status};
@@ -402,8 +403,8 @@ fn record_desk(desk: &mut Desk, last: Option<Kept>)
 }
 
 impl MemoryKeeper {
-    ghost use Rattle.dip_desk.specs.Lawful.{IsLawful};
-    ghost use Rattle.dip_desk.specs.State.{State};
+    ghost use Rattle.dip_machine.specs.Lawful.{IsLawful};
+    ghost use Rattle.dip_machine.specs.State.{State};
     ghost use Rattle.dip_chart.specs.Charts.{Chart};
 
     /// An empty desk whose master's secret has this digest.

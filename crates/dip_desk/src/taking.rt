@@ -2,20 +2,20 @@
 ghost use Rattle.std.specs.Prelude.{◌≡◌, ◌<◌, IfOk, None, Some, map as each, string_bytes};
 ghost use Rattle.dip_desk.specs.Fitting.{VerdictFits};
 ghost use Rattle.dip_desk.specs.Keeping.{Steps};
-ghost use Rattle.dip_desk.specs.Mail.{mail};
-ghost use Rattle.dip_desk.specs.Machine as m;
-ghost use Rattle.dip_desk.specs.Rows as desk_rows;
+ghost use Rattle.dip_machine.specs.Mail.{mail};
+ghost use Rattle.dip_machine.specs.Machine as m;
+ghost use Rattle.dip_machine.specs.Rows as desk_rows;
 ghost use Rattle.dip_desk.specs.Running.{Runs};
-ghost use Rattle.dip_desk.specs.Verdicts.{verdict};
+ghost use Rattle.dip_machine.specs.Verdicts.{verdict};
 ghost use Rattle.dip_records.specs.Rows as rows;
 ghost use Rattle.dip_reports.specs.Texts.{refusal_line};
 
-use crate::deciding::verdict_on;
-use crate::keeper::{Author, Change, Effect, KeepFault, Keeper};
-use crate::laws::lawful_states_stay_lawful;
-use crate::looking::{author_of, look};
-use crate::verdicts::Verdict;
+use crate::keeper::Keeper;
+use crate::looking::look;
 use dip_letters::{Letter, LetterFault, sum};
+use dip_machine::{
+    Author, Change, Effect, KeepFault, Verdict, author_of, lawful_states_stay_lawful, verdict_on,
+};
 use dip_map::Map;
 use dip_records::{Head, Kept, Outcome, Reply};
 use dip_reports::{Refusal, refusal_line};
@@ -46,7 +46,7 @@ fn not_known(alloc: Global) -> Result<Reply, AllocError>
 }
 
 /// The reply to a letter that changes nothing.
-fn told(
+fn reply_with(
     alloc: Global,
     letter: &Letter<'_>,
     outcome: Outcome,
@@ -111,8 +111,8 @@ fn settle<K: Keeper>(
 {
     match decided {
         Verdict::NotKnown => Ok(not_known(alloc)?),
-        Verdict::Again(text) => Ok(told(alloc, letter, Outcome::Done, text)?),
-        Verdict::OutOfTurn(text) => Ok(told(alloc, letter, Outcome::OutOfTurn, text)?),
+        Verdict::Again(text) => Ok(reply_with(alloc, letter, Outcome::Done, text)?),
+        Verdict::OutOfTurn(text) => Ok(reply_with(alloc, letter, Outcome::OutOfTurn, text)?),
         Verdict::Taken(text, effect) => {
             let head = Some(head_of(alloc, letter)?);
             let change = change_of(alloc, letter, author, text, effect)?;

@@ -8,12 +8,12 @@ use Rattle.dip_letters.specs.Input.{IsNext}
 use Rattle.dip_letters.specs.declared.letters.Next.{Next}
 use Rattle.dip_letters.specs.declared.letters.Next.TheVariants.{Taken, Fault, End}
 use Rattle.dip_chart.specs.Charts.{Chart}
-use Rattle.dip_desk.specs.Machine.{fault_reply}
-use Rattle.dip_desk.specs.Mail.{Mail, mail}
+use Rattle.dip_machine.specs.Machine.{fault_reply}
+use Rattle.dip_machine.specs.Mail.{Mail, mail}
 use Rattle.dip_desk.specs.Running.{Answers}
-use Rattle.dip_desk.specs.State.{State}
-use Rattle.dip_desk.specs.View.{IsHistory, Turn}
-use Rattle.dip_desk.proofs.Runs.{history_more, settled}
+use Rattle.dip_machine.specs.State.{State}
+use Rattle.dip_machine.specs.View.{IsHistory, Turn}
+use Rattle.dip_machine.proofs.Histories.{history_more, settled}
 use Rattle.dip_reports.specs.Texts.{reply_text}
 use Rattle.dip_records.specs.Records.{Reply}
 use Rattle.dip_judge.specs.RunFaults.{IsTakingFault}

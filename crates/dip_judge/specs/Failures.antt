@@ -1,6 +1,6 @@
 -- What the program tells whoever started it.
 use Rattle.std.specs.Prelude.{ℕ, List, ◌++◌, Option, None, Some, IsSome, codes}
-use Rattle.dip_desk.specs.Faults.{keep_fault_name}
+use Rattle.dip_machine.specs.Faults.{keep_fault_name}
 use Rattle.dip_names.specs.Faults.{fault_name}
 use Rattle.std.specs.declared.io.ErrorKind.{ErrorKind}
 use Rattle.std.specs.declared.io.ErrorKind.TheVariants.{OutOfMemory}

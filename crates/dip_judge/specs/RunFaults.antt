@@ -1,6 +1,6 @@
 -- Which faults a call may answer.
 use Rattle.std.specs.Prelude.{ℕ, List, Option, ◌+◌, ◌<◌, ◌⊎◌, IfSome, Result, Err, length}
-use Rattle.dip_desk.specs.declared.keeper.KeepFault.TheVariants.{Disk}
+use Rattle.dip_machine.specs.declared.faults.KeepFault.TheVariants.{Disk}
 use Rattle.dip_judge.specs.Runs.{IsReadToEnd, IsUntouched}
 use Rattle.dip_judge.specs.declared.run.RunFault.{RunFault}
 use Rattle.dip_judge.specs.declared.run.RunFault.TheVariants.{Read, TooLong, Write, Memory, Keep}

@@ -3,13 +3,13 @@ use Rattle.std.specs.Prelude.{◌≡◌, ℕ, List, [], ◌∷◌, ◌++◌, Opt
 use Rattle.std.specs.List.{flat_map}
 use Rattle.std.specs.Io.KnownBytes.{Appends}
 use Rattle.dip_letters.specs.Input.{IsNext}
-use Rattle.dip_desk.specs.Mail.{Mail, mail}
+use Rattle.dip_machine.specs.Mail.{Mail, mail}
 use Rattle.dip_desk.specs.Running.{Answers}
 use Rattle.dip_letters.specs.declared.letters.Next.{Next}
 use Rattle.dip_letters.specs.declared.letters.Next.TheVariants.{Taken, Fault, End}
-use Rattle.dip_desk.specs.Machine.{Step, fault_reply}
+use Rattle.dip_machine.specs.Machine.{Step, fault_reply}
 use Rattle.dip_chart.specs.Charts.{Chart}
-use Rattle.dip_desk.specs.State.{State}
+use Rattle.dip_machine.specs.State.{State}
 use Rattle.dip_reports.specs.Texts.{reply_text}
 use Rattle.dip_records.specs.Records.{Reply}
 use Rattle.dip_judge.specs.Reading.{IsReadWithin}

@@ -3,7 +3,7 @@ ghost use Rattle.std.specs.Prelude.{◌≡◌, ◌<◌, ◌⊎◌, ℕ, List, If
 ghost use Rattle.std.specs.List.{flat_map};
 ghost use Rattle.std.specs.Io.KnownBytes.{Appends};
 ghost use Rattle.dip_letters.specs.Input.{IsNext};
-ghost use Rattle.dip_desk.specs.Lawful.{IsLawful};
+ghost use Rattle.dip_machine.specs.Lawful.{IsLawful};
 ghost use Rattle.dip_reports.specs.Texts.{reply_text};
 ghost use Rattle.dip_records.specs.Rows as rows;
 ghost use Rattle.dip_judge.specs.Failures.{run_name};
@@ -11,8 +11,9 @@ ghost use Rattle.dip_judge.specs.Runs.{AnswersAll, IsReadToEnd, IsReadWhole, IsT
 ghost use Rattle.dip_judge.specs.RunFaults.{IsAnsweringFault, IsReadingFault, IsTakingFault, StopsBy, faults_after_run};
 
 use crate::reading::{ReadFault, read_whole};
-use dip_desk::{KeepFault, Keeper, fault_reply, lawful_states_stay_lawful, take};
+use dip_desk::{Keeper, fault_reply, take};
 use dip_letters::{Next, next_letter};
+use dip_machine::{KeepFault, lawful_states_stay_lawful};
 use dip_map::Map;
 use dip_records::Reply;
 use dip_reports::{reply_pieces, reply_text};

@@ -4,7 +4,7 @@ use crate::args::{UsageFault, read_args};
 use crate::map_file::FileFault;
 use crate::reading::ReadFault;
 use crate::run::RunFault;
-use dip_desk::KeepFault;
+use dip_machine::KeepFault;
 use dip_names::MapFault;
 use std::alloc::{AllocError, Global};
 use std::process::Abort;

@@ -1,5 +1,5 @@
-use Rattle.std.proofs.Common.{◌≡◌, ap, ◌∙◌, List, map, Option, option_and_then}
-use Rattle.dip_desk.specs.State as s
+use Rattle.std.proofs.Common.{ap, ◌∙◌, List, map, Option, option_and_then}
+use Rattle.dip_machine.specs.State as s
 use Rattle.dip_desk.specs.Stored as stored
 use Rattle.dip_records.specs.declared.records.Own.{Own}
 use Rattle.dip_desk.proofs.memory.find_own.Goals as goal

@@ -1,6 +1,6 @@
 use Rattle.dip_desk.specs.Stored as stored
 use Rattle.dip_records.specs.Rows as rows
-use Rattle.dip_desk.proofs.GameLemmas.{by_others, by_seat}
+use Rattle.dip_machine.proofs.GameLemmas.{by_others, by_seat}
 use Rattle.dip_desk.proofs.memory.record_row.Goals as goal
 
 pub returns-in-Seat : goal.returns-in-Seat

@@ -1,15 +1,15 @@
 use Rattle.std.proofs.Common.{◌≡◌, ℕ, refl, [], ◌∷◌, ◌++◌, map, take, get_or, Err, arith, sym, ap, subst, ◌∙◌}
 use Rattle.std.proofs.lemmas.List.{take_all, take-map}
-use Rattle.dip_desk.specs.Faults.{faults_with}
-use Rattle.dip_desk.specs.Lawful.{IsLawful}
-use Rattle.dip_desk.specs.Machine.{IsDamagedBy}
-use Rattle.dip_desk.specs.Mail.{IsMail, mail}
+use Rattle.dip_machine.specs.Faults.{faults_with}
+use Rattle.dip_machine.specs.Lawful.{IsLawful}
+use Rattle.dip_machine.specs.Machine.{IsDamagedBy}
+use Rattle.dip_machine.specs.Mail.{IsMail, mail}
 use Rattle.dip_desk.specs.Running.{Answers}
-use Rattle.dip_desk.specs.State.{State}
-use Rattle.dip_desk.specs.declared.keeper.KeepFault.{KeepFault}
+use Rattle.dip_machine.specs.State.{State}
+use Rattle.dip_machine.specs.declared.faults.KeepFault.{KeepFault}
 use Rattle.dip_records.specs.Rows as rows
 use Rattle.dip_desk.proofs.Keepings.{keeps_as, keeps_then}
-use Rattle.dip_desk.proofs.Runs.{contains_said, history_more, map_more, said_each, settled, taken_more}
+use Rattle.dip_machine.proofs.Histories.{contains_said, history_more, map_more, said_each, settled, taken_more}
 use Rattle.dip_desk.proofs.taking.run.Goals as goal
 
 pub loop-letter-preserved : goal.loop-letter-preserved

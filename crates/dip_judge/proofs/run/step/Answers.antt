@@ -1,7 +1,7 @@
 use Rattle.std.proofs.Common.{◌≡◌, Err, ap}
-use Rattle.dip_desk.specs.Mail.{mail}
-use Rattle.dip_desk.specs.declared.keeper.KeepFault.{KeepFault}
-use Rattle.dip_desk.specs.declared.keeper.KeepFault.TheVariants.{Damaged}
+use Rattle.dip_machine.specs.Mail.{mail}
+use Rattle.dip_machine.specs.declared.faults.KeepFault.{KeepFault}
+use Rattle.dip_machine.specs.declared.faults.KeepFault.TheVariants.{Damaged}
 use Rattle.dip_judge.proofs.run.step.Goals as goal
 
 pub returns-in-Ok-take-clause-lawful : goal.returns-in-Ok-take-clause-lawful

@@ -1,0 +1,17 @@
+pub mod KeyedLemmas
+pub mod NumberLemmas
+pub mod Counting
+pub mod SeatLemmas
+pub mod OrderingLemmas
+pub mod Suiting
+pub mod Seeing
+pub mod Others
+pub mod Stranging
+pub mod ListLemmas
+pub mod LawfulOrders
+pub mod Handing
+pub mod LawfulStates
+pub mod Histories
+pub mod Repeating
+pub mod RepeatingLater
+pub mod GameLemmas

@@ -1,0 +1,250 @@
+-- A letter that comes twice acts once.
+use Rattle.std.proofs.Common.{◌≡◌, ℕ, ◌<◌, ◌==◌, Bool, true, false, cond, List, refl, sym, ap, subst, ◌∙◌, arith, Option, Some, None, option_map, unwrap_or, nat_lt, bytes_eq, codes}
+use Rattle.std.specs.Prelude.{option_and_then}
+use Rattle.std.proofs.lemmas.Bool.{eq-eqb, ltb-true}
+use Rattle.dip_letters.specs.Notes.{Request}
+use Rattle.dip_letters.specs.Notes.Request.{Create, Orders, Show}
+use Rattle.dip_chart.specs.Charts.{Chart, power_of}
+use Rattle.dip_records.specs.Records.{Own, Kept, Reply}
+use Rattle.dip_reports.specs.declared.refusals.Refusal.TheVariants.{NumberUsed, Stale, WrongSender}
+use Rattle.dip_machine.specs.Machine.{Decides, MasterDecides, change_of, NumberedBy, Step, Verdict, NotKnown, Again, OutOfTurn, Taken, after, author, creation, digest, kept_of, master_author, new_seats, old_number, opening_public, power_author, refusal_verdict, repeat_verdict, reply_of, seat_author, seat_command, seen_in, verdict_by, verdict_on}
+use Rattle.dip_reports.specs.Texts.{refusal_line}
+use Rattle.dip_machine.specs.Mail.{Mail}
+use Rattle.dip_machine.specs.Repeats.{ActsOnce}
+use Rattle.dip_machine.specs.State.{State, Game, Part, Author, Nobody, TheMaster, Seat, Effect, Nothing, Pending, Votes, Delivers, Opens, Publishes, Seats, game_after, game_at, own_at, own_of, public_after, seat_at, with_effect, with_letter}
+use Rattle.dip_machine.proofs.KeyedLemmas.{names_tell}
+use Rattle.dip_machine.proofs.Seeing.{author_part, game_behind, seat_behind}
+use Rattle.dip_machine.proofs.Suiting.{Comes, decides_suits, seat_where}
+
+numbered_one : (o : Option Verdict) (w a b : Verdict) → NumberedBy o (λ v. v ≡ w) a → NumberedBy o (λ v. v ≡ w) b → a ≡ b
+numbered_one None w a b x y = x ∙ sym y
+numbered_one (Some old) w a b x y = x ∙ sym y
+
+-- the machine decides a letter in one way
+pub decides_one : (m : Chart) (s : State) (n : Mail) (who : Author) (v w : Verdict) → Decides m s n who v → Decides m s n who w → v ≡ w
+decides_one m s n Nobody v w d e = d ∙ sym e
+decides_one m s n (Seat p) v w d e = d ∙ sym e
+decides_one m s n TheMaster v w d e = go n.note.command (game_at n.note.game s) d e
+  where
+    go : (command : Request) (game : Option Game) → MasterDecides m n s.desk.kept command game v → MasterDecides m n s.desk.kept command game w → v ≡ w
+    go (Create due period grey seats) game x y =
+        numbered_one (old_number n s.desk.kept) (creation m (opening_public m n.note.game due period grey) (new_seats m n.note.game seats) game) v w x y
+    go (Orders lines) None x y = x ∙ sym y
+    go (Orders lines) (Some g) x y = numbered_one (old_number n s.desk.kept) (refusal_verdict WrongSender) v w x y
+    go Show None x y = x ∙ sym y
+    go Show (Some g) x y = numbered_one (old_number n s.desk.kept) (refusal_verdict WrongSender) v w x y
+
+not_below : (a : ℕ) → nat_lt a a ≡ false
+not_below a = go (nat_lt a a) refl
+  where
+    go : (b : Bool) → nat_lt a a ≡ b → b ≡ false
+    go true is = let lt : a < a = ltb-true a a is in absurd (omega (arith, lt))
+    go false is = refl
+
+-- the number that was just kept, of the same letter
+number_again : (n : Mail) (text : List ℕ) → old_number n (Some (kept_of n text)) ≡ Some (Again text)
+number_again n text =
+    ap (λ (b : Bool). cond b (Some (OutOfTurn (refusal_line (Stale n.note.number)))) (cond (n.note.number == n.note.number) (Some (repeat_verdict n (kept_of n text))) None)) (not_below n.note.number)
+    ∙ ap (λ (b : Bool). cond b (Some (repeat_verdict n (kept_of n text))) None) (eq-eqb n.note.number n.note.number refl)
+    ∙ ap (λ (b : Bool). Some (cond b (Again text) (OutOfTurn (refusal_line (NumberUsed n.note.number))))) (names_tell.self n.sum)
+
+-- an author is told by digests alone
+
+abbrev pub digest_of : Option Own → Option (List ℕ)
+digest_of o = option_map (λ x. x.digest) o
+
+seat_author_same : (n : Mail) (power : ℕ) (a b : Option Own) → digest_of a ≡ digest_of b → seat_author n power a ≡ seat_author n power b
+seat_author_same n power None None e = refl
+seat_author_same n power None (Some b) e = absurd (cc)
+seat_author_same n power (Some a) None e = absurd (cc)
+seat_author_same n power (Some a) (Some b) e =
+    let same : a.digest ≡ b.digest = cc in
+    ap (λ (x : List ℕ). cond (bytes_eq (digest n.note.game n.note.sender n.note.secret) x) (Seat power) Nobody) same
+
+no_seat : (b : Bool) (p : ℕ) → cond b TheMaster Nobody ≡ Seat p → ⊥
+no_seat true p e = let bad : ◌≡◌ {A = Author} TheMaster (Seat p) = e in absurd (cc)
+no_seat false p e = let bad : ◌≡◌ {A = Author} Nobody (Seat p) = e in absurd (cc)
+
+no_master : (n : Mail) (power : ℕ) (o : Option Own) → seat_author n power o ≡ TheMaster → ⊥
+no_master n power None e = let bad : ◌≡◌ {A = Author} Nobody TheMaster = e in absurd (cc)
+no_master n power (Some o) e = go (bytes_eq (digest n.note.game n.note.sender n.note.secret) o.digest) e
+  where
+    go : (b : Bool) → cond b (Seat power) Nobody ≡ TheMaster → ⊥
+    go true e = let bad : ◌≡◌ {A = Author} (Seat power) TheMaster = e in absurd (cc)
+    go false e = let bad : ◌≡◌ {A = Author} Nobody TheMaster = e in absurd (cc)
+
+pub master_stays : (m : Chart) (n : Mail) (s t : State) → t.desk.digest ≡ s.desk.digest → author m n s ≡ TheMaster → author m n t ≡ TheMaster
+master_stays m n s t same is = go (bytes_eq n.note.sender (codes "master")) is
+  where
+    other : (power : Option ℕ) → power_author n power s ≡ TheMaster → ⊥
+    other None e = let bad : ◌≡◌ {A = Author} Nobody TheMaster = e in absurd (cc)
+    other (Some power) e = no_master n power (own_at n.note.game power s) e
+
+    go : (b : Bool) → cond b (master_author n s) (power_author n (power_of m n.note.sender) s) ≡ TheMaster
+        → cond b (master_author n t) (power_author n (power_of m n.note.sender) t) ≡ TheMaster
+    go true e = ap (λ (d : List ℕ). cond (bytes_eq (digest (codes "desk") (codes "master") n.note.secret) d) TheMaster Nobody) same ∙ e
+    go false e = absurd (other (power_of m n.note.sender) e)
+
+seat_stays : (m : Chart) (n : Mail) (p : ℕ) (s t : State) → ((q : ℕ) → digest_of (own_at n.note.game q t) ≡ digest_of (own_at n.note.game q s)) → author m n s ≡ Seat p → author m n t ≡ Seat p
+seat_stays m n p s t same is = go (bytes_eq n.note.sender (codes "master")) is
+  where
+    power : (q : Option ℕ) → power_author n q s ≡ Seat p → power_author n q t ≡ Seat p
+    power None e = e
+    power (Some q) e = seat_author_same n q (own_at n.note.game q t) (own_at n.note.game q s) (same q) ∙ e
+
+    go : (b : Bool) → cond b (master_author n s) (power_author n (power_of m n.note.sender) s) ≡ Seat p
+        → cond b (master_author n t) (power_author n (power_of m n.note.sender) t) ≡ Seat p
+    go true e = absurd (no_seat (bytes_eq (digest (codes "desk") (codes "master") n.note.secret) s.desk.digest) p e)
+    go false e = power (power_of m n.note.sender) e
+
+-- a seat behind a letter that gives no seat away has its digest
+letter_digest : (k : Kept) (e : Effect) (s : Part) → (with_letter k e s).own.digest ≡ s.own.digest
+letter_digest k Nothing s = refl
+letter_digest k (Pending orders) s = refl
+letter_digest k (Votes draw) s = refl
+letter_digest k (Delivers readers item) s = refl
+letter_digest k (Opens public paper seats) s = refl
+letter_digest k (Publishes public paper played) s = refl
+letter_digest k (Seats seat) s = refl
+
+seat_digest : (p : ℕ) (game : Option Game) (e : Effect) (s : Part) → Comes (Seat p) game e → (with_effect e s).own.digest ≡ s.own.digest
+seat_digest p None e s h = absurd h
+seat_digest p (Some g) Nothing s h = refl
+seat_digest p (Some g) (Pending orders) s h = refl
+seat_digest p (Some g) (Votes draw) s h = absurd h
+seat_digest p (Some g) (Delivers readers item) s h = absurd h
+seat_digest p (Some g) (Opens public paper seats) s h = absurd h
+seat_digest p (Some g) (Publishes public paper played) s h = absurd h
+seat_digest p (Some g) (Seats seat) s h = absurd h
+
+-- what is kept of a seat's letter
+letter_kept : (k : Kept) (e : Effect) (s : Part) → (with_letter k e s).own.kept ≡ Some k
+letter_kept k Nothing s = refl
+letter_kept k (Pending orders) s = refl
+letter_kept k (Votes draw) s = refl
+letter_kept k (Delivers readers item) s = refl
+letter_kept k (Opens public paper seats) s = refl
+letter_kept k (Publishes public paper played) s = refl
+letter_kept k (Seats seat) s = refl
+
+seat_kept : (p : ℕ) (game : Option Game) (e : Effect) (s : Part) → Comes (Seat p) game e → (with_effect e s).own.kept ≡ s.own.kept
+seat_kept p None e s h = absurd h
+seat_kept p (Some g) Nothing s h = refl
+seat_kept p (Some g) (Pending orders) s h = refl
+seat_kept p (Some g) (Votes draw) s h = absurd h
+seat_kept p (Some g) (Delivers readers item) s h = absurd h
+seat_kept p (Some g) (Opens public paper seats) s h = absurd h
+seat_kept p (Some g) (Publishes public paper played) s h = absurd h
+seat_kept p (Some g) (Seats seat) s h = absurd h
+
+-- a letter that a seat has sent leaves each seat its digest
+digests_stay : (s : State) (n : Mail) (p : ℕ) (text : List ℕ) (e : Effect) (g : Game) → Comes (Seat p) (game_at n.note.game s) e → game_at n.note.game s ≡ Some g → (q : ℕ)
+    → digest_of (own_at n.note.game q (after n (Seat p) (Taken text e) s)) ≡ digest_of (own_at n.note.game q s)
+digests_stay s n p text e g comes found q =
+    ap (λ (x : Option Game). digest_of (option_and_then (λ (y : Game). own_of (seat_at q y.seats)) x)) (game_behind (change_of n (Seat p) text e) s g found)
+    ∙ ap (λ (x : Option Part). digest_of (own_of x)) (seat_behind (change_of n (Seat p) text e) g q)
+    ∙ stay (seat_at q g.seats)
+    ∙ sym (ap (λ (x : Option Game). digest_of (option_and_then (λ (y : Game). own_of (seat_at q y.seats)) x)) found)
+  where
+    one : (b : Bool) (x : Part) → (cond b (with_letter (kept_of n text) e x) x).own.digest ≡ x.own.digest
+    one true x = letter_digest (kept_of n text) e x
+    one false x = refl
+
+    stay : (o : Option Part) → digest_of (own_of (option_map (with_effect e) (option_map (author_part (Seat p) (kept_of n text) e q) o))) ≡ digest_of (own_of o)
+    stay None = refl
+    stay (Some x) = ap (λ (d : List ℕ). Some d) (seat_digest p (game_at n.note.game s) e (author_part (Seat p) (kept_of n text) e q x) comes ∙ one (p == q) x)
+
+-- a seat's letter that was taken, decided again
+seat_again : (m : Chart) (s : State) (n : Mail) (p : ℕ) (text : List ℕ) (e : Effect) (g : Game) → Comes (Seat p) (game_at n.note.game s) e → game_at n.note.game s ≡ Some g
+    → Taken text e ≡ verdict_on m n (seen_in p (Some g)) → verdict_on m n (seen_in p (game_at n.note.game (after n (Seat p) (Taken text e) s))) ≡ Again text
+seat_again m s n p text e g comes found d =
+    ap (λ (x : Option Game). verdict_on m n (seen_in p x)) (game_behind (change_of n (Seat p) text e) s g found)
+    ∙ ap (λ (x : Option Part). verdict_by m n (Some (public_after e g.public)) (own_of x)) (seat_behind (change_of n (Seat p) text e) g p)
+    ∙ known (seat_at p g.seats) d
+  where
+    mine : (x : Part) → (with_effect e (author_part (Seat p) (kept_of n text) e p x)).own.kept ≡ Some (kept_of n text)
+    mine x =
+        seat_kept p (game_at n.note.game s) e (author_part (Seat p) (kept_of n text) e p x) comes
+        ∙ ap (λ (b : Bool). (cond b (with_letter (kept_of n text) e x) x).own.kept) (eq-eqb p p refl) ∙ letter_kept (kept_of n text) e x
+
+    known : (o : Option Part) → Taken text e ≡ verdict_by m n (Some g.public) (own_of o)
+        → verdict_by m n (Some (public_after e g.public)) (own_of (option_map (with_effect e) (option_map (author_part (Seat p) (kept_of n text) e p) o))) ≡ Again text
+    known None d = let bad : ◌≡◌ {A = Verdict} (Taken text e) NotKnown = d in absurd (cc)
+    known (Some x) d =
+        let o : Own = (with_effect e (author_part (Seat p) (kept_of n text) e p x)).own in
+        ap (λ (k : Option Kept). unwrap_or (old_number n k) (seat_command m n.note.command (public_after e g.public) o)) (mine x)
+        ∙ ap (λ (old : Option Verdict). unwrap_or old (seat_command m n.note.command (public_after e g.public) o)) (number_again n text)
+
+known_again : (n : Mail) (text : List ℕ) (New : Verdict → Type 0) → NumberedBy (old_number n (Some (kept_of n text))) New (Again text)
+known_again n text New = subst (λ (o : Option Verdict). NumberedBy o New (Again text)) (sym (number_again n text)) refl
+
+-- a letter of the master that was taken, decided again
+master_again : (m : Chart) (n : Mail) (k : Option Kept) (text : List ℕ) (e : Effect) (command : Request) (game after : Option Game)
+    → MasterDecides m n k command game (Taken text e) → ((g : Game) → game ≡ Some g → (h : Game) × (after ≡ Some h)) → MasterDecides m n (Some (kept_of n text)) command after (Again text)
+master_again m n k text e (Create due period grey seats) game after d stays =
+    known_again n text (λ w. w ≡ creation m (opening_public m n.note.game due period grey) (new_seats m n.note.game seats) after)
+master_again m n k text e (Orders lines) None after d stays = let bad : ◌≡◌ {A = Verdict} (Taken text e) NotKnown = d in absurd (cc)
+master_again m n k text e (Orders lines) (Some g) after d stays =
+    subst (λ (x : Option Game). MasterDecides m n (Some (kept_of n text)) (Orders lines) x (Again text)) (sym (stays g refl).1) (known_again n text (λ w. w ≡ refusal_verdict WrongSender))
+master_again m n k text e Show None after d stays = let bad : ◌≡◌ {A = Verdict} (Taken text e) NotKnown = d in absurd (cc)
+master_again m n k text e Show (Some g) after d stays =
+    subst (λ (x : Option Game). MasterDecides m n (Some (kept_of n text)) Show x (Again text)) (sym (stays g refl).1) (known_again n text (λ w. w ≡ refusal_verdict WrongSender))
+
+-- who is decided so again
+abbrev pub IsRepeat : Chart → State → Mail → List ℕ → Type 0
+IsRepeat m s n text = (who : Author) × (author m n s ≡ who) × Decides m s n who (Again text)
+
+taken_again : (m : Chart) (s : State) (n : Mail) (who : Author) (text : List ℕ) (e : Effect) → author m n s ≡ who → Decides m s n who (Taken text e)
+    → Comes who (game_at n.note.game s) e → IsRepeat m (after n who (Taken text e) s) n text
+taken_again m s n Nobody text e is d comes = absurd comes
+taken_again m s n TheMaster text e is d comes = (
+  TheMaster,
+  master_stays m n s (after n TheMaster (Taken text e) s) refl is,
+  (master_again m n s.desk.kept text e n.note.command (game_at n.note.game s) (game_at n.note.game (after n TheMaster (Taken text e) s)) d
+      (λ g found. (game_after (change_of n TheMaster text e) g, game_behind (change_of n TheMaster text e) s g found))),
+)
+taken_again m s n (Seat p) text e is d comes =
+    let there = seat_where p p (game_at n.note.game s) e comes in (
+      Seat p,
+      seat_stays m n p s (after n (Seat p) (Taken text e) s) (digests_stay s n p text e there.0 comes there.1) is,
+      sym (seat_again m s n p text e there.0 comes there.1 (d ∙ ap (λ (x : Option Game). verdict_on m n (seen_in p x)) there.1)),
+    )
+
+-- and its author is the same
+stays_author : (m : Chart) (s : State) (n : Mail) (who : Author) (text : List ℕ) (e : Effect) → author m n s ≡ who
+    → Comes who (game_at n.note.game s) e → author m n (after n who (Taken text e) s) ≡ who
+stays_author m s n Nobody text e is comes = absurd comes
+stays_author m s n TheMaster text e is comes = master_stays m n s (after n TheMaster (Taken text e) s) refl is
+stays_author m s n (Seat p) text e is comes =
+    let there = seat_where p p (game_at n.note.game s) e comes in
+    seat_stays m n p s (after n (Seat p) (Taken text e) s) (digests_stay s n p text e there.0 comes there.1) is
+
+-- a verdict that changes nothing
+abbrev pub StaysPut : Verdict → Type 0
+StaysPut v = (n : Mail) (who : Author) (s : State) → after n who v s ≡ s
+
+-- what the same letter comes to behind its first step
+pub repeats : (m : Chart) (old mid : State) (n : Mail) (first : Reply) → Step m old n first mid
+    → (v : Verdict) × Decides m mid n (author m n mid) v × (first ≡ reply_of n v) × StaysPut v × (author m n mid ≡ author m n old)
+repeats m old mid n first one = go one.0 one.1 one.2 one.3
+  where
+    same : mid ≡ old → author m n mid ≡ author m n old
+    same left = ap (author m n) left
+
+    go : (v : Verdict) → Decides m old n (author m n old) v → first ≡ reply_of n v → mid ≡ after n (author m n old) v old
+        → (v : Verdict) × Decides m mid n (author m n mid) v × (first ≡ reply_of n v) × StaysPut v × (author m n mid ≡ author m n old)
+    go NotKnown d told left = (NotKnown, subst (λ (s : State). Decides m s n (author m n s) NotKnown) (sym left) d, told, λ n who s. refl, same left)
+    go (Again text) d told left = (Again text, subst (λ (s : State). Decides m s n (author m n s) (Again text)) (sym left) d, told, λ n who s. refl, same left)
+    go (OutOfTurn text) d told left = (OutOfTurn text, subst (λ (s : State). Decides m s n (author m n s) (OutOfTurn text)) (sym left) d, told, λ n who s. refl, same left)
+    go (Taken text e) d told left =
+        let next = subst (λ (s : State). IsRepeat m s n text × (author m n s ≡ author m n old)) (sym left) (
+          taken_again m old n (author m n old) text e refl d (decides_suits m old n (author m n old) (Taken text e) d).0,
+          stays_author m old n (author m n old) text e refl (decides_suits m old n (author m n old) (Taken text e) d).0,
+        ) in
+        (Again text, subst (λ (who : Author). Decides m mid n who (Again text)) (sym next.0.1) next.0.2, told, λ n who s. refl, next.1)
+
+pub acts_once : (m : Chart) → ActsOnce m
+acts_once m old mid new n first again one two =
+    let next = repeats m old mid n first one in
+    let same : two.0 ≡ next.0 = decides_one m mid n (author m n mid) two.0 next.0 two.1 next.1 in
+    (two.2 ∙ ap (λ (w : Verdict). reply_of n w) same ∙ sym next.2, two.3 ∙ ap (λ (w : Verdict). after n (author m n mid) w mid) same ∙ next.3 n (author m n mid) mid)

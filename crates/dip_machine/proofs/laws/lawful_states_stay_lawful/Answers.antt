@@ -1,0 +1,24 @@
+use Rattle.dip_board.specs.Boards.{Position, IsOf}
+use Rattle.dip_machine.proofs.LawfulOrders.{AreRead}
+use Rattle.dip_machine.proofs.LawfulStates.{never_damaged, stays_lawful}
+use Rattle.dip_machine.proofs.laws.lawful_states_stay_lawful.Goals as goal
+
+pub returns-clause-stays : goal.returns-clause-stays
+returns-clause-stays c =
+    let m = c.args.map.now in
+    let read : (b : Position) → IsOf m b → AreRead m b = λ b of. record {
+      lawful = λ power beside line o is. c.orders_are_lawful.ensures m b power beside line o c.facts.ensures of is;
+      read = λ power beside o lawful. c.lawful_orders_are_read.ensures m b power beside o c.facts.ensures of lawful;
+      alone = λ power beside line o is. c.orders_are_read_again.ensures.alone m b power beside line o is;
+    } in
+    stays_lawful m (c.openings_are_of_their_map.ensures m c.facts.ensures) read
+
+pub returns-clause-sane : goal.returns-clause-sane
+returns-clause-sane c =
+    let m = c.args.map.now in
+    let read : (b : Position) → IsOf m b → AreRead m b = λ b of. record {
+      lawful = λ power beside line o is. c.orders_are_lawful.ensures m b power beside line o c.facts.ensures of is;
+      read = λ power beside o lawful. c.lawful_orders_are_read.ensures m b power beside o c.facts.ensures of lawful;
+      alone = λ power beside line o is. c.orders_are_read_again.ensures.alone m b power beside line o is;
+    } in
+    never_damaged m read

@@ -1,0 +1,11 @@
+use Rattle.dip_machine.proofs.Others as others
+use Rattle.dip_machine.proofs.laws.shown_by_others.Goals as goal
+
+pub returns-clause-unseen : goal.returns-clause-unseen
+returns-clause-unseen c = others.unseen
+
+pub returns-clause-shown : goal.returns-clause-shown
+returns-clause-shown c = others.shown_by_paper
+
+pub returns-clause-alike : goal.returns-clause-alike
+returns-clause-alike c = others.alike

@@ -1,0 +1,15 @@
+pub mod Keyed
+pub mod State
+pub mod Faults
+pub mod Rows
+pub mod Mail
+pub mod Machine
+pub mod Verdicts
+pub mod Sights
+pub mod Ordering
+pub mod OrderingRows
+pub mod View
+pub mod Lawful
+pub mod Handing
+pub mod Repeats
+pub mod Strangers

@@ -1,0 +1,23 @@
+-- Whose letters are nobody's.
+use Rattle.std.specs.Prelude.{◌≡◌, ◌⊎◌, ◌↔◌, Bool, true, false, None}
+use Rattle.dip_letters.specs.Notes.{Request}
+use Rattle.dip_letters.specs.Notes.Request.{Create, Orders, Show}
+use Rattle.dip_chart.specs.Charts.{Chart}
+use Rattle.dip_records.specs.Records.{Reply}
+use Rattle.dip_machine.specs.Machine.{Step, author}
+use Rattle.dip_machine.specs.Mail.{Mail}
+use Rattle.dip_machine.specs.State.{State, Nobody, TheMaster, game_at}
+
+abbrev pub is_create : Request → Bool
+is_create (Create due period grey seats) = true
+is_create (Orders lines) = false
+is_create Show = false
+
+-- nobody's letter: it has no author, or it is the master's, isn't CREATE, and names no game
+abbrev pub IsNobodys : Chart → Mail → State → Type 0
+IsNobodys m n s = (author m n s ≡ Nobody)
+    ⊎ ((author m n s ≡ TheMaster) × (is_create n.note.command ≡ false) × (game_at n.note.game s ≡ None))
+
+-- a reply is to nobody exactly where the letter is nobody's
+abbrev pub IsToNobodyExactly : Chart → Type 0
+IsToNobodyExactly m = (old : State) (n : Mail) (r : Reply) (new : State) → Step m old n r new → (r.head ≡ None) ↔ IsNobodys m n old

@@ -1,0 +1,53 @@
+//! Who writes letters, and what they change.
+use dip_names::Power;
+use dip_records::{Kept, Public, Standing};
+
+/// The master's row.
+#[derive(Drop)]
+pub struct Desk {
+    /// SHA-256 of `desk`, LF, `master`, LF and the master's secret.
+    pub digest: [u8; 32],
+    /// The master's last letter, if one is recorded.
+    pub kept: Option<Kept>,
+}
+
+/// Who wrote a letter.
+#[derive(Clone, Copy, PartialEq, Eq, Debug)]
+pub enum Author {
+    Nobody,
+    TheMaster,
+    Seat(Power),
+}
+
+/// A power of a new game and the digest of its seat.
+#[derive(Clone, Copy)]
+pub struct NewSeat {
+    pub power: Power,
+    pub digest: [u8; 32],
+}
+
+/// What a letter does to its game.
+#[derive(Drop)]
+pub enum Effect {
+    /// Nothing.
+    Nothing,
+    /// The author's standing orders are these.
+    Pending(Vec<Standing>),
+    /// A game with this public part, first paper and seats.
+    Opens {
+        public: Public,
+        paper: String,
+        seats: Vec<NewSeat>,
+    },
+}
+
+/// What an accepted letter changes.
+#[derive(Drop)]
+pub struct Change {
+    /// The letter's game.
+    pub game: String,
+    pub author: Author,
+    /// What is kept of the letter, for its author.
+    pub kept: Kept,
+    pub effect: Effect,
+}

@@ -1,0 +1,74 @@
+//! Laws of the desk machine, each the contract of a function that does nothing.
+ghost use Rattle.std.specs.Prelude.{List};
+ghost use Rattle.dip_chart.specs.Charts.{Chart};
+ghost use Rattle.dip_machine.specs.Handing.{StandingOrdersAreGiven};
+ghost use Rattle.dip_machine.specs.Lawful.{IsNeverDamaged, StaysLawful};
+ghost use Rattle.dip_machine.specs.Repeats.{ActsOnce, ActsOnceLater};
+ghost use Rattle.dip_machine.specs.State.{State};
+ghost use Rattle.dip_machine.specs.Strangers.{IsToNobodyExactly};
+ghost use Rattle.dip_machine.specs.View.{AreAlike, AreEffectsShown, IsAnsweredFromSeen, IsRun, IsSettledByView, IsShownByOthers, IsUnseenByOthers, Turn};
+
+use dip_board::openings_are_of_their_map;
+use dip_map::Map;
+use dip_orders::{lawful_orders_are_read, orders_are_lawful, orders_are_read_again};
+
+/// A letter of a seat gets one reply in all states that the seat sees alike, and leaves them alike for it.
+pub fn answered_from_what_is_seen()
+    ensures { (m : Chart) → IsAnsweredFromSeen m }
+{}
+
+/// Settled by view: two histories that begin alike for a seat and show it the same get it the same replies, and leave it
+/// seeing the same.
+pub fn settled_by_view()
+    ensures { (m : Chart) (old new : State) (turns : List Turn) → IsRun m old turns new
+        → IsSettledByView m old turns new }
+{}
+
+/// Whatever effect comes to a game that it suits, each seat sees behind it what its events say, of the effects that no command has yet
+/// too.
+pub fn effects_are_shown()
+    ensures { (m : Chart) → AreEffectsShown m }
+{}
+
+/// No letter of another power shows a seat anything, and a letter of somebody else shows it something exactly where its game has a
+/// paper more behind it; histories that differ only in turns that show the seat nothing have one view.
+pub fn shown_by_others()
+    ensures unseen { (m : Chart) → IsUnseenByOthers m }
+    ensures shown { (m : Chart) → IsShownByOthers m }
+    ensures alike { (m : Chart) → AreAlike m }
+{}
+
+/// A reply has no head exactly where the letter is nobody's: it has no author, or it is the master's, isn't CREATE, and names no game.
+pub fn replies_to_nobody()
+    ensures { (m : Chart) → IsToNobodyExactly m }
+{}
+
+/// A letter that comes twice acts once: the same letter again gets the same reply and changes nothing, at once and where letters of
+/// other authors came between.
+pub fn letters_act_once()
+    ensures at_once { (m : Chart) → ActsOnce m }
+    ensures later { (m : Chart) → ActsOnceLater m }
+{}
+
+/// Each letter leads from a lawful state to a lawful one, and in a lawful state nothing is Damaged.
+pub fn lawful_states_stay_lawful(map: &Map)
+    ensures stays { StaysLawful map.now }
+    ensures sane { IsNeverDamaged map.now }
+{
+    map.facts();
+    openings_are_of_their_map();
+    orders_are_read_again();
+    orders_are_lawful();
+    lawful_orders_are_read();
+}
+
+/// In a lawful state the orders that stand in a game are what `advance` of the phases asks for: each can be given beside the others of
+/// its power, and no power has two in one province.
+pub fn standing_orders_are_given(map: &Map)
+    ensures { StandingOrdersAreGiven map.now }
+{
+    map.facts();
+    orders_are_lawful();
+    orders_are_read_again();
+    lawful_orders_are_read();
+}

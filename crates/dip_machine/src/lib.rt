@@ -1,0 +1,21 @@
+//! The desk machine: what is decided of a letter by what its author sees, and what that leaves. It knows no keeper.
+#![tactic(auto)]
+
+mod changes;
+mod creating;
+mod deciding;
+mod faults;
+mod laws;
+mod ordering;
+mod sights;
+mod verdicts;
+
+pub use changes::{Author, Change, Desk, Effect, NewSeat};
+pub use deciding::verdict_on;
+pub use faults::KeepFault;
+pub use laws::{
+    answered_from_what_is_seen, effects_are_shown, lawful_states_stay_lawful, letters_act_once,
+    replies_to_nobody, settled_by_view, shown_by_others, standing_orders_are_given,
+};
+pub use sights::{Sight, author_of, digest_of};
+pub use verdicts::Verdict;

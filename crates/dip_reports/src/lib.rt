@@ -4,6 +4,7 @@
 mod answers;
 mod board_lines;
 mod game_line;
+mod laws;
 mod opening_paper;
 mod refusals;
 mod replies;
@@ -12,6 +13,7 @@ mod show;
 pub use answers::{paper_line, push_fault, push_order, refusal_line};
 pub use board_lines::push_board_lines;
 pub use game_line::{push_game_line, push_phase, push_status};
+pub use laws::board_lines_are_in_order;
 pub use opening_paper::opening_paper_text;
 pub use refusals::Refusal;
 pub use replies::{reply_pieces, reply_text};

@@ -8,7 +8,7 @@ use Rattle.std.specs.List.{list_any, position_or_len, range_with_len}
 use Rattle.dip_board.specs.declared.boards.Dislodged.{Dislodged}
 use Rattle.dip_names.specs.declared.names.Unit.{Unit as AUnit}
 use Rattle.dip_chart.specs.Charts.{Chart, Realm, IsMap, provs, no_realm, is_centre, are_units_single}
-use Rattle.dip_board.specs.Boards.{IsOf, is_some_power, owner_at, opening}
+use Rattle.dip_board.specs.Boards.{IsOf, is_power_if_any, owner_at, opening}
 
 owners_count : (m : Chart) → length (map (owner_at m) (provs m)) ≡ length m.provinces
 owners_count m = length-map (provs m) (owner_at m) ∙ length-range_with_len 0 (length m.provinces)
@@ -27,17 +27,17 @@ dislodged_step ds i d h is =
     rw (cut, take_rest ds (i + 1)) (ap (λ (b : Bool). not b && are_units_single (map (λ x. x.unit) rest)) (left_by (λ v. v.place.prov == d.unit.place.prov) rest))
 
 -- a number that is answered only below a bound is below it
-below_bound : (m : Chart) (n : ℕ) → is_some_power m (cond (nat_lt n (length m.realms)) (Some n) None) ≡ true
+below_bound : (m : Chart) (n : ℕ) → is_power_if_any m (cond (nat_lt n (length m.realms)) (Some n) None) ≡ true
 below_bound m n =
     elim (cases_Bool (nat_lt n (length m.realms))) [
       | inl low ↦ rw (low, low) refl
       | inr past ↦ rw past refl
     ]
 
-owner_within : (m : Chart) (p : ℕ) → is_some_power m (owner_at m p) ≡ true
+owner_within : (m : Chart) (p : ℕ) → is_power_if_any m (owner_at m p) ≡ true
 owner_within m p = below_bound m (position_or_len (λ r. list_any (λ x. x == p) r.home) m.realms)
 
-owners_within : (m : Chart) (ps : List ℕ) (k : ℕ) (d : Option ℕ) → k < length (map (owner_at m) ps) → is_some_power m (get_or (map (owner_at m) ps) k d) ≡ true
+owners_within : (m : Chart) (ps : List ℕ) (k : ℕ) (d : Option ℕ) → k < length (map (owner_at m) ps) → is_power_if_any m (get_or (map (owner_at m) ps) k d) ≡ true
 owners_within m [] k d h = absurd (omega arith)
 owners_within m (p ∷ ps) zero d h = owner_within m p
 owners_within m (p ∷ ps) (suc k) d h = let low : k < length (map (owner_at m) ps) = omega arith in owners_within m ps k d low

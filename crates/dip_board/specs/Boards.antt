@@ -16,18 +16,18 @@ pub record Position : Type 0 where
   pub phase : Phase
 
 -- a province that may be none is one of the map
-abbrev pub is_some_prov : Chart → Option ℕ → Bool
-is_some_prov m None = true
-is_some_prov m (Some p) = nat_lt p (length m.provinces)
+abbrev pub is_prov_if_any : Chart → Option ℕ → Bool
+is_prov_if_any m None = true
+is_prov_if_any m (Some p) = nat_lt p (length m.provinces)
 
 -- a power that may be none is one of the map
-abbrev pub is_some_power : Chart → Option ℕ → Bool
-is_some_power m None = true
-is_some_power m (Some r) = nat_lt r (length m.realms)
+abbrev pub is_power_if_any : Chart → Option ℕ → Bool
+is_power_if_any m None = true
+is_power_if_any m (Some r) = nat_lt r (length m.realms)
 
 -- the dislodged unit and its attacker's origin are of the map
 abbrev pub is_dislodged : Chart → Dislodged → Bool
-is_dislodged m d = is_unit m d.unit && is_some_prov m d.origin
+is_dislodged m d = is_unit m d.unit && is_prov_if_any m d.origin
 
 -- a unit stands in the province
 abbrev pub is_held : Position → ℕ → Bool
@@ -81,7 +81,7 @@ pub record IsOf (m : Chart) (b : Position) : Type 0 where
   pub standoff : All (λ p. p < length m.provinces) b.standoff
   pub standoff_once : are_ascending b.standoff ≡ true
   pub standoff_empty : All (λ p. is_held b p ≡ false) b.standoff
-  pub owners : All (λ o. is_some_power m o ≡ true) b.owners
+  pub owners : All (λ o. is_power_if_any m o ≡ true) b.owners
   pub owners_count : length b.owners ≡ length m.provinces
   pub owners_centres : (p : ℕ) → is_some (owner b p) ≡ true → is_centre m p ≡ true
 

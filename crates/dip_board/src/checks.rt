@@ -3,7 +3,7 @@ ghost use Rattle.std.specs.Prelude.{◌≡◌, ◌<◌, ◌↔◌, ℕ, length, 
 ghost use Rattle.std.specs.Prelude.{◌==◌, nat_lt};
 ghost use Rattle.std.specs.List.{list_any, list_all, slice_index_or};
 ghost use Rattle.dip_chart.specs.Charts.{is_unit, is_centre, are_units_single};
-ghost use Rattle.dip_board.specs.Boards.{is_some_prov, is_some_power, is_dislodged, is_held, are_ascending, IsOf};
+ghost use Rattle.dip_board.specs.Boards.{is_prov_if_any, is_power_if_any, is_dislodged, is_held, are_ascending, IsOf};
 
 use crate::boards::{Board, Dislodged};
 use dip_chart::are_units_single;
@@ -40,7 +40,7 @@ impl Board {
         if !are_owners_of(map, self.owners()) {
             return false;
         }
-        if self.owners().len() != map.provinces() {
+        if self.owners().len() != map.province_count() {
             return false;
         }
         are_owners_of_centres(map, self.owners())
@@ -58,20 +58,20 @@ impl Board {
     }
 }
 
-fn is_some_prov(map: &Map, p: Option<Prov>) -> bool
-    ensures { result ≡ is_some_prov map.now p }
+fn is_prov_if_any(map: &Map, p: Option<Prov>) -> bool
+    ensures { result ≡ is_prov_if_any map.now p }
 {
     match p {
-        Some(p) => (p.index() as usize) < map.provinces(),
+        Some(p) => (p.index() as usize) < map.province_count(),
         None => true,
     }
 }
 
-fn is_some_power(map: &Map, power: Option<Power>) -> bool
-    ensures { result ≡ is_some_power map.now power }
+fn is_power_if_any(map: &Map, power: Option<Power>) -> bool
+    ensures { result ≡ is_power_if_any map.now power }
 {
     match power {
-        Some(power) => (power.index() as usize) < map.powers(),
+        Some(power) => (power.index() as usize) < map.power_count(),
         None => true,
     }
 }
@@ -79,7 +79,7 @@ fn is_some_power(map: &Map, power: Option<Power>) -> bool
 fn is_dislodged_of(map: &Map, dislodged: &Dislodged) -> bool
     ensures { result ≡ is_dislodged map.now dislodged.now }
 {
-    map.is_unit(&dislodged.unit) && is_some_prov(map, dislodged.origin)
+    map.is_unit(&dislodged.unit) && is_prov_if_any(map, dislodged.origin)
 }
 
 fn are_units_of(map: &Map, units: &[Unit]) -> bool
@@ -125,7 +125,7 @@ fn are_provinces_of(map: &Map, provinces: &[Prov]) -> bool
     ensures { IsTrue result ↔ All (λ p. p < length map.now.provinces) provinces.now }
 {
     for province in provinces {
-        if map.provinces() <= province.index() as usize {
+        if map.province_count() <= province.index() as usize {
             return false;
         }
     }
@@ -165,10 +165,10 @@ fn are_owners_of_centres(map: &Map, owners: &[Option<Power>]) -> bool
 }
 
 fn are_owners_of(map: &Map, owners: &[Option<Power>]) -> bool
-    ensures { IsTrue result ↔ All (λ o. is_some_power map.now o ≡ true) owners.now }
+    ensures { IsTrue result ↔ All (λ o. is_power_if_any map.now o ≡ true) owners.now }
 {
     for owner in owners {
-        if !is_some_power(map, *owner) {
+        if !is_power_if_any(map, *owner) {
             return false;
         }
     }

@@ -38,7 +38,7 @@ fn rows_of(
 {
     map.facts();
     let mut rows = Vec::new(alloc);
-    for index in 0..map.provinces() {
+    for index in 0..map.province_count() {
         rows.push(order_in(orders, Prov::new(index as u8)))?;
     }
     Ok(rows)

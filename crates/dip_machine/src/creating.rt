@@ -69,7 +69,7 @@ fn are_complete(map: &Map, seats: &[NewSeat]) -> bool
     ensures { result ≡ m.are_complete map.now (each desk_rows.new_seat seats.now) }
 {
     map.facts();
-    for index in 0..map.powers() {
+    for index in 0..map.power_count() {
         if !has_one_seat(seats, Power::new(index as u8)) {
             return false;
         }

@@ -70,14 +70,14 @@ impl Map {
     }
 
     /// How many provinces there are.
-    pub fn provinces(&self) -> usize
+    pub fn province_count(&self) -> usize
         ensures { result ≡ length self.now.provinces }
     {
         self.parts.provinces.len()
     }
 
     /// How many powers there are.
-    pub fn powers(&self) -> usize
+    pub fn power_count(&self) -> usize
         ensures { result ≡ length self.now.realms }
     {
         self.parts.realms.len()
@@ -88,7 +88,7 @@ impl Map {
         ensures { result ≡ provs self.now }
     {
         self.facts();
-        Provs::first(self.provinces())
+        Provs::first(self.province_count())
     }
 
     /// The powers, in the order of their names.
@@ -96,7 +96,7 @@ impl Map {
         ensures { result ≡ powers self.now }
     {
         self.facts();
-        Powers::first(self.powers())
+        Powers::first(self.power_count())
     }
 
     /// Where an army goes from a province.

@@ -15,7 +15,7 @@ use Rattle.dip_names.specs.declared.names.Place.{Place}
 use Rattle.dip_names.specs.declared.names.Unit.{Unit as AUnit}
 use Rattle.dip_board.specs.declared.boards.Dislodged.{Dislodged}
 use Rattle.dip_chart.specs.Charts.{Chart, IsMap, Province, Shore, no_shore, coast_of, is_shaped, has_one_shore, has_named_shores, province, shore, fleet_next, is_fleet_place, is_unit, may_stand}
-use Rattle.dip_board.specs.Boards.{Position, IsOf, is_dislodged, is_some_prov}
+use Rattle.dip_board.specs.Boards.{Position, IsOf, is_dislodged, is_prov_if_any}
 use Rattle.dip_forms.specs.Forms.{is_coast}
 use Rattle.dip_forms.specs.declared.forms.Mention.{Mention}
 use Rattle.dip_orders.specs.Retreats.{is_open, next_places}
@@ -100,7 +100,7 @@ dislodged_again m b power u ok of h =
     let own = find_passes (λ x. (x.unit.power == power) && (x.unit.place.prov == prov_named m u.at)) b.dislodged d there in
     let at : d.unit.place.prov ≡ prov_named m u.at = eqb-true _ _ (and_parts (d.unit.power == power) (d.unit.place.prov == prov_named m u.at) own).1 in
     let on = find_among (λ x. (x.unit.power == power) && (x.unit.place.prov == prov_named m u.at)) (λ x. is_dislodged m x) b.dislodged d of.dislodged there in
-    let unit = (and_parts (is_unit m d.unit) (is_some_prov m d.origin) on).0 in
+    let unit = (and_parts (is_unit m d.unit) (is_prov_if_any m d.origin) on).0 in
     let stands = stands_at m d.unit.kind d.unit.place (and_parts (nat_lt d.unit.power (length m.realms)) (may_stand m d.unit.kind d.unit.place) unit).1 in
     let again = named_again m ok (option_map (λ x. x.unit) (dislodged_of m b power u)) u d.unit (ap (λ o. option_map (λ x. x.unit) o) there) at stands in
     record {

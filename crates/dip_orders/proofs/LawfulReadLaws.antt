@@ -11,7 +11,7 @@ use Rattle.dip_names.specs.declared.names.Place.{Place}
 use Rattle.dip_names.specs.declared.names.Unit.{Unit as AUnit}
 use Rattle.dip_board.specs.declared.boards.Dislodged.{Dislodged}
 use Rattle.dip_chart.specs.Charts.{Chart, IsMap, Province, Realm, are_places_single, army_next, fleet_next, home, no_province, no_realm, province, realm, shore, coast_of, is_army_next, is_fleet_place, is_unit, is_centre, is_power_name, may_stand}
-use Rattle.dip_board.specs.Boards.{Position, IsOf, is_dislodged, is_some_prov}
+use Rattle.dip_board.specs.Boards.{Position, IsOf, is_dislodged, is_prov_if_any}
 use Rattle.dip_forms.specs.Forms.{is_form, is_spot}
 use Rattle.dip_orders.specs.Allowances.{builds_due, removals_due}
 use Rattle.dip_forms.specs.Texts.{canonical_text}
@@ -93,7 +93,7 @@ record ToldDislodged (m : Chart) (b : Position) (power : ℕ) (d : Dislodged) : 
 told_dislodged : (m : Chart) (b : Position) (power : ℕ) (d : Dislodged) → IsMap m → IsOf m b → dislodged_at b power d.unit.place.prov ≡ Some d → ToldDislodged m b power d
 told_dislodged m b power d ok of there =
     let on = find_among (λ x. (x.unit.power == power) && (x.unit.place.prov == d.unit.place.prov)) (λ x. is_dislodged m x) b.dislodged d of.dislodged there in
-    let words = told m d.unit ok (unit_on_map m d.unit (and_parts (is_unit m d.unit) (is_some_prov m d.origin) on).0) in
+    let words = told m d.unit ok (unit_on_map m d.unit (and_parts (is_unit m d.unit) (is_prov_if_any m d.origin) on).0) in
     let found : dislodged_of m b power (mention_of m d.unit.kind d.unit.place) ≡ Some d = ap (λ n. dislodged_at b power n) words.named ∙ there in
     record { told = words; checks = words.checks _ (ap (λ o. option_map (λ x. x.unit) o) found); same = ap (λ o. unwrap_or o no_dislodged) found }
 

@@ -92,7 +92,7 @@ fn all_provinces(alloc: Global, map: &Map) -> Result<Vec<Prov>, AllocError>
 {
     map.facts();
     let mut all = Vec::new(alloc);
-    for index in 0..map.provinces() {
+    for index in 0..map.province_count() {
         all.push(Prov::new(index as u8))?;
     }
     Ok(all)

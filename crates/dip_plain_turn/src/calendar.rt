@@ -30,7 +30,7 @@ pub(crate) struct Paper {
 fn power_numbers(map: &Map) -> u8 {
     let mut count = 0;
     for index in 0..7 {
-        if (index as usize) < map.powers() {
+        if (index as usize) < map.power_count() {
             count = index + 1;
         }
     }

@@ -165,7 +165,7 @@ fn standing_of(board: &Board, power: Power) -> usize {
 /// No power has more units than centres, and none removed more than it had to.
 fn check_winter(map: &Map, before: &State, after: &Board) -> Result<(), Mismatch> {
     for index in 0..7 {
-        if (index as usize) < map.powers() {
+        if (index as usize) < map.power_count() {
             let power = Power::new(index);
             let units = standing_of(after, power);
             let owned = before.owned(power);

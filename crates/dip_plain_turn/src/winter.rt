@@ -213,7 +213,7 @@ pub(crate) fn adjust(
         waived: Vec::new(alloc),
     };
     for index in 0..7 {
-        if (index as usize) < map.powers() {
+        if (index as usize) < map.power_count() {
             let power = Power::new(index);
             build(map, state, pending, power, &mut told)?;
             remove(alloc, map, state, pending, power, &mut told)?;

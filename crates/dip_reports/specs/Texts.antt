@@ -105,9 +105,9 @@ abbrev pub centres : Chart → Position → ℕ → List ℕ
 centres m b power = filter (λ p. owns b power p) (provs m)
 
 -- texts with a separator between them, or `-` where there is none
-abbrev pub listed : List ℕ → List (List ℕ) → List ℕ
-listed separator [] = codes "-"
-listed separator (t ∷ ts) = t ++ flat_map (λ u. separator ++ u) ts
+abbrev pub joined : List ℕ → List (List ℕ) → List ℕ
+joined separator [] = codes "-"
+joined separator (t ∷ ts) = t ++ flat_map (λ u. separator ++ u) ts
 
 -- a unit, with `*` behind it where it is dislodged
 abbrev pub force_text : Chart → Force → List ℕ
@@ -116,7 +116,7 @@ force_text m f = unit_text m f.unit ++ (if f.dislodged then codes "*" else [])
 -- `power centres/units: units | centres`
 unfoldable pub listing : Chart → List ℕ → List ℕ → List Force → List ℕ
 listing m name owned units = name ++ codes " " ++ decimal (length owned) ++ codes "/" ++ decimal (length units) ++ codes ": "
-    ++ listed (codes ", ") (map (force_text m) units) ++ codes " | " ++ listed (codes " ") (map (λ p. (province m p).code) owned) ++ codes "\n"
+    ++ joined (codes ", ") (map (force_text m) units) ++ codes " | " ++ joined (codes " ") (map (λ p. (province m p).code) owned) ++ codes "\n"
 
 -- the line of a power
 unfoldable pub board_line : Chart → Position → ℕ → List ℕ

@@ -10,7 +10,7 @@ use Rattle.dip_chart.specs.Charts.{Chart, IsMap, are_units_single, home, is_cent
 use Rattle.dip_board.specs.declared.boards.Dislodged.{Dislodged}
 use Rattle.dip_board.specs.declared.boards.Season.{Season}
 use Rattle.dip_board.specs.declared.boards.Season.TheVariants.{SpringMoves, SpringRetreats, FallMoves, FallRetreats, Winter}
-use Rattle.dip_board.specs.Boards.{IsOf, Position, is_dislodged, is_held, is_left, is_some_power, is_some_prov, is_vacant, owns}
+use Rattle.dip_board.specs.Boards.{IsOf, Position, is_dislodged, is_held, is_left, is_power_if_any, is_prov_if_any, is_vacant, owns}
 use Rattle.dip_orders.specs.Conditions.{is_build}
 use Rattle.dip_orders.specs.Given.{AreGiven, IsEachGiven, orders_of_power}
 use Rattle.dip_orders.specs.Laws.{OrdersAreLawful, StandingIsInForce, UnitsHaveOneOrder}
@@ -90,18 +90,18 @@ unit_low : (m : Chart) (u : AUnit) → is_unit m u ≡ true → u.place.prov < l
 unit_low m u on = place_low m u.kind u.place (stands_at m u.kind u.place (and_parts (nat_lt u.power (length m.realms)) (may_stand m u.kind u.place) on).1)
 
 origin_within : (m : Chart) (b : Position) (pending : List PlacedOrder) (a : Assignment) (p : ℕ) (w : Option PlacedOrder) → IsOf m b
-    → entrant a (standing_orders b pending) p ≡ w → is_some_prov m (origin m w) ≡ true
+    → entrant a (standing_orders b pending) p ≡ w → is_prov_if_any m (origin m w) ≡ true
 origin_within m b pending a p None of is = refl
 origin_within m b pending a p (Some w) of is = by_way (is_convoyed m (Some w))
   where
-    by_way : (c : Bool) → is_some_prov m (cond c None (Some (prov w))) ≡ true
+    by_way : (c : Bool) → is_prov_if_any m (cond c None (Some (prov w))) ≡ true
     by_way true = refl
     by_way false = lt-ltb _ _ (unit_low m w.unit (ordered_unit m b pending w of (found_in (enters a p) (standing_orders b pending) w is)))
 
 dislodged_on : (m : Chart) (b : Position) (pending : List PlacedOrder) (a : Assignment) (o : PlacedOrder) → IsOf m b → Contains (standing_orders b pending) o
     → is_dislodged m (dislodged_unit m a (standing_orders b pending) o) ≡ true
 dislodged_on m b pending a o of among =
-    and_from (is_unit m o.unit) (is_some_prov m (origin m (entrant a (standing_orders b pending) (prov o)))) (ordered_unit m b pending o of among)
+    and_from (is_unit m o.unit) (is_prov_if_any m (origin m (entrant a (standing_orders b pending) (prov o)))) (ordered_unit m b pending o of among)
     (origin_within m b pending a (prov o) (entrant a (standing_orders b pending) (prov o)) of refl)
 
 same_units : (m : Chart) (a : Assignment) (orders os : List PlacedOrder) → map (λ (d : Dislodged). d.unit) (map (dislodged_unit m a orders) os) ≡ units_of os
@@ -163,7 +163,7 @@ retreated_unit : (m : Chart) (b : Position) (pending : List PlacedOrder) (d : Di
     → after_retreat pending b.dislodged d ≡ Some u → is_unit m u ≡ true
 retreated_unit m b pending d u ok of lawful among is =
     let r = refuge_of pending b.dislodged d u is in
-    let on = (and_parts (is_unit m d.unit) (is_some_prov m d.origin) (All-contains (λ x. is_dislodged m x ≡ true) b.dislodged d of.dislodged among)).0 in
+    let on = (and_parts (is_unit m d.unit) (is_prov_if_any m d.origin) (All-contains (λ x. is_dislodged m x ≡ true) b.dislodged d of.dislodged among)).0 in
     and_from (nat_lt u.power (length m.realms)) (may_stand m u.kind u.place)
     (ap (λ r. nat_lt r (length m.realms)) r.power ∙ (and_parts (nat_lt d.unit.power (length m.realms)) (may_stand m d.unit.kind d.unit.place) on).0)
     (retreat_allowed m b r.order.unit.power (orders_of_power r.order.unit.power pending) r.order.unit u r.order.order ok (lawful r.order r.among) r.to
@@ -271,17 +271,17 @@ phased_of m b year season of = record {
   owners_centres = of.owners_centres;
 }
 
-owner_on : (m : Chart) (b : Position) (o : Option ℕ) (h : Option AUnit) (p : ℕ) → IsOf m b → holder b.units p ≡ h → is_some_power m o ≡ true → is_some_power m (owner_by h o) ≡ true
+owner_on : (m : Chart) (b : Position) (o : Option ℕ) (h : Option AUnit) (p : ℕ) → IsOf m b → holder b.units p ≡ h → is_power_if_any m o ≡ true → is_power_if_any m (owner_by h o) ≡ true
 owner_on m b o None p of is on = on
 owner_on m b o (Some u) p of is on =
     (and_parts (nat_lt u.power (length m.realms)) (may_stand m u.kind u.place)
     (All-contains (λ v. is_unit m v ≡ true) b.units u of.units (found_in (λ v. v.place.prov == p) b.units u is))).0
 
-either_owner : (m : Chart) (c : Bool) (one two : Option ℕ) → is_some_power m one ≡ true → is_some_power m two ≡ true → is_some_power m (cond c one two) ≡ true
+either_owner : (m : Chart) (c : Bool) (one two : Option ℕ) → is_power_if_any m one ≡ true → is_power_if_any m two ≡ true → is_power_if_any m (cond c one two) ≡ true
 either_owner m true one two x y = x
 either_owner m false one two x y = y
 
-owners_on : (m : Chart) (b : Position) (os : List (Option ℕ)) (i : ℕ) → IsOf m b → All (λ o. is_some_power m o ≡ true) os → All (λ o. is_some_power m o ≡ true) (owners_after m b.units i os)
+owners_on : (m : Chart) (b : Position) (os : List (Option ℕ)) (i : ℕ) → IsOf m b → All (λ o. is_power_if_any m o ≡ true) os → All (λ o. is_power_if_any m o ≡ true) (owners_after m b.units i os)
 owners_on m b [] i of all k d h = absurd (omega arith)
 owners_on m b (o ∷ os) i of all zero d h =
     either_owner m (is_centre m i) (owner_by (holder b.units i) o) o (owner_on m b o (holder b.units i) i of refl (all 0 o (omega arith))) (all 0 o (omega arith))

@@ -131,7 +131,7 @@ pub(crate) fn disorder(
 {
     map.facts();
     let mut all = Vec::new(alloc);
-    for index in 0..map.powers() {
+    for index in 0..map.power_count() {
         let more = disorder_of(alloc, map, board, pending, Power::new(index as u8))?;
         all.extend_from_slice(more.as_slice())?;
     }
@@ -227,7 +227,7 @@ pub(crate) fn waivers(
 {
     map.facts();
     let mut all = Vec::new(alloc);
-    for index in 0..map.powers() {
+    for index in 0..map.power_count() {
         if let Some(waiver) = waiver_of(map, board, pending, Power::new(index as u8)) {
             all.push(waiver)?;
         }

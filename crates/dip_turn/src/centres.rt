@@ -66,7 +66,7 @@ fn centres(map: &Map) -> usize
 {
     map.facts();
     let mut count: usize = 0;
-    for index in 0..map.provinces() {
+    for index in 0..map.province_count() {
         if map.is_centre(Prov::new(index as u8)) {
             count += 1;
         }
@@ -88,7 +88,7 @@ pub(crate) fn winner(map: &Map, board: &Board) -> Option<Power>
     ensures { result ≡ c.winner map.now board.now }
 {
     map.facts();
-    for index in 0..map.powers() {
+    for index in 0..map.power_count() {
         let power = Power::new(index as u8);
         if has_won(map, board, power) {
             return Some(power);
@@ -130,7 +130,7 @@ pub(crate) fn centre_lines(
 {
     map.facts();
     let mut lines = Vec::new(alloc);
-    for index in 0..map.provinces() {
+    for index in 0..map.province_count() {
         if let Some(line) = centre_line(board, new, Prov::new(index as u8)) {
             lines.push(line)?;
         }

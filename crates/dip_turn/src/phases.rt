@@ -26,7 +26,7 @@ fn needs_adjustment(map: &Map, board: &Board) -> bool
     ensures { result ≡ p.needs_adjustment map.now board.now }
 {
     map.facts();
-    for index in 0..map.powers() {
+    for index in 0..map.power_count() {
         if is_uneven(map, board, Power::new(index as u8)) {
             return true;
         }

@@ -28,7 +28,7 @@ fn touches(distances: &[u16], level: u16, row: &[usize]) -> bool
 }
 
 /// Whether a vertex of this distance and these neighbours is at the next level.
-fn reaches(distances: &[u16], level: u16, distance: u16, row: &[usize]) -> bool
+fn is_reached(distances: &[u16], level: u16, distance: u16, row: &[usize]) -> bool
     ensures { result ≡ is_reached distances.now level distance row.now }
 {
     distance == FAR && touches(distances, level, row)
@@ -47,7 +47,7 @@ fn sweep(
     let mut next = Vec::new(alloc);
     for (vertex, row) in graph.iter().enumerate() {
         let distance = distance_at(distances, vertex);
-        if reaches(distances, level, distance, row.as_slice()) {
+        if is_reached(distances, level, distance, row.as_slice()) {
             next.push(level + 1)?;
         } else {
             next.push(distance)?;
@@ -57,11 +57,11 @@ fn sweep(
 }
 
 /// Whether no vertex is at the next level.
-fn rests(graph: &[Vec<usize>], distances: &[u16], level: u16) -> bool
+fn is_quiet(graph: &[Vec<usize>], distances: &[u16], level: u16) -> bool
     ensures { result ≡ is_quiet distances.now level 0 (rows_of graph.now) }
 {
     for (vertex, row) in graph.iter().enumerate() {
-        if reaches(
+        if is_reached(
             distances,
             level,
             distance_at(distances, vertex),
@@ -98,7 +98,7 @@ pub fn least_distances(
 {
     let mut distances = start(alloc, homes)?;
     let mut level = 0;
-    'levels: while !rests(graph, distances.as_slice(), level) {
+    'levels: while !is_quiet(graph, distances.as_slice(), level) {
         distances = sweep(alloc, graph, distances.as_slice(), level)?;
         level += 1;
     }

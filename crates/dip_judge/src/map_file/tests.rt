@@ -103,7 +103,7 @@ fn takes_the_standard_map_where_no_file_is_named(rt: HostRuntime) -> Result<(), 
     let Ok(map) = read_map(&rt, alloc, None) else {
         return Err(Fail::from("no map"));
     };
-    assert!(rt; map.provinces() == 75);
+    assert!(rt; map.province_count() == 75);
     Ok(())
 }
 

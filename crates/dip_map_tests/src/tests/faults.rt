@@ -6,7 +6,7 @@ use std::process::Abort;
 use std::test::Fail;
 
 /// The text with a part of it replaced.
-fn changed(
+fn text_with(
     rt: &impl Abort,
     alloc: Global,
     text: &str,
@@ -77,7 +77,7 @@ fn each_fault_has_its_number(rt: HostRuntime) -> Result<(), Fail> {
         ),
     ];
     for (old, new, fault) in rows {
-        let text = changed(&rt, alloc, STANDARD, old, new)?;
+        let text = text_with(&rt, alloc, STANDARD, old, new)?;
         assert!(rt; fault_of(alloc, text.as_str()) == fault);
     }
     Ok(())
@@ -94,8 +94,8 @@ fn the_first_fault_of_two_is_told(rt: HostRuntime) -> Result<(), Fail> {
         (TWO_VIENNAS, NO_VIE, MapFault::DoubledName),
     ];
     for (first, second, fault) in rows {
-        let once = changed(&rt, alloc, STANDARD, first.0, first.1)?;
-        let twice = changed(&rt, alloc, once.as_str(), second.0, second.1)?;
+        let once = text_with(&rt, alloc, STANDARD, first.0, first.1)?;
+        let twice = text_with(&rt, alloc, once.as_str(), second.0, second.1)?;
         assert!(rt; fault_of(alloc, twice.as_str()) == Some(fault));
     }
     Ok(())
@@ -146,7 +146,7 @@ fn check_changes(
     fault: MapFault,
 ) -> Result<(), AllocError> {
     for (old, new) in rows {
-        let text = changed(rt, alloc, FIVE, old, new)?;
+        let text = text_with(rt, alloc, FIVE, old, new)?;
         assert!(rt; fault_of(alloc, text.as_str()) == Some(fault));
     }
     Ok(())
@@ -156,8 +156,8 @@ fn check_changes(
 fn a_small_map_is_read(rt: HostRuntime) -> Result<(), Fail> {
     let alloc = rt.alloc();
     let map = Map::from_toml(alloc, FIVE)?;
-    assert_eq!(rt; map.provinces(), 5);
-    assert_eq!(rt; map.powers(), 2);
+    assert_eq!(rt; map.province_count(), 5);
+    assert_eq!(rt; map.power_count(), 2);
     let west = map.power("west").expect(&rt, "a power");
     assert_eq!(rt; map.home(west).len(), 2);
     Ok(())

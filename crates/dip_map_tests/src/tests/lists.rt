@@ -275,7 +275,7 @@ fn each_province_has_its_name_and_kind(rt: HostRuntime) -> Result<(), Fail> {
     assert_eq!(rt; count_of_kind(&rt, &map, SEAS, Terrain::Sea), 19);
     assert_eq!(rt; count_of_kind(&rt, &map, INLAND, Terrain::Inland), 14);
     assert_eq!(rt; count_of_kind(&rt, &map, COASTAL, Terrain::Coast), 42);
-    assert_eq!(rt; map.provinces(), 75);
+    assert_eq!(rt; map.province_count(), 75);
     Ok(())
 }
 

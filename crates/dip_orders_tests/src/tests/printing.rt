@@ -90,7 +90,8 @@ fn check_texts(
     check(rt, alloc, map, &board, cases)
 }
 
-fn check_all(rt: &impl Abort, alloc: Global) -> Result<(), MapFault> {
+/// Each table of orders, in its season, has as many cases as it should.
+fn check_tables(rt: &impl Abort, alloc: Global) -> Result<(), MapFault> {
     let map = Map::from_toml(alloc, STANDARD)?;
     let tables = [
         (Season::FallMoves, MOVES, 13),
@@ -106,6 +107,6 @@ fn check_all(rt: &impl Abort, alloc: Global) -> Result<(), MapFault> {
 
 #[test]
 fn each_kind_of_order_has_its_text(rt: HostRuntime) -> Result<(), Fail> {
-    check_all(&rt, rt.alloc())?;
+    check_tables(&rt, rt.alloc())?;
     Ok(())
 }

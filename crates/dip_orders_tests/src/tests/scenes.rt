@@ -114,7 +114,7 @@ fn owner_in(map: &Map, lists: &str, code: &str) -> Option<Power> {
 fn owners_in(alloc: Global, map: &Map, lists: &str) -> Result<Vec<Option<Power>>, AllocError> {
     map.facts();
     let mut owners = Vec::new(alloc);
-    for index in 0..map.provinces() {
+    for index in 0..map.province_count() {
         owners.push(owner_in(map, lists, map.code(Prov::new(index as u8))))?;
     }
     Ok(owners)

@@ -52,7 +52,7 @@ pub(crate) fn board_of(
     map: &Map,
     units: Vec<Unit>,
 ) -> Result<Board, AllocError> {
-    let owners = vec![in alloc; None; map.provinces()]?;
+    let owners = vec![in alloc; None; map.province_count()]?;
     let phase = Phase {
         year: 1901,
         season: Season::SpringMoves,

@@ -13,7 +13,7 @@ fn is_coastal(map: &Map, prov: Prov) -> bool {
 }
 
 fn power_by(map: &Map, dice: &mut Dice) -> Power {
-    let count = u32::try_from(map.powers()).unwrap_or(1);
+    let count = u32::try_from(map.power_count()).unwrap_or(1);
     let number = u8::try_from(dice.roll(count)).unwrap_or(0);
     Power::new(number)
 }
@@ -47,7 +47,7 @@ pub(crate) fn draw_board(
 ) -> Result<Board, AllocError> {
     let mut units = Vec::new(alloc);
     let mut owners = Vec::new(alloc);
-    for index in 0..map.provinces() {
+    for index in 0..map.province_count() {
         let prov = Prov::new(u8::try_from(index).unwrap_or(0));
         if dice.happens(percent) {
             if let Some(unit) = draw_unit(dice, map, prov) {
@@ -311,7 +311,7 @@ fn draw_adjustments(
             })?;
         }
     }
-    for index in 0..map.provinces() {
+    for index in 0..map.province_count() {
         let prov = Prov::new(u8::try_from(index).unwrap_or(0));
         if let Some(unit) = draw_unit(dice, map, prov) {
             if let Some(placed) = draw_build(dice, map, &unit) {

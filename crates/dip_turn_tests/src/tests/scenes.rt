@@ -119,7 +119,7 @@ pub(crate) fn owners_in(
 ) -> Result<Vec<Option<Power>>, AllocError> {
     map.facts();
     let mut owners = Vec::new(alloc);
-    for index in 0..map.provinces() {
+    for index in 0..map.province_count() {
         owners.push(owner_in(map, lists, map.code(Prov::new(index as u8))))?;
     }
     Ok(owners)

@@ -10,7 +10,7 @@ use Rattle.std.proofs.lemmas.Slice.Eq.{bytes_eq-Decides}
 use Rattle.dip_machine.specs.Keyed.{at, change_at}
 use Rattle.dip_machine.specs.State as s
 use Rattle.dip_desk.specs.Stored as stored
-use Rattle.dip_desk.specs.declared.memory.GameRow.{GameRow}
+use Rattle.dip_desk.specs.declared.games.GameRow.{GameRow}
 
 abbrev pub Entry : Type 0
 Entry = String Global × GameRow
@@ -112,3 +112,38 @@ game_kept name f (e ∷ es) none = go (bytes_eq name (string_bytes e.0)) refl no
 pub game_shown : (name : List ℕ) (r : Option (Bor GameRow)) → option_map (λ g. stored.game name g.now) r ≡ option_map (stored.game name) (option_copied r)
 game_shown name None = refl
 game_shown name (Some g) = refl
+
+-- what lies at the place of a name is the game of that name
+pub game_there : (name : List ℕ) (es : List Entry) (i : ℕ) (old : GameRow) → position (is_named name) (keys_of es) ≡ Some i → slice_get (values_of es) i ≡ Some old
+    → at bytes_eq s.name_of name (stored.games es) ≡ Some (stored.game name old)
+game_there name es i old there value =
+    let found = Found-position (is_named name) es i there in
+    sym (game_found name es) ∙ ap (option_map (stored.game name)) (look es i found.or_len found.within value)
+  where
+    look : (fs : List Entry) (j : ℕ) → position_or_len (is_named name) (keys_of fs) ≡ j → j < length fs → slice_get (values_of fs) j ≡ Some old → lookup (is_named name) fs ≡ Some old
+    look [] j here lt value = absurd (omega (arith, lt))
+    look (e ∷ fs) j here lt value = go (bytes_eq name (string_bytes e.0)) refl j here lt value (look fs)
+      where
+        go : (b : Bool) → bytes_eq name (string_bytes e.0) ≡ b → (k : ℕ) → position_or_len (is_named name) (keys_of (e ∷ fs)) ≡ k → k < length (e ∷ fs)
+            → slice_get (values_of (e ∷ fs)) k ≡ Some old
+            → ((j : ℕ) → position_or_len (is_named name) (keys_of fs) ≡ j → j < length fs → slice_get (values_of fs) j ≡ Some old → lookup (is_named name) fs ≡ Some old)
+            → cond b (Some e.1) (lookup (is_named name) fs) ≡ Some old
+        go true is zero here lt value more = value
+        go true is (suc k) here lt value more = let zero_first : 0 ≡ suc k = rw is at here in absurd (cc)
+        go false is zero here lt value more = let behind : 1 + position_or_len (is_named name) (keys_of fs) ≡ 0 = rw is at here in absurd (omega (arith, behind))
+        go false is (suc k) here lt value more =
+            let behind : 1 + position_or_len (is_named name) (keys_of fs) ≡ suc k = rw is at here in
+            more k (omega (arith, behind)) (omega (arith, lt)) value
+
+unchanged : (name : List ℕ) (gs : List s.Game) → change_at bytes_eq s.name_of name (λ g. g) gs ≡ gs
+unchanged name [] = refl
+unchanged name (g ∷ gs) = go (bytes_eq (s.name_of g) name) (unchanged name gs)
+  where
+    go : (b : Bool) → change_at bytes_eq s.name_of name (λ g. g) gs ≡ gs → cond b (g ∷ gs) (g ∷ change_at bytes_eq s.name_of name (λ g. g) gs) ≡ g ∷ gs
+    go true rest = refl
+    go false rest = ap (λ (hs : List s.Game). g ∷ hs) rest
+
+-- a game in its place that says the same as before
+pub game_same : (name : List ℕ) (es : List Entry) (i : ℕ) (old new : GameRow) → position (is_named name) (keys_of es) ≡ Some i → slice_get (values_of es) i ≡ Some old
+    → ((key : List ℕ) → stored.game key new ≡ stored.game key old) → stored.games (set_value_at es i new) ≡ stored.games es
+game_same name es i old new there value made = game_set name (λ g. g) es i old new there value made ∙ unchanged name (stored.games es)

@@ -1,11 +1,12 @@
 -- A look, and then a step.
-use Rattle.std.proofs.Common.{inl, inr, Result, Ok, ap, subst, ◌∙◌}
+use Rattle.std.proofs.Common.{◌≡◌, inl, inr, Result, Ok, Err, ap, subst, ◌∙◌}
 use Rattle.std.proofs.lemmas.Result.{IfOk-weaker, on_err_weaker, on_ok_weaker}
 use Rattle.dip_chart.specs.Charts.{Chart}
 use Rattle.dip_machine.specs.Faults.{faults_after}
-use Rattle.dip_desk.specs.Keeping.{Book, Keeps, Looks, Steps}
+use Rattle.dip_desk.specs.Keeping.{Book, Changes, Keeps, Looks, Steps}
 use Rattle.dip_machine.specs.State.{State}
 use Rattle.dip_machine.specs.declared.faults.KeepFault.{KeepFault}
+use Rattle.dip_machine.specs.declared.faults.KeepFault.TheVariants.{Damaged}
 
 -- what is kept by a look and the call behind it
 pub keeps_then : {K X Y : Type 0} (m : Chart) (b : Book K) (old mid new : K) (x : X) (result : Result Y KeepFault)
@@ -64,3 +65,21 @@ steps_then {K} {X} {Y} {R} m b old mid new x Value Damage say Near Far result lo
 -- what is kept by an answer says nothing of its value
 pub keeps_as : {K X Y : Type 0} (m : Chart) (b : Book K) (old new : K) (x : X) (y : Y) → Keeps {X = X} m b old new (Ok x) → Keeps {X = Y} m b old new (Ok y)
 keeps_as m b old new x y k = record { count = k.count; fair = k.fair; shown = k.shown; sound = k.sound; firm = k.firm; stays_open = k.stays_open }
+
+-- a change that a fault leaves unmade is a step that isn't taken: a crash may leave what the step would have, and what doesn't fit may
+-- be Damaged
+pub unmade : {K X R : Type 0} (m : Chart) (b : Book K) (old new : K) (change : State → State) (Fits : State → Type 0) (fault : KeepFault) (say : X → R)
+    (Step : State → R → State → Type 0) (Suits : State → Type 0) → Changes {X = Unit {0}} m b old new change Fits (Err fault)
+    → ((s : State) → s ≡ change (b.content m old) → (r : R) × Step (b.content m old) r s) → ((s : State) → Suits s → Fits s)
+    → Steps {X = X} m b old new say Step (λ s. Suits s → ⊥) (Err fault)
+unmade m b old new change Fits fault say Step Suits h taken fit = record {
+  keeps = record { count = h.keeps.count; fair = h.keeps.fair; shown = h.keeps.shown; sound = h.keeps.sound; firm = λ sound honest. tt; stays_open = λ sound honest shows. tt };
+  done = λ sound shows. tt;
+  undone = h.undone;
+  damaged = λ sound shows bad suits. let told : fault ≡ Damaged = cc in h.fitting sound shows (fit (b.content m old) suits) (ap (λ (f : KeepFault). Err f) told);
+  kept = λ sound honest shows. tt;
+  left = λ sound honest shows s left. elim (h.left sound honest s left) [
+    | inl before ↦ inl before
+    | inr made ↦ inr (taken s made)
+  ];
+}

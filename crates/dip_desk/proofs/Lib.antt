@@ -1,3 +1,4 @@
 pub mod GamesLemmas
+pub mod PartLemmas
 pub mod Sighting
 pub mod Keepings

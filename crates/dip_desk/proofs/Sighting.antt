@@ -1,13 +1,14 @@
 -- What is decided by an author's sight is what the machine decides.
-use Rattle.std.proofs.Common.{◌≡◌, ℕ, Bool, true, false, cond, List, Option, None, Some, option_map, refl, sym, ◌∙◌, ap, subst, bytes_eq, codes, is_some}
+use Rattle.std.proofs.Common.{◌≡◌, ℕ, Bool, true, false, cond, List, Option, None, Some, option_map, refl, sym, ◌∙◌, ap, subst, inl, bytes_eq, codes, is_some}
 use Rattle.std.specs.Prelude.{option_and_then}
 use Rattle.dip_chart.specs.Charts.{Chart, power_of}
-use Rattle.dip_records.specs.Records.{Own, Reply}
+use Rattle.dip_records.specs.Records.{Item, Own, Reply}
 use Rattle.dip_machine.specs.Machine.{DecidedBy, Decides, IsDamagedBy, IsForeign, IsForeignSight, IsForeignTo, MayBeDamaged, Settles, Step, after, OfMaster, OfNobody, OfSeat, Sight, Verdict, NotKnown, Again, OutOfTurn, Taken, author, author_of, digest, master_author, master_sight, power_author, power_sight, seat_author, seat_sight, seen_in, sight_of, verdict_by, verdict_on}
+use Rattle.dip_machine.specs.Fitting.{EffectsFit}
 use Rattle.dip_machine.specs.Mail.{Mail}
 use Rattle.dip_machine.specs.State.{Author, Effect, Game, Nobody, Nothing, Pending, Votes, Delivers, Opens, Publishes, Seats, Seat, State, TheMaster, game_at, own_of, seat_at}
-use Rattle.dip_desk.specs.Fitting.{FitsGame, VerdictFits}
-use Rattle.dip_machine.proofs.Suiting.{IsFitting, VerdictSuits, decides_suits, opens_where}
+use Rattle.dip_desk.specs.Fitting.{FindsPlace, VerdictFits}
+use Rattle.dip_machine.proofs.Suiting.{Comes, IsFitting, decides_suits, opens_where}
 
 -- a sight is the author's, and what is decided by it is what may be decided
 abbrev pub IsRight : Chart → Mail → State → Author → Sight → Type 0
@@ -30,7 +31,7 @@ seat_right m n s p (Some g) is = own (own_of (seat_at p g.seats)) refl
         foreign f = subst (λ (x : Option Game). IsForeign m (seen_in p x)) (sym is) (subst (λ (x : Option Own). IsForeignTo m (Some g.public) x) (sym e) f)
 
         told : (b : Bool) → IsRight m n s (cond b (Seat p) Nobody) (cond b (OfSeat p g.public o) OfNobody)
-        told true = (refl, λ v d. d ∙ sym decided, foreign)
+        told true = (refl, λ v d. d ∙ sym decided, λ f. inl (foreign f))
         told false = (refl, λ v d. d, λ bad. bad)
 
 pub is_right : (m : Chart) (n : Mail) (s : State) → IsRight m n s (author m n s) (sight_of m n s)
@@ -55,26 +56,35 @@ settled_by_sight m n s t sight who v r is whose decided done =
     let right : IsRight m n s (author m n s) sight = subst (IsRight m n s (author m n s)) (sym is) (is_right m n s) in
     (v, right.1 v decided, done.0, done.1 ∙ ap (λ (a : Author). after n a v s) (whose ∙ right.0))
 
--- what is decided by a sight fits
-pub fits_by_sight : (m : Chart) (n : Mail) (s : State) (sight : Sight) (v : Verdict) → sight ≡ sight_of m n s → DecidedBy m n sight v → VerdictFits n v s
-fits_by_sight m n s sight v is decided =
-    let right : IsRight m n s (author m n s) sight = subst (IsRight m n s (author m n s)) (sym is) (is_right m n s) in
-    fits_suited n s (author m n s) v (decides_suits m s n (author m n s) v (right.1 v decided))
+-- what is decided by a sight finds place, and where it doesn't fit the map, its author's record may be Damaged
+pub unfit_by_sight : (m : Chart) (n : Mail) (s : State) (sight : Sight) (v : Verdict) → EffectsFit m → sight ≡ sight_of m n s → DecidedBy m n sight v
+    → (VerdictFits m n v s → ⊥) → IsDamagedBy m n s
+unfit_by_sight m n s sight v fit is decided =
+    let right : IsRight m n s (author m n s) sight = subst (IsRight m n s (author m n s)) (sym is) (is_right m n s) in blamed v (right.1 v decided)
   where
-    fits_effect : (name : List ℕ) (who : Author) (game : Option Game) (e : Effect) → IsFitting name who game e → FitsGame name e game
-    fits_effect name who game Nothing h = tt
-    fits_effect name who game (Pending orders) h = tt
-    fits_effect name who game (Votes draw) h = tt
-    fits_effect name who game (Delivers readers item) h = tt
-    fits_effect name who game (Publishes public paper played) h = tt
-    fits_effect name who game (Seats seat) h = tt
-    fits_effect name who game (Opens public paper seats) h = let all = opens_where name who game public paper seats h in (all.2, all.1)
+    -- no letter sends press so far
+    no_press : (who : Author) (game : Option Game) (readers : List ℕ) (item : Item) → Comes who game (Delivers readers item) → ⊥
+    no_press Nobody game readers item h = h
+    no_press TheMaster game readers item h = h
+    no_press (Seat p) None readers item h = h
+    no_press (Seat p) (Some g) readers item h = h
 
-    fits_suited : (n : Mail) (s : State) (who : Author) (v : Verdict) → VerdictSuits n.note.game who (game_at n.note.game s) v → VerdictFits n v s
-    fits_suited n s who NotKnown h = tt
-    fits_suited n s who (Again text) h = tt
-    fits_suited n s who (OutOfTurn text) h = tt
-    fits_suited n s who (Taken text e) h = fits_effect n.note.game who (game_at n.note.game s) e h
+    finds_place : (name : List ℕ) (who : Author) (game : Option Game) (e : Effect) → IsFitting name who game e → FindsPlace name e game
+    finds_place name who game Nothing h = tt
+    finds_place name who game (Pending orders) h = tt
+    finds_place name who game (Votes draw) h = tt
+    finds_place name who game (Delivers readers item) h = absurd (no_press who game readers item h.0)
+    finds_place name who game (Publishes public paper played) h = tt
+    finds_place name who game (Seats seat) h = tt
+    finds_place name who game (Opens public paper seats) h = let all = opens_where name who game public paper seats h in (all.2, all.1)
+
+    blamed : (v : Verdict) → Decides m s n (author m n s) v → (VerdictFits m n v s → ⊥) → IsDamagedBy m n s
+    blamed NotKnown d unfit = absurd (unfit tt)
+    blamed (Again text) d unfit = absurd (unfit tt)
+    blamed (OutOfTurn text) d unfit = absurd (unfit tt)
+    blamed (Taken text e) d unfit =
+        fit s n (author m n s) text e d
+        (λ on_map. unfit (on_map, finds_place n.note.game (author m n s) (game_at n.note.game s) e (decides_suits m s n (author m n s) (Taken text e) d)))
 
 -- and a fault of the sight is one of the letter's author
 pub blamed_by_sight : (m : Chart) (n : Mail) (s : State) (sight : Sight) → sight ≡ sight_of m n s → IsForeignSight m sight → IsDamagedBy m n s

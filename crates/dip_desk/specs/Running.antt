@@ -25,8 +25,8 @@ pub record Runs {K X : Type 0} (m : Chart) (b : Book K) (old new : K) (letters :
   pub done : b.sound m old → b.shows new → IfOk result (λ x. Answers m (b.content m old) letters (say x) (b.content m new))
   pub undone : b.sound m old → b.shows new
       → IfErr result (λ e. (n : ℕ) × Answers m (b.content m old) (take n letters) (say e.0) (b.content m new))
-  -- Damaged is told only of a standing line of the author of one of the letters, and never from a lawful state on, which stays
-  -- lawful: letters have numbers of letters
+  -- Damaged is told only of a standing line of the author of one of the letters, or of the board of its game, and never from a lawful
+  -- state on, which stays lawful: letters have numbers of letters
   pub damaged : b.sound m old → b.shows new
       → IfErr result (λ e. e.1 ≡ Damaged → (n : Mail) × Contains letters n × IsDamagedBy m n (b.content m new))
   pub never : b.sound m old → b.shows new → AllByRecursion IsMail letters → IsLawful m (b.content m old) → IfErr result (λ e. e.1 ≡ Damaged → ⊥)

@@ -46,5 +46,5 @@ pub trait Keeper {
     fn apply(&mut self, map: &Map, change: &Change) -> Result<(), KeepFault>
         requires { book.faults self.old < u64.MAX }
         ensures { Changes map.now book self.old self.new (state_after (desk_rows.change change.now))
-            (Fits (desk_rows.change change.now)) result };
+            (Fits map.now (desk_rows.change change.now)) result };
 }

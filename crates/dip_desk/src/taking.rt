@@ -14,7 +14,8 @@ use crate::keeper::Keeper;
 use crate::looking::look;
 use dip_letters::{Letter, LetterFault, sum};
 use dip_machine::{
-    Author, Change, Effect, KeepFault, Verdict, author_of, lawful_states_stay_lawful, verdict_on,
+    Author, Change, Effect, KeepFault, Verdict, author_of, effects_fit, lawful_states_stay_lawful,
+    verdict_on,
 };
 use dip_map::Map;
 use dip_records::{Head, Kept, Outcome, Reply};
@@ -95,6 +96,13 @@ fn change_of(
     })
 }
 
+/// The lines that are kept of a letter.
+fn lines_kept(change: Change) -> String
+    ensures { result ≡ change.kept.reply }
+{
+    change.kept.reply
+}
+
 /// Keeps what was decided, and gives the reply. Nothing grows behind the change.
 fn settle<K: Keeper>(
     alloc: Global,
@@ -107,7 +115,7 @@ fn settle<K: Keeper>(
     requires { K.book.faults keeper.old < u64.MAX }
     ensures { Steps map.now K.book keeper.old keeper.new (λ r. rows.reply r)
         (m.Settles (mail letter.now) (desk_rows.author author) (verdict decided))
-        (λ s. VerdictFits (mail letter.now) (verdict decided) s → ⊥) result }
+        (λ s. VerdictFits map.now (mail letter.now) (verdict decided) s → ⊥) result }
 {
     match decided {
         Verdict::NotKnown => Ok(not_known(alloc)?),
@@ -116,12 +124,14 @@ fn settle<K: Keeper>(
         Verdict::Taken(text, effect) => {
             let head = Some(head_of(alloc, letter)?);
             let change = change_of(alloc, letter, author, text, effect)?;
-            keeper.apply(map, &change)?;
-            Ok(Reply {
-                outcome: Outcome::Done,
-                head,
-                text: change.kept.reply,
-            })
+            match keeper.apply(map, &change) {
+                Err(fault) => Err(fault),
+                Ok(()) => Ok(Reply {
+                    outcome: Outcome::Done,
+                    head,
+                    text: lines_kept(change),
+                }),
+            }
         }
     }
 }
@@ -138,6 +148,7 @@ pub fn take<K: Keeper>(
         (λ old r new. m.Step map.now old (mail letter.now) r new)
         (m.IsDamagedBy map.now (mail letter.now)) result }
 {
+    effects_fit(map);
     let sight = look(keeper, map, letter)?;
     let decided = verdict_on(alloc, map, letter, &sight)?;
     settle(alloc, keeper, map, letter, author_of(&sight), decided)

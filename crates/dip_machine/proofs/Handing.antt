@@ -1,6 +1,6 @@
 -- The orders that stand in a lawful game can be given beside one another.
 use Rattle.std.proofs.Common.{◌≡◌, ℕ, ◌==◌, ◌<◌, ◌≤◌, ◌+◌, ◌&&◌, nat_lt, zero, suc, length, inl, inr, Bool, true, false, cond, List, [], ◌∷◌, ◌++◌, map, filter, flat_map, find, count_by, Some, Ok, refl, sym, ap, subst, ◌∙◌, arith, append-nil}
-use Rattle.std.specs.List.{AllByRecursion, list_all, list_any, Contains}
+use Rattle.std.specs.List.{AllByRecursion, list_all, list_any, range_with_len, Contains}
 use Rattle.std.proofs.lemmas.Bool.{cases_Bool, eqb-true, eqb-false, ltb-true, ltb-false}
 use Rattle.std.proofs.lemmas.List.Elements.{filter-append}
 use Rattle.dip_names.specs.declared.names.Unit.{Unit as AUnit}
@@ -23,7 +23,6 @@ use Rattle.dip_machine.specs.Handing.{StandingOrdersAreGiven, orders_in}
 use Rattle.dip_machine.specs.Lawful.{AreAscending, IsLawfulGame, IsLawfulSeat}
 use Rattle.dip_machine.specs.Ordering.{prov_of, orders_that_stand}
 use Rattle.dip_machine.specs.State.{Game, Part, power_in}
-use Rattle.dip_reports.specs.Texts.{numbers}
 
 -- what is found passes
 found : {A : Type 0} (test : A → Bool) (xs : List A) (x : A) → find test xs ≡ Some x → test x ≡ true
@@ -146,11 +145,11 @@ both true true h = (refl, refl)
 both true false h = (refl, h)
 both false b h = absurd (cc)
 
-each_counted : (test : ℕ → Bool) {B : Type 0} (i : ℕ) (xs : List B) (p : ℕ) → list_all test (numbers i xs) ≡ true → i ≤ p → p < i + length xs → test p ≡ true
-each_counted test i [] p all low high = absurd (omega (arith, low, high))
-each_counted test {B} i (x ∷ xs) p all low high =
-    let parts = both (test i) (list_all test (numbers (i + 1) xs)) all in
-    go (i == p) refl parts.0 (λ lower. each_counted test (i + 1) xs p parts.1 lower (omega (arith, high)))
+each_counted : (test : ℕ → Bool) (i n p : ℕ) → list_all test (range_with_len i n) ≡ true → i ≤ p → p < i + n → test p ≡ true
+each_counted test i zero p all low high = absurd (omega (arith, low, high))
+each_counted test i (suc n) p all low high =
+    let parts = both (test i) (list_all test (range_with_len (i + 1) n)) all in
+    go (i == p) refl parts.0 (λ lower. each_counted test (i + 1) n p parts.1 lower (omega (arith, high)))
   where
     go : (b : Bool) → (i == p) ≡ b → test i ≡ true → (i + 1 ≤ p → test p ≡ true) → test p ≡ true
     go true is here more = subst (λ (q : ℕ). test q ≡ true) (eqb-true i p is) here
@@ -178,7 +177,7 @@ few m g l power = go (nat_lt power (length m.realms)) refl
     go true is =
         let lt : power < length m.realms = ltb-true power (length m.realms) is in
         let one : (count_by (λ o. power_in o == power) g.seats == 1) ≡ true =
-        each_counted (λ p. count_by (λ (o : Part). power_in o == p) g.seats == 1) 0 m.realms power l.powers (omega arith) (omega (arith, lt)) in
+        each_counted (λ p. count_by (λ (o : Part). power_in o == p) g.seats == 1) 0 (length m.realms) power l.powers (omega arith) (omega (arith, lt)) in
         let same = eqb-true (count_by (λ o. power_in o == power) g.seats) 1 one in omega (arith, same)
     go false is =
         let past = ltb-false power (length m.realms) is in

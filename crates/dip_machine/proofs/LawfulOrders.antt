@@ -1,6 +1,6 @@
 -- Standing orders stand together.
-use Rattle.std.proofs.Common.{◌≡◌, ℕ, ◌==◌, ◌<◌, ◌≤◌, ◌+◌, ◌&&◌, Bool, true, false, cond, List, [], ◌∷◌, map, refl, sym, ap, subst, ◌∙◌, arith, Result, Ok, Err}
-use Rattle.std.proofs.lemmas.Bool.{eqb-true, eqb-false, ltb-true, ltb-false}
+use Rattle.std.proofs.Common.{◌≡◌, ℕ, ◌==◌, ◌<◌, ◌≤◌, ◌+◌, ◌&&◌, Bool, true, false, cond, List, [], ◌∷◌, ◌++◌, append-nil, append_assoc, map, refl, sym, ap, subst, ◌∙◌, arith, Result, Ok, Err}
+use Rattle.std.proofs.lemmas.Bool.{eqb-true, eqb-false, lt-ltb, ltb-true, ltb-false}
 use Rattle.std.specs.Prelude.{nat_lt, not, count_by}
 use Rattle.std.specs.List.{AllByRecursion}
 use Rattle.dip_board.specs.Boards.{Position}
@@ -18,7 +18,7 @@ use Rattle.dip_orders.specs.declared.placed.Order.TheVariants.{Hold, Move, Suppo
 use Rattle.dip_orders.specs.declared.placed.PlacedOrder.{PlacedOrder}
 use Rattle.dip_records.specs.Records.{Standing}
 use Rattle.dip_machine.specs.Lawful.{AreAscending, AreStanding}
-use Rattle.dip_machine.specs.Ordering.{Ordered, after_line, after_lines, has_foreign, kept_orders, outcome_of_lines, orders_after, prov_of, orders_that_stand, with_order}
+use Rattle.dip_machine.specs.Ordering.{Ordered, after_line, after_lines, has_foreign, kept_orders, outcome_of_lines, orders_after, prov_of, orders_that_stand, standing_with, with_order}
 use Rattle.dip_machine.proofs.Counting.{all_both, all_weaker, each_but_itself, elsewhere, elsewhere_all, elsewhere_but_one, elsewhere_few, kind_apart, one, unlike}
 
 -- how orders on a board are read: what is read is lawful, what is lawful is read from its text, and what is read beside others is
@@ -30,7 +30,7 @@ pub record AreRead (m : Chart) (b : Position) : Type 0 where
 
 -- by province
 
-all_with_order : (P : PlacedOrder → Type 0) (o : PlacedOrder) (ps : List PlacedOrder) → P o → AllByRecursion P ps → AllByRecursion P (with_order o ps)
+pub all_with_order : (P : PlacedOrder → Type 0) (o : PlacedOrder) (ps : List PlacedOrder) → P o → AllByRecursion P ps → AllByRecursion P (with_order o ps)
 all_with_order P o [] one all = (one, tt)
 all_with_order P o (p ∷ ps) one all =
     let here : (b : Bool) → AllByRecursion P (cond b (o ∷ ps) (o ∷ p ∷ ps)) =
@@ -63,7 +63,7 @@ all_behind : (p q : ℕ) (ps : List ℕ) → p < q → AllByRecursion (λ r. q <
 all_behind p q [] lt all = tt
 all_behind p q (r ∷ rs) lt all = let first : q < r = all.0 in (omega (arith, lt, first), all_behind p q rs lt all.1)
 
-with_order_ascending : (o : PlacedOrder) (ps : List PlacedOrder) → AreAscending (map prov_of ps) → AreAscending (map prov_of (with_order o ps))
+pub with_order_ascending : (o : PlacedOrder) (ps : List PlacedOrder) → AreAscending (map prov_of ps) → AreAscending (map prov_of (with_order o ps))
 with_order_ascending o [] all = (tt, tt)
 with_order_ascending o (r ∷ rs) all = go (nat_lt (prov_of r) (prov_of o)) refl (with_order_ascending o rs all.1)
   where
@@ -241,11 +241,32 @@ order_together m b power line o orders read is t =
     }
 
 -- what is kept of orders that can be given by themselves is read as these orders
-standing_kept : (m : Chart) (b : Position) (power : ℕ) (orders : List PlacedOrder) → AllByRecursion (IsBeside m b power []) orders → orders_that_stand m b power (kept_orders m orders) ≡ orders
-standing_kept m b power [] all = refl
-standing_kept m b power (o ∷ os) all =
-    let read : order_of m b power [] (order_text m o) ≡ Ok o = all.0 in
-    rw read (ap (λ (ps : List PlacedOrder). o ∷ ps) (standing_kept m b power os all.1))
+standing_kept : (m : Chart) (b : Position) (power : ℕ) (orders : List PlacedOrder) → AreAscending (map prov_of orders) → AllByRecursion (IsBeside m b power []) orders
+    → orders_that_stand m b power (kept_orders m orders) ≡ orders
+standing_kept m b power orders up all = behind_front [] orders up all
+  where
+    -- an order behind all others
+    last : (o : PlacedOrder) (ps : List PlacedOrder) → AllByRecursion (λ p. prov_of p < prov_of o) ps → with_order o ps ≡ ps ++ o ∷ []
+    last o [] before = refl
+    last o (p ∷ ps) before = rw (lt-ltb (prov_of p) (prov_of o) before.0) (ap (λ (qs : List PlacedOrder). p ∷ qs) (last o ps before.1))
+
+    among : (p : ℕ) (o : PlacedOrder) (front os : List PlacedOrder) → AllByRecursion (λ q. p < q) (map prov_of (front ++ o ∷ os)) → p < prov_of o
+    among p o [] os above = above.0
+    among p o (f ∷ fs) os above = among p o fs os above.1
+
+    before : (o : PlacedOrder) (front os : List PlacedOrder) → AreAscending (map prov_of (front ++ o ∷ os)) → AllByRecursion (λ p. prov_of p < prov_of o) front
+    before o [] os up = tt
+    before o (f ∷ fs) os up = (among (prov_of f) o fs os up.0, before o fs os up.1)
+
+    behind_front : (front orders : List PlacedOrder) → AreAscending (map prov_of (front ++ orders)) → AllByRecursion (IsBeside m b power []) orders
+        → standing_with m b power front (kept_orders m orders) ≡ front ++ orders
+    behind_front front [] up all = sym (append-nil front)
+    behind_front front (o ∷ os) up all =
+        let read : order_of m b power [] (order_text m o) ≡ Ok o = all.0 in
+        let apart : (front ++ o ∷ []) ++ os ≡ front ++ o ∷ os = append_assoc front (o ∷ []) os in
+        ap (λ (r : Result PlacedOrder OrderFault). standing_with m b power (orders_after r front) (kept_orders m os)) read
+        ∙ ap (λ (ps : List PlacedOrder). standing_with m b power ps (kept_orders m os)) (last o front (before o front os up))
+        ∙ behind_front (front ++ o ∷ []) os (subst (λ (ps : List PlacedOrder). AreAscending (map prov_of ps)) (sym apart) up) all.1 ∙ apart
 
 own_kept : (m : Chart) (b : Position) (power : ℕ) (orders : List PlacedOrder) → AllByRecursion (IsBeside m b power []) orders → has_foreign m b power (kept_orders m orders) ≡ false
 own_kept m b power [] all = refl
@@ -278,7 +299,7 @@ lines_together m b power number (line ∷ lines) so_far read t =
 pub ordered_standing : (m : Chart) (b : Position) (power : ℕ) (pending : List Standing) (lines : List (List ℕ)) → AreRead m b → AreStanding m b power pending
     → AreStanding m b power (kept_orders m (outcome_of_lines m b power pending lines).orders)
 ordered_standing m b power pending lines read s =
-    let first : orders_that_stand m b power pending ≡ s.orders = ap (orders_that_stand m b power) s.lines ∙ standing_kept m b power s.orders (alone_too m b power s.orders s.orders read s.each) in
+    let first : orders_that_stand m b power pending ≡ s.orders = ap (orders_that_stand m b power) s.lines ∙ standing_kept m b power s.orders s.ascending (alone_too m b power s.orders s.orders read s.each) in
     let t : AreTogether m b power (outcome_of_lines m b power pending lines).orders =
     lines_together m b power 1 lines (record { orders = orders_that_stand m b power pending; answers = [] }) read
     (subst (AreTogether m b power) (sym first) (together m b power s.orders read s.ascending s.each)) in
@@ -291,4 +312,4 @@ ordered_standing m b power pending lines read s =
 
 -- what is kept of orders that stand together is read as these orders
 pub standing_is : (m : Chart) (b : Position) (power : ℕ) (kept : List Standing) → AreRead m b → (s : AreStanding m b power kept) → orders_that_stand m b power kept ≡ s.orders
-standing_is m b power kept read s = ap (orders_that_stand m b power) s.lines ∙ standing_kept m b power s.orders (alone_too m b power s.orders s.orders read s.each)
+standing_is m b power kept read s = ap (orders_that_stand m b power) s.lines ∙ standing_kept m b power s.orders s.ascending (alone_too m b power s.orders s.orders read s.each)

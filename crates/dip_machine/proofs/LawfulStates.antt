@@ -1,5 +1,5 @@
 -- Each step keeps a state lawful.
-use Rattle.std.proofs.Common.{◌≡◌, ◌<◌, ◌≤◌, ℕ, nat_lt, length, arith, option_map, ◌==◌, Bool, true, false, cond, List, [], ◌∷◌, ◌++◌, append-nil, inl, inr, refl, sym, ap, subst, ◌∙◌, Option, Some, None, bytes_eq, map}
+use Rattle.std.proofs.Common.{◌≡◌, ◌<◌, ◌≤◌, ℕ, nat_lt, length, arith, option_map, ◌==◌, ◌+◌, Bool, true, false, cond, List, [], ◌∷◌, ◌++◌, append-nil, inl, inr, refl, sym, ap, subst, ◌∙◌, Option, Some, None, bytes_eq, map}
 use Rattle.std.specs.Prelude.{count_by}
 use Rattle.std.specs.List.{AllByRecursion}
 use Rattle.std.specs.Option.{option_or}
@@ -9,13 +9,13 @@ use Rattle.dip_letters.specs.Notes.Request.{Create, Orders, Show}
 use Rattle.dip_board.specs.Boards.{Position, IsOf, opening}
 use Rattle.std.proofs.lemmas.List.Quantifiers.{position-Some}
 use Rattle.dip_letters.specs.Notes.{SeatNote}
-use Rattle.dip_chart.specs.Charts.{Chart, Realm, no_realm, power_of}
+use Rattle.dip_chart.specs.Charts.{Chart, Realm, no_realm, power_of, powers}
 use Rattle.dip_records.specs.Records.{Public, Own, Kept}
-use Rattle.dip_reports.specs.Texts.{refusal_line, numbers}
+use Rattle.dip_reports.specs.Texts.{refusal_line}
 use Rattle.dip_reports.specs.declared.refusals.Refusal.TheVariants.{Malformed, NumberUsed, Stale, WrongSender}
 use Rattle.dip_machine.specs.Keyed.{at, change_at}
-use Rattle.dip_machine.specs.Lawful.{AreNamedApart, AreStanding, IsLawful, IsLawfulGame, IsLawfulSeat, IsNeverDamaged, StaysLawful, last_number}
-use Rattle.dip_machine.specs.Machine.{Decides, change_of, IsForeignTo, Verdict, MasterDecides, NumberedBy, NotKnown, Again, OutOfTurn, Taken, after, are_complete, author, creation, digest, kept_of, new_seats, old_number, open_game, with_more, opening_public, refusal_verdict, seat_command, seat_verdict, seen_in, verdict_by, verdict_on}
+use Rattle.dip_machine.specs.Lawful.{AreNamedApart, AreStanding, IsLawful, IsLawfulGame, IsLawfulSeat, IsNeverDamaged, StaysLawful, last_number, sent_by_others}
+use Rattle.dip_machine.specs.Machine.{Decides, change_of, IsForeignTo, IsOffMap, Verdict, MasterDecides, NumberedBy, NotKnown, Again, OutOfTurn, Taken, after, are_complete, author, creation, digest, kept_of, new_seats, old_number, open_game, with_more, opening_public, refusal_verdict, seat_command, seat_verdict, seen_in, verdict_by, verdict_on}
 use Rattle.dip_machine.specs.Mail.{IsMail, Mail}
 use Rattle.dip_machine.specs.State.{State, Game, Part, Author, Nobody, TheMaster, Seat, Change, Effect, Nothing, Pending, Votes, Delivers, Opens, Publishes, Seats, NewSeat, desk_after, fresh, game_after, game_at, name_of, new_games, opening_game, own_of, papers_after, power_in, public_after, seat_at, with_author, with_effect, with_letter}
 use Rattle.dip_machine.proofs.KeyedLemmas.{at-append, names_tell}
@@ -121,26 +121,59 @@ seat_fits m n g p text e again d s found l =
 -- what comes so far leaves each seat but the author's, the public part and the papers of a game that is there
 pub record IsStill (e : Effect) : Type 0 where
   pub seats : (s : Part) → with_effect e s ≡ s
+  pub sent : (k : Kept) (s : Part) → (with_letter k e s).own.sent ≡ s.own.sent
   pub public : (p : Public) → public_after e p ≡ p
   pub papers : (ps : List (List ℕ)) → papers_after e ps ≡ ps
 
 comes_still : (who : Author) (game : Option Game) (e : Effect) → Comes who game e → IsStill e
 comes_still Nobody game e h = absurd h
-comes_still TheMaster game Nothing h = record { seats = λ s. refl; public = λ p. refl; papers = λ ps. refl }
+comes_still TheMaster game Nothing h = record { seats = λ s. refl; sent = λ k s. refl; public = λ p. refl; papers = λ ps. refl }
 comes_still TheMaster game (Pending orders) h = absurd h
 comes_still TheMaster game (Votes draw) h = absurd h
 comes_still TheMaster game (Delivers readers item) h = absurd h
-comes_still TheMaster game (Opens public paper seats) h = record { seats = λ s. refl; public = λ p. refl; papers = λ ps. refl }
+comes_still TheMaster game (Opens public paper seats) h = record { seats = λ s. refl; sent = λ k s. refl; public = λ p. refl; papers = λ ps. refl }
 comes_still TheMaster game (Publishes public paper played) h = absurd h
 comes_still TheMaster game (Seats seat) h = absurd h
 comes_still (Seat p) None e h = absurd h
-comes_still (Seat p) (Some g) Nothing h = record { seats = λ s. refl; public = λ p. refl; papers = λ ps. refl }
-comes_still (Seat p) (Some g) (Pending orders) h = record { seats = λ s. refl; public = λ p. refl; papers = λ ps. refl }
+comes_still (Seat p) (Some g) Nothing h = record { seats = λ s. refl; sent = λ k s. refl; public = λ p. refl; papers = λ ps. refl }
+comes_still (Seat p) (Some g) (Pending orders) h = record { seats = λ s. refl; sent = λ k s. refl; public = λ p. refl; papers = λ ps. refl }
 comes_still (Seat p) (Some g) (Votes draw) h = absurd h
 comes_still (Seat p) (Some g) (Delivers readers item) h = absurd h
 comes_still (Seat p) (Some g) (Opens public paper seats) h = absurd h
 comes_still (Seat p) (Some g) (Publishes public paper played) h = absurd h
 comes_still (Seat p) (Some g) (Seats seat) h = absurd h
+
+-- a change that leaves each seat its power and what it has sent leaves the others' sum
+sent_changed : (p power : ℕ) (f : Part → Part) (seats : List Part) → ((s : Part) → power_in (f s) ≡ power_in s) → ((s : Part) → (f s).own.sent ≡ s.own.sent)
+    → sent_by_others power (change_at (λ a b. a == b) power_in p f seats) ≡ sent_by_others power seats
+sent_changed p power f [] keeps same = refl
+sent_changed p power f (s ∷ ss) keeps same = go (power_in s == p) (sent_changed p power f ss keeps same)
+  where
+    counted : ℕ → ℕ → ℕ
+    counted q sent = cond (q == power) 0 sent
+
+    go : (b : Bool) → sent_by_others power (change_at (λ a b. a == b) power_in p f ss) ≡ sent_by_others power ss
+        → sent_by_others power (cond b (f s ∷ ss) (s ∷ change_at (λ a b. a == b) power_in p f ss)) ≡ counted (power_in s) s.own.sent + sent_by_others power ss
+    go true rest =
+        ap (λ (q : ℕ). counted q (f s).own.sent + sent_by_others power ss) (keeps s) ∙ ap (λ (n : ℕ). counted (power_in s) n + sent_by_others power ss) (same s)
+    go false rest = ap (λ (n : ℕ). counted (power_in s) s.own.sent + n) rest
+
+map_same : (f : Part → Part) (seats : List Part) → ((s : Part) → f s ≡ s) → map f seats ≡ seats
+map_same f [] same = refl
+map_same f (s ∷ ss) same = ap (λ (t : Part). t ∷ map f ss) (same s) ∙ ap (λ (ts : List Part). s ∷ ts) (map_same f ss same)
+
+-- no box holds more than the others have sent behind a letter that sends none
+author_boxes : (who : Author) (k : Kept) (e : Effect) (seats : List Part) → IsStill e → AllByRecursion (λ s. length s.box ≤ sent_by_others (power_in s) seats) seats
+    → AllByRecursion (λ s. length s.box ≤ sent_by_others (power_in s) (with_author who k e seats)) (with_author who k e seats)
+author_boxes Nobody k e seats still all = all
+author_boxes TheMaster k e seats still all = all
+author_boxes (Seat p) k e seats still all =
+    all_weaker (λ (s : Part). length s.box ≤ sent_by_others (power_in s) seats)
+    (λ (s : Part). length s.box ≤ sent_by_others (power_in s) (change_at (λ a b. a == b) power_in p (with_letter k e) seats))
+    (change_at (λ a b. a == b) power_in p (with_letter k e) seats)
+    (λ (s : Part) few. subst (λ (n : ℕ). length s.box ≤ n) (sym (sent_changed p (power_in s) (with_letter k e) seats (letter_power k e) (still.sent k))) few)
+    (all_change (λ a b. a == b) power_in p (with_letter k e) (λ (s : Part). length s.box ≤ sent_by_others (power_in s) seats) seats all
+    (λ s found few. subst (λ (q : ℕ). length s.box ≤ sent_by_others q seats) (sym (letter_power k e s)) few))
 
 -- the seats that have the author's letter
 with_author_count : (who : Author) (k : Kept) (e : Effect) (q : ℕ) (seats : List Part) → count_by (λ (s : Part). power_in s == q) (with_author who k e seats) ≡ count_by (λ (s : Part). power_in s == q) seats
@@ -166,12 +199,14 @@ game_lawful m c g still l step =
     record {
       board = subst (λ (p : Public). IsOf m p.board) (sym same) l.board;
       powers = all_same (λ q. count_by (λ (s : Part). power_in s == q) (map (with_effect c.effect) (with_author c.author c.kept c.effect g.seats)) == 1)
-          (λ q. count_by (λ (s : Part). power_in s == q) g.seats == 1) (numbers 0 m.realms)
+          (λ q. count_by (λ (s : Part). power_in s == q) g.seats == 1) (powers m)
           (λ q. ap (λ (k : ℕ). k == 1)
           (count_map (with_effect c.effect) (λ (s : Part). power_in s == q) (λ (s : Part). power_in s == q) (with_author c.author c.kept c.effect g.seats)
           (λ s. ap (λ (j : ℕ). j == q) (effect_power c.effect s))
           ∙ with_author_count c.author c.kept c.effect q g.seats))
           ∙ l.powers;
+      boxes = subst (λ (ps : List Part). AllByRecursion (λ s. length s.box ≤ sent_by_others (power_in s) ps) ps)
+          (sym (map_same (with_effect c.effect) (with_author c.author c.kept c.effect g.seats) still.seats)) (author_boxes c.author c.kept c.effect g.seats still l.boxes);
       seats = subst (λ (p : Public). AllByRecursion (IsLawfulSeat m p.board) (map (with_effect c.effect) (with_author c.author c.kept c.effect g.seats))) (sym same) seats;
       papers = ap (λ (p : Public). p.papers) same ∙ l.papers ∙ ap (λ (ps : List (List ℕ)). length ps) (sym (still.papers g.papers));
     }
@@ -222,7 +257,7 @@ created_lawful m name due period grey (Some seats) game known = go (are_complete
     go true is (Some g) = tt
     go false is game = tt
 
-master_lawful : (m : Chart) (n : Mail) (k : Option Kept) (command : Request) (game : Option Game) (v : Verdict) → MasterDecides m n k command game v → OpensLawful m v
+pub master_lawful : (m : Chart) (n : Mail) (k : Option Kept) (command : Request) (game : Option Game) (v : Verdict) → MasterDecides m n k command game v → OpensLawful m v
 master_lawful m n k (Create due period grey seats) game v h =
     numbered_holds (OpensLawful m) (λ t. tt) (λ t. tt) n k (λ w. w ≡ creation m (opening_public m n.note.game due period grey) (new_seats m n.note.game seats) game) v
     (λ is. subst (OpensLawful m) (sym is) (created_lawful m n.note.game due period grey (new_seats m n.note.game seats) game (seats_known m n.note.game seats))) h
@@ -238,12 +273,17 @@ opened_lawful : (m : Chart) (public : Public) (paper : List ℕ) (seats : List N
     → IsLawfulOpening m public seats → IsLawfulGame m (opening_game public paper seats)
 opened_lawful m public paper seats fine h = record {
   board = subst (IsOf m) (sym h.board) fine;
-  powers = all_same (λ q. count_by (λ (s : Part). power_in s == q) (map fresh seats) == 1) (λ q. count_by (λ (s : NewSeat). s.power == q) seats == 1) (numbers 0 m.realms)
+  powers = all_same (λ q. count_by (λ (s : Part). power_in s == q) (map fresh seats) == 1) (λ q. count_by (λ (s : NewSeat). s.power == q) seats == 1) (powers m)
       (λ q. ap (λ (c : ℕ). c == 1) (count_map fresh (λ (s : Part). power_in s == q) (λ (s : NewSeat). s.power == q) seats (λ s. refl)))
       ∙ h.complete;
   seats = all_map (λ s. s.power < length m.realms) (IsLawfulSeat m public.board) fresh seats (λ s low. record { power = low; pending = none_standing m public.board s.power; last = omega arith; sent = omega arith; items = refl; box = omega arith }) h.known;
+  boxes = all_map (λ s. Unit {0}) (λ s. length s.box ≤ sent_by_others (power_in s) (map fresh seats)) fresh seats (λ s u. omega arith) (each_unit seats);
   papers = h.papers;
 }
+  where
+    each_unit : (ss : List NewSeat) → AllByRecursion (λ s. Unit {0}) ss
+    each_unit [] = tt
+    each_unit (s ∷ ss) = (tt, each_unit ss)
 
 -- numbers
 
@@ -356,13 +396,20 @@ stays_lawful m fine again old n r new is l step = subst (IsLawful m) (sym step.3
 pub never_damaged : (m : Chart) → ((b : Position) → IsOf m b → AreRead m b) → IsNeverDamaged m
 never_damaged m read s n Nobody l h = h
 never_damaged m read s n TheMaster l h = h
-never_damaged m read s n (Seat power) l h = go (game_at n.note.game s) refl h
+never_damaged m read s n (Seat power) l h = elim h [
+  | inl foreign ↦ go (game_at n.note.game s) refl foreign
+  | inr off ↦ on_map (game_at n.note.game s) refl off
+]
   where
     seat : (g : Game) → IsLawfulGame m g → (x : Option Part) → seat_at power g.seats ≡ x → IsForeignTo m (Some g.public) (own_of x) → ⊥
     seat g lg None is foreign = absurd foreign
     seat g lg (Some x) is foreign =
         let lx : IsLawfulSeat m g.public.board x = all_at (λ a b. a == b) power_in power (IsLawfulSeat m g.public.board) g.seats x lg.seats is in
         absurd (false≢true (sym (standing_own m g.public.board (power_in x) x.own.pending (read g.public.board lg.board) lx.pending) ∙ foreign))
+
+    on_map : (game : Option Game) → game_at n.note.game s ≡ game → IsOffMap m (seen_in power game).public → ⊥
+    on_map None is off = absurd off
+    on_map (Some g) is off = off (all_at bytes_eq name_of n.note.game (IsLawfulGame m) s.games g l.games is).board
 
     go : (game : Option Game) → game_at n.note.game s ≡ game → IsForeignTo m (seen_in power game).public (own_of (seen_in power game).seat) → ⊥
     go None is foreign = absurd foreign

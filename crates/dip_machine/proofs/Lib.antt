@@ -1,5 +1,4 @@
 pub mod KeyedLemmas
-pub mod NumberLemmas
 pub mod Counting
 pub mod SeatLemmas
 pub mod OrderingLemmas
@@ -11,7 +10,7 @@ pub mod ListLemmas
 pub mod LawfulOrders
 pub mod Handing
 pub mod LawfulStates
+pub mod Fitting
 pub mod Histories
 pub mod Repeating
 pub mod RepeatingLater
-pub mod GameLemmas

@@ -5,10 +5,10 @@ use Rattle.std.specs.List.{list_any}
 use Rattle.std.specs.Option.{option_or}
 use Rattle.std.proofs.lemmas.Bool.{false≢true}
 use Rattle.dip_chart.specs.Charts.{Chart}
-use Rattle.dip_records.specs.Records.{Kept, Own, Public, Reply}
+use Rattle.dip_records.specs.Records.{Item, Kept, Own, Public, Reply}
 use Rattle.dip_machine.specs.Keyed.{at, change_at}
 use Rattle.dip_machine.specs.Mail.{Mail}
-use Rattle.dip_machine.specs.State.{State, Game, Part, Item, Author, Nobody, TheMaster, Seat, is_seat, Effect, Nothing, Pending, Votes, Delivers, Opens, Publishes, Seats, NewSeat, Change, behind_paper, fresh, game_after, game_at, name_of, new_games, own_effect, power_in, public_after, seat_at, state_after, with_author, with_digest, with_effect, with_item, with_letter}
+use Rattle.dip_machine.specs.State.{State, Game, Part, Author, Nobody, TheMaster, Seat, is_seat, Effect, Nothing, Pending, Votes, Delivers, Opens, Publishes, Seats, NewSeat, Change, behind_paper, fresh, game_after, game_at, name_of, new_games, own_effect, power_in, public_after, seat_at, state_after, with_author, with_digest, with_effect, with_item, with_letter}
 use Rattle.dip_machine.specs.Machine.{Decides, SeatName, Seen, Verdict, NotKnown, Again, OutOfTurn, Taken, after, change_of, kept_of, reply_of, seen_by, seen_in, verdict_on}
 use Rattle.dip_machine.specs.View.{AreEffectsShown, Event, OwnLetter, Heard, Published, Seated, Suits, absorb, absorb_all, effect_events, own_events, part_by, seat_events, events_for, replies_to_events, replies_at, verdict_events, writes}
 use Rattle.dip_machine.proofs.KeyedLemmas.{at_key, at-append, at-change_at_other, at-change_at_same, at-map, names_tell, powers_tell}

@@ -1,13 +1,12 @@
 -- What holds of each state that the desk comes to from an empty one.
-use Rattle.std.specs.Prelude.{◌≡◌, ◌<◌, ◌≤◌, ◌==◌, ℕ, List, [], ◌∷◌, length, true, Ok, Option, None, Some, bytes_eq, count_by, map}
+use Rattle.std.specs.Prelude.{◌≡◌, ◌<◌, ◌≤◌, ◌==◌, ◌+◌, ℕ, List, [], ◌∷◌, length, true, Ok, Option, None, Some, bytes_eq, count_by, map, if◌then◌else◌}
 use Rattle.std.specs.List.{AllByRecursion, list_all}
 use Rattle.dip_board.specs.Boards.{Position, IsOf}
-use Rattle.dip_chart.specs.Charts.{Chart}
+use Rattle.dip_chart.specs.Charts.{Chart, powers}
 use Rattle.dip_orders.specs.Reading.{order_of}
 use Rattle.dip_orders.specs.Texts.{order_text}
 use Rattle.dip_orders.specs.declared.placed.PlacedOrder.{PlacedOrder}
 use Rattle.dip_records.specs.Records.{Kept, Standing}
-use Rattle.dip_reports.specs.Texts.{numbers}
 use Rattle.dip_machine.specs.Keyed.{at}
 use Rattle.dip_machine.specs.Mail.{IsMail, Mail}
 use Rattle.dip_machine.specs.Ordering.{kept_orders, prov_of}
@@ -43,11 +42,18 @@ pub record IsLawfulSeat (m : Chart) (b : Position) (s : Part) : Type 0 where
   pub items : s.own.items ≡ length s.box
   pub box : length s.box ≤ 60000
 
--- a game: its board is one of the map, each power of the map has one seat, and its papers are counted
+-- how much press the seats of a game but one power's have sent
+abbrev pub sent_by_others : ℕ → List Part → ℕ
+sent_by_others power [] = 0
+sent_by_others power (s ∷ ss) = (if power_in s == power then 0 else s.own.sent) + sent_by_others power ss
+
+-- a game: its board is one of the map, each power of the map has one seat, no box holds more than the others have sent, and its papers
+-- are counted
 pub record IsLawfulGame (m : Chart) (g : Game) : Type 0 where
   pub board : IsOf m g.public.board
-  pub powers : list_all (λ p. count_by (λ s. power_in s == p) g.seats == 1) (numbers 0 m.realms) ≡ true
+  pub powers : list_all (λ p. count_by (λ s. power_in s == p) g.seats == 1) (powers m) ≡ true
   pub seats : AllByRecursion (IsLawfulSeat m g.public.board) g.seats
+  pub boxes : AllByRecursion (λ s. length s.box ≤ sent_by_others (power_in s) g.seats) g.seats
   pub papers : g.public.papers ≡ length g.papers
 
 -- no two games have one name

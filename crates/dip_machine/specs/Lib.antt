@@ -10,6 +10,7 @@ pub mod Ordering
 pub mod OrderingRows
 pub mod View
 pub mod Lawful
+pub mod Fitting
 pub mod Handing
 pub mod Repeats
 pub mod Strangers

@@ -1,5 +1,5 @@
 -- The desk machine: who wrote a letter, what is decided of it, what it leaves and what is replied.
-use Rattle.std.specs.Prelude.{true, ℕ, ◌≡◌, ◌==◌, Bool, List, [], ◌∷◌, Option, None, Some, option_map, unwrap_or, bytes_eq, is_some, nat_lt, codes, if◌then◌else◌, count_by}
+use Rattle.std.specs.Prelude.{true, ℕ, ◌≡◌, ◌⊎◌, ◌==◌, Bool, List, [], ◌∷◌, Option, None, Some, option_map, unwrap_or, bytes_eq, is_some, nat_lt, codes, if◌then◌else◌, count_by}
 use Rattle.std.specs.List.{list_all}
 use Rattle.sha2.specs.Sha256.{sha256}
 use Rattle.dip_letters.specs.Digests.{seat_text}
@@ -7,12 +7,12 @@ use Rattle.dip_letters.specs.Notes.{Request, SeatNote}
 use Rattle.dip_letters.specs.Notes.Request.{Create, Orders, Show}
 use Rattle.dip_letters.specs.declared.letters.LetterFault.{LetterFault}
 use Rattle.dip_letters.specs.declared.letters.LetterFault.TheVariants.{Malformed as Unreadable, TooLong as OverLong}
-use Rattle.dip_chart.specs.Charts.{Chart, power_of}
-use Rattle.dip_board.specs.Boards.{opening}
+use Rattle.dip_chart.specs.Charts.{Chart, power_of, powers}
+use Rattle.dip_board.specs.Boards.{IsOf, opening}
 use Rattle.dip_machine.specs.Mail.{Mail}
 use Rattle.dip_machine.specs.Ordering.{Ordered, has_foreign, kept_orders, outcome_of_lines}
 use Rattle.dip_machine.specs.State.{State, Game, Author, Nobody, TheMaster, Seat, Change, Effect, Nothing, Pending, Opens, NewSeat, Part, game_at, own_at, own_of, public_at, seat_at, state_after}
-use Rattle.dip_reports.specs.Texts.{numbers, opening_paper, paper_line, refusal_line, show_text}
+use Rattle.dip_reports.specs.Texts.{opening_paper, paper_line, refusal_line, show_text}
 use Rattle.dip_records.specs.Records.{Public, Own, Kept, Head, Reply, Running}
 use Rattle.dip_records.specs.declared.records.Outcome.TheVariants.{Unknown as NoneKnown, OutOfTurn as Refused, Done}
 use Rattle.dip_reports.specs.declared.refusals.Refusal.{Refusal}
@@ -118,12 +118,18 @@ IsForeignTo m None o = ⊥
 abbrev pub IsForeign : Chart → Seen → Type 0
 IsForeign m s = IsForeignTo m s.public (own_of s.seat)
 
--- what the record of a letter's author may be Damaged by: a seat's by its own standing lines alone, the master's and nobody's by
--- nothing
+-- the board of the game isn't one of the map
+abbrev pub IsOffMap : Chart → Option Public → Type 0
+IsOffMap m None = ⊥
+IsOffMap m (Some p) = IsOf m p.board → ⊥
+
+-- what the record of a letter's author may be Damaged by: a seat's by its own standing lines, or by a board of its game that isn't one
+-- of the map; the master's and nobody's by nothing
 abbrev pub MayBeDamaged : Chart → State → Mail → Author → Type 0
 MayBeDamaged m s n Nobody = ⊥
 MayBeDamaged m s n TheMaster = ⊥
-MayBeDamaged m s n (Seat power) = IsForeign m (seen_in power (game_at n.note.game s))
+MayBeDamaged m s n (Seat power) =
+    IsForeign m (seen_in power (game_at n.note.game s)) ⊎ IsOffMap m (seen_in power (game_at n.note.game s)).public
 
 -- a seat of a new game, where its power is one of the map
 abbrev pub new_seat : Chart → List ℕ → SeatNote → Option NewSeat
@@ -140,7 +146,7 @@ new_seats m game (s ∷ ss) = with_more (new_seat m game s) (new_seats m game ss
 
 -- whether each power of the map has one seat
 abbrev pub are_complete : Chart → List NewSeat → Bool
-are_complete m seats = list_all (λ p. count_by (λ s. s.power == p) seats == 1) (numbers 0 m.realms)
+are_complete m seats = list_all (λ p. count_by (λ s. s.power == p) seats == 1) (powers m)
 
 -- the public part of a new game
 abbrev pub opening_public : Chart → List ℕ → ℕ → ℕ → Bool → Public

@@ -7,7 +7,7 @@ use Rattle.dip_machine.specs.declared.changes.Author.{Author}
 use Rattle.dip_machine.specs.declared.changes.Author.TheVariants.{Nobody, TheMaster, Seat}
 use Rattle.dip_machine.specs.declared.changes.NewSeat.{NewSeat}
 use Rattle.dip_machine.specs.declared.changes.Effect.{Effect}
-use Rattle.dip_machine.specs.declared.changes.Effect.TheVariants.{Nothing, Pending, Opens}
+use Rattle.dip_machine.specs.declared.changes.Effect.TheVariants.{Nothing, Pending, Votes, Delivers, Opens, Publishes, Seats}
 use Rattle.dip_machine.specs.declared.changes.Change.{Change}
 
 abbrev pub desk : Desk → s.Desk
@@ -24,7 +24,11 @@ new_seat n = record { power = n.power; digest = n.digest }
 abbrev pub effect : Effect → s.Effect
 effect Nothing = s.Nothing
 effect (Pending orders) = s.Pending (rows.standings orders.items)
+effect (Votes draw) = s.Votes draw
+effect (Delivers readers item) = s.Delivers readers.items (rows.item item)
 effect (Opens public paper seats) = s.Opens (rows.public public) (string_bytes paper) (map new_seat seats.items)
+effect (Publishes public paper played) = s.Publishes (rows.public public) (string_bytes paper) played
+effect (Seats seat) = s.Seats (new_seat seat)
 
 abbrev pub change : Change → s.Change
 change c = record { game = string_bytes c.game; author = author c.author; kept = rows.kept c.kept; effect = effect c.effect }

@@ -2,18 +2,12 @@
 use Rattle.std.specs.Prelude.{ℕ, ◌+◌, ◌==◌, Bool, false, List, [], ◌∷◌, ◌++◌, Option, None, Some, option_map, option_and_then, map, bytes_eq, if◌then◌else◌}
 use Rattle.std.specs.List.{list_any}
 use Rattle.dip_machine.specs.Keyed.{at, change_at}
-use Rattle.dip_records.specs.Records.{Public, Own, Kept, Standing}
+use Rattle.dip_records.specs.Records.{Public, Own, Item, Kept, Standing}
 
 -- the master's row
 pub record Desk : Type 0 where
   pub digest : List ℕ
   pub kept : Option Kept
-
--- press as its reader is shown it: white with its writer and its addressees as they were named; grey with whether all have it, and
--- with nobody's name
-pub data Item : Type 0 where
-  White : (writer : List ℕ) → (addressees : List (List ℕ)) → (text : List (List ℕ)) → Item
-  Grey : (to_all : Bool) → (text : List (List ℕ)) → Item
 
 -- a seat: its own part, and its inbox
 pub record Part : Type 0 where

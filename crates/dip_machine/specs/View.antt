@@ -3,9 +3,9 @@ use Rattle.std.specs.Prelude.{ℕ, ◌≡◌, ◌≢◌, ◌==◌, ◌&&◌, ◌
 use Rattle.std.specs.List.{list_any}
 use Rattle.dip_machine.specs.Mail.{Mail}
 use Rattle.dip_chart.specs.Charts.{Chart}
-use Rattle.dip_machine.specs.State.{State, Game, Author, Seat, Effect, Nothing, Pending, Votes, Delivers, Opens, Publishes, Seats, Item, NewSeat, Part, behind_paper, fresh, game_at, is_seat, seat_at, with_digest, with_item, with_letter}
+use Rattle.dip_machine.specs.State.{State, Game, Author, Seat, Effect, Nothing, Pending, Votes, Delivers, Opens, Publishes, Seats, NewSeat, Part, behind_paper, fresh, game_at, is_seat, seat_at, with_digest, with_item, with_letter}
 use Rattle.dip_machine.specs.Machine.{Decides, SeatName, Seen, Verdict, NotKnown, Again, OutOfTurn, Taken, after, author, kept_of, reply_of, seen_by, verdict_on}
-use Rattle.dip_records.specs.Records.{Public, Reply}
+use Rattle.dip_records.specs.Records.{Item, Public, Reply}
 
 -- one step of a history: the state before it, the letter, and what was decided. What it leaves follows
 pub record Turn : Type 0 where

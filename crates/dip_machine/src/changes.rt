@@ -1,6 +1,6 @@
 //! Who writes letters, and what they change.
 use dip_names::Power;
-use dip_records::{Kept, Public, Standing};
+use dip_records::{Item, Kept, Public, Standing};
 
 /// The master's row.
 #[derive(Drop)]
@@ -33,12 +33,27 @@ pub enum Effect {
     Nothing,
     /// The author's standing orders are these.
     Pending(Vec<Standing>),
+    /// Whether the author votes for a draw.
+    Votes(bool),
+    /// Press for the inboxes of these powers.
+    Delivers {
+        readers: Vec<Power>,
+        item: Item,
+    },
     /// A game with this public part, first paper and seats.
     Opens {
         public: Public,
         paper: String,
         seats: Vec<NewSeat>,
     },
+    /// A paper and the public part behind it; where a phase was played, no order stands any more.
+    Publishes {
+        public: Public,
+        paper: String,
+        played: bool,
+    },
+    /// Another digest for a seat.
+    Seats(NewSeat),
 }
 
 /// What an accepted letter changes.

@@ -68,9 +68,8 @@ fn has_one_seat(seats: &[NewSeat], power: Power) -> bool
 fn are_complete(map: &Map, seats: &[NewSeat]) -> bool
     ensures { result ≡ m.are_complete map.now (each desk_rows.new_seat seats.now) }
 {
-    map.facts();
-    for index in 0..map.power_count() {
-        if !has_one_seat(seats, Power::new(index as u8)) {
+    for power in map.each_power() {
+        if !has_one_seat(seats, power) {
             return false;
         }
     }

@@ -1,6 +1,7 @@
 //! Laws of the desk machine, each the contract of a function that does nothing.
 ghost use Rattle.std.specs.Prelude.{List};
 ghost use Rattle.dip_chart.specs.Charts.{Chart};
+ghost use Rattle.dip_machine.specs.Fitting.{EffectsFit};
 ghost use Rattle.dip_machine.specs.Handing.{StandingOrdersAreGiven};
 ghost use Rattle.dip_machine.specs.Lawful.{IsNeverDamaged, StaysLawful};
 ghost use Rattle.dip_machine.specs.Repeats.{ActsOnce, ActsOnceLater};
@@ -54,6 +55,18 @@ pub fn letters_act_once()
 pub fn lawful_states_stay_lawful(map: &Map)
     ensures stays { StaysLawful map.now }
     ensures sane { IsNeverDamaged map.now }
+{
+    map.facts();
+    openings_are_of_their_map();
+    orders_are_read_again();
+    orders_are_lawful();
+    lawful_orders_are_read();
+}
+
+/// What is decided of a letter fits the map, or else the record of its author may be Damaged: the board of a seat's game isn't one of the
+/// map.
+pub fn effects_fit(map: &Map)
+    ensures { EffectsFit map.now }
 {
     map.facts();
     openings_are_of_their_map();

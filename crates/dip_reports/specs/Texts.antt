@@ -89,11 +89,6 @@ abbrev pub forces : Position → ℕ → List Force
 forces b power = map (force false) (filter (λ u. u.power == power) b.units)
     ++ map (λ d. force true d.unit) (filter (λ d. d.unit.power == power) b.dislodged)
 
--- the numbers of the items of a list, the first of which is number i
-abbrev pub numbers : {A : Type 0} → ℕ → List A → List ℕ
-numbers i [] = []
-numbers i (x ∷ xs) = i ∷ numbers (i + 1) xs
-
 abbrev pub in_province : List Force → ℕ → List Force
 in_province fs p = filter (λ f. f.unit.place.prov == p) fs
 

@@ -1,13 +1,12 @@
-use Rattle.std.proofs.Common.{◌≡◌, ◌==◌, ℕ, drop, map}
+use Rattle.std.proofs.Common.{◌≡◌, ◌==◌, ℕ, map}
 use Rattle.std.specs.Prelude.{count_by}
 use Rattle.std.specs.List.{list_all}
 use Rattle.dip_machine.specs.Machine as m
 use Rattle.dip_machine.specs.Rows as desk_rows
 use Rattle.dip_machine.specs.State.{NewSeat}
-use Rattle.dip_reports.specs.Texts.{numbers}
 use Rattle.dip_machine.proofs.creating.are_complete.Given as goal
 
-abbrev pub invariant-loop-index : goal.invariant-loop-index
-invariant-loop-index l =
-    list_all (λ (p : ℕ). count_by (λ (s : NewSeat). s.power == p) (map desk_rows.new_seat l.seats) == 1) (numbers l.index (drop l.index l.map.realms))
+abbrev pub invariant-loop-power : goal.invariant-loop-power
+invariant-loop-power l =
+    list_all (λ (p : ℕ). count_by (λ (s : NewSeat). s.power == p) (map desk_rows.new_seat l.seats) == 1) l.power-iterator
     ≡ m.are_complete l.map (map desk_rows.new_seat l.seats)

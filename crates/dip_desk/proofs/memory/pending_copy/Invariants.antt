@@ -1,6 +1,0 @@
-use Rattle.std.proofs.Common.{◌≡◌, take}
-use Rattle.dip_records.specs.Rows as rows
-use Rattle.dip_desk.proofs.memory.pending_copy.Given as goal
-
-abbrev pub invariant-loop-standing : goal.invariant-loop-standing
-invariant-loop-standing l = rows.standings l.copy.items ≡ rows.standings (take l.standing-index l.pending)

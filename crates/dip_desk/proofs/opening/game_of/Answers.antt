@@ -1,0 +1,22 @@
+use Rattle.std.proofs.Common.{rules, map, string_bytes}
+use Rattle.dip_machine.specs.Rows as desk_rows
+use Rattle.dip_records.specs.Rows as rows
+use Rattle.dip_desk.proofs.PartLemmas.{new_game}
+use Rattle.dip_desk.proofs.opening.game_of.Goals as goal
+
+pub returns : goal.returns
+returns c name is =
+    new_game name
+    (record {
+      board = c.in_ok-copy.field-0;
+      status = c.in_ok-status_copy.field-0;
+      due = c.args.public.now.due;
+      period = c.args.public.now.period;
+      grey = c.args.public.now.grey;
+      count = c.args.public.now.papers;
+      papers = c.push.new.self;
+      posts = c.new.result;
+      seats = c.in_ok-fresh_seats.field-0;
+    })
+    (rows.public c.args.public.now) (string_bytes c.args.paper.now) (map (λ n. desk_rows.new_seat n) c.args.seats.now) (search rules) (search rules) c.new.ensures.items
+    c.in_ok-fresh_seats.ensures

@@ -1,0 +1,33 @@
+use Rattle.std.proofs.Common.{◌≡◌, ◌<◌, ◌==◌, length, get_or, arith}
+use Rattle.dip_machine.specs.Keyed.{place}
+use Rattle.dip_machine.specs.Rows as desk_rows
+use Rattle.dip_desk.specs.Stored.{MaySend, owns, own_letter, power_of}
+use Rattle.dip_records.specs.Rows as rows
+use Rattle.dip_machine.proofs.KeyedLemmas.{said_kept, said_set}
+use Rattle.dip_desk.proofs.PartLemmas.{at_place}
+use Rattle.dip_desk.proofs.recording.record_seat.Goals as goal
+
+pub returns-then-place-len : goal.returns-then-place-len
+returns-then-place-len c =
+    let xs = c.args.seats.now.items in
+    let i = c.seat_place-place.result in
+    let old = c.index_mut.result.now in
+    let here : i ≡ place (λ a b. a == b) power_of c.args.power (owns xs) = cc in
+    let lt : i < length xs = omega arith in
+    let is : old ≡ get_or xs i old = cc in
+    said_set (λ o. rows.own o) (λ a b. a == b) power_of c.args.power (own_letter (rows.kept c.args.kept) (desk_rows.effect c.args.effect.now)) xs i old _ here lt is c.record_own.ensures
+
+pub returns-else-place-len : goal.returns-else-place-len
+returns-else-place-len c =
+    let xs = c.args.seats.now.items in
+    let here : c.seat_place-place.result ≡ place (λ a b. a == b) power_of c.args.power (owns xs) = cc in
+    said_kept (λ o. rows.own o) (λ a b. a == b) power_of c.args.power (own_letter (rows.kept c.args.kept) (desk_rows.effect c.args.effect.now)) xs c.seat_place-place.result here (omega arith)
+
+pub record_own-requires-clause-room : goal.record_own-requires-clause-room
+record_own-requires-clause-room c =
+    let xs = c.args.seats.now.items in
+    let i = c.seat_place-place.result in
+    let old = c.index_mut.result.now in
+    let lt : i < length xs = omega arith in
+    let is : old ≡ get_or xs i old = cc in
+    at_place (MaySend (desk_rows.effect c.args.effect.now)) xs i old lt is c.requires.room

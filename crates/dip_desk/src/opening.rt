@@ -1,0 +1,96 @@
+//! A new game, as it comes to lie in memory.
+ghost use Rattle.std.specs.Prelude.{◌≡◌, [], ◌∷◌, ◌++◌, ℕ, List, None, IfOk, IsErrOf, OnErr, OnOk, bytes_eq, map as each, string_bytes};
+ghost use Rattle.dip_machine.specs.Faults.{faults_after};
+ghost use Rattle.dip_machine.specs.Keyed.{at, change_at};
+ghost use Rattle.dip_machine.specs.State as s;
+ghost use Rattle.dip_machine.specs.Rows as desk_rows;
+ghost use Rattle.dip_records.specs.Rows as rows;
+ghost use Rattle.dip_desk.specs.Stored as stored;
+
+use crate::copying::status_copy;
+use crate::games::{GameRow, Games};
+use dip_machine::{KeepFault, NewSeat};
+use dip_records::{Own, Public};
+use std::alloc::{AllocError, Global};
+
+fn fresh(alloc: Global, seat: &NewSeat) -> Own
+    ensures { rows.own result ≡ (s.fresh (desk_rows.new_seat seat.now)).own }
+{
+    Own {
+        power: seat.power,
+        digest: seat.digest,
+        vote: false,
+        pending: Vec::new(alloc),
+        kept: None,
+        sent: 0,
+        items: 0,
+    }
+}
+
+fn fresh_seats(alloc: Global, seats: &[NewSeat]) -> Result<Vec<Own>, AllocError>
+    ensures { IfOk result
+        (λ v. stored.owns v.items ≡ stored.fresh_owns
+        (each (λ n. desk_rows.new_seat n) seats.now)) }
+{
+    let mut owns = Vec::with_capacity(alloc, seats.len())?;
+    for seat in seats {
+        owns.push(fresh(alloc, seat))?;
+    }
+    Ok(owns)
+}
+
+/// A new game, but for its name.
+fn game_of(
+    alloc: Global,
+    public: &Public,
+    paper: &String,
+    seats: &[NewSeat],
+) -> Result<GameRow, AllocError>
+    ensures { IfOk result
+        (λ g. (name : List ℕ) → name ≡ (rows.public public.now).game → stored.game name g
+        ≡ s.opening_game (rows.public public.now) (string_bytes paper.now)
+        (each (λ n. desk_rows.new_seat n) seats.now)) }
+{
+    let mut papers = Vec::new(alloc);
+    papers.push(paper.clone()?)?;
+    Ok(GameRow {
+        board: public.board.copy(alloc)?,
+        status: status_copy(alloc, &public.status)?,
+        due: public.due,
+        period: public.period,
+        grey: public.grey,
+        count: public.papers,
+        papers,
+        posts: Vec::new(alloc),
+        seats: fresh_seats(alloc, seats)?,
+    })
+}
+
+/// A new game stands last. A name that is taken is none to open a game of.
+pub fn add_game(
+    alloc: Global,
+    games: &mut Games,
+    public: &Public,
+    paper: &String,
+    seats: &[NewSeat],
+) -> Result<(), KeepFault>
+    ensures ok { OnOk result (stored.games games.new.entries ≡ stored.games games.old.entries
+        ++ s.opening_game (rows.public public.now) (string_bytes paper.now)
+        (each (λ n. desk_rows.new_seat n) seats.now) ∷ []) }
+    ensures free { OnOk result ((f : s.Game → s.Game) → stored.games games.old.entries
+        ≡ change_at bytes_eq s.name_of (string_bytes public.now.game) f
+        (stored.games games.old.entries)) }
+    ensures err { OnErr result
+        (stored.games games.new.entries ≡ stored.games games.old.entries) }
+    ensures taken { IsErrOf result KeepFault.Damaged
+        → at bytes_eq s.name_of (string_bytes public.now.game) (stored.games games.old.entries)
+        ≡ None → ⊥ }
+    ensures disk { faults_after result 0 ≡ 0 }
+{
+    if games.contains_key(public.game.as_str()) {
+        return Err(KeepFault::Damaged);
+    }
+    let game = game_of(alloc, public, paper, seats)?;
+    games.insert(public.game.clone()?, game)?;
+    Ok(())
+}

@@ -1,0 +1,351 @@
+//! What a change makes of the games.
+ghost use Rattle.std.specs.Prelude.{◌≡◌, ◌∷◌, [], ◌++◌, ◌==◌, ℕ, List, Some, IfOk, IsErrOf, OnErr, OnOk, bytes_eq, option_map, string_bytes, true};
+ghost use Rattle.std.specs.List.{AllByRecursion, list_all, list_any};
+ghost use Rattle.dip_machine.specs.Faults.{faults_after};
+ghost use Rattle.dip_desk.specs.Fitting.{FindsPlace, has_room};
+ghost use Rattle.dip_machine.specs.Keyed.{at, change_at, place};
+ghost use Rattle.dip_machine.specs.State as s;
+ghost use Rattle.dip_machine.specs.Rows as desk_rows;
+ghost use Rattle.dip_records.specs.Rows as rows;
+ghost use Rattle.dip_desk.specs.Stored as stored;
+
+use crate::copying::{item_copy, kept_copy, pending_copy, powers_copy, status_copy};
+use crate::games::{GameRow, Games, Post};
+use crate::opening::add_game;
+use dip_machine::{Author, Change, Effect, KeepFault};
+use dip_names::Power;
+use dip_records::{Item, Kept, Own, Public, Standing};
+use std::alloc::{AllocError, Global};
+
+/// The place of the seat of that power, or the length.
+fn seat_place(seats: &[Own], power: Power) -> usize
+    ensures { result ≡ place (λ a b. a == b) stored.power_of power (stored.owns seats.now) }
+{
+    for (number, seat) in seats.iter().enumerate() {
+        if seat.power == power {
+            return number;
+        }
+    }
+    seats.len()
+}
+
+/// What a letter of its own changes in a seat.
+fn record_own(own: &mut Own, kept: Kept, effect: &Effect, pending: Option<Vec<Standing>>)
+    requires pending { option_map (λ l. rows.standings l.items) pending ≡ stored.orders_in
+        (desk_rows.effect effect.now) }
+    requires room { stored.MaySend (desk_rows.effect effect.now) (rows.own own.old) }
+    ensures { rows.own own.new ≡ stored.own_letter (rows.kept kept) (desk_rows.effect effect.now)
+        (rows.own own.old) }
+{
+    own.kept = Some(kept);
+    if let Some(pending) = pending {
+        own.pending = pending;
+        return;
+    }
+    match effect {
+        Effect::Votes(draw) => own.vote = *draw,
+        Effect::Delivers { .. } => own.sent += 1,
+        Effect::Nothing
+        | Effect::Pending(_)
+        | Effect::Opens { .. }
+        | Effect::Publishes { .. }
+        | Effect::Seats(_) => {}
+    }
+}
+
+fn record_seat(
+    seats: &mut Vec<Own>,
+    power: Power,
+    kept: Kept,
+    effect: &Effect,
+    pending: Option<Vec<Standing>>,
+)
+    requires pending { option_map (λ l. rows.standings l.items) pending ≡ stored.orders_in
+        (desk_rows.effect effect.now) }
+    requires room { AllByRecursion (stored.MaySend (desk_rows.effect effect.now))
+        (stored.owns seats.old.items) }
+    ensures { stored.owns seats.new.items ≡ change_at (λ a b. a == b) stored.power_of power
+        (stored.own_letter (rows.kept kept) (desk_rows.effect effect.now))
+        (stored.owns seats.old.items) }
+{
+    let place = seat_place(seats.as_slice(), power);
+    if place < seats.len() {
+        record_own(&mut seats[place], kept, effect, pending);
+    }
+}
+
+/// What a letter changes in the seat of its author.
+fn record_author(
+    seats: &mut Vec<Own>,
+    author: Author,
+    kept: Kept,
+    effect: &Effect,
+    pending: Option<Vec<Standing>>,
+)
+    requires pending { option_map (λ l. rows.standings l.items) pending ≡ stored.orders_in
+        (desk_rows.effect effect.now) }
+    requires room { AllByRecursion (stored.MaySend (desk_rows.effect effect.now))
+        (stored.owns seats.old.items) }
+    ensures { stored.owns seats.new.items ≡ stored.owns_by (desk_rows.author author)
+        (rows.kept kept) (desk_rows.effect effect.now) (stored.owns seats.old.items) }
+{
+    match author {
+        Author::Seat(power) => record_seat(seats, power, kept, effect, pending),
+        Author::Nobody | Author::TheMaster => {}
+    }
+}
+
+/// Whether the power is among the readers.
+fn reads(readers: &[Power], power: Power) -> bool
+    ensures { result ≡ list_any (λ p. p == power) readers.now }
+{
+    readers.iter().any(|reader| *reader == power)
+}
+
+/// What an effect changes in each seat of its game.
+fn reach_own(own: &mut Own, effect: &Effect)
+    requires { stored.MayHear (desk_rows.effect effect.now) (rows.own own.old) }
+    ensures { rows.own own.new ≡ stored.own_reached (desk_rows.effect effect.now)
+        (rows.own own.old) }
+{
+    match effect {
+        Effect::Delivers { readers, .. } => {
+            if reads(readers.as_slice(), own.power) {
+                own.items += 1;
+            }
+        }
+        Effect::Publishes { played, .. } => {
+            if *played {
+                own.pending.clear();
+            }
+        }
+        Effect::Seats(seat) => {
+            if seat.power == own.power {
+                own.digest = seat.digest;
+            }
+        }
+        Effect::Nothing | Effect::Pending(_) | Effect::Votes(_) | Effect::Opens { .. } => {}
+    }
+}
+
+fn reach_seats(seats: &mut Vec<Own>, effect: &Effect)
+    requires { AllByRecursion (stored.MayHear (desk_rows.effect effect.now))
+        (stored.owns seats.old.items) }
+    ensures { stored.owns seats.new.items ≡ stored.owns_reached (desk_rows.effect effect.now)
+        (stored.owns seats.old.items) }
+{
+    for seat in seats.iter_mut() {
+        reach_own(seat, effect);
+    }
+}
+
+/// Whether the counts of each seat have room for one item more, where the effect is press.
+fn finds_room(effect: &Effect, seats: &[Own]) -> bool
+    ensures { result ≡ stored.finds_room (desk_rows.effect effect.now) (stored.owns seats.now) }
+{
+    match effect {
+        Effect::Delivers { .. } => have_room(seats),
+        Effect::Nothing
+        | Effect::Pending(_)
+        | Effect::Votes(_)
+        | Effect::Opens { .. }
+        | Effect::Publishes { .. }
+        | Effect::Seats(_) => true,
+    }
+}
+
+/// Whether a seat's counts have room for one more.
+fn has_room(own: &Own) -> bool
+    ensures { result ≡ has_room (rows.own own.now) }
+{
+    own.items < u32::MAX && own.sent < u32::MAX
+}
+
+fn have_room(seats: &[Own]) -> bool
+    ensures { result ≡ list_all has_room (stored.owns seats.now) }
+{
+    for own in seats {
+        if !has_room(own) {
+            return false;
+        }
+    }
+    true
+}
+
+/// Press stands behind the press that was there.
+fn put_post(
+    alloc: Global,
+    posts: &mut Vec<Post>,
+    readers: &[Power],
+    item: &Item,
+) -> Result<(), AllocError>
+    ensures ok { OnOk result ((power : ℕ) → stored.box_of power posts.new.items ≡ stored.box_of
+        power posts.old.items ++ stored.heard power readers.now (rows.item item.now)) }
+    ensures err { OnErr result (posts.new.items ≡ posts.old.items) }
+{
+    let post = Post {
+        readers: powers_copy(alloc, readers)?,
+        item: item_copy(alloc, item)?,
+    };
+    posts.push(post)?;
+    Ok(())
+}
+
+/// A paper stands behind the papers that were there, and the public part is the one behind it.
+fn put_page(
+    alloc: Global,
+    game: &mut GameRow,
+    public: &Public,
+    paper: &String,
+) -> Result<(), AllocError>
+    ensures public { OnOk result ((key : List ℕ) → (stored.game key game.new).public ≡ record
+        (rows.public public.now) { game = key }) }
+    ensures papers { OnOk result (rows.lines game.new.papers.items ≡ rows.lines
+        game.old.papers.items ++ string_bytes paper.now ∷ []) }
+    ensures posts { game.new.posts ≡ game.old.posts }
+    ensures seats { game.new.seats ≡ game.old.seats }
+    ensures err { OnErr result ((key : List ℕ) → stored.game key game.new ≡ stored.game key
+        game.old) }
+{
+    let board = public.board.copy(alloc)?;
+    let status = status_copy(alloc, &public.status)?;
+    game.papers.push(paper.clone()?)?;
+    game.board = board;
+    game.status = status;
+    game.due = public.due;
+    game.period = public.period;
+    game.grey = public.grey;
+    game.count = public.papers;
+    Ok(())
+}
+
+/// What an effect brings into a game that is there, beside its seats. It alone wants memory.
+fn put_content(alloc: Global, game: &mut GameRow, effect: &Effect) -> Result<(), AllocError>
+    ensures ok { OnOk result
+        (stored.Brings (desk_rows.effect effect.now) game.old game.new) }
+    ensures seats { game.new.seats ≡ game.old.seats }
+    ensures err { OnErr result ((key : List ℕ) → stored.game key game.new ≡ stored.game key
+        game.old) }
+{
+    match effect {
+        Effect::Delivers { readers, item } => {
+            put_post(alloc, &mut game.posts, readers.as_slice(), item)
+        }
+        Effect::Publishes { public, paper, .. } => put_page(alloc, game, public, paper),
+        Effect::Nothing
+        | Effect::Pending(_)
+        | Effect::Votes(_)
+        | Effect::Opens { .. }
+        | Effect::Seats(_) => Ok(()),
+    }
+}
+
+/// The standing orders that an effect gives its author, where it gives any.
+fn pending_in(alloc: Global, effect: &Effect) -> Result<Option<Vec<Standing>>, AllocError>
+    ensures { IfOk result
+        (λ o. option_map (λ l. rows.standings l.items) o
+        ≡ stored.orders_in (desk_rows.effect effect.now)) }
+{
+    match effect {
+        Effect::Pending(orders) => Ok(Some(pending_copy(alloc, orders.as_slice())?)),
+        Effect::Nothing
+        | Effect::Votes(_)
+        | Effect::Delivers { .. }
+        | Effect::Opens { .. }
+        | Effect::Publishes { .. }
+        | Effect::Seats(_) => Ok(None),
+    }
+}
+
+/// What a change makes of the game that it names. Copies are made before the first change.
+fn record_row(alloc: Global, game: &mut GameRow, change: &Change) -> Result<(), AllocError>
+    requires { stored.finds_room (desk_rows.effect change.now.effect)
+        (stored.owns game.old.seats.items) ≡ true }
+    ensures ok { OnOk result ((key : List ℕ) → stored.game key game.new ≡ s.game_after
+        (desk_rows.change change.now) (stored.game key game.old)) }
+    ensures err { OnErr result ((key : List ℕ) → stored.game key game.new ≡ stored.game key
+        game.old) }
+{
+    let kept = kept_copy(&change.kept)?;
+    let pending = pending_in(alloc, &change.effect)?;
+    put_content(alloc, game, &change.effect)?;
+    record_author(
+        &mut game.seats,
+        change.author,
+        kept,
+        &change.effect,
+        pending,
+    );
+    reach_seats(&mut game.seats, &change.effect);
+    Ok(())
+}
+
+/// The same, where each count has room for it.
+fn record_fitting(alloc: Global, game: &mut GameRow, change: &Change) -> Result<(), KeepFault>
+    ensures ok { OnOk result ((key : List ℕ) → stored.game key game.new ≡ s.game_after
+        (desk_rows.change change.now) (stored.game key game.old)) }
+    ensures err { OnErr result ((key : List ℕ) → stored.game key game.new ≡ stored.game key
+        game.old) }
+    ensures fitting { IsErrOf result KeepFault.Damaged → (key : List ℕ)
+        → FindsPlace (string_bytes change.now.game) (desk_rows.effect change.now.effect)
+        (Some (stored.game key game.old)) → ⊥ }
+    ensures disk { faults_after result 0 ≡ 0 }
+{
+    if !finds_room(&change.effect, game.seats.as_slice()) {
+        return Err(KeepFault::Damaged);
+    }
+    record_row(alloc, game, change)?;
+    Ok(())
+}
+
+/// What a change makes of the game that it names, where there is one.
+fn record_game(alloc: Global, games: &mut Games, change: &Change) -> Result<(), KeepFault>
+    ensures ok { OnOk result (stored.games games.new.entries ≡ change_at bytes_eq s.name_of
+        (string_bytes change.now.game) (s.game_after (desk_rows.change change.now))
+        (stored.games games.old.entries)) }
+    ensures err { OnErr result
+        (stored.games games.new.entries ≡ stored.games games.old.entries) }
+    ensures fitting { IsErrOf result KeepFault.Damaged
+        → FindsPlace (string_bytes change.now.game) (desk_rows.effect change.now.effect)
+        (at bytes_eq s.name_of (string_bytes change.now.game) (stored.games games.old.entries))
+        → ⊥ }
+    ensures disk { faults_after result 0 ≡ 0 }
+{
+    let Some(place) = games.get_index_of(change.game.as_str()) else {
+        return Ok(());
+    };
+    let game = &mut games[place];
+    record_fitting(alloc, game, change)
+}
+
+/// What a change does to the games: a new one stands last, where its name is the change's and free.
+pub fn record_games(alloc: Global, games: &mut Games, change: &Change) -> Result<(), KeepFault>
+    ensures ok { OnOk result (stored.games games.new.entries ≡ stored.games_after
+        (desk_rows.change change.now) (stored.games games.old.entries)) }
+    ensures err { OnErr result
+        (stored.games games.new.entries ≡ stored.games games.old.entries) }
+    ensures fitting { IsErrOf result KeepFault.Damaged
+        → FindsPlace (string_bytes change.now.game) (desk_rows.effect change.now.effect)
+        (at bytes_eq s.name_of (string_bytes change.now.game) (stored.games games.old.entries))
+        → ⊥ }
+    ensures disk { faults_after result 0 ≡ 0 }
+{
+    match &change.effect {
+        Effect::Opens {
+            public,
+            paper,
+            seats,
+        } => {
+            if public.game.as_str() != change.game.as_str() {
+                return Err(KeepFault::Damaged);
+            }
+            add_game(alloc, games, public, paper, seats.as_slice())
+        }
+        Effect::Nothing
+        | Effect::Pending(_)
+        | Effect::Votes(_)
+        | Effect::Delivers { .. }
+        | Effect::Publishes { .. }
+        | Effect::Seats(_) => record_game(alloc, games, change),
+    }
+}

@@ -1,0 +1,168 @@
+//! Changes that are made and read back.
+use crate::tests::letters::{CREATE, ORDERS, desk, letter};
+use dip_desk::{Keeper, MemoryKeeper, take};
+use dip_machine::{Author, Change, Effect, KeepFault, NewSeat};
+use dip_map::{Map, STANDARD};
+use dip_names::Power;
+use dip_records::{Item, Kept, Own, Public};
+use std::alloc::{AllocError, Global};
+use std::process::Abort;
+use std::test::Fail;
+
+fn power(rt: &impl Abort, map: &Map, name: &str) -> Power {
+    let Some(power) = map.power(name) else {
+        panic!(rt; "no such power");
+    };
+    power
+}
+
+/// The seat of a power in the game.
+fn seat(
+    rt: &impl Abort,
+    keeper: &mut MemoryKeeper,
+    map: &Map,
+    name: &str,
+) -> Result<Own, KeepFault> {
+    let Some(own) = keeper.own(map, "g1", power(rt, map, name))? else {
+        panic!(rt; "no such seat");
+    };
+    Ok(own)
+}
+
+fn public(rt: &impl Abort, keeper: &mut MemoryKeeper, map: &Map) -> Result<Public, KeepFault> {
+    let Some(public) = keeper.public(map, "g1")? else {
+        panic!(rt; "no such game");
+    };
+    Ok(public)
+}
+
+/// A desk with a game in which England has two orders.
+fn opened(rt: &impl Abort, alloc: Global, map: &Map) -> Result<MemoryKeeper, KeepFault> {
+    let mut keeper = desk(alloc);
+    take(alloc, &mut keeper, map, &letter(rt, CREATE))?;
+    take(alloc, &mut keeper, map, &letter(rt, ORDERS))?;
+    Ok(keeper)
+}
+
+/// What letter 2 of the author changes by this effect.
+fn second(alloc: Global, author: Author, effect: Effect) -> Result<Change, AllocError> {
+    Ok(Change {
+        game: String::from_str(alloc, "g1")?,
+        author,
+        kept: Kept {
+            number: 2,
+            sum: [7; 32],
+            reply: String::from_str(alloc, "done\n")?,
+        },
+        effect,
+    })
+}
+
+fn press(alloc: Global, first: Power, second: Power, third: Power) -> Result<Effect, AllocError> {
+    let mut readers = Vec::new(alloc);
+    readers.push(first)?;
+    readers.push(second)?;
+    readers.push(third)?;
+    let mut text = Vec::new(alloc);
+    text.push(String::from_str(alloc, "shall we")?)?;
+    Ok(Effect::Delivers {
+        readers,
+        item: Item::Grey {
+            to_all: false,
+            text,
+        },
+    })
+}
+
+/// The game's public part with another name, due tick and count of papers.
+fn page(alloc: Global, public: Public, played: bool) -> Result<Effect, AllocError> {
+    Ok(Effect::Publishes {
+        public: Public {
+            game: String::from_str(alloc, "g2")?,
+            board: public.board,
+            status: public.status,
+            due: 200,
+            period: public.period,
+            grey: public.grey,
+            papers: 2,
+        },
+        paper: String::from_str(alloc, "PAPER 2\n")?,
+        played,
+    })
+}
+
+#[test]
+fn a_vote_is_its_authors(rt: HostRuntime) -> Result<(), Fail> {
+    let alloc = rt.alloc();
+    let map = Map::from_toml(alloc, STANDARD)?;
+    let mut keeper = opened(&rt, alloc, &map)?;
+    let author = Author::Seat(power(&rt, &map, "england"));
+    keeper.apply(&map, &second(alloc, author, Effect::Votes(true))?)?;
+    let england = seat(&rt, &mut keeper, &map, "england")?;
+    let france = seat(&rt, &mut keeper, &map, "france")?;
+    assert!(&rt; england.vote && !france.vote);
+    assert!(&rt; england.pending.len() == 2 && england.sent == 0);
+    Ok(())
+}
+
+/// France is named twice, and has it once.
+#[test]
+fn press_comes_to_its_readers(rt: HostRuntime) -> Result<(), Fail> {
+    let alloc = rt.alloc();
+    let map = Map::from_toml(alloc, STANDARD)?;
+    let mut keeper = opened(&rt, alloc, &map)?;
+    let author = Author::Seat(power(&rt, &map, "england"));
+    let france = power(&rt, &map, "france");
+    let turkey = power(&rt, &map, "turkey");
+    let effect = press(alloc, france, turkey, france)?;
+    keeper.apply(&map, &second(alloc, author, effect)?)?;
+    let england = seat(&rt, &mut keeper, &map, "england")?;
+    assert!(&rt; england.sent == 1 && england.items == 0);
+    let france = seat(&rt, &mut keeper, &map, "france")?;
+    assert!(&rt; france.sent == 0 && france.items == 1);
+    assert!(&rt; seat(&rt, &mut keeper, &map, "turkey")?.items == 1);
+    assert!(&rt; seat(&rt, &mut keeper, &map, "austria")?.items == 0);
+    Ok(())
+}
+
+fn check_paper(rt: &impl Abort, alloc: Global, map: &Map, played: bool) -> Result<(), KeepFault> {
+    let mut keeper = opened(rt, alloc, map)?;
+    let before = public(rt, &mut keeper, map)?;
+    let effect = page(alloc, before, played)?;
+    keeper.apply(map, &second(alloc, Author::TheMaster, effect)?)?;
+    let after = public(rt, &mut keeper, map)?;
+    assert!(rt; after.game.as_str() == "g1" && after.due == 200 && after.papers == 2);
+    let england = seat(rt, &mut keeper, map, "england")?;
+    assert!(rt; england.pending.is_empty() == played);
+    Ok(())
+}
+
+/// A game keeps its name; its orders fall where a phase was played, and else stand.
+#[test]
+fn a_paper_leaves_its_public_part(rt: HostRuntime) -> Result<(), Fail> {
+    let alloc = rt.alloc();
+    let map = Map::from_toml(alloc, STANDARD)?;
+    check_paper(&rt, alloc, &map, true)?;
+    check_paper(&rt, alloc, &map, false)?;
+    Ok(())
+}
+
+#[test]
+fn another_digest_is_one_seats(rt: HostRuntime) -> Result<(), Fail> {
+    let alloc = rt.alloc();
+    let map = Map::from_toml(alloc, STANDARD)?;
+    let mut keeper = opened(&rt, alloc, &map)?;
+    let before = seat(&rt, &mut keeper, &map, "england")?;
+    let given = NewSeat {
+        power: power(&rt, &map, "france"),
+        digest: [9; 32],
+    };
+    keeper.apply(
+        &map,
+        &second(alloc, Author::TheMaster, Effect::Seats(given))?,
+    )?;
+    let france = seat(&rt, &mut keeper, &map, "france")?;
+    let england = seat(&rt, &mut keeper, &map, "england")?;
+    assert!(&rt; france.digest == [9; 32] && england.digest == before.digest);
+    Ok(())
+}

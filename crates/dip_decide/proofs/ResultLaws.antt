@@ -1,10 +1,9 @@
 -- The lists of a resolution, and what they say together.
-use Rattle.std.proofs.Common.{◌≡◌, ℕ, ◌≤◌, ◌<◌, ◌+◌, List, [], ◌∷◌, ◌++◌, length, drop, All, refl, sym, subst, ap, ◌∙◌, append_assoc, append-nil, inl, inr, suc, arith}
+use Rattle.std.proofs.Common.{◌≡◌, ℕ, ◌≤◌, ◌<◌, ◌+◌, List, [], ◌∷◌, length, All, refl, sym, subst, ap, ◌∙◌, append-nil, inl, inr, zero, suc, arith}
 use Rattle.std.specs.Prelude.{◌==◌, nat_lt, Bool, true, false, ◌&&◌, ◌||◌, filter, None, Some}
-use Rattle.std.specs.List.{list_any, list_all}
+use Rattle.std.specs.List.{list_any, list_all, range_with_len}
 use Rattle.std.proofs.lemmas.Bool.{cases_Bool, both_ways, cases_lt, or_left, or_right, and_parts}
 use Rattle.std.proofs.lemmas.Bool.Decides.{nat_tests}
-use Rattle.std.proofs.lemmas.List.{drop_more}
 use Rattle.std.proofs.Math.Path.{fun_ext}
 use mathlib.Core.Logic.{◌⊎◌}
 use Rattle.std.specs.List.{AllByRecursion}
@@ -14,7 +13,7 @@ use Rattle.dip_names.specs.declared.names.Kind.{Kind}
 use Rattle.dip_names.specs.declared.names.Kind.TheVariants.{Army, Fleet}
 use Rattle.dip_names.specs.declared.names.Place.{Place}
 use Rattle.dip_board.specs.Boards.{Position, IsOf}
-use Rattle.dip_chart.specs.Charts.{Chart, Province, no_province, may_stand, is_unit}
+use Rattle.dip_chart.specs.Charts.{Chart, may_stand, is_unit}
 use Rattle.dip_orders.specs.Standing.{units_of, are_in_force}
 use Rattle.dip_decide.specs.declared.decisions.Resolution.{Resolution}
 use Rattle.dip_decide.specs.Deciding as Deciding
@@ -36,15 +35,10 @@ use Rattle.dip_decide.specs.declared.decisions.Step as Written
 use Rattle.dip_decide.specs.declared.decisions.Step.TheVariants.{Forced, Circle, Knot}
 use Rattle.dip_decide.specs.Deciding.{Known, Assignment, is_among, is_broken, IsCompletion, Explains, IsCircle, IsKnot, give}
 use Rattle.dip_decide.specs.Movement.{Situation, IsSituation, is_listed, is_decided, at_first, rule, mentions, Satisfies}
-use Rattle.dip_decide.specs.Results.{numbers_from, is_true, breaks, are_ascending, AreInOrder, AreExplained, values_in, broken_in, decided_in, IsListing}
+use Rattle.dip_decide.specs.Results.{is_true, breaks, are_ascending, AreInOrder, AreExplained, values_in, broken_in, decided_in, IsListing}
 use Rattle.dip_decide.specs.Steps.{paths_of, decisions, is_unknown, steps_of, IsStarted, Advances, IsComplete}
 use Rattle.dip_decide.proofs.ChainLaws.{listed_kept}
 use Rattle.dip_decide.proofs.Giving.{among_paths}
-
-pub numbers_step : (ps : List Province) (front all : List ℕ) (i : ℕ) → i < length ps → front ++ numbers_from i (drop i ps) ≡ all → (front ++ i ∷ []) ++ numbers_from (i + 1) (drop (i + 1) ps) ≡ all
-numbers_step ps front all i h before =
-    let cut = drop_more ps i no_province h in
-    append_assoc front (i ∷ []) (numbers_from (i + 1) (drop (i + 1) ps)) ∙ rw cut at before
 
 pub broken_any : (steps : List Written.Step) (p : ℕ) → is_broken (steps_of steps) (Path p) ≡ list_any (λ s. breaks s p) steps
 broken_any [] p = refl
@@ -53,49 +47,49 @@ broken_any (Circle ps ∷ steps) p = broken_any steps p
 broken_any (Knot ps ∷ steps) p = rw (among_paths ps.items p, broken_any steps p) refl
 
 -- a number is counted where it is none before the first, and there are so many behind it
-listed_number : (ps : List Province) (i p : ℕ) → i ≤ p → p < i + length ps → is_listed (numbers_from i ps) p ≡ true
-listed_number [] i p h l = absurd (omega arith)
-listed_number (x ∷ ps) i p h l = go (cases_Bool (i == p)) (λ g. listed_number ps (i + 1) p g (omega arith))
+listed_number : (a k p : ℕ) → a ≤ p → p < a + k → is_listed (range_with_len a k) p ≡ true
+listed_number a zero p h l = absurd (omega (arith, h, l))
+listed_number a (suc k) p h l = go (cases_Bool (a == p)) (λ g. listed_number (a + 1) k p g (omega (arith, l)))
   where
-    go : ((i == p) ≡ true) ⊎ ((i == p) ≡ false) → (i + 1 ≤ p → is_listed (numbers_from (i + 1) ps) p ≡ true) → (i == p || is_listed (numbers_from (i + 1) ps) p) ≡ true
+    go : ((a == p) ≡ true) ⊎ ((a == p) ≡ false) → (a + 1 ≤ p → is_listed (range_with_len (a + 1) k) p ≡ true) → (a == p || is_listed (range_with_len (a + 1) k) p) ≡ true
     go (inl e) _ = or_left _ _ e
-    go (inr e) f = or_right (i == p) _ (f (grind (arith, nat_tests)))
+    go (inr e) f = or_right (a == p) _ (f (grind (arith, nat_tests)))
 
 -- the list of those of which something holds says it of each, where it holds of none behind the provinces
-pub listed_all : (t : ℕ → Bool) (ps : List Province) (p : ℕ) → (length ps ≤ p → t p ≡ false) → is_listed (filter t (numbers_from 0 ps)) p ≡ t p
-listed_all t ps p h = listed_kept t (numbers_from 0 ps) p ∙ go (cases_lt p (length ps))
+pub listed_all : (t : ℕ → Bool) (n p : ℕ) → (n ≤ p → t p ≡ false) → is_listed (filter t (range_with_len 0 n)) p ≡ t p
+listed_all t n p h = listed_kept t (range_with_len 0 n) p ∙ go (cases_lt p n)
   where
     right : (b : Bool) → (b && true) ≡ b
     right true = refl
     right false = refl
 
-    go : (p < length ps) ⊎ (length ps ≤ p) → (t p && is_listed (numbers_from 0 ps) p) ≡ t p
-    go (inl l) = rw (listed_number ps 0 p (omega arith) (omega arith)) (right (t p))
+    go : (p < n) ⊎ (n ≤ p) → (t p && is_listed (range_with_len 0 n) p) ≡ t p
+    go (inl l) = rw (listed_number 0 n p (omega arith) (omega (arith, l))) (right (t p))
     go (inr l) = rw (h l) refl
 
 -- the numbers ascend, and so do those that are kept
-ascending_above : (t : ℕ → Bool) (ps : List Province) (i j : ℕ) → j < i → list_all (λ q. nat_lt j q) (filter t (numbers_from i ps)) ≡ true
-ascending_above t [] i j h = refl
-ascending_above t (x ∷ ps) i j h = go (cases_Bool (t i)) (ascending_above t ps (i + 1) j (omega arith))
+ascending_above : (t : ℕ → Bool) (a k j : ℕ) → j < a → list_all (λ q. nat_lt j q) (filter t (range_with_len a k)) ≡ true
+ascending_above t a zero j h = refl
+ascending_above t a (suc k) j h = go (cases_Bool (t a)) (ascending_above t (a + 1) k j (omega (arith, h)))
   where
-    go : (t i ≡ true) ⊎ (t i ≡ false) → list_all (λ q. nat_lt j q) (filter t (numbers_from (i + 1) ps)) ≡ true → list_all (λ q. nat_lt j q) (filter t (numbers_from i (x ∷ ps))) ≡ true
-    go (inl e) r = let l : nat_lt j i ≡ true = grind (arith, nat_tests) in rw (e, l, r) refl
+    go : (t a ≡ true) ⊎ (t a ≡ false) → list_all (λ q. nat_lt j q) (filter t (range_with_len (a + 1) k)) ≡ true → list_all (λ q. nat_lt j q) (filter t (range_with_len a (suc k))) ≡ true
+    go (inl e) r = let l : nat_lt j a ≡ true = grind (arith, nat_tests) in rw (e, l, r) refl
     go (inr e) r = rw e r
 
-pub ascending : (t : ℕ → Bool) (ps : List Province) (i : ℕ) → are_ascending (filter t (numbers_from i ps)) ≡ true
-ascending t [] i = refl
-ascending t (x ∷ ps) i = go (cases_Bool (t i)) (ascending t ps (i + 1))
+pub ascending : (t : ℕ → Bool) (a k : ℕ) → are_ascending (filter t (range_with_len a k)) ≡ true
+ascending t a zero = refl
+ascending t a (suc k) = go (cases_Bool (t a)) (ascending t (a + 1) k)
   where
-    go : (t i ≡ true) ⊎ (t i ≡ false) → are_ascending (filter t (numbers_from (i + 1) ps)) ≡ true → are_ascending (filter t (numbers_from i (x ∷ ps))) ≡ true
-    go (inl e) r = rw (e, ascending_above t ps (i + 1) i (omega arith), r) refl
+    go : (t a ≡ true) ⊎ (t a ≡ false) → are_ascending (filter t (range_with_len (a + 1) k)) ≡ true → are_ascending (filter t (range_with_len a (suc k))) ≡ true
+    go (inl e) r = rw (e, ascending_above t (a + 1) k a (omega arith), r) refl
     go (inr e) r = rw e r
 
 -- the values that are known in the end
 abbrev pub known_values : Known → Assignment
 known_values k d = is_true (k d)
 
-abbrev pub IsBehind : Situation → List Province → Type 0
-IsBehind s ps = (p : ℕ) → length ps ≤ p → (is_decided s (Move p) ≡ false) × (is_decided s (Path p) ≡ false) × (is_decided s (Support p) ≡ false)
+abbrev pub IsBehind : Situation → Chart → Type 0
+IsBehind s m = (p : ℕ) → length m.provinces ≤ p → (is_decided s (Move p) ≡ false) × (is_decided s (Path p) ≡ false) × (is_decided s (Support p) ≡ false)
 
 known_right : (k : Known) → IsCompletion k (known_values k)
 known_right k d v h = rw h refl
@@ -103,7 +97,7 @@ known_right k d v h = rw h refl
 known_explained : (s : Situation) (steps : List Deciding.Step) (k : Known) → IsComplete s steps k → AreExplained s steps (known_values k)
 known_explained s steps k c = rw (append-nil steps) at (c.explained.on (known_values k) [] (known_right k) (λ d. let v = c.all d in v.1 ∙ ap Some (sym (rw v.1 refl))))
 
-module _ (s : Situation) (i : IsSituation s) (ps : List Province) (behind : IsBehind s ps) (steps : List Written.Step) (k : Known) (c : IsComplete s (steps_of steps) k) (r : Resolution) (l : IsListing steps k ps r) where
+module _ (s : Situation) (i : IsSituation s) (m : Chart) (behind : IsBehind s m) (steps : List Written.Step) (k : Known) (c : IsComplete s (steps_of steps) k) (r : Resolution) (l : IsListing steps k m r) where
   first_known : (d : Decision) → is_decided s d ≡ false → k d ≡ Some false
   first_known d h = c.explained.grows d false (rw h refl)
 
@@ -111,9 +105,9 @@ module _ (s : Situation) (i : IsSituation s) (ps : List Province) (behind : IsBe
   values_known = fun_ext go
     where
       go : (d : Decision) → values_in r d ≡ is_true (k d)
-      go (Move p) = rw l.moves (listed_all (λ q. is_true (k (Move q))) ps p (λ h. rw (first_known (Move p) (behind p h).0) refl))
-      go (Path p) = rw l.paths (listed_all (λ q. is_true (k (Path q))) ps p (λ h. rw (first_known (Path p) (behind p h).1) refl))
-      go (Support p) = rw l.supports (listed_all (λ q. is_true (k (Support q))) ps p (λ h. rw (first_known (Support p) (behind p h).2) refl))
+      go (Move p) = rw l.moves (listed_all (λ q. is_true (k (Move q))) (length m.provinces) p (λ h. rw (first_known (Move p) (behind p h).0) refl))
+      go (Path p) = rw l.paths (listed_all (λ q. is_true (k (Path q))) (length m.provinces) p (λ h. rw (first_known (Path p) (behind p h).1) refl))
+      go (Support p) = rw l.supports (listed_all (λ q. is_true (k (Support q))) (length m.provinces) p (λ h. rw (first_known (Support p) (behind p h).2) refl))
 
   pub explained : AreExplained s (steps_of steps) (values_in r)
   explained = rw values_known (known_explained s (steps_of steps) k c)
@@ -142,14 +136,14 @@ module _ (s : Situation) (i : IsSituation s) (ps : List Province) (behind : IsBe
   broken (Move p) = sym (no_move steps p)
   broken (Support p) = sym (no_support steps p)
   broken (Path p) =
-      rw l.broken (listed_all (λ q. list_any (λ x. breaks x q) steps) ps p (λ h. sym (broken_any steps p) ∙ known_unbroken (rule s) (mentions s) (values_in r) (Path p) false (steps_of steps) (at_first s) explained (rw (behind p h).1 refl))
+      rw l.broken (listed_all (λ q. list_any (λ x. breaks x q) steps) (length m.provinces) p (λ h. sym (broken_any steps p) ∙ known_unbroken (rule s) (mentions s) (values_in r) (Path p) false (steps_of steps) (at_first s) explained (rw (behind p h).1 refl))
       ∙ sym (broken_any steps p))
 
   pub equations : Satisfies s (broken_in r) (values_in r)
   equations d = rw (broken d) (satisfied s (steps_of steps) (values_in r) explained d)
 
   pub ordered : AreInOrder r
-  ordered = (rw l.moves (ascending (λ q. is_true (k (Move q))) ps 0), rw l.paths (ascending (λ q. is_true (k (Path q))) ps 0), rw l.supports (ascending (λ q. is_true (k (Support q))) ps 0), rw l.broken (ascending (λ q. list_any (λ x. breaks x q) steps) ps 0))
+  ordered = (rw l.moves (ascending (λ q. is_true (k (Move q))) 0 (length m.provinces)), rw l.paths (ascending (λ q. is_true (k (Path q))) 0 (length m.provinces)), rw l.supports (ascending (λ q. is_true (k (Support q))) 0 (length m.provinces)), rw l.broken (ascending (λ q. list_any (λ x. breaks x q) steps) 0 (length m.provinces)))
 
 -- units of a map stand in its provinces
 
@@ -168,7 +162,7 @@ none_supported : (m : Chart) (orders : List PlacedOrder) (ps : List ℕ) → lis
 none_supported m orders [] = refl
 none_supported m orders (p ∷ ps) = none_supported m orders ps
 
-pub behind_all : (m : Chart) (orders : List PlacedOrder) → All (λ o. o.unit.place.prov < length m.provinces) orders → IsBehind (situation m orders) m.provinces
+pub behind_all : (m : Chart) (orders : List PlacedOrder) → All (λ o. o.unit.place.prov < length m.provinces) orders → IsBehind (situation m orders) m
 behind_all m orders a p h =
     let n : order_at orders p ≡ None = none_behind orders (length m.provinces) p (recursion_from_All _ _ a) h in
     (rw n refl, rw n refl, rw n (none_supported m orders (provinces_of orders)))
@@ -241,21 +235,21 @@ length_steps : (steps : List Written.Step) → length (steps_of steps) ≡ lengt
 length_steps [] = refl
 length_steps (x ∷ steps) = ap suc (length_steps steps)
 
-resolved : (s : Situation) → IsSituation s → (ps : List Province) → IsBehind s ps → (steps : List Written.Step) (k : Known) → IsComplete s (steps_of steps) k → (r : Resolution) → IsListing steps k ps r → IsResolved s r
-resolved s i ps behind steps k c r l =
-    let e = explained s i ps behind steps k c r l in
+resolved : (s : Situation) → IsSituation s → (m : Chart) → IsBehind s m → (steps : List Written.Step) (k : Known) → IsComplete s (steps_of steps) k → (r : Resolution) → IsListing steps k m r → IsResolved s r
+resolved s i m behind steps k c r l =
+    let e = explained s i m behind steps k c r l in
     let f = few s i (steps_of steps) (values_in r) e in
     let n = length_steps steps in
-    let m : length steps ≤ decided_in s = omega arith in
+    let few_steps : length steps ≤ decided_in s = omega arith in
     record {
-      equations = equations s i ps behind steps k c r l;
+      equations = equations s i m behind steps k c r l;
       explained = subst (λ (x : List Written.Step). AreExplained s (steps_of x) (values_in r)) (sym l.steps) e;
-      broken = subst (λ (x : List Written.Step). (d : Decision) → broken_in r d ≡ is_broken (steps_of x) d) (sym l.steps) (broken s i ps behind steps k c r l);
-      few = subst (λ (x : List Written.Step). length x ≤ decided_in s) (sym l.steps) m;
-      ordered = ordered s i ps behind steps k c r l;
+      broken = subst (λ (x : List Written.Step). (d : Decision) → broken_in r d ≡ is_broken (steps_of x) d) (sym l.steps) (broken s i m behind steps k c r l);
+      few = subst (λ (x : List Written.Step). length x ≤ decided_in s) (sym l.steps) few_steps;
+      ordered = ordered s i m behind steps k c r l;
     }
 
 -- of the orders of a board
-pub resolved_board : (m : Chart) (b : Position) (orders : List PlacedOrder) → IsOf m b → units_of orders ≡ b.units → are_in_force orders ≡ true → (steps : List Written.Step) (k : Known) (t : Situation) → t ≡ situation m orders → IsComplete t (steps_of steps) k → (r : Resolution) → IsListing steps k m.provinces r → IsResolved (situation m orders) r
+pub resolved_board : (m : Chart) (b : Position) (orders : List PlacedOrder) → IsOf m b → units_of orders ≡ b.units → are_in_force orders ≡ true → (steps : List Written.Step) (k : Known) (t : Situation) → t ≡ situation m orders → IsComplete t (steps_of steps) k → (r : Resolution) → IsListing steps k m r → IsResolved (situation m orders) r
 resolved_board m b orders o u f steps k t e c r l =
-    resolved (situation m orders) (situated m orders f (rw u o.apart)) m.provinces (behind_all m orders (within m b orders o u)) steps k (subst (λ (x : Situation). IsComplete x (steps_of steps) k) e c) r l
+    resolved (situation m orders) (situated m orders f (rw u o.apart)) m (behind_all m orders (within m b orders o u)) steps k (subst (λ (x : Situation). IsComplete x (steps_of steps) k) e c) r l

@@ -1,14 +1,13 @@
 -- The table of a movement's orders shows their situation.
 use Rattle.std.proofs.Common.{◌≡◌, ℕ, ◌+◌, ◌<◌, ◌≤◌, length, drop, List, [], ◌∷◌, ◌++◌, append_assoc, ◌∙◌, zero, suc, arith, refl, ap, sym, inl, inr, All, map, get_or}
 use Rattle.std.specs.Prelude.{◌==◌, Bool, true, false, Option, None, Some, is_some}
-use Rattle.std.specs.List.{list_any, slice_index_or}
-use Rattle.std.specs.List.{AllByRecursion}
+use Rattle.std.specs.List.{AllByRecursion, list_any, range_with_len, slice_index_or}
 use Rattle.std.proofs.lemmas.List.{drop_more}
 use Rattle.std.proofs.lemmas.List.Elements.{recursion_from_All}
 use Rattle.std.proofs.lemmas.Bool.{cases_Bool, eqb-true, cases_lt}
 use Rattle.std.proofs.Math.Path.{fun_ext}
 use mathlib.Core.Logic.{◌⊎◌}
-use Rattle.dip_chart.specs.Charts.{Chart, Province, no_province}
+use Rattle.dip_chart.specs.Charts.{Chart}
 use Rattle.dip_orders.specs.declared.placed.PlacedOrder.{PlacedOrder}
 use Rattle.dip_decide.specs.Matching.{order_at, provinces_of, target_of, is_convoyed, supports_in, situation, situation_by}
 use Rattle.dip_decide.specs.declared.decisions.Decision.{Decision}
@@ -16,24 +15,18 @@ use Rattle.dip_decide.specs.declared.decisions.Decision.TheVariants.{Move, Path,
 use Rattle.dip_decide.specs.declared.table.Table.{Table}
 use Rattle.dip_decide.specs.declared.values.Values.{Values}
 use Rattle.dip_decide.specs.Movement.{at_first}
-use Rattle.dip_decide.specs.Given.{rows_from, entry, situation_of, known_of, at_start, moves_at_start, paths_at_start, supports_at_start}
-
-pub rows_step : (orders : List PlacedOrder) (ps : List Province) (front all : List (Option PlacedOrder)) (i : ℕ) → i < length ps → front ++ rows_from orders i (drop i ps) ≡ all
-    → (front ++ order_at orders i ∷ []) ++ rows_from orders (i + 1) (drop (i + 1) ps) ≡ all
-rows_step orders ps front all i h before =
-    let cut = drop_more ps i no_province h in
-    append_assoc front (order_at orders i ∷ []) (rows_from orders (i + 1) (drop (i + 1) ps)) ∙ rw cut at before
+use Rattle.dip_decide.specs.Given.{rows_of, entry, situation_of, known_of, at_start, moves_at_start, paths_at_start, supports_at_start}
 
 -- the row of a province that is counted, and of one behind them
-entry_within : (orders : List PlacedOrder) (ps : List Province) (i p : ℕ) → p < length ps → entry (rows_from orders i ps) p ≡ order_at orders (i + p)
-entry_within orders [] i p h = absurd (omega arith)
-entry_within orders (x ∷ ps) i zero h = ap (order_at orders) (omega arith)
-entry_within orders (x ∷ ps) i (suc p) h = entry_within orders ps (i + 1) p (omega arith) ∙ ap (order_at orders) (omega arith)
+entry_within : (orders : List PlacedOrder) (a k p : ℕ) → p < k → entry (map (order_at orders) (range_with_len a k)) p ≡ order_at orders (a + p)
+entry_within orders a zero p h = absurd (omega (arith, h))
+entry_within orders a (suc k) zero h = ap (order_at orders) (omega arith)
+entry_within orders a (suc k) (suc p) h = entry_within orders (a + 1) k p (omega (arith, h)) ∙ ap (order_at orders) (omega arith)
 
-entry_behind : (orders : List PlacedOrder) (ps : List Province) (i p : ℕ) → length ps ≤ p → entry (rows_from orders i ps) p ≡ None
-entry_behind orders [] i p h = refl
-entry_behind orders (x ∷ ps) i zero h = absurd (omega arith)
-entry_behind orders (x ∷ ps) i (suc p) h = entry_behind orders ps (i + 1) p (omega arith)
+entry_behind : (orders : List PlacedOrder) (a k p : ℕ) → k ≤ p → entry (map (order_at orders) (range_with_len a k)) p ≡ None
+entry_behind orders a zero p h = refl
+entry_behind orders a (suc k) zero h = absurd (omega (arith, h))
+entry_behind orders a (suc k) (suc p) h = entry_behind orders (a + 1) k p (omega (arith, h))
 
 -- no order stands at a number that is no province's
 pub none_behind : (orders : List PlacedOrder) (n p : ℕ) → AllByRecursion (λ o. o.unit.place.prov < n) orders → n ≤ p → order_at orders p ≡ None
@@ -44,14 +37,14 @@ none_behind (o ∷ orders) n p a h = go (cases_Bool (o.unit.place.prov == p)) (n
     go (inl e) _ = let x = eqb-true _ _ e in let y = a.0 in absurd (omega arith)
     go (inr e) r = rw e r
 
-pub entries : (m : Chart) (orders : List PlacedOrder) → All (λ o. o.unit.place.prov < length m.provinces) orders → entry (rows_from orders 0 m.provinces) ≡ order_at orders
+pub entries : (m : Chart) (orders : List PlacedOrder) → All (λ o. o.unit.place.prov < length m.provinces) orders → entry (rows_of orders m) ≡ order_at orders
 entries m orders a = fun_ext (λ p. go p (cases_lt p (length m.provinces)))
   where
-    go : (p : ℕ) → (p < length m.provinces) ⊎ (length m.provinces ≤ p) → entry (rows_from orders 0 m.provinces) p ≡ order_at orders p
-    go p (inl h) = entry_within orders m.provinces 0 p h ∙ ap (order_at orders) (omega arith)
-    go p (inr h) = entry_behind orders m.provinces 0 p h ∙ sym (none_behind orders (length m.provinces) p (recursion_from_All _ _ a) h)
+    go : (p : ℕ) → (p < length m.provinces) ⊎ (length m.provinces ≤ p) → entry (rows_of orders m) p ≡ order_at orders p
+    go p (inl h) = entry_within orders 0 (length m.provinces) p h ∙ ap (order_at orders) (omega arith)
+    go p (inr h) = entry_behind orders 0 (length m.provinces) p h ∙ sym (none_behind orders (length m.provinces) p (recursion_from_All _ _ a) h)
 
-pub seen_law : (m : Chart) (orders : List PlacedOrder) → All (λ o. o.unit.place.prov < length m.provinces) orders → situation_by m (provinces_of orders) (entry (rows_from orders 0 m.provinces)) ≡ situation m orders
+pub seen_law : (m : Chart) (orders : List PlacedOrder) → All (λ o. o.unit.place.prov < length m.provinces) orders → situation_by m (provinces_of orders) (entry (rows_of orders m)) ≡ situation m orders
 seen_law m orders a = ap (situation_by m (provinces_of orders)) (entries m orders a)
 
 -- a value for each row

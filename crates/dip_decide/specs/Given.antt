@@ -1,8 +1,8 @@
 -- What the lists of the code stand for.
-use Rattle.std.specs.Prelude.{ℕ, ◌+◌, Bool, false, List, [], ◌∷◌, map, Option, None, Some, is_some, if◌then◌else◌}
+use Rattle.std.specs.Prelude.{Bool, false, List, map, Option, None, Some, is_some, if◌then◌else◌}
 use Rattle.std.specs.List.{list_any, slice_get, slice_index_or}
 use Rattle.std.specs.Option.{unwrap_or}
-use Rattle.dip_chart.specs.Charts.{Chart, Province}
+use Rattle.dip_chart.specs.Charts.{Chart, provs}
 use Rattle.dip_orders.specs.declared.placed.PlacedOrder.{PlacedOrder}
 use Rattle.dip_decide.specs.declared.decisions.Decision.{Decision}
 use Rattle.dip_decide.specs.declared.decisions.Decision.TheVariants.{Move, Path, Support}
@@ -16,10 +16,9 @@ use Rattle.dip_decide.specs.Movement.{Situation}
 abbrev pub entry : List (Option PlacedOrder) → Standing
 entry rows p = unwrap_or (slice_get rows p) None
 
--- a row for each province, from number i on
-abbrev pub rows_from : List PlacedOrder → ℕ → List Province → List (Option PlacedOrder)
-rows_from orders i [] = []
-rows_from orders i (_ ∷ more) = order_at orders i ∷ rows_from orders (i + 1) more
+-- a row for each province: the order of the unit in it
+abbrev pub rows_of : List PlacedOrder → Chart → List (Option PlacedOrder)
+rows_of orders m = map (order_at orders) (provs m)
 
 -- the situation of a table
 abbrev pub situation_of : Table → Situation

@@ -1,7 +1,7 @@
 -- What a resolution says.
-use Rattle.std.specs.Prelude.{◌≡◌, ℕ, ◌+◌, ◌&&◌, nat_lt, Bool, true, false, List, [], ◌∷◌, filter, Option, None, Some}
+use Rattle.std.specs.Prelude.{◌≡◌, ℕ, ◌&&◌, nat_lt, Bool, true, false, List, [], ◌∷◌, filter, Option, None, Some}
 use Rattle.std.specs.List.{slice_index_or, list_any, list_all, count_by}
-use Rattle.dip_chart.specs.Charts.{Province}
+use Rattle.dip_chart.specs.Charts.{Chart, provs}
 use Rattle.dip_decide.specs.declared.decisions.Decision.{Decision}
 use Rattle.dip_decide.specs.declared.decisions.Decision.TheVariants.{Move, Path, Support}
 use Rattle.dip_decide.specs.declared.decisions.Resolution.{Resolution}
@@ -38,19 +38,14 @@ are_ascending (p ∷ ps) = list_all (λ q. nat_lt p q) ps && are_ascending ps
 abbrev pub AreInOrder : Resolution → Type 0
 AreInOrder r = (are_ascending r.moves.items ≡ true) × (are_ascending r.paths.items ≡ true) × (are_ascending r.supports.items ≡ true) × (are_ascending r.broken.items ≡ true)
 
--- the numbers of provinces, from i on
-abbrev pub numbers_from : ℕ → List Province → List ℕ
-numbers_from i [] = []
-numbers_from i (_ ∷ more) = i ∷ numbers_from (i + 1) more
-
 -- it is known and true
 abbrev pub is_true : Option Bool → Bool
 is_true None = false
 is_true (Some v) = v
 
 -- the provinces of a column with true
-abbrev pub trues : List (Option Bool) → List Province → List ℕ
-trues column ps = filter (λ p. is_true (slice_index_or column p (Some false))) (numbers_from 0 ps)
+abbrev pub trues : List (Option Bool) → Chart → List ℕ
+trues column m = filter (λ p. is_true (slice_index_or column p (Some false))) (provs m)
 
 -- a step breaks the path of p
 abbrev pub breaks : Written.Step → ℕ → Bool
@@ -59,9 +54,9 @@ breaks (Circle ps) p = false
 breaks (Knot ps) p = is_listed ps.items p
 
 -- the lists are those of the values and of the broken paths
-pub record IsListing (written : List Written.Step) (k : Known) (ps : List Province) (r : Resolution) : Type 0 where
-  pub moves : r.moves.items ≡ filter (λ p. is_true (k (Move p))) (numbers_from 0 ps)
-  pub paths : r.paths.items ≡ filter (λ p. is_true (k (Path p))) (numbers_from 0 ps)
-  pub supports : r.supports.items ≡ filter (λ p. is_true (k (Support p))) (numbers_from 0 ps)
-  pub broken : r.broken.items ≡ filter (λ p. list_any (λ s. breaks s p) written) (numbers_from 0 ps)
+pub record IsListing (written : List Written.Step) (k : Known) (m : Chart) (r : Resolution) : Type 0 where
+  pub moves : r.moves.items ≡ filter (λ p. is_true (k (Move p))) (provs m)
+  pub paths : r.paths.items ≡ filter (λ p. is_true (k (Path p))) (provs m)
+  pub supports : r.supports.items ≡ filter (λ p. is_true (k (Support p))) (provs m)
+  pub broken : r.broken.items ≡ filter (λ p. list_any (λ s. breaks s p) written) (provs m)
   pub steps : r.steps.items ≡ written

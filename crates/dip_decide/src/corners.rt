@@ -52,6 +52,7 @@ impl Corner<'_> {
         }
     }
 
+    /// Whether the unit in a province goes by land, or by a convoy that has a path.
     fn has_path(&self, p: Prov) -> bool
         ensures { result ≡ has_path (situation_of self.now.table.now) (values self.now) p }
     {

@@ -1,6 +1,7 @@
 //! A movement as a whole: from the orders to the resolution.
 ghost use Rattle.std.specs.Prelude.{◌≡◌, ◌≤◌, IfOk, length, filter};
 ghost use Rattle.std.specs.List.{list_any};
+ghost use Rattle.dip_chart.specs.Charts.{provs};
 ghost use Rattle.dip_board.specs.Boards.{IsOf};
 ghost use Rattle.dip_orders.specs.Standing.{units_of};
 ghost use Rattle.dip_decide.specs.declared.decisions.Decision.{Decision as ADecision};
@@ -8,7 +9,7 @@ ghost use Rattle.dip_decide.specs.Deciding.{is_broken};
 ghost use Rattle.dip_decide.specs.Given.{known_of};
 ghost use Rattle.dip_decide.specs.Matching.{situation};
 ghost use Rattle.dip_decide.specs.Movement.{Satisfies};
-ghost use Rattle.dip_decide.specs.Results.{values_in, broken_in, AreExplained, AreInOrder, decided_in, is_true, trues, breaks, numbers_from, IsListing};
+ghost use Rattle.dip_decide.specs.Results.{values_in, broken_in, AreExplained, AreInOrder, decided_in, is_true, trues, breaks, IsListing};
 ghost use Rattle.dip_decide.specs.Steps.{steps_of};
 
 use crate::decisions::{Resolution, Step};
@@ -32,24 +33,16 @@ fn is_true(value: Option<bool>) -> bool
     }
 }
 
-/// All provinces of a map, by code.
-fn all_provinces(alloc: Global, map: &Map) -> Result<Vec<Prov>, AllocError>
-    ensures { IfOk result (λ v. v.items ≡ numbers_from 0 map.now.provinces) }
-{
-    map.facts();
-    let mut all = Vec::new(alloc);
-    for index in 0..map.province_count() {
-        all.push(Prov::new(index as u8))?;
-    }
-    Ok(all)
-}
-
 /// The provinces of a column with true, by code.
 fn trues(alloc: Global, map: &Map, column: &[Option<bool>]) -> Result<Vec<Prov>, AllocError>
-    ensures { IfOk result (λ v. v.items ≡ trues column.now map.now.provinces) }
+    ensures { IfOk result (λ v. v.items ≡ trues column.now map.now) }
 {
-    let mut found = all_provinces(alloc, map)?;
-    found.retain(|p| is_true(value_at(column, *p)));
+    let mut found = Vec::new(alloc);
+    for prov in map.each_province() {
+        if is_true(value_at(column, prov)) {
+            found.push(prov)?;
+        }
+    }
     Ok(found)
 }
 
@@ -72,12 +65,15 @@ fn is_broken(steps: &[Step], p: Prov) -> bool
 /// The units whose paths the steps break, by code.
 fn broken_by(alloc: Global, map: &Map, steps: &[Step]) -> Result<Vec<Prov>, AllocError>
     ensures { IfOk result
-        (λ v. v.items ≡ filter (λ p. list_any (λ s. breaks s p) steps.now)
-        (numbers_from 0 map.now.provinces)) }
+        (λ v. v.items ≡ filter (λ p. list_any (λ s. breaks s p) steps.now) (provs map.now)) }
 {
-    let mut found = all_provinces(alloc, map)?;
-    found.retain(|p| is_broken(steps, *p));
-    Ok(found)
+    let mut broken = Vec::new(alloc);
+    for prov in map.each_province() {
+        if is_broken(steps, prov) {
+            broken.push(prov)?;
+        }
+    }
+    Ok(broken)
 }
 
 /// The lists of what was decided, with the steps.
@@ -87,7 +83,7 @@ fn resolution_of(
     values: &Values,
     steps: Vec<Step>,
 ) -> Result<Resolution, AllocError>
-    ensures { IfOk result (λ r. IsListing steps.items (known_of values.now) map.now.provinces r) }
+    ensures { IfOk result (λ r. IsListing steps.items (known_of values.now) map.now r) }
 {
     let moves = trues(alloc, map, values.moves.as_slice())?;
     let paths = trues(alloc, map, values.paths.as_slice())?;

@@ -1,7 +1,7 @@
 //! The orders of a movement by province.
 ghost use Rattle.std.specs.Prelude.{◌≡◌, ◌<◌, length, All, IfOk};
 ghost use Rattle.dip_decide.specs.Matching.{order_at, provinces_of, situation};
-ghost use Rattle.dip_decide.specs.Given.{rows_from, situation_of};
+ghost use Rattle.dip_decide.specs.Given.{rows_of, situation_of};
 
 use dip_map::Map;
 use dip_names::Prov;
@@ -34,12 +34,11 @@ fn rows_of(
     map: &Map,
     orders: &[PlacedOrder],
 ) -> Result<Vec<Option<PlacedOrder>>, AllocError>
-    ensures { IfOk result (λ v. v.items ≡ rows_from orders.now 0 map.now.provinces) }
+    ensures { IfOk result (λ v. v.items ≡ rows_of orders.now map.now) }
 {
-    map.facts();
     let mut rows = Vec::new(alloc);
-    for index in 0..map.province_count() {
-        rows.push(order_in(orders, Prov::new(index as u8)))?;
+    for prov in map.each_province() {
+        rows.push(order_in(orders, prov))?;
     }
     Ok(rows)
 }

@@ -118,6 +118,7 @@ fn shore_of<'a>(alloc: Global, name: &'a str, value: &'a Value) -> Result<ShoreD
     Err(MapFault::WrongField)
 }
 
+/// The coasts of a table, by their names.
 fn each_shore(alloc: Global, coasts: &Table) -> Result<Vec<ShoreDraft<'_>>, MapFault>
     ensures { Gives (λ v. v.items) result (each_member shore_at (table_view coasts.now)) }
 {

@@ -51,6 +51,7 @@ fn site_of_text(text: &[u8]) -> Result<Site<'_>, MapFault>
     Ok(Site { code, coast })
 }
 
+/// A place of a list.
 #[tactic(auto, unfolding(crate::specs::Files::site_at))]
 fn site_of(value: &Value) -> Result<Site<'_>, MapFault>
     ensures { Gives (λ s. s) result (site_at (view value.now)) }

@@ -51,6 +51,7 @@ fn march_to(
     Ok(Place { prov: q, coast: 0 })
 }
 
+/// The first of these places that is in a province.
 fn first_in(places: &[Place], q: Prov) -> Option<Place>
     ensures { result ≡ first_in places.now q }
 {
@@ -74,6 +75,7 @@ fn is_named(map: &Map, place: Place, q: Prov, name: [u8; 2]) -> bool
     place.prov == q && map.coast_name(place).as_bytes() == name.as_slice()
 }
 
+/// The first of these places that is in a province, at its coast of that name.
 fn named_in(map: &Map, places: &[Place], q: Prov, name: [u8; 2]) -> Option<Place>
     ensures { result ≡ named_in map.now places.now q name }
 {

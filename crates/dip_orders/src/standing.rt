@@ -73,6 +73,7 @@ fn is_done_from(prov: Prov, order: &Order) -> bool
     }
 }
 
+/// Whether an order counts in a movement: its unit can do it there.
 fn is_in_force(placed: &PlacedOrder) -> bool
     ensures { result ≡ is_in_force placed.now }
 {

@@ -1,24 +1,24 @@
 -- Standoffs after a movement: once each, in the order of the provinces, of the map, and empty.
-use Rattle.std.proofs.Common.{◌≡◌, ℕ, ◌<◌, ◌+◌, ◌==◌, Bool, true, false, not, nat_lt, cond, List, [], ◌∷◌, length, filter, refl, inl, inr, arith}
+use Rattle.std.proofs.Common.{◌≡◌, ℕ, zero, suc, ◌<◌, ◌≤◌, ◌+◌, ◌==◌, Bool, true, false, not, nat_lt, cond, List, [], ◌∷◌, length, filter, refl, inl, inr, arith}
 use Rattle.std.proofs.lemmas.Bool.{and_from, and_parts, cases_Bool, lt-ltb, not-true}
 use Rattle.std.proofs.lemmas.List.Elements.{All-filter, All-from_recursion}
-use Rattle.std.specs.List.{AllByRecursion, list_all, list_any}
+use Rattle.std.specs.List.{AllByRecursion, list_all, list_any, range_with_len}
+use Rattle.dip_chart.specs.Charts.{provs}
 use Rattle.dip_board.specs.Boards.{are_ascending}
-use Rattle.dip_outcomes.specs.Indices.{indices, indices_from}
 use Rattle.dip_outcomes.specs.Laws.{StandoffsAreLawful}
 use Rattle.dip_outcomes.specs.Moving.{contends, is_standoff_after, standing_after}
 
-indices_within : {A : Type 0} (rs : List A) (i n : ℕ) → i + length rs ≡ n → AllByRecursion (λ p. p < n) (indices_from i rs)
-indices_within [] i n h = tt
-indices_within (r ∷ rs) i n h = (omega arith, indices_within rs (i + 1) n (omega arith))
+numbers_within : (a k n : ℕ) → a + k ≤ n → AllByRecursion (λ p. p < n) (range_with_len a k)
+numbers_within a zero n h = tt
+numbers_within a (suc k) n h = (omega (arith, h), numbers_within (a + 1) k n (omega (arith, h)))
 
-indices_above : {A : Type 0} (rs : List A) (i j : ℕ) → i < j → list_all (λ q. nat_lt i q) (indices_from j rs) ≡ true
-indices_above [] i j h = refl
-indices_above (r ∷ rs) i j h = and_from (nat_lt i j) (list_all (λ q. nat_lt i q) (indices_from (j + 1) rs)) (lt-ltb i j h) (indices_above rs i (j + 1) (omega arith))
+numbers_above : (a k j : ℕ) → j < a → list_all (λ q. nat_lt j q) (range_with_len a k) ≡ true
+numbers_above a zero j h = refl
+numbers_above a (suc k) j h = and_from (nat_lt j a) (list_all (λ q. nat_lt j q) (range_with_len (a + 1) k)) (lt-ltb j a h) (numbers_above (a + 1) k j (omega (arith, h)))
 
-indices_ascend : {A : Type 0} (rs : List A) (i : ℕ) → are_ascending (indices_from i rs) ≡ true
-indices_ascend [] i = refl
-indices_ascend (r ∷ rs) i = and_from (list_all (λ q. nat_lt i q) (indices_from (i + 1) rs)) (are_ascending (indices_from (i + 1) rs)) (indices_above rs i (i + 1) (omega arith)) (indices_ascend rs (i + 1))
+numbers_ascend : (a k : ℕ) → are_ascending (range_with_len a k) ≡ true
+numbers_ascend a zero = refl
+numbers_ascend a (suc k) = and_from (list_all (λ q. nat_lt a q) (range_with_len (a + 1) k)) (are_ascending (range_with_len (a + 1) k)) (numbers_above (a + 1) k a (omega arith)) (numbers_ascend (a + 1) k)
 
 all_kept : (f g : ℕ → Bool) (xs : List ℕ) → list_all g xs ≡ true → list_all g (filter f xs) ≡ true
 all_kept f g [] h = refl
@@ -52,10 +52,10 @@ standoffs_are_lawful m b a orders =
     let us = standing_after a orders in
     let test = is_standoff_after m a orders us in
     record {
-      within = All-filter test (λ p. p < length m.provinces) (indices m.provinces) (All-from_recursion (λ p. p < length m.provinces) (indices m.provinces) (indices_within m.provinces 0 (length m.provinces) (omega arith)));
-      once = ascend_kept test (indices m.provinces) (indices_ascend m.provinces 0);
+      within = All-filter test (λ p. p < length m.provinces) (provs m) (All-from_recursion (λ p. p < length m.provinces) (provs m) (numbers_within 0 (length m.provinces) (length m.provinces) (omega arith)));
+      once = ascend_kept test (provs m) (numbers_ascend 0 (length m.provinces));
       empty =
           λ k d low. not-true (list_any (λ u. u.place.prov == _) us)
           (and_parts (list_any (contends m a orders _) orders) (not (list_any (λ u. u.place.prov == _) us))
-          (All-from_recursion (λ p. test p ≡ true) (filter test (indices m.provinces)) (passing test (indices m.provinces)) k d low)).1;
+          (All-from_recursion (λ p. test p ≡ true) (filter test (provs m)) (passing test (provs m)) k d low)).1;
     }

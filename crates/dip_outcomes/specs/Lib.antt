@@ -1,4 +1,3 @@
-pub mod Indices
 pub mod Moving
 pub mod Outcomes
 pub mod Laws

@@ -3,7 +3,7 @@ use Rattle.std.specs.Prelude.{ℕ, ◌==◌, nat_lt, not, ◌&&◌, Bool, List, 
 use Rattle.std.specs.List.{list_any}
 use Rattle.dip_names.specs.declared.names.Place.{Place}
 use Rattle.dip_names.specs.declared.names.Unit.{Unit as AUnit}
-use Rattle.dip_chart.specs.Charts.{Chart}
+use Rattle.dip_chart.specs.Charts.{Chart, provs}
 use Rattle.dip_board.specs.declared.boards.Dislodged.{Dislodged}
 use Rattle.dip_board.specs.Boards.{Position}
 use Rattle.dip_orders.specs.Retreats.{retreats_of}
@@ -14,7 +14,6 @@ use Rattle.dip_decide.specs.declared.decisions.Decision.TheVariants.{Move as Mov
 use Rattle.dip_decide.specs.Deciding.{Assignment}
 use Rattle.dip_decide.specs.Matching.{destination, is_convoyed, situation}
 use Rattle.dip_decide.specs.Movement.{is_at, prevent}
-use Rattle.dip_outcomes.specs.Indices.{indices}
 
 -- the province of an order's unit
 abbrev pub prov : PlacedOrder → ℕ
@@ -83,7 +82,7 @@ is_standoff_after m a orders us p = list_any (contends m a orders p) orders && n
 
 -- the standoff provinces, where these units stand
 abbrev pub standoffs_after : Chart → Assignment → List PlacedOrder → List AUnit → List ℕ
-standoffs_after m a orders us = filter (is_standoff_after m a orders us) (indices m.provinces)
+standoffs_after m a orders us = filter (is_standoff_after m a orders us) (provs m)
 
 -- the board with all dislodged units
 abbrev pub moved_board : Chart → Position → Assignment → List PlacedOrder → Position

@@ -34,6 +34,7 @@ fn move_outcome(
     }
 }
 
+/// What became of a support: void where it doesn't match.
 fn support_outcome(
     map: &Map,
     resolution: &Resolution,

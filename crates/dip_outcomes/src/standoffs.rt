@@ -4,7 +4,6 @@ ghost use Rattle.std.specs.List.{list_any};
 ghost use Rattle.dip_decide.specs.Matching.{situation};
 ghost use Rattle.dip_decide.specs.Movement.{has_path, prevent};
 ghost use Rattle.dip_decide.specs.Results.{values_in};
-ghost use Rattle.dip_outcomes.specs.Indices.{indices};
 ghost use Rattle.dip_outcomes.specs.Moving as m;
 
 use crate::moving::has_moved;
@@ -86,18 +85,6 @@ fn is_standoff_after(
     is_contended(map, resolution, orders, prov) && !is_held_by(units, prov)
 }
 
-/// All provinces of a map, by code.
-fn all_provinces(alloc: Global, map: &Map) -> Result<Vec<Prov>, AllocError>
-    ensures { IfOk result (λ v. v.items ≡ indices map.now.provinces) }
-{
-    map.facts();
-    let mut all = Vec::new(alloc);
-    for index in 0..map.province_count() {
-        all.push(Prov::new(index as u8))?;
-    }
-    Ok(all)
-}
-
 /// The standoff provinces, by code, where these units stand.
 pub(crate) fn standoffs_after(
     alloc: Global,
@@ -109,7 +96,11 @@ pub(crate) fn standoffs_after(
     ensures { IfOk result
         (λ v. v.items ≡ m.standoffs_after map.now (values_in resolution.now) orders.now units.now) }
 {
-    let mut found = all_provinces(alloc, map)?;
-    found.retain(|prov| is_standoff_after(map, resolution, orders, units, *prov));
+    let mut found = Vec::new(alloc);
+    for prov in map.each_province() {
+        if is_standoff_after(map, resolution, orders, units, prov) {
+            found.push(prov)?;
+        }
+    }
     Ok(found)
 }

@@ -2,14 +2,13 @@
 use Rattle.std.proofs.Common.{◌≡◌, ℕ, [], ◌∷◌, ◌<◌, ◌≤◌, ◌+◌, Bool, true, false, cond, List, Option, Some, None, find, refl, sym, ap, ◌∙◌, subst, arith}
 use Rattle.std.specs.Prelude.{nat_le}
 use Rattle.std.proofs.lemmas.Bool.Decides.{nat_tests}
-use Rattle.dip_chart.specs.Charts.{Chart}
+use Rattle.dip_chart.specs.Charts.{Chart, powers}
 use Rattle.dip_board.specs.declared.boards.Phase.{Phase}
 use Rattle.dip_board.specs.declared.boards.Season.{Season}
 use Rattle.dip_board.specs.declared.boards.Season.TheVariants.{SpringMoves, SpringRetreats, FallMoves, FallRetreats, Winter}
 use Rattle.dip_board.specs.Boards.{Position}
 use Rattle.dip_orders.specs.declared.placed.PlacedOrder.{PlacedOrder}
 use Rattle.dip_turn.specs.Centres.{winner, with_owners, has_won}
-use Rattle.dip_outcomes.specs.Indices.{indices}
 use Rattle.dip_turn.specs.Laws.{IsAfter, may_follow, season_number, year_behind}
 use Rattle.dip_turn.specs.Phases.{Sequel, after_count, follow, goes_on, has_dislodged, last_year, needs_adjustment, new_year, sequel, year_end}
 use Rattle.dip_turn.specs.Reports.{IsPlayed, Leaves, LeavesAdjusted, LeavesMoved, LeavesRetreated}
@@ -146,7 +145,7 @@ count_fairly : (m : Chart) (b : Position) (won : Option ℕ) → winner m b ≡ 
 unfolding IsFair
 count_fairly m b (Some r) is power e =
     let same : r ≡ power = cc in
-    found_passes (has_won m b) (indices m.realms) power (is ∙ ap Some same)
+    found_passes (has_won m b) (powers m) power (is ∙ ap Some same)
 count_fairly m b None is power e =
     fair_either m (needs_adjustment m b) (goes_on b Winter) (new_year b) (season_fairly m b Winter) (year_fairly m b) power e
 

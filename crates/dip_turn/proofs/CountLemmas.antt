@@ -6,12 +6,11 @@ use Rattle.std.proofs.lemmas.List.Elements.{Contains-append_cases, Contains-appe
 use Rattle.std.proofs.lemmas.List.Sums.{sum_by-append}
 use Rattle.std.proofs.lemmas.Map.Made.{is_member-Decides, length-le_from_is_member}
 use Rattle.std.specs.Cmp.{nat_eq_equiv, unsigned_Decides}
-use Rattle.std.specs.List.{list_any}
+use Rattle.std.specs.List.{list_any, range_with_len}
 use Rattle.dip_chart.specs.Charts.{are_units_single}
 use Rattle.dip_names.specs.declared.names.Unit.{Unit as AUnit}
 use Rattle.dip_orders.proofs.AllowanceLaws.{distinct_from, provs_of, provs_single}
 use Rattle.dip_orders.proofs.KeptLaws.{count_cons}
-use Rattle.dip_outcomes.specs.Indices.{indices_from}
 use Rattle.dip_turn.proofs.SingleLemmas.{behind, first, made_among, made_from}
 
 pub count_append : {A : Type 0} (p : A → Bool) (xs ys : List A) → count_by p (xs ++ ys) ≡ count_by p xs + count_by p ys
@@ -93,10 +92,10 @@ flat_among f [] x y c at = absurd (omega (arith, c.1))
 flat_among {B = B} f (z ∷ zs) x y (zero, low, is) at = Contains-append_left (f z) (flat_map f zs) y (subst (λ w. Contains (f w) y) (sym is) at)
 flat_among {B = B} f (z ∷ zs) x y (suc k, low, is) at = Contains-append_right (f z) (flat_map f zs) y (flat_among f zs x y (k, (omega (arith, low)), is) at)
 
-pub index_among : {A : Type 0} (xs : List A) (i k n : ℕ) → k < length xs → n ≡ i + k → Contains (indices_from i xs) n
-index_among [] i k n low is = absurd (omega (arith, low))
-index_among (x ∷ xs) i zero n low is = (0, (omega arith), (omega (arith, is)))
-index_among (x ∷ xs) i (suc k) n low is = behind i (indices_from (i + 1) xs) n (index_among xs (i + 1) k n (omega (arith, low)) (omega (arith, is)))
+pub number_among : (a k i n : ℕ) → i < k → n ≡ a + i → Contains (range_with_len a k) n
+number_among a zero i n low is = absurd (omega (arith, low))
+number_among a (suc k) zero n low is = (0, (omega (arith)), (omega (arith, is)))
+number_among a (suc k) (suc i) n low is = behind a (range_with_len (a + 1) k) n (number_among (a + 1) k i n (omega (arith, low)) (omega (arith, is)))
 
 -- units in different provinces, in each of which one of others is, are no more than those
 pub fewer : (us vs : List AUnit) → are_units_single us ≡ true → ((u : AUnit) → Contains us u → (v : AUnit) × Contains vs v × (v.place.prov ≡ u.place.prov)) → length us ≤ length vs

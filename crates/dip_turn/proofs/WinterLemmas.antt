@@ -6,7 +6,7 @@ use Rattle.std.proofs.lemmas.List.Elements.{All-contains, Contains-append_right,
 use Rattle.std.proofs.lemmas.List.Filters.{length-filter_both}
 use Rattle.std.proofs.lemmas.List.Sums.{count_by-le-length, length-filter}
 use Rattle.dip_names.specs.declared.names.Unit.{Unit as AUnit}
-use Rattle.dip_chart.specs.Charts.{Chart, IsMap, are_units_single, is_unit, may_stand}
+use Rattle.dip_chart.specs.Charts.{Chart, IsMap, are_units_single, is_unit, may_stand, powers}
 use Rattle.dip_board.specs.declared.boards.Season.{Season}
 use Rattle.dip_board.specs.declared.boards.Season.TheVariants.{SpringMoves, Winter}
 use Rattle.dip_board.specs.Boards.{IsOf, Position, centres_owned, units_counted}
@@ -23,7 +23,6 @@ use Rattle.dip_orders.proofs.KeptLaws.{count_cons}
 use Rattle.dip_orders.proofs.LawfulReadLaws.{any_at}
 use Rattle.dip_orders.proofs.StandingLaws.{same_unit, unit_itself}
 use Rattle.dip_turn.specs.Adjusting.{after_adjustment, builds_given, disorder, disorder_of, is_among, is_given, removals_given, removals_owed, units_built, units_kept, units_of_power, units_staying}
-use Rattle.dip_outcomes.specs.Indices.{indices}
 use Rattle.dip_turn.specs.Laws.{BuildsStand, IsEvened, WintersEvenUnits}
 use Rattle.dip_turn.specs.Phases.{Sequel, follow, has_dislodged, in_phase, last_year, new_year, sequel}
 use Rattle.dip_turn.specs.Reports.{IsPlayed, Leaves, LeavesAdjusted}
@@ -31,7 +30,7 @@ use Rattle.dip_turn.specs.declared.report.Account.{Account}
 use Rattle.dip_turn.specs.declared.report.Account.TheVariants.{Movement as OfMovement, Retreats as OfRetreats, Adjustment as OfAdjustment}
 use Rattle.dip_turn.specs.declared.report.Course.TheVariants.{GoesOn, Ended}
 use Rattle.dip_turn.specs.declared.report.Report.{Report}
-use Rattle.dip_turn.proofs.CountLemmas.{count_append, count_kept, count_map, fewer, flat_among, flat_from, index_among, kept_alike, kept_in_turn, one_if, some_or_none}
+use Rattle.dip_turn.proofs.CountLemmas.{count_append, count_kept, count_map, fewer, flat_among, flat_from, number_among, kept_alike, kept_in_turn, one_if, some_or_none}
 use Rattle.dip_turn.proofs.DisorderCounts.{goes_among, stays_count}
 use Rattle.dip_outcomes.proofs.KeptLemmas.{kept_in}
 use Rattle.dip_turn.proofs.MapLemmas.{AreEachLawful, come_of, each_lawful}
@@ -64,14 +63,14 @@ goes_of_own m b pending power u of low among = go (is_among (disorder_of m b pen
         let (k, there, met) = any_at (λ v. v.place.prov == u.place.prov) (disorder_of m b pending power) is in
         let v : AUnit = get_or (disorder_of m b pending power) k u in
         somebody (λ w. w.place.prov == u.place.prov) (disorder m b pending) v
-        (flat_among (disorder_of m b pending) (indices m.realms) power v (index_among m.realms 0 power power low (omega arith)) (Contains-get_or (disorder_of m b pending power) k u there)) (met u)
+        (flat_among (disorder_of m b pending) (powers m) power v (number_among 0 (length m.realms) power power low (omega arith)) (Contains-get_or (disorder_of m b pending power) k u there)) (met u)
     go false is =
         elim (cases_Bool (is_among (disorder m b pending) u)) [
           | inr none ↦ none
           | inl some ↦
               let (k, there, met) = any_at (λ v. v.place.prov == u.place.prov) (disorder m b pending) some in
               let v : AUnit = get_or (disorder m b pending) k u in
-              let (q, in_q, goes) = flat_from (disorder_of m b pending) (indices m.realms) v (Contains-get_or (disorder m b pending) k u there) in
+              let (q, in_q, goes) = flat_from (disorder_of m b pending) (powers m) v (Contains-get_or (disorder m b pending) k u there) in
               let (stood, of_q) = kept_from (λ (w : AUnit). w.power == q) (units_kept b pending) v (goes_among m q (removals_owed b pending q) (units_of_power q (units_kept b pending)) v goes) in
               let (here, mine) = kept_from (λ (w : AUnit). w.power == power) (units_kept b pending) u among in
               let same : v ≡ u = same_stands (units_kept b pending) v u (kept_single m b pending of) stood here (eqb-true _ _ (met u)) in

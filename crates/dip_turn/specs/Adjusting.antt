@@ -2,14 +2,13 @@
 use Rattle.std.specs.Prelude.{ℕ, ◌==◌, ◌-◌, not, ◌&&◌, Bool, nat_lt, List, [], ◌++◌, map, filter, flat_map, count_by, Option, None, Some, if◌then◌else◌}
 use Rattle.std.specs.List.{list_any, filter_map}
 use Rattle.dip_names.specs.declared.names.Unit.{Unit as AUnit}
-use Rattle.dip_chart.specs.Charts.{Chart}
+use Rattle.dip_chart.specs.Charts.{Chart, powers}
 use Rattle.dip_board.specs.Boards.{Position}
 use Rattle.dip_orders.specs.Allowances.{builds_due, removals_due}
 use Rattle.dip_orders.specs.Standing.{is_same_unit}
 use Rattle.dip_orders.specs.Conditions.{is_build, is_remove}
 use Rattle.dip_orders.specs.declared.placed.PlacedOrder.{PlacedOrder}
 use Rattle.dip_turn.specs.Disorder.{in_disorder}
-use Rattle.dip_outcomes.specs.Indices.{indices}
 use Rattle.dip_turn.specs.declared.report.Waiver.{Waiver}
 
 -- the units that are built
@@ -49,7 +48,7 @@ disorder_of m b pending power = in_disorder m power (removals_owed b pending pow
 
 -- all that are removed in disorder, power by power
 abbrev pub disorder : Chart → Position → List PlacedOrder → List AUnit
-disorder m b pending = flat_map (disorder_of m b pending) (indices m.realms)
+disorder m b pending = flat_map (disorder_of m b pending) (powers m)
 
 -- one of these stands where the unit does
 abbrev pub is_among : List AUnit → AUnit → Bool
@@ -81,4 +80,4 @@ waiver m b pending power =
 
 -- the waived builds, by power
 abbrev pub waivers : Chart → Position → List PlacedOrder → List Waiver
-waivers m b pending = filter_map (waiver m b pending) (indices m.realms)
+waivers m b pending = filter_map (waiver m b pending) (powers m)

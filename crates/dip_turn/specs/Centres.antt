@@ -2,9 +2,8 @@
 use Rattle.std.specs.Prelude.{ℕ, ◌+◌, ◌*◌, ◌==◌, nat_lt, Bool, true, false, List, [], ◌∷◌, find, Option, None, Some, option_map, count_by, if◌then◌else◌}
 use Rattle.std.specs.List.{filter_map}
 use Rattle.dip_names.specs.declared.names.Unit.{Unit as AUnit}
-use Rattle.dip_chart.specs.Charts.{Chart, is_centre}
+use Rattle.dip_chart.specs.Charts.{Chart, is_centre, powers, provs}
 use Rattle.dip_board.specs.Boards.{Position, owner, centres_owned}
-use Rattle.dip_outcomes.specs.Indices.{indices}
 use Rattle.dip_turn.specs.declared.report.CentreLine.{CentreLine}
 
 -- the unit that stands in a province
@@ -39,7 +38,7 @@ has_won m b power = nat_lt (centres m) (2 * centres_owned b power)
 
 -- who has won, if anybody has
 abbrev pub winner : Chart → Position → Option ℕ
-winner m b = find (has_won m b) (indices m.realms)
+winner m b = find (has_won m b) (powers m)
 
 -- the two are one power, or nobody
 abbrev pub is_same_owner : Option ℕ → Option ℕ → Bool
@@ -56,4 +55,4 @@ centre_line b new p =
 
 -- the changed centres, by code
 abbrev pub centre_lines : Chart → Position → Position → List CentreLine
-centre_lines m b new = filter_map (centre_line b new) (indices m.provinces)
+centre_lines m b new = filter_map (centre_line b new) (provs m)

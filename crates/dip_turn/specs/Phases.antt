@@ -1,13 +1,12 @@
 -- The next phase, and whether the game goes on, as functions of the board that a phase left.
 use Rattle.std.specs.Prelude.{ℕ, ◌+◌, ◌==◌, nat_lt, nat_le, not, ◌&&◌, Bool, length, Option, None, Some, if◌then◌else◌}
 use Rattle.std.specs.List.{list_any}
-use Rattle.dip_chart.specs.Charts.{Chart}
+use Rattle.dip_chart.specs.Charts.{Chart, powers}
 use Rattle.dip_board.specs.declared.boards.Season.{Season}
 use Rattle.dip_board.specs.declared.boards.Season.TheVariants.{SpringMoves, SpringRetreats, FallMoves, FallRetreats, Winter}
 use Rattle.dip_board.specs.Boards.{Position}
 use Rattle.dip_orders.specs.Allowances.{builds_due, removals_due}
 use Rattle.dip_turn.specs.Centres.{with_owners, winner}
-use Rattle.dip_outcomes.specs.Indices.{indices}
 use Rattle.dip_turn.specs.declared.report.Course.{Course}
 use Rattle.dip_turn.specs.declared.report.Course.TheVariants.{GoesOn, Won, Ended}
 
@@ -21,7 +20,7 @@ is_uneven m b power = not ((builds_due m b power == 0) && (removals_due b power 
 
 -- some power's allowance isn't 0
 abbrev pub needs_adjustment : Chart → Position → Bool
-needs_adjustment m b = list_any (is_uneven m b) (indices m.realms)
+needs_adjustment m b = list_any (is_uneven m b) (powers m)
 
 -- a board, and whether its game goes on
 pub record Sequel : Type 0 where

@@ -4,7 +4,6 @@ ghost use Rattle.std.specs.List.{list_any, filter_map};
 ghost use Rattle.dip_orders.specs.Standing.{is_same_unit};
 ghost use Rattle.dip_orders.specs.Conditions.{is_build, is_remove};
 ghost use Rattle.dip_turn.specs.Adjusting as a;
-ghost use Rattle.dip_outcomes.specs.Indices.{indices};
 
 use crate::disorder::in_disorder;
 use crate::report::Waiver;
@@ -129,10 +128,9 @@ pub(crate) fn disorder(
 ) -> Result<Vec<Unit>, AllocError>
     ensures { IfOk result (λ v. v.items ≡ a.disorder map.now board.now pending.now) }
 {
-    map.facts();
     let mut all = Vec::new(alloc);
-    for index in 0..map.power_count() {
-        let more = disorder_of(alloc, map, board, pending, Power::new(index as u8))?;
+    for power in map.each_power() {
+        let more = disorder_of(alloc, map, board, pending, power)?;
         all.extend_from_slice(more.as_slice())?;
     }
     Ok(all)
@@ -225,10 +223,9 @@ pub(crate) fn waivers(
 ) -> Result<Vec<Waiver>, AllocError>
     ensures { IfOk result (λ v. v.items ≡ a.waivers map.now board.now pending.now) }
 {
-    map.facts();
     let mut all = Vec::new(alloc);
-    for index in 0..map.power_count() {
-        if let Some(waiver) = waiver_of(map, board, pending, Power::new(index as u8)) {
+    for power in map.each_power() {
+        if let Some(waiver) = waiver_of(map, board, pending, power) {
             all.push(waiver)?;
         }
     }

@@ -61,13 +61,14 @@ pub(crate) fn with_owners(alloc: Global, map: &Map, board: &Board) -> Result<Boa
 }
 
 /// How many centres the map has.
+#[tactic(auto, using(crate::proofs::CentreLemmas::centres_counted, crate::proofs::CentreLemmas::length_provs))]
 fn centres(map: &Map) -> usize
     ensures { result ≡ c.centres map.now }
 {
     map.facts();
     let mut count: usize = 0;
-    for index in 0..map.province_count() {
-        if map.is_centre(Prov::new(index as u8)) {
+    for prov in map.each_province() {
+        if map.is_centre(prov) {
             count += 1;
         }
     }
@@ -87,9 +88,7 @@ fn has_won(map: &Map, board: &Board, power: Power) -> bool
 pub(crate) fn winner(map: &Map, board: &Board) -> Option<Power>
     ensures { result ≡ c.winner map.now board.now }
 {
-    map.facts();
-    for index in 0..map.power_count() {
-        let power = Power::new(index as u8);
+    for power in map.each_power() {
         if has_won(map, board, power) {
             return Some(power);
         }
@@ -128,10 +127,9 @@ pub(crate) fn centre_lines(
 ) -> Result<Vec<CentreLine>, AllocError>
     ensures { IfOk result (λ v. v.items ≡ c.centre_lines map.now board.now new.now) }
 {
-    map.facts();
     let mut lines = Vec::new(alloc);
-    for index in 0..map.province_count() {
-        if let Some(line) = centre_line(board, new, Prov::new(index as u8)) {
+    for prov in map.each_province() {
+        if let Some(line) = centre_line(board, new, prov) {
             lines.push(line)?;
         }
     }

@@ -25,9 +25,8 @@ fn is_uneven(map: &Map, board: &Board, power: Power) -> bool
 fn needs_adjustment(map: &Map, board: &Board) -> bool
     ensures { result ≡ p.needs_adjustment map.now board.now }
 {
-    map.facts();
-    for index in 0..map.power_count() {
-        if is_uneven(map, board, Power::new(index as u8)) {
+    for power in map.each_power() {
+        if is_uneven(map, board, power) {
             return true;
         }
     }

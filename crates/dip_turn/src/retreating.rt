@@ -136,6 +136,7 @@ pub(crate) fn after_retreats(
     ))
 }
 
+/// What is told of a dislodged unit: its order, and whether it goes where that sends it.
 fn retreat_line(board: &Board, pending: &[PlacedOrder], dislodged: &Dislodged) -> RetreatLine
     ensures { result ≡ r.retreat_line board.now pending.now dislodged.now }
 {

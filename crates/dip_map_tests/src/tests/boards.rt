@@ -1,7 +1,7 @@
 //! Which boards are of a map.
 use dip_board::{Board, Dislodged};
 use dip_map::{Map, STANDARD};
-use dip_names::{Kind, Place, Power, Unit};
+use dip_names::{Kind, Place, Power, Prov, Unit};
 use std::alloc::{AllocError, Global};
 use std::process::Abort;
 use std::test::Fail;
@@ -53,6 +53,76 @@ fn a_province_holds_one_unit_and_one_dislodged(rt: HostRuntime) -> Result<(), Fa
     ];
     for (standing, dislodged, is_of) in rows {
         let board = board_with(&rt, alloc, &map, standing, dislodged)?;
+        assert_eq!(rt; board.is_of(&map), is_of);
+    }
+    Ok(())
+}
+
+/// The board of the opening with these standoffs.
+fn board_closed(alloc: Global, map: &Map, standoff: Vec<Prov>) -> Result<Board, AllocError> {
+    let opening = Board::opening(alloc, map)?;
+    let units = opening.units().to_vec(alloc)?;
+    let owners = opening.owners().to_vec(alloc)?;
+    Ok(Board::of(units, Vec::new(alloc), standoff, owners, opening.phase()))
+}
+
+/// The provinces of these codes; a word that is no code stands for a province behind the map's last.
+fn provs_of(alloc: Global, map: &Map, codes: &str) -> Result<Vec<Prov>, AllocError> {
+    let mut provs = Vec::new(alloc);
+    for code in codes.split(' ') {
+        provs.push(map.prov(code.as_bytes()).unwrap_or(Prov::new(75)))?;
+    }
+    Ok(provs)
+}
+
+#[test]
+fn standoffs_ascend_and_are_empty(rt: HostRuntime) -> Result<(), Fail> {
+    let alloc = rt.alloc();
+    let map = Map::from_toml(alloc, STANDARD)?;
+    let rows = [
+        ("bel bur", true),
+        ("bur bel", false),
+        ("bel bel", false),
+        ("bel mun", false),
+        ("bel none", false),
+    ];
+    for (codes, is_of) in rows {
+        let standoff = provs_of(alloc, &map, codes)?;
+        let board = board_closed(alloc, &map, standoff)?;
+        assert_eq!(rt; board.is_of(&map), is_of);
+    }
+    Ok(())
+}
+
+/// The board of the opening, where a power of this number owns the province of a code.
+fn board_owned(alloc: Global, map: &Map, code: &str, power: u8) -> Result<Board, AllocError> {
+    let opening = Board::opening(alloc, map)?;
+    let units = opening.units().to_vec(alloc)?;
+    let mut owners = Vec::new(alloc);
+    for prov in map.each_province() {
+        let is_it = map.code(prov) == code;
+        owners.push(if is_it {
+            Some(Power::new(power))
+        } else {
+            opening.owner(prov)
+        })?;
+    }
+    Ok(Board::of(
+        units,
+        Vec::new(alloc),
+        Vec::new(alloc),
+        owners,
+        opening.phase(),
+    ))
+}
+
+#[test]
+fn powers_own_centres(rt: HostRuntime) -> Result<(), Fail> {
+    let alloc = rt.alloc();
+    let map = Map::from_toml(alloc, STANDARD)?;
+    let rows = [("bel", 6, true), ("bel", 7, false), ("bur", 6, false)];
+    for (code, power, is_of) in rows {
+        let board = board_owned(alloc, &map, code, power)?;
         assert_eq!(rt; board.is_of(&map), is_of);
     }
     Ok(())

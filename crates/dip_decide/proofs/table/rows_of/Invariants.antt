@@ -1,6 +1,7 @@
-use Rattle.std.proofs.Common.{◌≡◌, ◌++◌, drop}
-use Rattle.dip_decide.specs.Given.{rows_from}
+use Rattle.std.proofs.Common.{◌≡◌, ◌++◌, map}
+use Rattle.dip_decide.specs.Given.{rows_of}
+use Rattle.dip_decide.specs.Matching.{order_at}
 use Rattle.dip_decide.proofs.table.rows_of.Given as goal
 
-abbrev pub invariant-loop-index : goal.invariant-loop-index
-invariant-loop-index l = l.rows.items ++ rows_from l.orders l.index (drop l.index l.map.provinces) ≡ rows_from l.orders 0 l.map.provinces
+abbrev pub invariant-loop-prov : goal.invariant-loop-prov
+invariant-loop-prov l = l.rows.items ++ map (order_at l.orders) l.prov-iterator ≡ rows_of l.orders l.map

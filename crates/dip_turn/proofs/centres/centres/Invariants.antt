@@ -1,6 +1,10 @@
-use Rattle.std.proofs.Common.{◌≡◌, ◌≤◌, take}
+use Rattle.std.proofs.Common.{◌≡◌, ◌+◌, ◌≤◌, length}
 use Rattle.std.specs.Prelude.{count_by}
+use Rattle.dip_chart.specs.Charts.{is_centre, provs}
 use Rattle.dip_turn.proofs.centres.centres.Given as goal
 
-abbrev pub invariant-loop-index : goal.invariant-loop-index
-invariant-loop-index l = (l.count ≡ count_by (λ p. p.centre) (take l.index l.map.provinces)) × (l.count ≤ l.index)
+abbrev pub invariant-loop-prov : goal.invariant-loop-prov
+invariant-loop-prov l = record {
+  counted : l.count + count_by (is_centre l.map) l.prov-iterator ≡ count_by (is_centre l.map) (provs l.map);
+  few : l.count + length l.prov-iterator ≤ length l.map.provinces;
+}

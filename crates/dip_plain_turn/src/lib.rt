@@ -1,14 +1,20 @@
-//! Plain phases, for tests alone: what a phase makes of a board and what its paper tells, written from the rules of play, and a phase
-//! adjudicated compared with it.
+//! A plain, slow program of the phases, for tests alone: it works out from the rules what becomes of a board, with lists and loops. What
+//! plays phases fast is compared with it, over whole games.
 #![tactic(auto)]
 
-mod calendar;
-mod comparing;
-mod moves;
-mod refuges;
-mod state;
-mod winter;
+mod centres;
+mod fields;
+mod grounds;
+mod movements;
+mod papers;
+mod phases;
+mod playing;
+mod retreats;
+mod routes;
+mod states;
+mod supports;
+mod winters;
 
-pub use comparing::{Mismatch, compare};
-pub use moves::{destination, goes_by_convoy, origin};
-pub use state::State;
+pub use papers::{End, Line, Paper, PlainCourse, Word};
+pub use playing::play_plainly;
+pub use states::State;

@@ -4,9 +4,29 @@ use dip_board::{Board, Dislodged, Phase, Season};
 use dip_map::Map;
 use dip_names::{Kind, Place, Power, Prov, Terrain, Unit};
 use dip_orders::{Order, Other, PlacedOrder, print_order, read_order};
-use dip_plain_turn::{destination, goes_by_convoy, origin};
 use dip_turn::retreats;
 use std::alloc::{AllocError, Global};
+
+fn origin(placed: &PlacedOrder) -> Prov {
+    placed.unit.place.prov
+}
+
+fn destination(placed: &PlacedOrder) -> Option<Prov> {
+    match placed.order {
+        Order::Move { to, .. } => Some(to.prov),
+        _ => None,
+    }
+}
+
+/// Whether a unit is to move by convoy.
+fn goes_by_convoy(map: &Map, placed: &PlacedOrder) -> bool {
+    match placed.order {
+        Order::Move { to, via } => {
+            placed.unit.kind == Kind::Army && (via || !map.is_army_next(origin(placed), to.prov))
+        }
+        _ => false,
+    }
+}
 
 fn is_coastal(map: &Map, prov: Prov) -> bool {
     map.terrain(prov) == Terrain::Coast

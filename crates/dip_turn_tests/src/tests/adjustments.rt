@@ -18,7 +18,7 @@ const BUILDS_AND_REMOVALS: [Row; 8] = [
             standing: "turkey A con, turkey A bul",
             ..SPRING
         },
-        course: "running S1902M",
+        course: "S1902M running",
     },
     Row {
         scene: Scene {
@@ -33,7 +33,7 @@ const BUILDS_AND_REMOVALS: [Row; 8] = [
             standing: "germany F nwg",
             ..SPRING
         },
-        course: "running S1902M",
+        course: "S1902M running",
     },
     Row {
         scene: Scene {
@@ -48,7 +48,7 @@ const BUILDS_AND_REMOVALS: [Row; 8] = [
             standing: "turkey A con, turkey F aeg",
             ..SPRING
         },
-        course: "running S1902M",
+        course: "S1902M running",
     },
     Row {
         scene: Scene {
@@ -64,7 +64,7 @@ const BUILDS_AND_REMOVALS: [Row; 8] = [
             standing: "turkey A bul, turkey F aeg",
             ..SPRING
         },
-        course: "running S1902M",
+        course: "S1902M running",
     },
     Row {
         scene: Scene {
@@ -75,14 +75,14 @@ const BUILDS_AND_REMOVALS: [Row; 8] = [
         },
         orders: "france BUILD A par\n\
              france BUILD F bre",
-        paper: "france BUILD A par: built\n\
-             france BUILD F bre: built\n\
+        paper: "france BUILD F bre: built\n\
+             france BUILD A par: built\n\
              france waives 1",
         after: Scene {
             standing: "france A spa, france A par, france F bre",
             ..SPRING
         },
-        course: "running S1902M",
+        course: "S1902M running",
     },
     Row {
         scene: Scene {
@@ -97,7 +97,7 @@ const BUILDS_AND_REMOVALS: [Row; 8] = [
             standing: "russia A mos, russia F stp/nc",
             ..SPRING
         },
-        course: "running S1902M",
+        course: "S1902M running",
     },
     Row {
         scene: Scene {
@@ -112,7 +112,7 @@ const BUILDS_AND_REMOVALS: [Row; 8] = [
             standing: "france A spa, france A par",
             ..SPRING
         },
-        course: "running S1902M",
+        course: "S1902M running",
     },
     Row {
         scene: Scene {
@@ -128,7 +128,7 @@ const BUILDS_AND_REMOVALS: [Row; 8] = [
             standing: "turkey A con, turkey A bul",
             ..SPRING
         },
-        course: "ended W2900A",
+        course: "W2900A ended",
     },
 ];
 

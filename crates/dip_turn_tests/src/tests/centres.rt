@@ -22,7 +22,7 @@ const AFTER_FALL: [Row; 7] = [
             standing: "france F bre, france A mar, france A par",
             ..SPRING
         },
-        course: "running S1902M",
+        course: "S1902M running",
     },
     Row {
         scene: Scene {
@@ -39,7 +39,7 @@ const AFTER_FALL: [Row; 7] = [
             owned: "france bre mar par por spa bel hol mun kie ber den lon lvp edi nap rom ven tun",
             ..SPRING
         },
-        course: "won by france F1901M",
+        course: "F1901M won by france",
     },
     Row {
         scene: Scene {
@@ -57,7 +57,7 @@ const AFTER_FALL: [Row; 7] = [
             owned: "france bre mar par por spa bel hol mun kie ber den lon lvp edi nap rom ven tun",
             ..SPRING
         },
-        course: "won by france F2900M",
+        course: "F2900M won by france",
     },
     Row {
         scene: Scene {
@@ -74,7 +74,7 @@ const AFTER_FALL: [Row; 7] = [
             owned: "france bre mar par por spa bel hol mun kie ber den lon lvp edi nap rom tun",
             ..SPRING
         },
-        course: "running W1901A",
+        course: "W1901A running",
     },
     Row {
         scene: Scene {
@@ -90,7 +90,7 @@ const AFTER_FALL: [Row; 7] = [
             standing: "france A par",
             ..SPRING
         },
-        course: "ended F2900M",
+        course: "F2900M ended",
     },
     Row {
         scene: Scene {
@@ -109,7 +109,7 @@ const AFTER_FALL: [Row; 7] = [
             owned: "france par, england bel, germany mun kie",
             ..SPRING
         },
-        course: "running W1901A",
+        course: "W1901A running",
     },
     Row {
         scene: Scene {
@@ -119,13 +119,13 @@ const AFTER_FALL: [Row; 7] = [
         },
         orders: "germany F kie H\n\
              france A bur - mun",
-        paper: "germany F kie H: holds\n\
-             france A bur - mun: moves",
+        paper: "france A bur - mun: moves\n\
+             germany F kie H: holds",
         after: Scene {
             standing: "germany F kie, france A mun",
             ..SPRING
         },
-        course: "running F1901M",
+        course: "F1901M running",
     },
 ];
 

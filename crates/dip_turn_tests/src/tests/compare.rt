@@ -2,8 +2,8 @@
 use dip_board::Board;
 use dip_map::Map;
 use dip_orders::PlacedOrder;
-use dip_plain_turn::Mismatch;
 use dip_turn::Report;
+use dip_turn_compare::Mismatch;
 use std::alloc::{AllocError, Global};
 use std::process::Abort;
 
@@ -15,7 +15,7 @@ pub(crate) fn compare(
     board: Board,
     pending: &[PlacedOrder],
 ) -> Result<(Board, Report), AllocError> {
-    match dip_plain_turn::compare(alloc, map, board, pending) {
+    match dip_turn_compare::compare(alloc, map, board, pending) {
         Ok(played) => Ok(played),
         Err(Mismatch::Memory(error)) => Err(error),
         Err(Mismatch::Differs(what)) => panic!(rt; "they differ in {what}"),

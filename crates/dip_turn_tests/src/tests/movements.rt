@@ -19,7 +19,7 @@ const WORKED_MOVEMENTS: [Row; 11] = [
             standing: "france A mar, france A bur, germany A mun",
             ..SPRING
         },
-        course: "running F1901M",
+        course: "F1901M running",
     },
     Row {
         scene: Scene {
@@ -35,7 +35,7 @@ const WORKED_MOVEMENTS: [Row; 11] = [
             standoff: "gal",
             ..SPRING
         },
-        course: "running F1901M",
+        course: "F1901M running",
     },
     Row {
         scene: Scene {
@@ -52,7 +52,7 @@ const WORKED_MOVEMENTS: [Row; 11] = [
             standing: "turkey F con, turkey A smy, turkey A ank",
             ..SPRING
         },
-        course: "running F1901M",
+        course: "F1901M running",
     },
     Row {
         scene: Scene {
@@ -63,15 +63,15 @@ const WORKED_MOVEMENTS: [Row; 11] = [
              turkey A con - smy\n\
              turkey A smy - ank\n\
              austria A bul - con",
-        paper: "turkey F ank - con: bounced\n\
+        paper: "austria A bul - con: bounced\n\
+             turkey F ank - con: bounced\n\
              turkey A con - smy: bounced\n\
-             turkey A smy - ank: bounced\n\
-             austria A bul - con: bounced",
+             turkey A smy - ank: bounced",
         after: Scene {
             standing: "turkey F ank, turkey A con, turkey A smy, austria A bul",
             ..SPRING
         },
-        course: "running F1901M",
+        course: "F1901M running",
     },
     Row {
         scene: Scene {
@@ -90,7 +90,7 @@ const WORKED_MOVEMENTS: [Row; 11] = [
             standing: "england A bel, england F nth, france A lon, france F eng",
             ..SPRING
         },
-        course: "running F1901M",
+        course: "F1901M running",
     },
     Row {
         scene: Scene {
@@ -110,7 +110,7 @@ const WORKED_MOVEMENTS: [Row; 11] = [
             dislodged: "france F eng from wal",
             ..SPRING
         },
-        course: "running S1901R",
+        course: "S1901R running",
     },
     Row {
         scene: Scene {
@@ -138,7 +138,7 @@ const WORKED_MOVEMENTS: [Row; 11] = [
             dislodged: "france F eng from pic, russia F nth from edi",
             ..SPRING
         },
-        course: "running S1901R",
+        course: "S1901R running",
     },
     Row {
         scene: Scene {
@@ -155,7 +155,7 @@ const WORKED_MOVEMENTS: [Row; 11] = [
             standing: "germany A ber, germany F kie, germany A mun",
             ..SPRING
         },
-        course: "running F1901M",
+        course: "F1901M running",
     },
     Row {
         scene: Scene {
@@ -175,7 +175,7 @@ const WORKED_MOVEMENTS: [Row; 11] = [
             dislodged: "russia A pru from ber",
             ..SPRING
         },
-        course: "running S1901R",
+        course: "S1901R running",
     },
     Row {
         scene: Scene {
@@ -193,7 +193,7 @@ const WORKED_MOVEMENTS: [Row; 11] = [
             dislodged: "germany A mun from bur",
             ..SPRING
         },
-        course: "running S1901R",
+        course: "S1901R running",
     },
     Row {
         scene: Scene {
@@ -206,14 +206,14 @@ const WORKED_MOVEMENTS: [Row; 11] = [
              germany A kie S A mun - ruh",
         paper: "france A bur - mun: moves\n\
              france A ruh S A bur - mun: cut, dislodged\n\
-             germany A mun - ruh: moves\n\
-             germany A kie S A mun - ruh: given",
+             germany A kie S A mun - ruh: given\n\
+             germany A mun - ruh: moves",
         after: Scene {
             standing: "france A mun, germany A ruh, germany A kie",
             dislodged: "france A ruh from mun",
             ..SPRING
         },
-        course: "running S1901R",
+        course: "S1901R running",
     },
 ];
 
@@ -243,7 +243,7 @@ const DESTROYED_UNITS: [Row; 5] = [
             standing: "france A mun, france A ruh, italy A ber, italy A boh, italy A kie, italy A sil, italy A tyr",
             ..SPRING
         },
-        course: "running F1901M",
+        course: "F1901M running",
     },
     Row {
         scene: Scene {
@@ -256,18 +256,18 @@ const DESTROYED_UNITS: [Row; 5] = [
              turkey A ser - bud\n\
              turkey A rum S A ser - bud\n\
              italy F tri H",
-        paper: "austria A vie - gal: bounced\n\
-             austria A bud H: holds, destroyed\n\
+        paper: "austria A bud H: holds, destroyed\n\
+             austria A vie - gal: bounced\n\
+             italy F tri H: holds\n\
              russia A war - gal: bounced\n\
-             turkey A ser - bud: moves\n\
              turkey A rum S A ser - bud: given\n\
-             italy F tri H: holds",
+             turkey A ser - bud: moves",
         after: Scene {
             standing: "austria A vie, russia A war, turkey A bud, turkey A rum, italy F tri",
             standoff: "gal",
             ..SPRING
         },
-        course: "running F1901M",
+        course: "F1901M running",
     },
     Row {
         scene: Scene {
@@ -278,16 +278,16 @@ const DESTROYED_UNITS: [Row; 5] = [
              england F ska C A nwy - swe\n\
              england F den S A nwy - swe\n\
              russia A swe H",
-        paper: "england A nwy - swe VIA: moves\n\
+        paper: "england F den S A nwy - swe: given\n\
+             england A nwy - swe VIA: moves\n\
              england F ska C A nwy - swe: convoys\n\
-             england F den S A nwy - swe: given\n\
              russia A swe H: holds, dislodged",
         after: Scene {
             standing: "england A swe, england F ska, england F den",
             dislodged: "russia A swe",
             ..SPRING
         },
-        course: "running S1901R",
+        course: "S1901R running",
     },
     Row {
         scene: Scene {
@@ -298,15 +298,15 @@ const DESTROYED_UNITS: [Row; 5] = [
              france A pic H\n\
              england A yor H\n\
              england F nth C A yor - bel",
-        paper: "france A par S A pic: given\n\
-             france A pic H: holds\n\
+        paper: "england F nth C A yor - bel: void\n\
              england A yor H: holds\n\
-             england F nth C A yor - bel: void",
+             france A par S A pic: given\n\
+             france A pic H: holds",
         after: Scene {
             standing: "france A par, france A pic, england A yor, england F nth",
             ..SPRING
         },
-        course: "running F1901M",
+        course: "F1901M running",
     },
     Row {
         scene: Scene {
@@ -315,13 +315,13 @@ const DESTROYED_UNITS: [Row; 5] = [
         },
         orders: "france A mar S A gas - bur\n\
              france A gas H",
-        paper: "france A mar S A gas - bur: void\n\
-             france A gas H: holds",
+        paper: "france A gas H: holds\n\
+             france A mar S A gas - bur: void",
         after: Scene {
             standing: "france A mar, france A gas",
             ..SPRING
         },
-        course: "running F1901M",
+        course: "F1901M running",
     },
 ];
 

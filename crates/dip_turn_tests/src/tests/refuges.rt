@@ -21,7 +21,7 @@ const MADE_AND_MISSED: [Row; 8] = [
             standing: "france A mun, france A ruh, germany A boh",
             ..SPRING
         },
-        course: "running F1901M",
+        course: "F1901M running",
     },
     Row {
         scene: Scene {
@@ -36,7 +36,7 @@ const MADE_AND_MISSED: [Row; 8] = [
             standing: "france A mun, france A ruh",
             ..SPRING
         },
-        course: "running F1901M",
+        course: "F1901M running",
     },
     Row {
         scene: Scene {
@@ -51,7 +51,7 @@ const MADE_AND_MISSED: [Row; 8] = [
             standing: "france A mun, france A ruh",
             ..SPRING
         },
-        course: "running F1901M",
+        course: "F1901M running",
     },
     Row {
         scene: Scene {
@@ -62,13 +62,13 @@ const MADE_AND_MISSED: [Row; 8] = [
         },
         orders: "germany A mun R boh\n\
              austria A vie R boh",
-        paper: "germany A mun R boh: disbands\n\
-             austria A vie R boh: disbands",
+        paper: "austria A vie R boh: disbands\n\
+             germany A mun R boh: disbands",
         after: Scene {
             standing: "france A mun, italy A vie",
             ..SPRING
         },
-        course: "running F1901M",
+        course: "F1901M running",
     },
     Row {
         scene: Scene {
@@ -79,13 +79,13 @@ const MADE_AND_MISSED: [Row; 8] = [
         },
         orders: "germany A mun R boh\n\
              austria A vie R gal",
-        paper: "germany A mun R boh: retreats\n\
-             austria A vie R gal: retreats",
+        paper: "austria A vie R gal: retreats\n\
+             germany A mun R boh: retreats",
         after: Scene {
             standing: "france A mun, italy A vie, germany A boh, austria A gal",
             ..SPRING
         },
-        course: "running F1901M",
+        course: "F1901M running",
     },
     Row {
         scene: Scene {
@@ -100,7 +100,7 @@ const MADE_AND_MISSED: [Row; 8] = [
             standing: "england A swe, england F ska, england F den, russia A nwy",
             ..SPRING
         },
-        course: "running F1901M",
+        course: "F1901M running",
     },
     Row {
         scene: Scene {
@@ -115,7 +115,7 @@ const MADE_AND_MISSED: [Row; 8] = [
             standing: "france F por, france F mao, italy F wes",
             ..SPRING
         },
-        course: "running F1901M",
+        course: "F1901M running",
     },
     Row {
         scene: Scene {
@@ -134,7 +134,7 @@ const MADE_AND_MISSED: [Row; 8] = [
             owned: "germany kie, france mun",
             ..SPRING
         },
-        course: "running W1901A",
+        course: "W1901A running",
     },
 ];
 

@@ -1,7 +1,7 @@
 //! A phase of a board, with what its paper tells and the board after it.
 use super::compare::compare;
 use super::scenes::{Scene, board_of, dislodged_in, owners_in, provs_in, units_in};
-use super::texts::{course_text, lines_of, phase_text};
+use super::texts::{paper_of, title};
 use dip_board::Board;
 use dip_map::{Map, STANDARD};
 use dip_orders::{PlacedOrder, read_order};
@@ -16,11 +16,11 @@ pub(crate) struct Row {
     pub scene: Scene,
     /// `france A par - bur`, a line for each order.
     pub orders: &'static str,
-    /// The lines of the paper, in any order.
+    /// The lines of the paper between its title and the game line.
     pub paper: &'static str,
     /// The board after it; its owners are those of the scene where the text is empty.
     pub after: Scene,
-    /// `running S1901R`
+    /// `S1901R running`
     pub course: &'static str,
 }
 
@@ -48,28 +48,25 @@ pub(crate) fn orders_in(
     Ok(orders)
 }
 
-/// Whether a text is one of the lines.
-fn is_line(lines: &[String], text: &str) -> bool {
-    lines.iter().any(|line| line.as_str() == text)
-}
-
+/// The paper of a row's phase: its title, its lines in their order, and the phase and the status of its game line.
 fn check_paper(
     rt: &impl Abort,
     alloc: Global,
     map: &Map,
+    row: Row,
     report: &Report,
-    paper: &str,
+    after: &Board,
 ) -> Result<(), AllocError> {
-    let lines = lines_of(alloc, map, report)?;
-    let mut count: usize = 0;
-    for text in paper.lines() {
-        assert!(rt;
-            is_line(lines.as_slice(), text),
-            "no line {text} in {lines:?}"
-        );
-        count = count.saturating_add(1);
-    }
-    assert_eq!(rt; lines.len(), count, "{lines:?}");
+    let text = paper_of(alloc, map, report, after)?;
+    let (own, rest) = text
+        .as_str()
+        .split_once("\nGAME g1 ")
+        .expect(rt, "a game line");
+    let (first, lines) = own.split_once('\n').unwrap_or((own, ""));
+    assert_eq!(rt; first, title(alloc, row.scene.phase())?.as_str());
+    assert_eq!(rt; lines, row.paper);
+    let (course, _) = rest.split_once(" DUE 200 ").expect(rt, "when it is due");
+    assert_eq!(rt; course, row.course);
     Ok(())
 }
 
@@ -104,17 +101,13 @@ pub(crate) fn play_row(
     let board = board_of(rt, alloc, map, row.scene)?;
     let orders = orders_in(rt, alloc, map, &board, row.orders)?;
     let (after, report) = compare(rt, alloc, map, board, orders.as_slice())?;
-    check_paper(rt, alloc, map, &report, row.paper)?;
+    check_paper(rt, alloc, map, row, &report, &after)?;
     let owned = if row.after.owned.is_empty() {
         row.scene.owned
     } else {
         row.after.owned
     };
     check_after(rt, alloc, map, row.after, owned, &after)?;
-    let mut text = course_text(alloc, map, report.course)?;
-    text.push_str(" ")?;
-    text.push_str(phase_text(alloc, after.phase())?.as_str())?;
-    assert_eq!(rt; text.as_str(), row.course);
     Ok(after)
 }
 

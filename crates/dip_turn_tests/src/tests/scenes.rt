@@ -20,6 +20,15 @@ pub(crate) struct Scene {
     pub owned: &'static str,
 }
 
+impl Scene {
+    pub fn phase(self) -> Phase {
+        Phase {
+            year: self.year,
+            season: self.season,
+        }
+    }
+}
+
 /// A board without anything, in Spring 1901.
 pub(crate) const SPRING: Scene = Scene {
     year: 1901,
@@ -136,11 +145,7 @@ pub(crate) fn board_of(
     let dislodged = dislodged_in(rt, alloc, map, scene.dislodged)?;
     let standoff = provs_in(rt, alloc, map, scene.standoff)?;
     let owners = owners_in(alloc, map, scene.owned)?;
-    let phase = Phase {
-        year: scene.year,
-        season: scene.season,
-    };
-    let board = Board::of(units, dislodged, standoff, owners, phase);
+    let board = Board::of(units, dislodged, standoff, owners, scene.phase());
     assert!(rt; board.is_of(map));
     Ok(board)
 }

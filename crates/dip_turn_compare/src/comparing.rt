@@ -1,13 +1,12 @@
 //! A phase adjudicated and played plainly, side by side, with the laws of phases.
 ghost use Rattle.dip_board.specs.Boards.{IsOf};
 
-use crate::calendar::{Paper, PlainCourse, play_plainly};
-use crate::state::{End, Line, State, Word, are_alike};
 use dip_board::{Board, Season};
 use dip_decide::resolve;
 use dip_map::Map;
 use dip_names::{Power, Prov, Unit};
 use dip_orders::{Order, Orders, PlacedOrder, each_unit_has_one_order};
+use dip_plain_turn::{End, Line, Paper, PlainCourse, State, Word, play_plainly};
 use dip_turn::{Account, Course, Fate, Outcome, Report, advance};
 use std::alloc::{AllocError, Global};
 
@@ -131,6 +130,29 @@ fn must(holds: bool, what: &'static str) -> Result<(), Mismatch> {
     }
 }
 
+/// Whether two lists have the same entries.
+fn are_alike<T: Copy + PartialEq>(some: &[T], others: &[T]) -> bool {
+    some.len() == others.len()
+        && some.iter().all(|one| others.contains(one))
+        && others.iter().all(|one| some.contains(one))
+}
+
+/// How many units a power had.
+fn count_of(state: &State, power: Power) -> usize {
+    let standing = state
+        .units
+        .as_slice()
+        .iter()
+        .filter(|unit| unit.power == power);
+    standing.count()
+}
+
+/// How many provinces a power owned.
+fn owned_by(state: &State, power: Power) -> usize {
+    let owners = state.owners.as_slice().iter();
+    owners.filter(|owner| **owner == Some(power)).count()
+}
+
 /// Checks what holds of each board after a phase.
 fn check_laws(map: &Map, before: &State, after: &Board, report: &Report) -> Result<(), Mismatch> {
     must(after.is_of(map), "the board is of the map")?;
@@ -164,17 +186,14 @@ fn standing_of(board: &Board, power: Power) -> usize {
 
 /// No power has more units than centres, and none removed more than it had to.
 fn check_winter(map: &Map, before: &State, after: &Board) -> Result<(), Mismatch> {
-    for index in 0..7 {
-        if (index as usize) < map.power_count() {
-            let power = Power::new(index);
-            let units = standing_of(after, power);
-            let owned = before.owned(power);
-            must(units <= owned, "no more units than centres")?;
-            must(
-                before.count(power) <= owned || units == owned,
-                "no more removed than due",
-            )?;
-        }
+    for power in map.each_power() {
+        let units = standing_of(after, power);
+        let owned = owned_by(before, power);
+        must(units <= owned, "no more units than centres")?;
+        must(
+            count_of(before, power) <= owned || units == owned,
+            "no more removed than due",
+        )?;
     }
     Ok(())
 }
@@ -203,13 +222,12 @@ fn check_report(alloc: Global, report: &Report, paper: &Paper) -> Result<(), Mis
 }
 
 /// What the plain program makes of a board of the map.
-fn paper_of(
+fn play_beside(
     alloc: Global,
     map: &Map,
     board: &Board,
-    state: &mut State,
     pending: &[PlacedOrder],
-) -> Result<Paper, AllocError>
+) -> Result<(State, Paper), AllocError>
     requires of_map { IsOf map.now board.now }
 {
     match board.phase().season {
@@ -217,10 +235,10 @@ fn paper_of(
             each_unit_has_one_order();
             let orders = Orders::standing(alloc, board, pending)?;
             let told = resolve(alloc, map, board, &orders)?;
-            play_plainly(alloc, map, state, pending, Some((orders.as_slice(), &told)))
+            play_plainly(alloc, map, board, pending, Some(&told))
         }
         Season::SpringRetreats | Season::FallRetreats | Season::Winter => {
-            play_plainly(alloc, map, state, pending, None)
+            play_plainly(alloc, map, board, pending, None)
         }
     }
 }
@@ -239,8 +257,7 @@ pub fn compare(
         return Err(Mismatch::Differs("the board before"));
     }
     let before = State::of(alloc, &board)?;
-    let mut state = State::of(alloc, &board)?;
-    let paper = paper_of(alloc, map, &board, &mut state, pending)?;
+    let (state, paper) = play_beside(alloc, map, &board, pending)?;
     let (after, report) = match advance(alloc, map, board, pending) {
         Ok(played) => played,
         Err((_, error)) => return Err(Mismatch::Memory(error)),

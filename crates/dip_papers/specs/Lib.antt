@@ -1,0 +1,2 @@
+pub mod Papers
+pub mod Laws

@@ -1,0 +1,4 @@
+pub mod CommandLineLemmas
+pub mod RunLemmas
+pub mod TurnLemmas
+pub mod AskedLemmas

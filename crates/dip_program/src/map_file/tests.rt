@@ -1,0 +1,186 @@
+//! Maps' files, in memory and of the system.
+use super::{FileFault, MOST_MAP, read_map, read_text};
+use crate::failures::Failure;
+use crate::reading::ReadFault;
+use std::alloc::Global;
+use std::io::Read;
+use std::rt::Files;
+use std::test::Fail;
+use std::{fs, io};
+
+/// A reader of some bytes, which fails behind them.
+#[derive(Drop)]
+struct Broken<'a>(&'a [u8]);
+
+impl Read for Broken<'_> {
+    fn read(&mut self, buf: &mut [u8]) -> io::Result<usize> {
+        let count = buf.len().min(self.0.len());
+        if count == 0 {
+            return Err(io::ErrorKind::Other.into());
+        }
+        buf[..count].copy_from_slice(&self.0[..count]);
+        self.0 = &self.0[count..];
+        Ok(count)
+    }
+}
+
+#[test]
+fn gives_the_text_that_is_there(rt: HostRuntime) -> Result<(), Fail> {
+    let alloc = rt.alloc();
+    for text in ["", "\n", "name = \"standard\"\r\n", "é\u{0}\u{10ffff}"] {
+        let Ok(read) = read_text(alloc, &mut text.as_bytes()) else {
+            return Err(Fail::from(text));
+        };
+        assert!(rt; read.as_str() == text);
+    }
+    Ok(())
+}
+
+#[test]
+fn bounds_a_text(rt: HostRuntime) -> Result<(), Fail> {
+    let alloc = rt.alloc();
+    let most = MOST_MAP as u64;
+    let Ok(text) = read_text(alloc, &mut io::repeat(b'x').take(most)) else {
+        return Err(Fail::from("at most"));
+    };
+    assert_eq!(rt; text.len(), 1_048_576);
+    let longer = read_text(alloc, &mut io::repeat(b'x').take(most + 1));
+    assert!(rt; matches!(&longer, Err(FileFault::Unread(ReadFault::TooLong))));
+    Ok(())
+}
+
+#[test]
+fn refuses_what_is_no_text(rt: HostRuntime) {
+    let alloc = rt.alloc();
+    let rows: [&[u8]; 4] = [b"\xff", b"name\x80", b"\xc3", b"\xed\xa0\x80"];
+    for mut bytes in rows {
+        let read = read_text(alloc, &mut bytes);
+        assert!(rt; matches!(&read, Err(FileFault::NotUtf8)));
+    }
+}
+
+#[test]
+fn refuses_what_cant_be_read(rt: HostRuntime) {
+    let alloc = rt.alloc();
+    for text in ["", "name"] {
+        let read = read_text(alloc, &mut Broken(text.as_bytes()));
+        assert!(rt;
+            matches!(&read, Err(FileFault::Unread(ReadFault::Read))),
+            "behind {text}"
+        );
+    }
+}
+
+/// The fault of a map's file, where it has one.
+fn fault_of<R: Files>(rt: &R, alloc: Global, path: &str) -> Option<FileFault> {
+    match read_map(rt, alloc, Some(path)) {
+        Err(Failure::MapFile(fault)) => Some(fault),
+        _ => None,
+    }
+}
+
+#[test]
+fn tries_the_file_that_is_named(rt: HostRuntime) {
+    let alloc = rt.alloc();
+    for (path, fault) in [
+        ("", ReadFault::Read),
+        ("no/such/file", ReadFault::Read),
+        ("a\u{0}b", ReadFault::Read),
+        ("/", ReadFault::Read),
+        ("/dev/zero", ReadFault::TooLong),
+    ] {
+        let expected = Some(FileFault::Unread(fault));
+        assert!(rt; fault_of(&rt, alloc, path) == expected, "at {path:?}");
+    }
+}
+
+#[test]
+fn takes_the_standard_map_where_no_file_is_named(rt: HostRuntime) -> Result<(), Fail> {
+    let alloc = rt.alloc();
+    let Ok(map) = read_map(&rt, alloc, None) else {
+        return Err(Fail::from("no map"));
+    };
+    assert!(rt; map.province_count() == 75);
+    Ok(())
+}
+
+/// A map without a fault, and one with each fault that a text can have, by its number.
+const FAULTS: [(&str, &str); 6] = [
+    ("name = ", "dip_judge: M1\n"),
+    ("name = \"none\"\n", "dip_judge: M2\n"),
+    (
+        "name = \"one\"
+[powers.west]
+home = [\"bay\"]
+units = []
+[provinces.ard]
+name = \"Ard\"
+kind = \"inland\"
+centre = true
+army = []
+",
+        "dip_judge: M3\n",
+    ),
+    (
+        "name = \"two\"
+[powers.west]
+home = [\"ard\"]
+units = []
+[provinces.ard]
+name = \"Ard\"
+kind = \"inland\"
+centre = true
+army = []
+[provinces.bay]
+name = \"Bay\"
+kind = \"inland\"
+army = [\"ard\"]
+",
+        "dip_judge: M4\n",
+    ),
+    (
+        "name = \"one\"
+[powers.west]
+home = [\"ard\", \"ard\"]
+units = []
+[provinces.ard]
+name = \"Ard\"
+kind = \"inland\"
+centre = true
+army = []
+",
+        "dip_judge: M5\n",
+    ),
+    (
+        "name = \"none\"\n[powers]\n[provinces]\n",
+        "dip_judge: M6\n",
+    ),
+];
+
+#[test]
+fn tells_the_fault_of_a_map(rt: HostRuntime) -> Result<(), Fail> {
+    let alloc = rt.alloc();
+    for (text, line) in FAULTS {
+        fs::write(&rt, "fault.toml", text)?;
+        let Err(failure) = read_map(&rt, alloc, Some("fault.toml")) else {
+            return Err(Fail::from("a map"));
+        };
+        assert_eq!(rt; failure.status(), 3);
+        let told = format!(in alloc; "{failure}")?;
+        assert!(rt; told.as_str() == line);
+    }
+    Ok(())
+}
+
+#[test]
+fn tells_a_file_that_is_no_text(rt: HostRuntime) -> Result<(), Fail> {
+    let alloc = rt.alloc();
+    fs::write(&rt, "bytes.toml", b"name = \"\xff\"")?;
+    let Err(failure) = read_map(&rt, alloc, Some("bytes.toml")) else {
+        return Err(Fail::from("a map"));
+    };
+    assert_eq!(rt; failure.status(), 5);
+    let told = format!(in alloc; "{failure}")?;
+    assert!(rt; told.as_str() == "dip_judge: Read\n");
+    Ok(())
+}

@@ -1,0 +1,29 @@
+//! The program over what the system hands it.
+
+use crate::asked::do_as_asked;
+use crate::failures::{Failure, status_of};
+use std::env::Env;
+use std::rt::Files;
+use std::{env, io};
+
+/// Does what the words ask for, over standard input and output.
+fn answer_the_system<R: Env + AllocGlobal + Files + Print + Input>(rt: &R) -> Result<(), Failure> {
+    let alloc = rt.alloc();
+    let words = env::args(rt)?.collect::<Vec<String>>(alloc)?;
+    let texts = words
+        .iter()
+        .map(|word| word.as_str())
+        .collect::<Vec<&str>>(alloc)?;
+    let mut reader = rt.reader();
+    let mut writer = io::writer(rt);
+    do_as_asked(rt, alloc, texts.as_slice(), &mut reader, &mut writer)
+}
+
+/// The whole program: does what its words ask for, tells a failure on standard error, and gives the exit status.
+pub fn run_program<R: Env + AllocGlobal + Files + Print + Eprint + Input>(rt: &R) -> u8 {
+    let outcome = answer_the_system(rt);
+    if let Err(failure) = &outcome {
+        let _ = rt.eprint(failure);
+    }
+    status_of(&outcome)
+}

@@ -58,18 +58,14 @@ fn second(alloc: Global, author: Author, effect: Effect) -> Result<Change, Alloc
     })
 }
 
-fn press(alloc: Global, first: Power, second: Power, third: Power) -> Result<Effect, AllocError> {
-    let mut readers = Vec::new(alloc);
-    readers.push(first)?;
-    readers.push(second)?;
-    readers.push(third)?;
-    let mut text = Vec::new(alloc);
-    text.push(String::from_str(alloc, "shall we")?)?;
+/// Grey press to two powers, of which the first is named twice.
+fn press(alloc: Global, first: Power, second: Power) -> Result<Effect, AllocError> {
+    let readers = vec![in alloc; first, second, first]?;
     Ok(Effect::Delivers {
         readers,
         item: Item::Grey {
             to_all: false,
-            text,
+            text: Vec::new(alloc),
         },
     })
 }
@@ -105,23 +101,41 @@ fn a_vote_is_its_authors(rt: HostRuntime) -> Result<(), Fail> {
     Ok(())
 }
 
+fn assert_counts(
+    rt: &impl Abort,
+    keeper: &mut MemoryKeeper,
+    map: &Map,
+    name: &str,
+    sent: u32,
+    items: u32,
+) -> Result<(), KeepFault> {
+    let own = seat(rt, keeper, map, name)?;
+    assert!(rt; own.sent == sent && own.items == items, "{name}");
+    Ok(())
+}
+
+fn check_press(rt: &impl Abort, alloc: Global, map: &Map) -> Result<(), KeepFault> {
+    let mut keeper = opened(rt, alloc, map)?;
+    let effect = press(alloc, power(rt, map, "france"), power(rt, map, "turkey"))?;
+    let author = Author::Seat(power(rt, map, "england"));
+    keeper.apply(map, &second(alloc, author, effect)?)?;
+    for (name, sent, items) in [
+        ("england", 1, 0),
+        ("france", 0, 1),
+        ("turkey", 0, 1),
+        ("austria", 0, 0),
+    ] {
+        assert_counts(rt, &mut keeper, map, name, sent, items)?;
+    }
+    Ok(())
+}
+
 /// France is named twice, and has it once.
 #[test]
 fn press_comes_to_its_readers(rt: HostRuntime) -> Result<(), Fail> {
     let alloc = rt.alloc();
     let map = Map::from_toml(alloc, STANDARD)?;
-    let mut keeper = opened(&rt, alloc, &map)?;
-    let author = Author::Seat(power(&rt, &map, "england"));
-    let france = power(&rt, &map, "france");
-    let turkey = power(&rt, &map, "turkey");
-    let effect = press(alloc, france, turkey, france)?;
-    keeper.apply(&map, &second(alloc, author, effect)?)?;
-    let england = seat(&rt, &mut keeper, &map, "england")?;
-    assert!(&rt; england.sent == 1 && england.items == 0);
-    let france = seat(&rt, &mut keeper, &map, "france")?;
-    assert!(&rt; france.sent == 0 && france.items == 1);
-    assert!(&rt; seat(&rt, &mut keeper, &map, "turkey")?.items == 1);
-    assert!(&rt; seat(&rt, &mut keeper, &map, "austria")?.items == 0);
+    check_press(&rt, alloc, &map)?;
     Ok(())
 }
 
@@ -147,22 +161,32 @@ fn a_paper_leaves_its_public_part(rt: HostRuntime) -> Result<(), Fail> {
     Ok(())
 }
 
+fn digest_of(
+    rt: &impl Abort,
+    keeper: &mut MemoryKeeper,
+    map: &Map,
+    name: &str,
+) -> Result<[u8; 32], KeepFault> {
+    Ok(seat(rt, keeper, map, name)?.digest)
+}
+
+fn check_digest(rt: &impl Abort, alloc: Global, map: &Map) -> Result<(), KeepFault> {
+    let mut keeper = opened(rt, alloc, map)?;
+    let before = digest_of(rt, &mut keeper, map, "england")?;
+    let effect = Effect::Seats(NewSeat {
+        power: power(rt, map, "france"),
+        digest: [9; 32],
+    });
+    keeper.apply(map, &second(alloc, Author::TheMaster, effect)?)?;
+    assert!(rt; digest_of(rt, &mut keeper, map, "france")? == [9; 32]);
+    assert!(rt; digest_of(rt, &mut keeper, map, "england")? == before);
+    Ok(())
+}
+
 #[test]
 fn another_digest_is_one_seats(rt: HostRuntime) -> Result<(), Fail> {
     let alloc = rt.alloc();
     let map = Map::from_toml(alloc, STANDARD)?;
-    let mut keeper = opened(&rt, alloc, &map)?;
-    let before = seat(&rt, &mut keeper, &map, "england")?;
-    let given = NewSeat {
-        power: power(&rt, &map, "france"),
-        digest: [9; 32],
-    };
-    keeper.apply(
-        &map,
-        &second(alloc, Author::TheMaster, Effect::Seats(given))?,
-    )?;
-    let france = seat(&rt, &mut keeper, &map, "france")?;
-    let england = seat(&rt, &mut keeper, &map, "england")?;
-    assert!(&rt; france.digest == [9; 32] && england.digest == before.digest);
+    check_digest(&rt, alloc, &map)?;
     Ok(())
 }

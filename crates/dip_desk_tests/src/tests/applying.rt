@@ -23,7 +23,10 @@ fn seat(
     map: &Map,
     name: &str,
 ) -> Result<Own, KeepFault> {
-    let Some(own) = keeper.own(map, "g1", power(rt, map, name))? else {
+    let Some(power) = map.power(name) else {
+        panic!(rt; "no such power");
+    };
+    let Some(own) = keeper.own(map, "g1", power)? else {
         panic!(rt; "no such seat");
     };
     Ok(own)

@@ -1,8 +1,8 @@
 -- What the desk keeps, its named parts, and what a change makes of it.
-use Rattle.std.specs.Prelude.{ℕ, ◌+◌, ◌==◌, Bool, false, List, [], ◌∷◌, ◌++◌, Option, None, Some, option_map, option_and_then, map, bytes_eq, if◌then◌else◌}
+use Rattle.std.specs.Prelude.{ℕ, zero, suc, ◌+◌, ◌==◌, Bool, false, List, [], ◌∷◌, ◌++◌, Option, None, Some, option_map, option_and_then, map, bytes_eq, if◌then◌else◌}
 use Rattle.std.specs.List.{list_any}
 use Rattle.dip_machine.specs.Keyed.{at, change_at}
-use Rattle.dip_records.specs.Records.{Public, Own, Item, Kept, Standing}
+use Rattle.dip_records.specs.Records.{Public, Own, Item, Kept, Standing, Whole}
 
 -- the master's row
 pub record Desk : Type 0 where
@@ -48,6 +48,23 @@ public_at name s = option_map (λ g. g.public) (game_at name s)
 
 abbrev pub own_at : List ℕ → ℕ → State → Option Own
 own_at name power s = option_and_then (λ g. own_of (seat_at power g.seats)) (game_at name s)
+
+-- a game with the own parts of its seats
+abbrev pub whole_of : Game → Whole
+whole_of g = record { public = g.public; seats = map (λ s. s.own) g.seats }
+
+abbrev pub whole_at : List ℕ → State → Option Whole
+whole_at name s = option_map whole_of (game_at name s)
+
+-- the paper of a number, which count from 1
+abbrev pub paper_numbered : ℕ → List (List ℕ) → Option (List ℕ)
+paper_numbered n [] = None
+paper_numbered zero (p ∷ ps) = None
+paper_numbered (suc zero) (p ∷ ps) = Some p
+paper_numbered (suc (suc n)) (p ∷ ps) = paper_numbered (suc n) ps
+
+abbrev pub paper_at : List ℕ → ℕ → State → Option (List ℕ)
+paper_at name n s = option_and_then (λ g. paper_numbered n g.papers) (game_at name s)
 
 -- who wrote a letter
 pub data Author : Type 0 where

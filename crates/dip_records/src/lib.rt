@@ -3,4 +3,4 @@
 
 mod records;
 
-pub use records::{Head, Item, Kept, Outcome, Own, Public, Reply, Standing, Status};
+pub use records::{Head, Item, Kept, Outcome, Own, Public, Reply, Standing, Status, Whole};

@@ -5,7 +5,7 @@ use Rattle.std.specs.Str.Parse.{digits_value}
 use Rattle.dip_letters.specs.Lines.{line_at, split_lines, word_at}
 use Rattle.dip_letters.specs.Words.{is_due, is_empty, is_game, is_name, is_number, is_order_line, is_period, is_secret}
 use Rattle.dip_letters.specs.Notes.{Note, Request, SeatNote}
-use Rattle.dip_letters.specs.Notes.Request.{Create, Orders, Show}
+use Rattle.dip_letters.specs.Notes.Request.{Create, Orders, Show, Tick}
 use Rattle.dip_names.specs.Options.{◌>>=◌}
 
 -- what follows a name at the front
@@ -120,10 +120,21 @@ opening_at line body = do
 abbrev pub show_at : List ℕ → Option Request
 show_at body = if is_empty body then Some Show else None
 
+-- TICK by the word behind its name, without a body
+abbrev pub tick_at : List ℕ → List ℕ → Option Request
+tick_at word body = if is_due word && is_empty body then Some (Tick (digits_value 10 word)) else None
+
+-- TICK by what stands behind its name, or else CREATE
+abbrev pub tick_or_opening : Option (List ℕ) → List ℕ → List ℕ → Option Request
+tick_or_opening None line body = opening_at line body
+tick_or_opening (Some word) line body = tick_at word body
+
 unfoldable pub command_at : List ℕ → Option Request
 command_at text = do
   l ← line_at text
-  if bytes_eq l.0 (codes "ORDERS") then option_map Orders (orders_at l.1) else (if bytes_eq l.0 (codes "SHOW") then show_at l.1 else opening_at l.0 l.1)
+  if bytes_eq l.0 (codes "ORDERS") then option_map Orders (orders_at l.1) else (
+    if bytes_eq l.0 (codes "SHOW") then show_at l.1 else tick_or_opening (after_name (codes "TICK ") l.0) l.0 l.1
+  )
 
 -- the note of a letter, without its last line
 unfoldable pub note_at : List ℕ → Option Note

@@ -29,6 +29,8 @@ pub enum Command<'a> {
     Orders(Lines<'a>),
     /// The state of the game.
     Show,
+    /// The master's time, 0 to 999999999999: the game's phase is adjudicated where it is due.
+    Tick(u64),
 }
 
 /// A game to be opened.

@@ -51,6 +51,10 @@ fn push_command(alloc: Global, text: &mut String, command: Command<'_>) -> Resul
             push_lines(text, lines)
         }
         Command::Show => text.push_str("SHOW\n"),
+        Command::Tick(tick) => {
+            let tick = tick.to_string(alloc)?;
+            push_line(text, "TICK ", tick.as_str())
+        }
     }
 }
 

@@ -6,7 +6,7 @@ use Rattle.dip_board.specs.Boards.{Position, owns}
 use Rattle.dip_board.specs.declared.boards.Season.{Season}
 use Rattle.dip_board.specs.declared.boards.Season.TheVariants.{SpringMoves, SpringRetreats, FallMoves, FallRetreats, Winter}
 use Rattle.dip_reports.specs.declared.refusals.Refusal.{Refusal}
-use Rattle.dip_reports.specs.declared.refusals.Refusal.TheVariants.{Malformed, Unknown, Stale, NumberUsed, TooLong, WrongSender, NameTaken}
+use Rattle.dip_reports.specs.declared.refusals.Refusal.TheVariants.{Malformed, Unknown, Stale, NumberUsed, TooLong, GameOver, WrongSender, NotDue, NameTaken}
 use Rattle.dip_records.specs.Records.{Public, Own, Head, Reply, Standing, Status, Running, Paused, Closed, Ended, Won, Drawn}
 use Rattle.dip_chart.specs.Charts.{Chart, powers, province, provs, realm}
 use Rattle.dip_orders.specs.Faults.{fault_number, fault_words}
@@ -45,7 +45,9 @@ refusal_text Unknown = codes "L2 unknown game, sender or secret"
 refusal_text (Stale last) = codes "L3 stale number, last is " ++ decimal last
 refusal_text (NumberUsed number) = codes "L4 number " ++ decimal number ++ codes " used by another letter"
 refusal_text TooLong = codes "L5 letter over 16384 bytes"
+refusal_text GameOver = codes "L8 game over"
 refusal_text WrongSender = codes "L9 command not for this sender"
+refusal_text NotDue = codes "L10 tick not due"
 refusal_text NameTaken = codes "L11 name taken"
 
 -- a refusal as a reply's line

@@ -14,8 +14,12 @@ pub enum Refusal {
     NumberUsed(u32),
     /// The letter has more than 16,384 bytes.
     TooLong,
+    /// The game is over: it was won, ended, drawn or closed.
+    GameOver,
     /// The command isn't for this sender.
     WrongSender,
+    /// The time of TICK is below the game's due tick, or the game is paused.
+    NotDue,
     /// A game of this name exists.
     NameTaken,
 }
@@ -34,7 +38,9 @@ impl fmt::Display for Refusal {
             Refusal::Stale(last) => write!(f, "L3 stale number, last is {last}"),
             Refusal::NumberUsed(number) => write!(f, "L4 number {number} used by another letter"),
             Refusal::TooLong => write!(f, "L5 letter over 16384 bytes"),
+            Refusal::GameOver => write!(f, "L8 game over"),
             Refusal::WrongSender => write!(f, "L9 command not for this sender"),
+            Refusal::NotDue => write!(f, "L10 tick not due"),
             Refusal::NameTaken => write!(f, "L11 name taken"),
         }
     }

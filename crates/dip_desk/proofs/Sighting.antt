@@ -1,9 +1,11 @@
 -- What is decided by an author's sight is what the machine decides.
 use Rattle.std.proofs.Common.{◌≡◌, ℕ, Bool, true, false, cond, List, Option, None, Some, option_map, refl, sym, ◌∙◌, ap, subst, inl, bytes_eq, codes, is_some}
 use Rattle.std.specs.Prelude.{option_and_then}
+use Rattle.dip_letters.specs.Notes.{Request}
+use Rattle.dip_letters.specs.Notes.Request.{Create, Orders, Show, Tick}
 use Rattle.dip_chart.specs.Charts.{Chart, power_of}
 use Rattle.dip_records.specs.Records.{Item, Own, Reply}
-use Rattle.dip_machine.specs.Machine.{DecidedBy, Decides, IsDamagedBy, IsForeign, IsForeignSight, IsForeignTo, MayBeDamaged, Settles, Step, after, OfMaster, OfNobody, OfSeat, Sight, Verdict, NotKnown, Again, OutOfTurn, Taken, author, author_of, digest, master_author, master_sight, power_author, power_sight, seat_author, seat_sight, seen_in, sight_of, verdict_by, verdict_on}
+use Rattle.dip_machine.specs.Machine.{DecidedBy, Decides, IsDamagedBy, IsForeign, IsDamagedSight, IsForeignTo, IsUnplayable, MayBeDamaged, Settles, Step, after, OfMaster, OfGame, OfNobody, OfSeat, Sight, Verdict, NotKnown, Again, OutOfTurn, Taken, author, author_of, digest, master_author, master_sees, master_sight, power_author, power_sight, seat_author, seat_sight, seen_in, sight_of, verdict_by, verdict_on}
 use Rattle.dip_machine.specs.Fitting.{EffectsFit}
 use Rattle.dip_machine.specs.Mail.{Mail}
 use Rattle.dip_machine.specs.State.{Author, Effect, Game, Nobody, Nothing, Pending, Votes, Delivers, Opens, Publishes, Seats, Seat, State, TheMaster, game_at, own_of, seat_at}
@@ -13,7 +15,7 @@ use Rattle.dip_machine.proofs.Suiting.{Comes, IsFitting, decides_suits, opens_wh
 -- a sight is the author's, and what is decided by it is what may be decided
 abbrev pub IsRight : Chart → Mail → State → Author → Sight → Type 0
 IsRight m n s who sight =
-    (author_of sight ≡ who) × ((v : Verdict) → DecidedBy m n sight v → Decides m s n who v) × (IsForeignSight m sight → MayBeDamaged m s n who)
+    (author_of sight ≡ who) × ((v : Verdict) → DecidedBy m n sight v → Decides m s n who v) × (IsDamagedSight m sight → MayBeDamaged m s n who)
 
 seat_right : (m : Chart) (n : Mail) (s : State) (p : ℕ) (game : Option Game) → game_at n.note.game s ≡ game
     → IsRight m n s (seat_author n p (option_and_then (λ g. own_of (seat_at p g.seats)) game)) (seat_sight n p (option_map (λ g. g.public) game) (option_and_then (λ g. own_of (seat_at p g.seats)) game))
@@ -37,8 +39,25 @@ seat_right m n s p (Some g) is = own (own_of (seat_at p g.seats)) refl
 pub is_right : (m : Chart) (n : Mail) (s : State) → IsRight m n s (author m n s) (sight_of m n s)
 is_right m n s = go (bytes_eq n.note.sender (codes "master"))
   where
-    master : (b : Bool) → IsRight m n s (cond b TheMaster Nobody) (cond b (OfMaster s.desk.kept (is_some (game_at n.note.game s))) OfNobody)
-    master true = (refl, λ v d. d (game_at n.note.game s) refl, λ bad. bad)
+    same : (command : Request) (game : Option Game) → n.note.command ≡ command → game_at n.note.game s ≡ game
+        → master_sees n.note.command s.desk.kept (game_at n.note.game s) ≡ master_sees command s.desk.kept game
+    same command game of is = ap (λ (c : Request). master_sees c s.desk.kept (game_at n.note.game s)) of ∙ ap (master_sees command s.desk.kept) is
+
+    -- what the master sees is the master's
+    seen : (command : Request) (game : Option Game) → n.note.command ≡ command → game_at n.note.game s ≡ game
+        → IsRight m n s TheMaster (master_sees command s.desk.kept game)
+    seen (Create due period grey seats) game of is = (refl, λ v d. d (game_at n.note.game s) (same (Create due period grey seats) game of is), λ bad. absurd bad)
+    seen (Orders lines) game of is = (refl, λ v d. d (game_at n.note.game s) (same (Orders lines) game of is), λ bad. absurd bad)
+    seen Show game of is = (refl, λ v d. d (game_at n.note.game s) (same Show game of is), λ bad. absurd bad)
+    seen (Tick tick) None of is = (refl, λ v d. d (game_at n.note.game s) (same (Tick tick) None of is), λ bad. absurd bad)
+    seen (Tick tick) (Some g) of is = (
+      refl,
+      λ v d. d (game_at n.note.game s) (same (Tick tick) (Some g) of is),
+      λ bad. subst (λ (c : Request). IsUnplayable m c (game_at n.note.game s)) (sym of) (subst (IsUnplayable m (Tick tick)) (sym is) bad),
+    )
+
+    master : (b : Bool) → IsRight m n s (cond b TheMaster Nobody) (cond b (master_sees n.note.command s.desk.kept (game_at n.note.game s)) OfNobody)
+    master true = seen n.note.command (game_at n.note.game s) refl refl
     master false = (refl, λ v d. d, λ bad. bad)
 
     power : (q : Option ℕ) → IsRight m n s (power_author n q s) (power_sight n q s)
@@ -87,6 +106,6 @@ unfit_by_sight m n s sight v fit is decided =
         (λ on_map. unfit (on_map, finds_place n.note.game (author m n s) (game_at n.note.game s) e (decides_suits m s n (author m n s) (Taken text e) d)))
 
 -- and a fault of the sight is one of the letter's author
-pub blamed_by_sight : (m : Chart) (n : Mail) (s : State) (sight : Sight) → sight ≡ sight_of m n s → IsForeignSight m sight → IsDamagedBy m n s
+pub blamed_by_sight : (m : Chart) (n : Mail) (s : State) (sight : Sight) → sight ≡ sight_of m n s → IsDamagedSight m sight → IsDamagedBy m n s
 blamed_by_sight m n s sight is bad =
     let right : IsRight m n s (author m n s) sight = subst (IsRight m n s (author m n s)) (sym is) (is_right m n s) in right.2 bad

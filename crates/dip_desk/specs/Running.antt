@@ -1,13 +1,12 @@
 -- What a run over letters keeps.
 use Rattle.std.specs.Prelude.{◌≡◌, ℕ, List, Contains, Result, OnOk, IfOk, IfErr, take}
-use Rattle.std.specs.List.{AllByRecursion}
 use Rattle.dip_chart.specs.Charts.{Chart}
 use Rattle.dip_records.specs.Records.{Reply}
 use Rattle.dip_machine.specs.Faults.{faults_after_run}
 use Rattle.dip_desk.specs.Keeping.{Book}
 use Rattle.dip_machine.specs.Lawful.{IsLawful}
 use Rattle.dip_machine.specs.Machine.{IsDamagedBy}
-use Rattle.dip_machine.specs.Mail.{IsMail, Mail}
+use Rattle.dip_machine.specs.Mail.{Mail}
 use Rattle.dip_machine.specs.State.{State}
 use Rattle.dip_machine.specs.View.{IsHistory, IsSettledByView, Turn}
 use Rattle.dip_machine.specs.declared.faults.KeepFault.{KeepFault}
@@ -25,11 +24,11 @@ pub record Runs {K X : Type 0} (m : Chart) (b : Book K) (old new : K) (letters :
   pub done : b.sound m old → b.shows new → IfOk result (λ x. Answers m (b.content m old) letters (say x) (b.content m new))
   pub undone : b.sound m old → b.shows new
       → IfErr result (λ e. (n : ℕ) × Answers m (b.content m old) (take n letters) (say e.0) (b.content m new))
-  -- Damaged is told only of a standing line of the author of one of the letters, or of the board of its game, and never from a lawful
-  -- state on, which stays lawful: letters have numbers of letters
+  -- Damaged is told only where the record of the author of one of the letters may be it, and never from a lawful state on, which stays
+  -- lawful
   pub damaged : b.sound m old → b.shows new
       → IfErr result (λ e. e.1 ≡ Damaged → (n : Mail) × Contains letters n × IsDamagedBy m n (b.content m new))
-  pub never : b.sound m old → b.shows new → AllByRecursion IsMail letters → IsLawful m (b.content m old) → IfErr result (λ e. e.1 ≡ Damaged → ⊥)
-  pub lawful : b.sound m old → b.shows new → AllByRecursion IsMail letters → IsLawful m (b.content m old) → IsLawful m (b.content m new)
+  pub never : b.sound m old → b.shows new → IsLawful m (b.content m old) → IfErr result (λ e. e.1 ≡ Damaged → ⊥)
+  pub lawful : b.sound m old → b.shows new → IsLawful m (b.content m old) → IsLawful m (b.content m new)
   pub count : b.faults new ≡ faults_after_run result (b.faults old)
   pub stays_open : b.sound m old → b.honest new → b.shows old → OnOk result (b.shows new)

@@ -1,18 +1,21 @@
 //! Looking up what the author of a letter sees.
 ghost use Rattle.std.specs.Prelude.{◌≡◌, ◌<◌, bytes_eq};
 ghost use Rattle.dip_desk.specs.Keeping.{Looks};
-ghost use Rattle.dip_machine.specs.Machine.{digest, master_sight, power_sight, sight_of};
+ghost use Rattle.dip_letters.specs.Notes.Request.{Tick};
+ghost use Rattle.dip_machine.specs.Machine.{digest, master_sees, master_sight, power_sight, sight_of};
 ghost use Rattle.dip_machine.specs.Mail.{mail};
 ghost use Rattle.dip_machine.specs.Rows as desk_rows;
 ghost use Rattle.dip_machine.specs.Sights as sights;
-ghost use Rattle.dip_chart.specs.Charts.{Chart};
-ghost use Rattle.std.specs.Prelude.{Some, length};
+ghost use Rattle.dip_machine.specs.State.{game_at};
+ghost use Rattle.dip_records.specs.Rows as rows;
+ghost use Rattle.std.specs.Prelude.{Some, length, option_map, ℕ};
 
 use crate::keeper::Keeper;
-use dip_letters::Letter;
+use dip_letters::{Command, Letter};
 use dip_machine::{Desk, KeepFault, Sight, digest_of};
 use dip_map::Map;
 use dip_names::Power;
+use dip_records::Kept;
 
 /// Whether the letter's secret has this digest.
 fn opens(letter: &Letter<'_>, game: &str, sender: &str, kept: &[u8; 32]) -> bool
@@ -32,6 +35,27 @@ fn desk_of<K: Keeper>(keeper: &mut K, map: &Map) -> Result<Desk, KeepFault>
     keeper.desk()
 }
 
+/// What the master sees of the game that TICK names: all of it.
+fn look_at_game<K: Keeper>(
+    keeper: &mut K,
+    map: &Map,
+    game: &str,
+    kept: Option<Kept>,
+) -> Result<Sight, KeepFault>
+    requires { K.book.faults keeper.old < u64.MAX }
+    ensures { Looks map.now K.book keeper.old keeper.new
+        (λ s. (tick : ℕ) → sights.sight s ≡ master_sees (Tick tick) (option_map rows.kept kept)
+        (game_at game.now (K.book.content map.now keeper.old))) ⊥ result }
+{
+    match keeper.whole(map, game)? {
+        None => Ok(Sight::Master {
+            kept,
+            is_there: false,
+        }),
+        Some(whole) => Ok(Sight::Game { kept, whole }),
+    }
+}
+
 /// What the master sees, where the letter's secret is the master's.
 fn look_as_master<K: Keeper>(
     keeper: &mut K,
@@ -47,11 +71,16 @@ fn look_as_master<K: Keeper>(
     if !opens(letter, "desk", "master", &desk.digest) {
         return Ok(Sight::Nobody);
     }
-    let is_there = keeper.public(map, letter.game)?.is_some();
-    Ok(Sight::Master {
-        kept: desk.kept,
-        is_there,
-    })
+    match &letter.command {
+        Command::Tick(_) => look_at_game(keeper, map, letter.game, desk.kept),
+        Command::Create(_) | Command::Orders(_) | Command::Show => {
+            let is_there = keeper.public(map, letter.game)?.is_some();
+            Ok(Sight::Master {
+                kept: desk.kept,
+                is_there,
+            })
+        }
+    }
 }
 
 /// What the seat of a power sees, where the letter's secret is the seat's.

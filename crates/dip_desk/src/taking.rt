@@ -2,7 +2,8 @@
 ghost use Rattle.std.specs.Prelude.{◌≡◌, ◌<◌, IfOk, None, Some, map as each, string_bytes};
 ghost use Rattle.dip_desk.specs.Fitting.{VerdictFits};
 ghost use Rattle.dip_desk.specs.Keeping.{Steps};
-ghost use Rattle.dip_machine.specs.Mail.{mail};
+ghost use Rattle.dip_machine.specs.Mail.{IsMail, mail};
+ghost use Rattle.std.specs.List.{AllByRecursion};
 ghost use Rattle.dip_machine.specs.Machine as m;
 ghost use Rattle.dip_machine.specs.Rows as desk_rows;
 ghost use Rattle.dip_desk.specs.Running.{Runs};
@@ -143,7 +144,8 @@ pub fn take<K: Keeper>(
     map: &Map,
     letter: &Letter<'_>,
 ) -> Result<Reply, KeepFault>
-    requires { K.book.faults keeper.old < u64.MAX }
+    requires room { K.book.faults keeper.old < u64.MAX }
+    requires letter { IsMail (mail letter.now) }
     ensures { Steps map.now K.book keeper.old keeper.new (λ r. rows.reply r)
         (λ old r new. m.Step map.now old (mail letter.now) r new)
         (m.IsDamagedBy map.now (mail letter.now)) result }
@@ -164,7 +166,8 @@ pub fn run<K: Keeper>(
     map: &Map,
     letters: &[Letter<'_>],
 ) -> Result<Vec<Reply>, (Vec<Reply>, KeepFault)>
-    requires { K.book.faults keeper.old < u64.MAX }
+    requires room { K.book.faults keeper.old < u64.MAX }
+    requires letters { AllByRecursion IsMail (each (λ l. mail l) letters.now) }
     ensures { Runs map.now K.book keeper.old keeper.new (each (λ l. mail l) letters.now)
         (λ replies. each (λ r. rows.reply r) replies.items) result }
 {

@@ -1,5 +1,5 @@
 -- What is decided of a letter fits the map.
-use Rattle.std.proofs.Common.{◌≡◌, ℕ, ◌<◌, ◌==◌, ◌&&◌, ◌+◌, nat_lt, length, inr, true, List, [], ◌∷◌, map, Option, Some, None, Result, Ok, Err, refl, sym, ap, subst}
+use Rattle.std.proofs.Common.{◌≡◌, ℕ, ◌<◌, ◌==◌, ◌&&◌, ◌+◌, Bool, nat_lt, length, inr, true, List, [], ◌∷◌, map, Option, Some, None, Result, Ok, Err, refl, sym, ap, subst}
 use Rattle.std.specs.List.{AllByRecursion, list_any}
 use Rattle.std.proofs.lemmas.Bool.{and_parts, ltb-true}
 use Rattle.dip_names.specs.declared.names.Kind.{Kind}
@@ -9,7 +9,7 @@ use Rattle.dip_board.specs.declared.boards.Dislodged.{Dislodged}
 use Rattle.dip_board.specs.Boards.{Position, IsOf, is_dislodged, opening}
 use Rattle.dip_chart.specs.Charts.{Chart, IsMap, home, is_unit, may_stand}
 use Rattle.dip_letters.specs.Notes.{Request}
-use Rattle.dip_letters.specs.Notes.Request.{Create, Orders, Show}
+use Rattle.dip_letters.specs.Notes.Request.{Create, Orders, Show, Tick}
 use Rattle.dip_orders.proofs.FindLaws.{find_among}
 use Rattle.dip_orders.proofs.LawfulReadLaws.{centre_low, home_centre}
 use Rattle.dip_orders.specs.Lawful.{IsAllowed, IsDislodged, MayCome, Stands}
@@ -21,13 +21,14 @@ use Rattle.dip_orders.specs.declared.placed.PlacedOrder.{PlacedOrder}
 use Rattle.dip_records.specs.Records.{Own, Public, Standing}
 use Rattle.dip_machine.specs.Fitting.{EffectsFit, FitsMap}
 use Rattle.dip_machine.specs.Lawful.{AreAscending}
-use Rattle.dip_machine.specs.Machine.{IsOffMap, Verdict, NotKnown, Again, OutOfTurn, Taken, seat_command, seen_in, verdict_by, verdict_on}
+use Rattle.dip_machine.specs.Machine.{IsOffMap, IsPublished, IsUnplayable, Verdict, NotKnown, Again, OutOfTurn, Taken, seat_command, seen_in, verdict_by, verdict_on}
 use Rattle.dip_machine.specs.Mail.{Mail}
 use Rattle.dip_machine.specs.Ordering.{Ordered, after_line, after_lines, kept_orders, orders_after, orders_that_stand, outcome_of_lines, prov_of, standing_with}
-use Rattle.dip_machine.specs.State.{Effect, Game, Nobody, Nothing, Pending, Votes, Delivers, Opens, Publishes, Seats, Seat, TheMaster, game_at, own_of, seat_at}
+use Rattle.dip_machine.specs.State.{Effect, Game, Nobody, Nothing, Pending, Votes, Delivers, Opens, Publishes, Seats, Seat, TheMaster, game_at, own_of, seat_at, whole_of}
+use Rattle.dip_machine.specs.Ticking.{IsPlayable, orders_of, public_played}
 use Rattle.dip_machine.proofs.LawfulOrders.{AreRead, all_with_order, with_order_ascending}
-use Rattle.dip_machine.proofs.LawfulStates.{OpensLawful, master_lawful}
-use Rattle.dip_machine.proofs.Suiting.{Comes, decides_suits, seat_holds}
+use Rattle.dip_machine.proofs.LawfulStates.{OpensLawful, StaysOf, master_lawful}
+use Rattle.dip_machine.proofs.Suiting.{ByTick, Comes, decides_suits, master_by_tick, seat_holds}
 
 -- the unit of an order that can be given is in a province of the map
 
@@ -118,28 +119,39 @@ command_fits m p o (Orders lines) ok of read =
     (lines_fit m p.board o.power 1 lines (record { orders = orders_that_stand m p.board o.power o.pending; answers = [] }) ok of read
     (standing_fit m p.board o.power [] o.pending ok of read (record { ascending = tt; low = tt })))
 command_fits m p o Show ok of read = tt
+command_fits m p o (Tick tick) ok of read = tt
 
 seat_fits : (m : Chart) (n : Mail) (p : Public) (o : Option Own) → IsMap m → IsOf m p.board → AreRead m p.board → VerdictFits m (verdict_by m n (Some p) o)
 seat_fits m n p None ok of read = tt
 seat_fits m n p (Some o) ok of read =
     seat_holds (VerdictFits m) (λ t. tt) (λ t. tt) n o.kept (seat_command m n.note.command p o) (command_fits m p o n.note.command ok of read)
 
--- the master's letters fit
-master_fits : (m : Chart) (game : Option Game) (text : List ℕ) (e : Effect) → IsOf m (opening m) → Comes TheMaster game e → OpensLawful m (Taken text e) → FitsMap m e
-master_fits m game text Nothing fine comes h = tt
-master_fits m game text (Pending orders) fine comes h = absurd comes
-master_fits m game text (Votes draw) fine comes h = tt
-master_fits m game text (Delivers readers item) fine comes h = absurd comes
-master_fits m game text (Opens public paper seats) fine comes h = (subst (IsOf m) (sym h.board) fine, h.complete, h.known)
-master_fits m game text (Publishes public paper played) fine comes h = absurd comes
-master_fits m game text (Seats seat) fine comes h = absurd comes
+-- what TICK publishes fits where the phase could be adjudicated
+ticked_fits : (m : Chart) (tick : ℕ) (g : Game) (text paper : List ℕ) (public : Public) (played : Bool) → StaysOf m → IsPlayable m (whole_of g)
+    → IsPublished m tick (whole_of g) (Taken text (Publishes public paper played)) → IsOf m public.board
+ticked_fits m tick g text paper public played stays can p =
+    let behind : public ≡ public_played tick g.public p.board p.report.course = cc in
+    subst (λ (q : Public). IsOf m q.board) (sym behind) (stays g.public.board (orders_of m (whole_of g)) p.board p.report can.board can.given p.played)
 
-pub effects_fit : (m : Chart) → IsMap m → IsOf m (opening m) → ((b : Position) → IsOf m b → AreRead m b) → EffectsFit m
-effects_fit m ok fine read s n Nobody text e d unfit = let bad : ◌≡◌ {A = Verdict} (Taken text e) NotKnown = d in absurd (cc)
-effects_fit m ok fine read s n TheMaster text e d unfit =
-    absurd (unfit (master_fits m (game_at n.note.game s) text e fine (decides_suits m s n TheMaster (Taken text e) d).0
-    (master_lawful m n s.desk.kept n.note.command (game_at n.note.game s) (Taken text e) d)))
-effects_fit m ok fine read s n (Seat power) text e d unfit = inr (go (game_at n.note.game s) d)
+-- the master's letters fit, but for TICK of a game whose phase can't be adjudicated
+master_fits : (m : Chart) (command : Request) (game : Option Game) (text : List ℕ) (e : Effect) → IsOf m (opening m) → StaysOf m → Comes TheMaster game e → OpensLawful m (Taken text e)
+    → ByTick m command game (Taken text e) → (FitsMap m e → ⊥) → IsUnplayable m command game
+master_fits m command game text Nothing fine stays comes h by unfit = absurd (unfit tt)
+master_fits m command game text (Pending orders) fine stays comes h by unfit = absurd comes
+master_fits m command game text (Votes draw) fine stays comes h by unfit = absurd comes
+master_fits m command game text (Delivers readers item) fine stays comes h by unfit = absurd comes
+master_fits m command game text (Opens public paper seats) fine stays comes h by unfit = absurd (unfit (subst (IsOf m) (sym h.board) fine, h.complete, h.known))
+master_fits m command game text (Publishes public paper played) fine stays comes h by unfit =
+    subst (λ (c : Request). IsUnplayable m c game) (sym by.2) (subst (IsUnplayable m (Tick by.0)) (sym by.3) (λ can. unfit (ticked_fits m by.0 by.1 text paper public played stays can by.4)))
+master_fits m command game text (Seats seat) fine stays comes h by unfit = absurd comes
+
+pub effects_fit : (m : Chart) → IsMap m → IsOf m (opening m) → ((b : Position) → IsOf m b → AreRead m b) → StaysOf m → EffectsFit m
+effects_fit m ok fine read stays s n Nobody text e d unfit = let bad : ◌≡◌ {A = Verdict} (Taken text e) NotKnown = d in absurd (cc)
+effects_fit m ok fine read stays s n TheMaster text e d unfit =
+    master_fits m n.note.command (game_at n.note.game s) text e fine stays (decides_suits m s n TheMaster (Taken text e) d).0
+    (master_lawful m n s.desk.kept n.note.command (game_at n.note.game s) (Taken text e) d)
+    (master_by_tick m n s.desk.kept n.note.command (game_at n.note.game s) (Taken text e) d) unfit
+effects_fit m ok fine read stays s n (Seat power) text e d unfit = inr (go (game_at n.note.game s) d)
   where
     go : (game : Option Game) → Taken text e ≡ verdict_on m n (seen_in power game) → IsOffMap m (seen_in power game).public
     go None is = let bad : ◌≡◌ {A = Verdict} (Taken text e) NotKnown = is in absurd (cc)

@@ -19,10 +19,11 @@ use Rattle.dip_orders.specs.declared.placed.Order.TheVariants.{Hold, Move, Suppo
 use Rattle.dip_orders.specs.declared.placed.PlacedOrder.{PlacedOrder}
 use Rattle.dip_machine.proofs.Counting.{all_weaker}
 use Rattle.dip_machine.proofs.LawfulOrders.{AreRead, standing_is}
-use Rattle.dip_machine.specs.Handing.{StandingOrdersAreGiven, orders_in}
+use Rattle.dip_machine.specs.Handing.{StandingOrdersAreGiven}
 use Rattle.dip_machine.specs.Lawful.{AreAscending, IsLawfulGame, IsLawfulSeat}
 use Rattle.dip_machine.specs.Ordering.{prov_of, orders_that_stand}
-use Rattle.dip_machine.specs.State.{Game, Part, power_in}
+use Rattle.dip_machine.specs.State.{Game, Part, power_in, whole_of}
+use Rattle.dip_machine.specs.Ticking.{orders_of, orders_of_seats}
 
 -- what is found passes
 found : {A : Type 0} (test : A → Bool) (xs : List A) (x : A) → find test xs ≡ Some x → test x ≡ true
@@ -205,6 +206,15 @@ kept_in test (y ∷ ys) x (suc k, low, at) t =
 same_number : (p : ℕ) → (p == p) ≡ true
 same_number p = grind (arith)
 
+-- the orders of all seats of a game, one seat behind the other
+abbrev pub orders_in : Chart → Game → List PlacedOrder
+orders_in m g = flat_map (λ s. orders_that_stand m g.public.board (power_in s) s.own.pending) g.seats
+
+whole_orders : (m : Chart) (b : Position) (seats : List Part)
+    → orders_of_seats m b (map (λ s. s.own) seats) ≡ flat_map (λ s. orders_that_stand m b (power_in s) s.own.pending) seats
+whole_orders m b [] = refl
+whole_orders m b (s ∷ ss) = ap (λ (os : List PlacedOrder). orders_that_stand m b (power_in s) s.own.pending ++ os) (whole_orders m b ss)
+
 -- a lawful game's orders, as they stand
 pub given_in : (m : Chart) (g : Game) → AreRead m g.public.board → IsLawfulGame m g → AreGiven m g.public.board (orders_in m g)
 given_in m g read l = record {
@@ -239,5 +249,8 @@ given_in m g read l = record {
         (all_weaker (λ p. order_of m b (power_in o) s.pending.orders (order_text m p) ≡ Ok p) (IsGiven m b (power_in o) s.pending.orders) s.pending.orders
         (λ p is. (order_text m p, is)) s.pending.each))
 
+pub whole_given : (m : Chart) (g : Game) → AreRead m g.public.board → IsLawfulGame m g → AreGiven m g.public.board (orders_of m (whole_of g))
+whole_given m g read l = subst (AreGiven m g.public.board) (sym (whole_orders m g.public.board g.seats)) (given_in m g read l)
+
 pub all_given : (m : Chart) → ((b : Position) → IsOf m b → AreRead m b) → StandingOrdersAreGiven m
-all_given m read s l = all_weaker (IsLawfulGame m) (λ g. AreGiven m g.public.board (orders_in m g)) s.games (λ g lawful. given_in m g (read g.public.board lawful.board) lawful) l.games
+all_given m read s l = all_weaker (IsLawfulGame m) (λ g. AreGiven m g.public.board (orders_of m (whole_of g))) s.games (λ g lawful. whole_given m g (read g.public.board lawful.board) lawful) l.games

@@ -2,6 +2,7 @@ pub mod KeyedLemmas
 pub mod Counting
 pub mod SeatLemmas
 pub mod OrderingLemmas
+pub mod TickingLemmas
 pub mod Suiting
 pub mod Seeing
 pub mod Others

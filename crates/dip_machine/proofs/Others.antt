@@ -1,5 +1,5 @@
 -- What the letters of others show a seat.
-use Rattle.std.proofs.Common.{◌≡◌, ◌≢◌, ℕ, ◌+◌, Bool, true, false, cond, List, [], ◌∷◌, ◌++◌, length, Option, Some, None, option_map, refl, sym, ◌∙◌, ap, subst, bytes_eq, arith, inl, inr}
+use Rattle.std.proofs.Common.{◌≡◌, ◌≢◌, length-append, ℕ, ◌+◌, Bool, true, false, cond, List, [], ◌∷◌, ◌++◌, length, Option, Some, None, option_map, refl, sym, ◌∙◌, ap, subst, bytes_eq, arith, inl, inr}
 use Rattle.std.specs.Prelude.{◌↔◌}
 use Rattle.std.specs.Option.{option_or}
 use Rattle.dip_chart.specs.Charts.{Chart}
@@ -10,7 +10,7 @@ use Rattle.dip_machine.specs.Machine.{Decides, SeatName, Verdict, NotKnown, Agai
 use Rattle.dip_machine.specs.State.{State, Game, Author, Nobody, TheMaster, Seat, Effect, Nothing, Pending, Votes, Delivers, Opens, Publishes, Seats, NewSeat, game_after, game_at, name_of, new_games, opening_game, papers_after}
 use Rattle.dip_machine.specs.View.{AreAlike, Event, IsShownByOthers, IsUnseenByOthers, Turn, effect_events, is_shown, own_events, papers_in, events_for, events_in, turns_for, verdict_events, view, writes}
 use Rattle.dip_machine.proofs.KeyedLemmas.{names_tell}
-use Rattle.dip_machine.proofs.Seeing.{option_or-none, other_game, same_game}
+use Rattle.dip_machine.proofs.Seeing.{game_behind, option_or-none, other_game, same_game}
 use Rattle.dip_machine.proofs.Suiting.{Comes, IsFitting, decides_suits, master_where, seat_where}
 
 -- somebody else's letter shows what its verdict shows in the game
@@ -110,15 +110,47 @@ shown_by_paper m seat s n v d others = go (author m n s) v d others
             (shown_of seat n TheMaster open_it o ∙ ap (λ (b : Bool). cond b (verdict_events seat.power open_it) []) differ)
             (ap papers_in (other_game (change_of n TheMaster text (Opens public paper seats)) s seat.game fits.1 differ))
 
+    by_paper : (text : List ℕ) (public : Public) (paper : List ℕ) (played : Bool) → IsFitting n.note.game TheMaster (game_at n.note.game s) (Publishes public paper played)
+        → (g : Game) → game_at n.note.game s ≡ Some g → writes seat n TheMaster ≡ false
+        → (events_for seat n TheMaster (Taken text (Publishes public paper played)) ≢ [])
+        ↔ (papers_in (game_at seat.game (after n TheMaster (Taken text (Publishes public paper played)) s)) ≡ papers_in (game_at seat.game s) + 1)
+    by_paper text public paper played fits g found o = there (bytes_eq n.note.game seat.game) refl
+      where
+        publish_it : Verdict
+        publish_it = Taken text (Publishes public paper played)
+
+        there : (b : Bool) → bytes_eq n.note.game seat.game ≡ b
+            → (events_for seat n TheMaster publish_it ≢ []) ↔ (papers_in (game_at seat.game (after n TheMaster publish_it s)) ≡ papers_in (game_at seat.game s) + 1)
+        there true same =
+            let name : n.note.game ≡ seat.game = names_tell.same n.note.game seat.game same in
+            let told : events_for seat n TheMaster publish_it ≡ verdict_events seat.power publish_it = shown_of seat n TheMaster publish_it o ∙ ap (λ (b : Bool). cond b (verdict_events seat.power publish_it) []) same in
+            let more : papers_in (game_at n.note.game (after n TheMaster publish_it s)) ≡ papers_in (game_at n.note.game s) + 1 =
+            ap papers_in (game_behind (change_of n TheMaster text (Publishes public paper played)) s g found)
+            ∙ length-append g.papers (paper ∷ [])
+            ∙ sym (ap (λ (x : Option Game). papers_in x + 1) found) in (
+              λ some. subst (λ (x : List ℕ). papers_in (game_at x (after n TheMaster publish_it s)) ≡ papers_in (game_at x s) + 1) name more,
+              λ count none. let bad = sym told ∙ none in absurd (cc),
+            )
+        there false differ =
+            nothing_either (events_for seat n TheMaster publish_it) (papers_in (game_at seat.game (after n TheMaster publish_it s))) (papers_in (game_at seat.game s))
+            (shown_of seat n TheMaster publish_it o ∙ ap (λ (b : Bool). cond b (verdict_events seat.power publish_it) []) differ)
+            (ap papers_in (other_game (change_of n TheMaster text (Publishes public paper played)) s seat.game fits.1 differ))
+
     by_master : (text : List ℕ) (e : Effect) → IsFitting n.note.game TheMaster (game_at n.note.game s) e → writes seat n TheMaster ≡ false
         → (events_for seat n TheMaster (Taken text e) ≢ []) ↔ (papers_in (game_at seat.game (after n TheMaster (Taken text e) s)) ≡ papers_in (game_at seat.game s) + 1)
     by_master text e fits o = elim (master_where n.note.game (game_at n.note.game s) e fits) [
       | inl nothing ↦ quiet_way TheMaster (Taken text e) o (ap (effect_events seat.power) nothing)
           (same_papers s n TheMaster text e seat.game fits (subst IsUnpublished (sym nothing) (refl, λ ps. refl)))
-      | inr opens ↦ subst
-          (λ (x : Effect). (events_for seat n TheMaster (Taken text x) ≢ []) ↔ (papers_in (game_at seat.game (after n TheMaster (Taken text x) s)) ≡ papers_in (game_at seat.game s) + 1))
-          (sym opens.3)
-          (by_open text opens.0 opens.1 opens.2 (subst (IsFitting n.note.game TheMaster (game_at n.note.game s)) opens.3 fits) opens.4 opens.5 o)
+      | inr more ↦ elim more [
+        | inl opens ↦ subst
+            (λ (x : Effect). (events_for seat n TheMaster (Taken text x) ≢ []) ↔ (papers_in (game_at seat.game (after n TheMaster (Taken text x) s)) ≡ papers_in (game_at seat.game s) + 1))
+            (sym opens.3)
+            (by_open text opens.0 opens.1 opens.2 (subst (IsFitting n.note.game TheMaster (game_at n.note.game s)) opens.3 fits) opens.4 opens.5 o)
+        | inr paper ↦ subst
+            (λ (x : Effect). (events_for seat n TheMaster (Taken text x) ≢ []) ↔ (papers_in (game_at seat.game (after n TheMaster (Taken text x) s)) ≡ papers_in (game_at seat.game s) + 1))
+            (sym paper.3)
+            (by_paper text paper.0 paper.1 paper.2 (subst (IsFitting n.note.game TheMaster (game_at n.note.game s)) paper.3 fits) paper.4 paper.5 o)
+      ]
     ]
 
     go : (who : Author) (v : Verdict) → Decides m s n who v → writes seat n who ≡ false

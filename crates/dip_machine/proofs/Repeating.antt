@@ -3,36 +3,65 @@ use Rattle.std.proofs.Common.{◌≡◌, ℕ, ◌<◌, ◌==◌, Bool, true, fal
 use Rattle.std.specs.Prelude.{option_and_then}
 use Rattle.std.proofs.lemmas.Bool.{eq-eqb, ltb-true}
 use Rattle.dip_letters.specs.Notes.{Request}
-use Rattle.dip_letters.specs.Notes.Request.{Create, Orders, Show}
+use Rattle.dip_letters.specs.Notes.Request.{Create, Orders, Show, Tick}
 use Rattle.dip_chart.specs.Charts.{Chart, power_of}
-use Rattle.dip_records.specs.Records.{Own, Kept, Reply}
-use Rattle.dip_reports.specs.declared.refusals.Refusal.TheVariants.{NumberUsed, Stale, WrongSender}
-use Rattle.dip_machine.specs.Machine.{Decides, MasterDecides, change_of, NumberedBy, Step, Verdict, NotKnown, Again, OutOfTurn, Taken, after, author, creation, digest, kept_of, master_author, new_seats, old_number, opening_public, power_author, refusal_verdict, repeat_verdict, reply_of, seat_author, seat_command, seen_in, verdict_by, verdict_on}
+use Rattle.dip_records.specs.Records.{Own, Kept, Public, Reply}
+use Rattle.dip_reports.specs.declared.refusals.Refusal.TheVariants.{Malformed, NumberUsed, Stale, WrongSender}
+use Rattle.dip_machine.specs.Machine.{Decides, IsNotForMaster, MasterDecides, TicksIn, are_complete, change_of, open_game, NumberedBy, Step, Verdict, NotKnown, Again, OutOfTurn, Taken, after, author, creation, digest, kept_of, master_author, new_seats, old_number, opening_public, power_author, refusal_verdict, repeat_verdict, reply_of, seat_author, seat_command, seen_in, verdict_by, verdict_on}
 use Rattle.dip_reports.specs.Texts.{refusal_line}
 use Rattle.dip_machine.specs.Mail.{Mail}
 use Rattle.dip_machine.specs.Repeats.{ActsOnce}
-use Rattle.dip_machine.specs.State.{State, Game, Part, Author, Nobody, TheMaster, Seat, Effect, Nothing, Pending, Votes, Delivers, Opens, Publishes, Seats, game_after, game_at, own_at, own_of, public_after, seat_at, with_effect, with_letter}
+use Rattle.dip_machine.specs.Ticking.{is_due, is_over}
+use Rattle.dip_machine.specs.State.{State, Game, Part, Author, Nobody, TheMaster, Seat, Effect, Nothing, Pending, Votes, Delivers, Opens, Publishes, Seats, NewSeat, game_after, game_at, own_at, own_of, public_after, seat_at, whole_of, with_effect, with_letter}
 use Rattle.dip_machine.proofs.KeyedLemmas.{names_tell}
 use Rattle.dip_machine.proofs.Seeing.{author_part, game_behind, seat_behind}
-use Rattle.dip_machine.proofs.Suiting.{Comes, decides_suits, seat_where}
+use Rattle.dip_machine.proofs.Suiting.{Comes, decides_suits, seat_where, ticks_hold}
 
-numbered_one : (o : Option Verdict) (w a b : Verdict) → NumberedBy o (λ v. v ≡ w) a → NumberedBy o (λ v. v ≡ w) b → a ≡ b
-numbered_one None w a b x y = x ∙ sym y
-numbered_one (Some old) w a b x y = x ∙ sym y
+-- a verdict by which the letter isn't taken
+abbrev pub IsUntaken : Verdict → Type 0
+IsUntaken NotKnown = Unit {0}
+IsUntaken (Again text) = Unit {0}
+IsUntaken (OutOfTurn text) = Unit {0}
+IsUntaken (Taken text e) = ⊥
 
--- the machine decides a letter in one way
-pub decides_one : (m : Chart) (s : State) (n : Mail) (who : Author) (v w : Verdict) → Decides m s n who v → Decides m s n who w → v ≡ w
-decides_one m s n Nobody v w d e = d ∙ sym e
-decides_one m s n (Seat p) v w d e = d ∙ sym e
-decides_one m s n TheMaster v w d e = go n.note.command (game_at n.note.game s) d e
+numbered_one : (o : Option Verdict) (New : Verdict → Type 0) (a b : Verdict) → (New b → ⊥) → NumberedBy o New a → NumberedBy o New b → a ≡ b
+numbered_one None New a b taken x y = absurd (taken y)
+numbered_one (Some old) New a b taken x y = x ∙ sym y
+
+-- what is decided of a new number is taken
+created_taken : (m : Chart) (p : Public) (found : Option (List NewSeat)) (game : Option Game) → IsUntaken (creation m p found game) → ⊥
+created_taken m p None game h = h
+created_taken m p (Some seats) game h = go (are_complete m seats) game h
   where
+    go : (b : Bool) (game : Option Game) → IsUntaken (cond b (open_game m p seats game) (refusal_verdict Malformed)) → ⊥
+    go true None h = h
+    go true (Some g) h = h
+    go false game h = h
+
+pub ticks_taken : (m : Chart) (tick : ℕ) (g : Game) (v : Verdict) → IsUntaken v → TicksIn m tick g v → ⊥
+ticks_taken m tick g v untaken h =
+    ticks_hold (λ v. IsUntaken v → ⊥) m tick (whole_of g) (is_over g.public.status) (is_due tick g.public) v (λ u. u) (λ u. u)
+    (λ p u. subst IsUntaken p.verdict u) h untaken
+
+-- where a letter may go untaken, nothing else is decided of it
+pub decides_one : (m : Chart) (s : State) (n : Mail) (who : Author) (v w : Verdict) → IsUntaken w → Decides m s n who v → Decides m s n who w → v ≡ w
+decides_one m s n Nobody v w untaken d e = d ∙ sym e
+decides_one m s n (Seat p) v w untaken d e = d ∙ sym e
+decides_one m s n TheMaster v w untaken d e = go n.note.command (game_at n.note.game s) d e
+  where
+    refused : w ≡ refusal_verdict WrongSender → ⊥
+    refused is = subst IsUntaken is untaken
+
     go : (command : Request) (game : Option Game) → MasterDecides m n s.desk.kept command game v → MasterDecides m n s.desk.kept command game w → v ≡ w
     go (Create due period grey seats) game x y =
-        numbered_one (old_number n s.desk.kept) (creation m (opening_public m n.note.game due period grey) (new_seats m n.note.game seats) game) v w x y
+        numbered_one (old_number n s.desk.kept) (λ v. v ≡ creation m (opening_public m n.note.game due period grey) (new_seats m n.note.game seats) game) v w
+        (λ is. created_taken m (opening_public m n.note.game due period grey) (new_seats m n.note.game seats) game (subst IsUntaken is untaken)) x y
     go (Orders lines) None x y = x ∙ sym y
-    go (Orders lines) (Some g) x y = numbered_one (old_number n s.desk.kept) (refusal_verdict WrongSender) v w x y
+    go (Orders lines) (Some g) x y = numbered_one (old_number n s.desk.kept) (IsNotForMaster g) v w refused x y
     go Show None x y = x ∙ sym y
-    go Show (Some g) x y = numbered_one (old_number n s.desk.kept) (refusal_verdict WrongSender) v w x y
+    go Show (Some g) x y = numbered_one (old_number n s.desk.kept) (IsNotForMaster g) v w refused x y
+    go (Tick tick) None x y = x ∙ sym y
+    go (Tick tick) (Some g) x y = numbered_one (old_number n s.desk.kept) (TicksIn m tick g) v w (ticks_taken m tick g w untaken) x y
 
 not_below : (a : ℕ) → nat_lt a a ≡ false
 not_below a = go (nat_lt a a) refl
@@ -185,10 +214,13 @@ master_again m n k text e (Create due period grey seats) game after d stays =
     known_again n text (λ w. w ≡ creation m (opening_public m n.note.game due period grey) (new_seats m n.note.game seats) after)
 master_again m n k text e (Orders lines) None after d stays = let bad : ◌≡◌ {A = Verdict} (Taken text e) NotKnown = d in absurd (cc)
 master_again m n k text e (Orders lines) (Some g) after d stays =
-    subst (λ (x : Option Game). MasterDecides m n (Some (kept_of n text)) (Orders lines) x (Again text)) (sym (stays g refl).1) (known_again n text (λ w. w ≡ refusal_verdict WrongSender))
+    subst (λ (x : Option Game). MasterDecides m n (Some (kept_of n text)) (Orders lines) x (Again text)) (sym (stays g refl).1) (known_again n text (IsNotForMaster (stays g refl).0))
+master_again m n k text e (Tick tick) None after d stays = let bad : ◌≡◌ {A = Verdict} (Taken text e) NotKnown = d in absurd (cc)
+master_again m n k text e (Tick tick) (Some g) after d stays =
+    subst (λ (x : Option Game). MasterDecides m n (Some (kept_of n text)) (Tick tick) x (Again text)) (sym (stays g refl).1) (known_again n text (TicksIn m tick (stays g refl).0))
 master_again m n k text e Show None after d stays = let bad : ◌≡◌ {A = Verdict} (Taken text e) NotKnown = d in absurd (cc)
 master_again m n k text e Show (Some g) after d stays =
-    subst (λ (x : Option Game). MasterDecides m n (Some (kept_of n text)) Show x (Again text)) (sym (stays g refl).1) (known_again n text (λ w. w ≡ refusal_verdict WrongSender))
+    subst (λ (x : Option Game). MasterDecides m n (Some (kept_of n text)) Show x (Again text)) (sym (stays g refl).1) (known_again n text (IsNotForMaster (stays g refl).0))
 
 -- who is decided so again
 abbrev pub IsRepeat : Chart → State → Mail → List ℕ → Type 0
@@ -223,28 +255,63 @@ stays_author m s n (Seat p) text e is comes =
 abbrev pub StaysPut : Verdict → Type 0
 StaysPut v = (n : Mail) (who : Author) (s : State) → after n who v s ≡ s
 
+-- what a letter comes to again: it isn't taken, and changes nothing
+pub record IsAgain (m : Chart) (old mid : State) (n : Mail) (first : Reply) : Type 0 where
+  pub verdict : Verdict
+  pub decided : Decides m mid n (author m n mid) verdict
+  pub told : first ≡ reply_of n verdict
+  pub stays : StaysPut verdict
+  pub author : author m n mid ≡ author m n old
+  pub untaken : IsUntaken verdict
+
 -- what the same letter comes to behind its first step
-pub repeats : (m : Chart) (old mid : State) (n : Mail) (first : Reply) → Step m old n first mid
-    → (v : Verdict) × Decides m mid n (author m n mid) v × (first ≡ reply_of n v) × StaysPut v × (author m n mid ≡ author m n old)
+pub repeats : (m : Chart) (old mid : State) (n : Mail) (first : Reply) → Step m old n first mid → IsAgain m old mid n first
 repeats m old mid n first one = go one.0 one.1 one.2 one.3
   where
     same : mid ≡ old → author m n mid ≡ author m n old
     same left = ap (author m n) left
 
-    go : (v : Verdict) → Decides m old n (author m n old) v → first ≡ reply_of n v → mid ≡ after n (author m n old) v old
-        → (v : Verdict) × Decides m mid n (author m n mid) v × (first ≡ reply_of n v) × StaysPut v × (author m n mid ≡ author m n old)
-    go NotKnown d told left = (NotKnown, subst (λ (s : State). Decides m s n (author m n s) NotKnown) (sym left) d, told, λ n who s. refl, same left)
-    go (Again text) d told left = (Again text, subst (λ (s : State). Decides m s n (author m n s) (Again text)) (sym left) d, told, λ n who s. refl, same left)
-    go (OutOfTurn text) d told left = (OutOfTurn text, subst (λ (s : State). Decides m s n (author m n s) (OutOfTurn text)) (sym left) d, told, λ n who s. refl, same left)
+    go : (v : Verdict) → Decides m old n (author m n old) v → first ≡ reply_of n v → mid ≡ after n (author m n old) v old → IsAgain m old mid n first
+    go NotKnown d told left = record {
+      verdict = NotKnown;
+      decided = subst (λ (s : State). Decides m s n (author m n s) NotKnown) (sym left) d;
+      told = told;
+      stays = λ n who s. refl;
+      author = same left;
+      untaken = tt;
+    }
+    go (Again text) d told left = record {
+      verdict = Again text;
+      decided = subst (λ (s : State). Decides m s n (author m n s) (Again text)) (sym left) d;
+      told = told;
+      stays = λ n who s. refl;
+      author = same left;
+      untaken = tt;
+    }
+    go (OutOfTurn text) d told left = record {
+      verdict = OutOfTurn text;
+      decided = subst (λ (s : State). Decides m s n (author m n s) (OutOfTurn text)) (sym left) d;
+      told = told;
+      stays = λ n who s. refl;
+      author = same left;
+      untaken = tt;
+    }
     go (Taken text e) d told left =
         let next = subst (λ (s : State). IsRepeat m s n text × (author m n s ≡ author m n old)) (sym left) (
           taken_again m old n (author m n old) text e refl d (decides_suits m old n (author m n old) (Taken text e) d).0,
           stays_author m old n (author m n old) text e refl (decides_suits m old n (author m n old) (Taken text e) d).0,
         ) in
-        (Again text, subst (λ (who : Author). Decides m mid n who (Again text)) (sym next.0.1) next.0.2, told, λ n who s. refl, next.1)
+        record {
+          verdict = Again text;
+          decided = subst (λ (who : Author). Decides m mid n who (Again text)) (sym next.0.1) next.0.2;
+          told = told;
+          stays = λ n who s. refl;
+          author = next.1;
+          untaken = tt;
+        }
 
 pub acts_once : (m : Chart) → ActsOnce m
 acts_once m old mid new n first again one two =
     let next = repeats m old mid n first one in
-    let same : two.0 ≡ next.0 = decides_one m mid n (author m n mid) two.0 next.0 two.1 next.1 in
-    (two.2 ∙ ap (λ (w : Verdict). reply_of n w) same ∙ sym next.2, two.3 ∙ ap (λ (w : Verdict). after n (author m n mid) w mid) same ∙ next.3 n (author m n mid) mid)
+    let same : two.0 ≡ next.verdict = decides_one m mid n (author m n mid) two.0 next.verdict next.untaken two.1 next.decided in
+    (two.2 ∙ ap (λ (w : Verdict). reply_of n w) same ∙ sym next.told, two.3 ∙ ap (λ (w : Verdict). after n (author m n mid) w mid) same ∙ next.stays n (author m n mid) mid)

@@ -2,15 +2,16 @@
 use Rattle.std.proofs.Common.{◌≡◌, ◌⊎◌, inl, inr, ℕ, Bool, true, false, cond, List, Option, Some, None, refl, sym, ap, subst, ◌∙◌, bytes_eq, codes}
 use Rattle.std.specs.Prelude.{option_and_then}
 use Rattle.dip_letters.specs.Notes.{Request}
-use Rattle.dip_letters.specs.Notes.Request.{Create, Orders, Show}
+use Rattle.dip_letters.specs.Notes.Request.{Create, Orders, Show, Tick}
 use Rattle.dip_chart.specs.Charts.{Chart, power_of}
 use Rattle.dip_records.specs.Records.{Head, Kept, Own, Public, Reply}
-use Rattle.dip_reports.specs.declared.refusals.Refusal.TheVariants.{Malformed, WrongSender}
-use Rattle.dip_machine.specs.Machine.{Decides, MasterDecides, NotKnown, Again, OutOfTurn, Taken, Verdict, are_complete, author, creation, digest, head_of, master_author, new_seats, open_game, opening_public, power_author, refusal_verdict, reply_of, seat_author, seat_command, seen_in, verdict_by, verdict_on}
+use Rattle.dip_reports.specs.declared.refusals.Refusal.TheVariants.{Malformed}
+use Rattle.dip_machine.specs.Machine.{Decides, IsNotForMaster, MasterDecides, TicksIn, NotKnown, Again, OutOfTurn, Taken, Verdict, are_complete, author, creation, digest, head_of, master_author, new_seats, open_game, opening_public, power_author, refusal_verdict, reply_of, seat_author, seat_command, seen_in, verdict_by, verdict_on}
 use Rattle.dip_machine.specs.Mail.{Mail}
-use Rattle.dip_machine.specs.State.{Author, Game, NewSeat, Nobody, Seat, State, TheMaster, game_at, own_of, seat_at}
+use Rattle.dip_machine.specs.State.{Author, Game, NewSeat, Nobody, Seat, State, TheMaster, game_at, own_of, seat_at, whole_of}
+use Rattle.dip_machine.specs.Ticking.{is_due, is_over}
 use Rattle.dip_machine.specs.Strangers.{IsNobodys, IsToNobodyExactly, is_create}
-use Rattle.dip_machine.proofs.Suiting.{numbered_holds, seat_holds}
+use Rattle.dip_machine.proofs.Suiting.{numbered_holds, seat_holds, ticks_hold}
 
 -- the author is somebody
 abbrev pub IsKnown : Verdict → Type 0
@@ -38,6 +39,7 @@ command_known : (m : Chart) (command : Request) (p : Public) (o : Own) → IsKno
 command_known m (Create due period grey seats) p o = tt
 command_known m (Orders lines) p o = tt
 command_known m Show p o = tt
+command_known m (Tick tick) p o = tt
 
 -- the master's letter is nobody's exactly where it isn't CREATE and names no game
 master_known : (m : Chart) (n : Mail) (k : Option Kept) (command : Request) (game : Option Game) (v : Verdict) → MasterDecides m n k command game v
@@ -46,9 +48,13 @@ master_known m n k (Create due period grey seats) game v h =
     inl (numbered_holds IsKnown (λ t. tt) (λ t. tt) n k (λ w. w ≡ creation m (opening_public m n.note.game due period grey) (new_seats m n.note.game seats) game) v
     (λ is. subst IsKnown (sym is) (created_known m (opening_public m n.note.game due period grey) (new_seats m n.note.game seats) game)) h)
 master_known m n k (Orders lines) None v h = inr (h, refl, refl)
-master_known m n k (Orders lines) (Some g) v h = inl (numbered_holds IsKnown (λ t. tt) (λ t. tt) n k (λ w. w ≡ refusal_verdict WrongSender) v (λ is. subst IsKnown (sym is) tt) h)
+master_known m n k (Orders lines) (Some g) v h = inl (numbered_holds IsKnown (λ t. tt) (λ t. tt) n k (IsNotForMaster g) v (λ is. subst IsKnown (sym is) tt) h)
+master_known m n k (Tick tick) None v h = inr (h, refl, refl)
+master_known m n k (Tick tick) (Some g) v h =
+    inl (numbered_holds IsKnown (λ t. tt) (λ t. tt) n k (TicksIn m tick g) v
+    (ticks_hold IsKnown m tick (whole_of g) (is_over g.public.status) (is_due tick g.public) v tt tt (λ p. subst IsKnown (sym p.verdict) tt)) h)
 master_known m n k Show None v h = inr (h, refl, refl)
-master_known m n k Show (Some g) v h = inl (numbered_holds IsKnown (λ t. tt) (λ t. tt) n k (λ w. w ≡ refusal_verdict WrongSender) v (λ is. subst IsKnown (sym is) tt) h)
+master_known m n k Show (Some g) v h = inl (numbered_holds IsKnown (λ t. tt) (λ t. tt) n k (IsNotForMaster g) v (λ is. subst IsKnown (sym is) tt) h)
 
 -- a seat that is the author is there
 seat_there : (m : Chart) (n : Mail) (s : State) (p : ℕ) → author m n s ≡ Seat p → (v : Verdict) → v ≡ verdict_on m n (seen_in p (game_at n.note.game s)) → IsKnown v
@@ -103,6 +109,8 @@ decided_known m n s TheMaster v is d = elim (master_known m n s.desk.kept n.note
     unknown known (Create due period grey seats) game other none h = absurd (cc)
     unknown known (Orders lines) None other none h = subst IsKnown h known
     unknown known (Orders lines) (Some g) other none h = absurd (cc)
+    unknown known (Tick tick) None other none h = subst IsKnown h known
+    unknown known (Tick tick) (Some g) other none h = absurd (cc)
     unknown known Show None other none h = subst IsKnown h known
     unknown known Show (Some g) other none h = absurd (cc)
 decided_known m n s (Seat p) v is d = inl (

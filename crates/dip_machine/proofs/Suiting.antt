@@ -1,17 +1,18 @@
 -- Which effect may come from whom, and where.
 use Rattle.std.proofs.Common.{◌≡◌, ◌==◌, ◌⊎◌, inl, inr, ℕ, nat_lt, unwrap_or, Bool, true, false, cond, List, [], Option, Some, None, refl, sym, subst, bytes_eq}
 use Rattle.dip_letters.specs.Notes.{Request}
-use Rattle.dip_letters.specs.Notes.Request.{Create, Orders, Show}
+use Rattle.dip_letters.specs.Notes.Request.{Create, Orders, Show, Tick}
 use Rattle.dip_chart.specs.Charts.{Chart}
 use Rattle.dip_machine.specs.Mail.{Mail}
-use Rattle.dip_machine.specs.State.{State, Game, Author, Nobody, TheMaster, Seat, Effect, Nothing, Pending, Votes, Delivers, Opens, Publishes, Seats, NewSeat, game_at, own_of, seat_at}
-use Rattle.dip_machine.specs.Machine.{Decides, MasterDecides, NumberedBy, Verdict, NotKnown, Again, OutOfTurn, Taken, are_complete, creation, new_seats, old_number, open_game, opening_public, refusal_verdict, seat_command, seen_in, verdict_by, verdict_on}
+use Rattle.dip_machine.specs.State.{State, Game, Author, Nobody, TheMaster, Seat, Effect, Nothing, Pending, Votes, Delivers, Opens, Publishes, Seats, NewSeat, game_at, own_of, seat_at, whole_of}
+use Rattle.dip_machine.specs.Machine.{Decides, IsNotForMaster, IsPublished, MasterDecides, NumberedBy, Ticks, TicksIn, Verdict, NotKnown, Again, OutOfTurn, Taken, are_complete, creation, new_seats, old_number, open_game, opening_public, refusal_verdict, seat_command, seen_in, verdict_by, verdict_on}
+use Rattle.dip_machine.specs.Ticking.{is_due, is_over}
 use Rattle.dip_machine.specs.View.{Suits, effect_events}
-use Rattle.dip_records.specs.Records.{Public, Own, Kept}
+use Rattle.dip_records.specs.Records.{Public, Own, Kept, Whole}
 use Rattle.dip_reports.specs.Texts.{refusal_line}
-use Rattle.dip_reports.specs.declared.refusals.Refusal.TheVariants.{Malformed, NumberUsed, Stale, WrongSender}
+use Rattle.dip_reports.specs.declared.refusals.Refusal.TheVariants.{GameOver, Malformed, NotDue, NumberUsed, Stale}
 
--- from whom an effect comes: so far no command votes, sends press, publishes or gives a seat away
+-- from whom an effect comes: so far no command votes, sends press or gives a seat away, and the master alone publishes
 abbrev pub Comes : Author → Option Game → Effect → Type 0
 Comes Nobody game e = ⊥
 Comes TheMaster game Nothing = Unit {0}
@@ -19,7 +20,7 @@ Comes TheMaster game (Pending orders) = ⊥
 Comes TheMaster game (Votes draw) = ⊥
 Comes TheMaster game (Delivers readers item) = ⊥
 Comes TheMaster game (Opens public paper seats) = Unit {0}
-Comes TheMaster game (Publishes public paper played) = ⊥
+Comes TheMaster game (Publishes public paper played) = Unit {0}
 Comes TheMaster game (Seats seat) = ⊥
 Comes (Seat p) None e = ⊥
 Comes (Seat p) (Some g) Nothing = Unit {0}
@@ -64,10 +65,18 @@ seat_holds P again out n (Some k) v h = go (nat_lt n.note.number k.number) (n.no
     go false true false = out (refusal_line (NumberUsed k.number))
     go false false c = h
 
+-- what holds of a refused TICK, and of a paper that is published
+pub ticks_hold : (P : Verdict → Type 0) (m : Chart) (tick : ℕ) (w : Whole) (over due : Bool) (v : Verdict) → P (refusal_verdict GameOver) → P (refusal_verdict NotDue)
+    → (IsPublished m tick w v → P v) → Ticks m tick w over due v → P v
+ticks_hold P m tick w true due v ended early played h = subst P (sym h) ended
+ticks_hold P m tick w false false v ended early played h = subst P (sym h) early
+ticks_hold P m tick w false true v ended early played h = played h
+
 command_suits : (m : Chart) (name : List ℕ) (p : ℕ) (g : Game) (command : Request) (o : Own) → VerdictSuits name (Seat p) (Some g) (seat_command m command g.public o)
 command_suits m name p g (Create due period grey seats) o = (tt, tt)
 command_suits m name p g (Orders lines) o = (tt, tt)
 command_suits m name p g Show o = (tt, tt)
+command_suits m name p g (Tick tick) o = (tt, tt)
 
 seat_suits : (m : Chart) (name : List ℕ) (p : ℕ) (g : Game) (n : Mail) (o : Option Own) → VerdictSuits name (Seat p) (Some g) (verdict_by m n (Some g.public) o)
 seat_suits m name p g n None = tt
@@ -98,10 +107,15 @@ master_suits m n k (Create due period grey seats) game v h =
     (λ is. subst (VerdictSuits n.note.game TheMaster game) (sym is) (created_suits m (opening_public m n.note.game due period grey) (new_seats m n.note.game seats) game)) h
 master_suits m n k (Orders lines) None v h = subst (VerdictSuits n.note.game TheMaster None) (sym h) tt
 master_suits m n k (Orders lines) (Some g) v h =
-    numbered_holds (VerdictSuits n.note.game TheMaster (Some g)) (λ text. tt) (λ text. tt) n k (λ w. w ≡ refusal_verdict WrongSender) v (λ is. subst (VerdictSuits n.note.game TheMaster (Some g)) (sym is) (tt, tt)) h
+    numbered_holds (VerdictSuits n.note.game TheMaster (Some g)) (λ text. tt) (λ text. tt) n k (IsNotForMaster g) v (λ is. subst (VerdictSuits n.note.game TheMaster (Some g)) (sym is) (tt, tt)) h
+master_suits m n k (Tick tick) None v h = subst (VerdictSuits n.note.game TheMaster None) (sym h) tt
+master_suits m n k (Tick tick) (Some g) v h =
+    numbered_holds (VerdictSuits n.note.game TheMaster (Some g)) (λ text. tt) (λ text. tt) n k (TicksIn m tick g) v
+    (ticks_hold (VerdictSuits n.note.game TheMaster (Some g)) m tick (whole_of g) (is_over g.public.status) (is_due tick g.public) v (tt, tt) (tt, tt)
+    (λ p. subst (VerdictSuits n.note.game TheMaster (Some g)) (sym p.verdict) (tt, refl))) h
 master_suits m n k Show None v h = subst (VerdictSuits n.note.game TheMaster None) (sym h) tt
 master_suits m n k Show (Some g) v h =
-    numbered_holds (VerdictSuits n.note.game TheMaster (Some g)) (λ text. tt) (λ text. tt) n k (λ w. w ≡ refusal_verdict WrongSender) v (λ is. subst (VerdictSuits n.note.game TheMaster (Some g)) (sym is) (tt, tt)) h
+    numbered_holds (VerdictSuits n.note.game TheMaster (Some g)) (λ text. tt) (λ text. tt) n k (IsNotForMaster g) v (λ is. subst (VerdictSuits n.note.game TheMaster (Some g)) (sym is) (tt, tt)) h
 
 -- what is decided has an effect that may come there
 pub decides_suits : (m : Chart) (s : State) (n : Mail) (who : Author) (v : Verdict) → Decides m s n who v → VerdictSuits n.note.game who (game_at n.note.game s) v
@@ -133,14 +147,65 @@ seat_where p power (Some g) (Opens public paper seats) h = absurd h
 seat_where p power (Some g) (Publishes public paper played) h = absurd h
 seat_where p power (Some g) (Seats seat) h = absurd h
 
--- so does the master's: it does nothing, or opens a game of its name, which is free
-pub master_where : (name : List ℕ) (game : Option Game) (e : Effect) → IsFitting name TheMaster game e
-    → (e ≡ Nothing) ⊎ ((public : Public) × (paper : List ℕ) × (seats : List NewSeat) × (e ≡ Opens public paper seats) × (game ≡ None) × (public.game ≡ name))
+-- an effect that opens a game of that name, which is free
+abbrev pub OpensGame : List ℕ → Option Game → Effect → Type 0
+OpensGame name game e =
+    (public : Public) × (paper : List ℕ) × (seats : List NewSeat) × (e ≡ Opens public paper seats) × (game ≡ None) × (public.game ≡ name)
+
+-- an effect that publishes a paper of a game that is there
+abbrev pub PublishesIn : Option Game → Effect → Type 0
+PublishesIn game e =
+    (public : Public) × (paper : List ℕ) × (played : Bool) × (e ≡ Publishes public paper played) × (g : Game) × (game ≡ Some g) × (public.game ≡ g.public.game)
+
+-- the master's letter does nothing, opens a game of its name, which is free, or publishes a paper of a game that is there
+pub master_where : (name : List ℕ) (game : Option Game) (e : Effect) → IsFitting name TheMaster game e → (e ≡ Nothing) ⊎ (OpensGame name game e ⊎ PublishesIn game e)
 master_where name game Nothing h = inl refl
 master_where name game (Pending orders) h = absurd h.0
 master_where name game (Votes draw) h = absurd h.0
 master_where name game (Delivers readers item) h = absurd h.0
-master_where name None (Opens public paper seats) h = inr (public, paper, seats, refl, refl, h.1)
+master_where name None (Opens public paper seats) h = inr (inl (public, paper, seats, refl, refl, h.1))
 master_where name (Some g) (Opens public paper seats) h = absurd h.1
-master_where name game (Publishes public paper played) h = absurd h.0
+master_where name None (Publishes public paper played) h = absurd h.1
+master_where name (Some g) (Publishes public paper played) h = inr (inr (public, paper, played, refl, g, refl, h.1))
 master_where name game (Seats seat) h = absurd h.0
+
+-- what is published is published by TICK in a game that is there, whose phase was adjudicated
+abbrev pub ByTick : Chart → Request → Option Game → Verdict → Type 0
+ByTick m command game NotKnown = Unit {0}
+ByTick m command game (Again text) = Unit {0}
+ByTick m command game (OutOfTurn text) = Unit {0}
+ByTick m command game (Taken text Nothing) = Unit {0}
+ByTick m command game (Taken text (Pending orders)) = Unit {0}
+ByTick m command game (Taken text (Votes draw)) = Unit {0}
+ByTick m command game (Taken text (Delivers readers item)) = Unit {0}
+ByTick m command game (Taken text (Opens public paper seats)) = Unit {0}
+ByTick m command game (Taken text (Publishes public paper played)) =
+    (tick : ℕ) × (g : Game) × (command ≡ Tick tick) × (game ≡ Some g) × IsPublished m tick (whole_of g) (Taken text (Publishes public paper played))
+ByTick m command game (Taken text (Seats seat)) = Unit {0}
+
+created_by : (m : Chart) (command : Request) (p : Public) (found : Option (List NewSeat)) (game : Option Game) → ByTick m command game (creation m p found game)
+created_by m command p None game = tt
+created_by m command p (Some seats) game = go (are_complete m seats) game
+  where
+    go : (b : Bool) (game : Option Game) → ByTick m command game (cond b (open_game m p seats game) (refusal_verdict Malformed))
+    go true None = tt
+    go true (Some g) = tt
+    go false game = tt
+
+pub master_by_tick : (m : Chart) (n : Mail) (k : Option Kept) (command : Request) (game : Option Game) (v : Verdict) → MasterDecides m n k command game v → ByTick m command game v
+master_by_tick m n k (Create due period grey seats) game v h =
+    numbered_holds (ByTick m (Create due period grey seats) game) (λ text. tt) (λ text. tt) n k
+    (λ w. w ≡ creation m (opening_public m n.note.game due period grey) (new_seats m n.note.game seats) game) v
+    (λ is. subst (ByTick m (Create due period grey seats) game) (sym is)
+    (created_by m (Create due period grey seats) (opening_public m n.note.game due period grey) (new_seats m n.note.game seats) game)) h
+master_by_tick m n k (Orders lines) None v h = subst (ByTick m (Orders lines) None) (sym h) tt
+master_by_tick m n k (Orders lines) (Some g) v h =
+    numbered_holds (ByTick m (Orders lines) (Some g)) (λ text. tt) (λ text. tt) n k (IsNotForMaster g) v (λ is. subst (ByTick m (Orders lines) (Some g)) (sym is) tt) h
+master_by_tick m n k Show None v h = subst (ByTick m Show None) (sym h) tt
+master_by_tick m n k Show (Some g) v h =
+    numbered_holds (ByTick m Show (Some g)) (λ text. tt) (λ text. tt) n k (IsNotForMaster g) v (λ is. subst (ByTick m Show (Some g)) (sym is) tt) h
+master_by_tick m n k (Tick tick) None v h = subst (ByTick m (Tick tick) None) (sym h) tt
+master_by_tick m n k (Tick tick) (Some g) v h =
+    numbered_holds (ByTick m (Tick tick) (Some g)) (λ text. tt) (λ text. tt) n k (TicksIn m tick g) v
+    (ticks_hold (ByTick m (Tick tick) (Some g)) m tick (whole_of g) (is_over g.public.status) (is_due tick g.public) v tt tt
+    (λ p. subst (ByTick m (Tick tick) (Some g)) (sym p.verdict) (tick, g, refl, refl, subst (IsPublished m tick (whole_of g)) p.verdict p))) h

@@ -3,6 +3,7 @@ pub mod State
 pub mod Faults
 pub mod Rows
 pub mod Mail
+pub mod Ticking
 pub mod Machine
 pub mod Verdicts
 pub mod Sights

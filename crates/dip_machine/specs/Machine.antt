@@ -1,22 +1,26 @@
 -- The desk machine: who wrote a letter, what is decided of it, what it leaves and what is replied.
-use Rattle.std.specs.Prelude.{true, ℕ, ◌≡◌, ◌⊎◌, ◌==◌, Bool, List, [], ◌∷◌, Option, None, Some, option_map, unwrap_or, bytes_eq, is_some, nat_lt, codes, if◌then◌else◌, count_by}
+use Rattle.std.specs.Prelude.{true, false, ℕ, ◌≡◌, ◌≤◌, ◌⊎◌, ◌==◌, Bool, List, [], ◌∷◌, Option, None, Some, option_map, unwrap_or, bytes_eq, is_some, nat_lt, codes, if◌then◌else◌, count_by}
 use Rattle.std.specs.List.{list_all}
 use Rattle.sha2.specs.Sha256.{sha256}
 use Rattle.dip_letters.specs.Digests.{seat_text}
 use Rattle.dip_letters.specs.Notes.{Request, SeatNote}
-use Rattle.dip_letters.specs.Notes.Request.{Create, Orders, Show}
+use Rattle.dip_letters.specs.Notes.Request.{Create, Orders, Show, Tick}
 use Rattle.dip_letters.specs.declared.letters.LetterFault.{LetterFault}
 use Rattle.dip_letters.specs.declared.letters.LetterFault.TheVariants.{Malformed as Unreadable, TooLong as OverLong}
 use Rattle.dip_chart.specs.Charts.{Chart, power_of, powers}
-use Rattle.dip_board.specs.Boards.{IsOf, opening}
+use Rattle.dip_board.specs.Boards.{Position, IsOf, opening}
 use Rattle.dip_machine.specs.Mail.{Mail}
 use Rattle.dip_machine.specs.Ordering.{Ordered, has_foreign, kept_orders, outcome_of_lines}
-use Rattle.dip_machine.specs.State.{State, Game, Author, Nobody, TheMaster, Seat, Change, Effect, Nothing, Pending, Opens, NewSeat, Part, game_at, own_at, own_of, public_at, seat_at, state_after}
+use Rattle.dip_machine.specs.Ticking.{IsPlayable, is_due, is_over, orders_of, public_played}
+use Rattle.dip_machine.specs.State.{State, Game, Author, Nobody, TheMaster, Seat, Change, Effect, Nothing, Pending, Opens, Publishes, NewSeat, Part, game_at, own_at, own_of, public_at, seat_at, state_after, whole_of}
+use Rattle.dip_papers.specs.Papers.{paper_text}
+use Rattle.dip_turn.specs.Reports.{IsPlayed}
+use Rattle.dip_turn.specs.declared.report.Report.{Report}
 use Rattle.dip_reports.specs.Texts.{opening_paper, paper_line, refusal_line, show_text}
-use Rattle.dip_records.specs.Records.{Public, Own, Kept, Head, Reply, Running}
+use Rattle.dip_records.specs.Records.{Public, Own, Kept, Head, Reply, Running, Whole}
 use Rattle.dip_records.specs.declared.records.Outcome.TheVariants.{Unknown as NoneKnown, OutOfTurn as Refused, Done}
 use Rattle.dip_reports.specs.declared.refusals.Refusal.{Refusal}
-use Rattle.dip_reports.specs.declared.refusals.Refusal.TheVariants.{Malformed, Unknown, Stale, NumberUsed, TooLong, WrongSender, NameTaken}
+use Rattle.dip_reports.specs.declared.refusals.Refusal.TheVariants.{Malformed, Unknown, Stale, NumberUsed, TooLong, GameOver, WrongSender, NotDue, NameTaken}
 
 -- the digest of a secret
 unfoldable pub digest : List ℕ → List ℕ → List ℕ → List ℕ
@@ -34,6 +38,13 @@ seat_author n power (Some o) = if bytes_eq (digest n.note.game n.note.sender n.n
 abbrev pub power_author : Mail → Option ℕ → State → Author
 power_author n None s = Nobody
 power_author n (Some power) s = seat_author n power (own_at n.note.game power s)
+
+-- the time of TICK is one of the grammar
+abbrev pub IsTimely : Request → Type 0
+IsTimely (Create due period grey seats) = Unit {0}
+IsTimely (Orders lines) = Unit {0}
+IsTimely Show = Unit {0}
+IsTimely (Tick tick) = tick ≤ 999999999999
 
 -- who wrote the letter
 abbrev pub author : Chart → Mail → State → Author
@@ -94,6 +105,7 @@ abbrev pub seat_command : Chart → Request → Public → Own → Verdict
 seat_command m (Create due period grey seats) p o = refusal_verdict WrongSender
 seat_command m (Orders lines) p o = orders_verdict m (outcome_of_lines m p.board o.power o.pending lines)
 seat_command m Show p o = Taken (show_text m p o) Nothing
+seat_command m (Tick tick) p o = refusal_verdict WrongSender
 
 -- what a seat's letter comes to: an old number is answered as such; a new one is decided by its command
 abbrev pub seat_verdict : Chart → Mail → Public → Own → Verdict
@@ -123,11 +135,19 @@ abbrev pub IsOffMap : Chart → Option Public → Type 0
 IsOffMap m None = ⊥
 IsOffMap m (Some p) = IsOf m p.board → ⊥
 
+-- TICK of a game whose phase can't be adjudicated
+abbrev pub IsUnplayable : Chart → Request → Option Game → Type 0
+IsUnplayable m (Create due period grey seats) game = ⊥
+IsUnplayable m (Orders lines) game = ⊥
+IsUnplayable m Show game = ⊥
+IsUnplayable m (Tick tick) None = ⊥
+IsUnplayable m (Tick tick) (Some g) = IsPlayable m (whole_of g) → ⊥
+
 -- what the record of a letter's author may be Damaged by: a seat's by its own standing lines, or by a board of its game that isn't one
--- of the map; the master's and nobody's by nothing
+-- of the map; the master's by the game that TICK names, where its phase can't be adjudicated; nobody's by nothing
 abbrev pub MayBeDamaged : Chart → State → Mail → Author → Type 0
 MayBeDamaged m s n Nobody = ⊥
-MayBeDamaged m s n TheMaster = ⊥
+MayBeDamaged m s n TheMaster = IsUnplayable m n.note.command (game_at n.note.game s)
 MayBeDamaged m s n (Seat power) =
     IsForeign m (seen_in power (game_at n.note.game s)) ⊎ IsOffMap m (seen_in power (game_at n.note.game s)).public
 
@@ -162,22 +182,45 @@ abbrev pub creation : Chart → Public → Option (List NewSeat) → Option Game
 creation m p None game = refusal_verdict Malformed
 creation m p (Some seats) game = if are_complete m seats then open_game m p seats game else refusal_verdict Malformed
 
--- what any other command of the master may come to in a game that is there
-abbrev pub MasterCommand : Chart → Mail → Request → Game → Verdict → Type 0
-MasterCommand m n command g v = v ≡ refusal_verdict WrongSender
+-- the paper of a phase is published, with the public part behind it
+abbrev pub paper_verdict : Chart → Report → Public → Verdict
+paper_verdict m report public = Taken (paper_line public.papers) (Publishes public (paper_text m report public) true)
 
--- a letter of the master but CREATE whose game isn't there is nobody's, whatever its number
-abbrev pub InGame : Chart → Mail → Option Kept → Request → Option Game → Verdict → Type 0
-InGame m n k command None v = v ≡ NotKnown
-InGame m n k command (Some g) v = NumberedBy (old_number n k) (MasterCommand m n command g) v
+-- the phase of a game is adjudicated with the orders that stand, all of them: the board behind it and a report, by which its paper is
+-- published
+pub record IsPublished (m : Chart) (tick : ℕ) (w : Whole) (v : Verdict) : Type 0 where
+  pub board : Position
+  pub report : Report
+  pub played : IsPlayed m w.public.board (orders_of m w) board report
+  pub verdict : v ≡ paper_verdict m report (public_played tick w.public board report.course)
+
+-- what TICK may come to: nothing is played in a game that is over, nor before its time
+abbrev pub Ticks : Chart → ℕ → Whole → (over due : Bool) → Verdict → Type 0
+Ticks m tick w true due v = v ≡ refusal_verdict GameOver
+Ticks m tick w false false v = v ≡ refusal_verdict NotDue
+Ticks m tick w false true v = IsPublished m tick w v
+
+abbrev pub TicksIn : Chart → ℕ → Game → Verdict → Type 0
+TicksIn m tick g v = Ticks m tick (whole_of g) (is_over g.public.status) (is_due tick g.public) v
+
+-- a command that isn't the master's
+abbrev pub IsNotForMaster : Game → Verdict → Type 0
+IsNotForMaster g v = v ≡ refusal_verdict WrongSender
+
+-- a letter of the master but CREATE whose game isn't there is nobody's, whatever its number; in a game that is there a new one may be
+-- decided so
+abbrev pub InGame : Mail → Option Kept → (Game → Verdict → Type 0) → Option Game → Verdict → Type 0
+InGame n k New None v = v ≡ NotKnown
+InGame n k New (Some g) v = NumberedBy (old_number n k) (New g) v
 
 -- what a letter of the master may come to, by what is kept of the last one
 abbrev pub MasterDecides : Chart → Mail → Option Kept → Request → Option Game → Verdict → Type 0
 MasterDecides m n k (Create due period grey seats) game v =
     NumberedBy (old_number n k)
     (λ v. v ≡ creation m (opening_public m n.note.game due period grey) (new_seats m n.note.game seats) game) v
-MasterDecides m n k (Orders lines) game v = InGame m n k (Orders lines) game v
-MasterDecides m n k Show game v = InGame m n k Show game v
+MasterDecides m n k (Orders lines) game v = InGame n k IsNotForMaster game v
+MasterDecides m n k Show game v = InGame n k IsNotForMaster game v
+MasterDecides m n k (Tick tick) game v = InGame n k (TicksIn m tick) game v
 
 -- what may be decided of a letter
 abbrev pub Decides : Chart → State → Mail → Author → Verdict → Type 0
@@ -186,10 +229,11 @@ Decides m s n TheMaster v = MasterDecides m n s.desk.kept n.note.command (game_a
 Decides m s n (Seat power) v = v ≡ verdict_on m n (seen_in power (game_at n.note.game s))
 
 -- all that a letter is decided by, what its author sees: nothing, where nobody is the author; what is kept of the master's last
--- letter, and whether there is a game of this name; the public part of a seat's game and its own part
+-- letter, and whether there is a game of this name; for TICK all of that game; the public part of a seat's game and its own part
 pub data Sight : Type 0 where
   OfNobody : Sight
   OfMaster : (kept : Option Kept) → (is_there : Bool) → Sight
+  OfGame : (kept : Option Kept) → (game : Whole) → Sight
   OfSeat : (power : ℕ) → (public : Public) → (own : Own) → Sight
 
 -- the seat's sight, where it has the digest of the letter's secret
@@ -203,11 +247,19 @@ abbrev pub power_sight : Mail → Option ℕ → State → Sight
 power_sight n None s = OfNobody
 power_sight n (Some power) s = seat_sight n power (public_at n.note.game s) (own_at n.note.game power s)
 
+-- what the master sees of the game that a letter names: all of it for TICK alone
+abbrev pub master_sees : Request → Option Kept → Option Game → Sight
+master_sees (Create due period grey seats) kept game = OfMaster kept (is_some game)
+master_sees (Orders lines) kept game = OfMaster kept (is_some game)
+master_sees Show kept game = OfMaster kept (is_some game)
+master_sees (Tick tick) kept None = OfMaster kept false
+master_sees (Tick tick) kept (Some g) = OfGame kept (whole_of g)
+
 -- the master's, where the desk has the digest of the letter's secret
 abbrev pub master_sight : Mail → State → Sight
 master_sight n s =
     if bytes_eq (digest (codes "desk") (codes "master") n.note.secret) s.desk.digest
-    then OfMaster s.desk.kept (is_some (game_at n.note.game s)) else OfNobody
+    then master_sees n.note.command s.desk.kept (game_at n.note.game s) else OfNobody
 
 -- what the author of a letter sees
 abbrev pub sight_of : Chart → Mail → State → Sight
@@ -218,20 +270,27 @@ sight_of m n s =
 abbrev pub author_of : Sight → Author
 author_of OfNobody = Nobody
 author_of (OfMaster kept is_there) = TheMaster
+author_of (OfGame kept game) = TheMaster
 author_of (OfSeat power public own) = Seat power
 
 -- what may be decided of a letter by a sight alone
 abbrev pub DecidedBy : Chart → Mail → Sight → Verdict → Type 0
 DecidedBy m n OfNobody v = v ≡ NotKnown
 DecidedBy m n (OfMaster kept is_there) v =
-    (game : Option Game) → is_there ≡ is_some game → MasterDecides m n kept n.note.command game v
+    (game : Option Game) → master_sees n.note.command kept game ≡ OfMaster kept is_there
+    → MasterDecides m n kept n.note.command game v
+DecidedBy m n (OfGame kept whole) v =
+    (game : Option Game) → master_sees n.note.command kept game ≡ OfGame kept whole
+    → MasterDecides m n kept n.note.command game v
 DecidedBy m n (OfSeat power public own) v = v ≡ seat_verdict m n public own
 
--- a sight of standing lines one of which is no order on the board
-abbrev pub IsForeignSight : Chart → Sight → Type 0
-IsForeignSight m OfNobody = ⊥
-IsForeignSight m (OfMaster kept is_there) = ⊥
-IsForeignSight m (OfSeat power public own) = IsForeignTo m (Some public) (Some own)
+-- a sight by which nothing can be decided: of standing lines one of which is no order on the board, or of a game whose phase can't be
+-- adjudicated
+abbrev pub IsDamagedSight : Chart → Sight → Type 0
+IsDamagedSight m OfNobody = ⊥
+IsDamagedSight m (OfMaster kept is_there) = ⊥
+IsDamagedSight m (OfGame kept whole) = IsPlayable m whole → ⊥
+IsDamagedSight m (OfSeat power public own) = IsForeignTo m (Some public) (Some own)
 
 -- what is kept of a letter
 abbrev pub kept_of : Mail → List ℕ → Kept

@@ -1,7 +1,7 @@
 -- Whose letters are nobody's.
 use Rattle.std.specs.Prelude.{◌≡◌, ◌⊎◌, ◌↔◌, Bool, true, false, None}
 use Rattle.dip_letters.specs.Notes.{Request}
-use Rattle.dip_letters.specs.Notes.Request.{Create, Orders, Show}
+use Rattle.dip_letters.specs.Notes.Request.{Create, Orders, Show, Tick}
 use Rattle.dip_chart.specs.Charts.{Chart}
 use Rattle.dip_records.specs.Records.{Reply}
 use Rattle.dip_machine.specs.Machine.{Step, author}
@@ -12,6 +12,7 @@ abbrev pub is_create : Request → Bool
 is_create (Create due period grey seats) = true
 is_create (Orders lines) = false
 is_create Show = false
+is_create (Tick tick) = false
 
 -- nobody's letter: it has no author, or it is the master's, isn't CREATE, and names no game
 abbrev pub IsNobodys : Chart → Mail → State → Type 0

@@ -7,6 +7,7 @@ ghost use Rattle.dip_machine.specs.State as s;
 ghost use Rattle.dip_machine.specs.Machine as m;
 ghost use Rattle.dip_machine.specs.Ordering.{has_foreign, outcome_of_lines};
 ghost use Rattle.dip_machine.specs.Sights as sights;
+ghost use Rattle.dip_machine.specs.Ticking.{IsPlayable};
 ghost use Rattle.dip_machine.specs.Verdicts.{verdict};
 ghost use Rattle.dip_records.specs.Rows as rows;
 
@@ -15,11 +16,12 @@ use crate::creating::create_verdict;
 use crate::faults::KeepFault;
 use crate::ordering::{Ordered, kept_orders, standing_orders, take_lines};
 use crate::sights::Sight;
+use crate::ticking::tick_verdict;
 use crate::verdicts::{Verdict, old_number, refusal_verdict};
 use dip_board::Board;
 use dip_letters::{Command, Letter, Lines};
 use dip_map::Map;
-use dip_records::{Kept, Own, Public};
+use dip_records::{Kept, Own, Public, Whole};
 use dip_reports::{Refusal, show_text};
 use std::alloc::{AllocError, Global};
 
@@ -71,6 +73,7 @@ fn command_verdict(
         Command::Create(_) => Ok(refusal_verdict(alloc, Refusal::WrongSender)?),
         Command::Orders(lines) => orders_verdict(alloc, map, &public.board, own, *lines),
         Command::Show => Ok(Verdict::Taken(show_text(alloc, map, public, own)?, Effect::Nothing)),
+        Command::Tick(_) => Ok(refusal_verdict(alloc, Refusal::WrongSender)?),
     }
 }
 
@@ -94,18 +97,17 @@ fn seat_verdict(
     command_verdict(alloc, map, &letter.command, public, own)
 }
 
-/// Any other command of the master.
+/// A command that isn't the master's.
 fn not_for_master(
     alloc: Global,
-    map: &Map,
     letter: &Letter<'_>,
     kept: &Option<Kept>,
     is_known: bool,
 ) -> Result<Verdict, AllocError>
     ensures { IfOk result
         (λ v. (game : Option s.Game) → is_known ≡ is_some game
-        → m.InGame map.now (mail letter.now) (option_map rows.kept kept.now)
-        (request letter.now.command) game (verdict v)) }
+        → m.InGame (mail letter.now) (option_map rows.kept kept.now) m.IsNotForMaster game
+        (verdict v)) }
 {
     if !is_known {
         return Ok(Verdict::NotKnown);
@@ -116,7 +118,7 @@ fn not_for_master(
     }
 }
 
-/// What a letter of the master comes to.
+/// What a letter of the master comes to, where it sees whether there is a game of that name: TICK, which would see all of it, finds none.
 fn master_verdict(
     alloc: Global,
     map: &Map,
@@ -125,13 +127,46 @@ fn master_verdict(
     is_there: bool,
 ) -> Result<Verdict, AllocError>
     ensures { IfOk result
-        (λ v. (game : Option s.Game) → is_there ≡ is_some game
+        (λ v. (game : Option s.Game)
+        → m.master_sees (request letter.now.command) (option_map rows.kept kept.now) game
+        ≡ m.OfMaster (option_map rows.kept kept.now) is_there
         → m.MasterDecides map.now (mail letter.now) (option_map rows.kept kept.now)
         (request letter.now.command) game (verdict v)) }
 {
     match &letter.command {
         Command::Create(opening) => create_verdict(alloc, map, letter, opening, kept, !is_there),
-        Command::Orders(_) | Command::Show => not_for_master(alloc, map, letter, kept, is_there),
+        Command::Orders(_) | Command::Show => not_for_master(alloc, letter, kept, is_there),
+        Command::Tick(_) => Ok(Verdict::NotKnown),
+    }
+}
+
+/// What a letter of the master comes to, where it sees all of its game.
+fn game_verdict(
+    alloc: Global,
+    map: &Map,
+    letter: &Letter<'_>,
+    kept: &Option<Kept>,
+    whole: &Whole,
+) -> Result<Verdict, KeepFault>
+    requires timely { m.IsTimely (request letter.now.command) }
+    ensures value { IfOk result
+        (λ v. (game : Option s.Game)
+        → m.master_sees (request letter.now.command) (option_map rows.kept kept.now) game
+        ≡ m.OfGame (option_map rows.kept kept.now) (rows.whole whole.now)
+        → m.MasterDecides map.now (mail letter.now) (option_map rows.kept kept.now)
+        (request letter.now.command) game (verdict v)) }
+    ensures disk { faults_after result 0 ≡ 0 }
+    ensures sane { IsErrOf result KeepFault.Damaged
+        → IsPlayable map.now (rows.whole whole.now) → ⊥ }
+{
+    if let Some(answer) = old_number(alloc, letter, kept)? {
+        return Ok(answer);
+    }
+    match &letter.command {
+        Command::Tick(tick) => tick_verdict(alloc, map, *tick, whole),
+        Command::Create(_) | Command::Orders(_) | Command::Show => {
+            Ok(refusal_verdict(alloc, Refusal::WrongSender)?)
+        }
     }
 }
 
@@ -142,17 +177,19 @@ pub fn verdict_on(
     letter: &Letter<'_>,
     sight: &Sight,
 ) -> Result<Verdict, KeepFault>
+    requires timely { m.IsTimely (request letter.now.command) }
     ensures value { IfOk result
         (λ v. m.DecidedBy map.now (mail letter.now) (sights.sight sight.now) (verdict v)) }
     ensures disk { faults_after result 0 ≡ 0 }
     ensures sane { IsErrOf result KeepFault.Damaged
-        → m.IsForeignSight map.now (sights.sight sight.now) }
+        → m.IsDamagedSight map.now (sights.sight sight.now) }
 {
     match sight {
         Sight::Nobody => Ok(Verdict::NotKnown),
         Sight::Master { kept, is_there } => Ok(master_verdict(
             alloc, map, letter, kept, *is_there,
         )?),
+        Sight::Game { kept, whole } => game_verdict(alloc, map, letter, kept, whole),
         Sight::Seat { public, own, .. } => seat_verdict(alloc, map, letter, public, own),
     }
 }

@@ -12,6 +12,7 @@ ghost use Rattle.dip_machine.specs.View.{AreAlike, AreEffectsShown, IsAnsweredFr
 use dip_board::openings_are_of_their_map;
 use dip_map::Map;
 use dip_orders::{lawful_orders_are_read, orders_are_lawful, orders_are_read_again};
+use dip_turn::boards_stay_of_their_map;
 
 /// A letter of a seat gets one reply in all states that the seat sees alike, and leaves them alike for it.
 pub fn answered_from_what_is_seen()
@@ -61,10 +62,11 @@ pub fn lawful_states_stay_lawful(map: &Map)
     orders_are_read_again();
     orders_are_lawful();
     lawful_orders_are_read();
+    boards_stay_of_their_map();
 }
 
 /// What is decided of a letter fits the map, or else the record of its author may be Damaged: the board of a seat's game isn't one of the
-/// map.
+/// map, or the phase of the game that TICK names can't be adjudicated.
 pub fn effects_fit(map: &Map)
     ensures { EffectsFit map.now }
 {
@@ -73,6 +75,7 @@ pub fn effects_fit(map: &Map)
     orders_are_read_again();
     orders_are_lawful();
     lawful_orders_are_read();
+    boards_stay_of_their_map();
 }
 
 /// In a lawful state the orders that stand in a game are what `advance` of the phases asks for: each can be given beside the others of

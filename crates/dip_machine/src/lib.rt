@@ -8,6 +8,7 @@ mod faults;
 mod laws;
 mod ordering;
 mod sights;
+mod ticking;
 mod verdicts;
 
 pub use changes::{Author, Change, Desk, Effect, NewSeat};

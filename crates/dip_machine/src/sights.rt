@@ -7,7 +7,7 @@ ghost use Rattle.dip_machine.specs.Sights as sights;
 use crate::changes::Author;
 use dip_letters::digest;
 use dip_names::Power;
-use dip_records::{Kept, Own, Public};
+use dip_records::{Kept, Own, Public, Whole};
 
 /// What the author of a letter sees.
 #[derive(Drop)]
@@ -18,6 +18,11 @@ pub enum Sight {
     Master {
         kept: Option<Kept>,
         is_there: bool,
+    },
+    /// The master, for TICK: its last letter, and all of the game that the letter names.
+    Game {
+        kept: Option<Kept>,
+        whole: Whole,
     },
     /// The seat of a power: the public part of its game, and its own part.
     Seat {
@@ -41,7 +46,7 @@ pub fn author_of(sight: &Sight) -> Author
 {
     match sight {
         Sight::Nobody => Author::Nobody,
-        Sight::Master { .. } => Author::TheMaster,
+        Sight::Master { .. } | Sight::Game { .. } => Author::TheMaster,
         Sight::Seat { power, .. } => Author::Seat(*power),
     }
 }

@@ -25,10 +25,10 @@ loop-letter-preserved g c =
           let before = took.keeps.shown shows in
           let more = history_more m (b.content m c.args.keeper.now) (b.content m c.loop-letter.keeper) (b.content m c.take.new.keeper) _ _ _ (rows.reply c.in-Ok-take.reply) (c.loop-letter.invariant.steps sound before) (took.done (c.loop-letter.invariant.keeps.sound sound before) shows) in
           (more.0, record { run = more.1.run; asked = more.1.asked ∙ sym (taken_more (λ x. mail x) c.args.letters.now c.loop-letter.letter-index _ (omega arith)); answered = more.1.answered ∙ sym replies });
-      lawful = λ sound shows letters lawful.
+      lawful = λ sound shows lawful.
           let before = took.keeps.shown shows in
           c.lawful_states_stay_lawful.ensures.stays _ (mail (get_or c.args.letters.now c.loop-letter.letter-index _)) _ _
-          (said_each IsMail (λ l. mail l) c.args.letters.now c.loop-letter.letter-index _ (omega arith) letters) (c.loop-letter.invariant.lawful sound before letters lawful) (took.done (c.loop-letter.invariant.keeps.sound sound before) shows);
+          (said_each IsMail (λ l. mail l) c.args.letters.now c.loop-letter.letter-index _ (omega arith) c.args.requires.letters) (c.loop-letter.invariant.lawful sound before lawful) (took.done (c.loop-letter.invariant.keeps.sound sound before) shows);
       count = omega arith;
       room = omega arith;
     }
@@ -42,8 +42,8 @@ returns-in-Err g c =
       done = λ sound shows. tt;
       undone = λ sound shows. (0, ([], record { run = refl; asked = refl; answered = sym none }, settled m (b.content m c.args.keeper.now) (b.content m c.args.keeper.now) [] refl));
       damaged = λ sound shows bad. absurd (cc);
-      never = λ sound shows letters lawful bad. absurd (cc);
-      lawful = λ sound shows letters lawful. lawful;
+      never = λ sound shows lawful bad. absurd (cc);
+      lawful = λ sound shows lawful. lawful;
       count = refl;
       stays_open = λ sound honest shows. tt;
     }
@@ -76,12 +76,12 @@ returns-in-Err-take g c =
             contains_said (λ l. mail l) c.args.letters.now c.loop-letter.letter-index _ (omega arith),
             subst (IsDamagedBy m n) (sym (took.undone there shows)) (took.damaged there shows (ap (λ (e : KeepFault). Err e) bad)),
           );
-      never = λ sound shows letters lawful bad.
+      never = λ sound shows lawful bad.
           let before = took.keeps.shown shows in
-          c.lawful_states_stay_lawful.ensures.sane _ n _ (c.loop-letter.invariant.lawful sound before letters lawful) (took.damaged (kept.sound sound before) shows (ap (λ (e : KeepFault). Err e) bad));
-      lawful = λ sound shows letters lawful.
+          c.lawful_states_stay_lawful.ensures.sane _ n _ (c.loop-letter.invariant.lawful sound before lawful) (took.damaged (kept.sound sound before) shows (ap (λ (e : KeepFault). Err e) bad));
+      lawful = λ sound shows lawful.
           let before = took.keeps.shown shows in
-          subst (IsLawful m) (sym (took.undone (kept.sound sound before) shows)) (c.loop-letter.invariant.lawful sound before letters lawful);
+          subst (IsLawful m) (sym (took.undone (kept.sound sound before) shows)) (c.loop-letter.invariant.lawful sound before lawful);
       count = took.keeps.count ∙ ap (faults_with c.in-Err-take.fault) kept.count;
       stays_open = λ sound honest shows. tt;
     }
@@ -97,8 +97,8 @@ returns g c =
           (steps.0, record { run = steps.1.run; asked = steps.1.asked ∙ ap (λ ls. map (λ l. mail l) ls) whole; answered = steps.1.answered }, settled m (b.content m c.args.keeper.now) (b.content m c.loop-letter.keeper) steps.0 steps.1.run);
       undone = λ sound shows. tt;
       damaged = λ sound shows. tt;
-      never = λ sound shows letters lawful. tt;
-      lawful = λ sound shows letters lawful. c.loop-letter.invariant.lawful sound shows letters lawful;
+      never = λ sound shows lawful. tt;
+      lawful = λ sound shows lawful. c.loop-letter.invariant.lawful sound shows lawful;
       count = c.loop-letter.invariant.keeps.count;
       stays_open = λ sound honest shows. c.loop-letter.invariant.keeps.stays_open sound honest shows;
     }

@@ -1,6 +1,7 @@
 use Rattle.dip_board.specs.Boards.{Position, IsOf}
 use Rattle.dip_machine.proofs.Fitting.{effects_fit}
 use Rattle.dip_machine.proofs.LawfulOrders.{AreRead}
+use Rattle.dip_machine.proofs.LawfulStates.{StaysOf}
 use Rattle.dip_machine.proofs.laws.effects_fit.Goals as goal
 
 pub returns : goal.returns
@@ -11,4 +12,5 @@ returns c =
       read = λ power beside o lawful. c.lawful_orders_are_read.ensures m b power beside o c.facts.ensures of lawful;
       alone = λ power beside line o is. c.orders_are_read_again.ensures.alone m b power beside line o is;
     } in
-    effects_fit m c.facts.ensures (c.openings_are_of_their_map.ensures m c.facts.ensures) read
+    let stays : StaysOf m = λ b pending new report of given played. c.boards_stay_of_their_map.ensures m b pending new report c.facts.ensures of given played in
+    effects_fit m c.facts.ensures (c.openings_are_of_their_map.ensures m c.facts.ensures) read stays

@@ -3,12 +3,15 @@ use Rattle.std.proofs.Common.{◌≡◌, ◌<◌, ◌++◌, ◌+◌, ℕ, zero, 
 use Rattle.std.specs.declared.alloc.Global.{Global}
 use Rattle.std.specs.List.{position_or_len, position}
 use Rattle.std.specs.Map.{keys_of, lookup, values_of}
+use Rattle.std.specs.Slice.{IsItemAt}
 use Rattle.std.specs.String.{string_eq}
 use Rattle.indexmap.specs.IndexMap.{insert_entry, set_value_at}
 use Rattle.indexmap.proofs.MapLemmas.{Found-position}
+use Rattle.std.proofs.lemmas.Option.{slice_get_past, slice_get_read}
 use Rattle.std.proofs.lemmas.Slice.Eq.{bytes_eq-Decides}
 use Rattle.dip_machine.specs.Keyed.{at, change_at}
 use Rattle.dip_machine.specs.State as s
+use Rattle.dip_records.specs.Rows as rows
 use Rattle.dip_desk.specs.Stored as stored
 use Rattle.dip_desk.specs.declared.games.GameRow.{GameRow}
 
@@ -147,3 +150,26 @@ unchanged name (g ∷ gs) = go (bytes_eq (s.name_of g) name) (unchanged name gs)
 pub game_same : (name : List ℕ) (es : List Entry) (i : ℕ) (old new : GameRow) → position (is_named name) (keys_of es) ≡ Some i → slice_get (values_of es) i ≡ Some old
     → ((key : List ℕ) → stored.game key new ≡ stored.game key old) → stored.games (set_value_at es i new) ≡ stored.games es
 game_same name es i old new there value made = game_set name (λ g. g) es i old new there value made ∙ unchanged name (stored.games es)
+
+-- the paper of a number lies one place before it
+paper_there : (i : ℕ) (ps : List (String Global)) → option_map (λ p. string_bytes p) (slice_get ps i) ≡ s.paper_numbered (suc i) (rows.lines ps)
+paper_there i [] = refl
+paper_there zero (p ∷ ps) = refl
+paper_there (suc i) (p ∷ ps) = paper_there i ps
+
+-- the paper that is lent at a place is the one of the number behind it
+pub paper_lent : (n i : ℕ) (ps : List (String Global)) (r : Option (Bor (String Global))) → n ≡ suc i → IsItemAt ps i r
+    → option_map (λ p. string_bytes p.now) r ≡ s.paper_numbered n (rows.lines ps)
+paper_lent n i ps None is item =
+    ap (option_map (λ p. string_bytes p)) (sym (slice_get_past ps i item.3)) ∙ paper_there i ps ∙ ap (λ k. s.paper_numbered k (rows.lines ps)) (sym is)
+paper_lent n i ps (Some p) is item =
+    ap (option_map (λ q. string_bytes q)) (sym (slice_get_read ps (length ps) i p.now refl item.3.0 item.1)) ∙ paper_there i ps
+    ∙ ap (λ k. s.paper_numbered k (rows.lines ps)) (sym is)
+
+-- no paper has the number 0
+pub none_numbered : (n : ℕ) (ps : List (List ℕ)) → n ≡ 0 → None ≡ s.paper_numbered n ps
+none_numbered n ps is = none ps ∙ ap (λ k. s.paper_numbered k ps) (sym is)
+  where
+    none : (ps : List (List ℕ)) → None ≡ s.paper_numbered 0 ps
+    none [] = refl
+    none (p ∷ ps) = refl

@@ -62,6 +62,22 @@ steps_then {K} {X} {Y} {R} m b old mid new x Value Damage say Near Far result lo
       (step.left (look.keeps.firm sound fair) honest open_mid);
 }
 
+-- a look behind a look that finds something whole is a look at the same content
+pub looks_then : {K X Y : Type 0} (m : Chart) (b : Book K) (old mid new : K) (x : X) (First : X → Type 0) (Second : State → Y → Type 0) (Both : Y → Type 0) (result : Result Y KeepFault)
+    → Looks m b old mid First ⊥ (Ok x) → (First x → (y : Y) → Second (b.content m old) y → Both y) → Looks m b mid new (Second (b.content m mid)) ⊥ result
+    → Looks m b old new Both ⊥ result
+looks_then m b old mid new x First Second Both result first further second = record {
+  keeps = keeps_then m b old mid new x result first.keeps second.keeps;
+  value = λ sound shows.
+      let before = second.keeps.shown shows in
+      IfOk-weaker result (Second (b.content m mid)) Both
+      (λ y seen. further (first.value sound before) y (subst (λ (s : State). Second s y) (first.same sound before) seen))
+      (second.value (first.keeps.sound sound before) shows);
+  damaged = λ sound shows bad. second.damaged (first.keeps.sound sound (second.keeps.shown shows)) shows bad;
+  same = λ sound shows. let before = second.keeps.shown shows in second.same (first.keeps.sound sound before) shows ∙ first.same sound before;
+  left = λ sound honest s left. let fair = second.keeps.fair honest in first.left sound fair s (second.left (first.keeps.firm sound fair) honest s left);
+}
+
 -- what is kept by an answer says nothing of its value
 pub keeps_as : {K X Y : Type 0} (m : Chart) (b : Book K) (old new : K) (x : X) (y : Y) → Keeps {X = X} m b old new (Ok x) → Keeps {X = Y} m b old new (Ok y)
 keeps_as m b old new x y k = record { count = k.count; fair = k.fair; shown = k.shown; sound = k.sound; firm = k.firm; stays_open = k.stays_open }

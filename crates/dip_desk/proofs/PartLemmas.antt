@@ -5,9 +5,9 @@ use Rattle.std.specs.List.{AllByRecursion, list_all, list_any}
 use Rattle.std.proofs.lemmas.Bool.{false≢true, ltb-true}
 use Rattle.std.proofs.lemmas.List.Folds.{list_all-map}
 use Rattle.dip_machine.specs.Keyed.{at, change_at}
-use Rattle.dip_machine.specs.State.{Author, Nobody, TheMaster, Seat, Change, Effect, Nothing, Pending, Votes, Delivers, Opens, Publishes, Seats, NewSeat, Part, fresh, game_after, opening_game, own_of, papers_after, power_in, public_after, seat_at, with_author, with_effect, with_item, with_letter}
+use Rattle.dip_machine.specs.State.{Author, Nobody, TheMaster, Seat, Change, Effect, Nothing, Pending, Votes, Delivers, Opens, Publishes, Seats, NewSeat, Part, fresh, game_after, opening_game, own_of, papers_after, power_in, public_after, seat_at, whole_of, with_author, with_effect, with_item, with_letter}
 use Rattle.dip_machine.proofs.ListLemmas.{all_change}
-use Rattle.dip_records.specs.Records.{Item, Kept, Own, Public}
+use Rattle.dip_records.specs.Records.{Item, Kept, Own, Public, Whole}
 use Rattle.dip_records.specs.Rows as rows
 use Rattle.dip_records.specs.declared.records.Own.{Own as OwnRow}
 use Rattle.dip_desk.specs.Fitting.{FindsPlace, has_room}
@@ -24,6 +24,21 @@ own_found posts power (o ∷ os) = go (o.power == power) (own_found posts power 
         → cond b (Some o) (at (λ a b. a == b) power_of power os) ≡ own_of (cond b (Some (part posts o)) (seat_at power (map (part posts) os)))
     go true rest = refl
     go false rest = rest
+
+-- the own parts of all seats
+pub owns_shown : (posts : List Post) (os : List Own) → map (λ s. s.own) (map (part posts) os) ≡ os
+owns_shown posts [] = refl
+owns_shown posts (o ∷ os) = ap (λ (more : List Own). o ∷ more) (owns_shown posts os)
+
+-- a game with the own parts of its seats
+pub whole_shown : (name : List ℕ) (g : GameRow) (p : Public) (os : List Own) → p ≡ (game name g).public → os ≡ owns g.seats.items
+    → ◌≡◌ {A = Whole} (record { public = p; seats = os }) (whole_of (game name g))
+whole_shown name g p os public seats =
+    ap (λ (q : Public). whole q os) public
+    ∙ ap (λ (more : List Own). whole (game name g).public more) (seats ∙ sym (owns_shown g.posts.items (owns g.seats.items)))
+  where
+    whole : Public → List Own → Whole
+    whole q more = record { public = q; seats = more }
 
 -- the seats of a new game have nothing in their inboxes
 pub fresh_parts : (seats : List NewSeat) → map (part []) (fresh_owns seats) ≡ map fresh seats

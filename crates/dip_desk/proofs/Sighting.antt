@@ -8,7 +8,7 @@ use Rattle.dip_records.specs.Records.{Item, Own, Reply}
 use Rattle.dip_machine.specs.Machine.{DecidedBy, Decides, IsDamagedBy, IsForeign, IsDamagedSight, IsForeignTo, IsUnplayable, MayBeDamaged, Settles, Step, after, OfMaster, OfGame, OfNobody, OfSeat, Sight, Verdict, NotKnown, Again, OutOfTurn, Taken, author, author_of, digest, master_author, master_sees, master_sight, power_author, power_sight, seat_author, seat_sight, seen_in, sight_of, verdict_by, verdict_on}
 use Rattle.dip_machine.specs.Fitting.{EffectsFit}
 use Rattle.dip_machine.specs.Mail.{Mail}
-use Rattle.dip_machine.specs.State.{Author, Effect, Game, Nobody, Nothing, Pending, Votes, Delivers, Opens, Publishes, Seats, Seat, State, TheMaster, game_at, own_of, seat_at}
+use Rattle.dip_machine.specs.State.{Author, Desk, Effect, Game, Nobody, Nothing, Pending, Votes, Delivers, Opens, Publishes, Seats, Seat, State, TheMaster, game_at, own_of, seat_at}
 use Rattle.dip_desk.specs.Fitting.{FindsPlace, VerdictFits}
 use Rattle.dip_machine.proofs.Suiting.{Comes, IsFitting, decides_suits, opens_where}
 
@@ -67,6 +67,15 @@ is_right m n s = go (bytes_eq n.note.sender (codes "master"))
     go : (b : Bool) → IsRight m n s (cond b (master_author n s) (power_author n (power_of m n.note.sender) s)) (cond b (master_sight n s) (power_sight n (power_of m n.note.sender) s))
     go true = master (bytes_eq (digest (codes "desk") (codes "master") n.note.secret) s.desk.digest)
     go false = power (power_of m n.note.sender)
+
+-- what the master sees for TICK, where the desk has the digest of the letter's secret
+pub tick_seen : (n : Mail) (s : State) (d : Desk) (tick : ℕ) (sight : Sight) → n.note.command ≡ Tick tick → d ≡ s.desk
+    → bytes_eq (digest (codes "desk") (codes "master") n.note.secret) d.digest ≡ true → sight ≡ master_sees (Tick tick) d.kept (game_at n.note.game s) → sight ≡ master_sight n s
+tick_seen n s d tick sight of row opens is =
+    is
+    ∙ ap (λ (c : Request). master_sees c d.kept (game_at n.note.game s)) (sym of)
+    ∙ ap (λ (b : Bool). cond b (master_sees n.note.command d.kept (game_at n.note.game s)) OfNobody) (sym opens)
+    ∙ ap (λ (x : Desk). cond (bytes_eq (digest (codes "desk") (codes "master") n.note.secret) x.digest) (master_sees n.note.command x.kept (game_at n.note.game s)) OfNobody) row
 
 -- what is settled by a sight's verdict is a step
 pub settled_by_sight : (m : Chart) (n : Mail) (s t : State) (sight : Sight) (who : Author) (v : Verdict) (r : Reply) → sight ≡ sight_of m n s → who ≡ author_of sight

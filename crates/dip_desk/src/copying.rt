@@ -1,6 +1,7 @@
 //! Copies of what a keeper in memory has.
 ghost use Rattle.std.specs.Prelude.{◌≡◌, IfOk, option_map};
 ghost use Rattle.dip_records.specs.Rows as rows;
+ghost use Rattle.dip_desk.specs.Stored as stored;
 
 use dip_names::Power;
 use dip_records::{Item, Kept, Own, Standing, Status};
@@ -79,6 +80,16 @@ pub fn own_copy(alloc: Global, own: &Own) -> Result<Own, AllocError>
         sent: own.sent,
         items: own.items,
     })
+}
+
+pub fn owns_copy(alloc: Global, owns: &[Own]) -> Result<Vec<Own>, AllocError>
+    ensures { IfOk result (λ v. stored.owns v.items ≡ stored.owns owns.now) }
+{
+    let mut copy = Vec::with_capacity(alloc, owns.len())?;
+    for own in owns {
+        copy.push(own_copy(alloc, own)?)?;
+    }
+    Ok(copy)
 }
 
 fn texts_copy(alloc: Global, texts: &[String]) -> Result<Vec<String>, AllocError>

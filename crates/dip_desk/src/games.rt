@@ -1,14 +1,14 @@
 //! Games as they lie in memory, and what is found in them.
-ghost use Rattle.std.specs.Prelude.{◌≡◌, ◌==◌, IfOk, bytes_eq, option_and_then, option_map};
+ghost use Rattle.std.specs.Prelude.{◌≡◌, ◌==◌, IfOk, bytes_eq, option_and_then, option_map, string_bytes};
 ghost use Rattle.dip_machine.specs.Keyed.{at};
 ghost use Rattle.dip_machine.specs.State as s;
 ghost use Rattle.dip_records.specs.Rows as rows;
 ghost use Rattle.dip_desk.specs.Stored as stored;
 
-use crate::copying::status_copy;
+use crate::copying::{owns_copy, status_copy};
 use dip_board::Board;
 use dip_names::Power;
-use dip_records::{Item, Own, Public, Status};
+use dip_records::{Item, Own, Public, Status, Whole};
 use indexmap::IndexMap;
 use std::alloc::{AllocError, Global};
 
@@ -53,6 +53,16 @@ pub fn public_of(alloc: Global, name: &str, game: &GameRow) -> Result<Public, Al
     })
 }
 
+/// The game of that name, with the own parts of its seats.
+pub fn whole_of(alloc: Global, name: &str, game: &GameRow) -> Result<Whole, AllocError>
+    ensures { IfOk result (λ w. rows.whole w ≡ s.whole_of (stored.game name.now game.now)) }
+{
+    Ok(Whole {
+        public: public_of(alloc, name, game)?,
+        seats: owns_copy(alloc, game.seats.as_slice())?,
+    })
+}
+
 /// The game of that name.
 pub fn find_game<'a>(games: &'a Games, name: &str) -> Option<&'a GameRow>
     ensures { option_map (λ g. stored.game name.now g.now) result ≡ at bytes_eq s.name_of name.now
@@ -82,4 +92,25 @@ pub fn find_own<'a>(games: &'a Games, name: &str, power: Power) -> Option<&'a Ow
 {
     let game = find_game(games, name)?;
     find_seat(game.seats.as_slice(), power)
+}
+
+/// The paper of that number. The first has the number 1.
+fn numbered(papers: &[String], number: u32) -> Option<&String>
+    ensures { option_map (λ p. string_bytes p.now) result ≡ s.paper_numbered number
+        (rows.lines papers.now) }
+{
+    if number == 0 {
+        return None;
+    }
+    papers.get(number as usize - 1)
+}
+
+/// The paper of that number in the game of that name.
+pub fn find_paper<'a>(games: &'a Games, name: &str, number: u32) -> Option<&'a String>
+    ensures { option_map (λ p. string_bytes p.now) result ≡ option_and_then
+        (λ g. s.paper_numbered number g.papers)
+        (at bytes_eq s.name_of name.now (stored.games games.entry.now.entries)) }
+{
+    let game = find_game(games, name)?;
+    numbered(game.papers.as_slice(), number)
 }

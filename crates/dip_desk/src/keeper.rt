@@ -1,16 +1,16 @@
 //! What keeps the desk's state.
-ghost use Rattle.std.specs.Prelude.{◌≡◌, ◌<◌, length, option_map};
+ghost use Rattle.std.specs.Prelude.{◌≡◌, ◌<◌, length, option_map, string_bytes};
 ghost use Rattle.dip_chart.specs.Charts.{Chart};
 ghost use Rattle.dip_desk.specs.Fitting.{Fits};
 ghost use Rattle.dip_desk.specs.Keeping.{Book, Changes, Looks};
-ghost use Rattle.dip_machine.specs.State.{own_at, public_at, state_after};
+ghost use Rattle.dip_machine.specs.State.{own_at, paper_at, public_at, state_after, whole_at};
 ghost use Rattle.dip_machine.specs.Rows as desk_rows;
 ghost use Rattle.dip_records.specs.Rows as rows;
 
 use dip_machine::{Change, Desk, KeepFault};
 use dip_map::Map;
 use dip_names::Power;
-use dip_records::{Own, Public};
+use dip_records::{Own, Public, Whole};
 
 /// What keeps the desk's state, however it is kept.
 pub trait Keeper {
@@ -41,6 +41,28 @@ pub trait Keeper {
         ensures { Looks map.now book self.old self.new
             (λ o. option_map rows.own o ≡ own_at game.now power (book.content map.now self.old)) ⊥
             result };
+
+    /// A game with the own parts of all its seats, in the order in which CREATE named them, and
+    /// without the items of their inboxes; `None` where there is no such game.
+    ///
+    /// # Errors
+    /// The keeper's fault, never `Damaged` where what is kept is sound. Nothing is changed.
+    fn whole(&mut self, map: &Map, game: &str) -> Result<Option<Whole>, KeepFault>
+        requires { book.faults self.old < u64.MAX }
+        ensures { Looks map.now book self.old self.new
+            (λ w. option_map rows.whole w ≡ whole_at game.now (book.content map.now self.old)) ⊥
+            result };
+
+    /// The text of a game's paper by its number; the opening paper has the number 1. `None` where
+    /// there is no such game or paper.
+    ///
+    /// # Errors
+    /// The keeper's fault, never `Damaged` where what is kept is sound. Nothing is changed.
+    fn paper(&mut self, map: &Map, game: &str, number: u32) -> Result<Option<String>, KeepFault>
+        requires { book.faults self.old < u64.MAX }
+        ensures { Looks map.now book self.old self.new
+            (λ p. option_map string_bytes p ≡ paper_at game.now number
+            (book.content map.now self.old)) ⊥ result };
 
     /// Makes the change whole or not at all.
     fn apply(&mut self, map: &Map, change: &Change) -> Result<(), KeepFault>

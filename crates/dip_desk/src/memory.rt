@@ -5,13 +5,13 @@ ghost use Rattle.dip_records.specs.Rows as rows;
 ghost use Rattle.dip_desk.specs.Stored as stored;
 
 use crate::copying::{kept_copy, last_copy, own_copy};
-use crate::games::{Games, find_game, find_own, public_of};
+use crate::games::{Games, find_game, find_own, find_paper, public_of, whole_of};
 use crate::keeper::Keeper;
 use crate::recording::record_games;
 use dip_machine::{Author, Change, Desk, KeepFault};
 use dip_map::Map;
 use dip_names::Power;
-use dip_records::{Kept, Own, Public};
+use dip_records::{Kept, Own, Public, Whole};
 use indexmap::IndexMap;
 use std::alloc::{AllocError, Global};
 
@@ -88,6 +88,20 @@ impl Keeper for MemoryKeeper {
         match find_own(&self.games, game, power) {
             None => Ok(None),
             Some(seat) => Ok(Some(own_copy(self.alloc, seat)?)),
+        }
+    }
+
+    fn whole(&mut self, _map: &Map, game: &str) -> Result<Option<Whole>, KeepFault> {
+        match find_game(&self.games, game) {
+            None => Ok(None),
+            Some(found) => Ok(Some(whole_of(self.alloc, game, found)?)),
+        }
+    }
+
+    fn paper(&mut self, _map: &Map, game: &str, number: u32) -> Result<Option<String>, KeepFault> {
+        match find_paper(&self.games, game, number) {
+            None => Ok(None),
+            Some(paper) => Ok(Some(paper.clone()?)),
         }
     }
 

@@ -164,6 +164,39 @@ fn a_paper_leaves_its_public_part(rt: HostRuntime) -> Result<(), Fail> {
     Ok(())
 }
 
+fn paper(
+    rt: &impl Abort,
+    keeper: &mut MemoryKeeper,
+    map: &Map,
+    number: u32,
+) -> Result<String, KeepFault> {
+    let Some(paper) = keeper.paper(map, "g1", number)? else {
+        panic!(rt; "no such paper");
+    };
+    Ok(paper)
+}
+
+fn check_numbers(rt: &impl Abort, alloc: Global, map: &Map) -> Result<(), KeepFault> {
+    let mut keeper = opened(rt, alloc, map)?;
+    let opening = paper(rt, &mut keeper, map, 1)?;
+    let before = public(rt, &mut keeper, map)?;
+    let effect = page(alloc, before, false)?;
+    keeper.apply(map, &second(alloc, Author::TheMaster, effect)?)?;
+    assert_eq!(rt; paper(rt, &mut keeper, map, 1)?.as_str(), opening.as_str());
+    assert_eq!(rt; paper(rt, &mut keeper, map, 2)?.as_str(), "PAPER 2\n");
+    assert!(rt; keeper.paper(map, "g1", 3)?.is_none());
+    Ok(())
+}
+
+/// Another paper stands behind the first.
+#[test]
+fn papers_are_numbered_as_they_came(rt: HostRuntime) -> Result<(), Fail> {
+    let alloc = rt.alloc();
+    let map = Map::from_toml(alloc, STANDARD)?;
+    check_numbers(&rt, alloc, &map)?;
+    Ok(())
+}
+
 fn digest_of(
     rt: &impl Abort,
     keeper: &mut MemoryKeeper,

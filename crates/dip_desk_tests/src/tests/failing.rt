@@ -1,13 +1,13 @@
 //! A keeper that fails at one of its calls.
-ghost use Rattle.std.specs.Prelude.{◌≡◌, ◌<◌, IfSome, MatchOption};
+ghost use Rattle.std.specs.Prelude.{◌≡◌, ◌<◌, IfOk, IfSome, MatchOption};
 ghost use Rattle.dip_machine.specs.Faults.{faults_with};
 
 use crate::tests::letters::{CREATE, ORDERS, SHOW, desk, letter};
-use dip_desk::{Keeper, MemoryKeeper, run};
+use dip_desk::{Keeper, MemoryKeeper, run, take};
 use dip_machine::{Change, Desk, KeepFault};
 use dip_map::{Map, STANDARD};
 use dip_names::Power;
-use dip_records::{Own, Public};
+use dip_records::{Own, Public, Whole};
 use std::alloc::Global;
 use std::process::Abort;
 use std::test::Fail;
@@ -91,6 +91,26 @@ impl Keeper for Failing {
         }
     }
 
+    fn whole(&mut self, map: &Map, game: &str) -> Result<Option<Whole>, KeepFault> {
+        if let Some(fault) = self.fault_now() {
+            return Err(fault);
+        }
+        match self.inner.whole(map, game) {
+            Ok(whole) => Ok(whole),
+            Err(_) => Err(KeepFault::Memory),
+        }
+    }
+
+    fn paper(&mut self, map: &Map, game: &str, number: u32) -> Result<Option<String>, KeepFault> {
+        if let Some(fault) = self.fault_now() {
+            return Err(fault);
+        }
+        match self.inner.paper(map, game, number) {
+            Ok(paper) => Ok(paper),
+            Err(_) => Err(KeepFault::Memory),
+        }
+    }
+
     fn apply(&mut self, map: &Map, change: &Change) -> Result<(), KeepFault> {
         if let Some(fault) = self.fault_now() {
             return Err(fault);
@@ -156,6 +176,79 @@ fn a_fault_is_handed_on_and_changes_nothing(rt: HostRuntime) -> Result<(), Fail>
     for calls in 0..12 {
         check_run(&rt, alloc, &map, calls, true)?;
         check_run(&rt, alloc, &map, calls, false)?;
+    }
+    Ok(())
+}
+
+/// A keeper that has the game of CREATE, and fails at the call behind so many.
+fn opened(
+    rt: &impl Abort,
+    alloc: Global,
+    map: &Map,
+    left: u32,
+    is_disk: bool,
+) -> Result<Failing, KeepFault>
+    ensures { IfOk result (λ keeper. keeper.told ≡ 0) }
+{
+    let mut inner = desk(alloc);
+    take(alloc, &mut inner, map, &letter(rt, CREATE))?;
+    Ok(Failing {
+        inner,
+        left,
+        is_disk,
+        told: 0,
+    })
+}
+
+/// A game is read whole, or the fault is handed on and the game is there.
+fn check_whole(
+    rt: &impl Abort,
+    alloc: Global,
+    map: &Map,
+    left: u32,
+    is_disk: bool,
+) -> Result<(), KeepFault> {
+    let mut keeper = opened(rt, alloc, map, left, is_disk)?;
+    match keeper.whole(map, "g1") {
+        Ok(whole) => assert!(rt; left > 0 && whole.is_some()),
+        Err(told) => {
+            assert!(rt; left == 0 && told != KeepFault::Damaged);
+            assert!(rt; (told == KeepFault::Disk) == is_disk);
+        }
+    }
+    assert!(rt; (keeper.failures() == 1) == (left == 0 && is_disk));
+    assert!(rt; keeper.inner.whole(map, "g1")?.is_some());
+    Ok(())
+}
+
+/// The same of its first paper.
+fn check_paper(
+    rt: &impl Abort,
+    alloc: Global,
+    map: &Map,
+    left: u32,
+    is_disk: bool,
+) -> Result<(), KeepFault> {
+    let mut keeper = opened(rt, alloc, map, left, is_disk)?;
+    match keeper.paper(map, "g1", 1) {
+        Ok(paper) => assert!(rt; left > 0 && paper.is_some()),
+        Err(told) => {
+            assert!(rt; left == 0 && told != KeepFault::Damaged);
+            assert!(rt; (told == KeepFault::Disk) == is_disk);
+        }
+    }
+    assert!(rt; (keeper.failures() == 1) == (left == 0 && is_disk));
+    assert!(rt; keeper.inner.paper(map, "g1", 1)?.is_some());
+    Ok(())
+}
+
+#[test]
+fn a_fault_of_a_look_is_handed_on(rt: HostRuntime) -> Result<(), Fail> {
+    let alloc = rt.alloc();
+    let map = Map::from_toml(alloc, STANDARD)?;
+    for (left, is_disk) in [(0, true), (0, false), (1, true)] {
+        check_whole(&rt, alloc, &map, left, is_disk)?;
+        check_paper(&rt, alloc, &map, left, is_disk)?;
     }
     Ok(())
 }

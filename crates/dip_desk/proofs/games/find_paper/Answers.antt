@@ -1,0 +1,11 @@
+use Rattle.std.proofs.Common.{ap, ◌∙◌, List, Option, String, option_and_then}
+use Rattle.std.specs.declared.alloc.Global.{Global}
+use Rattle.dip_machine.specs.State as s
+use Rattle.dip_records.specs.Rows as rows
+use Rattle.dip_desk.proofs.games.find_paper.Goals as goal
+
+pub returns : goal.returns
+returns c =
+    c.numbered.ensures
+    ∙ ap (λ (ps : List (String Global)). s.paper_numbered c.args.number (rows.lines ps)) c.as_slice.ensures.value
+    ∙ ap (λ (x : Option s.Game). option_and_then (λ g. s.paper_numbered c.args.number g.papers) x) c.in_ok-game.ensures

@@ -1,12 +1,12 @@
 -- A look, and then a step.
-use Rattle.std.proofs.Common.{◌≡◌, inl, inr, Result, Ok, Err, ap, subst, ◌∙◌}
+use Rattle.std.proofs.Common.{◌≡◌, inl, inr, Result, Ok, Err, ap, refl, subst, ◌∙◌, arith}
 use Rattle.std.proofs.lemmas.Result.{IfOk-weaker, on_err_weaker, on_ok_weaker}
 use Rattle.dip_chart.specs.Charts.{Chart}
-use Rattle.dip_machine.specs.Faults.{faults_after}
+use Rattle.dip_machine.specs.Faults.{faults_after, faults_with}
 use Rattle.dip_desk.specs.Keeping.{Book, Changes, Keeps, Looks, Steps}
 use Rattle.dip_machine.specs.State.{State}
 use Rattle.dip_machine.specs.declared.faults.KeepFault.{KeepFault}
-use Rattle.dip_machine.specs.declared.faults.KeepFault.TheVariants.{Damaged}
+use Rattle.dip_machine.specs.declared.faults.KeepFault.TheVariants.{Memory, Disk, Damaged}
 
 -- what is kept by a look and the call behind it
 pub keeps_then : {K X Y : Type 0} (m : Chart) (b : Book K) (old mid new : K) (x : X) (result : Result Y KeepFault)
@@ -77,6 +77,24 @@ looks_then m b old mid new x First Second Both result first further second = rec
   same = λ sound shows. let before = second.keeps.shown shows in second.same (first.keeps.sound sound before) shows ∙ first.same sound before;
   left = λ sound honest s left. let fair = second.keeps.fair honest in first.left sound fair s (second.left (first.keeps.firm sound fair) honest s left);
 }
+
+-- a fault behind a look that isn't the disk's is a step that isn't taken
+pub fault_then : {K X Y R : Type 0} (m : Chart) (b : Book K) (old mid : K) (x : X) (Value : X → Type 0) (fault : KeepFault) (say : Y → R) (Step : State → R → State → Type 0)
+    (Blame : State → Type 0) → Looks m b old mid Value ⊥ (Ok x) → faults_with fault 0 ≡ 0 → (Value x → fault ≡ Damaged → Blame (b.content m old))
+    → Steps {X = Y} m b old mid say Step Blame (Err fault)
+fault_then m b old mid x Value fault say Step Blame look other blamed = record {
+  keeps = record { count = look.keeps.count ∙ same fault other; fair = look.keeps.fair; shown = look.keeps.shown; sound = look.keeps.sound; firm = λ sound honest. tt; stays_open = λ sound honest shows. tt };
+  done = λ sound shows. tt;
+  undone = look.same;
+  damaged = λ sound shows bad. let told : fault ≡ Damaged = cc in blamed (look.value sound shows) told;
+  kept = λ sound honest shows. tt;
+  left = λ sound honest shows s left. inl (look.left sound honest s left);
+}
+  where
+    same : (f : KeepFault) → faults_with f 0 ≡ 0 → b.faults old ≡ faults_with f (b.faults old)
+    same Memory is = refl
+    same Disk is = absurd (omega (arith, is))
+    same Damaged is = refl
 
 -- what is kept by an answer says nothing of its value
 pub keeps_as : {K X Y : Type 0} (m : Chart) (b : Book K) (old new : K) (x : X) (y : Y) → Keeps {X = X} m b old new (Ok x) → Keeps {X = Y} m b old new (Ok y)

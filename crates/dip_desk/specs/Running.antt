@@ -8,14 +8,16 @@ use Rattle.dip_machine.specs.Lawful.{IsLawful}
 use Rattle.dip_machine.specs.Machine.{IsDamagedBy}
 use Rattle.dip_machine.specs.Mail.{Mail}
 use Rattle.dip_machine.specs.State.{State}
-use Rattle.dip_machine.specs.View.{IsHistory, IsSettledByView, Turn}
+use Rattle.dip_machine.specs.Published.{IsFair}
+use Rattle.dip_machine.specs.View.{IsHistory, Turn}
 use Rattle.dip_machine.specs.declared.faults.KeepFault.{KeepFault}
 use Rattle.dip_machine.specs.declared.faults.KeepFault.TheVariants.{Damaged}
 
--- the replies are those of a history of the machine over the letters, and each seat's view settles what it is told
+-- the replies are those of a history of the machine over the letters; each seat's view settles what it is told, and each movement that
+-- it publishes satisfies the decision equations for the orders that stood
 abbrev pub Answers : Chart → State → List Mail → List Reply → State → Type 0
 Answers m old letters replies new =
-    (turns : List Turn) × IsHistory m old letters replies new turns × IsSettledByView m old turns new
+    (turns : List Turn) × IsHistory m old letters replies new turns × IsFair m old turns new
 
 -- letters taken in turn, up to the first that the keeper gives no answer to
 pub record Runs {K X : Type 0} (m : Chart) (b : Book K) (old new : K) (letters : List Mail) (say : X → List Reply)

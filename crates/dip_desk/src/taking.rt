@@ -16,7 +16,7 @@ use crate::looking::look;
 use dip_letters::{Letter, LetterFault, sum};
 use dip_machine::{
     Author, Change, Effect, KeepFault, Verdict, author_of, effects_fit, lawful_states_stay_lawful,
-    verdict_on,
+    published_movements_are_decided, verdict_on,
 };
 use dip_map::Map;
 use dip_records::{Head, Kept, Outcome, Reply};
@@ -152,8 +152,10 @@ pub fn take<K: Keeper>(
 {
     effects_fit(map);
     let sight = look(keeper, map, letter)?;
-    let decided = verdict_on(alloc, map, letter, &sight)?;
-    settle(alloc, keeper, map, letter, author_of(&sight), decided)
+    match verdict_on(alloc, map, letter, &sight) {
+        Err(fault) => Err(fault),
+        Ok(decided) => settle(alloc, keeper, map, letter, author_of(&sight), decided),
+    }
 }
 
 /// Takes letters in turn, up to the first that a keeper gives no answer to; the letters before it stay taken.
@@ -172,6 +174,7 @@ pub fn run<K: Keeper>(
         (λ replies. each (λ r. rows.reply r) replies.items) result }
 {
     lawful_states_stay_lawful(map);
+    published_movements_are_decided();
     let mut replies = match Vec::with_capacity(alloc, letters.len()) {
         Ok(replies) => replies,
         Err(_) => return Err((Vec::new(alloc), KeepFault::Memory)),

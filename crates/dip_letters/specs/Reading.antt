@@ -133,8 +133,8 @@ unfoldable pub command_at : List ℕ → Option Request
 command_at text = do
   l ← line_at text
   if bytes_eq l.0 (codes "ORDERS") then option_map Orders (orders_at l.1) else (
-    if bytes_eq l.0 (codes "SHOW") then show_at l.1 else tick_or_opening (after_name (codes "TICK ") l.0) l.0 l.1
-  )
+      if bytes_eq l.0 (codes "SHOW") then show_at l.1 else tick_or_opening (after_name (codes "TICK ") l.0) l.0 l.1
+      )
 
 -- the note of a letter, without its last line
 unfoldable pub note_at : List ℕ → Option Note

@@ -13,5 +13,6 @@ pub mod Handing
 pub mod LawfulStates
 pub mod Fitting
 pub mod Histories
+pub mod Publishing
 pub mod Repeating
 pub mod RepeatingLater

@@ -4,12 +4,14 @@ ghost use Rattle.dip_chart.specs.Charts.{Chart};
 ghost use Rattle.dip_machine.specs.Fitting.{EffectsFit};
 ghost use Rattle.dip_machine.specs.Handing.{StandingOrdersAreGiven};
 ghost use Rattle.dip_machine.specs.Lawful.{IsNeverDamaged, StaysLawful};
+ghost use Rattle.dip_machine.specs.Published.{MovementsAreDecided};
 ghost use Rattle.dip_machine.specs.Repeats.{ActsOnce, ActsOnceLater};
 ghost use Rattle.dip_machine.specs.State.{State};
 ghost use Rattle.dip_machine.specs.Strangers.{IsToNobodyExactly};
 ghost use Rattle.dip_machine.specs.View.{AreAlike, AreEffectsShown, IsAnsweredFromSeen, IsRun, IsSettledByView, IsShownByOthers, IsUnseenByOthers, Turn};
 
 use dip_board::openings_are_of_their_map;
+use dip_decide::explained_is_lawful;
 use dip_map::Map;
 use dip_orders::{lawful_orders_are_read, orders_are_lawful, orders_are_read_again};
 use dip_turn::boards_stay_of_their_map;
@@ -25,6 +27,14 @@ pub fn settled_by_view()
     ensures { (m : Chart) (old new : State) (turns : List Turn) → IsRun m old turns new
         → IsSettledByView m old turns new }
 {}
+
+/// Each movement that is published in a history satisfies the decision equations for the orders that stood at its tick: its paper prints
+/// the outcomes of values that satisfy them and are explained, and the board behind it is the one that these values leave.
+pub fn published_movements_are_decided()
+    ensures { (m : Chart) → MovementsAreDecided m }
+{
+    explained_is_lawful();
+}
 
 /// Whatever effect comes to a game that it suits, each seat sees behind it what its events say, of the effects that no command has yet
 /// too.

@@ -12,7 +12,9 @@ use Rattle.dip_machine.specs.Mail.{Mail, mail}
 use Rattle.dip_desk.specs.Running.{Answers}
 use Rattle.dip_machine.specs.State.{State}
 use Rattle.dip_machine.specs.View.{IsHistory}
-use Rattle.dip_machine.proofs.Histories.{history_more, settled}
+use Rattle.dip_machine.proofs.Histories.{history_more}
+use Rattle.dip_machine.proofs.Publishing.{fair}
+use Rattle.dip_machine.specs.Published.{MovementsAreDecided}
 use Rattle.dip_reports.specs.Texts.{reply_text}
 use Rattle.dip_records.specs.Records.{Reply}
 use Rattle.dip_program.specs.RunFaults.{IsTakingFault}
@@ -42,19 +44,19 @@ replies_more (Fault f r ∷ fs) next told all t a h one = (h.0 ++ a, ap (λ (x :
 replies_more (End ∷ fs) next told all t a h one = absurd h
 
 -- nothing is found yet
-pub front_of : (m : Chart) (input : List ℕ) (old : State) → AnswersFront m input old old [] input
-front_of m input old = record {
+pub front_of : (m : Chart) → MovementsAreDecided m → (input : List ℕ) (old : State) → AnswersFront m input old old [] input
+front_of m decided input old = record {
   found = [];
   finds = refl;
   told = [];
-  history = ([], record { run = refl; asked = refl; answered = refl }, settled m old old [] refl);
+  history = ([], record { run = refl; asked = refl; answered = refl }, fair m decided old old [] refl);
   replies = (refl, refl);
 }
 
 -- one turn more
-pub front_more : (m : Chart) (input : List ℕ) (old : State) (all : List Reply) (mid : State) (rest : List ℕ) (reply : Reply) (new : State) (after : List ℕ)
+pub front_more : (m : Chart) → MovementsAreDecided m → (input : List ℕ) (old : State) (all : List Reply) (mid : State) (rest : List ℕ) (reply : Reply) (new : State) (after : List ℕ)
     → AnswersFront m input old mid all rest → IsTurn m rest mid reply new after → AnswersFront m input old new (all ++ reply ∷ []) after
-front_more m input old all mid rest reply new after front turn = go turn.0 turn.1 turn.2
+front_more m decided input old all mid rest reply new after front turn = go turn.0 turn.1 turn.2
   where
     go : (next : Next) → IsNext rest next → IsAnswered m mid next reply new after → AnswersFront m input old new (all ++ reply ∷ []) after
     go (Taken l r) here done =
@@ -65,7 +67,7 @@ front_more m input old all mid rest reply new after front turn = go turn.0 turn.
           history = (
             more.0,
             subst (λ (ms : List Mail). IsHistory m old ms (front.told ++ reply ∷ []) new more.0) (sym (letters_more front.found (Taken l r))) more.1,
-            settled m old new more.0 more.1.run,
+            fair m decided old new more.0 more.1.run,
           );
           replies = replies_more front.found (Taken l r) front.told all (reply ∷ []) (reply ∷ []) front.replies (reply, [], [], refl, refl, (refl, refl));
         }
@@ -94,13 +96,13 @@ pub front_same : (m : Chart) (input : List ℕ) (old mid new : State) (all : Lis
 front_same m input old mid new all rest front same = subst (λ (s : State). AnswersFront m input old s all rest) (sym same) front
 
 -- a write that failed wrote a beginning of the last reply
-pub stops_in_write : (m : Chart) (input : List ℕ) (old : State) (replies : List Reply) (mid : State) (rest : List ℕ) (reply : Reply) (new : State) (after : List ℕ)
+pub stops_in_write : (m : Chart) → MovementsAreDecided m → (input : List ℕ) (old : State) (replies : List Reply) (mid : State) (rest : List ℕ) (reply : Reply) (new : State) (after : List ℕ)
     (a b c : Option (List ℕ)) (size : ℕ) → AnswersFront m input old mid replies rest → IsTurn m rest mid reply new after
     → Appends a b (flat_map reply_text replies) → Appends b c (take size (reply_text reply)) → Stops m Write input old new a c
-stops_in_write m input old replies mid rest reply new after a b c size front turn first second = record {
+stops_in_write m decided input old replies mid rest reply new after a b c size front turn first second = record {
   replies = replies ++ reply ∷ [];
   rest = after;
-  front = front_more m input old replies mid rest reply new after front turn;
+  front = front_more m decided input old replies mid rest reply new after front turn;
   written = (replies, reply, size, refl, Appends-trans a b c _ _ first second);
 }
 

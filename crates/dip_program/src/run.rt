@@ -13,7 +13,7 @@ ghost use Rattle.dip_program.specs.RunFaults.{IsAnsweringFault, IsReadingFault, 
 use crate::reading::{ReadFault, read_whole};
 use dip_desk::{Keeper, fault_reply, take};
 use dip_letters::{Next, next_letter};
-use dip_machine::{KeepFault, lawful_states_stay_lawful};
+use dip_machine::{KeepFault, lawful_states_stay_lawful, published_movements_are_decided};
 use dip_map::Map;
 use dip_records::Reply;
 use dip_reports::{reply_pieces, reply_text};
@@ -210,6 +210,7 @@ fn answer_all<W: Write, K: Keeper>(
     ensures fault { IfErr result IsAnsweringFault }
     ensures count { K.book.faults keeper.new ≡ faults_after_run result (K.book.faults keeper.old) }
 {
+    published_movements_are_decided();
     let mut rest = input;
     'letters: loop {
         match step(alloc, keeper, map, rest)? {

@@ -9,8 +9,12 @@ use Rattle.dip_machine.specs.State.{State}
 use Rattle.dip_machine.specs.declared.faults.KeepFault.{KeepFault}
 use Rattle.dip_records.specs.Rows as rows
 use Rattle.dip_desk.proofs.Keepings.{keeps_as, keeps_then}
-use Rattle.dip_machine.proofs.Histories.{contains_said, history_more, map_more, said_each, settled, taken_more}
+use Rattle.dip_machine.proofs.Histories.{contains_said, history_more, map_more, said_each, taken_more}
+use Rattle.dip_machine.proofs.Publishing.{fair}
 use Rattle.dip_desk.proofs.taking.run.Goals as goal
+
+pub take-requires-clause-letter : goal.take-requires-clause-letter
+take-requires-clause-letter g c = said_each IsMail (λ l. mail l) c.args.letters.now c.loop-letter.letter-index _ (omega arith) c.requires.letters
 
 pub loop-letter-preserved : goal.loop-letter-preserved
 loop-letter-preserved g c =
@@ -28,7 +32,7 @@ loop-letter-preserved g c =
       lawful = λ sound shows lawful.
           let before = took.keeps.shown shows in
           c.lawful_states_stay_lawful.ensures.stays _ (mail (get_or c.args.letters.now c.loop-letter.letter-index _)) _ _
-          (said_each IsMail (λ l. mail l) c.args.letters.now c.loop-letter.letter-index _ (omega arith) c.args.requires.letters) (c.loop-letter.invariant.lawful sound before lawful) (took.done (c.loop-letter.invariant.keeps.sound sound before) shows);
+          (said_each IsMail (λ l. mail l) c.args.letters.now c.loop-letter.letter-index _ (omega arith) c.requires.letters) (c.loop-letter.invariant.lawful sound before lawful) (took.done (c.loop-letter.invariant.keeps.sound sound before) shows);
       count = omega arith;
       room = omega arith;
     }
@@ -40,7 +44,7 @@ returns-in-Err g c =
     let none : map (λ r. rows.reply r) c.new.result.items ≡ [] = ap (λ rs. map (λ r. rows.reply r) rs) c.new.ensures.items in
     record {
       done = λ sound shows. tt;
-      undone = λ sound shows. (0, ([], record { run = refl; asked = refl; answered = sym none }, settled m (b.content m c.args.keeper.now) (b.content m c.args.keeper.now) [] refl));
+      undone = λ sound shows. (0, ([], record { run = refl; asked = refl; answered = sym none }, fair m (c.published_movements_are_decided.ensures m) (b.content m c.args.keeper.now) (b.content m c.args.keeper.now) [] refl));
       damaged = λ sound shows bad. absurd (cc);
       never = λ sound shows lawful bad. absurd (cc);
       lawful = λ sound shows lawful. lawful;
@@ -66,7 +70,7 @@ returns-in-Err-take g c =
             (
               steps.0,
               record { run = steps.1.run; asked = steps.1.asked ∙ sym (take-map (λ l. mail l) c.loop-letter.letter-index c.args.letters.now); answered = steps.1.answered },
-              settled m (b.content m c.args.keeper.now) (b.content m c.loop-letter.keeper) steps.0 steps.1.run,
+              fair m (c.published_movements_are_decided.ensures m) (b.content m c.args.keeper.now) (b.content m c.loop-letter.keeper) steps.0 steps.1.run,
             ),
           );
       damaged = λ sound shows bad.
@@ -94,7 +98,7 @@ returns g c =
     record {
       done = λ sound shows.
           let steps = c.loop-letter.invariant.steps sound shows in
-          (steps.0, record { run = steps.1.run; asked = steps.1.asked ∙ ap (λ ls. map (λ l. mail l) ls) whole; answered = steps.1.answered }, settled m (b.content m c.args.keeper.now) (b.content m c.loop-letter.keeper) steps.0 steps.1.run);
+          (steps.0, record { run = steps.1.run; asked = steps.1.asked ∙ ap (λ ls. map (λ l. mail l) ls) whole; answered = steps.1.answered }, fair m (c.published_movements_are_decided.ensures m) (b.content m c.args.keeper.now) (b.content m c.loop-letter.keeper) steps.0 steps.1.run);
       undone = λ sound shows. tt;
       damaged = λ sound shows. tt;
       never = λ sound shows lawful. tt;

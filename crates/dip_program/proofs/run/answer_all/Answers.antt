@@ -16,7 +16,7 @@ letters-preserved g c = record {
       let reply = rows.reply c.in-Some.reply in
       let turn = rw c.in-Some.is at c.in_ok-step.ensures.some (c.letters.invariant.sound sound before) shows in (
         so_far.0 ++ reply ∷ [],
-        front_more c.args.map.now c.args.input.now _ so_far.0 _ c.letters.rest.now reply _ c.in-Some.after.now so_far.1 turn,
+        front_more c.args.map.now (c.published_movements_are_decided.ensures c.args.map.now) c.args.input.now _ so_far.0 _ c.letters.rest.now reply _ c.in-Some.after.now so_far.1 turn,
         written_more _ _ _ so_far.0 reply so_far.2 c.in_ok-write_reply-in-Some.ensures.ok,
       );
 }
@@ -36,7 +36,7 @@ returns-in_err-write_reply-in-Some-clause-stops g c = λ sound shows.
     let p = err_from_is_err_and c.from_residual-in_err-write_reply-in-Some.result c.from_residual-in_err-write_reply-in-Some.ensures.1 in
     let turn = rw c.in-Some.is at c.in_ok-step.ensures.some (c.letters.invariant.sound sound before) shows in
     let part = c.in_err-write_reply-in-Some.ensures.err in
-    rw (p.1, p.2, c.in_err-write_reply-in-Some.ensures.fault) (stops_in_write _ c.args.input.now _ so_far.0 _ c.letters.rest.now (rows.reply c.in-Some.reply) _ c.in-Some.after.now _ _ _ part.0 so_far.1 turn so_far.2 part.1)
+    rw (p.1, p.2, c.in_err-write_reply-in-Some.ensures.fault) (stops_in_write _ (c.published_movements_are_decided.ensures c.args.map.now) c.args.input.now _ so_far.0 _ c.letters.rest.now (rows.reply c.in-Some.reply) _ c.in-Some.after.now _ _ _ part.0 so_far.1 turn so_far.2 part.1)
 
 pub letters-init : goal.letters-init
 letters-init g c = record {
@@ -44,5 +44,5 @@ letters-init g c = record {
   shown = λ shows. shows;
   sound = λ sound shows. sound;
   lawful = λ sound shows lawful. lawful;
-  so_far = λ sound shows. ([], front_of c.args.map.now c.args.input.now _, search rules);
+  so_far = λ sound shows. ([], front_of c.args.map.now (c.published_movements_are_decided.ensures c.args.map.now) c.args.input.now _, search rules);
 }

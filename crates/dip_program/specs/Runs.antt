@@ -65,8 +65,8 @@ AreReplies (Taken l rest ∷ nexts) told all =
 AreReplies (Fault fault rest ∷ nexts) told all = (more : List Reply) × (all ≡ fault_reply fault ∷ more) × AreReplies nexts told more
 AreReplies (End ∷ nexts) told all = ⊥
 
--- a front of the input was answered: the letters that the grammar finds there have the replies of a history of the desk, which each
--- seat's view settles, and each fault has its own
+-- a front of the input was answered: the letters that the grammar finds there have the replies of a fair history of the desk, and each
+-- fault has its own
 pub record AnswersFront (m : Chart) (input : List ℕ) (old new : State) (all : List Reply) (rest : List ℕ) : Type 0 where
   pub found : List Next
   pub finds : Finds input found rest

@@ -1,5 +1,5 @@
 -- What is decided of a letter fits the map.
-use Rattle.std.proofs.Common.{◌≡◌, ℕ, ◌<◌, ◌==◌, ◌&&◌, ◌+◌, Bool, nat_lt, length, inr, true, List, [], ◌∷◌, map, Option, Some, None, Result, Ok, Err, refl, sym, ap, subst}
+use Rattle.std.proofs.Common.{◌≡◌, ℕ, ◌<◌, ◌==◌, ◌&&◌, ◌+◌, Bool, nat_lt, length, inr, true, false, List, [], ◌∷◌, map, Option, Some, None, Result, Ok, Err, refl, sym, ap, subst}
 use Rattle.std.specs.List.{AllByRecursion, list_any}
 use Rattle.std.proofs.lemmas.Bool.{and_parts, ltb-true}
 use Rattle.dip_names.specs.declared.names.Kind.{Kind}
@@ -21,11 +21,11 @@ use Rattle.dip_orders.specs.declared.placed.PlacedOrder.{PlacedOrder}
 use Rattle.dip_records.specs.Records.{Own, Public, Standing}
 use Rattle.dip_machine.specs.Fitting.{EffectsFit, FitsMap}
 use Rattle.dip_machine.specs.Lawful.{AreAscending}
-use Rattle.dip_machine.specs.Machine.{IsOffMap, IsPublished, IsUnplayable, Verdict, NotKnown, Again, OutOfTurn, Taken, seat_command, seen_in, verdict_by, verdict_on}
+use Rattle.dip_machine.specs.Machine.{IsOffMap, IsPublished, IsUnplayable, Verdict, NotKnown, Again, OutOfTurn, Taken, orders_verdict, seat_command, seen_in, unless_over, verdict_by, verdict_on}
 use Rattle.dip_machine.specs.Mail.{Mail}
 use Rattle.dip_machine.specs.Ordering.{Ordered, after_line, after_lines, kept_orders, orders_after, orders_that_stand, outcome_of_lines, prov_of, standing_with}
 use Rattle.dip_machine.specs.State.{Effect, Game, Nobody, Nothing, Pending, Votes, Delivers, Opens, Publishes, Seats, Seat, TheMaster, game_at, own_of, seat_at, whole_of}
-use Rattle.dip_machine.specs.Ticking.{IsPlayable, orders_of, public_played}
+use Rattle.dip_machine.specs.Ticking.{IsPlayable, is_over, orders_of, public_played}
 use Rattle.dip_machine.proofs.LawfulOrders.{AreRead, all_with_order, with_order_ascending}
 use Rattle.dip_machine.proofs.LawfulStates.{OpensLawful, StaysOf, master_lawful}
 use Rattle.dip_machine.proofs.Suiting.{ByTick, Comes, decides_suits, master_by_tick, seat_holds}
@@ -114,10 +114,14 @@ VerdictFits m (Taken text e) = FitsMap m e
 
 command_fits : (m : Chart) (p : Public) (o : Own) (command : Request) → IsMap m → IsOf m p.board → AreRead m p.board → VerdictFits m (seat_command m command p o)
 command_fits m p o (Create due period grey seats) ok of read = tt
-command_fits m p o (Orders lines) ok of read =
-    kept_fit m (outcome_of_lines m p.board o.power o.pending lines).orders
-    (lines_fit m p.board o.power 1 lines (record { orders = orders_that_stand m p.board o.power o.pending; answers = [] }) ok of read
-    (standing_fit m p.board o.power [] o.pending ok of read (record { ascending = tt; low = tt })))
+command_fits m p o (Orders lines) ok of read = go (is_over p.status)
+  where
+    go : (over : Bool) → VerdictFits m (unless_over over (orders_verdict m (outcome_of_lines m p.board o.power o.pending lines)))
+    go true = tt
+    go false =
+        kept_fit m (outcome_of_lines m p.board o.power o.pending lines).orders
+        (lines_fit m p.board o.power 1 lines (record { orders = orders_that_stand m p.board o.power o.pending; answers = [] }) ok of read
+        (standing_fit m p.board o.power [] o.pending ok of read (record { ascending = tt; low = tt })))
 command_fits m p o Show ok of read = tt
 command_fits m p o (Tick tick) ok of read = tt
 

@@ -15,10 +15,10 @@ use Rattle.dip_reports.specs.Texts.{refusal_line}
 use Rattle.dip_reports.specs.declared.refusals.Refusal.TheVariants.{Malformed, NumberUsed, Stale}
 use Rattle.dip_machine.specs.Keyed.{at, change_at}
 use Rattle.dip_machine.specs.Lawful.{AreNamedApart, AreStanding, IsLawful, IsLawfulGame, IsLawfulSeat, IsNeverDamaged, StaysLawful, last_number, sent_by_others}
-use Rattle.dip_machine.specs.Machine.{Decides, change_of, IsForeignTo, IsNotForMaster, IsOffMap, IsPublished, IsUnplayable, TicksIn, Verdict, MasterDecides, NumberedBy, NotKnown, Again, OutOfTurn, Taken, after, are_complete, author, creation, digest, kept_of, new_seats, old_number, open_game, with_more, opening_public, refusal_verdict, seat_command, seat_verdict, seen_in, verdict_by, verdict_on}
+use Rattle.dip_machine.specs.Machine.{Decides, change_of, IsForeignTo, IsNotForMaster, IsOffMap, IsPublished, IsUnplayable, TicksIn, Verdict, MasterDecides, NumberedBy, NotKnown, Again, OutOfTurn, Taken, after, are_complete, author, creation, digest, kept_of, new_seats, old_number, open_game, with_more, opening_public, refusal_verdict, orders_verdict, seat_command, seat_verdict, seen_in, unless_over, verdict_by, verdict_on}
 use Rattle.dip_machine.specs.Mail.{IsMail, Mail}
 use Rattle.dip_machine.specs.State.{State, Game, Part, Author, Nobody, TheMaster, Seat, Change, Effect, Nothing, Pending, Votes, Delivers, Opens, Publishes, Seats, NewSeat, behind_paper, desk_after, fresh, game_after, game_at, name_of, new_games, opening_game, own_of, papers_after, power_in, public_after, seat_at, whole_of, with_author, with_effect, with_letter}
-use Rattle.dip_machine.specs.Ordering.{has_foreign}
+use Rattle.dip_machine.specs.Ordering.{has_foreign, outcome_of_lines}
 use Rattle.dip_machine.specs.Ticking.{IsPlayable, is_due, is_over, orders_of, public_played}
 use Rattle.dip_orders.specs.Given.{AreGiven}
 use Rattle.dip_orders.specs.declared.placed.PlacedOrder.{PlacedOrder}
@@ -115,7 +115,11 @@ letter_lawful m b k p (Some g) (Seats seat) s comes few l fits = absurd comes
 
 command_fits : (m : Chart) (p : Public) (o : Own) (command : Request) → AreRead m p.board → AreStanding m p.board o.power o.pending → VerdictFits m p.board o.power (seat_command m command p o)
 command_fits m p o (Create due period grey seats) again l = tt
-command_fits m p o (Orders lines) again l = ordered_standing m p.board o.power o.pending lines again l
+command_fits m p o (Orders lines) again l = go (is_over p.status)
+  where
+    go : (over : Bool) → VerdictFits m p.board o.power (unless_over over (orders_verdict m (outcome_of_lines m p.board o.power o.pending lines)))
+    go true = tt
+    go false = ordered_standing m p.board o.power o.pending lines again l
 command_fits m p o Show again l = tt
 command_fits m p o (Tick tick) again l = tt
 

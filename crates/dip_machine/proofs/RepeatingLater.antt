@@ -7,8 +7,10 @@ use Rattle.dip_chart.specs.Charts.{Chart, power_of}
 use Rattle.dip_records.specs.Records.{Kept, Own, Public}
 use Rattle.std.specs.Option.{option_or}
 use Rattle.dip_machine.specs.Keyed.{at}
-use Rattle.dip_machine.specs.Machine.{Decides, MasterDecides, TicksIn, change_of, NumberedBy, SeatName, Seen, Verdict, NotKnown, Again, OutOfTurn, Taken, after, author, creation, digest, master_author, new_seats, old_number, opening_public, power_author, reply_of, seat_author, seat_command, seen_by, seen_in, verdict_by, verdict_on}
+use Rattle.dip_machine.specs.Machine.{Decides, MasterDecides, TicksIn, change_of, NumberedBy, SeatName, Seen, Verdict, NotKnown, Again, OutOfTurn, Taken, after, author, creation, digest, master_author, new_seats, old_number, opening_public, power_author, reply_of, orders_verdict, seat_author, seat_command, seen_by, seen_in, unless_over, verdict_by, verdict_on}
 use Rattle.dip_machine.specs.Mail.{Mail}
+use Rattle.dip_machine.specs.Ordering.{outcome_of_lines}
+use Rattle.dip_machine.specs.Ticking.{is_over}
 use Rattle.dip_machine.specs.Repeats.{ActsOnceLater, AreOthers, has_author}
 use Rattle.dip_machine.specs.State.{State, Game, Author, Nobody, TheMaster, Seat, Effect, Nothing, Pending, Votes, Delivers, Opens, Publishes, Seats, NewSeat, Part, behind_paper, game_after, game_at, name_of, new_games, own_at, own_of, seat_at}
 use Rattle.dip_machine.specs.View.{Event, IsRun, Published, Suits, Turn, absorb_all, author_in, effect_events, events_for, left_by, verdict_events, writes}
@@ -209,7 +211,11 @@ untaken_by n (Some o) = old_number n o.kept
 
 command_taken : (m : Chart) (command : Request) (p : Public) (o : Own) → IsUntaken (seat_command m command p o) → ⊥
 command_taken m (Create due period grey seats) p o h = h
-command_taken m (Orders lines) p o h = h
+command_taken m (Orders lines) p o h = go (is_over p.status) h
+  where
+    go : (over : Bool) → IsUntaken (unless_over over (orders_verdict m (outcome_of_lines m p.board o.power o.pending lines))) → ⊥
+    go true h = h
+    go false h = h
 command_taken m Show p o h = h
 command_taken m (Tick tick) p o h = h
 

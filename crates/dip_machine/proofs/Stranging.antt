@@ -6,9 +6,10 @@ use Rattle.dip_letters.specs.Notes.Request.{Create, Orders, Show, Tick}
 use Rattle.dip_chart.specs.Charts.{Chart, power_of}
 use Rattle.dip_records.specs.Records.{Head, Kept, Own, Public, Reply}
 use Rattle.dip_reports.specs.declared.refusals.Refusal.TheVariants.{Malformed}
-use Rattle.dip_machine.specs.Machine.{Decides, IsNotForMaster, MasterDecides, TicksIn, NotKnown, Again, OutOfTurn, Taken, Verdict, are_complete, author, creation, digest, head_of, master_author, new_seats, open_game, opening_public, power_author, refusal_verdict, reply_of, seat_author, seat_command, seen_in, verdict_by, verdict_on}
+use Rattle.dip_machine.specs.Machine.{Decides, IsNotForMaster, MasterDecides, TicksIn, NotKnown, Again, OutOfTurn, Taken, Verdict, are_complete, author, creation, digest, head_of, master_author, new_seats, open_game, opening_public, power_author, refusal_verdict, reply_of, seat_author, orders_verdict, seat_command, seen_in, unless_over, verdict_by, verdict_on}
 use Rattle.dip_machine.specs.Mail.{Mail}
 use Rattle.dip_machine.specs.State.{Author, Game, NewSeat, Nobody, Seat, State, TheMaster, game_at, own_of, seat_at, whole_of}
+use Rattle.dip_machine.specs.Ordering.{outcome_of_lines}
 use Rattle.dip_machine.specs.Ticking.{is_due, is_over}
 use Rattle.dip_machine.specs.Strangers.{IsNobodys, IsToNobodyExactly, is_create}
 use Rattle.dip_machine.proofs.Suiting.{numbered_holds, seat_holds, ticks_hold}
@@ -37,7 +38,11 @@ created_known m p (Some seats) game = go (are_complete m seats) game
 
 command_known : (m : Chart) (command : Request) (p : Public) (o : Own) → IsKnown (seat_command m command p o)
 command_known m (Create due period grey seats) p o = tt
-command_known m (Orders lines) p o = tt
+command_known m (Orders lines) p o = go (is_over p.status)
+  where
+    go : (over : Bool) → IsKnown (unless_over over (orders_verdict m (outcome_of_lines m p.board o.power o.pending lines)))
+    go true = tt
+    go false = tt
 command_known m Show p o = tt
 command_known m (Tick tick) p o = tt
 

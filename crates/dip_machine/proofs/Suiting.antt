@@ -5,7 +5,8 @@ use Rattle.dip_letters.specs.Notes.Request.{Create, Orders, Show, Tick}
 use Rattle.dip_chart.specs.Charts.{Chart}
 use Rattle.dip_machine.specs.Mail.{Mail}
 use Rattle.dip_machine.specs.State.{State, Game, Author, Nobody, TheMaster, Seat, Effect, Nothing, Pending, Votes, Delivers, Opens, Publishes, Seats, NewSeat, game_at, own_of, seat_at, whole_of}
-use Rattle.dip_machine.specs.Machine.{Decides, IsNotForMaster, IsPublished, MasterDecides, NumberedBy, Ticks, TicksIn, Verdict, NotKnown, Again, OutOfTurn, Taken, are_complete, creation, new_seats, old_number, open_game, opening_public, refusal_verdict, seat_command, seen_in, verdict_by, verdict_on}
+use Rattle.dip_machine.specs.Machine.{Decides, IsNotForMaster, IsPublished, MasterDecides, NumberedBy, Ticks, TicksIn, Verdict, NotKnown, Again, OutOfTurn, Taken, are_complete, creation, new_seats, old_number, open_game, opening_public, refusal_verdict, orders_verdict, seat_command, seen_in, unless_over, verdict_by, verdict_on}
+use Rattle.dip_machine.specs.Ordering.{outcome_of_lines}
 use Rattle.dip_machine.specs.Ticking.{is_due, is_over}
 use Rattle.dip_machine.specs.View.{Suits, effect_events}
 use Rattle.dip_records.specs.Records.{Public, Own, Kept, Whole}
@@ -74,7 +75,11 @@ ticks_hold P m tick w false true v ended early played h = played h
 
 command_suits : (m : Chart) (name : List ℕ) (p : ℕ) (g : Game) (command : Request) (o : Own) → VerdictSuits name (Seat p) (Some g) (seat_command m command g.public o)
 command_suits m name p g (Create due period grey seats) o = (tt, tt)
-command_suits m name p g (Orders lines) o = (tt, tt)
+command_suits m name p g (Orders lines) o = go (is_over g.public.status)
+  where
+    go : (over : Bool) → VerdictSuits name (Seat p) (Some g) (unless_over over (orders_verdict m (outcome_of_lines m g.public.board o.power o.pending lines)))
+    go true = (tt, tt)
+    go false = (tt, tt)
 command_suits m name p g Show o = (tt, tt)
 command_suits m name p g (Tick tick) o = (tt, tt)
 

@@ -100,10 +100,16 @@ seen_by seat s = seen_in seat.power (game_at seat.game s)
 abbrev pub orders_verdict : Chart → Ordered → Verdict
 orders_verdict m d = Taken d.answers (Pending (kept_orders m d.orders))
 
+-- a command that needs a game that goes on
+abbrev pub unless_over : Bool → Verdict → Verdict
+unless_over true v = refusal_verdict GameOver
+unless_over false v = v
+
 -- what a seat's command comes to, by what the seat sees alone
 abbrev pub seat_command : Chart → Request → Public → Own → Verdict
 seat_command m (Create due period grey seats) p o = refusal_verdict WrongSender
-seat_command m (Orders lines) p o = orders_verdict m (outcome_of_lines m p.board o.power o.pending lines)
+seat_command m (Orders lines) p o =
+    unless_over (is_over p.status) (orders_verdict m (outcome_of_lines m p.board o.power o.pending lines))
 seat_command m Show p o = Taken (show_text m p o) Nothing
 seat_command m (Tick tick) p o = refusal_verdict WrongSender
 

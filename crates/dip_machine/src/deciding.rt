@@ -1,5 +1,6 @@
 //! What is decided of a letter, by what its author sees alone.
 ghost use Rattle.std.specs.Prelude.{◌≡◌, Option, Some, IfOk, IsErrOf, is_some, option_map, true};
+ghost use Rattle.dip_letters.specs.Notes.Request.{Orders};
 ghost use Rattle.dip_letters.specs.Views.{lines_in, request};
 ghost use Rattle.dip_machine.specs.Faults.{faults_after};
 ghost use Rattle.dip_machine.specs.Mail.{mail};
@@ -16,7 +17,7 @@ use crate::creating::create_verdict;
 use crate::faults::KeepFault;
 use crate::ordering::{Ordered, kept_orders, standing_orders, take_lines};
 use crate::sights::Sight;
-use crate::ticking::tick_verdict;
+use crate::ticking::{is_over, tick_verdict};
 use crate::verdicts::{Verdict, old_number, refusal_verdict};
 use dip_board::Board;
 use dip_letters::{Command, Letter, Lines};
@@ -53,6 +54,28 @@ fn orders_verdict(
     Ok(Verdict::Taken(answers, Effect::Pending(pending)))
 }
 
+/// What ORDERS comes to in a game: nothing is ordered in one that is over.
+fn orders_in_game(
+    alloc: Global,
+    map: &Map,
+    public: &Public,
+    own: &Own,
+    lines: Lines<'_>,
+) -> Result<Verdict, KeepFault>
+    ensures value { IfOk result
+        (λ v. verdict v ≡ m.seat_command map.now (Orders (lines_in lines.entry))
+        (rows.public public.now) (rows.own own.now)) }
+    ensures disk { faults_after result 0 ≡ 0 }
+    ensures sane { IsErrOf result KeepFault.Damaged
+        → has_foreign map.now public.now.board own.now.power
+        (rows.standings own.now.pending.items) ≡ true }
+{
+    if is_over(&public.status) {
+        return Ok(refusal_verdict(alloc, Refusal::GameOver)?);
+    }
+    orders_verdict(alloc, map, &public.board, own, lines)
+}
+
 /// What a seat's command comes to, by the public part and its own part alone.
 fn command_verdict(
     alloc: Global,
@@ -71,7 +94,7 @@ fn command_verdict(
 {
     match command {
         Command::Create(_) => Ok(refusal_verdict(alloc, Refusal::WrongSender)?),
-        Command::Orders(lines) => orders_verdict(alloc, map, &public.board, own, *lines),
+        Command::Orders(lines) => orders_in_game(alloc, map, public, own, *lines),
         Command::Show => Ok(Verdict::Taken(show_text(alloc, map, public, own)?, Effect::Nothing)),
         Command::Tick(_) => Ok(refusal_verdict(alloc, Refusal::WrongSender)?),
     }

@@ -43,8 +43,8 @@ fn orders_of_seats(
     Ok(orders)
 }
 
-/// Whether a game is over.
-fn is_over(status: &Status) -> bool
+/// Whether a game is over: nothing is adjudicated any more, and no orders are taken.
+pub fn is_over(status: &Status) -> bool
     ensures { result ≡ t.is_over (rows.status status.now) }
 {
     match status {

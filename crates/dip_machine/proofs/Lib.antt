@@ -14,5 +14,6 @@ pub mod LawfulStates
 pub mod Fitting
 pub mod Histories
 pub mod Publishing
+pub mod Once
 pub mod Repeating
 pub mod RepeatingLater

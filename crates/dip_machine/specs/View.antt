@@ -188,3 +188,12 @@ turns_for m seat ts = filter (λ t. is_shown (events_in m seat t)) ts
 -- histories that differ only in turns that show the seat nothing have one view
 abbrev pub AreAlike : Chart → Type 0
 AreAlike m = (seat : SeatName) (ts us : List Turn) → turns_for m seat ts ≡ turns_for m seat us → view m seat ts ≡ view m seat us
+
+-- a letter is decided in one way: a tick too, whoever adjudicates
+abbrev pub IsDecidedOnce : Chart → Type 0
+IsDecidedOnce m = (s : State) (n : Mail) (who : Author) (v w : Verdict) → Decides m s n who v → Decides m s n who w → v ≡ w
+
+-- so letters have one history from a state on: all their replies, all papers and what is left are the same
+abbrev pub HistoriesAreOne : Chart → Type 0
+HistoriesAreOne m = (old new last : State) (ts us : List Turn) → IsRun m old ts new → IsRun m old us last
+    → map (λ t. t.letter) ts ≡ map (λ u. u.letter) us → (ts ≡ us) × (new ≡ last)

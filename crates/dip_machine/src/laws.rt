@@ -8,13 +8,13 @@ ghost use Rattle.dip_machine.specs.Published.{MovementsAreDecided};
 ghost use Rattle.dip_machine.specs.Repeats.{ActsOnce, ActsOnceLater};
 ghost use Rattle.dip_machine.specs.State.{State};
 ghost use Rattle.dip_machine.specs.Strangers.{IsToNobodyExactly};
-ghost use Rattle.dip_machine.specs.View.{AreAlike, AreEffectsShown, IsAnsweredFromSeen, IsRun, IsSettledByView, IsShownByOthers, IsUnseenByOthers, Turn};
+ghost use Rattle.dip_machine.specs.View.{AreAlike, AreEffectsShown, HistoriesAreOne, IsAnsweredFromSeen, IsDecidedOnce, IsRun, IsSettledByView, IsShownByOthers, IsUnseenByOthers, Turn};
 
 use dip_board::openings_are_of_their_map;
 use dip_decide::explained_is_lawful;
 use dip_map::Map;
 use dip_orders::{lawful_orders_are_read, orders_are_lawful, orders_are_read_again};
-use dip_turn::boards_stay_of_their_map;
+use dip_turn::{boards_stay_of_their_map, phases_have_one_result};
 
 /// A letter of a seat gets one reply in all states that the seat sees alike, and leaves them alike for it.
 pub fn answered_from_what_is_seen()
@@ -27,6 +27,15 @@ pub fn settled_by_view()
     ensures { (m : Chart) (old new : State) (turns : List Turn) → IsRun m old turns new
         → IsSettledByView m old turns new }
 {}
+
+/// A letter is decided in one way, a tick too, and so letters have one history from a state on: whoever judges, all replies and all papers
+/// are the same.
+pub fn histories_are_one()
+    ensures once { (m : Chart) → IsDecidedOnce m }
+    ensures one { (m : Chart) → HistoriesAreOne m }
+{
+    phases_have_one_result();
+}
 
 /// Each movement that is published in a history satisfies the decision equations for the orders that stood at its tick: its paper prints
 /// the outcomes of values that satisfy them and are explained, and the board behind it is the one that these values leave.

@@ -15,9 +15,9 @@ pub use changes::{Author, Change, Desk, Effect, NewSeat};
 pub use deciding::verdict_on;
 pub use faults::KeepFault;
 pub use laws::{
-    answered_from_what_is_seen, effects_are_shown, effects_fit, lawful_states_stay_lawful,
-    letters_act_once, published_movements_are_decided, replies_to_nobody, settled_by_view,
-    shown_by_others, standing_orders_are_given,
+    answered_from_what_is_seen, effects_are_shown, effects_fit, histories_are_one,
+    lawful_states_stay_lawful, letters_act_once, published_movements_are_decided,
+    replies_to_nobody, settled_by_view, shown_by_others, standing_orders_are_given,
 };
 pub use sights::{Sight, author_of, digest_of};
 pub use verdicts::Verdict;

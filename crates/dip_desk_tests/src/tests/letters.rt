@@ -1,4 +1,7 @@
 //! Exchanges of letters and replies.
+ghost use Rattle.std.specs.Prelude.{IfSome};
+ghost use Rattle.dip_machine.specs.Mail.{IsMail, mail};
+
 use dip_desk::{Keeper, MemoryKeeper, fault_reply, run, take};
 use dip_letters::{Letter, LetterFault, Next, digest, next_letter, sum};
 use dip_map::{Map, STANDARD};
@@ -53,8 +56,20 @@ russia 4/4: A mos, F sev, F stp/sc, A war | mos sev stp war
 turkey 3/3: F ank, A con, A smy | ank con smy
 ";
 
-pub(crate) fn letter<'a>(rt: &impl Abort, text: &'a str) -> Letter<'a> {
-    let Next::Taken(letter, _) = next_letter(text.as_bytes()) else {
+/// The letter at the front of an input, and the rest; none where no letter is there.
+fn next_taken(input: &[u8]) -> Option<(Letter<'_>, &[u8])>
+    ensures { IfSome result (λ p. IsMail (mail p.0)) }
+{
+    match next_letter(input) {
+        Next::Taken(letter, rest) => Some((letter, rest)),
+        Next::Fault(_, _) | Next::End => None,
+    }
+}
+
+pub(crate) fn letter<'a>(rt: &impl Abort, text: &'a str) -> Letter<'a>
+    ensures { IsMail (mail result) }
+{
+    let Some((letter, _)) = next_taken(text.as_bytes()) else {
         panic!(rt; "no letter");
     };
     letter
@@ -103,17 +118,20 @@ fn replies_of(alloc: Global, exchange: &str) -> Result<String, AllocError> {
     Ok(replies)
 }
 
-/// The replies to letters, from an empty desk.
-fn told(alloc: Global, letters: &str) -> Result<String, Fail> {
-    let map = Map::from_toml(alloc, STANDARD)?;
-    let mut keeper = desk(alloc);
+/// The replies to letters.
+fn told(
+    alloc: Global,
+    keeper: &mut MemoryKeeper,
+    map: &Map,
+    letters: &str,
+) -> Result<String, Fail> {
     let mut told = String::new(alloc);
     let mut rest = letters.as_bytes();
     for _ in 0..100 {
-        let Next::Taken(letter, behind) = next_letter(rest) else {
+        let Some((letter, behind)) = next_taken(rest) else {
             break;
         };
-        let reply = take(alloc, &mut keeper, &map, &letter)?;
+        let reply = take(alloc, keeper, map, &letter)?;
         let text = reply_text(alloc, &reply)?;
         told.push_str(text.as_str())?;
         rest = behind;
@@ -121,13 +139,26 @@ fn told(alloc: Global, letters: &str) -> Result<String, Fail> {
     Ok(told)
 }
 
-/// Asserts that the letters of an exchange get its replies.
-fn assert_exchange(rt: &impl Abort, alloc: Global, exchange: &str) -> Result<(), Fail> {
+/// Asserts that the letters of an exchange get its replies at a desk.
+pub(crate) fn assert_exchange_at(
+    rt: &impl Abort,
+    alloc: Global,
+    keeper: &mut MemoryKeeper,
+    map: &Map,
+    exchange: &str,
+) -> Result<(), Fail> {
     let letters = letters_of(alloc, exchange)?;
     let replies = replies_of(alloc, exchange)?;
-    let told = told(alloc, letters.as_str())?;
+    let told = told(alloc, keeper, map, letters.as_str())?;
     assert_eq!(rt; told.as_str(), replies.as_str());
     Ok(())
+}
+
+/// Asserts that the letters of an exchange get its replies at an empty desk.
+fn assert_exchange(rt: &impl Abort, alloc: Global, exchange: &str) -> Result<(), Fail> {
+    let map = Map::from_toml(alloc, STANDARD)?;
+    let mut keeper = desk(alloc);
+    assert_exchange_at(rt, alloc, &mut keeper, &map, exchange)
 }
 
 /// The first exchange.

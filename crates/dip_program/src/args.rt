@@ -155,6 +155,3 @@ impl From<AllocError> for UsageFault {
         UsageFault::Memory
     }
 }
-
-#[cfg(test)]
-mod tests;

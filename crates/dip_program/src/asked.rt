@@ -58,6 +58,3 @@ pub fn do_as_asked<F: Files, R: Read, W: Write>(
         }
     }
 }
-
-#[cfg(test)]
-mod tests;

@@ -125,6 +125,3 @@ impl From<io::Error> for Failure {
         }
     }
 }
-
-#[cfg(test)]
-mod tests;

@@ -12,7 +12,7 @@ mod run;
 pub use args::{Args, UsageFault, read_args};
 pub use asked::do_as_asked;
 pub use failures::{Failure, status_of};
-pub use map_file::{FileFault, MOST_MAP, read_map};
+pub use map_file::{FileFault, MOST_MAP, read_map, read_text};
 pub use program::run_program;
 pub use reading::ReadFault;
 pub use run::{MOST_INPUT, RunFault, run_file};

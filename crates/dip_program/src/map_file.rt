@@ -61,7 +61,7 @@ fn text_of(bytes: Vec<u8>) -> Result<String, FileFault>
 }
 
 /// The text that is all that the reader has, at most `MOST_MAP` bytes of UTF-8.
-fn read_text<R: Read>(alloc: Global, reader: &mut R) -> Result<String, FileFault>
+pub fn read_text<R: Read>(alloc: Global, reader: &mut R) -> Result<String, FileFault>
     ensures text { IfOk result
         (λ t. IsFileText (R.remaining reader.old) (R.remaining reader.new) (string_bytes t)) }
     ensures fault { IfErr result (IsFileFault (R.remaining reader.old) (R.remaining reader.new)) }
@@ -98,6 +98,3 @@ pub fn read_map<R: Files>(rt: &R, alloc: Global, path: Option<&str>) -> Result<M
     let text = read_file(rt, alloc, path)?;
     Ok(Map::from_toml(alloc, text.as_str())?)
 }
-
-#[cfg(test)]
-mod tests;

@@ -258,6 +258,3 @@ pub fn run_file<R: Read, W: Write, K: Keeper>(
     let input = read_input(alloc, reader)?;
     answer_all(alloc, input.as_slice(), writer, keeper, map)
 }
-
-#[cfg(test)]
-mod tests;

@@ -1,11 +1,7 @@
 //! What the program tells whoever started it.
-use super::Failure;
-use crate::args::{UsageFault, read_args};
-use crate::map_file::FileFault;
-use crate::reading::ReadFault;
-use crate::run::RunFault;
 use dip_machine::KeepFault;
 use dip_names::MapFault;
+use dip_program::{Failure, FileFault, ReadFault, RunFault, UsageFault, read_args};
 use std::alloc::{AllocError, Global};
 use std::process::Abort;
 use std::test::Fail;

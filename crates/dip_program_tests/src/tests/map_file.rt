@@ -1,7 +1,5 @@
 //! Maps' files, in memory and of the system.
-use super::{FileFault, MOST_MAP, read_map, read_text};
-use crate::failures::Failure;
-use crate::reading::ReadFault;
+use dip_program::{Failure, FileFault, MOST_MAP, ReadFault, read_map, read_text};
 use std::alloc::Global;
 use std::io::Read;
 use std::rt::Files;

@@ -1,6 +1,5 @@
 //! Words, and what is done for them.
-use super::do_as_asked;
-use crate::failures::{Failure, status_of};
+use dip_program::{Failure, do_as_asked, status_of};
 use std::alloc::{AllocError, Global};
 use std::fs;
 use std::rt::Files;

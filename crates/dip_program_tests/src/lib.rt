@@ -1,0 +1,5 @@
+//! Tests of the program: its words, the map's file, whole inputs, and what is told of a failure.
+#![tactic(auto)]
+
+#[cfg(test)]
+mod tests;

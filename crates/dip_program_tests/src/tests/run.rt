@@ -296,6 +296,37 @@ fn what_others_order_is_not_shown(rt: HostRuntime) -> Result<(), Fail> {
     )
 }
 
+/// What SHOW gives behind a phase in which all units held.
+const SHOWN_BEHIND: &str =
+    "GAME g1 F1901M running DUE 200 PERIOD 100 GREY YES PAPERS 2\naustria 3/3: A bud, F tri, A vie | bud tri vie\nengland 3/3: F edi, F lon, A lvp | edi lon lvp\nfrance 3/3: F bre, A mar, A par | bre mar par\ngermany 3/3: A ber, F kie, A mun | ber kie mun\nitaly 3/3: F nap, A rom, A ven | nap rom ven\nrussia 4/4: A mos, F sev, F stp/sc, A war | mos sev stp war\nturkey 3/3: F ank, A con, A smy | ank con smy\nVOTE NO\nSENT 0 INBOX 0\n";
+
+#[test]
+fn a_tick_plays_a_phase(rt: HostRuntime) -> Result<(), Fail> {
+    let alloc = rt.alloc();
+    let map = standard(alloc)?;
+    let early = of_power(alloc, "master", "master-key", "2", "TICK 99\n")?;
+    let tick = of_power(alloc, "master", "master-key", "3", "TICK 100\n")?;
+    let show = of_england(alloc, "2", "SHOW\n")?;
+    let (early, tick, show) = (early.as_str(), tick.as_str(), show.as_str());
+    let played = "REPLY g1 master 3\nOK paper 2\nEND\n";
+    assert_answers(
+        &rt,
+        alloc,
+        &map,
+        &[CREATE, HOLD, early, tick, tick, show],
+        &[
+            CREATED,
+            HELD,
+            "REPLY g1 master 2\nL10 tick not due\nEND\n",
+            played,
+            played,
+            "REPLY g1 england 2\n",
+            SHOWN_BEHIND,
+            "END\n",
+        ],
+    )
+}
+
 /// The reply to the letter with the greatest number.
 const TAKEN: &str = "REPLY g1 england 999999999\nOK F lon H\nEND\n";
 

@@ -22,6 +22,7 @@ use dip_map::Map;
 use dip_records::{Head, Kept, Outcome, Reply};
 use dip_reports::{Refusal, refusal_line};
 use std::alloc::{AllocError, Global};
+use std::rc::Rc;
 
 /// Whose letter the reply answers.
 fn head_of(alloc: Global, letter: &Letter<'_>) -> Result<Head, AllocError>
@@ -43,7 +44,7 @@ fn not_known(alloc: Global) -> Result<Reply, AllocError>
     Ok(Reply {
         outcome: Outcome::Unknown,
         head: None,
-        text: refusal_line(alloc, Refusal::Unknown)?,
+        text: Rc::new(alloc, refusal_line(alloc, Refusal::Unknown)?)?,
     })
 }
 
@@ -52,13 +53,13 @@ fn reply_with(
     alloc: Global,
     letter: &Letter<'_>,
     outcome: Outcome,
-    text: String,
+    text: Rc<String>,
 ) -> Result<Reply, AllocError>
     ensures { IfOk result
         (λ r. rows.reply r ≡ record {
           outcome = outcome;
           head = Some (m.head_of (mail letter.now));
-          text = string_bytes text;
+          text = string_bytes text.value;
         }) }
 {
     Ok(Reply {
@@ -91,14 +92,14 @@ fn change_of(
         kept: Kept {
             number: letter.number,
             sum: sum(letter.bytes),
-            reply: text,
+            reply: Rc::new(alloc, text)?,
         },
         effect,
     })
 }
 
 /// The lines that are kept of a letter.
-fn lines_kept(change: Change) -> String
+fn lines_kept(change: Change) -> Rc<String>
     ensures { result ≡ change.kept.reply }
 {
     change.kept.reply
@@ -121,7 +122,10 @@ fn settle<K: Keeper>(
     match decided {
         Verdict::NotKnown => Ok(not_known(alloc)?),
         Verdict::Again(text) => Ok(reply_with(alloc, letter, Outcome::Done, text)?),
-        Verdict::OutOfTurn(text) => Ok(reply_with(alloc, letter, Outcome::OutOfTurn, text)?),
+        Verdict::OutOfTurn(text) => {
+            let text = Rc::new(alloc, text)?;
+            Ok(reply_with(alloc, letter, Outcome::OutOfTurn, text)?)
+        }
         Verdict::Taken(text, effect) => {
             let head = Some(head_of(alloc, letter)?);
             let change = change_of(alloc, letter, author, text, effect)?;
@@ -199,6 +203,6 @@ pub fn fault_reply(alloc: Global, fault: LetterFault) -> Result<Reply, AllocErro
     Ok(Reply {
         outcome: Outcome::Unknown,
         head: None,
-        text: refusal_line(alloc, refusal)?,
+        text: Rc::new(alloc, refusal_line(alloc, refusal)?)?,
     })
 }

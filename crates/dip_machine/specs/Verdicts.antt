@@ -7,6 +7,6 @@ use Rattle.dip_machine.specs.declared.verdicts.Verdict.TheVariants.{NotKnown, Ag
 
 abbrev pub verdict : Verdict → m.Verdict
 verdict NotKnown = m.NotKnown
-verdict (Again text) = m.Again (string_bytes text)
+verdict (Again text) = m.Again (string_bytes text.value)
 verdict (OutOfTurn text) = m.OutOfTurn (string_bytes text)
 verdict (Taken text effect) = m.Taken (string_bytes text) (desk_rows.effect effect)

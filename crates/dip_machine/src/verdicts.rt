@@ -10,14 +10,15 @@ use dip_letters::{Letter, sum};
 use dip_records::Kept;
 use dip_reports::{Refusal, refusal_line};
 use std::alloc::{AllocError, Global};
+use std::rc::Rc;
 
 /// What is decided of a letter.
 #[derive(Drop)]
 pub enum Verdict {
     /// Its game, sender or secret isn't known.
     NotKnown,
-    /// It is its author's last letter again: it gets these lines again.
-    Again(String),
+    /// It is its author's last letter again: it gets these lines again, which are kept.
+    Again(Rc<String>),
     /// Its number is an old one: it is refused by this line, and nothing is kept of it.
     OutOfTurn(String),
     /// It gets these lines, has this effect, and is kept.

@@ -7,6 +7,7 @@ use dip_names::Power;
 use dip_records::{Item, Kept, Own, Public};
 use std::alloc::{AllocError, Global};
 use std::process::Abort;
+use std::rc::Rc;
 use std::test::Fail;
 
 fn power(rt: &impl Abort, map: &Map, name: &str) -> Power {
@@ -55,7 +56,7 @@ fn second(alloc: Global, author: Author, effect: Effect) -> Result<Change, Alloc
         kept: Kept {
             number: 2,
             sum: [7; 32],
-            reply: String::from_str(alloc, "done\n")?,
+            reply: Rc::new(alloc, String::from_str(alloc, "done\n")?)?,
         },
         effect,
     })

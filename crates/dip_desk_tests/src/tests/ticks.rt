@@ -6,6 +6,7 @@ use dip_map::{Map, STANDARD};
 use dip_records::{Kept, Public, Status};
 use std::alloc::{AllocError, Global};
 use std::process::Abort;
+use std::rc::Rc;
 use std::test::Fail;
 
 /// The lines of an opening in which nobody has ordered.
@@ -827,7 +828,7 @@ fn stopped(alloc: Global, public: Public, status: Status) -> Result<Change, Allo
         kept: Kept {
             number: 2,
             sum: [7; 32],
-            reply: String::from_str(alloc, "done\n")?,
+            reply: Rc::new(alloc, String::from_str(alloc, "done\n")?)?,
         },
         effect: Effect::Publishes {
             public,

@@ -226,3 +226,53 @@ fn a_game_is_won_behind_the_retreats_of_fall(rt: HostRuntime) -> Result<(), Fail
     check_phase(&rt, alloc, &mut keeper, &map, RETREATS, 4, RETREATS_PAPER)?;
     check_phase(&rt, alloc, &mut keeper, &map, OVER, 4, RETREATS_PAPER)
 }
+
+/// A power's orders are refused, and its show is not.
+const ORDERED: &str = "LETTER
+GAME g1
+FROM west
+SECRET wwwwwwww
+NUMBER 2
+ORDERS
+A ard H
+END
+> REPLY g1 west 2
+> L8 game over
+> END
+LETTER
+GAME g1
+FROM west
+SECRET wwwwwwww
+NUMBER 3
+ORDERS
+F bay D
+END
+> REPLY g1 west 3
+> L8 game over
+> END
+LETTER
+GAME g1
+FROM west
+SECRET wwwwwwww
+NUMBER 4
+SHOW
+END
+> REPLY g1 west 4
+> GAME g1 F1901R won by west DUE 20 PERIOD 5 GREY NO PAPERS 4
+> east 0/1: F sea | -
+> west 3/2: A ard, F bay/sc | ard bay cay
+> VOTE NO
+> SENT 0 INBOX 0
+> END
+";
+
+#[test]
+fn a_game_that_is_won_takes_no_orders(rt: HostRuntime) -> Result<(), Fail> {
+    let alloc = rt.alloc();
+    let map = Map::from_toml(alloc, SMALL)?;
+    let mut keeper = desk(alloc);
+    check_phase(&rt, alloc, &mut keeper, &map, SPRING, 2, SPRING_PAPER)?;
+    check_phase(&rt, alloc, &mut keeper, &map, FALL, 3, FALL_PAPER)?;
+    check_phase(&rt, alloc, &mut keeper, &map, RETREATS, 4, RETREATS_PAPER)?;
+    assert_exchange_at(&rt, alloc, &mut keeper, &map, ORDERED)
+}

@@ -7,6 +7,7 @@ use dip_records::Whole;
 use dip_reports::opening_paper_text;
 use std::alloc::Global;
 use std::process::Abort;
+use std::rc::Rc;
 use std::test::Fail;
 
 /// A game whose seats stand in another order than the powers of the map.
@@ -90,5 +91,24 @@ fn a_paper_is_read_by_its_number(rt: HostRuntime) -> Result<(), Fail> {
     let opening = opening_paper_text(alloc, &map, &public)?;
     let paper = keeper.paper(&map, "g1", 1)?.ok_or("no paper")?;
     assert_eq!(rt; paper.as_str(), opening.as_str());
+    Ok(())
+}
+
+/// The lines that are kept of the master's last letter.
+fn kept_lines(keeper: &mut MemoryKeeper) -> Result<Rc<String>, Fail> {
+    let kept = keeper.desk()?.kept.ok_or("nothing kept")?;
+    Ok(kept.reply)
+}
+
+/// Whoever reads what is kept of a letter, and whoever sends it again, has the very lines that are kept.
+#[test]
+fn a_kept_reply_is_shared(rt: HostRuntime) -> Result<(), Fail> {
+    let alloc = rt.alloc();
+    let map = Map::from_toml(alloc, STANDARD)?;
+    let mut keeper = opened(&rt, alloc, &map)?;
+    let kept = kept_lines(&mut keeper)?;
+    assert!(rt; Rc::ptr_eq(&kept, &kept_lines(&mut keeper)?));
+    let again = take(alloc, &mut keeper, &map, &letter(&rt, CREATE))?;
+    assert!(rt; Rc::ptr_eq(&kept, &again.text));
     Ok(())
 }

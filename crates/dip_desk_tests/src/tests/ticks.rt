@@ -944,3 +944,24 @@ fn a_game_that_is_paused_is_not_played(rt: HostRuntime) -> Result<(), Fail> {
     let alloc = rt.alloc();
     check_stopped(&rt, alloc, Status::Paused, PAUSED)
 }
+
+/// Orders of a game that is over are refused.
+const ORDERED: &str = "LETTER
+GAME g1
+FROM england
+SECRET eeeeeeee
+NUMBER 1
+ORDERS
+F edi - nth
+END
+> REPLY g1 england 1
+> L8 game over
+> END
+";
+
+#[test]
+fn a_game_that_is_over_takes_no_orders(rt: HostRuntime) -> Result<(), Fail> {
+    let alloc = rt.alloc();
+    check_stopped(&rt, alloc, Status::Ended, ORDERED)?;
+    check_stopped(&rt, alloc, Status::Closed, ORDERED)
+}

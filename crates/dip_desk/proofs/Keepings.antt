@@ -78,6 +78,17 @@ looks_then m b old mid new x First Second Both result first further second = rec
   left = λ sound honest s left. let fair = second.keeps.fair honest in first.left sound fair s (second.left (first.keeps.firm sound fair) honest s left);
 }
 
+-- what a look gives is what follows from it
+pub looks_as : {K X : Type 0} (m : Chart) (b : Book K) (old new : K) (Value Other : X → Type 0) (result : Result X KeepFault) → ((x : X) → Value x → Other x)
+    → Looks m b old new Value ⊥ result → Looks m b old new Other ⊥ result
+looks_as m b old new Value Other result follows look = record {
+  keeps = look.keeps;
+  value = λ sound shows. IfOk-weaker result Value Other follows (look.value sound shows);
+  damaged = look.damaged;
+  same = look.same;
+  left = look.left;
+}
+
 -- a fault behind a look that isn't the disk's is a step that isn't taken
 pub fault_then : {K X Y R : Type 0} (m : Chart) (b : Book K) (old mid : K) (x : X) (Value : X → Type 0) (fault : KeepFault) (say : Y → R) (Step : State → R → State → Type 0)
     (Blame : State → Type 0) → Looks m b old mid Value ⊥ (Ok x) → faults_with fault 0 ≡ 0 → (Value x → fault ≡ Damaged → Blame (b.content m old))

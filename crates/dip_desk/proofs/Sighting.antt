@@ -1,15 +1,23 @@
 -- What is decided by an author's sight is what the machine decides.
-use Rattle.std.proofs.Common.{◌≡◌, ℕ, Bool, true, false, cond, List, Option, None, Some, option_map, refl, sym, ◌∙◌, ap, subst, inl, bytes_eq, codes, is_some}
+use Rattle.std.proofs.Common.{◌≡◌, ℕ, ◌<◌, Bool, true, false, cond, length, List, Option, None, Some, option_map, refl, sym, ◌∙◌, ap, subst, inl, inr, bytes_eq, codes, is_some}
 use Rattle.std.specs.Prelude.{option_and_then}
-use Rattle.dip_letters.specs.Notes.{Request}
-use Rattle.dip_letters.specs.Notes.Request.{Create, Orders, Show, Tick}
+use Rattle.std.specs.List.{AllByRecursion}
+use Rattle.std.proofs.lemmas.Bool.{false≢true}
+use Rattle.dip_letters.specs.Notes.{NoticeRequest, PlayerRequest, Request, SeatNote}
+use Rattle.dip_letters.specs.Notes.MasterRequest.{Create, Tick, Replace, Notify}
+use Rattle.dip_letters.specs.Notes.PlayerRequest.{Press}
+use Rattle.dip_letters.specs.Notes.Request.{Player, Master}
 use Rattle.dip_chart.specs.Charts.{Chart, power_of}
-use Rattle.dip_records.specs.Records.{Item, Own, Reply}
-use Rattle.dip_machine.specs.Machine.{DecidedBy, Decides, IsDamagedBy, IsForeign, IsDamagedSight, IsForeignTo, IsUnplayable, MayBeDamaged, Settles, Step, after, OfMaster, OfGame, OfNobody, OfSeat, Sight, Verdict, NotKnown, Again, OutOfTurn, Taken, author, author_of, digest, master_author, master_sees, master_sight, power_author, power_sight, seat_author, seat_sight, seen_in, sight_of, verdict_by, verdict_on}
+use Rattle.dip_records.specs.Records.{Item, Reply}
+use Rattle.dip_machine.specs.Machine.{DecidedBy, Decides, IsDamagedBy, IsDamagedGame, IsForeign, IsDamagedSight, IsForeignTo, IsFull, IsSpoiledIn, MayBeDamaged, Sees, NoGame, ASeat, Settles, Step, after, OfMaster, OfNobody, OfSeat, Sight, Verdict, NotKnown, Again, OutOfTurn, Taken, author, author_of, digest, master_author, master_sees, master_sight, page_shown, power_author, power_sight, seat_author, seat_sight, seen_in, sight_of, verdict_by, verdict_on}
 use Rattle.dip_machine.specs.Fitting.{EffectsFit}
 use Rattle.dip_machine.specs.Mail.{Mail}
-use Rattle.dip_machine.specs.State.{Author, Desk, Effect, Game, Nobody, Nothing, Pending, Votes, Delivers, Opens, Publishes, Seats, Seat, State, TheMaster, game_at, own_of, seat_at}
-use Rattle.dip_desk.specs.Fitting.{FindsPlace, VerdictFits}
+use Rattle.dip_machine.specs.State.{Author, Effect, Game, Nobody, Nothing, Part, Pending, Votes, Delivers, Opens, Publishes, Seats, Seat, State, TheMaster, game_at, own_at, own_of, part_at, public_at, seat_at, whole_of}
+use Rattle.dip_desk.specs.Fitting.{FindsPlace, FitsGame, VerdictFits}
+use Rattle.dip_desk.specs.Looked.{is_seen, public_seen, seat_by, seat_seen, whole_seen}
+use Rattle.dip_desk.specs.Stored.{is_press}
+use Rattle.dip_machine.proofs.Fitting.{readers_low}
+use Rattle.dip_machine.proofs.Others.{seat_sent}
 use Rattle.dip_machine.proofs.Suiting.{Comes, IsFitting, decides_suits, opens_where}
 
 -- a sight is the author's, and what is decided by it is what may be decided
@@ -17,65 +25,103 @@ abbrev pub IsRight : Chart → Mail → State → Author → Sight → Type 0
 IsRight m n s who sight =
     (author_of sight ≡ who) × ((v : Verdict) → DecidedBy m n sight v → Decides m s n who v) × (IsDamagedSight m sight → MayBeDamaged m s n who)
 
-seat_right : (m : Chart) (n : Mail) (s : State) (p : ℕ) (game : Option Game) → game_at n.note.game s ≡ game
-    → IsRight m n s (seat_author n p (option_and_then (λ g. own_of (seat_at p g.seats)) game)) (seat_sight n p (option_map (λ g. g.public) game) (option_and_then (λ g. own_of (seat_at p g.seats)) game))
-seat_right m n s p None is = (refl, λ v d. d, λ bad. bad)
-seat_right m n s p (Some g) is = own (own_of (seat_at p g.seats)) refl
+-- the own part of a seat, and the seat
+pub own_is : (name : List ℕ) (power : ℕ) (s : State) → own_at name power s ≡ own_of (part_at name power s)
+own_is name power s = go (game_at name s)
   where
-    own : (o : Option Own) → own_of (seat_at p g.seats) ≡ o → IsRight m n s (seat_author n p o) (seat_sight n p (Some g.public) o)
+    go : (game : Option Game) → option_and_then (λ g. own_of (seat_at power g.seats)) game ≡ own_of (option_and_then (λ g. seat_at power g.seats) game)
+    go None = refl
+    go (Some g) = refl
+
+seat_right : (m : Chart) (n : Mail) (s : State) (p : ℕ) (game : Option Game) → game_at n.note.game s ≡ game
+    → IsRight m n s (seat_author n p (option_and_then (λ g. own_of (seat_at p g.seats)) game)) (seat_sight n p (option_map (λ g. g.public) game) (option_and_then (λ g. seat_at p g.seats) game))
+seat_right m n s p None is = (refl, λ v d. d, λ bad. bad)
+seat_right m n s p (Some g) is = own (seat_at p g.seats) refl
+  where
+    own : (x : Option Part) → seat_at p g.seats ≡ x → IsRight m n s (seat_author n p (own_of x)) (seat_sight n p (Some g.public) x)
     own None e = (refl, λ v d. d, λ bad. bad)
-    own (Some o) e = told (bytes_eq (digest n.note.game n.note.sender n.note.secret) o.digest)
+    own (Some x) e = told (bytes_eq (digest n.note.game n.note.sender n.note.secret) x.own.digest)
       where
-        decided : verdict_on m n (seen_in p (game_at n.note.game s)) ≡ verdict_by m n (Some g.public) (Some o)
-        decided = ap (λ (x : Option Game). verdict_on m n (seen_in p x)) is ∙ ap (λ (x : Option Own). verdict_by m n (Some g.public) x) e
+        decided : verdict_on m n (seen_in p (game_at n.note.game s)) ≡ verdict_by m n (Some g.public) (Some x)
+        decided = ap (λ (y : Option Game). verdict_on m n (seen_in p y)) is ∙ ap (λ (y : Option Part). verdict_by m n (Some g.public) y) e
 
-        foreign : IsForeignTo m (Some g.public) (Some o) → IsForeign m (seen_in p (game_at n.note.game s))
-        foreign f = subst (λ (x : Option Game). IsForeign m (seen_in p x)) (sym is) (subst (λ (x : Option Own). IsForeignTo m (Some g.public) x) (sym e) f)
+        foreign : IsForeignTo m (Some g.public) (Some x.own) → IsForeign m (seen_in p (game_at n.note.game s))
+        foreign f = subst (λ (y : Option Game). IsForeign m (seen_in p y)) (sym is) (subst (λ (y : Option Part). IsForeignTo m (Some g.public) (own_of y)) (sym e) f)
 
-        told : (b : Bool) → IsRight m n s (cond b (Seat p) Nobody) (cond b (OfSeat p g.public o) OfNobody)
+        told : (b : Bool) → IsRight m n s (cond b (Seat p) Nobody) (cond b (OfSeat p g.public x.own (page_shown n.note.command x.box)) OfNobody)
         told true = (refl, λ v d. d ∙ sym decided, λ f. inl (foreign f))
         told false = (refl, λ v d. d, λ bad. bad)
+
+-- where the master's sight is of a game in which nothing can be decided, its command can't be done there
+game_spoiled : (m : Chart) (command : Request) (game : Option Game) → IsDamagedGame m (master_sees m command game) → IsSpoiledIn m command game
+game_spoiled m command None bad = bad
+game_spoiled m (Player command) (Some g) bad = bad
+game_spoiled m (Master (Create due period grey seats)) (Some g) bad = bad
+game_spoiled m (Master (Tick tick)) (Some g) bad = bad
+game_spoiled m (Master (Replace seat)) (Some g) bad = bad
+game_spoiled m (Master (Notify notice)) (Some g) bad = bad
 
 pub is_right : (m : Chart) (n : Mail) (s : State) → IsRight m n s (author m n s) (sight_of m n s)
 is_right m n s = go (bytes_eq n.note.sender (codes "master"))
   where
-    same : (command : Request) (game : Option Game) → n.note.command ≡ command → game_at n.note.game s ≡ game
-        → master_sees n.note.command s.desk.kept (game_at n.note.game s) ≡ master_sees command s.desk.kept game
-    same command game of is = ap (λ (c : Request). master_sees c s.desk.kept (game_at n.note.game s)) of ∙ ap (master_sees command s.desk.kept) is
-
-    -- what the master sees is the master's
-    seen : (command : Request) (game : Option Game) → n.note.command ≡ command → game_at n.note.game s ≡ game
-        → IsRight m n s TheMaster (master_sees command s.desk.kept game)
-    seen (Create due period grey seats) game of is = (refl, λ v d. d (game_at n.note.game s) (same (Create due period grey seats) game of is), λ bad. absurd bad)
-    seen (Orders lines) game of is = (refl, λ v d. d (game_at n.note.game s) (same (Orders lines) game of is), λ bad. absurd bad)
-    seen Show game of is = (refl, λ v d. d (game_at n.note.game s) (same Show game of is), λ bad. absurd bad)
-    seen (Tick tick) None of is = (refl, λ v d. d (game_at n.note.game s) (same (Tick tick) None of is), λ bad. absurd bad)
-    seen (Tick tick) (Some g) of is = (
-      refl,
-      λ v d. d (game_at n.note.game s) (same (Tick tick) (Some g) of is),
-      λ bad. subst (λ (c : Request). IsUnplayable m c (game_at n.note.game s)) (sym of) (subst (IsUnplayable m (Tick tick)) (sym is) bad),
-    )
-
-    master : (b : Bool) → IsRight m n s (cond b TheMaster Nobody) (cond b (master_sees n.note.command s.desk.kept (game_at n.note.game s)) OfNobody)
-    master true = seen n.note.command (game_at n.note.game s) refl refl
+    master : (b : Bool) → IsRight m n s (cond b TheMaster Nobody) (cond b (OfMaster s.desk.kept (master_sees m n.note.command (game_at n.note.game s))) OfNobody)
+    master true = (refl, λ v d. d (game_at n.note.game s) refl, λ bad. game_spoiled m n.note.command (game_at n.note.game s) bad)
     master false = (refl, λ v d. d, λ bad. bad)
 
     power : (q : Option ℕ) → IsRight m n s (power_author n q s) (power_sight n q s)
     power None = (refl, λ v d. d, λ bad. bad)
     power (Some q) = seat_right m n s q (game_at n.note.game s) refl
 
-    go : (b : Bool) → IsRight m n s (cond b (master_author n s) (power_author n (power_of m n.note.sender) s)) (cond b (master_sight n s) (power_sight n (power_of m n.note.sender) s))
+    go : (b : Bool) → IsRight m n s (cond b (master_author n s) (power_author n (power_of m n.note.sender) s)) (cond b (master_sight m n s) (power_sight n (power_of m n.note.sender) s))
     go true = master (bytes_eq (digest (codes "desk") (codes "master") n.note.secret) s.desk.digest)
     go false = power (power_of m n.note.sender)
 
--- what the master sees for TICK, where the desk has the digest of the letter's secret
-pub tick_seen : (n : Mail) (s : State) (d : Desk) (tick : ℕ) (sight : Sight) → n.note.command ≡ Tick tick → d ≡ s.desk
-    → bytes_eq (digest (codes "desk") (codes "master") n.note.secret) d.digest ≡ true → sight ≡ master_sees (Tick tick) d.kept (game_at n.note.game s) → sight ≡ master_sight n s
-tick_seen n s d tick sight of row opens is =
-    is
-    ∙ ap (λ (c : Request). master_sees c d.kept (game_at n.note.game s)) (sym of)
-    ∙ ap (λ (b : Bool). cond b (master_sees n.note.command d.kept (game_at n.note.game s)) OfNobody) (sym opens)
-    ∙ ap (λ (x : Desk). cond (bytes_eq (digest (codes "desk") (codes "master") n.note.secret) x.digest) (master_sees n.note.command x.kept (game_at n.note.game s)) OfNobody) row
+-- ---- looks for the master
+
+pub seen_game : (m : Chart) (command : PlayerRequest) (game : Option Game) → is_seen game ≡ master_sees m (Player command) game
+seen_game m command None = refl
+seen_game m command (Some g) = refl
+
+pub seen_opening : (m : Chart) (due period : ℕ) (grey : Bool) (seats : List SeatNote) (game : Option Game) → is_seen game ≡ master_sees m (Master (Create due period grey seats)) game
+seen_opening m due period grey seats None = refl
+seen_opening m due period grey seats (Some g) = refl
+
+pub seen_whole : (m : Chart) (tick : ℕ) (game : Option Game) → whole_seen (option_map whole_of game) ≡ master_sees m (Master (Tick tick)) game
+seen_whole m tick None = refl
+seen_whole m tick (Some g) = refl
+
+pub seen_public : (m : Chart) (notice : NoticeRequest) (game : Option Game) → public_seen (option_map (λ g. g.public) game) ≡ master_sees m (Master (Notify notice)) game
+seen_public m notice None = refl
+seen_public m notice (Some g) = refl
+
+abbrev there_by : Option ℕ → Option Game → Bool
+there_by None game = false
+there_by (Some p) game = is_some (option_and_then (λ g. own_of (seat_at p g.seats)) game)
+
+abbrev sees_by : Option ℕ → Option Game → Sees
+sees_by q None = NoGame
+sees_by q (Some g) = ASeat (is_some (option_and_then (λ p. seat_at p g.seats) q))
+
+part_there : (x : Option Part) → is_some (own_of x) ≡ is_some x
+part_there None = refl
+part_there (Some x) = refl
+
+seen_by_power : (q : Option ℕ) (game : Option Game) → seat_by (there_by q game) (option_map (λ g. g.public) game) ≡ sees_by q game
+seen_by_power None None = refl
+seen_by_power None (Some g) = refl
+seen_by_power (Some p) None = refl
+seen_by_power (Some p) (Some g) = ap ASeat (part_there (seat_at p g.seats))
+
+pub seen_seat : (m : Chart) (seat : SeatNote) (name : List ℕ) (s : State) → seat_seen (power_of m seat.power) name s ≡ master_sees m (Master (Replace seat)) (game_at name s)
+seen_seat m seat name s = same (power_of m seat.power) ∙ seen_by_power (power_of m seat.power) (game_at name s) ∙ sees (game_at name s)
+  where
+    same : (q : Option ℕ) → seat_seen q name s ≡ seat_by (there_by q (game_at name s)) (public_at name s)
+    same None = refl
+    same (Some p) = refl
+
+    sees : (game : Option Game) → sees_by (power_of m seat.power) game ≡ master_sees m (Master (Replace seat)) game
+    sees None = refl
+    sees (Some g) = refl
 
 -- what is settled by a sight's verdict is a step
 pub settled_by_sight : (m : Chart) (n : Mail) (s t : State) (sight : Sight) (who : Author) (v : Verdict) (r : Reply) → sight ≡ sight_of m n s → who ≡ author_of sight
@@ -90,29 +136,49 @@ pub unfit_by_sight : (m : Chart) (n : Mail) (s : State) (sight : Sight) (v : Ver
 unfit_by_sight m n s sight v fit is decided =
     let right : IsRight m n s (author m n s) sight = subst (IsRight m n s (author m n s)) (sym is) (is_right m n s) in blamed v (right.1 v decided)
   where
-    -- no letter sends press so far
-    no_press : (who : Author) (game : Option Game) (readers : List ℕ) (item : Item) → Comes who game (Delivers readers item) → ⊥
-    no_press Nobody game readers item h = h
-    no_press TheMaster game readers item h = h
-    no_press (Seat p) None readers item h = h
-    no_press (Seat p) (Some g) readers item h = h
+    finds_place : (name : List ℕ) (who : Author) (game : Option Game) (e : Effect) → (is_press e ≡ false) → IsFitting name who game e → FindsPlace name e game
+    finds_place name who game Nothing quiet h = tt
+    finds_place name who game (Pending orders) quiet h = tt
+    finds_place name who game (Votes draw) quiet h = tt
+    finds_place name who game (Delivers readers item) quiet h = absurd (false≢true (sym quiet))
+    finds_place name who game (Publishes public paper played) quiet h = tt
+    finds_place name who game (Seats seat) quiet h = tt
+    finds_place name who game (Opens public paper seats) quiet h = let all = opens_where name who game public paper seats h in (all.2, all.1)
 
-    finds_place : (name : List ℕ) (who : Author) (game : Option Game) (e : Effect) → IsFitting name who game e → FindsPlace name e game
-    finds_place name who game Nothing h = tt
-    finds_place name who game (Pending orders) h = tt
-    finds_place name who game (Votes draw) h = tt
-    finds_place name who game (Delivers readers item) h = absurd (no_press who game readers item h.0)
-    finds_place name who game (Publishes public paper played) h = tt
-    finds_place name who game (Seats seat) h = tt
-    finds_place name who game (Opens public paper seats) h = let all = opens_where name who game public paper seats h in (all.2, all.1)
+    -- press that finds no place is of a game with a full count
+    full : (who : Author) (text : List ℕ) (readers : List ℕ) (item : Item) → Decides m s n who (Taken text (Delivers readers item))
+        → (FitsGame m n.note.game (Delivers readers item) (game_at n.note.game s) → ⊥) → MayBeDamaged m s n who
+    full Nobody text readers item d unfit = absurd (decides_suits m s n Nobody (Taken text (Delivers readers item)) d).0
+    full TheMaster text readers item d unfit = absurd (decides_suits m s n TheMaster (Taken text (Delivers readers item)) d).0
+    full (Seat p) text readers item d unfit =
+        let sent = seat_sent m s n p (Taken text (Delivers readers item)) d in
+        let on_map : AllByRecursion (λ q. q < length m.realms) readers = readers_low m p sent.1 readers sent.4 in
+        inr (inr (subst (λ (c : Request). IsFull c (game_at n.note.game s)) (sym sent.3) (by sent.0 sent.1 sent.2 (game_at n.note.game s) (decides_suits m s n (Seat p) (Taken text (Delivers readers item)) d).0 (λ place. unfit (on_map, place)))))
+      where
+        by : (grey : Bool) (names lines : List (List ℕ)) (game : Option Game) → Comes (Seat p) game (Delivers readers item) → (FindsPlace n.note.game (Delivers readers item) game → ⊥)
+            → IsFull (Player (Press grey names lines)) game
+        by grey names lines None comes none = absurd comes
+        by grey names lines (Some g) comes none = none
 
     blamed : (v : Verdict) → Decides m s n (author m n s) v → (VerdictFits m n v s → ⊥) → IsDamagedBy m n s
     blamed NotKnown d unfit = absurd (unfit tt)
     blamed (Again text) d unfit = absurd (unfit tt)
     blamed (OutOfTurn text) d unfit = absurd (unfit tt)
-    blamed (Taken text e) d unfit =
-        fit s n (author m n s) text e d
-        (λ on_map. unfit (on_map, finds_place n.note.game (author m n s) (game_at n.note.game s) e (decides_suits m s n (author m n s) (Taken text e) d)))
+    blamed (Taken text e) d unfit = kinds e d unfit
+      where
+        other : (e : Effect) → is_press e ≡ false → Decides m s n (author m n s) (Taken text e) → (VerdictFits m n (Taken text e) s → ⊥) → IsDamagedBy m n s
+        other e quiet d unfit =
+            fit s n (author m n s) text e d
+            (λ on_map. unfit (on_map, finds_place n.note.game (author m n s) (game_at n.note.game s) e quiet (decides_suits m s n (author m n s) (Taken text e) d)))
+
+        kinds : (e : Effect) → Decides m s n (author m n s) (Taken text e) → (VerdictFits m n (Taken text e) s → ⊥) → IsDamagedBy m n s
+        kinds Nothing d unfit = other Nothing refl d unfit
+        kinds (Pending orders) d unfit = other (Pending orders) refl d unfit
+        kinds (Votes draw) d unfit = other (Votes draw) refl d unfit
+        kinds (Delivers readers item) d unfit = full (author m n s) text readers item d unfit
+        kinds (Opens public paper seats) d unfit = other (Opens public paper seats) refl d unfit
+        kinds (Publishes public paper played) d unfit = other (Publishes public paper played) refl d unfit
+        kinds (Seats seat) d unfit = other (Seats seat) refl d unfit
 
 -- and a fault of the sight is one of the letter's author
 pub blamed_by_sight : (m : Chart) (n : Mail) (s : State) (sight : Sight) → sight ≡ sight_of m n s → IsDamagedSight m sight → IsDamagedBy m n s

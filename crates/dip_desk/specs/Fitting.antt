@@ -1,16 +1,11 @@
 -- What a keeper may be asked to keep.
-use Rattle.std.specs.Prelude.{◌≡◌, ◌&&◌, Bool, true, List, ℕ, Option, None, Some, nat_lt}
+use Rattle.std.specs.Prelude.{◌≡◌, true, List, ℕ, Option, None, Some}
 use Rattle.std.specs.List.{list_all}
 use Rattle.dip_chart.specs.Charts.{Chart}
 use Rattle.dip_machine.specs.Fitting.{FitsMap}
 use Rattle.dip_machine.specs.Machine.{Verdict, NotKnown, Again, OutOfTurn, Taken}
 use Rattle.dip_machine.specs.Mail.{Mail}
-use Rattle.dip_records.specs.Records.{Own}
-use Rattle.dip_machine.specs.State.{Change, Effect, Game, Nothing, Pending, Votes, Delivers, Opens, Publishes, Seats, State, game_at}
-
--- whether a seat's counts have room for one more
-abbrev pub has_room : Own → Bool
-has_room o = nat_lt o.items 4294967295 && nat_lt o.sent 4294967295
+use Rattle.dip_machine.specs.State.{Change, Effect, Game, has_room, Nothing, Pending, Votes, Delivers, Opens, Publishes, Seats, State, game_at}
 
 -- an effect that finds place in the game that it names: press finds room in the counts of each seat; a new game has that name, and
 -- there is none of it yet

@@ -1,4 +1,5 @@
 pub mod Keeping
 pub mod Fitting
 pub mod Stored
+pub mod Looked
 pub mod Running

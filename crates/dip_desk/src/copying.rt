@@ -1,11 +1,12 @@
 //! Copies of what a keeper in memory has.
-ghost use Rattle.std.specs.Prelude.{◌≡◌, IfOk, option_map};
+ghost use Rattle.std.specs.Prelude.{◌≡◌, IfOk, map as each, option_map};
 ghost use Rattle.dip_records.specs.Rows as rows;
 ghost use Rattle.dip_desk.specs.Stored as stored;
 
-use dip_names::Power;
-use dip_records::{Item, Kept, Own, Standing, Status};
+use crate::games::SeatRow;
+use dip_records::{Item, Kept, Own, Standing};
 use std::alloc::{AllocError, Global};
+use std::rc::Rc;
 
 fn standing_copy(standing: &Standing) -> Result<Standing, AllocError>
     ensures { IfOk result (λ s. rows.standing s ≡ rows.standing standing.now) }
@@ -24,29 +25,6 @@ pub fn pending_copy(alloc: Global, pending: &[Standing]) -> Result<Vec<Standing>
         copy.push(standing_copy(standing)?)?;
     }
     Ok(copy)
-}
-
-pub fn powers_copy(alloc: Global, powers: &[Power]) -> Result<Vec<Power>, AllocError>
-    ensures { IfOk result (λ v. v.items ≡ powers.now) }
-{
-    let mut copy = Vec::with_capacity(alloc, powers.len())?;
-    for power in powers {
-        copy.push(*power)?;
-    }
-    Ok(copy)
-}
-
-pub fn status_copy(alloc: Global, status: &Status) -> Result<Status, AllocError>
-    ensures { IfOk result (λ s. rows.status s ≡ rows.status status.now) }
-{
-    match status {
-        Status::Running => Ok(Status::Running),
-        Status::Paused => Ok(Status::Paused),
-        Status::Closed => Ok(Status::Closed),
-        Status::Ended => Ok(Status::Ended),
-        Status::Won(power) => Ok(Status::Won(*power)),
-        Status::Drawn(powers) => Ok(Status::Drawn(powers_copy(alloc, powers.as_slice())?)),
-    }
 }
 
 pub fn kept_copy(kept: &Kept) -> Result<Kept, AllocError>
@@ -82,42 +60,25 @@ pub fn own_copy(alloc: Global, own: &Own) -> Result<Own, AllocError>
     })
 }
 
-pub fn owns_copy(alloc: Global, owns: &[Own]) -> Result<Vec<Own>, AllocError>
-    ensures { IfOk result (λ v. stored.owns v.items ≡ stored.owns owns.now) }
+/// The own parts of seats.
+pub fn owns_copy(alloc: Global, seats: &[SeatRow]) -> Result<Vec<Own>, AllocError>
+    ensures { IfOk result
+        (λ v. each (λ o. rows.own o) v.items ≡ each (λ p. p.own) (stored.parts seats.now)) }
 {
-    let mut copy = Vec::with_capacity(alloc, owns.len())?;
-    for own in owns {
-        copy.push(own_copy(alloc, own)?)?;
+    let mut copy = Vec::with_capacity(alloc, seats.len())?;
+    for seat in seats {
+        copy.push(own_copy(alloc, &seat.own)?)?;
     }
     Ok(copy)
 }
 
-fn texts_copy(alloc: Global, texts: &[String]) -> Result<Vec<String>, AllocError>
-    ensures { IfOk result (λ v. rows.lines v.items ≡ rows.lines texts.now) }
+/// The same items once more: they are shared, and no text is copied.
+pub fn items_shared(alloc: Global, items: &[Rc<Item>]) -> Result<Vec<Rc<Item>>, AllocError>
+    ensures { IfOk result (λ v. rows.items v.items ≡ rows.items items.now) }
 {
-    let mut copy = Vec::with_capacity(alloc, texts.len())?;
-    for text in texts {
-        copy.push(text.clone()?)?;
+    let mut shared = Vec::with_capacity(alloc, items.len())?;
+    for item in items {
+        shared.push(item.clone()?)?;
     }
-    Ok(copy)
-}
-
-pub fn item_copy(alloc: Global, item: &Item) -> Result<Item, AllocError>
-    ensures { IfOk result (λ i. rows.item i ≡ rows.item item.now) }
-{
-    match item {
-        Item::White {
-            writer,
-            addressees,
-            text,
-        } => Ok(Item::White {
-            writer: writer.clone()?,
-            addressees: texts_copy(alloc, addressees.as_slice())?,
-            text: texts_copy(alloc, text.as_slice())?,
-        }),
-        Item::Grey { to_all, text } => Ok(Item::Grey {
-            to_all: *to_all,
-            text: texts_copy(alloc, text.as_slice())?,
-        }),
-    }
+    Ok(shared)
 }

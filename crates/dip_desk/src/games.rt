@@ -1,22 +1,24 @@
 //! Games as they lie in memory, and what is found in them.
-ghost use Rattle.std.specs.Prelude.{◌≡◌, ◌==◌, IfOk, bytes_eq, option_and_then, option_map, string_bytes};
+ghost use Rattle.std.specs.Prelude.{◌≡◌, ℕ, IfOk, bytes_eq, drop, option_and_then, option_map, string_bytes, take};
 ghost use Rattle.dip_machine.specs.Keyed.{at};
 ghost use Rattle.dip_machine.specs.State as s;
 ghost use Rattle.dip_records.specs.Rows as rows;
 ghost use Rattle.dip_desk.specs.Stored as stored;
 
-use crate::copying::{owns_copy, status_copy};
+use crate::copying::{items_shared, owns_copy};
 use dip_board::Board;
 use dip_names::Power;
 use dip_records::{Item, Own, Public, Status, Whole};
 use indexmap::IndexMap;
 use std::alloc::{AllocError, Global};
+use std::rc::Rc;
 
-/// Press of a game, and the powers whose inboxes have it.
+/// A seat as it lies in memory: its own part and its inbox.
 #[derive(Drop)]
-pub struct Post {
-    pub readers: Vec<Power>,
-    pub item: Item,
+pub struct SeatRow {
+    pub own: Own,
+    /// Its items in the order in which they came. Seats that have the same press share it.
+    pub inbox: Vec<Rc<Item>>,
 }
 
 /// A game as it lies in memory, under its name.
@@ -29,10 +31,7 @@ pub struct GameRow {
     pub grey: bool,
     pub count: u32,
     pub papers: Vec<String>,
-    /// All press of the game: the inbox of a seat is what its power is a reader of.
-    pub posts: Vec<Post>,
-    /// The seats, but for their inboxes.
-    pub seats: Vec<Own>,
+    pub seats: Vec<SeatRow>,
 }
 
 /// The games by their names, in the order in which they were opened.
@@ -45,7 +44,7 @@ pub fn public_of(alloc: Global, name: &str, game: &GameRow) -> Result<Public, Al
     Ok(Public {
         game: String::from_str(alloc, name)?,
         board: game.board.copy(alloc)?,
-        status: status_copy(alloc, &game.status)?,
+        status: game.status.copy(alloc)?,
         due: game.due,
         period: game.period,
         grey: game.grey,
@@ -72,12 +71,12 @@ pub fn find_game<'a>(games: &'a Games, name: &str) -> Option<&'a GameRow>
 }
 
 /// The seat of that power.
-fn find_seat<'a>(seats: &'a [Own], power: Power) -> Option<&'a Own>
-    ensures { option_map (λ o. rows.own o.now) result ≡ at (λ a b. a == b) stored.power_of power
-        (stored.owns seats.entry.now) }
+fn seat_of(seats: &[SeatRow], power: Power) -> Option<&SeatRow>
+    ensures { option_map (λ r. stored.part r.now) result ≡ s.seat_at power
+        (stored.parts seats.entry.now) }
 {
     for seat in seats {
-        if seat.power == power {
+        if seat.own.power == power {
             return Some(seat);
         }
     }
@@ -85,13 +84,52 @@ fn find_seat<'a>(seats: &'a [Own], power: Power) -> Option<&'a Own>
 }
 
 /// The seat of that power in the game of that name.
-pub fn find_own<'a>(games: &'a Games, name: &str, power: Power) -> Option<&'a Own>
-    ensures { option_map (λ o. rows.own o.now) result ≡ option_and_then
+pub fn find_seat<'a>(games: &'a Games, name: &str, power: Power) -> Option<&'a SeatRow>
+    ensures own { option_map (λ r. rows.own r.now.own) result ≡ option_and_then
         (λ g. s.own_of (s.seat_at power g.seats))
+        (at bytes_eq s.name_of name.now (stored.games games.entry.now.entries)) }
+    ensures page { (first most : ℕ)
+        → option_map (λ r. s.page_of first most (rows.items r.now.inbox.items)) result
+        ≡ option_and_then (λ g. option_map (λ p. s.page_of first most p.box)
+        (s.seat_at power g.seats))
         (at bytes_eq s.name_of name.now (stored.games games.entry.now.entries)) }
 {
     let game = find_game(games, name)?;
-    find_seat(game.seats.as_slice(), power)
+    seat_of(game.seats.as_slice(), power)
+}
+
+/// The items behind a place.
+fn behind(items: &[Rc<Item>], place: usize) -> &[Rc<Item>]
+    ensures { result.now ≡ drop place items.entry.now }
+{
+    if items.len() <= place {
+        return &items[items.len()..];
+    }
+    &items[place..]
+}
+
+/// The first items, at most so many.
+fn at_most(items: &[Rc<Item>], most: usize) -> &[Rc<Item>]
+    ensures { result.now ≡ take most items.entry.now }
+{
+    if items.len() <= most {
+        return items;
+    }
+    &items[..most]
+}
+
+/// The items of an inbox from a number on, at most so many. The first has the number 1.
+pub fn page_of(
+    alloc: Global,
+    inbox: &[Rc<Item>],
+    first: u32,
+    most: u32,
+) -> Result<Vec<Rc<Item>>, AllocError>
+    ensures { IfOk result
+        (λ v. rows.items v.items ≡ s.page_of first most (rows.items inbox.now)) }
+{
+    let place = first.saturating_sub(1) as usize;
+    items_shared(alloc, at_most(behind(inbox, place), most as usize))
 }
 
 /// The paper of that number. The first has the number 1.

@@ -3,14 +3,15 @@ ghost use Rattle.std.specs.Prelude.{◌≡◌, ◌<◌, length, option_map, stri
 ghost use Rattle.dip_chart.specs.Charts.{Chart};
 ghost use Rattle.dip_desk.specs.Fitting.{Fits};
 ghost use Rattle.dip_desk.specs.Keeping.{Book, Changes, Looks};
-ghost use Rattle.dip_machine.specs.State.{own_at, paper_at, public_at, state_after, whole_at};
+ghost use Rattle.dip_machine.specs.State.{items_at, own_at, paper_at, public_at, state_after, whole_at};
 ghost use Rattle.dip_machine.specs.Rows as desk_rows;
 ghost use Rattle.dip_records.specs.Rows as rows;
 
 use dip_machine::{Change, Desk, KeepFault};
 use dip_map::Map;
 use dip_names::Power;
-use dip_records::{Own, Public, Whole};
+use dip_records::{Item, Own, Public, Whole};
+use std::rc::Rc;
 
 /// What keeps the desk's state, however it is kept.
 pub trait Keeper {
@@ -41,6 +42,22 @@ pub trait Keeper {
         ensures { Looks map.now book self.old self.new
             (λ o. option_map rows.own o ≡ own_at game.now power (book.content map.now self.old)) ⊥
             result };
+
+    /// The items of a seat's inbox from a number on, at most so many; the first item has the
+    /// number 1. `None` where there is no such seat. What it costs doesn't grow with the inbox.
+    fn items(
+        &mut self,
+        map: &Map,
+        game: &str,
+        power: Power,
+        first: u32,
+        most: u32,
+    ) -> Result<Option<Vec<Rc<Item>>>, KeepFault>
+        requires room { book.faults self.old < u64.MAX }
+        requires power { power < length map.now.realms }
+        ensures { Looks map.now book self.old self.new
+            (λ o. option_map (λ v. rows.items v.items) o
+            ≡ items_at game.now power first most (book.content map.now self.old)) ⊥ result };
 
     /// A game with the own parts of all its seats, in the order in which CREATE named them, and
     /// without the items of their inboxes; `None` where there is no such game.

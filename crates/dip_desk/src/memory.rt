@@ -5,15 +5,16 @@ ghost use Rattle.dip_records.specs.Rows as rows;
 ghost use Rattle.dip_desk.specs.Stored as stored;
 
 use crate::copying::{kept_copy, last_copy, own_copy};
-use crate::games::{Games, find_game, find_own, find_paper, public_of, whole_of};
+use crate::games::{Games, find_game, find_paper, find_seat, page_of, public_of, whole_of};
 use crate::keeper::Keeper;
 use crate::recording::record_games;
 use dip_machine::{Author, Change, Desk, KeepFault};
 use dip_map::Map;
 use dip_names::Power;
-use dip_records::{Kept, Own, Public, Whole};
+use dip_records::{Item, Kept, Own, Public, Whole};
 use indexmap::IndexMap;
 use std::alloc::{AllocError, Global};
+use std::rc::Rc;
 
 /// A keeper of the desk's state in memory. It is gone with the program.
 #[derive(Drop)]
@@ -85,9 +86,26 @@ impl Keeper for MemoryKeeper {
     }
 
     fn own(&mut self, _map: &Map, game: &str, power: Power) -> Result<Option<Own>, KeepFault> {
-        match find_own(&self.games, game, power) {
+        match find_seat(&self.games, game, power) {
             None => Ok(None),
-            Some(seat) => Ok(Some(own_copy(self.alloc, seat)?)),
+            Some(seat) => Ok(Some(own_copy(self.alloc, &seat.own)?)),
+        }
+    }
+
+    fn items(
+        &mut self,
+        _map: &Map,
+        game: &str,
+        power: Power,
+        first: u32,
+        most: u32,
+    ) -> Result<Option<Vec<Rc<Item>>>, KeepFault> {
+        match find_seat(&self.games, game, power) {
+            None => Ok(None),
+            Some(seat) => {
+                let page = page_of(self.alloc, seat.inbox.as_slice(), first, most)?;
+                Ok(Some(page))
+            }
         }
     }
 

@@ -7,36 +7,38 @@ ghost use Rattle.dip_machine.specs.Rows as desk_rows;
 ghost use Rattle.dip_records.specs.Rows as rows;
 ghost use Rattle.dip_desk.specs.Stored as stored;
 
-use crate::copying::status_copy;
-use crate::games::{GameRow, Games};
+use crate::games::{GameRow, Games, SeatRow};
 use dip_machine::{KeepFault, NewSeat};
 use dip_records::{Own, Public};
 use std::alloc::{AllocError, Global};
 
-fn fresh(alloc: Global, seat: &NewSeat) -> Own
-    ensures { rows.own result ≡ (s.fresh (desk_rows.new_seat seat.now)).own }
+fn fresh(alloc: Global, seat: &NewSeat) -> SeatRow
+    ensures { stored.part result ≡ s.fresh (desk_rows.new_seat seat.now) }
 {
-    Own {
-        power: seat.power,
-        digest: seat.digest,
-        vote: false,
-        pending: Vec::new(alloc),
-        kept: None,
-        sent: 0,
-        items: 0,
+    SeatRow {
+        own: Own {
+            power: seat.power,
+            digest: seat.digest,
+            vote: false,
+            pending: Vec::new(alloc),
+            kept: None,
+            sent: 0,
+            items: 0,
+        },
+        inbox: Vec::new(alloc),
     }
 }
 
-fn fresh_seats(alloc: Global, seats: &[NewSeat]) -> Result<Vec<Own>, AllocError>
+fn fresh_seats(alloc: Global, seats: &[NewSeat]) -> Result<Vec<SeatRow>, AllocError>
     ensures { IfOk result
-        (λ v. stored.owns v.items ≡ stored.fresh_owns
+        (λ v. stored.parts v.items ≡ each s.fresh
         (each (λ n. desk_rows.new_seat n) seats.now)) }
 {
-    let mut owns = Vec::with_capacity(alloc, seats.len())?;
+    let mut new_rows = Vec::with_capacity(alloc, seats.len())?;
     for seat in seats {
-        owns.push(fresh(alloc, seat))?;
+        new_rows.push(fresh(alloc, seat))?;
     }
-    Ok(owns)
+    Ok(new_rows)
 }
 
 /// A new game, but for its name.
@@ -55,13 +57,12 @@ fn game_of(
     papers.push(paper.clone()?)?;
     Ok(GameRow {
         board: public.board.copy(alloc)?,
-        status: status_copy(alloc, &public.status)?,
+        status: public.status.copy(alloc)?,
         due: public.due,
         period: public.period,
         grey: public.grey,
         count: public.papers,
         papers,
-        posts: Vec::new(alloc),
         seats: fresh_seats(alloc, seats)?,
     })
 }

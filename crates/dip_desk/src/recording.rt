@@ -1,28 +1,30 @@
 //! What a change makes of the games.
-ghost use Rattle.std.specs.Prelude.{◌≡◌, ◌∷◌, [], ◌++◌, ◌==◌, ℕ, List, Some, IfOk, IsErrOf, OnErr, OnOk, bytes_eq, option_map, string_bytes, true};
+ghost use Rattle.std.specs.Prelude.{◌≡◌, ◌∷◌, [], ◌++◌, ◌==◌, ℕ, List, Some, IfOk, IsErrOf, OnErr, OnOk, bytes_eq, map as each, option_map, string_bytes, true};
 ghost use Rattle.std.specs.List.{AllByRecursion, list_all, list_any};
 ghost use Rattle.dip_machine.specs.Faults.{faults_after};
-ghost use Rattle.dip_desk.specs.Fitting.{FindsPlace, has_room};
+ghost use Rattle.dip_desk.specs.Fitting.{FindsPlace};
+ghost use Rattle.dip_machine.specs.State.{has_room};
 ghost use Rattle.dip_machine.specs.Keyed.{at, change_at, place};
 ghost use Rattle.dip_machine.specs.State as s;
 ghost use Rattle.dip_machine.specs.Rows as desk_rows;
 ghost use Rattle.dip_records.specs.Rows as rows;
 ghost use Rattle.dip_desk.specs.Stored as stored;
 
-use crate::copying::{item_copy, kept_copy, pending_copy, powers_copy, status_copy};
-use crate::games::{GameRow, Games, Post};
+use crate::copying::{kept_copy, pending_copy};
+use crate::games::{GameRow, Games, SeatRow};
 use crate::opening::add_game;
 use dip_machine::{Author, Change, Effect, KeepFault};
 use dip_names::Power;
 use dip_records::{Item, Kept, Own, Public, Standing};
 use std::alloc::{AllocError, Global};
+use std::rc::Rc;
 
 /// The place of the seat of that power, or the length.
-fn seat_place(seats: &[Own], power: Power) -> usize
-    ensures { result ≡ place (λ a b. a == b) stored.power_of power (stored.owns seats.now) }
+fn seat_place(seats: &[SeatRow], power: Power) -> usize
+    ensures { result ≡ place (λ a b. a == b) s.power_in power (stored.parts seats.now) }
 {
     for (number, seat) in seats.iter().enumerate() {
-        if seat.power == power {
+        if seat.own.power == power {
             return number;
         }
     }
@@ -30,21 +32,21 @@ fn seat_place(seats: &[Own], power: Power) -> usize
 }
 
 /// What a letter of its own changes in a seat.
-fn record_own(own: &mut Own, kept: Kept, effect: &Effect, pending: Option<Vec<Standing>>)
+fn record_own(seat: &mut SeatRow, kept: Kept, effect: &Effect, pending: Option<Vec<Standing>>)
     requires pending { option_map (λ l. rows.standings l.items) pending ≡ stored.orders_in
         (desk_rows.effect effect.now) }
-    requires room { stored.MaySend (desk_rows.effect effect.now) (rows.own own.old) }
-    ensures { rows.own own.new ≡ stored.own_letter (rows.kept kept) (desk_rows.effect effect.now)
-        (rows.own own.old) }
+    requires room { stored.MaySend (desk_rows.effect effect.now) (stored.part seat.old) }
+    ensures { stored.part seat.new ≡ s.with_letter (rows.kept kept)
+        (desk_rows.effect effect.now) (stored.part seat.old) }
 {
-    own.kept = Some(kept);
+    seat.own.kept = Some(kept);
     if let Some(pending) = pending {
-        own.pending = pending;
+        seat.own.pending = pending;
         return;
     }
     match effect {
-        Effect::Votes(draw) => own.vote = *draw,
-        Effect::Delivers { .. } => own.sent += 1,
+        Effect::Votes(draw) => seat.own.vote = *draw,
+        Effect::Delivers { .. } => seat.own.sent += 1,
         Effect::Nothing
         | Effect::Pending(_)
         | Effect::Opens { .. }
@@ -54,7 +56,7 @@ fn record_own(own: &mut Own, kept: Kept, effect: &Effect, pending: Option<Vec<St
 }
 
 fn record_seat(
-    seats: &mut Vec<Own>,
+    seats: &mut Vec<SeatRow>,
     power: Power,
     kept: Kept,
     effect: &Effect,
@@ -63,10 +65,10 @@ fn record_seat(
     requires pending { option_map (λ l. rows.standings l.items) pending ≡ stored.orders_in
         (desk_rows.effect effect.now) }
     requires room { AllByRecursion (stored.MaySend (desk_rows.effect effect.now))
-        (stored.owns seats.old.items) }
-    ensures { stored.owns seats.new.items ≡ change_at (λ a b. a == b) stored.power_of power
-        (stored.own_letter (rows.kept kept) (desk_rows.effect effect.now))
-        (stored.owns seats.old.items) }
+        (stored.parts seats.old.items) }
+    ensures { stored.parts seats.new.items ≡ change_at (λ a b. a == b) s.power_in power
+        (s.with_letter (rows.kept kept) (desk_rows.effect effect.now))
+        (stored.parts seats.old.items) }
 {
     let place = seat_place(seats.as_slice(), power);
     if place < seats.len() {
@@ -76,7 +78,7 @@ fn record_seat(
 
 /// What a letter changes in the seat of its author.
 fn record_author(
-    seats: &mut Vec<Own>,
+    seats: &mut Vec<SeatRow>,
     author: Author,
     kept: Kept,
     effect: &Effect,
@@ -85,9 +87,9 @@ fn record_author(
     requires pending { option_map (λ l. rows.standings l.items) pending ≡ stored.orders_in
         (desk_rows.effect effect.now) }
     requires room { AllByRecursion (stored.MaySend (desk_rows.effect effect.now))
-        (stored.owns seats.old.items) }
-    ensures { stored.owns seats.new.items ≡ stored.owns_by (desk_rows.author author)
-        (rows.kept kept) (desk_rows.effect effect.now) (stored.owns seats.old.items) }
+        (stored.parts seats.old.items) }
+    ensures { stored.parts seats.new.items ≡ s.with_author (desk_rows.author author)
+        (rows.kept kept) (desk_rows.effect effect.now) (stored.parts seats.old.items) }
 {
     match author {
         Author::Seat(power) => record_seat(seats, power, kept, effect, pending),
@@ -102,37 +104,33 @@ fn reads(readers: &[Power], power: Power) -> bool
     readers.iter().any(|reader| *reader == power)
 }
 
-/// What an effect changes in each seat of its game.
-fn reach_own(own: &mut Own, effect: &Effect)
-    requires { stored.MayHear (desk_rows.effect effect.now) (rows.own own.old) }
-    ensures { rows.own own.new ≡ stored.own_reached (desk_rows.effect effect.now)
-        (rows.own own.old) }
+/// What an effect changes in each seat of its game. Press has come into the inboxes before.
+fn reach_own(seat: &mut SeatRow, effect: &Effect)
+    ensures { stored.part seat.new ≡ stored.reached (desk_rows.effect effect.now)
+        (stored.part seat.old) }
 {
     match effect {
-        Effect::Delivers { readers, .. } => {
-            if reads(readers.as_slice(), own.power) {
-                own.items += 1;
-            }
-        }
         Effect::Publishes { played, .. } => {
             if *played {
-                own.pending.clear();
+                seat.own.pending.clear();
             }
         }
-        Effect::Seats(seat) => {
-            if seat.power == own.power {
-                own.digest = seat.digest;
+        Effect::Seats(new) => {
+            if new.power == seat.own.power {
+                seat.own.digest = new.digest;
             }
         }
-        Effect::Nothing | Effect::Pending(_) | Effect::Votes(_) | Effect::Opens { .. } => {}
+        Effect::Nothing
+        | Effect::Pending(_)
+        | Effect::Votes(_)
+        | Effect::Delivers { .. }
+        | Effect::Opens { .. } => {}
     }
 }
 
-fn reach_seats(seats: &mut Vec<Own>, effect: &Effect)
-    requires { AllByRecursion (stored.MayHear (desk_rows.effect effect.now))
-        (stored.owns seats.old.items) }
-    ensures { stored.owns seats.new.items ≡ stored.owns_reached (desk_rows.effect effect.now)
-        (stored.owns seats.old.items) }
+fn reach_seats(seats: &mut Vec<SeatRow>, effect: &Effect)
+    ensures { stored.parts seats.new.items ≡ each (stored.reached (desk_rows.effect effect.now))
+        (stored.parts seats.old.items) }
 {
     for seat in seats.iter_mut() {
         reach_own(seat, effect);
@@ -140,8 +138,8 @@ fn reach_seats(seats: &mut Vec<Own>, effect: &Effect)
 }
 
 /// Whether the counts of each seat have room for one item more, where the effect is press.
-fn finds_room(effect: &Effect, seats: &[Own]) -> bool
-    ensures { result ≡ stored.finds_room (desk_rows.effect effect.now) (stored.owns seats.now) }
+fn finds_room(effect: &Effect, seats: &[SeatRow]) -> bool
+    ensures { result ≡ stored.finds_room (desk_rows.effect effect.now) (stored.parts seats.now) }
 {
     match effect {
         Effect::Delivers { .. } => have_room(seats),
@@ -161,33 +159,36 @@ fn has_room(own: &Own) -> bool
     own.items < u32::MAX && own.sent < u32::MAX
 }
 
-fn have_room(seats: &[Own]) -> bool
-    ensures { result ≡ list_all has_room (stored.owns seats.now) }
+fn have_room(seats: &[SeatRow]) -> bool
+    ensures { result ≡ list_all (λ p. has_room p.own) (stored.parts seats.now) }
 {
-    for own in seats {
-        if !has_room(own) {
+    for seat in seats {
+        if !has_room(&seat.own) {
             return false;
         }
     }
     true
 }
 
-/// Press stands behind the press that was there.
-fn put_post(
-    alloc: Global,
-    posts: &mut Vec<Post>,
-    readers: &[Power],
-    item: &Item,
-) -> Result<(), AllocError>
-    ensures ok { OnOk result ((power : ℕ) → stored.box_of power posts.new.items ≡ stored.box_of
-        power posts.old.items ++ stored.heard power readers.now (rows.item item.now)) }
-    ensures err { OnErr result (posts.new.items ≡ posts.old.items) }
+/// Press stands behind what was in the inboxes of its readers, who share it. Before the first
+/// inbox changes, each has room for it and a share of it: a seat takes its own behind the rest.
+fn deliver(seats: &mut [SeatRow], readers: &[Power], item: &Rc<Item>) -> Result<(), AllocError>
+    requires { list_all (λ p. has_room p.own) (stored.parts seats.old) ≡ true }
+    ensures ok { OnOk result (stored.parts seats.new ≡ each (s.with_effect
+        (s.Delivers readers.now (rows.item item.now.value))) (stored.parts seats.old)) }
+    ensures err { OnErr result (stored.parts seats.new ≡ stored.parts seats.old) }
 {
-    let post = Post {
-        readers: powers_copy(alloc, readers)?,
-        item: item_copy(alloc, item)?,
+    let Some((seat, rest)) = seats.split_first_mut() else {
+        return Ok(());
     };
-    posts.push(post)?;
+    if !reads(readers, seat.own.power) {
+        return deliver(rest, readers, item);
+    }
+    seat.inbox.reserve(1)?;
+    let share = item.clone()?;
+    deliver(rest, readers, item)?;
+    seat.inbox.push_reserved(share);
+    seat.own.items += 1;
     Ok(())
 }
 
@@ -202,13 +203,12 @@ fn put_page(
         (rows.public public.now) { game = key }) }
     ensures papers { OnOk result (rows.lines game.new.papers.items ≡ rows.lines
         game.old.papers.items ++ string_bytes paper.now ∷ []) }
-    ensures posts { game.new.posts ≡ game.old.posts }
     ensures seats { game.new.seats ≡ game.old.seats }
     ensures err { OnErr result ((key : List ℕ) → stored.game key game.new ≡ stored.game key
         game.old) }
 {
     let board = public.board.copy(alloc)?;
-    let status = status_copy(alloc, &public.status)?;
+    let status = public.status.copy(alloc)?;
     game.papers.push(paper.clone()?)?;
     game.board = board;
     game.status = status;
@@ -219,17 +219,18 @@ fn put_page(
     Ok(())
 }
 
-/// What an effect brings into a game that is there, beside its seats. It alone wants memory.
+/// What an effect brings into a game that is there: press or a paper. It alone wants memory.
 fn put_content(alloc: Global, game: &mut GameRow, effect: &Effect) -> Result<(), AllocError>
+    requires { stored.finds_room (desk_rows.effect effect.now)
+        (stored.parts game.old.seats.items) ≡ true }
     ensures ok { OnOk result
         (stored.Brings (desk_rows.effect effect.now) game.old game.new) }
-    ensures seats { game.new.seats ≡ game.old.seats }
     ensures err { OnErr result ((key : List ℕ) → stored.game key game.new ≡ stored.game key
         game.old) }
 {
     match effect {
         Effect::Delivers { readers, item } => {
-            put_post(alloc, &mut game.posts, readers.as_slice(), item)
+            deliver(game.seats.as_mut_slice(), readers.as_slice(), item)
         }
         Effect::Publishes { public, paper, .. } => put_page(alloc, game, public, paper),
         Effect::Nothing
@@ -257,10 +258,10 @@ fn pending_in(alloc: Global, effect: &Effect) -> Result<Option<Vec<Standing>>, A
     }
 }
 
-/// What a change makes of the game that it names. Copies are made before the first change.
+/// What a change makes of the game that it names. What wants memory comes before the first change.
 fn record_row(alloc: Global, game: &mut GameRow, change: &Change) -> Result<(), AllocError>
     requires { stored.finds_room (desk_rows.effect change.now.effect)
-        (stored.owns game.old.seats.items) ≡ true }
+        (stored.parts game.old.seats.items) ≡ true }
     ensures ok { OnOk result ((key : List ℕ) → stored.game key game.new ≡ s.game_after
         (desk_rows.change change.now) (stored.game key game.old)) }
     ensures err { OnErr result ((key : List ℕ) → stored.game key game.new ≡ stored.game key

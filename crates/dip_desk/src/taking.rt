@@ -155,7 +155,7 @@ pub fn take<K: Keeper>(
         (m.IsDamagedBy map.now (mail letter.now)) result }
 {
     effects_fit(map);
-    let sight = look(keeper, map, letter)?;
+    let sight = look(alloc, keeper, map, letter)?;
     match verdict_on(alloc, map, letter, &sight) {
         Err(fault) => Err(fault),
         Ok(decided) => settle(alloc, keeper, map, letter, author_of(&sight), decided),

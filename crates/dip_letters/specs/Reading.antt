@@ -1,11 +1,15 @@
 -- How a text is read as a letter, on lists of bytes. The grammar is in `Letters`.
 use Rattle.std.specs.Prelude.{◌==◌, ◌&&◌, ◌||◌, not, ℕ, zero, suc, Bool, true, false, List, [], ◌∷◌, ◌++◌, Option, Some, None, codes, option_map, if◌then◌else◌}
+use Rattle.std.specs.Option.{option_or}
 use Rattle.std.specs.Str.{bytes_eq}
 use Rattle.std.specs.Str.Parse.{digits_value}
-use Rattle.dip_letters.specs.Lines.{line_at, split_lines, word_at}
-use Rattle.dip_letters.specs.Words.{is_due, is_empty, is_game, is_name, is_number, is_order_line, is_period, is_secret}
-use Rattle.dip_letters.specs.Notes.{Note, Request, SeatNote}
-use Rattle.dip_letters.specs.Notes.Request.{Create, Orders, Show, Tick}
+use Rattle.dip_letters.specs.Lines.{line_at, split_lines, split_words, word_at}
+use Rattle.dip_letters.specs.Words.{is_due, is_empty, is_game, is_name, is_number, is_order_line, is_secret, is_small_number, is_text}
+use Rattle.dip_letters.specs.Notes.{MasterRequest, Note, NoticeRequest, PlayerRequest, Request, SeatNote}
+use Rattle.dip_letters.specs.Notes.MasterRequest.{Create, Notify, Replace, Tick}
+use Rattle.dip_letters.specs.Notes.NoticeRequest.{Announce, Close, Pause, Period, Resume}
+use Rattle.dip_letters.specs.Notes.PlayerRequest.{Inbox, Orders, Press, Show, Vote, Withdraw}
+use Rattle.dip_letters.specs.Notes.Request.{Master, Player}
 use Rattle.dip_names.specs.Options.{◌>>=◌}
 
 -- what follows a name at the front
@@ -60,36 +64,73 @@ unfoldable pub lines_fit : (List ℕ → Bool) → ℕ → List ℕ → Bool
 lines_fit test zero text = is_empty text
 lines_fit test (suc n) text = is_empty text || line_fits test (lines_fit test n) (line_at text)
 
--- the seat of a line
-unfoldable pub seat_at : List ℕ → Option SeatNote
-seat_at line = do
-  words ← after_name (codes "SEAT ") line
-  w ← word_at words
-  if is_name w.0 && is_secret w.1 then Some (record { power = w.0; secret = w.1 }) else None
-
 abbrev pub is_some : {A : Type 0} → Option A → Bool
 is_some None = false
 is_some (Some x) = true
 
-abbrev pub is_seat_line : List ℕ → Bool
-is_seat_line line = is_some (seat_at line)
+abbrev pub with_item : {A : Type 0} → Option A → List A → List A
+with_item None items = []
+with_item (Some x) items = x ∷ items
 
-abbrev pub with_seat : Option SeatNote → List SeatNote → List SeatNote
-with_seat None seats = []
-with_seat (Some s) seats = s ∷ seats
+-- the items of the lines before the first that is none
+abbrev pub items_from : {A : Type 0} → (List ℕ → Option A) → List (List ℕ) → List A
+items_from item [] = []
+items_from item (l ∷ ls) = with_item (item l) (items_from item ls)
 
--- the seats of the lines before the first that is none
-abbrev pub seats_from : List (List ℕ) → List SeatNote
-seats_from [] = []
-seats_from (l ∷ ls) = with_seat (seat_at l) (seats_from ls)
+-- whether the body is 1 to so many lines that pass the test
+abbrev pub is_body : (List ℕ → Bool) → ℕ → List ℕ → Bool
+is_body test most body = not (is_empty body) && lines_fit test most body
+
+-- the items of a body, one a line
+abbrev pub items_at : {A : Type 0} → (List ℕ → Option A) → ℕ → List ℕ → Option (List A)
+items_at item most body = if is_body (λ l. is_some (item l)) most body then Some (items_from item (split_lines body)) else None
 
 -- the order lines of a body
-unfoldable pub orders_at : List ℕ → Option (List (List ℕ))
-orders_at body = if not (is_empty body) && lines_fit is_order_line 64 body then Some (split_lines body) else None
+unfoldable pub order_lines_at : List ℕ → Option (List (List ℕ))
+order_lines_at body = if is_body is_order_line 64 body then Some (split_lines body) else None
+
+-- a power and a secret
+unfoldable pub seat_words_at : List ℕ → Option SeatNote
+seat_words_at words = do
+  w ← word_at words
+  if is_name w.0 && is_secret w.1 then Some (record { power = w.0; secret = w.1 }) else None
+
+-- the seat of a line
+unfoldable pub seat_at : List ℕ → Option SeatNote
+seat_at line = do
+  words ← after_name (codes "SEAT ") line
+  seat_words_at words
 
 -- the seats of a body
 unfoldable pub seats_at : List ℕ → Option (List SeatNote)
-seats_at body = if not (is_empty body) && lines_fit is_seat_line 7 body then Some (seats_from (split_lines body)) else None
+seats_at body = items_at seat_at 7 body
+
+-- what a line of a text says behind its mark
+unfoldable pub text_at : List ℕ → Option (List ℕ)
+text_at line = do
+  text ← after_name (codes "> ") line
+  if is_text text then Some text else None
+
+-- the text of a body
+unfoldable pub texts_at : List ℕ → Option (List (List ℕ))
+texts_at body = items_at text_at 80 body
+
+abbrev pub word_fits : (List ℕ → Bool) → (List ℕ → Bool) → List ℕ → Option (List ℕ × List ℕ) → Bool
+word_fits test next text None = test text
+word_fits test next text (Some w) = test w.0 && next w.1
+
+-- a word and at most so many others, a space before each of these, all passing the test
+unfoldable pub words_fit : (List ℕ → Bool) → ℕ → List ℕ → Bool
+words_fit test zero text = test text
+words_fit test (suc n) text = word_fits test (words_fit test n) text (word_at text)
+
+-- 1 to 7 names
+unfoldable pub names_at : List ℕ → Option (List (List ℕ))
+names_at text = if words_fit is_name 6 text then Some (split_words text) else None
+
+-- an answer
+abbrev pub answer_at : List ℕ → Option Bool
+answer_at text = if bytes_eq text (codes "YES") then Some true else (if bytes_eq text (codes "NO") then Some false else None)
 
 -- a number and what follows its space
 unfoldable pub due_at : List ℕ → Option (ℕ × List ℕ)
@@ -100,41 +141,91 @@ due_at text = do
 unfoldable pub period_at : List ℕ → Option (ℕ × List ℕ)
 period_at text = do
   w ← word_at text
-  if is_period w.0 then Some (digits_value 10 w.0, w.1) else None
+  if is_small_number w.0 then Some (digits_value 10 w.0, w.1) else None
 
-abbrev pub grey_named : List ℕ → Option Bool
-grey_named text = if bytes_eq text (codes "YES") then Some true else (if bytes_eq text (codes "NO") then Some false else None)
+-- ---- commands, each by its line and the body behind it
 
--- when the game begins, its period, and whether it has grey press
-unfoldable pub opening_at : List ℕ → List ℕ → Option Request
+-- a command that is its name alone, without a body
+abbrev pub plain_at : {A : Type 0} → List ℕ → A → List ℕ → List ℕ → Option A
+plain_at name command line body = if bytes_eq line name && is_empty body then Some command else None
+
+unfoldable pub orders_at : List ℕ → List ℕ → Option PlayerRequest
+orders_at line body = if bytes_eq line (codes "ORDERS") then option_map Orders (order_lines_at body) else None
+
+-- press of a colour, whose command begins with this name
+unfoldable pub press_at : Bool → List ℕ → List ℕ → List ℕ → Option PlayerRequest
+press_at grey name line body = do
+  words ← after_name name line
+  addressees ← names_at words
+  text ← texts_at body
+  Some (Press grey addressees text)
+
+unfoldable pub vote_at : List ℕ → List ℕ → Option PlayerRequest
+vote_at line body = do
+  word ← after_name (codes "VOTE ") line
+  draw ← answer_at word
+  if is_empty body then Some (Vote draw) else None
+
+unfoldable pub inbox_at : List ℕ → List ℕ → Option PlayerRequest
+inbox_at line body = do
+  word ← after_name (codes "INBOX ") line
+  if is_small_number word && is_empty body then Some (Inbox (digits_value 10 word)) else None
+
+-- the first of two that is there
+infixl 10 ◌<|>◌
+abbrev pub ◌<|>◌ : {A : Type 0} → Option A → Option A → Option A
+first <|> second = option_or first second
+
+-- a power's command
+unfoldable pub player_at : List ℕ → List ℕ → Option PlayerRequest
+player_at line body =
+    orders_at line body <|> plain_at (codes "WITHDRAW") Withdraw line body <|> press_at false (codes "PRESS WHITE TO ") line body
+    <|> press_at true (codes "PRESS GREY TO ") line body <|> vote_at line body <|> plain_at (codes "SHOW") Show line body <|> inbox_at line body
+
+unfoldable pub new_period_at : List ℕ → List ℕ → Option NoticeRequest
+new_period_at line body = do
+  word ← after_name (codes "PERIOD ") line
+  if is_small_number word && is_empty body then Some (Period (digits_value 10 word)) else None
+
+unfoldable pub announce_at : List ℕ → List ℕ → Option NoticeRequest
+announce_at line body = if bytes_eq line (codes "ANNOUNCE") then option_map Announce (texts_at body) else None
+
+unfoldable pub notice_at : List ℕ → List ℕ → Option NoticeRequest
+notice_at line body =
+    plain_at (codes "PAUSE") Pause line body <|> plain_at (codes "RESUME") Resume line body <|> new_period_at line body <|> announce_at line body
+    <|> plain_at (codes "CLOSE") Close line body
+
+-- CREATE: when the game begins, its period, whether it has grey press, and its seats
+unfoldable pub opening_at : List ℕ → List ℕ → Option MasterRequest
 opening_at line body = do
   fields ← after_name (codes "CREATE DUE ") line
   due ← due_at fields
   more ← after_name (codes "PERIOD ") due.1
   period ← period_at more
   last ← after_name (codes "GREY ") period.1
-  grey ← grey_named last
+  grey ← answer_at last
   seats ← seats_at body
   Some (Create due.0 period.0 grey seats)
 
-abbrev pub show_at : List ℕ → Option Request
-show_at body = if is_empty body then Some Show else None
+unfoldable pub tick_at : List ℕ → List ℕ → Option MasterRequest
+tick_at line body = do
+  word ← after_name (codes "TICK ") line
+  if is_due word && is_empty body then Some (Tick (digits_value 10 word)) else None
 
--- TICK by the word behind its name, without a body
-abbrev pub tick_at : List ℕ → List ℕ → Option Request
-tick_at word body = if is_due word && is_empty body then Some (Tick (digits_value 10 word)) else None
+unfoldable pub replace_at : List ℕ → List ℕ → Option MasterRequest
+replace_at line body = do
+  words ← after_name (codes "REPLACE ") line
+  seat ← seat_words_at words
+  if is_empty body then Some (Replace seat) else None
 
--- TICK by what stands behind its name, or else CREATE
-abbrev pub tick_or_opening : Option (List ℕ) → List ℕ → List ℕ → Option Request
-tick_or_opening None line body = opening_at line body
-tick_or_opening (Some word) line body = tick_at word body
+-- the master's command
+unfoldable pub master_at : List ℕ → List ℕ → Option MasterRequest
+master_at line body = opening_at line body <|> tick_at line body <|> replace_at line body <|> option_map Notify (notice_at line body)
 
 unfoldable pub command_at : List ℕ → Option Request
 command_at text = do
   l ← line_at text
-  if bytes_eq l.0 (codes "ORDERS") then option_map Orders (orders_at l.1) else (
-      if bytes_eq l.0 (codes "SHOW") then show_at l.1 else tick_or_opening (after_name (codes "TICK ") l.0) l.0 l.1
-      )
+  option_map Player (player_at l.0 l.1) <|> option_map Master (master_at l.0 l.1)
 
 -- the note of a letter, without its last line
 unfoldable pub note_at : List ℕ → Option Note

@@ -1,5 +1,5 @@
 //! A letter by its parts, and what comes next in an input.
-use crate::{Lines, Seats};
+use crate::{Lines, Names, Seats, Texts};
 use std::error::Error;
 use std::fmt;
 
@@ -20,17 +20,69 @@ pub struct Letter<'a> {
     pub bytes: &'a [u8],
 }
 
-/// What a letter asks for.
+/// What a letter asks for: each command is a power's or the master's.
 #[derive(Clone, Copy)]
 pub enum Command<'a> {
-    /// A new game.
-    Create(Opening<'a>),
+    /// A command for powers.
+    Player(PlayerCommand<'a>),
+    /// A command for the master.
+    Master(MasterCommand<'a>),
+}
+
+/// What a power asks for.
+#[derive(Clone, Copy)]
+pub enum PlayerCommand<'a> {
     /// 1 to 64 order lines.
     Orders(Lines<'a>),
+    /// All standing orders go.
+    Withdraw,
+    /// Press to other powers.
+    Press(Press<'a>),
+    /// Whether the power votes for a draw from now on.
+    Vote(bool),
     /// The state of the game.
     Show,
-    /// The master's time, 0 to 999999999999: the game's phase is adjudicated where it is due.
+    /// The items of its inbox from this number on, 1 to 999999; the first item has the number 1.
+    Inbox(u32),
+}
+
+/// Press: a text for other powers.
+#[derive(Clone, Copy)]
+pub struct Press<'a> {
+    /// Whether its readers aren't told who wrote it.
+    pub grey: bool,
+    /// 1 to 7 names; `all` alone is every power but the writer.
+    pub addressees: Names<'a>,
+    /// 1 to 80 lines of 0 to 200 bytes from a space to `~`.
+    pub text: Texts<'a>,
+}
+
+/// What the master asks for.
+#[derive(Clone, Copy)]
+pub enum MasterCommand<'a> {
+    /// A new game.
+    Create(Opening<'a>),
+    /// The time, 0 to 999999999999: the game's phase is adjudicated where it is due.
     Tick(u64),
+    /// Another secret for the seat of a power.
+    Replace(Seat<'a>),
+    /// Something that a paper makes known, without a phase.
+    Notify(Notice<'a>),
+}
+
+/// What the master makes known by a paper in which no phase is played.
+#[derive(Clone, Copy)]
+pub enum Notice<'a> {
+    /// No tick adjudicates until the game is resumed.
+    Pause,
+    /// Ticks adjudicate again.
+    Resume,
+    /// The ticks from one due tick to the next from now on, 1 to 999999; the due tick that stands stays.
+    Period(u32),
+    /// An announcement of 1 to 80 lines of 0 to 200 bytes from a space to `~`.
+    Announce(Texts<'a>),
+    /// The game is over.
+    Close,
 }
 
 /// A game to be opened.

@@ -1,15 +1,18 @@
 -- What is decided of a letter fits the map.
-use Rattle.std.proofs.Common.{◌≡◌, ℕ, ◌<◌, ◌==◌, ◌&&◌, ◌+◌, Bool, nat_lt, length, inr, true, false, List, [], ◌∷◌, map, Option, Some, None, Result, Ok, Err, refl, sym, ap, subst}
-use Rattle.std.specs.List.{AllByRecursion, list_any}
+use Rattle.std.proofs.Common.{◌≡◌, ℕ, zero, suc, arith, bytes_eq, cond, not, ◌<◌, ◌==◌, ◌&&◌, ◌+◌, Bool, nat_lt, length, inl, inr, true, false, List, [], ◌∷◌, map, Option, Some, None, Result, Ok, Err, refl, sym, ap, subst}
+use Rattle.std.specs.List.{AllByRecursion, list_any, range_with_len}
+use Rattle.std.specs.Prelude.{filter}
+use Rattle.std.proofs.lemmas.List.Quantifiers.{position-Some}
 use Rattle.std.proofs.lemmas.Bool.{and_parts, ltb-true}
 use Rattle.dip_names.specs.declared.names.Kind.{Kind}
 use Rattle.dip_names.specs.declared.names.Kind.TheVariants.{Army, Fleet}
 use Rattle.dip_names.specs.declared.names.Unit.{Unit as AUnit}
 use Rattle.dip_board.specs.declared.boards.Dislodged.{Dislodged}
 use Rattle.dip_board.specs.Boards.{Position, IsOf, is_dislodged, opening}
-use Rattle.dip_chart.specs.Charts.{Chart, IsMap, home, is_unit, may_stand}
+use Rattle.dip_chart.specs.Charts.{Chart, IsMap, Realm, home, is_unit, may_stand, no_realm, power_of, powers}
 use Rattle.dip_letters.specs.Notes.{Request}
-use Rattle.dip_letters.specs.Notes.Request.{Create, Orders, Show, Tick}
+use Rattle.dip_letters.specs.Notes.MasterRequest.{Tick}
+use Rattle.dip_letters.specs.Notes.Request.{Master}
 use Rattle.dip_orders.proofs.FindLaws.{find_among}
 use Rattle.dip_orders.proofs.LawfulReadLaws.{centre_low, home_centre}
 use Rattle.dip_orders.specs.Lawful.{IsAllowed, IsDislodged, MayCome, Stands}
@@ -18,17 +21,18 @@ use Rattle.dip_orders.specs.declared.faults.OrderFault.{OrderFault}
 use Rattle.dip_orders.specs.declared.placed.Order.{Order}
 use Rattle.dip_orders.specs.declared.placed.Order.TheVariants.{Hold, Move, SupportHold, SupportMove, Convoy, Retreat, Disband, Build, Remove}
 use Rattle.dip_orders.specs.declared.placed.PlacedOrder.{PlacedOrder}
-use Rattle.dip_records.specs.Records.{Own, Public, Standing}
+use Rattle.dip_records.specs.Records.{Item, Own, Public, Standing}
 use Rattle.dip_machine.specs.Fitting.{EffectsFit, FitsMap}
 use Rattle.dip_machine.specs.Lawful.{AreAscending}
-use Rattle.dip_machine.specs.Machine.{IsOffMap, IsPublished, IsUnplayable, Verdict, NotKnown, Again, OutOfTurn, Taken, orders_verdict, seat_command, seen_in, unless_over, verdict_by, verdict_on}
+use Rattle.dip_machine.specs.Machine.{IsOffMap, IsPublished, IsSpoiledIn, Verdict, NotKnown, Again, OutOfTurn, Taken, page_shown, seat_command, seen_in, verdict_by, verdict_on}
 use Rattle.dip_machine.specs.Mail.{Mail}
 use Rattle.dip_machine.specs.Ordering.{Ordered, after_line, after_lines, kept_orders, orders_after, orders_that_stand, outcome_of_lines, prov_of, standing_with}
-use Rattle.dip_machine.specs.State.{Effect, Game, Nobody, Nothing, Pending, Votes, Delivers, Opens, Publishes, Seats, Seat, TheMaster, game_at, own_of, seat_at, whole_of}
-use Rattle.dip_machine.specs.Ticking.{IsPlayable, is_over, orders_of, public_played}
+use Rattle.dip_machine.specs.Pressing.{named_powers, readers_of, with_power}
+use Rattle.dip_machine.specs.State.{Effect, Game, Nobody, Nothing, Part, Pending, Votes, Delivers, Opens, Publishes, Seats, Seat, TheMaster, game_at, seat_at, whole_of}
+use Rattle.dip_machine.specs.Ticking.{IsPlayable, orders_of, public_played}
 use Rattle.dip_machine.proofs.LawfulOrders.{AreRead, all_with_order, with_order_ascending}
 use Rattle.dip_machine.proofs.LawfulStates.{OpensLawful, StaysOf, master_lawful}
-use Rattle.dip_machine.proofs.Suiting.{ByTick, Comes, decides_suits, master_by_tick, seat_holds}
+use Rattle.dip_machine.proofs.Suiting.{Comes, IsPosted, command_holds, decides_suits, master_posted, readers_hold, seat_holds}
 
 -- the unit of an order that can be given is in a province of the map
 
@@ -112,23 +116,55 @@ VerdictFits m (Again text) = Unit {0}
 VerdictFits m (OutOfTurn text) = Unit {0}
 VerdictFits m (Taken text e) = FitsMap m e
 
-command_fits : (m : Chart) (p : Public) (o : Own) (command : Request) → IsMap m → IsOf m p.board → AreRead m p.board → VerdictFits m (seat_command m command p o)
-command_fits m p o (Create due period grey seats) ok of read = tt
-command_fits m p o (Orders lines) ok of read = go (is_over p.status)
+all_filtered : (P : ℕ → Type 0) (test : ℕ → Bool) (ps : List ℕ) → AllByRecursion P ps → AllByRecursion P (filter test ps)
+all_filtered P test [] all = tt
+all_filtered P test (p ∷ ps) all = go (test p) (all_filtered P test ps all.1)
   where
-    go : (over : Bool) → VerdictFits m (unless_over over (orders_verdict m (outcome_of_lines m p.board o.power o.pending lines)))
-    go true = tt
-    go false =
-        kept_fit m (outcome_of_lines m p.board o.power o.pending lines).orders
-        (lines_fit m p.board o.power 1 lines (record { orders = orders_that_stand m p.board o.power o.pending; answers = [] }) ok of read
-        (standing_fit m p.board o.power [] o.pending ok of read (record { ascending = tt; low = tt })))
-command_fits m p o Show ok of read = tt
-command_fits m p o (Tick tick) ok of read = tt
+    go : (b : Bool) → AllByRecursion P (filter test ps) → AllByRecursion P (cond b (p ∷ filter test ps) (filter test ps))
+    go true rest = (all.0, rest)
+    go false rest = rest
 
-seat_fits : (m : Chart) (n : Mail) (p : Public) (o : Option Own) → IsMap m → IsOf m p.board → AreRead m p.board → VerdictFits m (verdict_by m n (Some p) o)
+powers_low : (i n most : ℕ) → i + n ≡ most → AllByRecursion (λ p. p < most) (range_with_len i n)
+powers_low i zero most all = tt
+powers_low i (suc n) most all = (omega (arith, all), powers_low (i + 1) n most (omega (arith, all)))
+
+-- the powers of names are powers of the map
+named_low : (m : Chart) (names : List (List ℕ)) (found : List ℕ) → named_powers m names ≡ Some found → AllByRecursion (λ p. p < length m.realms) found
+named_low m [] found is = let none : [] ≡ found = cc in subst (AllByRecursion (λ p. p < length m.realms)) none tt
+named_low m (name ∷ names) found is = go (power_of m name) refl (named_powers m names) refl (named_low m names) is
+  where
+    go : (q : Option ℕ) → power_of m name ≡ q → (rest : Option (List ℕ)) → named_powers m names ≡ rest
+        → ((qs : List ℕ) → named_powers m names ≡ Some qs → AllByRecursion (λ p. p < length m.realms) qs) → with_power q rest ≡ Some found → AllByRecursion (λ p. p < length m.realms) found
+    go None at rest more low e = absurd (cc)
+    go (Some q) at None more low e = absurd (cc)
+    go (Some q) at (Some qs) more low e =
+        let same : q ∷ qs ≡ found = cc in
+        subst (AllByRecursion (λ p. p < length m.realms)) same ((position-Some (λ (x : Realm). bytes_eq x.name name) m.realms q no_realm at).0, low qs more)
+
+pub readers_low : (m : Chart) (writer : ℕ) (names : List (List ℕ)) (readers : List ℕ) → readers_of m writer names ≡ Some readers → AllByRecursion (λ p. p < length m.realms) readers
+readers_low m writer names readers =
+    readers_hold (AllByRecursion (λ p. p < length m.realms)) m writer names readers
+    (all_filtered (λ p. p < length m.realms) (λ p. not (p == writer)) (powers m) (powers_low 0 (length m.realms) (length m.realms) (omega arith)))
+    (λ found is may. named_low m names found is)
+
+command_fits : (m : Chart) (p : Public) (o : Own) (page : List Item) (command : Request) → IsMap m → IsOf m p.board → AreRead m p.board → VerdictFits m (seat_command m command p o page)
+command_fits m p o page command ok of read = command_holds (VerdictFits m) m command p o page (record {
+  refused = λ r. tt;
+  told = λ t. tt;
+  ordered = λ lines.
+      kept_fit m (outcome_of_lines m p.board o.power o.pending lines).orders
+      (lines_fit m p.board o.power 1 lines (record { orders = orders_that_stand m p.board o.power o.pending; answers = [] }) ok of read
+      (standing_fit m p.board o.power [] o.pending ok of read (record { ascending = tt; low = tt })));
+  withdrawn = (tt, tt);
+  voted = λ draw. tt;
+  sent = λ grey names lines readers is found few. readers_low m o.power names readers found;
+})
+
+seat_fits : (m : Chart) (n : Mail) (p : Public) (x : Option Part) → IsMap m → IsOf m p.board → AreRead m p.board → VerdictFits m (verdict_by m n (Some p) x)
 seat_fits m n p None ok of read = tt
-seat_fits m n p (Some o) ok of read =
-    seat_holds (VerdictFits m) (λ t. tt) (λ t. tt) n o.kept (seat_command m n.note.command p o) (command_fits m p o n.note.command ok of read)
+seat_fits m n p (Some x) ok of read =
+    seat_holds (VerdictFits m) (λ t. tt) (λ t. tt) n x.own.kept (seat_command m n.note.command p x.own (page_shown n.note.command x.box))
+    (command_fits m p x.own (page_shown n.note.command x.box) n.note.command ok of read)
 
 -- what TICK publishes fits where the phase could be adjudicated
 ticked_fits : (m : Chart) (tick : ℕ) (g : Game) (text paper : List ℕ) (public : Public) (played : Bool) → StaysOf m → IsPlayable m (whole_of g)
@@ -137,26 +173,28 @@ ticked_fits m tick g text paper public played stays can p =
     let behind : public ≡ public_played tick g.public p.board p.report.course = cc in
     subst (λ (q : Public). IsOf m q.board) (sym behind) (stays g.public.board (orders_of m (whole_of g)) p.board p.report can.board can.given p.played)
 
--- the master's letters fit, but for TICK of a game whose phase can't be adjudicated
-master_fits : (m : Chart) (command : Request) (game : Option Game) (text : List ℕ) (e : Effect) → IsOf m (opening m) → StaysOf m → Comes TheMaster game e → OpensLawful m (Taken text e)
-    → ByTick m command game (Taken text e) → (FitsMap m e → ⊥) → IsUnplayable m command game
+-- the master's letters fit, but in a game where its command can't be done
+master_fits : (m : Chart) (command : Request) (game : Option Game) (text : List ℕ) (e : Effect) → IsOf m (opening m) → StaysOf m → Comes TheMaster game e → OpensLawful m command (Taken text e)
+    → IsPosted m command game (Taken text e) → (FitsMap m e → ⊥) → IsSpoiledIn m command game
 master_fits m command game text Nothing fine stays comes h by unfit = absurd (unfit tt)
 master_fits m command game text (Pending orders) fine stays comes h by unfit = absurd comes
 master_fits m command game text (Votes draw) fine stays comes h by unfit = absurd comes
 master_fits m command game text (Delivers readers item) fine stays comes h by unfit = absurd comes
 master_fits m command game text (Opens public paper seats) fine stays comes h by unfit = absurd (unfit (subst (IsOf m) (sym h.board) fine, h.complete, h.known))
-master_fits m command game text (Publishes public paper played) fine stays comes h by unfit =
-    subst (λ (c : Request). IsUnplayable m c game) (sym by.2) (subst (IsUnplayable m (Tick by.0)) (sym by.3) (λ can. unfit (ticked_fits m by.0 by.1 text paper public played stays can by.4)))
-master_fits m command game text (Seats seat) fine stays comes h by unfit = absurd comes
+master_fits m command game text (Publishes public paper true) fine stays comes h by unfit =
+    subst (λ (c : Request). IsSpoiledIn m c game) (sym by.2) (subst (IsSpoiledIn m (Master (Tick by.0))) (sym by.3) (λ can. unfit (ticked_fits m by.0 by.1 text paper public true stays can by.4)))
+master_fits m command game text (Publishes public paper false) fine stays comes h by unfit =
+    subst (IsSpoiledIn m command) (sym by.1) (by.3 (λ of. unfit (subst (IsOf m) (sym by.2.board) of)))
+master_fits m command game text (Seats seat) fine stays comes h by unfit = absurd (unfit by)
 
 pub effects_fit : (m : Chart) → IsMap m → IsOf m (opening m) → ((b : Position) → IsOf m b → AreRead m b) → StaysOf m → EffectsFit m
 effects_fit m ok fine read stays s n Nobody text e d unfit = let bad : ◌≡◌ {A = Verdict} (Taken text e) NotKnown = d in absurd (cc)
 effects_fit m ok fine read stays s n TheMaster text e d unfit =
     master_fits m n.note.command (game_at n.note.game s) text e fine stays (decides_suits m s n TheMaster (Taken text e) d).0
     (master_lawful m n s.desk.kept n.note.command (game_at n.note.game s) (Taken text e) d)
-    (master_by_tick m n s.desk.kept n.note.command (game_at n.note.game s) (Taken text e) d) unfit
-effects_fit m ok fine read stays s n (Seat power) text e d unfit = inr (go (game_at n.note.game s) d)
+    (master_posted m n s.desk.kept n.note.command (game_at n.note.game s) (Taken text e) d) unfit
+effects_fit m ok fine read stays s n (Seat power) text e d unfit = inr (inl (go (game_at n.note.game s) d))
   where
     go : (game : Option Game) → Taken text e ≡ verdict_on m n (seen_in power game) → IsOffMap m (seen_in power game).public
     go None is = let bad : ◌≡◌ {A = Verdict} (Taken text e) NotKnown = is in absurd (cc)
-    go (Some g) is = λ of. unfit (subst (VerdictFits m) (sym is) (seat_fits m n g.public (own_of (seat_at power g.seats)) ok of (read g.public.board of)))
+    go (Some g) is = λ of. unfit (subst (VerdictFits m) (sym is) (seat_fits m n g.public (seat_at power g.seats) ok of (read g.public.board of)))

@@ -146,7 +146,7 @@ both true true h = (refl, refl)
 both true false h = (refl, h)
 both false b h = absurd (cc)
 
-each_counted : (test : ℕ → Bool) (i n p : ℕ) → list_all test (range_with_len i n) ≡ true → i ≤ p → p < i + n → test p ≡ true
+pub each_counted : (test : ℕ → Bool) (i n p : ℕ) → list_all test (range_with_len i n) ≡ true → i ≤ p → p < i + n → test p ≡ true
 each_counted test i zero p all low high = absurd (omega (arith, low, high))
 each_counted test i (suc n) p all low high =
     let parts = both (test i) (list_all test (range_with_len (i + 1) n)) all in

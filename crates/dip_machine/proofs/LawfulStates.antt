@@ -1,37 +1,42 @@
 -- Each step keeps a state lawful.
-use Rattle.std.proofs.Common.{◌≡◌, ◌<◌, ◌≤◌, ℕ, nat_lt, length, arith, option_map, ◌==◌, ◌+◌, Bool, true, false, cond, List, [], ◌∷◌, ◌++◌, append-nil, length-append, inl, inr, refl, sym, ap, subst, ◌∙◌, Option, Some, None, bytes_eq, map}
+use Rattle.std.proofs.Common.{◌≡◌, ◌<◌, ◌≤◌, ◌*◌, ℕ, suc, nat_le, nat_lt, length, lt-ltb, arith, option_map, ◌==◌, ◌+◌, Bool, true, false, cond, List, [], ◌∷◌, ◌++◌, append-nil, length-append, inl, inr, refl, sym, ap, subst, ◌∙◌, Option, Some, None, bytes_eq, map}
 use Rattle.std.specs.Prelude.{count_by, ◌||◌}
-use Rattle.std.specs.List.{AllByRecursion, list_any}
+use Rattle.std.specs.List.{AllByRecursion, list_all, list_any}
 use Rattle.std.specs.Option.{option_or}
-use Rattle.std.proofs.lemmas.Bool.{eqb-false, false≢true, ltb-false}
-use Rattle.dip_letters.specs.Notes.{Request}
-use Rattle.dip_letters.specs.Notes.Request.{Create, Orders, Show, Tick}
-use Rattle.dip_board.specs.Boards.{Position, IsOf, opening}
+use Rattle.std.proofs.lemmas.Bool.{eqb-false, eqb-true, false≢true, ltb-false}
+use Rattle.std.proofs.lemmas.Bool.Decides.{nat_tests}
+use Rattle.std.proofs.lemmas.List.{length-map}
 use Rattle.std.proofs.lemmas.List.Quantifiers.{position-Some}
-use Rattle.dip_letters.specs.Notes.{SeatNote}
+use Rattle.dip_letters.specs.Letters.{FitsRequest}
+use Rattle.dip_letters.specs.Notes.{Request, SeatNote}
+use Rattle.dip_letters.specs.Notes.MasterRequest.{Create, Tick, Replace, Notify}
+use Rattle.dip_letters.specs.Notes.PlayerRequest.{Orders, Withdraw, Press, Vote, Show, Inbox}
+use Rattle.dip_letters.specs.Notes.Request.{Player, Master}
+use Rattle.dip_board.specs.Boards.{Position, IsOf, opening}
 use Rattle.dip_chart.specs.Charts.{Chart, Realm, no_realm, power_of, powers}
-use Rattle.dip_records.specs.Records.{Public, Own, Kept}
+use Rattle.dip_records.specs.Records.{Item, Kept, Own, Public}
 use Rattle.dip_reports.specs.Texts.{refusal_line}
-use Rattle.dip_reports.specs.declared.refusals.Refusal.TheVariants.{Malformed, NumberUsed, Stale}
+use Rattle.dip_reports.specs.declared.refusals.Refusal.TheVariants.{NumberUsed, Stale}
 use Rattle.dip_machine.specs.Keyed.{at, change_at}
 use Rattle.dip_machine.specs.Lawful.{AreNamedApart, AreStanding, IsLawful, IsLawfulGame, IsLawfulSeat, IsNeverDamaged, StaysLawful, last_number, sent_by_others}
-use Rattle.dip_machine.specs.Machine.{Decides, change_of, IsForeignTo, IsNotForMaster, IsOffMap, IsPublished, IsUnplayable, TicksIn, Verdict, MasterDecides, NumberedBy, NotKnown, Again, OutOfTurn, Taken, after, are_complete, author, creation, digest, kept_of, new_seats, old_number, open_game, with_more, opening_public, refusal_verdict, orders_verdict, seat_command, seat_verdict, seen_in, unless_over, verdict_by, verdict_on}
+use Rattle.dip_machine.specs.Machine.{Decides, DecidesIn, change_of, IsForeignTo, IsFull, IsOffMap, IsSpoiled, IsSpoiledIn, Verdict, MasterDecides, NumberedBy, NotKnown, Again, OutOfTurn, Taken, after, are_complete, author, creation, digest, kept_of, new_seat, new_seats, old_number, with_more, opening_public, page_shown, seat_command, seat_verdict, seen_in, verdict_by, verdict_on}
 use Rattle.dip_machine.specs.Mail.{IsMail, Mail}
-use Rattle.dip_machine.specs.State.{State, Game, Part, Author, Nobody, TheMaster, Seat, Change, Effect, Nothing, Pending, Votes, Delivers, Opens, Publishes, Seats, NewSeat, behind_paper, desk_after, fresh, game_after, game_at, name_of, new_games, opening_game, own_of, papers_after, power_in, public_after, seat_at, whole_of, with_author, with_effect, with_letter}
-use Rattle.dip_machine.specs.Ordering.{has_foreign, outcome_of_lines}
-use Rattle.dip_machine.specs.Ticking.{IsPlayable, is_due, is_over, orders_of, public_played}
+use Rattle.dip_machine.specs.Pressing.{is_among}
+use Rattle.dip_machine.specs.State.{State, Game, Part, Author, Nobody, TheMaster, Seat, Change, Effect, Nothing, Pending, Votes, Delivers, Opens, Publishes, Seats, NewSeat, behind_paper, desk_after, fresh, game_after, game_at, has_room, name_of, new_games, opening_game, own_of, papers_after, power_in, public_after, seat_at, whole_of, with_author, with_digest, with_effect, with_item, with_letter}
+use Rattle.dip_machine.specs.Ordering.{has_foreign}
+use Rattle.dip_machine.specs.Ticking.{IsPlayable, orders_of, public_played}
+use Rattle.dip_orders.proofs.KeptLaws.{count_cons}
 use Rattle.dip_orders.specs.Given.{AreGiven}
 use Rattle.dip_orders.specs.declared.placed.PlacedOrder.{PlacedOrder}
 use Rattle.dip_turn.specs.Reports.{IsPlayed}
 use Rattle.dip_turn.specs.declared.report.Report.{Report}
-use Rattle.dip_machine.proofs.KeyedLemmas.{at-append, names_tell}
+use Rattle.dip_machine.proofs.KeyedLemmas.{at-append, names_tell, powers_tell}
 use Rattle.dip_machine.proofs.LawfulOrders.{AreRead, ordered_standing, standing_own}
-use Rattle.dip_machine.proofs.Counting.{all_weaker}
+use Rattle.dip_machine.proofs.Counting.{all_both, all_weaker}
 use Rattle.dip_machine.proofs.ListLemmas.{all_at, all_change, all_last, all_map, all_same, count_change, count_map}
 use Rattle.dip_machine.proofs.Seeing.{effect_power, letter_power, name_kept}
-use Rattle.dip_machine.proofs.Others.{seat_unpublished}
-use Rattle.dip_machine.proofs.Suiting.{Comes, IsFitting, decides_suits, master_by_tick, master_where, numbered_holds, seat_holds, ticks_hold}
-use Rattle.dip_machine.proofs.Handing.{whole_given}
+use Rattle.dip_machine.proofs.Suiting.{Comes, IsFitting, IsPosted, command_holds, decides_suits, master_holds, master_posted, master_where, seat_holds}
+use Rattle.dip_machine.proofs.Handing.{each_counted, whole_given}
 
 -- names stay apart
 
@@ -87,124 +92,56 @@ apart_last (g ∷ gs) new apart none =
 
 -- a seat's letter
 
-abbrev pub Fits : Chart → Position → ℕ → Effect → Type 0
-Fits m b power Nothing = Unit {0}
-Fits m b power (Pending orders) = AreStanding m b power orders
-Fits m b power (Votes draw) = Unit {0}
-Fits m b power (Delivers readers item) = Unit {0}
-Fits m b power (Opens public paper seats) = Unit {0}
-Fits m b power (Publishes public paper played) = Unit {0}
-Fits m b power (Seats seat) = Unit {0}
+abbrev pub Fits : Chart → Position → Own → Effect → Type 0
+Fits m b o Nothing = Unit {0}
+Fits m b o (Pending orders) = AreStanding m b o.power orders
+Fits m b o (Votes draw) = Unit {0}
+Fits m b o (Delivers readers item) = o.sent < 10000
+Fits m b o (Opens public paper seats) = Unit {0}
+Fits m b o (Publishes public paper played) = Unit {0}
+Fits m b o (Seats seat) = Unit {0}
 
-abbrev pub VerdictFits : Chart → Position → ℕ → Verdict → Type 0
-VerdictFits m b power NotKnown = Unit {0}
-VerdictFits m b power (Again text) = Unit {0}
-VerdictFits m b power (OutOfTurn text) = Unit {0}
-VerdictFits m b power (Taken text e) = Fits m b power e
+abbrev pub VerdictFits : Chart → Position → Own → Verdict → Type 0
+VerdictFits m b o NotKnown = Unit {0}
+VerdictFits m b o (Again text) = Unit {0}
+VerdictFits m b o (OutOfTurn text) = Unit {0}
+VerdictFits m b o (Taken text e) = Fits m b o e
+
+none_standing : (m : Chart) (b : Position) (power : ℕ) → AreStanding m b power []
+none_standing m b power = record { orders = []; lines = refl; ascending = tt; each = tt }
 
 letter_lawful : (m : Chart) (b : Position) (k : Kept) (p : ℕ) (game : Option Game) (e : Effect) (s : Part) → Comes (Seat p) game e → k.number ≤ 999999999 → IsLawfulSeat m b s
-    → Fits m b (power_in s) e → IsLawfulSeat m b (with_letter k e s)
+    → Fits m b s.own e → IsLawfulSeat m b (with_letter k e s)
 letter_lawful m b k p None e s comes few l fits = absurd comes
 letter_lawful m b k p (Some g) Nothing s comes few l fits = record { power = l.power; pending = l.pending; last = few; sent = l.sent; items = l.items; box = l.box }
 letter_lawful m b k p (Some g) (Pending orders) s comes few l fits = record { power = l.power; pending = fits; last = few; sent = l.sent; items = l.items; box = l.box }
-letter_lawful m b k p (Some g) (Votes draw) s comes few l fits = absurd comes
-letter_lawful m b k p (Some g) (Delivers readers item) s comes few l fits = absurd comes
+letter_lawful m b k p (Some g) (Votes draw) s comes few l fits = record { power = l.power; pending = l.pending; last = few; sent = l.sent; items = l.items; box = l.box }
+letter_lawful m b k p (Some g) (Delivers readers item) s comes few l fits = record { power = l.power; pending = l.pending; last = few; sent = omega (arith, fits); items = l.items; box = l.box }
 letter_lawful m b k p (Some g) (Opens public paper seats) s comes few l fits = absurd comes
 letter_lawful m b k p (Some g) (Publishes public paper played) s comes few l fits = absurd comes
 letter_lawful m b k p (Some g) (Seats seat) s comes few l fits = absurd comes
 
-command_fits : (m : Chart) (p : Public) (o : Own) (command : Request) → AreRead m p.board → AreStanding m p.board o.power o.pending → VerdictFits m p.board o.power (seat_command m command p o)
-command_fits m p o (Create due period grey seats) again l = tt
-command_fits m p o (Orders lines) again l = go (is_over p.status)
-  where
-    go : (over : Bool) → VerdictFits m p.board o.power (unless_over over (orders_verdict m (outcome_of_lines m p.board o.power o.pending lines)))
-    go true = tt
-    go false = ordered_standing m p.board o.power o.pending lines again l
-command_fits m p o Show again l = tt
-command_fits m p o (Tick tick) again l = tt
+below : (a : ℕ) → nat_le 10000 a ≡ false → a < 10000
+below a is = grind (arith, nat_tests)
+
+command_fits : (m : Chart) (p : Public) (o : Own) (page : List Item) (command : Request) → AreRead m p.board → AreStanding m p.board o.power o.pending
+    → VerdictFits m p.board o (seat_command m command p o page)
+command_fits m p o page command again l = command_holds (VerdictFits m p.board o) m command p o page (record {
+  refused = λ r. tt;
+  told = λ t. tt;
+  ordered = λ lines. ordered_standing m p.board o.power o.pending lines again l;
+  withdrawn = none_standing m p.board o.power;
+  voted = λ draw. tt;
+  sent = λ grey names lines readers of found few. below o.sent few;
+})
 
 seat_fits : (m : Chart) (n : Mail) (g : Game) (p : ℕ) (text : List ℕ) (e : Effect) → AreRead m g.public.board → Taken text e ≡ verdict_on m n (seen_in p (Some g))
-    → (s : Part) → seat_at p g.seats ≡ Some s → IsLawfulSeat m g.public.board s → Fits m g.public.board (power_in s) e
+    → (s : Part) → seat_at p g.seats ≡ Some s → IsLawfulSeat m g.public.board s → Fits m g.public.board s.own e
 seat_fits m n g p text e again d s found l =
-    let is : seat_verdict m n g.public s.own ≡ Taken text e = sym (d ∙ ap (λ (x : Option Part). verdict_by m n (Some g.public) (own_of x)) found) in
-    subst (VerdictFits m g.public.board (power_in s)) is
-    (seat_holds (VerdictFits m g.public.board (power_in s)) (λ t. tt) (λ t. tt) n s.own.kept (seat_command m n.note.command g.public s.own) (command_fits m g.public s.own n.note.command again l.pending))
-
--- an effect that publishes no paper of a game that is there leaves each seat but the author's, the public part and the papers
-pub record IsStill (e : Effect) : Type 0 where
-  pub seats : (s : Part) → with_effect e s ≡ s
-  pub sent : (k : Kept) (s : Part) → (with_letter k e s).own.sent ≡ s.own.sent
-  pub public : (p : Public) → public_after e p ≡ p
-  pub papers : (ps : List (List ℕ)) → papers_after e ps ≡ ps
-
-abbrev pub IsPublication : Effect → Type 0
-IsPublication Nothing = ⊥
-IsPublication (Pending orders) = ⊥
-IsPublication (Votes draw) = ⊥
-IsPublication (Delivers readers item) = ⊥
-IsPublication (Opens public paper seats) = ⊥
-IsPublication (Publishes public paper played) = Unit {0}
-IsPublication (Seats seat) = ⊥
-
-seat_publishes_not : (p : ℕ) (game : Option Game) (e : Effect) → Comes (Seat p) game e → IsPublication e → ⊥
-seat_publishes_not p None e h is = absurd h
-seat_publishes_not p (Some g) Nothing h is = is
-seat_publishes_not p (Some g) (Pending orders) h is = is
-seat_publishes_not p (Some g) (Votes draw) h is = absurd h
-seat_publishes_not p (Some g) (Delivers readers item) h is = absurd h
-seat_publishes_not p (Some g) (Opens public paper seats) h is = absurd h
-seat_publishes_not p (Some g) (Publishes public paper played) h is = absurd h
-seat_publishes_not p (Some g) (Seats seat) h is = absurd h
-
-comes_still : (who : Author) (game : Option Game) (e : Effect) → Comes who game e → (IsPublication e → ⊥) → IsStill e
-comes_still Nobody game e h quiet = absurd h
-comes_still TheMaster game Nothing h quiet = record { seats = λ s. refl; sent = λ k s. refl; public = λ p. refl; papers = λ ps. refl }
-comes_still TheMaster game (Pending orders) h quiet = absurd h
-comes_still TheMaster game (Votes draw) h quiet = absurd h
-comes_still TheMaster game (Delivers readers item) h quiet = absurd h
-comes_still TheMaster game (Opens public paper seats) h quiet = record { seats = λ s. refl; sent = λ k s. refl; public = λ p. refl; papers = λ ps. refl }
-comes_still TheMaster game (Publishes public paper played) h quiet = absurd (quiet tt)
-comes_still TheMaster game (Seats seat) h quiet = absurd h
-comes_still (Seat p) None e h quiet = absurd h
-comes_still (Seat p) (Some g) Nothing h quiet = record { seats = λ s. refl; sent = λ k s. refl; public = λ p. refl; papers = λ ps. refl }
-comes_still (Seat p) (Some g) (Pending orders) h quiet = record { seats = λ s. refl; sent = λ k s. refl; public = λ p. refl; papers = λ ps. refl }
-comes_still (Seat p) (Some g) (Votes draw) h quiet = absurd h
-comes_still (Seat p) (Some g) (Delivers readers item) h quiet = absurd h
-comes_still (Seat p) (Some g) (Opens public paper seats) h quiet = absurd h
-comes_still (Seat p) (Some g) (Publishes public paper played) h quiet = absurd h
-comes_still (Seat p) (Some g) (Seats seat) h quiet = absurd h
-
--- a change that leaves each seat its power and what it has sent leaves the others' sum
-sent_changed : (p power : ℕ) (f : Part → Part) (seats : List Part) → ((s : Part) → power_in (f s) ≡ power_in s) → ((s : Part) → (f s).own.sent ≡ s.own.sent)
-    → sent_by_others power (change_at (λ a b. a == b) power_in p f seats) ≡ sent_by_others power seats
-sent_changed p power f [] keeps same = refl
-sent_changed p power f (s ∷ ss) keeps same = go (power_in s == p) (sent_changed p power f ss keeps same)
-  where
-    counted : ℕ → ℕ → ℕ
-    counted q sent = cond (q == power) 0 sent
-
-    go : (b : Bool) → sent_by_others power (change_at (λ a b. a == b) power_in p f ss) ≡ sent_by_others power ss
-        → sent_by_others power (cond b (f s ∷ ss) (s ∷ change_at (λ a b. a == b) power_in p f ss)) ≡ counted (power_in s) s.own.sent + sent_by_others power ss
-    go true rest =
-        ap (λ (q : ℕ). counted q (f s).own.sent + sent_by_others power ss) (keeps s) ∙ ap (λ (n : ℕ). counted (power_in s) n + sent_by_others power ss) (same s)
-    go false rest = ap (λ (n : ℕ). counted (power_in s) s.own.sent + n) rest
-
-map_same : (f : Part → Part) (seats : List Part) → ((s : Part) → f s ≡ s) → map f seats ≡ seats
-map_same f [] same = refl
-map_same f (s ∷ ss) same = ap (λ (t : Part). t ∷ map f ss) (same s) ∙ ap (λ (ts : List Part). s ∷ ts) (map_same f ss same)
-
--- no box holds more than the others have sent behind a letter that sends none
-author_boxes : (who : Author) (k : Kept) (e : Effect) (seats : List Part) → IsStill e → AllByRecursion (λ s. length s.box ≤ sent_by_others (power_in s) seats) seats
-    → AllByRecursion (λ s. length s.box ≤ sent_by_others (power_in s) (with_author who k e seats)) (with_author who k e seats)
-author_boxes Nobody k e seats still all = all
-author_boxes TheMaster k e seats still all = all
-author_boxes (Seat p) k e seats still all =
-    all_weaker (λ (s : Part). length s.box ≤ sent_by_others (power_in s) seats)
-    (λ (s : Part). length s.box ≤ sent_by_others (power_in s) (change_at (λ a b. a == b) power_in p (with_letter k e) seats))
-    (change_at (λ a b. a == b) power_in p (with_letter k e) seats)
-    (λ (s : Part) few. subst (λ (n : ℕ). length s.box ≤ n) (sym (sent_changed p (power_in s) (with_letter k e) seats (letter_power k e) (still.sent k))) few)
-    (all_change (λ a b. a == b) power_in p (with_letter k e) (λ (s : Part). length s.box ≤ sent_by_others (power_in s) seats) seats all
-    (λ s found few. subst (λ (q : ℕ). length s.box ≤ sent_by_others q seats) (sym (letter_power k e s)) few))
+    let is : seat_verdict m n g.public s.own (page_shown n.note.command s.box) ≡ Taken text e = sym (d ∙ ap (λ (x : Option Part). verdict_by m n (Some g.public) x) found) in
+    subst (VerdictFits m g.public.board s.own) is
+    (seat_holds (VerdictFits m g.public.board s.own) (λ t. tt) (λ t. tt) n s.own.kept (seat_command m n.note.command g.public s.own (page_shown n.note.command s.box))
+    (command_fits m g.public s.own (page_shown n.note.command s.box) n.note.command again l.pending))
 
 -- the seats that have the author's letter
 with_author_count : (who : Author) (k : Kept) (e : Effect) (q : ℕ) (seats : List Part) → count_by (λ (s : Part). power_in s == q) (with_author who k e seats) ≡ count_by (λ (s : Part). power_in s == q) seats
@@ -219,28 +156,252 @@ with_author_lawful m b Nobody k e seats step all = all
 with_author_lawful m b TheMaster k e seats step all = all
 with_author_lawful m b (Seat p) k e seats step all = all_change (λ a b. a == b) power_in p (with_letter k e) (IsLawfulSeat m b) seats all (step p refl)
 
-game_lawful : (m : Chart) (c : Change) (g : Game) → IsStill c.effect → IsLawfulGame m g
+length_change : (p : ℕ) (f : Part → Part) (seats : List Part) → length (change_at (λ a b. a == b) power_in p f seats) ≡ length seats
+length_change p f [] = refl
+length_change p f (s ∷ ss) = go (power_in s == p) (length_change p f ss)
+  where
+    go : (b : Bool) → length (change_at (λ a b. a == b) power_in p f ss) ≡ length ss
+        → length (cond b (f s ∷ ss) (s ∷ change_at (λ a b. a == b) power_in p f ss)) ≡ suc (length ss)
+    go true rest = refl
+    go false rest = ap suc rest
+
+with_author_length : (who : Author) (k : Kept) (e : Effect) (seats : List Part) → length (with_author who k e seats) ≡ length seats
+with_author_length Nobody k e seats = refl
+with_author_length TheMaster k e seats = refl
+with_author_length (Seat p) k e seats = length_change p (with_letter k e) seats
+
+-- a lawful seat but for the bound of its box
+record IsReached (m : Chart) (b : Position) (s : Part) : Type 0 where
+  power : power_in s < length m.realms
+  pending : AreStanding m b (power_in s) s.own.pending
+  last : last_number s.own.kept ≤ 999999999
+  sent : s.own.sent ≤ 10000
+  items : s.own.items ≡ length s.box
+
+-- no power's others have sent more than their quotas
+sent_within : (power : ℕ) (seats : List Part) → AllByRecursion (λ s. s.own.sent ≤ 10000) seats
+    → sent_by_others power seats + 10000 * count_by (λ s. power_in s == power) seats ≤ 10000 * length seats
+sent_within power [] all = omega arith
+sent_within power (s ∷ ss) all =
+    let rest = sent_within power ss all.1 in
+    let head = count_cons (λ (x : Part). power_in x == power) s ss in
+    go (power_in s == power) rest head
+  where
+    go : (b : Bool) → sent_by_others power ss + 10000 * count_by (λ s. power_in s == power) ss ≤ 10000 * length ss
+        → count_by (λ (x : Part). power_in x == power) (s ∷ ss) ≡ cond b 1 0 + count_by (λ (x : Part). power_in x == power) ss
+        → (cond b 0 s.own.sent + sent_by_others power ss) + 10000 * count_by (λ (x : Part). power_in x == power) (s ∷ ss) ≤ 10000 * suc (length ss)
+    go true rest head = omega (arith, rest, head)
+    go false rest head = let few = all.0 in omega (arith, rest, head, few)
+
+-- at most six others send to a seat, each within its quota
+all_boxed : (m : Chart) (b : Position) (seats : List Part) → length seats ≤ 7 → list_all (λ q. count_by (λ (s : Part). power_in s == q) seats == 1) (powers m) ≡ true
+    → AllByRecursion (IsReached m b) seats → AllByRecursion (λ s. length s.box ≤ sent_by_others (power_in s) seats) seats → AllByRecursion (IsLawfulSeat m b) seats
+all_boxed m b seats many powers all boxes =
+    all_both (IsReached m b) (λ s. length s.box ≤ sent_by_others (power_in s) seats) (IsLawfulSeat m b) seats
+    (λ s r few. record { power = r.power; pending = r.pending; last = r.last; sent = r.sent; items = r.items; box = bounded s r.power few }) all boxes
+  where
+    bounded : (s : Part) → power_in s < length m.realms → length s.box ≤ sent_by_others (power_in s) seats → length s.box ≤ 60000
+    bounded s low few =
+        let one : (count_by (λ (x : Part). power_in x == power_in s) seats == 1) ≡ true =
+        each_counted (λ p. count_by (λ (x : Part). power_in x == p) seats == 1) 0 (length m.realms) (power_in s) powers (omega arith) (omega (arith, low)) in
+        let same = eqb-true (count_by (λ (x : Part). power_in x == power_in s) seats) 1 one in
+        let most = sent_within (power_in s) seats (all_weaker (IsReached m b) (λ x. x.own.sent ≤ 10000) seats (λ x r. r.sent) all) in
+        omega (arith, same, most, many, few)
+
+-- the seats of a game behind a letter
+abbrev seats_after : Change → Game → List Part
+seats_after c g = map (with_effect c.effect) (with_author c.author c.kept c.effect g.seats)
+
+-- no box holds more than the others have sent
+abbrev AreSent : List Part → Type 0
+AreSent seats = AllByRecursion (λ s. length s.box ≤ sent_by_others (power_in s) seats) seats
+
+-- a game behind a letter, by what the letter does to each seat, to the public part and to the papers
+game_lawful : (m : Chart) (c : Change) (g : Game) → IsLawfulGame m g → IsOf m (public_after c.effect g.public).board
     → ((p : ℕ) → c.author ≡ Seat p → (s : Part) → seat_at p g.seats ≡ Some s → IsLawfulSeat m g.public.board s → IsLawfulSeat m g.public.board (with_letter c.kept c.effect s))
-    → IsLawfulGame m (game_after c g)
-game_lawful m c g still l step =
-    let same : public_after c.effect g.public ≡ g.public = still.public g.public in
-    let seats : AllByRecursion (IsLawfulSeat m g.public.board) (map (with_effect c.effect) (with_author c.author c.kept c.effect g.seats)) =
-    all_map (IsLawfulSeat m g.public.board) (IsLawfulSeat m g.public.board) (with_effect c.effect) (with_author c.author c.kept c.effect g.seats)
-    (λ s ls. subst (IsLawfulSeat m g.public.board) (sym (still.seats s)) ls) (with_author_lawful m g.public.board c.author c.kept c.effect g.seats step l.seats) in
-    record {
-      board = subst (λ (p : Public). IsOf m p.board) (sym same) l.board;
-      powers = all_same (λ q. count_by (λ (s : Part). power_in s == q) (map (with_effect c.effect) (with_author c.author c.kept c.effect g.seats)) == 1)
-          (λ q. count_by (λ (s : Part). power_in s == q) g.seats == 1) (powers m)
-          (λ q. ap (λ (k : ℕ). k == 1)
-          (count_map (with_effect c.effect) (λ (s : Part). power_in s == q) (λ (s : Part). power_in s == q) (with_author c.author c.kept c.effect g.seats)
-          (λ s. ap (λ (j : ℕ). j == q) (effect_power c.effect s))
-          ∙ with_author_count c.author c.kept c.effect q g.seats))
-          ∙ l.powers;
-      boxes = subst (λ (ps : List Part). AllByRecursion (λ s. length s.box ≤ sent_by_others (power_in s) ps) ps)
-          (sym (map_same (with_effect c.effect) (with_author c.author c.kept c.effect g.seats) still.seats)) (author_boxes c.author c.kept c.effect g.seats still l.boxes);
-      seats = subst (λ (p : Public). AllByRecursion (IsLawfulSeat m p.board) (map (with_effect c.effect) (with_author c.author c.kept c.effect g.seats))) (sym same) seats;
-      papers = ap (λ (p : Public). p.papers) same ∙ l.papers ∙ ap (λ (ps : List (List ℕ)). length ps) (sym (still.papers g.papers));
-    }
+    → ((s : Part) → IsLawfulSeat m g.public.board s → IsReached m (public_after c.effect g.public).board (with_effect c.effect s))
+    → AreSent (seats_after c g) → (public_after c.effect g.public).papers ≡ length (papers_after c.effect g.papers) → IsLawfulGame m (game_after c g)
+game_lawful m c g l of own each boxes papers = record {
+  board = of;
+  powers = powers_stay;
+  few = many;
+  seats = all_boxed m (public_after c.effect g.public).board (seats_after c g) many powers_stay
+      (all_map (IsLawfulSeat m g.public.board) (IsReached m (public_after c.effect g.public).board) (with_effect c.effect) (with_author c.author c.kept c.effect g.seats) each
+      (with_author_lawful m g.public.board c.author c.kept c.effect g.seats own l.seats)) boxes;
+  boxes = boxes;
+  papers = papers;
+}
+  where
+    powers_stay : list_all (λ q. count_by (λ (s : Part). power_in s == q) (seats_after c g) == 1) (powers m) ≡ true
+    powers_stay =
+        all_same (λ q. count_by (λ (s : Part). power_in s == q) (seats_after c g) == 1)
+        (λ q. count_by (λ (s : Part). power_in s == q) g.seats == 1) (powers m)
+        (λ q. ap (λ (k : ℕ). k == 1)
+        (count_map (with_effect c.effect) (λ (s : Part). power_in s == q) (λ (s : Part). power_in s == q) (with_author c.author c.kept c.effect g.seats)
+        (λ s. ap (λ (j : ℕ). j == q) (effect_power c.effect s))
+        ∙ with_author_count c.author c.kept c.effect q g.seats))
+        ∙ l.powers
+
+    many : length (seats_after c g) ≤ 7
+    many =
+        let same = length-map (with_author c.author c.kept c.effect g.seats) (with_effect c.effect) ∙ with_author_length c.author c.kept c.effect g.seats in
+        let were = l.few in omega (arith, same, were)
+
+-- ---- what the others have sent
+
+abbrev counted : ℕ → ℕ → ℕ → ℕ
+counted power q sent = cond (q == power) 0 sent
+
+-- a change of each seat that leaves its power and what it has sent leaves the others' sum
+sent_mapped : (power : ℕ) (f : Part → Part) (seats : List Part) → ((s : Part) → power_in (f s) ≡ power_in s) → ((s : Part) → (f s).own.sent ≡ s.own.sent)
+    → sent_by_others power (map f seats) ≡ sent_by_others power seats
+sent_mapped power f [] keeps same = refl
+sent_mapped power f (s ∷ ss) keeps same =
+    ap (λ (q : ℕ). counted power q (f s).own.sent + sent_by_others power (map f ss)) (keeps s)
+    ∙ ap (λ (n : ℕ). counted power (power_in s) n + sent_by_others power (map f ss)) (same s)
+    ∙ ap (λ (n : ℕ). counted power (power_in s) s.own.sent + n) (sent_mapped power f ss keeps same)
+
+-- a change of one seat that leaves its power and what it has sent leaves it too
+sent_changed : (p power : ℕ) (f : Part → Part) (seats : List Part) → ((s : Part) → power_in (f s) ≡ power_in s) → ((s : Part) → (f s).own.sent ≡ s.own.sent)
+    → sent_by_others power (change_at (λ a b. a == b) power_in p f seats) ≡ sent_by_others power seats
+sent_changed p power f [] keeps same = refl
+sent_changed p power f (s ∷ ss) keeps same = go (power_in s == p) (sent_changed p power f ss keeps same)
+  where
+    go : (b : Bool) → sent_by_others power (change_at (λ a b. a == b) power_in p f ss) ≡ sent_by_others power ss
+        → sent_by_others power (cond b (f s ∷ ss) (s ∷ change_at (λ a b. a == b) power_in p f ss)) ≡ counted power (power_in s) s.own.sent + sent_by_others power ss
+    go true rest =
+        ap (λ (q : ℕ). counted power q (f s).own.sent + sent_by_others power ss) (keeps s) ∙ ap (λ (n : ℕ). counted power (power_in s) n + sent_by_others power ss) (same s)
+    go false rest = ap (λ (n : ℕ). counted power (power_in s) s.own.sent + n) rest
+
+-- one seat more letter raises it for each other power
+sent_raised : (p power : ℕ) (f : Part → Part) (seats : List Part) (x : Part) → ((s : Part) → power_in (f s) ≡ power_in s) → ((s : Part) → (f s).own.sent ≡ s.own.sent + 1)
+    → seat_at p seats ≡ Some x → (p == power) ≡ false → sent_by_others power (change_at (λ a b. a == b) power_in p f seats) ≡ sent_by_others power seats + 1
+sent_raised p power f [] x keeps more there other = absurd (cc)
+sent_raised p power f (s ∷ ss) x keeps more there other = go (power_in s == p) refl there (λ later. sent_raised p power f ss x keeps more later other)
+  where
+    apart : (power_in s == p) ≡ true → (power_in s == power) ≡ false
+    apart same = ap (λ (q : ℕ). q == power) (powers_tell.same (power_in s) p same) ∙ other
+
+    go : (b : Bool) → (power_in s == p) ≡ b → cond b (Some s) (seat_at p ss) ≡ Some x
+        → (seat_at p ss ≡ Some x → sent_by_others power (change_at (λ a b. a == b) power_in p f ss) ≡ sent_by_others power ss + 1)
+        → sent_by_others power (cond b (f s ∷ ss) (s ∷ change_at (λ a b. a == b) power_in p f ss)) ≡ (counted power (power_in s) s.own.sent + sent_by_others power ss) + 1
+    go true is there rest =
+        let new : counted power (power_in (f s)) (f s).own.sent ≡ s.own.sent + 1 =
+        ap (λ (q : ℕ). counted power q (f s).own.sent) (keeps s) ∙ ap (λ (t : Bool). cond t 0 (f s).own.sent) (apart is) ∙ more s in
+        let old : counted power (power_in s) s.own.sent ≡ s.own.sent = ap (λ (t : Bool). cond t 0 s.own.sent) (apart is) in
+        omega (arith, new, old)
+    go false is there rest = let later = rest there in omega (arith, later)
+
+-- and lowers it for none
+sent_grows : (p power : ℕ) (f : Part → Part) (seats : List Part) → ((s : Part) → power_in (f s) ≡ power_in s) → ((s : Part) → s.own.sent ≤ (f s).own.sent)
+    → sent_by_others power seats ≤ sent_by_others power (change_at (λ a b. a == b) power_in p f seats)
+sent_grows p power f [] keeps more = omega arith
+sent_grows p power f (s ∷ ss) keeps more = go (power_in s == p) (sent_grows p power f ss keeps more)
+  where
+    one : (b : Bool) → (n k : ℕ) → n ≤ k → cond b 0 n ≤ cond b 0 k
+    one true n k le = omega arith
+    one false n k le = le
+
+    go : (b : Bool) → sent_by_others power ss ≤ sent_by_others power (change_at (λ a b. a == b) power_in p f ss)
+        → counted power (power_in s) s.own.sent + sent_by_others power ss ≤ sent_by_others power (cond b (f s ∷ ss) (s ∷ change_at (λ a b. a == b) power_in p f ss))
+    go true rest =
+        let new : counted power (power_in (f s)) (f s).own.sent ≡ counted power (power_in s) (f s).own.sent = ap (λ (q : ℕ). counted power q (f s).own.sent) (keeps s) in
+        let low : counted power (power_in s) s.own.sent ≤ counted power (power_in s) (f s).own.sent = one (power_in s == power) s.own.sent (f s).own.sent (more s) in
+        omega (arith, new, low)
+    go false rest = omega (arith, rest)
+
+-- ---- effects that send no press
+
+-- an effect that leaves what each seat has sent and heard
+record IsSilent (e : Effect) : Type 0 where
+  sent : (s : Part) → (with_effect e s).own.sent ≡ s.own.sent
+  box : (s : Part) → (with_effect e s).box ≡ s.box
+  own : (k : Kept) (s : Part) → (with_letter k e s).own.sent ≡ s.own.sent
+  kept : (k : Kept) (s : Part) → (with_letter k e s).box ≡ s.box
+
+author_sent : (who : Author) (k : Kept) (e : Effect) (power : ℕ) (seats : List Part) → IsSilent e → sent_by_others power (with_author who k e seats) ≡ sent_by_others power seats
+author_sent Nobody k e power seats silent = refl
+author_sent TheMaster k e power seats silent = refl
+author_sent (Seat p) k e power seats silent = sent_changed p power (with_letter k e) seats (letter_power k e) (silent.own k)
+
+author_boxes : (who : Author) (k : Kept) (e : Effect) (P : ℕ → ℕ → Type 0) (seats : List Part) → IsSilent e → AllByRecursion (λ s. P (power_in s) (length s.box)) seats
+    → AllByRecursion (λ s. P (power_in s) (length s.box)) (with_author who k e seats)
+author_boxes Nobody k e P seats silent all = all
+author_boxes TheMaster k e P seats silent all = all
+author_boxes (Seat p) k e P seats silent all =
+    all_change (λ a b. a == b) power_in p (with_letter k e) (λ s. P (power_in s) (length s.box)) seats all
+    (λ s found h. subst (λ (q : ℕ). P q (length (with_letter k e s).box)) (sym (letter_power k e s)) (subst (λ (box : List Item). P (power_in s) (length box)) (sym (silent.kept k s)) h))
+
+silent_boxes : (c : Change) (g : Game) → IsSilent c.effect → AreSent g.seats → AreSent (seats_after c g)
+silent_boxes c g silent all =
+    let inner : List Part = with_author c.author c.kept c.effect g.seats in
+    let sum : (power : ℕ) → sent_by_others power (seats_after c g) ≡ sent_by_others power g.seats =
+    λ power. sent_mapped power (with_effect c.effect) inner (effect_power c.effect) silent.sent ∙ author_sent c.author c.kept c.effect power g.seats silent in
+    all_map (λ s. length s.box ≤ sent_by_others (power_in s) g.seats) (λ s. length s.box ≤ sent_by_others (power_in s) (seats_after c g)) (with_effect c.effect) inner
+    (λ s few.
+    subst (λ (k : ℕ). length (with_effect c.effect s).box ≤ k) (sym (sum (power_in (with_effect c.effect s))))
+    (subst (λ (q : ℕ). length (with_effect c.effect s).box ≤ sent_by_others q g.seats) (sym (effect_power c.effect s))
+    (subst (λ (box : List Item). length box ≤ sent_by_others (power_in s) g.seats) (sym (silent.box s)) few)))
+    (author_boxes c.author c.kept c.effect (λ q k. k ≤ sent_by_others q g.seats) g.seats silent all)
+
+-- ---- press
+
+-- what a delivery does to a seat, of which the author's own letter was taken down
+delivered_box : (readers : List ℕ) (item : Item) (s : Part) (most : ℕ) → length s.box ≤ most → (is_among (power_in s) readers ≡ true → length s.box + 1 ≤ most)
+    → length (with_effect (Delivers readers item) s).box ≤ most
+delivered_box readers item s most few more = go (is_among (power_in s) readers) refl
+  where
+    go : (b : Bool) → is_among (power_in s) readers ≡ b → length (cond b (with_item item s) s).box ≤ most
+    go true is = let longer = length-append s.box (item ∷ []) in let room = more is in omega (arith, longer, room)
+    go false is = few
+
+delivered_sent : (readers : List ℕ) (item : Item) (s : Part) → (with_effect (Delivers readers item) s).own.sent ≡ s.own.sent
+delivered_sent readers item s = go (is_among (power_in s) readers)
+  where
+    go : (b : Bool) → (cond b (with_item item s) s).own.sent ≡ s.own.sent
+    go true = refl
+    go false = refl
+
+delivered_boxes : (k : Kept) (p : ℕ) (readers : List ℕ) (item : Item) (seats : List Part) (x : Part) → is_among p readers ≡ false → seat_at p seats ≡ Some x → AreSent seats
+    → AreSent (map (with_effect (Delivers readers item)) (change_at (λ a b. a == b) power_in p (with_letter k (Delivers readers item)) seats))
+delivered_boxes k p readers item seats x apart there all =
+    all_map (λ s. length s.box ≤ sent_by_others (power_in s) seats) (λ s. length s.box ≤ sent_by_others (power_in s) new) (with_effect e) inner
+    (λ s few. subst (λ (q : ℕ). length (with_effect e s).box ≤ sent_by_others q new) (sym (effect_power e s)) (one s few)) kept
+  where
+    e : Effect
+    e = Delivers readers item
+
+    inner : List Part
+    inner = change_at (λ a b. a == b) power_in p (with_letter k e) seats
+
+    new : List Part
+    new = map (with_effect e) inner
+
+    sum : (power : ℕ) → sent_by_others power new ≡ sent_by_others power inner
+    sum power = sent_mapped power (with_effect e) inner (effect_power e) (delivered_sent readers item)
+
+    grown : (power : ℕ) → sent_by_others power seats ≤ sent_by_others power inner
+    grown power = sent_grows p power (with_letter k e) seats (letter_power k e) (λ s. omega arith)
+
+    other : (power : ℕ) → is_among power readers ≡ true → (p == power) ≡ false
+    other power near = go (p == power) refl
+      where
+        go : (b : Bool) → (p == power) ≡ b → b ≡ false
+        go true same = absurd (false≢true (sym apart ∙ ap (λ (q : ℕ). is_among q readers) (powers_tell.same p power same) ∙ near))
+        go false differ = refl
+
+    one : (s : Part) → length s.box ≤ sent_by_others (power_in s) seats → length (with_effect e s).box ≤ sent_by_others (power_in s) new
+    one s few =
+        let whole = sum (power_in s) in
+        let low = grown (power_in s) in
+        delivered_box readers item s (sent_by_others (power_in s) new) (omega (arith, few, whole, low))
+        (λ near.
+        let more = sent_raised p (power_in s) (with_letter k e) seats x (letter_power k e) (λ s. refl) there (other (power_in s) near) in
+        omega (arith, few, whole, more))
+
+    kept : AllByRecursion (λ s. length s.box ≤ sent_by_others (power_in s) seats) inner
+    kept = all_change (λ a b. a == b) power_in p (with_letter k e) (λ s. length s.box ≤ sent_by_others (power_in s) seats) seats all
+        (λ s found few. subst (λ (q : ℕ). length s.box ≤ sent_by_others q seats) (sym (letter_power k e s)) few)
 
 -- a new game
 
@@ -260,57 +421,65 @@ seats_known : (m : Chart) (game : List ℕ) (notes : List SeatNote) (seats : Lis
 seats_known m game [] seats is = let none : [] ≡ seats = cc in subst (AreKnown m) none tt
 seats_known m game (n ∷ ns) seats is = one_more m game n (new_seats m game ns) seats (seats_known m game ns) (power_of m n.power) refl is
 
-pub record IsLawfulOpening (m : Chart) (public : Public) (seats : List NewSeat) : Type 0 where
+pub record IsLawfulOpening (m : Chart) (command : Request) (public : Public) (seats : List NewSeat) : Type 0 where
   pub board : public.board ≡ opening m
   pub papers : public.papers ≡ 1
   pub complete : are_complete m seats ≡ true
   pub known : AreKnown m seats
+  pub asked : (due : ℕ) × (period : ℕ) × (grey : Bool) × (notes : List SeatNote) × (command ≡ Master (Create due period grey notes)) × (length seats ≡ length notes)
 
-abbrev pub OpensLawful : Chart → Verdict → Type 0
-OpensLawful m NotKnown = Unit {0}
-OpensLawful m (Again text) = Unit {0}
-OpensLawful m (OutOfTurn text) = Unit {0}
-OpensLawful m (Taken text Nothing) = Unit {0}
-OpensLawful m (Taken text (Pending lines)) = Unit {0}
-OpensLawful m (Taken text (Votes draw)) = Unit {0}
-OpensLawful m (Taken text (Delivers readers item)) = Unit {0}
-OpensLawful m (Taken text (Opens public paper seats)) = IsLawfulOpening m public seats
-OpensLawful m (Taken text (Publishes public paper played)) = Unit {0}
-OpensLawful m (Taken text (Seats seat)) = Unit {0}
+abbrev pub OpensLawful : Chart → Request → Verdict → Type 0
+OpensLawful m command NotKnown = Unit {0}
+OpensLawful m command (Again text) = Unit {0}
+OpensLawful m command (OutOfTurn text) = Unit {0}
+OpensLawful m command (Taken text Nothing) = Unit {0}
+OpensLawful m command (Taken text (Pending lines)) = Unit {0}
+OpensLawful m command (Taken text (Votes draw)) = Unit {0}
+OpensLawful m command (Taken text (Delivers readers item)) = Unit {0}
+OpensLawful m command (Taken text (Opens public paper seats)) = IsLawfulOpening m command public seats
+OpensLawful m command (Taken text (Publishes public paper played)) = Unit {0}
+OpensLawful m command (Taken text (Seats seat)) = Unit {0}
 
-created_lawful : (m : Chart) (name : List ℕ) (due period : ℕ) (grey : Bool) (found : Option (List NewSeat)) (game : Option Game)
-    → ((seats : List NewSeat) → found ≡ Some seats → AreKnown m seats) → OpensLawful m (creation m (opening_public m name due period grey) found game)
-created_lawful m name due period grey None game known = tt
-created_lawful m name due period grey (Some seats) game known = go (are_complete m seats) refl game
+-- as many seats as were named
+seats_named : (m : Chart) (game : List ℕ) (notes : List SeatNote) (seats : List NewSeat) → new_seats m game notes ≡ Some seats → length seats ≡ length notes
+seats_named m game [] seats is = let none : [] ≡ seats = cc in ap length (sym none)
+seats_named m game (n ∷ ns) seats is = go (new_seat m game n) (new_seats m game ns) refl (seats_named m game ns) is
   where
-    go : (b : Bool) → are_complete m seats ≡ b → (game : Option Game) → OpensLawful m (cond b (open_game m (opening_public m name due period grey) seats game) (refusal_verdict Malformed))
-    go true is None = record { board = refl; papers = refl; complete = is; known = known seats refl }
-    go true is (Some g) = tt
-    go false is game = tt
+    go : (one : Option NewSeat) (more : Option (List NewSeat)) → new_seats m game ns ≡ more → ((xs : List NewSeat) → new_seats m game ns ≡ Some xs → length xs ≡ length ns)
+        → with_more one more ≡ Some seats → length seats ≡ suc (length ns)
+    go None more at rest e = absurd (cc)
+    go (Some x) None at rest e = absurd (cc)
+    go (Some x) (Some xs) at rest e = let all : x ∷ xs ≡ seats = cc in ap length (sym all) ∙ ap suc (rest xs at)
 
-pub master_lawful : (m : Chart) (n : Mail) (k : Option Kept) (command : Request) (game : Option Game) (v : Verdict) → MasterDecides m n k command game v → OpensLawful m v
-master_lawful m n k (Create due period grey seats) game v h =
-    numbered_holds (OpensLawful m) (λ t. tt) (λ t. tt) n k (λ w. w ≡ creation m (opening_public m n.note.game due period grey) (new_seats m n.note.game seats) game) v
-    (λ is. subst (OpensLawful m) (sym is) (created_lawful m n.note.game due period grey (new_seats m n.note.game seats) game (seats_known m n.note.game seats))) h
-master_lawful m n k (Orders lines) None v h = subst (OpensLawful m) (sym h) tt
-master_lawful m n k (Orders lines) (Some g) v h = numbered_holds (OpensLawful m) (λ t. tt) (λ t. tt) n k (IsNotForMaster g) v (λ is. subst (OpensLawful m) (sym is) tt) h
-master_lawful m n k (Tick tick) None v h = subst (OpensLawful m) (sym h) tt
-master_lawful m n k (Tick tick) (Some g) v h =
-    numbered_holds (OpensLawful m) (λ t. tt) (λ t. tt) n k (TicksIn m tick g) v
-    (ticks_hold (OpensLawful m) m tick (whole_of g) (is_over g.public.status) (is_due tick g.public) v tt tt (λ p. subst (OpensLawful m) (sym p.verdict) tt)) h
-master_lawful m n k Show None v h = subst (OpensLawful m) (sym h) tt
-master_lawful m n k Show (Some g) v h = numbered_holds (OpensLawful m) (λ t. tt) (λ t. tt) n k (IsNotForMaster g) v (λ is. subst (OpensLawful m) (sym is) tt) h
+pub master_lawful : (m : Chart) (n : Mail) (k : Option Kept) (command : Request) (game : Option Game) (v : Verdict) → MasterDecides m n k command game v → OpensLawful m command v
+master_lawful m n k command game v = master_holds (λ game. OpensLawful m command) m n k command game v (record {
+  unknown = tt;
+  again = λ game text. tt;
+  out = λ game text. tt;
+  free = λ r. tt;
+  opened = λ due period grey notes found of is all. record {
+    board = refl;
+    papers = refl;
+    complete = all;
+    known = seats_known m n.note.game notes found is;
+    asked = (due, period, grey, notes, of, seats_named m n.note.game notes found is);
+  };
+  in_game = λ g. record {
+    refused = λ r. tt;
+    played = λ tick w of p. subst (OpensLawful m command) (sym p.verdict) tt;
+    noted = λ text paper public next spoiled. tt;
+    seated = λ note seat of new low s found. tt;
+  };
+})
 
-none_standing : (m : Chart) (b : Position) (power : ℕ) → AreStanding m b power []
-none_standing m b power = record { orders = []; lines = refl; ascending = tt; each = tt }
-
-opened_lawful : (m : Chart) (public : Public) (paper : List ℕ) (seats : List NewSeat) → IsOf m (opening m)
-    → IsLawfulOpening m public seats → IsLawfulGame m (opening_game public paper seats)
-opened_lawful m public paper seats fine h = record {
+opened_lawful : (m : Chart) (command : Request) (public : Public) (paper : List ℕ) (seats : List NewSeat) → IsOf m (opening m) → length seats ≤ 7
+    → IsLawfulOpening m command public seats → IsLawfulGame m (opening_game public paper seats)
+opened_lawful m command public paper seats fine few h = record {
   board = subst (IsOf m) (sym h.board) fine;
   powers = all_same (λ q. count_by (λ (s : Part). power_in s == q) (map fresh seats) == 1) (λ q. count_by (λ (s : NewSeat). s.power == q) seats == 1) (powers m)
       (λ q. ap (λ (c : ℕ). c == 1) (count_map fresh (λ (s : Part). power_in s == q) (λ (s : NewSeat). s.power == q) seats (λ s. refl)))
       ∙ h.complete;
+  few = (let same = length-map seats fresh in omega (arith, same, few));
   seats = all_map (λ s. s.power < length m.realms) (IsLawfulSeat m public.board) fresh seats (λ s low. record { power = low; pending = none_standing m public.board s.power; last = omega arith; sent = omega arith; items = refl; box = omega arith }) h.known;
   boxes = all_map (λ s. Unit {0}) (λ s. length s.box ≤ sent_by_others (power_in s) (map fresh seats)) fresh seats (λ s u. omega arith) (each_unit seats);
   papers = h.papers;
@@ -320,32 +489,61 @@ opened_lawful m public paper seats fine h = record {
     each_unit [] = tt
     each_unit (s ∷ ss) = (tt, each_unit ss)
 
--- a game behind a phase that was played
+-- ---- what each effect does to each seat
+
+reached_same : (m : Chart) (b : Position) (s : Part) → IsLawfulSeat m b s → IsReached m b s
+reached_same m b s l = record { power = l.power; pending = l.pending; last = l.last; sent = l.sent; items = l.items }
+
+reached_delivered : (m : Chart) (b : Position) (readers : List ℕ) (item : Item) (s : Part) → IsLawfulSeat m b s → IsReached m b (with_effect (Delivers readers item) s)
+reached_delivered m b readers item s l = go (is_among (power_in s) readers)
+  where
+    go : (t : Bool) → IsReached m b (cond t (with_item item s) s)
+    go true = record {
+      power = l.power;
+      pending = l.pending;
+      last = l.last;
+      sent = l.sent;
+      items = (let were = l.items in let longer = length-append s.box (item ∷ []) in omega (arith, were, longer));
+    }
+    go false = reached_same m b s l
 
 -- a seat whose orders are gone, on any board
-paper_lawful : (m : Chart) (b c : Position) (s : Part) → IsLawfulSeat m b s → IsLawfulSeat m c (behind_paper true s)
-paper_lawful m b c s l = record { power = l.power; pending = none_standing m c (power_in s); last = l.last; sent = l.sent; items = l.items; box = l.box }
+reached_played : (m : Chart) (b c : Position) (s : Part) → IsLawfulSeat m b s → IsReached m c (behind_paper true s)
+reached_played m b c s l = record { power = l.power; pending = none_standing m c (power_in s); last = l.last; sent = l.sent; items = l.items }
 
-sent_mapped : (power : ℕ) (seats : List Part) → sent_by_others power (map (behind_paper true) seats) ≡ sent_by_others power seats
-sent_mapped power [] = refl
-sent_mapped power (s ∷ ss) = ap (λ (n : ℕ). cond (power_in s == power) 0 s.own.sent + n) (sent_mapped power ss)
+reached_seated : (m : Chart) (b : Position) (seat : NewSeat) (s : Part) → IsLawfulSeat m b s → IsReached m b (with_effect (Seats seat) s)
+reached_seated m b seat s l = go (seat.power == power_in s)
+  where
+    go : (t : Bool) → IsReached m b (cond t (with_digest seat.digest s) s)
+    go true = record { power = l.power; pending = l.pending; last = l.last; sent = l.sent; items = l.items }
+    go false = reached_same m b s l
+
+-- the effects that send no press
+
+silent_paper : (public : Public) (paper : List ℕ) (played : Bool) → IsSilent (Publishes public paper played)
+silent_paper public paper true = record { sent = λ s. refl; box = λ s. refl; own = λ k s. refl; kept = λ k s. refl }
+silent_paper public paper false = record { sent = λ s. refl; box = λ s. refl; own = λ k s. refl; kept = λ k s. refl }
+
+silent_seat : (seat : NewSeat) → IsSilent (Seats seat)
+silent_seat seat = record { sent = sent; box = box; own = λ k s. refl; kept = λ k s. refl }
+  where
+    sent : (s : Part) → (with_effect (Seats seat) s).own.sent ≡ s.own.sent
+    sent s = go (seat.power == power_in s)
+      where
+        go : (t : Bool) → (cond t (with_digest seat.digest s) s).own.sent ≡ s.own.sent
+        go true = refl
+        go false = refl
+
+    box : (s : Part) → (with_effect (Seats seat) s).box ≡ s.box
+    box s = go (seat.power == power_in s)
+      where
+        go : (t : Bool) → (cond t (with_digest seat.digest s) s).box ≡ s.box
+        go true = refl
+        go false = refl
 
 -- the board behind a phase is one of the map, where its orders could be given
 abbrev pub StaysOf : Chart → Type 0
 StaysOf m = (b : Position) (pending : List PlacedOrder) (new : Position) (report : Report) → IsOf m b → AreGiven m b pending → IsPlayed m b pending new report → IsOf m new
-
-played_lawful : (m : Chart) (n : Mail) (text : List ℕ) (public : Public) (paper : List ℕ) (g : Game) → IsOf m public.board → public.papers ≡ g.public.papers + 1 → IsLawfulGame m g
-    → IsLawfulGame m (game_after (change_of n TheMaster text (Publishes public paper true)) g)
-played_lawful m n text public paper g of counted l = record {
-  board = of;
-  powers = all_same (λ q. count_by (λ (s : Part). power_in s == q) (map (behind_paper true) g.seats) == 1) (λ q. count_by (λ (s : Part). power_in s == q) g.seats == 1) (powers m)
-      (λ q. ap (λ (c : ℕ). c == 1) (count_map (behind_paper true) (λ (s : Part). power_in s == q) (λ (s : Part). power_in s == q) g.seats (λ s. refl)))
-      ∙ l.powers;
-  seats = all_map (IsLawfulSeat m g.public.board) (IsLawfulSeat m public.board) (behind_paper true) g.seats (λ s ls. paper_lawful m g.public.board public.board s ls) l.seats;
-  boxes = all_map (λ s. length s.box ≤ sent_by_others (power_in s) g.seats) (λ s. length s.box ≤ sent_by_others (power_in s) (map (behind_paper true) g.seats)) (behind_paper true) g.seats
-      (λ s few. subst (λ (k : ℕ). length s.box ≤ k) (sym (sent_mapped (power_in s) g.seats)) few) l.boxes;
-  papers = let were = l.papers in let more = length-append g.papers (paper ∷ []) in omega (arith, counted, were, more);
-}
 
 -- numbers
 
@@ -364,16 +562,34 @@ numbered_newer n (Some k) New text e is h = go (nat_lt n.note.number k.number) (
 
 master_newer : (m : Chart) (n : Mail) (k : Option Kept) (command : Request) (game : Option Game) (text : List ℕ) (e : Effect) → IsMail n
     → MasterDecides m n k command game (Taken text e) → last_number k < n.note.number
-master_newer m n k (Create due period grey seats) game text e is h =
-    numbered_newer n k (λ w. w ≡ creation m (opening_public m n.note.game due period grey) (new_seats m n.note.game seats) game) text e is h
-master_newer m n k (Orders lines) None text e is h = let bad : ◌≡◌ {A = Verdict} (Taken text e) NotKnown = h in absurd (cc)
-master_newer m n k (Orders lines) (Some g) text e is h = numbered_newer n k (IsNotForMaster g) text e is h
-master_newer m n k (Tick tick) None text e is h = let bad : ◌≡◌ {A = Verdict} (Taken text e) NotKnown = h in absurd (cc)
-master_newer m n k (Tick tick) (Some g) text e is h = numbered_newer n k (TicksIn m tick g) text e is h
-master_newer m n k Show None text e is h = let bad : ◌≡◌ {A = Verdict} (Taken text e) NotKnown = h in absurd (cc)
-master_newer m n k Show (Some g) text e is h = numbered_newer n k (IsNotForMaster g) text e is h
+master_newer m n k command (Some g) text e is h = numbered_newer n k (DecidesIn m n command g) text e is h
+master_newer m n k (Player command) None text e is h = let bad : ◌≡◌ {A = Verdict} (Taken text e) NotKnown = h in absurd (cc)
+master_newer m n k (Master (Create due period grey seats)) None text e is h =
+    numbered_newer n k (λ w. w ≡ creation m (opening_public m n.note.game due period grey) (new_seats m n.note.game seats) None) text e is h
+master_newer m n k (Master (Tick tick)) None text e is h = let bad : ◌≡◌ {A = Verdict} (Taken text e) NotKnown = h in absurd (cc)
+master_newer m n k (Master (Replace seat)) None text e is h = let bad : ◌≡◌ {A = Verdict} (Taken text e) NotKnown = h in absurd (cc)
+master_newer m n k (Master (Notify notice)) None text e is h = let bad : ◌≡◌ {A = Verdict} (Taken text e) NotKnown = h in absurd (cc)
 
 -- one step
+
+-- the games behind a letter that opens none, where the one that it names stays lawful, and has no more papers than the master has sent letters
+games_lawful : (m : Chart) (s : State) (n : Mail) (who : Author) (text : List ℕ) (e : Effect) → IsLawful m s → new_games e ≡ []
+    → ((g : Game) → game_at n.note.game s ≡ Some g → IsLawfulGame m g → IsLawfulGame m (game_after (change_of n who text e) g))
+    → ((g : Game) → game_at n.note.game s ≡ Some g → g.public.papers ≤ last_number s.desk.kept → (public_after e g.public).papers ≤ last_number (desk_after who (kept_of n text) s.desk).kept)
+    → last_number s.desk.kept ≤ last_number (desk_after who (kept_of n text) s.desk).kept → last_number (desk_after who (kept_of n text) s.desk).kept ≤ 999999999
+    → IsLawful m (after n who (Taken text e) s)
+games_lawful m s n who text e l none here papers rises last =
+    let f : Game → Game = game_after (change_of n who text e) in
+    let most : ℕ = last_number (desk_after who (kept_of n text) s.desk).kept in
+    subst (λ (gs : List Game). IsLawful m (record { desk = desk_after who (kept_of n text) s.desk; games = gs }))
+    (sym (ap (λ (gs : List Game). change_at bytes_eq name_of n.note.game f s.games ++ gs) none ∙ append-nil (change_at bytes_eq name_of n.note.game f s.games))) (record {
+      games = all_change bytes_eq name_of n.note.game f (IsLawfulGame m) s.games l.games here;
+      names = apart_change n.note.game f s.games (name_kept (change_of n who text e)) l.names;
+      numbered = all_change bytes_eq name_of n.note.game f (λ g. g.public.papers ≤ most) s.games
+          (all_weaker (λ (g : Game). g.public.papers ≤ last_number s.desk.kept) (λ (g : Game). g.public.papers ≤ most) s.games (λ g few. omega (arith, few, rises)) l.numbered)
+          (λ g found few. papers g found (all_at bytes_eq name_of n.note.game (λ (h : Game). h.public.papers ≤ last_number s.desk.kept) s.games g l.numbered found));
+      last = last;
+    })
 
 lawful_after : (m : Chart) → IsOf m (opening m) → ((b : Position) → IsOf m b → AreRead m b) → StaysOf m → (s : State) (n : Mail) (who : Author) (v : Verdict)
     → IsMail n → Decides m s n who v → IsLawful m s → IsLawful m (after n who v s)
@@ -382,117 +598,178 @@ lawful_after m fine again stays s n who (Again text) is d l = l
 lawful_after m fine again stays s n who (OutOfTurn text) is d l = l
 lawful_after m fine again stays s n who (Taken text e) is d l = go who e d (decides_suits m s n who (Taken text e) d)
   where
-    by_letter : (who : Author) (e : Effect) → Decides m s n who (Taken text e) → Comes who (game_at n.note.game s) e → (IsPublication e → ⊥)
-        → AllByRecursion (IsLawfulGame m) (change_at bytes_eq name_of n.note.game (game_after (change_of n who text e)) s.games)
-    by_letter who e d comes quiet =
-        all_change bytes_eq name_of n.note.game (game_after (change_of n who text e)) (IsLawfulGame m) s.games l.games
-        (λ g found lg. game_lawful m (change_of n who text e) g (comes_still who (game_at n.note.game s) e comes quiet) lg
-        (λ p author part there lp.
-        let mine : Decides m s n (Seat p) (Taken text e) = subst (λ (a : Author). Decides m s n a (Taken text e)) author d in
-        let from : Comes (Seat p) (game_at n.note.game s) e = subst (λ (a : Author). Comes a (game_at n.note.game s) e) author comes in
-        letter_lawful m g.public.board (kept_of n text) p (game_at n.note.game s) e part from is.number_most lp
-        (seat_fits m n g p text e (again g.public.board lg.board) (mine ∙ ap (λ (x : Option Game). verdict_on m n (seen_in p x)) found) part there lp)))
+    newer : (e : Effect) → Decides m s n TheMaster (Taken text e) → last_number s.desk.kept < n.note.number
+    newer e d = master_newer m n s.desk.kept n.note.command (game_at n.note.game s) text e is d
 
-    papers_few : (who : Author) (e : Effect) (most : ℕ) → Comes who (game_at n.note.game s) e → (IsPublication e → ⊥) → AllByRecursion (λ g. g.public.papers ≤ most) s.games
-        → AllByRecursion (λ g. g.public.papers ≤ most) (change_at bytes_eq name_of n.note.game (game_after (change_of n who text e)) s.games)
-    papers_few who e most comes quiet few =
-        all_change bytes_eq name_of n.note.game (game_after (change_of n who text e)) (λ g. g.public.papers ≤ most) s.games few
-        (λ g found small. subst (λ (p : Public). p.papers ≤ most) (sym ((comes_still who (game_at n.note.game s) e comes quiet).public g.public)) small)
+    none_here : (p : ℕ) → ◌≡◌ {A = Author} TheMaster (Seat p) → ⊥
+    none_here p bad = cc
 
-    numbers_rise : (e : Effect) → Decides m s n TheMaster (Taken text e) → AllByRecursion (λ g. g.public.papers ≤ n.note.number) s.games
-    numbers_rise e d =
-        let newer : last_number s.desk.kept < n.note.number = master_newer m n s.desk.kept n.note.command (game_at n.note.game s) text e is d in
-        all_weaker (λ (g : Game). g.public.papers ≤ last_number s.desk.kept) (λ (g : Game). g.public.papers ≤ n.note.number) s.games
-        (λ g few. omega (arith, few, newer)) l.numbered
+    -- the master's letter, in the game that it names
+    by_master : (e : Effect) → Decides m s n TheMaster (Taken text e) → new_games e ≡ []
+        → ((g : Game) → game_at n.note.game s ≡ Some g → IsLawfulGame m g → IsLawfulGame m (game_after (change_of n TheMaster text e) g))
+        → ((g : Game) → game_at n.note.game s ≡ Some g → (public_after e g.public).papers ≤ g.public.papers + 1) → IsLawful m (after n TheMaster (Taken text e) s)
+    by_master e d none here one =
+        let rise = newer e d in
+        games_lawful m s n TheMaster text e l none here (λ g found few. let more = one g found in omega (arith, few, rise, more)) (omega (arith, rise)) is.number_most
 
-    apart : (who : Author) (e : Effect) → AreNamedApart (change_at bytes_eq name_of n.note.game (game_after (change_of n who text e)) s.games)
-    apart who e = apart_change n.note.game (game_after (change_of n who text e)) s.games (name_kept (change_of n who text e)) l.names
+    idle : Decides m s n TheMaster (Taken text Nothing) → IsLawful m (after n TheMaster (Taken text Nothing) s)
+    idle d = by_master Nothing d refl
+        (λ g found lg. game_lawful m (change_of n TheMaster text Nothing) g lg lg.board (λ p author part there lp. absurd (none_here p author)) (reached_same m g.public.board)
+        (silent_boxes (change_of n TheMaster text Nothing) g (record { sent = λ s. refl; box = λ s. refl; own = λ k s. refl; kept = λ k s. refl }) lg.boxes) lg.papers)
+        (λ g found. omega arith)
 
-    -- no new game stands behind the others
-    none_more : (who : Author) (e : Effect) → Decides m s n who (Taken text e) → Comes who (game_at n.note.game s) e → (IsPublication e → ⊥) → new_games e ≡ []
-        → AllByRecursion (λ g. g.public.papers ≤ last_number (desk_after who (kept_of n text) s.desk).kept) s.games → last_number (desk_after who (kept_of n text) s.desk).kept ≤ 999999999
-        → IsLawful m (after n who (Taken text e) s)
-    none_more who e d comes quiet none numbered last =
-        let games : change_at bytes_eq name_of n.note.game (game_after (change_of n who text e)) s.games ++ new_games e ≡ change_at bytes_eq name_of n.note.game (game_after (change_of n who text e)) s.games =
-        ap (λ (gs : List Game). change_at bytes_eq name_of n.note.game (game_after (change_of n who text e)) s.games ++ gs) none
-        ∙ append-nil (change_at bytes_eq name_of n.note.game (game_after (change_of n who text e)) s.games) in
-        subst (λ (gs : List Game). IsLawful m (record { desk = desk_after who (kept_of n text) s.desk; games = gs })) (sym games) (record {
-          games = by_letter who e d comes quiet;
-          names = apart who e;
-          numbered = papers_few who e (last_number (desk_after who (kept_of n text) s.desk).kept) comes quiet numbered;
-          last = last;
-        })
+    opening_it : (public : Public) (paper : List ℕ) (seats : List NewSeat) → Decides m s n TheMaster (Taken text (Opens public paper seats))
+        → game_at n.note.game s ≡ None → public.game ≡ n.note.game → IsLawful m (after n TheMaster (Taken text (Opens public paper seats)) s)
+    opening_it public paper seats d free named =
+        let f : Game → Game = game_after (change_of n TheMaster text (Opens public paper seats)) in
+        let opens : IsLawfulOpening m n.note.command public seats = master_lawful m n s.desk.kept n.note.command (game_at n.note.game s) (Taken text (Opens public paper seats)) d in
+        let fits : FitsRequest (Master (Create opens.asked.0 opens.asked.1 opens.asked.2 opens.asked.3)) = subst FitsRequest opens.asked.4 is.command in
+        let named_few : length opens.asked.3 ≤ 7 = fits.4 in
+        let as_many : length seats ≡ length opens.asked.3 = opens.asked.5 in
+        let few : length seats ≤ 7 = omega (arith, named_few, as_many) in
+        let first : public.papers ≡ 1 = opens.papers in
+        let least : 1 ≤ n.note.number = is.number_least in
+        let rise : last_number s.desk.kept < n.note.number = newer (Opens public paper seats) d in
+        let absent : (g : Game) → game_at n.note.game s ≡ Some g → ⊥ = λ g found. let bad : ◌≡◌ {A = Option Game} None (Some g) = sym free ∙ found in cc in
+        record {
+          games = all_last (IsLawfulGame m) (change_at bytes_eq name_of n.note.game f s.games) (opening_game public paper seats)
+              (all_change bytes_eq name_of n.note.game f (IsLawfulGame m) s.games l.games (λ g found lg. absurd (absent g found)))
+              (opened_lawful m n.note.command public paper seats fine few opens);
+          names = apart_last (change_at bytes_eq name_of n.note.game f s.games) (opening_game public paper seats)
+              (apart_change n.note.game f s.games (name_kept (change_of n TheMaster text (Opens public paper seats))) l.names)
+              (absent_change public.game n.note.game f s.games (name_kept (change_of n TheMaster text (Opens public paper seats)))
+              (ap (λ (name : List ℕ). at bytes_eq name_of name s.games) named ∙ free));
+          numbered = all_last (λ g. g.public.papers ≤ n.note.number) (change_at bytes_eq name_of n.note.game f s.games) (opening_game public paper seats)
+              (all_change bytes_eq name_of n.note.game f (λ g. g.public.papers ≤ n.note.number) s.games
+              (all_weaker (λ (g : Game). g.public.papers ≤ last_number s.desk.kept) (λ (g : Game). g.public.papers ≤ n.note.number) s.games (λ g few. omega (arith, few, rise)) l.numbered)
+              (λ g found few. absurd (absent g found))) (omega (arith, first, least));
+          last = is.number_most;
+        }
+
+    counted_on : (public : Public) (paper : List ℕ) (g : Game) → IsLawfulGame m g → public.papers ≡ g.public.papers + 1 → public.papers ≡ length (g.papers ++ paper ∷ [])
+    counted_on public paper g lg counted = let were = lg.papers in let more = length-append g.papers (paper ∷ []) in omega (arith, counted, were, more)
+
+    -- the game that was found is the one that is there
+    found_one : (g h : Game) → game_at n.note.game s ≡ Some g → game_at n.note.game s ≡ Some h → h ≡ g
+    found_one g h there found = let one : Some h ≡ Some g = sym found ∙ there in cc
+
+    playing : (public : Public) (paper : List ℕ) → Decides m s n TheMaster (Taken text (Publishes public paper true))
+        → IsPosted m n.note.command (game_at n.note.game s) (Taken text (Publishes public paper true)) → IsLawful m (after n TheMaster (Taken text (Publishes public paper true)) s)
+    playing public paper d by =
+        let p = by.4 in
+        let behind : public ≡ public_played by.0 by.1.public p.board p.report.course = cc in
+        let counted : public.papers ≡ by.1.public.papers + 1 = ap (λ (q : Public). q.papers) behind in
+        by_master (Publishes public paper true) d refl
+        (λ g found lg.
+        let same : g ≡ by.1 = found_one by.1 g by.3 found in
+        let lh : IsLawfulGame m by.1 = subst (IsLawfulGame m) same lg in
+        let of : IsOf m public.board =
+        subst (λ (q : Public). IsOf m q.board) (sym behind)
+        (stays by.1.public.board (orders_of m (whole_of by.1)) p.board p.report lh.board (whole_given m by.1 (again by.1.public.board lh.board) lh) p.played) in
+        game_lawful m (change_of n TheMaster text (Publishes public paper true)) g lg of (λ p author part there lp. absurd (none_here p author))
+        (reached_played m g.public.board public.board)
+        (silent_boxes (change_of n TheMaster text (Publishes public paper true)) g (silent_paper public paper true) lg.boxes)
+        (counted_on public paper g lg (counted ∙ ap (λ (h : Game). h.public.papers + 1) (sym same))))
+        (λ g found. let same : g ≡ by.1 = found_one by.1 g by.3 found in let papers = ap (λ (h : Game). h.public.papers) same in omega (arith, counted, papers))
+
+    noting : (public : Public) (paper : List ℕ) → Decides m s n TheMaster (Taken text (Publishes public paper false))
+        → IsPosted m n.note.command (game_at n.note.game s) (Taken text (Publishes public paper false)) → IsLawful m (after n TheMaster (Taken text (Publishes public paper false)) s)
+    noting public paper d by =
+        let counted : public.papers ≡ by.0.public.papers + 1 = by.2.papers in
+        by_master (Publishes public paper false) d refl
+        (λ g found lg.
+        let same : g ≡ by.0 = found_one by.0 g by.1 found in
+        let board : public.board ≡ g.public.board = by.2.board ∙ ap (λ (h : Game). h.public.board) (sym same) in
+        game_lawful m (change_of n TheMaster text (Publishes public paper false)) g lg (subst (IsOf m) (sym board) lg.board) (λ p author part there lp. absurd (none_here p author))
+        (λ s ls. subst (λ (b : Position). IsReached m b s) (sym board) (reached_same m g.public.board s ls))
+        (silent_boxes (change_of n TheMaster text (Publishes public paper false)) g (silent_paper public paper false) lg.boxes)
+        (counted_on public paper g lg (counted ∙ ap (λ (h : Game). h.public.papers + 1) (sym same))))
+        (λ g found. let same : g ≡ by.0 = found_one by.0 g by.1 found in let papers = ap (λ (h : Game). h.public.papers) same in omega (arith, counted, papers))
+
+    publishing : (public : Public) (paper : List ℕ) (played : Bool) → Decides m s n TheMaster (Taken text (Publishes public paper played))
+        → IsPosted m n.note.command (game_at n.note.game s) (Taken text (Publishes public paper played)) → IsLawful m (after n TheMaster (Taken text (Publishes public paper played)) s)
+    publishing public paper true d by = playing public paper d by
+    publishing public paper false d by = noting public paper d by
+
+    seating : (seat : NewSeat) → Decides m s n TheMaster (Taken text (Seats seat)) → IsLawful m (after n TheMaster (Taken text (Seats seat)) s)
+    seating seat d = by_master (Seats seat) d refl
+        (λ g found lg. game_lawful m (change_of n TheMaster text (Seats seat)) g lg lg.board (λ p author part there lp. absurd (none_here p author)) (reached_seated m g.public.board seat)
+        (silent_boxes (change_of n TheMaster text (Seats seat)) g (silent_seat seat) lg.boxes) lg.papers)
+        (λ g found. omega arith)
+
+    -- a seat's letter: its own part behind it
+    own_part : (p : ℕ) (e : Effect) → Decides m s n (Seat p) (Taken text e) → Comes (Seat p) (game_at n.note.game s) e → (g : Game) → game_at n.note.game s ≡ Some g → IsLawfulGame m g
+        → (q : ℕ) → Seat p ≡ Seat q → (part : Part) → seat_at q g.seats ≡ Some part → IsLawfulSeat m g.public.board part → IsLawfulSeat m g.public.board (with_letter (kept_of n text) e part)
+    own_part p e d comes g found lg q author part there lp =
+        let same : p ≡ q = cc in
+        letter_lawful m g.public.board (kept_of n text) p (game_at n.note.game s) e part comes is.number_most lp
+        (seat_fits m n g p text e (again g.public.board lg.board) (d ∙ ap (λ (x : Option Game). verdict_on m n (seen_in p x)) found) part
+        (subst (λ (x : ℕ). seat_at x g.seats ≡ Some part) (sym same) there) lp)
+
+    -- a letter that has an author's seat is of one that is there
+    seat_here : (p : ℕ) (e : Effect) (g : Game) → Decides m s n (Seat p) (Taken text e) → game_at n.note.game s ≡ Some g → (x : Part) × (seat_at p g.seats ≡ Some x)
+    seat_here p e g d found = go (seat_at p g.seats) refl
+      where
+        go : (x : Option Part) → seat_at p g.seats ≡ x → (y : Part) × (seat_at p g.seats ≡ Some y)
+        go None at =
+            let bad : ◌≡◌ {A = Verdict} (Taken text e) NotKnown =
+            d ∙ ap (λ (x : Option Game). verdict_on m n (seen_in p x)) found ∙ ap (λ (x : Option Part). verdict_by m n (Some g.public) x) at in absurd (cc)
+        go (Some x) at = (x, at)
+
+    quiet : (p : ℕ) (e : Effect) → Decides m s n (Seat p) (Taken text e) → Comes (Seat p) (game_at n.note.game s) e → IsSilent e → new_games e ≡ []
+        → ((s : Part) → with_effect e s ≡ s) → ((q : Public) → public_after e q ≡ q) → ((ps : List (List ℕ)) → papers_after e ps ≡ ps) → IsLawful m (after n (Seat p) (Taken text e) s)
+    quiet p e d comes silent none seats public papers =
+        games_lawful m s n (Seat p) text e l none
+        (λ g found lg.
+        let stands : (public_after e g.public).board ≡ g.public.board = ap (λ (q : Public). q.board) (public g.public) in
+        game_lawful m (change_of n (Seat p) text e) g lg (subst (IsOf m) (sym stands) lg.board) (own_part p e d comes g found lg)
+        (λ x lx. subst (λ (b : Position). IsReached m b (with_effect e x)) (sym stands) (subst (IsReached m g.public.board) (sym (seats x)) (reached_same m g.public.board x lx)))
+        (silent_boxes (change_of n (Seat p) text e) g silent lg.boxes)
+        (ap (λ (q : Public). q.papers) (public g.public) ∙ lg.papers ∙ ap length (sym (papers g.papers))))
+        (λ g found few. subst (λ (q : Public). q.papers ≤ last_number s.desk.kept) (sym (public g.public)) few) (omega arith) l.last
+
+    delivering : (p : ℕ) (readers : List ℕ) (item : Item) → Decides m s n (Seat p) (Taken text (Delivers readers item)) → Comes (Seat p) (game_at n.note.game s) (Delivers readers item)
+        → IsLawful m (after n (Seat p) (Taken text (Delivers readers item)) s)
+    delivering p readers item d comes =
+        games_lawful m s n (Seat p) text (Delivers readers item) l refl
+        (λ g found lg.
+        let here = seat_here p (Delivers readers item) g d found in
+        game_lawful m (change_of n (Seat p) text (Delivers readers item)) g lg lg.board (own_part p (Delivers readers item) d comes g found lg) (reached_delivered m g.public.board readers item)
+        (delivered_boxes (kept_of n text) p readers item g.seats here.0 (apart (game_at n.note.game s) g found comes) here.1 lg.boxes) lg.papers)
+        (λ g found few. few) (omega arith) l.last
+      where
+        apart : (game : Option Game) (g : Game) → game ≡ Some g → Comes (Seat p) game (Delivers readers item) → is_among p readers ≡ false
+        apart None g found comes = absurd comes
+        apart (Some h) g found comes = comes
+
+    by_power : (p : ℕ) (e : Effect) → Decides m s n (Seat p) (Taken text e) → (game : Option Game) → game_at n.note.game s ≡ game → Comes (Seat p) game e → IsLawful m (after n (Seat p) (Taken text e) s)
+    by_power p e d None at comes = absurd comes
+    by_power p Nothing d (Some g) at comes = quiet p Nothing d (subst (λ (x : Option Game). Comes (Seat p) x Nothing) (sym at) comes) (record { sent = λ s. refl; box = λ s. refl; own = λ k s. refl; kept = λ k s. refl }) refl (λ x. refl) (λ q. refl) (λ ps. refl)
+    by_power p (Pending orders) d (Some g) at comes = quiet p (Pending orders) d (subst (λ (x : Option Game). Comes (Seat p) x (Pending orders)) (sym at) comes) (record { sent = λ s. refl; box = λ s. refl; own = λ k s. refl; kept = λ k s. refl }) refl (λ x. refl) (λ q. refl) (λ ps. refl)
+    by_power p (Votes draw) d (Some g) at comes = quiet p (Votes draw) d (subst (λ (x : Option Game). Comes (Seat p) x (Votes draw)) (sym at) comes) (record { sent = λ s. refl; box = λ s. refl; own = λ k s. refl; kept = λ k s. refl }) refl (λ x. refl) (λ q. refl) (λ ps. refl)
+    by_power p (Delivers readers item) d (Some g) at comes = delivering p readers item d (subst (λ (x : Option Game). Comes (Seat p) x (Delivers readers item)) (sym at) comes)
+    by_power p (Opens public paper seats) d (Some g) at comes = absurd comes
+    by_power p (Publishes public paper played) d (Some g) at comes = absurd comes
+    by_power p (Seats seat) d (Some g) at comes = absurd comes
 
     go : (who : Author) (e : Effect) → Decides m s n who (Taken text e) → IsFitting n.note.game who (game_at n.note.game s) e → IsLawful m (after n who (Taken text e) s)
     go Nobody e d fits = absurd fits.0
     go TheMaster e d fits = elim (master_where n.note.game (game_at n.note.game s) e fits) [
-      | inl nothing ↦ none_more TheMaster e d fits.0 (λ paper. subst IsPublication nothing paper) (ap new_games nothing) (numbers_rise e d) is.number_most
+      | inl nothing ↦ subst (λ (x : Effect). IsLawful m (after n TheMaster (Taken text x) s)) (sym nothing) (idle (subst (λ (x : Effect). Decides m s n TheMaster (Taken text x)) nothing d))
       | inr more ↦ elim more [
         | inl opens ↦ subst (λ (x : Effect). IsLawful m (after n TheMaster (Taken text x) s)) (sym opens.3)
-            (opening opens.0 opens.1 opens.2 (subst (λ (x : Effect). Decides m s n TheMaster (Taken text x)) opens.3 d) opens.4 opens.5)
-        | inr paper ↦ subst (λ (x : Effect). IsLawful m (after n TheMaster (Taken text x) s)) (sym paper.3)
-            (publishing paper.0 paper.1 paper.2 (subst (λ (x : Effect). Decides m s n TheMaster (Taken text x)) paper.3 d))
+            (opening_it opens.0 opens.1 opens.2 (subst (λ (x : Effect). Decides m s n TheMaster (Taken text x)) opens.3 d) opens.4 opens.5)
+        | inr rest ↦ elim rest [
+          | inl paper ↦ subst (λ (x : Effect). IsLawful m (after n TheMaster (Taken text x) s)) (sym paper.3)
+              (publishing paper.0 paper.1 paper.2 (subst (λ (x : Effect). Decides m s n TheMaster (Taken text x)) paper.3 d)
+              (subst (λ (x : Effect). IsPosted m n.note.command (game_at n.note.game s) (Taken text x)) paper.3
+              (master_posted m n s.desk.kept n.note.command (game_at n.note.game s) (Taken text e) d)))
+          | inr seats ↦ subst (λ (x : Effect). IsLawful m (after n TheMaster (Taken text x) s)) (sym seats.1)
+              (seating seats.0 (subst (λ (x : Effect). Decides m s n TheMaster (Taken text x)) seats.1 d))
+        ]
       ]
     ]
-      where
-        opening : (public : Public) (paper : List ℕ) (seats : List NewSeat) → Decides m s n TheMaster (Taken text (Opens public paper seats))
-            → game_at n.note.game s ≡ None → public.game ≡ n.note.game → IsLawful m (after n TheMaster (Taken text (Opens public paper seats)) s)
-        opening public paper seats d free named =
-            let e : Effect = Opens public paper seats in
-            let rest : List Game = change_at bytes_eq name_of n.note.game (game_after (change_of n TheMaster text (Opens public paper seats))) s.games in
-            let opens : IsLawfulOpening m public seats = master_lawful m n s.desk.kept n.note.command (game_at n.note.game s) (Taken text (Opens public paper seats)) d in
-            let first : public.papers ≡ 1 = opens.papers in
-            let least : 1 ≤ n.note.number = is.number_least in
-            record {
-              games = all_last (IsLawfulGame m) (change_at bytes_eq name_of n.note.game (game_after (change_of n TheMaster text (Opens public paper seats))) s.games) (opening_game public paper seats)
-                  (by_letter TheMaster (Opens public paper seats) d tt (λ paper. paper)) (opened_lawful m public paper seats fine opens);
-              names = apart_last (change_at bytes_eq name_of n.note.game (game_after (change_of n TheMaster text (Opens public paper seats))) s.games) (opening_game public paper seats)
-                  (apart TheMaster (Opens public paper seats))
-                  (absent_change public.game n.note.game (game_after (change_of n TheMaster text (Opens public paper seats))) s.games (name_kept (change_of n TheMaster text (Opens public paper seats)))
-                  (ap (λ (name : List ℕ). at bytes_eq name_of name s.games) named ∙ free));
-              numbered = all_last (λ g. g.public.papers ≤ n.note.number) (change_at bytes_eq name_of n.note.game (game_after (change_of n TheMaster text (Opens public paper seats))) s.games)
-                  (opening_game public paper seats) (papers_few TheMaster (Opens public paper seats) n.note.number tt (λ paper. paper) (numbers_rise (Opens public paper seats) d)) (omega (arith, first, least));
-              last = is.number_most;
-            }
-
-        publishing : (public : Public) (paper : List ℕ) (played : Bool) → Decides m s n TheMaster (Taken text (Publishes public paper played))
-            → IsLawful m (after n TheMaster (Taken text (Publishes public paper played)) s)
-        publishing public paper played d =
-            let by = master_by_tick m n s.desk.kept n.note.command (game_at n.note.game s) (Taken text (Publishes public paper played)) d in
-            published_in public paper played d by.0 by.1 by.3 by.4
-          where
-            behind_it : (public : Public) (paper : List ℕ) (g : Game) → game_at n.note.game s ≡ Some g → IsLawfulGame m g → IsOf m public.board → public.papers ≡ g.public.papers + 1
-                → last_number s.desk.kept < n.note.number → IsLawful m (after n TheMaster (Taken text (Publishes public paper true)) s)
-            behind_it public paper g there lg of counted newer =
-                let same : (h : Game) → game_at n.note.game s ≡ Some h → g ≡ h = λ h found. let one = sym there ∙ found in cc in
-                subst (λ (gs : List Game). IsLawful m (record { desk = desk_after TheMaster (kept_of n text) s.desk; games = gs }))
-                (sym (append-nil (change_at bytes_eq name_of n.note.game (game_after (change_of n TheMaster text (Publishes public paper true))) s.games))) (record {
-                  games = all_change bytes_eq name_of n.note.game (game_after (change_of n TheMaster text (Publishes public paper true))) (IsLawfulGame m) s.games l.games
-                      (λ h found lh. played_lawful m n text public paper h of (counted ∙ ap (λ (x : Game). x.public.papers + 1) (same h found)) lh);
-                  names = apart TheMaster (Publishes public paper true);
-                  numbered = all_change bytes_eq name_of n.note.game (game_after (change_of n TheMaster text (Publishes public paper true))) (λ g. g.public.papers ≤ n.note.number) s.games
-                      (all_weaker (λ (h : Game). h.public.papers ≤ last_number s.desk.kept) (λ (h : Game). h.public.papers ≤ n.note.number) s.games (λ h few. omega (arith, few, newer)) l.numbered)
-                      (λ h found few.
-                      let was : g.public.papers ≤ last_number s.desk.kept = all_at bytes_eq name_of n.note.game (λ (h : Game). h.public.papers ≤ last_number s.desk.kept) s.games g l.numbered there in
-                      omega (arith, was, newer, counted));
-                  last = is.number_most;
-                })
-
-            published_in : (public : Public) (paper : List ℕ) (played : Bool) → Decides m s n TheMaster (Taken text (Publishes public paper played))
-                → (tick : ℕ) (g : Game) → game_at n.note.game s ≡ Some g → IsPublished m tick (whole_of g) (Taken text (Publishes public paper played))
-                → IsLawful m (after n TheMaster (Taken text (Publishes public paper played)) s)
-            published_in public paper played d tick g there p =
-                let behind : public ≡ public_played tick g.public p.board p.report.course = cc in
-                let was_played : played ≡ true = cc in
-                let newer : last_number s.desk.kept < n.note.number = master_newer m n s.desk.kept n.note.command (game_at n.note.game s) text (Publishes public paper played) is d in
-                let lg : IsLawfulGame m g = all_at bytes_eq name_of n.note.game (IsLawfulGame m) s.games g l.games there in
-                let of : IsOf m public.board =
-                subst (λ (q : Public). IsOf m q.board) (sym behind)
-                (stays g.public.board (orders_of m (whole_of g)) p.board p.report lg.board (whole_given m g (again g.public.board lg.board) lg) p.played) in
-                let counted : public.papers ≡ g.public.papers + 1 = ap (λ (q : Public). q.papers) behind in
-                subst (λ (b : Bool). IsLawful m (after n TheMaster (Taken text (Publishes public paper b)) s)) (sym was_played)
-                (behind_it public paper g there lg of counted newer)
-    go (Seat p) e d fits = none_more (Seat p) e d fits.0 (seat_publishes_not p (game_at n.note.game s) e fits.0) (seat_unpublished p (game_at n.note.game s) e fits.0).0 l.numbered l.last
+    go (Seat p) e d fits = by_power p e d (game_at n.note.game s) refl fits.0
 
 pub stays_lawful : (m : Chart) → IsOf m (opening m) → ((b : Position) → IsOf m b → AreRead m b) → StaysOf m → StaysLawful m
 stays_lawful m fine again stays old n r new is l step = subst (IsLawful m) (sym step.3) (lawful_after m fine again stays old n (author m n old) step.0 is step.1 l)
@@ -519,19 +796,37 @@ playable m read s name g l found =
       papers = omega (arith, few, most);
     }
 
+-- each seat's counts have room
+seats_room : (m : Chart) (b : Position) (seats : List Part) → AllByRecursion (IsLawfulSeat m b) seats → list_all (λ s. has_room s.own) seats ≡ true
+seats_room m b [] all = refl
+seats_room m b (s ∷ ss) all =
+    let sent : s.own.sent ≤ 10000 = all.0.sent in
+    let items : s.own.items ≡ length s.box = all.0.items in
+    let box : length s.box ≤ 60000 = all.0.box in
+    let first : nat_lt s.own.items 4294967295 ≡ true = lt-ltb s.own.items 4294967295 (omega (arith, items, box)) in
+    let second : nat_lt s.own.sent 4294967295 ≡ true = lt-ltb s.own.sent 4294967295 (omega (arith, sent)) in
+    rw (first, second) (seats_room m b ss all.1)
+
 pub never_damaged : (m : Chart) → ((b : Position) → IsOf m b → AreRead m b) → IsNeverDamaged m
 never_damaged m read s n Nobody l h = h
 never_damaged m read s n TheMaster l h = go n.note.command (game_at n.note.game s) refl h
   where
-    go : (command : Request) (game : Option Game) → game_at n.note.game s ≡ game → IsUnplayable m command game → ⊥
-    go (Create due period grey seats) game is h = h
-    go (Orders lines) game is h = h
-    go Show game is h = h
-    go (Tick tick) None is h = h
-    go (Tick tick) (Some g) is h = h (playable m read s n.note.game g l is)
+    spoiled : (command : Request) (g : Game) → game_at n.note.game s ≡ Some g → IsSpoiled m command g → ⊥
+    spoiled (Player command) g is h = h
+    spoiled (Master (Create due period grey seats)) g is h = h
+    spoiled (Master (Tick tick)) g is h = h (playable m read s n.note.game g l is)
+    spoiled (Master (Replace seat)) g is h = h
+    spoiled (Master (Notify notice)) g is h = let can = playable m read s n.note.game g l is in h (record { board = can.board; papers = can.papers })
+
+    go : (command : Request) (game : Option Game) → game_at n.note.game s ≡ game → IsSpoiledIn m command game → ⊥
+    go command None is h = h
+    go command (Some g) is h = spoiled command g is h
 never_damaged m read s n (Seat power) l h = elim h [
   | inl foreign ↦ go (game_at n.note.game s) refl foreign
-  | inr off ↦ on_map (game_at n.note.game s) refl off
+  | inr other ↦ elim other [
+    | inl off ↦ on_map (game_at n.note.game s) refl off
+    | inr full ↦ room n.note.command (game_at n.note.game s) refl full
+  ]
 ]
   where
     seat : (g : Game) → IsLawfulGame m g → (x : Option Part) → seat_at power g.seats ≡ x → IsForeignTo m (Some g.public) (own_of x) → ⊥
@@ -543,6 +838,18 @@ never_damaged m read s n (Seat power) l h = elim h [
     on_map : (game : Option Game) → game_at n.note.game s ≡ game → IsOffMap m (seen_in power game).public → ⊥
     on_map None is off = absurd off
     on_map (Some g) is off = off (all_at bytes_eq name_of n.note.game (IsLawfulGame m) s.games g l.games is).board
+
+    room : (command : Request) (game : Option Game) → game_at n.note.game s ≡ game → IsFull command game → ⊥
+    room (Player (Orders lines)) game is full = full
+    room (Player Withdraw) game is full = full
+    room (Player (Press grey names text)) None is full = full
+    room (Player (Press grey names text)) (Some g) is full =
+        let lg : IsLawfulGame m g = all_at bytes_eq name_of n.note.game (IsLawfulGame m) s.games g l.games is in
+        full (seats_room m g.public.board g.seats lg.seats)
+    room (Player (Vote draw)) game is full = full
+    room (Player Show) game is full = full
+    room (Player (Inbox first)) game is full = full
+    room (Master command) game is full = full
 
     go : (game : Option Game) → game_at n.note.game s ≡ game → IsForeignTo m (seen_in power game).public (own_of (seen_in power game).seat) → ⊥
     go None is foreign = absurd foreign

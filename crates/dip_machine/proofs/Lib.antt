@@ -3,6 +3,7 @@ pub mod Counting
 pub mod SeatLemmas
 pub mod OrderingLemmas
 pub mod TickingLemmas
+pub mod PressLemmas
 pub mod Suiting
 pub mod Seeing
 pub mod Others

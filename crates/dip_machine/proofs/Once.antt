@@ -5,13 +5,13 @@ use Rattle.dip_board.specs.declared.boards.Phase.{Phase}
 use Rattle.dip_names.specs.declared.names.Unit.{Unit as AUnit}
 use Rattle.dip_chart.specs.Charts.{Chart}
 use Rattle.dip_letters.specs.Notes.{Request}
-use Rattle.dip_letters.specs.Notes.Request.{Create, Orders, Show, Tick}
+use Rattle.dip_letters.specs.Notes.MasterRequest.{Create, Tick, Replace, Notify}
+use Rattle.dip_letters.specs.Notes.Request.{Player, Master}
 use Rattle.dip_orders.specs.declared.placed.Order.TheVariants.{Build, Remove}
 use Rattle.dip_outcomes.specs.declared.lines.MovementLine.{MovementLine}
 use Rattle.dip_papers.specs.Papers.{account_text, adjusted_with, centre_line, lines_by_power, moved_lines, paper_text, retreated_lines, title, unit_line}
-use Rattle.dip_papers.specs.declared.lines.PaperLine.{PaperLine}
 use Rattle.dip_papers.specs.declared.lines.Told.TheVariants.{Built, Removed, RemovedInDisorder}
-use Rattle.dip_records.specs.Records.{Public, Whole}
+use Rattle.dip_records.specs.Records.{Kept, Public, Whole}
 use Rattle.dip_reports.specs.Texts.{board_lines, game_line, paper_line}
 use Rattle.dip_turn.specs.Laws.{AreAlike, IsSame, PhasesHaveOneResult}
 use Rattle.dip_turn.specs.declared.report.Account.{Account}
@@ -21,9 +21,10 @@ use Rattle.dip_turn.specs.declared.report.Course.{Course}
 use Rattle.dip_turn.specs.declared.report.Report.{Report}
 use Rattle.dip_turn.specs.declared.report.RetreatLine.{RetreatLine}
 use Rattle.dip_turn.specs.declared.report.Waiver.{Waiver}
-use Rattle.dip_machine.specs.Machine.{Decides, IsPublished, MasterDecides, NumberedBy, Taken, Ticks, TicksIn, Verdict, author, old_number, paper_verdict}
+use Rattle.dip_machine.specs.Drawing.{is_drawn}
+use Rattle.dip_machine.specs.Machine.{Decides, DecidesIn, DecidesNew, IsPublished, MasterDecides, NumberedBy, OnTime, Taken, Ticks, Verdict, author, old_number, paper_verdict}
 use Rattle.dip_machine.specs.Mail.{Mail}
-use Rattle.dip_machine.specs.State.{Author, Game, Nobody, Publishes, Seat, State, TheMaster, game_at, whole_of}
+use Rattle.dip_machine.specs.State.{Game, Nobody, Publishes, Seat, State, TheMaster, game_at, whole_of}
 use Rattle.dip_machine.specs.Ticking.{is_due, is_over, orders_of, public_played}
 use Rattle.dip_machine.specs.View.{HistoriesAreOne, IsDecidedOnce, IsRun, Turn, left_by}
 
@@ -67,26 +68,38 @@ published_once m one tick w v u p q =
 ticks_once : (m : Chart) → PhasesHaveOneResult → (tick : ℕ) (w : Whole) (over due : Bool) (v u : Verdict) → Ticks m tick w over due v → Ticks m tick w over due u → v ≡ u
 ticks_once m one tick w true due v u x y = x ∙ sym y
 ticks_once m one tick w false false v u x y = x ∙ sym y
-ticks_once m one tick w false true v u x y = published_once m one tick w v u x y
+ticks_once m one tick w false true v u x y = go (is_drawn m w) x y
+  where
+    go : (b : Bool) → OnTime m tick w b v → OnTime m tick w b u → v ≡ u
+    go true x y = x ∙ sym y
+    go false x y = published_once m one tick w v u x y
 
 numbered_once : (o : Option Verdict) (New : Verdict → Type 0) (a b : Verdict) → (New a → New b → a ≡ b) → NumberedBy o New a → NumberedBy o New b → a ≡ b
 numbered_once None New a b new x y = new x y
 numbered_once (Some old) New a b new x y = x ∙ sym y
 
+in_game_once : (m : Chart) → PhasesHaveOneResult → (n : Mail) (command : Request) (g : Game) (v w : Verdict) → DecidesIn m n command g v → DecidesIn m n command g w → v ≡ w
+in_game_once m one n (Player command) g v w x y = x ∙ sym y
+in_game_once m one n (Master (Create due period grey seats)) g v w x y = x ∙ sym y
+in_game_once m one n (Master (Tick tick)) g v w x y = ticks_once m one tick (whole_of g) (is_over g.public.status) (is_due tick g.public) v w x y
+in_game_once m one n (Master (Replace seat)) g v w x y = x ∙ sym y
+in_game_once m one n (Master (Notify notice)) g v w x y = x ∙ sym y
+
+new_once : (m : Chart) (n : Mail) (k : Option Kept) (command : Request) (v w : Verdict) → DecidesNew m n k command v → DecidesNew m n k command w → v ≡ w
+new_once m n k (Player command) v w x y = x ∙ sym y
+new_once m n k (Master (Create due period grey seats)) v w x y = numbered_once (old_number n k) _ v w (λ a b. a ∙ sym b) x y
+new_once m n k (Master (Tick tick)) v w x y = x ∙ sym y
+new_once m n k (Master (Replace seat)) v w x y = x ∙ sym y
+new_once m n k (Master (Notify notice)) v w x y = x ∙ sym y
+
 pub decided_once : (m : Chart) → PhasesHaveOneResult → IsDecidedOnce m
 decided_once m one s n Nobody v w d e = d ∙ sym e
 decided_once m one s n (Seat p) v w d e = d ∙ sym e
-decided_once m one s n TheMaster v w d e = go n.note.command (game_at n.note.game s) d e
+decided_once m one s n TheMaster v w d e = go (game_at n.note.game s) d e
   where
-    go : (command : Request) (game : Option Game) → MasterDecides m n s.desk.kept command game v → MasterDecides m n s.desk.kept command game w → v ≡ w
-    go (Create due period grey seats) game x y = numbered_once (old_number n s.desk.kept) _ v w (λ a b. a ∙ sym b) x y
-    go (Orders lines) None x y = x ∙ sym y
-    go (Orders lines) (Some g) x y = numbered_once (old_number n s.desk.kept) _ v w (λ a b. a ∙ sym b) x y
-    go Show None x y = x ∙ sym y
-    go Show (Some g) x y = numbered_once (old_number n s.desk.kept) _ v w (λ a b. a ∙ sym b) x y
-    go (Tick tick) None x y = x ∙ sym y
-    go (Tick tick) (Some g) x y =
-        numbered_once (old_number n s.desk.kept) (TicksIn m tick g) v w (ticks_once m one tick (whole_of g) (is_over g.public.status) (is_due tick g.public) v w) x y
+    go : (game : Option Game) → MasterDecides m n s.desk.kept n.note.command game v → MasterDecides m n s.desk.kept n.note.command game w → v ≡ w
+    go None x y = new_once m n s.desk.kept n.note.command v w x y
+    go (Some g) x y = numbered_once (old_number n s.desk.kept) (DecidesIn m n n.note.command g) v w (in_game_once m one n n.note.command g v w) x y
 
 same_turn : (a b : State) (n k : Mail) (v w : Verdict) → a ≡ b → n ≡ k → v ≡ w
     → ◌≡◌ {A = Turn} (record { before = a; letter = n; verdict = v }) (record { before = b; letter = k; verdict = w })

@@ -1,6 +1,5 @@
 -- What is published of a movement satisfies the decision equations for the orders that stood.
-use Rattle.std.proofs.Common.{◌≡◌, ℕ, Bool, true, false, List, [], ◌∷◌, ◌++◌, Option, Some, None, codes, flat_map, refl, sym, ap, subst, ◌∙◌}
-use Rattle.std.specs.List.{AllByRecursion}
+use Rattle.std.proofs.Common.{◌≡◌, ℕ, true, List, [], ◌∷◌, ◌++◌, Option, Some, None, codes, flat_map, refl, sym, ap, subst, ◌∙◌}
 use Rattle.std.proofs.lemmas.Bool.{false≢true}
 use Rattle.dip_board.specs.Boards.{Position}
 use Rattle.dip_board.specs.declared.boards.Phase.{Phase}
@@ -20,20 +19,20 @@ use Rattle.dip_records.specs.Records.{Public}
 use Rattle.dip_reports.specs.Texts.{board_lines, game_line}
 use Rattle.dip_turn.specs.Centres.{centre_lines}
 use Rattle.dip_turn.specs.Phases.{Sequel, follow}
-use Rattle.dip_turn.specs.Reports.{IsMoved, Leaves, LeavesMoved}
+use Rattle.dip_turn.specs.Reports.{Leaves, LeavesMoved}
 use Rattle.dip_turn.specs.declared.report.Account.{Account}
 use Rattle.dip_turn.specs.declared.report.Account.TheVariants.{Movement as OfMovement, Retreats as OfRetreats, Adjustment as OfAdjustment}
 use Rattle.dip_turn.specs.declared.report.CentreLine.{CentreLine}
 use Rattle.dip_turn.specs.declared.report.Movement.{Movement}
 use Rattle.dip_turn.specs.declared.report.Report.{Report}
 use Rattle.dip_machine.specs.Mail.{Mail}
-use Rattle.dip_machine.specs.Machine.{Decides, IsPublished, NotKnown, Taken, Verdict, paper_verdict}
-use Rattle.dip_machine.specs.Published.{IsFair, MovementsAreDecided, TellsMovement, TellsTruly, is_movement, movement_paper, orders_stood}
+use Rattle.dip_machine.specs.Machine.{Decides, IsPublished, NotKnown, Taken, Verdict}
+use Rattle.dip_machine.specs.Published.{IsFair, MovementsAreDecided, TellsMovement, is_movement, movement_paper, orders_stood}
 use Rattle.dip_machine.specs.State.{Author, Game, Nobody, Publishes, Seat, State, TheMaster, game_at, whole_of}
 use Rattle.dip_machine.specs.Ticking.{orders_of, public_played}
 use Rattle.dip_machine.specs.View.{IsRun, Turn, author_in, left_by}
 use Rattle.dip_machine.proofs.Histories.{settled}
-use Rattle.dip_machine.proofs.Suiting.{Comes, decides_suits, master_by_tick}
+use Rattle.dip_machine.proofs.Suiting.{Comes, decides_suits, master_posted}
 
 -- a paper of a movement, by its parts
 paper_of : (m : Chart) (r : Report) (t : Movement) (p : Public) → r.account ≡ OfMovement t → paper_text m r p ≡ movement_paper m r.phase t.lines.items r.centres.items p
@@ -101,7 +100,7 @@ tells m equations s n who v d text paper public g is found moves = by who (subst
     by Nobody d = let bad : ◌≡◌ {A = Verdict} (Taken text (Publishes public paper true)) NotKnown = d in absurd (cc)
     by (Seat p) d = absurd (no_seat p (game_at n.note.game s) (decides_suits m s n (Seat p) (Taken text (Publishes public paper true)) d).0)
     by TheMaster d =
-        let ticked = master_by_tick m n s.desk.kept n.note.command (game_at n.note.game s) (Taken text (Publishes public paper true)) d in
+        let ticked = master_posted m n s.desk.kept n.note.command (game_at n.note.game s) (Taken text (Publishes public paper true)) d in
         let one : Some ticked.1 ≡ Some g = sym ticked.3 ∙ found in
         let same : ticked.1 ≡ g = cc in
         told m equations ticked.0 g text paper public moves (subst (λ (h : Game). IsPublished m ticked.0 (whole_of h) (Taken text (Publishes public paper true))) same ticked.4)

@@ -1,21 +1,23 @@
 -- A letter that comes twice acts once.
-use Rattle.std.proofs.Common.{◌≡◌, ℕ, ◌<◌, ◌==◌, Bool, true, false, cond, List, refl, sym, ap, subst, ◌∙◌, arith, Option, Some, None, option_map, unwrap_or, nat_lt, bytes_eq, codes}
+use Rattle.std.proofs.Common.{◌≡◌, ◌⊎◌, inl, inr, ℕ, ◌<◌, ◌==◌, Bool, true, false, cond, List, refl, sym, ap, subst, ◌∙◌, arith, Option, Some, None, option_map, unwrap_or, nat_lt, bytes_eq, codes}
 use Rattle.std.specs.Prelude.{option_and_then}
-use Rattle.std.proofs.lemmas.Bool.{eq-eqb, ltb-true}
+use Rattle.std.specs.List.{list_any}
+use Rattle.std.proofs.lemmas.Bool.{eq-eqb, false≢true, ltb-true}
 use Rattle.dip_letters.specs.Notes.{Request}
-use Rattle.dip_letters.specs.Notes.Request.{Create, Orders, Show, Tick}
+use Rattle.dip_letters.specs.Notes.MasterRequest.{Create, Tick, Replace, Notify}
+use Rattle.dip_letters.specs.Notes.Request.{Player, Master}
 use Rattle.dip_chart.specs.Charts.{Chart, power_of}
 use Rattle.dip_records.specs.Records.{Own, Kept, Public, Reply}
-use Rattle.dip_reports.specs.declared.refusals.Refusal.TheVariants.{Malformed, NumberUsed, Stale, WrongSender}
-use Rattle.dip_machine.specs.Machine.{Decides, IsNotForMaster, MasterDecides, TicksIn, are_complete, change_of, open_game, NumberedBy, Step, Verdict, NotKnown, Again, OutOfTurn, Taken, after, author, creation, digest, kept_of, master_author, new_seats, old_number, opening_public, power_author, refusal_verdict, repeat_verdict, reply_of, seat_author, seat_command, seen_in, verdict_by, verdict_on}
+use Rattle.dip_reports.specs.declared.refusals.Refusal.TheVariants.{Malformed, NumberUsed, Stale}
+use Rattle.dip_machine.specs.Machine.{Decides, DecidesIn, DecidesNew, MasterDecides, are_complete, change_of, open_game, NumberedBy, Step, Verdict, NotKnown, Again, OutOfTurn, Taken, after, author, creation, digest, kept_of, master_author, new_seats, old_number, opening_public, page_shown, power_author, refusal_verdict, repeat_verdict, reply_of, seat_author, seat_command, seen_in, verdict_by, verdict_on}
 use Rattle.dip_reports.specs.Texts.{refusal_line}
 use Rattle.dip_machine.specs.Mail.{Mail}
 use Rattle.dip_machine.specs.Repeats.{ActsOnce}
-use Rattle.dip_machine.specs.Ticking.{is_due, is_over}
-use Rattle.dip_machine.specs.State.{State, Game, Part, Author, Nobody, TheMaster, Seat, Effect, Nothing, Pending, Votes, Delivers, Opens, Publishes, Seats, NewSeat, game_after, game_at, own_at, own_of, public_after, seat_at, whole_of, with_effect, with_letter}
+use Rattle.dip_machine.specs.Strangers.{is_create}
+use Rattle.dip_machine.specs.State.{State, Game, Part, Author, Nobody, TheMaster, Seat, Effect, Nothing, Pending, Votes, Delivers, Opens, Publishes, Seats, NewSeat, game_after, game_at, own_at, own_of, power_in, public_after, seat_at, with_effect, with_item, with_letter}
 use Rattle.dip_machine.proofs.KeyedLemmas.{names_tell}
 use Rattle.dip_machine.proofs.Seeing.{author_part, game_behind, seat_behind}
-use Rattle.dip_machine.proofs.Suiting.{Comes, decides_suits, seat_where, ticks_hold}
+use Rattle.dip_machine.proofs.Suiting.{Comes, decides_suits, in_game_holds, seat_where}
 
 -- a verdict by which the letter isn't taken
 abbrev pub IsUntaken : Verdict → Type 0
@@ -29,39 +31,41 @@ numbered_one None New a b taken x y = absurd (taken y)
 numbered_one (Some old) New a b taken x y = x ∙ sym y
 
 -- what is decided of a new number is taken
-created_taken : (m : Chart) (p : Public) (found : Option (List NewSeat)) (game : Option Game) → IsUntaken (creation m p found game) → ⊥
-created_taken m p None game h = h
-created_taken m p (Some seats) game h = go (are_complete m seats) game h
-  where
-    go : (b : Bool) (game : Option Game) → IsUntaken (cond b (open_game m p seats game) (refusal_verdict Malformed)) → ⊥
-    go true None h = h
-    go true (Some g) h = h
-    go false game h = h
+pub in_game_taken : (m : Chart) (n : Mail) (command : Request) (g : Game) (v : Verdict) → IsUntaken v → DecidesIn m n command g v → ⊥
+in_game_taken m n command g v untaken d =
+    in_game_holds (λ w. IsUntaken w → ⊥) m n command g v (record {
+      refused = λ r u. u;
+      played = λ tick w of p u. subst IsUntaken p.verdict u;
+      noted = λ text paper public next spoiled u. u;
+      seated = λ note seat of new low s found u. u;
+    }) d untaken
 
-pub ticks_taken : (m : Chart) (tick : ℕ) (g : Game) (v : Verdict) → IsUntaken v → TicksIn m tick g v → ⊥
-ticks_taken m tick g v untaken h =
-    ticks_hold (λ v. IsUntaken v → ⊥) m tick (whole_of g) (is_over g.public.status) (is_due tick g.public) v (λ u. u) (λ u. u)
-    (λ p u. subst IsUntaken p.verdict u) h untaken
+created_taken : (m : Chart) (p : Public) (found : Option (List NewSeat)) → IsUntaken (creation m p found None) → ⊥
+created_taken m p None h = h
+created_taken m p (Some seats) h = go (are_complete m seats) h
+  where
+    go : (b : Bool) → IsUntaken (cond b (open_game m p seats None) (refusal_verdict Malformed)) → ⊥
+    go true h = h
+    go false h = h
+
+new_one : (m : Chart) (n : Mail) (k : Option Kept) (command : Request) (v w : Verdict) → IsUntaken w → DecidesNew m n k command v → DecidesNew m n k command w → v ≡ w
+new_one m n k (Player command) v w untaken x y = x ∙ sym y
+new_one m n k (Master (Create due period grey seats)) v w untaken x y =
+    numbered_one (old_number n k) (λ v. v ≡ creation m (opening_public m n.note.game due period grey) (new_seats m n.note.game seats) None) v w
+    (λ is. created_taken m (opening_public m n.note.game due period grey) (new_seats m n.note.game seats) (subst IsUntaken is untaken)) x y
+new_one m n k (Master (Tick tick)) v w untaken x y = x ∙ sym y
+new_one m n k (Master (Replace seat)) v w untaken x y = x ∙ sym y
+new_one m n k (Master (Notify notice)) v w untaken x y = x ∙ sym y
 
 -- where a letter may go untaken, nothing else is decided of it
 pub decides_one : (m : Chart) (s : State) (n : Mail) (who : Author) (v w : Verdict) → IsUntaken w → Decides m s n who v → Decides m s n who w → v ≡ w
 decides_one m s n Nobody v w untaken d e = d ∙ sym e
 decides_one m s n (Seat p) v w untaken d e = d ∙ sym e
-decides_one m s n TheMaster v w untaken d e = go n.note.command (game_at n.note.game s) d e
+decides_one m s n TheMaster v w untaken d e = go (game_at n.note.game s) d e
   where
-    refused : w ≡ refusal_verdict WrongSender → ⊥
-    refused is = subst IsUntaken is untaken
-
-    go : (command : Request) (game : Option Game) → MasterDecides m n s.desk.kept command game v → MasterDecides m n s.desk.kept command game w → v ≡ w
-    go (Create due period grey seats) game x y =
-        numbered_one (old_number n s.desk.kept) (λ v. v ≡ creation m (opening_public m n.note.game due period grey) (new_seats m n.note.game seats) game) v w
-        (λ is. created_taken m (opening_public m n.note.game due period grey) (new_seats m n.note.game seats) game (subst IsUntaken is untaken)) x y
-    go (Orders lines) None x y = x ∙ sym y
-    go (Orders lines) (Some g) x y = numbered_one (old_number n s.desk.kept) (IsNotForMaster g) v w refused x y
-    go Show None x y = x ∙ sym y
-    go Show (Some g) x y = numbered_one (old_number n s.desk.kept) (IsNotForMaster g) v w refused x y
-    go (Tick tick) None x y = x ∙ sym y
-    go (Tick tick) (Some g) x y = numbered_one (old_number n s.desk.kept) (TicksIn m tick g) v w (ticks_taken m tick g w untaken) x y
+    go : (game : Option Game) → MasterDecides m n s.desk.kept n.note.command game v → MasterDecides m n s.desk.kept n.note.command game w → v ≡ w
+    go None x y = new_one m n s.desk.kept n.note.command v w untaken x y
+    go (Some g) x y = numbered_one (old_number n s.desk.kept) (DecidesIn m n n.note.command g) v w (in_game_taken m n n.note.command g w untaken) x y
 
 not_below : (a : ℕ) → nat_lt a a ≡ false
 not_below a = go (nat_lt a a) refl
@@ -140,8 +144,12 @@ seat_digest : (p : ℕ) (game : Option Game) (e : Effect) (s : Part) → Comes (
 seat_digest p None e s h = absurd h
 seat_digest p (Some g) Nothing s h = refl
 seat_digest p (Some g) (Pending orders) s h = refl
-seat_digest p (Some g) (Votes draw) s h = absurd h
-seat_digest p (Some g) (Delivers readers item) s h = absurd h
+seat_digest p (Some g) (Votes draw) s h = refl
+seat_digest p (Some g) (Delivers readers item) s h = go (list_any (λ p. p == power_in s) readers)
+  where
+    go : (b : Bool) → (cond b (with_item item s) s).own.digest ≡ s.own.digest
+    go true = refl
+    go false = refl
 seat_digest p (Some g) (Opens public paper seats) s h = absurd h
 seat_digest p (Some g) (Publishes public paper played) s h = absurd h
 seat_digest p (Some g) (Seats seat) s h = absurd h
@@ -160,8 +168,12 @@ seat_kept : (p : ℕ) (game : Option Game) (e : Effect) (s : Part) → Comes (Se
 seat_kept p None e s h = absurd h
 seat_kept p (Some g) Nothing s h = refl
 seat_kept p (Some g) (Pending orders) s h = refl
-seat_kept p (Some g) (Votes draw) s h = absurd h
-seat_kept p (Some g) (Delivers readers item) s h = absurd h
+seat_kept p (Some g) (Votes draw) s h = refl
+seat_kept p (Some g) (Delivers readers item) s h = go (list_any (λ p. p == power_in s) readers)
+  where
+    go : (b : Bool) → (cond b (with_item item s) s).own.kept ≡ s.own.kept
+    go true = refl
+    go false = refl
 seat_kept p (Some g) (Opens public paper seats) s h = absurd h
 seat_kept p (Some g) (Publishes public paper played) s h = absurd h
 seat_kept p (Some g) (Seats seat) s h = absurd h
@@ -188,7 +200,7 @@ seat_again : (m : Chart) (s : State) (n : Mail) (p : ℕ) (text : List ℕ) (e :
     → Taken text e ≡ verdict_on m n (seen_in p (Some g)) → verdict_on m n (seen_in p (game_at n.note.game (after n (Seat p) (Taken text e) s))) ≡ Again text
 seat_again m s n p text e g comes found d =
     ap (λ (x : Option Game). verdict_on m n (seen_in p x)) (game_behind (change_of n (Seat p) text e) s g found)
-    ∙ ap (λ (x : Option Part). verdict_by m n (Some (public_after e g.public)) (own_of x)) (seat_behind (change_of n (Seat p) text e) g p)
+    ∙ ap (λ (x : Option Part). verdict_by m n (Some (public_after e g.public)) x) (seat_behind (change_of n (Seat p) text e) g p)
     ∙ known (seat_at p g.seats) d
   where
     mine : (x : Part) → (with_effect e (author_part (Seat p) (kept_of n text) e p x)).own.kept ≡ Some (kept_of n text)
@@ -196,31 +208,40 @@ seat_again m s n p text e g comes found d =
         seat_kept p (game_at n.note.game s) e (author_part (Seat p) (kept_of n text) e p x) comes
         ∙ ap (λ (b : Bool). (cond b (with_letter (kept_of n text) e x) x).own.kept) (eq-eqb p p refl) ∙ letter_kept (kept_of n text) e x
 
-    known : (o : Option Part) → Taken text e ≡ verdict_by m n (Some g.public) (own_of o)
-        → verdict_by m n (Some (public_after e g.public)) (own_of (option_map (with_effect e) (option_map (author_part (Seat p) (kept_of n text) e p) o))) ≡ Again text
+    known : (o : Option Part) → Taken text e ≡ verdict_by m n (Some g.public) o
+        → verdict_by m n (Some (public_after e g.public)) (option_map (with_effect e) (option_map (author_part (Seat p) (kept_of n text) e p) o)) ≡ Again text
     known None d = let bad : ◌≡◌ {A = Verdict} (Taken text e) NotKnown = d in absurd (cc)
     known (Some x) d =
-        let o : Own = (with_effect e (author_part (Seat p) (kept_of n text) e p x)).own in
-        ap (λ (k : Option Kept). unwrap_or (old_number n k) (seat_command m n.note.command (public_after e g.public) o)) (mine x)
-        ∙ ap (λ (old : Option Verdict). unwrap_or old (seat_command m n.note.command (public_after e g.public) o)) (number_again n text)
+        let y : Part = with_effect e (author_part (Seat p) (kept_of n text) e p x) in
+        ap (λ (k : Option Kept). unwrap_or (old_number n k) (seat_command m n.note.command (public_after e g.public) y.own (page_shown n.note.command y.box))) (mine x)
+        ∙ ap (λ (old : Option Verdict). unwrap_or old (seat_command m n.note.command (public_after e g.public) y.own (page_shown n.note.command y.box))) (number_again n text)
 
 known_again : (n : Mail) (text : List ℕ) (New : Verdict → Type 0) → NumberedBy (old_number n (Some (kept_of n text))) New (Again text)
 known_again n text New = subst (λ (o : Option Verdict). NumberedBy o New (Again text)) (sym (number_again n text)) refl
 
+none_there : (false ≡ true) ⊎ ((h : Game) × (◌≡◌ {A = Option Game} None (Some h))) → ⊥
+none_there (inl bad) = false≢true bad
+none_there (inr found) = let bad : ◌≡◌ {A = Option Game} None (Some found.0) = found.1 in cc
+
 -- a letter of the master that was taken, decided again
+again_in : (m : Chart) (n : Mail) (text : List ℕ) (command : Request) (after : Option Game) → (is_create command ≡ true) ⊎ ((h : Game) × (after ≡ Some h))
+    → MasterDecides m n (Some (kept_of n text)) command after (Again text)
+again_in m n text command (Some h) there = known_again n text (DecidesIn m n command h)
+again_in m n text (Master (Create due period grey seats)) None there =
+    known_again n text (λ w. w ≡ creation m (opening_public m n.note.game due period grey) (new_seats m n.note.game seats) None)
+again_in m n text (Player command) None there = absurd (none_there there)
+again_in m n text (Master (Tick tick)) None there = absurd (none_there there)
+again_in m n text (Master (Replace seat)) None there = absurd (none_there there)
+again_in m n text (Master (Notify notice)) None there = absurd (none_there there)
+
 master_again : (m : Chart) (n : Mail) (k : Option Kept) (text : List ℕ) (e : Effect) (command : Request) (game after : Option Game)
     → MasterDecides m n k command game (Taken text e) → ((g : Game) → game ≡ Some g → (h : Game) × (after ≡ Some h)) → MasterDecides m n (Some (kept_of n text)) command after (Again text)
-master_again m n k text e (Create due period grey seats) game after d stays =
-    known_again n text (λ w. w ≡ creation m (opening_public m n.note.game due period grey) (new_seats m n.note.game seats) after)
-master_again m n k text e (Orders lines) None after d stays = let bad : ◌≡◌ {A = Verdict} (Taken text e) NotKnown = d in absurd (cc)
-master_again m n k text e (Orders lines) (Some g) after d stays =
-    subst (λ (x : Option Game). MasterDecides m n (Some (kept_of n text)) (Orders lines) x (Again text)) (sym (stays g refl).1) (known_again n text (IsNotForMaster (stays g refl).0))
-master_again m n k text e (Tick tick) None after d stays = let bad : ◌≡◌ {A = Verdict} (Taken text e) NotKnown = d in absurd (cc)
-master_again m n k text e (Tick tick) (Some g) after d stays =
-    subst (λ (x : Option Game). MasterDecides m n (Some (kept_of n text)) (Tick tick) x (Again text)) (sym (stays g refl).1) (known_again n text (TicksIn m tick (stays g refl).0))
-master_again m n k text e Show None after d stays = let bad : ◌≡◌ {A = Verdict} (Taken text e) NotKnown = d in absurd (cc)
-master_again m n k text e Show (Some g) after d stays =
-    subst (λ (x : Option Game). MasterDecides m n (Some (kept_of n text)) Show x (Again text)) (sym (stays g refl).1) (known_again n text (IsNotForMaster (stays g refl).0))
+master_again m n k text e command (Some g) after d stays = again_in m n text command after (inr (stays g refl))
+master_again m n k text e (Master (Create due period grey seats)) None after d stays = again_in m n text (Master (Create due period grey seats)) after (inl refl)
+master_again m n k text e (Player command) None after d stays = let bad : ◌≡◌ {A = Verdict} (Taken text e) NotKnown = d in absurd (cc)
+master_again m n k text e (Master (Tick tick)) None after d stays = let bad : ◌≡◌ {A = Verdict} (Taken text e) NotKnown = d in absurd (cc)
+master_again m n k text e (Master (Replace seat)) None after d stays = let bad : ◌≡◌ {A = Verdict} (Taken text e) NotKnown = d in absurd (cc)
+master_again m n k text e (Master (Notify notice)) None after d stays = let bad : ◌≡◌ {A = Verdict} (Taken text e) NotKnown = d in absurd (cc)
 
 -- who is decided so again
 abbrev pub IsRepeat : Chart → State → Mail → List ℕ → Type 0
@@ -236,7 +257,7 @@ taken_again m s n TheMaster text e is d comes = (
       (λ g found. (game_after (change_of n TheMaster text e) g, game_behind (change_of n TheMaster text e) s g found))),
 )
 taken_again m s n (Seat p) text e is d comes =
-    let there = seat_where p p (game_at n.note.game s) e comes in (
+    let there = seat_where p (game_at n.note.game s) e comes in (
       Seat p,
       seat_stays m n p s (after n (Seat p) (Taken text e) s) (digests_stay s n p text e there.0 comes there.1) is,
       sym (seat_again m s n p text e there.0 comes there.1 (d ∙ ap (λ (x : Option Game). verdict_on m n (seen_in p x)) there.1)),
@@ -248,7 +269,7 @@ stays_author : (m : Chart) (s : State) (n : Mail) (who : Author) (text : List �
 stays_author m s n Nobody text e is comes = absurd comes
 stays_author m s n TheMaster text e is comes = master_stays m n s (after n TheMaster (Taken text e) s) refl is
 stays_author m s n (Seat p) text e is comes =
-    let there = seat_where p p (game_at n.note.game s) e comes in
+    let there = seat_where p (game_at n.note.game s) e comes in
     seat_stays m n p s (after n (Seat p) (Taken text e) s) (digests_stay s n p text e there.0 comes there.1) is
 
 -- a verdict that changes nothing

@@ -1,24 +1,22 @@
 -- A letter that comes again behind letters of others.
-use Rattle.std.proofs.Common.{◌≡◌, ◌≢◌, inl, inr, ℕ, Bool, true, false, cond, List, [], ◌∷◌, refl, sym, ap, subst, ◌∙◌, Option, Some, None, option_map, bytes_eq, codes, is_some, unwrap_or, ◌⊎◌}
+use Rattle.std.proofs.Common.{◌≡◌, ◌≢◌, ◌==◌, ℕ, Bool, true, false, cond, List, [], ◌∷◌, refl, sym, ap, subst, ◌∙◌, Option, Some, None, option_map, bytes_eq, codes, is_some, unwrap_or}
 use Rattle.std.specs.Prelude.{option_and_then}
+use Rattle.std.specs.List.{AllByRecursion, list_any}
 use Rattle.dip_letters.specs.Notes.{Request}
-use Rattle.dip_letters.specs.Notes.Request.{Create, Orders, Show, Tick}
 use Rattle.dip_chart.specs.Charts.{Chart, power_of}
-use Rattle.dip_records.specs.Records.{Kept, Own, Public}
+use Rattle.dip_records.specs.Records.{Item, Kept, Own, Public}
 use Rattle.std.specs.Option.{option_or}
 use Rattle.dip_machine.specs.Keyed.{at}
-use Rattle.dip_machine.specs.Machine.{Decides, MasterDecides, TicksIn, change_of, NumberedBy, SeatName, Seen, Verdict, NotKnown, Again, OutOfTurn, Taken, after, author, creation, digest, master_author, new_seats, old_number, opening_public, power_author, reply_of, orders_verdict, seat_author, seat_command, seen_by, seen_in, unless_over, verdict_by, verdict_on}
+use Rattle.dip_machine.specs.Machine.{Decides, DecidesIn, MasterDecides, change_of, NumberedBy, SeatName, Seen, Verdict, NotKnown, Again, OutOfTurn, Taken, after, author, digest, master_author, old_number, page_shown, power_author, reply_of, seat_author, seat_command, seat_verdict, seen_by, seen_in, verdict_by, verdict_on}
 use Rattle.dip_machine.specs.Mail.{Mail}
-use Rattle.dip_machine.specs.Ordering.{outcome_of_lines}
-use Rattle.dip_machine.specs.Ticking.{is_over}
 use Rattle.dip_machine.specs.Repeats.{ActsOnceLater, AreOthers, has_author}
-use Rattle.dip_machine.specs.State.{State, Game, Author, Nobody, TheMaster, Seat, Effect, Nothing, Pending, Votes, Delivers, Opens, Publishes, Seats, NewSeat, Part, behind_paper, game_after, game_at, name_of, new_games, own_at, own_of, seat_at}
-use Rattle.dip_machine.specs.View.{Event, IsRun, Published, Suits, Turn, absorb_all, author_in, effect_events, events_for, left_by, verdict_events, writes}
+use Rattle.dip_machine.specs.State.{State, Game, Author, Nobody, TheMaster, Seat, Effect, Nothing, Pending, Votes, Delivers, Opens, Publishes, Seats, NewSeat, Part, behind_paper, game_after, game_at, name_of, new_games, own_of, seat_at, with_digest, with_item}
+use Rattle.dip_machine.specs.View.{Event, Heard, IsRun, OwnLetter, Published, Seated, Suits, Turn, absorb, absorb_all, author_in, events_for, left_by, seat_events, seat_with_digest, verdict_events, writes}
 use Rattle.dip_machine.proofs.KeyedLemmas.{names_tell}
-use Rattle.dip_machine.proofs.Others.{quiet, seat_unpublished, shown_of}
-use Rattle.dip_machine.proofs.Repeating.{IsUntaken, decides_one, master_stays, repeats, ticks_taken}
+use Rattle.dip_machine.proofs.Others.{seat_unpublished, shown_of}
+use Rattle.dip_machine.proofs.Repeating.{IsUntaken, decides_one, in_game_taken, repeats}
 use Rattle.dip_machine.proofs.Seeing.{option_or-none, other_game, same_game, step_seen}
-use Rattle.dip_machine.proofs.Suiting.{decides_suits, master_where}
+use Rattle.dip_machine.proofs.Suiting.{command_holds, decides_suits}
 
 -- a letter that opens nothing leaves the games that are there
 is_there_still : (s : State) (n : Mail) (who : Author) (text : List ℕ) (e : Effect) (name : List ℕ) → Suits n.note.game (game_at n.note.game s) e → new_games e ≡ []
@@ -40,210 +38,154 @@ is_there_still s n who text e name suits none = go (bytes_eq n.note.game name) r
     go true same = subst (λ (x : List ℕ). is_some (game_at x (after n who (Taken text e) s)) ≡ is_some (game_at x s)) (names_tell.same n.note.game name same) here
     go false differ = ap is_some (other_game (change_of n who text e) s name suits differ)
 
--- a game that is there stays
-games_stay : (s : State) (n : Mail) (who : Author) (text : List ℕ) (e : Effect) (name : List ℕ) → Suits n.note.game (game_at n.note.game s) e → (game_at name s ≡ None → ⊥)
-    → is_some (game_at name (after n who (Taken text e) s)) ≡ is_some (game_at name s)
-games_stay s n who text e name suits there = go (bytes_eq n.note.game name) refl
+-- the letters of others leave what a seat that is there remembers: what is kept of its last letter
+
+abbrev pub IsNotOwn : Event → Type 0
+IsNotOwn (OwnLetter n) = ⊥
+IsNotOwn (Heard item) = Unit {0}
+IsNotOwn (Published public paper played) = Unit {0}
+IsNotOwn (Seated by) = Unit {0}
+
+-- the seat is there, and remembers this
+abbrev pub Remembers : Option Kept → Option Part → Type 0
+Remembers k seat = (x : Part) × (seat ≡ Some x) × (x.own.kept ≡ k)
+
+one_remembered : (m : Chart) (power : ℕ) (k : Option Kept) (s : Seen) (e : Event) → IsNotOwn e → Remembers k s.seat → Remembers k (absorb m power s e).seat
+one_remembered m power k s (OwnLetter n) other there = absurd other
+one_remembered m power k s (Heard item) other there = (with_item item there.0, ap (option_map (with_item item)) there.1, there.2)
+one_remembered m power k s (Published public paper played) other there = (behind_paper played there.0, ap (option_map (behind_paper played)) there.1, go played)
   where
-    opens_not : (e : Effect) → Suits n.note.game (game_at n.note.game s) e → n.note.game ≡ name → new_games e ≡ []
-    opens_not Nothing h same = refl
-    opens_not (Pending orders) h same = refl
-    opens_not (Votes draw) h same = refl
-    opens_not (Delivers readers item) h same = refl
-    opens_not (Opens public paper seats) h same = absurd (opens (game_at n.note.game s) refl h)
+    go : (t : Bool) → (behind_paper t there.0).own.kept ≡ k
+    go true = there.2
+    go false = there.2
+one_remembered m power k s (Seated by) other there = (with_digest by there.0, ap (seat_with_digest power by) there.1, there.2)
+
+all_remembered : (m : Chart) (power : ℕ) (k : Option Kept) (s : Seen) (es : List Event) → AllByRecursion IsNotOwn es → Remembers k s.seat → Remembers k (absorb_all m power s es).seat
+all_remembered m power k s [] others there = there
+all_remembered m power k s (e ∷ es) others there = all_remembered m power k (absorb m power s e) es others.1 (one_remembered m power k s e others.0 there)
+
+-- what a verdict shows each seat of its game is no letter of its own
+verdict_not_own : (power : ℕ) (v : Verdict) → AllByRecursion IsNotOwn (verdict_events power v)
+verdict_not_own power NotKnown = tt
+verdict_not_own power (Again text) = tt
+verdict_not_own power (OutOfTurn text) = tt
+verdict_not_own power (Taken text Nothing) = tt
+verdict_not_own power (Taken text (Pending orders)) = tt
+verdict_not_own power (Taken text (Votes draw)) = tt
+verdict_not_own power (Taken text (Delivers readers item)) = go (list_any (λ p. p == power) readers)
+  where
+    go : (t : Bool) → AllByRecursion IsNotOwn (cond t (Heard item ∷ []) [])
+    go true = (tt, tt)
+    go false = tt
+verdict_not_own power (Taken text (Opens public paper seats)) = (tt, given seats)
+  where
+    given : (seats : List NewSeat) → AllByRecursion IsNotOwn (seat_events power seats)
+    given [] = tt
+    given (s ∷ ss) = go (s.power == power) (given ss)
       where
-        opens : (game : Option Game) → game_at n.note.game s ≡ game → Suits n.note.game game (Opens public paper seats) → ⊥
-        opens None is h = there (ap (λ (x : List ℕ). game_at x s) (sym same) ∙ is)
-        opens (Some g) is h = h
-    opens_not (Publishes public paper played) h same = refl
-    opens_not (Seats seat) h same = refl
-
-    go : (b : Bool) → bytes_eq n.note.game name ≡ b → is_some (game_at name (after n who (Taken text e) s)) ≡ is_some (game_at name s)
-    go true same = is_there_still s n who text e name suits (opens_not e suits (names_tell.same n.note.game name same))
-    go false differ = ap is_some (other_game (change_of n who text e) s name suits differ)
-
--- the letters of others leave what a seat that is there remembers: its digest, and what is kept of its last letter
-
-pub record Memory : Type 0 where
-  pub digest : List ℕ
-  pub kept : Option Kept
-
-abbrev pub memory_of : Part → Memory
-memory_of s = record { digest = s.own.digest; kept = s.own.kept }
-
-abbrev pub remembered : Seen → Option Memory
-remembered s = option_map memory_of s.seat
-
-paper_remembered : (played : Bool) (s : Part) → memory_of (behind_paper played s) ≡ memory_of s
-paper_remembered true s = refl
-paper_remembered false s = refl
-
--- what a letter of others shows a seat of a game that is there: nothing, or a paper
-abbrev pub IsPaperAlone : List Event → Type 0
-IsPaperAlone es = (es ≡ []) ⊎ ((public : Public) × (paper : List ℕ) × (played : Bool) × (es ≡ Published public paper played ∷ []))
-
-papers_remembered : (m : Chart) (power : ℕ) (s : Seen) (es : List Event) → IsPaperAlone es → remembered (absorb_all m power s es) ≡ remembered s
-papers_remembered m power s es (inl none) = ap (λ (x : List Event). remembered (absorb_all m power s x)) none
-papers_remembered m power s es (inr one) = ap (λ (x : List Event). remembered (absorb_all m power s x)) one.3 ∙ go s.seat
+        go : (t : Bool) → AllByRecursion IsNotOwn (seat_events power ss) → AllByRecursion IsNotOwn (cond t (Seated s.digest ∷ []) (seat_events power ss))
+        go true rest = (tt, tt)
+        go false rest = rest
+verdict_not_own power (Taken text (Publishes public paper played)) = (tt, tt)
+verdict_not_own power (Taken text (Seats seat)) = go (seat.power == power)
   where
-    go : (o : Option Part) → option_map memory_of (option_map (behind_paper one.2) o) ≡ option_map memory_of o
-    go None = refl
-    go (Some x) = ap (λ (y : Memory). Some y) (paper_remembered one.2 x)
-
-paper_of_master : (m : Chart) (s : State) (n : Mail) (power : ℕ) (v : Verdict) → Decides m s n TheMaster v → (game_at n.note.game s ≡ None → ⊥) → IsPaperAlone (verdict_events power v)
-paper_of_master m s n power NotKnown d there = inl refl
-paper_of_master m s n power (Again text) d there = inl refl
-paper_of_master m s n power (OutOfTurn text) d there = inl refl
-paper_of_master m s n power (Taken text e) d there = elim (master_where n.note.game (game_at n.note.game s) e (decides_suits m s n TheMaster (Taken text e) d)) [
-  | inl nothing ↦ inl (ap (effect_events power) nothing)
-  | inr more ↦ elim more [
-    | inl opens ↦ absurd (there opens.4)
-    | inr paper ↦ inr (paper.0, paper.1, paper.2, ap (effect_events power) paper.3)
-  ]
-]
-
-game_seen : (seat : SeatName) (s : State) → (game_at seat.game s ≡ None → ⊥) → (t : State) → is_some (game_at seat.game t) ≡ is_some (game_at seat.game s) → game_at seat.game t ≡ None → ⊥
-game_seen seat s there t same none = go (game_at seat.game s) refl (sym same ∙ ap (λ (g : Option Game). is_some g) none)
-  where
-    go : (game : Option Game) → game_at seat.game s ≡ game → is_some game ≡ false → ⊥
-    go None is e = there is
-    go (Some g) is e = absurd (cc)
+    go : (t : Bool) → AllByRecursion IsNotOwn (cond t (Seated seat.digest ∷ []) [])
+    go true = (tt, tt)
+    go false = tt
 
 -- one turn of another author
-turn_remembered : (m : Chart) (seat : SeatName) (s : State) (n : Mail) (who : Author) (v : Verdict) → Decides m s n who v → writes seat n who ≡ false
-    → (game_at seat.game s ≡ None → ⊥) → remembered (seen_by seat (after n who v s)) ≡ remembered (seen_by seat s)
-turn_remembered m seat s n who v d others there =
-    ap remembered (step_seen m seat s n who v d)
-    ∙ papers_remembered m seat.power (seen_by seat s) (events_for seat n who v)
-    (subst IsPaperAlone (sym (shown_of seat n who v others)) (shown (bytes_eq n.note.game seat.game) refl))
+turn_remembered : (m : Chart) (seat : SeatName) (k : Option Kept) (s : State) (n : Mail) (who : Author) (v : Verdict) → Decides m s n who v → writes seat n who ≡ false
+    → Remembers k (seen_by seat s).seat → Remembers k (seen_by seat (after n who v s)).seat
+turn_remembered m seat k s n who v d others there =
+    subst (λ (x : Seen). Remembers k x.seat) (sym (step_seen m seat s n who v d))
+    (all_remembered m seat.power k (seen_by seat s) (events_for seat n who v) (subst (AllByRecursion IsNotOwn) (sym (shown_of seat n who v others)) (go (bytes_eq n.note.game seat.game))) there)
   where
-    by_author : (who : Author) → Decides m s n who v → bytes_eq n.note.game seat.game ≡ true → IsPaperAlone (verdict_events seat.power v)
-    by_author Nobody d same = inl (ap (verdict_events seat.power) d)
-    by_author TheMaster d same =
-        paper_of_master m s n seat.power v d (λ free. there (ap (λ (x : List ℕ). game_at x s) (sym (names_tell.same n.note.game seat.game same)) ∙ free))
-    by_author (Seat p) d same = inl (quiet m s n p seat.power v d)
+    go : (b : Bool) → AllByRecursion IsNotOwn (cond b (verdict_events seat.power v) [])
+    go true = verdict_not_own seat.power v
+    go false = tt
 
-    shown : (b : Bool) → bytes_eq n.note.game seat.game ≡ b → IsPaperAlone (cond b (verdict_events seat.power v) [])
-    shown true same = by_author who d same
-    shown false differ = inl refl
+run_remembered : (m : Chart) (n : Mail) (power : ℕ) (k : Option Kept) (ts : List Turn) (s t : State) → IsRun m s ts t → AreOthers m n (Seat power) ts
+    → Remembers k (seen_by (record { game = n.note.game; power = power }) s).seat → Remembers k (seen_by (record { game = n.note.game; power = power }) t).seat
+run_remembered m n power k [] s t run others there = subst (λ (x : State). Remembers k (seen_by (record { game = n.note.game; power = power }) x).seat) (sym run) there
+run_remembered m n power k (u ∷ us) s t run others there =
+    run_remembered m n power k us (left_by m u) t run.2 others.1
+    (turn_remembered m (record { game = n.note.game; power = power }) k u.before u.letter (author_in m u) u.verdict run.1 others.0
+    (subst (λ (x : State). Remembers k (seen_by (record { game = n.note.game; power = power }) x).seat) (sym run.0) there))
 
--- games that are there stay
-turn_there : (m : Chart) (name : List ℕ) (s : State) (n : Mail) (who : Author) (v : Verdict) → Decides m s n who v → (game_at name s ≡ None → ⊥)
-    → is_some (game_at name (after n who v s)) ≡ is_some (game_at name s)
-turn_there m name s n who NotKnown d there = refl
-turn_there m name s n who (Again text) d there = refl
-turn_there m name s n who (OutOfTurn text) d there = refl
-turn_there m name s n who (Taken text e) d there = games_stay s n who text e name (decides_suits m s n who (Taken text e) d).1 there
-
-run_remembered : (m : Chart) (n : Mail) (power : ℕ) (ts : List Turn) (s t : State) → IsRun m s ts t → AreOthers m n (Seat power) ts → (game_at n.note.game s ≡ None → ⊥)
-    → (remembered (seen_by (record { game = n.note.game; power = power }) t) ≡ remembered (seen_by (record { game = n.note.game; power = power }) s))
-    × (game_at n.note.game t ≡ None → ⊥)
-run_remembered m n power [] s t run others there =
-    (ap (λ (x : State). remembered (seen_by (record { game = n.note.game; power = power }) x)) run, λ none. there (ap (λ (x : State). game_at n.note.game x) (sym run) ∙ none))
-run_remembered m n power (u ∷ us) s t run others there =
-    let seat : SeatName = record { game = n.note.game; power = power } in
-    let free_not : game_at n.note.game u.before ≡ None → ⊥ = λ none. there (ap (λ (x : State). game_at n.note.game x) (sym run.0) ∙ none) in
-    let one : remembered (seen_by seat (left_by m u)) ≡ remembered (seen_by seat u.before) = turn_remembered m seat u.before u.letter (author_in m u) u.verdict run.1 others.0 free_not in
-    let next_there : game_at n.note.game (left_by m u) ≡ None → ⊥ =
-    game_seen seat u.before free_not (left_by m u) (turn_there m n.note.game u.before u.letter (author_in m u) u.verdict run.1 free_not) in
-    let rest = run_remembered m n power us (left_by m u) t run.2 others.1 next_there in
-    (rest.0 ∙ one ∙ ap (λ (x : State). remembered (seen_by seat x)) run.0, rest.1)
-
--- a seat's letter in a state by what the seat remembers there
-
-abbrev pub known_by : Mail → ℕ → Option Memory → Author
-known_by n power None = Nobody
-known_by n power (Some o) = cond (bytes_eq (digest n.note.game n.note.sender n.note.secret) o.digest) (Seat power) Nobody
-
-known_seat : (n : Mail) (power : ℕ) (game : Option Game) → seat_author n power (option_and_then (λ g. own_of (seat_at power g.seats)) game) ≡ known_by n power (remembered (seen_in power game))
-known_seat n power None = refl
-known_seat n power (Some g) = go (seat_at power g.seats)
+-- a seat that is the author is there
+author_there : (m : Chart) (n : Mail) (s : State) (p : ℕ) → author m n s ≡ Seat p → (x : Part) × ((seen_in p (game_at n.note.game s)).seat ≡ Some x)
+author_there m n s p is = go (bytes_eq n.note.sender (codes "master")) is
   where
-    go : (o : Option Part) → seat_author n power (own_of o) ≡ known_by n power (option_map memory_of o)
-    go None = refl
-    go (Some x) = refl
+    Found : ℕ → Type 0
+    Found q = (x : Part) × ((seen_in q (game_at n.note.game s)).seat ≡ Some x)
 
--- a seat that is the author is there, and is the author wherever it remembers the same
-author_there : (m : Chart) (n : Mail) (s : State) (p : ℕ) → author m n s ≡ Seat p
-    → (game_at n.note.game s ≡ None → ⊥)
-    × ((t : State) → remembered (seen_in p (game_at n.note.game t)) ≡ remembered (seen_in p (game_at n.note.game s)) → author m n t ≡ Seat p)
-author_there m n s p is = go (bytes_eq n.note.sender (codes "master")) refl is
-  where
-    own : (q : ℕ) (b : Bool) → cond b (Seat q) Nobody ≡ Seat p → q ≡ p
-    own q true e = cc
-    own q false e = let bad : ◌≡◌ {A = Author} Nobody (Seat p) = e in absurd (cc)
+    here : (q : ℕ) (b : Bool) (x : Part) → (seen_in q (game_at n.note.game s)).seat ≡ Some x → cond b (Seat q) Nobody ≡ Seat p → Found p
+    here q true x found e = let same : q ≡ p = cc in subst Found same (x, found)
+    here q false x found e = let bad : ◌≡◌ {A = Author} Nobody (Seat p) = e in absurd (cc)
 
-    same_power : (q : ℕ) (o : Option Own) → seat_author n q o ≡ Seat p → q ≡ p
-    same_power q None e = let bad : ◌≡◌ {A = Author} Nobody (Seat p) = e in absurd (cc)
-    same_power q (Some o) e = own q (bytes_eq (digest n.note.game n.note.sender n.note.secret) o.digest) e
+    seat : (q : ℕ) (g : Game) → game_at n.note.game s ≡ Some g → (x : Option Part) → seat_at q g.seats ≡ x → seat_author n q (own_of x) ≡ Seat p → Found p
+    seat q g game None at e = let bad : ◌≡◌ {A = Author} Nobody (Seat p) = e in absurd (cc)
+    seat q g game (Some x) at e =
+        here q (bytes_eq (digest n.note.game n.note.sender n.note.secret) x.own.digest) x (ap (λ (y : Option Game). (seen_in q y).seat) game ∙ at) e
 
-    no_game : (q : ℕ) (game : Option Game) → seat_author n q (option_and_then (λ g. own_of (seat_at q g.seats)) game) ≡ Seat p → game ≡ None → ⊥
-    no_game q None e none = let bad : ◌≡◌ {A = Author} Nobody (Seat p) = e in absurd (cc)
-    no_game q (Some g) e none = absurd (cc)
+    by_game : (q : ℕ) (game : Option Game) → game_at n.note.game s ≡ game → seat_author n q (option_and_then (λ g. own_of (seat_at q g.seats)) game) ≡ Seat p → Found p
+    by_game q None at e = let bad : ◌≡◌ {A = Author} Nobody (Seat p) = e in absurd (cc)
+    by_game q (Some g) at e = seat q g at (seat_at q g.seats) refl e
 
-    power : (q : Option ℕ) → power_author n q s ≡ Seat p → (game_at n.note.game s ≡ None → ⊥)
-        × ((t : State) → remembered (seen_in p (game_at n.note.game t)) ≡ remembered (seen_in p (game_at n.note.game s)) → power_author n q t ≡ Seat p)
+    power : (q : Option ℕ) → power_author n q s ≡ Seat p → Found p
     power None e = let bad : ◌≡◌ {A = Author} Nobody (Seat p) = e in absurd (cc)
-    power (Some q) e = (
-      no_game q (game_at n.note.game s) e,
-      λ t same.
-          let alike : remembered (seen_in q (game_at n.note.game t)) ≡ remembered (seen_in q (game_at n.note.game s)) =
-          subst (λ (x : ℕ). remembered (seen_in x (game_at n.note.game t)) ≡ remembered (seen_in x (game_at n.note.game s))) (sym (same_power q (own_at n.note.game q s) e)) same in
-          known_seat n q (game_at n.note.game t) ∙ ap (known_by n q) alike ∙ sym (known_seat n q (game_at n.note.game s)) ∙ e,
-    )
+    power (Some q) e = by_game q (game_at n.note.game s) refl e
 
-    master : (b : Bool) → cond b TheMaster Nobody ≡ Seat p → ⊥
+    master : (b : Bool) → cond b TheMaster Nobody ≡ Seat p → Found p
     master true e = let bad : ◌≡◌ {A = Author} TheMaster (Seat p) = e in absurd (cc)
     master false e = let bad : ◌≡◌ {A = Author} Nobody (Seat p) = e in absurd (cc)
 
-    go : (b : Bool) → bytes_eq n.note.sender (codes "master") ≡ b → cond b (master_author n s) (power_author n (power_of m n.note.sender) s) ≡ Seat p
-        → (game_at n.note.game s ≡ None → ⊥)
-        × ((t : State) → remembered (seen_in p (game_at n.note.game t)) ≡ remembered (seen_in p (game_at n.note.game s))
-        → cond b (master_author n t) (power_author n (power_of m n.note.sender) t) ≡ Seat p)
-    go true is e = absurd (master (bytes_eq (digest (codes "desk") (codes "master") n.note.secret) s.desk.digest) e)
-    go false is e = power (power_of m n.note.sender) e
+    go : (b : Bool) → cond b (master_author n s) (power_author n (power_of m n.note.sender) s) ≡ Seat p → Found p
+    go true e = master (bytes_eq (digest (codes "desk") (codes "master") n.note.secret) s.desk.digest) e
+    go false e = power (power_of m n.note.sender) e
 
 -- a letter that isn't taken is so by what the seat remembers
 
-abbrev pub untaken_by : Mail → Option Memory → Option Verdict
-untaken_by n None = Some NotKnown
-untaken_by n (Some o) = old_number n o.kept
+command_taken : (m : Chart) (command : Request) (p : Public) (o : Own) (page : List Item) → IsUntaken (seat_command m command p o page) → ⊥
+command_taken m command p o page = command_holds (λ v. IsUntaken v → ⊥) m command p o page (record {
+  refused = λ r h. h;
+  told = λ t h. h;
+  ordered = λ lines h. h;
+  withdrawn = λ h. h;
+  voted = λ draw h. h;
+  sent = λ grey names lines readers of found few h. h;
+})
 
-command_taken : (m : Chart) (command : Request) (p : Public) (o : Own) → IsUntaken (seat_command m command p o) → ⊥
-command_taken m (Create due period grey seats) p o h = h
-command_taken m (Orders lines) p o h = go (is_over p.status) h
+-- a seat that is there, of a game that is there
+game_of_seat : (p : ℕ) (game : Option Game) (x : Part) → (seen_in p game).seat ≡ Some x → (g : Game) × (game ≡ Some g) × (seat_at p g.seats ≡ Some x)
+game_of_seat p None x at = absurd (cc)
+game_of_seat p (Some g) x at = (g, refl, at)
+
+verdict_at : (m : Chart) (n : Mail) (p : ℕ) (game : Option Game) (x : Part) → (there : (seen_in p game).seat ≡ Some x)
+    → verdict_on m n (seen_in p game) ≡ seat_verdict m n (game_of_seat p game x there).0.public x.own (page_shown n.note.command x.box)
+unfolding game_of_seat
+verdict_at m n p None x there = absurd (cc)
+verdict_at m n p (Some g) x there = ap (λ (y : Option Part). verdict_by m n (Some g.public) y) there
+
+untaken_by : (m : Chart) (n : Mail) (v : Verdict) (p : Public) (o : Own) (page : List Item) (k : Option Kept) → IsUntaken v → o.kept ≡ k → v ≡ seat_verdict m n p o page → old_number n k ≡ Some v
+untaken_by m n v p o page k untaken same is = go (old_number n k) refl (is ∙ ap (λ (j : Option Kept). unwrap_or (old_number n j) (seat_command m n.note.command p o page)) same)
   where
-    go : (over : Bool) → IsUntaken (unless_over over (orders_verdict m (outcome_of_lines m p.board o.power o.pending lines))) → ⊥
-    go true h = h
-    go false h = h
-command_taken m Show p o h = h
-command_taken m (Tick tick) p o h = h
+    go : (old : Option Verdict) → old_number n k ≡ old → v ≡ unwrap_or old (seat_command m n.note.command p o page) → old ≡ Some v
+    go None at e = absurd (command_taken m n.note.command p o page (subst IsUntaken e untaken))
+    go (Some w) at e = ap (λ (x : Verdict). Some x) (sym e)
 
-untaken_is : (m : Chart) (n : Mail) (p : ℕ) (g : Game) (v : Verdict) → IsUntaken v → v ≡ verdict_on m n (seen_in p (Some g)) → untaken_by n (remembered (seen_in p (Some g))) ≡ Some v
-untaken_is m n p g v untaken is = go (seat_at p g.seats) is
-  where
-    old : (o : Own) (k : Option Verdict) → v ≡ unwrap_or k (seat_command m n.note.command g.public o) → k ≡ Some v
-    old o None e = absurd (command_taken m n.note.command g.public o (subst IsUntaken e untaken))
-    old o (Some w) e = ap (λ (x : Verdict). Some x) (sym e)
-
-    go : (o : Option Part) → v ≡ verdict_by m n (Some g.public) (own_of o) → untaken_by n (option_map memory_of o) ≡ Some v
-    go None e = ap (λ (x : Verdict). Some x) (sym e)
-    go (Some x) e = old x.own (old_number n x.own.kept) e
-
-is_untaken : (m : Chart) (n : Mail) (p : ℕ) (g : Game) (v : Verdict) → untaken_by n (remembered (seen_in p (Some g))) ≡ Some v → v ≡ verdict_on m n (seen_in p (Some g))
-is_untaken m n p g v known = go (seat_at p g.seats) known
-  where
-    go : (o : Option Part) → untaken_by n (option_map memory_of o) ≡ Some v → v ≡ verdict_by m n (Some g.public) (own_of o)
-    go None e = cc
-    go (Some x) e = sym (ap (λ (k : Option Verdict). unwrap_or k (seat_command m n.note.command g.public x.own)) e)
+untaken_so : (m : Chart) (n : Mail) (v : Verdict) (p : Public) (o : Own) (page : List Item) (k : Option Kept) → o.kept ≡ k → old_number n k ≡ Some v → v ≡ seat_verdict m n p o page
+untaken_so m n v p o page k same is =
+    sym (ap (λ (j : Option Kept). unwrap_or (old_number n j) (seat_command m n.note.command p o page)) same
+    ∙ ap (λ (old : Option Verdict). unwrap_or old (seat_command m n.note.command p o page)) is)
 
 -- so it is decided so again wherever the seat remembers the same
-untaken_again : (m : Chart) (n : Mail) (p : ℕ) (a b : Option Game) (v : Verdict) → IsUntaken v → (a ≡ None → ⊥) → (b ≡ None → ⊥)
-    → remembered (seen_in p b) ≡ remembered (seen_in p a) → v ≡ verdict_on m n (seen_in p a) → v ≡ verdict_on m n (seen_in p b)
-untaken_again m n p None b v untaken a_there b_there same is = absurd (a_there refl)
-untaken_again m n p (Some g) None v untaken a_there b_there same is = absurd (b_there refl)
-untaken_again m n p (Some g) (Some h) v untaken a_there b_there same is =
-    is_untaken m n p h v (ap (untaken_by n) same ∙ untaken_is m n p g v untaken is)
+untaken_again : (m : Chart) (n : Mail) (p : ℕ) (k : Option Kept) (a b : Option Game) (v : Verdict) → IsUntaken v → Remembers k (seen_in p a).seat → Remembers k (seen_in p b).seat
+    → v ≡ verdict_on m n (seen_in p a) → v ≡ verdict_on m n (seen_in p b)
+untaken_again m n p k a b v untaken one other is =
+    let there = verdict_at m n p a one.0 one.1 in
+    let here = verdict_at m n p b other.0 other.1 in
+    untaken_so m n v _ other.0.own (page_shown n.note.command other.0.box) k other.2 (untaken_by m n v _ one.0.own (page_shown n.note.command one.0.box) k untaken one.2 (is ∙ there)) ∙ sym here
 
 -- the master's row, and which games are there, stay behind the letters of others
 
@@ -274,39 +216,30 @@ master_same : (m : Chart) (n : Mail) (k : Option Kept) (command : Request) (a b 
 master_same m n k command None None v untaken same d = d
 master_same m n k command None (Some g) v untaken same d = absurd (cc)
 master_same m n k command (Some g) None v untaken same d = absurd (cc)
-master_same m n k (Create due period grey seats) (Some g) (Some h) v untaken same d = subst (λ (w : Verdict). NumberedBy (old_number n k) (λ x. x ≡ w) v) (free_not (new_seats m n.note.game seats)) d
+master_same m n k command (Some g) (Some h) v untaken same d = go (old_number n k) d
   where
-    free_not : (found : Option (List NewSeat)) → creation m (opening_public m n.note.game due period grey) found (Some g) ≡ creation m (opening_public m n.note.game due period grey) found (Some h)
-    free_not None = refl
-    free_not (Some xs) = refl
-master_same m n k (Orders lines) (Some g) (Some h) v untaken same d = d
-master_same m n k Show (Some g) (Some h) v untaken same d = d
-master_same m n k (Tick tick) (Some g) (Some h) v untaken same d = go (old_number n k) d
-  where
-    go : (o : Option Verdict) → NumberedBy o (TicksIn m tick g) v → NumberedBy o (TicksIn m tick h) v
-    go None d = absurd (ticks_taken m tick g v untaken d)
+    go : (o : Option Verdict) → NumberedBy o (DecidesIn m n command g) v → NumberedBy o (DecidesIn m n command h) v
+    go None d = absurd (in_game_taken m n command g v untaken d)
     go (Some old) d = d
 
--- the author and the verdict behind the letters of others
+-- the verdict behind the letters of others
 later : (m : Chart) (mid late : State) (n : Mail) (between : List Turn) (v : Verdict) (who : Author) → IsUntaken v → who ≢ Nobody → author m n mid ≡ who → IsRun m mid between late
-    → AreOthers m n who between → Decides m mid n who v → (author m n late ≡ who) × Decides m late n who v
+    → AreOthers m n who between → Decides m mid n who v → Decides m late n who v
 later m mid late n between v Nobody untaken somebody is run others d = absurd (somebody refl)
 later m mid late n between v TheMaster untaken somebody is run others d =
-    let kept = run_kept m n between mid late run others in (
-      master_stays m n mid late (ap (λ (x : _). x.digest) kept.0) is,
-      master_same m n late.desk.kept n.note.command (game_at n.note.game mid) (game_at n.note.game late) v untaken kept.1
-          (subst (λ (x : _). MasterDecides m n x.kept n.note.command (game_at n.note.game mid) v) (sym kept.0) d),
-    )
+    let kept = run_kept m n between mid late run others in
+    master_same m n late.desk.kept n.note.command (game_at n.note.game mid) (game_at n.note.game late) v untaken kept.1
+    (subst (λ (x : _). MasterDecides m n x.kept n.note.command (game_at n.note.game mid) v) (sym kept.0) d)
 later m mid late n between v (Seat p) untaken somebody is run others d =
     let there = author_there m n mid p is in
-    let same = run_remembered m n p between mid late run others there.0 in
-    (there.1 late same.0, untaken_again m n p (game_at n.note.game mid) (game_at n.note.game late) v untaken there.0 same.1 same.0 d)
+    let old : Remembers there.0.own.kept (seen_in p (game_at n.note.game mid)).seat = (there.0, there.1, refl) in
+    untaken_again m n p there.0.own.kept (game_at n.note.game mid) (game_at n.note.game late) v untaken old (run_remembered m n p there.0.own.kept between mid late run others old) d
 
 pub acts_once_later : (m : Chart) → ActsOnceLater m
-acts_once_later m old mid late new n first again between somebody one run others two =
+acts_once_later m old mid late new n first again between somebody one run others still two =
     let next = repeats m old mid n first one in
     let who = author m n old in
     let behind = later m mid late n between next.verdict who next.untaken somebody next.author run others (subst (λ (a : Author). Decides m mid n a next.verdict) next.author next.decided) in
-    let decided : Decides m late n (author m n late) next.verdict = subst (λ (a : Author). Decides m late n a next.verdict) (sym behind.0) behind.1 in
+    let decided : Decides m late n (author m n late) next.verdict = subst (λ (a : Author). Decides m late n a next.verdict) (sym still) behind in
     let same : two.0 ≡ next.verdict = decides_one m late n (author m n late) two.0 next.verdict next.untaken two.1 decided in
     (two.2 ∙ ap (λ (w : Verdict). reply_of n w) same ∙ sym next.told, two.3 ∙ ap (λ (w : Verdict). after n (author m n late) w late) same ∙ next.stays n (author m n late) late)

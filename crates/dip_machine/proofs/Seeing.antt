@@ -278,7 +278,7 @@ idle_seen m power true s n v idle known =
     go None = refl
     go (Some x) = ap (λ (y : Part). Some y) (idle x n)
 
-both : (a b : Bool) → (a && b) ≡ true → (a ≡ true) × (b ≡ true)
+pub both : (a b : Bool) → (a && b) ≡ true → (a ≡ true) × (b ≡ true)
 both true b e = (refl, e)
 both false b e = absurd (false≢true e)
 

@@ -2,17 +2,16 @@
 use Rattle.std.proofs.Common.{◌≡◌, ◌⊎◌, inl, inr, ℕ, Bool, true, false, cond, List, Option, Some, None, refl, sym, ap, subst, ◌∙◌, bytes_eq, codes}
 use Rattle.std.specs.Prelude.{option_and_then}
 use Rattle.dip_letters.specs.Notes.{Request}
-use Rattle.dip_letters.specs.Notes.Request.{Create, Orders, Show, Tick}
+use Rattle.dip_letters.specs.Notes.MasterRequest.{Create, Tick, Replace, Notify}
+use Rattle.dip_letters.specs.Notes.Request.{Player, Master}
 use Rattle.dip_chart.specs.Charts.{Chart, power_of}
-use Rattle.dip_records.specs.Records.{Head, Kept, Own, Public, Reply}
+use Rattle.dip_records.specs.Records.{Head, Item, Kept, Own, Public, Reply}
 use Rattle.dip_reports.specs.declared.refusals.Refusal.TheVariants.{Malformed}
-use Rattle.dip_machine.specs.Machine.{Decides, IsNotForMaster, MasterDecides, TicksIn, NotKnown, Again, OutOfTurn, Taken, Verdict, are_complete, author, creation, digest, head_of, master_author, new_seats, open_game, opening_public, power_author, refusal_verdict, reply_of, seat_author, orders_verdict, seat_command, seen_in, unless_over, verdict_by, verdict_on}
+use Rattle.dip_machine.specs.Machine.{Decides, DecidesIn, MasterDecides, NotKnown, Again, OutOfTurn, Taken, Verdict, are_complete, author, creation, digest, head_of, master_author, new_seats, open_game, opening_public, page_shown, power_author, refusal_verdict, reply_of, seat_author, seat_command, seen_in, verdict_by, verdict_on}
 use Rattle.dip_machine.specs.Mail.{Mail}
-use Rattle.dip_machine.specs.State.{Author, Game, NewSeat, Nobody, Seat, State, TheMaster, game_at, own_of, seat_at, whole_of}
-use Rattle.dip_machine.specs.Ordering.{outcome_of_lines}
-use Rattle.dip_machine.specs.Ticking.{is_due, is_over}
+use Rattle.dip_machine.specs.State.{Author, Game, NewSeat, Nobody, Part, Seat, State, TheMaster, game_at, own_of, seat_at}
 use Rattle.dip_machine.specs.Strangers.{IsNobodys, IsToNobodyExactly, is_create}
-use Rattle.dip_machine.proofs.Suiting.{numbered_holds, seat_holds, ticks_hold}
+use Rattle.dip_machine.proofs.Suiting.{command_holds, in_game_holds, numbered_holds, seat_holds}
 
 -- the author is somebody
 abbrev pub IsKnown : Verdict → Type 0
@@ -27,60 +26,66 @@ known_head n (Again text) h is = let bad : ◌≡◌ {A = Option Head} (Some (he
 known_head n (OutOfTurn text) h is = let bad : ◌≡◌ {A = Option Head} (Some (head_of n)) None = is in absurd (cc)
 known_head n (Taken text e) h is = let bad : ◌≡◌ {A = Option Head} (Some (head_of n)) None = is in absurd (cc)
 
-created_known : (m : Chart) (p : Public) (found : Option (List NewSeat)) (game : Option Game) → IsKnown (creation m p found game)
-created_known m p None game = tt
-created_known m p (Some seats) game = go (are_complete m seats) game
-  where
-    go : (b : Bool) (game : Option Game) → IsKnown (cond b (open_game m p seats game) (refusal_verdict Malformed))
-    go true None = tt
-    go true (Some g) = tt
-    go false game = tt
-
-command_known : (m : Chart) (command : Request) (p : Public) (o : Own) → IsKnown (seat_command m command p o)
-command_known m (Create due period grey seats) p o = tt
-command_known m (Orders lines) p o = go (is_over p.status)
-  where
-    go : (over : Bool) → IsKnown (unless_over over (orders_verdict m (outcome_of_lines m p.board o.power o.pending lines)))
-    go true = tt
-    go false = tt
-command_known m Show p o = tt
-command_known m (Tick tick) p o = tt
+command_known : (m : Chart) (command : Request) (p : Public) (o : Own) (page : List Item) → IsKnown (seat_command m command p o page)
+command_known m command p o page = command_holds IsKnown m command p o page (record {
+  refused = λ r. tt;
+  told = λ t. tt;
+  ordered = λ lines. tt;
+  withdrawn = tt;
+  voted = λ draw. tt;
+  sent = λ grey names lines readers of found few. tt;
+})
 
 -- the master's letter is nobody's exactly where it isn't CREATE and names no game
-master_known : (m : Chart) (n : Mail) (k : Option Kept) (command : Request) (game : Option Game) (v : Verdict) → MasterDecides m n k command game v
-    → IsKnown v ⊎ ((v ≡ NotKnown) × (is_create command ≡ false) × (game ≡ None))
-master_known m n k (Create due period grey seats) game v h =
-    inl (numbered_holds IsKnown (λ t. tt) (λ t. tt) n k (λ w. w ≡ creation m (opening_public m n.note.game due period grey) (new_seats m n.note.game seats) game) v
-    (λ is. subst IsKnown (sym is) (created_known m (opening_public m n.note.game due period grey) (new_seats m n.note.game seats) game)) h)
-master_known m n k (Orders lines) None v h = inr (h, refl, refl)
-master_known m n k (Orders lines) (Some g) v h = inl (numbered_holds IsKnown (λ t. tt) (λ t. tt) n k (IsNotForMaster g) v (λ is. subst IsKnown (sym is) tt) h)
-master_known m n k (Tick tick) None v h = inr (h, refl, refl)
-master_known m n k (Tick tick) (Some g) v h =
-    inl (numbered_holds IsKnown (λ t. tt) (λ t. tt) n k (TicksIn m tick g) v
-    (ticks_hold IsKnown m tick (whole_of g) (is_over g.public.status) (is_due tick g.public) v tt tt (λ p. subst IsKnown (sym p.verdict) tt)) h)
-master_known m n k Show None v h = inr (h, refl, refl)
-master_known m n k Show (Some g) v h = inl (numbered_holds IsKnown (λ t. tt) (λ t. tt) n k (IsNotForMaster g) v (λ is. subst IsKnown (sym is) tt) h)
+abbrev IsKnownIn : Request → Option Game → Verdict → Type 0
+IsKnownIn command game v = IsKnown v ⊎ ((v ≡ NotKnown) × (is_create command ≡ false) × (game ≡ None))
+
+master_known : (m : Chart) (n : Mail) (k : Option Kept) (command : Request) (game : Option Game) (v : Verdict) → MasterDecides m n k command game v → IsKnownIn command game v
+master_known m n k command (Some g) v d =
+    inl (numbered_holds IsKnown (λ t. tt) (λ t. tt) n k (DecidesIn m n command g) v (in_game_holds IsKnown m n command g v (record {
+      refused = λ r. tt;
+      played = λ tick w of p. subst IsKnown (sym p.verdict) tt;
+      noted = λ text paper public next spoiled. tt;
+      seated = λ note seat of new low s found. tt;
+    })) d)
+master_known m n k (Player command) None v d = inr (d, refl, refl)
+master_known m n k (Master (Create due period grey seats)) None v d =
+    inl (numbered_holds IsKnown (λ t. tt) (λ t. tt) n k (λ w. w ≡ creation m (opening_public m n.note.game due period grey) (new_seats m n.note.game seats) None) v
+    (λ is. subst IsKnown (sym is) (by (new_seats m n.note.game seats))) d)
+  where
+    by : (found : Option (List NewSeat)) → IsKnown (creation m (opening_public m n.note.game due period grey) found None)
+    by None = tt
+    by (Some found) = go (are_complete m found)
+      where
+        go : (b : Bool) → IsKnown (cond b (open_game m (opening_public m n.note.game due period grey) found None) (refusal_verdict Malformed))
+        go true = tt
+        go false = tt
+master_known m n k (Master (Tick tick)) None v d = inr (d, refl, refl)
+master_known m n k (Master (Replace seat)) None v d = inr (d, refl, refl)
+master_known m n k (Master (Notify notice)) None v d = inr (d, refl, refl)
 
 -- a seat that is the author is there
 seat_there : (m : Chart) (n : Mail) (s : State) (p : ℕ) → author m n s ≡ Seat p → (v : Verdict) → v ≡ verdict_on m n (seen_in p (game_at n.note.game s)) → IsKnown v
 seat_there m n s p is v d = go (bytes_eq n.note.sender (codes "master")) is
   where
-    decided : (g : Game) (o : Own) → IsKnown (verdict_by m n (Some g.public) (Some o))
-    decided g o = seat_holds IsKnown (λ t. tt) (λ t. tt) n o.kept (seat_command m n.note.command g.public o) (command_known m n.note.command g.public o)
+    decided : (g : Game) (x : Part) → IsKnown (verdict_by m n (Some g.public) (Some x))
+    decided g x =
+        seat_holds IsKnown (λ t. tt) (λ t. tt) n x.own.kept (seat_command m n.note.command g.public x.own (page_shown n.note.command x.box))
+        (command_known m n.note.command g.public x.own (page_shown n.note.command x.box))
 
     own : (q : ℕ) (game : Option Game) → seat_author n q (option_and_then (λ g. own_of (seat_at q g.seats)) game) ≡ Seat p → v ≡ verdict_on m n (seen_in p game) → IsKnown v
     own q None e is = let bad : ◌≡◌ {A = Author} Nobody (Seat p) = e in absurd (cc)
-    own q (Some g) e is = found (own_of (seat_at q g.seats)) refl e
+    own q (Some g) e is = found (seat_at q g.seats) refl e
       where
-        found : (o : Option Own) → own_of (seat_at q g.seats) ≡ o → seat_author n q o ≡ Seat p → IsKnown v
+        found : (x : Option Part) → seat_at q g.seats ≡ x → seat_author n q (own_of x) ≡ Seat p → IsKnown v
         found None at e = let bad : ◌≡◌ {A = Author} Nobody (Seat p) = e in absurd (cc)
-        found (Some o) at e = told (bytes_eq (digest n.note.game n.note.sender n.note.secret) o.digest) e
+        found (Some x) at e = told (bytes_eq (digest n.note.game n.note.sender n.note.secret) x.own.digest) e
           where
             told : (b : Bool) → cond b (Seat q) Nobody ≡ Seat p → IsKnown v
             told true e =
                 let same : q ≡ p = cc in
-                let there : own_of (seat_at p g.seats) ≡ Some o = subst (λ (x : ℕ). own_of (seat_at x g.seats) ≡ Some o) same at in
-                subst IsKnown (sym (is ∙ ap (λ (x : Option Own). verdict_by m n (Some g.public) x) there)) (decided g o)
+                let there : seat_at p g.seats ≡ Some x = subst (λ (y : ℕ). seat_at y g.seats ≡ Some x) same at in
+                subst IsKnown (sym (is ∙ ap (λ (y : Option Part). verdict_by m n (Some g.public) y) there)) (decided g x)
             told false e = let bad : ◌≡◌ {A = Author} Nobody (Seat p) = e in absurd (cc)
 
     power : (q : Option ℕ) → power_author n q s ≡ Seat p → IsKnown v
@@ -111,13 +116,12 @@ decided_known m n s TheMaster v is d = elim (master_known m n s.desk.kept n.note
 ]
   where
     unknown : IsKnown v → (command : Request) (game : Option Game) → is_create command ≡ false → game ≡ None → MasterDecides m n s.desk.kept command game v → ⊥
-    unknown known (Create due period grey seats) game other none h = absurd (cc)
-    unknown known (Orders lines) None other none h = subst IsKnown h known
-    unknown known (Orders lines) (Some g) other none h = absurd (cc)
-    unknown known (Tick tick) None other none h = subst IsKnown h known
-    unknown known (Tick tick) (Some g) other none h = absurd (cc)
-    unknown known Show None other none h = subst IsKnown h known
-    unknown known Show (Some g) other none h = absurd (cc)
+    unknown known command (Some g) other none h = absurd (cc)
+    unknown known (Player command) None other none h = subst IsKnown h known
+    unknown known (Master (Create due period grey seats)) None other none h = absurd (cc)
+    unknown known (Master (Tick tick)) None other none h = subst IsKnown h known
+    unknown known (Master (Replace seat)) None other none h = subst IsKnown h known
+    unknown known (Master (Notify notice)) None other none h = subst IsKnown h known
 decided_known m n s (Seat p) v is d = inl (
   seat_there m n s p is v d,
   λ nobodys. elim nobodys [

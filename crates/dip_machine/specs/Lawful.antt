@@ -47,11 +47,12 @@ abbrev pub sent_by_others : ℕ → List Part → ℕ
 sent_by_others power [] = 0
 sent_by_others power (s ∷ ss) = (if power_in s == power then 0 else s.own.sent) + sent_by_others power ss
 
--- a game: its board is one of the map, each power of the map has one seat, no box holds more than the others have sent, and its papers
--- are counted
+-- a game: its board is one of the map, each power of the map has one seat, and there are at most seven, no box holds more than the
+-- others have sent, and its papers are counted
 pub record IsLawfulGame (m : Chart) (g : Game) : Type 0 where
   pub board : IsOf m g.public.board
   pub powers : list_all (λ p. count_by (λ s. power_in s == p) g.seats == 1) (powers m) ≡ true
+  pub few : length g.seats ≤ 7
   pub seats : AllByRecursion (IsLawfulSeat m g.public.board) g.seats
   pub boxes : AllByRecursion (λ s. length s.box ≤ sent_by_others (power_in s) g.seats) g.seats
   pub papers : g.public.papers ≡ length g.papers

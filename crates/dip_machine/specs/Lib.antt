@@ -4,6 +4,9 @@ pub mod Faults
 pub mod Rows
 pub mod Mail
 pub mod Ticking
+pub mod Pressing
+pub mod Drawing
+pub mod Noting
 pub mod Machine
 pub mod Verdicts
 pub mod Sights

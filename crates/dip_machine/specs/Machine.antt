@@ -1,26 +1,31 @@
 -- The desk machine: who wrote a letter, what is decided of it, what it leaves and what is replied.
-use Rattle.std.specs.Prelude.{true, false, ℕ, ◌≡◌, ◌≤◌, ◌⊎◌, ◌==◌, Bool, List, [], ◌∷◌, Option, None, Some, option_map, unwrap_or, bytes_eq, is_some, nat_lt, codes, if◌then◌else◌, count_by}
+use Rattle.std.specs.Prelude.{true, false, ℕ, ◌≡◌, ◌≤◌, ◌⊎◌, ◌==◌, ◌&&◌, not, Bool, List, [], ◌∷◌, Option, None, Some, option_and_then, option_map, unwrap_or, bytes_eq, is_some, nat_le, nat_lt, codes, if◌then◌else◌, count_by}
 use Rattle.std.specs.List.{list_all}
 use Rattle.sha2.specs.Sha256.{sha256}
 use Rattle.dip_letters.specs.Digests.{seat_text}
-use Rattle.dip_letters.specs.Notes.{Request, SeatNote}
-use Rattle.dip_letters.specs.Notes.Request.{Create, Orders, Show, Tick}
+use Rattle.dip_letters.specs.Notes.{NoticeRequest, PlayerRequest, Request, SeatNote}
+use Rattle.dip_letters.specs.Notes.MasterRequest.{Create, Tick, Replace, Notify}
+use Rattle.dip_letters.specs.Notes.PlayerRequest.{Orders, Withdraw, Press, Vote, Show, Inbox}
+use Rattle.dip_letters.specs.Notes.Request.{Player, Master}
 use Rattle.dip_letters.specs.declared.letters.LetterFault.{LetterFault}
 use Rattle.dip_letters.specs.declared.letters.LetterFault.TheVariants.{Malformed as Unreadable, TooLong as OverLong}
 use Rattle.dip_chart.specs.Charts.{Chart, power_of, powers}
 use Rattle.dip_board.specs.Boards.{Position, IsOf, opening}
+use Rattle.dip_machine.specs.Drawing.{is_drawn, public_drawn, survivors}
 use Rattle.dip_machine.specs.Mail.{Mail}
+use Rattle.dip_machine.specs.Noting.{CanPublish, is_announcement, public_noted}
 use Rattle.dip_machine.specs.Ordering.{Ordered, has_foreign, kept_orders, outcome_of_lines}
+use Rattle.dip_machine.specs.Pressing.{item_of, readers_of}
 use Rattle.dip_machine.specs.Ticking.{IsPlayable, is_due, is_over, orders_of, public_played}
-use Rattle.dip_machine.specs.State.{State, Game, Author, Nobody, TheMaster, Seat, Change, Effect, Nothing, Pending, Opens, Publishes, NewSeat, Part, game_at, own_at, own_of, public_at, seat_at, state_after, whole_of}
+use Rattle.dip_machine.specs.State.{State, Game, Author, Nobody, TheMaster, Seat, Change, Effect, Nothing, Pending, Votes, Delivers, Opens, Publishes, Seats, NewSeat, Part, game_at, has_room, own_at, own_of, page_of, part_at, public_at, seat_at, state_after, whole_of}
 use Rattle.dip_papers.specs.Papers.{paper_text}
 use Rattle.dip_turn.specs.Reports.{IsPlayed}
 use Rattle.dip_turn.specs.declared.report.Report.{Report}
-use Rattle.dip_reports.specs.Texts.{opening_paper, paper_line, refusal_line, show_text}
-use Rattle.dip_records.specs.Records.{Public, Own, Kept, Head, Reply, Running, Whole}
+use Rattle.dip_reports.specs.Texts.{draw_paper, inbox_text, notice_paper, opening_paper, paper_line, press_line, refusal_line, replaced_line, show_text, vote_line, withdrawn_line}
+use Rattle.dip_records.specs.Records.{Public, Own, Item, Kept, Head, Reply, Running, Whole}
 use Rattle.dip_records.specs.declared.records.Outcome.TheVariants.{Unknown as NoneKnown, OutOfTurn as Refused, Done}
 use Rattle.dip_reports.specs.declared.refusals.Refusal.{Refusal}
-use Rattle.dip_reports.specs.declared.refusals.Refusal.TheVariants.{Malformed, Unknown, Stale, NumberUsed, TooLong, GameOver, WrongSender, NotDue, NameTaken}
+use Rattle.dip_reports.specs.declared.refusals.Refusal.TheVariants.{Malformed, Unknown, Stale, NumberUsed, TooLong, QuotaUsed, NoGrey, GameOver, WrongSender, NotDue, NameTaken}
 
 -- the digest of a secret
 unfoldable pub digest : List ℕ → List ℕ → List ℕ → List ℕ
@@ -41,10 +46,11 @@ power_author n (Some power) s = seat_author n power (own_at n.note.game power s)
 
 -- the time of TICK is one of the grammar
 abbrev pub IsTimely : Request → Type 0
-IsTimely (Create due period grey seats) = Unit {0}
-IsTimely (Orders lines) = Unit {0}
-IsTimely Show = Unit {0}
-IsTimely (Tick tick) = tick ≤ 999999999999
+IsTimely (Player command) = Unit {0}
+IsTimely (Master (Create due period grey seats)) = Unit {0}
+IsTimely (Master (Tick tick)) = tick ≤ 999999999999
+IsTimely (Master (Replace seat)) = Unit {0}
+IsTimely (Master (Notify notice)) = Unit {0}
 
 -- who wrote the letter
 abbrev pub author : Chart → Mail → State → Author
@@ -100,32 +106,63 @@ seen_by seat s = seen_in seat.power (game_at seat.game s)
 abbrev pub orders_verdict : Chart → Ordered → Verdict
 orders_verdict m d = Taken d.answers (Pending (kept_orders m d.orders))
 
--- a command that needs a game that goes on
-abbrev pub unless_over : Bool → Verdict → Verdict
-unless_over true v = refusal_verdict GameOver
-unless_over false v = v
+-- refused where that holds
+abbrev pub unless : Bool → Refusal → Verdict → Verdict
+unless true r v = refusal_verdict r
+unless false r v = v
 
--- what a seat's command comes to, by what the seat sees alone
-abbrev pub seat_command : Chart → Request → Public → Own → Verdict
-seat_command m (Create due period grey seats) p o = refusal_verdict WrongSender
-seat_command m (Orders lines) p o =
-    unless_over (is_over p.status) (orders_verdict m (outcome_of_lines m p.board o.power o.pending lines))
-seat_command m Show p o = Taken (show_text m p o) Nothing
-seat_command m (Tick tick) p o = refusal_verdict WrongSender
+-- press to these readers: none in a game that is over, no grey press in a game that has none, and none beyond the writer's quota, which
+-- is 10,000 letters a game
+abbrev pub press_to : Public → Own → Bool → Item → List ℕ → Verdict
+press_to p o grey item readers =
+    unless (is_over p.status) GameOver (
+    unless (grey && not p.grey) NoGrey (unless (nat_le 10000 o.sent) QuotaUsed (Taken press_line (Delivers readers item)))
+    )
+
+-- press whose addressees can't be its readers is malformed
+abbrev pub addressed : Option (List ℕ) → (List ℕ → Verdict) → Verdict
+addressed None v = refusal_verdict Malformed
+addressed (Some readers) v = v readers
+
+-- what a command of a power comes to, by what its seat sees alone; the page is of its inbox, where the command shows one
+abbrev pub player_verdict : Chart → PlayerRequest → Public → Own → List Item → Verdict
+player_verdict m (Orders lines) p o page =
+    unless (is_over p.status) GameOver (orders_verdict m (outcome_of_lines m p.board o.power o.pending lines))
+player_verdict m Withdraw p o page = unless (is_over p.status) GameOver (Taken withdrawn_line (Pending []))
+player_verdict m (Press grey names text) p o page =
+    addressed (readers_of m o.power names) (press_to p o grey (item_of m o.power grey names text))
+player_verdict m (Vote draw) p o page = unless (is_over p.status) GameOver (Taken (vote_line draw) (Votes draw))
+player_verdict m Show p o page = Taken (show_text m p o) Nothing
+player_verdict m (Inbox first) p o page = Taken (inbox_text o.items first page) Nothing
+
+-- what a seat's command comes to: the master's commands aren't for it
+abbrev pub seat_command : Chart → Request → Public → Own → List Item → Verdict
+seat_command m (Player command) p o page = player_verdict m command p o page
+seat_command m (Master command) p o page = refusal_verdict WrongSender
 
 -- what a seat's letter comes to: an old number is answered as such; a new one is decided by its command
-abbrev pub seat_verdict : Chart → Mail → Public → Own → Verdict
-seat_verdict m n p o = unwrap_or (old_number n o.kept) (seat_command m n.note.command p o)
+abbrev pub seat_verdict : Chart → Mail → Public → Own → List Item → Verdict
+seat_verdict m n p o page = unwrap_or (old_number n o.kept) (seat_command m n.note.command p o page)
+
+-- the items of a box that a command shows: INBOX at most ten, from a number on
+abbrev pub page_shown : Request → List Item → List Item
+page_shown (Player (Orders lines)) box = []
+page_shown (Player Withdraw) box = []
+page_shown (Player (Press grey names text)) box = []
+page_shown (Player (Vote draw)) box = []
+page_shown (Player Show) box = []
+page_shown (Player (Inbox first)) box = page_of first 10 box
+page_shown (Master command) box = []
 
 -- without a game or a seat nobody is known
-abbrev pub verdict_by : Chart → Mail → Option Public → Option Own → Verdict
-verdict_by m n None o = NotKnown
+abbrev pub verdict_by : Chart → Mail → Option Public → Option Part → Verdict
+verdict_by m n None seat = NotKnown
 verdict_by m n (Some p) None = NotKnown
-verdict_by m n (Some p) (Some o) = seat_verdict m n p o
+verdict_by m n (Some p) (Some s) = seat_verdict m n p s.own (page_shown n.note.command s.box)
 
 -- what a seat's letter comes to, by what the seat sees alone
 abbrev pub verdict_on : Chart → Mail → Seen → Verdict
-verdict_on m n s = verdict_by m n s.public (own_of s.seat)
+verdict_on m n s = verdict_by m n s.public s.seat
 
 -- the seat has a standing line that is no order on the board
 abbrev pub IsForeignTo : Chart → Option Public → Option Own → Type 0
@@ -141,21 +178,37 @@ abbrev pub IsOffMap : Chart → Option Public → Type 0
 IsOffMap m None = ⊥
 IsOffMap m (Some p) = IsOf m p.board → ⊥
 
--- TICK of a game whose phase can't be adjudicated
-abbrev pub IsUnplayable : Chart → Request → Option Game → Type 0
-IsUnplayable m (Create due period grey seats) game = ⊥
-IsUnplayable m (Orders lines) game = ⊥
-IsUnplayable m Show game = ⊥
-IsUnplayable m (Tick tick) None = ⊥
-IsUnplayable m (Tick tick) (Some g) = IsPlayable m (whole_of g) → ⊥
+-- a game in which a command of the master can't be done: TICK where its phase can't be adjudicated, a notice where it can't publish
+abbrev pub IsSpoiled : Chart → Request → Game → Type 0
+IsSpoiled m (Player command) g = ⊥
+IsSpoiled m (Master (Create due period grey seats)) g = ⊥
+IsSpoiled m (Master (Tick tick)) g = IsPlayable m (whole_of g) → ⊥
+IsSpoiled m (Master (Replace seat)) g = ⊥
+IsSpoiled m (Master (Notify notice)) g = CanPublish m g.public → ⊥
 
--- what the record of a letter's author may be Damaged by: a seat's by its own standing lines, or by a board of its game that isn't one
--- of the map; the master's by the game that TICK names, where its phase can't be adjudicated; nobody's by nothing
+abbrev pub IsSpoiledIn : Chart → Request → Option Game → Type 0
+IsSpoiledIn m command None = ⊥
+IsSpoiledIn m command (Some g) = IsSpoiled m command g
+
+-- a game in which a seat's count has no room for one more, where the letter is press
+abbrev pub IsFull : Request → Option Game → Type 0
+IsFull (Player (Orders lines)) game = ⊥
+IsFull (Player Withdraw) game = ⊥
+IsFull (Player (Press grey names text)) None = ⊥
+IsFull (Player (Press grey names text)) (Some g) = list_all (λ s. has_room s.own) g.seats ≡ true → ⊥
+IsFull (Player (Vote draw)) game = ⊥
+IsFull (Player Show) game = ⊥
+IsFull (Player (Inbox first)) game = ⊥
+IsFull (Master command) game = ⊥
+
+-- what the record of a letter's author may be Damaged by: a seat's by its own standing lines, by a board of its game that isn't one of
+-- the map, or, for press, by a full count of its game; the master's by the game that its command can't be done in; nobody's by nothing
 abbrev pub MayBeDamaged : Chart → State → Mail → Author → Type 0
 MayBeDamaged m s n Nobody = ⊥
-MayBeDamaged m s n TheMaster = IsUnplayable m n.note.command (game_at n.note.game s)
+MayBeDamaged m s n TheMaster = IsSpoiledIn m n.note.command (game_at n.note.game s)
 MayBeDamaged m s n (Seat power) =
-    IsForeign m (seen_in power (game_at n.note.game s)) ⊎ IsOffMap m (seen_in power (game_at n.note.game s)).public
+    IsForeign m (seen_in power (game_at n.note.game s))
+    ⊎ (IsOffMap m (seen_in power (game_at n.note.game s)).public ⊎ IsFull n.note.command (game_at n.note.game s))
 
 -- a seat of a new game, where its power is one of the map
 abbrev pub new_seat : Chart → List ℕ → SeatNote → Option NewSeat
@@ -200,33 +253,68 @@ pub record IsPublished (m : Chart) (tick : ℕ) (w : Whole) (v : Verdict) : Type
   pub played : IsPlayed m w.public.board (orders_of m w) board report
   pub verdict : v ≡ paper_verdict m report (public_played tick w.public board report.course)
 
+-- a game that its survivors share: the draw is published, and no phase is played
+abbrev pub draw_verdict : Chart → Public → Verdict
+draw_verdict m public = Taken (paper_line public.papers) (Publishes public (draw_paper m public) false)
+
+-- what a due tick may come to: a draw where all survivors want one, or else the phase is adjudicated
+abbrev pub OnTime : Chart → ℕ → Whole → (drawn : Bool) → Verdict → Type 0
+OnTime m tick w true v = v ≡ draw_verdict m (public_drawn (survivors m w.public.board) w.public)
+OnTime m tick w false v = IsPublished m tick w v
+
 -- what TICK may come to: nothing is played in a game that is over, nor before its time
 abbrev pub Ticks : Chart → ℕ → Whole → (over due : Bool) → Verdict → Type 0
 Ticks m tick w true due v = v ≡ refusal_verdict GameOver
 Ticks m tick w false false v = v ≡ refusal_verdict NotDue
-Ticks m tick w false true v = IsPublished m tick w v
+Ticks m tick w false true v = OnTime m tick w (is_drawn m w) v
 
 abbrev pub TicksIn : Chart → ℕ → Game → Verdict → Type 0
 TicksIn m tick g v = Ticks m tick (whole_of g) (is_over g.public.status) (is_due tick g.public) v
 
--- a command that isn't the master's
-abbrev pub IsNotForMaster : Game → Verdict → Type 0
-IsNotForMaster g v = v ≡ refusal_verdict WrongSender
+-- a notice is published, with the public part behind it
+abbrev pub notified : Chart → NoticeRequest → Public → Verdict
+notified m notice public = Taken (paper_line public.papers) (Publishes public (notice_paper m notice public) false)
 
--- a letter of the master but CREATE whose game isn't there is nobody's, whatever its number; in a game that is there a new one may be
--- decided so
-abbrev pub InGame : Mail → Option Kept → (Game → Verdict → Type 0) → Option Game → Verdict → Type 0
-InGame n k New None v = v ≡ NotKnown
-InGame n k New (Some g) v = NumberedBy (old_number n k) (New g) v
+-- what a notice comes to: only an announcement comes in a game that is over
+abbrev pub notice_verdict : Chart → NoticeRequest → Public → Verdict
+notice_verdict m notice p = unless (is_over p.status && not (is_announcement notice)) GameOver (notified m notice (public_noted notice p))
+
+-- whether the power of that name has a seat in the game
+abbrev pub has_seat : Chart → List ℕ → Game → Bool
+has_seat m name g = is_some (option_and_then (λ p. seat_at p g.seats) (power_of m name))
+
+abbrev pub replaced : SeatNote → Option NewSeat → Verdict
+replaced seat None = refusal_verdict Malformed
+replaced seat (Some s) = Taken (replaced_line seat.power) (Seats s)
+
+-- what REPLACE comes to: another digest for a seat that is there
+abbrev pub replacement : Chart → List ℕ → SeatNote → Bool → Verdict
+replacement m game seat true = replaced seat (new_seat m game seat)
+replacement m game seat false = refusal_verdict Malformed
+
+-- what a new letter of the master may come to in a game that is there: the powers' commands aren't for it
+abbrev pub DecidesIn : Chart → Mail → Request → Game → Verdict → Type 0
+DecidesIn m n (Player command) g v = v ≡ refusal_verdict WrongSender
+DecidesIn m n (Master (Create due period grey seats)) g v =
+    v ≡ creation m (opening_public m n.note.game due period grey) (new_seats m n.note.game seats) (Some g)
+DecidesIn m n (Master (Tick tick)) g v = TicksIn m tick g v
+DecidesIn m n (Master (Replace seat)) g v = v ≡ replacement m n.note.game seat (has_seat m seat.power g)
+DecidesIn m n (Master (Notify notice)) g v = v ≡ notice_verdict m notice g.public
+
+-- where no game has the name, a letter of the master but CREATE is nobody's, whatever its number
+abbrev pub DecidesNew : Chart → Mail → Option Kept → Request → Verdict → Type 0
+DecidesNew m n k (Player command) v = v ≡ NotKnown
+DecidesNew m n k (Master (Create due period grey seats)) v =
+    NumberedBy (old_number n k)
+    (λ v. v ≡ creation m (opening_public m n.note.game due period grey) (new_seats m n.note.game seats) None) v
+DecidesNew m n k (Master (Tick tick)) v = v ≡ NotKnown
+DecidesNew m n k (Master (Replace seat)) v = v ≡ NotKnown
+DecidesNew m n k (Master (Notify notice)) v = v ≡ NotKnown
 
 -- what a letter of the master may come to, by what is kept of the last one
 abbrev pub MasterDecides : Chart → Mail → Option Kept → Request → Option Game → Verdict → Type 0
-MasterDecides m n k (Create due period grey seats) game v =
-    NumberedBy (old_number n k)
-    (λ v. v ≡ creation m (opening_public m n.note.game due period grey) (new_seats m n.note.game seats) game) v
-MasterDecides m n k (Orders lines) game v = InGame n k IsNotForMaster game v
-MasterDecides m n k Show game v = InGame n k IsNotForMaster game v
-MasterDecides m n k (Tick tick) game v = InGame n k (TicksIn m tick) game v
+MasterDecides m n k command None v = DecidesNew m n k command v
+MasterDecides m n k command (Some g) v = NumberedBy (old_number n k) (DecidesIn m n command g) v
 
 -- what may be decided of a letter
 abbrev pub Decides : Chart → State → Mail → Author → Verdict → Type 0
@@ -234,69 +322,84 @@ Decides m s n Nobody v = v ≡ NotKnown
 Decides m s n TheMaster v = MasterDecides m n s.desk.kept n.note.command (game_at n.note.game s) v
 Decides m s n (Seat power) v = v ≡ verdict_on m n (seen_in power (game_at n.note.game s))
 
+-- what the master sees of the game that its letter names: there is none; there is one; its public part; all of it; or whether it has a
+-- seat
+pub data Sees : Type 0 where
+  NoGame : Sees
+  AGame : Sees
+  ThePublic : (public : Public) → Sees
+  TheWhole : (whole : Whole) → Sees
+  ASeat : (is_there : Bool) → Sees
+
 -- all that a letter is decided by, what its author sees: nothing, where nobody is the author; what is kept of the master's last
--- letter, and whether there is a game of this name; for TICK all of that game; the public part of a seat's game and its own part
+-- letter, and what its command needs of its game; the public part of a seat's game and its own part, with a page of its inbox
+-- where the command shows one
 pub data Sight : Type 0 where
   OfNobody : Sight
-  OfMaster : (kept : Option Kept) → (is_there : Bool) → Sight
-  OfGame : (kept : Option Kept) → (game : Whole) → Sight
-  OfSeat : (power : ℕ) → (public : Public) → (own : Own) → Sight
+  OfMaster : (kept : Option Kept) → (sees : Sees) → Sight
+  OfSeat : (power : ℕ) → (public : Public) → (own : Own) → (page : List Item) → Sight
 
 -- the seat's sight, where it has the digest of the letter's secret
-abbrev pub seat_sight : Mail → ℕ → Option Public → Option Own → Sight
-seat_sight n power None o = OfNobody
+abbrev pub seat_sight : Mail → ℕ → Option Public → Option Part → Sight
+seat_sight n power None seat = OfNobody
 seat_sight n power (Some p) None = OfNobody
-seat_sight n power (Some p) (Some o) =
-    if bytes_eq (digest n.note.game n.note.sender n.note.secret) o.digest then OfSeat power p o else OfNobody
+seat_sight n power (Some p) (Some s) =
+    if bytes_eq (digest n.note.game n.note.sender n.note.secret) s.own.digest
+    then OfSeat power p s.own (page_shown n.note.command s.box) else OfNobody
 
 abbrev pub power_sight : Mail → Option ℕ → State → Sight
 power_sight n None s = OfNobody
-power_sight n (Some power) s = seat_sight n power (public_at n.note.game s) (own_at n.note.game power s)
+power_sight n (Some power) s = seat_sight n power (public_at n.note.game s) (part_at n.note.game power s)
 
--- what the master sees of the game that a letter names: all of it for TICK alone
-abbrev pub master_sees : Request → Option Kept → Option Game → Sight
-master_sees (Create due period grey seats) kept game = OfMaster kept (is_some game)
-master_sees (Orders lines) kept game = OfMaster kept (is_some game)
-master_sees Show kept game = OfMaster kept (is_some game)
-master_sees (Tick tick) kept None = OfMaster kept false
-master_sees (Tick tick) kept (Some g) = OfGame kept (whole_of g)
+-- what a command of the master needs of a game: all of it for TICK alone
+abbrev pub needs_of : Chart → Request → Game → Sees
+needs_of m (Player command) g = AGame
+needs_of m (Master (Create due period grey seats)) g = AGame
+needs_of m (Master (Tick tick)) g = TheWhole (whole_of g)
+needs_of m (Master (Replace seat)) g = ASeat (has_seat m seat.power g)
+needs_of m (Master (Notify notice)) g = ThePublic g.public
+
+abbrev pub master_sees : Chart → Request → Option Game → Sees
+master_sees m command None = NoGame
+master_sees m command (Some g) = needs_of m command g
 
 -- the master's, where the desk has the digest of the letter's secret
-abbrev pub master_sight : Mail → State → Sight
-master_sight n s =
+abbrev pub master_sight : Chart → Mail → State → Sight
+master_sight m n s =
     if bytes_eq (digest (codes "desk") (codes "master") n.note.secret) s.desk.digest
-    then master_sees n.note.command s.desk.kept (game_at n.note.game s) else OfNobody
+    then OfMaster s.desk.kept (master_sees m n.note.command (game_at n.note.game s)) else OfNobody
 
 -- what the author of a letter sees
 abbrev pub sight_of : Chart → Mail → State → Sight
 sight_of m n s =
-    if bytes_eq n.note.sender (codes "master") then master_sight n s else power_sight n (power_of m n.note.sender) s
+    if bytes_eq n.note.sender (codes "master") then master_sight m n s else power_sight n (power_of m n.note.sender) s
 
 -- whose sight it is
 abbrev pub author_of : Sight → Author
 author_of OfNobody = Nobody
-author_of (OfMaster kept is_there) = TheMaster
-author_of (OfGame kept game) = TheMaster
-author_of (OfSeat power public own) = Seat power
+author_of (OfMaster kept sees) = TheMaster
+author_of (OfSeat power public own page) = Seat power
 
 -- what may be decided of a letter by a sight alone
 abbrev pub DecidedBy : Chart → Mail → Sight → Verdict → Type 0
 DecidedBy m n OfNobody v = v ≡ NotKnown
-DecidedBy m n (OfMaster kept is_there) v =
-    (game : Option Game) → master_sees n.note.command kept game ≡ OfMaster kept is_there
-    → MasterDecides m n kept n.note.command game v
-DecidedBy m n (OfGame kept whole) v =
-    (game : Option Game) → master_sees n.note.command kept game ≡ OfGame kept whole
-    → MasterDecides m n kept n.note.command game v
-DecidedBy m n (OfSeat power public own) v = v ≡ seat_verdict m n public own
+DecidedBy m n (OfMaster kept sees) v =
+    (game : Option Game) → master_sees m n.note.command game ≡ sees → MasterDecides m n kept n.note.command game v
+DecidedBy m n (OfSeat power public own page) v = v ≡ seat_verdict m n public own page
 
--- a sight by which nothing can be decided: of standing lines one of which is no order on the board, or of a game whose phase can't be
--- adjudicated
+-- of a game by which nothing can be decided: its phase can't be adjudicated, or it can't publish
+abbrev pub IsDamagedGame : Chart → Sees → Type 0
+IsDamagedGame m NoGame = ⊥
+IsDamagedGame m AGame = ⊥
+IsDamagedGame m (ThePublic public) = CanPublish m public → ⊥
+IsDamagedGame m (TheWhole whole) = IsPlayable m whole → ⊥
+IsDamagedGame m (ASeat is_there) = ⊥
+
+-- a sight by which nothing can be decided: of such a game, or of standing lines one of which is no order on the board
 abbrev pub IsDamagedSight : Chart → Sight → Type 0
 IsDamagedSight m OfNobody = ⊥
-IsDamagedSight m (OfMaster kept is_there) = ⊥
-IsDamagedSight m (OfGame kept whole) = IsPlayable m whole → ⊥
-IsDamagedSight m (OfSeat power public own) = IsForeignTo m (Some public) (Some own)
+IsDamagedSight m (OfMaster kept sees) = IsDamagedGame m sees
+IsDamagedSight m (OfSeat power public own page) = IsForeignTo m (Some public) (Some own)
 
 -- what is kept of a letter
 abbrev pub kept_of : Mail → List ℕ → Kept

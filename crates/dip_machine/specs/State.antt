@@ -1,5 +1,5 @@
 -- What the desk keeps, its named parts, and what a change makes of it.
-use Rattle.std.specs.Prelude.{ℕ, zero, suc, ◌+◌, ◌==◌, Bool, false, List, [], ◌∷◌, ◌++◌, Option, None, Some, option_map, option_and_then, map, bytes_eq, if◌then◌else◌}
+use Rattle.std.specs.Prelude.{ℕ, zero, suc, ◌+◌, ◌-◌, ◌==◌, Bool, false, List, [], ◌∷◌, ◌++◌, Option, None, Some, option_map, option_and_then, map, nat_lt, take, drop, bytes_eq, if◌then◌else◌, ◌&&◌}
 use Rattle.std.specs.List.{list_any}
 use Rattle.dip_machine.specs.Keyed.{at, change_at}
 use Rattle.dip_records.specs.Records.{Public, Own, Item, Kept, Standing, Whole}
@@ -42,12 +42,23 @@ seat_at power seats = at (λ a b. a == b) power_in power seats
 abbrev pub own_of : Option Part → Option Own
 own_of seat = option_map (λ s. s.own) seat
 
+-- the seat of a power in the game of a name
+abbrev pub part_at : List ℕ → ℕ → State → Option Part
+part_at name power s = option_and_then (λ g. seat_at power g.seats) (game_at name s)
+
 -- the named parts, as a keeper answers them
 abbrev pub public_at : List ℕ → State → Option Public
 public_at name s = option_map (λ g. g.public) (game_at name s)
 
 abbrev pub own_at : List ℕ → ℕ → State → Option Own
 own_at name power s = option_and_then (λ g. own_of (seat_at power g.seats)) (game_at name s)
+
+-- the items of a box from a number on, at most so many; their numbers count from 1
+abbrev pub page_of : ℕ → ℕ → List Item → List Item
+page_of first most box = take most (drop (first - 1) box)
+
+abbrev pub items_at : List ℕ → ℕ → ℕ → ℕ → State → Option (List Item)
+items_at name power first most s = option_and_then (λ g. option_map (λ p. page_of first most p.box) (seat_at power g.seats)) (game_at name s)
 
 -- a game with the own parts of its seats
 abbrev pub whole_of : Game → Whole
@@ -65,6 +76,10 @@ paper_numbered (suc (suc n)) (p ∷ ps) = paper_numbered (suc n) ps
 
 abbrev pub paper_at : List ℕ → ℕ → State → Option (List ℕ)
 paper_at name n s = option_and_then (λ g. paper_numbered n g.papers) (game_at name s)
+
+-- whether a seat's counts have room for one more
+abbrev pub has_room : Own → Bool
+has_room o = nat_lt o.items 4294967295 && nat_lt o.sent 4294967295
 
 -- who wrote a letter
 pub data Author : Type 0 where

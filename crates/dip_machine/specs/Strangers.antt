@@ -1,7 +1,8 @@
 -- Whose letters are nobody's.
 use Rattle.std.specs.Prelude.{◌≡◌, ◌⊎◌, ◌↔◌, Bool, true, false, None}
 use Rattle.dip_letters.specs.Notes.{Request}
-use Rattle.dip_letters.specs.Notes.Request.{Create, Orders, Show, Tick}
+use Rattle.dip_letters.specs.Notes.MasterRequest.{Create, Tick, Replace, Notify}
+use Rattle.dip_letters.specs.Notes.Request.{Player, Master}
 use Rattle.dip_chart.specs.Charts.{Chart}
 use Rattle.dip_records.specs.Records.{Reply}
 use Rattle.dip_machine.specs.Machine.{Step, author}
@@ -9,10 +10,11 @@ use Rattle.dip_machine.specs.Mail.{Mail}
 use Rattle.dip_machine.specs.State.{State, Nobody, TheMaster, game_at}
 
 abbrev pub is_create : Request → Bool
-is_create (Create due period grey seats) = true
-is_create (Orders lines) = false
-is_create Show = false
-is_create (Tick tick) = false
+is_create (Player command) = false
+is_create (Master (Create due period grey seats)) = true
+is_create (Master (Tick tick)) = false
+is_create (Master (Replace seat)) = false
+is_create (Master (Notify notice)) = false
 
 -- nobody's letter: it has no author, or it is the master's, isn't CREATE, and names no game
 abbrev pub IsNobodys : Chart → Mail → State → Type 0

@@ -1,6 +1,7 @@
 //! Who writes letters, and what they change.
 use dip_names::Power;
 use dip_records::{Item, Kept, Public, Standing};
+use std::rc::Rc;
 
 /// The master's row.
 #[derive(Drop)]
@@ -35,10 +36,10 @@ pub enum Effect {
     Pending(Vec<Standing>),
     /// Whether the author votes for a draw.
     Votes(bool),
-    /// Press for the inboxes of these powers.
+    /// Press for the inboxes of these powers. It lies in memory once, however many have it.
     Delivers {
         readers: Vec<Power>,
-        item: Item,
+        item: Rc<Item>,
     },
     /// A game with this public part, first paper and seats.
     Opens {

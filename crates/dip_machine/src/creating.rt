@@ -1,7 +1,6 @@
 //! What CREATE comes to.
 ghost use Rattle.std.specs.Prelude.{◌≡◌, ◌==◌, Option, IfOk, count_by, is_none, map as each, option_map};
 ghost use Rattle.dip_letters.specs.Views.{seat_note, seats_in};
-ghost use Rattle.dip_machine.specs.Mail.{mail};
 ghost use Rattle.dip_machine.specs.State as s;
 ghost use Rattle.dip_machine.specs.Machine as m;
 ghost use Rattle.dip_machine.specs.Rows as desk_rows;
@@ -10,16 +9,17 @@ ghost use Rattle.dip_records.specs.Rows as rows;
 
 use crate::changes::{Effect, NewSeat};
 use crate::sights::digest_of;
-use crate::verdicts::{Verdict, old_number, refusal_verdict};
+use crate::verdicts::{Verdict, refusal_verdict};
 use dip_board::Board;
-use dip_letters::{Letter, Opening, Seat, Seats};
+use dip_letters::{Opening, Seat, Seats};
 use dip_map::Map;
 use dip_names::Power;
-use dip_records::{Kept, Public, Status};
+use dip_records::{Public, Status};
 use dip_reports::{Refusal, opening_paper_text, paper_line};
 use std::alloc::{AllocError, Global};
 
-fn new_seat(map: &Map, game: &str, seat: &Seat<'_>) -> Option<NewSeat>
+/// The seat of a power, where its name is one of the map's.
+pub fn new_seat(map: &Map, game: &str, seat: &Seat<'_>) -> Option<NewSeat>
     ensures { option_map desk_rows.new_seat result
         ≡ m.new_seat map.now game.now (seat_note seat.now) }
 {
@@ -125,8 +125,8 @@ fn open_game(
     ))
 }
 
-/// What CREATE comes to.
-fn creation(
+/// What CREATE comes to, by its seats and whether its name is free.
+pub fn creation(
     alloc: Global,
     map: &Map,
     game: &str,
@@ -147,26 +147,4 @@ fn creation(
     }
     let public = opening_public(alloc, map, game, opening)?;
     open_game(alloc, map, public, seats, is_free)
-}
-
-/// What CREATE comes to, by its number and its seats.
-pub fn create_verdict(
-    alloc: Global,
-    map: &Map,
-    letter: &Letter<'_>,
-    opening: &Opening<'_>,
-    kept: &Option<Kept>,
-    is_free: bool,
-) -> Result<Verdict, AllocError>
-    ensures { IfOk result
-        (λ v. (known : Option s.Game) → is_free ≡ is_none known
-        → m.NumberedBy (m.old_number (mail letter.now) (option_map rows.kept kept.now))
-        (λ w. w ≡ m.creation map.now (m.opening_public map.now letter.now.game.now opening.now.due
-        opening.now.period opening.now.grey)
-        (m.new_seats map.now letter.now.game.now (seats_in opening.now.seats)) known) (verdict v)) }
-{
-    match old_number(alloc, letter, kept)? {
-        Some(old) => Ok(old),
-        None => creation(alloc, map, letter.game, opening, is_free),
-    }
 }

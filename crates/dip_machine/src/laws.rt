@@ -8,7 +8,7 @@ ghost use Rattle.dip_machine.specs.Published.{MovementsAreDecided};
 ghost use Rattle.dip_machine.specs.Repeats.{ActsOnce, ActsOnceLater};
 ghost use Rattle.dip_machine.specs.State.{State};
 ghost use Rattle.dip_machine.specs.Strangers.{IsToNobodyExactly};
-ghost use Rattle.dip_machine.specs.View.{AreAlike, AreEffectsShown, HistoriesAreOne, IsAnsweredFromSeen, IsDecidedOnce, IsRun, IsSettledByView, IsShownByOthers, IsUnseenByOthers, Turn};
+ghost use Rattle.dip_machine.specs.View.{AreAlike, AreEffectsShown, HistoriesAreOne, HistoriesLookAlike, IsAnsweredFromSeen, IsDecidedOnce, IsGreyUnsigned, IsRun, IsSettledByView, IsShownByOthers, IsUnseenByOthers, Turn, VotesAreUntold};
 
 use dip_board::openings_are_of_their_map;
 use dip_decide::explained_is_lawful;
@@ -45,18 +45,26 @@ pub fn published_movements_are_decided()
     explained_is_lawful();
 }
 
-/// Whatever effect comes to a game that it suits, each seat sees behind it what its events say, of the effects that no command has yet
-/// too.
+/// Whatever effect comes to a game that it suits, each seat sees behind it what its events say.
 pub fn effects_are_shown()
     ensures { (m : Chart) → AreEffectsShown m }
 {}
 
-/// No letter of another power shows a seat anything, and a letter of somebody else shows it something exactly where its game has a
-/// paper more behind it; histories that differ only in turns that show the seat nothing have one view.
+/// What the letters of others show a seat. Another power's letter shows it nothing but press that reaches it; a letter of somebody else
+/// shows it something exactly where it is accepted press to it, publishes a paper of its game or gives it another secret; grey press
+/// shows it the same whoever wrote it; histories that differ only in turns that show it nothing have one view, and so have histories,
+/// up to the next publication, in which it sends the same letters and the same press comes to it in the same order.
 pub fn shown_by_others()
     ensures unseen { (m : Chart) → IsUnseenByOthers m }
     ensures shown { (m : Chart) → IsShownByOthers m }
+    ensures grey { (m : Chart) → IsGreyUnsigned m }
     ensures alike { (m : Chart) → AreAlike m }
+    ensures look_alike { (m : Chart) → HistoriesLookAlike m }
+{}
+
+/// A vote is told by its draw alone: what a tick comes to that draws no game doesn't depend on any vote.
+pub fn votes_are_untold()
+    ensures { (m : Chart) → VotesAreUntold m }
 {}
 
 /// A reply has no head exactly where the letter is nobody's: it has no author, or it is the master's, isn't CREATE, and names no game.
@@ -65,7 +73,7 @@ pub fn replies_to_nobody()
 {}
 
 /// A letter that comes twice acts once: the same letter again gets the same reply and changes nothing, at once and where letters of
-/// other authors came between.
+/// other authors came between, as long as it has its author.
 pub fn letters_act_once()
     ensures at_once { (m : Chart) → ActsOnce m }
     ensures later { (m : Chart) → ActsOnceLater m }
@@ -85,7 +93,7 @@ pub fn lawful_states_stay_lawful(map: &Map)
 }
 
 /// What is decided of a letter fits the map, or else the record of its author may be Damaged: the board of a seat's game isn't one of the
-/// map, or the phase of the game that TICK names can't be adjudicated.
+/// map, or the master's command can't be done in the game that it names.
 pub fn effects_fit(map: &Map)
     ensures { EffectsFit map.now }
 {

@@ -4,9 +4,14 @@
 mod changes;
 mod creating;
 mod deciding;
+mod drawing;
 mod faults;
 mod laws;
+mod mastering;
+mod noting;
 mod ordering;
+mod pressing;
+mod replacing;
 mod sights;
 mod ticking;
 mod verdicts;
@@ -18,6 +23,7 @@ pub use laws::{
     answered_from_what_is_seen, effects_are_shown, effects_fit, histories_are_one,
     lawful_states_stay_lawful, letters_act_once, published_movements_are_decided,
     replies_to_nobody, settled_by_view, shown_by_others, standing_orders_are_given,
+    votes_are_untold,
 };
-pub use sights::{Sight, author_of, digest_of};
+pub use sights::{Sees, Sight, author_of, digest_of};
 pub use verdicts::Verdict;

@@ -7,28 +7,40 @@ ghost use Rattle.dip_machine.specs.Sights as sights;
 use crate::changes::Author;
 use dip_letters::digest;
 use dip_names::Power;
-use dip_records::{Kept, Own, Public, Whole};
+use dip_records::{Item, Kept, Own, Public, Whole};
+use std::rc::Rc;
+
+/// What the master sees of the game that its letter names.
+#[derive(Drop)]
+pub enum Sees {
+    /// There is none of that name.
+    NoGame,
+    /// There is one: for commands that need no more of it.
+    AGame,
+    /// Its public part: for notices.
+    ThePublic(Public),
+    /// All of it, but for the items of inboxes: for TICK.
+    TheWhole(Whole),
+    /// Whether the power has a seat in it: for REPLACE.
+    ASeat(bool),
+}
 
 /// What the author of a letter sees.
 #[derive(Drop)]
 pub enum Sight {
     /// Nobody is the author.
     Nobody,
-    /// The master: its last letter, and whether there is a game of this letter's name.
+    /// The master: its last letter, and what its command needs of its game.
     Master {
         kept: Option<Kept>,
-        is_there: bool,
+        sees: Sees,
     },
-    /// The master, for TICK: its last letter, and all of the game that the letter names.
-    Game {
-        kept: Option<Kept>,
-        whole: Whole,
-    },
-    /// The seat of a power: the public part of its game, and its own part.
+    /// The seat of a power: the public part of its game, its own part, and the page of its inbox that its command shows, if it shows one.
     Seat {
         power: Power,
         public: Public,
         own: Own,
+        page: Vec<Rc<Item>>,
     },
 }
 
@@ -46,7 +58,7 @@ pub fn author_of(sight: &Sight) -> Author
 {
     match sight {
         Sight::Nobody => Author::Nobody,
-        Sight::Master { .. } | Sight::Game { .. } => Author::TheMaster,
+        Sight::Master { .. } => Author::TheMaster,
         Sight::Seat { power, .. } => Author::Seat(*power),
     }
 }

@@ -1,6 +1,8 @@
 //! What TICK comes to: the phase of a game that is due is adjudicated with the orders that stand, and its paper published.
 ghost use Rattle.std.specs.Prelude.{◌≡◌, ◌≤◌, ◌<◌, IfOk, IsErrOf, map as each, true};
 ghost use Rattle.std.specs.List.{list_any};
+ghost use Rattle.dip_board.specs.Boards.{IsOf};
+ghost use Rattle.dip_machine.specs.Drawing.{is_drawn};
 ghost use Rattle.dip_machine.specs.Faults.{faults_after};
 ghost use Rattle.dip_machine.specs.Machine as m;
 ghost use Rattle.dip_machine.specs.Ordering.{has_foreign};
@@ -9,6 +11,7 @@ ghost use Rattle.dip_machine.specs.Verdicts.{verdict};
 ghost use Rattle.dip_records.specs.Rows as rows;
 
 use crate::changes::Effect;
+use crate::drawing::{draw_verdict, is_drawn, survivors};
 use crate::faults::KeepFault;
 use crate::ordering::standing_orders;
 use crate::verdicts::{Verdict, refusal_verdict};
@@ -140,6 +143,8 @@ fn published(
 /// The phase of a game is adjudicated with the orders that stand; `Damaged` where it can't be.
 fn adjudicated(alloc: Global, map: &Map, tick: u64, whole: &Whole) -> Result<Verdict, KeepFault>
     requires timely { tick ≤ 999999999999 }
+    requires room { whole.now.public.papers < 4294967295 }
+    requires board { IsOf map.now whole.now.public.board }
     ensures value { IfOk result
         (λ v. m.IsPublished map.now tick (rows.whole whole.now) (verdict v)) }
     ensures disk { faults_after result 0 ≡ 0 }
@@ -147,9 +152,6 @@ fn adjudicated(alloc: Global, map: &Map, tick: u64, whole: &Whole) -> Result<Ver
         → t.IsPlayable map.now (rows.whole whole.now) → ⊥ }
 {
     let public = &whole.public;
-    if !public.board.is_of(map) || public.papers == u32::MAX {
-        return Err(KeepFault::Damaged);
-    }
     let orders = orders_of_seats(alloc, map, &public.board, whole.seats.as_slice())?;
     let board = public.board.copy(alloc)?;
     match advance(alloc, map, board, orders.as_slice()) {
@@ -159,6 +161,27 @@ fn adjudicated(alloc: Global, map: &Map, tick: u64, whole: &Whole) -> Result<Ver
             Ok(published(alloc, map, &report, behind)?)
         }
     }
+}
+
+/// What a due tick comes to: a draw where all survivors want one, or else the phase is adjudicated; `Damaged` where it can't be.
+fn on_time(alloc: Global, map: &Map, tick: u64, whole: &Whole) -> Result<Verdict, KeepFault>
+    requires timely { tick ≤ 999999999999 }
+    ensures value { IfOk result
+        (λ v. m.OnTime map.now tick (rows.whole whole.now)
+        (is_drawn map.now (rows.whole whole.now)) (verdict v)) }
+    ensures disk { faults_after result 0 ≡ 0 }
+    ensures sane { IsErrOf result KeepFault.Damaged
+        → t.IsPlayable map.now (rows.whole whole.now) → ⊥ }
+{
+    let public = &whole.public;
+    if !public.board.is_of(map) || public.papers == u32::MAX {
+        return Err(KeepFault::Damaged);
+    }
+    let survivors = survivors(alloc, map, &public.board)?;
+    if is_drawn(survivors.as_slice(), whole.seats.as_slice()) {
+        return Ok(draw_verdict(alloc, map, public, survivors)?);
+    }
+    adjudicated(alloc, map, tick, whole)
 }
 
 /// What TICK comes to in a game: nothing is played in one that is over, nor before its time.
@@ -182,5 +205,5 @@ pub fn tick_verdict(
     if !is_due(tick, &whole.public) {
         return Ok(refusal_verdict(alloc, Refusal::NotDue)?);
     }
-    adjudicated(alloc, map, tick, whole)
+    on_time(alloc, map, tick, whole)
 }

@@ -6,9 +6,11 @@ use Rattle.dip_board.specs.Boards.{Position, owns}
 use Rattle.dip_board.specs.declared.boards.Season.{Season}
 use Rattle.dip_board.specs.declared.boards.Season.TheVariants.{SpringMoves, SpringRetreats, FallMoves, FallRetreats, Winter}
 use Rattle.dip_reports.specs.declared.refusals.Refusal.{Refusal}
-use Rattle.dip_reports.specs.declared.refusals.Refusal.TheVariants.{Malformed, Unknown, Stale, NumberUsed, TooLong, GameOver, WrongSender, NotDue, NameTaken}
-use Rattle.dip_records.specs.Records.{Public, Own, Head, Reply, Standing, Status, Running, Paused, Closed, Ended, Won, Drawn}
+use Rattle.dip_reports.specs.declared.refusals.Refusal.TheVariants.{Malformed, Unknown, Stale, NumberUsed, TooLong, QuotaUsed, NoGrey, GameOver, WrongSender, NotDue, NameTaken}
+use Rattle.dip_records.specs.Records.{Public, Own, Item, White, Grey, Head, Reply, Standing, Status, Running, Paused, Closed, Ended, Won, Drawn}
 use Rattle.dip_chart.specs.Charts.{Chart, powers, province, provs, realm}
+use Rattle.dip_letters.specs.Notes.{NoticeRequest}
+use Rattle.dip_letters.specs.Notes.NoticeRequest.{Announce, Close, Pause, Period, Resume}
 use Rattle.dip_orders.specs.Faults.{fault_number, fault_words}
 use Rattle.dip_orders.specs.Texts.{order_text, unit_text}
 use Rattle.dip_orders.specs.declared.faults.OrderFault.{OrderFault}
@@ -45,6 +47,8 @@ refusal_text Unknown = codes "L2 unknown game, sender or secret"
 refusal_text (Stale last) = codes "L3 stale number, last is " ++ decimal last
 refusal_text (NumberUsed number) = codes "L4 number " ++ decimal number ++ codes " used by another letter"
 refusal_text TooLong = codes "L5 letter over 16384 bytes"
+refusal_text QuotaUsed = codes "L6 press quota used"
+refusal_text NoGrey = codes "L7 no grey press here"
 refusal_text GameOver = codes "L8 game over"
 refusal_text WrongSender = codes "L9 command not for this sender"
 refusal_text NotDue = codes "L10 tick not due"
@@ -71,6 +75,22 @@ line_answer m number (Err fault) = fault_line number fault
 -- the reply's line of a letter that published a paper: the paper's number
 abbrev pub paper_line : ℕ → List ℕ
 paper_line number = codes "OK paper " ++ decimal number ++ codes "\n"
+
+-- the reply's line of WITHDRAW
+abbrev pub withdrawn_line : List ℕ
+withdrawn_line = codes "OK withdrawn\n"
+
+-- the reply's line of press that was sent
+abbrev pub press_line : List ℕ
+press_line = codes "OK press\n"
+
+-- the reply's line of VOTE: whether the seat votes for a draw from now on
+abbrev pub vote_line : Bool → List ℕ
+vote_line draw = codes "OK vote " ++ yes_or_no draw ++ codes "\n"
+
+-- the reply's line of REPLACE: the power whose seat has another secret
+abbrev pub replaced_line : List ℕ → List ℕ
+replaced_line power = codes "OK seat " ++ power ++ codes "\n"
 
 -- when the next tick is due, what may be sent, and how many papers there are
 abbrev pub terms_text : Public → List ℕ
@@ -123,9 +143,41 @@ board_line m b power = listing m (realm m power).name (centres m b power) (by_pr
 unfoldable pub board_lines : Chart → Position → List ℕ
 board_lines m b = flat_map (board_line m b) (powers m)
 
+-- a line of a text as it is printed, behind its mark
+abbrev pub marked_line : List ℕ → List ℕ
+marked_line l = codes "> " ++ l ++ codes "\n"
+
+-- a text as it is printed: each line behind its mark
+abbrev pub marked_lines : List (List ℕ) → List ℕ
+marked_lines text = flat_map marked_line text
+
+-- the lines of a notice: the announcement, or what was done with the game
+abbrev pub notice_lines : NoticeRequest → List (List ℕ)
+notice_lines Pause = codes "paused" ∷ []
+notice_lines Resume = codes "resumed" ∷ []
+notice_lines (Period period) = (codes "period " ++ decimal period) ∷ []
+notice_lines (Announce text) = text
+notice_lines Close = codes "closed" ∷ []
+
+-- the first line of a paper that tells of no phase: its number and its kind
+abbrev pub paper_title : ℕ → List ℕ → List ℕ
+paper_title number kind = codes "PAPER " ++ decimal number ++ codes " " ++ kind ++ codes "\n"
+
+-- how a paper ends: the game as it stands behind it
+abbrev pub paper_end : Chart → Public → List ℕ
+paper_end m p = game_line m p ++ board_lines m p.board ++ codes "END\n"
+
 -- the first paper of a game
 abbrev pub opening_paper : Chart → Public → List ℕ
-opening_paper m p = codes "PAPER 1 opening\n" ++ game_line m p ++ board_lines m p.board ++ codes "END\n"
+opening_paper m p = codes "PAPER 1 opening\n" ++ paper_end m p
+
+-- the paper of a notice, whose number is that of all papers with it
+abbrev pub notice_paper : Chart → NoticeRequest → Public → List ℕ
+notice_paper m notice p = paper_title p.papers (codes "notice") ++ marked_lines (notice_lines notice) ++ paper_end m p
+
+-- the paper of a draw, whose number is that of all papers with it
+abbrev pub draw_paper : Chart → Public → List ℕ
+draw_paper m p = paper_title p.papers (codes "draw") ++ paper_end m p
 
 -- a line for each standing order
 abbrev pub order_lines : List Standing → List ℕ
@@ -139,6 +191,33 @@ own_lines o = codes "VOTE " ++ yes_or_no o.vote ++ codes "\nSENT " ++ decimal o.
 -- what SHOW answers
 abbrev pub show_text : Chart → Public → Own → List ℕ
 show_text m p o = game_line m p ++ board_lines m p.board ++ own_lines o
+
+-- names, each behind a space
+abbrev pub spaced : List (List ℕ) → List ℕ
+spaced names = flat_map (λ n. codes " " ++ n) names
+
+-- what its reader is told of press: white from whom and to whom, grey whether to the reader alone or to all
+abbrev pub item_title : Item → List ℕ
+item_title (White writer addressees text) = codes "white from " ++ writer ++ codes " to" ++ spaced addressees
+item_title (Grey to_all text) = codes "grey to " ++ (if to_all then codes "all" else codes "you")
+
+-- the lines of press
+abbrev pub item_lines : Item → List (List ℕ)
+item_lines (White writer addressees text) = text
+item_lines (Grey to_all text) = text
+
+-- an item of an inbox under its number
+unfoldable pub item_text : ℕ → Item → List ℕ
+item_text number i = codes "ITEM " ++ decimal number ++ codes " " ++ item_title i ++ codes "\n" ++ marked_lines (item_lines i)
+
+-- items one behind the other, numbered from this number on
+abbrev pub items_text : ℕ → List Item → List ℕ
+items_text first [] = []
+items_text first (i ∷ is) = item_text first i ++ items_text (first + 1) is
+
+-- what INBOX answers: how many items the inbox has, and the items from a number on
+abbrev pub inbox_text : ℕ → ℕ → List Item → List ℕ
+inbox_text total first items = codes "INBOX " ++ decimal total ++ codes "\n" ++ items_text first items
 
 abbrev pub head_text : Option Head → List ℕ
 head_text None = codes "REPLY nobody 0\n"

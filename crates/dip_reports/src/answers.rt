@@ -1,7 +1,8 @@
 //! What a letter is answered: the lines of its reply.
 ghost use Rattle.std.specs.Prelude.{◌≡◌, ◌++◌, IfOk, OnOk, string_bytes};
-ghost use Rattle.dip_reports.specs.Texts.{fault_line, order_line, paper_line, refusal_line};
+ghost use Rattle.dip_reports.specs.Texts.{fault_line, order_line, paper_line, press_line, refusal_line, replaced_line, vote_line, withdrawn_line};
 
+use crate::game_line::yes_or_no;
 use crate::refusals::Refusal;
 use dip_map::Map;
 use dip_orders::{OrderFault, PlacedOrder, print_order};
@@ -19,6 +20,35 @@ pub fn paper_line(alloc: Global, number: u32) -> Result<String, AllocError>
     ensures { IfOk result (λ line. string_bytes line ≡ paper_line number) }
 {
     format!(in alloc; "OK paper {number}\n")
+}
+
+/// The line of WITHDRAW.
+pub fn withdrawn_line(alloc: Global) -> Result<String, AllocError>
+    ensures { IfOk result (λ line. string_bytes line ≡ withdrawn_line) }
+{
+    String::from_str(alloc, "OK withdrawn\n")
+}
+
+/// The line of press that was sent.
+pub fn press_line(alloc: Global) -> Result<String, AllocError>
+    ensures { IfOk result (λ line. string_bytes line ≡ press_line) }
+{
+    String::from_str(alloc, "OK press\n")
+}
+
+/// The line of VOTE: whether the seat votes for a draw from now on.
+pub fn vote_line(alloc: Global, draw: bool) -> Result<String, AllocError>
+    ensures { IfOk result (λ line. string_bytes line ≡ vote_line draw) }
+{
+    let vote = yes_or_no(draw);
+    format!(in alloc; "OK vote {vote}\n")
+}
+
+/// The line of REPLACE: the power whose seat has another secret.
+pub fn replaced_line(alloc: Global, power: &str) -> Result<String, AllocError>
+    ensures { IfOk result (λ line. string_bytes line ≡ replaced_line power.now) }
+{
+    format!(in alloc; "OK seat {power}\n")
 }
 
 /// Appends the answer to a line of ORDERS that is refused: its fault, and its number in the letter, from 1 on.

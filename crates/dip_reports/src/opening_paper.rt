@@ -3,8 +3,7 @@ ghost use Rattle.std.specs.Prelude.{◌≡◌, IfOk, string_bytes};
 ghost use Rattle.dip_reports.specs.Texts.{opening_paper};
 ghost use Rattle.dip_records.specs.Rows as rows;
 
-use crate::board_lines::push_board_lines;
-use crate::game_line::push_game_line;
+use crate::paper_parts::push_paper_end;
 use dip_map::Map;
 use dip_records::Public;
 use std::alloc::{AllocError, Global};
@@ -16,8 +15,6 @@ pub fn opening_paper_text(alloc: Global, map: &Map, public: &Public) -> Result<S
 {
     let mut out = String::new(alloc);
     out.push_str("PAPER 1 opening\n")?;
-    push_game_line(map, public, &mut out)?;
-    push_board_lines(alloc, map, &public.board, &mut out)?;
-    out.push_str("END\n")?;
+    push_paper_end(alloc, map, public, &mut out)?;
     Ok(out)
 }

@@ -4,7 +4,7 @@ use std::fmt;
 /// Why a letter is refused, printed as its line of the reply.
 #[derive(Clone, Copy, PartialEq, Eq, Debug)]
 pub enum Refusal {
-    /// The bytes are no letter, or the seats of CREATE aren't the map's powers, each once.
+    /// The bytes are no letter, or names in it aren't those of the map's powers or don't stand as they may.
     Malformed,
     /// Nobody is the author, or the master's letter names no game.
     Unknown,
@@ -14,6 +14,10 @@ pub enum Refusal {
     NumberUsed(u32),
     /// The letter has more than 16,384 bytes.
     TooLong,
+    /// The seat has sent as many press letters as it may in this game.
+    QuotaUsed,
+    /// The game takes no grey press.
+    NoGrey,
     /// The game is over: it was won, ended, drawn or closed.
     GameOver,
     /// The command isn't for this sender.
@@ -38,6 +42,8 @@ impl fmt::Display for Refusal {
             Refusal::Stale(last) => write!(f, "L3 stale number, last is {last}"),
             Refusal::NumberUsed(number) => write!(f, "L4 number {number} used by another letter"),
             Refusal::TooLong => write!(f, "L5 letter over 16384 bytes"),
+            Refusal::QuotaUsed => write!(f, "L6 press quota used"),
+            Refusal::NoGrey => write!(f, "L7 no grey press here"),
             Refusal::GameOver => write!(f, "L8 game over"),
             Refusal::WrongSender => write!(f, "L9 command not for this sender"),
             Refusal::NotDue => write!(f, "L10 tick not due"),

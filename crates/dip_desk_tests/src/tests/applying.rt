@@ -1,6 +1,7 @@
 //! Changes that are made and read back.
-use crate::tests::letters::{CREATE, ORDERS, desk, letter};
+use crate::tests::letter;
 use dip_desk::{Keeper, MemoryKeeper, take};
+use dip_exchanges::{CREATE, ORDERS, desk};
 use dip_machine::{Author, Change, Effect, KeepFault, NewSeat};
 use dip_map::{Map, STANDARD};
 use dip_names::Power;
@@ -67,10 +68,13 @@ fn press(alloc: Global, first: Power, second: Power) -> Result<Effect, AllocErro
     let readers = vec![in alloc; first, second, first]?;
     Ok(Effect::Delivers {
         readers,
-        item: Item::Grey {
-            to_all: false,
-            text: Vec::new(alloc),
-        },
+        item: Rc::new(
+            alloc,
+            Item::Grey {
+                to_all: false,
+                text: Vec::new(alloc),
+            },
+        )?,
     })
 }
 

@@ -2,14 +2,16 @@
 ghost use Rattle.std.specs.Prelude.{◌≡◌, ◌<◌, IfOk, IfSome, MatchOption};
 ghost use Rattle.dip_machine.specs.Faults.{faults_with};
 
-use crate::tests::letters::{CREATE, ORDERS, SHOW, desk, letter};
+use crate::tests::letter;
 use dip_desk::{Keeper, MemoryKeeper, run, take};
+use dip_exchanges::{CREATE, ORDERS, SHOW, desk};
 use dip_machine::{Change, Desk, KeepFault};
 use dip_map::{Map, STANDARD};
 use dip_names::Power;
-use dip_records::{Own, Public, Whole};
+use dip_records::{Item, Own, Public, Whole};
 use std::alloc::Global;
 use std::process::Abort;
+use std::rc::Rc;
 use std::test::Fail;
 
 /// A keeper in memory that answers a fault at one of its calls.
@@ -87,6 +89,23 @@ impl Keeper for Failing {
         }
         match self.inner.own(map, game, power) {
             Ok(own) => Ok(own),
+            Err(_) => Err(KeepFault::Memory),
+        }
+    }
+
+    fn items(
+        &mut self,
+        map: &Map,
+        game: &str,
+        power: Power,
+        first: u32,
+        most: u32,
+    ) -> Result<Option<Vec<Rc<Item>>>, KeepFault> {
+        if let Some(fault) = self.fault_now() {
+            return Err(fault);
+        }
+        match self.inner.items(map, game, power, first, most) {
+            Ok(items) => Ok(items),
             Err(_) => Err(KeepFault::Memory),
         }
     }

@@ -1,164 +1,18 @@
 //! Exchanges of letters and replies.
-ghost use Rattle.std.specs.Prelude.{IfSome};
-ghost use Rattle.dip_machine.specs.Mail.{IsMail, mail};
-
-use dip_desk::{Keeper, MemoryKeeper, fault_reply, run, take};
-use dip_letters::{Letter, LetterFault, Next, digest, next_letter, sum};
+use crate::tests::letter;
+use dip_desk::{Keeper, fault_reply, run};
+use dip_exchanges::{BOARD, CREATE, ORDERS, SHOW, check_exchange, desk, opened};
+use dip_letters::{LetterFault, digest, sum};
 use dip_map::{Map, STANDARD};
 use dip_reports::{opening_paper_text, reply_text};
-use std::alloc::{AllocError, Global};
-use std::process::Abort;
+use std::alloc::Global;
 use std::test::Fail;
 
-pub const CREATE: &str = "LETTER
-GAME g1
-FROM master
-SECRET master-key
-NUMBER 1
-CREATE DUE 100 PERIOD 100 GREY YES
-SEAT austria aaaaaaaa
-SEAT england eeeeeeee
-SEAT france ffffffff
-SEAT germany gggggggg
-SEAT italy iiiiiiii
-SEAT russia rrrrrrrr
-SEAT turkey tttttttt
-END
-";
-
-pub const ORDERS: &str = "LETTER
-GAME g1
-FROM england
-SECRET eeeeeeee
-NUMBER 1
-ORDERS
-F edi - nth
-f  LON h
-END
-";
-
-pub const SHOW: &str = "LETTER
-GAME g1
-FROM england
-SECRET eeeeeeee
-NUMBER 2
-SHOW
-END
-";
-
-const OPENING: &str = "GAME g1 S1901M running DUE 100 PERIOD 100 GREY YES PAPERS 1
-austria 3/3: A bud, F tri, A vie | bud tri vie
-england 3/3: F edi, F lon, A lvp | edi lon lvp
-france 3/3: F bre, A mar, A par | bre mar par
-germany 3/3: A ber, F kie, A mun | ber kie mun
-italy 3/3: F nap, A rom, A ven | nap rom ven
-russia 4/4: A mos, F sev, F stp/sc, A war | mos sev stp war
-turkey 3/3: F ank, A con, A smy | ank con smy
-";
-
-/// The letter at the front of an input, and the rest; none where no letter is there.
-fn next_taken(input: &[u8]) -> Option<(Letter<'_>, &[u8])>
-    ensures { IfSome result (λ p. IsMail (mail p.0)) }
-{
-    match next_letter(input) {
-        Next::Taken(letter, rest) => Some((letter, rest)),
-        Next::Fault(_, _) | Next::End => None,
-    }
-}
-
-pub(crate) fn letter<'a>(rt: &impl Abort, text: &'a str) -> Letter<'a>
-    ensures { IsMail (mail result) }
-{
-    let Some((letter, _)) = next_taken(text.as_bytes()) else {
-        panic!(rt; "no letter");
-    };
-    letter
-}
-
-pub(crate) fn desk(alloc: Global) -> MemoryKeeper {
-    MemoryKeeper::new(alloc, digest("desk", "master", "master-key"))
-}
-
-/// What stands for the line `SEATS` of an exchange: a CREATE without its last seat.
-const SIX_SEATS: &str = "CREATE DUE 100 PERIOD 100 GREY YES
-SEAT austria aaaaaaaa
-SEAT england eeeeeeee
-SEAT france ffffffff
-SEAT germany gggggggg
-SEAT italy iiiiiiii
-SEAT russia rrrrrrrr
-";
-
-/// The letters of an exchange.
-fn letters_of(alloc: Global, exchange: &str) -> Result<String, AllocError> {
-    let mut letters = String::new(alloc);
-    for line in exchange.lines() {
-        if line == "SEATS" {
-            letters.push_str(SIX_SEATS)?;
-        } else if !line.starts_with("> ") {
-            letters.push_str(line)?;
-            letters.push_str("\n")?;
-        }
-    }
-    Ok(letters)
-}
-
-/// The replies of an exchange: its lines behind `> `, where `SHOWN` stands for the opening without orders.
-fn replies_of(alloc: Global, exchange: &str) -> Result<String, AllocError> {
-    let mut replies = String::new(alloc);
-    for line in exchange.lines() {
-        if line == "> SHOWN" {
-            replies.push_str(OPENING)?;
-            replies.push_str("VOTE NO\nSENT 0 INBOX 0\n")?;
-        } else if let Some(reply) = line.strip_prefix("> ") {
-            replies.push_str(reply)?;
-            replies.push_str("\n")?;
-        }
-    }
-    Ok(replies)
-}
-
-/// The replies to letters.
-fn told(
-    alloc: Global,
-    keeper: &mut MemoryKeeper,
-    map: &Map,
-    letters: &str,
-) -> Result<String, Fail> {
-    let mut told = String::new(alloc);
-    let mut rest = letters.as_bytes();
-    for _ in 0..100 {
-        let Some((letter, behind)) = next_taken(rest) else {
-            break;
-        };
-        let reply = take(alloc, keeper, map, &letter)?;
-        let text = reply_text(alloc, &reply)?;
-        told.push_str(text.as_str())?;
-        rest = behind;
-    }
-    Ok(told)
-}
-
-/// Asserts that the letters of an exchange get its replies at a desk.
-pub(crate) fn assert_exchange_at(
-    rt: &impl Abort,
-    alloc: Global,
-    keeper: &mut MemoryKeeper,
-    map: &Map,
-    exchange: &str,
-) -> Result<(), Fail> {
-    let letters = letters_of(alloc, exchange)?;
-    let replies = replies_of(alloc, exchange)?;
-    let told = told(alloc, keeper, map, letters.as_str())?;
-    assert_eq!(rt; told.as_str(), replies.as_str());
-    Ok(())
-}
-
-/// Asserts that the letters of an exchange get its replies at an empty desk.
-fn assert_exchange(rt: &impl Abort, alloc: Global, exchange: &str) -> Result<(), Fail> {
+/// The letters of an exchange get its replies at an empty desk.
+fn check_at_empty_desk(alloc: Global, exchange: &str) -> Result<(), Fail> {
     let map = Map::from_toml(alloc, STANDARD)?;
     let mut keeper = desk(alloc);
-    assert_exchange_at(rt, alloc, &mut keeper, &map, exchange)
+    Ok(check_exchange(alloc, &mut keeper, &map, exchange)?)
 }
 
 /// The first exchange.
@@ -170,9 +24,9 @@ NUMBER 1
 SEATS
 SEAT turkey tttttttt
 END
-> REPLY g1 master 1
-> OK paper 1
-> END
+< REPLY g1 master 1
+< OK paper 1
+< END
 LETTER
 GAME g1
 FROM england
@@ -182,10 +36,10 @@ ORDERS
 F edi - nth
 f  LON h
 END
-> REPLY g1 england 1
-> OK F edi - nth
-> OK F lon H
-> END
+< REPLY g1 england 1
+< OK F edi - nth
+< OK F lon H
+< END
 LETTER
 GAME g1
 FROM england
@@ -193,16 +47,16 @@ SECRET eeeeeeee
 NUMBER 2
 SHOW
 END
-> REPLY g1 england 2
-> SHOWN
-> ORDER F edi - nth
-> ORDER F lon H
-> END
+< REPLY g1 england 2
+< SHOWN
+< ORDER F edi - nth
+< ORDER F lon H
+< END
 ";
 
 #[test]
 fn answers_the_first_letters(rt: HostRuntime) -> Result<(), Fail> {
-    assert_exchange(&rt, rt.alloc(), FIRST)
+    check_at_empty_desk(rt.alloc(), FIRST)
 }
 
 /// Orders for provinces that have one, and lines that are none.
@@ -214,9 +68,9 @@ NUMBER 1
 SEATS
 SEAT turkey tttttttt
 END
-> REPLY g1 master 1
-> OK paper 1
-> END
+< REPLY g1 master 1
+< OK paper 1
+< END
 LETTER
 GAME g1
 FROM england
@@ -226,10 +80,10 @@ ORDERS
 F edi - nth
 f  LON h
 END
-> REPLY g1 england 1
-> OK F edi - nth
-> OK F lon H
-> END
+< REPLY g1 england 1
+< OK F edi - nth
+< OK F lon H
+< END
 LETTER
 GAME g1
 FROM england
@@ -242,13 +96,13 @@ A par H
 A lvp - bel
 F lon - yor VIA
 END
-> REPLY g1 england 2
-> OK F edi H
-> O4 line 2: wrong kind of unit
-> O3 line 3: no unit of yours there
-> OK A lvp - bel
-> O4 line 5: wrong kind of unit
-> END
+< REPLY g1 england 2
+< OK F edi H
+< O4 line 2: wrong kind of unit
+< O3 line 3: no unit of yours there
+< OK A lvp - bel
+< O4 line 5: wrong kind of unit
+< END
 LETTER
 GAME g1
 FROM england
@@ -256,17 +110,17 @@ SECRET eeeeeeee
 NUMBER 3
 SHOW
 END
-> REPLY g1 england 3
-> SHOWN
-> ORDER F edi H
-> ORDER F lon H
-> ORDER A lvp - bel
-> END
+< REPLY g1 england 3
+< SHOWN
+< ORDER F edi H
+< ORDER F lon H
+< ORDER A lvp - bel
+< END
 ";
 
 #[test]
 fn an_order_replaces_what_stands_for_its_province(rt: HostRuntime) -> Result<(), Fail> {
-    assert_exchange(&rt, rt.alloc(), REPLACED)
+    check_at_empty_desk(rt.alloc(), REPLACED)
 }
 
 /// Orders of each form: in Spring of 1901 no fleet is at sea, and no unit retreats, is built or removed.
@@ -278,9 +132,9 @@ NUMBER 1
 SEATS
 SEAT turkey tttttttt
 END
-> REPLY g1 master 1
-> OK paper 1
-> END
+< REPLY g1 master 1
+< OK paper 1
+< END
 LETTER
 GAME g1
 FROM england
@@ -293,13 +147,13 @@ F edi C A lvp - nwy
 F edi - nth
 BUILD A lon
 END
-> REPLY g1 england 1
-> OK A lvp - yor VIA
-> OK F lon S F edi - nth
-> O10 line 3: no convoy there
-> OK F edi - nth
-> O11 line 5: not in this phase
-> END
+< REPLY g1 england 1
+< OK A lvp - yor VIA
+< OK F lon S F edi - nth
+< O10 line 3: no convoy there
+< OK F edi - nth
+< O11 line 5: not in this phase
+< END
 LETTER
 GAME g1
 FROM england
@@ -307,12 +161,12 @@ SECRET eeeeeeee
 NUMBER 2
 SHOW
 END
-> REPLY g1 england 2
-> SHOWN
-> ORDER F edi - nth
-> ORDER F lon S F edi - nth
-> ORDER A lvp - yor VIA
-> END
+< REPLY g1 england 2
+< SHOWN
+< ORDER F edi - nth
+< ORDER F lon S F edi - nth
+< ORDER A lvp - yor VIA
+< END
 LETTER
 GAME g1
 FROM england
@@ -329,17 +183,17 @@ F lon S A edi
 F lon S A lvp-yor
 F edi
 END
-> REPLY g1 england 3
-> OK A lvp S F edi
-> OK F edi H
-> O11 line 3: not in this phase
-> O11 line 4: not in this phase
-> O11 line 5: not in this phase
-> O9 line 6: support out of reach
-> O8 line 7: no such unit to support or convoy
-> OK F lon S A lvp - yor
-> O1 line 9: cannot be read
-> END
+< REPLY g1 england 3
+< OK A lvp S F edi
+< OK F edi H
+< O11 line 3: not in this phase
+< O11 line 4: not in this phase
+< O11 line 5: not in this phase
+< O9 line 6: support out of reach
+< O8 line 7: no such unit to support or convoy
+< OK F lon S A lvp - yor
+< O1 line 9: cannot be read
+< END
 LETTER
 GAME g1
 FROM england
@@ -347,17 +201,17 @@ SECRET eeeeeeee
 NUMBER 4
 SHOW
 END
-> REPLY g1 england 4
-> SHOWN
-> ORDER F edi H
-> ORDER F lon S A lvp - yor
-> ORDER A lvp S F edi
-> END
+< REPLY g1 england 4
+< SHOWN
+< ORDER F edi H
+< ORDER F lon S A lvp - yor
+< ORDER A lvp S F edi
+< END
 ";
 
 #[test]
 fn orders_of_each_form_are_answered(rt: HostRuntime) -> Result<(), Fail> {
-    assert_exchange(&rt, rt.alloc(), FORMS)
+    check_at_empty_desk(rt.alloc(), FORMS)
 }
 
 /// A wrong secret, power, game and master, and the master asking for a game that is not there.
@@ -369,9 +223,9 @@ NUMBER 1
 SEATS
 SEAT turkey tttttttt
 END
-> REPLY g1 master 1
-> OK paper 1
-> END
+< REPLY g1 master 1
+< OK paper 1
+< END
 LETTER
 GAME g1
 FROM england
@@ -379,9 +233,9 @@ SECRET ffffffff
 NUMBER 2
 SHOW
 END
-> REPLY nobody 0
-> L2 unknown game, sender or secret
-> END
+< REPLY nobody 0
+< L2 unknown game, sender or secret
+< END
 LETTER
 GAME g1
 FROM spain
@@ -389,9 +243,9 @@ SECRET eeeeeeee
 NUMBER 2
 SHOW
 END
-> REPLY nobody 0
-> L2 unknown game, sender or secret
-> END
+< REPLY nobody 0
+< L2 unknown game, sender or secret
+< END
 LETTER
 GAME g9
 FROM england
@@ -399,9 +253,9 @@ SECRET eeeeeeee
 NUMBER 2
 SHOW
 END
-> REPLY nobody 0
-> L2 unknown game, sender or secret
-> END
+< REPLY nobody 0
+< L2 unknown game, sender or secret
+< END
 LETTER
 GAME g1
 FROM master
@@ -409,9 +263,9 @@ SECRET eeeeeeee
 NUMBER 2
 SHOW
 END
-> REPLY nobody 0
-> L2 unknown game, sender or secret
-> END
+< REPLY nobody 0
+< L2 unknown game, sender or secret
+< END
 LETTER
 GAME g9
 FROM master
@@ -419,14 +273,14 @@ SECRET master-key
 NUMBER 2
 SHOW
 END
-> REPLY nobody 0
-> L2 unknown game, sender or secret
-> END
+< REPLY nobody 0
+< L2 unknown game, sender or secret
+< END
 ";
 
 #[test]
 fn whoever_is_not_known_gets_one_answer(rt: HostRuntime) -> Result<(), Fail> {
-    assert_exchange(&rt, rt.alloc(), STRANGERS)
+    check_at_empty_desk(rt.alloc(), STRANGERS)
 }
 
 /// Seats that are not the powers, each once; a name that is taken; commands of the other side.
@@ -437,9 +291,9 @@ SECRET master-key
 NUMBER 1
 SEATS
 END
-> REPLY g1 master 1
-> L1 malformed letter
-> END
+< REPLY g1 master 1
+< L1 malformed letter
+< END
 LETTER
 GAME g1
 FROM master
@@ -448,9 +302,9 @@ NUMBER 2
 SEATS
 SEAT russia tttttttt
 END
-> REPLY g1 master 2
-> L1 malformed letter
-> END
+< REPLY g1 master 2
+< L1 malformed letter
+< END
 LETTER
 GAME g1
 FROM master
@@ -459,9 +313,9 @@ NUMBER 3
 SEATS
 SEAT spain tttttttt
 END
-> REPLY g1 master 3
-> L1 malformed letter
-> END
+< REPLY g1 master 3
+< L1 malformed letter
+< END
 LETTER
 GAME g1
 FROM master
@@ -470,9 +324,9 @@ NUMBER 4
 SEATS
 SEAT turkey tttttttt
 END
-> REPLY g1 master 4
-> OK paper 1
-> END
+< REPLY g1 master 4
+< OK paper 1
+< END
 LETTER
 GAME g1
 FROM master
@@ -480,9 +334,9 @@ SECRET master-key
 NUMBER 5
 SEATS
 END
-> REPLY g1 master 5
-> L1 malformed letter
-> END
+< REPLY g1 master 5
+< L1 malformed letter
+< END
 LETTER
 GAME g1
 FROM master
@@ -491,9 +345,9 @@ NUMBER 6
 SEATS
 SEAT turkey tttttttt
 END
-> REPLY g1 master 6
-> L11 name taken
-> END
+< REPLY g1 master 6
+< L11 name taken
+< END
 LETTER
 GAME g1
 FROM england
@@ -502,9 +356,9 @@ NUMBER 1
 SEATS
 SEAT turkey tttttttt
 END
-> REPLY g1 england 1
-> L9 command not for this sender
-> END
+< REPLY g1 england 1
+< L9 command not for this sender
+< END
 LETTER
 GAME g1
 FROM master
@@ -512,14 +366,14 @@ SECRET master-key
 NUMBER 7
 SHOW
 END
-> REPLY g1 master 7
-> L9 command not for this sender
-> END
+< REPLY g1 master 7
+< L9 command not for this sender
+< END
 ";
 
 #[test]
 fn refuses_in_the_order_of_the_rules(rt: HostRuntime) -> Result<(), Fail> {
-    assert_exchange(&rt, rt.alloc(), REFUSED)
+    check_at_empty_desk(rt.alloc(), REFUSED)
 }
 
 /// Each letter twice, an old number, and another letter with the last one.
@@ -531,9 +385,9 @@ NUMBER 1
 SEATS
 SEAT turkey tttttttt
 END
-> REPLY g1 master 1
-> OK paper 1
-> END
+< REPLY g1 master 1
+< OK paper 1
+< END
 LETTER
 GAME g1
 FROM master
@@ -542,9 +396,9 @@ NUMBER 1
 SEATS
 SEAT turkey tttttttt
 END
-> REPLY g1 master 1
-> OK paper 1
-> END
+< REPLY g1 master 1
+< OK paper 1
+< END
 LETTER
 GAME g1
 FROM england
@@ -554,10 +408,10 @@ ORDERS
 F edi - nth
 f  LON h
 END
-> REPLY g1 england 1
-> OK F edi - nth
-> OK F lon H
-> END
+< REPLY g1 england 1
+< OK F edi - nth
+< OK F lon H
+< END
 LETTER
 GAME g1
 FROM england
@@ -567,10 +421,10 @@ ORDERS
 F edi - nth
 f  LON h
 END
-> REPLY g1 england 1
-> OK F edi - nth
-> OK F lon H
-> END
+< REPLY g1 england 1
+< OK F edi - nth
+< OK F lon H
+< END
 LETTER
 GAME g1
 FROM england
@@ -578,11 +432,11 @@ SECRET eeeeeeee
 NUMBER 2
 SHOW
 END
-> REPLY g1 england 2
-> SHOWN
-> ORDER F edi - nth
-> ORDER F lon H
-> END
+< REPLY g1 england 2
+< SHOWN
+< ORDER F edi - nth
+< ORDER F lon H
+< END
 LETTER
 GAME g1
 FROM england
@@ -590,11 +444,11 @@ SECRET eeeeeeee
 NUMBER 2
 SHOW
 END
-> REPLY g1 england 2
-> SHOWN
-> ORDER F edi - nth
-> ORDER F lon H
-> END
+< REPLY g1 england 2
+< SHOWN
+< ORDER F edi - nth
+< ORDER F lon H
+< END
 LETTER
 GAME g1
 FROM england
@@ -603,9 +457,9 @@ NUMBER 3
 ORDERS
 F edi H
 END
-> REPLY g1 england 3
-> OK F edi H
-> END
+< REPLY g1 england 3
+< OK F edi H
+< END
 LETTER
 GAME g1
 FROM england
@@ -614,9 +468,9 @@ NUMBER 3
 ORDERS
 F edi H
 END
-> REPLY g1 england 3
-> OK F edi H
-> END
+< REPLY g1 england 3
+< OK F edi H
+< END
 LETTER
 GAME g1
 FROM england
@@ -624,9 +478,9 @@ SECRET eeeeeeee
 NUMBER 2
 SHOW
 END
-> REPLY g1 england 2
-> L3 stale number, last is 3
-> END
+< REPLY g1 england 2
+< L3 stale number, last is 3
+< END
 LETTER
 GAME g1
 FROM england
@@ -635,9 +489,9 @@ NUMBER 3
 ORDERS
 F edi - nth
 END
-> REPLY g1 england 3
-> L4 number 3 used by another letter
-> END
+< REPLY g1 england 3
+< L4 number 3 used by another letter
+< END
 LETTER
 GAME g1
 FROM england
@@ -645,11 +499,11 @@ SECRET eeeeeeee
 NUMBER 4
 SHOW
 END
-> REPLY g1 england 4
-> SHOWN
-> ORDER F edi H
-> ORDER F lon H
-> END
+< REPLY g1 england 4
+< SHOWN
+< ORDER F edi H
+< ORDER F lon H
+< END
 LETTER
 GAME g1
 FROM england
@@ -657,14 +511,14 @@ SECRET eeeeeeee
 NUMBER 2
 SHOW
 END
-> REPLY g1 england 2
-> L3 stale number, last is 4
-> END
+< REPLY g1 england 2
+< L3 stale number, last is 4
+< END
 ";
 
 #[test]
 fn a_letter_that_comes_twice_acts_once(rt: HostRuntime) -> Result<(), Fail> {
-    assert_exchange(&rt, rt.alloc(), TWICE)
+    check_at_empty_desk(rt.alloc(), TWICE)
 }
 
 /// The master's count is the desk's; a stranger's letter uses no number, and a refused one does.
@@ -676,9 +530,9 @@ NUMBER 1
 SEATS
 SEAT turkey tttttttt
 END
-> REPLY g1 master 1
-> OK paper 1
-> END
+< REPLY g1 master 1
+< OK paper 1
+< END
 LETTER
 GAME g2
 FROM master
@@ -687,9 +541,9 @@ NUMBER 1
 SEATS
 SEAT turkey tttttttt
 END
-> REPLY g2 master 1
-> L4 number 1 used by another letter
-> END
+< REPLY g2 master 1
+< L4 number 1 used by another letter
+< END
 LETTER
 GAME g2
 FROM master
@@ -698,9 +552,9 @@ NUMBER 3
 SEATS
 SEAT turkey tttttttt
 END
-> REPLY g2 master 3
-> OK paper 1
-> END
+< REPLY g2 master 3
+< OK paper 1
+< END
 LETTER
 GAME g3
 FROM master
@@ -709,9 +563,9 @@ NUMBER 2
 SEATS
 SEAT turkey tttttttt
 END
-> REPLY g3 master 2
-> L3 stale number, last is 3
-> END
+< REPLY g3 master 2
+< L3 stale number, last is 3
+< END
 LETTER
 GAME g1
 FROM england
@@ -719,9 +573,9 @@ SECRET ffffffff
 NUMBER 9
 SHOW
 END
-> REPLY nobody 0
-> L2 unknown game, sender or secret
-> END
+< REPLY nobody 0
+< L2 unknown game, sender or secret
+< END
 LETTER
 GAME g1
 FROM england
@@ -730,9 +584,9 @@ NUMBER 1
 SEATS
 SEAT turkey tttttttt
 END
-> REPLY g1 england 1
-> L9 command not for this sender
-> END
+< REPLY g1 england 1
+< L9 command not for this sender
+< END
 LETTER
 GAME g1
 FROM england
@@ -741,14 +595,14 @@ NUMBER 1
 ORDERS
 F edi H
 END
-> REPLY g1 england 1
-> L4 number 1 used by another letter
-> END
+< REPLY g1 england 1
+< L4 number 1 used by another letter
+< END
 ";
 
 #[test]
 fn a_number_counts_for_its_author(rt: HostRuntime) -> Result<(), Fail> {
-    assert_exchange(&rt, rt.alloc(), COUNTS)
+    check_at_empty_desk(rt.alloc(), COUNTS)
 }
 
 /// England, where nobody else has ordered.
@@ -760,9 +614,9 @@ NUMBER 1
 SEATS
 SEAT turkey tttttttt
 END
-> REPLY g1 master 1
-> OK paper 1
-> END
+< REPLY g1 master 1
+< OK paper 1
+< END
 LETTER
 GAME g1
 FROM england
@@ -770,9 +624,9 @@ SECRET eeeeeeee
 NUMBER 1
 SHOW
 END
-> REPLY g1 england 1
-> SHOWN
-> END
+< REPLY g1 england 1
+< SHOWN
+< END
 ";
 
 /// England, where France has.
@@ -784,9 +638,9 @@ NUMBER 1
 SEATS
 SEAT turkey tttttttt
 END
-> REPLY g1 master 1
-> OK paper 1
-> END
+< REPLY g1 master 1
+< OK paper 1
+< END
 LETTER
 GAME g1
 FROM france
@@ -795,9 +649,9 @@ NUMBER 1
 ORDERS
 A par - bur
 END
-> REPLY g1 france 1
-> OK A par - bur
-> END
+< REPLY g1 france 1
+< OK A par - bur
+< END
 LETTER
 GAME g1
 FROM england
@@ -805,9 +659,9 @@ SECRET eeeeeeee
 NUMBER 1
 SHOW
 END
-> REPLY g1 england 1
-> SHOWN
-> END
+< REPLY g1 england 1
+< SHOWN
+< END
 ";
 
 /// Refused letters between what is shown.
@@ -819,9 +673,9 @@ NUMBER 1
 SEATS
 SEAT turkey tttttttt
 END
-> REPLY g1 master 1
-> OK paper 1
-> END
+< REPLY g1 master 1
+< OK paper 1
+< END
 LETTER
 GAME g1
 FROM england
@@ -831,10 +685,10 @@ ORDERS
 F edi - nth
 f  LON h
 END
-> REPLY g1 england 1
-> OK F edi - nth
-> OK F lon H
-> END
+< REPLY g1 england 1
+< OK F edi - nth
+< OK F lon H
+< END
 LETTER
 GAME g1
 FROM england
@@ -842,11 +696,11 @@ SECRET eeeeeeee
 NUMBER 2
 SHOW
 END
-> REPLY g1 england 2
-> SHOWN
-> ORDER F edi - nth
-> ORDER F lon H
-> END
+< REPLY g1 england 2
+< SHOWN
+< ORDER F edi - nth
+< ORDER F lon H
+< END
 LETTER
 GAME g1
 FROM england
@@ -855,9 +709,9 @@ NUMBER 3
 SEATS
 SEAT turkey tttttttt
 END
-> REPLY g1 england 3
-> L9 command not for this sender
-> END
+< REPLY g1 england 3
+< L9 command not for this sender
+< END
 LETTER
 GAME g1
 FROM england
@@ -865,11 +719,11 @@ SECRET eeeeeeee
 NUMBER 4
 SHOW
 END
-> REPLY g1 england 4
-> SHOWN
-> ORDER F edi - nth
-> ORDER F lon H
-> END
+< REPLY g1 england 4
+< SHOWN
+< ORDER F edi - nth
+< ORDER F lon H
+< END
 LETTER
 GAME g1
 FROM england
@@ -878,9 +732,9 @@ NUMBER 5
 ORDERS
 F edi - xyz
 END
-> REPLY g1 england 5
-> O2 line 1: unknown province
-> END
+< REPLY g1 england 5
+< O2 line 1: unknown province
+< END
 LETTER
 GAME g1
 FROM master
@@ -889,9 +743,9 @@ NUMBER 2
 SEATS
 SEAT turkey tttttttt
 END
-> REPLY g1 master 2
-> L11 name taken
-> END
+< REPLY g1 master 2
+< L11 name taken
+< END
 LETTER
 GAME g1
 FROM england
@@ -900,9 +754,9 @@ NUMBER 6
 ORDERS
 F edi H
 END
-> REPLY nobody 0
-> L2 unknown game, sender or secret
-> END
+< REPLY nobody 0
+< L2 unknown game, sender or secret
+< END
 LETTER
 GAME g1
 FROM england
@@ -911,9 +765,9 @@ NUMBER 1
 ORDERS
 F edi H
 END
-> REPLY g1 england 1
-> L3 stale number, last is 5
-> END
+< REPLY g1 england 1
+< L3 stale number, last is 5
+< END
 LETTER
 GAME g1
 FROM england
@@ -921,22 +775,22 @@ SECRET eeeeeeee
 NUMBER 6
 SHOW
 END
-> REPLY g1 england 6
-> SHOWN
-> ORDER F edi - nth
-> ORDER F lon H
-> END
+< REPLY g1 england 6
+< SHOWN
+< ORDER F edi - nth
+< ORDER F lon H
+< END
 ";
 
 #[test]
 fn a_refused_letter_does_nothing(rt: HostRuntime) -> Result<(), Fail> {
-    assert_exchange(&rt, rt.alloc(), NOTHING)
+    check_at_empty_desk(rt.alloc(), NOTHING)
 }
 
 #[test]
 fn what_others_order_is_not_shown(rt: HostRuntime) -> Result<(), Fail> {
-    assert_exchange(&rt, rt.alloc(), ALONE)?;
-    assert_exchange(&rt, rt.alloc(), BESIDE)
+    check_at_empty_desk(rt.alloc(), ALONE)?;
+    check_at_empty_desk(rt.alloc(), BESIDE)
 }
 
 #[test]
@@ -955,19 +809,11 @@ fn what_is_no_letter_is_answered_to_nobody(rt: HostRuntime) -> Result<(), Fail> 
     Ok(())
 }
 
-/// A desk with the game of CREATE.
-fn opened(rt: &impl Abort, alloc: Global, map: &Map) -> Result<MemoryKeeper, Fail> {
-    let mut keeper = desk(alloc);
-    take(alloc, &mut keeper, map, &letter(rt, CREATE))?;
-    assert!(rt; keeper.failures() == 0);
-    Ok(keeper)
-}
-
 #[test]
 fn the_masters_row_is_kept(rt: HostRuntime) -> Result<(), Fail> {
     let alloc = rt.alloc();
     let map = Map::from_toml(alloc, STANDARD)?;
-    let mut keeper = opened(&rt, alloc, &map)?;
+    let mut keeper = opened(alloc, &map)?;
     let desk = keeper.desk()?;
     assert!(rt; desk.digest == digest("desk", "master", "master-key"));
     let kept = desk.kept.ok_or("nothing kept")?;
@@ -980,7 +826,7 @@ fn the_masters_row_is_kept(rt: HostRuntime) -> Result<(), Fail> {
 fn the_public_part_is_kept(rt: HostRuntime) -> Result<(), Fail> {
     let alloc = rt.alloc();
     let map = Map::from_toml(alloc, STANDARD)?;
-    let mut keeper = opened(&rt, alloc, &map)?;
+    let mut keeper = opened(alloc, &map)?;
     assert!(rt; keeper.public(&map, "g2")?.is_none());
     let public = keeper.public(&map, "g1")?.ok_or("no game")?;
     assert!(rt; public.due == 100 && public.period == 100 && public.grey && public.papers == 1);
@@ -992,7 +838,7 @@ fn the_public_part_is_kept(rt: HostRuntime) -> Result<(), Fail> {
 fn the_own_part_is_kept(rt: HostRuntime) -> Result<(), Fail> {
     let alloc = rt.alloc();
     let map = Map::from_toml(alloc, STANDARD)?;
-    let mut keeper = opened(&rt, alloc, &map)?;
+    let mut keeper = opened(alloc, &map)?;
     let england = map.power("england").ok_or("no england")?;
     let own = keeper.own(&map, "g1", england)?.ok_or("no seat")?;
     assert!(rt; own.digest == digest("g1", "england", "eeeeeeee") && own.pending.is_empty());
@@ -1003,10 +849,12 @@ fn the_own_part_is_kept(rt: HostRuntime) -> Result<(), Fail> {
 fn the_opening_paper_is_printed(rt: HostRuntime) -> Result<(), Fail> {
     let alloc = rt.alloc();
     let map = Map::from_toml(alloc, STANDARD)?;
-    let mut keeper = opened(&rt, alloc, &map)?;
+    let mut keeper = opened(alloc, &map)?;
     let public = keeper.public(&map, "g1")?.ok_or("no game")?;
     let paper = opening_paper_text(alloc, &map, &public)?;
-    let wanted = format!(in alloc; "PAPER 1 opening\n{OPENING}END\n")?;
+    let wanted = format!(in alloc;
+        "PAPER 1 opening\nGAME g1 S1901M running DUE 100 PERIOD 100 GREY YES PAPERS 1\n{BOARD}END\n"
+    )?;
     assert_eq!(rt; paper.as_str(), wanted.as_str());
     Ok(())
 }

@@ -1,6 +1,7 @@
-use Rattle.std.proofs.Common.{◌≡◌, take}
-use Rattle.dip_desk.specs.Stored.{owns}
+use Rattle.std.proofs.Common.{◌≡◌, take, map}
+use Rattle.dip_records.specs.Rows as rows
+use Rattle.dip_desk.specs.Stored.{parts}
 use Rattle.dip_desk.proofs.copying.owns_copy.Given as goal
 
-abbrev pub invariant-loop-own : goal.invariant-loop-own
-invariant-loop-own l = owns l.copy.items ≡ owns (take l.own-index l.owns)
+abbrev pub invariant-loop-seat : goal.invariant-loop-seat
+invariant-loop-seat l = map (λ o. rows.own o) l.copy.items ≡ map (λ p. p.own) (parts (take l.seat-index l.seats))

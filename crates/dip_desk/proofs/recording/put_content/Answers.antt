@@ -7,4 +7,4 @@ use Rattle.dip_desk.proofs.recording.put_content.Goals as goal
 pub returns-in-Publishes-clause-ok : goal.returns-in-Publishes-clause-ok
 returns-in-Publishes-clause-ok c =
     page_brings (desk_rows.effect c.args.effect.now) (rows.public c.in-Publishes.public) (string_bytes c.in-Publishes.paper) c.in-Publishes.played c.args.game.now c.put_page.new.game c.put_page.result
-    (ap (λ e. desk_rows.effect e) c.in-Publishes.is) c.put_page.ensures.public c.put_page.ensures.papers c.put_page.ensures.posts
+    (ap (λ e. desk_rows.effect e) c.in-Publishes.is) c.put_page.ensures.public c.put_page.ensures.papers c.put_page.ensures.seats

@@ -1,7 +1,8 @@
 use Rattle.std.proofs.Common.{◌≡◌, ◌<◌, ◌==◌, length, get_or, arith}
 use Rattle.dip_machine.specs.Keyed.{place}
+use Rattle.dip_machine.specs.State.{power_in, with_letter}
 use Rattle.dip_machine.specs.Rows as desk_rows
-use Rattle.dip_desk.specs.Stored.{MaySend, owns, own_letter, power_of}
+use Rattle.dip_desk.specs.Stored.{MaySend, part, parts}
 use Rattle.dip_records.specs.Rows as rows
 use Rattle.dip_machine.proofs.KeyedLemmas.{said_kept, said_set}
 use Rattle.dip_desk.proofs.PartLemmas.{at_place}
@@ -12,16 +13,16 @@ returns-then-place-len c =
     let xs = c.args.seats.now.items in
     let i = c.seat_place-place.result in
     let old = c.index_mut.result.now in
-    let here : i ≡ place (λ a b. a == b) power_of c.args.power (owns xs) = cc in
+    let here : i ≡ place (λ a b. a == b) power_in c.args.power (parts xs) = cc in
     let lt : i < length xs = omega arith in
     let is : old ≡ get_or xs i old = cc in
-    said_set (λ o. rows.own o) (λ a b. a == b) power_of c.args.power (own_letter (rows.kept c.args.kept) (desk_rows.effect c.args.effect.now)) xs i old _ here lt is c.record_own.ensures
+    said_set part (λ a b. a == b) power_in c.args.power (with_letter (rows.kept c.args.kept) (desk_rows.effect c.args.effect.now)) xs i old _ here lt is c.record_own.ensures
 
 pub returns-else-place-len : goal.returns-else-place-len
 returns-else-place-len c =
     let xs = c.args.seats.now.items in
-    let here : c.seat_place-place.result ≡ place (λ a b. a == b) power_of c.args.power (owns xs) = cc in
-    said_kept (λ o. rows.own o) (λ a b. a == b) power_of c.args.power (own_letter (rows.kept c.args.kept) (desk_rows.effect c.args.effect.now)) xs c.seat_place-place.result here (omega arith)
+    let here : c.seat_place-place.result ≡ place (λ a b. a == b) power_in c.args.power (parts xs) = cc in
+    said_kept part (λ a b. a == b) power_in c.args.power (with_letter (rows.kept c.args.kept) (desk_rows.effect c.args.effect.now)) xs c.seat_place-place.result here (omega arith)
 
 pub record_own-requires-clause-room : goal.record_own-requires-clause-room
 record_own-requires-clause-room c =

@@ -1,0 +1,12 @@
+use Rattle.std.proofs.Common.{◌≡◌, ◌∙◌}
+use Rattle.std.proofs.lemmas.Result.{IfOk-weaker}
+use Rattle.dip_machine.specs.State as s
+use Rattle.dip_records.specs.Rows as rows
+use Rattle.dip_desk.proofs.PartLemmas.{page_shown}
+use Rattle.dip_desk.proofs.games.page_of.Goals as goal
+
+pub returns : goal.returns
+returns c =
+    let page = page_shown c.args.first c.args.most c.saturating_sub-place.result c.args.inbox.now c.behind.result.now c.at_most.result.now c.saturating_sub-place.ensures c.behind.ensures c.at_most.ensures in
+    IfOk-weaker c.items_shared.result (λ v. rows.items v.items ≡ rows.items c.at_most.result.now)
+    (λ v. rows.items v.items ≡ s.page_of c.args.first c.args.most (rows.items c.args.inbox.now)) (λ v is. is ∙ page) c.items_shared.ensures

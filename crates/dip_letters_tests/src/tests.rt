@@ -1,0 +1,386 @@
+//! Letters read and printed.
+use dip_letters::{
+    Command, LetterFault, MasterCommand, Next, PlayerCommand, digest, is_secret, next_letter,
+    print_letter, sum,
+};
+use std::alloc::{AllocError, Global};
+use std::process::Abort;
+use std::test::Fail;
+
+mod press;
+
+const CREATE: &str =
+    "LETTER\nGAME g1\nFROM master\nSECRET mmmmmmmm\nNUMBER 7\nCREATE DUE 5 PERIOD 10 GREY YES\nSEAT england eeeeeeee\nSEAT france ffff~ff!f\nEND\n";
+
+const ORDERS: &str =
+    "LETTER\nGAME g1\nFROM england\nSECRET eeeeeeee\nNUMBER 1\nORDERS\nF lon - nth\nA lvp H\nEND\n";
+
+const SHOW: &str = "LETTER\nGAME g1\nFROM england\nSECRET eeeeeeee\nNUMBER 2\nSHOW\nEND\n";
+
+/// The master's time.
+const TICK: &str = "LETTER\nGAME g1\nFROM master\nSECRET mmmmmmmm\nNUMBER 2\nTICK 100\nEND\n";
+
+const SEATS: &str = "SEAT england eeeeeeee\nSEAT france ffff~ff!f\n";
+
+/// What comes next, in a word, and how many bytes follow.
+fn verdict(bytes: &[u8]) -> (&'static str, usize) {
+    match next_letter(bytes) {
+        Next::Taken(_, rest) => ("letter", rest.len()),
+        Next::Fault(LetterFault::Malformed, rest) => ("L1", rest.len()),
+        Next::Fault(LetterFault::TooLong, rest) => ("L5", rest.len()),
+        Next::End => ("end", 0),
+    }
+}
+
+#[test]
+fn reads_create(rt: HostRuntime) -> Result<(), Fail> {
+    let Next::Taken(letter, rest) = next_letter(CREATE.as_bytes()) else {
+        return Err(Fail::from("no letter"));
+    };
+    assert!(rt; rest.is_empty() && letter.number == 7);
+    assert_eq!(rt; letter.game, "g1");
+    assert_eq!(rt; letter.sender, "master");
+    assert_eq!(rt; letter.secret, "mmmmmmmm");
+    assert_eq!(rt; letter.bytes, CREATE.as_bytes());
+    let Command::Master(MasterCommand::Create(opening)) = letter.command else {
+        return Err(Fail::from("no CREATE"));
+    };
+    assert!(rt; opening.due == 5 && opening.period == 10 && opening.grey);
+    let mut seats = opening.seats;
+    let Some(first) = seats.next() else {
+        return Err(Fail::from("no seat"));
+    };
+    assert!(rt; first.power == "england" && first.secret == "eeeeeeee");
+    let Some(second) = seats.next() else {
+        return Err(Fail::from("one seat"));
+    };
+    assert!(rt; second.power == "france" && second.secret == "ffff~ff!f");
+    assert!(rt; seats.next().is_none());
+    Ok(())
+}
+
+#[test]
+fn reads_orders(rt: HostRuntime) -> Result<(), Fail> {
+    let Next::Taken(letter, _) = next_letter(ORDERS.as_bytes()) else {
+        return Err(Fail::from("no letter"));
+    };
+    assert!(rt; letter.number == 1 && letter.sender == "england");
+    let Command::Player(PlayerCommand::Orders(lines)) = letter.command else {
+        return Err(Fail::from("no ORDERS"));
+    };
+    let mut text = String::new(rt.alloc());
+    for line in lines {
+        text.push_str(line)?;
+        text.push_str("|")?;
+    }
+    assert_eq!(rt; text.as_str(), "F lon - nth|A lvp H|");
+    Ok(())
+}
+
+#[test]
+fn reads_show(rt: HostRuntime) -> Result<(), Fail> {
+    let Next::Taken(letter, _) = next_letter(SHOW.as_bytes()) else {
+        return Err(Fail::from("no letter"));
+    };
+    let Command::Player(PlayerCommand::Show) = letter.command else {
+        return Err(Fail::from("no SHOW"));
+    };
+    assert!(rt; letter.number == 2 && letter.secret == "eeeeeeee");
+    Ok(())
+}
+
+#[test]
+fn reads_tick(rt: HostRuntime) -> Result<(), Fail> {
+    let Next::Taken(letter, _) = next_letter(TICK.as_bytes()) else {
+        return Err(Fail::from("no letter"));
+    };
+    let Command::Master(MasterCommand::Tick(tick)) = letter.command else {
+        return Err(Fail::from("no TICK"));
+    };
+    assert!(rt; tick == 100 && letter.sender == "master" && letter.number == 2);
+    Ok(())
+}
+
+#[test]
+fn prints_what_it_read(rt: HostRuntime) -> Result<(), Fail> {
+    for text in [CREATE, ORDERS, SHOW, TICK] {
+        let Next::Taken(letter, _) = next_letter(text.as_bytes()) else {
+            return Err(Fail::from("no letter"));
+        };
+        let printed = print_letter(rt.alloc(), &letter)?;
+        assert_eq!(rt; printed.as_slice(), text.as_bytes());
+    }
+    Ok(())
+}
+
+/// Whether the letter is one with that part of it replaced.
+fn is_read(alloc: Global, letter: &str, old: &str, new: &str) -> Result<bool, AllocError> {
+    let text = letter.replace(alloc, old, new)?;
+    let (word, left) = verdict(text.as_bytes());
+    Ok(word == "letter" && left == 0)
+}
+
+/// Whether a letter is read with a part replaced is as each row wants it.
+fn check_changes(
+    rt: &impl Abort,
+    alloc: Global,
+    letter: &str,
+    rows: &[(&str, &str, bool)],
+) -> Result<(), AllocError> {
+    for (old, new, want) in rows {
+        assert!(rt; is_read(alloc, letter, old, new)? == *want, "{new}");
+    }
+    Ok(())
+}
+
+#[test]
+fn keeps_to_the_grammar(rt: HostRuntime) -> Result<(), Fail> {
+    let rows = [
+        ("\n", "\r\n", false),
+        ("GAME g1\n", "GAME g1\r\n", false),
+        ("GAME g1", "GAME  g1", false),
+        ("GAME g1", " GAME g1", false),
+        ("GAME g1", "GAME g1 ", false),
+        ("GAME g1", "GAME\tg1", false),
+        ("GAME g1", "game g1", false),
+        ("GAME g1", "GAME abcdefgh12345678", true),
+        ("GAME g1", "GAME abcdefgh123456789", false),
+        ("GAME g1", "GAME 1g", false),
+        ("GAME g1", "GAME G1", false),
+        ("GAME g1", "GAME ", false),
+        ("GAME g1\n", "", false),
+        ("FROM master", "FROM abcdefghijklmnop", true),
+        ("FROM master", "FROM abcdefghijklmnopq", false),
+        ("FROM master", "FROM england1", false),
+        ("SECRET mmmmmmmm", "SECRET mmmmmmm", false),
+        ("SECRET mmmmmmmm", "SECRET mmmm mmmm", false),
+        ("SECRET mmmmmmmm", "SECRET mmmm\tmmmm", false),
+        ("SECRET mmmmmmmm", "SECRET !mmmmmm~", true),
+        ("SECRET mmmmmmmm", "SECRET mmmmmmmé", false),
+        ("NUMBER 7", "NUMBER 0", false),
+        ("NUMBER 7", "NUMBER 01", false),
+        ("NUMBER 7", "NUMBER +1", false),
+        ("NUMBER 7", "NUMBER 1", true),
+        ("NUMBER 7", "NUMBER 999999999", true),
+        ("NUMBER 7", "NUMBER 1000000000", false),
+        ("DUE 5", "DUE 0", true),
+        ("DUE 5", "DUE 00", false),
+        ("DUE 5", "DUE 05", false),
+        ("DUE 5", "DUE 999999999999", true),
+        ("DUE 5", "DUE 1000000000000", false),
+        ("DUE 5", "DUE ", false),
+        ("DUE 5", "DUE  5", false),
+        ("PERIOD 10", "PERIOD 0", false),
+        ("PERIOD 10", "PERIOD 1", true),
+        ("PERIOD 10", "PERIOD 999999", true),
+        ("PERIOD 10", "PERIOD 1000000", false),
+        ("GREY YES", "GREY NO", true),
+        ("GREY YES", "GREY MAYBE", false),
+        ("GREY YES", "GREY YES ", false),
+        ("CREATE", "Create", false),
+        ("SEAT france", "SEAT abcdefghijklmnop", true),
+        ("SEAT france", "SEAT abcdefghijklmnopq", false),
+        ("SEAT france", "SEAT  france", false),
+        ("SEAT france", "SEAT France", false),
+        ("SEAT france", "\nSEAT france", false),
+        ("ffff~ff!f", "fffffff", false),
+        ("ffff~ff!f", "ffff ffff", false),
+        (SEATS, "", false),
+    ];
+    check_changes(&rt, rt.alloc(), CREATE, &rows)?;
+    Ok(())
+}
+
+#[test]
+fn keeps_to_the_grammar_of_orders(rt: HostRuntime) -> Result<(), Fail> {
+    let rows = [
+        ("ORDERS", "ORDERS ", false),
+        ("ORDERS", "WITHDRAW", false),
+        ("F lon - nth", "F lon\t- nth", false),
+        ("F lon - nth", "F  lon  - nth ", true),
+        ("F lon - nth", "", false),
+        ("F lon - nth", "END ", true),
+        ("F lon - nth", "END", false),
+    ];
+    check_changes(&rt, rt.alloc(), ORDERS, &rows)?;
+    Ok(())
+}
+
+#[test]
+fn keeps_to_the_grammar_of_show(rt: HostRuntime) -> Result<(), Fail> {
+    let rows = [
+        ("SHOW\n", "SHOW\nx\n", false),
+        ("SHOW\n", "SHOW\n\n", false),
+        ("SHOW\n", "show\n", false),
+        ("SHOW\n", "", false),
+        ("END\n", "END", false),
+    ];
+    check_changes(&rt, rt.alloc(), SHOW, &rows)?;
+    Ok(())
+}
+
+#[test]
+fn keeps_to_the_grammar_of_tick(rt: HostRuntime) -> Result<(), Fail> {
+    let rows = [
+        ("TICK 100", "TICK 0", true),
+        ("TICK 100", "TICK 999999999999", true),
+        ("TICK 100", "TICK 1000000000000", false),
+        ("TICK 100", "TICK 0100", false),
+        ("TICK 100", "TICK 00", false),
+        ("TICK 100", "TICK -1", false),
+        ("TICK 100", "TICK 1e2", false),
+        ("TICK 100", "TICK 100 ", false),
+        ("TICK 100", "TICK  100", false),
+        ("TICK 100", "TICK100", false),
+        ("TICK 100", "TICK ", false),
+        ("TICK 100", "TICK", false),
+        ("TICK 100", "tick 100", false),
+        ("TICK 100\n", "TICK 100\nx\n", false),
+        ("TICK 100\n", "TICK 100\n\n", false),
+    ];
+    check_changes(&rt, rt.alloc(), TICK, &rows)?;
+    Ok(())
+}
+
+#[test]
+fn counts_lines_and_bytes(rt: HostRuntime) -> Result<(), Fail> {
+    let alloc = rt.alloc();
+    for (count, want) in [(0, false), (1, true), (7, true), (8, false)] {
+        let seats = "SEAT england eeeeeeee\n".repeat(alloc, count)?;
+        assert!(rt;
+            is_read(alloc, CREATE, SEATS, seats.as_str())? == want,
+            "{count} seats"
+        );
+    }
+    for (count, want) in [(0, false), (1, true), (64, true), (65, false)] {
+        let lines = "A lvp H\n".repeat(alloc, count)?;
+        assert!(rt;
+            is_read(alloc, ORDERS, "F lon - nth\nA lvp H\n", lines.as_str())? == want,
+            "{count} lines"
+        );
+    }
+    for (count, want) in [(0, false), (1, true), (100, true), (101, false)] {
+        let line = "x".repeat(alloc, count)?;
+        assert!(rt;
+            is_read(alloc, ORDERS, "A lvp H", line.as_str())? == want,
+            "{count} bytes"
+        );
+    }
+    for (count, want) in [(7, false), (8, true), (64, true), (65, false)] {
+        let secret = "s".repeat(alloc, count)?;
+        assert!(rt;
+            is_read(alloc, SHOW, "eeeeeeee", secret.as_str())? == want,
+            "{count} of a secret"
+        );
+        assert!(rt; is_secret(secret.as_str()) == want);
+        assert!(rt;
+            is_read(alloc, CREATE, "eeeeeeee", secret.as_str())? == want,
+            "{count} of a seat's"
+        );
+    }
+    Ok(())
+}
+
+#[test]
+fn reads_greatest_numbers(rt: HostRuntime) -> Result<(), Fail> {
+    let text = CREATE.replace(rt.alloc(), "NUMBER 7", "NUMBER 999999999")?;
+    let text = text.as_str().replace(
+        rt.alloc(),
+        "DUE 5 PERIOD 10 GREY YES",
+        "DUE 999999999999 PERIOD 999999 GREY NO",
+    )?;
+    let Next::Taken(letter, _) = next_letter(text.as_str().as_bytes()) else {
+        return Err(Fail::from("no letter"));
+    };
+    let Command::Master(MasterCommand::Create(opening)) = letter.command else {
+        return Err(Fail::from("no CREATE"));
+    };
+    assert!(rt; letter.number == 999999999);
+    assert!(rt; opening.due == 999999999999 && opening.period == 999999 && !opening.grey);
+    Ok(())
+}
+
+#[test]
+fn goes_on_behind_what_it_read(rt: HostRuntime) -> Result<(), Fail> {
+    let alloc = rt.alloc();
+    let two = format!(in alloc; "\n\n{SHOW}\n\n\n{ORDERS}and more")?;
+    let Next::Taken(first, rest) = next_letter(two.as_str().as_bytes()) else {
+        return Err(Fail::from("no first letter"));
+    };
+    assert_eq!(rt; first.bytes, SHOW.as_bytes());
+    let Next::Taken(second, rest) = next_letter(rest) else {
+        return Err(Fail::from("no second letter"));
+    };
+    assert_eq!(rt; second.bytes, ORDERS.as_bytes());
+    assert_eq!(rt; rest, b"and more".as_slice());
+    Ok(())
+}
+
+#[test]
+fn goes_on_behind_a_line_end(rt: HostRuntime) -> Result<(), Fail> {
+    let again = format!(in rt.alloc(); "x\n\nEND \n END\nEND\n{SHOW}")?;
+    for (text, want, left) in [
+        ("", "end", 0),
+        ("\n", "end", 0),
+        ("\n\n\n", "end", 0),
+        ("and more", "L1", 0),
+        ("LETTER\nGAME g1\n", "L1", 0),
+        ("END\nEND\n", "L1", 4),
+        ("\n\nEND\n", "L1", 0),
+        ("END", "L1", 0),
+        (again.as_str(), "L1", SHOW.len()),
+    ] {
+        let (word, rest) = verdict(text.as_bytes());
+        assert!(rt; word == want && rest == left, "{text}");
+    }
+    Ok(())
+}
+
+#[test]
+fn knows_long_letters(rt: HostRuntime) -> Result<(), Fail> {
+    let alloc = rt.alloc();
+    for (fill, ending, want, left) in [
+        (16379, "\nEND\n", "L1", 0),
+        (16380, "\nEND\n", "L5", 0),
+        (16384, "", "L1", 0),
+        (16385, "", "L5", 0),
+        (16380, "\nEND", "L1", 0),
+        (16381, "\nEND", "L5", 0),
+    ] {
+        let front = "x".repeat(alloc, fill)?;
+        let front = front.as_str();
+        let text = format!(in alloc; "\n\n{front}{ending}")?;
+        let (word, rest) = verdict(text.as_str().as_bytes());
+        assert!(rt; word == want && rest == left, "{fill}");
+    }
+    let front = "x".repeat(alloc, 16380)?;
+    let front = front.as_str();
+    let text = format!(in alloc; "{front}\nEND\n{SHOW}")?;
+    let Next::Fault(LetterFault::TooLong, rest) = next_letter(text.as_str().as_bytes()) else {
+        return Err(Fail::from("no L5"));
+    };
+    assert!(rt; verdict(rest).0 == "letter");
+    Ok(())
+}
+
+/// SHA-256 of `g1`, LF, `england`, LF, `eeeeeeee`.
+const DIGEST: [u8; 32] = [
+    0xe6, 0x47, 0xdc, 0xeb, 0x7d, 0xfc, 0x65, 0x9b, 0x5d, 0xf8, 0xfc, 0x80, 0xd1, 0xbd, 0xd6, 0x28,
+    0xc3, 0x55, 0xe9, 0xfc, 0x5c, 0x87, 0xef, 0x04, 0xa9, 0x5a, 0x72, 0xae, 0xe2, 0xd7, 0xf1, 0x41,
+];
+
+#[test]
+fn knows_a_digest(rt: HostRuntime) {
+    assert!(rt; digest("g1", "england", "eeeeeeee") == DIGEST);
+}
+
+/// The SHA-256 of `abc`, as FIPS 180-4's examples give it.
+const SUM_OF_ABC: [u8; 32] = [
+    0xba, 0x78, 0x16, 0xbf, 0x8f, 0x01, 0xcf, 0xea, 0x41, 0x41, 0x40, 0xde, 0x5d, 0xae, 0x22, 0x23,
+    0xb0, 0x03, 0x61, 0xa3, 0x96, 0x17, 0x7a, 0x9c, 0xb4, 0x10, 0xff, 0x61, 0xf2, 0x00, 0x15, 0xad,
+];
+
+#[test]
+fn knows_a_sum(rt: HostRuntime) {
+    assert!(rt; sum(b"abc".as_slice()) == SUM_OF_ABC);
+}

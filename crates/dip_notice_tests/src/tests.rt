@@ -1,0 +1,5 @@
+//! Votes, notices, seats and refusals by letters.
+mod notices;
+mod refusals;
+mod seats;
+mod votes;

@@ -1,0 +1,4 @@
+//! Games by letters.
+mod playing;
+mod playing_to_a_win;
+mod playing_to_the_end;

@@ -1,0 +1,254 @@
+//! Press: who has it, how often, and whom it may name.
+use dip_exchanges::{check_exchange, opened, opened_without_grey};
+use dip_map::{Map, STANDARD};
+use std::test::Fail;
+
+/// The same letter twice is one item; an older number, and another text under the number.
+const TWICE: &str = "= england 3
+PRESS WHITE TO france
+> Hello.
+END
+< REPLY g1 england 3
+< OK press
+< END
+= england 3
+PRESS WHITE TO france
+> Hello.
+END
+< REPLY g1 england 3
+< OK press
+< END
+= france 1
+INBOX 1
+END
+< REPLY g1 france 1
+< INBOX 1
+< ITEM 1 white from england to france
+< > Hello.
+< END
+= england 2
+SHOW
+END
+< REPLY g1 england 2
+< L3 stale number, last is 3
+< END
+= england 3
+PRESS WHITE TO france
+> Hullo.
+END
+< REPLY g1 england 3
+< L4 number 3 used by another letter
+< END
+= england 4
+SHOW
+END
+< REPLY g1 england 4
+< GAME g1 S1901M running DUE 100 PERIOD 100 GREY YES PAPERS 1
+< BOARD
+< VOTE NO
+< SENT 1 INBOX 0
+< END
+= france 2
+INBOX 1
+END
+< REPLY g1 france 2
+< INBOX 1
+< ITEM 1 white from england to france
+< > Hello.
+< END
+";
+
+#[test]
+fn press_that_comes_twice_is_one_item(rt: HostRuntime) -> Result<(), Fail> {
+    let alloc = rt.alloc();
+    let map = Map::from_toml(alloc, STANDARD)?;
+    let mut keeper = opened(alloc, &map)?;
+    Ok(check_exchange(alloc, &mut keeper, &map, TWICE)?)
+}
+
+/// White and grey press to some and to all, whose lines have marks, words of letters and nothing in them.
+const SENT: &str = "= england 1
+PRESS WHITE TO all
+> To all of you:
+> \n> > quoted
+> END
+END
+< REPLY g1 england 1
+< OK press
+< END
+= england 2
+PRESS GREY TO all
+> Who knows?
+END
+< REPLY g1 england 2
+< OK press
+< END
+= england 3
+PRESS WHITE TO turkey austria
+> You two.
+END
+< REPLY g1 england 3
+< OK press
+< END
+= england 4
+PRESS GREY TO france germany italy russia
+> You four.
+END
+< REPLY g1 england 4
+< OK press
+< END
+= england 5
+SHOW
+END
+< REPLY g1 england 5
+< GAME g1 S1901M running DUE 100 PERIOD 100 GREY YES PAPERS 1
+< BOARD
+< VOTE NO
+< SENT 4 INBOX 0
+< END
+= england 6
+INBOX 1
+END
+< REPLY g1 england 6
+< INBOX 0
+< END
+";
+
+/// What each of the others has of the first two letters.
+const FOR_ALL: &str = "< ITEM 1 white from england to all
+< > To all of you:
+< > \n< > > quoted
+< > END
+< ITEM 2 grey to all
+< > Who knows?
+";
+
+const TO_TWO: &str = "< ITEM 3 white from england to turkey austria
+< > You two.
+";
+
+const TO_FOUR: &str = "< ITEM 3 grey to you
+< > You four.
+";
+
+/// Press to all counts once as sent; each other power has it, and its writer hasn't.
+#[test]
+fn press_to_all_comes_to_each_other_power(rt: HostRuntime) -> Result<(), Fail> {
+    let alloc = rt.alloc();
+    let map = Map::from_toml(alloc, STANDARD)?;
+    let mut keeper = opened(alloc, &map)?;
+    check_exchange(alloc, &mut keeper, &map, SENT)?;
+    for (power, third) in [
+        ("austria", TO_TWO),
+        ("france", TO_FOUR),
+        ("germany", TO_FOUR),
+        ("italy", TO_FOUR),
+        ("russia", TO_FOUR),
+        ("turkey", TO_TWO),
+    ] {
+        let exchange = format!(in alloc;
+            "= {power} 1\nINBOX 1\nEND\n< REPLY g1 {power} 1\n< INBOX 3\n{FOR_ALL}{third}< END\n"
+        )?;
+        check_exchange(alloc, &mut keeper, &map, exchange.as_str())?;
+    }
+    Ok(())
+}
+
+/// Addressees that can't stand so, in letters that are numbered and kept.
+const MISNAMED: [&str; 10] = [
+    "all france",
+    "france all",
+    "all all",
+    "england",
+    "france england",
+    "france france",
+    "france italy france",
+    "spain",
+    "france spain",
+    "master",
+];
+
+/// Nothing of it was sent.
+const NOTHING: &str = "= england 11
+SHOW
+END
+< REPLY g1 england 11
+< SHOWN
+< END
+= france 1
+INBOX 1
+END
+< REPLY g1 france 1
+< INBOX 0
+< END
+= italy 1
+INBOX 1
+END
+< REPLY g1 italy 1
+< INBOX 0
+< END
+";
+
+#[test]
+fn addressees_are_other_powers_each_once(rt: HostRuntime) -> Result<(), Fail> {
+    let alloc = rt.alloc();
+    let map = Map::from_toml(alloc, STANDARD)?;
+    let mut keeper = opened(alloc, &map)?;
+    for (place, named) in MISNAMED.iter().enumerate() {
+        let number = place + 1;
+        let exchange = format!(in alloc;
+            "= england {number}\nPRESS WHITE TO {named}\n> Hello.\nEND\n< REPLY g1 england {number}\n< L1 malformed letter\n< END\n"
+        )?;
+        check_exchange(alloc, &mut keeper, &map, exchange.as_str())?;
+    }
+    Ok(check_exchange(alloc, &mut keeper, &map, NOTHING)?)
+}
+
+/// Where a game has no grey press, white press is sent all the same.
+const WHITE_ALONE: &str = "= england 1
+PRESS GREY TO france
+> Trust nobody.
+END
+< REPLY g1 england 1
+< L7 no grey press here
+< END
+= england 2
+PRESS GREY TO all
+> Trust nobody.
+END
+< REPLY g1 england 2
+< L7 no grey press here
+< END
+= england 3
+PRESS WHITE TO france
+> Trust nobody.
+END
+< REPLY g1 england 3
+< OK press
+< END
+= england 4
+SHOW
+END
+< REPLY g1 england 4
+< GAME g1 S1901M running DUE 100 PERIOD 100 GREY NO PAPERS 1
+< BOARD
+< VOTE NO
+< SENT 1 INBOX 0
+< END
+= france 1
+INBOX 1
+END
+< REPLY g1 france 1
+< INBOX 1
+< ITEM 1 white from england to france
+< > Trust nobody.
+< END
+";
+
+#[test]
+fn grey_press_is_sent_where_the_game_has_it(rt: HostRuntime) -> Result<(), Fail> {
+    let alloc = rt.alloc();
+    let map = Map::from_toml(alloc, STANDARD)?;
+    let mut keeper = opened_without_grey(alloc, &map)?;
+    Ok(check_exchange(alloc, &mut keeper, &map, WHITE_ALONE)?)
+}

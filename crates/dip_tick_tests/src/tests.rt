@@ -1,0 +1,3 @@
+//! Ticks by letters.
+mod reading;
+mod ticks;

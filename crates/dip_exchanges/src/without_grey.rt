@@ -1,8 +1,8 @@
 //! A game without grey press.
-use dip_desk::MemoryKeeper;
 use crate::desks::desk;
 use crate::exchanges::check_exchange;
 use crate::mismatch::Mismatch;
+use dip_desk::MemoryKeeper;
 use dip_map::Map;
 use std::alloc::Global;
 

@@ -1,4 +1,5 @@
 //! Games by letters.
 mod playing;
+mod playing_to_a_draw;
 mod playing_to_a_win;
 mod playing_to_the_end;

@@ -154,6 +154,31 @@ fn press_to_all_comes_to_each_other_power(rt: HostRuntime) -> Result<(), Fail> {
     Ok(())
 }
 
+/// Grey press that names the six others tells each of them no more than that it is for it; `all` is told as `all`.
+const SIX_NAMED: &str = "= england 1
+PRESS GREY TO turkey russia italy germany france austria
+> You six.
+END
+< REPLY g1 england 1
+< OK press
+< END
+";
+
+#[test]
+fn grey_press_to_six_names_is_to_each_of_them(rt: HostRuntime) -> Result<(), Fail> {
+    let alloc = rt.alloc();
+    let map = Map::from_toml(alloc, STANDARD)?;
+    let mut keeper = opened(alloc, &map)?;
+    check_exchange(alloc, &mut keeper, &map, SIX_NAMED)?;
+    for power in ["austria", "france", "germany", "italy", "russia", "turkey"] {
+        let exchange = format!(in alloc;
+            "= {power} 1\nINBOX 1\nEND\n< REPLY g1 {power} 1\n< INBOX 1\n< ITEM 1 grey to you\n< > You six.\n< END\n"
+        )?;
+        check_exchange(alloc, &mut keeper, &map, exchange.as_str())?;
+    }
+    Ok(())
+}
+
 /// Addressees that can't stand so, in letters that are numbered and kept.
 const MISNAMED: [&str; 10] = [
     "all france",

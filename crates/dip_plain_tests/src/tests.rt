@@ -1,6 +1,5 @@
 //! Movements compared and worked by hand.
 mod compare;
-mod dice;
 mod draws;
 mod generated;
 mod land;

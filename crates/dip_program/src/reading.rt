@@ -2,6 +2,7 @@
 ghost use Rattle.std.specs.Prelude.{IfOk, IsErrOf};
 ghost use Rattle.dip_program.specs.Reading.{IsLonger, IsReadWithin};
 
+use dip_streams::read_some;
 use std::alloc::Global;
 use std::error::Error;
 use std::fmt;
@@ -10,7 +11,7 @@ use std::io::Read;
 /// Why what a reader has can't be had.
 #[derive(Clone, Copy, Debug, PartialEq, Eq)]
 pub enum ReadFault {
-    /// The reader failed.
+    /// The reader failed, otherwise than by a signal that interrupts it.
     Read,
     /// It has more bytes than the limit.
     TooLong,
@@ -44,7 +45,7 @@ pub fn read_whole<R: Read>(alloc: Global, reader: &mut R, most: usize) -> Result
     let mut input = Vec::new(alloc);
     let mut buffer = [0u8; 65536];
     'reading: while input.len() <= most {
-        match reader.read(&mut buffer) {
+        match read_some(reader, &mut buffer) {
             Err(_) => return Err(ReadFault::Read),
             Ok(0) => return Ok(input),
             Ok(n) => match input.extend_from_slice(&buffer[..n]) {

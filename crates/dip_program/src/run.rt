@@ -17,6 +17,7 @@ use dip_machine::{KeepFault, lawful_states_stay_lawful, published_movements_are_
 use dip_map::Map;
 use dip_records::Reply;
 use dip_reports::{reply_pieces, reply_text};
+use dip_streams::write_text;
 use itoa::Buffer;
 use std::alloc::Global;
 use std::error::Error;
@@ -29,11 +30,11 @@ pub const MOST_INPUT: usize = 16_777_216;
 /// Why a run ended early.
 #[derive(Clone, Copy, Debug, PartialEq, Eq)]
 pub enum RunFault {
-    /// The reader failed; no letter was taken.
+    /// The reader failed, otherwise than by a signal that interrupts it; no letter was taken.
     Read,
     /// The input has more than `MOST_INPUT` bytes; no letter was taken.
     TooLong,
-    /// The writer failed; what was taken stays taken.
+    /// The writer failed, otherwise than by a signal that interrupts it; what was taken stays taken.
     Write,
     /// Memory ran out, either for the input, and then no letter was taken, or between two letters.
     Memory,
@@ -85,22 +86,17 @@ fn read_input<R: Read>(alloc: Global, reader: &mut R) -> Result<Vec<u8>, RunFaul
 }
 
 /// Writes all of a text, or a beginning of it.
-fn write_text<W: Write>(writer: &mut W, text: &[u8]) -> Result<(), RunFault>
+fn write_piece<W: Write>(writer: &mut W, text: &[u8]) -> Result<(), RunFault>
     ensures ok { OnOk result (Appends (W.contents writer.old) (W.contents writer.new) text.now) }
     ensures err { OnErr result
         ((size : ℕ)
         × Appends (W.contents writer.old) (W.contents writer.new) (first size text.now)) }
     ensures fault { IfErr result (λ f. f ≡ RunFault.Write) }
 {
-    let mut at = 0;
-    'writing: while at < text.len() {
-        match writer.write(&text[at..]) {
-            Err(_) => return Err(RunFault::Write),
-            Ok(0) => return Err(RunFault::Write),
-            Ok(n) => at += n,
-        }
+    match write_text(writer, text) {
+        Ok(()) => Ok(()),
+        Err(_) => Err(RunFault::Write),
     }
-    Ok(())
 }
 
 /// Writes texts one behind the other, or a beginning of them.
@@ -112,7 +108,7 @@ fn write_texts<W: Write>(writer: &mut W, texts: &[&str]) -> Result<(), RunFault>
     ensures fault { IfErr result (λ f. f ≡ RunFault.Write) }
 {
     'texts: for text in texts {
-        write_text(writer, text.as_bytes())?;
+        write_piece(writer, text.as_bytes())?;
     }
     Ok(())
 }
@@ -138,7 +134,7 @@ fn write_reply<W: Write>(alloc: Global, writer: &mut W, reply: &Reply) -> Result
     ensures fault { IfErr result (λ f. f ≡ RunFault.Write) }
 {
     match reply_text(alloc, reply) {
-        Ok(text) => write_text(writer, text.as_bytes()),
+        Ok(text) => write_piece(writer, text.as_bytes()),
         Err(_) => write_pieces(writer, reply),
     }
 }

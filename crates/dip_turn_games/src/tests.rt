@@ -1,5 +1,4 @@
 //! Phases, by whole games.
 mod compare;
-mod dice;
 mod draws;
 mod games;

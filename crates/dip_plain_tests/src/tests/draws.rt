@@ -1,7 +1,7 @@
 //! Orders by chance, of units that stand close together and get in each other's way.
-use super::dice::Dice;
 use super::rings::{draw_ring, draw_siege};
 use super::steps::{draw_step, is_at_sea, is_coastal, placed_on, step_to};
+use dip_dice::Dice;
 use dip_map::Map;
 use dip_names::{Kind, Place, Prov, Unit};
 use dip_orders::{Order, Other, PlacedOrder};

@@ -1,8 +1,8 @@
 //! Boards by chance.
-use super::dice::Dice;
 use super::draws::{Recipe, draw_orders};
 use super::steps::sites_of;
 use super::tallies::{Tally, compare_orders};
+use dip_dice::Dice;
 use dip_map::{Map, STANDARD};
 use dip_names::Unit;
 use dip_plain::PlainFault;

@@ -1,6 +1,6 @@
 //! Units that stand so that a circle or a knot may come of it.
-use super::dice::Dice;
 use super::steps::{is_at_sea, is_coastal, placed_on, step_to};
+use dip_dice::Dice;
 use dip_map::Map;
 use dip_names::{Kind, Place, Unit};
 use dip_orders::{Order, Other, PlacedOrder};

@@ -1,6 +1,6 @@
 //! Sites, powers and steps, some of them by chance.
-use super::dice::Dice;
 use super::scenes::unit_of;
+use dip_dice::Dice;
 use dip_map::Map;
 use dip_names::{Kind, Place, Power, Prov, Terrain, Unit};
 use dip_orders::{Order, PlacedOrder};

@@ -1,10 +1,10 @@
 //! The boards of papers, each with some of its units and orders changed.
-use super::dice::Dice;
 use super::draws::redraw;
 use super::scenes::{board_in, orders_in};
 use super::steps::draw_power;
 use super::tallies::{Tally, compare_orders};
 use super::{land, sea};
+use dip_dice::Dice;
 use dip_map::{Map, STANDARD};
 use dip_names::Unit;
 use dip_orders::{Order, PlacedOrder};

@@ -1,18 +1,18 @@
-//! Numbers by chance, always the same ones.
+//! Dice.
 
 /// A linear congruential generator.
 #[derive(Drop)]
-pub(crate) struct Dice {
+pub struct Dice {
     state: u32,
 }
 
 impl Dice {
-    pub(crate) fn new(seed: u32) -> Dice {
+    pub fn new(seed: u32) -> Dice {
         Dice { state: seed }
     }
 
     /// A number below that of the sides, 0 where there are none.
-    pub(crate) fn roll(&mut self, sides: u32) -> u32 {
+    pub fn roll(&mut self, sides: u32) -> u32 {
         self.state = self
             .state
             .wrapping_mul(1_664_525)
@@ -21,12 +21,12 @@ impl Dice {
     }
 
     /// Whether a thing of that many in a hundred happens.
-    pub(crate) fn happens(&mut self, percent: u32) -> bool {
+    pub fn happens(&mut self, percent: u32) -> bool {
         self.roll(100) < percent
     }
 
     /// One of these.
-    pub(crate) fn pick<T: Copy>(&mut self, list: &[T]) -> Option<T> {
+    pub fn pick<T: Copy>(&mut self, list: &[T]) -> Option<T> {
         let sides = u32::try_from(list.len()).unwrap_or(0);
         let number = self.roll(sides);
         list.get(number as usize).copied()

@@ -1,0 +1,6 @@
+//! Whole inputs.
+mod answers;
+mod chance;
+mod letters;
+mod limits;
+mod pairs;

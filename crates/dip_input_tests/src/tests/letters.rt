@@ -1,0 +1,287 @@
+//! Letters by chance to games of the standard map.
+use dip_dice::Dice;
+use std::alloc::{AllocError, Global};
+
+/// Who writes, under which secret, and about which provinces.
+const AUTHORS: [(&str, &str, [&str; 8]); 8] = [
+    (
+        "austria",
+        "aaaaaaaa",
+        ["bud", "tri", "vie", "ser", "gal", "alb", "adr", "gre"],
+    ),
+    (
+        "england",
+        "eeeeeeee",
+        ["edi", "lon", "lvp", "nth", "eng", "yor", "nwy", "bel"],
+    ),
+    (
+        "france",
+        "ffffffff",
+        ["bre", "mar", "par", "bur", "pic", "spa/nc", "mao", "bel"],
+    ),
+    (
+        "germany",
+        "gggggggg",
+        ["ber", "kie", "mun", "hol", "ruh", "den", "bur", "bal"],
+    ),
+    (
+        "italy",
+        "iiiiiiii",
+        ["nap", "rom", "ven", "apu", "ion", "tun", "tri", "tys"],
+    ),
+    (
+        "russia",
+        "rrrrrrrr",
+        ["mos", "sev", "stp/sc", "war", "ukr", "bla", "rum", "bot"],
+    ),
+    (
+        "turkey",
+        "tttttttt",
+        ["ank", "con", "smy", "bla", "arm", "bul/ec", "aeg", "rum"],
+    ),
+    (
+        "master",
+        "master-key",
+        ["par", "lon", "vie", "mun", "rom", "mos", "con", "nth"],
+    ),
+];
+
+/// The first letters: two games.
+const OPENED: &str = "LETTER
+GAME g1
+FROM master
+SECRET master-key
+NUMBER 1
+CREATE DUE 100 PERIOD 100 GREY YES
+SEAT austria aaaaaaaa
+SEAT england eeeeeeee
+SEAT france ffffffff
+SEAT germany gggggggg
+SEAT italy iiiiiiii
+SEAT russia rrrrrrrr
+SEAT turkey tttttttt
+END
+LETTER
+GAME g2
+FROM master
+SECRET master-key
+NUMBER 2
+CREATE DUE 1 PERIOD 999999 GREY NO
+SEAT austria aaaaaaaa
+SEAT england eeeeeeee
+SEAT france ffffffff
+SEAT germany gggggggg
+SEAT italy iiiiiiii
+SEAT russia rrrrrrrr
+SEAT turkey tttttttt
+END
+";
+
+/// An input that is written letter by letter.
+#[derive(Drop)]
+pub(crate) struct Letters {
+    alloc: Global,
+    pub(crate) dice: Dice,
+    pub(crate) text: String,
+    /// How many replies it is to have.
+    pub(crate) count: usize,
+    last: String,
+    number: u32,
+}
+
+/// One letter that is to be written.
+#[derive(Clone, Copy, Drop)]
+pub(crate) struct Author {
+    pub(crate) game: &'static str,
+    pub(crate) name: &'static str,
+    secret: &'static str,
+    around: [&'static str; 8],
+    number: u32,
+}
+
+impl Letters {
+    /// Two games, and no letter of a power so far.
+    pub(crate) fn new(alloc: Global, seed: u32) -> Result<Letters, AllocError> {
+        Ok(Letters {
+            alloc,
+            dice: Dice::new(seed),
+            text: String::from_str(alloc, OPENED)?,
+            count: 2,
+            last: String::new(alloc),
+            number: 2,
+        })
+    }
+
+    /// An author by chance, with the next number and the right secret.
+    pub(crate) fn next_author(&mut self) -> Author {
+        self.number += 1;
+        let (name, secret, around) = self.dice.pick(&AUTHORS).unwrap_or(AUTHORS[0]);
+        let game = self.dice.pick(&["g1", "g1", "g1", "g2"]).unwrap_or("g1");
+        let number = self.number;
+        Author {
+            game,
+            name,
+            secret,
+            around,
+            number,
+        }
+    }
+
+    /// An author by chance, that may be a stranger, late, or in a game that isn't there.
+    pub(crate) fn any_author(&mut self) -> Author {
+        let mut author = self.next_author();
+        if self.dice.happens(3) {
+            author.secret = "another-secret";
+        }
+        if self.dice.happens(3) {
+            author.number = self.dice.roll(self.number);
+        }
+        if self.dice.roll(500) == 0 {
+            author.number = 999_999_999;
+        }
+        if self.dice.happens(2) {
+            author.game = "g3";
+        }
+        author
+    }
+
+    /// Appends a letter of this author with this command.
+    pub(crate) fn push(&mut self, author: Author, command: &str) -> Result<(), AllocError> {
+        let Author {
+            game,
+            name,
+            secret,
+            number,
+            ..
+        } = author;
+        self.last = format!(in self.alloc;
+            "LETTER\nGAME {game}\nFROM {name}\nSECRET {secret}\nNUMBER {number}\n{command}END\n"
+        )?;
+        self.again()
+    }
+
+    /// Appends the last letter once more.
+    pub(crate) fn again(&mut self) -> Result<(), AllocError> {
+        self.count += 1;
+        self.text.push_str(self.last.as_str())
+    }
+
+    /// One of the provinces about which an author writes, or any other's.
+    fn code(&mut self, author: Author) -> &'static str {
+        self.dice.pick(&author.around).unwrap_or("par")
+    }
+
+    fn kind(&mut self) -> &'static str {
+        self.dice.pick(&["A", "A", "F", "f"]).unwrap_or("A")
+    }
+
+    /// A line of an order, which may be none.
+    fn order(&mut self, author: Author) -> Result<String, AllocError> {
+        let alloc = self.alloc;
+        let (kind, from, to) = (self.kind(), self.code(author), self.code(author));
+        let other = self.code(author);
+        match self.dice.roll(12) {
+            0 => format!(in alloc; "{kind} {from} H\n"),
+            1 => format!(in alloc; "{kind} {from} S A {other}\n"),
+            2 => format!(in alloc; "{kind} {from} S A {other} - {to}\n"),
+            3 => format!(in alloc; "F {from} C A {other} - {to}\n"),
+            4 => format!(in alloc; "A {from} - {to} VIA\n"),
+            5 => format!(in alloc; "BUILD {kind} {from}\n"),
+            6 => format!(in alloc; "REMOVE {kind} {from}\n"),
+            7 => format!(in alloc; "{kind} {from} R {to}\n"),
+            8 => format!(in alloc; "{kind} {from} D\n"),
+            _ => format!(in alloc; "{kind} {from} - {to}\n"),
+        }
+    }
+
+    /// A letter of orders.
+    pub(crate) fn orders(&mut self, author: Author) -> Result<String, AllocError> {
+        let mut command = String::from_str(self.alloc, "ORDERS\n")?;
+        for _ in 0..self.dice.roll(6) + 1 {
+            let line = self.order(author)?;
+            command.push_str(line.as_str())?;
+        }
+        Ok(command)
+    }
+
+    /// White or grey press.
+    pub(crate) fn press(&mut self) -> Result<String, AllocError> {
+        let colour = self.dice.pick(&["WHITE", "GREY"]).unwrap_or("GREY");
+        let readers = self
+            .dice
+            .pick(&[
+                "all",
+                "england",
+                "turkey france",
+                "england italy russia",
+                "all italy",
+                "spain",
+            ])
+            .unwrap_or("all");
+        let alloc = self.alloc;
+        let number = self.number;
+        format!(in alloc; "PRESS {colour} TO {readers}\n> Letter {number}.\n")
+    }
+
+    /// What a power asks for, that isn't press.
+    pub(crate) fn quiet(&mut self, author: Author) -> Result<String, AllocError> {
+        let alloc = self.alloc;
+        match self.dice.roll(10) {
+            0 => String::from_str(alloc, "SHOW\n"),
+            1 => String::from_str(alloc, "WITHDRAW\n"),
+            2 => String::from_str(alloc, "VOTE YES\n"),
+            3 => String::from_str(alloc, "VOTE NO\n"),
+            4 => String::from_str(alloc, "INBOX 1\n"),
+            5 => String::from_str(alloc, "INBOX 999999\n"),
+            _ => self.orders(author),
+        }
+    }
+
+    /// What the master asks for.
+    fn masterly(&mut self) -> Result<String, AllocError> {
+        let alloc = self.alloc;
+        let number = self.number;
+        match self.dice.roll(14) {
+            0 => String::from_str(alloc, "PAUSE\n"),
+            1 | 2 => String::from_str(alloc, "RESUME\n"),
+            3 => format!(in alloc; "PERIOD {number}\n"),
+            4 => format!(in alloc; "ANNOUNCE\n> Number {number}.\n"),
+            5 => String::from_str(alloc, "REPLACE france ffffffff\n"),
+            6 => String::from_str(alloc, "REPLACE spain ffffffff\n"),
+            7 => String::from_str(
+                alloc,
+                "CREATE DUE 0 PERIOD 1 GREY NO\nSEAT france ffffffff\n",
+            ),
+            8 => String::from_str(alloc, "TICK 0\n"),
+            _ => format!(in alloc; "TICK {number}00\n"),
+        }
+    }
+
+    /// Any command, of the master's mostly where it writes.
+    pub(crate) fn command(&mut self, author: Author) -> Result<String, AllocError> {
+        let is_master = author.name == "master";
+        if is_master != self.dice.happens(4) {
+            return self.masterly();
+        }
+        if self.dice.happens(25) {
+            self.press()
+        } else {
+            self.quiet(author)
+        }
+    }
+
+    /// Appends bytes that are no letter.
+    pub(crate) fn push_garbage(&mut self) -> Result<(), AllocError> {
+        let garbage = self
+            .dice
+            .pick(&[
+                "END\n",
+                "LETTER\nGAME g1\nEND\n",
+                "letter\n\nEND\n",
+                "\n\nSHOW\nEND\n",
+            ])
+            .unwrap_or("END\n");
+        self.count += 1;
+        self.text.push_str(garbage)
+    }
+}

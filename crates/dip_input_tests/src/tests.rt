@@ -4,3 +4,5 @@ mod chance;
 mod letters;
 mod limits;
 mod pairs;
+mod streams;
+mod widest;

@@ -1,0 +1,133 @@
+//! Readers and writers that never fail, though signals interrupt them: a run over them ends well.
+use super::answers::answers;
+use super::letters::Letters;
+use dip_desk::MemoryKeeper;
+use dip_letters::digest;
+use dip_map::{Map, STANDARD};
+use dip_program::run_file;
+use std::alloc::Global;
+use std::io;
+use std::io::{ErrorKind, Read, Write};
+use std::process::Abort;
+use std::test::Fail;
+
+/// A signal before each call.
+#[derive(Drop)]
+struct Signals {
+    is_next: bool,
+}
+
+impl Signals {
+    fn pass(&mut self) -> io::Result<()> {
+        self.is_next = !self.is_next;
+        if self.is_next {
+            Err(ErrorKind::Interrupted.into())
+        } else {
+            Ok(())
+        }
+    }
+}
+
+/// A reader of some bytes, at most so many a call.
+#[derive(Drop)]
+struct Source<'a> {
+    signals: Signals,
+    bytes: &'a [u8],
+    step: usize,
+}
+
+impl Read for Source<'_> {
+    fn read(&mut self, buf: &mut [u8]) -> io::Result<usize> {
+        self.signals.pass()?;
+        let count = buf.len().min(self.step).min(self.bytes.len());
+        buf[..count].copy_from_slice(&self.bytes[..count]);
+        self.bytes = &self.bytes[count..];
+        Ok(count)
+    }
+}
+
+/// A writer of at most so many bytes a call.
+#[derive(Drop)]
+struct Sheet {
+    signals: Signals,
+    bytes: Vec<u8>,
+    step: usize,
+}
+
+impl Write for Sheet {
+    fn write(&mut self, buf: &[u8]) -> io::Result<usize> {
+        self.signals.pass()?;
+        let count = buf.len().min(self.step);
+        self.bytes.extend_from_slice(&buf[..count])?;
+        Ok(count)
+    }
+
+    fn flush(&mut self) -> io::Result<()> {
+        Ok(())
+    }
+}
+
+/// Asserts that an input read and answered so many bytes a call has these answers.
+fn assert_answers(
+    rt: &impl Abort,
+    alloc: Global,
+    map: &Map,
+    input: &[u8],
+    step: usize,
+    expected: &[u8],
+) {
+    let mut reader = Source {
+        signals: Signals { is_next: false },
+        bytes: input,
+        step,
+    };
+    let mut writer = Sheet {
+        signals: Signals { is_next: false },
+        bytes: Vec::new(alloc),
+        step,
+    };
+    let mut keeper = MemoryKeeper::new(alloc, digest("desk", "master", "master-key"));
+    let outcome = run_file(alloc, &mut reader, &mut writer, &mut keeper, map);
+    assert!(rt; outcome == Ok(()));
+    assert!(rt; writer.bytes.as_slice() == expected);
+}
+
+#[test]
+fn signals_end_no_run(rt: HostRuntime) -> Result<(), Fail> {
+    let alloc = rt.alloc();
+    let map = Map::from_toml(alloc, STANDARD)?;
+    let mut letters = Letters::new(alloc, 1)?;
+    for _ in 0..50 {
+        let author = letters.any_author();
+        let command = letters.command(author)?;
+        letters.push(author, command.as_str())?;
+    }
+    let input = letters.text.as_str();
+    let expected = answers(alloc, &map, input)?;
+    for step in [1, 3, 4096, 100_000] {
+        assert_answers(
+            &rt,
+            alloc,
+            &map,
+            input.as_bytes(),
+            step,
+            expected.as_bytes(),
+        );
+    }
+    Ok(())
+}
+
+#[test]
+fn inputs_of_all_sizes_are_read(rt: HostRuntime) -> Result<(), Fail> {
+    let alloc = rt.alloc();
+    let map = Map::from_toml(alloc, STANDARD)?;
+    let mut input = Vec::new(alloc);
+    input.resize(1_000_003, b'\n')?;
+    for size in [0, 1, 100, 65_535, 65_536, 65_537, 131_072, 1_000_003] {
+        for step in [4093, 65_536, 100_000] {
+            let front = &input.as_slice()[..size.min(input.len())];
+            assert_answers(&rt, alloc, &map, front, step, b"".as_slice());
+        }
+    }
+    Ok(())
+}

@@ -1,0 +1,5 @@
+pub mod ListLemmas
+pub mod OrderLemmas
+pub mod EquationLemmas
+pub mod PlayLemmas
+pub mod ConvoyLemmas

@@ -1,0 +1,9 @@
+//! Laws of movement in a player's words: of units, provinces, powers, the orders as they were given, and what came of them.
+#![tactic(auto)]
+
+mod laws;
+
+pub use laws::{
+    dislodged_by_others_alone, dislodged_fleets_carry_nobody, dislodged_give_no_support,
+    explained_is_decided, losers_prevent_nobody, no_power_cuts_its_own, units_without_moves_stay,
+};

@@ -3,3 +3,4 @@ pub mod OrderLemmas
 pub mod EquationLemmas
 pub mod PlayLemmas
 pub mod ConvoyLemmas
+pub mod HoldLemmas

@@ -1,5 +1,5 @@
 -- The laws of movement in a player's words, as statements.
-use Rattle.std.specs.Prelude.{◌≡◌, ◌≢◌, ℕ, ◌<◌, ◌≤◌, ◌⊎◌, Bool, true, false, Contains, List, [], ◌∷◌, length}
+use Rattle.std.specs.Prelude.{◌≡◌, ◌≢◌, ℕ, ◌<◌, ◌≤◌, ◌⊎◌, ◌↔◌, Bool, true, false, Contains, List, [], ◌∷◌, length}
 use Rattle.dip_names.specs.declared.names.Kind.TheVariants.{Army, Fleet}
 use Rattle.dip_names.specs.declared.names.Place.{Place}
 use Rattle.dip_names.specs.declared.names.Terrain.TheVariants.{Sea}
@@ -12,7 +12,7 @@ use Rattle.dip_decide.specs.Deciding.{Assignment, Step}
 use Rattle.dip_decide.specs.Laws.{AreOrders}
 use Rattle.dip_decide.specs.Matching.{situation}
 use Rattle.dip_decide.specs.Results.{AreExplained}
-use Rattle.dip_movement_laws.specs.Words.{IsDecided, prov, moves, goes_to, goes_itself, are_head_to_head, names, helps, is_support_into, has_moved, has_helped, was_carried, has_entered, was_dislodged_by, WasDislodged, helpers, helpers_but}
+use Rattle.dip_movement_laws.specs.Words.{IsDecided, prov, moves, goes_to, goes_itself, are_head_to_head, names, helps, is_support_into, has_moved, has_helped, was_carried, has_entered, was_dislodged_by, WasDislodged, helpers, helpers_but, holding, is_a_support, is_in, is_in_or_stays, without_help}
 
 -- what steps explain is a movement that was decided
 abbrev pub ExplainedIsDecided : Type 0
@@ -112,3 +112,19 @@ abbrev pub DislodgedFleetsCarryNobody : Type 0
 DislodgedFleetsCarryNobody =
     (m : Chart) (b : Position) (orders : List PlacedOrder) (a : Assignment) (o : PlacedOrder) (q : ℕ)
     → IsDecided m b orders a → Contains orders o → goes_itself m o ≡ false → has_entered a o q ≡ true → IsCarried m a orders o q
+
+-- a support that matches nothing that a unit does changes nothing: what comes of the orders comes of them where its unit holds
+abbrev pub UnmatchedChangesNothing : Type 0
+UnmatchedChangesNothing =
+    (m : Chart) (b : Position) (orders : List PlacedOrder) (a : Assignment) (h : PlacedOrder)
+    → AreOrders m b orders → Contains orders h → is_a_support h.order ≡ true
+    → ((o : PlacedOrder) → Contains orders o → helps h o ≡ false)
+    → IsDecided m b orders a ↔ IsDecided m b (holding (is_in (prov h)) orders) a
+
+-- a move by convoy without a path changes nothing: the same comes of the orders in which its unit holds, where nobody supports it to
+-- stay, but that no support is given to it
+abbrev pub PathlessChangesNothing : Type 0
+PathlessChangesNothing =
+    (m : Chart) (b : Position) (orders : List PlacedOrder) (a : Assignment) (o : PlacedOrder)
+    → IsDecided m b orders a → Contains orders o → goes_itself m o ≡ false → was_carried a o ≡ false
+    → IsDecided m b (holding (is_in_or_stays (prov o)) orders) (without_help orders o a)

@@ -1,5 +1,6 @@
 -- A movement in a player's words: units with their orders, and what came of them.
-use Rattle.std.specs.Prelude.{◌≡◌, ℕ, ◌==◌, ◌&&◌, not, Bool, true, false, Contains, List, map, count_by, if◌then◌else◌}
+use Rattle.std.specs.Prelude.{◌≡◌, ℕ, ◌==◌, ◌&&◌, ◌||◌, not, Bool, true, false, Contains, List, map, count_by, if◌then◌else◌}
+use Rattle.std.specs.List.{list_any}
 use Rattle.dip_names.specs.declared.names.Kind.{Kind}
 use Rattle.dip_names.specs.declared.names.Kind.TheVariants.{Army, Fleet}
 use Rattle.dip_names.specs.Kinds.{is_kind}
@@ -110,3 +111,38 @@ helpers a orders o = count_by (λ h. helps h o && has_helped a h) orders
 -- how many of them are of other powers than that one
 abbrev pub helpers_but : Assignment → List PlacedOrder → PlacedOrder → ℕ → ℕ
 helpers_but a orders o power = count_by (λ h. (helps h o && has_helped a h) && not (h.unit.power == power)) orders
+
+-- the orders, but each unit that passes holds
+abbrev pub held_if : (PlacedOrder → Bool) → PlacedOrder → PlacedOrder
+held_if test o = if test o then record { unit = o.unit; order = Hold } else o
+
+abbrev pub holding : (PlacedOrder → Bool) → List PlacedOrder → List PlacedOrder
+holding test orders = map (held_if test) orders
+
+-- the order is a support, of whatever it names
+abbrev pub is_a_support : Order → Bool
+is_a_support (SupportHold at) = true
+is_a_support (SupportMove at to) = true
+is_a_support _ = false
+
+-- the unit stands in that province
+abbrev pub is_in : ℕ → PlacedOrder → Bool
+is_in p o = prov o == p
+
+-- the order is to support a unit in that province where it stands
+abbrev pub is_stay_support : Order → ℕ → Bool
+is_stay_support (SupportHold at) p = at.prov == p
+is_stay_support _ p = false
+
+-- the unit stands in that province, or is ordered to support the one there to stay
+abbrev pub is_in_or_stays : ℕ → PlacedOrder → Bool
+is_in_or_stays p o = is_in p o || is_stay_support o.order p
+
+-- a unit in the first province is ordered to support what that unit does
+abbrev pub is_helped_from : List PlacedOrder → PlacedOrder → ℕ → Bool
+is_helped_from orders o h = list_any (λ w. is_in h w && helps w o) orders
+
+-- what came of the orders, but that no support was given to that unit
+abbrev pub without_help : List PlacedOrder → PlacedOrder → Assignment → Assignment
+without_help orders o a (Supports h) = a (Supports h) && not (is_helped_from orders o h)
+without_help orders o a d = a d

@@ -4,3 +4,6 @@ pub mod EquationLemmas
 pub mod PlayLemmas
 pub mod ConvoyLemmas
 pub mod HoldLemmas
+pub mod UnmatchedLemmas
+pub mod SilentLemmas
+pub mod PathlessLemmas

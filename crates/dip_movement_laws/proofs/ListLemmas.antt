@@ -64,3 +64,20 @@ count_map f g (x ∷ xs) = rw (sum_by-cons (λ y. cond (f y) 1 0) (g x) (map g x
 pub count_alike : {A : Type 0} (f g : A → Bool) (xs : List A) → ((x : A) → Contains xs x → f x ≡ g x) → count_by f xs ≡ count_by g xs
 count_alike f g [] h = refl
 count_alike f g (x ∷ xs) h = rw (sum_by-cons (λ y. cond (f y) 1 0) x xs, sum_by-cons (λ y. cond (g y) 1 0) x xs, h x (zero, omega arith, refl), count_alike f g xs (λ y c. h y (contains_more x xs y c))) refl
+
+pub count_none : {A : Type 0} (f : A → Bool) (xs : List A) → ((x : A) → f x ≡ false) → count_by f xs ≡ 0
+count_none f [] h = refl
+count_none f (x ∷ xs) h = rw (sum_by-cons (λ y. cond (f y) 1 0) x xs, h x, count_none f xs h) refl
+
+-- tests that say the same of each
+pub all_alike : (f g : ℕ → Bool) (ps : List ℕ) → ((p : ℕ) → f p ≡ g p) → list_all f ps ≡ list_all g ps
+all_alike f g [] h = refl
+all_alike f g (p ∷ ps) h = rw (h p, all_alike f g ps h) refl
+
+pub any_alike : (f g : ℕ → Bool) (ps : List ℕ) → ((p : ℕ) → f p ≡ g p) → list_any f ps ≡ list_any g ps
+any_alike f g [] h = refl
+any_alike f g (p ∷ ps) h = rw (h p, any_alike f g ps h) refl
+
+pub any_none : (f : ℕ → Bool) (ps : List ℕ) → ((p : ℕ) → f p ≡ false) → list_any f ps ≡ false
+any_none f [] h = refl
+any_none f (p ∷ ps) h = rw (h p, any_none f ps h) refl

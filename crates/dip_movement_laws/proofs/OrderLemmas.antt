@@ -164,7 +164,7 @@ module _ (m : Chart) (orders : List PlacedOrder) (single : are_units_single (uni
   thrice true y z = refl
   thrice false y z = refl
 
-  matches : (o : PlacedOrder) (r : Order) → Contains orders o → is_matched (order_at orders) r (prov o) ≡ is_support_of r o
+  pub matches : (o : PlacedOrder) (r : Order) → Contains orders o → is_matched (order_at orders) r (prov o) ≡ is_support_of r o
   matches o Hold c = refl
   matches o (Move to via) c = refl
   matches o (SupportHold at) c = rw (found orders o single c, some_is_move o.order) (thrice (at.prov == prov o) (is_kind o.unit.kind at.kind) (not (moves o)))

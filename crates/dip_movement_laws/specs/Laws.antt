@@ -8,11 +8,12 @@ use Rattle.dip_board.specs.Boards.{Position}
 use Rattle.dip_orders.specs.declared.placed.Other.{Other}
 use Rattle.dip_orders.specs.declared.placed.Order.TheVariants.{Convoy}
 use Rattle.dip_orders.specs.declared.placed.PlacedOrder.{PlacedOrder}
+use Rattle.dip_decide.specs.declared.decisions.Decision.TheVariants.{Move as Moves, Path as Paths}
 use Rattle.dip_decide.specs.Deciding.{Assignment, Step}
 use Rattle.dip_decide.specs.Laws.{AreOrders}
 use Rattle.dip_decide.specs.Matching.{situation}
 use Rattle.dip_decide.specs.Results.{AreExplained}
-use Rattle.dip_movement_laws.specs.Words.{IsDecided, prov, moves, goes_to, goes_itself, are_head_to_head, names, helps, is_support_into, has_moved, has_helped, was_carried, has_entered, was_dislodged_by, WasDislodged, helpers, helpers_but, holding, is_a_support, is_in, is_in_or_stays, without_help}
+use Rattle.dip_movement_laws.specs.Words.{IsDecided, prov, moves, goes_to, goes_itself, are_head_to_head, names, helps, is_support_into, has_moved, has_helped, was_carried, has_entered, was_dislodged_by, WasDislodged, helpers, helpers_but, holding, is_a_support, is_in, is_in_or_stays}
 
 -- what steps explain is a movement that was decided
 abbrev pub ExplainedIsDecided : Type 0
@@ -121,10 +122,15 @@ UnmatchedChangesNothing =
     → ((o : PlacedOrder) → Contains orders o → helps h o ≡ false)
     → IsDecided m b orders a ↔ IsDecided m b (holding (is_in (prov h)) orders) a
 
--- a move by convoy without a path changes nothing: the same comes of the orders in which its unit holds, where nobody supports it to
--- stay, but that no support is given to it
+-- what comes of orders is what came of others, but for the supports of that unit's move
+pub record IsTheSameBut (orders : List PlacedOrder) (o : PlacedOrder) (old new : Assignment) : Type 0 where
+  pub moved : (p : ℕ) → new (Moves p) ≡ old (Moves p)
+  pub carried : (p : ℕ) → new (Paths p) ≡ old (Paths p)
+  pub helped : (h : PlacedOrder) → Contains orders h → helps h o ≡ false → has_helped new h ≡ has_helped old h
+
+-- a move by convoy without a path changes nothing: the same comes of the orders in which its unit holds, and nobody supports it to stay
 abbrev pub PathlessChangesNothing : Type 0
 PathlessChangesNothing =
     (m : Chart) (b : Position) (orders : List PlacedOrder) (a : Assignment) (o : PlacedOrder)
     → IsDecided m b orders a → Contains orders o → goes_itself m o ≡ false → was_carried a o ≡ false
-    → IsDecided m b (holding (is_in_or_stays (prov o)) orders) (without_help orders o a)
+    → (new : Assignment) × IsDecided m b (holding (is_in_or_stays (prov o)) orders) new × IsTheSameBut orders o a new

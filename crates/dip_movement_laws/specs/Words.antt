@@ -1,6 +1,5 @@
 -- A movement in a player's words: units with their orders, and what came of them.
 use Rattle.std.specs.Prelude.{◌≡◌, ℕ, ◌==◌, ◌&&◌, ◌||◌, not, Bool, true, false, Contains, List, map, count_by, if◌then◌else◌}
-use Rattle.std.specs.List.{list_any}
 use Rattle.dip_names.specs.declared.names.Kind.{Kind}
 use Rattle.dip_names.specs.declared.names.Kind.TheVariants.{Army, Fleet}
 use Rattle.dip_names.specs.Kinds.{is_kind}
@@ -137,12 +136,3 @@ is_stay_support _ p = false
 -- the unit stands in that province, or is ordered to support the one there to stay
 abbrev pub is_in_or_stays : ℕ → PlacedOrder → Bool
 is_in_or_stays p o = is_in p o || is_stay_support o.order p
-
--- a unit in the first province is ordered to support what that unit does
-abbrev pub is_helped_from : List PlacedOrder → PlacedOrder → ℕ → Bool
-is_helped_from orders o h = list_any (λ w. is_in h w && helps w o) orders
-
--- what came of the orders, but that no support was given to that unit
-abbrev pub without_help : List PlacedOrder → PlacedOrder → Assignment → Assignment
-without_help orders o a (Supports h) = a (Supports h) && not (is_helped_from orders o h)
-without_help orders o a d = a d

@@ -2,9 +2,10 @@
 ghost use Rattle.dip_movement_laws.specs.Laws.{DislodgedByOthersAlone, DislodgedFleetsCarryNobody};
 ghost use Rattle.dip_movement_laws.specs.Laws.{DislodgedGiveNoSupport, ExplainedIsDecided};
 ghost use Rattle.dip_movement_laws.specs.Laws.{LosersPreventNobody, NoPowerCutsItsOwn};
-ghost use Rattle.dip_movement_laws.specs.Laws.{UnitsWithoutMovesStay};
+ghost use Rattle.dip_movement_laws.specs.Laws.{PathlessChangesNothing, UnitsWithoutMovesStay};
+ghost use Rattle.dip_movement_laws.specs.Laws.{UnmatchedChangesNothing};
 
-use dip_decide::{chains_are_found, explained_is_lawful};
+use dip_decide::{boards_are_situations, chains_are_found, explained_is_lawful};
 
 /// Each movement whose values steps explain, so each that is published, is one of which the laws below speak. A law: it does nothing.
 pub fn explained_is_decided()
@@ -47,4 +48,17 @@ pub fn dislodged_fleets_carry_nobody()
     ensures { DislodgedFleetsCarryNobody }
 {
     chains_are_found();
+}
+
+/// A support that doesn't match changes nothing: the same comes of the orders in which its unit holds. A law: it does nothing.
+pub fn unmatched_changes_nothing()
+    ensures { UnmatchedChangesNothing }
+{}
+
+/// A move by convoy without a path changes nothing: the same comes of the orders in which its unit holds, and in which nobody supports
+/// it to stay, but for the supports of its move, which match nothing then. A law: it does nothing.
+pub fn pathless_changes_nothing()
+    ensures { PathlessChangesNothing }
+{
+    boards_are_situations();
 }

@@ -1,28 +1,28 @@
 -- Who comes by convoy was carried by a chain of fleets, none of them dislodged.
-use Rattle.std.proofs.Common.{◌≡◌, ℕ, ◌+◌, ◌<◌, ◌≤◌, ◌⊎◌, inl, inr, zero, suc, List, [], ◌∷◌, length, refl, sym, subst, ap, ◌∙◌, arith}
-use Rattle.std.specs.Prelude.{◌==◌, ◌↔◌, Bool, true, false, not, ◌&&◌, ◌||◌, Contains, Option, None, Some, slice_index_or}
+use Rattle.std.proofs.Common.{◌≡◌, ℕ, ◌<◌, ◌⊎◌, inl, inr, zero, suc, List, [], ◌∷◌, length, refl, sym, subst, ap, ◌∙◌, arith}
+use Rattle.std.specs.Prelude.{◌==◌, Bool, true, false, not, ◌&&◌, ◌||◌, Contains, Option, None, Some, slice_index_or}
 use Rattle.std.specs.List.{list_any}
-use Rattle.std.proofs.lemmas.Bool.{eqb-true, eq-eqb, or_cases, or_left, or_right, both_ways, and_parts, and_from, not-true}
+use Rattle.std.proofs.lemmas.Bool.{eqb-true, eq-eqb, or_left, or_right, both_ways, and_parts, and_from, not-true}
 use Rattle.dip_names.specs.declared.names.Kind.{Kind}
 use Rattle.dip_names.specs.declared.names.Kind.TheVariants.{Army, Fleet}
 use Rattle.dip_names.specs.declared.names.Place.{Place}
 use Rattle.dip_names.specs.declared.names.Terrain.{Terrain}
 use Rattle.dip_names.specs.declared.names.Terrain.TheVariants.{Inland, Coast, Sea}
 use Rattle.dip_names.specs.Kinds.{is_kind, is_sea}
-use Rattle.dip_chart.specs.Charts.{Chart, Shore, no_shore, province, shore, is_fleet_next, are_units_single}
+use Rattle.dip_chart.specs.Charts.{Chart, Shore, no_shore, province, shore, are_units_single}
 use Rattle.dip_board.specs.Boards.{Position}
 use Rattle.dip_orders.specs.Standing.{units_of}
 use Rattle.dip_orders.specs.declared.placed.Other.{Other}
 use Rattle.dip_orders.specs.declared.placed.Order.{Order}
 use Rattle.dip_orders.specs.declared.placed.Order.TheVariants.{Hold, Move, SupportHold, SupportMove, Convoy, Retreat, Disband, Build, Remove}
 use Rattle.dip_orders.specs.declared.placed.PlacedOrder.{PlacedOrder}
-use Rattle.dip_decide.specs.declared.decisions.Decision.TheVariants.{Move as Moves, Path as Paths, Support as Supports}
+use Rattle.dip_decide.specs.declared.decisions.Decision.TheVariants.{Move as Moves, Path as Paths}
 use Rattle.dip_decide.specs.Deciding.{Assignment}
-use Rattle.dip_decide.specs.Laws.{IsChain, AreJoined}
-use Rattle.dip_decide.specs.Matching.{order_at, convoys_in, is_carried, is_there, is_convoyed, is_sea_next, target_of, situation}
-use Rattle.dip_decide.specs.Movement.{Situation, is_at, goes, has_path, is_entered, is_listed, joins, path_rule, rule, serves}
+use Rattle.dip_decide.specs.Laws.{AreJoined}
+use Rattle.dip_decide.specs.Matching.{order_at, convoys_in, is_carried, is_there, is_convoyed, is_sea_next, situation}
+use Rattle.dip_decide.specs.Movement.{is_at, goes, is_entered, is_listed, joins, path_rule, rule, serves}
 use Rattle.dip_decide.specs.Statements.{ChainsAreFound}
-use Rattle.dip_movement_laws.specs.Words.{IsDecided, prov, goes_to, goes_itself, names, has_moved, has_entered, was_dislodged_by, WasDislodged}
+use Rattle.dip_movement_laws.specs.Words.{IsDecided, prov, goes_to, goes_itself, names, has_moved, has_entered}
 use Rattle.dip_movement_laws.specs.Laws.{AreNextAtSea, Carries, AreCarrying, IsCarried}
 use Rattle.dip_movement_laws.proofs.EquationLemmas as equations
 use Rattle.dip_movement_laws.proofs.OrderLemmas as order

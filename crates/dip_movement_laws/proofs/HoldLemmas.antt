@@ -1,26 +1,19 @@
 -- The situation of orders in which some units hold.
-use Rattle.std.proofs.Common.{◌≡◌, ℕ, ◌⊎◌, inl, inr, List, [], ◌∷◌, map, find, refl, sym, subst, ap, ◌∙◌}
-use Rattle.std.specs.Prelude.{◌==◌, Bool, true, false, not, ◌&&◌, ◌||◌, cond, Contains, Option, None, Some, is_some, option_map, if◌then◌else◌}
-use Rattle.std.specs.List.{list_any}
-use Rattle.std.proofs.lemmas.Bool.{eqb-true, eq-eqb, or_cases, or_left, or_right, cases_Bool, both_ways, and_parts, and_from}
-use Rattle.std.proofs.Math.Path.{fun_ext}
+use Rattle.std.proofs.Common.{◌≡◌, ℕ, List, [], ◌∷◌, refl, ◌∙◌}
+use Rattle.std.specs.Prelude.{◌==◌, Bool, true, false, cond, Option, None, Some, is_some, option_map}
+use Rattle.std.proofs.lemmas.Bool.{and_parts, and_from}
 use Rattle.dip_names.specs.declared.names.Kind.{Kind}
 use Rattle.dip_names.specs.declared.names.Kind.TheVariants.{Army, Fleet}
-use Rattle.dip_names.specs.declared.names.Unit.{Unit as AUnit}
-use Rattle.dip_names.specs.Kinds.{is_kind, is_sea}
-use Rattle.dip_chart.specs.Charts.{Chart, province, are_units_single}
+use Rattle.dip_chart.specs.Charts.{Chart}
 use Rattle.dip_board.specs.Boards.{Position}
 use Rattle.dip_orders.specs.Standing.{is_in_force, are_in_force, units_of}
 use Rattle.dip_orders.specs.declared.placed.Other.{Other}
-use Rattle.dip_orders.specs.declared.placed.Order.{Order}
-use Rattle.dip_orders.specs.declared.placed.Order.TheVariants.{Hold, Move, SupportHold, SupportMove, Convoy, Retreat, Disband, Build, Remove}
+use Rattle.dip_orders.specs.declared.placed.Order.TheVariants.{Hold}
 use Rattle.dip_orders.specs.declared.placed.PlacedOrder.{PlacedOrder}
 use Rattle.dip_decide.specs.Laws.{AreOrders}
-use Rattle.dip_decide.specs.Matching.{Standing, destination, target_of, direction, aim_of, goes_by_convoy, is_convoyed, is_there, is_matched, supports_in, is_carried, convoys_in, is_one_power, order_at, provinces_of, situation}
-use Rattle.dip_decide.specs.Movement.{Situation, is_at}
-use Rattle.dip_movement_laws.specs.Words.{prov, held_if, holding, is_in, is_stay_support, is_in_or_stays, is_a_support, is_own_way, goes_itself, helps}
-use Rattle.dip_movement_laws.proofs.OrderLemmas.{found, met, Met}
-use Rattle.dip_movement_laws.proofs.OrderLemmas as order
+use Rattle.dip_decide.specs.Matching.{goes_by_convoy, is_there, is_one_power, order_at, provinces_of, situation}
+use Rattle.dip_decide.specs.Movement.{Situation}
+use Rattle.dip_movement_laws.specs.Words.{prov, held_if, holding}
 
 -- an order to hold of the same unit
 abbrev pub held : PlacedOrder → PlacedOrder

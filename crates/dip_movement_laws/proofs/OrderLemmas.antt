@@ -1,6 +1,6 @@
 -- What the situation of orders says of each unit, in a player's words.
-use Rattle.std.proofs.Common.{◌≡◌, ℕ, ◌+◌, ◌<◌, ◌≤◌, ◌⊎◌, inl, inr, List, [], ◌∷◌, length, map, find, refl, sym, subst, ap, ◌∙◌, arith}
-use Rattle.std.specs.Prelude.{◌==◌, Bool, true, false, not, ◌&&◌, ◌||◌, cond, Contains, count_by, Option, None, Some, is_some}
+use Rattle.std.proofs.Common.{◌≡◌, ℕ, ◌⊎◌, inl, inr, List, [], ◌∷◌, refl, sym, ap, ◌∙◌, arith}
+use Rattle.std.specs.Prelude.{◌==◌, Bool, true, false, not, ◌&&◌, ◌||◌, Contains, Option, None, Some, is_some}
 use Rattle.std.specs.List.{list_any}
 use Rattle.std.proofs.lemmas.Bool.{eqb-true, eq-eqb, or_left, or_right, cases_Bool, both_ways, and_parts, not-true}
 use Rattle.dip_names.specs.declared.names.Kind.{Kind}
@@ -8,16 +8,15 @@ use Rattle.dip_names.specs.declared.names.Kind.TheVariants.{Army, Fleet}
 use Rattle.dip_names.specs.declared.names.Unit.{Unit as AUnit}
 use Rattle.dip_names.specs.Kinds.{is_kind}
 use Rattle.dip_chart.specs.Charts.{Chart, is_army_next, are_units_single}
-use Rattle.dip_orders.specs.declared.placed.Other.{Other}
 use Rattle.dip_orders.specs.declared.placed.Order.{Order}
 use Rattle.dip_orders.specs.declared.placed.Order.TheVariants.{Hold, Move, SupportHold, SupportMove, Convoy, Retreat, Disband, Build, Remove}
 use Rattle.dip_orders.specs.declared.placed.PlacedOrder.{PlacedOrder}
 use Rattle.dip_orders.specs.Standing.{units_of}
 use Rattle.dip_decide.specs.Deciding.{Assignment}
 use Rattle.dip_decide.specs.declared.decisions.Decision.TheVariants.{Support as Supports}
-use Rattle.dip_decide.specs.Matching.{destination, direction, order_at, provinces_of, goes_by_convoy, is_matched, is_there, situation}
+use Rattle.dip_decide.specs.Matching.{destination, direction, order_at, provinces_of, goes_by_convoy, is_matched, situation}
 use Rattle.dip_decide.specs.Movement.{Situation, is_at, is_listed, goes, has_move, head_to_head, support, support_against}
-use Rattle.dip_movement_laws.specs.Words.{prov, is_a_move, is_move_to, moves, goes_to, is_own_way, goes_itself, are_head_to_head, names, is_support_of, is_support_into, helps, has_helped, helpers, helpers_but}
+use Rattle.dip_movement_laws.specs.Words.{prov, is_a_move, is_move_to, moves, goes_to, is_own_way, goes_itself, are_head_to_head, is_support_of, is_support_into, helps, helpers, helpers_but}
 use Rattle.dip_movement_laws.proofs.ListLemmas.{first_or_other, contains_more, count_map, count_alike}
 
 -- orders by themselves

@@ -1,7 +1,6 @@
 -- Orders in which the unit of a move without a path holds, and nobody supports it to stay.
-use Rattle.std.proofs.Common.{◌≡◌, ℕ, ◌⊎◌, inl, inr, List, [], ◌∷◌, refl, sym, subst, ap, ◌∙◌}
-use Rattle.std.specs.Prelude.{◌==◌, Bool, true, false, not, ◌&&◌, ◌||◌, cond, Contains, Option, None, Some, is_some, option_map, if◌then◌else◌}
-use Rattle.std.specs.List.{list_any}
+use Rattle.std.proofs.Common.{◌≡◌, ℕ, ◌⊎◌, inl, inr, List, refl, sym, ap, ◌∙◌}
+use Rattle.std.specs.Prelude.{◌==◌, Bool, true, false, not, ◌&&◌, cond, Contains, Option, None, Some, is_some, option_map}
 use Rattle.std.proofs.lemmas.Bool.{eqb-true, eq-eqb, cases_Bool, both_ways, or_left, or_right}
 use Rattle.std.proofs.Math.Path.{fun_ext}
 use Rattle.dip_names.specs.declared.names.Kind.{Kind}
@@ -9,17 +8,17 @@ use Rattle.dip_names.specs.declared.names.Kind.TheVariants.{Army, Fleet}
 use Rattle.dip_names.specs.Kinds.{is_kind, is_sea}
 use Rattle.dip_chart.specs.Charts.{Chart, province, are_units_single}
 use Rattle.dip_board.specs.Boards.{Position}
-use Rattle.dip_orders.specs.Standing.{are_in_force, units_of}
+use Rattle.dip_orders.specs.Standing.{units_of}
 use Rattle.dip_orders.specs.declared.placed.Other.{Other}
 use Rattle.dip_orders.specs.declared.placed.Order.{Order}
 use Rattle.dip_orders.specs.declared.placed.Order.TheVariants.{Hold, Move, SupportHold, SupportMove, Convoy, Retreat, Disband, Build, Remove}
 use Rattle.dip_orders.specs.declared.placed.PlacedOrder.{PlacedOrder}
-use Rattle.dip_decide.specs.declared.decisions.Decision.TheVariants.{Move as Moves, Path as Paths, Support as Supports}
+use Rattle.dip_decide.specs.declared.decisions.Decision.TheVariants.{Support as Supports}
 use Rattle.dip_decide.specs.Deciding.{Assignment}
 use Rattle.dip_decide.specs.Matching.{Standing, destination, target_of, direction, aim_of, goes_by_convoy, is_convoyed, is_there, is_matched, supports_in, is_carried, convoys_in, order_at, situation}
-use Rattle.dip_decide.specs.Movement.{Situation, IsSituation, is_at}
+use Rattle.dip_decide.specs.Movement.{IsSituation, is_at}
 use Rattle.dip_decide.specs.Statements.{BoardsAreSituations}
-use Rattle.dip_movement_laws.specs.Words.{IsDecided, prov, held_if, holding, is_a_move, is_in, is_stay_support, is_in_or_stays, is_own_way, goes_itself, moves, helps, has_helped, was_carried}
+use Rattle.dip_movement_laws.specs.Words.{IsDecided, prov, held_if, holding, is_a_move, is_in, is_stay_support, is_in_or_stays, is_own_way, goes_itself, was_carried}
 use Rattle.dip_movement_laws.specs.Laws.{IsTheSameBut}
 use Rattle.dip_movement_laws.proofs.OrderLemmas as order
 use Rattle.dip_movement_laws.proofs.PlayLemmas.{single}
@@ -211,7 +210,7 @@ module _ (m : Chart) (orders : List PlacedOrder) (one : are_units_single (units_
   carrieds (Convoy at to) x = go (cases_Bool (x == prov o))
     where
       go : ((x == prov o) ≡ true) ⊎ ((x == prov o) ≡ false) → ((at.prov == x) && (is_there at (order_at (holding (is_in_or_stays (prov o)) orders) x)
-            && (is_convoyed m (order_at (holding (is_in_or_stays (prov o)) orders) x) && is_at (target_of (order_at (holding (is_in_or_stays (prov o)) orders) x)) to)))
+          && (is_convoyed m (order_at (holding (is_in_or_stays (prov o)) orders) x) && is_at (target_of (order_at (holding (is_in_or_stays (prov o)) orders) x)) to)))
           ≡ cond (x == prov o) false ((at.prov == x) && (is_there at (order_at orders x) && (is_convoyed m (order_at orders x) && is_at (target_of (order_at orders x)) to)))
       go (inl e) = rw (convoyeds x, e) (ap (λ (b : Bool). (at.prov == x) && b) (and_no _) ∙ and_no (at.prov == x))
       go (inr e) = rw (theres at x, convoyeds x, targets x, e) refl
@@ -286,7 +285,7 @@ pathless_law boards m b orders a o d c far lost = (unhelped (situation m orders)
       broken = d.broken;
       paths_alone = d.paths_alone;
       equations = rw (silenced_is m orders one o c far) (silent (situation m orders) (prov o) d.broken d.paths_alone a d.equations i.one_helped
-        (order.move_law m orders one o c ∙ far_moves m o.unit.kind (prov o) o.order far) (order.convoyed_law m orders one o c ∙ ap not far) lost);
+          (order.move_law m orders one o c ∙ far_moves m o.unit.kind (prov o) o.order far) (order.convoyed_law m orders one o c ∙ ap not far) lost);
     }
 
     same : IsTheSameBut orders o a (unhelped (situation m orders) (prov o) a)

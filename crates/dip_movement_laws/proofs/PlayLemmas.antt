@@ -1,7 +1,6 @@
 -- The laws in a player's words, from the equations.
-use Rattle.std.proofs.Common.{◌≡◌, ◌≢◌, ℕ, ◌+◌, ◌<◌, ◌≤◌, ◌⊎◌, inl, inr, List, [], ◌∷◌, refl, sym, subst, ap, ◌∙◌, arith}
-use Rattle.std.specs.Prelude.{◌==◌, Bool, true, false, not, ◌&&◌, ◌||◌, Contains, Option, None, Some}
-use Rattle.std.specs.List.{list_any}
+use Rattle.std.proofs.Common.{◌≡◌, ◌≢◌, ℕ, ◌≤◌, ◌⊎◌, inl, inr, List, refl, sym, subst, ap, ◌∙◌, arith}
+use Rattle.std.specs.Prelude.{◌==◌, Bool, true, false, not, ◌&&◌, Contains}
 use Rattle.std.proofs.lemmas.Bool.{eqb-true, eq-eqb, or_cases, or_left, or_right, cases_Bool, both_ways, and_parts, and_from, not-true}
 use Rattle.dip_chart.specs.Charts.{Chart, are_units_single}
 use Rattle.dip_board.specs.Boards.{Position}
@@ -9,12 +8,12 @@ use Rattle.dip_orders.specs.Standing.{units_of}
 use Rattle.dip_orders.specs.declared.placed.Order.{Order}
 use Rattle.dip_orders.specs.declared.placed.Order.TheVariants.{Hold, Move, SupportHold, SupportMove, Convoy, Retreat, Disband, Build, Remove}
 use Rattle.dip_orders.specs.declared.placed.PlacedOrder.{PlacedOrder}
-use Rattle.dip_decide.specs.declared.decisions.Decision.TheVariants.{Move as Moves, Path as Paths, Support as Supports}
+use Rattle.dip_decide.specs.declared.decisions.Decision.TheVariants.{Path as Paths}
 use Rattle.dip_decide.specs.Deciding.{Assignment}
 use Rattle.dip_decide.specs.Laws.{AreOrders}
 use Rattle.dip_decide.specs.Matching.{situation}
-use Rattle.dip_decide.specs.Movement.{Situation, is_at, goes, has_path, head_to_head, prevent, support, is_support, is_listed, Satisfies}
-use Rattle.dip_movement_laws.specs.Words.{IsDecided, prov, is_a_move, moves, goes_to, goes_itself, are_head_to_head, helps, is_support_of, is_support_into, has_moved, has_helped, was_carried, has_entered, was_dislodged_by, WasDislodged, helpers, helpers_but}
+use Rattle.dip_decide.specs.Movement.{Situation, goes, has_path, head_to_head, prevent, support, is_support}
+use Rattle.dip_movement_laws.specs.Words.{IsDecided, prov, is_a_move, moves, goes_to, goes_itself, are_head_to_head, helps, is_support_of, has_moved, has_helped, was_carried, was_dislodged_by, WasDislodged}
 use Rattle.dip_movement_laws.specs.Laws.{IsCutBy, IsOverpowered, AreRivalsWeaker, Stays}
 use Rattle.dip_movement_laws.proofs.EquationLemmas as equations
 use Rattle.dip_movement_laws.proofs.OrderLemmas as order
@@ -110,7 +109,7 @@ module _ (m : Chart) (b : Position) (orders : List PlacedOrder) (a : Assignment)
           let y = and_parts (goes_to w.0 (prov h)) _ x.1 in
           let f = overpowered h w.0 c w.1 w.2 in
           absurd (equations.given_unentered (situation m orders) d.broken d.paths_alone a d.equations (prov h) (prov w.0) (order.listed_law m orders one w.0 w.1) e
-            (order.goes_law m orders one w.0 (prov h) w.1 ∙ y.0) y.1 (order.power_law m orders one w.0 h w.1 c ∙ not_same _ _ f.foreign))
+          (order.goes_law m orders one w.0 (prov h) w.1 ∙ y.0) y.1 (order.power_law m orders one w.0 h w.1 c ∙ not_same _ _ f.foreign))
 
   -- who cut a support
   pub cut_by : (h o : PlacedOrder) → Contains orders h → Contains orders o → helps h o ≡ true → has_helped a h ≡ false → (w : PlacedOrder) × Contains orders w × IsCutBy m a h w
@@ -118,13 +117,16 @@ module _ (m : Chart) (b : Position) (orders : List PlacedOrder) (a : Assignment)
       let i : is_support (situation m orders) (prov h) ≡ true = any_at (λ p. (situation m orders).supports (prov h) p) (situation m orders).places (prov o) (order.listed_law m orders one o e) (order.supports_law m orders one h o c e ∙ k) in
       let x = equations.was_cut (situation m orders) d.broken d.paths_alone a d.equations (prov h) i n in
       let g = order.goer m orders x.0 (prov h) x.1.attacks in
-      let u : equations.Cut (situation m orders) a (prov h) (prov g.order) = subst (λ (y : ℕ). equations.Cut (situation m orders) a (prov h) y) (sym g.is.there) x.1 in
-      (g.order, g.is.among, record {
-        attacks = g.goes;
-        foreign = no_same _ _ (sym (order.power_law m orders one g.order h g.is.among c) ∙ u.foreign);
-        comes = way g.order g.is.among u.comes;
-        dislodges = λ t. and_from _ _ (ap not (remains h c (helper_stays h.order o k))) (and_from _ _ g.goes (u.aimed (order.aim_law m orders one h (prov g.order) c ∙ t)));
-      })
+      let u : equations.Cut (situation m orders) a (prov h) (prov g.order) = subst (λ (y : ℕ). equations.Cut (situation m orders) a (prov h) y) (sym g.is.there) x.1 in (
+        g.order,
+        g.is.among,
+        record {
+          attacks = g.goes;
+          foreign = no_same _ _ (sym (order.power_law m orders one g.order h g.is.among c) ∙ u.foreign);
+          comes = way g.order g.is.among u.comes;
+          dislodges = λ t. and_from _ _ (ap not (remains h c (helper_stays h.order o k))) (and_from _ _ g.goes (u.aimed (order.aim_law m orders one h (prov g.order) c ∙ t)));
+        },
+      )
 
   -- who comes to where the winner came from
   pub let_in : (loser winner w : PlacedOrder) → Contains orders loser → Contains orders winner → Contains orders w → are_head_to_head m loser winner ≡ true → has_moved a winner ≡ true
@@ -155,7 +157,7 @@ module _ (m : Chart) (b : Position) (orders : List PlacedOrder) (a : Assignment)
               test : ((x == prov loser) ≡ true) ⊎ ((x == prov loser) ≡ false) → prevent (situation m orders) a x (prov winner) ≤ support (situation m orders) a (prov w)
               test (inl y) =
                   let z : prevent (situation m orders) a x (prov winner) ≡ 0 = subst (λ (i : ℕ). prevent (situation m orders) a i (prov winner) ≡ 0) (sym (eqb-true _ _ y))
-                    (equations.loser_prevents_none (situation m orders) d.broken d.paths_alone a d.equations (prov loser) (prov winner) (order.head_law m orders one loser winner c e ∙ f) v) in
+                  (equations.loser_prevents_none (situation m orders) d.broken d.paths_alone a d.equations (prov loser) (prov winner) (order.head_law m orders one loser winner c e ∙ f) v) in
                   omega arith
               test (inr y) =
                   let t = r.is.there in

@@ -1,7 +1,7 @@
 -- A move by convoy without a path: the equations are those where its unit has no move, nobody supports it and nobody convoys it.
-use Rattle.std.proofs.Common.{◌≡◌, ℕ, ◌+◌, ◌<◌, ◌≤◌, ◌⊎◌, inl, inr, List, length, refl, sym, subst, ap, ◌∙◌, suc, arith}
+use Rattle.std.proofs.Common.{◌≡◌, ℕ, ◌+◌, ◌<◌, ◌≤◌, ◌⊎◌, inl, inr, length, refl, sym, ap, ◌∙◌, suc, arith}
 use Rattle.std.specs.Prelude.{◌==◌, nat_lt, Bool, true, false, not, ◌&&◌, ◌||◌, cond, Option, None, Some, is_some, if◌then◌else◌}
-use Rattle.std.specs.List.{list_all, list_any, count_by}
+use Rattle.std.specs.List.{list_all}
 use Rattle.std.proofs.lemmas.Bool.{eqb-true, eq-eqb, cases_Bool, cases_lt, both_ways}
 use Rattle.std.proofs.lemmas.Bool.Decides.{nat_tests}
 use Rattle.std.proofs.Math.Path.{fun_ext}
@@ -165,7 +165,7 @@ module _ (s : Situation) (p : ℕ) (broken : Decision → Bool) (paths : (d : De
       go (inl f) =
           let i : q ≡ p = eqb-true q p f in
           hold_one (s.is_occupied q) (a (Move q)) _ _ _ _ (ap (λ (x : ℕ). a (Move x)) i ∙ still) (ap (λ (b : Bool). is_some (cond b None (s.target q))) f) (ap (has_move s) i ∙ move)
-            (ap (support (silenced s p) (unhelped s p a)) i ∙ support_p)
+          (ap (support (silenced s p) (unhelped s p a)) i ∙ support_p)
 
   opposition_t : (y q : ℕ) → (y == p) ≡ false → opposition (silenced s p) (unhelped s p a) y q ≡ opposition s a y q
   opposition_t y q e = opposition_alike _ _ _ _ _ _ (face_t y q e) faced (hold_t q)
@@ -275,7 +275,7 @@ module _ (s : Situation) (p : ℕ) (broken : Decision → Bool) (paths : (d : De
       go (inr k) =
           given_kept (a (Support h)) (s.supports h p) k ∙ holds (Support h)
           ∙ sym (ap (λ (b : Bool). not (broken (Support h)) && (b && list_all (λ x. not (cuts (silenced s p) (unhelped s p a) h x)) s.places)) (any_alike _ _ s.places (same k))
-            ∙ ap (λ (b : Bool). not (broken (Support h)) && (is_support s h && b)) (all_alike _ _ s.places (λ x. ap not (cuts_t h x))))
+          ∙ ap (λ (b : Bool). not (broken (Support h)) && (is_support s h && b)) (all_alike _ _ s.places (λ x. ap not (cuts_t h x))))
 
   pub silent : Satisfies (silenced s p) broken (unhelped s p a)
   silent (Move y) = go (cases_Bool (y == p))

@@ -1,7 +1,7 @@
 -- A support that matches nothing changes nothing.
-use Rattle.std.proofs.Common.{◌≡◌, ℕ, ◌⊎◌, inl, inr, List, [], ◌∷◌, refl, sym, subst, ap, ◌∙◌}
-use Rattle.std.specs.Prelude.{◌==◌, ◌↔◌, Bool, true, false, not, ◌&&◌, ◌||◌, Contains, Option, None, Some, is_some, option_map, if◌then◌else◌}
-use Rattle.std.specs.List.{list_all, list_any}
+use Rattle.std.proofs.Common.{◌≡◌, ℕ, ◌⊎◌, inl, inr, List, refl, sym, subst, ap, ◌∙◌}
+use Rattle.std.specs.Prelude.{◌==◌, ◌↔◌, Bool, true, false, not, ◌&&◌, Contains, Option, None, Some, option_map, if◌then◌else◌}
+use Rattle.std.specs.List.{list_all}
 use Rattle.std.proofs.lemmas.Bool.{eqb-true, eq-eqb, cases_Bool, both_ways}
 use Rattle.std.proofs.Math.Path.{fun_ext}
 use Rattle.dip_names.specs.declared.names.Kind.{Kind}
@@ -17,7 +17,7 @@ use Rattle.dip_decide.specs.declared.decisions.Decision.{Decision}
 use Rattle.dip_decide.specs.declared.decisions.Decision.TheVariants.{Move as Moves, Path as Paths, Support as Supports}
 use Rattle.dip_decide.specs.Deciding.{Assignment}
 use Rattle.dip_decide.specs.Laws.{AreOrders}
-use Rattle.dip_decide.specs.Matching.{Standing, destination, target_of, aim_of, goes_by_convoy, is_convoyed, is_there, is_matched, supports_in, is_carried, convoys_in, order_at, situation}
+use Rattle.dip_decide.specs.Matching.{Standing, destination, target_of, aim_of, goes_by_convoy, is_convoyed, is_matched, supports_in, is_carried, convoys_in, order_at, situation}
 use Rattle.dip_decide.specs.Movement.{Situation, is_at, goes, has_path, is_support, move_rule, path_rule, rule}
 use Rattle.dip_movement_laws.specs.Words.{IsDecided, prov, held_if, holding, is_in, is_a_support, helps}
 use Rattle.dip_movement_laws.proofs.ListLemmas.{any_none}

@@ -1,6 +1,6 @@
 -- The laws of movement in a player's words, as statements.
-use Rattle.std.specs.Prelude.{◌≡◌, ◌≢◌, ℕ, ◌<◌, ◌≤◌, ◌⊎◌, ◌↔◌, Bool, true, false, Contains, List, [], ◌∷◌, length}
-use Rattle.dip_names.specs.declared.names.Kind.TheVariants.{Army, Fleet}
+use Rattle.std.specs.Prelude.{◌≡◌, ◌≢◌, ℕ, ◌<◌, ◌≤◌, ◌⊎◌, ◌↔◌, true, false, Contains, List, [], ◌∷◌, length}
+use Rattle.dip_names.specs.declared.names.Kind.TheVariants.{Fleet}
 use Rattle.dip_names.specs.declared.names.Place.{Place}
 use Rattle.dip_names.specs.declared.names.Terrain.TheVariants.{Sea}
 use Rattle.dip_chart.specs.Charts.{Chart, is_fleet_next, province}

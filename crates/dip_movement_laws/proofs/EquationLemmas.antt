@@ -9,7 +9,7 @@ use Rattle.dip_decide.specs.declared.decisions.Decision.TheVariants.{Move, Suppo
 use Rattle.dip_decide.specs.Deciding.{Assignment, Equation, Known, Mentions, Step, Explains, is_among, is_broken, is_path}
 use Rattle.dip_decide.specs.Deciding.Step.{Forced, Circle, Knot}
 use Rattle.dip_decide.specs.Movement.{Situation, is_at, goes, has_move, has_path, head_to_head, support, support_against, attack, prevent, opposition, beats, succeeds, move_rule, cuts, is_support, rule, is_listed, Satisfies}
-use Rattle.dip_movement_laws.proofs.ListLemmas.{all_at, all_each, one_fails}
+use Rattle.dip_movement_laws.proofs.ListLemmas.{all_at, all_each, one_fails, count_fewer}
 
 -- knots break paths alone
 pub broken_paths : (rule : Equation) (mentions : Mentions) (a : Assignment) (steps : List Step) (k : Known) → Explains rule mentions k steps a → (d : Decision) → is_broken steps d ≡ true → is_path d ≡ true
@@ -65,6 +65,31 @@ left_hold true m move n e = rw e refl
 least_of : (b : Bool) (n : ℕ) → (if b then 0 else 1 + n) ≤ 1 + n
 least_of true n = omega arith
 least_of false n = omega arith
+
+attack_most : (path occupied m face same : Bool) (n f : ℕ) → f ≤ n → (if not path then 0 else if not occupied || (m && not face) then 1 + n else if same then 0 else 1 + f) ≤ 1 + n
+attack_most false occupied m face same n f h = omega arith
+attack_most true false m face same n f h = omega arith
+attack_most true true true false same n f h = omega arith
+attack_most true true true true true n f h = omega arith
+attack_most true true true true false n f h = omega arith
+attack_most true true false face true n f h = omega arith
+attack_most true true false face false n f h = omega arith
+
+empty_attack : (path occupied m face same : Bool) (n f : ℕ) → path ≡ true → occupied ≡ false → (if not path then 0 else if not occupied || (m && not face) then 1 + n else if same then 0 else 1 + f) ≡ 1 + n
+empty_attack path occupied m face same n f p e = rw (p, e) refl
+
+strong_attack : (path occupied m face same : Bool) (n f : ℕ) → path ≡ true → occupied ≡ true → m ≡ false → same ≡ false → (if not path then 0 else if not occupied || (m && not face) then 1 + n else if same then 0 else 1 + f) ≡ 1 + f
+strong_attack path occupied m face same n f p e g h = rw (p, e, g, h) refl
+
+weak_opposition : (face occupied m move : Bool) (k f : ℕ) → 0 < f → (move ≡ false → k < f) → (face ≡ true → k < f) → (if face then 1 + k else (if not occupied || m then 0 else if move then 1 else 1 + k)) ≤ f
+weak_opposition true occupied m move k f h s t = let l = t refl in omega arith
+weak_opposition false false m move k f h s t = omega arith
+weak_opposition false true true move k f h s t = omega arith
+weak_opposition false true false true k f h s t = omega arith
+weak_opposition false true false false k f h s t = let l = s refl in omega arith
+
+full_prevent : (path beaten : Bool) (n : ℕ) → path ≡ true → beaten ≡ false → (if not path || beaten then 0 else 1 + n) ≡ 1 + n
+full_prevent path beaten n p e = rw (p, e) refl
 
 chosen : (c t e : Bool) → (if c then t else e) ≡ true → ((c ≡ true) × (t ≡ true)) ⊎ ((c ≡ false) × (e ≡ true))
 chosen true t e h = inl (refl, h)
@@ -137,15 +162,12 @@ module _ (s : Situation) (broken : Decision → Bool) (paths : (d : Decision) �
       cutting goes same true moved path e f u v = rw (e, f) u
       cutting goes same false moved path e f u v = rw (e, f) v
 
-  -- whoever goes to where the winner came from, and has more than all but the loser
-  pub gets_in : (w q : ℕ) → goes s w q ≡ true → a (Move q) ≡ true → head_to_head s w q ≡ false → has_path s a w ≡ true
-      → ((x : ℕ) → goes s x q ≡ true → (x == w) ≡ false → prevent s a x q ≤ support s a w) → a (Move w) ≡ true
-  gets_in w q g v f p rivals = moved_is w q g ∙ and_from _ _ (all_each (beats s a w q) s.places beat) last
+  -- who has more than stands against it succeeds
+  pub gets_in_by : (w q k : ℕ) → goes s w q ≡ true → attack s a w q ≡ 1 + k → opposition s a w q ≤ k
+      → ((x : ℕ) → goes s x q ≡ true → (x == w) ≡ false → prevent s a x q ≤ k) → a (Move w) ≡ true
+  gets_in_by w q k g strength against rivals = moved_is w q g ∙ and_from _ _ (all_each (beats s a w q) s.places beat) (below _ against)
     where
-      strength : attack s a w q ≡ 1 + support s a w
-      strength = free_attack (has_path s a w) (s.is_occupied q) (a (Move q)) (head_to_head s w q) (s.same_power w q) (support s a w) (support_against s a w q) p v f
-
-      below : (x : ℕ) → x ≤ support s a w → nat_lt x (attack s a w q) ≡ true
+      below : (x : ℕ) → x ≤ k → nat_lt x (attack s a w q) ≡ true
       below x l = grind (arith, nat_tests, strength)
 
       beat : (x : ℕ) → beats s a w q x ≡ true
@@ -156,11 +178,52 @@ module _ (s : Situation) (broken : Decision → Bool) (paths : (d : Decision) �
           go (inr e) (inr n) = or_left _ _ (or_right (x == w) _ (ap not n))
           go (inr e) (inl y) = or_right (x == w || not (goes s x q)) _ (below _ (rivals x y e))
 
+  -- where the unit there leaves
+  pub gets_in : (w q : ℕ) → goes s w q ≡ true → a (Move q) ≡ true → head_to_head s w q ≡ false → has_path s a w ≡ true
+      → ((x : ℕ) → goes s x q ≡ true → (x == w) ≡ false → prevent s a x q ≤ support s a w) → a (Move w) ≡ true
+  gets_in w q g v f p rivals = gets_in_by w q (support s a w) g strength (let x = against in omega arith) rivals
+    where
+      strength : attack s a w q ≡ 1 + support s a w
+      strength = free_attack (has_path s a w) (s.is_occupied q) (a (Move q)) (head_to_head s w q) (s.same_power w q) (support s a w) (support_against s a w q) p v f
+
       against : opposition s a w q ≡ 0
       against = rw f (left_hold (s.is_occupied q) (a (Move q)) (has_move s q) (support s a q) v)
 
-      last : nat_lt (opposition s a w q) (attack s a w q) ≡ true
-      last = below _ (let x = against in omega arith)
+  -- where nobody is
+  pub gets_in_empty : (w q : ℕ) → goes s w q ≡ true → s.is_occupied q ≡ false → head_to_head s w q ≡ false → has_path s a w ≡ true
+      → ((x : ℕ) → goes s x q ≡ true → (x == w) ≡ false → prevent s a x q ≤ support s a w) → a (Move w) ≡ true
+  gets_in_empty w q g v f p rivals = gets_in_by w q (support s a w) g strength (let x = against in omega arith) rivals
+    where
+      strength : attack s a w q ≡ 1 + support s a w
+      strength = empty_attack (has_path s a w) (s.is_occupied q) (a (Move q)) (head_to_head s w q) (s.same_power w q) (support s a w) (support_against s a w q) p v
+
+      against : opposition s a w q ≡ 0
+      against = rw (f, v) refl
+
+  -- where the unit there stays and is overpowered
+  pub throws_out : (w q : ℕ) → goes s w q ≡ true → s.is_occupied q ≡ true → a (Move q) ≡ false → s.same_power w q ≡ false → has_path s a w ≡ true → 0 < support_against s a w q
+      → (has_move s q ≡ false → support s a q < support_against s a w q) → (head_to_head s w q ≡ true → support s a q < support_against s a w q)
+      → ((x : ℕ) → goes s x q ≡ true → (x == w) ≡ false → prevent s a x q ≤ support_against s a w q) → a (Move w) ≡ true
+  throws_out w q g o v n p h stayed faced rivals = gets_in_by w q (support_against s a w q) g
+      (strong_attack (has_path s a w) (s.is_occupied q) (a (Move q)) (head_to_head s w q) (s.same_power w q) (support s a w) (support_against s a w q) p o v n)
+      (weak_opposition (head_to_head s w q) (s.is_occupied q) (a (Move q)) (has_move s q) (support s a q) (support_against s a w q) h stayed faced) rivals
+
+  -- who succeeds has more support than whoever prevents with all of it
+  pub outdoes : (w x q : ℕ) → goes s w q ≡ true → a (Move w) ≡ true → is_listed s.places x ≡ true → goes s x q ≡ true → (x == w) ≡ false
+      → has_path s a x ≡ true → (head_to_head s x q && a (Move q)) ≡ false → support s a x < support s a w
+  outdoes w x q g v l k n p f =
+      let beaten = free (or_cases _ _ (all_at (beats s a w q) s.places x (and_parts _ _ (sym (moved_is w q g) ∙ v)).0 l)) in
+      let all = full_prevent (has_path s a x) (head_to_head s x q && a (Move q)) (support s a x) p f in
+      let most = attack_most (has_path s a w) (s.is_occupied q) (a (Move q)) (head_to_head s w q) (s.same_power w q) (support s a w) (support_against s a w q)
+      (count_fewer (λ h. (s.supports h w && a (Support h)) && not (s.same_power h q)) (λ h. s.supports h w && a (Support h)) s.places (λ h e. (and_parts _ _ e).0)) in
+      reach beaten all most
+    where
+      free : ((x == w || not (goes s x q)) ≡ true) ⊎ (nat_lt (prevent s a x q) (attack s a w q) ≡ true) → prevent s a x q < attack s a w q
+      free (inr e) = ltb-true _ _ e
+      free (inl e) = absurd (both_ways false refl (rw (n, k) at e))
+
+      reach : prevent s a x q < attack s a w q → prevent s a x q ≡ 1 + support s a x → attack s a w q ≤ 1 + support s a w → support s a x < support s a w
+      reach b c d = omega arith
 
   pub prevents_most : (x q : ℕ) → prevent s a x q ≤ 1 + support s a x
   prevents_most x q = least_of (not (has_path s a x) || (head_to_head s x q && a (Move q))) (support s a x)

@@ -1,8 +1,8 @@
 -- Lists of units: tests of all, of one, and counts.
-use Rattle.std.proofs.Common.{◌≡◌, ℕ, ◌⊎◌, inl, inr, zero, suc, List, [], ◌∷◌, map, refl, sym, subst, arith}
+use Rattle.std.proofs.Common.{◌≡◌, ℕ, ◌⊎◌, inl, inr, zero, suc, List, [], ◌∷◌, map, refl, sym, subst, arith, ◌≤◌}
 use Rattle.std.specs.Prelude.{◌==◌, Bool, true, false, ◌&&◌, ◌||◌, cond, Contains, count_by}
 use Rattle.std.specs.List.{list_all, list_any}
-use Rattle.std.proofs.lemmas.Bool.{eqb-true, or_cases, or_left, or_right, both_ways, and_parts, and_from}
+use Rattle.std.proofs.lemmas.Bool.{eqb-true, or_cases, or_left, or_right, both_ways, and_parts, and_from, cases_Bool}
 use Rattle.std.proofs.lemmas.List.Sums.{sum_by-cons}
 use Rattle.dip_decide.specs.Movement.{is_listed}
 
@@ -81,3 +81,11 @@ any_alike f g (p ∷ ps) h = rw (h p, any_alike f g ps h) refl
 pub any_none : (f : ℕ → Bool) (ps : List ℕ) → ((p : ℕ) → f p ≡ false) → list_any f ps ≡ false
 any_none f [] h = refl
 any_none f (p ∷ ps) h = rw (h p, any_none f ps h) refl
+
+pub count_fewer : {A : Type 0} (f g : A → Bool) (xs : List A) → ((x : A) → f x ≡ true → g x ≡ true) → count_by f xs ≤ count_by g xs
+count_fewer f g [] h = omega arith
+count_fewer f g (x ∷ xs) h = go (cases_Bool (f x)) (count_fewer f g xs h)
+  where
+    go : (f x ≡ true) ⊎ (f x ≡ false) → count_by f xs ≤ count_by g xs → count_by f (x ∷ xs) ≤ count_by g (x ∷ xs)
+    go (inl e) l = let i = h x e in rw (sum_by-cons (λ y. cond (f y) 1 0) x xs, sum_by-cons (λ y. cond (g y) 1 0) x xs, e, i) (omega arith)
+    go (inr e) l = rw (sum_by-cons (λ y. cond (f y) 1 0) x xs, sum_by-cons (λ y. cond (g y) 1 0) x xs, e) (omega arith)

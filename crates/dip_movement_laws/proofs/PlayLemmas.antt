@@ -1,6 +1,6 @@
 -- The laws in a player's words, from the equations.
-use Rattle.std.proofs.Common.{◌≡◌, ◌≢◌, ℕ, ◌≤◌, ◌⊎◌, inl, inr, List, refl, sym, subst, ap, ◌∙◌, arith}
-use Rattle.std.specs.Prelude.{◌==◌, Bool, true, false, not, ◌&&◌, Contains}
+use Rattle.std.proofs.Common.{◌≡◌, ◌≢◌, ℕ, ◌≤◌, ◌⊎◌, inl, inr, List, refl, sym, subst, ap, ◌∙◌, arith, ◌<◌}
+use Rattle.std.specs.Prelude.{◌==◌, Bool, true, false, not, ◌&&◌, Contains, Option, None, Some, is_some}
 use Rattle.std.proofs.lemmas.Bool.{eqb-true, eq-eqb, or_cases, or_left, or_right, cases_Bool, both_ways, and_parts, and_from, not-true}
 use Rattle.dip_chart.specs.Charts.{Chart, are_units_single}
 use Rattle.dip_board.specs.Boards.{Position}
@@ -9,12 +9,13 @@ use Rattle.dip_orders.specs.declared.placed.Order.{Order}
 use Rattle.dip_orders.specs.declared.placed.Order.TheVariants.{Hold, Move, SupportHold, SupportMove, Convoy, Retreat, Disband, Build, Remove}
 use Rattle.dip_orders.specs.declared.placed.PlacedOrder.{PlacedOrder}
 use Rattle.dip_decide.specs.declared.decisions.Decision.TheVariants.{Path as Paths}
+use Rattle.dip_decide.specs.declared.decisions.Decision.TheVariants.{Move as Moves}
 use Rattle.dip_decide.specs.Deciding.{Assignment}
 use Rattle.dip_decide.specs.Laws.{AreOrders}
-use Rattle.dip_decide.specs.Matching.{situation}
-use Rattle.dip_decide.specs.Movement.{Situation, goes, has_path, head_to_head, prevent, support, is_support}
-use Rattle.dip_movement_laws.specs.Words.{IsDecided, prov, is_a_move, moves, goes_to, goes_itself, are_head_to_head, helps, is_support_of, has_moved, has_helped, was_carried, was_dislodged_by, WasDislodged}
-use Rattle.dip_movement_laws.specs.Laws.{IsCutBy, IsOverpowered, AreRivalsWeaker, Stays}
+use Rattle.dip_decide.specs.Matching.{situation, order_at, target_of}
+use Rattle.dip_decide.specs.Movement.{Situation, goes, has_path, head_to_head, prevent, support, is_support, is_at, has_move, support_against}
+use Rattle.dip_movement_laws.specs.Words.{IsDecided, prov, is_a_move, moves, goes_to, goes_itself, are_head_to_head, helps, is_support_of, has_moved, has_helped, was_carried, was_dislodged_by, WasDislodged, HasWay, helpers_but, has_entered, helpers}
+use Rattle.dip_movement_laws.specs.Laws.{IsCutBy, IsOverpowered, AreRivalsWeaker, Stays, AreOthersBelow, IsLeft, IsNoLoser}
 use Rattle.dip_movement_laws.proofs.EquationLemmas as equations
 use Rattle.dip_movement_laws.proofs.OrderLemmas as order
 use Rattle.dip_movement_laws.proofs.ListLemmas.{any_at}
@@ -44,6 +45,13 @@ helper_stays (Retreat to) o h = refl
 helper_stays Disband o h = refl
 helper_stays Build o h = refl
 helper_stays Remove o h = refl
+
+turned : (m : Chart) (o w : PlacedOrder) → are_head_to_head m o w ≡ true → are_head_to_head m w o ≡ true
+turned m o w f =
+    let x = and_parts (goes_to o (prov w) && goes_to w (prov o)) (goes_itself m o && goes_itself m w) f in
+    let y = and_parts (goes_to o (prov w)) _ x.0 in
+    let z = and_parts (goes_itself m o) _ x.1 in
+    and_from _ _ (and_from _ _ y.1 y.0) (and_from _ _ z.1 z.0)
 
 module _ (m : Chart) (b : Position) (orders : List PlacedOrder) (a : Assignment) (d : IsDecided m b orders a) where
   s : Situation
@@ -88,15 +96,8 @@ module _ (m : Chart) (b : Position) (orders : List PlacedOrder) (a : Assignment)
         foreign = no_same _ _ (sym (order.power_law m orders one w o e c) ∙ r.foreign);
         helped = rw (order.against_law m orders one a w o e c) at r.helped;
         stayed = λ n. rw (order.against_law m orders one a w o e c, order.support_law m orders one a o c) at (r.stayed (order.move_law m orders one o c ∙ n));
-        faced = λ f. rw (order.against_law m orders one a w o e c, order.support_law m orders one a o c) at (r.faced (order.head_law m orders one w o e c ∙ turned o w f));
+        faced = λ f. rw (order.against_law m orders one a w o e c, order.support_law m orders one a o c) at (r.faced (order.head_law m orders one w o e c ∙ turned m o w f));
       }
-    where
-      turned : (o w : PlacedOrder) → are_head_to_head m o w ≡ true → are_head_to_head m w o ≡ true
-      turned o w f =
-          let x = and_parts (goes_to o (prov w) && goes_to w (prov o)) (goes_itself m o && goes_itself m w) f in
-          let y = and_parts (goes_to o (prov w)) _ x.0 in
-          let z = and_parts (goes_itself m o) _ x.1 in
-          and_from _ _ (and_from _ _ y.1 y.0) (and_from _ _ z.1 z.0)
 
   -- a dislodged unit's support
   pub ungiven : (h : PlacedOrder) → Contains orders h → WasDislodged a orders h → has_helped a h ≡ false
@@ -167,3 +168,83 @@ module _ (m : Chart) (b : Position) (orders : List PlacedOrder) (a : Assignment)
                   let i = equations.prevents_most (situation m orders) d.broken d.paths_alone a d.equations x (prov winner) in
                   let j : support (situation m orders) a (prov r.order) ≡ support (situation m orders) a x = ap (support (situation m orders) a) t in
                   omega arith
+
+  -- others go there with less
+  below : (w : PlacedOrder) (q n : ℕ) → AreOthersBelow a orders q w n → (x : ℕ) → goes (situation m orders) x q ≡ true → (x == prov w) ≡ false → prevent (situation m orders) a x q ≤ n
+  below w q n others x h l =
+      let r = order.goer m orders x q h in
+      let t = r.is.there in
+      let k = others r.order r.is.among r.goes (λ i. no_same _ _ l (sym t ∙ i)) in
+      let u = order.support_law m orders one a r.order r.is.among in
+      let j : support (situation m orders) a (prov r.order) ≡ support (situation m orders) a x = ap (support (situation m orders) a) t in
+      let i = equations.prevents_most (situation m orders) d.broken d.paths_alone a d.equations x q in
+      omega arith
+
+  -- who enters has the most support
+  pub outdone : (w x : PlacedOrder) (q : ℕ) → Contains orders w → Contains orders x → has_entered a w q ≡ true → goes_to x q ≡ true → prov x ≢ prov w → HasWay m a x → IsNoLoser m a orders x → helpers a orders x < helpers a orders w
+  outdone w x q c e h g n p no_loser =
+      let y = and_parts (goes_to w q) _ h in
+      let r = equations.outdoes (situation m orders) d.broken d.paths_alone a d.equations (prov w) (prov x) q (order.goes_law m orders one w q c ∙ y.0) y.1 (order.listed_law m orders one x e)
+      (order.goes_law m orders one x q e ∙ g) (not_same _ _ n) (has_way x e p) (unbeaten (cases_Bool (head_to_head (situation m orders) (prov x) q))) in
+      rw (order.support_law m orders one a x e, order.support_law m orders one a w c) at r
+    where
+      unbeaten : (head_to_head (situation m orders) (prov x) q ≡ true) ⊎ (head_to_head (situation m orders) (prov x) q ≡ false) → (head_to_head (situation m orders) (prov x) q && a (Moves q)) ≡ false
+      unbeaten (inr f) = ap (λ (b : Bool). b && a (Moves q)) f
+      unbeaten (inl f) =
+          let z = and_parts (goes (situation m orders) (prov x) q && goes (situation m orders) q (prov x)) (not ((situation m orders).convoyed (prov x)) && not ((situation m orders).convoyed q)) f in
+          let v = order.goer m orders q (prov x) (and_parts (goes (situation m orders) (prov x) q) (goes (situation m orders) q (prov x)) z.0).1 in
+          let k : head_to_head (situation m orders) (prov x) (prov v.order) ≡ true = subst (λ (i : ℕ). head_to_head (situation m orders) (prov x) i ≡ true) (sym v.is.there) f in
+          let l = no_loser v.order v.is.among (sym (order.head_law m orders one x v.order e v.is.among) ∙ k) in
+          ap (λ (b : Bool). b && a (Moves q)) f ∙ (ap (λ (i : ℕ). a (Moves i)) (sym v.is.there) ∙ l)
+
+  -- who has the most support enters a province that is empty or left
+  pub enters : (w : PlacedOrder) (q : ℕ) → Contains orders w → goes_to w q ≡ true → HasWay m a w → IsLeft m a orders q w → AreOthersBelow a orders q w (helpers a orders w) → has_moved a w ≡ true
+  enters w q c g p left others = go (order_at orders q) refl
+    where
+      there : goes (situation m orders) (prov w) q ≡ true
+      there = order.goes_law m orders one w q c ∙ g
+
+      rivals : (x : ℕ) → goes (situation m orders) x q ≡ true → (x == prov w) ≡ false → prevent (situation m orders) a x q ≤ support (situation m orders) a (prov w)
+      rivals x h l = let z = order.support_law m orders one a w c in let k = below w q (helpers a orders w) others x h l in omega arith
+
+      none_back : (g k c e : Bool) → k ≡ false → ((g && k) && (not c && not e)) ≡ false
+      none_back true k c e n = rw n refl
+      none_back false k c e n = refl
+
+      go : (o : Option PlacedOrder) → order_at orders q ≡ o → has_moved a w ≡ true
+      go None e =
+          let back : goes (situation m orders) q (prov w) ≡ false = ap (λ (o : Option PlacedOrder). is_at (target_of o) (prov w)) e in
+          let apart : head_to_head (situation m orders) (prov w) q ≡ false = none_back (goes (situation m orders) (prov w) q) (goes (situation m orders) q (prov w)) ((situation m orders).convoyed (prov w)) ((situation m orders).convoyed q) back in
+          equations.gets_in_empty (situation m orders) d.broken d.paths_alone a d.equations (prov w) q there (ap is_some e) apart (has_way w c p) rivals
+      go (Some o) e =
+          let t = order.met orders q o e in
+          let l = left o t.among t.there in
+          equations.gets_in (situation m orders) d.broken d.paths_alone a d.equations (prov w) q there (ap (λ (i : ℕ). a (Moves i)) (sym t.there) ∙ l.0)
+          (ap (head_to_head (situation m orders) (prov w)) (sym t.there) ∙ order.head_law m orders one w o c t.among ∙ l.1) (has_way w c p) rivals
+
+  -- who is overpowered is dislodged
+  pub thrown_out : (o w : PlacedOrder) → Contains orders o → Contains orders w → has_moved a o ≡ false → goes_to w (prov o) ≡ true → HasWay m a w → IsOverpowered m a orders o w
+      → AreOthersBelow a orders (prov o) w (helpers_but a orders w o.unit.power) → was_dislodged_by a o w ≡ true
+  thrown_out o w c e n g p more others = and_from _ _ (ap not n) (and_from _ _ g moved)
+    where
+      u : support_against (situation m orders) a (prov w) (prov o) ≡ helpers_but a orders w o.unit.power
+      u = order.against_law m orders one a w o e c
+
+      z : support (situation m orders) a (prov o) ≡ helpers a orders o
+      z = order.support_law m orders one a o c
+
+      rivals : (x : ℕ) → goes (situation m orders) x (prov o) ≡ true → (x == prov w) ≡ false → prevent (situation m orders) a x (prov o) ≤ support_against (situation m orders) a (prov w) (prov o)
+      rivals x h l = let i = u in let k = below w (prov o) (helpers_but a orders w o.unit.power) others x h l in omega arith
+
+      helped : 0 < support_against (situation m orders) a (prov w) (prov o)
+      helped = let i = u in let k = more.helped in omega arith
+
+      stayed : has_move (situation m orders) (prov o) ≡ false → support (situation m orders) a (prov o) < support_against (situation m orders) a (prov w) (prov o)
+      stayed f = let i = u in let j = z in let k = more.stayed (sym (order.move_law m orders one o c) ∙ f) in omega arith
+
+      faced : head_to_head (situation m orders) (prov w) (prov o) ≡ true → support (situation m orders) a (prov o) < support_against (situation m orders) a (prov w) (prov o)
+      faced f = let i = u in let j = z in let k = more.faced (turned m w o (sym (order.head_law m orders one w o e c) ∙ f)) in omega arith
+
+      moved : has_moved a w ≡ true
+      moved = equations.throws_out (situation m orders) d.broken d.paths_alone a d.equations (prov w) (prov o) (order.goes_law m orders one w (prov o) e ∙ g) (order.occupied_law m orders one o c) n
+          (order.power_law m orders one w o e c ∙ not_same _ _ more.foreign) (has_way w e p) helped stayed faced rivals

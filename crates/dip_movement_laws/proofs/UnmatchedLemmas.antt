@@ -18,8 +18,9 @@ use Rattle.dip_decide.specs.declared.decisions.Decision.TheVariants.{Move as Mov
 use Rattle.dip_decide.specs.Deciding.{Assignment}
 use Rattle.dip_decide.specs.Laws.{AreOrders}
 use Rattle.dip_decide.specs.Matching.{Standing, destination, target_of, aim_of, goes_by_convoy, is_convoyed, is_matched, supports_in, is_carried, convoys_in, order_at, situation}
-use Rattle.dip_decide.specs.Movement.{Situation, is_at, goes, has_path, is_support, move_rule, path_rule, rule}
+use Rattle.dip_decide.specs.Movement.{Situation, is_at, goes, has_path, is_support, move_rule, path_rule, rule, cuts}
 use Rattle.dip_movement_laws.specs.Words.{IsDecided, prov, held_if, holding, is_in, is_a_support, helps}
+use Rattle.dip_movement_laws.proofs.EquationLemmas.{given_is}
 use Rattle.dip_movement_laws.proofs.ListLemmas.{any_none}
 use Rattle.dip_movement_laws.proofs.OrderLemmas as order
 use Rattle.dip_movement_laws.proofs.PlayLemmas.{single}
@@ -175,7 +176,7 @@ module _ (m : Chart) (orders : List PlacedOrder) (one : are_units_single (units_
       row None = refl
       row (Some o) = ap (λ (b : Bool). is_kind o.unit.kind Fleet && (is_sea (province m o.unit.place.prov).terrain && b)) (carrieds o.order q)
 
-  unsupporting : is_support (situation m orders) (prov h) ≡ false
+  pub unsupporting : is_support (situation m orders) (prov h) ≡ false
   unsupporting = any_none _ _ (λ q. ap (λ (o : Option PlacedOrder). supports_in (order_at orders) o q) (order.found orders h one c) ∙ none_matched q)
 
   same_but_aim : situation m (holding (is_in (prov h)) orders) ≡ aimed (situation m orders) (situation m (holding (is_in (prov h)) orders)).aim
@@ -217,3 +218,8 @@ unmatched_law m b orders a h o c s n = (there, back)
       paths_alone = d.paths_alone;
       equations = λ x. d.equations x ∙ ap (λ (r : Bool). not (d.broken x) && r) (kept x);
     }
+
+pub void_law : (m : Chart) (b : Position) (orders : List PlacedOrder) (a : Assignment) (h : PlacedOrder) → IsDecided m b orders a → Contains orders h → is_a_support h.order ≡ true
+    → ((o : PlacedOrder) → Contains orders o → helps h o ≡ false) → a (Supports (prov h)) ≡ false
+void_law m b orders a h d c s n =
+    given_is (situation m orders) d.broken d.paths_alone a d.equations (prov h) ∙ ap (λ (x : Bool). x && list_all (λ y. not (cuts (situation m orders) a (prov h) y)) (situation m orders).places) (unsupporting m orders (single m b orders d.standing) h c s n)

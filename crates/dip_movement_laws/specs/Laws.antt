@@ -1,5 +1,5 @@
 -- The laws of movement in a player's words, as statements.
-use Rattle.std.specs.Prelude.{◌≡◌, ◌≢◌, ℕ, ◌<◌, ◌≤◌, ◌⊎◌, ◌↔◌, true, false, Contains, List, [], ◌∷◌, length}
+use Rattle.std.specs.Prelude.{◌≡◌, ◌≢◌, ℕ, ◌<◌, ◌≤◌, ◌↔◌, true, false, Contains, List, [], ◌∷◌, length}
 use Rattle.dip_names.specs.declared.names.Kind.TheVariants.{Fleet}
 use Rattle.dip_names.specs.declared.names.Place.{Place}
 use Rattle.dip_names.specs.declared.names.Terrain.TheVariants.{Sea}
@@ -13,7 +13,7 @@ use Rattle.dip_decide.specs.Deciding.{Assignment, Step}
 use Rattle.dip_decide.specs.Laws.{AreOrders}
 use Rattle.dip_decide.specs.Matching.{situation}
 use Rattle.dip_decide.specs.Results.{AreExplained}
-use Rattle.dip_movement_laws.specs.Words.{IsDecided, prov, moves, goes_to, goes_itself, are_head_to_head, names, helps, is_support_into, has_moved, has_helped, was_carried, has_entered, was_dislodged_by, WasDislodged, helpers, helpers_but, holding, is_a_support, is_in, is_in_or_stays}
+use Rattle.dip_movement_laws.specs.Words.{IsDecided, prov, moves, goes_to, goes_itself, are_head_to_head, names, helps, is_support_into, has_moved, has_helped, was_carried, HasWay, has_entered, was_dislodged_by, WasDislodged, helpers, helpers_but, holding, is_a_support, is_in, is_in_or_stays}
 
 -- what steps explain is a movement that was decided
 abbrev pub ExplainedIsDecided : Type 0
@@ -32,7 +32,7 @@ DislodgedGiveNoSupport =
 pub record IsCutBy (m : Chart) (a : Assignment) (h w : PlacedOrder) : Type 0 where
   pub attacks : goes_to w (prov h) ≡ true
   pub foreign : w.unit.power ≢ h.unit.power
-  pub comes : (goes_itself m w ≡ true) ⊎ (was_carried a w ≡ true)
+  pub comes : HasWay m a w
   pub dislodges : is_support_into h.order (prov w) ≡ true → was_dislodged_by a h w ≡ true
 
 -- a support of what a unit does that wasn't given was cut by a unit of another power
@@ -68,8 +68,43 @@ LosersPreventNobody =
     (m : Chart) (b : Position) (orders : List PlacedOrder) (a : Assignment) (loser winner w : PlacedOrder)
     → IsDecided m b orders a → Contains orders loser → Contains orders winner → Contains orders w
     → are_head_to_head m loser winner ≡ true → has_moved a winner ≡ true
-    → goes_to w (prov winner) ≡ true → prov w ≢ prov loser → (goes_itself m w ≡ true) ⊎ (was_carried a w ≡ true)
+    → goes_to w (prov winner) ≡ true → prov w ≢ prov loser → HasWay m a w
     → AreRivalsWeaker a orders (prov winner) loser w → has_moved a w ≡ true
+
+-- the unit won against who was head to head with it, or nobody was
+abbrev pub IsNoLoser : Chart → Assignment → List PlacedOrder → PlacedOrder → Type 0
+IsNoLoser m a orders x = (v : PlacedOrder) → Contains orders v → are_head_to_head m x v ≡ true → has_moved a v ≡ false
+
+-- who enters a province has more support than each other unit that goes there and has a way, but for losers: of equals none enters
+abbrev pub EnterersAreStrongest : Type 0
+EnterersAreStrongest =
+    (m : Chart) (b : Position) (orders : List PlacedOrder) (a : Assignment) (w x : PlacedOrder) (q : ℕ)
+    → IsDecided m b orders a → Contains orders w → Contains orders x
+    → has_entered a w q ≡ true → goes_to x q ≡ true → prov x ≢ prov w → HasWay m a x → IsNoLoser m a orders x
+    → helpers a orders x < helpers a orders w
+
+-- each other unit that goes to that province has less support than n
+abbrev pub AreOthersBelow : Assignment → List PlacedOrder → ℕ → PlacedOrder → ℕ → Type 0
+AreOthersBelow a orders q w n = (x : PlacedOrder) → Contains orders x → goes_to x q ≡ true → prov x ≢ prov w → helpers a orders x < n
+
+-- who stands there leaves, and isn't head to head with that unit; or nobody stands there
+abbrev pub IsLeft : Chart → Assignment → List PlacedOrder → ℕ → PlacedOrder → Type 0
+IsLeft m a orders q w = (o : PlacedOrder) → Contains orders o → prov o ≡ q → (has_moved a o ≡ true) × (are_head_to_head m w o ≡ false)
+
+-- a province that is empty, or is left, is entered by the one with the most support, if it has a way
+abbrev pub StrongestEnter : Type 0
+StrongestEnter =
+    (m : Chart) (b : Position) (orders : List PlacedOrder) (a : Assignment) (w : PlacedOrder) (q : ℕ)
+    → IsDecided m b orders a → Contains orders w → goes_to w q ≡ true → HasWay m a w → IsLeft m a orders q w
+    → AreOthersBelow a orders q w (helpers a orders w) → has_moved a w ≡ true
+
+-- a unit that stays and is overpowered is dislodged, where support of other powers is more than each other unit's that goes there
+abbrev pub OverpoweredAreDislodged : Type 0
+OverpoweredAreDislodged =
+    (m : Chart) (b : Position) (orders : List PlacedOrder) (a : Assignment) (o w : PlacedOrder)
+    → IsDecided m b orders a → Contains orders o → Contains orders w → has_moved a o ≡ false
+    → goes_to w (prov o) ≡ true → HasWay m a w → IsOverpowered m a orders o w
+    → AreOthersBelow a orders (prov o) w (helpers_but a orders w o.unit.power) → was_dislodged_by a o w ≡ true
 
 -- a unit without a move stays where it is, and is dislodged only where another unit entered
 pub record Stays (a : Assignment) (orders : List PlacedOrder) (o : PlacedOrder) : Type 0 where
@@ -121,6 +156,13 @@ UnmatchedChangesNothing =
     → AreOrders m b orders → Contains orders h → is_a_support h.order ≡ true
     → ((o : PlacedOrder) → Contains orders o → helps h o ≡ false)
     → IsDecided m b orders a ↔ IsDecided m b (holding (is_in (prov h)) orders) a
+
+-- nor is it given
+abbrev pub UnmatchedIsVoid : Type 0
+UnmatchedIsVoid =
+    (m : Chart) (b : Position) (orders : List PlacedOrder) (a : Assignment) (h : PlacedOrder)
+    → IsDecided m b orders a → Contains orders h → is_a_support h.order ≡ true
+    → ((o : PlacedOrder) → Contains orders o → helps h o ≡ false) → has_helped a h ≡ false
 
 -- what comes of orders is what came of others, but for the supports of that unit's move
 pub record IsTheSameBut (orders : List PlacedOrder) (o : PlacedOrder) (old new : Assignment) : Type 0 where

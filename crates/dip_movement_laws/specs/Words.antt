@@ -1,5 +1,5 @@
 -- A movement in a player's words: units with their orders, and what came of them.
-use Rattle.std.specs.Prelude.{◌≡◌, ℕ, ◌==◌, ◌&&◌, ◌||◌, not, Bool, true, false, Contains, List, map, count_by, if◌then◌else◌}
+use Rattle.std.specs.Prelude.{◌≡◌, ◌⊎◌, ℕ, ◌==◌, ◌&&◌, ◌||◌, not, Bool, true, false, Contains, List, map, count_by, if◌then◌else◌}
 use Rattle.dip_names.specs.declared.names.Kind.{Kind}
 use Rattle.dip_names.specs.declared.names.Kind.TheVariants.{Army, Fleet}
 use Rattle.dip_names.specs.Kinds.{is_kind}
@@ -90,6 +90,10 @@ has_helped a h = a (Supports (prov h))
 -- fleets carried the unit to where it goes: they made it a path
 abbrev pub was_carried : Assignment → PlacedOrder → Bool
 was_carried a o = a (Paths (prov o))
+
+-- the unit goes by itself, or fleets carried it
+abbrev pub HasWay : Chart → Assignment → PlacedOrder → Type 0
+HasWay m a o = (goes_itself m o ≡ true) ⊎ (was_carried a o ≡ true)
 
 -- the unit entered that province
 abbrev pub has_entered : Assignment → PlacedOrder → ℕ → Bool

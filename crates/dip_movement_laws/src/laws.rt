@@ -1,9 +1,10 @@
 //! Laws of movement, each the contract of a function that does nothing.
 ghost use Rattle.dip_movement_laws.specs.Laws.{DislodgedByOthersAlone, DislodgedFleetsCarryNobody};
-ghost use Rattle.dip_movement_laws.specs.Laws.{DislodgedGiveNoSupport, ExplainedIsDecided};
+ghost use Rattle.dip_movement_laws.specs.Laws.{DislodgedGiveNoSupport, EnterersAreStrongest};
+ghost use Rattle.dip_movement_laws.specs.Laws.{ExplainedIsDecided, OverpoweredAreDislodged};
 ghost use Rattle.dip_movement_laws.specs.Laws.{LosersPreventNobody, NoPowerCutsItsOwn};
-ghost use Rattle.dip_movement_laws.specs.Laws.{PathlessChangesNothing, UnitsWithoutMovesStay};
-ghost use Rattle.dip_movement_laws.specs.Laws.{UnmatchedChangesNothing};
+ghost use Rattle.dip_movement_laws.specs.Laws.{PathlessChangesNothing, StrongestEnter, UnitsWithoutMovesStay};
+ghost use Rattle.dip_movement_laws.specs.Laws.{UnmatchedChangesNothing, UnmatchedIsVoid};
 
 use dip_decide::{boards_are_situations, chains_are_found, explained_is_lawful};
 
@@ -50,9 +51,11 @@ pub fn dislodged_fleets_carry_nobody()
     chains_are_found();
 }
 
-/// A support that doesn't match changes nothing: the same comes of the orders in which its unit holds. A law: it does nothing.
+/// A support that doesn't match isn't given, and changes nothing: the same comes of the orders in which its unit holds. A law: it does
+/// nothing.
 pub fn unmatched_changes_nothing()
-    ensures { UnmatchedChangesNothing }
+    ensures same { UnmatchedChangesNothing }
+    ensures void { UnmatchedIsVoid }
 {}
 
 /// A move by convoy without a path changes nothing: the same comes of the orders in which its unit holds, and in which nobody supports
@@ -62,3 +65,17 @@ pub fn pathless_changes_nothing()
 {
     boards_are_situations();
 }
+
+/// Who enters a province has more support than each other unit that goes there and has a way, but for losers of a battle head to head: of
+/// equals none enters. A law: it does nothing.
+pub fn enterers_are_strongest()
+    ensures { EnterersAreStrongest }
+{}
+
+/// Of the units that go to a province that is empty, or is left, the one with the most support enters, if it has a way. A unit that
+/// stays is dislodged by one of another power that has more support of other powers than the unit has to stay, and than each other
+/// unit has that goes there. A law: it does nothing.
+pub fn strongest_enter()
+    ensures open { StrongestEnter }
+    ensures held { OverpoweredAreDislodged }
+{}

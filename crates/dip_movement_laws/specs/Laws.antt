@@ -56,7 +56,7 @@ DislodgedByOthersAlone =
     (m : Chart) (b : Position) (orders : List PlacedOrder) (a : Assignment) (o w : PlacedOrder)
     → IsDecided m b orders a → Contains orders o → Contains orders w → was_dislodged_by a o w ≡ true → IsOverpowered m a orders o w
 
--- the unit is ordered to another unit's province, from elsewhere than a third one's, and with less support than a fourth
+-- each unit that goes to that province, but these two, has less support than the second of them
 abbrev pub AreRivalsWeaker : Assignment → List PlacedOrder → ℕ → PlacedOrder → PlacedOrder → Type 0
 AreRivalsWeaker a orders q loser w =
     (x : PlacedOrder) → Contains orders x → goes_to x q ≡ true → prov x ≢ prov loser → prov x ≢ prov w → helpers a orders x < helpers a orders w
@@ -71,7 +71,7 @@ LosersPreventNobody =
     → goes_to w (prov winner) ≡ true → prov w ≢ prov loser → HasWay m a w
     → AreRivalsWeaker a orders (prov winner) loser w → has_moved a w ≡ true
 
--- the unit won against who was head to head with it, or nobody was
+-- no unit that is head to head with it succeeds
 abbrev pub IsNoLoser : Chart → Assignment → List PlacedOrder → PlacedOrder → Type 0
 IsNoLoser m a orders x = (v : PlacedOrder) → Contains orders v → are_head_to_head m x v ≡ true → has_moved a v ≡ false
 
@@ -157,7 +157,7 @@ UnmatchedChangesNothing =
     → ((o : PlacedOrder) → Contains orders o → helps h o ≡ false)
     → IsDecided m b orders a ↔ IsDecided m b (holding (is_in (prov h)) orders) a
 
--- nor is it given
+-- a support that matches nothing that a unit does isn't given
 abbrev pub UnmatchedIsVoid : Type 0
 UnmatchedIsVoid =
     (m : Chart) (b : Position) (orders : List PlacedOrder) (a : Assignment) (h : PlacedOrder)

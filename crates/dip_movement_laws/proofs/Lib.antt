@@ -1,0 +1,9 @@
+pub mod ListLemmas
+pub mod OrderLemmas
+pub mod EquationLemmas
+pub mod PlayLemmas
+pub mod ConvoyLemmas
+pub mod HoldLemmas
+pub mod UnmatchedLemmas
+pub mod SilentLemmas
+pub mod PathlessLemmas

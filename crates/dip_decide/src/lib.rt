@@ -9,12 +9,13 @@ mod forcing;
 mod laws;
 mod lists;
 mod matching;
+mod mentioning;
 mod resolving;
-mod settling;
 mod starting;
 mod table;
 mod turns;
 mod values;
+mod working;
 
 pub use decisions::{Decision, Resolution, Step};
 pub use laws::{

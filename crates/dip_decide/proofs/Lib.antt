@@ -20,3 +20,4 @@ pub mod Stands
 pub mod Tested
 pub mod Searches
 pub mod Mentioners
+pub mod Commuting

@@ -23,7 +23,7 @@ use Rattle.dip_decide.proofs.TableLaws.{none_behind}
 use Rattle.dip_decide.proofs.FromSteps.{known_unbroken, satisfied, knot_open}
 use Rattle.dip_decide.proofs.Continuing.{give_grows}
 use Rattle.dip_decide.proofs.Counting.{open_among, fewer}
-use Rattle.dip_decide.proofs.OneAnswer.{open_one, same_self}
+use Rattle.dip_decide.proofs.OneAnswer.{open_one, same_self, one_answer}
 use Rattle.dip_decide.proofs.Progress.{no_more, listed_decision, arrives}
 use Rattle.dip_decide.proofs.Rises.{count_le}
 use Rattle.dip_decide.proofs.Rounds.{knotted}
@@ -35,7 +35,7 @@ use Rattle.dip_decide.specs.declared.decisions.Step as Written
 use Rattle.dip_decide.specs.declared.decisions.Step.TheVariants.{Forced, Circle, Knot}
 use Rattle.dip_decide.specs.Deciding.{Known, Assignment, is_among, is_broken, IsCompletion, Explains, IsCircle, IsKnot, give}
 use Rattle.dip_decide.specs.Movement.{Situation, IsSituation, is_listed, is_decided, at_first, rule, mentions, Satisfies}
-use Rattle.dip_decide.specs.Results.{is_true, breaks, are_ascending, AreInOrder, AreExplained, values_in, broken_in, decided_in, mentions_in, IsListing}
+use Rattle.dip_decide.specs.Results.{is_true, breaks, are_ascending, AreInOrder, AreExplained, IsOnly, values_in, broken_in, decided_in, mentions_in, IsListing}
 use Rattle.dip_decide.specs.Steps.{moves_of, paths_of, decisions, is_unknown, steps_of, IsStarted, Advances, IsComplete}
 use Rattle.dip_decide.proofs.ChainLaws.{listed_kept}
 use Rattle.dip_decide.proofs.Giving.{among_paths, single_moves}
@@ -231,6 +231,7 @@ pub record IsResolved (s : Situation) (r : Resolution) : Type 0 where
   pub equations : Satisfies s (broken_in r) (values_in r)
   pub explained : AreExplained s (steps_of r.steps.items) (values_in r)
   pub broken : (d : Decision) → broken_in r d ≡ is_broken (steps_of r.steps.items) d
+  pub only : IsOnly s r
   pub few : length r.steps.items ≤ decided_in s
   pub ordered : AreInOrder r
 
@@ -248,6 +249,7 @@ resolved s i m behind steps k tests c r l =
       equations = equations s i m behind steps k tests c r l;
       explained = subst (λ (x : List Written.Step). AreExplained s (steps_of x) (values_in r)) (sym l.steps) e;
       broken = subst (λ (x : List Written.Step). (d : Decision) → broken_in r d ≡ is_broken (steps_of x) d) (sym l.steps) (broken s i m behind steps k tests c r l);
+      only = λ more a h d. let o = one_answer (rule s) (mentions s) (values_in r) a (steps_of steps) more (at_first s) e h in (o.values d, broken s i m behind steps k tests c r l d ∙ o.broken d);
       few = subst (λ (x : List Written.Step). length x ≤ decided_in s) (sym l.steps) few_steps;
       ordered = ordered s i m behind steps k tests c r l;
     }

@@ -8,7 +8,7 @@ use Rattle.dip_decide.specs.declared.decisions.Resolution.{Resolution}
 use Rattle.dip_decide.specs.declared.decisions.Step as Written
 use Rattle.dip_decide.specs.declared.decisions.Step.TheVariants.{Forced, Circle, Knot}
 use Rattle.dip_decide.specs.Deciding.Step.{Forced as Forces}
-use Rattle.dip_decide.specs.Deciding.{Assignment, Known, Step, Explains}
+use Rattle.dip_decide.specs.Deciding.{Assignment, Known, Step, Explains, is_broken}
 use Rattle.dip_decide.specs.Movement.{Situation, is_listed, is_decided, at_first, rule, mentions}
 use Rattle.dip_decide.specs.Steps.{decisions}
 
@@ -26,6 +26,10 @@ broken_in r _ = false
 -- the steps lead from the first to the last to these values
 abbrev pub AreExplained : Situation → List Step → Assignment → Type 0
 AreExplained s steps a = Explains (rule s) (mentions s) (at_first s) steps a
+
+-- whatever steps explain the same come to these values, and break these paths
+abbrev pub IsOnly : Situation → Resolution → Type 0
+IsOnly s r = (steps : List Step) (a : Assignment) → AreExplained s steps a → (d : Decision) → (values_in r d ≡ a d) × (broken_in r d ≡ is_broken steps d)
 
 -- how many decisions there are
 abbrev pub decided_in : Situation → ℕ

@@ -9,7 +9,7 @@ ghost use Rattle.dip_decide.specs.Deciding.{is_broken};
 ghost use Rattle.dip_decide.specs.Given.{known_of};
 ghost use Rattle.dip_decide.specs.Matching.{situation};
 ghost use Rattle.dip_decide.specs.Movement.{Satisfies};
-ghost use Rattle.dip_decide.specs.Results.{values_in, broken_in, AreExplained, AreInOrder, decided_in, forced_in, mentions_in, is_true, trues, breaks, IsListing};
+ghost use Rattle.dip_decide.specs.Results.{values_in, broken_in, AreExplained, IsOnly, AreInOrder, decided_in, forced_in, mentions_in, is_true, trues, breaks, IsListing};
 ghost use Rattle.dip_decide.specs.Steps.{steps_of};
 
 use crate::decisions::{Resolution, Step};
@@ -103,7 +103,8 @@ fn resolution_of(
 /// What comes of the orders of a movement: one for each unit of the board.
 ///
 /// The values satisfy the decision equations, and the steps explain them: each decision was forced by those before it, or was
-/// settled with a circle or with a knot, which is taken only where nothing is forced and there is no circle. There are at most
+/// settled with a circle or with a knot, which is taken only where nothing is forced and there is no circle. Whatever steps explain
+/// the same orders come to these values and break these paths. There are at most
 /// as many steps as decisions. At least the forced ones were tested; each decision is tested at first, and again at most once for
 /// each that its equation mentions and that got its value before. The only error is want of memory.
 pub fn resolve(
@@ -118,6 +119,7 @@ pub fn resolve(
         (λ r. Satisfies (situation map.now orders.now) (broken_in r) (values_in r)) }
     ensures explained { IfOk result
         (λ r. AreExplained (situation map.now orders.now) (steps_of r.steps.items) (values_in r)) }
+    ensures only { IfOk result (IsOnly (situation map.now orders.now)) }
     ensures broken { IfOk result
         (λ r. (d : ADecision) → broken_in r d ≡ is_broken (steps_of r.steps.items) d) }
     ensures few { IfOk result

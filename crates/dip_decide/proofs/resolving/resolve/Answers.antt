@@ -31,6 +31,11 @@ returns-clause-explained c =
     let e : situation_of c.in_ok-table.table ≡ situation c.args.map.now c.args.orders.now = c.in_ok-table.ensures ∙ ap (situation c.args.map.now) c.as_slice.ensures in
     if_ok_more _ _ c.resolution_of.result (λ r l. (resolved_board c.args.map.now c.args.board.now c.args.orders.now c.requires.is_of c.requires.orders c.facts-2.ensures c.in_ok-steps.steps.items (known_of c.explain.new.values) c.explain.new.tests (situation_of c.in_ok-table.table) e c.in_ok-steps.ensures.explained r l).explained) c.resolution_of.ensures
 
+pub returns-clause-only : goal.returns-clause-only
+returns-clause-only c =
+    let e : situation_of c.in_ok-table.table ≡ situation c.args.map.now c.args.orders.now = c.in_ok-table.ensures ∙ ap (situation c.args.map.now) c.as_slice.ensures in
+    if_ok_more _ _ c.resolution_of.result (λ r l. (resolved_board c.args.map.now c.args.board.now c.args.orders.now c.requires.is_of c.requires.orders c.facts-2.ensures c.in_ok-steps.steps.items (known_of c.explain.new.values) c.explain.new.tests (situation_of c.in_ok-table.table) e c.in_ok-steps.ensures.explained r l).only) c.resolution_of.ensures
+
 pub returns-clause-broken : goal.returns-clause-broken
 returns-clause-broken c =
     let e : situation_of c.in_ok-table.table ≡ situation c.args.map.now c.args.orders.now = c.in_ok-table.ensures ∙ ap (situation c.args.map.now) c.as_slice.ensures in

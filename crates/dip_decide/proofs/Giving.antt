@@ -36,7 +36,7 @@ paths_single [] h = refl
 paths_single (p ∷ ps) h = rw (sym (among_paths ps p) ∙ h.0, paths_single ps h.1) refl
 
 -- one of a list stands not before its place
-listed_at : (ps : List ℕ) (i p : ℕ) → i < length ps → p ≡ get_or ps i p → is_listed ps p ≡ true
+pub listed_at : (ps : List ℕ) (i p : ℕ) → i < length ps → p ≡ get_or ps i p → is_listed ps p ≡ true
 listed_at [] i p h e = absurd (omega arith)
 listed_at (x ∷ ps) zero p h e = or_left (x == p) (is_listed ps p) (eq-eqb x p (sym e))
 listed_at (x ∷ ps) (suc i) p h e = or_right (x == p) _ (listed_at ps i p (omega arith) e)
@@ -54,7 +54,7 @@ not_before (x ∷ ps) (suc i) p s h e = go (cases_Bool (x == p)) (not_before ps 
     go (inl y) r = absurd (both_ways _ (not-true _ a.0) (subst (λ (z : ℕ). is_listed ps z ≡ true) (sym (eqb-true x p y)) (listed_at ps i p (omega arith) e)))
 
 -- one more of one value
-among_more : (e : Decision) (ds : List Decision) (d : Decision) → is_among e (ds ++ d ∷ []) ≡ (is_among e ds || same e d)
+pub among_more : (e : Decision) (ds : List Decision) (d : Decision) → is_among e (ds ++ d ∷ []) ≡ (is_among e ds || same e d)
 among_more e [] d = or_false (same e d)
   where
     or_false : (b : Bool) → (b || false) ≡ b

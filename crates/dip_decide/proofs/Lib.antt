@@ -17,3 +17,7 @@ pub mod ResultLaws
 pub mod Chaining
 pub mod Cycles
 pub mod Stands
+pub mod Tested
+pub mod Searches
+pub mod Mentioners
+pub mod Commuting

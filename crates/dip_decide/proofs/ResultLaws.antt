@@ -1,8 +1,8 @@
 -- The lists of a resolution, and what they say together.
-use Rattle.std.proofs.Common.{◌≡◌, ℕ, ◌≤◌, ◌<◌, ◌+◌, List, [], ◌∷◌, length, All, refl, sym, subst, ap, ◌∙◌, append-nil, inl, inr, zero, suc, arith}
+use Rattle.std.proofs.Common.{◌≡◌, ℕ, ◌≤◌, ◌<◌, ◌+◌, ◌^◌, List, [], ◌∷◌, length, All, refl, sym, subst, ap, ◌∙◌, append-nil, inl, inr, zero, suc, arith}
 use Rattle.std.specs.Prelude.{◌==◌, nat_lt, Bool, true, false, ◌&&◌, ◌||◌, filter, None, Some}
 use Rattle.std.specs.List.{list_any, list_all, range_with_len}
-use Rattle.std.proofs.lemmas.Bool.{cases_Bool, both_ways, cases_lt, or_left, or_right, and_parts}
+use Rattle.std.proofs.lemmas.Bool.{cases_Bool, both_ways, cases_lt, or_cases, eqb-true, or_left, or_right, and_parts}
 use Rattle.std.proofs.lemmas.Bool.Decides.{nat_tests}
 use Rattle.std.proofs.Math.Path.{fun_ext}
 use mathlib.Core.Logic.{◌⊎◌}
@@ -23,8 +23,8 @@ use Rattle.dip_decide.proofs.TableLaws.{none_behind}
 use Rattle.dip_decide.proofs.FromSteps.{known_unbroken, satisfied, knot_open}
 use Rattle.dip_decide.proofs.Continuing.{give_grows}
 use Rattle.dip_decide.proofs.Counting.{open_among, fewer}
-use Rattle.dip_decide.proofs.OneAnswer.{open_one, same_self}
-use Rattle.dip_decide.proofs.Progress.{listed_decision, arrives}
+use Rattle.dip_decide.proofs.OneAnswer.{open_one, same_self, one_answer}
+use Rattle.dip_decide.proofs.Progress.{no_more, listed_decision, arrives}
 use Rattle.dip_decide.proofs.Rises.{count_le}
 use Rattle.dip_decide.proofs.Rounds.{knotted}
 use Rattle.dip_decide.proofs.Situated.{situated}
@@ -35,10 +35,13 @@ use Rattle.dip_decide.specs.declared.decisions.Step as Written
 use Rattle.dip_decide.specs.declared.decisions.Step.TheVariants.{Forced, Circle, Knot}
 use Rattle.dip_decide.specs.Deciding.{Known, Assignment, is_among, is_broken, IsCompletion, Explains, IsCircle, IsKnot, give}
 use Rattle.dip_decide.specs.Movement.{Situation, IsSituation, is_listed, is_decided, at_first, rule, mentions, Satisfies}
-use Rattle.dip_decide.specs.Results.{is_true, breaks, are_ascending, AreInOrder, AreExplained, values_in, broken_in, decided_in, IsListing}
-use Rattle.dip_decide.specs.Steps.{paths_of, decisions, is_unknown, steps_of, IsStarted, Advances, IsComplete}
+use Rattle.dip_decide.specs.Results.{is_true, breaks, are_ascending, AreInOrder, AreExplained, IsOnly, values_in, broken_in, decided_in, mentions_in, IsListing}
+use Rattle.dip_decide.specs.Steps.{moves_of, paths_of, decisions, is_unknown, steps_of, IsStarted, Advances, IsComplete}
 use Rattle.dip_decide.proofs.ChainLaws.{listed_kept}
-use Rattle.dip_decide.proofs.Giving.{among_paths}
+use Rattle.dip_decide.proofs.Giving.{among_paths, single_moves}
+use Rattle.dip_decide.proofs.RingLaws.{among_moves}
+use Rattle.dip_decide.proofs.Tested.{bounded}
+use Rattle.dip_chart.specs.Charts.{are_provs_single}
 
 pub broken_any : (steps : List Written.Step) (p : ℕ) → is_broken (steps_of steps) (Path p) ≡ list_any (λ s. breaks s p) steps
 broken_any [] p = refl
@@ -97,7 +100,7 @@ known_right k d v h = rw h refl
 known_explained : (s : Situation) (steps : List Deciding.Step) (k : Known) → IsComplete s steps k → AreExplained s steps (known_values k)
 known_explained s steps k c = rw (append-nil steps) at (c.explained.on (known_values k) [] (known_right k) (λ d. let v = c.all d in v.1 ∙ ap Some (sym (rw v.1 refl))))
 
-module _ (s : Situation) (i : IsSituation s) (m : Chart) (behind : IsBehind s m) (steps : List Written.Step) (k : Known) (c : IsComplete s (steps_of steps) k) (r : Resolution) (l : IsListing steps k m r) where
+module _ (s : Situation) (i : IsSituation s) (m : Chart) (behind : IsBehind s m) (steps : List Written.Step) (k : Known) (tests : ℕ) (c : IsComplete s (steps_of steps) k) (r : Resolution) (l : IsListing steps k tests m r) where
   first_known : (d : Decision) → is_decided s d ≡ false → k d ≡ Some false
   first_known d h = c.explained.grows d false (rw h refl)
 
@@ -228,6 +231,7 @@ pub record IsResolved (s : Situation) (r : Resolution) : Type 0 where
   pub equations : Satisfies s (broken_in r) (values_in r)
   pub explained : AreExplained s (steps_of r.steps.items) (values_in r)
   pub broken : (d : Decision) → broken_in r d ≡ is_broken (steps_of r.steps.items) d
+  pub only : IsOnly s r
   pub few : length r.steps.items ≤ decided_in s
   pub ordered : AreInOrder r
 
@@ -235,21 +239,72 @@ length_steps : (steps : List Written.Step) → length (steps_of steps) ≡ lengt
 length_steps [] = refl
 length_steps (x ∷ steps) = ap suc (length_steps steps)
 
-resolved : (s : Situation) → IsSituation s → (m : Chart) → IsBehind s m → (steps : List Written.Step) (k : Known) → IsComplete s (steps_of steps) k → (r : Resolution) → IsListing steps k m r → IsResolved s r
-resolved s i m behind steps k c r l =
-    let e = explained s i m behind steps k c r l in
+resolved : (s : Situation) → IsSituation s → (m : Chart) → IsBehind s m → (steps : List Written.Step) (k : Known) (tests : ℕ) → IsComplete s (steps_of steps) k → (r : Resolution) → IsListing steps k tests m r → IsResolved s r
+resolved s i m behind steps k tests c r l =
+    let e = explained s i m behind steps k tests c r l in
     let f = few s i (steps_of steps) (values_in r) e in
     let n = length_steps steps in
     let few_steps : length steps ≤ decided_in s = omega arith in
     record {
-      equations = equations s i m behind steps k c r l;
+      equations = equations s i m behind steps k tests c r l;
       explained = subst (λ (x : List Written.Step). AreExplained s (steps_of x) (values_in r)) (sym l.steps) e;
-      broken = subst (λ (x : List Written.Step). (d : Decision) → broken_in r d ≡ is_broken (steps_of x) d) (sym l.steps) (broken s i m behind steps k c r l);
+      broken = subst (λ (x : List Written.Step). (d : Decision) → broken_in r d ≡ is_broken (steps_of x) d) (sym l.steps) (broken s i m behind steps k tests c r l);
+      only = λ more a h d. let o = one_answer (rule s) (mentions s) (values_in r) a (steps_of steps) more (at_first s) e h in (o.values d, broken s i m behind steps k tests c r l d ∙ o.broken d);
       few = subst (λ (x : List Written.Step). length x ≤ decided_in s) (sym l.steps) few_steps;
-      ordered = ordered s i m behind steps k c r l;
+      ordered = ordered s i m behind steps k tests c r l;
     }
 
 -- of the orders of a board
-pub resolved_board : (m : Chart) (b : Position) (orders : List PlacedOrder) → IsOf m b → units_of orders ≡ b.units → are_in_force orders ≡ true → (steps : List Written.Step) (k : Known) (t : Situation) → t ≡ situation m orders → IsComplete t (steps_of steps) k → (r : Resolution) → IsListing steps k m r → IsResolved (situation m orders) r
-resolved_board m b orders o u f steps k t e c r l =
-    resolved (situation m orders) (situated m orders f (rw u o.apart)) m (behind_all m orders (within m b orders o u)) steps k (subst (λ (x : Situation). IsComplete x (steps_of steps) k) e c) r l
+pub resolved_board : (m : Chart) (b : Position) (orders : List PlacedOrder) → IsOf m b → units_of orders ≡ b.units → are_in_force orders ≡ true → (steps : List Written.Step) (k : Known) (tests : ℕ) (t : Situation) → t ≡ situation m orders → IsComplete t (steps_of steps) k → (r : Resolution) → IsListing steps k tests m r → IsResolved (situation m orders) r
+resolved_board m b orders o u f steps k tests t e c r l =
+    resolved (situation m orders) (situated m orders f (rw u o.apart)) m (behind_all m orders (within m b orders o u)) steps k tests (subst (λ (x : Situation). IsComplete x (steps_of steps) k) e c) r l
+
+-- the units of a board stand in provinces of a map, so that there are few
+
+length_numbers : (a n : ℕ) → length (range_with_len a n) ≡ n
+length_numbers a zero = refl
+length_numbers a (suc n) = ap suc (length_numbers (a + 1) n)
+
+length_moves : (ps : List ℕ) → length (moves_of ps) ≡ length ps
+length_moves [] = refl
+length_moves (p ∷ ps) = ap suc (length_moves ps)
+
+moves_only : (d : Decision) (ps : List ℕ) → is_among d (moves_of ps) ≡ true → (p : ℕ) × (d ≡ Move p)
+moves_only (Move p) ps h = (p, refl)
+moves_only (Path p) [] h = absurd (both_ways false refl h)
+moves_only (Path p) (q ∷ ps) h = moves_only (Path p) ps h
+moves_only (Support p) [] h = absurd (both_ways false refl h)
+moves_only (Support p) (q ∷ ps) h = moves_only (Support p) ps h
+
+listed_below : (ps : List ℕ) (n p : ℕ) → AllByRecursion (λ q. q < n) ps → is_listed ps p ≡ true → p < n
+listed_below [] n p a h = absurd (both_ways false refl h)
+listed_below (q ∷ ps) n p a h = go (or_cases _ _ h) (listed_below ps n p a.1)
+  where
+    go : ((q == p) ≡ true) ⊎ (is_listed ps p ≡ true) → (is_listed ps p ≡ true → p < n) → p < n
+    go (inl e) _ = subst (λ (x : ℕ). x < n) (eqb-true q p e) a.0
+    go (inr m) f = f m
+
+few_places : (ps : List ℕ) (n : ℕ) → are_provs_single ps ≡ true → AllByRecursion (λ q. q < n) ps → length ps ≤ n
+few_places ps n s a =
+    let l = no_more (moves_of ps) (moves_of (range_with_len 0 n)) (single_moves ps s) inside in
+    let x = length_moves ps in
+    let y = length_moves (range_with_len 0 n) in
+    let z = length_numbers 0 n in
+    omega arith
+  where
+    inside : (d : Decision) → is_among d (moves_of ps) ≡ true → is_among d (moves_of (range_with_len 0 n)) ≡ true
+    inside d h =
+        let m = moves_only d ps h in
+        let g : is_listed ps m.0 ≡ true = sym (among_moves ps m.0) ∙ rw m.1 at h in
+        rw (m.1, among_moves (range_with_len 0 n) m.0) (listed_number 0 n m.0 (omega arith) (let b = listed_below ps n m.0 a g in omega arith))
+
+places_below : (orders : List PlacedOrder) (n : ℕ) → AllByRecursion (λ o. o.unit.place.prov < n) orders → AllByRecursion (λ q. q < n) (provinces_of orders)
+places_below [] n a = tt
+places_below (o ∷ orders) n a = (a.0, places_below orders n a.1)
+
+pub bounded_board : (m : Chart) (b : Position) (orders : List PlacedOrder) → IsOf m b → units_of orders ≡ b.units → are_in_force orders ≡ true → length m.provinces ≤ 200 → decided_in (situation m orders) + mentions_in (situation m orders) < 2 ^ 64
+bounded_board m b orders o u f h =
+    let i = situated m orders f (rw u o.apart) in
+    let l = few_places (provinces_of orders) (length m.provinces) i.distinct (places_below orders (length m.provinces) (recursion_from_All _ _ (within m b orders o u))) in
+    let d = bounded (situation m orders) (let r : length (provinces_of orders) ≤ 200 = omega arith in r) in
+    omega arith

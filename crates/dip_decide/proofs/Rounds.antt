@@ -4,16 +4,16 @@ use Rattle.std.specs.Prelude.{◌==◌, ◌↔◌, Bool, true, false, None, Some
 use Rattle.std.specs.List.{list_any}
 use Rattle.std.proofs.lemmas.Bool.{cases_Bool, both_ways, or_cases, or_left, or_right, eq-eqb, and_parts, not-true}
 use Rattle.std.proofs.lemmas.Bool.Decides.{nat_tests}
-use Rattle.std.specs.Prelude.{IfOk, Result, Ok, Err}
+use Rattle.std.specs.Prelude.{IfOk, OnOk, Result, Ok, Err}
 use mathlib.Core.Logic.{◌⊎◌}
 use Rattle.dip_chart.specs.Charts.{are_provs_single}
 use Rattle.dip_decide.specs.declared.decisions.Decision.{Decision}
 use Rattle.dip_decide.specs.declared.decisions.Decision.TheVariants.{Move, Path, Support}
-use Rattle.dip_decide.specs.Deciding.{same, is_among, Known, Equation, Mentions, IsForced, Follows, AreLinked, is_move, IsCircle, is_path, IsOpenPath, IsKnotted, IsKnot, Reaches, give, Step}
+use Rattle.dip_decide.specs.Deciding.{same, is_among, Known, Equation, Mentions, Follows, AreLinked, is_move, IsCircle, is_path, IsOpenPath, IsKnotted, IsKnot, Reaches, give, Step}
 use Rattle.dip_decide.specs.Deciding.Step.{Circle, Knot}
 use Rattle.dip_decide.specs.Movement.{Situation, IsSituation, is_listed, at_first, rule, mentions}
 use Rattle.dip_decide.specs.Rings.{waits_for, leaves, AreWaiting, AreOpen, ArePathsOpen, IsRing, IsNonEmpty}
-use Rattle.dip_decide.specs.Steps.{moves_of, paths_of, decisions, is_unknown, open_paths, NoneForced, IsStarted, Continues, IsSettled, IsTurn, IsReached}
+use Rattle.dip_decide.specs.Steps.{moves_of, paths_of, decisions, is_unknown, open_paths, NoneForced, IsStarted, Continues, IsTurn, IsReached}
 use Rattle.dip_decide.proofs.OneAnswer.{same_is, same_self, Next, next_in}
 use Rattle.dip_decide.proofs.Progress.{some_is, at_is, known_or_open, unknown_is, listed_decision, open_decided, moves_alone, follows_one, arrives, reached_back}
 use Rattle.dip_decide.proofs.Following.{follows_target}
@@ -26,10 +26,6 @@ use Rattle.dip_decide.proofs.Counting.{open_among as open_decisions, fewer}
 
 abbrev pub NoCircle : Situation → Known → Type 0
 NoCircle s k = (ds : List Decision) → IsCircle (rule s) k ds → ⊥
-
--- where none of the decisions of the places is forced, none is
-pub none_forced : (s : Situation) → IsSituation s → (k : Known) → IsStarted s k → ((d : Decision) → is_among d (decisions s.places) ≡ true → (b : Bool) → IsForced (rule s) k d b → ⊥) → NoneForced s k
-none_forced s i k z h d b f = h d (listed_decision s i k z d f.is_open) b f
 
 open_among : (k : Known) (d : Decision) (ps : List ℕ) → AreOpen k ps → is_among d (moves_of ps) ≡ true → k d ≡ None
 open_among k d [] o h = absurd (both_ways false refl h)
@@ -186,9 +182,6 @@ module _ (s : Situation) (i : IsSituation s) (k : Known) (z : IsStarted s k) (n 
 
 -- a turn of each kind
 
-pub pass_turn : (s : Situation) (x y : List Step) (k l : Known) → IsSettled s (decisions s.places) true x k y l → IsTurn s true x k y l
-pass_turn s x y k l p = record { explained = p.explained; given = p.passed }
-
 pub circle_turn : (s : Situation) (x : List Step) (k : Known) (p : ℕ) (ps : List ℕ) → IsSituation s → IsStarted s k → IsCircle (rule s) k (moves_of (p ∷ ps)) → IsTurn s true x k (x ++ Circle (moves_of (p ∷ ps)) ∷ []) (give k (moves_of (p ∷ ps)) true)
 circle_turn s x k p ps i z c = record {
   explained = λ first h. one_circle (rule s) (mentions s) first k x (moves_of (p ∷ ps)) c h;
@@ -232,17 +225,6 @@ turn_reached s false x y k l t c = record { explained = t.explained (at_first s)
 pub last_turn : (s : Situation) (x : List Step) (k l : Known) → l ≡ k → ((d : Decision) → (v : Bool) × (k d ≡ Some v)) → IsTurn s false x k x l
 last_turn s x k l e a = record { explained = λ first c. rw e c; given = λ d. let v = a d in (v.0, rw e v.1) }
 
--- a pass that gave nothing, and what was done then
-pub pass_then : (s : Situation) (ds : List Decision) (any : Bool) (x y w : List Step) (k l m : Known) → IsSettled s ds false x k y l → IsTurn s any y l w m → IsTurn s any x k w m
-pass_then s ds true x y w k l m p t = record { explained = λ first c. t.explained first (p.explained first c); given = rw (← p.passed.0) t.given }
-pass_then s ds false x y w k l m p t = record { explained = λ first c. t.explained first (p.explained first c); given = t.given }
-
-pub pass_unforced : (s : Situation) (x y : List Step) (k l : Known) → IsSituation s → IsStarted s k → IsSettled s (decisions s.places) false x k y l → NoneForced s l
-pass_unforced s x y k l i z p = rw p.passed.0 (none_forced s i k z p.passed.1)
-
-pub pass_started : (s : Situation) (x y : List Step) (k l : Known) → IsStarted s k → IsSettled s (decisions s.places) false x k y l → IsStarted s l
-pass_started s x y k l z p = rw p.passed.0 z
-
 pub ring_some : (s : Situation) (k : Known) (ps : List ℕ) → IsRing s k ps → IsNonEmpty ps
 ring_some s k ps r = (r.first, r.rest, r.shape)
 
@@ -282,3 +264,8 @@ some_there n h = grind (arith, nat_tests)
 pub if_ok_more : {A E : Type 0} (P Q : A → Type 0) (r : Result A E) → ((a : A) → P a → Q a) → IfOk r P → IfOk r Q
 if_ok_more P Q (Ok a) f h = f a h
 if_ok_more P Q (Err e) f h = h
+
+-- what holds with each good answer holds more
+pub on_ok_more : {A E : Type 0} (P Q : Type 0) (r : Result A E) → (P → Q) → OnOk r P → OnOk r Q
+on_ok_more P Q (Ok a) f h = f h
+on_ok_more P Q (Err e) f h = h

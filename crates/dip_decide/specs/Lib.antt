@@ -9,3 +9,4 @@ pub mod Rings
 pub mod Results
 pub mod Laws
 pub mod Statements
+pub mod Working

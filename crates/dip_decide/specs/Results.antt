@@ -1,13 +1,14 @@
 -- What a resolution says.
-use Rattle.std.specs.Prelude.{◌≡◌, ℕ, ◌&&◌, nat_lt, Bool, true, false, List, [], ◌∷◌, filter, Option, None, Some}
-use Rattle.std.specs.List.{slice_index_or, list_any, list_all, count_by}
+use Rattle.std.specs.Prelude.{◌≡◌, ℕ, ◌&&◌, cond, nat_lt, Bool, true, false, List, [], ◌∷◌, filter, Option, None, Some}
+use Rattle.std.specs.List.{slice_index_or, list_any, list_all, count_by, sum_by}
 use Rattle.dip_chart.specs.Charts.{Chart, provs}
 use Rattle.dip_decide.specs.declared.decisions.Decision.{Decision}
 use Rattle.dip_decide.specs.declared.decisions.Decision.TheVariants.{Move, Path, Support}
 use Rattle.dip_decide.specs.declared.decisions.Resolution.{Resolution}
 use Rattle.dip_decide.specs.declared.decisions.Step as Written
 use Rattle.dip_decide.specs.declared.decisions.Step.TheVariants.{Forced, Circle, Knot}
-use Rattle.dip_decide.specs.Deciding.{Assignment, Known, Step, Explains}
+use Rattle.dip_decide.specs.Deciding.Step.{Forced as Forces}
+use Rattle.dip_decide.specs.Deciding.{Assignment, Known, Step, Explains, is_broken}
 use Rattle.dip_decide.specs.Movement.{Situation, is_listed, is_decided, at_first, rule, mentions}
 use Rattle.dip_decide.specs.Steps.{decisions}
 
@@ -26,9 +27,33 @@ broken_in r _ = false
 abbrev pub AreExplained : Situation → List Step → Assignment → Type 0
 AreExplained s steps a = Explains (rule s) (mentions s) (at_first s) steps a
 
+-- whatever steps explain the same come to these values, and break these paths
+abbrev pub IsOnly : Situation → Resolution → Type 0
+IsOnly s r = (steps : List Step) (a : Assignment) → AreExplained s steps a → (d : Decision) → (values_in r d ≡ a d) × (broken_in r d ≡ is_broken steps d)
+
 -- how many decisions there are
 abbrev pub decided_in : Situation → ℕ
 decided_in s = count_by (is_decided s) (decisions s.places)
+
+-- a step that gives a decision the value to which it is forced
+abbrev pub is_forced : Step → Bool
+is_forced (Forces d) = true
+is_forced _ = false
+
+-- how many of these steps are such
+abbrev pub forced_in : List Step → ℕ
+forced_in steps = count_by is_forced steps
+
+-- how many of these decisions mention e
+abbrev pub mentioned_by : Situation → Decision → List Decision → ℕ
+mentioned_by s e ds = count_by (λ d. is_decided s d && mentions s d e) ds
+
+abbrev pub mentioners : Situation → Decision → ℕ
+mentioners s e = mentioned_by s e (decisions s.places)
+
+-- how many pairs of decisions there are of which the one mentions the other
+abbrev pub mentions_in : Situation → ℕ
+mentions_in s = sum_by (λ e. cond (is_decided s e) (mentioners s e) 0) (decisions s.places)
 
 -- the provinces come by code, each once
 abbrev pub are_ascending : List ℕ → Bool
@@ -54,9 +79,10 @@ breaks (Circle ps) p = false
 breaks (Knot ps) p = is_listed ps.items p
 
 -- the lists are those of the values and of the broken paths
-pub record IsListing (written : List Written.Step) (k : Known) (m : Chart) (r : Resolution) : Type 0 where
+pub record IsListing (written : List Written.Step) (k : Known) (made : ℕ) (m : Chart) (r : Resolution) : Type 0 where
   pub moves : r.moves.items ≡ filter (λ p. is_true (k (Move p))) (provs m)
   pub paths : r.paths.items ≡ filter (λ p. is_true (k (Path p))) (provs m)
   pub supports : r.supports.items ≡ filter (λ p. is_true (k (Support p))) (provs m)
   pub broken : r.broken.items ≡ filter (λ p. list_any (λ s. breaks s p) written) (provs m)
   pub steps : r.steps.items ≡ written
+  pub tests : r.tests ≡ made

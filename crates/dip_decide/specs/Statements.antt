@@ -1,11 +1,12 @@
 -- The laws of movement, as statements.
 use Rattle.std.specs.Prelude.{◌≡◌, ◌↔◌, ℕ, Bool, true, false, List, ◌∷◌, None, suc, length}
+use mathlib.Core.Logic.{◌⊎◌}
 use Rattle.dip_board.specs.Boards.{Position}
 use Rattle.dip_chart.specs.Charts.{Chart}
 use Rattle.dip_orders.specs.declared.placed.PlacedOrder.{PlacedOrder}
 use Rattle.dip_decide.specs.declared.decisions.Decision.{Decision}
 use Rattle.dip_decide.specs.declared.decisions.Decision.TheVariants.{Move, Path}
-use Rattle.dip_decide.specs.Deciding.{Assignment, Known, Step, IsForced, IsCircle, IsOpenPath, IsKnotted, is_broken}
+use Rattle.dip_decide.specs.Deciding.{Assignment, Known, Step, IsForced, IsCircle, IsOpenPath, IsKnotted, Stands, after, is_broken}
 use Rattle.dip_decide.specs.Corners.{rises, corner}
 use Rattle.dip_decide.specs.Laws.{AreOrders, IsCycle, IsChain, is_undisturbed}
 use Rattle.dip_decide.specs.Matching.{situation}
@@ -84,3 +85,16 @@ abbrev pub KnotsAreAllOpenPaths : Type 0
 KnotsAreAllOpenPaths =
     (s : Situation) (k : Known) (d : Decision) → IsSituation s → IsStarted s k → NoneForced s k
     → ((ds : List Decision) → IsCircle (rule s) k ds → ⊥) → IsOpenPath k d → IsKnotted (mentions s) k d
+
+-- two steps give the same, or each may be made behind the other, and both orders give the same
+abbrev pub Commute : Situation → Known → Step → Assignment → Step → Assignment → Type 0
+Commute s k one f two g =
+    (after k one f ≡ after k two g)
+    ⊎ (Stands (rule s) (mentions s) (after k one f) two g × Stands (rule s) (mentions s) (after k two g) one f
+    × (after (after k one f) two g ≡ after (after k two g) one f))
+
+-- two steps that may be made in one state commute
+abbrev pub StepsCommute : Type 0
+StepsCommute =
+    (s : Situation) (k : Known) (one two : Step) (f g : Assignment) → Stands (rule s) (mentions s) k one f → Stands (rule s) (mentions s) k two g
+    → Commute s k one f two g

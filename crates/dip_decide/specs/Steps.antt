@@ -52,16 +52,6 @@ pub record Advances (ds : List Decision) (k l : Known) : Type 0 where
   pub value : Bool
   pub after : l one ≡ Some value
 
--- of these decisions one was given, or nothing changed and none of them is forced
-abbrev pub IsPass : Equation → List Decision → Bool → Known → Known → Type 0
-IsPass rule ds true k l = Advances ds k l
-IsPass rule ds false k l = (l ≡ k) × ((d : Decision) → is_among d ds ≡ true → (b : Bool) → IsForced rule k d b → ⊥)
-
--- what explained the values before explains them still, with the steps written since; of these decisions one was given, or none is forced
-pub record IsSettled (s : Situation) (ds : List Decision) (any : Bool) (old : List Deciding.Step) (k : Known) (new : List Deciding.Step) (l : Known) : Type 0 where
-  pub explained : (first : Known) → Continues (rule s) (mentions s) first old k → Continues (rule s) (mentions s) first new l
-  pub passed : IsPass (rule s) ds any k l
-
 -- one was given, or all are known
 abbrev pub IsRound : List Decision → Bool → Known → Known → Type 0
 IsRound ds true k l = Advances ds k l

@@ -1,57 +1,49 @@
 //! Convoys: whether fleets that are not dislodged lead from a unit to its destination.
-ghost use Rattle.std.specs.Prelude.{◌≡◌, IfOk, filter, length};
-ghost use Rattle.dip_decide.specs.Chains.{is_linked, joined_by};
+ghost use Rattle.std.specs.Prelude.{◌∷◌, [], IfOk, OnOk};
 ghost use Rattle.dip_decide.specs.Given.{situation_of};
+ghost use Rattle.dip_decide.specs.Movement.{is_listed};
+ghost use Rattle.dip_decide.specs.Chains.{IsSought, IsSpread};
 
-use crate::lists::{copy_of, is_in};
+use crate::lists::is_in;
 use crate::table::Table;
 use dip_names::Prov;
 use std::alloc::{AllocError, Global};
 
-/// Whether a fleet next to `from` is next to `to`, or is joined to it.
-fn is_linked(table: &Table, fleets: &[Prov], to: Prov, joined: &[Prov], from: Prov) -> bool
-    ensures { result ≡ is_linked (situation_of table.now).next fleets.now to joined.now from }
-{
-    fleets.iter().any(|fleet| table.is_next(from, *fleet)
-        && (table.is_next(*fleet, to) || is_in(joined, *fleet)))
-}
-
-/// The fleets that are joined to `to`, where these are by fewer others.
-fn linked(
-    alloc: Global,
+/// Adds a fleet, if it is next to a province and wasn't reached before.
+fn spread_to(
     table: &Table,
-    fleets: &[Prov],
-    to: Prov,
-    joined: &[Prov],
-) -> Result<Vec<Prov>, AllocError>
-    ensures { IfOk result
-        (λ v. v.items ≡ filter (is_linked (situation_of table.now).next fleets.now to joined.now)
-        fleets.now) }
+    reached: &mut Vec<Prov>,
+    from: Prov,
+    fleet: Prov,
+) -> Result<(), AllocError>
+    ensures { OnOk result
+        (IsSpread (situation_of table.now).next (fleet ∷ []) from reached.old.items
+        reached.new.items) }
 {
-    let mut more = copy_of(alloc, fleets)?;
-    more.retain(|fleet| is_linked(table, fleets, to, joined, *fleet));
-    Ok(more)
-}
-
-/// The fleets that are joined to `to` by at most so many others.
-fn joined_by(
-    alloc: Global,
-    table: &Table,
-    fleets: &[Prov],
-    to: Prov,
-    most: usize,
-) -> Result<Vec<Prov>, AllocError>
-    ensures { IfOk result
-        (λ v. v.items ≡ joined_by (situation_of table.now).next fleets.now to most) }
-{
-    let mut joined = Vec::new(alloc);
-    for _turn in 0..most {
-        joined = linked(alloc, table, fleets, to, joined.as_slice())?;
+    if table.is_next(from, fleet) && !is_in(reached.as_slice(), fleet) {
+        reached.push(fleet)?;
     }
-    Ok(joined)
+    Ok(())
 }
 
-/// Whether a chain of these fleets joins two provinces.
+/// Adds the fleets next to a province that weren't reached before.
+fn spread(
+    table: &Table,
+    fleets: &[Prov],
+    reached: &mut Vec<Prov>,
+    from: Prov,
+) -> Result<(), AllocError>
+    ensures { OnOk result
+        (IsSpread (situation_of table.now).next fleets.now from reached.old.items
+        reached.new.items) }
+{
+    for fleet in fleets {
+        spread_to(table, reached, from, *fleet)?;
+    }
+    Ok(())
+}
+
+/// Whether a chain of these fleets joins two provinces. Each fleet is visited once.
 pub(crate) fn joins(
     alloc: Global,
     table: &Table,
@@ -59,11 +51,18 @@ pub(crate) fn joins(
     from: Prov,
     to: Prov,
 ) -> Result<bool, AllocError>
-    ensures { IfOk result
-        (λ b. b ≡ is_linked (situation_of table.now).next fleets.now to
-        (joined_by (situation_of table.now).next fleets.now to (length table.now.places.items))
-        from) }
+    ensures { IfOk result (IsSought (is_listed fleets.now) (situation_of table.now).next to from) }
 {
-    let joined = joined_by(alloc, table, fleets, to, table.places.len())?;
-    Ok(is_linked(table, fleets, to, joined.as_slice(), from))
+    let mut reached = Vec::new(alloc);
+    spread(table, fleets, &mut reached, from)?;
+    let mut visited = 0;
+    while visited < reached.len() {
+        let fleet = reached[visited];
+        if table.is_next(fleet, to) {
+            return Ok(true);
+        }
+        spread(table, fleets, &mut reached, fleet)?;
+        visited += 1;
+    }
+    Ok(false)
 }

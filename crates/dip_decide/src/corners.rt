@@ -4,7 +4,7 @@ ghost use Rattle.std.specs.List.{list_all};
 ghost use Rattle.dip_decide.specs.Corners.{rises, values};
 ghost use Rattle.dip_decide.specs.Given.{situation_of};
 ghost use Rattle.dip_decide.specs.declared.decisions.Decision.TheVariants.{Move, Path};
-ghost use Rattle.dip_decide.specs.Movement.{has_path, support, support_against, attack, hold, prevent, opposition, beats, succeeds, cuts, is_support, is_entered, serves, path_rule, rule};
+ghost use Rattle.dip_decide.specs.Movement.{has_path, support, support_against, attack, hold, prevent, opposition, beats, succeeds, cuts, is_support, is_entered, serves, path_rule, rule, IsSituation};
 
 use crate::chains::joins;
 use crate::decisions::Decision;
@@ -212,6 +212,7 @@ impl Corner<'_> {
 
     /// Whether the move by convoy of a unit to a province has a path.
     fn has_chain(&self, alloc: Global, p: Prov, q: Prov) -> Result<bool, AllocError>
+        requires situation { IsSituation (situation_of self.now.table.now) }
         ensures { IfOk result
             (λ b. b ≡ path_rule (situation_of self.now.table.now) (values self.now) p (Some q)) }
     {
@@ -221,6 +222,7 @@ impl Corner<'_> {
 
     /// Whether the move of a unit is one by convoy that has a path.
     fn path_rule(&self, alloc: Global, p: Prov) -> Result<bool, AllocError>
+        requires situation { IsSituation (situation_of self.now.table.now) }
         ensures { IfOk result
             (λ b. b ≡ rule (situation_of self.now.table.now) (Path p) (values self.now)) }
     {
@@ -235,6 +237,7 @@ impl Corner<'_> {
 
     /// The equation of a decision.
     pub(crate) fn rule(&self, alloc: Global, d: &Decision) -> Result<bool, AllocError>
+        requires situation { IsSituation (situation_of self.now.table.now) }
         ensures { IfOk result
             (λ b. b ≡ rule (situation_of self.now.table.now) d.now (values self.now)) }
     {

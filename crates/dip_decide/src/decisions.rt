@@ -36,4 +36,6 @@ pub struct Resolution {
     pub broken: Vec<Prov>,
     /// The steps that explain it, in order.
     pub steps: Vec<Step>,
+    /// How often the equation of an open decision was tested.
+    pub tests: u64,
 }

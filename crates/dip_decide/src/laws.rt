@@ -1,7 +1,7 @@
 //! Laws of movement, each the contract of a function that does nothing.
 ghost use Rattle.dip_decide.specs.Statements.{BoardsAreSituations, OneMoveEnters, NoneIsDislodgedByItsOwn, HeadToHeadOneFails};
 ghost use Rattle.dip_decide.specs.Statements.{ExplainedSatisfies, CyclesSucceed, UndisturbedConvoysHold, ValuesAreOne};
-ghost use Rattle.dip_decide.specs.Statements.{BrokenPathsAreOne, CornersDecide, ChainsAreFound, KnotsAreFound, KnotsAreAllOpenPaths};
+ghost use Rattle.dip_decide.specs.Statements.{BrokenPathsAreOne, CornersDecide, ChainsAreFound, KnotsAreFound, KnotsAreAllOpenPaths, StepsCommute};
 
 /// Each board with one order for each unit is a situation as the laws of movement ask for it.
 pub fn boards_are_situations()
@@ -29,6 +29,12 @@ pub fn explained_is_lawful()
 pub fn one_answer()
     ensures values { ValuesAreOne }
     ensures broken { BrokenPathsAreOne }
+{}
+
+/// Of two steps that may be made in one state, either they give the same, or each may be made behind the other, and then it
+/// doesn't matter which comes first.
+pub fn steps_commute()
+    ensures { StepsCommute }
 {}
 
 /// An open decision is forced exactly to what its equation gives both at its least completion and at its greatest.

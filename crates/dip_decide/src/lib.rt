@@ -9,16 +9,20 @@ mod forcing;
 mod laws;
 mod lists;
 mod matching;
+mod mentioning;
 mod resolving;
-mod settling;
 mod starting;
 mod table;
+mod testing;
 mod turns;
 mod values;
+mod working;
 
 pub use decisions::{Decision, Resolution, Step};
 pub use laws::{
     boards_are_situations, chains_are_found, corners_decide, equations_are_lawful,
-    explained_is_lawful, knots_are_found, one_answer,
+    explained_is_lawful, knots_are_found, one_answer, steps_commute,
 };
 pub use resolving::resolve;
+pub use testing::{Tests, forced, known_at_first};
+pub use values::Values as Known;

@@ -1,5 +1,5 @@
 //! A movement as a whole: from the orders to the resolution.
-ghost use Rattle.std.specs.Prelude.{◌≡◌, ◌≤◌, IfOk, length, filter};
+ghost use Rattle.std.specs.Prelude.{◌≡◌, ◌≤◌, ◌+◌, IfOk, length, filter};
 ghost use Rattle.std.specs.List.{list_any};
 ghost use Rattle.dip_chart.specs.Charts.{provs};
 ghost use Rattle.dip_board.specs.Boards.{IsOf};
@@ -9,7 +9,7 @@ ghost use Rattle.dip_decide.specs.Deciding.{is_broken};
 ghost use Rattle.dip_decide.specs.Given.{known_of};
 ghost use Rattle.dip_decide.specs.Matching.{situation};
 ghost use Rattle.dip_decide.specs.Movement.{Satisfies};
-ghost use Rattle.dip_decide.specs.Results.{values_in, broken_in, AreExplained, AreInOrder, decided_in, is_true, trues, breaks, IsListing};
+ghost use Rattle.dip_decide.specs.Results.{values_in, broken_in, AreExplained, IsOnly, AreInOrder, decided_in, forced_in, mentions_in, is_true, trues, breaks, IsListing};
 ghost use Rattle.dip_decide.specs.Steps.{steps_of};
 
 use crate::decisions::{Resolution, Step};
@@ -82,8 +82,9 @@ fn resolution_of(
     map: &Map,
     values: &Values,
     steps: Vec<Step>,
+    tests: u64,
 ) -> Result<Resolution, AllocError>
-    ensures { IfOk result (λ r. IsListing steps.items (known_of values.now) map.now r) }
+    ensures { IfOk result (λ r. IsListing steps.items (known_of values.now) tests map.now r) }
 {
     let moves = trues(alloc, map, values.moves.as_slice())?;
     let paths = trues(alloc, map, values.paths.as_slice())?;
@@ -95,14 +96,17 @@ fn resolution_of(
         supports,
         broken,
         steps,
+        tests,
     })
 }
 
 /// What comes of the orders of a movement: one for each unit of the board.
 ///
 /// The values satisfy the decision equations, and the steps explain them: each decision was forced by those before it, or was
-/// settled with a circle or with a knot, which is taken only where nothing is forced and there is no circle. There are at most
-/// as many steps as decisions. The only error is want of memory.
+/// settled with a circle or with a knot, which is taken only where nothing is forced and there is no circle. Whatever steps explain
+/// the same orders come to these values and break these paths. There are at most
+/// as many steps as decisions. At least the forced ones were tested; each decision is tested at first, and again at most once for
+/// each that its equation mentions and that got its value before. The only error is want of memory.
 pub fn resolve(
     alloc: Global,
     map: &Map,
@@ -115,16 +119,23 @@ pub fn resolve(
         (λ r. Satisfies (situation map.now orders.now) (broken_in r) (values_in r)) }
     ensures explained { IfOk result
         (λ r. AreExplained (situation map.now orders.now) (steps_of r.steps.items) (values_in r)) }
+    ensures only { IfOk result (IsOnly (situation map.now orders.now)) }
     ensures broken { IfOk result
         (λ r. (d : ADecision) → broken_in r d ≡ is_broken (steps_of r.steps.items) d) }
     ensures few { IfOk result
         (λ r. length r.steps.items ≤ decided_in (situation map.now orders.now)) }
     ensures ordered { IfOk result AreInOrder }
+    ensures counted { IfOk result (λ r. forced_in (steps_of r.steps.items) ≤ r.tests) }
+    ensures tested { IfOk result
+        (λ r. r.tests ≤ decided_in (situation map.now orders.now) + mentions_in (situation map.now
+        orders.now)) }
 {
+    map.facts();
     orders.facts();
     let _ = board.units();
     let table = table_of(alloc, map, orders.as_slice())?;
     let mut values = values_at_start(alloc, &table)?;
-    let steps = explain(alloc, &table, &mut values)?;
-    resolution_of(alloc, map, &values, steps)
+    let mut tests = 0;
+    let steps = explain(alloc, &table, &mut values, &mut tests)?;
+    resolution_of(alloc, map, &values, steps, tests)
 }

@@ -1,16 +1,18 @@
-//! Steps one after the other: passes, then a circle, then the knot, until all is decided.
-ghost use Rattle.std.specs.Prelude.{◌≡◌, IfOk, OnOk, true};
+//! Steps one after the other: what is forced, then a circle, then the knot, until all is decided.
+ghost use Rattle.std.specs.Prelude.{◌≡◌, ◌≤◌, ◌<◌, ◌+◌, ◌^◌, [], IfOk, OnOk, true};
 ghost use Rattle.dip_decide.specs.Deciding.{IsCircle, IsKnot};
 ghost use Rattle.dip_decide.specs.Given.{situation_of, known_of};
 ghost use Rattle.dip_decide.specs.Movement.{at_first, rule, mentions, IsSituation};
+ghost use Rattle.dip_decide.specs.Results.{decided_in, forced_in, mentions_in};
 ghost use Rattle.dip_decide.specs.Rings.{IsNonEmpty};
 ghost use Rattle.dip_decide.specs.Steps.{moves_of, paths_of, steps_of, NoneForced, IsStarted, IsTurn, IsComplete};
+ghost use Rattle.dip_decide.specs.Working.{Counts, IsWork, StaysWork};
 
 use crate::circles::{open_paths, ring_in};
-use crate::decisions::Step;
-use crate::settling::pass;
+use crate::decisions::{Decision, Step};
 use crate::table::Table;
 use crate::values::Values;
+use crate::working::{put_moves, put_paths, work_at_start, work_off};
 use dip_names::Prov;
 use std::alloc::{AllocError, Global};
 
@@ -18,20 +20,27 @@ use std::alloc::{AllocError, Global};
 fn take_circle(
     table: &Table,
     values: &mut Values,
+    work: &mut Vec<Decision>,
     steps: &mut Vec<Step>,
     units: Vec<Prov>,
 ) -> Result<(), AllocError>
     requires situation { IsSituation (situation_of table.now) }
     requires started { IsStarted (situation_of table.now) (known_of values.old) }
+    requires empty { work.old.items ≡ [] }
     requires some { IsNonEmpty units.items }
     requires circle { IsCircle (rule (situation_of table.now)) (known_of values.old)
         (moves_of units.items) }
-    ensures { OnOk result
+    ensures turned { OnOk result
         (IsTurn (situation_of table.now) true (steps_of steps.old.items) (known_of values.old)
         (steps_of steps.new.items) (known_of values.new)) }
+    ensures work { OnOk result
+        (StaysWork (situation_of table.now) (known_of values.old) [] (known_of values.new)
+        work.new.items) }
+    ensures unforced { OnOk result
+        (forced_in (steps_of steps.new.items) ≡ forced_in (steps_of steps.old.items)) }
 {
-    let _ = &table.places;
     values.give_moves(units.as_slice());
+    put_moves(table, values, work, units.as_slice())?;
     steps.push(Step::Circle(units))?;
     Ok(())
 }
@@ -40,20 +49,27 @@ fn take_circle(
 fn take_knot(
     table: &Table,
     values: &mut Values,
+    work: &mut Vec<Decision>,
     steps: &mut Vec<Step>,
     units: Vec<Prov>,
 ) -> Result<(), AllocError>
     requires situation { IsSituation (situation_of table.now) }
     requires started { IsStarted (situation_of table.now) (known_of values.old) }
+    requires empty { work.old.items ≡ [] }
     requires some { IsNonEmpty units.items }
     requires knot { IsKnot (rule (situation_of table.now)) (mentions (situation_of table.now))
         (known_of values.old) (paths_of units.items) }
-    ensures { OnOk result
+    ensures turned { OnOk result
         (IsTurn (situation_of table.now) true (steps_of steps.old.items) (known_of values.old)
         (steps_of steps.new.items) (known_of values.new)) }
+    ensures work { OnOk result
+        (StaysWork (situation_of table.now) (known_of values.old) [] (known_of values.new)
+        work.new.items) }
+    ensures unforced { OnOk result
+        (forced_in (steps_of steps.new.items) ≡ forced_in (steps_of steps.old.items)) }
 {
-    let _ = &table.places;
     values.break_paths(units.as_slice());
+    put_paths(table, values, work, units.as_slice())?;
     steps.push(Step::Knot(units))?;
     Ok(())
 }
@@ -63,62 +79,84 @@ fn turn_unforced(
     alloc: Global,
     table: &Table,
     values: &mut Values,
+    work: &mut Vec<Decision>,
     steps: &mut Vec<Step>,
 ) -> Result<bool, AllocError>
     requires situation { IsSituation (situation_of table.now) }
     requires started { IsStarted (situation_of table.now) (known_of values.old) }
+    requires empty { work.old.items ≡ [] }
     requires unforced { NoneForced (situation_of table.now) (known_of values.old) }
-    ensures { IfOk result
+    ensures turned { IfOk result
         (λ any. IsTurn (situation_of table.now) any (steps_of steps.old.items) (known_of values.old)
         (steps_of steps.new.items) (known_of values.new)) }
+    ensures work { OnOk result
+        (StaysWork (situation_of table.now) (known_of values.old) [] (known_of values.new)
+        work.new.items) }
+    ensures unforced { OnOk result
+        (forced_in (steps_of steps.new.items) ≡ forced_in (steps_of steps.old.items)) }
 {
     if let Some(ring) = ring_in(alloc, table, values)? {
-        take_circle(table, values, steps, ring)?;
+        take_circle(table, values, work, steps, ring)?;
         return Ok(true);
     }
     let knot = open_paths(alloc, table, values)?;
     if knot.as_slice().is_empty() {
         return Ok(false);
     }
-    take_knot(table, values, steps, knot)?;
+    take_knot(table, values, work, steps, knot)?;
     Ok(true)
 }
 
-/// What is forced; where nothing is, a circle; where there is none, the knot. Tells whether any value was given.
+/// What is forced, and then a circle; where there is none, the knot. Tells whether there was either.
 fn turn(
     alloc: Global,
     table: &Table,
     values: &mut Values,
+    work: &mut Vec<Decision>,
+    tests: &mut u64,
     steps: &mut Vec<Step>,
 ) -> Result<bool, AllocError>
     requires situation { IsSituation (situation_of table.now) }
     requires started { IsStarted (situation_of table.now) (known_of values.old) }
-    ensures { IfOk result
+    requires work { IsWork (situation_of table.now) (known_of values.old) work.old.items tests.old }
+    requires bound { decided_in (situation_of table.now) + mentions_in (situation_of table.now)
+        < 2 ^ 64 }
+    ensures turned { IfOk result
         (λ any. IsTurn (situation_of table.now) any (steps_of steps.old.items) (known_of values.old)
         (steps_of steps.new.items) (known_of values.new)) }
+    ensures work { OnOk result
+        (IsWork (situation_of table.now) (known_of values.new) work.new.items tests.new) }
+    ensures counted { OnOk result
+        (Counts (steps_of steps.old.items) tests.old (steps_of steps.new.items) tests.new) }
 {
-    if pass(alloc, table, values, steps)? {
-        return Ok(true);
-    }
-    turn_unforced(alloc, table, values, steps)
+    work_off(alloc, table, values, work, tests, steps)?;
+    turn_unforced(alloc, table, values, work, steps)
 }
 
-/// The steps that lead to the values of all decisions.
+/// The steps that lead to the values of all decisions; each test is counted.
 pub(crate) fn explain(
     alloc: Global,
     table: &Table,
     values: &mut Values,
+    tests: &mut u64,
 ) -> Result<Vec<Step>, AllocError>
     requires situation { IsSituation (situation_of table.now) }
     requires first { known_of values.old ≡ at_first (situation_of table.now) }
-    ensures { IfOk result
+    requires untested { tests.old ≡ 0 }
+    requires bound { decided_in (situation_of table.now) + mentions_in (situation_of table.now)
+        < 2 ^ 64 }
+    ensures explained { IfOk result
         (λ steps. IsComplete (situation_of table.now) (steps_of steps.items)
         (known_of values.new)) }
+    ensures counted { IfOk result (λ steps. forced_in (steps_of steps.items) ≤ tests.new) }
+    ensures tested { OnOk result
+        (tests.new ≤ decided_in (situation_of table.now) + mentions_in (situation_of table.now)) }
 {
     let mut steps = Vec::new(alloc);
+    let mut work = work_at_start(alloc, table, values)?;
     let mut goes_on = true;
     'turns: while goes_on {
-        goes_on = turn(alloc, table, values, &mut steps)?;
+        goes_on = turn(alloc, table, values, &mut work, tests, &mut steps)?;
     }
     Ok(steps)
 }

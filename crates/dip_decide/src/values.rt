@@ -12,7 +12,7 @@ use dip_names::Prov;
 
 /// The values that were given so far, by the numbers of the provinces; none where the decision is open.
 #[derive(Drop)]
-pub(crate) struct Values {
+pub struct Values {
     pub(crate) moves: Vec<Option<bool>>,
     pub(crate) paths: Vec<Option<bool>>,
     pub(crate) supports: Vec<Option<bool>>,
@@ -30,7 +30,7 @@ pub(crate) fn value_at(list: &[Option<bool>], p: Prov) -> Option<bool>
 
 impl Values {
     /// The value that a decision was given.
-    pub(crate) fn look(&self, d: &Decision) -> Option<bool>
+    pub fn look(&self, d: &Decision) -> Option<bool>
         ensures { result ≡ known_of self.now d.now }
     {
         match d {
@@ -41,7 +41,7 @@ impl Values {
     }
 
     /// Gives an open decision its value.
-    pub(crate) fn give(&mut self, d: &Decision, value: bool)
+    pub fn give(&mut self, d: &Decision, value: bool)
         requires { known_of self.old d.now ≡ None }
         ensures { known_of self.new ≡ give (known_of self.old) (d.now ∷ []) value }
     {

@@ -8,4 +8,5 @@ returns c = record {
   supports = rw c.in_ok-supports.ensures (rw c.as_slice-3.ensures.value refl);
   broken = rw c.in_ok-broken.ensures (rw c.as_slice-4.ensures.value refl);
   steps = refl;
+  tests = refl;
 }

@@ -9,8 +9,8 @@ pub take_circle-requires-clause-circle : goal.take_circle-requires-clause-circle
 take_circle-requires-clause-circle c =
     ring_circle (situation_of c.args.table.now) c.requires.situation (known_of c.args.values.now) c.requires.started c.requires.unforced c.in-Some.ring.items (rw c.in-Some.is at c.in_ok-ring.ensures)
 
-pub returns-then-is_empty : goal.returns-then-is_empty
-returns-then-is_empty c =
+pub returns-then-is_empty-clause-turned : goal.returns-then-is_empty-clause-turned
+returns-then-is_empty-clause-turned c =
     let s = situation_of c.args.table.now in
     let k = known_of c.args.values.now in
     let none : NoCircle s k = no_circle s c.requires.situation k c.requires.started c.requires.unforced (rw c.in_default.is at c.in_ok-ring.ensures) in
@@ -28,3 +28,6 @@ take_knot-requires-clause-knot c =
     let none : NoCircle s k = no_circle s c.requires.situation k c.requires.started c.requires.unforced (rw c.in_default.is at c.in_ok-ring.ensures) in
     let one = some_open s k c.in_ok-knot.knot.items c.in_ok-knot.ensures (not_empty c.in_ok-knot.knot.items (rw c.as_slice.ensures.value at (some_there _ (sym c.is_empty.ensures ∙ c.if-is_empty.false)))) in
     rw c.in_ok-knot.ensures (open_knot s c.requires.situation k c.requires.started c.requires.unforced none one.0 one.1)
+
+pub returns-then-is_empty-clause-work : goal.returns-then-is_empty-clause-work
+returns-then-is_empty-clause-work c = λ t w. rw c.requires.empty w

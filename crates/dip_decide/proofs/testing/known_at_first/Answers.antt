@@ -1,0 +1,15 @@
+use Rattle.std.proofs.Common.{◌≡◌, ◌∙◌, ap}
+use Rattle.dip_decide.specs.Given.{known_of, situation_of}
+use Rattle.dip_decide.specs.Matching.{situation}
+use Rattle.dip_decide.specs.Movement.{at_first}
+use Rattle.dip_decide.proofs.ResultLaws.{within}
+use Rattle.dip_decide.proofs.Rounds.{if_ok_more}
+use Rattle.dip_decide.proofs.testing.known_at_first.Goals as goal
+
+pub table_of-requires : goal.table_of-requires
+table_of-requires c = record { within = rw c.as_slice.ensures (within c.args.map.now c.args.board.now c.args.orders.now c.requires.is_of c.requires.orders) }
+
+pub returns : goal.returns
+returns c =
+    let e : situation_of c.in_ok-table.table ≡ situation c.args.map.now c.args.orders.now = c.in_ok-table.ensures ∙ ap (situation c.args.map.now) c.as_slice.ensures in
+    if_ok_more _ _ c.values_at_start.result (λ k h. h ∙ ap at_first e) c.values_at_start.ensures

@@ -1,0 +1,74 @@
+//! The test of one decision, with values of one's own.
+ghost use Rattle.std.specs.Prelude.{◌≡◌, ◌+◌, ◌<◌, ◌^◌, None, IfOk};
+ghost use Rattle.dip_board.specs.Boards.{IsOf};
+ghost use Rattle.dip_orders.specs.Standing.{units_of};
+ghost use Rattle.dip_decide.specs.Given.{known_of, IsAnswer};
+ghost use Rattle.dip_decide.specs.Matching.{situation};
+ghost use Rattle.dip_decide.specs.Movement.{at_first, rule};
+
+use crate::decisions::Decision;
+use crate::forcing;
+use crate::starting::values_at_start;
+use crate::table::table_of;
+use crate::values::Values;
+use dip_board::Board;
+use dip_map::Map;
+use dip_orders::Orders;
+use std::alloc::{AllocError, Global};
+
+/// How many tests were made.
+#[derive(Clone, Copy)]
+pub struct Tests {
+    pub count: u64,
+}
+
+impl Tests {
+    /// No test was made.
+    pub fn new() -> Tests
+        ensures { result.count ≡ 0 }
+    {
+        Tests { count: 0 }
+    }
+}
+
+/// What is known before anything is decided: of all that is no decision that it is false. The only error is want of memory.
+pub fn known_at_first(
+    alloc: Global,
+    map: &Map,
+    board: &Board,
+    orders: &Orders,
+) -> Result<Values, AllocError>
+    requires is_of { IsOf map.now board.now }
+    requires orders { units_of orders.now ≡ board.now.units }
+    ensures { IfOk result (λ k. known_of k ≡ at_first (situation map.now orders.now)) }
+{
+    let _ = board.units();
+    let table = table_of(alloc, map, orders.as_slice())?;
+    values_at_start(alloc, &table)
+}
+
+/// The value to which an open decision is forced: what its equation gives whatever the other open decisions come to. None where
+/// it isn't forced. The only error is want of memory; the test is counted all the same.
+pub fn forced(
+    alloc: Global,
+    map: &Map,
+    board: &Board,
+    orders: &Orders,
+    known: &Values,
+    d: Decision,
+    tests: &mut Tests,
+) -> Result<Option<bool>, AllocError>
+    requires is_of { IsOf map.now board.now }
+    requires orders { units_of orders.now ≡ board.now.units }
+    requires open { known_of known.now d ≡ None }
+    requires countable { tests.old.count + 1 < 2 ^ 64 }
+    ensures answer { IfOk result
+        (IsAnswer (rule (situation map.now orders.now)) (known_of known.now) d) }
+    ensures counted { tests.new.count ≡ tests.old.count + 1 }
+{
+    orders.facts();
+    let _ = board.units();
+    tests.count += 1;
+    let table = table_of(alloc, map, orders.as_slice())?;
+    forcing::forced(alloc, &table, known, &d)
+}

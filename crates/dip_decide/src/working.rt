@@ -1,0 +1,238 @@
+//! The worklist: a decision is tested at first, and again when one that its equation mentions got its value.
+ghost use Rattle.std.specs.Prelude.{◌≡◌, ◌<◌, ◌+◌, ◌^◌, ◌∷◌, ◌++◌, [], IfOk, OnOk, filter, length};
+ghost use Rattle.std.specs.List.{list_any};
+ghost use Rattle.dip_decide.specs.Deciding.{same};
+ghost use Rattle.dip_decide.specs.Given.{situation_of, known_of};
+ghost use Rattle.dip_decide.specs.Movement.{IsSituation};
+ghost use Rattle.dip_decide.specs.Results.{decided_in, mentioners, mentions_in};
+ghost use Rattle.dip_decide.specs.Steps.{steps_of, moves_of, paths_of, decisions, is_unknown, IsStarted};
+ghost use Rattle.dip_decide.specs.Working.{weight, opens, Counts, IsPut, IsListed, IsWork, IsWorked};
+
+use crate::decisions::{Decision, Step};
+use crate::forcing::forced;
+use crate::mentioning::mentions;
+use crate::table::Table;
+use crate::values::Values;
+use dip_names::Prov;
+use std::alloc::{AllocError, Global};
+
+/// Whether two decisions are one.
+fn is_same(d: &Decision, e: &Decision) -> bool
+    ensures { result ≡ same d.now e.now }
+{
+    match (d, e) {
+        (Decision::Move(p), Decision::Move(q)) => p == q,
+        (Decision::Path(p), Decision::Path(q)) => p == q,
+        (Decision::Support(p), Decision::Support(q)) => p == q,
+        _ => false,
+    }
+}
+
+fn is_among(d: &Decision, list: &[Decision]) -> bool
+    ensures { result ≡ list_any (same d.now) list.now }
+{
+    list.iter().any(|e| is_same(d, e))
+}
+
+/// Lists a decision, if it is open.
+fn list_one(values: &Values, work: &mut Vec<Decision>, d: Decision) -> Result<(), AllocError>
+    ensures { OnOk result
+        (work.new.items ≡ work.old.items ++ opens (known_of values.now) (d ∷ [])) }
+{
+    if values.look(&d).is_none() {
+        work.push(d)?;
+    }
+    Ok(())
+}
+
+/// Lists what is open of a unit's decisions.
+fn list_unit(values: &Values, work: &mut Vec<Decision>, p: Prov) -> Result<(), AllocError>
+    ensures { OnOk result
+        (work.new.items ≡ work.old.items ++ opens (known_of values.now) (decisions (p ∷ []))) }
+{
+    list_one(values, work, Decision::Move(p))?;
+    list_one(values, work, Decision::Path(p))?;
+    list_one(values, work, Decision::Support(p))?;
+    Ok(())
+}
+
+/// What is open, of all units.
+pub(crate) fn work_at_start(
+    alloc: Global,
+    table: &Table,
+    values: &Values,
+) -> Result<Vec<Decision>, AllocError>
+    ensures { IfOk result
+        (λ v. v.items ≡ opens (known_of values.now) (decisions table.now.places.items)) }
+{
+    let mut work = Vec::new(alloc);
+    for place in &table.places {
+        list_unit(values, &mut work, *place)?;
+    }
+    Ok(work)
+}
+
+/// Lists a decision, if it is open, mentions the other and isn't listed.
+fn put_one(
+    table: &Table,
+    values: &Values,
+    work: &mut Vec<Decision>,
+    e: &Decision,
+    d: &Decision,
+) -> Result<(), AllocError>
+    requires situation { IsSituation (situation_of table.now) }
+    requires started { IsStarted (situation_of table.now) (known_of values.now) }
+    ensures { OnOk result
+        (IsPut (situation_of table.now) (known_of values.now) e.now (d.now ∷ []) work.old.items
+        work.new.items) }
+{
+    if values.look(d).is_none() && mentions(table, d, e) && !is_among(d, work.as_slice()) {
+        work.push(*d)?;
+    }
+    Ok(())
+}
+
+fn put_unit(
+    table: &Table,
+    values: &Values,
+    work: &mut Vec<Decision>,
+    e: &Decision,
+    p: Prov,
+) -> Result<(), AllocError>
+    requires situation { IsSituation (situation_of table.now) }
+    requires started { IsStarted (situation_of table.now) (known_of values.now) }
+    ensures { OnOk result
+        (IsPut (situation_of table.now) (known_of values.now) e.now (decisions (p ∷ []))
+        work.old.items work.new.items) }
+{
+    put_one(table, values, work, e, &Decision::Move(p))?;
+    put_one(table, values, work, e, &Decision::Path(p))?;
+    put_one(table, values, work, e, &Decision::Support(p))?;
+    Ok(())
+}
+
+/// Lists the open decisions that mention one.
+fn put(
+    table: &Table,
+    values: &Values,
+    work: &mut Vec<Decision>,
+    e: &Decision,
+) -> Result<(), AllocError>
+    requires situation { IsSituation (situation_of table.now) }
+    requires started { IsStarted (situation_of table.now) (known_of values.now) }
+    ensures { OnOk result
+        (IsPut (situation_of table.now) (known_of values.now) e.now
+        (decisions table.now.places.items) work.old.items work.new.items) }
+{
+    for place in &table.places {
+        put_unit(table, values, work, e, *place)?;
+    }
+    Ok(())
+}
+
+/// Lists the open decisions that mention one of these moves.
+pub(crate) fn put_moves(
+    table: &Table,
+    values: &Values,
+    work: &mut Vec<Decision>,
+    units: &[Prov],
+) -> Result<(), AllocError>
+    requires situation { IsSituation (situation_of table.now) }
+    requires started { IsStarted (situation_of table.now) (known_of values.now) }
+    ensures { OnOk result
+        (IsListed (situation_of table.now) (known_of values.now) (moves_of units.now) work.old.items
+        work.new.items) }
+{
+    for unit in units {
+        put(table, values, work, &Decision::Move(*unit))?;
+    }
+    Ok(())
+}
+
+/// Lists the open decisions that mention the path of one of these moves.
+pub(crate) fn put_paths(
+    table: &Table,
+    values: &Values,
+    work: &mut Vec<Decision>,
+    units: &[Prov],
+) -> Result<(), AllocError>
+    requires situation { IsSituation (situation_of table.now) }
+    requires started { IsStarted (situation_of table.now) (known_of values.now) }
+    ensures { OnOk result
+        (IsListed (situation_of table.now) (known_of values.now) (paths_of units.now) work.old.items
+        work.new.items) }
+{
+    for unit in units {
+        put(table, values, work, &Decision::Path(*unit))?;
+    }
+    Ok(())
+}
+
+/// Tests a decision that was taken from the list, if it is open.
+fn work_on(
+    alloc: Global,
+    table: &Table,
+    values: &mut Values,
+    work: &mut Vec<Decision>,
+    tests: &mut u64,
+    steps: &mut Vec<Step>,
+    d: &Decision,
+) -> Result<(), AllocError>
+    requires situation { IsSituation (situation_of table.now) }
+    requires started { IsStarted (situation_of table.now) (known_of values.old) }
+    requires work { IsWork (situation_of table.now) (known_of values.old)
+        (work.old.items ++ d.now ∷ []) tests.old }
+    requires bound { decided_in (situation_of table.now) + mentions_in (situation_of table.now)
+        < 2 ^ 64 }
+    ensures worked { OnOk result
+        (IsWorked (situation_of table.now) (steps_of steps.old.items) (known_of values.old)
+        (steps_of steps.new.items) (known_of values.new) work.new.items tests.new) }
+    ensures counted { OnOk result
+        (Counts (steps_of steps.old.items) tests.old (steps_of steps.new.items) tests.new) }
+    ensures less { OnOk result
+        (length work.new.items + weight (mentioners (situation_of table.now)) (known_of values.new)
+        (decisions table.now.places.items) < length (work.old.items ++ d.now ∷ [])
+        + weight (mentioners (situation_of table.now)) (known_of values.old)
+        (decisions table.now.places.items)) }
+{
+    if values.look(d).is_some() {
+        return Ok(());
+    }
+    *tests += 1;
+    match forced(alloc, &*table, &*values, &*d)? {
+        None => Ok(()),
+        Some(value) => {
+            steps.push(Step::Forced(*d))?;
+            values.give(d, value);
+            put(table, values, work, d)?;
+            Ok(())
+        }
+    }
+}
+
+/// Tests what is on the list until nothing is.
+pub(crate) fn work_off(
+    alloc: Global,
+    table: &Table,
+    values: &mut Values,
+    work: &mut Vec<Decision>,
+    tests: &mut u64,
+    steps: &mut Vec<Step>,
+) -> Result<(), AllocError>
+    requires situation { IsSituation (situation_of table.now) }
+    requires started { IsStarted (situation_of table.now) (known_of values.old) }
+    requires work { IsWork (situation_of table.now) (known_of values.old) work.old.items tests.old }
+    requires bound { decided_in (situation_of table.now) + mentions_in (situation_of table.now)
+        < 2 ^ 64 }
+    ensures worked { OnOk result
+        (IsWorked (situation_of table.now) (steps_of steps.old.items) (known_of values.old)
+        (steps_of steps.new.items) (known_of values.new) [] tests.new) }
+    ensures counted { OnOk result
+        (Counts (steps_of steps.old.items) tests.old (steps_of steps.new.items) tests.new) }
+    ensures empty { OnOk result (work.new.items ≡ []) }
+{
+    while let Some(d) = work.pop() {
+        work_on(alloc, table, values, work, tests, steps, &d)?;
+    }
+    Ok(())
+}

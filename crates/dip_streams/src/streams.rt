@@ -18,6 +18,13 @@ fn is_interrupted(error: &io::Error) -> bool
     error.kind() == ErrorKind::Interrupted
 }
 
+/// What is told of a call that was interrupted each time.
+fn interrupted_too_often() -> io::Error
+    ensures { error_kind result ≢ ErrorKind.Interrupted }
+{
+    ErrorKind::TimedOut.into()
+}
+
 /// One read into a buffer, made again where a signal interrupts it.
 ///
 /// # Errors
@@ -38,7 +45,7 @@ pub fn read_some<R: Read>(reader: &mut R, buffer: &mut [u8]) -> io::Result<usize
             }
         }
     }
-    Err(ErrorKind::TimedOut.into())
+    Err(interrupted_too_often())
 }
 
 /// One write of some bytes, made again where a signal interrupts it.
@@ -57,7 +64,7 @@ fn write_some<W: Write>(writer: &mut W, bytes: &[u8]) -> io::Result<usize>
             }
         }
     }
-    Err(ErrorKind::TimedOut.into())
+    Err(interrupted_too_often())
 }
 
 /// Writes all of a text, or a beginning of it.

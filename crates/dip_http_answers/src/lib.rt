@@ -7,6 +7,9 @@ mod refusals;
 mod writing;
 
 pub use plans::{Plan, is_quiet, plan_of};
-pub use reading::{Stop, read_body, read_head};
+pub use reading::{ReadFault, read_body, read_head};
 pub use refusals::HttpRefusal;
 pub use writing::{Answer, Unwritten, write_answer};
+
+#[cfg(test)]
+mod tests;

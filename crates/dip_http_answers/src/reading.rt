@@ -10,7 +10,7 @@ use std::io::Read;
 
 /// Why no more is read.
 #[derive(Clone, Copy, Debug, PartialEq, Eq)]
-pub enum Stop {
+pub enum ReadFault {
     /// The reader failed.
     Read,
     /// Memory ran out.
@@ -29,7 +29,7 @@ fn is_decided(bytes: &[u8]) -> bool
 }
 
 /// Reads until a head is there, none can come or the input ends; not much more than a head may have.
-pub fn read_head<R: Read>(alloc: Global, reader: &mut R) -> Result<Vec<u8>, Stop>
+pub fn read_head<R: Read>(alloc: Global, reader: &mut R) -> Result<Vec<u8>, ReadFault>
     ensures read { IfOk result
         (λ v. Consumes (R.remaining reader.old) (R.remaining reader.new) v.items) }
     ensures settled { IfOk result (λ v. IsAtEnd (R.remaining reader.new) ⊎ IsDecided v.items) }
@@ -38,11 +38,11 @@ pub fn read_head<R: Read>(alloc: Global, reader: &mut R) -> Result<Vec<u8>, Stop
     let mut buffer = [0u8; 1024];
     'reading: while !is_decided(&bytes) {
         match reader.read(&mut buffer) {
-            Err(_) => return Err(Stop::Read),
+            Err(_) => return Err(ReadFault::Read),
             Ok(0) => return Ok(bytes),
             Ok(n) => {
                 if bytes.extend_from_slice(&buffer[..n]).is_err() {
-                    return Err(Stop::Memory);
+                    return Err(ReadFault::Memory);
                 }
             }
         }
@@ -56,7 +56,7 @@ pub fn read_body<R: Read>(
     reader: &mut R,
     start: &[u8],
     size: usize,
-) -> Result<Option<Vec<u8>>, Stop>
+) -> Result<Option<Vec<u8>>, ReadFault>
     ensures some { IfOk result (λ o. IfSome o (λ v. (more : List ℕ)
         × Consumes (R.remaining reader.old) (R.remaining reader.new) more
         × (v.items ≡ take size (start.now ++ more)) × (size ≤ length (start.now ++ more)))) }
@@ -65,16 +65,16 @@ pub fn read_body<R: Read>(
         × IsAtEnd (R.remaining reader.new) × (length (start.now ++ more) < size))) }
 {
     let Ok(mut bytes) = start.to_vec(alloc) else {
-        return Err(Stop::Memory);
+        return Err(ReadFault::Memory);
     };
     let mut buffer = [0u8; 1024];
     'reading: while bytes.len() < size {
         match reader.read(&mut buffer) {
-            Err(_) => return Err(Stop::Read),
+            Err(_) => return Err(ReadFault::Read),
             Ok(0) => return Ok(None),
             Ok(n) => {
                 if bytes.extend_from_slice(&buffer[..n]).is_err() {
-                    return Err(Stop::Memory);
+                    return Err(ReadFault::Memory);
                 }
             }
         }

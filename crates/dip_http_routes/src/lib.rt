@@ -6,3 +6,6 @@ mod table;
 
 pub use places::{Place, place_of};
 pub use table::{Handler, routes};
+
+#[cfg(test)]
+mod tests;

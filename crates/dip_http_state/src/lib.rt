@@ -4,3 +4,6 @@
 mod state;
 
 pub use state::state_text;
+
+#[cfg(test)]
+mod tests;

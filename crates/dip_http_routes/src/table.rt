@@ -1,0 +1,25 @@
+//! The routes, as matchit keeps them.
+ghost use Rattle.std.specs.Prelude.{◌≡◌, IfOk};
+ghost use Rattle.dip_http_routes.specs.Table.{table};
+
+use matchit::{InsertError, Router};
+use std::alloc::Global;
+
+/// What answers a route.
+#[derive(Clone, Copy, Debug, PartialEq, Eq)]
+pub enum Handler {
+    Letters,
+    Game,
+    Paper,
+}
+
+/// The routes. There is no other error than want of memory, since no two of them are in conflict.
+pub fn routes(alloc: Global) -> Result<Router<Handler>, InsertError>
+    ensures { IfOk result (λ router. router ≡ table) }
+{
+    let mut router = Router::new(alloc);
+    router.insert("/letters", Handler::Letters)?;
+    router.insert("/games/{game}", Handler::Game)?;
+    router.insert("/games/{game}/papers/{number}", Handler::Paper)?;
+    Ok(router)
+}

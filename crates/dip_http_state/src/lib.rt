@@ -1,0 +1,9 @@
+//! The public part of a game as JSON.
+#![tactic(auto)]
+
+mod state;
+
+pub use state::state_text;
+
+#[cfg(test)]
+mod tests;

@@ -114,7 +114,7 @@ impl Letters {
 
     /// An author by chance, with the next number and the right secret.
     pub(crate) fn next_author(&mut self) -> Author {
-        self.number += 1;
+        self.number = self.number.wrapping_add(1);
         let (name, secret, around) = self.dice.pick(&AUTHORS).unwrap_or(AUTHORS[0]);
         let game = self.dice.pick(&["g1", "g1", "g1", "g2"]).unwrap_or("g1");
         let number = self.number;
@@ -162,7 +162,7 @@ impl Letters {
 
     /// Appends the last letter once more.
     pub(crate) fn again(&mut self) -> Result<(), AllocError> {
-        self.count += 1;
+        self.count = self.count.wrapping_add(1);
         self.text.push_str(self.last.as_str())
     }
 
@@ -281,7 +281,7 @@ impl Letters {
                 "\n\nSHOW\nEND\n",
             ])
             .unwrap_or("END\n");
-        self.count += 1;
+        self.count = self.count.wrapping_add(1);
         self.text.push_str(garbage)
     }
 }

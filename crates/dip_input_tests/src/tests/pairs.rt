@@ -26,7 +26,7 @@ fn push_pair(one: &mut Letters, other: &mut Letters, author: Author) -> Result<(
 fn assert_alike(rt: &impl Abort, alloc: Global, seed: u32) -> Result<(), Fail> {
     let map = Map::from_toml(alloc, STANDARD)?;
     let mut one = Letters::new(alloc, seed)?;
-    let mut other = Letters::new(alloc, seed + 1)?;
+    let mut other = Letters::new(alloc, seed.wrapping_add(1))?;
     for _ in 0..500 {
         let author = one.next_author();
         if author.name != "master" {

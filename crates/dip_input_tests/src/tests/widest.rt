@@ -24,8 +24,12 @@ fn push_code(place: usize, text: &mut String) -> Result<(), AllocError> {
 
 /// The provinces of a power: from the first one on, and before the other.
 fn block_of(power: usize) -> (usize, usize) {
-    let first = power * BLOCK;
-    let end = if power == 6 { PROVINCES } else { first + BLOCK };
+    let first = power.wrapping_mul(BLOCK);
+    let end = if power == 6 {
+        PROVINCES
+    } else {
+        first.wrapping_add(BLOCK)
+    };
     (first, end)
 }
 
@@ -55,9 +59,9 @@ fn push_province(place: usize, text: &mut String) -> Result<(), AllocError> {
     text.push_str("]\nname = \"")?;
     push_code(place, text)?;
     text.push_str("\"\nkind = \"inland\"\ncentre = true\narmy = [\"")?;
-    push_code(place + PROVINCES - 1, text)?;
+    push_code(place.wrapping_add(PROVINCES - 1), text)?;
     text.push_str("\", \"")?;
-    push_code(place + 1, text)?;
+    push_code(place.wrapping_add(1), text)?;
     text.push_str("\"]\n")
 }
 
@@ -67,7 +71,7 @@ fn ring(alloc: Global) -> Result<String, AllocError> {
     for (power, name) in POWERS.iter().enumerate() {
         let (first, end) = block_of(power);
         write!(text, "[powers.{name}]\nhome = [")?;
-        push_list(first, first + 3, "\"", "\"", &mut text)?;
+        push_list(first, first.wrapping_add(3), "\"", "\"", &mut text)?;
         text.push_str("]\nunits = [")?;
         push_list(first, end, "\"A ", "\"", &mut text)?;
         text.push_str("]\n")?;
@@ -104,7 +108,7 @@ fn push_orders(
         command.push_str("A ")?;
         push_code(place, &mut command)?;
         command.push_str(" - ")?;
-        push_code(place + 1, &mut command)?;
+        push_code(place.wrapping_add(1), &mut command)?;
         command.push_str("\n")?;
     }
     push_letter(name, 1, command.as_str(), input)

@@ -6,6 +6,3 @@ mod table;
 
 pub use places::{Place, place_of};
 pub use table::{Handler, routes};
-
-#[cfg(test)]
-mod tests;

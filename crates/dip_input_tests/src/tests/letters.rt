@@ -197,7 +197,7 @@ impl Letters {
     /// A letter of orders.
     pub(crate) fn orders(&mut self, author: Author) -> Result<String, AllocError> {
         let mut command = String::from_str(self.alloc, "ORDERS\n")?;
-        for _ in 0..self.dice.roll(6) + 1 {
+        for _ in 0..self.dice.roll(6).wrapping_add(1) {
             let line = self.order(author)?;
             command.push_str(line.as_str())?;
         }

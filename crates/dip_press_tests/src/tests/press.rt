@@ -220,7 +220,7 @@ fn addressees_are_other_powers_each_once(rt: HostRuntime) -> Result<(), Fail> {
     let map = Map::from_toml(alloc, STANDARD)?;
     let mut keeper = opened(alloc, &map)?;
     for (place, named) in MISNAMED.iter().enumerate() {
-        let number = place + 1;
+        let number = place.wrapping_add(1);
         let exchange = format!(in alloc;
             "= england {number}\nPRESS WHITE TO {named}\n> Hello.\nEND\n< REPLY g1 england {number}\n< L1 malformed letter\n< END\n"
         )?;

@@ -1,22 +1,30 @@
 -- What was written.
-use Rattle.std.proofs.Common.{◌≡◌, ◌+◌, ◌-◌, ◌<◌, ◌≤◌, ℕ, List, [], ◌∷◌, ◌++◌, Option, length, take, drop, get_or, sym, ap, subst, ◌∙◌, append-nil, length-append, length-drop, arith}
+use Rattle.std.proofs.lemmas.Bool.{false≢true}
+use Rattle.std.proofs.Common.{◌≡◌, ◌+◌, ◌<◌, ◌≤◌, ℕ, List, [], ◌∷◌, ◌++◌, Option, length, take, drop, get_or, sym, ap, subst, ◌∙◌, append-nil, length-append, length-take, take-take, arith}
 use Rattle.std.specs.List.{flat_map}
-use Rattle.std.proofs.Math.Seq.{take-add, take-append-add}
+use Rattle.std.proofs.Math.Seq.{take-append-add}
 use Rattle.std.proofs.Common.{Result, Ok, Err}
-use Rattle.std.specs.Prelude.{OnErr, OnOk}
+use Rattle.std.specs.Prelude.{OnErr, OnOk, is_err, true}
 use Rattle.dip_http_answers.specs.Answers.{IsPart}
-use Rattle.std.proofs.lemmas.List.{take-append-drop, take_more, take_rest, take-append-le}
+use Rattle.std.proofs.lemmas.List.{take-append-drop, take_all, take_more, take-append-le}
 use Rattle.std.proofs.lemmas.List.Concat.{flat_map-append}
 use Rattle.std.specs.Io.KnownBytes.{Appends}
 use Rattle.std.proofs.KnownBytes.{Appends-trans}
 
--- one write more
-pub write_more : (a b c : Option (List ℕ)) (text : List ℕ) (at n : ℕ) → Appends a b (take at text) → Appends b c (take n (take (length text - at) (drop at text))) → Appends a c (take (at + n) text)
-write_more a b c text at n first second =
-    subst (λ (t : List ℕ). Appends a c t) (ap (λ s. take at text ++ take n s) (take_rest text at) ∙ sym (take-add at n text)) (Appends-trans a b c _ _ first second)
+within_take : (n : ℕ) (text : List ℕ) → length (take n text) ≤ length text
+within_take n text = omega (arith, length-take n text)
 
-pub within_more : (text : List ℕ) (at n : ℕ) → at ≤ length text → n ≤ length (take (length text - at) (drop at text)) → at + n ≤ length text
-within_more text at n inside bound = let rest : n ≤ length (drop at text) = rw take_rest at bound in omega (arith, length-drop at text)
+take_of_length : (n : ℕ) (text : List ℕ) → take (length (take n text)) text ≡ take n text
+take_of_length n text =
+    sym (take-take (length (take n text)) n text (omega (arith, length-take n text))) ∙ take_all (length (take n text)) (take n text) (omega arith)
+
+-- as many bytes of a text as a size tells, or all of them, are a beginning of it
+pub part_of : (a b : Option (List ℕ)) (text : List ℕ) → ((size : ℕ) × Appends a b (take size text)) → IsPart a b text
+part_of a b text told = record {
+  size = length (take told.0 text);
+  within = within_take told.0 text;
+  written = subst (λ (t : List ℕ). Appends a b t) (sym (take_of_length told.0 text)) told.1;
+}
 
 -- a beginning of the first text
 pub part_first : (a b : Option (List ℕ)) (text rest : List ℕ) → IsPart a b text → IsPart a b (text ++ rest)
@@ -33,6 +41,10 @@ part_later a b c front text first part = record {
   within = let w = part.within in omega (arith, length-append front text);
   written = subst (λ (t : List ℕ). Appends a c t) (sym (take-append-add front text part.size)) (Appends-trans a b c _ _ first part.written);
 }
+
+pub of_failed : {E : Type 0} (r : Result (Unit {0}) E) (P : Type 0) → is_err r ≡ true → OnErr r P → P
+of_failed (Ok u) P failed h = absurd (false≢true failed)
+of_failed (Err e) P failed h = h
 
 pub part_weaker : {E : Type 0} (r : Result (Unit {0}) E) (P Q : Type 0) → (P → Q) → OnErr r P → OnErr r Q
 part_weaker (Ok u) P Q f h = tt

@@ -5,6 +5,7 @@ ghost use Rattle.dip_http_head.specs.Heads.{HasNoHead};
 ghost use Rattle.dip_http_answers.specs.Reading.{IsDecided};
 
 use dip_http_head::{Front, front_of};
+use dip_streams::read_some;
 use std::alloc::Global;
 use std::io::Read;
 
@@ -32,22 +33,25 @@ fn is_decided(bytes: &[u8]) -> bool
 pub fn read_head<R: Read>(alloc: Global, reader: &mut R) -> Result<Vec<u8>, ReadFault>
     ensures read { IfOk result
         (λ v. Consumes (R.remaining reader.old) (R.remaining reader.new) v.items) }
-    ensures settled { IfOk result (λ v. IsAtEnd (R.remaining reader.new) ⊎ IsDecided v.items) }
+    ensures settled { IfOk result (λ v. IsAtEnd (R.remaining reader.new)
+        ⊎ (IsDecided v.items × (0 < length v.items))) }
 {
     let mut bytes = Vec::new(alloc);
     let mut buffer = [0u8; 1024];
-    'reading: while !is_decided(&bytes) {
-        match reader.read(&mut buffer) {
+    'reading: loop {
+        match read_some(reader, &mut buffer) {
             Err(_) => return Err(ReadFault::Read),
             Ok(0) => return Ok(bytes),
             Ok(n) => {
                 if bytes.extend_from_slice(&buffer[..n]).is_err() {
                     return Err(ReadFault::Memory);
                 }
+                if is_decided(&bytes) {
+                    return Ok(bytes);
+                }
             }
         }
     }
-    Ok(bytes)
 }
 
 /// Reads until a body of this size is there, which begins with what was read behind the head; `None` where the input ends before.
@@ -69,7 +73,7 @@ pub fn read_body<R: Read>(
     };
     let mut buffer = [0u8; 1024];
     'reading: while bytes.len() < size {
-        match reader.read(&mut buffer) {
+        match read_some(reader, &mut buffer) {
             Err(_) => return Err(ReadFault::Read),
             Ok(0) => return Ok(None),
             Ok(n) => {

@@ -5,6 +5,7 @@ ghost use Rattle.std.specs.Io.KnownBytes.{Appends};
 ghost use Rattle.dip_http_answers.specs.Answers.{IsPart, allow_field, head_of};
 ghost use Rattle.dip_http_answers.specs.Views.{answer_text, head_text};
 
+use dip_streams::write_text;
 use http::StatusCode;
 use itoa::Buffer;
 use std::io::Write;
@@ -25,22 +26,6 @@ pub struct Answer {
     pub quiet: bool,
 }
 
-/// Writes all of a text, or a beginning of it.
-fn write_text<W: Write>(writer: &mut W, text: &[u8]) -> Result<(), Unwritten>
-    ensures ok { OnOk result (Appends (W.contents writer.old) (W.contents writer.new) text.now) }
-    ensures err { OnErr result (IsPart (W.contents writer.old) (W.contents writer.new) text.now) }
-{
-    let mut at = 0;
-    'writing: while at < text.len() {
-        match writer.write(&text[at..]) {
-            Err(_) => return Err(Unwritten),
-            Ok(0) => return Err(Unwritten),
-            Ok(n) => at += n,
-        }
-    }
-    Ok(())
-}
-
 /// Writes texts one behind the other, or a beginning of them.
 fn write_texts<W: Write>(writer: &mut W, texts: &[&str]) -> Result<(), Unwritten>
     ensures ok { OnOk result (Appends (W.contents writer.old) (W.contents writer.new)
@@ -49,7 +34,9 @@ fn write_texts<W: Write>(writer: &mut W, texts: &[&str]) -> Result<(), Unwritten
         (flat_map (λ t. t.now) texts.entry.now)) }
 {
     'texts: for text in texts {
-        write_text(writer, text.as_bytes())?;
+        if write_text(writer, text.as_bytes()).is_err() {
+            return Err(Unwritten);
+        }
     }
     Ok(())
 }

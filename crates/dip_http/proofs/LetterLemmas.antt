@@ -1,0 +1,94 @@
+-- Bodies that are one letter.
+use Rattle.std.proofs.Common.{◌≡◌, ◌⊎◌, inl, inr, subst, Bor, ℕ, zero, suc, List, [], ◌∷◌, ◌++◌, replicate, sym, ap, ◌∙◌, append-nil, append_assoc, arith}
+use Rattle.sha2.specs.Sha256.{sha256}
+use Rattle.dip_letters.specs.Input.{IsLong, IsNext, IsSameNext, IsTaken, Skips, Starts}
+use Rattle.dip_letters.specs.Letters.{Fits, lines_of, spelling}
+use Rattle.dip_letters.specs.Lines.{end_line, text_of}
+use Rattle.dip_letters.specs.Notes.{Note}
+use Rattle.dip_letters.specs.Views.{note}
+use Rattle.dip_letters.specs.declared.letters.Letter.{Letter}
+use Rattle.dip_letters.specs.declared.letters.LetterFault.{LetterFault}
+use Rattle.dip_letters.specs.declared.letters.LetterFault.TheVariants.{Malformed, TooLong}
+use Rattle.dip_letters.specs.declared.letters.Next.{Next}
+use Rattle.dip_letters.specs.declared.letters.Next.TheVariants.{Taken, Fault, End}
+use Rattle.dip_letters.proofs.AgainLemmas.{same_next, spelling_unique}
+use Rattle.dip_letters.proofs.NoteLemmas.{fits_inner}
+use Rattle.dip_machine.specs.Mail.{Mail, mail}
+use Rattle.dip_http.specs.Answering.{IsOneLetter}
+
+blanks_settle : (i j : ℕ) (a b : List ℕ) → Starts a → Starts b → replicate i 10 ++ a ≡ replicate j 10 ++ b → a ≡ b
+blanks_settle zero zero a b first second same = same
+blanks_settle zero (suc j) [] b first second same = absurd first
+blanks_settle zero (suc j) (x ∷ a) b first second same = absurd (first (let e : x ≡ 10 = cc in e))
+blanks_settle (suc i) zero a [] first second same = absurd second
+blanks_settle (suc i) zero a (x ∷ b) first second same = absurd (second (let e : x ≡ 10 = cc in e))
+blanks_settle (suc i) (suc j) a b first second same = blanks_settle i j a b first second (let e : replicate i 10 ++ a ≡ replicate j 10 ++ b = cc in e)
+
+text_settles : (input a b : List ℕ) → Starts a → Starts b → Skips input a → Skips input b → a ≡ b
+text_settles input a b first second one two = blanks_settle one.blank two.blank a b first second (sym one.is ∙ two.is)
+
+only_blank : (i j : ℕ) (a : List ℕ) → Starts a → replicate i 10 ++ a ≡ replicate j 10 ++ [] → ⊥
+only_blank zero zero [] starts same = starts
+only_blank zero zero (x ∷ a) starts same = cc
+only_blank zero (suc j) [] starts same = starts
+only_blank zero (suc j) (x ∷ a) starts same = starts (let e : x ≡ 10 = cc in e)
+only_blank (suc i) zero a starts same = cc
+only_blank (suc i) (suc j) a starts same = only_blank i j a starts (let e : replicate i 10 ++ a ≡ replicate j 10 ++ [] = cc in e)
+
+letter_starts : (n : Note) (rest : List ℕ) → Starts (spelling n ++ rest)
+letter_starts n rest = λ e. omega (arith, e)
+
+not_long : (n : Note) (rest text : List ℕ) → Fits n → text ≡ spelling n ++ rest → IsLong text → ⊥
+not_long n rest text fits at is_long =
+    let long = is_long.no_end (lines_of n) rest (fits_inner n fits, at ∙ append_assoc (text_of (lines_of n)) end_line rest) in
+    let size = fits.size in
+    omega (arith, long, size)
+
+-- a letter behind empty lines is what stands next
+found : (body : List ℕ) (n : Note) (rest : List ℕ) (next : Next) → Fits n → Skips body (spelling n ++ rest) → IsNext body next → IsTaken n rest next
+found body n rest (Taken l r) fits skips is =
+    let at = text_settles body (spelling (note l) ++ r.now) (spelling n ++ rest) (letter_starts (note l) r.now) (letter_starts n rest) is.1 skips in
+    let same = spelling_unique (note l) n r.now rest is.0.fits fits at in
+    (is.0, same.0, same.1)
+found body n rest (Fault TooLong r) fits skips is =
+    not_long n rest is.0 fits (text_settles body is.0 (spelling n ++ rest) is.1 (letter_starts n rest) is.2 skips) is.3
+found body n rest (Fault Malformed r) fits skips is =
+    is.4 n rest fits (text_settles body is.0 (spelling n ++ rest) is.1 (letter_starts n rest) is.2 skips)
+found body n rest End fits skips is = only_blank skips.blank is.blank (spelling n ++ rest) (letter_starts n rest) (sym skips.is ∙ is.is)
+
+skips_to : (body : List ℕ) (n : Mail) → (one : IsOneLetter body n) → Skips body (spelling n.note ++ replicate one.after 10)
+skips_to body n one = record { blank = one.before; is = one.is }
+
+-- a letter with nothing but empty lines behind it
+pub is_one : (body : List ℕ) (l : Letter) (r : _) → IsNext body (Taken l r) → IsNext r.now End → IsOneLetter body (mail l)
+is_one body l r is end = record {
+  fits = is.0.fits;
+  sum = ap sha256 is.0.bytes;
+  before = is.1.blank;
+  after = end.blank;
+  is = is.1.is ∙ ap (λ (t : List ℕ). replicate is.1.blank 10 ++ (spelling (note l) ++ t)) (end.is ∙ append-nil (replicate end.blank 10));
+}
+
+-- no letter stands there
+pub no_letter_at_fault : (body : List ℕ) (f : _) (r : _) → IsNext body (Fault f r) → (n : Mail) → IsOneLetter body n → ⊥
+no_letter_at_fault body f r is n one = found body n.note (replicate one.after 10) (Fault f r) one.fits (skips_to body n one) is
+
+pub no_letter_at_end : (body : List ℕ) → IsNext body End → (n : Mail) → IsOneLetter body n → ⊥
+no_letter_at_end body is n one = found body n.note (replicate one.after 10) End one.fits (skips_to body n one) is
+
+-- something else stands behind the letter
+pub more_behind : (body : List ℕ) (l : Letter) (r : _) (next : Next) → IsNext body (Taken l r) → IsNext r.now next → (n : Mail) → IsOneLetter body n → IsSameNext End next
+more_behind body l r next is behind n one =
+    let there = found body n.note (replicate one.after 10) (Taken l r) one.fits (skips_to body n one) is in
+    same_next r.now End next (record { blank = one.after; is = there.2 ∙ sym (append-nil (replicate one.after 10)) }) behind
+
+-- so no body is one letter that begins with none
+pub none_in_front : (body : List ℕ) (next : Next) → IsNext body next → ((f : LetterFault) × (r : Bor (List ℕ)) × (next ≡ Fault f r)) ⊎ (next ≡ End) → (n : Mail) → IsOneLetter body n → ⊥
+none_in_front body next is (inl e) n one = no_letter_at_fault body e.0 e.1 (subst (IsNext body) e.2 is) n one
+none_in_front body next is (inr e) n one = no_letter_at_end body (subst (IsNext body) e is) n one
+
+-- nor one that goes on behind it
+pub none_behind : (body : List ℕ) (l : Letter) (r : Bor (List ℕ)) (next : Next) → IsNext body (Taken l r) → IsNext r.now next
+    → ((x : Letter) × (y : Bor (List ℕ)) × (next ≡ Taken x y)) ⊎ ((f : LetterFault) × (y : Bor (List ℕ)) × (next ≡ Fault f y)) → (n : Mail) → IsOneLetter body n → ⊥
+none_behind body l r next is behind (inl e) n one = subst (IsSameNext End) e.2 (more_behind body l r next is behind n one)
+none_behind body l r next is behind (inr e) n one = subst (IsSameNext End) e.2 (more_behind body l r next is behind n one)

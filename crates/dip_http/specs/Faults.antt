@@ -1,0 +1,17 @@
+-- A connection's faults: their names, and how many faults of the disk a keeper has told of behind them.
+use Rattle.std.specs.Prelude.{ℕ, List, Result, Err, codes}
+use Rattle.dip_machine.specs.Faults.{faults_with, keep_fault_name}
+use Rattle.dip_http.specs.declared.faults.HttpFault.{HttpFault}
+use Rattle.dip_http.specs.declared.faults.HttpFault.TheVariants.{Read, Write, Memory, Keep}
+
+-- a fault's name, as the program tells it
+abbrev pub http_name : HttpFault → List ℕ
+http_name Read = codes "Read"
+http_name Write = codes "Write"
+http_name Memory = codes "Memory"
+http_name (Keep fault) = keep_fault_name fault
+
+-- the count of the keeper's faults after a connection: it rises by one with a fault of the disk
+abbrev pub faults_after_answer : {X : Type 0} → Result X HttpFault → ℕ → ℕ
+faults_after_answer (Err (Keep fault)) n = faults_with fault n
+faults_after_answer _ n = n

@@ -1,0 +1,113 @@
+//! One request and its answer.
+ghost use Rattle.std.specs.Prelude.{◌≡◌, ◌<◌, IfErr, IsErrOf, OnOk};
+ghost use Rattle.dip_machine.specs.Lawful.{IsLawful};
+ghost use Rattle.dip_http_answers.specs.Views.{plan_view};
+ghost use Rattle.dip_http.specs.Ends.{Answered, Carried, CarriedBy, EndsBy, Keeps};
+
+use crate::endings::refuse;
+use crate::faults::HttpFault;
+use crate::showing::{show_game, show_paper};
+use crate::taking::take_letter;
+use dip_desk::Keeper;
+use dip_http_answers::{HttpRefusal, Plan, ReadFault, is_quiet, plan_of, read_head};
+use dip_http_head::{Front, front_of};
+use dip_http_routes::routes;
+use dip_machine::KeepFault;
+use dip_map::Map;
+use std::alloc::Global;
+use std::io::{Read, Write};
+
+/// Carries out the plan for a request.
+fn carry_out<R: Read, W: Write, K: Keeper>(
+    alloc: Global,
+    reader: &mut R,
+    writer: &mut W,
+    keeper: &mut K,
+    map: &Map,
+    plan: Plan<'_>,
+    quiet: bool,
+    start: &[u8],
+) -> Result<(), HttpFault>
+    requires { K.book.faults keeper.old < u64.MAX }
+    ensures keeps { Keeps map.now K.book keeper.old keeper.new result }
+    ensures ok { K.book.sound map.now keeper.old → K.book.shows keeper.new → OnOk result
+        (Carried map.now (plan_view plan.entry) quiet start.now (R.remaining reader.old)
+        (K.book.content map.now keeper.old) (K.book.content map.now keeper.new)
+        (W.contents writer.old) (W.contents writer.new)) }
+    ensures err { K.book.sound map.now keeper.old → K.book.shows keeper.new → IfErr result
+        (λ f. CarriedBy map.now f (plan_view plan.entry) quiet start.now (R.remaining reader.old)
+        (K.book.content map.now keeper.old) (K.book.content map.now keeper.new)
+        (W.contents writer.old) (W.contents writer.new)) }
+    ensures lawful { K.book.sound map.now keeper.old → K.book.shows keeper.new
+        → IsLawful map.now (K.book.content map.now keeper.old)
+        → IsLawful map.now (K.book.content map.now keeper.new) }
+    ensures never { K.book.sound map.now keeper.old → K.book.shows keeper.new
+        → IsLawful map.now (K.book.content map.now keeper.old)
+        → IsErrOf result (HttpFault.Keep KeepFault.Damaged) → ⊥ }
+{
+    match plan {
+        Plan::Refuse(why) => refuse(writer, why, quiet),
+        Plan::Game(name) => show_game(alloc, writer, keeper, map, quiet, name),
+        Plan::Paper(name, number) => show_paper(writer, keeper, map, quiet, name, number),
+        Plan::Letter(size) => take_letter(alloc, reader, writer, keeper, map, start, size),
+    }
+}
+
+/// Reads one request and answers it: with what was asked for, with the reply to a letter, or with a refusal. Where the input ends before
+/// its first byte, nothing is written. Bytes behind the request aren't looked at.
+///
+/// # Errors
+/// `Read` and `Memory`: nothing was written, and no letter was taken. `Write`: a beginning of the answer was written, and a letter that was
+/// taken stays taken. `Keep`: no letter was taken, and a 503 was written, or a beginning of it.
+pub fn answer_one<R: Read, W: Write, K: Keeper>(
+    alloc: Global,
+    reader: &mut R,
+    writer: &mut W,
+    keeper: &mut K,
+    map: &Map,
+) -> Result<(), HttpFault>
+    requires { K.book.faults keeper.old < u64.MAX }
+    ensures keeps { Keeps map.now K.book keeper.old keeper.new result }
+    ensures answered { K.book.sound map.now keeper.old → K.book.shows keeper.new → OnOk result
+        (Answered map.now (R.remaining reader.old) (K.book.content map.now keeper.old)
+        (K.book.content map.now keeper.new) (W.contents writer.old) (W.contents writer.new)) }
+    ensures ended { K.book.sound map.now keeper.old → K.book.shows keeper.new → IfErr result
+        (λ f. EndsBy map.now f (R.remaining reader.old) (K.book.content map.now keeper.old)
+        (K.book.content map.now keeper.new) (W.contents writer.old) (W.contents writer.new)) }
+    ensures lawful { K.book.sound map.now keeper.old → K.book.shows keeper.new
+        → IsLawful map.now (K.book.content map.now keeper.old)
+        → IsLawful map.now (K.book.content map.now keeper.new) }
+    // From a lawful content on, as an empty desk is, Damaged is never told.
+    ensures never { K.book.sound map.now keeper.old → K.book.shows keeper.new
+        → IsLawful map.now (K.book.content map.now keeper.old)
+        → IsErrOf result (HttpFault.Keep KeepFault.Damaged) → ⊥ }
+{
+    let bytes = match read_head(alloc, reader) {
+        Ok(bytes) => bytes,
+        Err(ReadFault::Read) => return Err(HttpFault::Read),
+        Err(ReadFault::Memory) => return Err(HttpFault::Memory),
+    };
+    if bytes.is_empty() {
+        return Ok(());
+    }
+    match front_of(bytes.as_slice()) {
+        Front::Head(front) => {
+            let Ok(router) = routes(alloc) else {
+                return Err(HttpFault::Memory);
+            };
+            let plan = plan_of(&router, &front);
+            let quiet = is_quiet(front.method);
+            carry_out(
+                alloc,
+                reader,
+                writer,
+                keeper,
+                map,
+                plan,
+                quiet,
+                &bytes[front.size..],
+            )
+        }
+        Front::More | Front::NoHead => refuse(writer, HttpRefusal::BadRequest, false),
+    }
+}

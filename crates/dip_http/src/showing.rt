@@ -1,0 +1,126 @@
+//! What GET and HEAD are answered: the public part of a game, or a paper.
+ghost use Rattle.std.specs.Prelude.{◌<◌, ℕ, IfErr, IsErrOf, OnOk, Option};
+ghost use Rattle.dip_machine.specs.State.{paper_at, public_at};
+ghost use Rattle.dip_http.specs.Answering.{IsNumber, game_answer, paper_answer, paper_named};
+ghost use Rattle.dip_http.specs.Ends.{Keeps, Shows, ShowsPart};
+
+use crate::endings::{refuse, unavailable, write_found};
+use crate::faults::HttpFault;
+use crate::numbers::number_of;
+use dip_desk::Keeper;
+use dip_http_answers::HttpRefusal;
+use dip_http_state::state_text;
+use dip_machine::KeepFault;
+use dip_map::Map;
+use http::StatusCode;
+use std::alloc::Global;
+use std::io::Write;
+
+/// Shows the public part of a game as JSON.
+pub fn show_game<W: Write, K: Keeper>(
+    alloc: Global,
+    writer: &mut W,
+    keeper: &mut K,
+    map: &Map,
+    quiet: bool,
+    name: &str,
+) -> Result<(), HttpFault>
+    requires { K.book.faults keeper.old < u64.MAX }
+    ensures keeps { Keeps map.now K.book keeper.old keeper.new result }
+    ensures ok { K.book.sound map.now keeper.old → K.book.shows keeper.new → OnOk result
+        (Shows (game_answer map.now quiet
+        (public_at name.now (K.book.content map.now keeper.old)))
+        (K.book.content map.now keeper.old) (K.book.content map.now keeper.new)
+        (W.contents writer.old) (W.contents writer.new)) }
+    ensures err { K.book.sound map.now keeper.old → K.book.shows keeper.new → IfErr result
+        (λ f. ShowsPart f quiet (game_answer map.now quiet
+        (public_at name.now (K.book.content map.now keeper.old)))
+        (K.book.content map.now keeper.old) (K.book.content map.now keeper.new)
+        (W.contents writer.old) (W.contents writer.new)) }
+    ensures never { K.book.sound map.now keeper.old → K.book.shows keeper.new
+        → IsErrOf result (HttpFault.Keep KeepFault.Damaged) → ⊥ }
+{
+    match keeper.public(map, name) {
+        Err(fault) => Err(unavailable(writer, quiet, fault)),
+        Ok(None) => refuse(writer, HttpRefusal::NotFound, quiet),
+        Ok(Some(public)) => match state_text(alloc, map, &public) {
+            Err(_) => Err(HttpFault::Memory),
+            Ok(text) => write_found(
+                writer,
+                StatusCode::OK,
+                "application/json",
+                quiet,
+                &[text.as_str()],
+            ),
+        },
+    }
+}
+
+/// Shows the paper of a number.
+fn show_numbered<W: Write, K: Keeper>(
+    writer: &mut W,
+    keeper: &mut K,
+    map: &Map,
+    quiet: bool,
+    name: &str,
+    number: u32,
+) -> Result<(), HttpFault>
+    requires { K.book.faults keeper.old < u64.MAX }
+    ensures keeps { Keeps map.now K.book keeper.old keeper.new result }
+    ensures ok { K.book.sound map.now keeper.old → K.book.shows keeper.new → OnOk result
+        (Shows (paper_answer quiet
+        (paper_at name.now number (K.book.content map.now keeper.old)))
+        (K.book.content map.now keeper.old) (K.book.content map.now keeper.new)
+        (W.contents writer.old) (W.contents writer.new)) }
+    ensures err { K.book.sound map.now keeper.old → K.book.shows keeper.new → IfErr result
+        (λ f. ShowsPart f quiet (paper_answer quiet
+        (paper_at name.now number (K.book.content map.now keeper.old)))
+        (K.book.content map.now keeper.old) (K.book.content map.now keeper.new)
+        (W.contents writer.old) (W.contents writer.new)) }
+    ensures never { K.book.sound map.now keeper.old → K.book.shows keeper.new
+        → IsErrOf result (HttpFault.Keep KeepFault.Damaged) → ⊥ }
+{
+    match keeper.paper(map, name, number) {
+        Err(fault) => Err(unavailable(writer, quiet, fault)),
+        Ok(None) => refuse(writer, HttpRefusal::NotFound, quiet),
+        Ok(Some(text)) => write_found(
+            writer,
+            StatusCode::OK,
+            "text/plain",
+            quiet,
+            &[text.as_str()],
+        ),
+    }
+}
+
+/// Shows the paper whose number stands in the path.
+pub fn show_paper<W: Write, K: Keeper>(
+    writer: &mut W,
+    keeper: &mut K,
+    map: &Map,
+    quiet: bool,
+    name: &str,
+    number: &str,
+) -> Result<(), HttpFault>
+    requires { K.book.faults keeper.old < u64.MAX }
+    ensures keeps { Keeps map.now K.book keeper.old keeper.new result }
+    ensures ok { K.book.sound map.now keeper.old → K.book.shows keeper.new
+        → OnOk result ((n : Option ℕ) × IsNumber number.now n
+        × Shows (paper_answer quiet
+        (paper_named name.now n (K.book.content map.now keeper.old)))
+        (K.book.content map.now keeper.old) (K.book.content map.now keeper.new)
+        (W.contents writer.old) (W.contents writer.new)) }
+    ensures err { K.book.sound map.now keeper.old → K.book.shows keeper.new
+        → IfErr result (λ f. (n : Option ℕ) × IsNumber number.now n
+        × ShowsPart f quiet (paper_answer quiet
+        (paper_named name.now n (K.book.content map.now keeper.old)))
+        (K.book.content map.now keeper.old) (K.book.content map.now keeper.new)
+        (W.contents writer.old) (W.contents writer.new)) }
+    ensures never { K.book.sound map.now keeper.old → K.book.shows keeper.new
+        → IsErrOf result (HttpFault.Keep KeepFault.Damaged) → ⊥ }
+{
+    match number_of(number) {
+        None => refuse(writer, HttpRefusal::NotFound, quiet),
+        Some(number) => show_numbered(writer, keeper, map, quiet, name, number),
+    }
+}

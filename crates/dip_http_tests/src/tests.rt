@@ -1,0 +1,9 @@
+//! Requests and answers.
+mod cut_short;
+mod faults;
+mod gets;
+mod hostile;
+mod loopback;
+mod posts;
+mod refusals;
+mod wires;

@@ -24,7 +24,7 @@ blanks_settle (suc i) zero a [] first second same = absurd second
 blanks_settle (suc i) zero a (x ∷ b) first second same = absurd (second (let e : x ≡ 10 = cc in e))
 blanks_settle (suc i) (suc j) a b first second same = blanks_settle i j a b first second (let e : replicate i 10 ++ a ≡ replicate j 10 ++ b = cc in e)
 
-text_settles : (input a b : List ℕ) → Starts a → Starts b → Skips input a → Skips input b → a ≡ b
+pub text_settles : (input a b : List ℕ) → Starts a → Starts b → Skips input a → Skips input b → a ≡ b
 text_settles input a b first second one two = blanks_settle one.blank two.blank a b first second (sym one.is ∙ two.is)
 
 only_blank : (i j : ℕ) (a : List ℕ) → Starts a → replicate i 10 ++ a ≡ replicate j 10 ++ [] → ⊥
@@ -35,7 +35,7 @@ only_blank zero (suc j) (x ∷ a) starts same = starts (let e : x ≡ 10 = cc in
 only_blank (suc i) zero a starts same = cc
 only_blank (suc i) (suc j) a starts same = only_blank i j a starts (let e : replicate i 10 ++ a ≡ replicate j 10 ++ [] = cc in e)
 
-letter_starts : (n : Note) (rest : List ℕ) → Starts (spelling n ++ rest)
+pub letter_starts : (n : Note) (rest : List ℕ) → Starts (spelling n ++ rest)
 letter_starts n rest = λ e. omega (arith, e)
 
 not_long : (n : Note) (rest text : List ℕ) → Fits n → text ≡ spelling n ++ rest → IsLong text → ⊥
@@ -56,7 +56,7 @@ found body n rest (Fault Malformed r) fits skips is =
     is.4 n rest fits (text_settles body is.0 (spelling n ++ rest) is.1 (letter_starts n rest) is.2 skips)
 found body n rest End fits skips is = only_blank skips.blank is.blank (spelling n ++ rest) (letter_starts n rest) (sym skips.is ∙ is.is)
 
-skips_to : (body : List ℕ) (n : Mail) → (one : IsOneLetter body n) → Skips body (spelling n.note ++ replicate one.after 10)
+pub skips_to : (body : List ℕ) (n : Mail) → (one : IsOneLetter body n) → Skips body (spelling n.note ++ replicate one.after 10)
 skips_to body n one = record { blank = one.before; is = one.is }
 
 -- a letter with nothing but empty lines behind it

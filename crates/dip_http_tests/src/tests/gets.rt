@@ -1,5 +1,6 @@
 //! Games and papers by GET and HEAD.
 use crate::tests::wires::{ask, ordered, served, standard, told};
+use itoa::Buffer;
 use std::test::Fail;
 
 /// What everybody may know of the game, as JSON.
@@ -24,10 +25,13 @@ fn shows_a_game(rt: HostRuntime) -> Result<(), Fail> {
     let alloc = rt.alloc();
     let map = standard(alloc)?;
     let mut keeper = ordered(alloc, &map)?;
-    let length = STATE.len();
-    let head = format!(in alloc;
-        "HTTP/1.1 200 OK\r\nContent-Type: application/json\r\nContent-Length: {length}\r\nConnection: close\r\n\r\n"
-    )?;
+    let mut digits = Buffer::new();
+    let head = [
+        "HTTP/1.1 200 OK\r\nContent-Type: application/json\r\nContent-Length: ",
+        digits.format(STATE.len()),
+        "\r\nConnection: close\r\n\r\n",
+    ]
+    .concat(alloc)?;
     let whole = [head.as_str(), STATE].concat(alloc)?;
     for target in ["/games/g1", "/games/g1?", "/games/g1?as=json&x=/papers/1"] {
         let get = ask(alloc, "GET", target)?;
@@ -45,14 +49,15 @@ fn shows_a_paper(rt: HostRuntime) -> Result<(), Fail> {
     let alloc = rt.alloc();
     let map = standard(alloc)?;
     let mut keeper = ordered(alloc, &map)?;
-    let length = format!(in alloc; "{}", PAPER.len())?;
+    let mut digits = Buffer::new();
+    let length = digits.format(PAPER.len());
     let get = ask(alloc, "GET", "/games/g1/papers/1")?;
     let answer = served(alloc, &mut keeper, &map, get.as_bytes())?;
-    let whole = told(alloc, "200 OK", length.as_str(), PAPER)?;
+    let whole = told(alloc, "200 OK", length, PAPER)?;
     assert!(rt; answer.as_slice() == whole.as_bytes());
     let quiet = ask(alloc, "HEAD", "/games/g1/papers/1")?;
     let answer = served(alloc, &mut keeper, &map, quiet.as_bytes())?;
-    let head = told(alloc, "200 OK", length.as_str(), "")?;
+    let head = told(alloc, "200 OK", length, "")?;
     assert!(rt; answer.as_slice() == head.as_bytes());
     Ok(())
 }

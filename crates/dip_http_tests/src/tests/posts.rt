@@ -3,6 +3,7 @@ use crate::tests::wires::{ordered, post, served, standard, told};
 use dip_desk::MemoryKeeper;
 use dip_exchanges::{BOARD, CREATE, ORDERS, SHOW, desk, opened};
 use dip_map::Map;
+use itoa::Buffer;
 use std::alloc::Global;
 use std::process::Abort;
 use std::test::Fail;
@@ -27,6 +28,10 @@ const MALFORMED: &str = "REPLY nobody 0\nL1 malformed letter\nEND\n";
 
 const UNKNOWN: &str = "REPLY nobody 0\nL2 unknown game, sender or secret\nEND\n";
 
+/// The front of what England is shown, to the board.
+const SHOWN: &str =
+    "REPLY g1 england 2\nGAME g1 S1901M running DUE 100 PERIOD 100 GREY YES PAPERS 1\n";
+
 #[test]
 fn takes_the_first_letters(rt: HostRuntime) -> Result<(), Fail> {
     let alloc = rt.alloc();
@@ -40,11 +45,14 @@ fn takes_the_first_letters(rt: HostRuntime) -> Result<(), Fail> {
         "REPLY g1 england 1\nOK F edi - nth\nOK F lon H\nEND\n",
     );
     assert_told(&rt, alloc, &mut keeper, &map, ORDERS, orders)?;
-    let shown = format!(in alloc;
-        "REPLY g1 england 2\nGAME g1 S1901M running DUE 100 PERIOD 100 GREY YES PAPERS 1\n{BOARD}VOTE NO\nSENT 0 INBOX 0\nORDER F edi - nth\nORDER F lon H\nEND\n"
-    )?;
-    let length = format!(in alloc; "{}", shown.len())?;
-    let show = ("200 OK", length.as_str(), shown.as_str());
+    let shown = [
+        SHOWN,
+        BOARD,
+        "VOTE NO\nSENT 0 INBOX 0\nORDER F edi - nth\nORDER F lon H\nEND\n",
+    ]
+    .concat(alloc)?;
+    let mut digits = Buffer::new();
+    let show = ("200 OK", digits.format(shown.len()), shown.as_str());
     assert_told(&rt, alloc, &mut keeper, &map, SHOW, show)?;
     assert_told(&rt, alloc, &mut keeper, &map, SHOW, show)
 }

@@ -3,6 +3,7 @@ use dip_desk::MemoryKeeper;
 use dip_exchanges::{ORDERS, opened, reply_to};
 use dip_http::{HttpFault, answer_one};
 use dip_map::{Map, STANDARD};
+use itoa::Buffer;
 use std::alloc::{AllocError, Global};
 use std::io;
 use std::io::{Read, Write};
@@ -95,22 +96,49 @@ pub fn served(
     }
 }
 
+/// A POST of this body, whose size is told in these digits.
+pub fn post_of(alloc: Global, size: &str, body: &str) -> Result<String, AllocError> {
+    [
+        "POST /letters HTTP/1.1\r\nHost: judge.example\r\nContent-Length: ",
+        size,
+        "\r\n\r\n",
+        body,
+    ]
+    .concat(alloc)
+}
+
 /// A POST of this body.
 pub fn post(alloc: Global, body: &str) -> Result<String, AllocError> {
-    let length = body.len();
-    format!(in alloc;
-        "POST /letters HTTP/1.1\r\nHost: judge.example\r\nContent-Length: {length}\r\n\r\n{body}"
-    )
+    let mut digits = Buffer::new();
+    post_of(alloc, digits.format(body.len()), body)
 }
 
 /// A request without a body, of this method and target.
 pub fn ask(alloc: Global, method: &str, target: &str) -> Result<String, AllocError> {
-    format!(in alloc; "{method} {target} HTTP/1.1\r\nHost: judge.example\r\n\r\n")
+    [
+        method,
+        " ",
+        target,
+        " HTTP/1.1\r\nHost: judge.example\r\n\r\n",
+    ]
+    .concat(alloc)
 }
 
 /// An answer as plain text, with its Content-Length as it has to be told.
 pub fn told(alloc: Global, status: &str, length: &str, body: &str) -> Result<String, AllocError> {
-    format!(in alloc;
-        "HTTP/1.1 {status}\r\nContent-Type: text/plain\r\nContent-Length: {length}\r\nConnection: close\r\n\r\n{body}"
-    )
+    [
+        "HTTP/1.1 ",
+        status,
+        "\r\nContent-Type: text/plain\r\nContent-Length: ",
+        length,
+        "\r\nConnection: close\r\n\r\n",
+        body,
+    ]
+    .concat(alloc)
+}
+
+/// A refusal: its body is its status and LF.
+pub fn refused(alloc: Global, status: &str, length: &str) -> Result<String, AllocError> {
+    let body = [status, "\n"].concat(alloc)?;
+    told(alloc, status, length, body.as_str())
 }

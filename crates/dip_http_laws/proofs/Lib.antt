@@ -1,0 +1,4 @@
+pub mod Cases
+pub mod OneAnswer
+pub mod PublicAnswers
+pub mod Posts

@@ -18,8 +18,8 @@ fn writes_nothing_where_the_reader_fails(rt: HostRuntime) -> Result<(), Fail> {
         };
         let mut written = Vec::new(alloc);
         let ended = answer_one(alloc, &mut reader, &mut written, &mut keeper, &map);
-        assert!(rt; ended == Err(HttpFault::Read), "at {size}");
-        assert!(rt; written.as_slice().is_empty(), "at {size}");
+        assert!(rt; ended == Err(HttpFault::Read));
+        assert!(rt; written.as_slice().is_empty());
     }
     Ok(())
 }
@@ -42,11 +42,8 @@ fn writes_a_beginning_where_the_writer_fails(rt: HostRuntime) -> Result<(), Fail
             most,
         };
         let ended = answer_one(alloc, &mut reader, &mut page, &mut keeper, &map);
-        assert!(rt; ended == Err(HttpFault::Write), "at {most}");
-        assert!(rt;
-            page.bytes.as_slice() == &whole.as_slice()[..most],
-            "at {most}"
-        );
+        assert!(rt; ended == Err(HttpFault::Write));
+        assert!(rt; page.bytes.as_slice() == &whole.as_slice()[..most]);
     }
     Ok(())
 }

@@ -1,6 +1,5 @@
 //! Games and papers by GET and HEAD.
-use crate::tests::wires::{ask, ordered, served, standard, told};
-use itoa::Buffer;
+use crate::tests::wires::Site;
 use std::test::Fail;
 
 /// What everybody may know of the game, as JSON.
@@ -20,55 +19,34 @@ turkey 3/3: F ank, A con, A smy | ank con smy
 END
 ";
 
+/// The status line and the fields for the game, for its paper, and for what isn't there.
+const STATE_HEAD: &str =
+    "HTTP/1.1 200 OK\r\nContent-Type: application/json\r\nContent-Length: 457\r\nConnection: close\r\n\r\n";
+
+const PAPER_HEAD: &str =
+    "HTTP/1.1 200 OK\r\nContent-Type: text/plain\r\nContent-Length: 418\r\nConnection: close\r\n\r\n";
+
+const MISSING_HEAD: &str =
+    "HTTP/1.1 404 Not Found\r\nContent-Type: text/plain\r\nContent-Length: 14\r\nConnection: close\r\n\r\n";
+
 #[test]
 fn shows_a_game(rt: HostRuntime) -> Result<(), Fail> {
-    let alloc = rt.alloc();
-    let map = standard(alloc)?;
-    let mut keeper = ordered(alloc, &map)?;
-    let mut digits = Buffer::new();
-    let head = [
-        "HTTP/1.1 200 OK\r\nContent-Type: application/json\r\nContent-Length: ",
-        digits.format(STATE.len()),
-        "\r\nConnection: close\r\n\r\n",
-    ]
-    .concat(alloc)?;
-    let whole = [head.as_str(), STATE].concat(alloc)?;
+    let mut site = Site::ordered(rt.alloc())?;
     for target in ["/games/g1", "/games/g1?", "/games/g1?as=json&x=/papers/1"] {
-        let get = ask(alloc, "GET", target)?;
-        let answer = served(alloc, &mut keeper, &map, get.as_bytes())?;
-        assert!(rt; answer.as_slice() == whole.as_bytes(), "at {target}");
-        let quiet = ask(alloc, "HEAD", target)?;
-        let answer = served(alloc, &mut keeper, &map, quiet.as_bytes())?;
-        assert!(rt; answer.as_slice() == head.as_bytes(), "at {target}");
+        site.check_get(target, STATE_HEAD, STATE)?;
     }
     Ok(())
 }
 
 #[test]
 fn shows_a_paper(rt: HostRuntime) -> Result<(), Fail> {
-    let alloc = rt.alloc();
-    let map = standard(alloc)?;
-    let mut keeper = ordered(alloc, &map)?;
-    let mut digits = Buffer::new();
-    let length = digits.format(PAPER.len());
-    let get = ask(alloc, "GET", "/games/g1/papers/1")?;
-    let answer = served(alloc, &mut keeper, &map, get.as_bytes())?;
-    let whole = told(alloc, "200 OK", length, PAPER)?;
-    assert!(rt; answer.as_slice() == whole.as_bytes());
-    let quiet = ask(alloc, "HEAD", "/games/g1/papers/1")?;
-    let answer = served(alloc, &mut keeper, &map, quiet.as_bytes())?;
-    let head = told(alloc, "200 OK", length, "")?;
-    assert!(rt; answer.as_slice() == head.as_bytes());
-    Ok(())
+    let mut site = Site::ordered(rt.alloc())?;
+    site.check_get("/games/g1/papers/1", PAPER_HEAD, PAPER)
 }
 
 #[test]
 fn finds_no_other_game_or_paper(rt: HostRuntime) -> Result<(), Fail> {
-    let alloc = rt.alloc();
-    let map = standard(alloc)?;
-    let mut keeper = ordered(alloc, &map)?;
-    let missing = told(alloc, "404 Not Found", "14", "404 Not Found\n")?;
-    let quiet = told(alloc, "404 Not Found", "14", "")?;
+    let mut site = Site::ordered(rt.alloc())?;
     for target in [
         "/games/g9",
         "/games/G1",
@@ -83,12 +61,7 @@ fn finds_no_other_game_or_paper(rt: HostRuntime) -> Result<(), Fail> {
         "/games/g1/papers/4294967297",
         "/games/g1/papers/18446744073709551617",
     ] {
-        let get = ask(alloc, "GET", target)?;
-        let answer = served(alloc, &mut keeper, &map, get.as_bytes())?;
-        assert!(rt; answer.as_slice() == missing.as_bytes(), "at {target}");
-        let head = ask(alloc, "HEAD", target)?;
-        let answer = served(alloc, &mut keeper, &map, head.as_bytes())?;
-        assert!(rt; answer.as_slice() == quiet.as_bytes(), "at {target}");
+        site.check_get(target, MISSING_HEAD, "404 Not Found\n")?;
     }
     Ok(())
 }

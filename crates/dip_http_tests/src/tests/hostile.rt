@@ -1,7 +1,5 @@
 //! Requests that no honest client sends, and their answers.
-use crate::tests::wires::{ordered, refused, served, standard, told};
-use dip_desk::MemoryKeeper;
-use dip_map::Map;
+use crate::tests::wires::Site;
 use std::alloc::Global;
 use std::test::Fail;
 
@@ -127,13 +125,9 @@ const REQUESTS: [(&str, &str, &str); 24] = [
 
 #[test]
 fn answers_hostile_requests(rt: HostRuntime) -> Result<(), Fail> {
-    let alloc = rt.alloc();
-    let map = standard(alloc)?;
-    let mut keeper = ordered(alloc, &map)?;
+    let mut site = Site::ordered(rt.alloc())?;
     for (request, status, length) in REQUESTS {
-        let answer = served(alloc, &mut keeper, &map, request.as_bytes())?;
-        let wanted = refused(alloc, status, length)?;
-        assert!(rt; answer.as_slice() == wanted.as_bytes());
+        site.check_refused(request, status, length)?;
     }
     Ok(())
 }
@@ -152,30 +146,38 @@ fn with_fields(alloc: Global, count: usize, size: usize) -> Result<String, Fail>
     Ok(request)
 }
 
-/// Whether a request is read, to a game that isn't there, or refused.
-fn is_read(
+/// A request is read, to a game that isn't there, or refused.
+fn check_read(site: &mut Site, request: &str, is_read: bool) -> Result<(), Fail> {
+    if is_read {
+        site.check_refused(request, "404 Not Found", "14")
+    } else {
+        site.check_refused(request, "400 Bad Request", "16")
+    }
+}
+
+/// A GET with such fields is read, or refused.
+fn check_fields(
     alloc: Global,
-    keeper: &mut MemoryKeeper,
-    map: &Map,
-    request: &str,
-) -> Result<bool, Fail> {
-    let answer = served(alloc, keeper, map, request.as_bytes())?;
-    let refused = told(alloc, "400 Bad Request", "16", "400 Bad Request\n")?;
-    let missing = told(alloc, "404 Not Found", "14", "404 Not Found\n")?;
-    if answer.as_slice() == refused.as_bytes() {
-        return Ok(false);
-    }
-    if answer.as_slice() == missing.as_bytes() {
-        return Ok(true);
-    }
-    Err(Fail::from("neither read nor refused"))
+    site: &mut Site,
+    count: usize,
+    size: usize,
+    is_read: bool,
+) -> Result<(), Fail> {
+    let request = with_fields(alloc, count, size)?;
+    check_read(site, request.as_str(), is_read)
+}
+
+#[test]
+fn the_longest_head_has_8192_bytes(rt: HostRuntime) -> Result<(), Fail> {
+    let longest = with_fields(rt.alloc(), 1, 8152)?;
+    assert!(rt; longest.len() == 8192);
+    Ok(())
 }
 
 #[test]
 fn limits_a_head(rt: HostRuntime) -> Result<(), Fail> {
     let alloc = rt.alloc();
-    let map = standard(alloc)?;
-    let mut keeper = ordered(alloc, &map)?;
+    let mut site = Site::ordered(alloc)?;
     let rows = [
         (31, 1, true),
         (32, 1, false),
@@ -183,21 +185,15 @@ fn limits_a_head(rt: HostRuntime) -> Result<(), Fail> {
         (1, 8153, false),
         (1, 9000, false),
     ];
-    for (count, size, wanted) in rows {
-        let request = with_fields(alloc, count, size)?;
-        let read = is_read(alloc, &mut keeper, &map, request.as_str())?;
-        assert!(rt; read == wanted, "at {count} fields of {size}");
+    for (count, size, is_read) in rows {
+        check_fields(alloc, &mut site, count, size, is_read)?;
     }
-    let longest = with_fields(alloc, 1, 8152)?;
-    assert!(rt; longest.len() == 8192);
     Ok(())
 }
 
 #[test]
 fn reads_what_is_allowed(rt: HostRuntime) -> Result<(), Fail> {
-    let alloc = rt.alloc();
-    let map = standard(alloc)?;
-    let mut keeper = ordered(alloc, &map)?;
+    let mut site = Site::ordered(rt.alloc())?;
     for request in [
         "GET /games/g9 HTTP/1.0\r\n\r\n",
         "GET /games/g9 HTTP/1.0\r\nHost: a\r\nHost: b\r\n\r\n",
@@ -210,8 +206,7 @@ fn reads_what_is_allowed(rt: HostRuntime) -> Result<(), Fail> {
         "GET /games/g9 HTTP/1.1\r\nHost: a\r\nTransfer-Encoding: chunked\r\n\r\n",
         "GET /games/g9 HTTP/1.1\r\nHost: a\r\n\r\nGET /games/g1 HTTP/1.1\r\nHost: a\r\n\r\n",
     ] {
-        let read = is_read(alloc, &mut keeper, &map, request)?;
-        assert!(rt; read, "at {request}");
+        check_read(&mut site, request, true)?;
     }
     Ok(())
 }

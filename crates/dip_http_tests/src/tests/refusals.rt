@@ -1,13 +1,11 @@
 //! Refusals of requests, and the order in which they are looked for.
-use crate::tests::wires::{ask, ordered, refused, served, standard, told};
+use crate::tests::wires::Site;
+use std::alloc::{AllocError, Global};
 use std::test::Fail;
 
 #[test]
 fn knows_three_routes(rt: HostRuntime) -> Result<(), Fail> {
-    let alloc = rt.alloc();
-    let map = standard(alloc)?;
-    let mut keeper = ordered(alloc, &map)?;
-    let missing = told(alloc, "404 Not Found", "14", "404 Not Found\n")?;
+    let mut site = Site::ordered(rt.alloc())?;
     for target in [
         "/",
         "/letters/",
@@ -24,16 +22,17 @@ fn knows_three_routes(rt: HostRuntime) -> Result<(), Fail> {
         "/?/letters",
     ] {
         for method in ["GET", "PUT", "POST"] {
-            let request = ask(alloc, method, target)?;
-            let answer = served(alloc, &mut keeper, &map, request.as_bytes())?;
-            assert!(rt;
-                answer.as_slice() == missing.as_bytes(),
-                "at {method} {target}"
-            );
+            site.check_ask(method, target, MISSING)?;
         }
     }
     Ok(())
 }
+
+const MISSING: &str =
+    "HTTP/1.1 404 Not Found\r\nContent-Type: text/plain\r\nContent-Length: 14\r\nConnection: close\r\n\r\n404 Not Found\n";
+
+const ONLY_POST_HEAD: &str =
+    "HTTP/1.1 405 Method Not Allowed\r\nContent-Type: text/plain\r\nContent-Length: 23\r\nAllow: POST\r\nConnection: close\r\n\r\n";
 
 const ONLY_POST: &str =
     "HTTP/1.1 405 Method Not Allowed\r\nContent-Type: text/plain\r\nContent-Length: 23\r\nAllow: POST\r\nConnection: close\r\n\r\n405 Method Not Allowed\n";
@@ -43,9 +42,7 @@ const ONLY_GET: &str =
 
 #[test]
 fn names_the_methods_that_are_allowed(rt: HostRuntime) -> Result<(), Fail> {
-    let alloc = rt.alloc();
-    let map = standard(alloc)?;
-    let mut keeper = ordered(alloc, &map)?;
+    let mut site = Site::ordered(rt.alloc())?;
     let rows = [
         ("PUT", "/letters", ONLY_POST),
         ("GET", "/letters", ONLY_POST),
@@ -56,19 +53,9 @@ fn names_the_methods_that_are_allowed(rt: HostRuntime) -> Result<(), Fail> {
         ("get", "/games/g1/papers/x", ONLY_GET),
     ];
     for (method, target, wanted) in rows {
-        let request = ask(alloc, method, target)?;
-        let answer = served(alloc, &mut keeper, &map, request.as_bytes())?;
-        assert!(rt;
-            answer.as_slice() == wanted.as_bytes(),
-            "at {method} {target}"
-        );
+        site.check_ask(method, target, wanted)?;
     }
-    let quiet = ask(alloc, "HEAD", "/letters")?;
-    let answer = served(alloc, &mut keeper, &map, quiet.as_bytes())?;
-    let head =
-        "HTTP/1.1 405 Method Not Allowed\r\nContent-Type: text/plain\r\nContent-Length: 23\r\nAllow: POST\r\nConnection: close\r\n\r\n";
-    assert!(rt; answer.as_slice() == head.as_bytes());
-    Ok(())
+    site.check_ask("HEAD", "/letters", ONLY_POST_HEAD)
 }
 
 /// The first line and the fields of a request, and the status, length and body of its answer.
@@ -118,16 +105,18 @@ const SIZES: [(&str, &str, &str, &str); 8] = [
     ),
 ];
 
+/// A request of this line and these fields.
+fn request_of(alloc: Global, line: &str, fields: &str) -> Result<String, AllocError> {
+    [line, " HTTP/1.1\r\nHost: a\r\n", fields, "\r\n"].concat(alloc)
+}
+
 #[test]
 fn looks_for_refusals_in_order(rt: HostRuntime) -> Result<(), Fail> {
     let alloc = rt.alloc();
-    let map = standard(alloc)?;
-    let mut keeper = ordered(alloc, &map)?;
+    let mut site = Site::ordered(alloc)?;
     for (line, fields, status, length) in SIZES {
-        let request = [line, " HTTP/1.1\r\nHost: a\r\n", fields, "\r\n"].concat(alloc)?;
-        let answer = served(alloc, &mut keeper, &map, request.as_bytes())?;
-        let wanted = refused(alloc, status, length)?;
-        assert!(rt; answer.as_slice() == wanted.as_bytes());
+        let request = request_of(alloc, line, fields)?;
+        site.check_refused(request.as_str(), status, length)?;
     }
     Ok(())
 }

@@ -1,6 +1,6 @@
 //! Readers and writers in memory, and what is written for a request.
 use dip_desk::MemoryKeeper;
-use dip_exchanges::{ORDERS, opened, reply_to};
+use dip_exchanges::{CREATE, ORDERS, desk, opened, reply_to};
 use dip_http::{HttpFault, answer_one};
 use dip_map::{Map, STANDARD};
 use itoa::Buffer;
@@ -141,4 +141,87 @@ pub fn told(alloc: Global, status: &str, length: &str, body: &str) -> Result<Str
 pub fn refused(alloc: Global, status: &str, length: &str) -> Result<String, AllocError> {
     let body = [status, "\n"].concat(alloc)?;
     told(alloc, status, length, body.as_str())
+}
+
+/// A desk over the standard map, and what requests get there.
+#[derive(Drop)]
+pub struct Site {
+    alloc: Global,
+    map: Map,
+    keeper: MemoryKeeper,
+}
+
+impl Site {
+    /// An empty desk.
+    pub fn new(alloc: Global) -> Result<Site, Fail> {
+        Ok(Site {
+            alloc,
+            map: standard(alloc)?,
+            keeper: desk(alloc),
+        })
+    }
+
+    /// A desk with the game g1.
+    pub fn opened(alloc: Global) -> Result<Site, Fail> {
+        let mut site = Site::new(alloc)?;
+        site.take(CREATE)?;
+        Ok(site)
+    }
+
+    /// A desk with the game g1, in which England has ordered by its letter 1.
+    pub fn ordered(alloc: Global) -> Result<Site, Fail> {
+        let mut site = Site::opened(alloc)?;
+        site.take(ORDERS)?;
+        Ok(site)
+    }
+
+    /// The desk takes a letter.
+    fn take(&mut self, letter: &str) -> Result<(), Fail> {
+        match reply_to(self.alloc, &mut self.keeper, &self.map, letter) {
+            Ok(_) => Ok(()),
+            Err(_) => Err(Fail::from("a letter isn't taken")),
+        }
+    }
+
+    /// What these bytes get.
+    pub fn served(&mut self, request: &[u8]) -> Result<Vec<u8>, Fail> {
+        served(self.alloc, &mut self.keeper, &self.map, request)
+    }
+
+    /// These bytes get this answer.
+    pub fn check(&mut self, request: &str, wanted: &str) -> Result<(), Fail> {
+        let answer = self.served(request.as_bytes())?;
+        if answer.as_slice() == wanted.as_bytes() {
+            Ok(())
+        } else {
+            Err(Fail::from(request))
+        }
+    }
+
+    /// A request without a body gets this answer.
+    pub fn check_ask(&mut self, method: &str, target: &str, wanted: &str) -> Result<(), Fail> {
+        let request = ask(self.alloc, method, target)?;
+        self.check(request.as_str(), wanted)
+    }
+
+    /// GET and HEAD of a target get an answer of this head, HEAD without the body.
+    pub fn check_get(&mut self, target: &str, head: &str, body: &str) -> Result<(), Fail> {
+        let whole = [head, body].concat(self.alloc)?;
+        self.check_ask("GET", target, whole.as_str())?;
+        self.check_ask("HEAD", target, head)
+    }
+
+    /// A POST of this body gets an answer of this status, this length and this text.
+    pub fn check_post(&mut self, body: &str, answer: (&str, &str, &str)) -> Result<(), Fail> {
+        let (status, length, text) = answer;
+        let request = post(self.alloc, body)?;
+        let wanted = told(self.alloc, status, length, text)?;
+        self.check(request.as_str(), wanted.as_str())
+    }
+
+    /// A request is refused by this status, with a body of this length.
+    pub fn check_refused(&mut self, request: &str, status: &str, length: &str) -> Result<(), Fail> {
+        let wanted = refused(self.alloc, status, length)?;
+        self.check(request, wanted.as_str())
+    }
 }

@@ -51,7 +51,7 @@ fn takes_the_maps_file(rt: HostRuntime) -> Result<(), Fail> {
 #[test]
 fn refuses_what_is_no_secret(rt: HostRuntime) -> Result<(), Fail> {
     let alloc = rt.alloc();
-    let longer = format!(in alloc; "{LONGEST}x")?;
+    let longer = [LONGEST, "x"].concat(alloc)?;
     for secret in [
         "",
         "seven77",
@@ -63,7 +63,7 @@ fn refuses_what_is_no_secret(rt: HostRuntime) -> Result<(), Fail> {
     ] {
         let words = ["dip_judge", "letters", "--master", secret];
         let answer = read_args(alloc, &words);
-        assert!(rt; matches!(&answer, Err(UsageFault::Check)), "at {secret}");
+        assert!(rt; matches!(&answer, Err(UsageFault::Check)));
     }
     let missing = read_args(alloc, &["dip_judge", "letters", "--map", "master-key"]);
     assert!(rt; matches!(&missing, Err(UsageFault::Check)));
@@ -159,6 +159,6 @@ fn refuses_other_words(rt: HostRuntime) {
         ),
     ];
     for (words, kind) in rows {
-        assert!(rt; refused(alloc, words) == Some(kind), "at {words:?}");
+        assert!(rt; refused(alloc, words) == Some(kind));
     }
 }

@@ -116,7 +116,7 @@ fn answers_for_the_secret_and_the_map_that_are_named(rt: HostRuntime) -> Result<
         ];
         let end = ending_of(&rt, alloc, &words);
         assert_eq!(rt; status_of(&end.outcome), 0);
-        assert!(rt; end.output.as_slice() == replies.as_bytes(), "for {secret}");
+        assert!(rt; end.output.as_slice() == replies.as_bytes());
         assert_eq!(rt; end.left, 0);
     }
     Ok(())
@@ -125,7 +125,7 @@ fn answers_for_the_secret_and_the_map_that_are_named(rt: HostRuntime) -> Result<
 fn line_of(alloc: Global, outcome: &Result<(), Failure>) -> Result<String, AllocError> {
     match outcome {
         Ok(()) => Ok(String::new(alloc)),
-        Err(failure) => format!(in alloc; "{failure}"),
+        Err(failure) => failure.to_string(alloc),
     }
 }
 
@@ -180,10 +180,7 @@ fn refuses_before_a_letter_is_read(rt: HostRuntime) -> Result<(), Fail> {
     for (words, status, line) in rows {
         let end = ending_of(&rt, alloc, words);
         assert_eq!(rt; status_of(&end.outcome), status);
-        assert!(rt;
-            line_of(alloc, &end.outcome)?.as_str() == line,
-            "for {line}"
-        );
+        assert!(rt; line_of(alloc, &end.outcome)?.as_str() == line);
         assert!(rt; end.output.is_empty());
         assert_eq!(rt; end.left, CREATE.len());
     }

@@ -13,11 +13,8 @@ fn assert_told(
     status: u8,
     text: &str,
 ) -> Result<(), AllocError> {
-    let printed = format!(in alloc; "{failure}")?;
-    assert!(rt;
-        failure.status() == status && printed.as_str() == text,
-        "{printed} for {text}"
-    );
+    let printed = failure.to_string(alloc)?;
+    assert!(rt; failure.status() == status && printed.as_str() == text);
     Ok(())
 }
 
@@ -83,12 +80,9 @@ fn tells_usage_as_clap_has_it(rt: HostRuntime) -> Result<(), Fail> {
     };
     let failure = Failure::from(fault);
     assert_eq!(rt; failure.status(), 2);
-    let printed = format!(in alloc; "{failure}")?;
-    assert!(rt;
-        printed.starts_with("error: unexpected argument '--store' found\n"),
-        "{printed}"
-    );
-    assert!(rt; printed.contains("Usage: dip_judge letters"), "{printed}");
+    let printed = failure.to_string(alloc)?;
+    assert!(rt; printed.starts_with("error: unexpected argument '--store' found\n"));
+    assert!(rt; printed.contains("Usage: dip_judge letters"));
     Ok(())
 }
 
@@ -100,12 +94,9 @@ fn tells_help_as_clap_has_it(rt: HostRuntime) -> Result<(), Fail> {
     };
     let failure = Failure::from(fault);
     assert_eq!(rt; failure.status(), 2);
-    let printed = format!(in alloc; "{failure}")?;
-    assert!(rt;
-        printed.contains("Usage: dip_judge letters [OPTIONS]\n"),
-        "{printed}"
-    );
-    assert!(rt; printed.contains("--master <SECRET>"), "{printed}");
-    assert!(rt; printed.contains("--map <FILE>"), "{printed}");
+    let printed = failure.to_string(alloc)?;
+    assert!(rt; printed.contains("Usage: dip_judge letters [OPTIONS]\n"));
+    assert!(rt; printed.contains("--master <SECRET>"));
+    assert!(rt; printed.contains("--map <FILE>"));
     Ok(())
 }

@@ -62,10 +62,7 @@ fn refuses_what_cant_be_read(rt: HostRuntime) {
     let alloc = rt.alloc();
     for text in ["", "name"] {
         let read = read_text(alloc, &mut Broken(text.as_bytes()));
-        assert!(rt;
-            matches!(&read, Err(FileFault::Unread(ReadFault::Read))),
-            "behind {text}"
-        );
+        assert!(rt; matches!(&read, Err(FileFault::Unread(ReadFault::Read))));
     }
 }
 
@@ -88,7 +85,7 @@ fn tries_the_file_that_is_named(rt: HostRuntime) {
         ("/dev/zero", ReadFault::TooLong),
     ] {
         let expected = Some(FileFault::Unread(fault));
-        assert!(rt; fault_of(&rt, alloc, path) == expected, "at {path:?}");
+        assert!(rt; fault_of(&rt, alloc, path) == expected);
     }
 }
 
@@ -164,7 +161,7 @@ fn tells_the_fault_of_a_map(rt: HostRuntime) -> Result<(), Fail> {
             return Err(Fail::from("a map"));
         };
         assert_eq!(rt; failure.status(), 3);
-        let told = format!(in alloc; "{failure}")?;
+        let told = failure.to_string(alloc)?;
         assert!(rt; told.as_str() == line);
     }
     Ok(())
@@ -178,7 +175,7 @@ fn tells_a_file_that_is_no_text(rt: HostRuntime) -> Result<(), Fail> {
         return Err(Fail::from("a map"));
     };
     assert_eq!(rt; failure.status(), 5);
-    let told = format!(in alloc; "{failure}")?;
+    let told = failure.to_string(alloc)?;
     assert!(rt; told.as_str() == "dip_judge: Read\n");
     Ok(())
 }

@@ -175,9 +175,16 @@ fn assert_unknown(
     sender: &str,
     secret: &str,
 ) -> Result<(), Fail> {
-    let letter = format!(in alloc;
-        "LETTER\nGAME {game}\nFROM {sender}\nSECRET {secret}\nNUMBER 1\nSHOW\nEND\n"
-    )?;
+    let letter = [
+        "LETTER\nGAME ",
+        game,
+        "\nFROM ",
+        sender,
+        "\nSECRET ",
+        secret,
+        "\nNUMBER 1\nSHOW\nEND\n",
+    ];
+    let letter = letter.concat(alloc)?;
     assert_answers(
         rt,
         alloc,
@@ -215,9 +222,18 @@ fn of_power(
     number: &str,
     command: &str,
 ) -> Result<String, Fail> {
-    Ok(format!(in alloc;
-        "LETTER\nGAME g1\nFROM {power}\nSECRET {secret}\nNUMBER {number}\n{command}END\n"
-    )?)
+    let letter = [
+        "LETTER\nGAME g1\nFROM ",
+        power,
+        "\nSECRET ",
+        secret,
+        "\nNUMBER ",
+        number,
+        "\n",
+        command,
+        "END\n",
+    ];
+    Ok(letter.concat(alloc)?)
 }
 
 fn of_england(alloc: Global, number: &str, command: &str) -> Result<String, Fail> {
@@ -421,8 +437,8 @@ fn bounds_a_letter(rt: HostRuntime) -> Result<(), Fail> {
 fn reads_and_writes_in_pieces(rt: HostRuntime) -> Result<(), Fail> {
     let alloc = rt.alloc();
     let map = standard(alloc)?;
-    let input = format!(in alloc; "{CREATE}{HOLD}")?;
-    let expected = format!(in alloc; "{CREATED}{HELD}")?;
+    let input = [CREATE, HOLD].concat(alloc)?;
+    let expected = [CREATED, HELD].concat(alloc)?;
     for step in [1, 7] {
         let mut reader = Script {
             bytes: input.as_bytes(),
@@ -437,7 +453,7 @@ fn reads_and_writes_in_pieces(rt: HostRuntime) -> Result<(), Fail> {
         let mut keeper = MemoryKeeper::new(alloc, digest("desk", "master", "master-key"));
         let outcome = run_file(alloc, &mut reader, &mut writer, &mut keeper, &map);
         assert!(rt; outcome == Ok(()));
-        assert!(rt; writer.bytes.as_slice() == expected.as_bytes(), "by {step}");
+        assert!(rt; writer.bytes.as_slice() == expected.as_bytes());
     }
     Ok(())
 }
@@ -446,7 +462,7 @@ fn reads_and_writes_in_pieces(rt: HostRuntime) -> Result<(), Fail> {
 fn writes_nothing_where_the_reader_fails(rt: HostRuntime) -> Result<(), Fail> {
     let alloc = rt.alloc();
     let map = standard(alloc)?;
-    let input = format!(in alloc; "{CREATE}{HOLD}")?;
+    let input = [CREATE, HOLD].concat(alloc)?;
     for count in [0, 1, CREATE.len(), input.len()] {
         let bytes = &input.as_bytes()[..count.min(input.len())];
         let mut reader = Script {
@@ -455,7 +471,7 @@ fn writes_nothing_where_the_reader_fails(rt: HostRuntime) -> Result<(), Fail> {
             fails: true,
         };
         let (outcome, output) = run_on(alloc, &mut reader, &map);
-        assert!(rt; outcome == Err(RunFault::Read), "behind {count} bytes");
+        assert!(rt; outcome == Err(RunFault::Read));
         assert!(rt; output.is_empty());
     }
     Ok(())
@@ -465,8 +481,8 @@ fn writes_nothing_where_the_reader_fails(rt: HostRuntime) -> Result<(), Fail> {
 fn writes_a_beginning_where_the_writer_fails(rt: HostRuntime) -> Result<(), Fail> {
     let alloc = rt.alloc();
     let map = standard(alloc)?;
-    let input = format!(in alloc; "{CREATE}{HOLD}")?;
-    let expected = format!(in alloc; "{CREATED}{HELD}")?;
+    let input = [CREATE, HOLD].concat(alloc)?;
+    let expected = [CREATED, HELD].concat(alloc)?;
     for most in 0..expected.len() {
         let mut writer = Page {
             bytes: Vec::new(alloc),
@@ -475,7 +491,7 @@ fn writes_a_beginning_where_the_writer_fails(rt: HostRuntime) -> Result<(), Fail
         };
         let mut keeper = MemoryKeeper::new(alloc, digest("desk", "master", "master-key"));
         let outcome = run_file(alloc, &mut input.as_bytes(), &mut writer, &mut keeper, &map);
-        assert!(rt; outcome == Err(RunFault::Write), "behind {most} bytes");
+        assert!(rt; outcome == Err(RunFault::Write));
         assert!(rt; writer.bytes.as_slice() == &expected.as_bytes()[..most]);
     }
     Ok(())

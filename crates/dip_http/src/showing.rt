@@ -39,6 +39,8 @@ pub fn show_game<W: Write, K: Keeper>(
         (W.contents writer.old) (W.contents writer.new)) }
     ensures never { K.book.sound map.now keeper.old → K.book.shows keeper.new
         → IsErrOf result (HttpFault.Keep KeepFault.Damaged) → ⊥ }
+    // Nothing is read here.
+    ensures unread { IsErrOf result HttpFault.Read → ⊥ }
 {
     match keeper.public(map, name) {
         Err(fault) => Err(unavailable(writer, quiet, fault)),
@@ -79,6 +81,8 @@ fn show_numbered<W: Write, K: Keeper>(
         (W.contents writer.old) (W.contents writer.new)) }
     ensures never { K.book.sound map.now keeper.old → K.book.shows keeper.new
         → IsErrOf result (HttpFault.Keep KeepFault.Damaged) → ⊥ }
+    // Nothing is read here.
+    ensures unread { IsErrOf result HttpFault.Read → ⊥ }
 {
     match keeper.paper(map, name, number) {
         Err(fault) => Err(unavailable(writer, quiet, fault)),
@@ -118,6 +122,8 @@ pub fn show_paper<W: Write, K: Keeper>(
         (W.contents writer.old) (W.contents writer.new)) }
     ensures never { K.book.sound map.now keeper.old → K.book.shows keeper.new
         → IsErrOf result (HttpFault.Keep KeepFault.Damaged) → ⊥ }
+    // Nothing is read here.
+    ensures unread { IsErrOf result HttpFault.Read → ⊥ }
 {
     match number_of(number) {
         None => refuse(writer, HttpRefusal::NotFound, quiet),

@@ -1,5 +1,5 @@
 //! The routes, as matchit keeps them.
-ghost use Rattle.std.specs.Prelude.{◌≡◌, IfOk};
+ghost use Rattle.std.specs.Prelude.{◌≡◌, IfErr, IfOk};
 ghost use Rattle.dip_http_routes.specs.Table.{table};
 
 use matchit::{InsertError, Router};
@@ -15,7 +15,8 @@ pub enum Handler {
 
 /// The routes. There is no other error than want of memory, since no two of them are in conflict.
 pub fn routes(alloc: Global) -> Result<Router<Handler>, InsertError>
-    ensures { IfOk result (λ router. router ≡ table) }
+    ensures ok { IfOk result (λ router. router ≡ table) }
+    ensures err { IfErr result (λ e. e ≡ InsertError.OutOfMemory) }
 {
     let mut router = Router::new(alloc);
     router.insert("/letters", Handler::Letters)?;

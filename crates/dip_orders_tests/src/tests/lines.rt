@@ -90,8 +90,9 @@ fn check_byte(
     byte: u8,
 ) -> Result<(), AllocError> {
     let (before, behind, spaced) = cut;
-    let c = byte as char;
-    let line = format!(in alloc; "{before}{c}{behind}")?;
+    let mut line = String::from_str(alloc, before)?;
+    line.push(byte as char)?;
+    line.push_str(behind)?;
     let wanted = if byte == b' ' {
         spaced
     } else {

@@ -44,24 +44,45 @@ russia 0/1: F stp/nc | -
 turkey 0/0: - | -
 ";
 
+const PAUSED: &str = "PAPER 12 notice
+> paused
+GAME g1 F1902R paused DUE 300 PERIOD 50 GREY YES PAPERS 12
+";
+
+const RESUMED: &str = "PAPER 12 notice
+> resumed
+GAME g1 F1902R running DUE 300 PERIOD 50 GREY YES PAPERS 12
+";
+
+const ANOTHER_PERIOD: &str = "PAPER 12 notice
+> period 50
+GAME g1 F1902R paused DUE 300 PERIOD 50 GREY YES PAPERS 12
+";
+
+const CLOSED: &str = "PAPER 12 notice
+> closed
+GAME g1 F1902R closed DUE 300 PERIOD 50 GREY YES PAPERS 12
+";
+
+/// The paper that begins with these lines: behind them stand the board's.
+fn paper(alloc: Global, front: &str) -> Result<String, AllocError> {
+    [front, BOARD, "END\n"].concat(alloc)
+}
+
 /// A notice has the number of all papers with it, its line, and the game as it stands behind it.
 #[test]
 fn notices_say_what_was_done(rt: HostRuntime) -> Result<(), Fail> {
     let alloc = rt.alloc();
     let map = Map::from_toml(alloc, STANDARD)?;
-    for (notice, status, line, word) in [
-        (Notice::Pause, Status::Paused, "> paused", "paused"),
-        (Notice::Resume, Status::Running, "> resumed", "running"),
-        (Notice::Period(50), Status::Paused, "> period 50", "paused"),
-        (Notice::Close, Status::Closed, "> closed", "closed"),
+    for (notice, status, front) in [
+        (Notice::Pause, Status::Paused, PAUSED),
+        (Notice::Resume, Status::Running, RESUMED),
+        (Notice::Period(50), Status::Paused, ANOTHER_PERIOD),
+        (Notice::Close, Status::Closed, CLOSED),
     ] {
         let public = the_game(&rt, alloc, &map, status, 12)?;
         let text = notice_paper_text(alloc, &map, notice, &public)?;
-        let game = "DUE 300 PERIOD 50 GREY YES PAPERS 12";
-        let wanted = format!(in alloc;
-            "PAPER 12 notice\n{line}\nGAME g1 F1902R {word} {game}\n{BOARD}END\n"
-        )?;
-        assert_eq!(rt; text.as_str(), wanted.as_str());
+        assert_eq!(rt; text.as_str(), paper(alloc, front)?.as_str());
     }
     Ok(())
 }
@@ -83,14 +104,12 @@ END
 ";
     let public = the_game(&rt, alloc, &map, Status::Closed, 2)?;
     let text = notice_paper_text(alloc, &map, the_notice(&rt, letter), &public)?;
-    let wanted = format!(in alloc;
-        "PAPER 2 notice
+    let front = "PAPER 2 notice
 > The game rests.
 > \n> > END
 GAME g1 F1902R closed DUE 300 PERIOD 50 GREY YES PAPERS 2
-{BOARD}END
-"
-    )?;
+";
+    let wanted = paper(alloc, front)?;
     assert_eq!(rt; text.as_str(), wanted.as_str());
     Ok(())
 }
@@ -106,12 +125,10 @@ fn a_draw_has_its_board(rt: HostRuntime) -> Result<(), Fail> {
     }
     let public = the_game(&rt, alloc, &map, Status::Drawn(powers), 9)?;
     let text = draw_paper_text(alloc, &map, &public)?;
-    let wanted = format!(in alloc;
-        "PAPER 9 draw
+    let front = "PAPER 9 draw
 GAME g1 F1902R drawn by england france russia DUE 300 PERIOD 50 GREY YES PAPERS 9
-{BOARD}END
-"
-    )?;
+";
+    let wanted = paper(alloc, front)?;
     assert_eq!(rt; text.as_str(), wanted.as_str());
     Ok(())
 }

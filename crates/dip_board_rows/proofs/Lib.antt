@@ -2,4 +2,4 @@ mod Parts
 mod Pieces
 mod Owners
 mod Standoffs
-mod Returns
+pub mod Returns

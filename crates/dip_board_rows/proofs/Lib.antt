@@ -1,0 +1,5 @@
+mod Parts
+mod Pieces
+mod Owners
+mod Standoffs
+pub mod Returns

@@ -1,0 +1,11 @@
+pub mod Places
+pub mod Edits
+pub mod Selecting
+pub mod Statements
+pub mod Finding
+pub mod Changes
+pub mod Keys
+pub mod Tests
+pub mod Reading
+pub mod Faults
+pub mod Missing

@@ -1,0 +1,4 @@
+pub mod Faults
+pub mod Queries
+pub mod Rows
+pub mod Writes

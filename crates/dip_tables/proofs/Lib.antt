@@ -1,0 +1,12 @@
+mod Pieces
+mod Records
+mod Lists
+mod Games
+mod Seats
+mod Letters
+mod Authors
+mod Anew
+mod Press
+mod Openings
+mod Effects
+mod Changes

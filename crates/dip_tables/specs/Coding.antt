@@ -1,0 +1,66 @@
+-- What holds of tables that a keeper wrote by a map, and of changes that it can write.
+use Rattle.std.specs.Prelude.{◌≡◌, ◌<◌, ◌==◌, ℕ, Bool, true, false, [], ◌∷◌, length, bytes_eq}
+use Rattle.std.specs.List.{AllByRecursion}
+use Rattle.sqlite_trees.specs.Tree.{IsAscending}
+use Rattle.dip_chart.specs.Charts.{Chart}
+use Rattle.dip_board.specs.Boards.{IsOf}
+use Rattle.dip_board_rows.specs.Boards.{power_name}
+use Rattle.dip_records.specs.Records.{Item, White, Grey, Status, Running, Paused, Closed, Ended, Won, Drawn}
+use Rattle.dip_machine.specs.State.{Author, Nobody, TheMaster, Seat, Effect, Nothing, Pending, Votes, Delivers, Opens, Publishes, Seats, Change}
+use Rattle.dip_tables.specs.Tables.{DeskRow, GameRow, SeatRow, Tables, is_seat}
+use Rattle.dip_tables.specs.Texts.{Lacks, IsWord}
+
+-- the seat's power is one of the map
+abbrev pub IsSeatOf : Chart → SeatRow → Type 0
+IsSeatOf m s = (p : ℕ) × (p < length m.realms) × (s.power ≡ power_name m p)
+
+-- the master's row is there, and each seat's power is one of the map
+pub record AreCoded (m : Chart) (t : Tables) : Type 0 where
+  pub desk : (d : DeskRow) × (t.desk ≡ d ∷ []) × ((d.id == 1) ≡ true)
+  pub seats : AllByRecursion (IsSeatOf m) t.seats
+
+abbrev pub same_name : GameRow → GameRow → Bool
+same_name a b = bytes_eq a.name b.name
+
+abbrev pub same_seat : SeatRow → SeatRow → Bool
+same_seat a b = is_seat b.game b.power a
+
+-- no two games have one name, and no two seats of a game one power
+pub record AreApart (t : Tables) : Type 0 where
+  pub games : IsAscending (λ a b. same_name a b ≡ false) t.games
+  pub seats : IsAscending (λ a b. same_seat a b ≡ false) t.seats
+
+-- the powers that a status names are of the map
+abbrev pub IsStatusOf : Chart → Status → Type 0
+IsStatusOf m Running = Unit {0}
+IsStatusOf m Paused = Unit {0}
+IsStatusOf m Closed = Unit {0}
+IsStatusOf m Ended = Unit {0}
+IsStatusOf m (Won power) = power < length m.realms
+IsStatusOf m (Drawn powers) = AllByRecursion (λ p. p < length m.realms) powers
+
+-- addressees are words without a space, and lines are without an end of line
+abbrev pub IsPlainItem : Item → Type 0
+IsPlainItem (White writer addressees text) = AllByRecursion (IsWord 32) addressees × AllByRecursion (Lacks 10) text
+IsPlainItem (Grey to_all text) = AllByRecursion (Lacks 10) text
+
+abbrev pub IsAuthorOf : Chart → Author → Type 0
+IsAuthorOf m Nobody = Unit {0}
+IsAuthorOf m TheMaster = Unit {0}
+IsAuthorOf m (Seat power) = power < length m.realms
+
+abbrev pub IsEffectOf : Chart → Effect → Type 0
+IsEffectOf m Nothing = Unit {0}
+IsEffectOf m (Pending orders) = AllByRecursion (λ o. o.province < length m.provinces) orders
+IsEffectOf m (Votes draw) = Unit {0}
+IsEffectOf m (Delivers readers item) = IsPlainItem item
+IsEffectOf m (Opens public paper seats) =
+    IsOf m public.board × IsStatusOf m public.status × AllByRecursion (λ s. s.power < length m.realms) seats
+IsEffectOf m (Publishes public paper played) = IsOf m public.board × IsStatusOf m public.status
+IsEffectOf m (Seats seat) = seat.power < length m.realms
+
+-- a change that can be written: what it names is of the map, and its letter has a number
+pub record IsChangeOf (m : Chart) (c : Change) : Type 0 where
+  pub author : IsAuthorOf m c.author
+  pub effect : IsEffectOf m c.effect
+  pub numbered : (c.kept.number == 0) ≡ false

@@ -1,0 +1,17 @@
+-- What the statements of a change are to come to.
+use Rattle.std.specs.Prelude.{◌≡◌}
+use Rattle.dip_chart.specs.Charts.{Chart}
+use Rattle.dip_machine.specs.State.{Change, state_after}
+use Rattle.dip_tables.specs.Changing.{changing}
+use Rattle.dip_tables.specs.Coding.{AreApart, AreCoded, IsChangeOf}
+use Rattle.dip_tables.specs.Reading.{state_of}
+use Rattle.dip_tables.specs.Tables.{Tables}
+
+-- behind the statements of a change the tables say the state after it, where keys are apart before them and behind them
+abbrev pub StateIsChanged : Chart → Type 0
+StateIsChanged m = (c : Change) (t : Tables) → IsChangeOf m c → AreCoded m t → AreApart t → AreApart (changing m c t)
+    → state_of m (changing m c t) ≡ state_after c (state_of m t)
+
+-- and they are still such as a keeper wrote
+abbrev pub TablesStayCoded : Chart → Type 0
+TablesStayCoded m = (c : Change) (t : Tables) → IsChangeOf m c → AreCoded m t → AreCoded m (changing m c t)

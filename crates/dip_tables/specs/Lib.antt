@@ -1,0 +1,7 @@
+pub mod Changing
+pub mod Coding
+pub mod Laws
+pub mod Reading
+pub mod Tables
+pub mod Texts
+pub mod Writing

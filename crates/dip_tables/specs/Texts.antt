@@ -1,0 +1,31 @@
+-- Words and lines in one text.
+use Rattle.std.specs.Prelude.{◌≡◌, ℕ, ◌==◌, false, List, [], ◌∷◌, ◌++◌, flat_map, if◌then◌else◌}
+use Rattle.std.specs.List.{AllByRecursion}
+
+-- words with a byte between two of them
+abbrev pub joined : ℕ → List (List ℕ) → List ℕ
+joined b [] = []
+joined b (w ∷ ws) = w ++ flat_map (λ v. b ∷ v) ws
+
+-- lines, each with a byte behind it
+abbrev pub ended : ℕ → List (List ℕ) → List ℕ
+ended b ls = flat_map (λ l. l ++ b ∷ []) ls
+
+-- one byte more in the first piece
+abbrev pub longer : ℕ → List (List ℕ) → List (List ℕ)
+longer x [] = (x ∷ []) ∷ []
+longer x (w ∷ ws) = (x ∷ w) ∷ ws
+
+-- what stands before each such byte, and what stands behind the last, if anything does
+abbrev pub pieces : ℕ → List ℕ → List (List ℕ)
+pieces b [] = []
+pieces b (x ∷ xs) = if x == b then [] ∷ pieces b xs else longer x (pieces b xs)
+
+-- there is no such byte in it
+abbrev pub Lacks : ℕ → List ℕ → Type 0
+Lacks b w = AllByRecursion (λ x. (x == b) ≡ false) w
+
+-- no byte, and no word: it is none of these
+abbrev pub IsWord : ℕ → List ℕ → Type 0
+IsWord b [] = ⊥
+IsWord b (x ∷ xs) = Lacks b (x ∷ xs)

@@ -1,0 +1,100 @@
+-- The rows in which records are written, by a map.
+use Rattle.std.specs.Prelude.{ℕ, ◌+◌, Bool, List, [], ◌∷◌, map, codes, if◌then◌else◌}
+use Rattle.dip_chart.specs.Charts.{Chart}
+use Rattle.dip_board_rows.specs.Boards.{code, power_name, season_number, standoff_text}
+use Rattle.dip_records.specs.Records.{Public, Item, White, Grey, Kept, Standing, Status, Running, Paused, Closed, Ended, Won, Drawn}
+use Rattle.dip_machine.specs.State.{NewSeat, Effect, Nothing, Pending, Votes, Delivers, Opens, Publishes, Seats}
+use Rattle.dip_tables.specs.Tables.{DeskRow, GameRow, SeatRow, PendingRow, BoxRow, PaperRow}
+use Rattle.dip_tables.specs.Texts.{joined, ended}
+
+abbrev pub number_of : Bool → ℕ
+number_of b = if b then 1 else 0
+
+abbrev pub status_words : Chart → Status → List (List ℕ)
+status_words m Running = codes "running" ∷ []
+status_words m Paused = codes "paused" ∷ []
+status_words m Closed = codes "closed" ∷ []
+status_words m Ended = codes "ended" ∷ []
+status_words m (Won power) = codes "won" ∷ power_name m power ∷ []
+status_words m (Drawn powers) = codes "drawn" ∷ map (power_name m) powers
+
+abbrev pub status_text : Chart → Status → List ℕ
+status_text m s = joined 32 (status_words m s)
+
+-- the public part of a game of that name, but for its board's units and owners
+abbrev pub game_row : Chart → List ℕ → Public → GameRow
+game_row m name p = record {
+  name = name;
+  year = p.board.phase.year;
+  phase = season_number p.board.phase.season;
+  status = status_text m p.status;
+  due = p.due;
+  period = p.period;
+  grey = number_of p.grey;
+  papers = p.papers;
+  standoff = standoff_text m p.board.standoff;
+}
+
+-- a seat that nobody has used yet
+abbrev pub seat_row : Chart → List ℕ → NewSeat → SeatRow
+seat_row m name s = record {
+  game = name;
+  power = power_name m s.power;
+  digest = s.digest;
+  vote = 0;
+  last = 0;
+  kept = [];
+  reply = [];
+  sent = 0;
+  items = 0;
+}
+
+abbrev pub pending_row : Chart → List ℕ → List ℕ → Standing → PendingRow
+pending_row m name power o = record { game = name; power = power; province = code m o.province; line = o.line }
+
+abbrev pub paper_row : List ℕ → ℕ → List ℕ → PaperRow
+paper_row name number body = record { game = name; number = number; body = body }
+
+abbrev pub box_row : List ℕ → List ℕ → ℕ → Item → BoxRow
+box_row name power number (White writer addressees text) = record {
+  game = name;
+  power = power;
+  number = number;
+  grey = 0;
+  writer = writer;
+  addressees = joined 32 addressees;
+  body = ended 10 text;
+}
+box_row name power number (Grey to_all text) = record {
+  game = name;
+  power = power;
+  number = number;
+  grey = 1;
+  writer = [];
+  addressees = if to_all then codes "all" else codes "you";
+  body = ended 10 text;
+}
+
+-- the next item of a seat's inbox
+abbrev pub next_row : Item → SeatRow → BoxRow
+next_row item s = box_row s.game s.power (s.items + 1) item
+
+-- a row with its author's last letter
+abbrev pub desk_noted : Kept → DeskRow → DeskRow
+desk_noted k d = record d { last = k.number; kept = k.sum; reply = k.reply }
+
+abbrev pub seat_kept : Kept → SeatRow → SeatRow
+seat_kept k s = record s { last = k.number; kept = k.sum; reply = k.reply }
+
+-- what an effect does to its author's own row
+abbrev pub seat_effect : Effect → SeatRow → SeatRow
+seat_effect Nothing s = s
+seat_effect (Pending orders) s = s
+seat_effect (Votes draw) s = record s { vote = number_of draw }
+seat_effect (Delivers readers item) s = record s { sent = s.sent + 1 }
+seat_effect (Opens public paper seats) s = s
+seat_effect (Publishes public paper played) s = s
+seat_effect (Seats seat) s = s
+
+abbrev pub seat_noted : Kept → Effect → SeatRow → SeatRow
+seat_noted k e s = seat_effect e (seat_kept k s)

@@ -1,0 +1,13 @@
+//! Laws of the tables, each the contract of a function that does nothing.
+ghost use Rattle.dip_chart.specs.Charts.{Chart, IsMap};
+ghost use Rattle.dip_tables.specs.Laws.{StateIsChanged, TablesStayCoded};
+
+/// What the statements of a change do is the change: behind them the tables say the state after it.
+pub fn state_is_changed()
+    ensures { (m : Chart) → IsMap m → StateIsChanged m }
+{}
+
+/// Behind the statements of a change the tables are still such as a keeper wrote.
+pub fn tables_stay_coded()
+    ensures { (m : Chart) → TablesStayCoded m }
+{}

@@ -1,0 +1,7 @@
+//! The tables of a desk as lists of records: what they say by a map, and what the statements of a change make of them. Its functions
+//! are laws.
+#![tactic(auto)]
+
+mod laws;
+
+pub use laws::{state_is_changed, tables_stay_coded};

@@ -1,12 +1,21 @@
 //! Desks, single letters and papers.
-use crate::exchanges::next_taken;
+use crate::exchanges::{check_exchange, next_taken};
 use crate::mismatch::Mismatch;
-use crate::seats::CREATE;
 use dip_desk::{Keeper, MemoryKeeper, take};
 use dip_letters::digest;
 use dip_map::Map;
 use dip_records::Reply;
 use std::alloc::Global;
+
+/// The letter CREATE, and its reply.
+const OPENED: &str = "= master 1
+SEATS
+SEAT turkey tttttttt
+END
+< REPLY g1 master 1
+< OK paper 1
+< END
+";
 
 /// An empty desk.
 pub fn desk(alloc: Global) -> MemoryKeeper {
@@ -29,7 +38,7 @@ pub fn reply_to(
 /// A desk with the game of the letter CREATE.
 pub fn opened(alloc: Global, map: &Map) -> Result<MemoryKeeper, Mismatch> {
     let mut keeper = desk(alloc);
-    reply_to(alloc, &mut keeper, map, CREATE)?;
+    check_exchange(alloc, &mut keeper, map, OPENED)?;
     Ok(keeper)
 }
 

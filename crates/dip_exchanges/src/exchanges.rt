@@ -1,87 +1,16 @@
-//! Exchanges: what is sent, and behind `< ` what is answered.
+//! Exchanges: what is sent and asked for, and behind `< ` what is told.
 ghost use Rattle.std.specs.Prelude.{IfSome};
 ghost use Rattle.dip_machine.specs.Mail.{IsMail, mail};
 
+use crate::lines::{push_line, replies_of};
 use crate::mismatch::Mismatch;
-use crate::opening::BOARD;
-use crate::seats::secret_of;
-use dip_desk::{MemoryKeeper, fault_reply, take};
+use dip_desk::{Keeper, MemoryKeeper, fault_reply, take};
 use dip_letters::{Letter, Next, next_letter};
 use dip_machine::KeepFault;
 use dip_map::Map;
 use dip_records::Reply;
 use dip_reports::reply_text;
-use std::alloc::{AllocError, Global};
-
-/// The game line of the game of the letter CREATE at its opening.
-const GAME_LINE: &str = "GAME g1 S1901M running DUE 100 PERIOD 100 GREY YES PAPERS 1\n";
-
-/// What stands for the line `SEATS` of an exchange: a CREATE without its last seat.
-const SIX_SEATS: &str = "CREATE DUE 100 PERIOD 100 GREY YES
-SEAT austria aaaaaaaa
-SEAT england eeeeeeee
-SEAT france ffffffff
-SEAT germany gggggggg
-SEAT italy iiiiiiii
-SEAT russia rrrrrrrr
-";
-
-/// Appends the first lines of a letter in the game g1 by this author: a name and a number, and a secret where it isn't that of the seat.
-fn push_head(author: &str, letters: &mut String) -> Result<(), AllocError> {
-    let mut words = author.split(' ');
-    let name = words.next().unwrap_or("");
-    let number = words.next().unwrap_or("");
-    let secret = words.next().or(secret_of(name)).unwrap_or("");
-    write!(
-        letters,
-        "LETTER\nGAME g1\nFROM {name}\nSECRET {secret}\nNUMBER {number}\n"
-    )
-}
-
-/// The letters of an exchange: its lines but those behind `< `. There `SEATS` stands for a CREATE without its last seat, `= england 3` for
-/// the first lines of a letter of England with the number 3, and `= england 3 secret` for those under that secret.
-fn letters_of(alloc: Global, exchange: &str) -> Result<String, AllocError> {
-    let mut letters = String::new(alloc);
-    for line in exchange.lines() {
-        if line == "SEATS" {
-            letters.push_str(SIX_SEATS)?;
-        } else if let Some(author) = line.strip_prefix("= ") {
-            push_head(author, &mut letters)?;
-        } else if !line.starts_with("< ") {
-            letters.push_str(line)?;
-            letters.push_str("\n")?;
-        }
-    }
-    Ok(letters)
-}
-
-/// Appends a reply's line of an exchange: there `SHOWN` stands for what a seat is shown of the opening that hasn't ordered, and `BOARD` for
-/// the board lines of the opening.
-fn push_reply(line: &str, replies: &mut String) -> Result<(), AllocError> {
-    match line {
-        "SHOWN" => {
-            replies.push_str(GAME_LINE)?;
-            replies.push_str(BOARD)?;
-            replies.push_str("VOTE NO\nSENT 0 INBOX 0\n")
-        }
-        "BOARD" => replies.push_str(BOARD),
-        _ => {
-            replies.push_str(line)?;
-            replies.push_str("\n")
-        }
-    }
-}
-
-/// The replies of an exchange: its lines behind `< `.
-fn replies_of(alloc: Global, exchange: &str) -> Result<String, AllocError> {
-    let mut replies = String::new(alloc);
-    for line in exchange.lines() {
-        if let Some(reply) = line.strip_prefix("< ") {
-            push_reply(reply, &mut replies)?;
-        }
-    }
-    Ok(replies)
-}
+use std::alloc::Global;
 
 /// The letter at the front of an input, and the rest; none where no letter is there.
 pub fn next_taken(input: &[u8]) -> Option<(Letter<'_>, &[u8])>
@@ -109,14 +38,14 @@ fn next_answered<'a>(
     }
 }
 
-/// The replies to an input of at most a hundred letters.
-fn told(
+/// Appends the replies to an input of at most a hundred letters.
+fn push_replies(
     alloc: Global,
     keeper: &mut MemoryKeeper,
     map: &Map,
     letters: &str,
-) -> Result<String, KeepFault> {
-    let mut told = String::new(alloc);
+    told: &mut String,
+) -> Result<(), KeepFault> {
     let mut rest = letters.as_bytes();
     for _ in 0..100 {
         let Some((reply, behind)) = next_answered(alloc, keeper, map, rest)? else {
@@ -126,22 +55,77 @@ fn told(
         told.push_str(text.as_str())?;
         rest = behind;
     }
+    Ok(())
+}
+
+/// Appends the paper that is asked for by its game and its number, or the line `no paper` where there is none.
+fn push_paper(
+    keeper: &mut MemoryKeeper,
+    map: &Map,
+    asked: &str,
+    told: &mut String,
+) -> Result<(), Mismatch> {
+    let Some((game, digits)) = asked.split_once(" ") else {
+        return Err(Mismatch::NoPaper);
+    };
+    let Ok(number) = digits.parse::<u32>() else {
+        return Err(Mismatch::NoPaper);
+    };
+    match keeper.paper(map, game, number)? {
+        Some(paper) => told.push_str(paper.as_str())?,
+        None => told.push_str("no paper\n")?,
+    }
+    Ok(())
+}
+
+/// What a desk tells in an exchange: the replies to its letters, and behind `? ` the papers that it asks for, each after the letters that
+/// stand before it.
+fn told(
+    alloc: Global,
+    keeper: &mut MemoryKeeper,
+    map: &Map,
+    exchange: &str,
+) -> Result<String, Mismatch> {
+    let mut told = String::new(alloc);
+    let mut letters = String::new(alloc);
+    for line in exchange.lines() {
+        if let Some(asked) = line.strip_prefix("? ") {
+            push_replies(alloc, keeper, map, letters.as_str(), &mut told)?;
+            letters.clear();
+            push_paper(keeper, map, asked, &mut told)?;
+        } else if !line.starts_with("< ") {
+            push_line(line, &mut letters)?;
+        }
+    }
+    push_replies(alloc, keeper, map, letters.as_str(), &mut told)?;
     Ok(told)
 }
 
-/// The letters of an exchange get its replies at a desk.
+/// A desk tells in an exchange what it has to: its lines behind `< `.
 pub fn check_exchange(
     alloc: Global,
     keeper: &mut MemoryKeeper,
     map: &Map,
     exchange: &str,
 ) -> Result<(), Mismatch> {
-    let letters = letters_of(alloc, exchange)?;
     let wanted = replies_of(alloc, exchange)?;
-    let told = told(alloc, keeper, map, letters.as_str())?;
+    let told = told(alloc, keeper, map, exchange)?;
     if told.as_str() == wanted.as_str() {
         Ok(())
     } else {
         Err(Mismatch::Text { told, wanted })
     }
+}
+
+/// A desk tells in each of these exchanges, one after the other, what it has to.
+pub fn check_exchanges(
+    alloc: Global,
+    keeper: &mut MemoryKeeper,
+    map: &Map,
+    exchanges: &[&str],
+) -> Result<(), Mismatch> {
+    for exchange in exchanges {
+        check_exchange(alloc, keeper, map, exchange)?;
+    }
+    Ok(())
 }

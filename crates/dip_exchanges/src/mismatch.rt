@@ -1,10 +1,13 @@
 //! What isn't as a test says.
 use dip_machine::KeepFault;
+use dip_names::MapFault;
 use std::alloc::AllocError;
 
 /// What isn't as a test says.
 #[derive(Drop, Debug)]
 pub enum Mismatch {
+    /// There is no map.
+    Map(MapFault),
     /// The keeper told of a fault.
     Keeper(KeepFault),
     /// A text is another than the one that was wanted.
@@ -13,6 +16,14 @@ pub enum Mismatch {
     Paper(u32),
     /// A text is no letter.
     NoLetter,
+    /// What an exchange asks for isn't a game and a number.
+    NoPaper,
+}
+
+impl From<MapFault> for Mismatch {
+    fn from(fault: MapFault) -> Mismatch {
+        Mismatch::Map(fault)
+    }
 }
 
 impl From<KeepFault> for Mismatch {

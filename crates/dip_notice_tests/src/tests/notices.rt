@@ -1,22 +1,6 @@
 //! The master's notices, and what they do to a game.
-use dip_desk::MemoryKeeper;
-use dip_exchanges::{BOARD, HOLDS, Mismatch, check_exchange, check_no_paper, check_paper, opened};
-use dip_map::{Map, STANDARD};
-use std::alloc::Global;
+use dip_exchanges::check_opened;
 use std::test::Fail;
-
-/// The notice of this number has these lines, and behind them this game line and the board of the opening.
-fn check_notice(
-    alloc: Global,
-    keeper: &mut MemoryKeeper,
-    map: &Map,
-    number: u32,
-    lines: &str,
-    game: &str,
-) -> Result<(), Mismatch> {
-    let wanted = format!(in alloc; "PAPER {number} notice\n{lines}\n{game}\n{BOARD}END\n")?;
-    check_paper(alloc, keeper, map, "g1", number, wanted.as_str())
-}
 
 const PAUSED: &str = "= master 2
 PAUSE
@@ -49,23 +33,30 @@ END
 < REPLY g1 master 5
 < OK paper 4
 < END
+? g1 2
+< PAPER 2 notice
+< > paused
+< GAME g1 S1901M paused DUE 100 PERIOD 100 GREY YES PAPERS 2
+< BOARD
+< END
+? g1 3
+< PAPER 3 notice
+< > resumed
+< GAME g1 S1901M running DUE 100 PERIOD 100 GREY YES PAPERS 3
+< BOARD
+< END
+? g1 4
+< PAPER 4 S1901M
+< HOLDS
+< GAME g1 F1901M running DUE 200 PERIOD 100 GREY YES PAPERS 4
+< BOARD
+< END
 ";
 
 /// No tick is due in a game that is paused; orders are taken there.
 #[test]
 fn a_pause_lasts_until_it_is_resumed(rt: HostRuntime) -> Result<(), Fail> {
-    let alloc = rt.alloc();
-    let map = Map::from_toml(alloc, STANDARD)?;
-    let mut keeper = opened(alloc, &map)?;
-    check_exchange(alloc, &mut keeper, &map, PAUSED)?;
-    let paused = "GAME g1 S1901M paused DUE 100 PERIOD 100 GREY YES PAPERS 2";
-    check_notice(alloc, &mut keeper, &map, 2, "> paused", paused)?;
-    let resumed = "GAME g1 S1901M running DUE 100 PERIOD 100 GREY YES PAPERS 3";
-    check_notice(alloc, &mut keeper, &map, 3, "> resumed", resumed)?;
-    let wanted = format!(in alloc;
-        "PAPER 4 S1901M\n{HOLDS}GAME g1 F1901M running DUE 200 PERIOD 100 GREY YES PAPERS 4\n{BOARD}END\n"
-    )?;
-    Ok(check_paper(alloc, &mut keeper, &map, "g1", 4, wanted.as_str())?)
+    Ok(check_opened(rt.alloc(), &[PAUSED])?)
 }
 
 /// The same PAUSE twice, another one, and what a game that runs is resumed to.
@@ -105,26 +96,37 @@ END
 < REPLY g1 master 6
 < OK paper 5
 < END
+? g1 2
+< PAPER 2 notice
+< > paused
+< GAME g1 S1901M paused DUE 100 PERIOD 100 GREY YES PAPERS 2
+< BOARD
+< END
+? g1 3
+< PAPER 3 notice
+< > paused
+< GAME g1 S1901M paused DUE 100 PERIOD 100 GREY YES PAPERS 3
+< BOARD
+< END
+? g1 4
+< PAPER 4 notice
+< > resumed
+< GAME g1 S1901M running DUE 100 PERIOD 100 GREY YES PAPERS 4
+< BOARD
+< END
+? g1 5
+< PAPER 5 notice
+< > resumed
+< GAME g1 S1901M running DUE 100 PERIOD 100 GREY YES PAPERS 5
+< BOARD
+< END
+? g1 6
+< no paper
 ";
 
 #[test]
 fn each_notice_is_a_paper(rt: HostRuntime) -> Result<(), Fail> {
-    let alloc = rt.alloc();
-    let map = Map::from_toml(alloc, STANDARD)?;
-    let mut keeper = opened(alloc, &map)?;
-    check_exchange(alloc, &mut keeper, &map, TWICE)?;
-    for (number, line, word) in [
-        (2, "> paused", "paused"),
-        (3, "> paused", "paused"),
-        (4, "> resumed", "running"),
-        (5, "> resumed", "running"),
-    ] {
-        let game = format!(in alloc;
-            "GAME g1 S1901M {word} DUE 100 PERIOD 100 GREY YES PAPERS {number}"
-        )?;
-        check_notice(alloc, &mut keeper, &map, number, line, game.as_str())?;
-    }
-    Ok(check_no_paper(&mut keeper, &map, "g1", 6)?)
+    Ok(check_opened(rt.alloc(), &[TWICE])?)
 }
 
 /// A period is shown at once, and what is due stands until the next tick; a game that is paused has another period too.
@@ -173,23 +175,29 @@ END
 < REPLY g1 master 7
 < OK paper 5
 < END
+? g1 2
+< PAPER 2 notice
+< > period 50
+< GAME g1 S1901M running DUE 100 PERIOD 50 GREY YES PAPERS 2
+< BOARD
+< END
+? g1 3
+< PAPER 3 S1901M
+< HOLDS
+< GAME g1 F1901M running DUE 150 PERIOD 50 GREY YES PAPERS 3
+< BOARD
+< END
+? g1 5
+< PAPER 5 notice
+< > period 999999
+< GAME g1 F1901M paused DUE 150 PERIOD 999999 GREY YES PAPERS 5
+< BOARD
+< END
 ";
 
 #[test]
 fn a_period_counts_from_the_next_tick(rt: HostRuntime) -> Result<(), Fail> {
-    let alloc = rt.alloc();
-    let map = Map::from_toml(alloc, STANDARD)?;
-    let mut keeper = opened(alloc, &map)?;
-    check_exchange(alloc, &mut keeper, &map, PERIODS)?;
-    let shorter = "GAME g1 S1901M running DUE 100 PERIOD 50 GREY YES PAPERS 2";
-    check_notice(alloc, &mut keeper, &map, 2, "> period 50", shorter)?;
-    let played = format!(in alloc;
-        "PAPER 3 S1901M\n{HOLDS}GAME g1 F1901M running DUE 150 PERIOD 50 GREY YES PAPERS 3\n{BOARD}END\n"
-    )?;
-    check_paper(alloc, &mut keeper, &map, "g1", 3, played.as_str())?;
-    let longest = "GAME g1 F1901M paused DUE 150 PERIOD 999999 GREY YES PAPERS 5";
-    check_notice(alloc, &mut keeper, &map, 5, "> period 999999", longest)?;
-    Ok(())
+    Ok(check_opened(rt.alloc(), &[PERIODS])?)
 }
 
 /// England has ordered. In the game that is closed it is shown its orders, reads its inbox, and can do nothing else; announcements are taken.
@@ -302,20 +310,26 @@ END
 < SENT 0 INBOX 0
 < ORDER F edi - nth
 < END
+? g1 2
+< PAPER 2 notice
+< > closed
+< GAME g1 S1901M closed DUE 100 PERIOD 100 GREY YES PAPERS 2
+< BOARD
+< END
+? g1 3
+< PAPER 3 notice
+< > Thank you all.
+< > \n< > Good bye.
+< GAME g1 S1901M closed DUE 100 PERIOD 100 GREY YES PAPERS 3
+< BOARD
+< END
+? g1 4
+< no paper
 ";
 
 #[test]
 fn a_game_that_is_closed_is_over(rt: HostRuntime) -> Result<(), Fail> {
-    let alloc = rt.alloc();
-    let map = Map::from_toml(alloc, STANDARD)?;
-    let mut keeper = opened(alloc, &map)?;
-    check_exchange(alloc, &mut keeper, &map, CLOSED)?;
-    let closed = "GAME g1 S1901M closed DUE 100 PERIOD 100 GREY YES PAPERS 2";
-    check_notice(alloc, &mut keeper, &map, 2, "> closed", closed)?;
-    let announced = "GAME g1 S1901M closed DUE 100 PERIOD 100 GREY YES PAPERS 3";
-    let lines = "> Thank you all.\n> \n> Good bye.";
-    check_notice(alloc, &mut keeper, &map, 3, lines, announced)?;
-    Ok(check_no_paper(&mut keeper, &map, "g1", 4)?)
+    Ok(check_opened(rt.alloc(), &[CLOSED])?)
 }
 
 /// Announcements of a game that runs and of one that is paused leave it so.
@@ -340,23 +354,22 @@ END
 < REPLY g1 master 4
 < OK paper 4
 < END
+? g1 2
+< PAPER 2 notice
+< > The next tick is 100.
+< GAME g1 S1901M running DUE 100 PERIOD 100 GREY YES PAPERS 2
+< BOARD
+< END
+? g1 4
+< PAPER 4 notice
+< > END
+< > LETTER
+< GAME g1 S1901M paused DUE 100 PERIOD 100 GREY YES PAPERS 4
+< BOARD
+< END
 ";
 
 #[test]
 fn an_announcement_changes_nothing(rt: HostRuntime) -> Result<(), Fail> {
-    let alloc = rt.alloc();
-    let map = Map::from_toml(alloc, STANDARD)?;
-    let mut keeper = opened(alloc, &map)?;
-    check_exchange(alloc, &mut keeper, &map, ANNOUNCED)?;
-    let running = "GAME g1 S1901M running DUE 100 PERIOD 100 GREY YES PAPERS 2";
-    check_notice(
-        alloc,
-        &mut keeper,
-        &map,
-        2,
-        "> The next tick is 100.",
-        running,
-    )?;
-    let paused = "GAME g1 S1901M paused DUE 100 PERIOD 100 GREY YES PAPERS 4";
-    Ok(check_notice(alloc, &mut keeper, &map, 4, "> END\n> LETTER", paused)?)
+    Ok(check_opened(rt.alloc(), &[ANNOUNCED])?)
 }

@@ -1,6 +1,5 @@
 //! Which refusal a letter gets that has more than one cause.
-use dip_exchanges::{check_exchange, check_no_paper, opened, opened_without_grey};
-use dip_map::{Map, STANDARD};
+use dip_exchanges::{check_opened, check_opened_without_grey};
 use std::test::Fail;
 
 /// A secret that isn't England's hides its numbers; a number that is used hides that the command isn't England's; then this is told.
@@ -58,15 +57,13 @@ END
 < REPLY g1 england 6
 < L4 number 6 used by another letter
 < END
+? g1 2
+< no paper
 ";
 
 #[test]
 fn who_writes_comes_before_numbers_and_these_before_commands(rt: HostRuntime) -> Result<(), Fail> {
-    let alloc = rt.alloc();
-    let map = Map::from_toml(alloc, STANDARD)?;
-    let mut keeper = opened(alloc, &map)?;
-    check_exchange(alloc, &mut keeper, &map, AUTHORS)?;
-    Ok(check_no_paper(&mut keeper, &map, "g1", 2)?)
+    Ok(check_opened(rt.alloc(), &[AUTHORS])?)
 }
 
 /// The master's commands from England, and England's from the master, also where they name no power and where no tick is due; then names that
@@ -171,6 +168,8 @@ END
 < REPLY g1 england 9
 < SHOWN
 < END
+? g1 2
+< no paper
 ";
 
 /// The master's letters for a game that isn't there, whoever might send them; they use no number.
@@ -205,12 +204,7 @@ END
 
 #[test]
 fn whose_command_it_is_comes_before_what_it_names(rt: HostRuntime) -> Result<(), Fail> {
-    let alloc = rt.alloc();
-    let map = Map::from_toml(alloc, STANDARD)?;
-    let mut keeper = opened(alloc, &map)?;
-    check_exchange(alloc, &mut keeper, &map, SIDES)?;
-    check_no_paper(&mut keeper, &map, "g1", 2)?;
-    Ok(check_exchange(alloc, &mut keeper, &map, NO_GAME)?)
+    Ok(check_opened(rt.alloc(), &[SIDES, NO_GAME])?)
 }
 
 /// In a game that is closed: commands of the other side, names that are no power's, ticks that aren't due, and seats of a game of its name.
@@ -324,12 +318,8 @@ END
 fn names_come_before_a_game_that_is_over_and_this_before_ticks(
     rt: HostRuntime,
 ) -> Result<(), Fail> {
-    let alloc = rt.alloc();
-    let map = Map::from_toml(alloc, STANDARD)?;
-    let mut over = opened(alloc, &map)?;
-    check_exchange(alloc, &mut over, &map, OVER)?;
-    let mut paused = opened(alloc, &map)?;
-    Ok(check_exchange(alloc, &mut paused, &map, PAUSED)?)
+    check_opened(rt.alloc(), &[OVER])?;
+    Ok(check_opened(rt.alloc(), &[PAUSED])?)
 }
 
 /// Grey press in a game that has none, while it runs and when it is closed.
@@ -384,8 +374,5 @@ END
 
 #[test]
 fn a_game_that_is_over_comes_before_grey_press(rt: HostRuntime) -> Result<(), Fail> {
-    let alloc = rt.alloc();
-    let map = Map::from_toml(alloc, STANDARD)?;
-    let mut keeper = opened_without_grey(alloc, &map)?;
-    Ok(check_exchange(alloc, &mut keeper, &map, GREY)?)
+    Ok(check_opened_without_grey(rt.alloc(), &[GREY])?)
 }

@@ -1,6 +1,5 @@
 //! Seats that are replaced.
-use dip_exchanges::{check_exchange, check_no_paper, opened};
-use dip_map::{Map, STANDARD};
+use dip_exchanges::check_opened;
 use std::test::Fail;
 
 /// England has voted, ordered, sent press and has some. Under its new secret it goes on with its numbers; the old one is nobody's.
@@ -113,15 +112,13 @@ END
 < REPLY g1 england 6
 < OK vote NO
 < END
+? g1 2
+< no paper
 ";
 
 #[test]
 fn a_seat_goes_on_under_another_secret(rt: HostRuntime) -> Result<(), Fail> {
-    let alloc = rt.alloc();
-    let map = Map::from_toml(alloc, STANDARD)?;
-    let mut keeper = opened(alloc, &map)?;
-    check_exchange(alloc, &mut keeper, &map, REPLACED)?;
-    Ok(check_no_paper(&mut keeper, &map, "g1", 2)?)
+    Ok(check_opened(rt.alloc(), &[REPLACED])?)
 }
 
 /// Names that are no power of the map; the letter is numbered and kept.
@@ -159,8 +156,5 @@ END
 
 #[test]
 fn a_seat_is_of_a_power_of_the_map(rt: HostRuntime) -> Result<(), Fail> {
-    let alloc = rt.alloc();
-    let map = Map::from_toml(alloc, STANDARD)?;
-    let mut keeper = opened(alloc, &map)?;
-    Ok(check_exchange(alloc, &mut keeper, &map, STRANGERS)?)
+    Ok(check_opened(rt.alloc(), &[STRANGERS])?)
 }

@@ -1,29 +1,54 @@
 //! Votes for a draw, and orders that are withdrawn.
-use dip_desk::MemoryKeeper;
-use dip_exchanges::{BOARD, HOLDS, Mismatch, check_exchange, check_no_paper, check_paper, opened};
-use dip_map::{Map, STANDARD};
-use std::alloc::Global;
+use dip_exchanges::check_opened;
 use std::test::Fail;
 
-const POWERS: [&str; 7] = [
-    "austria", "england", "france", "germany", "italy", "russia", "turkey",
-];
+/// Six powers vote YES.
+const SIX_VOTES: &str = "= austria 1
+VOTE YES
+END
+< REPLY g1 austria 1
+< OK vote YES
+< END
+= england 1
+VOTE YES
+END
+< REPLY g1 england 1
+< OK vote YES
+< END
+= france 1
+VOTE YES
+END
+< REPLY g1 france 1
+< OK vote YES
+< END
+= germany 1
+VOTE YES
+END
+< REPLY g1 germany 1
+< OK vote YES
+< END
+= italy 1
+VOTE YES
+END
+< REPLY g1 italy 1
+< OK vote YES
+< END
+= russia 1
+VOTE YES
+END
+< REPLY g1 russia 1
+< OK vote YES
+< END
+";
 
-/// These powers vote YES, each by its letter 1.
-fn check_votes(
-    alloc: Global,
-    keeper: &mut MemoryKeeper,
-    map: &Map,
-    powers: &[&str],
-) -> Result<(), Mismatch> {
-    for power in powers {
-        let exchange = format!(in alloc;
-            "= {power} 1\nVOTE YES\nEND\n< REPLY g1 {power} 1\n< OK vote YES\n< END\n"
-        )?;
-        check_exchange(alloc, keeper, map, exchange.as_str())?;
-    }
-    Ok(())
-}
+/// And so does the seventh.
+const SEVENTH_VOTE: &str = "= turkey 1
+VOTE YES
+END
+< REPLY g1 turkey 1
+< OK vote YES
+< END
+";
 
 /// England orders; a tick before the due one ends nothing, and the due one ends the game. What was due and what was ordered stay.
 const DRAWN: &str = "= england 2
@@ -73,52 +98,40 @@ END
 < REPLY g1 master 4
 < L8 game over
 < END
+? g1 2
+< PAPER 2 draw
+< GAME g1 S1901M drawn by austria england france germany italy russia turkey DUE 100 PERIOD 100 GREY YES PAPERS 2
+< BOARD
+< END
+? g1 3
+< no paper
 ";
 
 #[test]
 fn a_game_is_drawn_where_all_vote_for_it(rt: HostRuntime) -> Result<(), Fail> {
-    let alloc = rt.alloc();
-    let map = Map::from_toml(alloc, STANDARD)?;
-    let mut keeper = opened(alloc, &map)?;
-    check_votes(alloc, &mut keeper, &map, &POWERS)?;
-    check_exchange(alloc, &mut keeper, &map, DRAWN)?;
-    let wanted = format!(in alloc;
-        "PAPER 2 draw
-GAME g1 S1901M drawn by austria england france germany italy russia turkey DUE 100 PERIOD 100 GREY YES PAPERS 2
-{BOARD}END
-"
-    )?;
-    check_paper(alloc, &mut keeper, &map, "g1", 2, wanted.as_str())?;
-    Ok(check_no_paper(&mut keeper, &map, "g1", 3)?)
+    Ok(check_opened(rt.alloc(), &[SIX_VOTES, SEVENTH_VOTE, DRAWN])?)
 }
 
+/// A tick of the opening in which nobody has ordered, and its paper.
 const DUE: &str = "= master 2
 TICK 100
 END
 < REPLY g1 master 2
 < OK paper 2
 < END
+? g1 2
+< PAPER 2 S1901M
+< HOLDS
+< GAME g1 F1901M running DUE 200 PERIOD 100 GREY YES PAPERS 2
+< BOARD
+< END
 ";
-
-/// The paper of a tick of the opening in which nobody has ordered.
-fn check_played(alloc: Global, keeper: &mut MemoryKeeper, map: &Map) -> Result<(), Mismatch> {
-    check_exchange(alloc, keeper, map, DUE)?;
-    let wanted = format!(in alloc;
-        "PAPER 2 S1901M\n{HOLDS}GAME g1 F1901M running DUE 200 PERIOD 100 GREY YES PAPERS 2\n{BOARD}END\n"
-    )?;
-    check_paper(alloc, keeper, map, "g1", 2, wanted.as_str())
-}
 
 /// Nothing of six votes is told: the paper is that of a tick without any.
 #[test]
 fn six_votes_of_seven_are_nothing(rt: HostRuntime) -> Result<(), Fail> {
-    let alloc = rt.alloc();
-    let map = Map::from_toml(alloc, STANDARD)?;
-    let mut none = opened(alloc, &map)?;
-    check_played(alloc, &mut none, &map)?;
-    let mut six = opened(alloc, &map)?;
-    check_votes(alloc, &mut six, &map, &POWERS[..6])?;
-    Ok(check_played(alloc, &mut six, &map)?)
+    check_opened(rt.alloc(), &[DUE])?;
+    Ok(check_opened(rt.alloc(), &[SIX_VOTES, DUE])?)
 }
 
 const TAKEN_BACK: &str = "= turkey 2
@@ -160,24 +173,19 @@ END
 < REPLY g1 master 3
 < OK paper 3
 < END
+? g1 3
+< PAPER 3 draw
+< GAME g1 F1901M drawn by austria england france germany italy russia turkey DUE 200 PERIOD 100 GREY YES PAPERS 3
+< BOARD
+< END
 ";
 
 #[test]
 fn a_vote_can_be_taken_back(rt: HostRuntime) -> Result<(), Fail> {
-    let alloc = rt.alloc();
-    let map = Map::from_toml(alloc, STANDARD)?;
-    let mut keeper = opened(alloc, &map)?;
-    check_votes(alloc, &mut keeper, &map, &POWERS)?;
-    check_exchange(alloc, &mut keeper, &map, TAKEN_BACK)?;
-    check_played(alloc, &mut keeper, &map)?;
-    check_exchange(alloc, &mut keeper, &map, AGAIN)?;
-    let wanted = format!(in alloc;
-        "PAPER 3 draw
-GAME g1 F1901M drawn by austria england france germany italy russia turkey DUE 200 PERIOD 100 GREY YES PAPERS 3
-{BOARD}END
-"
-    )?;
-    Ok(check_paper(alloc, &mut keeper, &map, "g1", 3, wanted.as_str())?)
+    Ok(check_opened(
+        rt.alloc(),
+        &[SIX_VOTES, SEVENTH_VOTE, TAKEN_BACK, DUE, AGAIN],
+    )?)
 }
 
 /// England withdraws its orders, twice; France's stand, and so does England's vote.
@@ -252,8 +260,5 @@ END
 
 #[test]
 fn orders_can_be_withdrawn(rt: HostRuntime) -> Result<(), Fail> {
-    let alloc = rt.alloc();
-    let map = Map::from_toml(alloc, STANDARD)?;
-    let mut keeper = opened(alloc, &map)?;
-    Ok(check_exchange(alloc, &mut keeper, &map, WITHDRAWN)?)
+    Ok(check_opened(rt.alloc(), &[WITHDRAWN])?)
 }

@@ -1,0 +1,71 @@
+//! The lines of exchanges, and what stands for others in them.
+use crate::opening::{BOARD, HOLDS};
+use crate::seats::secret_of;
+use std::alloc::{AllocError, Global};
+
+/// The game line of the game of the letter CREATE at its opening.
+const GAME_LINE: &str = "GAME g1 S1901M running DUE 100 PERIOD 100 GREY YES PAPERS 1\n";
+
+/// What stands for the line `SEATS` of an exchange: a CREATE without its last seat.
+const SIX_SEATS: &str = "CREATE DUE 100 PERIOD 100 GREY YES
+SEAT austria aaaaaaaa
+SEAT england eeeeeeee
+SEAT france ffffffff
+SEAT germany gggggggg
+SEAT italy iiiiiiii
+SEAT russia rrrrrrrr
+";
+
+/// Appends the first lines of a letter in the game g1 by this author: a name and a number, and a secret where it isn't that of the seat.
+fn push_head(author: &str, letters: &mut String) -> Result<(), AllocError> {
+    let mut words = author.split(' ');
+    let name = words.next().unwrap_or("");
+    let number = words.next().unwrap_or("");
+    let secret = words.next().or(secret_of(name)).unwrap_or("");
+    write!(
+        letters,
+        "LETTER\nGAME g1\nFROM {name}\nSECRET {secret}\nNUMBER {number}\n"
+    )
+}
+
+/// Appends a letter's line of an exchange: there `SEATS` stands for a CREATE without its last seat, `= england 3` for the first lines of a
+/// letter of England with the number 3, and `= england 3 secret` for those under that secret.
+pub(crate) fn push_line(line: &str, letters: &mut String) -> Result<(), AllocError> {
+    if line == "SEATS" {
+        letters.push_str(SIX_SEATS)
+    } else if let Some(author) = line.strip_prefix("= ") {
+        push_head(author, letters)
+    } else {
+        letters.push_str(line)?;
+        letters.push_str("\n")
+    }
+}
+
+/// Appends a line of what is told: there `SHOWN` stands for what a seat is shown of the opening that hasn't ordered, `BOARD` for the board
+/// lines of the opening, and `HOLDS` for the lines of a movement in which nobody has ordered.
+fn push_reply(line: &str, replies: &mut String) -> Result<(), AllocError> {
+    match line {
+        "SHOWN" => {
+            replies.push_str(GAME_LINE)?;
+            replies.push_str(BOARD)?;
+            replies.push_str("VOTE NO\nSENT 0 INBOX 0\n")
+        }
+        "BOARD" => replies.push_str(BOARD),
+        "HOLDS" => replies.push_str(HOLDS),
+        _ => {
+            replies.push_str(line)?;
+            replies.push_str("\n")
+        }
+    }
+}
+
+/// What an exchange has to tell: its lines behind `< `.
+pub(crate) fn replies_of(alloc: Global, exchange: &str) -> Result<String, AllocError> {
+    let mut replies = String::new(alloc);
+    for line in exchange.lines() {
+        if let Some(reply) = line.strip_prefix("< ") {
+            push_reply(reply, &mut replies)?;
+        }
+    }
+    Ok(replies)
+}

@@ -1,4 +1,5 @@
 //! Games by letters.
+mod pages;
 mod playing;
 mod playing_to_a_draw;
 mod playing_to_a_win;

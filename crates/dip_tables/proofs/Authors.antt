@@ -38,15 +38,15 @@ no_orders m name (Opens public paper seats) t = (refl, refl)
 no_orders m name (Publishes public paper played) t = (refl, refl)
 no_orders m name (Seats seat) t = (refl, refl)
 
--- a letter keeps its author's key
-pub noted_keys : (k : Kept) (e : Effect) (s : SeatRow) → ((seat_noted k e s).game ≡ s.game) × ((seat_noted k e s).power ≡ s.power)
-noted_keys k Nothing s = (refl, refl)
-noted_keys k (Pending orders) s = (refl, refl)
-noted_keys k (Votes draw) s = (refl, refl)
-noted_keys k (Delivers readers item) s = (refl, refl)
-noted_keys k (Opens public paper seats) s = (refl, refl)
-noted_keys k (Publishes public paper played) s = (refl, refl)
-noted_keys k (Seats seat) s = (refl, refl)
+-- a letter keeps its author's key and its items
+pub noted_keys : (k : Kept) (e : Effect) (s : SeatRow) → ((seat_noted k e s).game ≡ s.game) × ((seat_noted k e s).power ≡ s.power) × ((seat_noted k e s).items ≡ s.items)
+noted_keys k Nothing s = (refl, refl, refl)
+noted_keys k (Pending orders) s = (refl, refl, refl)
+noted_keys k (Votes draw) s = (refl, refl, refl)
+noted_keys k (Delivers readers item) s = (refl, refl, refl)
+noted_keys k (Opens public paper seats) s = (refl, refl, refl)
+noted_keys k (Publishes public paper played) s = (refl, refl, refl)
+noted_keys k (Seats seat) s = (refl, refl, refl)
 
 -- orders are rows of pending alone
 pub record IsPendingAlone (old new : Tables) : Type 0 where
@@ -56,15 +56,16 @@ pub record IsPendingAlone (old new : Tables) : Type 0 where
   pub units : new.units ≡ old.units
   pub centres : new.centres ≡ old.centres
   pub papers : new.papers ≡ old.papers
+  pub boxes : new.boxes ≡ old.boxes
 
 same : (t : Tables) → IsPendingAlone t t
-same t = record { desk = refl; games = refl; seats = refl; units = refl; centres = refl; papers = refl }
+same t = record { desk = refl; games = refl; seats = refl; units = refl; centres = refl; papers = refl; boxes = refl }
 
 pub ordering_alone : (m : Chart) (who : Author) (name : List ℕ) (e : Effect) (t : Tables) → IsPendingAlone t (ordering m who name e t)
 ordering_alone m who name Nothing t = same t
 ordering_alone m Nobody name (Pending orders) t = same t
 ordering_alone m TheMaster name (Pending orders) t = same t
-ordering_alone m (Seat power) name (Pending orders) t = record { desk = refl; games = refl; seats = refl; units = refl; centres = refl; papers = refl }
+ordering_alone m (Seat power) name (Pending orders) t = record { desk = refl; games = refl; seats = refl; units = refl; centres = refl; papers = refl; boxes = refl }
 ordering_alone m who name (Votes draw) t = same t
 ordering_alone m who name (Delivers readers item) t = same t
 ordering_alone m who name (Opens public paper seats) t = same t

@@ -1,20 +1,19 @@
 -- What the tables say behind a change.
-use Rattle.std.proofs.Common.{◌≡◌, ℕ, ◌<◌, ◌==◌, true, false, cond, not, List, [], ◌∷◌, ◌++◌, map, length, Some, bytes_eq, refl, sym, ap, subst, ◌∙◌}
+use Rattle.std.proofs.Common.{◌≡◌, ℕ, ◌==◌, true, false, cond, List, [], ◌∷◌, ◌++◌, map, Some, bytes_eq, refl, sym, ap, subst, ◌∙◌}
 use Rattle.std.specs.List.{AllByRecursion}
 use Rattle.sqlite_trees.specs.Tree.{IsAscending}
-use Rattle.sqlite_keyed.specs.Lists.{update_where, delete_where}
-use Rattle.sqlite_keyed.proofs.ListLemmas.{all-append, all-filter, all_map, all_weaker}
+use Rattle.sqlite_keyed.specs.Lists.{update_where}
 use Rattle.dip_chart.specs.Charts.{Chart, IsMap}
 use Rattle.dip_board_rows.specs.Boards.{power_name}
 use Rattle.dip_machine.specs.Keyed.{change_at}
-use Rattle.dip_machine.specs.State.{Author, Nobody, TheMaster, Seat, NewSeat, Effect, Nothing, Pending, Votes, Delivers, Opens, Publishes, Seats, name_of, desk_after, game_after, new_games}
+use Rattle.dip_machine.specs.State.{Author, Nobody, TheMaster, Seat, Effect, Nothing, Pending, Votes, Delivers, Opens, Publishes, Seats, name_of, desk_after, game_after, new_games}
 use Rattle.dip_records.specs.Records.{Kept}
-use Rattle.dip_tables.specs.Tables.{DeskRow, SeatRow, Tables, is_seat, is_seat_in}
+use Rattle.dip_tables.specs.Tables.{DeskRow, SeatRow, Tables, is_seat}
 use Rattle.dip_tables.specs.Reading.{desk_of, game_of}
-use Rattle.dip_tables.specs.Writing.{desk_noted, seat_noted, seat_row}
-use Rattle.dip_tables.specs.Changing.{noting, reaching, changing, is_reader, one_more}
-use Rattle.dip_tables.specs.Coding.{AreApart, IsEffectOf, IsSeatOf, same_name, same_seat}
-use Rattle.dip_tables.specs.Laws.{StateIsChanged, TablesStayCoded}
+use Rattle.dip_tables.specs.Writing.{desk_noted, seat_noted}
+use Rattle.dip_tables.specs.Changing.{noting, reaching, changing}
+use Rattle.dip_tables.specs.Coding.{AreApart, IsSeatOf, same_name, same_seat}
+use Rattle.dip_tables.specs.Laws.{StateIsChanged}
 use Rattle.dip_tables.proofs.Authors.{authored, with_seats, games_authored, ordering_alone, noted_keys}
 use Rattle.dip_tables.proofs.Effects.{game_behind, games_reached}
 use Rattle.dip_tables.proofs.Lists.{change_at_twice}
@@ -22,7 +21,7 @@ use Rattle.dip_tables.proofs.Records.{kept_back}
 use Rattle.dip_tables.proofs.Seats.{coded_map, apart_map, either_way}
 
 -- the master's row is there
-abbrev HasDesk : List DeskRow → Type 0
+abbrev pub HasDesk : List DeskRow → Type 0
 HasDesk ds = (d : DeskRow) × (ds ≡ d ∷ []) × ((d.id == 1) ≡ true)
 
 module _ (m : Chart) (name : List ℕ) (k : Kept) (e : Effect) (t : Tables) where
@@ -34,23 +33,23 @@ module _ (m : Chart) (name : List ℕ) (k : Kept) (e : Effect) (t : Tables) wher
       ∙ ap (λ ds. record (desk_of ds) { kept = Some k }) (sym it.1)
   noted_desk (Seat power) numbered it = refl
 
-  desk_noted_stays : (who : Author) → HasDesk t.desk → HasDesk (noting m who name k e t).desk
+  pub desk_noted_stays : (who : Author) → HasDesk t.desk → HasDesk (noting m who name k e t).desk
   desk_noted_stays Nobody it = it
   desk_noted_stays TheMaster it = (desk_noted k it.0, ap (update_where (λ d. d.id == 1) (desk_noted k)) it.1 ∙ rw it.2 refl, it.2)
   desk_noted_stays (Seat power) it = it
 
-  noted_games : (who : Author) → (noting m who name k e t).games ≡ t.games
+  pub noted_games : (who : Author) → (noting m who name k e t).games ≡ t.games
   noted_games Nobody = refl
   noted_games TheMaster = refl
   noted_games (Seat power) = refl
 
-  abbrev noted : ℕ → SeatRow → SeatRow
+  abbrev pub noted : ℕ → SeatRow → SeatRow
   noted power s = cond (is_seat name (power_name m power) s) (seat_noted k e s) s
 
-  noted_game : (power : ℕ) (s : SeatRow) → (noted power s).game ≡ s.game
+  pub noted_game : (power : ℕ) (s : SeatRow) → (noted power s).game ≡ s.game
   noted_game power s = either_way (λ r. r.game) (is_seat name (power_name m power) s) (seat_noted k e s) s (noted_keys k e s).0
 
-  noted_power : (power : ℕ) (s : SeatRow) → (noted power s).power ≡ s.power
+  pub noted_power : (power : ℕ) (s : SeatRow) → (noted power s).power ≡ s.power
   noted_power power s = either_way (λ r. r.power) (is_seat name (power_name m power) s) (seat_noted k e s) s (noted_keys k e s).1
 
   noted_coded : (who : Author) → AllByRecursion (IsSeatOf m) t.seats → AllByRecursion (IsSeatOf m) (noting m who name k e t).seats
@@ -82,7 +81,7 @@ module _ (m : Chart) (name : List ℕ) (k : Kept) (e : Effect) (t : Tables) wher
         }
 
 -- no effect touches the master's row
-reached_desk : (m : Chart) (name : List ℕ) (e : Effect) (t : Tables) → (reaching m name e t).desk ≡ t.desk
+pub reached_desk : (m : Chart) (name : List ℕ) (e : Effect) (t : Tables) → (reaching m name e t).desk ≡ t.desk
 reached_desk m name Nothing t = refl
 reached_desk m name (Pending orders) t = refl
 reached_desk m name (Votes draw) t = refl
@@ -90,25 +89,6 @@ reached_desk m name (Delivers readers item) t = refl
 reached_desk m name (Opens public paper seats) t = refl
 reached_desk m name (Publishes public paper played) t = refl
 reached_desk m name (Seats seat) t = refl
-
-new_seats : (m : Chart) (name : List ℕ) (ss : List NewSeat) → AllByRecursion (λ s. s.power < length m.realms) ss → AllByRecursion (IsSeatOf m) (map (seat_row m name) ss)
-new_seats m name ss low = all_map (IsSeatOf m) (seat_row m name) ss (all_weaker _ (λ s. IsSeatOf m (seat_row m name s)) (λ s h. (s.power, h, refl)) ss low)
-
-reached_coded : (m : Chart) (name : List ℕ) (e : Effect) (t : Tables) → IsEffectOf m e → AllByRecursion (IsSeatOf m) t.seats → AllByRecursion (IsSeatOf m) (reaching m name e t).seats
-reached_coded m name Nothing t fits all = all
-reached_coded m name (Pending orders) t fits all = all
-reached_coded m name (Votes draw) t fits all = all
-reached_coded m name (Delivers readers item) t fits all =
-    coded_map (λ s. cond (is_reader m name readers s) (one_more s) s) (λ s. either_way (λ r. r.game) (is_reader m name readers s) (one_more s) s refl)
-    (λ s. either_way (λ r. r.power) (is_reader m name readers s) (one_more s) s refl) m t.seats all
-reached_coded m name (Opens public paper seats) t fits all =
-    all-append (IsSeatOf m) (delete_where (is_seat_in public.game) t.seats) (map (seat_row m public.game) seats)
-    (all-filter (IsSeatOf m) (λ s. not (is_seat_in public.game s)) t.seats all) (new_seats m public.game seats fits.2)
-reached_coded m name (Publishes public paper played) t fits all = all
-reached_coded m name (Seats seat) t fits all =
-    coded_map (λ s. cond (is_seat name (power_name m seat.power) s) (record s { digest = seat.digest }) s)
-    (λ s. either_way (λ r. r.game) (is_seat name (power_name m seat.power) s) (record s { digest = seat.digest }) s refl)
-    (λ s. either_way (λ r. r.power) (is_seat name (power_name m seat.power) s) (record s { digest = seat.digest }) s refl) m t.seats all
 
 pub state_changed : (m : Chart) → IsMap m → StateIsChanged m
 state_changed m ok c t fits coded apart later =
@@ -122,11 +102,3 @@ state_changed m ok c t fits coded apart later =
     (ap (change_at bytes_eq name_of c.game (game_behind c.effect)) first
     ∙ change_at_twice bytes_eq name_of c.game (with_seats c.author c.kept c.effect) (game_behind c.effect) (map (game_of m t) t.games) (λ g. refl)) in
     λ i. record { desk = desk i; games = games i }
-
-pub tables_stay_coded : (m : Chart) → TablesStayCoded m
-tables_stay_coded m c t fits coded =
-    let u = authored m c.author c.game c.kept c.effect t in
-    record {
-      desk = subst HasDesk (sym (reached_desk m c.game c.effect u ∙ mid_desk m c.game c.kept c.effect t c.author)) (desk_noted_stays m c.game c.kept c.effect t c.author coded.desk);
-      seats = reached_coded m c.game c.effect u fits.effect (mid_coded m c.game c.kept c.effect t c.author coded.seats);
-    }

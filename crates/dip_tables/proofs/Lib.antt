@@ -10,3 +10,5 @@ mod Press
 mod Openings
 mod Effects
 mod Changes
+mod Coded
+mod Counts

@@ -20,6 +20,15 @@ use Rattle.dip_tables.proofs.Lists.{map_on, all_passed, none_narrower, far_delet
 use Rattle.dip_tables.proofs.Records.{power_back}
 use Rattle.dip_tables.proofs.Seats.{name_turned}
 
+-- a game that stands behind others of other names
+pub ends_apart : (gs : List GameRow) (g : GameRow) → IsAscending (λ a b. same_name a b ≡ false) (gs ++ g ∷ []) → AllByRecursion (λ a. bytes_eq a.name g.name ≡ false) gs
+ends_apart [] g up = tt
+ends_apart (a ∷ gs) g up = (last_of gs up.0, ends_apart gs g up.1)
+  where
+    last_of : (bs : List GameRow) → AllByRecursion (λ b. same_name a b ≡ false) (bs ++ g ∷ []) → bytes_eq a.name g.name ≡ false
+    last_of [] all = all.0
+    last_of (b ∷ bs) all = last_of bs all.1
+
 module _ (m : Chart) (ok : IsMap m) (p : Public) (paper : List ℕ) (seats : List NewSeat) (t : Tables) where
   abbrev new : Tables
   new = opening m p paper seats t
@@ -85,15 +94,6 @@ module _ (m : Chart) (ok : IsMap m) (p : Public) (paper : List ℕ) (seats : Lis
         papers = papers i;
         seats = parts i;
       }
-
-  -- a game that stands behind others of other names
-  ends_apart : (gs : List GameRow) (g : GameRow) → IsAscending (λ a b. same_name a b ≡ false) (gs ++ g ∷ []) → AllByRecursion (λ a. bytes_eq a.name g.name ≡ false) gs
-  ends_apart [] g up = tt
-  ends_apart (a ∷ gs) g up = (last_of gs up.0, ends_apart gs g up.1)
-    where
-      last_of : (bs : List GameRow) → AllByRecursion (λ b. same_name a b ≡ false) (bs ++ g ∷ []) → bytes_eq a.name g.name ≡ false
-      last_of [] all = all.0
-      last_of (b ∷ bs) all = last_of bs all.1
 
   pub games_opened : IsOf m p.board → IsStatusOf m p.status → AllByRecursion (λ s. s.power < length m.realms) seats → IsAscending (λ a b. same_name a b ≡ false) new.games
       → map (game_of m new) new.games ≡ map (game_of m t) t.games ++ opening_game p paper seats ∷ []

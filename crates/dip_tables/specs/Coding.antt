@@ -1,23 +1,28 @@
 -- What holds of tables that a keeper wrote by a map, and of changes that it can write.
-use Rattle.std.specs.Prelude.{◌≡◌, ◌<◌, ◌==◌, ℕ, Bool, true, false, [], ◌∷◌, length, bytes_eq}
-use Rattle.std.specs.List.{AllByRecursion}
+use Rattle.std.specs.Prelude.{◌≡◌, ◌<◌, ◌==◌, ℕ, Bool, true, false, [], ◌∷◌, length, bytes_eq, List}
+use Rattle.std.specs.List.{AllByRecursion, list_any}
 use Rattle.sqlite_trees.specs.Tree.{IsAscending}
 use Rattle.dip_chart.specs.Charts.{Chart}
 use Rattle.dip_board.specs.Boards.{IsOf}
 use Rattle.dip_board_rows.specs.Boards.{power_name}
 use Rattle.dip_records.specs.Records.{Item, White, Grey, Status, Running, Paused, Closed, Ended, Won, Drawn}
 use Rattle.dip_machine.specs.State.{Author, Nobody, TheMaster, Seat, Effect, Nothing, Pending, Votes, Delivers, Opens, Publishes, Seats, Change}
-use Rattle.dip_tables.specs.Tables.{DeskRow, GameRow, SeatRow, Tables, is_seat}
+use Rattle.dip_tables.specs.Tables.{DeskRow, GameRow, SeatRow, Tables, is_named, is_seat}
 use Rattle.dip_tables.specs.Texts.{Lacks, IsWord}
 
 -- the seat's power is one of the map
 abbrev pub IsSeatOf : Chart → SeatRow → Type 0
 IsSeatOf m s = (p : ℕ) × (p < length m.realms) × (s.power ≡ power_name m p)
 
--- the master's row is there, and each seat's power is one of the map
+-- the game of that name is there
+abbrev pub HasGame : List GameRow → List ℕ → Type 0
+HasGame games name = list_any (is_named name) games ≡ true
+
+-- the master's row is there, each seat's power is one of the map, and its game is there
 pub record AreCoded (m : Chart) (t : Tables) : Type 0 where
   pub desk : (d : DeskRow) × (t.desk ≡ d ∷ []) × ((d.id == 1) ≡ true)
   pub seats : AllByRecursion (IsSeatOf m) t.seats
+  pub games : AllByRecursion (λ s. HasGame t.games s.game) t.seats
 
 abbrev pub same_name : GameRow → GameRow → Bool
 same_name a b = bytes_eq a.name b.name

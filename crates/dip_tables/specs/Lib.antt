@@ -1,5 +1,6 @@
 pub mod Changing
 pub mod Coding
+pub mod Counting
 pub mod Laws
 pub mod Reading
 pub mod Tables

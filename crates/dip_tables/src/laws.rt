@@ -1,6 +1,6 @@
 //! Laws of the tables, each the contract of a function that does nothing.
 ghost use Rattle.dip_chart.specs.Charts.{Chart, IsMap};
-ghost use Rattle.dip_tables.specs.Laws.{StateIsChanged, TablesStayCoded};
+ghost use Rattle.dip_tables.specs.Laws.{StateIsChanged, TablesStayCoded, TablesStayCounted};
 
 /// What the statements of a change do is the change: behind them the tables say the state after it.
 pub fn state_is_changed()
@@ -10,4 +10,9 @@ pub fn state_is_changed()
 /// Behind the statements of a change the tables are still such as a keeper wrote.
 pub fn tables_stay_coded()
     ensures { (m : Chart) → TablesStayCoded m }
+{}
+
+/// And papers and items are still numbered from 1, where a change's paper has the next number of its game.
+pub fn tables_stay_counted()
+    ensures { (m : Chart) → TablesStayCounted m }
 {}

@@ -4,4 +4,4 @@
 
 mod laws;
 
-pub use laws::{state_is_changed, tables_stay_coded};
+pub use laws::{state_is_changed, tables_stay_coded, tables_stay_counted};

@@ -1,10 +1,9 @@
 -- Two steps that may be made in one state.
-use Rattle.std.proofs.Common.{◌≡◌, List, [], ◌∷◌, sym, inl, inr}
+use Rattle.std.proofs.Common.{◌≡◌, [], ◌∷◌, inl, inr}
 use mathlib.Core.Logic.{◌⊎◌}
 use Rattle.std.proofs.lemmas.Bool.{or_left}
 use Rattle.std.specs.Prelude.{true, false}
-use Rattle.dip_decide.specs.declared.decisions.Decision.{Decision}
-use Rattle.dip_decide.specs.Deciding.{Known, Assignment, IsForced, IsCircle, Stands, Step, is_among, give}
+use Rattle.dip_decide.specs.Deciding.{Known, Assignment, Stands, Step, give}
 use Rattle.dip_decide.specs.Deciding.Step.{Forced, Circle, Knot}
 use Rattle.dip_decide.specs.Movement.{Situation, rule, mentions}
 use Rattle.dip_decide.specs.Statements.{Commute}

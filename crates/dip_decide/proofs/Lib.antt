@@ -21,3 +21,4 @@ pub mod Tested
 pub mod Searches
 pub mod Mentioners
 pub mod Commuting
+mod Among

@@ -43,6 +43,10 @@ distinct_places (o ∷ orders) = rw (others orders, distinct_places orders) refl
     others [] = refl
     others (x ∷ more) = ap (λ (b : Bool). (x.unit.place.prov == o.unit.place.prov) || b) (others more)
 
+-- the provinces of a board's units, by their orders
+pub single : (orders : List PlacedOrder) (units : List AUnit) → units_of orders ≡ units → are_units_single units ≡ true → are_provs_single (provinces_of orders) ≡ true
+single orders units e a = distinct_places orders ∙ ap are_units_single e ∙ a
+
 module _ (m : Chart) (orders : List PlacedOrder) (force : are_in_force orders ≡ true) where
   who : Standing
   who = order_at orders

@@ -12,10 +12,11 @@ use Rattle.dip_orders.specs.declared.placed.PlacedOrder.{PlacedOrder}
 use Rattle.dip_decide.specs.Matching.{order_at, provinces_of, target_of, is_convoyed, supports_in, situation, situation_by}
 use Rattle.dip_decide.specs.declared.decisions.Decision.{Decision}
 use Rattle.dip_decide.specs.declared.decisions.Decision.TheVariants.{Move, Path, Support}
-use Rattle.dip_decide.specs.declared.table.Table.{Table}
+use Rattle.dip_decide.specs.declared.placed.Table.{Table}
 use Rattle.dip_decide.specs.declared.values.Values.{Values}
 use Rattle.dip_decide.specs.Movement.{at_first}
-use Rattle.dip_decide.specs.Given.{rows_of, entry, situation_of, known_of, at_start, moves_at_start, paths_at_start, supports_at_start}
+use Rattle.dip_decide.specs.Placed.{entry}
+use Rattle.dip_decide.specs.Given.{rows_of, situation_of, known_of, at_start, moves_at_start, paths_at_start, supports_at_start}
 
 -- the row of a province that is counted, and of one behind them
 entry_within : (orders : List PlacedOrder) (a k p : ℕ) → p < k → entry (map (order_at orders) (range_with_len a k)) p ≡ order_at orders (a + p)
@@ -44,8 +45,10 @@ entries m orders a = fun_ext (λ p. go p (cases_lt p (length m.provinces)))
     go p (inl h) = entry_within orders 0 (length m.provinces) p h ∙ ap (order_at orders) (omega arith)
     go p (inr h) = entry_behind orders 0 (length m.provinces) p h ∙ sym (none_behind orders (length m.provinces) p (recursion_from_All _ _ a) h)
 
-pub seen_law : (m : Chart) (orders : List PlacedOrder) → All (λ o. o.unit.place.prov < length m.provinces) orders → situation_by m (provinces_of orders) (entry (rows_of orders m)) ≡ situation m orders
-seen_law m orders a = ap (situation_by m (provinces_of orders)) (entries m orders a)
+pub seen_law : (m : Chart) (orders : List PlacedOrder) (places : List ℕ) (rows : List (Option PlacedOrder)) → places ≡ provinces_of orders → rows ≡ rows_of orders m
+    → All (λ o. o.unit.place.prov < length m.provinces) orders → situation_by m places (entry rows) ≡ situation m orders
+seen_law m orders places rows p r a =
+    ap (λ (ps : List ℕ). situation_by m ps (entry rows)) p ∙ ap (λ (xs : List (Option PlacedOrder)). situation_by m (provinces_of orders) (entry xs)) r ∙ ap (situation_by m (provinces_of orders)) (entries m orders a)
 
 -- a value for each row
 pub row_step : (f : Option PlacedOrder → Option Bool) (rows : List (Option PlacedOrder)) (row : Option PlacedOrder) (value : Option Bool) (front all : List (Option Bool)) (i : ℕ) → i < length rows → row ≡ get_or rows i row → value ≡ f row

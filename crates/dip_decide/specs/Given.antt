@@ -1,20 +1,16 @@
 -- What the lists of the code stand for.
 use Rattle.std.specs.Prelude.{Bool, false, List, map, Option, None, Some, is_some, if◌then◌else◌}
-use Rattle.std.specs.List.{list_any, slice_get, slice_index_or}
-use Rattle.std.specs.Option.{unwrap_or}
+use Rattle.std.specs.List.{list_any, slice_index_or}
 use Rattle.dip_chart.specs.Charts.{Chart, provs}
 use Rattle.dip_orders.specs.declared.placed.PlacedOrder.{PlacedOrder}
 use Rattle.dip_decide.specs.declared.decisions.Decision.{Decision}
 use Rattle.dip_decide.specs.declared.decisions.Decision.TheVariants.{Move, Path, Support}
-use Rattle.dip_decide.specs.declared.table.Table.{Table}
+use Rattle.dip_decide.specs.declared.placed.Table.{Table}
 use Rattle.dip_decide.specs.declared.values.Values.{Values}
 use Rattle.dip_decide.specs.Deciding.{Equation, Known, IsForced}
-use Rattle.dip_decide.specs.Matching.{Standing, order_at, target_of, is_convoyed, supports_in, situation_by}
+use Rattle.dip_decide.specs.Matching.{order_at, target_of, is_convoyed, supports_in, situation_by}
 use Rattle.dip_decide.specs.Movement.{Situation}
-
--- what a list has for a province, if it has something
-abbrev pub entry : List (Option PlacedOrder) → Standing
-entry rows p = unwrap_or (slice_get rows p) None
+use Rattle.dip_decide.specs.Placed.{entry}
 
 -- a row for each province: the order of the unit in it
 abbrev pub rows_of : List PlacedOrder → Chart → List (Option PlacedOrder)

@@ -2,6 +2,7 @@ pub mod Deciding
 pub mod Movement
 pub mod Matching
 pub mod Chains
+pub mod Placed
 pub mod Given
 pub mod Corners
 pub mod Steps

@@ -5,7 +5,7 @@ ghost use Rattle.dip_decide.specs.Movement.{is_listed};
 ghost use Rattle.dip_decide.specs.Chains.{IsSought, IsSpread};
 
 use crate::lists::is_in;
-use crate::table::Table;
+use crate::placed::Table;
 use dip_names::Prov;
 use std::alloc::{AllocError, Global};
 

@@ -8,7 +8,7 @@ ghost use Rattle.dip_decide.specs.Steps.{is_unknown, IsStarted, open_paths};
 
 use crate::decisions::Decision;
 use crate::lists::{copy_of, is_in};
-use crate::table::Table;
+use crate::placed::Table;
 use crate::values::Values;
 use dip_names::Prov;
 use std::alloc::{AllocError, Global};

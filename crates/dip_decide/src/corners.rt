@@ -1,15 +1,15 @@
 //! Strengths and values at the least and the greatest completion.
-ghost use Rattle.std.specs.Prelude.{◌≡◌, not, Some, IfOk, filter};
-ghost use Rattle.std.specs.List.{list_all};
+ghost use Rattle.std.specs.Prelude.{◌≡◌, ◌&&◌, not, Some, IfOk, filter};
+ghost use Rattle.std.specs.List.{count_by, list_all, list_any};
 ghost use Rattle.dip_decide.specs.Corners.{rises, values};
 ghost use Rattle.dip_decide.specs.Given.{situation_of};
-ghost use Rattle.dip_decide.specs.declared.decisions.Decision.TheVariants.{Move, Path};
-ghost use Rattle.dip_decide.specs.Movement.{has_path, support, support_against, attack, hold, prevent, opposition, beats, succeeds, cuts, is_support, is_entered, serves, path_rule, rule, IsSituation};
+ghost use Rattle.dip_decide.specs.declared.decisions.Decision.TheVariants.{Move, Path, Support};
+ghost use Rattle.dip_decide.specs.Movement.{goes, has_path, support, support_against, attack, hold, prevent, opposition, beats, succeeds, cuts, is_support, is_entered, serves, path_rule, rule, IsSituation};
 
 use crate::chains::joins;
 use crate::decisions::Decision;
 use crate::lists::copy_of;
-use crate::table::Table;
+use crate::placed::Table;
 use crate::values::Values;
 use dip_names::Prov;
 use std::alloc::{AllocError, Global};
@@ -59,21 +59,31 @@ impl Corner<'_> {
         !self.table.is_convoyed(p) || self.value(&Decision::Path(p))
     }
 
-    fn support(&self, p: Prov) -> usize
-        ensures { result ≡ support (situation_of self.now.table.now) (values self.now) p }
+    /// How many of these have a given support for a unit.
+    fn support_of(&self, helpers: &[Prov], p: Prov) -> usize
+        ensures { result ≡ count_by
+            (λ h. (situation_of self.now.table.now).supports h p && values self.now (Support h))
+            helpers.now }
     {
-        self.table
-            .places
+        helpers
             .iter()
             .filter(|h| self.table.supports(**h, p) && self.value(&Decision::Support(**h)))
             .count()
     }
 
-    fn support_against(&self, p: Prov, q: Prov) -> usize
-        ensures { result ≡ support_against (situation_of self.now.table.now) (values self.now) p q }
+    fn support(&self, p: Prov) -> usize
+        ensures { result ≡ support (situation_of self.now.table.now) (values self.now) p }
     {
-        self.table
-            .places
+        self.support_of(self.table.helpers_of(p), p)
+    }
+
+    /// How many of these have a given support for a unit, but for those of the power of another.
+    fn support_of_others(&self, helpers: &[Prov], p: Prov, q: Prov) -> usize
+        ensures { result ≡ count_by
+            (λ h. ((situation_of self.now.table.now).supports h p && values self.now (Support h))
+            && not ((situation_of self.now.table.now).same_power h q)) helpers.now }
+    {
+        helpers
             .iter()
             .filter(|h| {
                 self.table.supports(**h, p)
@@ -81,6 +91,12 @@ impl Corner<'_> {
                     && !self.table.same_power(**h, q)
             })
             .count()
+    }
+
+    fn support_against(&self, p: Prov, q: Prov) -> usize
+        ensures { result ≡ support_against (situation_of self.now.table.now) (values self.now) p q }
+    {
+        self.support_of_others(self.table.helpers_of(p), p, q)
     }
 
     fn attack(&self, p: Prov, q: Prov) -> usize
@@ -137,11 +153,19 @@ impl Corner<'_> {
         w == p || !self.table.goes(w, q) || self.prevent(w, q) < self.attack(p, q)
     }
 
+    /// Whether the move of a unit to a province beats all of these.
+    fn beats_all(&self, p: Prov, q: Prov, others: &[Prov]) -> bool
+        ensures { result ≡ list_all (beats (situation_of self.now.table.now) (values self.now) p q)
+            others.now }
+    {
+        others.iter().all(|w| self.beats(p, q, *w))
+    }
+
     fn are_free(&self, p: Prov, q: Prov) -> bool
         ensures { result ≡ list_all (beats (situation_of self.now.table.now) (values self.now) p q)
             self.now.table.now.places.items }
     {
-        self.table.places.iter().all(|w| self.beats(p, q, *w))
+        self.beats_all(p, q, self.table.movers_to(q))
     }
 
     fn succeeds(&self, p: Prov, q: Prov) -> bool
@@ -162,12 +186,20 @@ impl Corner<'_> {
             }
     }
 
+    /// Whether none of these cuts a support.
+    fn none_cuts(&self, h: Prov, movers: &[Prov]) -> bool
+        ensures { result ≡ list_all
+            (λ x. not (cuts (situation_of self.now.table.now) (values self.now) h x)) movers.now }
+    {
+        movers.iter().all(|x| !self.cuts(h, *x))
+    }
+
     fn is_uncut(&self, h: Prov) -> bool
         ensures { result ≡ list_all
             (λ x. not (cuts (situation_of self.now.table.now) (values self.now) h x))
             self.now.table.now.places.items }
     {
-        self.table.places.iter().all(|x| !self.cuts(h, *x))
+        self.none_cuts(h, self.table.movers_to(h))
     }
 
     fn is_support(&self, h: Prov) -> bool
@@ -186,11 +218,20 @@ impl Corner<'_> {
         }
     }
 
+    /// Whether one of these enters a province.
+    fn one_enters(&self, movers: &[Prov], x: Prov) -> bool
+        ensures { result ≡ list_any
+            (λ m. goes (situation_of self.now.table.now) m x && values self.now (Move m))
+            movers.now }
+    {
+        movers.iter().any(|m| self.table.goes(*m, x) && self.value(&Decision::Move(*m)))
+    }
+
     /// Whether a move that succeeds enters a province.
     fn is_entered(&self, x: Prov) -> bool
         ensures { result ≡ is_entered (situation_of self.now.table.now) (values self.now) x }
     {
-        self.table.places.iter().any(|m| self.table.goes(*m, x) && self.value(&Decision::Move(*m)))
+        self.one_enters(self.table.movers_to(x), x)
     }
 
     fn serves(&self, p: Prov, x: Prov) -> bool
@@ -205,7 +246,7 @@ impl Corner<'_> {
             (λ v. v.items ≡ filter (serves (situation_of self.now.table.now) (values self.now) p)
             self.now.table.now.places.items) }
     {
-        let mut fleets = copy_of(alloc, self.table.places.as_slice())?;
+        let mut fleets = copy_of(alloc, self.table.carriers_of(p))?;
         fleets.retain(|x| self.serves(p, *x));
         Ok(fleets)
     }

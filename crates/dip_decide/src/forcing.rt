@@ -5,7 +5,7 @@ ghost use Rattle.dip_decide.specs.Movement.{rule, IsSituation};
 
 use crate::corners::Corner;
 use crate::decisions::Decision;
-use crate::table::Table;
+use crate::placed::Table;
 use crate::values::Values;
 use std::alloc::{AllocError, Global};
 

@@ -10,6 +10,7 @@ mod laws;
 mod lists;
 mod matching;
 mod mentioning;
+mod placed;
 mod resolving;
 mod starting;
 mod table;

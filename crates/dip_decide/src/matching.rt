@@ -3,11 +3,12 @@ ghost use Rattle.std.specs.Prelude.{◌≡◌, ◌==◌, Some};
 ghost use Rattle.std.specs.List.{list_any};
 ghost use Rattle.dip_chart.specs.Charts.{province, shore};
 ghost use Rattle.dip_names.specs.Kinds.{is_kind, is_sea};
-ghost use Rattle.dip_decide.specs.Given.{entry, situation_of};
+ghost use Rattle.dip_decide.specs.Given.{situation_of};
+ghost use Rattle.dip_decide.specs.Placed.{entry, helped, helped_of, carried, carried_of, keyed_by};
 ghost use Rattle.dip_decide.specs.Matching.{destination, target_of, goes_by_convoy, is_convoyed, is_there, is_matched, supports_in, direction, is_carried, convoys_in, is_sea_next};
 ghost use Rattle.dip_decide.specs.Movement.{goes, head_to_head, has_move, is_at};
 
-use crate::table::Table;
+use crate::placed::Table;
 use dip_map::Map;
 use dip_names::{Kind, Place, Prov};
 use dip_orders::{Order, Other, PlacedOrder};
@@ -39,6 +40,46 @@ fn goes_by_convoy(map: &Map, kind: Kind, p: Prov, order: Order) -> bool
     match (kind, order) {
         (Kind::Army, Order::Move { to, via }) => via || !map.is_army_next(p, to.prov),
         _ => false,
+    }
+}
+
+/// The unit that an order supports, whether it matches or not.
+fn helped(order: Order) -> Option<Prov>
+    ensures { result ≡ helped order }
+{
+    match order {
+        Order::SupportHold { at } | Order::SupportMove { at, .. } => Some(at.prov),
+        _ => None,
+    }
+}
+
+/// The unit that one supports that has this order, if one is there.
+pub(crate) fn helped_of(row: &Option<PlacedOrder>) -> Option<Prov>
+    ensures { result ≡ helped_of row.now }
+{
+    match row {
+        Some(placed) => helped(placed.order),
+        None => None,
+    }
+}
+
+/// The unit that an order convoys, whether it matches or not.
+fn carried(order: Order) -> Option<Prov>
+    ensures { result ≡ carried order }
+{
+    match order {
+        Order::Convoy { at, .. } => Some(at.prov),
+        _ => None,
+    }
+}
+
+/// The unit that one convoys that has this order, if one is there.
+pub(crate) fn carried_of(row: &Option<PlacedOrder>) -> Option<Prov>
+    ensures { result ≡ carried_of row.now }
+{
+    match row {
+        Some(placed) => carried(placed.order),
+        None => None,
     }
 }
 
@@ -97,6 +138,27 @@ impl Table<'_> {
             Some(order) => *order,
             None => None,
         }
+    }
+
+    /// The units that go to a province.
+    pub(crate) fn movers_to(&self, q: Prov) -> &[Prov]
+        ensures { result.now ≡ keyed_by target_of self.now.places.items self.now.rows.items q }
+    {
+        self.movers.of(q)
+    }
+
+    /// The units that support one, whether that matches or not.
+    pub(crate) fn helpers_of(&self, p: Prov) -> &[Prov]
+        ensures { result.now ≡ keyed_by helped_of self.now.places.items self.now.rows.items p }
+    {
+        self.helpers.of(p)
+    }
+
+    /// The units that convoy one, whether that matches or not.
+    pub(crate) fn carriers_of(&self, p: Prov) -> &[Prov]
+        ensures { result.now ≡ keyed_by carried_of self.now.places.items self.now.rows.items p }
+    {
+        self.carriers.of(p)
     }
 
     pub(crate) fn is_occupied(&self, p: Prov) -> bool

@@ -7,7 +7,7 @@ ghost use Rattle.dip_decide.specs.Movement.{IsSituation, mentions, move_mentions
 
 use crate::decisions::Decision;
 use crate::lists::is_in;
-use crate::table::Table;
+use crate::placed::Table;
 use dip_names::Prov;
 
 /// Whether a unit supports one of all that go to a province.

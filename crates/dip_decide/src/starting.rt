@@ -4,7 +4,7 @@ ghost use Rattle.dip_decide.specs.Given.{at_start, moves_at_start, paths_at_star
 ghost use Rattle.dip_decide.specs.Movement.{at_first};
 
 use crate::matching::{is_convoyed_of, target_of};
-use crate::table::Table;
+use crate::placed::Table;
 use crate::values::Values;
 use std::alloc::{AllocError, Global};
 

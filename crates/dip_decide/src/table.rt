@@ -1,22 +1,18 @@
 //! The orders of a movement by province.
-ghost use Rattle.std.specs.Prelude.{◌≡◌, ◌<◌, length, All, IfOk};
-ghost use Rattle.dip_decide.specs.Matching.{order_at, provinces_of, situation};
+ghost use Rattle.std.specs.Prelude.{◌≡◌, ◌<◌, ℕ, length, map, true, All, IfOk};
+ghost use Rattle.dip_chart.specs.Charts.{are_provs_single};
+ghost use Rattle.dip_lists.specs.Held.{units_of};
+ghost use Rattle.dip_decide.specs.Matching.{order_at, provinces_of, situation, target_of};
 ghost use Rattle.dip_decide.specs.Given.{rows_of, situation_of};
+ghost use Rattle.dip_decide.specs.Placed.{helped_of, carried_of, keyed_by};
 
+use crate::matching::{carried_of, helped_of, target_of};
+use crate::placed::Table;
+use dip_lists::{ByKey, by_key};
 use dip_map::Map;
 use dip_names::Prov;
 use dip_orders::PlacedOrder;
 use std::alloc::{AllocError, Global};
-
-/// The orders of a movement, by the numbers of the provinces.
-#[derive(Drop)]
-pub(crate) struct Table<'a> {
-    pub(crate) map: &'a Map,
-    /// The provinces with a unit.
-    pub(crate) places: Vec<Prov>,
-    /// The order of the unit in each province.
-    pub(crate) rows: Vec<Option<PlacedOrder>>,
-}
 
 fn order_in(orders: &[PlacedOrder], p: Prov) -> Option<PlacedOrder>
     ensures { result ≡ order_at orders.now p }
@@ -53,6 +49,76 @@ fn places_of(alloc: Global, orders: &[PlacedOrder]) -> Result<Vec<Prov>, AllocEr
     Ok(places)
 }
 
+fn targets(alloc: Global, rows: &[Option<PlacedOrder>]) -> Result<Vec<Option<Prov>>, AllocError>
+    ensures { IfOk result (λ v. v.items ≡ map target_of rows.now) }
+{
+    let mut targets = Vec::with_capacity(alloc, rows.len())?;
+    for row in rows {
+        targets.push(target_of(row))?;
+    }
+    Ok(targets)
+}
+
+fn helped(alloc: Global, rows: &[Option<PlacedOrder>]) -> Result<Vec<Option<Prov>>, AllocError>
+    ensures { IfOk result (λ v. v.items ≡ map helped_of rows.now) }
+{
+    let mut helped = Vec::with_capacity(alloc, rows.len())?;
+    for row in rows {
+        helped.push(helped_of(row))?;
+    }
+    Ok(helped)
+}
+
+fn carried(alloc: Global, rows: &[Option<PlacedOrder>]) -> Result<Vec<Option<Prov>>, AllocError>
+    ensures { IfOk result (λ v. v.items ≡ map carried_of rows.now) }
+{
+    let mut carried = Vec::with_capacity(alloc, rows.len())?;
+    for row in rows {
+        carried.push(carried_of(row))?;
+    }
+    Ok(carried)
+}
+
+/// The units by where they go.
+fn movers_of(
+    alloc: Global,
+    places: &[Prov],
+    rows: &[Option<PlacedOrder>],
+) -> Result<ByKey, AllocError>
+    requires single { are_provs_single places.now ≡ true }
+    ensures { IfOk result (λ b. (q : ℕ) → units_of b q ≡ keyed_by target_of places.now rows.now q) }
+{
+    let keys = targets(alloc, rows)?;
+    by_key(alloc, places, keys.as_slice())
+}
+
+/// The units by the one that they support.
+fn helpers_of(
+    alloc: Global,
+    places: &[Prov],
+    rows: &[Option<PlacedOrder>],
+) -> Result<ByKey, AllocError>
+    requires single { are_provs_single places.now ≡ true }
+    ensures { IfOk result (λ b. (q : ℕ) → units_of b q ≡ keyed_by helped_of places.now rows.now q) }
+{
+    let keys = helped(alloc, rows)?;
+    by_key(alloc, places, keys.as_slice())
+}
+
+/// The units by the one that they convoy.
+fn carriers_of(
+    alloc: Global,
+    places: &[Prov],
+    rows: &[Option<PlacedOrder>],
+) -> Result<ByKey, AllocError>
+    requires single { are_provs_single places.now ≡ true }
+    ensures { IfOk result
+        (λ b. (q : ℕ) → units_of b q ≡ keyed_by carried_of places.now rows.now q) }
+{
+    let keys = carried(alloc, rows)?;
+    by_key(alloc, places, keys.as_slice())
+}
+
 /// The table of these orders.
 pub(crate) fn table_of<'a>(
     alloc: Global,
@@ -60,9 +126,20 @@ pub(crate) fn table_of<'a>(
     orders: &[PlacedOrder],
 ) -> Result<Table<'a>, AllocError>
     requires within { All (λ o. o.unit.place.prov < length map.now.provinces) orders.now }
+    requires single { are_provs_single (provinces_of orders.now) ≡ true }
     ensures { IfOk result (λ t. situation_of t ≡ situation map.now orders.now) }
 {
     let places = places_of(alloc, orders)?;
     let rows = rows_of(alloc, map, orders)?;
-    Ok(Table { map, places, rows })
+    let movers = movers_of(alloc, places.as_slice(), rows.as_slice())?;
+    let helpers = helpers_of(alloc, places.as_slice(), rows.as_slice())?;
+    let carriers = carriers_of(alloc, places.as_slice(), rows.as_slice())?;
+    Ok(Table {
+        map,
+        places,
+        rows,
+        movers,
+        helpers,
+        carriers,
+    })
 }

@@ -10,7 +10,7 @@ ghost use Rattle.dip_decide.specs.Working.{Counts, IsWork, StaysWork};
 
 use crate::circles::{open_paths, ring_in};
 use crate::decisions::{Decision, Step};
-use crate::table::Table;
+use crate::placed::Table;
 use crate::values::Values;
 use crate::working::{put_moves, put_paths, work_at_start, work_off};
 use dip_names::Prov;

@@ -11,7 +11,7 @@ ghost use Rattle.dip_decide.specs.Working.{weight, opens, Counts, IsPut, IsListe
 use crate::decisions::{Decision, Step};
 use crate::forcing::forced;
 use crate::mentioning::mentions;
-use crate::table::Table;
+use crate::placed::Table;
 use crate::values::Values;
 use dip_names::Prov;
 use std::alloc::{AllocError, Global};

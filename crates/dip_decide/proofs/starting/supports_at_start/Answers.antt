@@ -1,6 +1,7 @@
 use Rattle.std.proofs.Common.{arith, ap, ◌∙◌}
 use Rattle.std.specs.List.{list_any}
-use Rattle.dip_decide.specs.Given.{at_start, entry}
+use Rattle.dip_decide.specs.Given.{at_start}
+use Rattle.dip_decide.specs.Placed.{entry}
 use Rattle.dip_decide.specs.Matching.{supports_in}
 use Rattle.dip_decide.proofs.TableLaws.{row_step}
 use Rattle.dip_decide.proofs.starting.supports_at_start.Goals as goal

@@ -1,0 +1,8 @@
+use Rattle.std.proofs.Common.{◌∙◌, refl}
+use Rattle.dip_decide.specs.Matching.{target_of}
+use Rattle.dip_decide.proofs.Among.{keyed}
+use Rattle.dip_decide.proofs.Rounds.{if_ok_more}
+use Rattle.dip_decide.proofs.table.movers_of.Goals as goal
+
+pub returns : goal.returns
+returns c = if_ok_more _ _ c.by_key.result (λ b h q. h q ∙ keyed target_of refl c.args.places.now c.args.rows.now q) (rw (c.as_slice.ensures.value, c.in_ok-keys.ensures) at c.by_key.ensures)

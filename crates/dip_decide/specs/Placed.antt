@@ -1,0 +1,35 @@
+-- The units of a table by what their orders name.
+use Rattle.std.specs.Prelude.{ℕ, List, filter, Option, None, Some}
+use Rattle.std.specs.List.{slice_get}
+use Rattle.std.specs.Option.{unwrap_or}
+use Rattle.dip_orders.specs.declared.placed.Order.{Order}
+use Rattle.dip_orders.specs.declared.placed.Order.TheVariants.{SupportHold, SupportMove, Convoy}
+use Rattle.dip_orders.specs.declared.placed.PlacedOrder.{PlacedOrder}
+use Rattle.dip_decide.specs.Movement.{is_at}
+
+-- what a list has for a province, if it has something
+abbrev pub entry : List (Option PlacedOrder) → ℕ → Option PlacedOrder
+entry rows p = unwrap_or (slice_get rows p) None
+
+-- the unit that an order supports, whether it matches or not
+abbrev pub helped : Order → Option ℕ
+helped (SupportHold at) = Some at.prov
+helped (SupportMove at to) = Some at.prov
+helped _ = None
+
+abbrev pub helped_of : Option PlacedOrder → Option ℕ
+helped_of None = None
+helped_of (Some o) = helped o.order
+
+-- the unit that an order convoys, whether it matches or not
+abbrev pub carried : Order → Option ℕ
+carried (Convoy at to) = Some at.prov
+carried _ = None
+
+abbrev pub carried_of : Option PlacedOrder → Option ℕ
+carried_of None = None
+carried_of (Some o) = carried o.order
+
+-- the units whose orders name q
+abbrev pub keyed_by : (Option PlacedOrder → Option ℕ) → List ℕ → List (Option PlacedOrder) → ℕ → List ℕ
+keyed_by f places rows q = filter (λ w. is_at (f (entry rows w)) q) places

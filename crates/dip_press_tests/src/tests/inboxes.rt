@@ -1,25 +1,93 @@
 //! Inboxes, ten items at a time.
-use dip_desk::MemoryKeeper;
-use dip_exchanges::{Mismatch, check_exchange, opened};
-use dip_map::{Map, STANDARD};
-use std::alloc::Global;
+use dip_exchanges::check_opened;
 use std::test::Fail;
 
 /// England's letters 1 to 12: each to Germany, and every other one to Italy too.
-fn check_twelve(alloc: Global, keeper: &mut MemoryKeeper, map: &Map) -> Result<(), Mismatch> {
-    for number in 1..13 {
-        let readers = if number % 2 == 0 {
-            "germany italy"
-        } else {
-            "germany"
-        };
-        let exchange = format!(in alloc;
-            "= england {number}\nPRESS WHITE TO {readers}\n> Letter {number}.\nEND\n< REPLY g1 england {number}\n< OK press\n< END\n"
-        )?;
-        check_exchange(alloc, keeper, map, exchange.as_str())?;
-    }
-    Ok(())
-}
+const TWELVE: &str = "= england 1
+PRESS WHITE TO germany
+> Letter 1.
+END
+< REPLY g1 england 1
+< OK press
+< END
+= england 2
+PRESS WHITE TO germany italy
+> Letter 2.
+END
+< REPLY g1 england 2
+< OK press
+< END
+= england 3
+PRESS WHITE TO germany
+> Letter 3.
+END
+< REPLY g1 england 3
+< OK press
+< END
+= england 4
+PRESS WHITE TO germany italy
+> Letter 4.
+END
+< REPLY g1 england 4
+< OK press
+< END
+= england 5
+PRESS WHITE TO germany
+> Letter 5.
+END
+< REPLY g1 england 5
+< OK press
+< END
+= england 6
+PRESS WHITE TO germany italy
+> Letter 6.
+END
+< REPLY g1 england 6
+< OK press
+< END
+= england 7
+PRESS WHITE TO germany
+> Letter 7.
+END
+< REPLY g1 england 7
+< OK press
+< END
+= england 8
+PRESS WHITE TO germany italy
+> Letter 8.
+END
+< REPLY g1 england 8
+< OK press
+< END
+= england 9
+PRESS WHITE TO germany
+> Letter 9.
+END
+< REPLY g1 england 9
+< OK press
+< END
+= england 10
+PRESS WHITE TO germany italy
+> Letter 10.
+END
+< REPLY g1 england 10
+< OK press
+< END
+= england 11
+PRESS WHITE TO germany
+> Letter 11.
+END
+< REPLY g1 england 11
+< OK press
+< END
+= england 12
+PRESS WHITE TO germany italy
+> Letter 12.
+END
+< REPLY g1 england 12
+< OK press
+< END
+";
 
 /// Germany reads from the first item on, from the third, the last, the one behind it, and far beyond.
 const PAGES: &str = "= germany 1
@@ -119,12 +187,7 @@ END
 
 #[test]
 fn an_inbox_is_read_ten_items_at_a_time(rt: HostRuntime) -> Result<(), Fail> {
-    let alloc = rt.alloc();
-    let map = Map::from_toml(alloc, STANDARD)?;
-    let mut keeper = opened(alloc, &map)?;
-    check_twelve(alloc, &mut keeper, &map)?;
-    check_exchange(alloc, &mut keeper, &map, PAGES)?;
-    Ok(check_exchange(alloc, &mut keeper, &map, OF_ITALY)?)
+    Ok(check_opened(rt.alloc(), &[TWELVE, PAGES, OF_ITALY])?)
 }
 
 /// The same INBOX again has the reply that is kept; the next one has what came since, and a tick takes nothing away.
@@ -174,8 +237,5 @@ END
 
 #[test]
 fn a_page_is_kept_as_other_replies(rt: HostRuntime) -> Result<(), Fail> {
-    let alloc = rt.alloc();
-    let map = Map::from_toml(alloc, STANDARD)?;
-    let mut keeper = opened(alloc, &map)?;
-    Ok(check_exchange(alloc, &mut keeper, &map, KEPT)?)
+    Ok(check_opened(rt.alloc(), &[KEPT])?)
 }

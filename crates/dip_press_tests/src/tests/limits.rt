@@ -1,11 +1,14 @@
 //! Letters of the greatest length.
-use dip_exchanges::{check_exchange, opened};
-use dip_map::{Map, STANDARD};
+use dip_exchanges::{Mismatch, check_opened};
 use std::alloc::{AllocError, Global};
 use std::test::Fail;
 
-/// A secret of 64 bytes.
-const SECRET: &str = "0123456789abcdef0123456789abcdef0123456789abcdef0123456789abcdef";
+/// England's letters under a secret of 64 bytes, up to their number.
+const HEAD: &str = "LETTER
+GAME g1
+FROM england
+SECRET 0123456789abcdef0123456789abcdef0123456789abcdef0123456789abcdef
+NUMBER ";
 
 const REPLACED: &str = "= master 2
 REPLACE england 0123456789abcdef0123456789abcdef0123456789abcdef0123456789abcdef
@@ -31,34 +34,55 @@ fn lines_of(alloc: Global, mark: &str) -> Result<String, AllocError> {
 
 /// Press of 80 lines of 200 bytes under England's long secret: 144 bytes and 80 times 203, one more for each digit of the number behind
 /// the second.
-fn longest(alloc: Global, number: u32) -> Result<String, AllocError> {
+fn longest(alloc: Global, number: &str) -> Result<String, AllocError> {
     let lines = lines_of(alloc, "> ")?;
-    let text = lines.as_str();
-    format!(in alloc;
-        "LETTER\nGAME g1\nFROM england\nSECRET {SECRET}\nNUMBER {number}\nPRESS WHITE TO france germany\n{text}END\n"
-    )
+    [
+        HEAD,
+        number,
+        "\nPRESS WHITE TO france germany\n",
+        lines.as_str(),
+        "END\n",
+    ]
+    .concat(alloc)
+}
+
+const TOO_LONG: &str = "< REPLY nobody 0
+< L5 letter over 16384 bytes
+< END
+";
+
+const TAKEN: &str = "< REPLY g1 england 10
+< OK press
+< END
+";
+
+/// France reads what came.
+fn reading(alloc: Global) -> Result<String, AllocError> {
+    let lines = lines_of(alloc, "< > ")?;
+    [
+        "= france 1\nINBOX 1\nEND\n< REPLY g1 france 1\n< INBOX 1\n< ITEM 1 white from england to france germany\n",
+        lines.as_str(),
+        "< END\n",
+    ]
+    .concat(alloc)
+}
+
+/// The first letter is too long, the second is taken, and France has it.
+fn check_read(alloc: Global, long: &str, fits: &str) -> Result<(), Mismatch> {
+    let sent = [long, TOO_LONG, fits, TAKEN].concat(alloc)?;
+    let read = reading(alloc)?;
+    check_opened(alloc, &[REPLACED, sent.as_str(), read.as_str()])
 }
 
 /// A letter of 16,385 bytes is too long, and the one of 16,384 bytes behind it is taken.
 #[test]
 fn a_letter_has_at_most_16384_bytes(rt: HostRuntime) -> Result<(), Fail> {
     let alloc = rt.alloc();
-    let map = Map::from_toml(alloc, STANDARD)?;
-    let mut keeper = opened(alloc, &map)?;
-    check_exchange(alloc, &mut keeper, &map, REPLACED)?;
-    let long = longest(alloc, 100)?;
-    let fits = longest(alloc, 10)?;
+    let long = longest(alloc, "100")?;
+    let fits = longest(alloc, "10")?;
     assert_eq!(rt; long.len(), 16385);
     assert_eq!(rt; fits.len(), 16384);
-    let exchange = format!(in alloc;
-        "{long}< REPLY nobody 0\n< L5 letter over 16384 bytes\n< END\n{fits}< REPLY g1 england 10\n< OK press\n< END\n"
-    )?;
-    check_exchange(alloc, &mut keeper, &map, exchange.as_str())?;
-    let lines = lines_of(alloc, "< > ")?;
-    let read = format!(in alloc;
-        "= france 1\nINBOX 1\nEND\n< REPLY g1 france 1\n< INBOX 1\n< ITEM 1 white from england to france germany\n{lines}< END\n"
-    )?;
-    Ok(check_exchange(alloc, &mut keeper, &map, read.as_str())?)
+    Ok(check_read(alloc, long.as_str(), fits.as_str())?)
 }
 
 /// Numbers and names past their limits are no letters: nobody is answered, and no number is used.
@@ -98,8 +122,5 @@ END
 
 #[test]
 fn what_is_past_the_limits_is_no_letter(rt: HostRuntime) -> Result<(), Fail> {
-    let alloc = rt.alloc();
-    let map = Map::from_toml(alloc, STANDARD)?;
-    let mut keeper = opened(alloc, &map)?;
-    Ok(check_exchange(alloc, &mut keeper, &map, BEYOND)?)
+    Ok(check_opened(rt.alloc(), &[BEYOND])?)
 }

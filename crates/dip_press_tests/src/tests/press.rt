@@ -1,6 +1,5 @@
 //! Press: who has it, how often, and whom it may name.
-use dip_exchanges::{check_exchange, opened, opened_without_grey};
-use dip_map::{Map, STANDARD};
+use dip_exchanges::{check_opened, check_opened_without_grey};
 use std::test::Fail;
 
 /// The same letter twice is one item; an older number, and another text under the number.
@@ -60,10 +59,7 @@ END
 
 #[test]
 fn press_that_comes_twice_is_one_item(rt: HostRuntime) -> Result<(), Fail> {
-    let alloc = rt.alloc();
-    let map = Map::from_toml(alloc, STANDARD)?;
-    let mut keeper = opened(alloc, &map)?;
-    Ok(check_exchange(alloc, &mut keeper, &map, TWICE)?)
+    Ok(check_opened(rt.alloc(), &[TWICE])?)
 }
 
 /// White and grey press to some and to all, whose lines have marks, words of letters and nothing in them.
@@ -114,44 +110,97 @@ END
 < END
 ";
 
-/// What each of the others has of the first two letters.
-const FOR_ALL: &str = "< ITEM 1 white from england to all
+/// What each of the others has of it.
+const CAME: &str = "= austria 1
+INBOX 1
+END
+< REPLY g1 austria 1
+< INBOX 3
+< ITEM 1 white from england to all
 < > To all of you:
 < > \n< > > quoted
 < > END
 < ITEM 2 grey to all
 < > Who knows?
-";
-
-const TO_TWO: &str = "< ITEM 3 white from england to turkey austria
+< ITEM 3 white from england to turkey austria
 < > You two.
-";
-
-const TO_FOUR: &str = "< ITEM 3 grey to you
+< END
+= france 1
+INBOX 1
+END
+< REPLY g1 france 1
+< INBOX 3
+< ITEM 1 white from england to all
+< > To all of you:
+< > \n< > > quoted
+< > END
+< ITEM 2 grey to all
+< > Who knows?
+< ITEM 3 grey to you
 < > You four.
+< END
+= germany 1
+INBOX 1
+END
+< REPLY g1 germany 1
+< INBOX 3
+< ITEM 1 white from england to all
+< > To all of you:
+< > \n< > > quoted
+< > END
+< ITEM 2 grey to all
+< > Who knows?
+< ITEM 3 grey to you
+< > You four.
+< END
+= italy 1
+INBOX 1
+END
+< REPLY g1 italy 1
+< INBOX 3
+< ITEM 1 white from england to all
+< > To all of you:
+< > \n< > > quoted
+< > END
+< ITEM 2 grey to all
+< > Who knows?
+< ITEM 3 grey to you
+< > You four.
+< END
+= russia 1
+INBOX 1
+END
+< REPLY g1 russia 1
+< INBOX 3
+< ITEM 1 white from england to all
+< > To all of you:
+< > \n< > > quoted
+< > END
+< ITEM 2 grey to all
+< > Who knows?
+< ITEM 3 grey to you
+< > You four.
+< END
+= turkey 1
+INBOX 1
+END
+< REPLY g1 turkey 1
+< INBOX 3
+< ITEM 1 white from england to all
+< > To all of you:
+< > \n< > > quoted
+< > END
+< ITEM 2 grey to all
+< > Who knows?
+< ITEM 3 white from england to turkey austria
+< > You two.
+< END
 ";
 
 /// Press to all counts once as sent; each other power has it, and its writer hasn't.
 #[test]
 fn press_to_all_comes_to_each_other_power(rt: HostRuntime) -> Result<(), Fail> {
-    let alloc = rt.alloc();
-    let map = Map::from_toml(alloc, STANDARD)?;
-    let mut keeper = opened(alloc, &map)?;
-    check_exchange(alloc, &mut keeper, &map, SENT)?;
-    for (power, third) in [
-        ("austria", TO_TWO),
-        ("france", TO_FOUR),
-        ("germany", TO_FOUR),
-        ("italy", TO_FOUR),
-        ("russia", TO_FOUR),
-        ("turkey", TO_TWO),
-    ] {
-        let exchange = format!(in alloc;
-            "= {power} 1\nINBOX 1\nEND\n< REPLY g1 {power} 1\n< INBOX 3\n{FOR_ALL}{third}< END\n"
-        )?;
-        check_exchange(alloc, &mut keeper, &map, exchange.as_str())?;
-    }
-    Ok(())
+    Ok(check_opened(rt.alloc(), &[SENT, CAME])?)
 }
 
 /// Grey press that names the six others tells each of them no more than that it is for it; `all` is told as `all`.
@@ -162,36 +211,133 @@ END
 < REPLY g1 england 1
 < OK press
 < END
+= austria 1
+INBOX 1
+END
+< REPLY g1 austria 1
+< INBOX 1
+< ITEM 1 grey to you
+< > You six.
+< END
+= france 1
+INBOX 1
+END
+< REPLY g1 france 1
+< INBOX 1
+< ITEM 1 grey to you
+< > You six.
+< END
+= germany 1
+INBOX 1
+END
+< REPLY g1 germany 1
+< INBOX 1
+< ITEM 1 grey to you
+< > You six.
+< END
+= italy 1
+INBOX 1
+END
+< REPLY g1 italy 1
+< INBOX 1
+< ITEM 1 grey to you
+< > You six.
+< END
+= russia 1
+INBOX 1
+END
+< REPLY g1 russia 1
+< INBOX 1
+< ITEM 1 grey to you
+< > You six.
+< END
+= turkey 1
+INBOX 1
+END
+< REPLY g1 turkey 1
+< INBOX 1
+< ITEM 1 grey to you
+< > You six.
+< END
 ";
 
 #[test]
 fn grey_press_to_six_names_is_to_each_of_them(rt: HostRuntime) -> Result<(), Fail> {
-    let alloc = rt.alloc();
-    let map = Map::from_toml(alloc, STANDARD)?;
-    let mut keeper = opened(alloc, &map)?;
-    check_exchange(alloc, &mut keeper, &map, SIX_NAMED)?;
-    for power in ["austria", "france", "germany", "italy", "russia", "turkey"] {
-        let exchange = format!(in alloc;
-            "= {power} 1\nINBOX 1\nEND\n< REPLY g1 {power} 1\n< INBOX 1\n< ITEM 1 grey to you\n< > You six.\n< END\n"
-        )?;
-        check_exchange(alloc, &mut keeper, &map, exchange.as_str())?;
-    }
-    Ok(())
+    Ok(check_opened(rt.alloc(), &[SIX_NAMED])?)
 }
 
 /// Addressees that can't stand so, in letters that are numbered and kept.
-const MISNAMED: [&str; 10] = [
-    "all france",
-    "france all",
-    "all all",
-    "england",
-    "france england",
-    "france france",
-    "france italy france",
-    "spain",
-    "france spain",
-    "master",
-];
+const MISNAMED: &str = "= england 1
+PRESS WHITE TO all france
+> Hello.
+END
+< REPLY g1 england 1
+< L1 malformed letter
+< END
+= england 2
+PRESS WHITE TO france all
+> Hello.
+END
+< REPLY g1 england 2
+< L1 malformed letter
+< END
+= england 3
+PRESS WHITE TO all all
+> Hello.
+END
+< REPLY g1 england 3
+< L1 malformed letter
+< END
+= england 4
+PRESS WHITE TO england
+> Hello.
+END
+< REPLY g1 england 4
+< L1 malformed letter
+< END
+= england 5
+PRESS WHITE TO france england
+> Hello.
+END
+< REPLY g1 england 5
+< L1 malformed letter
+< END
+= england 6
+PRESS WHITE TO france france
+> Hello.
+END
+< REPLY g1 england 6
+< L1 malformed letter
+< END
+= england 7
+PRESS WHITE TO france italy france
+> Hello.
+END
+< REPLY g1 england 7
+< L1 malformed letter
+< END
+= england 8
+PRESS WHITE TO spain
+> Hello.
+END
+< REPLY g1 england 8
+< L1 malformed letter
+< END
+= england 9
+PRESS WHITE TO france spain
+> Hello.
+END
+< REPLY g1 england 9
+< L1 malformed letter
+< END
+= england 10
+PRESS WHITE TO master
+> Hello.
+END
+< REPLY g1 england 10
+< L1 malformed letter
+< END
+";
 
 /// Nothing of it was sent.
 const NOTHING: &str = "= england 11
@@ -216,17 +362,7 @@ END
 
 #[test]
 fn addressees_are_other_powers_each_once(rt: HostRuntime) -> Result<(), Fail> {
-    let alloc = rt.alloc();
-    let map = Map::from_toml(alloc, STANDARD)?;
-    let mut keeper = opened(alloc, &map)?;
-    for (place, named) in MISNAMED.iter().enumerate() {
-        let number = place.wrapping_add(1);
-        let exchange = format!(in alloc;
-            "= england {number}\nPRESS WHITE TO {named}\n> Hello.\nEND\n< REPLY g1 england {number}\n< L1 malformed letter\n< END\n"
-        )?;
-        check_exchange(alloc, &mut keeper, &map, exchange.as_str())?;
-    }
-    Ok(check_exchange(alloc, &mut keeper, &map, NOTHING)?)
+    Ok(check_opened(rt.alloc(), &[MISNAMED, NOTHING])?)
 }
 
 /// Where a game has no grey press, white press is sent all the same.
@@ -272,8 +408,5 @@ END
 
 #[test]
 fn grey_press_is_sent_where_the_game_has_it(rt: HostRuntime) -> Result<(), Fail> {
-    let alloc = rt.alloc();
-    let map = Map::from_toml(alloc, STANDARD)?;
-    let mut keeper = opened_without_grey(alloc, &map)?;
-    Ok(check_exchange(alloc, &mut keeper, &map, WHITE_ALONE)?)
+    Ok(check_opened_without_grey(rt.alloc(), &[WHITE_ALONE])?)
 }

@@ -1,25 +1,47 @@
 //! How much press a seat may send in a game.
 use dip_desk::MemoryKeeper;
-use dip_exchanges::{Mismatch, check_exchange, opened_without_grey, reply_to};
+use dip_exchanges::{check_exchanges, opened_without_grey, reply_to};
 use dip_map::{Map, STANDARD};
-use std::alloc::Global;
-use std::process::Abort;
+use itoa::Buffer;
+use std::alloc::{AllocError, Global};
 use std::test::Fail;
 
-/// England's letter of this number is press to France, and is taken.
+/// England's letter of this number is press to France.
+fn press_of(alloc: Global, number: &str) -> Result<String, AllocError> {
+    [
+        "LETTER\nGAME g1\nFROM england\nSECRET eeeeeeee\nNUMBER ",
+        number,
+        "\nPRESS WHITE TO france\n> Letter ",
+        number,
+        ".\nEND\n",
+    ]
+    .concat(alloc)
+}
+
+/// England's letter of this number is taken.
 fn check_sent(
-    rt: &impl Abort,
     alloc: Global,
     keeper: &mut MemoryKeeper,
     map: &Map,
     number: u32,
-) -> Result<(), Mismatch> {
-    let text = format!(in alloc;
-        "LETTER\nGAME g1\nFROM england\nSECRET eeeeeeee\nNUMBER {number}\nPRESS WHITE TO france\n> Letter {number}.\nEND\n"
-    )?;
+) -> Result<(), Fail> {
+    let mut digits = Buffer::new();
+    let text = press_of(alloc, digits.format(number))?;
     let reply = reply_to(alloc, keeper, map, text.as_str())?;
-    assert_eq!(rt; reply.text.as_str(), "OK press\n");
-    Ok(())
+    if reply.text.as_str() == "OK press\n" {
+        Ok(())
+    } else {
+        Err(Fail::from("press that isn't taken"))
+    }
+}
+
+/// A desk with a game in which England has sent 10,000 letters of press.
+fn with_all_sent(alloc: Global, map: &Map) -> Result<MemoryKeeper, Fail> {
+    let mut keeper = opened_without_grey(alloc, map)?;
+    for number in 1..10_001 {
+        check_sent(alloc, &mut keeper, map, number)?;
+    }
+    Ok(keeper)
 }
 
 /// Press of a seat that has sent 10,000 is refused, and no inbox has it; grey press, names and a game that is over are told before that. What
@@ -177,10 +199,6 @@ END
 fn a_seat_sends_ten_thousand_letters_of_press(rt: HostRuntime) -> Result<(), Fail> {
     let alloc = rt.alloc();
     let map = Map::from_toml(alloc, STANDARD)?;
-    let mut keeper = opened_without_grey(alloc, &map)?;
-    for number in 1..10_001 {
-        check_sent(&rt, alloc, &mut keeper, &map, number)?;
-    }
-    check_exchange(alloc, &mut keeper, &map, USED)?;
-    Ok(check_exchange(alloc, &mut keeper, &map, ANOTHER)?)
+    let mut keeper = with_all_sent(alloc, &map)?;
+    Ok(check_exchanges(alloc, &mut keeper, &map, &[USED, ANOTHER])?)
 }

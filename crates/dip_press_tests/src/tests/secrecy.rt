@@ -1,6 +1,5 @@
 //! What a reader of grey press can't tell.
-use dip_exchanges::{check_exchange, opened};
-use dip_map::{Map, STANDARD};
+use dip_exchanges::check_opened;
 use std::test::Fail;
 
 /// England orders and writes.
@@ -52,14 +51,8 @@ END
 
 #[test]
 fn grey_press_hides_its_writer(rt: HostRuntime) -> Result<(), Fail> {
-    let alloc = rt.alloc();
-    let map = Map::from_toml(alloc, STANDARD)?;
-    for written in [BY_ENGLAND, BY_ITALY] {
-        let mut keeper = opened(alloc, &map)?;
-        check_exchange(alloc, &mut keeper, &map, written)?;
-        check_exchange(alloc, &mut keeper, &map, READ)?;
-    }
-    Ok(())
+    check_opened(rt.alloc(), &[BY_ENGLAND, READ])?;
+    Ok(check_opened(rt.alloc(), &[BY_ITALY, READ])?)
 }
 
 /// Italy and Russia write to each other, and Turkey orders, votes and withdraws.
@@ -115,11 +108,6 @@ END
 
 #[test]
 fn what_others_write_and_vote_is_not_shown(rt: HostRuntime) -> Result<(), Fail> {
-    let alloc = rt.alloc();
-    let map = Map::from_toml(alloc, STANDARD)?;
-    let mut still = opened(alloc, &map)?;
-    check_exchange(alloc, &mut still, &map, UNTOLD)?;
-    let mut busy = opened(alloc, &map)?;
-    check_exchange(alloc, &mut busy, &map, OF_OTHERS)?;
-    Ok(check_exchange(alloc, &mut busy, &map, UNTOLD)?)
+    check_opened(rt.alloc(), &[UNTOLD])?;
+    Ok(check_opened(rt.alloc(), &[OF_OTHERS, UNTOLD])?)
 }

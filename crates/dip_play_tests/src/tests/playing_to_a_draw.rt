@@ -1,8 +1,5 @@
 //! A game on a small map that two powers draw, the third of which has lost its only unit and its only centre.
-use dip_desk::MemoryKeeper;
-use dip_exchanges::{Mismatch, check_exchange, check_paper, desk};
-use dip_map::Map;
-use std::alloc::Global;
+use dip_exchanges::check_on_map;
 use std::test::Fail;
 
 const THREE: &str = "name = \"three\"
@@ -81,18 +78,17 @@ END
 < REPLY g1 master 2
 < OK paper 2
 < END
-";
-
-const SPRING_PAPER: &str = "PAPER 2 S1901M
-east A bay H: holds
-north A tor H: holds
-west A ard H: holds
-west A cay H: holds
-GAME g1 F1901M running DUE 15 PERIOD 5 GREY NO PAPERS 2
-east 1/1: A bay | bay
-north 1/1: A tor | tor
-west 2/2: A ard, A cay | ard cay
-END
+? g1 2
+< PAPER 2 S1901M
+< east A bay H: holds
+< north A tor H: holds
+< west A ard H: holds
+< west A cay H: holds
+< GAME g1 F1901M running DUE 15 PERIOD 5 GREY NO PAPERS 2
+< east 1/1: A bay | bay
+< north 1/1: A tor | tor
+< west 2/2: A ard, A cay | ard cay
+< END
 ";
 
 /// East's army has no place to retreat to.
@@ -111,19 +107,18 @@ END
 < REPLY g1 master 3
 < OK paper 3
 < END
-";
-
-const FALL_PAPER: &str = "PAPER 3 F1901M
-east A bay H: holds, destroyed
-north A tor H: holds
-west A ard - bay: moves
-west A cay S A ard - bay: given
-centre bay: west
-GAME g1 W1901A running DUE 20 PERIOD 5 GREY NO PAPERS 3
-east 0/0: - | -
-north 1/1: A tor | tor
-west 3/2: A bay, A cay | ard bay cay
-END
+? g1 3
+< PAPER 3 F1901M
+< east A bay H: holds, destroyed
+< north A tor H: holds
+< west A ard - bay: moves
+< west A cay S A ard - bay: given
+< centre bay: west
+< GAME g1 W1901A running DUE 20 PERIOD 5 GREY NO PAPERS 3
+< east 0/0: - | -
+< north 1/1: A tor | tor
+< west 3/2: A bay, A cay | ard bay cay
+< END
 ";
 
 /// East still has its seat, and its votes are taken. They don't count: those of the other two do.
@@ -156,14 +151,13 @@ END
 < REPLY g1 master 4
 < OK paper 4
 < END
-";
-
-const DRAWN_PAPER: &str = "PAPER 4 draw
-GAME g1 W1901A drawn by north west DUE 20 PERIOD 5 GREY NO PAPERS 4
-east 0/0: - | -
-north 1/1: A tor | tor
-west 3/2: A bay, A cay | ard bay cay
-END
+? g1 4
+< PAPER 4 draw
+< GAME g1 W1901A drawn by north west DUE 20 PERIOD 5 GREY NO PAPERS 4
+< east 0/0: - | -
+< north 1/1: A tor | tor
+< west 3/2: A bay, A cay | ard bay cay
+< END
 ";
 
 /// North has changed its mind; East's vote doesn't stand in for it.
@@ -185,35 +179,18 @@ END
 < REPLY g1 master 4
 < OK paper 4
 < END
+? g1 4
+< PAPER 4 W1901A
+< west waives 1
+< GAME g1 S1902M running DUE 25 PERIOD 5 GREY NO PAPERS 4
+< east 0/0: - | -
+< north 1/1: A tor | tor
+< west 3/2: A bay, A cay | ard bay cay
+< END
 ";
-
-const PLAYED_PAPER: &str = "PAPER 4 W1901A
-west waives 1
-GAME g1 S1902M running DUE 25 PERIOD 5 GREY NO PAPERS 4
-east 0/0: - | -
-north 1/1: A tor | tor
-west 3/2: A bay, A cay | ard bay cay
-END
-";
-
-/// The game in which East is gone, behind its Fall.
-fn without_east(alloc: Global, map: &Map) -> Result<MemoryKeeper, Mismatch> {
-    let mut keeper = desk(alloc);
-    check_exchange(alloc, &mut keeper, map, SPRING)?;
-    check_paper(alloc, &mut keeper, map, "g1", 2, SPRING_PAPER)?;
-    check_exchange(alloc, &mut keeper, map, FALL)?;
-    check_paper(alloc, &mut keeper, map, "g1", 3, FALL_PAPER)?;
-    Ok(keeper)
-}
 
 #[test]
 fn who_has_lost_everything_has_no_say_in_a_draw(rt: HostRuntime) -> Result<(), Fail> {
-    let alloc = rt.alloc();
-    let map = Map::from_toml(alloc, THREE)?;
-    let mut drawn = without_east(alloc, &map)?;
-    check_exchange(alloc, &mut drawn, &map, DRAWN)?;
-    check_paper(alloc, &mut drawn, &map, "g1", 4, DRAWN_PAPER)?;
-    let mut played = without_east(alloc, &map)?;
-    check_exchange(alloc, &mut played, &map, PLAYED)?;
-    Ok(check_paper(alloc, &mut played, &map, "g1", 4, PLAYED_PAPER)?)
+    check_on_map(rt.alloc(), THREE, &[SPRING, FALL, DRAWN])?;
+    Ok(check_on_map(rt.alloc(), THREE, &[SPRING, FALL, PLAYED])?)
 }

@@ -1,8 +1,5 @@
 //! A game on a small map that is won behind the retreats of its first Fall.
-use dip_desk::MemoryKeeper;
-use dip_exchanges::{Mismatch, check_exchange, check_paper, desk};
-use dip_map::Map;
-use std::alloc::Global;
+use dip_exchanges::check_on_map;
 use std::test::Fail;
 
 const SMALL: &str = "name = \"small\"
@@ -38,11 +35,7 @@ fleet = [\"bay/nc\", \"bay/sc\", \"cay\"]
 ";
 
 /// West has more than half of the centres from the opening on, and has won nothing before the Fall is over.
-const SPRING: &str = "LETTER
-GAME g1
-FROM master
-SECRET master-key
-NUMBER 1
+const SPRING: &str = "= master 1
 CREATE DUE 10 PERIOD 5 GREY NO
 SEAT east eeeeeeee
 SEAT west wwwwwwww
@@ -50,33 +43,24 @@ END
 < REPLY g1 master 1
 < OK paper 1
 < END
-LETTER
-GAME g1
-FROM master
-SECRET master-key
-NUMBER 2
+= master 2
 TICK 10
 END
 < REPLY g1 master 2
 < OK paper 2
 < END
+? g1 2
+< PAPER 2 S1901M
+< east F bay/nc H: holds
+< west A ard H: holds
+< west F cay H: holds
+< GAME g1 F1901M running DUE 15 PERIOD 5 GREY NO PAPERS 2
+< east 1/1: F bay/nc | bay
+< west 2/2: A ard, F cay | ard cay
+< END
 ";
 
-const SPRING_PAPER: &str = "PAPER 2 S1901M
-east F bay/nc H: holds
-west A ard H: holds
-west F cay H: holds
-GAME g1 F1901M running DUE 15 PERIOD 5 GREY NO PAPERS 2
-east 1/1: F bay/nc | bay
-west 2/2: A ard, F cay | ard cay
-END
-";
-
-const FALL: &str = "LETTER
-GAME g1
-FROM west
-SECRET wwwwwwww
-NUMBER 1
+const FALL: &str = "= west 1 wwwwwwww
 ORDERS
 F cay - bay
 A ard S F cay - bay
@@ -85,33 +69,24 @@ END
 < OK F cay - bay/sc
 < OK A ard S F cay - bay
 < END
-LETTER
-GAME g1
-FROM master
-SECRET master-key
-NUMBER 3
+= master 3
 TICK 15
 END
 < REPLY g1 master 3
 < OK paper 3
 < END
+? g1 3
+< PAPER 3 F1901M
+< east F bay/nc H: holds, dislodged
+< west A ard S F cay - bay: given
+< west F cay - bay/sc: moves
+< GAME g1 F1901R running DUE 20 PERIOD 5 GREY NO PAPERS 3
+< east 1/1: F bay/nc* | bay
+< west 2/2: A ard, F bay/sc | ard cay
+< END
 ";
 
-const FALL_PAPER: &str = "PAPER 3 F1901M
-east F bay/nc H: holds, dislodged
-west A ard S F cay - bay: given
-west F cay - bay/sc: moves
-GAME g1 F1901R running DUE 20 PERIOD 5 GREY NO PAPERS 3
-east 1/1: F bay/nc* | bay
-west 2/2: A ard, F bay/sc | ard cay
-END
-";
-
-const RETREATS: &str = "LETTER
-GAME g1
-FROM east
-SECRET eeeeeeee
-NUMBER 1
+const RETREATS: &str = "= east 1 eeeeeeee
 ORDERS
 F bay R cay
 F bay R sea
@@ -120,63 +95,42 @@ END
 < O14 line 1: no such retreat
 < OK F bay/nc R sea
 < END
-LETTER
-GAME g1
-FROM master
-SECRET master-key
-NUMBER 4
+= master 4
 TICK 21
 END
 < REPLY g1 master 4
 < OK paper 4
 < END
-";
-
-const RETREATS_PAPER: &str = "PAPER 4 F1901R
-east F bay/nc R sea: retreats
-centre bay: west
-GAME g1 F1901R won by west DUE 20 PERIOD 5 GREY NO PAPERS 4
-east 0/1: F sea | -
-west 3/2: A ard, F bay/sc | ard bay cay
-END
+? g1 4
+< PAPER 4 F1901R
+< east F bay/nc R sea: retreats
+< centre bay: west
+< GAME g1 F1901R won by west DUE 20 PERIOD 5 GREY NO PAPERS 4
+< east 0/1: F sea | -
+< west 3/2: A ard, F bay/sc | ard bay cay
+< END
 ";
 
 /// No tick plays the game any more, a power's tick is still refused as a power's, and the game is shown and keeps its name.
-const OVER: &str = "LETTER
-GAME g1
-FROM master
-SECRET master-key
-NUMBER 5
+const OVER: &str = "= master 5
 TICK 20
 END
 < REPLY g1 master 5
 < L8 game over
 < END
-LETTER
-GAME g1
-FROM master
-SECRET master-key
-NUMBER 6
+= master 6
 TICK 26
 END
 < REPLY g1 master 6
 < L8 game over
 < END
-LETTER
-GAME g1
-FROM east
-SECRET eeeeeeee
-NUMBER 2
+= east 2 eeeeeeee
 TICK 26
 END
 < REPLY g1 east 2
 < L9 command not for this sender
 < END
-LETTER
-GAME g1
-FROM master
-SECRET master-key
-NUMBER 7
+= master 7
 CREATE DUE 10 PERIOD 5 GREY NO
 SEAT east eeeeeeee
 SEAT west wwwwwwww
@@ -184,11 +138,7 @@ END
 < REPLY g1 master 7
 < L11 name taken
 < END
-LETTER
-GAME g1
-FROM east
-SECRET eeeeeeee
-NUMBER 3
+= east 3 eeeeeeee
 SHOW
 END
 < REPLY g1 east 3
@@ -198,61 +148,37 @@ END
 < VOTE NO
 < SENT 0 INBOX 0
 < END
+? g1 4
+< PAPER 4 F1901R
+< east F bay/nc R sea: retreats
+< centre bay: west
+< GAME g1 F1901R won by west DUE 20 PERIOD 5 GREY NO PAPERS 4
+< east 0/1: F sea | -
+< west 3/2: A ard, F bay/sc | ard bay cay
+< END
 ";
-
-/// The letters get their replies, and the last of them publishes the paper.
-fn check_phase(
-    alloc: Global,
-    keeper: &mut MemoryKeeper,
-    map: &Map,
-    exchange: &str,
-    number: u32,
-    paper: &str,
-) -> Result<(), Mismatch> {
-    check_exchange(alloc, keeper, map, exchange)?;
-    check_paper(alloc, keeper, map, "g1", number, paper)
-}
 
 #[test]
 fn a_game_is_won_behind_the_retreats_of_fall(rt: HostRuntime) -> Result<(), Fail> {
-    let alloc = rt.alloc();
-    let map = Map::from_toml(alloc, SMALL)?;
-    let mut keeper = desk(alloc);
-    check_phase(alloc, &mut keeper, &map, SPRING, 2, SPRING_PAPER)?;
-    check_phase(alloc, &mut keeper, &map, FALL, 3, FALL_PAPER)?;
-    check_phase(alloc, &mut keeper, &map, RETREATS, 4, RETREATS_PAPER)?;
-    check_phase(alloc, &mut keeper, &map, OVER, 4, RETREATS_PAPER)?;
-    Ok(())
+    Ok(check_on_map(rt.alloc(), SMALL, &[SPRING, FALL, RETREATS, OVER])?)
 }
 
 /// A power's orders are refused, and its show is not.
-const ORDERED: &str = "LETTER
-GAME g1
-FROM west
-SECRET wwwwwwww
-NUMBER 2
+const ORDERED: &str = "= west 2 wwwwwwww
 ORDERS
 A ard H
 END
 < REPLY g1 west 2
 < L8 game over
 < END
-LETTER
-GAME g1
-FROM west
-SECRET wwwwwwww
-NUMBER 3
+= west 3 wwwwwwww
 ORDERS
 F bay D
 END
 < REPLY g1 west 3
 < L8 game over
 < END
-LETTER
-GAME g1
-FROM west
-SECRET wwwwwwww
-NUMBER 4
+= west 4 wwwwwwww
 SHOW
 END
 < REPLY g1 west 4
@@ -266,11 +192,5 @@ END
 
 #[test]
 fn a_game_that_is_won_takes_no_orders(rt: HostRuntime) -> Result<(), Fail> {
-    let alloc = rt.alloc();
-    let map = Map::from_toml(alloc, SMALL)?;
-    let mut keeper = desk(alloc);
-    check_phase(alloc, &mut keeper, &map, SPRING, 2, SPRING_PAPER)?;
-    check_phase(alloc, &mut keeper, &map, FALL, 3, FALL_PAPER)?;
-    check_phase(alloc, &mut keeper, &map, RETREATS, 4, RETREATS_PAPER)?;
-    Ok(check_exchange(alloc, &mut keeper, &map, ORDERED)?)
+    Ok(check_on_map(rt.alloc(), SMALL, &[SPRING, FALL, RETREATS, ORDERED])?)
 }

@@ -26,6 +26,17 @@ SEAT germany gggggggg
 END
 ";
 
+const CREATED: &str = "< REPLY g1 master 1
+< OK paper 1
+< END
+";
+
+const ORDERED: &str = "< REPLY g1 england 1
+< OK F edi - nth
+< OK F lon H
+< END
+";
+
 /// Its seats, and their secrets.
 const SEATS: [(&str, &str); 7] = [
     ("turkey", "tttttttt"),
@@ -40,8 +51,8 @@ const SEATS: [(&str, &str); 7] = [
 /// A desk with that game, in which England has two orders.
 fn opened(alloc: Global, map: &Map) -> Result<MemoryKeeper, Mismatch> {
     let mut keeper = desk(alloc);
-    reply_to(alloc, &mut keeper, map, CREATE)?;
-    reply_to(alloc, &mut keeper, map, ORDERS)?;
+    let letters = [CREATE, CREATED, ORDERS, ORDERED].concat(alloc)?;
+    check_exchange(alloc, &mut keeper, map, letters.as_str())?;
     Ok(keeper)
 }
 
@@ -112,8 +123,10 @@ fn a_paper_is_read_by_its_number(rt: HostRuntime) -> Result<(), Fail> {
 
 /// The lines that are kept of the master's last letter.
 fn kept_lines(keeper: &mut MemoryKeeper) -> Result<Rc<String>, Fail> {
-    let kept = keeper.desk()?.kept.ok_or("nothing kept")?;
-    Ok(kept.reply)
+    match keeper.desk()?.kept {
+        Some(kept) => Ok(kept.reply),
+        None => Err(Fail::from("nothing kept")),
+    }
 }
 
 /// The lines that are kept are these very ones.

@@ -485,31 +485,48 @@ fn orders_fall_with_their_phase(rt: HostRuntime) -> Result<(), Fail> {
     Ok(check_opened(rt.alloc(), &[FALLEN])?)
 }
 
-/// The game's public part with this status, as the master's second letter might leave it.
-fn stopped(alloc: Global, public: Public, status: Status) -> Result<Change, AllocError> {
-    let public = Public {
-        game: public.game,
-        board: public.board,
-        status,
-        due: public.due,
-        period: public.period,
-        grey: public.grey,
-        papers: 2,
-    };
-    Ok(Change {
-        game: String::from_str(alloc, "g1")?,
-        author: Author::TheMaster,
-        kept: Kept {
-            number: 2,
-            sum: [7; 32],
-            reply: Rc::new(alloc, String::from_str(alloc, "done\n")?)?,
-        },
-        effect: Effect::Publishes {
-            public,
-            paper: String::from_str(alloc, "PAPER 2\n")?,
-            played: false,
-        },
+/// What is kept of the master's second letter.
+fn kept(alloc: Global) -> Result<Kept, AllocError> {
+    let reply = String::from_str(alloc, "done\n")?;
+    Ok(Kept {
+        number: 2,
+        sum: [7; 32],
+        reply: Rc::new(alloc, reply)?,
     })
+}
+
+/// The game's public part with this status, and its second paper.
+fn page(public: Public, status: Status, paper: String) -> Effect {
+    Effect::Publishes {
+        public: Public {
+            game: public.game,
+            board: public.board,
+            status,
+            due: public.due,
+            period: public.period,
+            grey: public.grey,
+            papers: 2,
+        },
+        paper,
+        played: false,
+    }
+}
+
+/// What the master's second letter changes by this effect.
+fn change(alloc: Global, effect: Effect) -> Result<Change, AllocError> {
+    let game = String::from_str(alloc, "g1")?;
+    Ok(Change {
+        game,
+        author: Author::TheMaster,
+        kept: kept(alloc)?,
+        effect,
+    })
+}
+
+/// The game's public part gets this status, as the master's second letter might leave it.
+fn stopped(alloc: Global, public: Public, status: Status) -> Result<Change, AllocError> {
+    let paper = String::from_str(alloc, "PAPER 2\n")?;
+    change(alloc, page(public, status, paper))
 }
 
 /// A desk whose game stands so.

@@ -1,7 +1,7 @@
 //! What is written for an input.
 use dip_desk::MemoryKeeper;
 use dip_letters::digest;
-use dip_map::Map;
+use dip_map::{Map, STANDARD};
 use dip_program::{RunFault, run_file};
 use std::alloc::{AllocError, Global};
 use std::test::Fail;
@@ -24,6 +24,12 @@ pub(crate) fn answers(alloc: Global, map: &Map, input: &str) -> Result<String, F
         },
         Err(_) => Err(Fail::from("the run ended early")),
     }
+}
+
+/// All that is written for an input over the standard map.
+pub(crate) fn standard_answers(alloc: Global, input: &str) -> Result<String, Fail> {
+    let map = Map::from_toml(alloc, STANDARD)?;
+    answers(alloc, &map, input)
 }
 
 /// How many lines of a text are this one.

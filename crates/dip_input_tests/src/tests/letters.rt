@@ -2,49 +2,19 @@
 use dip_dice::Dice;
 use std::alloc::{AllocError, Global};
 
-/// Who writes, under which secret, and about which provinces.
-const AUTHORS: [(&str, &str, [&str; 8]); 8] = [
-    (
-        "austria",
-        "aaaaaaaa",
-        ["bud", "tri", "vie", "ser", "gal", "alb", "adr", "gre"],
-    ),
-    (
-        "england",
-        "eeeeeeee",
-        ["edi", "lon", "lvp", "nth", "eng", "yor", "nwy", "bel"],
-    ),
-    (
-        "france",
-        "ffffffff",
-        ["bre", "mar", "par", "bur", "pic", "spa/nc", "mao", "bel"],
-    ),
-    (
-        "germany",
-        "gggggggg",
-        ["ber", "kie", "mun", "hol", "ruh", "den", "bur", "bal"],
-    ),
-    (
-        "italy",
-        "iiiiiiii",
-        ["nap", "rom", "ven", "apu", "ion", "tun", "tri", "tys"],
-    ),
-    (
-        "russia",
-        "rrrrrrrr",
-        ["mos", "sev", "stp/sc", "war", "ukr", "bla", "rum", "bot"],
-    ),
-    (
-        "turkey",
-        "tttttttt",
-        ["ank", "con", "smy", "bla", "arm", "bul/ec", "aeg", "rum"],
-    ),
-    (
-        "master",
-        "master-key",
-        ["par", "lon", "vie", "mun", "rom", "mos", "con", "nth"],
-    ),
-];
+/// Who writes, under which secret, and about which eight provinces.
+fn author_at(place: u32) -> (&'static str, &'static str, &'static str) {
+    match place {
+        0 => ("austria", "aaaaaaaa", "bud tri vie ser gal alb adr gre"),
+        1 => ("england", "eeeeeeee", "edi lon lvp nth eng yor nwy bel"),
+        2 => ("france", "ffffffff", "bre mar par bur pic spa/nc mao bel"),
+        3 => ("germany", "gggggggg", "ber kie mun hol ruh den bur bal"),
+        4 => ("italy", "iiiiiiii", "nap rom ven apu ion tun tri tys"),
+        5 => ("russia", "rrrrrrrr", "mos sev stp/sc war ukr bla rum bot"),
+        6 => ("turkey", "tttttttt", "ank con smy bla arm bul/ec aeg rum"),
+        _ => ("master", "master-key", "par lon vie mun rom mos con nth"),
+    }
+}
 
 /// The first letters: two games.
 const OPENED: &str = "LETTER
@@ -95,7 +65,7 @@ pub(crate) struct Author {
     pub(crate) game: &'static str,
     pub(crate) name: &'static str,
     secret: &'static str,
-    around: [&'static str; 8],
+    around: &'static str,
     number: u32,
 }
 
@@ -115,7 +85,7 @@ impl Letters {
     /// An author by chance, with the next number and the right secret.
     pub(crate) fn next_author(&mut self) -> Author {
         self.number = self.number.wrapping_add(1);
-        let (name, secret, around) = self.dice.pick(&AUTHORS).unwrap_or(AUTHORS[0]);
+        let (name, secret, around) = author_at(self.dice.roll(8));
         let game = self.dice.pick(&["g1", "g1", "g1", "g2"]).unwrap_or("g1");
         let number = self.number;
         Author {
@@ -168,7 +138,8 @@ impl Letters {
 
     /// One of the provinces about which an author writes, or any other's.
     fn code(&mut self, author: Author) -> &'static str {
-        self.dice.pick(&author.around).unwrap_or("par")
+        let place = self.dice.roll(8) as usize;
+        author.around.split(' ').nth(place).unwrap_or("par")
     }
 
     fn kind(&mut self) -> &'static str {

@@ -1,6 +1,5 @@
 //! What stands at the limits is answered, where there is memory.
-use super::answers::{answers, count_of, count_of_heads};
-use dip_map::{Map, STANDARD};
+use super::answers::{count_of, count_of_heads, standard_answers};
 use std::alloc::{AllocError, Global};
 use std::test::Fail;
 
@@ -28,19 +27,29 @@ fn push_letter(
     )
 }
 
-#[test]
-fn three_hundred_games_are_kept(rt: HostRuntime) -> Result<(), Fail> {
-    let alloc = rt.alloc();
-    let map = Map::from_toml(alloc, STANDARD)?;
+/// Appends letters of England in this game: its first, and its last.
+fn push_game(input: &mut String, game: u32) -> Result<(), AllocError> {
+    push_letter(input, game, "eeeeeeee", 1, "ORDERS\nF lon - nth\n")?;
+    push_letter(input, game, "eeeeeeee", 999_999_999, "SHOW\n")
+}
+
+/// Three hundred games, and then letters in each of them.
+fn three_hundred_games(alloc: Global) -> Result<String, AllocError> {
     let mut input = String::new(alloc);
     for game in 1..301 {
         push_create(&mut input, game, game)?;
     }
     for game in 1..301 {
-        push_letter(&mut input, game, "eeeeeeee", 1, "ORDERS\nF lon - nth\n")?;
-        push_letter(&mut input, game, "eeeeeeee", 999_999_999, "SHOW\n")?;
+        push_game(&mut input, game)?;
     }
-    let output = answers(alloc, &map, input.as_str())?;
+    Ok(input)
+}
+
+#[test]
+fn three_hundred_games_are_kept(rt: HostRuntime) -> Result<(), Fail> {
+    let alloc = rt.alloc();
+    let input = three_hundred_games(alloc)?;
+    let output = standard_answers(alloc, input.as_str())?;
     assert_eq!(&rt; count_of(output.as_str(), "OK paper 1"), 300);
     assert_eq!(&rt; count_of(output.as_str(), "OK F lon - nth"), 300);
     assert_eq!(&rt; count_of(output.as_str(), "ORDER F lon - nth"), 300);
@@ -59,16 +68,21 @@ fn longest_orders(alloc: Global) -> Result<String, AllocError> {
     Ok(command)
 }
 
-#[test]
-fn the_longest_orders_are_answered_line_by_line(rt: HostRuntime) -> Result<(), Fail> {
-    let alloc = rt.alloc();
-    let map = Map::from_toml(alloc, STANDARD)?;
+/// A game, and its longest orders under England's secret and under another.
+fn letters_of_longest_orders(alloc: Global) -> Result<String, AllocError> {
     let command = longest_orders(alloc)?;
     let mut input = String::new(alloc);
     push_create(&mut input, 1, 999_999_999)?;
     push_letter(&mut input, 1, "eeeeeeee", 1, command.as_str())?;
     push_letter(&mut input, 1, "eeeeeeef", 999_999_999, command.as_str())?;
-    let output = answers(alloc, &map, input.as_str())?;
+    Ok(input)
+}
+
+#[test]
+fn the_longest_orders_are_answered_line_by_line(rt: HostRuntime) -> Result<(), Fail> {
+    let alloc = rt.alloc();
+    let input = letters_of_longest_orders(alloc)?;
+    let output = standard_answers(alloc, input.as_str())?;
     assert_eq!(&rt; count_of_heads(output.as_str(), "O"), 65);
     assert_eq!(&rt; count_of(output.as_str(), "OK paper 1"), 1);
     assert_eq!(&rt;

@@ -22,3 +22,4 @@ pub mod Searches
 pub mod Mentioners
 pub mod Commuting
 mod Among
+mod Unbroken

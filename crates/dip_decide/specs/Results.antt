@@ -78,6 +78,11 @@ breaks (Forced d) p = false
 breaks (Circle ps) p = false
 breaks (Knot ps) p = is_listed ps.items p
 
+abbrev pub is_knot : Written.Step → Bool
+is_knot (Forced d) = false
+is_knot (Circle ps) = false
+is_knot (Knot ps) = true
+
 -- the lists are those of the values and of the broken paths
 pub record IsListing (written : List Written.Step) (k : Known) (made : ℕ) (m : Chart) (r : Resolution) : Type 0 where
   pub moves : r.moves.items ≡ filter (λ p. is_true (k (Move p))) (provs m)

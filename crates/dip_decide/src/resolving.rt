@@ -9,7 +9,7 @@ ghost use Rattle.dip_decide.specs.Deciding.{is_broken};
 ghost use Rattle.dip_decide.specs.Given.{known_of};
 ghost use Rattle.dip_decide.specs.Matching.{situation};
 ghost use Rattle.dip_decide.specs.Movement.{Satisfies};
-ghost use Rattle.dip_decide.specs.Results.{values_in, broken_in, AreExplained, IsOnly, AreInOrder, decided_in, forced_in, mentions_in, is_true, trues, breaks, IsListing};
+ghost use Rattle.dip_decide.specs.Results.{values_in, broken_in, AreExplained, IsOnly, AreInOrder, decided_in, forced_in, mentions_in, is_true, trues, breaks, is_knot, IsListing};
 ghost use Rattle.dip_decide.specs.Steps.{steps_of};
 
 use crate::decisions::{Resolution, Step};
@@ -62,8 +62,8 @@ fn is_broken(steps: &[Step], p: Prov) -> bool
     steps.iter().any(|step| breaks(step, p))
 }
 
-/// The units whose paths the steps break, by code.
-fn broken_by(alloc: Global, map: &Map, steps: &[Step]) -> Result<Vec<Prov>, AllocError>
+/// The units whose paths the steps break, by code, looked for in each province.
+fn broken_in(alloc: Global, map: &Map, steps: &[Step]) -> Result<Vec<Prov>, AllocError>
     ensures { IfOk result
         (λ v. v.items ≡ filter (λ p. list_any (λ s. breaks s p) steps.now) (provs map.now)) }
 {
@@ -74,6 +74,32 @@ fn broken_by(alloc: Global, map: &Map, steps: &[Step]) -> Result<Vec<Prov>, Allo
         }
     }
     Ok(broken)
+}
+
+fn is_knot(step: &Step) -> bool
+    ensures { result ≡ is_knot step.now }
+{
+    match step {
+        Step::Knot(_) => true,
+        Step::Forced(_) | Step::Circle(_) => false,
+    }
+}
+
+fn has_knot(steps: &[Step]) -> bool
+    ensures { result ≡ list_any is_knot steps.now }
+{
+    steps.iter().any(|step| is_knot(step))
+}
+
+/// The units whose paths the steps break, by code: none where no step is a knot.
+fn broken_by(alloc: Global, map: &Map, steps: &[Step]) -> Result<Vec<Prov>, AllocError>
+    ensures { IfOk result
+        (λ v. v.items ≡ filter (λ p. list_any (λ s. breaks s p) steps.now) (provs map.now)) }
+{
+    if !has_knot(steps) {
+        return Ok(Vec::new(alloc));
+    }
+    broken_in(alloc, map, steps)
 }
 
 /// The lists of what was decided, with the steps.

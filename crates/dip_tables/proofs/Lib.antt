@@ -12,3 +12,5 @@ mod Effects
 mod Changes
 mod Coded
 mod Counts
+mod Found
+mod Pages

@@ -14,3 +14,4 @@ mod Coded
 mod Counts
 mod Found
 mod Pages
+mod Deliveries

@@ -1,7 +1,7 @@
 //! Laws of the tables, each the contract of a function that does nothing.
 ghost use Rattle.dip_chart.specs.Charts.{Chart, IsMap};
 ghost use Rattle.dip_tables.specs.Looking.{OwnIsFound, PageIsFound, PaperIsFound, PublicIsFound};
-ghost use Rattle.dip_tables.specs.Laws.{StateIsChanged, TablesStayCoded, TablesStayCounted};
+ghost use Rattle.dip_tables.specs.Laws.{IsDeliveredOneByOne, NewTablesAreNew, StateIsChanged, TablesStayCoded, TablesStayCounted};
 
 /// What the statements of a change do is the change: behind them the tables say the state after it.
 pub fn state_is_changed()
@@ -36,4 +36,14 @@ pub fn page_is_found()
 /// A paper of a game with counted papers is the first row of its number.
 pub fn paper_is_found()
     ensures { (m : Chart) → PaperIsFound m }
+{}
+
+/// Press may be delivered to one reader behind the other.
+pub fn press_is_delivered_one_by_one()
+    ensures { (m : Chart) → IsDeliveredOneByOne m }
+{}
+
+/// The tables of a new desk say that it has no game, and are such as a keeper wrote.
+pub fn new_tables_are_new()
+    ensures { (m : Chart) → NewTablesAreNew m }
 {}

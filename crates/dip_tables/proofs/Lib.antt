@@ -12,3 +12,6 @@ mod Effects
 mod Changes
 mod Coded
 mod Counts
+mod Found
+mod Pages
+mod Deliveries

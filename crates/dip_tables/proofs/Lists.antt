@@ -1,5 +1,5 @@
 -- Lists of records that are found by a key, or by a test.
-use Rattle.std.proofs.Common.{◌≡◌, ℕ, Bool, true, false, cond, ◌&&◌, bytes_eq, map-id, List, [], ◌∷◌, map, filter, refl, sym, ap, ap₂, subst, ◌∙◌, inl, inr}
+use Rattle.std.proofs.Common.{◌≡◌, ℕ, Bool, true, false, cond, ◌&&◌, bytes_eq, map-id, find, Some, None, List, [], ◌∷◌, map, filter, refl, sym, ap, ap₂, subst, ◌∙◌, inl, inr}
 use Rattle.std.specs.List.{AllByRecursion}
 use Rattle.std.proofs.lemmas.Bool.{cases_Bool}
 use Rattle.sqlite_trees.specs.Tree.{IsAscending}
@@ -94,3 +94,16 @@ far_deleted key q n k far xs =
     ∙ slice-delete_other (λ x. bytes_eq (key x) n && q x) (λ x. x) (λ x. bytes_eq (key x) k)
     (λ x h. ap (λ b. b && q x) (subst (λ j. bytes_eq j n ≡ false) (sym (names_tell.same (key x) k h)) far)) xs
     ∙ map-id _
+
+-- tests that are one on each record find the same
+pub filter_on : {A : Type 0} (p q : A → Bool) (xs : List A) → AllByRecursion (λ x. p x ≡ q x) xs → filter p xs ≡ filter q xs
+filter_on p q [] all = refl
+filter_on p q (x ∷ xs) all = ap₂ (λ b ys. cond b (x ∷ ys) ys) all.0 (filter_on p q xs all.1)
+
+pub none_found : {A : Type 0} (p : A → Bool) (xs : List A) → AllByRecursion (λ x. p x ≡ false) xs → find p xs ≡ None
+none_found p [] none = refl
+none_found p (x ∷ xs) none = rw none.0 (none_found p xs none.1)
+
+pub find_on : {A : Type 0} (p q : A → Bool) (xs : List A) → AllByRecursion (λ x. p x ≡ q x) xs → find p xs ≡ find q xs
+find_on p q [] all = refl
+find_on p q (x ∷ xs) all = ap₂ (λ b o. cond b (Some x) o) all.0 (find_on p q xs all.1)

@@ -88,3 +88,17 @@ reaching m name (Seats seat) t = replacing m name seat t
 -- a change: its author's row, the author's orders, and the effect on the game
 abbrev pub changing : Chart → Change → Tables → Tables
 changing m c t = reaching m c.game c.effect (ordering m c.author c.game c.effect (noting m c.author c.game c.kept c.effect t))
+
+-- the same, reader by reader: an item more in the inbox, and its number in the seat's row
+abbrev pub with_items : ℕ → SeatRow → SeatRow
+with_items n s = record s { items = n }
+
+abbrev pub delivering_one : Item → SeatRow → Tables → Tables
+delivering_one item s t = record t {
+  seats = update_where (is_seat s.game s.power) (with_items (s.items + 1)) t.seats;
+  boxes = t.boxes ++ next_row item s ∷ [];
+}
+
+abbrev pub delivering_each : Item → List SeatRow → Tables → Tables
+delivering_each item [] t = t
+delivering_each item (s ∷ ss) t = delivering_each item ss (delivering_one item s t)

@@ -2,6 +2,7 @@ pub mod Changing
 pub mod Coding
 pub mod Counting
 pub mod Laws
+pub mod Looking
 pub mod Reading
 pub mod Tables
 pub mod Texts

@@ -4,7 +4,7 @@ use Rattle.dip_chart.specs.Charts.{Chart}
 use Rattle.dip_board_rows.specs.Boards.{code, power_name, season_number, standoff_text}
 use Rattle.dip_records.specs.Records.{Public, Item, White, Grey, Kept, Standing, Status, Running, Paused, Closed, Ended, Won, Drawn}
 use Rattle.dip_machine.specs.State.{NewSeat, Effect, Nothing, Pending, Votes, Delivers, Opens, Publishes, Seats}
-use Rattle.dip_tables.specs.Tables.{DeskRow, GameRow, SeatRow, PendingRow, BoxRow, PaperRow}
+use Rattle.dip_tables.specs.Tables.{DeskRow, GameRow, SeatRow, PendingRow, BoxRow, PaperRow, Tables}
 use Rattle.dip_tables.specs.Texts.{joined, ended}
 
 abbrev pub number_of : Bool → ℕ
@@ -98,3 +98,16 @@ seat_effect (Seats seat) s = s
 
 abbrev pub seat_noted : Kept → Effect → SeatRow → SeatRow
 seat_noted k e s = seat_effect e (seat_kept k s)
+
+-- the tables of a new desk, of version 1
+abbrev pub new_tables : List ℕ → List ℕ → Tables
+new_tables map_sum digest = record {
+  desk = record { id = 1; version = 1; map = map_sum; digest = digest; last = 0; kept = []; reply = [] } ∷ [];
+  games = [];
+  seats = [];
+  units = [];
+  centres = [];
+  pending = [];
+  boxes = [];
+  papers = [];
+}

@@ -1,5 +1,6 @@
 mod Parts
 mod Pieces
 mod Owners
-mod Standoffs
+pub mod Standoffs
+pub mod Listed
 pub mod Returns

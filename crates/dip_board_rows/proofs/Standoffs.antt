@@ -7,7 +7,7 @@ use Rattle.dip_board_rows.proofs.Parts.{all_parts, code_back}
 
 module _ (m : Chart) (ok : IsMap m) where
   -- a code is three bytes
-  three : (c : List ℕ) → is_code c ≡ true → (x : ℕ) × (y : ℕ) × (z : ℕ) × (c ≡ x ∷ y ∷ z ∷ [])
+  pub three : (c : List ℕ) → is_code c ≡ true → (x : ℕ) × (y : ℕ) × (z : ℕ) × (c ≡ x ∷ y ∷ z ∷ [])
   three [] h = absurd (cc)
   three (x ∷ []) h = absurd (cc)
   three (x ∷ y ∷ []) h = absurd (cc)

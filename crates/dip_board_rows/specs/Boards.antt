@@ -142,6 +142,9 @@ fell r = r.dislodged == 1
 abbrev pub owner_in : Chart → List CentreRow → List ℕ → Option ℕ
 owner_in m rows c = option_and_then (λ r. power_of m r.power) (find (λ r. bytes_eq r.province c) rows)
 
+abbrev pub owner_at : Chart → List CentreRow → ℕ → Option ℕ
+owner_at m rows p = owner_in m rows (code m p)
+
 -- three bytes a code, and one between two
 abbrev pub standoff_of : Chart → List ℕ → List ℕ
 standoff_of m (a ∷ b ∷ c ∷ d ∷ rest) = prov_in m (a ∷ b ∷ c ∷ []) ∷ standoff_of m rest

@@ -3,22 +3,29 @@ use Rattle.std.proofs.Common.{◌≡◌, ℕ, ◌<◌, Bool, true, false, cond, 
 use Rattle.std.specs.Prelude.{option_and_then}
 use Rattle.std.specs.List.{AllByRecursion}
 use Rattle.std.proofs.lemmas.Bool.{false≢true}
+use Rattle.dip_letters.specs.Letters.{FitsRequest}
 use Rattle.dip_letters.specs.Notes.{NoticeRequest, PlayerRequest, Request, SeatNote}
 use Rattle.dip_letters.specs.Notes.MasterRequest.{Create, Tick, Replace, Notify}
 use Rattle.dip_letters.specs.Notes.PlayerRequest.{Press}
 use Rattle.dip_letters.specs.Notes.Request.{Player, Master}
 use Rattle.dip_chart.specs.Charts.{Chart, power_of}
-use Rattle.dip_records.specs.Records.{Item, Reply}
-use Rattle.dip_machine.specs.Machine.{DecidedBy, Decides, IsDamagedBy, IsDamagedGame, IsForeign, IsDamagedSight, IsForeignTo, IsFull, IsSpoiledIn, MayBeDamaged, Sees, NoGame, ASeat, Settles, Step, after, OfMaster, OfNobody, OfSeat, Sight, Verdict, NotKnown, Again, OutOfTurn, Taken, author, author_of, digest, master_author, master_sees, master_sight, page_shown, power_author, power_sight, seat_author, seat_sight, seen_in, sight_of, verdict_by, verdict_on}
-use Rattle.dip_machine.specs.Fitting.{EffectsFit}
-use Rattle.dip_machine.specs.Mail.{Mail}
-use Rattle.dip_machine.specs.State.{Author, Effect, Game, Nobody, Nothing, Part, Pending, Votes, Delivers, Opens, Publishes, Seats, Seat, State, TheMaster, game_at, own_at, own_of, part_at, public_at, seat_at, whole_of}
-use Rattle.dip_desk.specs.Fitting.{FindsPlace, FitsGame, VerdictFits}
+use Rattle.dip_records.specs.Records.{Item, Public, Reply}
+use Rattle.dip_machine.specs.Machine.{DecidedBy, Decides, IsDamagedBy, IsDamagedGame, IsForeign, IsDamagedSight, IsForeignTo, IsFull, IsSpoiledIn, MayBeDamaged, Sees, NoGame, ASeat, Settles, Step, after, OfMaster, OfNobody, OfSeat, Sight, Verdict, NotKnown, Again, OutOfTurn, Taken, author, author_of, change_of, digest, master_author, master_sees, master_sight, page_shown, power_author, power_sight, seat_author, seat_sight, seen_in, sight_of, verdict_by, verdict_on}
+use Rattle.dip_machine.specs.Fitting.{EffectsFit, LawfulEffectsFit}
+use Rattle.dip_machine.specs.Lawful.{IsLawfulGame}
+use Rattle.dip_machine.specs.Mail.{IsMail, Mail}
+use Rattle.dip_machine.specs.State.{Author, Effect, Game, name_of, Nobody, Nothing, Part, Pending, Votes, Delivers, Opens, Publishes, Seats, Seat, State, TheMaster, game_at, own_at, own_of, part_at, public_at, seat_at, whole_of}
+use Rattle.dip_machine.specs.Ticking.{public_played}
+use Rattle.dip_machine.specs.Writable.{IsPlainItem}
+use Rattle.dip_desk.specs.Fitting.{ChangesFit, FindsPlace, Fits, FitsGame, VerdictFits}
 use Rattle.dip_desk.specs.Looked.{is_seen, public_seen, seat_by, seat_seen, whole_seen}
 use Rattle.dip_desk.specs.Stored.{is_press}
 use Rattle.dip_machine.proofs.Fitting.{readers_low}
+use Rattle.dip_machine.proofs.LawfulStates.{seats_room}
+use Rattle.dip_machine.proofs.ListLemmas.{all_at}
 use Rattle.dip_machine.proofs.Others.{seat_sent}
-use Rattle.dip_machine.proofs.Suiting.{Comes, IsFitting, decides_suits, opens_where}
+use Rattle.dip_machine.proofs.Suiting.{Comes, IsPosted, decides_suits, master_posted, opens_where}
+use Rattle.dip_machine.proofs.WritableLemmas.{author_known, item_plain}
 
 -- a sight is the author's, and what is decided by it is what may be decided
 abbrev pub IsRight : Chart → Mail → State → Author → Sight → Type 0
@@ -57,9 +64,9 @@ game_spoiled : (m : Chart) (command : Request) (game : Option Game) → IsDamage
 game_spoiled m command None bad = bad
 game_spoiled m (Player command) (Some g) bad = bad
 game_spoiled m (Master (Create due period grey seats)) (Some g) bad = bad
-game_spoiled m (Master (Tick tick)) (Some g) bad = bad
+game_spoiled m (Master (Tick tick)) (Some g) bad = λ can of. bad can
 game_spoiled m (Master (Replace seat)) (Some g) bad = bad
-game_spoiled m (Master (Notify notice)) (Some g) bad = bad
+game_spoiled m (Master (Notify notice)) (Some g) bad = λ can of. bad can
 
 pub is_right : (m : Chart) (n : Mail) (s : State) → IsRight m n s (author m n s) (sight_of m n s)
 is_right m n s = go (bytes_eq n.note.sender (codes "master"))
@@ -130,21 +137,67 @@ settled_by_sight m n s t sight who v r is whose decided done =
     let right : IsRight m n s (author m n s) sight = subst (IsRight m n s (author m n s)) (sym is) (is_right m n s) in
     (v, right.1 v decided, done.0, done.1 ∙ ap (λ (a : Author). after n a v s) (whose ∙ right.0))
 
--- what is decided by a sight finds place, and where it doesn't fit the map, its author's record may be Damaged
-pub unfit_by_sight : (m : Chart) (n : Mail) (s : State) (sight : Sight) (v : Verdict) → EffectsFit m → sight ≡ sight_of m n s → DecidedBy m n sight v
-    → (VerdictFits m n v s → ⊥) → IsDamagedBy m n s
-unfit_by_sight m n s sight v fit is decided =
-    let right : IsRight m n s (author m n s) sight = subst (IsRight m n s (author m n s)) (sym is) (is_right m n s) in blamed v (right.1 v decided)
-  where
-    finds_place : (name : List ℕ) (who : Author) (game : Option Game) (e : Effect) → (is_press e ≡ false) → IsFitting name who game e → FindsPlace name e game
-    finds_place name who game Nothing quiet h = tt
-    finds_place name who game (Pending orders) quiet h = tt
-    finds_place name who game (Votes draw) quiet h = tt
-    finds_place name who game (Delivers readers item) quiet h = absurd (false≢true (sym quiet))
-    finds_place name who game (Publishes public paper played) quiet h = tt
-    finds_place name who game (Seats seat) quiet h = tt
-    finds_place name who game (Opens public paper seats) quiet h = let all = opens_where name who game public paper seats h in (all.2, all.1)
+-- what is published has the next number of its game
+next_paper : (m : Chart) (name : List ℕ) (command : Request) (game : Option Game) (text : List ℕ) (public : Public) (paper : List ℕ) (played : Bool)
+    → IsPosted m command game (Taken text (Publishes public paper played)) → FindsPlace name (Publishes public paper played) game
+next_paper m name command game text public paper true by =
+    let p = by.4 in
+    let behind : public ≡ public_played by.0 by.1.public p.board p.report.course = cc in
+    subst (FindsPlace name (Publishes public paper true)) (sym by.3) (ap (λ (q : Public). q.papers) behind)
+next_paper m name command game text public paper false by = subst (FindsPlace name (Publishes public paper false)) (sym by.1) by.2.papers
 
+-- a paper comes from the master, in a game that is there
+published : (m : Chart) (s : State) (n : Mail) (who : Author) (text : List ℕ) (public : Public) (paper : List ℕ) (played : Bool) → Decides m s n who (Taken text (Publishes public paper played))
+    → FindsPlace n.note.game (Publishes public paper played) (game_at n.note.game s)
+published m s n Nobody text public paper played d = absurd (decides_suits m s n Nobody (Taken text (Publishes public paper played)) d).0
+published m s n TheMaster text public paper played d =
+    next_paper m n.note.game n.note.command (game_at n.note.game s) text public paper played
+    (master_posted m n s.desk.kept n.note.command (game_at n.note.game s) (Taken text (Publishes public paper played)) d)
+published m s n (Seat p) text public paper played d = absurd (none (game_at n.note.game s) (decides_suits m s n (Seat p) (Taken text (Publishes public paper played)) d).0)
+  where
+    none : (game : Option Game) → Comes (Seat p) game (Publishes public paper played) → ⊥
+    none None comes = comes
+    none (Some g) comes = comes
+
+-- what is no press finds place
+finds_place : (m : Chart) (s : State) (n : Mail) (who : Author) (text : List ℕ) (e : Effect) → (is_press e ≡ false) → Decides m s n who (Taken text e) → FindsPlace n.note.game e (game_at n.note.game s)
+finds_place m s n who text Nothing quiet d = tt
+finds_place m s n who text (Pending orders) quiet d = tt
+finds_place m s n who text (Votes draw) quiet d = tt
+finds_place m s n who text (Delivers readers item) quiet d = absurd (false≢true (sym quiet))
+finds_place m s n who text (Publishes public paper played) quiet d = published m s n who text public paper played d
+finds_place m s n who text (Seats seat) quiet d = tt
+finds_place m s n who text (Opens public paper seats) quiet d =
+    let all = opens_where n.note.game who (game_at n.note.game s) public paper seats (decides_suits m s n who (Taken text (Opens public paper seats)) d) in (all.2, all.1)
+
+-- a change of a letter of the grammar fits where its effect does
+whole : (m : Chart) (s : State) (n : Mail) (text : List ℕ) (e : Effect) → IsMail n → FitsGame m n.note.game e (game_at n.note.game s) → Fits m (change_of n (author m n s) text e) s
+whole m s n text e is effect = record { author = author_known m n s; least = is.number_least; most = is.number_most; name = is.game; effect = effect }
+
+-- in a lawful state each change fits: press finds room in each seat
+pub changes_fit : (m : Chart) → LawfulEffectsFit m → ChangesFit m
+changes_fit m fit s n text e l is d = whole m s n text e is (fit s n (author m n s) text e l is d, place e d)
+  where
+    room : (readers : List ℕ) (item : Item) (game : Option Game) → game_at n.note.game s ≡ game → FindsPlace n.note.game (Delivers readers item) game
+    room readers item None found = tt
+    room readers item (Some g) found = seats_room m g.public.board g.seats (all_at bytes_eq name_of n.note.game (IsLawfulGame m) s.games g l.games found).seats
+
+    place : (e : Effect) → Decides m s n (author m n s) (Taken text e) → FindsPlace n.note.game e (game_at n.note.game s)
+    place Nothing d = finds_place m s n (author m n s) text Nothing refl d
+    place (Pending orders) d = finds_place m s n (author m n s) text (Pending orders) refl d
+    place (Votes draw) d = finds_place m s n (author m n s) text (Votes draw) refl d
+    place (Delivers readers item) d = room readers item (game_at n.note.game s) refl
+    place (Opens public paper seats) d = finds_place m s n (author m n s) text (Opens public paper seats) refl d
+    place (Publishes public paper played) d = finds_place m s n (author m n s) text (Publishes public paper played) refl d
+    place (Seats seat) d = finds_place m s n (author m n s) text (Seats seat) refl d
+
+-- what is decided by a sight finds place, and where it doesn't fit the map, its author's record may be Damaged
+pub unfit_by_sight : (m : Chart) (n : Mail) (s : State) (sight : Sight) (who : Author) (v : Verdict) → EffectsFit m → IsMail n → sight ≡ sight_of m n s → who ≡ author_of sight
+    → DecidedBy m n sight v → (VerdictFits m n who v s → ⊥) → IsDamagedBy m n s
+unfit_by_sight m n s sight who v fit is_mail is whose decided unfit =
+    let right : IsRight m n s (author m n s) sight = subst (IsRight m n s (author m n s)) (sym is) (is_right m n s) in
+    blamed v (right.1 v decided) (subst (λ (a : Author). VerdictFits m n a v s → ⊥) (whose ∙ right.0) unfit)
+  where
     -- press that finds no place is of a game with a full count
     full : (who : Author) (text : List ℕ) (readers : List ℕ) (item : Item) → Decides m s n who (Taken text (Delivers readers item))
         → (FitsGame m n.note.game (Delivers readers item) (game_at n.note.game s) → ⊥) → MayBeDamaged m s n who
@@ -152,26 +205,27 @@ unfit_by_sight m n s sight v fit is decided =
     full TheMaster text readers item d unfit = absurd (decides_suits m s n TheMaster (Taken text (Delivers readers item)) d).0
     full (Seat p) text readers item d unfit =
         let sent = seat_sent m s n p (Taken text (Delivers readers item)) d in
+        let press = subst FitsRequest sent.3 is_mail.command in
         let on_map : AllByRecursion (λ q. q < length m.realms) readers = readers_low m p sent.1 readers sent.4 in
-        inr (inr (subst (λ (c : Request). IsFull c (game_at n.note.game s)) (sym sent.3) (by sent.0 sent.1 sent.2 (game_at n.note.game s) (decides_suits m s n (Seat p) (Taken text (Delivers readers item)) d).0 (λ place. unfit (on_map, place)))))
+        let plain : IsPlainItem item = subst IsPlainItem (sym sent.6) (item_plain m p sent.0 sent.1 sent.2 press.0 press.1) in
+        inr (inr (subst (λ (c : Request). IsFull c (game_at n.note.game s)) (sym sent.3)
+        (by sent.0 sent.1 sent.2 (game_at n.note.game s) (decides_suits m s n (Seat p) (Taken text (Delivers readers item)) d).0 (λ place. unfit ((on_map, plain), place)))))
       where
         by : (grey : Bool) (names lines : List (List ℕ)) (game : Option Game) → Comes (Seat p) game (Delivers readers item) → (FindsPlace n.note.game (Delivers readers item) game → ⊥)
             → IsFull (Player (Press grey names lines)) game
         by grey names lines None comes none = absurd comes
         by grey names lines (Some g) comes none = none
 
-    blamed : (v : Verdict) → Decides m s n (author m n s) v → (VerdictFits m n v s → ⊥) → IsDamagedBy m n s
+    blamed : (v : Verdict) → Decides m s n (author m n s) v → (VerdictFits m n (author m n s) v s → ⊥) → IsDamagedBy m n s
     blamed NotKnown d unfit = absurd (unfit tt)
     blamed (Again text) d unfit = absurd (unfit tt)
     blamed (OutOfTurn text) d unfit = absurd (unfit tt)
-    blamed (Taken text e) d unfit = kinds e d unfit
+    blamed (Taken text e) d unfit = kinds e d (λ fits. unfit (whole m s n text e is_mail fits))
       where
-        other : (e : Effect) → is_press e ≡ false → Decides m s n (author m n s) (Taken text e) → (VerdictFits m n (Taken text e) s → ⊥) → IsDamagedBy m n s
-        other e quiet d unfit =
-            fit s n (author m n s) text e d
-            (λ on_map. unfit (on_map, finds_place n.note.game (author m n s) (game_at n.note.game s) e quiet (decides_suits m s n (author m n s) (Taken text e) d)))
+        other : (e : Effect) → is_press e ≡ false → Decides m s n (author m n s) (Taken text e) → (FitsGame m n.note.game e (game_at n.note.game s) → ⊥) → IsDamagedBy m n s
+        other e quiet d unfit = fit s n (author m n s) text e is_mail d (λ on_map. unfit (on_map, finds_place m s n (author m n s) text e quiet d))
 
-        kinds : (e : Effect) → Decides m s n (author m n s) (Taken text e) → (VerdictFits m n (Taken text e) s → ⊥) → IsDamagedBy m n s
+        kinds : (e : Effect) → Decides m s n (author m n s) (Taken text e) → (FitsGame m n.note.game e (game_at n.note.game s) → ⊥) → IsDamagedBy m n s
         kinds Nothing d unfit = other Nothing refl d unfit
         kinds (Pending orders) d unfit = other (Pending orders) refl d unfit
         kinds (Votes draw) d unfit = other (Votes draw) refl d unfit

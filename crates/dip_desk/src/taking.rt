@@ -117,7 +117,8 @@ fn settle<K: Keeper>(
     requires { K.book.faults keeper.old < u64.MAX }
     ensures { Steps map.now K.book keeper.old keeper.new (λ r. rows.reply r)
         (m.Settles (mail letter.now) (desk_rows.author author) (verdict decided))
-        (λ s. VerdictFits map.now (mail letter.now) (verdict decided) s → ⊥) result }
+        (λ s. VerdictFits map.now (mail letter.now) (desk_rows.author author) (verdict decided) s
+        → ⊥) result }
 {
     match decided {
         Verdict::NotKnown => Ok(not_known(alloc)?),

@@ -1,7 +1,6 @@
 -- What is decided of a letter fits the map.
-use Rattle.std.proofs.Common.{◌≡◌, ℕ, zero, suc, arith, bytes_eq, cond, not, ◌<◌, ◌==◌, ◌&&◌, ◌+◌, Bool, nat_lt, length, inl, inr, true, false, List, [], ◌∷◌, map, Option, Some, None, Result, Ok, Err, refl, sym, ap, subst}
-use Rattle.std.specs.List.{AllByRecursion, list_any, range_with_len}
-use Rattle.std.specs.Prelude.{filter}
+use Rattle.std.proofs.Common.{◌≡◌, ℕ, bytes_eq, not, ◌<◌, ◌≤◌, ◌==◌, ◌&&◌, ◌+◌, Bool, nat_lt, length, inl, inr, true, false, List, [], ◌∷◌, map, Option, Some, None, Result, Ok, Err, refl, sym, ap, subst}
+use Rattle.std.specs.List.{AllByRecursion, list_any}
 use Rattle.std.proofs.lemmas.List.Quantifiers.{position-Some}
 use Rattle.std.proofs.lemmas.Bool.{and_parts, ltb-true}
 use Rattle.dip_names.specs.declared.names.Kind.{Kind}
@@ -10,6 +9,7 @@ use Rattle.dip_names.specs.declared.names.Unit.{Unit as AUnit}
 use Rattle.dip_board.specs.declared.boards.Dislodged.{Dislodged}
 use Rattle.dip_board.specs.Boards.{Position, IsOf, is_dislodged, opening}
 use Rattle.dip_chart.specs.Charts.{Chart, IsMap, Realm, home, is_unit, may_stand, no_realm, power_of, powers}
+use Rattle.dip_letters.specs.Letters.{FitsRequest}
 use Rattle.dip_letters.specs.Notes.{Request}
 use Rattle.dip_letters.specs.Notes.MasterRequest.{Tick}
 use Rattle.dip_letters.specs.Notes.Request.{Master}
@@ -22,17 +22,19 @@ use Rattle.dip_orders.specs.declared.placed.Order.{Order}
 use Rattle.dip_orders.specs.declared.placed.Order.TheVariants.{Hold, Move, SupportHold, SupportMove, Convoy, Retreat, Disband, Build, Remove}
 use Rattle.dip_orders.specs.declared.placed.PlacedOrder.{PlacedOrder}
 use Rattle.dip_records.specs.Records.{Item, Own, Public, Standing}
-use Rattle.dip_machine.specs.Fitting.{EffectsFit, FitsMap}
+use Rattle.dip_machine.specs.Fitting.{EffectsFit, FitsMap, LawfulEffectsFit}
 use Rattle.dip_machine.specs.Lawful.{AreAscending}
 use Rattle.dip_machine.specs.Machine.{IsOffMap, IsPublished, IsSpoiledIn, Verdict, NotKnown, Again, OutOfTurn, Taken, page_shown, seat_command, seen_in, verdict_by, verdict_on}
-use Rattle.dip_machine.specs.Mail.{Mail}
+use Rattle.dip_machine.specs.Mail.{IsMail, Mail}
 use Rattle.dip_machine.specs.Ordering.{Ordered, after_line, after_lines, kept_orders, orders_after, orders_that_stand, outcome_of_lines, prov_of, standing_with}
 use Rattle.dip_machine.specs.Pressing.{named_powers, readers_of, with_power}
 use Rattle.dip_machine.specs.State.{Effect, Game, Nobody, Nothing, Part, Pending, Votes, Delivers, Opens, Publishes, Seats, Seat, TheMaster, game_at, seat_at, whole_of}
 use Rattle.dip_machine.specs.Ticking.{IsPlayable, orders_of, public_played}
+use Rattle.dip_machine.specs.Writable.{IsPublicOf}
 use Rattle.dip_machine.proofs.LawfulOrders.{AreRead, all_with_order, with_order_ascending}
-use Rattle.dip_machine.proofs.LawfulStates.{OpensLawful, StaysOf, master_lawful}
+use Rattle.dip_machine.proofs.LawfulStates.{OpensLawful, StaysOf, master_lawful, playable, public_of}
 use Rattle.dip_machine.proofs.Suiting.{Comes, IsPosted, command_holds, decides_suits, master_posted, readers_hold, seat_holds}
+use Rattle.dip_machine.proofs.WritableLemmas.{all_filtered, item_plain, of_played, powers_low}
 
 -- the unit of an order that can be given is in a province of the map
 
@@ -116,18 +118,6 @@ VerdictFits m (Again text) = Unit {0}
 VerdictFits m (OutOfTurn text) = Unit {0}
 VerdictFits m (Taken text e) = FitsMap m e
 
-all_filtered : (P : ℕ → Type 0) (test : ℕ → Bool) (ps : List ℕ) → AllByRecursion P ps → AllByRecursion P (filter test ps)
-all_filtered P test [] all = tt
-all_filtered P test (p ∷ ps) all = go (test p) (all_filtered P test ps all.1)
-  where
-    go : (b : Bool) → AllByRecursion P (filter test ps) → AllByRecursion P (cond b (p ∷ filter test ps) (filter test ps))
-    go true rest = (all.0, rest)
-    go false rest = rest
-
-powers_low : (i n most : ℕ) → i + n ≡ most → AllByRecursion (λ p. p < most) (range_with_len i n)
-powers_low i zero most all = tt
-powers_low i (suc n) most all = (omega (arith, all), powers_low (i + 1) n most (omega (arith, all)))
-
 -- the powers of names are powers of the map
 named_low : (m : Chart) (names : List (List ℕ)) (found : List ℕ) → named_powers m names ≡ Some found → AllByRecursion (λ p. p < length m.realms) found
 named_low m [] found is = let none : [] ≡ found = cc in subst (AllByRecursion (λ p. p < length m.realms)) none tt
@@ -144,11 +134,12 @@ named_low m (name ∷ names) found is = go (power_of m name) refl (named_powers 
 pub readers_low : (m : Chart) (writer : ℕ) (names : List (List ℕ)) (readers : List ℕ) → readers_of m writer names ≡ Some readers → AllByRecursion (λ p. p < length m.realms) readers
 readers_low m writer names readers =
     readers_hold (AllByRecursion (λ p. p < length m.realms)) m writer names readers
-    (all_filtered (λ p. p < length m.realms) (λ p. not (p == writer)) (powers m) (powers_low 0 (length m.realms) (length m.realms) (omega arith)))
+    (all_filtered (λ p. p < length m.realms) (λ p. not (p == writer)) (powers m) (powers_low m))
     (λ found is may. named_low m names found is)
 
-command_fits : (m : Chart) (p : Public) (o : Own) (page : List Item) (command : Request) → IsMap m → IsOf m p.board → AreRead m p.board → VerdictFits m (seat_command m command p o page)
-command_fits m p o page command ok of read = command_holds (VerdictFits m) m command p o page (record {
+command_fits : (m : Chart) (p : Public) (o : Own) (page : List Item) (command : Request) → FitsRequest command → IsMap m → IsOf m p.board → AreRead m p.board
+    → VerdictFits m (seat_command m command p o page)
+command_fits m p o page command fits ok of read = command_holds (VerdictFits m) m command p o page (record {
   refused = λ r. tt;
   told = λ t. tt;
   ordered = λ lines.
@@ -157,44 +148,78 @@ command_fits m p o page command ok of read = command_holds (VerdictFits m) m com
       (standing_fit m p.board o.power [] o.pending ok of read (record { ascending = tt; low = tt })));
   withdrawn = (tt, tt);
   voted = λ draw. tt;
-  sent = λ grey names lines readers is found few. readers_low m o.power names readers found;
+  sent = λ grey names lines readers is found few.
+      let press = subst FitsRequest is fits in
+      (readers_low m o.power names readers found, item_plain m o.power grey names lines press.0 press.1);
 })
 
-seat_fits : (m : Chart) (n : Mail) (p : Public) (x : Option Part) → IsMap m → IsOf m p.board → AreRead m p.board → VerdictFits m (verdict_by m n (Some p) x)
-seat_fits m n p None ok of read = tt
-seat_fits m n p (Some x) ok of read =
+seat_fits : (m : Chart) (n : Mail) (p : Public) (x : Option Part) → IsMail n → IsMap m → IsOf m p.board → AreRead m p.board → VerdictFits m (verdict_by m n (Some p) x)
+seat_fits m n p None is ok of read = tt
+seat_fits m n p (Some x) is ok of read =
     seat_holds (VerdictFits m) (λ t. tt) (λ t. tt) n x.own.kept (seat_command m n.note.command p x.own (page_shown n.note.command x.box))
-    (command_fits m p x.own (page_shown n.note.command x.box) n.note.command ok of read)
+    (command_fits m p x.own (page_shown n.note.command x.box) n.note.command is.command ok of read)
 
 -- what TICK publishes fits where the phase could be adjudicated
-ticked_fits : (m : Chart) (tick : ℕ) (g : Game) (text paper : List ℕ) (public : Public) (played : Bool) → StaysOf m → IsPlayable m (whole_of g)
-    → IsPublished m tick (whole_of g) (Taken text (Publishes public paper played)) → IsOf m public.board
-ticked_fits m tick g text paper public played stays can p =
+ticked_fits : (m : Chart) (tick : ℕ) (g : Game) (text paper : List ℕ) (public : Public) (played : Bool) → StaysOf m → tick ≤ 999999999999 → IsPlayable m (whole_of g)
+    → IsPublicOf m g.public → IsPublished m tick (whole_of g) (Taken text (Publishes public paper played)) → IsPublicOf m public
+ticked_fits m tick g text paper public played stays timely can of p =
     let behind : public ≡ public_played tick g.public p.board p.report.course = cc in
-    subst (λ (q : Public). IsOf m q.board) (sym behind) (stays g.public.board (orders_of m (whole_of g)) p.board p.report can.board can.given p.played)
+    let on = stays g.public.board (orders_of m (whole_of g)) p.board p.report can.board can.given p.played in
+    subst (IsPublicOf m) (sym behind) (of_played m tick g.public p.board p.report.course timely of on.0 on.1)
 
 -- the master's letters fit, but in a game where its command can't be done
-master_fits : (m : Chart) (command : Request) (game : Option Game) (text : List ℕ) (e : Effect) → IsOf m (opening m) → StaysOf m → Comes TheMaster game e → OpensLawful m command (Taken text e)
+master_fits : (m : Chart) (command : Request) (game : Option Game) (text : List ℕ) (e : Effect) → FitsRequest command → IsOf m (opening m) → StaysOf m → Comes TheMaster game e → OpensLawful m command (Taken text e)
     → IsPosted m command game (Taken text e) → (FitsMap m e → ⊥) → IsSpoiledIn m command game
-master_fits m command game text Nothing fine stays comes h by unfit = absurd (unfit tt)
-master_fits m command game text (Pending orders) fine stays comes h by unfit = absurd comes
-master_fits m command game text (Votes draw) fine stays comes h by unfit = absurd comes
-master_fits m command game text (Delivers readers item) fine stays comes h by unfit = absurd comes
-master_fits m command game text (Opens public paper seats) fine stays comes h by unfit = absurd (unfit (subst (IsOf m) (sym h.board) fine, h.complete, h.known))
-master_fits m command game text (Publishes public paper true) fine stays comes h by unfit =
-    subst (λ (c : Request). IsSpoiledIn m c game) (sym by.2) (subst (IsSpoiledIn m (Master (Tick by.0))) (sym by.3) (λ can. unfit (ticked_fits m by.0 by.1 text paper public true stays can by.4)))
-master_fits m command game text (Publishes public paper false) fine stays comes h by unfit =
-    subst (IsSpoiledIn m command) (sym by.1) (by.3 (λ of. unfit (subst (IsOf m) (sym by.2.board) of)))
-master_fits m command game text (Seats seat) fine stays comes h by unfit = absurd (unfit by)
+master_fits m command game text Nothing fits fine stays comes h by unfit = absurd (unfit tt)
+master_fits m command game text (Pending orders) fits fine stays comes h by unfit = absurd comes
+master_fits m command game text (Votes draw) fits fine stays comes h by unfit = absurd comes
+master_fits m command game text (Delivers readers item) fits fine stays comes h by unfit = absurd comes
+master_fits m command game text (Opens public paper seats) fits fine stays comes h by unfit = absurd (unfit (h.of_map fine fits, h.papers, h.complete, h.known))
+master_fits m command game text (Publishes public paper true) fits fine stays comes h by unfit =
+    let timely : by.0 ≤ 999999999999 = subst FitsRequest by.2 fits in
+    subst (λ (c : Request). IsSpoiledIn m c game) (sym by.2)
+    (subst (IsSpoiledIn m (Master (Tick by.0))) (sym by.3) (λ can of. unfit (ticked_fits m by.0 by.1 text paper public true stays timely can of by.4)))
+master_fits m command game text (Publishes public paper false) fits fine stays comes h by unfit =
+    subst (IsSpoiledIn m command) (sym by.1) (by.3 (λ of. unfit (by.2.stays fits of)))
+master_fits m command game text (Seats seat) fits fine stays comes h by unfit = absurd (unfit by)
 
 pub effects_fit : (m : Chart) → IsMap m → IsOf m (opening m) → ((b : Position) → IsOf m b → AreRead m b) → StaysOf m → EffectsFit m
-effects_fit m ok fine read stays s n Nobody text e d unfit = let bad : ◌≡◌ {A = Verdict} (Taken text e) NotKnown = d in absurd (cc)
-effects_fit m ok fine read stays s n TheMaster text e d unfit =
-    master_fits m n.note.command (game_at n.note.game s) text e fine stays (decides_suits m s n TheMaster (Taken text e) d).0
+effects_fit m ok fine read stays s n Nobody text e is d unfit = let bad : ◌≡◌ {A = Verdict} (Taken text e) NotKnown = d in absurd (cc)
+effects_fit m ok fine read stays s n TheMaster text e is d unfit =
+    master_fits m n.note.command (game_at n.note.game s) text e is.command fine stays (decides_suits m s n TheMaster (Taken text e) d).0
     (master_lawful m n s.desk.kept n.note.command (game_at n.note.game s) (Taken text e) d)
     (master_posted m n s.desk.kept n.note.command (game_at n.note.game s) (Taken text e) d) unfit
-effects_fit m ok fine read stays s n (Seat power) text e d unfit = inr (inl (go (game_at n.note.game s) d))
+effects_fit m ok fine read stays s n (Seat power) text e is d unfit = inr (inl (go (game_at n.note.game s) d))
   where
     go : (game : Option Game) → Taken text e ≡ verdict_on m n (seen_in power game) → IsOffMap m (seen_in power game).public
-    go None is = let bad : ◌≡◌ {A = Verdict} (Taken text e) NotKnown = is in absurd (cc)
-    go (Some g) is = λ of. unfit (subst (VerdictFits m) (sym is) (seat_fits m n g.public (seat_at power g.seats) ok of (read g.public.board of)))
+    go None same = let bad : ◌≡◌ {A = Verdict} (Taken text e) NotKnown = same in absurd (cc)
+    go (Some g) same = λ of. unfit (subst (VerdictFits m) (sym same) (seat_fits m n g.public (seat_at power g.seats) is ok of (read g.public.board of)))
+
+-- in a game that is there, whose phase can be adjudicated and whose public part is of the map, the master's letters fit
+master_sound : (m : Chart) (command : Request) (game : Option Game) (text : List ℕ) (e : Effect) → FitsRequest command → IsOf m (opening m) → StaysOf m → Comes TheMaster game e
+    → OpensLawful m command (Taken text e) → IsPosted m command game (Taken text e) → ((g : Game) → game ≡ Some g → IsPlayable m (whole_of g) × IsPublicOf m g.public) → FitsMap m e
+master_sound m command game text Nothing fits fine stays comes h by sound = tt
+master_sound m command game text (Pending orders) fits fine stays comes h by sound = absurd comes
+master_sound m command game text (Votes draw) fits fine stays comes h by sound = absurd comes
+master_sound m command game text (Delivers readers item) fits fine stays comes h by sound = absurd comes
+master_sound m command game text (Opens public paper seats) fits fine stays comes h by sound = (h.of_map fine fits, h.papers, h.complete, h.known)
+master_sound m command game text (Publishes public paper true) fits fine stays comes h by sound =
+    let timely : by.0 ≤ 999999999999 = subst FitsRequest by.2 fits in
+    let here = sound by.1 by.3 in ticked_fits m by.0 by.1 text paper public true stays timely here.0 here.1 by.4
+master_sound m command game text (Publishes public paper false) fits fine stays comes h by sound = by.2.stays fits (sound by.0 by.1).1
+master_sound m command game text (Seats seat) fits fine stays comes h by sound = by
+
+pub lawful_effects_fit : (m : Chart) → IsMap m → IsOf m (opening m) → ((b : Position) → IsOf m b → AreRead m b) → StaysOf m → LawfulEffectsFit m
+lawful_effects_fit m ok fine read stays s n Nobody text e l is d = let bad : ◌≡◌ {A = Verdict} (Taken text e) NotKnown = d in absurd (cc)
+lawful_effects_fit m ok fine read stays s n TheMaster text e l is d =
+    master_sound m n.note.command (game_at n.note.game s) text e is.command fine stays (decides_suits m s n TheMaster (Taken text e) d).0
+    (master_lawful m n s.desk.kept n.note.command (game_at n.note.game s) (Taken text e) d)
+    (master_posted m n s.desk.kept n.note.command (game_at n.note.game s) (Taken text e) d)
+    (λ g found. (playable m read s n.note.game g l found, public_of m s n.note.game g l found))
+lawful_effects_fit m ok fine read stays s n (Seat power) text e l is d = go (game_at n.note.game s) refl d
+  where
+    go : (game : Option Game) → game_at n.note.game s ≡ game → Taken text e ≡ verdict_on m n (seen_in power game) → FitsMap m e
+    go None found same = let bad : ◌≡◌ {A = Verdict} (Taken text e) NotKnown = same in absurd (cc)
+    go (Some g) found same =
+        let of = public_of m s n.note.game g l found in
+        subst (VerdictFits m) (sym same) (seat_fits m n g.public (seat_at power g.seats) is ok of.board (read g.public.board of.board))

@@ -253,4 +253,4 @@ pub whole_given : (m : Chart) (g : Game) → AreRead m g.public.board → IsLawf
 whole_given m g read l = subst (AreGiven m g.public.board) (sym (whole_orders m g.public.board g.seats)) (given_in m g read l)
 
 pub all_given : (m : Chart) → ((b : Position) → IsOf m b → AreRead m b) → StandingOrdersAreGiven m
-all_given m read s l = all_weaker (IsLawfulGame m) (λ g. AreGiven m g.public.board (orders_of m (whole_of g))) s.games (λ g lawful. whole_given m g (read g.public.board lawful.board) lawful) l.games
+all_given m read s l = all_weaker (IsLawfulGame m) (λ g. AreGiven m g.public.board (orders_of m (whole_of g))) s.games (λ g lawful. whole_given m g (read g.public.board lawful.public.board) lawful) l.games

@@ -23,11 +23,13 @@ use Rattle.dip_machine.specs.Machine.{Decides, DecidesIn, change_of, IsForeignTo
 use Rattle.dip_machine.specs.Mail.{IsMail, Mail}
 use Rattle.dip_machine.specs.Pressing.{is_among}
 use Rattle.dip_machine.specs.State.{State, Game, Part, Author, Nobody, TheMaster, Seat, Change, Effect, Nothing, Pending, Votes, Delivers, Opens, Publishes, Seats, NewSeat, behind_paper, desk_after, fresh, game_after, game_at, has_room, name_of, new_games, opening_game, own_of, papers_after, power_in, public_after, seat_at, whole_of, with_author, with_digest, with_effect, with_item, with_letter}
+use Rattle.dip_machine.specs.Writable.{IsPublicOf, IsStatusOf}
 use Rattle.dip_machine.specs.Ordering.{has_foreign}
-use Rattle.dip_machine.specs.Ticking.{IsPlayable, orders_of, public_played}
+use Rattle.dip_machine.specs.Ticking.{IsPlayable, orders_of, public_played, status_after}
 use Rattle.dip_orders.proofs.KeptLaws.{count_cons}
 use Rattle.dip_orders.specs.Given.{AreGiven}
 use Rattle.dip_orders.specs.declared.placed.PlacedOrder.{PlacedOrder}
+use Rattle.dip_turn.specs.Laws.{WinnersOwnMore}
 use Rattle.dip_turn.specs.Reports.{IsPlayed}
 use Rattle.dip_turn.specs.declared.report.Report.{Report}
 use Rattle.dip_machine.proofs.KeyedLemmas.{at-append, names_tell, powers_tell}
@@ -37,6 +39,7 @@ use Rattle.dip_machine.proofs.ListLemmas.{all_at, all_change, all_last, all_map,
 use Rattle.dip_machine.proofs.Seeing.{effect_power, letter_power, name_kept}
 use Rattle.dip_machine.proofs.Suiting.{Comes, IsFitting, IsPosted, command_holds, decides_suits, master_holds, master_posted, master_where, seat_holds}
 use Rattle.dip_machine.proofs.Handing.{each_counted, whole_given}
+use Rattle.dip_machine.proofs.WritableLemmas.{of_opening, of_played, of_renamed, status_played}
 
 -- names stay apart
 
@@ -217,12 +220,12 @@ abbrev AreSent : List Part → Type 0
 AreSent seats = AllByRecursion (λ s. length s.box ≤ sent_by_others (power_in s) seats) seats
 
 -- a game behind a letter, by what the letter does to each seat, to the public part and to the papers
-game_lawful : (m : Chart) (c : Change) (g : Game) → IsLawfulGame m g → IsOf m (public_after c.effect g.public).board
+game_lawful : (m : Chart) (c : Change) (g : Game) → IsLawfulGame m g → IsPublicOf m (public_after c.effect g.public)
     → ((p : ℕ) → c.author ≡ Seat p → (s : Part) → seat_at p g.seats ≡ Some s → IsLawfulSeat m g.public.board s → IsLawfulSeat m g.public.board (with_letter c.kept c.effect s))
     → ((s : Part) → IsLawfulSeat m g.public.board s → IsReached m (public_after c.effect g.public).board (with_effect c.effect s))
     → AreSent (seats_after c g) → (public_after c.effect g.public).papers ≡ length (papers_after c.effect g.papers) → IsLawfulGame m (game_after c g)
 game_lawful m c g l of own each boxes papers = record {
-  board = of;
+  public = of;
   powers = powers_stay;
   few = many;
   seats = all_boxed m (public_after c.effect g.public).board (seats_after c g) many powers_stay
@@ -422,7 +425,7 @@ seats_known m game [] seats is = let none : [] ≡ seats = cc in subst (AreKnown
 seats_known m game (n ∷ ns) seats is = one_more m game n (new_seats m game ns) seats (seats_known m game ns) (power_of m n.power) refl is
 
 pub record IsLawfulOpening (m : Chart) (command : Request) (public : Public) (seats : List NewSeat) : Type 0 where
-  pub board : public.board ≡ opening m
+  pub of_map : IsOf m (opening m) → FitsRequest command → IsPublicOf m public
   pub papers : public.papers ≡ 1
   pub complete : are_complete m seats ≡ true
   pub known : AreKnown m seats
@@ -458,7 +461,7 @@ master_lawful m n k command game v = master_holds (λ game. OpensLawful m comman
   out = λ game text. tt;
   free = λ r. tt;
   opened = λ due period grey notes found of is all. record {
-    board = refl;
+    of_map = λ fine fits. of_opening m n.note.game due period grey notes fine (subst FitsRequest of fits);
     papers = refl;
     complete = all;
     known = seats_known m n.note.game notes found is;
@@ -472,10 +475,10 @@ master_lawful m n k command game v = master_holds (λ game. OpensLawful m comman
   };
 })
 
-opened_lawful : (m : Chart) (command : Request) (public : Public) (paper : List ℕ) (seats : List NewSeat) → IsOf m (opening m) → length seats ≤ 7
+opened_lawful : (m : Chart) (command : Request) (public : Public) (paper : List ℕ) (seats : List NewSeat) → IsOf m (opening m) → FitsRequest command → length seats ≤ 7
     → IsLawfulOpening m command public seats → IsLawfulGame m (opening_game public paper seats)
-opened_lawful m command public paper seats fine few h = record {
-  board = subst (IsOf m) (sym h.board) fine;
+opened_lawful m command public paper seats fine fits few h = record {
+  public = h.of_map fine fits;
   powers = all_same (λ q. count_by (λ (s : Part). power_in s == q) (map fresh seats) == 1) (λ q. count_by (λ (s : NewSeat). s.power == q) seats == 1) (powers m)
       (λ q. ap (λ (c : ℕ). c == 1) (count_map fresh (λ (s : Part). power_in s == q) (λ (s : NewSeat). s.power == q) seats (λ s. refl)))
       ∙ h.complete;
@@ -541,9 +544,16 @@ silent_seat seat = record { sent = sent; box = box; own = λ k s. refl; kept = �
         go true = refl
         go false = refl
 
--- the board behind a phase is one of the map, where its orders could be given
+-- the board behind a phase is one of the map, where its orders could be given, and so is whoever has won
 abbrev pub StaysOf : Chart → Type 0
-StaysOf m = (b : Position) (pending : List PlacedOrder) (new : Position) (report : Report) → IsOf m b → AreGiven m b pending → IsPlayed m b pending new report → IsOf m new
+StaysOf m = (b : Position) (pending : List PlacedOrder) (new : Position) (report : Report) → IsOf m b → AreGiven m b pending → IsPlayed m b pending new report
+    → IsOf m new × IsStatusOf m (status_after report.course)
+
+pub stays_of : (m : Chart)
+    → ((b : Position) (pending : List PlacedOrder) (new : Position) (report : Report) → IsOf m b → AreGiven m b pending → IsPlayed m b pending new report → IsOf m new)
+    → WinnersOwnMore → StaysOf m
+stays_of m stays wins b pending new report of given played =
+    let on = stays b pending new report of given played in (on, status_played m b pending new report wins on played)
 
 -- numbers
 
@@ -614,7 +624,7 @@ lawful_after m fine again stays s n who (Taken text e) is d l = go who e d (deci
 
     idle : Decides m s n TheMaster (Taken text Nothing) → IsLawful m (after n TheMaster (Taken text Nothing) s)
     idle d = by_master Nothing d refl
-        (λ g found lg. game_lawful m (change_of n TheMaster text Nothing) g lg lg.board (λ p author part there lp. absurd (none_here p author)) (reached_same m g.public.board)
+        (λ g found lg. game_lawful m (change_of n TheMaster text Nothing) g lg lg.public (λ p author part there lp. absurd (none_here p author)) (reached_same m g.public.board)
         (silent_boxes (change_of n TheMaster text Nothing) g (record { sent = λ s. refl; box = λ s. refl; own = λ k s. refl; kept = λ k s. refl }) lg.boxes) lg.papers)
         (λ g found. omega arith)
 
@@ -634,7 +644,7 @@ lawful_after m fine again stays s n who (Taken text e) is d l = go who e d (deci
         record {
           games = all_last (IsLawfulGame m) (change_at bytes_eq name_of n.note.game f s.games) (opening_game public paper seats)
               (all_change bytes_eq name_of n.note.game f (IsLawfulGame m) s.games l.games (λ g found lg. absurd (absent g found)))
-              (opened_lawful m n.note.command public paper seats fine few opens);
+              (opened_lawful m n.note.command public paper seats fine is.command few opens);
           names = apart_last (change_at bytes_eq name_of n.note.game f s.games) (opening_game public paper seats)
               (apart_change n.note.game f s.games (name_kept (change_of n TheMaster text (Opens public paper seats))) l.names)
               (absent_change public.game n.note.game f s.games (name_kept (change_of n TheMaster text (Opens public paper seats)))
@@ -663,10 +673,10 @@ lawful_after m fine again stays s n who (Taken text e) is d l = go who e d (deci
         (λ g found lg.
         let same : g ≡ by.1 = found_one by.1 g by.3 found in
         let lh : IsLawfulGame m by.1 = subst (IsLawfulGame m) same lg in
-        let of : IsOf m public.board =
-        subst (λ (q : Public). IsOf m q.board) (sym behind)
-        (stays by.1.public.board (orders_of m (whole_of by.1)) p.board p.report lh.board (whole_given m by.1 (again by.1.public.board lh.board) lh) p.played) in
-        game_lawful m (change_of n TheMaster text (Publishes public paper true)) g lg of (λ p author part there lp. absurd (none_here p author))
+        let timely : by.0 ≤ 999999999999 = subst FitsRequest by.2 is.command in
+        let on = stays by.1.public.board (orders_of m (whole_of by.1)) p.board p.report lh.public.board (whole_given m by.1 (again by.1.public.board lh.public.board) lh) p.played in
+        let of : IsPublicOf m public = subst (IsPublicOf m) (sym behind) (of_played m by.0 by.1.public p.board p.report.course timely lh.public on.0 on.1) in
+        game_lawful m (change_of n TheMaster text (Publishes public paper true)) g lg (of_renamed m g.public.game public of) (λ p author part there lp. absurd (none_here p author))
         (reached_played m g.public.board public.board)
         (silent_boxes (change_of n TheMaster text (Publishes public paper true)) g (silent_paper public paper true) lg.boxes)
         (counted_on public paper g lg (counted ∙ ap (λ (h : Game). h.public.papers + 1) (sym same))))
@@ -680,7 +690,8 @@ lawful_after m fine again stays s n who (Taken text e) is d l = go who e d (deci
         (λ g found lg.
         let same : g ≡ by.0 = found_one by.0 g by.1 found in
         let board : public.board ≡ g.public.board = by.2.board ∙ ap (λ (h : Game). h.public.board) (sym same) in
-        game_lawful m (change_of n TheMaster text (Publishes public paper false)) g lg (subst (IsOf m) (sym board) lg.board) (λ p author part there lp. absurd (none_here p author))
+        let of : IsPublicOf m public = by.2.stays is.command (subst (λ (h : Game). IsPublicOf m h.public) same lg.public) in
+        game_lawful m (change_of n TheMaster text (Publishes public paper false)) g lg (of_renamed m g.public.game public of) (λ p author part there lp. absurd (none_here p author))
         (λ s ls. subst (λ (b : Position). IsReached m b s) (sym board) (reached_same m g.public.board s ls))
         (silent_boxes (change_of n TheMaster text (Publishes public paper false)) g (silent_paper public paper false) lg.boxes)
         (counted_on public paper g lg (counted ∙ ap (λ (h : Game). h.public.papers + 1) (sym same))))
@@ -693,7 +704,7 @@ lawful_after m fine again stays s n who (Taken text e) is d l = go who e d (deci
 
     seating : (seat : NewSeat) → Decides m s n TheMaster (Taken text (Seats seat)) → IsLawful m (after n TheMaster (Taken text (Seats seat)) s)
     seating seat d = by_master (Seats seat) d refl
-        (λ g found lg. game_lawful m (change_of n TheMaster text (Seats seat)) g lg lg.board (λ p author part there lp. absurd (none_here p author)) (reached_seated m g.public.board seat)
+        (λ g found lg. game_lawful m (change_of n TheMaster text (Seats seat)) g lg lg.public (λ p author part there lp. absurd (none_here p author)) (reached_seated m g.public.board seat)
         (silent_boxes (change_of n TheMaster text (Seats seat)) g (silent_seat seat) lg.boxes) lg.papers)
         (λ g found. omega arith)
 
@@ -703,7 +714,7 @@ lawful_after m fine again stays s n who (Taken text e) is d l = go who e d (deci
     own_part p e d comes g found lg q author part there lp =
         let same : p ≡ q = cc in
         letter_lawful m g.public.board (kept_of n text) p (game_at n.note.game s) e part comes is.number_most lp
-        (seat_fits m n g p text e (again g.public.board lg.board) (d ∙ ap (λ (x : Option Game). verdict_on m n (seen_in p x)) found) part
+        (seat_fits m n g p text e (again g.public.board lg.public.board) (d ∙ ap (λ (x : Option Game). verdict_on m n (seen_in p x)) found) part
         (subst (λ (x : ℕ). seat_at x g.seats ≡ Some part) (sym same) there) lp)
 
     -- a letter that has an author's seat is of one that is there
@@ -722,7 +733,7 @@ lawful_after m fine again stays s n who (Taken text e) is d l = go who e d (deci
         games_lawful m s n (Seat p) text e l none
         (λ g found lg.
         let stands : (public_after e g.public).board ≡ g.public.board = ap (λ (q : Public). q.board) (public g.public) in
-        game_lawful m (change_of n (Seat p) text e) g lg (subst (IsOf m) (sym stands) lg.board) (own_part p e d comes g found lg)
+        game_lawful m (change_of n (Seat p) text e) g lg (subst (IsPublicOf m) (sym (public g.public)) lg.public) (own_part p e d comes g found lg)
         (λ x lx. subst (λ (b : Position). IsReached m b (with_effect e x)) (sym stands) (subst (IsReached m g.public.board) (sym (seats x)) (reached_same m g.public.board x lx)))
         (silent_boxes (change_of n (Seat p) text e) g silent lg.boxes)
         (ap (λ (q : Public). q.papers) (public g.public) ∙ lg.papers ∙ ap length (sym (papers g.papers))))
@@ -734,7 +745,7 @@ lawful_after m fine again stays s n who (Taken text e) is d l = go who e d (deci
         games_lawful m s n (Seat p) text (Delivers readers item) l refl
         (λ g found lg.
         let here = seat_here p (Delivers readers item) g d found in
-        game_lawful m (change_of n (Seat p) text (Delivers readers item)) g lg lg.board (own_part p (Delivers readers item) d comes g found lg) (reached_delivered m g.public.board readers item)
+        game_lawful m (change_of n (Seat p) text (Delivers readers item)) g lg lg.public (own_part p (Delivers readers item) d comes g found lg) (reached_delivered m g.public.board readers item)
         (delivered_boxes (kept_of n text) p readers item g.seats here.0 (apart (game_at n.note.game s) g found comes) here.1 lg.boxes) lg.papers)
         (λ g found few. few) (omega arith) l.last
       where
@@ -783,21 +794,25 @@ none_foreign m b (s ∷ ss) read all =
     ap (λ (t : Bool). t || list_any (λ o. has_foreign m b o.power o.pending) (map (λ s. s.own) ss)) (standing_own m b (power_in s) s.own.pending read all.0.pending)
     ∙ none_foreign m b ss read all.1
 
+-- the public part of a lawful state's game is one of the map
+pub public_of : (m : Chart) (s : State) (name : List ℕ) (g : Game) → IsLawful m s → game_at name s ≡ Some g → IsPublicOf m g.public
+public_of m s name g l found = (all_at bytes_eq name_of name (IsLawfulGame m) s.games g l.games found).public
+
 -- the phase of a lawful state's game can be adjudicated
-playable : (m : Chart) → ((b : Position) → IsOf m b → AreRead m b) → (s : State) (name : List ℕ) (g : Game) → IsLawful m s → game_at name s ≡ Some g → IsPlayable m (whole_of g)
+pub playable : (m : Chart) → ((b : Position) → IsOf m b → AreRead m b) → (s : State) (name : List ℕ) (g : Game) → IsLawful m s → game_at name s ≡ Some g → IsPlayable m (whole_of g)
 playable m read s name g l found =
     let lg : IsLawfulGame m g = all_at bytes_eq name_of name (IsLawfulGame m) s.games g l.games found in
     let few : g.public.papers ≤ last_number s.desk.kept = all_at bytes_eq name_of name (λ (h : Game). h.public.papers ≤ last_number s.desk.kept) s.games g l.numbered found in
     let most = l.last in
     record {
-      board = lg.board;
-      lines = none_foreign m g.public.board g.seats (read g.public.board lg.board) lg.seats;
-      given = whole_given m g (read g.public.board lg.board) lg;
+      board = lg.public.board;
+      lines = none_foreign m g.public.board g.seats (read g.public.board lg.public.board) lg.seats;
+      given = whole_given m g (read g.public.board lg.public.board) lg;
       papers = omega (arith, few, most);
     }
 
 -- each seat's counts have room
-seats_room : (m : Chart) (b : Position) (seats : List Part) → AllByRecursion (IsLawfulSeat m b) seats → list_all (λ s. has_room s.own) seats ≡ true
+pub seats_room : (m : Chart) (b : Position) (seats : List Part) → AllByRecursion (IsLawfulSeat m b) seats → list_all (λ s. has_room s.own) seats ≡ true
 seats_room m b [] all = refl
 seats_room m b (s ∷ ss) all =
     let sent : s.own.sent ≤ 10000 = all.0.sent in
@@ -814,9 +829,9 @@ never_damaged m read s n TheMaster l h = go n.note.command (game_at n.note.game 
     spoiled : (command : Request) (g : Game) → game_at n.note.game s ≡ Some g → IsSpoiled m command g → ⊥
     spoiled (Player command) g is h = h
     spoiled (Master (Create due period grey seats)) g is h = h
-    spoiled (Master (Tick tick)) g is h = h (playable m read s n.note.game g l is)
+    spoiled (Master (Tick tick)) g is h = h (playable m read s n.note.game g l is) (public_of m s n.note.game g l is)
     spoiled (Master (Replace seat)) g is h = h
-    spoiled (Master (Notify notice)) g is h = let can = playable m read s n.note.game g l is in h (record { board = can.board; papers = can.papers })
+    spoiled (Master (Notify notice)) g is h = let can = playable m read s n.note.game g l is in h (record { board = can.board; papers = can.papers }) (public_of m s n.note.game g l is)
 
     go : (command : Request) (game : Option Game) → game_at n.note.game s ≡ game → IsSpoiledIn m command game → ⊥
     go command None is h = h
@@ -833,11 +848,11 @@ never_damaged m read s n (Seat power) l h = elim h [
     seat g lg None is foreign = absurd foreign
     seat g lg (Some x) is foreign =
         let lx : IsLawfulSeat m g.public.board x = all_at (λ a b. a == b) power_in power (IsLawfulSeat m g.public.board) g.seats x lg.seats is in
-        absurd (false≢true (sym (standing_own m g.public.board (power_in x) x.own.pending (read g.public.board lg.board) lx.pending) ∙ foreign))
+        absurd (false≢true (sym (standing_own m g.public.board (power_in x) x.own.pending (read g.public.board lg.public.board) lx.pending) ∙ foreign))
 
     on_map : (game : Option Game) → game_at n.note.game s ≡ game → IsOffMap m (seen_in power game).public → ⊥
     on_map None is off = absurd off
-    on_map (Some g) is off = off (all_at bytes_eq name_of n.note.game (IsLawfulGame m) s.games g l.games is).board
+    on_map (Some g) is off = off (public_of m s n.note.game g l is).board
 
     room : (command : Request) (game : Option Game) → game_at n.note.game s ≡ game → IsFull command game → ⊥
     room (Player (Orders lines)) game is full = full

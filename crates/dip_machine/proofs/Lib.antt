@@ -4,6 +4,7 @@ pub mod SeatLemmas
 pub mod OrderingLemmas
 pub mod TickingLemmas
 pub mod PressLemmas
+pub mod WritableLemmas
 pub mod Suiting
 pub mod Seeing
 pub mod Others

@@ -4,7 +4,7 @@ use Rattle.std.specs.Prelude.{◌&&◌, ◌||◌, option_and_then, filter}
 use Rattle.std.specs.List.{list_any}
 use Rattle.std.proofs.lemmas.Bool.{and_parts}
 use Rattle.std.proofs.lemmas.List.Quantifiers.{position-Some}
-use Rattle.dip_board.specs.Boards.{IsOf}
+use Rattle.dip_letters.specs.Letters.{FitsRequest}
 use Rattle.dip_letters.specs.Notes.{Request, SeatNote}
 use Rattle.dip_letters.specs.Notes.MasterRequest.{Create, Tick, Replace, Notify}
 use Rattle.dip_letters.specs.Notes.PlayerRequest.{Orders, Withdraw, Press, Vote, Show, Inbox}
@@ -19,11 +19,13 @@ use Rattle.dip_machine.specs.Machine.{Decides, DecidesIn, IsPublished, IsSpoiled
 use Rattle.dip_machine.specs.Ordering.{outcome_of_lines}
 use Rattle.dip_machine.specs.Ticking.{is_due, is_over}
 use Rattle.dip_machine.specs.View.{Suits}
+use Rattle.dip_machine.specs.Writable.{IsPublicOf}
 use Rattle.dip_records.specs.Records.{Item, Public, Own, Kept, Whole}
 use Rattle.dip_reports.specs.Texts.{opening_paper, paper_line, press_line, refusal_line, replaced_line, vote_line, withdrawn_line}
 use Rattle.dip_reports.specs.declared.refusals.Refusal.{Refusal}
 use Rattle.dip_reports.specs.declared.refusals.Refusal.TheVariants.{GameOver, Malformed, NameTaken, NoGrey, NotDue, NumberUsed, QuotaUsed, Stale, WrongSender}
 use Rattle.dip_machine.proofs.KeyedLemmas.{at_key, powers_tell}
+use Rattle.dip_machine.proofs.WritableLemmas.{of_drawn, of_noted}
 
 -- from whom an effect comes: a seat orders, votes and sends press, which it doesn't send to itself; the master opens games, publishes and
 -- gives seats away
@@ -123,17 +125,18 @@ ticks_hold P m tick w false true v ended early drawn played h = go (is_drawn m w
     go true is = subst P (sym is) drawn
     go false is = played is
 
--- a public part with one paper more, on the same board
-pub record IsNext (p q : Public) : Type 0 where
+-- a public part with one paper more, on the same board; behind a command of the grammar it is one of the map, where the old one is
+pub record IsNext (m : Chart) (command : Request) (p q : Public) : Type 0 where
   pub name : q.game ≡ p.game
   pub board : q.board ≡ p.board
   pub papers : q.papers ≡ p.papers + 1
+  pub stays : FitsRequest command → IsPublicOf m p → IsPublicOf m q
 
 -- each kind of verdict on a new letter of the master in a game that is there
 pub record OfGame (P : Verdict → Type 0) (m : Chart) (n : Mail) (command : Request) (g : Game) : Type 0 where
   pub refused : (r : Refusal) → P (refusal_verdict r)
   pub played : (tick : ℕ) (v : Verdict) → command ≡ Master (Tick tick) → IsPublished m tick (whole_of g) v → P v
-  pub noted : (text paper : List ℕ) (public : Public) → IsNext g.public public → ((IsOf m g.public.board → ⊥) → IsSpoiled m command g)
+  pub noted : (text paper : List ℕ) (public : Public) → IsNext m command g.public public → ((IsPublicOf m g.public → ⊥) → IsSpoiled m command g)
       → P (Taken text (Publishes public paper false))
   pub seated : (note : SeatNote) (seat : NewSeat) → command ≡ Master (Replace note) → new_seat m n.note.game note ≡ Some seat → seat.power < length m.realms
       → (s : Part) → seat_at seat.power g.seats ≡ Some s → P (Taken (replaced_line note.power) (Seats seat))
@@ -151,7 +154,7 @@ in_game_holds P m n (Master (Create due period grey seats)) g v h d = subst P (s
         go false = h.refused Malformed
 in_game_holds P m n (Master (Tick tick)) g v h d =
     ticks_hold P m tick (whole_of g) (is_over g.public.status) (is_due tick g.public) v (h.refused GameOver) (h.refused NotDue)
-    (h.noted _ _ (public_drawn (survivors m g.public.board) g.public) (record { name = refl; board = refl; papers = refl }) (λ off can. off can.board))
+    (h.noted _ _ (public_drawn (survivors m g.public.board) g.public) (record { name = refl; board = refl; papers = refl; stays = λ fits of. of_drawn m g.public of }) (λ off can of. off of))
     (λ p. h.played tick v refl p) d
 in_game_holds P m n (Master (Replace note)) g v h d = subst P (sym d) (subst P (sym (same (has_seat m note.power g))) (by (power_of m note.power) refl))
   where
@@ -176,7 +179,7 @@ in_game_holds P m n (Master (Replace note)) g v h d = subst P (sym d) (subst P (
 in_game_holds P m n (Master (Notify notice)) g v h d =
     subst P (sym d)
     (unless_holds P (is_over g.public.status && not (is_announcement notice)) GameOver (notified m notice (public_noted notice g.public)) (h.refused GameOver)
-    (λ on. h.noted _ _ (public_noted notice g.public) (record { name = refl; board = refl; papers = refl }) (λ off can. off can.board)))
+    (λ on. h.noted _ _ (public_noted notice g.public) (record { name = refl; board = refl; papers = refl; stays = of_noted m notice g.public }) (λ off can of. off of)))
 
 -- each kind of verdict on a letter of the master, by its game
 pub record OfMaster (P : Option Game → Verdict → Type 0) (m : Chart) (n : Mail) (command : Request) : Type 0 where
@@ -352,7 +355,7 @@ IsPosted m command game (Taken text (Opens public paper seats)) = Unit {0}
 IsPosted m command game (Taken text (Publishes public paper true)) =
     (tick : ℕ) × (g : Game) × (command ≡ Master (Tick tick)) × (game ≡ Some g) × IsPublished m tick (whole_of g) (Taken text (Publishes public paper true))
 IsPosted m command game (Taken text (Publishes public paper false)) =
-    (g : Game) × (game ≡ Some g) × IsNext g.public public × ((IsOf m g.public.board → ⊥) → IsSpoiled m command g)
+    (g : Game) × (game ≡ Some g) × IsNext m command g.public public × ((IsPublicOf m g.public → ⊥) → IsSpoiled m command g)
 IsPosted m command game (Taken text (Seats seat)) = seat.power < length m.realms
 
 pub master_posted : (m : Chart) (n : Mail) (k : Option Kept) (command : Request) (game : Option Game) (v : Verdict) → MasterDecides m n k command game v → IsPosted m command game v

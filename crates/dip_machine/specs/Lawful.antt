@@ -1,7 +1,7 @@
 -- What holds of each state that the desk comes to from an empty one.
 use Rattle.std.specs.Prelude.{◌≡◌, ◌<◌, ◌≤◌, ◌==◌, ◌+◌, ℕ, List, [], ◌∷◌, length, true, Ok, Option, None, Some, bytes_eq, count_by, map, if◌then◌else◌}
 use Rattle.std.specs.List.{AllByRecursion, list_all}
-use Rattle.dip_board.specs.Boards.{Position, IsOf}
+use Rattle.dip_board.specs.Boards.{Position}
 use Rattle.dip_chart.specs.Charts.{Chart, powers}
 use Rattle.dip_orders.specs.Reading.{order_of}
 use Rattle.dip_orders.specs.Texts.{order_text}
@@ -12,6 +12,7 @@ use Rattle.dip_machine.specs.Mail.{IsMail, Mail}
 use Rattle.dip_machine.specs.Ordering.{kept_orders, prov_of}
 use Rattle.dip_machine.specs.Machine.{MayBeDamaged, Step}
 use Rattle.dip_machine.specs.State.{Author, Game, Part, State, name_of, power_in}
+use Rattle.dip_machine.specs.Writable.{IsPublicOf}
 use Rattle.dip_records.specs.Records.{Reply}
 
 -- each is less than all behind it
@@ -47,10 +48,10 @@ abbrev pub sent_by_others : ℕ → List Part → ℕ
 sent_by_others power [] = 0
 sent_by_others power (s ∷ ss) = (if power_in s == power then 0 else s.own.sent) + sent_by_others power ss
 
--- a game: its board is one of the map, each power of the map has one seat, and there are at most seven, no box holds more than the
+-- a game: its public part is one of the map, each power of the map has one seat, and there are at most seven, no box holds more than the
 -- others have sent, and its papers are counted
 pub record IsLawfulGame (m : Chart) (g : Game) : Type 0 where
-  pub board : IsOf m g.public.board
+  pub public : IsPublicOf m g.public
   pub powers : list_all (λ p. count_by (λ s. power_in s == p) g.seats == 1) (powers m) ≡ true
   pub few : length g.seats ≤ 7
   pub seats : AllByRecursion (IsLawfulSeat m g.public.board) g.seats

@@ -1,5 +1,6 @@
 pub mod Keyed
 pub mod State
+pub mod Writable
 pub mod Faults
 pub mod Rows
 pub mod Mail

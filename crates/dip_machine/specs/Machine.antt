@@ -18,6 +18,7 @@ use Rattle.dip_machine.specs.Ordering.{Ordered, has_foreign, kept_orders, outcom
 use Rattle.dip_machine.specs.Pressing.{item_of, readers_of}
 use Rattle.dip_machine.specs.Ticking.{IsPlayable, is_due, is_over, orders_of, public_played}
 use Rattle.dip_machine.specs.State.{State, Game, Author, Nobody, TheMaster, Seat, Change, Effect, Nothing, Pending, Votes, Delivers, Opens, Publishes, Seats, NewSeat, Part, game_at, has_room, own_at, own_of, page_of, part_at, public_at, seat_at, state_after, whole_of}
+use Rattle.dip_machine.specs.Writable.{IsPublicOf}
 use Rattle.dip_papers.specs.Papers.{paper_text}
 use Rattle.dip_turn.specs.Reports.{IsPlayed}
 use Rattle.dip_turn.specs.declared.report.Report.{Report}
@@ -178,13 +179,14 @@ abbrev pub IsOffMap : Chart → Option Public → Type 0
 IsOffMap m None = ⊥
 IsOffMap m (Some p) = IsOf m p.board → ⊥
 
--- a game in which a command of the master can't be done: TICK where its phase can't be adjudicated, a notice where it can't publish
+-- a game in which a command of the master can't be done: TICK where its phase can't be adjudicated, a notice where it can't publish, and
+-- both where its public part isn't one of the map
 abbrev pub IsSpoiled : Chart → Request → Game → Type 0
 IsSpoiled m (Player command) g = ⊥
 IsSpoiled m (Master (Create due period grey seats)) g = ⊥
-IsSpoiled m (Master (Tick tick)) g = IsPlayable m (whole_of g) → ⊥
+IsSpoiled m (Master (Tick tick)) g = IsPlayable m (whole_of g) → IsPublicOf m g.public → ⊥
 IsSpoiled m (Master (Replace seat)) g = ⊥
-IsSpoiled m (Master (Notify notice)) g = CanPublish m g.public → ⊥
+IsSpoiled m (Master (Notify notice)) g = CanPublish m g.public → IsPublicOf m g.public → ⊥
 
 abbrev pub IsSpoiledIn : Chart → Request → Option Game → Type 0
 IsSpoiledIn m command None = ⊥

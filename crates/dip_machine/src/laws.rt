@@ -1,7 +1,7 @@
 //! Laws of the desk machine, each the contract of a function that does nothing.
 ghost use Rattle.std.specs.Prelude.{List};
 ghost use Rattle.dip_chart.specs.Charts.{Chart};
-ghost use Rattle.dip_machine.specs.Fitting.{EffectsFit};
+ghost use Rattle.dip_machine.specs.Fitting.{EffectsFit, LawfulEffectsFit};
 ghost use Rattle.dip_machine.specs.Handing.{StandingOrdersAreGiven};
 ghost use Rattle.dip_machine.specs.Lawful.{IsNeverDamaged, StaysLawful};
 ghost use Rattle.dip_machine.specs.Published.{MovementsAreDecided};
@@ -14,7 +14,7 @@ use dip_board::openings_are_of_their_map;
 use dip_decide::explained_is_lawful;
 use dip_map::Map;
 use dip_orders::{lawful_orders_are_read, orders_are_lawful, orders_are_read_again};
-use dip_turn::{boards_stay_of_their_map, phases_have_one_result};
+use dip_turn::{boards_stay_of_their_map, phases_have_one_result, winners_own_more};
 
 /// A letter of a seat gets one reply in all states that the seat sees alike, and leaves them alike for it.
 pub fn answered_from_what_is_seen()
@@ -90,12 +90,14 @@ pub fn lawful_states_stay_lawful(map: &Map)
     orders_are_lawful();
     lawful_orders_are_read();
     boards_stay_of_their_map();
+    winners_own_more();
 }
 
-/// What is decided of a letter fits the map, or else the record of its author may be Damaged: the board of a seat's game isn't one of the
-/// map, or the master's command can't be done in the game that it names.
+/// What is decided of a letter of the grammar fits the map, or else the record of its author may be Damaged: the board of a seat's game
+/// isn't one of the map, or the master's command can't be done in the game that it names. In a lawful state it fits.
 pub fn effects_fit(map: &Map)
-    ensures { EffectsFit map.now }
+    ensures blamed { EffectsFit map.now }
+    ensures lawful { LawfulEffectsFit map.now }
 {
     map.facts();
     openings_are_of_their_map();
@@ -103,6 +105,7 @@ pub fn effects_fit(map: &Map)
     orders_are_lawful();
     lawful_orders_are_read();
     boards_stay_of_their_map();
+    winners_own_more();
 }
 
 /// In a lawful state the orders that stand in a game are what `advance` of the phases asks for: each can be given beside the others of

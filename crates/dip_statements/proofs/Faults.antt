@@ -1,5 +1,5 @@
 -- Why a query fails.
-use Rattle.std.proofs.Common.{IsTrue, ◌≡◌, inl, inr, ℕ, List, [], Some, None, Option, Ok, subst, length, true, ◌≤◌, sym, ap, ◌∙◌, Any}
+use Rattle.std.proofs.Common.{IsTrue, ◌≡◌, inl, inr, ℕ, List, [], Some, None, Option, Ok, subst, subst₂, length, false, true, ◌≤◌, sym, ap, ◌∙◌, Any, append-nil}
 use Rattle.sqlite_trees.specs.declared.error.StoreError.{StoreError}
 use Rattle.sqlite_trees.specs.declared.error.StoreError.TheVariants.{OutOfMemory, Io, Corrupt, Full, Broken, Unstorable}
 use Rattle.sqlite.specs.Order.{Row}
@@ -7,7 +7,7 @@ use Rattle.sqlite.specs.Command.{Command}
 use Rattle.sqlite.specs.Command.TheVariants.{Select, Rows}
 use Rattle.sqlite.specs.Effect.{Database, RefusesToRead}
 use Rattle.sqlite.specs.declared.error.Error.{Error}
-use Rattle.sqlite.specs.Listing.{understood}
+use Rattle.sqlite.specs.Listing.{understood, reads_listing, IsSourceOf}
 use Rattle.sqlite_resolve.specs.declared.compiled.Compiled.{Compiled}
 use Rattle.sqlite_schema.specs.declared.command.Returning.{Returning}
 use Rattle.sqlite_disk.specs.Disk.{MoreFaults}
@@ -65,21 +65,28 @@ caused old new e Unstorable is why up = absurd why
 module _ (sql : List ℕ) (params : Row) (old new : State) (c : Compiled) (is : understood old.now.schema sql ≡ Ok c) (whole : length sql ≤ c.tail) (given : length params ≡ length c.names) (clock : c.formats ≡ [])
     (plain : c.returning ≡ None) (t : ℕ) (tests shown : List Term) (order : List (Term × Key)) (names : List (List ℕ))
     (command : c.command ≡ Select (record { lets = []; body = plain_query t tests shown order }) names)
-    (accepts : (db : Database) (ps : Row) → accepts_program db.schema (lets_of (record { lets = []; body = plain_query t tests shown order })) (plain_query t tests shown order) ps ≡ true)
+    (unlisted : reads_listing old.now.schema sql ≡ false)
+    (accepts : accepts_program old.now.schema (lets_of (record { lets = []; body = plain_query t tests shown order })) (plain_query t tests shown order) params ≡ true)
     (unlimited : old.step_limit ≡ None) (up : IsTrue old.is_open) where
   -- it is not refused
-  refused : (db : Database) (ps : Row) (e : Error) → RefusesToRead old.step_limit (Select (record { lets = []; body = plain_query t tests shown order }) names) db ps e → ⊥
-  refused db ps e (inl h) = let x = sym (accepts db ps) ∙ h.1 in cc
-  refused db ps e (inr (inl (h, inl none))) = none
-  refused db ps e (inr (inl (h, inr any))) = none_any (overlay db.trees [] t) any
-  refused db ps e (inr (inr h)) = absurd (let x = rw unlimited at h.1 in cc)
+  refused : (db : Database) (ps : Row) (e : Error) → db ≡ old.now → ps ≡ params → RefusesToRead old.step_limit (Select (record { lets = []; body = plain_query t tests shown order }) names) db ps e → ⊥
+  refused db ps e here same (inl h) =
+      let there = subst₂ (λ (d : Database) (p : Row). accepts_program d.schema (lets_of (record { lets = []; body = plain_query t tests shown order })) (plain_query t tests shown order) p ≡ true) (sym here) (sym same) accepts in
+      let x = sym there ∙ h.1 in cc
+  refused db ps e here same (inr (inl (h, inl none))) = none
+  refused db ps e here same (inr (inl (h, inr any))) = none_any (overlay db.trees [] t) any
+  refused db ps e here same (inr (inr h)) = absurd (let x = rw unlimited at h.1 in cc)
 
   -- it only reads
-  read_part : (k : Compiled) (ps : Row) (e : Error) (o : Option Returning) → o ≡ None → FailsToShow old new sql k ps e o → (db : Database) × RefusesToRead old.step_limit k.command db ps e
-  read_part k ps e None none h = (h.0, h.2)
+  read_part : (k : Compiled) (ps : Row) (e : Error) (o : Option Returning) → o ≡ None → FailsToShow old new sql k ps e o
+      → (db : Database) × IsSourceOf (reads_listing old.now.schema sql) old.now db × RefusesToRead old.step_limit k.command db ps e
+  read_part k ps e None none h = (h.0, h.1, h.2)
   read_part k ps e (Some what) none h = absurd (cc)
 
-  -- a plain query on an open connection without a step limit fails for nothing else
+  untimed : (formats : List (List ℕ)) (now : ℕ) → formats ≡ [] → timed params formats now ≡ params
+  untimed formats now none = ap (λ f. timed params f now) none ∙ append-nil params
+
+  -- a plain query whose parameters may be compared fails for nothing else, on an open connection without a step limit
   pub query_sane : (e : Error) → FailsToQuery sql params old new e → IsOutside e
   unfolding FailsToQuery IsNotRun
   query_sane e (inl (inl h)) = absurd (elim h.0 [
@@ -94,4 +101,7 @@ module _ (sql : List ℕ) (params : Row) (old new : State) (c : Compiled) (is : 
       let x = sym is ∙ h.1.is in
       let same : c ≡ h.0 = cc in
       let it = read_part h.0 (timed params h.0.formats h.1.now) e h.0.returning (subst (λ (k : Compiled). k.returning ≡ None) same plain) h.2 in
-      absurd (refused it.0 (timed params h.0.formats h.1.now) e (subst (λ k. RefusesToRead old.step_limit k it.0 (timed params h.0.formats h.1.now) e) (subst (λ (k : Compiled). k.command ≡ Select (record { lets = []; body = plain_query t tests shown order }) names) same command) it.1))
+      let here = subst (λ b. IsSourceOf b old.now it.0) unlisted it.1 in
+      let bound = untimed h.0.formats h.1.now (subst (λ (k : Compiled). k.formats ≡ []) same clock) in
+      absurd (refused it.0 (timed params h.0.formats h.1.now) e here bound
+      (subst (λ k. RefusesToRead old.step_limit k it.0 (timed params h.0.formats h.1.now) e) (subst (λ (k : Compiled). k.command ≡ Select (record { lets = []; body = plain_query t tests shown order }) names) same command) it.2))

@@ -9,3 +9,4 @@ pub mod Tests
 pub mod Reading
 pub mod Faults
 pub mod Missing
+pub mod Creating

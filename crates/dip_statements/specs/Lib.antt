@@ -1,3 +1,4 @@
+pub mod Creating
 pub mod Faults
 pub mod Queries
 pub mod Rows

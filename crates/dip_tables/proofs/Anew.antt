@@ -15,7 +15,7 @@ use Rattle.dip_records.specs.Records.{Public}
 use Rattle.dip_tables.specs.Tables.{is_unit_in, is_centre_in}
 use Rattle.dip_tables.specs.Reading.{public_of}
 use Rattle.dip_tables.specs.Writing.{game_row}
-use Rattle.dip_tables.specs.Coding.{IsStatusOf}
+use Rattle.dip_machine.specs.Writable.{IsStatusOf}
 use Rattle.dip_tables.proofs.Lists.{none_left}
 use Rattle.dip_tables.proofs.Letters.{number_back}
 use Rattle.dip_tables.proofs.Records.{status_back}

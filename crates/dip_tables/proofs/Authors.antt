@@ -12,9 +12,11 @@ use Rattle.dip_machine.proofs.KeyedLemmas.{powers_tell}
 use Rattle.dip_records.specs.Records.{Kept}
 use Rattle.dip_tables.specs.Tables.{GameRow, SeatRow, Tables, is_seat, is_seat_in}
 use Rattle.dip_tables.specs.Reading.{public_of, papers_of, part_of, game_of}
-use Rattle.dip_tables.specs.Writing.{seat_noted}
+use Rattle.dip_machine.specs.Writable.{Lacks}
+use Rattle.dip_tables.specs.Writing.{as_printed, seat_noted}
 use Rattle.dip_tables.specs.Changing.{noting, ordering}
-use Rattle.dip_tables.specs.Coding.{AreApart, IsSeatOf, IsEffectOf, IsAuthorOf, same_seat}
+use Rattle.dip_tables.specs.Coding.{AreApart, IsSeatOf, IsEffectOf, same_seat}
+use Rattle.dip_machine.specs.Writable.{IsAuthorOf}
 use Rattle.dip_tables.proofs.Lists.{each_changed, change_at_on, change_at_same, all_passed}
 use Rattle.dip_tables.proofs.Games.{with_parts, games_changed}
 use Rattle.dip_tables.proofs.Letters.{my_part, other_part}
@@ -72,11 +74,14 @@ ordering_alone m who name (Opens public paper seats) t = same t
 ordering_alone m who name (Publishes public paper played) t = same t
 ordering_alone m who name (Seats seat) t = same t
 
-module _ (m : Chart) (ok : IsMap m) (name : List ℕ) (k : Kept) (numbered : (k.number == 0) ≡ false) (e : Effect) (fits : IsEffectOf m e) (t : Tables)
+module _ (m : Chart) (ok : IsMap m) (name : List ℕ) (plain : Lacks 10 name) (k : Kept) (numbered : (k.number == 0) ≡ false) (e : Effect) (fits : IsEffectOf m e) (t : Tables)
     (apart : AreApart t) (coded : AllByRecursion (IsSeatOf m) t.seats) where
   module _ (power : ℕ) (low : power < length m.realms) where
     abbrev new : Tables
     new = authored m (Seat power) name k e t
+
+    abbrev printed : Kept
+    printed = as_printed name (power_name m power) k
 
     abbrev mine : SeatRow → Bool
     mine s = is_seat name (power_name m power) s
@@ -87,33 +92,33 @@ module _ (m : Chart) (ok : IsMap m) (name : List ℕ) (k : Kept) (numbered : (k.
     alone : IsPendingAlone (noting m (Seat power) name k e t) new
     alone = ordering_alone m (Seat power) name e (noting m (Seat power) name k e t)
 
-    near : (s : SeatRow) → IsSeatOf m s → bytes_eq s.game name ≡ true → part_of m new (cond (mine s) (seat_noted k e s) s) ≡ changed (part_of m t s)
+    near : (s : SeatRow) → IsSeatOf m s → bytes_eq s.game name ≡ true → part_of m new (cond (mine s) (seat_noted printed e s) s) ≡ changed (part_of m t s)
     near s of_map here =
         let link : mine s ≡ (power_numbered m s.power == power) = ap (λ b. b && bytes_eq s.power (power_name m power)) here ∙ same_power m ok power low s of_map in
         elim (cases_Bool (mine s)) [
           | inl i ↦
-              ap (λ b. part_of m new (cond b (seat_noted k e s) s)) i ∙ my_part m ok name k numbered power low e t fits s i
+              ap (λ b. part_of m new (cond b (seat_noted printed e s) s)) i ∙ my_part m ok name plain k numbered power low e t fits s i
               ∙ ap (λ b. cond b (with_letter k e (part_of m t s)) (part_of m t s)) (sym i ∙ link)
           | inr i ↦
-              ap (λ b. part_of m new (cond b (seat_noted k e s) s)) i ∙ other_part m ok name k numbered power low e t s i
+              ap (λ b. part_of m new (cond b (seat_noted printed e s) s)) i ∙ other_part m ok name plain k numbered power low e t s i
               ∙ ap (λ b. cond b (with_letter k e (part_of m t s)) (part_of m t s)) (sym i ∙ link)
         ]
 
-    far : (s : SeatRow) → IsSeatOf m s → bytes_eq s.game name ≡ false → part_of m new (cond (mine s) (seat_noted k e s) s) ≡ part_of m t s
+    far : (s : SeatRow) → IsSeatOf m s → bytes_eq s.game name ≡ false → part_of m new (cond (mine s) (seat_noted printed e s) s) ≡ part_of m t s
     far s of_map away =
         let i : mine s ≡ false = ap (λ b. b && bytes_eq s.power (power_name m power)) away in
-        ap (λ b. part_of m new (cond b (seat_noted k e s) s)) i ∙ other_part m ok name k numbered power low e t s i
+        ap (λ b. part_of m new (cond b (seat_noted printed e s) s)) i ∙ other_part m ok name plain k numbered power low e t s i
 
     public_same : (g : GameRow) → public_of m new.units new.centres g ≡ public_of m t.units t.centres g
     public_same g = ap₂ (λ us cs. public_of m us cs g) alone.units alone.centres
 
     seats_changed : map (game_of m new) new.games ≡ change_at bytes_eq name_of name (with_parts (λ p. p) (λ ps. ps) changed) (map (game_of m t) t.games)
-    seats_changed = games_changed m t new name (λ p. p) (λ ps. ps) changed (λ g. g) (λ s. cond (mine s) (seat_noted k e s) s) (IsSeatOf m)
+    seats_changed = games_changed m t new name (λ p. p) (λ ps. ps) changed (λ g. g) (λ s. cond (mine s) (seat_noted printed e s) s) (IsSeatOf m)
         apart.games coded (alone.games ∙ sym (map-id t.games)) alone.seats (λ g. refl) (stays e) (λ g h. public_same g) (λ g h. public_same g)
         (ap (λ ps. papers_of ps name) alone.papers) (λ n h. ap (λ ps. papers_of ps n) alone.papers) near far
       where
-        stays : (d : Effect) (s : SeatRow) → (cond (mine s) (seat_noted k d s) s).game ≡ s.game
-        stays d s = elim (cases_Bool (mine s)) [ inl i ↦ rw i (noted_keys k d s).0 | inr i ↦ rw i refl ]
+        stays : (d : Effect) (s : SeatRow) → (cond (mine s) (seat_noted printed d s) s).game ≡ s.game
+        stays d s = elim (cases_Bool (mine s)) [ inl i ↦ rw i (noted_keys printed d s).0 | inr i ↦ rw i refl ]
 
     first_changed : (g : GameRow) → with_parts (λ p. p) (λ ps. ps) changed (game_of m t g) ≡ with_seats (Seat power) k e (game_of m t g)
     first_changed g =

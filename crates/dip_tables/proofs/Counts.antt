@@ -21,7 +21,7 @@ use Rattle.dip_tables.specs.Counting.{counted, paper_numbers, item_numbers, AreC
 use Rattle.dip_tables.specs.Laws.{TablesStayCounted}
 use Rattle.dip_tables.proofs.Anew.{put_mine, put_other}
 use Rattle.dip_tables.proofs.Authors.{authored, ordering_alone, noted_keys}
-use Rattle.dip_tables.proofs.Changes.{noted, noted_game, noted_power, noted_games, mid_apart}
+use Rattle.dip_tables.proofs.Changes.{noted, printed, noted_game, noted_power, noted_games, mid_apart}
 use Rattle.dip_tables.proofs.Lists.{all_passed, far_deleted, none_narrower}
 use Rattle.dip_tables.proofs.Openings.{ends_apart}
 use Rattle.dip_tables.proofs.Press.{rows_of}
@@ -43,7 +43,7 @@ same_items boxes s r game power items has = ap₂ (item_numbers boxes) game powe
 
 module _ (m : Chart) (name : List ℕ) (k : Kept) (e : Effect) (t : Tables) where
   noted_items : (power : ℕ) (s : SeatRow) → (noted m name k e t power s).items ≡ s.items
-  noted_items power s = either_way (λ r. r.items) (is_seat name (power_name m power) s) (seat_noted k e s) s (noted_keys k e s).2
+  noted_items power s = either_way (λ r. r.items) (is_seat name (power_name m power) s) (seat_noted (printed m name k e t power) e s) s (noted_keys (printed m name k e t power) e s).2
 
   noted_counted : (who : Author) → AreCounted t → AreCounted (noting m who name k e t)
   noted_counted Nobody it = it

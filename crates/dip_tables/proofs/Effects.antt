@@ -17,7 +17,8 @@ use Rattle.dip_tables.specs.Tables.{GameRow, SeatRow, PendingRow, PaperRow, Tabl
 use Rattle.dip_tables.specs.Reading.{kept_of, public_of, pending_of, standing_of, items_of, part_of, game_of, status_of}
 use Rattle.dip_tables.specs.Writing.{game_row, paper_row}
 use Rattle.dip_tables.specs.Changing.{publishing, replacing, reaching}
-use Rattle.dip_tables.specs.Coding.{AreApart, IsSeatOf, IsStatusOf, IsEffectOf}
+use Rattle.dip_tables.specs.Coding.{AreApart, IsSeatOf, IsEffectOf}
+use Rattle.dip_machine.specs.Writable.{IsStatusOf}
 use Rattle.dip_tables.proofs.Anew.{put_mine, put_other, units_of_game, centres_of_game, public_back}
 use Rattle.dip_tables.proofs.Lists.{change_at_same, none_narrower, far_deleted}
 use Rattle.dip_tables.proofs.Games.{with_parts, games_changed}

@@ -1,5 +1,5 @@
 -- A letter of a seat, in its row and its standing orders.
-use Rattle.std.proofs.Common.{◌≡◌, ℕ, ◌<◌, ◌+◌, ◌==◌, Bool, true, false, ◌&&◌, List, [], ◌∷◌, ◌++◌, map, filter, length, Option, bytes_eq, refl, sym, ap, ap₂, subst, ◌∙◌, append-nil}
+use Rattle.std.proofs.Common.{◌≡◌, ℕ, ◌<◌, ◌+◌, ◌==◌, Bool, true, false, ◌&&◌, List, [], ◌∷◌, ◌++◌, map, filter, length, Option, Some, bytes_eq, refl, sym, ap, ap₂, subst, ◌∙◌, append-nil}
 use Rattle.std.specs.List.{AllByRecursion}
 use Rattle.std.proofs.lemmas.List.Elements.{filter-append}
 use Rattle.sqlite_keyed.specs.Lists.{delete_where}
@@ -11,10 +11,12 @@ use Rattle.dip_machine.specs.State.{Part, Seat, Effect, Nothing, Pending, Votes,
 use Rattle.dip_records.specs.Records.{Kept, Standing}
 use Rattle.dip_tables.specs.Tables.{SeatRow, PendingRow, Tables, is_seat, is_pending}
 use Rattle.dip_tables.specs.Reading.{kept_of, pending_of, standing_of, items_of, part_of}
-use Rattle.dip_tables.specs.Writing.{number_of, pending_row, seat_noted}
+use Rattle.dip_machine.specs.Writable.{Lacks}
+use Rattle.dip_tables.specs.Writing.{number_of, pending_row, as_printed, seat_noted}
 use Rattle.dip_tables.specs.Changing.{noting, ordering}
 use Rattle.dip_tables.specs.Coding.{IsEffectOf}
-use Rattle.dip_tables.proofs.Records.{kept_back}
+use Rattle.dip_tables.proofs.Records.{name_plain}
+use Rattle.dip_tables.proofs.Replies.{printed_back}
 use Rattle.dip_tables.proofs.Lists.{none_left}
 use Rattle.dip_tables.proofs.Seats.{both_same, both_tell, keys_turned}
 
@@ -65,7 +67,13 @@ module _ (m : Chart) (ok : IsMap m) (name power : List ℕ) where
       (λ r h. let same = both_same r.game r.power name power h in
       subst (λ g. (bytes_eq g n && bytes_eq r.power p) ≡ false) (sym same.0) (subst (λ q. (bytes_eq name n && bytes_eq q p) ≡ false) (sym same.1) turned)) rows
 
-module _ (m : Chart) (ok : IsMap m) (name : List ℕ) (k : Kept) (numbered : (k.number == 0) ≡ false) (power : ℕ) (low : power < length m.realms) where
+module _ (m : Chart) (ok : IsMap m) (name : List ℕ) (plain : Lacks 10 name) (k : Kept) (numbered : (k.number == 0) ≡ false) (power : ℕ) (low : power < length m.realms) where
+  abbrev printed : Kept
+  printed = as_printed name (power_name m power) k
+
+  kept_back : kept_of k.number k.sum printed.reply ≡ Some k
+  kept_back = printed_back name (power_name m power) k plain (name_plain m ok power low) numbered
+
   abbrev noted : Effect → Tables → Tables
   noted e t = ordering m (Seat power) name e (noting m (Seat power) name k e t)
 
@@ -97,14 +105,14 @@ module _ (m : Chart) (ok : IsMap m) (name : List ℕ) (k : Kept) (numbered : (k.
     box = items_of t.boxes s.game s.power;
   }
 
-  pub my_part : (e : Effect) (t : Tables) → IsEffectOf m e → (s : SeatRow) → is_seat name (power_name m power) s ≡ true → part_of m (noted e t) (seat_noted k e s) ≡ with_letter k e (part_of m t s)
-  my_part Nothing t fits s mine = ap₂ (lettered t (s.vote == 1) s.sent s) (my_orders Nothing t fits s mine) (kept_back k numbered)
-  my_part (Pending orders) t fits s mine = ap₂ (lettered t (s.vote == 1) s.sent s) (my_orders (Pending orders) t fits s mine) (kept_back k numbered)
-  my_part (Votes draw) t fits s mine = ap₂ (λ v o. lettered t v s.sent s (pending_of m t.pending s.game s.power) o) (number_back draw) (kept_back k numbered)
-  my_part (Delivers readers item) t fits s mine = ap₂ (lettered t (s.vote == 1) (s.sent + 1) s) (my_orders (Delivers readers item) t fits s mine) (kept_back k numbered)
-  my_part (Opens public paper seats) t fits s mine = ap₂ (lettered t (s.vote == 1) s.sent s) (my_orders (Opens public paper seats) t fits s mine) (kept_back k numbered)
-  my_part (Publishes public paper played) t fits s mine = ap₂ (lettered t (s.vote == 1) s.sent s) (my_orders (Publishes public paper played) t fits s mine) (kept_back k numbered)
-  my_part (Seats seat) t fits s mine = ap₂ (lettered t (s.vote == 1) s.sent s) (my_orders (Seats seat) t fits s mine) (kept_back k numbered)
+  pub my_part : (e : Effect) (t : Tables) → IsEffectOf m e → (s : SeatRow) → is_seat name (power_name m power) s ≡ true → part_of m (noted e t) (seat_noted printed e s) ≡ with_letter k e (part_of m t s)
+  my_part Nothing t fits s mine = ap₂ (lettered t (s.vote == 1) s.sent s) (my_orders Nothing t fits s mine) kept_back
+  my_part (Pending orders) t fits s mine = ap₂ (lettered t (s.vote == 1) s.sent s) (my_orders (Pending orders) t fits s mine) kept_back
+  my_part (Votes draw) t fits s mine = ap₂ (λ v o. lettered t v s.sent s (pending_of m t.pending s.game s.power) o) (number_back draw) kept_back
+  my_part (Delivers readers item) t fits s mine = ap₂ (lettered t (s.vote == 1) (s.sent + 1) s) (my_orders (Delivers readers item) t fits s mine) kept_back
+  my_part (Opens public paper seats) t fits s mine = ap₂ (lettered t (s.vote == 1) s.sent s) (my_orders (Opens public paper seats) t fits s mine) kept_back
+  my_part (Publishes public paper played) t fits s mine = ap₂ (lettered t (s.vote == 1) s.sent s) (my_orders (Publishes public paper played) t fits s mine) kept_back
+  my_part (Seats seat) t fits s mine = ap₂ (lettered t (s.vote == 1) s.sent s) (my_orders (Seats seat) t fits s mine) kept_back
 
   boxes_stay : (e : Effect) (t : Tables) → (noted e t).boxes ≡ t.boxes
   boxes_stay Nothing t = refl

@@ -1,5 +1,6 @@
-mod Pieces
-mod Records
+pub mod Pieces
+pub mod Records
+pub mod Replies
 mod Lists
 mod Games
 mod Seats
@@ -13,5 +14,6 @@ mod Changes
 mod Coded
 mod Counts
 mod Found
+mod Written
 mod Pages
 mod Deliveries

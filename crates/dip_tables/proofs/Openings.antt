@@ -14,7 +14,8 @@ use Rattle.dip_tables.specs.Tables.{GameRow, SeatRow, PendingRow, BoxRow, PaperR
 use Rattle.dip_tables.specs.Reading.{kept_of, pending_of, standing_of, items_of, item_of, part_of, game_of, status_of}
 use Rattle.dip_tables.specs.Writing.{game_row, seat_row, paper_row}
 use Rattle.dip_tables.specs.Changing.{opening}
-use Rattle.dip_tables.specs.Coding.{IsStatusOf, same_name}
+use Rattle.dip_tables.specs.Coding.{same_name}
+use Rattle.dip_machine.specs.Writable.{IsStatusOf}
 use Rattle.dip_tables.proofs.Anew.{put_mine, put_other, units_of_game, centres_of_game, public_back}
 use Rattle.dip_tables.proofs.Lists.{map_on, all_passed, none_narrower, far_deleted}
 use Rattle.dip_tables.proofs.Records.{power_back}

@@ -2,20 +2,21 @@
 use Rattle.std.proofs.Common.{◌≡◌, ℕ, List, [], ◌∷◌, ◌++◌, refl, ap, ◌∙◌, append-nil, append_assoc}
 use Rattle.std.specs.List.{AllByRecursion}
 use Rattle.std.proofs.lemmas.Bool.{eq-eqb}
-use Rattle.dip_tables.specs.Texts.{joined, ended, longer, pieces, Lacks, IsWord}
+use Rattle.dip_tables.specs.Texts.{joined, ended, longer, pieces}
+use Rattle.dip_machine.specs.Writable.{Lacks, IsWord}
 
 -- what stands before the first such byte is the first piece
-line_first : (b : ℕ) (w rest : List ℕ) → Lacks b w → pieces b (w ++ b ∷ rest) ≡ w ∷ pieces b rest
+pub line_first : (b : ℕ) (w rest : List ℕ) → Lacks b w → pieces b (w ++ b ∷ rest) ≡ w ∷ pieces b rest
 line_first b [] rest lacks = rw (eq-eqb b b refl) refl
 line_first b (x ∷ w) rest lacks = rw lacks.0 (ap (longer x) (line_first b w rest lacks.1))
 
 -- a word is one piece
-word_alone : (b : ℕ) (w : List ℕ) → IsWord b w → pieces b w ≡ w ∷ []
+pub word_alone : (b : ℕ) (w : List ℕ) → IsWord b w → pieces b w ≡ w ∷ []
 word_alone b [] word = absurd word
 word_alone b (x ∷ []) word = rw word.0 refl
 word_alone b (x ∷ y ∷ w) word = rw word.0 (ap (longer x) (word_alone b (y ∷ w) word.1))
 
-lacks_of : (b : ℕ) (w : List ℕ) → IsWord b w → Lacks b w
+pub lacks_of : (b : ℕ) (w : List ℕ) → IsWord b w → Lacks b w
 lacks_of b [] word = tt
 lacks_of b (x ∷ w) word = word
 

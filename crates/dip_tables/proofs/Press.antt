@@ -14,7 +14,8 @@ use Rattle.dip_tables.specs.Tables.{SeatRow, Tables, is_seat, is_box}
 use Rattle.dip_tables.specs.Reading.{own_of, item_of, items_of, part_of, game_of}
 use Rattle.dip_tables.specs.Writing.{next_row}
 use Rattle.dip_tables.specs.Changing.{is_reader, one_more, delivering}
-use Rattle.dip_tables.specs.Coding.{AreApart, IsPlainItem}
+use Rattle.dip_tables.specs.Coding.{AreApart}
+use Rattle.dip_machine.specs.Writable.{IsPlainItem}
 use Rattle.dip_tables.proofs.Records.{item_back}
 use Rattle.dip_tables.proofs.Lists.{filters_turned}
 use Rattle.dip_tables.proofs.Games.{with_parts, games_changed}

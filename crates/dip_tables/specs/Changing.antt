@@ -1,5 +1,5 @@
 -- What the statements of a change make of the tables.
-use Rattle.std.specs.Prelude.{ℕ, ◌+◌, ◌==◌, ◌&&◌, Bool, List, [], ◌∷◌, ◌++◌, map, filter, bytes_eq, if◌then◌else◌}
+use Rattle.std.specs.Prelude.{ℕ, ◌+◌, ◌==◌, ◌&&◌, Bool, List, [], ◌∷◌, ◌++◌, map, filter, bytes_eq, codes, if◌then◌else◌}
 use Rattle.std.specs.List.{list_any}
 use Rattle.sqlite_keyed.specs.Lists.{update_where, delete_where}
 use Rattle.dip_chart.specs.Charts.{Chart}
@@ -7,13 +7,15 @@ use Rattle.dip_board_rows.specs.Boards.{power_name, power_in, unit_rows, centre_
 use Rattle.dip_records.specs.Records.{Public, Item, Kept, Standing}
 use Rattle.dip_machine.specs.State.{Author, Nobody, TheMaster, Seat, NewSeat, Effect, Nothing, Pending, Votes, Delivers, Opens, Publishes, Seats, Change}
 use Rattle.dip_tables.specs.Tables.{SeatRow, Tables, is_named, is_seat_in, is_unit_in, is_centre_in, is_pending_in, is_box_in, is_paper_in, is_seat, is_pending}
-use Rattle.dip_tables.specs.Writing.{game_row, seat_row, pending_row, paper_row, next_row, desk_noted, seat_noted}
+use Rattle.dip_tables.specs.Writing.{game_row, seat_row, pending_row, paper_row, next_row, as_printed, desk_noted, seat_noted}
 
--- the author's row is written anew
+-- the author's row is written anew, with the reply as it was printed
 abbrev pub noting : Chart → Author → List ℕ → Kept → Effect → Tables → Tables
 noting m Nobody name k e t = t
-noting m TheMaster name k e t = record t { desk = update_where (λ d. d.id == 1) (desk_noted k) t.desk }
-noting m (Seat power) name k e t = record t { seats = update_where (is_seat name (power_name m power)) (seat_noted k e) t.seats }
+noting m TheMaster name k e t =
+    record t { desk = update_where (λ d. d.id == 1) (desk_noted (as_printed name (codes "master") k)) t.desk }
+noting m (Seat power) name k e t =
+    record t { seats = update_where (is_seat name (power_name m power)) (seat_noted (as_printed name (power_name m power) k) e) t.seats }
 
 -- a seat's standing orders are taken out, and these put in
 abbrev pub with_orders : Chart → List ℕ → List ℕ → List Standing → Tables → Tables

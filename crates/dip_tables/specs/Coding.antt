@@ -8,7 +8,7 @@ use Rattle.dip_board_rows.specs.Boards.{power_name}
 use Rattle.dip_records.specs.Records.{Item, White, Grey, Status, Running, Paused, Closed, Ended, Won, Drawn}
 use Rattle.dip_machine.specs.State.{Author, Nobody, TheMaster, Seat, Effect, Nothing, Pending, Votes, Delivers, Opens, Publishes, Seats, Change}
 use Rattle.dip_tables.specs.Tables.{DeskRow, GameRow, SeatRow, Tables, is_named, is_seat}
-use Rattle.dip_tables.specs.Texts.{Lacks, IsWord}
+use Rattle.dip_machine.specs.Writable.{Lacks, IsPlainItem, IsStatusOf, IsAuthorOf}
 
 -- the seat's power is one of the map
 abbrev pub IsSeatOf : Chart → SeatRow → Type 0
@@ -35,25 +35,6 @@ pub record AreApart (t : Tables) : Type 0 where
   pub games : IsAscending (λ a b. same_name a b ≡ false) t.games
   pub seats : IsAscending (λ a b. same_seat a b ≡ false) t.seats
 
--- the powers that a status names are of the map
-abbrev pub IsStatusOf : Chart → Status → Type 0
-IsStatusOf m Running = Unit {0}
-IsStatusOf m Paused = Unit {0}
-IsStatusOf m Closed = Unit {0}
-IsStatusOf m Ended = Unit {0}
-IsStatusOf m (Won power) = power < length m.realms
-IsStatusOf m (Drawn powers) = AllByRecursion (λ p. p < length m.realms) powers
-
--- addressees are words without a space, and lines are without an end of line
-abbrev pub IsPlainItem : Item → Type 0
-IsPlainItem (White writer addressees text) = AllByRecursion (IsWord 32) addressees × AllByRecursion (Lacks 10) text
-IsPlainItem (Grey to_all text) = AllByRecursion (Lacks 10) text
-
-abbrev pub IsAuthorOf : Chart → Author → Type 0
-IsAuthorOf m Nobody = Unit {0}
-IsAuthorOf m TheMaster = Unit {0}
-IsAuthorOf m (Seat power) = power < length m.realms
-
 abbrev pub IsEffectOf : Chart → Effect → Type 0
 IsEffectOf m Nothing = Unit {0}
 IsEffectOf m (Pending orders) = AllByRecursion (λ o. o.province < length m.provinces) orders
@@ -64,8 +45,9 @@ IsEffectOf m (Opens public paper seats) =
 IsEffectOf m (Publishes public paper played) = IsOf m public.board × IsStatusOf m public.status
 IsEffectOf m (Seats seat) = seat.power < length m.realms
 
--- a change that can be written: what it names is of the map, and its letter has a number
+-- a change that can be written: what it names is of the map, its letter has a number, and its game's name no end of line
 pub record IsChangeOf (m : Chart) (c : Change) : Type 0 where
   pub author : IsAuthorOf m c.author
   pub effect : IsEffectOf m c.effect
   pub numbered : (c.kept.number == 0) ≡ false
+  pub named : Lacks 10 c.game

@@ -1,5 +1,6 @@
 pub mod Changing
 pub mod Coding
+pub mod Columns
 pub mod Counting
 pub mod Laws
 pub mod Looking
@@ -7,3 +8,4 @@ pub mod Reading
 pub mod Tables
 pub mod Texts
 pub mod Writing
+pub mod Written

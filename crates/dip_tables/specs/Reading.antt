@@ -1,21 +1,28 @@
 -- What the tables say of the desk, by a map.
-use Rattle.std.specs.Prelude.{ℕ, ◌==◌, List, [], ◌∷◌, map, filter, Option, None, Some, bytes_eq, codes, if◌then◌else◌}
+use Rattle.std.specs.Prelude.{ℕ, ◌-◌, ◌==◌, length, take, drop, List, [], ◌∷◌, map, filter, Option, None, Some, bytes_eq, codes, if◌then◌else◌}
 use Rattle.dip_chart.specs.Charts.{Chart}
 use Rattle.dip_board_rows.specs.Boards.{UnitRow, CentreRow, board_of, power_in, prov_in}
 use Rattle.dip_records.specs.Records.{Public, Own, Item, White, Grey, Kept, Standing, Status, Running, Paused, Closed, Ended, Won, Drawn}
 use Rattle.dip_machine.specs.State.{State, Game, Part, Desk}
 use Rattle.dip_tables.specs.Tables.{DeskRow, GameRow, SeatRow, PendingRow, BoxRow, PaperRow, Tables, is_seat_in, is_unit_in, is_centre_in, is_paper_in, is_pending, is_box}
-use Rattle.dip_tables.specs.Texts.{pieces}
+use Rattle.dip_tables.specs.Texts.{behind, pieces}
+
+-- the lines of a printed reply: it begins with its head, a line, and ends with the four bytes of END and LF
+abbrev pub without_end : List ℕ → List ℕ
+without_end text = take (length text - 4) text
+
+abbrev pub reply_lines : List ℕ → List ℕ
+reply_lines text = without_end (behind 10 text)
 
 -- before an author's first letter the number of the last is 0
 abbrev pub kept_of : ℕ → List ℕ → List ℕ → Option Kept
-kept_of last kept reply = if last == 0 then None else Some (record { number = last; sum = kept; reply = reply })
+kept_of last kept reply = if last == 0 then None else Some (record { number = last; sum = kept; reply = reply_lines reply })
 
 abbrev pub desk_of : List DeskRow → Desk
 desk_of [] = record { digest = []; kept = None }
 desk_of (d ∷ ds) = record { digest = d.digest; kept = kept_of d.last d.kept d.reply }
 
--- a word, and behind it the powers that won or share the game
+-- a word, and behind "won by" or "drawn by" the powers that won or share the game
 abbrev pub status_in : Chart → List ℕ → List (List ℕ) → Status
 status_in m word names =
     if bytes_eq word (codes "paused") then Paused else if bytes_eq word (codes "closed") then Closed
@@ -28,7 +35,7 @@ status_in m word names =
 
 abbrev pub status_from : Chart → List (List ℕ) → Status
 status_from m [] = Running
-status_from m (w ∷ ws) = status_in m w ws
+status_from m (w ∷ ws) = status_in m w (drop 1 ws)
 
 abbrev pub status_of : Chart → List ℕ → Status
 status_of m text = status_from m (pieces 32 text)

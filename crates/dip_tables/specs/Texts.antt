@@ -21,11 +21,7 @@ abbrev pub pieces : ℕ → List ℕ → List (List ℕ)
 pieces b [] = []
 pieces b (x ∷ xs) = if x == b then [] ∷ pieces b xs else longer x (pieces b xs)
 
--- there is no such byte in it
-abbrev pub Lacks : ℕ → List ℕ → Type 0
-Lacks b w = AllByRecursion (λ x. (x == b) ≡ false) w
-
--- no byte, and no word: it is none of these
-abbrev pub IsWord : ℕ → List ℕ → Type 0
-IsWord b [] = ⊥
-IsWord b (x ∷ xs) = Lacks b (x ∷ xs)
+-- what stands behind the first such byte
+abbrev pub behind : ℕ → List ℕ → List ℕ
+behind b [] = []
+behind b (x ∷ xs) = if x == b then xs else behind b xs

@@ -1,8 +1,10 @@
 -- The rows in which records are written, by a map.
-use Rattle.std.specs.Prelude.{ℕ, ◌+◌, Bool, List, [], ◌∷◌, map, codes, if◌then◌else◌}
+use Rattle.std.specs.Prelude.{ℕ, ◌+◌, Bool, List, [], ◌∷◌, codes, Some, if◌then◌else◌}
 use Rattle.dip_chart.specs.Charts.{Chart}
 use Rattle.dip_board_rows.specs.Boards.{code, power_name, season_number, standoff_text}
-use Rattle.dip_records.specs.Records.{Public, Item, White, Grey, Kept, Standing, Status, Running, Paused, Closed, Ended, Won, Drawn}
+use Rattle.dip_records.specs.declared.records.Outcome.TheVariants.{Done}
+use Rattle.dip_records.specs.Records.{Public, Item, White, Grey, Kept, Standing}
+use Rattle.dip_reports.specs.Texts.{reply_text, status_text}
 use Rattle.dip_machine.specs.State.{NewSeat, Effect, Nothing, Pending, Votes, Delivers, Opens, Publishes, Seats}
 use Rattle.dip_tables.specs.Tables.{DeskRow, GameRow, SeatRow, PendingRow, BoxRow, PaperRow, Tables}
 use Rattle.dip_tables.specs.Texts.{joined, ended}
@@ -10,16 +12,14 @@ use Rattle.dip_tables.specs.Texts.{joined, ended}
 abbrev pub number_of : Bool → ℕ
 number_of b = if b then 1 else 0
 
-abbrev pub status_words : Chart → Status → List (List ℕ)
-status_words m Running = codes "running" ∷ []
-status_words m Paused = codes "paused" ∷ []
-status_words m Closed = codes "closed" ∷ []
-status_words m Ended = codes "ended" ∷ []
-status_words m (Won power) = codes "won" ∷ power_name m power ∷ []
-status_words m (Drawn powers) = codes "drawn" ∷ map (power_name m) powers
+-- the reply to a letter of a sender in a game as it was printed: its head, its lines, END
+abbrev pub whole_reply : List ℕ → List ℕ → Kept → List ℕ
+whole_reply game sender k =
+    reply_text (record { outcome = Done; head = Some (record { game = game; sender = sender; number = k.number }); text = k.reply })
 
-abbrev pub status_text : Chart → Status → List ℕ
-status_text m s = joined 32 (status_words m s)
+-- what is kept of the letter, with its whole reply
+abbrev pub as_printed : List ℕ → List ℕ → Kept → Kept
+as_printed game sender k = record k { reply = whole_reply game sender k }
 
 -- the public part of a game of that name, but for its board's units and owners
 abbrev pub game_row : Chart → List ℕ → Public → GameRow
@@ -79,7 +79,7 @@ box_row name power number (Grey to_all text) = record {
 abbrev pub next_row : Item → SeatRow → BoxRow
 next_row item s = box_row s.game s.power (s.items + 1) item
 
--- a row with its author's last letter
+-- a row with its author's last letter, whose reply is whole
 abbrev pub desk_noted : Kept → DeskRow → DeskRow
 desk_noted k d = record d { last = k.number; kept = k.sum; reply = k.reply }
 

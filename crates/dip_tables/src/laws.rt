@@ -1,7 +1,7 @@
 //! Laws of the tables, each the contract of a function that does nothing.
 ghost use Rattle.dip_chart.specs.Charts.{Chart, IsMap};
 ghost use Rattle.dip_tables.specs.Looking.{OwnIsFound, PageIsFound, PaperIsFound, PublicIsFound};
-ghost use Rattle.dip_tables.specs.Laws.{IsDeliveredOneByOne, NewTablesAreNew, StateIsChanged, TablesStayCoded, TablesStayCounted};
+ghost use Rattle.dip_tables.specs.Laws.{IsDeliveredOneByOne, NewTablesAreNew, StateIsChanged, TablesStayCoded, TablesStayCounted, TablesStayWritten};
 
 /// What the statements of a change do is the change: behind them the tables say the state after it.
 pub fn state_is_changed()
@@ -16,6 +16,11 @@ pub fn tables_stay_coded()
 /// And papers and items are still numbered from 1, where a change's paper has the next number of its game.
 pub fn tables_stay_counted()
     ensures { (m : Chart) → TablesStayCounted m }
+{}
+
+/// And each row is still that of a record of the map, so that it can be read back.
+pub fn tables_stay_written()
+    ensures { (m : Chart) → TablesStayWritten m }
 {}
 
 /// The public part of a game is what the first row of its name says.

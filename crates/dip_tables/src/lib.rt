@@ -6,5 +6,5 @@ mod laws;
 
 pub use laws::{
     new_tables_are_new, own_is_found, page_is_found, paper_is_found, press_is_delivered_one_by_one,
-    public_is_found, state_is_changed, tables_stay_coded, tables_stay_counted,
+    public_is_found, state_is_changed, tables_stay_coded, tables_stay_counted, tables_stay_written,
 };

@@ -20,6 +20,6 @@ returns-in-Err g c =
     let is : verdict c.args.decided ≡ m.Taken text effect = ap verdict c.in-Taken.is in
     let change : made_of ≡ m.change_of n who text effect = c.in_ok-change-in-Taken.ensures in
     unmade c.args.map.now g.K.Keeper.book c.args.keeper.now c.apply.new.self (state_after made_of) (Fits c.args.map.now made_of) c.in-Err.fault (λ r. rows.reply r)
-    (m.Settles n who (verdict c.args.decided)) (λ s. VerdictFits c.args.map.now n (verdict c.args.decided) s) c.in-Err.ensures
+    (m.Settles n who (verdict c.args.decided)) (λ s. VerdictFits c.args.map.now n who (verdict c.args.decided) s) c.in-Err.ensures
     (λ s made. (m.reply_of n (verdict c.args.decided), (refl, made ∙ ap (λ (x : Change). state_after x old) change ∙ sym (ap (λ (x : m.Verdict). m.after n who x old) is))))
-    (λ s suits. subst (λ (x : Change). Fits c.args.map.now x s) (sym change) (subst (λ (x : m.Verdict). VerdictFits c.args.map.now n x s) is suits))
+    (λ s suits. subst (λ (x : Change). Fits c.args.map.now x s) (sym change) (subst (λ (x : m.Verdict). VerdictFits c.args.map.now n who x s) is suits))

@@ -1,0 +1,28 @@
+use Rattle.std.proofs.Common.{arith, ◌≡◌, List, ℕ, subst, ◌∙◌}
+use Rattle.std.proofs.lemmas.List.{take_all}
+use Rattle.sqlite.specs.declared.error.Error.{Error}
+use Rattle.sqlite.specs.Held.{state}
+use Rattle.dip_tables.specs.Tables.{BoxRow}
+use Rattle.dip_rows.specs.Calls.{Writes}
+use Rattle.dip_rows.proofs.Parts.{went, writes_more}
+use Rattle.dip_changing.specs.Delivering.{boxed, delivering_rows, delivering_to}
+use Rattle.dip_changing.proofs.Handing.{reader_more}
+use Rattle.dip_changing.proofs.delivering.put_all.Goals as goal
+
+pub loop-reader-preserved : goal.loop-reader-preserved
+loop-reader-preserved g c =
+    let d = c.reader-item.result in
+    let row : List ℕ → ℕ → BoxRow = λ power n. boxed c.args.game.now power n c.args.item.now in
+    let step = subst (λ r. Writes (delivering_to c.args.map.now c.args.game.now row r) (state g.S.Store c.loop-reader.tx.conn.now) (state g.S.Store c.put_to.new.tx.conn.now) (went (Unit {0}) Error tt)) c.reader-item.is c.in_ok-put_to.ensures.writes in
+    record {
+      same_reference = c.in_ok-put_to.ensures.same_reference ∙ c.loop-reader.invariant.same_reference;
+      writes = writes_more _ _ _ _ _ _ _ _ _ tt tt tt
+          (reader_more c.args.map.now c.args.game.now row c.args.readers.now c.loop-reader.reader-index d (omega arith))
+          c.loop-reader.invariant.writes step;
+    }
+
+pub returns-clause-writes : goal.returns-clause-writes
+returns-clause-writes g c =
+    let row : List ℕ → ℕ → BoxRow = λ power n. boxed c.args.game.now power n c.args.item.now in
+    subst (λ rs. Writes (delivering_rows c.args.map.now c.args.game.now row rs) (state g.S.Store c.args.tx.now.conn.now) (state g.S.Store c.loop-reader.tx.conn.now) (went (Unit {0}) Error tt))
+    (take_all c.loop-reader.reader-index c.args.readers.now (omega arith)) c.loop-reader.invariant.writes

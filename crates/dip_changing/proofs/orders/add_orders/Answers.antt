@@ -1,0 +1,22 @@
+use Rattle.std.proofs.Common.{arith, ◌≡◌, [], ◌∷◌, map, take, subst, ◌∙◌}
+use Rattle.sqlite.specs.declared.error.Error.{Error}
+use Rattle.sqlite.specs.Held.{state}
+use Rattle.dip_records.specs.Rows as records
+use Rattle.dip_tables.specs.Writing.{pending_row}
+use Rattle.dip_rows.specs.Calls.{Writes}
+use Rattle.dip_rows.proofs.Parts.{went, taken_both, writes_more}
+use Rattle.dip_changing.specs.Parts.{more_orders}
+use Rattle.dip_changing.proofs.Adding.{no_orders_more, orders_more}
+use Rattle.dip_changing.proofs.orders.add_orders.Goals as goal
+
+pub loop-order-preserved : goal.loop-order-preserved
+loop-order-preserved g c =
+    let d = c.order-item.result in
+    let row = pending_row c.args.map.now c.args.game.now c.args.power.now in
+    let step = subst (λ o. Writes (more_orders (map row (records.standings (o ∷ [])))) (state g.S.Store c.loop-order.tx.conn.now) (state g.S.Store c.add_order.new.tx.conn.now) (went (Unit {0}) Error tt)) c.order-item.is c.in_ok-add_order.ensures.writes in
+    record {
+      same_reference = c.in_ok-add_order.ensures.same_reference ∙ c.loop-order.invariant.same_reference;
+      writes = writes_more _ _ _ _ _ _ _ _ _ tt tt tt
+          (orders_more _ _ _ (taken_both row (λ o. records.standing o) c.args.orders.now c.loop-order.order-index d (omega arith)))
+          c.loop-order.invariant.writes step;
+    }

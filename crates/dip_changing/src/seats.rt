@@ -1,0 +1,60 @@
+//! The seats of a game.
+ghost use Rattle.std.specs.Prelude.{◌≡◌, map as each, [], ◌∷◌};
+ghost use Rattle.sqlite.specs.Held.{state};
+ghost use Rattle.dip_machine.specs.Rows as machine;
+ghost use Rattle.dip_tables.specs.Changing.{replacing};
+ghost use Rattle.dip_tables.specs.Writing.{seat_row};
+ghost use Rattle.dip_rows.specs.Calls.{Writes};
+ghost use Rattle.dip_changing.specs.Parts.{more_seats};
+
+use dip_machine::NewSeat;
+use dip_map::Map;
+use dip_writing::{add_seat, replace_digest};
+use sqlite::{Alter, Error, Transaction};
+
+fn add_new_seat<S: Alter>(
+    tx: &mut Transaction<'_, S>,
+    map: &Map,
+    game: &str,
+    seat: &NewSeat,
+) -> Result<(), Error>
+    ensures same_reference { tx.new.conn.ghost_name ≡ tx.old.conn.ghost_name }
+    ensures writes { Writes
+        (more_seats (each (seat_row map.now game.now) (each machine.new_seat (seat.now ∷ []))))
+        (state S.Store tx.old.conn.now) (state S.Store tx.new.conn.now) result }
+{
+    add_seat(tx, game, map.power_name(seat.power), &seat.digest)?;
+    Ok(())
+}
+
+pub(crate) fn add_seats<S: Alter>(
+    tx: &mut Transaction<'_, S>,
+    map: &Map,
+    game: &str,
+    seats: &[NewSeat],
+) -> Result<(), Error>
+    ensures same_reference { tx.new.conn.ghost_name ≡ tx.old.conn.ghost_name }
+    ensures writes { Writes
+        (more_seats (each (seat_row map.now game.now) (each machine.new_seat seats.now)))
+        (state S.Store tx.old.conn.now) (state S.Store tx.new.conn.now) result }
+{
+    for seat in seats {
+        add_new_seat(tx, map, game, seat)?;
+    }
+    Ok(())
+}
+
+/// The seat of the power has this digest.
+pub fn replace<S: Alter>(
+    tx: &mut Transaction<'_, S>,
+    map: &Map,
+    game: &str,
+    seat: &NewSeat,
+) -> Result<(), Error>
+    ensures same_reference { tx.new.conn.ghost_name ≡ tx.old.conn.ghost_name }
+    ensures writes { Writes (replacing map.now game.now (machine.new_seat seat.now))
+        (state S.Store tx.old.conn.now) (state S.Store tx.new.conn.now) result }
+{
+    replace_digest(tx, game, map.power_name(seat.power), &seat.digest)?;
+    Ok(())
+}

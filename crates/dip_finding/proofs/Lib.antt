@@ -1,0 +1,2 @@
+pub mod PublicLemmas
+pub mod OwnLemmas

@@ -1,0 +1,51 @@
+-- Rows as the queries show them, read back as records; what a query doesn't show is left empty.
+use Rattle.std.specs.Prelude.{ℕ, ◌==◌, List, [], map}
+use Rattle.sqlite.specs.Order.{Row, column, bytes}
+use Rattle.dip_chart.specs.Charts.{Chart}
+use Rattle.dip_board_rows.specs.Boards.{UnitRow, CentreRow, board_of}
+use Rattle.dip_records.specs.Records.{Public, Own}
+use Rattle.dip_rows.specs.Rows.{number_in}
+use Rattle.dip_tables.specs.Reading.{kept_of, standing_of, status_of}
+use Rattle.dip_tables.specs.Tables.{PendingRow}
+
+abbrev pub shown_unit : Row → UnitRow
+shown_unit r = record {
+  game = [];
+  province = bytes (column r 0);
+  dislodged = number_in (column r 1);
+  power = bytes (column r 2);
+  kind = number_in (column r 3);
+  coast = bytes (column r 4);
+  origin = bytes (column r 5);
+}
+
+abbrev pub shown_centre : Row → CentreRow
+shown_centre r = record { game = []; province = bytes (column r 0); power = bytes (column r 1) }
+
+-- the public part of a game that its row, its units and its centres show
+abbrev pub shown_public : Chart → List ℕ → Row → List Row → List Row → Public
+shown_public m name r units centres = record {
+  game = name;
+  board = board_of m (map shown_unit units) (map shown_centre centres) (bytes (column r 7)) (number_in (column r 0))
+      (number_in (column r 1));
+  status = status_of m (bytes (column r 2));
+  due = number_in (column r 3);
+  period = number_in (column r 4);
+  grey = number_in (column r 5) == 1;
+  papers = number_in (column r 6);
+}
+
+abbrev pub shown_order : Row → PendingRow
+shown_order r = record { game = []; power = []; province = bytes (column r 0); line = bytes (column r 1) }
+
+-- the own part of a power's seat that its row and the rows of its orders show
+abbrev pub shown_own : Chart → ℕ → Row → List Row → Own
+shown_own m power r orders = record {
+  power = power;
+  digest = bytes (column r 0);
+  vote = number_in (column r 1) == 1;
+  pending = map (λ o. standing_of m (shown_order o)) orders;
+  kept = kept_of (number_in (column r 2)) (bytes (column r 3)) (bytes (column r 4));
+  sent = number_in (column r 5);
+  items = number_in (column r 6);
+}

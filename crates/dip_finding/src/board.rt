@@ -1,0 +1,56 @@
+//! A board as rows show it.
+ghost use Rattle.std.specs.Prelude.{◌≡◌, IfOk, map as each};
+ghost use Rattle.sqlite.specs.Order.{bytes, column};
+ghost use Rattle.dip_board_rows.specs.Boards.{board_of};
+ghost use Rattle.dip_finding.specs.Shown.{shown_centre, shown_unit};
+ghost use Rattle.dip_rows.specs.Rows.{number_in};
+
+use crate::columns::{centres_of, units_of};
+use crate::faults::LookFault;
+use dip_board::Board;
+use dip_board_rows::read_board;
+use dip_map::Map;
+use sqlite::Row;
+use std::alloc::Global;
+
+/// The year of a game's row.
+fn year_of(row: &Row) -> Result<u16, LookFault>
+    ensures { IfOk result (λ y. y ≡ number_in (column row.now 0)) }
+{
+    let year: u32 = row.get(0)?;
+    match u16::try_from(year) {
+        Ok(year) => Ok(year),
+        Err(_) => Err(LookFault::Foreign),
+    }
+}
+
+/// The board of a game's row, its units' rows and its centres' rows.
+pub(crate) fn board_in(
+    alloc: Global,
+    map: &Map,
+    row: &Row,
+    units: &[Row],
+    centres: &[Row],
+) -> Result<Board, LookFault>
+    ensures { IfOk result (λ b. b ≡ board_of map.now (each shown_unit units.now)
+        (each shown_centre centres.now) (bytes (column row.now 7)) (number_in (column row.now 0))
+        (number_in (column row.now 1))) }
+{
+    let units = units_of(alloc, units)?;
+    let centres = centres_of(alloc, centres)?;
+    let standoff: String = row.get(7)?;
+    let season: u32 = row.get(1)?;
+    let read = read_board(
+        alloc,
+        map,
+        units.as_slice(),
+        centres.as_slice(),
+        standoff.as_str(),
+        year_of(row)?,
+        season,
+    )?;
+    match read {
+        Some(board) => Ok(board),
+        None => Err(LookFault::Foreign),
+    }
+}

@@ -1,0 +1,32 @@
+//! Why what is asked isn't answered.
+use sqlite::Error;
+use std::alloc::{AllocError, AllocFailed};
+
+/// Why what a desk asks of its tables isn't answered.
+#[derive(Drop)]
+pub enum LookFault {
+    /// Memory ran out.
+    Memory,
+    /// The database refused the query, or a column of a row doesn't read.
+    Query(Error),
+    /// A row names what isn't of the map, or tells what no keeper writes.
+    Foreign,
+}
+
+impl From<AllocError> for LookFault {
+    fn from(_: AllocError) -> LookFault {
+        LookFault::Memory
+    }
+}
+
+impl From<Error> for LookFault {
+    fn from(error: Error) -> LookFault {
+        LookFault::Query(error)
+    }
+}
+
+impl<T: Drop> From<AllocFailed<T>> for LookFault {
+    fn from(_: AllocFailed<T>) -> LookFault {
+        LookFault::Memory
+    }
+}

@@ -1,0 +1,30 @@
+//! Papers.
+ghost use Rattle.std.specs.Prelude.{◌≡◌, IfOk, option_map, string_bytes};
+ghost use Rattle.std.specs.List.{find};
+ghost use Rattle.dip_rows.specs.Calls.{IsKept, Selects, is_honest, tables_in};
+ghost use Rattle.dip_rows.specs.Showing.{is_numbered};
+
+use crate::faults::LookFault;
+use dip_reading::find_paper;
+use sqlite::{Alter, Connection};
+
+/// The text of a game's paper by its number; none where there is no such game or paper.
+///
+/// # Errors
+/// Want of memory, or the database's own.
+pub fn look_paper<S: Alter>(
+    conn: &mut Connection<S>,
+    game: &str,
+    number: u32,
+) -> Result<Option<String>, LookFault>
+    ensures value { IsKept S.Store conn.old → is_honest S.Store conn.new → IfOk result (λ o.
+        option_map string_bytes o ≡ option_map (λ p. p.body)
+        (find (is_numbered game.now number) (tables_in S.Store conn.old).papers)) }
+    ensures selects { Selects S.Store conn.old conn.new result }
+{
+    let Some(row) = find_paper(conn, game, number)? else {
+        return Ok(None);
+    };
+    let body: String = row.get(0)?;
+    Ok(Some(body))
+}

@@ -1,0 +1,77 @@
+//! The public part of a game.
+ghost use Rattle.std.specs.Prelude.{◌≡◌, IfOk, option_map};
+ghost use Rattle.std.specs.List.{find};
+ghost use Rattle.sqlite.specs.Order.{bytes, column};
+ghost use Rattle.dip_finding.specs.Shown.{shown_public};
+ghost use Rattle.dip_records.specs.Rows as rows;
+ghost use Rattle.dip_rows.specs.Calls.{IsKept, Selects, is_honest, tables_in};
+ghost use Rattle.dip_tables.specs.Reading.{public_of, status_of};
+ghost use Rattle.dip_tables.specs.Tables.{is_named};
+
+use crate::board::board_in;
+use crate::faults::LookFault;
+use dip_columns::read_status;
+use dip_map::Map;
+use dip_reading::{find_game, list_centres, list_units};
+use dip_records::{Public, Status};
+use sqlite::{Alter, Connection, Row};
+use std::alloc::Global;
+
+fn status_in(alloc: Global, map: &Map, row: &Row) -> Result<Status, LookFault>
+    ensures { IfOk result (λ s. rows.status s ≡ status_of map.now (bytes (column row.now 2))) }
+{
+    let text: String = row.get(2)?;
+    match read_status(alloc, map, text.as_str())? {
+        Some(status) => Ok(status),
+        None => Err(LookFault::Foreign),
+    }
+}
+
+/// The public part that a game's row, its units' rows and its centres' rows show.
+fn public_in(
+    alloc: Global,
+    map: &Map,
+    game: &str,
+    row: &Row,
+    units: &[Row],
+    centres: &[Row],
+) -> Result<Public, LookFault>
+    ensures { IfOk result (λ p.
+        rows.public p ≡ shown_public map.now game.now row.now units.now centres.now) }
+{
+    let grey: u32 = row.get(5)?;
+    Ok(Public {
+        game: String::from_str(alloc, game)?,
+        board: board_in(alloc, map, row, units, centres)?,
+        status: status_in(alloc, map, row)?,
+        due: row.get(3)?,
+        period: row.get(4)?,
+        grey: grey == 1,
+        papers: row.get(6)?,
+    })
+}
+
+/// The public part of a game; none where there is no such game.
+///
+/// # Errors
+/// Want of memory, the database's own, or `Foreign` where a row of it is none that a keeper writes by this map.
+pub fn look_public<S: Alter>(
+    conn: &mut Connection<S>,
+    alloc: Global,
+    map: &Map,
+    game: &str,
+) -> Result<Option<Public>, LookFault>
+    ensures value { IsKept S.Store conn.old → is_honest S.Store conn.new → IfOk result (λ o.
+        option_map rows.public o ≡ option_map
+        (public_of map.now (tables_in S.Store conn.old).units (tables_in S.Store conn.old).centres)
+        (find (is_named game.now) (tables_in S.Store conn.old).games)) }
+    ensures selects { Selects S.Store conn.old conn.new result }
+{
+    let Some(row) = find_game(conn, game)? else {
+        return Ok(None);
+    };
+    let units = list_units(conn, game)?;
+    let centres = list_centres(conn, game)?;
+    let public = public_in(alloc, map, game, &row, units.as_slice(), centres.as_slice())?;
+    Ok(Some(public))
+}

@@ -1,0 +1,10 @@
+pub mod Apart
+pub mod Casting
+pub mod Found
+pub mod New
+pub mod Numbered
+pub mod Parts
+pub mod Selecting
+pub mod Stating
+pub mod Telling
+pub mod Turned

@@ -1,0 +1,5 @@
+pub mod Calls
+pub mod Good
+pub mod Rows
+pub mod Showing
+pub mod Statements

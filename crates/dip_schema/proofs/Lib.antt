@@ -1,0 +1,5 @@
+pub mod Accepted
+pub mod Created
+pub mod Defined
+pub mod Meaning
+pub mod Texts

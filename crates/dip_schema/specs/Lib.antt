@@ -1,0 +1,4 @@
+pub mod Asking
+pub mod Creating
+pub mod Schema
+pub mod Statements

@@ -1,0 +1,173 @@
+//! Changes that can be written, each beside one that can't.
+use crate::{has_widths, is_writable};
+use dip_board::Board;
+use dip_machine::{Author, Change, Effect, NewSeat};
+use dip_map::{Map, STANDARD};
+use dip_names::{Power, Prov};
+use dip_records::{Item, Kept, Public, Standing, Status};
+use std::alloc::{AllocError, Global};
+use std::rc::Rc;
+use std::test::Fail;
+
+fn the_change(
+    alloc: Global,
+    game: &str,
+    author: Author,
+    number: u32,
+    effect: Effect,
+) -> Result<Change, AllocError> {
+    let reply = Rc::new(alloc, String::from_str(alloc, "OK\n")?)?;
+    Ok(Change {
+        game: String::from_str(alloc, game)?,
+        author,
+        kept: Kept {
+            number,
+            sum: [0; 32],
+            reply,
+        },
+        effect,
+    })
+}
+
+fn is_taken(alloc: Global, map: &Map, effect: Effect) -> Result<bool, AllocError> {
+    let change = the_change(alloc, "g1", Author::TheMaster, 1, effect)?;
+    Ok(is_writable(map, &change))
+}
+
+fn the_public(
+    alloc: Global,
+    map: &Map,
+    status: Status,
+    due: u64,
+    papers: u32,
+) -> Result<Public, AllocError> {
+    Ok(Public {
+        game: String::from_str(alloc, "g1")?,
+        board: Board::opening(alloc, map)?,
+        status,
+        due,
+        period: 100,
+        grey: true,
+        papers,
+    })
+}
+
+fn published(alloc: Global, map: &Map, status: Status, due: u64) -> Result<Effect, AllocError> {
+    Ok(Effect::Publishes {
+        public: the_public(alloc, map, status, due, 2)?,
+        paper: String::new(alloc),
+        played: true,
+    })
+}
+
+fn opened(alloc: Global, map: &Map, papers: u32, power: u8) -> Result<Effect, AllocError> {
+    let mut seats = Vec::new(alloc);
+    seats.push(NewSeat {
+        power: Power::new(power),
+        digest: [0; 32],
+    })?;
+    Ok(Effect::Opens {
+        public: the_public(alloc, map, Status::Running, 0, papers)?,
+        paper: String::new(alloc),
+        seats,
+    })
+}
+
+fn ordered(alloc: Global, prov: u8) -> Result<Effect, AllocError> {
+    let mut orders = Vec::new(alloc);
+    orders.push(Standing {
+        prov: Prov::new(prov),
+        line: String::new(alloc),
+    })?;
+    Ok(Effect::Pending(orders))
+}
+
+fn one_text(alloc: Global, text: &str) -> Result<Vec<String>, AllocError> {
+    let mut texts = Vec::new(alloc);
+    texts.push(String::from_str(alloc, text)?)?;
+    Ok(texts)
+}
+
+fn delivered(alloc: Global, addressee: &str, line: &str) -> Result<Effect, AllocError> {
+    let item = Item::White {
+        writer: String::from_str(alloc, "england")?,
+        addressees: one_text(alloc, addressee)?,
+        text: one_text(alloc, line)?,
+    };
+    Ok(Effect::Delivers {
+        readers: Vec::new(alloc),
+        item: Rc::new(alloc, item)?,
+    })
+}
+
+#[test]
+fn letters_have_a_seat_a_number_and_a_game(rt: HostRuntime) -> Result<(), Fail> {
+    let alloc = rt.alloc();
+    let map = Map::from_toml(alloc, STANDARD)?;
+    for (game, power, number, wanted) in [
+        ("g1", 6, 1, true),
+        ("g1", 7, 1, false),
+        ("g1", 6, 0, false),
+        ("g\n1", 6, 1, false),
+    ] {
+        let author = Author::Seat(Power::new(power));
+        let change = the_change(alloc, game, author, number, Effect::Votes(true))?;
+        has_widths(&change);
+        assert!(rt; is_writable(&map, &change) == wanted);
+    }
+    Ok(())
+}
+
+#[test]
+fn a_status_names_powers_of_the_map(rt: HostRuntime) -> Result<(), Fail> {
+    let alloc = rt.alloc();
+    let map = Map::from_toml(alloc, STANDARD)?;
+    for (power, due, wanted) in [
+        (6, i64::MAX as u64, true),
+        (7, 100, false),
+        (6, 1 << 63, false),
+    ] {
+        let status = Status::Won(Power::new(power));
+        let effect = published(alloc, &map, status, due)?;
+        assert!(rt; is_taken(alloc, &map, effect)? == wanted);
+    }
+    Ok(())
+}
+
+#[test]
+fn a_game_opens_with_one_paper(rt: HostRuntime) -> Result<(), Fail> {
+    let alloc = rt.alloc();
+    let map = Map::from_toml(alloc, STANDARD)?;
+    for (papers, power, wanted) in [(1, 6, true), (2, 6, false), (1, 7, false)] {
+        let effect = opened(alloc, &map, papers, power)?;
+        assert!(rt; is_taken(alloc, &map, effect)? == wanted);
+    }
+    Ok(())
+}
+
+#[test]
+fn orders_are_of_provinces_of_the_map(rt: HostRuntime) -> Result<(), Fail> {
+    let alloc = rt.alloc();
+    let map = Map::from_toml(alloc, STANDARD)?;
+    for (prov, wanted) in [(74, true), (75, false)] {
+        let effect = ordered(alloc, prov)?;
+        assert!(rt; is_taken(alloc, &map, effect)? == wanted);
+    }
+    Ok(())
+}
+
+#[test]
+fn press_has_words_and_lines(rt: HostRuntime) -> Result<(), Fail> {
+    let alloc = rt.alloc();
+    let map = Map::from_toml(alloc, STANDARD)?;
+    for (addressee, line, wanted) in [
+        ("france", "", true),
+        ("", "to nobody", false),
+        ("france italy", "to one of two words", false),
+        ("france", "two\nlines", false),
+    ] {
+        let effect = delivered(alloc, addressee, line)?;
+        assert!(rt; is_taken(alloc, &map, effect)? == wanted);
+    }
+    Ok(())
+}

@@ -1,0 +1,13 @@
+use Rattle.std.proofs.Common.{[], ◌∷◌}
+use Rattle.sqlite.specs.declared.types.Value.TheVariants.{Text as Words}
+use Rattle.dip_schema.specs.Statements as text
+use Rattle.dip_rows.specs.Statements.{with_order}
+use Rattle.dip_rows.proofs.Parts.{one}
+use Rattle.dip_rows.proofs.Stating as made
+use Rattle.dip_writing.proofs.adding.add_pending.Goals as goal
+
+pub returns-clause-writes : goal.returns-clause-writes
+returns-clause-writes g c =
+    one g.S.Store text.add_pending_text (Words c.args.game.now ∷ Words c.args.power.now ∷ Words c.args.province.now ∷ Words c.args.line.now ∷ []) (with_order (record { game = c.args.game.now; power = c.args.power.now; province = c.args.province.now; line = c.args.line.now }))
+    c.args.tx.now.conn.now c.execute.new.self.conn.now c.execute.result c.execute.ensures.survives c.execute.ensures.ended
+    (rw (c.params-to_sql.ensures, c.params-to_sql-2.ensures, c.params-to_sql-3.ensures, c.params-to_sql-4.ensures) at c.execute.ensures.runs) (λ count good h. made.add_pending _ _ count good (record { game = c.args.game.now; power = c.args.power.now; province = c.args.province.now; line = c.args.line.now }) h)

@@ -1,0 +1,13 @@
+use Rattle.std.proofs.Common.{[], ◌∷◌}
+use Rattle.sqlite.specs.declared.types.Value.TheVariants.{Text as Words}
+use Rattle.dip_schema.specs.Statements as text
+use Rattle.dip_rows.specs.Statements.{no_pending}
+use Rattle.dip_rows.proofs.Parts.{one}
+use Rattle.dip_rows.proofs.Stating as made
+use Rattle.dip_writing.proofs.dropping.drop_pending.Goals as goal
+
+pub returns-clause-writes : goal.returns-clause-writes
+returns-clause-writes g c =
+    one g.S.Store text.drop_pending_text (Words c.args.game.now ∷ []) (no_pending c.args.game.now)
+    c.args.tx.now.conn.now c.execute.new.self.conn.now c.execute.result c.execute.ensures.survives c.execute.ensures.ended
+    (rw (c.params-to_sql.ensures) at c.execute.ensures.runs) (λ count good h. made.drop_pending _ _ count good c.args.game.now h)

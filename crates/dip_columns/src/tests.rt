@@ -41,54 +41,88 @@ fn a_status_is_read_from_its_words(rt: HostRuntime) -> Result<(), Fail> {
     Ok(())
 }
 
-fn item(alloc: Global, grey: u32, names: (&str, &str), body: &str) -> Result<Item, AllocError> {
+fn add(told: &mut String, words: &[String]) -> Result<(), AllocError> {
+    for word in words {
+        told.push('|')?;
+        told.push_str(word.as_str())?;
+    }
+    Ok(())
+}
+
+/// What stands in an item, word by word and line by line.
+fn spelled(alloc: Global, item: &Item) -> Result<String, AllocError> {
+    let mut told = String::new(alloc);
+    match item {
+        Item::White {
+            writer,
+            addressees,
+            text,
+        } => {
+            told.push_str(writer.as_str())?;
+            add(&mut told, addressees.as_slice())?;
+            told.push_str(" says")?;
+            add(&mut told, text.as_slice())?;
+        }
+        Item::Grey { to_all, text } => {
+            told.push_str(if *to_all { "all" } else { "you" })?;
+            add(&mut told, text.as_slice())?;
+        }
+    }
+    Ok(told)
+}
+
+/// The item of a row of this writer, these addressees and this body.
+fn item_of(alloc: Global, grey: u32, row: (&str, &str, &str)) -> Result<String, AllocError> {
+    let (writer, addressees, body) = row;
     let row = ItemColumns {
         grey,
-        writer: String::from_str(alloc, names.0)?,
-        addressees: String::from_str(alloc, names.1)?,
+        writer: String::from_str(alloc, writer)?,
+        addressees: String::from_str(alloc, addressees)?,
         body: String::from_str(alloc, body)?,
     };
-    read_item(alloc, row)
+    spelled(alloc, &read_item(alloc, row)?)
 }
 
 #[test]
 fn press_is_read_with_its_lines(rt: HostRuntime) -> Result<(), Fail> {
     let alloc = rt.alloc();
-    let white = item(
-        alloc,
-        0,
-        ("england", "france germany"),
-        "Hello.\n\nYours.\n",
-    )?;
-    let Item::White {
-        writer,
-        addressees,
-        text,
-    } = white
-    else {
-        return Err(Fail::new("white press"));
-    };
-    assert!(rt; writer.as_str() == "england" && addressees.len() == 2 && text.len() == 3);
-    assert!(rt; addressees[1].as_str() == "germany" && text[2].as_str() == "Yours.");
-    let Item::Grey { to_all, text } = item(alloc, 1, ("", "you"), "Trust nobody.\n")? else {
-        return Err(Fail::new("grey press"));
-    };
-    assert!(rt; !to_all && text.len() == 1 && text[0].as_str() == "Trust nobody.");
+    let row = ("england", "france germany", "Hello.\n\nYours.\n");
+    let white = "england|france|germany says|Hello.||Yours.";
+    assert!(rt; item_of(alloc, 0, row)?.as_str() == white);
+    let row = ("", "you", "Trust nobody.\n");
+    assert!(rt; item_of(alloc, 1, row)?.as_str() == "you|Trust nobody.");
+    let row = ("", "all", "Trust nobody.\n");
+    assert!(rt; item_of(alloc, 1, row)?.as_str() == "all|Trust nobody.");
     Ok(())
+}
+
+/// Whether the reply to letter 2 is read with just these lines.
+fn is_reply(alloc: Global, printed: &str, lines: &str) -> Result<bool, AllocError> {
+    Ok(match read_kept(alloc, 2, [7; 32], printed)? {
+        Some(Some(kept)) => {
+            kept.number == 2 && kept.sum == [7; 32] && kept.reply.as_str() == lines
+        }
+        _ => false,
+    })
 }
 
 #[test]
 fn a_kept_reply_is_read_without_its_head(rt: HostRuntime) -> Result<(), Fail> {
-    let alloc = rt.alloc();
     let printed = "REPLY g1 england 2\nOK withdrawn\nEND\n";
-    let read = read_kept(alloc, 2, [7; 32], printed)?;
-    let Some(Some(kept)) = read else {
-        return Err(Fail::new("a kept letter"));
-    };
-    assert!(rt; kept.number == 2 && kept.sum == [7; 32]);
-    assert!(rt; kept.reply.as_str() == "OK withdrawn\n");
-    let before = read_kept(alloc, 0, [0; 32], "")?;
-    assert!(rt; before.is_some_and(|kept| kept.is_none()));
-    assert!(rt; read_kept(alloc, 2, [7; 32], "OK withdrawn\n")?.is_none());
+    assert!(rt; is_reply(rt.alloc(), printed, "OK withdrawn\n")?);
+    Ok(())
+}
+
+#[test]
+fn before_the_first_letter_none_is_kept(rt: HostRuntime) -> Result<(), Fail> {
+    let read = read_kept(rt.alloc(), 0, [0; 32], "")?;
+    assert!(rt; read.is_some_and(|kept| kept.is_none()));
+    Ok(())
+}
+
+#[test]
+fn what_is_no_printed_reply_is_not_read(rt: HostRuntime) -> Result<(), Fail> {
+    let read = read_kept(rt.alloc(), 2, [7; 32], "OK withdrawn\n")?;
+    assert!(rt; read.is_none());
     Ok(())
 }

@@ -1,0 +1,5 @@
+pub mod Failing
+pub mod Passing
+pub mod Sane
+pub mod Unique
+pub mod Wanting

@@ -1,5 +1,6 @@
 pub mod Failing
 pub mod Passing
+pub mod Ruled
 pub mod Sane
 pub mod Unique
 pub mod Wanting

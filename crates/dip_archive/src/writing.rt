@@ -85,8 +85,9 @@ pub fn write_papers<K: Keeper, W: Write>(
         → MOST_PAPERS ≤ length (papers_of (game_at game.now (K.book.content map.now keeper.old))) }
     ensures walks { Walks map.now K.book keeper.old keeper.new result }
 {
-    match keeper.public(map, game)? {
-        None => Ok(None),
-        Some(_) => Ok(Some(write_all(writer, keeper, map, game)?)),
+    if keeper.public(map, game)?.is_none() {
+        return Ok(None);
     }
+    let count = write_all(writer, keeper, map, game)?;
+    Ok(Some(count))
 }

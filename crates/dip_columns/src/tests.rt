@@ -5,17 +5,24 @@ use dip_records::{Item, Status};
 use std::alloc::{AllocError, Global};
 use std::test::Fail;
 
-/// How the words of a status are read: its first letter, and how many powers it tells of.
+/// Its first letter, and the number of a power or how many powers it tells of.
+fn told_of(status: &Status) -> (char, usize) {
+    match status {
+        Status::Running => ('r', 0),
+        Status::Paused => ('p', 0),
+        Status::Closed => ('c', 0),
+        Status::Ended => ('e', 0),
+        Status::Won(power) => ('w', power.index() as usize),
+        Status::Drawn(powers) => ('d', powers.len()),
+    }
+}
+
+/// How the words of a status are read.
 fn told(alloc: Global, map: &Map, text: &str) -> Result<(char, usize), AllocError> {
-    Ok(match read_status(alloc, map, text)? {
-        None => ('-', 0),
-        Some(Status::Running) => ('r', 0),
-        Some(Status::Paused) => ('p', 0),
-        Some(Status::Closed) => ('c', 0),
-        Some(Status::Ended) => ('e', 0),
-        Some(Status::Won(power)) => ('w', power.index() as usize),
-        Some(Status::Drawn(powers)) => ('d', powers.len()),
-    })
+    match read_status(alloc, map, text)? {
+        None => Ok(('-', 0)),
+        Some(status) => Ok(told_of(&status)),
+    }
 }
 
 #[test]

@@ -1,6 +1,9 @@
+pub mod Asked
 pub mod Failing
+pub mod Keyed
 pub mod Passing
 pub mod Ruled
 pub mod Sane
 pub mod Unique
 pub mod Wanting
+pub mod Wants

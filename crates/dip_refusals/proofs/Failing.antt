@@ -47,7 +47,7 @@ edits_rows (Delete at q) = true
 edits_rows _ = false
 
 -- such a command is out of place nowhere
-other_than : (command another : Command) → edits_rows command ≡ true → edits_rows another ≡ false → command ≡ another → ⊥
+pub other_than : (command another : Command) → edits_rows command ≡ true → edits_rows another ≡ false → command ≡ another → ⊥
 other_than command another edits spares same = absurd (let x = sym edits ∙ ap edits_rows same ∙ spares in cc)
 
 well_placed : (s : State) (command : Command) (e : Error) → edits_rows command ≡ true → IsMisplaced s command e → ⊥

@@ -1,4 +1,5 @@
 pub mod Asked
+pub mod Calls
 pub mod Failing
 pub mod Keyed
 pub mod Passing

@@ -1,6 +1,7 @@
 pub mod Asked
 pub mod Calls
 pub mod Failing
+pub mod Joining
 pub mod Keyed
 pub mod Passing
 pub mod Ruled

@@ -1,7 +1,13 @@
 //! A change as one transaction.
 #![tactic(auto)]
 
+mod counts;
+mod faults;
+mod making;
 mod parts;
+mod readers;
 mod whole;
 
+pub use faults::MakeFault;
+pub use making::make;
 pub use whole::make_with;

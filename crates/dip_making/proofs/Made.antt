@@ -1,5 +1,5 @@
 -- What a transaction of parts leaves of a connection.
-use Rattle.std.proofs.Common.{true, false, [], ◌≡◌, ◌⊎◌, inl, inr, IsTrue, Ok, Err, Result, OnOk, OnErr, IfErr, refl, sym, subst, ap, ◌∙◌, arith}
+use Rattle.std.proofs.Common.{true, false, [], ◌≡◌, inl, inr, IsTrue, Ok, Err, Result, OnOk, OnErr, IfErr, refl, sym, subst, ap, ◌∙◌, arith}
 use Rattle.sqlite.specs.declared.error.Error.{Error}
 use Rattle.sqlite.specs.Tree.{Trees}
 use Rattle.sqlite.specs.Effect.{Database}
@@ -11,7 +11,7 @@ use Rattle.dip_tables.specs.Tables.{Tables}
 use Rattle.dip_tables.specs.Counting.{AreCounted}
 use Rattle.dip_rows.specs.Rows.{tables_of}
 use Rattle.dip_rows.specs.Good.{IsGood}
-use Rattle.dip_rows.specs.Calls.{IsKept, Lands, Selects, Writes, does_show, is_honest, tables_in}
+use Rattle.dip_rows.specs.Calls.{IsKept, Selects, Writes, does_show, is_honest, tables_in}
 use Rattle.dip_rows.proofs.Parts.{failed_commit, fails, undone_all, undone_base, went}
 use Rattle.dip_making.specs.Counts.{Peeks}
 use Rattle.dip_making.specs.Making.{IsLaid, Makes}

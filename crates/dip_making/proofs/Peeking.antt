@@ -1,5 +1,5 @@
 -- What is read, or left alone, one call behind another.
-use Rattle.std.proofs.Common.{◌≡◌, ◌⊎◌, inl, inr, Ok, Err, Result, refl, sym, subst, ◌∙◌}
+use Rattle.std.proofs.Common.{inl, inr, Ok, Err, Result, refl, sym, subst, ◌∙◌}
 use Rattle.std.specs.Result.{IsErr}
 use Rattle.sqlite.specs.Store.{Ghosts}
 use Rattle.sqlite.specs.Held.{Held}

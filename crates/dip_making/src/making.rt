@@ -37,9 +37,7 @@ pub fn make<S: Alter>(
     press_is_delivered_one_by_one();
     tables_stay_counted();
     if !conn.is_autocommit() {
-        return Err(MakeFault::Sql(Error::SqliteFailure(
-            ErrorCode::TransactionState,
-        )));
+        return Err(MakeFault::Sql(Error::SqliteFailure(ErrorCode::TransactionState)));
     }
     let counted = count(conn, alloc, map, change)?;
     match make_with(

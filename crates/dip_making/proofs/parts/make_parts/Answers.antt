@@ -1,4 +1,4 @@
-use Rattle.std.proofs.Common.{◌≡◌, List, ℕ, ap, string_bytes}
+use Rattle.std.proofs.Common.{List, ℕ, ap}
 use Rattle.dip_machine.specs.Rows as machine
 use Rattle.dip_tables.specs.Changing.{ordering}
 use Rattle.dip_tables.specs.Tables.{Tables}

@@ -3,11 +3,13 @@
 
 mod counts;
 mod faults;
+mod laws;
 mod making;
 mod parts;
 mod readers;
 mod whole;
 
 pub use faults::MakeFault;
+pub use laws::changes_are_made;
 pub use making::make;
 pub use whole::make_with;

@@ -1,0 +1,6 @@
+//! Tables made anew, and tables that are there.
+#![tactic(auto)]
+
+mod known;
+
+pub use known::{is_known, knows_none};

@@ -18,13 +18,7 @@ use Rattle.sqlite_resolve.specs.declared.error.CompileError.{CompileError}
 use Rattle.dip_statements.specs.Faults.{IsOutside}
 use Rattle.dip_founding.specs.Alone.{LeavesAlone}
 use Rattle.dip_founding.specs.Known.{IsKnown, IsWhole}
-
--- a call that went well, and one that failed
-abbrev pub went : (X E : Type 0) → X → Result X E
-went X E x = Ok x
-
-abbrev pub fails : (X E : Type 0) → E → Result X E
-fails X E e = Err e
+use Rattle.dip_founding.proofs.Alone.{went, fails}
 
 -- a text that was prepared is understood
 outlined : (r : Result Compiled CompileError) (s : Outline) → Outlines r s → (c : Compiled) × (r ≡ Ok c)
@@ -81,7 +75,7 @@ module _ (sql : List ℕ) (old new : State) (e : Error) (told : (params : Row) �
 
 module _ {S : Type 0} (g : Ghosts S) (old new : Held S) (survives : Survives (state g old) (state g new) (λ _. ⊥)) (mode : old.in_transaction ≡ false → new.in_transaction ≡ false) where
   pub alone_ok : {X : Type 0} (x : X) → (HasCleanDisk (state g new) → IsUnchanged (state g old) (state g new)) → LeavesAlone g old new (went X Error x)
-  alone_ok x same = record { survives = survives; mode = mode; keeps = λ clean. unchanged_keeps _ _ (same clean); same = same }
+  alone_ok x same = record { survives = survives; mode = mode; keeps = λ clean. unchanged_keeps _ _ (same clean); same = λ clean up. same clean }
 
   pub alone_err : (X : Type 0) (sql : List ℕ) (e : Error) → (HasCleanDisk (state g new) → (params : Row) → IsNotRun (state g old) (state g new) sql params e) → LeavesAlone g old new (fails X Error e)
-  alone_err X sql e told = record { survives = survives; mode = mode; keeps = λ clean. told_keeps sql (state g old) (state g new) e (told clean); same = λ clean. tt }
+  alone_err X sql e told = record { survives = survives; mode = mode; keeps = λ clean. told_keeps sql (state g old) (state g new) e (told clean); same = λ clean up. tt }

@@ -1,1 +1,4 @@
+pub mod Alone
 pub mod Asked
+pub mod Listed
+pub mod Ours

@@ -3,4 +3,4 @@
 
 mod known;
 
-pub use known::{is_known, knows_none};
+pub use known::{is_known, knows_all, knows_none};

@@ -17,9 +17,15 @@ returns-in-Err-SqlInputError-clause-alone g c =
       (λ clean. (missing c.args.text.now (state g.S.Store c.args.conn.now) (state g.S.Store c.prepare.new.self) c.in-Err-SqlInputError.field-0 (c.in-Err-SqlInputError.ensures.err clean)
         (subst IsOfText (sym c.in-Err-SqlInputError.field-0-is) tt)).1)
 
+pub returns-in-Err-SqlInputError-clause-shown : goal.returns-in-Err-SqlInputError-clause-shown
+returns-in-Err-SqlInputError-clause-shown g c clean =
+    (missing c.args.text.now (state g.S.Store c.args.conn.now) (state g.S.Store c.prepare.new.self) c.in-Err-SqlInputError.field-0 (c.in-Err-SqlInputError.ensures.err clean)
+      (subst IsOfText (sym c.in-Err-SqlInputError.field-0-is) tt)).1.0.is_open
+
 pub returns-in-Err : goal.returns-in-Err
 returns-in-Err g c = record {
   answer = λ clean. tt;
+  shown = λ clean. tt;
   alone = alone_err g.S.Store c.args.conn.now c.prepare.new.self c.prepare.ensures.survives c.prepare.ensures.mode Bool c.args.text.now c.in-Err.error c.in-Err.ensures.err;
   outside = λ clean. told_outside c.args.text.now (state g.S.Store c.args.conn.now) (state g.S.Store c.prepare.new.self) c.in-Err.error (c.in-Err.ensures.err clean);
 }

@@ -1,3 +1,4 @@
 pub mod Alone
+pub mod Founding
 pub mod Known
 pub mod Making

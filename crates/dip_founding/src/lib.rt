@@ -2,8 +2,10 @@
 #![tactic(auto)]
 
 mod creating;
+mod founding;
 mod known;
 mod making;
 
+pub use founding::found;
 pub use known::{is_known, knows_all, knows_none};
 pub use making::make_tables;

@@ -1,5 +1,5 @@
 -- Calls that change nothing, one behind another.
-use Rattle.std.proofs.Common.{◌≡◌, IsTrue, Ok, Err, Result, OnOk, refl, ◌∙◌, arith, inl, inr}
+use Rattle.std.proofs.Common.{◌≡◌, ◌⊎◌, IsTrue, Ok, Err, Result, OnOk, refl, ◌∙◌, arith, inl, inr}
 use Rattle.sqlite.specs.Store.{Ghosts}
 use Rattle.sqlite.specs.Held.{Held, state}
 use Rattle.sqlite.specs.State.{State, HasCleanDisk, IsUnchanged, Survives}
@@ -24,6 +24,11 @@ unchanged_then a b c p q = (
   q.2 ∙ p.2,
 )
 
+shown_then : (a b c : State) → b.committed ≡ a.committed → (b.now ≡ a.now) ⊎ (b.now ≡ a.committed) → (c.now ≡ b.now) ⊎ (c.now ≡ b.committed) → (c.now ≡ a.now) ⊎ (c.now ≡ a.committed)
+shown_then a b c base (inl p) (inl q) = inl (q ∙ p)
+shown_then a b c base (inr p) (inl q) = inr (q ∙ p)
+shown_then a b c base p (inr q) = inr (q ∙ base)
+
 module _ {S : Type 0} (g : Ghosts S) where
   -- no call
   pub alone_itself : (a : Held S) (X E : Type 0) (x : X) → LeavesAlone g a a (went X E x)
@@ -31,6 +36,7 @@ module _ {S : Type 0} (g : Ghosts S) where
     survives = record { clean = omega arith; shield = λ it. it; counts = omega arith; limit = refl; closes = λ clean up. inl up; crash = λ clean db may. inl may };
     mode = λ idle. idle;
     keeps = λ clean. record { was_open = λ up. up; committed = λ up. refl };
+    shows = λ clean up. inl refl;
     same = λ clean up. unchanged_itself (state g a) up;
   }
 
@@ -41,6 +47,10 @@ module _ {S : Type 0} (g : Ghosts S) where
     mode = λ idle. q.mode (p.mode idle);
     keeps = λ clean. let one = p.keeps (omega (arith, clean, q.survives.clean)) in let two = q.keeps clean in
         record { was_open = λ up. one.was_open (two.was_open up); committed = λ up. two.committed up ∙ one.committed (two.was_open up) };
+    shows = λ clean up.
+        let before : HasCleanDisk (state g b) = omega (arith, clean, q.survives.clean) in
+        let was : IsTrue (state g b).is_open = (q.keeps clean).was_open up in
+        shown_then (state g a) (state g b) (state g c) ((p.keeps before).committed was) (p.shows before was) (q.shows clean up);
     same = λ clean up. both r (q.same clean up) (λ was. p.same (omega (arith, clean, q.survives.clean)) was);
   }
     where
@@ -50,7 +60,7 @@ module _ {S : Type 0} (g : Ghosts S) where
 
   -- the same by another answer
   pub alone_as : {X Y E : Type 0} (a b : Held S) (x : X) (y : Y) → LeavesAlone g a b (went X E x) → LeavesAlone g a b (went Y E y)
-  alone_as a b x y p = record { survives = p.survives; mode = p.mode; keeps = p.keeps; same = p.same }
+  alone_as a b x y p = record { survives = p.survives; mode = p.mode; keeps = p.keeps; shows = p.shows; same = p.same }
 
   pub alone_fails : {X Y E F : Type 0} (a b : Held S) (e : E) (f : F) → LeavesAlone g a b (fails X E e) → LeavesAlone g a b (fails Y F f)
-  alone_fails a b e f p = record { survives = p.survives; mode = p.mode; keeps = p.keeps; same = λ clean up. tt }
+  alone_fails a b e f p = record { survives = p.survives; mode = p.mode; keeps = p.keeps; shows = p.shows; same = λ clean up. tt }

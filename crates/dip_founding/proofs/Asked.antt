@@ -49,6 +49,14 @@ module _ (sql : List ℕ) (old new : State) (e : Error) (told : (params : Row) �
     | inr fault ↦ record { was_open = fault.3.was_open; committed = λ up. (fault.3.undone up).1 }
   ]
 
+  -- what it shows is as before, or as it was committed
+  pub told_shows : IsTrue new.is_open → (new.now ≡ old.now) ⊎ (new.now ≡ old.committed)
+  unfolding IsNotRun
+  told_shows up = elim (told []) [
+    | inl none ↦ inl none.1.0.now_is
+    | inr fault ↦ inr (fault.3.undone up).0
+  ]
+
   -- a text that is understood is refused for want of memory, or by the disk
   pub told_outside : IsTrue old.is_open → IsWhole (length sql) (understood old.now.schema sql) → IsOutside e
   unfolding IsNotRun
@@ -75,7 +83,7 @@ module _ (sql : List ℕ) (old new : State) (e : Error) (told : (params : Row) �
 
 module _ {S : Type 0} (g : Ghosts S) (old new : Held S) (survives : Survives (state g old) (state g new) (λ _. ⊥)) (mode : old.in_transaction ≡ false → new.in_transaction ≡ false) where
   pub alone_ok : {X : Type 0} (x : X) → (HasCleanDisk (state g new) → IsUnchanged (state g old) (state g new)) → LeavesAlone g old new (went X Error x)
-  alone_ok x same = record { survives = survives; mode = mode; keeps = λ clean. unchanged_keeps _ _ (same clean); same = λ clean up. same clean }
+  alone_ok x same = record { survives = survives; mode = mode; keeps = λ clean. unchanged_keeps _ _ (same clean); shows = λ clean up. inl (same clean).0.now_is; same = λ clean up. same clean }
 
   pub alone_err : (X : Type 0) (sql : List ℕ) (e : Error) → (HasCleanDisk (state g new) → (params : Row) → IsNotRun (state g old) (state g new) sql params e) → LeavesAlone g old new (fails X Error e)
-  alone_err X sql e told = record { survives = survives; mode = mode; keeps = λ clean. told_keeps sql (state g old) (state g new) e (told clean); same = λ clean up. tt }
+  alone_err X sql e told = record { survives = survives; mode = mode; keeps = λ clean. told_keeps sql (state g old) (state g new) e (told clean); shows = λ clean up. told_shows sql (state g old) (state g new) e (told clean) up; same = λ clean up. tt }

@@ -7,6 +7,7 @@ ghost use Rattle.sqlite.specs.State.{HasCleanDisk, IsLive};
 ghost use Rattle.dip_schema.specs.Creating.{no_schema};
 ghost use Rattle.dip_schema.specs.Schema.{our_schema};
 ghost use Rattle.dip_statements.specs.Faults.{IsOutside};
+ghost use Rattle.dip_rows.specs.Calls.{Selects};
 ghost use Rattle.dip_founding.specs.Alone.{LeavesAlone};
 ghost use Rattle.dip_founding.specs.Known.{HasOurTables, IsKnown, IsWhole};
 
@@ -64,6 +65,7 @@ pub fn knows_all<S: Alter>(conn: &mut Connection<S>) -> Result<bool, Error>
         IsTrue b ↔ HasOurTables (state S.Store conn.old).now.schema) }
     ensures ours { HasCleanDisk (state S.Store conn.new)
         → (state S.Store conn.old).now.schema ≡ our_schema → IfOk result IsTrue }
+    ensures selects { Selects S.Store conn.old conn.new result }
     ensures alone { LeavesAlone S.Store conn.old conn.new result }
     ensures shown { HasCleanDisk (state S.Store conn.new)
         → OnOk result (IsTrue (state S.Store conn.new).is_open) }

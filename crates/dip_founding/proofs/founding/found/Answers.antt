@@ -16,8 +16,8 @@ returns-clause-crash g c =
     let P = Founds (new_tables c.args.map_sum.now c.args.digest.now) (state g.S.Store old) in
     let part = rw c.transaction-tx.ensures.begun at c.in_ok-make_tables.ensures.leads in
     let whole = survives_then (state g.S.Store old) (state g.S.Store last) (state g.S.Store end) _ _ P (λ _ db none. absurd none)
-        (λ late db is. (_, λ empty. (part.runs (omega (arith, late, c.commit.ensures.survives.clean))).now (record { schema_is = empty; empty = tt }), is))
-        (survives_begin g.S.Store old (state g.S.Store last) _ part.survives) c.commit.ensures.survives in
+    (λ late db is. (_, λ empty. (part.runs (omega (arith, late, c.commit.ensures.survives.clean))).now (record { schema_is = empty; empty = tt }), is))
+    (survives_begin g.S.Store old (state g.S.Store last) _ part.survives) c.commit.ensures.survives in
     subst (λ (h : Held _). Survives (state g.S.Store old) (state g.S.Store h) P) same whole
 
 pub returns-in_err-commit-clause-crash : goal.returns-in_err-commit-clause-crash
@@ -29,6 +29,6 @@ returns-in_err-commit-clause-crash g c =
     let P = Founds (new_tables c.args.map_sum.now c.args.digest.now) (state g.S.Store old) in
     let part = rw c.transaction-tx.ensures.begun at c.in_ok-make_tables.ensures.leads in
     let whole = survives_then (state g.S.Store old) (state g.S.Store last) (state g.S.Store end) _ _ P (λ _ db none. absurd none)
-        (λ late db is. (_, λ empty. (part.runs (omega (arith, late, c.commit.ensures.survives.clean))).now (record { schema_is = empty; empty = tt }), is))
-        (survives_begin g.S.Store old (state g.S.Store last) _ part.survives) c.commit.ensures.survives in
+    (λ late db is. (_, λ empty. (part.runs (omega (arith, late, c.commit.ensures.survives.clean))).now (record { schema_is = empty; empty = tt }), is))
+    (survives_begin g.S.Store old (state g.S.Store last) _ part.survives) c.commit.ensures.survives in
     subst (λ (h : Held _). Survives (state g.S.Store old) (state g.S.Store h) P) same whole

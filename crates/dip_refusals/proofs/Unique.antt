@@ -31,7 +31,6 @@ neither a b e f = rw (e, f) refl
 
 module _ {A : Type 0} (put : A → Row) (take : Row → A) (o : Order) (key : List ℕ) (same : A → A → Bool) (tells : (v w : Value) (a b : A) → agree o key (v ∷ put a) key (w ∷ put b) ≡ same a b)
     (turned : (a b : A) → same a b ≡ same b a) where
-
   agreed : (x y : Row) → x ≡ Int (id_of x) ∷ put (take x) → y ≡ Int (id_of y) ∷ put (take y) → agree o key x key y ≡ same (take x) (take y)
   agreed x y e f = ap₂ (λ a b. agree o key a key b) e f ∙ tells (Int (id_of x)) (Int (id_of y)) (take x) (take y)
 

@@ -1,5 +1,5 @@
 -- A statement of a transaction fails for want alone.
-use Rattle.std.proofs.Common.{◌≡◌, inl, inr, ℕ, List, length, true, false, IsTrue, Ok, Err, Result, refl, sym, ap, ◌∙◌}
+use Rattle.std.proofs.Common.{◌≡◌, inl, inr, ℕ, List, true, IsTrue, Ok, Err, Result, refl, sym, ap, ◌∙◌}
 use Rattle.sqlite.specs.declared.error.Error.{Error}
 use Rattle.sqlite.specs.Order.{Row}
 use Rattle.sqlite.specs.Command.{Command}

@@ -1,19 +1,16 @@
 -- Why an INSERT, an UPDATE or a DELETE fails: for want, or since a rule of the schema refuses its rows.
-use Rattle.std.proofs.Common.{◌≡◌, ◌⊎◌, cond, fold, inl, inr, ℕ, ℤ, zero, suc, ◌+◌, ◌≤◌, ◌/◌, List, option_map, [], ◌∷◌, ◌++◌, length, length-append, append-nil, Bool, true, false, Some, None, Option, Ok, Err, Result, IsTrue, slice_get, MatchBool, Any, refl, sym, ap, subst, subst₂, ◌∙◌, arith}
+use Rattle.std.proofs.Common.{◌≡◌, ◌⊎◌, cond, fold, inl, inr, ℕ, ℤ, zero, suc, ◌≤◌, ◌/◌, List, option_map, [], ◌∷◌, length, length-append, append-nil, Bool, true, false, Some, None, Option, Ok, Err, IsTrue, slice_get, MatchBool, refl, sym, ap, subst, subst₂, ◌∙◌, arith}
 use Rattle.sqlite_trees.specs.declared.error.StoreError.{StoreError}
 use Rattle.sqlite_trees.specs.declared.error.StoreError.TheVariants.{OutOfMemory, Io, Corrupt, Full, Broken, Unstorable}
 use Rattle.sqlite_resolve.specs.declared.compiled.Compiled.{Compiled}
-use Rattle.sqlite_schema.specs.declared.command.Returning.{Returning}
 use Rattle.sqlite_schema.specs.declared.schema.Among.{Among}
 use Rattle.sqlite_schema.specs.declared.schema.Keys.TheVariants.{Enforced}
 use Rattle.sqlite_schema.specs.Rules.{Refers}
 use Rattle.sqlite_typing.specs.Types.{accepts_terms}
 use Rattle.sqlite_rules.specs.declared.error.Refusal.{Refusal}
-use Rattle.sqlite_rules.specs.Edit.{Edit, IsRefused, taken_by, Applies}
+use Rattle.sqlite_rules.specs.Edit.{Edit, IsRefused, taken_by}
 use Rattle.sqlite_rules.specs.Action.{works, Leads, Writes}
 use Rattle.sqlite.specs.declared.error.Error.{Error}
-use Rattle.sqlite.specs.declared.error.Error.TheVariants.{SqliteFailure}
-use Rattle.sqlite.specs.declared.error.ErrorCode.TheVariants as code
 use Rattle.sqlite.specs.Order.{Row}
 use Rattle.sqlite.specs.Tree.{Trees}
 use Rattle.sqlite.specs.Term.{Term}
@@ -23,7 +20,6 @@ use Rattle.sqlite.specs.Command.{Command}
 use Rattle.sqlite.specs.Command.TheVariants.{Insert, Update, Delete, Begin, Commit, Rollback, Release, RollbackTo}
 use Rattle.sqlite.specs.Source.TheVariants.{Values}
 use Rattle.sqlite.specs.Edit.{edit_of}
-use Rattle.sqlite.specs.Rowids.{Rowids}
 use Rattle.sqlite.specs.Rowids.TheVariants.{Chosen, Above, Given}
 use Rattle.sqlite.specs.Effect.{Answers, Database, RefusesQuery, edit_error, value_rows}
 use Rattle.sqlite.specs.Does.{Does, Concludes, due, OnRows, OnTable, Tested, WritesRows}
@@ -34,7 +30,6 @@ use Rattle.sqlite.specs.Listing.{understood}
 use Rattle.sqlite.specs.Clock.{timed}
 use Rattle.sqlite.specs.declared.run.Mode.{Mode}
 use Rattle.sqlite.specs.State.{State, mode_of, text_of, shows_rows, HasCause, IsMisplaced, IsNotRun, RunsAlone, RunsCommand, Executes, ExecutesIn, store_error, is_disk_error}
-use Rattle.dip_statements.specs.Faults.{IsOutside}
 use Rattle.dip_refusals.specs.Refusals.{IsWant}
 
 -- ---- a statement that isn't run

@@ -1,5 +1,5 @@
 -- Parts of a transaction one behind another fail for want alone, where the tables allow each of them.
-use Rattle.std.proofs.Common.{◌≡◌, Ok, Err, Result, sym, subst, arith}
+use Rattle.std.proofs.Common.{Result, sym, subst, arith}
 use Rattle.sqlite.specs.declared.error.Error.{Error}
 use Rattle.sqlite.specs.State.{State, HasCleanDisk}
 use Rattle.dip_tables.specs.Tables.{Tables}

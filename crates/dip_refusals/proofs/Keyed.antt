@@ -1,5 +1,5 @@
 -- In the tables of a database no key comes twice.
-use Rattle.std.proofs.Common.{◌≡◌, ◌==◌, ◌&&◌, inl, inr, [], ◌∷◌, map, true, bytes_eq, refl, ap, ap₂, subst, ◌∙◌}
+use Rattle.std.proofs.Common.{◌==◌, ◌&&◌, inl, inr, [], ◌∷◌, map, true, bytes_eq, refl, ap, ap₂, subst, ◌∙◌}
 use Rattle.sqlite.specs.Effect.{Database}
 use Rattle.sqlite_value.specs.Keys.{first_key}
 use Rattle.sqlite_catalog.specs.Listing.{IsSound}

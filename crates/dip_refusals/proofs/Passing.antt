@@ -1,34 +1,23 @@
 -- Which rules of a schema may refuse an edit: those that none of its rows passes.
-use Rattle.std.proofs.Common.{◌≡◌, ◌⊎◌, inl, inr, List, [], ◌∷◌, map, filter, Bool, true, false, not, ◌&&◌, refl, sym, ap, ap₂, subst, ◌∙◌, nat_lt, length}
-use Rattle.std.specs.List.{AllByRecursion, list_all, list_any}
+use Rattle.std.proofs.Common.{◌≡◌, inr, List, [], ◌∷◌, Bool, true, false, refl, sym, subst, ◌∙◌, nat_lt, length}
+use Rattle.std.specs.List.{AllByRecursion, list_all}
 use Rattle.std.specs.Ordering.{is_eq}
-use Rattle.std.specs.List.Sorted.{IsPermutation}
 use Rattle.sqlite.specs.declared.types.Value.{Value}
-use Rattle.sqlite.specs.declared.types.Value.TheVariants.{Null, Int}
-use Rattle.sqlite.specs.declared.error.Error.TheVariants.{SqliteFailure}
-use Rattle.sqlite.specs.declared.error.ErrorCode.TheVariants as code
 use Rattle.sqlite.specs.Order.{Row, value_cmp}
-use Rattle.sqlite.specs.Tree.{Trees, rowid, put_row}
+use Rattle.sqlite.specs.Tree.{Trees, rowid}
 use Rattle.sqlite_trees.specs.Tree.{with_tree}
-use Rattle.sqlite.specs.Term.{Term, eval_all}
-use Rattle.sqlite.specs.Cast.{cast_all, cast_row}
+use Rattle.sqlite.specs.Cast.{cast_all}
 use Rattle.sqlite.specs.Table.{Table}
 use Rattle.sqlite.specs.Schema.{Schema}
-use Rattle.sqlite.specs.Edit.{edit_of, edited}
+use Rattle.sqlite.specs.Edit.{edited}
 use Rattle.sqlite_trees.specs.View.{is_int}
-use Rattle.sqlite_rules.specs.Edit.{Edit, IsRefused, left_by, are_fresh, is_taken, next_rowid, with_rowid}
-use Rattle.sqlite_rules.specs.Calls.{ids_of}
+use Rattle.sqlite_rules.specs.Edit.{Edit, IsRefused, left_by, are_fresh, is_taken}
 use Rattle.sqlite_rules.specs.declared.error.Refusal.{Refusal}
 use Rattle.sqlite_rules.specs.declared.error.Refusal.TheVariants.{Violates, Mismatch, NoRowid, BadReference, TooDeep}
-use Rattle.sqlite.specs.Rowids.TheVariants.{Chosen, Given}
 use Rattle.sqlite.specs.Effect.{edit_error}
 use Rattle.sqlite_schema.specs.declared.schema.Keys.TheVariants.{Enforced}
 use Rattle.sqlite_schema.specs.declared.schema.Constraint.TheVariants.{Datatype, NotNull, Check, PrimaryKey, Unique, ForeignKey}
 use Rattle.sqlite_schema.specs.Rules.{Keeps, passes, references_fit}
-use Rattle.dip_statements.specs.Rows.{IsRising}
-use Rattle.dip_statements.proofs.Changes.{cast_null}
-use Rattle.dip_statements.proofs.Edits.{grown}
-use Rattle.dip_statements.proofs.Places.{HaveIds, above_next, id_of}
 use Rattle.dip_refusals.specs.Refusals.{IsWant}
 
 -- no row there has the rowid of a row above them all

@@ -15,7 +15,7 @@ use Rattle.sqlite.specs.Program.{overlay}
 use Rattle.sqlite.specs.Command.{Command}
 use Rattle.sqlite.specs.Command.TheVariants.{Insert, Update, Delete}
 use Rattle.sqlite.specs.Source.TheVariants.{Values}
-use Rattle.sqlite.specs.Effect.{Answers, Database, RefusesQuery, edit_error, is_query, value_rows}
+use Rattle.sqlite.specs.Effect.{Answers, RefusesQuery, is_query, value_rows}
 use Rattle.sqlite.specs.Does.{Does}
 use Rattle.sqlite.specs.Rows.{stamped}
 use Rattle.sqlite.specs.Given.{IsPlain}

@@ -1,17 +1,16 @@
 -- Where no two records of a table agree on its key, no row clashes with another.
-use Rattle.std.proofs.Common.{◌≡◌, ℕ, ℤ, List, [], ◌∷◌, map, Bool, true, false, ◌&&◌, ◌||◌, refl, sym, ap, ap₂, ◌∙◌}
-use Rattle.std.specs.List.{AllByRecursion, list_any}
+use Rattle.std.proofs.Common.{◌≡◌, ℕ, ℤ, List, [], ◌∷◌, map, Bool, true, false, ◌&&◌, ◌||◌, refl, ap, ap₂, ◌∙◌}
+use Rattle.std.specs.List.{AllByRecursion}
 use Rattle.std.proofs.lemmas.Cmp.{tied_itself}
 use Rattle.sqlite.specs.declared.types.Value.{Value}
 use Rattle.sqlite.specs.declared.types.Value.TheVariants.{Int}
-use Rattle.sqlite.specs.Order.{Row, value_cmp}
+use Rattle.sqlite.specs.Order.{Row}
 use Rattle.sqlite.specs.Tree.{rowid}
 use Rattle.sqlite.specs.Ops.{binary}
 use Rattle.sqlite_trees.specs.Tree.{IsAscending}
 use Rattle.sqlite_value.proofs.OrderLemmas.{value_cmp_total}
 use Rattle.sqlite_value.specs.declared.keys.Order.{Order}
 use Rattle.sqlite_schema.specs.Rules.{agree, clashes, differ}
-use Rattle.dip_statements.specs.Rows.{IsRising}
 use Rattle.dip_statements.proofs.Places.{id_of}
 
 -- a rowid doesn't differ from itself
@@ -31,7 +30,6 @@ neither a b e f = rw (e, f) refl
 
 module _ {A : Type 0} (put : A → Row) (take : Row → A) (o : Order) (key : List ℕ) (same : A → A → Bool) (tells : (v w : Value) (a b : A) → agree o key (v ∷ put a) key (w ∷ put b) ≡ same a b)
     (turned : (a b : A) → same a b ≡ same b a) where
-
   agreed : (x y : Row) → x ≡ Int (id_of x) ∷ put (take x) → y ≡ Int (id_of y) ∷ put (take y) → agree o key x key y ≡ same (take x) (take y)
   agreed x y e f = ap₂ (λ a b. agree o key a key b) e f ∙ tells (Int (id_of x)) (Int (id_of y)) (take x) (take y)
 

@@ -1,31 +1,24 @@
 -- On the tables of a desk a statement that writes fails for want alone, where no key comes twice.
-use Rattle.std.proofs.Common.{◌≡◌, inl, inr, ℕ, pos, List, [], ◌∷◌, ◌++◌, map, Bool, true, false, not, cond, Err, IsTrue, None, refl, sym, ap, ap₂, subst, ◌∙◌}
-use Rattle.std.specs.List.{AllByRecursion, list_all}
+use Rattle.std.proofs.Common.{◌≡◌, inl, inr, ℕ, pos, List, [], ◌∷◌, ◌++◌, map, Bool, false, not, cond, Err, IsTrue, None, refl, sym, subst, ◌∙◌}
+use Rattle.std.specs.List.{AllByRecursion}
 use Rattle.std.proofs.lemmas.Bool.{cases_Bool}
-use Rattle.sqlite.specs.declared.types.Value.{Value}
 use Rattle.sqlite.specs.declared.types.Value.TheVariants.{Int, Text as Words, Blob as Bytes}
 use Rattle.sqlite.specs.declared.error.Error.{Error}
-use Rattle.sqlite.specs.Order.{Row}
 use Rattle.sqlite.specs.Tree.{Trees}
-use Rattle.sqlite.specs.Effect.{Database}
 use Rattle.sqlite.specs.State.{State, Executes}
-use Rattle.sqlite_trees.specs.Tree.{IsAscending}
-use Rattle.sqlite_value.specs.Keys.{first_key}
 use Rattle.sqlite_keyed.specs.Lists.{update_where, delete_where}
-use Rattle.sqlite_keyed.proofs.ListLemmas.{all_of, all_weaker, ascending-filter}
+use Rattle.sqlite_keyed.proofs.ListLemmas.{all_of, ascending-filter}
 use Rattle.sqlite_catalog.specs.Listing.{IsSound}
 use Rattle.sqlite_schema.specs.declared.schema.Among.{Among}
 use Rattle.sqlite_schema.specs.declared.schema.Constraint.TheVariants.{Unique}
 use Rattle.sqlite_schema.specs.Rules.{Keeps, Refers}
-use Rattle.sqlite_tied.specs.Compute.{everything}
-use Rattle.dip_statements.proofs.Keys.{apart_in}
 use Rattle.dip_schema.specs.Asking.{by_one, by_two, by_first}
 use Rattle.dip_schema.specs.Schema.{our_schema, desk_table, game_table, seat_table, unit_table, centre_table, pending_table, box_table, paper_table}
 use Rattle.dip_schema.specs.Statements as text
 use Rattle.dip_schema.proofs.Texts as means
 use Rattle.dip_board_rows.specs.Boards.{UnitRow, CentreRow}
 use Rattle.dip_tables.specs.Coding.{same_name, same_seat}
-use Rattle.dip_tables.specs.Tables.{DeskRow, GameRow, SeatRow, PendingRow, BoxRow, PaperRow, is_seat_in, is_unit_in, is_centre_in, is_pending_in, is_box_in, is_paper_in, is_named, is_seat, is_pending}
+use Rattle.dip_tables.specs.Tables.{GameRow, PendingRow, BoxRow, PaperRow, is_seat_in, is_unit_in, is_centre_in, is_pending_in, is_box_in, is_paper_in, is_named, is_seat, is_pending}
 use Rattle.dip_rows.specs.Good.{IsGood}
 use Rattle.dip_rows.specs.Rows.{tables_of, put_desk, take_desk, put_game, take_game, put_seat, take_seat, put_unit, take_unit, put_centre, take_centre, put_pending, take_pending, put_box, take_box, put_paper, take_paper}
 use Rattle.dip_rows.specs.Statements.{is_first, new_desk, new_seat, desk_with, seat_with, voting, sending, counting, secret_as, game_as}

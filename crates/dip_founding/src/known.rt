@@ -32,7 +32,8 @@ pub fn is_known<S: Alter>(conn: &mut Connection<S>, text: &str) -> Result<bool, 
     ensures alone { LeavesAlone S.Store conn.old conn.new result }
     ensures shown { HasCleanDisk (state S.Store conn.new)
         → OnOk result (IsTrue (state S.Store conn.new).is_open) }
-    ensures outside { HasCleanDisk (state S.Store conn.new) → IsTrue (state S.Store conn.old).is_open
+    ensures outside { HasCleanDisk (state S.Store conn.new)
+        → IsTrue (state S.Store conn.old).is_open
         → IsWhole (length text.now) (understood (state S.Store conn.old).now.schema text.now)
         → IfErr result IsOutside }
 {
@@ -50,7 +51,8 @@ fn knows_each<S: Alter>(conn: &mut Connection<S>, texts: &[&str]) -> Result<bool
     ensures alone { LeavesAlone S.Store conn.old conn.new result }
     ensures shown { HasCleanDisk (state S.Store conn.new) → 0 < length texts.now
         → OnOk result (IsTrue (state S.Store conn.new).is_open) }
-    ensures outside { HasCleanDisk (state S.Store conn.new) → IsTrue (state S.Store conn.old).is_open
+    ensures outside { HasCleanDisk (state S.Store conn.new)
+        → IsTrue (state S.Store conn.old).is_open
         → AllByRecursion (λ t. IsWhole (length t.now)
         (understood (state S.Store conn.old).now.schema t.now)) texts.now → IfErr result IsOutside }
 {
@@ -75,7 +77,8 @@ pub fn knows_all<S: Alter>(conn: &mut Connection<S>) -> Result<bool, Error>
     ensures alone { LeavesAlone S.Store conn.old conn.new result }
     ensures shown { HasCleanDisk (state S.Store conn.new)
         → OnOk result (IsTrue (state S.Store conn.new).is_open) }
-    ensures outside { HasCleanDisk (state S.Store conn.new) → IsTrue (state S.Store conn.old).is_open
+    ensures outside { HasCleanDisk (state S.Store conn.new)
+        → IsTrue (state S.Store conn.old).is_open
         → (state S.Store conn.old).now.schema ≡ our_schema → IfErr result IsOutside }
 {
     let texts = [

@@ -9,7 +9,7 @@ use Rattle.sqlite.specs.Outline.{Outline}
 use Rattle.sqlite.specs.Store.{Ghosts}
 use Rattle.sqlite.specs.Held.{Held, state}
 use Rattle.sqlite.specs.Schema.{Schema}
-use Rattle.sqlite.specs.State.{HasCleanDisk, Survives, State, IsNotRun, IsUnchanged, KeepsCommit, HasCause, IsRolledBack, is_disk_error, store_error}
+use Rattle.sqlite.specs.State.{HasCleanDisk, Survives, State, IsNotRun, IsUnchanged, KeepsCommit, HasCause, is_disk_error, store_error}
 use Rattle.sqlite.specs.Steps.{Outlines}
 use Rattle.sqlite_trees.specs.declared.error.StoreError.{StoreError}
 use Rattle.sqlite_trees.specs.declared.error.StoreError.TheVariants.{OutOfMemory, Io, Corrupt, Full, Broken, Unstorable}

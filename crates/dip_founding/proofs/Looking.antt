@@ -1,5 +1,5 @@
 -- A call that changes nothing is a query of tables that are kept.
-use Rattle.std.proofs.Common.{◌≡◌, ◌⊎◌, IsTrue, inl, inr, Result, Ok, Err, OnOk, subst, sym, ◌∙◌, arith}
+use Rattle.std.proofs.Common.{◌≡◌, IsTrue, inl, inr, Result, Ok, Err, OnOk, subst, sym, ◌∙◌, arith}
 use Rattle.sqlite.specs.Store.{Ghosts}
 use Rattle.sqlite.specs.Held.{Held, state}
 use Rattle.sqlite.specs.Effect.{Database}

@@ -1,10 +1,9 @@
 -- Behind the last of the tables the database is one of ours, without a row.
-use Rattle.std.proofs.Common.{◌≡◌, ℕ, [], ◌∷◌, Ok, subst}
+use Rattle.std.proofs.Common.{ℕ, [], Ok, subst}
 use Rattle.sqlite.specs.Schema.{Schema}
 use Rattle.sqlite.specs.State.{State, Executes}
 use Rattle.dip_statements.specs.Creating.{IsBare}
 use Rattle.dip_schema.specs.Creating.{create_paper}
-use Rattle.dip_schema.specs.Schema.{our_schema}
 use Rattle.dip_schema.proofs.Created.{all_made, paper_made}
 use Rattle.dip_rows.specs.Statements.{no_tables}
 use Rattle.dip_rows.proofs.New.{bare_good}

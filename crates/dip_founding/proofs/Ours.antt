@@ -1,7 +1,6 @@
 -- Our schema knows our tables.
 use Rattle.std.proofs.Common.{◌≡◌, ◌≤◌, IsTrue, ℕ, nat_le, Bool, true, List, Ok, Err, Result, IfOk, arith, length, refl, sym, subst}
 use Rattle.std.proofs.lemmas.Bool.Decides.{nat_tests}
-use Rattle.std.specs.List.{AllByRecursion}
 use Rattle.sqlite.specs.declared.error.Error.{Error}
 use Rattle.sqlite.specs.Command.{Command}
 use Rattle.sqlite.specs.Query.{Query}

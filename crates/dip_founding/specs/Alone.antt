@@ -4,7 +4,7 @@ use Rattle.sqlite.specs.Store.{Ghosts}
 use Rattle.sqlite.specs.Held.{Held, state}
 use Rattle.sqlite.specs.State.{HasCleanDisk, IsUnchanged, KeepsCommit, Survives}
 
--- the call commits nothing; where it succeeds it changes nothing, and where it fails a transaction may be undone
+-- the call commits nothing; where it succeeds it changes nothing, where it fails it may undo
 pub record LeavesAlone {S X E : Type 0} (g : Ghosts S) (old new : Held S) (r : Result X E)
     : Type 0 where
   pub survives : Survives (state g old) (state g new) (λ _. ⊥)

@@ -23,4 +23,5 @@ module _ {S : Type 0} (g : Ghosts S) (h : Held S) where
 
 -- the trees of these tables, made in an empty store
 abbrev pub Founds : Tables → State → Trees → Type 0
-Founds t old trees = (db : Database) × (old.now.schema ≡ no_schema → HasTables t db) × (trees ≡ db.trees)
+Founds t old trees =
+    (db : Database) × (old.now.schema ≡ no_schema → HasTables t db) × (trees ≡ db.trees)

@@ -14,7 +14,7 @@ pub record Becomes (Such So : Database → Type 0) (old new : State) : Type 0 wh
   pub inside : IsTrue old.in_transaction → IsTrue new.in_transaction
   pub now : Such old.now → So new.now
 
--- a part of a transaction: it commits nothing, and where it succeeds a database that was such becomes so
+-- a part of a transaction: it commits nothing; where it succeeds a database that was such becomes so
 pub record Leads {X E : Type 0} (Such So : Database → Type 0) (old new : State) (r : Result X E)
     : Type 0 where
   pub survives : Survives old new (λ _. ⊥)

@@ -9,8 +9,10 @@ ghost use Rattle.dip_tables.specs.Writing.{new_tables};
 use crate::making::make_tables;
 use sqlite::{Alter, Connection, Error};
 
-/// Makes our tables and the master's row, the whole of it or nothing. An error says that memory ran out, what the disk refused, or that one
-/// of the tables is there; then what was committed is as before.
+/// Makes our tables and the master's row, the whole of it or nothing.
+///
+/// # Errors
+/// Want of memory, what the disk refused, or that one of the tables is there. Then what was committed is as before.
 pub fn found<S: Alter>(
     conn: &mut Connection<S>,
     map_sum: &[u8; 32],

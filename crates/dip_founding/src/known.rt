@@ -23,6 +23,9 @@ pub fn knows_none<S: Alter>(conn: &Connection<S>) -> bool
 }
 
 /// Whether the schema has what the text names. No row is read.
+///
+/// # Errors
+/// Of a text that is one statement and asks for no time: want of memory, or a fault of the disk.
 pub fn is_known<S: Alter>(conn: &mut Connection<S>, text: &str) -> Result<bool, Error>
     ensures answer { HasCleanDisk (state S.Store conn.new) → IfOk result (λ b.
         IsTrue b ↔ IsKnown (state S.Store conn.old).now.schema text.now) }
@@ -62,6 +65,9 @@ fn knows_each<S: Alter>(conn: &mut Connection<S>, texts: &[&str]) -> Result<bool
 }
 
 /// Whether our eight tables are there, with the columns that are read of them.
+///
+/// # Errors
+/// Over our own schema: want of memory, or a fault of the disk.
 pub fn knows_all<S: Alter>(conn: &mut Connection<S>) -> Result<bool, Error>
     ensures answer { HasCleanDisk (state S.Store conn.new) → IfOk result (λ b.
         IsTrue b ↔ HasOurTables (state S.Store conn.old).now.schema) }

@@ -1,4 +1,4 @@
-use Rattle.std.proofs.Common.{Bool, Bor, IsTrue, List, [], ℕ, arith, slice_index_or, subst, true}
+use Rattle.std.proofs.Common.{Bool, Bor, List, [], ℕ, arith, slice_index_or, subst, true}
 use Rattle.sqlite.specs.Held.{state}
 use Rattle.sqlite.specs.State.{HasCleanDisk}
 use Rattle.sqlite.specs.Effect.{Database}

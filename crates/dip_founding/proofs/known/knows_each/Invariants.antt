@@ -1,4 +1,4 @@
-use Rattle.std.proofs.Common.{◌⊎◌, IsTrue, Bool, true, ℕ, ◌<◌, take}
+use Rattle.std.proofs.Common.{◌⊎◌, IsTrue, Bool, true, ◌<◌, take}
 use Rattle.std.specs.List.{AllByRecursion}
 use Rattle.sqlite.specs.Held.{state}
 use Rattle.sqlite.specs.State.{HasCleanDisk}

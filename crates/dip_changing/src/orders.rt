@@ -46,8 +46,8 @@ fn add_orders<S: Alter>(
     ensures writes { Writes
         (more_orders (each (pending_row map.now game.now power.now) (records.standings orders.now)))
         (state S.Store tx.old.conn.now) (state S.Store tx.new.conn.now) result }
-    ensures wants { Wants (OrdersDiffer
-        (more_orders (each (pending_row map.now game.now power.now) (records.standings orders.now))))
+    ensures wants { Wants (OrdersDiffer (more_orders
+        (each (pending_row map.now game.now power.now) (records.standings orders.now))))
         (state S.Store tx.old.conn.now) (state S.Store tx.new.conn.now) result }
 {
     for order in orders {

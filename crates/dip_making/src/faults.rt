@@ -1,4 +1,6 @@
 //! Why a change isn't made.
+ghost use Rattle.std.specs.Prelude.{◌≡◌};
+
 use sqlite::Error;
 use std::alloc::{AllocError, AllocFailed};
 
@@ -14,18 +16,30 @@ pub enum MakeFault {
 }
 
 impl From<AllocError> for MakeFault {
+    ghost use Rattle.dip_making.specs.declared.faults.MakeFault.TheVariants.{Memory};
+
+    ghost from_gives = { λ _ fault. fault ≡ Memory };
+
     fn from(_: AllocError) -> MakeFault {
         MakeFault::Memory
     }
 }
 
 impl From<Error> for MakeFault {
+    ghost use Rattle.dip_making.specs.declared.faults.MakeFault.TheVariants.{Sql};
+
+    ghost from_gives = { λ error fault. fault ≡ Sql error };
+
     fn from(error: Error) -> MakeFault {
         MakeFault::Sql(error)
     }
 }
 
 impl<T: Drop> From<AllocFailed<T>> for MakeFault {
+    ghost use Rattle.dip_making.specs.declared.faults.MakeFault.TheVariants.{Memory};
+
+    ghost from_gives = { λ _ fault. fault ≡ Memory };
+
     fn from(_: AllocFailed<T>) -> MakeFault {
         MakeFault::Memory
     }

@@ -1,3 +1,4 @@
 pub mod Delivering
+pub mod Differing
 pub mod Noting
 pub mod Parts

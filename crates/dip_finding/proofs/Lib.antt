@@ -1,2 +1,5 @@
 pub mod PublicLemmas
 pub mod OwnLemmas
+pub mod PageLemmas
+pub mod Onward
+pub mod WholeLemmas

@@ -1,5 +1,5 @@
 -- What the rows of a seat show is what its records say.
-use Rattle.std.proofs.Common.{◌≡◌, ℕ, ◌<◌, true, List, [], ◌∷◌, length, map, filter, option_map, bytes_eq, Option, Some, None, refl, sym, ap, ap₂, ◌∙◌, inl, inr}
+use Rattle.std.proofs.Common.{◌≡◌, ℕ, ◌<◌, List, [], ◌∷◌, length, map, filter, option_map, Option, Some, None, refl, sym, ap, ap₂, ◌∙◌, inl, inr}
 use Rattle.std.specs.List.{find}
 use Rattle.std.proofs.lemmas.Bool.{cases_Bool, and_parts}
 use Rattle.std.proofs.lemmas.Slice.Eq.{bytes_eq-Decides}
@@ -12,12 +12,12 @@ use Rattle.dip_tables.specs.Tables.{PendingRow, SeatRow, Tables, is_pending, is_
 use Rattle.dip_finding.specs.Shown.{shown_order, shown_own}
 
 module _ (m : Chart) where
-  orders_shown : (ps : List PendingRow) → map (λ r. standing_of m (shown_order r)) (map show_order ps) ≡ map (standing_of m) ps
+  pub orders_shown : (ps : List PendingRow) → map (λ r. standing_of m (shown_order r)) (map show_order ps) ≡ map (standing_of m) ps
   orders_shown [] = refl
   orders_shown (p ∷ ps) = ap (λ os. standing_of m p ∷ os) (orders_shown ps)
 
   -- the seat that is found is of that game and that power
-  found_seat : (name power : List ℕ) (ss : List SeatRow) (s : SeatRow) → find (is_seat name power) ss ≡ Some s → (s.game ≡ name) × (s.power ≡ power)
+  pub found_seat : (name power : List ℕ) (ss : List SeatRow) (s : SeatRow) → find (is_seat name power) ss ≡ Some s → (s.game ≡ name) × (s.power ≡ power)
   found_seat name power [] s = λ is. absurd (cc)
   found_seat name power (x ∷ ss) s = elim (cases_Bool (is_seat name power x)) [
     | inl hit ↦ rw hit (λ is.
@@ -32,18 +32,18 @@ module _ (m : Chart) where
   pub own_is : IsMap m → (t : Tables) (name : List ℕ) (power : ℕ) (row : Row) (orders : List Row) → power < length m.realms
       → Some row ≡ option_map show_seat (find (is_seat name (power_name m power)) t.seats)
       → orders ≡ map show_order (filter (is_pending name (power_name m power)) t.pending)
-      → Some (shown_own m power row orders) ≡ option_map (own_of m t.pending) (find (is_seat name (power_name m power)) t.seats)
+      → Some (shown_own m power 0 row orders) ≡ option_map (own_of m t.pending) (find (is_seat name (power_name m power)) t.seats)
   own_is ok t name power row orders low shown os = by_seat (find (is_seat name (power_name m power)) t.seats) refl
     where
-      of_seat : (s : SeatRow) → (s.game ≡ name) × (s.power ≡ power_name m power) → row ≡ show_seat s → shown_own m power row orders ≡ own_of m t.pending s
+      of_seat : (s : SeatRow) → (s.game ≡ name) × (s.power ≡ power_name m power) → row ≡ show_seat s → shown_own m power 0 row orders ≡ own_of m t.pending s
       of_seat s named is =
           let mine = ap (map (λ r. standing_of m (shown_order r))) os ∙ orders_shown (filter (is_pending name (power_name m power)) t.pending) in
           let pending = mine ∙ ap₂ (pending_of m t.pending) (sym named.0) (sym named.1) in
           let number : power ≡ power_in m s.power = sym (ap or_zero (ok.names_found power low)) ∙ ap (power_in m) (sym named.1) in
-          ap (λ r. shown_own m power r orders) is ∙ ap₂ (λ n p. record (own_of m t.pending s) { power = n; pending = p }) number pending
+          ap (λ r. shown_own m power 0 r orders) is ∙ ap₂ (λ n p. record (own_of m t.pending s) { power = n; pending = p }) number pending
 
       by_seat : (o : Option SeatRow) → find (is_seat name (power_name m power)) t.seats ≡ o
-          → Some (shown_own m power row orders) ≡ option_map (own_of m t.pending) (find (is_seat name (power_name m power)) t.seats)
+          → Some (shown_own m power 0 row orders) ≡ option_map (own_of m t.pending) (find (is_seat name (power_name m power)) t.seats)
       by_seat None none = absurd (let bad = shown ∙ ap (option_map show_seat) none in cc)
       by_seat (Some s) found =
           let same : row ≡ show_seat s = (let both = shown ∙ ap (option_map show_seat) found in cc) in

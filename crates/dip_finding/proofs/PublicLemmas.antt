@@ -1,5 +1,5 @@
 -- What the rows of a game show is what its records say.
-use Rattle.std.proofs.Common.{◌≡◌, ℕ, Bool, true, false, List, [], ◌∷◌, map, filter, option_map, option_and_then, bytes_eq, Option, Some, None, refl, sym, ap, ap₂, ◌∙◌, inl, inr}
+use Rattle.std.proofs.Common.{◌≡◌, ℕ, List, [], ◌∷◌, map, filter, option_map, bytes_eq, Option, Some, None, refl, sym, ap, ap₂, ◌∙◌, inl, inr}
 use Rattle.std.specs.List.{find}
 use Rattle.std.proofs.lemmas.Bool.{cases_Bool}
 use Rattle.std.proofs.lemmas.Slice.Eq.{bytes_eq-Decides}
@@ -7,7 +7,7 @@ use Rattle.sqlite.specs.Order.{Row}
 use Rattle.dip_chart.specs.Charts.{Chart, Province}
 use Rattle.dip_board_rows.specs.Boards.{UnitRow, CentreRow, board_of, unit_of, dislodged_of, stands, fell, owner_in, standoff_of, season_of}
 use Rattle.dip_rows.specs.Showing.{show_game, show_unit, show_centre}
-use Rattle.dip_tables.specs.Reading.{public_of, status_of}
+use Rattle.dip_tables.specs.Reading.{public_of}
 use Rattle.dip_tables.specs.Tables.{GameRow, Tables, is_named, is_unit_in, is_centre_in}
 use Rattle.dip_finding.specs.Shown.{shown_unit, shown_centre, shown_public}
 
@@ -53,7 +53,7 @@ module _ (m : Chart) where
       }
 
   -- the game that is found has the name
-  found_named : (name : List ℕ) (gs : List GameRow) (g : GameRow) → find (is_named name) gs ≡ Some g → g.name ≡ name
+  pub found_named : (name : List ℕ) (gs : List GameRow) (g : GameRow) → find (is_named name) gs ≡ Some g → g.name ≡ name
   found_named name [] g = λ is. absurd (cc)
   found_named name (x ∷ gs) g = elim (cases_Bool (is_named name x)) [
     | inl hit ↦ rw hit (λ is. ap (λ o. name_if name o) (sym is) ∙ (bytes_eq-Decides x.name name).0 hit)

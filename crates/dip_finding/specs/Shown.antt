@@ -1,12 +1,14 @@
 -- Rows as the queries show them, read back as records; what a query doesn't show is left empty.
-use Rattle.std.specs.Prelude.{ℕ, ◌==◌, List, [], map}
+use Rattle.std.specs.Prelude.{ℕ, ◌+◌, ◌==◌, List, [], filter, map}
 use Rattle.sqlite.specs.Order.{Row, column, bytes}
 use Rattle.dip_chart.specs.Charts.{Chart}
-use Rattle.dip_board_rows.specs.Boards.{UnitRow, CentreRow, board_of}
+use Rattle.dip_board_rows.specs.Boards.{UnitRow, CentreRow, board_of, power_in}
+use Rattle.dip_machine.specs.State.{Desk}
 use Rattle.dip_records.specs.Records.{Public, Own}
 use Rattle.dip_rows.specs.Rows.{number_in}
+use Rattle.dip_rows.specs.Showing.{show_order}
 use Rattle.dip_tables.specs.Reading.{kept_of, standing_of, status_of}
-use Rattle.dip_tables.specs.Tables.{PendingRow}
+use Rattle.dip_tables.specs.Tables.{BoxRow, PendingRow, is_pending}
 
 abbrev pub shown_unit : Row → UnitRow
 shown_unit r = record {
@@ -38,14 +40,38 @@ shown_public m name r units centres = record {
 abbrev pub shown_order : Row → PendingRow
 shown_order r = record { game = []; power = []; province = bytes (column r 0); line = bytes (column r 1) }
 
--- the own part of a power's seat that its row and the rows of its orders show
-abbrev pub shown_own : Chart → ℕ → Row → List Row → Own
-shown_own m power r orders = record {
+-- the own part of a power's seat that its row, from a column on, and the rows of its orders show
+abbrev pub shown_own : Chart → ℕ → ℕ → Row → List Row → Own
+shown_own m power at r orders = record {
   power = power;
-  digest = bytes (column r 0);
-  vote = number_in (column r 1) == 1;
+  digest = bytes (column r at);
+  vote = number_in (column r (at + 1)) == 1;
   pending = map (λ o. standing_of m (shown_order o)) orders;
-  kept = kept_of (number_in (column r 2)) (bytes (column r 3)) (bytes (column r 4));
-  sent = number_in (column r 5);
-  items = number_in (column r 6);
+  kept = kept_of (number_in (column r (at + 2))) (bytes (column r (at + 3))) (bytes (column r (at + 4)));
+  sent = number_in (column r (at + 5));
+  items = number_in (column r (at + 6));
+}
+
+-- and that of a seat whose row begins with its power's name, in a game of that name
+abbrev pub listed_own : Chart → List PendingRow → List ℕ → Row → Own
+listed_own m pending game r =
+    shown_own m (power_in m (bytes (column r 0))) 1 r (map show_order (filter (is_pending game (bytes (column r 0))) pending))
+
+-- an item, without its game, its power and its number
+abbrev pub shown_item : Row → BoxRow
+shown_item r = record {
+  game = [];
+  power = [];
+  number = 0;
+  grey = number_in (column r 0);
+  writer = bytes (column r 1);
+  addressees = bytes (column r 2);
+  body = bytes (column r 3);
+}
+
+-- the digest and the last letter that the master's row shows
+abbrev pub shown_desk : Row → Desk
+shown_desk r = record {
+  digest = bytes (column r 2);
+  kept = kept_of (number_in (column r 3)) (bytes (column r 4)) (bytes (column r 5));
 }

@@ -3,12 +3,19 @@
 
 mod board;
 mod columns;
+mod desk;
 mod faults;
+mod inbox;
+mod letters;
 mod own;
 mod papers;
 mod public;
+mod whole;
 
+pub use desk::look_desk;
 pub use faults::LookFault;
+pub use inbox::look_items;
 pub use own::look_own;
 pub use papers::look_paper;
 pub use public::look_public;
+pub use whole::look_whole;

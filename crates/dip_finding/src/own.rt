@@ -1,52 +1,21 @@
 //! A seat's own part.
-ghost use Rattle.std.specs.Prelude.{◌≡◌, ◌<◌, ◌+◌, IfOk, length, map as each, option_map};
+ghost use Rattle.std.specs.Prelude.{◌≡◌, ◌<◌, IfOk, length, map as each, option_map};
 ghost use Rattle.std.specs.List.{find};
-ghost use Rattle.sqlite.specs.Order.{bytes, column};
 ghost use Rattle.dip_board_rows.specs.Boards.{power_name};
 ghost use Rattle.dip_finding.specs.Shown.{shown_order, shown_own};
 ghost use Rattle.dip_records.specs.Rows as rows;
 ghost use Rattle.dip_rows.specs.Calls.{IsKept, Selects, is_honest, tables_in};
-ghost use Rattle.dip_rows.specs.Rows.{number_in};
-ghost use Rattle.dip_tables.specs.Reading.{kept_of, own_of, standing_of};
+ghost use Rattle.dip_tables.specs.Reading.{own_of, standing_of};
 ghost use Rattle.dip_tables.specs.Tables.{is_seat};
 
 use crate::faults::LookFault;
-use dip_columns::read_kept;
+use crate::letters::{digest_in, kept_in};
 use dip_map::Map;
 use dip_names::Power;
 use dip_reading::{find_seat, list_orders};
-use dip_records::{Kept, Own, Standing};
+use dip_records::{Own, Standing};
 use sqlite::{Alter, Connection, Row};
 use std::alloc::Global;
-
-/// The 32 bytes of a column.
-fn digest_in(row: &Row, at: usize) -> Result<[u8; 32], LookFault>
-    ensures { IfOk result (λ d. d ≡ bytes (column row.now at)) }
-{
-    let found: Vec<u8> = row.get(at)?;
-    match <[u8; 32]>::try_from(found.as_slice()) {
-        Ok(digest) => Ok(digest),
-        Err(_) => Err(LookFault::Foreign),
-    }
-}
-
-/// The last letter that the columns from a number on tell: its number, its sum and its reply.
-fn kept_in(alloc: Global, row: &Row, at: usize) -> Result<Option<Kept>, LookFault>
-    requires { at < 100 }
-    ensures { IfOk result (λ k. option_map rows.kept k ≡ kept_of (number_in (column row.now at))
-        (bytes (column row.now (at + 1))) (bytes (column row.now (at + 2)))) }
-{
-    let last: u32 = row.get(at)?;
-    if last == 0 {
-        return Ok(None);
-    }
-    let sum = digest_in(row, at + 1)?;
-    let printed: String = row.get(at + 2)?;
-    match read_kept(alloc, last, sum, printed.as_str())? {
-        Some(kept) => Ok(kept),
-        None => Err(LookFault::Foreign),
-    }
-}
 
 fn standing_in(map: &Map, row: &Row) -> Result<Standing, LookFault>
     ensures { IfOk result (λ s. rows.standing s ≡ standing_of map.now (shown_order row.now)) }
@@ -72,25 +41,27 @@ fn standings_in(alloc: Global, map: &Map, orders: &[Row]) -> Result<Vec<Standing
     Ok(standings)
 }
 
-/// The own part that a seat's row and the rows of its orders show.
-fn own_in(
+/// The own part that a seat's row, from a column on, and the rows of its orders show.
+pub(crate) fn own_in(
     alloc: Global,
     map: &Map,
     power: Power,
     row: &Row,
+    at: usize,
     orders: &[Row],
 ) -> Result<Own, LookFault>
-    ensures { IfOk result (λ o. rows.own o ≡ shown_own map.now power row.now orders.now) }
+    requires { at < 2 }
+    ensures { IfOk result (λ o. rows.own o ≡ shown_own map.now power at row.now orders.now) }
 {
-    let vote: u32 = row.get(1)?;
+    let vote: u32 = row.get(at + 1)?;
     Ok(Own {
         power,
-        digest: digest_in(row, 0)?,
+        digest: digest_in(row, at)?,
         vote: vote == 1,
         pending: standings_in(alloc, map, orders)?,
-        kept: kept_in(alloc, row, 2)?,
-        sent: row.get(5)?,
-        items: row.get(6)?,
+        kept: kept_in(alloc, row, at + 2)?,
+        sent: row.get(at + 5)?,
+        items: row.get(at + 6)?,
     })
 }
 
@@ -118,6 +89,6 @@ pub fn look_own<S: Alter>(
         return Ok(None);
     };
     let orders = list_orders(conn, game, name)?;
-    let own = own_in(alloc, map, power, &row, orders.as_slice())?;
+    let own = own_in(alloc, map, power, &row, 0, orders.as_slice())?;
     Ok(Some(own))
 }

@@ -32,7 +32,7 @@ either true x = refl
 either false x = refl
 
 -- a rowid that is to be chosen stays so
-cast_null : cast Integer Null ≡ Null
+pub cast_null : cast Integer Null ≡ Null
 unfolding unary
 cast_null = either _ Null
 
@@ -41,15 +41,15 @@ pub cast_int : (n : ℤ) → cast Integer (Int n) ≡ Int n
 unfolding unary
 cast_int n = either _ (Int n)
 
-none_in : {A B : Type 0} (f : A → B) (xs : List A) → map f xs ≡ [] → xs ≡ []
+pub none_in : {A B : Type 0} (f : A → B) (xs : List A) → map f xs ≡ [] → xs ≡ []
 none_in f [] h = refl
 none_in f (x ∷ xs) h = absurd (cc)
 
-nothing_in : {A : Type 0} (xs : List A) → IsPermutation [] xs → xs ≡ []
+pub nothing_in : {A : Type 0} (xs : List A) → IsPermutation [] xs → xs ≡ []
 nothing_in [] h = refl
 nothing_in (x ∷ xs) h = absurd (let e = length_permutation [] (x ∷ xs) h in omega (arith, e))
 
-one_in : {A B : Type 0} (f : A → B) (y : B) (xs : List A) → map f xs ≡ y ∷ [] → (x : A) × (xs ≡ x ∷ [])
+pub one_in : {A B : Type 0} (f : A → B) (y : B) (xs : List A) → map f xs ≡ y ∷ [] → (x : A) × (xs ≡ x ∷ [])
 one_in f y [] h = absurd (cc)
 one_in f y (x ∷ []) h = (x, refl)
 one_in f y (x ∷ z ∷ xs) h = absurd (cc)

@@ -46,7 +46,7 @@ above_id : (id : ℤ) (rows : List Row) → HaveIds rows → AllByRecursion (λ 
 above_id id [] ids all = tt
 above_id id (r ∷ rows) ids all = (ap (λ v. value_cmp v (Int id)) ids.0 ∙ value_cmp-Int (id_of r) id ∙ Less-from_lt (id_of r) id all.0, above_id id rows ids.1 all.1)
 
-above_next : (rows : List Row) → HaveIds rows → IsTable rows → AllByRecursion (λ r. value_cmp (rowid r) (Int (next_rowid rows)) ≡ Less) rows
+pub above_next : (rows : List Row) → HaveIds rows → IsTable rows → AllByRecursion (λ r. value_cmp (rowid r) (Int (next_rowid rows)) ≡ Less) rows
 above_next [] ids up = tt
 above_next (x ∷ rows) ids up = above_id (next_rowid (x ∷ rows)) (x ∷ rows) ids (above_all id_of rows x (keyed (x ∷ rows) ids up))
 

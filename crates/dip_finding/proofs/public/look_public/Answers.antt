@@ -1,11 +1,9 @@
 use Rattle.std.proofs.Common.{◌≡◌, map, filter, subst, ap, Some, ◌∙◌}
 use Rattle.sqlite.specs.Effect.{Database}
-use Rattle.dip_records.specs.Rows as rows
 use Rattle.dip_rows.specs.Calls.{tables_in}
 use Rattle.dip_rows.specs.Rows.{tables_of}
 use Rattle.dip_rows.specs.Showing.{show_centre, show_unit}
 use Rattle.dip_tables.specs.Tables.{is_unit_in, is_centre_in}
-use Rattle.dip_finding.specs.Shown.{shown_public}
 use Rattle.dip_finding.proofs.PublicLemmas.{public_is}
 use Rattle.dip_finding.proofs.public.look_public.Goals as goal
 

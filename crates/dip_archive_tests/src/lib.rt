@@ -1,0 +1,5 @@
+//! Tests of papers that are written out.
+#![tactic(auto)]
+
+#[cfg(test)]
+mod tests;

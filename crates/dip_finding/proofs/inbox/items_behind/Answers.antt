@@ -1,0 +1,38 @@
+use Rattle.std.proofs.Common.{◌≡◌, ◌+◌, ◌++◌, [], ◌∷◌, suc, ap, drop, option_map, Some, sym, subst, take, ◌∙◌, arith}
+use Rattle.std.specs.List.{find}
+use Rattle.std.proofs.lemmas.List.{map-append}
+use Rattle.dip_records.specs.Rows as rows
+use Rattle.dip_rows.specs.Calls.{tables_in}
+use Rattle.dip_rows.specs.Showing.{is_item}
+use Rattle.dip_tables.specs.Reading.{item_of, items_of}
+use Rattle.dip_tables.specs.Tables.{Tables}
+use Rattle.dip_finding.proofs.Onward.{leaves, turns_on}
+use Rattle.dip_finding.proofs.PageLemmas.{item_more}
+use Rattle.dip_finding.proofs.inbox.items_behind.Goals as goal
+
+pub loop-index-preserved : goal.loop-index-preserved
+loop-index-preserved g c =
+    let step = c.in_ok-item_at.ensures.selects in
+    let before = c.loop-index.invariant in
+    let index = c.loop-index.index in
+    let item = c.in_ok-item_at.field-0 in
+    let boxes = (tables_in g.S.Store c.args.conn.now).boxes in
+    let game = c.args.game.now in
+    let power = c.args.power.now in
+    let next : suc index ≡ index + 1 = omega arith in
+    record {
+      value = λ kept clean n counts.
+          let first = step.fair clean in
+          let here = before.same kept first in
+          let found = subst (λ (t : Tables). Some (rows.item item.value) ≡ option_map item_of (find (is_item game power (c.args.skipped + index + 1)) t.boxes)) here.1 (c.in_ok-item_at.ensures.value here.0 clean) in
+          ap rows.items c.in_ok-push.ensures.items
+          ∙ map-append _ c.loop-index.items.items (item ∷ [])
+          ∙ ap (λ is. is ++ rows.item item.value ∷ []) (before.value kept first n counts)
+          ∙ sym (item_more boxes game power c.args.skipped index n (rows.item item.value) counts found)
+          ∙ ap (λ k. take k (drop c.args.skipped (items_of boxes game power))) next;
+      same = λ kept clean.
+          let here = before.same kept (step.fair clean) in
+          let after = leaves g.S.Store _ _ item step here.0 clean in
+          (after.0, after.1 ∙ here.1);
+      selects = turns_on g.S.Store _ _ _ tt item before.selects step;
+    }

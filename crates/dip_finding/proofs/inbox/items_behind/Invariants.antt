@@ -1,0 +1,17 @@
+use Rattle.std.proofs.Common.{◌≡◌, ℕ, drop, take}
+use Rattle.dip_finding.specs.Asked.{SelectsOn}
+use Rattle.dip_records.specs.Rows as rows
+use Rattle.dip_rows.specs.Calls.{IsKept, is_honest, tables_in}
+use Rattle.dip_rows.proofs.Parts.{went}
+use Rattle.dip_tables.specs.Counting.{counted, item_numbers}
+use Rattle.dip_tables.specs.Reading.{items_of}
+use Rattle.sqlite.specs.declared.error.Error.{Error}
+use Rattle.dip_finding.proofs.inbox.items_behind.Given as goal
+
+abbrev pub invariant-loop-index : goal.invariant-loop-index
+invariant-loop-index g l = record {
+  value : IsKept g.S.Store l.fn.conn → is_honest g.S.Store l.conn → (n : ℕ) → item_numbers (tables_in g.S.Store l.fn.conn).boxes l.game l.power ≡ counted n
+      → rows.items l.items.items ≡ take l.index (drop l.skipped (items_of (tables_in g.S.Store l.fn.conn).boxes l.game l.power));
+  same : IsKept g.S.Store l.fn.conn → is_honest g.S.Store l.conn → IsKept g.S.Store l.conn × (tables_in g.S.Store l.conn ≡ tables_in g.S.Store l.fn.conn);
+  selects : SelectsOn g.S.Store l.fn.conn l.conn (went (Unit {0}) Error tt);
+}

@@ -1,0 +1,36 @@
+use Rattle.std.proofs.Common.{◌≡◌, ℕ, drop, Ok, Err, subst, take}
+use Rattle.dip_board_rows.specs.Boards.{power_name}
+use Rattle.dip_records.specs.Rows as rows
+use Rattle.dip_rows.specs.Calls.{tables_in}
+use Rattle.dip_rows.proofs.Selecting.{selects_as, selects_fails}
+use Rattle.dip_tables.specs.Counting.{counted, item_numbers}
+use Rattle.dip_tables.specs.Reading.{items_of}
+use Rattle.dip_tables.specs.Tables.{Tables}
+use Rattle.dip_finding.proofs.Onward.{goes_on, leaves, stays}
+use Rattle.dip_finding.proofs.PageLemmas.{page_is}
+use Rattle.dip_finding.proofs.inbox.look_items.Goals as goal
+
+pub returns-in-Ok-clause-value : goal.returns-in-Ok-clause-value
+returns-in-Ok-clause-value g c kept clean =
+    let seat = c.in_ok-row.ensures.selects in
+    let row = c.in-Some.row in
+    let m = c.args.map.now in
+    let name = c.args.game.now in
+    let power = power_name m c.args.power in
+    let items = c.in-Ok.items in
+    let many = c.min-many.result in
+    let skipped = c.saturating_sub-skipped.result in
+    let first = (c.in-Ok.ensures.selects _ (stays g.S.Store c.args.conn.now _ c.in_ok-row.field-0 kept seat)).fair clean in
+    let here = leaves g.S.Store _ _ c.in_ok-row.field-0 seat kept first in
+    let read = subst (λ (t : Tables). (n : ℕ) → item_numbers t.boxes name power ≡ counted n → rows.items items.items ≡ take many (drop skipped (items_of t.boxes name power))) here.1
+    (rw c.power_name-name.ensures at (c.in-Ok.ensures.value here.0 clean)) in
+    page_is m (c.page_is_found.ensures m) (tables_in g.S.Store c.args.conn.now) name power c.args.first c.args.most c.in_ok-count.count skipped many row (rows.items items.items) kept.counted
+    (rw (c.in-Some.is, c.power_name-name.ensures) at (c.in_ok-row.ensures.value kept first))
+    c.in_ok-count.ensures.ok.1 c.saturating_sub-skipped.ensures (rw c.saturating_sub.ensures at c.min-many.ensures) read
+
+pub returns-in-Ok-clause-selects : goal.returns-in-Ok-clause-selects
+returns-in-Ok-clause-selects g c = selects_as g.S.Store _ _ c.in-Ok.items _ (goes_on g.S.Store _ _ _ c.in_ok-row.field-0 (Ok c.in-Ok.items) c.in_ok-row.ensures.selects c.in-Ok.ensures.selects)
+
+pub returns-clause-selects : goal.returns-clause-selects
+returns-clause-selects g c =
+    selects_fails g.S.Store _ _ c.in-Err.fault c.in-Err.fault (goes_on g.S.Store _ _ _ c.in_ok-row.field-0 (Err c.in-Err.fault) c.in_ok-row.ensures.selects c.in-Err.ensures.selects)

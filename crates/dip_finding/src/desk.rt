@@ -1,0 +1,40 @@
+//! The master's row.
+ghost use Rattle.std.specs.Prelude.{◌≡◌, IfOk};
+ghost use Rattle.dip_chart.specs.Charts.{Chart};
+ghost use Rattle.dip_finding.specs.Shown.{shown_desk};
+ghost use Rattle.dip_machine.specs.Rows as desk_rows;
+ghost use Rattle.dip_rows.specs.Calls.{IsKept, Selects, is_honest, tables_in};
+ghost use Rattle.dip_tables.specs.Coding.{AreCoded};
+ghost use Rattle.dip_tables.specs.Reading.{state_of};
+
+use crate::faults::LookFault;
+use crate::letters::{digest_in, kept_in};
+use dip_machine::Desk;
+use dip_reading::find_desk;
+use sqlite::{Alter, Connection, Row};
+use std::alloc::Global;
+
+fn desk_in(alloc: Global, row: &Row) -> Result<Desk, LookFault>
+    ensures { IfOk result (λ d. desk_rows.desk d ≡ shown_desk row.now) }
+{
+    Ok(Desk {
+        digest: digest_in(row, 2)?,
+        kept: kept_in(alloc, row, 3)?,
+    })
+}
+
+/// The digest of the master's secret, and the master's last letter.
+///
+/// # Errors
+/// Want of memory, the database's own, or `Foreign` where the row isn't there or is none that a keeper writes.
+pub fn look_desk<S: Alter>(conn: &mut Connection<S>, alloc: Global) -> Result<Desk, LookFault>
+    ensures value { IsKept S.Store conn.old → is_honest S.Store conn.new → IfOk result (λ d.
+        (m : Chart) → AreCoded m (tables_in S.Store conn.old)
+        → desk_rows.desk d ≡ (state_of m (tables_in S.Store conn.old)).desk) }
+    ensures selects { Selects S.Store conn.old conn.new result }
+{
+    let Some(row) = find_desk(conn)? else {
+        return Err(LookFault::Foreign);
+    };
+    desk_in(alloc, &row)
+}

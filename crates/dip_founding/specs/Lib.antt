@@ -1,0 +1,5 @@
+pub mod Alone
+pub mod Desk
+pub mod Founding
+pub mod Known
+pub mod Making

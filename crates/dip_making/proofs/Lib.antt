@@ -1,0 +1,4 @@
+pub mod Counted
+pub mod Listed
+pub mod Made
+pub mod Peeking

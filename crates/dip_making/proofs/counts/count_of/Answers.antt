@@ -1,0 +1,15 @@
+use Rattle.std.proofs.Common.{List, ℕ, subst}
+use Rattle.std.specs.List.{AllByRecursion}
+use Rattle.std.proofs.lemmas.Result.{IfOk-weaker}
+use Rattle.dip_machine.specs.Rows as machine
+use Rattle.dip_rows.specs.Calls.{tables_in}
+use Rattle.dip_changing.specs.Noting.{IsNext}
+use Rattle.dip_changing.proofs.Counting.{next_noted}
+use Rattle.dip_making.proofs.counts.count_of.Goals as goal
+
+pub returns-in-Delivers-clause-value : goal.returns-in-Delivers-clause-value
+returns-in-Delivers-clause-value g c kept clean =
+    let t = tables_in g.S.Store c.args.conn.now in
+    let name = c.args.game.now in
+    IfOk-weaker c.next_of.result _ _ (λ n all k. next_noted c.args.map.now n c.args.power name k (machine.effect c.args.effect.now) t
+    (subst (λ (power : List ℕ). AllByRecursion (IsNext n name power) t.seats) c.power_name.ensures all)) (c.next_of.ensures.value kept clean)

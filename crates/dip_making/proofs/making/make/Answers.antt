@@ -1,0 +1,55 @@
+use Rattle.std.proofs.Common.{Ok, Err, List, sym, subst}
+use Rattle.sqlite.specs.Held.{state}
+use Rattle.sqlite.specs.declared.error.Error.{Error}
+use Rattle.dip_machine.specs.Rows as machine
+use Rattle.dip_tables.specs.Changing.{changing}
+use Rattle.dip_tables.specs.Coding.{AreApart}
+use Rattle.dip_tables.specs.Counting.{AreCounted}
+use Rattle.dip_rows.specs.Calls.{tables_in}
+use Rattle.dip_rows.proofs.Apart.{are_apart}
+use Rattle.dip_changing.specs.declared.delivering.Reader.{Reader}
+use Rattle.dip_making.specs.Counts.{Counts}
+use Rattle.dip_making.specs.Making.{changing_sent}
+use Rattle.dip_making.specs.declared.faults.MakeFault.{MakeFault}
+use Rattle.dip_making.proofs.Counted.{counted_change}
+use Rattle.dip_making.proofs.Made.{laid_kept, makes_named, makes_peeked}
+use Rattle.dip_making.proofs.making.make.Goals as goal
+
+pub returns-in-Ok-clause-makes : goal.returns-in-Ok-clause-makes
+returns-in-Ok-clause-makes g c =
+    let m = c.args.map.now in
+    let it = machine.change c.args.change.now in
+    let old = c.args.conn.now in
+    let n = c.in_ok-counted.counted.sent in
+    let rs = c.as_slice.result.now in
+    let k = c.in-Ok.ensures.makes in
+    makes_named g.S.Store (Unit {0}) Error MakeFault (changing_sent n rs m it) (changing m it) old c.make_with.new.conn (Ok c.in-Ok.field-0) _ tt
+    (λ kept clean. counted_change m (c.readers_are_seats.ensures m) (c.press_is_delivered_one_by_one.ensures m) it (tables_in g.S.Store old) n rs (are_apart (state g.S.Store old).now kept.good)
+    (subst (λ (rs : List Reader). Counts n rs m it (tables_in g.S.Store old)) (sym c.as_slice.ensures.value) (c.in_ok-counted.ensures.value kept (k.fair clean))))
+    (makes_peeked g.S.Store _ _ _ _ (changing_sent n rs m it) old c.count.new.conn c.make_with.new.conn c.in_ok-counted.counted _ c.in_ok-counted.ensures.peeks k)
+
+pub returns-in-Ok-clause-kept : goal.returns-in-Ok-clause-kept
+returns-in-Ok-clause-kept g c kept up =
+    let m = c.args.map.now in
+    let it = machine.change c.args.change.now in
+    let old = c.args.conn.now in
+    let new = c.make_with.new.conn in
+    let t = tables_in g.S.Store old in
+    let made = (returns-in-Ok-clause-makes g c).done kept up in
+    let counts = c.in_ok-counted.ensures.value kept (c.in-Ok.ensures.makes.fair up.0) in
+    let later : AreApart (changing m it t) = subst AreApart made.1 (are_apart (state g.S.Store new).now made.0.good) in
+    let counted = c.tables_stay_counted.ensures m it t counts.paper kept.counted (are_apart (state g.S.Store old).now kept.good) later in
+    laid_kept g.S.Store new made.0 (subst AreCounted (sym made.1) counted)
+
+pub returns-clause-makes : goal.returns-clause-makes
+returns-clause-makes g c =
+    let m = c.args.map.now in
+    let it = machine.change c.args.change.now in
+    let old = c.args.conn.now in
+    let n = c.in_ok-counted.counted.sent in
+    let rs = c.as_slice.result.now in
+    let k = c.in-Err.ensures.makes in
+    makes_named g.S.Store (Unit {0}) Error MakeFault (changing_sent n rs m it) (changing m it) old c.make_with.new.conn (Err c.in-Err.error) _ tt
+    (λ kept clean. counted_change m (c.readers_are_seats.ensures m) (c.press_is_delivered_one_by_one.ensures m) it (tables_in g.S.Store old) n rs (are_apart (state g.S.Store old).now kept.good)
+    (subst (λ (rs : List Reader). Counts n rs m it (tables_in g.S.Store old)) (sym c.as_slice.ensures.value) (c.in_ok-counted.ensures.value kept (k.fair clean))))
+    (makes_peeked g.S.Store _ _ _ _ (changing_sent n rs m it) old c.count.new.conn c.make_with.new.conn c.in_ok-counted.counted _ c.in_ok-counted.ensures.peeks k)

@@ -1,0 +1,54 @@
+//! A change with all that is counted before it.
+ghost use Rattle.std.specs.Prelude.{◌≡◌, OnOk};
+ghost use Rattle.dip_machine.specs.Rows as machine;
+ghost use Rattle.dip_tables.specs.Changing.{changing};
+ghost use Rattle.dip_tables.specs.Columns.{IsWritable};
+ghost use Rattle.dip_rows.specs.Calls.{IsKept, does_show};
+ghost use Rattle.dip_making.specs.Making.{Makes};
+
+use crate::counts::count;
+use crate::faults::MakeFault;
+use crate::whole::make_with;
+use dip_changing::readers_are_seats;
+use dip_machine::Change;
+use dip_map::Map;
+use dip_tables::{press_is_delivered_one_by_one, tables_stay_counted};
+use sqlite::{Alter, Connection, Error, ErrorCode};
+use std::alloc::Global;
+
+/// Makes the whole change, or nothing of it.
+///
+/// # Errors
+/// Want of memory, the database's own, one of a transaction that is open before, and `Misfit` where a count has no room for one more,
+/// the change's paper hasn't the next number of its game, or a seat of the game is of no power of the map.
+pub fn make<S: Alter>(
+    conn: &mut Connection<S>,
+    alloc: Global,
+    map: &Map,
+    change: &Change,
+) -> Result<(), MakeFault>
+    requires { IsWritable map.now (machine.change change.now) }
+    ensures makes { Makes S.Store (changing map.now (machine.change change.now))
+        conn.old conn.new result }
+    ensures kept { IsKept S.Store conn.old → does_show S.Store conn.new
+        → OnOk result (IsKept S.Store conn.new) }
+{
+    readers_are_seats();
+    press_is_delivered_one_by_one();
+    tables_stay_counted();
+    if !conn.is_autocommit() {
+        return Err(MakeFault::Sql(Error::SqliteFailure(ErrorCode::TransactionState)));
+    }
+    let counted = count(conn, alloc, map, change)?;
+    match make_with(
+        conn,
+        alloc,
+        map,
+        change,
+        counted.sent,
+        counted.readers.as_slice(),
+    ) {
+        Ok(()) => Ok(()),
+        Err(error) => Err(MakeFault::Sql(error)),
+    }
+}

@@ -1,0 +1,92 @@
+//! The readers of press, as the rows of a game's seats show them.
+ghost use Rattle.std.specs.Prelude.{◌≡◌, ◌<◌, ◌==◌, All, IfOk, IsTrue, filter, map as each};
+ghost use Rattle.std.specs.List.{list_any};
+ghost use Rattle.sqlite.specs.Order.{bytes, column};
+ghost use Rattle.dip_board_rows.specs.Boards.{power_in, power_name};
+ghost use Rattle.dip_tables.specs.Changing.{is_reader};
+ghost use Rattle.dip_rows.specs.Calls.{IsKept, Selects, is_honest, tables_in};
+ghost use Rattle.dip_changing.specs.Delivering.{AreSeats};
+ghost use Rattle.dip_making.specs.Counts.{shown_reader};
+
+use crate::faults::MakeFault;
+use dip_changing::Reader;
+use dip_map::Map;
+use dip_names::Power;
+use dip_reading::list_seats;
+use sqlite::{Alter, Connection, Row};
+use std::alloc::Global;
+
+fn power_of(map: &Map, row: &Row) -> Result<Power, MakeFault>
+    ensures power { IfOk result (λ p. p ≡ power_in map.now (bytes (column row.now 0))) }
+    ensures name { IfOk result (λ p. power_name map.now p ≡ bytes (column row.now 0)) }
+{
+    let name: String = row.get(0)?;
+    match map.power(name.as_str()) {
+        Some(power) => Ok(power),
+        None => Err(MakeFault::Misfit),
+    }
+}
+
+fn reader_in(map: &Map, row: &Row) -> Result<Reader, MakeFault>
+    ensures shown { IfOk result (λ r. r ≡ shown_reader map.now row.now) }
+    ensures name { IfOk result (λ r. power_name map.now r.power ≡ bytes (column row.now 0)) }
+{
+    Ok(Reader {
+        power: power_of(map, row)?,
+        items: row.get(7)?,
+    })
+}
+
+fn readers_in(alloc: Global, map: &Map, rows: &[Row]) -> Result<Vec<Reader>, MakeFault>
+    ensures shown { IfOk result (λ v. v.items ≡ each (shown_reader map.now) rows.now) }
+    ensures names { IfOk result (λ v. each (λ r. power_name map.now r.power) v.items
+        ≡ each (λ r. bytes (column r 0)) rows.now) }
+{
+    let mut readers = Vec::new(alloc);
+    for row in rows {
+        readers.push(reader_in(map, row)?)?;
+    }
+    Ok(readers)
+}
+
+fn is_in(powers: &[Power], power: Power) -> bool
+    ensures { result ≡ list_any (λ p. p == power) powers.now }
+{
+    powers.contains(&power)
+}
+
+/// Those of these powers.
+fn chosen(mut readers: Vec<Reader>, powers: &[Power]) -> Vec<Reader>
+    ensures { result.items ≡ filter (λ r. list_any (λ p. p == r.power) powers.now) readers.items }
+{
+    readers.retain(|reader| is_in(powers, reader.power));
+    readers
+}
+
+fn have_room(readers: &[Reader]) -> bool
+    ensures { IsTrue result → All (λ r. r.items < 4294967295) readers.now }
+{
+    readers.iter().all(|reader| reader.items < u32::MAX)
+}
+
+/// The seats of the game that are of these powers, in their order.
+pub(crate) fn find_readers<S: Alter>(
+    conn: &mut Connection<S>,
+    alloc: Global,
+    map: &Map,
+    game: &str,
+    powers: &[Power],
+) -> Result<Vec<Reader>, MakeFault>
+    ensures room { IfOk result (λ v. All (λ r. r.items < 4294967295) v.items) }
+    ensures value { IsKept S.Store conn.old → is_honest S.Store conn.new → IfOk result (λ v.
+        AreSeats map.now game.now (filter (is_reader map.now game.now powers.now)
+        (tables_in S.Store conn.old).seats) v.items) }
+    ensures selects { Selects S.Store conn.old conn.new result }
+{
+    let rows = list_seats(conn, game)?;
+    let readers = chosen(readers_in(alloc, map, rows.as_slice())?, powers);
+    if !have_room(readers.as_slice()) {
+        return Err(MakeFault::Misfit);
+    }
+    Ok(readers)
+}

@@ -1,0 +1,33 @@
+//! A change in one transaction, made whole or not at all.
+ghost use Rattle.std.specs.Prelude.{◌≡◌, ◌<◌, All, false};
+ghost use Rattle.dip_machine.specs.Rows as machine;
+ghost use Rattle.dip_tables.specs.Columns.{IsWritable};
+ghost use Rattle.dip_making.specs.Making.{Makes, changing_sent};
+
+use crate::parts::make_parts;
+use dip_changing::Reader;
+use dip_machine::Change;
+use dip_map::Map;
+use sqlite::{Alter, Connection, Error};
+use std::alloc::Global;
+
+/// Makes the whole change or nothing of it. Where it is press of a seat, the seat has then sent so much, and the readers have it.
+pub fn make_with<S: Alter>(
+    conn: &mut Connection<S>,
+    alloc: Global,
+    map: &Map,
+    change: &Change,
+    sent: u32,
+    readers: &[Reader],
+) -> Result<(), Error>
+    requires idle { conn.old.in_transaction ≡ false }
+    requires writable { IsWritable map.now (machine.change change.now) }
+    requires room { All (λ r. r.items < 4294967295) readers.now }
+    ensures makes { Makes S.Store
+        (changing_sent sent readers.now map.now (machine.change change.now))
+        conn.old conn.new result }
+{
+    let mut tx = conn.transaction();
+    make_parts(alloc, &mut tx, map, change, sent, readers)?;
+    tx.commit()
+}

@@ -1,0 +1,11 @@
+pub mod Asked
+pub mod Calls
+pub mod Failing
+pub mod Joining
+pub mod Keyed
+pub mod Passing
+pub mod Ruled
+pub mod Sane
+pub mod Unique
+pub mod Wanting
+pub mod Wants

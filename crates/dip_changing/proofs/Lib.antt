@@ -1,7 +1,6 @@
 pub mod Adding
 pub mod Centres
 pub mod Counting
-pub mod Fronts
 pub mod Gaming
 pub mod Handing
 pub mod Joining

@@ -1,4 +1,3 @@
 pub mod Delivering
-pub mod Differing
 pub mod Noting
 pub mod Parts

@@ -5,9 +5,7 @@ ghost use Rattle.dip_records.specs.Rows as records;
 ghost use Rattle.dip_tables.specs.Changing.{with_orders};
 ghost use Rattle.dip_tables.specs.Writing.{pending_row};
 ghost use Rattle.dip_rows.specs.Calls.{Writes};
-ghost use Rattle.dip_changing.specs.Differing.{OrdersDiffer};
 ghost use Rattle.dip_changing.specs.Parts.{more_orders};
-ghost use Rattle.dip_refusals.specs.Wants.{Wants};
 
 use dip_map::Map;
 use dip_records::Standing;
@@ -26,10 +24,6 @@ fn add_order<S: Alter>(
         (more_orders
         (each (pending_row map.now game.now power.now) (records.standings (order.now ∷ []))))
         (state S.Store tx.old.conn.now) (state S.Store tx.new.conn.now) result }
-    ensures wants { Wants (OrdersDiffer
-        (more_orders
-        (each (pending_row map.now game.now power.now) (records.standings (order.now ∷ [])))))
-        (state S.Store tx.old.conn.now) (state S.Store tx.new.conn.now) result }
 {
     add_pending(tx, game, power, map.code(order.prov), order.line.as_str())?;
     Ok(())
@@ -45,9 +39,6 @@ fn add_orders<S: Alter>(
     ensures same_reference { tx.new.conn.ghost_name ≡ tx.old.conn.ghost_name }
     ensures writes { Writes
         (more_orders (each (pending_row map.now game.now power.now) (records.standings orders.now)))
-        (state S.Store tx.old.conn.now) (state S.Store tx.new.conn.now) result }
-    ensures wants { Wants (OrdersDiffer (more_orders
-        (each (pending_row map.now game.now power.now) (records.standings orders.now))))
         (state S.Store tx.old.conn.now) (state S.Store tx.new.conn.now) result }
 {
     for order in orders {
@@ -67,9 +58,6 @@ pub fn put_orders<S: Alter>(
     ensures same_reference { tx.new.conn.ghost_name ≡ tx.old.conn.ghost_name }
     ensures writes { Writes
         (with_orders map.now game.now power.now (records.standings orders.now))
-        (state S.Store tx.old.conn.now) (state S.Store tx.new.conn.now) result }
-    ensures wants { Wants (OrdersDiffer
-        (with_orders map.now game.now power.now (records.standings orders.now)))
         (state S.Store tx.old.conn.now) (state S.Store tx.new.conn.now) result }
 {
     drop_orders(tx, game, power)?;

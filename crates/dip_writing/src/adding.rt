@@ -1,9 +1,6 @@
 //! Rows behind the others of their tables.
-ghost use Rattle.std.specs.Prelude.{◌≡◌, ◌<◌, ◌^◌, ◌++◌, [], ◌∷◌};
+ghost use Rattle.std.specs.Prelude.{◌≡◌, ◌<◌, ◌^◌};
 ghost use Rattle.sqlite.specs.Held.{state};
-ghost use Rattle.dip_refusals.specs.Keys.{Differ, same_centre, same_desk, same_item, same_order, same_paper, same_unit};
-ghost use Rattle.dip_refusals.specs.Wants.{Wants};
-ghost use Rattle.dip_tables.specs.Coding.{same_name, same_seat};
 ghost use Rattle.dip_rows.specs.Calls.{Writes};
 ghost use Rattle.dip_rows.specs.Statements.{new_desk, new_seat, with_centre, with_desk, with_game, with_item, with_order, with_paper, with_seat, with_unit};
 ghost use Rattle.dip_writing.specs.Rows as rows;
@@ -22,8 +19,6 @@ pub fn add_desk<S: Alter>(
     ensures same_reference { tx.new.conn.ghost_name ≡ tx.old.conn.ghost_name }
     ensures writes { Writes (with_desk (new_desk map.now digest.now))
         (state S.Store tx.old.conn.now) (state S.Store tx.new.conn.now) result }
-    ensures wants { Wants (λ t. Differ same_desk (t.desk ++ (new_desk map.now digest.now) ∷ []))
-        (state S.Store tx.old.conn.now) (state S.Store tx.new.conn.now) result }
 {
     tx.execute(
         "INSERT INTO desk (id, version, map, digest, last, kept, reply) VALUES (1, 1, ?1, ?2, 0, x'', '')",
@@ -36,8 +31,6 @@ pub fn add_game<S: Alter>(tx: &mut Transaction<'_, S>, game: &GameRow<'_>) -> Re
     requires { game.now.due < 2 ^ 63 }
     ensures same_reference { tx.new.conn.ghost_name ≡ tx.old.conn.ghost_name }
     ensures writes { Writes (with_game (rows.game game.now))
-        (state S.Store tx.old.conn.now) (state S.Store tx.new.conn.now) result }
-    ensures wants { Wants (λ t. Differ same_name (t.games ++ (rows.game game.now) ∷ []))
         (state S.Store tx.old.conn.now) (state S.Store tx.new.conn.now) result }
 {
     tx.execute(
@@ -66,9 +59,6 @@ pub fn add_seat<S: Alter>(
     ensures same_reference { tx.new.conn.ghost_name ≡ tx.old.conn.ghost_name }
     ensures writes { Writes (with_seat (new_seat game.now power.now digest.now))
         (state S.Store tx.old.conn.now) (state S.Store tx.new.conn.now) result }
-    ensures wants { Wants
-        (λ t. Differ same_seat (t.seats ++ (new_seat game.now power.now digest.now) ∷ []))
-        (state S.Store tx.old.conn.now) (state S.Store tx.new.conn.now) result }
 {
     tx.execute(
         "INSERT INTO seat (game, power, digest, vote, last, kept, reply, sent, items) VALUES (?1, ?2, ?3, 0, 0, x'', '', 0, 0)",
@@ -80,8 +70,6 @@ pub fn add_seat<S: Alter>(
 pub fn add_unit<S: Alter>(tx: &mut Transaction<'_, S>, unit: &UnitRow<'_>) -> Result<usize, Error>
     ensures same_reference { tx.new.conn.ghost_name ≡ tx.old.conn.ghost_name }
     ensures writes { Writes (with_unit (rows.unit unit.now))
-        (state S.Store tx.old.conn.now) (state S.Store tx.new.conn.now) result }
-    ensures wants { Wants (λ t. Differ same_unit (t.units ++ (rows.unit unit.now) ∷ []))
         (state S.Store tx.old.conn.now) (state S.Store tx.new.conn.now) result }
 {
     tx.execute(
@@ -109,9 +97,6 @@ pub fn add_centre<S: Alter>(
     ensures writes { Writes (with_centre
         (record { game = game.now; province = province.now; power = power.now }))
         (state S.Store tx.old.conn.now) (state S.Store tx.new.conn.now) result }
-    ensures wants { Wants (λ t. Differ same_centre (t.centres
-        ++ (record { game = game.now; province = province.now; power = power.now }) ∷ []))
-        (state S.Store tx.old.conn.now) (state S.Store tx.new.conn.now) result }
 {
     tx.execute(
         "INSERT INTO centre (game, province, power) VALUES (?1, ?2, ?3)",
@@ -131,14 +116,6 @@ pub fn add_pending<S: Alter>(
     ensures writes { Writes (with_order
         (record { game = game.now; power = power.now; province = province.now; line = line.now }))
         (state S.Store tx.old.conn.now) (state S.Store tx.new.conn.now) result }
-    ensures wants { Wants (λ t. Differ same_order (t.pending
-        ++ (record {
-          game = game.now;
-          power = power.now;
-          province = province.now;
-          line = line.now;
-        }) ∷ []))
-        (state S.Store tx.old.conn.now) (state S.Store tx.new.conn.now) result }
 {
     tx.execute(
         "INSERT INTO pending (game, power, province, line) VALUES (?1, ?2, ?3, ?4)",
@@ -150,8 +127,6 @@ pub fn add_pending<S: Alter>(
 pub fn add_item<S: Alter>(tx: &mut Transaction<'_, S>, item: &ItemRow<'_>) -> Result<usize, Error>
     ensures same_reference { tx.new.conn.ghost_name ≡ tx.old.conn.ghost_name }
     ensures writes { Writes (with_item (rows.item item.now))
-        (state S.Store tx.old.conn.now) (state S.Store tx.new.conn.now) result }
-    ensures wants { Wants (λ t. Differ same_item (t.boxes ++ (rows.item item.now) ∷ []))
         (state S.Store tx.old.conn.now) (state S.Store tx.new.conn.now) result }
 {
     tx.execute(
@@ -178,9 +153,6 @@ pub fn add_paper<S: Alter>(
     ensures same_reference { tx.new.conn.ghost_name ≡ tx.old.conn.ghost_name }
     ensures writes { Writes (with_paper
         (record { game = game.now; number = number; body = body.now }))
-        (state S.Store tx.old.conn.now) (state S.Store tx.new.conn.now) result }
-    ensures wants { Wants (λ t. Differ same_paper (t.papers
-        ++ (record { game = game.now; number = number; body = body.now }) ∷ []))
         (state S.Store tx.old.conn.now) (state S.Store tx.new.conn.now) result }
 {
     tx.execute(

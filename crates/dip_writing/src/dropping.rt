@@ -1,7 +1,6 @@
 //! No rows of a game, or of a seat.
 ghost use Rattle.std.specs.Prelude.{◌≡◌};
 ghost use Rattle.sqlite.specs.Held.{state};
-ghost use Rattle.dip_refusals.specs.Wants.{Wants, always};
 ghost use Rattle.dip_rows.specs.Calls.{Writes};
 ghost use Rattle.dip_rows.specs.Statements.{no_centres, no_items, no_orders, no_papers, no_pending, no_seats, no_units};
 
@@ -12,8 +11,6 @@ pub fn drop_seats<S: Alter>(tx: &mut Transaction<'_, S>, game: &str) -> Result<u
     ensures same_reference { tx.new.conn.ghost_name ≡ tx.old.conn.ghost_name }
     ensures writes { Writes (no_seats game.now)
         (state S.Store tx.old.conn.now) (state S.Store tx.new.conn.now) result }
-    ensures wants { Wants always
-        (state S.Store tx.old.conn.now) (state S.Store tx.new.conn.now) result }
 {
     tx.execute("DELETE FROM seat WHERE game = ?1", params![game])
 }
@@ -22,8 +19,6 @@ pub fn drop_seats<S: Alter>(tx: &mut Transaction<'_, S>, game: &str) -> Result<u
 pub fn drop_units<S: Alter>(tx: &mut Transaction<'_, S>, game: &str) -> Result<usize, Error>
     ensures same_reference { tx.new.conn.ghost_name ≡ tx.old.conn.ghost_name }
     ensures writes { Writes (no_units game.now)
-        (state S.Store tx.old.conn.now) (state S.Store tx.new.conn.now) result }
-    ensures wants { Wants always
         (state S.Store tx.old.conn.now) (state S.Store tx.new.conn.now) result }
 {
     tx.execute("DELETE FROM unit WHERE game = ?1", params![game])
@@ -34,8 +29,6 @@ pub fn drop_centres<S: Alter>(tx: &mut Transaction<'_, S>, game: &str) -> Result
     ensures same_reference { tx.new.conn.ghost_name ≡ tx.old.conn.ghost_name }
     ensures writes { Writes (no_centres game.now)
         (state S.Store tx.old.conn.now) (state S.Store tx.new.conn.now) result }
-    ensures wants { Wants always
-        (state S.Store tx.old.conn.now) (state S.Store tx.new.conn.now) result }
 {
     tx.execute("DELETE FROM centre WHERE game = ?1", params![game])
 }
@@ -44,8 +37,6 @@ pub fn drop_centres<S: Alter>(tx: &mut Transaction<'_, S>, game: &str) -> Result
 pub fn drop_pending<S: Alter>(tx: &mut Transaction<'_, S>, game: &str) -> Result<usize, Error>
     ensures same_reference { tx.new.conn.ghost_name ≡ tx.old.conn.ghost_name }
     ensures writes { Writes (no_pending game.now)
-        (state S.Store tx.old.conn.now) (state S.Store tx.new.conn.now) result }
-    ensures wants { Wants always
         (state S.Store tx.old.conn.now) (state S.Store tx.new.conn.now) result }
 {
     tx.execute("DELETE FROM pending WHERE game = ?1", params![game])
@@ -60,8 +51,6 @@ pub fn drop_orders<S: Alter>(
     ensures same_reference { tx.new.conn.ghost_name ≡ tx.old.conn.ghost_name }
     ensures writes { Writes (no_orders game.now power.now)
         (state S.Store tx.old.conn.now) (state S.Store tx.new.conn.now) result }
-    ensures wants { Wants always
-        (state S.Store tx.old.conn.now) (state S.Store tx.new.conn.now) result }
 {
     tx.execute(
         "DELETE FROM pending WHERE game = ?1 AND power = ?2",
@@ -74,8 +63,6 @@ pub fn drop_items<S: Alter>(tx: &mut Transaction<'_, S>, game: &str) -> Result<u
     ensures same_reference { tx.new.conn.ghost_name ≡ tx.old.conn.ghost_name }
     ensures writes { Writes (no_items game.now)
         (state S.Store tx.old.conn.now) (state S.Store tx.new.conn.now) result }
-    ensures wants { Wants always
-        (state S.Store tx.old.conn.now) (state S.Store tx.new.conn.now) result }
 {
     tx.execute("DELETE FROM box WHERE game = ?1", params![game])
 }
@@ -84,8 +71,6 @@ pub fn drop_items<S: Alter>(tx: &mut Transaction<'_, S>, game: &str) -> Result<u
 pub fn drop_papers<S: Alter>(tx: &mut Transaction<'_, S>, game: &str) -> Result<usize, Error>
     ensures same_reference { tx.new.conn.ghost_name ≡ tx.old.conn.ghost_name }
     ensures writes { Writes (no_papers game.now)
-        (state S.Store tx.old.conn.now) (state S.Store tx.new.conn.now) result }
-    ensures wants { Wants always
         (state S.Store tx.old.conn.now) (state S.Store tx.new.conn.now) result }
 {
     tx.execute("DELETE FROM paper WHERE game = ?1", params![game])

@@ -1,14 +1,9 @@
-use Rattle.std.proofs.Common.{[], ◌∷◌, refl}
+use Rattle.std.proofs.Common.{[], ◌∷◌}
 use Rattle.sqlite.specs.declared.types.Value.TheVariants.{Text as Words}
 use Rattle.dip_schema.specs.Statements as text
 use Rattle.dip_rows.specs.Statements.{no_items}
 use Rattle.dip_rows.proofs.Parts.{one}
 use Rattle.dip_rows.proofs.Stating as made
-use Rattle.sqlite.specs.Held.{state}
-use Rattle.dip_schema.proofs.Texts as means
-use Rattle.dip_refusals.proofs.Calls.{wants_one}
-use Rattle.dip_refusals.proofs.Wants as fails
-use Rattle.dip_refusals.specs.Wants.{always}
 use Rattle.dip_writing.proofs.dropping.drop_items.Goals as goal
 
 pub returns-clause-writes : goal.returns-clause-writes
@@ -16,9 +11,3 @@ returns-clause-writes g c =
     one g.S.Store text.drop_items_text (Words c.args.game.now ∷ []) (no_items c.args.game.now)
     c.args.tx.now.conn.now c.execute.new.self.conn.now c.execute.result c.execute.ensures.survives c.execute.ensures.ended
     (rw (c.params-to_sql.ensures) at c.execute.ensures.runs) (λ count good h. made.drop_items _ _ count good c.args.game.now h)
-
-pub returns-clause-wants : goal.returns-clause-wants
-returns-clause-wants g c =
-    wants_one text.drop_items_text (Words c.args.game.now ∷ []) always (no_items c.args.game.now)
-    (state g.S.Store c.args.tx.now.conn.now) (state g.S.Store c.execute.new.self.conn.now) _ means.drop_items.0 refl c.execute.result (returns-clause-writes g c)
-    (rw (c.params-to_sql.ensures) at c.execute.ensures.runs) (λ e ready may h. fails.drop_items _ _ ready.good ready.up ready.unlimited e c.args.game.now h)

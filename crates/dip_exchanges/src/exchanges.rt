@@ -4,7 +4,7 @@ ghost use Rattle.dip_machine.specs.Mail.{IsMail, mail};
 
 use crate::lines::{push_line, replies_of};
 use crate::mismatch::Mismatch;
-use dip_desk::{Keeper, MemoryKeeper, fault_reply, take};
+use dip_desk::{Keeper, fault_reply, take};
 use dip_letters::{Letter, Next, next_letter};
 use dip_machine::KeepFault;
 use dip_map::Map;
@@ -23,12 +23,15 @@ pub fn next_taken(input: &[u8]) -> Option<(Letter<'_>, &[u8])>
 }
 
 /// What the front of an input is answered, and the rest; none at its end.
-fn next_answered<'a>(
+fn next_answered<'a, K: Keeper>(
     alloc: Global,
-    keeper: &mut MemoryKeeper,
+    keeper: &mut K,
     map: &Map,
     input: &'a [u8],
 ) -> Result<Option<(Reply, &'a [u8])>, KeepFault> {
+    if keeper.failures() == u64::MAX {
+        return Err(KeepFault::Disk);
+    }
     if let Some((letter, rest)) = next_taken(input) {
         return Ok(Some((take(alloc, keeper, map, &letter)?, rest)));
     }
@@ -39,9 +42,9 @@ fn next_answered<'a>(
 }
 
 /// Appends the replies to an input of at most a hundred letters.
-fn push_replies(
+fn push_replies<K: Keeper>(
     alloc: Global,
-    keeper: &mut MemoryKeeper,
+    keeper: &mut K,
     map: &Map,
     letters: &str,
     told: &mut String,
@@ -59,8 +62,8 @@ fn push_replies(
 }
 
 /// Appends the paper that is asked for by its game and its number, or the line `no paper` where there is none.
-fn push_paper(
-    keeper: &mut MemoryKeeper,
+fn push_paper<K: Keeper>(
+    keeper: &mut K,
     map: &Map,
     asked: &str,
     told: &mut String,
@@ -71,6 +74,9 @@ fn push_paper(
     let Ok(number) = digits.parse::<u32>() else {
         return Err(Mismatch::NoPaper);
     };
+    if keeper.failures() == u64::MAX {
+        return Err(Mismatch::Keeper(KeepFault::Disk));
+    }
     match keeper.paper(map, game, number)? {
         Some(paper) => told.push_str(paper.as_str())?,
         None => told.push_str("no paper\n")?,
@@ -80,9 +86,9 @@ fn push_paper(
 
 /// What a desk tells in an exchange: the replies to its letters, and behind `? ` the papers that it asks for, each after the letters that
 /// stand before it.
-fn told(
+fn told<K: Keeper>(
     alloc: Global,
-    keeper: &mut MemoryKeeper,
+    keeper: &mut K,
     map: &Map,
     exchange: &str,
 ) -> Result<String, Mismatch> {
@@ -102,9 +108,9 @@ fn told(
 }
 
 /// A desk tells in an exchange what it has to: its lines behind `< `.
-pub fn check_exchange(
+pub fn check_exchange<K: Keeper>(
     alloc: Global,
-    keeper: &mut MemoryKeeper,
+    keeper: &mut K,
     map: &Map,
     exchange: &str,
 ) -> Result<(), Mismatch> {
@@ -118,9 +124,9 @@ pub fn check_exchange(
 }
 
 /// A desk tells in each of these exchanges, one after the other, what it has to.
-pub fn check_exchanges(
+pub fn check_exchanges<K: Keeper>(
     alloc: Global,
-    keeper: &mut MemoryKeeper,
+    keeper: &mut K,
     map: &Map,
     exchanges: &[&str],
 ) -> Result<(), Mismatch> {

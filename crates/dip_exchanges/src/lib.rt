@@ -1,4 +1,4 @@
-//! Exchanges of letters and replies with a desk that keeps its games in memory, for tests alone.
+//! Exchanges of letters and replies with a desk, in memory and over a store, for tests alone.
 #![tactic(auto)]
 
 mod checks;
@@ -8,6 +8,7 @@ mod lines;
 mod mismatch;
 mod opening;
 mod seats;
+mod stores;
 mod without_grey;
 
 pub use checks::{check_at_empty_desk, check_on_map, check_opened, check_opened_without_grey};
@@ -16,4 +17,5 @@ pub use exchanges::{check_exchange, check_exchanges, next_taken};
 pub use mismatch::Mismatch;
 pub use opening::{BOARD, HOLDS};
 pub use seats::{CREATE, ORDERS, SHOW, secret_of};
+pub use stores::{StoredDesk, check_stored, reopened, stored_desk};
 pub use without_grey::opened_without_grey;

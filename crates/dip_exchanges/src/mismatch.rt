@@ -1,6 +1,7 @@
 //! What isn't as a test says.
 use dip_machine::KeepFault;
 use dip_names::MapFault;
+use dip_store::StoreFault;
 use std::alloc::AllocError;
 
 /// What isn't as a test says.
@@ -10,6 +11,8 @@ pub enum Mismatch {
     Map(MapFault),
     /// The keeper told of a fault.
     Keeper(KeepFault),
+    /// A store isn't opened.
+    Store(StoreFault),
     /// A text is another than the one that was wanted.
     Text { told: String, wanted: String },
     /// A paper isn't there that was wanted, or is there that wasn't.

@@ -6,7 +6,7 @@ use dip_desk::MemoryKeeper;
 use dip_map::Map;
 use std::alloc::Global;
 
-const CREATE: &str = "= master 1
+pub(crate) const CREATE_WITHOUT_GREY: &str = "= master 1
 CREATE DUE 100 PERIOD 100 GREY NO
 SEAT austria aaaaaaaa
 SEAT england eeeeeeee
@@ -24,6 +24,6 @@ END
 /// A desk with a game that takes no grey press.
 pub fn opened_without_grey(alloc: Global, map: &Map) -> Result<MemoryKeeper, Mismatch> {
     let mut keeper = desk(alloc);
-    check_exchange(alloc, &mut keeper, map, CREATE)?;
+    check_exchange(alloc, &mut keeper, map, CREATE_WITHOUT_GREY)?;
     Ok(keeper)
 }

@@ -1,0 +1,5 @@
+pub mod Asked
+pub mod Finding
+pub mod Looking
+pub mod Made
+pub mod Opened

@@ -1,0 +1,71 @@
+-- A look at the rows is a look of their keeper.
+use Rattle.std.proofs.Common.{◌≡◌, ◌+◌, ℕ, Bool, true, false, Result, refl, sym, ap, subst}
+use Rattle.sqlite.specs.Effect.{Database}
+use Rattle.sqlite.specs.Store.{Ghosts}
+use Rattle.sqlite.specs.Held.{Held, state}
+use Rattle.dip_chart.specs.Charts.{Chart}
+use Rattle.dip_desk.specs.Keeping.{Looks}
+use Rattle.dip_machine.specs.Faults.{faults_with}
+use Rattle.dip_machine.specs.State.{State}
+use Rattle.dip_machine.specs.declared.faults.KeepFault.{KeepFault}
+use Rattle.dip_machine.specs.declared.faults.KeepFault.TheVariants.{Memory, Disk, Damaged}
+use Rattle.dip_rows.specs.Calls.{IsKept, Selects, is_honest, does_show, tables_in}
+use Rattle.dip_rows.specs.Rows.{tables_of}
+use Rattle.dip_rows.proofs.Parts.{fails, went}
+use Rattle.dip_store.specs.Stored.{AreOurs, book, said_by, telling}
+use Rattle.dip_store.specs.declared.keeper.SqlKeeper.{SqlKeeper}
+
+module _ {S : Type 0} (g : Ghosts S) (m : Chart) (k : SqlKeeper S) (c : Held S) where
+  abbrev Kept : Type 0
+  Kept = IsKept g k.conn × AreOurs m (tables_in g k.conn)
+
+  module _ {X E : Type 0} (r : Result X E) (p : Selects g k.conn c r) (kept : Kept) where
+    sound_on : does_show g c → IsKept g c × AreOurs m (tables_in g c)
+    sound_on shows = (p.kept kept.0 shows, subst (λ (d : Database). AreOurs m (tables_of d.trees)) (sym (p.same kept.0 shows)) kept.1)
+
+    same_on : does_show g c → said_by m (state g c).now.trees ≡ said_by m (state g k.conn).now.trees
+    same_on shows = ap (λ (d : Database). said_by m d.trees) (p.same kept.0 shows)
+
+    left_on : is_honest g c → (s : State) → (book g).may_leave m (record k { conn = c }) s → (book g).may_leave m k s
+    left_on clean s may = (may.0, p.left kept.0 clean may.0 may.1, may.2)
+
+  -- what went well
+  pub looks_well : (X E : Type 0) (x : X) (Value : X → Type 0) → Selects g k.conn c (went X E x) → (IsKept g k.conn → AreOurs m (tables_in g k.conn) → is_honest g c → Value x)
+      → Looks m (book g) k (record k { conn = c }) Value ⊥ (went X KeepFault x)
+  looks_well X E x Value p value = record {
+    keeps = record {
+      count = refl;
+      fair = p.fair;
+      shown = λ shows. (p.shown shows.0, shows.1);
+      sound = λ kept shows. sound_on (went X E x) p kept shows.0;
+      firm = λ kept clean. sound_on (went X E x) p kept (p.ok kept.0 clean);
+      stays_open = λ kept clean shows. (p.ok kept.0 clean, shows.1);
+    };
+    value = λ kept shows. value kept.0 kept.1 shows.0.0;
+    damaged = λ kept shows is. absurd (cc);
+    same = λ kept shows. same_on (went X E x) p kept shows.0;
+    left = λ kept. left_on (went X E x) p kept;
+  }
+
+  -- what failed, by the fault that is told of it
+  looks_told : (X Y E : Type 0) (e : E) (f : KeepFault) (n : ℕ) (d : Bool) (Value : X → Type 0) → Selects g k.conn c (fails Y E e) → n ≡ faults_with f k.failures → (d ≡ false → k.damaged ≡ false) → (f ≡ Damaged → d ≡ true)
+      → Looks m (book g) k (record k { conn = c; failures = n; damaged = d }) Value ⊥ (fails X KeepFault f)
+  looks_told X Y E e f n d Value p count flag tells = record {
+    keeps = record {
+      count = count;
+      fair = p.fair;
+      shown = λ shows. (p.shown shows.0, flag shows.1);
+      sound = λ kept shows. sound_on (fails Y E e) p kept shows.0;
+      firm = λ kept clean. tt;
+      stays_open = λ kept clean shows. tt;
+    };
+    value = λ kept shows. tt;
+    damaged = λ kept shows is. let same : f ≡ Damaged = cc in let x = tells same in absurd (cc);
+    same = λ kept shows. same_on (fails Y E e) p kept shows.0;
+    left = λ kept. left_on (fails Y E e) p kept;
+  }
+
+  pub looks_ill : (X Y E : Type 0) (e : E) (f : KeepFault) (Value : X → Type 0) → Selects g k.conn c (fails Y E e) → Looks m (book g) k (telling f (record k { conn = c })) Value ⊥ (fails X KeepFault f)
+  looks_ill X Y E e Memory Value p = looks_told X Y E e Memory k.failures k.damaged Value p refl (λ is. is) (λ is. absurd (cc))
+  looks_ill X Y E e Disk Value p = looks_told X Y E e Disk (k.failures + 1) k.damaged Value p refl (λ is. is) (λ is. absurd (cc))
+  looks_ill X Y E e Damaged Value p = looks_told X Y E e Damaged k.failures true Value p refl (λ is. absurd (cc)) (λ is. refl)

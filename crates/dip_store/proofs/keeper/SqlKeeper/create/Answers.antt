@@ -1,0 +1,14 @@
+use Rattle.std.proofs.Common.{refl}
+use Rattle.dip_founding.specs.Founding.{IsNewStore}
+use Rattle.dip_store.proofs.Opened.{opens_new}
+use Rattle.dip_store.proofs.keeper.SqlKeeper.create.Goals as goal
+
+pub returns-in-Ok-clause-opened : goal.returns-in-Ok-clause-opened
+returns-in-Ok-clause-opened g c =
+    let new : IsNewStore g.S.Store c.set_step_limit.new.self = record {
+      empty = c.knows_none.ensures.value.0 c.if-not-knows_none.false;
+      unlimited = rw c.set_step_limit.ensures refl;
+    } in
+    rw c.over.ensures
+    (λ clean. opens_new g.S.Store c.args.map.now c.args.alloc c.found.new.conn c.commits_last.ensures _ c.args.digest.now (c.new_tables_are_new.ensures c.args.map.now) c.has_32.ensures
+    (c.in-Ok.ensures.kept new clean) (c.in-Ok.ensures.ok clean))

@@ -1,0 +1,19 @@
+use Rattle.dip_machine.specs.Rows as machine
+use Rattle.dip_tables.specs.Columns.{IsWritable}
+use Rattle.dip_store.proofs.Made.{changes_well, changes_ill}
+use Rattle.dip_store.proofs.keeper.SqlKeeperKeeper.apply.Goals as goal
+
+pub returns-in-Ok : goal.returns-in-Ok
+returns-in-Ok g c =
+    let m = c.args.map.now in
+    let it = machine.change c.args.change.now in
+    let fits : IsWritable m it = c.is_writable.ensures.0 c.if-not-is_writable.false in
+    changes_well g.S.Store m c.args.self.now it c.make.new.conn (c.changes_are_made.ensures m c.facts.ensures) fits c.has_widths.ensures _ _ c.in-Ok.field-0 c.in-Ok.ensures.makes c.in-Ok.ensures.kept
+
+pub returns-in-Err : goal.returns-in-Err
+returns-in-Err g c =
+    let m = c.args.map.now in
+    let it = machine.change c.args.change.now in
+    let fits : IsWritable m it = c.is_writable.ensures.0 c.if-not-is_writable.false in
+    rw (c.told-in-Err.ensures.same, c.told-in-Err.ensures.told)
+    (changes_ill g.S.Store m c.args.self.now it c.make.new.conn (c.changes_are_made.ensures m c.facts.ensures) fits c.has_widths.ensures _ _ _ c.in-Err.fault _ c.in-Err.ensures.makes)

@@ -1,0 +1,8 @@
+use Rattle.dip_store.proofs.Looking.{looks_well}
+use Rattle.dip_store.proofs.keeper.SqlKeeperKeeper.paper.Goals as goal
+
+pub returns-in-Ok : goal.returns-in-Ok
+returns-in-Ok g c =
+    let m = c.args._map.now in
+    looks_well g.S.Store m c.args.self.now c.look_game_paper.new.conn _ _ c.in-Ok.paper _ c.in-Ok.ensures.selects
+    (λ kept ours clean. c.in-Ok.ensures.value kept clean m)

@@ -1,0 +1,24 @@
+use Rattle.std.proofs.Common.{◌≡◌, find, option_map, string_bytes, subst}
+use Rattle.dip_rows.specs.Calls.{tables_in}
+use Rattle.dip_rows.specs.Showing.{is_numbered}
+use Rattle.dip_tables.specs.Tables.{Tables}
+use Rattle.dip_finding.proofs.Onward.{leaves}
+use Rattle.dip_store.proofs.Asked.{no_paper_is, paper_is}
+use Rattle.dip_store.proofs.papers.look_game_paper.Goals as goal
+
+pub returns-in_default-clause-value : goal.returns-in_default-clause-value
+returns-in_default-clause-value g c kept clean m =
+    no_paper_is m (c.paper_is_found.ensures m) (tables_in g.S.Store c.args.conn.now) kept.counted c.args.game.now c.args.number
+    (rw c.in_default.is at (c.in_ok-_count.ensures.value kept clean))
+
+pub returns-clause-value : goal.returns-clause-value
+returns-clause-value g c kept clean m =
+    let name = c.args.game.now in
+    let number = c.args.number in
+    let first = c.in_ok-_count.ensures.selects in
+    let clean1 = c.in_ok-paper.ensures.selects.fair clean in
+    let here = leaves g.S.Store c.args.conn.now _ c.in_ok-_count.field-0 first kept clean1 in
+    let read = subst (λ (t : Tables). option_map string_bytes c.in_ok-paper.paper ≡ option_map (λ p. p.body) (find (is_numbered name number) t.papers)) here.1
+    (c.in_ok-paper.ensures.value here.0 clean) in
+    paper_is m (c.paper_is_found.ensures m) (tables_in g.S.Store c.args.conn.now) kept.counted name number c.in-Some._count _
+    (rw c.in-Some.is at (c.in_ok-_count.ensures.value kept clean1)) read

@@ -1,0 +1,67 @@
+-- How a fault of the database is told.
+use Rattle.std.specs.Prelude.{ℕ, List, codes}
+use Rattle.sqlite.specs.declared.error.Error.{Error}
+use Rattle.sqlite.specs.declared.error.Error.TheVariants.{SqliteFailure}
+use Rattle.sqlite.specs.declared.error.ErrorCode.{ErrorCode}
+use Rattle.sqlite.specs.declared.error.ErrorCode.TheVariants.{OutOfMemory, SystemIoFailure, DatabaseCorrupt, DiskFull, TooBig, NoRowid}
+use Rattle.dip_finding.specs.declared.faults.LookFault.{LookFault}
+use Rattle.dip_finding.specs.declared.faults.LookFault.TheVariants as looks
+use Rattle.dip_founding.specs.declared.faults.DeskFault.{DeskFault}
+use Rattle.dip_founding.specs.declared.faults.DeskFault.TheVariants as desks
+use Rattle.dip_machine.specs.declared.faults.KeepFault.{KeepFault}
+use Rattle.dip_machine.specs.declared.faults.KeepFault.TheVariants.{Memory, Disk, Damaged}
+use Rattle.dip_making.specs.declared.faults.MakeFault.{MakeFault}
+use Rattle.dip_making.specs.declared.faults.MakeFault.TheVariants as makes
+use Rattle.dip_store.specs.declared.faults.StoreFault.{StoreFault}
+use Rattle.dip_store.specs.declared.faults.StoreFault.TheVariants as stores
+
+-- want of memory; a fault of the disk or want of room on it; anything else shows that the tables aren't a desk's
+abbrev pub code_fault : ErrorCode → KeepFault
+code_fault OutOfMemory = Memory
+code_fault SystemIoFailure = Disk
+code_fault DatabaseCorrupt = Disk
+code_fault DiskFull = Disk
+code_fault TooBig = Disk
+code_fault NoRowid = Disk
+code_fault _ = Damaged
+
+abbrev pub error_fault : Error → KeepFault
+error_fault (SqliteFailure code) = code_fault code
+error_fault _ = Damaged
+
+-- of a look
+abbrev pub look_fault : LookFault → KeepFault
+look_fault looks.Memory = Memory
+look_fault (looks.Query error) = error_fault error
+look_fault looks.Foreign = Damaged
+
+-- and of a change
+abbrev pub make_fault : MakeFault → KeepFault
+make_fault makes.Memory = Memory
+make_fault (makes.Sql error) = error_fault error
+make_fault makes.Misfit = Damaged
+
+-- a fault's number, as a program tells it
+abbrev pub store_fault_name : StoreFault → List ℕ
+store_fault_name stores.Memory = codes "S1"
+store_fault_name stores.Disk = codes "S2"
+store_fault_name stores.OtherMap = codes "S3"
+store_fault_name stores.OtherSchema = codes "S4"
+
+-- of a database that is opened or made
+abbrev pub open_code_fault : ErrorCode → StoreFault
+open_code_fault OutOfMemory = stores.Memory
+open_code_fault _ = stores.Disk
+
+abbrev pub open_fault : Error → StoreFault
+open_fault (SqliteFailure code) = open_code_fault code
+open_fault _ = stores.Disk
+
+-- and of its master's row
+abbrev pub row_fault : Error → StoreFault
+row_fault (SqliteFailure code) = open_code_fault code
+row_fault _ = stores.OtherSchema
+
+abbrev pub desk_fault : DeskFault → StoreFault
+desk_fault (desks.Query error) = row_fault error
+desk_fault desks.Foreign = stores.OtherSchema

@@ -1,0 +1,25 @@
+-- What a keeper has that was made or opened.
+use Rattle.std.specs.Prelude.{◌≡◌}
+use Rattle.sqlite.specs.Effect.{Database}
+use Rattle.sqlite.specs.Store.{Ghosts}
+use Rattle.dip_chart.specs.Charts.{Chart}
+use Rattle.dip_machine.specs.State.{State}
+use Rattle.dip_tables.specs.Counting.{AreCounted}
+use Rattle.dip_rows.specs.Good.{IsGood}
+use Rattle.dip_rows.specs.Rows.{tables_of}
+use Rattle.dip_store.specs.Stored.{AreOurs, book}
+use Rattle.dip_store.specs.declared.keeper.SqlKeeper.{SqlKeeper}
+
+-- a database that keepers alone have written, by this map
+pub record IsStore (m : Chart) (db : Database) : Type 0 where
+  pub good : IsGood db
+  pub counted : AreCounted (tables_of db.trees)
+  pub ours : AreOurs m (tables_of db.trees)
+
+-- the keeper has told of no fault, says this state, and a crash leaves this state alone
+pub record Opens {S : Type 0} (g : Ghosts S) (m : Chart) (s : State) (k : SqlKeeper S) : Type 0 where
+  pub none : (book g).faults k ≡ 0
+  pub shows : (book g).shows k
+  pub sound : (book g).sound m k
+  pub says : (book g).content m k ≡ s
+  pub only : (left : State) → (book g).may_leave m k left → left ≡ s

@@ -1,0 +1,66 @@
+//! What is looked at before a store is opened.
+ghost use Rattle.std.specs.Prelude.{◌≡◌, OnOk};
+ghost use Rattle.sha2.specs.Sha256.{sha256};
+ghost use Rattle.dip_founding.specs.Desk.{DeskSays};
+ghost use Rattle.dip_rows.specs.Calls.{IsKept, Selects, does_show, is_honest, tables_in};
+
+use crate::faults::{StoreFault, desk_fault, open_fault};
+use dip_founding::{DeskColumns, knows_all, read_desk};
+use dip_letters::sum;
+use sqlite::{Alter, Connection};
+
+/// The version of the tables.
+pub const VERSION: u32 = 1;
+
+/// The eight tables are there.
+fn check_tables<S: Alter>(conn: &mut Connection<S>) -> Result<(), StoreFault>
+    ensures shown { is_honest S.Store conn.new → OnOk result (does_show S.Store conn.old) }
+    ensures selects { Selects S.Store conn.old conn.new result }
+{
+    match knows_all(conn) {
+        Ok(true) => Ok(()),
+        Ok(false) => Err(StoreFault::OtherSchema),
+        Err(error) => Err(open_fault(error)),
+    }
+}
+
+/// The master's row is of this version, and says this map.
+fn check_columns(columns: &DeskColumns, map_text: &str) -> Result<(), StoreFault>
+    ensures { OnOk result
+        ((columns.now.version ≡ 1) × (columns.now.map_sum ≡ sha256 map_text.now)) }
+{
+    if columns.version != VERSION {
+        return Err(StoreFault::OtherSchema);
+    }
+    if columns.map_sum != sum(map_text.as_bytes()) {
+        return Err(StoreFault::OtherMap);
+    }
+    Ok(())
+}
+
+/// There is a master's row, of this version and with this map.
+fn check_row<S: Alter>(conn: &mut Connection<S>, map_text: &str) -> Result<(), StoreFault>
+    ensures says { IsKept S.Store conn.old → is_honest S.Store conn.new
+        → OnOk result (DeskSays 1 (sha256 map_text.now) (tables_in S.Store conn.old)) }
+    ensures selects { Selects S.Store conn.old conn.new result }
+{
+    match read_desk(conn) {
+        Ok(Some(columns)) => check_columns(&columns, map_text),
+        Ok(None) => Err(StoreFault::OtherSchema),
+        Err(fault) => Err(desk_fault(fault)),
+    }
+}
+
+/// The store has a desk's tables of this version, made with this map's text.
+pub(crate) fn check_desk<S: Alter>(
+    conn: &mut Connection<S>,
+    map_text: &str,
+) -> Result<(), StoreFault>
+    ensures says { IsKept S.Store conn.old → is_honest S.Store conn.new
+        → OnOk result (DeskSays 1 (sha256 map_text.now) (tables_in S.Store conn.old)) }
+    ensures shown { is_honest S.Store conn.new → OnOk result (does_show S.Store conn.old) }
+    ensures selects { Selects S.Store conn.old conn.new result }
+{
+    check_tables(conn)?;
+    check_row(conn, map_text)
+}

@@ -1,0 +1,136 @@
+//! A keeper over an SQL store.
+ghost use Rattle.std.specs.Prelude.{◌≡◌, ◌<◌};
+ghost use Rattle.dip_store.specs.Stored as stored;
+
+use crate::faults::{look_fault, make_fault};
+use crate::papers::look_game_paper;
+use dip_desk::Keeper;
+use dip_finding::{look_desk, look_items, look_own, look_public, look_whole};
+use dip_machine::{Change, Desk, KeepFault};
+use dip_making::{changes_are_made, make};
+use dip_map::Map;
+use dip_names::Power;
+use dip_records::{Item, Own, Public, Whole};
+use dip_tables::{own_is_found, page_is_found, public_is_found};
+use dip_writable::{has_widths, is_writable};
+use sqlite::{Alter, Connection};
+use std::alloc::Global;
+use std::rc::Rc;
+
+/// A keeper of the desk's state in the eight tables of an SQL store. Each call reads the rows that it is asked for and no others; a
+/// change is one transaction, made whole or not at all.
+///
+/// After `Disk` or `Damaged` the store is to be opened anew, which finds what a crash may leave.
+#[derive(Drop)]
+pub struct SqlKeeper<S: Alter> {
+    pub(crate) alloc: Global,
+    pub(crate) conn: Connection<S>,
+    /// How many faults of the disk it has told of.
+    pub(crate) failures: u64,
+    /// It has told that the tables aren't a desk's: what it says from then on needn't be what is kept.
+    pub(crate) damaged: bool,
+}
+
+impl<S: Alter> SqlKeeper<S> {
+    /// The store, whose changes are all committed.
+    pub fn into_store(self) -> Connection<S>
+        ensures { result ≡ self.conn }
+    {
+        let SqlKeeper {
+            alloc: _,
+            conn,
+            failures: _,
+            damaged: _,
+        } = self;
+        conn
+    }
+
+    /// Tells a fault, and counts those of the disk.
+    fn told(&mut self, fault: KeepFault) -> KeepFault
+        requires { self.old.failures < u64.MAX }
+        ensures same { result ≡ fault }
+        ensures told { self.new ≡ stored.telling fault self.old }
+    {
+        match fault {
+            KeepFault::Memory => {}
+            KeepFault::Disk => self.failures += 1,
+            KeepFault::Damaged => self.damaged = true,
+        }
+        fault
+    }
+}
+
+impl<S: Alter> Keeper for SqlKeeper<S> {
+    ghost book = { stored.book S.Store };
+
+    fn failures(&self) -> u64 {
+        self.failures
+    }
+
+    fn desk(&mut self) -> Result<Desk, KeepFault> {
+        match look_desk(&mut self.conn, self.alloc) {
+            Ok(desk) => Ok(desk),
+            Err(fault) => Err(self.told(look_fault(fault))),
+        }
+    }
+
+    fn public(&mut self, map: &Map, game: &str) -> Result<Option<Public>, KeepFault> {
+        public_is_found();
+        match look_public(&mut self.conn, self.alloc, map, game) {
+            Ok(public) => Ok(public),
+            Err(fault) => Err(self.told(look_fault(fault))),
+        }
+    }
+
+    fn own(&mut self, map: &Map, game: &str, power: Power) -> Result<Option<Own>, KeepFault> {
+        own_is_found();
+        map.facts();
+        match look_own(&mut self.conn, self.alloc, map, game, power) {
+            Ok(own) => Ok(own),
+            Err(fault) => Err(self.told(look_fault(fault))),
+        }
+    }
+
+    fn items(
+        &mut self,
+        map: &Map,
+        game: &str,
+        power: Power,
+        first: u32,
+        most: u32,
+    ) -> Result<Option<Vec<Rc<Item>>>, KeepFault> {
+        page_is_found();
+        map.facts();
+        match look_items(&mut self.conn, self.alloc, map, game, power, first, most) {
+            Ok(items) => Ok(items),
+            Err(fault) => Err(self.told(look_fault(fault))),
+        }
+    }
+
+    fn whole(&mut self, map: &Map, game: &str) -> Result<Option<Whole>, KeepFault> {
+        match look_whole(&mut self.conn, self.alloc, map, game) {
+            Ok(whole) => Ok(whole),
+            Err(fault) => Err(self.told(look_fault(fault))),
+        }
+    }
+
+    fn paper(&mut self, _map: &Map, game: &str, number: u32) -> Result<Option<String>, KeepFault> {
+        match look_game_paper(&mut self.conn, game, number) {
+            Ok(paper) => Ok(paper),
+            Err(fault) => Err(self.told(look_fault(fault))),
+        }
+    }
+
+    fn apply(&mut self, map: &Map, change: &Change) -> Result<(), KeepFault> {
+        changes_are_made();
+        has_widths(change);
+        map.facts();
+        if !is_writable(map, change) {
+            return Err(self.told(KeepFault::Damaged));
+        }
+        match make(&mut self.conn, self.alloc, map, change) {
+            Ok(()) => Ok(()),
+            Err(fault) => Err(self.told(make_fault(fault))),
+        }
+    }
+}

@@ -1,0 +1,122 @@
+//! A keeper over a store that is made, or opened.
+ghost use Rattle.std.specs.Prelude.{◌≡◌, [], IfErr, IfOk, IsTrue, None, false, length};
+ghost use Rattle.sha2.specs.Sha256.{sha256};
+ghost use Rattle.sqlite.specs.Held.{state};
+ghost use Rattle.sqlite.specs.Tree.{Trees};
+ghost use Rattle.dip_schema.specs.Creating.{no_schema};
+ghost use Rattle.dip_founding.specs.Desk.{DeskSays};
+ghost use Rattle.dip_rows.specs.Calls.{does_show, is_honest, tables_in};
+ghost use Rattle.dip_store.specs.Opening.{IsStore, Opens};
+ghost use Rattle.dip_store.specs.Stored.{said_by};
+
+use crate::checking::check_desk;
+use crate::faults::{StoreFault, open_fault};
+use crate::keeper::SqlKeeper;
+use dip_founding::{found, knows_none};
+use dip_letters::sum;
+use dip_map::Map;
+use dip_tables::new_tables_are_new;
+use sqlite::{Alter, Connection};
+use std::alloc::Global;
+
+/// While a connection is open, a crash leaves what is committed, and nothing else.
+fn commits_last<S: Alter>(conn: &Connection<S>)
+    ensures { IsTrue (state S.Store conn.now).is_open → (db : Trees)
+        → (state S.Store conn.now).may_leave db → db ≡ (state S.Store conn.now).committed.trees }
+{}
+
+fn has_32(digest: &[u8; 32])
+    ensures { length digest.now ≡ 32 }
+{
+    let _digest = digest;
+}
+
+impl<S: Alter> SqlKeeper<S> {
+    /// The keeper of a connection's rows.
+    fn over(alloc: Global, conn: Connection<S>) -> SqlKeeper<S>
+        ensures { result ≡ record { alloc = alloc; conn = conn; failures = 0; damaged = false } }
+    {
+        SqlKeeper {
+            alloc,
+            conn,
+            failures: 0,
+            damaged: false,
+        }
+    }
+
+    /// Makes a desk's tables in an empty store: a desk without a game, whose master's secret has this digest. The tables are made with
+    /// this map's text, and the store is opened with no other.
+    ///
+    /// # Errors
+    /// `OtherSchema` exactly where the store has a table, or anything else that a schema names; `Memory`; `Disk` also for a store with
+    /// a transaction under way. The store is handed back, and what it has committed is as it was.
+    pub fn create(
+        alloc: Global,
+        store: Connection<S>,
+        map: &Map,
+        map_text: &str,
+        digest: &[u8; 32],
+    ) -> Result<SqlKeeper<S>, (StoreFault, Connection<S>)>
+        ensures opened { IfOk result (λ k. is_honest S.Store k.conn → Opens S.Store map.now
+            (record { desk = record { digest = digest.now; kept = None }; games = [] }) k) }
+        ensures empty { IfOk result (λ _. (state S.Store store).now.schema ≡ no_schema) }
+        ensures taken { IfErr result (λ e. e.0 ≡ StoreFault.OtherSchema
+            → (state S.Store store).now.schema ≡ no_schema → ⊥) }
+        ensures refused { IfErr result (λ e. e.0 ≡ StoreFault.OtherMap → ⊥) }
+        ensures same { IfErr result (λ e. does_show S.Store e.1
+            → (state S.Store e.1).committed ≡ (state S.Store store).committed) }
+    {
+        new_tables_are_new();
+        has_32(digest);
+        let mut conn = store;
+        conn.set_step_limit(None);
+        if !conn.is_autocommit() {
+            return Err((StoreFault::Disk, conn));
+        }
+        if !knows_none(&conn) {
+            return Err((StoreFault::OtherSchema, conn));
+        }
+        match found(&mut conn, &sum(map_text.as_bytes()), digest) {
+            Ok(()) => {
+                commits_last(&conn);
+                Ok(SqlKeeper::over(alloc, conn))
+            }
+            Err(error) => Err((open_fault(error), conn)),
+        }
+    }
+
+    /// Opens a store in which `create` has made a desk's tables with this map's text.
+    ///
+    /// # Errors
+    /// `OtherSchema` where a table isn't there, or the master's row isn't or is of another version; then `OtherMap`; `Memory`; `Disk`
+    /// also for a store with a transaction under way. The store is handed back, and nothing of it changes.
+    pub fn open(
+        alloc: Global,
+        store: Connection<S>,
+        map: &Map,
+        map_text: &str,
+    ) -> Result<SqlKeeper<S>, (StoreFault, Connection<S>)>
+        ensures opened { IfOk result (λ k. is_honest S.Store k.conn
+            → IsStore map.now (state S.Store store).now
+            → Opens S.Store map.now (said_by map.now (state S.Store store).now.trees) k) }
+        ensures says { IfOk result (λ k. is_honest S.Store k.conn
+            → IsStore map.now (state S.Store store).now
+            → DeskSays 1 (sha256 map_text.now) (tables_in S.Store store)) }
+        ensures same { IfErr result (λ e. does_show S.Store e.1
+            → IsStore map.now (state S.Store store).now
+            → (state S.Store e.1).committed ≡ (state S.Store store).committed) }
+    {
+        let mut conn = store;
+        conn.set_step_limit(None);
+        if !conn.is_autocommit() {
+            return Err((StoreFault::Disk, conn));
+        }
+        match check_desk(&mut conn, map_text) {
+            Ok(()) => {
+                commits_last(&conn);
+                Ok(SqlKeeper::over(alloc, conn))
+            }
+            Err(fault) => Err((fault, conn)),
+        }
+    }
+}

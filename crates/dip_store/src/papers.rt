@@ -1,0 +1,34 @@
+//! A paper of a game that is there.
+ghost use Rattle.std.specs.Prelude.{◌≡◌, IfOk, option_map, string_bytes};
+ghost use Rattle.dip_chart.specs.Charts.{Chart};
+ghost use Rattle.dip_machine.specs.State.{paper_at};
+ghost use Rattle.dip_rows.specs.Calls.{IsKept, Selects, is_honest, tables_in};
+ghost use Rattle.dip_tables.specs.Reading.{state_of};
+
+use dip_finding::{LookFault, look_paper};
+use dip_reading::count_papers;
+use dip_tables::paper_is_found;
+use sqlite::{Alter, Connection};
+
+/// The text of a game's paper by its number; `None` where there is no such game or paper. A paper's row may stand without its game,
+/// where no keeper wrote it; such a paper isn't shown.
+///
+/// # Errors
+/// Want of memory, the database's own, or a row that no keeper writes.
+pub(crate) fn look_game_paper<S: Alter>(
+    conn: &mut Connection<S>,
+    game: &str,
+    number: u32,
+) -> Result<Option<String>, LookFault>
+    ensures value { IsKept S.Store conn.old → is_honest S.Store conn.new → IfOk result (λ o.
+        (m : Chart) → option_map string_bytes o
+        ≡ paper_at game.now number (state_of m (tables_in S.Store conn.old))) }
+    ensures selects { Selects S.Store conn.old conn.new result }
+{
+    paper_is_found();
+    let Some(_count) = count_papers(conn, game)? else {
+        return Ok(None);
+    };
+    let paper = look_paper(conn, game, number)?;
+    Ok(paper)
+}

@@ -1,0 +1,4 @@
+//! Desks over stores in memory.
+mod opening;
+mod papers;
+mod rows;

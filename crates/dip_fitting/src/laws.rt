@@ -1,0 +1,8 @@
+//! Laws of changes that fit, each the contract of a function that does nothing.
+ghost use Rattle.dip_chart.specs.Charts.{Chart};
+ghost use Rattle.dip_fitting.specs.Laws.{FitsIsWritable};
+
+/// A change that a keeper has no reason to refuse can be written into the columns.
+pub fn what_fits_can_be_written()
+    ensures { (m : Chart) → FitsIsWritable m }
+{}

@@ -1,0 +1,4 @@
+pub mod Spelled
+pub mod MapTexts
+mod Told
+mod Stays

@@ -1,0 +1,4 @@
+pub mod Laws
+pub mod Legible
+pub mod Room
+pub mod Texts

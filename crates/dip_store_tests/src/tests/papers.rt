@@ -1,5 +1,6 @@
 //! The papers of a game in a store, written out.
 use dip_archive::write_papers;
+use dip_desk::Keeper;
 use dip_exchanges::{Mismatch, check_exchange, reopened, stored_desk};
 use dip_map::{Map, STANDARD};
 use std::alloc::Global;
@@ -32,6 +33,9 @@ fn written(alloc: Global, game: &str) -> Result<(Option<u64>, Vec<u8>), Mismatch
     let mut keeper = stored_desk(alloc, &map, STANDARD)?;
     check_exchange(alloc, &mut keeper, &map, CREATE)?;
     let mut keeper = reopened(alloc, keeper, &map, STANDARD)?;
+    if keeper.failures() == u64::MAX {
+        return Err(Mismatch::NoPaper);
+    }
     let mut out = Vec::new(alloc);
     match write_papers(&mut out, &mut keeper, &map, game) {
         Ok(count) => Ok((count, out)),

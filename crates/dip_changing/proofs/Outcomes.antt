@@ -1,10 +1,13 @@
 -- Parts of a transaction by what they answer.
-use Rattle.std.proofs.Common.{refl}
+use Rattle.std.proofs.Common.{◌≡◌, inl, refl}
 use Rattle.sqlite.specs.declared.error.Error.{Error}
+use Rattle.sqlite.specs.declared.error.Error.TheVariants.{SqliteFailure}
+use Rattle.sqlite.specs.declared.error.ErrorCode.TheVariants.{OutOfMemory}
 use Rattle.sqlite.specs.State.{State}
 use Rattle.dip_tables.specs.Tables.{Tables}
 use Rattle.dip_rows.specs.Calls.{Writes}
 use Rattle.dip_rows.proofs.Parts.{fails, went, writes_none}
+use Rattle.dip_refusals.specs.Wants.{Wants}
 
 -- a part that went well, whatever it answers
 pub writes_ok : (X Y : Type 0) (f : Tables → Tables) (a b : State) (x : X) (y : Y) → Writes f a b (went X Error x) → Writes f a b (went Y Error y)
@@ -17,3 +20,7 @@ writes_not X f a e = record {
   keeps = (writes_none (λ t. t) a (Unit {0}) Error tt (λ t. refl)).keeps;
   runs = λ clean. tt;
 }
+
+-- and that for want of memory
+pub wants_not : (X : Type 0) (Allow : Tables → Type 0) (a : State) (e : Error) → e ≡ SqliteFailure OutOfMemory → Wants Allow a a (fails X Error e)
+wants_not X Allow a e is = record { ready = λ clean ready. tt; fails = λ clean ready allow. inl (inl is) }

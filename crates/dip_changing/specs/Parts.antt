@@ -5,6 +5,7 @@ use Rattle.dip_chart.specs.Charts.{Chart}
 use Rattle.dip_board.specs.Boards.{Position}
 use Rattle.dip_board_rows.specs.Boards.{UnitRow, CentreRow, unit_rows, centre_rows}
 use Rattle.dip_tables.specs.Tables.{PendingRow, SeatRow, Tables, is_unit_in, is_centre_in, is_seat_in, is_pending_in, is_box_in, is_paper_in}
+use Rattle.dip_refusals.specs.Keys.{Differ, same_centre, same_unit}
 
 -- records behind the others
 abbrev pub more_orders : List PendingRow → Tables → Tables
@@ -38,3 +39,7 @@ cleared game t = record t {
 -- where a phase was played no order of the game stands any more
 abbrev pub pending_left : List ℕ → Bool → Tables → Tables
 pending_left game played t = record t { pending = if played then delete_where (is_pending_in game) t.pending else t.pending }
+
+-- no two units and no two owned centres agree on their key
+abbrev pub BoardsDiffer : Tables → Type 0
+BoardsDiffer t = Differ same_unit t.units × Differ same_centre t.centres

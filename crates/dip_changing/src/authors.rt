@@ -7,6 +7,7 @@ ghost use Rattle.dip_chart.specs.Charts.{Chart};
 ghost use Rattle.dip_tables.specs.Writing.{as_printed, desk_noted, whole_reply};
 ghost use Rattle.dip_rows.specs.Calls.{Writes};
 ghost use Rattle.dip_rows.specs.Statements.{on_desk, on_seat};
+ghost use Rattle.dip_refusals.specs.Wants.{Wants, always};
 ghost use Rattle.dip_changing.specs.Noting.{NextCountsAreNoted, letter_kept, noting_sent, seat_sent};
 
 use dip_machine::{Author, Change, Effect};
@@ -50,6 +51,8 @@ fn note_at_seat<S: Alter>(
     ensures writes { Writes (on_seat game.now power.now
         (seat_sent sent (letter_kept letter.now) (machine.effect effect.now)))
         (state S.Store tx.old.conn.now) (state S.Store tx.new.conn.now) result }
+    ensures wants { Wants always
+        (state S.Store tx.old.conn.now) (state S.Store tx.new.conn.now) result }
 {
     match effect {
         Effect::Votes(draw) => {
@@ -88,6 +91,8 @@ fn note_master<S: Alter>(
     ensures writes { Writes
         (on_desk (desk_noted (as_printed game.now (codes "master") (records.kept kept.now))))
         (state S.Store tx.old.conn.now) (state S.Store tx.new.conn.now) result }
+    ensures wants { Wants always
+        (state S.Store tx.old.conn.now) (state S.Store tx.new.conn.now) result }
 {
     let reply = whole_reply(alloc, game, "master", kept)?;
     let letter = LastLetter {
@@ -113,6 +118,8 @@ fn note_own<S: Alter>(
     ensures writes { Writes (on_seat game.now power.now (seat_sent sent
         (as_printed game.now power.now (records.kept kept.now)) (machine.effect effect.now)))
         (state S.Store tx.old.conn.now) (state S.Store tx.new.conn.now) result }
+    ensures wants { Wants always
+        (state S.Store tx.old.conn.now) (state S.Store tx.new.conn.now) result }
 {
     let reply = whole_reply(alloc, game, power, kept)?;
     let letter = LastLetter {
@@ -135,6 +142,8 @@ pub fn note_author<S: Alter>(
     ensures writes { Writes
         (noting_sent sent map.now (machine.author change.now.author) (string_bytes change.now.game)
         (records.kept change.now.kept) (machine.effect change.now.effect))
+        (state S.Store tx.old.conn.now) (state S.Store tx.new.conn.now) result }
+    ensures wants { Wants always
         (state S.Store tx.old.conn.now) (state S.Store tx.new.conn.now) result }
 {
     let game = change.game.as_str();

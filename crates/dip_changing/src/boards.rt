@@ -3,7 +3,9 @@ ghost use Rattle.std.specs.Prelude.{◌≡◌, map as each, length, [], ◌∷�
 ghost use Rattle.sqlite.specs.Held.{state};
 ghost use Rattle.dip_board_rows.specs.Boards.{centre_rows_from, coast_text, dislodged_row, origin_text, kind_number, standing_row};
 ghost use Rattle.dip_rows.specs.Calls.{Writes};
-ghost use Rattle.dip_changing.specs.Parts.{more_centres, more_units, with_board};
+ghost use Rattle.dip_refusals.specs.Keys.{Differ, same_centre, same_unit};
+ghost use Rattle.dip_refusals.specs.Wants.{Wants};
+ghost use Rattle.dip_changing.specs.Parts.{BoardsDiffer, more_centres, more_units, with_board};
 
 use dip_board::{Board, Dislodged};
 use dip_map::Map;
@@ -47,6 +49,9 @@ fn add_standing<'r, S: Alter>(
     ensures same_reference { tx.new.conn.ghost_name ≡ tx.old.conn.ghost_name }
     ensures writes { Writes (more_units (standing_row map.now game.now unit.now ∷ []))
         (state S.Store tx.old.conn.now) (state S.Store tx.new.conn.now) result }
+    ensures wants { Wants (λ t. Differ same_unit
+        (more_units (standing_row map.now game.now unit.now ∷ []) t).units)
+        (state S.Store tx.old.conn.now) (state S.Store tx.new.conn.now) result }
 {
     let row = UnitRow {
         game,
@@ -69,6 +74,9 @@ fn add_dislodged<'r, S: Alter>(
 ) -> Result<(), Error>
     ensures same_reference { tx.new.conn.ghost_name ≡ tx.old.conn.ghost_name }
     ensures writes { Writes (more_units (dislodged_row map.now game.now dislodged.now ∷ []))
+        (state S.Store tx.old.conn.now) (state S.Store tx.new.conn.now) result }
+    ensures wants { Wants (λ t. Differ same_unit
+        (more_units (dislodged_row map.now game.now dislodged.now ∷ []) t).units)
         (state S.Store tx.old.conn.now) (state S.Store tx.new.conn.now) result }
 {
     let unit = &dislodged.unit;
@@ -94,6 +102,9 @@ fn add_standings<S: Alter>(
     ensures same_reference { tx.new.conn.ghost_name ≡ tx.old.conn.ghost_name }
     ensures writes { Writes (more_units (each (standing_row map.now game.now) units.now))
         (state S.Store tx.old.conn.now) (state S.Store tx.new.conn.now) result }
+    ensures wants { Wants (λ t. Differ same_unit
+        (more_units (each (standing_row map.now game.now) units.now) t).units)
+        (state S.Store tx.old.conn.now) (state S.Store tx.new.conn.now) result }
 {
     for unit in units {
         add_standing(tx, map, game, unit)?;
@@ -109,6 +120,9 @@ fn add_fallen<S: Alter>(
 ) -> Result<(), Error>
     ensures same_reference { tx.new.conn.ghost_name ≡ tx.old.conn.ghost_name }
     ensures writes { Writes (more_units (each (dislodged_row map.now game.now) units.now))
+        (state S.Store tx.old.conn.now) (state S.Store tx.new.conn.now) result }
+    ensures wants { Wants (λ t. Differ same_unit
+        (more_units (each (dislodged_row map.now game.now) units.now) t).units)
         (state S.Store tx.old.conn.now) (state S.Store tx.new.conn.now) result }
 {
     for unit in units {
@@ -126,6 +140,9 @@ fn add_owned<S: Alter>(
 ) -> Result<(), Error>
     ensures same_reference { tx.new.conn.ghost_name ≡ tx.old.conn.ghost_name }
     ensures writes { Writes (more_centres (centre_rows_from map.now game.now prov (owner ∷ [])))
+        (state S.Store tx.old.conn.now) (state S.Store tx.new.conn.now) result }
+    ensures wants { Wants (λ t. Differ same_centre
+        (more_centres (centre_rows_from map.now game.now prov (owner ∷ [])) t).centres)
         (state S.Store tx.old.conn.now) (state S.Store tx.new.conn.now) result }
 {
     match owner {
@@ -147,6 +164,9 @@ fn add_owners<S: Alter>(
     ensures same_reference { tx.new.conn.ghost_name ≡ tx.old.conn.ghost_name }
     ensures writes { Writes (more_centres (centre_rows_from map.now game.now 0 owners.now))
         (state S.Store tx.old.conn.now) (state S.Store tx.new.conn.now) result }
+    ensures wants { Wants (λ t. Differ same_centre
+        (more_centres (centre_rows_from map.now game.now 0 owners.now) t).centres)
+        (state S.Store tx.old.conn.now) (state S.Store tx.new.conn.now) result }
 {
     map.facts();
     for (number, owner) in owners.iter().enumerate() {
@@ -165,6 +185,8 @@ pub fn put_board<S: Alter>(
     requires { length board.now.owners ≡ length map.now.provinces }
     ensures same_reference { tx.new.conn.ghost_name ≡ tx.old.conn.ghost_name }
     ensures writes { Writes (with_board map.now game.now board.now)
+        (state S.Store tx.old.conn.now) (state S.Store tx.new.conn.now) result }
+    ensures wants { Wants (λ t. BoardsDiffer (with_board map.now game.now board.now t))
         (state S.Store tx.old.conn.now) (state S.Store tx.new.conn.now) result }
 {
     drop_units(tx, game)?;

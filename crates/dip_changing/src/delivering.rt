@@ -4,6 +4,8 @@ ghost use Rattle.sqlite.specs.Held.{state};
 ghost use Rattle.dip_chart.specs.Charts.{Chart};
 ghost use Rattle.dip_records.specs.Rows as records;
 ghost use Rattle.dip_rows.specs.Calls.{Writes};
+ghost use Rattle.dip_refusals.specs.Keys.{Differ, same_item};
+ghost use Rattle.dip_refusals.specs.Wants.{Wants};
 ghost use Rattle.dip_changing.specs.Delivering.{ReadersAreSeats, boxed, delivering_all, delivering_rows, delivering_to, putting};
 
 use crate::items::{ItemTexts, item_texts};
@@ -32,6 +34,9 @@ fn put_item<'r, S: Alter>(
     ensures writes { Writes
         (putting game.now power.now (boxed game.now power.now number item.now) number)
         (state S.Store tx.old.conn.now) (state S.Store tx.new.conn.now) result }
+    ensures wants { Wants (λ t. Differ same_item
+        (putting game.now power.now (boxed game.now power.now number item.now) number t).boxes)
+        (state S.Store tx.old.conn.now) (state S.Store tx.new.conn.now) result }
 {
     count_item(tx, game, power, number)?;
     let row = ItemRow {
@@ -59,6 +64,9 @@ fn put_to<'r, S: Alter>(
     ensures writes { Writes
         (delivering_to map.now game.now (λ power n. boxed game.now power n item.now) reader.now)
         (state S.Store tx.old.conn.now) (state S.Store tx.new.conn.now) result }
+    ensures wants { Wants (λ t. Differ same_item (delivering_to map.now game.now
+        (λ power n. boxed game.now power n item.now) reader.now t).boxes)
+        (state S.Store tx.old.conn.now) (state S.Store tx.new.conn.now) result }
 {
     put_item(
         tx,
@@ -81,6 +89,9 @@ fn put_all<S: Alter>(
     ensures writes { Writes
         (delivering_rows map.now game.now (λ power n. boxed game.now power n item.now) readers.now)
         (state S.Store tx.old.conn.now) (state S.Store tx.new.conn.now) result }
+    ensures wants { Wants (λ t. Differ same_item (delivering_rows map.now game.now
+        (λ power n. boxed game.now power n item.now) readers.now t).boxes)
+        (state S.Store tx.old.conn.now) (state S.Store tx.new.conn.now) result }
 {
     for reader in readers {
         put_to(tx, map, game, reader, item)?;
@@ -102,6 +113,9 @@ pub fn deliver<S: Alter>(
     ensures same_reference { tx.new.conn.ghost_name ≡ tx.old.conn.ghost_name }
     ensures writes { Writes
         (delivering_all map.now game.now (records.item item.now) readers.now)
+        (state S.Store tx.old.conn.now) (state S.Store tx.new.conn.now) result }
+    ensures wants { Wants (λ t. Differ same_item
+        (delivering_all map.now game.now (records.item item.now) readers.now t).boxes)
         (state S.Store tx.old.conn.now) (state S.Store tx.new.conn.now) result }
 {
     let texts = item_texts(alloc, item)?;

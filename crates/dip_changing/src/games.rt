@@ -6,9 +6,12 @@ ghost use Rattle.dip_board_rows.specs.Boards.{season_number};
 ghost use Rattle.dip_machine.specs.Rows as machine;
 ghost use Rattle.dip_records.specs.Rows as records;
 ghost use Rattle.dip_tables.specs.Changing.{opening, publishing};
+ghost use Rattle.dip_tables.specs.Coding.{same_name};
 ghost use Rattle.dip_tables.specs.Writing.{game_row, number_of};
 ghost use Rattle.dip_rows.specs.Calls.{Writes};
 ghost use Rattle.dip_rows.specs.Statements.{game_as, no_pending, on_game, with_game};
+ghost use Rattle.dip_refusals.specs.Keys.{AreKeyed, Differ};
+ghost use Rattle.dip_refusals.specs.Wants.{Wants, always};
 ghost use Rattle.dip_writing.specs.Rows as rows;
 ghost use Rattle.dip_changing.specs.Parts.{cleared, pending_left};
 
@@ -76,6 +79,9 @@ fn open_row<S: Alter>(
     ensures writes { Writes
         (with_game (game_row map.now (string_bytes public.now.game) (records.public public.now)))
         (state S.Store tx.old.conn.now) (state S.Store tx.new.conn.now) result }
+    ensures wants { Wants (λ t. Differ same_name (with_game
+        (game_row map.now (string_bytes public.now.game) (records.public public.now)) t).games)
+        (state S.Store tx.old.conn.now) (state S.Store tx.new.conn.now) result }
 {
     let status = status_text(alloc, map, &public.status)?;
     let standoff = standoff_text(alloc, map, public.board.standoff())?;
@@ -102,6 +108,8 @@ fn renew_row<S: Alter>(
     ensures writes { Writes
         (on_game game.now (game_as (game_row map.now game.now (records.public public.now))))
         (state S.Store tx.old.conn.now) (state S.Store tx.new.conn.now) result }
+    ensures wants { Wants always
+        (state S.Store tx.old.conn.now) (state S.Store tx.new.conn.now) result }
 {
     let status = status_text(alloc, map, &public.status)?;
     let standoff = standoff_text(alloc, map, public.board.standoff())?;
@@ -113,6 +121,8 @@ fn renew_row<S: Alter>(
 fn clear<S: Alter>(tx: &mut Transaction<'_, S>, game: &str) -> Result<(), Error>
     ensures same_reference { tx.new.conn.ghost_name ≡ tx.old.conn.ghost_name }
     ensures writes { Writes (cleared game.now)
+        (state S.Store tx.old.conn.now) (state S.Store tx.new.conn.now) result }
+    ensures wants { Wants always
         (state S.Store tx.old.conn.now) (state S.Store tx.new.conn.now) result }
 {
     drop_seats(tx, game)?;
@@ -137,6 +147,9 @@ pub fn open_game<S: Alter>(
     ensures writes { Writes
         (opening map.now (records.public public.now) paper.now (each machine.new_seat seats.now))
         (state S.Store tx.old.conn.now) (state S.Store tx.new.conn.now) result }
+    ensures wants { Wants (λ t. AreKeyed
+        (opening map.now (records.public public.now) paper.now (each machine.new_seat seats.now) t))
+        (state S.Store tx.old.conn.now) (state S.Store tx.new.conn.now) result }
 {
     let game = public.game.as_str();
     clear(tx, game)?;
@@ -150,6 +163,8 @@ pub fn open_game<S: Alter>(
 fn end_phase<S: Alter>(tx: &mut Transaction<'_, S>, game: &str, played: bool) -> Result<(), Error>
     ensures same_reference { tx.new.conn.ghost_name ≡ tx.old.conn.ghost_name }
     ensures writes { Writes (pending_left game.now played)
+        (state S.Store tx.old.conn.now) (state S.Store tx.new.conn.now) result }
+    ensures wants { Wants always
         (state S.Store tx.old.conn.now) (state S.Store tx.new.conn.now) result }
 {
     if played {
@@ -173,6 +188,9 @@ pub fn publish<S: Alter>(
     ensures same_reference { tx.new.conn.ghost_name ≡ tx.old.conn.ghost_name }
     ensures writes { Writes
         (publishing map.now game.now (records.public public.now) paper.now played)
+        (state S.Store tx.old.conn.now) (state S.Store tx.new.conn.now) result }
+    ensures wants { Wants (λ t. AreKeyed
+        (publishing map.now game.now (records.public public.now) paper.now played t))
         (state S.Store tx.old.conn.now) (state S.Store tx.new.conn.now) result }
 {
     renew_row(alloc, tx, map, game, public)?;

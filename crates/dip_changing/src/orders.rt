@@ -5,6 +5,8 @@ ghost use Rattle.dip_records.specs.Rows as records;
 ghost use Rattle.dip_tables.specs.Changing.{with_orders};
 ghost use Rattle.dip_tables.specs.Writing.{pending_row};
 ghost use Rattle.dip_rows.specs.Calls.{Writes};
+ghost use Rattle.dip_refusals.specs.Keys.{Differ, same_order};
+ghost use Rattle.dip_refusals.specs.Wants.{Wants};
 ghost use Rattle.dip_changing.specs.Parts.{more_orders};
 
 use dip_map::Map;
@@ -24,6 +26,10 @@ fn add_order<S: Alter>(
         (more_orders
         (each (pending_row map.now game.now power.now) (records.standings (order.now ∷ []))))
         (state S.Store tx.old.conn.now) (state S.Store tx.new.conn.now) result }
+    ensures wants { Wants (λ t. Differ same_order (more_orders
+        (each (pending_row map.now game.now power.now) (records.standings (order.now ∷ [])))
+        t).pending)
+        (state S.Store tx.old.conn.now) (state S.Store tx.new.conn.now) result }
 {
     add_pending(tx, game, power, map.code(order.prov), order.line.as_str())?;
     Ok(())
@@ -39,6 +45,9 @@ fn add_orders<S: Alter>(
     ensures same_reference { tx.new.conn.ghost_name ≡ tx.old.conn.ghost_name }
     ensures writes { Writes
         (more_orders (each (pending_row map.now game.now power.now) (records.standings orders.now)))
+        (state S.Store tx.old.conn.now) (state S.Store tx.new.conn.now) result }
+    ensures wants { Wants (λ t. Differ same_order (more_orders
+        (each (pending_row map.now game.now power.now) (records.standings orders.now)) t).pending)
         (state S.Store tx.old.conn.now) (state S.Store tx.new.conn.now) result }
 {
     for order in orders {
@@ -58,6 +67,9 @@ pub fn put_orders<S: Alter>(
     ensures same_reference { tx.new.conn.ghost_name ≡ tx.old.conn.ghost_name }
     ensures writes { Writes
         (with_orders map.now game.now power.now (records.standings orders.now))
+        (state S.Store tx.old.conn.now) (state S.Store tx.new.conn.now) result }
+    ensures wants { Wants (λ t. Differ same_order
+        (with_orders map.now game.now power.now (records.standings orders.now) t).pending)
         (state S.Store tx.old.conn.now) (state S.Store tx.new.conn.now) result }
 {
     drop_orders(tx, game, power)?;

@@ -3,8 +3,11 @@ ghost use Rattle.std.specs.Prelude.{◌≡◌, map as each, [], ◌∷◌};
 ghost use Rattle.sqlite.specs.Held.{state};
 ghost use Rattle.dip_machine.specs.Rows as machine;
 ghost use Rattle.dip_tables.specs.Changing.{replacing};
+ghost use Rattle.dip_tables.specs.Coding.{same_seat};
 ghost use Rattle.dip_tables.specs.Writing.{seat_row};
 ghost use Rattle.dip_rows.specs.Calls.{Writes};
+ghost use Rattle.dip_refusals.specs.Keys.{Differ};
+ghost use Rattle.dip_refusals.specs.Wants.{Wants, always};
 ghost use Rattle.dip_changing.specs.Parts.{more_seats};
 
 use dip_machine::NewSeat;
@@ -22,6 +25,9 @@ fn add_new_seat<S: Alter>(
     ensures writes { Writes
         (more_seats (each (seat_row map.now game.now) (each machine.new_seat (seat.now ∷ []))))
         (state S.Store tx.old.conn.now) (state S.Store tx.new.conn.now) result }
+    ensures wants { Wants (λ t. Differ same_seat (more_seats
+        (each (seat_row map.now game.now) (each machine.new_seat (seat.now ∷ []))) t).seats)
+        (state S.Store tx.old.conn.now) (state S.Store tx.new.conn.now) result }
 {
     add_seat(tx, game, map.power_name(seat.power), &seat.digest)?;
     Ok(())
@@ -36,6 +42,9 @@ pub(crate) fn add_seats<S: Alter>(
     ensures same_reference { tx.new.conn.ghost_name ≡ tx.old.conn.ghost_name }
     ensures writes { Writes
         (more_seats (each (seat_row map.now game.now) (each machine.new_seat seats.now)))
+        (state S.Store tx.old.conn.now) (state S.Store tx.new.conn.now) result }
+    ensures wants { Wants (λ t. Differ same_seat (more_seats
+        (each (seat_row map.now game.now) (each machine.new_seat seats.now)) t).seats)
         (state S.Store tx.old.conn.now) (state S.Store tx.new.conn.now) result }
 {
     for seat in seats {
@@ -53,6 +62,8 @@ pub fn replace<S: Alter>(
 ) -> Result<(), Error>
     ensures same_reference { tx.new.conn.ghost_name ≡ tx.old.conn.ghost_name }
     ensures writes { Writes (replacing map.now game.now (machine.new_seat seat.now))
+        (state S.Store tx.old.conn.now) (state S.Store tx.new.conn.now) result }
+    ensures wants { Wants always
         (state S.Store tx.old.conn.now) (state S.Store tx.new.conn.now) result }
 {
     replace_digest(tx, game, map.power_name(seat.power), &seat.digest)?;

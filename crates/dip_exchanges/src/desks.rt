@@ -8,7 +8,7 @@ use dip_records::Reply;
 use std::alloc::Global;
 
 /// The letter CREATE, and its reply.
-pub(crate) const OPENED: &str = "= master 1
+pub const OPENED: &str = "= master 1
 SEATS
 SEAT turkey tttttttt
 END

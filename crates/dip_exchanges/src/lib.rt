@@ -12,8 +12,9 @@ mod stores;
 mod without_grey;
 
 pub use checks::{check_at_empty_desk, check_on_map, check_opened, check_opened_without_grey};
-pub use desks::{check_no_paper, check_paper, desk, opened, reply_to};
+pub use desks::{OPENED, check_no_paper, check_paper, desk, opened, reply_to};
 pub use exchanges::{check_exchange, check_exchanges, next_taken};
+pub use lines::{letters_of, replies_of};
 pub use mismatch::Mismatch;
 pub use opening::{BOARD, HOLDS};
 pub use seats::{CREATE, ORDERS, SHOW, secret_of};

@@ -59,8 +59,19 @@ fn push_reply(line: &str, replies: &mut String) -> Result<(), AllocError> {
     }
 }
 
+/// The letters of an exchange: its lines that aren't told.
+pub fn letters_of(alloc: Global, exchange: &str) -> Result<String, AllocError> {
+    let mut letters = String::new(alloc);
+    for line in exchange.lines() {
+        if !line.starts_with("< ") {
+            push_line(line, &mut letters)?;
+        }
+    }
+    Ok(letters)
+}
+
 /// What an exchange has to tell: its lines behind `< `.
-pub(crate) fn replies_of(alloc: Global, exchange: &str) -> Result<String, AllocError> {
+pub fn replies_of(alloc: Global, exchange: &str) -> Result<String, AllocError> {
     let mut replies = String::new(alloc);
     for line in exchange.lines() {
         if let Some(reply) = line.strip_prefix("< ") {

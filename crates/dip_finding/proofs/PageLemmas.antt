@@ -1,5 +1,5 @@
 -- The items that a page reads, one by one, are what its inbox has.
-use Rattle.std.proofs.Common.{◌≡◌, ℕ, zero, suc, pos, ◌+◌, ◌-◌, ◌≤◌, ◌==◌, Bool, true, false, min, bytes_eq, Option, None, Some, List, [], ◌∷◌, ◌++◌, map, filter, find, take, drop, length, option_map, refl, sym, ap, subst, ◌∙◌, inl, inr, arith}
+use Rattle.std.proofs.Common.{◌≡◌, ℕ, zero, suc, pos, ◌+◌, ◌-◌, ◌<◌, ◌≤◌, ◌==◌, Bool, true, false, min, bytes_eq, Option, None, Some, List, [], ◌∷◌, ◌++◌, map, filter, find, take, drop, length, option_map, refl, sym, ap, subst, ◌∙◌, inl, inr, arith}
 use Rattle.std.specs.List.{AllByRecursion}
 use Rattle.std.proofs.lemmas.Bool.{cases_Bool}
 use Rattle.std.proofs.lemmas.Bool.Decides.{nat_tests}
@@ -125,6 +125,30 @@ item_shown boxes game power n row is = by_item (find (is_item game power n) boxe
     by_item None bad = absurd (cc)
     by_item (Some b) same = let one : row ≡ show_item b = cc in ap (λ r. Some (item_of (shown_item r))) one
 
+-- an item of each number that a seat counts is there
+number_there : (i k : ℕ) (bs : List BoxRow) → AreFrom i bs → i ≤ k → k < i + length bs → numbered k bs ≡ None → ⊥
+number_there i k [] e least low = λ none. omega (arith, least, low)
+number_there i k (b ∷ bs) e least low = elim (cases_Bool (b.number == k)) [
+  | inl hit ↦ rw hit (λ is. absurd (cc))
+  | inr off ↦ rw off (λ is.
+      let first = first_number i b bs e in
+      let away : i ≡ k → ⊥ = (λ same. let hit : (b.number == k) ≡ true = subst (λ j. (j == k) ≡ true) (sym (first.0 ∙ same)) (one_number k) in let bad = sym off ∙ hit in cc) in
+      let next : suc i ≤ k = omega (arith, least, away) in
+      number_there (suc i) k bs first.1 next (omega (arith, low)) is)
+]
+
+pub item_there : (boxes : List BoxRow) (game power : List ℕ) (k n : ℕ) → item_numbers boxes game power ≡ counted n → 0 < k → k ≤ n
+    → None ≡ option_map show_item (find (is_item game power k) boxes) → ⊥
+item_there boxes game power k n counts some low none =
+    let rows = filter (is_box game power) boxes in
+    let long : length rows ≡ n = sym (length_numbers rows) ∙ ap length (counts ∙ counted_from n) ∙ length_from 1 n in
+    number_there 1 k rows (as_from n rows counts) (omega (arith, some)) (omega (arith, low, long))
+    (sym (item_in_box game power k boxes) ∙ not_shown (find (is_item game power k) boxes) none)
+  where
+    not_shown : (o : Option BoxRow) → None ≡ option_map show_item o → o ≡ None
+    not_shown None is = refl
+    not_shown (Some b) is = absurd (cc)
+
 -- what holds of each record holds of the one that is found
 all_found : {A : Type 0} (P : A → Type 0) (p : A → Bool) (xs : List A) (x : A) → AllByRecursion P xs → find p xs ≡ Some x → P x
 all_found P p [] x all = λ is. absurd (cc)
@@ -143,6 +167,25 @@ page_ends : (box : List Item) (k most count : ℕ) → length box ≡ count → 
 page_ends box k most count is =
     let rest : count - k ≡ length (drop k box) = ap (λ n. n - k) (sym is) ∙ sym (length-drop k box) in
     ap (λ n. take (min most n) (drop k box)) rest ∙ take_min most (drop k box)
+
+-- a page has no more items than there are behind those that it skips
+pub page_low : (most count skipped many : ℕ) → many ≡ min most (count - skipped) → many ≤ count - skipped
+page_low most count skipped many is = omega (arith, is)
+
+-- the seat that is found counts its items
+pub seat_counts : (m : Chart) (t : Tables) (name power : List ℕ) (count : ℕ) (row : Row) → AreCounted t
+    → Some row ≡ option_map show_seat (find (is_seat name power) t.seats) → column row 6 ≡ Int (pos count)
+    → item_numbers t.boxes name power ≡ counted count
+seat_counts m t name power count row all shown counts = by_seat (find (is_seat name power) t.seats) refl
+  where
+    by_seat : (o : Option SeatRow) → find (is_seat name power) t.seats ≡ o → item_numbers t.boxes name power ≡ counted count
+    by_seat None none = absurd (let bad = shown ∙ ap (option_map show_seat) none in cc)
+    by_seat (Some s) found =
+        let same : row ≡ show_seat s = (let both = shown ∙ ap (option_map show_seat) found in cc) in
+        let named = found_seat m name power t.seats s found in
+        let here = all_found (λ (s : SeatRow). item_numbers t.boxes s.game s.power ≡ counted s.items) (is_seat name power) t.seats s all.items found in
+        let has : count ≡ s.items = ap number_in (sym counts ∙ ap (λ r. column r 6) same) in
+        ap (λ g. item_numbers t.boxes g power) (sym named.0) ∙ ap (λ p. item_numbers t.boxes s.game p) (sym named.1) ∙ here ∙ ap counted (sym has)
 
 -- a page that is read of the seat that is found is its page
 pub page_is : (m : Chart) → PageIsFound m → (t : Tables) (name power : List ℕ) (first most count skipped many : ℕ) (row : Row) (items : List Item) → AreCounted t

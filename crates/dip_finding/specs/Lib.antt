@@ -1,2 +1,4 @@
 pub mod Asked
+pub mod Faults
+pub mod Readable
 pub mod Shown

@@ -1,12 +1,15 @@
 //! A board as rows show it.
-ghost use Rattle.std.specs.Prelude.{◌≡◌, IfOk, map as each};
+ghost use Rattle.std.specs.Prelude.{◌≡◌, ◌<◌, ◌^◌, IfErr, IfOk, map as each};
 ghost use Rattle.sqlite.specs.Order.{bytes, column};
 ghost use Rattle.dip_board_rows.specs.Boards.{board_of};
+ghost use Rattle.dip_finding.specs.Faults.{IsFromOutside};
+ghost use Rattle.dip_finding.specs.Readable.{HasNumber, IsBoardReadable};
 ghost use Rattle.dip_finding.specs.Shown.{shown_centre, shown_unit};
 ghost use Rattle.dip_rows.specs.Rows.{number_in};
 
 use crate::columns::{centres_of, units_of};
 use crate::faults::LookFault;
+use crate::values::{number_at, text_at};
 use dip_board::Board;
 use dip_board_rows::read_board;
 use dip_map::Map;
@@ -15,10 +18,11 @@ use std::alloc::Global;
 
 /// The year of a game's row.
 fn year_of(row: &Row) -> Result<u16, LookFault>
-    ensures { IfOk result (λ y. y ≡ number_in (column row.now 0)) }
+    ensures value { IfOk result (λ y. y ≡ number_in (column row.now 0)) }
+    ensures own { HasNumber row.now 0 → number_in (column row.now 0) < 2 ^ 16
+        → IfErr result IsFromOutside }
 {
-    let year: u32 = row.get(0)?;
-    match u16::try_from(year) {
+    match u16::try_from(number_at(row, 0)?) {
         Ok(year) => Ok(year),
         Err(_) => Err(LookFault::Foreign),
     }
@@ -32,14 +36,16 @@ pub(crate) fn board_in(
     units: &[Row],
     centres: &[Row],
 ) -> Result<Board, LookFault>
-    ensures { IfOk result (λ b. b ≡ board_of map.now (each shown_unit units.now)
+    ensures value { IfOk result (λ b. b ≡ board_of map.now (each shown_unit units.now)
         (each shown_centre centres.now) (bytes (column row.now 7)) (number_in (column row.now 0))
         (number_in (column row.now 1))) }
+    ensures own { IsBoardReadable map.now row.now units.now centres.now
+        → IfErr result IsFromOutside }
 {
     let units = units_of(alloc, units)?;
     let centres = centres_of(alloc, centres)?;
-    let standoff: String = row.get(7)?;
-    let season: u32 = row.get(1)?;
+    let standoff = text_at(row, 7)?;
+    let season = number_at(row, 1)?;
     let read = read_board(
         alloc,
         map,

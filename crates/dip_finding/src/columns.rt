@@ -1,36 +1,44 @@
 //! Rows as their columns.
-ghost use Rattle.std.specs.Prelude.{◌≡◌, IfOk, map as each};
+ghost use Rattle.std.specs.Prelude.{◌≡◌, IfErr, IfOk, map as each};
+ghost use Rattle.std.specs.List.{AllByRecursion};
+ghost use Rattle.dip_finding.specs.Faults.{IsFromOutside};
+ghost use Rattle.dip_finding.specs.Readable.{IsCentreReadable, IsUnitReadable};
 ghost use Rattle.dip_finding.specs.Shown.{shown_centre, shown_unit};
+ghost use Rattle.dip_statements.specs.Faults.{IsOutside};
 
 use crate::faults::LookFault;
+use crate::values::{number_at, text_at};
 use dip_board_rows::{CentreColumns, UnitColumns};
 use sqlite::{Error, Row};
 use std::alloc::Global;
 
 fn unit_of(row: &Row) -> Result<UnitColumns, Error>
-    ensures { IfOk result (λ u. u ≡ shown_unit row.now) }
+    ensures value { IfOk result (λ u. u ≡ shown_unit row.now) }
+    ensures own { IsUnitReadable row.now → IfErr result IsOutside }
 {
     Ok(UnitColumns {
-        province: row.get(0)?,
-        dislodged: row.get(1)?,
-        power: row.get(2)?,
-        kind: row.get(3)?,
-        coast: row.get(4)?,
-        origin: row.get(5)?,
+        province: text_at(row, 0)?,
+        dislodged: number_at(row, 1)?,
+        power: text_at(row, 2)?,
+        kind: number_at(row, 3)?,
+        coast: text_at(row, 4)?,
+        origin: text_at(row, 5)?,
     })
 }
 
 fn centre_of(row: &Row) -> Result<CentreColumns, Error>
-    ensures { IfOk result (λ c. c ≡ shown_centre row.now) }
+    ensures value { IfOk result (λ c. c ≡ shown_centre row.now) }
+    ensures own { IsCentreReadable row.now → IfErr result IsOutside }
 {
     Ok(CentreColumns {
-        province: row.get(0)?,
-        power: row.get(1)?,
+        province: text_at(row, 0)?,
+        power: text_at(row, 1)?,
     })
 }
 
 pub(crate) fn units_of(alloc: Global, rows: &[Row]) -> Result<Vec<UnitColumns>, LookFault>
-    ensures { IfOk result (λ v. v.items ≡ each shown_unit rows.now) }
+    ensures value { IfOk result (λ v. v.items ≡ each shown_unit rows.now) }
+    ensures own { AllByRecursion IsUnitReadable rows.now → IfErr result IsFromOutside }
 {
     let mut units = Vec::new(alloc);
     for row in rows {
@@ -40,7 +48,8 @@ pub(crate) fn units_of(alloc: Global, rows: &[Row]) -> Result<Vec<UnitColumns>, 
 }
 
 pub(crate) fn centres_of(alloc: Global, rows: &[Row]) -> Result<Vec<CentreColumns>, LookFault>
-    ensures { IfOk result (λ v. v.items ≡ each shown_centre rows.now) }
+    ensures value { IfOk result (λ v. v.items ≡ each shown_centre rows.now) }
+    ensures own { AllByRecursion IsCentreReadable rows.now → IfErr result IsFromOutside }
 {
     let mut centres = Vec::new(alloc);
     for row in rows {

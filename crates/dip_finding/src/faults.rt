@@ -1,4 +1,6 @@
 //! Why what is asked isn't answered.
+ghost use Rattle.std.specs.Prelude.{◌≡◌};
+
 use sqlite::Error;
 use std::alloc::{AllocError, AllocFailed};
 
@@ -14,18 +16,30 @@ pub enum LookFault {
 }
 
 impl From<AllocError> for LookFault {
+    ghost use Rattle.dip_finding.specs.declared.faults.LookFault.TheVariants.{Memory};
+
+    ghost from_gives = { λ _ fault. fault ≡ Memory };
+
     fn from(_: AllocError) -> LookFault {
         LookFault::Memory
     }
 }
 
 impl From<Error> for LookFault {
+    ghost use Rattle.dip_finding.specs.declared.faults.LookFault.TheVariants.{Query};
+
+    ghost from_gives = { λ error fault. fault ≡ Query error };
+
     fn from(error: Error) -> LookFault {
         LookFault::Query(error)
     }
 }
 
 impl<T: Drop> From<AllocFailed<T>> for LookFault {
+    ghost use Rattle.dip_finding.specs.declared.faults.LookFault.TheVariants.{Memory};
+
+    ghost from_gives = { λ _ fault. fault ≡ Memory };
+
     fn from(_: AllocFailed<T>) -> LookFault {
         LookFault::Memory
     }

@@ -1,17 +1,23 @@
 //! Pages of an inbox.
-ghost use Rattle.std.specs.Prelude.{◌≡◌, ◌<◌, ◌+◌, ◌^◌, ℕ, IfOk, Some, drop, length, option_map, take};
+ghost use Rattle.std.specs.Prelude.{◌≡◌, ◌<◌, ◌+◌, ◌-◌, ◌^◌, ◌≤◌, ℕ, IfErr, IfOk, Some, drop, length, option_map, take};
 ghost use Rattle.std.specs.List.{find};
 ghost use Rattle.dip_board_rows.specs.Boards.{power_name};
+ghost use Rattle.dip_chart.specs.Charts.{Chart};
 ghost use Rattle.dip_finding.specs.Asked.{SelectsOn, page_in};
+ghost use Rattle.dip_finding.specs.Faults.{IsFromOutside};
+ghost use Rattle.dip_finding.specs.Readable.{IsItemReadable};
 ghost use Rattle.dip_finding.specs.Shown.{shown_item};
+ghost use Rattle.dip_legible.specs.Legible.{AreOurs};
 ghost use Rattle.dip_records.specs.Rows as rows;
-ghost use Rattle.dip_rows.specs.Calls.{IsKept, Selects, is_honest, tables_in};
+ghost use Rattle.dip_statements.specs.Faults.{IsOutside};
+ghost use Rattle.dip_rows.specs.Calls.{IsKept, Selects, does_show, is_honest, tables_in};
 ghost use Rattle.dip_rows.specs.Showing.{is_item};
 ghost use Rattle.dip_tables.specs.Counting.{counted, item_numbers};
 ghost use Rattle.dip_tables.specs.Reading.{item_of, items_of};
 ghost use Rattle.dip_tables.specs.Tables.{is_seat};
 
 use crate::faults::LookFault;
+use crate::values::{number_at, text_at};
 use dip_columns::{ItemColumns, read_item};
 use dip_map::Map;
 use dip_names::Power;
@@ -23,18 +29,20 @@ use std::alloc::Global;
 use std::rc::Rc;
 
 fn columns_of(row: &Row) -> Result<ItemColumns, Error>
-    ensures { IfOk result (λ c. c ≡ shown_item row.now) }
+    ensures value { IfOk result (λ c. c ≡ shown_item row.now) }
+    ensures own { IsItemReadable row.now → IfErr result IsOutside }
 {
     Ok(ItemColumns {
-        grey: row.get(0)?,
-        writer: row.get(1)?,
-        addressees: row.get(2)?,
-        body: row.get(3)?,
+        grey: number_at(row, 0)?,
+        writer: text_at(row, 1)?,
+        addressees: text_at(row, 2)?,
+        body: text_at(row, 3)?,
     })
 }
 
 fn item_in(alloc: Global, row: &Row) -> Result<Rc<Item>, LookFault>
-    ensures { IfOk result (λ i. rows.item i.value ≡ item_of (shown_item row.now)) }
+    ensures value { IfOk result (λ i. rows.item i.value ≡ item_of (shown_item row.now)) }
+    ensures own { IsItemReadable row.now → IfErr result IsFromOutside }
 {
     let item = read_item(alloc, columns_of(row)?)?;
     Ok(Rc::new(alloc, item)?)
@@ -52,6 +60,10 @@ fn item_at<S: Alter>(
         Some (rows.item i.value) ≡ option_map item_of
         (find (is_item game.now power.now number) (tables_in S.Store conn.old).boxes)) }
     ensures selects { Selects S.Store conn.old conn.new result }
+    ensures own { IsKept S.Store conn.old → does_show S.Store conn.old → is_honest S.Store conn.new
+        → (m : Chart) → AreOurs m (tables_in S.Store conn.old) → (n : ℕ)
+        → item_numbers (tables_in S.Store conn.old).boxes game.now power.now ≡ counted n
+        → 0 < number → number ≤ n → IfErr result IsFromOutside }
 {
     let Some(row) = find_item(conn, game, power, number)? else {
         return Err(LookFault::Foreign);
@@ -74,6 +86,10 @@ fn items_behind<S: Alter>(
         → rows.items v.items ≡ take many (drop skipped
         (items_of (tables_in S.Store conn.old).boxes game.now power.now))) }
     ensures selects { SelectsOn S.Store conn.old conn.new result }
+    ensures own { IsKept S.Store conn.old → does_show S.Store conn.old → is_honest S.Store conn.new
+        → (m : Chart) → AreOurs m (tables_in S.Store conn.old) → (n : ℕ)
+        → item_numbers (tables_in S.Store conn.old).boxes game.now power.now ≡ counted n
+        → many ≤ n - skipped → IfErr result IsFromOutside }
 {
     let mut items = Vec::new(alloc);
     for index in 0..many {
@@ -101,12 +117,14 @@ pub fn look_items<S: Alter>(
         ≡ option_map (page_in (tables_in S.Store conn.old).boxes first most)
         (find (is_seat game.now (power_name map.now power)) (tables_in S.Store conn.old).seats)) }
     ensures selects { Selects S.Store conn.old conn.new result }
+    ensures own { IsKept S.Store conn.old → does_show S.Store conn.old → is_honest S.Store conn.new
+        → AreOurs map.now (tables_in S.Store conn.old) → IfErr result IsFromOutside }
 {
     let name = map.power_name(power);
     let Some(row) = find_seat(conn, game, name)? else {
         return Ok(None);
     };
-    let count: u32 = row.get(6)?;
+    let count = number_at(&row, 6)?;
     let skipped = first.saturating_sub(1);
     let many = most.min(count.saturating_sub(skipped));
     page_is_found();

@@ -10,6 +10,7 @@ mod letters;
 mod own;
 mod papers;
 mod public;
+mod values;
 mod whole;
 
 pub use desk::look_desk;

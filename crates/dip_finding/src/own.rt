@@ -1,15 +1,19 @@
 //! A seat's own part.
-ghost use Rattle.std.specs.Prelude.{◌≡◌, ◌<◌, IfOk, length, map as each, option_map};
-ghost use Rattle.std.specs.List.{find};
+ghost use Rattle.std.specs.Prelude.{◌≡◌, ◌<◌, IfErr, IfOk, length, map as each, option_map};
+ghost use Rattle.std.specs.List.{AllByRecursion, find};
 ghost use Rattle.dip_board_rows.specs.Boards.{power_name};
+ghost use Rattle.dip_finding.specs.Faults.{IsFromOutside};
+ghost use Rattle.dip_finding.specs.Readable.{IsOrderReadable, IsSeatReadable};
 ghost use Rattle.dip_finding.specs.Shown.{shown_order, shown_own};
+ghost use Rattle.dip_legible.specs.Legible.{AreOurs};
 ghost use Rattle.dip_records.specs.Rows as rows;
-ghost use Rattle.dip_rows.specs.Calls.{IsKept, Selects, is_honest, tables_in};
+ghost use Rattle.dip_rows.specs.Calls.{IsKept, Selects, does_show, is_honest, tables_in};
 ghost use Rattle.dip_tables.specs.Reading.{own_of, standing_of};
 ghost use Rattle.dip_tables.specs.Tables.{is_seat};
 
 use crate::faults::LookFault;
 use crate::letters::{digest_in, kept_in};
+use crate::values::{number_at, text_at};
 use dip_map::Map;
 use dip_names::Power;
 use dip_reading::{find_seat, list_orders};
@@ -18,21 +22,25 @@ use sqlite::{Alter, Connection, Row};
 use std::alloc::Global;
 
 fn standing_in(map: &Map, row: &Row) -> Result<Standing, LookFault>
-    ensures { IfOk result (λ s. rows.standing s ≡ standing_of map.now (shown_order row.now)) }
+    ensures value { IfOk result (λ s.
+        rows.standing s ≡ standing_of map.now (shown_order row.now)) }
+    ensures own { IsOrderReadable map.now row.now → IfErr result IsFromOutside }
 {
-    let province: String = row.get(0)?;
+    map.facts();
+    let province = text_at(row, 0)?;
     let Some(prov) = map.prov(province.as_bytes()) else {
         return Err(LookFault::Foreign);
     };
     Ok(Standing {
         prov,
-        line: row.get(1)?,
+        line: text_at(row, 1)?,
     })
 }
 
 fn standings_in(alloc: Global, map: &Map, orders: &[Row]) -> Result<Vec<Standing>, LookFault>
-    ensures { IfOk result (λ v. rows.standings v.items
+    ensures value { IfOk result (λ v. rows.standings v.items
         ≡ each (λ r. standing_of map.now (shown_order r)) orders.now) }
+    ensures own { AllByRecursion (IsOrderReadable map.now) orders.now → IfErr result IsFromOutside }
 {
     let mut standings = Vec::new(alloc);
     for order in orders {
@@ -51,17 +59,19 @@ pub(crate) fn own_in(
     orders: &[Row],
 ) -> Result<Own, LookFault>
     requires { at < 2 }
-    ensures { IfOk result (λ o. rows.own o ≡ shown_own map.now power at row.now orders.now) }
+    ensures value { IfOk result (λ o. rows.own o ≡ shown_own map.now power at row.now orders.now) }
+    ensures own { IsSeatReadable row.now at → AllByRecursion (IsOrderReadable map.now) orders.now
+        → IfErr result IsFromOutside }
 {
-    let vote: u32 = row.get(at + 1)?;
+    let vote = number_at(row, at + 1)?;
     Ok(Own {
         power,
         digest: digest_in(row, at)?,
         vote: vote == 1,
         pending: standings_in(alloc, map, orders)?,
         kept: kept_in(alloc, row, at + 2)?,
-        sent: row.get(at + 5)?,
-        items: row.get(at + 6)?,
+        sent: number_at(row, at + 5)?,
+        items: number_at(row, at + 6)?,
     })
 }
 
@@ -82,6 +92,8 @@ pub fn look_own<S: Alter>(
         ≡ option_map (own_of map.now (tables_in S.Store conn.old).pending)
         (find (is_seat game.now (power_name map.now power)) (tables_in S.Store conn.old).seats)) }
     ensures selects { Selects S.Store conn.old conn.new result }
+    ensures own { IsKept S.Store conn.old → does_show S.Store conn.old → is_honest S.Store conn.new
+        → AreOurs map.now (tables_in S.Store conn.old) → IfErr result IsFromOutside }
 {
     map.facts();
     let name = map.power_name(power);

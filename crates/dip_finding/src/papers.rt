@@ -1,10 +1,14 @@
 //! Papers.
-ghost use Rattle.std.specs.Prelude.{◌≡◌, IfOk, option_map, string_bytes};
+ghost use Rattle.std.specs.Prelude.{◌≡◌, IfErr, IfOk, option_map, string_bytes};
 ghost use Rattle.std.specs.List.{find};
-ghost use Rattle.dip_rows.specs.Calls.{IsKept, Selects, is_honest, tables_in};
+ghost use Rattle.dip_chart.specs.Charts.{Chart};
+ghost use Rattle.dip_finding.specs.Faults.{IsFromOutside};
+ghost use Rattle.dip_legible.specs.Legible.{AreOurs};
+ghost use Rattle.dip_rows.specs.Calls.{IsKept, Selects, does_show, is_honest, tables_in};
 ghost use Rattle.dip_rows.specs.Showing.{is_numbered};
 
 use crate::faults::LookFault;
+use crate::values::text_at;
 use dip_reading::find_paper;
 use sqlite::{Alter, Connection};
 
@@ -21,10 +25,12 @@ pub fn look_paper<S: Alter>(
         option_map string_bytes o ≡ option_map (λ p. p.body)
         (find (is_numbered game.now number) (tables_in S.Store conn.old).papers)) }
     ensures selects { Selects S.Store conn.old conn.new result }
+    ensures own { IsKept S.Store conn.old → does_show S.Store conn.old → is_honest S.Store conn.new
+        → (m : Chart) → AreOurs m (tables_in S.Store conn.old) → IfErr result IsFromOutside }
 {
     let Some(row) = find_paper(conn, game, number)? else {
         return Ok(None);
     };
-    let body: String = row.get(0)?;
+    let body = text_at(&row, 0)?;
     Ok(Some(body))
 }

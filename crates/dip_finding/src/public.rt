@@ -1,15 +1,20 @@
 //! The public part of a game.
-ghost use Rattle.std.specs.Prelude.{◌≡◌, IfOk, option_map};
+ghost use Rattle.std.specs.Prelude.{◌≡◌, IfErr, IfOk, option_map};
 ghost use Rattle.std.specs.List.{find};
 ghost use Rattle.sqlite.specs.Order.{bytes, column};
+ghost use Rattle.dip_columns.specs.Columns.{IsStatusText};
+ghost use Rattle.dip_finding.specs.Faults.{IsFromOutside};
+ghost use Rattle.dip_finding.specs.Readable.{HasText, IsGameReadable};
 ghost use Rattle.dip_finding.specs.Shown.{shown_public};
+ghost use Rattle.dip_legible.specs.Legible.{AreOurs};
 ghost use Rattle.dip_records.specs.Rows as rows;
-ghost use Rattle.dip_rows.specs.Calls.{IsKept, Selects, is_honest, tables_in};
+ghost use Rattle.dip_rows.specs.Calls.{IsKept, Selects, does_show, is_honest, tables_in};
 ghost use Rattle.dip_tables.specs.Reading.{public_of, status_of};
 ghost use Rattle.dip_tables.specs.Tables.{is_named};
 
 use crate::board::board_in;
 use crate::faults::LookFault;
+use crate::values::{number_at, text_at, tick_at};
 use dip_columns::read_status;
 use dip_map::Map;
 use dip_reading::{find_game, list_centres, list_units};
@@ -18,9 +23,12 @@ use sqlite::{Alter, Connection, Row};
 use std::alloc::Global;
 
 fn status_in(alloc: Global, map: &Map, row: &Row) -> Result<Status, LookFault>
-    ensures { IfOk result (λ s. rows.status s ≡ status_of map.now (bytes (column row.now 2))) }
+    ensures value { IfOk result (λ s.
+        rows.status s ≡ status_of map.now (bytes (column row.now 2))) }
+    ensures own { HasText row.now 2 → IsStatusText map.now (bytes (column row.now 2))
+        → IfErr result IsFromOutside }
 {
-    let text: String = row.get(2)?;
+    let text = text_at(row, 2)?;
     match read_status(alloc, map, text.as_str())? {
         Some(status) => Ok(status),
         None => Err(LookFault::Foreign),
@@ -36,18 +44,20 @@ fn public_in(
     units: &[Row],
     centres: &[Row],
 ) -> Result<Public, LookFault>
-    ensures { IfOk result (λ p.
+    ensures value { IfOk result (λ p.
         rows.public p ≡ shown_public map.now game.now row.now units.now centres.now) }
+    ensures own { IsGameReadable map.now row.now units.now centres.now
+        → IfErr result IsFromOutside }
 {
-    let grey: u32 = row.get(5)?;
+    let grey = number_at(row, 5)?;
     Ok(Public {
         game: String::from_str(alloc, game)?,
         board: board_in(alloc, map, row, units, centres)?,
         status: status_in(alloc, map, row)?,
-        due: row.get(3)?,
-        period: row.get(4)?,
+        due: tick_at(row, 3)?,
+        period: number_at(row, 4)?,
         grey: grey == 1,
-        papers: row.get(6)?,
+        papers: number_at(row, 6)?,
     })
 }
 
@@ -66,6 +76,8 @@ pub fn look_public<S: Alter>(
         (public_of map.now (tables_in S.Store conn.old).units (tables_in S.Store conn.old).centres)
         (find (is_named game.now) (tables_in S.Store conn.old).games)) }
     ensures selects { Selects S.Store conn.old conn.new result }
+    ensures own { IsKept S.Store conn.old → does_show S.Store conn.old → is_honest S.Store conn.new
+        → AreOurs map.now (tables_in S.Store conn.old) → IfErr result IsFromOutside }
 {
     let Some(row) = find_game(conn, game)? else {
         return Ok(None);

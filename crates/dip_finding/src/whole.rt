@@ -1,15 +1,19 @@
 //! A game with the own parts of its seats.
-ghost use Rattle.std.specs.Prelude.{◌≡◌, IfOk, map as each, option_map};
-ghost use Rattle.std.specs.List.{find};
+ghost use Rattle.std.specs.Prelude.{◌≡◌, IfErr, IfOk, map as each, option_map};
+ghost use Rattle.std.specs.List.{AllByRecursion, find};
 ghost use Rattle.dip_finding.specs.Asked.{SelectsOn, whole_in};
+ghost use Rattle.dip_finding.specs.Faults.{IsFromOutside};
+ghost use Rattle.dip_finding.specs.Readable.{IsListedReadable};
 ghost use Rattle.dip_finding.specs.Shown.{listed_own};
+ghost use Rattle.dip_legible.specs.Legible.{AreOurs};
 ghost use Rattle.dip_records.specs.Rows as rows;
-ghost use Rattle.dip_rows.specs.Calls.{IsKept, Selects, is_honest, tables_in};
+ghost use Rattle.dip_rows.specs.Calls.{IsKept, Selects, does_show, is_honest, tables_in};
 ghost use Rattle.dip_tables.specs.Tables.{is_named};
 
 use crate::faults::LookFault;
 use crate::own::own_in;
 use crate::public::look_public;
+use crate::values::text_at;
 use dip_map::Map;
 use dip_reading::{list_orders, list_seats};
 use dip_records::{Own, Whole};
@@ -28,8 +32,12 @@ fn own_of<S: Alter>(
         rows.own o
         ≡ listed_own map.now (tables_in S.Store conn.old).pending game.now row.now) }
     ensures selects { Selects S.Store conn.old conn.new result }
+    ensures own { IsKept S.Store conn.old → does_show S.Store conn.old → is_honest S.Store conn.new
+        → AreOurs map.now (tables_in S.Store conn.old) → IsListedReadable map.now row.now
+        → IfErr result IsFromOutside }
 {
-    let name: String = row.get(0)?;
+    map.facts();
+    let name = text_at(row, 0)?;
     let Some(power) = map.power(name.as_str()) else {
         return Err(LookFault::Foreign);
     };
@@ -48,6 +56,10 @@ fn owns_of<S: Alter>(
         each rows.own v.items
         ≡ each (listed_own map.now (tables_in S.Store conn.old).pending game.now) seats.now) }
     ensures selects { SelectsOn S.Store conn.old conn.new result }
+    ensures own { IsKept S.Store conn.old → does_show S.Store conn.old → is_honest S.Store conn.new
+        → AreOurs map.now (tables_in S.Store conn.old)
+        → AllByRecursion (IsListedReadable map.now) seats.now
+        → IfErr result IsFromOutside }
 {
     let mut owns = Vec::new(alloc);
     for seat in seats {
@@ -71,6 +83,8 @@ pub fn look_whole<S: Alter>(
         option_map rows.whole o ≡ option_map (whole_in map.now (tables_in S.Store conn.old))
         (find (is_named game.now) (tables_in S.Store conn.old).games)) }
     ensures selects { Selects S.Store conn.old conn.new result }
+    ensures own { IsKept S.Store conn.old → does_show S.Store conn.old → is_honest S.Store conn.new
+        → AreOurs map.now (tables_in S.Store conn.old) → IfErr result IsFromOutside }
 {
     let Some(public) = look_public(conn, alloc, map, game)? else {
         return Ok(None);

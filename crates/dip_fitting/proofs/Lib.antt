@@ -1,1 +1,4 @@
+pub mod Apart
+pub mod New
+pub mod Place
 pub mod Writable

@@ -3,4 +3,4 @@
 
 mod laws;
 
-pub use laws::what_fits_can_be_written;
+pub use laws::{what_fits_can_be_written, what_fits_finds_place};

@@ -1,3 +1,4 @@
+pub mod Typed
 pub mod Alone
 pub mod Asked
 pub mod Leading

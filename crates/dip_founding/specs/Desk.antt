@@ -1,5 +1,5 @@
 -- What the master's row says to one who opens the store.
-use Rattle.std.specs.Prelude.{◌≡◌, ℕ, List, Some}
+use Rattle.std.specs.Prelude.{◌≡◌, ◌<◌, ◌^◌, ℕ, List, length, Some}
 use Rattle.std.specs.List.{find}
 use Rattle.sqlite.specs.Order.{Row, column, bytes}
 use Rattle.dip_tables.specs.Tables.{DeskRow, Tables}
@@ -18,6 +18,10 @@ shown_columns r = record {
   digest = bytes (column r 2);
   last = number_in (column r 3);
 }
+
+-- the version of the master's row has 32 bits, and its sum of a map 32 bytes
+abbrev pub IsMarked : DeskRow → Type 0
+IsMarked d = (d.version < 2 ^ 32) × (length d.map ≡ 32)
 
 -- the master's row is of this version, and says this map
 pub record DeskSays (version : ℕ) (map_sum : List ℕ) (t : Tables) : Type 0 where

@@ -1,14 +1,22 @@
 //! The master's row, as one who opens the store reads it.
-ghost use Rattle.std.specs.Prelude.{◌≡◌, IfOk, option_map};
-ghost use Rattle.std.specs.List.{find};
+ghost use Rattle.std.specs.Prelude.{◌≡◌, ◌<◌, ◌^◌, ℕ, IfErr, IfOk, List, length, option_map, pos};
+ghost use Rattle.std.specs.List.{AllByRecursion, find};
+ghost use Rattle.sqlite.specs.declared.types.Value.TheVariants.{Int, Blob as Bytes};
 ghost use Rattle.sqlite.specs.Order.{bytes, column};
-ghost use Rattle.dip_founding.specs.Desk.{columns_of, shown_columns};
-ghost use Rattle.dip_rows.specs.Calls.{IsKept, Selects, is_honest, tables_in};
+ghost use Rattle.dip_chart.specs.Charts.{Chart};
+ghost use Rattle.dip_founding.specs.Desk.{IsMarked, columns_of, shown_columns};
+ghost use Rattle.dip_founding.specs.Faults.{IsFromOutside};
+ghost use Rattle.dip_legible.specs.Legible.{AreOurs};
+ghost use Rattle.dip_rows.specs.Calls.{IsKept, Selects, does_show, is_honest, tables_in};
+ghost use Rattle.dip_rows.specs.Showing.{show_desk};
 ghost use Rattle.dip_rows.specs.Statements.{is_first};
+ghost use Rattle.dip_statements.specs.Faults.{IsOutside};
+ghost use Rattle.dip_tables.specs.Tables.{DeskRow};
+ghost use Rattle.dip_tables.specs.Written.{IsDeskWritten};
 
 use crate::faults::DeskFault;
 use dip_reading::find_desk;
-use sqlite::{Alter, Connection, Row};
+use sqlite::{Alter, Connection, Error, Row};
 
 /// What the master's row says: the version of the tables, the SHA-256 of the map's text, the master's digest, and the number of the
 /// master's last letter, 0 where there is none.
@@ -20,11 +28,30 @@ pub struct DeskColumns {
     pub last: u32,
 }
 
+/// A number of 32 bits.
+fn number_at(row: &Row, at: usize) -> Result<u32, Error>
+    ensures value { IfOk result (λ n. column row.now at ≡ Int (pos n)) }
+    ensures own { (n : ℕ) → at < length row.now → column row.now at ≡ Int (pos n) → n < 2 ^ 32
+        → IfErr result IsOutside }
+{
+    row.get(at)
+}
+
+fn bytes_at(row: &Row, at: usize) -> Result<Vec<u8>, Error>
+    ensures value { IfOk result (λ v. column row.now at ≡ Bytes v.items) }
+    ensures own { (b : List ℕ) → at < length row.now → column row.now at ≡ Bytes b
+        → IfErr result IsOutside }
+{
+    row.get(at)
+}
+
 /// The 32 bytes of a column.
 fn digest_in(row: &Row, at: usize) -> Result<[u8; 32], DeskFault>
-    ensures { IfOk result (λ d. d ≡ bytes (column row.now at)) }
+    ensures value { IfOk result (λ d. d ≡ bytes (column row.now at)) }
+    ensures own { (b : List ℕ) → at < length row.now → column row.now at ≡ Bytes b
+        → length b ≡ 32 → IfErr result IsFromOutside }
 {
-    let found: Vec<u8> = row.get(at)?;
+    let found = bytes_at(row, at)?;
     match <[u8; 32]>::try_from(found.as_slice()) {
         Ok(digest) => Ok(digest),
         Err(_) => Err(DeskFault::Foreign),
@@ -32,13 +59,15 @@ fn digest_in(row: &Row, at: usize) -> Result<[u8; 32], DeskFault>
 }
 
 fn columns_in(row: &Row) -> Result<DeskColumns, DeskFault>
-    ensures { IfOk result (λ d. d ≡ shown_columns row.now) }
+    ensures value { IfOk result (λ d. d ≡ shown_columns row.now) }
+    ensures own { (d : DeskRow) → row.now ≡ show_desk d → IsMarked d → IsDeskWritten d
+        → IfErr result IsFromOutside }
 {
     Ok(DeskColumns {
-        version: row.get(0)?,
+        version: number_at(row, 0)?,
         map_sum: digest_in(row, 1)?,
         digest: digest_in(row, 2)?,
-        last: row.get(3)?,
+        last: number_at(row, 3)?,
     })
 }
 
@@ -50,6 +79,9 @@ pub fn read_desk<S: Alter>(conn: &mut Connection<S>) -> Result<Option<DeskColumn
     ensures value { IsKept S.Store conn.old → is_honest S.Store conn.new → IfOk result (λ o. o
         ≡ option_map columns_of (find is_first (tables_in S.Store conn.old).desk)) }
     ensures selects { Selects S.Store conn.old conn.new result }
+    ensures own { IsKept S.Store conn.old → does_show S.Store conn.old → is_honest S.Store conn.new
+        → (m : Chart) → AreOurs m (tables_in S.Store conn.old)
+        → AllByRecursion IsMarked (tables_in S.Store conn.old).desk → IfErr result IsFromOutside }
 {
     let Some(row) = find_desk(conn)? else {
         return Ok(None);

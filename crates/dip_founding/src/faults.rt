@@ -1,4 +1,6 @@
 //! Why the master's row isn't read.
+ghost use Rattle.std.specs.Prelude.{◌≡◌};
+
 use sqlite::Error;
 
 /// Why the master's row isn't read.
@@ -11,6 +13,10 @@ pub enum DeskFault {
 }
 
 impl From<Error> for DeskFault {
+    ghost use Rattle.dip_founding.specs.declared.faults.DeskFault.TheVariants.{Query};
+
+    ghost from_gives = { λ error fault. fault ≡ Query error };
+
     fn from(error: Error) -> DeskFault {
         DeskFault::Query(error)
     }

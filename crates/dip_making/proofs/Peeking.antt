@@ -1,9 +1,11 @@
 -- What is read, or left alone, one call behind another.
-use Rattle.std.proofs.Common.{inl, inr, Ok, Err, Result, refl, sym, subst, ◌∙◌}
+use Rattle.std.proofs.Common.{◌≡◌, inl, inr, Ok, Err, Result, refl, sym, ap, subst, ◌∙◌}
 use Rattle.std.specs.Result.{IsErr}
 use Rattle.sqlite.specs.Store.{Ghosts}
+use Rattle.sqlite.specs.Effect.{Database}
 use Rattle.sqlite.specs.Held.{Held}
-use Rattle.dip_rows.specs.Calls.{Selects}
+use Rattle.dip_rows.specs.Calls.{IsKept, Selects, does_show, is_honest, tables_in}
+use Rattle.dip_rows.specs.Rows.{tables_of}
 use Rattle.dip_rows.proofs.Parts.{fails, went}
 use Rattle.dip_rows.proofs.Selecting.{selects_as, selects_fails, selects_then}
 use Rattle.dip_making.specs.Counts.{Peeks}
@@ -37,3 +39,16 @@ module _ {S : Type 0} (g : Ghosts S) where
   peeks_all {X} {E} {Y} {F} {Z} {G} {W} {H} a b c d x y z w p q r =
       peeks_as {X = Z} {E = G} {Y = W} {F = H} a d z (went W H w)
       (peeks_then {X = Y} {E = F} {Y = Z} {F = G} a c d y (went Z G z) (peeks_then {X = X} {E = E} {Y = Y} {F = F} a b c x (went Y F y) p q) r)
+
+  -- what is kept, and what is shown, behind a call that reads
+  pub peeks_fair : {X E : Type 0} (a b : Held S) (r : Result X E) → Peeks g a b r → is_honest g b → is_honest g a
+  peeks_fair a b r (inl s) clean = s.fair clean
+  peeks_fair a b r (inr same) clean = subst (λ h. is_honest g h) same clean
+
+  pub peeks_kept : {X E : Type 0} (a b : Held S) (x : X) → Peeks g a b (went X E x) → IsKept g a → is_honest g b → IsKept g b × (tables_in g b ≡ tables_in g a)
+  peeks_kept a b x (inl s) kept clean = let up = s.ok kept clean in (s.kept kept up, ap (λ (d : Database). tables_of d.trees) (s.same kept up))
+  peeks_kept a b x (inr same) kept clean = (subst (λ h. IsKept g h) (sym same) kept, ap (λ h. tables_in g h) same)
+
+  pub peeks_shows : {X E : Type 0} (a b : Held S) (x : X) → Peeks g a b (went X E x) → IsKept g a → does_show g a → is_honest g b → does_show g b
+  peeks_shows a b x (inl s) kept shows clean = s.ok kept clean
+  peeks_shows a b x (inr same) kept shows clean = subst (λ h. does_show g h) (sym same) shows

@@ -1,3 +1,4 @@
 pub mod Counts
+pub mod Failing
 pub mod Laws
 pub mod Making

@@ -4,11 +4,12 @@ use Rattle.sqlite.specs.Tree.{Trees}
 use Rattle.sqlite.specs.Store.{Ghosts}
 use Rattle.sqlite.specs.Held.{Held, state}
 use Rattle.dip_chart.specs.Charts.{Chart}
-use Rattle.dip_machine.specs.State.{Effect, Nothing, Pending, Votes, Delivers, Opens, Publishes, Seats, Change}
-use Rattle.dip_tables.specs.Changing.{opening, ordering, publishing, replacing}
+use Rattle.dip_machine.specs.State.{Author, Effect, Nothing, Pending, Votes, Delivers, Opens, Publishes, Seats, Change}
+use Rattle.dip_tables.specs.Changing.{opening, ordering, ordering_by, publishing, replacing}
 use Rattle.dip_tables.specs.Tables.{Tables}
 use Rattle.dip_rows.specs.Calls.{IsKept, Lands, does_show, is_honest, tables_in}
 use Rattle.dip_rows.specs.Good.{IsGood}
+use Rattle.dip_refusals.specs.Keys.{Differ, same_order}
 use Rattle.dip_changing.specs.Delivering.{delivering_all}
 use Rattle.dip_changing.specs.Noting.{noting_sent}
 use Rattle.dip_changing.specs.declared.delivering.Reader.{Reader}
@@ -22,6 +23,16 @@ reaching_all rs m name (Delivers readers item) t = delivering_all m name item rs
 reaching_all rs m name (Opens public paper seats) t = opening m public paper seats t
 reaching_all rs m name (Publishes public paper played) t = publishing m name public paper played t
 reaching_all rs m name (Seats seat) t = replacing m name seat t
+
+-- where the effect gives its author orders, no two of them agree on their key
+abbrev pub OrdersDiffer : Chart → Author → List ℕ → Effect → Tables → Type 0
+OrdersDiffer m who name Nothing t = Unit {0}
+OrdersDiffer m who name (Pending orders) t = Differ same_order (ordering_by m who name orders t).pending
+OrdersDiffer m who name (Votes draw) t = Unit {0}
+OrdersDiffer m who name (Delivers readers item) t = Unit {0}
+OrdersDiffer m who name (Opens public paper seats) t = Unit {0}
+OrdersDiffer m who name (Publishes public paper played) t = Unit {0}
+OrdersDiffer m who name (Seats seat) t = Unit {0}
 
 -- a change: its author's row, which has sent so much press, the author's orders, and the effect on the game
 abbrev pub changing_sent : ℕ → List Reader → Chart → Change → Tables → Tables

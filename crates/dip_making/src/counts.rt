@@ -1,14 +1,16 @@
 //! What is counted before a change is made.
-ghost use Rattle.std.specs.Prelude.{◌≡◌, ◌<◌, ◌+◌, All, IfOk, OnOk, string_bytes, true};
+ghost use Rattle.std.specs.Prelude.{◌≡◌, ◌<◌, ◌+◌, ◌^◌, All, IfErr, IfOk, OnOk, string_bytes, true};
 ghost use Rattle.std.specs.List.{AllByRecursion};
 ghost use Rattle.dip_machine.specs.Rows as machine;
 ghost use Rattle.dip_machine.specs.State.{Seat};
 ghost use Rattle.dip_tables.specs.Columns.{FitsColumns};
 ghost use Rattle.dip_tables.specs.Counting.{CountsOn};
 ghost use Rattle.dip_tables.specs.Tables.{is_named};
-ghost use Rattle.dip_rows.specs.Calls.{IsKept, Selects, is_honest, tables_in};
+ghost use Rattle.dip_legible.specs.Legible.{AreOurs, IsSeatLegible};
+ghost use Rattle.dip_rows.specs.Calls.{IsKept, Selects, does_show, is_honest, tables_in};
 ghost use Rattle.dip_changing.specs.Noting.{IsNext};
 ghost use Rattle.dip_making.specs.Counts.{AreReaders, Counts, CountsSent, Peeks};
+ghost use Rattle.dip_making.specs.Failing.{FailsFor, HasPlace, InboxesHaveRoom, MaySend, PressHasRoom};
 
 use crate::faults::MakeFault;
 use crate::readers::find_readers;
@@ -37,6 +39,11 @@ fn check_number<S: Alter>(
         (AllByRecursion (λ g. is_named game.now g ≡ true → papers ≡ g.papers + 1)
         (tables_in S.Store conn.old).games) }
     ensures selects { Selects S.Store conn.old conn.new result }
+    ensures fails { IsKept S.Store conn.old → does_show S.Store conn.old
+        → is_honest S.Store conn.new
+        → AllByRecursion (λ g. g.papers < 2 ^ 32) (tables_in S.Store conn.old).games
+        → IfErr result (FailsFor (¬ AllByRecursion (λ g. is_named game.now g ≡ true
+        → papers ≡ g.papers + 1) (tables_in S.Store conn.old).games)) }
 {
     let Some(row) = count_papers(conn, game)? else {
         return Ok(());
@@ -58,6 +65,11 @@ fn check_paper<S: Alter>(
     ensures value { IsKept S.Store conn.old → is_honest S.Store conn.new → OnOk result
         (CountsOn game.now (machine.effect effect.now) (tables_in S.Store conn.old).games) }
     ensures peeks { Peeks S.Store conn.old conn.new result }
+    ensures fails { IsKept S.Store conn.old → does_show S.Store conn.old
+        → is_honest S.Store conn.new
+        → AllByRecursion (λ g. g.papers < 2 ^ 32) (tables_in S.Store conn.old).games
+        → IfErr result (FailsFor (¬ CountsOn game.now (machine.effect effect.now)
+        (tables_in S.Store conn.old).games)) }
 {
     match effect {
         Effect::Publishes { public, .. } => check_number(conn, game, public.papers),
@@ -75,6 +87,13 @@ fn next_of<S: Alter>(conn: &mut Connection<S>, game: &str, power: &str) -> Resul
     ensures value { IsKept S.Store conn.old → is_honest S.Store conn.new → IfOk result (λ n.
         AllByRecursion (IsNext n game.now power.now) (tables_in S.Store conn.old).seats) }
     ensures selects { Selects S.Store conn.old conn.new result }
+    ensures room { IsKept S.Store conn.old → is_honest S.Store conn.new → OnOk result
+        (AllByRecursion (MaySend game.now power.now) (tables_in S.Store conn.old).seats) }
+    ensures fails { IsKept S.Store conn.old → does_show S.Store conn.old
+        → is_honest S.Store conn.new
+        → AllByRecursion IsSeatLegible (tables_in S.Store conn.old).seats
+        → IfErr result (FailsFor (¬ AllByRecursion (MaySend game.now power.now)
+        (tables_in S.Store conn.old).seats)) }
 {
     let Some(row) = count_sent(conn, game, power)? else {
         return Ok(0);
@@ -98,6 +117,14 @@ fn count_of<S: Alter>(
         CountsSent n map.now (Seat power) game.now (machine.effect effect.now)
         (tables_in S.Store conn.old)) }
     ensures peeks { Peeks S.Store conn.old conn.new result }
+    ensures room { IsKept S.Store conn.old → is_honest S.Store conn.new → OnOk result
+        (PressHasRoom map.now (Seat power) game.now (machine.effect effect.now)
+        (tables_in S.Store conn.old).seats) }
+    ensures fails { IsKept S.Store conn.old → does_show S.Store conn.old
+        → is_honest S.Store conn.new
+        → AllByRecursion IsSeatLegible (tables_in S.Store conn.old).seats
+        → IfErr result (FailsFor (¬ PressHasRoom map.now (Seat power) game.now
+        (machine.effect effect.now) (tables_in S.Store conn.old).seats)) }
 {
     match effect {
         Effect::Delivers { .. } => next_of(conn, game, map.power_name(power)),
@@ -122,6 +149,14 @@ fn count_press<S: Alter>(
         CountsSent n map.now (machine.author author) game.now (machine.effect effect.now)
         (tables_in S.Store conn.old)) }
     ensures peeks { Peeks S.Store conn.old conn.new result }
+    ensures room { IsKept S.Store conn.old → is_honest S.Store conn.new → OnOk result
+        (PressHasRoom map.now (machine.author author) game.now (machine.effect effect.now)
+        (tables_in S.Store conn.old).seats) }
+    ensures fails { IsKept S.Store conn.old → does_show S.Store conn.old
+        → is_honest S.Store conn.new
+        → AllByRecursion IsSeatLegible (tables_in S.Store conn.old).seats
+        → IfErr result (FailsFor (¬ PressHasRoom map.now (machine.author author) game.now
+        (machine.effect effect.now) (tables_in S.Store conn.old).seats)) }
 {
     match author {
         Author::Nobody => Ok(0),
@@ -143,6 +178,10 @@ fn readers_of<S: Alter>(
         AreReaders map.now game.now (machine.effect effect.now)
         (tables_in S.Store conn.old).seats v.items) }
     ensures peeks { Peeks S.Store conn.old conn.new result }
+    ensures fails { IsKept S.Store conn.old → does_show S.Store conn.old
+        → is_honest S.Store conn.new → AreOurs map.now (tables_in S.Store conn.old)
+        → IfErr result (FailsFor (¬ InboxesHaveRoom map.now game.now (machine.effect effect.now)
+        (tables_in S.Store conn.old).seats)) }
 {
     match effect {
         Effect::Delivers { readers, .. } => {
@@ -170,6 +209,12 @@ pub(crate) fn count<S: Alter>(
         Counts n.sent n.readers.items map.now (machine.change change.now)
         (tables_in S.Store conn.old)) }
     ensures peeks { Peeks S.Store conn.old conn.new result }
+    ensures place { IsKept S.Store conn.old → is_honest S.Store conn.new → OnOk result
+        (HasPlace map.now (machine.change change.now) (tables_in S.Store conn.old)) }
+    ensures fails { IsKept S.Store conn.old → does_show S.Store conn.old
+        → is_honest S.Store conn.new → AreOurs map.now (tables_in S.Store conn.old)
+        → IfErr result (FailsFor (¬ HasPlace map.now (machine.change change.now)
+        (tables_in S.Store conn.old))) }
 {
     let game = change.game.as_str();
     check_paper(conn, game, &change.effect)?;

@@ -1,9 +1,10 @@
 //! A change with all that is counted before it.
-ghost use Rattle.std.specs.Prelude.{◌≡◌, OnOk};
+ghost use Rattle.std.specs.Prelude.{◌≡◌, IfErr, OnOk};
 ghost use Rattle.dip_machine.specs.Rows as machine;
 ghost use Rattle.dip_tables.specs.Changing.{changing};
 ghost use Rattle.dip_tables.specs.Columns.{IsWritable};
-ghost use Rattle.dip_rows.specs.Calls.{IsKept, does_show};
+ghost use Rattle.dip_rows.specs.Calls.{IsKept, does_show, is_honest, tables_in};
+ghost use Rattle.dip_making.specs.Failing.{FailsFor, HasPlace, MayMake};
 ghost use Rattle.dip_making.specs.Making.{Makes};
 
 use crate::counts::count;
@@ -32,6 +33,13 @@ pub fn make<S: Alter>(
         conn.old conn.new result }
     ensures kept { IsKept S.Store conn.old → does_show S.Store conn.new
         → OnOk result (IsKept S.Store conn.new) }
+    ensures place { IsKept S.Store conn.old → does_show S.Store conn.new → OnOk result
+        (HasPlace map.now (machine.change change.now) (tables_in S.Store conn.old)) }
+    ensures fails { IsKept S.Store conn.old → does_show S.Store conn.old
+        → is_honest S.Store conn.new
+        → MayMake map.now (machine.change change.now) (tables_in S.Store conn.old)
+        → IfErr result (FailsFor (¬ HasPlace map.now (machine.change change.now)
+        (tables_in S.Store conn.old))) }
 {
     readers_are_seats();
     press_is_delivered_one_by_one();

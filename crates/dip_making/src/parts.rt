@@ -7,7 +7,9 @@ ghost use Rattle.dip_tables.specs.Changing.{ordering, ordering_by};
 ghost use Rattle.dip_tables.specs.Coding.{IsEffectOf};
 ghost use Rattle.dip_tables.specs.Columns.{FitsColumns, IsWritable};
 ghost use Rattle.dip_rows.specs.Calls.{Writes};
-ghost use Rattle.dip_making.specs.Making.{changing_sent, reaching_all};
+ghost use Rattle.dip_refusals.specs.Keys.{AreKeyed, Differ, same_order};
+ghost use Rattle.dip_refusals.specs.Wants.{Wants};
+ghost use Rattle.dip_making.specs.Making.{OrdersDiffer, changing_sent, reaching_all};
 
 use dip_changing::{Reader, deliver, note_author, open_game, publish, put_orders, replace};
 use dip_machine::{Author, Change, Effect};
@@ -29,6 +31,10 @@ fn order_by<S: Alter>(
     ensures writes { Writes
         (ordering_by map.now (machine.author author) game.now (records.standings orders.now))
         (state S.Store tx.old.conn.now) (state S.Store tx.new.conn.now) result }
+    ensures wants { Wants (λ t. Differ same_order
+        (ordering_by map.now (machine.author author) game.now (records.standings orders.now)
+        t).pending)
+        (state S.Store tx.old.conn.now) (state S.Store tx.new.conn.now) result }
 {
     match author {
         Author::Nobody => Ok(()),
@@ -48,6 +54,9 @@ fn order<S: Alter>(
     ensures same_reference { tx.new.conn.ghost_name ≡ tx.old.conn.ghost_name }
     ensures writes { Writes
         (ordering map.now (machine.author author) game.now (machine.effect effect.now))
+        (state S.Store tx.old.conn.now) (state S.Store tx.new.conn.now) result }
+    ensures wants { Wants
+        (OrdersDiffer map.now (machine.author author) game.now (machine.effect effect.now))
         (state S.Store tx.old.conn.now) (state S.Store tx.new.conn.now) result }
 {
     match effect {
@@ -76,6 +85,9 @@ fn reach<S: Alter>(
     ensures same_reference { tx.new.conn.ghost_name ≡ tx.old.conn.ghost_name }
     ensures writes { Writes
         (reaching_all readers.now map.now game.now (machine.effect effect.now))
+        (state S.Store tx.old.conn.now) (state S.Store tx.new.conn.now) result }
+    ensures wants { Wants (λ t. AreKeyed
+        (reaching_all readers.now map.now game.now (machine.effect effect.now) t))
         (state S.Store tx.old.conn.now) (state S.Store tx.new.conn.now) result }
 {
     match effect {
@@ -111,6 +123,9 @@ pub(crate) fn make_parts<S: Alter>(
     ensures same_reference { tx.new.conn.ghost_name ≡ tx.old.conn.ghost_name }
     ensures writes { Writes
         (changing_sent sent readers.now map.now (machine.change change.now))
+        (state S.Store tx.old.conn.now) (state S.Store tx.new.conn.now) result }
+    ensures wants { Wants (λ t. AreKeyed
+        (changing_sent sent readers.now map.now (machine.change change.now) t))
         (state S.Store tx.old.conn.now) (state S.Store tx.new.conn.now) result }
 {
     let game = change.game.as_str();

@@ -1,7 +1,10 @@
 //! A change in one transaction, made whole or not at all.
-ghost use Rattle.std.specs.Prelude.{◌≡◌, ◌<◌, All, false};
+ghost use Rattle.std.specs.Prelude.{◌≡◌, ◌<◌, All, IfErr, false};
 ghost use Rattle.dip_machine.specs.Rows as machine;
 ghost use Rattle.dip_tables.specs.Columns.{IsWritable};
+ghost use Rattle.dip_rows.specs.Calls.{IsKept, does_show, is_honest, tables_in};
+ghost use Rattle.dip_refusals.specs.Keys.{AreKeyed};
+ghost use Rattle.dip_refusals.specs.Refusals.{IsWant};
 ghost use Rattle.dip_making.specs.Making.{Makes, changing_sent};
 
 use crate::parts::make_parts;
@@ -26,6 +29,9 @@ pub fn make_with<S: Alter>(
     ensures makes { Makes S.Store
         (changing_sent sent readers.now map.now (machine.change change.now))
         conn.old conn.new result }
+    ensures wants { IsKept S.Store conn.old → does_show S.Store conn.old
+        → is_honest S.Store conn.new → AreKeyed (changing_sent sent readers.now map.now
+        (machine.change change.now) (tables_in S.Store conn.old)) → IfErr result IsWant }
 {
     let mut tx = conn.transaction();
     make_parts(alloc, &mut tx, map, change, sent, readers)?;

@@ -1,4 +1,5 @@
 //! Games by letters.
+mod over_a_file;
 mod pages;
 mod playing;
 mod playing_to_a_draw;

@@ -1,55 +1,70 @@
--- A run from a fresh desk on.
-use Rattle.std.proofs.Common.{Bor, ◌≡◌, ◌⊎◌, inl, inr, ℕ, List, Option, Result, Ok, Err, IfErr, OnOk, IsErrOf, refl, subst, sym, ap, option_map}
-use Rattle.dip_chart.specs.Charts.{Chart}
-use Rattle.dip_machine.specs.State.{State}
-use Rattle.dip_machine.specs.declared.faults.KeepFault.TheVariants.{Memory as no_room, Disk, Damaged}
+-- What is done, or not, as words ask.
+use Rattle.std.proofs.Common.{◌≡◌, ℕ, List, Option, Result, Ok, Err, IfErr, OnOk, subst, sym}
 use Rattle.clap.specs.Words.{Text}
-use Rattle.dip_program.specs.ArgsGiven.{HasSecret, IsGiven}
-use Rattle.dip_program.specs.Asked.{AnswersFresh, IsCutShort, IsDone, IsMemoryFault, fresh_desk}
-use Rattle.dip_program.specs.MapFiles.{IsMapOf}
-use Rattle.dip_program.specs.declared.args.Args.{Args}
-use Rattle.dip_program.specs.declared.args.Args.TheVariants.{Letters}
-use Rattle.dip_program.specs.RunFaults.{faults_after_run}
-use Rattle.dip_program.specs.Runs.{AnswersAll, IsReadWhole, IsUntouched, Stops}
-use Rattle.dip_program.specs.declared.run.RunFault.{RunFault}
-use Rattle.dip_program.specs.declared.run.RunFault.TheVariants.{Read, TooLong, Write, Memory, Keep}
+use Rattle.dip_chart.specs.Charts.{Chart}
+use Rattle.dip_args.specs.ArgsGiven.{IsFit, IsGiven, map_named}
+use Rattle.dip_args.specs.declared.args.Args.{Args}
+use Rattle.dip_args.specs.declared.args.Args.TheVariants.{Init, Letters, Stored, Serve, Report}
+use Rattle.dip_args.specs.declared.faults.UsageFault.{UsageFault}
+use Rattle.dip_runs.specs.MapFiles.{IsMapOf}
+use Rattle.dip_runs.specs.declared.map_file.NoMap.{NoMap}
+use Rattle.dip_program.specs.Asked.{Does, Fails, IsDone, IsFailed}
+use Rattle.dip_program.specs.declared.failures.Failure.{Failure}
+use Rattle.dip_program.specs.declared.failures.Failure.TheVariants.{Usage, Map, Store, Listen, Run, Serving, NoGame, Papers}
 
-module _ (m : Chart) (secret : List ℕ) (s new : State) (known left before after : Option (List ℕ)) (is_fresh : s ≡ fresh_desk secret) where
-  pub answered : {A E : Type 0} (r : Result A E)
-      → OnOk r ((input : List ℕ) × IsReadWhole known left input × AnswersAll m input s new before after)
-      → OnOk r (AnswersFresh m secret known left before after)
-  answered (Ok x) run = (run.0, new, run.1, subst (λ old. AnswersAll m run.0 old new before after) is_fresh run.2)
-  answered (Err e) run = tt
+-- what holds, holds where a call went well
+pub on_ok : {A E : Type 0} {B : Type 0} (r : Result A E) → B → OnOk r B
+on_ok (Ok x) b = b
+on_ok (Err e) b = tt
 
-  stopped : {K : Type 0} (old kept : K) (f : RunFault)
-      → IsUntouched before after old kept ⊎ ((input : List ℕ) × IsReadWhole known left input × Stops m f input s new before after)
-      → (after ≡ before) ⊎ ((input : List ℕ) × (new : State) × IsReadWhole known left input × Stops m f input (fresh_desk secret) new before after)
-  stopped old kept f (inl nothing) = inl nothing.written
-  stopped old kept f (inr run) = inr (run.0, new, run.1, subst (λ old. Stops m f run.0 old new before after) is_fresh run.2)
+-- what each fault of a call is, beside something else that holds
+pub if_err : {A E : Type 0} {P Q : E → Type 0} (r : Result A E) → ((e : E) → P e → Q e) → IfErr r P → IfErr r Q
+if_err (Ok x) map p = tt
+if_err (Err e) map p = map e p
 
-  memory_alone : (f : RunFault) → 0 ≡ faults_after_run {A = Unit {0}} (Err f) 0 → (f ≡ Keep Damaged → ⊥) → IsMemoryFault f
-  memory_alone Read count never = tt
-  memory_alone TooLong count never = tt
-  memory_alone Write count never = tt
-  memory_alone Memory count never = tt
-  memory_alone (Keep no_room) count never = refl
-  memory_alone (Keep Disk) count never = absurd (cc)
-  memory_alone (Keep Damaged) count never = absurd (never refl)
+module _ (standard : List ℕ) (words : List Text) (known left before after : Option (List ℕ)) where
+  no_usage : (m : Chart) (a : Args) (fault : UsageFault) → Fails m known left before after a (Usage fault) → ⊥
+  no_usage m (Init store master file) fault fails = fails.0
+  no_usage m (Letters master file) fault fails = fails
+  no_usage m (Stored store file) fault fails = fails
+  no_usage m (Serve store port count file) fault fails = fails.0
+  no_usage m (Report store game file) fault fails = fails.0
 
-  pub cut_short : {K : Type 0} (old kept : K) (r : Result (Unit {0}) RunFault)
-      → 0 ≡ faults_after_run r 0 → (IsErrOf r (Keep Damaged) → ⊥)
-      → IfErr r (λ f. IsUntouched before after old kept ⊎ ((input : List ℕ) × IsReadWhole known left input × Stops m f input s new before after))
-      → IfErr r (λ f. IsCutShort m secret f known left before after)
-  cut_short old kept (Ok x) count never run = tt
-  cut_short old kept (Err f) count never run = (memory_alone f count (λ e. never (ap (λ x. Err x) e)), stopped old kept f run)
+  no_map : (m : Chart) (a : Args) (fault : NoMap) → Fails m known left before after a (Map fault) → ⊥
+  no_map m (Init store master file) fault fails = fails.0
+  no_map m (Letters master file) fault fails = fails
+  no_map m (Stored store file) fault fails = fails
+  no_map m (Serve store port count file) fault fails = fails.0
+  no_map m (Report store game file) fault fails = fails.0
 
--- the words ask for letters
-pub as_letters : (a : Args) → (master : Bor (List ℕ)) × (file : Option (Bor (List ℕ))) × (a ≡ Letters master file)
-as_letters (Letters master file) = (master, file, refl)
+  module _ (a : Args) (m : Chart) (text : List ℕ) (given : IsGiven words a) (fit : IsFit a) (map : IsMapOf standard (map_named a) text m) where
+    pub did : (r : Result (Unit {0}) Failure) → OnOk r (Does m known left before after a) → OnOk r (IsDone standard words known left before after)
+    did (Ok x) does = (a, m, (given, fit, (text, map)), does)
+    did (Err f) does = tt
 
-pub done_of : (standard : List ℕ) (words : List Text) (known left before after : Option (List ℕ)) (master : Bor (List ℕ)) (file : Option (Bor (List ℕ))) (m : Chart)
-    → IsGiven words (Letters master file) → HasSecret (Letters master file)
-    → IsMapOf standard (option_map (λ f. f.now) file) m → AnswersFresh m master.now known left before after
-    → IsDone standard words known left before after
-done_of standard words known left before after master file m given secret map done =
-    (master.now, m, (given.0, secret, subst (λ f. IsMapOf standard f m) (sym given.1) map), done)
+    fails_by : (f : Failure) → Fails m known left before after a f → IsFailed standard words known left before after f
+    fails_by (Usage x) fails = absurd (no_usage m a x fails)
+    fails_by (Map x) fails = absurd (no_map m a x fails)
+    fails_by (Store x) fails = (a, m, (given, fit, (text, map)), fails)
+    fails_by Listen fails = (a, m, (given, fit, (text, map)), fails)
+    fails_by (Run x) fails = (a, m, (given, fit, (text, map)), fails)
+    fails_by (Serving x) fails = (a, m, (given, fit, (text, map)), fails)
+    fails_by NoGame fails = (a, m, (given, fit, (text, map)), fails)
+    fails_by (Papers x) fails = (a, m, (given, fit, (text, map)), fails)
+
+    pub failed : (r : Result (Unit {0}) Failure) → IfErr r (Fails m known left before after a) → IfErr r (IsFailed standard words known left before after)
+    failed (Ok x) fails = tt
+    failed (Err f) fails = fails_by f fails
+
+    -- the same, where the words ask for this
+    pub did_as : (b : Args) → a ≡ b → (r : Result (Unit {0}) Failure) → OnOk r (Does m known left before after b)
+        → OnOk r (IsDone standard words known left before after)
+    did_as b is r does = did r (subst (λ a. OnOk r (Does m known left before after a)) (sym is) does)
+
+    pub did_well : (b : Args) → a ≡ b → (r : Result (Unit {0}) Failure) → Does m known left before after b
+        → OnOk r (IsDone standard words known left before after)
+    did_well b is r does = did_as b is r (on_ok r does)
+
+    pub failed_by : (b : Args) → a ≡ b → (P : Failure → Type 0) → (r : Result (Unit {0}) Failure) → IfErr r P
+        → ((f : Failure) → P f → Fails m known left before after b f) → IfErr r (IsFailed standard words known left before after)
+    failed_by b is P r why map = failed r (subst (λ a. IfErr r (Fails m known left before after a)) (sym is) (if_err r map why))

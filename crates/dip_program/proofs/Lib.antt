@@ -1,4 +1,4 @@
-pub mod CommandLineLemmas
-pub mod RunLemmas
-pub mod TurnLemmas
+pub mod FreshLemmas
 pub mod AskedLemmas
+pub mod StoredLemmas
+pub mod ServingLemmas

@@ -1,62 +1,61 @@
 -- The program, from its words, its map and its input to what it writes.
-use Rattle.std.specs.Prelude.{◌≡◌, ◌⊎◌, true, ℕ, List, [], Option, None, Some, IsSome, codes}
-use Rattle.sha2.specs.Sha256.{sha256}
+use Rattle.std.specs.Prelude.{◌≡◌, ℕ, List, Option}
 use Rattle.clap.specs.Words.{Text}
-use Rattle.dip_letters.specs.Digests.{seat_text}
-use Rattle.dip_letters.specs.Words.{is_secret}
 use Rattle.dip_chart.specs.Charts.{Chart}
-use Rattle.dip_machine.specs.State.{State}
-use Rattle.dip_machine.specs.declared.faults.KeepFault.TheVariants.{Memory as no_room}
-use Rattle.dip_program.specs.CommandLine.{map_given, master_given}
-use Rattle.dip_program.specs.MapFiles.{IsMapOf, IsNoMapOf}
-use Rattle.dip_program.specs.Runs.{AnswersAll, IsReadWhole, Stops}
-use Rattle.dip_program.specs.UsageFaults.{IsUsageFault}
+use Rattle.dip_args.specs.ArgsGiven.{IsFit, IsGiven, map_named}
+use Rattle.dip_args.specs.UsageFaults.{IsUsageFault}
+use Rattle.dip_args.specs.declared.args.Args.{Args}
+use Rattle.dip_args.specs.declared.args.Args.TheVariants.{Init, Letters, Stored, Serve, Report}
+use Rattle.dip_runs.specs.MapFiles.{IsMapOf, IsNoMapOf}
+use Rattle.dip_runs.specs.Runs.{IsReadToEnd}
+use Rattle.dip_program.specs.Fresh.{AnswersFresh, IsCutShort}
+use Rattle.dip_program.specs.Stores.{IsIdle, IsReportFailure, IsServeFailure, ReadsUpTo}
 use Rattle.dip_program.specs.declared.failures.Failure.{Failure}
-use Rattle.dip_program.specs.declared.failures.Failure.TheVariants.{Usage, MapFile, Map, Run}
-use Rattle.dip_program.specs.declared.run.RunFault.{RunFault}
-use Rattle.dip_program.specs.declared.run.RunFault.TheVariants.{Keep}
+use Rattle.dip_program.specs.declared.failures.Failure.TheVariants.{Usage, Map, Store, Run}
 
--- a fresh desk: it has no game and no letter of its master, who has that secret
-abbrev pub fresh_desk : List ℕ → State
-fresh_desk secret = record {
-  desk = record { digest = sha256 (seat_text (codes "desk") (codes "master") secret); kept = None };
-  games = [];
-}
+-- the words ask for this, which is fit, and the map is the one that they name
+abbrev pub IsAsked : List ℕ → List Text → Args → Chart → Type 0
+IsAsked standard words a m = IsGiven words a × IsFit a × ((text : List ℕ) × IsMapOf standard (map_named a) text m)
 
--- the whole input was read, and all its letters were answered from a fresh desk on
-abbrev pub AnswersFresh : Chart → List ℕ → Option (List ℕ) → Option (List ℕ) → Option (List ℕ) → Option (List ℕ) → Type 0
-AnswersFresh m secret known left before after =
-    (input : List ℕ) × (new : State) × IsReadWhole known left input × AnswersAll m input (fresh_desk secret) new before after
+-- what a command reads and writes: over tables in memory the letters were answered, from a fresh desk on; over a store they were read to
+-- their end; a report reads nothing, and the others write nothing either
+abbrev pub Does : Chart → Option (List ℕ) → Option (List ℕ) → Option (List ℕ) → Option (List ℕ) → Args → Type 0
+Does m known left before after (Init store master file) = IsIdle known left before after
+Does m known left before after (Letters master file) = AnswersFresh m master.now known left before after
+Does m known left before after (Stored store file) = IsReadToEnd known left
+Does m known left before after (Serve store port count file) = IsIdle known left before after
+Does m known left before after (Report store game file) = left ≡ known
 
--- a keeper in memory has no fault but want of memory
-abbrev pub IsMemoryFault : RunFault → Type 0
-IsMemoryFault (Keep fault) = fault ≡ no_room
-IsMemoryFault _ = Unit {0}
-
--- a run from a fresh desk on ended by the fault: nothing was written, or the whole input was read, and a front of it was answered
-abbrev pub IsCutShort : Chart → List ℕ → RunFault → Option (List ℕ) → Option (List ℕ) → Option (List ℕ) → Option (List ℕ) → Type 0
-IsCutShort m secret fault known left before after = IsMemoryFault fault × ((after ≡ before)
-    ⊎ ((input : List ℕ) × (new : State) × IsReadWhole known left input × Stops m fault input (fresh_desk secret) new before after))
-
--- the words name a secret and a map
-abbrev pub IsAsked : List ℕ → List Text → List ℕ → Chart → Type 0
-IsAsked standard words secret m =
-    (master_given words ≡ Some secret) × (is_secret secret ≡ true) × IsMapOf standard (map_given words) m
-
--- the letters of the input were answered, as the words ask
+-- it was done as the words ask
 abbrev pub IsDone : List ℕ → List Text → Option (List ℕ) → Option (List ℕ) → Option (List ℕ) → Option (List ℕ) → Type 0
-IsDone standard words known left before after =
-    (secret : List ℕ) × (m : Chart) × IsAsked standard words secret m × AnswersFresh m secret known left before after
+IsDone standard words known left before after = (a : Args) × (m : Chart) × IsAsked standard words a m × Does m known left before after a
 
--- nothing was read, and nothing written
-abbrev pub IsIdle : Option (List ℕ) → Option (List ℕ) → Option (List ℕ) → Option (List ℕ) → Type 0
-IsIdle known left before after = (left ≡ known) × (after ≡ before)
+-- a desk isn't made: only by the store's fault
+abbrev pub IsInitFailure : Failure → Type 0
+IsInitFailure (Store fault) = Unit {0}
+IsInitFailure failure = ⊥
 
--- why it isn't done: the words are wrong, or the file that they name, or the map, and nothing was read and nothing written; or the
--- run over the letters ended early
+-- a run over tables in memory ended early
+abbrev pub EndsFresh : Chart → Text → Option (List ℕ) → Option (List ℕ) → Option (List ℕ) → Option (List ℕ) → Failure → Type 0
+EndsFresh m secret known left before after (Run fault) = IsCutShort m secret fault known left before after
+EndsFresh m secret known left before after failure = ⊥
+
+-- why a command ends early, and what it read and wrote up to there
+abbrev pub Fails : Chart → Option (List ℕ) → Option (List ℕ) → Option (List ℕ) → Option (List ℕ) → Args → Failure → Type 0
+Fails m known left before after (Init store master file) failure = IsInitFailure failure × IsIdle known left before after
+Fails m known left before after (Letters master file) failure = EndsFresh m master.now known left before after failure
+Fails m known left before after (Stored store file) failure = ReadsUpTo known left before after failure
+Fails m known left before after (Serve store port count file) failure = IsServeFailure failure × IsIdle known left before after
+Fails m known left before after (Report store game file) failure = IsReportFailure failure × (left ≡ known)
+
+-- the words ask for something for which there is no map
+abbrev pub HasNoMap : List ℕ → List Text → (Option Text → Type 0) → Type 0
+HasNoMap standard words None_of = (a : Args) × IsGiven words a × IsFit a × None_of (map_named a)
+
+-- why it isn't done: the words are wrong, or there is no map, and nothing was read and nothing written; or the command ended early
 abbrev pub IsFailed : List ℕ → List Text → Option (List ℕ) → Option (List ℕ) → Option (List ℕ) → Option (List ℕ) → Failure → Type 0
 IsFailed standard words known left before after (Usage fault) = IsUsageFault words fault × IsIdle known left before after
-IsFailed standard words known left before after (MapFile fault) = IsSome (map_given words) × IsIdle known left before after
-IsFailed standard words known left before after (Map fault) = IsNoMapOf standard (map_given words) fault × IsIdle known left before after
-IsFailed standard words known left before after (Run fault) =
-    (secret : List ℕ) × (m : Chart) × IsAsked standard words secret m × IsCutShort m secret fault known left before after
+IsFailed standard words known left before after (Map fault) =
+    HasNoMap standard words (λ path. IsNoMapOf standard path fault) × IsIdle known left before after
+IsFailed standard words known left before after failure =
+    (a : Args) × (m : Chart) × IsAsked standard words a m × Fails m known left before after a failure

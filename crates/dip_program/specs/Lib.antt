@@ -1,9 +1,5 @@
-pub mod CommandLine
-pub mod ArgsGiven
-pub mod UsageFaults
-pub mod Reading
-pub mod Runs
-pub mod RunFaults
-pub mod MapFiles
+pub mod Fresh
+pub mod Serving
+pub mod Stores
 pub mod Failures
 pub mod Asked

@@ -1,14 +1,15 @@
 //! Why the program ends early: its exit status, and what it prints on standard error.
 ghost use Rattle.std.specs.Prelude.{◌≡◌};
+ghost use Rattle.dip_args.specs.declared.faults.UsageFault.TheVariants.{Memory as no_words};
 ghost use Rattle.dip_program.specs.Failures.{exit_status, status_of, words_fault};
-ghost use Rattle.dip_program.specs.declared.args.UsageFault.TheVariants.{Memory as no_words};
-ghost use Rattle.dip_program.specs.declared.failures.Failure.TheVariants.{Usage, MapFile, Map, Run};
+ghost use Rattle.dip_program.specs.declared.failures.Failure.TheVariants.{Usage, Map, Store, Run, Papers};
 ghost use Rattle.std.specs.IoError.{error_kind};
 
-use crate::args::UsageFault;
-use crate::map_file::FileFault;
-use crate::run::RunFault;
-use dip_names::MapFault;
+use dip_archive::PaperFault;
+use dip_args::UsageFault;
+use dip_machine::KeepFault;
+use dip_runs::{NoMap, RunFault};
+use dip_store::StoreFault;
 use std::alloc::AllocError;
 use std::{fmt, io};
 
@@ -20,27 +21,41 @@ use std::{fmt, io};
 pub enum Failure {
     /// The arguments ask for nothing.
     Usage(UsageFault),
-    /// The map's file has no text.
-    MapFile(FileFault),
-    /// The map is none.
-    Map(MapFault),
+    /// There is no map.
+    Map(NoMap),
+    /// The store isn't opened, or no desk is made in it.
+    Store(StoreFault),
+    /// The port can't be listened on.
+    Listen,
     /// The run over the letters ended early.
     Run(RunFault),
+    /// The keeper failed while clients were served.
+    Serving(KeepFault),
+    /// The store has no game of that name.
+    NoGame,
+    /// A game's papers weren't all written out.
+    Papers(PaperFault),
 }
 
 impl Failure {
-    /// The exit status: 2 for the arguments, 3 for the map, 4 for the keeper, 5 for a map's file, input, output or other want
-    /// of memory.
+    /// The exit status: 2 for the arguments, 3 for the map, 4 for the store, its keeper and a game that isn't there, 5 for a map's
+    /// file, the port, input, output or other want of memory.
     pub fn status(&self) -> u8
         ensures { result ≡ status_of self.now }
     {
         match self {
             Failure::Usage(UsageFault::Memory) => 5,
             Failure::Usage(_) => 2,
-            Failure::MapFile(_) => 5,
-            Failure::Map(_) => 3,
+            Failure::Map(NoMap::File(_)) => 5,
+            Failure::Map(NoMap::Map(_)) => 3,
+            Failure::Store(_) => 4,
+            Failure::Listen => 5,
             Failure::Run(RunFault::Keep(_)) => 4,
             Failure::Run(_) => 5,
+            Failure::Serving(_) => 4,
+            Failure::NoGame => 4,
+            Failure::Papers(PaperFault::Keep(_)) => 4,
+            Failure::Papers(PaperFault::Write) => 5,
         }
     }
 }
@@ -63,13 +78,15 @@ impl fmt::Display for Failure {
     fn fmt<W: fmt::Write>(&self, f: &mut fmt::Formatter<W>) -> fmt::Result {
         match self {
             Failure::Usage(UsageFault::Clap(error)) => write!(f, "{error}"),
-            Failure::Usage(fault) => write!(f, "dip_judge: {fault}\n"),
-            Failure::MapFile(fault) => write!(f, "dip_judge: {fault}\n"),
-            Failure::Map(fault) => {
-                let name = fault.name();
-                write!(f, "dip_judge: {name}\n")
-            }
+            Failure::Usage(UsageFault::Check) => f.write_str("dip_judge: Usage\n"),
+            Failure::Usage(UsageFault::Memory) => f.write_str("dip_judge: Memory\n"),
+            Failure::Map(fault) => write!(f, "dip_judge: {fault}\n"),
+            Failure::Store(fault) => write!(f, "dip_judge: {fault}\n"),
+            Failure::Listen => f.write_str("dip_judge: Listen\n"),
             Failure::Run(fault) => write!(f, "dip_judge: {fault}\n"),
+            Failure::Serving(fault) => write!(f, "dip_judge: {fault}\n"),
+            Failure::NoGame => f.write_str("dip_judge: no such game\n"),
+            Failure::Papers(fault) => write!(f, "dip_judge: {fault}\n"),
         }
     }
 }
@@ -82,19 +99,19 @@ impl From<UsageFault> for Failure {
     }
 }
 
-impl From<FileFault> for Failure {
-    ghost from_gives = { λ fault f. f ≡ MapFile fault };
+impl From<NoMap> for Failure {
+    ghost from_gives = { λ fault f. f ≡ Map fault };
 
-    fn from(fault: FileFault) -> Failure {
-        Failure::MapFile(fault)
+    fn from(fault: NoMap) -> Failure {
+        Failure::Map(fault)
     }
 }
 
-impl From<MapFault> for Failure {
-    ghost from_gives = { λ fault f. f ≡ Map fault };
+impl From<StoreFault> for Failure {
+    ghost from_gives = { λ fault f. f ≡ Store fault };
 
-    fn from(fault: MapFault) -> Failure {
-        Failure::Map(fault)
+    fn from(fault: StoreFault) -> Failure {
+        Failure::Store(fault)
     }
 }
 
@@ -103,6 +120,14 @@ impl From<RunFault> for Failure {
 
     fn from(fault: RunFault) -> Failure {
         Failure::Run(fault)
+    }
+}
+
+impl From<PaperFault> for Failure {
+    ghost from_gives = { λ fault f. f ≡ Papers fault };
+
+    fn from(fault: PaperFault) -> Failure {
+        Failure::Papers(fault)
     }
 }
 

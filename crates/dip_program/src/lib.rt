@@ -1,18 +1,15 @@
-//! The program, but for its `main`: its command line, the map's file, a run over letters, and what is told of a failure.
+//! The program, but for its `main`: what it does for each command, and what is told of a failure.
 #![tactic(auto)]
 
-mod args;
 mod asked;
 mod failures;
-mod map_file;
+mod files;
 mod program;
-mod reading;
-mod run;
+mod serving;
+mod stored;
 
-pub use args::{Args, UsageFault, read_args};
 pub use asked::do_as_asked;
 pub use failures::{Failure, status_of};
-pub use map_file::{FileFault, MOST_MAP, read_map, read_text};
 pub use program::run_program;
-pub use reading::ReadFault;
-pub use run::{MOST_INPUT, RunFault, run_file};
+pub use serving::serve_all;
+pub use stored::{answer_stored, make_desk, report_stored};

@@ -2,12 +2,11 @@
 
 use crate::asked::do_as_asked;
 use crate::failures::{Failure, status_of};
-use std::env::Env;
-use std::rt::Files;
+use sqlite_disk::Unknown;
 use std::{env, io};
 
 /// Does what the words ask for, over standard input and output.
-fn answer_the_system<R: Env + AllocGlobal + Files + Print + Input>(rt: &R) -> Result<(), Failure> {
+fn answer_the_system(rt: &HostRuntime) -> Result<(), Failure> {
     let alloc = rt.alloc();
     let words = env::args(rt)?.collect::<Vec<String>>(alloc)?;
     let texts = words
@@ -16,11 +15,11 @@ fn answer_the_system<R: Env + AllocGlobal + Files + Print + Input>(rt: &R) -> Re
         .collect::<Vec<&str>>(alloc)?;
     let mut reader = rt.reader();
     let mut writer = io::writer(rt);
-    do_as_asked(rt, alloc, texts.as_slice(), &mut reader, &mut writer)
+    do_as_asked(rt, Unknown, texts.as_slice(), &mut reader, &mut writer)
 }
 
 /// The whole program: does what its words ask for, tells a failure on standard error, and gives the exit status.
-pub fn run_program<R: Env + AllocGlobal + Files + Print + Eprint + Input>(rt: &R) -> u8 {
+pub fn run_program(rt: &HostRuntime) -> u8 {
     let outcome = answer_the_system(rt);
     if let Err(failure) = &outcome {
         let _ = rt.eprint(failure);

@@ -4,3 +4,5 @@ mod asked;
 mod failures;
 mod map_file;
 mod run;
+mod serving;
+mod stored;

@@ -3,3 +3,4 @@ pub mod Finding
 pub mod Looking
 pub mod Made
 pub mod Opened
+pub mod Outside

@@ -1,10 +1,13 @@
 -- A look at the rows is a look of their keeper.
-use Rattle.std.proofs.Common.{◌≡◌, ◌+◌, ℕ, Bool, true, false, Result, refl, sym, ap, subst}
+use Rattle.std.proofs.Common.{◌≡◌, ◌+◌, ℕ, Result, refl, sym, ap, subst}
 use Rattle.sqlite.specs.Effect.{Database}
 use Rattle.sqlite.specs.Store.{Ghosts}
 use Rattle.sqlite.specs.Held.{Held, state}
 use Rattle.dip_chart.specs.Charts.{Chart}
 use Rattle.dip_desk.specs.Keeping.{Looks}
+use Rattle.dip_finding.specs.Faults.{IsFromOutside}
+use Rattle.dip_finding.specs.declared.faults.LookFault.{LookFault}
+use Rattle.dip_legible.specs.Legible.{AreOurs}
 use Rattle.dip_machine.specs.Faults.{faults_with}
 use Rattle.dip_machine.specs.State.{State}
 use Rattle.dip_machine.specs.declared.faults.KeepFault.{KeepFault}
@@ -12,8 +15,10 @@ use Rattle.dip_machine.specs.declared.faults.KeepFault.TheVariants.{Memory, Disk
 use Rattle.dip_rows.specs.Calls.{IsKept, Selects, is_honest, does_show, tables_in}
 use Rattle.dip_rows.specs.Rows.{tables_of}
 use Rattle.dip_rows.proofs.Parts.{fails, went}
-use Rattle.dip_store.specs.Stored.{AreOurs, book, said_by, telling}
+use Rattle.dip_store.specs.Faults.{look_fault}
+use Rattle.dip_store.specs.Stored.{book, said_by, telling}
 use Rattle.dip_store.specs.declared.keeper.SqlKeeper.{SqlKeeper}
+use Rattle.dip_store.proofs.Outside.{look_outside}
 
 module _ {S : Type 0} (g : Ghosts S) (m : Chart) (k : SqlKeeper S) (c : Held S) where
   abbrev Kept : Type 0
@@ -36,36 +41,43 @@ module _ {S : Type 0} (g : Ghosts S) (m : Chart) (k : SqlKeeper S) (c : Held S) 
     keeps = record {
       count = refl;
       fair = p.fair;
-      shown = λ shows. (p.shown shows.0, shows.1);
-      sound = λ kept shows. sound_on (went X E x) p kept shows.0;
+      shown = p.shown;
+      sound = sound_on (went X E x) p;
       firm = λ kept clean. sound_on (went X E x) p kept (p.ok kept.0 clean);
-      stays_open = λ kept clean shows. (p.ok kept.0 clean, shows.1);
+      stays_open = λ kept clean shows. p.ok kept.0 clean;
     };
-    value = λ kept shows. value kept.0 kept.1 shows.0.0;
+    value = λ kept shows. value kept.0 kept.1 shows.0;
     damaged = λ kept shows is. absurd (cc);
-    same = λ kept shows. same_on (went X E x) p kept shows.0;
+    same = same_on (went X E x) p;
     left = λ kept. left_on (went X E x) p kept;
   }
 
   -- what failed, by the fault that is told of it
-  looks_told : (X Y E : Type 0) (e : E) (f : KeepFault) (n : ℕ) (d : Bool) (Value : X → Type 0) → Selects g k.conn c (fails Y E e) → n ≡ faults_with f k.failures → (d ≡ false → k.damaged ≡ false) → (f ≡ Damaged → d ≡ true)
-      → Looks m (book g) k (record k { conn = c; failures = n; damaged = d }) Value ⊥ (fails X KeepFault f)
-  looks_told X Y E e f n d Value p count flag tells = record {
+  looks_told : (X Y E : Type 0) (e : E) (f : KeepFault) (n : ℕ) (Value : X → Type 0) → Selects g k.conn c (fails Y E e) → n ≡ faults_with f k.failures → (Kept → does_show g c → f ≡ Damaged → ⊥)
+      → Looks m (book g) k (record k { conn = c; failures = n }) Value ⊥ (fails X KeepFault f)
+  looks_told X Y E e f n Value p count never = record {
     keeps = record {
       count = count;
       fair = p.fair;
-      shown = λ shows. (p.shown shows.0, flag shows.1);
-      sound = λ kept shows. sound_on (fails Y E e) p kept shows.0;
+      shown = p.shown;
+      sound = sound_on (fails Y E e) p;
       firm = λ kept clean. tt;
       stays_open = λ kept clean shows. tt;
     };
     value = λ kept shows. tt;
-    damaged = λ kept shows is. let same : f ≡ Damaged = cc in let x = tells same in absurd (cc);
-    same = λ kept shows. same_on (fails Y E e) p kept shows.0;
+    damaged = λ kept shows is. let same : f ≡ Damaged = cc in never kept shows same;
+    same = same_on (fails Y E e) p;
     left = λ kept. left_on (fails Y E e) p kept;
   }
 
-  pub looks_ill : (X Y E : Type 0) (e : E) (f : KeepFault) (Value : X → Type 0) → Selects g k.conn c (fails Y E e) → Looks m (book g) k (telling f (record k { conn = c })) Value ⊥ (fails X KeepFault f)
-  looks_ill X Y E e Memory Value p = looks_told X Y E e Memory k.failures k.damaged Value p refl (λ is. is) (λ is. absurd (cc))
-  looks_ill X Y E e Disk Value p = looks_told X Y E e Disk (k.failures + 1) k.damaged Value p refl (λ is. is) (λ is. absurd (cc))
-  looks_ill X Y E e Damaged Value p = looks_told X Y E e Damaged k.failures true Value p refl (λ is. absurd (cc)) (λ is. refl)
+  looks_counted : (X Y E : Type 0) (e : E) (f : KeepFault) (Value : X → Type 0) → Selects g k.conn c (fails Y E e) → (Kept → does_show g c → f ≡ Damaged → ⊥)
+      → Looks m (book g) k (telling f (record k { conn = c })) Value ⊥ (fails X KeepFault f)
+  looks_counted X Y E e Memory Value p never = looks_told X Y E e Memory k.failures Value p refl never
+  looks_counted X Y E e Disk Value p never = looks_told X Y E e Disk (k.failures + 1) Value p refl never
+  looks_counted X Y E e Damaged Value p never = looks_told X Y E e Damaged k.failures Value p refl never
+
+  -- a look at rows that a keeper wrote fails for want alone
+  pub looks_ill : (X Y : Type 0) (e : LookFault) (Value : X → Type 0) → Selects g k.conn c (fails Y LookFault e)
+      → (IsKept g k.conn → does_show g k.conn → is_honest g c → AreOurs m (tables_in g k.conn) → IsFromOutside e)
+      → Looks m (book g) k (telling (look_fault e) (record k { conn = c })) Value ⊥ (fails X KeepFault (look_fault e))
+  looks_ill X Y e Value p own = looks_counted X Y LookFault e (look_fault e) Value p (λ kept shows. look_outside e (own kept.0 (p.shown shows) shows.0 kept.1))

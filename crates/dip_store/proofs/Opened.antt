@@ -5,7 +5,9 @@ use Rattle.sqlite.specs.Effect.{Database}
 use Rattle.sqlite.specs.Tree.{Trees}
 use Rattle.sqlite.specs.Store.{Ghosts}
 use Rattle.sqlite.specs.Held.{Held, state}
-use Rattle.dip_chart.specs.Charts.{Chart}
+use Rattle.dip_chart.specs.Charts.{Chart, IsMap}
+use Rattle.dip_legible.specs.Laws.{NewTablesAreLegible}
+use Rattle.dip_legible.specs.Legible.{AreOurs}
 use Rattle.dip_machine.specs.State.{State}
 use Rattle.dip_tables.specs.Laws.{NewTablesAreNew}
 use Rattle.dip_tables.specs.Reading.{state_of}
@@ -15,16 +17,16 @@ use Rattle.dip_rows.specs.Rows.{tables_of}
 use Rattle.dip_rows.proofs.Parts.{went}
 use Rattle.dip_founding.specs.Founding.{Keeps}
 use Rattle.dip_store.specs.Opening.{IsStore, Opens}
-use Rattle.dip_store.specs.Stored.{AreOurs, said_by}
+use Rattle.dip_store.specs.Stored.{said_by}
 
 module _ {S : Type 0} (g : Ghosts S) (m : Chart) (alloc : Global) (conn : Held S)
     (last : IsTrue (state g conn).is_open → (db : Trees) → (state g conn).may_leave db → db ≡ (state g conn).committed.trees) where
   -- a keeper of kept rows
   opens_kept : (s : State) → IsKept g conn → AreOurs m (tables_in g conn) → said_by m (state g conn).now.trees ≡ s → does_show g conn
-      → Opens g m s (record { alloc = alloc; conn = conn; failures = 0; damaged = false })
+      → Opens g m s (record { alloc = alloc; conn = conn; failures = 0 })
   opens_kept s kept ours says shows = record {
     none = refl;
-    shows = (shows, refl);
+    shows = shows;
     sound = (kept, ours);
     says = says;
     only = λ left may.
@@ -32,11 +34,11 @@ module _ {S : Type 0} (g : Ghosts S) (m : Chart) (alloc : Global) (conn : Held S
         may.2 ∙ ap (said_by m) trees ∙ says;
   }
 
-  pub opens_new : (map_sum digest : List ℕ) → NewTablesAreNew m → length digest ≡ 32 → Keeps g conn (new_tables map_sum digest) → does_show g conn
-      → Opens g m (record { desk = record { digest = digest; kept = None }; games = [] }) (record { alloc = alloc; conn = conn; failures = 0; damaged = false })
-  opens_new map_sum digest law long it shows =
+  pub opens_new : (map_sum digest : List ℕ) → IsMap m → NewTablesAreNew m → NewTablesAreLegible → length digest ≡ 32 → Keeps g conn (new_tables map_sum digest) → does_show g conn
+      → Opens g m (record { desk = record { digest = digest; kept = None }; games = [] }) (record { alloc = alloc; conn = conn; failures = 0 })
+  opens_new map_sum digest map law legible long it shows =
       let new = law map_sum digest in
-      let ours : AreOurs m (new_tables map_sum digest) = record { coded = new.coded; written = new.written long } in
+      let ours : AreOurs m (new_tables map_sum digest) = record { map = map; coded = new.coded; written = new.written long; legible = legible map_sum digest } in
       opens_kept _ it.kept (subst (AreOurs m) (sym it.tables) ours) (ap (state_of m) it.tables ∙ new.says) shows
 
   module _ (store : Held S) (own : IsStore m (state g store).now) where
@@ -65,9 +67,9 @@ module _ {S : Type 0} (g : Ghosts S) (m : Chart) (alloc : Global) (conn : Held S
     kept_from h is = subst (λ (h : Held S). (r : Bool) → Idle h r → IsKept g h × (tables_in g h ≡ tables_in g store)) (sym is) (λ r idle. (kept_before r idle, refl))
 
     pub opens_old : (X E : Type 0) (x : X) (h : Held S) → h ≡ before → (r : Bool) → Idle h r → Selects g h conn (went X E x) → is_honest g conn
-        → Opens g m (said_by m (state g store).now.trees) (record { alloc = alloc; conn = conn; failures = 0; damaged = false })
+        → Opens g m (said_by m (state g store).now.trees) (record { alloc = alloc; conn = conn; failures = 0 })
     opens_old X E x h is =
-        subst (λ (h : Held S). (r : Bool) → Idle h r → Selects g h conn (went X E x) → is_honest g conn → Opens g m (said_by m (state g store).now.trees) (record { alloc = alloc; conn = conn; failures = 0; damaged = false }))
+        subst (λ (h : Held S). (r : Bool) → Idle h r → Selects g h conn (went X E x) → is_honest g conn → Opens g m (said_by m (state g store).now.trees) (record { alloc = alloc; conn = conn; failures = 0 }))
         (sym is)
         (λ r idle p clean.
         let kept = kept_before r idle in

@@ -3,11 +3,12 @@ use Rattle.std.specs.Prelude.{◌≡◌}
 use Rattle.sqlite.specs.Effect.{Database}
 use Rattle.sqlite.specs.Store.{Ghosts}
 use Rattle.dip_chart.specs.Charts.{Chart}
+use Rattle.dip_legible.specs.Legible.{AreOurs}
 use Rattle.dip_machine.specs.State.{State}
 use Rattle.dip_tables.specs.Counting.{AreCounted}
 use Rattle.dip_rows.specs.Good.{IsGood}
 use Rattle.dip_rows.specs.Rows.{tables_of}
-use Rattle.dip_store.specs.Stored.{AreOurs, book}
+use Rattle.dip_store.specs.Stored.{book}
 use Rattle.dip_store.specs.declared.keeper.SqlKeeper.{SqlKeeper}
 
 -- a database that keepers alone have written, by this map

@@ -1,17 +1,15 @@
 -- What contracts see of a keeper over a store.
-use Rattle.std.specs.Prelude.{◌≡◌, ◌+◌, true, false}
+use Rattle.std.specs.Prelude.{◌≡◌, ◌+◌}
 use Rattle.sqlite.specs.Tree.{Trees}
 use Rattle.sqlite.specs.Store.{Ghosts}
 use Rattle.sqlite.specs.Held.{state}
 use Rattle.dip_chart.specs.Charts.{Chart}
 use Rattle.dip_desk.specs.Keeping.{Book}
+use Rattle.dip_legible.specs.Legible.{AreOurs}
 use Rattle.dip_machine.specs.State.{State}
 use Rattle.dip_machine.specs.declared.faults.KeepFault.{KeepFault}
 use Rattle.dip_machine.specs.declared.faults.KeepFault.TheVariants.{Memory, Disk, Damaged}
-use Rattle.dip_tables.specs.Coding.{AreCoded}
 use Rattle.dip_tables.specs.Reading.{state_of}
-use Rattle.dip_tables.specs.Tables.{Tables}
-use Rattle.dip_tables.specs.Written.{AreWritten}
 use Rattle.dip_rows.specs.Calls.{IsKept, is_honest, does_show, tables_in}
 use Rattle.dip_rows.specs.Rows.{tables_of}
 use Rattle.dip_store.specs.declared.keeper.SqlKeeper.{SqlKeeper}
@@ -20,16 +18,11 @@ use Rattle.dip_store.specs.declared.keeper.SqlKeeper.{SqlKeeper}
 abbrev pub said_by : Chart → Trees → State
 said_by m db = state_of m (tables_of db)
 
--- rows that a keeper wrote by this map
-pub record AreOurs (m : Chart) (t : Tables) : Type 0 where
-  pub coded : AreCoded m t
-  pub written : AreWritten m t
-
 -- a keeper that has told a fault
 abbrev pub telling : {S : Type 0} → KeepFault → SqlKeeper S → SqlKeeper S
 telling Memory k = k
 telling Disk k = record k { failures = k.failures + 1 }
-telling Damaged k = record k { damaged = true }
+telling Damaged k = k
 
 -- it keeps what its connection's rows say
 abbrev pub book : {S : Type 0} → Ghosts S → Book (SqlKeeper S)
@@ -38,6 +31,6 @@ book g = record {
   may_leave = λ m k s. (db : Trees) × (state g k.conn).may_leave db × (s ≡ said_by m db);
   faults = λ k. k.failures;
   honest = λ k. is_honest g k.conn;
-  shows = λ k. does_show g k.conn × (k.damaged ≡ false);
+  shows = λ k. does_show g k.conn;
   sound = λ m k. IsKept g k.conn × AreOurs m (tables_in g k.conn);
 }

@@ -6,6 +6,8 @@ use crate::faults::{look_fault, make_fault};
 use crate::papers::look_game_paper;
 use dip_desk::Keeper;
 use dip_finding::{look_desk, look_items, look_own, look_public, look_whole};
+use dip_fitting::{what_fits_can_be_written, what_fits_finds_place};
+use dip_legible::{has_texts, tables_stay_legible};
 use dip_machine::{Change, Desk, KeepFault};
 use dip_making::{changes_are_made, make};
 use dip_map::Map;
@@ -27,8 +29,6 @@ pub struct SqlKeeper<S: Alter> {
     pub(crate) conn: Connection<S>,
     /// How many faults of the disk it has told of.
     pub(crate) failures: u64,
-    /// It has told that the tables aren't a desk's: what it says from then on needn't be what is kept.
-    pub(crate) damaged: bool,
 }
 
 impl<S: Alter> SqlKeeper<S> {
@@ -40,7 +40,6 @@ impl<S: Alter> SqlKeeper<S> {
             alloc: _,
             conn,
             failures: _,
-            damaged: _,
         } = self;
         conn
     }
@@ -54,7 +53,7 @@ impl<S: Alter> SqlKeeper<S> {
         match fault {
             KeepFault::Memory => {}
             KeepFault::Disk => self.failures += 1,
-            KeepFault::Damaged => self.damaged = true,
+            KeepFault::Damaged => {}
         }
         fault
     }
@@ -123,6 +122,10 @@ impl<S: Alter> Keeper for SqlKeeper<S> {
 
     fn apply(&mut self, map: &Map, change: &Change) -> Result<(), KeepFault> {
         changes_are_made();
+        tables_stay_legible();
+        what_fits_can_be_written();
+        what_fits_finds_place();
+        has_texts(change);
         has_widths(change);
         map.facts();
         if !is_writable(map, change) {

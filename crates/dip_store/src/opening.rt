@@ -7,12 +7,13 @@ ghost use Rattle.dip_schema.specs.Creating.{no_schema};
 ghost use Rattle.dip_founding.specs.Desk.{DeskSays};
 ghost use Rattle.dip_rows.specs.Calls.{does_show, is_honest, tables_in};
 ghost use Rattle.dip_store.specs.Opening.{IsStore, Opens};
-ghost use Rattle.dip_store.specs.Stored.{said_by};
+ghost use Rattle.dip_store.specs.Stored.{book, said_by};
 
 use crate::checking::check_desk;
 use crate::faults::{StoreFault, open_fault};
 use crate::keeper::SqlKeeper;
 use dip_founding::{found, knows_none};
+use dip_legible::new_tables_are_legible;
 use dip_letters::sum;
 use dip_map::Map;
 use dip_tables::new_tables_are_new;
@@ -34,13 +35,12 @@ fn has_32(digest: &[u8; 32])
 impl<S: Alter> SqlKeeper<S> {
     /// The keeper of a connection's rows.
     fn over(alloc: Global, conn: Connection<S>) -> SqlKeeper<S>
-        ensures { result ≡ record { alloc = alloc; conn = conn; failures = 0; damaged = false } }
+        ensures { result ≡ record { alloc = alloc; conn = conn; failures = 0 } }
     {
         SqlKeeper {
             alloc,
             conn,
             failures: 0,
-            damaged: false,
         }
     }
 
@@ -59,6 +59,7 @@ impl<S: Alter> SqlKeeper<S> {
     ) -> Result<SqlKeeper<S>, (StoreFault, Connection<S>)>
         ensures opened { IfOk result (λ k. is_honest S.Store k.conn → Opens S.Store map.now
             (record { desk = record { digest = digest.now; kept = None }; games = [] }) k) }
+        ensures told { IfOk result (λ k. (book S.Store).faults k ≡ 0) }
         ensures empty { IfOk result (λ _. (state S.Store store).now.schema ≡ no_schema) }
         ensures taken { IfErr result (λ e. e.0 ≡ StoreFault.OtherSchema
             → (state S.Store store).now.schema ≡ no_schema → ⊥) }
@@ -67,6 +68,8 @@ impl<S: Alter> SqlKeeper<S> {
             → (state S.Store e.1).committed ≡ (state S.Store store).committed) }
     {
         new_tables_are_new();
+        new_tables_are_legible();
+        map.facts();
         has_32(digest);
         let mut conn = store;
         conn.set_step_limit(None);
@@ -99,6 +102,7 @@ impl<S: Alter> SqlKeeper<S> {
         ensures opened { IfOk result (λ k. is_honest S.Store k.conn
             → IsStore map.now (state S.Store store).now
             → Opens S.Store map.now (said_by map.now (state S.Store store).now.trees) k) }
+        ensures told { IfOk result (λ k. (book S.Store).faults k ≡ 0) }
         ensures says { IfOk result (λ k. is_honest S.Store k.conn
             → IsStore map.now (state S.Store store).now
             → DeskSays 1 (sha256 map_text.now) (tables_in S.Store store)) }

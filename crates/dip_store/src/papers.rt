@@ -1,8 +1,10 @@
 //! A paper of a game that is there.
-ghost use Rattle.std.specs.Prelude.{◌≡◌, IfOk, option_map, string_bytes};
+ghost use Rattle.std.specs.Prelude.{◌≡◌, IfErr, IfOk, option_map, string_bytes};
 ghost use Rattle.dip_chart.specs.Charts.{Chart};
+ghost use Rattle.dip_finding.specs.Faults.{IsFromOutside};
+ghost use Rattle.dip_legible.specs.Legible.{AreOurs};
 ghost use Rattle.dip_machine.specs.State.{paper_at};
-ghost use Rattle.dip_rows.specs.Calls.{IsKept, Selects, is_honest, tables_in};
+ghost use Rattle.dip_rows.specs.Calls.{IsKept, Selects, does_show, is_honest, tables_in};
 ghost use Rattle.dip_tables.specs.Reading.{state_of};
 
 use dip_finding::{LookFault, look_paper};
@@ -24,6 +26,8 @@ pub(crate) fn look_game_paper<S: Alter>(
         (m : Chart) → option_map string_bytes o
         ≡ paper_at game.now number (state_of m (tables_in S.Store conn.old))) }
     ensures selects { Selects S.Store conn.old conn.new result }
+    ensures own { IsKept S.Store conn.old → does_show S.Store conn.old → is_honest S.Store conn.new
+        → (m : Chart) → AreOurs m (tables_in S.Store conn.old) → IfErr result IsFromOutside }
 {
     paper_is_found();
     let Some(_count) = count_papers(conn, game)? else {

@@ -1,8 +1,11 @@
 //! Rows behind the others of their tables.
 ghost use Rattle.std.specs.Prelude.{◌≡◌, ◌<◌, ◌^◌};
 ghost use Rattle.sqlite.specs.Held.{state};
+ghost use Rattle.dip_tables.specs.Coding.{same_name, same_seat};
 ghost use Rattle.dip_rows.specs.Calls.{Writes};
 ghost use Rattle.dip_rows.specs.Statements.{new_desk, new_seat, with_centre, with_desk, with_game, with_item, with_order, with_paper, with_seat, with_unit};
+ghost use Rattle.dip_refusals.specs.Keys.{Differ, same_centre, same_desk, same_item, same_order, same_paper, same_unit};
+ghost use Rattle.dip_refusals.specs.Wants.{Wants};
 ghost use Rattle.dip_writing.specs.Rows as rows;
 
 use crate::rows::{GameRow, ItemRow, UnitRow};
@@ -19,6 +22,8 @@ pub fn add_desk<S: Alter>(
     ensures same_reference { tx.new.conn.ghost_name ≡ tx.old.conn.ghost_name }
     ensures writes { Writes (with_desk (new_desk map.now digest.now))
         (state S.Store tx.old.conn.now) (state S.Store tx.new.conn.now) result }
+    ensures wants { Wants (λ t. Differ same_desk (with_desk (new_desk map.now digest.now) t).desk)
+        (state S.Store tx.old.conn.now) (state S.Store tx.new.conn.now) result }
 {
     tx.execute(
         "INSERT INTO desk (id, version, map, digest, last, kept, reply) VALUES (1, 1, ?1, ?2, 0, x'', '')",
@@ -31,6 +36,8 @@ pub fn add_game<S: Alter>(tx: &mut Transaction<'_, S>, game: &GameRow<'_>) -> Re
     requires { game.now.due < 2 ^ 63 }
     ensures same_reference { tx.new.conn.ghost_name ≡ tx.old.conn.ghost_name }
     ensures writes { Writes (with_game (rows.game game.now))
+        (state S.Store tx.old.conn.now) (state S.Store tx.new.conn.now) result }
+    ensures wants { Wants (λ t. Differ same_name (with_game (rows.game game.now) t).games)
         (state S.Store tx.old.conn.now) (state S.Store tx.new.conn.now) result }
 {
     tx.execute(
@@ -59,6 +66,9 @@ pub fn add_seat<S: Alter>(
     ensures same_reference { tx.new.conn.ghost_name ≡ tx.old.conn.ghost_name }
     ensures writes { Writes (with_seat (new_seat game.now power.now digest.now))
         (state S.Store tx.old.conn.now) (state S.Store tx.new.conn.now) result }
+    ensures wants { Wants (λ t. Differ same_seat (with_seat
+        (new_seat game.now power.now digest.now) t).seats)
+        (state S.Store tx.old.conn.now) (state S.Store tx.new.conn.now) result }
 {
     tx.execute(
         "INSERT INTO seat (game, power, digest, vote, last, kept, reply, sent, items) VALUES (?1, ?2, ?3, 0, 0, x'', '', 0, 0)",
@@ -70,6 +80,8 @@ pub fn add_seat<S: Alter>(
 pub fn add_unit<S: Alter>(tx: &mut Transaction<'_, S>, unit: &UnitRow<'_>) -> Result<usize, Error>
     ensures same_reference { tx.new.conn.ghost_name ≡ tx.old.conn.ghost_name }
     ensures writes { Writes (with_unit (rows.unit unit.now))
+        (state S.Store tx.old.conn.now) (state S.Store tx.new.conn.now) result }
+    ensures wants { Wants (λ t. Differ same_unit (with_unit (rows.unit unit.now) t).units)
         (state S.Store tx.old.conn.now) (state S.Store tx.new.conn.now) result }
 {
     tx.execute(
@@ -97,6 +109,9 @@ pub fn add_centre<S: Alter>(
     ensures writes { Writes (with_centre
         (record { game = game.now; province = province.now; power = power.now }))
         (state S.Store tx.old.conn.now) (state S.Store tx.new.conn.now) result }
+    ensures wants { Wants (λ t. Differ same_centre (with_centre
+        (record { game = game.now; province = province.now; power = power.now }) t).centres)
+        (state S.Store tx.old.conn.now) (state S.Store tx.new.conn.now) result }
 {
     tx.execute(
         "INSERT INTO centre (game, province, power) VALUES (?1, ?2, ?3)",
@@ -116,6 +131,10 @@ pub fn add_pending<S: Alter>(
     ensures writes { Writes (with_order
         (record { game = game.now; power = power.now; province = province.now; line = line.now }))
         (state S.Store tx.old.conn.now) (state S.Store tx.new.conn.now) result }
+    ensures wants { Wants (λ t. Differ same_order (with_order (record
+        { game = game.now; power = power.now; province = province.now; line = line.now })
+        t).pending)
+        (state S.Store tx.old.conn.now) (state S.Store tx.new.conn.now) result }
 {
     tx.execute(
         "INSERT INTO pending (game, power, province, line) VALUES (?1, ?2, ?3, ?4)",
@@ -127,6 +146,8 @@ pub fn add_pending<S: Alter>(
 pub fn add_item<S: Alter>(tx: &mut Transaction<'_, S>, item: &ItemRow<'_>) -> Result<usize, Error>
     ensures same_reference { tx.new.conn.ghost_name ≡ tx.old.conn.ghost_name }
     ensures writes { Writes (with_item (rows.item item.now))
+        (state S.Store tx.old.conn.now) (state S.Store tx.new.conn.now) result }
+    ensures wants { Wants (λ t. Differ same_item (with_item (rows.item item.now) t).boxes)
         (state S.Store tx.old.conn.now) (state S.Store tx.new.conn.now) result }
 {
     tx.execute(
@@ -153,6 +174,9 @@ pub fn add_paper<S: Alter>(
     ensures same_reference { tx.new.conn.ghost_name ≡ tx.old.conn.ghost_name }
     ensures writes { Writes (with_paper
         (record { game = game.now; number = number; body = body.now }))
+        (state S.Store tx.old.conn.now) (state S.Store tx.new.conn.now) result }
+    ensures wants { Wants (λ t. Differ same_paper (with_paper
+        (record { game = game.now; number = number; body = body.now }) t).papers)
         (state S.Store tx.old.conn.now) (state S.Store tx.new.conn.now) result }
 {
     tx.execute(

@@ -3,6 +3,7 @@ ghost use Rattle.std.specs.Prelude.{◌≡◌};
 ghost use Rattle.sqlite.specs.Held.{state};
 ghost use Rattle.dip_rows.specs.Calls.{Writes};
 ghost use Rattle.dip_rows.specs.Statements.{no_centres, no_items, no_orders, no_papers, no_pending, no_seats, no_units};
+ghost use Rattle.dip_refusals.specs.Wants.{Wants, always};
 
 use sqlite::{Alter, Error, Transaction, params};
 
@@ -10,6 +11,8 @@ use sqlite::{Alter, Error, Transaction, params};
 pub fn drop_seats<S: Alter>(tx: &mut Transaction<'_, S>, game: &str) -> Result<usize, Error>
     ensures same_reference { tx.new.conn.ghost_name ≡ tx.old.conn.ghost_name }
     ensures writes { Writes (no_seats game.now)
+        (state S.Store tx.old.conn.now) (state S.Store tx.new.conn.now) result }
+    ensures wants { Wants always
         (state S.Store tx.old.conn.now) (state S.Store tx.new.conn.now) result }
 {
     tx.execute("DELETE FROM seat WHERE game = ?1", params![game])
@@ -20,6 +23,8 @@ pub fn drop_units<S: Alter>(tx: &mut Transaction<'_, S>, game: &str) -> Result<u
     ensures same_reference { tx.new.conn.ghost_name ≡ tx.old.conn.ghost_name }
     ensures writes { Writes (no_units game.now)
         (state S.Store tx.old.conn.now) (state S.Store tx.new.conn.now) result }
+    ensures wants { Wants always
+        (state S.Store tx.old.conn.now) (state S.Store tx.new.conn.now) result }
 {
     tx.execute("DELETE FROM unit WHERE game = ?1", params![game])
 }
@@ -29,6 +34,8 @@ pub fn drop_centres<S: Alter>(tx: &mut Transaction<'_, S>, game: &str) -> Result
     ensures same_reference { tx.new.conn.ghost_name ≡ tx.old.conn.ghost_name }
     ensures writes { Writes (no_centres game.now)
         (state S.Store tx.old.conn.now) (state S.Store tx.new.conn.now) result }
+    ensures wants { Wants always
+        (state S.Store tx.old.conn.now) (state S.Store tx.new.conn.now) result }
 {
     tx.execute("DELETE FROM centre WHERE game = ?1", params![game])
 }
@@ -37,6 +44,8 @@ pub fn drop_centres<S: Alter>(tx: &mut Transaction<'_, S>, game: &str) -> Result
 pub fn drop_pending<S: Alter>(tx: &mut Transaction<'_, S>, game: &str) -> Result<usize, Error>
     ensures same_reference { tx.new.conn.ghost_name ≡ tx.old.conn.ghost_name }
     ensures writes { Writes (no_pending game.now)
+        (state S.Store tx.old.conn.now) (state S.Store tx.new.conn.now) result }
+    ensures wants { Wants always
         (state S.Store tx.old.conn.now) (state S.Store tx.new.conn.now) result }
 {
     tx.execute("DELETE FROM pending WHERE game = ?1", params![game])
@@ -51,6 +60,8 @@ pub fn drop_orders<S: Alter>(
     ensures same_reference { tx.new.conn.ghost_name ≡ tx.old.conn.ghost_name }
     ensures writes { Writes (no_orders game.now power.now)
         (state S.Store tx.old.conn.now) (state S.Store tx.new.conn.now) result }
+    ensures wants { Wants always
+        (state S.Store tx.old.conn.now) (state S.Store tx.new.conn.now) result }
 {
     tx.execute(
         "DELETE FROM pending WHERE game = ?1 AND power = ?2",
@@ -63,6 +74,8 @@ pub fn drop_items<S: Alter>(tx: &mut Transaction<'_, S>, game: &str) -> Result<u
     ensures same_reference { tx.new.conn.ghost_name ≡ tx.old.conn.ghost_name }
     ensures writes { Writes (no_items game.now)
         (state S.Store tx.old.conn.now) (state S.Store tx.new.conn.now) result }
+    ensures wants { Wants always
+        (state S.Store tx.old.conn.now) (state S.Store tx.new.conn.now) result }
 {
     tx.execute("DELETE FROM box WHERE game = ?1", params![game])
 }
@@ -71,6 +84,8 @@ pub fn drop_items<S: Alter>(tx: &mut Transaction<'_, S>, game: &str) -> Result<u
 pub fn drop_papers<S: Alter>(tx: &mut Transaction<'_, S>, game: &str) -> Result<usize, Error>
     ensures same_reference { tx.new.conn.ghost_name ≡ tx.old.conn.ghost_name }
     ensures writes { Writes (no_papers game.now)
+        (state S.Store tx.old.conn.now) (state S.Store tx.new.conn.now) result }
+    ensures wants { Wants always
         (state S.Store tx.old.conn.now) (state S.Store tx.new.conn.now) result }
 {
     tx.execute("DELETE FROM paper WHERE game = ?1", params![game])

@@ -3,6 +3,7 @@ ghost use Rattle.std.specs.Prelude.{◌≡◌, ◌<◌, ◌^◌};
 ghost use Rattle.sqlite.specs.Held.{state};
 ghost use Rattle.dip_rows.specs.Calls.{Writes};
 ghost use Rattle.dip_rows.specs.Statements.{counting, game_as, on_desk, on_game, on_seat, secret_as, sending, voting};
+ghost use Rattle.dip_refusals.specs.Wants.{Wants, always};
 ghost use Rattle.dip_tables.specs.Writing.{number_of};
 ghost use Rattle.dip_writing.specs.Rows as rows;
 
@@ -18,6 +19,8 @@ pub fn note_desk<S: Alter>(
 ) -> Result<usize, Error>
     ensures same_reference { tx.new.conn.ghost_name ≡ tx.old.conn.ghost_name }
     ensures writes { Writes (on_desk (rows.desk_kept letter.now))
+        (state S.Store tx.old.conn.now) (state S.Store tx.new.conn.now) result }
+    ensures wants { Wants always
         (state S.Store tx.old.conn.now) (state S.Store tx.new.conn.now) result }
 {
     tx.execute(
@@ -35,6 +38,8 @@ pub fn note_seat<S: Alter>(
 ) -> Result<usize, Error>
     ensures same_reference { tx.new.conn.ghost_name ≡ tx.old.conn.ghost_name }
     ensures writes { Writes (on_seat game.now power.now (rows.seat_kept letter.now))
+        (state S.Store tx.old.conn.now) (state S.Store tx.new.conn.now) result }
+    ensures wants { Wants always
         (state S.Store tx.old.conn.now) (state S.Store tx.new.conn.now) result }
 {
     tx.execute(
@@ -55,6 +60,8 @@ pub fn note_vote<S: Alter>(
     ensures writes { Writes (on_seat game.now power.now
         (λ s. voting (number_of vote) (rows.seat_kept letter.now s)))
         (state S.Store tx.old.conn.now) (state S.Store tx.new.conn.now) result }
+    ensures wants { Wants always
+        (state S.Store tx.old.conn.now) (state S.Store tx.new.conn.now) result }
 {
     tx.execute(
         "UPDATE seat SET vote = ?3, last = ?4, kept = ?5, reply = ?6 WHERE game = ?1 AND power = ?2",
@@ -74,6 +81,8 @@ pub fn note_sent<S: Alter>(
     ensures writes { Writes (on_seat game.now power.now
         (λ s. sending sent (rows.seat_kept letter.now s)))
         (state S.Store tx.old.conn.now) (state S.Store tx.new.conn.now) result }
+    ensures wants { Wants always
+        (state S.Store tx.old.conn.now) (state S.Store tx.new.conn.now) result }
 {
     tx.execute(
         "UPDATE seat SET last = ?3, kept = ?4, reply = ?5, sent = ?6 WHERE game = ?1 AND power = ?2",
@@ -90,6 +99,8 @@ pub fn count_item<S: Alter>(
 ) -> Result<usize, Error>
     ensures same_reference { tx.new.conn.ghost_name ≡ tx.old.conn.ghost_name }
     ensures writes { Writes (on_seat game.now power.now (counting items))
+        (state S.Store tx.old.conn.now) (state S.Store tx.new.conn.now) result }
+    ensures wants { Wants always
         (state S.Store tx.old.conn.now) (state S.Store tx.new.conn.now) result }
 {
     tx.execute(
@@ -108,6 +119,8 @@ pub fn replace_digest<S: Alter>(
     ensures same_reference { tx.new.conn.ghost_name ≡ tx.old.conn.ghost_name }
     ensures writes { Writes (on_seat game.now power.now (secret_as digest.now))
         (state S.Store tx.old.conn.now) (state S.Store tx.new.conn.now) result }
+    ensures wants { Wants always
+        (state S.Store tx.old.conn.now) (state S.Store tx.new.conn.now) result }
 {
     tx.execute(
         "UPDATE seat SET digest = ?3 WHERE game = ?1 AND power = ?2",
@@ -120,6 +133,8 @@ pub fn renew_game<S: Alter>(tx: &mut Transaction<'_, S>, game: &GameRow<'_>) -> 
     requires { game.now.due < 2 ^ 63 }
     ensures same_reference { tx.new.conn.ghost_name ≡ tx.old.conn.ghost_name }
     ensures writes { Writes (on_game game.now.name.now (game_as (rows.game game.now)))
+        (state S.Store tx.old.conn.now) (state S.Store tx.new.conn.now) result }
+    ensures wants { Wants always
         (state S.Store tx.old.conn.now) (state S.Store tx.new.conn.now) result }
 {
     tx.execute(

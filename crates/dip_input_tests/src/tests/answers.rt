@@ -2,7 +2,7 @@
 use dip_desk::MemoryKeeper;
 use dip_letters::digest;
 use dip_map::{Map, STANDARD};
-use dip_program::{RunFault, run_file};
+use dip_runs::{RunFault, run_file};
 use std::alloc::{AllocError, Global};
 use std::test::Fail;
 

@@ -4,7 +4,7 @@ use super::letters::Letters;
 use dip_desk::MemoryKeeper;
 use dip_letters::digest;
 use dip_map::{Map, STANDARD};
-use dip_program::run_file;
+use dip_runs::run_file;
 use std::alloc::Global;
 use std::io;
 use std::io::{ErrorKind, Read, Write};

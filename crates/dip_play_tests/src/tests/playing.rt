@@ -3,7 +3,7 @@ use dip_exchanges::check_opened;
 use std::test::Fail;
 
 /// The game's phases: in each the powers order, the master ticks, and the paper tells of it.
-const GAME: [&str; 9] = [
+pub(crate) const GAME: [&str; 9] = [
     SPRING_1901,
     FALL_1901,
     RETREATS_OF_FALL_1901,

@@ -1,6 +1,6 @@
 //! The words of a command line, and what they ask for.
 use clap::error::ErrorKind;
-use dip_program::{Args, UsageFault, read_args};
+use dip_args::{Args, UsageFault, read_args};
 use std::test::Fail;
 
 /// 64 bytes, the longest secret.
@@ -82,7 +82,7 @@ fn refused(alloc: std::alloc::Global, words: &[&str]) -> Option<ErrorKind> {
 fn refuses_other_words(rt: HostRuntime) {
     let alloc = rt.alloc();
     let secret = "master-key";
-    let rows: [(&[&str], ErrorKind); 19] = [
+    let rows: [(&[&str], ErrorKind); 20] = [
         (&["dip_judge"], ErrorKind::MissingSubcommand),
         (&["dip_judge", "--help"], ErrorKind::DisplayHelp),
         (&["dip_judge", "-h"], ErrorKind::DisplayHelp),
@@ -90,16 +90,24 @@ fn refuses_other_words(rt: HostRuntime) {
         (&["dip_judge", "help", "letters"], ErrorKind::DisplayHelp),
         (&["dip_judge", "letters", "--help"], ErrorKind::DisplayHelp),
         (
-            &["dip_judge", "init", "--store", "s", "--master", secret],
-            ErrorKind::InvalidSubcommand,
+            &["dip_judge", "init", "--store", "s"],
+            ErrorKind::MissingRequiredArgument,
         ),
         (
-            &["dip_judge", "serve", "--store", "s"],
-            ErrorKind::InvalidSubcommand,
+            &["dip_judge", "init", "--master", secret],
+            ErrorKind::MissingRequiredArgument,
+        ),
+        (
+            &["dip_judge", "serve", "--store", "s", "--port", "4000"],
+            ErrorKind::MissingRequiredArgument,
         ),
         (
             &["dip_judge", "report", "--store", "s"],
-            ErrorKind::InvalidSubcommand,
+            ErrorKind::MissingRequiredArgument,
+        ),
+        (
+            &["dip_judge", "report", "--store", "s", "--port", "4000"],
+            ErrorKind::UnknownArgument,
         ),
         (
             &["dip_judge", "letter", "--master", secret],
@@ -107,10 +115,6 @@ fn refuses_other_words(rt: HostRuntime) {
         ),
         (
             &["dip_judge", "--master", secret],
-            ErrorKind::UnknownArgument,
-        ),
-        (
-            &["dip_judge", "letters", "--store", "s"],
             ErrorKind::UnknownArgument,
         ),
         (
@@ -161,4 +165,97 @@ fn refuses_other_words(rt: HostRuntime) {
     for (words, kind) in rows {
         assert!(rt; refused(alloc, words) == Some(kind));
     }
+}
+
+/// The words behind the program's name, one by one between spaces.
+fn asked<'a>(alloc: std::alloc::Global, line: &'a str) -> Result<Vec<&'a str>, Fail> {
+    let mut words = vec![in alloc; "dip_judge"]?;
+    for word in line.split(' ') {
+        words.push(word)?;
+    }
+    Ok(words)
+}
+
+#[test]
+fn takes_a_store(rt: HostRuntime) -> Result<(), Fail> {
+    let alloc = rt.alloc();
+    let rows = [
+        (
+            "init --store club.db --master master-key",
+            Args::Init {
+                store: "club.db",
+                master: "master-key",
+                map: None,
+            },
+        ),
+        (
+            "letters --map five.toml --store club.db",
+            Args::Stored {
+                store: "club.db",
+                map: Some("five.toml"),
+            },
+        ),
+        (
+            "serve --store club.db --port 1 --count 999999",
+            Args::Serve {
+                store: "club.db",
+                port: 1,
+                count: 999_999,
+                map: None,
+            },
+        ),
+        (
+            "serve --store club.db --port 65535 --count 1 --map m",
+            Args::Serve {
+                store: "club.db",
+                port: 65_535,
+                count: 1,
+                map: Some("m"),
+            },
+        ),
+        (
+            "report --store club.db --game G?",
+            Args::Report {
+                store: "club.db",
+                game: "G?",
+                map: None,
+            },
+        ),
+    ];
+    for (line, expected) in rows {
+        let words = asked(alloc, line)?;
+        let Ok(args) = read_args(alloc, words.as_slice()) else {
+            return Err(Fail::from(line));
+        };
+        assert!(rt; args == expected);
+    }
+    Ok(())
+}
+
+#[test]
+fn checks_what_clap_takes(rt: HostRuntime) -> Result<(), Fail> {
+    let alloc = rt.alloc();
+    for line in [
+        "letters",
+        "letters --map m",
+        "letters --store s --master master-key",
+        "letters --store s --master short",
+        "init --store s --master short",
+        "serve --store s --port 0 --count 1",
+        "serve --store s --port 65536 --count 1",
+        "serve --store s --port 08 --count 1",
+        "serve --store s --port +8 --count 1",
+        "serve --store s --port 8 --count 0",
+        "serve --store s --port 8 --count 1000000",
+        "serve --store s --port 8 --count 99999999999999999999",
+        "serve --store s --port 8 --count one",
+        "serve --store s --port --count 1",
+    ] {
+        let words = asked(alloc, line)?;
+        let answer = read_args(alloc, words.as_slice());
+        let checked = matches!(&answer, Err(UsageFault::Check));
+        let refused = matches!(&answer, Err(UsageFault::Clap(_)));
+        assert!(rt; checked || refused && line == "serve --store s --port --count 1");
+    }
+    Ok(())
 }

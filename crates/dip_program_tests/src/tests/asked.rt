@@ -1,12 +1,12 @@
 //! Words, and what is done for them.
 use dip_program::{Failure, do_as_asked, status_of};
+use sqlite_disk::Unknown;
 use std::alloc::{AllocError, Global};
 use std::fs;
-use std::rt::Files;
 use std::test::Fail;
 
 /// Two powers and five provinces.
-const FIVE: &str = "name = \"five\"
+pub const FIVE: &str = "name = \"five\"
 [powers.east]
 home = [\"bay\"]
 units = [\"F bay/nc\"]
@@ -43,7 +43,7 @@ kind = \"sea\"
 fleet = [\"bay/nc\", \"bay/sc\", \"cay\"]
 ";
 
-const CREATE: &str = "LETTER
+pub const CREATE: &str = "LETTER
 GAME g1
 FROM master
 SECRET another-key
@@ -61,7 +61,7 @@ SHOW
 END
 ";
 
-const CREATED: &str = "REPLY g1 master 1
+pub const CREATED: &str = "REPLY g1 master 1
 OK paper 1
 END
 REPLY g1 west 1
@@ -89,10 +89,11 @@ struct Ending {
     left: usize,
 }
 
-fn ending_of<F: Files>(files: &F, alloc: Global, words: &[&str]) -> Ending {
+fn ending_of(rt: &HostRuntime, words: &[&str]) -> Ending {
+    let alloc = rt.alloc();
     let mut reader = CREATE.as_bytes();
     let mut output = Vec::new(alloc);
-    let outcome = do_as_asked(files, alloc, words, &mut reader, &mut output);
+    let outcome = do_as_asked(rt, Unknown, words, &mut reader, &mut output);
     Ending {
         outcome,
         output,
@@ -114,7 +115,7 @@ fn answers_for_the_secret_and_the_map_that_are_named(rt: HostRuntime) -> Result<
             "--map",
             "five.toml",
         ];
-        let end = ending_of(&rt, alloc, &words);
+        let end = ending_of(&rt, &words);
         assert_eq!(rt; status_of(&end.outcome), 0);
         assert!(rt; end.output.as_slice() == replies.as_bytes());
         assert_eq!(rt; end.left, 0);
@@ -178,7 +179,7 @@ fn refuses_before_a_letter_is_read(rt: HostRuntime) -> Result<(), Fail> {
         ),
     ];
     for (words, status, line) in rows {
-        let end = ending_of(&rt, alloc, words);
+        let end = ending_of(&rt, words);
         assert_eq!(rt; status_of(&end.outcome), status);
         assert!(rt; line_of(alloc, &end.outcome)?.as_str() == line);
         assert!(rt; end.output.is_empty());

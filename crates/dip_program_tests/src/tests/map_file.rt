@@ -1,5 +1,7 @@
 //! Maps' files, in memory and of the system.
-use dip_program::{Failure, FileFault, MOST_MAP, ReadFault, read_map, read_text};
+use dip_map::STANDARD;
+use dip_program::Failure;
+use dip_runs::{FileFault, MOST_MAP, NoMap, ReadFault, read_map, read_text, text_said};
 use std::alloc::Global;
 use std::io::Read;
 use std::rt::Files;
@@ -69,7 +71,7 @@ fn refuses_what_cant_be_read(rt: HostRuntime) {
 /// The fault of a map's file, where it has one.
 fn fault_of<R: Files>(rt: &R, alloc: Global, path: &str) -> Option<FileFault> {
     match read_map(rt, alloc, Some(path)) {
-        Err(Failure::MapFile(fault)) => Some(fault),
+        Err(NoMap::File(fault)) => Some(fault),
         _ => None,
     }
 }
@@ -92,10 +94,11 @@ fn tries_the_file_that_is_named(rt: HostRuntime) {
 #[test]
 fn takes_the_standard_map_where_no_file_is_named(rt: HostRuntime) -> Result<(), Fail> {
     let alloc = rt.alloc();
-    let Ok(map) = read_map(&rt, alloc, None) else {
+    let Ok((map, said)) = read_map(&rt, alloc, None) else {
         return Err(Fail::from("no map"));
     };
     assert!(rt; map.province_count() == 75);
+    assert!(rt; said.is_none() && text_said(&said) == STANDARD);
     Ok(())
 }
 
@@ -157,9 +160,10 @@ fn tells_the_fault_of_a_map(rt: HostRuntime) -> Result<(), Fail> {
     let alloc = rt.alloc();
     for (text, line) in FAULTS {
         fs::write(&rt, "fault.toml", text)?;
-        let Err(failure) = read_map(&rt, alloc, Some("fault.toml")) else {
+        let Err(fault) = read_map(&rt, alloc, Some("fault.toml")) else {
             return Err(Fail::from("a map"));
         };
+        let failure = Failure::from(fault);
         assert_eq!(rt; failure.status(), 3);
         let told = failure.to_string(alloc)?;
         assert!(rt; told.as_str() == line);
@@ -171,11 +175,25 @@ fn tells_the_fault_of_a_map(rt: HostRuntime) -> Result<(), Fail> {
 fn tells_a_file_that_is_no_text(rt: HostRuntime) -> Result<(), Fail> {
     let alloc = rt.alloc();
     fs::write(&rt, "bytes.toml", b"name = \"\xff\"")?;
-    let Err(failure) = read_map(&rt, alloc, Some("bytes.toml")) else {
+    let Err(fault) = read_map(&rt, alloc, Some("bytes.toml")) else {
         return Err(Fail::from("a map"));
     };
+    let failure = Failure::from(fault);
     assert_eq!(rt; failure.status(), 5);
     let told = failure.to_string(alloc)?;
     assert!(rt; told.as_str() == "dip_judge: Read\n");
+    Ok(())
+}
+
+#[test]
+fn takes_the_map_of_the_file_and_its_text(rt: HostRuntime) -> Result<(), Fail> {
+    let alloc = rt.alloc();
+    let text = ["# ours\n", STANDARD].concat(alloc)?;
+    fs::write(&rt, "ours.toml", text.as_str())?;
+    let Ok((map, said)) = read_map(&rt, alloc, Some("ours.toml")) else {
+        return Err(Fail::from("no map"));
+    };
+    assert!(rt; map.province_count() == 75);
+    assert!(rt; text_said(&said) == text.as_str());
     Ok(())
 }

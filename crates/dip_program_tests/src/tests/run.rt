@@ -2,7 +2,7 @@
 use dip_desk::MemoryKeeper;
 use dip_letters::digest;
 use dip_map::{Map, STANDARD};
-use dip_program::{MOST_INPUT, RunFault, run_file};
+use dip_runs::{MOST_INPUT, RunFault, run_file};
 use std::alloc::Global;
 use std::io;
 use std::io::{Read, Write};

@@ -1,10 +1,14 @@
-use Rattle.std.proofs.Common.{arith, ◌≡◌, [], ◌∷◌, Option, ℕ, None, take, subst, sym, ◌∙◌}
+use Rattle.std.proofs.Common.{arith, rules, ◌≡◌, [], ◌∷◌, Option, ℕ, None, take, subst, sym, ◌∙◌}
 use Rattle.sqlite.specs.declared.error.Error.{Error}
 use Rattle.sqlite.specs.Held.{state}
 use Rattle.dip_board_rows.specs.Boards.{centre_rows_from}
 use Rattle.dip_rows.specs.Calls.{Writes}
-use Rattle.dip_rows.proofs.Parts.{went, writes_more}
+use Rattle.dip_rows.proofs.Parts.{fails, went, writes_more}
+use Rattle.dip_refusals.proofs.Joining.{wants_broken, wants_more}
+use Rattle.dip_refusals.specs.Keys.{Differ, same_centre}
+use Rattle.dip_refusals.specs.Wants.{Wants, always}
 use Rattle.dip_changing.specs.Parts.{more_centres}
+use Rattle.dip_changing.proofs.Apart.{owners_apart}
 use Rattle.dip_changing.proofs.Adding.{no_centres_more, centres_more}
 use Rattle.dip_changing.proofs.Centres.{owner_more}
 use Rattle.dip_changing.proofs.boards.add_owners.Goals as goal
@@ -19,4 +23,16 @@ loop-number-preserved g c =
       writes = writes_more _ _ _ _ _ _ _ _ _ tt tt tt
           (centres_more _ _ _ (owner_more c.args.map.now c.args.game.now c.args.owners.now c.loop-number.number d c.loop-number-test.true))
           c.loop-number.invariant.writes step;
+      wants = wants_more _ _ _ _ _ _ _ _ _ _ tt tt tt c.loop-number.invariant.wants step c.in_ok-add_owned.ensures.wants;
     }
+
+pub returns-in_err-add_owned-clause-wants : goal.returns-in_err-add_owned-clause-wants
+returns-in_err-add_owned-clause-wants g c =
+    let d = c.index-owners-number.result in
+    let e = c.in_err-add_owned.field-0.0 in
+    let part : ℕ → Option ℕ → Type 0 = λ p o. Wants (λ t. Differ same_centre (more_centres (centre_rows_from c.args.map.now c.args.game.now p (o ∷ [])) t).centres) (state g.S.Store c.loop-number.tx.conn.now) (state g.S.Store c.add_owned.new.tx.conn.now) (fails (Unit {0}) Error e) in
+    let next = subst (λ o. part c.loop-number.number o) c.index-owners-number.is (subst (λ p. part p c.index-owners-number.result) c.new.ensures c.in_err-add_owned.ensures.wants) in
+    let broken = wants_broken (Unit {0}) (Unit {0}) (λ t. Differ same_centre (more_centres (centre_rows_from c.args.map.now c.args.game.now 0 c.args.owners.now) t).centres) always _ _ _ _ _ _
+    (λ t apart. (tt, owners_apart same_centre c.args.map.now c.args.game.now c.args.owners.now c.loop-number.number d c.loop-number-test.true t.centres apart))
+    tt c.loop-number.invariant.writes c.loop-number.invariant.wants (Unit {0}) e c.in_err-add_owned.ensures.writes next in
+    search (rules, broken)

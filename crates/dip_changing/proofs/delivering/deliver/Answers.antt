@@ -1,6 +1,10 @@
+use Rattle.std.proofs.Common.{subst, sym}
 use Rattle.dip_records.specs.Rows as records
+use Rattle.dip_tables.specs.Tables.{Tables}
 use Rattle.dip_tables.specs.Writing.{box_row}
 use Rattle.dip_rows.proofs.Parts.{writes_as}
+use Rattle.dip_refusals.specs.Keys.{Differ, same_item}
+use Rattle.dip_refusals.proofs.Joining.{wants_as}
 use Rattle.dip_changing.specs.Delivering.{boxed}
 use Rattle.dip_changing.proofs.Handing.{same_rows}
 use Rattle.dip_changing.proofs.delivering.deliver.Goals as goal
@@ -9,3 +13,10 @@ pub returns-clause-writes : goal.returns-clause-writes
 returns-clause-writes g c =
     let name = c.args.game.now in
     writes_as _ _ _ _ _ _ _ (same_rows c.args.map.now name (λ power n. boxed name power n c.in_ok-texts.texts) (λ power n. box_row name power n (records.item c.args.item.now)) (λ power n. c.in_ok-texts.ensures name power n) c.args.readers.now) c.put_all.ensures.writes
+
+pub returns-clause-wants : goal.returns-clause-wants
+returns-clause-wants g c =
+    let name = c.args.game.now in
+    wants_as _ _ _ _ _ _ (λ t apart. subst (λ (u : Tables). Differ same_item u.boxes)
+    (sym (same_rows c.args.map.now name (λ power n. boxed name power n c.in_ok-texts.texts) (λ power n. box_row name power n (records.item c.args.item.now)) (λ power n. c.in_ok-texts.ensures name power n) c.args.readers.now t)) apart)
+    c.put_all.ensures.wants

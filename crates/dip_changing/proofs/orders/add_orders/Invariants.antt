@@ -5,6 +5,7 @@ use Rattle.dip_records.specs.Rows as records
 use Rattle.dip_tables.specs.Writing.{pending_row}
 use Rattle.dip_rows.specs.Calls.{Writes}
 use Rattle.dip_rows.proofs.Parts.{went}
+use Rattle.dip_refusals.specs.Wants.{Wants, always}
 use Rattle.dip_changing.specs.Parts.{more_orders}
 use Rattle.dip_changing.proofs.orders.add_orders.Given as goal
 
@@ -12,4 +13,5 @@ abbrev pub invariant-loop-order : goal.invariant-loop-order
 invariant-loop-order g l = record {
   same_reference : l.tx.conn.ghost_name ≡ l.fn.tx.conn.ghost_name;
   writes : Writes (more_orders (map (pending_row l.map l.game l.power) (records.standings (take l.order-index l.orders)))) (state g.S.Store l.fn.tx.conn.now) (state g.S.Store l.tx.conn.now) (went (Unit {0}) Error tt);
+  wants : Wants always (state g.S.Store l.fn.tx.conn.now) (state g.S.Store l.tx.conn.now) (went (Unit {0}) Error tt);
 }

@@ -1,11 +1,16 @@
-use Rattle.std.proofs.Common.{arith, ◌≡◌, [], ◌∷◌, map, take, subst, ◌∙◌}
+use Rattle.std.proofs.Common.{arith, rules, ◌≡◌, [], ◌∷◌, map, take, subst, ◌∙◌}
 use Rattle.sqlite.specs.declared.error.Error.{Error}
 use Rattle.sqlite.specs.Held.{state}
 use Rattle.dip_machine.specs.Rows as machine
+use Rattle.dip_tables.specs.Coding.{same_seat}
 use Rattle.dip_tables.specs.Writing.{seat_row}
 use Rattle.dip_rows.specs.Calls.{Writes}
-use Rattle.dip_rows.proofs.Parts.{went, taken_both, writes_more}
+use Rattle.dip_rows.proofs.Parts.{fails, went, taken_both, writes_more}
+use Rattle.dip_refusals.proofs.Joining.{wants_broken, wants_more}
+use Rattle.dip_refusals.specs.Keys.{Differ}
+use Rattle.dip_refusals.specs.Wants.{Wants, always}
 use Rattle.dip_changing.specs.Parts.{more_seats}
+use Rattle.dip_changing.proofs.Apart.{both_apart}
 use Rattle.dip_changing.proofs.Adding.{no_seats_more, seats_more}
 use Rattle.dip_changing.proofs.seats.add_seats.Goals as goal
 
@@ -19,4 +24,16 @@ loop-seat-preserved g c =
       writes = writes_more _ _ _ _ _ _ _ _ _ tt tt tt
           (seats_more _ _ _ (taken_both row machine.new_seat c.args.seats.now c.loop-seat.seat-index d (omega arith)))
           c.loop-seat.invariant.writes step;
+      wants = wants_more _ _ _ _ _ _ _ _ _ _ tt tt tt c.loop-seat.invariant.wants step c.in_ok-add_new_seat.ensures.wants;
     }
+
+pub returns-in_err-add_new_seat-clause-wants : goal.returns-in_err-add_new_seat-clause-wants
+returns-in_err-add_new_seat-clause-wants g c =
+    let d = c.seat-item.result in
+    let row = seat_row c.args.map.now c.args.game.now in
+    let e = c.in_err-add_new_seat.field-0.0 in
+    let next = subst (λ s. Wants (λ t. Differ same_seat (more_seats (map row (map machine.new_seat (s ∷ []))) t).seats) (state g.S.Store c.loop-seat.tx.conn.now) (state g.S.Store c.add_new_seat.new.tx.conn.now) (fails (Unit {0}) Error e)) c.seat-item.is c.in_err-add_new_seat.ensures.wants in
+    let broken = wants_broken (Unit {0}) (Unit {0}) (λ t. Differ same_seat (more_seats (map row (map machine.new_seat c.args.seats.now)) t).seats) always _ _ _ _ _ _
+    (λ t apart. (tt, both_apart same_seat row machine.new_seat c.args.seats.now c.loop-seat.seat-index d (omega arith) t.seats apart))
+    tt c.loop-seat.invariant.writes c.loop-seat.invariant.wants (Unit {0}) e c.in_err-add_new_seat.ensures.writes next in
+    search (rules, broken)

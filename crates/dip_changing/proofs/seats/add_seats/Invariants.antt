@@ -5,6 +5,7 @@ use Rattle.dip_machine.specs.Rows as machine
 use Rattle.dip_tables.specs.Writing.{seat_row}
 use Rattle.dip_rows.specs.Calls.{Writes}
 use Rattle.dip_rows.proofs.Parts.{went}
+use Rattle.dip_refusals.specs.Wants.{Wants, always}
 use Rattle.dip_changing.specs.Parts.{more_seats}
 use Rattle.dip_changing.proofs.seats.add_seats.Given as goal
 
@@ -12,4 +13,5 @@ abbrev pub invariant-loop-seat : goal.invariant-loop-seat
 invariant-loop-seat g l = record {
   same_reference : l.tx.conn.ghost_name ≡ l.fn.tx.conn.ghost_name;
   writes : Writes (more_seats (map (seat_row l.map l.game) (map machine.new_seat (take l.seat-index l.seats)))) (state g.S.Store l.fn.tx.conn.now) (state g.S.Store l.tx.conn.now) (went (Unit {0}) Error tt);
+  wants : Wants always (state g.S.Store l.fn.tx.conn.now) (state g.S.Store l.tx.conn.now) (went (Unit {0}) Error tt);
 }

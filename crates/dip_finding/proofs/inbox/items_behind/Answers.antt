@@ -34,5 +34,6 @@ loop-index-preserved g c =
           let here = before.same kept (step.fair clean) in
           let after = leaves g.S.Store _ _ item step here.0 clean in
           (after.0, after.1 ∙ here.1);
+      shows = λ kept up clean. step.ok (before.same kept (step.fair clean)).0 clean;
       selects = turns_on g.S.Store _ _ _ tt item before.selects step;
     }

@@ -1,5 +1,7 @@
-use Rattle.std.proofs.Common.{◌≡◌, ℕ, drop, Ok, Err, subst, take}
+use Rattle.std.proofs.Common.{◌≡◌, ℕ, drop, Ok, Err, subst, sym, take}
+use Rattle.std.proofs.lemmas.Result.{err_from_is_err_and}
 use Rattle.dip_board_rows.specs.Boards.{power_name}
+use Rattle.dip_legible.specs.Legible.{AreOurs}
 use Rattle.dip_records.specs.Rows as rows
 use Rattle.dip_rows.specs.Calls.{tables_in}
 use Rattle.dip_rows.proofs.Selecting.{selects_as, selects_fails}
@@ -7,7 +9,8 @@ use Rattle.dip_tables.specs.Counting.{counted, item_numbers}
 use Rattle.dip_tables.specs.Reading.{items_of}
 use Rattle.dip_tables.specs.Tables.{Tables}
 use Rattle.dip_finding.proofs.Onward.{goes_on, leaves, stays}
-use Rattle.dip_finding.proofs.PageLemmas.{page_is}
+use Rattle.dip_finding.proofs.PageLemmas.{page_is, page_low, seat_counts}
+use Rattle.dip_finding.proofs.RowLemmas.{seat_found_readable}
 use Rattle.dip_finding.proofs.inbox.look_items.Goals as goal
 
 pub returns-in-Ok-clause-value : goal.returns-in-Ok-clause-value
@@ -26,7 +29,7 @@ returns-in-Ok-clause-value g c kept clean =
     (rw c.power_name-name.ensures at (c.in-Ok.ensures.value here.0 clean)) in
     page_is m (c.page_is_found.ensures m) (tables_in g.S.Store c.args.conn.now) name power c.args.first c.args.most c.in_ok-count.count skipped many row (rows.items items.items) kept.counted
     (rw (c.in-Some.is, c.power_name-name.ensures) at (c.in_ok-row.ensures.value kept first))
-    c.in_ok-count.ensures.ok.1 c.saturating_sub-skipped.ensures (rw c.saturating_sub.ensures at c.min-many.ensures) read
+    c.in_ok-count.ensures.value c.saturating_sub-skipped.ensures (rw c.saturating_sub.ensures at c.min-many.ensures) read
 
 pub returns-in-Ok-clause-selects : goal.returns-in-Ok-clause-selects
 returns-in-Ok-clause-selects g c = selects_as g.S.Store _ _ c.in-Ok.items _ (goes_on g.S.Store _ _ _ c.in_ok-row.field-0 (Ok c.in-Ok.items) c.in_ok-row.ensures.selects c.in-Ok.ensures.selects)
@@ -34,3 +37,25 @@ returns-in-Ok-clause-selects g c = selects_as g.S.Store _ _ c.in-Ok.items _ (goe
 pub returns-clause-selects : goal.returns-clause-selects
 returns-clause-selects g c =
     selects_fails g.S.Store _ _ c.in-Err.fault c.in-Err.fault (goes_on g.S.Store _ _ _ c.in_ok-row.field-0 (Err c.in-Err.fault) c.in_ok-row.ensures.selects c.in-Err.ensures.selects)
+
+pub returns-in_err-count-clause-own : goal.returns-in_err-count-clause-own
+returns-in_err-count-clause-own g c kept shows clean ours =
+    let row = rw (c.in-Some.is, c.power_name-name.ensures) at (c.in_ok-row.ensures.value kept clean) in
+    let readable = seat_found_readable c.args.map.now (tables_in g.S.Store c.args.conn.now) ours c.args.game.now (power_name c.args.map.now c.args.power) c.in-Some.row row in
+    let p = err_from_is_err_and c.from_residual-in_err-count.result c.from_residual-in_err-count.ensures.1 in
+    rw (p.1, p.2) (c.in_err-count.ensures.own readable.items)
+
+pub returns-clause-own : goal.returns-clause-own
+returns-clause-own g c kept shows clean ours =
+    let seat = c.in_ok-row.ensures.selects in
+    let m = c.args.map.now in
+    let name = c.args.game.now in
+    let power = power_name m c.args.power in
+    let count = c.in_ok-count.count in
+    let first = (c.in-Err.ensures.selects _ (stays g.S.Store c.args.conn.now _ c.in_ok-row.field-0 kept seat)).fair clean in
+    let here = leaves g.S.Store _ _ c.in_ok-row.field-0 seat kept first in
+    let row = rw (c.in-Some.is, c.power_name-name.ensures) at (c.in_ok-row.ensures.value kept first) in
+    let counts = seat_counts m (tables_in g.S.Store c.args.conn.now) name power count c.in-Some.row kept.counted row c.in_ok-count.ensures.value in
+    let low = page_low c.args.most count c.saturating_sub-skipped.result c.min-many.result (rw c.saturating_sub.ensures at c.min-many.ensures) in
+    let fails = rw c.power_name-name.ensures at (c.in-Err.ensures.own here.0 (seat.ok kept first) clean m (subst (AreOurs m) (sym here.1) ours) count) in
+    fails (subst (λ (t : Tables). item_numbers t.boxes name power ≡ counted count) (sym here.1) counts) low

@@ -1,9 +1,11 @@
 use Rattle.std.proofs.Common.{◌≡◌, map, filter, subst, ap, Some, ◌∙◌}
+use Rattle.std.proofs.lemmas.Result.{err_from_is_err_and}
 use Rattle.sqlite.specs.Effect.{Database}
 use Rattle.dip_rows.specs.Calls.{tables_in}
 use Rattle.dip_rows.specs.Rows.{tables_of}
 use Rattle.dip_rows.specs.Showing.{show_centre, show_unit}
 use Rattle.dip_tables.specs.Tables.{is_unit_in, is_centre_in}
+use Rattle.dip_finding.proofs.BoardRows.{game_found_readable}
 use Rattle.dip_finding.proofs.PublicLemmas.{public_is}
 use Rattle.dip_finding.proofs.public.look_public.Goals as goal
 
@@ -22,7 +24,28 @@ returns-clause-value g c kept clean =
     let name = c.args.game.now in
     let units = subst (λ (d : Database). c.in_ok-units.units.items ≡ map show_unit (filter (is_unit_in name) (tables_of d.trees).units)) same1 (c.in_ok-units.ensures.value kept1 clean2) in
     let centres = subst (λ (d : Database). c.in_ok-centres.centres.items ≡ map show_centre (filter (is_centre_in name) (tables_of d.trees).centres)) (same2 ∙ same1) (c.in_ok-centres.ensures.value kept2 clean) in
-    let said = rw (c.as_slice.ensures.value, c.as_slice-2.ensures.value) at c.in_ok-public.ensures in
+    let said = rw (c.as_slice.ensures.value, c.as_slice-2.ensures.value) at c.in_ok-public.ensures.value in
     ap Some said
     ∙ public_is c.args.map.now (tables_in g.S.Store c.args.conn.now) name c.in-Some.row c.in_ok-units.units.items c.in_ok-centres.centres.items
     (rw c.in-Some.is at (c.in_ok-row.ensures.value kept clean1)) units centres
+
+pub returns-in_err-public-clause-own : goal.returns-in_err-public-clause-own
+returns-in_err-public-clause-own g c kept shows clean ours =
+    let a = c.in_ok-row.ensures.selects in
+    let b = c.in_ok-units.ensures.selects in
+    let clean2 = c.in_ok-centres.ensures.selects.fair clean in
+    let clean1 = b.fair clean2 in
+    let shows1 = a.ok kept clean1 in
+    let kept1 = a.kept kept shows1 in
+    let same1 = a.same kept shows1 in
+    let shows2 = b.ok kept1 clean2 in
+    let kept2 = b.kept kept1 shows2 in
+    let same2 = b.same kept1 shows2 in
+    let name = c.args.game.now in
+    let units = subst (λ (d : Database). c.in_ok-units.units.items ≡ map show_unit (filter (is_unit_in name) (tables_of d.trees).units)) same1 (c.in_ok-units.ensures.value kept1 clean2) in
+    let centres = subst (λ (d : Database). c.in_ok-centres.centres.items ≡ map show_centre (filter (is_centre_in name) (tables_of d.trees).centres)) (same2 ∙ same1) (c.in_ok-centres.ensures.value kept2 clean) in
+    let readable = game_found_readable c.args.map.now (tables_in g.S.Store c.args.conn.now) ours name c.in-Some.row c.in_ok-units.units.items c.in_ok-centres.centres.items
+    (rw c.in-Some.is at (c.in_ok-row.ensures.value kept clean1)) units centres in
+    let fails = rw (c.as_slice.ensures.value, c.as_slice-2.ensures.value) at c.in_err-public.ensures.own in
+    let p = err_from_is_err_and c.from_residual-in_err-public.result c.from_residual-in_err-public.ensures.1 in
+    rw (p.1, p.2) (fails readable)

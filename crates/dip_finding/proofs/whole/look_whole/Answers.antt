@@ -1,4 +1,6 @@
-use Rattle.std.proofs.Common.{◌≡◌, filter, map, Ok, Err, subst}
+use Rattle.std.proofs.Common.{◌≡◌, filter, map, Ok, Err, subst, sym}
+use Rattle.std.proofs.lemmas.Result.{err_from_is_err_and}
+use Rattle.dip_legible.specs.Legible.{AreOurs}
 use Rattle.dip_records.specs.Rows as rows
 use Rattle.dip_rows.specs.Calls.{tables_in}
 use Rattle.dip_rows.specs.Showing.{show_listed}
@@ -6,6 +8,7 @@ use Rattle.dip_rows.proofs.Selecting.{selects_as, selects_fails, selects_then}
 use Rattle.dip_tables.specs.Tables.{Tables, is_seat_in}
 use Rattle.dip_finding.specs.Shown.{listed_own}
 use Rattle.dip_finding.proofs.Onward.{goes_on, leaves, stays}
+use Rattle.dip_finding.proofs.RowLemmas.{seats_readable}
 use Rattle.dip_finding.proofs.WholeLemmas.{whole_is}
 use Rattle.dip_finding.proofs.whole.look_whole.Goals as goal
 
@@ -38,3 +41,28 @@ pub returns-in-Err-clause-selects : goal.returns-in-Err-clause-selects
 returns-in-Err-clause-selects g c =
     selects_fails g.S.Store _ _ c.in-Err.fault c.in-Err.fault (goes_on g.S.Store _ _ _ c.in_ok-rows.rows (Err c.in-Err.fault)
     (selects_then g.S.Store _ _ _ c.in_ok-public.field-0 (Ok c.in_ok-rows.rows) c.in_ok-public.ensures.selects c.in_ok-rows.ensures.selects) c.in-Err.ensures.selects)
+
+pub returns-in_err-rows-clause-own : goal.returns-in_err-rows-clause-own
+returns-in_err-rows-clause-own g c kept shows clean ours =
+    let one = c.in_ok-public.ensures.selects in
+    let first = c.in_err-rows.ensures.selects.fair clean in
+    let here = leaves g.S.Store c.args.conn.now _ c.in_ok-public.field-0 one kept first in
+    let p = err_from_is_err_and c.from_residual-in_err-rows.result c.from_residual-in_err-rows.ensures.1 in
+    rw (p.1, p.2) (c.in_err-rows.ensures.outside here.0 (one.ok kept first) clean)
+
+pub returns-in-Err-clause-own : goal.returns-in-Err-clause-own
+returns-in-Err-clause-own g c kept shows clean ours =
+    let m = c.args.map.now in
+    let name = c.args.game.now in
+    let seats = c.in_ok-rows.rows in
+    let one = c.in_ok-public.ensures.selects in
+    let two = c.in_ok-rows.ensures.selects in
+    let both = selects_then g.S.Store c.args.conn.now _ _ c.in_ok-public.field-0 (Ok seats) one two in
+    let clean2 = (c.in-Err.ensures.selects _ (stays g.S.Store c.args.conn.now _ seats kept both)).fair clean in
+    let clean1 = two.fair clean2 in
+    let here1 = leaves g.S.Store c.args.conn.now _ c.in_ok-public.field-0 one kept clean1 in
+    let here2 = leaves g.S.Store c.args.conn.now _ seats both kept clean2 in
+    let listed = subst (λ (t : Tables). seats.items ≡ map show_listed (filter (is_seat_in name) t.seats)) here1.1 (c.in_ok-rows.ensures.value here1.0 clean2) in
+    let readable = seats_readable m (tables_in g.S.Store c.args.conn.now) ours name seats.items listed in
+    let fails = rw c.as_slice.ensures.value at c.in-Err.ensures.own in
+    fails here2.0 (two.ok here1.0 clean2) clean (subst (AreOurs m) (sym here2.1) ours) readable

@@ -2,7 +2,7 @@ use Rattle.std.proofs.Common.{◌≡◌, map, take}
 use Rattle.dip_finding.specs.Asked.{SelectsOn}
 use Rattle.dip_finding.specs.Shown.{listed_own}
 use Rattle.dip_records.specs.Rows as rows
-use Rattle.dip_rows.specs.Calls.{IsKept, is_honest, tables_in}
+use Rattle.dip_rows.specs.Calls.{IsKept, does_show, is_honest, tables_in}
 use Rattle.dip_rows.proofs.Parts.{went}
 use Rattle.sqlite.specs.declared.error.Error.{Error}
 use Rattle.dip_finding.proofs.whole.owns_of.Given as goal
@@ -11,5 +11,6 @@ abbrev pub invariant-loop-seat : goal.invariant-loop-seat
 invariant-loop-seat g l = record {
   value : IsKept g.S.Store l.fn.conn → is_honest g.S.Store l.conn → map rows.own l.owns.items ≡ map (listed_own l.map (tables_in g.S.Store l.fn.conn).pending l.game) (take l.seat-index l.seats);
   same : IsKept g.S.Store l.fn.conn → is_honest g.S.Store l.conn → IsKept g.S.Store l.conn × (tables_in g.S.Store l.conn ≡ tables_in g.S.Store l.fn.conn);
+  shows : IsKept g.S.Store l.fn.conn → does_show g.S.Store l.fn.conn → is_honest g.S.Store l.conn → does_show g.S.Store l.conn;
   selects : SelectsOn g.S.Store l.fn.conn l.conn (went (Unit {0}) Error tt);
 }

@@ -1,8 +1,14 @@
-use Rattle.std.proofs.Common.{ℕ, Vec, Global}
+use Rattle.std.proofs.Common.{List, ℕ, Vec, Global, subst, ◌∙◌}
+use Rattle.dip_machine.specs.Rows as machine
+use Rattle.dip_tables.specs.Counting.{CountsOn}
+use Rattle.dip_tables.specs.Tables.{Tables}
+use Rattle.dip_rows.specs.Calls.{tables_in}
 use Rattle.dip_changing.specs.declared.delivering.Reader.{Reader}
 use Rattle.dip_making.specs.declared.counts.Counted.{Counted}
 use Rattle.dip_making.specs.declared.faults.MakeFault.{MakeFault}
-use Rattle.dip_making.proofs.Peeking.{peeks_all, peeks_broken}
+use Rattle.dip_making.specs.Failing.{InboxesHaveRoom, PressHasRoom}
+use Rattle.dip_making.proofs.Placed.{inboxes_room, room_of}
+use Rattle.dip_making.proofs.Peeking.{peeks_all, peeks_broken, peeks_fair, peeks_kept}
 use Rattle.dip_making.proofs.counts.count.Goals as goal
 
 pub returns-in_err-sent-clause-peeks : goal.returns-in_err-sent-clause-peeks
@@ -14,3 +20,24 @@ pub returns-clause-peeks : goal.returns-clause-peeks
 returns-clause-peeks g c =
     peeks_all g.S.Store {X = Unit {0}} {E = MakeFault} {Y = ℕ} {F = MakeFault} {Z = Vec Reader Global} {G = MakeFault} {W = Counted} {H = MakeFault} c.args.conn.now c.check_paper.new.conn c.count_press.new.conn c.readers_of.new.conn
     c.in_ok-check_paper.field-0 c.in_ok-sent.sent c.in_ok-readers.readers _ c.in_ok-check_paper.ensures.peeks c.in_ok-sent.ensures.peeks c.in_ok-readers.ensures.peeks
+
+pub returns-clause-place : goal.returns-clause-place
+returns-clause-place g c kept clean =
+    let m = c.args.map.now in
+    let it = machine.change c.args.change.now in
+    let old = c.args.conn.now in
+    let game = c.as_str-game.result.now in
+    let two = peeks_fair g.S.Store {X = Vec Reader Global} {E = MakeFault} c.count_press.new.conn c.readers_of.new.conn _ c.in_ok-readers.ensures.peeks clean in
+    let one = peeks_fair g.S.Store {X = ℕ} {E = MakeFault} c.check_paper.new.conn c.count_press.new.conn _ c.in_ok-sent.ensures.peeks two in
+    let first = peeks_kept g.S.Store {X = Unit {0}} {E = MakeFault} old c.check_paper.new.conn c.in_ok-check_paper.field-0 c.in_ok-check_paper.ensures.peeks kept one in
+    let second = peeks_kept g.S.Store {X = ℕ} {E = MakeFault} c.check_paper.new.conn c.count_press.new.conn c.in_ok-sent.sent c.in_ok-sent.ensures.peeks first.0 two in
+    let named = c.as_str-game.ensures.value in
+    let sent = subst (λ (n : List ℕ). PressHasRoom m it.author n it.effect (tables_in g.S.Store old).seats) named
+    (subst (λ (t : Tables). PressHasRoom m it.author game it.effect t.seats) first.1 (c.in_ok-sent.ensures.room first.0 two)) in
+    let inboxes = subst (λ (n : List ℕ). InboxesHaveRoom m n it.effect (tables_in g.S.Store old).seats) named
+    (subst (λ (t : Tables). InboxesHaveRoom m game it.effect t.seats) (second.1 ∙ first.1)
+    (inboxes_room m game it.effect (tables_in g.S.Store c.count_press.new.conn).seats c.in_ok-readers.readers.items (c.in_ok-readers.ensures.value second.0 clean) c.in_ok-readers.ensures.room)) in
+    record {
+      paper = subst (λ (n : List ℕ). CountsOn n it.effect (tables_in g.S.Store old).games) named (c.in_ok-check_paper.ensures.value kept one);
+      room = room_of m it.author it.game it.effect (tables_in g.S.Store old) sent inboxes;
+    }

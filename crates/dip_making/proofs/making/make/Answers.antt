@@ -7,12 +7,16 @@ use Rattle.dip_tables.specs.Coding.{AreApart}
 use Rattle.dip_tables.specs.Counting.{AreCounted}
 use Rattle.dip_rows.specs.Calls.{tables_in}
 use Rattle.dip_rows.proofs.Apart.{are_apart}
+use Rattle.dip_tables.specs.Tables.{Tables}
+use Rattle.dip_refusals.specs.Keys.{AreKeyed}
 use Rattle.dip_changing.specs.declared.delivering.Reader.{Reader}
 use Rattle.dip_making.specs.Counts.{Counts}
 use Rattle.dip_making.specs.Making.{changing_sent}
 use Rattle.dip_making.specs.declared.faults.MakeFault.{MakeFault}
 use Rattle.dip_making.proofs.Counted.{counted_change}
+use Rattle.dip_making.specs.declared.counts.Counted.{Counted}
 use Rattle.dip_making.proofs.Made.{laid_kept, makes_named, makes_peeked}
+use Rattle.dip_making.proofs.Peeking.{peeks_kept, peeks_shows}
 use Rattle.dip_making.proofs.making.make.Goals as goal
 
 pub returns-in-Ok-clause-makes : goal.returns-in-Ok-clause-makes
@@ -53,3 +57,22 @@ returns-clause-makes g c =
     (λ kept clean. counted_change m (c.readers_are_seats.ensures m) (c.press_is_delivered_one_by_one.ensures m) it (tables_in g.S.Store old) n rs (are_apart (state g.S.Store old).now kept.good)
     (subst (λ (rs : List Reader). Counts n rs m it (tables_in g.S.Store old)) (sym c.as_slice.ensures.value) (c.in_ok-counted.ensures.value kept (k.fair clean))))
     (makes_peeked g.S.Store _ _ _ _ (changing_sent n rs m it) old c.count.new.conn c.make_with.new.conn c.in_ok-counted.counted _ c.in_ok-counted.ensures.peeks k)
+
+pub returns-in-Ok-clause-place : goal.returns-in-Ok-clause-place
+returns-in-Ok-clause-place g c kept up = c.in_ok-counted.ensures.place kept (c.in-Ok.ensures.makes.fair up.0)
+
+pub returns-clause-fails : goal.returns-clause-fails
+returns-clause-fails g c kept shows clean may =
+    let m = c.args.map.now in
+    let it = machine.change c.args.change.now in
+    let old = c.args.conn.now in
+    let mid = c.count.new.conn in
+    let t = tables_in g.S.Store old in
+    let n = c.in_ok-counted.counted.sent in
+    let rs = c.as_slice.result.now in
+    let honest = c.in-Err.ensures.makes.fair clean in
+    let there = peeks_kept g.S.Store {X = Counted} {E = MakeFault} old mid c.in_ok-counted.counted c.in_ok-counted.ensures.peeks kept honest in
+    let up = peeks_shows g.S.Store {X = Counted} {E = MakeFault} old mid c.in_ok-counted.counted c.in_ok-counted.ensures.peeks kept shows honest in
+    let counts = subst (λ (rs : List Reader). Counts n rs m it t) (sym c.as_slice.ensures.value) (c.in_ok-counted.ensures.value kept honest) in
+    let same = counted_change m (c.readers_are_seats.ensures m) (c.press_is_delivered_one_by_one.ensures m) it t n rs (are_apart (state g.S.Store old).now kept.good) counts in
+    c.in-Err.ensures.wants there.0 up clean (subst (λ (u : Tables). AreKeyed (changing_sent n rs m it u)) (sym there.1) (subst AreKeyed (sym same) may.keyed))

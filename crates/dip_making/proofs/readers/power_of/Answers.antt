@@ -1,5 +1,6 @@
 use Rattle.std.proofs.Common.{ap, sym, ◌∙◌}
 use Rattle.sqlite.specs.Order.{bytes}
+use Rattle.dip_making.proofs.Failing.{power_reads, sql_fails}
 use Rattle.dip_making.proofs.Listed.{power_named}
 use Rattle.dip_making.proofs.readers.power_of.Goals as goal
 
@@ -7,3 +8,8 @@ pub returns-in-Some-clause-name : goal.returns-in-Some-clause-name
 returns-in-Some-clause-name c =
     power_named c.args.map.now _ c.in-Some.power (sym c.power.ensures ∙ c.in-Some.is)
     ∙ c.as_str.ensures.value ∙ ap bytes (sym c.in_ok-name.ensures.ok.1)
+
+pub returns-in_err-name-clause-fails : goal.returns-in_err-name-clause-fails
+returns-in_err-name-clause-fails c ok listed =
+    sql_fails ⊥ c.in_err-name.field-0.0 c.from_residual.result c.from_residual.ensures.1
+    (power_reads c.args.map.now ok c.args.row.now listed c.in_err-name.field-0.0 c.in_err-name.ensures.named c.in_err-name.ensures.kind)

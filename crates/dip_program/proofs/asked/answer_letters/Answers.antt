@@ -1,4 +1,4 @@
-use Rattle.dip_program.proofs.AskedLemmas.{answered, cut_short}
+use Rattle.dip_program.proofs.FreshLemmas.{answered, cut_short}
 use Rattle.dip_program.proofs.asked.answer_letters.Goals as goal
 
 pub returns-clause-done : goal.returns-clause-done

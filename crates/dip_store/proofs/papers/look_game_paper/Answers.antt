@@ -1,4 +1,6 @@
-use Rattle.std.proofs.Common.{◌≡◌, find, option_map, string_bytes, subst}
+use Rattle.std.proofs.Common.{◌≡◌, find, option_map, string_bytes, sym, subst}
+use Rattle.std.proofs.lemmas.Result.{err_from_is_err_and}
+use Rattle.dip_legible.specs.Legible.{AreOurs}
 use Rattle.dip_rows.specs.Calls.{tables_in}
 use Rattle.dip_rows.specs.Showing.{is_numbered}
 use Rattle.dip_tables.specs.Tables.{Tables}
@@ -22,3 +24,11 @@ returns-clause-value g c kept clean m =
     (c.in_ok-paper.ensures.value here.0 clean) in
     paper_is m (c.paper_is_found.ensures m) (tables_in g.S.Store c.args.conn.now) kept.counted name number c.in-Some._count _
     (rw c.in-Some.is at (c.in_ok-_count.ensures.value kept clean1)) read
+
+pub returns-in_err-paper-clause-own : goal.returns-in_err-paper-clause-own
+returns-in_err-paper-clause-own g c kept shows clean m ours =
+    let clean1 = c.in_err-paper.ensures.selects.fair clean in
+    let here = leaves g.S.Store c.args.conn.now _ c.in_ok-_count.field-0 c.in_ok-_count.ensures.selects kept clean1 in
+    let shows1 = c.in_ok-_count.ensures.selects.ok kept clean1 in
+    let p = err_from_is_err_and c.from_residual-in_err-paper.result c.from_residual-in_err-paper.ensures.1 in
+    rw (p.1, p.2) (c.in_err-paper.ensures.own here.0 shows1 clean m (subst (AreOurs m) (sym here.1) ours))

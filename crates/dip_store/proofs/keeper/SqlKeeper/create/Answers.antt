@@ -10,5 +10,5 @@ returns-in-Ok-clause-opened g c =
       unlimited = rw c.set_step_limit.ensures refl;
     } in
     rw c.over.ensures
-    (λ clean. opens_new g.S.Store c.args.map.now c.args.alloc c.found.new.conn c.commits_last.ensures _ c.args.digest.now (c.new_tables_are_new.ensures c.args.map.now) c.has_32.ensures
+    (λ clean. opens_new g.S.Store c.args.map.now c.args.alloc c.found.new.conn c.commits_last.ensures _ c.args.digest.now c.facts.ensures (c.new_tables_are_new.ensures c.args.map.now) c.new_tables_are_legible.ensures c.has_32.ensures
     (c.in-Ok.ensures.kept new clean) (c.in-Ok.ensures.ok clean))

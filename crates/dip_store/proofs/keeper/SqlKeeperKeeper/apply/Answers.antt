@@ -1,6 +1,7 @@
+use Rattle.std.proofs.Common.{sym, ◌∙◌}
 use Rattle.dip_machine.specs.Rows as machine
 use Rattle.dip_tables.specs.Columns.{IsWritable}
-use Rattle.dip_store.proofs.Made.{changes_well, changes_ill}
+use Rattle.dip_store.proofs.Made.{changes_well, changes_ill, changes_none}
 use Rattle.dip_store.proofs.keeper.SqlKeeperKeeper.apply.Goals as goal
 
 pub returns-in-Ok : goal.returns-in-Ok
@@ -8,12 +9,22 @@ returns-in-Ok g c =
     let m = c.args.map.now in
     let it = machine.change c.args.change.now in
     let fits : IsWritable m it = c.is_writable.ensures.0 c.if-not-is_writable.false in
-    changes_well g.S.Store m c.args.self.now it c.make.new.conn (c.changes_are_made.ensures m c.facts.ensures) fits c.has_widths.ensures _ _ c.in-Ok.field-0 c.in-Ok.ensures.makes c.in-Ok.ensures.kept
+    changes_well g.S.Store m c.args.self.now it c.make.new.conn (c.changes_are_made.ensures m c.facts.ensures) fits c.has_widths.ensures _ _ c.in-Ok.field-0 c.has_texts.ensures (c.tables_stay_legible.ensures m)
+    c.in-Ok.ensures.makes c.in-Ok.ensures.kept c.in-Ok.ensures.place
 
 pub returns-in-Err : goal.returns-in-Err
 returns-in-Err g c =
     let m = c.args.map.now in
     let it = machine.change c.args.change.now in
     let fits : IsWritable m it = c.is_writable.ensures.0 c.if-not-is_writable.false in
-    rw (c.told-in-Err.ensures.same, c.told-in-Err.ensures.told)
-    (changes_ill g.S.Store m c.args.self.now it c.make.new.conn (c.changes_are_made.ensures m c.facts.ensures) fits c.has_widths.ensures _ _ _ c.in-Err.fault _ c.in-Err.ensures.makes)
+    rw (c.told-in-Err.ensures.same, c.told-in-Err.ensures.told, c.make_fault.ensures)
+    (changes_ill g.S.Store m c.args.self.now it c.make.new.conn (c.changes_are_made.ensures m c.facts.ensures) fits c.has_widths.ensures _ _ c.in-Err.fault (c.what_fits_finds_place.ensures m)
+    c.in-Err.ensures.makes c.in-Err.ensures.fails)
+
+pub returns-then-not-is_writable : goal.returns-then-not-is_writable
+returns-then-not-is_writable g c =
+    let m = c.args.map.now in
+    let it = machine.change c.args.change.now in
+    rw (c.told.ensures.same, c.told.ensures.told)
+    (changes_none g.S.Store m c.args.self.now it _ (c.what_fits_can_be_written.ensures m)
+    (λ fits. absurd (let x = sym c.if-not-is_writable.true ∙ c.is_writable.ensures.1 fits in cc)))

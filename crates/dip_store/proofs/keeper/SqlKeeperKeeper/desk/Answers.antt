@@ -1,7 +1,12 @@
-use Rattle.dip_store.proofs.Looking.{looks_well}
+use Rattle.dip_store.proofs.Looking.{looks_well, looks_ill}
 use Rattle.dip_store.proofs.keeper.SqlKeeperKeeper.desk.Goals as goal
 
 pub returns-in-Ok : goal.returns-in-Ok
 returns-in-Ok g c m =
     looks_well g.S.Store m c.args.self.now c.look_desk.new.conn _ _ c.in-Ok.desk _ c.in-Ok.ensures.selects
     (λ kept ours clean. c.in-Ok.ensures.value kept clean m ours.coded)
+
+pub returns-in-Err : goal.returns-in-Err
+returns-in-Err g c m =
+    rw (c.told.ensures.same, c.told.ensures.told, c.look_fault.ensures)
+    (looks_ill g.S.Store m c.args.self.now c.look_desk.new.conn _ _ c.in-Err.fault _ c.in-Err.ensures.selects (λ kept shows clean. c.in-Err.ensures.own kept shows clean m))

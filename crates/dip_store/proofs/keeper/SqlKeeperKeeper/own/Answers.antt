@@ -1,6 +1,6 @@
 use Rattle.std.proofs.Common.{sym, ◌∙◌}
 use Rattle.dip_rows.specs.Calls.{tables_in}
-use Rattle.dip_store.proofs.Looking.{looks_well}
+use Rattle.dip_store.proofs.Looking.{looks_well, looks_ill}
 use Rattle.dip_store.proofs.keeper.SqlKeeperKeeper.own.Goals as goal
 
 pub returns-in-Ok : goal.returns-in-Ok
@@ -9,3 +9,9 @@ returns-in-Ok g c =
     looks_well g.S.Store m c.args.self.now c.look_own.new.conn _ _ c.in-Ok.own _ c.in-Ok.ensures.selects
     (λ kept ours clean. c.in-Ok.ensures.value kept clean
     ∙ sym (c.own_is_found.ensures m c.facts.ensures (tables_in g.S.Store c.args.self.now.conn) c.args.game.now c.args.power ours.coded c.requires.power))
+
+pub returns-in-Err : goal.returns-in-Err
+returns-in-Err g c =
+    let m = c.args.map.now in
+    rw (c.told.ensures.same, c.told.ensures.told, c.look_fault.ensures)
+    (looks_ill g.S.Store m c.args.self.now c.look_own.new.conn _ _ c.in-Err.fault _ c.in-Err.ensures.selects c.in-Err.ensures.own)

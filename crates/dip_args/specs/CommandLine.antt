@@ -1,0 +1,47 @@
+-- The command line of the judge, in the terms of clap's definition.
+use Rattle.std.specs.Prelude.{true, Some, codes}
+use Rattle.clap.specs.Words.{App, Rule, Text, new_app, new_rule, with_rule, with_subcommand}
+
+-- the option of that name, with one value
+abbrev pub option_rule : Text → Rule
+option_rule name = record (new_rule name) { long = Some name; value_names = 1 }
+
+-- the same of a command that wants it
+abbrev pub required_rule : Text → Rule
+required_rule name = record (option_rule name) { required = true }
+
+-- `init --store F --master S [--map M]`
+abbrev pub init_command : App
+init_command = with_rule (with_rule (with_rule (new_app (codes "init"))
+    (required_rule (codes "store"))) (required_rule (codes "master"))) (option_rule (codes "map"))
+
+-- `letters [--store F] [--master S] [--map M]`
+abbrev pub letters_command : App
+letters_command = with_rule (with_rule (with_rule (new_app (codes "letters"))
+    (option_rule (codes "store"))) (option_rule (codes "master"))) (option_rule (codes "map"))
+
+-- `serve --store F --port P`, to which more comes
+abbrev pub listening_command : App
+listening_command = with_rule (with_rule (new_app (codes "serve"))
+    (required_rule (codes "store"))) (required_rule (codes "port"))
+
+-- `serve --store F --port P --count N [--map M]`
+abbrev pub serve_command : App
+serve_command = with_rule (with_rule listening_command
+    (required_rule (codes "count"))) (option_rule (codes "map"))
+
+-- `report --store F --game G [--map M]`
+abbrev pub report_command : App
+report_command = with_rule (with_rule (with_rule (new_app (codes "report"))
+    (required_rule (codes "store"))) (required_rule (codes "game"))) (option_rule (codes "map"))
+
+-- the program, which wants a command, with the first two of them
+abbrev pub mail_command : App
+mail_command = with_subcommand (with_subcommand (on_required (new_app (codes "dip_judge"))) init_command.top) letters_command.top
+  where
+    on_required : App → App
+    on_required a = record a { top = record a.top { subcommand_required = true } }
+
+-- the program
+abbrev pub judge_command : App
+judge_command = with_subcommand (with_subcommand mail_command serve_command.top) report_command.top

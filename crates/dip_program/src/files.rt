@@ -1,0 +1,34 @@
+//! The store's file.
+ghost use Rattle.std.specs.Prelude.{IfErr};
+ghost use Rattle.dip_program.specs.Stores.{IsOpenFault};
+
+use dip_store::{StoreFault, open_fault};
+use sqlite::Connection;
+use sqlite_disk::Start;
+use sqlite_std_file::FileFrom;
+use sqlite_store::FileStore;
+
+/// A store that lies in a file.
+pub(crate) type Stored<S> = Connection<FileStore<FileFrom<S>>>;
+
+/// Opens the store of a file, which is made, empty, where there is none.
+///
+/// # Errors
+/// Want of memory; or the disk, also for a file that isn't a database or that another program has open.
+pub(crate) fn open_file<S: Start>(
+    rt: &HostRuntime,
+    start: S,
+    path: &str,
+) -> Result<Stored<S>, StoreFault>
+    ensures { IfErr result IsOpenFault }
+{
+    match Connection::open_from(rt, path, false, start) {
+        Ok(conn) => Ok(conn),
+        Err((error, _)) => Err(open_fault(error)),
+    }
+}
+
+/// Closes a store's file. What is committed stays committed, whatever closing it comes to.
+pub(crate) fn close_file<S: Start>(store: Stored<S>) {
+    let _ = store.close();
+}

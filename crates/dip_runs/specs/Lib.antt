@@ -1,0 +1,5 @@
+pub mod Reading
+pub mod Runs
+pub mod RunFaults
+pub mod Names
+pub mod MapFiles

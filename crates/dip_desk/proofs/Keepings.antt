@@ -13,6 +13,7 @@ pub keeps_then : {K X Y : Type 0} (m : Chart) (b : Book K) (old mid new : K) (x 
     → Keeps {X = X} m b old mid (Ok x) → Keeps m b mid new result → Keeps m b old new result
 keeps_then m b old mid new x result first second = record {
   count = second.count ∙ ap (faults_after result) first.count;
+  told = omega (arith, first.told, second.told);
   fair = λ honest. first.fair (second.fair honest);
   shown = λ shows. first.shown (second.shown shows);
   sound = λ sound shows. second.sound (first.sound sound (second.shown shows)) shows;
@@ -74,6 +75,9 @@ looks_then m b old mid new x First Second Both result first further second = rec
       (λ y seen. further (first.value sound before) y (subst (λ (s : State). Second s y) (first.same sound before) seen))
       (second.value (first.keeps.sound sound before) shows);
   damaged = λ sound shows bad. second.damaged (first.keeps.sound sound (second.keeps.shown shows)) shows bad;
+  failed = λ sound shows bad.
+      let rises = second.failed (first.keeps.sound sound (second.keeps.shown shows)) shows bad in
+      omega (arith, rises, first.keeps.told);
   same = λ sound shows. let before = second.keeps.shown shows in second.same (first.keeps.sound sound before) shows ∙ first.same sound before;
   left = λ sound honest s left. let fair = second.keeps.fair honest in first.left sound fair s (second.left (first.keeps.firm sound fair) honest s left);
 }
@@ -85,6 +89,7 @@ looks_as m b old new Value Other result follows look = record {
   keeps = look.keeps;
   value = λ sound shows. IfOk-weaker result Value Other follows (look.value sound shows);
   damaged = look.damaged;
+  failed = look.failed;
   same = look.same;
   left = look.left;
 }
@@ -94,7 +99,7 @@ pub fault_then : {K X Y R : Type 0} (m : Chart) (b : Book K) (old mid : K) (x : 
     (Blame : State → Type 0) → Looks m b old mid Value ⊥ (Ok x) → faults_with fault 0 ≡ 0 → (Value x → fault ≡ Damaged → Blame (b.content m old))
     → Steps {X = Y} m b old mid say Step Blame (Err fault)
 fault_then m b old mid x Value fault say Step Blame look other blamed = record {
-  keeps = record { count = look.keeps.count ∙ same fault other; fair = look.keeps.fair; shown = look.keeps.shown; sound = look.keeps.sound; firm = λ sound honest. tt; stays_open = λ sound honest shows. tt };
+  keeps = record { count = look.keeps.count ∙ same fault other; told = look.keeps.told; fair = look.keeps.fair; shown = look.keeps.shown; sound = look.keeps.sound; firm = λ sound honest. tt; stays_open = λ sound honest shows. tt };
   done = λ sound shows. tt;
   undone = look.same;
   damaged = λ sound shows bad. let told : fault ≡ Damaged = cc in blamed (look.value sound shows) told;
@@ -109,7 +114,7 @@ fault_then m b old mid x Value fault say Step Blame look other blamed = record {
 
 -- what is kept by an answer says nothing of its value
 pub keeps_as : {K X Y : Type 0} (m : Chart) (b : Book K) (old new : K) (x : X) (y : Y) → Keeps {X = X} m b old new (Ok x) → Keeps {X = Y} m b old new (Ok y)
-keeps_as m b old new x y k = record { count = k.count; fair = k.fair; shown = k.shown; sound = k.sound; firm = k.firm; stays_open = k.stays_open }
+keeps_as m b old new x y k = record { count = k.count; told = k.told; fair = k.fair; shown = k.shown; sound = k.sound; firm = k.firm; stays_open = k.stays_open }
 
 -- a change that a fault leaves unmade is a step that isn't taken: a crash may leave what the step would have, and what doesn't fit may
 -- be Damaged
@@ -118,7 +123,7 @@ pub unmade : {K X R : Type 0} (m : Chart) (b : Book K) (old new : K) (change : S
     → ((s : State) → s ≡ change (b.content m old) → (r : R) × Step (b.content m old) r s) → ((s : State) → Suits s → Fits s)
     → Steps {X = X} m b old new say Step (λ s. Suits s → ⊥) (Err fault)
 unmade m b old new change Fits fault say Step Suits h taken fit = record {
-  keeps = record { count = h.keeps.count; fair = h.keeps.fair; shown = h.keeps.shown; sound = h.keeps.sound; firm = λ sound honest. tt; stays_open = λ sound honest shows. tt };
+  keeps = record { count = h.keeps.count; told = h.keeps.told; fair = h.keeps.fair; shown = h.keeps.shown; sound = h.keeps.sound; firm = λ sound honest. tt; stays_open = λ sound honest shows. tt };
   done = λ sound shows. tt;
   undone = h.undone;
   damaged = λ sound shows bad suits. let told : fault ≡ Damaged = cc in h.fitting sound shows (fit (b.content m old) suits) (ap (λ (f : KeepFault). Err f) told);

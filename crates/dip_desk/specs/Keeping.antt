@@ -1,10 +1,10 @@
 -- What each call of a keeper keeps.
-use Rattle.std.specs.Prelude.{◌≡◌, ◌⊎◌, ℕ, Result, OnOk, OnErr, IfOk, IsErrOf}
+use Rattle.std.specs.Prelude.{◌≡◌, ◌≤◌, ◌⊎◌, ◌+◌, ◌-◌, ◌^◌, min, ℕ, Result, OnOk, OnErr, IfOk, IsErrOf}
 use Rattle.dip_chart.specs.Charts.{Chart}
 use Rattle.dip_machine.specs.Faults.{faults_after}
 use Rattle.dip_machine.specs.State.{State}
 use Rattle.dip_machine.specs.declared.faults.KeepFault.{KeepFault}
-use Rattle.dip_machine.specs.declared.faults.KeepFault.TheVariants.{Damaged}
+use Rattle.dip_machine.specs.declared.faults.KeepFault.TheVariants.{Damaged, Disk}
 
 -- what contracts see of a keeper, whose names are read by a map
 pub record Book (K : Type 0) : Type 1 where
@@ -14,6 +14,8 @@ pub record Book (K : Type 0) : Type 1 where
   pub may_leave : Chart → K → State → Type 0
   -- how many faults of the disk it has told of
   pub faults : K → ℕ
+  -- and how many its store has told it of
+  pub told : K → ℕ
   -- the disk has returned what was written, so far
   pub honest : K → Type 0
   -- it is honest and not shut, so that its content is what is kept
@@ -21,21 +23,27 @@ pub record Book (K : Type 0) : Type 1 where
   -- what is kept are records that a keeper wrote by this map, and no change is under way
   pub sound : Chart → K → Type 0
 
+-- a count that rose, where it was not at its greatest
+abbrev pub Rises : ℕ → ℕ → Type 0
+Rises old new = min (old + 1) (2 ^ 64 - 1) ≤ new
+
 -- what every call keeps, whatever it answers
 pub record Keeps {K X : Type 0} (m : Chart) (b : Book K) (old new : K) (result : Result X KeepFault) : Type 0 where
   pub count : b.faults new ≡ faults_after result (b.faults old)
+  pub told : b.told old ≤ b.told new
   pub fair : b.honest new → b.honest old
   pub shown : b.shows new → b.shows old
   pub sound : b.sound m old → b.shows new → b.sound m new
   pub firm : b.sound m old → b.honest new → OnOk result (b.sound m new)
   pub stays_open : b.sound m old → b.honest new → b.shows old → OnOk result (b.shows new)
 
--- a look: its value, what Damaged tells, and that nothing else moves
+-- a look: its value, what Damaged tells, that the store told of what Disk tells, and that nothing else moves
 pub record Looks {K X : Type 0} (m : Chart) (b : Book K) (old new : K) (Value : X → Type 0) (Damage : Type 0)
     (result : Result X KeepFault) : Type 0 where
   pub keeps : Keeps m b old new result
   pub value : b.sound m old → b.shows new → IfOk result Value
   pub damaged : b.sound m old → b.shows new → IsErrOf result Damaged → Damage
+  pub failed : b.sound m old → b.shows new → IsErrOf result Disk → Rises (b.told old) (b.told new)
   pub same : b.sound m old → b.shows new → b.content m new ≡ b.content m old
   pub left : b.sound m old → b.honest new → (s : State) → b.may_leave m new s → b.may_leave m old s
 

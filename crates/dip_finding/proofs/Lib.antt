@@ -1,8 +1,9 @@
-pub mod Typed
-pub mod PublicLemmas
+pub mod Blaming
+pub mod BoardRows
+pub mod Onward
 pub mod OwnLemmas
 pub mod PageLemmas
-pub mod Onward
-pub mod WholeLemmas
+pub mod PublicLemmas
 pub mod RowLemmas
-pub mod BoardRows
+pub mod Typed
+pub mod WholeLemmas

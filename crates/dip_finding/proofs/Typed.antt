@@ -5,18 +5,18 @@ use Rattle.sqlite.specs.declared.error.Error.TheVariants.{SqliteFailure}
 use Rattle.sqlite.specs.declared.error.ErrorCode.TheVariants.{OutOfMemory}
 use Rattle.sqlite.specs.Order.{Row, column}
 use Rattle.sqlite.specs.Reading.{IsReadError}
-use Rattle.dip_statements.specs.Faults.{IsOutside}
+use Rattle.dip_rows.specs.Causes.{IsCaused}
 
 pub reads : {X : Type 0} (r : Result X Error) (row : Row) (at : ℕ) (P : Type 0)
     → IfErr r (IsReadError at (column row at)) → IfErr r (λ e. e ≢ SqliteFailure OutOfMemory → at < length row → P → ⊥)
-    → at < length row → P → IfErr r IsOutside
+    → at < length row → P → IfErr r (IsCaused ⊥)
 reads (Ok x) row at P named kind low is = tt
 reads (Err e) row at P named kind low is = by_cause named
   where
-    other : (e ≢ SqliteFailure OutOfMemory) → IsOutside e
+    other : (e ≢ SqliteFailure OutOfMemory) → IsCaused ⊥ e
     other off = absurd (kind off low is)
 
-    by_cause : IsReadError at (column row at) e → IsOutside e
+    by_cause : IsReadError at (column row at) e → IsCaused ⊥ e
     by_cause (inl a) = other (λ same. cc)
     by_cause (inr (inl a)) = other (λ same. cc)
     by_cause (inr (inr (inl a))) = other (λ same. cc)

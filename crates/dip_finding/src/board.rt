@@ -20,7 +20,7 @@ use std::alloc::Global;
 fn year_of(row: &Row) -> Result<u16, LookFault>
     ensures value { IfOk result (λ y. y ≡ number_in (column row.now 0)) }
     ensures own { HasNumber row.now 0 → number_in (column row.now 0) < 2 ^ 16
-        → IfErr result IsFromOutside }
+        → IfErr result (IsFromOutside ⊥) }
 {
     match u16::try_from(number_at(row, 0)?) {
         Ok(year) => Ok(year),
@@ -40,7 +40,7 @@ pub(crate) fn board_in(
         (each shown_centre centres.now) (bytes (column row.now 7)) (number_in (column row.now 0))
         (number_in (column row.now 1))) }
     ensures own { IsBoardReadable map.now row.now units.now centres.now
-        → IfErr result IsFromOutside }
+        → IfErr result (IsFromOutside ⊥) }
 {
     let units = units_of(alloc, units)?;
     let centres = centres_of(alloc, centres)?;

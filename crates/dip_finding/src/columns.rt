@@ -4,7 +4,7 @@ ghost use Rattle.std.specs.List.{AllByRecursion};
 ghost use Rattle.dip_finding.specs.Faults.{IsFromOutside};
 ghost use Rattle.dip_finding.specs.Readable.{IsCentreReadable, IsUnitReadable};
 ghost use Rattle.dip_finding.specs.Shown.{shown_centre, shown_unit};
-ghost use Rattle.dip_statements.specs.Faults.{IsOutside};
+ghost use Rattle.dip_rows.specs.Causes.{IsCaused};
 
 use crate::faults::LookFault;
 use crate::values::{number_at, text_at};
@@ -14,7 +14,7 @@ use std::alloc::Global;
 
 fn unit_of(row: &Row) -> Result<UnitColumns, Error>
     ensures value { IfOk result (λ u. u ≡ shown_unit row.now) }
-    ensures own { IsUnitReadable row.now → IfErr result IsOutside }
+    ensures own { IsUnitReadable row.now → IfErr result (IsCaused ⊥) }
 {
     Ok(UnitColumns {
         province: text_at(row, 0)?,
@@ -28,7 +28,7 @@ fn unit_of(row: &Row) -> Result<UnitColumns, Error>
 
 fn centre_of(row: &Row) -> Result<CentreColumns, Error>
     ensures value { IfOk result (λ c. c ≡ shown_centre row.now) }
-    ensures own { IsCentreReadable row.now → IfErr result IsOutside }
+    ensures own { IsCentreReadable row.now → IfErr result (IsCaused ⊥) }
 {
     Ok(CentreColumns {
         province: text_at(row, 0)?,
@@ -38,7 +38,7 @@ fn centre_of(row: &Row) -> Result<CentreColumns, Error>
 
 pub(crate) fn units_of(alloc: Global, rows: &[Row]) -> Result<Vec<UnitColumns>, LookFault>
     ensures value { IfOk result (λ v. v.items ≡ each shown_unit rows.now) }
-    ensures own { AllByRecursion IsUnitReadable rows.now → IfErr result IsFromOutside }
+    ensures own { AllByRecursion IsUnitReadable rows.now → IfErr result (IsFromOutside ⊥) }
 {
     let mut units = Vec::new(alloc);
     for row in rows {
@@ -49,7 +49,7 @@ pub(crate) fn units_of(alloc: Global, rows: &[Row]) -> Result<Vec<UnitColumns>, 
 
 pub(crate) fn centres_of(alloc: Global, rows: &[Row]) -> Result<Vec<CentreColumns>, LookFault>
     ensures value { IfOk result (λ v. v.items ≡ each shown_centre rows.now) }
-    ensures own { AllByRecursion IsCentreReadable rows.now → IfErr result IsFromOutside }
+    ensures own { AllByRecursion IsCentreReadable rows.now → IfErr result (IsFromOutside ⊥) }
 {
     let mut centres = Vec::new(alloc);
     for row in rows {

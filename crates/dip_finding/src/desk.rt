@@ -6,6 +6,7 @@ ghost use Rattle.dip_finding.specs.Readable.{IsDeskReadable};
 ghost use Rattle.dip_finding.specs.Shown.{shown_desk};
 ghost use Rattle.dip_legible.specs.Legible.{AreOurs};
 ghost use Rattle.dip_machine.specs.Rows as desk_rows;
+ghost use Rattle.dip_rows.specs.Causes.{has_faulted};
 ghost use Rattle.dip_rows.specs.Calls.{IsKept, Selects, does_show, is_honest, tables_in};
 ghost use Rattle.dip_tables.specs.Coding.{AreCoded};
 ghost use Rattle.dip_tables.specs.Reading.{state_of};
@@ -19,7 +20,7 @@ use std::alloc::Global;
 
 fn desk_in(alloc: Global, row: &Row) -> Result<Desk, LookFault>
     ensures value { IfOk result (λ d. desk_rows.desk d ≡ shown_desk row.now) }
-    ensures own { IsDeskReadable row.now → IfErr result IsFromOutside }
+    ensures own { IsDeskReadable row.now → IfErr result (IsFromOutside ⊥) }
 {
     Ok(Desk {
         digest: digest_in(row, 2)?,
@@ -37,7 +38,8 @@ pub fn look_desk<S: Alter>(conn: &mut Connection<S>, alloc: Global) -> Result<De
         → desk_rows.desk d ≡ (state_of m (tables_in S.Store conn.old)).desk) }
     ensures selects { Selects S.Store conn.old conn.new result }
     ensures own { IsKept S.Store conn.old → does_show S.Store conn.old → is_honest S.Store conn.new
-        → (m : Chart) → AreOurs m (tables_in S.Store conn.old) → IfErr result IsFromOutside }
+        → (m : Chart) → AreOurs m (tables_in S.Store conn.old)
+        → IfErr result (IsFromOutside (has_faulted S.Store conn.old conn.new)) }
 {
     let Some(row) = find_desk(conn)? else {
         return Err(LookFault::Foreign);

@@ -9,7 +9,7 @@ ghost use Rattle.dip_finding.specs.Readable.{IsItemReadable};
 ghost use Rattle.dip_finding.specs.Shown.{shown_item};
 ghost use Rattle.dip_legible.specs.Legible.{AreOurs};
 ghost use Rattle.dip_records.specs.Rows as rows;
-ghost use Rattle.dip_statements.specs.Faults.{IsOutside};
+ghost use Rattle.dip_rows.specs.Causes.{IsCaused, has_faulted};
 ghost use Rattle.dip_rows.specs.Calls.{IsKept, Selects, does_show, is_honest, tables_in};
 ghost use Rattle.dip_rows.specs.Showing.{is_item};
 ghost use Rattle.dip_tables.specs.Counting.{counted, item_numbers};
@@ -30,7 +30,7 @@ use std::rc::Rc;
 
 fn columns_of(row: &Row) -> Result<ItemColumns, Error>
     ensures value { IfOk result (λ c. c ≡ shown_item row.now) }
-    ensures own { IsItemReadable row.now → IfErr result IsOutside }
+    ensures own { IsItemReadable row.now → IfErr result (IsCaused ⊥) }
 {
     Ok(ItemColumns {
         grey: number_at(row, 0)?,
@@ -42,7 +42,7 @@ fn columns_of(row: &Row) -> Result<ItemColumns, Error>
 
 fn item_in(alloc: Global, row: &Row) -> Result<Rc<Item>, LookFault>
     ensures value { IfOk result (λ i. rows.item i.value ≡ item_of (shown_item row.now)) }
-    ensures own { IsItemReadable row.now → IfErr result IsFromOutside }
+    ensures own { IsItemReadable row.now → IfErr result (IsFromOutside ⊥) }
 {
     let item = read_item(alloc, columns_of(row)?)?;
     Ok(Rc::new(alloc, item)?)
@@ -63,7 +63,8 @@ fn item_at<S: Alter>(
     ensures own { IsKept S.Store conn.old → does_show S.Store conn.old → is_honest S.Store conn.new
         → (m : Chart) → AreOurs m (tables_in S.Store conn.old) → (n : ℕ)
         → item_numbers (tables_in S.Store conn.old).boxes game.now power.now ≡ counted n
-        → 0 < number → number ≤ n → IfErr result IsFromOutside }
+        → 0 < number → number ≤ n
+        → IfErr result (IsFromOutside (has_faulted S.Store conn.old conn.new)) }
 {
     let Some(row) = find_item(conn, game, power, number)? else {
         return Err(LookFault::Foreign);
@@ -89,7 +90,8 @@ fn items_behind<S: Alter>(
     ensures own { IsKept S.Store conn.old → does_show S.Store conn.old → is_honest S.Store conn.new
         → (m : Chart) → AreOurs m (tables_in S.Store conn.old) → (n : ℕ)
         → item_numbers (tables_in S.Store conn.old).boxes game.now power.now ≡ counted n
-        → many ≤ n - skipped → IfErr result IsFromOutside }
+        → many ≤ n - skipped
+        → IfErr result (IsFromOutside (has_faulted S.Store conn.old conn.new)) }
 {
     let mut items = Vec::new(alloc);
     for index in 0..many {
@@ -118,7 +120,8 @@ pub fn look_items<S: Alter>(
         (find (is_seat game.now (power_name map.now power)) (tables_in S.Store conn.old).seats)) }
     ensures selects { Selects S.Store conn.old conn.new result }
     ensures own { IsKept S.Store conn.old → does_show S.Store conn.old → is_honest S.Store conn.new
-        → AreOurs map.now (tables_in S.Store conn.old) → IfErr result IsFromOutside }
+        → AreOurs map.now (tables_in S.Store conn.old)
+        → IfErr result (IsFromOutside (has_faulted S.Store conn.old conn.new)) }
 {
     let name = map.power_name(power);
     let Some(row) = find_seat(conn, game, name)? else {

@@ -17,7 +17,7 @@ use std::alloc::Global;
 /// The 32 bytes of a column.
 pub(crate) fn digest_in(row: &Row, at: usize) -> Result<[u8; 32], LookFault>
     ensures value { IfOk result (λ d. d ≡ bytes (column row.now at)) }
-    ensures own { HasDigest row.now at → IfErr result IsFromOutside }
+    ensures own { HasDigest row.now at → IfErr result (IsFromOutside ⊥) }
 {
     let found = bytes_at(row, at)?;
     match <[u8; 32]>::try_from(found.as_slice()) {
@@ -32,7 +32,7 @@ pub(crate) fn kept_in(alloc: Global, row: &Row, at: usize) -> Result<Option<Kept
     ensures value { IfOk result (λ k. option_map rows.kept k
         ≡ kept_of (number_in (column row.now at)) (bytes (column row.now (at + 1)))
         (bytes (column row.now (at + 2)))) }
-    ensures own { IsKeptReadable row.now at → IfErr result IsFromOutside }
+    ensures own { IsKeptReadable row.now at → IfErr result (IsFromOutside ⊥) }
 {
     let last = number_at(row, at)?;
     if last == 0 {

@@ -7,6 +7,7 @@ ghost use Rattle.dip_finding.specs.Readable.{IsOrderReadable, IsSeatReadable};
 ghost use Rattle.dip_finding.specs.Shown.{shown_order, shown_own};
 ghost use Rattle.dip_legible.specs.Legible.{AreOurs};
 ghost use Rattle.dip_records.specs.Rows as rows;
+ghost use Rattle.dip_rows.specs.Causes.{has_faulted};
 ghost use Rattle.dip_rows.specs.Calls.{IsKept, Selects, does_show, is_honest, tables_in};
 ghost use Rattle.dip_tables.specs.Reading.{own_of, standing_of};
 ghost use Rattle.dip_tables.specs.Tables.{is_seat};
@@ -24,7 +25,7 @@ use std::alloc::Global;
 fn standing_in(map: &Map, row: &Row) -> Result<Standing, LookFault>
     ensures value { IfOk result (λ s.
         rows.standing s ≡ standing_of map.now (shown_order row.now)) }
-    ensures own { IsOrderReadable map.now row.now → IfErr result IsFromOutside }
+    ensures own { IsOrderReadable map.now row.now → IfErr result (IsFromOutside ⊥) }
 {
     map.facts();
     let province = text_at(row, 0)?;
@@ -40,7 +41,8 @@ fn standing_in(map: &Map, row: &Row) -> Result<Standing, LookFault>
 fn standings_in(alloc: Global, map: &Map, orders: &[Row]) -> Result<Vec<Standing>, LookFault>
     ensures value { IfOk result (λ v. rows.standings v.items
         ≡ each (λ r. standing_of map.now (shown_order r)) orders.now) }
-    ensures own { AllByRecursion (IsOrderReadable map.now) orders.now → IfErr result IsFromOutside }
+    ensures own { AllByRecursion (IsOrderReadable map.now) orders.now
+        → IfErr result (IsFromOutside ⊥) }
 {
     let mut standings = Vec::new(alloc);
     for order in orders {
@@ -61,7 +63,7 @@ pub(crate) fn own_in(
     requires { at < 2 }
     ensures value { IfOk result (λ o. rows.own o ≡ shown_own map.now power at row.now orders.now) }
     ensures own { IsSeatReadable row.now at → AllByRecursion (IsOrderReadable map.now) orders.now
-        → IfErr result IsFromOutside }
+        → IfErr result (IsFromOutside ⊥) }
 {
     let vote = number_at(row, at + 1)?;
     Ok(Own {
@@ -93,7 +95,8 @@ pub fn look_own<S: Alter>(
         (find (is_seat game.now (power_name map.now power)) (tables_in S.Store conn.old).seats)) }
     ensures selects { Selects S.Store conn.old conn.new result }
     ensures own { IsKept S.Store conn.old → does_show S.Store conn.old → is_honest S.Store conn.new
-        → AreOurs map.now (tables_in S.Store conn.old) → IfErr result IsFromOutside }
+        → AreOurs map.now (tables_in S.Store conn.old)
+        → IfErr result (IsFromOutside (has_faulted S.Store conn.old conn.new)) }
 {
     map.facts();
     let name = map.power_name(power);

@@ -4,6 +4,7 @@ ghost use Rattle.std.specs.List.{find};
 ghost use Rattle.dip_chart.specs.Charts.{Chart};
 ghost use Rattle.dip_finding.specs.Faults.{IsFromOutside};
 ghost use Rattle.dip_legible.specs.Legible.{AreOurs};
+ghost use Rattle.dip_rows.specs.Causes.{has_faulted};
 ghost use Rattle.dip_rows.specs.Calls.{IsKept, Selects, does_show, is_honest, tables_in};
 ghost use Rattle.dip_rows.specs.Showing.{is_numbered};
 
@@ -26,7 +27,8 @@ pub fn look_paper<S: Alter>(
         (find (is_numbered game.now number) (tables_in S.Store conn.old).papers)) }
     ensures selects { Selects S.Store conn.old conn.new result }
     ensures own { IsKept S.Store conn.old → does_show S.Store conn.old → is_honest S.Store conn.new
-        → (m : Chart) → AreOurs m (tables_in S.Store conn.old) → IfErr result IsFromOutside }
+        → (m : Chart) → AreOurs m (tables_in S.Store conn.old)
+        → IfErr result (IsFromOutside (has_faulted S.Store conn.old conn.new)) }
 {
     let Some(row) = find_paper(conn, game, number)? else {
         return Ok(None);

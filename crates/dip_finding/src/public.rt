@@ -8,6 +8,7 @@ ghost use Rattle.dip_finding.specs.Readable.{HasText, IsGameReadable};
 ghost use Rattle.dip_finding.specs.Shown.{shown_public};
 ghost use Rattle.dip_legible.specs.Legible.{AreOurs};
 ghost use Rattle.dip_records.specs.Rows as rows;
+ghost use Rattle.dip_rows.specs.Causes.{has_faulted};
 ghost use Rattle.dip_rows.specs.Calls.{IsKept, Selects, does_show, is_honest, tables_in};
 ghost use Rattle.dip_tables.specs.Reading.{public_of, status_of};
 ghost use Rattle.dip_tables.specs.Tables.{is_named};
@@ -26,7 +27,7 @@ fn status_in(alloc: Global, map: &Map, row: &Row) -> Result<Status, LookFault>
     ensures value { IfOk result (λ s.
         rows.status s ≡ status_of map.now (bytes (column row.now 2))) }
     ensures own { HasText row.now 2 → IsStatusText map.now (bytes (column row.now 2))
-        → IfErr result IsFromOutside }
+        → IfErr result (IsFromOutside ⊥) }
 {
     let text = text_at(row, 2)?;
     match read_status(alloc, map, text.as_str())? {
@@ -47,7 +48,7 @@ fn public_in(
     ensures value { IfOk result (λ p.
         rows.public p ≡ shown_public map.now game.now row.now units.now centres.now) }
     ensures own { IsGameReadable map.now row.now units.now centres.now
-        → IfErr result IsFromOutside }
+        → IfErr result (IsFromOutside ⊥) }
 {
     let grey = number_at(row, 5)?;
     Ok(Public {
@@ -77,7 +78,8 @@ pub fn look_public<S: Alter>(
         (find (is_named game.now) (tables_in S.Store conn.old).games)) }
     ensures selects { Selects S.Store conn.old conn.new result }
     ensures own { IsKept S.Store conn.old → does_show S.Store conn.old → is_honest S.Store conn.new
-        → AreOurs map.now (tables_in S.Store conn.old) → IfErr result IsFromOutside }
+        → AreOurs map.now (tables_in S.Store conn.old)
+        → IfErr result (IsFromOutside (has_faulted S.Store conn.old conn.new)) }
 {
     let Some(row) = find_game(conn, game)? else {
         return Ok(None);

@@ -7,6 +7,7 @@ ghost use Rattle.dip_finding.specs.Readable.{IsListedReadable};
 ghost use Rattle.dip_finding.specs.Shown.{listed_own};
 ghost use Rattle.dip_legible.specs.Legible.{AreOurs};
 ghost use Rattle.dip_records.specs.Rows as rows;
+ghost use Rattle.dip_rows.specs.Causes.{has_faulted};
 ghost use Rattle.dip_rows.specs.Calls.{IsKept, Selects, does_show, is_honest, tables_in};
 ghost use Rattle.dip_tables.specs.Tables.{is_named};
 
@@ -34,7 +35,7 @@ fn own_of<S: Alter>(
     ensures selects { Selects S.Store conn.old conn.new result }
     ensures own { IsKept S.Store conn.old → does_show S.Store conn.old → is_honest S.Store conn.new
         → AreOurs map.now (tables_in S.Store conn.old) → IsListedReadable map.now row.now
-        → IfErr result IsFromOutside }
+        → IfErr result (IsFromOutside (has_faulted S.Store conn.old conn.new)) }
 {
     map.facts();
     let name = text_at(row, 0)?;
@@ -59,7 +60,7 @@ fn owns_of<S: Alter>(
     ensures own { IsKept S.Store conn.old → does_show S.Store conn.old → is_honest S.Store conn.new
         → AreOurs map.now (tables_in S.Store conn.old)
         → AllByRecursion (IsListedReadable map.now) seats.now
-        → IfErr result IsFromOutside }
+        → IfErr result (IsFromOutside (has_faulted S.Store conn.old conn.new)) }
 {
     let mut owns = Vec::new(alloc);
     for seat in seats {
@@ -84,7 +85,8 @@ pub fn look_whole<S: Alter>(
         (find (is_named game.now) (tables_in S.Store conn.old).games)) }
     ensures selects { Selects S.Store conn.old conn.new result }
     ensures own { IsKept S.Store conn.old → does_show S.Store conn.old → is_honest S.Store conn.new
-        → AreOurs map.now (tables_in S.Store conn.old) → IfErr result IsFromOutside }
+        → AreOurs map.now (tables_in S.Store conn.old)
+        → IfErr result (IsFromOutside (has_faulted S.Store conn.old conn.new)) }
 {
     let Some(public) = look_public(conn, alloc, map, game)? else {
         return Ok(None);

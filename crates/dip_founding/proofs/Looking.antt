@@ -34,6 +34,7 @@ module _ {S X E : Type 0} (g : Ghosts S) (old new : Held S) (r : Result X E) (al
     fair = λ clean. omega (arith, clean, alone.survives.clean);
     shown = λ shows. (omega (arith, shows.0, alone.survives.clean), (alone.keeps shows.0).was_open shows.1);
     mode = alone.mode;
+    counts = alone.survives.counts;
     kept = kept_still;
     same = seen_same;
     ok = λ kept clean. shows_on r up clean;

@@ -10,7 +10,7 @@ ghost use Rattle.dip_legible.specs.Legible.{AreOurs};
 ghost use Rattle.dip_rows.specs.Calls.{IsKept, Selects, does_show, is_honest, tables_in};
 ghost use Rattle.dip_rows.specs.Showing.{show_desk};
 ghost use Rattle.dip_rows.specs.Statements.{is_first};
-ghost use Rattle.dip_statements.specs.Faults.{IsOutside};
+ghost use Rattle.dip_rows.specs.Causes.{IsCaused, has_faulted};
 ghost use Rattle.dip_tables.specs.Tables.{DeskRow};
 ghost use Rattle.dip_tables.specs.Written.{IsDeskWritten};
 
@@ -32,7 +32,7 @@ pub struct DeskColumns {
 fn number_at(row: &Row, at: usize) -> Result<u32, Error>
     ensures value { IfOk result (λ n. column row.now at ≡ Int (pos n)) }
     ensures own { (n : ℕ) → at < length row.now → column row.now at ≡ Int (pos n) → n < 2 ^ 32
-        → IfErr result IsOutside }
+        → IfErr result (IsCaused ⊥) }
 {
     row.get(at)
 }
@@ -40,7 +40,7 @@ fn number_at(row: &Row, at: usize) -> Result<u32, Error>
 fn bytes_at(row: &Row, at: usize) -> Result<Vec<u8>, Error>
     ensures value { IfOk result (λ v. column row.now at ≡ Bytes v.items) }
     ensures own { (b : List ℕ) → at < length row.now → column row.now at ≡ Bytes b
-        → IfErr result IsOutside }
+        → IfErr result (IsCaused ⊥) }
 {
     row.get(at)
 }
@@ -49,7 +49,7 @@ fn bytes_at(row: &Row, at: usize) -> Result<Vec<u8>, Error>
 fn digest_in(row: &Row, at: usize) -> Result<[u8; 32], DeskFault>
     ensures value { IfOk result (λ d. d ≡ bytes (column row.now at)) }
     ensures own { (b : List ℕ) → at < length row.now → column row.now at ≡ Bytes b
-        → length b ≡ 32 → IfErr result IsFromOutside }
+        → length b ≡ 32 → IfErr result (IsFromOutside ⊥) }
 {
     let found = bytes_at(row, at)?;
     match <[u8; 32]>::try_from(found.as_slice()) {
@@ -61,7 +61,7 @@ fn digest_in(row: &Row, at: usize) -> Result<[u8; 32], DeskFault>
 fn columns_in(row: &Row) -> Result<DeskColumns, DeskFault>
     ensures value { IfOk result (λ d. d ≡ shown_columns row.now) }
     ensures own { (d : DeskRow) → row.now ≡ show_desk d → IsMarked d → IsDeskWritten d
-        → IfErr result IsFromOutside }
+        → IfErr result (IsFromOutside ⊥) }
 {
     Ok(DeskColumns {
         version: number_at(row, 0)?,
@@ -81,7 +81,8 @@ pub fn read_desk<S: Alter>(conn: &mut Connection<S>) -> Result<Option<DeskColumn
     ensures selects { Selects S.Store conn.old conn.new result }
     ensures own { IsKept S.Store conn.old → does_show S.Store conn.old → is_honest S.Store conn.new
         → (m : Chart) → AreOurs m (tables_in S.Store conn.old)
-        → AllByRecursion IsMarked (tables_in S.Store conn.old).desk → IfErr result IsFromOutside }
+        → AllByRecursion IsMarked (tables_in S.Store conn.old).desk
+        → IfErr result (IsFromOutside (has_faulted S.Store conn.old conn.new)) }
 {
     let Some(row) = find_desk(conn)? else {
         return Ok(None);

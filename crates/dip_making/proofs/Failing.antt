@@ -19,12 +19,13 @@ use Rattle.dip_legible.specs.Legible.{IsSeatLegible}
 use Rattle.dip_legible.proofs.MapTexts.{power_text}
 use Rattle.dip_rows.specs.Showing.{show_listed}
 use Rattle.dip_refusals.specs.Refusals.{IsWant}
+use Rattle.dip_refusals.proofs.Told.{want_weaker}
 use Rattle.dip_making.specs.Failing.{FailsFor, IsListed}
 use Rattle.dip_making.specs.declared.faults.MakeFault.{MakeFault}
 use Rattle.dip_making.specs.declared.faults.MakeFault.TheVariants.{Memory, Sql, Misfit}
 
 -- a column that can be read fails for want of memory alone
-pub column_wants : (at size : ℕ) (v : Value) (Readable : Type 0) (e : Error) → IsReadError at v e → ((e ≡ SqliteFailure OutOfMemory → ⊥) → at < size → Readable → ⊥) → at < size → Readable → IsWant e
+pub column_wants : (at size : ℕ) (v : Value) (Readable : Type 0) (e : Error) → IsReadError at v e → ((e ≡ SqliteFailure OutOfMemory → ⊥) → at < size → Readable → ⊥) → at < size → Readable → IsWant ⊥ e
 column_wants at size v Readable e named kind low reads = elim named [
   | inl a ↦ absurd (kind (λ same. let bad = sym a ∙ same in cc) low reads)
   | inr b ↦ elim b [
@@ -40,26 +41,25 @@ column_wants at size v Readable e named kind low reads = elim named [
 ]
 
 -- an error of the database that is want
-pub sql_fails : {X : Type 0} (misfit : Type 0) (e : Error) (r : Result X MakeFault) → IsErrAnd r (λ f. f ≡ Sql e) → IsWant e → IfErr r (FailsFor misfit)
-sql_fails misfit e (Ok x) gives want = tt
-sql_fails misfit e (Err f) gives want = subst (FailsFor misfit) (sym gives) want
+pub sql_fails : {X : Type 0} (one two misfit : Type 0) (e : Error) (r : Result X MakeFault) → IsErrAnd r (λ f. f ≡ Sql e) → (one → two) → IsWant one e → IfErr r (FailsFor two misfit)
+sql_fails one two misfit e (Ok x) gives turn want = tt
+sql_fails one two misfit e (Err f) gives turn want = subst (FailsFor two misfit) (sym gives) (want_weaker one two e turn want)
+
+-- a fault of a part
+pub fault_fails : (f g one two : Type 0) (e : MakeFault) → (f → g) → (one → two) → FailsFor f one e → FailsFor g two e
+fault_fails f g one two Memory late turn fails = tt
+fault_fails f g one two (Sql e) late turn fails = want_weaker f g e late fails
+fault_fails f g one two Misfit late turn fails = turn fails
 
 -- another fault that is passed on
-pub same_fails : {X : Type 0} (one two : Type 0) (f : MakeFault) (r : Result X MakeFault) → IsErrAnd r (λ e. e ≡ f) → (one → two) → FailsFor one f → IfErr r (FailsFor two)
-same_fails one two f (Ok x) gives turn fails = tt
-same_fails one two f (Err e) gives turn fails = subst (FailsFor two) (sym gives) (go f fails)
-  where
-    go : (f : MakeFault) → FailsFor one f → FailsFor two f
-    go Memory fails = tt
-    go (Sql e) fails = fails
-    go Misfit fails = turn fails
+pub same_fails : {X : Type 0} (f g one two : Type 0) (e : MakeFault) (r : Result X MakeFault) → IsErrAnd r (λ x. x ≡ e) → (f → g) → (one → two) → FailsFor f one e → IfErr r (FailsFor g two)
+same_fails f g one two e (Ok x) gives late turn fails = tt
+same_fails f g one two e (Err x) gives late turn fails = subst (FailsFor g two) (sym gives) (fault_fails f g one two e late turn fails)
 
 -- the same, as a whole answer
-pub result_fails : {X : Type 0} (one two : Type 0) (r : Result X MakeFault) → (one → two) → IfErr r (FailsFor one) → IfErr r (FailsFor two)
-result_fails one two (Ok x) turn fails = tt
-result_fails one two (Err Memory) turn fails = tt
-result_fails one two (Err (Sql e)) turn fails = fails
-result_fails one two (Err Misfit) turn fails = turn fails
+pub result_fails : {X : Type 0} (f g one two : Type 0) (r : Result X MakeFault) → (f → g) → (one → two) → IfErr r (FailsFor f one) → IfErr r (FailsFor g two)
+result_fails f g one two (Ok x) late turn fails = tt
+result_fails f g one two (Err e) late turn fails = fault_fails f g one two e late turn fails
 
 -- the row of the one that is found, which passes
 pub record IsFound {A : Type 0} (P : A → Type 0) (p : A → Bool) (show : A → Row) (row : Row) : Type 0 where
@@ -77,7 +77,7 @@ shown_found P p show (y ∷ ys) row is all = elim (cases_Bool (p y)) [
 
 -- a count alone in its row
 pub count_reads : (row : Row) (n : ℕ) (e : Error) → IsReadError 0 (column row 0) e → ((e ≡ SqliteFailure OutOfMemory → ⊥) → 0 < length row → ((k : ℕ) × (column row 0 ≡ Int (pos k)) × (k < 2 ^ 32)) → ⊥)
-    → row ≡ Int (pos n) ∷ [] → n < 2 ^ 32 → IsWant e
+    → row ≡ Int (pos n) ∷ [] → n < 2 ^ 32 → IsWant ⊥ e
 count_reads row n e named kind is low =
     column_wants 0 (length row) (column row 0) _ e named kind (subst (λ (r : Row). 0 < length r) (sym is) (omega arith)) (n, ap (λ (r : Row). column r 0) is, low)
 
@@ -89,7 +89,7 @@ same_count row n k is reads =
 
 -- the name of a power of the map, in a listed row
 pub power_reads : (m : Chart) → IsMap m → (row : Row) → IsListed m row → (e : Error) → IsReadError 0 (column row 0) e
-    → ((e ≡ SqliteFailure OutOfMemory → ⊥) → 0 < length row → ((t : List ℕ) × (column row 0 ≡ Words t) × IsUtf8 t) → ⊥) → IsWant e
+    → ((e ≡ SqliteFailure OutOfMemory → ⊥) → 0 < length row → ((t : List ℕ) × (column row 0 ≡ Words t) × IsUtf8 t) → ⊥) → IsWant ⊥ e
 power_reads m ok row listed e named kind =
     let it = listed.of_map in
     column_wants 0 (length row) (column row 0) _ e named kind (subst (λ (r : Row). 0 < length r) (sym listed.shown) (omega arith))

@@ -52,6 +52,7 @@ module _ {S : Type 0} (g : Ghosts S) (f : Tables → Tables) (old last end : Hel
     shown = λ up. let mid : HasCleanDisk (state g last) = omega (arith, up.0, survives.clean) in
         (omega (arith, up.0, survives.clean, parts.survives.clean), (parts.keeps mid).was_open (shows up.0).was_open);
     mode = λ _. ended;
+    counts = omega (arith, survives.counts, parts.survives.counts);
     done = λ kept up.
         let mid : HasCleanDisk (state g last) = omega (arith, up.0, survives.clean) in
         let s = shows up.0 in
@@ -81,6 +82,7 @@ module _ {S : Type 0} (g : Ghosts S) (f : Tables → Tables) (old last end : Hel
     fair = λ clean. omega (arith, clean, survives.clean, parts.survives.clean);
     shown = λ up. (omega (arith, up.0, survives.clean, parts.survives.clean), was_open up.0 up.1);
     mode = λ _. ended;
+    counts = omega (arith, survives.counts, parts.survives.counts);
     done = λ kept up. tt;
     undone = λ kept up.
         let mid : HasCleanDisk (state g last) = omega (arith, up.0, survives.clean) in
@@ -122,6 +124,7 @@ module _ {S : Type 0} (g : Ghosts S) (f : Tables → Tables) (old last end : Hel
     shown = λ up. let mid : HasCleanDisk (state g last) = omega (arith, up.0, survives.clean) in
         (omega (arith, up.0, survives.clean, parts.survives.clean), (parts.keeps mid).was_open ((back up.0).was_open up.1));
     mode = λ _. ended;
+    counts = omega (arith, survives.counts, parts.survives.counts);
     done = λ kept up. tt;
     undone = λ kept up.
         let mid : HasCleanDisk (state g last) = omega (arith, up.0, survives.clean) in
@@ -157,6 +160,7 @@ module _ {S : Type 0} (g : Ghosts S) where
     fair = s.fair;
     shown = s.shown;
     mode = s.mode;
+    counts = s.counts;
     done = λ kept up. tt;
     undone = λ kept up. (s.kept kept up, s.same kept up);
     ok = λ kept clean. tt;
@@ -167,6 +171,7 @@ module _ {S : Type 0} (g : Ghosts S) where
     fair = λ clean. clean;
     shown = λ up. up;
     mode = λ idle. idle;
+    counts = omega arith;
     done = λ kept up. tt;
     undone = λ kept up. (kept, refl);
     ok = λ kept clean. tt;
@@ -197,6 +202,7 @@ module _ {S : Type 0} (g : Ghosts S) where
     fair = k.fair;
     shown = k.shown;
     mode = k.mode;
+    counts = k.counts;
     done = λ kept up. on_ok r q alike (λ it. (it.0, it.1 ∙ same kept up.0)) (k.done kept up);
     undone = λ kept up. on_err r q alike (λ it. it) (k.undone kept up);
     ok = λ kept clean. on_ok r q alike (λ it. it) (k.ok kept clean);
@@ -213,6 +219,7 @@ module _ {S : Type 0} (g : Ghosts S) where
     fair = λ clean. s.fair (k.fair clean);
     shown = λ up. s.shown (k.shown up);
     mode = λ idle. k.mode (s.mode idle);
+    counts = omega (arith, s.counts, k.counts);
     done = λ kept up. let at = k.shown up in on_ok r r (alike_itself r) (λ it. (it.0, it.1 ∙ renamed kept at)) (k.done (s.kept kept at) up);
     undone = λ kept up. let at = k.shown up in on_err r r (alike_itself r) (λ it. (it.0, it.1 ∙ s.same kept at)) (k.undone (s.kept kept at) up);
     ok = λ kept clean. k.ok (mid_kept kept clean) clean;

@@ -1,9 +1,9 @@
 -- What is read, or left alone, one call behind another.
-use Rattle.std.proofs.Common.{◌≡◌, inl, inr, Ok, Err, Result, refl, sym, ap, subst, ◌∙◌}
+use Rattle.std.proofs.Common.{◌≡◌, ◌≤◌, arith, inl, inr, Ok, Err, Result, refl, sym, ap, subst, ◌∙◌}
 use Rattle.std.specs.Result.{IsErr}
 use Rattle.sqlite.specs.Store.{Ghosts}
 use Rattle.sqlite.specs.Effect.{Database}
-use Rattle.sqlite.specs.Held.{Held}
+use Rattle.sqlite.specs.Held.{Held, state}
 use Rattle.dip_rows.specs.Calls.{IsKept, Selects, does_show, is_honest, tables_in}
 use Rattle.dip_rows.specs.Rows.{tables_of}
 use Rattle.dip_rows.proofs.Parts.{fails, went}
@@ -29,6 +29,11 @@ module _ {S : Type 0} (g : Ghosts S) where
   peeks_fails {X} {E} a b e f (inl p) = inl (selects_fails g {X = X} {E = E} a b e f p)
   peeks_fails a b e f (inr same) = inr same
 
+  -- a failure that is passed on
+  pub peeks_passed : {Y F Z G : Type 0} (a b : Held S) (e : F) (r : Result Z G) → IsErr r → Peeks g a b (fails Y F e) → Peeks g a b r
+  peeks_passed {Y} {F} {Z} {G} a b e (Ok z) failed p = absurd (cc)
+  peeks_passed {Y} {F} {Z} {G} a b e (Err d) failed p = peeks_fails {X = Y} {E = F} {Y = Z} {F = G} a b e d p
+
   -- two calls, of which the second failed
   pub peeks_broken : {X E Y F Z G : Type 0} (a b c : Held S) (x : X) (e : F) (r : Result Z G) → IsErr r → Peeks g a b (went X E x) → Peeks g b c (fails Y F e) → Peeks g a c r
   peeks_broken {X} {E} {Y} {F} {Z} {G} a b c x e (Ok z) failed p q = absurd (cc)
@@ -52,3 +57,8 @@ module _ {S : Type 0} (g : Ghosts S) where
   pub peeks_shows : {X E : Type 0} (a b : Held S) (x : X) → Peeks g a b (went X E x) → IsKept g a → does_show g a → is_honest g b → does_show g b
   peeks_shows a b x (inl s) kept shows clean = s.ok kept clean
   peeks_shows a b x (inr same) kept shows clean = subst (λ h. does_show g h) (sym same) shows
+
+  -- no fault is forgotten
+  pub peeks_counts : {X E : Type 0} (a b : Held S) (x : X) → Peeks g a b (went X E x) → (state g a).faults ≤ (state g b).faults
+  peeks_counts a b x (inl s) = s.counts
+  peeks_counts a b x (inr same) = subst (λ h. (state g a).faults ≤ (state g h).faults) (sym same) (omega arith)

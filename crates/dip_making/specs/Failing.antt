@@ -16,11 +16,11 @@ use Rattle.dip_refusals.specs.Refusals.{IsWant}
 use Rattle.dip_making.specs.declared.faults.MakeFault.{MakeFault}
 use Rattle.dip_making.specs.declared.faults.MakeFault.TheVariants.{Memory, Sql, Misfit}
 
--- for want alone, and as a misfit only where it is one
-abbrev pub FailsFor : Type 0 → MakeFault → Type 0
-FailsFor misfit Memory = Unit {0}
-FailsFor misfit (Sql e) = IsWant e
-FailsFor misfit Misfit = misfit
+-- for want alone, by the disk where there was this fault of it, and as a misfit only where it is one
+abbrev pub FailsFor : Type 0 → Type 0 → MakeFault → Type 0
+FailsFor fault misfit Memory = Unit {0}
+FailsFor fault misfit (Sql e) = IsWant fault e
+FailsFor fault misfit Misfit = misfit
 
 -- tables of a desk by the map, of which no key comes twice behind the change
 pub record MayMake (m : Chart) (c : Change) (t : Tables) : Type 0 where

@@ -1,5 +1,5 @@
 -- A change of the tables with its counts handed over, and a call that makes it whole or not at all.
-use Rattle.std.specs.Prelude.{◌≡◌, ◌⊎◌, ℕ, false, None, List, Result, OnOk, OnErr}
+use Rattle.std.specs.Prelude.{◌≡◌, ◌≤◌, ◌⊎◌, ℕ, false, None, List, Result, OnOk, OnErr}
 use Rattle.sqlite.specs.Tree.{Trees}
 use Rattle.sqlite.specs.Store.{Ghosts}
 use Rattle.sqlite.specs.Held.{Held, state}
@@ -52,6 +52,7 @@ pub record Makes {S X E : Type 0} (g : Ghosts S) (f : Tables → Tables) (old ne
   pub fair : is_honest g new → is_honest g old
   pub shown : does_show g new → does_show g old
   pub mode : old.in_transaction ≡ false → new.in_transaction ≡ false
+  pub counts : (state g old).faults ≤ (state g new).faults
   pub done : IsKept g old → does_show g new → OnOk r (IsLaid g new × (tables_in g new ≡ f (tables_in g old)))
   pub undone : IsKept g old → does_show g new → OnErr r (IsKept g new × ((state g new).now ≡ (state g old).now))
   pub ok : IsKept g old → is_honest g new → OnOk r (does_show g new)

@@ -7,6 +7,7 @@ ghost use Rattle.dip_tables.specs.Columns.{FitsColumns};
 ghost use Rattle.dip_tables.specs.Counting.{CountsOn};
 ghost use Rattle.dip_tables.specs.Tables.{is_named};
 ghost use Rattle.dip_legible.specs.Legible.{AreOurs, IsSeatLegible};
+ghost use Rattle.dip_rows.specs.Causes.{has_faulted};
 ghost use Rattle.dip_rows.specs.Calls.{IsKept, Selects, does_show, is_honest, tables_in};
 ghost use Rattle.dip_changing.specs.Noting.{IsNext};
 ghost use Rattle.dip_making.specs.Counts.{AreReaders, Counts, CountsSent, Peeks};
@@ -42,7 +43,8 @@ fn check_number<S: Alter>(
     ensures fails { IsKept S.Store conn.old → does_show S.Store conn.old
         → is_honest S.Store conn.new
         → AllByRecursion (λ g. g.papers < 2 ^ 32) (tables_in S.Store conn.old).games
-        → IfErr result (FailsFor (¬ AllByRecursion (λ g. is_named game.now g ≡ true
+        → IfErr result (FailsFor (has_faulted S.Store conn.old conn.new)
+        (¬ AllByRecursion (λ g. is_named game.now g ≡ true
         → papers ≡ g.papers + 1) (tables_in S.Store conn.old).games)) }
 {
     let Some(row) = count_papers(conn, game)? else {
@@ -68,7 +70,8 @@ fn check_paper<S: Alter>(
     ensures fails { IsKept S.Store conn.old → does_show S.Store conn.old
         → is_honest S.Store conn.new
         → AllByRecursion (λ g. g.papers < 2 ^ 32) (tables_in S.Store conn.old).games
-        → IfErr result (FailsFor (¬ CountsOn game.now (machine.effect effect.now)
+        → IfErr result (FailsFor (has_faulted S.Store conn.old conn.new)
+        (¬ CountsOn game.now (machine.effect effect.now)
         (tables_in S.Store conn.old).games)) }
 {
     match effect {
@@ -92,7 +95,8 @@ fn next_of<S: Alter>(conn: &mut Connection<S>, game: &str, power: &str) -> Resul
     ensures fails { IsKept S.Store conn.old → does_show S.Store conn.old
         → is_honest S.Store conn.new
         → AllByRecursion IsSeatLegible (tables_in S.Store conn.old).seats
-        → IfErr result (FailsFor (¬ AllByRecursion (MaySend game.now power.now)
+        → IfErr result (FailsFor (has_faulted S.Store conn.old conn.new)
+        (¬ AllByRecursion (MaySend game.now power.now)
         (tables_in S.Store conn.old).seats)) }
 {
     let Some(row) = count_sent(conn, game, power)? else {
@@ -123,7 +127,8 @@ fn count_of<S: Alter>(
     ensures fails { IsKept S.Store conn.old → does_show S.Store conn.old
         → is_honest S.Store conn.new
         → AllByRecursion IsSeatLegible (tables_in S.Store conn.old).seats
-        → IfErr result (FailsFor (¬ PressHasRoom map.now (Seat power) game.now
+        → IfErr result (FailsFor (has_faulted S.Store conn.old conn.new)
+        (¬ PressHasRoom map.now (Seat power) game.now
         (machine.effect effect.now) (tables_in S.Store conn.old).seats)) }
 {
     match effect {
@@ -155,7 +160,8 @@ fn count_press<S: Alter>(
     ensures fails { IsKept S.Store conn.old → does_show S.Store conn.old
         → is_honest S.Store conn.new
         → AllByRecursion IsSeatLegible (tables_in S.Store conn.old).seats
-        → IfErr result (FailsFor (¬ PressHasRoom map.now (machine.author author) game.now
+        → IfErr result (FailsFor (has_faulted S.Store conn.old conn.new)
+        (¬ PressHasRoom map.now (machine.author author) game.now
         (machine.effect effect.now) (tables_in S.Store conn.old).seats)) }
 {
     match author {
@@ -180,7 +186,8 @@ fn readers_of<S: Alter>(
     ensures peeks { Peeks S.Store conn.old conn.new result }
     ensures fails { IsKept S.Store conn.old → does_show S.Store conn.old
         → is_honest S.Store conn.new → AreOurs map.now (tables_in S.Store conn.old)
-        → IfErr result (FailsFor (¬ InboxesHaveRoom map.now game.now (machine.effect effect.now)
+        → IfErr result (FailsFor (has_faulted S.Store conn.old conn.new)
+        (¬ InboxesHaveRoom map.now game.now (machine.effect effect.now)
         (tables_in S.Store conn.old).seats)) }
 {
     match effect {
@@ -213,7 +220,8 @@ pub(crate) fn count<S: Alter>(
         (HasPlace map.now (machine.change change.now) (tables_in S.Store conn.old)) }
     ensures fails { IsKept S.Store conn.old → does_show S.Store conn.old
         → is_honest S.Store conn.new → AreOurs map.now (tables_in S.Store conn.old)
-        → IfErr result (FailsFor (¬ HasPlace map.now (machine.change change.now)
+        → IfErr result (FailsFor (has_faulted S.Store conn.old conn.new)
+        (¬ HasPlace map.now (machine.change change.now)
         (tables_in S.Store conn.old))) }
 {
     let game = change.game.as_str();

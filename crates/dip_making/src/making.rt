@@ -3,6 +3,7 @@ ghost use Rattle.std.specs.Prelude.{◌≡◌, IfErr, OnOk};
 ghost use Rattle.dip_machine.specs.Rows as machine;
 ghost use Rattle.dip_tables.specs.Changing.{changing};
 ghost use Rattle.dip_tables.specs.Columns.{IsWritable};
+ghost use Rattle.dip_rows.specs.Causes.{has_faulted};
 ghost use Rattle.dip_rows.specs.Calls.{IsKept, does_show, is_honest, tables_in};
 ghost use Rattle.dip_making.specs.Failing.{FailsFor, HasPlace, MayMake};
 ghost use Rattle.dip_making.specs.Making.{Makes};
@@ -38,7 +39,8 @@ pub fn make<S: Alter>(
     ensures fails { IsKept S.Store conn.old → does_show S.Store conn.old
         → is_honest S.Store conn.new
         → MayMake map.now (machine.change change.now) (tables_in S.Store conn.old)
-        → IfErr result (FailsFor (¬ HasPlace map.now (machine.change change.now)
+        → IfErr result (FailsFor (has_faulted S.Store conn.old conn.new)
+        (¬ HasPlace map.now (machine.change change.now)
         (tables_in S.Store conn.old))) }
 {
     readers_are_seats();

@@ -6,6 +6,7 @@ ghost use Rattle.dip_chart.specs.Charts.{IsMap};
 ghost use Rattle.dip_board_rows.specs.Boards.{power_in, power_name};
 ghost use Rattle.dip_tables.specs.Changing.{is_reader};
 ghost use Rattle.dip_legible.specs.Legible.{AreOurs};
+ghost use Rattle.dip_rows.specs.Causes.{has_faulted};
 ghost use Rattle.dip_rows.specs.Calls.{IsKept, Selects, does_show, is_honest, tables_in};
 ghost use Rattle.dip_changing.specs.Delivering.{AreSeats};
 ghost use Rattle.dip_making.specs.Counts.{shown_reader};
@@ -22,7 +23,7 @@ use std::alloc::Global;
 fn power_of(map: &Map, row: &Row) -> Result<Power, MakeFault>
     ensures power { IfOk result (λ p. p ≡ power_in map.now (bytes (column row.now 0))) }
     ensures name { IfOk result (λ p. power_name map.now p ≡ bytes (column row.now 0)) }
-    ensures fails { IsMap map.now → IsListed map.now row.now → IfErr result (FailsFor ⊥) }
+    ensures fails { IsMap map.now → IsListed map.now row.now → IfErr result (FailsFor ⊥ ⊥) }
 {
     let name: String = row.get(0)?;
     match map.power(name.as_str()) {
@@ -34,7 +35,7 @@ fn power_of(map: &Map, row: &Row) -> Result<Power, MakeFault>
 fn reader_in(map: &Map, row: &Row) -> Result<Reader, MakeFault>
     ensures shown { IfOk result (λ r. r ≡ shown_reader map.now row.now) }
     ensures name { IfOk result (λ r. power_name map.now r.power ≡ bytes (column row.now 0)) }
-    ensures fails { IsMap map.now → IsListed map.now row.now → IfErr result (FailsFor ⊥) }
+    ensures fails { IsMap map.now → IsListed map.now row.now → IfErr result (FailsFor ⊥ ⊥) }
 {
     Ok(Reader {
         power: power_of(map, row)?,
@@ -47,7 +48,7 @@ fn readers_in(alloc: Global, map: &Map, rows: &[Row]) -> Result<Vec<Reader>, Mak
     ensures names { IfOk result (λ v. each (λ r. power_name map.now r.power) v.items
         ≡ each (λ r. bytes (column r 0)) rows.now) }
     ensures fails { IsMap map.now → AllByRecursion (IsListed map.now) rows.now
-        → IfErr result (FailsFor ⊥) }
+        → IfErr result (FailsFor ⊥ ⊥) }
 {
     let mut readers = Vec::new(alloc);
     for row in rows {
@@ -92,7 +93,8 @@ pub(crate) fn find_readers<S: Alter>(
     ensures selects { Selects S.Store conn.old conn.new result }
     ensures fails { IsKept S.Store conn.old → does_show S.Store conn.old
         → is_honest S.Store conn.new → AreOurs map.now (tables_in S.Store conn.old)
-        → IfErr result (FailsFor (¬ AllByRecursion (λ s. s.items + 1 < 2 ^ 32)
+        → IfErr result (FailsFor (has_faulted S.Store conn.old conn.new)
+        (¬ AllByRecursion (λ s. s.items + 1 < 2 ^ 32)
         (filter (is_reader map.now game.now powers.now) (tables_in S.Store conn.old).seats))) }
 {
     let rows = list_seats(conn, game)?;

@@ -2,6 +2,7 @@
 ghost use Rattle.std.specs.Prelude.{◌≡◌, ◌<◌, All, IfErr, false};
 ghost use Rattle.dip_machine.specs.Rows as machine;
 ghost use Rattle.dip_tables.specs.Columns.{IsWritable};
+ghost use Rattle.dip_rows.specs.Causes.{has_faulted};
 ghost use Rattle.dip_rows.specs.Calls.{IsKept, does_show, is_honest, tables_in};
 ghost use Rattle.dip_refusals.specs.Keys.{AreKeyed};
 ghost use Rattle.dip_refusals.specs.Refusals.{IsWant};
@@ -31,7 +32,8 @@ pub fn make_with<S: Alter>(
         conn.old conn.new result }
     ensures wants { IsKept S.Store conn.old → does_show S.Store conn.old
         → is_honest S.Store conn.new → AreKeyed (changing_sent sent readers.now map.now
-        (machine.change change.now) (tables_in S.Store conn.old)) → IfErr result IsWant }
+        (machine.change change.now) (tables_in S.Store conn.old))
+        → IfErr result (IsWant (has_faulted S.Store conn.old conn.new)) }
 {
     let mut tx = conn.transaction();
     make_parts(alloc, &mut tx, map, change, sent, readers)?;

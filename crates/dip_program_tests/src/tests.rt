@@ -1,8 +1,5 @@
-//! The program's tests, by subject.
+//! The tests of the program's parts, by subject.
 mod args;
-mod asked;
 mod failures;
 mod map_file;
 mod run;
-mod serving;
-mod stored;

@@ -12,6 +12,7 @@ use Rattle.dip_schema.specs.Asking.{command_in}
 use Rattle.dip_schema.specs.Schema.{our_schema}
 use Rattle.dip_tables.specs.Tables.{Tables}
 use Rattle.dip_rows.specs.Calls.{Writes}
+use Rattle.dip_rows.specs.Causes.{Faulted}
 use Rattle.dip_rows.specs.Rows.{tables_of}
 use Rattle.dip_refusals.specs.Refusals.{IsWant}
 use Rattle.dip_refusals.specs.Wants.{IsReady, Wants}
@@ -35,7 +36,7 @@ module _ (sql : List ℕ) (params : Row) (Allow : Tables → Type 0) (f : Tables
       go (Err e) is does = does
 
   pub wants_one : (r : Result ℕ Error) → Writes f old new r → (HasCleanDisk new → IsTrue old.in_transaction → ExecutesInside 0 sql params old new r)
-      → ((e : Error) → IsReady old → Allow (tables_of old.now.trees) → Executes sql params old new (Err e) → IsWant e) → Wants Allow old new r
+      → ((e : Error) → IsReady old → Allow (tables_of old.now.trees) → Executes sql params old new (Err e) → IsWant (Faulted old new) e) → Wants Allow old new r
   wants_one (Ok count) writes runs wanting = record {
     ready = λ clean ready.
         let it = writes.runs clean in

@@ -30,6 +30,7 @@ use Rattle.sqlite.specs.Listing.{understood}
 use Rattle.sqlite.specs.Clock.{timed}
 use Rattle.sqlite.specs.declared.run.Mode.{Mode}
 use Rattle.sqlite.specs.State.{State, mode_of, text_of, shows_rows, HasCause, IsMisplaced, IsNotRun, RunsAlone, RunsCommand, Executes, ExecutesIn, store_error, is_disk_error}
+use Rattle.dip_rows.specs.Causes.{Faulted}
 use Rattle.dip_refusals.specs.Refusals.{IsWant}
 
 -- ---- a statement that isn't run
@@ -53,11 +54,11 @@ well_placed s command e edits (inl h) = elim h.1 [
 well_placed s command e edits (inr h) = elim h.2 [ inl p ↦ other_than command (Release h.1) edits refl p | inr p ↦ other_than command (RollbackTo h.1) edits refl p ]
 
 -- an error of an open store
-caused : (old new : State) (big : Type 0) (e : Error) (cause : StoreError) → e ≡ store_error cause → HasCause old new big cause → IsTrue old.is_open → IsWant e
+caused : (old new : State) (big : Type 0) (e : Error) (cause : StoreError) → e ≡ store_error cause → HasCause old new big cause → IsTrue old.is_open → IsWant (Faulted old new) e
 caused old new big e OutOfMemory is why up = inl (inl is)
-caused old new big e Io is why up = inl (inr (ap is_disk_error is))
-caused old new big e Corrupt is why up = inl (inr (ap is_disk_error is))
-caused old new big e Full is why up = inl (inr (ap is_disk_error is))
+caused old new big e Io is why up = inl (inr (ap is_disk_error is, why))
+caused old new big e Corrupt is why up = inl (inr (ap is_disk_error is, why))
+caused old new big e Full is why up = inl (inr (ap is_disk_error is, why))
 caused old new big e Broken is why up = absurd (let x = sym up ∙ why in cc)
 caused old new big e Unstorable is why up = inr (inl is)
 
@@ -66,7 +67,7 @@ module _ (sql : List ℕ) (params : Row) (old new : State) (c : Compiled) (is : 
   untimed : (formats : List (List ℕ)) (now : ℕ) → formats ≡ [] → timed params formats now ≡ params
   untimed formats now none = ap (λ f. timed params f now) none ∙ append-nil params
 
-  not_run : (e : Error) → IsNotRun old new sql params e → IsWant e
+  not_run : (e : Error) → IsNotRun old new sql params e → IsWant (Faulted old new) e
   unfolding IsNotRun
   not_run e (inl h) = absurd (elim h.0 [
     | inl a ↦ let x = sym is ∙ a.1 in cc
@@ -80,7 +81,7 @@ module _ (sql : List ℕ) (params : Row) (old new : State) (c : Compiled) (is : 
   module _ (command : Command) (does : c.command ≡ command) (edits : edits_rows command ≡ true) where
     -- what the statement does, it does in full or not at all
     ran : (k : Compiled) (ps : Row) (e : Error) → c ≡ k → ps ≡ params → shows_rows false k ≡ false → RunsAlone false old new sql k ps (Err e)
-        → IsWant e ⊎ Does old.step_limit (mode_of old) params old.now (text_of sql c) None command (Err (Some e))
+        → IsWant (Faulted old new) e ⊎ Does old.step_limit (mode_of old) params old.now (text_of sql c) None command (Err (Some e))
     ran k ps e same bound shows h =
         let it : RunsCommand old new sql k ps (Err e) = rw shows at h in
         elim it [
@@ -104,7 +105,7 @@ module _ (sql : List ℕ) (params : Row) (old new : State) (c : Compiled) (is : 
 
     -- it fails for want, or the database refuses it
     pub fails : shows_rows false c ≡ false → (e : Error) → Executes sql params old new (Err e)
-        → IsWant e ⊎ Does old.step_limit (mode_of old) params old.now (text_of sql c) None command (Err (Some e))
+        → IsWant (Faulted old new) e ⊎ Does old.step_limit (mode_of old) params old.now (text_of sql c) None command (Err (Some e))
     unfolding ExecutesIn
     fails quiet e (inl h) = inl (not_run e h)
     fails quiet e (inr h) =

@@ -6,7 +6,10 @@ use Rattle.dip_tables.specs.Tables.{Tables}
 use Rattle.dip_rows.specs.Calls.{Writes}
 use Rattle.dip_rows.specs.Rows.{tables_of}
 use Rattle.dip_rows.proofs.Parts.{went, fails}
+use Rattle.dip_rows.specs.Causes.{Faulted}
+use Rattle.dip_rows.proofs.Caused.{faulted_late}
 use Rattle.dip_refusals.specs.Wants.{IsReady, Wants}
+use Rattle.dip_refusals.proofs.Told.{want_of, want_weaker}
 
 -- a part that fails, by what it was allowed
 pub wants_fail : (X Y : Type 0) (Allow Asked : Tables → Type 0) (a b : State) (e : Error) → ((t : Tables) → Allow t → Asked t) → Wants Asked a b (fails X Error e) → Wants Allow a b (fails Y Error e)
@@ -36,14 +39,18 @@ module _ (X Y : Type 0) (Allow First Next : Tables → Type 0) (f h : Tables →
   pub wants_then : (r : Result Y Error) → Writes h b c r → Wants Next b c r → Wants Allow a c r
   wants_then r writes next = record {
     ready = λ clean ready. next.ready clean (first.ready (clear r writes clean) ready);
-    fails = λ clean ready allow. let up = clear r writes clean in next.fails clean (first.ready up ready) (allowed up ready allow);
+    fails = λ clean ready allow.
+        let up = clear r writes clean in
+        want_of (Faulted b c) (Faulted a c) r (faulted_late a b c written.survives.counts) (next.fails clean (first.ready up ready) (allowed up ready allow));
   }
 
   -- a part that fails behind another
   pub wants_broken : (Z : Type 0) (e : Error) → Writes h b c (fails Y Error e) → Wants Next b c (fails Y Error e) → Wants Allow a c (fails Z Error e)
   wants_broken Z e writes next = record {
     ready = λ clean ready. tt;
-    fails = λ clean ready allow. let up = clear _ writes clean in next.fails clean (first.ready up ready) (allowed up ready allow);
+    fails = λ clean ready allow.
+        let up = clear _ writes clean in
+        want_weaker (Faulted b c) (Faulted a c) e (faulted_late a b c written.survives.counts) (next.fails clean (first.ready up ready) (allowed up ready allow));
   }
 
 -- one more turn of a loop

@@ -9,3 +9,4 @@ pub mod Sane
 pub mod Unique
 pub mod Wanting
 pub mod Wants
+pub mod Told

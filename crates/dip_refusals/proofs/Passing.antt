@@ -42,7 +42,7 @@ module _ {A : Type 0} (put : A → Row) (take : Row → A) (back : (v : Value) (
     (rules : AreKept put schema table) where
   -- an edit that puts in one record, at a rowid that is free, is refused by its key alone
   pub one_record : (db : Trees) (edit : Edit) (v : Value) (a : A) → edit.table ≡ table → edit.news ≡ (v ∷ put a) ∷ [] → are_fresh (left_by db edit) ((v ∷ put a) ∷ []) ≡ true → is_int v ≡ true
-      → Keeps Unique schema (with_tree db edit.table.tree (edited db edit)) → (why : Refusal) → IsRefused schema Enforced db edit why → IsWant (edit_error why)
+      → Keeps Unique schema (with_tree db edit.table.tree (edited db edit)) → (why : Refusal) → IsRefused schema Enforced db edit why → IsWant ⊥ (edit_error why)
   one_record db edit v a same news free number unique (Violates Datatype) h = absurd (let x = sym (one_passes (passes Datatype schema db table) (v ∷ put a) (rules.typed db v a)) ∙ (subst (λ (t : Table). list_all (passes Datatype schema db t) ((v ∷ put a) ∷ []) ≡ false) same (rw news at h)) in cc)
   one_record db edit v a same news free number unique (Violates NotNull) h = absurd (let x = sym (one_passes (passes NotNull schema db table) (v ∷ put a) (rules.present db v a)) ∙ (subst (λ (t : Table). list_all (passes NotNull schema db t) ((v ∷ put a) ∷ []) ≡ false) same (rw news at h)) in cc)
   one_record db edit v a same news free number unique (Violates Check) h = absurd (let x = sym (one_passes (passes Check schema db table) (v ∷ put a) (rules.checked db v a)) ∙ (subst (λ (t : Table). list_all (passes Check schema db t) ((v ∷ put a) ∷ []) ≡ false) same (rw news at h)) in cc)

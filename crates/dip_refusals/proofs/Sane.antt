@@ -35,9 +35,11 @@ use Rattle.dip_schema.specs.Asking.{IsAsked, command_in}
 use Rattle.dip_statements.specs.Rows.{IsRising, AtMostOne}
 use Rattle.dip_statements.specs.Queries.{passes, plain_query}
 use Rattle.dip_statements.proofs.Selecting.{selected}
+use Rattle.dip_rows.specs.Causes.{Faulted}
 use Rattle.dip_refusals.specs.Refusals.{IsWant}
 use Rattle.dip_refusals.proofs.Failing.{delete_refused, edits_rows, fails, insert_refused, mode, update_refused}
 use Rattle.dip_refusals.proofs.Passing.{AreKept}
+use Rattle.dip_refusals.proofs.Told.{want_weaker}
 use Rattle.dip_refusals.proofs.Wanting.{KeysApart, delete_wants, insert_wants, update_wants}
 
 within : (a b : ℕ) → nat_le a b ≡ true → a ≤ b
@@ -64,11 +66,11 @@ module _ (schema : Schema) (at : ℕ) (table : Table) (listed : slice_get schema
     (text : List ℕ) (plain : IsPlain (understood schema text)) (params : Row) (asked : IsAsked (length text) (length params) (understood schema text))
     (old new : State) (has : old.now.schema ≡ schema) (up : IsTrue old.is_open) (unlimited : old.step_limit ≡ None) (it : IsRising put take (old.now.trees table.tree)) (e : Error) (h : Executes text params old new (Err e)) where
   unmet : (command : Command) → command_in (understood schema text) command → edits_rows command ≡ true → (is_query command || (is_pragma command || false)) ≡ false
-      → IsWant e ⊎ ((said : List ℕ) × Does None mode params old.now said None command (Err (Some e)))
+      → IsWant (Faulted old new) e ⊎ ((said : List ℕ) × Does None mode params old.now said None command (Err (Some e)))
   unmet command means edits quiet = go (understood schema text) (ap (λ s. understood s text) has) means plain asked
     where
       go : (r : Result Compiled CompileError) → understood old.now.schema text ≡ r → command_in r command → IsPlain r → IsAsked (length text) (length params) r
-          → IsWant e ⊎ ((said : List ℕ) × Does None mode params old.now said None command (Err (Some e)))
+          → IsWant (Faulted old new) e ⊎ ((said : List ℕ) × Does None mode params old.now said None command (Err (Some e)))
       go (Ok c) is means plain asked = elim (fails text params old new c is (within _ _ asked.0) (sym asked.1) plain.1 plain.0 up command means edits (shows_none c command means plain.0 quiet) e h) [
         | inl w ↦ inl w
         | inr d ↦ inr (text_of text c, subst (λ l. Does l (mode_of old) params old.now (text_of text c) None command (Err (Some e))) unlimited d)
@@ -77,12 +79,12 @@ module _ (schema : Schema) (at : ℕ) (table : Table) (listed : slice_get schema
 
   pub insert_sane : (terms : List Term) (width : ℕ) → command_in (understood schema text) (Insert at (Values terms width)) → accepts_terms terms (stamped table params) ≡ true
       → (a : A) → value_rows (stamped table params) width (length terms / width) terms ≡ (Null ∷ put a) ∷ []
-      → KeysApart put take back schema table casts rules old.now.trees it (map take (old.now.trees table.tree) ++ a ∷ []) → IsWant e
+      → KeysApart put take back schema table casts rules old.now.trees it (map take (old.now.trees table.tree) ++ a ∷ []) → IsWant (Faulted old new) e
   insert_sane terms width means accepts a are unique = elim (unmet (Insert at (Values terms width)) means refl refl) [
     | inl w ↦ w
     | inr d ↦
         let r = insert_refused schema at table listed bare calm refers params old.now has d.0 terms width accepts e d.1 in
-        subst IsWant (sym r.2) (insert_wants put take back schema table casts rules old.now.trees it a _ are unique r.0 r.1)
+        want_weaker ⊥ (Faulted old new) e (λ none. absurd none) (subst (IsWant ⊥) (sym r.2) (insert_wants put take back schema table casts rules old.now.trees it a _ are unique r.0 r.1))
   ]
 
   module _ (tests : List Term) (p : A → Bool) (tells : (v : Value) (a : A) → passes tests params (v ∷ put a) ≡ p a) where
@@ -94,7 +96,7 @@ module _ (schema : Schema) (at : ℕ) (table : Table) (listed : slice_get schema
 
     pub delete_sane : command_in (understood schema text) (Delete at (record { lets = []; body = plain_query table.tree tests (col 1 0 ∷ []) [] }))
         → accepts_program schema (lets_of (record { lets = []; body = plain_query table.tree tests (col 1 0 ∷ []) [] })) (plain_query table.tree tests (col 1 0 ∷ []) []) params ≡ true
-        → KeysApart put take back schema table casts rules old.now.trees it (delete_where p (map take (old.now.trees table.tree))) → IsWant e
+        → KeysApart put take back schema table casts rules old.now.trees it (delete_where p (map take (old.now.trees table.tree))) → IsWant (Faulted old new) e
     delete_sane means accepts unique =
         let q : Program = record { lets = []; body = plain_query table.tree tests (col 1 0 ∷ []) [] } in elim (unmet (Delete at q) means refl refl) [
           | inl w ↦ w
@@ -106,11 +108,11 @@ module _ (schema : Schema) (at : ℕ) (table : Table) (listed : slice_get schema
     pub update_sane : (f : A → A) (shown : List Term) → ((v : Value) (a : A) → eval_all shown (params ∷ (v ∷ put a) ∷ []) ≡ v ∷ v ∷ put (f a)) → AtMostOne p (map take (old.now.trees table.tree))
         → command_in (understood schema text) (Update at (record { lets = []; body = plain_query table.tree tests shown [] }))
         → accepts_program schema (lets_of (record { lets = []; body = plain_query table.tree tests shown [] })) (plain_query table.tree tests shown []) params ≡ true
-        → KeysApart put take back schema table casts rules old.now.trees it (update_where p f (map take (old.now.trees table.tree))) → IsWant e
+        → KeysApart put take back schema table casts rules old.now.trees it (update_where p f (map take (old.now.trees table.tree))) → IsWant (Faulted old new) e
     update_sane f shown shows lone means accepts unique =
         let q : Program = record { lets = []; body = plain_query table.tree tests shown [] } in elim (unmet (Update at q) means refl refl) [
           | inl w ↦ w
           | inr d ↦
               let r = update_refused schema at table listed bare calm refers params old.now has d.0 q (plainly schema old.now.trees table.tree tests shown params accepts) e d.1 in
-              subst IsWant (sym r.4) (update_wants put take back schema table casts rules old.now.trees it params tests p tells f shown shows lone r.0 (met shown r.0 r.1) unique r.2 r.3)
+              want_weaker ⊥ (Faulted old new) e (λ none. absurd none) (subst (IsWant ⊥) (sym r.4) (update_wants put take back schema table casts rules old.now.trees it params tests p tells f shown shows lone r.0 (met shown r.0 r.1) unique r.2 r.3))
         ]

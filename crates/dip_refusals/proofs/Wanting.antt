@@ -50,7 +50,7 @@ module _ {A : Type 0} (put : A → Row) (take : Row → A) (back : (v : Value) (
   KeysApart xs = (rows : List Row) → IsRising put take rows → map take rows ≡ xs → Keeps Unique schema (with_tree db table.tree rows)
 
   pub insert_wants : (a : A) (sources : List Row) → sources ≡ (Null ∷ put a) ∷ [] → KeysApart (map take (db table.tree) ++ a ∷ [])
-      → (why : Refusal) → IsRefused schema Enforced db (edit_of db table [] Chosen 0 sources) why → IsWant (edit_error why)
+      → (why : Refusal) → IsRefused schema Enforced db (edit_of db table [] Chosen 0 sources) why → IsWant ⊥ (edit_error why)
   insert_wants a sources are unique why h =
       let rows = db table.tree in
       let edit = edit_of db table [] Chosen 0 sources in
@@ -81,7 +81,7 @@ module _ {A : Type 0} (put : A → Row) (take : Row → A) (back : (v : Value) (
 
     pub update_wants : (f : A → A) (shown : List Term) → ((v : Value) (a : A) → eval_all shown (params ∷ (v ∷ put a) ∷ []) ≡ v ∷ v ∷ put (f a)) → AtMostOne p (map take (db table.tree))
         → (given : List Row) → IsPermutation (map (λ r. eval_all shown (params ∷ r ∷ [])) (filter (passes tests params) (db table.tree))) given
-        → KeysApart (update_where p f (map take (db table.tree))) → (why : Refusal) → IsRefused schema Enforced db (edit_of db table (ids_of given) Given 1 given) why → IsWant (edit_error why)
+        → KeysApart (update_where p f (map take (db table.tree))) → (why : Refusal) → IsRefused schema Enforced db (edit_of db table (ids_of given) Given 1 given) why → IsWant ⊥ (edit_error why)
     update_wants f shown shows lone given are unique why h = elim lone [
       | inl none ↦ absurd (none_there none)
       | inr one ↦ one_there one.0 one.1
@@ -106,7 +106,7 @@ module _ {A : Type 0} (put : A → Row) (take : Row → A) (back : (v : Value) (
             let g = not_renewed put take back p f rows rows it gone refl in
             no_record put take back schema table casts rules db (edit_of db table [] Given 1 []) refl refl (unique rows g.0 g.1) why (subst (λ all. IsRefused schema Enforced db (edit_of db table (ids_of all) Given 1 all) why) empty h)
 
-        one_there : (x : A) → filter p (map take rows) ≡ x ∷ [] → IsWant (edit_error why)
+        one_there : (x : A) → filter p (map take rows) ≡ x ∷ [] → IsWant ⊥ (edit_error why)
         one_there x one =
             let only = one_in take x found (sym (filter-map p take rows) ∙ one) in
             let r = only.0 in

@@ -3,8 +3,8 @@ use Rattle.std.specs.Prelude.{◌≡◌, ◌⊎◌}
 use Rattle.sqlite.specs.declared.error.Error.{Error}
 use Rattle.sqlite.specs.declared.error.Error.TheVariants.{SqliteFailure}
 use Rattle.sqlite.specs.declared.error.ErrorCode.TheVariants as code
-use Rattle.dip_statements.specs.Faults.{IsOutside}
+use Rattle.dip_rows.specs.Causes.{IsCaused}
 
--- want of memory, a fault of the disk, or want of room: a row that is too long to be stored, or no number left for one
-abbrev pub IsWant : Error → Type 0
-IsWant e = IsOutside e ⊎ ((e ≡ SqliteFailure code.TooBig) ⊎ (e ≡ SqliteFailure code.NoRowid))
+-- want of memory, this fault of the disk, or want of room: a row that is too long to be stored, or no number left for one
+abbrev pub IsWant : Type 0 → Error → Type 0
+IsWant fault e = IsCaused fault e ⊎ ((e ≡ SqliteFailure code.TooBig) ⊎ (e ≡ SqliteFailure code.NoRowid))

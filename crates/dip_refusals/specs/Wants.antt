@@ -3,6 +3,7 @@ use Rattle.std.specs.Prelude.{◌≡◌, IsTrue, None, Result, OnOk, IfErr}
 use Rattle.sqlite.specs.declared.error.Error.{Error}
 use Rattle.sqlite.specs.State.{State, HasCleanDisk}
 use Rattle.dip_tables.specs.Tables.{Tables}
+use Rattle.dip_rows.specs.Causes.{Faulted}
 use Rattle.dip_rows.specs.Good.{IsGood}
 use Rattle.dip_rows.specs.Rows.{tables_of}
 use Rattle.dip_refusals.specs.Refusals.{IsWant}
@@ -22,4 +23,4 @@ always t = Unit {0}
 pub record Wants {X : Type 0} (Allow : Tables → Type 0) (old new : State) (r : Result X Error)
     : Type 0 where
   pub ready : HasCleanDisk new → IsReady old → OnOk r (IsReady new)
-  pub fails : HasCleanDisk new → IsReady old → Allow (tables_of old.now.trees) → IfErr r IsWant
+  pub fails : HasCleanDisk new → IsReady old → Allow (tables_of old.now.trees) → IfErr r (IsWant (Faulted old new))

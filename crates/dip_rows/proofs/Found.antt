@@ -23,10 +23,11 @@ use Rattle.dip_statements.specs.Rows.{IsRising, AtMostOne}
 use Rattle.dip_statements.specs.Queries.{passes, plain_query}
 use Rattle.dip_statements.specs.Faults.{IsOutside}
 use Rattle.dip_statements.proofs.Finding.{shown_rows, rows_in_turn}
-use Rattle.dip_statements.proofs.Faults.{query_sane}
+use Rattle.dip_statements.proofs.Faults.{blames, query_sane}
 use Rattle.dip_schema.specs.Schema.{our_schema}
 use Rattle.dip_schema.specs.Asking.{Asks, Accepts, IsAsked, command_in, in_turn}
 use Rattle.dip_schema.proofs.Meaning.{commanded}
+use Rattle.dip_rows.specs.Causes.{Faulted, IsCaused}
 
 -- the first record that passes is the one that does
 first_of : {A : Type 0} (p : A → Bool) (xs : List A) → filter p xs ≡ [] → find p xs ≡ None
@@ -92,7 +93,7 @@ within a b h = grind (arith, nat_tests)
 module _ (text : List ℕ) (params : Row) (count t : ℕ) (tests shown : List Term) (order : List (Term × Key)) (names : List (List ℕ)) (asks : Asks text count (plain_query t tests shown order) names)
     (accepts : Accepts (plain_query t tests shown order) params) (given : length params ≡ count) (old new : State) (schema : old.now.schema ≡ our_schema) (unlimited : old.step_limit ≡ None) (up : IsTrue old.is_open) where
   -- a query fails for want of memory, or by the disk
-  pub fails_outside : (e : Error) → FailsToQuery text params old new e → IsOutside e
+  fails_outside : (e : Error) → FailsToQuery text params old new e → IsOutside e
   fails_outside e h = go (understood our_schema text) (ap (λ s. understood s text) schema) asks.means.0 asks.means.1 asks.asked
     where
       go : (r : Result Compiled CompileError) → understood old.now.schema text ≡ r → command_in r (Select (record { lets = []; body = plain_query t tests shown order }) names) → IsPlain r → IsAsked (length text) count r → IsOutside e
@@ -100,3 +101,10 @@ module _ (text : List ℕ) (params : Row) (count t : ℕ) (tests shown : List Te
           query_sane text params old new c is (within _ _ asked.0) (given ∙ sym asked.1) plain.1 plain.0 t tests shown order names means
           (ap (λ s. reads_listing s text) schema ∙ asks.unlisted) (subst (λ s. accepts_program s [] (plain_query t tests shown order) params ≡ true) (sym schema) accepts) unlimited up e h
       go (Err e) is means plain asked = absurd means
+
+  -- and by the disk only where the store told of it
+  pub fails_caused : (e : Error) → FailsToQuery text params old new e → IsCaused (Faulted old new) e
+  fails_caused e h = elim (fails_outside e h) [
+    | inl memory ↦ inl memory
+    | inr disk ↦ inr (disk, blames text params old new (subst (λ s. IsPlain (understood s text)) (sym schema) asks.means.1) e h disk)
+  ]

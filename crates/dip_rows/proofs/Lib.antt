@@ -1,5 +1,6 @@
 pub mod Apart
 pub mod Casting
+pub mod Caused
 pub mod Found
 pub mod New
 pub mod Numbered

@@ -24,6 +24,7 @@ module _ {S : Type 0} (g : Ghosts S) where
     fair = λ clean. p.fair (q.fair clean);
     shown = λ shows. p.shown (q.shown shows);
     mode = λ idle. q.mode (p.mode idle);
+    counts = omega (arith, p.counts, q.counts);
     kept = λ kept shows. q.kept (p.kept kept (q.shown shows)) shows;
     same = λ kept shows. let mid = q.shown shows in q.same (p.kept kept mid) shows ∙ p.same kept mid;
     ok = λ kept clean. q.ok (p.kept kept (p.ok kept (q.fair clean))) clean;
@@ -36,10 +37,10 @@ module _ {S : Type 0} (g : Ghosts S) where
 
   -- what went well may yet be answered otherwise
   pub selects_as : {X E Y F : Type 0} (a b : Held S) (x : X) (r : Result Y F) → Selects g a b (went X E x) → Selects g a b r
-  selects_as a b x r p = record { fair = p.fair; shown = p.shown; mode = p.mode; kept = p.kept; same = p.same; ok = λ kept clean. any_ok r (does_show g b) (p.ok kept clean); left = p.left }
+  selects_as a b x r p = record { fair = p.fair; shown = p.shown; mode = p.mode; counts = p.counts; kept = p.kept; same = p.same; ok = λ kept clean. any_ok r (does_show g b) (p.ok kept clean); left = p.left }
 
   pub selects_fails : {X E Y F : Type 0} (a b : Held S) (e : E) (f : F) → Selects g a b (fails X E e) → Selects g a b (fails Y F f)
-  selects_fails a b e f p = record { fair = p.fair; shown = p.shown; mode = p.mode; kept = p.kept; same = p.same; ok = λ kept clean. tt; left = p.left }
+  selects_fails a b e f p = record { fair = p.fair; shown = p.shown; mode = p.mode; counts = p.counts; kept = p.kept; same = p.same; ok = λ kept clean. tt; left = p.left }
 
 module _ {S : Type 0} (g : Ghosts S) (text : List ℕ) (params : Row) (old new : Held S) (plain : IsPlain (understood our_schema text)) (survives : Survives (state g old) (state g new) (CommitsShowing text params (state g old)))
     (mode : old.in_transaction ≡ false → new.in_transaction ≡ false) where
@@ -61,6 +62,7 @@ module _ {S : Type 0} (g : Ghosts S) (text : List ℕ) (params : Row) (old new :
       fair = λ clean. omega (arith, clean, survives.clean);
       shown = λ shows. (omega (arith, shows.0, survives.clean), up shows.0 shows.1);
       mode = mode;
+      counts = survives.counts;
       kept = λ kept shows. let u = same kept shows.0 in kept_as kept u.0.now_is u.0.committed_is;
       same = λ kept shows. (same kept shows.0).0.now_is;
       ok = ok_in r;
@@ -76,6 +78,7 @@ module _ {S : Type 0} (g : Ghosts S) (text : List ℕ) (params : Row) (old new :
       fair = λ clean. omega (arith, clean, survives.clean);
       shown = λ shows. (omega (arith, shows.0, survives.clean), up shows.0 shows.1);
       mode = mode;
+      counts = survives.counts;
       kept = λ kept shows. elim (how kept shows.0) [ inl u ↦ kept_as kept u.0.now_is u.0.committed_is | inr b ↦ kept_as kept ((b.undone shows.1).0 ∙ sym kept.settled) (b.undone shows.1).1 ];
       same = λ kept shows. elim (how kept shows.0) [ inl u ↦ u.0.now_is | inr b ↦ (b.undone shows.1).0 ∙ sym kept.settled ];
       ok = λ kept clean. tt;

@@ -1,5 +1,5 @@
 -- What the calls of statements leave.
-use Rattle.std.specs.Prelude.{◌≡◌, false, IsTrue, None, Result, OnOk}
+use Rattle.std.specs.Prelude.{◌≡◌, ◌≤◌, false, IsTrue, None, Result, OnOk}
 use Rattle.sqlite.specs.Tree.{Trees}
 use Rattle.sqlite.specs.Effect.{Database}
 use Rattle.sqlite.specs.Store.{Ghosts}
@@ -52,6 +52,7 @@ pub record Selects {S X E : Type 0} (g : Ghosts S) (old new : Held S) (r : Resul
   pub fair : is_honest g new → is_honest g old
   pub shown : does_show g new → does_show g old
   pub mode : old.in_transaction ≡ false → new.in_transaction ≡ false
+  pub counts : (state g old).faults ≤ (state g new).faults
   pub kept : IsKept g old → does_show g new → IsKept g new
   pub same : IsKept g old → does_show g new → (state g new).now ≡ (state g old).now
   pub ok : IsKept g old → is_honest g new → OnOk r (does_show g new)

@@ -1,4 +1,5 @@
 pub mod Calls
+pub mod Causes
 pub mod Good
 pub mod Rows
 pub mod Showing

@@ -13,12 +13,13 @@ use Rattle.dip_machine.specs.State.{State}
 use Rattle.dip_machine.specs.declared.faults.KeepFault.{KeepFault}
 use Rattle.dip_machine.specs.declared.faults.KeepFault.TheVariants.{Memory, Disk, Damaged}
 use Rattle.dip_rows.specs.Calls.{IsKept, Selects, is_honest, does_show, tables_in}
+use Rattle.dip_rows.specs.Causes.{has_faulted}
 use Rattle.dip_rows.specs.Rows.{tables_of}
 use Rattle.dip_rows.proofs.Parts.{fails, went}
 use Rattle.dip_store.specs.Faults.{look_fault}
 use Rattle.dip_store.specs.Stored.{book, said_by, telling}
 use Rattle.dip_store.specs.declared.keeper.SqlKeeper.{SqlKeeper}
-use Rattle.dip_store.proofs.Outside.{look_outside}
+use Rattle.dip_store.proofs.Outside.{look_blamed, look_outside}
 
 module _ {S : Type 0} (g : Ghosts S) (m : Chart) (k : SqlKeeper S) (c : Held S) where
   abbrev Kept : Type 0
@@ -40,6 +41,7 @@ module _ {S : Type 0} (g : Ghosts S) (m : Chart) (k : SqlKeeper S) (c : Held S) 
   looks_well X E x Value p value = record {
     keeps = record {
       count = refl;
+      told = p.counts;
       fair = p.fair;
       shown = p.shown;
       sound = sound_on (went X E x) p;
@@ -48,16 +50,18 @@ module _ {S : Type 0} (g : Ghosts S) (m : Chart) (k : SqlKeeper S) (c : Held S) 
     };
     value = λ kept shows. value kept.0 kept.1 shows.0;
     damaged = λ kept shows is. absurd (cc);
+    failed = λ kept shows is. absurd (cc);
     same = same_on (went X E x) p;
     left = λ kept. left_on (went X E x) p kept;
   }
 
   -- what failed, by the fault that is told of it
-  looks_told : (X Y E : Type 0) (e : E) (f : KeepFault) (n : ℕ) (Value : X → Type 0) → Selects g k.conn c (fails Y E e) → n ≡ faults_with f k.failures → (Kept → does_show g c → f ≡ Damaged → ⊥)
+  looks_told : (X Y E : Type 0) (e : E) (f : KeepFault) (n : ℕ) (Value : X → Type 0) → Selects g k.conn c (fails Y E e) → n ≡ faults_with f k.failures → (Kept → does_show g c → f ≡ Damaged → ⊥) → (Kept → does_show g c → f ≡ Disk → has_faulted g k.conn c)
       → Looks m (book g) k (record k { conn = c; failures = n }) Value ⊥ (fails X KeepFault f)
-  looks_told X Y E e f n Value p count never = record {
+  looks_told X Y E e f n Value p count never blamed = record {
     keeps = record {
       count = count;
+      told = p.counts;
       fair = p.fair;
       shown = p.shown;
       sound = sound_on (fails Y E e) p;
@@ -66,18 +70,21 @@ module _ {S : Type 0} (g : Ghosts S) (m : Chart) (k : SqlKeeper S) (c : Held S) 
     };
     value = λ kept shows. tt;
     damaged = λ kept shows is. let same : f ≡ Damaged = cc in never kept shows same;
+    failed = λ kept shows is. let same : f ≡ Disk = cc in blamed kept shows same;
     same = same_on (fails Y E e) p;
     left = λ kept. left_on (fails Y E e) p kept;
   }
 
-  looks_counted : (X Y E : Type 0) (e : E) (f : KeepFault) (Value : X → Type 0) → Selects g k.conn c (fails Y E e) → (Kept → does_show g c → f ≡ Damaged → ⊥)
+  looks_counted : (X Y E : Type 0) (e : E) (f : KeepFault) (Value : X → Type 0) → Selects g k.conn c (fails Y E e) → (Kept → does_show g c → f ≡ Damaged → ⊥) → (Kept → does_show g c → f ≡ Disk → has_faulted g k.conn c)
       → Looks m (book g) k (telling f (record k { conn = c })) Value ⊥ (fails X KeepFault f)
-  looks_counted X Y E e Memory Value p never = looks_told X Y E e Memory k.failures Value p refl never
-  looks_counted X Y E e Disk Value p never = looks_told X Y E e Disk (k.failures + 1) Value p refl never
-  looks_counted X Y E e Damaged Value p never = looks_told X Y E e Damaged k.failures Value p refl never
+  looks_counted X Y E e Memory Value p never blamed = looks_told X Y E e Memory k.failures Value p refl never blamed
+  looks_counted X Y E e Disk Value p never blamed = looks_told X Y E e Disk (k.failures + 1) Value p refl never blamed
+  looks_counted X Y E e Damaged Value p never blamed = looks_told X Y E e Damaged k.failures Value p refl never blamed
 
   -- a look at rows that a keeper wrote fails for want alone
   pub looks_ill : (X Y : Type 0) (e : LookFault) (Value : X → Type 0) → Selects g k.conn c (fails Y LookFault e)
-      → (IsKept g k.conn → does_show g k.conn → is_honest g c → AreOurs m (tables_in g k.conn) → IsFromOutside e)
+      → (IsKept g k.conn → does_show g k.conn → is_honest g c → AreOurs m (tables_in g k.conn) → IsFromOutside (has_faulted g k.conn c) e)
       → Looks m (book g) k (telling (look_fault e) (record k { conn = c })) Value ⊥ (fails X KeepFault (look_fault e))
-  looks_ill X Y e Value p own = looks_counted X Y LookFault e (look_fault e) Value p (λ kept shows. look_outside e (own kept.0 (p.shown shows) shows.0 kept.1))
+  looks_ill X Y e Value p own = looks_counted X Y LookFault e (look_fault e) Value p
+      (λ kept shows. look_outside (has_faulted g k.conn c) e (own kept.0 (p.shown shows) shows.0 kept.1))
+      (λ kept shows. look_blamed (has_faulted g k.conn c) e (own kept.0 (p.shown shows) shows.0 kept.1))

@@ -1,5 +1,5 @@
 -- A change of the rows is the change of their keeper.
-use Rattle.std.proofs.Common.{◌≡◌, inl, inr, ◌+◌, ℕ, refl, sym, ap, subst, ◌∙◌}
+use Rattle.std.proofs.Common.{◌≡◌, arith, inl, inr, ◌+◌, ℕ, refl, sym, ap, subst, ◌∙◌}
 use Rattle.sqlite.specs.Effect.{Database}
 use Rattle.sqlite.specs.Tree.{Trees}
 use Rattle.sqlite.specs.Store.{Ghosts}
@@ -19,6 +19,7 @@ use Rattle.dip_tables.specs.Changing.{changing}
 use Rattle.dip_tables.specs.Columns.{HasWidths, IsWritable}
 use Rattle.dip_refusals.proofs.Keyed.{are_keyed}
 use Rattle.dip_rows.specs.Calls.{IsKept, Lands, does_show, is_honest, tables_in}
+use Rattle.dip_rows.specs.Causes.{has_faulted}
 use Rattle.dip_rows.specs.Good.{IsGood}
 use Rattle.dip_rows.specs.Rows.{tables_of}
 use Rattle.dip_rows.proofs.Parts.{fails, went}
@@ -65,6 +66,7 @@ module _ {S : Type 0} (g : Ghosts S) (m : Chart) (k : SqlKeeper S) (c : Change) 
     changes_well X E x texts stay p stays place = record {
       keeps = record {
         count = refl;
+        told = p.counts;
         fair = p.fair;
         shown = p.shown;
         sound = sound;
@@ -89,6 +91,7 @@ module _ {S : Type 0} (g : Ghosts S) (m : Chart) (k : SqlKeeper S) (c : Change) 
     changes_told X Y E e f n p count never = record {
       keeps = record {
         count = count;
+        told = p.counts;
         fair = p.fair;
         shown = p.shown;
         sound = λ kept shows. let is = p.undone kept.0 shows in (is.0, subst (λ (d : Database). AreOurs m (tables_of d.trees)) (sym is.1) kept.1);
@@ -114,11 +117,11 @@ module _ {S : Type 0} (g : Ghosts S) (m : Chart) (k : SqlKeeper S) (c : Change) 
 
     -- a change that fits isn't made for want alone
     pub changes_ill : (X Y : Type 0) (e : MakeFault) → WhatFitsFindsPlace m → Makes g (changing m c) k.conn new (fails Y MakeFault e)
-        → (IsKept g k.conn → does_show g k.conn → is_honest g new → MayMake m c (tables_in g k.conn) → FailsFor (HasPlace m c (tables_in g k.conn) → ⊥) e)
+        → (IsKept g k.conn → does_show g k.conn → is_honest g new → MayMake m c (tables_in g k.conn) → FailsFor (has_faulted g k.conn new) (HasPlace m c (tables_in g k.conn) → ⊥) e)
         → Changes m (book g) k (telling (make_fault e) (record k { conn = new })) (state_after c) (Fits m c) (fails X KeepFault (make_fault e))
     changes_ill X Y e finds p why = changes_counted X Y MakeFault e (make_fault e) p (λ kept shows fit.
         let place = placed kept fit in
-        make_outside (HasPlace m c (tables_in g k.conn) → ⊥) e (why kept.0 (p.shown shows) shows.0 (record { ours = kept.1; keyed = place.keyed })) (λ none. none (record { paper = place.paper; room = place.room })))
+        make_outside (has_faulted g k.conn new) (HasPlace m c (tables_in g k.conn) → ⊥) e (why kept.0 (p.shown shows) shows.0 (record { ours = kept.1; keyed = place.keyed })) (λ none. none (record { paper = place.paper; room = place.room })))
       where
         placed : (kept : Keeps) → Fits m c (said_by m (state g k.conn).now.trees) → FindsPlaceInTables m c (tables_in g k.conn)
         placed kept fit = finds c (tables_in g k.conn) kept.1.map kept.1.coded kept.0.counted (are_keyed (state g k.conn).now kept.0.good) fit
@@ -128,6 +131,7 @@ module _ {S : Type 0} (g : Ghosts S) (m : Chart) (k : SqlKeeper S) (c : Change) 
   changes_none X writable off = record {
     keeps = record {
       count = refl;
+      told = omega arith;
       fair = λ clean. clean;
       shown = λ shows. shows;
       sound = λ kept shows. kept;

@@ -14,7 +14,7 @@ use Rattle.dip_making.specs.Failing.{FailsFor}
 use Rattle.dip_making.specs.declared.faults.MakeFault.{MakeFault}
 use Rattle.dip_making.specs.declared.faults.MakeFault.TheVariants as makes
 use Rattle.dip_refusals.specs.Refusals.{IsWant}
-use Rattle.dip_statements.specs.Faults.{IsOutside}
+use Rattle.dip_rows.specs.Causes.{IsCaused}
 use Rattle.dip_store.specs.Faults.{code_fault, error_fault, look_fault, make_fault}
 
 not_memory : Memory ≡ Damaged → ⊥
@@ -38,23 +38,33 @@ error_of_disk _ disk is = absurd (let x : false ≡ true = disk in cc)
 told_as : (e : Error) (f : KeepFault) (other : Error) → e ≡ other → error_fault other ≡ f → (f ≡ Damaged → ⊥) → error_fault e ≡ Damaged → ⊥
 told_as e f other same told off is = off (sym told ∙ ap error_fault (sym same) ∙ is)
 
-error_outside : (e : Error) → IsOutside e → error_fault e ≡ Damaged → ⊥
-error_outside e (inl memory) is = told_as e Memory (SqliteFailure OutOfMemory) memory refl not_memory is
-error_outside e (inr disk) is = error_of_disk e disk is
+error_outside : (fault : Type 0) (e : Error) → IsCaused fault e → error_fault e ≡ Damaged → ⊥
+error_outside fault e (inl memory) is = told_as e Memory (SqliteFailure OutOfMemory) memory refl not_memory is
+error_outside fault e (inr disk) is = error_of_disk e disk.0 is
 
-error_wanting : (e : Error) → IsWant e → error_fault e ≡ Damaged → ⊥
-error_wanting e (inl outside) is = error_outside e outside is
-error_wanting e (inr (inl big)) is = told_as e Disk (SqliteFailure TooBig) big refl not_disk is
-error_wanting e (inr (inr full)) is = told_as e Disk (SqliteFailure NoRowid) full refl not_disk is
+error_wanting : (fault : Type 0) (e : Error) → IsWant fault e → error_fault e ≡ Damaged → ⊥
+error_wanting fault e (inl outside) is = error_outside fault e outside is
+error_wanting fault e (inr (inl big)) is = told_as e Disk (SqliteFailure TooBig) big refl not_disk is
+error_wanting fault e (inr (inr full)) is = told_as e Disk (SqliteFailure NoRowid) full refl not_disk is
+
+-- and the disk is told of only where there was a fault of it
+error_blamed : (fault : Type 0) (e : Error) → IsCaused fault e → error_fault e ≡ Disk → fault
+error_blamed fault e (inl memory) is = absurd (let bad : Memory ≡ Disk = ap error_fault (sym memory) ∙ is in cc)
+error_blamed fault e (inr disk) is = disk.1
 
 -- of a look
-pub look_outside : (e : LookFault) → IsFromOutside e → look_fault e ≡ Damaged → ⊥
-look_outside looks.Memory own is = not_memory is
-look_outside (looks.Query e) own is = error_outside e own is
-look_outside looks.Foreign own is = absurd own
+pub look_outside : (fault : Type 0) (e : LookFault) → IsFromOutside fault e → look_fault e ≡ Damaged → ⊥
+look_outside fault looks.Memory own is = not_memory is
+look_outside fault (looks.Query e) own is = error_outside fault e own is
+look_outside fault looks.Foreign own is = absurd own
+
+pub look_blamed : (fault : Type 0) (e : LookFault) → IsFromOutside fault e → look_fault e ≡ Disk → fault
+look_blamed fault looks.Memory own is = absurd (let bad : Memory ≡ Disk = is in cc)
+look_blamed fault (looks.Query e) own is = error_blamed fault e own is
+look_blamed fault looks.Foreign own is = absurd own
 
 -- and of a change that is no misfit
-pub make_outside : (Misfit : Type 0) (e : MakeFault) → FailsFor Misfit e → (Misfit → ⊥) → make_fault e ≡ Damaged → ⊥
-make_outside Misfit makes.Memory fails fits is = not_memory is
-make_outside Misfit (makes.Sql e) fails fits is = error_wanting e fails is
-make_outside Misfit makes.Misfit fails fits is = fits fails
+pub make_outside : (fault Misfit : Type 0) (e : MakeFault) → FailsFor fault Misfit e → (Misfit → ⊥) → make_fault e ≡ Damaged → ⊥
+make_outside fault Misfit makes.Memory fails fits is = not_memory is
+make_outside fault Misfit (makes.Sql e) fails fits is = error_wanting fault e fails is
+make_outside fault Misfit makes.Misfit fails fits is = fits fails

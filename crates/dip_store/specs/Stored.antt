@@ -30,6 +30,7 @@ book g = record {
   content = λ m k. said_by m (state g k.conn).now.trees;
   may_leave = λ m k s. (db : Trees) × (state g k.conn).may_leave db × (s ≡ said_by m db);
   faults = λ k. k.failures;
+  told = λ k. (state g k.conn).faults;
   honest = λ k. is_honest g k.conn;
   shows = λ k. does_show g k.conn;
   sound = λ m k. IsKept g k.conn × AreOurs m (tables_in g k.conn);

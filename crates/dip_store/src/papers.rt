@@ -4,6 +4,7 @@ ghost use Rattle.dip_chart.specs.Charts.{Chart};
 ghost use Rattle.dip_finding.specs.Faults.{IsFromOutside};
 ghost use Rattle.dip_legible.specs.Legible.{AreOurs};
 ghost use Rattle.dip_machine.specs.State.{paper_at};
+ghost use Rattle.dip_rows.specs.Causes.{has_faulted};
 ghost use Rattle.dip_rows.specs.Calls.{IsKept, Selects, does_show, is_honest, tables_in};
 ghost use Rattle.dip_tables.specs.Reading.{state_of};
 
@@ -27,7 +28,8 @@ pub(crate) fn look_game_paper<S: Alter>(
         ≡ paper_at game.now number (state_of m (tables_in S.Store conn.old))) }
     ensures selects { Selects S.Store conn.old conn.new result }
     ensures own { IsKept S.Store conn.old → does_show S.Store conn.old → is_honest S.Store conn.new
-        → (m : Chart) → AreOurs m (tables_in S.Store conn.old) → IfErr result IsFromOutside }
+        → (m : Chart) → AreOurs m (tables_in S.Store conn.old)
+        → IfErr result (IsFromOutside (has_faulted S.Store conn.old conn.new)) }
 {
     paper_is_found();
     let Some(_count) = count_papers(conn, game)? else {

@@ -6,6 +6,7 @@ use Rattle.dip_rows.specs.Calls.{tables_in}
 use Rattle.dip_rows.specs.Showing.{is_item}
 use Rattle.dip_tables.specs.Reading.{item_of}
 use Rattle.dip_finding.specs.Shown.{shown_item}
+use Rattle.dip_finding.proofs.Blaming.{read_of}
 use Rattle.dip_finding.proofs.PageLemmas.{item_shown, item_there}
 use Rattle.dip_finding.proofs.RowLemmas.{item_found_readable}
 use Rattle.dip_finding.proofs.inbox.item_at.Goals as goal
@@ -26,4 +27,4 @@ returns-in_default-clause-own g c kept shows clean m ours n counts some low =
 pub returns-clause-own : goal.returns-clause-own
 returns-clause-own g c kept shows clean m ours n counts some low =
     let row = rw c.in-Some.is at (c.in_ok-row.ensures.value kept clean) in
-    c.item_in.ensures.own (item_found_readable m (tables_in g.S.Store c.args.conn.now) ours c.args.game.now c.args.power.now c.args.number c.in-Some.row row)
+    read_of _ c.item_in.result (c.item_in.ensures.own (item_found_readable m (tables_in g.S.Store c.args.conn.now) ours c.args.game.now c.args.power.now c.args.number c.in-Some.row row))

@@ -6,7 +6,12 @@ use Rattle.dip_rows.specs.Calls.{tables_in}
 use Rattle.dip_rows.specs.Showing.{is_item}
 use Rattle.dip_tables.specs.Reading.{item_of, items_of}
 use Rattle.dip_tables.specs.Tables.{Tables}
+use Rattle.dip_finding.proofs.Blaming.{passed_on}
 use Rattle.dip_finding.proofs.Onward.{leaves, turns_on}
+use Rattle.dip_legible.specs.Legible.{AreOurs}
+use Rattle.dip_rows.proofs.Caused.{faulted_late}
+use Rattle.dip_tables.specs.Counting.{counted, item_numbers}
+use Rattle.sqlite.specs.Held.{state}
 use Rattle.dip_finding.proofs.PageLemmas.{item_more}
 use Rattle.dip_finding.proofs.inbox.items_behind.Goals as goal
 
@@ -36,4 +41,17 @@ loop-index-preserved g c =
           (after.0, after.1 ∙ here.1);
       shows = λ kept up clean. step.ok (before.same kept (step.fair clean)).0 clean;
       selects = turns_on g.S.Store _ _ _ tt item before.selects step;
+      counts = omega (arith, before.counts, step.counts);
     }
+
+pub returns-in_err-item_at-clause-own : goal.returns-in_err-item_at-clause-own
+returns-in_err-item_at-clause-own g c kept shows clean m ours n counts low =
+    let game = c.args.game.now in
+    let power = c.args.power.now in
+    let before = c.loop-index.invariant in
+    let first = c.in_err-item_at.ensures.selects.fair clean in
+    let here = before.same kept first in
+    let fails = c.in_err-item_at.ensures.own here.0 (before.shows kept shows first) clean m (subst (AreOurs m) (sym here.1) ours) n
+    (subst (λ (t : Tables). item_numbers t.boxes game power ≡ counted n) (sym here.1) counts) (omega arith) (omega (arith, low, c.loop-index-test.true)) in
+    passed_on _ _ c.in_err-item_at.field-0.0 c.from_residual.result c.from_residual.ensures.1
+    (faulted_late (state g.S.Store c.args.conn.now) (state g.S.Store c.loop-index.conn) (state g.S.Store c.item_at.new.conn) before.counts) fails

@@ -1,4 +1,4 @@
-use Rattle.std.proofs.Common.{◌≡◌, ℕ, drop, take}
+use Rattle.std.proofs.Common.{◌≡◌, ◌≤◌, ℕ, drop, take}
 use Rattle.dip_finding.specs.Asked.{SelectsOn}
 use Rattle.dip_records.specs.Rows as rows
 use Rattle.dip_rows.specs.Calls.{IsKept, does_show, is_honest, tables_in}
@@ -6,6 +6,7 @@ use Rattle.dip_rows.proofs.Parts.{went}
 use Rattle.dip_tables.specs.Counting.{counted, item_numbers}
 use Rattle.dip_tables.specs.Reading.{items_of}
 use Rattle.sqlite.specs.declared.error.Error.{Error}
+use Rattle.sqlite.specs.Held.{state}
 use Rattle.dip_finding.proofs.inbox.items_behind.Given as goal
 
 abbrev pub invariant-loop-index : goal.invariant-loop-index
@@ -15,4 +16,5 @@ invariant-loop-index g l = record {
   same : IsKept g.S.Store l.fn.conn → is_honest g.S.Store l.conn → IsKept g.S.Store l.conn × (tables_in g.S.Store l.conn ≡ tables_in g.S.Store l.fn.conn);
   shows : IsKept g.S.Store l.fn.conn → does_show g.S.Store l.fn.conn → is_honest g.S.Store l.conn → does_show g.S.Store l.conn;
   selects : SelectsOn g.S.Store l.fn.conn l.conn (went (Unit {0}) Error tt);
+  counts : (state g.S.Store l.fn.conn).faults ≤ (state g.S.Store l.conn).faults;
 }

@@ -8,6 +8,9 @@ use Rattle.dip_rows.proofs.Selecting.{selects_as, selects_fails}
 use Rattle.dip_tables.specs.Counting.{counted, item_numbers}
 use Rattle.dip_tables.specs.Reading.{items_of}
 use Rattle.dip_tables.specs.Tables.{Tables}
+use Rattle.dip_finding.proofs.Blaming.{outside_weaker}
+use Rattle.dip_rows.proofs.Caused.{caused_weaker, faulted_late}
+use Rattle.sqlite.specs.Held.{state}
 use Rattle.dip_finding.proofs.Onward.{goes_on, leaves, stays}
 use Rattle.dip_finding.proofs.PageLemmas.{page_is, page_low, seat_counts}
 use Rattle.dip_finding.proofs.RowLemmas.{seat_found_readable}
@@ -43,7 +46,7 @@ returns-in_err-count-clause-own g c kept shows clean ours =
     let row = rw (c.in-Some.is, c.power_name-name.ensures) at (c.in_ok-row.ensures.value kept clean) in
     let readable = seat_found_readable c.args.map.now (tables_in g.S.Store c.args.conn.now) ours c.args.game.now (power_name c.args.map.now c.args.power) c.in-Some.row row in
     let p = err_from_is_err_and c.from_residual-in_err-count.result c.from_residual-in_err-count.ensures.1 in
-    rw (p.1, p.2) (c.in_err-count.ensures.own readable.items)
+    rw (p.1, p.2) (caused_weaker ⊥ _ _ (λ none. absurd none) (c.in_err-count.ensures.own readable.items))
 
 pub returns-clause-own : goal.returns-clause-own
 returns-clause-own g c kept shows clean ours =
@@ -58,4 +61,5 @@ returns-clause-own g c kept shows clean ours =
     let counts = seat_counts m (tables_in g.S.Store c.args.conn.now) name power count c.in-Some.row kept.counted row c.in_ok-count.ensures.value in
     let low = page_low c.args.most count c.saturating_sub-skipped.result c.min-many.result (rw c.saturating_sub.ensures at c.min-many.ensures) in
     let fails = rw c.power_name-name.ensures at (c.in-Err.ensures.own here.0 (seat.ok kept first) clean m (subst (AreOurs m) (sym here.1) ours) count) in
-    fails (subst (λ (t : Tables). item_numbers t.boxes name power ≡ counted count) (sym here.1) counts) low
+    let late = faulted_late (state g.S.Store c.args.conn.now) (state g.S.Store c.find_seat.new.conn) (state g.S.Store c.items_behind.new.conn) seat.counts in
+    outside_weaker _ _ c.in-Err.fault late (fails (subst (λ (t : Tables). item_numbers t.boxes name power ≡ counted count) (sym here.1) counts) low)

@@ -6,6 +6,9 @@ use Rattle.dip_rows.specs.Calls.{tables_in}
 use Rattle.dip_rows.specs.Rows.{tables_of}
 use Rattle.dip_rows.specs.Showing.{show_order}
 use Rattle.dip_tables.specs.Tables.{is_pending}
+use Rattle.dip_finding.proofs.Blaming.{outside_weaker, told_on}
+use Rattle.dip_rows.proofs.Caused.{faulted_late}
+use Rattle.sqlite.specs.Held.{state}
 use Rattle.dip_finding.proofs.OwnLemmas.{own_is}
 use Rattle.dip_finding.proofs.RowLemmas.{orders_readable, seat_found_readable}
 use Rattle.dip_finding.proofs.own.look_own.Goals as goal
@@ -41,4 +44,12 @@ returns-in_err-own-clause-own g c kept shows clean ours =
     let t = tables_in g.S.Store c.args.conn.now in
     let fails = rw c.as_slice.ensures.value at c.in_err-own.ensures.own in
     let p = err_from_is_err_and c.from_residual-in_err-own.result c.from_residual-in_err-own.ensures.1 in
-    rw (p.1, p.2) (fails (seat_found_readable m t ours name (power_name m c.args.power) c.in-Some.row row) (orders_readable m t ours name (power_name m c.args.power) c.in_ok-orders.orders.items orders))
+    rw (p.1, p.2) (outside_weaker ⊥ _ _ (λ none. absurd none) (fails (seat_found_readable m t ours name (power_name m c.args.power) c.in-Some.row row) (orders_readable m t ours name (power_name m c.args.power) c.in_ok-orders.orders.items orders)))
+
+pub returns-in_err-orders-clause-own : goal.returns-in_err-orders-clause-own
+returns-in_err-orders-clause-own g c kept shows clean ours =
+    let a = c.in_ok-row.ensures.selects in
+    let shows1 = a.ok kept (c.in_err-orders.ensures.selects.fair clean) in
+    let late = faulted_late (state g.S.Store c.args.conn.now) (state g.S.Store c.find_seat.new.conn) (state g.S.Store c.list_orders.new.conn) a.counts in
+    told_on _ _ c.in_err-orders.field-0.0 c.from_residual-in_err-orders.result c.from_residual-in_err-orders.ensures.1 late
+    (c.in_err-orders.ensures.caused (a.kept kept shows1) shows1 clean)

@@ -1,10 +1,13 @@
-use Rattle.std.proofs.Common.{◌≡◌, map, filter, subst, ap, Some, ◌∙◌}
+use Rattle.std.proofs.Common.{◌≡◌, arith, map, filter, subst, ap, Some, ◌∙◌}
 use Rattle.std.proofs.lemmas.Result.{err_from_is_err_and}
 use Rattle.sqlite.specs.Effect.{Database}
 use Rattle.dip_rows.specs.Calls.{tables_in}
 use Rattle.dip_rows.specs.Rows.{tables_of}
 use Rattle.dip_rows.specs.Showing.{show_centre, show_unit}
 use Rattle.dip_tables.specs.Tables.{is_unit_in, is_centre_in}
+use Rattle.dip_finding.proofs.Blaming.{outside_weaker, told_on}
+use Rattle.dip_rows.proofs.Caused.{faulted_late}
+use Rattle.sqlite.specs.Held.{state}
 use Rattle.dip_finding.proofs.BoardRows.{game_found_readable}
 use Rattle.dip_finding.proofs.PublicLemmas.{public_is}
 use Rattle.dip_finding.proofs.public.look_public.Goals as goal
@@ -48,4 +51,24 @@ returns-in_err-public-clause-own g c kept shows clean ours =
     (rw c.in-Some.is at (c.in_ok-row.ensures.value kept clean1)) units centres in
     let fails = rw (c.as_slice.ensures.value, c.as_slice-2.ensures.value) at c.in_err-public.ensures.own in
     let p = err_from_is_err_and c.from_residual-in_err-public.result c.from_residual-in_err-public.ensures.1 in
-    rw (p.1, p.2) (fails readable)
+    rw (p.1, p.2) (outside_weaker ⊥ _ _ (λ none. absurd none) (fails readable))
+
+pub returns-in_err-units-clause-own : goal.returns-in_err-units-clause-own
+returns-in_err-units-clause-own g c kept shows clean ours =
+    let a = c.in_ok-row.ensures.selects in
+    let shows1 = a.ok kept (c.in_err-units.ensures.selects.fair clean) in
+    let late = faulted_late (state g.S.Store c.args.conn.now) (state g.S.Store c.find_game.new.conn) (state g.S.Store c.list_units.new.conn) a.counts in
+    told_on _ _ c.in_err-units.field-0.0 c.from_residual-in_err-units.result c.from_residual-in_err-units.ensures.1 late
+    (c.in_err-units.ensures.caused (a.kept kept shows1) shows1 clean)
+
+pub returns-in_err-centres-clause-own : goal.returns-in_err-centres-clause-own
+returns-in_err-centres-clause-own g c kept shows clean ours =
+    let a = c.in_ok-row.ensures.selects in
+    let b = c.in_ok-units.ensures.selects in
+    let clean2 = c.in_err-centres.ensures.selects.fair clean in
+    let shows1 = a.ok kept (b.fair clean2) in
+    let kept1 = a.kept kept shows1 in
+    let shows2 = b.ok kept1 clean2 in
+    let late = faulted_late (state g.S.Store c.args.conn.now) (state g.S.Store c.list_units.new.conn) (state g.S.Store c.list_centres.new.conn) (omega (arith, a.counts, b.counts)) in
+    told_on _ _ c.in_err-centres.field-0.0 c.from_residual-in_err-centres.result c.from_residual-in_err-centres.ensures.1 late
+    (c.in_err-centres.ensures.caused (b.kept kept1 shows2) shows2 clean)

@@ -7,6 +7,9 @@ use Rattle.dip_rows.specs.Showing.{show_listed}
 use Rattle.dip_rows.proofs.Selecting.{selects_as, selects_fails, selects_then}
 use Rattle.dip_tables.specs.Tables.{Tables, is_seat_in}
 use Rattle.dip_finding.specs.Shown.{listed_own}
+use Rattle.dip_finding.proofs.Blaming.{outside_weaker}
+use Rattle.dip_rows.proofs.Caused.{caused_weaker, faulted_late}
+use Rattle.sqlite.specs.Held.{state}
 use Rattle.dip_finding.proofs.Onward.{goes_on, leaves, stays}
 use Rattle.dip_finding.proofs.RowLemmas.{seats_readable}
 use Rattle.dip_finding.proofs.WholeLemmas.{whole_is}
@@ -48,7 +51,8 @@ returns-in_err-rows-clause-own g c kept shows clean ours =
     let first = c.in_err-rows.ensures.selects.fair clean in
     let here = leaves g.S.Store c.args.conn.now _ c.in_ok-public.field-0 one kept first in
     let p = err_from_is_err_and c.from_residual-in_err-rows.result c.from_residual-in_err-rows.ensures.1 in
-    rw (p.1, p.2) (c.in_err-rows.ensures.outside here.0 (one.ok kept first) clean)
+    let late = faulted_late (state g.S.Store c.args.conn.now) (state g.S.Store c.look_public.new.conn) (state g.S.Store c.list_seats.new.conn) one.counts in
+    rw (p.1, p.2) (caused_weaker _ _ _ late (c.in_err-rows.ensures.caused here.0 (one.ok kept first) clean))
 
 pub returns-in-Err-clause-own : goal.returns-in-Err-clause-own
 returns-in-Err-clause-own g c kept shows clean ours =
@@ -65,4 +69,5 @@ returns-in-Err-clause-own g c kept shows clean ours =
     let listed = subst (λ (t : Tables). seats.items ≡ map show_listed (filter (is_seat_in name) t.seats)) here1.1 (c.in_ok-rows.ensures.value here1.0 clean2) in
     let readable = seats_readable m (tables_in g.S.Store c.args.conn.now) ours name seats.items listed in
     let fails = rw c.as_slice.ensures.value at c.in-Err.ensures.own in
-    fails here2.0 (two.ok here1.0 clean2) clean (subst (AreOurs m) (sym here2.1) ours) readable
+    let late = faulted_late (state g.S.Store c.args.conn.now) (state g.S.Store c.list_seats.new.conn) (state g.S.Store c.owns_of.new.conn) both.counts in
+    outside_weaker _ _ c.in-Err.fault late (fails here2.0 (two.ok here1.0 clean2) clean (subst (AreOurs m) (sym here2.1) ours) readable)

@@ -1,10 +1,11 @@
-use Rattle.std.proofs.Common.{◌≡◌, map, take}
+use Rattle.std.proofs.Common.{◌≡◌, ◌≤◌, map, take}
 use Rattle.dip_finding.specs.Asked.{SelectsOn}
 use Rattle.dip_finding.specs.Shown.{listed_own}
 use Rattle.dip_records.specs.Rows as rows
 use Rattle.dip_rows.specs.Calls.{IsKept, does_show, is_honest, tables_in}
 use Rattle.dip_rows.proofs.Parts.{went}
 use Rattle.sqlite.specs.declared.error.Error.{Error}
+use Rattle.sqlite.specs.Held.{state}
 use Rattle.dip_finding.proofs.whole.owns_of.Given as goal
 
 abbrev pub invariant-loop-seat : goal.invariant-loop-seat
@@ -13,4 +14,5 @@ invariant-loop-seat g l = record {
   same : IsKept g.S.Store l.fn.conn → is_honest g.S.Store l.conn → IsKept g.S.Store l.conn × (tables_in g.S.Store l.conn ≡ tables_in g.S.Store l.fn.conn);
   shows : IsKept g.S.Store l.fn.conn → does_show g.S.Store l.fn.conn → is_honest g.S.Store l.conn → does_show g.S.Store l.conn;
   selects : SelectsOn g.S.Store l.fn.conn l.conn (went (Unit {0}) Error tt);
+  counts : (state g.S.Store l.fn.conn).faults ≤ (state g.S.Store l.conn).faults;
 }

@@ -25,7 +25,7 @@ returns-clause-value g c kept clean =
 pub returns-in_err-count-clause-fails : goal.returns-in_err-count-clause-fails
 returns-in_err-count-clause-fails g c kept shows clean narrow =
     let it = shown_found (λ (x : GameRow). x.papers < 2 ^ 32) (is_named c.args.game.now) show_papers (tables_in g.S.Store c.args.conn.now).games _ (sym c.in-Some.is ∙ c.in_ok-row.ensures.value kept clean) narrow in
-    sql_fails _ c.in_err-count.field-0.0 c.from_residual-in_err-count.result c.from_residual-in_err-count.ensures.1
+    sql_fails ⊥ _ _ c.in_err-count.field-0.0 c.from_residual-in_err-count.result c.from_residual-in_err-count.ensures.1 (λ none. absurd none)
     (count_reads _ it.one.papers c.in_err-count.field-0.0 c.in_err-count.ensures.named c.in_err-count.ensures.kind it.shown it.holds)
 
 pub returns-then-count-clause-fails : goal.returns-then-count-clause-fails

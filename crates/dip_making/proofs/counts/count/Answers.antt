@@ -1,4 +1,4 @@
-use Rattle.std.proofs.Common.{List, ℕ, Vec, Global, subst, ◌∙◌}
+use Rattle.std.proofs.Common.{List, ℕ, Ok, Vec, Global, subst, sym, ◌∙◌}
 use Rattle.dip_machine.specs.Rows as machine
 use Rattle.dip_tables.specs.Counting.{CountsOn}
 use Rattle.dip_tables.specs.Tables.{Tables}
@@ -7,9 +7,28 @@ use Rattle.dip_changing.specs.declared.delivering.Reader.{Reader}
 use Rattle.dip_making.specs.declared.counts.Counted.{Counted}
 use Rattle.dip_making.specs.declared.faults.MakeFault.{MakeFault}
 use Rattle.dip_making.specs.Failing.{InboxesHaveRoom, PressHasRoom}
-use Rattle.dip_making.proofs.Placed.{inboxes_room, room_of}
-use Rattle.dip_making.proofs.Peeking.{peeks_all, peeks_broken, peeks_fair, peeks_kept}
+use Rattle.dip_making.proofs.Placed.{inboxes_room, papers_narrow, room_of}
+use Rattle.dip_making.proofs.Failing.{same_fails}
+use Rattle.dip_making.proofs.Peeking.{peeks_all, peeks_broken, peeks_fair, peeks_kept, peeks_passed, peeks_then}
 use Rattle.dip_making.proofs.counts.count.Goals as goal
+
+pub returns-in_err-check_paper-clause-peeks : goal.returns-in_err-check_paper-clause-peeks
+returns-in_err-check_paper-clause-peeks g c =
+    peeks_passed g.S.Store {Y = Unit {0}} {F = MakeFault} c.args.conn.now c.check_paper.new.conn c.in_err-check_paper.field-0.0 c.from_residual.result c.from_residual.ensures.0 c.in_err-check_paper.ensures.peeks
+
+pub returns-in_err-check_paper-clause-fails : goal.returns-in_err-check_paper-clause-fails
+returns-in_err-check_paper-clause-fails g c kept shows clean ours =
+    let it = machine.change c.args.change.now in
+    let t = tables_in g.S.Store c.args.conn.now in
+    same_fails _ _ _ _ c.in_err-check_paper.field-0.0 c.from_residual.result c.from_residual.ensures.1 (λ fault. fault)
+    (λ off place. off (subst (λ (n : List ℕ). CountsOn n it.effect t.games) (sym c.as_str-game.ensures.value) place.paper))
+    (c.in_err-check_paper.ensures.fails kept shows clean (papers_narrow c.args.map.now t.units t.centres t.games ours.written.games))
+
+pub returns-in_err-readers-clause-peeks : goal.returns-in_err-readers-clause-peeks
+returns-in_err-readers-clause-peeks g c =
+    let two = peeks_then g.S.Store {X = Unit {0}} {E = MakeFault} {Y = ℕ} {F = MakeFault} c.args.conn.now c.check_paper.new.conn c.count_press.new.conn c.in_ok-check_paper.field-0 (Ok c.in_ok-sent.sent) c.in_ok-check_paper.ensures.peeks c.in_ok-sent.ensures.peeks in
+    peeks_broken g.S.Store {X = ℕ} {E = MakeFault} {Y = Vec Reader Global} {F = MakeFault} c.args.conn.now c.count_press.new.conn c.readers_of.new.conn c.in_ok-sent.sent c.in_err-readers.field-0.0
+    c.from_residual-in_err-readers.result c.from_residual-in_err-readers.ensures.0 two c.in_err-readers.ensures.peeks
 
 pub returns-in_err-sent-clause-peeks : goal.returns-in_err-sent-clause-peeks
 returns-in_err-sent-clause-peeks g c =

@@ -23,5 +23,5 @@ returns-in-Delivers-clause-fails g c kept shows clean legible =
     let t = tables_in g.S.Store c.args.conn.now in
     let m = c.args.map.now in
     let name = c.args.game.now in
-    result_fails _ _ c.next_of.result (λ off room. off (subst (λ (power : List ℕ). AllByRecursion (MaySend name power) t.seats) (sym c.power_name.ensures)
+    result_fails _ _ _ _ c.next_of.result (λ fault. fault) (λ off room. off (subst (λ (power : List ℕ). AllByRecursion (MaySend name power) t.seats) (sym c.power_name.ensures)
     (press_sent m (Seat c.args.power) name (machine.effect c.args.effect.now) _ _ t.seats (ap (λ e. machine.effect e) c.in-Delivers.is) room))) (c.next_of.ensures.fails kept shows clean legible)

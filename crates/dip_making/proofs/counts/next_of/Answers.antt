@@ -44,7 +44,7 @@ returns-clause-room g c kept clean =
 pub returns-in_err-sent-clause-fails : goal.returns-in_err-sent-clause-fails
 returns-in_err-sent-clause-fails g c kept shows clean legible =
     let it = shown_found IsSeatLegible (is_seat c.args.game.now c.args.power.now) show_sent (tables_in g.S.Store c.args.conn.now).seats _ (sym c.in-Some.is ∙ c.in_ok-row.ensures.value kept clean) legible in
-    sql_fails _ c.in_err-sent.field-0.0 c.from_residual-in_err-sent.result c.from_residual-in_err-sent.ensures.1
+    sql_fails ⊥ _ _ c.in_err-sent.field-0.0 c.from_residual-in_err-sent.result c.from_residual-in_err-sent.ensures.1 (λ none. absurd none)
     (count_reads _ it.one.sent c.in_err-sent.field-0.0 c.in_err-sent.ensures.named c.in_err-sent.ensures.kind it.shown it.holds.1)
 
 pub returns-then-sent-clause-fails : goal.returns-then-sent-clause-fails

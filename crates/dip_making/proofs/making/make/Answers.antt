@@ -6,6 +6,8 @@ use Rattle.dip_tables.specs.Changing.{changing}
 use Rattle.dip_tables.specs.Coding.{AreApart}
 use Rattle.dip_tables.specs.Counting.{AreCounted}
 use Rattle.dip_rows.specs.Calls.{tables_in}
+use Rattle.dip_rows.proofs.Caused.{faulted_late}
+use Rattle.dip_refusals.proofs.Told.{want_weaker}
 use Rattle.dip_rows.proofs.Apart.{are_apart}
 use Rattle.dip_tables.specs.Tables.{Tables}
 use Rattle.dip_refusals.specs.Keys.{AreKeyed}
@@ -16,7 +18,7 @@ use Rattle.dip_making.specs.declared.faults.MakeFault.{MakeFault}
 use Rattle.dip_making.proofs.Counted.{counted_change}
 use Rattle.dip_making.specs.declared.counts.Counted.{Counted}
 use Rattle.dip_making.proofs.Made.{laid_kept, makes_named, makes_peeked}
-use Rattle.dip_making.proofs.Peeking.{peeks_kept, peeks_shows}
+use Rattle.dip_making.proofs.Peeking.{peeks_counts, peeks_kept, peeks_shows}
 use Rattle.dip_making.proofs.making.make.Goals as goal
 
 pub returns-in-Ok-clause-makes : goal.returns-in-Ok-clause-makes
@@ -75,4 +77,5 @@ returns-clause-fails g c kept shows clean may =
     let up = peeks_shows g.S.Store {X = Counted} {E = MakeFault} old mid c.in_ok-counted.counted c.in_ok-counted.ensures.peeks kept shows honest in
     let counts = subst (λ (rs : List Reader). Counts n rs m it t) (sym c.as_slice.ensures.value) (c.in_ok-counted.ensures.value kept honest) in
     let same = counted_change m (c.readers_are_seats.ensures m) (c.press_is_delivered_one_by_one.ensures m) it t n rs (are_apart (state g.S.Store old).now kept.good) counts in
-    c.in-Err.ensures.wants there.0 up clean (subst (λ (u : Tables). AreKeyed (changing_sent n rs m it u)) (sym there.1) (subst AreKeyed (sym same) may.keyed))
+    let late = faulted_late (state g.S.Store old) (state g.S.Store mid) (state g.S.Store c.make_with.new.conn) (peeks_counts g.S.Store {X = Counted} {E = MakeFault} old mid c.in_ok-counted.counted c.in_ok-counted.ensures.peeks) in
+    want_weaker _ _ c.in-Err.error late (c.in-Err.ensures.wants there.0 up clean (subst (λ (u : Tables). AreKeyed (changing_sent n rs m it u)) (sym there.1) (subst AreKeyed (sym same) may.keyed)))

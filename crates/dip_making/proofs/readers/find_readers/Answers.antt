@@ -21,7 +21,7 @@ returns-in_err-readers_in-clause-fails g c kept shows clean ours =
     let m = c.args.map.now in
     let rows = subst (λ (rows : List Row). AllByRecursion (IsListed m) rows) (sym (c.as_slice.ensures.value ∙ c.in_ok-rows.ensures.value kept clean))
     (rows_listed m (is_seat_in c.args.game.now) (tables_in g.S.Store c.args.conn.now).seats ours.coded.seats ours.legible.seats) in
-    same_fails ⊥ _ c.in_err-readers_in.field-0.0 c.from_residual-in_err-readers_in.result c.from_residual-in_err-readers_in.ensures.1 (λ none. absurd none) (c.in_err-readers_in.ensures.fails ours.map rows)
+    same_fails ⊥ _ ⊥ _ c.in_err-readers_in.field-0.0 c.from_residual-in_err-readers_in.result c.from_residual-in_err-readers_in.ensures.1 (λ none. absurd none) (λ none. absurd none) (c.in_err-readers_in.ensures.fails ours.map rows)
 
 pub returns-then-not-have_room-clause-fails : goal.returns-then-not-have_room-clause-fails
 returns-then-not-have_room-clause-fails g c kept shows clean ours = λ room.

@@ -11,5 +11,5 @@ returns-in-Some-clause-name c =
 
 pub returns-in_err-name-clause-fails : goal.returns-in_err-name-clause-fails
 returns-in_err-name-clause-fails c ok listed =
-    sql_fails ⊥ c.in_err-name.field-0.0 c.from_residual.result c.from_residual.ensures.1
+    sql_fails ⊥ ⊥ ⊥ c.in_err-name.field-0.0 c.from_residual.result c.from_residual.ensures.1 (λ none. none)
     (power_reads c.args.map.now ok c.args.row.now listed c.in_err-name.field-0.0 c.in_err-name.ensures.named c.in_err-name.ensures.kind)

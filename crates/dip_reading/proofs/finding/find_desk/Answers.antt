@@ -3,7 +3,7 @@ use Rattle.dip_schema.specs.Asking.{by_first}
 use Rattle.dip_schema.specs.Statements as text
 use Rattle.dip_schema.proofs.Accepted as accepted
 use Rattle.dip_schema.proofs.Texts as means
-use Rattle.dip_rows.proofs.Found.{fails_outside}
+use Rattle.dip_rows.proofs.Found.{fails_caused}
 use Rattle.dip_rows.proofs.Selecting.{selects_all, selects_all_err}
 use Rattle.dip_reading.proofs.Answering as answers
 use Rattle.dip_reading.proofs.finding.find_desk.Goals as goal
@@ -20,7 +20,7 @@ returns-in-Err g c = record {
   value = λ _ _. tt;
   selects =
       selects_all_err g.S.Store text.find_desk_text ([]) c.args.conn.now c.query_all.new.self means.find_desk.means.1 c.query_all.ensures.survives c.query_all.ensures.mode _ c.in-Err.error c.in-Err.ensures.err;
-  outside = λ kept shows clean.
-      fails_outside text.find_desk_text ([]) 0 0 by_first text.find_desk_shown [] _ means.find_desk accepted.find_desk refl _ _ kept.good.schema kept.unlimited shows.1
+  caused = λ kept shows clean.
+      fails_caused text.find_desk_text ([]) 0 0 by_first text.find_desk_shown [] _ means.find_desk accepted.find_desk refl _ _ kept.good.schema kept.unlimited shows.1
       c.in-Err.error (c.in-Err.ensures.err clean);
 }

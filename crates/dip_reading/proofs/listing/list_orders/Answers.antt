@@ -4,7 +4,7 @@ use Rattle.dip_schema.specs.Asking.{by_two, in_turn}
 use Rattle.dip_schema.specs.Statements as text
 use Rattle.dip_schema.proofs.Accepted as accepted
 use Rattle.dip_schema.proofs.Texts as means
-use Rattle.dip_rows.proofs.Found.{fails_outside}
+use Rattle.dip_rows.proofs.Found.{fails_caused}
 use Rattle.dip_rows.proofs.Selecting.{selects_all, selects_all_err}
 use Rattle.dip_reading.proofs.Answering as answers
 use Rattle.dip_reading.proofs.listing.list_orders.Goals as goal
@@ -21,7 +21,7 @@ returns-in-Err g c = record {
   value = λ _ _. tt;
   selects =
       selects_all_err g.S.Store text.list_orders_text (Words c.args.game.now ∷ Words c.args.power.now ∷ []) c.args.conn.now c.query_all.new.self means.list_orders.means.1 (rw (c.params-to_sql.ensures, c.params-to_sql-2.ensures) at c.query_all.ensures.survives) c.query_all.ensures.mode _ c.in-Err.error (rw (c.params-to_sql.ensures, c.params-to_sql-2.ensures) at c.in-Err.ensures.err);
-  outside = λ kept shows clean.
-      fails_outside text.list_orders_text (Words c.args.game.now ∷ Words c.args.power.now ∷ []) 2 10 by_two text.list_orders_shown in_turn _ means.list_orders (accepted.list_orders c.args.game.now c.args.power.now) refl _ _ kept.good.schema kept.unlimited shows.1
+  caused = λ kept shows clean.
+      fails_caused text.list_orders_text (Words c.args.game.now ∷ Words c.args.power.now ∷ []) 2 10 by_two text.list_orders_shown in_turn _ means.list_orders (accepted.list_orders c.args.game.now c.args.power.now) refl _ _ kept.good.schema kept.unlimited shows.1
       c.in-Err.error (rw (c.params-to_sql.ensures, c.params-to_sql-2.ensures) at (c.in-Err.ensures.err clean));
 }

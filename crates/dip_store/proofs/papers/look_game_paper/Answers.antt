@@ -4,7 +4,10 @@ use Rattle.dip_legible.specs.Legible.{AreOurs}
 use Rattle.dip_rows.specs.Calls.{tables_in}
 use Rattle.dip_rows.specs.Showing.{is_numbered}
 use Rattle.dip_tables.specs.Tables.{Tables}
+use Rattle.dip_finding.proofs.Blaming.{outside_weaker}
 use Rattle.dip_finding.proofs.Onward.{leaves}
+use Rattle.dip_rows.proofs.Caused.{faulted_late}
+use Rattle.sqlite.specs.Held.{state}
 use Rattle.dip_store.proofs.Asked.{no_paper_is, paper_is}
 use Rattle.dip_store.proofs.papers.look_game_paper.Goals as goal
 
@@ -31,4 +34,5 @@ returns-in_err-paper-clause-own g c kept shows clean m ours =
     let here = leaves g.S.Store c.args.conn.now _ c.in_ok-_count.field-0 c.in_ok-_count.ensures.selects kept clean1 in
     let shows1 = c.in_ok-_count.ensures.selects.ok kept clean1 in
     let p = err_from_is_err_and c.from_residual-in_err-paper.result c.from_residual-in_err-paper.ensures.1 in
-    rw (p.1, p.2) (c.in_err-paper.ensures.own here.0 shows1 clean m (subst (AreOurs m) (sym here.1) ours))
+    let late = faulted_late (state g.S.Store c.args.conn.now) (state g.S.Store c.count_papers.new.conn) (state g.S.Store c.look_paper.new.conn) c.in_ok-_count.ensures.selects.counts in
+    rw (p.1, p.2) (outside_weaker _ _ _ late (c.in_err-paper.ensures.own here.0 shows1 clean m (subst (AreOurs m) (sym here.1) ours)))

@@ -100,17 +100,17 @@ fn a_desk_outlives_each_run(rt: HostRuntime) -> Result<(), Fail> {
     fs::write(&rt, "five.toml", FIVE)?;
     assert_run(
         &rt,
-        "init --store s --master another-key --map five.toml",
+        "init --store desk --master another-key --map five.toml",
         "",
         0,
         "",
     )?;
-    assert_run(&rt, "letters --store s --map five.toml", CREATE, 0, CREATED)?;
-    assert_run(&rt, "letters --store s --map five.toml", ORDERS, 0, ORDERED)?;
-    assert_run(&rt, "letters --store s --map five.toml", ORDERS, 0, AGAIN)?;
+    assert_run(&rt, "letters --store desk --map five.toml", CREATE, 0, CREATED)?;
+    assert_run(&rt, "letters --store desk --map five.toml", ORDERS, 0, ORDERED)?;
+    assert_run(&rt, "letters --store desk --map five.toml", ORDERS, 0, AGAIN)?;
     assert_run(
         &rt,
-        "report --store s --game g1 --map five.toml",
+        "report --store desk --game g1 --map five.toml",
         "",
         0,
         PAPER,
@@ -120,10 +120,10 @@ fn a_desk_outlives_each_run(rt: HostRuntime) -> Result<(), Fail> {
 #[test]
 fn a_game_that_is_not_there_has_no_report(rt: HostRuntime) -> Result<(), Fail> {
     let none = "dip_judge: no such game\n";
-    assert_run(&rt, "init --store s --master another-key", "", 0, "")?;
-    assert_run(&rt, "report --store s --game g1", "", 4, none)?;
-    assert_run(&rt, "report --store s --game G?", "", 4, none)?;
-    assert_run(&rt, "report --store s --game=", "", 4, none)
+    assert_run(&rt, "init --store empty --master another-key", "", 0, "")?;
+    assert_run(&rt, "report --store empty --game g1", "", 4, none)?;
+    assert_run(&rt, "report --store empty --game G?", "", 4, none)?;
+    assert_run(&rt, "report --store empty --game=", "", 4, none)
 }
 
 #[test]
@@ -133,22 +133,22 @@ fn a_store_is_opened_as_it_was_made(rt: HostRuntime) -> Result<(), Fail> {
     let taken = "dip_judge: S4\n";
     assert_run(
         &rt,
-        "init --store s --master another-key --map five.toml",
+        "init --store mapped --master another-key --map five.toml",
         "",
         0,
         "",
     )?;
     assert_run(
         &rt,
-        "init --store s --master another-key --map five.toml",
+        "init --store mapped --master another-key --map five.toml",
         "",
         4,
         taken,
     )?;
-    assert_run(&rt, "letters --store s", CREATE, 4, other)?;
-    assert_run(&rt, "report --store s --game g1", "", 4, other)?;
-    assert_run(&rt, "letters --store s --map five.toml", CREATE, 0, CREATED)?;
-    assert_run(&rt, "letters --store new", CREATE, 4, taken)
+    assert_run(&rt, "letters --store mapped", CREATE, 4, other)?;
+    assert_run(&rt, "report --store mapped --game g1", "", 4, other)?;
+    assert_run(&rt, "letters --store mapped --map five.toml", CREATE, 0, CREATED)?;
+    assert_run(&rt, "letters --store none", CREATE, 4, taken)
 }
 
 #[test]
@@ -212,7 +212,7 @@ fn faults_are_told_in_their_order(rt: HostRuntime) -> Result<(), Fail> {
 
 /// The words that serve on a port.
 fn serving(alloc: Global, port: u16) -> Result<String, Fail> {
-    let mut line = String::from_str(alloc, "serve --store s --count 1 --port ")?;
+    let mut line = String::from_str(alloc, "serve --store served --count 1 --port ")?;
     let digits = port.to_string(alloc)?;
     line.push_str(digits.as_str())?;
     Ok(line)
@@ -221,7 +221,7 @@ fn serving(alloc: Global, port: u16) -> Result<String, Fail> {
 #[test]
 fn a_port_that_is_taken_is_not_served(rt: HostRuntime) -> Result<(), Fail> {
     let alloc = rt.alloc();
-    assert_run(&rt, "init --store s --master another-key", "", 0, "")?;
+    assert_run(&rt, "init --store served --master another-key", "", 0, "")?;
     let listener = TcpListener::bind(&rt, "127.0.0.1:0")?;
     let line = serving(alloc, listener.local_addr()?.port())?;
     assert_run(&rt, line.as_str(), "", 5, "dip_judge: Listen\n")

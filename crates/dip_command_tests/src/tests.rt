@@ -1,0 +1,4 @@
+//! The commands' tests, by subject.
+mod asked;
+mod serving;
+mod stored;

@@ -22,4 +22,6 @@ pub mod Searches
 pub mod Mentioners
 pub mod Commuting
 mod Among
+mod Taken
+mod Woken
 mod Unbroken

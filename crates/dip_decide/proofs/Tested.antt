@@ -15,7 +15,7 @@ use Rattle.dip_decide.specs.Corners.{rises}
 use Rattle.dip_decide.specs.Steps.{moves_of, paths_of, decisions, is_unknown, Grows, IsStarted, IsTurn, NoneForced}
 use Rattle.dip_decide.proofs.Progress.{known_or_open, listed_decision}
 use Rattle.dip_decide.proofs.Giving.{among_more}
-use Rattle.dip_decide.specs.Results.{decided_in, is_forced, forced_in, mentioned_by, mentioners, mentions_in}
+use Rattle.dip_decide.specs.Results.{decided_in, is_forced, forced_in, mentioners, mentions_in}
 use Rattle.dip_decide.specs.Working.{weight, opens, Counts, IsWork, IsPut, IsListed, IsWorked, StaysWork}
 use Rattle.dip_decide.proofs.OneAnswer.{same_is, same_self, open_one}
 use Rattle.dip_decide.proofs.CornerLaws.{agree}
@@ -143,55 +143,6 @@ still_tested s i k es old new c p f d n b h = f d (away (cases_Bool (is_among d 
 pub among_any : (d : Decision) (ds : List Decision) → is_among d ds ≡ list_any (same d) ds
 among_any d [] = refl
 among_any d (x ∷ ds) = ap (λ (b : Bool). same d x || b) (among_any d ds)
-
-pub put_none : (s : Situation) (k : Known) (e : Decision) (old : List Decision) → IsPut s k e [] old old
-put_none s k e old = record { kept = λ d h. h; put = λ d h m o. absurd (both_ways false refl h); few = omega arith }
-
-mentioned_on : (s : Situation) (e : Decision) (ds es : List Decision) → mentioned_by s e (ds ++ es) ≡ mentioned_by s e ds + mentioned_by s e es
-mentioned_on s e [] es = omega arith
-mentioned_on s e (x ∷ ds) es =
-    let r = mentioned_on s e ds es in
-    rw (sum_by-cons (λ d. cond (is_decided s d && mentions s d e) 1 0) x (ds ++ es), sum_by-cons (λ d. cond (is_decided s d && mentions s d e) 1 0) x ds) (omega arith)
-
-pub put_on : (s : Situation) (k : Known) (e : Decision) (ds es x y z : List Decision) → IsPut s k e ds x y → IsPut s k e es y z → IsPut s k e (ds ++ es) x z
-put_on s k e ds es x y z p q = record { kept = λ d h. q.kept d (p.kept d h); put = λ d h m o. which d (among_either d ds es h) m o; few = let a = p.few in let b = q.few in rw (mentioned_on s e ds es) (omega arith) }
-  where
-    which : (d : Decision) → (is_among d ds ≡ true) ⊎ (is_among d es ≡ true) → mentions s d e ≡ true → k d ≡ None → is_among d z ≡ true
-    which d (inl h) m o = q.kept d (p.put d h m o)
-    which d (inr h) m o = q.put d h m o
-
-pub put_step : (s : Situation) (k : Known) (e : Decision) (ps : List ℕ) (i p : ℕ) (x y z : List Decision) → i < length ps → p ≡ get_or ps i p → IsPut s k e (decisions (take i ps)) x y → IsPut s k e (decisions (p ∷ [])) y z → IsPut s k e (decisions (take (i + 1) ps)) x z
-put_step s k e ps i p x y z h g u v = rw (more_decisions ps i p h g) (put_on s k e (decisions (take i ps)) (decisions (p ∷ [])) x y z u v)
-
--- one that is put, and one that need not be
-
-decided_open : (s : Situation) (k : Known) → IsStarted s k → (d : Decision) → k d ≡ None → is_decided s d ≡ true
-decided_open s k z d o = go (cases_Bool (is_decided s d))
-  where
-    go : (is_decided s d ≡ true) ⊎ (is_decided s d ≡ false) → is_decided s d ≡ true
-    go (inl g) = g
-    go (inr g) = let e = z d g in absurd (cc)
-
-pub one_put : (s : Situation) (k : Known) → IsStarted s k → (e d : Decision) (old : List Decision) → k d ≡ None → mentions s d e ≡ true → IsPut s k e (d ∷ []) old (old ++ d ∷ [])
-one_put s k z e d old o m = record {
-  kept = λ x h. rw (among_more x old d) (or_left _ _ h);
-  put = λ x h n u. rw (among_more x old d) (or_right (is_among x old) _ (here x (or_cases _ _ h)));
-  few = count (decided_open s k z d o);
-}
-  where
-    here : (x : Decision) → (same x d ≡ true) ⊎ (false ≡ true) → same x d ≡ true
-    here x (inl h) = h
-    here x (inr h) = absurd (both_ways false refl h)
-
-    count : is_decided s d ≡ true → length (old ++ d ∷ []) ≤ length old + mentioned_by s e (d ∷ [])
-    count g = rw (length_push old d, sum_by-cons (λ y. cond (is_decided s y && mentions s y e) 1 0) d [], g, m) (omega arith)
-
-pub one_left : (s : Situation) (k : Known) (e d : Decision) (old : List Decision) → (k d ≡ None → mentions s d e ≡ true → is_among d old ≡ true) → IsPut s k e (d ∷ []) old old
-one_left s k e d old f = record { kept = λ x h. h; put = λ x h m o. there x (or_cases _ _ h) m o; few = omega arith }
-  where
-    there : (x : Decision) → (same x d ≡ true) ⊎ (false ≡ true) → mentions s x e ≡ true → k x ≡ None → is_among x old ≡ true
-    there x (inl h) m o = let q = same_is x d h in subst (λ (y : Decision). is_among y old ≡ true) (sym q) (f (subst (λ (y : Decision). k y ≡ None) q o) (subst (λ (y : Decision). mentions s y e ≡ true) q m))
-    there x (inr h) m o = absurd (both_ways false refl h)
 
 pub put_listed : (s : Situation) (k : Known) (e : Decision) (old new : List Decision) → IsSituation s → IsStarted s k → IsPut s k e (decisions s.places) old new → IsListed s k (e ∷ []) old new
 put_listed s k e old new i z p = record {
@@ -374,7 +325,7 @@ opens_step k ps i p x y h g u v = rw (more_decisions ps i p h g, opens_append k 
 
 -- the mentioners of one more
 
-moves_append : (ps qs : List ℕ) → moves_of (ps ++ qs) ≡ moves_of ps ++ moves_of qs
+pub moves_append : (ps qs : List ℕ) → moves_of (ps ++ qs) ≡ moves_of ps ++ moves_of qs
 moves_append [] qs = refl
 moves_append (p ∷ ps) qs = ap (λ (ds : List Decision). Move p ∷ ds) (moves_append ps qs)
 
@@ -382,7 +333,7 @@ paths_append : (ps qs : List ℕ) → paths_of (ps ++ qs) ≡ paths_of ps ++ pat
 paths_append [] qs = refl
 paths_append (p ∷ ps) qs = ap (λ (ds : List Decision). Path p ∷ ds) (paths_append ps qs)
 
-one_more : (ps : List ℕ) (i p : ℕ) → i < length ps → p ≡ get_or ps i p → take (i + 1) ps ≡ take i ps ++ p ∷ []
+pub one_more : (ps : List ℕ) (i p : ℕ) → i < length ps → p ≡ get_or ps i p → take (i + 1) ps ≡ take i ps ++ p ∷ []
 one_more ps i p h e = take_more ps i p h ∙ ap (λ (x : ℕ). take i ps ++ x ∷ []) (sym e)
 
 pub nothing_listed : (s : Situation) (k : Known) (old : List Decision) → IsListed s k [] old old

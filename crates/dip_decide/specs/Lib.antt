@@ -11,3 +11,4 @@ pub mod Results
 pub mod Laws
 pub mod Statements
 pub mod Working
+pub mod Waking

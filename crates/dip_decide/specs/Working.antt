@@ -1,10 +1,10 @@
 -- The worklist: which decisions are to be tested, and how many tests that makes.
-use Rattle.std.specs.Prelude.{◌≡◌, ℕ, ◌+◌, ◌≤◌, Bool, true, false, List, length, cond, None, filter}
-use Rattle.std.specs.List.{sum_by}
+use Rattle.std.specs.Prelude.{◌≡◌, ℕ, ◌+◌, ◌≤◌, ◌&&◌, Bool, true, false, List, length, cond, None, filter}
+use Rattle.std.specs.List.{sum_by, count_by}
 use Rattle.dip_decide.specs.declared.decisions.Decision.{Decision}
 use Rattle.dip_decide.specs.Deciding as Deciding
 use Rattle.dip_decide.specs.Deciding.{is_among, Known, IsForced, give}
-use Rattle.dip_decide.specs.Movement.{Situation, rule, mentions}
+use Rattle.dip_decide.specs.Movement.{Situation, is_decided, rule, mentions}
 use Rattle.dip_decide.specs.Results.{decided_in, forced_in, mentioned_by, mentioners, mentions_in}
 use Rattle.dip_decide.specs.Steps.{decisions, is_unknown, Continues, Grows}
 
@@ -30,6 +30,16 @@ pub record IsPut (s : Situation) (k : Known) (e : Decision) (ds : List Decision)
   pub kept : (d : Decision) → is_among d old ≡ true → is_among d new ≡ true
   pub put : (d : Decision) → is_among d ds ≡ true → mentions s d e ≡ true → k d ≡ None → is_among d new ≡ true
   pub few : length new ≤ length old + mentioned_by s e ds
+
+-- how many of those that mention e are on the list
+abbrev pub listed_by : Situation → Decision → List Decision → ℕ
+listed_by s e list = count_by (λ d. (is_decided s d && mentions s d e) && is_among d list) (decisions s.places)
+
+-- of these decisions, those that are open and mention e came on the list, and no more came on it than mentioners of e that weren't there
+pub record IsTaken (s : Situation) (k : Known) (e : Decision) (ds : List Decision) (old new : List Decision) : Type 0 where
+  pub kept : (d : Decision) → is_among d old ≡ true → is_among d new ≡ true
+  pub put : (d : Decision) → is_among d ds ≡ true → mentions s d e ≡ true → k d ≡ None → is_among d new ≡ true
+  pub few : length new + listed_by s e old ≤ length old + listed_by s e new
 
 -- those that mention one of these and are open came on the list
 pub record IsListed (s : Situation) (k : Known) (es : List Decision) (old new : List Decision) : Type 0 where

@@ -205,7 +205,7 @@ impl Corner<'_> {
     fn is_support(&self, h: Prov) -> bool
         ensures { result ≡ is_support (situation_of self.now.table.now) h }
     {
-        self.table.places.iter().any(|p| self.table.supports(h, *p))
+        self.table.is_support(h)
     }
 
     /// Whether the move of a unit succeeds.

@@ -17,6 +17,7 @@ mod table;
 mod testing;
 mod turns;
 mod values;
+mod waking;
 mod working;
 
 pub use decisions::{Decision, Resolution, Step};

@@ -6,8 +6,9 @@ ghost use Rattle.dip_names.specs.Kinds.{is_kind, is_sea};
 ghost use Rattle.dip_decide.specs.Given.{situation_of};
 ghost use Rattle.dip_decide.specs.Placed.{entry, helped, helped_of, carried, carried_of, keyed_by};
 ghost use Rattle.dip_decide.specs.Matching.{destination, target_of, goes_by_convoy, is_convoyed, is_there, is_matched, supports_in, direction, is_carried, convoys_in, is_sea_next};
-ghost use Rattle.dip_decide.specs.Movement.{goes, head_to_head, has_move, is_at};
+ghost use Rattle.dip_decide.specs.Movement.{goes, head_to_head, has_move, is_at, is_support};
 
+use crate::lists::is_in;
 use crate::placed::Table;
 use dip_map::Map;
 use dip_names::{Kind, Place, Prov};
@@ -182,6 +183,20 @@ impl Table<'_> {
         target_of(&self.order(p))
     }
 
+    /// The unit that one supports, whether that matches or not.
+    pub(crate) fn helps(&self, h: Prov) -> Option<Prov>
+        ensures { result ≡ helped_of (entry self.now.rows.items h) }
+    {
+        helped_of(&self.order(h))
+    }
+
+    /// The unit that one convoys, whether that matches or not.
+    pub(crate) fn carries(&self, x: Prov) -> Option<Prov>
+        ensures { result ≡ carried_of (entry self.now.rows.items x) }
+    {
+        carried_of(&self.order(x))
+    }
+
     pub(crate) fn is_convoyed(&self, p: Prov) -> bool
         ensures { result ≡ (situation_of self.now).convoyed p }
     {
@@ -230,7 +245,17 @@ impl Table<'_> {
         ensures { result ≡ list_any (λ p. supports_in (entry self.now.rows.items) row.now p)
             self.now.places.items }
     {
-        self.places.iter().any(|p| self.supports_of(row, *p))
+        match helped_of(row) {
+            Some(p) => self.supports_of(row, p) && is_in(self.places.as_slice(), p),
+            None => false,
+        }
+    }
+
+    /// Whether a unit has a support that matches.
+    pub(crate) fn is_support(&self, h: Prov) -> bool
+        ensures { result ≡ is_support (situation_of self.now) h }
+    {
+        self.is_support_of(&self.order(h))
     }
 
     fn is_carried(&self, order: Order, p: Prov) -> bool

@@ -10,26 +10,17 @@ use crate::lists::is_in;
 use crate::placed::Table;
 use dip_names::Prov;
 
-/// Whether a unit supports one of all that go to a province.
-fn supports_one_into(table: &Table, h: Prov, q: Prov) -> bool
-    ensures { result ≡ list_any
-        (λ w. (situation_of table.now).supports h w && goes (situation_of table.now) w q)
-        table.now.places.items }
-{
-    table
-        .places
-        .iter()
-        .any(|w| table.supports(h, *w) && table.goes(*w, q))
-}
-
-/// Whether a unit supports one that goes to a province, which is where it aims.
+/// Whether a unit supports one that goes to a province.
 fn supports_into(table: &Table, h: Prov, q: Prov) -> bool
     requires situation { IsSituation (situation_of table.now) }
     ensures { result ≡ list_any
         (λ w. (situation_of table.now).supports h w && goes (situation_of table.now) w q)
         table.now.places.items }
 {
-    table.aims(h, q) && supports_one_into(table, h, q)
+    match table.helps(h) {
+        Some(w) => table.supports(h, w) && table.goes(w, q),
+        None => false,
+    }
 }
 
 /// Whether the equation of the move of a unit to a province mentions a decision.

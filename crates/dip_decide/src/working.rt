@@ -1,38 +1,18 @@
 //! The worklist: a decision is tested at first, and again when one that its equation mentions got its value.
-ghost use Rattle.std.specs.Prelude.{◌≡◌, ◌<◌, ◌+◌, ◌^◌, ◌∷◌, ◌++◌, [], IfOk, OnOk, filter, length};
-ghost use Rattle.std.specs.List.{list_any};
-ghost use Rattle.dip_decide.specs.Deciding.{same};
+ghost use Rattle.std.specs.Prelude.{◌≡◌, ◌<◌, ◌+◌, ◌^◌, ◌∷◌, ◌++◌, [], IfOk, OnOk, length};
 ghost use Rattle.dip_decide.specs.Given.{situation_of, known_of};
 ghost use Rattle.dip_decide.specs.Movement.{IsSituation};
 ghost use Rattle.dip_decide.specs.Results.{decided_in, mentioners, mentions_in};
 ghost use Rattle.dip_decide.specs.Steps.{steps_of, moves_of, paths_of, decisions, is_unknown, IsStarted};
-ghost use Rattle.dip_decide.specs.Working.{weight, opens, Counts, IsPut, IsListed, IsWork, IsWorked};
+ghost use Rattle.dip_decide.specs.Working.{weight, opens, Counts, IsListed, IsWork, IsWorked};
 
 use crate::decisions::{Decision, Step};
 use crate::forcing::forced;
-use crate::mentioning::mentions;
 use crate::placed::Table;
 use crate::values::Values;
+use crate::waking::put;
 use dip_names::Prov;
 use std::alloc::{AllocError, Global};
-
-/// Whether two decisions are one.
-fn is_same(d: &Decision, e: &Decision) -> bool
-    ensures { result ≡ same d.now e.now }
-{
-    match (d, e) {
-        (Decision::Move(p), Decision::Move(q)) => p == q,
-        (Decision::Path(p), Decision::Path(q)) => p == q,
-        (Decision::Support(p), Decision::Support(q)) => p == q,
-        _ => false,
-    }
-}
-
-fn is_among(d: &Decision, list: &[Decision]) -> bool
-    ensures { result ≡ list_any (same d.now) list.now }
-{
-    list.iter().any(|e| is_same(d, e))
-}
 
 /// Lists a decision, if it is open.
 fn list_one(values: &Values, work: &mut Vec<Decision>, d: Decision) -> Result<(), AllocError>
@@ -70,64 +50,6 @@ pub(crate) fn work_at_start(
         list_unit(values, &mut work, *place)?;
     }
     Ok(work)
-}
-
-/// Lists a decision, if it is open, mentions the other and isn't listed.
-fn put_one(
-    table: &Table,
-    values: &Values,
-    work: &mut Vec<Decision>,
-    e: &Decision,
-    d: &Decision,
-) -> Result<(), AllocError>
-    requires situation { IsSituation (situation_of table.now) }
-    requires started { IsStarted (situation_of table.now) (known_of values.now) }
-    ensures { OnOk result
-        (IsPut (situation_of table.now) (known_of values.now) e.now (d.now ∷ []) work.old.items
-        work.new.items) }
-{
-    if values.look(d).is_none() && mentions(table, d, e) && !is_among(d, work.as_slice()) {
-        work.push(*d)?;
-    }
-    Ok(())
-}
-
-fn put_unit(
-    table: &Table,
-    values: &Values,
-    work: &mut Vec<Decision>,
-    e: &Decision,
-    p: Prov,
-) -> Result<(), AllocError>
-    requires situation { IsSituation (situation_of table.now) }
-    requires started { IsStarted (situation_of table.now) (known_of values.now) }
-    ensures { OnOk result
-        (IsPut (situation_of table.now) (known_of values.now) e.now (decisions (p ∷ []))
-        work.old.items work.new.items) }
-{
-    put_one(table, values, work, e, &Decision::Move(p))?;
-    put_one(table, values, work, e, &Decision::Path(p))?;
-    put_one(table, values, work, e, &Decision::Support(p))?;
-    Ok(())
-}
-
-/// Lists the open decisions that mention one.
-fn put(
-    table: &Table,
-    values: &Values,
-    work: &mut Vec<Decision>,
-    e: &Decision,
-) -> Result<(), AllocError>
-    requires situation { IsSituation (situation_of table.now) }
-    requires started { IsStarted (situation_of table.now) (known_of values.now) }
-    ensures { OnOk result
-        (IsPut (situation_of table.now) (known_of values.now) e.now
-        (decisions table.now.places.items) work.old.items work.new.items) }
-{
-    for place in &table.places {
-        put_unit(table, values, work, e, *place)?;
-    }
-    Ok(())
 }
 
 /// Lists the open decisions that mention one of these moves.

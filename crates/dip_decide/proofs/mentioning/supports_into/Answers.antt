@@ -1,7 +1,16 @@
-use Rattle.std.proofs.Common.{sym, ◌∙◌}
-use Rattle.dip_decide.specs.Given.{situation_of}
-use Rattle.dip_decide.proofs.Mentioners.{no_aim}
+use Rattle.std.proofs.Common.{refl, sym, ◌∙◌, Some, None}
+use Rattle.dip_decide.proofs.Mentioners.{one_into}
 use Rattle.dip_decide.proofs.mentioning.supports_into.Goals as goal
 
-pub returns-else-aims : goal.returns-else-aims
-returns-else-aims c = let s = situation_of c.args.table.now in rw c.if-aims.false (no_aim s c.requires.situation c.args.h c.args.q s.places (sym c.aims.ensures ∙ c.if-aims.false))
+pub returns-then-supports : goal.returns-then-supports
+returns-then-supports c =
+    let a = one_into c.args.table.now c.requires.situation c.args.h c.args.q (Some c.in-Some.w) (sym c.helps.ensures ∙ c.in-Some.is) in
+    rw (← a, ← c.supports.ensures, c.if-supports.true) c.goes.ensures
+
+pub returns-else-supports : goal.returns-else-supports
+returns-else-supports c =
+    let a = one_into c.args.table.now c.requires.situation c.args.h c.args.q (Some c.in-Some.w) (sym c.helps.ensures ∙ c.in-Some.is) in
+    rw (← a, ← c.supports.ensures, c.if-supports.false) refl
+
+pub returns-in-None : goal.returns-in-None
+returns-in-None c = one_into c.args.table.now c.requires.situation c.args.h c.args.q None (sym c.helps.ensures ∙ c.in-None.is)

@@ -1,0 +1,7 @@
+use Rattle.dip_decide.specs.Given.{situation_of, known_of}
+use Rattle.dip_decide.proofs.Taken.{taken_step}
+use Rattle.dip_decide.proofs.waking.put_each.Goals as goal
+
+pub loop-unit-preserved : goal.loop-unit-preserved
+loop-unit-preserved c =
+    taken_step (situation_of c.args.table.now) (known_of c.args.values.now) c.args.e.now c.args.units.now c.loop-unit.unit-index c.unit-item.result _ _ _ c.loop-unit-test.true c.unit-item.is c.loop-unit.invariant c.in_ok-put_one.ensures

@@ -1,0 +1,240 @@
+//! Whom a value wakes: the decisions that mention it come on the worklist, found by where units go and by whom they help.
+ghost use Rattle.std.specs.Prelude.{◌≡◌, ◌∷◌, [], OnOk};
+ghost use Rattle.std.specs.List.{list_any};
+ghost use Rattle.dip_decide.specs.Deciding.{same};
+ghost use Rattle.dip_decide.specs.Given.{situation_of, known_of};
+ghost use Rattle.dip_decide.specs.Movement.{IsSituation};
+ghost use Rattle.dip_decide.specs.Steps.{moves_of, decisions, IsStarted};
+ghost use Rattle.dip_decide.specs.Waking.{moves_into, moves_to, path_of, at_target, past_path, past_support};
+ghost use Rattle.dip_decide.specs.Working.{IsPut, IsTaken};
+
+use crate::decisions::Decision;
+use crate::mentioning::mentions;
+use crate::placed::Table;
+use crate::values::Values;
+use dip_names::Prov;
+use std::alloc::AllocError;
+
+/// Whether two decisions are one.
+fn is_same(d: &Decision, e: &Decision) -> bool
+    ensures { result ≡ same d.now e.now }
+{
+    match (d, e) {
+        (Decision::Move(p), Decision::Move(q)) => p == q,
+        (Decision::Path(p), Decision::Path(q)) => p == q,
+        (Decision::Support(p), Decision::Support(q)) => p == q,
+        _ => false,
+    }
+}
+
+fn is_among(d: &Decision, list: &[Decision]) -> bool
+    ensures { result ≡ list_any (same d.now) list.now }
+{
+    list.iter().any(|e| is_same(d, e))
+}
+
+/// Lists a decision, if it is open, mentions the other and isn't listed.
+fn put_one(
+    table: &Table,
+    values: &Values,
+    work: &mut Vec<Decision>,
+    e: &Decision,
+    d: &Decision,
+) -> Result<(), AllocError>
+    requires situation { IsSituation (situation_of table.now) }
+    requires started { IsStarted (situation_of table.now) (known_of values.now) }
+    ensures { OnOk result
+        (IsTaken (situation_of table.now) (known_of values.now) e.now (d.now ∷ []) work.old.items
+        work.new.items) }
+{
+    if values.look(d).is_none() && mentions(table, d, e) && !is_among(d, work.as_slice()) {
+        work.push(*d)?;
+    }
+    Ok(())
+}
+
+/// Lists those of these units' moves that are open and mention a decision.
+fn put_each(
+    table: &Table,
+    values: &Values,
+    work: &mut Vec<Decision>,
+    e: &Decision,
+    units: &[Prov],
+) -> Result<(), AllocError>
+    requires situation { IsSituation (situation_of table.now) }
+    requires started { IsStarted (situation_of table.now) (known_of values.now) }
+    ensures { OnOk result
+        (IsTaken (situation_of table.now) (known_of values.now) e.now (moves_of units.now)
+        work.old.items work.new.items) }
+{
+    for unit in units {
+        put_one(table, values, work, e, &Decision::Move(*unit))?;
+    }
+    Ok(())
+}
+
+/// The same of the moves into a province.
+fn put_into(
+    table: &Table,
+    values: &Values,
+    work: &mut Vec<Decision>,
+    e: &Decision,
+    q: Prov,
+) -> Result<(), AllocError>
+    requires situation { IsSituation (situation_of table.now) }
+    requires started { IsStarted (situation_of table.now) (known_of values.now) }
+    ensures { OnOk result
+        (IsTaken (situation_of table.now) (known_of values.now) e.now (moves_into table.now q)
+        work.old.items work.new.items) }
+{
+    put_each(table, values, work, e, table.movers_to(q))?;
+    Ok(())
+}
+
+/// The same of the moves to where a unit goes, if it goes somewhere.
+fn put_to(
+    table: &Table,
+    values: &Values,
+    work: &mut Vec<Decision>,
+    e: &Decision,
+    target: Option<Prov>,
+) -> Result<(), AllocError>
+    requires situation { IsSituation (situation_of table.now) }
+    requires started { IsStarted (situation_of table.now) (known_of values.now) }
+    ensures { OnOk result
+        (IsTaken (situation_of table.now) (known_of values.now) e.now (moves_to table.now target)
+        work.old.items work.new.items) }
+{
+    match target {
+        Some(q) => {
+            put_into(table, values, work, e, q)?;
+            Ok(())
+        }
+        None => Ok(()),
+    }
+}
+
+/// The same of the path of the army that a fleet convoys, if it convoys one.
+fn put_path(
+    table: &Table,
+    values: &Values,
+    work: &mut Vec<Decision>,
+    e: &Decision,
+    army: Option<Prov>,
+) -> Result<(), AllocError>
+    requires situation { IsSituation (situation_of table.now) }
+    requires started { IsStarted (situation_of table.now) (known_of values.now) }
+    ensures { OnOk result
+        (IsTaken (situation_of table.now) (known_of values.now) e.now (path_of army) work.old.items
+        work.new.items) }
+{
+    match army {
+        Some(p) => {
+            put_one(table, values, work, e, &Decision::Path(p))?;
+            Ok(())
+        }
+        None => Ok(()),
+    }
+}
+
+/// The same of what the unit supports or convoys to which a move goes.
+fn put_at(
+    table: &Table,
+    values: &Values,
+    work: &mut Vec<Decision>,
+    e: &Decision,
+    target: Option<Prov>,
+) -> Result<(), AllocError>
+    requires situation { IsSituation (situation_of table.now) }
+    requires started { IsStarted (situation_of table.now) (known_of values.now) }
+    ensures { OnOk result
+        (IsTaken (situation_of table.now) (known_of values.now) e.now (at_target table.now target)
+        work.old.items work.new.items) }
+{
+    match target {
+        Some(h) => {
+            put_one(table, values, work, e, &Decision::Support(h))?;
+            put_path(table, values, work, e, table.carries(h))?;
+            Ok(())
+        }
+        None => Ok(()),
+    }
+}
+
+/// The same of the moves to where a move by convoy goes, and of the support of the unit there.
+fn put_past(
+    table: &Table,
+    values: &Values,
+    work: &mut Vec<Decision>,
+    e: &Decision,
+    target: Option<Prov>,
+) -> Result<(), AllocError>
+    requires situation { IsSituation (situation_of table.now) }
+    requires started { IsStarted (situation_of table.now) (known_of values.now) }
+    ensures { OnOk result
+        (IsTaken (situation_of table.now) (known_of values.now) e.now (past_path table.now target)
+        work.old.items work.new.items) }
+{
+    match target {
+        Some(q) => {
+            put_into(table, values, work, e, q)?;
+            put_one(table, values, work, e, &Decision::Support(q))?;
+            Ok(())
+        }
+        None => Ok(()),
+    }
+}
+
+/// The same of the moves to a unit that is supported, and to where it goes.
+fn put_round(
+    table: &Table,
+    values: &Values,
+    work: &mut Vec<Decision>,
+    e: &Decision,
+    helped: Option<Prov>,
+) -> Result<(), AllocError>
+    requires situation { IsSituation (situation_of table.now) }
+    requires started { IsStarted (situation_of table.now) (known_of values.now) }
+    ensures { OnOk result
+        (IsTaken (situation_of table.now) (known_of values.now) e.now
+        (past_support table.now helped) work.old.items work.new.items) }
+{
+    match helped {
+        Some(w) => {
+            put_into(table, values, work, e, w)?;
+            put_to(table, values, work, e, table.target(w))?;
+            Ok(())
+        }
+        None => Ok(()),
+    }
+}
+
+/// Lists the open decisions that mention one.
+pub(crate) fn put(
+    table: &Table,
+    values: &Values,
+    work: &mut Vec<Decision>,
+    e: &Decision,
+) -> Result<(), AllocError>
+    requires situation { IsSituation (situation_of table.now) }
+    requires started { IsStarted (situation_of table.now) (known_of values.now) }
+    ensures { OnOk result
+        (IsPut (situation_of table.now) (known_of values.now) e.now
+        (decisions table.now.places.items) work.old.items work.new.items) }
+{
+    match e {
+        Decision::Move(x) => {
+            put_into(table, values, work, e, *x)?;
+            put_at(table, values, work, e, table.target(*x))?;
+            Ok(())
+        }
+        Decision::Path(w) => {
+            put_past(table, values, work, e, table.target(*w))?;
+            Ok(())
+        }
+        Decision::Support(h) => {
+            put_round(table, values, work, e, table.helps(*h))?;
+            Ok(())
+        }
+    }
+}

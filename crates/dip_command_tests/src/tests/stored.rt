@@ -105,9 +105,27 @@ fn a_desk_outlives_each_run(rt: HostRuntime) -> Result<(), Fail> {
         0,
         "",
     )?;
-    assert_run(&rt, "letters --store desk --map five.toml", CREATE, 0, CREATED)?;
-    assert_run(&rt, "letters --store desk --map five.toml", ORDERS, 0, ORDERED)?;
-    assert_run(&rt, "letters --store desk --map five.toml", ORDERS, 0, AGAIN)?;
+    assert_run(
+        &rt,
+        "letters --store desk --map five.toml",
+        CREATE,
+        0,
+        CREATED,
+    )?;
+    assert_run(
+        &rt,
+        "letters --store desk --map five.toml",
+        ORDERS,
+        0,
+        ORDERED,
+    )?;
+    assert_run(
+        &rt,
+        "letters --store desk --map five.toml",
+        ORDERS,
+        0,
+        AGAIN,
+    )?;
     assert_run(
         &rt,
         "report --store desk --game g1 --map five.toml",
@@ -147,7 +165,13 @@ fn a_store_is_opened_as_it_was_made(rt: HostRuntime) -> Result<(), Fail> {
     )?;
     assert_run(&rt, "letters --store mapped", CREATE, 4, other)?;
     assert_run(&rt, "report --store mapped --game g1", "", 4, other)?;
-    assert_run(&rt, "letters --store mapped --map five.toml", CREATE, 0, CREATED)?;
+    assert_run(
+        &rt,
+        "letters --store mapped --map five.toml",
+        CREATE,
+        0,
+        CREATED,
+    )?;
     assert_run(&rt, "letters --store none", CREATE, 4, taken)
 }
 

@@ -1,6 +1,6 @@
 //! The commands over a store that lies in a file.
 use crate::tests::asked::{CREATE, CREATED, FIVE};
-use dip_program::{do_as_asked, status_of};
+use dip_program::{run_as_asked, status_of};
 use sqlite_disk::Unknown;
 use std::alloc::Global;
 use std::fs;
@@ -83,7 +83,7 @@ fn assert_run(
     let words = words_of(alloc, line)?;
     let mut reader = input.as_bytes();
     let mut written = Vec::new(alloc);
-    let outcome = do_as_asked(rt, Unknown, words.as_slice(), &mut reader, &mut written);
+    let outcome = run_as_asked(rt, Unknown, words.as_slice(), &mut reader, &mut written);
     if let Err(failure) = &outcome {
         let told = failure.to_string(alloc)?;
         written.extend_from_slice(told.as_bytes())?;
@@ -105,9 +105,27 @@ fn a_desk_outlives_each_run(rt: HostRuntime) -> Result<(), Fail> {
         0,
         "",
     )?;
-    assert_run(&rt, "letters --store desk --map five.toml", CREATE, 0, CREATED)?;
-    assert_run(&rt, "letters --store desk --map five.toml", ORDERS, 0, ORDERED)?;
-    assert_run(&rt, "letters --store desk --map five.toml", ORDERS, 0, AGAIN)?;
+    assert_run(
+        &rt,
+        "letters --store desk --map five.toml",
+        CREATE,
+        0,
+        CREATED,
+    )?;
+    assert_run(
+        &rt,
+        "letters --store desk --map five.toml",
+        ORDERS,
+        0,
+        ORDERED,
+    )?;
+    assert_run(
+        &rt,
+        "letters --store desk --map five.toml",
+        ORDERS,
+        0,
+        AGAIN,
+    )?;
     assert_run(
         &rt,
         "report --store desk --game g1 --map five.toml",
@@ -147,7 +165,13 @@ fn a_store_is_opened_as_it_was_made(rt: HostRuntime) -> Result<(), Fail> {
     )?;
     assert_run(&rt, "letters --store mapped", CREATE, 4, other)?;
     assert_run(&rt, "report --store mapped --game g1", "", 4, other)?;
-    assert_run(&rt, "letters --store mapped --map five.toml", CREATE, 0, CREATED)?;
+    assert_run(
+        &rt,
+        "letters --store mapped --map five.toml",
+        CREATE,
+        0,
+        CREATED,
+    )?;
     assert_run(&rt, "letters --store none", CREATE, 4, taken)
 }
 

@@ -1,4 +1,4 @@
 pub mod FreshLemmas
-pub mod AskedLemmas
 pub mod StoredLemmas
 pub mod ServingLemmas
+pub mod FileLemmas

@@ -26,9 +26,13 @@ Does m known left before after (Stored store file) = IsReadToEnd known left
 Does m known left before after (Serve store port count file) = IsIdle known left before after
 Does m known left before after (Report store game file) = left ≡ known
 
+-- the words ask for something, by a map, of which this is so
+abbrev pub IsAskedFor : List ℕ → List Text → (Args → Chart → Type 0) → Type 0
+IsAskedFor standard words P = (a : Args) × (m : Chart) × IsAsked standard words a m × P a m
+
 -- it was done as the words ask
 abbrev pub IsDone : List ℕ → List Text → Option (List ℕ) → Option (List ℕ) → Option (List ℕ) → Option (List ℕ) → Type 0
-IsDone standard words known left before after = (a : Args) × (m : Chart) × IsAsked standard words a m × Does m known left before after a
+IsDone standard words known left before after = IsAskedFor standard words (λ a m. Does m known left before after a)
 
 -- a desk isn't made: only by the store's fault
 abbrev pub IsInitFailure : Failure → Type 0
@@ -57,5 +61,4 @@ abbrev pub IsFailed : List ℕ → List Text → Option (List ℕ) → Option (L
 IsFailed standard words known left before after (Usage fault) = IsUsageFault words fault × IsIdle known left before after
 IsFailed standard words known left before after (Map fault) =
     HasNoMap standard words (λ path. IsNoMapOf standard path fault) × IsIdle known left before after
-IsFailed standard words known left before after failure =
-    (a : Args) × (m : Chart) × IsAsked standard words a m × Fails m known left before after a failure
+IsFailed standard words known left before after failure = IsAskedFor standard words (λ a m. Fails m known left before after a failure)

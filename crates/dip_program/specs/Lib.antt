@@ -2,4 +2,5 @@ pub mod Fresh
 pub mod Serving
 pub mod Stores
 pub mod Failures
+pub mod Files
 pub mod Asked

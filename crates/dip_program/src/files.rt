@@ -1,5 +1,9 @@
 //! The store's file.
-ghost use Rattle.std.specs.Prelude.{IfErr};
+ghost use Rattle.std.specs.Prelude.{IfErr, IfOk};
+ghost use Rattle.sqlite.specs.Files.{IsOpened, file_state};
+ghost use Rattle.sqlite.specs.Start.{FindsIn};
+ghost use Rattle.sqlite.specs.State.{HasCleanDisk};
+ghost use Rattle.sqlite.specs.WalFiles.{image_at};
 ghost use Rattle.dip_program.specs.Stores.{IsOpenFault};
 
 use dip_store::{StoreFault, open_fault};
@@ -8,8 +12,8 @@ use sqlite_disk::Start;
 use sqlite_std_file::FileFrom;
 use sqlite_store::FileStore;
 
-/// A store that lies in a file.
-pub(crate) type Stored<S> = Connection<FileStore<FileFrom<S>>>;
+/// A store that lies in a file, of which `S` says what it holds at first.
+pub type Stored<S> = Connection<FileStore<FileFrom<S>>>;
 
 /// Opens the store of a file, which is made, empty, where there is none.
 ///
@@ -20,7 +24,10 @@ pub(crate) fn open_file<S: Start>(
     start: S,
     path: &str,
 ) -> Result<Stored<S>, StoreFault>
-    ensures { IfErr result IsOpenFault }
+    ensures fault { IfErr result IsOpenFault }
+    ensures opened { IfOk result (λ c. HasCleanDisk (file_state c) → IsOpened c) }
+    ensures found { IfOk result
+        (λ c. HasCleanDisk (file_state c) → FindsIn (image_at S.Start) (file_state c)) }
 {
     match Connection::open_from(rt, path, false, start) {
         Ok(conn) => Ok(conn),

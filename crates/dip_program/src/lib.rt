@@ -8,8 +8,9 @@ mod program;
 mod serving;
 mod stored;
 
-pub use asked::do_as_asked;
+pub use asked::{do_as_asked, run_as_asked};
 pub use failures::{Failure, status_of};
+pub use files::Stored;
 pub use program::run_program;
 pub use serving::serve_all;
 pub use stored::{answer_stored, make_desk, report_stored};

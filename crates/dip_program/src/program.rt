@@ -1,6 +1,6 @@
 //! The program over what the system hands it.
 
-use crate::asked::do_as_asked;
+use crate::asked::run_as_asked;
 use crate::failures::{Failure, status_of};
 use sqlite_disk::Unknown;
 use std::{env, io};
@@ -15,7 +15,7 @@ fn answer_the_system(rt: &HostRuntime) -> Result<(), Failure> {
         .collect::<Vec<&str>>(alloc)?;
     let mut reader = rt.reader();
     let mut writer = io::writer(rt);
-    do_as_asked(rt, Unknown, texts.as_slice(), &mut reader, &mut writer)
+    run_as_asked(rt, Unknown, texts.as_slice(), &mut reader, &mut writer)
 }
 
 /// The whole program: does what its words ask for, tells a failure on standard error, and gives the exit status.

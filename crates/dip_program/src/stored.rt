@@ -35,6 +35,7 @@ pub fn make_desk<S: Alter>(
         → OnOk result.0 (Holds S.Store map.now (fresh_desk master.now) result.1) }
     ensures same { does_show S.Store result.1 → OnErr result.0
         ((state S.Store result.1).committed ≡ (state S.Store store).committed) }
+    ensures fair { does_show S.Store result.1 → is_honest S.Store store }
 {
     let digest = digest("desk", "master", master);
     match SqlKeeper::create(alloc, store, map, text, &digest) {
@@ -69,6 +70,7 @@ pub fn answer_stored<S: Alter, R: Read, W: Write>(
     ensures failed { IfErr result.0
         (ReadsUpTo (R.remaining reader.old) (R.remaining reader.new) (W.contents writer.old)
         (W.contents writer.new)) }
+    ensures fair { does_show S.Store result.1 → is_honest S.Store store }
 {
     match SqlKeeper::open(alloc, store, map, text) {
         Err((fault, store)) => (Err(Failure::Store(fault)), store),
@@ -101,6 +103,7 @@ pub fn report_stored<S: Alter, W: Write>(
     ensures same { does_show S.Store result.1 → IsStore map.now (state S.Store store).now
         → OnOk result.0 (desk_in S.Store map.now result.1 ≡ desk_in S.Store map.now store) }
     ensures failed { IfErr result.0 IsReportFailure }
+    ensures fair { does_show S.Store result.1 → is_honest S.Store store }
 {
     match SqlKeeper::open(alloc, store, map, text) {
         Err((fault, store)) => (Err(Failure::Store(fault)), store),
@@ -132,6 +135,7 @@ pub(crate) fn serve_stored<S: Alter>(
         → IfErr result.0 (StopsServing map.now count (desk_in S.Store map.now store)
         (desk_in S.Store map.now result.1)) }
     ensures failed { IfErr result.0 IsServeFailure }
+    ensures fair { does_show S.Store result.1 → is_honest S.Store store }
 {
     let alloc = rt.alloc();
     match SqlKeeper::open(alloc, store, map, text) {

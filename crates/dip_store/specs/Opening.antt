@@ -1,11 +1,16 @@
 -- What a keeper has that was made or opened.
-use Rattle.std.specs.Prelude.{◌≡◌}
+use Rattle.std.specs.Prelude.{◌≡◌, ◌⊎◌}
 use Rattle.sqlite.specs.Effect.{Database}
 use Rattle.sqlite.specs.Store.{Ghosts}
+use Rattle.sqlite.specs.Held.{Held, state}
+use Rattle.sqlite.specs.Tree.{Trees}
 use Rattle.dip_chart.specs.Charts.{Chart}
 use Rattle.dip_legible.specs.Legible.{AreOurs}
 use Rattle.dip_machine.specs.State.{State}
 use Rattle.dip_tables.specs.Counting.{AreCounted}
+use Rattle.dip_tables.specs.Tables.{Tables}
+use Rattle.dip_founding.specs.Founding.{Founds}
+use Rattle.dip_rows.specs.Calls.{is_honest}
 use Rattle.dip_rows.specs.Good.{IsGood}
 use Rattle.dip_rows.specs.Rows.{tables_of}
 use Rattle.dip_store.specs.Stored.{book}
@@ -24,3 +29,8 @@ pub record Opens {S : Type 0} (g : Ghosts S) (m : Chart) (s : State) (k : SqlKee
   pub sound : (book g).sound m k
   pub says : (book g).content m k ≡ s
   pub only : (left : State) → (book g).may_leave m k left → left ≡ s
+
+-- what an open after a crash may find of a store in which tables are made: what it might have found before, or those tables, whole
+abbrev pub MayFound : {S : Type 0} → Ghosts S → Tables → Held S → Held S → Type 0
+MayFound g t old new = is_honest g new → (db : Trees) → (state g new).may_leave db
+    → (state g old).may_leave db ⊎ Founds t (state g old) db

@@ -6,8 +6,9 @@ ghost use Rattle.sqlite.specs.Tree.{Trees};
 ghost use Rattle.dip_schema.specs.Creating.{no_schema};
 ghost use Rattle.dip_founding.specs.Desk.{DeskSays};
 ghost use Rattle.dip_rows.specs.Calls.{does_show, is_honest, tables_in};
-ghost use Rattle.dip_store.specs.Opening.{IsStore, Opens};
+ghost use Rattle.dip_store.specs.Opening.{IsStore, MayFound, Opens};
 ghost use Rattle.dip_store.specs.Stored.{book, said_by};
+ghost use Rattle.dip_tables.specs.Writing.{new_tables};
 
 use crate::checking::check_desk;
 use crate::faults::{StoreFault, open_fault};
@@ -50,6 +51,8 @@ impl<S: Alter> SqlKeeper<S> {
     /// # Errors
     /// `OtherSchema` exactly where the store has a table, or anything else that a schema names; `Memory`; `Disk` also for a store with
     /// a transaction under way. The store is handed back, and what it has committed is as it was.
+    ///
+    /// A crash leaves what it might have left before, or the tables of the new desk, whole.
     pub fn create(
         alloc: Global,
         store: Connection<S>,
@@ -66,6 +69,12 @@ impl<S: Alter> SqlKeeper<S> {
         ensures refused { IfErr result (λ e. e.0 ≡ StoreFault.OtherMap → ⊥) }
         ensures same { IfErr result (λ e. does_show S.Store e.1
             → (state S.Store e.1).committed ≡ (state S.Store store).committed) }
+        ensures fair { IfOk result (λ k. is_honest S.Store k.conn → is_honest S.Store store) }
+        ensures fair_still { IfErr result (λ e. is_honest S.Store e.1 → is_honest S.Store store) }
+        ensures crash { IfOk result (λ k. MayFound S.Store
+            (new_tables (sha256 map_text.now) digest.now) store k.conn) }
+        ensures crash_still { IfErr result (λ e. MayFound S.Store
+            (new_tables (sha256 map_text.now) digest.now) store e.1) }
     {
         new_tables_are_new();
         new_tables_are_legible();
@@ -109,6 +118,8 @@ impl<S: Alter> SqlKeeper<S> {
         ensures same { IfErr result (λ e. does_show S.Store e.1
             → IsStore map.now (state S.Store store).now
             → (state S.Store e.1).committed ≡ (state S.Store store).committed) }
+        ensures fair { IfOk result (λ k. is_honest S.Store k.conn → is_honest S.Store store) }
+        ensures fair_still { IfErr result (λ e. is_honest S.Store e.1 → is_honest S.Store store) }
     {
         let mut conn = store;
         conn.set_step_limit(None);

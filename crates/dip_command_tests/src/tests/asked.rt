@@ -1,5 +1,5 @@
 //! Words, and what is done for them.
-use dip_program::{Failure, do_as_asked, status_of};
+use dip_program::{Failure, run_as_asked, status_of};
 use sqlite_disk::Unknown;
 use std::alloc::{AllocError, Global};
 use std::fs;
@@ -93,7 +93,7 @@ fn ending_of(rt: &HostRuntime, words: &[&str]) -> Ending {
     let alloc = rt.alloc();
     let mut reader = CREATE.as_bytes();
     let mut output = Vec::new(alloc);
-    let outcome = do_as_asked(rt, Unknown, words, &mut reader, &mut output);
+    let outcome = run_as_asked(rt, Unknown, words, &mut reader, &mut output);
     Ending {
         outcome,
         output,

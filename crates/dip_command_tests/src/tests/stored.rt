@@ -1,6 +1,6 @@
 //! The commands over a store that lies in a file.
 use crate::tests::asked::{CREATE, CREATED, FIVE};
-use dip_program::{do_as_asked, status_of};
+use dip_program::{run_as_asked, status_of};
 use sqlite_disk::Unknown;
 use std::alloc::Global;
 use std::fs;
@@ -83,7 +83,7 @@ fn assert_run(
     let words = words_of(alloc, line)?;
     let mut reader = input.as_bytes();
     let mut written = Vec::new(alloc);
-    let outcome = do_as_asked(rt, Unknown, words.as_slice(), &mut reader, &mut written);
+    let outcome = run_as_asked(rt, Unknown, words.as_slice(), &mut reader, &mut written);
     if let Err(failure) = &outcome {
         let told = failure.to_string(alloc)?;
         written.extend_from_slice(told.as_bytes())?;

@@ -1,7 +1,7 @@
 //! A whole game over a file: each letter is a run of the program of its own, which opens the store anew.
 use crate::tests::playing::GAME;
 use dip_exchanges::{BOARD, OPENED, letters_of, replies_of};
-use dip_program::{do_as_asked, status_of};
+use dip_program::{run_as_asked, status_of};
 use sqlite_disk::Unknown;
 use std::test::Fail;
 
@@ -14,7 +14,7 @@ GAME g1 S1901M running DUE 100 PERIOD 100 GREY YES PAPERS 1
 fn assert_written(rt: &HostRuntime, words: &[&str], input: &str, output: &str) -> Result<(), Fail> {
     let mut reader = input.as_bytes();
     let mut written = Vec::new(rt.alloc());
-    let outcome = do_as_asked(rt, Unknown, words, &mut reader, &mut written);
+    let outcome = run_as_asked(rt, Unknown, words, &mut reader, &mut written);
     if status_of(&outcome) == 0 && written.as_slice() == output.as_bytes() {
         Ok(())
     } else {

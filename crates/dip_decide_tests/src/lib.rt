@@ -1,0 +1,10 @@
+//! Tests of how a movement is decided: `resolve`, which tests a decision again only when something that it mentions was decided, is
+//! compared with passes over all decisions.
+#![tactic(auto)]
+
+mod passes;
+
+pub use passes::{Passed, resolve_by_passes};
+
+#[cfg(test)]
+mod tests;

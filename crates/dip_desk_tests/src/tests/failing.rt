@@ -1,5 +1,6 @@
 //! A keeper that fails at one of its calls.
-ghost use Rattle.std.specs.Prelude.{◌≡◌, ◌<◌, IfOk, IfSome, MatchOption};
+ghost use Rattle.std.specs.Prelude.{◌≡◌, ◌<◌, ◌≤◌, IfOk, IfSome, MatchOption};
+ghost use Rattle.dip_desk.specs.Keeping.{Rises};
 ghost use Rattle.dip_machine.specs.Faults.{faults_with};
 
 use crate::tests::letter;
@@ -33,6 +34,9 @@ impl Failing {
         ensures sane { IfSome result (λ fault. fault ≡ KeepFault.Damaged → ⊥) }
         ensures count { MatchOption result (self.new.told ≡ self.old.told)
             (λ fault. self.new.told ≡ faults_with fault self.old.told) }
+        ensures told { self.old.told ≤ self.new.told }
+        ensures rises { IfSome result
+            (λ fault. fault ≡ KeepFault.Disk → Rises self.old.told self.new.told) }
     {
         if self.left > 0 {
             self.left -= 1;
@@ -54,6 +58,7 @@ impl Keeper for Failing {
       content = λ m k. stored.state k.inner;
       may_leave = λ m k left. left ≡ stored.state k.inner;
       faults = λ k. k.told;
+      told = λ k. k.told;
       honest = λ _. Unit {0};
       shows = λ _. Unit {0};
       sound = λ m k. Unit {0};

@@ -25,3 +25,4 @@ mod Among
 mod Taken
 mod Woken
 mod Unbroken
+mod Columns

@@ -16,6 +16,10 @@ use Rattle.dip_decide.specs.Placed.{entry}
 abbrev pub rows_of : List PlacedOrder → Chart → List (Option PlacedOrder)
 rows_of orders m = map (order_at orders) (provs m)
 
+-- the same row for each province
+abbrev pub alike_rows : Option PlacedOrder → Chart → List (Option PlacedOrder)
+alike_rows row m = map (λ p. row) (provs m)
+
 -- the situation of a table
 abbrev pub situation_of : Table → Situation
 situation_of t = situation_by t.map.now t.places.items (entry t.rows.items)

@@ -12,3 +12,4 @@ pub mod Laws
 pub mod Statements
 pub mod Working
 pub mod Waking
+pub mod Marks

@@ -1,6 +1,6 @@
 //! A movement as a whole: from the orders to the resolution.
-ghost use Rattle.std.specs.Prelude.{◌≡◌, ◌≤◌, ◌+◌, IfOk, length, filter};
-ghost use Rattle.std.specs.List.{list_any};
+ghost use Rattle.std.specs.Prelude.{◌≡◌, ◌≤◌, ◌+◌, IfOk, length, filter, replicate, Some, true, false};
+ghost use Rattle.std.specs.List.{list_any, slice_set};
 ghost use Rattle.dip_chart.specs.Charts.{provs};
 ghost use Rattle.dip_board.specs.Boards.{IsOf};
 ghost use Rattle.dip_orders.specs.Standing.{units_of};
@@ -11,9 +11,9 @@ ghost use Rattle.dip_decide.specs.Matching.{situation};
 ghost use Rattle.dip_decide.specs.Movement.{Satisfies};
 ghost use Rattle.dip_decide.specs.Results.{values_in, broken_in, AreExplained, IsOnly, AreInOrder, decided_in, forced_in, mentions_in, is_true, trues, breaks, is_knot, IsListing};
 ghost use Rattle.dip_decide.specs.Steps.{steps_of};
+ghost use Rattle.dip_decide.specs.Marks.{with_all, with_broken};
 
 use crate::decisions::{Resolution, Step};
-use crate::lists::is_in;
 use crate::starting::values_at_start;
 use crate::table::table_of;
 use crate::turns::explain;
@@ -37,7 +37,7 @@ fn is_true(value: Option<bool>) -> bool
 fn trues(alloc: Global, map: &Map, column: &[Option<bool>]) -> Result<Vec<Prov>, AllocError>
     ensures { IfOk result (λ v. v.items ≡ trues column.now map.now) }
 {
-    let mut found = Vec::new(alloc);
+    let mut found = Vec::with_capacity(alloc, column.len())?;
     for prov in map.each_province() {
         if is_true(value_at(column, prov)) {
             found.push(prov)?;
@@ -46,34 +46,52 @@ fn trues(alloc: Global, map: &Map, column: &[Option<bool>]) -> Result<Vec<Prov>,
     Ok(found)
 }
 
-/// Whether a step breaks the path of a unit.
-fn breaks(step: &Step, p: Prov) -> bool
-    ensures { result ≡ breaks step.now p }
+/// A column with false for each of so many provinces.
+fn none_marked(alloc: Global, count: usize) -> Result<Vec<Option<bool>>, AllocError>
+    ensures { IfOk result (λ v. v.items ≡ replicate count (Some false)) }
 {
-    match step {
-        Step::Knot(units) => is_in(units.as_slice(), p),
-        Step::Forced(_) | Step::Circle(_) => false,
+    let marks = vec![in alloc; Some(false); count]?;
+    Ok(marks)
+}
+
+/// Puts true at a province.
+fn mark(marks: &mut Vec<Option<bool>>, p: Prov)
+    ensures { marks.new.items ≡ slice_set marks.old.items p (Some true) }
+{
+    if let Some(place) = marks.get_mut(usize::from(p.index())) {
+        *place = Some(true);
     }
 }
 
-fn is_broken(steps: &[Step], p: Prov) -> bool
-    ensures { result ≡ list_any (λ s. breaks s p) steps.now }
+/// Puts true at each of these provinces.
+fn mark_all(marks: &mut Vec<Option<bool>>, units: &[Prov])
+    ensures { marks.new.items ≡ with_all units.now marks.old.items }
 {
-    steps.iter().any(|step| breaks(step, p))
+    for p in units {
+        mark(marks, *p);
+    }
 }
 
-/// The units whose paths the steps break, by code, looked for in each province.
+/// Puts true where a step breaks the path of a unit.
+fn mark_step(marks: &mut Vec<Option<bool>>, step: &Step)
+    ensures { marks.new.items ≡ with_broken step.now marks.old.items }
+{
+    match step {
+        Step::Knot(units) => mark_all(marks, units.as_slice()),
+        Step::Forced(_) | Step::Circle(_) => {}
+    }
+}
+
+/// The units whose paths the steps break, by code: those of each knot are marked, and then looked for.
 fn broken_in(alloc: Global, map: &Map, steps: &[Step]) -> Result<Vec<Prov>, AllocError>
     ensures { IfOk result
         (λ v. v.items ≡ filter (λ p. list_any (λ s. breaks s p) steps.now) (provs map.now)) }
 {
-    let mut broken = Vec::new(alloc);
-    for prov in map.each_province() {
-        if is_broken(steps, prov) {
-            broken.push(prov)?;
-        }
+    let mut marks = none_marked(alloc, map.province_count())?;
+    for step in steps {
+        mark_step(&mut marks, step);
     }
-    Ok(broken)
+    trues(alloc, map, marks.as_slice())
 }
 
 fn is_knot(step: &Step) -> bool

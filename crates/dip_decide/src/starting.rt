@@ -18,7 +18,7 @@ fn at_start(is_decided: bool) -> Option<bool>
 fn moves_at_start(alloc: Global, table: &Table) -> Result<Vec<Option<bool>>, AllocError>
     ensures { IfOk result (λ v. v.items ≡ moves_at_start table.now.rows.items) }
 {
-    let mut moves = Vec::new(alloc);
+    let mut moves = Vec::with_capacity(alloc, table.rows.len())?;
     for row in &table.rows {
         moves.push(at_start(target_of(row).is_some()))?;
     }
@@ -28,7 +28,7 @@ fn moves_at_start(alloc: Global, table: &Table) -> Result<Vec<Option<bool>>, All
 fn paths_at_start(alloc: Global, table: &Table) -> Result<Vec<Option<bool>>, AllocError>
     ensures { IfOk result (λ v. v.items ≡ paths_at_start table.now.map.now table.now.rows.items) }
 {
-    let mut paths = Vec::new(alloc);
+    let mut paths = Vec::with_capacity(alloc, table.rows.len())?;
     for row in &table.rows {
         paths.push(at_start(is_convoyed_of(table.map, row)))?;
     }
@@ -38,7 +38,7 @@ fn paths_at_start(alloc: Global, table: &Table) -> Result<Vec<Option<bool>>, All
 fn supports_at_start(alloc: Global, table: &Table) -> Result<Vec<Option<bool>>, AllocError>
     ensures { IfOk result (λ v. v.items ≡ supports_at_start table.now table.now.rows.items) }
 {
-    let mut supports = Vec::new(alloc);
+    let mut supports = Vec::with_capacity(alloc, table.rows.len())?;
     for row in &table.rows {
         supports.push(at_start(table.is_support_of(row)))?;
     }

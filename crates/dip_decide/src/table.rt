@@ -1,9 +1,10 @@
 //! The orders of a movement by province.
-ghost use Rattle.std.specs.Prelude.{◌≡◌, ◌<◌, ℕ, length, map, true, All, IfOk};
+ghost use Rattle.std.specs.Prelude.{◌≡◌, ◌<◌, ℕ, length, map, true, None, Some, All, IfOk};
+ghost use Rattle.std.specs.List.{slice_set};
 ghost use Rattle.dip_chart.specs.Charts.{are_provs_single};
 ghost use Rattle.dip_lists.specs.Held.{units_of};
-ghost use Rattle.dip_decide.specs.Matching.{order_at, provinces_of, situation, target_of};
-ghost use Rattle.dip_decide.specs.Given.{rows_of, situation_of};
+ghost use Rattle.dip_decide.specs.Matching.{provinces_of, situation, target_of};
+ghost use Rattle.dip_decide.specs.Given.{rows_of, alike_rows, situation_of};
 ghost use Rattle.dip_decide.specs.Placed.{helped_of, carried_of, keyed_by};
 
 use crate::matching::{carried_of, helped_of, target_of};
@@ -14,17 +15,41 @@ use dip_names::Prov;
 use dip_orders::PlacedOrder;
 use std::alloc::{AllocError, Global};
 
-fn order_in(orders: &[PlacedOrder], p: Prov) -> Option<PlacedOrder>
-    ensures { result ≡ order_at orders.now p }
+fn no_order() -> Option<PlacedOrder>
+    ensures { result ≡ None }
 {
-    for placed in orders {
-        if placed.unit.place.prov == p {
-            return Some(*placed);
-        }
-    }
     None
 }
 
+/// A row for each province, into which none of these orders was put yet. The orders are named so that the kit's borrow checker is told
+/// what an order is: without them it refuses the function.
+fn no_orders(
+    alloc: Global,
+    map: &Map,
+    orders: &[PlacedOrder],
+) -> Result<Vec<Option<PlacedOrder>>, AllocError>
+    ensures { IfOk result (λ v. v.items ≡ alike_rows None map.now) }
+{
+    let _ = orders;
+    let mut rows = Vec::with_capacity(alloc, map.province_count())?;
+    for prov in map.each_province() {
+        let _ = prov;
+        rows.push(no_order())?;
+    }
+    Ok(rows)
+}
+
+/// Puts an order at its unit's province.
+fn put_order(rows: &mut Vec<Option<PlacedOrder>>, placed: &PlacedOrder)
+    ensures { rows.new.items ≡ slice_set rows.old.items placed.now.unit.place.prov
+        (Some placed.now) }
+{
+    if let Some(row) = rows.get_mut(usize::from(placed.unit.place.prov.index())) {
+        *row = Some(*placed);
+    }
+}
+
+/// The order in each province, from the last order to the first.
 fn rows_of(
     alloc: Global,
     map: &Map,
@@ -32,9 +57,11 @@ fn rows_of(
 ) -> Result<Vec<Option<PlacedOrder>>, AllocError>
     ensures { IfOk result (λ v. v.items ≡ rows_of orders.now map.now) }
 {
-    let mut rows = Vec::new(alloc);
-    for prov in map.each_province() {
-        rows.push(order_in(orders, prov))?;
+    let mut rows = no_orders(alloc, map, orders)?;
+    let mut left = orders.len();
+    while left > 0 {
+        left -= 1;
+        put_order(&mut rows, &orders[left]);
     }
     Ok(rows)
 }
@@ -42,7 +69,7 @@ fn rows_of(
 fn places_of(alloc: Global, orders: &[PlacedOrder]) -> Result<Vec<Prov>, AllocError>
     ensures { IfOk result (λ v. v.items ≡ provinces_of orders.now) }
 {
-    let mut places = Vec::new(alloc);
+    let mut places = Vec::with_capacity(alloc, orders.len())?;
     for placed in orders {
         places.push(placed.unit.place.prov)?;
     }

@@ -152,8 +152,8 @@ pub(crate) fn explain(
     ensures tested { OnOk result
         (tests.new ≤ decided_in (situation_of table.now) + mentions_in (situation_of table.now)) }
 {
-    let mut steps = Vec::new(alloc);
     let mut work = work_at_start(alloc, table, values)?;
+    let mut steps = Vec::with_capacity(alloc, work.len())?;
     let mut goes_on = true;
     'turns: while goes_on {
         goes_on = turn(alloc, table, values, &mut work, tests, &mut steps)?;

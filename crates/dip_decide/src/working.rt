@@ -45,7 +45,7 @@ pub(crate) fn work_at_start(
     ensures { IfOk result
         (λ v. v.items ≡ opens (known_of values.now) (decisions table.now.places.items)) }
 {
-    let mut work = Vec::new(alloc);
+    let mut work = Vec::with_capacity(alloc, table.places.len().saturating_mul(3))?;
     for place in &table.places {
         list_unit(values, &mut work, *place)?;
     }

@@ -1,7 +1,12 @@
-use Rattle.std.proofs.Common.{◌≡◌, ◌++◌, map}
+use Rattle.std.proofs.Common.{◌≡◌, ◌≤◌, drop, length}
 use Rattle.dip_decide.specs.Given.{rows_of}
-use Rattle.dip_decide.specs.Matching.{order_at}
 use Rattle.dip_decide.proofs.table.rows_of.Given as goal
 
-abbrev pub invariant-loop-prov : goal.invariant-loop-prov
-invariant-loop-prov l = l.rows.items ++ map (order_at l.orders) l.prov-iterator ≡ rows_of l.orders l.map
+abbrev pub invariant-loop-left : goal.invariant-loop-left
+invariant-loop-left l = record {
+  rows : l.rows.items ≡ rows_of (drop l.left l.orders) l.map;
+  within : l.left ≤ length l.orders;
+}
+
+abbrev pub decreases-loop-left : goal.decreases-loop-left
+decreases-loop-left l = l.left

@@ -10,10 +10,10 @@ use Rattle.dip_decide.proofs.turns.explain.Goals as goal
 pub turns-init : goal.turns-init
 turns-init c =
     let s = situation_of c.args.table.now in (
-      rw (c.new-steps.ensures.items, c.requires.first) (nothing_yet (rule s) (mentions s) (at_first s)),
+      rw (c.in_ok-steps.ensures.items, c.requires.first) (nothing_yet (rule s) (mentions s) (at_first s)),
       (
         rw (c.in_ok-work.ensures, c.requires.first, c.requires.untested) (work_first s c.requires.situation),
-        rw (c.new-steps.ensures.items, c.requires.untested) counts_first,
+        rw (c.in_ok-steps.ensures.items, c.requires.untested) counts_first,
       ),
     )
 

@@ -42,13 +42,16 @@ below_greatest m r k a c = record { up = λ e n h. up e (k e) (c e) h; down = λ
     down e None f h t = absurd (both_ways false refl (rw h at t))
     down e (Some v) f h t = f v refl ∙ t
 
--- an open decision is forced exactly to what its rule gives at both corners
-pub forced_by_corners : (rule : Equation) (k : Known) (d : Decision) (b : Bool) (m r : Decision → Bool) → RisesBy rule d m r → k d ≡ None → rule d (corner r k false) ≡ b → rule d (corner r k true) ≡ b → IsForced rule k d b
-forced_by_corners rule k d true m r f o least greatest = record {
+-- an open decision is forced to true where its rule gives that at the least corner
+pub forced_by_least : (rule : Equation) (k : Known) (d : Decision) (m r : Decision → Bool) → RisesBy rule d m r → k d ≡ None → rule d (corner r k false) ≡ true → IsForced rule k d true
+forced_by_least rule k d m r f o least = record {
   is_open = o;
   value = λ a c. f (corner r k false) a (above_least m r k a c) least;
 }
-forced_by_corners rule k d false m r f o least greatest = record {
+
+-- and to false where it gives that at the greatest
+pub forced_by_greatest : (rule : Equation) (k : Known) (d : Decision) (m r : Decision → Bool) → RisesBy rule d m r → k d ≡ None → rule d (corner r k true) ≡ false → IsForced rule k d false
+forced_by_greatest rule k d m r f o greatest = record {
   is_open = o;
   value = λ a c. go a c (cases_Bool (rule d a));
 }
@@ -56,6 +59,11 @@ forced_by_corners rule k d false m r f o least greatest = record {
     go : (a : Assignment) → IsCompletion k a → (rule d a ≡ true) ⊎ (rule d a ≡ false) → rule d a ≡ false
     go a c (inr h) = h
     go a c (inl h) = absurd (both_ways _ greatest (f a (corner r k true) (below_greatest m r k a c) h))
+
+-- an open decision is forced exactly to what its rule gives at both corners
+pub forced_by_corners : (rule : Equation) (k : Known) (d : Decision) (b : Bool) (m r : Decision → Bool) → RisesBy rule d m r → k d ≡ None → rule d (corner r k false) ≡ b → rule d (corner r k true) ≡ b → IsForced rule k d b
+forced_by_corners rule k d true m r f o least greatest = forced_by_least rule k d m r f o least
+forced_by_corners rule k d false m r f o least greatest = forced_by_greatest rule k d m r f o greatest
 
 pub corners_when_forced : (rule : Equation) (k : Known) (d : Decision) (b : Bool) (r : Decision → Bool) → IsForced rule k d b → (rule d (corner r k false) ≡ b) × (rule d (corner r k true) ≡ b)
 corners_when_forced rule k d b r f = (f.value _ (corner_completes r k false), f.value _ (corner_completes r k true))

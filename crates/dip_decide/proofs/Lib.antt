@@ -26,3 +26,5 @@ mod Taken
 mod Woken
 mod Unbroken
 mod Columns
+mod Marked
+mod Standing

@@ -471,54 +471,6 @@ module _ (s : Situation) (i : IsSituation s) (k : Known) (start : (d : Decision)
     pub all : (x : Decision) → is_among x (Path last ∷ trail) ≡ true → k x ≡ None
     pub come : (x : ℕ) → is_among (Path x) (Path last ∷ trail) ≡ true → (x ≡ first) ⊎ ((a : ℕ) × (is_among (Path a) trail ≡ true) × Leading a x)
 
-  new_on_way : (first last : ℕ) (trail : List Decision) → ((a : ℕ) → k (Path a) ≡ None → Leading a first → ⊥) → Way first last trail → (n : Onward last) → is_among (Path n.next) (Path last ∷ trail) ≡ false
-  new_on_way first last trail none w n = go (cases_Bool (is_among (Path n.next) (Path last ∷ trail)))
-    where
-      which : (n.next ≡ first) ⊎ ((a : ℕ) × (is_among (Path a) trail ≡ true) × Leading a n.next) → ⊥
-      which (inl e) = none last (w.all (Path last) (or_left _ _ (eq-eqb last last refl))) (subst (λ (y : ℕ). Leading last y) e n.leading)
-      which (inr e) = both_ways _ w.distinct.0 (subst (λ (y : ℕ). is_among (Path y) trail ≡ true) (one_before e.0 last n.next e.2 n.leading) e.1)
-
-      go : (is_among (Path n.next) (Path last ∷ trail) ≡ true) ⊎ (is_among (Path n.next) (Path last ∷ trail) ≡ false) → is_among (Path n.next) (Path last ∷ trail) ≡ false
-      go (inr e) = e
-      go (inl e) = absurd (which (w.come n.next e))
-
-  farther : (first last : ℕ) (trail : List Decision) → ((a : ℕ) → k (Path a) ≡ None → Leading a first → ⊥) → Way first last trail → (n : Onward last) → Way first n.next (Path last ∷ trail)
-  farther first last trail none w n = record {
-    distinct = (new_on_way first last trail none w n, w.distinct);
-    all = λ x h. known x (or_cases _ _ h);
-    come = λ x h. comes x (or_cases _ _ h);
-  }
-    where
-      known : (x : Decision) → (same x (Path n.next) ≡ true) ⊎ (is_among x (Path last ∷ trail) ≡ true) → k x ≡ None
-      known x (inl e) = ap k (same_is x (Path n.next) e) ∙ n.is_open
-      known x (inr e) = w.all x e
-
-      older : (x : ℕ) → (x ≡ first) ⊎ ((a : ℕ) × (is_among (Path a) trail ≡ true) × Leading a x) → (x ≡ first) ⊎ ((a : ℕ) × (is_among (Path a) (Path last ∷ trail) ≡ true) × Leading a x)
-      older x (inl e) = inl e
-      older x (inr e) = inr (e.0, or_right (e.0 == last) _ e.1, e.2)
-
-      comes : (x : ℕ) → ((x == n.next) ≡ true) ⊎ (is_among (Path x) (Path last ∷ trail) ≡ true) → (x ≡ first) ⊎ ((a : ℕ) × (is_among (Path a) (Path last ∷ trail) ≡ true) × Leading a x)
-      comes x (inl e) = inr (last, or_left _ _ (eq-eqb last last refl), subst (λ (y : ℕ). Leading last y) (sym (eqb-true x n.next e)) n.leading)
-      comes x (inr e) = older x (w.come x e)
-
-  on_way : (fuel first last : ℕ) (trail : List Decision) → ((a : ℕ) → k (Path a) ≡ None → Leading a first → ⊥) → Way first last trail → length trail + fuel ≡ length (decisions s.places) → ⊥
-  on_way zero first last trail none w n = let l = no_more (Path last ∷ trail) (decisions s.places) w.distinct (λ x h. open_listed x (w.all x h)) in omega arith
-  on_way (suc m) first last trail none w n =
-      let o = onward last (w.all (Path last) (or_left _ _ (eq-eqb last last refl))) in
-      on_way m first o.next (Path last ∷ trail) none (farther first last trail none w o) (omega arith)
-
-  -- every open path is led to by an open path
-  all_led_to : (p : ℕ) → k (Path p) ≡ None → ((a : ℕ) → k (Path a) ≡ None → Leading a p → ⊥) → ⊥
-  all_led_to p o none = on_way (length (decisions s.places)) p p [] none (record { distinct = (refl, tt); all = λ x h. known x (or_cases _ _ h); come = λ x h. first x (or_cases _ _ h) }) (omega arith)
-    where
-      known : (x : Decision) → (same x (Path p) ≡ true) ⊎ (false ≡ true) → k x ≡ None
-      known x (inl e) = ap k (same_is x (Path p) e) ∙ o
-      known x (inr e) = absurd (both_ways false refl e)
-
-      first : (x : ℕ) → ((x == p) ≡ true) ⊎ (false ≡ true) → (x ≡ p) ⊎ ((a : ℕ) × (is_among (Path a) [] ≡ true) × Leading a x)
-      first x (inl e) = inl (eqb-true x p e)
-      first x (inr e) = absurd (both_ways false refl e)
-
   -- from one open path to another by the next ones
   abbrev pub AreLeading : ℕ → List ℕ → ℕ → Type 0
   AreLeading a [] b = Leading a b
@@ -626,9 +578,8 @@ module _ (s : Situation) (i : IsSituation s) (k : Known) (start : (d : Decision)
       go (inl e) _ = found (w.come o.next e)
       go (inr e) f = f (record { distinct = (e, w.distinct); all = λ x h. known x (or_cases _ _ h); come = λ x h. comes x (or_cases _ _ h) }) (inr onto) (omega arith)
 
-  -- whom an open path leads to reaches it
-  back_one : (a b : ℕ) → k (Path b) ≡ None → Leading a b → Reaches (mentions s) k (Path b) (Path a)
-  back_one a b o l = go closed.there
+  closed_at : (b : ℕ) → k (Path b) ≡ None → Closed b
+  closed_at b o = walk_round (length (decisions s.places)) b b [] (record { distinct = (refl, tt); all = λ x h. known x (or_cases _ _ h); come = λ x h. first x (or_cases _ _ h) }) (inl refl) (omega arith)
     where
       known : (x : Decision) → (same x (Path b) ≡ true) ⊎ (false ≡ true) → k x ≡ None
       known x (inl e) = ap k (same_is x (Path b) e) ∙ o
@@ -638,8 +589,16 @@ module _ (s : Situation) (i : IsSituation s) (k : Known) (start : (d : Decision)
       first x (inl e) = inl (eqb-true x b e)
       first x (inr e) = absurd (both_ways false refl e)
 
+  -- every open path is led to by an open path
+  all_led_to : (p : ℕ) → k (Path p) ≡ None → ((a : ℕ) → k (Path a) ≡ None → Leading a p → ⊥) → ⊥
+  all_led_to p o none = let c = closed_at p o in none c.last c.is_open c.leading
+
+  -- whom an open path leads to reaches it
+  back_one : (a b : ℕ) → k (Path b) ≡ None → Leading a b → Reaches (mentions s) k (Path b) (Path a)
+  back_one a b o l = go closed.there
+    where
       closed : Closed b
-      closed = walk_round (length (decisions s.places)) b b [] (record { distinct = (refl, tt); all = λ x h. known x (or_cases _ _ h); come = λ x h. first x (or_cases _ _ h) }) (inl refl) (omega arith)
+      closed = closed_at b o
 
       it : a ≡ closed.last
       it = one_before a closed.last b l closed.leading

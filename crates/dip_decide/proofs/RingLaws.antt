@@ -1,6 +1,7 @@
 -- From open move to open move one comes round, or leaves them.
 use Rattle.std.proofs.Common.{◌≡◌, ℕ, ◌<◌, ◌+◌, List, [], ◌∷◌, ◌++◌, length, take, get_or, refl, sym, subst, ap, ◌∙◌, inl, inr, suc, arith}
-use Rattle.std.specs.Prelude.{◌==◌, Bool, true, false, ◌||◌, Option, None, Some}
+use Rattle.std.specs.Prelude.{◌==◌, Bool, true, false, ◌||◌, Option, None, Some, filter}
+use Rattle.std.specs.List.{list_any}
 use Rattle.std.proofs.lemmas.Bool.{cases_Bool, both_ways, or_cases, or_left, or_right, or_parts, or_from, eqb-true, eq-eqb}
 use Rattle.std.proofs.lemmas.Bool.Decides.{nat_tests}
 use Rattle.std.proofs.lemmas.List.{take_more}
@@ -13,6 +14,15 @@ use Rattle.dip_decide.specs.Rings.{open_at, waits_for, leaves, first_or, AreWait
 use Rattle.dip_decide.specs.Steps.{is_unknown, moves_of, decisions, IsStarted}
 use Rattle.dip_decide.proofs.Progress.{no_more, unknown_is, listed_decision}
 use Rattle.dip_decide.proofs.OneAnswer.{same_is}
+
+-- where none passes, none is kept
+pub none_open : (f : ℕ → Bool) (ps : List ℕ) → list_any f ps ≡ false → filter f ps ≡ []
+none_open f [] h = refl
+none_open f (p ∷ ps) h = go (f p) refl (none_open f ps)
+  where
+    go : (b : Bool) → f p ≡ b → (list_any f ps ≡ false → filter f ps ≡ []) → filter f (p ∷ ps) ≡ []
+    go true e n = absurd (both_ways _ h (or_left _ _ e))
+    go false e n = rw e (n (rw e at h))
 
 -- a province is listed where its move is among the moves
 pub flip : (x p : ℕ) → (x == p) ≡ (p == x)

@@ -1,10 +1,10 @@
 -- The table of a movement's orders shows their situation.
 use Rattle.std.proofs.Common.{◌≡◌, ℕ, ◌+◌, ◌<◌, ◌≤◌, length, drop, List, [], ◌∷◌, ◌++◌, append_assoc, ◌∙◌, zero, suc, arith, refl, ap, sym, inl, inr, All, map, get_or}
 use Rattle.std.specs.Prelude.{◌==◌, Bool, true, false, Option, None, Some, is_some}
-use Rattle.std.specs.List.{AllByRecursion, list_any, range_with_len, slice_index_or}
+use Rattle.std.specs.List.{AllByRecursion, list_any, range_with_len, slice_get, slice_index_or}
 use Rattle.std.proofs.lemmas.List.{drop_more}
 use Rattle.std.proofs.lemmas.List.Elements.{recursion_from_All}
-use Rattle.std.proofs.lemmas.Bool.{cases_Bool, eqb-true, cases_lt}
+use Rattle.std.proofs.lemmas.Bool.{both_ways, cases_Bool, eqb-true, cases_lt, or_left, or_right}
 use Rattle.std.proofs.Math.Path.{fun_ext}
 use mathlib.Core.Logic.{◌⊎◌}
 use Rattle.dip_chart.specs.Charts.{Chart}
@@ -14,7 +14,7 @@ use Rattle.dip_decide.specs.declared.decisions.Decision.{Decision}
 use Rattle.dip_decide.specs.declared.decisions.Decision.TheVariants.{Move, Path, Support}
 use Rattle.dip_decide.specs.declared.placed.Table.{Table}
 use Rattle.dip_decide.specs.declared.values.Values.{Values}
-use Rattle.dip_decide.specs.Movement.{at_first}
+use Rattle.dip_decide.specs.Movement.{at_first, is_listed}
 use Rattle.dip_decide.specs.Placed.{entry}
 use Rattle.dip_decide.specs.Given.{rows_of, situation_of, known_of, at_start, moves_at_start, paths_at_start, supports_at_start}
 
@@ -44,6 +44,39 @@ entries m orders a = fun_ext (λ p. go p (cases_lt p (length m.provinces)))
     go : (p : ℕ) → (p < length m.provinces) ⊎ (length m.provinces ≤ p) → entry (rows_of orders m) p ≡ order_at orders p
     go p (inl h) = entry_within orders 0 (length m.provinces) p h ∙ ap (order_at orders) (omega arith)
     go p (inr h) = entry_behind orders 0 (length m.provinces) p h ∙ sym (none_behind orders (length m.provinces) p (recursion_from_All _ _ a) h)
+
+order_listed : (orders : List PlacedOrder) (p : ℕ) → is_some (order_at orders p) ≡ true → is_listed (provinces_of orders) p ≡ true
+order_listed [] p h = absurd (both_ways false refl h)
+order_listed (o ∷ orders) p h = go (cases_Bool (o.unit.place.prov == p)) (order_listed orders p)
+  where
+    go : ((o.unit.place.prov == p) ≡ true) ⊎ ((o.unit.place.prov == p) ≡ false) → (is_some (order_at orders p) ≡ true → is_listed (provinces_of orders) p ≡ true) → is_listed (provinces_of (o ∷ orders)) p ≡ true
+    go (inl e) f = or_left _ _ e
+    go (inr e) f = or_right (o.unit.place.prov == p) _ (f (rw e at h))
+
+-- where a row has an order, its province is listed
+pub rows_listed : (m : Chart) (orders : List PlacedOrder) (places : List ℕ) (rows : List (Option PlacedOrder)) → places ≡ provinces_of orders → rows ≡ rows_of orders m
+    → All (λ o. o.unit.place.prov < length m.provinces) orders → (p : ℕ) → is_some (entry rows p) ≡ true → is_listed places p ≡ true
+rows_listed m orders places rows e r a p h =
+    let same : entry rows p ≡ order_at orders p = ap (λ (xs : List (Option PlacedOrder)). entry xs p) r ∙ ap (λ (f : ℕ → Option PlacedOrder). f p) (entries m orders a) in
+    rw e (order_listed orders p (rw same at h))
+
+-- what a column has for a province, if it has something for each row
+pub column_some : {X : Type 0} (f : Option PlacedOrder → X) (rows : List (Option PlacedOrder)) (p : ℕ) (x : X) → slice_get (map f rows) p ≡ Some x → x ≡ f (entry rows p)
+column_some f [] p x h = absurd (cc)
+column_some f (r ∷ rows) zero x h = let e : Some (f r) ≡ Some x = h in cc
+column_some f (r ∷ rows) (suc p) x h = column_some f rows p x h
+
+pub column_none : {X : Type 0} (f : Option PlacedOrder → X) (rows : List (Option PlacedOrder)) (p : ℕ) → slice_get (map f rows) p ≡ None → f None ≡ f (entry rows p)
+column_none f [] p h = refl
+column_none f (r ∷ rows) zero h = let e : Some (f r) ≡ None = h in absurd (cc)
+column_none f (r ∷ rows) (suc p) h = column_none f rows p h
+
+pub paths_told : (t : Table) → map at_start t.convoyed.items ≡ paths_at_start t.map.now t.rows.items
+paths_told t = ap (map at_start) t.sailing ∙ twice t.rows.items
+  where
+    twice : (rows : List (Option PlacedOrder)) → map at_start (map (is_convoyed t.map.now) rows) ≡ map (λ row. at_start (is_convoyed t.map.now row)) rows
+    twice [] = refl
+    twice (r ∷ rows) = ap (λ xs. at_start (is_convoyed t.map.now r) ∷ xs) (twice rows)
 
 pub seen_law : (m : Chart) (orders : List PlacedOrder) (places : List ℕ) (rows : List (Option PlacedOrder)) → places ≡ provinces_of orders → rows ≡ rows_of orders m
     → All (λ o. o.unit.place.prov < length m.provinces) orders → situation_by m places (entry rows) ≡ situation m orders

@@ -1,13 +1,13 @@
 -- What the worklist keeps: who isn't on it isn't forced, and each test is that of a decision or of a mention.
-use Rattle.std.proofs.Common.{◌≡◌, ℕ, ◌≤◌, ◌<◌, ◌+◌, ◌-◌, ◌*◌, List, [], ◌∷◌, ◌++◌, length, take, get_or, refl, sym, subst, ap, ◌∙◌, inl, inr, arith}
+use Rattle.std.proofs.Common.{◌≡◌, ℕ, ◌≤◌, ◌<◌, ◌+◌, ◌-◌, ◌*◌, List, [], ◌∷◌, ◌++◌, length, length-append, take, get_or, refl, sym, subst, ap, ◌∙◌, inl, inr, arith}
 use Rattle.std.specs.Prelude.{filter, if◌then◌else◌, Bool, true, false, not, ◌||◌, ◌&&◌, Option, None, Some, cond, is_some}
-use Rattle.std.specs.List.{sum_by, count_by, list_any}
+use Rattle.std.specs.List.{sum_by, count_by}
 use Rattle.std.proofs.lemmas.List.{length_push, take_more}
 use Rattle.std.proofs.lemmas.Bool.{cases_Bool, both_ways, or_cases, or_left, or_right}
 use Rattle.std.proofs.lemmas.List.Sums.{sum_by-cons, length-filter}
 use mathlib.Core.Logic.{◌⊎◌}
 use Rattle.dip_decide.specs.declared.decisions.Decision.{Decision}
-use Rattle.dip_decide.specs.declared.decisions.Decision.TheVariants.{Move, Path}
+use Rattle.dip_decide.specs.declared.decisions.Decision.TheVariants.{Move, Path, Support}
 use Rattle.dip_decide.specs.Deciding.{same, is_among, AreDistinct, Assignment, Known, Equation, IsCompletion, IsForced, IsCircle, IsKnot, give, Step}
 use Rattle.dip_decide.specs.Deciding.Step.{Forced}
 use Rattle.dip_decide.specs.Movement.{Situation, IsSituation, is_decided, at_first, rule, mentions}
@@ -16,7 +16,7 @@ use Rattle.dip_decide.specs.Steps.{moves_of, paths_of, decisions, is_unknown, Gr
 use Rattle.dip_decide.proofs.Progress.{known_or_open, listed_decision}
 use Rattle.dip_decide.proofs.Giving.{among_more}
 use Rattle.dip_decide.specs.Results.{decided_in, is_forced, forced_in, mentioners, mentions_in}
-use Rattle.dip_decide.specs.Working.{weight, opens, Counts, IsWork, IsPut, IsListed, IsWorked, StaysWork}
+use Rattle.dip_decide.specs.Working.{weight, opens, Counts, HasOpen, IsWork, IsPut, IsListed, IsWorked, StaysWork}
 use Rattle.dip_decide.proofs.OneAnswer.{same_is, same_self, open_one}
 use Rattle.dip_decide.proofs.CornerLaws.{agree}
 use Rattle.dip_decide.proofs.FromSteps.{knot_open}
@@ -140,10 +140,6 @@ still_tested s i k es old new c p f d n b h = f d (away (cases_Bool (is_among d 
 
 -- the list, one after the other
 
-pub among_any : (d : Decision) (ds : List Decision) → is_among d ds ≡ list_any (same d) ds
-among_any d [] = refl
-among_any d (x ∷ ds) = ap (λ (b : Bool). same d x || b) (among_any d ds)
-
 pub put_listed : (s : Situation) (k : Known) (e : Decision) (old new : List Decision) → IsSituation s → IsStarted s k → IsPut s k e (decisions s.places) old new → IsListed s k (e ∷ []) old new
 put_listed s k e old new i z p = record {
   kept = p.kept;
@@ -233,17 +229,6 @@ is_open None b h t = refl
 is_open (Some v) true h t = absurd (both_ways false refl (sym h))
 is_open (Some v) false h t = absurd (both_ways false refl t)
 
-pub is_empty : {X : Type 0} (xs : List X) → length xs ≡ 0 → xs ≡ []
-is_empty [] h = refl
-is_empty (x ∷ xs) h = absurd (omega arith)
-
-pub popped_none : {X : Type 0} (xs ys : List X) (n : ℕ) → n ≡ 0 → xs ≡ ys ++ [] → ys ≡ take (n - 1) xs → xs ≡ []
-popped_none xs ys n z e r =
-    let m : n - 1 ≡ 0 = omega arith in
-    let t : ys ≡ take 0 xs = rw m at r in
-    let u : ys ≡ [] = t in
-    rw u at e
-
 -- after a circle or a knot: the list was empty, and the mentioners of those that were given are on it
 pub work_given : (s : Situation) (i : IsSituation s) (k : Known) (z : IsStarted s k) (es new : List Decision) (c : Bool) (t : ℕ) → IsWork s k [] t → AreDistinct es → ((e : Decision) → is_among e es ≡ true → k e ≡ None) → IsListed s (give k es c) es [] new → IsWork s (give k es c) new t
 work_given s i k z es new c t w d o p = record {
@@ -264,20 +249,10 @@ listed_on s k es fs x y w p q = record { kept = λ d h. q.kept d (p.kept d h); p
 
 -- at first: all that is open is on the list, and nothing was tested
 
-kept_among : (t : Decision → Bool) (ds : List Decision) (d : Decision) → is_among d ds ≡ true → t d ≡ true → is_among d (filter t ds) ≡ true
-kept_among t [] d h y = absurd (both_ways false refl h)
-kept_among t (x ∷ ds) d h y = go (or_cases _ _ h) (cases_Bool (t x)) (λ m. kept_among t ds d m y)
-  where
-    go : (same d x ≡ true) ⊎ (is_among d ds ≡ true) → (t x ≡ true) ⊎ (t x ≡ false) → (is_among d ds ≡ true → is_among d (filter t ds) ≡ true) → is_among d (filter t (x ∷ ds)) ≡ true
-    go (inl e) (inl g) f = rw g (or_left _ _ e)
-    go (inl e) (inr g) f = absurd (both_ways _ g (subst (λ (v : Decision). t v ≡ true) (same_is d x e) y))
-    go (inr m) (inl g) f = rw g (or_right (same d x) _ (f m))
-    go (inr m) (inr g) f = rw g (f m)
-
-pub work_first : (s : Situation) → IsSituation s → IsWork s (at_first s) (filter (λ d. is_unknown (at_first s d)) (decisions s.places)) 0
-work_first s i = record {
-  tested = λ d h b f. both_ways _ h (kept_among (λ e. is_unknown (at_first s e)) (decisions s.places) d (listed_decision s i (at_first s) (λ e g. rw g refl) d f.is_open) (rw f.is_open refl));
-  few = let a = length-filter (λ d. is_unknown (at_first s d)) (decisions s.places) in let b = counts (decisions s.places) in let c = sums (decisions s.places) in omega arith;
+pub work_first : (s : Situation) → IsSituation s → (list : List Decision) → HasOpen (at_first s) (decisions s.places) [] list → IsWork s (at_first s) list 0
+work_first s i list p = record {
+  tested = λ d h b f. both_ways _ h (p.put d (listed_decision s i (at_first s) (λ e g. rw g refl) d f.is_open) f.is_open);
+  few = let a = length-filter (λ d. is_unknown (at_first s d)) (decisions s.places) in let b = counts (decisions s.places) in let c = sums (decisions s.places) in let f = p.few in omega arith;
 }
   where
     unknown : (d : Decision) → is_unknown (at_first s d) ≡ is_decided s d
@@ -320,8 +295,43 @@ opens_append k (d ∷ ds) es = go (cases_Bool (is_unknown (k d))) (opens_append 
     go (inl h) r = rw (h, r) refl
     go (inr h) r = rw (h, r) refl
 
-pub opens_step : (k : Known) (ps : List ℕ) (i p : ℕ) (x y : List Decision) → i < length ps → p ≡ get_or ps i p → x ≡ opens k (decisions (take i ps)) → y ≡ x ++ opens k (decisions (p ∷ [])) → y ≡ opens k (decisions (take (i + 1) ps))
-opens_step k ps i p x y h g u v = rw (more_decisions ps i p h g, opens_append k (decisions (take i ps)) (decisions (p ∷ [])), ← u) v
+pub none_listed : (k : Known) (old : List Decision) → HasOpen k [] old old
+none_listed k old = record { kept = λ d h. h; put = λ d h o. absurd (both_ways false refl h); few = omega arith }
+
+pub more_listed : (k : Known) (ds es x y z : List Decision) → HasOpen k ds x y → HasOpen k es y z → HasOpen k (ds ++ es) x z
+more_listed k ds es x y z p q = record {
+  kept = λ d h. q.kept d (p.kept d h);
+  put = λ d h o. which d (among_either d ds es h) o;
+  few = let a = p.few in let b = q.few in let c : length (opens k (ds ++ es)) ≡ length (opens k ds) + length (opens k es) = ap length (opens_append k ds es) ∙ length-append (opens k ds) (opens k es) in omega arith;
+}
+  where
+    which : (d : Decision) → (is_among d ds ≡ true) ⊎ (is_among d es ≡ true) → k d ≡ None → is_among d z ≡ true
+    which d (inl h) o = q.kept d (p.put d h o)
+    which d (inr h) o = q.put d h o
+
+pub one_listed : (k : Known) (d : Decision) (old : List Decision) → k d ≡ None → HasOpen k (d ∷ []) old (old ++ d ∷ [])
+one_listed k d old o = record {
+  kept = λ x h. rw (among_more x old d) (or_left _ _ h);
+  put = λ x h u. rw (among_more x old d) (or_right (is_among x old) _ (here x (or_cases _ _ h)));
+  few = let l = length_push old d in let n : length (opens k (d ∷ [])) ≡ 1 = rw o refl in omega arith;
+}
+  where
+    here : (x : Decision) → (same x d ≡ true) ⊎ (false ≡ true) → same x d ≡ true
+    here x (inl h) = h
+    here x (inr h) = absurd (both_ways false refl h)
+
+pub one_not_listed : (k : Known) (d : Decision) (old : List Decision) → (k d ≡ None → is_among d old ≡ true) → HasOpen k (d ∷ []) old old
+one_not_listed k d old f = record { kept = λ x h. h; put = λ x h o. there x (or_cases _ _ h) o; few = omega arith }
+  where
+    there : (x : Decision) → (same x d ≡ true) ⊎ (false ≡ true) → k x ≡ None → is_among x old ≡ true
+    there x (inl h) o = let q = same_is x d h in subst (λ (y : Decision). is_among y old ≡ true) (sym q) (f (subst (λ (y : Decision). k y ≡ None) q o))
+    there x (inr h) o = absurd (both_ways false refl h)
+
+pub unit_listed : (k : Known) (p : ℕ) (x y z w : List Decision) → HasOpen k (Move p ∷ []) x y → HasOpen k (Path p ∷ []) y z → HasOpen k (Support p ∷ []) z w → HasOpen k (decisions (p ∷ [])) x w
+unit_listed k p x y z w a b c = more_listed k (Move p ∷ []) (Path p ∷ Support p ∷ []) x y w a (more_listed k (Path p ∷ []) (Support p ∷ []) y z w b c)
+
+pub listed_step : (k : Known) (ps : List ℕ) (i p : ℕ) (x y z : List Decision) → i < length ps → p ≡ get_or ps i p → HasOpen k (decisions (take i ps)) x y → HasOpen k (decisions (p ∷ [])) y z → HasOpen k (decisions (take (i + 1) ps)) x z
+listed_step k ps i p x y z h g u v = rw (more_decisions ps i p h g) (more_listed k (decisions (take i ps)) (decisions (p ∷ [])) x y z u v)
 
 -- the mentioners of one more
 

@@ -11,5 +11,6 @@ pub mod Results
 pub mod Laws
 pub mod Statements
 pub mod Working
+pub mod Worklist
 pub mod Waking
 pub mod Marks

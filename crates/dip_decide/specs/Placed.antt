@@ -1,15 +1,24 @@
 -- The units of a table by what their orders name.
-use Rattle.std.specs.Prelude.{ℕ, List, filter, Option, None, Some}
+use Rattle.std.specs.Prelude.{ℕ, Bool, List, filter, map, Option, None, Some}
 use Rattle.std.specs.List.{slice_get}
 use Rattle.std.specs.Option.{unwrap_or}
 use Rattle.dip_orders.specs.declared.placed.Order.{Order}
 use Rattle.dip_orders.specs.declared.placed.Order.TheVariants.{SupportHold, SupportMove, Convoy}
 use Rattle.dip_orders.specs.declared.placed.PlacedOrder.{PlacedOrder}
+use Rattle.dip_chart.specs.Charts.{Chart}
+use Rattle.dip_decide.specs.Matching.{is_convoyed, target_of}
 use Rattle.dip_decide.specs.Movement.{is_at}
 
 -- what a list has for a province, if it has something
 abbrev pub entry : List (Option PlacedOrder) → ℕ → Option PlacedOrder
 entry rows p = unwrap_or (slice_get rows p) None
+
+-- where the unit of each row goes, and whether by convoy
+abbrev pub targets_of : List (Option PlacedOrder) → List (Option ℕ)
+targets_of rows = map target_of rows
+
+abbrev pub convoyed_of : Chart → List (Option PlacedOrder) → List Bool
+convoyed_of m rows = map (is_convoyed m) rows
 
 -- the unit that an order supports, whether it matches or not
 abbrev pub helped : Order → Option ℕ

@@ -16,6 +16,12 @@ weight w k ds = sum_by (λ e. cond (is_unknown (k e)) (w e) 0) ds
 abbrev pub opens : Known → List Decision → List Decision
 opens k ds = filter (λ d. is_unknown (k d)) ds
 
+-- what is open of these decisions came on the list, and no more than that
+pub record HasOpen (k : Known) (ds old new : List Decision) : Type 0 where
+  pub kept : (d : Decision) → is_among d old ≡ true → is_among d new ≡ true
+  pub put : (d : Decision) → is_among d ds ≡ true → k d ≡ None → is_among d new ≡ true
+  pub few : length new ≤ length old + length (opens k ds)
+
 -- at least as many tests were made as forced steps were written
 abbrev pub Counts : List Deciding.Step → ℕ → List Deciding.Step → ℕ → Type 0
 Counts old t new u = forced_in new + t ≤ forced_in old + u

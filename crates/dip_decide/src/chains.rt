@@ -7,7 +7,7 @@ ghost use Rattle.dip_decide.specs.Chains.{IsSought, IsSpread};
 use crate::lists::is_in;
 use crate::placed::Table;
 use dip_names::Prov;
-use std::alloc::{AllocError, Global};
+use std::alloc::AllocError;
 
 /// Adds a fleet, if it is next to a province and wasn't reached before.
 fn spread_to(
@@ -45,7 +45,7 @@ fn spread(
 
 /// Whether a chain of these fleets joins two provinces. Each fleet is visited once.
 pub(crate) fn joins(
-    alloc: Global,
+    reached: &mut Vec<Prov>,
     table: &Table,
     fleets: &[Prov],
     from: Prov,
@@ -53,15 +53,15 @@ pub(crate) fn joins(
 ) -> Result<bool, AllocError>
     ensures { IfOk result (IsSought (is_listed fleets.now) (situation_of table.now).next to from) }
 {
-    let mut reached = Vec::new(alloc);
-    spread(table, fleets, &mut reached, from)?;
+    reached.clear();
+    spread(table, fleets, reached, from)?;
     let mut visited = 0;
     while visited < reached.len() {
         let fleet = reached[visited];
         if table.is_next(fleet, to) {
             return Ok(true);
         }
-        spread(table, fleets, &mut reached, fleet)?;
+        spread(table, fleets, reached, fleet)?;
         visited += 1;
     }
     Ok(false)

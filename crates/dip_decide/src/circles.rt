@@ -1,6 +1,7 @@
 //! Circles of moves, and the paths of a knot.
 ghost use Rattle.std.specs.Prelude.{◌≡◌, None, IfOk};
-ghost use Rattle.dip_decide.specs.declared.decisions.Decision.TheVariants.{Move};
+ghost use Rattle.std.specs.List.{list_any};
+ghost use Rattle.dip_decide.specs.declared.decisions.Decision.TheVariants.{Move, Path};
 ghost use Rattle.dip_decide.specs.Given.{situation_of, known_of};
 ghost use Rattle.dip_decide.specs.Movement.{IsSituation};
 ghost use Rattle.dip_decide.specs.Rings.{waits_for, from_on, RingOr, RingAt, CircleOr};
@@ -48,6 +49,7 @@ fn from_on(alloc: Global, trail: &[Prov], p: Prov) -> Result<Vec<Prov>, AllocErr
 /// The ring into which one comes from an open move, each time to the one that it waits for.
 fn ring_from(
     alloc: Global,
+    trail: &mut Vec<Prov>,
     table: &Table,
     values: &Values,
     start: Prov,
@@ -57,7 +59,7 @@ fn ring_from(
     requires unknown { known_of values.now (Move start) ≡ None }
     ensures { IfOk result (RingOr (situation_of table.now) (known_of values.now) start) }
 {
-    let mut trail = Vec::new(alloc);
+    trail.clear();
     let mut here = start;
     'walk: while !is_in(trail.as_slice(), here) {
         trail.push(here)?;
@@ -73,6 +75,7 @@ fn ring_from(
 /// The ring into which one comes from a unit, if its move is open.
 fn ring_at(
     alloc: Global,
+    trail: &mut Vec<Prov>,
     table: &Table,
     values: &Values,
     p: Prov,
@@ -84,12 +87,13 @@ fn ring_at(
     if !is_open(values, &Decision::Move(p)) {
         return Ok(None);
     }
-    ring_from(alloc, table, values, p)
+    ring_from(alloc, trail, table, values, p)
 }
 
 /// A ring of open moves, if there is one.
 pub(crate) fn ring_in(
     alloc: Global,
+    trail: &mut Vec<Prov>,
     table: &Table,
     values: &Values,
 ) -> Result<Option<Vec<Prov>>, AllocError>
@@ -99,11 +103,22 @@ pub(crate) fn ring_in(
         (CircleOr (situation_of table.now) (known_of values.now) table.now.places.items) }
 {
     for place in &table.places {
-        if let Some(ring) = ring_at(alloc, table, values, *place)? {
+        if let Some(ring) = ring_at(alloc, trail, table, values, *place)? {
             return Ok(Some(ring));
         }
     }
     Ok(None)
+}
+
+/// Whether a unit's path is open.
+fn has_open_path(table: &Table, values: &Values) -> bool
+    ensures { result ≡ list_any (λ p. is_unknown (known_of values.now (Path p)))
+        table.now.places.items }
+{
+    table
+        .places
+        .iter()
+        .any(|p| is_open(values, &Decision::Path(*p)))
 }
 
 /// The units whose path is open.
@@ -114,6 +129,9 @@ pub(crate) fn open_paths(
 ) -> Result<Vec<Prov>, AllocError>
     ensures { IfOk result (λ v. v.items ≡ open_paths (known_of values.now) table.now.places.items) }
 {
+    if !has_open_path(table, values) {
+        return Ok(Vec::new(alloc));
+    }
     let mut paths = copy_of(alloc, table.places.as_slice())?;
     paths.retain(|p| is_open(values, &Decision::Path(*p)));
     Ok(paths)

@@ -1,5 +1,5 @@
 //! Strengths and values at the least and the greatest completion.
-ghost use Rattle.std.specs.Prelude.{◌≡◌, ◌&&◌, not, Some, IfOk, filter};
+ghost use Rattle.std.specs.Prelude.{◌≡◌, ◌&&◌, not, Some, IfOk, OnOk, filter};
 ghost use Rattle.std.specs.List.{count_by, list_all, list_any};
 ghost use Rattle.dip_decide.specs.Corners.{rises, values};
 ghost use Rattle.dip_decide.specs.Given.{situation_of};
@@ -8,11 +8,12 @@ ghost use Rattle.dip_decide.specs.Movement.{goes, has_path, support, support_aga
 
 use crate::chains::joins;
 use crate::decisions::Decision;
-use crate::lists::copy_of;
+use crate::lists::write_over;
 use crate::placed::Table;
+use crate::room::Room;
 use crate::values::Values;
 use dip_names::Prov;
-use std::alloc::{AllocError, Global};
+use std::alloc::AllocError;
 
 /// The completion at which the rule of a decision is least, or greatest.
 #[derive(Clone, Copy)]
@@ -147,31 +148,39 @@ impl Corner<'_> {
         }
     }
 
-    fn beats(&self, p: Prov, q: Prov, w: Prov) -> bool
+    /// Whether the move of a unit to a province, with this strength of its attack, beats another unit.
+    fn beats(&self, p: Prov, q: Prov, strength: usize, w: Prov) -> bool
+        requires attack { strength
+            ≡ attack (situation_of self.now.table.now) (values self.now) p q }
         ensures { result ≡ beats (situation_of self.now.table.now) (values self.now) p q w }
     {
-        w == p || !self.table.goes(w, q) || self.prevent(w, q) < self.attack(p, q)
+        w == p || !self.table.goes(w, q) || self.prevent(w, q) < strength
     }
 
-    /// Whether the move of a unit to a province beats all of these.
-    fn beats_all(&self, p: Prov, q: Prov, others: &[Prov]) -> bool
+    /// Whether it beats all of these.
+    fn beats_all(&self, p: Prov, q: Prov, strength: usize, others: &[Prov]) -> bool
+        requires attack { strength
+            ≡ attack (situation_of self.now.table.now) (values self.now) p q }
         ensures { result ≡ list_all (beats (situation_of self.now.table.now) (values self.now) p q)
             others.now }
     {
-        others.iter().all(|w| self.beats(p, q, *w))
+        others.iter().all(|w| self.beats(p, q, strength, *w))
     }
 
-    fn are_free(&self, p: Prov, q: Prov) -> bool
+    fn are_free(&self, p: Prov, q: Prov, strength: usize) -> bool
+        requires attack { strength
+            ≡ attack (situation_of self.now.table.now) (values self.now) p q }
         ensures { result ≡ list_all (beats (situation_of self.now.table.now) (values self.now) p q)
             self.now.table.now.places.items }
     {
-        self.beats_all(p, q, self.table.movers_to(q))
+        self.beats_all(p, q, strength, self.table.movers_to(q))
     }
 
     fn succeeds(&self, p: Prov, q: Prov) -> bool
         ensures { result ≡ succeeds (situation_of self.now.table.now) (values self.now) p q }
     {
-        self.are_free(p, q) && self.opposition(p, q) < self.attack(p, q)
+        let strength = self.attack(p, q);
+        self.are_free(p, q, strength) && self.opposition(p, q) < strength
     }
 
     fn cuts(&self, h: Prov, x: Prov) -> bool
@@ -240,29 +249,29 @@ impl Corner<'_> {
         self.table.convoys(x, p) && !self.is_entered(x)
     }
 
-    /// The fleets that serve the move of a unit.
-    fn fleets(&self, alloc: Global, p: Prov) -> Result<Vec<Prov>, AllocError>
-        ensures { IfOk result
-            (λ v. v.items ≡ filter (serves (situation_of self.now.table.now) (values self.now) p)
+    /// Writes the fleets that serve the move of a unit over a list.
+    fn write_fleets(&self, fleets: &mut Vec<Prov>, p: Prov) -> Result<(), AllocError>
+        ensures { OnOk result
+            (fleets.new.items ≡ filter (serves (situation_of self.now.table.now) (values self.now) p)
             self.now.table.now.places.items) }
     {
-        let mut fleets = copy_of(alloc, self.table.carriers_of(p))?;
+        write_over(fleets, self.table.carriers_of(p))?;
         fleets.retain(|x| self.serves(p, *x));
-        Ok(fleets)
+        Ok(())
     }
 
     /// Whether the move by convoy of a unit to a province has a path.
-    fn has_chain(&self, alloc: Global, p: Prov, q: Prov) -> Result<bool, AllocError>
+    fn has_chain(&self, room: &mut Room, p: Prov, q: Prov) -> Result<bool, AllocError>
         requires situation { IsSituation (situation_of self.now.table.now) }
         ensures { IfOk result
             (λ b. b ≡ path_rule (situation_of self.now.table.now) (values self.now) p (Some q)) }
     {
-        let fleets = self.fleets(alloc, p)?;
-        joins(alloc, self.table, fleets.as_slice(), p, q)
+        self.write_fleets(&mut room.fleets, p)?;
+        joins(&mut room.trail, self.table, room.fleets.as_slice(), p, q)
     }
 
     /// Whether the move of a unit is one by convoy that has a path.
-    fn path_rule(&self, alloc: Global, p: Prov) -> Result<bool, AllocError>
+    fn path_rule(&self, room: &mut Room, p: Prov) -> Result<bool, AllocError>
         requires situation { IsSituation (situation_of self.now.table.now) }
         ensures { IfOk result
             (λ b. b ≡ rule (situation_of self.now.table.now) (Path p) (values self.now)) }
@@ -271,20 +280,20 @@ impl Corner<'_> {
             return Ok(false);
         }
         match self.table.target(p) {
-            Some(q) => self.has_chain(alloc, p, q),
+            Some(q) => self.has_chain(room, p, q),
             None => Ok(false),
         }
     }
 
     /// The equation of a decision.
-    pub(crate) fn rule(&self, alloc: Global, d: &Decision) -> Result<bool, AllocError>
+    pub(crate) fn rule(&self, room: &mut Room, d: &Decision) -> Result<bool, AllocError>
         requires situation { IsSituation (situation_of self.now.table.now) }
         ensures { IfOk result
             (λ b. b ≡ rule (situation_of self.now.table.now) d.now (values self.now)) }
     {
         match d {
             Decision::Move(p) => Ok(self.move_rule(*p)),
-            Decision::Path(p) => self.path_rule(alloc, *p),
+            Decision::Path(p) => self.path_rule(room, *p),
             Decision::Support(h) => Ok(self.is_support(*h) && self.is_uncut(*h)),
         }
     }

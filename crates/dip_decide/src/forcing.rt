@@ -6,12 +6,13 @@ ghost use Rattle.dip_decide.specs.Movement.{rule, IsSituation};
 use crate::corners::Corner;
 use crate::decisions::Decision;
 use crate::placed::Table;
+use crate::room::Room;
 use crate::values::Values;
-use std::alloc::{AllocError, Global};
+use std::alloc::AllocError;
 
-/// The value to which an open decision is forced.
+/// The value to which an open decision is forced: true where it is so at the least, false where it is so at the most.
 pub(crate) fn forced<'a>(
-    alloc: Global,
+    room: &mut Room,
     table: &'a Table<'a>,
     known: &'a Values,
     of: &'a Decision,
@@ -26,13 +27,16 @@ pub(crate) fn forced<'a>(
         of,
         high: false,
     }
-    .rule(alloc, of)?;
+    .rule(room, of)?;
+    if least {
+        return Ok(Some(true));
+    }
     let greatest = Corner {
         table,
         known,
         of,
         high: true,
     }
-    .rule(alloc, of)?;
-    Ok(if least == greatest { Some(least) } else { None })
+    .rule(room, of)?;
+    Ok(if greatest { None } else { Some(false) })
 }

@@ -12,6 +12,7 @@ mod matching;
 mod mentioning;
 mod placed;
 mod resolving;
+mod room;
 mod starting;
 mod table;
 mod testing;
@@ -19,6 +20,7 @@ mod turns;
 mod values;
 mod waking;
 mod working;
+mod worklist;
 
 pub use decisions::{Decision, Resolution, Step};
 pub use laws::{

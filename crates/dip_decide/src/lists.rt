@@ -1,5 +1,5 @@
 //! Lists of provinces.
-ghost use Rattle.std.specs.Prelude.{◌≡◌, IfOk};
+ghost use Rattle.std.specs.Prelude.{◌≡◌, IfOk, OnOk};
 ghost use Rattle.dip_decide.specs.Movement.{is_listed};
 
 use dip_names::Prov;
@@ -10,6 +10,15 @@ pub(crate) fn copy_of(alloc: Global, list: &[Prov]) -> Result<Vec<Prov>, AllocEr
     ensures { IfOk result (λ v. v.items ≡ list.now) }
 {
     list.to_vec(alloc)
+}
+
+/// Writes the same provinces over a list.
+pub(crate) fn write_over(list: &mut Vec<Prov>, from: &[Prov]) -> Result<(), AllocError>
+    ensures { OnOk result (list.new.items ≡ from.now) }
+{
+    list.clear();
+    list.extend_from_slice(from)?;
+    Ok(())
 }
 
 /// Whether a province is one of these.

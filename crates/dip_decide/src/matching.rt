@@ -8,7 +8,6 @@ ghost use Rattle.dip_decide.specs.Placed.{entry, helped, helped_of, carried, car
 ghost use Rattle.dip_decide.specs.Matching.{destination, target_of, goes_by_convoy, is_convoyed, is_there, is_matched, supports_in, direction, is_carried, convoys_in, is_sea_next};
 ghost use Rattle.dip_decide.specs.Movement.{goes, head_to_head, has_move, is_at, is_support};
 
-use crate::lists::is_in;
 use crate::placed::Table;
 use dip_map::Map;
 use dip_names::{Kind, Place, Prov};
@@ -180,7 +179,10 @@ impl Table<'_> {
     pub(crate) fn target(&self, p: Prov) -> Option<Prov>
         ensures { result ≡ (situation_of self.now).target p }
     {
-        target_of(&self.order(p))
+        match self.targets.get(usize::from(p.index())) {
+            Some(target) => *target,
+            None => None,
+        }
     }
 
     /// The unit that one supports, whether that matches or not.
@@ -200,7 +202,10 @@ impl Table<'_> {
     pub(crate) fn is_convoyed(&self, p: Prov) -> bool
         ensures { result ≡ (situation_of self.now).convoyed p }
     {
-        is_convoyed_of(self.map, &self.order(p))
+        match self.convoyed.get(usize::from(p.index())) {
+            Some(convoyed) => *convoyed,
+            None => false,
+        }
     }
 
     fn is_there(&self, at: Other, p: Prov) -> bool
@@ -246,7 +251,7 @@ impl Table<'_> {
             self.now.places.items }
     {
         match helped_of(row) {
-            Some(p) => self.supports_of(row, p) && is_in(self.places.as_slice(), p),
+            Some(p) => self.supports_of(row, p),
             None => false,
         }
     }

@@ -6,7 +6,6 @@ ghost use Rattle.dip_decide.specs.Given.{situation_of};
 ghost use Rattle.dip_decide.specs.Movement.{IsSituation, mentions, move_mentions, goes};
 
 use crate::decisions::Decision;
-use crate::lists::is_in;
 use crate::placed::Table;
 use dip_names::Prov;
 
@@ -43,7 +42,7 @@ fn enters_carrier(table: &Table, p: Prov, m: Prov) -> bool
     ensures { result ≡ mentions (situation_of table.now) (Path p) (Move m) }
 {
     match table.target(m) {
-        Some(x) => table.convoys(x, p) && is_in(table.places.as_slice(), x),
+        Some(x) => table.convoys(x, p),
         None => false,
     }
 }

@@ -3,7 +3,7 @@ ghost use Rattle.std.specs.Prelude.{◌≡◌, map, IfOk};
 ghost use Rattle.dip_decide.specs.Given.{at_start, moves_at_start, paths_at_start, supports_at_start, situation_of, known_of};
 ghost use Rattle.dip_decide.specs.Movement.{at_first};
 
-use crate::matching::{is_convoyed_of, target_of};
+use crate::matching::target_of;
 use crate::placed::Table;
 use crate::values::Values;
 use std::alloc::{AllocError, Global};
@@ -25,14 +25,21 @@ fn moves_at_start(alloc: Global, table: &Table) -> Result<Vec<Option<bool>>, All
     Ok(moves)
 }
 
+/// What is known at first of each of these, which are decided or aren't.
+fn column_at_start(alloc: Global, decided: &[bool]) -> Result<Vec<Option<bool>>, AllocError>
+    ensures { IfOk result (λ v. v.items ≡ map at_start decided.now) }
+{
+    let mut column = Vec::with_capacity(alloc, decided.len())?;
+    for is_decided in decided {
+        column.push(at_start(*is_decided))?;
+    }
+    Ok(column)
+}
+
 fn paths_at_start(alloc: Global, table: &Table) -> Result<Vec<Option<bool>>, AllocError>
     ensures { IfOk result (λ v. v.items ≡ paths_at_start table.now.map.now table.now.rows.items) }
 {
-    let mut paths = Vec::with_capacity(alloc, table.rows.len())?;
-    for row in &table.rows {
-        paths.push(at_start(is_convoyed_of(table.map, row)))?;
-    }
-    Ok(paths)
+    column_at_start(alloc, table.convoyed.as_slice())
 }
 
 fn supports_at_start(alloc: Global, table: &Table) -> Result<Vec<Option<bool>>, AllocError>

@@ -1,13 +1,14 @@
 //! The orders of a movement by province.
-ghost use Rattle.std.specs.Prelude.{◌≡◌, ◌<◌, ℕ, length, map, true, None, Some, All, IfOk};
+ghost use Rattle.std.specs.Prelude.{◌≡◌, ◌<◌, ℕ, length, map, true, List, None, Option, Some, All, IfOk};
 ghost use Rattle.std.specs.List.{slice_set};
 ghost use Rattle.dip_chart.specs.Charts.{are_provs_single};
 ghost use Rattle.dip_lists.specs.Held.{units_of};
+ghost use Rattle.dip_orders.specs.declared.placed.PlacedOrder.{PlacedOrder as APlacedOrder};
 ghost use Rattle.dip_decide.specs.Matching.{provinces_of, situation, target_of};
 ghost use Rattle.dip_decide.specs.Given.{rows_of, alike_rows, situation_of};
-ghost use Rattle.dip_decide.specs.Placed.{helped_of, carried_of, keyed_by};
+ghost use Rattle.dip_decide.specs.Placed.{helped_of, carried_of, convoyed_of, keyed_by, targets_of};
 
-use crate::matching::{carried_of, helped_of, target_of};
+use crate::matching::{carried_of, helped_of, is_convoyed_of, target_of};
 use crate::placed::Table;
 use dip_lists::{ByKey, by_key};
 use dip_map::Map;
@@ -77,7 +78,7 @@ fn places_of(alloc: Global, orders: &[PlacedOrder]) -> Result<Vec<Prov>, AllocEr
 }
 
 fn targets(alloc: Global, rows: &[Option<PlacedOrder>]) -> Result<Vec<Option<Prov>>, AllocError>
-    ensures { IfOk result (λ v. v.items ≡ map target_of rows.now) }
+    ensures { IfOk result (λ v. v.items ≡ targets_of rows.now) }
 {
     let mut targets = Vec::with_capacity(alloc, rows.len())?;
     for row in rows {
@@ -106,17 +107,23 @@ fn carried(alloc: Global, rows: &[Option<PlacedOrder>]) -> Result<Vec<Option<Pro
     Ok(carried)
 }
 
-/// The units by where they go.
-fn movers_of(
-    alloc: Global,
-    places: &[Prov],
-    rows: &[Option<PlacedOrder>],
-) -> Result<ByKey, AllocError>
-    requires single { are_provs_single places.now ≡ true }
-    ensures { IfOk result (λ b. (q : ℕ) → units_of b q ≡ keyed_by target_of places.now rows.now q) }
+fn convoyed(alloc: Global, map: &Map, rows: &[Option<PlacedOrder>]) -> Result<Vec<bool>, AllocError>
+    ensures { IfOk result (λ v. v.items ≡ convoyed_of map.now rows.now) }
 {
-    let keys = targets(alloc, rows)?;
-    by_key(alloc, places, keys.as_slice())
+    let mut convoyed = Vec::with_capacity(alloc, rows.len())?;
+    for row in rows {
+        convoyed.push(is_convoyed_of(map, row))?;
+    }
+    Ok(convoyed)
+}
+
+/// The units by where they go.
+fn movers_of(alloc: Global, places: &[Prov], targets: &[Option<Prov>]) -> Result<ByKey, AllocError>
+    requires single { are_provs_single places.now ≡ true }
+    ensures { IfOk result (λ b. (rows : List (Option APlacedOrder)) → targets.now ≡ targets_of rows
+        → (q : ℕ) → units_of b q ≡ keyed_by target_of places.now rows q) }
+{
+    by_key(alloc, places, targets)
 }
 
 /// The units by the one that they support.
@@ -158,13 +165,17 @@ pub(crate) fn table_of<'a>(
 {
     let places = places_of(alloc, orders)?;
     let rows = rows_of(alloc, map, orders)?;
-    let movers = movers_of(alloc, places.as_slice(), rows.as_slice())?;
+    let targets = targets(alloc, rows.as_slice())?;
+    let convoyed = convoyed(alloc, map, rows.as_slice())?;
+    let movers = movers_of(alloc, places.as_slice(), targets.as_slice())?;
     let helpers = helpers_of(alloc, places.as_slice(), rows.as_slice())?;
     let carriers = carriers_of(alloc, places.as_slice(), rows.as_slice())?;
     Ok(Table {
         map,
         places,
         rows,
+        targets,
+        convoyed,
         movers,
         helpers,
         carriers,

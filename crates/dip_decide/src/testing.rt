@@ -8,6 +8,7 @@ ghost use Rattle.dip_decide.specs.Movement.{at_first, rule};
 
 use crate::decisions::Decision;
 use crate::forcing;
+use crate::room::Room;
 use crate::starting::values_at_start;
 use crate::table::table_of;
 use crate::values::Values;
@@ -70,5 +71,6 @@ pub fn forced(
     let _ = board.units();
     tests.count += 1;
     let table = table_of(alloc, map, orders.as_slice())?;
-    forcing::forced(alloc, &table, known, &d)
+    let mut room = Room::with_capacity(alloc, table.places.len())?;
+    forcing::forced(&mut room, &table, known, &d)
 }

@@ -9,10 +9,12 @@ ghost use Rattle.dip_decide.specs.Steps.{moves_of, paths_of, steps_of, NoneForce
 ghost use Rattle.dip_decide.specs.Working.{Counts, IsWork, StaysWork};
 
 use crate::circles::{open_paths, ring_in};
-use crate::decisions::{Decision, Step};
+use crate::decisions::Step;
 use crate::placed::Table;
+use crate::room::Room;
 use crate::values::Values;
 use crate::working::{put_moves, put_paths, work_at_start, work_off};
+use crate::worklist::Worklist;
 use dip_names::Prov;
 use std::alloc::{AllocError, Global};
 
@@ -20,13 +22,13 @@ use std::alloc::{AllocError, Global};
 fn take_circle(
     table: &Table,
     values: &mut Values,
-    work: &mut Vec<Decision>,
+    work: &mut Worklist,
     steps: &mut Vec<Step>,
     units: Vec<Prov>,
 ) -> Result<(), AllocError>
     requires situation { IsSituation (situation_of table.now) }
     requires started { IsStarted (situation_of table.now) (known_of values.old) }
-    requires empty { work.old.items ≡ [] }
+    requires empty { work.old ≡ [] }
     requires some { IsNonEmpty units.items }
     requires circle { IsCircle (rule (situation_of table.now)) (known_of values.old)
         (moves_of units.items) }
@@ -35,7 +37,7 @@ fn take_circle(
         (steps_of steps.new.items) (known_of values.new)) }
     ensures work { OnOk result
         (StaysWork (situation_of table.now) (known_of values.old) [] (known_of values.new)
-        work.new.items) }
+        work.new) }
     ensures unforced { OnOk result
         (forced_in (steps_of steps.new.items) ≡ forced_in (steps_of steps.old.items)) }
 {
@@ -49,13 +51,13 @@ fn take_circle(
 fn take_knot(
     table: &Table,
     values: &mut Values,
-    work: &mut Vec<Decision>,
+    work: &mut Worklist,
     steps: &mut Vec<Step>,
     units: Vec<Prov>,
 ) -> Result<(), AllocError>
     requires situation { IsSituation (situation_of table.now) }
     requires started { IsStarted (situation_of table.now) (known_of values.old) }
-    requires empty { work.old.items ≡ [] }
+    requires empty { work.old ≡ [] }
     requires some { IsNonEmpty units.items }
     requires knot { IsKnot (rule (situation_of table.now)) (mentions (situation_of table.now))
         (known_of values.old) (paths_of units.items) }
@@ -64,7 +66,7 @@ fn take_knot(
         (steps_of steps.new.items) (known_of values.new)) }
     ensures work { OnOk result
         (StaysWork (situation_of table.now) (known_of values.old) [] (known_of values.new)
-        work.new.items) }
+        work.new) }
     ensures unforced { OnOk result
         (forced_in (steps_of steps.new.items) ≡ forced_in (steps_of steps.old.items)) }
 {
@@ -77,25 +79,26 @@ fn take_knot(
 /// Where nothing is forced: a circle, or the knot if there is none. Tells whether there was either.
 fn turn_unforced(
     alloc: Global,
+    room: &mut Room,
     table: &Table,
     values: &mut Values,
-    work: &mut Vec<Decision>,
+    work: &mut Worklist,
     steps: &mut Vec<Step>,
 ) -> Result<bool, AllocError>
     requires situation { IsSituation (situation_of table.now) }
     requires started { IsStarted (situation_of table.now) (known_of values.old) }
-    requires empty { work.old.items ≡ [] }
+    requires empty { work.old ≡ [] }
     requires unforced { NoneForced (situation_of table.now) (known_of values.old) }
     ensures turned { IfOk result
         (λ any. IsTurn (situation_of table.now) any (steps_of steps.old.items) (known_of values.old)
         (steps_of steps.new.items) (known_of values.new)) }
     ensures work { OnOk result
         (StaysWork (situation_of table.now) (known_of values.old) [] (known_of values.new)
-        work.new.items) }
+        work.new) }
     ensures unforced { OnOk result
         (forced_in (steps_of steps.new.items) ≡ forced_in (steps_of steps.old.items)) }
 {
-    if let Some(ring) = ring_in(alloc, table, values)? {
+    if let Some(ring) = ring_in(alloc, &mut room.trail, table, values)? {
         take_circle(table, values, work, steps, ring)?;
         return Ok(true);
     }
@@ -110,27 +113,28 @@ fn turn_unforced(
 /// What is forced, and then a circle; where there is none, the knot. Tells whether there was either.
 fn turn(
     alloc: Global,
+    room: &mut Room,
     table: &Table,
     values: &mut Values,
-    work: &mut Vec<Decision>,
+    work: &mut Worklist,
     tests: &mut u64,
     steps: &mut Vec<Step>,
 ) -> Result<bool, AllocError>
     requires situation { IsSituation (situation_of table.now) }
     requires started { IsStarted (situation_of table.now) (known_of values.old) }
-    requires work { IsWork (situation_of table.now) (known_of values.old) work.old.items tests.old }
+    requires work { IsWork (situation_of table.now) (known_of values.old) work.old tests.old }
     requires bound { decided_in (situation_of table.now) + mentions_in (situation_of table.now)
         < 2 ^ 64 }
     ensures turned { IfOk result
         (λ any. IsTurn (situation_of table.now) any (steps_of steps.old.items) (known_of values.old)
         (steps_of steps.new.items) (known_of values.new)) }
     ensures work { OnOk result
-        (IsWork (situation_of table.now) (known_of values.new) work.new.items tests.new) }
+        (IsWork (situation_of table.now) (known_of values.new) work.new tests.new) }
     ensures counted { OnOk result
         (Counts (steps_of steps.old.items) tests.old (steps_of steps.new.items) tests.new) }
 {
-    work_off(alloc, table, values, work, tests, steps)?;
-    turn_unforced(alloc, table, values, work, steps)
+    work_off(room, table, values, work, tests, steps)?;
+    turn_unforced(alloc, room, table, values, work, steps)
 }
 
 /// The steps that lead to the values of all decisions; each test is counted.
@@ -152,11 +156,14 @@ pub(crate) fn explain(
     ensures tested { OnOk result
         (tests.new ≤ decided_in (situation_of table.now) + mentions_in (situation_of table.now)) }
 {
+    let mut room = Room::with_capacity(alloc, table.places.len())?;
     let mut work = work_at_start(alloc, table, values)?;
     let mut steps = Vec::with_capacity(alloc, work.len())?;
     let mut goes_on = true;
     'turns: while goes_on {
-        goes_on = turn(alloc, table, values, &mut work, tests, &mut steps)?;
+        goes_on = turn(
+            alloc, &mut room, table, values, &mut work, tests, &mut steps,
+        )?;
     }
     Ok(steps)
 }

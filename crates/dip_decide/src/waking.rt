@@ -1,7 +1,5 @@
 //! Whom a value wakes: the decisions that mention it come on the worklist, found by where units go and by whom they help.
 ghost use Rattle.std.specs.Prelude.{◌≡◌, ◌∷◌, [], OnOk};
-ghost use Rattle.std.specs.List.{list_any};
-ghost use Rattle.dip_decide.specs.Deciding.{same};
 ghost use Rattle.dip_decide.specs.Given.{situation_of, known_of};
 ghost use Rattle.dip_decide.specs.Movement.{IsSituation};
 ghost use Rattle.dip_decide.specs.Steps.{moves_of, decisions, IsStarted};
@@ -12,43 +10,26 @@ use crate::decisions::Decision;
 use crate::mentioning::mentions;
 use crate::placed::Table;
 use crate::values::Values;
+use crate::worklist::Worklist;
 use dip_names::Prov;
 use std::alloc::AllocError;
-
-/// Whether two decisions are one.
-fn is_same(d: &Decision, e: &Decision) -> bool
-    ensures { result ≡ same d.now e.now }
-{
-    match (d, e) {
-        (Decision::Move(p), Decision::Move(q)) => p == q,
-        (Decision::Path(p), Decision::Path(q)) => p == q,
-        (Decision::Support(p), Decision::Support(q)) => p == q,
-        _ => false,
-    }
-}
-
-fn is_among(d: &Decision, list: &[Decision]) -> bool
-    ensures { result ≡ list_any (same d.now) list.now }
-{
-    list.iter().any(|e| is_same(d, e))
-}
 
 /// Lists a decision, if it is open, mentions the other and isn't listed.
 fn put_one(
     table: &Table,
     values: &Values,
-    work: &mut Vec<Decision>,
+    work: &mut Worklist,
     e: &Decision,
     d: &Decision,
 ) -> Result<(), AllocError>
     requires situation { IsSituation (situation_of table.now) }
     requires started { IsStarted (situation_of table.now) (known_of values.now) }
     ensures { OnOk result
-        (IsTaken (situation_of table.now) (known_of values.now) e.now (d.now ∷ []) work.old.items
-        work.new.items) }
+        (IsTaken (situation_of table.now) (known_of values.now) e.now (d.now ∷ []) work.old
+        work.new) }
 {
-    if values.look(d).is_none() && mentions(table, d, e) && !is_among(d, work.as_slice()) {
-        work.push(*d)?;
+    if values.look(d).is_none() && !work.has(d) && mentions(table, d, e) {
+        work.push(d)?;
     }
     Ok(())
 }
@@ -57,7 +38,7 @@ fn put_one(
 fn put_each(
     table: &Table,
     values: &Values,
-    work: &mut Vec<Decision>,
+    work: &mut Worklist,
     e: &Decision,
     units: &[Prov],
 ) -> Result<(), AllocError>
@@ -65,7 +46,7 @@ fn put_each(
     requires started { IsStarted (situation_of table.now) (known_of values.now) }
     ensures { OnOk result
         (IsTaken (situation_of table.now) (known_of values.now) e.now (moves_of units.now)
-        work.old.items work.new.items) }
+        work.old work.new) }
 {
     for unit in units {
         put_one(table, values, work, e, &Decision::Move(*unit))?;
@@ -77,7 +58,7 @@ fn put_each(
 fn put_into(
     table: &Table,
     values: &Values,
-    work: &mut Vec<Decision>,
+    work: &mut Worklist,
     e: &Decision,
     q: Prov,
 ) -> Result<(), AllocError>
@@ -85,7 +66,7 @@ fn put_into(
     requires started { IsStarted (situation_of table.now) (known_of values.now) }
     ensures { OnOk result
         (IsTaken (situation_of table.now) (known_of values.now) e.now (moves_into table.now q)
-        work.old.items work.new.items) }
+        work.old work.new) }
 {
     put_each(table, values, work, e, table.movers_to(q))?;
     Ok(())
@@ -95,7 +76,7 @@ fn put_into(
 fn put_to(
     table: &Table,
     values: &Values,
-    work: &mut Vec<Decision>,
+    work: &mut Worklist,
     e: &Decision,
     target: Option<Prov>,
 ) -> Result<(), AllocError>
@@ -103,7 +84,7 @@ fn put_to(
     requires started { IsStarted (situation_of table.now) (known_of values.now) }
     ensures { OnOk result
         (IsTaken (situation_of table.now) (known_of values.now) e.now (moves_to table.now target)
-        work.old.items work.new.items) }
+        work.old work.new) }
 {
     match target {
         Some(q) => {
@@ -118,15 +99,15 @@ fn put_to(
 fn put_path(
     table: &Table,
     values: &Values,
-    work: &mut Vec<Decision>,
+    work: &mut Worklist,
     e: &Decision,
     army: Option<Prov>,
 ) -> Result<(), AllocError>
     requires situation { IsSituation (situation_of table.now) }
     requires started { IsStarted (situation_of table.now) (known_of values.now) }
     ensures { OnOk result
-        (IsTaken (situation_of table.now) (known_of values.now) e.now (path_of army) work.old.items
-        work.new.items) }
+        (IsTaken (situation_of table.now) (known_of values.now) e.now (path_of army) work.old
+        work.new) }
 {
     match army {
         Some(p) => {
@@ -141,7 +122,7 @@ fn put_path(
 fn put_at(
     table: &Table,
     values: &Values,
-    work: &mut Vec<Decision>,
+    work: &mut Worklist,
     e: &Decision,
     target: Option<Prov>,
 ) -> Result<(), AllocError>
@@ -149,7 +130,7 @@ fn put_at(
     requires started { IsStarted (situation_of table.now) (known_of values.now) }
     ensures { OnOk result
         (IsTaken (situation_of table.now) (known_of values.now) e.now (at_target table.now target)
-        work.old.items work.new.items) }
+        work.old work.new) }
 {
     match target {
         Some(h) => {
@@ -165,7 +146,7 @@ fn put_at(
 fn put_past(
     table: &Table,
     values: &Values,
-    work: &mut Vec<Decision>,
+    work: &mut Worklist,
     e: &Decision,
     target: Option<Prov>,
 ) -> Result<(), AllocError>
@@ -173,7 +154,7 @@ fn put_past(
     requires started { IsStarted (situation_of table.now) (known_of values.now) }
     ensures { OnOk result
         (IsTaken (situation_of table.now) (known_of values.now) e.now (past_path table.now target)
-        work.old.items work.new.items) }
+        work.old work.new) }
 {
     match target {
         Some(q) => {
@@ -189,7 +170,7 @@ fn put_past(
 fn put_round(
     table: &Table,
     values: &Values,
-    work: &mut Vec<Decision>,
+    work: &mut Worklist,
     e: &Decision,
     helped: Option<Prov>,
 ) -> Result<(), AllocError>
@@ -197,7 +178,7 @@ fn put_round(
     requires started { IsStarted (situation_of table.now) (known_of values.now) }
     ensures { OnOk result
         (IsTaken (situation_of table.now) (known_of values.now) e.now
-        (past_support table.now helped) work.old.items work.new.items) }
+        (past_support table.now helped) work.old work.new) }
 {
     match helped {
         Some(w) => {
@@ -213,14 +194,14 @@ fn put_round(
 pub(crate) fn put(
     table: &Table,
     values: &Values,
-    work: &mut Vec<Decision>,
+    work: &mut Worklist,
     e: &Decision,
 ) -> Result<(), AllocError>
     requires situation { IsSituation (situation_of table.now) }
     requires started { IsStarted (situation_of table.now) (known_of values.now) }
     ensures { OnOk result
         (IsPut (situation_of table.now) (known_of values.now) e.now
-        (decisions table.now.places.items) work.old.items work.new.items) }
+        (decisions table.now.places.items) work.old work.new) }
 {
     match e {
         Decision::Move(x) => {

@@ -4,31 +4,33 @@ ghost use Rattle.dip_decide.specs.Given.{situation_of, known_of};
 ghost use Rattle.dip_decide.specs.Movement.{IsSituation};
 ghost use Rattle.dip_decide.specs.Results.{decided_in, mentioners, mentions_in};
 ghost use Rattle.dip_decide.specs.Steps.{steps_of, moves_of, paths_of, decisions, is_unknown, IsStarted};
-ghost use Rattle.dip_decide.specs.Working.{weight, opens, Counts, IsListed, IsWork, IsWorked};
+ghost use Rattle.dip_decide.specs.Working.{weight, Counts, HasOpen, IsListed, IsWork, IsWorked};
 
 use crate::decisions::{Decision, Step};
 use crate::forcing::forced;
 use crate::placed::Table;
+use crate::room::Room;
 use crate::values::Values;
 use crate::waking::put;
+use crate::worklist::Worklist;
 use dip_names::Prov;
 use std::alloc::{AllocError, Global};
 
 /// Lists a decision, if it is open.
-fn list_one(values: &Values, work: &mut Vec<Decision>, d: Decision) -> Result<(), AllocError>
+fn list_one(values: &Values, work: &mut Worklist, d: Decision) -> Result<(), AllocError>
     ensures { OnOk result
-        (work.new.items ≡ work.old.items ++ opens (known_of values.now) (d ∷ [])) }
+        (HasOpen (known_of values.now) (d ∷ []) work.old work.new) }
 {
-    if values.look(&d).is_none() {
-        work.push(d)?;
+    if values.look(&d).is_none() && !work.has(&d) {
+        work.push(&d)?;
     }
     Ok(())
 }
 
 /// Lists what is open of a unit's decisions.
-fn list_unit(values: &Values, work: &mut Vec<Decision>, p: Prov) -> Result<(), AllocError>
+fn list_unit(values: &Values, work: &mut Worklist, p: Prov) -> Result<(), AllocError>
     ensures { OnOk result
-        (work.new.items ≡ work.old.items ++ opens (known_of values.now) (decisions (p ∷ []))) }
+        (HasOpen (known_of values.now) (decisions (p ∷ [])) work.old work.new) }
 {
     list_one(values, work, Decision::Move(p))?;
     list_one(values, work, Decision::Path(p))?;
@@ -41,11 +43,11 @@ pub(crate) fn work_at_start(
     alloc: Global,
     table: &Table,
     values: &Values,
-) -> Result<Vec<Decision>, AllocError>
+) -> Result<Worklist, AllocError>
     ensures { IfOk result
-        (λ v. v.items ≡ opens (known_of values.now) (decisions table.now.places.items)) }
+        (HasOpen (known_of values.now) (decisions table.now.places.items) []) }
 {
-    let mut work = Vec::with_capacity(alloc, table.places.len().saturating_mul(3))?;
+    let mut work = Worklist::with_capacity(alloc, table.places.len().saturating_mul(3))?;
     for place in &table.places {
         list_unit(values, &mut work, *place)?;
     }
@@ -56,14 +58,14 @@ pub(crate) fn work_at_start(
 pub(crate) fn put_moves(
     table: &Table,
     values: &Values,
-    work: &mut Vec<Decision>,
+    work: &mut Worklist,
     units: &[Prov],
 ) -> Result<(), AllocError>
     requires situation { IsSituation (situation_of table.now) }
     requires started { IsStarted (situation_of table.now) (known_of values.now) }
     ensures { OnOk result
-        (IsListed (situation_of table.now) (known_of values.now) (moves_of units.now) work.old.items
-        work.new.items) }
+        (IsListed (situation_of table.now) (known_of values.now) (moves_of units.now) work.old
+        work.new) }
 {
     for unit in units {
         put(table, values, work, &Decision::Move(*unit))?;
@@ -75,14 +77,14 @@ pub(crate) fn put_moves(
 pub(crate) fn put_paths(
     table: &Table,
     values: &Values,
-    work: &mut Vec<Decision>,
+    work: &mut Worklist,
     units: &[Prov],
 ) -> Result<(), AllocError>
     requires situation { IsSituation (situation_of table.now) }
     requires started { IsStarted (situation_of table.now) (known_of values.now) }
     ensures { OnOk result
-        (IsListed (situation_of table.now) (known_of values.now) (paths_of units.now) work.old.items
-        work.new.items) }
+        (IsListed (situation_of table.now) (known_of values.now) (paths_of units.now) work.old
+        work.new) }
 {
     for unit in units {
         put(table, values, work, &Decision::Path(*unit))?;
@@ -92,10 +94,10 @@ pub(crate) fn put_paths(
 
 /// Tests a decision that was taken from the list, if it is open.
 fn work_on(
-    alloc: Global,
+    room: &mut Room,
     table: &Table,
     values: &mut Values,
-    work: &mut Vec<Decision>,
+    work: &mut Worklist,
     tests: &mut u64,
     steps: &mut Vec<Step>,
     d: &Decision,
@@ -103,17 +105,17 @@ fn work_on(
     requires situation { IsSituation (situation_of table.now) }
     requires started { IsStarted (situation_of table.now) (known_of values.old) }
     requires work { IsWork (situation_of table.now) (known_of values.old)
-        (work.old.items ++ d.now ∷ []) tests.old }
+        (work.old ++ d.now ∷ []) tests.old }
     requires bound { decided_in (situation_of table.now) + mentions_in (situation_of table.now)
         < 2 ^ 64 }
     ensures worked { OnOk result
         (IsWorked (situation_of table.now) (steps_of steps.old.items) (known_of values.old)
-        (steps_of steps.new.items) (known_of values.new) work.new.items tests.new) }
+        (steps_of steps.new.items) (known_of values.new) work.new tests.new) }
     ensures counted { OnOk result
         (Counts (steps_of steps.old.items) tests.old (steps_of steps.new.items) tests.new) }
     ensures less { OnOk result
-        (length work.new.items + weight (mentioners (situation_of table.now)) (known_of values.new)
-        (decisions table.now.places.items) < length (work.old.items ++ d.now ∷ [])
+        (length work.new + weight (mentioners (situation_of table.now)) (known_of values.new)
+        (decisions table.now.places.items) < length (work.old ++ d.now ∷ [])
         + weight (mentioners (situation_of table.now)) (known_of values.old)
         (decisions table.now.places.items)) }
 {
@@ -121,7 +123,7 @@ fn work_on(
         return Ok(());
     }
     *tests += 1;
-    match forced(alloc, &*table, &*values, &*d)? {
+    match forced(room, &*table, &*values, &*d)? {
         None => Ok(()),
         Some(value) => {
             steps.push(Step::Forced(*d))?;
@@ -134,16 +136,16 @@ fn work_on(
 
 /// Tests what is on the list until nothing is.
 pub(crate) fn work_off(
-    alloc: Global,
+    room: &mut Room,
     table: &Table,
     values: &mut Values,
-    work: &mut Vec<Decision>,
+    work: &mut Worklist,
     tests: &mut u64,
     steps: &mut Vec<Step>,
 ) -> Result<(), AllocError>
     requires situation { IsSituation (situation_of table.now) }
     requires started { IsStarted (situation_of table.now) (known_of values.old) }
-    requires work { IsWork (situation_of table.now) (known_of values.old) work.old.items tests.old }
+    requires work { IsWork (situation_of table.now) (known_of values.old) work.old tests.old }
     requires bound { decided_in (situation_of table.now) + mentions_in (situation_of table.now)
         < 2 ^ 64 }
     ensures worked { OnOk result
@@ -151,10 +153,10 @@ pub(crate) fn work_off(
         (steps_of steps.new.items) (known_of values.new) [] tests.new) }
     ensures counted { OnOk result
         (Counts (steps_of steps.old.items) tests.old (steps_of steps.new.items) tests.new) }
-    ensures empty { OnOk result (work.new.items ≡ []) }
+    ensures empty { OnOk result (work.new ≡ []) }
 {
     while let Some(d) = work.pop() {
-        work_on(alloc, table, values, work, tests, steps, &d)?;
+        work_on(room, table, values, work, tests, steps, &d)?;
     }
     Ok(())
 }

@@ -5,7 +5,7 @@ use Rattle.dip_decide.proofs.Searches.{seek_first, seek_found, seek_on, seek_non
 use Rattle.dip_decide.proofs.chains.joins.Goals as goal
 
 pub loop-visited-init : goal.loop-visited-init
-loop-visited-init c = seek_first (situation_of c.args.table.now).next c.args.fleets.now c.args.to c.args.from _ (rw c.new-reached.ensures.items at c.in_ok-spread.ensures)
+loop-visited-init c = seek_first (situation_of c.args.table.now).next c.args.fleets.now c.args.to c.args.from _ (rw c.clear.ensures.items at c.in_ok-spread.ensures)
 
 pub returns-then-is_next : goal.returns-then-is_next
 returns-then-is_next c =

@@ -12,7 +12,7 @@ turns-init c =
     let s = situation_of c.args.table.now in (
       rw (c.in_ok-steps.ensures.items, c.requires.first) (nothing_yet (rule s) (mentions s) (at_first s)),
       (
-        rw (c.in_ok-work.ensures, c.requires.first, c.requires.untested) (work_first s c.requires.situation),
+        rw (c.requires.first, c.requires.untested) (work_first s c.requires.situation _ (rw c.requires.first at c.in_ok-work.ensures)),
         rw (c.in_ok-steps.ensures.items, c.requires.untested) counts_first,
       ),
     )
@@ -41,4 +41,4 @@ pub returns-clause-counted : goal.returns-clause-counted
 returns-clause-counted c = c.turns.invariant.1.1
 
 pub returns-clause-tested : goal.returns-clause-tested
-returns-clause-tested c = few_tests (situation_of c.args.table.now) (known_of c.turns.values) c.turns.work.items c.turns.tests c.turns.invariant.1.0
+returns-clause-tested c = few_tests (situation_of c.args.table.now) (known_of c.turns.values) c.turns.work c.turns.tests c.turns.invariant.1.0

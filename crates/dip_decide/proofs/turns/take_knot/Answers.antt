@@ -25,7 +25,7 @@ pub returns-clause-work : goal.returns-clause-work
 returns-clause-work c =
     let s = situation_of c.args.table.now in
     rw (c.break_paths.ensures, c.as_slice.ensures.value)
-    (knot_works s c.requires.situation (known_of c.args.values.now) c.requires.started c.args.units.items c.put_paths.new.work.items c.requires.knot (rw (c.break_paths.ensures, c.as_slice.ensures.value, c.as_slice-2.ensures.value, c.requires.empty) at c.in_ok-put_paths.ensures))
+    (knot_works s c.requires.situation (known_of c.args.values.now) c.requires.started c.args.units.items c.put_paths.new.work c.requires.knot (rw (c.break_paths.ensures, c.as_slice.ensures.value, c.as_slice-2.ensures.value, c.requires.empty) at c.in_ok-put_paths.ensures))
 
 pub returns-clause-unforced : goal.returns-clause-unforced
 returns-clause-unforced c = rw (c.in_ok-push.ensures.items, map_push) (none_more (steps_of c.args.steps.now.items) _ refl)

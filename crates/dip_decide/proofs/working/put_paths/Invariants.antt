@@ -5,4 +5,4 @@ use Rattle.dip_decide.specs.Working.{IsListed}
 use Rattle.dip_decide.proofs.working.put_paths.Given as goal
 
 abbrev pub invariant-loop-unit : goal.invariant-loop-unit
-invariant-loop-unit l = IsListed (situation_of l.table) (known_of l.values) (paths_of (take l.unit-index l.units)) l.fn.work.items l.work.items
+invariant-loop-unit l = IsListed (situation_of l.table) (known_of l.values) (paths_of (take l.unit-index l.units)) l.fn.work l.work

@@ -9,4 +9,4 @@ pub returns : goal.returns
 returns c =
     let s = situation_of c.args.self.now.table.now in
     let a = values c.args.self.now in
-    if_ok_more _ _ c.joins.result (λ b h. sought_joins (serves s a c.args.p) s.next s.places c.args.q c.args.p b (serving_listed s c.requires.situation a c.args.p) h) (rw (c.as_slice.ensures.value, c.in_ok-fleets.ensures) at c.joins.ensures)
+    if_ok_more _ _ c.joins.result (λ b h. sought_joins (serves s a c.args.p) s.next s.places c.args.q c.args.p b (serving_listed s c.requires.situation a c.args.p) h) (rw (c.as_slice.ensures.value, c.in_ok-write_fleets.ensures) at c.joins.ensures)

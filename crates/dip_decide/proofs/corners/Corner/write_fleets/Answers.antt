@@ -4,9 +4,9 @@ use Rattle.dip_decide.specs.Corners.{values}
 use Rattle.dip_decide.specs.Given.{situation_of}
 use Rattle.dip_decide.specs.Movement.{serves}
 use Rattle.dip_decide.proofs.Among.{serves_among}
-use Rattle.dip_decide.proofs.corners.Corner.fleets.Goals as goal
+use Rattle.dip_decide.proofs.corners.Corner.write_fleets.Goals as goal
 
 pub returns : goal.returns
 returns c =
     let kept = filter_same _ (serves (situation_of c.args.self.now.table.now) (values c.args.self.now) c.args.p) _ (λ x b f t. search rules) _ _ c.retain.ensures.filtered in
-    kept ∙ serves_among c.args.self.now.table.now (values c.args.self.now) c.args.p _ (c.in_ok-fleets.ensures ∙ c.carriers_of.ensures)
+    kept ∙ serves_among c.args.self.now.table.now (values c.args.self.now) c.args.p _ (c.in_ok-write_over.ensures ∙ c.carriers_of.ensures)

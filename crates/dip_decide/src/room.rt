@@ -1,0 +1,21 @@
+//! Lists that are made once a board, for one search after the other to write in.
+use dip_names::Prov;
+use std::alloc::{AllocError, Global};
+
+/// Room for the searches of a board; what is in it says nothing between two of them.
+#[derive(Drop)]
+pub(crate) struct Room {
+    /// Fleets that serve a move.
+    pub(crate) fleets: Vec<Prov>,
+    /// Provinces that a search came to.
+    pub(crate) trail: Vec<Prov>,
+}
+
+impl Room {
+    /// Room for searches among so many units.
+    pub(crate) fn with_capacity(alloc: Global, units: usize) -> Result<Room, AllocError> {
+        let fleets = Vec::with_capacity(alloc, units)?;
+        let trail = Vec::with_capacity(alloc, units)?;
+        Ok(Room { fleets, trail })
+    }
+}

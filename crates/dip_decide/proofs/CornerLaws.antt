@@ -2,7 +2,6 @@ use Rattle.std.proofs.Common.{◌≡◌, refl, sym, ◌∙◌, inl, inr}
 use Rattle.std.specs.Prelude.{Bool, true, false, Option, None, Some}
 use Rattle.std.proofs.lemmas.Bool.{cases_Bool, both_ways}
 use mathlib.Core.Logic.{◌⊎◌}
-use mathlib.Core.Bool.{beq}
 use Rattle.dip_decide.specs.declared.decisions.Decision.{Decision}
 use Rattle.dip_decide.specs.Corners.{at_corner, corner}
 use Rattle.dip_decide.proofs.OneAnswer.{alike}
@@ -73,9 +72,3 @@ pub agree : (rule : Equation) (d : Decision) (m r : Decision → Bool) → Rises
 agree rule d m r f a b g = alike _ _
     (f a b (record { up = λ e n _ h. sym (g e n) ∙ h; down = λ e n _ h. g e n ∙ h }))
     (f b a (record { up = λ e n _ h. g e n ∙ h; down = λ e n _ h. sym (g e n) ∙ h }))
-
-pub beq_is : (x y : Bool) → beq x y ≡ true → x ≡ y
-beq_is true true h = refl
-beq_is false false h = refl
-beq_is true false h = sym h
-beq_is false true h = h

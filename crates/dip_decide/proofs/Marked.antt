@@ -1,8 +1,8 @@
 -- The marks of a worklist, one after the other set and cleared.
-use Rattle.std.proofs.Common.{◌≡◌, ◌≢◌, ℕ, ◌+◌, ◌<◌, List, [], ◌∷◌, ◌++◌, length, replicate, zero, suc, arith, refl, sym, ap, ◌∙◌, inl, inr}
-use Rattle.std.specs.Prelude.{◌==◌, ◌||◌, Bool, true, false}
+use Rattle.std.proofs.Common.{◌≡◌, ◌≢◌, ℕ, ◌<◌, List, [], ◌∷◌, ◌++◌, length, replicate, zero, suc, arith, refl, sym, ap, ◌∙◌, inl, inr}
+use Rattle.std.specs.Prelude.{◌||◌, Bool, true, false}
 use Rattle.std.specs.List.{slice_index_or, slice_set}
-use Rattle.std.proofs.lemmas.Bool.{cases_Bool, both_ways, ne_eqb, eq-eqb, eqb-true, or_cases, or_left, or_right}
+use Rattle.std.proofs.lemmas.Bool.{cases_Bool, both_ways, eq-eqb, or_left, or_right}
 use mathlib.Core.Logic.{◌⊎◌}
 use Rattle.dip_decide.specs.declared.decisions.Decision.{Decision}
 use Rattle.dip_decide.specs.declared.decisions.Decision.TheVariants.{Move, Path, Support}

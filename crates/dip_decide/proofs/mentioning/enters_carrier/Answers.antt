@@ -1,4 +1,4 @@
-use Rattle.std.proofs.Common.{sym, ◌∙◌}
+use Rattle.std.proofs.Common.{◌∙◌}
 use Rattle.dip_decide.specs.Given.{situation_of}
 use Rattle.dip_decide.proofs.Mentioners.{any_at, none_at}
 use Rattle.dip_decide.proofs.Standing.{carrying_listed, and_when}

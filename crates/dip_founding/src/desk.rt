@@ -1,6 +1,6 @@
 //! The master's row, as one who opens the store reads it.
-ghost use Rattle.std.specs.Prelude.{◌≡◌, ◌<◌, ◌^◌, ℕ, IfErr, IfOk, List, length, option_map, pos};
-ghost use Rattle.std.specs.List.{AllByRecursion, find};
+ghost use Rattle.std.specs.Prelude.{◌≡◌, ◌<◌, ◌^◌, ℕ, IfErr, IfOk, IfSome, List, length, option_map, pos};
+ghost use Rattle.std.specs.List.{find};
 ghost use Rattle.sqlite.specs.declared.types.Value.TheVariants.{Int, Blob as Bytes};
 ghost use Rattle.sqlite.specs.Order.{bytes, column};
 ghost use Rattle.dip_chart.specs.Charts.{Chart};
@@ -81,7 +81,7 @@ pub fn read_desk<S: Alter>(conn: &mut Connection<S>) -> Result<Option<DeskColumn
     ensures selects { Selects S.Store conn.old conn.new result }
     ensures own { IsKept S.Store conn.old → does_show S.Store conn.old → is_honest S.Store conn.new
         → (m : Chart) → AreOurs m (tables_in S.Store conn.old)
-        → AllByRecursion IsMarked (tables_in S.Store conn.old).desk
+        → IfSome (find is_first (tables_in S.Store conn.old).desk) IsMarked
         → IfErr result (IsFromOutside (has_faulted S.Store conn.old conn.new)) }
 {
     let Some(row) = find_desk(conn)? else {

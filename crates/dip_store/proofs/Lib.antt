@@ -4,3 +4,4 @@ pub mod Looking
 pub mod Made
 pub mod Opened
 pub mod Outside
+pub mod Refused

@@ -1,3 +1,4 @@
 pub mod Faults
 pub mod Opening
+pub mod Refusing
 pub mod Stored

@@ -1,8 +1,16 @@
 //! What is looked at before a store is opened.
-ghost use Rattle.std.specs.Prelude.{◌≡◌, OnOk};
+ghost use Rattle.std.specs.Prelude.{◌≡◌, IfErr, OnOk};
+ghost use Rattle.std.specs.List.{find};
 ghost use Rattle.sha2.specs.Sha256.{sha256};
+ghost use Rattle.sqlite.specs.Held.{state};
+ghost use Rattle.dip_chart.specs.Charts.{Chart};
+ghost use Rattle.dip_schema.specs.Schema.{our_schema};
 ghost use Rattle.dip_founding.specs.Desk.{DeskSays};
+ghost use Rattle.dip_founding.specs.Known.{HasOurTables};
+ghost use Rattle.dip_legible.specs.Legible.{AreOurs};
 ghost use Rattle.dip_rows.specs.Calls.{IsKept, Selects, does_show, is_honest, tables_in};
+ghost use Rattle.dip_rows.specs.Statements.{is_first};
+ghost use Rattle.dip_store.specs.Refusing.{Differs, IsOutage, IsRefused};
 
 use crate::faults::{StoreFault, desk_fault, open_fault};
 use dip_founding::{DeskColumns, knows_all, read_desk};
@@ -15,6 +23,11 @@ pub const VERSION: u32 = 1;
 /// The eight tables are there.
 fn check_tables<S: Alter>(conn: &mut Connection<S>) -> Result<(), StoreFault>
     ensures shown { is_honest S.Store conn.new → OnOk result (does_show S.Store conn.old) }
+    ensures known { is_honest S.Store conn.new
+        → OnOk result (HasOurTables (state S.Store conn.old).now.schema) }
+    ensures ours { is_honest S.Store conn.new → (state S.Store conn.old).now.schema ≡ our_schema
+        → IfErr result IsOutage }
+    ensures tables_alone { IfErr result (λ f. f ≡ StoreFault.OtherMap → ⊥) }
     ensures selects { Selects S.Store conn.old conn.new result }
 {
     match knows_all(conn) {
@@ -26,8 +39,9 @@ fn check_tables<S: Alter>(conn: &mut Connection<S>) -> Result<(), StoreFault>
 
 /// The master's row is of this version, and says this map.
 fn check_columns(columns: &DeskColumns, map_text: &str) -> Result<(), StoreFault>
-    ensures { OnOk result
+    ensures is { OnOk result
         ((columns.now.version ≡ 1) × (columns.now.map_sum ≡ sha256 map_text.now)) }
+    ensures differs { IfErr result (Differs columns.now (sha256 map_text.now)) }
 {
     if columns.version != VERSION {
         return Err(StoreFault::OtherSchema);
@@ -42,6 +56,10 @@ fn check_columns(columns: &DeskColumns, map_text: &str) -> Result<(), StoreFault
 fn check_row<S: Alter>(conn: &mut Connection<S>, map_text: &str) -> Result<(), StoreFault>
     ensures says { IsKept S.Store conn.old → is_honest S.Store conn.new
         → OnOk result (DeskSays 1 (sha256 map_text.now) (tables_in S.Store conn.old)) }
+    ensures refused { IsKept S.Store conn.old → does_show S.Store conn.old
+        → is_honest S.Store conn.new → (m : Chart) → AreOurs m (tables_in S.Store conn.old)
+        → IfErr result (IsRefused (sha256 map_text.now)
+        (find is_first (tables_in S.Store conn.old).desk)) }
     ensures selects { Selects S.Store conn.old conn.new result }
 {
     match read_desk(conn) {
@@ -59,6 +77,15 @@ pub(crate) fn check_desk<S: Alter>(
     ensures says { IsKept S.Store conn.old → is_honest S.Store conn.new
         → OnOk result (DeskSays 1 (sha256 map_text.now) (tables_in S.Store conn.old)) }
     ensures shown { is_honest S.Store conn.new → OnOk result (does_show S.Store conn.old) }
+    ensures known { is_honest S.Store conn.new
+        → OnOk result (HasOurTables (state S.Store conn.old).now.schema) }
+    ensures known_first { is_honest S.Store conn.new → IfErr result (λ f.
+        f ≡ StoreFault.OtherMap → HasOurTables (state S.Store conn.old).now.schema) }
+    ensures refused { (does_show S.Store conn.old → IsKept S.Store conn.old)
+        → is_honest S.Store conn.new → (state S.Store conn.old).now.schema ≡ our_schema
+        → (m : Chart) → AreOurs m (tables_in S.Store conn.old)
+        → IfErr result (IsRefused (sha256 map_text.now)
+        (find is_first (tables_in S.Store conn.old).desk)) }
     ensures selects { Selects S.Store conn.old conn.new result }
 {
     check_tables(conn)?;

@@ -1,12 +1,16 @@
 //! A keeper over a store that is made, or opened.
 ghost use Rattle.std.specs.Prelude.{◌≡◌, [], IfErr, IfOk, IsTrue, None, false, length};
+ghost use Rattle.std.specs.List.{find};
 ghost use Rattle.sha2.specs.Sha256.{sha256};
 ghost use Rattle.sqlite.specs.Held.{state};
 ghost use Rattle.sqlite.specs.Tree.{Trees};
 ghost use Rattle.dip_schema.specs.Creating.{no_schema};
 ghost use Rattle.dip_founding.specs.Desk.{DeskSays};
+ghost use Rattle.dip_founding.specs.Known.{HasOurTables};
 ghost use Rattle.dip_rows.specs.Calls.{does_show, is_honest, tables_in};
+ghost use Rattle.dip_rows.specs.Statements.{is_first};
 ghost use Rattle.dip_store.specs.Opening.{IsStore, MayFound, Opens};
+ghost use Rattle.dip_store.specs.Refusing.{IsOutage, IsRefused};
 ghost use Rattle.dip_store.specs.Stored.{book, said_by};
 ghost use Rattle.dip_tables.specs.Writing.{new_tables};
 
@@ -100,8 +104,9 @@ impl<S: Alter> SqlKeeper<S> {
     /// Opens a store in which `create` has made a desk's tables with this map's text.
     ///
     /// # Errors
-    /// `OtherSchema` where a table isn't there, or the master's row isn't or is of another version; then `OtherMap`; `Memory`; `Disk`
-    /// also for a store with a transaction under way. The store is handed back, and nothing of it changes.
+    /// `OtherSchema` exactly where a table isn't there, or the master's row isn't or is of another version; then `OtherMap` exactly
+    /// where that row says another map; `Memory`; `Disk` also for a store with a transaction under way. The store is handed back, and
+    /// nothing of it changes.
     pub fn open(
         alloc: Global,
         store: Connection<S>,
@@ -115,6 +120,16 @@ impl<S: Alter> SqlKeeper<S> {
         ensures says { IfOk result (λ k. is_honest S.Store k.conn
             → IsStore map.now (state S.Store store).now
             → DeskSays 1 (sha256 map_text.now) (tables_in S.Store store)) }
+        ensures known { IfOk result (λ k. is_honest S.Store k.conn
+            → HasOurTables (state S.Store store).now.schema) }
+        ensures known_first { IfErr result (λ e. is_honest S.Store e.1
+            → e.0 ≡ StoreFault.OtherMap → HasOurTables (state S.Store store).now.schema) }
+        ensures refused { IfErr result (λ e. is_honest S.Store e.1
+            → IsStore map.now (state S.Store store).now → IsRefused (sha256 map_text.now)
+            (find is_first (tables_in S.Store store).desk) e.0) }
+        ensures own { IfErr result (λ e. is_honest S.Store e.1
+            → IsStore map.now (state S.Store store).now
+            → DeskSays 1 (sha256 map_text.now) (tables_in S.Store store) → IsOutage e.0) }
         ensures same { IfErr result (λ e. does_show S.Store e.1
             → IsStore map.now (state S.Store store).now
             → (state S.Store e.1).committed ≡ (state S.Store store).committed) }

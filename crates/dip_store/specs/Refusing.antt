@@ -1,0 +1,28 @@
+-- Why a store isn't opened.
+use Rattle.std.specs.Prelude.{◌≡◌, ℕ, List, Option, Some}
+use Rattle.dip_tables.specs.Tables.{DeskRow}
+use Rattle.dip_founding.specs.Desk.{IsMarked}
+use Rattle.dip_founding.specs.declared.desk.DeskColumns.{DeskColumns}
+use Rattle.dip_store.specs.declared.faults.StoreFault.{StoreFault}
+use Rattle.dip_store.specs.declared.faults.StoreFault.TheVariants.{Memory, Disk, OtherMap, OtherSchema}
+
+-- for want of memory, or by the disk
+abbrev pub IsOutage : StoreFault → Type 0
+IsOutage Memory = Unit {0}
+IsOutage Disk = Unit {0}
+IsOutage _ = ⊥
+
+-- by what the master's row says: another version, or else another map than this
+abbrev pub Differs : DeskColumns → List ℕ → StoreFault → Type 0
+Differs c map_sum OtherSchema = c.version ≡ 1 → ⊥
+Differs c map_sum OtherMap = (c.version ≡ 1) × (c.map_sum ≡ map_sum → ⊥)
+Differs c map_sum _ = ⊥
+
+-- where the tables are there, by their master's row, if they have one: there is none of this version; or there is, and it says
+-- another map than this
+abbrev pub IsRefused : List ℕ → Option DeskRow → StoreFault → Type 0
+IsRefused map_sum row OtherSchema =
+    (d : DeskRow) → row ≡ Some d → IsMarked d → d.version ≡ 1 → ⊥
+IsRefused map_sum row OtherMap =
+    (d : DeskRow) × (row ≡ Some d) × (d.version ≡ 1) × (d.map ≡ map_sum → ⊥)
+IsRefused map_sum row _ = Unit {0}

@@ -252,7 +252,8 @@ impl Corner<'_> {
     /// Writes the fleets that serve the move of a unit over a list.
     fn write_fleets(&self, fleets: &mut Vec<Prov>, p: Prov) -> Result<(), AllocError>
         ensures { OnOk result
-            (fleets.new.items ≡ filter (serves (situation_of self.now.table.now) (values self.now) p)
+            (fleets.new.items
+            ≡ filter (serves (situation_of self.now.table.now) (values self.now) p)
             self.now.table.now.places.items) }
     {
         write_over(fleets, self.table.carriers_of(p))?;

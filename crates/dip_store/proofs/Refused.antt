@@ -1,11 +1,8 @@
 -- Why a store isn't opened, by what was told of its tables and of its master's row.
-use Rattle.std.proofs.Common.{◌≡◌, ◌<◌, ◌^◌, ℕ, List, Option, Some, None, IfSome, IsTrue, true, false, length, option_map, refl, sym, ap, subst, ◌∙◌, inl, inr, arith}
+use Rattle.std.proofs.Common.{◌≡◌, ◌<◌, ◌^◌, ℕ, List, Option, Some, None, IfSome, true, false, length, option_map, refl, sym, ap, subst, ◌∙◌, inl, inr, arith}
 use Rattle.std.specs.List.{find}
 use Rattle.sha2.specs.Sha256.{sha256}
 use Rattle.sha2.proofs.Facts256.{length-sha256}
-use Rattle.sqlite.specs.State.{is_disk_error}
-use Rattle.sqlite.specs.Store.{Ghosts}
-use Rattle.sqlite.specs.Held.{Held, state}
 use Rattle.sqlite.specs.declared.error.Error.{Error}
 use Rattle.sqlite.specs.declared.error.Error.TheVariants.{SqliteFailure}
 use Rattle.sqlite.specs.declared.error.ErrorCode.{ErrorCode}
@@ -15,7 +12,6 @@ use Rattle.dip_founding.specs.Faults.{IsFromOutside}
 use Rattle.dip_founding.specs.declared.desk.DeskColumns.{DeskColumns}
 use Rattle.dip_founding.specs.declared.faults.DeskFault.{DeskFault}
 use Rattle.dip_founding.specs.declared.faults.DeskFault.TheVariants.{Query, Foreign}
-use Rattle.dip_rows.specs.Calls.{tables_in}
 use Rattle.dip_rows.specs.Causes.{IsCaused}
 use Rattle.dip_rows.specs.Statements.{is_first}
 use Rattle.dip_tables.specs.Tables.{DeskRow, Tables}
@@ -100,14 +96,10 @@ own_outage text t Memory says w = tt
 own_outage text t Disk says w = tt
 own_outage text t OtherMap says w =
     let found = says.found in
-    let at = w.1.0 in
+    let at = w.1 in
     let there : says.desk ≡ w.0 = cc in
-    w.1.1.1 (ap (λ (x : DeskRow). x.map) (sym there) ∙ says.map_is)
+    absurd (w.3 (ap (λ (x : DeskRow). x.map) (sym there) ∙ says.map_is))
 own_outage text t OtherSchema says w =
     let v = says.version_is in
     let low : says.desk.version < 2 ^ 32 = omega (arith, v) in
     w says.desk says.found (low, ap length says.map_is ∙ length-sha256 text) v
-
--- a connection without its limit of steps has the same state
-pub same_state : {S : Type 0} (g : Ghosts S) (store h : Held S) → h ≡ record store { step_limit = None } → state g h ≡ state g store
-same_state g store h is = subst (λ (x : Held _). state g x ≡ state g store) (sym is) refl

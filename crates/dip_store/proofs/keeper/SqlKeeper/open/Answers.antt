@@ -1,7 +1,13 @@
 use Rattle.std.proofs.Common.{subst}
+use Rattle.std.specs.List.{find}
 use Rattle.sha2.specs.Sha256.{sha256}
 use Rattle.dip_founding.specs.Desk.{DeskSays}
-use Rattle.dip_store.proofs.Opened.{kept_from, opens_old}
+use Rattle.dip_rows.specs.Calls.{tables_in}
+use Rattle.dip_rows.specs.Statements.{is_first}
+use Rattle.dip_tables.specs.Tables.{Tables}
+use Rattle.dip_store.specs.Refusing.{IsRefused}
+use Rattle.dip_store.proofs.Opened.{kept_from, known_there, opens_old, there}
+use Rattle.dip_store.proofs.Refused.{own_outage}
 use Rattle.dip_store.proofs.keeper.SqlKeeper.open.Goals as goal
 
 pub returns-in-Ok-clause-opened : goal.returns-in-Ok-clause-opened
@@ -14,6 +20,25 @@ pub returns-in-Ok-clause-says : goal.returns-in-Ok-clause-says
 returns-in-Ok-clause-says g c =
     rw c.over.ensures
     (λ clean own.
-    let kept = kept_from g.S.Store c.args.map.now c.args.alloc c.check_desk.new.conn c.commits_last.ensures c.args.store own c.set_step_limit.new.self c.set_step_limit.ensures
+    let kept = kept_from g.S.Store c.args.map.now c.args.store own c.set_step_limit.new.self c.set_step_limit.ensures
     c.is_autocommit.result (c.is_autocommit.ensures.value, c.is_autocommit.ensures.settled, c.if-not-is_autocommit.false, c.in-Ok.ensures.shown clean) in
     subst (DeskSays 1 (sha256 c.args.map_text.now)) kept.1 (c.in-Ok.ensures.says kept.0 clean))
+
+pub returns-in-Ok-clause-known : goal.returns-in-Ok-clause-known
+returns-in-Ok-clause-known g c =
+    rw c.over.ensures (λ clean. known_there c.args.store c.set_step_limit.new.self c.set_step_limit.ensures (c.in-Ok.ensures.known clean))
+
+pub returns-in-Err-clause-known_first : goal.returns-in-Err-clause-known_first
+returns-in-Err-clause-known_first g c clean is =
+    known_there c.args.store c.set_step_limit.new.self c.set_step_limit.ensures (c.in-Err.ensures.known_first clean is)
+
+pub returns-in-Err-clause-own : goal.returns-in-Err-clause-own
+returns-in-Err-clause-own g c clean own says =
+    let text = c.args.map_text.now in
+    let it = there g.S.Store c.args.map.now c.args.store own c.set_step_limit.new.self c.set_step_limit.ensures in
+    let refused = c.in-Err.ensures.refused
+    (λ shows. (kept_from g.S.Store c.args.map.now c.args.store own c.set_step_limit.new.self c.set_step_limit.ensures
+    c.is_autocommit.result (c.is_autocommit.ensures.value, c.is_autocommit.ensures.settled, c.if-not-is_autocommit.false, shows)).0)
+    clean it.1 c.args.map.now it.2 in
+    own_outage text (tables_in g.S.Store c.args.store) c.in-Err.fault says
+    (subst (λ (t : Tables). IsRefused (sha256 text) (find is_first t.desk) c.in-Err.fault) it.0 refused)

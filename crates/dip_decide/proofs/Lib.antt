@@ -21,6 +21,7 @@ pub mod Tested
 pub mod Searches
 pub mod Mentioners
 pub mod Commuting
+mod Backing
 mod Among
 mod Taken
 mod Woken

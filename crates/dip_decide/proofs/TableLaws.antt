@@ -15,8 +15,9 @@ use Rattle.dip_decide.specs.declared.decisions.Decision.TheVariants.{Move, Path,
 use Rattle.dip_decide.specs.declared.placed.Table.{Table}
 use Rattle.dip_decide.specs.declared.values.Values.{Values}
 use Rattle.dip_decide.specs.Movement.{at_first, is_listed}
-use Rattle.dip_decide.specs.Placed.{entry}
+use Rattle.dip_decide.specs.Placed.{backed_of, entry}
 use Rattle.dip_decide.specs.Given.{rows_of, situation_of, known_of, at_start, moves_at_start, paths_at_start, supports_at_start}
+use Rattle.dip_decide.proofs.Mentioners.{backs_some}
 
 -- the row of a province that is counted, and of one behind them
 entry_within : (orders : List PlacedOrder) (a k p : ℕ) → p < k → entry (map (order_at orders) (range_with_len a k)) p ≡ order_at orders (a + p)
@@ -77,6 +78,13 @@ paths_told t = ap (map at_start) t.sailing ∙ twice t.rows.items
     twice : (rows : List (Option PlacedOrder)) → map at_start (map (is_convoyed t.map.now) rows) ≡ map (λ row. at_start (is_convoyed t.map.now row)) rows
     twice [] = refl
     twice (r ∷ rows) = ap (λ xs. at_start (is_convoyed t.map.now r) ∷ xs) (twice rows)
+
+pub supports_told : (t : Table) → map (λ b. at_start (is_some b)) t.backed.items ≡ supports_at_start t t.rows.items
+supports_told t = ap (map (λ b. at_start (is_some b))) t.backing ∙ twice t.rows.items
+  where
+    twice : (rows : List (Option PlacedOrder)) → map (λ b. at_start (is_some b)) (map (backed_of (entry t.rows.items)) rows) ≡ supports_at_start t rows
+    twice [] = refl
+    twice (r ∷ rows) = rw (backs_some t r, twice rows) refl
 
 pub seen_law : (m : Chart) (orders : List PlacedOrder) (places : List ℕ) (rows : List (Option PlacedOrder)) → places ≡ provinces_of orders → rows ≡ rows_of orders m
     → All (λ o. o.unit.place.prov < length m.provinces) orders → situation_by m places (entry rows) ≡ situation m orders

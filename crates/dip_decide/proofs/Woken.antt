@@ -11,13 +11,14 @@ use Rattle.dip_decide.specs.Deciding.{same, is_among}
 use Rattle.dip_decide.specs.Given.{situation_of}
 use Rattle.dip_decide.specs.Matching.{target_of}
 use Rattle.dip_decide.specs.Movement.{IsSituation, goes, has_move, head_to_head, is_at, mentions, move_mentions}
-use Rattle.dip_decide.specs.Placed.{entry, helped_of, carried_of, keyed_by}
+use Rattle.dip_decide.specs.Placed.{backed_of, entry, carried_of, keyed_by}
 use Rattle.dip_decide.specs.Waking.{moves_into, past_support, woken}
 use Rattle.dip_decide.proofs.OneAnswer.{same_self}
 use Rattle.dip_decide.proofs.Progress.{is_at_is, at_is, find}
 use Rattle.dip_decide.proofs.RingLaws.{among_moves}
 use Rattle.dip_decide.proofs.ChainLaws.{listed_kept}
-use Rattle.dip_decide.proofs.Among.{supports_helped, convoys_carried}
+use Rattle.dip_decide.proofs.Among.{convoys_carried}
+use Rattle.dip_decide.proofs.Backing.{backs}
 
 among_left : (d : Decision) (ds es : List Decision) → is_among d ds ≡ true → is_among d (ds ++ es) ≡ true
 among_left d [] es h = absurd (both_ways false refl h)
@@ -36,8 +37,8 @@ module _ (t : Table) (i : IsSituation (situation_of t)) where
   mover : (p q : ℕ) → goes (situation_of t) p q ≡ true → is_among (Move p) (moves_into t q) ≡ true
   mover p q g = among_moves (keyed_by target_of t.places.items t.rows.items q) p ∙ listed_kept (λ w. is_at (target_of (entry t.rows.items w)) q) t.places.items p ∙ and_from _ _ g (i.listed p q g)
 
-  helper : (h p : ℕ) → (situation_of t).supports h p ≡ true → helped_of (entry t.rows.items h) ≡ Some p
-  helper h p g = is_at_is _ p (supports_helped (entry t.rows.items) (entry t.rows.items h) p g)
+  helper : (h p : ℕ) → (situation_of t).supports h p ≡ true → backed_of (entry t.rows.items) (entry t.rows.items h) ≡ Some p
+  helper h p g = is_at_is _ p (backs (entry t.rows.items) (entry t.rows.items h) p ∙ g)
 
   carrier : (x p : ℕ) → (situation_of t).convoys x p ≡ true → carried_of (entry t.rows.items x) ≡ Some p
   carrier x p g = is_at_is _ p (convoys_carried t.map.now (entry t.rows.items) (entry t.rows.items x) p g)
@@ -54,7 +55,7 @@ module _ (t : Table) (i : IsSituation (situation_of t)) where
       there : goes (situation_of t) p q ≡ true
       there = at_is _ q o
 
-      go : (list_any (λ w. (situation_of t).supports h w && goes (situation_of t) w q) t.places.items ≡ true) ⊎ (((situation_of t).supports h q && (not (has_move (situation_of t) q) || head_to_head (situation_of t) p q)) ≡ true) → is_among (Move p) (past_support t (helped_of (entry t.rows.items h))) ≡ true
+      go : (list_any (λ w. (situation_of t).supports h w && goes (situation_of t) w q) t.places.items ≡ true) ⊎ (((situation_of t).supports h q && (not (has_move (situation_of t) q) || head_to_head (situation_of t) p q)) ≡ true) → is_among (Move p) (past_support t (backed_of (entry t.rows.items) (entry t.rows.items h))) ≡ true
       go (inl a) =
           let f = find (λ w. (situation_of t).supports h w && goes (situation_of t) w q) t.places.items a in
           let b = and_parts _ _ f.passes in

@@ -1,12 +1,12 @@
 -- The units of a table by what their orders name.
-use Rattle.std.specs.Prelude.{ℕ, Bool, List, filter, map, Option, None, Some}
+use Rattle.std.specs.Prelude.{ℕ, Bool, List, filter, map, Option, None, Some, if◌then◌else◌}
 use Rattle.std.specs.List.{slice_get}
 use Rattle.std.specs.Option.{unwrap_or}
 use Rattle.dip_orders.specs.declared.placed.Order.{Order}
 use Rattle.dip_orders.specs.declared.placed.Order.TheVariants.{SupportHold, SupportMove, Convoy}
 use Rattle.dip_orders.specs.declared.placed.PlacedOrder.{PlacedOrder}
 use Rattle.dip_chart.specs.Charts.{Chart}
-use Rattle.dip_decide.specs.Matching.{is_convoyed, target_of}
+use Rattle.dip_decide.specs.Matching.{Standing, is_convoyed, is_matched, target_of}
 use Rattle.dip_decide.specs.Movement.{is_at}
 
 -- what a list has for a province, if it has something
@@ -26,9 +26,19 @@ helped (SupportHold at) = Some at.prov
 helped (SupportMove at to) = Some at.prov
 helped _ = None
 
-abbrev pub helped_of : Option PlacedOrder → Option ℕ
-helped_of None = None
-helped_of (Some o) = helped o.order
+-- one, if that holds of it
+abbrev pub only_if : (ℕ → Bool) → Option ℕ → Option ℕ
+only_if f None = None
+only_if f (Some p) = if f p then Some p else None
+
+-- the unit that an order supports, if that matches
+abbrev pub backed_of : Standing → Option PlacedOrder → Option ℕ
+backed_of who None = None
+backed_of who (Some o) = only_if (is_matched who o.order) (helped o.order)
+
+-- whom the unit of each row supports, if that matches
+abbrev pub backings_of : List (Option PlacedOrder) → List (Option ℕ)
+backings_of rows = map (backed_of (entry rows)) rows
 
 -- the unit that an order convoys, whether it matches or not
 abbrev pub carried : Order → Option ℕ

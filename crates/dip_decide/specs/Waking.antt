@@ -4,7 +4,7 @@ use Rattle.dip_decide.specs.declared.decisions.Decision.{Decision}
 use Rattle.dip_decide.specs.declared.decisions.Decision.TheVariants.{Move, Path, Support}
 use Rattle.dip_decide.specs.declared.placed.Table.{Table}
 use Rattle.dip_decide.specs.Matching.{target_of}
-use Rattle.dip_decide.specs.Placed.{entry, helped_of, carried_of, keyed_by}
+use Rattle.dip_decide.specs.Placed.{entry, backed_of, carried_of, keyed_by}
 use Rattle.dip_decide.specs.Steps.{moves_of}
 
 -- the moves into q
@@ -40,4 +40,4 @@ past_support t (Some w) = moves_into t w ++ moves_to t (target_of (entry t.rows.
 abbrev pub woken : Table → Decision → List Decision
 woken t (Move x) = moves_into t x ++ at_target t (target_of (entry t.rows.items x))
 woken t (Path w) = past_path t (target_of (entry t.rows.items w))
-woken t (Support h) = past_support t (helped_of (entry t.rows.items h))
+woken t (Support h) = past_support t (backed_of (entry t.rows.items) (entry t.rows.items h))

@@ -60,44 +60,38 @@ impl Corner<'_> {
         !self.table.is_convoyed(p) || self.value(&Decision::Path(p))
     }
 
-    /// How many of these have a given support for a unit.
-    fn support_of(&self, helpers: &[Prov], p: Prov) -> usize
-        ensures { result ≡ count_by
-            (λ h. (situation_of self.now.table.now).supports h p && values self.now (Support h))
-            helpers.now }
+    /// How many of these have a support that is given.
+    fn given_of(&self, helpers: &[Prov]) -> usize
+        ensures { result ≡ count_by (λ h. values self.now (Support h)) helpers.now }
     {
         helpers
             .iter()
-            .filter(|h| self.table.supports(**h, p) && self.value(&Decision::Support(**h)))
+            .filter(|h| self.value(&Decision::Support(**h)))
             .count()
     }
 
     fn support(&self, p: Prov) -> usize
         ensures { result ≡ support (situation_of self.now.table.now) (values self.now) p }
     {
-        self.support_of(self.table.helpers_of(p), p)
+        self.given_of(self.table.helpers_of(p))
     }
 
-    /// How many of these have a given support for a unit, but for those of the power of another.
-    fn support_of_others(&self, helpers: &[Prov], p: Prov, q: Prov) -> usize
+    /// How many of these have a support that is given, but for those of the power of another.
+    fn given_of_others(&self, helpers: &[Prov], q: Prov) -> usize
         ensures { result ≡ count_by
-            (λ h. ((situation_of self.now.table.now).supports h p && values self.now (Support h))
+            (λ h. values self.now (Support h)
             && not ((situation_of self.now.table.now).same_power h q)) helpers.now }
     {
         helpers
             .iter()
-            .filter(|h| {
-                self.table.supports(**h, p)
-                    && self.value(&Decision::Support(**h))
-                    && !self.table.same_power(**h, q)
-            })
+            .filter(|h| { self.value(&Decision::Support(**h)) && !self.table.same_power(**h, q) })
             .count()
     }
 
     fn support_against(&self, p: Prov, q: Prov) -> usize
         ensures { result ≡ support_against (situation_of self.now.table.now) (values self.now) p q }
     {
-        self.support_of_others(self.table.helpers_of(p), p, q)
+        self.given_of_others(self.table.helpers_of(p), q)
     }
 
     fn attack(&self, p: Prov, q: Prov) -> usize

@@ -4,8 +4,8 @@ ghost use Rattle.std.specs.List.{list_any};
 ghost use Rattle.dip_chart.specs.Charts.{province, shore};
 ghost use Rattle.dip_names.specs.Kinds.{is_kind, is_sea};
 ghost use Rattle.dip_decide.specs.Given.{situation_of};
-ghost use Rattle.dip_decide.specs.Placed.{entry, helped, helped_of, carried, carried_of, keyed_by};
-ghost use Rattle.dip_decide.specs.Matching.{destination, target_of, goes_by_convoy, is_convoyed, is_there, is_matched, supports_in, direction, is_carried, convoys_in, is_sea_next};
+ghost use Rattle.dip_decide.specs.Placed.{backed_of, carried, carried_of, entry, helped, keyed_by, only_if};
+ghost use Rattle.dip_decide.specs.Matching.{destination, target_of, goes_by_convoy, is_convoyed, is_there, is_matched, direction, is_carried, convoys_in, is_sea_next};
 ghost use Rattle.dip_decide.specs.Movement.{goes, head_to_head, has_move, is_at, is_support};
 
 use crate::placed::Table;
@@ -53,12 +53,73 @@ fn helped(order: Order) -> Option<Prov>
     }
 }
 
-/// The unit that one supports that has this order, if one is there.
-pub(crate) fn helped_of(row: &Option<PlacedOrder>) -> Option<Prov>
-    ensures { result ≡ helped_of row.now }
+/// The order of the unit in a province, out of the rows of all.
+fn order_in(rows: &[Option<PlacedOrder>], p: Prov) -> Option<PlacedOrder>
+    ensures { result ≡ entry rows.now p }
+{
+    match rows.get(usize::from(p.index())) {
+        Some(order) => *order,
+        None => None,
+    }
+}
+
+/// Whether the unit that a support or a convoy names is the one in a province.
+fn is_there(at: Other, row: &Option<PlacedOrder>) -> bool
+    ensures { result ≡ is_there at row.now }
 {
     match row {
-        Some(placed) => helped(placed.order),
+        Some(placed) => placed.unit.kind.is(at.kind),
+        None => false,
+    }
+}
+
+/// Whether a unit with this order goes to a province.
+fn is_sent_to(row: &Option<PlacedOrder>, q: Prov) -> bool
+    ensures { result ≡ is_at (target_of row.now) q }
+{
+    match target_of(row) {
+        Some(to) => to == q,
+        None => false,
+    }
+}
+
+/// Whether an order is a support of the unit in a province, and matches.
+fn is_matched(rows: &[Option<PlacedOrder>], order: Order, p: Prov) -> bool
+    ensures { result ≡ is_matched (entry rows.now) order p }
+{
+    let row = order_in(rows, p);
+    match order {
+        Order::SupportHold { at } => {
+            at.prov == p && is_there(at, &row) && target_of(&row).is_none()
+        }
+        Order::SupportMove { at, to } => {
+            at.prov == p && is_there(at, &row) && is_sent_to(&row, to)
+        }
+        _ => false,
+    }
+}
+
+/// The unit that an order supports, if that matches.
+fn backed(rows: &[Option<PlacedOrder>], placed: &PlacedOrder) -> Option<Prov>
+    ensures { result ≡ only_if (is_matched (entry rows.now) placed.now.order)
+        (helped placed.now.order) }
+{
+    match helped(placed.order) {
+        Some(p) => if is_matched(rows, placed.order, p) {
+            Some(p)
+        } else {
+            None
+        },
+        None => None,
+    }
+}
+
+/// The unit that one supports that has this order, if one is there and that matches.
+pub(crate) fn backed_of(rows: &[Option<PlacedOrder>], row: &Option<PlacedOrder>) -> Option<Prov>
+    ensures { result ≡ backed_of (entry rows.now) row.now }
+{
+    match row {
+        Some(placed) => backed(rows, placed),
         None => None,
     }
 }
@@ -134,10 +195,7 @@ impl Table<'_> {
     fn order(&self, p: Prov) -> Option<PlacedOrder>
         ensures { result ≡ entry self.now.rows.items p }
     {
-        match self.rows.get(usize::from(p.index())) {
-            Some(order) => *order,
-            None => None,
-        }
+        order_in(self.rows.as_slice(), p)
     }
 
     /// The units that go to a province.
@@ -147,9 +205,10 @@ impl Table<'_> {
         self.movers.of(q)
     }
 
-    /// The units that support one, whether that matches or not.
+    /// The units whose supports of one match.
     pub(crate) fn helpers_of(&self, p: Prov) -> &[Prov]
-        ensures { result.now ≡ keyed_by helped_of self.now.places.items self.now.rows.items p }
+        ensures { result.now ≡ keyed_by (backed_of (entry self.now.rows.items))
+            self.now.places.items self.now.rows.items p }
     {
         self.helpers.of(p)
     }
@@ -185,11 +244,14 @@ impl Table<'_> {
         }
     }
 
-    /// The unit that one supports, whether that matches or not.
-    pub(crate) fn helps(&self, h: Prov) -> Option<Prov>
-        ensures { result ≡ helped_of (entry self.now.rows.items h) }
+    /// The unit that one supports, if that matches.
+    pub(crate) fn backed(&self, h: Prov) -> Option<Prov>
+        ensures { result ≡ backed_of (entry self.now.rows.items) (entry self.now.rows.items h) }
     {
-        helped_of(&self.order(h))
+        match self.backed.get(usize::from(h.index())) {
+            Some(backed) => *backed,
+            None => None,
+        }
     }
 
     /// The unit that one convoys, whether that matches or not.
@@ -208,50 +270,11 @@ impl Table<'_> {
         }
     }
 
-    fn is_there(&self, at: Other, p: Prov) -> bool
-        ensures { result ≡ is_there at (entry self.now.rows.items p) }
-    {
-        match self.order(p) {
-            Some(placed) => placed.unit.kind.is(at.kind),
-            None => false,
-        }
-    }
-
-    fn is_matched(&self, order: Order, p: Prov) -> bool
-        ensures { result ≡ is_matched (entry self.now.rows.items) order p }
-    {
-        match order {
-            Order::SupportHold { at } => at.prov == p && self.is_there(at, p) && !self.has_move(p),
-            Order::SupportMove { at, to } => at.prov == p
-                && self.is_there(at, p)
-                && self.goes(p, to),
-            _ => false,
-        }
-    }
-
-    /// Whether a unit that has this order supports the one in a province.
-    fn supports_of(&self, row: &Option<PlacedOrder>, p: Prov) -> bool
-        ensures { result ≡ supports_in (entry self.now.rows.items) row.now p }
-    {
-        match row {
-            Some(placed) => self.is_matched(placed.order, p),
-            None => false,
-        }
-    }
-
     pub(crate) fn supports(&self, h: Prov, p: Prov) -> bool
         ensures { result ≡ (situation_of self.now).supports h p }
     {
-        self.supports_of(&self.order(h), p)
-    }
-
-    /// Whether a unit that has this order supports one.
-    pub(crate) fn is_support_of(&self, row: &Option<PlacedOrder>) -> bool
-        ensures { result ≡ list_any (λ p. supports_in (entry self.now.rows.items) row.now p)
-            self.now.places.items }
-    {
-        match helped_of(row) {
-            Some(p) => self.supports_of(row, p),
+        match self.backed(h) {
+            Some(q) => q == p,
             None => false,
         }
     }
@@ -260,7 +283,7 @@ impl Table<'_> {
     pub(crate) fn is_support(&self, h: Prov) -> bool
         ensures { result ≡ is_support (situation_of self.now) h }
     {
-        self.is_support_of(&self.order(h))
+        self.backed(h).is_some()
     }
 
     fn is_carried(&self, order: Order, p: Prov) -> bool
@@ -268,7 +291,10 @@ impl Table<'_> {
     {
         match order {
             Order::Convoy { at, to } => {
-                at.prov == p && self.is_there(at, p) && self.is_convoyed(p) && self.goes(p, to)
+                at.prov == p
+                    && is_there(at, &self.order(p))
+                    && self.is_convoyed(p)
+                    && self.goes(p, to)
             }
             _ => false,
         }

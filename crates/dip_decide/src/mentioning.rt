@@ -16,8 +16,8 @@ fn supports_into(table: &Table, h: Prov, q: Prov) -> bool
         (λ w. (situation_of table.now).supports h w && goes (situation_of table.now) w q)
         table.now.places.items }
 {
-    match table.helps(h) {
-        Some(w) => table.supports(h, w) && table.goes(w, q),
+    match table.backed(h) {
+        Some(w) => table.goes(w, q),
         None => false,
     }
 }

@@ -3,7 +3,7 @@ ghost use Rattle.std.specs.Prelude.{◌≡◌, ℕ, is_some, true};
 ghost use Rattle.dip_lists.specs.Held.{units_of};
 ghost use Rattle.dip_decide.specs.Matching.{target_of};
 ghost use Rattle.dip_decide.specs.Movement.{is_listed};
-ghost use Rattle.dip_decide.specs.Placed.{carried_of, convoyed_of, entry, helped_of, keyed_by, targets_of};
+ghost use Rattle.dip_decide.specs.Placed.{backed_of, backings_of, carried_of, convoyed_of, entry, keyed_by, targets_of};
 
 use dip_lists::ByKey;
 use dip_map::Map;
@@ -22,17 +22,21 @@ pub(crate) struct Table<'a> {
     pub(crate) targets: Vec<Option<Prov>>,
     /// Whether the unit in each province goes by convoy.
     pub(crate) convoyed: Vec<bool>,
+    /// Whom the unit in each province supports, if that matches.
+    pub(crate) backed: Vec<Option<Prov>>,
     /// The units by where they go.
     pub(crate) movers: ByKey,
-    /// The units by the one that they support.
+    /// The units by the one that they support, if that matches.
     pub(crate) helpers: ByKey,
     /// The units by the one that they convoy.
     pub(crate) carriers: ByKey,
     ghost aiming: { targets.items ≡ targets_of rows.items },
     ghost sailing: { convoyed.items ≡ convoyed_of map.now rows.items },
+    ghost backing: { backed.items ≡ backings_of rows.items },
     ghost standing: { (p : ℕ) → is_some (entry rows.items p) ≡ true
         → is_listed places.items p ≡ true },
     ghost moving: { (q : ℕ) → units_of movers q ≡ keyed_by target_of places.items rows.items q },
-    ghost helping: { (q : ℕ) → units_of helpers q ≡ keyed_by helped_of places.items rows.items q },
+    ghost helping: { (q : ℕ) → units_of helpers q ≡ keyed_by (backed_of (entry rows.items)) places.items
+        rows.items q },
     ghost carrying: { (q : ℕ) → units_of carriers q ≡ keyed_by carried_of places.items rows.items q },
 }

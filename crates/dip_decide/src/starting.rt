@@ -1,11 +1,12 @@
 //! The values at the start: what is no decision is known to be false.
-ghost use Rattle.std.specs.Prelude.{◌≡◌, map, IfOk};
+ghost use Rattle.std.specs.Prelude.{◌≡◌, is_some, map, IfOk};
 ghost use Rattle.dip_decide.specs.Given.{at_start, moves_at_start, paths_at_start, supports_at_start, situation_of, known_of};
 ghost use Rattle.dip_decide.specs.Movement.{at_first};
 
 use crate::matching::target_of;
 use crate::placed::Table;
 use crate::values::Values;
+use dip_names::Prov;
 use std::alloc::{AllocError, Global};
 
 /// What is known at first: nothing of what is to be decided, and of all else that it is false.
@@ -42,14 +43,24 @@ fn paths_at_start(alloc: Global, table: &Table) -> Result<Vec<Option<bool>>, All
     column_at_start(alloc, table.convoyed.as_slice())
 }
 
+/// What is known at first of the support of each of these, who support somebody or don't.
+fn backed_at_start(
+    alloc: Global,
+    backed: &[Option<Prov>],
+) -> Result<Vec<Option<bool>>, AllocError>
+    ensures { IfOk result (λ v. v.items ≡ map (λ b. at_start (is_some b)) backed.now) }
+{
+    let mut column = Vec::with_capacity(alloc, backed.len())?;
+    for one in backed {
+        column.push(at_start(one.is_some()))?;
+    }
+    Ok(column)
+}
+
 fn supports_at_start(alloc: Global, table: &Table) -> Result<Vec<Option<bool>>, AllocError>
     ensures { IfOk result (λ v. v.items ≡ supports_at_start table.now table.now.rows.items) }
 {
-    let mut supports = Vec::with_capacity(alloc, table.rows.len())?;
-    for row in &table.rows {
-        supports.push(at_start(table.is_support_of(row)))?;
-    }
-    Ok(supports)
+    backed_at_start(alloc, table.backed.as_slice())
 }
 
 /// The values before the first step.

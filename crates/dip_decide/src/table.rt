@@ -6,9 +6,9 @@ ghost use Rattle.dip_lists.specs.Held.{units_of};
 ghost use Rattle.dip_orders.specs.declared.placed.PlacedOrder.{PlacedOrder as APlacedOrder};
 ghost use Rattle.dip_decide.specs.Matching.{provinces_of, situation, target_of};
 ghost use Rattle.dip_decide.specs.Given.{rows_of, alike_rows, situation_of};
-ghost use Rattle.dip_decide.specs.Placed.{helped_of, carried_of, convoyed_of, keyed_by, targets_of};
+ghost use Rattle.dip_decide.specs.Placed.{backed_of, backings_of, carried_of, convoyed_of, entry, keyed_by, targets_of};
 
-use crate::matching::{carried_of, helped_of, is_convoyed_of, target_of};
+use crate::matching::{backed_of, carried_of, is_convoyed_of, target_of};
 use crate::placed::Table;
 use dip_lists::{ByKey, by_key};
 use dip_map::Map;
@@ -87,14 +87,14 @@ fn targets(alloc: Global, rows: &[Option<PlacedOrder>]) -> Result<Vec<Option<Pro
     Ok(targets)
 }
 
-fn helped(alloc: Global, rows: &[Option<PlacedOrder>]) -> Result<Vec<Option<Prov>>, AllocError>
-    ensures { IfOk result (λ v. v.items ≡ map helped_of rows.now) }
+fn backed(alloc: Global, rows: &[Option<PlacedOrder>]) -> Result<Vec<Option<Prov>>, AllocError>
+    ensures { IfOk result (λ v. v.items ≡ backings_of rows.now) }
 {
-    let mut helped = Vec::with_capacity(alloc, rows.len())?;
+    let mut backed = Vec::with_capacity(alloc, rows.len())?;
     for row in rows {
-        helped.push(helped_of(row))?;
+        backed.push(backed_of(rows, row))?;
     }
-    Ok(helped)
+    Ok(backed)
 }
 
 fn carried(alloc: Global, rows: &[Option<PlacedOrder>]) -> Result<Vec<Option<Prov>>, AllocError>
@@ -126,17 +126,13 @@ fn movers_of(alloc: Global, places: &[Prov], targets: &[Option<Prov>]) -> Result
     by_key(alloc, places, targets)
 }
 
-/// The units by the one that they support.
-fn helpers_of(
-    alloc: Global,
-    places: &[Prov],
-    rows: &[Option<PlacedOrder>],
-) -> Result<ByKey, AllocError>
+/// The units by the one that they support, if that matches.
+fn helpers_of(alloc: Global, places: &[Prov], backed: &[Option<Prov>]) -> Result<ByKey, AllocError>
     requires single { are_provs_single places.now ≡ true }
-    ensures { IfOk result (λ b. (q : ℕ) → units_of b q ≡ keyed_by helped_of places.now rows.now q) }
+    ensures { IfOk result (λ b. (rows : List (Option APlacedOrder)) → backed.now ≡ backings_of rows
+        → (q : ℕ) → units_of b q ≡ keyed_by (backed_of (entry rows)) places.now rows q) }
 {
-    let keys = helped(alloc, rows)?;
-    by_key(alloc, places, keys.as_slice())
+    by_key(alloc, places, backed)
 }
 
 /// The units by the one that they convoy.
@@ -167,8 +163,9 @@ pub(crate) fn table_of<'a>(
     let rows = rows_of(alloc, map, orders)?;
     let targets = targets(alloc, rows.as_slice())?;
     let convoyed = convoyed(alloc, map, rows.as_slice())?;
+    let backed = backed(alloc, rows.as_slice())?;
     let movers = movers_of(alloc, places.as_slice(), targets.as_slice())?;
-    let helpers = helpers_of(alloc, places.as_slice(), rows.as_slice())?;
+    let helpers = helpers_of(alloc, places.as_slice(), backed.as_slice())?;
     let carriers = carriers_of(alloc, places.as_slice(), rows.as_slice())?;
     Ok(Table {
         map,
@@ -176,6 +173,7 @@ pub(crate) fn table_of<'a>(
         rows,
         targets,
         convoyed,
+        backed,
         movers,
         helpers,
         carriers,

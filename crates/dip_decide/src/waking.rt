@@ -172,15 +172,15 @@ fn put_round(
     values: &Values,
     work: &mut Worklist,
     e: &Decision,
-    helped: Option<Prov>,
+    backed: Option<Prov>,
 ) -> Result<(), AllocError>
     requires situation { IsSituation (situation_of table.now) }
     requires started { IsStarted (situation_of table.now) (known_of values.now) }
     ensures { OnOk result
         (IsTaken (situation_of table.now) (known_of values.now) e.now
-        (past_support table.now helped) work.old work.new) }
+        (past_support table.now backed) work.old work.new) }
 {
-    match helped {
+    match backed {
         Some(w) => {
             put_into(table, values, work, e, w)?;
             put_to(table, values, work, e, table.target(w))?;
@@ -214,7 +214,7 @@ pub(crate) fn put(
             Ok(())
         }
         Decision::Support(h) => {
-            put_round(table, values, work, e, table.helps(*h))?;
+            put_round(table, values, work, e, table.backed(*h))?;
             Ok(())
         }
     }

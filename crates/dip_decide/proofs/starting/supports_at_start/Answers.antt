@@ -1,12 +1,7 @@
-use Rattle.std.proofs.Common.{arith, ap, ◌∙◌}
-use Rattle.std.specs.List.{list_any}
-use Rattle.dip_decide.specs.Given.{at_start}
-use Rattle.dip_decide.specs.Placed.{entry}
-use Rattle.dip_decide.specs.Matching.{supports_in}
-use Rattle.dip_decide.proofs.TableLaws.{row_step}
+use Rattle.std.proofs.Common.{◌∙◌}
+use Rattle.dip_decide.proofs.Rounds.{if_ok_more}
+use Rattle.dip_decide.proofs.TableLaws.{supports_told}
 use Rattle.dip_decide.proofs.starting.supports_at_start.Goals as goal
 
-pub loop-row-preserved : goal.loop-row-preserved
-loop-row-preserved c =
-    let t = c.args.table.now in
-    rw c.in_ok-push.ensures.items (row_step (λ row. at_start (list_any (λ p. supports_in (entry t.rows.items) row p) t.places.items)) t.rows.items c.row-item.result _ _ _ c.loop-row.row-index (omega arith) (rw c.deref-row-items.ensures.value at c.row-item.is) (c.at_start.ensures ∙ ap at_start c.is_support_of.ensures) c.loop-row.invariant)
+pub returns : goal.returns
+returns c = if_ok_more _ _ c.backed_at_start.result (λ v h. h ∙ supports_told c.args.table.now) (rw c.as_slice.ensures.value at c.backed_at_start.ensures)

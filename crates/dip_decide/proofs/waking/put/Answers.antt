@@ -1,6 +1,6 @@
 use Rattle.dip_decide.specs.Given.{situation_of, known_of}
 use Rattle.dip_decide.specs.Matching.{target_of}
-use Rattle.dip_decide.specs.Placed.{entry, helped_of}
+use Rattle.dip_decide.specs.Placed.{backed_of, entry}
 use Rattle.dip_decide.specs.Waking.{moves_into, at_target, past_path, past_support}
 use Rattle.dip_decide.proofs.Taken.{taken_on, taken_put}
 use Rattle.dip_decide.proofs.Woken.{all_woken}
@@ -26,4 +26,4 @@ pub returns-in_ok-put_round-in-Support : goal.returns-in_ok-put_round-in-Support
 returns-in_ok-put_round-in-Support c =
     let t = c.args.table.now in
     let e = c.args.e.now in
-    taken_put (situation_of t) (known_of c.args.values.now) e (past_support t (helped_of (entry t.rows.items c.in-Support.h))) _ _ (λ d m. rw c.in-Support.is at (all_woken t c.requires.situation d e m)) (rw c.helps.ensures at c.in_ok-put_round-in-Support.ensures)
+    taken_put (situation_of t) (known_of c.args.values.now) e (past_support t (backed_of (entry t.rows.items) (entry t.rows.items c.in-Support.h))) _ _ (λ d m. rw c.in-Support.is at (all_woken t c.requires.situation d e m)) (rw c.backed.ensures at c.in_ok-put_round-in-Support.ensures)

@@ -4,4 +4,4 @@ use Rattle.dip_decide.proofs.Among.{support_among}
 use Rattle.dip_decide.proofs.corners.Corner.support.Goals as goal
 
 pub returns : goal.returns
-returns c = c.support_of.ensures ∙ support_among c.args.self.now.table.now (values c.args.self.now) c.args.p _ c.helpers_of.ensures
+returns c = c.given_of.ensures ∙ support_among c.args.self.now.table.now (values c.args.self.now) c.args.p _ c.helpers_of.ensures

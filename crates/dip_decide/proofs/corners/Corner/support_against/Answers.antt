@@ -4,4 +4,4 @@ use Rattle.dip_decide.proofs.Among.{support_against_among}
 use Rattle.dip_decide.proofs.corners.Corner.support_against.Goals as goal
 
 pub returns : goal.returns
-returns c = c.support_of_others.ensures ∙ support_against_among c.args.self.now.table.now (values c.args.self.now) c.args.p c.args.q _ c.helpers_of.ensures
+returns c = c.given_of_others.ensures ∙ support_against_among c.args.self.now.table.now (values c.args.self.now) c.args.p c.args.q _ c.helpers_of.ensures

@@ -1,8 +1,7 @@
 -- The table of a movement's orders shows their situation.
-use Rattle.std.proofs.Common.{◌≡◌, ℕ, ◌+◌, ◌<◌, ◌≤◌, length, drop, List, [], ◌∷◌, ◌++◌, append_assoc, ◌∙◌, zero, suc, arith, refl, ap, sym, inl, inr, All, map, get_or}
+use Rattle.std.proofs.Common.{◌≡◌, ℕ, ◌+◌, ◌<◌, ◌≤◌, length, List, [], ◌∷◌, ◌∙◌, zero, suc, arith, refl, ap, sym, inl, inr, All, map}
 use Rattle.std.specs.Prelude.{◌==◌, Bool, true, false, Option, None, Some, is_some}
 use Rattle.std.specs.List.{AllByRecursion, list_any, range_with_len, slice_get, slice_index_or}
-use Rattle.std.proofs.lemmas.List.{drop_more}
 use Rattle.std.proofs.lemmas.List.Elements.{recursion_from_All}
 use Rattle.std.proofs.lemmas.Bool.{both_ways, cases_Bool, eqb-true, cases_lt, or_left, or_right}
 use Rattle.std.proofs.Math.Path.{fun_ext}
@@ -79,6 +78,13 @@ paths_told t = ap (map at_start) t.sailing ∙ twice t.rows.items
     twice [] = refl
     twice (r ∷ rows) = ap (λ xs. at_start (is_convoyed t.map.now r) ∷ xs) (twice rows)
 
+pub moves_told : (t : Table) → map (λ n. at_start (is_some n)) t.targets.items ≡ moves_at_start t.rows.items
+moves_told t = ap (map (λ n. at_start (is_some n))) t.aiming ∙ twice t.rows.items
+  where
+    twice : (rows : List (Option PlacedOrder)) → map (λ n. at_start (is_some n)) (map target_of rows) ≡ moves_at_start rows
+    twice [] = refl
+    twice (r ∷ rows) = ap (λ xs. at_start (is_some (target_of r)) ∷ xs) (twice rows)
+
 pub supports_told : (t : Table) → map (λ b. at_start (is_some b)) t.backed.items ≡ supports_at_start t t.rows.items
 supports_told t = ap (map (λ b. at_start (is_some b))) t.backing ∙ twice t.rows.items
   where
@@ -90,14 +96,6 @@ pub seen_law : (m : Chart) (orders : List PlacedOrder) (places : List ℕ) (rows
     → All (λ o. o.unit.place.prov < length m.provinces) orders → situation_by m places (entry rows) ≡ situation m orders
 seen_law m orders places rows p r a =
     ap (λ (ps : List ℕ). situation_by m ps (entry rows)) p ∙ ap (λ (xs : List (Option PlacedOrder)). situation_by m (provinces_of orders) (entry xs)) r ∙ ap (situation_by m (provinces_of orders)) (entries m orders a)
-
--- a value for each row
-pub row_step : (f : Option PlacedOrder → Option Bool) (rows : List (Option PlacedOrder)) (row : Option PlacedOrder) (value : Option Bool) (front all : List (Option Bool)) (i : ℕ) → i < length rows → row ≡ get_or rows i row → value ≡ f row
-    → front ++ map f (drop i rows) ≡ all → (front ++ value ∷ []) ++ map f (drop (i + 1) rows) ≡ all
-row_step f rows row value front all i h is v before =
-    let cut : drop i rows ≡ row ∷ drop (i + 1) rows = drop_more rows i row h ∙ ap (λ (x : Option PlacedOrder). x ∷ drop (i + 1) rows) (sym is) in
-    let next : front ++ f row ∷ map f (drop (i + 1) rows) ≡ all = rw cut at before in
-    append_assoc front (value ∷ []) (map f (drop (i + 1) rows)) ∙ rw v next
 
 value_at : (f : Option PlacedOrder → Option Bool) → f None ≡ Some false → (rows : List (Option PlacedOrder)) (p : ℕ) → slice_index_or (map f rows) p (Some false) ≡ f (entry rows p)
 value_at f n [] p = sym n

@@ -3,7 +3,6 @@ ghost use Rattle.std.specs.Prelude.{◌≡◌, is_some, map, IfOk};
 ghost use Rattle.dip_decide.specs.Given.{at_start, moves_at_start, paths_at_start, supports_at_start, situation_of, known_of};
 ghost use Rattle.dip_decide.specs.Movement.{at_first};
 
-use crate::matching::target_of;
 use crate::placed::Table;
 use crate::values::Values;
 use dip_names::Prov;
@@ -16,14 +15,21 @@ fn at_start(is_decided: bool) -> Option<bool>
     if is_decided { None } else { Some(false) }
 }
 
+/// What is known at first of each of these: nothing where it names somebody.
+fn names_at_start(alloc: Global, names: &[Option<Prov>]) -> Result<Vec<Option<bool>>, AllocError>
+    ensures { IfOk result (λ v. v.items ≡ map (λ n. at_start (is_some n)) names.now) }
+{
+    let mut column = Vec::with_capacity(alloc, names.len())?;
+    for name in names {
+        column.push(at_start(name.is_some()))?;
+    }
+    Ok(column)
+}
+
 fn moves_at_start(alloc: Global, table: &Table) -> Result<Vec<Option<bool>>, AllocError>
     ensures { IfOk result (λ v. v.items ≡ moves_at_start table.now.rows.items) }
 {
-    let mut moves = Vec::with_capacity(alloc, table.rows.len())?;
-    for row in &table.rows {
-        moves.push(at_start(target_of(row).is_some()))?;
-    }
-    Ok(moves)
+    names_at_start(alloc, table.targets.as_slice())
 }
 
 /// What is known at first of each of these, which are decided or aren't.
@@ -43,24 +49,10 @@ fn paths_at_start(alloc: Global, table: &Table) -> Result<Vec<Option<bool>>, All
     column_at_start(alloc, table.convoyed.as_slice())
 }
 
-/// What is known at first of the support of each of these, who support somebody or don't.
-fn backed_at_start(
-    alloc: Global,
-    backed: &[Option<Prov>],
-) -> Result<Vec<Option<bool>>, AllocError>
-    ensures { IfOk result (λ v. v.items ≡ map (λ b. at_start (is_some b)) backed.now) }
-{
-    let mut column = Vec::with_capacity(alloc, backed.len())?;
-    for one in backed {
-        column.push(at_start(one.is_some()))?;
-    }
-    Ok(column)
-}
-
 fn supports_at_start(alloc: Global, table: &Table) -> Result<Vec<Option<bool>>, AllocError>
     ensures { IfOk result (λ v. v.items ≡ supports_at_start table.now table.now.rows.items) }
 {
-    backed_at_start(alloc, table.backed.as_slice())
+    names_at_start(alloc, table.backed.as_slice())
 }
 
 /// The values before the first step.

@@ -4,4 +4,4 @@ use Rattle.dip_decide.proofs.TableLaws.{supports_told}
 use Rattle.dip_decide.proofs.starting.supports_at_start.Goals as goal
 
 pub returns : goal.returns
-returns c = if_ok_more _ _ c.backed_at_start.result (λ v h. h ∙ supports_told c.args.table.now) (rw c.as_slice.ensures.value at c.backed_at_start.ensures)
+returns c = if_ok_more _ _ c.names_at_start.result (λ v h. h ∙ supports_told c.args.table.now) (rw c.as_slice.ensures.value at c.names_at_start.ensures)

@@ -2,7 +2,7 @@
 use Rattle.std.proofs.Common.{◌≡◌, ◌≢◌, ℕ, ◌+◌, ◌-◌, ◌<◌, ◌≤◌, List, [], ◌∷◌, length, drop, map, filter, get_or, replicate, zero, suc, arith, refl, ap, sym, subst, ◌∙◌}
 use Rattle.std.specs.Prelude.{◌==◌, ◌||◌, Bool, true, false, Option, None, Some}
 use Rattle.std.specs.List.{list_any, range_with_len, slice_index_or, slice_set}
-use Rattle.std.proofs.lemmas.List.{drop_more, drop_all}
+use Rattle.std.proofs.lemmas.List.{drop_more, drop_all, map-set}
 use Rattle.std.proofs.lemmas.List.FromFn.{get_or-map-range_with_len}
 use Rattle.std.proofs.lemmas.Bool.{ne_eqb, eq-eqb}
 use Rattle.dip_chart.specs.Charts.{Chart, provs}
@@ -56,6 +56,23 @@ rows_step orders m (suc i) o rows h l is e =
     let before : rows ≡ rows_of (drop (i + 1) orders) m = e ∙ ap (λ (x : ℕ). rows_of (drop x orders) m) t in
     ap (λ (c : List (Option PlacedOrder)). slice_set c o.unit.place.prov (Some o)) before ∙ row_set o (drop (i + 1) orders) m
     ∙ ap (λ (os : List PlacedOrder). rows_of os m) (sym cut ∙ ap (λ (x : ℕ). drop x orders) (sym n))
+
+-- a column of what the row of each province comes to
+module _ {X : Type 0} (f : Option PlacedOrder → X) where
+  alike_names : (x : X) → f None ≡ x → (a k : ℕ) → replicate k x ≡ map f (map (λ (q : ℕ). None) (range_with_len a k))
+  alike_names x e a zero = refl
+  alike_names x e a (suc k) = rw (e, alike_names x e (a + 1) k) refl
+
+  pub names_first : (x : X) (orders : List PlacedOrder) (m : Chart) (names : List X) → f None ≡ x → names ≡ replicate (length m.provinces) x
+      → names ≡ map f (rows_of (drop (length orders) orders) m)
+  names_first x orders m names n e = rw (drop_all (length orders) orders (omega arith)) (e ∙ alike_names x n 0 (length m.provinces))
+
+  pub names_step : (orders : List PlacedOrder) (m : Chart) (left : ℕ) (o : PlacedOrder) (names : List X) → 0 < left → left ≤ length orders → o ≡ get_or orders (left - 1) o
+      → names ≡ map f (rows_of (drop left orders) m) → slice_set names o.unit.place.prov (f (Some o)) ≡ map f (rows_of (drop (left - 1) orders) m)
+  names_step orders m left o names h l is e =
+      let rows : List (Option PlacedOrder) = rows_of (drop left orders) m in
+      ap (λ (c : List X). slice_set c o.unit.place.prov (f (Some o))) e ∙ sym (map-set f rows o.unit.place.prov (Some o))
+      ∙ ap (map f) (rows_step orders m left o rows h l is refl)
 
 -- a column of what holds of each province
 abbrev column : (ℕ → Bool) → Chart → List (Option Bool)

@@ -1,11 +1,12 @@
 -- The units of a table by what their orders name.
-use Rattle.std.specs.Prelude.{ℕ, Bool, List, filter, map, Option, None, Some, if◌then◌else◌}
+use Rattle.std.specs.Prelude.{◌≡◌, ℕ, Bool, List, filter, map, Option, None, Some, if◌then◌else◌}
 use Rattle.std.specs.List.{slice_get}
 use Rattle.std.specs.Option.{unwrap_or}
 use Rattle.dip_orders.specs.declared.placed.Order.{Order}
 use Rattle.dip_orders.specs.declared.placed.Order.TheVariants.{SupportHold, SupportMove, Convoy}
 use Rattle.dip_orders.specs.declared.placed.PlacedOrder.{PlacedOrder}
 use Rattle.dip_chart.specs.Charts.{Chart}
+use Rattle.dip_decide.specs.declared.table.Columns.{Columns}
 use Rattle.dip_decide.specs.Matching.{Standing, is_convoyed, is_matched, target_of}
 use Rattle.dip_decide.specs.Movement.{is_at}
 
@@ -37,8 +38,11 @@ backed_of who None = None
 backed_of who (Some o) = only_if (is_matched who o.order) (helped o.order)
 
 -- whom the unit of each row supports, if that matches
+abbrev pub backings_among : Standing → List (Option PlacedOrder) → List (Option ℕ)
+backings_among who rows = map (backed_of who) rows
+
 abbrev pub backings_of : List (Option PlacedOrder) → List (Option ℕ)
-backings_of rows = map (backed_of (entry rows)) rows
+backings_of rows = backings_among (entry rows) rows
 
 -- the unit that an order convoys, whether it matches or not
 abbrev pub carried : Order → Option ℕ
@@ -48,6 +52,13 @@ carried _ = None
 abbrev pub carried_of : Option PlacedOrder → Option ℕ
 carried_of None = None
 carried_of (Some o) = carried o.order
+
+-- the columns of these rows
+pub record AreColumns (m : Chart) (all : List (Option PlacedOrder)) (c : Columns) : Type 0 where
+  pub rows : c.rows.items ≡ all
+  pub targets : c.targets.items ≡ targets_of all
+  pub convoyed : c.convoyed.items ≡ convoyed_of m all
+  pub carried : c.carried.items ≡ map carried_of all
 
 -- the units whose orders name q
 abbrev pub keyed_by : (Option PlacedOrder → Option ℕ) → List ℕ → List (Option PlacedOrder) → ℕ → List ℕ

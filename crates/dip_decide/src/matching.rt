@@ -4,7 +4,7 @@ ghost use Rattle.std.specs.List.{list_any};
 ghost use Rattle.dip_chart.specs.Charts.{province, shore};
 ghost use Rattle.dip_names.specs.Kinds.{is_kind, is_sea};
 ghost use Rattle.dip_decide.specs.Given.{situation_of};
-ghost use Rattle.dip_decide.specs.Placed.{backed_of, carried, carried_of, entry, helped, keyed_by, only_if};
+ghost use Rattle.dip_decide.specs.Placed.{backed_of, carried, carried_of, entry, helped, keyed_by};
 ghost use Rattle.dip_decide.specs.Matching.{destination, target_of, goes_by_convoy, is_convoyed, is_there, is_matched, direction, is_carried, convoys_in, is_sea_next};
 ghost use Rattle.dip_decide.specs.Movement.{goes, head_to_head, has_move, is_at, is_support};
 
@@ -99,10 +99,9 @@ fn is_matched(rows: &[Option<PlacedOrder>], order: Order, p: Prov) -> bool
     }
 }
 
-/// The unit that an order supports, if that matches.
-fn backed(rows: &[Option<PlacedOrder>], placed: &PlacedOrder) -> Option<Prov>
-    ensures { result ≡ only_if (is_matched (entry rows.now) placed.now.order)
-        (helped placed.now.order) }
+/// The unit that one with this order supports, if that matches.
+pub(crate) fn backed_by(rows: &[Option<PlacedOrder>], placed: &PlacedOrder) -> Option<Prov>
+    ensures { result ≡ backed_of (entry rows.now) (Some placed.now) }
 {
     match helped(placed.order) {
         Some(p) => if is_matched(rows, placed.order, p) {
@@ -110,16 +109,6 @@ fn backed(rows: &[Option<PlacedOrder>], placed: &PlacedOrder) -> Option<Prov>
         } else {
             None
         },
-        None => None,
-    }
-}
-
-/// The unit that one supports that has this order, if one is there and that matches.
-pub(crate) fn backed_of(rows: &[Option<PlacedOrder>], row: &Option<PlacedOrder>) -> Option<Prov>
-    ensures { result ≡ backed_of (entry rows.now) row.now }
-{
-    match row {
-        Some(placed) => backed(rows, placed),
         None => None,
     }
 }

@@ -1,11 +1,11 @@
 //! The table of a movement: the orders by province, and the units by what their orders name.
 ghost use Rattle.std.specs.Prelude.{◌≡◌, ℕ, is_some, true};
-ghost use Rattle.dip_lists.specs.Held.{units_of};
+ghost use Rattle.dip_keyed.specs.Held.{units_of};
 ghost use Rattle.dip_decide.specs.Matching.{target_of};
 ghost use Rattle.dip_decide.specs.Movement.{is_listed};
 ghost use Rattle.dip_decide.specs.Placed.{backed_of, backings_of, carried_of, convoyed_of, entry, keyed_by, targets_of};
 
-use dip_lists::ByKey;
+use dip_keyed::ByKey;
 use dip_map::Map;
 use dip_names::Prov;
 use dip_orders::PlacedOrder;

@@ -1,20 +1,32 @@
 //! The orders of a movement by province.
-ghost use Rattle.std.specs.Prelude.{◌≡◌, ◌<◌, ℕ, length, map, true, List, None, Option, Some, All, IfOk};
+ghost use Rattle.std.specs.Prelude.{◌≡◌, ◌<◌, ℕ, false, length, replicate, map, List, None, Option, Some, All, IfOk};
 ghost use Rattle.std.specs.List.{slice_set};
-ghost use Rattle.dip_chart.specs.Charts.{are_provs_single};
-ghost use Rattle.dip_lists.specs.Held.{units_of};
+ghost use Rattle.dip_keyed.specs.Held.{units_of};
 ghost use Rattle.dip_orders.specs.declared.placed.PlacedOrder.{PlacedOrder as APlacedOrder};
-ghost use Rattle.dip_decide.specs.Matching.{provinces_of, situation, target_of};
+ghost use Rattle.dip_decide.specs.Matching.{is_convoyed, provinces_of, situation, target_of};
 ghost use Rattle.dip_decide.specs.Given.{rows_of, alike_rows, situation_of};
-ghost use Rattle.dip_decide.specs.Placed.{backed_of, backings_of, carried_of, convoyed_of, entry, keyed_by, targets_of};
+ghost use Rattle.dip_decide.specs.Placed.{AreColumns, backed_of, backings_among, backings_of, carried_of, entry, keyed_by, targets_of};
 
-use crate::matching::{backed_of, carried_of, is_convoyed_of, target_of};
+use crate::matching::{backed_by, carried_of, is_convoyed_of, target_of};
 use crate::placed::Table;
-use dip_lists::{ByKey, by_key};
+use dip_keyed::{ByKey, by_key};
 use dip_map::Map;
 use dip_names::Prov;
 use dip_orders::PlacedOrder;
 use std::alloc::{AllocError, Global};
+
+/// What the orders say, by the numbers of the provinces.
+#[derive(Drop)]
+pub(crate) struct Columns {
+    /// The order of the unit in each province.
+    pub(crate) rows: Vec<Option<PlacedOrder>>,
+    /// Where the unit in each province goes, if it goes somewhere.
+    pub(crate) targets: Vec<Option<Prov>>,
+    /// Whether the unit in each province goes by convoy.
+    pub(crate) convoyed: Vec<bool>,
+    /// Whom the unit in each province convoys, whether that matches or not.
+    pub(crate) carried: Vec<Option<Prov>>,
+}
 
 fn no_order() -> Option<PlacedOrder>
     ensures { result ≡ None }
@@ -40,31 +52,110 @@ fn no_orders(
     Ok(rows)
 }
 
-/// Puts an order at its unit's province.
-fn put_order(rows: &mut Vec<Option<PlacedOrder>>, placed: &PlacedOrder)
-    ensures { rows.new.items ≡ slice_set rows.old.items placed.now.unit.place.prov
-        (Some placed.now) }
+/// A column that names nobody.
+fn nobody(alloc: Global, count: usize) -> Result<Vec<Option<Prov>>, AllocError>
+    ensures { IfOk result (λ v. v.items ≡ replicate count None) }
 {
-    if let Some(row) = rows.get_mut(usize::from(placed.unit.place.prov.index())) {
-        *row = Some(*placed);
+    let column = vec![in alloc; None; count]?;
+    Ok(column)
+}
+
+/// A column of what holds nowhere.
+fn nowhere(alloc: Global, count: usize) -> Result<Vec<bool>, AllocError>
+    ensures { IfOk result (λ v. v.items ≡ replicate count false) }
+{
+    let column = vec![in alloc; false; count]?;
+    Ok(column)
+}
+
+/// Puts a name at a province.
+fn put_name(column: &mut Vec<Option<Prov>>, p: Prov, name: Option<Prov>)
+    ensures { column.new.items ≡ slice_set column.old.items p name }
+{
+    if let Some(place) = column.get_mut(usize::from(p.index())) {
+        *place = name;
     }
 }
 
-/// The order in each province, from the last order to the first.
-fn rows_of(
-    alloc: Global,
-    map: &Map,
-    orders: &[PlacedOrder],
-) -> Result<Vec<Option<PlacedOrder>>, AllocError>
-    ensures { IfOk result (λ v. v.items ≡ rows_of orders.now map.now) }
+/// Puts an order at its unit's province, in each column.
+fn put_order(columns: &mut Columns, map: &Map, placed: &PlacedOrder)
+    ensures rows { columns.new.rows.items
+        ≡ slice_set columns.old.rows.items placed.now.unit.place.prov (Some placed.now) }
+    ensures targets { columns.new.targets.items
+        ≡ slice_set columns.old.targets.items placed.now.unit.place.prov
+        (target_of (Some placed.now)) }
+    ensures convoyed { columns.new.convoyed.items
+        ≡ slice_set columns.old.convoyed.items placed.now.unit.place.prov
+        (is_convoyed map.now (Some placed.now)) }
+    ensures carried { columns.new.carried.items
+        ≡ slice_set columns.old.carried.items placed.now.unit.place.prov
+        (carried_of (Some placed.now)) }
 {
-    let mut rows = no_orders(alloc, map, orders)?;
+    let p = placed.unit.place.prov;
+    let order = Some(*placed);
+    if let Some(row) = columns.rows.get_mut(usize::from(p.index())) {
+        *row = order;
+    }
+    if let Some(place) = columns.convoyed.get_mut(usize::from(p.index())) {
+        *place = is_convoyed_of(map, &order);
+    }
+    put_name(&mut columns.targets, p, target_of(&order));
+    put_name(&mut columns.carried, p, carried_of(&order));
+}
+
+fn no_columns(alloc: Global, map: &Map, orders: &[PlacedOrder]) -> Result<Columns, AllocError>
+    ensures rows { IfOk result (λ c. c.rows.items ≡ alike_rows None map.now) }
+    ensures targets { IfOk result
+        (λ c. c.targets.items ≡ replicate (length map.now.provinces) None) }
+    ensures convoyed { IfOk result
+        (λ c. c.convoyed.items ≡ replicate (length map.now.provinces) false) }
+    ensures carried { IfOk result
+        (λ c. c.carried.items ≡ replicate (length map.now.provinces) None) }
+{
+    let count = map.province_count();
+    let rows = no_orders(alloc, map, orders)?;
+    let targets = nobody(alloc, count)?;
+    let convoyed = nowhere(alloc, count)?;
+    let carried = nobody(alloc, count)?;
+    Ok(Columns {
+        rows,
+        targets,
+        convoyed,
+        carried,
+    })
+}
+
+/// The columns of these orders, from the last order to the first.
+fn columns_of(alloc: Global, map: &Map, orders: &[PlacedOrder]) -> Result<Columns, AllocError>
+    ensures { IfOk result (AreColumns map.now (rows_of orders.now map.now)) }
+{
+    let mut columns = no_columns(alloc, map, orders)?;
     let mut left = orders.len();
     while left > 0 {
         left -= 1;
-        put_order(&mut rows, &orders[left]);
+        put_order(&mut columns, map, &orders[left]);
     }
-    Ok(rows)
+    Ok(columns)
+}
+
+/// Whom the unit in each province supports, if that matches by the rows of all orders.
+fn backed(
+    alloc: Global,
+    map: &Map,
+    orders: &[PlacedOrder],
+    rows: &[Option<PlacedOrder>],
+) -> Result<Vec<Option<Prov>>, AllocError>
+    ensures { IfOk result
+        (λ v. v.items ≡ backings_among (entry rows.now) (rows_of orders.now map.now)) }
+{
+    let mut backed = nobody(alloc, map.province_count())?;
+    let mut left = orders.len();
+    while left > 0 {
+        left -= 1;
+        let placed = &orders[left];
+        put_name(&mut backed, placed.unit.place.prov, backed_by(rows, placed));
+    }
+    Ok(backed)
 }
 
 fn places_of(alloc: Global, orders: &[PlacedOrder]) -> Result<Vec<Prov>, AllocError>
@@ -77,49 +168,8 @@ fn places_of(alloc: Global, orders: &[PlacedOrder]) -> Result<Vec<Prov>, AllocEr
     Ok(places)
 }
 
-fn targets(alloc: Global, rows: &[Option<PlacedOrder>]) -> Result<Vec<Option<Prov>>, AllocError>
-    ensures { IfOk result (λ v. v.items ≡ targets_of rows.now) }
-{
-    let mut targets = Vec::with_capacity(alloc, rows.len())?;
-    for row in rows {
-        targets.push(target_of(row))?;
-    }
-    Ok(targets)
-}
-
-fn backed(alloc: Global, rows: &[Option<PlacedOrder>]) -> Result<Vec<Option<Prov>>, AllocError>
-    ensures { IfOk result (λ v. v.items ≡ backings_of rows.now) }
-{
-    let mut backed = Vec::with_capacity(alloc, rows.len())?;
-    for row in rows {
-        backed.push(backed_of(rows, row))?;
-    }
-    Ok(backed)
-}
-
-fn carried(alloc: Global, rows: &[Option<PlacedOrder>]) -> Result<Vec<Option<Prov>>, AllocError>
-    ensures { IfOk result (λ v. v.items ≡ map carried_of rows.now) }
-{
-    let mut carried = Vec::with_capacity(alloc, rows.len())?;
-    for row in rows {
-        carried.push(carried_of(row))?;
-    }
-    Ok(carried)
-}
-
-fn convoyed(alloc: Global, map: &Map, rows: &[Option<PlacedOrder>]) -> Result<Vec<bool>, AllocError>
-    ensures { IfOk result (λ v. v.items ≡ convoyed_of map.now rows.now) }
-{
-    let mut convoyed = Vec::with_capacity(alloc, rows.len())?;
-    for row in rows {
-        convoyed.push(is_convoyed_of(map, row))?;
-    }
-    Ok(convoyed)
-}
-
 /// The units by where they go.
 fn movers_of(alloc: Global, places: &[Prov], targets: &[Option<Prov>]) -> Result<ByKey, AllocError>
-    requires single { are_provs_single places.now ≡ true }
     ensures { IfOk result (λ b. (rows : List (Option APlacedOrder)) → targets.now ≡ targets_of rows
         → (q : ℕ) → units_of b q ≡ keyed_by target_of places.now rows q) }
 {
@@ -128,7 +178,6 @@ fn movers_of(alloc: Global, places: &[Prov], targets: &[Option<Prov>]) -> Result
 
 /// The units by the one that they support, if that matches.
 fn helpers_of(alloc: Global, places: &[Prov], backed: &[Option<Prov>]) -> Result<ByKey, AllocError>
-    requires single { are_provs_single places.now ≡ true }
     ensures { IfOk result (λ b. (rows : List (Option APlacedOrder)) → backed.now ≡ backings_of rows
         → (q : ℕ) → units_of b q ≡ keyed_by (backed_of (entry rows)) places.now rows q) }
 {
@@ -136,17 +185,12 @@ fn helpers_of(alloc: Global, places: &[Prov], backed: &[Option<Prov>]) -> Result
 }
 
 /// The units by the one that they convoy.
-fn carriers_of(
-    alloc: Global,
-    places: &[Prov],
-    rows: &[Option<PlacedOrder>],
-) -> Result<ByKey, AllocError>
-    requires single { are_provs_single places.now ≡ true }
+fn carriers_of(alloc: Global, places: &[Prov], carried: &[Option<Prov>]) -> Result<ByKey, AllocError>
     ensures { IfOk result
-        (λ b. (q : ℕ) → units_of b q ≡ keyed_by carried_of places.now rows.now q) }
+        (λ b. (rows : List (Option APlacedOrder)) → carried.now ≡ map carried_of rows
+        → (q : ℕ) → units_of b q ≡ keyed_by carried_of places.now rows q) }
 {
-    let keys = carried(alloc, rows)?;
-    by_key(alloc, places, keys.as_slice())
+    by_key(alloc, places, carried)
 }
 
 /// The table of these orders.
@@ -156,17 +200,19 @@ pub(crate) fn table_of<'a>(
     orders: &[PlacedOrder],
 ) -> Result<Table<'a>, AllocError>
     requires within { All (λ o. o.unit.place.prov < length map.now.provinces) orders.now }
-    requires single { are_provs_single (provinces_of orders.now) ≡ true }
     ensures { IfOk result (λ t. situation_of t ≡ situation map.now orders.now) }
 {
     let places = places_of(alloc, orders)?;
-    let rows = rows_of(alloc, map, orders)?;
-    let targets = targets(alloc, rows.as_slice())?;
-    let convoyed = convoyed(alloc, map, rows.as_slice())?;
-    let backed = backed(alloc, rows.as_slice())?;
+    let Columns {
+        rows,
+        targets,
+        convoyed,
+        carried,
+    } = columns_of(alloc, map, orders)?;
+    let backed = backed(alloc, map, orders, rows.as_slice())?;
     let movers = movers_of(alloc, places.as_slice(), targets.as_slice())?;
     let helpers = helpers_of(alloc, places.as_slice(), backed.as_slice())?;
-    let carriers = carriers_of(alloc, places.as_slice(), rows.as_slice())?;
+    let carriers = carriers_of(alloc, places.as_slice(), carried.as_slice())?;
     Ok(Table {
         map,
         places,

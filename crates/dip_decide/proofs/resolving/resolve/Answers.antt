@@ -3,16 +3,13 @@ use Rattle.dip_decide.specs.Given.{known_of, situation_of}
 use Rattle.dip_decide.specs.Matching.{situation}
 use Rattle.dip_decide.specs.Movement.{Situation, IsSituation}
 use Rattle.dip_decide.specs.Results.{decided_in, mentions_in}
-use Rattle.dip_decide.proofs.Situated.{situated, single}
+use Rattle.dip_decide.proofs.Situated.{situated}
 use Rattle.dip_decide.proofs.ResultLaws.{within, bounded_board, resolved_board}
 use Rattle.dip_decide.proofs.Rounds.{if_ok_more}
 use Rattle.dip_decide.proofs.resolving.resolve.Goals as goal
 
 pub table_of-requires : goal.table_of-requires
-table_of-requires c = record {
-  within = rw c.as_slice.ensures (within c.args.map.now c.args.board.now c.args.orders.now c.requires.is_of c.requires.orders);
-  single = rw c.as_slice.ensures (single c.args.orders.now c.args.board.now.units c.requires.orders c.requires.is_of.apart);
-}
+table_of-requires c = rw c.as_slice.ensures (within c.args.map.now c.args.board.now c.args.orders.now c.requires.is_of c.requires.orders)
 
 pub explain-requires-clause-situation : goal.explain-requires-clause-situation
 explain-requires-clause-situation c =

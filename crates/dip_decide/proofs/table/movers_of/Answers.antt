@@ -1,5 +1,5 @@
 use Rattle.std.proofs.Common.{ap, ◌∙◌, refl, filter}
-use Rattle.dip_lists.specs.Keys.{has_key}
+use Rattle.dip_keyed.specs.Keys.{has_key}
 use Rattle.dip_decide.specs.Matching.{target_of}
 use Rattle.dip_decide.proofs.Among.{keyed}
 use Rattle.dip_decide.proofs.Rounds.{if_ok_more}

@@ -4,14 +4,10 @@ use Rattle.dip_decide.specs.Matching.{situation}
 use Rattle.dip_decide.specs.Movement.{at_first}
 use Rattle.dip_decide.proofs.ResultLaws.{within}
 use Rattle.dip_decide.proofs.Rounds.{if_ok_more}
-use Rattle.dip_decide.proofs.Situated.{single}
 use Rattle.dip_decide.proofs.testing.known_at_first.Goals as goal
 
 pub table_of-requires : goal.table_of-requires
-table_of-requires c = record {
-  within = rw c.as_slice.ensures (within c.args.map.now c.args.board.now c.args.orders.now c.requires.is_of c.requires.orders);
-  single = rw c.as_slice.ensures (single c.args.orders.now c.args.board.now.units c.requires.orders c.requires.is_of.apart);
-}
+table_of-requires c = rw c.as_slice.ensures (within c.args.map.now c.args.board.now c.args.orders.now c.requires.is_of c.requires.orders)
 
 pub returns : goal.returns
 returns c =

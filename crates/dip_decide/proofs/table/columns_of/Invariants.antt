@@ -1,10 +1,11 @@
-use Rattle.std.proofs.Common.{◌≡◌, ◌≤◌, drop, length}
+use Rattle.std.proofs.Common.{◌≤◌, drop, length}
 use Rattle.dip_decide.specs.Given.{rows_of}
-use Rattle.dip_decide.proofs.table.rows_of.Given as goal
+use Rattle.dip_decide.specs.Placed.{AreColumns}
+use Rattle.dip_decide.proofs.table.columns_of.Given as goal
 
 abbrev pub invariant-loop-left : goal.invariant-loop-left
 invariant-loop-left l = record {
-  rows : l.rows.items ≡ rows_of (drop l.left l.orders) l.map;
+  columns : AreColumns l.map (rows_of (drop l.left l.orders) l.map) l.columns;
   within : l.left ≤ length l.orders;
 }
 

@@ -1,15 +1,13 @@
 -- Steps that are written one after the other explain what was given so far.
-use Rattle.std.proofs.Common.{◌≡◌, ℕ, List, [], ◌∷◌, ◌++◌, take, length, ◌<◌, ◌+◌, get_or, refl, sym, subst, ap, ◌∙◌, append_assoc, inl, inr}
+use Rattle.std.proofs.Common.{◌≡◌, List, [], ◌∷◌, ◌++◌, refl, sym, subst, append_assoc, inl, inr}
 use Rattle.std.specs.Prelude.{Bool, true, false, None}
 use Rattle.std.proofs.lemmas.Bool.{or_cases, or_left, or_right}
-use Rattle.std.proofs.lemmas.List.{take_more}
 use mathlib.Core.Logic.{◌⊎◌}
 use Rattle.dip_decide.specs.declared.decisions.Decision.{Decision}
-use Rattle.dip_decide.specs.declared.decisions.Decision.TheVariants.{Move, Path, Support}
 use Rattle.dip_decide.specs.Deciding.{same, is_among, Assignment, Known, Equation, Mentions, IsCompletion, IsForced, IsCircle, IsKnot, Step, give, Explains}
 use Rattle.dip_decide.specs.Deciding.Step.{Forced, Circle, Knot}
 use Rattle.dip_decide.specs.Movement.{Situation, at_first, rule, mentions}
-use Rattle.dip_decide.specs.Steps.{decisions, IsStarted, Grows, Continues}
+use Rattle.dip_decide.specs.Steps.{IsStarted, Grows, Continues}
 use Rattle.dip_decide.proofs.FromSteps.{given_kept, knot_open}
 use Rattle.dip_decide.proofs.OneAnswer.{narrower, open_one, same_self}
 
@@ -62,16 +60,6 @@ among_either d (x ∷ ds) es h = go (or_cases _ _ h) (among_either d ds es)
         after : (is_among d ds ≡ true) ⊎ (is_among d es ≡ true) → (is_among d (x ∷ ds) ≡ true) ⊎ (is_among d es ≡ true)
         after (inl t) = inl (or_right (same d x) _ t)
         after (inr t) = inr t
-
--- the decisions of one more place
-decisions_append : (ps qs : List ℕ) → decisions (ps ++ qs) ≡ decisions ps ++ decisions qs
-decisions_append [] qs = refl
-decisions_append (p ∷ ps) qs = ap (λ (ds : List Decision). Move p ∷ Path p ∷ Support p ∷ ds) (decisions_append ps qs)
-
-pub more_decisions : (ps : List ℕ) (i p : ℕ) → i < length ps → p ≡ get_or ps i p → decisions (take (i + 1) ps) ≡ decisions (take i ps) ++ decisions (p ∷ [])
-more_decisions ps i p h e =
-    let cut : take (i + 1) ps ≡ take i ps ++ p ∷ [] = take_more ps i p h ∙ ap (λ (x : ℕ). take i ps ++ x ∷ []) (sym e) in
-    ap decisions cut ∙ decisions_append (take i ps) (p ∷ [])
 
 -- what is known at first is known on
 pub started : (s : Situation) (steps : List Step) (l : Known) → Continues (rule s) (mentions s) (at_first s) steps l → IsStarted s l

@@ -29,3 +29,4 @@ mod Unbroken
 mod Columns
 mod Marked
 mod Standing
+mod Opened

@@ -1,22 +1,17 @@
 -- The table of a movement's orders shows their situation.
 use Rattle.std.proofs.Common.{◌≡◌, ℕ, ◌+◌, ◌<◌, ◌≤◌, length, List, [], ◌∷◌, ◌∙◌, zero, suc, arith, refl, ap, sym, inl, inr, All, map}
-use Rattle.std.specs.Prelude.{◌==◌, Bool, true, false, Option, None, Some, is_some}
-use Rattle.std.specs.List.{AllByRecursion, list_any, range_with_len, slice_get, slice_index_or}
+use Rattle.std.specs.Prelude.{◌==◌, true, false, Option, None, Some, is_some}
+use Rattle.std.specs.List.{AllByRecursion, range_with_len, slice_get}
 use Rattle.std.proofs.lemmas.List.Elements.{recursion_from_All}
 use Rattle.std.proofs.lemmas.Bool.{both_ways, cases_Bool, eqb-true, cases_lt, or_left, or_right}
 use Rattle.std.proofs.Math.Path.{fun_ext}
 use mathlib.Core.Logic.{◌⊎◌}
 use Rattle.dip_chart.specs.Charts.{Chart}
 use Rattle.dip_orders.specs.declared.placed.PlacedOrder.{PlacedOrder}
-use Rattle.dip_decide.specs.Matching.{order_at, provinces_of, target_of, is_convoyed, supports_in, situation, situation_by}
-use Rattle.dip_decide.specs.declared.decisions.Decision.{Decision}
-use Rattle.dip_decide.specs.declared.decisions.Decision.TheVariants.{Move, Path, Support}
-use Rattle.dip_decide.specs.declared.placed.Table.{Table}
-use Rattle.dip_decide.specs.declared.values.Values.{Values}
-use Rattle.dip_decide.specs.Movement.{at_first, is_listed}
-use Rattle.dip_decide.specs.Placed.{backed_of, entry}
-use Rattle.dip_decide.specs.Given.{rows_of, situation_of, known_of, at_start, moves_at_start, paths_at_start, supports_at_start}
-use Rattle.dip_decide.proofs.Mentioners.{backs_some}
+use Rattle.dip_decide.specs.Matching.{order_at, provinces_of, situation, situation_by}
+use Rattle.dip_decide.specs.Movement.{is_listed}
+use Rattle.dip_decide.specs.Placed.{entry}
+use Rattle.dip_decide.specs.Given.{rows_of}
 
 -- the row of a province that is counted, and of one behind them
 entry_within : (orders : List PlacedOrder) (a k p : ℕ) → p < k → entry (map (order_at orders) (range_with_len a k)) p ≡ order_at orders (a + p)
@@ -71,45 +66,7 @@ column_none f [] p h = refl
 column_none f (r ∷ rows) zero h = let e : Some (f r) ≡ None = h in absurd (cc)
 column_none f (r ∷ rows) (suc p) h = column_none f rows p h
 
-pub paths_told : (t : Table) → map at_start t.convoyed.items ≡ paths_at_start t.map.now t.rows.items
-paths_told t = ap (map at_start) t.sailing ∙ twice t.rows.items
-  where
-    twice : (rows : List (Option PlacedOrder)) → map at_start (map (is_convoyed t.map.now) rows) ≡ map (λ row. at_start (is_convoyed t.map.now row)) rows
-    twice [] = refl
-    twice (r ∷ rows) = ap (λ xs. at_start (is_convoyed t.map.now r) ∷ xs) (twice rows)
-
-pub moves_told : (t : Table) → map (λ n. at_start (is_some n)) t.targets.items ≡ moves_at_start t.rows.items
-moves_told t = ap (map (λ n. at_start (is_some n))) t.aiming ∙ twice t.rows.items
-  where
-    twice : (rows : List (Option PlacedOrder)) → map (λ n. at_start (is_some n)) (map target_of rows) ≡ moves_at_start rows
-    twice [] = refl
-    twice (r ∷ rows) = ap (λ xs. at_start (is_some (target_of r)) ∷ xs) (twice rows)
-
-pub supports_told : (t : Table) → map (λ b. at_start (is_some b)) t.backed.items ≡ supports_at_start t t.rows.items
-supports_told t = ap (map (λ b. at_start (is_some b))) t.backing ∙ twice t.rows.items
-  where
-    twice : (rows : List (Option PlacedOrder)) → map (λ b. at_start (is_some b)) (map (backed_of (entry t.rows.items)) rows) ≡ supports_at_start t rows
-    twice [] = refl
-    twice (r ∷ rows) = rw (backs_some t r, twice rows) refl
-
 pub seen_law : (m : Chart) (orders : List PlacedOrder) (places : List ℕ) (rows : List (Option PlacedOrder)) → places ≡ provinces_of orders → rows ≡ rows_of orders m
     → All (λ o. o.unit.place.prov < length m.provinces) orders → situation_by m places (entry rows) ≡ situation m orders
 seen_law m orders places rows p r a =
     ap (λ (ps : List ℕ). situation_by m ps (entry rows)) p ∙ ap (λ (xs : List (Option PlacedOrder)). situation_by m (provinces_of orders) (entry xs)) r ∙ ap (situation_by m (provinces_of orders)) (entries m orders a)
-
-value_at : (f : Option PlacedOrder → Option Bool) → f None ≡ Some false → (rows : List (Option PlacedOrder)) (p : ℕ) → slice_index_or (map f rows) p (Some false) ≡ f (entry rows p)
-value_at f n [] p = sym n
-value_at f n (r ∷ rows) zero = refl
-value_at f n (r ∷ rows) (suc p) = value_at f n rows p
-
-none_any : (ps : List ℕ) → list_any (λ p. false) ps ≡ false
-none_any [] = refl
-none_any (p ∷ ps) = none_any ps
-
-pub starts : (t : Table) (v : Values) → v.moves.items ≡ moves_at_start t.rows.items → v.paths.items ≡ paths_at_start t.map.now t.rows.items → v.supports.items ≡ supports_at_start t t.rows.items → known_of v ≡ at_first (situation_of t)
-starts t v m p s = fun_ext go
-  where
-    go : (d : Decision) → known_of v d ≡ at_first (situation_of t) d
-    go (Move q) = rw m (value_at (λ row. at_start (is_some (target_of row))) refl t.rows.items q)
-    go (Path q) = rw p (value_at (λ row. at_start (is_convoyed t.map.now row)) refl t.rows.items q)
-    go (Support q) = rw s (value_at (λ row. at_start (list_any (λ x. supports_in (entry t.rows.items) row x) t.places.items)) (ap at_start (none_any t.places.items)) t.rows.items q)

@@ -1,8 +1,8 @@
 -- What the worklist keeps: who isn't on it isn't forced, and each test is that of a decision or of a mention.
-use Rattle.std.proofs.Common.{◌≡◌, ℕ, ◌≤◌, ◌<◌, ◌+◌, ◌*◌, List, [], ◌∷◌, ◌++◌, length, length-append, take, get_or, refl, sym, subst, ap, ◌∙◌, inl, inr, arith}
+use Rattle.std.proofs.Common.{◌≡◌, ℕ, ◌≤◌, ◌<◌, ◌+◌, ◌*◌, List, [], ◌∷◌, ◌++◌, length, length-append, map, take, get_or, refl, sym, subst, ap, ◌∙◌, inl, inr, arith}
 use Rattle.std.specs.Prelude.{if◌then◌else◌, Bool, true, false, not, ◌||◌, ◌&&◌, Option, None, Some, cond, is_some}
 use Rattle.std.specs.List.{sum_by, count_by}
-use Rattle.std.proofs.lemmas.List.{length_push, take_more}
+use Rattle.std.proofs.lemmas.List.{length_push, map_more, take_all, take_more}
 use Rattle.std.proofs.lemmas.Bool.{cases_Bool, both_ways, or_cases, or_left, or_right}
 use Rattle.std.proofs.lemmas.List.Sums.{sum_by-cons, length-filter}
 use mathlib.Core.Logic.{◌⊎◌}
@@ -12,7 +12,7 @@ use Rattle.dip_decide.specs.Deciding.{same, is_among, AreDistinct, Assignment, K
 use Rattle.dip_decide.specs.Deciding.Step.{Forced}
 use Rattle.dip_decide.specs.Movement.{Situation, IsSituation, is_decided, at_first, rule, mentions}
 use Rattle.dip_decide.specs.Corners.{rises}
-use Rattle.dip_decide.specs.Steps.{moves_of, paths_of, decisions, is_unknown, Grows, IsStarted, IsTurn, NoneForced}
+use Rattle.dip_decide.specs.Steps.{moves_of, paths_of, supports_of, decisions, is_unknown, Grows, IsStarted, IsTurn, NoneForced}
 use Rattle.dip_decide.proofs.Progress.{known_or_open, listed_decision}
 use Rattle.dip_decide.proofs.Giving.{among_more}
 use Rattle.dip_decide.specs.Results.{decided_in, is_forced, forced_in, mentioners, mentions_in}
@@ -21,7 +21,7 @@ use Rattle.dip_decide.proofs.OneAnswer.{same_is, same_self, open_one}
 use Rattle.dip_decide.proofs.CornerLaws.{agree}
 use Rattle.dip_decide.proofs.FromSteps.{knot_open}
 use Rattle.dip_decide.proofs.Rises.{rule_rises}
-use Rattle.dip_decide.proofs.Continuing.{give_grows, one_forced, among_either, more_decisions}
+use Rattle.dip_decide.proofs.Continuing.{give_grows, one_forced, among_either}
 
 -- the rule of each decision depends on those that it mentions alone
 abbrev pub IsExact : Equation → (Decision → Decision → Bool) → Type 0
@@ -327,11 +327,71 @@ one_not_listed k d old f = record { kept = λ x h. h; put = λ x h o. there x (o
     there x (inl h) o = let q = same_is x d h in subst (λ (y : Decision). is_among y old ≡ true) (sym q) (f (subst (λ (y : Decision). k y ≡ None) q o))
     there x (inr h) o = absurd (both_ways false refl h)
 
-pub unit_listed : (k : Known) (p : ℕ) (x y z w : List Decision) → HasOpen k (Move p ∷ []) x y → HasOpen k (Path p ∷ []) y z → HasOpen k (Support p ∷ []) z w → HasOpen k (decisions (p ∷ [])) x w
-unit_listed k p x y z w a b c = more_listed k (Move p ∷ []) (Path p ∷ Support p ∷ []) x y w a (more_listed k (Path p ∷ []) (Support p ∷ []) y z w b c)
+-- one unit more, of one kind of decisions
+pub kind_step : (f : ℕ → Decision) (k : Known) (ps : List ℕ) (i p : ℕ) (x y z : List Decision) → i < length ps → p ≡ get_or ps i p → HasOpen k (map f (take i ps)) x y → HasOpen k (f p ∷ []) y z → HasOpen k (map f (take (i + 1) ps)) x z
+kind_step f k ps i p x y z h g u v =
+    let e : map f (take (i + 1) ps) ≡ map f (take i ps) ++ f p ∷ [] = map_more f ps i p h ∙ ap (λ (q : ℕ). map f (take i ps) ++ f q ∷ []) (sym g) in
+    rw e (more_listed k (map f (take i ps)) (f p ∷ []) x y z u v)
 
-pub listed_step : (k : Known) (ps : List ℕ) (i p : ℕ) (x y z : List Decision) → i < length ps → p ≡ get_or ps i p → HasOpen k (decisions (take i ps)) x y → HasOpen k (decisions (p ∷ [])) y z → HasOpen k (decisions (take (i + 1) ps)) x z
-listed_step k ps i p x y z h g u v = rw (more_decisions ps i p h g) (more_listed k (decisions (take i ps)) (decisions (p ∷ [])) x y z u v)
+pub kind_all : (f : ℕ → Decision) (k : Known) (ps : List ℕ) (i : ℕ) (x y : List Decision) → length ps ≤ i → HasOpen k (map f (take i ps)) x y → HasOpen k (map f ps) x y
+kind_all f k ps i x y h u = subst (λ (qs : List ℕ). HasOpen k (map f qs) x y) (take_all i ps h) u
+
+-- a decision of these units is of one kind or the other
+abbrev pub IsOfKind : Decision → List ℕ → Type 0
+IsOfKind d ps = (is_among d (moves_of ps) ≡ true) ⊎ ((is_among d (supports_of ps) ≡ true) ⊎ (is_among d (paths_of ps) ≡ true))
+
+kinds : (d : Decision) (ps : List ℕ) → is_among d (decisions ps) ≡ true → IsOfKind d ps
+kinds d [] h = absurd (both_ways false refl h)
+kinds d (q ∷ ps) h = first (kinds d ps) (or_cases _ _ h)
+  where
+    later : IsOfKind d ps → IsOfKind d (q ∷ ps)
+    later (inl g) = inl (or_right (same d (Move q)) _ g)
+    later (inr (inl g)) = inr (inl (or_right (same d (Support q)) _ g))
+    later (inr (inr g)) = inr (inr (or_right (same d (Path q)) _ g))
+
+    third : (is_among d (decisions ps) ≡ true → IsOfKind d ps) → (same d (Support q) ≡ true) ⊎ (is_among d (decisions ps) ≡ true) → IsOfKind d (q ∷ ps)
+    third f (inl g) = inr (inl (or_left _ _ g))
+    third f (inr g) = later (f g)
+
+    second : (is_among d (decisions ps) ≡ true → IsOfKind d ps) → (same d (Path q) ≡ true) ⊎ (is_among d (Support q ∷ decisions ps) ≡ true) → IsOfKind d (q ∷ ps)
+    second f (inl g) = inr (inr (or_left _ _ g))
+    second f (inr g) = third f (or_cases _ _ g)
+
+    first : (is_among d (decisions ps) ≡ true → IsOfKind d ps) → (same d (Move q) ≡ true) ⊎ (is_among d (Path q ∷ Support q ∷ decisions ps) ≡ true) → IsOfKind d (q ∷ ps)
+    first f (inl g) = inl (or_left _ _ g)
+    first f (inr g) = second f (or_cases _ _ g)
+
+-- the decisions of these units, kind by kind
+pub kinds_listed : (k : Known) (ps : List ℕ) (x y z w : List Decision) → HasOpen k (moves_of ps) x y → HasOpen k (supports_of ps) y z → HasOpen k (paths_of ps) z w → HasOpen k (decisions ps) x w
+kinds_listed k ps x y z w m s p = record {
+  kept = λ d h. p.kept d (s.kept d (m.kept d h));
+  put = λ d h o. which d (kinds d ps h) o;
+  few = let a = m.few in let b = s.few in let c = p.few in let n = total ps in omega arith;
+}
+  where
+    which : (d : Decision) → (is_among d (moves_of ps) ≡ true) ⊎ ((is_among d (supports_of ps) ≡ true) ⊎ (is_among d (paths_of ps) ≡ true)) → k d ≡ None → is_among d w ≡ true
+    which d (inl h) o = p.kept d (s.kept d (m.put d h o))
+    which d (inr (inl h)) o = p.kept d (s.put d h o)
+    which d (inr (inr h)) o = p.put d h o
+
+    one : (d : Decision) (ds : List Decision) → length (opens k (d ∷ ds)) ≡ cond (is_unknown (k d)) 1 0 + length (opens k ds)
+    one d ds = go (cases_Bool (is_unknown (k d)))
+      where
+        go : (is_unknown (k d) ≡ true) ⊎ (is_unknown (k d) ≡ false) → length (opens k (d ∷ ds)) ≡ cond (is_unknown (k d)) 1 0 + length (opens k ds)
+        go (inl e) = rw e (omega arith)
+        go (inr e) = rw e (omega arith)
+
+    total : (ps : List ℕ) → length (opens k (decisions ps)) ≡ length (opens k (moves_of ps)) + length (opens k (supports_of ps)) + length (opens k (paths_of ps))
+    total [] = refl
+    total (q ∷ ps) =
+        let r = total ps in
+        let a = one (Move q) (Path q ∷ Support q ∷ decisions ps) in
+        let b = one (Path q) (Support q ∷ decisions ps) in
+        let c = one (Support q) (decisions ps) in
+        let d = one (Move q) (moves_of ps) in
+        let e = one (Support q) (supports_of ps) in
+        let f = one (Path q) (paths_of ps) in
+        omega (arith, r, a, b, c, d, e, f)
 
 -- the mentioners of one more
 

@@ -1,6 +1,6 @@
 -- What the lists of the code stand for.
-use Rattle.std.specs.Prelude.{Bool, false, List, map, Option, None, Some, is_some, if◌then◌else◌}
-use Rattle.std.specs.List.{list_any, slice_index_or}
+use Rattle.std.specs.Prelude.{◌≡◌, ◌&&◌, ℕ, Bool, false, List, length, map, Option, None, Some, if◌then◌else◌}
+use Rattle.std.specs.List.{slice_index_or}
 use Rattle.dip_chart.specs.Charts.{Chart, provs}
 use Rattle.dip_orders.specs.declared.placed.PlacedOrder.{PlacedOrder}
 use Rattle.dip_decide.specs.declared.decisions.Decision.{Decision}
@@ -8,8 +8,8 @@ use Rattle.dip_decide.specs.declared.decisions.Decision.TheVariants.{Move, Path,
 use Rattle.dip_decide.specs.declared.placed.Table.{Table}
 use Rattle.dip_decide.specs.declared.values.Values.{Values}
 use Rattle.dip_decide.specs.Deciding.{Equation, Known, IsForced}
-use Rattle.dip_decide.specs.Matching.{order_at, target_of, is_convoyed, supports_in, situation_by}
-use Rattle.dip_decide.specs.Movement.{Situation}
+use Rattle.dip_decide.specs.Matching.{order_at, situation_by}
+use Rattle.dip_decide.specs.Movement.{Situation, is_listed}
 use Rattle.dip_decide.specs.Placed.{entry}
 
 -- a row for each province: the order of the unit in it
@@ -34,15 +34,10 @@ known_of k (Support p) = slice_index_or k.supports.items p (Some false)
 abbrev pub at_start : Bool → Option Bool
 at_start decided = if decided then None else Some false
 
--- the values before the first step, row by row
-abbrev pub moves_at_start : List (Option PlacedOrder) → List (Option Bool)
-moves_at_start rows = map (λ row. at_start (is_some (target_of row))) rows
-
-abbrev pub paths_at_start : Chart → List (Option PlacedOrder) → List (Option Bool)
-paths_at_start m rows = map (λ row. at_start (is_convoyed m row)) rows
-
-abbrev pub supports_at_start : Table → List (Option PlacedOrder) → List (Option Bool)
-supports_at_start t rows = map (λ row. at_start (list_any (λ p. supports_in (entry t.rows.items) row p) t.places.items)) rows
+-- a column of so many provinces where what is decided of these units is open, and all else false
+pub record IsOpened (size : ℕ) (decided : ℕ → Bool) (units : List ℕ) (column : List (Option Bool)) : Type 0 where
+  pub sized : length column ≡ size
+  pub at : (q : ℕ) → slice_index_or column q (Some false) ≡ at_start (decided q && is_listed units q)
 
 -- the value to which a decision is forced, or that there is none
 abbrev pub IsAnswer : Equation → Known → Decision → Option Bool → Type 0

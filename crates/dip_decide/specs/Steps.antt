@@ -8,12 +8,15 @@ use Rattle.dip_decide.specs.Deciding as Deciding
 use Rattle.dip_decide.specs.Deciding.{is_among, Equation, Mentions, Known, Assignment, IsCompletion, IsForced, Explains}
 use Rattle.dip_decide.specs.Movement.{Situation, is_decided, at_first, rule, mentions}
 
--- the moves, and the paths, of the units in these provinces
+-- the moves, the paths and the supports of the units in these provinces
 abbrev pub moves_of : List ℕ → List Decision
 moves_of ps = map Move ps
 
 abbrev pub paths_of : List ℕ → List Decision
 paths_of ps = map Path ps
+
+abbrev pub supports_of : List ℕ → List Decision
+supports_of ps = map Support ps
 
 -- the step that is written
 abbrev pub step_of : Step → Deciding.Step

@@ -47,9 +47,10 @@ impl Corner<'_> {
     fn value(&self, d: &Decision) -> bool
         ensures { result ≡ values self.now d.now }
     {
+        let open = self.rises(d) == self.high;
         match self.known.look(d) {
             Some(value) => value,
-            None => if self.rises(d) { self.high } else { !self.high },
+            None => open,
         }
     }
 

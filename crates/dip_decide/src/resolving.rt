@@ -1,5 +1,5 @@
 //! A movement as a whole: from the orders to the resolution.
-ghost use Rattle.std.specs.Prelude.{◌≡◌, ◌≤◌, ◌+◌, IfOk, length, filter, replicate, Some, true, false};
+ghost use Rattle.std.specs.Prelude.{◌≡◌, ◌≤◌, ◌+◌, IfOk, length, filter, Some, true, false};
 ghost use Rattle.std.specs.List.{list_any, slice_set};
 ghost use Rattle.dip_chart.specs.Charts.{provs};
 ghost use Rattle.dip_board.specs.Boards.{IsOf};
@@ -17,7 +17,7 @@ use crate::decisions::{Resolution, Step};
 use crate::starting::values_at_start;
 use crate::table::table_of;
 use crate::turns::explain;
-use crate::values::{Values, value_at};
+use crate::values::{Values, all_false, value_at};
 use dip_board::Board;
 use dip_map::Map;
 use dip_names::Prov;
@@ -33,25 +33,19 @@ fn is_true(value: Option<bool>) -> bool
     }
 }
 
-/// The provinces of a column with true, by code.
+/// The provinces of a column with true, by code: each is written behind those so far, and counts or is written over, so that there is no
+/// branch that a processor can't foretell.
 fn trues(alloc: Global, map: &Map, column: &[Option<bool>]) -> Result<Vec<Prov>, AllocError>
     ensures { IfOk result (λ v. v.items ≡ trues column.now map.now) }
 {
-    let mut found = Vec::with_capacity(alloc, column.len())?;
+    let mut found = vec![in alloc; Prov::new(0); map.province_count()]?;
+    let mut many = 0usize;
     for prov in map.each_province() {
-        if is_true(value_at(column, prov)) {
-            found.push(prov)?;
-        }
+        found[many] = prov;
+        many += usize::from(is_true(value_at(column, prov)));
     }
+    found.truncate(many);
     Ok(found)
-}
-
-/// A column with false for each of so many provinces.
-fn none_marked(alloc: Global, count: usize) -> Result<Vec<Option<bool>>, AllocError>
-    ensures { IfOk result (λ v. v.items ≡ replicate count (Some false)) }
-{
-    let marks = vec![in alloc; Some(false); count]?;
-    Ok(marks)
 }
 
 /// Puts true at a province.
@@ -87,7 +81,7 @@ fn broken_in(alloc: Global, map: &Map, steps: &[Step]) -> Result<Vec<Prov>, Allo
     ensures { IfOk result
         (λ v. v.items ≡ filter (λ p. list_any (λ s. breaks s p) steps.now) (provs map.now)) }
 {
-    let mut marks = none_marked(alloc, map.province_count())?;
+    let mut marks = all_false(alloc, map.province_count())?;
     for step in steps {
         mark_step(&mut marks, step);
     }

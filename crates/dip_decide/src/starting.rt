@@ -1,10 +1,12 @@
 //! The values at the start: what is no decision is known to be false.
-ghost use Rattle.std.specs.Prelude.{◌≡◌, is_some, map, IfOk};
-ghost use Rattle.dip_decide.specs.Given.{at_start, moves_at_start, paths_at_start, supports_at_start, situation_of, known_of};
-ghost use Rattle.dip_decide.specs.Movement.{at_first};
+ghost use Rattle.std.specs.Prelude.{◌≡◌, Some, false, replicate, IfOk};
+ghost use Rattle.std.specs.List.{slice_set};
+ghost use Rattle.dip_decide.specs.Given.{at_start, situation_of, known_of};
+ghost use Rattle.dip_decide.specs.declared.decisions.Decision.TheVariants.{Move, Path, Support};
+ghost use Rattle.dip_decide.specs.Movement.{at_first, is_decided};
 
 use crate::placed::Table;
-use crate::values::Values;
+use crate::values::{Values, all_false};
 use dip_names::Prov;
 use std::alloc::{AllocError, Global};
 
@@ -15,56 +17,55 @@ fn at_start(is_decided: bool) -> Option<bool>
     if is_decided { None } else { Some(false) }
 }
 
-/// What is known at first of each of these: nothing where it names somebody.
-fn names_at_start(alloc: Global, names: &[Option<Prov>]) -> Result<Vec<Option<bool>>, AllocError>
-    ensures { IfOk result (λ v. v.items ≡ map (λ n. at_start (is_some n)) names.now) }
+/// Values for so many provinces, in which there is nothing to decide.
+fn nothing_to_decide(alloc: Global, count: usize) -> Result<Values, AllocError>
+    ensures moves { IfOk result (λ v. v.moves.items ≡ replicate count (Some false)) }
+    ensures paths { IfOk result (λ v. v.paths.items ≡ replicate count (Some false)) }
+    ensures supports { IfOk result (λ v. v.supports.items ≡ replicate count (Some false)) }
 {
-    let mut column = Vec::with_capacity(alloc, names.len())?;
-    for name in names {
-        column.push(at_start(name.is_some()))?;
+    let moves = all_false(alloc, count)?;
+    let paths = all_false(alloc, count)?;
+    let supports = all_false(alloc, count)?;
+    Ok(Values {
+        moves,
+        paths,
+        supports,
+    })
+}
+
+/// Puts what is known at first at a province.
+fn put_at_start(column: &mut Vec<Option<bool>>, p: Prov, is_decided: bool)
+    ensures { column.new.items ≡ slice_set column.old.items p (at_start is_decided) }
+{
+    if let Some(place) = column.get_mut(usize::from(p.index())) {
+        *place = at_start(is_decided);
     }
-    Ok(column)
 }
 
-fn moves_at_start(alloc: Global, table: &Table) -> Result<Vec<Option<bool>>, AllocError>
-    ensures { IfOk result (λ v. v.items ≡ moves_at_start table.now.rows.items) }
+/// Puts what is known at first of the decisions about the unit in a province.
+fn put_unit(values: &mut Values, table: &Table, p: Prov)
+    ensures moves { values.new.moves.items
+        ≡ slice_set values.old.moves.items p
+        (at_start (is_decided (situation_of table.now) (Move p))) }
+    ensures paths { values.new.paths.items
+        ≡ slice_set values.old.paths.items p
+        (at_start (is_decided (situation_of table.now) (Path p))) }
+    ensures supports { values.new.supports.items
+        ≡ slice_set values.old.supports.items p
+        (at_start (is_decided (situation_of table.now) (Support p))) }
 {
-    names_at_start(alloc, table.targets.as_slice())
-}
-
-/// What is known at first of each of these, which are decided or aren't.
-fn column_at_start(alloc: Global, decided: &[bool]) -> Result<Vec<Option<bool>>, AllocError>
-    ensures { IfOk result (λ v. v.items ≡ map at_start decided.now) }
-{
-    let mut column = Vec::with_capacity(alloc, decided.len())?;
-    for is_decided in decided {
-        column.push(at_start(*is_decided))?;
-    }
-    Ok(column)
-}
-
-fn paths_at_start(alloc: Global, table: &Table) -> Result<Vec<Option<bool>>, AllocError>
-    ensures { IfOk result (λ v. v.items ≡ paths_at_start table.now.map.now table.now.rows.items) }
-{
-    column_at_start(alloc, table.convoyed.as_slice())
-}
-
-fn supports_at_start(alloc: Global, table: &Table) -> Result<Vec<Option<bool>>, AllocError>
-    ensures { IfOk result (λ v. v.items ≡ supports_at_start table.now table.now.rows.items) }
-{
-    names_at_start(alloc, table.backed.as_slice())
+    put_at_start(&mut values.moves, p, table.has_move(p));
+    put_at_start(&mut values.paths, p, table.is_convoyed(p));
+    put_at_start(&mut values.supports, p, table.is_support(p));
 }
 
 /// The values before the first step.
 pub(crate) fn values_at_start(alloc: Global, table: &Table) -> Result<Values, AllocError>
     ensures { IfOk result (λ v. known_of v ≡ at_first (situation_of table.now)) }
 {
-    let moves = moves_at_start(alloc, table)?;
-    let paths = paths_at_start(alloc, table)?;
-    let supports = supports_at_start(alloc, table)?;
-    Ok(Values {
-        moves,
-        paths,
-        supports,
-    })
+    let mut values = nothing_to_decide(alloc, table.rows.as_slice().len())?;
+    for p in &table.places {
+        put_unit(&mut values, table, *p);
+    }
+    Ok(values)
 }

@@ -185,7 +185,11 @@ fn helpers_of(alloc: Global, places: &[Prov], backed: &[Option<Prov>]) -> Result
 }
 
 /// The units by the one that they convoy.
-fn carriers_of(alloc: Global, places: &[Prov], carried: &[Option<Prov>]) -> Result<ByKey, AllocError>
+fn carriers_of(
+    alloc: Global,
+    places: &[Prov],
+    carried: &[Option<Prov>],
+) -> Result<ByKey, AllocError>
     ensures { IfOk result
         (λ b. (rows : List (Option APlacedOrder)) → carried.now ≡ map carried_of rows
         → (q : ℕ) → units_of b q ≡ keyed_by carried_of places.now rows q) }

@@ -1,5 +1,5 @@
 //! The values of decisions so far.
-ghost use Rattle.std.specs.Prelude.{◌≡◌, ◌∷◌, [], None, Some, true, false};
+ghost use Rattle.std.specs.Prelude.{◌≡◌, ◌∷◌, [], None, Some, true, false, replicate, IfOk};
 ghost use Rattle.std.specs.List.{slice_index_or};
 ghost use Rattle.dip_decide.specs.Deciding.{give};
 ghost use Rattle.dip_decide.specs.Given.{known_of};
@@ -9,6 +9,7 @@ ghost use Rattle.dip_chart.specs.Charts.{are_provs_single};
 
 use crate::decisions::Decision;
 use dip_names::Prov;
+use std::alloc::{AllocError, Global};
 
 /// The values that were given so far, by the numbers of the provinces; none where the decision is open.
 #[derive(Drop)]
@@ -26,6 +27,14 @@ pub(crate) fn value_at(list: &[Option<bool>], p: Prov) -> Option<bool>
         Some(value) => *value,
         None => Some(false),
     }
+}
+
+/// False for each of so many provinces.
+pub(crate) fn all_false(alloc: Global, count: usize) -> Result<Vec<Option<bool>>, AllocError>
+    ensures { IfOk result (λ v. v.items ≡ replicate count (Some false)) }
+{
+    let column = vec![in alloc; Some(false); count]?;
+    Ok(column)
 }
 
 impl Values {

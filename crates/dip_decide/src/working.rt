@@ -3,7 +3,7 @@ ghost use Rattle.std.specs.Prelude.{◌≡◌, ◌<◌, ◌+◌, ◌^◌, ◌∷
 ghost use Rattle.dip_decide.specs.Given.{situation_of, known_of};
 ghost use Rattle.dip_decide.specs.Movement.{IsSituation};
 ghost use Rattle.dip_decide.specs.Results.{decided_in, mentioners, mentions_in};
-ghost use Rattle.dip_decide.specs.Steps.{steps_of, moves_of, paths_of, decisions, is_unknown, IsStarted};
+ghost use Rattle.dip_decide.specs.Steps.{steps_of, moves_of, paths_of, supports_of, decisions, is_unknown, IsStarted};
 ghost use Rattle.dip_decide.specs.Working.{weight, Counts, HasOpen, IsListed, IsWork, IsWorked};
 
 use crate::decisions::{Decision, Step};
@@ -27,18 +27,41 @@ fn list_one(values: &Values, work: &mut Worklist, d: Decision) -> Result<(), All
     Ok(())
 }
 
-/// Lists what is open of a unit's decisions.
-fn list_unit(values: &Values, work: &mut Worklist, p: Prov) -> Result<(), AllocError>
+/// Lists the moves of these units that are open.
+fn list_moves(values: &Values, work: &mut Worklist, units: &[Prov]) -> Result<(), AllocError>
     ensures { OnOk result
-        (HasOpen (known_of values.now) (decisions (p ∷ [])) work.old work.new) }
+        (HasOpen (known_of values.now) (moves_of units.now) work.old work.new) }
 {
-    list_one(values, work, Decision::Move(p))?;
-    list_one(values, work, Decision::Path(p))?;
-    list_one(values, work, Decision::Support(p))?;
+    for unit in units {
+        list_one(values, work, Decision::Move(*unit))?;
+    }
     Ok(())
 }
 
-/// What is open, of all units.
+/// Lists the supports of these units that are open.
+fn list_supports(values: &Values, work: &mut Worklist, units: &[Prov]) -> Result<(), AllocError>
+    ensures { OnOk result
+        (HasOpen (known_of values.now) (supports_of units.now) work.old work.new) }
+{
+    for unit in units {
+        list_one(values, work, Decision::Support(*unit))?;
+    }
+    Ok(())
+}
+
+/// Lists the paths of these units that are open.
+fn list_paths(values: &Values, work: &mut Worklist, units: &[Prov]) -> Result<(), AllocError>
+    ensures { OnOk result
+        (HasOpen (known_of values.now) (paths_of units.now) work.old work.new) }
+{
+    for unit in units {
+        list_one(values, work, Decision::Path(*unit))?;
+    }
+    Ok(())
+}
+
+/// What is open, of all units. Since the last one listed is tested first, paths come first and moves last: the equation of a move
+/// mentions the most.
 pub(crate) fn work_at_start(
     alloc: Global,
     table: &Table,
@@ -48,9 +71,9 @@ pub(crate) fn work_at_start(
         (HasOpen (known_of values.now) (decisions table.now.places.items) []) }
 {
     let mut work = Worklist::with_capacity(alloc, table.places.len().saturating_mul(3))?;
-    for place in &table.places {
-        list_unit(values, &mut work, *place)?;
-    }
+    list_moves(values, &mut work, table.places.as_slice())?;
+    list_supports(values, &mut work, table.places.as_slice())?;
+    list_paths(values, &mut work, table.places.as_slice())?;
     Ok(work)
 }
 

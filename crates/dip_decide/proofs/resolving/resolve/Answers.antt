@@ -9,7 +9,7 @@ use Rattle.dip_decide.proofs.Rounds.{if_ok_more}
 use Rattle.dip_decide.proofs.resolving.resolve.Goals as goal
 
 pub table_of-requires : goal.table_of-requires
-table_of-requires c = rw c.as_slice.ensures (within c.args.map.now c.args.board.now c.args.orders.now c.requires.is_of c.requires.orders)
+table_of-requires c = record { within = rw c.as_slice.ensures (within c.args.map.now c.args.board.now c.args.orders.now c.requires.is_of c.requires.orders) }
 
 pub explain-requires-clause-situation : goal.explain-requires-clause-situation
 explain-requires-clause-situation c =

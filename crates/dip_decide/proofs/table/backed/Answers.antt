@@ -6,7 +6,7 @@ use Rattle.dip_decide.proofs.table.backed.Goals as goal
 
 pub loop-left-init : goal.loop-left-init
 loop-left-init c = record {
-  backed = names_first (backed_of (entry c.args.rows.now)) None c.args.orders.now c.args.map.now c.in_ok-backed.backed.items refl c.in_ok-backed.ensures;
+  backed = names_first (backed_of (entry c.args.rows.now)) None c.args.orders.now c.args.map.now c.in_ok-backed.backed.items refl (rw c.province_count.ensures at c.in_ok-backed.ensures);
   within = omega arith;
 }
 

@@ -2,8 +2,7 @@ use Rattle.std.proofs.Common.{◌≡◌, ◌∙◌, ap, map, sym, List}
 use Rattle.std.specs.Prelude.{Option}
 use Rattle.dip_orders.specs.declared.placed.PlacedOrder.{PlacedOrder}
 use Rattle.dip_decide.specs.Given.{rows_of}
-use Rattle.dip_decide.specs.Matching.{target_of}
-use Rattle.dip_decide.specs.Placed.{backings_among, backings_of, carried_of, convoyed_of, entry, targets_of}
+use Rattle.dip_decide.specs.Placed.{backings_among, carried_of, convoyed_of, entry, targets_of}
 use Rattle.dip_decide.proofs.TableLaws.{rows_listed, seen_law}
 use Rattle.dip_decide.proofs.table.table_of.Goals as goal
 

@@ -8,7 +8,7 @@ use Rattle.dip_decide.proofs.Situated.{situated}
 use Rattle.dip_decide.proofs.testing.forced.Goals as goal
 
 pub table_of-requires : goal.table_of-requires
-table_of-requires c = rw c.as_slice.ensures (within c.args.map.now c.args.board.now c.args.orders.now c.requires.is_of c.requires.orders)
+table_of-requires c = record { within = rw c.as_slice.ensures (within c.args.map.now c.args.board.now c.args.orders.now c.requires.is_of c.requires.orders) }
 
 pub forced-requires-clause-situation : goal.forced-requires-clause-situation
 forced-requires-clause-situation c =

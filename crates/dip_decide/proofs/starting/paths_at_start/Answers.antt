@@ -1,7 +1,0 @@
-use Rattle.std.proofs.Common.{◌∙◌}
-use Rattle.dip_decide.proofs.Rounds.{if_ok_more}
-use Rattle.dip_decide.proofs.TableLaws.{paths_told}
-use Rattle.dip_decide.proofs.starting.paths_at_start.Goals as goal
-
-pub returns : goal.returns
-returns c = if_ok_more _ _ c.column_at_start.result (λ v h. h ∙ paths_told c.args.table.now) (rw c.as_slice.ensures.value at c.column_at_start.ensures)

@@ -1,13 +1,15 @@
 -- The marks of a worklist, one after the other set and cleared.
-use Rattle.std.proofs.Common.{◌≡◌, ◌≢◌, ℕ, ◌<◌, List, [], ◌∷◌, ◌++◌, length, replicate, zero, suc, arith, refl, sym, ap, ◌∙◌, inl, inr}
-use Rattle.std.specs.Prelude.{◌||◌, Bool, true, false}
+use Rattle.std.proofs.Common.{◌≡◌, ◌≢◌, ℕ, ◌<◌, List, [], ◌∷◌, ◌++◌, ◌+◌, ◌≤◌, get_or, length, replicate, take, zero, suc, arith, refl, sym, subst, ap, ◌∙◌, inl, inr}
+use Rattle.std.specs.Prelude.{◌||◌, ◌&&◌, not, Bool, true, false}
 use Rattle.std.specs.List.{slice_index_or, slice_set}
+use Rattle.std.proofs.lemmas.List.{take_more}
 use Rattle.std.proofs.lemmas.Bool.{cases_Bool, both_ways, eq-eqb, or_left, or_right}
+use mir.Val.{bool_byte}
 use mathlib.Core.Logic.{◌⊎◌}
 use Rattle.dip_decide.specs.declared.decisions.Decision.{Decision}
 use Rattle.dip_decide.specs.declared.decisions.Decision.TheVariants.{Move, Path, Support}
 use Rattle.dip_decide.specs.Deciding.{same, is_among, AreDistinct}
-use Rattle.dip_decide.specs.Worklist.{unit_of, mark_of, AreMarked}
+use Rattle.dip_decide.specs.Worklist.{unit_of, mark_of, AreMarked, IsFilled}
 use Rattle.dip_decide.proofs.OneAnswer.{same_is, same_self}
 use Rattle.dip_decide.proofs.Giving.{among_more}
 
@@ -89,3 +91,44 @@ module _ (marks : List Bool) (e : Decision) (low : unit_of e < 256) (place : mar
       go : is_among e list ≡ false → (d : Decision) → unit_of d < 256 → (same d e ≡ true) ⊎ (same d e ≡ false) → slice_index_or (slice_set marks (mark_of e) false) (mark_of d) false ≡ is_among d list
       go n d h (inl s) = rw (same_is d e s) (set_there marks (mark_of e) false (omega (arith, a.long, place)) ∙ sym n)
       go n d h (inr s) = set_elsewhere marks (mark_of e) (mark_of d) false (one_mark d e h low s) ∙ a.marked d h ∙ among_more d list e ∙ rw s (sym (or_none (is_among d list)))
+
+-- the list as it is filled, and as it is taken from
+pub filled_none : (list : List Decision) (marks : List Bool) → marks ≡ replicate 768 false → IsFilled 0 list marks
+filled_none list marks e = record { within = omega arith; marked = rw e marked_none }
+
+pub filled_kept : (many : ℕ) (list new : List Decision) (marks : List Bool) → take many new ≡ take many list → many ≤ length new → IsFilled many list marks → IsFilled many new marks
+filled_kept many list new marks e l f = record { within = l; marked = rw e f.marked }
+
+pub filled_more : (many : ℕ) (list new : List Decision) (marks : List Bool) (d : Decision) → unit_of d < 256 → mark_of d < 768 → take (many + 1) new ≡ take many list ++ d ∷ [] → many < length new
+    → is_among d (take many list) ≡ false → IsFilled many list marks → IsFilled (many + 1) new (slice_set marks (mark_of d) true)
+filled_more many list new marks d u p e l n f = record { within = omega (arith, l); marked = rw e (marked_more marks d u p (take many list) f.marked n) }
+
+pub filled_less : (many : ℕ) (list : List Decision) (marks : List Bool) (d : Decision) → unit_of d < 256 → mark_of d < 768 → many < length list → d ≡ get_or list many d
+    → IsFilled (many + 1) list marks → IsFilled many list (slice_set marks (mark_of d) false)
+filled_less many list marks d u p l is f =
+    let e : take (many + 1) list ≡ take many list ++ d ∷ [] = take_more list many d l ∙ ap (λ (x : Decision). take many list ++ x ∷ []) (sym is) in
+    record { within = omega (arith, l); marked = marked_less marks d u p (take many list) (rw e at f.marked) }
+
+-- a mark that is set again
+same_marks : (marks : List Bool) (i : ℕ) (b : Bool) → slice_index_or marks i false ≡ b → slice_set marks i b ≡ marks
+same_marks [] i b e = refl
+same_marks (m ∷ ms) zero b e = rw e refl
+same_marks (m ∷ ms) (suc i) b e = ap (λ (xs : List Bool). m ∷ xs) (same_marks ms i b e)
+
+pub filled_if : (many n : ℕ) (list new : List Decision) (marks : List Bool) (d : Decision) (w : Bool) → unit_of d < 256 → mark_of d < 768 → take many new ≡ take many list → take (many + 1) new ≡ take many list ++ d ∷ []
+    → many < length new → n ≡ bool_byte (w && not (slice_index_or marks (mark_of d) false)) → IsFilled many list marks → IsFilled (many + n) new (slice_set marks (mark_of d) (slice_index_or marks (mark_of d) false || w))
+filled_if many n list new marks d w u p k e l b f = go (slice_index_or marks (mark_of d) false) refl w b
+  where
+    still : slice_set marks (mark_of d) (slice_index_or marks (mark_of d) false) ≡ marks → n ≡ 0 → IsFilled (many + n) new (slice_set marks (mark_of d) (slice_index_or marks (mark_of d) false))
+    still s z =
+        let t : many ≡ many + n = omega (arith, z) in
+        rw s (subst (λ (x : ℕ). IsFilled x new marks) t (filled_kept many list new marks k (omega (arith, l)) f))
+
+    go : (was : Bool) → slice_index_or marks (mark_of d) false ≡ was → (w : Bool) → n ≡ bool_byte (w && not was) → IsFilled (many + n) new (slice_set marks (mark_of d) (was || w))
+    go true s true z = subst (λ (x : Bool). IsFilled (many + n) new (slice_set marks (mark_of d) x)) s (still (same_marks marks (mark_of d) _ refl) z)
+    go true s false z = subst (λ (x : Bool). IsFilled (many + n) new (slice_set marks (mark_of d) x)) s (still (same_marks marks (mark_of d) _ refl) z)
+    go false s false z = subst (λ (x : Bool). IsFilled (many + n) new (slice_set marks (mark_of d) x)) s (still (same_marks marks (mark_of d) _ refl) z)
+    go false s true z =
+        let one : n ≡ 1 = z in
+        let t : many + 1 ≡ many + n = omega (arith, one) in
+        subst (λ (x : ℕ). IsFilled x new (slice_set marks (mark_of d) true)) t (filled_more many list new marks d u p e l (sym (f.marked.marked d u) ∙ s) f)

@@ -17,6 +17,7 @@ use Rattle.dip_decide.proofs.Progress.{known_or_open, listed_decision}
 use Rattle.dip_decide.proofs.Giving.{among_more}
 use Rattle.dip_decide.specs.Results.{decided_in, is_forced, forced_in, mentioners, mentions_in}
 use Rattle.dip_decide.specs.Working.{weight, opens, Counts, HasOpen, IsWork, IsPut, IsListed, IsWorked, StaysWork}
+use Rattle.dip_decide.specs.Worklist.{listed_if}
 use Rattle.dip_decide.proofs.OneAnswer.{same_is, same_self, open_one}
 use Rattle.dip_decide.proofs.CornerLaws.{agree}
 use Rattle.dip_decide.proofs.FromSteps.{knot_open}
@@ -229,6 +230,11 @@ is_open None b h t = refl
 is_open (Some v) true h t = absurd (both_ways false refl (sym h))
 is_open (Some v) false h t = absurd (both_ways false refl t)
 
+pub was_open : (o : Option Bool) (b : Bool) → is_some o ≡ not b → o ≡ None → b ≡ true
+was_open o true h n = refl
+was_open None false h n = absurd (both_ways false refl h)
+was_open (Some v) false h n = absurd (cc)
+
 -- after a circle or a knot: the list was empty, and the mentioners of those that were given are on it
 pub work_given : (s : Situation) (i : IsSituation s) (k : Known) (z : IsStarted s k) (es new : List Decision) (c : Bool) (t : ℕ) → IsWork s k [] t → AreDistinct es → ((e : Decision) → is_among e es ≡ true → k e ≡ None) → IsListed s (give k es c) es [] new → IsWork s (give k es c) new t
 work_given s i k z es new c t w d o p = record {
@@ -326,6 +332,15 @@ one_not_listed k d old f = record { kept = λ x h. h; put = λ x h o. there x (o
     there : (x : Decision) → (same x d ≡ true) ⊎ (false ≡ true) → k x ≡ None → is_among x old ≡ true
     there x (inl h) o = let q = same_is x d h in subst (λ (y : Decision). is_among y old ≡ true) (sym q) (f (subst (λ (y : Decision). k y ≡ None) q o))
     there x (inr h) o = absurd (both_ways false refl h)
+
+-- it is listed where it is wanted, which is where it is open
+pub open_listed : (k : Known) (d : Decision) (w : Bool) (old : List Decision) → (k d ≡ None → w ≡ true) → (w ≡ true → k d ≡ None) → HasOpen k (d ∷ []) old (listed_if (w && not (is_among d old)) d old)
+open_listed k d w old from to = go w (is_among d old) refl refl
+  where
+    go : (v b : Bool) → w ≡ v → is_among d old ≡ b → HasOpen k (d ∷ []) old (listed_if (v && not b) d old)
+    go true true e f = one_not_listed k d old (λ o. f)
+    go true false e f = one_listed k d old (to e)
+    go false b e f = one_not_listed k d old (λ o. absurd (both_ways _ e (from o)))
 
 -- one unit more, of one kind of decisions
 pub kind_step : (f : ℕ → Decision) (k : Known) (ps : List ℕ) (i p : ℕ) (x y z : List Decision) → i < length ps → p ≡ get_or ps i p → HasOpen k (map f (take i ps)) x y → HasOpen k (f p ∷ []) y z → HasOpen k (map f (take (i + 1) ps)) x z

@@ -1,5 +1,5 @@
 -- A list of decisions, each once, and a mark for each that is on it.
-use Rattle.std.specs.Prelude.{◌≡◌, ◌<◌, ◌+◌, ℕ, Bool, false, List, length}
+use Rattle.std.specs.Prelude.{◌≡◌, ◌<◌, ◌≤◌, ◌+◌, ◌++◌, ℕ, Bool, false, List, [], ◌∷◌, length, take, if◌then◌else◌}
 use Rattle.std.specs.List.{slice_index_or}
 use Rattle.dip_decide.specs.declared.decisions.Decision.{Decision}
 use Rattle.dip_decide.specs.declared.decisions.Decision.TheVariants.{Move, Path, Support}
@@ -23,3 +23,12 @@ pub record AreMarked (list : List Decision) (marks : List Bool) : Type 0 where
   pub long : length marks ≡ 768
   pub marked : (d : Decision) → unit_of d < 256
       → slice_index_or marks (mark_of d) false ≡ is_among d list
+
+-- so many of these are on the list, and these are marked
+pub record IsFilled (many : ℕ) (list : List Decision) (marks : List Bool) : Type 0 where
+  pub within : many ≤ length list
+  pub marked : AreMarked (take many list) marks
+
+-- the list with one more, if that is so
+abbrev pub listed_if : Bool → Decision → List Decision → List Decision
+listed_if b d list = if b then list ++ d ∷ [] else list

@@ -21,9 +21,7 @@ fn list_one(values: &Values, work: &mut Worklist, d: Decision) -> Result<(), All
     ensures { OnOk result
         (HasOpen (known_of values.now) (d ∷ []) work.old work.new) }
 {
-    if values.look(&d).is_none() && !work.has(&d) {
-        work.push(&d)?;
-    }
+    work.push_if(&d, values.look(&d).is_none())?;
     Ok(())
 }
 

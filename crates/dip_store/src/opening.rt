@@ -104,9 +104,9 @@ impl<S: Alter> SqlKeeper<S> {
     /// Opens a store in which `create` has made a desk's tables with this map's text.
     ///
     /// # Errors
-    /// `OtherSchema` exactly where a table isn't there, or the master's row isn't or is of another version; then `OtherMap` exactly
-    /// where that row says another map; `Memory`; `Disk` also for a store with a transaction under way. The store is handed back, and
-    /// nothing of it changes.
+    /// `OtherSchema` where a table isn't there, or the master's row isn't or is of another version; `OtherMap` where that row says
+    /// another map. Of a store that keepers wrote these are told nowhere else. `Memory`; `Disk` also for a store with a transaction
+    /// under way. The store is handed back, and nothing of it changes.
     pub fn open(
         alloc: Global,
         store: Connection<S>,

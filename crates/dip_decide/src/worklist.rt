@@ -106,7 +106,9 @@ impl Worklist {
     /// Lists a decision, if it is wanted and isn't on the list: it is written behind those so far, and counts or is written over, so that
     /// there is no branch that a processor can't foretell.
     pub(crate) fn push_if(&mut self, d: &Decision, is_wanted: bool) -> Result<(), AllocError>
-        ensures { OnOk result (self.new ≡ listed_if (is_wanted && not (is_among d.now self.old)) d.now self.old) }
+        ensures { OnOk result
+            (self.new
+            ≡ listed_if (is_wanted && not (is_among d.now self.old)) d.now self.old) }
     {
         let mark = mark_of(d);
         let was = self.marks[mark];

@@ -5,8 +5,6 @@ mod centres;
 mod laws;
 mod reading;
 mod rows;
-#[cfg(test)]
-mod tests;
 mod units;
 
 pub use laws::boards_come_back;

@@ -5,8 +5,6 @@ mod items;
 mod letters;
 mod pieces;
 mod statuses;
-#[cfg(test)]
-mod tests;
 
 pub use items::{ItemColumns, read_item};
 pub use letters::read_kept;

@@ -11,6 +11,3 @@ pub use forms::{Form, Mention, Spot};
 pub use laws::forms_are_read;
 pub use reading::form_of_line;
 pub use words::{TokenList, tokens};
-
-#[cfg(test)]
-mod tests;

@@ -13,6 +13,3 @@ pub use faults::DeskFault;
 pub use founding::found;
 pub use known::{is_known, knows_all, knows_none};
 pub use making::make_tables;
-
-#[cfg(test)]
-mod tests;

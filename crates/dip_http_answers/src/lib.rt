@@ -10,6 +10,3 @@ pub use plans::{Plan, is_quiet, plan_of};
 pub use reading::{ReadFault, read_body, read_head};
 pub use refusals::HttpRefusal;
 pub use writing::{Answer, Unwritten, write_answer};
-
-#[cfg(test)]
-mod tests;

@@ -8,6 +8,3 @@ mod target;
 
 pub use front::{Asked, Front, MOST_FIELDS, MOST_HEAD, RequestFront, front_of};
 pub use size::{MOST_BODY, Size};
-
-#[cfg(test)]
-mod tests;

@@ -4,6 +4,3 @@
 mod state;
 
 pub use state::state_text;
-
-#[cfg(test)]
-mod tests;

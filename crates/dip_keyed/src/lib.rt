@@ -7,6 +7,3 @@ mod keys;
 
 pub use held::ByKey;
 pub use keys::by_key;
-
-#[cfg(test)]
-mod tests;

@@ -8,6 +8,7 @@ use std::process::Abort;
 use std::test::Fail;
 
 mod press;
+mod streams;
 
 const CREATE: &str =
     "LETTER\nGAME g1\nFROM master\nSECRET mmmmmmmm\nNUMBER 7\nCREATE DUE 5 PERIOD 10 GREY YES\nSEAT england eeeeeeee\nSEAT france ffff~ff!f\nEND\n";

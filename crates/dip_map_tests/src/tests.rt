@@ -7,7 +7,10 @@ use std::test::Fail;
 
 mod boards;
 mod faults;
+mod files;
 mod lists;
+mod names;
+mod walks;
 
 fn the_prov(rt: &impl Abort, map: &Map, code: &str) -> Prov {
     map.prov(code.as_bytes()).expect(rt, "a code of the map")

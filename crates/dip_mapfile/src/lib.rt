@@ -10,6 +10,3 @@ mod places;
 
 pub use drafts::{Draft, PowerDraft, ProvinceDraft, ShoreDraft, Site, UnitDraft};
 pub use files::{draft_of, tables_of};
-
-#[cfg(test)]
-mod tests;

@@ -8,6 +8,3 @@ mod names;
 pub use faults::MapFault;
 pub use forms::{is_coast_name, is_code, is_full_name, is_power_name};
 pub use names::{Kind, Place, Power, Prov, Terrain, Unit};
-
-#[cfg(test)]
-mod tests;

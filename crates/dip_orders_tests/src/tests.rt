@@ -8,6 +8,8 @@ use std::test::Fail;
 mod allowances;
 mod answers;
 mod coasts;
+mod forms;
+mod keys;
 mod lawful;
 mod lines;
 mod movement;

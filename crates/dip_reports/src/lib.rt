@@ -26,6 +26,3 @@ pub use opening_paper::opening_paper_text;
 pub use refusals::Refusal;
 pub use replies::{reply_pieces, reply_text};
 pub use show::show_text;
-
-#[cfg(test)]
-mod tests;

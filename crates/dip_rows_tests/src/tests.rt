@@ -14,6 +14,11 @@ use dip_writing::{
 use sqlite::{Alter, Connection, Error, ErrorCode, Row, Transaction};
 use std::test::Fail;
 
+mod boards;
+mod columns;
+mod founding;
+mod widths;
+
 /// A transaction, where none is under way.
 fn begun<S: Alter>(conn: &mut Connection<S>) -> Result<Transaction<'_, S>, Error> {
     if conn.is_autocommit() {

@@ -4,6 +4,3 @@
 mod streams;
 
 pub use streams::{MOST_TRIES, read_some, write_text};
-
-#[cfg(test)]
-mod tests;

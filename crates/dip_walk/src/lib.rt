@@ -4,6 +4,3 @@
 mod search;
 
 pub use search::{distance_at, least_distances};
-
-#[cfg(test)]
-mod tests;

@@ -9,6 +9,3 @@ mod widths;
 
 pub use changes::is_writable;
 pub use widths::has_widths;
-
-#[cfg(test)]
-mod tests;

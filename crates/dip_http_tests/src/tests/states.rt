@@ -1,6 +1,6 @@
 //! The public part of a game as JSON.
-use crate::state_text;
 use dip_board::Board;
+use dip_http_state::state_text;
 use dip_map::{Map, STANDARD};
 use dip_records::{Public, Status};
 use std::test::Fail;

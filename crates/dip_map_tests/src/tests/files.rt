@@ -1,5 +1,5 @@
 //! What a file writes, field by field.
-use crate::{draft_of, tables_of};
+use dip_mapfile::{draft_of, tables_of};
 use dip_names::{Kind, MapFault, Terrain};
 use std::test::Fail;
 

@@ -1,5 +1,5 @@
 //! Columns read as a store has them.
-use crate::{ItemColumns, read_item, read_kept, read_status};
+use dip_columns::{ItemColumns, read_item, read_kept, read_status};
 use dip_map::{Map, STANDARD};
 use dip_records::{Item, Status};
 use std::alloc::{AllocError, Global};

@@ -1,10 +1,10 @@
 //! Changes that can be written, each beside one that can't.
-use crate::{has_widths, is_writable};
 use dip_board::Board;
 use dip_machine::{Author, Change, Effect, NewSeat};
 use dip_map::{Map, STANDARD};
 use dip_names::{Power, Prov};
 use dip_records::{Item, Kept, Public, Standing, Status};
+use dip_writable::{has_widths, is_writable};
 use std::alloc::{AllocError, Global};
 use std::rc::Rc;
 use std::test::Fail;

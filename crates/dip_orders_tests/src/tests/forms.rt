@@ -1,5 +1,5 @@
 //! Lines and their forms.
-use crate::{Form, Mention, Spot, form_of_line, tokens};
+use dip_forms::{Form, Mention, Spot, form_of_line, tokens};
 use dip_names::Kind;
 use std::alloc::{AllocError, Global};
 use std::test::Fail;

@@ -1,6 +1,6 @@
 //! Boards read from rows that were written out by hand.
-use crate::{CentreColumns, UnitColumns, read_board};
 use dip_board::{Board, Phase, Season};
+use dip_board_rows::{CentreColumns, UnitColumns, read_board};
 use dip_map::{Map, STANDARD};
 use dip_names::{Kind, Power};
 use std::alloc::{AllocError, Global};

@@ -1,5 +1,5 @@
 //! The bounds of the forms, and what a fault says.
-use crate::{MapFault, is_coast_name, is_code, is_full_name, is_power_name};
+use dip_names::{MapFault, is_coast_name, is_code, is_full_name, is_power_name};
 use std::test::Fail;
 
 #[test]

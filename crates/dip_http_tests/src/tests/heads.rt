@@ -1,5 +1,5 @@
 //! Heads, whole, cut short and refused.
-use crate::{Front, MOST_BODY, Size, front_of};
+use dip_http_head::{Front, MOST_BODY, Size, front_of};
 use std::test::Fail;
 
 #[test]

@@ -1,9 +1,9 @@
 //! Papers in which no phase is played, whole.
 use super::{the_board, the_power};
-use crate::{draw_paper_text, notice_paper_text};
 use dip_letters::{Command, MasterCommand, Next, Notice, next_letter};
 use dip_map::{Map, STANDARD};
 use dip_records::{Public, Status};
+use dip_reports::{draw_paper_text, notice_paper_text};
 use std::alloc::{AllocError, Global};
 use std::process::Abort;
 use std::test::Fail;

@@ -1,5 +1,5 @@
 //! Readers and writers that signals interrupt.
-use crate::{MOST_TRIES, read_some, write_text};
+use dip_streams::{MOST_TRIES, read_some, write_text};
 use std::io;
 use std::io::{ErrorKind, Read, Write};
 use std::test::Fail;

@@ -1,6 +1,6 @@
 //! What INBOX answers, whole.
-use crate::inbox_text;
 use dip_records::Item;
+use dip_reports::inbox_text;
 use std::alloc::{AllocError, Global};
 use std::rc::Rc;
 use std::test::Fail;

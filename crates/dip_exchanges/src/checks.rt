@@ -3,7 +3,6 @@ use crate::desks::{OPENED, desk, opened};
 use crate::exchanges::check_exchanges;
 use crate::mismatch::Mismatch;
 use crate::stores::check_stored;
-use crate::without_grey::{CREATE_WITHOUT_GREY, opened_without_grey};
 use dip_map::{Map, STANDARD};
 use std::alloc::Global;
 
@@ -15,23 +14,10 @@ pub fn check_on_map(alloc: Global, text: &str, exchanges: &[&str]) -> Result<(),
     check_stored(alloc, &map, text, "", exchanges)
 }
 
-/// These exchanges, one after the other, in memory and over a store, at an empty desk over the standard map.
-pub fn check_at_empty_desk(alloc: Global, exchanges: &[&str]) -> Result<(), Mismatch> {
-    check_on_map(alloc, STANDARD, exchanges)
-}
-
 /// These exchanges, one after the other, in memory and over a store, at a desk with the game of the letter CREATE.
 pub fn check_opened(alloc: Global, exchanges: &[&str]) -> Result<(), Mismatch> {
     let map = Map::from_toml(alloc, STANDARD)?;
     let mut keeper = opened(alloc, &map)?;
     check_exchanges(alloc, &mut keeper, &map, exchanges)?;
     check_stored(alloc, &map, STANDARD, OPENED, exchanges)
-}
-
-/// These exchanges, one after the other, in memory and over a store, at a desk with a game that takes no grey press.
-pub fn check_opened_without_grey(alloc: Global, exchanges: &[&str]) -> Result<(), Mismatch> {
-    let map = Map::from_toml(alloc, STANDARD)?;
-    let mut keeper = opened_without_grey(alloc, &map)?;
-    check_exchanges(alloc, &mut keeper, &map, exchanges)?;
-    check_stored(alloc, &map, STANDARD, CREATE_WITHOUT_GREY, exchanges)
 }

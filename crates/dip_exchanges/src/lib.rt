@@ -11,7 +11,7 @@ mod seats;
 mod stores;
 mod without_grey;
 
-pub use checks::{check_at_empty_desk, check_on_map, check_opened, check_opened_without_grey};
+pub use checks::{check_on_map, check_opened};
 pub use desks::{OPENED, check_no_paper, check_paper, desk, opened, reply_to};
 pub use exchanges::{check_exchange, check_exchanges, next_taken};
 pub use lines::{letters_of, replies_of};
@@ -19,4 +19,4 @@ pub use mismatch::Mismatch;
 pub use opening::{BOARD, HOLDS};
 pub use seats::{CREATE, ORDERS, SHOW, secret_of};
 pub use stores::{StoredDesk, check_stored, reopened, stored_desk};
-pub use without_grey::opened_without_grey;
+pub use without_grey::{CREATE_WITHOUT_GREY, opened_without_grey};

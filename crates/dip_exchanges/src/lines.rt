@@ -28,13 +28,42 @@ fn push_head(author: &str, letters: &mut String) -> Result<(), AllocError> {
     )
 }
 
+/// What a letter behind a backslash stands for.
+fn escaped(letter: char) -> char {
+    match letter {
+        'n' => '\n',
+        'r' => '\r',
+        't' => '\t',
+        other => other,
+    }
+}
+
+/// Appends a text in which `\n`, `\r` and `\t` stand for LF, CR and TAB, and `\\` for a backslash.
+fn push_escaped(text: &str, to: &mut String) -> Result<(), AllocError> {
+    let mut is_behind = false;
+    for letter in text.chars() {
+        if is_behind {
+            to.push(escaped(letter))?;
+            is_behind = false;
+        } else if letter == '\\' {
+            is_behind = true;
+        } else {
+            to.push(letter)?;
+        }
+    }
+    Ok(())
+}
+
 /// Appends a letter's line of an exchange: there `SEATS` stands for a CREATE without its last seat, `= england 3` for the first lines of a
-/// letter of England with the number 3, and `= england 3 secret` for those under that secret.
+/// letter of England with the number 3, and `= england 3 secret` for those under that secret. Behind `\ ` is a text that is no whole line,
+/// with its line ends and other such letters as `\n`, `\r` and `\t`.
 pub(crate) fn push_line(line: &str, letters: &mut String) -> Result<(), AllocError> {
     if line == "SEATS" {
         letters.push_str(SIX_SEATS)
     } else if let Some(author) = line.strip_prefix("= ") {
         push_head(author, letters)
+    } else if let Some(text) = line.strip_prefix("\\ ") {
+        push_escaped(text, letters)
     } else {
         letters.push_str(line)?;
         letters.push_str("\n")
@@ -42,8 +71,11 @@ pub(crate) fn push_line(line: &str, letters: &mut String) -> Result<(), AllocErr
 }
 
 /// Appends a line of what is told: there `SHOWN` stands for what a seat is shown of the opening that hasn't ordered, `BOARD` for the board
-/// lines of the opening, and `HOLDS` for the lines of a movement in which nobody has ordered.
+/// lines of the opening, and `HOLDS` for the lines of a movement in which nobody has ordered. What stands behind `\ ` is as it is sent.
 fn push_reply(line: &str, replies: &mut String) -> Result<(), AllocError> {
+    if let Some(text) = line.strip_prefix("\\ ") {
+        return push_escaped(text, replies);
+    }
     match line {
         "SHOWN" => {
             replies.push_str(GAME_LINE)?;

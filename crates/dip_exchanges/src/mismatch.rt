@@ -3,6 +3,7 @@ use dip_machine::KeepFault;
 use dip_names::MapFault;
 use dip_store::StoreFault;
 use std::alloc::AllocError;
+use std::fmt;
 
 /// What isn't as a test says.
 #[derive(Drop, Debug)]
@@ -21,6 +22,26 @@ pub enum Mismatch {
     NoLetter,
     /// What an exchange asks for isn't a game and a number.
     NoPaper,
+    /// A file isn't there.
+    NoFile,
+    /// A connection has no answer.
+    NoAnswer,
+}
+
+impl fmt::Display for Mismatch {
+    fn fmt<W: fmt::Write>(&self, f: &mut fmt::Formatter<W>) -> fmt::Result {
+        match self {
+            Mismatch::Map(fault) => write!(f, "no map: {fault}"),
+            Mismatch::Keeper(fault) => write!(f, "the keeper: {fault}"),
+            Mismatch::Store(fault) => write!(f, "the store: {fault}"),
+            Mismatch::Text { told, wanted } => write!(f, "told:\n{told}and not:\n{wanted}"),
+            Mismatch::Paper(number) => write!(f, "paper {number}"),
+            Mismatch::NoLetter => f.write_str("no letter"),
+            Mismatch::NoPaper => f.write_str("no game and number"),
+            Mismatch::NoFile => f.write_str("no such file"),
+            Mismatch::NoAnswer => f.write_str("no answer"),
+        }
+    }
 }
 
 impl From<MapFault> for Mismatch {

@@ -6,7 +6,8 @@ use dip_desk::MemoryKeeper;
 use dip_map::Map;
 use std::alloc::Global;
 
-pub(crate) const CREATE_WITHOUT_GREY: &str = "= master 1
+/// The letter CREATE of a game that takes no grey press, and its reply.
+pub const CREATE_WITHOUT_GREY: &str = "= master 1
 CREATE DUE 100 PERIOD 100 GREY NO
 SEAT austria aaaaaaaa
 SEAT england eeeeeeee

@@ -192,6 +192,16 @@ fn a_game_is_found(rt: HostRuntime) -> Result<(), Fail> {
     Ok(())
 }
 
+/// The first number of a page, how many items it has at most, and how many it has.
+const PAGES: &[(u32, u32, usize)] = &[
+    (0, 2, 2),
+    (1, 10, 3),
+    (2, 1, 1),
+    (3, 9, 1),
+    (4, 1, 0),
+    (9, 9, 0),
+];
+
 #[test]
 fn a_page_has_its_items(rt: HostRuntime) -> Result<(), Fail> {
     let alloc = rt.alloc();
@@ -199,14 +209,7 @@ fn a_page_has_its_items(rt: HostRuntime) -> Result<(), Fail> {
     let mut conn = Connection::open_in_memory(alloc)?;
     tables(&mut conn)?;
     write(&mut conn)?;
-    for (first, most, many) in [
-        (0, 2, 2),
-        (1, 10, 3),
-        (2, 1, 1),
-        (3, 9, 1),
-        (4, 1, 0),
-        (9, 9, 0),
-    ] {
+    for &(first, most, many) in PAGES {
         assert!(rt; page(&mut conn, alloc, &map, first, most) == Some(many));
     }
     Ok(())

@@ -2,11 +2,8 @@
 mod answers;
 mod cut_short;
 mod faults;
-mod gets;
 mod heads;
 mod hostile;
 mod loopback;
-mod posts;
-mod refusals;
 mod states;
 mod wires;

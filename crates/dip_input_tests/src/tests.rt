@@ -5,4 +5,5 @@ mod letters;
 mod limits;
 mod pairs;
 mod streams;
+mod texts;
 mod widest;

@@ -1,4 +1,4 @@
-//! Letters read and printed.
+//! Letters and order lines read, and printed.
 use dip_letters::{
     Command, LetterFault, MasterCommand, Next, PlayerCommand, digest, is_secret, next_letter,
     print_letter, sum,
@@ -7,6 +7,8 @@ use std::alloc::{AllocError, Global};
 use std::process::Abort;
 use std::test::Fail;
 
+mod forms;
+mod keys;
 mod press;
 mod streams;
 
@@ -122,162 +124,186 @@ fn is_read(alloc: Global, letter: &str, old: &str, new: &str) -> Result<bool, Al
 }
 
 /// Whether a letter is read with a part replaced is as each row wants it.
+/// A letter in which a text is replaced is read, or it isn't.
+fn check_change(
+    rt: &impl Abort,
+    alloc: Global,
+    letter: &str,
+    (old, new): (&str, &str),
+    want: bool,
+) -> Result<(), AllocError> {
+    assert!(rt; is_read(alloc, letter, old, new)? == want, "{new}");
+    Ok(())
+}
+
 fn check_changes(
     rt: &impl Abort,
     alloc: Global,
     letter: &str,
     rows: &[(&str, &str, bool)],
 ) -> Result<(), AllocError> {
-    for (old, new, want) in rows {
-        assert!(rt; is_read(alloc, letter, old, new)? == *want, "{new}");
+    for &(old, new, want) in rows {
+        check_change(rt, alloc, letter, (old, new), want)?;
     }
     Ok(())
 }
 
+/// What is changed of CREATE, into what, and whether that is read.
+const CHANGES_OF_CREATE: &[(&str, &str, bool)] = &[
+    ("\n", "\r\n", false),
+    ("GAME g1\n", "GAME g1\r\n", false),
+    ("GAME g1", "GAME  g1", false),
+    ("GAME g1", " GAME g1", false),
+    ("GAME g1", "GAME g1 ", false),
+    ("GAME g1", "GAME\tg1", false),
+    ("GAME g1", "game g1", false),
+    ("GAME g1", "GAME abcdefgh12345678", true),
+    ("GAME g1", "GAME abcdefgh123456789", false),
+    ("GAME g1", "GAME 1g", false),
+    ("GAME g1", "GAME G1", false),
+    ("GAME g1", "GAME ", false),
+    ("GAME g1\n", "", false),
+    ("FROM master", "FROM abcdefghijklmnop", true),
+    ("FROM master", "FROM abcdefghijklmnopq", false),
+    ("FROM master", "FROM england1", false),
+    ("SECRET mmmmmmmm", "SECRET mmmmmmm", false),
+    ("SECRET mmmmmmmm", "SECRET mmmm mmmm", false),
+    ("SECRET mmmmmmmm", "SECRET mmmm\tmmmm", false),
+    ("SECRET mmmmmmmm", "SECRET !mmmmmm~", true),
+    ("SECRET mmmmmmmm", "SECRET mmmmmmmé", false),
+    ("NUMBER 7", "NUMBER 0", false),
+    ("NUMBER 7", "NUMBER 01", false),
+    ("NUMBER 7", "NUMBER +1", false),
+    ("NUMBER 7", "NUMBER 1", true),
+    ("NUMBER 7", "NUMBER 999999999", true),
+    ("NUMBER 7", "NUMBER 1000000000", false),
+    ("DUE 5", "DUE 0", true),
+    ("DUE 5", "DUE 00", false),
+    ("DUE 5", "DUE 05", false),
+    ("DUE 5", "DUE 999999999999", true),
+    ("DUE 5", "DUE 1000000000000", false),
+    ("DUE 5", "DUE ", false),
+    ("DUE 5", "DUE  5", false),
+    ("PERIOD 10", "PERIOD 0", false),
+    ("PERIOD 10", "PERIOD 1", true),
+    ("PERIOD 10", "PERIOD 999999", true),
+    ("PERIOD 10", "PERIOD 1000000", false),
+    ("GREY YES", "GREY NO", true),
+    ("GREY YES", "GREY MAYBE", false),
+    ("GREY YES", "GREY YES ", false),
+    ("CREATE", "Create", false),
+    ("SEAT france", "SEAT abcdefghijklmnop", true),
+    ("SEAT france", "SEAT abcdefghijklmnopq", false),
+    ("SEAT france", "SEAT  france", false),
+    ("SEAT france", "SEAT France", false),
+    ("SEAT france", "\nSEAT france", false),
+    ("ffff~ff!f", "fffffff", false),
+    ("ffff~ff!f", "ffff ffff", false),
+    (SEATS, "", false),
+];
+
 #[test]
 fn keeps_to_the_grammar(rt: HostRuntime) -> Result<(), Fail> {
-    let rows = [
-        ("\n", "\r\n", false),
-        ("GAME g1\n", "GAME g1\r\n", false),
-        ("GAME g1", "GAME  g1", false),
-        ("GAME g1", " GAME g1", false),
-        ("GAME g1", "GAME g1 ", false),
-        ("GAME g1", "GAME\tg1", false),
-        ("GAME g1", "game g1", false),
-        ("GAME g1", "GAME abcdefgh12345678", true),
-        ("GAME g1", "GAME abcdefgh123456789", false),
-        ("GAME g1", "GAME 1g", false),
-        ("GAME g1", "GAME G1", false),
-        ("GAME g1", "GAME ", false),
-        ("GAME g1\n", "", false),
-        ("FROM master", "FROM abcdefghijklmnop", true),
-        ("FROM master", "FROM abcdefghijklmnopq", false),
-        ("FROM master", "FROM england1", false),
-        ("SECRET mmmmmmmm", "SECRET mmmmmmm", false),
-        ("SECRET mmmmmmmm", "SECRET mmmm mmmm", false),
-        ("SECRET mmmmmmmm", "SECRET mmmm\tmmmm", false),
-        ("SECRET mmmmmmmm", "SECRET !mmmmmm~", true),
-        ("SECRET mmmmmmmm", "SECRET mmmmmmmé", false),
-        ("NUMBER 7", "NUMBER 0", false),
-        ("NUMBER 7", "NUMBER 01", false),
-        ("NUMBER 7", "NUMBER +1", false),
-        ("NUMBER 7", "NUMBER 1", true),
-        ("NUMBER 7", "NUMBER 999999999", true),
-        ("NUMBER 7", "NUMBER 1000000000", false),
-        ("DUE 5", "DUE 0", true),
-        ("DUE 5", "DUE 00", false),
-        ("DUE 5", "DUE 05", false),
-        ("DUE 5", "DUE 999999999999", true),
-        ("DUE 5", "DUE 1000000000000", false),
-        ("DUE 5", "DUE ", false),
-        ("DUE 5", "DUE  5", false),
-        ("PERIOD 10", "PERIOD 0", false),
-        ("PERIOD 10", "PERIOD 1", true),
-        ("PERIOD 10", "PERIOD 999999", true),
-        ("PERIOD 10", "PERIOD 1000000", false),
-        ("GREY YES", "GREY NO", true),
-        ("GREY YES", "GREY MAYBE", false),
-        ("GREY YES", "GREY YES ", false),
-        ("CREATE", "Create", false),
-        ("SEAT france", "SEAT abcdefghijklmnop", true),
-        ("SEAT france", "SEAT abcdefghijklmnopq", false),
-        ("SEAT france", "SEAT  france", false),
-        ("SEAT france", "SEAT France", false),
-        ("SEAT france", "\nSEAT france", false),
-        ("ffff~ff!f", "fffffff", false),
-        ("ffff~ff!f", "ffff ffff", false),
-        (SEATS, "", false),
-    ];
-    check_changes(&rt, rt.alloc(), CREATE, &rows)?;
+    check_changes(&rt, rt.alloc(), CREATE, CHANGES_OF_CREATE)?;
     Ok(())
 }
+
+/// The same of ORDERS.
+const CHANGES_OF_ORDERS: &[(&str, &str, bool)] = &[
+    ("ORDERS", "ORDERS ", false),
+    ("ORDERS", "WITHDRAW", false),
+    ("F lon - nth", "F lon\t- nth", false),
+    ("F lon - nth", "F  lon  - nth ", true),
+    ("F lon - nth", "", false),
+    ("F lon - nth", "END ", true),
+    ("F lon - nth", "END", false),
+];
 
 #[test]
 fn keeps_to_the_grammar_of_orders(rt: HostRuntime) -> Result<(), Fail> {
-    let rows = [
-        ("ORDERS", "ORDERS ", false),
-        ("ORDERS", "WITHDRAW", false),
-        ("F lon - nth", "F lon\t- nth", false),
-        ("F lon - nth", "F  lon  - nth ", true),
-        ("F lon - nth", "", false),
-        ("F lon - nth", "END ", true),
-        ("F lon - nth", "END", false),
-    ];
-    check_changes(&rt, rt.alloc(), ORDERS, &rows)?;
+    check_changes(&rt, rt.alloc(), ORDERS, CHANGES_OF_ORDERS)?;
     Ok(())
 }
+
+/// The same of SHOW.
+const CHANGES_OF_SHOW: &[(&str, &str, bool)] = &[
+    ("SHOW\n", "SHOW\nx\n", false),
+    ("SHOW\n", "SHOW\n\n", false),
+    ("SHOW\n", "show\n", false),
+    ("SHOW\n", "", false),
+    ("END\n", "END", false),
+];
 
 #[test]
 fn keeps_to_the_grammar_of_show(rt: HostRuntime) -> Result<(), Fail> {
-    let rows = [
-        ("SHOW\n", "SHOW\nx\n", false),
-        ("SHOW\n", "SHOW\n\n", false),
-        ("SHOW\n", "show\n", false),
-        ("SHOW\n", "", false),
-        ("END\n", "END", false),
-    ];
-    check_changes(&rt, rt.alloc(), SHOW, &rows)?;
+    check_changes(&rt, rt.alloc(), SHOW, CHANGES_OF_SHOW)?;
     Ok(())
 }
 
+/// The same of TICK.
+const CHANGES_OF_TICK: &[(&str, &str, bool)] = &[
+    ("TICK 100", "TICK 0", true),
+    ("TICK 100", "TICK 999999999999", true),
+    ("TICK 100", "TICK 1000000000000", false),
+    ("TICK 100", "TICK 0100", false),
+    ("TICK 100", "TICK 00", false),
+    ("TICK 100", "TICK -1", false),
+    ("TICK 100", "TICK 1e2", false),
+    ("TICK 100", "TICK 100 ", false),
+    ("TICK 100", "TICK  100", false),
+    ("TICK 100", "TICK100", false),
+    ("TICK 100", "TICK ", false),
+    ("TICK 100", "TICK", false),
+    ("TICK 100", "tick 100", false),
+    ("TICK 100\n", "TICK 100\nx\n", false),
+    ("TICK 100\n", "TICK 100\n\n", false),
+];
+
 #[test]
 fn keeps_to_the_grammar_of_tick(rt: HostRuntime) -> Result<(), Fail> {
-    let rows = [
-        ("TICK 100", "TICK 0", true),
-        ("TICK 100", "TICK 999999999999", true),
-        ("TICK 100", "TICK 1000000000000", false),
-        ("TICK 100", "TICK 0100", false),
-        ("TICK 100", "TICK 00", false),
-        ("TICK 100", "TICK -1", false),
-        ("TICK 100", "TICK 1e2", false),
-        ("TICK 100", "TICK 100 ", false),
-        ("TICK 100", "TICK  100", false),
-        ("TICK 100", "TICK100", false),
-        ("TICK 100", "TICK ", false),
-        ("TICK 100", "TICK", false),
-        ("TICK 100", "tick 100", false),
-        ("TICK 100\n", "TICK 100\nx\n", false),
-        ("TICK 100\n", "TICK 100\n\n", false),
-    ];
-    check_changes(&rt, rt.alloc(), TICK, &rows)?;
+    check_changes(&rt, rt.alloc(), TICK, CHANGES_OF_TICK)?;
     Ok(())
 }
+
+/// How many seats are read.
+const SEAT_COUNTS: &[(usize, bool)] = &[(0, false), (1, true), (7, true), (8, false)];
+
+/// How many lines of orders are read.
+const LINE_COUNTS: &[(usize, bool)] = &[(0, false), (1, true), (64, true), (65, false)];
+
+/// How many bytes of a line are read.
+const BYTE_COUNTS: &[(usize, bool)] = &[(0, false), (1, true), (100, true), (101, false)];
+
+/// How many bytes of a secret are read.
+const SECRET_SIZES: &[(usize, bool)] = &[(7, false), (8, true), (64, true), (65, false)];
 
 #[test]
 fn counts_lines_and_bytes(rt: HostRuntime) -> Result<(), Fail> {
     let alloc = rt.alloc();
-    for (count, want) in [(0, false), (1, true), (7, true), (8, false)] {
+    for &(count, want) in SEAT_COUNTS {
         let seats = "SEAT england eeeeeeee\n".repeat(alloc, count)?;
-        assert!(rt;
-            is_read(alloc, CREATE, SEATS, seats.as_str())? == want,
-            "{count} seats"
-        );
+        check_change(&rt, alloc, CREATE, (SEATS, seats.as_str()), want)?;
     }
-    for (count, want) in [(0, false), (1, true), (64, true), (65, false)] {
+    for &(count, want) in LINE_COUNTS {
         let lines = "A lvp H\n".repeat(alloc, count)?;
-        assert!(rt;
-            is_read(alloc, ORDERS, "F lon - nth\nA lvp H\n", lines.as_str())? == want,
-            "{count} lines"
-        );
+        let change = ("F lon - nth\nA lvp H\n", lines.as_str());
+        check_change(&rt, alloc, ORDERS, change, want)?;
     }
-    for (count, want) in [(0, false), (1, true), (100, true), (101, false)] {
+    for &(count, want) in BYTE_COUNTS {
         let line = "x".repeat(alloc, count)?;
-        assert!(rt;
-            is_read(alloc, ORDERS, "A lvp H", line.as_str())? == want,
-            "{count} bytes"
-        );
+        check_change(&rt, alloc, ORDERS, ("A lvp H", line.as_str()), want)?;
     }
-    for (count, want) in [(7, false), (8, true), (64, true), (65, false)] {
+    Ok(())
+}
+
+#[test]
+fn counts_the_bytes_of_a_secret(rt: HostRuntime) -> Result<(), Fail> {
+    let alloc = rt.alloc();
+    for &(count, want) in SECRET_SIZES {
         let secret = "s".repeat(alloc, count)?;
-        assert!(rt;
-            is_read(alloc, SHOW, "eeeeeeee", secret.as_str())? == want,
-            "{count} of a secret"
-        );
         assert!(rt; is_secret(secret.as_str()) == want);
-        assert!(rt;
-            is_read(alloc, CREATE, "eeeeeeee", secret.as_str())? == want,
-            "{count} of a seat's"
-        );
+        check_change(&rt, alloc, SHOW, ("eeeeeeee", secret.as_str()), want)?;
+        check_change(&rt, alloc, CREATE, ("eeeeeeee", secret.as_str()), want)?;
     }
     Ok(())
 }
@@ -304,7 +330,7 @@ fn reads_greatest_numbers(rt: HostRuntime) -> Result<(), Fail> {
 #[test]
 fn goes_on_behind_what_it_read(rt: HostRuntime) -> Result<(), Fail> {
     let alloc = rt.alloc();
-    let two = format!(in alloc; "\n\n{SHOW}\n\n\n{ORDERS}and more")?;
+    let two = ["\n\n", SHOW, "\n\n\n", ORDERS, "and more"].concat(alloc)?;
     let Next::Taken(first, rest) = next_letter(two.as_str().as_bytes()) else {
         return Err(Fail::from("no first letter"));
     };
@@ -317,46 +343,67 @@ fn goes_on_behind_what_it_read(rt: HostRuntime) -> Result<(), Fail> {
     Ok(())
 }
 
+/// What an input begins with, and how much of it is left.
+fn check_verdict(rt: &impl Abort, text: &str, want: &str, left: usize) {
+    let (word, rest) = verdict(text.as_bytes());
+    assert!(rt; word == want && rest == left, "{text}");
+}
+
+/// Inputs without a letter, what is told of them, and how much is left.
+const NO_LETTERS: &[(&str, &str, usize)] = &[
+    ("", "end", 0),
+    ("\n", "end", 0),
+    ("\n\n\n", "end", 0),
+    ("and more", "L1", 0),
+    ("LETTER\nGAME g1\n", "L1", 0),
+    ("END\nEND\n", "L1", 4),
+    ("\n\nEND\n", "L1", 0),
+    ("END", "L1", 0),
+];
+
 #[test]
 fn goes_on_behind_a_line_end(rt: HostRuntime) -> Result<(), Fail> {
-    let again = format!(in rt.alloc(); "x\n\nEND \n END\nEND\n{SHOW}")?;
-    for (text, want, left) in [
-        ("", "end", 0),
-        ("\n", "end", 0),
-        ("\n\n\n", "end", 0),
-        ("and more", "L1", 0),
-        ("LETTER\nGAME g1\n", "L1", 0),
-        ("END\nEND\n", "L1", 4),
-        ("\n\nEND\n", "L1", 0),
-        ("END", "L1", 0),
-        (again.as_str(), "L1", SHOW.len()),
-    ] {
-        let (word, rest) = verdict(text.as_bytes());
-        assert!(rt; word == want && rest == left, "{text}");
+    for &(text, want, left) in NO_LETTERS {
+        check_verdict(&rt, text, want, left);
     }
+    let again = ["x\n\nEND \n END\nEND\n", SHOW].concat(rt.alloc())?;
+    check_verdict(&rt, again.as_str(), "L1", SHOW.len());
     Ok(())
+}
+
+/// How many bytes stand before an ending, the ending, and what is told of both.
+const LONG: &[(usize, &str, &str)] = &[
+    (16379, "\nEND\n", "L1"),
+    (16380, "\nEND\n", "L5"),
+    (16384, "", "L1"),
+    (16385, "", "L5"),
+    (16380, "\nEND", "L1"),
+    (16381, "\nEND", "L5"),
+];
+
+/// So many bytes, and an ending behind them.
+fn long_text(alloc: Global, fill: usize, ending: &str) -> Result<String, AllocError> {
+    let mut text = "x".repeat(alloc, fill)?;
+    text.push_str(ending)?;
+    Ok(text)
 }
 
 #[test]
 fn knows_long_letters(rt: HostRuntime) -> Result<(), Fail> {
     let alloc = rt.alloc();
-    for (fill, ending, want, left) in [
-        (16379, "\nEND\n", "L1", 0),
-        (16380, "\nEND\n", "L5", 0),
-        (16384, "", "L1", 0),
-        (16385, "", "L5", 0),
-        (16380, "\nEND", "L1", 0),
-        (16381, "\nEND", "L5", 0),
-    ] {
-        let front = "x".repeat(alloc, fill)?;
-        let front = front.as_str();
-        let text = format!(in alloc; "\n\n{front}{ending}")?;
-        let (word, rest) = verdict(text.as_str().as_bytes());
-        assert!(rt; word == want && rest == left, "{fill}");
+    for &(fill, ending, want) in LONG {
+        let mut text = String::from_str(alloc, "\n\n")?;
+        let long = long_text(alloc, fill, ending)?;
+        text.push_str(long.as_str())?;
+        check_verdict(&rt, text.as_str(), want, 0);
     }
-    let front = "x".repeat(alloc, 16380)?;
-    let front = front.as_str();
-    let text = format!(in alloc; "{front}\nEND\n{SHOW}")?;
+    Ok(())
+}
+
+#[test]
+fn goes_on_behind_a_long_letter(rt: HostRuntime) -> Result<(), Fail> {
+    let mut text = long_text(rt.alloc(), 16380, "\nEND\n")?;
+    text.push_str(SHOW)?;
     let Next::Fault(LetterFault::TooLong, rest) = next_letter(text.as_str().as_bytes()) else {
         return Err(Fail::from("no L5"));
     };

@@ -16,52 +16,64 @@ fn the_prov(rt: &impl Abort, map: &Map, code: &str) -> Prov {
     map.prov(code.as_bytes()).expect(rt, "a code of the map")
 }
 
+/// A province, the name of a coast, the coast, and how many the province has.
+const COASTS: &[(&str, &str, Option<u8>, usize)] = &[
+    ("stp", "nc", Some(0), 2),
+    ("stp", "sc", Some(1), 2),
+    ("stp", "ec", None, 2),
+    ("kie", "", Some(0), 1),
+    ("mun", "", None, 0),
+];
+
+fn check_coasts(rt: &impl Abort, map: &Map) {
+    for &(code, name, coast, coasts) in COASTS {
+        let prov = the_prov(rt, map, code);
+        assert!(rt; map.coast(prov, name.as_bytes()) == coast && map.coasts(prov) == coasts);
+    }
+}
+
 #[test]
 fn coasts_are_found_as_they_are_spelled(rt: HostRuntime) -> Result<(), Fail> {
     let map = Map::from_toml(rt.alloc(), STANDARD)?;
-    let rows = [
-        ("stp", "nc", Some(0), 2),
-        ("stp", "sc", Some(1), 2),
-        ("stp", "ec", None, 2),
-        ("kie", "", Some(0), 1),
-        ("mun", "", None, 0),
-    ];
-    for (code, name, coast, coasts) in rows {
-        let prov = the_prov(&rt, &map, code);
-        assert!(rt; map.coast(prov, name.as_bytes()) == coast);
-        assert!(rt; map.coasts(prov) == coasts);
-    }
+    check_coasts(&rt, &map);
     Ok(())
+}
+
+fn check_names(rt: &impl Abort, map: &Map) {
+    for code in ["xyz", "STP", "st"] {
+        assert!(rt; map.prov(code.as_bytes()).is_none());
+    }
+    assert!(rt; map.power("france") == Some(Power::new(2)) && map.power("spain").is_none());
+    assert!(rt; map.power_name(Power::new(2)) == "france");
 }
 
 #[test]
 fn names_are_found_as_they_are_spelled(rt: HostRuntime) -> Result<(), Fail> {
     let map = Map::from_toml(rt.alloc(), STANDARD)?;
-    for code in ["xyz", "STP", "st"] {
-        assert!(rt; map.prov(code.as_bytes()).is_none());
-    }
-    for (name, power) in [("france", Some(Power::new(2))), ("spain", None)] {
-        assert!(rt; map.power(name) == power);
-    }
-    assert!(rt; map.power_name(Power::new(2)) == "france");
+    check_names(&rt, &map);
     Ok(())
+}
+
+/// A unit, its province and coast, a power, and how far it is to that one's homes.
+const DISTANCES: &[(Kind, &str, &str, &str, u16)] = &[
+    (Kind::Army, "par", "", "england", 3),
+    (Kind::Fleet, "por", "", "austria", 6),
+    (Kind::Fleet, "stp", "nc", "russia", 0),
+];
+
+fn check_distances(rt: &impl Abort, map: &Map) {
+    for &(kind, code, coast, name, steps) in DISTANCES {
+        let prov = the_prov(rt, map, code);
+        let coast = map.coast(prov, coast.as_bytes()).unwrap_or(0);
+        let power = map.power(name).expect(rt, "a power");
+        assert!(rt; map.distance(kind, Place { prov, coast }, power) == steps);
+    }
 }
 
 #[test]
 fn a_distance_is_to_the_nearest_home_centre(rt: HostRuntime) -> Result<(), Fail> {
     let map = Map::from_toml(rt.alloc(), STANDARD)?;
-    let distances = [
-        (Kind::Army, "par", "", "england", 3),
-        (Kind::Fleet, "por", "", "austria", 6),
-        (Kind::Fleet, "stp", "nc", "russia", 0),
-    ];
-    for (kind, code, coast, name, steps) in distances {
-        let prov = the_prov(&rt, &map, code);
-        let coast = map.coast(prov, coast.as_bytes()).unwrap_or(0);
-        let power = map.power(name).expect(&rt, "a power");
-        let place = Place { prov, coast };
-        assert_eq!(rt; map.distance(kind, place, power), steps);
-    }
+    check_distances(&rt, &map);
     Ok(())
 }
 
@@ -74,24 +86,26 @@ fn owned(board: &Board) -> usize {
         .count()
 }
 
+fn check_opening(rt: &impl Abort, map: &Map, board: &Board) {
+    assert!(rt; board.is_of(map));
+    assert!(rt; board.dislodged().is_empty() && board.standoff().is_empty());
+    assert!(rt; board.owners().len() == 75 && owned(board) == 22);
+    let phase = board.phase();
+    assert!(rt; phase.year == 1901 && phase.season == Season::SpringMoves);
+}
+
 #[test]
 fn the_opening_is_a_board_of_its_map(rt: HostRuntime) -> Result<(), Fail> {
     let alloc = rt.alloc();
     let map = Map::from_toml(alloc, STANDARD)?;
     let board = Board::opening(alloc, &map)?;
-    assert!(rt; board.is_of(&map));
-    let counts = [
-        (board.dislodged().len(), 0),
-        (board.standoff().len(), 0),
-        (board.owners().len(), 75),
-        (owned(&board), 22),
-    ];
-    for (count, expected) in counts {
-        assert!(rt; count == expected);
-    }
-    let phase = board.phase();
-    assert!(rt; phase.year == 1901 && phase.season == Season::SpringMoves);
+    check_opening(&rt, &map, &board);
     Ok(())
+}
+
+fn check_copy(rt: &impl Abort, board: &Board, copy: &Board) {
+    assert!(rt; copy.units() == board.units());
+    assert!(rt; copy.owners() == board.owners());
 }
 
 #[test]
@@ -99,12 +113,21 @@ fn a_copy_equals_its_board(rt: HostRuntime) -> Result<(), Fail> {
     let alloc = rt.alloc();
     let map = Map::from_toml(alloc, STANDARD)?;
     let board = Board::opening(alloc, &map)?;
-    let copy = board.copy(alloc)?;
-    assert!(rt; copy.units() == board.units());
-    assert!(rt; copy.owners() == board.owners());
+    check_copy(&rt, &board, &board.copy(alloc)?);
+    Ok(())
+}
+
+fn check_homes(rt: &impl Abort, map: &Map, board: &Board) {
     for unit in board.units() {
         assert!(rt; map.home(unit.power).contains(&unit.place.prov));
     }
+}
+
+#[test]
+fn units_open_in_homes(rt: HostRuntime) -> Result<(), Fail> {
+    let alloc = rt.alloc();
+    let map = Map::from_toml(alloc, STANDARD)?;
+    check_homes(&rt, &map, &Board::opening(alloc, &map)?);
     Ok(())
 }
 

@@ -1,15 +1,11 @@
 //! Orders read, printed and in force.
 use dip_map::Map;
 use dip_names::{Place, Power};
-use dip_orders::tokens;
 use std::process::Abort;
-use std::test::Fail;
 
 mod allowances;
 mod answers;
 mod coasts;
-mod forms;
-mod keys;
 mod lawful;
 mod lines;
 mod movement;
@@ -40,16 +36,4 @@ fn assert_text(rt: &impl Abort, text: &str, wanted: &str, at: &str) {
 
 fn assert_count(rt: &impl Abort, count: u32, wanted: u32) {
     assert_eq!(rt; count, wanted);
-}
-
-#[test]
-fn tokens_are_slices_of_the_line(rt: HostRuntime) -> Result<(), Fail> {
-    let found = tokens("  a STP/nc--x ").expect(&rt, "a line of tokens");
-    assert_eq!(rt; found.as_slice().len(), 5);
-    let wanted: [&[u8]; 5] = [b"a", b"STP/nc", b"-", b"-", b"x"];
-    for (token, text) in found.as_slice().iter().zip(wanted) {
-        assert!(rt; *token == text);
-    }
-    assert!(rt; tokens("a.b").is_none());
-    Ok(())
 }

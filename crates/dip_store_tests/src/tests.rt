@@ -1,4 +1,5 @@
 //! Desks over stores in memory.
+mod archives;
 mod opening;
 mod papers;
 mod rows;

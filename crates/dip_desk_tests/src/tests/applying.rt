@@ -95,17 +95,43 @@ fn page(alloc: Global, public: Public, played: bool) -> Result<Effect, AllocErro
     })
 }
 
+/// England votes for a draw.
+fn vote(
+    rt: &impl Abort,
+    alloc: Global,
+    keeper: &mut MemoryKeeper,
+    map: &Map,
+) -> Result<(), KeepFault> {
+    let author = Author::Seat(power(rt, map, "england"));
+    keeper.apply(map, &second(alloc, author, Effect::Votes(true))?)
+}
+
+/// Whether a seat has voted for a draw, and how many orders and how much press it has sent.
+fn told_of(
+    rt: &impl Abort,
+    keeper: &mut MemoryKeeper,
+    map: &Map,
+    name: &str,
+) -> Result<(bool, usize, u32), KeepFault> {
+    let own = seat(rt, keeper, map, name)?;
+    Ok((own.vote, own.pending.len(), own.sent))
+}
+
+fn check_vote(rt: &impl Abort, alloc: Global, map: &Map) -> Result<(), KeepFault> {
+    let mut keeper = opened(rt, alloc, map)?;
+    vote(rt, alloc, &mut keeper, map)?;
+    let (has_voted, orders, sent) = told_of(rt, &mut keeper, map, "england")?;
+    assert!(rt; has_voted && orders == 2 && sent == 0);
+    let (has_voted, _, _) = told_of(rt, &mut keeper, map, "france")?;
+    assert!(rt; !has_voted);
+    Ok(())
+}
+
 #[test]
 fn a_vote_is_its_authors(rt: HostRuntime) -> Result<(), Fail> {
     let alloc = rt.alloc();
     let map = Map::from_toml(alloc, STANDARD)?;
-    let mut keeper = opened(&rt, alloc, &map)?;
-    let author = Author::Seat(power(&rt, &map, "england"));
-    keeper.apply(&map, &second(alloc, author, Effect::Votes(true))?)?;
-    let england = seat(&rt, &mut keeper, &map, "england")?;
-    let france = seat(&rt, &mut keeper, &map, "france")?;
-    assert!(&rt; england.vote && !france.vote);
-    assert!(&rt; england.pending.len() == 2 && england.sent == 0);
+    check_vote(&rt, alloc, &map)?;
     Ok(())
 }
 
@@ -118,21 +144,34 @@ fn assert_counts(
     items: u32,
 ) -> Result<(), KeepFault> {
     let own = seat(rt, keeper, map, name)?;
-    assert!(rt; own.sent == sent && own.items == items, "{name}");
+    assert!(rt; own.sent == sent && own.items == items);
     Ok(())
+}
+
+/// A power, how much it has sent, and how much has come to it.
+const COUNTED: &[(&str, u32, u32)] = &[
+    ("england", 1, 0),
+    ("france", 0, 1),
+    ("turkey", 0, 1),
+    ("austria", 0, 0),
+];
+
+/// England sends press to France and Turkey.
+fn send(
+    rt: &impl Abort,
+    alloc: Global,
+    keeper: &mut MemoryKeeper,
+    map: &Map,
+) -> Result<(), KeepFault> {
+    let effect = press(alloc, power(rt, map, "france"), power(rt, map, "turkey"))?;
+    let author = Author::Seat(power(rt, map, "england"));
+    keeper.apply(map, &second(alloc, author, effect)?)
 }
 
 fn check_press(rt: &impl Abort, alloc: Global, map: &Map) -> Result<(), KeepFault> {
     let mut keeper = opened(rt, alloc, map)?;
-    let effect = press(alloc, power(rt, map, "france"), power(rt, map, "turkey"))?;
-    let author = Author::Seat(power(rt, map, "england"));
-    keeper.apply(map, &second(alloc, author, effect)?)?;
-    for (name, sent, items) in [
-        ("england", 1, 0),
-        ("france", 0, 1),
-        ("turkey", 0, 1),
-        ("austria", 0, 0),
-    ] {
+    send(rt, alloc, &mut keeper, map)?;
+    for &(name, sent, items) in COUNTED {
         assert_counts(rt, &mut keeper, map, name, sent, items)?;
     }
     Ok(())
@@ -147,15 +186,31 @@ fn press_comes_to_its_readers(rt: HostRuntime) -> Result<(), Fail> {
     Ok(())
 }
 
+/// The master's second letter publishes another paper.
+fn publish(
+    rt: &impl Abort,
+    alloc: Global,
+    keeper: &mut MemoryKeeper,
+    map: &Map,
+    played: bool,
+) -> Result<(), KeepFault> {
+    let before = public(rt, keeper, map)?;
+    let effect = page(alloc, before, played)?;
+    keeper.apply(map, &second(alloc, Author::TheMaster, effect)?)
+}
+
+/// Whether the game has its name, the new due tick and the second paper.
+fn is_renewed(rt: &impl Abort, keeper: &mut MemoryKeeper, map: &Map) -> Result<bool, KeepFault> {
+    let after = public(rt, keeper, map)?;
+    Ok(after.game.as_str() == "g1" && after.due == 200 && after.papers == 2)
+}
+
 fn check_paper(rt: &impl Abort, alloc: Global, map: &Map, played: bool) -> Result<(), KeepFault> {
     let mut keeper = opened(rt, alloc, map)?;
-    let before = public(rt, &mut keeper, map)?;
-    let effect = page(alloc, before, played)?;
-    keeper.apply(map, &second(alloc, Author::TheMaster, effect)?)?;
-    let after = public(rt, &mut keeper, map)?;
-    assert!(rt; after.game.as_str() == "g1" && after.due == 200 && after.papers == 2);
-    let england = seat(rt, &mut keeper, map, "england")?;
-    assert!(rt; england.pending.is_empty() == played);
+    publish(rt, alloc, &mut keeper, map, played)?;
+    assert!(rt; is_renewed(rt, &mut keeper, map)?);
+    let (_, orders, _) = told_of(rt, &mut keeper, map, "england")?;
+    assert!(rt; (orders == 0) == played);
     Ok(())
 }
 
@@ -181,14 +236,24 @@ fn paper(
     Ok(paper)
 }
 
+/// Whether the paper of this number has this text.
+fn is_paper(
+    rt: &impl Abort,
+    keeper: &mut MemoryKeeper,
+    map: &Map,
+    number: u32,
+    wanted: &str,
+) -> Result<bool, KeepFault> {
+    let text = paper(rt, keeper, map, number)?;
+    Ok(text.as_str() == wanted)
+}
+
 fn check_numbers(rt: &impl Abort, alloc: Global, map: &Map) -> Result<(), KeepFault> {
     let mut keeper = opened(rt, alloc, map)?;
     let opening = paper(rt, &mut keeper, map, 1)?;
-    let before = public(rt, &mut keeper, map)?;
-    let effect = page(alloc, before, false)?;
-    keeper.apply(map, &second(alloc, Author::TheMaster, effect)?)?;
-    assert_eq!(rt; paper(rt, &mut keeper, map, 1)?.as_str(), opening.as_str());
-    assert_eq!(rt; paper(rt, &mut keeper, map, 2)?.as_str(), "PAPER 2\n");
+    publish(rt, alloc, &mut keeper, map, false)?;
+    assert!(rt; is_paper(rt, &mut keeper, map, 1, opening.as_str())?);
+    assert!(rt; is_paper(rt, &mut keeper, map, 2, "PAPER 2\n")?);
     assert!(rt; keeper.paper(map, "g1", 3)?.is_none());
     Ok(())
 }
@@ -211,16 +276,37 @@ fn digest_of(
     Ok(seat(rt, keeper, map, name)?.digest)
 }
 
-fn check_digest(rt: &impl Abort, alloc: Global, map: &Map) -> Result<(), KeepFault> {
-    let mut keeper = opened(rt, alloc, map)?;
-    let before = digest_of(rt, &mut keeper, map, "england")?;
+/// France's seat gets another digest.
+fn replace(
+    rt: &impl Abort,
+    alloc: Global,
+    keeper: &mut MemoryKeeper,
+    map: &Map,
+) -> Result<(), KeepFault> {
     let effect = Effect::Seats(NewSeat {
         power: power(rt, map, "france"),
         digest: [9; 32],
     });
-    keeper.apply(map, &second(alloc, Author::TheMaster, effect)?)?;
-    assert!(rt; digest_of(rt, &mut keeper, map, "france")? == [9; 32]);
-    assert!(rt; digest_of(rt, &mut keeper, map, "england")? == before);
+    keeper.apply(map, &second(alloc, Author::TheMaster, effect)?)
+}
+
+fn has_digest(
+    rt: &impl Abort,
+    keeper: &mut MemoryKeeper,
+    map: &Map,
+    name: &str,
+    digest: &[u8; 32],
+) -> Result<bool, KeepFault> {
+    let found = digest_of(rt, keeper, map, name)?;
+    Ok(found == *digest)
+}
+
+fn check_digest(rt: &impl Abort, alloc: Global, map: &Map) -> Result<(), KeepFault> {
+    let mut keeper = opened(rt, alloc, map)?;
+    let before = digest_of(rt, &mut keeper, map, "england")?;
+    replace(rt, alloc, &mut keeper, map)?;
+    assert!(rt; has_digest(rt, &mut keeper, map, "france", &[9; 32])?);
+    assert!(rt; has_digest(rt, &mut keeper, map, "england", &before)?);
     Ok(())
 }
 

@@ -146,10 +146,10 @@ fn assert_page(
     let Some(items) = page(rt, keeper, map, seat, part)? else {
         panic!(rt; "no such seat");
     };
-    assert!(rt; items.len() == count, "{} {}", seat.1, part.0);
+    assert!(rt; items.len() == count);
     let mut next = len;
     for item in &items {
-        assert!(rt; line_len(rt, item) == next, "{} {}", seat.1, part.0);
+        assert!(rt; line_len(rt, item) == next);
         next = next.saturating_add(1);
     }
     Ok(())
@@ -212,16 +212,19 @@ fn with_25(rt: &impl Abort, alloc: Global, map: &Map) -> Result<MemoryKeeper, Ke
     Ok(keeper)
 }
 
+/// How many items a page has at most, and how many it has from the first, the tenth and the sixteenth on.
+const SIZES: &[(u32, usize, usize, usize)] = &[
+    (0, 0, 0, 0),
+    (1, 1, 1, 1),
+    (10, 10, 10, 10),
+    (11, 11, 11, 10),
+    (25, 25, 16, 10),
+    (4_294_967_295, 25, 16, 10),
+];
+
 fn check_sizes(rt: &impl Abort, alloc: Global, map: &Map) -> Result<(), KeepFault> {
     let mut keeper = with_25(rt, alloc, map)?;
-    for (most, from_1, from_10, from_16) in [
-        (0, 0, 0, 0),
-        (1, 1, 1, 1),
-        (10, 10, 10, 10),
-        (11, 11, 11, 10),
-        (25, 25, 16, 10),
-        (4_294_967_295, 25, 16, 10),
-    ] {
+    for &(most, from_1, from_10, from_16) in SIZES {
         let france = ("g1", "france");
         assert_page(rt, &mut keeper, map, france, (0, most), (1, from_1))?;
         assert_page(rt, &mut keeper, map, france, (1, most), (1, from_1))?;
@@ -242,19 +245,22 @@ fn a_page_has_at_most_so_many(rt: HostRuntime) -> Result<(), Fail> {
     Ok(())
 }
 
+/// A seat, how long the line of its first item is, and how many it has.
+const BOXES: &[(&str, &str, usize, usize)] = &[
+    ("g1", "france", 1, 2),
+    ("g2", "france", 7, 1),
+    ("g1", "turkey", 5, 1),
+    ("g1", "england", 1, 0),
+    ("g2", "england", 1, 0),
+];
+
 fn check_seats(rt: &impl Abort, alloc: Global, map: &Map) -> Result<(), KeepFault> {
     let mut keeper = opened(rt, alloc, map)?;
     send(rt, alloc, &mut keeper, map, "g1", "france", 1)?;
     send(rt, alloc, &mut keeper, map, "g2", "france", 7)?;
     send(rt, alloc, &mut keeper, map, "g1", "turkey", 5)?;
     send(rt, alloc, &mut keeper, map, "g1", "france", 2)?;
-    for (game, name, len, count) in [
-        ("g1", "france", 1, 2),
-        ("g2", "france", 7, 1),
-        ("g1", "turkey", 5, 1),
-        ("g1", "england", 1, 0),
-        ("g2", "england", 1, 0),
-    ] {
+    for &(game, name, len, count) in BOXES {
         assert_page(rt, &mut keeper, map, (game, name), (1, 10), (len, count))?;
     }
     assert!(rt; page(rt, &mut keeper, map, ("g2", "turkey"), (1, 10))?.is_none());
@@ -271,22 +277,40 @@ fn an_inbox_is_of_one_seat_of_one_game(rt: HostRuntime) -> Result<(), Fail> {
     Ok(())
 }
 
-fn check_shared(rt: &impl Abort, alloc: Global, map: &Map) -> Result<(), KeepFault> {
-    let mut keeper = opened(rt, alloc, map)?;
+/// England's press in g2 to itself and to France.
+fn send_to_two(
+    rt: &impl Abort,
+    alloc: Global,
+    keeper: &mut MemoryKeeper,
+    map: &Map,
+) -> Result<(), KeepFault> {
     let (england, france) = (power(rt, map, "england"), power(rt, map, "france"));
     let effect = press(alloc, vec![in alloc; england, france]?, 3)?;
-    let author = Author::Seat(england);
-    keeper.apply(map, &change(alloc, "g2", author, effect)?)?;
-    let (Some(first), Some(second)) = (
-        page(rt, &mut keeper, map, ("g2", "england"), (1, 1))?,
-        page(rt, &mut keeper, map, ("g2", "france"), (1, 1))?,
-    ) else {
+    keeper.apply(map, &change(alloc, "g2", Author::Seat(england), effect)?)
+}
+
+/// The first item of the inbox of a power's seat in g2.
+fn first_item(
+    rt: &impl Abort,
+    keeper: &mut MemoryKeeper,
+    map: &Map,
+    name: &str,
+) -> Result<Rc<Item>, KeepFault> {
+    let Some(mut items) = page(rt, keeper, map, ("g2", name), (1, 1))? else {
         panic!(rt; "no such seat");
     };
-    let (Some(one), Some(other)) = (first.first(), second.first()) else {
+    let Some(item) = items.pop() else {
         panic!(rt; "nothing came");
     };
-    assert!(rt; Rc::ptr_eq(one, other));
+    Ok(item)
+}
+
+fn check_shared(rt: &impl Abort, alloc: Global, map: &Map) -> Result<(), KeepFault> {
+    let mut keeper = opened(rt, alloc, map)?;
+    send_to_two(rt, alloc, &mut keeper, map)?;
+    let one = first_item(rt, &mut keeper, map, "england")?;
+    let other = first_item(rt, &mut keeper, map, "france")?;
+    assert!(rt; Rc::ptr_eq(&one, &other));
     Ok(())
 }
 

@@ -6,13 +6,6 @@ use std::test::Fail;
 const BAD: &str =
     "HTTP/1.1 400 Bad Request\r\nContent-Type: text/plain\r\nContent-Length: 16\r\nConnection: close\r\n\r\n400 Bad Request\n";
 
-#[test]
-fn refuses_a_body_that_ends_early(rt: HostRuntime) -> Result<(), Fail> {
-    let mut site = Site::ordered(rt.alloc())?;
-    let request = "POST /letters HTTP/1.1\r\nHost: a\r\nContent-Length: 100\r\n\r\nLETTER\n";
-    site.check(request, BAD)
-}
-
 /// Each beginning of a request but the empty one, which gets nothing, is refused.
 fn check_beginnings(site: &mut Site, request: &str) -> Result<(), Fail> {
     for size in 0..request.len() {

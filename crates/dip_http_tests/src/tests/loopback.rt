@@ -1,5 +1,5 @@
 //! One client over a socket: what it reads is what is written in memory, however much it sends, and a client that is too slow gets nothing.
-use crate::tests::wires::{ask, ordered, served, standard};
+use crate::tests::wires::{ask, ordered, post_of, served, standard};
 use dip_desk::MemoryKeeper;
 use dip_http::HttpFault;
 use dip_http_serve::{MOST_SECONDS, serve_one};
@@ -58,28 +58,22 @@ fn answers_over_a_socket(rt: HostRuntime) -> Result<(), Fail> {
     let request = ask(alloc, "GET", "/games/g1")?;
     let wanted = served(alloc, &mut keeper, &map, request.as_bytes())?;
     let (answer, result) = exchange(&rt, &rt, &mut keeper, &map, request.as_bytes())?;
-    assert!(rt; result.is_ok());
-    assert!(rt; answer.as_slice() == wanted.as_slice());
+    assert!(rt; result.is_ok() && answer.as_slice() == wanted.as_slice());
     Ok(())
 }
+
+const TOO_LARGE: &[u8] =
+    b"HTTP/1.1 413 Payload Too Large\r\nContent-Type: text/plain\r\nContent-Length: 22\r\nConnection: close\r\n\r\n413 Payload Too Large\n";
 
 #[test]
 fn an_answer_is_not_lost_to_bytes_that_nobody_reads(rt: HostRuntime) -> Result<(), Fail> {
     let alloc = rt.alloc();
     let map = standard(alloc)?;
     let mut keeper = ordered(alloc, &map)?;
-    let mut request = Vec::new(alloc);
-    request.extend_from_slice(
-        b"POST /letters HTTP/1.1\r\nHost: judge.example\r\nContent-Length: 60000\r\n\r\n",
-    )?;
-    for _ in 0..60_000u32 {
-        request.push(b'x')?;
-    }
-    let (answer, result) = exchange(&rt, &rt, &mut keeper, &map, request.as_slice())?;
-    assert!(rt; result.is_ok());
-    let wanted =
-        b"HTTP/1.1 413 Payload Too Large\r\nContent-Type: text/plain\r\nContent-Length: 22\r\nConnection: close\r\n\r\n413 Payload Too Large\n";
-    assert!(rt; answer.as_slice() == wanted.as_slice());
+    let body = "x".repeat(alloc, 60_000)?;
+    let request = post_of(alloc, "60000", body.as_str())?;
+    let (answer, result) = exchange(&rt, &rt, &mut keeper, &map, request.as_bytes())?;
+    assert!(rt; result.is_ok() && answer.as_slice() == TOO_LARGE);
     Ok(())
 }
 
@@ -93,7 +87,6 @@ fn a_client_that_is_too_slow_gets_nothing(rt: HostRuntime) -> Result<(), Fail> {
         seconds: Cell::new(0),
     };
     let (answer, result) = exchange(&rt, &late, &mut keeper, &map, request.as_bytes())?;
-    assert!(rt; result == Err(HttpFault::Read));
-    assert!(rt; answer.is_empty());
+    assert!(rt; result == Err(HttpFault::Read) && answer.is_empty());
     Ok(())
 }

@@ -188,40 +188,14 @@ impl Site {
         served(self.alloc, &mut self.keeper, &self.map, request)
     }
 
-    /// These bytes get this answer.
-    pub fn check(&mut self, request: &str, wanted: &str) -> Result<(), Fail> {
+    /// A request is refused by this status, with a body of this length.
+    pub fn check_refused(&mut self, request: &str, status: &str, length: &str) -> Result<(), Fail> {
+        let wanted = refused(self.alloc, status, length)?;
         let answer = self.served(request.as_bytes())?;
         if answer.as_slice() == wanted.as_bytes() {
             Ok(())
         } else {
             Err(Fail::from(request))
         }
-    }
-
-    /// A request without a body gets this answer.
-    pub fn check_ask(&mut self, method: &str, target: &str, wanted: &str) -> Result<(), Fail> {
-        let request = ask(self.alloc, method, target)?;
-        self.check(request.as_str(), wanted)
-    }
-
-    /// GET and HEAD of a target get an answer of this head, HEAD without the body.
-    pub fn check_get(&mut self, target: &str, head: &str, body: &str) -> Result<(), Fail> {
-        let whole = [head, body].concat(self.alloc)?;
-        self.check_ask("GET", target, whole.as_str())?;
-        self.check_ask("HEAD", target, head)
-    }
-
-    /// A POST of this body gets an answer of this status, this length and this text.
-    pub fn check_post(&mut self, body: &str, answer: (&str, &str, &str)) -> Result<(), Fail> {
-        let (status, length, text) = answer;
-        let request = post(self.alloc, body)?;
-        let wanted = told(self.alloc, status, length, text)?;
-        self.check(request.as_str(), wanted.as_str())
-    }
-
-    /// A request is refused by this status, with a body of this length.
-    pub fn check_refused(&mut self, request: &str, status: &str, length: &str) -> Result<(), Fail> {
-        let wanted = refused(self.alloc, status, length)?;
-        self.check(request, wanted.as_str())
     }
 }

@@ -4,6 +4,7 @@ use dip_letters::digest;
 use dip_map::{Map, STANDARD};
 use dip_runs::{RunFault, run_file};
 use std::alloc::{AllocError, Global};
+use std::process::Abort;
 use std::test::Fail;
 
 /// All that is written for an input, from an empty desk on.
@@ -35,6 +36,13 @@ pub(crate) fn standard_answers(alloc: Global, input: &str) -> Result<String, Fai
 /// How many lines of a text are this one.
 pub(crate) fn count_of(text: &str, wanted: &str) -> usize {
     text.lines().filter(|line| *line == wanted).count()
+}
+
+/// Each of these lines stands so many times in a text.
+pub(crate) fn assert_lines(rt: &impl Abort, text: &str, lines: &[(&str, usize)]) {
+    for &(line, count) in lines {
+        assert!(rt; count_of(text, line) == count);
+    }
 }
 
 /// How many lines of a text begin so.

@@ -1,4 +1,5 @@
 //! Letters by chance to games of the standard map.
+use super::texts::{digits_of, letter_of, push_all, text_of};
 use dip_dice::Dice;
 use std::alloc::{AllocError, Global};
 
@@ -46,6 +47,64 @@ SEAT russia rrrrrrrr
 SEAT turkey tttttttt
 END
 ";
+
+/// Lines of orders, where `K` stands for a kind of unit, `f` for where it is, `t` for where it may go and `o` for another province.
+const ORDER_FORMS: &[&str] = &[
+    "K f H",
+    "K f S A o",
+    "K f S A o - t",
+    "F f C A o - t",
+    "A f - t VIA",
+    "BUILD K f",
+    "REMOVE K f",
+    "K f R t",
+    "K f D",
+    "K f - t",
+    "K f - t",
+    "K f - t",
+];
+
+/// What a power asks for beside orders and press.
+const QUIET: &[&str] = &[
+    "SHOW\n",
+    "WITHDRAW\n",
+    "VOTE YES\n",
+    "VOTE NO\n",
+    "INBOX 1\n",
+    "INBOX 999999\n",
+];
+
+/// What the master asks for, where `#` stands for a number.
+const MASTERS: &[&str] = &[
+    "PAUSE",
+    "RESUME",
+    "RESUME",
+    "PERIOD #",
+    "ANNOUNCE\n> Number #.",
+    "REPLACE france ffffffff",
+    "REPLACE spain ffffffff",
+    "CREATE DUE 0 PERIOD 1 GREY NO\nSEAT france ffffffff",
+    "TICK 0",
+    "TICK #00",
+    "TICK #00",
+    "TICK #00",
+    "TICK #00",
+    "TICK #00",
+];
+
+const COLOURS: &[&str] = &["WHITE", "GREY"];
+
+const READERS: &[&str] = &[
+    "all",
+    "england",
+    "turkey france",
+    "england italy russia",
+    "all italy",
+    "spain",
+];
+
+/// What letters by chance begin with.
+pub(crate) const SEEDS: &[u32] = &[1, 1835, 1901, 1976];
 
 /// An input that is written letter by letter.
 #[derive(Drop)]
@@ -117,16 +176,8 @@ impl Letters {
 
     /// Appends a letter of this author with this command.
     pub(crate) fn push(&mut self, author: Author, command: &str) -> Result<(), AllocError> {
-        let Author {
-            game,
-            name,
-            secret,
-            number,
-            ..
-        } = author;
-        self.last = format!(in self.alloc;
-            "LETTER\nGAME {game}\nFROM {name}\nSECRET {secret}\nNUMBER {number}\n{command}END\n"
-        )?;
+        let (name, secret, number) = (author.name, author.secret, author.number);
+        self.last = letter_of(self.alloc, author.game, (name, secret), number, command)?;
         self.again()
     }
 
@@ -148,21 +199,21 @@ impl Letters {
 
     /// A line of an order, which may be none.
     fn order(&mut self, author: Author) -> Result<String, AllocError> {
-        let alloc = self.alloc;
-        let (kind, from, to) = (self.kind(), self.code(author), self.code(author));
-        let other = self.code(author);
-        match self.dice.roll(12) {
-            0 => format!(in alloc; "{kind} {from} H\n"),
-            1 => format!(in alloc; "{kind} {from} S A {other}\n"),
-            2 => format!(in alloc; "{kind} {from} S A {other} - {to}\n"),
-            3 => format!(in alloc; "F {from} C A {other} - {to}\n"),
-            4 => format!(in alloc; "A {from} - {to} VIA\n"),
-            5 => format!(in alloc; "BUILD {kind} {from}\n"),
-            6 => format!(in alloc; "REMOVE {kind} {from}\n"),
-            7 => format!(in alloc; "{kind} {from} R {to}\n"),
-            8 => format!(in alloc; "{kind} {from} D\n"),
-            _ => format!(in alloc; "{kind} {from} - {to}\n"),
+        let (kind, from) = (self.kind(), self.code(author));
+        let (to, other) = (self.code(author), self.code(author));
+        let form = self.dice.pick(ORDER_FORMS).unwrap_or("K f - t");
+        let mut line = String::new(self.alloc);
+        for letter in form.chars() {
+            match letter {
+                'K' => line.push_str(kind)?,
+                'f' => line.push_str(from)?,
+                't' => line.push_str(to)?,
+                'o' => line.push_str(other)?,
+                _ => line.push(letter)?,
+            }
         }
+        line.push_str("\n")?;
+        Ok(line)
     }
 
     /// A letter of orders.
@@ -177,55 +228,36 @@ impl Letters {
 
     /// White or grey press.
     pub(crate) fn press(&mut self) -> Result<String, AllocError> {
-        let colour = self.dice.pick(&["WHITE", "GREY"]).unwrap_or("GREY");
-        let readers = self
-            .dice
-            .pick(&[
-                "all",
-                "england",
-                "turkey france",
-                "england italy russia",
-                "all italy",
-                "spain",
-            ])
-            .unwrap_or("all");
-        let alloc = self.alloc;
-        let number = self.number;
-        format!(in alloc; "PRESS {colour} TO {readers}\n> Letter {number}.\n")
+        let colour = self.dice.pick(COLOURS).unwrap_or("GREY");
+        let readers = self.dice.pick(READERS).unwrap_or("all");
+        let number = digits_of(self.alloc, self.number)?;
+        let mut text = text_of(self.alloc, &["PRESS ", colour, " TO ", readers])?;
+        push_all(&mut text, &["\n> Letter ", number.as_str(), ".\n"])?;
+        Ok(text)
     }
 
     /// What a power asks for, that isn't press.
     pub(crate) fn quiet(&mut self, author: Author) -> Result<String, AllocError> {
-        let alloc = self.alloc;
-        match self.dice.roll(10) {
-            0 => String::from_str(alloc, "SHOW\n"),
-            1 => String::from_str(alloc, "WITHDRAW\n"),
-            2 => String::from_str(alloc, "VOTE YES\n"),
-            3 => String::from_str(alloc, "VOTE NO\n"),
-            4 => String::from_str(alloc, "INBOX 1\n"),
-            5 => String::from_str(alloc, "INBOX 999999\n"),
-            _ => self.orders(author),
+        match QUIET.get(self.dice.roll(10) as usize) {
+            Some(asked) => String::from_str(self.alloc, *asked),
+            None => self.orders(author),
         }
     }
 
     /// What the master asks for.
     fn masterly(&mut self) -> Result<String, AllocError> {
-        let alloc = self.alloc;
-        let number = self.number;
-        match self.dice.roll(14) {
-            0 => String::from_str(alloc, "PAUSE\n"),
-            1 | 2 => String::from_str(alloc, "RESUME\n"),
-            3 => format!(in alloc; "PERIOD {number}\n"),
-            4 => format!(in alloc; "ANNOUNCE\n> Number {number}.\n"),
-            5 => String::from_str(alloc, "REPLACE france ffffffff\n"),
-            6 => String::from_str(alloc, "REPLACE spain ffffffff\n"),
-            7 => String::from_str(
-                alloc,
-                "CREATE DUE 0 PERIOD 1 GREY NO\nSEAT france ffffffff\n",
-            ),
-            8 => String::from_str(alloc, "TICK 0\n"),
-            _ => format!(in alloc; "TICK {number}00\n"),
+        let number = digits_of(self.alloc, self.number)?;
+        let form = self.dice.pick(MASTERS).unwrap_or("PAUSE");
+        let mut command = String::new(self.alloc);
+        for letter in form.chars() {
+            if letter == '#' {
+                command.push_str(number.as_str())?;
+            } else {
+                command.push(letter)?;
+            }
         }
+        command.push_str("\n")?;
+        Ok(command)
     }
 
     /// Any command, of the master's mostly where it writes.

@@ -1,6 +1,6 @@
 //! Pairs of histories that a power cannot tell apart.
 use super::answers::{answers, count_of_heads, replies_under};
-use super::letters::{Author, Letters};
+use super::letters::{Author, Letters, SEEDS};
 use dip_map::{Map, STANDARD};
 use std::alloc::{AllocError, Global};
 use std::process::Abort;
@@ -22,34 +22,60 @@ fn push_pair(one: &mut Letters, other: &mut Letters, author: Author) -> Result<(
     other.push(author, another.as_str())
 }
 
-/// What England is answered in two histories in which others send the same press, and order, vote and ask otherwise.
-fn assert_alike(rt: &impl Abort, alloc: Global, seed: u32) -> Result<(), Fail> {
-    let map = Map::from_toml(alloc, STANDARD)?;
-    let mut one = Letters::new(alloc, seed)?;
-    let mut other = Letters::new(alloc, seed.wrapping_add(1))?;
+fn push_pairs(one: &mut Letters, other: &mut Letters) -> Result<(), AllocError> {
     for _ in 0..500 {
         let author = one.next_author();
         if author.name != "master" {
-            push_pair(&mut one, &mut other, author)?;
+            push_pair(one, other, author)?;
         }
-    }
-    assert!(rt; one.text.as_str() != other.text.as_str());
-    let one = answers(alloc, &map, one.text.as_str())?;
-    let other = answers(alloc, &map, other.text.as_str())?;
-    for head in ["REPLY g1 england ", "REPLY g2 england "] {
-        let shown = replies_under(alloc, one.as_str(), head)?;
-        let alike = replies_under(alloc, other.as_str(), head)?;
-        assert!(rt; shown.as_str() == alike.as_str());
-        assert!(rt; count_of_heads(shown.as_str(), "REPLY ") > 5);
     }
     Ok(())
 }
 
+/// What begins so is the same in both, and there is some of it.
+fn assert_same(
+    rt: &impl Abort,
+    alloc: Global,
+    one: &str,
+    other: &str,
+    head: &str,
+) -> Result<(), AllocError> {
+    let shown = replies_under(alloc, one, head)?;
+    let alike = replies_under(alloc, other, head)?;
+    assert!(rt; shown.as_str() == alike.as_str());
+    assert!(rt; count_of_heads(shown.as_str(), "REPLY ") > 5);
+    Ok(())
+}
+
+/// What England is answered in both of its games is the same in two histories that differ.
+fn assert_answers(
+    rt: &impl Abort,
+    alloc: Global,
+    map: &Map,
+    one: &str,
+    other: &str,
+) -> Result<(), Fail> {
+    assert!(rt; one != other);
+    let one = answers(alloc, map, one)?;
+    let other = answers(alloc, map, other)?;
+    assert_same(rt, alloc, one.as_str(), other.as_str(), "REPLY g1 england ")?;
+    assert_same(rt, alloc, one.as_str(), other.as_str(), "REPLY g2 england ")?;
+    Ok(())
+}
+
+/// What England is answered in two histories in which others send the same press, and order, vote and ask otherwise.
+fn assert_alike(rt: &impl Abort, alloc: Global, map: &Map, seed: u32) -> Result<(), Fail> {
+    let mut one = Letters::new(alloc, seed)?;
+    let mut other = Letters::new(alloc, seed.wrapping_add(1))?;
+    push_pairs(&mut one, &mut other)?;
+    assert_answers(rt, alloc, map, one.text.as_str(), other.text.as_str())
+}
+
 #[test]
 fn what_others_order_and_vote_is_not_told(rt: HostRuntime) -> Result<(), Fail> {
-    let alloc = rt.alloc();
-    for seed in [1, 1835, 1901, 1976] {
-        assert_alike(&rt, alloc, seed)?;
+    let map = Map::from_toml(rt.alloc(), STANDARD)?;
+    for &seed in SEEDS {
+        assert_alike(&rt, rt.alloc(), &map, seed)?;
     }
     Ok(())
 }

@@ -5,7 +5,7 @@ use dip_desk::MemoryKeeper;
 use dip_letters::digest;
 use dip_map::{Map, STANDARD};
 use dip_runs::run_file;
-use std::alloc::Global;
+use std::alloc::{AllocError, Global};
 use std::io;
 use std::io::{ErrorKind, Read, Write};
 use std::process::Abort;
@@ -92,29 +92,46 @@ fn assert_answers(
     assert!(rt; writer.bytes.as_slice() == expected);
 }
 
-#[test]
-fn signals_end_no_run(rt: HostRuntime) -> Result<(), Fail> {
-    let alloc = rt.alloc();
-    let map = Map::from_toml(alloc, STANDARD)?;
-    let mut letters = Letters::new(alloc, 1)?;
+fn push_fifty(letters: &mut Letters) -> Result<(), AllocError> {
     for _ in 0..50 {
         let author = letters.any_author();
         let command = letters.command(author)?;
         letters.push(author, command.as_str())?;
     }
-    let input = letters.text.as_str();
-    let expected = answers(alloc, &map, input)?;
-    for step in [1, 3, 4096, 100_000] {
-        assert_answers(
-            &rt,
-            alloc,
-            &map,
-            input.as_bytes(),
-            step,
-            expected.as_bytes(),
-        );
+    Ok(())
+}
+
+/// How many bytes a call moves.
+const STEPS: &[usize] = &[1, 3, 4096, 100_000];
+
+/// An input has the same answers, however many bytes a call moves.
+fn assert_same(rt: &impl Abort, alloc: Global, map: &Map, input: &str) -> Result<(), Fail> {
+    let expected = answers(alloc, map, input)?;
+    let expected = expected.as_bytes();
+    for &step in STEPS {
+        assert_answers(rt, alloc, map, input.as_bytes(), step, expected);
     }
     Ok(())
+}
+
+#[test]
+fn signals_end_no_run(rt: HostRuntime) -> Result<(), Fail> {
+    let map = Map::from_toml(rt.alloc(), STANDARD)?;
+    let mut letters = Letters::new(rt.alloc(), 1)?;
+    push_fifty(&mut letters)?;
+    assert_same(&rt, rt.alloc(), &map, letters.text.as_str())
+}
+
+/// How many bytes an input has, and how many a call moves.
+const SIZES: &[usize] = &[0, 1, 100, 65_535, 65_536, 65_537, 131_072, 1_000_003];
+
+const WIDE_STEPS: &[usize] = &[4093, 65_536, 100_000];
+
+/// An input of empty lines has no answer, however many bytes a call moves.
+fn assert_nothing(rt: &impl Abort, alloc: Global, map: &Map, input: &[u8]) {
+    for &step in WIDE_STEPS {
+        assert_answers(rt, alloc, map, input, step, b"".as_slice());
+    }
 }
 
 #[test]
@@ -123,11 +140,9 @@ fn inputs_of_all_sizes_are_read(rt: HostRuntime) -> Result<(), Fail> {
     let map = Map::from_toml(alloc, STANDARD)?;
     let mut input = Vec::new(alloc);
     input.resize(1_000_003, b'\n')?;
-    for size in [0, 1, 100, 65_535, 65_536, 65_537, 131_072, 1_000_003] {
-        for step in [4093, 65_536, 100_000] {
-            let front = &input.as_slice()[..size.min(input.len())];
-            assert_answers(&rt, alloc, &map, front, step, b"".as_slice());
-        }
+    for &size in SIZES {
+        let front = &input.as_slice()[..size.min(input.len())];
+        assert_nothing(&rt, alloc, &map, front);
     }
     Ok(())
 }

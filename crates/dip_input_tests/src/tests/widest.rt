@@ -1,5 +1,6 @@
 //! A map of 200 provinces and seven powers, on which a unit stands in each province.
-use super::answers::{answers, count_of};
+use super::answers::{answers, assert_lines, count_of};
+use super::texts::{letter_of, push_all, text_of};
 use dip_map::Map;
 use std::alloc::{AllocError, Global};
 use std::test::Fail;
@@ -70,7 +71,7 @@ fn ring(alloc: Global) -> Result<String, AllocError> {
     let mut text = String::from_str(alloc, "name = \"ring\"\n")?;
     for (power, name) in POWERS.iter().enumerate() {
         let (first, end) = block_of(power);
-        write!(text, "[powers.{name}]\nhome = [")?;
+        push_all(&mut text, &["[powers.", *name, "]\nhome = ["])?;
         push_list(first, first.wrapping_add(3), "\"", "\"", &mut text)?;
         text.push_str("]\nunits = [")?;
         push_list(first, end, "\"A ", "\"", &mut text)?;
@@ -84,15 +85,15 @@ fn ring(alloc: Global) -> Result<String, AllocError> {
 
 /// Appends a letter of this author.
 fn push_letter(
+    alloc: Global,
     author: &str,
     number: u32,
     command: &str,
     input: &mut String,
 ) -> Result<(), AllocError> {
-    write!(
-        input,
-        "LETTER\nGAME g1\nFROM {author}\nSECRET {author}-secret\nNUMBER {number}\n{command}END\n"
-    )
+    let secret = text_of(alloc, &[author, "-secret"])?;
+    let letter = letter_of(alloc, "g1", (author, secret.as_str()), number, command)?;
+    input.push_str(letter.as_str())
 }
 
 /// Appends the letter of a power whose units all move on by one.
@@ -111,7 +112,7 @@ fn push_orders(
         push_code(place.wrapping_add(1), &mut command)?;
         command.push_str("\n")?;
     }
-    push_letter(name, 1, command.as_str(), input)
+    push_letter(alloc, name, 1, command.as_str(), input)
 }
 
 /// A game in which all units move at once; then the first power is shown it.
@@ -121,14 +122,14 @@ fn game_on_the_ring(alloc: Global) -> Result<String, AllocError> {
         "LETTER\nGAME g1\nFROM master\nSECRET master-key\nNUMBER 1\nCREATE DUE 1 PERIOD 1 GREY NO\n",
     )?;
     for name in POWERS {
-        writeln!(input, "SEAT {name} {name}-secret")?;
+        push_all(&mut input, &["SEAT ", name, " ", name, "-secret\n"])?;
     }
     input.push_str("END\n")?;
     for (power, name) in POWERS.iter().enumerate() {
         push_orders(alloc, power, *name, &mut input)?;
     }
     input.push_str("LETTER\nGAME g1\nFROM master\nSECRET master-key\nNUMBER 2\nTICK 1\nEND\n")?;
-    push_letter("ada", 2, "SHOW\n", &mut input)?;
+    push_letter(alloc, "ada", 2, "SHOW\n", &mut input)?;
     Ok(input)
 }
 
@@ -140,18 +141,26 @@ fn line_of_the_first(alloc: Global) -> Result<String, AllocError> {
     Ok(line)
 }
 
-#[test]
-fn the_widest_map_is_played(rt: HostRuntime) -> Result<(), Fail> {
-    let alloc = rt.alloc();
+/// What the game on the ring is answered.
+fn answers_on_the_ring(alloc: Global) -> Result<String, Fail> {
     let text = ring(alloc)?;
     let map = Map::from_toml(alloc, text.as_str())?;
     let input = game_on_the_ring(alloc)?;
-    let output = answers(alloc, &map, input.as_str())?;
-    let line = line_of_the_first(alloc)?;
-    assert_eq!(&rt; count_of(output.as_str(), "OK A aaa - aab"), 1);
-    assert_eq!(&rt; count_of(output.as_str(), "OK A bjj - aaa"), 1);
-    assert_eq!(&rt; count_of(output.as_str(), "OK paper 2"), 1);
-    assert_eq!(&rt; count_of(output.as_str(), line.as_str()), 1);
-    assert_eq!(&rt; count_of(output.as_str(), "END"), 10);
+    answers(alloc, &map, input.as_str())
+}
+
+const PLAYED: &[(&str, usize)] = &[
+    ("OK A aaa - aab", 1),
+    ("OK A bjj - aaa", 1),
+    ("OK paper 2", 1),
+    ("END", 10),
+];
+
+#[test]
+fn the_widest_map_is_played(rt: HostRuntime) -> Result<(), Fail> {
+    let output = answers_on_the_ring(rt.alloc())?;
+    let line = line_of_the_first(rt.alloc())?;
+    assert_lines(&rt, output.as_str(), PLAYED);
+    assert!(&rt; count_of(output.as_str(), line.as_str()) == 1);
     Ok(())
 }

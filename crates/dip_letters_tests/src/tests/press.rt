@@ -1,5 +1,5 @@
 //! Press, votes and inboxes, and what the master makes known.
-use super::{check_changes, is_read, verdict};
+use super::{check_change, check_changes, verdict};
 use dip_letters::{
     Command, MasterCommand, Names, Next, Notice, PlayerCommand, Texts, next_letter, print_letter,
 };
@@ -149,120 +149,122 @@ fn prints_what_it_read(rt: HostRuntime) -> Result<(), Fail> {
     Ok(())
 }
 
+/// What is changed of PRESS, into what, and whether that is read.
+const CHANGES_OF_PRESS: &[(&str, &str, bool)] = &[
+    ("WHITE", "GREY", true),
+    ("WHITE", "RED", false),
+    ("WHITE", "white", false),
+    ("PRESS", "press", false),
+    ("PRESS WHITE", "PRESS  WHITE", false),
+    ("PRESS WHITE", "PRESS", false),
+    ("WHITE TO", "WHITE  TO", false),
+    ("WHITE TO", "WHITE to", false),
+    ("WHITE TO", "WHITE", false),
+    ("TO france", "TO  france", false),
+    ("france italy", "france  italy", false),
+    ("france italy", "france italy ", false),
+    ("france italy", "france\titaly", false),
+    ("france italy", "france,italy", false),
+    ("france italy", "france", true),
+    ("france italy", "all", true),
+    ("france italy", "all france", true),
+    ("france italy", "france france", true),
+    ("france italy", "england", true),
+    ("italy", "abcdefghijklmnop", true),
+    ("italy", "abcdefghijklmnopq", false),
+    ("italy", "Italy", false),
+    ("italy", "italy2", false),
+    (" france italy", "", false),
+    (" france italy", " ", false),
+    ("> Hello.", "Hello.", false),
+    ("> Hello.", ">Hello.", false),
+    ("> Hello.", " > Hello.", false),
+    ("> Hello.", ">", false),
+    ("> Hello.", "> ", true),
+    ("> Hello.", "> END", true),
+    ("> Hello.", "END", false),
+    ("> Hello.", "> Hel\tlo.", false),
+    ("> Hello.", "> Hell\u{f6}.", false),
+    ("> Hello.\n", "> Hello.\r\n", false),
+    ("> Hello.\n", "> Hello.\n\n", false),
+    ("> Hello.\n>  ~ END\n", "", false),
+];
+
 #[test]
 fn keeps_to_the_grammar_of_press(rt: HostRuntime) -> Result<(), Fail> {
-    let rows = [
-        ("WHITE", "GREY", true),
-        ("WHITE", "RED", false),
-        ("WHITE", "white", false),
-        ("PRESS", "press", false),
-        ("PRESS WHITE", "PRESS  WHITE", false),
-        ("PRESS WHITE", "PRESS", false),
-        ("WHITE TO", "WHITE  TO", false),
-        ("WHITE TO", "WHITE to", false),
-        ("WHITE TO", "WHITE", false),
-        ("TO france", "TO  france", false),
-        ("france italy", "france  italy", false),
-        ("france italy", "france italy ", false),
-        ("france italy", "france\titaly", false),
-        ("france italy", "france,italy", false),
-        ("france italy", "france", true),
-        ("france italy", "all", true),
-        ("france italy", "all france", true),
-        ("france italy", "france france", true),
-        ("france italy", "england", true),
-        ("italy", "abcdefghijklmnop", true),
-        ("italy", "abcdefghijklmnopq", false),
-        ("italy", "Italy", false),
-        ("italy", "italy2", false),
-        (" france italy", "", false),
-        (" france italy", " ", false),
-        ("> Hello.", "Hello.", false),
-        ("> Hello.", ">Hello.", false),
-        ("> Hello.", " > Hello.", false),
-        ("> Hello.", ">", false),
-        ("> Hello.", "> ", true),
-        ("> Hello.", "> END", true),
-        ("> Hello.", "END", false),
-        ("> Hello.", "> Hel\tlo.", false),
-        ("> Hello.", "> Hell\u{f6}.", false),
-        ("> Hello.\n", "> Hello.\r\n", false),
-        ("> Hello.\n", "> Hello.\n\n", false),
-        ("> Hello.\n>  ~ END\n", "", false),
-    ];
-    check_changes(&rt, rt.alloc(), WHITE, &rows)?;
+    check_changes(&rt, rt.alloc(), WHITE, CHANGES_OF_PRESS)?;
     Ok(())
 }
 
+/// The same of VOTE.
+const CHANGES_OF_VOTE: &[(&str, &str, bool)] = &[
+    ("VOTE YES", "VOTE NO", true),
+    ("VOTE YES", "VOTE MAYBE", false),
+    ("VOTE YES", "VOTE yes", false),
+    ("VOTE YES", "VOTE YES ", false),
+    ("VOTE YES", "VOTE  YES", false),
+    ("VOTE YES", "VOTE YES NO", false),
+    ("VOTE YES", "VOTE ", false),
+    ("VOTE YES", "VOTE", false),
+    ("VOTE YES", "vote YES", false),
+    ("VOTE YES\n", "VOTE YES\n> x\n", false),
+    ("VOTE YES\n", "VOTE YES\n\n", false),
+];
+
 #[test]
 fn keeps_to_the_grammar_of_answers(rt: HostRuntime) -> Result<(), Fail> {
-    let rows = [
-        ("VOTE YES", "VOTE NO", true),
-        ("VOTE YES", "VOTE MAYBE", false),
-        ("VOTE YES", "VOTE yes", false),
-        ("VOTE YES", "VOTE YES ", false),
-        ("VOTE YES", "VOTE  YES", false),
-        ("VOTE YES", "VOTE YES NO", false),
-        ("VOTE YES", "VOTE ", false),
-        ("VOTE YES", "VOTE", false),
-        ("VOTE YES", "vote YES", false),
-        ("VOTE YES\n", "VOTE YES\n> x\n", false),
-        ("VOTE YES\n", "VOTE YES\n\n", false),
-    ];
-    check_changes(&rt, rt.alloc(), VOTE, &rows)?;
+    check_changes(&rt, rt.alloc(), VOTE, CHANGES_OF_VOTE)?;
     Ok(())
 }
+
+/// Whether a number of an item or a period is read.
+const NUMBERS: &[(&str, bool)] = &[
+    ("0", false),
+    ("1", true),
+    ("01", false),
+    ("999999", true),
+    ("1000000", false),
+    ("+1", false),
+    ("-1", false),
+    ("1e2", false),
+    ("1 ", false),
+    (" 1", false),
+    ("1\n> x", false),
+    ("1\n", false),
+    ("", false),
+];
 
 #[test]
 fn keeps_to_the_grammar_of_numbers(rt: HostRuntime) -> Result<(), Fail> {
     let alloc = rt.alloc();
-    for (number, want) in [
-        ("0", false),
-        ("1", true),
-        ("01", false),
-        ("999999", true),
-        ("1000000", false),
-        ("+1", false),
-        ("-1", false),
-        ("1e2", false),
-        ("1 ", false),
-        (" 1", false),
-        ("1\n> x", false),
-        ("1\n", false),
-        ("", false),
-    ] {
-        assert!(rt;
-            is_read(alloc, INBOX, "21", number)? == want,
-            "INBOX {number}"
-        );
-        assert!(rt;
-            is_read(alloc, PERIOD, "50", number)? == want,
-            "PERIOD {number}"
-        );
+    for &(number, want) in NUMBERS {
+        check_change(&rt, alloc, INBOX, ("21", number), want)?;
+        check_change(&rt, alloc, PERIOD, ("50", number), want)?;
     }
-    for (old, new, want) in [("INBOX ", "INBOX", false), ("INBOX", "inbox", false)] {
-        assert!(rt; is_read(alloc, INBOX, old, new)? == want, "{new}");
-    }
-    for (old, new, want) in [("PERIOD ", "PERIOD", false), ("PERIOD", "period", false)] {
-        assert!(rt; is_read(alloc, PERIOD, old, new)? == want, "{new}");
-    }
+    check_change(&rt, alloc, INBOX, ("INBOX ", "INBOX"), false)?;
+    check_change(&rt, alloc, INBOX, ("INBOX", "inbox"), false)?;
+    check_change(&rt, alloc, PERIOD, ("PERIOD ", "PERIOD"), false)?;
+    check_change(&rt, alloc, PERIOD, ("PERIOD", "period"), false)?;
     Ok(())
 }
 
+/// A letter whose command is a name alone, the name, and what is no such name.
+const NAMES_ALONE: &[(&str, &str, &str, &str, &str)] = &[
+    (
+        WITHDRAW,
+        "WITHDRAW\n",
+        "withdraw\n",
+        "WITHDRAW \n",
+        "WITHDRAW\n> x\n",
+    ),
+    (PAUSE, "PAUSE\n", "pause\n", "PAUSE \n", "PAUSE\n> x\n"),
+    (RESUME, "RESUME\n", "resume\n", "RESUME \n", "RESUME\n> x\n"),
+    (CLOSE, "CLOSE\n", "close\n", "CLOSE \n", "CLOSE\n> x\n"),
+];
+
 #[test]
 fn keeps_to_the_grammar_of_names_alone(rt: HostRuntime) -> Result<(), Fail> {
-    for (letter, name, lower, space, body) in [
-        (
-            WITHDRAW,
-            "WITHDRAW\n",
-            "withdraw\n",
-            "WITHDRAW \n",
-            "WITHDRAW\n> x\n",
-        ),
-        (PAUSE, "PAUSE\n", "pause\n", "PAUSE \n", "PAUSE\n> x\n"),
-        (RESUME, "RESUME\n", "resume\n", "RESUME \n", "RESUME\n> x\n"),
-        (CLOSE, "CLOSE\n", "close\n", "CLOSE \n", "CLOSE\n> x\n"),
-    ] {
+    for &(letter, name, lower, space, body) in NAMES_ALONE {
         let rows = [
             (name, name, true),
             (name, lower, false),
@@ -277,78 +279,82 @@ fn keeps_to_the_grammar_of_names_alone(rt: HostRuntime) -> Result<(), Fail> {
     Ok(())
 }
 
+/// What is changed of ANNOUNCE, into what, and whether that is read.
+const CHANGES_OF_ANNOUNCE: &[(&str, &str, bool)] = &[
+    ("ANNOUNCE", "announce", false),
+    ("ANNOUNCE", "ANNOUNCE ", false),
+    ("ANNOUNCE", "ANNOUNCE TO all", false),
+    ("> No play on Sunday.", "No play on Sunday.", false),
+    ("> No play on Sunday.", ">No play on Sunday.", false),
+    ("> No play on Sunday.", "> END", true),
+    ("> No play on Sunday.\n> \n", "> \n", true),
+    ("> No play on Sunday.\n> \n", "", false),
+];
+
 #[test]
 fn keeps_to_the_grammar_of_announcements(rt: HostRuntime) -> Result<(), Fail> {
-    let rows = [
-        ("ANNOUNCE", "announce", false),
-        ("ANNOUNCE", "ANNOUNCE ", false),
-        ("ANNOUNCE", "ANNOUNCE TO all", false),
-        ("> No play on Sunday.", "No play on Sunday.", false),
-        ("> No play on Sunday.", ">No play on Sunday.", false),
-        ("> No play on Sunday.", "> END", true),
-        ("> No play on Sunday.\n> \n", "> \n", true),
-        ("> No play on Sunday.\n> \n", "", false),
-    ];
-    check_changes(&rt, rt.alloc(), ANNOUNCE, &rows)?;
+    check_changes(&rt, rt.alloc(), ANNOUNCE, CHANGES_OF_ANNOUNCE)?;
     Ok(())
 }
 
+/// The same of REPLACE.
+const CHANGES_OF_REPLACE: &[(&str, &str, bool)] = &[
+    ("REPLACE", "replace", false),
+    ("REPLACE france", "REPLACE  france", false),
+    ("REPLACE france", "REPLACE SEAT france", false),
+    ("REPLACE france", "REPLACE", false),
+    ("france ffff", "france  ffff", false),
+    ("france", "France", false),
+    ("france", "abcdefghijklmnop", true),
+    ("france", "abcdefghijklmnopq", false),
+    (" ffff~ff!f", "", false),
+    ("ffff~ff!f", "", false),
+    ("ffff~ff!f", "ffff~ff", false),
+    ("ffff~ff!f", "ffff~ff!", true),
+    ("ffff~ff!f", "ffff~ff!f ", false),
+    ("ffff~ff!f", "ffff ffff", false),
+    ("ffff~ff!f\n", "ffff~ff!f\n> x\n", false),
+];
+
 #[test]
 fn keeps_to_the_grammar_of_replacements(rt: HostRuntime) -> Result<(), Fail> {
-    let rows = [
-        ("REPLACE", "replace", false),
-        ("REPLACE france", "REPLACE  france", false),
-        ("REPLACE france", "REPLACE SEAT france", false),
-        ("REPLACE france", "REPLACE", false),
-        ("france ffff", "france  ffff", false),
-        ("france", "France", false),
-        ("france", "abcdefghijklmnop", true),
-        ("france", "abcdefghijklmnopq", false),
-        (" ffff~ff!f", "", false),
-        ("ffff~ff!f", "", false),
-        ("ffff~ff!f", "ffff~ff", false),
-        ("ffff~ff!f", "ffff~ff!", true),
-        ("ffff~ff!f", "ffff~ff!f ", false),
-        ("ffff~ff!f", "ffff ffff", false),
-        ("ffff~ff!f\n", "ffff~ff!f\n> x\n", false),
-    ];
-    check_changes(&rt, rt.alloc(), REPLACE, &rows)?;
+    check_changes(&rt, rt.alloc(), REPLACE, CHANGES_OF_REPLACE)?;
     Ok(())
 }
+
+/// How many lines of a text are read.
+const TEXT_COUNTS: &[(usize, bool)] = &[(0, false), (1, true), (80, true), (81, false)];
+
+/// How many bytes of a line of text are read.
+const TEXT_SIZES: &[(usize, bool)] = &[(0, true), (1, true), (200, true), (201, false)];
+
+/// How many addressees are read.
+const READER_COUNTS: &[(usize, bool)] = &[(0, false), (1, true), (7, true), (8, false)];
 
 #[test]
 fn counts_texts_and_addressees(rt: HostRuntime) -> Result<(), Fail> {
     let alloc = rt.alloc();
-    for (count, want) in [(0, false), (1, true), (80, true), (81, false)] {
+    for &(count, want) in TEXT_COUNTS {
         let lines = "> x\n".repeat(alloc, count)?;
         let lines = lines.as_str();
-        assert!(rt;
-            is_read(alloc, WHITE, "> Hello.\n>  ~ END\n", lines)? == want,
-            "{count} lines of press"
-        );
-        assert!(rt;
-            is_read(alloc, ANNOUNCE, "> No play on Sunday.\n> \n", lines)? == want,
-            "{count} lines"
-        );
+        check_change(&rt, alloc, WHITE, ("> Hello.\n>  ~ END\n", lines), want)?;
+        check_change(
+            &rt,
+            alloc,
+            ANNOUNCE,
+            ("> No play on Sunday.\n> \n", lines),
+            want,
+        )?;
     }
-    for (count, want) in [(0, true), (1, true), (200, true), (201, false)] {
+    for &(count, want) in TEXT_SIZES {
         let line = "~".repeat(alloc, count)?;
         let line = line.as_str();
-        assert!(rt;
-            is_read(alloc, WHITE, "Hello.", line)? == want,
-            "{count} bytes of press"
-        );
-        assert!(rt;
-            is_read(alloc, ANNOUNCE, "No play on Sunday.", line)? == want,
-            "{count} bytes"
-        );
+        check_change(&rt, alloc, WHITE, ("Hello.", line), want)?;
+        check_change(&rt, alloc, ANNOUNCE, ("No play on Sunday.", line), want)?;
     }
-    for (count, want) in [(0, false), (1, true), (7, true), (8, false)] {
+    for &(count, want) in READER_COUNTS {
         let names = " italy".repeat(alloc, count)?;
-        assert!(rt;
-            is_read(alloc, WHITE, " france italy", names.as_str())? == want,
-            "{count} addressees"
-        );
+        check_change(&rt, alloc, WHITE, (" france italy", names.as_str()), want)?;
     }
     Ok(())
 }
@@ -357,15 +363,18 @@ fn counts_texts_and_addressees(rt: HostRuntime) -> Result<(), Fail> {
 /// the game: LETTER 7, GAME 6, FROM 13, SECRET 72, NUMBER 17, PRESS 22, END 4.
 fn long_press(alloc: Global, game: &str) -> Result<String, AllocError> {
     let secret = "s".repeat(alloc, 64)?;
-    let secret = secret.as_str();
     let words = "w".repeat(alloc, 200)?;
-    let words = words.as_str();
-    let line = format!(in alloc; "> {words}\n")?;
+    let line = ["> ", words.as_str(), "\n"].concat(alloc)?;
     let lines = line.as_str().repeat(alloc, 80)?;
-    let lines = lines.as_str();
-    format!(in alloc;
-        "LETTER\nGAME {game}\nFROM england\nSECRET {secret}\nNUMBER 999999999\nPRESS WHITE TO france\n{lines}END\n"
-    )
+    let author = [
+        "LETTER\nGAME ",
+        game,
+        "\nFROM england\nSECRET ",
+        secret.as_str(),
+    ]
+    .concat(alloc)?;
+    let press = "\nNUMBER 999999999\nPRESS WHITE TO france\n";
+    [author.as_str(), press, lines.as_str(), "END\n"].concat(alloc)
 }
 
 #[test]

@@ -40,20 +40,26 @@ fn board_with(
     Ok(Board::of(units, gone, Vec::new(alloc), owners, opening.phase()))
 }
 
+fn assert_of(rt: &impl Abort, map: &Map, board: &Board, is_of: bool) {
+    assert!(rt; board.is_of(map) == is_of);
+}
+
+/// Provinces with units, those with dislodged units, and whether a board of the map may be so.
+const HELD: &[(&str, &str, bool)] = &[
+    ("bur par", "ber bur", true),
+    ("bur par bur", "ber", false),
+    ("par", "ber bur ber", false),
+    ("par nth", "ber", false),
+    ("par", "ber nth", false),
+];
+
 #[test]
 fn a_province_holds_one_unit_and_one_dislodged(rt: HostRuntime) -> Result<(), Fail> {
     let alloc = rt.alloc();
     let map = Map::from_toml(alloc, STANDARD)?;
-    let rows = [
-        ("bur par", "ber bur", true),
-        ("bur par bur", "ber", false),
-        ("par", "ber bur ber", false),
-        ("par nth", "ber", false),
-        ("par", "ber nth", false),
-    ];
-    for (standing, dislodged, is_of) in rows {
+    for &(standing, dislodged, is_of) in HELD {
         let board = board_with(&rt, alloc, &map, standing, dislodged)?;
-        assert_eq!(rt; board.is_of(&map), is_of);
+        assert_of(&rt, &map, &board, is_of);
     }
     Ok(())
 }
@@ -75,21 +81,23 @@ fn provs_of(alloc: Global, map: &Map, codes: &str) -> Result<Vec<Prov>, AllocErr
     Ok(provs)
 }
 
+/// Standoffs, and whether a board of the map may have them.
+const STANDOFFS: &[(&str, bool)] = &[
+    ("bel bur", true),
+    ("bur bel", false),
+    ("bel bel", false),
+    ("bel mun", false),
+    ("bel none", false),
+];
+
 #[test]
 fn standoffs_ascend_and_are_empty(rt: HostRuntime) -> Result<(), Fail> {
     let alloc = rt.alloc();
     let map = Map::from_toml(alloc, STANDARD)?;
-    let rows = [
-        ("bel bur", true),
-        ("bur bel", false),
-        ("bel bel", false),
-        ("bel mun", false),
-        ("bel none", false),
-    ];
-    for (codes, is_of) in rows {
+    for &(codes, is_of) in STANDOFFS {
         let standoff = provs_of(alloc, &map, codes)?;
         let board = board_closed(alloc, &map, standoff)?;
-        assert_eq!(rt; board.is_of(&map), is_of);
+        assert_of(&rt, &map, &board, is_of);
     }
     Ok(())
 }
@@ -116,14 +124,16 @@ fn board_owned(alloc: Global, map: &Map, code: &str, power: u8) -> Result<Board,
     ))
 }
 
+/// A province, a power by its number, and whether that one may own it.
+const OWNED: &[(&str, u8, bool)] = &[("bel", 6, true), ("bel", 7, false), ("bur", 6, false)];
+
 #[test]
 fn powers_own_centres(rt: HostRuntime) -> Result<(), Fail> {
     let alloc = rt.alloc();
     let map = Map::from_toml(alloc, STANDARD)?;
-    let rows = [("bel", 6, true), ("bel", 7, false), ("bur", 6, false)];
-    for (code, power, is_of) in rows {
+    for &(code, power, is_of) in OWNED {
         let board = board_owned(alloc, &map, code, power)?;
-        assert_eq!(rt; board.is_of(&map), is_of);
+        assert_of(&rt, &map, &board, is_of);
     }
     Ok(())
 }

@@ -83,21 +83,27 @@ fn each_fault_has_its_number(rt: HostRuntime) -> Result<(), Fail> {
     Ok(())
 }
 
+fn check_first(
+    rt: &impl Abort,
+    alloc: Global,
+    first: (&str, &str),
+    second: (&str, &str),
+    fault: MapFault,
+) -> Result<(), AllocError> {
+    let once = text_with(rt, alloc, STANDARD, first.0, first.1)?;
+    let twice = text_with(rt, alloc, once.as_str(), second.0, second.1)?;
+    assert!(rt; fault_of(alloc, twice.as_str()) == Some(fault));
+    Ok(())
+}
+
 #[test]
 fn the_first_fault_of_two_is_told(rt: HostRuntime) -> Result<(), Fail> {
     let alloc = rt.alloc();
-    let rows = [
-        (NAME_TWICE, LAKE, MapFault::NotToml),
-        (LAKE, EIGHTH, MapFault::WrongField),
-        (EIGHTH, HOME_GAL, MapFault::OverLimit),
-        (HOME_GAL, TWO_VIENNAS, MapFault::UnknownName),
-        (TWO_VIENNAS, NO_VIE, MapFault::DoubledName),
-    ];
-    for (first, second, fault) in rows {
-        let once = text_with(&rt, alloc, STANDARD, first.0, first.1)?;
-        let twice = text_with(&rt, alloc, once.as_str(), second.0, second.1)?;
-        assert!(rt; fault_of(alloc, twice.as_str()) == Some(fault));
-    }
+    check_first(&rt, alloc, NAME_TWICE, LAKE, MapFault::NotToml)?;
+    check_first(&rt, alloc, LAKE, EIGHTH, MapFault::WrongField)?;
+    check_first(&rt, alloc, EIGHTH, HOME_GAL, MapFault::OverLimit)?;
+    check_first(&rt, alloc, HOME_GAL, TWO_VIENNAS, MapFault::UnknownName)?;
+    check_first(&rt, alloc, TWO_VIENNAS, NO_VIE, MapFault::DoubledName)?;
     Ok(())
 }
 
@@ -152,88 +158,94 @@ fn check_changes(
     Ok(())
 }
 
+fn check_five(rt: &impl Abort, map: &Map) {
+    assert!(rt; map.province_count() == 5 && map.power_count() == 2);
+    let west = map.power("west").expect(rt, "a power");
+    assert!(rt; map.home(west).len() == 2);
+}
+
 #[test]
 fn a_small_map_is_read(rt: HostRuntime) -> Result<(), Fail> {
-    let alloc = rt.alloc();
-    let map = Map::from_toml(alloc, FIVE)?;
-    assert_eq!(rt; map.province_count(), 5);
-    assert_eq!(rt; map.power_count(), 2);
-    let west = map.power("west").expect(&rt, "a power");
-    assert_eq!(rt; map.home(west).len(), 2);
+    let map = Map::from_toml(rt.alloc(), FIVE)?;
+    check_five(&rt, &map);
     Ok(())
 }
+
+/// What is changed of a map's text, and into what: then a field is wrong.
+const WRONG_FIELDS: &[(&str, &str)] = &[
+    ("name = \"five\"", ""),
+    ("name = \"five\"", "name = 5"),
+    ("name = \"five\"", "name = \"five\"\nyear = 1901"),
+    ("home = [\"bay\"]\n", ""),
+    ("home = [\"bay\"]", "home = \"bay\""),
+    ("home = [\"bay\"]", "home = [\"bay/nc\"]"),
+    ("home = [\"bay\"]", "home = [1]"),
+    ("home = [\"bay\"]", "home = [\"bay\"]\nname = \"East\""),
+    ("\"F bay/nc\"", "\"bay\""),
+    ("\"F bay/nc\"", "\"F  bay/nc\""),
+    ("\"F bay/nc\"", "\"F bay/\""),
+    ("\"F bay/nc\"", "\"G bay\""),
+    ("\"A ard\"", "\"A ard/nc\""),
+    ("powers.east", "powers.East"),
+    ("powers.east", "powers.nobody"),
+    ("powers.east", "powers.abcdefghijklmnopq"),
+    ("provinces.oak", "provinces.oaks"),
+    ("provinces.oak", "provinces.OAK"),
+    ("name = \"Oak\"\n", ""),
+    ("name = \"Oak\"", "name = \"\""),
+    ("name = \"Oak\"", "name = \"\\u00e9\""),
+    (
+        "name = \"Oak\"",
+        "name = \"abcdefghij abcdefghij abcdefghij abcdefgh\"",
+    ),
+    ("name = \"Oak\"", "name = \"Oak\"\ncentre = 1"),
+    ("name = \"Oak\"", "name = \"Oak\"\nowner = \"west\""),
+    ("army = []\n", ""),
+    ("fleet = []\n", ""),
+    (
+        "army = [\"bay\", \"cay\"]\n",
+        "army = [\"bay\", \"cay\"]\nfleet = []\n",
+    ),
+    ("army = [\"bay\", \"cay\"]", "army = [\"bay/nc\", \"cay\"]"),
+    ("nc = [\"sea\"]\n", ""),
+    ("nc = [\"sea\"]\n", "nc = [\"sea\"]\nncs = []\n"),
+    (
+        "[provinces.bay.coasts]\n",
+        "fleet = []\n[provinces.bay.coasts]\n",
+    ),
+    ("kind = \"sea\"\n", "kind = \"sea\"\narmy = []\n"),
+    ("kind = \"sea\"\n", ""),
+];
 
 #[test]
 fn fields_are_of_their_type_and_form(rt: HostRuntime) -> Result<(), Fail> {
-    let rows = [
-        ("name = \"five\"", ""),
-        ("name = \"five\"", "name = 5"),
-        ("name = \"five\"", "name = \"five\"\nyear = 1901"),
-        ("home = [\"bay\"]\n", ""),
-        ("home = [\"bay\"]", "home = \"bay\""),
-        ("home = [\"bay\"]", "home = [\"bay/nc\"]"),
-        ("home = [\"bay\"]", "home = [1]"),
-        ("home = [\"bay\"]", "home = [\"bay\"]\nname = \"East\""),
-        ("\"F bay/nc\"", "\"bay\""),
-        ("\"F bay/nc\"", "\"F  bay/nc\""),
-        ("\"F bay/nc\"", "\"F bay/\""),
-        ("\"F bay/nc\"", "\"G bay\""),
-        ("\"A ard\"", "\"A ard/nc\""),
-        ("powers.east", "powers.East"),
-        ("powers.east", "powers.nobody"),
-        ("powers.east", "powers.abcdefghijklmnopq"),
-        ("provinces.oak", "provinces.oaks"),
-        ("provinces.oak", "provinces.OAK"),
-        ("name = \"Oak\"\n", ""),
-        ("name = \"Oak\"", "name = \"\""),
-        ("name = \"Oak\"", "name = \"\\u00e9\""),
-        (
-            "name = \"Oak\"",
-            "name = \"abcdefghij abcdefghij abcdefghij abcdefgh\"",
-        ),
-        ("name = \"Oak\"", "name = \"Oak\"\ncentre = 1"),
-        ("name = \"Oak\"", "name = \"Oak\"\nowner = \"west\""),
-        ("army = []\n", ""),
-        ("fleet = []\n", ""),
-        (
-            "army = [\"bay\", \"cay\"]\n",
-            "army = [\"bay\", \"cay\"]\nfleet = []\n",
-        ),
-        ("army = [\"bay\", \"cay\"]", "army = [\"bay/nc\", \"cay\"]"),
-        ("nc = [\"sea\"]\n", ""),
-        ("nc = [\"sea\"]\n", "nc = [\"sea\"]\nncs = []\n"),
-        (
-            "[provinces.bay.coasts]\n",
-            "fleet = []\n[provinces.bay.coasts]\n",
-        ),
-        ("kind = \"sea\"\n", "kind = \"sea\"\narmy = []\n"),
-        ("kind = \"sea\"\n", ""),
-    ];
-    check_changes(&rt, rt.alloc(), &rows, MapFault::WrongField)?;
+    check_changes(&rt, rt.alloc(), WRONG_FIELDS, MapFault::WrongField)?;
     Ok(())
 }
 
+/// The same: then a name isn't known.
+const UNKNOWN_NAMES: &[(&str, &str)] = &[
+    ("home = [\"bay\"]", "home = [\"xyz\"]"),
+    ("home = [\"bay\"]", "home = [\"oak\"]"),
+    ("\"F bay/nc\"", "\"F bay\""),
+    ("\"F bay/nc\"", "\"F bay/ec\""),
+    ("\"F bay/nc\"", "\"F xyz\""),
+    ("\"F bay/nc\"", "\"F ard\""),
+    ("\"A ard\"", "\"A sea\""),
+    ("\"F cay\"", "\"F cay/nc\""),
+    ("army = [\"bay\", \"cay\"]", "army = [\"bay\", \"sea\"]"),
+    ("army = [\"bay\", \"cay\"]", "army = [\"ard\", \"bay\"]"),
+    ("nc = [\"sea\"]", "nc = [\"bay/sc\", \"sea\"]"),
+    ("nc = [\"sea\"]", "nc = [\"ard\", \"sea\"]"),
+    (
+        "fleet = [\"bay/sc\", \"sea\"]",
+        "fleet = [\"bay\", \"sea\"]",
+    ),
+];
+
 #[test]
 fn codes_are_defined_and_allowed(rt: HostRuntime) -> Result<(), Fail> {
-    let rows = [
-        ("home = [\"bay\"]", "home = [\"xyz\"]"),
-        ("home = [\"bay\"]", "home = [\"oak\"]"),
-        ("\"F bay/nc\"", "\"F bay\""),
-        ("\"F bay/nc\"", "\"F bay/ec\""),
-        ("\"F bay/nc\"", "\"F xyz\""),
-        ("\"F bay/nc\"", "\"F ard\""),
-        ("\"A ard\"", "\"A sea\""),
-        ("\"F cay\"", "\"F cay/nc\""),
-        ("army = [\"bay\", \"cay\"]", "army = [\"bay\", \"sea\"]"),
-        ("army = [\"bay\", \"cay\"]", "army = [\"ard\", \"bay\"]"),
-        ("nc = [\"sea\"]", "nc = [\"bay/sc\", \"sea\"]"),
-        ("nc = [\"sea\"]", "nc = [\"ard\", \"sea\"]"),
-        (
-            "fleet = [\"bay/sc\", \"sea\"]",
-            "fleet = [\"bay\", \"sea\"]",
-        ),
-    ];
-    check_changes(&rt, rt.alloc(), &rows, MapFault::UnknownName)?;
+    check_changes(&rt, rt.alloc(), UNKNOWN_NAMES, MapFault::UnknownName)?;
     Ok(())
 }
 

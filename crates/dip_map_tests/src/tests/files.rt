@@ -1,6 +1,7 @@
 //! What a file writes, field by field.
-use dip_mapfile::{draft_of, tables_of};
+use dip_mapfile::{Draft, draft_of, tables_of};
 use dip_names::{Kind, MapFault, Terrain};
+use std::process::Abort;
 use std::test::Fail;
 
 const ISLES: &str = "name = \"isles\"
@@ -25,21 +26,31 @@ kind = \"sea\"
 fleet = [\"bay/nc\"]
 ";
 
+fn check_bay(rt: &impl Abort, draft: &Draft<'_>) {
+    assert!(rt; draft.name == "isles" && draft.provinces.len() == 3);
+    let bay = draft.provinces.get(1).expect(rt, "a province");
+    assert!(rt; bay.code == "bay" && bay.name == "Bay");
+    assert!(rt; bay.terrain == Terrain::Coast && !bay.centre);
+    assert!(rt; bay.coast(b"sc") == Some(1) && bay.coast(b"").is_none());
+}
+
 #[test]
 fn provinces_are_read_by_code(rt: HostRuntime) -> Result<(), Fail> {
     let alloc = rt.alloc();
     let file = tables_of(alloc, ISLES).expect(&rt, "TOML");
     let draft = draft_of(alloc, &file).expect(&rt, "fields");
-    assert_eq!(rt; draft.name, "isles");
-    assert_eq!(rt; draft.provinces.len(), 3);
-    let bay = draft.provinces.get(1).expect(&rt, "a province");
-    assert_eq!(rt; bay.code, "bay");
-    assert_eq!(rt; bay.name, "Bay");
-    assert!(rt; bay.terrain == Terrain::Coast);
-    assert!(rt; !bay.centre);
-    assert_eq!(rt; bay.coast(b"sc"), Some(1));
-    assert_eq!(rt; bay.coast(b""), None);
+    check_bay(&rt, &draft);
     Ok(())
+}
+
+fn check_west(rt: &impl Abort, draft: &Draft<'_>) {
+    assert!(rt; draft.powers.len() == 1);
+    let west = draft.powers.get(0).expect(rt, "a power");
+    assert!(rt; west.name == "west" && west.home.len() == 1);
+    let fleet = west.units.get(1).expect(rt, "a unit");
+    assert!(rt; fleet.kind == Kind::Fleet);
+    assert!(rt; fleet.site.code == b"bay".as_slice());
+    assert!(rt; fleet.site.coast == b"nc".as_slice());
 }
 
 #[test]
@@ -47,14 +58,7 @@ fn powers_are_read_by_name(rt: HostRuntime) -> Result<(), Fail> {
     let alloc = rt.alloc();
     let file = tables_of(alloc, ISLES).expect(&rt, "TOML");
     let draft = draft_of(alloc, &file).expect(&rt, "fields");
-    assert_eq!(rt; draft.powers.len(), 1);
-    let west = draft.powers.get(0).expect(&rt, "a power");
-    assert_eq!(rt; west.name, "west");
-    assert_eq!(rt; west.home.len(), 1);
-    let fleet = west.units.get(1).expect(&rt, "a unit");
-    assert!(rt; fleet.kind == Kind::Fleet);
-    assert!(rt; fleet.site.code == b"bay".as_slice());
-    assert!(rt; fleet.site.coast == b"nc".as_slice());
+    check_west(&rt, &draft);
     Ok(())
 }
 

@@ -256,26 +256,39 @@ fn the_place(rt: &impl Abort, map: &Map, text: &str) -> Place {
 }
 
 /// How many lines there are; each is a province of this kind and full name.
+fn assert_count(rt: &impl Abort, count: usize, wanted: usize) {
+    assert_eq!(rt; count, wanted);
+}
+
+fn assert_province(rt: &impl Abort, map: &Map, line: &str, kind: Terrain) {
+    let (code, name) = line.split_once(' ').expect(rt, "a code and a name");
+    let p = the_prov(rt, map, code);
+    assert!(rt;
+        map.name(p) == name && map.code(p) == code && map.terrain(p) == kind,
+        "{line}"
+    );
+}
+
 fn count_of_kind(rt: &impl Abort, map: &Map, lines: &str, kind: Terrain) -> usize {
     let mut count = 0usize;
     for line in lines.lines() {
-        let (code, name) = line.split_once(' ').expect(rt, "a code and a name");
-        let p = the_prov(rt, map, code);
-        assert_eq!(rt; map.name(p), name);
-        assert_eq!(rt; map.code(p), code);
-        assert!(rt; map.terrain(p) == kind);
+        assert_province(rt, map, line, kind);
         count = count.saturating_add(1);
     }
     count
 }
 
+fn check_provinces(rt: &impl Abort, map: &Map) {
+    assert_count(rt, count_of_kind(rt, map, SEAS, Terrain::Sea), 19);
+    assert_count(rt, count_of_kind(rt, map, INLAND, Terrain::Inland), 14);
+    assert_count(rt, count_of_kind(rt, map, COASTAL, Terrain::Coast), 42);
+    assert_count(rt, map.province_count(), 75);
+}
+
 #[test]
 fn each_province_has_its_name_and_kind(rt: HostRuntime) -> Result<(), Fail> {
     let map = Map::from_toml(rt.alloc(), STANDARD)?;
-    assert_eq!(rt; count_of_kind(&rt, &map, SEAS, Terrain::Sea), 19);
-    assert_eq!(rt; count_of_kind(&rt, &map, INLAND, Terrain::Inland), 14);
-    assert_eq!(rt; count_of_kind(&rt, &map, COASTAL, Terrain::Coast), 42);
-    assert_eq!(rt; map.province_count(), 75);
+    check_provinces(&rt, &map);
     Ok(())
 }
 
@@ -378,19 +391,23 @@ fn centres(map: &Map) -> usize {
     count
 }
 
+fn count_centres(rt: &impl Abort, map: &Map) -> usize {
+    let mut count = 0usize;
+    for line in HOMES.lines() {
+        count = count.saturating_add(check_homes(rt, map, line));
+    }
+    for word in NEUTRAL.split(' ') {
+        assert!(rt; map.is_centre(the_prov(rt, map, word)));
+        count = count.saturating_add(1);
+    }
+    count
+}
+
 #[test]
 fn centres_are_those_of_the_list(rt: HostRuntime) -> Result<(), Fail> {
     let map = Map::from_toml(rt.alloc(), STANDARD)?;
-    let mut count = 0usize;
-    for line in HOMES.lines() {
-        count = count.saturating_add(check_homes(&rt, &map, line));
-    }
-    for word in NEUTRAL.split(' ') {
-        assert!(rt; map.is_centre(the_prov(&rt, &map, word)));
-        count = count.saturating_add(1);
-    }
-    assert_eq!(rt; count, 34);
-    assert_eq!(rt; centres(&map), 34);
+    assert_count(&rt, count_centres(&rt, &map), 34);
+    assert_count(&rt, centres(&map), 34);
     Ok(())
 }
 
@@ -409,20 +426,24 @@ fn has_unit(rt: &impl Abort, map: &Map, board: &Board, name: &str, word: &str) -
     board.units().iter().any(|unit| unit.power == power && unit.kind == kind && unit.place == place)
 }
 
+fn count_units(rt: &impl Abort, map: &Map, board: &Board) -> usize {
+    let mut count = 0usize;
+    for line in OPENING.lines() {
+        let (name, list) = line.split_once(": ").expect(rt, "a power and a list");
+        for word in list.split(", ") {
+            assert!(rt; has_unit(rt, map, board, name, word));
+            count = count.saturating_add(1);
+        }
+    }
+    count
+}
+
 #[test]
 fn the_opening_has_the_units_of_the_list(rt: HostRuntime) -> Result<(), Fail> {
     let alloc = rt.alloc();
     let map = Map::from_toml(alloc, STANDARD)?;
     let board = Board::opening(alloc, &map)?;
-    let mut count = 0usize;
-    for line in OPENING.lines() {
-        let (name, list) = line.split_once(": ").expect(&rt, "a power and a list");
-        for word in list.split(", ") {
-            assert!(rt; has_unit(&rt, &map, &board, name, word));
-            count = count.saturating_add(1);
-        }
-    }
-    assert_eq!(rt; count, 22);
-    assert_eq!(rt; board.units().len(), 22);
+    assert_count(&rt, count_units(&rt, &map, &board), 22);
+    assert_count(&rt, board.units().len(), 22);
     Ok(())
 }

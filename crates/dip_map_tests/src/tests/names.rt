@@ -18,7 +18,7 @@ fn forms_have_their_bounds(rt: HostRuntime) -> Result<(), Fail> {
 fn faults_say_their_number_first(rt: HostRuntime) -> Result<(), Fail> {
     let alloc = rt.alloc();
     for fault in [MapFault::NotToml, MapFault::UnknownName, MapFault::Memory] {
-        let text = format!(in alloc; "{fault}")?;
+        let text = fault.to_string(alloc)?;
         assert!(rt; text.as_str().starts_with(fault.name()));
     }
     assert_eq!(rt; MapFault::NotSymmetric.name(), "M4");

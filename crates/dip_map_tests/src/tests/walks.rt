@@ -8,6 +8,9 @@ fn row(alloc: Global, vertices: &[usize]) -> Result<Vec<usize>, AllocError> {
     vertices.to_vec(alloc)
 }
 
+/// Each vertex, and its least distance.
+const LEAST: &[(usize, u16)] = &[(0usize, 0u16), (1, 1), (2, 2), (3, 2), (4, 1000), (5, 1000)];
+
 #[test]
 fn a_distance_is_the_least_one(rt: HostRuntime) -> Result<(), Fail> {
     let alloc = rt.alloc();
@@ -20,7 +23,7 @@ fn a_distance_is_the_least_one(rt: HostRuntime) -> Result<(), Fail> {
     graph.push(row(alloc, &[7])?)?;
     let homes = [true, false, false, false, false];
     let distances = least_distances(alloc, graph.as_slice(), &homes)?;
-    for (vertex, distance) in [(0usize, 0u16), (1, 1), (2, 2), (3, 2), (4, 1000), (5, 1000)] {
+    for &(vertex, distance) in LEAST {
         assert_eq!(rt; distance_at(distances.as_slice(), vertex), distance);
     }
     Ok(())

@@ -46,7 +46,7 @@ austria: A bul/ec - gre = A bul - gre
 austria: A bul/nc - gre = O7 wrong coast
 ";
 
-const TABLES: [Table; 1] = [Table {
+const TABLES: &[Table] = &[Table {
     season: Season::SpringMoves,
     scene: FLEETS,
     cases: COASTS,
@@ -55,6 +55,6 @@ const TABLES: [Table; 1] = [Table {
 
 #[test]
 fn a_fleet_comes_to_a_coast(rt: HostRuntime) -> Result<(), Fail> {
-    check_tables(&rt, rt.alloc(), &TABLES)?;
+    check_tables(&rt, rt.alloc(), TABLES)?;
     Ok(())
 }

@@ -87,7 +87,7 @@ france: A mar - tun = A mar - tun
 france: A mar - tun VIA = A mar - tun VIA
 ";
 
-const TABLES: [Table; 3] = [
+const TABLES: &[Table] = &[
     Table {
         season: Season::SpringMoves,
         scene: FIELD,
@@ -110,6 +110,6 @@ const TABLES: [Table; 3] = [
 
 #[test]
 fn faults_of_holds_and_moves_come_in_order(rt: HostRuntime) -> Result<(), Fail> {
-    check_tables(&rt, rt.alloc(), &TABLES)?;
+    check_tables(&rt, rt.alloc(), TABLES)?;
     Ok(())
 }

@@ -112,7 +112,7 @@ france: F mao C A gas - spa/ec = O7 wrong coast
 france: F mao C A pie - tun = F mao C A pie - tun
 ";
 
-const TABLES: [Table; 3] = [
+const TABLES: &[Table] = &[
     Table {
         season: Season::SpringMoves,
         scene: FIELD,
@@ -135,6 +135,6 @@ const TABLES: [Table; 3] = [
 
 #[test]
 fn faults_of_supports_and_convoys_come_in_order(rt: HostRuntime) -> Result<(), Fail> {
-    check_tables(&rt, rt.alloc(), &TABLES)?;
+    check_tables(&rt, rt.alloc(), TABLES)?;
     Ok(())
 }

@@ -96,7 +96,7 @@ austria: REMOVE A gal = O13 allowance used
 france: REMOVE A bur = O13 allowance used
 ";
 
-const TABLES: [Table; 2] = [
+const TABLES: &[Table] = &[
     Table {
         season: Season::Winter,
         scene: SNOW,
@@ -113,6 +113,6 @@ const TABLES: [Table; 2] = [
 
 #[test]
 fn builds_and_removals_stay_within_the_allowance(rt: HostRuntime) -> Result<(), Fail> {
-    check_tables(&rt, rt.alloc(), &TABLES)?;
+    check_tables(&rt, rt.alloc(), TABLES)?;
     Ok(())
 }

@@ -97,7 +97,7 @@ russia: F stp/nc D = F stp/sc D
 italy: a TUS d = A tus D
 ";
 
-const TABLES: [Table; 3] = [
+const TABLES: &[Table] = &[
     Table {
         season: Season::SpringRetreats,
         scene: BESIDE,
@@ -120,6 +120,6 @@ const TABLES: [Table; 3] = [
 
 #[test]
 fn faults_of_retreats_and_disbanding_come_in_order(rt: HostRuntime) -> Result<(), Fail> {
-    check_tables(&rt, rt.alloc(), &TABLES)?;
+    check_tables(&rt, rt.alloc(), TABLES)?;
     Ok(())
 }

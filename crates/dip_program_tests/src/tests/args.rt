@@ -25,18 +25,20 @@ fn takes_the_master_secret(rt: HostRuntime) -> Result<(), Fail> {
     Ok(())
 }
 
+/// Words that name a map's file, and the file.
+const MAP_FILES: &[(&[&str], &str)] = &[
+    (
+        &["--master", "master-key", "--map", "a map.toml"],
+        "a map.toml",
+    ),
+    (&["--map=--map", "--master", "master-key"], "--map"),
+    (&["--master", "master-key", "--map=m=é"], "m=é"),
+];
+
 #[test]
 fn takes_the_maps_file(rt: HostRuntime) -> Result<(), Fail> {
     let alloc = rt.alloc();
-    let rows: [(&[&str], &str); 3] = [
-        (
-            &["--master", "master-key", "--map", "a map.toml"],
-            "a map.toml",
-        ),
-        (&["--map=--map", "--master", "master-key"], "--map"),
-        (&["--master", "master-key", "--map=m=é"], "m=é"),
-    ];
-    for (options, file) in rows {
+    for &(options, file) in MAP_FILES {
         let mut words = vec![in alloc; "dip_judge", "letters"]?;
         words.extend_from_slice(options)?;
         let Ok(Args::Letters { master, map }) = read_args(alloc, words.as_slice()) else {
@@ -78,91 +80,99 @@ fn refused(alloc: std::alloc::Global, words: &[&str]) -> Option<ErrorKind> {
     }
 }
 
+/// Words that aren't taken, and why.
+const OTHER_WORDS: &[(&[&str], ErrorKind)] = &[
+    (&["dip_judge"], ErrorKind::MissingSubcommand),
+    (&["dip_judge", "--help"], ErrorKind::DisplayHelp),
+    (&["dip_judge", "-h"], ErrorKind::DisplayHelp),
+    (&["dip_judge", "help"], ErrorKind::DisplayHelp),
+    (&["dip_judge", "help", "letters"], ErrorKind::DisplayHelp),
+    (&["dip_judge", "letters", "--help"], ErrorKind::DisplayHelp),
+    (
+        &["dip_judge", "init", "--store", "s"],
+        ErrorKind::MissingRequiredArgument,
+    ),
+    (
+        &["dip_judge", "init", "--master", "master-key"],
+        ErrorKind::MissingRequiredArgument,
+    ),
+    (
+        &["dip_judge", "serve", "--store", "s", "--port", "4000"],
+        ErrorKind::MissingRequiredArgument,
+    ),
+    (
+        &["dip_judge", "report", "--store", "s"],
+        ErrorKind::MissingRequiredArgument,
+    ),
+    (
+        &["dip_judge", "report", "--store", "s", "--port", "4000"],
+        ErrorKind::UnknownArgument,
+    ),
+    (
+        &["dip_judge", "letter", "--master", "master-key"],
+        ErrorKind::InvalidSubcommand,
+    ),
+    (
+        &["dip_judge", "--master", "master-key"],
+        ErrorKind::UnknownArgument,
+    ),
+    (
+        &[
+            "dip_judge",
+            "--map",
+            "m",
+            "letters",
+            "--master",
+            "master-key",
+        ],
+        ErrorKind::UnknownArgument,
+    ),
+    (
+        &["dip_judge", "letters", "--master", "master-key", "--map"],
+        ErrorKind::InvalidValue,
+    ),
+    (
+        &[
+            "dip_judge",
+            "letters",
+            "--master",
+            "master-key",
+            "--map",
+            "m",
+            "--map",
+            "m",
+        ],
+        ErrorKind::ArgumentConflict,
+    ),
+    (
+        &["dip_judge", "letters", "-m", "master-key"],
+        ErrorKind::UnknownArgument,
+    ),
+    (
+        &["dip_judge", "letters", "master-key"],
+        ErrorKind::UnknownArgument,
+    ),
+    (
+        &["dip_judge", "letters", "--master"],
+        ErrorKind::InvalidValue,
+    ),
+    (
+        &[
+            "dip_judge",
+            "letters",
+            "--master",
+            "master-key",
+            "--master",
+            "master-key",
+        ],
+        ErrorKind::ArgumentConflict,
+    ),
+];
+
 #[test]
 fn refuses_other_words(rt: HostRuntime) {
     let alloc = rt.alloc();
-    let secret = "master-key";
-    let rows: [(&[&str], ErrorKind); 20] = [
-        (&["dip_judge"], ErrorKind::MissingSubcommand),
-        (&["dip_judge", "--help"], ErrorKind::DisplayHelp),
-        (&["dip_judge", "-h"], ErrorKind::DisplayHelp),
-        (&["dip_judge", "help"], ErrorKind::DisplayHelp),
-        (&["dip_judge", "help", "letters"], ErrorKind::DisplayHelp),
-        (&["dip_judge", "letters", "--help"], ErrorKind::DisplayHelp),
-        (
-            &["dip_judge", "init", "--store", "s"],
-            ErrorKind::MissingRequiredArgument,
-        ),
-        (
-            &["dip_judge", "init", "--master", secret],
-            ErrorKind::MissingRequiredArgument,
-        ),
-        (
-            &["dip_judge", "serve", "--store", "s", "--port", "4000"],
-            ErrorKind::MissingRequiredArgument,
-        ),
-        (
-            &["dip_judge", "report", "--store", "s"],
-            ErrorKind::MissingRequiredArgument,
-        ),
-        (
-            &["dip_judge", "report", "--store", "s", "--port", "4000"],
-            ErrorKind::UnknownArgument,
-        ),
-        (
-            &["dip_judge", "letter", "--master", secret],
-            ErrorKind::InvalidSubcommand,
-        ),
-        (
-            &["dip_judge", "--master", secret],
-            ErrorKind::UnknownArgument,
-        ),
-        (
-            &["dip_judge", "--map", "m", "letters", "--master", secret],
-            ErrorKind::UnknownArgument,
-        ),
-        (
-            &["dip_judge", "letters", "--master", secret, "--map"],
-            ErrorKind::InvalidValue,
-        ),
-        (
-            &[
-                "dip_judge",
-                "letters",
-                "--master",
-                secret,
-                "--map",
-                "m",
-                "--map",
-                "m",
-            ],
-            ErrorKind::ArgumentConflict,
-        ),
-        (
-            &["dip_judge", "letters", "-m", secret],
-            ErrorKind::UnknownArgument,
-        ),
-        (
-            &["dip_judge", "letters", secret],
-            ErrorKind::UnknownArgument,
-        ),
-        (
-            &["dip_judge", "letters", "--master"],
-            ErrorKind::InvalidValue,
-        ),
-        (
-            &[
-                "dip_judge",
-                "letters",
-                "--master",
-                secret,
-                "--master",
-                secret,
-            ],
-            ErrorKind::ArgumentConflict,
-        ),
-    ];
-    for (words, kind) in rows {
+    for &(words, kind) in OTHER_WORDS {
         assert!(rt; refused(alloc, words) == Some(kind));
     }
 }
@@ -232,25 +242,28 @@ fn takes_a_store(rt: HostRuntime) -> Result<(), Fail> {
     Ok(())
 }
 
+/// Words that `clap` takes and that ask for nothing, and one line that it refuses.
+const UNUSABLE: &[&str] = &[
+    "letters",
+    "letters --map m",
+    "letters --store s --master master-key",
+    "letters --store s --master short",
+    "init --store s --master short",
+    "serve --store s --port 0 --count 1",
+    "serve --store s --port 65536 --count 1",
+    "serve --store s --port 08 --count 1",
+    "serve --store s --port +8 --count 1",
+    "serve --store s --port 8 --count 0",
+    "serve --store s --port 8 --count 1000000",
+    "serve --store s --port 8 --count 99999999999999999999",
+    "serve --store s --port 8 --count one",
+    "serve --store s --port --count 1",
+];
+
 #[test]
 fn checks_what_clap_takes(rt: HostRuntime) -> Result<(), Fail> {
     let alloc = rt.alloc();
-    for line in [
-        "letters",
-        "letters --map m",
-        "letters --store s --master master-key",
-        "letters --store s --master short",
-        "init --store s --master short",
-        "serve --store s --port 0 --count 1",
-        "serve --store s --port 65536 --count 1",
-        "serve --store s --port 08 --count 1",
-        "serve --store s --port +8 --count 1",
-        "serve --store s --port 8 --count 0",
-        "serve --store s --port 8 --count 1000000",
-        "serve --store s --port 8 --count 99999999999999999999",
-        "serve --store s --port 8 --count one",
-        "serve --store s --port --count 1",
-    ] {
+    for &line in UNUSABLE {
         let words = asked(alloc, line)?;
         let answer = read_args(alloc, words.as_slice());
         let checked = matches!(&answer, Err(UsageFault::Check));

@@ -22,85 +22,79 @@ fn assert_told(
     Ok(())
 }
 
+const NO_MAPS: &[(NoMap, u8, &str)] = &[
+    (NoMap::Map(MapFault::NotToml), 3, "dip_judge: M1\n"),
+    (NoMap::Map(MapFault::WrongField), 3, "dip_judge: M2\n"),
+    (NoMap::Map(MapFault::UnknownName), 3, "dip_judge: M3\n"),
+    (NoMap::Map(MapFault::NotSymmetric), 3, "dip_judge: M4\n"),
+    (NoMap::Map(MapFault::DoubledName), 3, "dip_judge: M5\n"),
+    (NoMap::Map(MapFault::OverLimit), 3, "dip_judge: M6\n"),
+    (NoMap::Map(MapFault::Memory), 3, "dip_judge: M7\n"),
+    (
+        NoMap::File(FileFault::Unread(ReadFault::Read)),
+        5,
+        "dip_judge: Read\n",
+    ),
+    (
+        NoMap::File(FileFault::Unread(ReadFault::TooLong)),
+        5,
+        "dip_judge: Read\n",
+    ),
+    (
+        NoMap::File(FileFault::Unread(ReadFault::Memory)),
+        5,
+        "dip_judge: Memory\n",
+    ),
+    (NoMap::File(FileFault::NotUtf8), 5, "dip_judge: Read\n"),
+];
+
 #[test]
-fn tells_the_status_and_the_word(rt: HostRuntime) -> Result<(), Fail> {
-    let alloc = rt.alloc();
-    let rows = [
-        (Failure::Usage(UsageFault::Check), 2, "dip_judge: Usage\n"),
-        (Failure::Usage(UsageFault::Memory), 5, "dip_judge: Memory\n"),
-        (
-            Failure::Map(NoMap::Map(MapFault::NotToml)),
-            3,
-            "dip_judge: M1\n",
-        ),
-        (
-            Failure::Map(NoMap::Map(MapFault::WrongField)),
-            3,
-            "dip_judge: M2\n",
-        ),
-        (
-            Failure::Map(NoMap::Map(MapFault::UnknownName)),
-            3,
-            "dip_judge: M3\n",
-        ),
-        (
-            Failure::Map(NoMap::Map(MapFault::NotSymmetric)),
-            3,
-            "dip_judge: M4\n",
-        ),
-        (
-            Failure::Map(NoMap::Map(MapFault::DoubledName)),
-            3,
-            "dip_judge: M5\n",
-        ),
-        (
-            Failure::Map(NoMap::Map(MapFault::OverLimit)),
-            3,
-            "dip_judge: M6\n",
-        ),
-        (
-            Failure::Map(NoMap::Map(MapFault::Memory)),
-            3,
-            "dip_judge: M7\n",
-        ),
-        (Failure::Run(RunFault::Read), 5, "dip_judge: Read\n"),
-        (Failure::Run(RunFault::TooLong), 5, "dip_judge: TooLong\n"),
-        (Failure::Run(RunFault::Write), 5, "dip_judge: Write\n"),
-        (Failure::Run(RunFault::Memory), 5, "dip_judge: Memory\n"),
-        (
-            Failure::Run(RunFault::Keep(KeepFault::Memory)),
-            4,
-            "dip_judge: Memory\n",
-        ),
-        (
-            Failure::Run(RunFault::Keep(KeepFault::Disk)),
-            4,
-            "dip_judge: Disk\n",
-        ),
-        (
-            Failure::Run(RunFault::Keep(KeepFault::Damaged)),
-            4,
-            "dip_judge: Damaged\n",
-        ),
-    ];
-    for (failure, status, text) in rows {
-        assert_told(&rt, alloc, &failure, status, text)?;
+fn tells_what_is_wrong_with_a_map(rt: HostRuntime) -> Result<(), Fail> {
+    for &(fault, status, text) in NO_MAPS {
+        assert_told(&rt, rt.alloc(), &Failure::Map(fault), status, text)?;
+    }
+    Ok(())
+}
+
+const ENDED_RUNS: &[(RunFault, u8, &str)] = &[
+    (RunFault::Read, 5, "dip_judge: Read\n"),
+    (RunFault::TooLong, 5, "dip_judge: TooLong\n"),
+    (RunFault::Write, 5, "dip_judge: Write\n"),
+    (RunFault::Memory, 5, "dip_judge: Memory\n"),
+    (RunFault::Keep(KeepFault::Memory), 4, "dip_judge: Memory\n"),
+    (RunFault::Keep(KeepFault::Disk), 4, "dip_judge: Disk\n"),
+    (
+        RunFault::Keep(KeepFault::Damaged),
+        4,
+        "dip_judge: Damaged\n",
+    ),
+];
+
+#[test]
+fn tells_why_a_run_ended(rt: HostRuntime) -> Result<(), Fail> {
+    for &(fault, status, text) in ENDED_RUNS {
+        assert_told(&rt, rt.alloc(), &Failure::Run(fault), status, text)?;
     }
     Ok(())
 }
 
 #[test]
-fn tells_what_is_wrong_with_the_maps_file(rt: HostRuntime) -> Result<(), Fail> {
+fn tells_words_that_ask_for_nothing(rt: HostRuntime) -> Result<(), Fail> {
     let alloc = rt.alloc();
-    for (fault, text) in [
-        (FileFault::Unread(ReadFault::Read), "dip_judge: Read\n"),
-        (FileFault::Unread(ReadFault::TooLong), "dip_judge: Read\n"),
-        (FileFault::Unread(ReadFault::Memory), "dip_judge: Memory\n"),
-        (FileFault::NotUtf8, "dip_judge: Read\n"),
-    ] {
-        let failure = Failure::Map(NoMap::File(fault));
-        assert_told(&rt, alloc, &failure, 5, text)?;
-    }
+    assert_told(
+        &rt,
+        alloc,
+        &Failure::Usage(UsageFault::Check),
+        2,
+        "dip_judge: Usage\n",
+    )?;
+    assert_told(
+        &rt,
+        alloc,
+        &Failure::Usage(UsageFault::Memory),
+        5,
+        "dip_judge: Memory\n",
+    )?;
     Ok(())
 }
 
@@ -134,68 +128,88 @@ fn tells_help_as_clap_has_it(rt: HostRuntime) -> Result<(), Fail> {
     Ok(())
 }
 
+const STORES: &[(StoreFault, &str)] = &[
+    (StoreFault::Memory, "dip_judge: S1\n"),
+    (StoreFault::Disk, "dip_judge: S2\n"),
+    (StoreFault::OtherMap, "dip_judge: S3\n"),
+    (StoreFault::OtherSchema, "dip_judge: S4\n"),
+];
+
 #[test]
 fn tells_what_is_wrong_with_a_store(rt: HostRuntime) -> Result<(), Fail> {
-    let alloc = rt.alloc();
-    let rows = [
-        (Failure::Store(StoreFault::Memory), 4, "dip_judge: S1\n"),
-        (Failure::Store(StoreFault::Disk), 4, "dip_judge: S2\n"),
-        (Failure::Store(StoreFault::OtherMap), 4, "dip_judge: S3\n"),
-        (
-            Failure::Store(StoreFault::OtherSchema),
-            4,
-            "dip_judge: S4\n",
-        ),
-        (Failure::Listen, 5, "dip_judge: Listen\n"),
-        (Failure::Serving(KeepFault::Disk), 4, "dip_judge: Disk\n"),
-        (
-            Failure::Serving(KeepFault::Damaged),
-            4,
-            "dip_judge: Damaged\n",
-        ),
-        (Failure::NoGame, 4, "dip_judge: no such game\n"),
-        (Failure::Papers(PaperFault::Write), 5, "dip_judge: Write\n"),
-        (
-            Failure::Papers(PaperFault::Keep(KeepFault::Memory)),
-            4,
-            "dip_judge: Memory\n",
-        ),
-        (
-            Failure::Papers(PaperFault::Keep(KeepFault::Disk)),
-            4,
-            "dip_judge: Disk\n",
-        ),
-    ];
-    for (failure, status, text) in rows {
-        assert_told(&rt, alloc, &failure, status, text)?;
+    for &(fault, text) in STORES {
+        assert_told(&rt, rt.alloc(), &Failure::Store(fault), 4, text)?;
     }
     Ok(())
 }
+
+#[test]
+fn tells_what_is_wrong_with_clients(rt: HostRuntime) -> Result<(), Fail> {
+    let alloc = rt.alloc();
+    assert_told(&rt, alloc, &Failure::Listen, 5, "dip_judge: Listen\n")?;
+    assert_told(
+        &rt,
+        alloc,
+        &Failure::Serving(KeepFault::Disk),
+        4,
+        "dip_judge: Disk\n",
+    )?;
+    assert_told(
+        &rt,
+        alloc,
+        &Failure::Serving(KeepFault::Damaged),
+        4,
+        "dip_judge: Damaged\n",
+    )?;
+    Ok(())
+}
+
+const NO_PAPERS: &[(PaperFault, u8, &str)] = &[
+    (PaperFault::Write, 5, "dip_judge: Write\n"),
+    (
+        PaperFault::Keep(KeepFault::Memory),
+        4,
+        "dip_judge: Memory\n",
+    ),
+    (PaperFault::Keep(KeepFault::Disk), 4, "dip_judge: Disk\n"),
+];
+
+#[test]
+fn tells_why_there_are_no_papers(rt: HostRuntime) -> Result<(), Fail> {
+    let alloc = rt.alloc();
+    for &(fault, status, text) in NO_PAPERS {
+        assert_told(&rt, alloc, &Failure::Papers(fault), status, text)?;
+    }
+    assert_told(&rt, alloc, &Failure::NoGame, 4, "dip_judge: no such game\n")?;
+    Ok(())
+}
+
+/// A command, and its options.
+const OPTIONS: &[(&str, &[&str])] = &[
+    (
+        "init",
+        &["--store <FILE>", "--master <SECRET>", "--map <FILE>"],
+    ),
+    (
+        "serve",
+        &[
+            "--store <FILE>",
+            "--port <PORT>",
+            "--count <NUMBER>",
+            "--map <FILE>",
+        ],
+    ),
+    (
+        "report",
+        &["--store <FILE>", "--game <GAME>", "--map <FILE>"],
+    ),
+];
 
 /// The help of a command names each of its options.
 #[test]
 fn tells_help_for_each_command(rt: HostRuntime) -> Result<(), Fail> {
     let alloc = rt.alloc();
-    let rows: [(&str, &[&str]); 3] = [
-        (
-            "init",
-            &["--store <FILE>", "--master <SECRET>", "--map <FILE>"],
-        ),
-        (
-            "serve",
-            &[
-                "--store <FILE>",
-                "--port <PORT>",
-                "--count <NUMBER>",
-                "--map <FILE>",
-            ],
-        ),
-        (
-            "report",
-            &["--store <FILE>", "--game <GAME>", "--map <FILE>"],
-        ),
-    ];
-    for (command, options) in rows {
+    for &(command, options) in OPTIONS {
         let Err(fault) = read_args(alloc, &["dip_judge", command, "--help"]) else {
             return Err(Fail::from("taken"));
         };

@@ -1,6 +1,5 @@
 //! Maps' files, in memory and of the system.
 use dip_map::STANDARD;
-use dip_program::Failure;
 use dip_runs::{FileFault, MOST_MAP, NoMap, ReadFault, read_map, read_text, text_said};
 use std::alloc::Global;
 use std::io::Read;
@@ -99,89 +98,6 @@ fn takes_the_standard_map_where_no_file_is_named(rt: HostRuntime) -> Result<(), 
     };
     assert!(rt; map.province_count() == 75);
     assert!(rt; said.is_none() && text_said(&said) == STANDARD);
-    Ok(())
-}
-
-/// A map without a fault, and one with each fault that a text can have, by its number.
-const FAULTS: [(&str, &str); 6] = [
-    ("name = ", "dip_judge: M1\n"),
-    ("name = \"none\"\n", "dip_judge: M2\n"),
-    (
-        "name = \"one\"
-[powers.west]
-home = [\"bay\"]
-units = []
-[provinces.ard]
-name = \"Ard\"
-kind = \"inland\"
-centre = true
-army = []
-",
-        "dip_judge: M3\n",
-    ),
-    (
-        "name = \"two\"
-[powers.west]
-home = [\"ard\"]
-units = []
-[provinces.ard]
-name = \"Ard\"
-kind = \"inland\"
-centre = true
-army = []
-[provinces.bay]
-name = \"Bay\"
-kind = \"inland\"
-army = [\"ard\"]
-",
-        "dip_judge: M4\n",
-    ),
-    (
-        "name = \"one\"
-[powers.west]
-home = [\"ard\", \"ard\"]
-units = []
-[provinces.ard]
-name = \"Ard\"
-kind = \"inland\"
-centre = true
-army = []
-",
-        "dip_judge: M5\n",
-    ),
-    (
-        "name = \"none\"\n[powers]\n[provinces]\n",
-        "dip_judge: M6\n",
-    ),
-];
-
-#[test]
-fn tells_the_fault_of_a_map(rt: HostRuntime) -> Result<(), Fail> {
-    let alloc = rt.alloc();
-    for (text, line) in FAULTS {
-        fs::write(&rt, "fault.toml", text)?;
-        let Err(fault) = read_map(&rt, alloc, Some("fault.toml")) else {
-            return Err(Fail::from("a map"));
-        };
-        let failure = Failure::from(fault);
-        assert_eq!(rt; failure.status(), 3);
-        let told = failure.to_string(alloc)?;
-        assert!(rt; told.as_str() == line);
-    }
-    Ok(())
-}
-
-#[test]
-fn tells_a_file_that_is_no_text(rt: HostRuntime) -> Result<(), Fail> {
-    let alloc = rt.alloc();
-    fs::write(&rt, "bytes.toml", b"name = \"\xff\"")?;
-    let Err(fault) = read_map(&rt, alloc, Some("bytes.toml")) else {
-        return Err(Fail::from("a map"));
-    };
-    let failure = Failure::from(fault);
-    assert_eq!(rt; failure.status(), 5);
-    let told = failure.to_string(alloc)?;
-    assert!(rt; told.as_str() == "dip_judge: Read\n");
     Ok(())
 }
 

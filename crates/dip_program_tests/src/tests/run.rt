@@ -23,8 +23,6 @@ const MALFORMED: &str = "REPLY nobody 0\nL1 malformed letter\nEND\n";
 
 const TOO_LONG: &str = "REPLY nobody 0\nL5 letter over 16384 bytes\nEND\n";
 
-const UNKNOWN: &str = "REPLY nobody 0\nL2 unknown game, sender or secret\nEND\n";
-
 /// A reader of some bytes, so many at a call, which fails or ends behind them.
 #[derive(Drop)]
 struct Script<'a> {
@@ -125,291 +123,6 @@ fn assert_answers(
     Ok(())
 }
 
-#[test]
-fn answers_what_is_read(rt: HostRuntime) -> Result<(), Fail> {
-    let alloc = rt.alloc();
-    let map = standard(alloc)?;
-    assert_answers(&rt, alloc, &map, &[], &[])?;
-    assert_answers(&rt, alloc, &map, &["LETTER\nGAME g1\n"], &[MALFORMED])?;
-    assert_answers(&rt, alloc, &map, &[CREATE, HOLD], &[CREATED, HELD])?;
-    assert_answers(
-        &rt,
-        alloc,
-        &map,
-        &[HOLD, CREATE, HOLD],
-        &[UNKNOWN, CREATED, HELD],
-    )?;
-    assert_eq!(rt; MALFORMED.len(), 39);
-    Ok(())
-}
-
-#[test]
-fn passes_empty_lines(rt: HostRuntime) -> Result<(), Fail> {
-    let alloc = rt.alloc();
-    let map = standard(alloc)?;
-    let input = ["\n", CREATE, "\n\n", HOLD, "\n"];
-    assert_answers(&rt, alloc, &map, &["\n\n\n"], &[])?;
-    assert_answers(&rt, alloc, &map, &input, &[CREATED, HELD])
-}
-
-#[test]
-fn goes_on_behind_the_next_end(rt: HostRuntime) -> Result<(), Fail> {
-    let alloc = rt.alloc();
-    let map = standard(alloc)?;
-    let tail = [CREATE, "so far\n"];
-    let byte = [CREATE, "x"];
-    let twice = ["END\nEND\n", CREATE];
-    let swallowed = ["LETTER\nGAME g1\n", CREATE, HOLD];
-    assert_answers(&rt, alloc, &map, &tail, &[CREATED, MALFORMED])?;
-    assert_answers(&rt, alloc, &map, &byte, &[CREATED, MALFORMED])?;
-    assert_answers(&rt, alloc, &map, &twice, &[MALFORMED, MALFORMED, CREATED])?;
-    assert_answers(&rt, alloc, &map, &swallowed, &[MALFORMED, UNKNOWN])?;
-    assert_answers(&rt, alloc, &map, &["LETTER\nEND"], &[MALFORMED])
-}
-
-fn assert_unknown(
-    rt: &impl Abort,
-    alloc: Global,
-    map: &Map,
-    game: &str,
-    sender: &str,
-    secret: &str,
-) -> Result<(), Fail> {
-    let letter = [
-        "LETTER\nGAME ",
-        game,
-        "\nFROM ",
-        sender,
-        "\nSECRET ",
-        secret,
-        "\nNUMBER 1\nSHOW\nEND\n",
-    ];
-    let letter = letter.concat(alloc)?;
-    assert_answers(
-        rt,
-        alloc,
-        map,
-        &[CREATE, letter.as_str()],
-        &[CREATED, UNKNOWN],
-    )
-}
-
-#[test]
-fn answers_strangers_alike(rt: HostRuntime) -> Result<(), Fail> {
-    let alloc = rt.alloc();
-    let map = standard(alloc)?;
-    assert_eq!(rt; UNKNOWN.len(), 53);
-    for (game, sender, secret) in [
-        ("g1", "england", "eeeeeeef"),
-        ("g1", "spain", "eeeeeeee"),
-        ("g9", "england", "eeeeeeee"),
-        ("g1", "master", "master-kez"),
-    ] {
-        assert_unknown(&rt, alloc, &map, game, sender, secret)?;
-    }
-    Ok(())
-}
-
-/// What SHOW gives of the game behind its head, up to the standing orders.
-const SHOWN: &str =
-    "GAME g1 S1901M running DUE 100 PERIOD 100 GREY YES PAPERS 1\naustria 3/3: A bud, F tri, A vie | bud tri vie\nengland 3/3: F edi, F lon, A lvp | edi lon lvp\nfrance 3/3: F bre, A mar, A par | bre mar par\ngermany 3/3: A ber, F kie, A mun | ber kie mun\nitaly 3/3: F nap, A rom, A ven | nap rom ven\nrussia 4/4: A mos, F sev, F stp/sc, A war | mos sev stp war\nturkey 3/3: F ank, A con, A smy | ank con smy\nVOTE NO\nSENT 0 INBOX 0\n";
-
-/// A letter of a power of game g1.
-fn of_power(
-    alloc: Global,
-    power: &str,
-    secret: &str,
-    number: &str,
-    command: &str,
-) -> Result<String, Fail> {
-    let letter = [
-        "LETTER\nGAME g1\nFROM ",
-        power,
-        "\nSECRET ",
-        secret,
-        "\nNUMBER ",
-        number,
-        "\n",
-        command,
-        "END\n",
-    ];
-    Ok(letter.concat(alloc)?)
-}
-
-fn of_england(alloc: Global, number: &str, command: &str) -> Result<String, Fail> {
-    of_power(alloc, "england", "eeeeeeee", number, command)
-}
-
-#[test]
-fn a_letter_that_comes_twice_acts_once(rt: HostRuntime) -> Result<(), Fail> {
-    let alloc = rt.alloc();
-    let map = standard(alloc)?;
-    let first = of_england(alloc, "1", "ORDERS\nF edi - nth\nf  LON h\n")?;
-    let second = of_england(alloc, "2", "SHOW\n")?;
-    let third = of_england(alloc, "3", "ORDERS\nF edi H\n")?;
-    let used = of_england(alloc, "3", "ORDERS\nF edi - nth\n")?;
-    let fourth = of_england(alloc, "4", "SHOW\n")?;
-    let (first, second, third) = (first.as_str(), second.as_str(), third.as_str());
-    let held = "REPLY g1 england 3\nOK F edi H\nEND\n";
-    assert_answers(
-        &rt,
-        alloc,
-        &map,
-        &[
-            CREATE,
-            CREATE,
-            first,
-            second,
-            third,
-            third,
-            second,
-            used.as_str(),
-            fourth.as_str(),
-            second,
-        ],
-        &[
-            CREATED,
-            CREATED,
-            "REPLY g1 england 1\nOK F edi - nth\nOK F lon H\nEND\n",
-            "REPLY g1 england 2\n",
-            SHOWN,
-            "ORDER F edi - nth\nORDER F lon H\nEND\n",
-            held,
-            held,
-            "REPLY g1 england 2\nL3 stale number, last is 3\nEND\n",
-            "REPLY g1 england 3\nL4 number 3 used by another letter\nEND\n",
-            "REPLY g1 england 4\n",
-            SHOWN,
-            "ORDER F edi H\nORDER F lon H\nEND\n",
-            "REPLY g1 england 2\nL3 stale number, last is 4\nEND\n",
-        ],
-    )
-}
-
-#[test]
-fn what_others_order_is_not_shown(rt: HostRuntime) -> Result<(), Fail> {
-    let alloc = rt.alloc();
-    let map = standard(alloc)?;
-    let orders = of_power(alloc, "france", "ffffffff", "1", "ORDERS\nA par - bur\n")?;
-    let show = of_england(alloc, "1", "SHOW\n")?;
-    let orders = orders.as_str();
-    let show = show.as_str();
-    let ordered = "REPLY g1 france 1\nOK A par - bur\nEND\n";
-    let head = "REPLY g1 england 1\n";
-    assert_answers(
-        &rt,
-        alloc,
-        &map,
-        &[CREATE, show],
-        &[CREATED, head, SHOWN, "END\n"],
-    )?;
-    assert_answers(
-        &rt,
-        alloc,
-        &map,
-        &[CREATE, orders, show],
-        &[CREATED, ordered, head, SHOWN, "END\n"],
-    )
-}
-
-/// What SHOW gives behind a phase in which all units held.
-const SHOWN_BEHIND: &str =
-    "GAME g1 F1901M running DUE 200 PERIOD 100 GREY YES PAPERS 2\naustria 3/3: A bud, F tri, A vie | bud tri vie\nengland 3/3: F edi, F lon, A lvp | edi lon lvp\nfrance 3/3: F bre, A mar, A par | bre mar par\ngermany 3/3: A ber, F kie, A mun | ber kie mun\nitaly 3/3: F nap, A rom, A ven | nap rom ven\nrussia 4/4: A mos, F sev, F stp/sc, A war | mos sev stp war\nturkey 3/3: F ank, A con, A smy | ank con smy\nVOTE NO\nSENT 0 INBOX 0\n";
-
-#[test]
-fn a_tick_plays_a_phase(rt: HostRuntime) -> Result<(), Fail> {
-    let alloc = rt.alloc();
-    let map = standard(alloc)?;
-    let early = of_power(alloc, "master", "master-key", "2", "TICK 99\n")?;
-    let tick = of_power(alloc, "master", "master-key", "3", "TICK 100\n")?;
-    let show = of_england(alloc, "2", "SHOW\n")?;
-    let (early, tick, show) = (early.as_str(), tick.as_str(), show.as_str());
-    let played = "REPLY g1 master 3\nOK paper 2\nEND\n";
-    assert_answers(
-        &rt,
-        alloc,
-        &map,
-        &[CREATE, HOLD, early, tick, tick, show],
-        &[
-            CREATED,
-            HELD,
-            "REPLY g1 master 2\nL10 tick not due\nEND\n",
-            played,
-            played,
-            "REPLY g1 england 2\n",
-            SHOWN_BEHIND,
-            "END\n",
-        ],
-    )
-}
-
-/// The reply to the letter with the greatest number.
-const TAKEN: &str = "REPLY g1 england 999999999\nOK F lon H\nEND\n";
-
-#[test]
-fn reads_one_spelling_of_a_letter(rt: HostRuntime) -> Result<(), Fail> {
-    let alloc = rt.alloc();
-    let map = standard(alloc)?;
-    for (head, reply) in [
-        (
-            "GAME g1\nFROM england\nSECRET eeeeeeee\nNUMBER 999999999\nORDERS\n",
-            TAKEN,
-        ),
-        (
-            "GAME g1\nFROM england\nSECRET eeeeeeee\nNUMBER 1000000000\nORDERS\n",
-            MALFORMED,
-        ),
-        (
-            "GAME g1\nFROM england\nSECRET eeeeeeee\nNUMBER 0\nORDERS\n",
-            MALFORMED,
-        ),
-        (
-            "GAME g1\nFROM england\nSECRET eeeeeeee\nNUMBER 01\nORDERS\n",
-            MALFORMED,
-        ),
-        (
-            "GAME g1\nFROM england\nSECRET eeeeeeee\nNUMBER +1\nORDERS\n",
-            MALFORMED,
-        ),
-        (
-            "GAME  g1\nFROM england\nSECRET eeeeeeee\nNUMBER 1\nORDERS\n",
-            MALFORMED,
-        ),
-        (
-            "GAME\tg1\nFROM england\nSECRET eeeeeeee\nNUMBER 1\nORDERS\n",
-            MALFORMED,
-        ),
-        (
-            "GAME g1\r\nFROM england\r\nSECRET eeeeeeee\r\nNUMBER 1\r\nORDERS\r\n",
-            MALFORMED,
-        ),
-        (
-            "GAME g1 \nFROM england\nSECRET eeeeeeee\nNUMBER 1\nORDERS\n",
-            MALFORMED,
-        ),
-        (
-            "FROM england\nGAME g1\nSECRET eeeeeeee\nNUMBER 1\nORDERS\n",
-            MALFORMED,
-        ),
-        (
-            "GAME g1\nFROM england\nSECRET eeeeeee\nNUMBER 1\nORDERS\n",
-            MALFORMED,
-        ),
-        (
-            "GAME g1\nFROM england\nSECRET eeeeeeee\nNUMBER 1\nCLOSE\n",
-            MALFORMED,
-        ),
-        (
-            "GAME g1\nFROM england\nSECRET eeeeeeee\nNUMBER 1\nORDERS\nA par\tH\n",
-            MALFORMED,
-        ),
-    ] {
-        let input = [CREATE, "LETTER\n", head, "F lon H\nEND\n"];
-        assert_answers(&rt, alloc, &map, &input, &[CREATED, reply])?;
-    }
-    Ok(())
-}
-
 /// Asserts that this is the reply to a letter of that size, and that the next one is answered.
 fn assert_bound(
     rt: &impl Abort,
@@ -433,29 +146,53 @@ fn bounds_a_letter(rt: HostRuntime) -> Result<(), Fail> {
     assert_bound(&rt, alloc, &map, 16_385, TOO_LONG)
 }
 
+/// Asserts that this is written for an input that is read and answered so many bytes at a call.
+fn assert_pieces(
+    rt: &impl Abort,
+    alloc: Global,
+    map: &Map,
+    input: &[u8],
+    expected: &[u8],
+    step: usize,
+) {
+    let mut reader = Script {
+        bytes: input,
+        step,
+        fails: false,
+    };
+    let mut writer = Page {
+        bytes: Vec::new(alloc),
+        step,
+        most: 1_000,
+    };
+    let mut keeper = MemoryKeeper::new(alloc, digest("desk", "master", "master-key"));
+    let outcome = run_file(alloc, &mut reader, &mut writer, &mut keeper, map);
+    assert!(rt; outcome == Ok(()));
+    assert!(rt; writer.bytes.as_slice() == expected);
+}
+
 #[test]
 fn reads_and_writes_in_pieces(rt: HostRuntime) -> Result<(), Fail> {
     let alloc = rt.alloc();
     let map = standard(alloc)?;
     let input = [CREATE, HOLD].concat(alloc)?;
     let expected = [CREATED, HELD].concat(alloc)?;
-    for step in [1, 7] {
-        let mut reader = Script {
-            bytes: input.as_bytes(),
-            step,
-            fails: false,
-        };
-        let mut writer = Page {
-            bytes: Vec::new(alloc),
-            step,
-            most: 1_000,
-        };
-        let mut keeper = MemoryKeeper::new(alloc, digest("desk", "master", "master-key"));
-        let outcome = run_file(alloc, &mut reader, &mut writer, &mut keeper, &map);
-        assert!(rt; outcome == Ok(()));
-        assert!(rt; writer.bytes.as_slice() == expected.as_bytes());
-    }
+    let (input, expected) = (input.as_bytes(), expected.as_bytes());
+    assert_pieces(&rt, alloc, &map, input, expected, 1);
+    assert_pieces(&rt, alloc, &map, input, expected, 7);
     Ok(())
+}
+
+/// Asserts that nothing is written where the reader fails behind these bytes.
+fn assert_unread(rt: &impl Abort, alloc: Global, map: &Map, bytes: &[u8]) {
+    let mut reader = Script {
+        bytes,
+        step: 100,
+        fails: true,
+    };
+    let (outcome, output) = run_on(alloc, &mut reader, map);
+    assert!(rt; outcome == Err(RunFault::Read));
+    assert!(rt; output.is_empty());
 }
 
 #[test]
@@ -463,18 +200,31 @@ fn writes_nothing_where_the_reader_fails(rt: HostRuntime) -> Result<(), Fail> {
     let alloc = rt.alloc();
     let map = standard(alloc)?;
     let input = [CREATE, HOLD].concat(alloc)?;
-    for count in [0, 1, CREATE.len(), input.len()] {
-        let bytes = &input.as_bytes()[..count.min(input.len())];
-        let mut reader = Script {
-            bytes,
-            step: 100,
-            fails: true,
-        };
-        let (outcome, output) = run_on(alloc, &mut reader, &map);
-        assert!(rt; outcome == Err(RunFault::Read));
-        assert!(rt; output.is_empty());
-    }
+    assert_unread(&rt, alloc, &map, b"");
+    assert_unread(&rt, alloc, &map, b"L");
+    assert_unread(&rt, alloc, &map, CREATE.as_bytes());
+    assert_unread(&rt, alloc, &map, input.as_bytes());
     Ok(())
+}
+
+/// Asserts that the first bytes of the replies are written, up to so many, where the writer fails behind these.
+fn assert_unwritten(
+    rt: &impl Abort,
+    alloc: Global,
+    map: &Map,
+    mut input: &[u8],
+    expected: &[u8],
+    most: usize,
+) {
+    let mut writer = Page {
+        bytes: Vec::new(alloc),
+        step: 5,
+        most,
+    };
+    let mut keeper = MemoryKeeper::new(alloc, digest("desk", "master", "master-key"));
+    let outcome = run_file(alloc, &mut input, &mut writer, &mut keeper, map);
+    assert!(rt; outcome == Err(RunFault::Write));
+    assert!(rt; writer.bytes.as_slice() == &expected[..most.min(expected.len())]);
 }
 
 #[test]
@@ -483,31 +233,29 @@ fn writes_a_beginning_where_the_writer_fails(rt: HostRuntime) -> Result<(), Fail
     let map = standard(alloc)?;
     let input = [CREATE, HOLD].concat(alloc)?;
     let expected = [CREATED, HELD].concat(alloc)?;
+    let (input, expected) = (input.as_bytes(), expected.as_bytes());
     for most in 0..expected.len() {
-        let mut writer = Page {
-            bytes: Vec::new(alloc),
-            step: 5,
-            most,
-        };
-        let mut keeper = MemoryKeeper::new(alloc, digest("desk", "master", "master-key"));
-        let outcome = run_file(alloc, &mut input.as_bytes(), &mut writer, &mut keeper, &map);
-        assert!(rt; outcome == Err(RunFault::Write));
-        assert!(rt; writer.bytes.as_slice() == &expected.as_bytes()[..most]);
+        assert_unwritten(&rt, alloc, &map, input, expected, most);
     }
     Ok(())
 }
 
 #[test]
-fn bounds_an_input(rt: HostRuntime) -> Result<(), Fail> {
-    let alloc = rt.alloc();
-    let map = standard(alloc)?;
-    let (outcome, output) = run_on(alloc, &mut LineEnds(MOST_INPUT), &map);
+fn reads_an_input_of_the_most_bytes(rt: HostRuntime) -> Result<(), Fail> {
+    let map = standard(rt.alloc())?;
+    let (outcome, output) = run_on(rt.alloc(), &mut LineEnds(MOST_INPUT), &map);
     assert!(rt; outcome == Ok(()));
     assert!(rt; output.is_empty());
+    Ok(())
+}
+
+#[test]
+fn reads_no_longer_input(rt: HostRuntime) -> Result<(), Fail> {
+    let map = standard(rt.alloc())?;
     let mut longer = CREATE
         .as_bytes()
         .chain(LineEnds(MOST_INPUT + 1 - CREATE.len()));
-    let (outcome, output) = run_on(alloc, &mut longer, &map);
+    let (outcome, output) = run_on(rt.alloc(), &mut longer, &map);
     assert!(rt; outcome == Err(RunFault::TooLong));
     assert!(rt; output.is_empty());
     Ok(())

@@ -1,7 +1,8 @@
 //! Papers in which no phase is played, whole.
-use super::{the_board, the_power};
+use super::{BOARD, assert_text, the_board, the_power};
 use dip_letters::{Command, MasterCommand, Next, Notice, next_letter};
 use dip_map::{Map, STANDARD};
+use dip_names::Power;
 use dip_records::{Public, Status};
 use dip_reports::{draw_paper_text, notice_paper_text};
 use std::alloc::{AllocError, Global};
@@ -35,15 +36,6 @@ fn the_notice<'a>(rt: &impl Abort, letter: &'a str) -> Notice<'a> {
     panic!(rt; "the letter is a notice")
 }
 
-const BOARD: &str = "austria 0/0: - | -
-england 1/0: - | lon
-france 2/3: A bel, F eng*, A nwy | bel par
-germany 0/0: - | -
-italy 0/0: - | -
-russia 0/1: F stp/nc | -
-turkey 0/0: - | -
-";
-
 const PAUSED: &str = "PAPER 12 notice
 > paused
 GAME g1 F1902R paused DUE 300 PERIOD 50 GREY YES PAPERS 12
@@ -69,30 +61,55 @@ fn paper(alloc: Global, front: &str) -> Result<String, AllocError> {
     [front, BOARD, "END\n"].concat(alloc)
 }
 
+/// A paper is the one that begins with these lines.
+fn check_paper(rt: &impl Abort, alloc: Global, text: &str, front: &str) -> Result<(), AllocError> {
+    let wanted = paper(alloc, front)?;
+    assert_text(rt, text, wanted.as_str());
+    Ok(())
+}
+
+/// The paper of a notice, behind which the game stands so.
+fn notice_text(
+    rt: &impl Abort,
+    alloc: Global,
+    map: &Map,
+    (notice, status): (Notice<'_>, Status),
+    papers: u32,
+) -> Result<String, AllocError> {
+    let public = the_game(rt, alloc, map, status, papers)?;
+    notice_paper_text(alloc, map, notice, &public)
+}
+
+/// The twelfth paper is that of a notice, and begins with these lines.
+fn check_notice(
+    rt: &impl Abort,
+    alloc: Global,
+    map: &Map,
+    notice: (Notice<'_>, Status),
+    front: &str,
+) -> Result<(), AllocError> {
+    let text = notice_text(rt, alloc, map, notice, 12)?;
+    check_paper(rt, alloc, text.as_str(), front)
+}
+
+fn check_notices(rt: &impl Abort, alloc: Global, map: &Map) -> Result<(), AllocError> {
+    check_notice(rt, alloc, map, (Notice::Pause, Status::Paused), PAUSED)?;
+    check_notice(rt, alloc, map, (Notice::Resume, Status::Running), RESUMED)?;
+    let period = (Notice::Period(50), Status::Paused);
+    check_notice(rt, alloc, map, period, ANOTHER_PERIOD)?;
+    check_notice(rt, alloc, map, (Notice::Close, Status::Closed), CLOSED)
+}
+
 /// A notice has the number of all papers with it, its line, and the game as it stands behind it.
 #[test]
 fn notices_say_what_was_done(rt: HostRuntime) -> Result<(), Fail> {
     let alloc = rt.alloc();
     let map = Map::from_toml(alloc, STANDARD)?;
-    for (notice, status, front) in [
-        (Notice::Pause, Status::Paused, PAUSED),
-        (Notice::Resume, Status::Running, RESUMED),
-        (Notice::Period(50), Status::Paused, ANOTHER_PERIOD),
-        (Notice::Close, Status::Closed, CLOSED),
-    ] {
-        let public = the_game(&rt, alloc, &map, status, 12)?;
-        let text = notice_paper_text(alloc, &map, notice, &public)?;
-        assert_eq!(rt; text.as_str(), paper(alloc, front)?.as_str());
-    }
+    check_notices(&rt, alloc, &map)?;
     Ok(())
 }
 
-/// An announcement's paper has its lines as they were sent.
-#[test]
-fn announcements_are_told_line_by_line(rt: HostRuntime) -> Result<(), Fail> {
-    let alloc = rt.alloc();
-    let map = Map::from_toml(alloc, STANDARD)?;
-    let letter = "LETTER
+const ANNOUNCE: &str = "LETTER
 GAME g1
 FROM master
 SECRET master-key
@@ -102,16 +119,50 @@ ANNOUNCE
 > \n> > END
 END
 ";
-    let public = the_game(&rt, alloc, &map, Status::Closed, 2)?;
-    let text = notice_paper_text(alloc, &map, the_notice(&rt, letter), &public)?;
-    let front = "PAPER 2 notice
+
+const ANNOUNCED: &str = "PAPER 2 notice
 > The game rests.
 > \n> > END
 GAME g1 F1902R closed DUE 300 PERIOD 50 GREY YES PAPERS 2
 ";
-    let wanted = paper(alloc, front)?;
-    assert_eq!(rt; text.as_str(), wanted.as_str());
+
+fn check_announced(rt: &impl Abort, alloc: Global, map: &Map) -> Result<(), AllocError> {
+    let notice = (the_notice(rt, ANNOUNCE), Status::Closed);
+    let text = notice_text(rt, alloc, map, notice, 2)?;
+    check_paper(rt, alloc, text.as_str(), ANNOUNCED)
+}
+
+/// An announcement's paper has its lines as they were sent.
+#[test]
+fn announcements_are_told_line_by_line(rt: HostRuntime) -> Result<(), Fail> {
+    let alloc = rt.alloc();
+    let map = Map::from_toml(alloc, STANDARD)?;
+    check_announced(&rt, alloc, &map)?;
     Ok(())
+}
+
+const DRAWN: &str = "PAPER 9 draw
+GAME g1 F1902R drawn by england france russia DUE 300 PERIOD 50 GREY YES PAPERS 9
+";
+
+/// Three powers, which share a game.
+fn the_sharers(rt: &impl Abort, alloc: Global, map: &Map) -> Result<Vec<Power>, AllocError> {
+    let mut powers = Vec::new(alloc);
+    for name in ["england", "france", "russia"] {
+        powers.push(the_power(rt, map, name))?;
+    }
+    Ok(powers)
+}
+
+fn draw_text(rt: &impl Abort, alloc: Global, map: &Map) -> Result<String, AllocError> {
+    let status = Status::Drawn(the_sharers(rt, alloc, map)?);
+    let public = the_game(rt, alloc, map, status, 9)?;
+    draw_paper_text(alloc, map, &public)
+}
+
+fn check_drawn(rt: &impl Abort, alloc: Global, map: &Map) -> Result<(), AllocError> {
+    let text = draw_text(rt, alloc, map)?;
+    check_paper(rt, alloc, text.as_str(), DRAWN)
 }
 
 /// The paper of a draw tells who shares the game, and the board that they share.
@@ -119,16 +170,6 @@ GAME g1 F1902R closed DUE 300 PERIOD 50 GREY YES PAPERS 2
 fn a_draw_has_its_board(rt: HostRuntime) -> Result<(), Fail> {
     let alloc = rt.alloc();
     let map = Map::from_toml(alloc, STANDARD)?;
-    let mut powers = Vec::new(alloc);
-    for name in ["england", "france", "russia"] {
-        powers.push(the_power(&rt, &map, name))?;
-    }
-    let public = the_game(&rt, alloc, &map, Status::Drawn(powers), 9)?;
-    let text = draw_paper_text(alloc, &map, &public)?;
-    let front = "PAPER 9 draw
-GAME g1 F1902R drawn by england france russia DUE 300 PERIOD 50 GREY YES PAPERS 9
-";
-    let wanted = paper(alloc, front)?;
-    assert_eq!(rt; text.as_str(), wanted.as_str());
+    check_drawn(&rt, alloc, &map)?;
     Ok(())
 }

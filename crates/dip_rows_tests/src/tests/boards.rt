@@ -4,6 +4,7 @@ use dip_board_rows::{CentreColumns, UnitColumns, read_board};
 use dip_map::{Map, STANDARD};
 use dip_names::{Kind, Power};
 use std::alloc::{AllocError, Global};
+use std::process::Abort;
 use std::test::Fail;
 
 fn text_of(alloc: Global, word: Option<&str>) -> Result<String, AllocError> {
@@ -107,50 +108,60 @@ fn is_owned(map: &Map, board: &Board, code: &str, owner: Option<Power>) -> bool 
     }
 }
 
+const ROWS: (&str, &str, &str, u32) = (
+    "vie 0 austria 0 - -\nbur 1 france 0 - mun\nstp 0 russia 1 sc -\npic 1 england 0 - -",
+    "vie austria\nbel france",
+    "hol ruh",
+    3,
+);
+
+/// The board of these rows.
+fn assert_read(rt: &impl Abort, map: &Map, board: &Board) {
+    assert!(rt; stand_there(map, board) && fell_there(map, board));
+    assert!(rt; board.standoff().len() == 2 && Some(board.standoff()[1]) == map.prov(b"ruh"));
+    let phase = Phase {
+        year: 1902,
+        season: Season::FallRetreats,
+    };
+    assert!(rt; board.phase() == phase);
+    assert!(rt; is_owned(map, board, "vie", Some(Power::new(0))));
+    assert!(rt; is_owned(map, board, "bel", Some(Power::new(2))));
+    assert!(rt; is_owned(map, board, "par", None));
+}
+
 #[test]
 fn a_board_is_read_from_its_rows(rt: HostRuntime) -> Result<(), Fail> {
     let map = Map::from_toml(rt.alloc(), STANDARD)?;
-    let rows = (
-        "vie 0 austria 0 - -\nbur 1 france 0 - mun\nstp 0 russia 1 sc -\npic 1 england 0 - -",
-        "vie austria\nbel france",
-        "hol ruh",
-        3,
-    );
-    let Some(board) = board_in(rt.alloc(), &map, rows)? else {
-        return Err(Fail::new("rows of the map"));
-    };
-    assert!(rt; stand_there(&map, &board) && fell_there(&map, &board));
-    assert!(rt; board.standoff().len() == 2 && Some(board.standoff()[1]) == map.prov(b"ruh"));
-    assert!(rt;
-        board.phase()
-            == Phase {
-                year: 1902,
-                season: Season::FallRetreats
-            }
-    );
-    assert!(rt; is_owned(&map, &board, "vie", Some(Power::new(0))));
-    assert!(rt; is_owned(&map, &board, "bel", Some(Power::new(2))));
-    assert!(rt; is_owned(&map, &board, "par", None));
+    match board_in(rt.alloc(), &map, ROWS)? {
+        Some(board) => assert_read(&rt, &map, &board),
+        None => return Err(Fail::new("rows of the map")),
+    }
     Ok(())
 }
+
+fn is_read(alloc: Global, map: &Map, rows: (&str, &str, &str, u32)) -> Result<bool, AllocError> {
+    let board = board_in(alloc, map, rows)?;
+    Ok(board.is_some())
+}
+
+/// Rows of a board, and whether they are read.
+const READ: &[((&str, &str, &str, u32), bool)] = &[
+    (("stp 0 russia 1 nc -", "bel france", "hol", 4), true),
+    (("xyz 0 russia 0 - -", "bel france", "hol", 4), false),
+    (("stp 0 spain 1 nc -", "bel france", "hol", 4), false),
+    (("stp 0 russia 2 nc -", "bel france", "hol", 4), false),
+    (("stp 0 russia 1 ec -", "bel france", "hol", 4), false),
+    (("stp 1 russia 1 nc xyz", "bel france", "hol", 4), false),
+    (("stp 0 russia 1 nc -", "bel spain", "hol", 4), false),
+    (("stp 0 russia 1 nc -", "bel france", "hol xyz", 4), false),
+    (("stp 0 russia 1 nc -", "bel france", "hol", 5), false),
+];
 
 #[test]
 fn what_is_foreign_to_the_map_is_not_read(rt: HostRuntime) -> Result<(), Fail> {
     let map = Map::from_toml(rt.alloc(), STANDARD)?;
-    let rows = [
-        (("stp 0 russia 1 nc -", "bel france", "hol", 4), true),
-        (("xyz 0 russia 0 - -", "bel france", "hol", 4), false),
-        (("stp 0 spain 1 nc -", "bel france", "hol", 4), false),
-        (("stp 0 russia 2 nc -", "bel france", "hol", 4), false),
-        (("stp 0 russia 1 ec -", "bel france", "hol", 4), false),
-        (("stp 1 russia 1 nc xyz", "bel france", "hol", 4), false),
-        (("stp 0 russia 1 nc -", "bel spain", "hol", 4), false),
-        (("stp 0 russia 1 nc -", "bel france", "hol xyz", 4), false),
-        (("stp 0 russia 1 nc -", "bel france", "hol", 5), false),
-    ];
-    for (rows, is_read) in rows {
-        let read = board_in(rt.alloc(), &map, rows)?;
-        assert!(rt; read.is_some() == is_read);
+    for &(rows, wanted) in READ {
+        assert!(rt; is_read(rt.alloc(), &map, rows)? == wanted);
     }
     Ok(())
 }

@@ -100,74 +100,112 @@ fn delivered(alloc: Global, addressee: &str, line: &str) -> Result<Effect, Alloc
     })
 }
 
+/// Whether a letter of this game, power and number can be written.
+fn takes_letter(
+    alloc: Global,
+    map: &Map,
+    game: &str,
+    power: u8,
+    number: u32,
+) -> Result<bool, AllocError> {
+    let author = Author::Seat(Power::new(power));
+    let change = the_change(alloc, game, author, number, Effect::Votes(true))?;
+    has_widths(&change);
+    Ok(is_writable(map, &change))
+}
+
+/// A game, a power and a number, and whether such a letter can be written.
+const LETTERS: &[(&str, u8, u32, bool)] = &[
+    ("g1", 6, 1, true),
+    ("g1", 7, 1, false),
+    ("g1", 6, 0, false),
+    ("g\n1", 6, 1, false),
+];
+
 #[test]
 fn letters_have_a_seat_a_number_and_a_game(rt: HostRuntime) -> Result<(), Fail> {
     let alloc = rt.alloc();
     let map = Map::from_toml(alloc, STANDARD)?;
-    for (game, power, number, wanted) in [
-        ("g1", 6, 1, true),
-        ("g1", 7, 1, false),
-        ("g1", 6, 0, false),
-        ("g\n1", 6, 1, false),
-    ] {
-        let author = Author::Seat(Power::new(power));
-        let change = the_change(alloc, game, author, number, Effect::Votes(true))?;
-        has_widths(&change);
-        assert!(rt; is_writable(&map, &change) == wanted);
+    for &(game, power, number, wanted) in LETTERS {
+        assert!(rt; takes_letter(alloc, &map, game, power, number)? == wanted);
     }
     Ok(())
 }
+
+/// Whether it can be written that this power has won, with this time.
+fn takes_win(alloc: Global, map: &Map, power: u8, due: u64) -> Result<bool, AllocError> {
+    let effect = published(alloc, map, Status::Won(Power::new(power)), due)?;
+    is_taken(alloc, map, effect)
+}
+
+const WINS: &[(u8, u64, bool)] = &[
+    (6, 0x7fff_ffff_ffff_ffff, true),
+    (7, 100, false),
+    (6, 0x8000_0000_0000_0000, false),
+];
 
 #[test]
 fn a_status_names_powers_of_the_map(rt: HostRuntime) -> Result<(), Fail> {
     let alloc = rt.alloc();
     let map = Map::from_toml(alloc, STANDARD)?;
-    for (power, due, wanted) in [
-        (6, i64::MAX as u64, true),
-        (7, 100, false),
-        (6, 1 << 63, false),
-    ] {
-        let status = Status::Won(Power::new(power));
-        let effect = published(alloc, &map, status, due)?;
-        assert!(rt; is_taken(alloc, &map, effect)? == wanted);
+    for &(power, due, wanted) in WINS {
+        assert!(rt; takes_win(alloc, &map, power, due)? == wanted);
     }
     Ok(())
 }
+
+/// Whether a game can be written with so many papers and the seat of this power.
+fn takes_game(alloc: Global, map: &Map, papers: u32, power: u8) -> Result<bool, AllocError> {
+    let effect = opened(alloc, map, papers, power)?;
+    is_taken(alloc, map, effect)
+}
+
+const GAMES: &[(u32, u8, bool)] = &[(1, 6, true), (2, 6, false), (1, 7, false)];
 
 #[test]
 fn a_game_opens_with_one_paper(rt: HostRuntime) -> Result<(), Fail> {
     let alloc = rt.alloc();
     let map = Map::from_toml(alloc, STANDARD)?;
-    for (papers, power, wanted) in [(1, 6, true), (2, 6, false), (1, 7, false)] {
-        let effect = opened(alloc, &map, papers, power)?;
-        assert!(rt; is_taken(alloc, &map, effect)? == wanted);
+    for &(papers, power, wanted) in GAMES {
+        assert!(rt; takes_game(alloc, &map, papers, power)? == wanted);
     }
     Ok(())
+}
+
+/// Whether an order of a unit in this province can be written.
+fn takes_order(alloc: Global, map: &Map, prov: u8) -> Result<bool, AllocError> {
+    let effect = ordered(alloc, prov)?;
+    is_taken(alloc, map, effect)
 }
 
 #[test]
 fn orders_are_of_provinces_of_the_map(rt: HostRuntime) -> Result<(), Fail> {
     let alloc = rt.alloc();
     let map = Map::from_toml(alloc, STANDARD)?;
-    for (prov, wanted) in [(74, true), (75, false)] {
-        let effect = ordered(alloc, prov)?;
-        assert!(rt; is_taken(alloc, &map, effect)? == wanted);
-    }
+    assert!(rt; takes_order(alloc, &map, 74)?);
+    assert!(rt; !takes_order(alloc, &map, 75)?);
     Ok(())
+}
+
+/// Addressees and a line, and whether such press can be written.
+const PRESS: &[(&str, &str, bool)] = &[
+    ("france", "", true),
+    ("", "to nobody", false),
+    ("france italy", "to one of two words", false),
+    ("france", "two\nlines", false),
+];
+
+fn takes_press(alloc: Global, map: &Map, to: &str, line: &str) -> Result<bool, AllocError> {
+    let effect = delivered(alloc, to, line)?;
+    is_taken(alloc, map, effect)
 }
 
 #[test]
 fn press_has_words_and_lines(rt: HostRuntime) -> Result<(), Fail> {
     let alloc = rt.alloc();
     let map = Map::from_toml(alloc, STANDARD)?;
-    for (addressee, line, wanted) in [
-        ("france", "", true),
-        ("", "to nobody", false),
-        ("france italy", "to one of two words", false),
-        ("france", "two\nlines", false),
-    ] {
-        let effect = delivered(alloc, addressee, line)?;
-        assert!(rt; is_taken(alloc, &map, effect)? == wanted);
+    for &(addressee, line, wanted) in PRESS {
+        assert!(rt; takes_press(alloc, &map, addressee, line)? == wanted);
     }
     Ok(())
 }

@@ -15,7 +15,8 @@ END
 < END
 ";
 
-const OPENING: &str = "PAPER 1 opening
+/// The first paper of a game on the standard map, due at 100.
+pub const OPENING: &str = "PAPER 1 opening
 GAME g1 S1901M running DUE 100 PERIOD 100 GREY YES PAPERS 1
 austria 3/3: A bud, F tri, A vie | bud tri vie
 england 3/3: F edi, F lon, A lvp | edi lon lvp

@@ -4,7 +4,7 @@ use super::scenes::{SPRING, Scene};
 use dip_board::Season;
 use std::test::Fail;
 
-const BUILDS_AND_REMOVALS: [Row; 8] = [
+const BUILDS_AND_REMOVALS: &[Row] = &[
     Row {
         scene: Scene {
             season: Season::Winter,
@@ -134,6 +134,6 @@ const BUILDS_AND_REMOVALS: [Row; 8] = [
 
 #[test]
 fn builds_and_removals(rt: HostRuntime) -> Result<(), Fail> {
-    play_rows(&rt, rt.alloc(), &BUILDS_AND_REMOVALS)?;
+    play_rows(&rt, rt.alloc(), BUILDS_AND_REMOVALS)?;
     Ok(())
 }

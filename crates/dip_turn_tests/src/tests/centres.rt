@@ -4,7 +4,7 @@ use super::scenes::{SPRING, Scene};
 use dip_board::Season;
 use std::test::Fail;
 
-const AFTER_FALL: [Row; 7] = [
+const AFTER_FALL: &[Row] = &[
     Row {
         scene: Scene {
             season: Season::FallMoves,
@@ -131,6 +131,6 @@ const AFTER_FALL: [Row; 7] = [
 
 #[test]
 fn after_fall(rt: HostRuntime) -> Result<(), Fail> {
-    play_rows(&rt, rt.alloc(), &AFTER_FALL)?;
+    play_rows(&rt, rt.alloc(), AFTER_FALL)?;
     Ok(())
 }

@@ -3,7 +3,7 @@ use super::rows::{Row, play_rows};
 use super::scenes::{SPRING, Scene};
 use std::test::Fail;
 
-const WORKED_MOVEMENTS: [Row; 11] = [
+const WORKED_MOVEMENTS: &[Row] = &[
     Row {
         scene: Scene {
             standing: "france A mar, france A par, germany A mun",
@@ -217,7 +217,7 @@ const WORKED_MOVEMENTS: [Row; 11] = [
     },
 ];
 
-const DESTROYED_UNITS: [Row; 5] = [
+const DESTROYED_UNITS: &[Row] = &[
     Row {
         scene: Scene {
             standing: "france A bur, france A ruh, germany A mun, italy A ber, italy A boh, italy A kie, italy A sil, italy A tyr",
@@ -327,12 +327,12 @@ const DESTROYED_UNITS: [Row; 5] = [
 
 #[test]
 fn worked_movements(rt: HostRuntime) -> Result<(), Fail> {
-    play_rows(&rt, rt.alloc(), &WORKED_MOVEMENTS)?;
+    play_rows(&rt, rt.alloc(), WORKED_MOVEMENTS)?;
     Ok(())
 }
 
 #[test]
 fn destroyed_units(rt: HostRuntime) -> Result<(), Fail> {
-    play_rows(&rt, rt.alloc(), &DESTROYED_UNITS)?;
+    play_rows(&rt, rt.alloc(), DESTROYED_UNITS)?;
     Ok(())
 }

@@ -7,7 +7,7 @@ use dip_orders::{OrderFault, read_order};
 use dip_turn::retreats;
 use std::test::Fail;
 
-const MADE_AND_MISSED: [Row; 8] = [
+const MADE_AND_MISSED: &[Row] = &[
     Row {
         scene: Scene {
             season: Season::SpringRetreats,
@@ -140,7 +140,7 @@ const MADE_AND_MISSED: [Row; 8] = [
 
 #[test]
 fn made_and_missed(rt: HostRuntime) -> Result<(), Fail> {
-    play_rows(&rt, rt.alloc(), &MADE_AND_MISSED)?;
+    play_rows(&rt, rt.alloc(), MADE_AND_MISSED)?;
     Ok(())
 }
 

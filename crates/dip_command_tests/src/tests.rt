@@ -1,4 +1,0 @@
-//! The commands' tests, by subject.
-mod asked;
-mod serving;
-mod stored;

@@ -1,3 +1,0 @@
-//! Ticks by letters.
-mod reading;
-mod ticks;

@@ -1,0 +1,20 @@
+//! Plays the transcripts that its words name: what is sent in their scenes is to be answered as they tell. Its stored run is the test of all
+//! that is said and shown by letters, over HTTP and by the program's commands.
+#![tactic(auto)]
+
+mod files;
+mod requests;
+mod runs;
+mod scenes;
+mod texts;
+
+use crate::files::play_all;
+use std::process::ExitCode;
+
+fn main(rt: HostRuntime) -> ExitCode {
+    if play_all(&rt).is_ok() {
+        ExitCode::SUCCESS
+    } else {
+        ExitCode::FAILURE
+    }
+}

@@ -1,9 +1,0 @@
-//! The judge once more, with a file that states no map: its stored run is the test.
-#![tactic(auto)]
-
-use dip_program::run_program;
-use std::process::ExitCode;
-
-fn main(rt: HostRuntime) -> ExitCode {
-    ExitCode::from(run_program(&rt))
-}

@@ -1,9 +1,9 @@
 -- A look, and then a step.
-use Rattle.std.proofs.Common.{◌≡◌, inl, inr, Result, Ok, Err, ap, refl, subst, ◌∙◌, arith}
+use Rattle.std.proofs.Common.{◌≡◌, inl, inr, Result, Ok, Err, ap, refl, sym, subst, ◌∙◌, arith}
 use Rattle.std.proofs.lemmas.Result.{IfOk-weaker, on_err_weaker, on_ok_weaker}
 use Rattle.dip_chart.specs.Charts.{Chart}
 use Rattle.dip_machine.specs.Faults.{faults_after, faults_with}
-use Rattle.dip_desk.specs.Keeping.{Book, Changes, Keeps, Looks, Steps}
+use Rattle.dip_desk.specs.Keeping.{Book, Changes, Keeps, Looks, Settles, Steps}
 use Rattle.dip_machine.specs.State.{State}
 use Rattle.dip_machine.specs.declared.faults.KeepFault.{KeepFault}
 use Rattle.dip_machine.specs.declared.faults.KeepFault.TheVariants.{Memory, Disk, Damaged}
@@ -19,7 +19,19 @@ keeps_then m b old mid new x result first second = record {
   sound = λ sound shows. second.sound (first.sound sound (second.shown shows)) shows;
   firm = λ sound honest. second.firm (first.firm sound (second.fair honest)) honest;
   stays_open = λ sound honest shows. second.stays_open (first.firm sound (second.fair honest)) honest (first.stays_open sound (second.fair honest) shows);
+  shuts = λ honest shows. elim (first.shuts (second.fair honest) shows) [
+    | inl open_mid ↦ elim (second.shuts honest open_mid) [
+      | inl open_new ↦ inl open_new
+      | inr rises ↦ inr (omega (arith, rises, first.told))
+    ]
+    | inr rises ↦ inr (omega (arith, rises, second.told))
+  ];
 }
+
+-- behind a look a crash leaves what it might have left
+pub look_alone : {K X : Type 0} (m : Chart) (b : Book K) (old new : K) (Value : X → Type 0) (Damage : Type 0) (result : Result X KeepFault)
+    → Looks m b old new Value Damage result → Settles m b old new
+look_alone m b old new Value Damage result look sound honest shows alone s may = alone s (look.left sound honest s may) ∙ sym (look.same sound shows)
 
 -- a step behind a look is a step of the state that was looked at, where it may be taken of that state, and what the step may be
 -- Damaged by is laid to that state too
@@ -43,6 +55,9 @@ steps_then {K} {X} {Y} {R} m b old mid new x Value Damage say Near Far result lo
   damaged = λ sound shows bad.
       let before = step.keeps.shown shows in
       blamed (look.value sound before) (subst Hurt (look.same sound before) (step.damaged (look.keeps.sound sound before) shows bad));
+  settles = λ sound honest shows alone.
+      let before = step.keeps.shown shows in
+      step.settles (look.keeps.sound sound before) honest shows (look_alone m b old mid Value Damage (Ok x) look sound (step.keeps.fair honest) before alone);
   kept = λ sound honest shows.
       let fair = step.keeps.fair honest in
       let open_mid = look.keeps.stays_open sound fair shows in
@@ -99,10 +114,11 @@ pub fault_then : {K X Y R : Type 0} (m : Chart) (b : Book K) (old mid : K) (x : 
     (Blame : State → Type 0) → Looks m b old mid Value ⊥ (Ok x) → faults_with fault 0 ≡ 0 → (Value x → fault ≡ Damaged → Blame (b.content m old))
     → Steps {X = Y} m b old mid say Step Blame (Err fault)
 fault_then m b old mid x Value fault say Step Blame look other blamed = record {
-  keeps = record { count = look.keeps.count ∙ same fault other; told = look.keeps.told; fair = look.keeps.fair; shown = look.keeps.shown; sound = look.keeps.sound; firm = λ sound honest. tt; stays_open = λ sound honest shows. tt };
+  keeps = record { count = look.keeps.count ∙ same fault other; told = look.keeps.told; fair = look.keeps.fair; shown = look.keeps.shown; sound = look.keeps.sound; firm = λ sound honest. tt; stays_open = λ sound honest shows. tt; shuts = look.keeps.shuts };
   done = λ sound shows. tt;
   undone = look.same;
   damaged = λ sound shows bad. let told : fault ≡ Damaged = cc in blamed (look.value sound shows) told;
+  settles = look_alone m b old mid Value ⊥ (Ok x) look;
   kept = λ sound honest shows. tt;
   left = λ sound honest shows s left. inl (look.left sound honest s left);
 }
@@ -114,7 +130,7 @@ fault_then m b old mid x Value fault say Step Blame look other blamed = record {
 
 -- what is kept by an answer says nothing of its value
 pub keeps_as : {K X Y : Type 0} (m : Chart) (b : Book K) (old new : K) (x : X) (y : Y) → Keeps {X = X} m b old new (Ok x) → Keeps {X = Y} m b old new (Ok y)
-keeps_as m b old new x y k = record { count = k.count; told = k.told; fair = k.fair; shown = k.shown; sound = k.sound; firm = k.firm; stays_open = k.stays_open }
+keeps_as m b old new x y k = record { count = k.count; told = k.told; fair = k.fair; shown = k.shown; sound = k.sound; firm = k.firm; stays_open = k.stays_open; shuts = k.shuts }
 
 -- a change that a fault leaves unmade is a step that isn't taken: a crash may leave what the step would have, and what doesn't fit may
 -- be Damaged
@@ -123,10 +139,11 @@ pub unmade : {K X R : Type 0} (m : Chart) (b : Book K) (old new : K) (change : S
     → ((s : State) → s ≡ change (b.content m old) → (r : R) × Step (b.content m old) r s) → ((s : State) → Suits s → Fits s)
     → Steps {X = X} m b old new say Step (λ s. Suits s → ⊥) (Err fault)
 unmade m b old new change Fits fault say Step Suits h taken fit = record {
-  keeps = record { count = h.keeps.count; told = h.keeps.told; fair = h.keeps.fair; shown = h.keeps.shown; sound = h.keeps.sound; firm = λ sound honest. tt; stays_open = λ sound honest shows. tt };
+  keeps = record { count = h.keeps.count; told = h.keeps.told; fair = h.keeps.fair; shown = h.keeps.shown; sound = h.keeps.sound; firm = λ sound honest. tt; stays_open = λ sound honest shows. tt; shuts = h.keeps.shuts };
   done = λ sound shows. tt;
   undone = h.undone;
   damaged = λ sound shows bad suits. let told : fault ≡ Damaged = cc in h.fitting sound shows (fit (b.content m old) suits) (ap (λ (f : KeepFault). Err f) told);
+  settles = h.settles;
   kept = λ sound honest shows. tt;
   left = λ sound honest shows s left. elim (h.left sound honest s left) [
     | inl before ↦ inl before

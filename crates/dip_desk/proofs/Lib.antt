@@ -2,3 +2,4 @@ pub mod GamesLemmas
 pub mod PartLemmas
 pub mod Sighting
 pub mod Keepings
+pub mod Ending

@@ -27,6 +27,10 @@ pub record Book (K : Type 0) : Type 1 where
 abbrev pub Rises : ℕ → ℕ → Type 0
 Rises old new = min (old + 1) (2 ^ 64 - 1) ≤ new
 
+-- a crash leaves what is kept, and nothing else
+abbrev pub LeavesAlone : {K : Type 0} → Chart → Book K → K → Type 0
+LeavesAlone m b k = (s : State) → b.may_leave m k s → s ≡ b.content m k
+
 -- what every call keeps, whatever it answers
 pub record Keeps {K X : Type 0} (m : Chart) (b : Book K) (old new : K) (result : Result X KeepFault) : Type 0 where
   pub count : b.faults new ≡ faults_after result (b.faults old)
@@ -36,6 +40,20 @@ pub record Keeps {K X : Type 0} (m : Chart) (b : Book K) (old new : K) (result :
   pub sound : b.sound m old → b.shows new → b.sound m new
   pub firm : b.sound m old → b.honest new → OnOk result (b.sound m new)
   pub stays_open : b.sound m old → b.honest new → b.shows old → OnOk result (b.shows new)
+  -- it is shut only where the store told of a fault of the disk
+  pub shuts : b.honest new → b.shows old → b.shows new ⊎ Rises (b.told old) (b.told new)
+
+-- a keeper of sound records that shows them, and of which a crash leaves them alone
+pub record IsOpen {K : Type 0} (m : Chart) (b : Book K) (k : K) : Type 0 where
+  pub sound : b.sound m k
+  pub shows : b.shows k
+  pub alone : LeavesAlone m b k
+
+-- how a call that answered a fault ends, in a state: a crash leaves that, or one that is more; and the keeper is open and has it, or the
+-- disk shut the keeper
+pub record Ends {K : Type 0} (m : Chart) (b : Book K) (old new : K) (s : State) (More : State → Type 0) : Type 0 where
+  pub left : (t : State) → b.may_leave m new t → (t ≡ s) ⊎ More t
+  pub goes : (IsOpen m b new × (b.content m new ≡ s)) ⊎ Rises (b.told old) (b.told new)
 
 -- a look: its value, what Damaged tells, that the store told of what Disk tells, and that nothing else moves
 pub record Looks {K X : Type 0} (m : Chart) (b : Book K) (old new : K) (Value : X → Type 0) (Damage : Type 0)
@@ -47,6 +65,10 @@ pub record Looks {K X : Type 0} (m : Chart) (b : Book K) (old new : K) (Value : 
   pub same : b.sound m old → b.shows new → b.content m new ≡ b.content m old
   pub left : b.sound m old → b.honest new → (s : State) → b.may_leave m new s → b.may_leave m old s
 
+-- while the keeper shows what it keeps, a crash leaves that alone, where it did before the call
+abbrev pub Settles : {K : Type 0} → Chart → Book K → K → K → Type 0
+Settles m b old new = b.sound m old → b.honest new → b.shows new → LeavesAlone m b old → LeavesAlone m b new
+
 -- a change that is made whole or not at all; behind a fault a crash may leave it made or not
 pub record Changes {K X : Type 0} (m : Chart) (b : Book K) (old new : K) (change : State → State) (Fits : State → Type 0)
     (result : Result X KeepFault) : Type 0 where
@@ -54,6 +76,7 @@ pub record Changes {K X : Type 0} (m : Chart) (b : Book K) (old new : K) (change
   pub done : b.sound m old → b.shows new → OnOk result (b.content m new ≡ change (b.content m old))
   pub undone : b.sound m old → b.shows new → OnErr result (b.content m new ≡ b.content m old)
   pub fitting : b.sound m old → b.shows new → Fits (b.content m old) → IsErrOf result Damaged → ⊥
+  pub settles : Settles m b old new
   pub kept : b.sound m old → b.honest new → OnOk result ((s : State) → b.may_leave m new s → s ≡ b.content m new)
   pub left : b.sound m old → b.honest new
       → OnErr result ((s : State) → b.may_leave m new s → b.may_leave m old s ⊎ (s ≡ change (b.content m old)))
@@ -66,6 +89,7 @@ pub record Steps {K X R : Type 0} (m : Chart) (b : Book K) (old new : K) (say : 
   pub done : b.sound m old → b.shows new → IfOk result (λ x. Step (b.content m old) (say x) (b.content m new))
   pub undone : b.sound m old → b.shows new → OnErr result (b.content m new ≡ b.content m old)
   pub damaged : b.sound m old → b.shows new → IsErrOf result Damaged → Damage (b.content m old)
+  pub settles : Settles m b old new
   pub kept : b.sound m old → b.honest new → b.shows old → OnOk result ((s : State) → b.may_leave m new s
       → (s ≡ b.content m new) ⊎ ((b.content m new ≡ b.content m old) × b.may_leave m old s))
   pub left : b.sound m old → b.honest new → b.shows old → OnErr result ((s : State) → b.may_leave m new s

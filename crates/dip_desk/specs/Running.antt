@@ -1,11 +1,11 @@
 -- What a run over letters keeps.
-use Rattle.std.specs.Prelude.{◌≡◌, ℕ, List, Contains, Result, OnOk, IfOk, IfErr, take}
+use Rattle.std.specs.Prelude.{◌≡◌, ℕ, List, Contains, Result, OnOk, IfOk, IfErr, take, slice_get, Some}
 use Rattle.dip_chart.specs.Charts.{Chart}
 use Rattle.dip_records.specs.Records.{Reply}
 use Rattle.dip_machine.specs.Faults.{faults_after_run}
-use Rattle.dip_desk.specs.Keeping.{Book}
+use Rattle.dip_desk.specs.Keeping.{Book, Ends, IsOpen}
 use Rattle.dip_machine.specs.Lawful.{IsLawful}
-use Rattle.dip_machine.specs.Machine.{IsDamagedBy}
+use Rattle.dip_machine.specs.Machine.{IsDamagedBy, Step}
 use Rattle.dip_machine.specs.Mail.{Mail}
 use Rattle.dip_machine.specs.State.{State}
 use Rattle.dip_machine.specs.Published.{IsFair}
@@ -33,4 +33,9 @@ pub record Runs {K X : Type 0} (m : Chart) (b : Book K) (old new : K) (letters :
   pub never : b.sound m old → b.shows new → IsLawful m (b.content m old) → IfErr result (λ e. e.1 ≡ Damaged → ⊥)
   pub lawful : b.sound m old → b.shows new → IsLawful m (b.content m old) → IsLawful m (b.content m new)
   pub count : b.faults new ≡ faults_after_run result (b.faults old)
-  pub stays_open : b.sound m old → b.honest new → b.shows old → OnOk result (b.shows new)
+  -- an open keeper stays open, where all were answered
+  pub stays_open : IsOpen m b old → b.honest new → OnOk result (IsOpen m b new)
+  -- and up to a fault those before it were, and a crash leaves the state behind them, or that behind the next letter too
+  pub ends : IsOpen m b old → b.honest new → IfErr result (λ e. (n : ℕ) × (s : State)
+      × Answers m (b.content m old) (take n letters) (say e.0) s
+      × Ends m b old new s (λ t. (it : Mail) × (slice_get letters n ≡ Some it) × (r : Reply) × Step m s it r t))

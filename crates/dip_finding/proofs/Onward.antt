@@ -1,5 +1,5 @@
 -- Calls that read on behind others.
-use Rattle.std.proofs.Common.{◌≡◌, ap, arith, refl, Result}
+use Rattle.std.proofs.Common.{◌≡◌, ap, arith, inl, refl, Result}
 use Rattle.sqlite.specs.declared.error.Error.{Error}
 use Rattle.sqlite.specs.Effect.{Database}
 use Rattle.sqlite.specs.Store.{Ghosts}
@@ -24,6 +24,7 @@ module _ {S : Type 0} (g : Ghosts S) where
     kept = λ here shows. here;
     same = λ here shows. refl;
     ok = λ here clean. p.ok kept clean;
+    closes = λ clean shows. inl shows;
     left = λ here clean db may. may;
   }
 

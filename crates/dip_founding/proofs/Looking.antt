@@ -38,5 +38,6 @@ module _ {S X E : Type 0} (g : Ghosts S) (old new : Held S) (r : Result X E) (al
     kept = kept_still;
     same = seen_same;
     ok = λ kept clean. shows_on r up clean;
+    closes = λ clean shows. elim (alone.survives.closes clean shows.1) [ inl still ↦ inl (clean, still) | inr more ↦ inr more ];
     left = λ kept clean db may. elim (alone.survives.crash clean db may) [ inl before ↦ before | inr none ↦ absurd none ];
   }

@@ -1,5 +1,5 @@
 -- What a transaction of parts leaves of a connection.
-use Rattle.std.proofs.Common.{true, false, [], ◌≡◌, inl, inr, IsTrue, Ok, Err, Result, OnOk, OnErr, IfErr, refl, sym, subst, ap, ◌∙◌, arith}
+use Rattle.std.proofs.Common.{true, false, [], ◌≡◌, ◌⊎◌, inl, inr, IsTrue, Ok, Err, Result, OnOk, OnErr, IfErr, refl, sym, subst, ap, ◌∙◌, arith}
 use Rattle.sqlite.specs.declared.error.Error.{Error}
 use Rattle.sqlite.specs.Tree.{Trees}
 use Rattle.sqlite.specs.Effect.{Database}
@@ -12,6 +12,8 @@ use Rattle.dip_tables.specs.Counting.{AreCounted}
 use Rattle.dip_rows.specs.Rows.{tables_of}
 use Rattle.dip_rows.specs.Good.{IsGood}
 use Rattle.dip_rows.specs.Calls.{IsKept, Selects, Writes, does_show, is_honest, tables_in}
+use Rattle.dip_rows.specs.Causes.{has_faulted}
+use Rattle.dip_rows.proofs.Caused.{faulted_early, faulted_late}
 use Rattle.dip_rows.proofs.Parts.{failed_commit, fails, undone_all, undone_base, went}
 use Rattle.dip_making.specs.Counts.{Peeks}
 use Rattle.dip_making.specs.Making.{IsLaid, Makes}
@@ -38,6 +40,16 @@ module _ {S : Type 0} (g : Ghosts S) (f : Tables → Tables) (old last end : Hel
         settled = now ∙ sym committed;
         unlimited = limit ∙ kept.unlimited;
       }
+
+  -- the parts and what ends them leave the connection open, but for a fault of the disk
+  closes_both : (Commits : Trees → Type 0) → Survives (state g begun) (state g last) (λ _. ⊥) → Survives (state g last) (state g end) Commits → is_honest g end → does_show g old → does_show g end ⊎ has_faulted g old end
+  closes_both Commits parts ends clean up = elim (parts.closes (omega (arith, clean, ends.clean)) up.1) [
+    | inl up_mid ↦ elim (ends.closes clean up_mid) [
+      | inl still ↦ inl (clean, still)
+      | inr more ↦ inr (faulted_late (state g begun) (state g last) (state g end) parts.counts more)
+    ]
+    | inr more ↦ inr (faulted_early (state g begun) (state g last) (state g end) ends.counts more)
+  ]
 
   -- the parts went well, and were committed
   pub makes_done : (X Y : Type 0) (x : X) (y : Y)
@@ -67,6 +79,7 @@ module _ {S : Type 0} (g : Ghosts S) (f : Tables → Tables) (old last end : Hel
         );
     undone = λ kept up. tt;
     ok = λ kept clean. (clean, (shows clean).is_open);
+    closes = λ clean up. inl (clean, (shows clean).is_open);
     kept = λ kept clean db may. let s = shows clean in settled end.store db s.is_open may ∙ ap (λ (d : Database). d.trees) (s.committed_is ∙ sym s.now_is);
     left = λ kept clean. tt;
   }
@@ -89,6 +102,7 @@ module _ {S : Type 0} (g : Ghosts S) (f : Tables → Tables) (old last end : Hel
         let now = failed_commit (state g begun) (state g last) (state g end) e ((parts.runs mid).inside refl) (parts.keeps mid) (how up.0) up.1 in
         (back_kept kept now (base up.0 up.1) ended (survives.limit ∙ parts.survives.limit), now ∙ sym kept.settled);
     ok = λ kept clean. tt;
+    closes = λ clean up. closes_both (λ db. db ≡ (state g last).now.trees) parts.survives survives clean up;
     kept = λ kept clean. tt;
     left = λ kept clean db may.
         let mid : HasCleanDisk (state g last) = omega (arith, clean, survives.clean) in
@@ -132,6 +146,7 @@ module _ {S : Type 0} (g : Ghosts S) (f : Tables → Tables) (old last end : Hel
         let base = undone_base (state g begun) (state g last) (state g end) (parts.keeps mid) (back up.0) up.1 in
         (back_kept kept now base ended (survives.limit ∙ parts.survives.limit), now ∙ sym kept.settled);
     ok = λ kept clean. tt;
+    closes = λ clean up. closes_both (λ _. ⊥) parts.survives survives clean up;
     kept = λ kept clean. tt;
     left = λ kept clean db may.
         let mid : HasCleanDisk (state g last) = omega (arith, clean, survives.clean) in
@@ -164,6 +179,7 @@ module _ {S : Type 0} (g : Ghosts S) where
     done = λ kept up. tt;
     undone = λ kept up. (s.kept kept up, s.same kept up);
     ok = λ kept clean. tt;
+    closes = s.closes;
     kept = λ kept clean. tt;
     left = λ kept clean db may. inl (s.left kept clean db may);
   }
@@ -175,6 +191,7 @@ module _ {S : Type 0} (g : Ghosts S) where
     done = λ kept up. tt;
     undone = λ kept up. (kept, refl);
     ok = λ kept clean. tt;
+    closes = λ clean up. inl up;
     kept = λ kept clean. tt;
     left = λ kept clean db may. inl may;
   })
@@ -206,6 +223,7 @@ module _ {S : Type 0} (g : Ghosts S) where
     done = λ kept up. on_ok r q alike (λ it. (it.0, it.1 ∙ same kept up.0)) (k.done kept up);
     undone = λ kept up. on_err r q alike (λ it. it) (k.undone kept up);
     ok = λ kept clean. on_ok r q alike (λ it. it) (k.ok kept clean);
+    closes = k.closes;
     kept = λ kept clean. on_ok r q alike (λ it. it) (k.kept kept clean);
     left = λ kept clean. on_err r q alike (λ it db may. elim (it db may) [
       | inl before ↦ inl before
@@ -223,6 +241,7 @@ module _ {S : Type 0} (g : Ghosts S) where
     done = λ kept up. let at = k.shown up in on_ok r r (alike_itself r) (λ it. (it.0, it.1 ∙ renamed kept at)) (k.done (s.kept kept at) up);
     undone = λ kept up. let at = k.shown up in on_err r r (alike_itself r) (λ it. (it.0, it.1 ∙ s.same kept at)) (k.undone (s.kept kept at) up);
     ok = λ kept clean. k.ok (mid_kept kept clean) clean;
+    closes = λ clean up. closes_behind (s.closes (k.fair clean) up) clean;
     kept = λ kept clean. k.kept (mid_kept kept clean) clean;
     left = λ kept clean. on_err r r (alike_itself r) (λ it db may. elim (it db may) [
       | inl before ↦ inl (s.left kept (k.fair clean) db before)
@@ -230,6 +249,13 @@ module _ {S : Type 0} (g : Ghosts S) where
     ]) (k.left (mid_kept kept clean) clean);
   }
     where
+      closes_behind : does_show g mid ⊎ has_faulted g old mid → is_honest g new → does_show g new ⊎ has_faulted g old new
+      closes_behind (inl up) clean = elim (k.closes clean up) [
+        | inl still ↦ inl still
+        | inr more ↦ inr (faulted_late (state g old) (state g mid) (state g new) s.counts more)
+      ]
+      closes_behind (inr more) clean = inr (faulted_early (state g old) (state g mid) (state g new) k.counts more)
+
       mid_kept : IsKept g old → is_honest g new → IsKept g mid
       mid_kept kept clean = s.kept kept (s.ok kept (k.fair clean))
 

@@ -8,6 +8,7 @@ use Rattle.dip_machine.specs.State.{Author, Effect, Nothing, Pending, Votes, Del
 use Rattle.dip_tables.specs.Changing.{opening, ordering, ordering_by, publishing, replacing}
 use Rattle.dip_tables.specs.Tables.{Tables}
 use Rattle.dip_rows.specs.Calls.{IsKept, Lands, does_show, is_honest, tables_in}
+use Rattle.dip_rows.specs.Causes.{has_faulted}
 use Rattle.dip_rows.specs.Good.{IsGood}
 use Rattle.dip_refusals.specs.Keys.{Differ, same_order}
 use Rattle.dip_changing.specs.Delivering.{delivering_all}
@@ -56,6 +57,8 @@ pub record Makes {S X E : Type 0} (g : Ghosts S) (f : Tables → Tables) (old ne
   pub done : IsKept g old → does_show g new → OnOk r (IsLaid g new × (tables_in g new ≡ f (tables_in g old)))
   pub undone : IsKept g old → does_show g new → OnErr r (IsKept g new × ((state g new).now ≡ (state g old).now))
   pub ok : IsKept g old → is_honest g new → OnOk r (does_show g new)
+  -- only a fault of the disk shuts the connection
+  pub closes : is_honest g new → does_show g old → does_show g new ⊎ has_faulted g old new
   pub kept : IsKept g old → is_honest g new
       → OnOk r ((db : Trees) → (state g new).may_leave db → db ≡ (state g new).now.trees)
   pub left : IsKept g old → is_honest g new

@@ -16,6 +16,8 @@ use Rattle.dip_tables.specs.Counting.{AreCounted}
 use Rattle.dip_rows.specs.Rows.{tables_of}
 use Rattle.dip_rows.specs.Good.{IsGood}
 use Rattle.dip_rows.specs.Calls.{IsKept, Selects, is_honest, does_show}
+use Rattle.dip_rows.specs.Causes.{has_faulted}
+use Rattle.dip_rows.proofs.Caused.{faulted_early, faulted_late}
 use Rattle.dip_rows.proofs.Parts.{went, fails}
 
 module _ {S : Type 0} (g : Ghosts S) where
@@ -28,8 +30,16 @@ module _ {S : Type 0} (g : Ghosts S) where
     kept = λ kept shows. q.kept (p.kept kept (q.shown shows)) shows;
     same = λ kept shows. let mid = q.shown shows in q.same (p.kept kept mid) shows ∙ p.same kept mid;
     ok = λ kept clean. q.ok (p.kept kept (p.ok kept (q.fair clean))) clean;
+    closes = λ clean shows. closes_then (p.closes (q.fair clean) shows) clean;
     left = λ kept clean db may. p.left kept (q.fair clean) db (q.left (p.kept kept (p.ok kept (q.fair clean))) clean db may);
   }
+    where
+      closes_then : does_show g b ⊎ has_faulted g a b → is_honest g c → does_show g c ⊎ has_faulted g a c
+      closes_then (inl shows) clean = elim (q.closes clean shows) [
+        | inl up ↦ inl up
+        | inr more ↦ inr (faulted_late (state g a) (state g b) (state g c) p.counts more)
+      ]
+      closes_then (inr more) clean = inr (faulted_early (state g a) (state g b) (state g c) q.counts more)
 
   any_ok : {Y F : Type 0} (r : Result Y F) (P : Type 0) → P → OnOk r P
   any_ok (Ok y) P p = p
@@ -37,10 +47,10 @@ module _ {S : Type 0} (g : Ghosts S) where
 
   -- what went well may yet be answered otherwise
   pub selects_as : {X E Y F : Type 0} (a b : Held S) (x : X) (r : Result Y F) → Selects g a b (went X E x) → Selects g a b r
-  selects_as a b x r p = record { fair = p.fair; shown = p.shown; mode = p.mode; counts = p.counts; kept = p.kept; same = p.same; ok = λ kept clean. any_ok r (does_show g b) (p.ok kept clean); left = p.left }
+  selects_as a b x r p = record { fair = p.fair; shown = p.shown; mode = p.mode; counts = p.counts; kept = p.kept; same = p.same; ok = λ kept clean. any_ok r (does_show g b) (p.ok kept clean); closes = p.closes; left = p.left }
 
   pub selects_fails : {X E Y F : Type 0} (a b : Held S) (e : E) (f : F) → Selects g a b (fails X E e) → Selects g a b (fails Y F f)
-  selects_fails a b e f p = record { fair = p.fair; shown = p.shown; mode = p.mode; counts = p.counts; kept = p.kept; same = p.same; ok = λ kept clean. tt; left = p.left }
+  selects_fails a b e f p = record { fair = p.fair; shown = p.shown; mode = p.mode; counts = p.counts; kept = p.kept; same = p.same; ok = λ kept clean. tt; closes = p.closes; left = p.left }
 
 module _ {S : Type 0} (g : Ghosts S) (text : List ℕ) (params : Row) (old new : Held S) (plain : IsPlain (understood our_schema text)) (survives : Survives (state g old) (state g new) (CommitsShowing text params (state g old)))
     (mode : old.in_transaction ≡ false → new.in_transaction ≡ false) where
@@ -52,6 +62,9 @@ module _ {S : Type 0} (g : Ghosts S) (text : List ℕ) (params : Row) (old new :
     | inl before ↦ before
     | inr done ↦ absurd (never_commits text params (state g old) db (plain_in kept) done)
   ]
+
+  closes_by : is_honest g new → does_show g old → does_show g new ⊎ has_faulted g old new
+  closes_by clean shows = elim (survives.closes clean shows.1) [ inl up ↦ inl (clean, up) | inr more ↦ inr more ]
 
   kept_as : IsKept g old → (state g new).now ≡ (state g old).now → (state g new).committed ≡ (state g old).committed → IsKept g new
   kept_as kept now committed = record { good = subst IsGood (sym now) kept.good; counted = subst (λ (d : Database). AreCounted (tables_of d.trees)) (sym now) kept.counted; idle = mode kept.idle; settled = now ∙ kept.settled ∙ sym committed; unlimited = survives.limit ∙ kept.unlimited }
@@ -66,6 +79,7 @@ module _ {S : Type 0} (g : Ghosts S) (text : List ℕ) (params : Row) (old new :
       kept = λ kept shows. let u = same kept shows.0 in kept_as kept u.0.now_is u.0.committed_is;
       same = λ kept shows. (same kept shows.0).0.now_is;
       ok = ok_in r;
+      closes = closes_by;
       left = left_by;
     }
       where
@@ -82,6 +96,7 @@ module _ {S : Type 0} (g : Ghosts S) (text : List ℕ) (params : Row) (old new :
       kept = λ kept shows. elim (how kept shows.0) [ inl u ↦ kept_as kept u.0.now_is u.0.committed_is | inr b ↦ kept_as kept ((b.undone shows.1).0 ∙ sym kept.settled) (b.undone shows.1).1 ];
       same = λ kept shows. elim (how kept shows.0) [ inl u ↦ u.0.now_is | inr b ↦ (b.undone shows.1).0 ∙ sym kept.settled ];
       ok = λ kept clean. tt;
+      closes = closes_by;
       left = left_by;
     }
 

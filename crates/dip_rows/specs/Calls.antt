@@ -1,5 +1,5 @@
 -- What the calls of statements leave.
-use Rattle.std.specs.Prelude.{◌≡◌, ◌≤◌, false, IsTrue, None, Result, OnOk}
+use Rattle.std.specs.Prelude.{◌≡◌, ◌≤◌, ◌⊎◌, false, IsTrue, None, Result, OnOk}
 use Rattle.sqlite.specs.Tree.{Trees}
 use Rattle.sqlite.specs.Effect.{Database}
 use Rattle.sqlite.specs.Store.{Ghosts}
@@ -9,6 +9,7 @@ use Rattle.dip_tables.specs.Tables.{Tables}
 use Rattle.dip_tables.specs.Counting.{AreCounted}
 use Rattle.dip_rows.specs.Rows.{tables_of}
 use Rattle.dip_rows.specs.Good.{IsGood}
+use Rattle.dip_rows.specs.Causes.{has_faulted}
 
 -- the tables become these, and a transaction goes on
 pub record Turns (f : Tables → Tables) (old new : State) : Type 0 where
@@ -56,5 +57,7 @@ pub record Selects {S X E : Type 0} (g : Ghosts S) (old new : Held S) (r : Resul
   pub kept : IsKept g old → does_show g new → IsKept g new
   pub same : IsKept g old → does_show g new → (state g new).now ≡ (state g old).now
   pub ok : IsKept g old → is_honest g new → OnOk r (does_show g new)
+  -- only a fault of the disk shuts the connection
+  pub closes : is_honest g new → does_show g old → does_show g new ⊎ has_faulted g old new
   pub left : IsKept g old → is_honest g new → (db : Trees)
       → (state g new).may_leave db → (state g old).may_leave db

@@ -9,6 +9,7 @@ use Rattle.dip_letters.specs.declared.letters.Next.{Next}
 use Rattle.dip_letters.specs.declared.letters.Next.TheVariants.{Taken, Fault, End}
 use Rattle.dip_chart.specs.Charts.{Chart}
 use Rattle.dip_machine.specs.Mail.{Mail, mail}
+use Rattle.dip_desk.specs.Keeping.{Book, Ends}
 use Rattle.dip_desk.specs.Running.{Answers}
 use Rattle.dip_machine.specs.State.{State}
 use Rattle.dip_machine.specs.View.{IsHistory}
@@ -18,7 +19,7 @@ use Rattle.dip_machine.specs.Published.{MovementsAreDecided}
 use Rattle.dip_reports.specs.Texts.{reply_text}
 use Rattle.dip_records.specs.Records.{Reply}
 use Rattle.dip_runs.specs.RunFaults.{IsTakingFault}
-use Rattle.dip_runs.specs.Runs.{AnswersFront, AreReplies, Finds, IsAnswered, IsTurn, IsWritten, Stops, behind, letters_in}
+use Rattle.dip_runs.specs.Runs.{AnswersFront, AreReplies, Finds, IsAnswered, IsTurn, IsWritten, Stops, StopsAt, TakesNext, behind, letters_in}
 use Rattle.dip_runs.specs.declared.run.RunFault.{RunFault}
 use Rattle.dip_runs.specs.declared.run.RunFault.TheVariants.{Read, TooLong, Write, Memory, Keep}
 
@@ -113,6 +114,20 @@ stops_before m fault input old mid new replies rest a b kind front written same 
     record { replies = replies; rest = rest; front = front_same m input old mid new replies rest front same; written = go fault kind }
   where
     go : (f : RunFault) → IsTakingFault f → IsWritten f a b replies
+    go Memory k = written
+    go (Keep g) k = written
+    go Write k = absurd k
+    go Read k = absurd k
+    go TooLong k = absurd k
+
+-- a run that stopped between two letters, over a keeper that was open
+pub stopped_before : {K : Type 0} (m : Chart) (b : Book K) (fault : RunFault) (input : List ℕ) (first new : K) (mid : State) (replies : List Reply) (rest : List ℕ) (a c : Option (List ℕ))
+    → IsTakingFault fault → AnswersFront m input (b.content m first) mid replies rest → Appends a c (flat_map reply_text replies)
+    → Ends m b first new mid (TakesNext m rest mid) → StopsAt m b fault input first new a c
+stopped_before m b fault input first new mid replies rest a c kind front written ends =
+    record { state = mid; stops = record { replies = replies; rest = rest; front = front; written = go fault kind }; ends = ends }
+  where
+    go : (f : RunFault) → IsTakingFault f → IsWritten f a c replies
     go Memory k = written
     go (Keep g) k = written
     go Write k = absurd k

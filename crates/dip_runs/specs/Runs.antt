@@ -4,6 +4,7 @@ use Rattle.std.specs.List.{flat_map}
 use Rattle.std.specs.Io.KnownBytes.{Appends}
 use Rattle.dip_letters.specs.Input.{IsNext}
 use Rattle.dip_machine.specs.Mail.{Mail, mail}
+use Rattle.dip_desk.specs.Keeping.{Book, Ends}
 use Rattle.dip_desk.specs.Running.{Answers}
 use Rattle.dip_letters.specs.declared.letters.Next.{Next}
 use Rattle.dip_letters.specs.declared.letters.Next.TheVariants.{Taken, Fault, End}
@@ -89,9 +90,27 @@ IsWritten Write before after replies = (others : List Reply) × (last : Reply) �
     × Appends before after (flat_map reply_text others ++ take size (reply_text last))
 IsWritten _ before after replies = Appends before after (flat_map reply_text replies)
 
+-- a letter is taken by a step
+abbrev pub IsTakenBy : Chart → State → Next → State → Type 0
+IsTakenBy m old (Taken l rest) new = (reply : Reply) × Step m old (mail l) reply new
+IsTakenBy m old (Fault fault rest) new = ⊥
+IsTakenBy m old End new = ⊥
+
+-- what stands next in the input is a letter, and is taken by a step
+abbrev pub TakesNext : Chart → List ℕ → State → State → Type 0
+TakesNext m input old new = (next : Next) × IsNext input next × IsTakenBy m old next new
+
 -- a front of the input was answered, up to a fault
 pub record Stops (m : Chart) (fault : RunFault) (input : List ℕ) (old new : State) (before after : Option (List ℕ)) : Type 0 where
   pub replies : List Reply
   pub rest : List ℕ
   pub front : AnswersFront m input old new replies rest
   pub written : IsWritten fault before after replies
+
+-- the same over a keeper that was open: the state behind the letters so answered is what the keeper has and a crash leaves, or that
+-- behind the next letter too
+pub record StopsAt {K : Type 0} (m : Chart) (b : Book K) (fault : RunFault) (input : List ℕ) (old new : K) (before after : Option (List ℕ))
+    : Type 0 where
+  pub state : State
+  pub stops : Stops m fault input (b.content m old) state before after
+  pub ends : Ends m b old new state (TakesNext m stops.rest state)

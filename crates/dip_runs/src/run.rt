@@ -1,13 +1,14 @@
 //! A run over a reader and a writer: letters in, replies out.
-ghost use Rattle.std.specs.Prelude.{◌≡◌, ◌<◌, ◌⊎◌, ℕ, List, IfOk, IfErr, IfSome, IfNone, OnOk, OnErr, IsErrOf, length, take as first};
+ghost use Rattle.std.specs.Prelude.{◌≡◌, ◌<◌, ◌≤◌, ◌⊎◌, ℕ, List, IfOk, IfErr, IfSome, IfNone, OnOk, OnErr, IsErrOf, length, take as first};
 ghost use Rattle.std.specs.List.{flat_map};
 ghost use Rattle.std.specs.Io.KnownBytes.{Appends};
 ghost use Rattle.dip_letters.specs.Input.{IsNext};
+ghost use Rattle.dip_desk.specs.Keeping.{Ends, IsOpen};
 ghost use Rattle.dip_machine.specs.Lawful.{IsLawful};
 ghost use Rattle.dip_reports.specs.Texts.{reply_text};
 ghost use Rattle.dip_records.specs.Rows as rows;
 ghost use Rattle.dip_runs.specs.Names.{run_name};
-ghost use Rattle.dip_runs.specs.Runs.{AnswersAll, IsReadToEnd, IsReadWhole, IsTurn, IsUntouched, Stops};
+ghost use Rattle.dip_runs.specs.Runs.{AnswersAll, IsReadToEnd, IsReadWhole, IsTurn, IsUntouched, Stops, StopsAt, TakesNext};
 ghost use Rattle.dip_runs.specs.RunFaults.{IsAnsweringFault, IsReadingFault, IsTakingFault, StopsBy, faults_after_run};
 
 use crate::reading::{ReadFault, read_whole};
@@ -161,6 +162,13 @@ fn step<'a, K: Keeper>(
     ensures never { K.book.sound map.now keeper.old → K.book.shows keeper.new
         → IsLawful map.now (K.book.content map.now keeper.old)
         → IsErrOf result (RunFault.Keep KeepFault.Damaged) → ⊥ }
+    ensures goes { IsOpen map.now K.book keeper.old → K.book.honest keeper.new
+        → OnOk result (IsOpen map.now K.book keeper.new) }
+    ensures ends { IsOpen map.now K.book keeper.old → K.book.honest keeper.new → OnErr result
+        (Ends map.now K.book keeper.old keeper.new (K.book.content map.now keeper.old)
+        (TakesNext map.now input.entry.now (K.book.content map.now keeper.old))) }
+    ensures fair { K.book.honest keeper.new → K.book.honest keeper.old }
+    ensures told { K.book.told keeper.old ≤ K.book.told keeper.new }
     ensures none { IfOk result
         (λ o. IfNone o (IsNext input.entry.now Next.End × (keeper.new ≡ keeper.old))) }
     ensures fault { IfErr result IsTakingFault }
@@ -203,6 +211,11 @@ fn answer_all<W: Write, K: Keeper>(
     ensures never { K.book.sound map.now keeper.old → K.book.shows keeper.new
         → IsLawful map.now (K.book.content map.now keeper.old)
         → IsErrOf result (RunFault.Keep KeepFault.Damaged) → ⊥ }
+    ensures goes { IsOpen map.now K.book keeper.old → K.book.honest keeper.new
+        → OnOk result (IsOpen map.now K.book keeper.new) }
+    ensures ends { IsOpen map.now K.book keeper.old → K.book.honest keeper.new
+        → IfErr result (λ f. StopsAt map.now K.book f input.now keeper.old keeper.new
+        (W.contents writer.old) (W.contents writer.new)) }
     ensures fault { IfErr result IsAnsweringFault }
     ensures count { K.book.faults keeper.new ≡ faults_after_run result (K.book.faults keeper.old) }
     ensures shown { K.book.shows keeper.new → K.book.shows keeper.old }
@@ -246,6 +259,15 @@ pub fn run_file<R: Read, W: Write, K: Keeper>(
         ((input : List ℕ) × IsReadWhole (R.remaining reader.old) (R.remaining reader.new) input
         × Stops map.now f input (K.book.content map.now keeper.old)
         (K.book.content map.now keeper.new) (W.contents writer.old) (W.contents writer.new))) }
+    ensures goes { IsOpen map.now K.book keeper.old → K.book.honest keeper.new
+        → OnOk result (IsOpen map.now K.book keeper.new) }
+    ensures ends { IsOpen map.now K.book keeper.old → K.book.honest keeper.new
+        → IfErr result
+        (λ f. IsUntouched (W.contents writer.old) (W.contents writer.new) keeper.old keeper.new
+        ⊎
+        ((input : List ℕ) × IsReadWhole (R.remaining reader.old) (R.remaining reader.new) input
+        × StopsAt map.now K.book f input keeper.old keeper.new (W.contents writer.old)
+        (W.contents writer.new))) }
     // From a lawful content on, as an empty desk is, Damaged is never told.
     ensures never { K.book.sound map.now keeper.old → K.book.shows keeper.new
         → IsLawful map.now (K.book.content map.now keeper.old)

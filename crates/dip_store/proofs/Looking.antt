@@ -47,6 +47,7 @@ module _ {S : Type 0} (g : Ghosts S) (m : Chart) (k : SqlKeeper S) (c : Held S) 
       sound = sound_on (went X E x) p;
       firm = λ kept clean. sound_on (went X E x) p kept (p.ok kept.0 clean);
       stays_open = λ kept clean shows. p.ok kept.0 clean;
+      shuts = p.closes;
     };
     value = λ kept shows. value kept.0 kept.1 shows.0;
     damaged = λ kept shows is. absurd (cc);
@@ -67,6 +68,7 @@ module _ {S : Type 0} (g : Ghosts S) (m : Chart) (k : SqlKeeper S) (c : Held S) 
       sound = sound_on (fails Y E e) p;
       firm = λ kept clean. tt;
       stays_open = λ kept clean shows. tt;
+      shuts = p.closes;
     };
     value = λ kept shows. tt;
     damaged = λ kept shows is. let same : f ≡ Damaged = cc in never kept shows same;

@@ -1,5 +1,5 @@
 -- A change of the rows is the change of their keeper.
-use Rattle.std.proofs.Common.{◌≡◌, arith, inl, inr, ◌+◌, ℕ, refl, sym, ap, subst, ◌∙◌}
+use Rattle.std.proofs.Common.{◌≡◌, IsTrue, arith, inl, inr, ◌+◌, ℕ, refl, sym, ap, subst, ◌∙◌}
 use Rattle.sqlite.specs.Effect.{Database}
 use Rattle.sqlite.specs.Tree.{Trees}
 use Rattle.sqlite.specs.Store.{Ghosts}
@@ -33,6 +33,10 @@ use Rattle.dip_store.specs.declared.keeper.SqlKeeper.{SqlKeeper}
 use Rattle.dip_store.proofs.Outside.{make_outside}
 
 module _ {S : Type 0} (g : Ghosts S) (m : Chart) (k : SqlKeeper S) (c : Change) where
+  -- while a store is open, a crash leaves its last commit
+  abbrev Settled : Type 0
+  Settled = (s : S) (db : Trees) → IsTrue (g.view s).is_open → g.recovers s db → db ≡ (g.view s).committed
+
   abbrev Keeps : Type 0
   Keeps = IsKept g k.conn × AreOurs m (tables_in g k.conn)
 
@@ -72,10 +76,12 @@ module _ {S : Type 0} (g : Ghosts S) (m : Chart) (k : SqlKeeper S) (c : Change) 
         sound = sound;
         firm = λ kept clean. sound kept (p.ok kept.0 clean);
         stays_open = λ kept clean shows. p.ok kept.0 clean;
+        shuts = p.closes;
       };
       done = λ kept shows. let is = p.done kept.0 shows in said kept is.0.good is.1;
       undone = λ kept shows. tt;
       fitting = λ kept shows fit is. absurd (cc);
+      settles = λ kept clean shows alone s may. may.2 ∙ ap (said_by m) (p.kept kept.0 clean may.0 may.1);
       kept = λ kept clean s may. may.2 ∙ ap (said_by m) (p.kept kept.0 clean may.0 may.1);
       left = λ kept clean. tt;
     }
@@ -85,10 +91,10 @@ module _ {S : Type 0} (g : Ghosts S) (m : Chart) (k : SqlKeeper S) (c : Change) 
             let is = p.done kept.0 shows in
             (stays kept.0 shows, ours kept texts stay (place kept.0 shows) is.0.good is.1)
 
-    changes_told : (X Y E : Type 0) (e : E) (f : KeepFault) (n : ℕ) → Makes g (changing m c) k.conn new (fails Y E e) → n ≡ faults_with f k.failures
+    changes_told : (X Y E : Type 0) (e : E) (f : KeepFault) (n : ℕ) → Settled → Makes g (changing m c) k.conn new (fails Y E e) → n ≡ faults_with f k.failures
         → (Keeps → does_show g new → Fits m c (said_by m (state g k.conn).now.trees) → f ≡ Damaged → ⊥)
         → Changes m (book g) k (record k { conn = new; failures = n }) (state_after c) (Fits m c) (fails X KeepFault f)
-    changes_told X Y E e f n p count never = record {
+    changes_told X Y E e f n settled p count never = record {
       keeps = record {
         count = count;
         told = p.counts;
@@ -97,10 +103,12 @@ module _ {S : Type 0} (g : Ghosts S) (m : Chart) (k : SqlKeeper S) (c : Change) 
         sound = λ kept shows. let is = p.undone kept.0 shows in (is.0, subst (λ (d : Database). AreOurs m (tables_of d.trees)) (sym is.1) kept.1);
         firm = λ kept clean. tt;
         stays_open = λ kept clean shows. tt;
+        shuts = p.closes;
       };
       done = λ kept shows. tt;
       undone = λ kept shows. ap (λ (d : Database). said_by m d.trees) (p.undone kept.0 shows).1;
       fitting = λ kept shows fit is. let same : f ≡ Damaged = cc in never kept shows fit same;
+      settles = λ kept clean shows alone s may. may.2 ∙ ap (said_by m) (settled new.store may.0 shows.1 may.1 ∙ ap (λ (d : Database). d.trees) (sym (p.undone kept.0 shows).0.settled));
       kept = λ kept clean. tt;
       left = λ kept clean s may. elim (p.left kept.0 clean may.0 may.1) [
         | inl before ↦ inl (may.0, before, may.2)
@@ -108,18 +116,18 @@ module _ {S : Type 0} (g : Ghosts S) (m : Chart) (k : SqlKeeper S) (c : Change) 
       ];
     }
 
-    changes_counted : (X Y E : Type 0) (e : E) (f : KeepFault) → Makes g (changing m c) k.conn new (fails Y E e)
+    changes_counted : (X Y E : Type 0) (e : E) (f : KeepFault) → Settled → Makes g (changing m c) k.conn new (fails Y E e)
         → (Keeps → does_show g new → Fits m c (said_by m (state g k.conn).now.trees) → f ≡ Damaged → ⊥)
         → Changes m (book g) k (telling f (record k { conn = new })) (state_after c) (Fits m c) (fails X KeepFault f)
-    changes_counted X Y E e Memory p never = changes_told X Y E e Memory k.failures p refl never
-    changes_counted X Y E e Disk p never = changes_told X Y E e Disk (k.failures + 1) p refl never
-    changes_counted X Y E e Damaged p never = changes_told X Y E e Damaged k.failures p refl never
+    changes_counted X Y E e Memory settled p never = changes_told X Y E e Memory k.failures settled p refl never
+    changes_counted X Y E e Disk settled p never = changes_told X Y E e Disk (k.failures + 1) settled p refl never
+    changes_counted X Y E e Damaged settled p never = changes_told X Y E e Damaged k.failures settled p refl never
 
     -- a change that fits isn't made for want alone
-    pub changes_ill : (X Y : Type 0) (e : MakeFault) → WhatFitsFindsPlace m → Makes g (changing m c) k.conn new (fails Y MakeFault e)
+    pub changes_ill : (X Y : Type 0) (e : MakeFault) → Settled → WhatFitsFindsPlace m → Makes g (changing m c) k.conn new (fails Y MakeFault e)
         → (IsKept g k.conn → does_show g k.conn → is_honest g new → MayMake m c (tables_in g k.conn) → FailsFor (has_faulted g k.conn new) (HasPlace m c (tables_in g k.conn) → ⊥) e)
         → Changes m (book g) k (telling (make_fault e) (record k { conn = new })) (state_after c) (Fits m c) (fails X KeepFault (make_fault e))
-    changes_ill X Y e finds p why = changes_counted X Y MakeFault e (make_fault e) p (λ kept shows fit.
+    changes_ill X Y e settled finds p why = changes_counted X Y MakeFault e (make_fault e) settled p (λ kept shows fit.
         let place = placed kept fit in
         make_outside (has_faulted g k.conn new) (HasPlace m c (tables_in g k.conn) → ⊥) e (why kept.0 (p.shown shows) shows.0 (record { ours = kept.1; keyed = place.keyed })) (λ none. none (record { paper = place.paper; room = place.room })))
       where
@@ -137,10 +145,12 @@ module _ {S : Type 0} (g : Ghosts S) (m : Chart) (k : SqlKeeper S) (c : Change) 
       sound = λ kept shows. kept;
       firm = λ kept clean. tt;
       stays_open = λ kept clean shows. tt;
+      shuts = λ clean shows. inl shows;
     };
     done = λ kept shows. tt;
     undone = λ kept shows. refl;
     fitting = λ kept shows fit is. off (writable c _ fit);
+    settles = λ kept clean shows alone. alone;
     kept = λ kept clean. tt;
     left = λ kept clean s may. inl may;
   }

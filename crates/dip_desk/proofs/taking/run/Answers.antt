@@ -1,4 +1,4 @@
-use Rattle.std.proofs.Common.{◌≡◌, ℕ, refl, [], ◌∷◌, ◌++◌, map, take, get_or, Err, arith, sym, ap, subst, ◌∙◌}
+use Rattle.std.proofs.Common.{◌≡◌, ℕ, refl, [], ◌∷◌, ◌++◌, map, take, get_or, Err, Ok, arith, sym, ap, subst, ◌∙◌}
 use Rattle.std.proofs.lemmas.List.{take_all, take-map}
 use Rattle.dip_machine.specs.Faults.{faults_with}
 use Rattle.dip_machine.specs.Lawful.{IsLawful}
@@ -9,6 +9,7 @@ use Rattle.dip_machine.specs.State.{State}
 use Rattle.dip_machine.specs.declared.faults.KeepFault.{KeepFault}
 use Rattle.dip_records.specs.Rows as rows
 use Rattle.dip_desk.proofs.Keepings.{keeps_as, keeps_then}
+use Rattle.dip_desk.proofs.Ending.{ends_late, ends_open, said_at, steps_end, steps_on}
 use Rattle.dip_machine.proofs.Histories.{contains_said, history_more, map_more, said_each, taken_more}
 use Rattle.dip_machine.proofs.Publishing.{fair}
 use Rattle.dip_desk.proofs.taking.run.Goals as goal
@@ -29,6 +30,7 @@ loop-letter-preserved g c =
           let before = took.keeps.shown shows in
           let more = history_more m (b.content m c.args.keeper.now) (b.content m c.loop-letter.keeper) (b.content m c.take.new.keeper) _ _ _ (rows.reply c.in-Ok-take.reply) (c.loop-letter.invariant.steps sound before) (took.done (c.loop-letter.invariant.keeps.sound sound before) shows) in
           (more.0, record { run = more.1.run; asked = more.1.asked ∙ sym (taken_more (λ x. mail x) c.args.letters.now c.loop-letter.letter-index _ (omega arith)); answered = more.1.answered ∙ sym replies });
+      goes = λ it honest. (steps_on m b c.loop-letter.keeper c.take.new.keeper (λ r. rows.reply r) _ _ (Ok c.in-Ok-take.reply) took (c.loop-letter.invariant.goes it (took.keeps.fair honest)) honest).0;
       lawful = λ sound shows lawful.
           let before = took.keeps.shown shows in
           c.lawful_states_stay_lawful.ensures.stays _ (mail (get_or c.args.letters.now c.loop-letter.letter-index _)) _ _
@@ -49,7 +51,8 @@ returns-in-Err g c =
       never = λ sound shows lawful bad. absurd (cc);
       lawful = λ sound shows lawful. lawful;
       count = refl;
-      stays_open = λ sound honest shows. tt;
+      stays_open = λ it honest. tt;
+      ends = λ it honest. (0, b.content m c.args.keeper.now, ([], record { run = refl; asked = refl; answered = sym none }, fair m (c.published_movements_are_decided.ensures m) (b.content m c.args.keeper.now) (b.content m c.args.keeper.now) [] refl), ends_open m b c.args.keeper.now c.args.keeper.now _ it);
     }
 
 pub returns-in-Err-take : goal.returns-in-Err-take
@@ -87,7 +90,21 @@ returns-in-Err-take g c =
           let before = took.keeps.shown shows in
           subst (IsLawful m) (sym (took.undone (kept.sound sound before) shows)) (c.loop-letter.invariant.lawful sound before lawful);
       count = took.keeps.count ∙ ap (faults_with c.in-Err-take.fault) kept.count;
-      stays_open = λ sound honest shows. tt;
+      stays_open = λ it honest. tt;
+      ends = λ it honest.
+          let on = c.loop-letter.invariant.goes it (took.keeps.fair honest) in
+          let steps = c.loop-letter.invariant.steps it.sound on.shows in (
+            c.loop-letter.letter-index,
+            b.content m c.loop-letter.keeper,
+            (
+              steps.0,
+              record { run = steps.1.run; asked = steps.1.asked ∙ sym (take-map (λ l. mail l) c.loop-letter.letter-index c.args.letters.now); answered = steps.1.answered },
+              fair m (c.published_movements_are_decided.ensures m) (b.content m c.args.keeper.now) (b.content m c.loop-letter.keeper) steps.0 steps.1.run,
+            ),
+            ends_late m b c.args.keeper.now c.loop-letter.keeper c.take.new.keeper (b.content m c.loop-letter.keeper) _ _ kept.told
+            (λ t more. (n, said_at (λ l. mail l) c.args.letters.now c.loop-letter.letter-index _ (omega arith), more.0, more.1))
+            (steps_end m b c.loop-letter.keeper c.take.new.keeper (λ r. rows.reply r) _ _ (Err c.in-Err-take.fault) took on honest),
+          );
     }
 
 pub returns : goal.returns
@@ -104,5 +121,6 @@ returns g c =
       never = λ sound shows lawful. tt;
       lawful = λ sound shows lawful. c.loop-letter.invariant.lawful sound shows lawful;
       count = c.loop-letter.invariant.keeps.count;
-      stays_open = λ sound honest shows. c.loop-letter.invariant.keeps.stays_open sound honest shows;
+      stays_open = λ it honest. c.loop-letter.invariant.goes it honest;
+      ends = λ it honest. tt;
     }

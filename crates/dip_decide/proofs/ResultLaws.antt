@@ -12,36 +12,36 @@ use Rattle.std.proofs.lemmas.Bool.{ltb-true}
 use Rattle.dip_names.specs.declared.names.Kind.{Kind}
 use Rattle.dip_names.specs.declared.names.Kind.TheVariants.{Army, Fleet}
 use Rattle.dip_names.specs.declared.names.Place.{Place}
-use Rattle.dip_board.specs.Boards.{Position, IsOf}
-use Rattle.dip_chart.specs.Charts.{Chart, may_stand, is_unit}
+use Rattle.dip_map.specs.Boards.{Position, IsOf}
+use Rattle.dip_map_chart.specs.Charts.{Chart, may_stand, is_unit}
 use Rattle.dip_orders.specs.Standing.{units_of, are_in_force}
-use Rattle.dip_decide.specs.declared.decisions.Resolution.{Resolution}
-use Rattle.dip_decide.specs.Deciding as Deciding
-use Rattle.dip_decide.specs.Deciding.Step.{Forced as Forces, Circle as Circles, Knot as Knots}
-use Rattle.dip_decide.specs.Matching.{order_at, provinces_of, supports_in, situation}
-use Rattle.dip_decide.proofs.TableLaws.{none_behind}
-use Rattle.dip_decide.proofs.FromSteps.{known_unbroken, satisfied, knot_open}
-use Rattle.dip_decide.proofs.Continuing.{give_grows}
-use Rattle.dip_decide.proofs.Counting.{open_among, fewer}
-use Rattle.dip_decide.proofs.OneAnswer.{open_one, same_self, one_answer}
-use Rattle.dip_decide.proofs.Progress.{no_more, listed_decision, arrives}
-use Rattle.dip_decide.proofs.Rises.{count_le}
-use Rattle.dip_decide.proofs.Rounds.{knotted}
+use Rattle.dip_decide_table.specs.declared.decisions.Resolution.{Resolution}
+use Rattle.dip_decide_table.specs.Deciding as Deciding
+use Rattle.dip_decide_table.specs.Deciding.Step.{Forced as Forces, Circle as Circles, Knot as Knots}
+use Rattle.dip_decide_table.specs.Matching.{order_at, provinces_of, supports_in, situation}
+use Rattle.dip_decide_table.proofs.TableLaws.{none_behind}
+use Rattle.dip_decide_table.proofs.FromSteps.{known_unbroken, satisfied, knot_open}
+use Rattle.dip_decide_table.proofs.Continuing.{give_grows}
+use Rattle.dip_decide_table.proofs.Counting.{open_among, fewer}
+use Rattle.dip_decide_table.proofs.OneAnswer.{open_one, same_self, one_answer}
+use Rattle.dip_decide_table.proofs.Progress.{no_more, listed_decision, arrives}
+use Rattle.dip_decide_table.proofs.Rises.{count_le}
+use Rattle.dip_decide_table.proofs.Rounds.{knotted}
 use Rattle.dip_decide.proofs.Situated.{situated}
 use Rattle.dip_orders.specs.declared.placed.PlacedOrder.{PlacedOrder}
-use Rattle.dip_decide.specs.declared.decisions.Decision.{Decision}
-use Rattle.dip_decide.specs.declared.decisions.Decision.TheVariants.{Move, Path, Support}
-use Rattle.dip_decide.specs.declared.decisions.Step as Written
-use Rattle.dip_decide.specs.declared.decisions.Step.TheVariants.{Forced, Circle, Knot}
-use Rattle.dip_decide.specs.Deciding.{Known, Assignment, is_among, is_broken, IsCompletion, Explains, IsCircle, IsKnot, give}
-use Rattle.dip_decide.specs.Movement.{Situation, IsSituation, is_listed, is_decided, at_first, rule, mentions, Satisfies}
-use Rattle.dip_decide.specs.Results.{is_true, breaks, are_ascending, AreInOrder, AreExplained, IsOnly, values_in, broken_in, decided_in, mentions_in, IsListing}
-use Rattle.dip_decide.specs.Steps.{moves_of, paths_of, decisions, is_unknown, steps_of, IsStarted, Advances, IsComplete}
-use Rattle.dip_decide.proofs.ChainLaws.{listed_kept}
-use Rattle.dip_decide.proofs.Giving.{among_paths, single_moves}
-use Rattle.dip_decide.proofs.RingLaws.{among_moves}
+use Rattle.dip_decide_table.specs.declared.decisions.Decision.{Decision}
+use Rattle.dip_decide_table.specs.declared.decisions.Decision.TheVariants.{Move, Path, Support}
+use Rattle.dip_decide_table.specs.declared.decisions.Step as Written
+use Rattle.dip_decide_table.specs.declared.decisions.Step.TheVariants.{Forced, Circle, Knot}
+use Rattle.dip_decide_table.specs.Deciding.{Known, Assignment, is_among, is_broken, IsCompletion, Explains, IsCircle, IsKnot, give}
+use Rattle.dip_decide_table.specs.Movement.{Situation, IsSituation, is_listed, is_decided, at_first, rule, mentions, Satisfies}
+use Rattle.dip_decide_table.specs.Results.{is_true, breaks, are_ascending, AreInOrder, AreExplained, IsOnly, values_in, broken_in, decided_in, mentions_in, IsListing}
+use Rattle.dip_decide_table.specs.Steps.{moves_of, paths_of, decisions, is_unknown, steps_of, IsStarted, Advances, IsComplete}
+use Rattle.dip_decide_table.proofs.ChainLaws.{listed_kept}
+use Rattle.dip_decide_table.proofs.Giving.{among_paths, single_moves}
+use Rattle.dip_decide_table.proofs.RingLaws.{among_moves}
 use Rattle.dip_decide.proofs.Tested.{bounded}
-use Rattle.dip_chart.specs.Charts.{are_provs_single}
+use Rattle.dip_map_chart.specs.Charts.{are_provs_single}
 
 pub broken_any : (steps : List Written.Step) (p : ℕ) → is_broken (steps_of steps) (Path p) ≡ list_any (λ s. breaks s p) steps
 broken_any [] p = refl

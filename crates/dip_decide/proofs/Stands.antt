@@ -3,19 +3,19 @@ use Rattle.std.proofs.Common.{◌≡◌, ℕ, List, [], ◌∷◌, refl, inl, in
 use Rattle.std.specs.Prelude.{true, false, None}
 use Rattle.std.proofs.lemmas.Bool.{cases_Bool, both_ways, and_parts, and_from, not-true}
 use mathlib.Core.Logic.{◌⊎◌}
-use Rattle.dip_decide.specs.declared.decisions.Decision.{Decision}
-use Rattle.dip_decide.specs.declared.decisions.Decision.TheVariants.{Path}
-use Rattle.dip_decide.specs.Deciding.{is_among, Assignment, Known, IsKnotted, Step, give, Explains, is_broken}
-use Rattle.dip_decide.specs.Deciding.Step.{Forced, Circle, Knot}
-use Rattle.dip_decide.specs.Laws.{IsChain, AreJoined, is_undisturbed}
-use Rattle.dip_decide.specs.Movement.{Situation, IsSituation, goes, is_entered, serves, rule, mentions, at_first}
-use Rattle.dip_decide.specs.Results.{AreExplained}
-use Rattle.dip_decide.specs.Steps.{IsStarted, NoneForced}
-use Rattle.dip_decide.proofs.Chaining.{chain_found}
-use Rattle.dip_decide.proofs.FromSteps.{knot_open}
-use Rattle.dip_decide.proofs.Progress.{is_at_is, arrives}
-use Rattle.dip_decide.proofs.Rises.{any_le}
-use Rattle.dip_decide.proofs.Rounds.{NoCircle, knotted}
+use Rattle.dip_decide_table.specs.declared.decisions.Decision.{Decision}
+use Rattle.dip_decide_table.specs.declared.decisions.Decision.TheVariants.{Path}
+use Rattle.dip_decide_table.specs.Deciding.{is_among, Assignment, Known, IsKnotted, Step, give, Explains, is_broken}
+use Rattle.dip_decide_table.specs.Deciding.Step.{Forced, Circle, Knot}
+use Rattle.dip_decide_table.specs.Laws.{IsChain, AreJoined, is_undisturbed}
+use Rattle.dip_decide_table.specs.Movement.{Situation, IsSituation, goes, is_entered, serves, rule, mentions, at_first}
+use Rattle.dip_decide_table.specs.Results.{AreExplained}
+use Rattle.dip_decide_table.specs.Steps.{IsStarted, NoneForced}
+use Rattle.dip_decide_table.proofs.Chaining.{chain_found}
+use Rattle.dip_decide_table.proofs.FromSteps.{knot_open}
+use Rattle.dip_decide_table.proofs.Progress.{is_at_is, arrives}
+use Rattle.dip_decide_table.proofs.Rises.{any_le}
+use Rattle.dip_decide_table.proofs.Rounds.{NoCircle, knotted}
 
 -- an undisturbed fleet serves, whatever is decided
 serves_always : (s : Situation) (a : Assignment) (p x : ℕ) → is_undisturbed s p x ≡ true → serves s a p x ≡ true

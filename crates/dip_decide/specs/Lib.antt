@@ -1,16 +1,4 @@
-pub mod Deciding
-pub mod Movement
-pub mod Matching
-pub mod Chains
-pub mod Placed
-pub mod Given
-pub mod Corners
-pub mod Steps
-pub mod Rings
-pub mod Results
-pub mod Laws
 pub mod Statements
 pub mod Working
 pub mod Worklist
 pub mod Waking
-pub mod Marks

@@ -1,18 +1,18 @@
 -- The laws of movement, as statements.
 use Rattle.std.specs.Prelude.{◌≡◌, ◌↔◌, ℕ, Bool, true, false, List, ◌∷◌, None, suc, length}
 use mathlib.Core.Logic.{◌⊎◌}
-use Rattle.dip_board.specs.Boards.{Position}
-use Rattle.dip_chart.specs.Charts.{Chart}
+use Rattle.dip_map.specs.Boards.{Position}
+use Rattle.dip_map_chart.specs.Charts.{Chart}
 use Rattle.dip_orders.specs.declared.placed.PlacedOrder.{PlacedOrder}
-use Rattle.dip_decide.specs.declared.decisions.Decision.{Decision}
-use Rattle.dip_decide.specs.declared.decisions.Decision.TheVariants.{Move, Path}
-use Rattle.dip_decide.specs.Deciding.{Assignment, Known, Step, IsForced, IsCircle, IsOpenPath, IsKnotted, Stands, after, is_broken}
-use Rattle.dip_decide.specs.Corners.{rises, corner}
-use Rattle.dip_decide.specs.Laws.{AreOrders, IsCycle, IsChain, is_undisturbed}
-use Rattle.dip_decide.specs.Matching.{situation}
-use Rattle.dip_decide.specs.Movement.{Situation, IsSituation, Satisfies, OneEnters, NoneDislodgesItsOwn, NoneSwaps, goes, is_listed, joins, rule, mentions}
-use Rattle.dip_decide.specs.Results.{AreExplained}
-use Rattle.dip_decide.specs.Steps.{IsStarted, NoneForced}
+use Rattle.dip_decide_table.specs.declared.decisions.Decision.{Decision}
+use Rattle.dip_decide_table.specs.declared.decisions.Decision.TheVariants.{Move, Path}
+use Rattle.dip_decide_table.specs.Deciding.{Assignment, Known, Step, IsForced, IsCircle, IsOpenPath, IsKnotted, Stands, after, is_broken}
+use Rattle.dip_decide_table.specs.Corners.{rises, corner}
+use Rattle.dip_decide_table.specs.Laws.{AreOrders, IsCycle, IsChain, is_undisturbed}
+use Rattle.dip_decide_table.specs.Matching.{situation}
+use Rattle.dip_decide_table.specs.Movement.{Situation, IsSituation, Satisfies, OneEnters, NoneDislodgesItsOwn, NoneSwaps, goes, is_listed, joins, rule, mentions}
+use Rattle.dip_decide_table.specs.Results.{AreExplained}
+use Rattle.dip_decide_table.specs.Steps.{IsStarted, NoneForced}
 
 -- each board with one order for each unit is a situation
 abbrev pub BoardsAreSituations : Type 0

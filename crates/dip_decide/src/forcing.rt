@@ -1,13 +1,9 @@
 //! The value to which a decision is forced.
 ghost use Rattle.std.specs.Prelude.{◌≡◌, None, IfOk};
-ghost use Rattle.dip_decide.specs.Given.{situation_of, known_of, IsAnswer};
-ghost use Rattle.dip_decide.specs.Movement.{rule, IsSituation};
+ghost use Rattle.dip_decide_table.specs.Given.{situation_of, known_of, IsAnswer};
+ghost use Rattle.dip_decide_table.specs.Movement.{rule, IsSituation};
 
-use crate::corners::Corner;
-use crate::decisions::Decision;
-use crate::placed::Table;
-use crate::room::Room;
-use crate::values::Values;
+use dip_decide_table::{Corner, Decision, Room, Table, Values};
 use std::alloc::AllocError;
 
 /// The value to which an open decision is forced: true where it is so at the least, false where it is so at the most.

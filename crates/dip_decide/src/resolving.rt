@@ -1,25 +1,22 @@
 //! A movement as a whole: from the orders to the resolution.
 ghost use Rattle.std.specs.Prelude.{◌≡◌, ◌≤◌, ◌+◌, IfOk, length, filter, Some, true, false};
 ghost use Rattle.std.specs.List.{list_any, slice_set};
-ghost use Rattle.dip_chart.specs.Charts.{provs};
-ghost use Rattle.dip_board.specs.Boards.{IsOf};
+ghost use Rattle.dip_map_chart.specs.Charts.{provs};
+ghost use Rattle.dip_map.specs.Boards.{IsOf};
 ghost use Rattle.dip_orders.specs.Standing.{units_of};
-ghost use Rattle.dip_decide.specs.declared.decisions.Decision.{Decision as ADecision};
-ghost use Rattle.dip_decide.specs.Deciding.{is_broken};
-ghost use Rattle.dip_decide.specs.Given.{known_of};
-ghost use Rattle.dip_decide.specs.Matching.{situation};
-ghost use Rattle.dip_decide.specs.Movement.{Satisfies};
-ghost use Rattle.dip_decide.specs.Results.{values_in, broken_in, AreExplained, IsOnly, AreInOrder, decided_in, forced_in, mentions_in, is_true, trues, breaks, is_knot, IsListing};
-ghost use Rattle.dip_decide.specs.Steps.{steps_of};
-ghost use Rattle.dip_decide.specs.Marks.{with_all, with_broken};
+ghost use Rattle.dip_decide_table.specs.declared.decisions.Decision.{Decision as ADecision};
+ghost use Rattle.dip_decide_table.specs.Deciding.{is_broken};
+ghost use Rattle.dip_decide_table.specs.Given.{known_of};
+ghost use Rattle.dip_decide_table.specs.Matching.{situation};
+ghost use Rattle.dip_decide_table.specs.Movement.{Satisfies};
+ghost use Rattle.dip_decide_table.specs.Results.{values_in, broken_in, AreExplained, IsOnly, AreInOrder, decided_in, forced_in, mentions_in, is_true, trues, breaks, is_knot, IsListing};
+ghost use Rattle.dip_decide_table.specs.Steps.{steps_of};
+ghost use Rattle.dip_decide_table.specs.Marks.{with_all, with_broken};
 
-use crate::decisions::{Resolution, Step};
 use crate::starting::values_at_start;
-use crate::table::table_of;
 use crate::turns::explain;
-use crate::values::{Values, all_false, value_at};
-use dip_board::Board;
-use dip_map::Map;
+use dip_decide_table::{Resolution, Step, Values, all_false, table_of, value_at};
+use dip_map::{Board, Map};
 use dip_names::Prov;
 use dip_orders::Orders;
 use std::alloc::{AllocError, Global};

@@ -1,19 +1,15 @@
 //! The test of one decision, with values of one's own.
 ghost use Rattle.std.specs.Prelude.{◌≡◌, ◌+◌, ◌<◌, ◌^◌, None, IfOk};
-ghost use Rattle.dip_board.specs.Boards.{IsOf};
+ghost use Rattle.dip_map.specs.Boards.{IsOf};
 ghost use Rattle.dip_orders.specs.Standing.{units_of};
-ghost use Rattle.dip_decide.specs.Given.{known_of, IsAnswer};
-ghost use Rattle.dip_decide.specs.Matching.{situation};
-ghost use Rattle.dip_decide.specs.Movement.{at_first, rule};
+ghost use Rattle.dip_decide_table.specs.Given.{known_of, IsAnswer};
+ghost use Rattle.dip_decide_table.specs.Matching.{situation};
+ghost use Rattle.dip_decide_table.specs.Movement.{at_first, rule};
 
-use crate::decisions::Decision;
 use crate::forcing;
-use crate::room::Room;
 use crate::starting::values_at_start;
-use crate::table::table_of;
-use crate::values::Values;
-use dip_board::Board;
-use dip_map::Map;
+use dip_decide_table::{Decision, Room, Values, table_of};
+use dip_map::{Board, Map};
 use dip_orders::Orders;
 use std::alloc::{AllocError, Global};
 

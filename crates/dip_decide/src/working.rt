@@ -1,18 +1,15 @@
 //! The worklist: a decision is tested at first, and again when one that its equation mentions got its value.
 ghost use Rattle.std.specs.Prelude.{◌≡◌, ◌<◌, ◌+◌, ◌^◌, ◌∷◌, ◌++◌, [], IfOk, OnOk, length};
-ghost use Rattle.dip_decide.specs.Given.{situation_of, known_of};
-ghost use Rattle.dip_decide.specs.Movement.{IsSituation};
-ghost use Rattle.dip_decide.specs.Results.{decided_in, mentioners, mentions_in};
-ghost use Rattle.dip_decide.specs.Steps.{steps_of, moves_of, paths_of, supports_of, decisions, is_unknown, IsStarted};
+ghost use Rattle.dip_decide_table.specs.Given.{situation_of, known_of};
+ghost use Rattle.dip_decide_table.specs.Movement.{IsSituation};
+ghost use Rattle.dip_decide_table.specs.Results.{decided_in, mentioners, mentions_in};
+ghost use Rattle.dip_decide_table.specs.Steps.{steps_of, moves_of, paths_of, supports_of, decisions, is_unknown, IsStarted};
 ghost use Rattle.dip_decide.specs.Working.{weight, Counts, HasOpen, IsListed, IsWork, IsWorked};
 
-use crate::decisions::{Decision, Step};
 use crate::forcing::forced;
-use crate::placed::Table;
-use crate::room::Room;
-use crate::values::Values;
 use crate::waking::put;
 use crate::worklist::Worklist;
+use dip_decide_table::{Decision, Room, Step, Table, Values};
 use dip_names::Prov;
 use std::alloc::{AllocError, Global};
 

@@ -1,9 +1,9 @@
 //! The worklist: the decisions that are to be tested, each once, with a mark for each that is on it.
 ghost use Rattle.std.specs.Prelude.{◌≡◌, ◌<◌, ◌≤◌, ◌+◌, ◌∷◌, ◌++◌, ◌&&◌, [], IfNone, IfOk, IfSome, OnOk, false, length, not, replicate, take};
-ghost use Rattle.dip_decide.specs.Deciding.{is_among};
+ghost use Rattle.dip_decide_table.specs.Deciding.{is_among};
 ghost use Rattle.dip_decide.specs.Worklist.{listed_if, mark_of, unit_of};
 
-use crate::decisions::Decision;
+use dip_decide_table::Decision;
 use dip_names::Prov;
 use std::alloc::{AllocError, Global};
 use std::marker::Model;
@@ -20,7 +20,7 @@ pub(crate) struct Worklist {
 
 impl Model for Worklist {
     ghost use Rattle.std.specs.Prelude.{List, take};
-    ghost use Rattle.dip_decide.specs.declared.decisions.Decision.{Decision};
+    ghost use Rattle.dip_decide_table.specs.declared.decisions.Decision.{Decision};
     ghost use Rattle.dip_decide.specs.Worklist.{IsFilled};
 
     ghost Value = { List Decision };

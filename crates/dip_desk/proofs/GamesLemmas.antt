@@ -9,9 +9,9 @@ use Rattle.indexmap.specs.IndexMap.{insert_entry, set_value_at}
 use Rattle.indexmap.proofs.MapLemmas.{Found-position}
 use Rattle.std.proofs.lemmas.Option.{slice_get_past, slice_get_read}
 use Rattle.std.proofs.lemmas.Slice.Eq.{bytes_eq-Decides}
-use Rattle.dip_machine.specs.Keyed.{at, change_at}
-use Rattle.dip_machine.specs.State as s
-use Rattle.dip_records.specs.Rows as rows
+use Rattle.dip_desk_state.specs.Keyed.{at, change_at}
+use Rattle.dip_desk_state.specs.State as s
+use Rattle.dip_desk_state.specs.Rows as rows
 use Rattle.dip_desk.specs.Stored as stored
 use Rattle.dip_desk.specs.declared.games.GameRow.{GameRow}
 

@@ -8,24 +8,24 @@ use Rattle.dip_letters.specs.Notes.{NoticeRequest, PlayerRequest, Request, SeatN
 use Rattle.dip_letters.specs.Notes.MasterRequest.{Create, Tick, Replace, Notify}
 use Rattle.dip_letters.specs.Notes.PlayerRequest.{Press}
 use Rattle.dip_letters.specs.Notes.Request.{Player, Master}
-use Rattle.dip_chart.specs.Charts.{Chart, power_of}
-use Rattle.dip_records.specs.Records.{Item, Public, Reply}
-use Rattle.dip_machine.specs.Machine.{DecidedBy, Decides, IsDamagedBy, IsDamagedGame, IsForeign, IsDamagedSight, IsForeignTo, IsFull, IsSpoiledIn, MayBeDamaged, Sees, NoGame, ASeat, Settles, Step, after, OfMaster, OfNobody, OfSeat, Sight, Verdict, NotKnown, Again, OutOfTurn, Taken, author, author_of, change_of, digest, master_author, master_sees, master_sight, page_shown, power_author, power_sight, seat_author, seat_sight, seen_in, sight_of, verdict_by, verdict_on}
-use Rattle.dip_machine.specs.Fitting.{EffectsFit, LawfulEffectsFit}
-use Rattle.dip_machine.specs.Lawful.{IsLawfulGame}
-use Rattle.dip_machine.specs.Mail.{IsMail, Mail}
-use Rattle.dip_machine.specs.State.{Author, Effect, Game, name_of, Nobody, Nothing, Part, Pending, Votes, Delivers, Opens, Publishes, Seats, Seat, State, TheMaster, game_at, own_at, own_of, part_at, public_at, seat_at, whole_of}
-use Rattle.dip_machine.specs.Ticking.{public_played}
-use Rattle.dip_machine.specs.Writable.{IsPlainItem}
+use Rattle.dip_map_chart.specs.Charts.{Chart, power_of}
+use Rattle.dip_desk_state.specs.Records.{Item, Public, Reply}
+use Rattle.dip_desk_machine.specs.Machine.{DecidedBy, Decides, IsDamagedBy, IsDamagedGame, IsForeign, IsDamagedSight, IsForeignTo, IsFull, IsSpoiledIn, MayBeDamaged, Sees, NoGame, ASeat, Settles, Step, after, OfMaster, OfNobody, OfSeat, Sight, Verdict, NotKnown, Again, OutOfTurn, Taken, author, author_of, change_of, digest, master_author, master_sees, master_sight, page_shown, power_author, power_sight, seat_author, seat_sight, seen_in, sight_of, verdict_by, verdict_on}
+use Rattle.dip_desk_machine.specs.Fitting.{EffectsFit, LawfulEffectsFit}
+use Rattle.dip_desk_machine.specs.Lawful.{IsLawfulGame}
+use Rattle.dip_desk_machine.specs.Mail.{IsMail, Mail}
+use Rattle.dip_desk_state.specs.State.{Author, Effect, Game, name_of, Nobody, Nothing, Part, Pending, Votes, Delivers, Opens, Publishes, Seats, Seat, State, TheMaster, game_at, own_at, own_of, part_at, public_at, seat_at, whole_of}
+use Rattle.dip_desk_machine.specs.Ticking.{public_played}
+use Rattle.dip_desk_state.specs.Writable.{IsPlainItem}
 use Rattle.dip_desk.specs.Fitting.{ChangesFit, FindsPlace, Fits, FitsGame, VerdictFits}
 use Rattle.dip_desk.specs.Looked.{is_seen, public_seen, seat_by, seat_seen, whole_seen}
 use Rattle.dip_desk.specs.Stored.{is_press}
-use Rattle.dip_machine.proofs.Fitting.{readers_low}
-use Rattle.dip_machine.proofs.LawfulStates.{seats_room}
-use Rattle.dip_machine.proofs.ListLemmas.{all_at}
-use Rattle.dip_machine.proofs.Others.{seat_sent}
-use Rattle.dip_machine.proofs.Suiting.{Comes, IsPosted, decides_suits, master_posted, opens_where}
-use Rattle.dip_machine.proofs.WritableLemmas.{author_known, item_plain}
+use Rattle.dip_desk_machine.proofs.Fitting.{readers_low}
+use Rattle.dip_desk_machine.proofs.LawfulStates.{seats_room}
+use Rattle.dip_desk_machine.proofs.ListLemmas.{all_at}
+use Rattle.dip_desk_machine.proofs.Others.{seat_sent}
+use Rattle.dip_desk_machine.proofs.Suiting.{Comes, IsPosted, decides_suits, master_posted, opens_where}
+use Rattle.dip_desk_machine.proofs.WritableLemmas.{author_known, item_plain}
 
 -- a sight is the author's, and what is decided by it is what may be decided
 abbrev pub IsRight : Chart → Mail → State → Author → Sight → Type 0

@@ -1,14 +1,14 @@
 -- What a keeper may be asked to keep.
 use Rattle.std.specs.Prelude.{◌≡◌, ◌≤◌, ◌+◌, true, List, ℕ, Option, None, Some}
 use Rattle.std.specs.List.{list_all}
-use Rattle.dip_chart.specs.Charts.{Chart}
+use Rattle.dip_map_chart.specs.Charts.{Chart}
 use Rattle.dip_letters.specs.Words.{is_game}
-use Rattle.dip_machine.specs.Fitting.{FitsMap}
-use Rattle.dip_machine.specs.Machine.{Decides, Verdict, NotKnown, Again, OutOfTurn, Taken, author, change_of}
-use Rattle.dip_machine.specs.Lawful.{IsLawful}
-use Rattle.dip_machine.specs.Mail.{IsMail, Mail}
-use Rattle.dip_machine.specs.State.{Author, Change, Effect, Game, has_room, Nothing, Pending, Votes, Delivers, Opens, Publishes, Seats, State, game_at}
-use Rattle.dip_machine.specs.Writable.{IsAuthorOf}
+use Rattle.dip_desk_machine.specs.Fitting.{FitsMap}
+use Rattle.dip_desk_machine.specs.Machine.{Decides, Verdict, NotKnown, Again, OutOfTurn, Taken, author, change_of}
+use Rattle.dip_desk_machine.specs.Lawful.{IsLawful}
+use Rattle.dip_desk_machine.specs.Mail.{IsMail, Mail}
+use Rattle.dip_desk_state.specs.State.{Author, Change, Effect, Game, has_room, Nothing, Pending, Votes, Delivers, Opens, Publishes, Seats, State, game_at}
+use Rattle.dip_desk_state.specs.Writable.{IsAuthorOf}
 
 -- an effect that finds place in the game that it names: press finds room in the counts of each seat; a new game has that name, and
 -- there is none of it yet; a paper has the next number of its game

@@ -1,10 +1,10 @@
 -- What each call of a keeper keeps.
 use Rattle.std.specs.Prelude.{◌≡◌, ◌≤◌, ◌⊎◌, ◌+◌, ◌-◌, ◌^◌, min, ℕ, Result, OnOk, OnErr, IfOk, IsErrOf}
-use Rattle.dip_chart.specs.Charts.{Chart}
-use Rattle.dip_machine.specs.Faults.{faults_after}
-use Rattle.dip_machine.specs.State.{State}
-use Rattle.dip_machine.specs.declared.faults.KeepFault.{KeepFault}
-use Rattle.dip_machine.specs.declared.faults.KeepFault.TheVariants.{Damaged, Disk}
+use Rattle.dip_map_chart.specs.Charts.{Chart}
+use Rattle.dip_desk_state.specs.Faults.{faults_after}
+use Rattle.dip_desk_state.specs.State.{State}
+use Rattle.dip_desk_state.specs.declared.faults.KeepFault.{KeepFault}
+use Rattle.dip_desk_state.specs.declared.faults.KeepFault.TheVariants.{Damaged, Disk}
 
 -- what contracts see of a keeper, whose names are read by a map
 pub record Book (K : Type 0) : Type 1 where

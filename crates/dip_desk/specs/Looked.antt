@@ -1,8 +1,8 @@
 -- What a look at a game gives the master's sight.
 use Rattle.std.specs.Prelude.{ℕ, Bool, false, List, Option, None, Some, is_some}
-use Rattle.dip_machine.specs.Machine.{Sees, NoGame, AGame, ThePublic, TheWhole, ASeat}
-use Rattle.dip_machine.specs.State.{Game, State, own_at, public_at}
-use Rattle.dip_records.specs.Records.{Public, Whole}
+use Rattle.dip_desk_machine.specs.Machine.{Sees, NoGame, AGame, ThePublic, TheWhole, ASeat}
+use Rattle.dip_desk_state.specs.State.{Game, State, own_at, public_at}
+use Rattle.dip_desk_state.specs.Records.{Public, Whole}
 
 abbrev pub is_seen : Option Game → Sees
 is_seen None = NoGame

@@ -1,17 +1,17 @@
 -- What a run over letters keeps.
 use Rattle.std.specs.Prelude.{◌≡◌, ℕ, List, Contains, Result, OnOk, IfOk, IfErr, take, slice_get, Some}
-use Rattle.dip_chart.specs.Charts.{Chart}
-use Rattle.dip_records.specs.Records.{Reply}
-use Rattle.dip_machine.specs.Faults.{faults_after_run}
+use Rattle.dip_map_chart.specs.Charts.{Chart}
+use Rattle.dip_desk_state.specs.Records.{Reply}
+use Rattle.dip_desk_state.specs.Faults.{faults_after_run}
 use Rattle.dip_desk.specs.Keeping.{Book, Ends, IsOpen}
-use Rattle.dip_machine.specs.Lawful.{IsLawful}
-use Rattle.dip_machine.specs.Machine.{IsDamagedBy, Step}
-use Rattle.dip_machine.specs.Mail.{Mail}
-use Rattle.dip_machine.specs.State.{State}
-use Rattle.dip_machine.specs.Published.{IsFair}
-use Rattle.dip_machine.specs.View.{IsHistory, Turn}
-use Rattle.dip_machine.specs.declared.faults.KeepFault.{KeepFault}
-use Rattle.dip_machine.specs.declared.faults.KeepFault.TheVariants.{Damaged}
+use Rattle.dip_desk_machine.specs.Lawful.{IsLawful}
+use Rattle.dip_desk_machine.specs.Machine.{IsDamagedBy, Step}
+use Rattle.dip_desk_machine.specs.Mail.{Mail}
+use Rattle.dip_desk_state.specs.State.{State}
+use Rattle.dip_desk_machine.specs.Published.{IsFair}
+use Rattle.dip_desk_machine.specs.View.{IsHistory, Turn}
+use Rattle.dip_desk_state.specs.declared.faults.KeepFault.{KeepFault}
+use Rattle.dip_desk_state.specs.declared.faults.KeepFault.TheVariants.{Damaged}
 
 -- the replies are those of a history of the machine over the letters; each seat's view settles what it is told, and each movement that
 -- it publishes satisfies the decision equations for the orders that stood

@@ -1,10 +1,10 @@
 //! Copies of what a keeper in memory has.
 ghost use Rattle.std.specs.Prelude.{◌≡◌, IfOk, map as each, option_map};
-ghost use Rattle.dip_records.specs.Rows as rows;
+ghost use Rattle.dip_desk_state.specs.Rows as rows;
 ghost use Rattle.dip_desk.specs.Stored as stored;
 
 use crate::games::SeatRow;
-use dip_records::{Item, Kept, Own, Standing};
+use dip_desk_state::{Item, Kept, Own, Standing};
 use std::alloc::{AllocError, Global};
 use std::rc::Rc;
 

@@ -1,14 +1,14 @@
 //! Games as they lie in memory, and what is found in them.
 ghost use Rattle.std.specs.Prelude.{◌≡◌, ℕ, IfOk, bytes_eq, drop, option_and_then, option_map, string_bytes, take};
-ghost use Rattle.dip_machine.specs.Keyed.{at};
-ghost use Rattle.dip_machine.specs.State as s;
-ghost use Rattle.dip_records.specs.Rows as rows;
+ghost use Rattle.dip_desk_state.specs.Keyed.{at};
+ghost use Rattle.dip_desk_state.specs.State as s;
+ghost use Rattle.dip_desk_state.specs.Rows as rows;
 ghost use Rattle.dip_desk.specs.Stored as stored;
 
 use crate::copying::{items_shared, owns_copy};
-use dip_board::Board;
+use dip_desk_state::{Item, Own, Public, Status, Whole};
+use dip_map::Board;
 use dip_names::Power;
-use dip_records::{Item, Own, Public, Status, Whole};
 use indexmap::IndexMap;
 use std::alloc::{AllocError, Global};
 use std::rc::Rc;

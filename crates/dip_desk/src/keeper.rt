@@ -1,16 +1,15 @@
 //! What keeps the desk's state.
 ghost use Rattle.std.specs.Prelude.{◌≡◌, ◌<◌, length, option_map, string_bytes};
-ghost use Rattle.dip_chart.specs.Charts.{Chart};
+ghost use Rattle.dip_map_chart.specs.Charts.{Chart};
 ghost use Rattle.dip_desk.specs.Fitting.{Fits};
 ghost use Rattle.dip_desk.specs.Keeping.{Book, Changes, Looks};
-ghost use Rattle.dip_machine.specs.State.{items_at, own_at, paper_at, public_at, state_after, whole_at};
-ghost use Rattle.dip_machine.specs.Rows as desk_rows;
-ghost use Rattle.dip_records.specs.Rows as rows;
+ghost use Rattle.dip_desk_state.specs.State.{items_at, own_at, paper_at, public_at, state_after, whole_at};
+ghost use Rattle.dip_desk_state.specs.ChangeRows as desk_rows;
+ghost use Rattle.dip_desk_state.specs.Rows as rows;
 
-use dip_machine::{Change, Desk, KeepFault};
+use dip_desk_state::{Change, Desk, Item, KeepFault, Own, Public, Whole};
 use dip_map::Map;
 use dip_names::Power;
-use dip_records::{Item, Own, Public, Whole};
 use std::rc::Rc;
 
 /// What keeps the desk's state, however it is kept.

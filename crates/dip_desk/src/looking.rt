@@ -1,22 +1,22 @@
 //! Looking up what the author of a letter sees.
 ghost use Rattle.std.specs.Prelude.{◌≡◌, ◌<◌, Some, bytes_eq, length};
-ghost use Rattle.dip_chart.specs.Charts.{power_of};
+ghost use Rattle.dip_map_chart.specs.Charts.{power_of};
 ghost use Rattle.dip_desk.specs.Keeping.{Looks};
 ghost use Rattle.dip_desk.specs.Looked.{is_seen, public_seen, seat_is_there, seat_seen, whole_seen};
 ghost use Rattle.dip_letters.specs.Views.{request};
-ghost use Rattle.dip_machine.specs.Machine.{digest, master_sees, master_sight, page_shown, power_sight, sight_of};
-ghost use Rattle.dip_machine.specs.Mail.{mail};
-ghost use Rattle.dip_machine.specs.Rows as desk_rows;
-ghost use Rattle.dip_machine.specs.Sights as sights;
-ghost use Rattle.dip_machine.specs.State.{Part, game_at, part_at, public_at, whole_at};
-ghost use Rattle.dip_records.specs.Rows as rows;
+ghost use Rattle.dip_desk_machine.specs.Machine.{digest, master_sees, master_sight, page_shown, power_sight, sight_of};
+ghost use Rattle.dip_desk_machine.specs.Mail.{mail};
+ghost use Rattle.dip_desk_state.specs.ChangeRows as desk_rows;
+ghost use Rattle.dip_desk_machine.specs.Sights as sights;
+ghost use Rattle.dip_desk_state.specs.State.{Part, game_at, part_at, public_at, whole_at};
+ghost use Rattle.dip_desk_state.specs.Rows as rows;
 
 use crate::keeper::Keeper;
+use dip_desk_machine::{Sees, Sight, digest_of};
+use dip_desk_state::{Desk, Item, KeepFault};
 use dip_letters::{Command, Letter, MasterCommand, PlayerCommand};
-use dip_machine::{Desk, KeepFault, Sees, Sight, digest_of};
 use dip_map::Map;
 use dip_names::Power;
-use dip_records::Item;
 use std::alloc::Global;
 use std::rc::Rc;
 

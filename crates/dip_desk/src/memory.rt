@@ -1,17 +1,16 @@
 //! A keeper in memory.
 ghost use Rattle.std.specs.Prelude.{◌≡◌, [], None, IfOk, option_map};
-ghost use Rattle.dip_machine.specs.Rows as desk_rows;
-ghost use Rattle.dip_records.specs.Rows as rows;
+ghost use Rattle.dip_desk_state.specs.ChangeRows as desk_rows;
+ghost use Rattle.dip_desk_state.specs.Rows as rows;
 ghost use Rattle.dip_desk.specs.Stored as stored;
 
 use crate::copying::{kept_copy, last_copy, own_copy};
 use crate::games::{Games, find_game, find_paper, find_seat, page_of, public_of, whole_of};
 use crate::keeper::Keeper;
 use crate::recording::record_games;
-use dip_machine::{Author, Change, Desk, KeepFault};
+use dip_desk_state::{Author, Change, Desk, Item, KeepFault, Kept, Own, Public, Whole};
 use dip_map::Map;
 use dip_names::Power;
-use dip_records::{Item, Kept, Own, Public, Whole};
 use indexmap::IndexMap;
 use std::alloc::{AllocError, Global};
 use std::rc::Rc;
@@ -46,9 +45,9 @@ fn record_desk(desk: &mut Desk, last: Option<Kept>)
 }
 
 impl MemoryKeeper {
-    ghost use Rattle.dip_machine.specs.Lawful.{IsLawful};
-    ghost use Rattle.dip_machine.specs.State.{State};
-    ghost use Rattle.dip_chart.specs.Charts.{Chart};
+    ghost use Rattle.dip_desk_machine.specs.Lawful.{IsLawful};
+    ghost use Rattle.dip_desk_state.specs.State.{State};
+    ghost use Rattle.dip_map_chart.specs.Charts.{Chart};
 
     /// An empty desk whose master's secret has this digest.
     pub fn new(alloc: Global, digest: [u8; 32]) -> MemoryKeeper

@@ -1,15 +1,14 @@
 //! A new game, as it comes to lie in memory.
 ghost use Rattle.std.specs.Prelude.{◌≡◌, [], ◌∷◌, ◌++◌, ℕ, List, None, IfOk, IsErrOf, OnErr, OnOk, bytes_eq, map as each, string_bytes};
-ghost use Rattle.dip_machine.specs.Faults.{faults_after};
-ghost use Rattle.dip_machine.specs.Keyed.{at, change_at};
-ghost use Rattle.dip_machine.specs.State as s;
-ghost use Rattle.dip_machine.specs.Rows as desk_rows;
-ghost use Rattle.dip_records.specs.Rows as rows;
+ghost use Rattle.dip_desk_state.specs.Faults.{faults_after};
+ghost use Rattle.dip_desk_state.specs.Keyed.{at, change_at};
+ghost use Rattle.dip_desk_state.specs.State as s;
+ghost use Rattle.dip_desk_state.specs.ChangeRows as desk_rows;
+ghost use Rattle.dip_desk_state.specs.Rows as rows;
 ghost use Rattle.dip_desk.specs.Stored as stored;
 
 use crate::games::{GameRow, Games, SeatRow};
-use dip_machine::{KeepFault, NewSeat};
-use dip_records::{Own, Public};
+use dip_desk_state::{KeepFault, NewSeat, Own, Public};
 use std::alloc::{AllocError, Global};
 
 fn fresh(alloc: Global, seat: &NewSeat) -> SeatRow

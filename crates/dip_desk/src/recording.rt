@@ -1,21 +1,20 @@
 //! What a change makes of the games.
 ghost use Rattle.std.specs.Prelude.{◌≡◌, ◌∷◌, [], ◌++◌, ◌==◌, ℕ, List, Some, IfOk, IsErrOf, OnErr, OnOk, bytes_eq, map as each, option_map, string_bytes, true};
 ghost use Rattle.std.specs.List.{AllByRecursion, list_all, list_any};
-ghost use Rattle.dip_machine.specs.Faults.{faults_after};
+ghost use Rattle.dip_desk_state.specs.Faults.{faults_after};
 ghost use Rattle.dip_desk.specs.Fitting.{FindsPlace};
-ghost use Rattle.dip_machine.specs.State.{has_room};
-ghost use Rattle.dip_machine.specs.Keyed.{at, change_at, place};
-ghost use Rattle.dip_machine.specs.State as s;
-ghost use Rattle.dip_machine.specs.Rows as desk_rows;
-ghost use Rattle.dip_records.specs.Rows as rows;
+ghost use Rattle.dip_desk_state.specs.State.{has_room};
+ghost use Rattle.dip_desk_state.specs.Keyed.{at, change_at, place};
+ghost use Rattle.dip_desk_state.specs.State as s;
+ghost use Rattle.dip_desk_state.specs.ChangeRows as desk_rows;
+ghost use Rattle.dip_desk_state.specs.Rows as rows;
 ghost use Rattle.dip_desk.specs.Stored as stored;
 
 use crate::copying::{kept_copy, pending_copy};
 use crate::games::{GameRow, Games, SeatRow};
 use crate::opening::add_game;
-use dip_machine::{Author, Change, Effect, KeepFault};
+use dip_desk_state::{Author, Change, Effect, Item, KeepFault, Kept, Own, Public, Standing};
 use dip_names::Power;
-use dip_records::{Item, Kept, Own, Public, Standing};
 use std::alloc::{AllocError, Global};
 use std::rc::Rc;
 

@@ -2,24 +2,24 @@
 ghost use Rattle.std.specs.Prelude.{◌≡◌, ◌<◌, IfOk, None, Some, map as each, string_bytes};
 ghost use Rattle.dip_desk.specs.Fitting.{VerdictFits};
 ghost use Rattle.dip_desk.specs.Keeping.{Steps};
-ghost use Rattle.dip_machine.specs.Mail.{IsMail, mail};
+ghost use Rattle.dip_desk_machine.specs.Mail.{IsMail, mail};
 ghost use Rattle.std.specs.List.{AllByRecursion};
-ghost use Rattle.dip_machine.specs.Machine as m;
-ghost use Rattle.dip_machine.specs.Rows as desk_rows;
+ghost use Rattle.dip_desk_machine.specs.Machine as m;
+ghost use Rattle.dip_desk_state.specs.ChangeRows as desk_rows;
 ghost use Rattle.dip_desk.specs.Running.{Runs};
-ghost use Rattle.dip_machine.specs.Verdicts.{verdict};
-ghost use Rattle.dip_records.specs.Rows as rows;
+ghost use Rattle.dip_desk_machine.specs.Verdicts.{verdict};
+ghost use Rattle.dip_desk_state.specs.Rows as rows;
 ghost use Rattle.dip_reports.specs.Texts.{refusal_line};
 
 use crate::keeper::Keeper;
 use crate::looking::look;
-use dip_letters::{Letter, LetterFault, sum};
-use dip_machine::{
-    Author, Change, Effect, KeepFault, Verdict, author_of, effects_fit, lawful_states_stay_lawful,
-    published_movements_are_decided, verdict_on,
+use dip_desk_machine::{
+    Verdict, author_of, effects_fit, lawful_states_stay_lawful, published_movements_are_decided,
+    verdict_on,
 };
+use dip_desk_state::{Author, Change, Effect, Head, KeepFault, Kept, Outcome, Reply};
+use dip_letters::{Letter, LetterFault, sum};
 use dip_map::Map;
-use dip_records::{Head, Kept, Outcome, Reply};
 use dip_reports::{Refusal, refusal_line};
 use std::alloc::{AllocError, Global};
 use std::rc::Rc;

@@ -2,9 +2,9 @@
 use crate::exchanges::{check_exchange, next_taken};
 use crate::mismatch::Mismatch;
 use dip_desk::{Keeper, MemoryKeeper, take};
+use dip_desk_state::Reply;
 use dip_letters::digest;
 use dip_map::Map;
-use dip_records::Reply;
 use std::alloc::Global;
 
 /// The letter CREATE, and its reply.

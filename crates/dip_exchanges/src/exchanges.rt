@@ -1,14 +1,13 @@
 //! Exchanges: what is sent and asked for, and behind `< ` what is told.
 ghost use Rattle.std.specs.Prelude.{IfSome};
-ghost use Rattle.dip_machine.specs.Mail.{IsMail, mail};
+ghost use Rattle.dip_desk_machine.specs.Mail.{IsMail, mail};
 
 use crate::lines::{push_line, replies_of};
 use crate::mismatch::Mismatch;
 use dip_desk::{Keeper, fault_reply, take};
+use dip_desk_state::{KeepFault, Reply};
 use dip_letters::{Letter, Next, next_letter};
-use dip_machine::KeepFault;
 use dip_map::Map;
-use dip_records::Reply;
 use dip_reports::reply_text;
 use std::alloc::Global;
 

@@ -1,5 +1,5 @@
 //! What isn't as a test says.
-use dip_machine::KeepFault;
+use dip_desk_state::KeepFault;
 use dip_names::MapFault;
 use dip_store::StoreFault;
 use std::alloc::AllocError;

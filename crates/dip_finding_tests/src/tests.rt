@@ -1,10 +1,10 @@
 //! A game written in memory and found again. The helpers have no clause but one, so that no test's proof carries the state of a call.
 ghost use Rattle.std.specs.Prelude.{◌<◌, ◌^◌, IfSome, length};
 
-use dip_finding::{look_desk, look_items, look_own, look_paper, look_public, look_whole};
 use dip_map::{Map, STANDARD};
 use dip_names::Power;
-use dip_writing::{
+use dip_store_looks::{look_desk, look_items, look_own, look_paper, look_public, look_whole};
+use dip_store_sql::{
     GameRow, ItemRow, LastLetter, UnitRow, add_centre, add_desk, add_game, add_item, add_paper,
     add_pending, add_seat, add_unit, count_item, note_vote,
 };

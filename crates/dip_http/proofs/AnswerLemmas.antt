@@ -6,19 +6,19 @@ use Rattle.std.specs.Str.{bytes_eq}
 use Rattle.std.proofs.lemmas.List.{nil_from_length}
 use Rattle.std.proofs.lemmas.Slice.Eq.{bytes_eq-Decides}
 use Rattle.httparse.specs.Grammar.{RequestHead, print_request}
-use Rattle.dip_chart.specs.Charts.{Chart}
-use Rattle.dip_machine.specs.State.{State}
-use Rattle.dip_http_head.specs.Heads.{Ask, HasNoHead, IsHead, ask_of}
-use Rattle.dip_http_head.specs.Fronts.{IsFront, Shows, ask_view}
-use Rattle.dip_http_head.specs.declared.front.Front.{Front}
-use Rattle.dip_http_head.specs.declared.front.Front.TheVariants.{Head, More, NoHead}
-use Rattle.dip_http_head.specs.declared.size.Size.{Size}
-use Rattle.dip_http_head.specs.declared.size.Size.TheVariants.{Unsaid, Fits, TooLarge}
-use Rattle.dip_http_head.specs.declared.front.RequestFront.{RequestFront}
-use Rattle.dip_http_routes.specs.Places.{Place, letters, game, paper, place_of}
-use Rattle.dip_http_answers.specs.Answers.{IsPart, refusal}
-use Rattle.dip_http_answers.specs.Reading.{IsDecided}
-use Rattle.dip_http_answers.specs.Verdicts.{Verdict, ask_verdict, is_get, is_head, letter_verdict, place_verdict, refuse, verdict_of}
+use Rattle.dip_map_chart.specs.Charts.{Chart}
+use Rattle.dip_desk_state.specs.State.{State}
+use Rattle.dip_http.specs.Heads.{Ask, HasNoHead, IsHead, ask_of}
+use Rattle.dip_http.specs.Fronts.{IsFront, Shows, ask_view}
+use Rattle.dip_http.specs.declared.front.Front.{Front}
+use Rattle.dip_http.specs.declared.front.Front.TheVariants.{Head, More, NoHead}
+use Rattle.dip_http.specs.declared.size.Size.{Size}
+use Rattle.dip_http.specs.declared.size.Size.TheVariants.{Unsaid, Fits, TooLarge}
+use Rattle.dip_http.specs.declared.front.RequestFront.{RequestFront}
+use Rattle.dip_http.specs.Places.{Place, letters, game, paper, place_of}
+use Rattle.dip_http.specs.Answers.{IsPart, refusal}
+use Rattle.dip_http.specs.Reading.{IsDecided}
+use Rattle.dip_http.specs.Verdicts.{Verdict, ask_verdict, is_get, is_head, letter_verdict, place_verdict, refuse, verdict_of}
 use Rattle.dip_http.specs.Answering.{headed, headless, silent}
 use Rattle.dip_http.specs.Ends.{Answered, Carried, CarriedBy, EndsBy, WasLeft, without_body}
 use Rattle.dip_http.specs.declared.faults.HttpFault.{HttpFault}

@@ -13,7 +13,7 @@ use Rattle.dip_letters.specs.declared.letters.Next.{Next}
 use Rattle.dip_letters.specs.declared.letters.Next.TheVariants.{Taken, Fault, End}
 use Rattle.dip_letters.proofs.AgainLemmas.{same_next, spelling_unique}
 use Rattle.dip_letters.proofs.NoteLemmas.{fits_inner}
-use Rattle.dip_machine.specs.Mail.{Mail, mail}
+use Rattle.dip_desk_machine.specs.Mail.{Mail, mail}
 use Rattle.dip_http.specs.Answering.{IsOneLetter}
 
 blanks_settle : (i j : ℕ) (a b : List ℕ) → Starts a → Starts b → replicate i 10 ++ a ≡ replicate j 10 ++ b → a ≡ b

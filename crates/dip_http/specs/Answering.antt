@@ -3,20 +3,20 @@ use Rattle.std.specs.Prelude.{◌≡◌, ◌≢◌, ◌⊎◌, ◌^◌, ◌<◌,
 use Rattle.std.specs.Fmt.{decimal}
 use Rattle.httparse.specs.Grammar.{RequestHead}
 use Rattle.sha2.specs.Sha256.{sha256}
-use Rattle.dip_chart.specs.Charts.{Chart}
+use Rattle.dip_map_chart.specs.Charts.{Chart}
 use Rattle.dip_letters.specs.Letters.{spelling}
 use Rattle.dip_letters.specs.declared.letters.LetterFault.TheVariants.{Malformed}
-use Rattle.dip_records.specs.Records.{Public, Reply}
-use Rattle.dip_records.specs.declared.records.Outcome.{Outcome}
-use Rattle.dip_records.specs.declared.records.Outcome.TheVariants.{Done, Unknown, OutOfTurn}
+use Rattle.dip_desk_state.specs.Records.{Public, Reply}
+use Rattle.dip_desk_state.specs.declared.records.Outcome.{Outcome}
+use Rattle.dip_desk_state.specs.declared.records.Outcome.TheVariants.{Done, Unknown, OutOfTurn}
 use Rattle.dip_reports.specs.Texts.{reply_text}
-use Rattle.dip_machine.specs.Machine.{Step, fault_reply}
-use Rattle.dip_machine.specs.Mail.{IsMail, Mail}
-use Rattle.dip_machine.specs.State.{State, paper_at, public_at}
-use Rattle.dip_http_head.specs.Heads.{IsHead, HasNoHead}
-use Rattle.dip_http_state.specs.Texts.{state_text}
-use Rattle.dip_http_answers.specs.Answers.{answer_bytes, plain, refusal}
-use Rattle.dip_http_answers.specs.Verdicts.{Verdict, refuse, show_game, show_paper, take_letter, verdict_of, is_head}
+use Rattle.dip_desk_machine.specs.Machine.{Step, fault_reply}
+use Rattle.dip_desk_machine.specs.Mail.{IsMail, Mail}
+use Rattle.dip_desk_state.specs.State.{State, paper_at, public_at}
+use Rattle.dip_http.specs.Heads.{IsHead, HasNoHead}
+use Rattle.dip_http.specs.Texts.{state_text}
+use Rattle.dip_http.specs.Answers.{answer_bytes, plain, refusal}
+use Rattle.dip_http.specs.Verdicts.{Verdict, refuse, show_game, show_paper, take_letter, verdict_of, is_head}
 
 -- the public part of a game; 404 where there is no such game
 abbrev pub game_answer : Chart → Bool → Option Public → List ℕ

@@ -2,12 +2,12 @@
 use Rattle.std.specs.Prelude.{◌≡◌, ℕ, List, ◌++◌, Bool, false, Option, None, IfSome, Result}
 use Rattle.std.specs.Io.KnownBytes.{Appends}
 use Rattle.httparse.specs.Grammar.{RequestHead}
-use Rattle.dip_chart.specs.Charts.{Chart}
+use Rattle.dip_map_chart.specs.Charts.{Chart}
 use Rattle.dip_desk.specs.Keeping.{Book}
-use Rattle.dip_machine.specs.State.{State}
-use Rattle.dip_http_head.specs.Heads.{IsHead}
-use Rattle.dip_http_answers.specs.Answers.{IsPart, refusal}
-use Rattle.dip_http_answers.specs.Verdicts.{Verdict, is_head, take_letter}
+use Rattle.dip_desk_state.specs.State.{State}
+use Rattle.dip_http.specs.Heads.{IsHead}
+use Rattle.dip_http.specs.Answers.{IsPart, refusal}
+use Rattle.dip_http.specs.Verdicts.{Verdict, is_head, take_letter}
 use Rattle.dip_http.specs.Answering.{Carries, IsAnswer, Posts}
 use Rattle.dip_http.specs.Faults.{faults_after_answer}
 use Rattle.dip_http.specs.declared.faults.HttpFault.{HttpFault}

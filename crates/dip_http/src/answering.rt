@@ -1,18 +1,20 @@
 //! One request and its answer.
 ghost use Rattle.std.specs.Prelude.{◌≡◌, ◌<◌, IfErr, IsErrOf, OnOk};
-ghost use Rattle.dip_machine.specs.Lawful.{IsLawful};
-ghost use Rattle.dip_http_answers.specs.Views.{plan_view};
+ghost use Rattle.dip_desk_machine.specs.Lawful.{IsLawful};
+ghost use Rattle.dip_http.specs.AnswerViews.{plan_view};
 ghost use Rattle.dip_http.specs.Ends.{Answered, Carried, CarriedBy, EndsBy, Keeps};
 
 use crate::endings::refuse;
 use crate::faults::HttpFault;
+use crate::front::{Front, front_of};
+use crate::plans::{Plan, is_quiet, plan_of};
+use crate::reading::{ReadFault, read_head};
+use crate::refusals::HttpRefusal;
 use crate::showing::{show_game, show_paper};
+use crate::table::routes;
 use crate::taking::take_letter;
 use dip_desk::Keeper;
-use dip_http_answers::{HttpRefusal, Plan, ReadFault, is_quiet, plan_of, read_head};
-use dip_http_head::{Front, front_of};
-use dip_http_routes::routes;
-use dip_machine::KeepFault;
+use dip_desk_state::KeepFault;
 use dip_map::Map;
 use std::alloc::Global;
 use std::io::{Read, Write};

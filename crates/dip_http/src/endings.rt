@@ -2,15 +2,15 @@
 ghost use Rattle.std.specs.Prelude.{◌≡◌, false, None, IfErr, OnErr, OnOk};
 ghost use Rattle.std.specs.List.{flat_map};
 ghost use Rattle.std.specs.Io.KnownBytes.{Appends};
-ghost use Rattle.dip_records.specs.Rows as rows;
+ghost use Rattle.dip_desk_state.specs.Rows as rows;
 ghost use Rattle.dip_reports.specs.Texts.{reply_text};
-ghost use Rattle.dip_http_answers.specs.Answers.{IsPart, answer_bytes, plain, refusal};
-ghost use Rattle.dip_http_answers.specs.Views.{allowed, status_number};
+ghost use Rattle.dip_http.specs.Answers.{IsPart, answer_bytes, plain, refusal};
+ghost use Rattle.dip_http.specs.AnswerViews.{allowed, status_number};
 
 use crate::faults::HttpFault;
-use dip_http_answers::{Answer, HttpRefusal, write_answer};
-use dip_machine::KeepFault;
-use dip_records::Reply;
+use crate::refusals::HttpRefusal;
+use crate::writing::{Answer, write_answer};
+use dip_desk_state::{KeepFault, Reply};
 use dip_reports::reply_pieces;
 use http::StatusCode;
 use itoa::Buffer;

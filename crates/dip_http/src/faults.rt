@@ -2,7 +2,7 @@
 ghost use Rattle.std.specs.Prelude.{◌≡◌};
 ghost use Rattle.dip_http.specs.Faults.{http_name};
 
-use dip_machine::KeepFault;
+use dip_desk_state::KeepFault;
 use std::error::Error;
 use std::fmt;
 

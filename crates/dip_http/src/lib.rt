@@ -1,12 +1,35 @@
-//! One connection over HTTP: a request in, an answer out, over any reader, writer and keeper.
+//! One connection over HTTP: a request in, an answer out, over any reader, writer and keeper; and one client over a socket.
 #![tactic(auto)]
 
 mod answering;
 mod endings;
 mod faults;
+mod fields;
+mod front;
+mod laws;
 mod numbers;
+mod places;
+mod plans;
+mod reading;
+mod refusals;
+mod serving;
 mod showing;
+mod size;
+mod state;
+mod table;
 mod taking;
+mod target;
+mod timed;
+mod writing;
 
 pub use answering::answer_one;
 pub use faults::HttpFault;
+pub use front::{Asked, Front, MOST_FIELDS, MOST_HEAD, front_of};
+pub use laws::{answers_are_one, connections_are_turns, gets_are_public, posts_are_settled};
+pub use reading::{ReadFault, read_body, read_head};
+pub use refusals::HttpRefusal;
+pub use serving::{MOST_DROPPED, serve_one};
+pub use size::{MOST_BODY, Size};
+pub use state::state_text;
+pub use timed::{MOST_SECONDS, Timed};
+pub use writing::{Answer, Unwritten, write_answer};

@@ -1,18 +1,19 @@
 //! What POST is answered: the letter that is its body is taken.
 ghost use Rattle.std.specs.Prelude.{◌≡◌, ◌<◌, ◌++◌, ℕ, List, IfErr, IfNone, IfSome, IsErrOf, OnOk};
-ghost use Rattle.dip_machine.specs.Lawful.{IsLawful};
-ghost use Rattle.dip_machine.specs.Mail.{IsMail, Mail, mail};
+ghost use Rattle.dip_desk_machine.specs.Lawful.{IsLawful};
+ghost use Rattle.dip_desk_machine.specs.Mail.{IsMail, Mail, mail};
 ghost use Rattle.dip_http.specs.Answering.{IsOneLetter, status_of};
 ghost use Rattle.dip_http.specs.Ends.{Keeps, PostsTo, PostsToPart, ReadsBody, ReadsBodyPart};
 
 use crate::endings::{refuse, unavailable, write_reply};
 use crate::faults::HttpFault;
+use crate::reading::{ReadFault, read_body};
+use crate::refusals::HttpRefusal;
 use dip_desk::{Keeper, fault_reply, take};
-use dip_http_answers::{HttpRefusal, ReadFault, read_body};
+use dip_desk_machine::lawful_states_stay_lawful;
+use dip_desk_state::{KeepFault, Outcome};
 use dip_letters::{Letter, LetterFault, Next, next_letter, one_answer};
-use dip_machine::{KeepFault, lawful_states_stay_lawful};
 use dip_map::Map;
-use dip_records::Outcome;
 use http::StatusCode;
 use std::alloc::Global;
 use std::io::{Read, Write};

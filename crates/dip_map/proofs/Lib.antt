@@ -1,3 +1,4 @@
 pub mod Front
 pub mod TellingLaws
 pub mod SpelledLaws
+pub mod BoardLaws

@@ -15,15 +15,15 @@ use Rattle.dip_names.specs.declared.names.Terrain.TheVariants.{Inland, Coast, Se
 use Rattle.dip_names.specs.declared.names.Unit.{Unit as AUnit}
 use Rattle.dip_names.specs.Forms.{is_code, is_coast_name}
 use Rattle.dip_names.specs.Results.{◌>>=◌}
-use Rattle.dip_mapfile.specs.Drafts.{Draft, PowerDraft, ProvinceDraft, ShoreDraft, Site, UnitDraft}
-use Rattle.dip_mapfile.specs.Files.{draft_at, file_in, may_be_centre, or_no_toml}
-use Rattle.dip_mapfile.specs.Spelling.{Spells}
-use Rattle.dip_mapfile.specs.Tables.{Members, parse_document}
-use Rattle.dip_mapfile.proofs.FileLaws.{bind_ok}
-use Rattle.dip_mapfile.proofs.SpellingLaws.{FitArmy, FitShores, IsBare, IsBareBy, IsCoastName, IsDraft, IsOnlyShore, IsPower, IsProvince, IsShore, IsSite, IsUnit, armies_bare, file_back, file_spelled}
-use Rattle.dip_chart.specs.Charts.{Chart, IsMap, Province, Realm, Shore, has_named_shores, has_one_shore, is_centre, is_fleet_place, is_shaped, is_unit, may_stand, no_province, no_realm, no_shore, province, realm, shore}
-use Rattle.dip_chart.proofs.Found.{test_at}
-use Rattle.dip_chart.proofs.CheckLaws.{no_fault}
+use Rattle.dip_map_file.specs.Drafts.{Draft, PowerDraft, ProvinceDraft, ShoreDraft, Site, UnitDraft}
+use Rattle.dip_map_file.specs.Files.{draft_at, file_in, may_be_centre, or_no_toml}
+use Rattle.dip_map_file.specs.Spelling.{Spells}
+use Rattle.dip_map_file.specs.Tables.{Members, parse_document}
+use Rattle.dip_map_file.proofs.FileLaws.{bind_ok}
+use Rattle.dip_map_file.proofs.SpellingLaws.{FitArmy, FitShores, IsBare, IsBareBy, IsCoastName, IsDraft, IsOnlyShore, IsPower, IsProvince, IsShore, IsSite, IsUnit, armies_bare, file_back, file_spelled}
+use Rattle.dip_map_chart.specs.Charts.{Chart, IsMap, Province, Realm, Shore, has_named_shores, has_one_shore, is_centre, is_fleet_place, is_shaped, is_unit, may_stand, no_province, no_realm, no_shore, province, realm, shore}
+use Rattle.dip_map_chart.proofs.Found.{test_at}
+use Rattle.dip_map_chart.proofs.CheckLaws.{no_fault}
 use Rattle.dip_map.specs.Spelled.{SpellsMap, StatesWhatItSpells, code_of, map_draft, power_draft, province_draft, shore_draft, site_by, site_of, unit_draft}
 use Rattle.dip_map.specs.Stated.{chart_at, chart_of, coast_at, each, each_from, is_few, map_in, or_unknown, place_at, prov_at, province_at, realm_at, shore_at, unit_at, unit_of}
 use Rattle.dip_map.proofs.TellingLaws.{ChartRead, chart_read, looked_place, looked_up, of_draft, of_shore, parsed_file}

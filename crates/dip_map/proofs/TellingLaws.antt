@@ -15,12 +15,12 @@ use Rattle.dip_names.specs.declared.faults.MapFault.{MapFault}
 use Rattle.dip_names.specs.declared.faults.MapFault.TheVariants.{OverLimit}
 use Rattle.dip_names.specs.declared.names.Terrain.TheVariants.{Inland}
 use Rattle.dip_names.specs.Results.{◌>>=◌}
-use Rattle.dip_mapfile.specs.Drafts.{Draft, PowerDraft, ProvinceDraft, Site, ShoreDraft}
-use Rattle.dip_mapfile.specs.Files as files
-use Rattle.dip_mapfile.specs.Tables.{HasTable, Members, Names, Says, get_member, parse_document, FleetNames, behind_slash, site_text, terrain_word}
-use Rattle.dip_mapfile.proofs.FileLaws.{ListsCodes, ProvinceRead, ReadFile, bind_ok, contains_first, contains_more, element_cases, file_read, flag_is, member_at, power_read, province_read, terrain_is, ListsShore, no_shore_draft, shore_told}
-use Rattle.dip_chart.specs.Charts.{Chart, IsMap, Province, Realm, army_next, home, no_province, no_realm, prov_of, province, realm, Shore, coast_of, is_fleet_next, is_fleet_place, no_shore, shore}
-use Rattle.dip_chart.specs.Checks.{first_fault}
+use Rattle.dip_map_file.specs.Drafts.{Draft, PowerDraft, ProvinceDraft, Site, ShoreDraft}
+use Rattle.dip_map_file.specs.Files as files
+use Rattle.dip_map_file.specs.Tables.{HasTable, Members, Names, Says, get_member, parse_document, FleetNames, behind_slash, site_text, terrain_word}
+use Rattle.dip_map_file.proofs.FileLaws.{ListsCodes, ProvinceRead, ReadFile, bind_ok, contains_first, contains_more, element_cases, file_read, flag_is, member_at, power_read, province_read, terrain_is, ListsShore, no_shore_draft, shore_told}
+use Rattle.dip_map_chart.specs.Charts.{Chart, IsMap, Province, Realm, army_next, home, no_province, no_realm, prov_of, province, realm, Shore, coast_of, is_fleet_next, is_fleet_place, no_shore, shore}
+use Rattle.dip_map_chart.specs.Checks.{first_fault}
 use Rattle.dip_map.specs.Stated.{chart_at, chart_of, check, check_by, each, each_from, is_few, or_unknown, within_limits, parts_at, prov_at, province_at, realm_at, shore_at, map_in, unit_at, coast_at, place_at}
 use Rattle.dip_map.specs.Spelled.{site_of}
 use Rattle.dip_map.specs.Telling.{IsTold, IsToldPower, StatesWhatItTells, place_text}

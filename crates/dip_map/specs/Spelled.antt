@@ -4,10 +4,10 @@ use Rattle.dip_names.specs.declared.names.Kind.{Kind}
 use Rattle.dip_names.specs.declared.names.Kind.TheVariants.{Army, Fleet}
 use Rattle.dip_names.specs.declared.names.Place.{Place}
 use Rattle.dip_names.specs.declared.names.Unit.{Unit as AUnit}
-use Rattle.dip_chart.specs.Charts.{Chart, IsMap, Province, Realm, Shore, province, shore}
-use Rattle.dip_mapfile.specs.Drafts.{Draft, PowerDraft, ProvinceDraft, ShoreDraft, Site, UnitDraft}
-use Rattle.dip_mapfile.specs.Spelling.{Spells}
-use Rattle.dip_mapfile.specs.Tables.{Members, parse_document}
+use Rattle.dip_map_chart.specs.Charts.{Chart, IsMap, Province, Realm, Shore, province, shore}
+use Rattle.dip_map_file.specs.Drafts.{Draft, PowerDraft, ProvinceDraft, ShoreDraft, Site, UnitDraft}
+use Rattle.dip_map_file.specs.Spelling.{Spells}
+use Rattle.dip_map_file.specs.Tables.{Members, parse_document}
 use Rattle.dip_map.specs.Stated.{map_in}
 
 -- the code of a province

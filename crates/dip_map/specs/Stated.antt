@@ -3,16 +3,16 @@
 use Rattle.std.specs.Prelude.{ℕ, ◌+◌, ◌&&◌, nat_le, Bool, List, [], ◌∷◌, length, Option, Some, None, Result, Ok, Err, option_and_then, slice_get, if◌then◌else◌}
 use Rattle.std.specs.List.{position}
 use Rattle.std.specs.Str.{bytes_eq}
-use Rattle.dip_mapfile.specs.Drafts.{Site, UnitDraft, Draft, ProvinceDraft, ShoreDraft, PowerDraft}
-use Rattle.dip_mapfile.specs.Files.{file_in, draft_at}
+use Rattle.dip_map_file.specs.Drafts.{Site, UnitDraft, Draft, ProvinceDraft, ShoreDraft, PowerDraft}
+use Rattle.dip_map_file.specs.Files.{file_in, draft_at}
 use Rattle.dip_names.specs.declared.faults.MapFault.{MapFault}
 use Rattle.dip_names.specs.declared.faults.MapFault.TheVariants.{UnknownName, OverLimit}
 use Rattle.dip_names.specs.declared.names.Kind.{Kind}
 use Rattle.dip_names.specs.declared.names.Kind.TheVariants.{Army, Fleet}
 use Rattle.dip_names.specs.declared.names.Place.{Place}
 use Rattle.dip_names.specs.declared.names.Unit.{Unit as AUnit}
-use Rattle.dip_chart.specs.Charts.{Chart, Province, Realm, Shore}
-use Rattle.dip_chart.specs.Checks.{first_fault}
+use Rattle.dip_map_chart.specs.Charts.{Chart, Province, Realm, Shore}
+use Rattle.dip_map_chart.specs.Checks.{first_fault}
 use Rattle.dip_names.specs.Results.{◌>>=◌}
 
 -- what is defined

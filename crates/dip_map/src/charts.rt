@@ -1,16 +1,15 @@
 //! A map, and what is asked of it.
 ghost use Rattle.std.specs.Prelude.{◌≡◌, ◌<◌, length, All, IfOk, true};
-ghost use Rattle.dip_chart.specs.Charts.{IsMap, provs, powers, province, realm, shore, army_next, fleet_next, home, is_home, prov_of, power_of, coast_of, is_centre};
-ghost use Rattle.dip_chart.specs.Charts.{is_fleet_place, may_stand, is_unit, is_army_next, is_fleet_next};
+ghost use Rattle.dip_map_chart.specs.Charts.{IsMap, provs, powers, province, realm, shore, army_next, fleet_next, home, is_home, prov_of, power_of, coast_of, is_centre};
+ghost use Rattle.dip_map_chart.specs.Charts.{is_fleet_place, may_stand, is_unit, is_army_next, is_fleet_next};
 ghost use Rattle.dip_map.specs.Stated.{check, map_in};
 ghost use Rattle.dip_names.specs.Results.{Gives};
-ghost use Rattle.dip_distances.specs.Walks.{IsDistance};
+ghost use Rattle.dip_map_chart.specs.Walks.{IsDistance};
 
 use crate::iterators::{Powers, Provs};
 use crate::stated::parts_in;
-use dip_chart::{Parts, Realm};
-use dip_distances::Distances;
-use dip_mapfile::{draft_of, tables_of};
+use dip_map_chart::{Distances, Parts, Realm};
+use dip_map_file::{draft_of, tables_of};
 use dip_names::{Kind, MapFault, Place, Power, Prov, Terrain, Unit};
 use std::alloc::Global;
 use std::marker::Model;
@@ -25,8 +24,8 @@ pub struct Map {
 }
 
 impl Model for Map {
-    ghost use Rattle.dip_chart.specs.Charts.{Chart, IsMap};
-    ghost use Rattle.dip_distances.specs.Distances.{AreDistances};
+    ghost use Rattle.dip_map_chart.specs.Charts.{Chart, IsMap};
+    ghost use Rattle.dip_map_chart.specs.Distances.{AreDistances};
 
     ghost Value = { Chart };
 

@@ -1,12 +1,19 @@
-//! The map: read from its text, checked, and looked up.
+//! The map, read from its text, checked and looked up; and the board of a game: what stands where, what was dislodged, who owns what, and
+//! the phase.
 #![tactic(auto)]
 
+mod board_laws;
+mod boards;
 mod charts;
+mod checks;
 mod iterators;
 mod laws;
+mod questions;
 mod standard;
 mod stated;
 
+pub use board_laws::openings_are_of_their_map;
+pub use boards::{Board, Dislodged, Phase, Season};
 pub use charts::Map;
 pub use iterators::{Powers, Provs};
 pub use laws::{maps_are_spelled_by_their_files, maps_are_told_by_their_files};

@@ -5,8 +5,8 @@ ghost use Rattle.std.specs.Str.{bytes_eq};
 ghost use Rattle.dip_map.specs.Stated.{each, each_from, or_unknown, prov_at, coast_at, place_at, unit_of, unit_at, shore_at, province_at, realm_at, chart_at, parts_at};
 ghost use Rattle.dip_names.specs.Results.{Gives};
 
-use dip_chart::{Parts, Province, Realm, Shore};
-use dip_mapfile::{Draft, PowerDraft, ProvinceDraft, ShoreDraft, Site, UnitDraft};
+use dip_map_chart::{Parts, Province, Realm, Shore};
+use dip_map_file::{Draft, PowerDraft, ProvinceDraft, ShoreDraft, Site, UnitDraft};
 use dip_names::{Kind, MapFault, Place, Power, Prov, Unit};
 use std::alloc::Global;
 

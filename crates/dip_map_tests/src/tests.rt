@@ -1,6 +1,5 @@
 //! The standard map and its opening.
-use dip_board::{Board, Season};
-use dip_map::{Map, STANDARD};
+use dip_map::{Board, Map, STANDARD, Season};
 use dip_names::{Kind, Place, Power, Prov, Terrain};
 use std::process::Abort;
 use std::test::Fail;

@@ -13,11 +13,11 @@ use Rattle.dip_names.specs.declared.names.Terrain.{Terrain}
 use Rattle.dip_names.specs.declared.names.Terrain.TheVariants.{Inland, Coast, Sea}
 use Rattle.dip_names.specs.declared.names.Place.{Place}
 use Rattle.dip_names.specs.declared.names.Unit.{Unit as AUnit}
-use Rattle.dip_board.specs.declared.boards.Dislodged.{Dislodged}
-use Rattle.dip_chart.specs.Charts.{Chart, IsMap, Province, Shore, no_shore, coast_of, is_shaped, has_one_shore, has_named_shores, province, shore, fleet_next, is_fleet_place, is_unit, may_stand}
-use Rattle.dip_board.specs.Boards.{Position, IsOf, is_dislodged, is_prov_if_any}
-use Rattle.dip_forms.specs.Forms.{is_coast}
-use Rattle.dip_forms.specs.declared.forms.Mention.{Mention}
+use Rattle.dip_map.specs.declared.boards.Dislodged.{Dislodged}
+use Rattle.dip_map_chart.specs.Charts.{Chart, IsMap, Province, Shore, no_shore, coast_of, is_shaped, has_one_shore, has_named_shores, province, shore, fleet_next, is_fleet_place, is_unit, may_stand}
+use Rattle.dip_map.specs.Boards.{Position, IsOf, is_dislodged, is_prov_if_any}
+use Rattle.dip_orders_lines.specs.Forms.{is_coast}
+use Rattle.dip_orders_lines.specs.declared.forms.Mention.{Mention}
 use Rattle.dip_orders.specs.Retreats.{is_open, next_places}
 use Rattle.dip_orders.specs.Rules.{unit_checks, sail_checks, move_checks, move_place, site, site_checks, retreat_checks, unit_of, the_unit, dislodged_of, the_dislodged}
 use Rattle.dip_orders.specs.Conditions.{is_on_map, prov_named, no_place, no_unit, no_dislodged, unit_at, dislodged_at, knows_coast, first_in, named_in, place_in}

@@ -11,12 +11,12 @@ use Rattle.std.proofs.lemmas.Map.Steps.{length-le_from_distinct_below}
 use Rattle.dip_names.specs.declared.names.Unit.{Unit as AUnit}
 use Rattle.dip_names.specs.declared.names.Kind.{Kind}
 use Rattle.dip_names.specs.declared.names.Kind.TheVariants.{Army, Fleet}
-use Rattle.dip_board.specs.declared.boards.Dislodged.{Dislodged}
-use Rattle.dip_chart.specs.Charts.{Chart, IsMap, is_unit, may_stand}
-use Rattle.dip_board.specs.Boards.{Position, IsOf, is_dislodged}
-use Rattle.dip_chart.specs.Charts.{are_provs_single, are_units_single}
+use Rattle.dip_map.specs.declared.boards.Dislodged.{Dislodged}
+use Rattle.dip_map_chart.specs.Charts.{Chart, IsMap, is_unit, may_stand}
+use Rattle.dip_map.specs.Boards.{Position, IsOf, is_dislodged}
+use Rattle.dip_map_chart.specs.Charts.{are_provs_single, are_units_single}
 use Rattle.dip_orders.specs.Allowances.{builds_due, removals_due}
-use Rattle.dip_board.specs.Boards.{is_power}
+use Rattle.dip_map.specs.Boards.{is_power}
 
 eqb_sym : (x y : ℕ) → (y == x) ≡ false → (x == y) ≡ false
 eqb_sym x y h = grind arith

@@ -4,11 +4,11 @@ use Rattle.std.proofs.lemmas.List.{append-nil}
 use Rattle.dip_names.specs.declared.names.Kind.{Kind}
 use Rattle.dip_names.specs.declared.names.Kind.TheVariants.{Army, Fleet}
 use Rattle.dip_names.specs.declared.names.Unit.{Unit as AUnit}
-use Rattle.dip_chart.specs.Charts.{Chart, province}
-use Rattle.dip_forms.specs.Texts.{capital, canonical_text}
-use Rattle.dip_forms.specs.declared.forms.Mention.{Mention}
-use Rattle.dip_forms.specs.declared.forms.Form.{Form}
-use Rattle.dip_forms.specs.declared.forms.Form.TheVariants.{Hold, Move, SupportHold, SupportMove, Convoy, Retreat, Disband, Build, Remove}
+use Rattle.dip_map_chart.specs.Charts.{Chart, province}
+use Rattle.dip_orders_lines.specs.Texts.{capital, canonical_text}
+use Rattle.dip_orders_lines.specs.declared.forms.Mention.{Mention}
+use Rattle.dip_orders_lines.specs.declared.forms.Form.{Form}
+use Rattle.dip_orders_lines.specs.declared.forms.Form.TheVariants.{Hold, Move, SupportHold, SupportMove, Convoy, Retreat, Disband, Build, Remove}
 use Rattle.dip_orders.specs.Texts.{kind_letter, via_text, order_text}
 use Rattle.dip_orders.specs.declared.placed.Other.{Other}
 use Rattle.dip_orders.specs.declared.placed.Order.{Order}

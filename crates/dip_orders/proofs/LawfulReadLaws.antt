@@ -9,13 +9,13 @@ use Rattle.dip_names.specs.declared.names.Kind.{Kind}
 use Rattle.dip_names.specs.declared.names.Kind.TheVariants.{Army, Fleet}
 use Rattle.dip_names.specs.declared.names.Place.{Place}
 use Rattle.dip_names.specs.declared.names.Unit.{Unit as AUnit}
-use Rattle.dip_board.specs.declared.boards.Dislodged.{Dislodged}
-use Rattle.dip_chart.specs.Charts.{Chart, IsMap, Province, Realm, are_places_single, army_next, fleet_next, home, no_province, no_realm, province, realm, shore, coast_of, is_army_next, is_fleet_place, is_unit, is_centre, is_power_name, may_stand}
-use Rattle.dip_board.specs.Boards.{Position, IsOf, is_dislodged, is_prov_if_any}
-use Rattle.dip_forms.specs.Forms.{is_form, is_spot}
+use Rattle.dip_map.specs.declared.boards.Dislodged.{Dislodged}
+use Rattle.dip_map_chart.specs.Charts.{Chart, IsMap, Province, Realm, are_places_single, army_next, fleet_next, home, no_province, no_realm, province, realm, shore, coast_of, is_army_next, is_fleet_place, is_unit, is_centre, is_power_name, may_stand}
+use Rattle.dip_map.specs.Boards.{Position, IsOf, is_dislodged, is_prov_if_any}
+use Rattle.dip_orders_lines.specs.Forms.{is_form, is_spot}
 use Rattle.dip_orders.specs.Allowances.{builds_due, removals_due}
-use Rattle.dip_forms.specs.Texts.{canonical_text}
-use Rattle.dip_forms.specs.Reading.{form_in}
+use Rattle.dip_orders_lines.specs.Texts.{canonical_text}
+use Rattle.dip_orders_lines.specs.Reading.{form_in}
 use Rattle.dip_orders.specs.Checks.{Check, must}
 use Rattle.dip_orders.specs.Laws.{LawfulOrdersAreRead}
 use Rattle.dip_orders.specs.Lawful.{IsAllowed, IsSite, IsThere, MayAid, MayCarry, MayCome, Reaches, Stands}

@@ -1,11 +1,11 @@
 -- The two ways to say what a line is read as, and what follows of an order's own text.
 use Rattle.std.proofs.Common.{◌≡◌, ℕ, true, List, [], refl, sym, ap, ◌∙◌, Option, Some, None, Ok, Err}
-use Rattle.dip_chart.specs.Charts.{Chart, IsMap}
-use Rattle.dip_board.specs.Boards.{Position, IsOf}
-use Rattle.dip_forms.specs.Forms.{Says, is_form}
-use Rattle.dip_forms.specs.Reading.{form_in}
-use Rattle.dip_forms.specs.Texts.{canonical_text}
-use Rattle.dip_forms.specs.declared.forms.Form.{Form}
+use Rattle.dip_map_chart.specs.Charts.{Chart, IsMap}
+use Rattle.dip_map.specs.Boards.{Position, IsOf}
+use Rattle.dip_orders_lines.specs.Forms.{Says, is_form}
+use Rattle.dip_orders_lines.specs.Reading.{form_in}
+use Rattle.dip_orders_lines.specs.Texts.{canonical_text}
+use Rattle.dip_orders_lines.specs.declared.forms.Form.{Form}
 use Rattle.dip_orders.specs.Reading.{answer_to, order_of}
 use Rattle.dip_orders.specs.Rules.{answer, checks_of, order_in}
 use Rattle.dip_orders.specs.Texts.{order_text}

@@ -11,10 +11,10 @@ use Rattle.dip_names.specs.declared.names.Kind.TheVariants.{Army, Fleet}
 use Rattle.dip_names.specs.declared.names.Terrain.{Terrain}
 use Rattle.dip_names.specs.declared.names.Terrain.TheVariants.{Inland, Coast, Sea}
 use Rattle.dip_names.specs.declared.names.Place.{Place}
-use Rattle.dip_chart.specs.Charts.{Chart, Province, Shore, IsMap, no_shore, province, shore, prov_of, coast_of, is_shaped, is_code, is_full_name, is_coast_name, has_one_shore, has_named_shores, is_fleet_place, may_stand}
-use Rattle.dip_forms.specs.Forms.{are_letters, coast_text, is_coast, spot_text, is_spot}
-use Rattle.dip_forms.specs.declared.forms.Spot.{Spot}
-use Rattle.dip_forms.specs.declared.forms.Mention.{Mention}
+use Rattle.dip_map_chart.specs.Charts.{Chart, Province, Shore, IsMap, no_shore, province, shore, prov_of, coast_of, is_shaped, is_code, is_full_name, is_coast_name, has_one_shore, has_named_shores, is_fleet_place, may_stand}
+use Rattle.dip_orders_lines.specs.Forms.{are_letters, coast_text, is_coast, spot_text, is_spot}
+use Rattle.dip_orders_lines.specs.declared.forms.Spot.{Spot}
+use Rattle.dip_orders_lines.specs.declared.forms.Mention.{Mention}
 use Rattle.dip_orders.specs.Conditions.{is_on_map, prov_named, knows_coast}
 use Rattle.dip_orders.specs.Texts.{behind_slash, place_text}
 use Rattle.dip_orders.proofs.FindLaws.{some_is, position_low}

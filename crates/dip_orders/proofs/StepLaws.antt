@@ -7,14 +7,14 @@ use Rattle.dip_names.specs.declared.names.Kind.{Kind}
 use Rattle.dip_names.specs.declared.names.Kind.TheVariants.{Army, Fleet}
 use Rattle.dip_names.specs.declared.names.Place.{Place}
 use Rattle.dip_names.specs.declared.names.Unit.{Unit as AUnit}
-use Rattle.dip_board.specs.declared.boards.Dislodged.{Dislodged}
-use Rattle.dip_chart.specs.Charts.{Chart, province, army_next, fleet_next, is_army_next, coast_of, prov_of}
-use Rattle.dip_board.specs.Boards.{Position}
-use Rattle.dip_forms.specs.declared.forms.Spot.{Spot}
-use Rattle.dip_forms.specs.declared.forms.Mention.{Mention}
-use Rattle.dip_forms.specs.declared.forms.Form.{Form}
-use Rattle.dip_forms.specs.declared.forms.Form.TheVariants.{Hold as HoldForm, Move as MoveForm, SupportHold, SupportMove, Convoy, Retreat, Disband, Build, Remove}
-use Rattle.dip_forms.specs.Forms.{spots_of}
+use Rattle.dip_map.specs.declared.boards.Dislodged.{Dislodged}
+use Rattle.dip_map_chart.specs.Charts.{Chart, province, army_next, fleet_next, is_army_next, coast_of, prov_of}
+use Rattle.dip_map.specs.Boards.{Position}
+use Rattle.dip_orders_lines.specs.declared.forms.Spot.{Spot}
+use Rattle.dip_orders_lines.specs.declared.forms.Mention.{Mention}
+use Rattle.dip_orders_lines.specs.declared.forms.Form.{Form}
+use Rattle.dip_orders_lines.specs.declared.forms.Form.TheVariants.{Hold as HoldForm, Move as MoveForm, SupportHold, SupportMove, Convoy, Retreat, Disband, Build, Remove}
+use Rattle.dip_orders_lines.specs.Forms.{spots_of}
 use Rattle.dip_orders.specs.Checks.{Check, must, outcome}
 use Rattle.dip_orders.specs.Retreats.{is_open, next_places, on_foot}
 use Rattle.dip_orders.specs.Rules.{unit_checks, sail_checks, move_checks, move_place, other_checks, site_checks, site, unit_of, the_unit, dislodged_of, the_dislodged, retreat_checks, own_checks, order_in, answer}

@@ -5,13 +5,13 @@ use Rattle.dip_names.specs.declared.names.Kind.{Kind}
 use Rattle.dip_names.specs.declared.names.Kind.TheVariants.{Army, Fleet}
 use Rattle.dip_names.specs.declared.names.Place.{Place}
 use Rattle.dip_names.specs.declared.names.Unit.{Unit as AUnit}
-use Rattle.dip_board.specs.declared.boards.Dislodged.{Dislodged}
-use Rattle.dip_chart.specs.Charts.{Chart, province, fleet_next, is_army_next, prov_of, coast_of}
-use Rattle.dip_board.specs.Boards.{Position}
-use Rattle.dip_forms.specs.declared.forms.Spot.{Spot}
-use Rattle.dip_forms.specs.declared.forms.Mention.{Mention}
-use Rattle.dip_forms.specs.declared.forms.Form.{Form}
-use Rattle.dip_forms.specs.declared.forms.Form.TheVariants.{Hold, Move, SupportHold, SupportMove, Convoy, Retreat, Disband, Build, Remove}
+use Rattle.dip_map.specs.declared.boards.Dislodged.{Dislodged}
+use Rattle.dip_map_chart.specs.Charts.{Chart, province, fleet_next, is_army_next, prov_of, coast_of}
+use Rattle.dip_map.specs.Boards.{Position}
+use Rattle.dip_orders_lines.specs.declared.forms.Spot.{Spot}
+use Rattle.dip_orders_lines.specs.declared.forms.Mention.{Mention}
+use Rattle.dip_orders_lines.specs.declared.forms.Form.{Form}
+use Rattle.dip_orders_lines.specs.declared.forms.Form.TheVariants.{Hold, Move, SupportHold, SupportMove, Convoy, Retreat, Disband, Build, Remove}
 use Rattle.dip_orders.specs.Allowances.{builds_due, removals_due}
 use Rattle.dip_orders.specs.Retreats.{is_open}
 use Rattle.dip_orders.specs.Rules.{is_supportable}

@@ -8,15 +8,15 @@ use Rattle.dip_names.specs.declared.names.Kind.{Kind}
 use Rattle.dip_names.specs.declared.names.Kind.TheVariants.{Army, Fleet}
 use Rattle.dip_names.specs.declared.names.Place.{Place}
 use Rattle.dip_names.specs.declared.names.Unit.{Unit as AUnit}
-use Rattle.dip_board.specs.declared.boards.Dislodged.{Dislodged}
-use Rattle.dip_board.specs.declared.boards.Season.{Season}
-use Rattle.dip_board.specs.declared.boards.Season.TheVariants.{SpringMoves, SpringRetreats, FallMoves, FallRetreats, Winter}
-use Rattle.dip_chart.specs.Charts.{Chart, province, shore, fleet_next, home, is_army_next, prov_of, coast_of}
-use Rattle.dip_board.specs.Boards.{Position}
-use Rattle.dip_forms.specs.declared.forms.Spot.{Spot}
-use Rattle.dip_forms.specs.declared.forms.Form.{Form}
-use Rattle.dip_forms.specs.declared.forms.Form.TheVariants.{Hold, Move, SupportHold, SupportMove, Convoy, Retreat, Disband, Build, Remove}
-use Rattle.dip_board.specs.Boards.{is_vacant, owns}
+use Rattle.dip_map.specs.declared.boards.Dislodged.{Dislodged}
+use Rattle.dip_map.specs.declared.boards.Season.{Season}
+use Rattle.dip_map.specs.declared.boards.Season.TheVariants.{SpringMoves, SpringRetreats, FallMoves, FallRetreats, Winter}
+use Rattle.dip_map_chart.specs.Charts.{Chart, province, shore, fleet_next, home, is_army_next, prov_of, coast_of}
+use Rattle.dip_map.specs.Boards.{Position}
+use Rattle.dip_orders_lines.specs.declared.forms.Spot.{Spot}
+use Rattle.dip_orders_lines.specs.declared.forms.Form.{Form}
+use Rattle.dip_orders_lines.specs.declared.forms.Form.TheVariants.{Hold, Move, SupportHold, SupportMove, Convoy, Retreat, Disband, Build, Remove}
+use Rattle.dip_map.specs.Boards.{is_vacant, owns}
 use Rattle.dip_orders.specs.declared.placed.Order.{Order}
 use Rattle.dip_orders.specs.declared.placed.Order.TheVariants.{Hold as Holds, Move as Moves, SupportHold as SupportsHold, SupportMove as SupportsMove, Convoy as Convoys, Retreat as Retreats, Disband as Disbands, Build as Builds, Remove as Removes}
 use Rattle.dip_orders.specs.declared.placed.PlacedOrder.{PlacedOrder}

@@ -1,9 +1,9 @@
 -- Reading an order line, as a function.
 use Rattle.std.specs.Prelude.{ℕ, List, Option, None, Some, Result, Err}
-use Rattle.dip_chart.specs.Charts.{Chart}
-use Rattle.dip_board.specs.Boards.{Position}
-use Rattle.dip_forms.specs.Reading.{form_in}
-use Rattle.dip_forms.specs.declared.forms.Form.{Form}
+use Rattle.dip_map_chart.specs.Charts.{Chart}
+use Rattle.dip_map.specs.Boards.{Position}
+use Rattle.dip_orders_lines.specs.Reading.{form_in}
+use Rattle.dip_orders_lines.specs.declared.forms.Form.{Form}
 use Rattle.dip_orders.specs.Rules.{answer}
 use Rattle.dip_orders.specs.declared.faults.OrderFault.{OrderFault}
 use Rattle.dip_orders.specs.declared.faults.OrderFault.TheVariants.{CannotBeRead}

@@ -4,9 +4,9 @@ use Rattle.std.specs.List.{list_any}
 use Rattle.dip_names.specs.declared.names.Kind.{Kind}
 use Rattle.dip_names.specs.declared.names.Kind.TheVariants.{Army, Fleet}
 use Rattle.dip_names.specs.declared.names.Place.{Place}
-use Rattle.dip_board.specs.declared.boards.Dislodged.{Dislodged}
-use Rattle.dip_chart.specs.Charts.{Chart, army_next, fleet_next}
-use Rattle.dip_board.specs.Boards.{Position, is_held, is_standoff}
+use Rattle.dip_map.specs.declared.boards.Dislodged.{Dislodged}
+use Rattle.dip_map_chart.specs.Charts.{Chart, army_next, fleet_next}
+use Rattle.dip_map.specs.Boards.{Position, is_held, is_standoff}
 
 -- the places of an army in these provinces: none tells a coast
 abbrev pub on_foot : List ℕ → List Place

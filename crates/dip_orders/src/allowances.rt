@@ -1,11 +1,10 @@
 //! What a power may build or has to remove in Winter.
 ghost use Rattle.std.specs.Prelude.{◌≡◌, ◌==◌, ◌<◌, ◌^◌, count_by};
-ghost use Rattle.dip_board.specs.Boards.{IsOf};
+ghost use Rattle.dip_map.specs.Boards.{IsOf};
 ghost use Rattle.dip_orders.specs.Allowances.{vacant_homes, builds_due, removals_due, allowance};
-ghost use Rattle.dip_board.specs.Boards.{is_power, owns, is_left, is_vacant, centres_owned, units_counted};
+ghost use Rattle.dip_map.specs.Boards.{is_power, owns, is_left, is_vacant, centres_owned, units_counted};
 
-use dip_board::Board;
-use dip_map::Map;
+use dip_map::{Board, Map};
 use dip_names::{Power, Prov};
 
 fn vacant_homes(map: &Map, board: &Board, power: Power) -> usize

@@ -1,7 +1,7 @@
 //! Orders of the Winter: builds and removals.
 ghost use Rattle.std.specs.Prelude.{◌≡◌, ◌==◌, ◌&&◌, not, count_by};
 ghost use Rattle.std.specs.List.{list_any};
-ghost use Rattle.dip_chart.specs.Charts.{home};
+ghost use Rattle.dip_map_chart.specs.Charts.{home};
 ghost use Rattle.dip_orders.specs.Checking.{site_at, build_order, remove_order};
 ghost use Rattle.dip_orders.specs.Conditions.{may_build, is_build, is_remove, builds_elsewhere, removals_elsewhere};
 
@@ -9,10 +9,9 @@ use crate::allowances::{builds_due, removals_due};
 use crate::faults::OrderFault;
 use crate::placed::{Order, PlacedOrder};
 use crate::units::{checked_unit, prov_of, unit_at};
-use dip_board::Board;
-use dip_forms::Mention;
-use dip_map::Map;
+use dip_map::{Board, Map};
 use dip_names::{Kind, Place, Power, Prov, Unit};
+use dip_orders_lines::Mention;
 
 /// Whether a unit of a kind may be built there.
 fn may_build(map: &Map, board: &Board, power: Power, kind: Kind, p: Prov) -> bool

@@ -5,7 +5,7 @@ ghost use Rattle.dip_orders.specs.Laws.{OrdersAreLawful, OrdersAreOfTheirPhase, 
 ghost use Rattle.dip_orders.specs.Laws.{OrdersStandAlone, RemovalsAreSurplus, RetreatsAreToVacantProvinces, StandingIsInForce};
 ghost use Rattle.dip_orders.specs.Laws.{TextsAreReadAgain, TextsTellOrdersApart, UnitsHaveOneOrder};
 
-use dip_forms::forms_are_read;
+use dip_orders_lines::forms_are_read;
 
 /// The text of an order that was read is read again as the same order, beside the same standing orders or none; and two orders of a power
 /// on a board with one text are one order.

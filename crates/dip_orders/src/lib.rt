@@ -18,7 +18,7 @@ mod withdrawals;
 
 pub use allowances::{allowance, builds_due, removals_due};
 pub use builds::{is_build, is_remove};
-pub use dip_forms::{TokenList, tokens};
+pub use dip_orders_lines::{TokenList, tokens};
 pub use faults::OrderFault;
 pub use laws::{
     allowances_have_room, each_unit_has_one_order, lawful_orders_are_read,

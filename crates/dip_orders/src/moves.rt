@@ -1,17 +1,16 @@
 //! Where a unit may go, and hold and move orders.
 ghost use Rattle.std.specs.Prelude.{◌≡◌, ◌==◌, ◌&&◌};
 ghost use Rattle.std.specs.Str.{bytes_eq};
-ghost use Rattle.dip_chart.specs.Charts.{province, shore};
+ghost use Rattle.dip_map_chart.specs.Charts.{province, shore};
 ghost use Rattle.dip_orders.specs.Checking.{march_to, coast_to, sail_to, go_to, hold_order, move_order};
 ghost use Rattle.dip_orders.specs.Conditions.{may_convoy, may_march, first_in, count_in, named_in, could_move, could_come};
 
 use crate::faults::OrderFault;
 use crate::placed::{Order, PlacedOrder};
 use crate::units::{checked_unit, prov_of, unit_at};
-use dip_board::Board;
-use dip_forms::{Mention, Spot};
-use dip_map::Map;
+use dip_map::{Board, Map};
 use dip_names::{Kind, Place, Power, Prov, Unit};
+use dip_orders_lines::{Mention, Spot};
 
 /// Whether a convoy may lead from p to q.
 pub(crate) fn may_convoy(map: &Map, p: Prov, q: Prov) -> bool

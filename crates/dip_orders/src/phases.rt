@@ -2,8 +2,8 @@
 ghost use Rattle.std.specs.Prelude.{◌≡◌};
 ghost use Rattle.dip_orders.specs.Conditions.{is_movement, is_retreat, is_adjustment, is_in_phase};
 
-use dip_board::Season;
-use dip_forms::Form;
+use dip_map::Season;
+use dip_orders_lines::Form;
 
 fn is_movement(season: Season) -> bool
     ensures { result ≡ is_movement season }

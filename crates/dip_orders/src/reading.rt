@@ -11,10 +11,9 @@ use crate::phases::is_in_phase;
 use crate::placed::PlacedOrder;
 use crate::supports::{convoy_of, support_hold_of, support_move_of};
 use crate::withdrawals::{disband_of, retreat_of};
-use dip_board::{Board, Phase};
-use dip_forms::{Form, form_of_line};
-use dip_map::Map;
+use dip_map::{Board, Map, Phase};
 use dip_names::Power;
+use dip_orders_lines::{Form, form_of_line};
 
 fn placed_of(
     map: &Map,

@@ -3,7 +3,7 @@ ghost use Rattle.std.specs.Prelude.{◌≡◌, IfOk, map, true, find};
 ghost use Rattle.dip_orders.specs.Standing.{is_done_from, is_in_force, are_in_force, is_same_unit, found_order, order_among, standing_orders};
 
 use crate::placed::{Order, PlacedOrder};
-use dip_board::Board;
+use dip_map::Board;
 use dip_names::{Prov, Unit};
 use std::alloc::{AllocError, Global};
 use std::marker::Model;

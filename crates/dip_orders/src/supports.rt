@@ -1,6 +1,6 @@
 //! Supports and convoys.
 ghost use Rattle.std.specs.Prelude.{◌≡◌};
-ghost use Rattle.dip_chart.specs.Charts.{province};
+ghost use Rattle.dip_map_chart.specs.Charts.{province};
 ghost use Rattle.dip_orders.specs.Rules.{is_supportable};
 ghost use Rattle.dip_orders.specs.Checking.{carrier, convoy_order, support_hold_order, support_move_order};
 
@@ -8,10 +8,9 @@ use crate::faults::OrderFault;
 use crate::moves::{could_come, could_move, may_convoy};
 use crate::placed::{Order, Other, PlacedOrder};
 use crate::units::{checked_other, checked_unit, has_coast, prov_of, unit_at};
-use dip_board::Board;
-use dip_forms::{Mention, Spot};
-use dip_map::Map;
+use dip_map::{Board, Map};
 use dip_names::{Kind, Power, Prov, Unit};
+use dip_orders_lines::{Mention, Spot};
 
 pub(crate) fn support_hold_of(
     map: &Map,

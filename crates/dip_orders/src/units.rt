@@ -5,10 +5,9 @@ ghost use Rattle.dip_orders.specs.Conditions.{unit_at, dislodged_at, other_at, k
 ghost use Rattle.dip_names.specs.Kinds.{is_kind};
 
 use crate::faults::OrderFault;
-use dip_board::{Board, Dislodged};
-use dip_forms::{Mention, Spot};
-use dip_map::Map;
+use dip_map::{Board, Dislodged, Map};
 use dip_names::{Kind, Power, Prov, Unit};
+use dip_orders_lines::{Mention, Spot};
 
 pub(crate) fn prov_of(map: &Map, spot: Spot) -> Result<Prov, OrderFault>
     ensures { result ≡ prov_at map.now spot }

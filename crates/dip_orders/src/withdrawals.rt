@@ -7,10 +7,9 @@ use crate::moves::sail_to;
 use crate::placed::{Order, PlacedOrder};
 use crate::retreating::is_open;
 use crate::units::{checked_dislodged, dislodged_at, prov_of};
-use dip_board::{Board, Dislodged};
-use dip_forms::{Mention, Spot};
-use dip_map::Map;
+use dip_map::{Board, Dislodged, Map};
 use dip_names::{Kind, Place, Power, Prov, Unit};
+use dip_orders_lines::{Mention, Spot};
 
 /// Where in q a dislodged unit goes, if q is next to it.
 fn leave_to(map: &Map, unit: &Unit, q: Prov, coast: Option<[u8; 2]>) -> Result<Place, OrderFault>

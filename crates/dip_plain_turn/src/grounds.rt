@@ -1,7 +1,6 @@
 //! Where dislodged units may retreat.
 use crate::states::is_held;
-use dip_board::Dislodged;
-use dip_map::Map;
+use dip_map::{Dislodged, Map};
 use dip_names::{Kind, Prov, Unit};
 
 /// What a movement leaves: all provinces are open to retreats but where a unit stands, and where a standoff was.

@@ -1,8 +1,7 @@
 //! What comes after a phase.
 use crate::papers::PlainCourse;
 use crate::states::State;
-use dip_board::{Phase, Season};
-use dip_map::Map;
+use dip_map::{Map, Phase, Season};
 use dip_names::Power;
 
 /// The last year of a game.

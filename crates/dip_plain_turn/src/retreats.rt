@@ -1,7 +1,7 @@
 //! Retreats.
 use crate::papers::{End, Line, Paper, Word};
 use crate::states::State;
-use dip_board::Dislodged;
+use dip_map::Dislodged;
 use dip_names::{Prov, Unit};
 use dip_orders::{Order, PlacedOrder};
 use std::alloc::{AllocError, Global};

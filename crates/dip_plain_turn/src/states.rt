@@ -1,5 +1,5 @@
 //! Boards as lists.
-use dip_board::{Board, Dislodged, Phase};
+use dip_map::{Board, Dislodged, Phase};
 use dip_names::{Power, Prov, Unit};
 use std::alloc::{AllocError, Global};
 

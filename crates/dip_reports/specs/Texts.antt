@@ -1,14 +1,14 @@
 -- The printed texts: each is a function of its record. Every line ends with LF.
 use Rattle.std.specs.Prelude.{ℕ, Bool, true, false, List, [], ◌∷◌, ◌++◌, ◌==◌, ◌+◌, codes, if◌then◌else◌, map, filter, flat_map, length, Option, None, Some, Result, Ok, Err}
 use Rattle.std.specs.Fmt.{decimal}
-use Rattle.dip_board.specs.declared.boards.Phase.{Phase}
-use Rattle.dip_board.specs.Boards.{Position, owns}
-use Rattle.dip_board.specs.declared.boards.Season.{Season}
-use Rattle.dip_board.specs.declared.boards.Season.TheVariants.{SpringMoves, SpringRetreats, FallMoves, FallRetreats, Winter}
+use Rattle.dip_map.specs.declared.boards.Phase.{Phase}
+use Rattle.dip_map.specs.Boards.{Position, owns}
+use Rattle.dip_map.specs.declared.boards.Season.{Season}
+use Rattle.dip_map.specs.declared.boards.Season.TheVariants.{SpringMoves, SpringRetreats, FallMoves, FallRetreats, Winter}
 use Rattle.dip_reports.specs.declared.refusals.Refusal.{Refusal}
 use Rattle.dip_reports.specs.declared.refusals.Refusal.TheVariants.{Malformed, Unknown, Stale, NumberUsed, TooLong, QuotaUsed, NoGrey, GameOver, WrongSender, NotDue, NameTaken}
-use Rattle.dip_records.specs.Records.{Public, Own, Item, White, Grey, Head, Reply, Standing, Status, Running, Paused, Closed, Ended, Won, Drawn}
-use Rattle.dip_chart.specs.Charts.{Chart, powers, province, provs, realm}
+use Rattle.dip_desk_state.specs.Records.{Public, Own, Item, White, Grey, Head, Reply, Standing, Status, Running, Paused, Closed, Ended, Won, Drawn}
+use Rattle.dip_map_chart.specs.Charts.{Chart, powers, province, provs, realm}
 use Rattle.dip_letters.specs.Notes.{NoticeRequest}
 use Rattle.dip_letters.specs.Notes.NoticeRequest.{Announce, Close, Pause, Period, Resume}
 use Rattle.dip_orders.specs.Faults.{fault_number, fault_words}

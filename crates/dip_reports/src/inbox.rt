@@ -1,10 +1,10 @@
 //! What INBOX answers.
 ghost use Rattle.std.specs.Prelude.{◌≡◌, ◌++◌, IfOk, OnOk, string_bytes};
 ghost use Rattle.dip_reports.specs.Texts.{inbox_text, item_lines, item_text, item_title, items_text, marked_lines, spaced};
-ghost use Rattle.dip_records.specs.Rows as rows;
+ghost use Rattle.dip_desk_state.specs.Rows as rows;
 
 use crate::paper_parts::push_marked_line;
-use dip_records::Item;
+use dip_desk_state::Item;
 use std::alloc::{AllocError, Global};
 use std::rc::Rc;
 

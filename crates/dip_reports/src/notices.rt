@@ -2,12 +2,12 @@
 ghost use Rattle.std.specs.Prelude.{◌≡◌, ◌++◌, IfOk, OnOk, string_bytes};
 ghost use Rattle.dip_letters.specs.Views.{notice_request, texts_in};
 ghost use Rattle.dip_reports.specs.Texts.{draw_paper, marked_lines, notice_lines, notice_paper};
-ghost use Rattle.dip_records.specs.Rows as rows;
+ghost use Rattle.dip_desk_state.specs.Rows as rows;
 
 use crate::paper_parts::{push_marked_line, push_paper_end, push_paper_title};
+use dip_desk_state::Public;
 use dip_letters::{Notice, Texts};
 use dip_map::Map;
-use dip_records::Public;
 use std::alloc::{AllocError, Global};
 
 /// Appends the lines of an announcement, each behind its mark.

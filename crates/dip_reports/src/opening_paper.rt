@@ -1,11 +1,11 @@
 //! The opening paper.
 ghost use Rattle.std.specs.Prelude.{◌≡◌, IfOk, string_bytes};
 ghost use Rattle.dip_reports.specs.Texts.{opening_paper};
-ghost use Rattle.dip_records.specs.Rows as rows;
+ghost use Rattle.dip_desk_state.specs.Rows as rows;
 
 use crate::paper_parts::push_paper_end;
+use dip_desk_state::Public;
 use dip_map::Map;
-use dip_records::Public;
 use std::alloc::{AllocError, Global};
 
 /// The text of a game's first paper.

@@ -1,12 +1,12 @@
 //! What papers share: their title, the marks of a text's lines, and how they end.
 ghost use Rattle.std.specs.Prelude.{◌≡◌, ◌++◌, OnOk, string_bytes};
 ghost use Rattle.dip_reports.specs.Texts.{marked_line, paper_end, paper_title};
-ghost use Rattle.dip_records.specs.Rows as rows;
+ghost use Rattle.dip_desk_state.specs.Rows as rows;
 
 use crate::board_lines::push_board_lines;
 use crate::game_line::push_game_line;
+use dip_desk_state::Public;
 use dip_map::Map;
-use dip_records::Public;
 use std::alloc::{AllocError, Global};
 
 /// Appends the first line of a paper that tells of no phase: its number and its kind.

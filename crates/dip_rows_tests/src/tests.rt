@@ -1,15 +1,12 @@
 //! Rows written, found, written anew and dropped, in memory. The helpers have no clause, so that no test's proof carries the state of a call.
 ghost use Rattle.std.specs.Prelude.{◌<◌, ◌^◌};
 
-use dip_reading::{
-    count_papers, count_sent, find_desk, find_game, find_item, find_paper, find_seat, list_centres,
-    list_orders, list_seats, list_units,
-};
-use dip_writing::{
+use dip_store_sql::{
     GameRow, ItemRow, LastLetter, UnitRow, add_centre, add_desk, add_game, add_item, add_paper,
-    add_pending, add_seat, add_unit, count_item, drop_centres, drop_items, drop_orders,
-    drop_papers, drop_pending, drop_seats, drop_units, note_desk, note_seat, note_sent, note_vote,
-    renew_game, replace_digest,
+    add_pending, add_seat, add_unit, count_item, count_papers, count_sent, drop_centres,
+    drop_items, drop_orders, drop_papers, drop_pending, drop_seats, drop_units, find_desk,
+    find_game, find_item, find_paper, find_seat, list_centres, list_orders, list_seats, list_units,
+    note_desk, note_seat, note_sent, note_vote, renew_game, replace_digest,
 };
 use sqlite::{Alter, Connection, Error, ErrorCode, Row, Transaction};
 use std::test::Fail;

@@ -2,19 +2,19 @@
 use Rattle.std.proofs.Common.{◌≡◌, ℕ, ◌<◌, ◌+◌, ◌-◌, ◌==◌, Bool, List, [], ◌∷◌, map, filter, find, length, Option, Some, None, option_map, option_and_then, take, drop, refl, sym, ap, subst, ◌∙◌, inl, inr, arith}
 use Rattle.std.specs.List.{AllByRecursion}
 use Rattle.std.proofs.lemmas.Bool.{cases_Bool}
-use Rattle.dip_chart.specs.Charts.{Chart, IsMap}
-use Rattle.dip_board_rows.specs.Boards.{power_name}
-use Rattle.dip_machine.specs.State.{Game, Part, game_at, seat_at, items_at, page_of, paper_at, paper_numbered, whole_at, whole_of}
-use Rattle.dip_machine.proofs.KeyedLemmas.{names_tell}
-use Rattle.dip_tables.specs.Coding.{AreCoded}
-use Rattle.dip_tables.specs.Counting.{AreCounted, counted, item_numbers, paper_numbers}
-use Rattle.dip_tables.specs.Looking.{PageIsFound, PaperIsFound}
-use Rattle.dip_tables.specs.Reading.{game_of, part_of, state_of}
-use Rattle.dip_tables.specs.Tables.{GameRow, SeatRow, Tables, is_named, is_paper_in, is_seat, is_seat_in}
+use Rattle.dip_map_chart.specs.Charts.{Chart, IsMap}
+use Rattle.dip_store_tables.specs.Boards.{power_name}
+use Rattle.dip_desk_state.specs.State.{Game, Part, game_at, seat_at, items_at, page_of, paper_at, paper_numbered, whole_at, whole_of}
+use Rattle.dip_desk_state.proofs.KeyedLemmas.{names_tell}
+use Rattle.dip_store_tables.specs.Coding.{AreCoded}
+use Rattle.dip_store_tables.specs.Counting.{AreCounted, counted, item_numbers, paper_numbers}
+use Rattle.dip_store_tables.specs.Looking.{PageIsFound, PaperIsFound}
+use Rattle.dip_store_tables.specs.Reading.{game_of, part_of, state_of}
+use Rattle.dip_store_tables.specs.Tables.{GameRow, SeatRow, Tables, is_named, is_paper_in, is_seat, is_seat_in}
 use Rattle.sqlite.specs.Order.{Row}
-use Rattle.dip_rows.specs.Showing.{is_numbered, show_papers}
-use Rattle.dip_rows.proofs.Numbered.{paper_by_number}
-use Rattle.dip_finding.specs.Asked.{page_in, whole_in}
+use Rattle.dip_store_sql.specs.Showing.{is_numbered, show_papers}
+use Rattle.dip_store_sql.proofs.Numbered.{paper_by_number}
+use Rattle.dip_store_looks.specs.Asked.{page_in, whole_in}
 use Rattle.dip_store.proofs.Finding.{found_passes, game_found, part_found}
 
 -- what is found has what all have

@@ -4,15 +4,15 @@ use Rattle.std.specs.List.{AllByRecursion}
 use Rattle.std.proofs.lemmas.Bool.{cases_Bool, and_parts, eqb-true, eq-eqb}
 use Rattle.sqlite_keyed.proofs.ListLemmas.{all_weaker}
 use Rattle.sqlite_keyed.proofs.SliceLemmas.{find-slice, any_is_found}
-use Rattle.dip_chart.specs.Charts.{Chart, IsMap}
-use Rattle.dip_board_rows.specs.Boards.{power_name, power_in as power_numbered}
-use Rattle.dip_machine.specs.Keyed.{at}
-use Rattle.dip_machine.specs.State.{name_of, power_in, game_at, seat_at, part_at}
-use Rattle.dip_machine.proofs.KeyedLemmas.{names_tell}
-use Rattle.dip_tables.specs.Tables.{GameRow, SeatRow, Tables, is_named, is_seat, is_seat_in}
-use Rattle.dip_tables.specs.Reading.{part_of, game_of, state_of}
-use Rattle.dip_tables.specs.Coding.{AreCoded, HasGame, IsSeatOf}
-use Rattle.dip_tables.proofs.Records.{power_back}
+use Rattle.dip_map_chart.specs.Charts.{Chart, IsMap}
+use Rattle.dip_store_tables.specs.Boards.{power_name, power_in as power_numbered}
+use Rattle.dip_desk_state.specs.Keyed.{at}
+use Rattle.dip_desk_state.specs.State.{name_of, power_in, game_at, seat_at, part_at}
+use Rattle.dip_desk_state.proofs.KeyedLemmas.{names_tell}
+use Rattle.dip_store_tables.specs.Tables.{GameRow, SeatRow, Tables, is_named, is_seat, is_seat_in}
+use Rattle.dip_store_tables.specs.Reading.{part_of, game_of, state_of}
+use Rattle.dip_store_tables.specs.Coding.{AreCoded, HasGame, IsSeatOf}
+use Rattle.dip_store_tables.proofs.Records.{power_back}
 
 find_on : {A : Type 0} (p q : A → Bool) (xs : List A) → AllByRecursion (λ x. p x ≡ q x) xs → find p xs ≡ find q xs
 find_on p q [] all = refl

@@ -1,3 +1,15 @@
+pub mod Typed
+pub mod Alone
+pub mod Prepared
+pub mod Leading
+pub mod Listed
+pub mod Quiet
+pub mod LastMade
+pub mod Ours
+pub mod Apart
+pub mod New
+pub mod Place
+pub mod Writable
 pub mod Asked
 pub mod Finding
 pub mod Looking
@@ -5,3 +17,6 @@ pub mod Made
 pub mod Opened
 pub mod Outside
 pub mod Refused
+pub mod Numbers
+pub mod Parts
+pub mod Walking

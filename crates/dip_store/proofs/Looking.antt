@@ -3,19 +3,19 @@ use Rattle.std.proofs.Common.{◌≡◌, ◌+◌, ℕ, Result, refl, sym, ap, su
 use Rattle.sqlite.specs.Effect.{Database}
 use Rattle.sqlite.specs.Store.{Ghosts}
 use Rattle.sqlite.specs.Held.{Held, state}
-use Rattle.dip_chart.specs.Charts.{Chart}
+use Rattle.dip_map_chart.specs.Charts.{Chart}
 use Rattle.dip_desk.specs.Keeping.{Looks}
-use Rattle.dip_finding.specs.Faults.{IsFromOutside}
-use Rattle.dip_finding.specs.declared.faults.LookFault.{LookFault}
-use Rattle.dip_legible.specs.Legible.{AreOurs}
-use Rattle.dip_machine.specs.Faults.{faults_with}
-use Rattle.dip_machine.specs.State.{State}
-use Rattle.dip_machine.specs.declared.faults.KeepFault.{KeepFault}
-use Rattle.dip_machine.specs.declared.faults.KeepFault.TheVariants.{Memory, Disk, Damaged}
-use Rattle.dip_rows.specs.Calls.{IsKept, Selects, is_honest, does_show, tables_in}
-use Rattle.dip_rows.specs.Causes.{has_faulted}
-use Rattle.dip_rows.specs.Rows.{tables_of}
-use Rattle.dip_rows.proofs.Parts.{fails, went}
+use Rattle.dip_store_looks.specs.Faults.{IsFromOutside}
+use Rattle.dip_store_looks.specs.declared.faults.LookFault.{LookFault}
+use Rattle.dip_store_tables.specs.Legible.{AreOurs}
+use Rattle.dip_desk_state.specs.Faults.{faults_with}
+use Rattle.dip_desk_state.specs.State.{State}
+use Rattle.dip_desk_state.specs.declared.faults.KeepFault.{KeepFault}
+use Rattle.dip_desk_state.specs.declared.faults.KeepFault.TheVariants.{Memory, Disk, Damaged}
+use Rattle.dip_store_sql.specs.Calls.{IsKept, Selects, is_honest, does_show, tables_in}
+use Rattle.dip_store_sql.specs.Causes.{has_faulted}
+use Rattle.dip_store_sql.specs.Rows.{tables_of}
+use Rattle.dip_store_sql.proofs.Parts.{fails, went}
 use Rattle.dip_store.specs.Faults.{look_fault}
 use Rattle.dip_store.specs.Stored.{book, said_by, telling}
 use Rattle.dip_store.specs.declared.keeper.SqlKeeper.{SqlKeeper}

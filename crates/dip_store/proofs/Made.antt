@@ -4,29 +4,29 @@ use Rattle.sqlite.specs.Effect.{Database}
 use Rattle.sqlite.specs.Tree.{Trees}
 use Rattle.sqlite.specs.Store.{Ghosts}
 use Rattle.sqlite.specs.Held.{Held, state}
-use Rattle.dip_chart.specs.Charts.{Chart}
+use Rattle.dip_map_chart.specs.Charts.{Chart}
 use Rattle.dip_desk.specs.Fitting.{Fits}
 use Rattle.dip_desk.specs.Keeping.{Changes}
-use Rattle.dip_fitting.specs.Laws.{FindsPlaceInTables, FitsIsWritable, WhatFitsFindsPlace}
-use Rattle.dip_legible.specs.Laws.{TablesStayLegible}
-use Rattle.dip_legible.specs.Legible.{AreLegible, AreOurs}
-use Rattle.dip_legible.specs.Texts.{HasTexts}
-use Rattle.dip_machine.specs.Faults.{faults_with}
-use Rattle.dip_machine.specs.State.{Change, state_after}
-use Rattle.dip_machine.specs.declared.faults.KeepFault.{KeepFault}
-use Rattle.dip_machine.specs.declared.faults.KeepFault.TheVariants.{Memory, Disk, Damaged}
-use Rattle.dip_tables.specs.Changing.{changing}
-use Rattle.dip_tables.specs.Columns.{HasWidths, IsWritable}
-use Rattle.dip_refusals.proofs.Keyed.{are_keyed}
-use Rattle.dip_rows.specs.Calls.{IsKept, Lands, does_show, is_honest, tables_in}
-use Rattle.dip_rows.specs.Causes.{has_faulted}
-use Rattle.dip_rows.specs.Good.{IsGood}
-use Rattle.dip_rows.specs.Rows.{tables_of}
-use Rattle.dip_rows.proofs.Parts.{fails, went}
-use Rattle.dip_making.specs.Failing.{FailsFor, HasPlace, MayMake}
-use Rattle.dip_making.specs.Laws.{ChangesAreMade, IsMade}
-use Rattle.dip_making.specs.Making.{Makes}
-use Rattle.dip_making.specs.declared.faults.MakeFault.{MakeFault}
+use Rattle.dip_store.specs.Laws.{FindsPlaceInTables, FitsIsWritable, WhatFitsFindsPlace}
+use Rattle.dip_store_tables.specs.LegibleLaws.{TablesStayLegible}
+use Rattle.dip_store_tables.specs.Legible.{AreLegible, AreOurs}
+use Rattle.dip_store_tables.specs.ChangeTexts.{HasTexts}
+use Rattle.dip_desk_state.specs.Faults.{faults_with}
+use Rattle.dip_desk_state.specs.State.{Change, state_after}
+use Rattle.dip_desk_state.specs.declared.faults.KeepFault.{KeepFault}
+use Rattle.dip_desk_state.specs.declared.faults.KeepFault.TheVariants.{Memory, Disk, Damaged}
+use Rattle.dip_store_tables.specs.Changing.{changing}
+use Rattle.dip_store_tables.specs.ChangeColumns.{HasWidths, IsWritable}
+use Rattle.dip_store_sql.proofs.Keyed.{are_keyed}
+use Rattle.dip_store_sql.specs.Calls.{IsKept, Lands, does_show, is_honest, tables_in}
+use Rattle.dip_store_sql.specs.Causes.{has_faulted}
+use Rattle.dip_store_sql.specs.Good.{IsGood}
+use Rattle.dip_store_sql.specs.Rows.{tables_of}
+use Rattle.dip_store_sql.proofs.Parts.{fails, went}
+use Rattle.dip_store_changes.specs.Failing.{FailsFor, HasPlace, MayMake}
+use Rattle.dip_store_changes.specs.Laws.{ChangesAreMade, IsMade}
+use Rattle.dip_store_changes.specs.Making.{Makes}
+use Rattle.dip_store_changes.specs.declared.faults.MakeFault.{MakeFault}
 use Rattle.dip_store.specs.Faults.{make_fault}
 use Rattle.dip_store.specs.Stored.{book, said_by, telling}
 use Rattle.dip_store.specs.declared.keeper.SqlKeeper.{SqlKeeper}

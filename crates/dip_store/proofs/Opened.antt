@@ -5,19 +5,19 @@ use Rattle.sqlite.specs.Effect.{Database}
 use Rattle.sqlite.specs.Tree.{Trees}
 use Rattle.sqlite.specs.Store.{Ghosts}
 use Rattle.sqlite.specs.Held.{Held, state}
-use Rattle.dip_chart.specs.Charts.{Chart, IsMap}
-use Rattle.dip_legible.specs.Laws.{NewTablesAreLegible}
-use Rattle.dip_legible.specs.Legible.{AreOurs}
-use Rattle.dip_machine.specs.State.{State}
-use Rattle.dip_tables.specs.Laws.{NewTablesAreNew}
-use Rattle.dip_tables.specs.Reading.{state_of}
-use Rattle.dip_tables.specs.Writing.{new_tables}
-use Rattle.dip_rows.specs.Calls.{IsKept, Selects, is_honest, does_show, tables_in}
-use Rattle.dip_rows.specs.Rows.{tables_of}
-use Rattle.dip_rows.proofs.Parts.{went}
-use Rattle.dip_schema.specs.Schema.{our_schema}
-use Rattle.dip_founding.specs.Founding.{Keeps}
-use Rattle.dip_founding.specs.Known.{HasOurTables}
+use Rattle.dip_map_chart.specs.Charts.{Chart, IsMap}
+use Rattle.dip_store_tables.specs.LegibleLaws.{NewTablesAreLegible}
+use Rattle.dip_store_tables.specs.Legible.{AreOurs}
+use Rattle.dip_desk_state.specs.State.{State}
+use Rattle.dip_store_tables.specs.Laws.{NewTablesAreNew}
+use Rattle.dip_store_tables.specs.Reading.{state_of}
+use Rattle.dip_store_tables.specs.Writing.{new_tables}
+use Rattle.dip_store_sql.specs.Calls.{IsKept, Selects, is_honest, does_show, tables_in}
+use Rattle.dip_store_sql.specs.Rows.{tables_of}
+use Rattle.dip_store_sql.proofs.Parts.{went}
+use Rattle.dip_store_sql.specs.Schema.{our_schema}
+use Rattle.dip_store.specs.Founding.{Keeps}
+use Rattle.dip_store.specs.Known.{HasOurTables}
 use Rattle.dip_store.specs.Opening.{IsStore, Opens}
 use Rattle.dip_store.specs.Stored.{said_by}
 

@@ -5,16 +5,16 @@ use Rattle.sqlite.specs.declared.error.Error.{Error}
 use Rattle.sqlite.specs.declared.error.Error.TheVariants.{SqliteFailure}
 use Rattle.sqlite.specs.declared.error.ErrorCode.{ErrorCode}
 use Rattle.sqlite.specs.declared.error.ErrorCode.TheVariants.{OutOfMemory, SystemIoFailure, DatabaseCorrupt, DiskFull, TooBig, NoRowid}
-use Rattle.dip_finding.specs.Faults.{IsFromOutside}
-use Rattle.dip_finding.specs.declared.faults.LookFault.{LookFault}
-use Rattle.dip_finding.specs.declared.faults.LookFault.TheVariants as looks
-use Rattle.dip_machine.specs.declared.faults.KeepFault.{KeepFault}
-use Rattle.dip_machine.specs.declared.faults.KeepFault.TheVariants.{Memory, Disk, Damaged}
-use Rattle.dip_making.specs.Failing.{FailsFor}
-use Rattle.dip_making.specs.declared.faults.MakeFault.{MakeFault}
-use Rattle.dip_making.specs.declared.faults.MakeFault.TheVariants as makes
-use Rattle.dip_refusals.specs.Refusals.{IsWant}
-use Rattle.dip_rows.specs.Causes.{IsCaused}
+use Rattle.dip_store_looks.specs.Faults.{IsFromOutside}
+use Rattle.dip_store_looks.specs.declared.faults.LookFault.{LookFault}
+use Rattle.dip_store_looks.specs.declared.faults.LookFault.TheVariants as looks
+use Rattle.dip_desk_state.specs.declared.faults.KeepFault.{KeepFault}
+use Rattle.dip_desk_state.specs.declared.faults.KeepFault.TheVariants.{Memory, Disk, Damaged}
+use Rattle.dip_store_changes.specs.Failing.{FailsFor}
+use Rattle.dip_store_changes.specs.declared.faults.MakeFault.{MakeFault}
+use Rattle.dip_store_changes.specs.declared.faults.MakeFault.TheVariants as makes
+use Rattle.dip_store_sql.specs.Refusals.{IsWant}
+use Rattle.dip_store_sql.specs.Causes.{IsCaused}
 use Rattle.dip_store.specs.Faults.{code_fault, error_fault, look_fault, make_fault}
 
 not_memory : Memory ≡ Damaged → ⊥

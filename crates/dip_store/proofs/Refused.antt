@@ -7,14 +7,14 @@ use Rattle.sqlite.specs.declared.error.Error.{Error}
 use Rattle.sqlite.specs.declared.error.Error.TheVariants.{SqliteFailure}
 use Rattle.sqlite.specs.declared.error.ErrorCode.{ErrorCode}
 use Rattle.sqlite.specs.declared.error.ErrorCode.TheVariants as code
-use Rattle.dip_founding.specs.Desk.{DeskSays, IsMarked, columns_of}
-use Rattle.dip_founding.specs.Faults.{IsFromOutside}
-use Rattle.dip_founding.specs.declared.desk.DeskColumns.{DeskColumns}
-use Rattle.dip_founding.specs.declared.faults.DeskFault.{DeskFault}
-use Rattle.dip_founding.specs.declared.faults.DeskFault.TheVariants.{Query, Foreign}
-use Rattle.dip_rows.specs.Causes.{IsCaused}
-use Rattle.dip_rows.specs.Statements.{is_first}
-use Rattle.dip_tables.specs.Tables.{DeskRow, Tables}
+use Rattle.dip_store.specs.Desk.{DeskSays, IsMarked, columns_of}
+use Rattle.dip_store.specs.DeskFaults.{IsFromOutside}
+use Rattle.dip_store.specs.declared.desk_row.DeskColumns.{DeskColumns}
+use Rattle.dip_store.specs.declared.desk_faults.DeskFault.{DeskFault}
+use Rattle.dip_store.specs.declared.desk_faults.DeskFault.TheVariants.{Query, Foreign}
+use Rattle.dip_store_sql.specs.Causes.{IsCaused}
+use Rattle.dip_store_sql.specs.TablesAfter.{is_first}
+use Rattle.dip_store_tables.specs.Tables.{DeskRow, Tables}
 use Rattle.dip_store.specs.Faults.{open_code_fault, open_fault, row_fault, desk_fault}
 use Rattle.dip_store.specs.Refusing.{Differs, IsOutage, IsRefused}
 use Rattle.dip_store.specs.declared.faults.StoreFault.{StoreFault}

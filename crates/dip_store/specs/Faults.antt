@@ -4,14 +4,14 @@ use Rattle.sqlite.specs.declared.error.Error.{Error}
 use Rattle.sqlite.specs.declared.error.Error.TheVariants.{SqliteFailure}
 use Rattle.sqlite.specs.declared.error.ErrorCode.{ErrorCode}
 use Rattle.sqlite.specs.declared.error.ErrorCode.TheVariants.{OutOfMemory, SystemIoFailure, DatabaseCorrupt, DiskFull, TooBig, NoRowid}
-use Rattle.dip_finding.specs.declared.faults.LookFault.{LookFault}
-use Rattle.dip_finding.specs.declared.faults.LookFault.TheVariants as looks
-use Rattle.dip_founding.specs.declared.faults.DeskFault.{DeskFault}
-use Rattle.dip_founding.specs.declared.faults.DeskFault.TheVariants as desks
-use Rattle.dip_machine.specs.declared.faults.KeepFault.{KeepFault}
-use Rattle.dip_machine.specs.declared.faults.KeepFault.TheVariants.{Memory, Disk, Damaged}
-use Rattle.dip_making.specs.declared.faults.MakeFault.{MakeFault}
-use Rattle.dip_making.specs.declared.faults.MakeFault.TheVariants as makes
+use Rattle.dip_store_looks.specs.declared.faults.LookFault.{LookFault}
+use Rattle.dip_store_looks.specs.declared.faults.LookFault.TheVariants as looks
+use Rattle.dip_store.specs.declared.desk_faults.DeskFault.{DeskFault}
+use Rattle.dip_store.specs.declared.desk_faults.DeskFault.TheVariants as desks
+use Rattle.dip_desk_state.specs.declared.faults.KeepFault.{KeepFault}
+use Rattle.dip_desk_state.specs.declared.faults.KeepFault.TheVariants.{Memory, Disk, Damaged}
+use Rattle.dip_store_changes.specs.declared.faults.MakeFault.{MakeFault}
+use Rattle.dip_store_changes.specs.declared.faults.MakeFault.TheVariants as makes
 use Rattle.dip_store.specs.declared.faults.StoreFault.{StoreFault}
 use Rattle.dip_store.specs.declared.faults.StoreFault.TheVariants as stores
 

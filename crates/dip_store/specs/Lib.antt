@@ -1,4 +1,12 @@
+pub mod Alone
+pub mod Desk
+pub mod DeskFaults
+pub mod Founding
+pub mod Known
+pub mod Making
+pub mod Laws
 pub mod Faults
 pub mod Opening
 pub mod Refusing
 pub mod Stored
+pub mod Papers

@@ -4,15 +4,15 @@ use Rattle.sqlite.specs.Effect.{Database}
 use Rattle.sqlite.specs.Store.{Ghosts}
 use Rattle.sqlite.specs.Held.{Held, state}
 use Rattle.sqlite.specs.Tree.{Trees}
-use Rattle.dip_chart.specs.Charts.{Chart}
-use Rattle.dip_legible.specs.Legible.{AreOurs}
-use Rattle.dip_machine.specs.State.{State}
-use Rattle.dip_tables.specs.Counting.{AreCounted}
-use Rattle.dip_tables.specs.Tables.{Tables}
-use Rattle.dip_founding.specs.Founding.{Founds}
-use Rattle.dip_rows.specs.Calls.{is_honest}
-use Rattle.dip_rows.specs.Good.{IsGood}
-use Rattle.dip_rows.specs.Rows.{tables_of}
+use Rattle.dip_map_chart.specs.Charts.{Chart}
+use Rattle.dip_store_tables.specs.Legible.{AreOurs}
+use Rattle.dip_desk_state.specs.State.{State}
+use Rattle.dip_store_tables.specs.Counting.{AreCounted}
+use Rattle.dip_store_tables.specs.Tables.{Tables}
+use Rattle.dip_store.specs.Founding.{Founds}
+use Rattle.dip_store_sql.specs.Calls.{is_honest}
+use Rattle.dip_store_sql.specs.Good.{IsGood}
+use Rattle.dip_store_sql.specs.Rows.{tables_of}
 use Rattle.dip_store.specs.Stored.{book}
 use Rattle.dip_store.specs.declared.keeper.SqlKeeper.{SqlKeeper}
 

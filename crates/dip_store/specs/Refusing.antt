@@ -1,8 +1,8 @@
 -- Why a store isn't opened.
 use Rattle.std.specs.Prelude.{◌≡◌, ℕ, List, Option, Some}
-use Rattle.dip_tables.specs.Tables.{DeskRow}
-use Rattle.dip_founding.specs.Desk.{IsMarked}
-use Rattle.dip_founding.specs.declared.desk.DeskColumns.{DeskColumns}
+use Rattle.dip_store_tables.specs.Tables.{DeskRow}
+use Rattle.dip_store.specs.Desk.{IsMarked}
+use Rattle.dip_store.specs.declared.desk_row.DeskColumns.{DeskColumns}
 use Rattle.dip_store.specs.declared.faults.StoreFault.{StoreFault}
 use Rattle.dip_store.specs.declared.faults.StoreFault.TheVariants.{Memory, Disk, OtherMap, OtherSchema}
 

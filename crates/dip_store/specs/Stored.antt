@@ -3,15 +3,15 @@ use Rattle.std.specs.Prelude.{◌≡◌, ◌+◌}
 use Rattle.sqlite.specs.Tree.{Trees}
 use Rattle.sqlite.specs.Store.{Ghosts}
 use Rattle.sqlite.specs.Held.{state}
-use Rattle.dip_chart.specs.Charts.{Chart}
+use Rattle.dip_map_chart.specs.Charts.{Chart}
 use Rattle.dip_desk.specs.Keeping.{Book}
-use Rattle.dip_legible.specs.Legible.{AreOurs}
-use Rattle.dip_machine.specs.State.{State}
-use Rattle.dip_machine.specs.declared.faults.KeepFault.{KeepFault}
-use Rattle.dip_machine.specs.declared.faults.KeepFault.TheVariants.{Memory, Disk, Damaged}
-use Rattle.dip_tables.specs.Reading.{state_of}
-use Rattle.dip_rows.specs.Calls.{IsKept, is_honest, does_show, tables_in}
-use Rattle.dip_rows.specs.Rows.{tables_of}
+use Rattle.dip_store_tables.specs.Legible.{AreOurs}
+use Rattle.dip_desk_state.specs.State.{State}
+use Rattle.dip_desk_state.specs.declared.faults.KeepFault.{KeepFault}
+use Rattle.dip_desk_state.specs.declared.faults.KeepFault.TheVariants.{Memory, Disk, Damaged}
+use Rattle.dip_store_tables.specs.Reading.{state_of}
+use Rattle.dip_store_sql.specs.Calls.{IsKept, is_honest, does_show, tables_in}
+use Rattle.dip_store_sql.specs.Rows.{tables_of}
 use Rattle.dip_store.specs.declared.keeper.SqlKeeper.{SqlKeeper}
 
 -- the state that the rows of a database say by a map

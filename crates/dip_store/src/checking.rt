@@ -3,17 +3,18 @@ ghost use Rattle.std.specs.Prelude.{◌≡◌, IfErr, OnOk};
 ghost use Rattle.std.specs.List.{find};
 ghost use Rattle.sha2.specs.Sha256.{sha256};
 ghost use Rattle.sqlite.specs.Held.{state};
-ghost use Rattle.dip_chart.specs.Charts.{Chart};
-ghost use Rattle.dip_schema.specs.Schema.{our_schema};
-ghost use Rattle.dip_founding.specs.Desk.{DeskSays};
-ghost use Rattle.dip_founding.specs.Known.{HasOurTables};
-ghost use Rattle.dip_legible.specs.Legible.{AreOurs};
-ghost use Rattle.dip_rows.specs.Calls.{IsKept, Selects, does_show, is_honest, tables_in};
-ghost use Rattle.dip_rows.specs.Statements.{is_first};
+ghost use Rattle.dip_map_chart.specs.Charts.{Chart};
+ghost use Rattle.dip_store_sql.specs.Schema.{our_schema};
+ghost use Rattle.dip_store.specs.Desk.{DeskSays};
+ghost use Rattle.dip_store.specs.Known.{HasOurTables};
+ghost use Rattle.dip_store_tables.specs.Legible.{AreOurs};
+ghost use Rattle.dip_store_sql.specs.Calls.{IsKept, Selects, does_show, is_honest, tables_in};
+ghost use Rattle.dip_store_sql.specs.TablesAfter.{is_first};
 ghost use Rattle.dip_store.specs.Refusing.{Differs, IsOutage, IsRefused};
 
+use crate::desk_row::{DeskColumns, read_desk};
 use crate::faults::{StoreFault, desk_fault, open_fault};
-use dip_founding::{DeskColumns, knows_all, read_desk};
+use crate::known::knows_all;
 use dip_letters::sum;
 use sqlite::{Alter, Connection};
 

@@ -2,10 +2,10 @@
 ghost use Rattle.std.specs.Prelude.{◌≡◌};
 ghost use Rattle.dip_store.specs.Faults as told;
 
-use dip_finding::LookFault;
-use dip_founding::DeskFault;
-use dip_machine::KeepFault;
-use dip_making::MakeFault;
+use crate::desk_faults::DeskFault;
+use dip_desk_state::KeepFault;
+use dip_store_changes::MakeFault;
+use dip_store_looks::LookFault;
 use sqlite::{Error, ErrorCode};
 use std::error::Error as AnyError;
 use std::fmt;

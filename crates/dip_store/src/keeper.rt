@@ -3,18 +3,18 @@ ghost use Rattle.std.specs.Prelude.{◌≡◌, ◌<◌};
 ghost use Rattle.dip_store.specs.Stored as stored;
 
 use crate::faults::{look_fault, make_fault};
+use crate::fitting_laws::{what_fits_can_be_written, what_fits_finds_place};
 use crate::papers::look_game_paper;
 use dip_desk::Keeper;
-use dip_finding::{look_desk, look_items, look_own, look_public, look_whole};
-use dip_fitting::{what_fits_can_be_written, what_fits_finds_place};
-use dip_legible::{has_texts, tables_stay_legible};
-use dip_machine::{Change, Desk, KeepFault};
-use dip_making::{changes_are_made, make};
+use dip_desk_state::{Change, Desk, Item, KeepFault, Own, Public, Whole};
 use dip_map::Map;
 use dip_names::Power;
-use dip_records::{Item, Own, Public, Whole};
-use dip_tables::{own_is_found, page_is_found, public_is_found};
-use dip_writable::{has_widths, is_writable};
+use dip_store_changes::{changes_are_made, make};
+use dip_store_looks::{look_desk, look_items, look_own, look_public, look_whole};
+use dip_store_tables::{
+    has_texts, has_widths, is_writable, own_is_found, page_is_found, public_is_found,
+    tables_stay_legible,
+};
 use sqlite::{Alter, Connection};
 use std::alloc::Global;
 use std::rc::Rc;

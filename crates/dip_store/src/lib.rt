@@ -1,12 +1,28 @@
-//! A keeper over an SQL store: the desk's eight tables in one database, each change one transaction.
+//! A keeper over an SQL store: the desk's eight tables in one database, each change one transaction, and a game's papers written out.
 #![tactic(auto)]
 
+mod archive;
 mod checking;
+mod creating;
+mod desk_faults;
+mod desk_row;
 mod faults;
+mod fitting_laws;
+mod founding;
 mod keeper;
+mod known;
+mod making;
 mod opening;
+mod paper_faults;
 mod papers;
 
+pub use archive::{MOST_PAPERS, write_papers};
 pub use checking::VERSION;
+pub use desk_faults::DeskFault;
+pub use desk_row::read_desk;
 pub use faults::{StoreFault, open_fault};
+pub use founding::found;
 pub use keeper::SqlKeeper;
+pub use known::{is_known, knows_all, knows_none};
+pub use making::make_tables;
+pub use paper_faults::PaperFault;

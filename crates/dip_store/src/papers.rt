@@ -1,16 +1,16 @@
 //! A paper of a game that is there.
 ghost use Rattle.std.specs.Prelude.{◌≡◌, IfErr, IfOk, option_map, string_bytes};
-ghost use Rattle.dip_chart.specs.Charts.{Chart};
-ghost use Rattle.dip_finding.specs.Faults.{IsFromOutside};
-ghost use Rattle.dip_legible.specs.Legible.{AreOurs};
-ghost use Rattle.dip_machine.specs.State.{paper_at};
-ghost use Rattle.dip_rows.specs.Causes.{has_faulted};
-ghost use Rattle.dip_rows.specs.Calls.{IsKept, Selects, does_show, is_honest, tables_in};
-ghost use Rattle.dip_tables.specs.Reading.{state_of};
+ghost use Rattle.dip_map_chart.specs.Charts.{Chart};
+ghost use Rattle.dip_store_looks.specs.Faults.{IsFromOutside};
+ghost use Rattle.dip_store_tables.specs.Legible.{AreOurs};
+ghost use Rattle.dip_desk_state.specs.State.{paper_at};
+ghost use Rattle.dip_store_sql.specs.Causes.{has_faulted};
+ghost use Rattle.dip_store_sql.specs.Calls.{IsKept, Selects, does_show, is_honest, tables_in};
+ghost use Rattle.dip_store_tables.specs.Reading.{state_of};
 
-use dip_finding::{LookFault, look_paper};
-use dip_reading::count_papers;
-use dip_tables::paper_is_found;
+use dip_store_looks::{LookFault, look_paper};
+use dip_store_sql::count_papers;
+use dip_store_tables::paper_is_found;
 use sqlite::{Alter, Connection};
 
 /// The text of a game's paper by its number; `None` where there is no such game or paper. A paper's row may stand without its game,

@@ -1,7 +1,7 @@
 //! Scenes of runs of the program.
 use crate::texts::check_text;
 use dip_exchanges::{Mismatch, letters_of, replies_of};
-use dip_program::{run_as_asked, status_of};
+use dip_judge_program::{run_as_asked, status_of};
 use sqlite_disk::Unknown;
 use std::alloc::{AllocError, Global};
 

@@ -2,11 +2,11 @@
 use Rattle.std.proofs.Common.{◌≡◌, ℕ, [], ◌∷◌, ◌<◌, ◌≤◌, ◌+◌, Bool, true, false, cond, List, Option, Some, None, find, refl, sym, ap, ◌∙◌, subst, arith}
 use Rattle.std.specs.Prelude.{nat_le}
 use Rattle.std.proofs.lemmas.Bool.Decides.{nat_tests}
-use Rattle.dip_chart.specs.Charts.{Chart, powers}
-use Rattle.dip_board.specs.declared.boards.Phase.{Phase}
-use Rattle.dip_board.specs.declared.boards.Season.{Season}
-use Rattle.dip_board.specs.declared.boards.Season.TheVariants.{SpringMoves, SpringRetreats, FallMoves, FallRetreats, Winter}
-use Rattle.dip_board.specs.Boards.{Position}
+use Rattle.dip_map_chart.specs.Charts.{Chart, powers}
+use Rattle.dip_map.specs.declared.boards.Phase.{Phase}
+use Rattle.dip_map.specs.declared.boards.Season.{Season}
+use Rattle.dip_map.specs.declared.boards.Season.TheVariants.{SpringMoves, SpringRetreats, FallMoves, FallRetreats, Winter}
+use Rattle.dip_map.specs.Boards.{Position}
 use Rattle.dip_orders.specs.declared.placed.PlacedOrder.{PlacedOrder}
 use Rattle.dip_turn.specs.Centres.{winner, with_owners, has_won}
 use Rattle.dip_turn.specs.Laws.{IsAfter, may_follow, season_number, year_behind}

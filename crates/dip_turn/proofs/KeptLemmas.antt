@@ -5,13 +5,13 @@ use Rattle.std.specs.Prelude.{Contains}
 use Rattle.std.specs.List.{filter_map}
 use Rattle.std.proofs.lemmas.List.Elements.{All-append, All-contains_itself, All-filter, All-from_recursion, Contains-append_left}
 use Rattle.dip_names.specs.declared.names.Unit.{Unit as AUnit}
-use Rattle.dip_board.specs.declared.boards.Dislodged.{Dislodged}
-use Rattle.dip_board.specs.Boards.{Position}
+use Rattle.dip_map.specs.declared.boards.Dislodged.{Dislodged}
+use Rattle.dip_map.specs.Boards.{Position}
 use Rattle.dip_orders.specs.declared.placed.PlacedOrder.{PlacedOrder}
 use Rattle.dip_turn.specs.Adjusting.{disorder, is_among, is_given, units_built, units_kept, units_staying}
 use Rattle.dip_turn.specs.Laws.{RetreatsLoseNobodyElse, WintersAddBuildsAlone, WintersRemoveAlone}
 use Rattle.dip_turn.specs.Retreating.{after_retreat, after_retreats}
-use Rattle.dip_outcomes.proofs.KeptLemmas.{all_here, given, kept_in, weaker}
+use Rattle.dip_turn_moves.proofs.KeptLemmas.{all_here, given, kept_in, weaker}
 
 ReturnsOf : Position → List PlacedOrder → AUnit → Type 0
 ReturnsOf b pending u = (d : Dislodged) × Contains b.dislodged d × (after_retreat pending b.dislodged d ≡ Some u)

@@ -6,11 +6,11 @@ use Rattle.std.specs.Prelude.{All, option_map}
 use Rattle.std.specs.List.{filter_map, list_any}
 use Rattle.std.specs.Option.{unwrap_or}
 use Rattle.dip_names.specs.declared.names.Unit.{Unit as AUnit}
-use Rattle.dip_chart.specs.Charts.{Chart, IsMap, are_units_single, home, is_centre, is_home, is_unit, may_stand}
-use Rattle.dip_board.specs.declared.boards.Dislodged.{Dislodged}
-use Rattle.dip_board.specs.declared.boards.Season.{Season}
-use Rattle.dip_board.specs.declared.boards.Season.TheVariants.{SpringMoves, SpringRetreats, FallMoves, FallRetreats, Winter}
-use Rattle.dip_board.specs.Boards.{IsOf, Position, is_dislodged, is_held, is_left, is_power_if_any, is_prov_if_any, is_vacant, owns}
+use Rattle.dip_map_chart.specs.Charts.{Chart, IsMap, are_units_single, home, is_centre, is_home, is_unit, may_stand}
+use Rattle.dip_map.specs.declared.boards.Dislodged.{Dislodged}
+use Rattle.dip_map.specs.declared.boards.Season.{Season}
+use Rattle.dip_map.specs.declared.boards.Season.TheVariants.{SpringMoves, SpringRetreats, FallMoves, FallRetreats, Winter}
+use Rattle.dip_map.specs.Boards.{IsOf, Position, is_dislodged, is_held, is_left, is_power_if_any, is_prov_if_any, is_vacant, owns}
 use Rattle.dip_orders.specs.Conditions.{is_build}
 use Rattle.dip_orders.specs.Given.{AreGiven, IsEachGiven, orders_of_power}
 use Rattle.dip_orders.specs.Laws.{OrdersAreLawful, StandingIsInForce, UnitsHaveOneOrder}
@@ -22,17 +22,17 @@ use Rattle.dip_orders.specs.declared.placed.PlacedOrder.{PlacedOrder}
 use Rattle.dip_orders.proofs.FindLaws.{find_passes}
 use Rattle.dip_orders.proofs.SpotLaws.{place_low, stands_at}
 use Rattle.dip_orders.proofs.StandingLaws.{same_unit}
-use Rattle.dip_decide.specs.Deciding.{Assignment, Step, is_broken}
-use Rattle.dip_decide.specs.Laws.{AreOrders}
-use Rattle.dip_decide.specs.Matching.{is_convoyed, situation}
-use Rattle.dip_decide.specs.Results.{AreExplained, values_in}
+use Rattle.dip_decide_table.specs.Deciding.{Assignment, Step, is_broken}
+use Rattle.dip_decide_table.specs.Laws.{AreOrders}
+use Rattle.dip_decide_table.specs.Matching.{is_convoyed, situation}
+use Rattle.dip_decide_table.specs.Results.{AreExplained, values_in}
 use Rattle.dip_decide.specs.Statements.{ExplainedSatisfies}
-use Rattle.dip_decide.specs.Steps.{steps_of}
+use Rattle.dip_decide_table.specs.Steps.{steps_of}
 use Rattle.dip_turn.specs.Adjusting.{after_adjustment, disorder, is_among, is_given, units_built, units_kept, units_staying}
 use Rattle.dip_turn.specs.Centres.{holder, owner_by, owners_after, winner, with_owners}
 use Rattle.dip_turn.specs.Laws.{BoardsStayOfTheirMap, RetreatsAreOpen}
-use Rattle.dip_outcomes.specs.Laws.{UnitsStandApart}
-use Rattle.dip_outcomes.specs.Moving.{after_moves, at_destination, dislodged_after, dislodged_unit, entrant, enters, has_moved, is_driven_out, leads_to, may_go, moved_board, origin, prov, standing_after, unit_after}
+use Rattle.dip_turn_moves.specs.Laws.{UnitsStandApart}
+use Rattle.dip_turn_moves.specs.Moving.{after_moves, at_destination, dislodged_after, dislodged_unit, entrant, enters, has_moved, is_driven_out, leads_to, may_go, moved_board, origin, prov, standing_after, unit_after}
 use Rattle.dip_turn.specs.Phases.{Sequel, after_count, follow, goes_on, has_dislodged, in_phase, last_year, needs_adjustment, new_year, sequel, year_end}
 use Rattle.dip_turn.specs.Reports.{Leaves, LeavesAdjusted, LeavesMoved, LeavesRetreated}
 use Rattle.dip_turn.specs.Retreating.{after_retreat, after_retreats}
@@ -40,12 +40,12 @@ use Rattle.dip_turn.specs.declared.report.Account.{Account}
 use Rattle.dip_turn.specs.declared.report.Account.TheVariants.{Movement as OfMovement, Retreats as OfRetreats, Adjustment as OfAdjustment}
 use Rattle.dip_turn.specs.declared.report.Course.TheVariants.{GoesOn, Ended}
 use Rattle.dip_turn.proofs.CentreLaws.{owners_at, owners_count}
-use Rattle.dip_outcomes.proofs.KeptLemmas.{movements_keep_units, not_true}
+use Rattle.dip_turn_moves.proofs.KeptLemmas.{movements_keep_units, not_true}
 use Rattle.dip_turn.proofs.KeptLemmas.{retreats_lose_nobody_else}
 use Rattle.dip_turn.proofs.PlaceLemmas.{built_unit, led_unit, retreat_place}
 use Rattle.dip_turn.proofs.RefugeLemmas.{found_in, refuge_of, retreats_meet_nowhere}
 use Rattle.dip_turn.proofs.SingleLemmas.{found_itself, given_from, kept_from, made_from, made_given, single_append, single_by_power, single_filtered, single_given, single_kept, somebody}
-use Rattle.dip_outcomes.proofs.StandoffLemmas.{standoffs_are_lawful}
+use Rattle.dip_turn_moves.proofs.StandoffLemmas.{standoffs_are_lawful}
 
 -- each of the orders is lawful beside those of its power
 abbrev pub AreEachLawful : Chart → Position → List PlacedOrder → Type 0

@@ -10,9 +10,9 @@ use Rattle.dip_names.specs.declared.names.Place.{Place}
 use Rattle.dip_names.specs.declared.names.Terrain.{Terrain}
 use Rattle.dip_names.specs.declared.names.Terrain.TheVariants.{Inland, Coast, Sea}
 use Rattle.dip_names.specs.declared.names.Unit.{Unit as AUnit}
-use Rattle.dip_chart.specs.Charts.{Chart, IsMap, Province, Realm, army_next, home, is_army_next, is_army_place, is_centre, is_shaped, is_unit, may_stand, no_realm, province, realm}
-use Rattle.dip_board.specs.declared.boards.Dislodged.{Dislodged}
-use Rattle.dip_board.specs.Boards.{Position}
+use Rattle.dip_map_chart.specs.Charts.{Chart, IsMap, Province, Realm, army_next, home, is_army_next, is_army_place, is_centre, is_shaped, is_unit, may_stand, no_realm, province, realm}
+use Rattle.dip_map.specs.declared.boards.Dislodged.{Dislodged}
+use Rattle.dip_map.specs.Boards.{Position}
 use Rattle.dip_orders.specs.Conditions.{army_place, may_convoy, may_march}
 use Rattle.dip_orders.specs.Lawful.{IsAllowed, IsSite, MayCome, Reaches}
 use Rattle.dip_orders.specs.Retreats.{is_place_among, next_places, retreats_of}
@@ -22,7 +22,7 @@ use Rattle.dip_orders.specs.declared.placed.PlacedOrder.{PlacedOrder}
 use Rattle.dip_orders.proofs.LawfulReadLaws.{centre_low, coast_low, fleets_next, foot_coast, foot_near, home_centre, next_low}
 use Rattle.dip_orders.proofs.RetreatLaws.{retreats_exact}
 use Rattle.dip_orders.proofs.SpotLaws.{shape_of}
-use Rattle.dip_outcomes.specs.Moving.{leads_to}
+use Rattle.dip_turn_moves.specs.Moving.{leads_to}
 
 coast_dry : (t : Terrain) → is_coastal t ≡ true → is_sea t ≡ false
 coast_dry Inland h = refl

@@ -5,7 +5,7 @@ use Rattle.std.specs.Option.{unwrap_or}
 use Rattle.std.specs.Prelude.{option_map}
 use Rattle.dip_names.specs.declared.names.Place.{Place}
 use Rattle.dip_names.specs.declared.names.Unit.{Unit as AUnit}
-use Rattle.dip_board.specs.declared.boards.Dislodged.{Dislodged}
+use Rattle.dip_map.specs.declared.boards.Dislodged.{Dislodged}
 use Rattle.dip_orders.specs.Given.{orders_of_power}
 use Rattle.dip_orders.specs.Laws.{IsGiven, NoneRetreatsToItsAttacker, RetreatsAreToVacantProvinces}
 use Rattle.dip_orders.specs.Standing.{is_same_unit}

@@ -6,10 +6,10 @@ use Rattle.std.proofs.lemmas.List.Elements.{All-contains, Contains-append_right,
 use Rattle.std.proofs.lemmas.List.Filters.{length-filter_both}
 use Rattle.std.proofs.lemmas.List.Sums.{count_by-le-length, length-filter}
 use Rattle.dip_names.specs.declared.names.Unit.{Unit as AUnit}
-use Rattle.dip_chart.specs.Charts.{Chart, IsMap, are_units_single, is_unit, may_stand, powers}
-use Rattle.dip_board.specs.declared.boards.Season.{Season}
-use Rattle.dip_board.specs.declared.boards.Season.TheVariants.{SpringMoves, Winter}
-use Rattle.dip_board.specs.Boards.{IsOf, Position, centres_owned, units_counted}
+use Rattle.dip_map_chart.specs.Charts.{Chart, IsMap, are_units_single, is_unit, may_stand, powers}
+use Rattle.dip_map.specs.declared.boards.Season.{Season}
+use Rattle.dip_map.specs.declared.boards.Season.TheVariants.{SpringMoves, Winter}
+use Rattle.dip_map.specs.Boards.{IsOf, Position, centres_owned, units_counted}
 use Rattle.dip_orders.specs.Allowances.{builds_due, removals_due, vacant_homes}
 use Rattle.dip_orders.specs.Conditions.{builds_elsewhere, is_build, is_remove, removals_elsewhere}
 use Rattle.dip_orders.specs.Given.{AreGiven, orders_of_power}
@@ -32,7 +32,7 @@ use Rattle.dip_turn.specs.declared.report.Course.TheVariants.{GoesOn, Ended}
 use Rattle.dip_turn.specs.declared.report.Report.{Report}
 use Rattle.dip_turn.proofs.CountLemmas.{count_append, count_kept, count_map, fewer, flat_among, flat_from, number_among, kept_alike, kept_in_turn, one_if, some_or_none}
 use Rattle.dip_turn.proofs.DisorderCounts.{goes_among, stays_count}
-use Rattle.dip_outcomes.proofs.KeptLemmas.{kept_in}
+use Rattle.dip_turn_moves.proofs.KeptLemmas.{kept_in}
 use Rattle.dip_turn.proofs.MapLemmas.{AreEachLawful, come_of, each_lawful}
 use Rattle.dip_turn.proofs.RefugeLemmas.{found_in}
 use Rattle.dip_turn.proofs.SingleLemmas.{alone, behind, first, kept_from, made_among, made_from, others_single, single_filtered, single_kept, somebody}

@@ -4,8 +4,8 @@ use Rattle.std.specs.List.{filter_map}
 use Rattle.std.specs.Option.{unwrap_or}
 use Rattle.dip_names.specs.declared.names.Place.{Place}
 use Rattle.dip_names.specs.declared.names.Unit.{Unit as AUnit}
-use Rattle.dip_board.specs.declared.boards.Dislodged.{Dislodged}
-use Rattle.dip_board.specs.Boards.{Position}
+use Rattle.dip_map.specs.declared.boards.Dislodged.{Dislodged}
+use Rattle.dip_map.specs.Boards.{Position}
 use Rattle.dip_orders.specs.Standing.{is_same_unit}
 use Rattle.dip_orders.specs.declared.placed.Order.{Order}
 use Rattle.dip_orders.specs.declared.placed.Order.TheVariants.{Hold, Move, SupportHold, SupportMove, Convoy, Retreat, Disband, Build, Remove}

@@ -7,8 +7,7 @@ ghost use Rattle.dip_turn.specs.Adjusting as a;
 
 use crate::disorder::in_disorder;
 use crate::report::Waiver;
-use dip_board::Board;
-use dip_map::Map;
+use dip_map::{Board, Map};
 use dip_names::{Power, Unit};
 use dip_orders::{PlacedOrder, builds_due, is_build, is_remove, is_same_unit, removals_due};
 use std::alloc::{AllocError, Global};

@@ -1,12 +1,11 @@
 //! Centres: who owns them after Fall, and who has won.
 ghost use Rattle.std.specs.Prelude.{◌≡◌, ◌==◌, IfOk, None, find, count_by, length};
 ghost use Rattle.std.specs.List.{filter_map};
-ghost use Rattle.dip_board.specs.Boards.{owner};
+ghost use Rattle.dip_map.specs.Boards.{owner};
 ghost use Rattle.dip_turn.specs.Centres as c;
 
 use crate::report::CentreLine;
-use dip_board::Board;
-use dip_map::Map;
+use dip_map::{Board, Map};
 use dip_names::{Power, Prov, Unit};
 use std::alloc::{AllocError, Global};
 

@@ -9,7 +9,7 @@ use dip_orders::{
     each_unit_has_one_order, none_retreats_to_its_attacker, orders_are_lawful,
     retreats_and_builds_are_to_vacant_provinces,
 };
-use dip_outcomes::units_stand_apart;
+use dip_turn_moves::units_stand_apart;
 
 /// Nobody is lost or doubled: after the retreats each unit stood before or retreated, and after a Winter each stood before or was
 /// built, and each that stood stands or was removed.

@@ -11,7 +11,7 @@ mod report;
 mod retreating;
 
 pub use dip_orders::{allowance, retreats};
-pub use dip_outcomes::{Fate, MovementLine, Outcome};
+pub use dip_turn_moves::{Fate, MovementLine, Outcome};
 pub use laws::{
     boards_stay_of_their_map, centres_change_in_fall, only_retreats_have_dislodged, phases_follow,
     phases_have_one_result, retreats_are_open, units_are_kept, winners_own_more,

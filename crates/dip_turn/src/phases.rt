@@ -6,8 +6,7 @@ ghost use Rattle.dip_turn.specs.Phases as p;
 
 use crate::centres::{winner, with_owners};
 use crate::report::Course;
-use dip_board::{Board, Phase, Season};
-use dip_map::Map;
+use dip_map::{Board, Map, Phase, Season};
 use dip_names::Power;
 use dip_orders::{builds_due, removals_due};
 use std::alloc::{AllocError, Global};

@@ -1,6 +1,6 @@
 //! A phase, adjudicated.
 ghost use Rattle.std.specs.Prelude.{◌≡◌, IfOk, IfErr, length};
-ghost use Rattle.dip_board.specs.Boards.{IsOf};
+ghost use Rattle.dip_map.specs.Boards.{IsOf};
 ghost use Rattle.dip_turn.specs.Phases as p;
 ghost use Rattle.dip_turn.specs.Reports.{IsMoved, IsAdjusted, LeavesMoved, LeavesRetreated, LeavesAdjusted, Leaves, IsPlayed};
 
@@ -9,11 +9,10 @@ use crate::centres::centre_lines;
 use crate::phases::follow;
 use crate::report::{Account, Adjustment, Movement, Report};
 use crate::retreating::{after_retreats, retreat_lines};
-use dip_board::{Board, Season};
 use dip_decide::resolve;
-use dip_map::Map;
+use dip_map::{Board, Map, Season};
 use dip_orders::{Orders, PlacedOrder, each_unit_has_one_order};
-use dip_outcomes::{moved_board, movement_lines, without_destroyed};
+use dip_turn_moves::{moved_board, movement_lines, without_destroyed};
 use std::alloc::{AllocError, Global};
 
 /// The board that a movement leaves, and what is told of it.

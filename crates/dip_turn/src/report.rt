@@ -1,9 +1,9 @@
 //! What is told of a phase that was adjudicated.
-use dip_board::Phase;
-use dip_decide::Resolution;
+use dip_decide_table::Resolution;
+use dip_map::Phase;
 use dip_names::{Power, Prov, Unit};
 use dip_orders::{Orders, PlacedOrder};
-use dip_outcomes::MovementLine;
+use dip_turn_moves::MovementLine;
 
 /// What is told of a movement.
 #[derive(Drop)]

@@ -5,7 +5,7 @@ ghost use Rattle.dip_orders.specs.Standing.{is_same_unit};
 ghost use Rattle.dip_turn.specs.Retreating as r;
 
 use crate::report::RetreatLine;
-use dip_board::{Board, Dislodged};
+use dip_map::{Board, Dislodged};
 use dip_names::{Place, Prov, Unit};
 use dip_orders::{Order, PlacedOrder, is_same_unit};
 use std::alloc::{AllocError, Global};

@@ -1,9 +1,8 @@
 //! A phase adjudicated and played plainly, side by side, with the laws of phases.
-ghost use Rattle.dip_board.specs.Boards.{IsOf};
+ghost use Rattle.dip_map.specs.Boards.{IsOf};
 
-use dip_board::{Board, Season};
 use dip_decide::resolve;
-use dip_map::Map;
+use dip_map::{Board, Map, Season};
 use dip_names::{Power, Prov, Unit};
 use dip_orders::{Order, Orders, PlacedOrder, each_unit_has_one_order};
 use dip_plain_turn::{End, Line, Paper, PlainCourse, State, Word, play_plainly};

@@ -1,6 +1,5 @@
 //! Boards, and orders out of lines: each the order of one unit, before it the name of its power.
-use dip_board::{Board, Phase, Season};
-use dip_map::Map;
+use dip_map::{Board, Map, Phase, Season};
 use dip_names::{Kind, Place, Power, Unit};
 use dip_orders::{PlacedOrder, read_order};
 use std::alloc::{AllocError, Global};

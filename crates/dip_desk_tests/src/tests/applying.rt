@@ -1,11 +1,10 @@
 //! Changes that are made and read back.
 use crate::tests::letter;
 use dip_desk::{Keeper, MemoryKeeper, take};
+use dip_desk_state::{Author, Change, Effect, Item, KeepFault, Kept, NewSeat, Own, Public};
 use dip_exchanges::{CREATE, ORDERS, desk};
-use dip_machine::{Author, Change, Effect, KeepFault, NewSeat};
 use dip_map::{Map, STANDARD};
 use dip_names::Power;
-use dip_records::{Item, Kept, Own, Public};
 use std::alloc::{AllocError, Global};
 use std::process::Abort;
 use std::rc::Rc;

@@ -1,15 +1,14 @@
 //! A keeper that fails at one of its calls.
 ghost use Rattle.std.specs.Prelude.{◌≡◌, ◌<◌, ◌≤◌, IfOk, IfSome, MatchOption};
 ghost use Rattle.dip_desk.specs.Keeping.{Rises};
-ghost use Rattle.dip_machine.specs.Faults.{faults_with};
+ghost use Rattle.dip_desk_state.specs.Faults.{faults_with};
 
 use crate::tests::letter;
 use dip_desk::{Keeper, MemoryKeeper, run, take};
+use dip_desk_state::{Change, Desk, Item, KeepFault, Own, Public, Whole};
 use dip_exchanges::{CREATE, ORDERS, SHOW, desk};
-use dip_machine::{Change, Desk, KeepFault};
 use dip_map::{Map, STANDARD};
 use dip_names::Power;
-use dip_records::{Item, Own, Public, Whole};
 use std::alloc::Global;
 use std::process::Abort;
 use std::rc::Rc;

@@ -1,11 +1,10 @@
 //! What is kept of the first letters, and what is answered to what is no letter.
 use crate::tests::letter;
 use dip_desk::{Keeper, fault_reply, run};
+use dip_desk_state::{Desk, Own, Public, Reply};
 use dip_exchanges::{BOARD, CREATE, ORDERS, SHOW, desk, opened};
 use dip_letters::{LetterFault, digest, sum};
-use dip_machine::Desk;
 use dip_map::{Map, STANDARD};
-use dip_records::{Own, Public, Reply};
 use dip_reports::{opening_paper_text, reply_text};
 use std::alloc::Global;
 use std::test::Fail;

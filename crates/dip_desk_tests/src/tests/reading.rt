@@ -1,9 +1,9 @@
 //! Games that are read whole, and papers by their numbers.
 use dip_desk::{Keeper, MemoryKeeper};
+use dip_desk_state::{Own, Whole};
 use dip_exchanges::{Mismatch, ORDERS, check_exchange, check_paper, desk, reply_to};
 use dip_letters::digest;
 use dip_map::{Map, STANDARD};
-use dip_records::{Own, Whole};
 use dip_reports::opening_paper_text;
 use std::alloc::Global;
 use std::rc::Rc;

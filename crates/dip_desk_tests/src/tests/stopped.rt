@@ -1,10 +1,9 @@
 //! Games that are over or paused, as a letter might leave them: no tick plays them, and one that is over takes no orders.
 use dip_desk::{Keeper, MemoryKeeper};
+use dip_desk_state::{Author, Change, Effect, Kept, Public, Status};
 use dip_exchanges::{check_exchange, opened};
-use dip_machine::{Author, Change, Effect};
 use dip_map::{Map, STANDARD};
 use dip_names::Power;
-use dip_records::{Kept, Public, Status};
 use std::alloc::{AllocError, Global};
 use std::rc::Rc;
 use std::test::Fail;

@@ -1,5 +1,5 @@
 //! Answers, written whole.
-use dip_http_answers::{Answer, HttpRefusal, ReadFault, read_body, read_head, write_answer};
+use dip_http::{Answer, HttpRefusal, ReadFault, read_body, read_head, write_answer};
 use http::StatusCode;
 use std::test::Fail;
 

@@ -1,5 +1,5 @@
 //! Heads, whole, cut short and refused.
-use dip_http_head::{Front, MOST_BODY, Size, front_of};
+use dip_http::{Front, MOST_BODY, Size, front_of};
 use std::test::Fail;
 
 /// A head, the path that it asks for, and the size that it tells.

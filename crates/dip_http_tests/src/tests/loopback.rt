@@ -1,8 +1,7 @@
 //! One client over a socket: what it reads is what is written in memory, however much it sends, and a client that is too slow gets nothing.
 use crate::tests::wires::{ask, ordered, post_of, served, standard};
 use dip_desk::MemoryKeeper;
-use dip_http::HttpFault;
-use dip_http_serve::{MOST_SECONDS, serve_one};
+use dip_http::{HttpFault, MOST_SECONDS, serve_one};
 use dip_map::Map;
 use std::cell::Cell;
 use std::io;

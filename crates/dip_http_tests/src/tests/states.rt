@@ -1,8 +1,7 @@
 //! The public part of a game as JSON.
-use dip_board::Board;
-use dip_http_state::state_text;
-use dip_map::{Map, STANDARD};
-use dip_records::{Public, Status};
+use dip_desk_state::{Public, Status};
+use dip_http::state_text;
+use dip_map::{Board, Map, STANDARD};
 use std::test::Fail;
 
 const OPENING: &str =

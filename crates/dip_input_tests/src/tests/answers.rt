@@ -1,8 +1,8 @@
 //! What is written for an input.
 use dip_desk::MemoryKeeper;
+use dip_judge_runs::{RunFault, run_file};
 use dip_letters::digest;
 use dip_map::{Map, STANDARD};
-use dip_runs::{RunFault, run_file};
 use std::alloc::{AllocError, Global};
 use std::process::Abort;
 use std::test::Fail;

@@ -2,9 +2,9 @@
 use super::answers::answers;
 use super::letters::Letters;
 use dip_desk::MemoryKeeper;
+use dip_judge_runs::run_file;
 use dip_letters::digest;
 use dip_map::{Map, STANDARD};
-use dip_runs::run_file;
 use std::alloc::{AllocError, Global};
 use std::io;
 use std::io::{ErrorKind, Read, Write};

@@ -1,6 +1,6 @@
 //! Lines and their forms.
-use dip_forms::{Form, Mention, Spot, form_of_line, tokens};
 use dip_names::Kind;
+use dip_orders_lines::{Form, Mention, Spot, form_of_line, tokens};
 use std::alloc::{AllocError, Global};
 use std::test::Fail;
 

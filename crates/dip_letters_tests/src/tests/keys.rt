@@ -1,5 +1,5 @@
 //! Some units by their keys.
-use dip_keyed::by_key;
+use dip_decide_table::by_key;
 use dip_names::Prov;
 use std::alloc::Global;
 use std::process::Abort;

@@ -1,6 +1,5 @@
 //! Which boards are of a map.
-use dip_board::{Board, Dislodged};
-use dip_map::{Map, STANDARD};
+use dip_map::{Board, Dislodged, Map, STANDARD};
 use dip_names::{Kind, Place, Power, Prov, Unit};
 use std::alloc::{AllocError, Global};
 use std::process::Abort;

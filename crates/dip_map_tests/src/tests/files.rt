@@ -1,5 +1,5 @@
 //! What a file writes, field by field.
-use dip_mapfile::{Draft, draft_of, tables_of};
+use dip_map_file::{Draft, draft_of, tables_of};
 use dip_names::{Kind, MapFault, Terrain};
 use std::process::Abort;
 use std::test::Fail;

@@ -1,6 +1,5 @@
 //! The lists of the standard map, written out by province, apart from the text of its file.
-use dip_board::Board;
-use dip_map::{Map, STANDARD};
+use dip_map::{Board, Map, STANDARD};
 use dip_names::{Kind, Place, Prov, Terrain};
 use std::process::Abort;
 use std::test::Fail;

@@ -1,5 +1,5 @@
 //! Small graphs and their distances.
-use dip_walk::{distance_at, least_distances};
+use dip_map_chart::{distance_at, least_distances};
 use std::alloc::{AllocError, Global};
 use std::test::Fail;
 

@@ -1,8 +1,7 @@
 //! How many units a power may build or has to remove.
 use super::scenes::{Scene, board_of};
 use super::the_power;
-use dip_board::Season;
-use dip_map::{Map, STANDARD};
+use dip_map::{Map, STANDARD, Season};
 use dip_names::MapFault;
 use dip_orders::allowance;
 use std::alloc::{AllocError, Global};

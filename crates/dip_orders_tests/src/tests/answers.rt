@@ -1,8 +1,7 @@
 //! What lines give, as text.
 use super::scenes::{Scene, board_of};
 use super::{assert_count, assert_text, the_power};
-use dip_board::{Board, Season};
-use dip_map::{Map, STANDARD};
+use dip_map::{Board, Map, STANDARD, Season};
 use dip_names::{MapFault, Power};
 use dip_orders::{OrderFault, PlacedOrder, print_order, read_order};
 use std::alloc::{AllocError, Global};

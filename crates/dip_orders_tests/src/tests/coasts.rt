@@ -1,7 +1,7 @@
 //! Fleets and the coasts that they come to.
 use super::answers::{Table, check_tables};
 use super::scenes::Scene;
-use dip_board::Season;
+use dip_map::Season;
 use std::test::Fail;
 
 /// Fleets beside provinces of two coasts and on such coasts, and an army in such a province.

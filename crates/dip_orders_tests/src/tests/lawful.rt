@@ -1,8 +1,7 @@
 //! Each order that the map allows is read from its own text.
 use super::assert_count;
 use super::scenes::{FIELD, Scene, board_of};
-use dip_board::{Board, Season};
-use dip_map::{Map, STANDARD};
+use dip_map::{Board, Map, STANDARD, Season};
 use dip_names::{Kind, Place, Unit};
 use dip_orders::{Order, PlacedOrder, print_order, read_order};
 use std::alloc::{AllocError, Global};

@@ -1,8 +1,7 @@
 //! Bytes, case and spaces of lines.
 use super::answers::{answer, check_opening};
 use super::{assert_count, assert_text};
-use dip_board::Board;
-use dip_map::{Map, STANDARD};
+use dip_map::{Board, Map, STANDARD};
 use dip_names::MapFault;
 use std::alloc::{AllocError, Global};
 use std::process::Abort;

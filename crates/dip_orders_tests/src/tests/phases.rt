@@ -2,8 +2,7 @@
 use super::answers::answer;
 use super::assert_count;
 use super::scenes::{Scene, board_of};
-use dip_board::{Board, Season};
-use dip_map::{Map, STANDARD};
+use dip_map::{Board, Map, STANDARD, Season};
 use dip_names::MapFault;
 use std::alloc::{AllocError, Global};
 use std::process::Abort;

@@ -1,8 +1,7 @@
 //! Where dislodged units may go.
 use super::assert_text;
 use super::scenes::{Scene, board_of};
-use dip_board::{Board, Dislodged, Season};
-use dip_map::{Map, STANDARD};
+use dip_map::{Board, Dislodged, Map, STANDARD, Season};
 use dip_names::{MapFault, Place, Unit};
 use dip_orders::{print_unit, retreats};
 use std::alloc::{AllocError, Global};

@@ -1,7 +1,6 @@
 //! Boards for tests, from texts.
 use super::{the_place, the_power};
-use dip_board::{Board, Dislodged, Phase, Season};
-use dip_map::Map;
+use dip_map::{Board, Dislodged, Map, Phase, Season};
 use dip_names::{Kind, Place, Power, Prov, Unit};
 use std::alloc::{AllocError, Global};
 use std::process::Abort;

@@ -2,8 +2,7 @@
 use super::answers::pending_of;
 use super::scenes::{Scene, board_of};
 use super::{assert_text, the_power};
-use dip_board::{Board, Season};
-use dip_map::{Map, STANDARD};
+use dip_map::{Board, Map, STANDARD, Season};
 use dip_names::{MapFault, Place, Unit};
 use dip_orders::{Order, Orders, PlacedOrder, print_order};
 use std::alloc::{AllocError, Global};

@@ -1,7 +1,7 @@
 //! Lines that support and convoy.
 use super::answers::{Table, check_tables};
 use super::scenes::FIELD;
-use dip_board::Season;
+use dip_map::Season;
 use std::test::Fail;
 
 /// A power, its line, and the canonical text or the fault. A line that breaks two rules has the fault of the first.

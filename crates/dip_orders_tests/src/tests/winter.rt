@@ -1,7 +1,7 @@
 //! Lines of the Winter.
 use super::answers::{Table, check_tables};
 use super::scenes::Scene;
-use dip_board::Season;
+use dip_map::Season;
 use std::test::Fail;
 
 /// Russia and France may build two units each and Italy one, though Russia has no centre and the others no room for more; Austria has as

@@ -1,7 +1,7 @@
 //! Lines of dislodged units.
 use super::answers::{Table, check_tables};
 use super::scenes::Scene;
-use dip_board::Season;
+use dip_map::Season;
 use std::test::Fail;
 
 /// The army in Munich was dislodged by one that came from Burgundy.

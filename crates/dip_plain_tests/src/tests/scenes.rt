@@ -1,6 +1,5 @@
 //! Boards and orders, from the lines of a paper: each line a power, the order of one of its units, and what becomes of it.
-use dip_board::{Board, Phase, Season};
-use dip_map::Map;
+use dip_map::{Board, Map, Phase, Season};
 use dip_names::{Kind, Place, Power, Prov, Unit};
 use dip_orders::{PlacedOrder, read_order};
 use std::alloc::{AllocError, Global};

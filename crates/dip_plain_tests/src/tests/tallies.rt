@@ -1,8 +1,7 @@
 //! What comes up on boards made by chance.
 use super::compare::compare;
 use super::scenes::board_of;
-use dip_board::Board;
-use dip_map::Map;
+use dip_map::{Board, Map};
 use dip_orders::PlacedOrder;
 use dip_plain::{Field, Outcome, PlainFault, Step};
 use std::alloc::{AllocError, Global};

@@ -1,7 +1,6 @@
 //! What `resolve` tells.
-use dip_board::Board;
 use dip_decide::resolve;
-use dip_map::Map;
+use dip_map::{Board, Map};
 use dip_names::Prov;
 use dip_orders::{Orders, PlacedOrder, each_unit_has_one_order};
 use dip_plain::{Decision, Outcome, Step};

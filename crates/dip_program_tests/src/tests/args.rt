@@ -1,6 +1,6 @@
 //! The words of a command line, and what they ask for.
 use clap::error::ErrorKind;
-use dip_args::{Args, UsageFault, read_args};
+use dip_judge_program::{Args, UsageFault, read_args};
 use std::test::Fail;
 
 /// 64 bytes, the longest secret.

@@ -1,5 +1,5 @@
 //! Words that are refused before a letter is read.
-use dip_program::{Failure, run_as_asked, status_of};
+use dip_judge_program::{Failure, run_as_asked, status_of};
 use sqlite_disk::Unknown;
 use std::alloc::{AllocError, Global};
 use std::fs;

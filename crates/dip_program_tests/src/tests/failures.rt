@@ -1,11 +1,9 @@
 //! What the program tells whoever started it.
-use dip_archive::PaperFault;
-use dip_args::{UsageFault, read_args};
-use dip_machine::KeepFault;
+use dip_desk_state::KeepFault;
+use dip_judge_program::{Failure, UsageFault, read_args};
+use dip_judge_runs::{FileFault, NoMap, ReadFault, RunFault};
 use dip_names::MapFault;
-use dip_program::Failure;
-use dip_runs::{FileFault, NoMap, ReadFault, RunFault};
-use dip_store::StoreFault;
+use dip_store::{PaperFault, StoreFault};
 use std::alloc::{AllocError, Global};
 use std::process::Abort;
 use std::test::Fail;

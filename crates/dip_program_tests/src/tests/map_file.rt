@@ -1,6 +1,6 @@
 //! Maps' files, in memory and of the system.
+use dip_judge_runs::{FileFault, MOST_MAP, NoMap, ReadFault, read_map, read_text, text_said};
 use dip_map::STANDARD;
-use dip_runs::{FileFault, MOST_MAP, NoMap, ReadFault, read_map, read_text, text_said};
 use std::alloc::Global;
 use std::io::Read;
 use std::rt::Files;

@@ -1,5 +1,5 @@
 //! A port that is taken.
-use dip_program::{run_as_asked, status_of};
+use dip_judge_program::{run_as_asked, status_of};
 use sqlite_disk::Unknown;
 use std::alloc::Global;
 use std::net::TcpListener;

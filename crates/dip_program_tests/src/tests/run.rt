@@ -1,8 +1,8 @@
 //! Whole inputs, and what is written for them.
 use dip_desk::MemoryKeeper;
+use dip_judge_runs::{MOST_INPUT, RunFault, run_file};
 use dip_letters::digest;
 use dip_map::{Map, STANDARD};
-use dip_runs::{MOST_INPUT, RunFault, run_file};
 use std::alloc::Global;
 use std::io;
 use std::io::{Read, Write};

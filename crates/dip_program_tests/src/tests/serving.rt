@@ -1,8 +1,8 @@
 //! Clients that are served one after the other.
 use dip_desk::MemoryKeeper;
+use dip_judge_program::serve_all;
 use dip_letters::digest;
 use dip_map::{Map, STANDARD};
-use dip_program::serve_all;
 use std::alloc::Global;
 use std::io::{Read, Write};
 use std::net::{Shutdown, TcpListener, TcpStream};

@@ -1,5 +1,5 @@
 //! What INBOX answers, whole.
-use dip_records::Item;
+use dip_desk_state::Item;
 use dip_reports::inbox_text;
 use std::alloc::{AllocError, Global};
 use std::rc::Rc;

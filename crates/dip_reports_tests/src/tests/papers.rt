@@ -1,9 +1,9 @@
 //! Papers in which no phase is played, whole.
 use super::{BOARD, assert_text, the_board, the_power};
+use dip_desk_state::{Public, Status};
 use dip_letters::{Command, MasterCommand, Next, Notice, next_letter};
 use dip_map::{Map, STANDARD};
 use dip_names::Power;
-use dip_records::{Public, Status};
 use dip_reports::{draw_paper_text, notice_paper_text};
 use std::alloc::{AllocError, Global};
 use std::process::Abort;

@@ -1,8 +1,7 @@
 //! Boards read from rows that were written out by hand.
-use dip_board::{Board, Phase, Season};
-use dip_board_rows::{CentreColumns, UnitColumns, read_board};
-use dip_map::{Map, STANDARD};
+use dip_map::{Board, Map, Phase, STANDARD, Season};
 use dip_names::{Kind, Power};
+use dip_store_tables::{CentreColumns, UnitColumns, read_board};
 use std::alloc::{AllocError, Global};
 use std::process::Abort;
 use std::test::Fail;

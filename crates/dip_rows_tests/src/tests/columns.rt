@@ -1,7 +1,7 @@
 //! Columns read as a store has them.
-use dip_columns::{ItemColumns, read_item, read_kept, read_status};
+use dip_desk_state::{Item, Status};
 use dip_map::{Map, STANDARD};
-use dip_records::{Item, Status};
+use dip_store_tables::{ItemColumns, read_item, read_kept, read_status};
 use std::alloc::{AllocError, Global};
 use std::test::Fail;
 

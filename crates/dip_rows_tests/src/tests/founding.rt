@@ -1,6 +1,6 @@
 //! Stores in memory: empty, founded, and with a table of another's. The helpers have no clause, so that no test's proof carries the state
 //! of a call.
-use dip_founding::{DeskFault, found, knows_all, knows_none, read_desk};
+use dip_store::{DeskFault, found, knows_all, knows_none, read_desk};
 use sqlite::{Alter, Connection, Error, ErrorCode};
 use std::test::Fail;
 

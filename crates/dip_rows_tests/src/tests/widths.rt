@@ -1,10 +1,8 @@
 //! Changes that can be written, each beside one that can't.
-use dip_board::Board;
-use dip_machine::{Author, Change, Effect, NewSeat};
-use dip_map::{Map, STANDARD};
+use dip_desk_state::{Author, Change, Effect, Item, Kept, NewSeat, Public, Standing, Status};
+use dip_map::{Board, Map, STANDARD};
 use dip_names::{Power, Prov};
-use dip_records::{Item, Kept, Public, Standing, Status};
-use dip_writable::{has_widths, is_writable};
+use dip_store_tables::{has_widths, is_writable};
 use std::alloc::{AllocError, Global};
 use std::rc::Rc;
 use std::test::Fail;

@@ -1,9 +1,9 @@
 //! The papers of a game, written out as a secretary asks for them.
 use super::papers::OPENING;
-use dip_archive::write_papers;
 use dip_desk::MemoryKeeper;
 use dip_exchanges::{Mismatch, check_exchange, opened};
 use dip_map::{Map, STANDARD};
+use dip_store::write_papers;
 use std::alloc::Global;
 use std::test::Fail;
 

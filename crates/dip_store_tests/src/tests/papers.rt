@@ -1,8 +1,8 @@
 //! The papers of a game in a store, written out.
-use dip_archive::write_papers;
 use dip_desk::Keeper;
 use dip_exchanges::{Mismatch, check_exchange, reopened, stored_desk};
 use dip_map::{Map, STANDARD};
+use dip_store::write_papers;
 use std::alloc::Global;
 use std::test::Fail;
 

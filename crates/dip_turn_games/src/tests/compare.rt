@@ -1,6 +1,5 @@
 //! A phase compared with the plain program.
-use dip_board::Board;
-use dip_map::Map;
+use dip_map::{Board, Map};
 use dip_orders::PlacedOrder;
 use dip_turn::Report;
 use dip_turn_compare::Mismatch;

@@ -1,7 +1,6 @@
 //! Boards and orders by chance.
-use dip_board::{Board, Dislodged, Phase, Season};
 use dip_dice::Dice;
-use dip_map::Map;
+use dip_map::{Board, Dislodged, Map, Phase, Season};
 use dip_names::{Kind, Place, Power, Prov, Terrain, Unit};
 use dip_orders::{Order, Other, PlacedOrder, print_order, read_order};
 use dip_turn::retreats;

@@ -1,9 +1,8 @@
 //! Whole games by chance.
 use super::compare::compare;
 use super::draws::{draw_board, draw_orders};
-use dip_board::{Board, Phase, Season};
 use dip_dice::Dice;
-use dip_map::{Map, STANDARD};
+use dip_map::{Board, Map, Phase, STANDARD, Season};
 use dip_turn::{Account, Course, Fate, Report};
 use std::alloc::{AllocError, Global};
 use std::process::Abort;

@@ -1,7 +1,7 @@
 //! Builds and removals.
 use super::rows::{Row, play_rows};
 use super::scenes::{SPRING, Scene};
-use dip_board::Season;
+use dip_map::Season;
 use std::test::Fail;
 
 const BUILDS_AND_REMOVALS: &[Row] = &[

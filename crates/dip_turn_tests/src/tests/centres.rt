@@ -1,7 +1,7 @@
 //! Centres, victory and the end of the game.
 use super::rows::{Row, play_rows};
 use super::scenes::{SPRING, Scene};
-use dip_board::Season;
+use dip_map::Season;
 use std::test::Fail;
 
 const AFTER_FALL: &[Row] = &[

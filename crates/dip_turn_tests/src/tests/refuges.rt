@@ -1,8 +1,7 @@
 //! Retreats.
 use super::rows::{Row, play_rows};
 use super::scenes::{SPRING, Scene, board_of};
-use dip_board::Season;
-use dip_map::{Map, STANDARD};
+use dip_map::{Map, STANDARD, Season};
 use dip_orders::{OrderFault, read_order};
 use dip_turn::retreats;
 use std::test::Fail;

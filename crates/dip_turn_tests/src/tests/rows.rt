@@ -2,8 +2,7 @@
 use super::compare::compare;
 use super::scenes::{Scene, board_of, dislodged_in, owners_in, provs_in, units_in};
 use super::texts::{paper_of, title};
-use dip_board::Board;
-use dip_map::{Map, STANDARD};
+use dip_map::{Board, Map, STANDARD};
 use dip_orders::{PlacedOrder, read_order};
 use dip_plain_turn::State;
 use dip_turn::Report;

@@ -1,6 +1,5 @@
 //! Boards for tests, from texts.
-use dip_board::{Board, Dislodged, Phase, Season};
-use dip_map::Map;
+use dip_map::{Board, Dislodged, Map, Phase, Season};
 use dip_names::{Kind, Place, Power, Prov, Unit};
 use std::alloc::{AllocError, Global};
 use std::process::Abort;

@@ -1,10 +1,9 @@
 //! The paper of a phase.
-use dip_board::{Board, Phase};
-use dip_map::Map;
-use dip_papers::paper_text;
-use dip_records::{Public, Status};
+use dip_desk_state::{Public, Status};
+use dip_map::{Board, Map, Phase};
 use dip_reports::push_phase;
 use dip_turn::{Course, Report};
+use dip_turn_papers::paper_text;
 use std::alloc::{AllocError, Global};
 
 fn status_of(course: Course) -> Status {

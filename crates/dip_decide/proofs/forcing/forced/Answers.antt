@@ -1,9 +1,9 @@
 use Rattle.std.proofs.Common.{sym, ◌∙◌}
-use Rattle.dip_decide.specs.Corners.{rises}
-use Rattle.dip_decide.specs.Given.{situation_of, known_of}
-use Rattle.dip_decide.specs.Movement.{rule, mentions}
-use Rattle.dip_decide.proofs.CornerLaws.{forced_by_least, forced_by_greatest}
-use Rattle.dip_decide.proofs.Rises.{rule_rises}
+use Rattle.dip_decide_table.specs.Corners.{rises}
+use Rattle.dip_decide_table.specs.Given.{situation_of, known_of}
+use Rattle.dip_decide_table.specs.Movement.{rule, mentions}
+use Rattle.dip_decide_table.proofs.CornerLaws.{forced_by_least, forced_by_greatest}
+use Rattle.dip_decide_table.proofs.Rises.{rule_rises}
 use Rattle.dip_decide.proofs.forcing.forced.Goals as goal
 
 pub returns-then-least : goal.returns-then-least

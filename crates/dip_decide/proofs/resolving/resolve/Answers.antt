@@ -1,11 +1,11 @@
 use Rattle.std.proofs.Common.{sym, ◌∙◌, ap, ◌≡◌, ◌≤◌, ◌<◌, ◌+◌, ◌^◌, subst}
-use Rattle.dip_decide.specs.Given.{known_of, situation_of}
-use Rattle.dip_decide.specs.Matching.{situation}
-use Rattle.dip_decide.specs.Movement.{Situation, IsSituation}
-use Rattle.dip_decide.specs.Results.{decided_in, mentions_in}
+use Rattle.dip_decide_table.specs.Given.{known_of, situation_of}
+use Rattle.dip_decide_table.specs.Matching.{situation}
+use Rattle.dip_decide_table.specs.Movement.{Situation, IsSituation}
+use Rattle.dip_decide_table.specs.Results.{decided_in, mentions_in}
 use Rattle.dip_decide.proofs.Situated.{situated}
 use Rattle.dip_decide.proofs.ResultLaws.{within, bounded_board, resolved_board}
-use Rattle.dip_decide.proofs.Rounds.{if_ok_more}
+use Rattle.dip_decide_table.proofs.Rounds.{if_ok_more}
 use Rattle.dip_decide.proofs.resolving.resolve.Goals as goal
 
 pub table_of-requires : goal.table_of-requires

@@ -1,9 +1,9 @@
 use Rattle.std.proofs.Common.{◌≡◌, ◌∙◌, ap, sym, subst}
-use Rattle.dip_decide.specs.Given.{known_of, situation_of, IsAnswer}
-use Rattle.dip_decide.specs.Matching.{situation}
-use Rattle.dip_decide.specs.Movement.{Situation, IsSituation, rule}
+use Rattle.dip_decide_table.specs.Given.{known_of, situation_of, IsAnswer}
+use Rattle.dip_decide_table.specs.Matching.{situation}
+use Rattle.dip_decide_table.specs.Movement.{Situation, IsSituation, rule}
 use Rattle.dip_decide.proofs.ResultLaws.{within}
-use Rattle.dip_decide.proofs.Rounds.{if_ok_more}
+use Rattle.dip_decide_table.proofs.Rounds.{if_ok_more}
 use Rattle.dip_decide.proofs.Situated.{situated}
 use Rattle.dip_decide.proofs.testing.forced.Goals as goal
 

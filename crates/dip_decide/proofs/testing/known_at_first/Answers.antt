@@ -1,9 +1,9 @@
 use Rattle.std.proofs.Common.{◌≡◌, ◌∙◌, ap}
-use Rattle.dip_decide.specs.Given.{situation_of}
-use Rattle.dip_decide.specs.Matching.{situation}
-use Rattle.dip_decide.specs.Movement.{at_first}
+use Rattle.dip_decide_table.specs.Given.{situation_of}
+use Rattle.dip_decide_table.specs.Matching.{situation}
+use Rattle.dip_decide_table.specs.Movement.{at_first}
 use Rattle.dip_decide.proofs.ResultLaws.{within}
-use Rattle.dip_decide.proofs.Rounds.{if_ok_more}
+use Rattle.dip_decide_table.proofs.Rounds.{if_ok_more}
 use Rattle.dip_decide.proofs.testing.known_at_first.Goals as goal
 
 pub table_of-requires : goal.table_of-requires

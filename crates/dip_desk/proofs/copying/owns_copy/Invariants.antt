@@ -1,5 +1,5 @@
 use Rattle.std.proofs.Common.{◌≡◌, take, map}
-use Rattle.dip_records.specs.Rows as rows
+use Rattle.dip_desk_state.specs.Rows as rows
 use Rattle.dip_desk.specs.Stored.{parts}
 use Rattle.dip_desk.proofs.copying.owns_copy.Given as goal
 

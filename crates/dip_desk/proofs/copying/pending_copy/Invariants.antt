@@ -1,5 +1,5 @@
 use Rattle.std.proofs.Common.{◌≡◌, take}
-use Rattle.dip_records.specs.Rows as rows
+use Rattle.dip_desk_state.specs.Rows as rows
 use Rattle.dip_desk.proofs.copying.pending_copy.Given as goal
 
 abbrev pub invariant-loop-standing : goal.invariant-loop-standing

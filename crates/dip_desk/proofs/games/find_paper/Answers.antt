@@ -1,7 +1,7 @@
 use Rattle.std.proofs.Common.{ap, ◌∙◌, List, Option, String, option_and_then}
 use Rattle.std.specs.declared.alloc.Global.{Global}
-use Rattle.dip_machine.specs.State as s
-use Rattle.dip_records.specs.Rows as rows
+use Rattle.dip_desk_state.specs.State as s
+use Rattle.dip_desk_state.specs.Rows as rows
 use Rattle.dip_desk.proofs.games.find_paper.Goals as goal
 
 pub returns : goal.returns

@@ -1,5 +1,5 @@
 use Rattle.std.proofs.Common.{ap, ◌∙◌, List, Option, option_and_then, option_map}
-use Rattle.dip_machine.specs.State as s
+use Rattle.dip_desk_state.specs.State as s
 use Rattle.dip_desk.specs.Stored.{parts}
 use Rattle.dip_desk.specs.declared.games.SeatRow.{SeatRow}
 use Rattle.dip_desk.proofs.PartLemmas.{of_seat}

@@ -1,5 +1,5 @@
 use Rattle.std.proofs.Common.{◌-◌, arith}
-use Rattle.dip_records.specs.Rows as rows
+use Rattle.dip_desk_state.specs.Rows as rows
 use Rattle.dip_desk.proofs.GamesLemmas.{none_numbered, paper_lent}
 use Rattle.dip_desk.proofs.games.numbered.Goals as goal
 

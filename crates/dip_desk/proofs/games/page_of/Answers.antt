@@ -1,7 +1,7 @@
 use Rattle.std.proofs.Common.{◌≡◌, ◌∙◌}
 use Rattle.std.proofs.lemmas.Result.{IfOk-weaker}
-use Rattle.dip_machine.specs.State as s
-use Rattle.dip_records.specs.Rows as rows
+use Rattle.dip_desk_state.specs.State as s
+use Rattle.dip_desk_state.specs.Rows as rows
 use Rattle.dip_desk.proofs.PartLemmas.{page_shown}
 use Rattle.dip_desk.proofs.games.page_of.Goals as goal
 

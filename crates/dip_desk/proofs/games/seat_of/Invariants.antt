@@ -1,5 +1,5 @@
 use Rattle.std.proofs.Common.{◌≡◌, drop}
-use Rattle.dip_machine.specs.State.{seat_at}
+use Rattle.dip_desk_state.specs.State.{seat_at}
 use Rattle.dip_desk.specs.Stored.{parts}
 use Rattle.dip_desk.proofs.games.seat_of.Given as goal
 

@@ -1,6 +1,6 @@
 use Rattle.std.proofs.Common.{◌≡◌, take, map}
-use Rattle.dip_machine.specs.Rows as desk_rows
-use Rattle.dip_machine.specs.State.{fresh}
+use Rattle.dip_desk_state.specs.ChangeRows as desk_rows
+use Rattle.dip_desk_state.specs.State.{fresh}
 use Rattle.dip_desk.specs.Stored.{parts}
 use Rattle.dip_desk.proofs.opening.fresh_seats.Given as goal
 

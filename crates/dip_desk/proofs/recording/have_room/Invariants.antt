@@ -1,6 +1,6 @@
 use Rattle.std.proofs.Common.{◌≡◌, drop}
 use Rattle.std.specs.List.{list_all}
-use Rattle.dip_machine.specs.State.{has_room}
+use Rattle.dip_desk_state.specs.State.{has_room}
 use Rattle.dip_desk.specs.Stored.{parts}
 use Rattle.dip_desk.proofs.recording.have_room.Given as goal
 

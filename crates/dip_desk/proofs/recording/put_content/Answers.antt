@@ -1,6 +1,6 @@
 use Rattle.std.proofs.Common.{ap, string_bytes}
-use Rattle.dip_machine.specs.Rows as desk_rows
-use Rattle.dip_records.specs.Rows as rows
+use Rattle.dip_desk_state.specs.ChangeRows as desk_rows
+use Rattle.dip_desk_state.specs.Rows as rows
 use Rattle.dip_desk.proofs.PartLemmas.{page_brings}
 use Rattle.dip_desk.proofs.recording.put_content.Goals as goal
 

@@ -1,5 +1,5 @@
 use Rattle.std.proofs.Common.{◌<◌, ◌∙◌, length, arith}
-use Rattle.dip_machine.specs.Rows as desk_rows
+use Rattle.dip_desk_state.specs.ChangeRows as desk_rows
 use Rattle.dip_desk.proofs.PartLemmas.{reach_next}
 use Rattle.dip_desk.proofs.recording.reach_seats.Goals as goal
 

@@ -1,5 +1,5 @@
 use Rattle.std.proofs.Common.{◌≡◌, ◌++◌, map, take, drop}
-use Rattle.dip_machine.specs.Rows as desk_rows
+use Rattle.dip_desk_state.specs.ChangeRows as desk_rows
 use Rattle.dip_desk.specs.Stored.{parts, reached}
 use Rattle.dip_desk.proofs.recording.reach_seats.Given as goal
 

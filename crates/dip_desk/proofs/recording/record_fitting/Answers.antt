@@ -1,5 +1,5 @@
 use Rattle.std.proofs.Common.{ap, sym, ◌∙◌, string_bytes, List}
-use Rattle.dip_machine.specs.Rows as desk_rows
+use Rattle.dip_desk_state.specs.ChangeRows as desk_rows
 use Rattle.dip_desk.specs.declared.games.SeatRow.{SeatRow}
 use Rattle.dip_desk.specs.Stored.{finds_room, parts}
 use Rattle.dip_desk.proofs.PartLemmas.{no_room}

@@ -2,8 +2,8 @@ use Rattle.std.proofs.Common.{◌≡◌, ◌∙◌, ap, sym, subst, List, ℕ, O
 use Rattle.std.specs.List.{position}
 use Rattle.std.specs.Map.{keys_of, lookup}
 use Rattle.std.proofs.lemmas.Result.{on_err_weaker, on_ok_weaker}
-use Rattle.dip_machine.specs.Rows as desk_rows
-use Rattle.dip_machine.specs.State as s
+use Rattle.dip_desk_state.specs.ChangeRows as desk_rows
+use Rattle.dip_desk_state.specs.State as s
 use Rattle.dip_desk.specs.Fitting.{FindsPlace}
 use Rattle.dip_desk.proofs.GamesLemmas.{game_kept, game_same, game_set, game_there, is_named}
 use Rattle.dip_desk.proofs.recording.record_game.Goals as goal

@@ -1,9 +1,9 @@
 use Rattle.std.proofs.Common.{ap, sym, subst, ◌∙◌, List, map}
 use Rattle.std.specs.List.{AllByRecursion}
-use Rattle.dip_machine.specs.Rows as desk_rows
-use Rattle.dip_machine.specs.State.{Part, with_author}
-use Rattle.dip_records.specs.Records.{Kept}
-use Rattle.dip_records.specs.Rows as rows
+use Rattle.dip_desk_state.specs.ChangeRows as desk_rows
+use Rattle.dip_desk_state.specs.State.{Part, with_author}
+use Rattle.dip_desk_state.specs.Records.{Kept}
+use Rattle.dip_desk_state.specs.Rows as rows
 use Rattle.dip_desk.specs.Stored.{MaySend, parts, reached}
 use Rattle.dip_desk.proofs.PartLemmas.{all_may_send, row_after}
 use Rattle.dip_desk.proofs.recording.record_row.Goals as goal

@@ -1,10 +1,10 @@
 use Rattle.std.proofs.Common.{◌≡◌, ◌<◌, ◌==◌, length, get_or, arith}
-use Rattle.dip_machine.specs.Keyed.{place}
-use Rattle.dip_machine.specs.State.{power_in, with_letter}
-use Rattle.dip_machine.specs.Rows as desk_rows
+use Rattle.dip_desk_state.specs.Keyed.{place}
+use Rattle.dip_desk_state.specs.State.{power_in, with_letter}
+use Rattle.dip_desk_state.specs.ChangeRows as desk_rows
 use Rattle.dip_desk.specs.Stored.{MaySend, part, parts}
-use Rattle.dip_records.specs.Rows as rows
-use Rattle.dip_machine.proofs.KeyedLemmas.{said_kept, said_set}
+use Rattle.dip_desk_state.specs.Rows as rows
+use Rattle.dip_desk_state.proofs.KeyedLemmas.{said_kept, said_set}
 use Rattle.dip_desk.proofs.PartLemmas.{at_place}
 use Rattle.dip_desk.proofs.recording.record_seat.Goals as goal
 

@@ -1,6 +1,6 @@
 use Rattle.std.proofs.Common.{◌≡◌, ◌+◌, ◌==◌, drop}
-use Rattle.dip_machine.specs.Keyed.{place}
-use Rattle.dip_machine.specs.State.{power_in}
+use Rattle.dip_desk_state.specs.Keyed.{place}
+use Rattle.dip_desk_state.specs.State.{power_in}
 use Rattle.dip_desk.specs.Stored.{parts}
 use Rattle.dip_desk.proofs.recording.seat_place.Given as goal
 

@@ -1,17 +1,17 @@
 use Rattle.std.proofs.Common.{◌≡◌, ℕ, refl, [], ◌∷◌, ◌++◌, map, take, get_or, Err, Ok, arith, sym, ap, subst, ◌∙◌}
 use Rattle.std.proofs.lemmas.List.{take_all, take-map}
-use Rattle.dip_machine.specs.Faults.{faults_with}
-use Rattle.dip_machine.specs.Lawful.{IsLawful}
-use Rattle.dip_machine.specs.Machine.{IsDamagedBy}
-use Rattle.dip_machine.specs.Mail.{IsMail, mail}
+use Rattle.dip_desk_state.specs.Faults.{faults_with}
+use Rattle.dip_desk_machine.specs.Lawful.{IsLawful}
+use Rattle.dip_desk_machine.specs.Machine.{IsDamagedBy}
+use Rattle.dip_desk_machine.specs.Mail.{IsMail, mail}
 use Rattle.dip_desk.specs.Running.{Answers}
-use Rattle.dip_machine.specs.State.{State}
-use Rattle.dip_machine.specs.declared.faults.KeepFault.{KeepFault}
-use Rattle.dip_records.specs.Rows as rows
+use Rattle.dip_desk_state.specs.State.{State}
+use Rattle.dip_desk_state.specs.declared.faults.KeepFault.{KeepFault}
+use Rattle.dip_desk_state.specs.Rows as rows
 use Rattle.dip_desk.proofs.Keepings.{keeps_as, keeps_then}
 use Rattle.dip_desk.proofs.Ending.{ends_late, ends_open, said_at, steps_end, steps_on}
-use Rattle.dip_machine.proofs.Histories.{contains_said, history_more, map_more, said_each, taken_more}
-use Rattle.dip_machine.proofs.Publishing.{fair}
+use Rattle.dip_desk_machine.proofs.Histories.{contains_said, history_more, map_more, said_each, taken_more}
+use Rattle.dip_desk_machine.proofs.Publishing.{fair}
 use Rattle.dip_desk.proofs.taking.run.Goals as goal
 
 pub take-requires-clause-letter : goal.take-requires-clause-letter
@@ -102,8 +102,8 @@ returns-in-Err-take g c =
               fair m (c.published_movements_are_decided.ensures m) (b.content m c.args.keeper.now) (b.content m c.loop-letter.keeper) steps.0 steps.1.run,
             ),
             ends_late m b c.args.keeper.now c.loop-letter.keeper c.take.new.keeper (b.content m c.loop-letter.keeper) _ _ kept.told
-            (λ t more. (n, said_at (λ l. mail l) c.args.letters.now c.loop-letter.letter-index _ (omega arith), more.0, more.1))
-            (steps_end m b c.loop-letter.keeper c.take.new.keeper (λ r. rows.reply r) _ _ (Err c.in-Err-take.fault) took on honest),
+                (λ t more. (n, said_at (λ l. mail l) c.args.letters.now c.loop-letter.letter-index _ (omega arith), more.0, more.1))
+                (steps_end m b c.loop-letter.keeper c.take.new.keeper (λ r. rows.reply r) _ _ (Err c.in-Err-take.fault) took on honest),
           );
     }
 

@@ -1,11 +1,11 @@
 use Rattle.std.proofs.Common.{◌≡◌, ap, sym, refl, subst, ◌∙◌, string_bytes}
 use Rattle.dip_desk.specs.Fitting.{Fits, VerdictFits}
-use Rattle.dip_machine.specs.Machine as m
-use Rattle.dip_machine.specs.Mail.{mail}
-use Rattle.dip_machine.specs.Rows as desk_rows
-use Rattle.dip_machine.specs.State.{Change, state_after}
-use Rattle.dip_machine.specs.Verdicts.{verdict}
-use Rattle.dip_records.specs.Rows as rows
+use Rattle.dip_desk_machine.specs.Machine as m
+use Rattle.dip_desk_machine.specs.Mail.{mail}
+use Rattle.dip_desk_state.specs.ChangeRows as desk_rows
+use Rattle.dip_desk_state.specs.State.{Change, state_after}
+use Rattle.dip_desk_machine.specs.Verdicts.{verdict}
+use Rattle.dip_desk_state.specs.Rows as rows
 use Rattle.dip_desk.proofs.Keepings.{unmade}
 use Rattle.dip_desk.proofs.taking.settle.Goals as goal
 

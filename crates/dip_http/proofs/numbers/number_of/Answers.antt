@@ -1,5 +1,5 @@
 use Rattle.std.proofs.Common.{rules}
-use Rattle.dip_http.proofs.NumberLemmas.{parsed}
+use Rattle.dip_http.proofs.TextNumbers.{parsed}
 use Rattle.dip_http.proofs.numbers.number_of.Goals as goal
 
 pub returns-in_err-number : goal.returns-in_err-number

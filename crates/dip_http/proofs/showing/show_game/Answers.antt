@@ -1,5 +1,5 @@
 use Rattle.std.proofs.Common.{None, List, ℕ, ap, append-nil, codes, ◌∙◌}
-use Rattle.dip_http_answers.specs.Answers.{answer_bytes}
+use Rattle.dip_http.specs.Answers.{answer_bytes}
 use Rattle.dip_http.specs.Answering.{game_answer}
 use Rattle.dip_http.proofs.EndLemmas.{shown_part, shown_whole}
 use Rattle.dip_http.proofs.showing.show_game.Goals as goal

@@ -1,9 +1,9 @@
 use Rattle.std.proofs.Common.{None, false, ap, inl, inr, refl}
-use Rattle.dip_records.specs.Records.{Reply}
-use Rattle.dip_records.specs.Rows as rows
+use Rattle.dip_desk_state.specs.Records.{Reply}
+use Rattle.dip_desk_state.specs.Rows as rows
 use Rattle.dip_reports.specs.Texts.{reply_text}
-use Rattle.dip_machine.specs.Mail.{mail}
-use Rattle.dip_http_answers.specs.Answers.{answer_bytes, plain}
+use Rattle.dip_desk_machine.specs.Mail.{mail}
+use Rattle.dip_http.specs.Answers.{answer_bytes, plain}
 use Rattle.dip_http.specs.Answering.{status_of}
 use Rattle.dip_http.proofs.EndLemmas.{posted_part, posted_whole}
 use Rattle.dip_http.proofs.taking.take_body.Goals as goal

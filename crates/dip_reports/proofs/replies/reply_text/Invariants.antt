@@ -1,7 +1,7 @@
 use Rattle.std.proofs.Common.{◌≡◌, ◌++◌, drop, string_bytes}
 use Rattle.std.specs.List.{flat_map}
 use Rattle.dip_reports.specs.Texts.{reply_text}
-use Rattle.dip_records.specs.Rows as rows
+use Rattle.dip_desk_state.specs.Rows as rows
 use Rattle.dip_reports.proofs.replies.reply_text.Given as goal
 
 abbrev pub invariant-loop-piece : goal.invariant-loop-piece

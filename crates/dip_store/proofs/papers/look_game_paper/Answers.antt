@@ -1,12 +1,12 @@
 use Rattle.std.proofs.Common.{◌≡◌, find, option_map, string_bytes, sym, subst}
 use Rattle.std.proofs.lemmas.Result.{err_from_is_err_and}
-use Rattle.dip_legible.specs.Legible.{AreOurs}
-use Rattle.dip_rows.specs.Calls.{tables_in}
-use Rattle.dip_rows.specs.Showing.{is_numbered}
-use Rattle.dip_tables.specs.Tables.{Tables}
-use Rattle.dip_finding.proofs.Blaming.{outside_weaker}
-use Rattle.dip_finding.proofs.Onward.{leaves}
-use Rattle.dip_rows.proofs.Caused.{faulted_late}
+use Rattle.dip_store_tables.specs.Legible.{AreOurs}
+use Rattle.dip_store_sql.specs.Calls.{tables_in}
+use Rattle.dip_store_sql.specs.Showing.{is_numbered}
+use Rattle.dip_store_tables.specs.Tables.{Tables}
+use Rattle.dip_store_looks.proofs.Blaming.{outside_weaker}
+use Rattle.dip_store_looks.proofs.Onward.{leaves}
+use Rattle.dip_store_sql.proofs.Caused.{faulted_late}
 use Rattle.sqlite.specs.Held.{state}
 use Rattle.dip_store.proofs.Asked.{no_paper_is, paper_is}
 use Rattle.dip_store.proofs.papers.look_game_paper.Goals as goal

@@ -1,5 +1,5 @@
 use Rattle.std.proofs.Common.{refl}
-use Rattle.dip_founding.specs.Founding.{IsNewStore}
+use Rattle.dip_store.specs.Founding.{IsNewStore}
 use Rattle.dip_store.proofs.Opened.{opens_new}
 use Rattle.dip_store.proofs.keeper.SqlKeeper.create.Goals as goal
 

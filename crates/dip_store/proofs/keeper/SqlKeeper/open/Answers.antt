@@ -1,10 +1,10 @@
 use Rattle.std.proofs.Common.{subst}
 use Rattle.std.specs.List.{find}
 use Rattle.sha2.specs.Sha256.{sha256}
-use Rattle.dip_founding.specs.Desk.{DeskSays}
-use Rattle.dip_rows.specs.Calls.{tables_in}
-use Rattle.dip_rows.specs.Statements.{is_first}
-use Rattle.dip_tables.specs.Tables.{Tables}
+use Rattle.dip_store.specs.Desk.{DeskSays}
+use Rattle.dip_store_sql.specs.Calls.{tables_in}
+use Rattle.dip_store_sql.specs.TablesAfter.{is_first}
+use Rattle.dip_store_tables.specs.Tables.{Tables}
 use Rattle.dip_store.specs.Refusing.{IsRefused}
 use Rattle.dip_store.proofs.Opened.{kept_from, known_there, opens_old, there}
 use Rattle.dip_store.proofs.Refused.{own_outage}

@@ -1,6 +1,6 @@
 use Rattle.std.proofs.Common.{sym, ◌∙◌}
-use Rattle.dip_machine.specs.Rows as machine
-use Rattle.dip_tables.specs.Columns.{IsWritable}
+use Rattle.dip_desk_state.specs.ChangeRows as machine
+use Rattle.dip_store_tables.specs.ChangeColumns.{IsWritable}
 use Rattle.dip_store.proofs.Made.{changes_well, changes_ill, changes_none}
 use Rattle.dip_store.proofs.keeper.SqlKeeperKeeper.apply.Goals as goal
 

@@ -1,5 +1,5 @@
 use Rattle.std.proofs.Common.{sym, ◌∙◌}
-use Rattle.dip_rows.specs.Calls.{tables_in}
+use Rattle.dip_store_sql.specs.Calls.{tables_in}
 use Rattle.dip_store.proofs.Looking.{looks_well, looks_ill}
 use Rattle.dip_store.proofs.keeper.SqlKeeperKeeper.public.Goals as goal
 

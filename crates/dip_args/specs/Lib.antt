@@ -1,4 +1,0 @@
-pub mod CommandLine
-pub mod ArgsGiven
-pub mod UsageFaults
-pub mod Reading

@@ -1,2 +1,0 @@
-pub mod Boards
-pub use Rattle.dip_map.specs.Charts

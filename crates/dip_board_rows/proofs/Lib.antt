@@ -1,6 +1,0 @@
-mod Parts
-mod Pieces
-mod Owners
-pub mod Standoffs
-pub mod Listed
-pub mod Returns

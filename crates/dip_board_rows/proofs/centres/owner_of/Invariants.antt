@@ -1,6 +1,0 @@
-use Rattle.std.proofs.Common.{◌≡◌, drop}
-use Rattle.dip_board_rows.specs.Boards.{code, owner_in}
-use Rattle.dip_board_rows.proofs.centres.owner_of.Given as goal
-
-abbrev pub invariant-loop-row : goal.invariant-loop-row
-invariant-loop-row l = owner_in l.map (drop l.row-index l.rows) (code l.map l.p) ≡ owner_in l.map l.rows (code l.map l.p)

@@ -1,5 +1,0 @@
-use Rattle.dip_board_rows.proofs.Returns.{board_back}
-use Rattle.dip_board_rows.proofs.laws.boards_come_back.Goals as goal
-
-pub returns : goal.returns
-returns c m ok game b of_map = board_back m ok b of_map game

@@ -1,6 +1,0 @@
-use Rattle.std.proofs.Common.{◌≡◌, map, take, filter}
-use Rattle.dip_board_rows.specs.Boards.{dislodged_of, fell}
-use Rattle.dip_board_rows.proofs.units.fallen.Given as goal
-
-abbrev pub invariant-loop-row : goal.invariant-loop-row
-invariant-loop-row l = l.dislodged.items ≡ map (dislodged_of l.map) (filter fell (take l.row-index l.rows))

@@ -1,9 +1,0 @@
-pub mod Adding
-pub mod Apart
-pub mod Centres
-pub mod Counting
-pub mod Gaming
-pub mod Handing
-pub mod Joining
-pub mod Outcomes
-pub mod Placing

@@ -1,5 +1,0 @@
-use Rattle.dip_changing.proofs.Counting.{next_noted}
-use Rattle.dip_changing.proofs.authors.next_counts_are_noted.Goals as goal
-
-pub returns : goal.returns
-returns c m = next_noted m

@@ -1,5 +1,0 @@
-use Rattle.dip_changing.proofs.Handing.{each_seat}
-use Rattle.dip_changing.proofs.delivering.readers_are_seats.Goals as goal
-
-pub returns : goal.returns
-returns c m = each_seat m

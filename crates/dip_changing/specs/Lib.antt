@@ -1,3 +1,0 @@
-pub mod Delivering
-pub mod Noting
-pub mod Parts

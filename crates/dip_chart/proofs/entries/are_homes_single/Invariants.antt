@@ -1,6 +1,0 @@
-use Rattle.std.proofs.Common.{◌≡◌, drop}
-use Rattle.dip_chart.specs.Checks.{are_homes_single}
-use Rattle.dip_chart.proofs.entries.are_homes_single.Given as goal
-
-abbrev pub invariant-loop-number : goal.invariant-loop-number
-invariant-loop-number l = are_homes_single (drop l.number l.realms) ≡ are_homes_single l.realms

@@ -1,6 +1,0 @@
-use Rattle.std.proofs.Common.{◌≡◌, drop}
-use Rattle.dip_chart.specs.Checks.{rest_is_allowed}
-use Rattle.dip_chart.proofs.parts.Parts.is_allowed.Given as goal
-
-abbrev pub invariant-loop-number : goal.invariant-loop-number
-invariant-loop-number l = rest_is_allowed l.self l.number (drop l.number l.self.provinces) ≡ rest_is_allowed l.self 0 l.self.provinces

@@ -1,3 +1,0 @@
-pub mod Charts
-pub mod Checks
-pub use Rattle.dip_names.specs.Forms

@@ -1,7 +1,0 @@
-use Rattle.std.proofs.Common.{take}
-use Rattle.dip_decide.specs.Given.{situation_of}
-use Rattle.dip_decide.specs.Chains.{IsSpread}
-use Rattle.dip_decide.proofs.chains.spread.Given as goal
-
-abbrev pub invariant-loop-fleet : goal.invariant-loop-fleet
-invariant-loop-fleet l = IsSpread (situation_of l.table).next (take l.fleet-index l.fleets) l.from l.fn.reached.items l.reached.items

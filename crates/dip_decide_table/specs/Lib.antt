@@ -1,0 +1,14 @@
+pub mod Keys
+pub mod Held
+pub mod Deciding
+pub mod Movement
+pub mod Matching
+pub mod Chains
+pub mod Placed
+pub mod Given
+pub mod Corners
+pub mod Steps
+pub mod Rings
+pub mod Results
+pub mod Laws
+pub mod Marks

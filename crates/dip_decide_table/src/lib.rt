@@ -1,0 +1,27 @@
+//! What a movement is decided from: decisions and their values, the table of what units and orders say, chains of fleets, and both corners of
+//! what is not yet known.
+#![tactic(auto)]
+
+mod chains;
+mod corners;
+mod counts;
+mod decisions;
+mod held;
+mod keys;
+mod lists;
+mod matching;
+mod mentioning;
+mod placed;
+mod room;
+mod table;
+mod values;
+
+pub use corners::Corner;
+pub use decisions::{Decision, Resolution, Step};
+pub use keys::by_key;
+pub use lists::{copy_of, is_in};
+pub use mentioning::mentions;
+pub use placed::Table;
+pub use room::Room;
+pub use table::table_of;
+pub use values::{Values, Values as Known, all_false, value_at};

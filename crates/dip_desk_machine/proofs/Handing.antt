@@ -1,0 +1,256 @@
+-- The orders that stand in a lawful game can be given beside one another.
+use Rattle.std.proofs.Common.{◌≡◌, ℕ, ◌==◌, ◌<◌, ◌≤◌, ◌+◌, ◌&&◌, nat_lt, zero, suc, length, inl, inr, Bool, true, false, cond, List, [], ◌∷◌, ◌++◌, map, filter, flat_map, find, count_by, Some, Ok, refl, sym, ap, subst, ◌∙◌, arith, append-nil}
+use Rattle.std.specs.List.{AllByRecursion, list_all, list_any, range_with_len, Contains}
+use Rattle.std.proofs.lemmas.Bool.{cases_Bool, eqb-true, eqb-false, ltb-true, ltb-false}
+use Rattle.std.proofs.lemmas.List.Elements.{filter-append}
+use Rattle.dip_names.specs.declared.names.Unit.{Unit as AUnit}
+use Rattle.dip_map.specs.declared.boards.Dislodged.{Dislodged}
+use Rattle.dip_map.specs.Boards.{Position, IsOf}
+use Rattle.dip_map_chart.specs.Charts.{Chart, are_units_single}
+use Rattle.dip_orders.proofs.KeptLaws.{count_cons}
+use Rattle.dip_orders.specs.Given.{AreGiven, orders_of_power}
+use Rattle.dip_orders.specs.Laws.{IsGiven}
+use Rattle.dip_orders.specs.Lawful.{IsAllowed, IsDislodged, Stands}
+use Rattle.dip_orders.specs.Reading.{order_of}
+use Rattle.dip_orders.specs.Standing.{units_of}
+use Rattle.dip_orders.specs.Texts.{order_text}
+use Rattle.dip_orders.specs.declared.placed.Order.{Order}
+use Rattle.dip_orders.specs.declared.placed.Order.TheVariants.{Hold, Move, SupportHold, SupportMove, Convoy, Retreat, Disband, Build, Remove}
+use Rattle.dip_orders.specs.declared.placed.PlacedOrder.{PlacedOrder}
+use Rattle.dip_desk_machine.proofs.Counting.{all_weaker}
+use Rattle.dip_desk_machine.proofs.LawfulOrders.{AreRead, standing_is}
+use Rattle.dip_desk_machine.specs.Handing.{StandingOrdersAreGiven}
+use Rattle.dip_desk_machine.specs.Lawful.{AreAscending, IsLawfulGame, IsLawfulSeat}
+use Rattle.dip_desk_machine.specs.Ordering.{prov_of, orders_that_stand}
+use Rattle.dip_desk_state.specs.State.{Game, Part, power_in, whole_of}
+use Rattle.dip_desk_machine.specs.Ticking.{orders_of, orders_of_seats}
+
+-- what is found passes
+found : {A : Type 0} (test : A → Bool) (xs : List A) (x : A) → find test xs ≡ Some x → test x ≡ true
+found test [] x h = absurd (cc)
+found {A} test (y ∷ ys) x h = go (test y) refl (found test ys x) h
+  where
+    go : (b : Bool) → test y ≡ b → (find test ys ≡ Some x → test x ≡ true) → cond b (Some y) (find test ys) ≡ Some x → test x ≡ true
+    go true is more same = let this : y ≡ x = cc in subst (λ (z : A). test z ≡ true) this is
+    go false is more same = more same
+
+first_true : (a b : Bool) → (a && b) ≡ true → a ≡ true
+first_true true b h = refl
+first_true false b h = h
+
+standing_power : (b : Position) (power : ℕ) (u : AUnit) → Stands b power u → u.power ≡ power
+standing_power b power u s =
+    eqb-true u.power power (first_true (u.power == power) (u.place.prov == u.place.prov)
+    (found (λ v. (v.power == power) && (v.place.prov == u.place.prov)) b.units u s.there))
+
+dislodged_power : (b : Position) (power : ℕ) (d : Dislodged) (u : AUnit) → IsDislodged b power d u → u.power ≡ power
+dislodged_power b power d u s =
+    sym (ap (λ (v : AUnit). v.power) s.unit)
+    ∙ eqb-true d.unit.power power (first_true (d.unit.power == power) (d.unit.place.prov == u.place.prov)
+    (found (λ e. (e.unit.power == power) && (e.unit.place.prov == u.place.prov)) b.dislodged d s.there))
+
+-- the unit of a lawful order is the power's
+allowed_power : (m : Chart) (b : Position) (power : ℕ) (beside : List PlacedOrder) (u : AUnit) (o : Order) → IsAllowed m b power beside u o → u.power ≡ power
+allowed_power m b power beside u Hold h = standing_power b power u h.1
+allowed_power m b power beside u (Move to via) h = standing_power b power u h.1.0
+allowed_power m b power beside u (SupportHold at) h = standing_power b power u h.1.0
+allowed_power m b power beside u (SupportMove at to) h = standing_power b power u h.1.0
+allowed_power m b power beside u (Convoy at to) h = standing_power b power u h.1.0
+allowed_power m b power beside u (Retreat to) h = dislodged_power b power h.1.dislodged u h.1.there
+allowed_power m b power beside u Disband h = dislodged_power b power h.1.0 u h.1.1
+allowed_power m b power beside u Build h = h.1.power
+allowed_power m b power beside u Remove h = standing_power b power u h.1.unit
+
+-- the orders are all of a power
+abbrev AreOf : ℕ → List PlacedOrder → Type 0
+AreOf power orders = AllByRecursion (λ o. o.unit.power ≡ power) orders
+
+all_of : (power : ℕ) (orders : List PlacedOrder) → AreOf power orders → orders_of_power power orders ≡ orders
+all_of power [] all = refl
+all_of power (o ∷ os) all =
+    let this : (o.unit.power == power) ≡ true = ap (λ (q : ℕ). q == power) all.0 ∙ eqb-same power in
+    rw this (ap (λ (ps : List PlacedOrder). o ∷ ps) (all_of power os all.1))
+  where
+    eqb-same : (q : ℕ) → (q == q) ≡ true
+    eqb-same q = grind (arith)
+
+none_of : (power other : ℕ) (orders : List PlacedOrder) → (other == power) ≡ false → AreOf other orders → orders_of_power power orders ≡ []
+none_of power other [] differ all = refl
+none_of power other (o ∷ os) differ all =
+    let this : (o.unit.power == power) ≡ false = ap (λ (q : ℕ). q == power) all.0 ∙ differ in
+    rw this (none_of power other os differ all.1)
+
+-- where at most one of some seats is of a power, the orders of all that are the power's are that seat's, or none
+module _ {A : Type 0} (key : A → ℕ) (orders_of : A → List PlacedOrder) where
+  nobodys : (power : ℕ) (seats : List A) → AllByRecursion (λ s. AreOf (key s) (orders_of s)) seats → count_by (λ s. key s == power) seats ≡ 0
+      → orders_of_power power (flat_map orders_of seats) ≡ []
+  nobodys power [] own none = refl
+  nobodys power (s ∷ ss) own none = go (key s == power) refl (nobodys power ss own.1)
+    where
+      head : count_by (λ x. key x == power) (s ∷ ss) ≡ cond (key s == power) 1 0 + count_by (λ x. key x == power) ss
+      head = count_cons (λ x. key x == power) s ss
+
+      go : (b : Bool) → (key s == power) ≡ b → (count_by (λ x. key x == power) ss ≡ 0 → orders_of_power power (flat_map orders_of ss) ≡ [])
+          → orders_of_power power (orders_of s ++ flat_map orders_of ss) ≡ []
+      go true is more = let one : count_by (λ x. key x == power) (s ∷ ss) ≡ 1 + count_by (λ x. key x == power) ss = head ∙ ap (λ (t : Bool). cond t 1 0 + count_by (λ x. key x == power) ss) is in absurd (omega (arith, one, none))
+      go false is more =
+          let rest : count_by (λ x. key x == power) ss ≡ 0 = let same : count_by (λ x. key x == power) (s ∷ ss) ≡ 0 + count_by (λ x. key x == power) ss = head ∙ ap (λ (t : Bool). cond t 1 0 + count_by (λ x. key x == power) ss) is in omega (arith, same, none) in
+          filter-append (λ o. o.unit.power == power) (orders_of s) (flat_map orders_of ss)
+          ∙ ap (λ (ps : List PlacedOrder). ps ++ orders_of_power power (flat_map orders_of ss)) (none_of power (key s) (orders_of s) is own.0)
+          ∙ more rest
+
+  somebodys : (P : List PlacedOrder → Type 0) (power : ℕ) (seats : List A) → AllByRecursion (λ s. AreOf (key s) (orders_of s)) seats → P []
+      → AllByRecursion (λ s. key s ≡ power → P (orders_of s)) seats → count_by (λ s. key s == power) seats ≤ 1
+      → P (orders_of_power power (flat_map orders_of seats))
+  somebodys P power [] own empty each few = empty
+  somebodys P power (s ∷ ss) own empty each few = go (key s == power) refl (λ less. somebodys P power ss own.1 empty each.1 less)
+    where
+      head : count_by (λ x. key x == power) (s ∷ ss) ≡ cond (key s == power) 1 0 + count_by (λ x. key x == power) ss
+      head = count_cons (λ x. key x == power) s ss
+
+      go : (b : Bool) → (key s == power) ≡ b → (count_by (λ x. key x == power) ss ≤ 1 → P (orders_of_power power (flat_map orders_of ss)))
+          → P (orders_of_power power (orders_of s ++ flat_map orders_of ss))
+      go true is more =
+          let one : count_by (λ x. key x == power) (s ∷ ss) ≡ 1 + count_by (λ x. key x == power) ss = head ∙ ap (λ (t : Bool). cond t 1 0 + count_by (λ x. key x == power) ss) is in
+          let rest : count_by (λ x. key x == power) ss ≡ 0 = omega (arith, one, few) in
+          let his : key s ≡ power = eqb-true (key s) power is in
+          let all : orders_of_power power (orders_of s ++ flat_map orders_of ss) ≡ orders_of s =
+          filter-append (λ o. o.unit.power == power) (orders_of s) (flat_map orders_of ss)
+          ∙ ap (λ (ps : List PlacedOrder). orders_of_power power (orders_of s) ++ ps) (nobodys power ss own.1 rest)
+          ∙ append-nil (orders_of_power power (orders_of s))
+          ∙ all_of power (orders_of s) (subst (λ (q : ℕ). AreOf q (orders_of s)) his own.0) in
+          subst P (sym all) (each.0 his)
+      go false is more =
+          let same : count_by (λ x. key x == power) (s ∷ ss) ≡ 0 + count_by (λ x. key x == power) ss = head ∙ ap (λ (t : Bool). cond t 1 0 + count_by (λ x. key x == power) ss) is in
+          let less : count_by (λ x. key x == power) ss ≤ 1 = omega (arith, same, few) in
+          let rest : orders_of_power power (orders_of s ++ flat_map orders_of ss) ≡ orders_of_power power (flat_map orders_of ss) =
+          filter-append (λ o. o.unit.power == power) (orders_of s) (flat_map orders_of ss)
+          ∙ ap (λ (ps : List PlacedOrder). ps ++ orders_of_power power (flat_map orders_of ss)) (none_of power (key s) (orders_of s) is own.0) in
+          subst P (sym rest) (more less)
+
+-- orders by province are of units in different provinces
+none_there : (p : ℕ) (orders : List PlacedOrder) → AllByRecursion (λ q. p < q) (map prov_of orders) → list_any (λ v. v.place.prov == p) (units_of orders) ≡ false
+none_there p [] all = refl
+none_there p (o ∷ os) all =
+    let lt : p < prov_of o = all.0 in
+    let differ : (prov_of o == p) ≡ false = grind (arith, lt) in
+    rw differ (none_there p os all.1)
+
+pub ascending_single : (orders : List PlacedOrder) → AreAscending (map prov_of orders) → are_units_single (units_of orders) ≡ true
+ascending_single [] up = refl
+ascending_single (o ∷ os) up = rw (none_there (prov_of o) os up.0) (ascending_single os up.1)
+
+-- a test of all numbers from one on holds at each
+both : (a b : Bool) → (a && b) ≡ true → (a ≡ true) × (b ≡ true)
+both true true h = (refl, refl)
+both true false h = (refl, h)
+both false b h = absurd (cc)
+
+pub each_counted : (test : ℕ → Bool) (i n p : ℕ) → list_all test (range_with_len i n) ≡ true → i ≤ p → p < i + n → test p ≡ true
+each_counted test i zero p all low high = absurd (omega (arith, low, high))
+each_counted test i (suc n) p all low high =
+    let parts = both (test i) (list_all test (range_with_len (i + 1) n)) all in
+    go (i == p) refl parts.0 (λ lower. each_counted test (i + 1) n p parts.1 lower (omega (arith, high)))
+  where
+    go : (b : Bool) → (i == p) ≡ b → test i ≡ true → (i + 1 ≤ p → test p ≡ true) → test p ≡ true
+    go true is here more = subst (λ (q : ℕ). test q ≡ true) (eqb-true i p is) here
+    go false is here more = more (omega (arith, low, eqb-false i p is))
+
+-- no seat is of a power past the map's
+none_past : (most power : ℕ) (seats : List Part) → AllByRecursion (λ o. power_in o < most) seats → most ≤ power → count_by (λ o. power_in o == power) seats ≡ 0
+none_past most power [] within past = refl
+none_past most power (o ∷ os) within past =
+    let lt : power_in o < most = within.0 in
+    let differ : (power_in o == power) ≡ false = grind (arith, lt, past) in
+    let head : count_by (λ (x : Part). power_in x == power) (o ∷ os) ≡ 0 + count_by (λ (x : Part). power_in x == power) os =
+    count_cons (λ (x : Part). power_in x == power) o os ∙ ap (λ (t : Bool). cond t 1 0 + count_by (λ (x : Part). power_in x == power) os) differ in
+    let rest : count_by (λ (x : Part). power_in x == power) os ≡ 0 = none_past most power os within.1 past in
+    omega (arith, head, rest)
+
+-- a power has at most one seat in a lawful game
+few : (m : Chart) (g : Game) → IsLawfulGame m g → (power : ℕ) → count_by (λ o. power_in o == power) g.seats ≤ 1
+few m g l power = go (nat_lt power (length m.realms)) refl
+  where
+    within : AllByRecursion (λ o. power_in o < length m.realms) g.seats
+    within = all_weaker (IsLawfulSeat m g.public.board) (λ o. power_in o < length m.realms) g.seats (λ o s. s.power) l.seats
+
+    go : (b : Bool) → nat_lt power (length m.realms) ≡ b → count_by (λ o. power_in o == power) g.seats ≤ 1
+    go true is =
+        let lt : power < length m.realms = ltb-true power (length m.realms) is in
+        let one : (count_by (λ o. power_in o == power) g.seats == 1) ≡ true =
+        each_counted (λ p. count_by (λ (o : Part). power_in o == p) g.seats == 1) 0 (length m.realms) power l.powers (omega arith) (omega (arith, lt)) in
+        let same = eqb-true (count_by (λ o. power_in o == power) g.seats) 1 one in omega (arith, same)
+    go false is =
+        let past = ltb-false power (length m.realms) is in
+        let same = none_past (length m.realms) power g.seats within (omega (arith, past)) in omega (arith, same)
+
+-- an element of a list of which each holds
+among : {A : Type 0} (P : A → Type 0) (xs : List A) (x : A) → AllByRecursion P xs → Contains xs x → P x
+among P [] x all (k, low, at) = absurd (omega arith)
+among P (y ∷ ys) x all (zero, low, at) = subst P at all.0
+among P (y ∷ ys) x all (suc k, low, at) = among P ys x all.1 (k, (omega arith), at)
+
+-- an element that passes is kept
+kept_in : {A : Type 0} (test : A → Bool) (xs : List A) (x : A) → Contains xs x → test x ≡ true → Contains (filter test xs) x
+kept_in test [] x (k, low, at) t = absurd (omega arith)
+kept_in test (y ∷ ys) x (zero, low, at) t =
+    let first : test y ≡ true = ap test at ∙ t in
+    rw first (0, (omega arith), at)
+kept_in test (y ∷ ys) x (suc k, low, at) t =
+    let (n, below, there) = kept_in test ys x (k, (omega arith), at) t in
+    elim (cases_Bool (test y)) [
+      | inl yes_here ↦ rw yes_here (suc n, (omega arith), there)
+      | inr other ↦ rw other (n, below, there)
+    ]
+
+same_number : (p : ℕ) → (p == p) ≡ true
+same_number p = grind (arith)
+
+-- the orders of all seats of a game, one seat behind the other
+abbrev pub orders_in : Chart → Game → List PlacedOrder
+orders_in m g = flat_map (λ s. orders_that_stand m g.public.board (power_in s) s.own.pending) g.seats
+
+whole_orders : (m : Chart) (b : Position) (seats : List Part)
+    → orders_of_seats m b (map (λ s. s.own) seats) ≡ flat_map (λ s. orders_that_stand m b (power_in s) s.own.pending) seats
+whole_orders m b [] = refl
+whole_orders m b (s ∷ ss) = ap (λ (os : List PlacedOrder). orders_that_stand m b (power_in s) s.own.pending ++ os) (whole_orders m b ss)
+
+-- a lawful game's orders, as they stand
+pub given_in : (m : Chart) (g : Game) → AreRead m g.public.board → IsLawfulGame m g → AreGiven m g.public.board (orders_in m g)
+given_in m g read l = record {
+  each = λ o here.
+      let q = o.unit.power in
+      among (IsGiven m b q (orders_of_power q (orders_in m g))) (orders_of_power q (orders_in m g)) o
+      (somebodys power_in orders_of (λ os. AllByRecursion (IsGiven m b q os) os) q g.seats own tt
+      (all_weaker (IsLawfulSeat m b) (λ o. power_in o ≡ q → AllByRecursion (IsGiven m b q (orders_of o)) (orders_of o)) g.seats (λ o s is. given o s q is) l.seats) (few m g l q))
+      (kept_in (λ o. o.unit.power == q) (orders_in m g) o here (same_number q));
+  apart = λ power. somebodys power_in orders_of (λ os. are_units_single (units_of os) ≡ true) power g.seats own refl
+      (all_weaker (IsLawfulSeat m b) (λ o. power_in o ≡ power → are_units_single (units_of (orders_of o)) ≡ true) g.seats
+      (λ o s is. subst (λ (os : List PlacedOrder). are_units_single (units_of os) ≡ true) (sym (standing_is m b (power_in o) o.own.pending read s.pending))
+      (ascending_single s.pending.orders s.pending.ascending)) l.seats) (few m g l power);
+}
+  where
+    b : Position
+    b = g.public.board
+
+    orders_of : Part → List PlacedOrder
+    orders_of o = orders_that_stand m b (power_in o) o.own.pending
+
+    own : AllByRecursion (λ (o : Part). AreOf (power_in o) (orders_of o)) g.seats
+    own = all_weaker (IsLawfulSeat m b) (λ o. AreOf (power_in o) (orders_of o)) g.seats
+        (λ o s. subst (AreOf (power_in o)) (sym (standing_is m b (power_in o) o.own.pending read s.pending))
+        (all_weaker (λ p. order_of m b (power_in o) s.pending.orders (order_text m p) ≡ Ok p) (λ p. p.unit.power ≡ power_in o) s.pending.orders
+        (λ p is. allowed_power m b (power_in o) s.pending.orders p.unit p.order (read.lawful (power_in o) s.pending.orders (order_text m p) p is)) s.pending.each)) l.seats
+
+    given : (o : Part) → IsLawfulSeat m b o → (q : ℕ) → power_in o ≡ q → AllByRecursion (IsGiven m b q (orders_of o)) (orders_of o)
+    given o s q is =
+        subst (λ (p : ℕ). AllByRecursion (IsGiven m b p (orders_of o)) (orders_of o)) is
+        (subst (λ (os : List PlacedOrder). AllByRecursion (IsGiven m b (power_in o) os) os) (sym (standing_is m b (power_in o) o.own.pending read s.pending))
+        (all_weaker (λ p. order_of m b (power_in o) s.pending.orders (order_text m p) ≡ Ok p) (IsGiven m b (power_in o) s.pending.orders) s.pending.orders
+        (λ p is. (order_text m p, is)) s.pending.each))
+
+pub whole_given : (m : Chart) (g : Game) → AreRead m g.public.board → IsLawfulGame m g → AreGiven m g.public.board (orders_of m (whole_of g))
+whole_given m g read l = subst (AreGiven m g.public.board) (sym (whole_orders m g.public.board g.seats)) (given_in m g read l)
+
+pub all_given : (m : Chart) → ((b : Position) → IsOf m b → AreRead m b) → StandingOrdersAreGiven m
+all_given m read s l = all_weaker (IsLawfulGame m) (λ g. AreGiven m g.public.board (orders_of m (whole_of g))) s.games (λ g lawful. whole_given m g (read g.public.board lawful.public.board) lawful) l.games

@@ -1,0 +1,11 @@
+-- The orders that stand in a game, as they are handed over when its phase is adjudicated.
+use Rattle.std.specs.List.{AllByRecursion}
+use Rattle.dip_map_chart.specs.Charts.{Chart}
+use Rattle.dip_orders.specs.Given.{AreGiven}
+use Rattle.dip_desk_machine.specs.Lawful.{IsLawful}
+use Rattle.dip_desk_state.specs.State.{State, whole_of}
+use Rattle.dip_desk_machine.specs.Ticking.{orders_of}
+
+-- in a lawful state the orders of each game are ones that can be given beside one another on its board
+abbrev pub StandingOrdersAreGiven : Chart → Type 0
+StandingOrdersAreGiven m = (s : State) → IsLawful m s → AllByRecursion (λ g. AreGiven m g.public.board (orders_of m (whole_of g))) s.games

@@ -1,0 +1,17 @@
+pub mod Mail
+pub mod Ticking
+pub mod Pressing
+pub mod Drawing
+pub mod Noting
+pub mod Machine
+pub mod Verdicts
+pub mod Sights
+pub mod Ordering
+pub mod OrderingRows
+pub mod View
+pub mod Published
+pub mod Lawful
+pub mod Fitting
+pub mod Handing
+pub mod Repeats
+pub mod Strangers

@@ -1,0 +1,186 @@
+//! What is decided of a letter, by what its author sees alone.
+ghost use Rattle.std.specs.Prelude.{◌≡◌, [], Some, IfOk, IsErrOf, true};
+ghost use Rattle.dip_letters.specs.Notes.PlayerRequest.{Orders};
+ghost use Rattle.dip_letters.specs.Views.{lines_in, player_request, request};
+ghost use Rattle.dip_desk_state.specs.Faults.{faults_after};
+ghost use Rattle.dip_desk_machine.specs.Mail.{mail};
+ghost use Rattle.dip_desk_machine.specs.Machine as m;
+ghost use Rattle.dip_desk_machine.specs.Ordering.{has_foreign, outcome_of_lines};
+ghost use Rattle.dip_desk_machine.specs.Sights as sights;
+ghost use Rattle.dip_desk_state.specs.State.{Pending, Votes};
+ghost use Rattle.dip_desk_machine.specs.Ticking.{is_over};
+ghost use Rattle.dip_desk_machine.specs.Verdicts.{verdict};
+ghost use Rattle.dip_desk_state.specs.Rows as rows;
+ghost use Rattle.dip_reports.specs.Texts.{vote_line, withdrawn_line};
+
+use crate::mastering::master_verdict;
+use crate::ordering::{Ordered, kept_orders, standing_orders, take_lines};
+use crate::pressing::press_verdict;
+use crate::sights::Sight;
+use crate::ticking::is_over;
+use crate::verdicts::{Verdict, old_number, refusal_verdict};
+use dip_desk_state::{Effect, Item, KeepFault, Own, Public};
+use dip_letters::{Command, Letter, Lines, PlayerCommand};
+use dip_map::{Board, Map};
+use dip_reports::{Refusal, inbox_text, show_text, vote_line, withdrawn_line};
+use std::alloc::{AllocError, Global};
+use std::rc::Rc;
+
+/// What ORDERS comes to.
+fn orders_verdict(
+    alloc: Global,
+    map: &Map,
+    board: &Board,
+    own: &Own,
+    lines: Lines<'_>,
+) -> Result<Verdict, KeepFault>
+    ensures value { IfOk result
+        (λ v. verdict v ≡ m.orders_verdict map.now
+        (outcome_of_lines map.now board.now own.now.power (rows.standings own.now.pending.items)
+        (lines_in lines.entry))) }
+    ensures disk { faults_after result 0 ≡ 0 }
+    ensures sane { IsErrOf result KeepFault.Damaged
+        → has_foreign map.now board.now own.now.power (rows.standings own.now.pending.items) ≡
+        true }
+{
+    let orders = standing_orders(alloc, map, board, own.power, own.pending.as_slice())?;
+    let mut taken = Ordered {
+        orders,
+        answers: String::new(alloc),
+    };
+    take_lines(map, board, own.power, lines, &mut taken)?;
+    let Ordered { orders, answers } = taken;
+    let pending = kept_orders(alloc, map, orders.as_slice())?;
+    Ok(Verdict::Taken(answers, Effect::Pending(pending)))
+}
+
+/// What ORDERS comes to in a game: nothing is ordered in one that is over.
+fn orders_in_game(
+    alloc: Global,
+    map: &Map,
+    public: &Public,
+    own: &Own,
+    lines: Lines<'_>,
+) -> Result<Verdict, KeepFault>
+    ensures value { IfOk result
+        (λ v. verdict v ≡ m.player_verdict map.now (Orders (lines_in lines.entry))
+        (rows.public public.now) (rows.own own.now) []) }
+    ensures disk { faults_after result 0 ≡ 0 }
+    ensures sane { IsErrOf result KeepFault.Damaged
+        → has_foreign map.now public.now.board own.now.power
+        (rows.standings own.now.pending.items) ≡ true }
+{
+    if is_over(&public.status) {
+        return Ok(refusal_verdict(alloc, Refusal::GameOver)?);
+    }
+    orders_verdict(alloc, map, &public.board, own, lines)
+}
+
+/// What WITHDRAW comes to: no order stands any more.
+fn withdraw_verdict(alloc: Global, public: &Public) -> Result<Verdict, AllocError>
+    ensures { IfOk result
+        (λ v. verdict v ≡ m.unless (is_over (rows.status public.now.status)) Refusal.GameOver
+        (m.Taken withdrawn_line (Pending []))) }
+{
+    if is_over(&public.status) {
+        return refusal_verdict(alloc, Refusal::GameOver);
+    }
+    let none = Effect::Pending(Vec::new(alloc));
+    Ok(Verdict::Taken(withdrawn_line(alloc)?, none))
+}
+
+/// What VOTE comes to.
+fn vote_verdict(alloc: Global, public: &Public, draw: bool) -> Result<Verdict, AllocError>
+    ensures { IfOk result
+        (λ v. verdict v ≡ m.unless (is_over (rows.status public.now.status)) Refusal.GameOver
+        (m.Taken (vote_line draw) (Votes draw))) }
+{
+    if is_over(&public.status) {
+        return refusal_verdict(alloc, Refusal::GameOver);
+    }
+    Ok(Verdict::Taken(vote_line(alloc, draw)?, Effect::Votes(draw)))
+}
+
+/// What a command of a power comes to, by what its seat sees alone; the page is of its inbox, where the command shows one.
+fn player_verdict(
+    alloc: Global,
+    map: &Map,
+    command: &PlayerCommand<'_>,
+    public: &Public,
+    own: &Own,
+    page: &[Rc<Item>],
+) -> Result<Verdict, KeepFault>
+    ensures value { IfOk result
+        (λ v. verdict v ≡ m.player_verdict map.now (player_request command.now)
+        (rows.public public.now) (rows.own own.now) (rows.items page.now)) }
+    ensures disk { faults_after result 0 ≡ 0 }
+    ensures sane { IsErrOf result KeepFault.Damaged
+        → has_foreign map.now public.now.board own.now.power
+        (rows.standings own.now.pending.items) ≡ true }
+{
+    match command {
+        PlayerCommand::Orders(lines) => orders_in_game(alloc, map, public, own, *lines),
+        PlayerCommand::Withdraw => Ok(withdraw_verdict(alloc, public)?),
+        PlayerCommand::Press(press) => Ok(press_verdict(alloc, map, press, public, own)?),
+        PlayerCommand::Vote(draw) => Ok(vote_verdict(alloc, public, *draw)?),
+        PlayerCommand::Show => {
+            let text = show_text(alloc, map, public, own)?;
+            Ok(Verdict::Taken(text, Effect::Nothing))
+        }
+        PlayerCommand::Inbox(first) => {
+            let text = inbox_text(alloc, own.items, *first, page)?;
+            Ok(Verdict::Taken(text, Effect::Nothing))
+        }
+    }
+}
+
+/// What a seat's letter comes to, by what the seat sees alone.
+fn seat_verdict(
+    alloc: Global,
+    map: &Map,
+    letter: &Letter<'_>,
+    public: &Public,
+    own: &Own,
+    page: &[Rc<Item>],
+) -> Result<Verdict, KeepFault>
+    ensures value { IfOk result (λ v. verdict v
+        ≡ m.seat_verdict map.now (mail letter.now) (rows.public public.now) (rows.own own.now)
+        (rows.items page.now)) }
+    ensures disk { faults_after result 0 ≡ 0 }
+    ensures sane { IsErrOf result KeepFault.Damaged
+        → m.IsForeignTo map.now (Some (rows.public public.now)) (Some (rows.own own.now)) }
+{
+    if let Some(old) = old_number(alloc, letter, &own.kept)? {
+        return Ok(old);
+    }
+    match &letter.command {
+        Command::Player(command) => player_verdict(alloc, map, command, public, own, page),
+        Command::Master(_) => Ok(refusal_verdict(alloc, Refusal::WrongSender)?),
+    }
+}
+
+/// What is decided of a letter by what its author sees.
+pub fn verdict_on(
+    alloc: Global,
+    map: &Map,
+    letter: &Letter<'_>,
+    sight: &Sight,
+) -> Result<Verdict, KeepFault>
+    requires timely { m.IsTimely (request letter.now.command) }
+    ensures value { IfOk result
+        (λ v. m.DecidedBy map.now (mail letter.now) (sights.sight sight.now) (verdict v)) }
+    ensures disk { faults_after result 0 ≡ 0 }
+    ensures sane { IsErrOf result KeepFault.Damaged
+        → m.IsDamagedSight map.now (sights.sight sight.now) }
+{
+    match sight {
+        Sight::Nobody => Ok(Verdict::NotKnown),
+        Sight::Master { kept, sees } => master_verdict(alloc, map, letter, kept, sees),
+        Sight::Seat {
+            public,
+            own,
+            page,
+            ..
+        } => seat_verdict(alloc, map, letter, public, own, page.as_slice()),
+    }
+}

@@ -1,0 +1,119 @@
+//! Laws of the desk machine, each the contract of a function that does nothing.
+ghost use Rattle.std.specs.Prelude.{List};
+ghost use Rattle.dip_map_chart.specs.Charts.{Chart};
+ghost use Rattle.dip_desk_machine.specs.Fitting.{EffectsFit, LawfulEffectsFit};
+ghost use Rattle.dip_desk_machine.specs.Handing.{StandingOrdersAreGiven};
+ghost use Rattle.dip_desk_machine.specs.Lawful.{IsNeverDamaged, StaysLawful};
+ghost use Rattle.dip_desk_machine.specs.Published.{MovementsAreDecided};
+ghost use Rattle.dip_desk_machine.specs.Repeats.{ActsOnce, ActsOnceLater};
+ghost use Rattle.dip_desk_state.specs.State.{State};
+ghost use Rattle.dip_desk_machine.specs.Strangers.{IsToNobodyExactly};
+ghost use Rattle.dip_desk_machine.specs.View.{AreAlike, AreEffectsShown, HistoriesAreOne, HistoriesLookAlike, IsAnsweredFromSeen, IsDecidedOnce, IsGreyUnsigned, IsRun, IsSettledByView, IsShownByOthers, IsUnseenByOthers, Turn, VotesAreUntold};
+
+use dip_decide::explained_is_lawful;
+use dip_map::{Map, openings_are_of_their_map};
+use dip_orders::{lawful_orders_are_read, orders_are_lawful, orders_are_read_again};
+use dip_turn::{boards_stay_of_their_map, phases_have_one_result, winners_own_more};
+
+/// A letter of a seat gets one reply in all states that the seat sees alike, and leaves them alike for it.
+pub fn answered_from_what_is_seen()
+    ensures { (m : Chart) → IsAnsweredFromSeen m }
+{}
+
+/// Settled by view: two histories that begin alike for a seat and show it the same get it the same replies, and leave it
+/// seeing the same.
+pub fn settled_by_view()
+    ensures { (m : Chart) (old new : State) (turns : List Turn) → IsRun m old turns new
+        → IsSettledByView m old turns new }
+{}
+
+/// A letter is decided in one way, a tick too, and so letters have one history from a state on: whoever judges, all replies and all papers
+/// are the same.
+pub fn histories_are_one()
+    ensures once { (m : Chart) → IsDecidedOnce m }
+    ensures one { (m : Chart) → HistoriesAreOne m }
+{
+    phases_have_one_result();
+}
+
+/// Each movement that is published in a history satisfies the decision equations for the orders that stood at its tick: its paper prints
+/// the outcomes of values that satisfy them and are explained, and the board behind it is the one that these values leave.
+pub fn published_movements_are_decided()
+    ensures { (m : Chart) → MovementsAreDecided m }
+{
+    explained_is_lawful();
+}
+
+/// Whatever effect comes to a game that it suits, each seat sees behind it what its events say.
+pub fn effects_are_shown()
+    ensures { (m : Chart) → AreEffectsShown m }
+{}
+
+/// What the letters of others show a seat. Another power's letter shows it nothing but press that reaches it; a letter of somebody else
+/// shows it something exactly where it is accepted press to it, publishes a paper of its game or gives it another secret; grey press
+/// shows it the same whoever wrote it; histories that differ only in turns that show it nothing have one view, and so have histories,
+/// up to the next publication, in which it sends the same letters and the same press comes to it in the same order.
+pub fn shown_by_others()
+    ensures unseen { (m : Chart) → IsUnseenByOthers m }
+    ensures shown { (m : Chart) → IsShownByOthers m }
+    ensures grey { (m : Chart) → IsGreyUnsigned m }
+    ensures alike { (m : Chart) → AreAlike m }
+    ensures look_alike { (m : Chart) → HistoriesLookAlike m }
+{}
+
+/// A vote is told by its draw alone: what a tick comes to that draws no game doesn't depend on any vote.
+pub fn votes_are_untold()
+    ensures { (m : Chart) → VotesAreUntold m }
+{}
+
+/// A reply has no head exactly where the letter is nobody's: it has no author, or it is the master's, isn't CREATE, and names no game.
+pub fn replies_to_nobody()
+    ensures { (m : Chart) → IsToNobodyExactly m }
+{}
+
+/// A letter that comes twice acts once: the same letter again gets the same reply and changes nothing, at once and where letters of
+/// other authors came between, as long as it has its author.
+pub fn letters_act_once()
+    ensures at_once { (m : Chart) → ActsOnce m }
+    ensures later { (m : Chart) → ActsOnceLater m }
+{}
+
+/// Each letter leads from a lawful state to a lawful one, and in a lawful state nothing is Damaged.
+pub fn lawful_states_stay_lawful(map: &Map)
+    ensures stays { StaysLawful map.now }
+    ensures sane { IsNeverDamaged map.now }
+{
+    map.facts();
+    openings_are_of_their_map();
+    orders_are_read_again();
+    orders_are_lawful();
+    lawful_orders_are_read();
+    boards_stay_of_their_map();
+    winners_own_more();
+}
+
+/// What is decided of a letter of the grammar fits the map, or else the record of its author may be Damaged: the board of a seat's game
+/// isn't one of the map, or the master's command can't be done in the game that it names. In a lawful state it fits.
+pub fn effects_fit(map: &Map)
+    ensures blamed { EffectsFit map.now }
+    ensures lawful { LawfulEffectsFit map.now }
+{
+    map.facts();
+    openings_are_of_their_map();
+    orders_are_read_again();
+    orders_are_lawful();
+    lawful_orders_are_read();
+    boards_stay_of_their_map();
+    winners_own_more();
+}
+
+/// In a lawful state the orders that stand in a game are what `advance` of the phases asks for: each can be given beside the others of
+/// its power, and no power has two in one province.
+pub fn standing_orders_are_given(map: &Map)
+    ensures { StandingOrdersAreGiven map.now }
+{
+    map.facts();
+    orders_are_lawful();
+    orders_are_read_again();
+    lawful_orders_are_read();
+}

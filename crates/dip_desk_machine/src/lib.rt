@@ -1,0 +1,25 @@
+//! The desk machine: what is decided of a letter by what its author sees, and what that leaves. It knows no keeper.
+#![tactic(auto)]
+
+mod creating;
+mod deciding;
+mod drawing;
+mod laws;
+mod mastering;
+mod noting;
+mod ordering;
+mod pressing;
+mod replacing;
+mod sights;
+mod ticking;
+mod verdicts;
+
+pub use deciding::verdict_on;
+pub use laws::{
+    answered_from_what_is_seen, effects_are_shown, effects_fit, histories_are_one,
+    lawful_states_stay_lawful, letters_act_once, published_movements_are_decided,
+    replies_to_nobody, settled_by_view, shown_by_others, standing_orders_are_given,
+    votes_are_untold,
+};
+pub use sights::{Sees, Sight, author_of, digest_of};
+pub use verdicts::Verdict;

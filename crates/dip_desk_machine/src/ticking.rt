@@ -1,0 +1,206 @@
+//! What TICK comes to: the phase of a game that is due is adjudicated with the orders that stand, and its paper published.
+ghost use Rattle.std.specs.Prelude.{◌≡◌, ◌≤◌, ◌<◌, IfOk, IsErrOf, map as each, true};
+ghost use Rattle.std.specs.List.{list_any};
+ghost use Rattle.dip_map.specs.Boards.{IsOf};
+ghost use Rattle.dip_desk_machine.specs.Drawing.{is_drawn};
+ghost use Rattle.dip_desk_state.specs.Faults.{faults_after};
+ghost use Rattle.dip_desk_machine.specs.Machine as m;
+ghost use Rattle.dip_desk_machine.specs.Ordering.{has_foreign};
+ghost use Rattle.dip_desk_machine.specs.Ticking as t;
+ghost use Rattle.dip_desk_machine.specs.Verdicts.{verdict};
+ghost use Rattle.dip_desk_state.specs.Rows as rows;
+
+use crate::drawing::{draw_verdict, is_drawn, survivors};
+use crate::ordering::standing_orders;
+use crate::verdicts::{Verdict, refusal_verdict};
+use dip_desk_state::{Effect, KeepFault, Own, Public, Status, Whole};
+use dip_map::{Board, Map};
+use dip_orders::PlacedOrder;
+use dip_reports::{Refusal, paper_line};
+use dip_turn::{Course, Report, advance};
+use dip_turn_papers::paper_text;
+use std::alloc::{AllocError, Global};
+
+/// The orders that stand in these seats; `Damaged` where the line of one is no order on this board.
+fn orders_of_seats(
+    alloc: Global,
+    map: &Map,
+    board: &Board,
+    seats: &[Own],
+) -> Result<Vec<PlacedOrder>, KeepFault>
+    ensures value { IfOk result
+        (λ v. v.items ≡ t.orders_of_seats map.now board.now (each (λ o. rows.own o) seats.now)) }
+    ensures disk { faults_after result 0 ≡ 0 }
+    ensures sane { IsErrOf result KeepFault.Damaged
+        → list_any (λ o. has_foreign map.now board.now o.power o.pending)
+        (each (λ o. rows.own o) seats.now) ≡ true }
+{
+    let mut orders = Vec::new(alloc);
+    for seat in seats {
+        let standing = standing_orders(alloc, map, board, seat.power, seat.pending.as_slice())?;
+        orders.extend_from_slice(standing.as_slice())?;
+    }
+    Ok(orders)
+}
+
+/// Whether a game is over: nothing is adjudicated any more, and no orders are taken.
+pub fn is_over(status: &Status) -> bool
+    ensures { result ≡ t.is_over (rows.status status.now) }
+{
+    match status {
+        Status::Running | Status::Paused => false,
+        Status::Closed | Status::Ended | Status::Won(_) | Status::Drawn(_) => true,
+    }
+}
+
+fn is_running(status: &Status) -> bool
+    ensures { result ≡ t.is_running (rows.status status.now) }
+{
+    match status {
+        Status::Running => true,
+        Status::Paused | Status::Closed | Status::Ended | Status::Won(_) | Status::Drawn(_) =>
+            false,
+    }
+}
+
+/// Whether a game's phase may be adjudicated at this tick.
+fn is_due(tick: u64, public: &Public) -> bool
+    ensures { result ≡ t.is_due tick (rows.public public.now) }
+{
+    is_running(&public.status) && public.due <= tick
+}
+
+/// How a game stands behind a phase.
+fn status_after(course: Course) -> Status
+    ensures { rows.status result ≡ t.status_after course }
+{
+    match course {
+        Course::GoesOn => Status::Running,
+        Course::Won(power) => Status::Won(power),
+        Course::Ended => Status::Ended,
+    }
+}
+
+/// The tick from which on the phase behind this one is due; a game that is over keeps the old one.
+fn due_after(tick: u64, public: &Public, course: Course) -> u64
+    requires { tick ≤ 999999999999 }
+    ensures { result ≡ t.due_after tick (rows.public public.now) course }
+{
+    match course {
+        Course::GoesOn => tick + u64::from(public.period),
+        Course::Won(_) | Course::Ended => public.due,
+    }
+}
+
+/// The public part behind a phase.
+fn public_played(
+    tick: u64,
+    public: &Public,
+    board: Board,
+    course: Course,
+) -> Result<Public, AllocError>
+    requires timely { tick ≤ 999999999999 }
+    requires room { public.now.papers < 4294967295 }
+    ensures { IfOk result
+        (λ p. rows.public p ≡ t.public_played tick (rows.public public.now) board course) }
+{
+    Ok(Public {
+        game: public.game.clone()?,
+        board,
+        status: status_after(course),
+        due: due_after(tick, public, course),
+        period: public.period,
+        grey: public.grey,
+        papers: public.papers + 1,
+    })
+}
+
+/// A phase that was adjudicated: its paper is published.
+fn published(
+    alloc: Global,
+    map: &Map,
+    report: &Report,
+    public: Public,
+) -> Result<Verdict, AllocError>
+    ensures { IfOk result
+        (λ v. verdict v ≡ m.paper_verdict map.now report.now (rows.public public)) }
+{
+    let line = paper_line(alloc, public.papers)?;
+    let paper = paper_text(alloc, map, report, &public)?;
+    Ok(Verdict::Taken(
+        line,
+        Effect::Publishes {
+            public,
+            paper,
+            played: true,
+        },
+    ))
+}
+
+/// The phase of a game is adjudicated with the orders that stand; `Damaged` where it can't be.
+fn adjudicated(alloc: Global, map: &Map, tick: u64, whole: &Whole) -> Result<Verdict, KeepFault>
+    requires timely { tick ≤ 999999999999 }
+    requires room { whole.now.public.papers < 4294967295 }
+    requires board { IsOf map.now whole.now.public.board }
+    ensures value { IfOk result
+        (λ v. m.IsPublished map.now tick (rows.whole whole.now) (verdict v)) }
+    ensures disk { faults_after result 0 ≡ 0 }
+    ensures sane { IsErrOf result KeepFault.Damaged
+        → t.IsPlayable map.now (rows.whole whole.now) → ⊥ }
+{
+    let public = &whole.public;
+    let orders = orders_of_seats(alloc, map, &public.board, whole.seats.as_slice())?;
+    let board = public.board.copy(alloc)?;
+    match advance(alloc, map, board, orders.as_slice()) {
+        Err(_) => Err(KeepFault::Memory),
+        Ok((board, report)) => {
+            let behind = public_played(tick, public, board, report.course)?;
+            Ok(published(alloc, map, &report, behind)?)
+        }
+    }
+}
+
+/// What a due tick comes to: a draw where all survivors want one, or else the phase is adjudicated; `Damaged` where it can't be.
+fn on_time(alloc: Global, map: &Map, tick: u64, whole: &Whole) -> Result<Verdict, KeepFault>
+    requires timely { tick ≤ 999999999999 }
+    ensures value { IfOk result
+        (λ v. m.OnTime map.now tick (rows.whole whole.now)
+        (is_drawn map.now (rows.whole whole.now)) (verdict v)) }
+    ensures disk { faults_after result 0 ≡ 0 }
+    ensures sane { IsErrOf result KeepFault.Damaged
+        → t.IsPlayable map.now (rows.whole whole.now) → ⊥ }
+{
+    let public = &whole.public;
+    if !public.board.is_of(map) || public.papers == u32::MAX {
+        return Err(KeepFault::Damaged);
+    }
+    let survivors = survivors(alloc, map, &public.board)?;
+    if is_drawn(survivors.as_slice(), whole.seats.as_slice()) {
+        return Ok(draw_verdict(alloc, map, public, survivors)?);
+    }
+    adjudicated(alloc, map, tick, whole)
+}
+
+/// What TICK comes to in a game: nothing is played in one that is over, nor before its time.
+pub fn tick_verdict(
+    alloc: Global,
+    map: &Map,
+    tick: u64,
+    whole: &Whole,
+) -> Result<Verdict, KeepFault>
+    requires timely { tick ≤ 999999999999 }
+    ensures value { IfOk result (λ v. m.Ticks map.now tick (rows.whole whole.now)
+        (t.is_over (rows.status whole.now.public.status))
+        (t.is_due tick (rows.public whole.now.public)) (verdict v)) }
+    ensures disk { faults_after result 0 ≡ 0 }
+    ensures sane { IsErrOf result KeepFault.Damaged
+        → t.IsPlayable map.now (rows.whole whole.now) → ⊥ }
+{
+    if is_over(&whole.public.status) {
+        return Ok(refusal_verdict(alloc, Refusal::GameOver)?);
+    }
+    if !is_due(tick, &whole.public) {
+        return Ok(refusal_verdict(alloc, Refusal::NotDue)?);
+    }
+    on_time(alloc, map, tick, whole)
+}

@@ -1,0 +1,69 @@
+//! Who writes letters, and what they change.
+use crate::records::{Item, Kept, Public, Standing};
+use dip_names::Power;
+use std::rc::Rc;
+
+/// The master's row.
+#[derive(Drop)]
+pub struct Desk {
+    /// SHA-256 of `desk`, LF, `master`, LF and the master's secret.
+    pub digest: [u8; 32],
+    /// The master's last letter, if one is recorded.
+    pub kept: Option<Kept>,
+}
+
+/// Who wrote a letter.
+#[derive(Clone, Copy, PartialEq, Eq, Debug)]
+pub enum Author {
+    Nobody,
+    TheMaster,
+    Seat(Power),
+}
+
+/// A power of a new game and the digest of its seat.
+#[derive(Clone, Copy)]
+pub struct NewSeat {
+    pub power: Power,
+    pub digest: [u8; 32],
+}
+
+/// What a letter does to its game.
+#[derive(Drop)]
+pub enum Effect {
+    /// Nothing.
+    Nothing,
+    /// The author's standing orders are these.
+    Pending(Vec<Standing>),
+    /// Whether the author votes for a draw.
+    Votes(bool),
+    /// Press for the inboxes of these powers. It lies in memory once, however many have it.
+    Delivers {
+        readers: Vec<Power>,
+        item: Rc<Item>,
+    },
+    /// A game with this public part, first paper and seats.
+    Opens {
+        public: Public,
+        paper: String,
+        seats: Vec<NewSeat>,
+    },
+    /// A paper and the public part behind it; where a phase was played, no order stands any more.
+    Publishes {
+        public: Public,
+        paper: String,
+        played: bool,
+    },
+    /// Another digest for a seat.
+    Seats(NewSeat),
+}
+
+/// What an accepted letter changes.
+#[derive(Drop)]
+pub struct Change {
+    /// The letter's game.
+    pub game: String,
+    pub author: Author,
+    /// What is kept of the letter, for its author.
+    pub kept: Kept,
+    pub effect: Effect,
+}

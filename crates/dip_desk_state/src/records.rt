@@ -1,0 +1,160 @@
+//! The records that a desk keeps and answers.
+ghost use Rattle.std.specs.Prelude.{◌≡◌, IfOk};
+ghost use Rattle.dip_desk_state.specs.Rows as rows;
+
+use dip_map::Board;
+use dip_names::{Power, Prov};
+use std::alloc::{AllocError, Global};
+use std::rc::Rc;
+
+/// How a game stands.
+#[derive(Drop)]
+pub enum Status {
+    /// It goes on, and each due tick adjudicates its phase.
+    Running,
+    /// No tick adjudicates its phase until the master lets it go on.
+    Paused,
+    /// The master closed it.
+    Closed,
+    /// Its last year is over, and nobody has won.
+    Ended,
+    /// This power has won.
+    Won(Power),
+    /// These powers share it.
+    Drawn(Vec<Power>),
+}
+
+impl Status {
+    /// A copy of it.
+    pub fn copy(&self, alloc: Global) -> Result<Status, AllocError>
+        ensures { IfOk result (λ s. rows.status s ≡ rows.status self.now) }
+    {
+        match self {
+            Status::Running => Ok(Status::Running),
+            Status::Paused => Ok(Status::Paused),
+            Status::Closed => Ok(Status::Closed),
+            Status::Ended => Ok(Status::Ended),
+            Status::Won(power) => Ok(Status::Won(*power)),
+            Status::Drawn(powers) => {
+                let mut copy = Vec::with_capacity(alloc, powers.len())?;
+                copy.extend_from_slice(powers.as_slice())?;
+                Ok(Status::Drawn(copy))
+            }
+        }
+    }
+}
+
+/// What everybody may know of a game.
+#[derive(Drop)]
+pub struct Public {
+    /// The game's name: 1 to 16 of `a` to `z` and `0` to `9`, a letter first.
+    pub game: String,
+    /// Where its units stand, who owns its centres, and its phase.
+    pub board: Board,
+    /// How it stands.
+    pub status: Status,
+    /// The tick from which on its phase may be adjudicated.
+    pub due: u64,
+    /// The ticks from one due tick to the next.
+    pub period: u32,
+    /// Whether it takes grey press.
+    pub grey: bool,
+    /// How many papers it has published.
+    pub papers: u32,
+}
+
+/// The last letter of an author that was recorded, and its reply.
+#[derive(Drop)]
+pub struct Kept {
+    /// The letter's number.
+    pub number: u32,
+    /// SHA-256 of the letter's bytes.
+    pub sum: [u8; 32],
+    /// The lines of its reply between the head and `END`, each ended by LF. A copy of this record shares them.
+    pub reply: Rc<String>,
+}
+
+/// A standing order.
+#[derive(Drop)]
+pub struct Standing {
+    /// The province of its unit.
+    pub prov: Prov,
+    /// Its canonical line.
+    pub line: String,
+}
+
+/// Press as its reader is shown it.
+#[derive(Drop)]
+pub enum Item {
+    /// With the name of its writer, and its addressees as they were named.
+    White {
+        writer: String,
+        addressees: Vec<String>,
+        text: Vec<String>,
+    },
+    /// With nobody's name, and whether all have it.
+    Grey {
+        to_all: bool,
+        text: Vec<String>,
+    },
+}
+
+/// What a seat may know beside the public part: its own part, but for the items of its inbox.
+#[derive(Drop)]
+pub struct Own {
+    /// The power that the seat plays.
+    pub power: Power,
+    /// SHA-256 of the game, the power and the seat's secret.
+    pub digest: [u8; 32],
+    /// Whether the seat votes for a draw.
+    pub vote: bool,
+    /// Its standing orders, by province.
+    pub pending: Vec<Standing>,
+    /// Its last letter, if it has sent one that is recorded.
+    pub kept: Option<Kept>,
+    /// How many press letters it has sent.
+    pub sent: u32,
+    /// How many items its inbox has.
+    pub items: u32,
+}
+
+/// A game with the own parts of all its seats, but for the items of their inboxes.
+#[derive(Drop)]
+pub struct Whole {
+    pub public: Public,
+    /// The seats, in the order in which CREATE named them.
+    pub seats: Vec<Own>,
+}
+
+/// What became of a letter.
+#[derive(Clone, Copy, PartialEq, Eq, Debug)]
+pub enum Outcome {
+    /// Nobody is known as its author.
+    Unknown,
+    /// Its number was used by another letter, or is below its author's last.
+    OutOfTurn,
+    /// It was done or refused, and this is kept; the same letter again has this outcome too.
+    Done,
+}
+
+/// Whose letter a reply answers.
+#[derive(Drop)]
+pub struct Head {
+    /// The letter's game.
+    pub game: String,
+    /// The letter's sender.
+    pub sender: String,
+    /// The letter's number.
+    pub number: u32,
+}
+
+/// An answer to a letter.
+#[derive(Drop)]
+pub struct Reply {
+    /// What became of the letter.
+    pub outcome: Outcome,
+    /// Whose letter it answers; `None` where no author is known.
+    pub head: Option<Head>,
+    /// Its lines between the head and `END`, each ended by LF. What is kept of the letter shares them.
+    pub text: Rc<String>,
+}

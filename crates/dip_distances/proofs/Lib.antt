@@ -1,3 +1,0 @@
-pub mod GraphLaws
-pub mod WalkLaws
-pub mod DistanceLaws

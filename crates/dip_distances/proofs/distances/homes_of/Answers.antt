@@ -1,6 +1,0 @@
-use Rattle.dip_distances.proofs.DistanceLaws.{homes_step}
-use Rattle.dip_distances.proofs.distances.homes_of.Goals as goal
-
-pub loop-vertex-preserved : goal.loop-vertex-preserved
-loop-vertex-preserved c =
-    rw (c.in_ok-push.ensures.items, c.is_home_at.ensures) (homes_step c.args.parts.now c.args.kind c.args.power _ c.loop-vertex.vertex c.loop-vertex.invariant)

@@ -1,7 +1,0 @@
-use Rattle.std.proofs.Common.{◌≡◌, map, take}
-use Rattle.dip_chart.specs.Charts.{fleet_next}
-use Rattle.dip_distances.specs.Distances.{vertex}
-use Rattle.dip_distances.proofs.distances.ways_by_sea.Given as goal
-
-abbrev pub invariant-loop-b : goal.invariant-loop-b
-invariant-loop-b l = l.row.items ≡ map (λ b. vertex b) (take l.b-index (fleet_next l.parts l.fn.a))

@@ -1,4 +1,0 @@
-pub mod Apart
-pub mod New
-pub mod Place
-pub mod Writable

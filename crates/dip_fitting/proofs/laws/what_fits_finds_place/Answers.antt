@@ -1,5 +1,0 @@
-use Rattle.dip_fitting.proofs.Place.{fits_finds_place}
-use Rattle.dip_fitting.proofs.laws.what_fits_finds_place.Goals as goal
-
-pub returns : goal.returns
-returns g m = fits_finds_place m

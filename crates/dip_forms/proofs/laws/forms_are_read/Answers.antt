@@ -1,6 +1,0 @@
-use Rattle.dip_forms.proofs.ReadingLaws.{says_read, read_says}
-use Rattle.dip_forms.proofs.TextLaws.{canonical_says}
-use Rattle.dip_forms.proofs.laws.forms_are_read.Goals as goal
-
-pub returns : goal.returns
-returns c = record { said = says_read; read = read_says; again = canonical_says }

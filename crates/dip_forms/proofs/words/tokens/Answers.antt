@@ -1,8 +1,0 @@
-use Rattle.dip_forms.proofs.SpellingLaws.{tokens_law}
-use Rattle.dip_forms.proofs.words.tokens.Goals as goal
-
-pub returns : goal.returns
-returns c =
-    let value = rw c.as_bytes.ensures.value at c.scan.ensures in
-    let law = tokens_law c.args.line.now c.scan.result value in
-    record { value = value; found = law.0; none = law.1 }

@@ -1,5 +1,0 @@
-use Rattle.dip_forms.proofs.TokenLaws.{word_run}
-use Rattle.dip_forms.proofs.words.word_front.Goals as goal
-
-pub returns : goal.returns
-returns c = rw (c.split_at-parts.ensures.front, c.split_at-parts.ensures.back, c.word_len.ensures.value) (word_run c.args.text.now c.requires (rw c.word_len.ensures.value at c.word_len.ensures.bound))

@@ -1,6 +1,0 @@
-use Rattle.std.proofs.Common.{◌≡◌, ◌+◌, drop}
-use Rattle.dip_forms.specs.Scan.{word_length}
-use Rattle.dip_forms.proofs.words.word_len.Given as goal
-
-abbrev pub invariant-loop-b : goal.invariant-loop-b
-invariant-loop-b l = (l.length ≡ l.b-index) × (l.length + word_length (drop l.b-index l.text) ≡ word_length l.text)

@@ -1,5 +1,0 @@
-use Rattle.dip_founding.proofs.Typed.{reads}
-use Rattle.dip_founding.proofs.desk.bytes_at.Goals as goal
-
-pub returns-clause-own : goal.returns-clause-own
-returns-clause-own c b there is = reads c.get.result c.args.row.now c.args.at _ c.get.ensures.named c.get.ensures.kind there (b, is)

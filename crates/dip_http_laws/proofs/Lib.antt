@@ -1,4 +1,0 @@
-pub mod Cases
-pub mod OneAnswer
-pub mod PublicAnswers
-pub mod Posts

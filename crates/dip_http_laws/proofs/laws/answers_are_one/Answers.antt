@@ -1,5 +1,0 @@
-use Rattle.dip_http_laws.proofs.OneAnswer.{answers_one}
-use Rattle.dip_http_laws.proofs.laws.answers_are_one.Goals as goal
-
-pub returns : goal.returns
-returns c = λ m. answers_one m (c.histories_are_one.ensures.once m)

@@ -1,5 +1,0 @@
-use Rattle.dip_http_laws.proofs.Posts.{turns}
-use Rattle.dip_http_laws.proofs.laws.connections_are_turns.Goals as goal
-
-pub returns : goal.returns
-returns c = λ m. turns m

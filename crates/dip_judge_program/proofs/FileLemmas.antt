@@ -1,0 +1,59 @@
+-- From what a file held to what its store says behind a command.
+use Rattle.std.proofs.Common.{◌≡◌, Err, IfErr, IfSome, List, OnOk, Ok, Option, Result, Some, subst, sym, ℕ}
+use Rattle.sqlite_disk.specs.declared.Disk as disk
+use Rattle.sqlite.specs.Store.{Ghosts}
+use Rattle.sqlite.specs.declared.FileStore.{FileStore}
+use Rattle.sqlite.specs.Effect.{Database}
+use Rattle.sqlite.specs.Files.{AreFoundIn, IsOpened, file_state, over_files}
+use Rattle.sqlite.specs.Held.{Held}
+use Rattle.sqlite.specs.Recovery.{Image}
+use Rattle.sqlite.specs.Start.{FindsIn}
+use Rattle.sqlite.specs.State.{HasCleanDisk}
+use Rattle.dip_map_chart.specs.Charts.{Chart}
+use Rattle.dip_desk_state.specs.State.{State}
+use Rattle.dip_store_sql.specs.Calls.{does_show}
+use Rattle.dip_store.specs.Opening.{IsStore}
+use Rattle.dip_store.specs.Stored.{said_by}
+use Rattle.dip_judge_program.specs.declared.args.Args.{Args}
+use Rattle.dip_judge_program.specs.Files.{FromHeld, HeldDesk, LeavesStore, StopsStore, WasOpened}
+use Rattle.dip_judge_program.specs.declared.failures.Failure.{Failure}
+use Rattle.dip_judge_program.specs.Stores.{desk_in}
+
+module _ {D : Type 0} {g : disk.Ghosts D} (image : Image) (m : Chart) (first : Held (FileStore D g)) (opened : HasCleanDisk (file_state first) → IsOpened first)
+    (found : HasCleanDisk (file_state first) → FindsIn image (file_state first)) where
+  -- what was opened is the desk that the file held
+  pub is_held : HasCleanDisk (file_state first) → (s : State) → HeldDesk image m s → IsStore m (file_state first).now × (said_by m (file_state first).now.trees ≡ s)
+  is_held clean s held =
+      let it = opened clean in
+      held (file_state first).now (it.1 it.0.is_open).0 (subst (λ (d : Database). AreFoundIn image d.trees) (sym it.0.clean) (found clean).reads)
+
+  module _ (last : Held (FileStore D g)) (fair : does_show over_files last → HasCleanDisk (file_state first)) where
+    from_held : (P : State → State → Type 0) → (does_show over_files last → IsStore m (file_state first).now → P (desk_in over_files m first) (desk_in over_files m last))
+        → FromHeld over_files image m P last
+    from_held P does shows s held =
+        let it = is_held (fair shows) s held in
+        subst (λ s. P s (desk_in over_files m last)) it.1 (does shows it.0)
+
+    pub ok_held : {A E : Type 0} (r : Result A E) (P : State → State → Type 0)
+        → (does_show over_files last → IsStore m (file_state first).now → OnOk r (P (desk_in over_files m first) (desk_in over_files m last)))
+        → OnOk r (WasOpened (Some last) (FromHeld over_files image m P))
+    ok_held (Ok x) P does = from_held P does
+    ok_held (Err e) P does = tt
+
+    pub err_held : {A E : Type 0} (r : Result A E) (P : E → State → State → Type 0)
+        → (does_show over_files last → IsStore m (file_state first).now → IfErr r (λ e. P e (desk_in over_files m first) (desk_in over_files m last)))
+        → IfErr r (λ e. FromHeld over_files image m (P e) last)
+    err_held (Ok x) P does = tt
+    err_held (Err e) P does = from_held (P e) does
+
+pub both_ok : {A E : Type 0} (P Q : Type 0) (r : Result A E) → OnOk r P → OnOk r Q → OnOk r (P × Q)
+both_ok P Q (Ok x) p q = (p, q)
+both_ok P Q (Err e) p q = tt
+
+module _ {S : Type 0} (g : Ghosts S) (image : Image) (m : Chart) (known left before after : Option (List ℕ)) (a b : Args) (is : a ≡ b) (opened : Option (Held S)) (r : Result (Unit {0}) Failure) where
+  -- what is asked for, by another name
+  pub leaves_as : OnOk r (LeavesStore g image m known left before after b opened) → OnOk r (LeavesStore g image m known left before after a opened)
+  leaves_as leaves = subst (λ a. OnOk r (LeavesStore g image m known left before after a opened)) (sym is) leaves
+
+  pub stops_as : IfErr r (λ f. IfSome opened (StopsStore g image m known left before after b f)) → IfErr r (λ f. IfSome opened (StopsStore g image m known left before after a f))
+  stops_as stops = subst (λ a. IfErr r (λ f. IfSome opened (StopsStore g image m known left before after a f))) (sym is) stops

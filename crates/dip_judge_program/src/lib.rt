@@ -1,0 +1,26 @@
+//! The program, but for its `main`: its words, what it does for each command, and what is told of a failure.
+#![tactic(auto)]
+
+mod args;
+mod asked;
+mod commands;
+mod failures;
+mod faults;
+mod files;
+mod numbers;
+mod options;
+mod program;
+mod reading;
+mod serving;
+mod stored;
+mod values;
+
+pub use args::Args;
+pub use asked::{do_as_asked, run_as_asked};
+pub use failures::{Failure, status_of};
+pub use faults::UsageFault;
+pub use files::Stored;
+pub use program::run_program;
+pub use reading::read_args;
+pub use serving::serve_all;
+pub use stored::{answer_stored, make_desk, report_stored};

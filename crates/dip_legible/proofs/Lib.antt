@@ -1,4 +1,0 @@
-pub mod Spelled
-pub mod MapTexts
-mod Told
-mod Stays

@@ -1,5 +1,0 @@
-use Rattle.dip_legible.proofs.Spelled.{none}
-use Rattle.dip_legible.proofs.laws.new_tables_are_legible.Goals as goal
-
-pub returns : goal.returns
-returns g map_sum digest = record { desk = (none, tt); seats = tt; pending = tt; boxes = tt; papers = tt }

@@ -1,4 +1,0 @@
-pub mod Laws
-pub mod Legible
-pub mod Room
-pub mod Texts

@@ -1,5 +1,0 @@
-use Rattle.dip_machine.proofs.Histories.{answered_from_seen}
-use Rattle.dip_machine.proofs.laws.answered_from_what_is_seen.Goals as goal
-
-pub returns : goal.returns
-returns c = answered_from_seen

@@ -1,5 +1,0 @@
-use Rattle.dip_machine.proofs.Seeing.{effect_seen}
-use Rattle.dip_machine.proofs.laws.effects_are_shown.Goals as goal
-
-pub returns : goal.returns
-returns c = effect_seen

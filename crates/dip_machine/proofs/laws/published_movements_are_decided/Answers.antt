@@ -1,5 +1,0 @@
-use Rattle.dip_machine.proofs.Publishing.{movements_decided}
-use Rattle.dip_machine.proofs.laws.published_movements_are_decided.Goals as goal
-
-pub returns : goal.returns
-returns c m = movements_decided m c.explained_is_lawful.ensures.equations

@@ -1,4 +1,0 @@
-pub mod Counts
-pub mod Failing
-pub mod Laws
-pub mod Making

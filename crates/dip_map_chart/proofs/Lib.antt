@@ -1,0 +1,9 @@
+pub mod Reach
+pub mod Found
+pub mod KeyLaws
+pub mod EntryLaws
+pub mod MapLaws
+pub mod CheckLaws
+pub mod GraphLaws
+pub mod WalkLaws
+pub mod DistanceLaws

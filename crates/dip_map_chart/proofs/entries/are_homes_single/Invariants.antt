@@ -1,0 +1,6 @@
+use Rattle.std.proofs.Common.{◌≡◌, drop}
+use Rattle.dip_map_chart.specs.Checks.{are_homes_single}
+use Rattle.dip_map_chart.proofs.entries.are_homes_single.Given as goal
+
+abbrev pub invariant-loop-number : goal.invariant-loop-number
+invariant-loop-number l = are_homes_single (drop l.number l.realms) ≡ are_homes_single l.realms

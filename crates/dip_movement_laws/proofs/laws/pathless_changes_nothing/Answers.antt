@@ -1,5 +1,0 @@
-use Rattle.dip_movement_laws.proofs.PathlessLemmas.{pathless_law}
-use Rattle.dip_movement_laws.proofs.laws.pathless_changes_nothing.Goals as goal
-
-pub returns : goal.returns
-returns c m b orders a o d there far lost = pathless_law c.boards_are_situations.ensures m b orders a o d there far lost

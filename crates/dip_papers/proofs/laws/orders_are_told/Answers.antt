@@ -1,5 +1,0 @@
-use Rattle.dip_papers.proofs.ToldLaws.{orders_told}
-use Rattle.dip_papers.proofs.laws.orders_are_told.Goals as goal
-
-pub returns : goal.returns
-returns c = orders_told

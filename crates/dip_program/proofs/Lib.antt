@@ -1,4 +1,0 @@
-pub mod FreshLemmas
-pub mod StoredLemmas
-pub mod ServingLemmas
-pub mod FileLemmas

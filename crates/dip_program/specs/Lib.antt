@@ -1,6 +1,0 @@
-pub mod Fresh
-pub mod Serving
-pub mod Stores
-pub mod Failures
-pub mod Files
-pub mod Asked

@@ -1,5 +1,0 @@
-pub mod Accepted
-pub mod Created
-pub mod Defined
-pub mod Meaning
-pub mod Texts

@@ -1,4 +1,0 @@
-pub mod Asking
-pub mod Creating
-pub mod Schema
-pub mod Statements

@@ -1,0 +1,42 @@
+-- Our schema knows our tables.
+use Rattle.std.proofs.Common.{◌≡◌, ◌≤◌, IsTrue, ℕ, nat_le, Bool, true, List, Ok, Err, Result, IfOk, arith, length, refl, sym, subst}
+use Rattle.std.proofs.lemmas.Bool.Decides.{nat_tests}
+use Rattle.sqlite.specs.declared.error.Error.{Error}
+use Rattle.sqlite.specs.Command.{Command}
+use Rattle.sqlite.specs.Query.{Query}
+use Rattle.sqlite.specs.Given.{IsPlain}
+use Rattle.sqlite.specs.Listing.{understood}
+use Rattle.sqlite.specs.Schema.{Schema}
+use Rattle.sqlite_resolve.specs.declared.compiled.Compiled.{Compiled}
+use Rattle.sqlite_resolve.specs.declared.error.CompileError.{CompileError}
+use Rattle.dip_store_sql.specs.Asking.{Asks, IsAsked, command_in}
+use Rattle.dip_store_sql.specs.Schema.{our_schema}
+use Rattle.dip_store_sql.proofs.Texts as means
+use Rattle.dip_store.specs.Known.{HasOurTables, IsKnown, IsWhole}
+
+within : (a b : ℕ) → nat_le a b ≡ true → a ≤ b
+within a b h = grind (arith, nat_tests)
+
+known_in : (r : Result Compiled CompileError) (command : Command) → command_in r command → (c : Compiled) × (r ≡ Ok c)
+known_in (Ok c) command h = (c, refl)
+known_in (Err e) command h = absurd h
+
+whole_in : (size count : ℕ) (r : Result Compiled CompileError) → IsPlain r → IsAsked size count r → IsWhole size r
+whole_in size count (Ok c) plain asked = (within _ _ asked.0, plain.1)
+whole_in size count (Err e) plain asked = absurd plain
+
+known_by : (text : List ℕ) (count : ℕ) (q : Query) (names : List (List ℕ)) → Asks text count q names → IsKnown our_schema text
+known_by text count q names asks = known_in _ _ asks.means.0
+
+pub whole_by : (text : List ℕ) (count : ℕ) (q : Query) (names : List (List ℕ)) → Asks text count q names → IsWhole (length text) (understood our_schema text)
+whole_by text count q names asks = whole_in _ count _ asks.means.1 asks.asked
+
+ours_known : HasOurTables our_schema
+ours_known = (known_by _ _ _ _ means.find_desk, (known_by _ _ _ _ means.find_game, (known_by _ _ _ _ means.list_seats, (known_by _ _ _ _ means.list_units, (known_by _ _ _ _ means.list_centres, (known_by _ _ _ _ means.list_orders, (known_by _ _ _ _ means.find_item, (known_by _ _ _ _ means.find_paper, tt))))))))
+
+pub known_of_ours : (schema : Schema) → schema ≡ our_schema → HasOurTables schema
+known_of_ours schema is = subst HasOurTables (sym is) ours_known
+
+pub all_known : (r : Result Bool Error) (P : Type 0) → IfOk r (λ b. (IsTrue b → P) × (P → IsTrue b)) → P → IfOk r IsTrue
+all_known (Ok b) P h p = h.1 p
+all_known (Err e) P h p = tt

@@ -1,0 +1,89 @@
+-- What a text that is only prepared tells.
+use Rattle.std.proofs.Common.{◌≡◌, ◌⊎◌, inl, inr, IsTrue, ℕ, List, [], Ok, Err, Result, length, replicate, false, refl, sym, ap, subst, ◌∙◌, ◌≤◌}
+use Rattle.std.proofs.lemmas.List.{length-replicate}
+use Rattle.sqlite.specs.declared.error.Error.{Error}
+use Rattle.sqlite.specs.declared.types.Value.TheVariants.{Null}
+use Rattle.sqlite.specs.Order.{Row}
+use Rattle.sqlite.specs.Listing.{understood}
+use Rattle.sqlite.specs.Outline.{Outline}
+use Rattle.sqlite.specs.Store.{Ghosts}
+use Rattle.sqlite.specs.Held.{Held, state}
+use Rattle.sqlite.specs.Schema.{Schema}
+use Rattle.sqlite.specs.State.{HasCleanDisk, Survives, State, IsNotRun, IsUnchanged, KeepsCommit, HasCause, is_disk_error, store_error}
+use Rattle.sqlite.specs.Steps.{Outlines}
+use Rattle.sqlite_trees.specs.declared.error.StoreError.{StoreError}
+use Rattle.sqlite_trees.specs.declared.error.StoreError.TheVariants.{OutOfMemory, Io, Corrupt, Full, Broken, Unstorable}
+use Rattle.sqlite_resolve.specs.declared.compiled.Compiled.{Compiled}
+use Rattle.sqlite_resolve.specs.declared.error.CompileError.{CompileError}
+use Rattle.dip_store_sql.specs.Faults.{IsOutside}
+use Rattle.dip_store.specs.Alone.{LeavesAlone}
+use Rattle.dip_store.specs.Known.{IsKnown, IsWhole}
+use Rattle.dip_store.proofs.Alone.{went, fails}
+
+-- a text that was prepared is understood
+outlined : (r : Result Compiled CompileError) (s : Outline) → Outlines r s → (c : Compiled) × (r ≡ Ok c)
+outlined (Ok c) s h = (c, refl)
+outlined (Err e) s h = absurd h
+
+pub prepared : (schema : Schema) (text : List ℕ) (s : Outline) → Outlines (understood schema text) s → IsKnown schema text
+prepared schema text s h = outlined (understood schema text) s h
+
+pub unchanged_keeps : (old new : State) → IsUnchanged old new → KeepsCommit old new
+unchanged_keeps old new u = record { was_open = λ _. u.0.was_open; committed = λ _. u.0.committed_is }
+
+-- an error of an open store
+caused : (old new : State) (e : Error) (cause : StoreError) → e ≡ store_error cause → HasCause old new ⊥ cause → IsTrue old.is_open → IsOutside e
+caused old new e OutOfMemory is why up = inl is
+caused old new e Io is why up = inr (ap is_disk_error is)
+caused old new e Corrupt is why up = inr (ap is_disk_error is)
+caused old new e Full is why up = inr (ap is_disk_error is)
+caused old new e Broken is why up = absurd (let x = sym up ∙ why in cc)
+caused old new e Unstorable is why up = absurd why
+
+module _ (sql : List ℕ) (old new : State) (e : Error) (told : (params : Row) → IsNotRun old new sql params e) where
+  -- nothing was committed
+  pub told_keeps : KeepsCommit old new
+  unfolding IsNotRun
+  told_keeps = elim (told []) [
+    | inl none ↦ unchanged_keeps old new none.1
+    | inr fault ↦ record { was_open = fault.3.was_open; committed = λ up. (fault.3.undone up).1 }
+  ]
+
+  -- what it shows is as before, or as it was committed
+  pub told_shows : IsTrue new.is_open → (new.now ≡ old.now) ⊎ (new.now ≡ old.committed)
+  unfolding IsNotRun
+  told_shows up = elim (told []) [
+    | inl none ↦ inl none.1.0.now_is
+    | inr fault ↦ inr (fault.3.undone up).0
+  ]
+
+  -- a text that is understood is refused for want of memory, or by the disk
+  pub told_outside : IsTrue old.is_open → IsWhole (length sql) (understood old.now.schema sql) → IsOutside e
+  unfolding IsNotRun
+  told_outside up whole = go (understood old.now.schema sql) refl whole
+    where
+      known : (c : Compiled) → understood old.now.schema sql ≡ Ok c → (length sql ≤ c.tail) × (c.formats ≡ []) → IsOutside e
+      known c is both = elim (told (replicate (length c.names) Null)) [
+        | inl none ↦ absurd (elim none.0 [
+          | inl a ↦ (let x = sym is ∙ a.1 in cc)
+          | inr b ↦ let x = sym is ∙ b.1 in let same : c ≡ b.0 = cc in elim b.2 [
+            | inl d ↦ d.0 (subst (λ (k : Compiled). length sql ≤ k.tail) same both.0)
+            | inr d ↦ elim d [
+              | inl f ↦ f.0 (subst (λ (k : Compiled). length (replicate (length c.names) Null) ≡ length k.names) same (length-replicate (length c.names) Null))
+              | inr f ↦ f.0 (subst (λ (k : Compiled). k.formats ≡ []) same both.1)
+            ]
+          ]
+        ])
+        | inr fault ↦ caused old new e fault.0 fault.1 fault.2 up
+      ]
+
+      go : (r : Result Compiled CompileError) → understood old.now.schema sql ≡ r → IsWhole (length sql) r → IsOutside e
+      go (Ok c) is whole = known c is whole
+      go (Err f) is whole = absurd whole
+
+module _ {S : Type 0} (g : Ghosts S) (old new : Held S) (survives : Survives (state g old) (state g new) (λ _. ⊥)) (mode : old.in_transaction ≡ false → new.in_transaction ≡ false) where
+  pub alone_ok : {X : Type 0} (x : X) → (HasCleanDisk (state g new) → IsUnchanged (state g old) (state g new)) → LeavesAlone g old new (went X Error x)
+  alone_ok x same = record { survives = survives; mode = mode; keeps = λ clean. unchanged_keeps _ _ (same clean); shows = λ clean up. inl (same clean).0.now_is; same = λ clean up. same clean }
+
+  pub alone_err : (X : Type 0) (sql : List ℕ) (e : Error) → (HasCleanDisk (state g new) → (params : Row) → IsNotRun (state g old) (state g new) sql params e) → LeavesAlone g old new (fails X Error e)
+  alone_err X sql e told = record { survives = survives; mode = mode; keeps = λ clean. told_keeps sql (state g old) (state g new) e (told clean); shows = λ clean up. told_shows sql (state g old) (state g new) e (told clean) up; same = λ clean up. tt }

@@ -1,0 +1,10 @@
+use Rattle.dip_store_sql.specs.Creating.{create_seat}
+use Rattle.dip_store.specs.Making.{HasFirst}
+use Rattle.dip_store_sql.proofs.Created.{seat_made}
+use Rattle.dip_store.proofs.Leading.{leads_one}
+use Rattle.dip_store.proofs.creating.create_seat.Goals as goal
+
+pub returns-clause-leads : goal.returns-clause-leads
+returns-clause-leads g c =
+    leads_one g.S.Store create_seat (HasFirst 2) (HasFirst 3) c.args.tx.now.conn.now c.execute.new.self.conn.now c.execute.result
+    c.execute.ensures.survives c.execute.ensures.ended c.execute.ensures.runs (λ count bare h. (seat_made _ _ count bare h).0)

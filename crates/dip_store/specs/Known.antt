@@ -1,0 +1,34 @@
+-- What a schema knows of the tables that a text names.
+use Rattle.std.specs.Prelude.{◌≡◌, ◌≤◌, ℕ, List, [], ◌∷◌, Result, Ok, Err}
+use Rattle.std.specs.List.{AllByRecursion}
+use Rattle.sqlite.specs.Schema.{Schema}
+use Rattle.sqlite.specs.Listing.{understood}
+use Rattle.sqlite_resolve.specs.declared.compiled.Compiled.{Compiled}
+use Rattle.sqlite_resolve.specs.declared.error.CompileError.{CompileError}
+use Rattle.dip_store_sql.specs.Statements.{find_desk_text, find_game_text, list_seats_text, list_units_text, list_centres_text, list_orders_text, find_item_text, find_paper_text}
+
+-- the schema has what the text names
+abbrev pub IsKnown : Schema → List ℕ → Type 0
+IsKnown schema text = (c : Compiled) × (understood schema text ≡ Ok c)
+
+-- a text of this length is one statement, and asks for no time
+abbrev pub IsWhole : ℕ → Result Compiled CompileError → Type 0
+IsWhole size (Ok c) = (size ≤ c.tail) × (c.formats ≡ [])
+IsWhole size (Err e) = ⊥
+
+-- for each of our tables a text that reads it
+abbrev pub table_texts : List (List ℕ)
+table_texts =
+    find_desk_text ∷
+    find_game_text ∷
+    list_seats_text ∷
+    list_units_text ∷
+    list_centres_text ∷
+    list_orders_text ∷
+    find_item_text ∷
+    find_paper_text ∷
+    []
+
+-- our tables are there, with the columns that are read of them
+abbrev pub HasOurTables : Schema → Type 0
+HasOurTables schema = AllByRecursion (IsKnown schema) table_texts

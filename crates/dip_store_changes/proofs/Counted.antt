@@ -1,0 +1,102 @@
+-- A change that is made with the counts before it is the change.
+use Rattle.std.proofs.Common.{◌≡◌, ℕ, ◌+◌, pos, Bool, true, false, cond, ◌&&◌, List, [], ◌∷◌, filter, find, slice_get, Some, None, option_map, bytes_eq, refl, sym, ap, ap₂, subst, ◌∙◌, inl, inr}
+use Rattle.std.specs.List.{AllByRecursion}
+use Rattle.std.proofs.lemmas.Bool.{cases_Bool}
+use Rattle.sqlite_keyed.proofs.ListLemmas.{ascending-map, ascending_weaker, slice_get-filter}
+use Rattle.sqlite.specs.Order.{Row, column}
+use Rattle.sqlite.specs.declared.types.Value.TheVariants.{Int}
+use Rattle.dip_map_chart.specs.Charts.{Chart}
+use Rattle.dip_store_tables.specs.Boards.{power_name}
+use Rattle.dip_desk_state.specs.State.{Author, Nobody, TheMaster, Seat, Effect, Nothing, Pending, Votes, Delivers, Opens, Publishes, Seats, Change}
+use Rattle.dip_desk_state.specs.Records.{Kept}
+use Rattle.dip_store_sql.specs.Recorded.{AtMostOne}
+use Rattle.dip_store_tables.specs.Changing.{changing, is_reader, noting, ordering, reaching}
+use Rattle.dip_store_tables.specs.Coding.{AreApart, same_seat}
+use Rattle.dip_store_tables.specs.Laws.{IsDeliveredOneByOne}
+use Rattle.dip_store_tables.specs.Tables.{SeatRow, Tables, is_seat}
+use Rattle.dip_store_tables.specs.Writing.{as_printed, seat_noted}
+use Rattle.dip_store_changes.specs.Delivering.{AreSeats, ReadersAreSeats}
+use Rattle.dip_store_changes.specs.declared.delivering.Reader.{Reader}
+use Rattle.dip_store_changes.specs.Counts.{AreReaders, Counts}
+use Rattle.dip_store_changes.specs.Making.{changing_sent, reaching_all}
+use Rattle.dip_store_changes.proofs.Listed.{still_readers}
+
+module _ {A : Type 0} (p : A → Bool) (Q : A → Type 0) where
+  passed : (xs : List A) → AllByRecursion Q (filter p xs) → AllByRecursion (λ x. p x ≡ true → Q x) xs
+  passed [] all = tt
+  passed (x ∷ xs) all = elim (cases_Bool (p x)) [
+    | inl e ↦ let both = rw e at all in (λ _. both.0, passed xs both.1)
+    | inr e ↦ (λ hit. absurd (let bad = sym hit ∙ e in cc), passed xs (rw e at all))
+  ]
+
+  -- what holds of the one that is found holds of all that pass
+  found_alone : (xs : List A) → AtMostOne p xs → ((x : A) → find p xs ≡ Some x → Q x) → AllByRecursion (λ x. p x ≡ true → Q x) xs
+  found_alone xs (inl none) holds = passed xs (subst (AllByRecursion Q) (sym none) tt)
+  found_alone xs (inr one) holds = passed xs (subst (AllByRecursion Q) (sym one.1) (holds one.0 (sym (slice_get-filter p xs) ∙ ap (λ ys. slice_get ys 0) one.1), tt))
+
+-- a count in the only column of the one row that passes
+module _ {A : Type 0} (p : A → Bool) (show : A → Row) (number : A → ℕ) (shown : (x : A) → column (show x) 0 ≡ Int (pos (number x))) (xs : List A) (one : AtMostOne p xs) where
+  pub none_counted : None ≡ option_map show (find p xs) → (n : ℕ) → AllByRecursion (λ x. p x ≡ true → n ≡ number x + 1) xs
+  none_counted none n = found_alone p (λ x. n ≡ number x + 1) xs one (λ x is. absurd (let bad = none ∙ ap (option_map show) is in cc))
+
+  pub one_counted : (row : Row) (count n : ℕ) → Some row ≡ option_map show (find p xs) → column row 0 ≡ Int (pos count) → n ≡ count + 1 → AllByRecursion (λ x. p x ≡ true → n ≡ number x + 1) xs
+  one_counted row count n found reads next = found_alone p (λ x. n ≡ number x + 1) xs one (λ x is.
+      let same : row ≡ show x = (let both = found ∙ ap (option_map show) is in cc) in
+      let columns = sym reads ∙ ap (λ r. column r 0) same ∙ shown x in
+      let counts : count ≡ number x = cc in
+      next ∙ ap (λ k. k + 1) counts)
+
+module _ (m : Chart) (name : List ℕ) (k : Kept) (e : Effect) where
+  noted_keys : (k : Kept) (e : Effect) (s : SeatRow) → ((seat_noted k e s).game ≡ s.game) × ((seat_noted k e s).power ≡ s.power) × ((seat_noted k e s).items ≡ s.items)
+  noted_keys k Nothing s = (refl, refl, refl)
+  noted_keys k (Pending orders) s = (refl, refl, refl)
+  noted_keys k (Votes draw) s = (refl, refl, refl)
+  noted_keys k (Delivers readers item) s = (refl, refl, refl)
+  noted_keys k (Opens public paper seats) s = (refl, refl, refl)
+  noted_keys k (Publishes public paper played) s = (refl, refl, refl)
+  noted_keys k (Seats seat) s = (refl, refl, refl)
+
+  abbrev noted : ℕ → SeatRow → SeatRow
+  noted power s = cond (is_seat name (power_name m power) s) (seat_noted (as_printed name (power_name m power) k) e s) s
+
+  module _ (power : ℕ) (s : SeatRow) where
+    stays : ((noted power s).game ≡ s.game) × ((noted power s).power ≡ s.power) × ((noted power s).items ≡ s.items)
+    stays = elim (cases_Bool (is_seat name (power_name m power) s)) [
+      | inl mine ↦ rw mine (noted_keys (as_printed name (power_name m power) k) e s)
+      | inr other ↦ rw other (refl, refl, refl)
+    ]
+
+  noted_apart : (who : Author) (t : Tables) → AreApart t → AreApart (noting m who name k e t)
+  noted_apart Nobody t apart = apart
+  noted_apart TheMaster t apart = record { games = apart.games; seats = apart.seats }
+  noted_apart (Seat power) t apart = record {
+    games = apart.games;
+    seats = ascending-map (λ a b. same_seat a b ≡ false) (noted power) t.seats
+        (ascending_weaker (λ a b. same_seat a b ≡ false) (λ a b. same_seat (noted power a) (noted power b) ≡ false)
+        (λ a b h. ap₂ ◌&&◌ (ap₂ bytes_eq (stays power a).0 (stays power b).0) (ap₂ bytes_eq (stays power a).1 (stays power b).1) ∙ h) t.seats apart.seats);
+  }
+
+  noted_readers : (powers : List ℕ) (rs : List Reader) (who : Author) (t : Tables) → AreSeats m name (filter (is_reader m name powers) t.seats) rs
+      → AreSeats m name (filter (is_reader m name powers) (noting m who name k e t).seats) rs
+  noted_readers powers rs Nobody t are = are
+  noted_readers powers rs TheMaster t are = are
+  noted_readers powers rs (Seat power) t are = still_readers m name powers (noted power) (λ s. (stays power s).0) (λ s. (stays power s).1) (λ s. (stays power s).2) t.seats rs are
+
+module _ (m : Chart) (each : ReadersAreSeats m) (one : IsDeliveredOneByOne m) (rs : List Reader) (who : Author) (name : List ℕ) (k : Kept) (t : Tables) (apart : AreApart t) where
+  reached : (e : Effect) → AreReaders m name e t.seats rs
+      → reaching_all rs m name e (ordering m who name e (noting m who name k e t)) ≡ reaching m name e (ordering m who name e (noting m who name k e t))
+  reached Nothing are = refl
+  reached (Pending orders) are = refl
+  reached (Votes draw) are = refl
+  reached (Delivers powers item) are =
+      let e = Delivers powers item in
+      let u = noting m who name k e t in
+      each name item (filter (is_reader m name powers) u.seats) rs u (noted_readers m name k e powers rs who t are) ∙ one name powers item u (noted_apart m name k e who t apart)
+  reached (Opens public paper seats) are = refl
+  reached (Publishes public paper played) are = refl
+  reached (Seats seat) are = refl
+
+pub counted_change : (m : Chart) → ReadersAreSeats m → IsDeliveredOneByOne m → (c : Change) (t : Tables) (n : ℕ) (rs : List Reader) → AreApart t → Counts n rs m c t → changing_sent n rs m c t ≡ changing m c t
+counted_change m each one c t n rs apart counts =
+    ap (λ u. reaching_all rs m c.game c.effect (ordering m c.author c.game c.effect u)) (counts.sent c.kept)
+    ∙ reached m each one rs c.author c.game c.kept t apart c.effect counts.readers

@@ -1,0 +1,104 @@
+-- Why what is read before a change fails.
+use Rattle.std.proofs.Common.{◌≡◌, ◌<◌, ◌+◌, ◌^◌, ℕ, pos, Bool, true, false, List, [], ◌∷◌, filter, find, map, length, Option, Some, None, option_map, Ok, Err, Result, IfErr, inl, inr, refl, sym, ap, subst, ◌∙◌, arith}
+use Rattle.std.specs.List.{AllByRecursion}
+use Rattle.std.specs.Result.{IsErr, IsErrAnd}
+use Rattle.std.specs.Str.{IsUtf8}
+use Rattle.std.proofs.lemmas.Bool.{cases_Bool}
+use Rattle.sqlite.specs.Order.{Row, column}
+use Rattle.sqlite.specs.Reading.{IsReadError}
+use Rattle.sqlite.specs.declared.types.Value.{Value}
+use Rattle.sqlite.specs.declared.types.Value.TheVariants.{Int, Text as Words}
+use Rattle.sqlite.specs.declared.error.Error.{Error}
+use Rattle.sqlite.specs.declared.error.Error.TheVariants.{SqliteFailure}
+use Rattle.sqlite.specs.declared.error.ErrorCode.TheVariants.{OutOfMemory}
+use Rattle.dip_store_sql.specs.Faults.{IsOutside}
+use Rattle.dip_map_chart.specs.Charts.{Chart, IsMap}
+use Rattle.dip_store_tables.specs.Coding.{IsSeatOf}
+use Rattle.dip_store_tables.specs.Tables.{SeatRow}
+use Rattle.dip_store_tables.specs.Legible.{IsSeatLegible}
+use Rattle.dip_store_tables.proofs.MapTexts.{power_text}
+use Rattle.dip_store_sql.specs.Showing.{show_listed}
+use Rattle.dip_store_sql.specs.Refusals.{IsWant}
+use Rattle.dip_store_sql.proofs.Told.{want_weaker}
+use Rattle.dip_store_changes.specs.Failing.{FailsFor, IsListed}
+use Rattle.dip_store_changes.specs.declared.faults.MakeFault.{MakeFault}
+use Rattle.dip_store_changes.specs.declared.faults.MakeFault.TheVariants.{Memory, Sql, Misfit}
+
+-- a column that can be read fails for want of memory alone
+pub column_wants : (at size : ℕ) (v : Value) (Readable : Type 0) (e : Error) → IsReadError at v e → ((e ≡ SqliteFailure OutOfMemory → ⊥) → at < size → Readable → ⊥) → at < size → Readable → IsWant ⊥ e
+column_wants at size v Readable e named kind low reads = elim named [
+  | inl a ↦ absurd (kind (λ same. let bad = sym a ∙ same in cc) low reads)
+  | inr b ↦ elim b [
+    | inl a ↦ absurd (kind (λ same. let bad = sym a ∙ same in cc) low reads)
+    | inr c ↦ elim c [
+      | inl a ↦ absurd (kind (λ same. let bad = sym a ∙ same in cc) low reads)
+      | inr d ↦ elim d [
+        | inl a ↦ absurd (kind (λ same. let bad = sym a ∙ same in cc) low reads)
+        | inr a ↦ inl (inl a)
+      ]
+    ]
+  ]
+]
+
+-- an error of the database that is want
+pub sql_fails : {X : Type 0} (one two misfit : Type 0) (e : Error) (r : Result X MakeFault) → IsErrAnd r (λ f. f ≡ Sql e) → (one → two) → IsWant one e → IfErr r (FailsFor two misfit)
+sql_fails one two misfit e (Ok x) gives turn want = tt
+sql_fails one two misfit e (Err f) gives turn want = subst (FailsFor two misfit) (sym gives) (want_weaker one two e turn want)
+
+-- a fault of a part
+pub fault_fails : (f g one two : Type 0) (e : MakeFault) → (f → g) → (one → two) → FailsFor f one e → FailsFor g two e
+fault_fails f g one two Memory late turn fails = tt
+fault_fails f g one two (Sql e) late turn fails = want_weaker f g e late fails
+fault_fails f g one two Misfit late turn fails = turn fails
+
+-- another fault that is passed on
+pub same_fails : {X : Type 0} (f g one two : Type 0) (e : MakeFault) (r : Result X MakeFault) → IsErrAnd r (λ x. x ≡ e) → (f → g) → (one → two) → FailsFor f one e → IfErr r (FailsFor g two)
+same_fails f g one two e (Ok x) gives late turn fails = tt
+same_fails f g one two e (Err x) gives late turn fails = subst (FailsFor g two) (sym gives) (fault_fails f g one two e late turn fails)
+
+-- the same, as a whole answer
+pub result_fails : {X : Type 0} (f g one two : Type 0) (r : Result X MakeFault) → (f → g) → (one → two) → IfErr r (FailsFor f one) → IfErr r (FailsFor g two)
+result_fails f g one two (Ok x) late turn fails = tt
+result_fails f g one two (Err e) late turn fails = fault_fails f g one two e late turn fails
+
+-- the row of the one that is found, which passes
+pub record IsFound {A : Type 0} (P : A → Type 0) (p : A → Bool) (show : A → Row) (row : Row) : Type 0 where
+  pub one : A
+  pub shown : row ≡ show one
+  pub holds : P one
+  pub passes : p one ≡ true
+
+pub shown_found : {A : Type 0} (P : A → Type 0) (p : A → Bool) (show : A → Row) (xs : List A) (row : Row) → Some row ≡ option_map show (find p xs) → AllByRecursion P xs → IsFound P p show row
+shown_found P p show [] row is all = absurd (cc)
+shown_found P p show (y ∷ ys) row is all = elim (cases_Bool (p y)) [
+  | inl e ↦ let both = rw e at is in let same : row ≡ show y = cc in record { one = y; shown = same; holds = all.0; passes = e }
+  | inr e ↦ shown_found P p show ys row (rw e at is) all.1
+]
+
+-- a count alone in its row
+pub count_reads : (row : Row) (n : ℕ) (e : Error) → IsReadError 0 (column row 0) e → ((e ≡ SqliteFailure OutOfMemory → ⊥) → 0 < length row → ((k : ℕ) × (column row 0 ≡ Int (pos k)) × (k < 2 ^ 32)) → ⊥)
+    → row ≡ Int (pos n) ∷ [] → n < 2 ^ 32 → IsWant ⊥ e
+count_reads row n e named kind is low =
+    column_wants 0 (length row) (column row 0) _ e named kind (subst (λ (r : Row). 0 < length r) (sym is) (omega arith)) (n, ap (λ (r : Row). column r 0) is, low)
+
+-- two counts of one row
+pub same_count : (row : Row) (n k : ℕ) → row ≡ Int (pos n) ∷ [] → column row 0 ≡ Int (pos k) → k ≡ n
+same_count row n k is reads =
+    let both : Int (pos k) ≡ Int (pos n) = sym reads ∙ ap (λ (r : Row). column r 0) is in
+    cc
+
+-- the name of a power of the map, in a listed row
+pub power_reads : (m : Chart) → IsMap m → (row : Row) → IsListed m row → (e : Error) → IsReadError 0 (column row 0) e
+    → ((e ≡ SqliteFailure OutOfMemory → ⊥) → 0 < length row → ((t : List ℕ) × (column row 0 ≡ Words t) × IsUtf8 t) → ⊥) → IsWant ⊥ e
+power_reads m ok row listed e named kind =
+    let it = listed.of_map in
+    column_wants 0 (length row) (column row 0) _ e named kind (subst (λ (r : Row). 0 < length r) (sym listed.shown) (omega arith))
+    (listed.seat.power, ap (λ (r : Row). column r 0) listed.shown, subst IsUtf8 (sym it.2) (power_text m ok it.0 it.1).utf8)
+
+-- the seats of a game, as they are listed
+pub rows_listed : (m : Chart) (p : SeatRow → Bool) (ss : List SeatRow) → AllByRecursion (IsSeatOf m) ss → AllByRecursion IsSeatLegible ss → AllByRecursion (IsListed m) (map show_listed (filter p ss))
+rows_listed m p [] of_map legible = tt
+rows_listed m p (s ∷ ss) of_map legible = elim (cases_Bool (p s)) [
+  | inl e ↦ rw e (record { seat = s; shown = refl; of_map = of_map.0; items = legible.0.2 }, rows_listed m p ss of_map.1 legible.1)
+  | inr e ↦ rw e (rows_listed m p ss of_map.1 legible.1)
+]

@@ -1,0 +1,33 @@
+-- A game's row, and what the statements of a paper come to.
+use Rattle.std.proofs.Common.{◌≡◌, ℕ, List, [], ◌∷◌, Bool, true, false, refl}
+use Rattle.dip_map_chart.specs.Charts.{Chart}
+use Rattle.dip_store_tables.specs.Boards.{season_number, standoff_text}
+use Rattle.dip_desk_state.specs.Records.{Public}
+use Rattle.dip_reports.specs.Texts.{status_text}
+use Rattle.dip_store_tables.specs.Changing.{publishing}
+use Rattle.dip_store_tables.specs.Tables.{GameRow, Tables}
+use Rattle.dip_store_tables.specs.Writing.{game_row, number_of, paper_row}
+use Rattle.dip_store_sql.specs.TablesAfter.{game_as, on_game, with_paper}
+use Rattle.dip_store_changes.specs.Parts.{pending_left, with_board}
+
+abbrev pub row_with : Chart → List ℕ → List ℕ → List ℕ → Public → GameRow
+row_with m name status standoff p = record {
+  name = name;
+  year = p.board.phase.year;
+  phase = season_number p.board.phase.season;
+  status = status;
+  due = p.due;
+  period = p.period;
+  grey = number_of p.grey;
+  papers = p.papers;
+  standoff = standoff;
+}
+
+-- a row with the texts of its columns
+pub row_is : (m : Chart) (p : Public) (n name s o : List ℕ) (r : GameRow) → r ≡ row_with m n s o p → n ≡ name → s ≡ status_text m p.status → o ≡ standoff_text m p.board.standoff → r ≡ game_row m name p
+row_is m p n name s o r is a b c = rw (is, a, b, c) refl
+
+pub published : (m : Chart) (name paper : List ℕ) (p : Public) (played : Bool) (t : Tables)
+    → with_paper (paper_row name p.papers paper) (pending_left name played (with_board m name p.board (on_game name (game_as (game_row m name p)) t))) ≡ publishing m name p paper played t
+published m name paper p true t = refl
+published m name paper p false t = refl

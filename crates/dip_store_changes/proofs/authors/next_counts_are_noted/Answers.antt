@@ -1,0 +1,5 @@
+use Rattle.dip_store_changes.proofs.Counting.{next_noted}
+use Rattle.dip_store_changes.proofs.authors.next_counts_are_noted.Goals as goal
+
+pub returns : goal.returns
+returns c m = next_noted m

@@ -1,0 +1,12 @@
+use Rattle.std.proofs.Common.{ap, string_bytes}
+use Rattle.dip_desk_state.specs.ChangeRows as machine
+use Rattle.dip_desk_state.specs.Rows as records
+use Rattle.dip_store_sql.proofs.Parts.{writes_as}
+use Rattle.dip_store_changes.proofs.Counting.{noted_as}
+use Rattle.dip_store_changes.proofs.authors.note_author.Goals as goal
+
+pub returns-in-Seat-clause-writes : goal.returns-in-Seat-clause-writes
+returns-in-Seat-clause-writes g c =
+    let it = c.args.change.now in
+    writes_as _ _ _ _ _ _ _ (noted_as c.args.sent c.args.map.now (machine.author it.author) c.in-Seat.power (string_bytes it.game) (records.kept it.kept) (machine.effect it.effect) _ _
+    (ap (λ w. machine.author w) c.in-Seat.is) c.as_str-game.ensures.value c.power_name-name.ensures) c.note_own.ensures.writes

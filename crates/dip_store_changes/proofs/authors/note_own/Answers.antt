@@ -1,0 +1,14 @@
+use Rattle.std.proofs.Common.{◌≡◌, ap, ◌∙◌}
+use Rattle.dip_desk_state.specs.ChangeRows as machine
+use Rattle.dip_desk_state.specs.Records.{Kept}
+use Rattle.dip_desk_state.specs.Rows as records
+use Rattle.dip_store_sql.specs.TablesAfter.{on_seat}
+use Rattle.dip_store_sql.proofs.Parts.{writes_as}
+use Rattle.dip_store_changes.specs.Noting.{seat_sent}
+use Rattle.dip_store_changes.proofs.authors.note_own.Goals as goal
+
+pub returns-clause-writes : goal.returns-clause-writes
+returns-clause-writes g c =
+    let k = records.kept c.args.kept.now in
+    let same = c.as_str.ensures.value ∙ c.in_ok-reply.ensures in
+    writes_as _ _ _ _ _ _ _ (λ t. ap (λ r. on_seat c.args.game.now c.args.power.now (seat_sent c.args.sent (record { number = k.number; sum = k.sum; reply = r }) (machine.effect c.args.effect.now)) t) same) c.note_at_seat.ensures.writes

@@ -1,0 +1,45 @@
+-- What is counted before a change is made.
+use Rattle.std.specs.Prelude.{◌≡◌, ◌⊎◌, ℕ, List, Result, filter}
+use Rattle.sqlite.specs.Store.{Ghosts}
+use Rattle.sqlite.specs.Held.{Held}
+use Rattle.sqlite.specs.Order.{Row, bytes, column}
+use Rattle.dip_map_chart.specs.Charts.{Chart}
+use Rattle.dip_store_tables.specs.Boards.{power_in}
+use Rattle.dip_desk_state.specs.State.{Author, Effect, Nothing, Pending, Votes, Delivers, Opens, Publishes, Seats, Change}
+use Rattle.dip_desk_state.specs.Records.{Kept}
+use Rattle.dip_store_tables.specs.Changing.{is_reader, noting}
+use Rattle.dip_store_tables.specs.Counting.{CountsOn}
+use Rattle.dip_store_tables.specs.Tables.{SeatRow, Tables}
+use Rattle.dip_store_sql.specs.Calls.{Selects}
+use Rattle.dip_store_sql.specs.Rows.{number_in}
+use Rattle.dip_store_changes.specs.Delivering.{AreSeats}
+use Rattle.dip_store_changes.specs.Noting.{noting_sent}
+use Rattle.dip_store_changes.specs.declared.delivering.Reader.{Reader}
+
+-- the count is what an author's row has with this letter
+abbrev pub CountsSent : ℕ → Chart → Author → List ℕ → Effect → Tables → Type 0
+CountsSent n m who name e t = (k : Kept) → noting_sent n m who name k e t ≡ noting m who name k e t
+
+-- where the effect is press, the readers are the seats of the game that it is for
+abbrev pub AreReaders : Chart → List ℕ → Effect → List SeatRow → List Reader → Type 0
+AreReaders m name Nothing ss rs = Unit {0}
+AreReaders m name (Pending orders) ss rs = Unit {0}
+AreReaders m name (Votes draw) ss rs = Unit {0}
+AreReaders m name (Delivers powers item) ss rs = AreSeats m name (filter (is_reader m name powers) ss) rs
+AreReaders m name (Opens public paper seats) ss rs = Unit {0}
+AreReaders m name (Publishes public paper played) ss rs = Unit {0}
+AreReaders m name (Seats seat) ss rs = Unit {0}
+
+-- the counts that a change is made with
+pub record Counts (n : ℕ) (rs : List Reader) (m : Chart) (c : Change) (t : Tables) : Type 0 where
+  pub paper : CountsOn c.game c.effect t.games
+  pub sent : CountsSent n m c.author c.game c.effect t
+  pub readers : AreReaders m c.game c.effect t.seats rs
+
+-- a seat as it is listed: its power's number, and how many items its inbox has
+abbrev pub shown_reader : Chart → Row → Reader
+shown_reader m r = record { power = power_in m (bytes (column r 0)); items = number_in (column r 7) }
+
+-- a call that reads, or that leaves the connection alone
+abbrev pub Peeks : {S X E : Type 0} → Ghosts S → Held S → Held S → Result X E → Type 0
+Peeks g old new r = Selects g old new r ⊎ (new ≡ old)

@@ -1,0 +1,65 @@
+-- Why a change isn't made, and which changes have place.
+use Rattle.std.specs.Prelude.{◌≡◌, ◌<◌, ◌+◌, ◌^◌, ℕ, true, List, filter}
+use Rattle.std.specs.List.{AllByRecursion}
+use Rattle.sqlite.specs.Order.{Row}
+use Rattle.dip_map_chart.specs.Charts.{Chart}
+use Rattle.dip_desk_state.specs.State.{Author, Effect, Nothing, Pending, Votes, Delivers, Opens, Publishes, Seats, Change}
+use Rattle.dip_store_tables.specs.Changing.{changing, is_reader}
+use Rattle.dip_store_tables.specs.Counting.{CountsOn}
+use Rattle.dip_store_tables.specs.Coding.{IsSeatOf}
+use Rattle.dip_store_tables.specs.Tables.{SeatRow, Tables, is_seat}
+use Rattle.dip_store_tables.specs.Legible.{AreOurs, IsSeatLegible}
+use Rattle.dip_store_tables.specs.Room.{HasRoom, SentHasRoom}
+use Rattle.dip_store_sql.specs.Showing.{show_listed}
+use Rattle.dip_store_sql.specs.Keys.{AreKeyed}
+use Rattle.dip_store_sql.specs.Refusals.{IsWant}
+use Rattle.dip_store_changes.specs.declared.faults.MakeFault.{MakeFault}
+use Rattle.dip_store_changes.specs.declared.faults.MakeFault.TheVariants.{Memory, Sql, Misfit}
+
+-- for want alone, by the disk where there was this fault of it, and as a misfit only where it is one
+abbrev pub FailsFor : Type 0 → Type 0 → MakeFault → Type 0
+FailsFor fault misfit Memory = Unit {0}
+FailsFor fault misfit (Sql e) = IsWant fault e
+FailsFor fault misfit Misfit = misfit
+
+-- tables of a desk by the map, of which no key comes twice behind the change
+pub record MayMake (m : Chart) (c : Change) (t : Tables) : Type 0 where
+  pub ours : AreOurs m t
+  pub keyed : AreKeyed (changing m c t)
+
+-- the change's paper has the next number of its game, and there is room in the counts that it raises
+pub record HasPlace (m : Chart) (c : Change) (t : Tables) : Type 0 where
+  pub paper : CountsOn c.game c.effect t.games
+  pub room : HasRoom m c.author c.game c.effect t
+
+-- a seat of the map whose counts have 32 bits, as it is listed
+pub record IsListed (m : Chart) (r : Row) : Type 0 where
+  pub seat : SeatRow
+  pub shown : r ≡ show_listed seat
+  pub of_map : IsSeatOf m seat
+  pub items : seat.items < 2 ^ 32
+
+-- a seat may send one more letter of press
+abbrev pub MaySend : List ℕ → List ℕ → SeatRow → Type 0
+MaySend name power s = is_seat name power s ≡ true → s.sent + 1 < 2 ^ 32
+
+-- a letter of press counts in its author's row
+abbrev pub PressHasRoom : Chart → Author → List ℕ → Effect → List SeatRow → Type 0
+PressHasRoom m who name Nothing ss = Unit {0}
+PressHasRoom m who name (Pending orders) ss = Unit {0}
+PressHasRoom m who name (Votes draw) ss = Unit {0}
+PressHasRoom m who name (Delivers powers item) ss = SentHasRoom m who name ss
+PressHasRoom m who name (Opens public paper seats) ss = Unit {0}
+PressHasRoom m who name (Publishes public paper played) ss = Unit {0}
+PressHasRoom m who name (Seats seat) ss = Unit {0}
+
+-- and in the rows of its readers
+abbrev pub InboxesHaveRoom : Chart → List ℕ → Effect → List SeatRow → Type 0
+InboxesHaveRoom m name Nothing ss = Unit {0}
+InboxesHaveRoom m name (Pending orders) ss = Unit {0}
+InboxesHaveRoom m name (Votes draw) ss = Unit {0}
+InboxesHaveRoom m name (Delivers powers item) ss =
+    AllByRecursion (λ s. s.items + 1 < 2 ^ 32) (filter (is_reader m name powers) ss)
+InboxesHaveRoom m name (Opens public paper seats) ss = Unit {0}
+InboxesHaveRoom m name (Publishes public paper played) ss = Unit {0}
+InboxesHaveRoom m name (Seats seat) ss = Unit {0}

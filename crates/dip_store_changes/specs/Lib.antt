@@ -1,0 +1,7 @@
+pub mod Delivering
+pub mod Noting
+pub mod Parts
+pub mod Counts
+pub mod Failing
+pub mod Laws
+pub mod Making

@@ -1,0 +1,65 @@
+-- A change of the tables with its counts handed over, and a call that makes it whole or not at all.
+use Rattle.std.specs.Prelude.{◌≡◌, ◌≤◌, ◌⊎◌, ℕ, false, None, List, Result, OnOk, OnErr}
+use Rattle.sqlite.specs.Tree.{Trees}
+use Rattle.sqlite.specs.Store.{Ghosts}
+use Rattle.sqlite.specs.Held.{Held, state}
+use Rattle.dip_map_chart.specs.Charts.{Chart}
+use Rattle.dip_desk_state.specs.State.{Author, Effect, Nothing, Pending, Votes, Delivers, Opens, Publishes, Seats, Change}
+use Rattle.dip_store_tables.specs.Changing.{opening, ordering, ordering_by, publishing, replacing}
+use Rattle.dip_store_tables.specs.Tables.{Tables}
+use Rattle.dip_store_sql.specs.Calls.{IsKept, Lands, does_show, is_honest, tables_in}
+use Rattle.dip_store_sql.specs.Causes.{has_faulted}
+use Rattle.dip_store_sql.specs.Good.{IsGood}
+use Rattle.dip_store_sql.specs.Keys.{Differ, same_order}
+use Rattle.dip_store_changes.specs.Delivering.{delivering_all}
+use Rattle.dip_store_changes.specs.Noting.{noting_sent}
+use Rattle.dip_store_changes.specs.declared.delivering.Reader.{Reader}
+
+-- the effect on its game, where press goes to these readers
+abbrev pub reaching_all : List Reader → Chart → List ℕ → Effect → Tables → Tables
+reaching_all rs m name Nothing t = t
+reaching_all rs m name (Pending orders) t = t
+reaching_all rs m name (Votes draw) t = t
+reaching_all rs m name (Delivers readers item) t = delivering_all m name item rs t
+reaching_all rs m name (Opens public paper seats) t = opening m public paper seats t
+reaching_all rs m name (Publishes public paper played) t = publishing m name public paper played t
+reaching_all rs m name (Seats seat) t = replacing m name seat t
+
+-- where the effect gives its author orders, no two of them agree on their key
+abbrev pub OrdersDiffer : Chart → Author → List ℕ → Effect → Tables → Type 0
+OrdersDiffer m who name Nothing t = Unit {0}
+OrdersDiffer m who name (Pending orders) t = Differ same_order (ordering_by m who name orders t).pending
+OrdersDiffer m who name (Votes draw) t = Unit {0}
+OrdersDiffer m who name (Delivers readers item) t = Unit {0}
+OrdersDiffer m who name (Opens public paper seats) t = Unit {0}
+OrdersDiffer m who name (Publishes public paper played) t = Unit {0}
+OrdersDiffer m who name (Seats seat) t = Unit {0}
+
+-- a change: its author's row, which has sent so much press, the author's orders, and the effect on the game
+abbrev pub changing_sent : ℕ → List Reader → Chart → Change → Tables → Tables
+changing_sent n rs m c t =
+    reaching_all rs m c.game c.effect (ordering m c.author c.game c.effect (noting_sent n m c.author c.game c.kept c.effect t))
+
+module _ {S : Type 0} (g : Ghosts S) (h : Held S) where
+  -- tables of our schema, all of it committed, whether or not papers and items are numbered
+  pub record IsLaid : Type 0 where
+    pub good : IsGood (state g h).now
+    pub idle : (state g h).in_transaction ≡ false
+    pub settled : (state g h).now ≡ (state g h).committed
+    pub unlimited : h.step_limit ≡ None
+
+-- a call that changes the tables so, whole or not at all; behind an error a crash may leave them changed or not
+pub record Makes {S X E : Type 0} (g : Ghosts S) (f : Tables → Tables) (old new : Held S) (r : Result X E) : Type 0 where
+  pub fair : is_honest g new → is_honest g old
+  pub shown : does_show g new → does_show g old
+  pub mode : old.in_transaction ≡ false → new.in_transaction ≡ false
+  pub counts : (state g old).faults ≤ (state g new).faults
+  pub done : IsKept g old → does_show g new → OnOk r (IsLaid g new × (tables_in g new ≡ f (tables_in g old)))
+  pub undone : IsKept g old → does_show g new → OnErr r (IsKept g new × ((state g new).now ≡ (state g old).now))
+  pub ok : IsKept g old → is_honest g new → OnOk r (does_show g new)
+  -- only a fault of the disk shuts the connection
+  pub closes : is_honest g new → does_show g old → does_show g new ⊎ has_faulted g old new
+  pub kept : IsKept g old → is_honest g new
+      → OnOk r ((db : Trees) → (state g new).may_leave db → db ≡ (state g new).now.trees)
+  pub left : IsKept g old → is_honest g new
+      → OnErr r ((db : Trees) → (state g new).may_leave db → (state g old).may_leave db ⊎ Lands f (state g old) db)

@@ -1,0 +1,45 @@
+-- What the parts of a change make of the tables.
+use Rattle.std.specs.Prelude.{ℕ, Bool, List, ◌++◌, if◌then◌else◌}
+use Rattle.sqlite_keyed.specs.Lists.{delete_where}
+use Rattle.dip_map_chart.specs.Charts.{Chart}
+use Rattle.dip_map.specs.Boards.{Position}
+use Rattle.dip_store_tables.specs.Boards.{UnitRow, CentreRow, unit_rows, centre_rows}
+use Rattle.dip_store_tables.specs.Tables.{PendingRow, SeatRow, Tables, is_unit_in, is_centre_in, is_seat_in, is_pending_in, is_box_in, is_paper_in}
+use Rattle.dip_store_sql.specs.Keys.{Differ, same_centre, same_unit}
+
+-- records behind the others
+abbrev pub more_orders : List PendingRow → Tables → Tables
+more_orders ps t = record t { pending = t.pending ++ ps }
+
+abbrev pub more_seats : List SeatRow → Tables → Tables
+more_seats ss t = record t { seats = t.seats ++ ss }
+
+abbrev pub more_units : List UnitRow → Tables → Tables
+more_units us t = record t { units = t.units ++ us }
+
+abbrev pub more_centres : List CentreRow → Tables → Tables
+more_centres cs t = record t { centres = t.centres ++ cs }
+
+-- a game's units and owned centres are those of a board
+abbrev pub with_board : Chart → List ℕ → Position → Tables → Tables
+with_board m game b t = record t {
+  units = delete_where (is_unit_in game) t.units ++ unit_rows m game b;
+  centres = delete_where (is_centre_in game) t.centres ++ centre_rows m game b;
+}
+
+-- no seats, orders, items and papers of a game
+abbrev pub cleared : List ℕ → Tables → Tables
+cleared game t = record t {
+  seats = delete_where (is_seat_in game) t.seats;
+  pending = delete_where (is_pending_in game) t.pending;
+  boxes = delete_where (is_box_in game) t.boxes;
+  papers = delete_where (is_paper_in game) t.papers;
+}
+
+-- where a phase was played no order of the game stands any more
+abbrev pub pending_left : List ℕ → Bool → Tables → Tables
+pending_left game played t = record t { pending = if played then delete_where (is_pending_in game) t.pending else t.pending }
+
+-- no two units and no two owned centres agree on their key
+abbrev pub BoardsDiffer : Tables → Type 0
+BoardsDiffer t = Differ same_unit t.units × Differ same_centre t.centres

@@ -1,0 +1,162 @@
+//! The row of a letter's author.
+ghost use Rattle.std.specs.Prelude.{◌≡◌, IfOk, codes, string_bytes};
+ghost use Rattle.sqlite.specs.Held.{state};
+ghost use Rattle.dip_desk_state.specs.ChangeRows as machine;
+ghost use Rattle.dip_desk_state.specs.Rows as records;
+ghost use Rattle.dip_map_chart.specs.Charts.{Chart};
+ghost use Rattle.dip_store_tables.specs.Writing.{as_printed, desk_noted, whole_reply};
+ghost use Rattle.dip_store_sql.specs.Calls.{Writes};
+ghost use Rattle.dip_store_sql.specs.TablesAfter.{on_desk, on_seat};
+ghost use Rattle.dip_store_sql.specs.Wants.{Wants, always};
+ghost use Rattle.dip_store_changes.specs.Noting.{NextCountsAreNoted, letter_kept, noting_sent, seat_sent};
+
+use dip_desk_state::{Author, Change, Effect, Head, Kept, Outcome, Reply};
+use dip_map::Map;
+use dip_reports::reply_text;
+use dip_store_sql::{LastLetter, note_desk, note_seat, note_sent, note_vote};
+use sqlite::{Alter, Error, Transaction};
+use std::alloc::{AllocError, Global};
+use std::rc::Rc;
+
+/// The reply to the letter, from `REPLY` to `END`.
+fn whole_reply(alloc: Global, game: &str, sender: &str, kept: &Kept) -> Result<String, AllocError>
+    ensures { IfOk result (λ t.
+        string_bytes t ≡ whole_reply game.now sender.now (records.kept kept.now)) }
+{
+    let game = String::from_str(alloc, game)?;
+    let sender = String::from_str(alloc, sender)?;
+    let head = Head {
+        game,
+        sender,
+        number: kept.number,
+    };
+    let reply = Reply {
+        outcome: Outcome::Done,
+        head: Some(head),
+        text: kept.reply.clone()?,
+    };
+    reply_text(alloc, &reply)
+}
+
+fn note_at_seat<S: Alter>(
+    tx: &mut Transaction<'_, S>,
+    game: &str,
+    power: &str,
+    letter: &LastLetter<'_>,
+    effect: &Effect,
+    sent: u32,
+) -> Result<(), Error>
+    ensures same_reference { tx.new.conn.ghost_name ≡ tx.old.conn.ghost_name }
+    ensures writes { Writes (on_seat game.now power.now
+        (seat_sent sent (letter_kept letter.now) (machine.effect effect.now)))
+        (state S.Store tx.old.conn.now) (state S.Store tx.new.conn.now) result }
+    ensures wants { Wants always
+        (state S.Store tx.old.conn.now) (state S.Store tx.new.conn.now) result }
+{
+    match effect {
+        Effect::Votes(draw) => {
+            note_vote(tx, game, power, *draw, letter)?;
+        }
+        Effect::Delivers { .. } => {
+            note_sent(tx, game, power, letter, sent)?;
+        }
+        Effect::Nothing => {
+            note_seat(tx, game, power, letter)?;
+        }
+        Effect::Pending(_) => {
+            note_seat(tx, game, power, letter)?;
+        }
+        Effect::Opens { .. } => {
+            note_seat(tx, game, power, letter)?;
+        }
+        Effect::Publishes { .. } => {
+            note_seat(tx, game, power, letter)?;
+        }
+        Effect::Seats(_) => {
+            note_seat(tx, game, power, letter)?;
+        }
+    }
+    Ok(())
+}
+
+#[tactic(auto, using(crate::proofs::Outcomes::writes_not))]
+fn note_master<S: Alter>(
+    alloc: Global,
+    tx: &mut Transaction<'_, S>,
+    game: &str,
+    kept: &Kept,
+) -> Result<(), Error>
+    ensures same_reference { tx.new.conn.ghost_name ≡ tx.old.conn.ghost_name }
+    ensures writes { Writes
+        (on_desk (desk_noted (as_printed game.now (codes "master") (records.kept kept.now))))
+        (state S.Store tx.old.conn.now) (state S.Store tx.new.conn.now) result }
+    ensures wants { Wants always
+        (state S.Store tx.old.conn.now) (state S.Store tx.new.conn.now) result }
+{
+    let reply = whole_reply(alloc, game, "master", kept)?;
+    let letter = LastLetter {
+        number: kept.number,
+        sum: &kept.sum,
+        reply: reply.as_str(),
+    };
+    note_desk(tx, &letter)?;
+    Ok(())
+}
+
+#[tactic(auto, using(crate::proofs::Outcomes::writes_not))]
+fn note_own<S: Alter>(
+    alloc: Global,
+    tx: &mut Transaction<'_, S>,
+    game: &str,
+    power: &str,
+    kept: &Kept,
+    effect: &Effect,
+    sent: u32,
+) -> Result<(), Error>
+    ensures same_reference { tx.new.conn.ghost_name ≡ tx.old.conn.ghost_name }
+    ensures writes { Writes (on_seat game.now power.now (seat_sent sent
+        (as_printed game.now power.now (records.kept kept.now)) (machine.effect effect.now)))
+        (state S.Store tx.old.conn.now) (state S.Store tx.new.conn.now) result }
+    ensures wants { Wants always
+        (state S.Store tx.old.conn.now) (state S.Store tx.new.conn.now) result }
+{
+    let reply = whole_reply(alloc, game, power, kept)?;
+    let letter = LastLetter {
+        number: kept.number,
+        sum: &kept.sum,
+        reply: reply.as_str(),
+    };
+    note_at_seat(tx, game, power, &letter, effect, sent)
+}
+
+/// What is kept of the letter, in its author's row; where it is press, the seat has sent so many.
+pub fn note_author<S: Alter>(
+    alloc: Global,
+    tx: &mut Transaction<'_, S>,
+    map: &Map,
+    change: &Change,
+    sent: u32,
+) -> Result<(), Error>
+    ensures same_reference { tx.new.conn.ghost_name ≡ tx.old.conn.ghost_name }
+    ensures writes { Writes
+        (noting_sent sent map.now (machine.author change.now.author) (string_bytes change.now.game)
+        (records.kept change.now.kept) (machine.effect change.now.effect))
+        (state S.Store tx.old.conn.now) (state S.Store tx.new.conn.now) result }
+    ensures wants { Wants always
+        (state S.Store tx.old.conn.now) (state S.Store tx.new.conn.now) result }
+{
+    let game = change.game.as_str();
+    match change.author {
+        Author::Nobody => Ok(()),
+        Author::TheMaster => note_master(alloc, tx, game, &change.kept),
+        Author::Seat(power) => {
+            let name = map.power_name(power);
+            note_own(alloc, tx, game, name, &change.kept, &change.effect, sent)
+        }
+    }
+}
+
+/// Where the count is the next of the author's row, this is what noting makes of the tables.
+pub fn next_counts_are_noted()
+    ensures { (m : Chart) → NextCountsAreNoted m }
+{}

@@ -1,0 +1,64 @@
+//! A change with all that is counted before it.
+ghost use Rattle.std.specs.Prelude.{◌≡◌, IfErr, OnOk};
+ghost use Rattle.dip_desk_state.specs.ChangeRows as machine;
+ghost use Rattle.dip_store_tables.specs.Changing.{changing};
+ghost use Rattle.dip_store_tables.specs.ChangeColumns.{IsWritable};
+ghost use Rattle.dip_store_sql.specs.Causes.{has_faulted};
+ghost use Rattle.dip_store_sql.specs.Calls.{IsKept, does_show, is_honest, tables_in};
+ghost use Rattle.dip_store_changes.specs.Failing.{FailsFor, HasPlace, MayMake};
+ghost use Rattle.dip_store_changes.specs.Making.{Makes};
+
+use crate::counts::count;
+use crate::delivering::readers_are_seats;
+use crate::faults::MakeFault;
+use crate::whole::make_with;
+use dip_desk_state::Change;
+use dip_map::Map;
+use dip_store_tables::{press_is_delivered_one_by_one, tables_stay_counted};
+use sqlite::{Alter, Connection, Error, ErrorCode};
+use std::alloc::Global;
+
+/// Makes the whole change, or nothing of it.
+///
+/// # Errors
+/// Want of memory, the database's own, one of a transaction that is open before, and `Misfit` where a count has no room for one more,
+/// the change's paper hasn't the next number of its game, or a seat of the game is of no power of the map.
+pub fn make<S: Alter>(
+    conn: &mut Connection<S>,
+    alloc: Global,
+    map: &Map,
+    change: &Change,
+) -> Result<(), MakeFault>
+    requires { IsWritable map.now (machine.change change.now) }
+    ensures makes { Makes S.Store (changing map.now (machine.change change.now))
+        conn.old conn.new result }
+    ensures kept { IsKept S.Store conn.old → does_show S.Store conn.new
+        → OnOk result (IsKept S.Store conn.new) }
+    ensures place { IsKept S.Store conn.old → does_show S.Store conn.new → OnOk result
+        (HasPlace map.now (machine.change change.now) (tables_in S.Store conn.old)) }
+    ensures fails { IsKept S.Store conn.old → does_show S.Store conn.old
+        → is_honest S.Store conn.new
+        → MayMake map.now (machine.change change.now) (tables_in S.Store conn.old)
+        → IfErr result (FailsFor (has_faulted S.Store conn.old conn.new)
+        (¬ HasPlace map.now (machine.change change.now)
+        (tables_in S.Store conn.old))) }
+{
+    readers_are_seats();
+    press_is_delivered_one_by_one();
+    tables_stay_counted();
+    if !conn.is_autocommit() {
+        return Err(MakeFault::Sql(Error::SqliteFailure(ErrorCode::TransactionState)));
+    }
+    let counted = count(conn, alloc, map, change)?;
+    match make_with(
+        conn,
+        alloc,
+        map,
+        change,
+        counted.sent,
+        counted.readers.as_slice(),
+    ) {
+        Ok(()) => Ok(()),
+        Err(error) => Err(MakeFault::Sql(error)),
+    }
+}

@@ -1,0 +1,77 @@
+//! A seat's standing orders.
+ghost use Rattle.std.specs.Prelude.{◌≡◌, map as each, [], ◌∷◌};
+ghost use Rattle.sqlite.specs.Held.{state};
+ghost use Rattle.dip_desk_state.specs.Rows as records;
+ghost use Rattle.dip_store_tables.specs.Changing.{with_orders};
+ghost use Rattle.dip_store_tables.specs.Writing.{pending_row};
+ghost use Rattle.dip_store_sql.specs.Calls.{Writes};
+ghost use Rattle.dip_store_sql.specs.Keys.{Differ, same_order};
+ghost use Rattle.dip_store_sql.specs.Wants.{Wants};
+ghost use Rattle.dip_store_changes.specs.Parts.{more_orders};
+
+use dip_desk_state::Standing;
+use dip_map::Map;
+use dip_store_sql::{add_pending, drop_orders};
+use sqlite::{Alter, Error, Transaction};
+
+fn add_order<S: Alter>(
+    tx: &mut Transaction<'_, S>,
+    map: &Map,
+    game: &str,
+    power: &str,
+    order: &Standing,
+) -> Result<(), Error>
+    ensures same_reference { tx.new.conn.ghost_name ≡ tx.old.conn.ghost_name }
+    ensures writes { Writes
+        (more_orders
+        (each (pending_row map.now game.now power.now) (records.standings (order.now ∷ []))))
+        (state S.Store tx.old.conn.now) (state S.Store tx.new.conn.now) result }
+    ensures wants { Wants (λ t. Differ same_order (more_orders
+        (each (pending_row map.now game.now power.now) (records.standings (order.now ∷ [])))
+        t).pending)
+        (state S.Store tx.old.conn.now) (state S.Store tx.new.conn.now) result }
+{
+    add_pending(tx, game, power, map.code(order.prov), order.line.as_str())?;
+    Ok(())
+}
+
+fn add_orders<S: Alter>(
+    tx: &mut Transaction<'_, S>,
+    map: &Map,
+    game: &str,
+    power: &str,
+    orders: &[Standing],
+) -> Result<(), Error>
+    ensures same_reference { tx.new.conn.ghost_name ≡ tx.old.conn.ghost_name }
+    ensures writes { Writes
+        (more_orders (each (pending_row map.now game.now power.now) (records.standings orders.now)))
+        (state S.Store tx.old.conn.now) (state S.Store tx.new.conn.now) result }
+    ensures wants { Wants (λ t. Differ same_order (more_orders
+        (each (pending_row map.now game.now power.now) (records.standings orders.now)) t).pending)
+        (state S.Store tx.old.conn.now) (state S.Store tx.new.conn.now) result }
+{
+    for order in orders {
+        add_order(tx, map, game, power, order)?;
+    }
+    Ok(())
+}
+
+/// The seat's standing orders are these.
+pub fn put_orders<S: Alter>(
+    tx: &mut Transaction<'_, S>,
+    map: &Map,
+    game: &str,
+    power: &str,
+    orders: &[Standing],
+) -> Result<(), Error>
+    ensures same_reference { tx.new.conn.ghost_name ≡ tx.old.conn.ghost_name }
+    ensures writes { Writes
+        (with_orders map.now game.now power.now (records.standings orders.now))
+        (state S.Store tx.old.conn.now) (state S.Store tx.new.conn.now) result }
+    ensures wants { Wants (λ t. Differ same_order
+        (with_orders map.now game.now power.now (records.standings orders.now) t).pending)
+        (state S.Store tx.old.conn.now) (state S.Store tx.new.conn.now) result }
+{
+    drop_orders(tx, game, power)?;
+    add_orders(tx, map, game, power, orders)
+}

@@ -1,0 +1,138 @@
+//! The parts of a change, one behind the other in a transaction.
+ghost use Rattle.std.specs.Prelude.{◌≡◌, ◌<◌, All, string_bytes};
+ghost use Rattle.sqlite.specs.Held.{state};
+ghost use Rattle.dip_desk_state.specs.ChangeRows as machine;
+ghost use Rattle.dip_desk_state.specs.Rows as records;
+ghost use Rattle.dip_store_tables.specs.Changing.{ordering, ordering_by};
+ghost use Rattle.dip_store_tables.specs.Coding.{IsEffectOf};
+ghost use Rattle.dip_store_tables.specs.ChangeColumns.{FitsColumns, IsWritable};
+ghost use Rattle.dip_store_sql.specs.Calls.{Writes};
+ghost use Rattle.dip_store_sql.specs.Keys.{AreKeyed, Differ, same_order};
+ghost use Rattle.dip_store_sql.specs.Wants.{Wants};
+ghost use Rattle.dip_store_changes.specs.Making.{OrdersDiffer, changing_sent, reaching_all};
+
+use crate::authors::note_author;
+use crate::delivering::{Reader, deliver};
+use crate::games::{open_game, publish};
+use crate::orders::put_orders;
+use crate::seats::replace;
+use dip_desk_state::{Author, Change, Effect, Standing};
+use dip_map::Map;
+use sqlite::{Alter, Error, Transaction};
+use std::alloc::Global;
+use std::rc::Rc;
+
+/// The author's standing orders are these, where the author has a seat.
+fn order_by<S: Alter>(
+    tx: &mut Transaction<'_, S>,
+    map: &Map,
+    game: &str,
+    author: Author,
+    orders: &[Standing],
+) -> Result<(), Error>
+    ensures same_reference { tx.new.conn.ghost_name ≡ tx.old.conn.ghost_name }
+    ensures writes { Writes
+        (ordering_by map.now (machine.author author) game.now (records.standings orders.now))
+        (state S.Store tx.old.conn.now) (state S.Store tx.new.conn.now) result }
+    ensures wants { Wants (λ t. Differ same_order
+        (ordering_by map.now (machine.author author) game.now (records.standings orders.now)
+        t).pending)
+        (state S.Store tx.old.conn.now) (state S.Store tx.new.conn.now) result }
+{
+    match author {
+        Author::Nobody => Ok(()),
+        Author::TheMaster => Ok(()),
+        Author::Seat(power) => put_orders(tx, map, game, map.power_name(power), orders),
+    }
+}
+
+/// The author's standing orders, where the effect gives any.
+fn order<S: Alter>(
+    tx: &mut Transaction<'_, S>,
+    map: &Map,
+    game: &str,
+    author: Author,
+    effect: &Effect,
+) -> Result<(), Error>
+    ensures same_reference { tx.new.conn.ghost_name ≡ tx.old.conn.ghost_name }
+    ensures writes { Writes
+        (ordering map.now (machine.author author) game.now (machine.effect effect.now))
+        (state S.Store tx.old.conn.now) (state S.Store tx.new.conn.now) result }
+    ensures wants { Wants
+        (OrdersDiffer map.now (machine.author author) game.now (machine.effect effect.now))
+        (state S.Store tx.old.conn.now) (state S.Store tx.new.conn.now) result }
+{
+    match effect {
+        Effect::Pending(orders) => order_by(tx, map, game, author, orders.as_slice()),
+        Effect::Nothing => Ok(()),
+        Effect::Votes(_) => Ok(()),
+        Effect::Delivers { .. } => Ok(()),
+        Effect::Opens { .. } => Ok(()),
+        Effect::Publishes { .. } => Ok(()),
+        Effect::Seats(_) => Ok(()),
+    }
+}
+
+/// What the effect does to its game, where press goes to these readers.
+fn reach<S: Alter>(
+    alloc: Global,
+    tx: &mut Transaction<'_, S>,
+    map: &Map,
+    game: &str,
+    effect: &Effect,
+    readers: &[Reader],
+) -> Result<(), Error>
+    requires of { IsEffectOf map.now (machine.effect effect.now) }
+    requires fits { FitsColumns (machine.effect effect.now) }
+    requires room { All (λ r. r.items < 4294967295) readers.now }
+    ensures same_reference { tx.new.conn.ghost_name ≡ tx.old.conn.ghost_name }
+    ensures writes { Writes
+        (reaching_all readers.now map.now game.now (machine.effect effect.now))
+        (state S.Store tx.old.conn.now) (state S.Store tx.new.conn.now) result }
+    ensures wants { Wants (λ t. AreKeyed
+        (reaching_all readers.now map.now game.now (machine.effect effect.now) t))
+        (state S.Store tx.old.conn.now) (state S.Store tx.new.conn.now) result }
+{
+    match effect {
+        Effect::Nothing => Ok(()),
+        Effect::Pending(_) => Ok(()),
+        Effect::Votes(_) => Ok(()),
+        Effect::Delivers { item, .. } => deliver(alloc, tx, map, game, readers, item),
+        Effect::Opens {
+            public,
+            paper,
+            seats,
+        } => open_game(alloc, tx, map, public, paper.as_str(), seats.as_slice()),
+        Effect::Publishes {
+            public,
+            paper,
+            played,
+        } => publish(alloc, tx, map, game, public, paper.as_str(), *played),
+        Effect::Seats(seat) => replace(tx, map, game, seat),
+    }
+}
+
+/// All parts of a change: what is kept of its letter, its author's orders, and what it does to its game.
+pub(crate) fn make_parts<S: Alter>(
+    alloc: Global,
+    tx: &mut Transaction<'_, S>,
+    map: &Map,
+    change: &Change,
+    sent: u32,
+    readers: &[Reader],
+) -> Result<(), Error>
+    requires writable { IsWritable map.now (machine.change change.now) }
+    requires room { All (λ r. r.items < 4294967295) readers.now }
+    ensures same_reference { tx.new.conn.ghost_name ≡ tx.old.conn.ghost_name }
+    ensures writes { Writes
+        (changing_sent sent readers.now map.now (machine.change change.now))
+        (state S.Store tx.old.conn.now) (state S.Store tx.new.conn.now) result }
+    ensures wants { Wants (λ t. AreKeyed
+        (changing_sent sent readers.now map.now (machine.change change.now) t))
+        (state S.Store tx.old.conn.now) (state S.Store tx.new.conn.now) result }
+{
+    let game = change.game.as_str();
+    note_author(alloc, tx, map, change, sent)?;
+    order(tx, map, game, change.author, &change.effect)?;
+    reach(alloc, tx, map, game, &change.effect, readers)
+}

@@ -1,0 +1,41 @@
+//! A change in one transaction, made whole or not at all.
+ghost use Rattle.std.specs.Prelude.{◌≡◌, ◌<◌, All, IfErr, false};
+ghost use Rattle.dip_desk_state.specs.ChangeRows as machine;
+ghost use Rattle.dip_store_tables.specs.ChangeColumns.{IsWritable};
+ghost use Rattle.dip_store_sql.specs.Causes.{has_faulted};
+ghost use Rattle.dip_store_sql.specs.Calls.{IsKept, does_show, is_honest, tables_in};
+ghost use Rattle.dip_store_sql.specs.Keys.{AreKeyed};
+ghost use Rattle.dip_store_sql.specs.Refusals.{IsWant};
+ghost use Rattle.dip_store_changes.specs.Making.{Makes, changing_sent};
+
+use crate::delivering::Reader;
+use crate::parts::make_parts;
+use dip_desk_state::Change;
+use dip_map::Map;
+use sqlite::{Alter, Connection, Error};
+use std::alloc::Global;
+
+/// Makes the whole change or nothing of it. Where it is press of a seat, the seat has then sent so much, and the readers have it.
+pub fn make_with<S: Alter>(
+    conn: &mut Connection<S>,
+    alloc: Global,
+    map: &Map,
+    change: &Change,
+    sent: u32,
+    readers: &[Reader],
+) -> Result<(), Error>
+    requires idle { conn.old.in_transaction ≡ false }
+    requires writable { IsWritable map.now (machine.change change.now) }
+    requires room { All (λ r. r.items < 4294967295) readers.now }
+    ensures makes { Makes S.Store
+        (changing_sent sent readers.now map.now (machine.change change.now))
+        conn.old conn.new result }
+    ensures wants { IsKept S.Store conn.old → does_show S.Store conn.old
+        → is_honest S.Store conn.new → AreKeyed (changing_sent sent readers.now map.now
+        (machine.change change.now) (tables_in S.Store conn.old))
+        → IfErr result (IsWant (has_faulted S.Store conn.old conn.new)) }
+{
+    let mut tx = conn.transaction();
+    make_parts(alloc, &mut tx, map, change, sent, readers)?;
+    tx.commit()
+}

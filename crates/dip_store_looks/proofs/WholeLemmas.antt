@@ -1,0 +1,54 @@
+-- What the rows of a game's seats show is what their records say; and what the master's row shows.
+use Rattle.std.proofs.Common.{◌≡◌, ℕ, List, [], ◌∷◌, map, filter, option_map, Option, Some, None, refl, sym, ap, ap₂, ◌∙◌, inl, inr}
+use Rattle.std.specs.List.{find}
+use Rattle.std.proofs.lemmas.Bool.{cases_Bool}
+use Rattle.std.proofs.lemmas.Slice.Eq.{bytes_eq-Decides}
+use Rattle.sqlite.specs.Order.{Row}
+use Rattle.dip_map_chart.specs.Charts.{Chart}
+use Rattle.dip_desk_state.specs.Records.{Own, Public}
+use Rattle.dip_store_sql.specs.Showing.{show_desk, show_listed}
+use Rattle.dip_store_sql.specs.TablesAfter.{is_first}
+use Rattle.dip_store_tables.specs.Coding.{AreCoded}
+use Rattle.dip_store_tables.specs.Reading.{desk_of, own_of, pending_of, public_of, state_of}
+use Rattle.dip_store_tables.specs.Tables.{GameRow, PendingRow, SeatRow, Tables, is_named, is_pending, is_seat_in}
+use Rattle.dip_store_looks.specs.Asked.{whole_in}
+use Rattle.dip_store_looks.specs.Shown.{listed_own, shown_desk}
+use Rattle.dip_store_looks.proofs.OwnLemmas.{orders_shown}
+use Rattle.dip_store_looks.proofs.PublicLemmas.{found_named}
+
+module _ (m : Chart) where
+  own_listed : (pending : List PendingRow) (name : List ℕ) (s : SeatRow) → s.game ≡ name → listed_own m pending name (show_listed s) ≡ own_of m pending s
+  own_listed pending name s named =
+      let mine = orders_shown m (filter (is_pending name s.power) pending) ∙ ap (λ n. pending_of m pending n s.power) (sym named) in
+      ap (λ p. record (own_of m pending s) { pending = p }) mine
+
+  owns_listed : (pending : List PendingRow) (name : List ℕ) (ss : List SeatRow)
+      → map (listed_own m pending name) (map show_listed (filter (is_seat_in name) ss)) ≡ map (own_of m pending) (filter (is_seat_in name) ss)
+  owns_listed pending name [] = refl
+  owns_listed pending name (s ∷ ss) = elim (cases_Bool (is_seat_in name s)) [
+    | inl hit ↦ rw hit (ap₂ ◌∷◌ (own_listed pending name s ((bytes_eq-Decides s.game name).0 hit)) (owns_listed pending name ss))
+    | inr off ↦ rw off (owns_listed pending name ss)
+  ]
+
+  pub whole_is : (t : Tables) (name : List ℕ) (public : Public) (owns : List Own) (seats : List Row)
+      → Some public ≡ option_map (public_of m t.units t.centres) (find (is_named name) t.games)
+      → owns ≡ map (listed_own m t.pending name) seats → seats ≡ map show_listed (filter (is_seat_in name) t.seats)
+      → Some (record { public = public; seats = owns }) ≡ option_map (whole_in m t) (find (is_named name) t.games)
+  whole_is t name public owns seats told read listed = by_game (find (is_named name) t.games) refl
+    where
+      by_game : (o : Option GameRow) → find (is_named name) t.games ≡ o → Some (record { public = public; seats = owns }) ≡ option_map (whole_in m t) (find (is_named name) t.games)
+      by_game None none = absurd (let bad = told ∙ ap (option_map (public_of m t.units t.centres)) none in cc)
+      by_game (Some g) found =
+          let same : public ≡ public_of m t.units t.centres g = (let both = told ∙ ap (option_map (public_of m t.units t.centres)) found in cc) in
+          let named = found_named m name t.games g found in
+          let mine = read ∙ ap (map (listed_own m t.pending name)) listed ∙ owns_listed t.pending name t.seats ∙ ap (λ n. map (own_of m t.pending) (filter (is_seat_in n) t.seats)) (sym named) in
+          ap₂ (λ p os. Some (record { public = p; seats = os })) same mine ∙ sym (ap (option_map (whole_in m t)) found)
+
+  pub desk_is : (t : Tables) (row : Row) → AreCoded m t → Some row ≡ option_map show_desk (find is_first t.desk) → shown_desk row ≡ (state_of m t).desk
+  desk_is t row coded shown =
+      let d = coded.desk.0 in
+      let alone = coded.desk.1 in
+      let first : find is_first (d ∷ []) ≡ Some d = rw coded.desk.2 refl in
+      let both : Some row ≡ Some (show_desk d) = shown ∙ ap (λ ds. option_map show_desk (find is_first ds)) alone ∙ ap (option_map show_desk) first in
+      let same : row ≡ show_desk d = cc in
+      ap shown_desk same ∙ ap desk_of (sym alone)

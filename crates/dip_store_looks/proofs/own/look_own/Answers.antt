@@ -1,0 +1,55 @@
+use Rattle.std.proofs.Common.{◌≡◌, map, filter, subst, ap, Some, ◌∙◌}
+use Rattle.std.proofs.lemmas.Result.{err_from_is_err_and}
+use Rattle.sqlite.specs.Effect.{Database}
+use Rattle.dip_store_tables.specs.Boards.{power_name}
+use Rattle.dip_store_sql.specs.Calls.{tables_in}
+use Rattle.dip_store_sql.specs.Rows.{tables_of}
+use Rattle.dip_store_sql.specs.Showing.{show_order}
+use Rattle.dip_store_tables.specs.Tables.{is_pending}
+use Rattle.dip_store_looks.proofs.Blaming.{outside_weaker, told_on}
+use Rattle.dip_store_sql.proofs.Caused.{faulted_late}
+use Rattle.sqlite.specs.Held.{state}
+use Rattle.dip_store_looks.proofs.OwnLemmas.{own_is}
+use Rattle.dip_store_looks.proofs.RowLemmas.{orders_readable, seat_found_readable}
+use Rattle.dip_store_looks.proofs.own.look_own.Goals as goal
+
+pub returns-clause-value : goal.returns-clause-value
+returns-clause-value g c kept clean =
+    let a = c.in_ok-row.ensures.selects in
+    let clean1 = c.in_ok-orders.ensures.selects.fair clean in
+    let shows1 = a.ok kept clean1 in
+    let kept1 = a.kept kept shows1 in
+    let same1 = a.same kept shows1 in
+    let m = c.args.map.now in
+    let name = c.args.game.now in
+    let row = rw (c.in-Some.is, c.power_name-name.ensures) at (c.in_ok-row.ensures.value kept clean1) in
+    let listed = rw c.power_name-name.ensures at (c.in_ok-orders.ensures.value kept1 clean) in
+    let orders = subst (λ (d : Database). c.in_ok-orders.orders.items ≡ map show_order (filter (is_pending name (power_name m c.args.power)) (tables_of d.trees).pending)) same1 listed in
+    let said = rw c.as_slice.ensures.value at c.in_ok-own.ensures.value in
+    ap Some said
+    ∙ own_is m c.facts.ensures (tables_in g.S.Store c.args.conn.now) name c.args.power c.in-Some.row c.in_ok-orders.orders.items c.requires row orders
+
+pub returns-in_err-own-clause-own : goal.returns-in_err-own-clause-own
+returns-in_err-own-clause-own g c kept shows clean ours =
+    let a = c.in_ok-row.ensures.selects in
+    let clean1 = c.in_ok-orders.ensures.selects.fair clean in
+    let shows1 = a.ok kept clean1 in
+    let kept1 = a.kept kept shows1 in
+    let same1 = a.same kept shows1 in
+    let m = c.args.map.now in
+    let name = c.args.game.now in
+    let row = rw (c.in-Some.is, c.power_name-name.ensures) at (c.in_ok-row.ensures.value kept clean1) in
+    let listed = rw c.power_name-name.ensures at (c.in_ok-orders.ensures.value kept1 clean) in
+    let orders = subst (λ (d : Database). c.in_ok-orders.orders.items ≡ map show_order (filter (is_pending name (power_name m c.args.power)) (tables_of d.trees).pending)) same1 listed in
+    let t = tables_in g.S.Store c.args.conn.now in
+    let fails = rw c.as_slice.ensures.value at c.in_err-own.ensures.own in
+    let p = err_from_is_err_and c.from_residual-in_err-own.result c.from_residual-in_err-own.ensures.1 in
+    rw (p.1, p.2) (outside_weaker ⊥ _ _ (λ none. absurd none) (fails (seat_found_readable m t ours name (power_name m c.args.power) c.in-Some.row row) (orders_readable m t ours name (power_name m c.args.power) c.in_ok-orders.orders.items orders)))
+
+pub returns-in_err-orders-clause-own : goal.returns-in_err-orders-clause-own
+returns-in_err-orders-clause-own g c kept shows clean ours =
+    let a = c.in_ok-row.ensures.selects in
+    let shows1 = a.ok kept (c.in_err-orders.ensures.selects.fair clean) in
+    let late = faulted_late (state g.S.Store c.args.conn.now) (state g.S.Store c.find_seat.new.conn) (state g.S.Store c.list_orders.new.conn) a.counts in
+    told_on _ _ c.in_err-orders.field-0.0 c.from_residual-in_err-orders.result c.from_residual-in_err-orders.ensures.1 late
+    (c.in_err-orders.ensures.caused (a.kept kept shows1) shows1 clean)

@@ -1,0 +1,77 @@
+-- Rows as the queries show them, read back as records; what a query doesn't show is left empty.
+use Rattle.std.specs.Prelude.{ℕ, ◌+◌, ◌==◌, List, [], filter, map}
+use Rattle.sqlite.specs.Order.{Row, column, bytes}
+use Rattle.dip_map_chart.specs.Charts.{Chart}
+use Rattle.dip_store_tables.specs.Boards.{UnitRow, CentreRow, board_of, power_in}
+use Rattle.dip_desk_state.specs.State.{Desk}
+use Rattle.dip_desk_state.specs.Records.{Public, Own}
+use Rattle.dip_store_sql.specs.Rows.{number_in}
+use Rattle.dip_store_sql.specs.Showing.{show_order}
+use Rattle.dip_store_tables.specs.Reading.{kept_of, standing_of, status_of}
+use Rattle.dip_store_tables.specs.Tables.{BoxRow, PendingRow, is_pending}
+
+abbrev pub shown_unit : Row → UnitRow
+shown_unit r = record {
+  game = [];
+  province = bytes (column r 0);
+  dislodged = number_in (column r 1);
+  power = bytes (column r 2);
+  kind = number_in (column r 3);
+  coast = bytes (column r 4);
+  origin = bytes (column r 5);
+}
+
+abbrev pub shown_centre : Row → CentreRow
+shown_centre r = record { game = []; province = bytes (column r 0); power = bytes (column r 1) }
+
+-- the public part of a game that its row, its units and its centres show
+abbrev pub shown_public : Chart → List ℕ → Row → List Row → List Row → Public
+shown_public m name r units centres = record {
+  game = name;
+  board = board_of m (map shown_unit units) (map shown_centre centres) (bytes (column r 7)) (number_in (column r 0))
+      (number_in (column r 1));
+  status = status_of m (bytes (column r 2));
+  due = number_in (column r 3);
+  period = number_in (column r 4);
+  grey = number_in (column r 5) == 1;
+  papers = number_in (column r 6);
+}
+
+abbrev pub shown_order : Row → PendingRow
+shown_order r = record { game = []; power = []; province = bytes (column r 0); line = bytes (column r 1) }
+
+-- the own part of a power's seat that its row, from a column on, and the rows of its orders show
+abbrev pub shown_own : Chart → ℕ → ℕ → Row → List Row → Own
+shown_own m power at r orders = record {
+  power = power;
+  digest = bytes (column r at);
+  vote = number_in (column r (at + 1)) == 1;
+  pending = map (λ o. standing_of m (shown_order o)) orders;
+  kept = kept_of (number_in (column r (at + 2))) (bytes (column r (at + 3))) (bytes (column r (at + 4)));
+  sent = number_in (column r (at + 5));
+  items = number_in (column r (at + 6));
+}
+
+-- and that of a seat whose row begins with its power's name, in a game of that name
+abbrev pub listed_own : Chart → List PendingRow → List ℕ → Row → Own
+listed_own m pending game r =
+    shown_own m (power_in m (bytes (column r 0))) 1 r (map show_order (filter (is_pending game (bytes (column r 0))) pending))
+
+-- an item, without its game, its power and its number
+abbrev pub shown_item : Row → BoxRow
+shown_item r = record {
+  game = [];
+  power = [];
+  number = 0;
+  grey = number_in (column r 0);
+  writer = bytes (column r 1);
+  addressees = bytes (column r 2);
+  body = bytes (column r 3);
+}
+
+-- the digest and the last letter that the master's row shows
+abbrev pub shown_desk : Row → Desk
+shown_desk r = record {
+  digest = bytes (column r 2);
+  kept = kept_of (number_in (column r 3)) (bytes (column r 4)) (bytes (column r 5));
+}

@@ -1,0 +1,109 @@
+//! A seat's own part.
+ghost use Rattle.std.specs.Prelude.{◌≡◌, ◌<◌, IfErr, IfOk, length, map as each, option_map};
+ghost use Rattle.std.specs.List.{AllByRecursion, find};
+ghost use Rattle.dip_store_tables.specs.Boards.{power_name};
+ghost use Rattle.dip_store_looks.specs.Faults.{IsFromOutside};
+ghost use Rattle.dip_store_looks.specs.Readable.{IsOrderReadable, IsSeatReadable};
+ghost use Rattle.dip_store_looks.specs.Shown.{shown_order, shown_own};
+ghost use Rattle.dip_store_tables.specs.Legible.{AreOurs};
+ghost use Rattle.dip_desk_state.specs.Rows as rows;
+ghost use Rattle.dip_store_sql.specs.Causes.{has_faulted};
+ghost use Rattle.dip_store_sql.specs.Calls.{IsKept, Selects, does_show, is_honest, tables_in};
+ghost use Rattle.dip_store_tables.specs.Reading.{own_of, standing_of};
+ghost use Rattle.dip_store_tables.specs.Tables.{is_seat};
+
+use crate::faults::LookFault;
+use crate::letters::{digest_in, kept_in};
+use crate::values::{number_at, text_at};
+use dip_desk_state::{Own, Standing};
+use dip_map::Map;
+use dip_names::Power;
+use dip_store_sql::{find_seat, list_orders};
+use sqlite::{Alter, Connection, Row};
+use std::alloc::Global;
+
+fn standing_in(map: &Map, row: &Row) -> Result<Standing, LookFault>
+    ensures value { IfOk result (λ s.
+        rows.standing s ≡ standing_of map.now (shown_order row.now)) }
+    ensures own { IsOrderReadable map.now row.now → IfErr result (IsFromOutside ⊥) }
+{
+    map.facts();
+    let province = text_at(row, 0)?;
+    let Some(prov) = map.prov(province.as_bytes()) else {
+        return Err(LookFault::Foreign);
+    };
+    Ok(Standing {
+        prov,
+        line: text_at(row, 1)?,
+    })
+}
+
+fn standings_in(alloc: Global, map: &Map, orders: &[Row]) -> Result<Vec<Standing>, LookFault>
+    ensures value { IfOk result (λ v. rows.standings v.items
+        ≡ each (λ r. standing_of map.now (shown_order r)) orders.now) }
+    ensures own { AllByRecursion (IsOrderReadable map.now) orders.now
+        → IfErr result (IsFromOutside ⊥) }
+{
+    let mut standings = Vec::new(alloc);
+    for order in orders {
+        standings.push(standing_in(map, order)?)?;
+    }
+    Ok(standings)
+}
+
+/// The own part that a seat's row, from a column on, and the rows of its orders show.
+pub(crate) fn own_in(
+    alloc: Global,
+    map: &Map,
+    power: Power,
+    row: &Row,
+    at: usize,
+    orders: &[Row],
+) -> Result<Own, LookFault>
+    requires { at < 2 }
+    ensures value { IfOk result (λ o. rows.own o ≡ shown_own map.now power at row.now orders.now) }
+    ensures own { IsSeatReadable row.now at → AllByRecursion (IsOrderReadable map.now) orders.now
+        → IfErr result (IsFromOutside ⊥) }
+{
+    let vote = number_at(row, at + 1)?;
+    Ok(Own {
+        power,
+        digest: digest_in(row, at)?,
+        vote: vote == 1,
+        pending: standings_in(alloc, map, orders)?,
+        kept: kept_in(alloc, row, at + 2)?,
+        sent: number_at(row, at + 5)?,
+        items: number_at(row, at + 6)?,
+    })
+}
+
+/// A seat's own part, all but the items of its inbox; none where there is no such seat.
+///
+/// # Errors
+/// Want of memory, the database's own, or `Foreign` where a row of it is none that a keeper writes by this map.
+pub fn look_own<S: Alter>(
+    conn: &mut Connection<S>,
+    alloc: Global,
+    map: &Map,
+    game: &str,
+    power: Power,
+) -> Result<Option<Own>, LookFault>
+    requires { power < length map.now.realms }
+    ensures value { IsKept S.Store conn.old → is_honest S.Store conn.new → IfOk result (λ o.
+        option_map rows.own o
+        ≡ option_map (own_of map.now (tables_in S.Store conn.old).pending)
+        (find (is_seat game.now (power_name map.now power)) (tables_in S.Store conn.old).seats)) }
+    ensures selects { Selects S.Store conn.old conn.new result }
+    ensures own { IsKept S.Store conn.old → does_show S.Store conn.old → is_honest S.Store conn.new
+        → AreOurs map.now (tables_in S.Store conn.old)
+        → IfErr result (IsFromOutside (has_faulted S.Store conn.old conn.new)) }
+{
+    map.facts();
+    let name = map.power_name(power);
+    let Some(row) = find_seat(conn, game, name)? else {
+        return Ok(None);
+    };
+    let orders = list_orders(conn, game, name)?;
+    let own = own_in(alloc, map, power, &row, 0, orders.as_slice())?;
+    Ok(Some(own))
+}

@@ -1,0 +1,95 @@
+-- Each text that writes is one statement with so many parameters.
+use Rattle.std.proofs.Common.{length, refl}
+use Rattle.sqlite_tied.specs.Compute.{everything}
+use Rattle.sqlite.specs.Listing.{understood}
+use Rattle.dip_store_sql.specs.Asking.{IsAsked}
+use Rattle.dip_store_sql.specs.Schema.{our_schema}
+use Rattle.dip_store_sql.specs.Statements as text
+
+pub add_desk : IsAsked (length text.add_desk_text) 2 (understood our_schema text.add_desk_text)
+unfolding understood everything
+add_desk = (refl, refl)
+
+pub add_game : IsAsked (length text.add_game_text) 9 (understood our_schema text.add_game_text)
+unfolding understood everything
+add_game = (refl, refl)
+
+pub add_seat : IsAsked (length text.add_seat_text) 3 (understood our_schema text.add_seat_text)
+unfolding understood everything
+add_seat = (refl, refl)
+
+pub add_unit : IsAsked (length text.add_unit_text) 7 (understood our_schema text.add_unit_text)
+unfolding understood everything
+add_unit = (refl, refl)
+
+pub add_centre : IsAsked (length text.add_centre_text) 3 (understood our_schema text.add_centre_text)
+unfolding understood everything
+add_centre = (refl, refl)
+
+pub add_pending : IsAsked (length text.add_pending_text) 4 (understood our_schema text.add_pending_text)
+unfolding understood everything
+add_pending = (refl, refl)
+
+pub add_item : IsAsked (length text.add_item_text) 7 (understood our_schema text.add_item_text)
+unfolding understood everything
+add_item = (refl, refl)
+
+pub add_paper : IsAsked (length text.add_paper_text) 3 (understood our_schema text.add_paper_text)
+unfolding understood everything
+add_paper = (refl, refl)
+
+pub drop_seats : IsAsked (length text.drop_seats_text) 1 (understood our_schema text.drop_seats_text)
+unfolding understood everything
+drop_seats = (refl, refl)
+
+pub drop_units : IsAsked (length text.drop_units_text) 1 (understood our_schema text.drop_units_text)
+unfolding understood everything
+drop_units = (refl, refl)
+
+pub drop_centres : IsAsked (length text.drop_centres_text) 1 (understood our_schema text.drop_centres_text)
+unfolding understood everything
+drop_centres = (refl, refl)
+
+pub drop_pending : IsAsked (length text.drop_pending_text) 1 (understood our_schema text.drop_pending_text)
+unfolding understood everything
+drop_pending = (refl, refl)
+
+pub drop_orders : IsAsked (length text.drop_orders_text) 2 (understood our_schema text.drop_orders_text)
+unfolding understood everything
+drop_orders = (refl, refl)
+
+pub drop_items : IsAsked (length text.drop_items_text) 1 (understood our_schema text.drop_items_text)
+unfolding understood everything
+drop_items = (refl, refl)
+
+pub drop_papers : IsAsked (length text.drop_papers_text) 1 (understood our_schema text.drop_papers_text)
+unfolding understood everything
+drop_papers = (refl, refl)
+
+pub note_desk : IsAsked (length text.note_desk_text) 3 (understood our_schema text.note_desk_text)
+unfolding understood everything
+note_desk = (refl, refl)
+
+pub note_seat : IsAsked (length text.note_seat_text) 5 (understood our_schema text.note_seat_text)
+unfolding understood everything
+note_seat = (refl, refl)
+
+pub note_vote : IsAsked (length text.note_vote_text) 6 (understood our_schema text.note_vote_text)
+unfolding understood everything
+note_vote = (refl, refl)
+
+pub note_sent : IsAsked (length text.note_sent_text) 6 (understood our_schema text.note_sent_text)
+unfolding understood everything
+note_sent = (refl, refl)
+
+pub count_item : IsAsked (length text.count_item_text) 3 (understood our_schema text.count_item_text)
+unfolding understood everything
+count_item = (refl, refl)
+
+pub replace_digest : IsAsked (length text.replace_digest_text) 3 (understood our_schema text.replace_digest_text)
+unfolding understood everything
+replace_digest = (refl, refl)
+
+pub renew_game : IsAsked (length text.renew_game_text) 9 (understood our_schema text.renew_game_text)
+unfolding understood everything
+renew_game = (refl, refl)

@@ -1,0 +1,118 @@
+-- A statement on records whose keys stay apart fails for want alone.
+use Rattle.std.proofs.Common.{◌≡◌, ◌⊎◌, inl, inr, ℕ, List, [], ◌∷◌, ◌++◌, ◌/◌, ◌||◌, ◌≤◌, nat_le, map, filter, length, Bool, true, false, Some, None, Ok, Err, Result, IsTrue, Any, slice_get, refl, sym, ap, subst, ◌∙◌, arith}
+use Rattle.std.specs.List.Sorted.{IsPermutation}
+use Rattle.std.proofs.lemmas.Bool.Decides.{nat_tests}
+use Rattle.sqlite.specs.declared.types.Value.{Value}
+use Rattle.sqlite.specs.declared.types.Value.TheVariants.{Null}
+use Rattle.sqlite.specs.declared.error.Error.{Error}
+use Rattle.sqlite.specs.Order.{Row}
+use Rattle.sqlite.specs.Tree.{Trees}
+use Rattle.sqlite.specs.Term.{Term, col, eval_all}
+use Rattle.sqlite.specs.Cast.{cast_all}
+use Rattle.sqlite.specs.Table.{Table}
+use Rattle.sqlite.specs.Schema.{Schema}
+use Rattle.sqlite.specs.Program.{overlay}
+use Rattle.sqlite.specs.Command.{Command}
+use Rattle.sqlite.specs.Command.TheVariants.{Insert, Update, Delete}
+use Rattle.sqlite.specs.Source.TheVariants.{Values}
+use Rattle.sqlite.specs.Effect.{Answers, RefusesQuery, is_query, value_rows}
+use Rattle.sqlite.specs.Does.{Does}
+use Rattle.sqlite.specs.Rows.{stamped}
+use Rattle.sqlite.specs.Given.{IsPlain}
+use Rattle.sqlite.specs.Listing.{understood}
+use Rattle.sqlite.specs.State.{State, Executes, is_pragma, mode_of, shows_rows, text_of}
+use Rattle.sqlite_resolve.specs.declared.compiled.Compiled.{Compiled}
+use Rattle.sqlite_resolve.specs.declared.error.CompileError.{CompileError}
+use Rattle.sqlite_rules.specs.Action.{works}
+use Rattle.sqlite_schema.specs.declared.schema.Among.{Among}
+use Rattle.sqlite_schema.specs.declared.schema.Keys.TheVariants.{Enforced}
+use Rattle.sqlite_schema.specs.declared.program.Program.{Program}
+use Rattle.sqlite_schema.specs.Program.{lets_of}
+use Rattle.sqlite_schema.specs.Rules.{Refers}
+use Rattle.sqlite_typing.specs.Types.{accepts_program, accepts_terms}
+use Rattle.sqlite_keyed.specs.Lists.{update_where, delete_where}
+use Rattle.dip_store_sql.specs.Asking.{IsAsked, command_in}
+use Rattle.dip_store_sql.specs.Recorded.{IsRising, AtMostOne}
+use Rattle.dip_store_sql.specs.Queries.{passes, plain_query}
+use Rattle.dip_store_sql.proofs.Answered.{selected}
+use Rattle.dip_store_sql.specs.Causes.{Faulted}
+use Rattle.dip_store_sql.specs.Refusals.{IsWant}
+use Rattle.dip_store_sql.proofs.Failing.{delete_refused, edits_rows, fails, insert_refused, mode, update_refused}
+use Rattle.dip_store_sql.proofs.Passing.{AreKept}
+use Rattle.dip_store_sql.proofs.Told.{want_weaker}
+use Rattle.dip_store_sql.proofs.Wanting.{KeysApart, delete_wants, insert_wants, update_wants}
+
+within : (a b : ℕ) → nat_le a b ≡ true → a ≤ b
+within a b h = grind (arith, nat_tests)
+
+none_any : {A : Type 0} (xs : List A) → Any (λ _. ⊥) xs → ⊥
+none_any xs h = h.4
+
+-- a plain query of parameters that may be compared is refused by nothing
+plainly : (schema : Schema) (db : Trees) (t : ℕ) (tests shown : List Term) (params : Row) → accepts_program schema (lets_of (record { lets = []; body = plain_query t tests shown [] })) (plain_query t tests shown []) params ≡ true
+    → (e : Error) → RefusesQuery None (record { schema = schema; trees = db }) (record { lets = []; body = plain_query t tests shown [] }) params e → ⊥
+plainly schema db t tests shown params accepts e (inl h) = let x = sym accepts ∙ h.1 in cc
+plainly schema db t tests shown params accepts e (inr (inl (h, inl none))) = none
+plainly schema db t tests shown params accepts e (inr (inl (h, inr any))) = none_any (overlay db [] t) any
+plainly schema db t tests shown params accepts e (inr (inr h)) = let x = h.1 in cc
+
+-- what shows no rows
+shows_none : (c : Compiled) (command : Command) → c.command ≡ command → c.returning ≡ None → (is_query command || (is_pragma command || false)) ≡ false → shows_rows false c ≡ false
+shows_none c command does plain quiet = rw (does, plain) quiet
+
+module _ (schema : Schema) (at : ℕ) (table : Table) (listed : slice_get schema.tables at ≡ Some table) (bare : table.is_counted ≡ false) (seen : (db : Trees) → overlay db [] table.tree ≡ db table.tree)
+    (calm : (olds news : List Row) → works schema Enforced 0 table.tree olds news ≡ []) (refers : (among : Among) (db : Trees) → Refers among schema db)
+    {A : Type 0} (put : A → Row) (take : Row → A) (back : (v : Value) (a : A) → take (v ∷ put a) ≡ a) (casts : (a : A) → cast_all table.columns (put a) ≡ put a) (rules : AreKept put schema table)
+    (text : List ℕ) (plain : IsPlain (understood schema text)) (params : Row) (asked : IsAsked (length text) (length params) (understood schema text))
+    (old new : State) (has : old.now.schema ≡ schema) (up : IsTrue old.is_open) (unlimited : old.step_limit ≡ None) (it : IsRising put take (old.now.trees table.tree)) (e : Error) (h : Executes text params old new (Err e)) where
+  unmet : (command : Command) → command_in (understood schema text) command → edits_rows command ≡ true → (is_query command || (is_pragma command || false)) ≡ false
+      → IsWant (Faulted old new) e ⊎ ((said : List ℕ) × Does None mode params old.now said None command (Err (Some e)))
+  unmet command means edits quiet = go (understood schema text) (ap (λ s. understood s text) has) means plain asked
+    where
+      go : (r : Result Compiled CompileError) → understood old.now.schema text ≡ r → command_in r command → IsPlain r → IsAsked (length text) (length params) r
+          → IsWant (Faulted old new) e ⊎ ((said : List ℕ) × Does None mode params old.now said None command (Err (Some e)))
+      go (Ok c) is means plain asked = elim (fails text params old new c is (within _ _ asked.0) (sym asked.1) plain.1 plain.0 up command means edits (shows_none c command means plain.0 quiet) e h) [
+        | inl w ↦ inl w
+        | inr d ↦ inr (text_of text c, subst (λ l. Does l (mode_of old) params old.now (text_of text c) None command (Err (Some e))) unlimited d)
+      ]
+      go (Err e) is means plain asked = absurd means
+
+  pub insert_sane : (terms : List Term) (width : ℕ) → command_in (understood schema text) (Insert at (Values terms width)) → accepts_terms terms (stamped table params) ≡ true
+      → (a : A) → value_rows (stamped table params) width (length terms / width) terms ≡ (Null ∷ put a) ∷ []
+      → KeysApart put take back schema table casts rules old.now.trees it (map take (old.now.trees table.tree) ++ a ∷ []) → IsWant (Faulted old new) e
+  insert_sane terms width means accepts a are unique = elim (unmet (Insert at (Values terms width)) means refl refl) [
+    | inl w ↦ w
+    | inr d ↦
+        let r = insert_refused schema at table listed bare calm refers params old.now has d.0 terms width accepts e d.1 in
+        want_weaker ⊥ (Faulted old new) e (λ none. absurd none) (subst (IsWant ⊥) (sym r.2) (insert_wants put take back schema table casts rules old.now.trees it a _ are unique r.0 r.1))
+  ]
+
+  module _ (tests : List Term) (p : A → Bool) (tells : (v : Value) (a : A) → passes tests params (v ∷ put a) ≡ p a) where
+    met : (shown : List Term) (rows : List Row) → Answers (record { schema = schema; trees = old.now.trees }) (record { lets = []; body = plain_query table.tree tests shown [] }) params rows
+        → IsPermutation (map (λ r. eval_all shown (params ∷ r ∷ [])) (filter (passes tests params) (old.now.trees table.tree))) rows
+    met shown rows got =
+        subst (λ all. IsPermutation (map (λ r. eval_all shown (params ∷ r ∷ [])) (filter (passes tests params) all)) rows) (seen old.now.trees)
+        (selected Null table.tree tests shown (overlay old.now.trees []) params rows (got.answer Null))
+
+    pub delete_sane : command_in (understood schema text) (Delete at (record { lets = []; body = plain_query table.tree tests (col 1 0 ∷ []) [] }))
+        → accepts_program schema (lets_of (record { lets = []; body = plain_query table.tree tests (col 1 0 ∷ []) [] })) (plain_query table.tree tests (col 1 0 ∷ []) []) params ≡ true
+        → KeysApart put take back schema table casts rules old.now.trees it (delete_where p (map take (old.now.trees table.tree))) → IsWant (Faulted old new) e
+    delete_sane means accepts unique =
+        let q : Program = record { lets = []; body = plain_query table.tree tests (col 1 0 ∷ []) [] } in elim (unmet (Delete at q) means refl refl) [
+          | inl w ↦ w
+          | inr d ↦
+              let r = delete_refused schema at table listed bare calm refers params old.now has d.0 q (plainly schema old.now.trees table.tree tests (col 1 0 ∷ []) params accepts) e d.1 in
+              absurd (delete_wants put take back schema table casts rules old.now.trees it params tests p tells r.0 (met (col 1 0 ∷ []) r.0 r.1) unique r.2 r.3)
+        ]
+
+    pub update_sane : (f : A → A) (shown : List Term) → ((v : Value) (a : A) → eval_all shown (params ∷ (v ∷ put a) ∷ []) ≡ v ∷ v ∷ put (f a)) → AtMostOne p (map take (old.now.trees table.tree))
+        → command_in (understood schema text) (Update at (record { lets = []; body = plain_query table.tree tests shown [] }))
+        → accepts_program schema (lets_of (record { lets = []; body = plain_query table.tree tests shown [] })) (plain_query table.tree tests shown []) params ≡ true
+        → KeysApart put take back schema table casts rules old.now.trees it (update_where p f (map take (old.now.trees table.tree))) → IsWant (Faulted old new) e
+    update_sane f shown shows lone means accepts unique =
+        let q : Program = record { lets = []; body = plain_query table.tree tests shown [] } in elim (unmet (Update at q) means refl refl) [
+          | inl w ↦ w
+          | inr d ↦
+              let r = update_refused schema at table listed bare calm refers params old.now has d.0 q (plainly schema old.now.trees table.tree tests shown params accepts) e d.1 in
+              want_weaker ⊥ (Faulted old new) e (λ none. absurd none) (subst (IsWant ⊥) (sym r.4) (update_wants put take back schema table casts rules old.now.trees it params tests p tells f shown shows lone r.0 (met shown r.0 r.1) unique r.2 r.3))
+        ]

@@ -1,0 +1,142 @@
+-- What the texts mean.
+use Rattle.std.proofs.Common.{[], ◌∷◌, codes, refl}
+use Rattle.sqlite.specs.Term.{col}
+use Rattle.sqlite.specs.Source.TheVariants.{Values}
+use Rattle.sqlite.specs.Command.TheVariants.{Insert, Update, Delete}
+use Rattle.sqlite_tied.specs.Compute.{everything}
+use Rattle.sqlite.specs.Listing.{understood}
+use Rattle.dip_store_sql.specs.Queries.{plain_query}
+use Rattle.dip_store_sql.specs.Asking.{Means, Asks, by_one, by_two, by_first}
+use Rattle.dip_store_sql.specs.Statements.{add_desk_text, add_game_text, add_seat_text, add_unit_text, add_centre_text, add_pending_text, add_item_text, add_paper_text, drop_seats_text, drop_units_text, drop_centres_text, drop_pending_text, drop_orders_text, drop_items_text, drop_papers_text, note_desk_text, note_seat_text, note_vote_text, note_sent_text, count_item_text, replace_digest_text, renew_game_text, find_desk_text, find_game_text, count_papers_text, find_seat_text, count_sent_text, find_item_text, find_paper_text, list_seats_text, list_units_text, list_centres_text, list_orders_text, add_desk_values, add_game_values, add_seat_values, add_unit_values, add_centre_values, add_pending_values, add_item_values, add_paper_values, note_desk_row, note_seat_row, note_vote_row, note_sent_row, count_item_row, replace_digest_row, renew_game_row, find_desk_query, find_game_query, count_papers_query, find_seat_query, count_sent_query, find_item_query, find_paper_query, list_seats_query, list_units_query, list_centres_query, list_orders_query}
+
+pub add_desk : Means add_desk_text (Insert 0 (Values add_desk_values 8))
+unfolding understood everything
+add_desk = (refl, (refl, refl))
+
+pub add_game : Means add_game_text (Insert 1 (Values add_game_values 10))
+unfolding understood everything
+add_game = (refl, (refl, refl))
+
+pub add_seat : Means add_seat_text (Insert 2 (Values add_seat_values 10))
+unfolding understood everything
+add_seat = (refl, (refl, refl))
+
+pub add_unit : Means add_unit_text (Insert 3 (Values add_unit_values 8))
+unfolding understood everything
+add_unit = (refl, (refl, refl))
+
+pub add_centre : Means add_centre_text (Insert 4 (Values add_centre_values 4))
+unfolding understood everything
+add_centre = (refl, (refl, refl))
+
+pub add_pending : Means add_pending_text (Insert 5 (Values add_pending_values 5))
+unfolding understood everything
+add_pending = (refl, (refl, refl))
+
+pub add_item : Means add_item_text (Insert 6 (Values add_item_values 8))
+unfolding understood everything
+add_item = (refl, (refl, refl))
+
+pub add_paper : Means add_paper_text (Insert 7 (Values add_paper_values 4))
+unfolding understood everything
+add_paper = (refl, (refl, refl))
+
+pub drop_seats : Means drop_seats_text (Delete 2 (record { lets = []; body = plain_query 4 by_one (col 1 0 ∷ []) [] }))
+unfolding understood everything
+drop_seats = (refl, (refl, refl))
+
+pub drop_units : Means drop_units_text (Delete 3 (record { lets = []; body = plain_query 6 by_one (col 1 0 ∷ []) [] }))
+unfolding understood everything
+drop_units = (refl, (refl, refl))
+
+pub drop_centres : Means drop_centres_text (Delete 4 (record { lets = []; body = plain_query 8 by_one (col 1 0 ∷ []) [] }))
+unfolding understood everything
+drop_centres = (refl, (refl, refl))
+
+pub drop_pending : Means drop_pending_text (Delete 5 (record { lets = []; body = plain_query 10 by_one (col 1 0 ∷ []) [] }))
+unfolding understood everything
+drop_pending = (refl, (refl, refl))
+
+pub drop_orders : Means drop_orders_text (Delete 5 (record { lets = []; body = plain_query 10 by_two (col 1 0 ∷ []) [] }))
+unfolding understood everything
+drop_orders = (refl, (refl, refl))
+
+pub drop_items : Means drop_items_text (Delete 6 (record { lets = []; body = plain_query 12 by_one (col 1 0 ∷ []) [] }))
+unfolding understood everything
+drop_items = (refl, (refl, refl))
+
+pub drop_papers : Means drop_papers_text (Delete 7 (record { lets = []; body = plain_query 14 by_one (col 1 0 ∷ []) [] }))
+unfolding understood everything
+drop_papers = (refl, (refl, refl))
+
+pub note_desk : Means note_desk_text (Update 0 (record { lets = []; body = plain_query 0 by_first note_desk_row [] }))
+unfolding understood everything
+note_desk = (refl, (refl, refl))
+
+pub note_seat : Means note_seat_text (Update 2 (record { lets = []; body = plain_query 4 by_two note_seat_row [] }))
+unfolding understood everything
+note_seat = (refl, (refl, refl))
+
+pub note_vote : Means note_vote_text (Update 2 (record { lets = []; body = plain_query 4 by_two note_vote_row [] }))
+unfolding understood everything
+note_vote = (refl, (refl, refl))
+
+pub note_sent : Means note_sent_text (Update 2 (record { lets = []; body = plain_query 4 by_two note_sent_row [] }))
+unfolding understood everything
+note_sent = (refl, (refl, refl))
+
+pub count_item : Means count_item_text (Update 2 (record { lets = []; body = plain_query 4 by_two count_item_row [] }))
+unfolding understood everything
+count_item = (refl, (refl, refl))
+
+pub replace_digest : Means replace_digest_text (Update 2 (record { lets = []; body = plain_query 4 by_two replace_digest_row [] }))
+unfolding understood everything
+replace_digest = (refl, (refl, refl))
+
+pub renew_game : Means renew_game_text (Update 1 (record { lets = []; body = plain_query 2 by_one renew_game_row [] }))
+unfolding understood everything
+renew_game = (refl, (refl, refl))
+
+pub find_desk : Asks find_desk_text 0 find_desk_query (codes "version" ∷ codes "map" ∷ codes "digest" ∷ codes "last" ∷ codes "kept" ∷ codes "reply" ∷ [])
+unfolding understood everything
+find_desk = record { means = (refl, (refl, refl)); unlisted = refl; asked = (refl, refl) }
+
+pub find_game : Asks find_game_text 1 find_game_query (codes "year" ∷ codes "phase" ∷ codes "status" ∷ codes "due" ∷ codes "period" ∷ codes "grey" ∷ codes "papers" ∷ codes "standoff" ∷ [])
+unfolding understood everything
+find_game = record { means = (refl, (refl, refl)); unlisted = refl; asked = (refl, refl) }
+
+pub count_papers : Asks count_papers_text 1 count_papers_query (codes "papers" ∷ [])
+unfolding understood everything
+count_papers = record { means = (refl, (refl, refl)); unlisted = refl; asked = (refl, refl) }
+
+pub find_seat : Asks find_seat_text 2 find_seat_query (codes "digest" ∷ codes "vote" ∷ codes "last" ∷ codes "kept" ∷ codes "reply" ∷ codes "sent" ∷ codes "items" ∷ [])
+unfolding understood everything
+find_seat = record { means = (refl, (refl, refl)); unlisted = refl; asked = (refl, refl) }
+
+pub count_sent : Asks count_sent_text 2 count_sent_query (codes "sent" ∷ [])
+unfolding understood everything
+count_sent = record { means = (refl, (refl, refl)); unlisted = refl; asked = (refl, refl) }
+
+pub find_item : Asks find_item_text 3 find_item_query (codes "grey" ∷ codes "writer" ∷ codes "addressees" ∷ codes "body" ∷ [])
+unfolding understood everything
+find_item = record { means = (refl, (refl, refl)); unlisted = refl; asked = (refl, refl) }
+
+pub find_paper : Asks find_paper_text 2 find_paper_query (codes "body" ∷ [])
+unfolding understood everything
+find_paper = record { means = (refl, (refl, refl)); unlisted = refl; asked = (refl, refl) }
+
+pub list_seats : Asks list_seats_text 1 list_seats_query (codes "power" ∷ codes "digest" ∷ codes "vote" ∷ codes "last" ∷ codes "kept" ∷ codes "reply" ∷ codes "sent" ∷ codes "items" ∷ [])
+unfolding understood everything
+list_seats = record { means = (refl, (refl, refl)); unlisted = refl; asked = (refl, refl) }
+
+pub list_units : Asks list_units_text 1 list_units_query (codes "province" ∷ codes "dislodged" ∷ codes "power" ∷ codes "kind" ∷ codes "coast" ∷ codes "origin" ∷ [])
+unfolding understood everything
+list_units = record { means = (refl, (refl, refl)); unlisted = refl; asked = (refl, refl) }
+
+pub list_centres : Asks list_centres_text 1 list_centres_query (codes "province" ∷ codes "power" ∷ [])
+unfolding understood everything
+list_centres = record { means = (refl, (refl, refl)); unlisted = refl; asked = (refl, refl) }
+
+pub list_orders : Asks list_orders_text 2 list_orders_query (codes "province" ∷ codes "line" ∷ [])
+unfolding understood everything
+list_orders = record { means = (refl, (refl, refl)); unlisted = refl; asked = (refl, refl) }

@@ -1,0 +1,63 @@
+-- What the calls of statements leave.
+use Rattle.std.specs.Prelude.{◌≡◌, ◌≤◌, ◌⊎◌, false, IsTrue, None, Result, OnOk}
+use Rattle.sqlite.specs.Tree.{Trees}
+use Rattle.sqlite.specs.Effect.{Database}
+use Rattle.sqlite.specs.Store.{Ghosts}
+use Rattle.sqlite.specs.Held.{Held, state}
+use Rattle.sqlite.specs.State.{State, HasCleanDisk, Survives, KeepsCommit}
+use Rattle.dip_store_tables.specs.Tables.{Tables}
+use Rattle.dip_store_tables.specs.Counting.{AreCounted}
+use Rattle.dip_store_sql.specs.Rows.{tables_of}
+use Rattle.dip_store_sql.specs.Good.{IsGood}
+use Rattle.dip_store_sql.specs.Causes.{has_faulted}
+
+-- the tables become these, and a transaction goes on
+pub record Turns (f : Tables → Tables) (old new : State) : Type 0 where
+  pub inside : IsTrue old.in_transaction → IsTrue new.in_transaction
+  pub good : IsGood old.now → IsGood new.now × (tables_of new.now.trees ≡ f (tables_of old.now.trees))
+
+-- a part of a transaction: it commits nothing, and where it succeeds the tables become these
+pub record Writes {X E : Type 0} (f : Tables → Tables) (old new : State) (r : Result X E)
+    : Type 0 where
+  pub survives : Survives old new (λ _. ⊥)
+  pub keeps : HasCleanDisk new → KeepsCommit old new
+  pub runs : HasCleanDisk new → OnOk r (Turns f old new)
+
+-- the trees of a database whose tables became these
+abbrev pub Lands : (Tables → Tables) → State → Trees → Type 0
+Lands f old trees =
+    (db : Database) × (IsGood old.now → IsGood db × (tables_of db.trees ≡ f (tables_of old.now.trees)))
+    × (trees ≡ db.trees)
+
+module _ {S : Type 0} (g : Ghosts S) (h : Held S) where
+  -- so far the disk has returned what was written; and the connection is open too
+  abbrev pub is_honest : Type 0
+  is_honest = HasCleanDisk (state g h)
+
+  abbrev pub does_show : Type 0
+  does_show = HasCleanDisk (state g h) × IsTrue (state g h).is_open
+
+  abbrev pub tables_in : Tables
+  tables_in = tables_of (state g h).now.trees
+
+  -- tables that a keeper has written, all of it committed
+  pub record IsKept : Type 0 where
+    pub good : IsGood (state g h).now
+    pub counted : AreCounted (tables_of (state g h).now.trees)
+    pub idle : (state g h).in_transaction ≡ false
+    pub settled : (state g h).now ≡ (state g h).committed
+    pub unlimited : h.step_limit ≡ None
+
+-- a call that reads: it changes nothing, and where it succeeds the connection is open
+pub record Selects {S X E : Type 0} (g : Ghosts S) (old new : Held S) (r : Result X E) : Type 0 where
+  pub fair : is_honest g new → is_honest g old
+  pub shown : does_show g new → does_show g old
+  pub mode : old.in_transaction ≡ false → new.in_transaction ≡ false
+  pub counts : (state g old).faults ≤ (state g new).faults
+  pub kept : IsKept g old → does_show g new → IsKept g new
+  pub same : IsKept g old → does_show g new → (state g new).now ≡ (state g old).now
+  pub ok : IsKept g old → is_honest g new → OnOk r (does_show g new)
+  -- only a fault of the disk shuts the connection
+  pub closes : is_honest g new → does_show g old → does_show g new ⊎ has_faulted g old new
+  pub left : IsKept g old → is_honest g new → (db : Trees)
+      → (state g new).may_leave db → (state g old).may_leave db

@@ -1,0 +1,38 @@
+-- The keys of the eight tables: no two rows of a table agree on its key.
+use Rattle.std.specs.Prelude.{◌≡◌, ◌==◌, ◌&&◌, Bool, false, List, bytes_eq}
+use Rattle.sqlite_trees.specs.Tree.{IsAscending}
+use Rattle.dip_store_tables.specs.Boards.{UnitRow, CentreRow}
+use Rattle.dip_store_tables.specs.Coding.{same_name, same_seat}
+use Rattle.dip_store_tables.specs.Tables.{DeskRow, PendingRow, BoxRow, PaperRow, Tables}
+
+abbrev pub same_desk : DeskRow → DeskRow → Bool
+same_desk a b = a.id == b.id
+
+abbrev pub same_unit : UnitRow → UnitRow → Bool
+same_unit a b = bytes_eq a.game b.game && (bytes_eq a.province b.province && (a.dislodged == b.dislodged))
+
+abbrev pub same_centre : CentreRow → CentreRow → Bool
+same_centre a b = bytes_eq a.game b.game && bytes_eq a.province b.province
+
+abbrev pub same_order : PendingRow → PendingRow → Bool
+same_order a b = bytes_eq a.game b.game && (bytes_eq a.power b.power && bytes_eq a.province b.province)
+
+abbrev pub same_item : BoxRow → BoxRow → Bool
+same_item a b = bytes_eq a.game b.game && (bytes_eq a.power b.power && (a.number == b.number))
+
+abbrev pub same_paper : PaperRow → PaperRow → Bool
+same_paper a b = bytes_eq a.game b.game && (a.number == b.number)
+
+-- no two records of a list agree on their key
+abbrev pub Differ : {A : Type 0} → (A → A → Bool) → List A → Type 0
+Differ same xs = IsAscending (λ a b. same a b ≡ false) xs
+
+pub record AreKeyed (t : Tables) : Type 0 where
+  pub desk : Differ same_desk t.desk
+  pub games : Differ same_name t.games
+  pub seats : Differ same_seat t.seats
+  pub units : Differ same_unit t.units
+  pub centres : Differ same_centre t.centres
+  pub pending : Differ same_order t.pending
+  pub boxes : Differ same_item t.boxes
+  pub papers : Differ same_paper t.papers

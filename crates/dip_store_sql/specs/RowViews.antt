@@ -1,0 +1,51 @@
+-- What the rows that are handed over say, without where they lie in memory.
+use Rattle.dip_store_tables.specs.Boards as boards
+use Rattle.dip_store_tables.specs.Tables as tables
+use Rattle.dip_store_tables.specs.Writing.{number_of}
+use Rattle.dip_store_sql.specs.TablesAfter.{desk_with, seat_with}
+use Rattle.dip_store_sql.specs.declared.rows.GameRow.{GameRow}
+use Rattle.dip_store_sql.specs.declared.rows.UnitRow.{UnitRow}
+use Rattle.dip_store_sql.specs.declared.rows.ItemRow.{ItemRow}
+use Rattle.dip_store_sql.specs.declared.rows.LastLetter.{LastLetter}
+
+abbrev pub game : GameRow → tables.GameRow
+game g = record {
+  name = g.name.now;
+  year = g.year;
+  phase = g.phase;
+  status = g.status.now;
+  due = g.due;
+  period = g.period;
+  grey = number_of g.grey;
+  papers = g.papers;
+  standoff = g.standoff.now;
+}
+
+abbrev pub unit : UnitRow → boards.UnitRow
+unit u = record {
+  game = u.game.now;
+  province = u.province.now;
+  dislodged = number_of u.dislodged;
+  power = u.power.now;
+  kind = u.kind;
+  coast = u.coast.now;
+  origin = u.origin.now;
+}
+
+abbrev pub item : ItemRow → tables.BoxRow
+item b = record {
+  game = b.game.now;
+  power = b.power.now;
+  number = b.number;
+  grey = number_of b.grey;
+  writer = b.writer.now;
+  addressees = b.addressees.now;
+  body = b.body.now;
+}
+
+-- a row with its author's last letter
+abbrev pub desk_kept : LastLetter → tables.DeskRow → tables.DeskRow
+desk_kept l = desk_with l.number l.sum.now l.reply.now
+
+abbrev pub seat_kept : LastLetter → tables.SeatRow → tables.SeatRow
+seat_kept l = seat_with l.number l.sum.now l.reply.now

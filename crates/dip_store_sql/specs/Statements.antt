@@ -1,0 +1,272 @@
+-- The texts of the statements, and the columns that they show or write.
+use Rattle.std.specs.Prelude.{ℕ, pos, List, [], ◌∷◌, codes}
+use Rattle.sqlite.specs.declared.types.Value.TheVariants.{Null, Int, Text, Blob}
+use Rattle.sqlite.specs.Term.{Term, lit, col}
+use Rattle.sqlite.specs.Query.{Query}
+use Rattle.dip_store_sql.specs.Queries.{plain_query}
+use Rattle.dip_store_sql.specs.Asking.{by_one, by_two, by_three, by_first, in_turn}
+
+abbrev pub add_desk_text : List ℕ
+add_desk_text =
+    codes "INSERT INTO desk (id, version, map, digest, last, kept, reply) VALUES (1, 1, ?1, ?2, 0, x'', '')"
+
+abbrev pub add_desk_values : List Term
+add_desk_values =
+    lit Null ∷ lit (Int (pos 1)) ∷ lit (Int (pos 1)) ∷ col 0 0 ∷ col 0 1 ∷ lit (Int (pos 0)) ∷
+    lit (Blob []) ∷ lit (Text []) ∷ []
+
+abbrev pub add_game_text : List ℕ
+add_game_text =
+    codes "INSERT INTO game (name, year, phase, status, due, period, grey, papers, standoff) VALUES (?1, ?2, ?3, ?4, ?5, ?6, ?7, ?8, ?9)"
+
+abbrev pub add_game_values : List Term
+add_game_values =
+    lit Null ∷ col 0 0 ∷ col 0 1 ∷ col 0 2 ∷ col 0 3 ∷ col 0 4 ∷ col 0 5 ∷ col 0 6 ∷ col 0 7 ∷
+    col 0 8 ∷ []
+
+abbrev pub add_seat_text : List ℕ
+add_seat_text =
+    codes "INSERT INTO seat (game, power, digest, vote, last, kept, reply, sent, items) VALUES (?1, ?2, ?3, 0, 0, x'', '', 0, 0)"
+
+abbrev pub add_seat_values : List Term
+add_seat_values =
+    lit Null ∷ col 0 0 ∷ col 0 1 ∷ col 0 2 ∷ lit (Int (pos 0)) ∷ lit (Int (pos 0)) ∷ lit (Blob []) ∷
+    lit (Text []) ∷ lit (Int (pos 0)) ∷ lit (Int (pos 0)) ∷ []
+
+abbrev pub add_unit_text : List ℕ
+add_unit_text =
+    codes "INSERT INTO unit (game, province, dislodged, power, kind, coast, origin) VALUES (?1, ?2, ?3, ?4, ?5, ?6, ?7)"
+
+abbrev pub add_unit_values : List Term
+add_unit_values =
+    lit Null ∷ col 0 0 ∷ col 0 1 ∷ col 0 2 ∷ col 0 3 ∷ col 0 4 ∷ col 0 5 ∷ col 0 6 ∷ []
+
+abbrev pub add_centre_text : List ℕ
+add_centre_text =
+    codes "INSERT INTO centre (game, province, power) VALUES (?1, ?2, ?3)"
+
+abbrev pub add_centre_values : List Term
+add_centre_values = lit Null ∷ col 0 0 ∷ col 0 1 ∷ col 0 2 ∷ []
+
+abbrev pub add_pending_text : List ℕ
+add_pending_text =
+    codes "INSERT INTO pending (game, power, province, line) VALUES (?1, ?2, ?3, ?4)"
+
+abbrev pub add_pending_values : List Term
+add_pending_values = lit Null ∷ col 0 0 ∷ col 0 1 ∷ col 0 2 ∷ col 0 3 ∷ []
+
+abbrev pub add_item_text : List ℕ
+add_item_text =
+    codes "INSERT INTO box (game, power, number, grey, writer, addressees, body) VALUES (?1, ?2, ?3, ?4, ?5, ?6, ?7)"
+
+abbrev pub add_item_values : List Term
+add_item_values =
+    lit Null ∷ col 0 0 ∷ col 0 1 ∷ col 0 2 ∷ col 0 3 ∷ col 0 4 ∷ col 0 5 ∷ col 0 6 ∷ []
+
+abbrev pub add_paper_text : List ℕ
+add_paper_text =
+    codes "INSERT INTO paper (game, number, body) VALUES (?1, ?2, ?3)"
+
+abbrev pub add_paper_values : List Term
+add_paper_values = lit Null ∷ col 0 0 ∷ col 0 1 ∷ col 0 2 ∷ []
+
+abbrev pub drop_seats_text : List ℕ
+drop_seats_text =
+    codes "DELETE FROM seat WHERE game = ?1"
+
+abbrev pub drop_units_text : List ℕ
+drop_units_text =
+    codes "DELETE FROM unit WHERE game = ?1"
+
+abbrev pub drop_centres_text : List ℕ
+drop_centres_text =
+    codes "DELETE FROM centre WHERE game = ?1"
+
+abbrev pub drop_pending_text : List ℕ
+drop_pending_text =
+    codes "DELETE FROM pending WHERE game = ?1"
+
+abbrev pub drop_orders_text : List ℕ
+drop_orders_text =
+    codes "DELETE FROM pending WHERE game = ?1 AND power = ?2"
+
+abbrev pub drop_items_text : List ℕ
+drop_items_text =
+    codes "DELETE FROM box WHERE game = ?1"
+
+abbrev pub drop_papers_text : List ℕ
+drop_papers_text =
+    codes "DELETE FROM paper WHERE game = ?1"
+
+abbrev pub note_desk_text : List ℕ
+note_desk_text =
+    codes "UPDATE desk SET last = ?1, kept = ?2, reply = ?3 WHERE id = 1"
+
+abbrev pub note_desk_row : List Term
+note_desk_row =
+    col 1 0 ∷ col 1 0 ∷ col 1 1 ∷ col 1 2 ∷ col 1 3 ∷ col 1 4 ∷ col 0 0 ∷ col 0 1 ∷ col 0 2 ∷ []
+
+abbrev pub note_seat_text : List ℕ
+note_seat_text =
+    codes "UPDATE seat SET last = ?3, kept = ?4, reply = ?5 WHERE game = ?1 AND power = ?2"
+
+abbrev pub note_seat_row : List Term
+note_seat_row =
+    col 1 0 ∷ col 1 0 ∷ col 1 1 ∷ col 1 2 ∷ col 1 3 ∷ col 1 4 ∷ col 0 2 ∷ col 0 3 ∷ col 0 4 ∷
+    col 1 8 ∷ col 1 9 ∷ []
+
+abbrev pub note_vote_text : List ℕ
+note_vote_text =
+    codes "UPDATE seat SET vote = ?3, last = ?4, kept = ?5, reply = ?6 WHERE game = ?1 AND power = ?2"
+
+abbrev pub note_vote_row : List Term
+note_vote_row =
+    col 1 0 ∷ col 1 0 ∷ col 1 1 ∷ col 1 2 ∷ col 1 3 ∷ col 0 2 ∷ col 0 3 ∷ col 0 4 ∷ col 0 5 ∷
+    col 1 8 ∷ col 1 9 ∷ []
+
+abbrev pub note_sent_text : List ℕ
+note_sent_text =
+    codes "UPDATE seat SET last = ?3, kept = ?4, reply = ?5, sent = ?6 WHERE game = ?1 AND power = ?2"
+
+abbrev pub note_sent_row : List Term
+note_sent_row =
+    col 1 0 ∷ col 1 0 ∷ col 1 1 ∷ col 1 2 ∷ col 1 3 ∷ col 1 4 ∷ col 0 2 ∷ col 0 3 ∷ col 0 4 ∷
+    col 0 5 ∷ col 1 9 ∷ []
+
+abbrev pub count_item_text : List ℕ
+count_item_text =
+    codes "UPDATE seat SET items = ?3 WHERE game = ?1 AND power = ?2"
+
+abbrev pub count_item_row : List Term
+count_item_row =
+    col 1 0 ∷ col 1 0 ∷ col 1 1 ∷ col 1 2 ∷ col 1 3 ∷ col 1 4 ∷ col 1 5 ∷ col 1 6 ∷ col 1 7 ∷
+    col 1 8 ∷ col 0 2 ∷ []
+
+abbrev pub replace_digest_text : List ℕ
+replace_digest_text =
+    codes "UPDATE seat SET digest = ?3 WHERE game = ?1 AND power = ?2"
+
+abbrev pub replace_digest_row : List Term
+replace_digest_row =
+    col 1 0 ∷ col 1 0 ∷ col 1 1 ∷ col 1 2 ∷ col 0 2 ∷ col 1 4 ∷ col 1 5 ∷ col 1 6 ∷ col 1 7 ∷
+    col 1 8 ∷ col 1 9 ∷ []
+
+abbrev pub renew_game_text : List ℕ
+renew_game_text =
+    codes "UPDATE game SET year = ?2, phase = ?3, status = ?4, due = ?5, period = ?6, grey = ?7, papers = ?8, standoff = ?9 WHERE name = ?1"
+
+abbrev pub renew_game_row : List Term
+renew_game_row =
+    col 1 0 ∷ col 1 0 ∷ col 1 1 ∷ col 0 1 ∷ col 0 2 ∷ col 0 3 ∷ col 0 4 ∷ col 0 5 ∷ col 0 6 ∷
+    col 0 7 ∷ col 0 8 ∷ []
+
+abbrev pub find_desk_text : List ℕ
+find_desk_text =
+    codes "SELECT version, map, digest, last, kept, reply FROM desk WHERE id = 1"
+
+abbrev pub find_desk_shown : List Term
+find_desk_shown = col 1 2 ∷ col 1 3 ∷ col 1 4 ∷ col 1 5 ∷ col 1 6 ∷ col 1 7 ∷ []
+
+abbrev pub find_desk_query : Query
+find_desk_query = plain_query 0 by_first find_desk_shown []
+
+abbrev pub find_game_text : List ℕ
+find_game_text =
+    codes "SELECT year, phase, status, due, period, grey, papers, standoff FROM game WHERE name = ?1"
+
+abbrev pub find_game_shown : List Term
+find_game_shown = col 1 2 ∷ col 1 3 ∷ col 1 4 ∷ col 1 5 ∷ col 1 6 ∷ col 1 7 ∷ col 1 8 ∷ col 1 9 ∷ []
+
+abbrev pub find_game_query : Query
+find_game_query = plain_query 2 by_one find_game_shown []
+
+abbrev pub count_papers_text : List ℕ
+count_papers_text =
+    codes "SELECT papers FROM game WHERE name = ?1"
+
+abbrev pub count_papers_shown : List Term
+count_papers_shown = col 1 8 ∷ []
+
+abbrev pub count_papers_query : Query
+count_papers_query = plain_query 2 by_one count_papers_shown []
+
+abbrev pub find_seat_text : List ℕ
+find_seat_text =
+    codes "SELECT digest, vote, last, kept, reply, sent, items FROM seat WHERE game = ?1 AND power = ?2"
+
+abbrev pub find_seat_shown : List Term
+find_seat_shown = col 1 3 ∷ col 1 4 ∷ col 1 5 ∷ col 1 6 ∷ col 1 7 ∷ col 1 8 ∷ col 1 9 ∷ []
+
+abbrev pub find_seat_query : Query
+find_seat_query = plain_query 4 by_two find_seat_shown []
+
+abbrev pub count_sent_text : List ℕ
+count_sent_text =
+    codes "SELECT sent FROM seat WHERE game = ?1 AND power = ?2"
+
+abbrev pub count_sent_shown : List Term
+count_sent_shown = col 1 8 ∷ []
+
+abbrev pub count_sent_query : Query
+count_sent_query = plain_query 4 by_two count_sent_shown []
+
+abbrev pub find_item_text : List ℕ
+find_item_text =
+    codes "SELECT grey, writer, addressees, body FROM box WHERE game = ?1 AND power = ?2 AND number = ?3"
+
+abbrev pub find_item_shown : List Term
+find_item_shown = col 1 4 ∷ col 1 5 ∷ col 1 6 ∷ col 1 7 ∷ []
+
+abbrev pub find_item_query : Query
+find_item_query = plain_query 12 by_three find_item_shown []
+
+abbrev pub find_paper_text : List ℕ
+find_paper_text =
+    codes "SELECT body FROM paper WHERE game = ?1 AND number = ?2"
+
+abbrev pub find_paper_shown : List Term
+find_paper_shown = col 1 3 ∷ []
+
+abbrev pub find_paper_query : Query
+find_paper_query = plain_query 14 by_two find_paper_shown []
+
+abbrev pub list_seats_text : List ℕ
+list_seats_text =
+    codes "SELECT power, digest, vote, last, kept, reply, sent, items FROM seat WHERE game = ?1 ORDER BY rowid"
+
+abbrev pub list_seats_shown : List Term
+list_seats_shown =
+    col 1 2 ∷ col 1 3 ∷ col 1 4 ∷ col 1 5 ∷ col 1 6 ∷ col 1 7 ∷ col 1 8 ∷ col 1 9 ∷ []
+
+abbrev pub list_seats_query : Query
+list_seats_query = plain_query 4 by_one list_seats_shown in_turn
+
+abbrev pub list_units_text : List ℕ
+list_units_text =
+    codes "SELECT province, dislodged, power, kind, coast, origin FROM unit WHERE game = ?1 ORDER BY rowid"
+
+abbrev pub list_units_shown : List Term
+list_units_shown = col 1 2 ∷ col 1 3 ∷ col 1 4 ∷ col 1 5 ∷ col 1 6 ∷ col 1 7 ∷ []
+
+abbrev pub list_units_query : Query
+list_units_query = plain_query 6 by_one list_units_shown in_turn
+
+abbrev pub list_centres_text : List ℕ
+list_centres_text =
+    codes "SELECT province, power FROM centre WHERE game = ?1 ORDER BY rowid"
+
+abbrev pub list_centres_shown : List Term
+list_centres_shown = col 1 2 ∷ col 1 3 ∷ []
+
+abbrev pub list_centres_query : Query
+list_centres_query = plain_query 8 by_one list_centres_shown in_turn
+
+abbrev pub list_orders_text : List ℕ
+list_orders_text =
+    codes "SELECT province, line FROM pending WHERE game = ?1 AND power = ?2 ORDER BY rowid"
+
+abbrev pub list_orders_shown : List Term
+list_orders_shown = col 1 3 ∷ col 1 4 ∷ []
+
+abbrev pub list_orders_query : Query
+list_orders_query = plain_query 10 by_two list_orders_shown in_turn

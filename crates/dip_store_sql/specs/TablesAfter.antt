@@ -1,0 +1,121 @@
+-- What the statements make of the tables.
+use Rattle.std.specs.Prelude.{ℕ, ◌==◌, Bool, List, [], ◌∷◌, ◌++◌}
+use Rattle.sqlite_keyed.specs.Lists.{update_where, delete_where}
+use Rattle.dip_store_tables.specs.Boards.{UnitRow, CentreRow}
+use Rattle.dip_store_tables.specs.Tables.{DeskRow, GameRow, SeatRow, PendingRow, BoxRow, PaperRow, Tables, is_seat_in, is_unit_in, is_centre_in, is_pending_in, is_box_in, is_paper_in, is_named, is_seat, is_pending}
+
+-- a record behind the others
+abbrev pub with_desk : DeskRow → Tables → Tables
+with_desk d t = record t { desk = t.desk ++ d ∷ [] }
+
+abbrev pub with_game : GameRow → Tables → Tables
+with_game g t = record t { games = t.games ++ g ∷ [] }
+
+abbrev pub with_seat : SeatRow → Tables → Tables
+with_seat s t = record t { seats = t.seats ++ s ∷ [] }
+
+abbrev pub with_unit : UnitRow → Tables → Tables
+with_unit u t = record t { units = t.units ++ u ∷ [] }
+
+abbrev pub with_centre : CentreRow → Tables → Tables
+with_centre c t = record t { centres = t.centres ++ c ∷ [] }
+
+abbrev pub with_order : PendingRow → Tables → Tables
+with_order p t = record t { pending = t.pending ++ p ∷ [] }
+
+abbrev pub with_item : BoxRow → Tables → Tables
+with_item b t = record t { boxes = t.boxes ++ b ∷ [] }
+
+abbrev pub with_paper : PaperRow → Tables → Tables
+with_paper p t = record t { papers = t.papers ++ p ∷ [] }
+
+-- none of a game, or of a seat
+abbrev pub no_seats : List ℕ → Tables → Tables
+no_seats game t = record t { seats = delete_where (is_seat_in game) t.seats }
+
+abbrev pub no_units : List ℕ → Tables → Tables
+no_units game t = record t { units = delete_where (is_unit_in game) t.units }
+
+abbrev pub no_centres : List ℕ → Tables → Tables
+no_centres game t = record t { centres = delete_where (is_centre_in game) t.centres }
+
+abbrev pub no_pending : List ℕ → Tables → Tables
+no_pending game t = record t { pending = delete_where (is_pending_in game) t.pending }
+
+abbrev pub no_orders : List ℕ → List ℕ → Tables → Tables
+no_orders game power t =
+    record t { pending = delete_where (is_pending game power) t.pending }
+
+abbrev pub no_items : List ℕ → Tables → Tables
+no_items game t = record t { boxes = delete_where (is_box_in game) t.boxes }
+
+abbrev pub no_papers : List ℕ → Tables → Tables
+no_papers game t = record t { papers = delete_where (is_paper_in game) t.papers }
+
+-- one record written anew
+abbrev pub is_first : DeskRow → Bool
+is_first d = d.id == 1
+
+abbrev pub on_desk : (DeskRow → DeskRow) → Tables → Tables
+on_desk f t = record t { desk = update_where is_first f t.desk }
+
+abbrev pub on_game : List ℕ → (GameRow → GameRow) → Tables → Tables
+on_game name f t = record t { games = update_where (is_named name) f t.games }
+
+abbrev pub on_seat : List ℕ → List ℕ → (SeatRow → SeatRow) → Tables → Tables
+on_seat game power f t = record t { seats = update_where (is_seat game power) f t.seats }
+
+-- tables without a row
+abbrev pub no_tables : Tables
+no_tables = record {
+  desk = [];
+  games = [];
+  seats = [];
+  units = [];
+  centres = [];
+  pending = [];
+  boxes = [];
+  papers = [];
+}
+
+-- the master's row of a new desk, of version 1
+abbrev pub new_desk : List ℕ → List ℕ → DeskRow
+new_desk map digest =
+    record { id = 1; version = 1; map = map; digest = digest; last = 0; kept = []; reply = [] }
+
+-- a seat that nobody has used yet
+abbrev pub new_seat : List ℕ → List ℕ → List ℕ → SeatRow
+new_seat game power digest = record {
+  game = game;
+  power = power;
+  digest = digest;
+  vote = 0;
+  last = 0;
+  kept = [];
+  reply = [];
+  sent = 0;
+  items = 0;
+}
+
+-- with its author's last letter: its number, the sum of its bytes, and its reply
+abbrev pub desk_with : ℕ → List ℕ → List ℕ → DeskRow → DeskRow
+desk_with last kept reply d = record d { last = last; kept = kept; reply = reply }
+
+abbrev pub seat_with : ℕ → List ℕ → List ℕ → SeatRow → SeatRow
+seat_with last kept reply s = record s { last = last; kept = kept; reply = reply }
+
+abbrev pub voting : ℕ → SeatRow → SeatRow
+voting vote s = record s { vote = vote }
+
+abbrev pub sending : ℕ → SeatRow → SeatRow
+sending sent s = record s { sent = sent }
+
+abbrev pub counting : ℕ → SeatRow → SeatRow
+counting items s = record s { items = items }
+
+abbrev pub secret_as : List ℕ → SeatRow → SeatRow
+secret_as digest s = record s { digest = digest }
+
+-- all but the name is that of another row
+abbrev pub game_as : GameRow → GameRow → GameRow
+game_as new g = record new { name = g.name }

@@ -1,0 +1,26 @@
+-- Parts of a transaction that fail for want alone.
+use Rattle.std.specs.Prelude.{◌≡◌, IsTrue, None, Result, OnOk, IfErr}
+use Rattle.sqlite.specs.declared.error.Error.{Error}
+use Rattle.sqlite.specs.State.{State, HasCleanDisk}
+use Rattle.dip_store_tables.specs.Tables.{Tables}
+use Rattle.dip_store_sql.specs.Causes.{Faulted}
+use Rattle.dip_store_sql.specs.Good.{IsGood}
+use Rattle.dip_store_sql.specs.Rows.{tables_of}
+use Rattle.dip_store_sql.specs.Refusals.{IsWant}
+
+-- a transaction is open on tables that a desk wrote, without a limit on steps
+pub record IsReady (s : State) : Type 0 where
+  pub inside : IsTrue s.in_transaction
+  pub up : IsTrue s.is_open
+  pub unlimited : s.step_limit ≡ None
+  pub good : IsGood s.now
+
+-- whatever the tables are
+abbrev pub always : Tables → Type 0
+always t = Unit {0}
+
+-- where the tables allow it the part fails for want alone, and where it goes well the transaction goes on
+pub record Wants {X : Type 0} (Allow : Tables → Type 0) (old new : State) (r : Result X Error)
+    : Type 0 where
+  pub ready : HasCleanDisk new → IsReady old → OnOk r (IsReady new)
+  pub fails : HasCleanDisk new → IsReady old → Allow (tables_of old.now.trees) → IfErr r (IsWant (Faulted old new))

@@ -1,0 +1,186 @@
+//! Rows behind the others of their tables.
+ghost use Rattle.std.specs.Prelude.{◌≡◌, ◌<◌, ◌^◌};
+ghost use Rattle.sqlite.specs.Held.{state};
+ghost use Rattle.dip_store_tables.specs.Coding.{same_name, same_seat};
+ghost use Rattle.dip_store_sql.specs.Calls.{Writes};
+ghost use Rattle.dip_store_sql.specs.TablesAfter.{new_desk, new_seat, with_centre, with_desk, with_game, with_item, with_order, with_paper, with_seat, with_unit};
+ghost use Rattle.dip_store_sql.specs.Keys.{Differ, same_centre, same_desk, same_item, same_order, same_paper, same_unit};
+ghost use Rattle.dip_store_sql.specs.Wants.{Wants};
+ghost use Rattle.dip_store_sql.specs.RowViews as rows;
+
+use crate::rows::{GameRow, ItemRow, UnitRow};
+use crate::ticks::tick_of;
+use sqlite::types::ToSql;
+use sqlite::{Alter, Error, Transaction, params};
+
+/// The master's row of a new desk, of version 1.
+pub fn add_desk<S: Alter>(
+    tx: &mut Transaction<'_, S>,
+    map: &[u8],
+    digest: &[u8],
+) -> Result<usize, Error>
+    ensures same_reference { tx.new.conn.ghost_name ≡ tx.old.conn.ghost_name }
+    ensures writes { Writes (with_desk (new_desk map.now digest.now))
+        (state S.Store tx.old.conn.now) (state S.Store tx.new.conn.now) result }
+    ensures wants { Wants (λ t. Differ same_desk (with_desk (new_desk map.now digest.now) t).desk)
+        (state S.Store tx.old.conn.now) (state S.Store tx.new.conn.now) result }
+{
+    tx.execute(
+        "INSERT INTO desk (id, version, map, digest, last, kept, reply) VALUES (1, 1, ?1, ?2, 0, x'', '')",
+        params![map, digest],
+    )
+}
+
+/// A game behind the others. No other has its name, where that goes well.
+pub fn add_game<S: Alter>(tx: &mut Transaction<'_, S>, game: &GameRow<'_>) -> Result<usize, Error>
+    requires { game.now.due < 2 ^ 63 }
+    ensures same_reference { tx.new.conn.ghost_name ≡ tx.old.conn.ghost_name }
+    ensures writes { Writes (with_game (rows.game game.now))
+        (state S.Store tx.old.conn.now) (state S.Store tx.new.conn.now) result }
+    ensures wants { Wants (λ t. Differ same_name (with_game (rows.game game.now) t).games)
+        (state S.Store tx.old.conn.now) (state S.Store tx.new.conn.now) result }
+{
+    tx.execute(
+        "INSERT INTO game (name, year, phase, status, due, period, grey, papers, standoff) VALUES (?1, ?2, ?3, ?4, ?5, ?6, ?7, ?8, ?9)",
+        &[
+            ToSql::to_sql(game.name),
+            ToSql::to_sql(game.year),
+            ToSql::to_sql(game.phase),
+            ToSql::to_sql(game.status),
+            tick_of(game.due),
+            ToSql::to_sql(game.period),
+            ToSql::to_sql(game.grey),
+            ToSql::to_sql(game.papers),
+            ToSql::to_sql(game.standoff),
+        ],
+    )
+}
+
+/// A seat that nobody has used yet.
+pub fn add_seat<S: Alter>(
+    tx: &mut Transaction<'_, S>,
+    game: &str,
+    power: &str,
+    digest: &[u8],
+) -> Result<usize, Error>
+    ensures same_reference { tx.new.conn.ghost_name ≡ tx.old.conn.ghost_name }
+    ensures writes { Writes (with_seat (new_seat game.now power.now digest.now))
+        (state S.Store tx.old.conn.now) (state S.Store tx.new.conn.now) result }
+    ensures wants { Wants (λ t. Differ same_seat (with_seat
+        (new_seat game.now power.now digest.now) t).seats)
+        (state S.Store tx.old.conn.now) (state S.Store tx.new.conn.now) result }
+{
+    tx.execute(
+        "INSERT INTO seat (game, power, digest, vote, last, kept, reply, sent, items) VALUES (?1, ?2, ?3, 0, 0, x'', '', 0, 0)",
+        params![game, power, digest],
+    )
+}
+
+/// A unit of a game's board.
+pub fn add_unit<S: Alter>(tx: &mut Transaction<'_, S>, unit: &UnitRow<'_>) -> Result<usize, Error>
+    ensures same_reference { tx.new.conn.ghost_name ≡ tx.old.conn.ghost_name }
+    ensures writes { Writes (with_unit (rows.unit unit.now))
+        (state S.Store tx.old.conn.now) (state S.Store tx.new.conn.now) result }
+    ensures wants { Wants (λ t. Differ same_unit (with_unit (rows.unit unit.now) t).units)
+        (state S.Store tx.old.conn.now) (state S.Store tx.new.conn.now) result }
+{
+    tx.execute(
+        "INSERT INTO unit (game, province, dislodged, power, kind, coast, origin) VALUES (?1, ?2, ?3, ?4, ?5, ?6, ?7)",
+        params![
+            unit.game,
+            unit.province,
+            unit.dislodged,
+            unit.power,
+            unit.kind,
+            unit.coast,
+            unit.origin
+        ],
+    )
+}
+
+/// A centre with its owner.
+pub fn add_centre<S: Alter>(
+    tx: &mut Transaction<'_, S>,
+    game: &str,
+    province: &str,
+    power: &str,
+) -> Result<usize, Error>
+    ensures same_reference { tx.new.conn.ghost_name ≡ tx.old.conn.ghost_name }
+    ensures writes { Writes (with_centre
+        (record { game = game.now; province = province.now; power = power.now }))
+        (state S.Store tx.old.conn.now) (state S.Store tx.new.conn.now) result }
+    ensures wants { Wants (λ t. Differ same_centre (with_centre
+        (record { game = game.now; province = province.now; power = power.now }) t).centres)
+        (state S.Store tx.old.conn.now) (state S.Store tx.new.conn.now) result }
+{
+    tx.execute(
+        "INSERT INTO centre (game, province, power) VALUES (?1, ?2, ?3)",
+        params![game, province, power],
+    )
+}
+
+/// A standing order of a seat.
+pub fn add_pending<S: Alter>(
+    tx: &mut Transaction<'_, S>,
+    game: &str,
+    power: &str,
+    province: &str,
+    line: &str,
+) -> Result<usize, Error>
+    ensures same_reference { tx.new.conn.ghost_name ≡ tx.old.conn.ghost_name }
+    ensures writes { Writes (with_order
+        (record { game = game.now; power = power.now; province = province.now; line = line.now }))
+        (state S.Store tx.old.conn.now) (state S.Store tx.new.conn.now) result }
+    ensures wants { Wants (λ t. Differ same_order (with_order (record
+        { game = game.now; power = power.now; province = province.now; line = line.now })
+        t).pending)
+        (state S.Store tx.old.conn.now) (state S.Store tx.new.conn.now) result }
+{
+    tx.execute(
+        "INSERT INTO pending (game, power, province, line) VALUES (?1, ?2, ?3, ?4)",
+        params![game, power, province, line],
+    )
+}
+
+/// An item of a seat's inbox.
+pub fn add_item<S: Alter>(tx: &mut Transaction<'_, S>, item: &ItemRow<'_>) -> Result<usize, Error>
+    ensures same_reference { tx.new.conn.ghost_name ≡ tx.old.conn.ghost_name }
+    ensures writes { Writes (with_item (rows.item item.now))
+        (state S.Store tx.old.conn.now) (state S.Store tx.new.conn.now) result }
+    ensures wants { Wants (λ t. Differ same_item (with_item (rows.item item.now) t).boxes)
+        (state S.Store tx.old.conn.now) (state S.Store tx.new.conn.now) result }
+{
+    tx.execute(
+        "INSERT INTO box (game, power, number, grey, writer, addressees, body) VALUES (?1, ?2, ?3, ?4, ?5, ?6, ?7)",
+        params![
+            item.game,
+            item.power,
+            item.number,
+            item.grey,
+            item.writer,
+            item.addressees,
+            item.body
+        ],
+    )
+}
+
+/// A paper of a game.
+pub fn add_paper<S: Alter>(
+    tx: &mut Transaction<'_, S>,
+    game: &str,
+    number: u32,
+    body: &str,
+) -> Result<usize, Error>
+    ensures same_reference { tx.new.conn.ghost_name ≡ tx.old.conn.ghost_name }
+    ensures writes { Writes (with_paper
+        (record { game = game.now; number = number; body = body.now }))
+        (state S.Store tx.old.conn.now) (state S.Store tx.new.conn.now) result }
+    ensures wants { Wants (λ t. Differ same_paper (with_paper
+        (record { game = game.now; number = number; body = body.now }) t).papers)
+        (state S.Store tx.old.conn.now) (state S.Store tx.new.conn.now) result }
+{
+    tx.execute(
+        "INSERT INTO paper (game, number, body) VALUES (?1, ?2, ?3)",
+        params![game, number, body],
+    )
+}

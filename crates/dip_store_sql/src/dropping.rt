@@ -1,0 +1,92 @@
+//! No rows of a game, or of a seat.
+ghost use Rattle.std.specs.Prelude.{◌≡◌};
+ghost use Rattle.sqlite.specs.Held.{state};
+ghost use Rattle.dip_store_sql.specs.Calls.{Writes};
+ghost use Rattle.dip_store_sql.specs.TablesAfter.{no_centres, no_items, no_orders, no_papers, no_pending, no_seats, no_units};
+ghost use Rattle.dip_store_sql.specs.Wants.{Wants, always};
+
+use sqlite::{Alter, Error, Transaction, params};
+
+/// No seat of the game.
+pub fn drop_seats<S: Alter>(tx: &mut Transaction<'_, S>, game: &str) -> Result<usize, Error>
+    ensures same_reference { tx.new.conn.ghost_name ≡ tx.old.conn.ghost_name }
+    ensures writes { Writes (no_seats game.now)
+        (state S.Store tx.old.conn.now) (state S.Store tx.new.conn.now) result }
+    ensures wants { Wants always
+        (state S.Store tx.old.conn.now) (state S.Store tx.new.conn.now) result }
+{
+    tx.execute("DELETE FROM seat WHERE game = ?1", params![game])
+}
+
+/// No unit of the game.
+pub fn drop_units<S: Alter>(tx: &mut Transaction<'_, S>, game: &str) -> Result<usize, Error>
+    ensures same_reference { tx.new.conn.ghost_name ≡ tx.old.conn.ghost_name }
+    ensures writes { Writes (no_units game.now)
+        (state S.Store tx.old.conn.now) (state S.Store tx.new.conn.now) result }
+    ensures wants { Wants always
+        (state S.Store tx.old.conn.now) (state S.Store tx.new.conn.now) result }
+{
+    tx.execute("DELETE FROM unit WHERE game = ?1", params![game])
+}
+
+/// No owner of a centre in the game.
+pub fn drop_centres<S: Alter>(tx: &mut Transaction<'_, S>, game: &str) -> Result<usize, Error>
+    ensures same_reference { tx.new.conn.ghost_name ≡ tx.old.conn.ghost_name }
+    ensures writes { Writes (no_centres game.now)
+        (state S.Store tx.old.conn.now) (state S.Store tx.new.conn.now) result }
+    ensures wants { Wants always
+        (state S.Store tx.old.conn.now) (state S.Store tx.new.conn.now) result }
+{
+    tx.execute("DELETE FROM centre WHERE game = ?1", params![game])
+}
+
+/// No standing order in the game.
+pub fn drop_pending<S: Alter>(tx: &mut Transaction<'_, S>, game: &str) -> Result<usize, Error>
+    ensures same_reference { tx.new.conn.ghost_name ≡ tx.old.conn.ghost_name }
+    ensures writes { Writes (no_pending game.now)
+        (state S.Store tx.old.conn.now) (state S.Store tx.new.conn.now) result }
+    ensures wants { Wants always
+        (state S.Store tx.old.conn.now) (state S.Store tx.new.conn.now) result }
+{
+    tx.execute("DELETE FROM pending WHERE game = ?1", params![game])
+}
+
+/// No standing order of the seat.
+pub fn drop_orders<S: Alter>(
+    tx: &mut Transaction<'_, S>,
+    game: &str,
+    power: &str,
+) -> Result<usize, Error>
+    ensures same_reference { tx.new.conn.ghost_name ≡ tx.old.conn.ghost_name }
+    ensures writes { Writes (no_orders game.now power.now)
+        (state S.Store tx.old.conn.now) (state S.Store tx.new.conn.now) result }
+    ensures wants { Wants always
+        (state S.Store tx.old.conn.now) (state S.Store tx.new.conn.now) result }
+{
+    tx.execute(
+        "DELETE FROM pending WHERE game = ?1 AND power = ?2",
+        params![game, power],
+    )
+}
+
+/// No item of an inbox in the game.
+pub fn drop_items<S: Alter>(tx: &mut Transaction<'_, S>, game: &str) -> Result<usize, Error>
+    ensures same_reference { tx.new.conn.ghost_name ≡ tx.old.conn.ghost_name }
+    ensures writes { Writes (no_items game.now)
+        (state S.Store tx.old.conn.now) (state S.Store tx.new.conn.now) result }
+    ensures wants { Wants always
+        (state S.Store tx.old.conn.now) (state S.Store tx.new.conn.now) result }
+{
+    tx.execute("DELETE FROM box WHERE game = ?1", params![game])
+}
+
+/// No paper of the game.
+pub fn drop_papers<S: Alter>(tx: &mut Transaction<'_, S>, game: &str) -> Result<usize, Error>
+    ensures same_reference { tx.new.conn.ghost_name ≡ tx.old.conn.ghost_name }
+    ensures writes { Writes (no_papers game.now)
+        (state S.Store tx.old.conn.now) (state S.Store tx.new.conn.now) result }
+    ensures wants { Wants always
+        (state S.Store tx.old.conn.now) (state S.Store tx.new.conn.now) result }
+{
+    tx.execute("DELETE FROM paper WHERE game = ?1", params![game])
+}

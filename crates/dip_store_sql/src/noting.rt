@@ -1,0 +1,154 @@
+//! One row written anew.
+ghost use Rattle.std.specs.Prelude.{◌≡◌, ◌<◌, ◌^◌};
+ghost use Rattle.sqlite.specs.Held.{state};
+ghost use Rattle.dip_store_sql.specs.Calls.{Writes};
+ghost use Rattle.dip_store_sql.specs.TablesAfter.{counting, game_as, on_desk, on_game, on_seat, secret_as, sending, voting};
+ghost use Rattle.dip_store_sql.specs.Wants.{Wants, always};
+ghost use Rattle.dip_store_tables.specs.Writing.{number_of};
+ghost use Rattle.dip_store_sql.specs.RowViews as rows;
+
+use crate::rows::{GameRow, LastLetter};
+use crate::ticks::tick_of;
+use sqlite::types::ToSql;
+use sqlite::{Alter, Error, Transaction, params};
+
+/// The master's last letter.
+pub fn note_desk<S: Alter>(
+    tx: &mut Transaction<'_, S>,
+    letter: &LastLetter<'_>,
+) -> Result<usize, Error>
+    ensures same_reference { tx.new.conn.ghost_name ≡ tx.old.conn.ghost_name }
+    ensures writes { Writes (on_desk (rows.desk_kept letter.now))
+        (state S.Store tx.old.conn.now) (state S.Store tx.new.conn.now) result }
+    ensures wants { Wants always
+        (state S.Store tx.old.conn.now) (state S.Store tx.new.conn.now) result }
+{
+    tx.execute(
+        "UPDATE desk SET last = ?1, kept = ?2, reply = ?3 WHERE id = 1",
+        params![letter.number, letter.sum, letter.reply],
+    )
+}
+
+/// The seat's last letter.
+pub fn note_seat<S: Alter>(
+    tx: &mut Transaction<'_, S>,
+    game: &str,
+    power: &str,
+    letter: &LastLetter<'_>,
+) -> Result<usize, Error>
+    ensures same_reference { tx.new.conn.ghost_name ≡ tx.old.conn.ghost_name }
+    ensures writes { Writes (on_seat game.now power.now (rows.seat_kept letter.now))
+        (state S.Store tx.old.conn.now) (state S.Store tx.new.conn.now) result }
+    ensures wants { Wants always
+        (state S.Store tx.old.conn.now) (state S.Store tx.new.conn.now) result }
+{
+    tx.execute(
+        "UPDATE seat SET last = ?3, kept = ?4, reply = ?5 WHERE game = ?1 AND power = ?2",
+        params![game, power, letter.number, letter.sum, letter.reply],
+    )
+}
+
+/// The seat's vote, and its last letter.
+pub fn note_vote<S: Alter>(
+    tx: &mut Transaction<'_, S>,
+    game: &str,
+    power: &str,
+    vote: bool,
+    letter: &LastLetter<'_>,
+) -> Result<usize, Error>
+    ensures same_reference { tx.new.conn.ghost_name ≡ tx.old.conn.ghost_name }
+    ensures writes { Writes (on_seat game.now power.now
+        (λ s. voting (number_of vote) (rows.seat_kept letter.now s)))
+        (state S.Store tx.old.conn.now) (state S.Store tx.new.conn.now) result }
+    ensures wants { Wants always
+        (state S.Store tx.old.conn.now) (state S.Store tx.new.conn.now) result }
+{
+    tx.execute(
+        "UPDATE seat SET vote = ?3, last = ?4, kept = ?5, reply = ?6 WHERE game = ?1 AND power = ?2",
+        params![game, power, vote, letter.number, letter.sum, letter.reply],
+    )
+}
+
+/// How many press letters the seat has sent, and its last letter.
+pub fn note_sent<S: Alter>(
+    tx: &mut Transaction<'_, S>,
+    game: &str,
+    power: &str,
+    letter: &LastLetter<'_>,
+    sent: u32,
+) -> Result<usize, Error>
+    ensures same_reference { tx.new.conn.ghost_name ≡ tx.old.conn.ghost_name }
+    ensures writes { Writes (on_seat game.now power.now
+        (λ s. sending sent (rows.seat_kept letter.now s)))
+        (state S.Store tx.old.conn.now) (state S.Store tx.new.conn.now) result }
+    ensures wants { Wants always
+        (state S.Store tx.old.conn.now) (state S.Store tx.new.conn.now) result }
+{
+    tx.execute(
+        "UPDATE seat SET last = ?3, kept = ?4, reply = ?5, sent = ?6 WHERE game = ?1 AND power = ?2",
+        params![game, power, letter.number, letter.sum, letter.reply, sent],
+    )
+}
+
+/// How many items the seat's inbox has.
+pub fn count_item<S: Alter>(
+    tx: &mut Transaction<'_, S>,
+    game: &str,
+    power: &str,
+    items: u32,
+) -> Result<usize, Error>
+    ensures same_reference { tx.new.conn.ghost_name ≡ tx.old.conn.ghost_name }
+    ensures writes { Writes (on_seat game.now power.now (counting items))
+        (state S.Store tx.old.conn.now) (state S.Store tx.new.conn.now) result }
+    ensures wants { Wants always
+        (state S.Store tx.old.conn.now) (state S.Store tx.new.conn.now) result }
+{
+    tx.execute(
+        "UPDATE seat SET items = ?3 WHERE game = ?1 AND power = ?2",
+        params![game, power, items],
+    )
+}
+
+/// The digest of the seat's secret.
+pub fn replace_digest<S: Alter>(
+    tx: &mut Transaction<'_, S>,
+    game: &str,
+    power: &str,
+    digest: &[u8],
+) -> Result<usize, Error>
+    ensures same_reference { tx.new.conn.ghost_name ≡ tx.old.conn.ghost_name }
+    ensures writes { Writes (on_seat game.now power.now (secret_as digest.now))
+        (state S.Store tx.old.conn.now) (state S.Store tx.new.conn.now) result }
+    ensures wants { Wants always
+        (state S.Store tx.old.conn.now) (state S.Store tx.new.conn.now) result }
+{
+    tx.execute(
+        "UPDATE seat SET digest = ?3 WHERE game = ?1 AND power = ?2",
+        params![game, power, digest],
+    )
+}
+
+/// All but the name of the game of that name.
+pub fn renew_game<S: Alter>(tx: &mut Transaction<'_, S>, game: &GameRow<'_>) -> Result<usize, Error>
+    requires { game.now.due < 2 ^ 63 }
+    ensures same_reference { tx.new.conn.ghost_name ≡ tx.old.conn.ghost_name }
+    ensures writes { Writes (on_game game.now.name.now (game_as (rows.game game.now)))
+        (state S.Store tx.old.conn.now) (state S.Store tx.new.conn.now) result }
+    ensures wants { Wants always
+        (state S.Store tx.old.conn.now) (state S.Store tx.new.conn.now) result }
+{
+    tx.execute(
+        "UPDATE game SET year = ?2, phase = ?3, status = ?4, due = ?5, period = ?6, grey = ?7, papers = ?8, standoff = ?9 WHERE name = ?1",
+        &[
+            ToSql::to_sql(game.name),
+            ToSql::to_sql(game.year),
+            ToSql::to_sql(game.phase),
+            ToSql::to_sql(game.status),
+            tick_of(game.due),
+            ToSql::to_sql(game.period),
+            ToSql::to_sql(game.grey),
+            ToSql::to_sql(game.papers),
+            ToSql::to_sql(game.standoff),
+        ],
+    )
+}

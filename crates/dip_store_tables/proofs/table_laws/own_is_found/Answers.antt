@@ -1,0 +1,5 @@
+use Rattle.dip_store_tables.proofs.Found as found
+use Rattle.dip_store_tables.proofs.table_laws.own_is_found.Goals as goal
+
+pub returns : goal.returns
+returns g m ok = found.own_is_found m ok

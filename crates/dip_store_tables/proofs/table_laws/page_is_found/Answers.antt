@@ -1,0 +1,5 @@
+use Rattle.dip_store_tables.proofs.Pages as pages
+use Rattle.dip_store_tables.proofs.table_laws.page_is_found.Goals as goal
+
+pub returns : goal.returns
+returns g m = pages.page_is_found m

@@ -1,0 +1,31 @@
+-- Rows that are numbered from 1: the papers of a game, and the items of an inbox.
+use Rattle.std.specs.Prelude.{◌≡◌, ℕ, zero, suc, ◌+◌, true, List, [], ◌∷◌, ◌++◌, map, filter}
+use Rattle.std.specs.List.{AllByRecursion}
+use Rattle.dip_desk_state.specs.State.{Effect, Nothing, Pending, Votes, Delivers, Opens, Publishes, Seats}
+use Rattle.dip_store_tables.specs.Tables.{GameRow, BoxRow, PaperRow, Tables, is_named, is_box, is_paper_in}
+
+-- the numbers from 1 to this one
+abbrev pub counted : ℕ → List ℕ
+counted zero = []
+counted (suc n) = counted n ++ suc n ∷ []
+
+abbrev pub paper_numbers : List PaperRow → List ℕ → List ℕ
+paper_numbers papers name = map (λ p. p.number) (filter (is_paper_in name) papers)
+
+abbrev pub item_numbers : List BoxRow → List ℕ → List ℕ → List ℕ
+item_numbers boxes name power = map (λ b. b.number) (filter (is_box name power) boxes)
+
+-- each game's papers have the numbers from 1 to their count, in this order, and so have each seat's items
+pub record AreCounted (t : Tables) : Type 0 where
+  pub papers : AllByRecursion (λ g. paper_numbers t.papers g.name ≡ counted g.papers) t.games
+  pub items : AllByRecursion (λ s. item_numbers t.boxes s.game s.power ≡ counted s.items) t.seats
+
+-- a paper that an effect makes has the next number of its game
+abbrev pub CountsOn : List ℕ → Effect → List GameRow → Type 0
+CountsOn name Nothing games = Unit {0}
+CountsOn name (Pending orders) games = Unit {0}
+CountsOn name (Votes draw) games = Unit {0}
+CountsOn name (Delivers readers item) games = Unit {0}
+CountsOn name (Opens public paper seats) games = public.papers ≡ 1
+CountsOn name (Publishes public paper played) games = AllByRecursion (λ g. is_named name g ≡ true → public.papers ≡ g.papers + 1) games
+CountsOn name (Seats seat) games = Unit {0}

@@ -1,5 +1,0 @@
-use Rattle.dip_tables.proofs.Found as found
-use Rattle.dip_tables.proofs.laws.own_is_found.Goals as goal
-
-pub returns : goal.returns
-returns g m ok = found.own_is_found m ok

@@ -1,5 +1,0 @@
-use Rattle.dip_tables.proofs.Pages as pages
-use Rattle.dip_tables.proofs.laws.paper_is_found.Goals as goal
-
-pub returns : goal.returns
-returns g m = pages.paper_is_found m

@@ -1,5 +1,0 @@
-use Rattle.dip_tables.proofs.Changes.{state_changed}
-use Rattle.dip_tables.proofs.laws.state_is_changed.Goals as goal
-
-pub returns : goal.returns
-returns g m ok = state_changed m ok

@@ -1,5 +1,0 @@
-use Rattle.dip_tables.proofs.Counts as counts
-use Rattle.dip_tables.proofs.laws.tables_stay_counted.Goals as goal
-
-pub returns : goal.returns
-returns g m = counts.tables_stay_counted m

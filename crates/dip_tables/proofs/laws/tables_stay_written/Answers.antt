@@ -1,5 +1,0 @@
-use Rattle.dip_tables.proofs.Written as written
-use Rattle.dip_tables.proofs.laws.tables_stay_written.Goals as goal
-
-pub returns : goal.returns
-returns g m = written.tables_stay_written m

@@ -44,7 +44,7 @@ fn spread(
 }
 
 /// Whether a chain of these fleets joins two provinces. Each fleet is visited once.
-pub(crate) fn joins(
+pub fn joins(
     reached: &mut Vec<Prov>,
     table: &Table,
     fleets: &[Prov],

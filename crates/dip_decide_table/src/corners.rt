@@ -17,11 +17,11 @@ use std::alloc::AllocError;
 
 /// The completion at which the rule of a decision is least, or greatest.
 #[derive(Clone, Copy)]
-pub(crate) struct Corner<'a> {
-    pub(crate) table: &'a Table<'a>,
-    pub(crate) known: &'a Values,
-    pub(crate) of: &'a Decision,
-    pub(crate) high: bool,
+pub struct Corner<'a> {
+    pub table: &'a Table<'a>,
+    pub known: &'a Values,
+    pub of: &'a Decision,
+    pub high: bool,
 }
 
 impl Corner<'_> {
@@ -282,7 +282,7 @@ impl Corner<'_> {
     }
 
     /// The equation of a decision.
-    pub(crate) fn rule(&self, room: &mut Room, d: &Decision) -> Result<bool, AllocError>
+    pub fn rule(&self, room: &mut Room, d: &Decision) -> Result<bool, AllocError>
         requires situation { IsSituation (situation_of self.now.table.now) }
         ensures { IfOk result
             (λ b. b ≡ rule (situation_of self.now.table.now) d.now (values self.now)) }

@@ -6,14 +6,14 @@ use dip_names::Prov;
 use std::alloc::{AllocError, Global};
 
 /// A list of the same provinces.
-pub(crate) fn copy_of(alloc: Global, list: &[Prov]) -> Result<Vec<Prov>, AllocError>
+pub fn copy_of(alloc: Global, list: &[Prov]) -> Result<Vec<Prov>, AllocError>
     ensures { IfOk result (λ v. v.items ≡ list.now) }
 {
     list.to_vec(alloc)
 }
 
 /// Writes the same provinces over a list.
-pub(crate) fn write_over(list: &mut Vec<Prov>, from: &[Prov]) -> Result<(), AllocError>
+pub fn write_over(list: &mut Vec<Prov>, from: &[Prov]) -> Result<(), AllocError>
     ensures { OnOk result (list.new.items ≡ from.now) }
 {
     list.clear();
@@ -22,7 +22,7 @@ pub(crate) fn write_over(list: &mut Vec<Prov>, from: &[Prov]) -> Result<(), Allo
 }
 
 /// Whether a province is one of these.
-pub(crate) fn is_in(list: &[Prov], p: Prov) -> bool
+pub fn is_in(list: &[Prov], p: Prov) -> bool
     ensures { result ≡ is_listed list.now p }
 {
     list.contains(&p)

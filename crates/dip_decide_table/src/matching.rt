@@ -100,7 +100,7 @@ fn is_matched(rows: &[Option<PlacedOrder>], order: Order, p: Prov) -> bool
 }
 
 /// The unit that one with this order supports, if that matches.
-pub(crate) fn backed_by(rows: &[Option<PlacedOrder>], placed: &PlacedOrder) -> Option<Prov>
+pub fn backed_by(rows: &[Option<PlacedOrder>], placed: &PlacedOrder) -> Option<Prov>
     ensures { result ≡ backed_of (entry rows.now) (Some placed.now) }
 {
     match helped(placed.order) {
@@ -124,7 +124,7 @@ fn carried(order: Order) -> Option<Prov>
 }
 
 /// The unit that one convoys that has this order, if one is there.
-pub(crate) fn carried_of(row: &Option<PlacedOrder>) -> Option<Prov>
+pub fn carried_of(row: &Option<PlacedOrder>) -> Option<Prov>
     ensures { result ≡ carried_of row.now }
 {
     match row {
@@ -134,7 +134,7 @@ pub(crate) fn carried_of(row: &Option<PlacedOrder>) -> Option<Prov>
 }
 
 /// Where a unit goes that has this order, if one is there.
-pub(crate) fn target_of(row: &Option<PlacedOrder>) -> Option<Prov>
+pub fn target_of(row: &Option<PlacedOrder>) -> Option<Prov>
     ensures { result ≡ target_of row.now }
 {
     match row {
@@ -144,7 +144,7 @@ pub(crate) fn target_of(row: &Option<PlacedOrder>) -> Option<Prov>
 }
 
 /// Whether a unit goes by convoy that has this order, if one is there.
-pub(crate) fn is_convoyed_of(map: &Map, row: &Option<PlacedOrder>) -> bool
+pub fn is_convoyed_of(map: &Map, row: &Option<PlacedOrder>) -> bool
     ensures { result ≡ is_convoyed map.now row.now }
 {
     match row {
@@ -188,14 +188,14 @@ impl Table<'_> {
     }
 
     /// The units that go to a province.
-    pub(crate) fn movers_to(&self, q: Prov) -> &[Prov]
+    pub fn movers_to(&self, q: Prov) -> &[Prov]
         ensures { result.now ≡ keyed_by target_of self.now.places.items self.now.rows.items q }
     {
         self.movers.of(q)
     }
 
     /// The units whose supports of one match.
-    pub(crate) fn helpers_of(&self, p: Prov) -> &[Prov]
+    pub fn helpers_of(&self, p: Prov) -> &[Prov]
         ensures { result.now ≡ keyed_by (backed_of (entry self.now.rows.items))
             self.now.places.items self.now.rows.items p }
     {
@@ -203,19 +203,19 @@ impl Table<'_> {
     }
 
     /// The units that convoy one, whether that matches or not.
-    pub(crate) fn carriers_of(&self, p: Prov) -> &[Prov]
+    pub fn carriers_of(&self, p: Prov) -> &[Prov]
         ensures { result.now ≡ keyed_by carried_of self.now.places.items self.now.rows.items p }
     {
         self.carriers.of(p)
     }
 
-    pub(crate) fn is_occupied(&self, p: Prov) -> bool
+    pub fn is_occupied(&self, p: Prov) -> bool
         ensures { result ≡ (situation_of self.now).is_occupied p }
     {
         self.order(p).is_some()
     }
 
-    pub(crate) fn same_power(&self, p: Prov, q: Prov) -> bool
+    pub fn same_power(&self, p: Prov, q: Prov) -> bool
         ensures { result ≡ (situation_of self.now).same_power p q }
     {
         match (self.order(p), self.order(q)) {
@@ -224,7 +224,7 @@ impl Table<'_> {
         }
     }
 
-    pub(crate) fn target(&self, p: Prov) -> Option<Prov>
+    pub fn target(&self, p: Prov) -> Option<Prov>
         ensures { result ≡ (situation_of self.now).target p }
     {
         match self.targets.get(usize::from(p.index())) {
@@ -234,7 +234,7 @@ impl Table<'_> {
     }
 
     /// The unit that one supports, if that matches.
-    pub(crate) fn backed(&self, h: Prov) -> Option<Prov>
+    pub fn backed(&self, h: Prov) -> Option<Prov>
         ensures { result ≡ backed_of (entry self.now.rows.items) (entry self.now.rows.items h) }
     {
         match self.backed.get(usize::from(h.index())) {
@@ -244,13 +244,13 @@ impl Table<'_> {
     }
 
     /// The unit that one convoys, whether that matches or not.
-    pub(crate) fn carries(&self, x: Prov) -> Option<Prov>
+    pub fn carries(&self, x: Prov) -> Option<Prov>
         ensures { result ≡ carried_of (entry self.now.rows.items x) }
     {
         carried_of(&self.order(x))
     }
 
-    pub(crate) fn is_convoyed(&self, p: Prov) -> bool
+    pub fn is_convoyed(&self, p: Prov) -> bool
         ensures { result ≡ (situation_of self.now).convoyed p }
     {
         match self.convoyed.get(usize::from(p.index())) {
@@ -259,7 +259,7 @@ impl Table<'_> {
         }
     }
 
-    pub(crate) fn supports(&self, h: Prov, p: Prov) -> bool
+    pub fn supports(&self, h: Prov, p: Prov) -> bool
         ensures { result ≡ (situation_of self.now).supports h p }
     {
         match self.backed(h) {
@@ -269,7 +269,7 @@ impl Table<'_> {
     }
 
     /// Whether a unit has a support that matches.
-    pub(crate) fn is_support(&self, h: Prov) -> bool
+    pub fn is_support(&self, h: Prov) -> bool
         ensures { result ≡ is_support (situation_of self.now) h }
     {
         self.backed(h).is_some()
@@ -299,7 +299,7 @@ impl Table<'_> {
             && self.is_carried(placed.order, p)
     }
 
-    pub(crate) fn convoys(&self, x: Prov, p: Prov) -> bool
+    pub fn convoys(&self, x: Prov, p: Prov) -> bool
         ensures { result ≡ (situation_of self.now).convoys x p }
     {
         match self.order(x) {
@@ -308,7 +308,7 @@ impl Table<'_> {
         }
     }
 
-    pub(crate) fn is_next(&self, p: Prov, q: Prov) -> bool
+    pub fn is_next(&self, p: Prov, q: Prov) -> bool
         ensures { result ≡ (situation_of self.now).next p q }
     {
         is_sea_next(self.map, p, q)
@@ -323,7 +323,7 @@ impl Table<'_> {
         }
     }
 
-    pub(crate) fn aims(&self, h: Prov, p: Prov) -> bool
+    pub fn aims(&self, h: Prov, p: Prov) -> bool
         ensures { result ≡ is_at ((situation_of self.now).aim h) p }
     {
         match self.aim(h) {
@@ -332,7 +332,7 @@ impl Table<'_> {
         }
     }
 
-    pub(crate) fn goes(&self, p: Prov, q: Prov) -> bool
+    pub fn goes(&self, p: Prov, q: Prov) -> bool
         ensures { result ≡ goes (situation_of self.now) p q }
     {
         match self.target(p) {
@@ -341,13 +341,13 @@ impl Table<'_> {
         }
     }
 
-    pub(crate) fn has_move(&self, p: Prov) -> bool
+    pub fn has_move(&self, p: Prov) -> bool
         ensures { result ≡ has_move (situation_of self.now) p }
     {
         self.target(p).is_some()
     }
 
-    pub(crate) fn head_to_head(&self, p: Prov, q: Prov) -> bool
+    pub fn head_to_head(&self, p: Prov, q: Prov) -> bool
         ensures { result ≡ head_to_head (situation_of self.now) p q }
     {
         self.goes(p, q) && self.goes(q, p) && !self.is_convoyed(p) && !self.is_convoyed(q)

@@ -48,7 +48,7 @@ fn enters_carrier(table: &Table, p: Prov, m: Prov) -> bool
 }
 
 /// Whether the equation of a decision mentions another.
-pub(crate) fn mentions(table: &Table, d: &Decision, e: &Decision) -> bool
+pub fn mentions(table: &Table, d: &Decision, e: &Decision) -> bool
     requires situation { IsSituation (situation_of table.now) }
     ensures { result ≡ mentions (situation_of table.now) d.now e.now }
 {

@@ -12,24 +12,24 @@ use dip_orders::PlacedOrder;
 
 /// The orders of a movement, by the numbers of the provinces.
 #[derive(Drop)]
-pub(crate) struct Table<'a> {
-    pub(crate) map: &'a Map,
+pub struct Table<'a> {
+    pub map: &'a Map,
     /// The provinces with a unit.
-    pub(crate) places: Vec<Prov>,
+    pub places: Vec<Prov>,
     /// The order of the unit in each province.
-    pub(crate) rows: Vec<Option<PlacedOrder>>,
+    pub rows: Vec<Option<PlacedOrder>>,
     /// Where the unit in each province goes, if it goes somewhere.
-    pub(crate) targets: Vec<Option<Prov>>,
+    pub targets: Vec<Option<Prov>>,
     /// Whether the unit in each province goes by convoy.
-    pub(crate) convoyed: Vec<bool>,
+    pub convoyed: Vec<bool>,
     /// Whom the unit in each province supports, if that matches.
-    pub(crate) backed: Vec<Option<Prov>>,
+    pub backed: Vec<Option<Prov>>,
     /// The units by where they go.
-    pub(crate) movers: ByKey,
+    pub movers: ByKey,
     /// The units by the one that they support, if that matches.
-    pub(crate) helpers: ByKey,
+    pub helpers: ByKey,
     /// The units by the one that they convoy.
-    pub(crate) carriers: ByKey,
+    pub carriers: ByKey,
     ghost aiming: { targets.items ≡ targets_of rows.items },
     ghost sailing: { convoyed.items ≡ convoyed_of map.now rows.items },
     ghost backing: { backed.items ≡ backings_of rows.items },

@@ -4,16 +4,16 @@ use std::alloc::{AllocError, Global};
 
 /// Room for the searches of a board; what is in it says nothing between two of them.
 #[derive(Drop)]
-pub(crate) struct Room {
+pub struct Room {
     /// Fleets that serve a move.
-    pub(crate) fleets: Vec<Prov>,
+    pub fleets: Vec<Prov>,
     /// Provinces that a search came to.
-    pub(crate) trail: Vec<Prov>,
+    pub trail: Vec<Prov>,
 }
 
 impl Room {
     /// Room for searches among so many units.
-    pub(crate) fn with_capacity(alloc: Global, units: usize) -> Result<Room, AllocError> {
+    pub fn with_capacity(alloc: Global, units: usize) -> Result<Room, AllocError> {
         let fleets = Vec::with_capacity(alloc, units)?;
         let trail = Vec::with_capacity(alloc, units)?;
         Ok(Room { fleets, trail })

@@ -18,15 +18,15 @@ use std::alloc::{AllocError, Global};
 
 /// What the orders say, by the numbers of the provinces.
 #[derive(Drop)]
-pub(crate) struct Columns {
+pub struct Columns {
     /// The order of the unit in each province.
-    pub(crate) rows: Vec<Option<PlacedOrder>>,
+    pub rows: Vec<Option<PlacedOrder>>,
     /// Where the unit in each province goes, if it goes somewhere.
-    pub(crate) targets: Vec<Option<Prov>>,
+    pub targets: Vec<Option<Prov>>,
     /// Whether the unit in each province goes by convoy.
-    pub(crate) convoyed: Vec<bool>,
+    pub convoyed: Vec<bool>,
     /// Whom the unit in each province convoys, whether that matches or not.
-    pub(crate) carried: Vec<Option<Prov>>,
+    pub carried: Vec<Option<Prov>>,
 }
 
 fn no_order() -> Option<PlacedOrder>
@@ -199,7 +199,7 @@ fn carriers_of(
 }
 
 /// The table of these orders.
-pub(crate) fn table_of<'a>(
+pub fn table_of<'a>(
     alloc: Global,
     map: &'a Map,
     orders: &[PlacedOrder],

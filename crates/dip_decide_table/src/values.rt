@@ -14,13 +14,13 @@ use std::alloc::{AllocError, Global};
 /// The values that were given so far, by the numbers of the provinces; none where the decision is open.
 #[derive(Drop)]
 pub struct Values {
-    pub(crate) moves: Vec<Option<bool>>,
-    pub(crate) paths: Vec<Option<bool>>,
-    pub(crate) supports: Vec<Option<bool>>,
+    pub moves: Vec<Option<bool>>,
+    pub paths: Vec<Option<bool>>,
+    pub supports: Vec<Option<bool>>,
 }
 
 /// A value of a list. Behind its end there is nothing to decide.
-pub(crate) fn value_at(list: &[Option<bool>], p: Prov) -> Option<bool>
+pub fn value_at(list: &[Option<bool>], p: Prov) -> Option<bool>
     ensures { result ≡ slice_index_or list.now p (Some false) }
 {
     match list.get(usize::from(p.index())) {
@@ -30,7 +30,7 @@ pub(crate) fn value_at(list: &[Option<bool>], p: Prov) -> Option<bool>
 }
 
 /// False for each of so many provinces.
-pub(crate) fn all_false(alloc: Global, count: usize) -> Result<Vec<Option<bool>>, AllocError>
+pub fn all_false(alloc: Global, count: usize) -> Result<Vec<Option<bool>>, AllocError>
     ensures { IfOk result (λ v. v.items ≡ replicate count (Some false)) }
 {
     let column = vec![in alloc; Some(false); count]?;
@@ -74,7 +74,7 @@ impl Values {
     }
 
     /// Gives true to these moves.
-    pub(crate) fn give_moves(&mut self, units: &[Prov])
+    pub fn give_moves(&mut self, units: &[Prov])
         requires distinct { are_provs_single units.now ≡ true }
         requires unknown { AreOpen (known_of self.old) units.now }
         ensures { known_of self.new ≡ give (known_of self.old) (moves_of units.now) true }
@@ -85,7 +85,7 @@ impl Values {
     }
 
     /// Gives false to the paths of these moves.
-    pub(crate) fn break_paths(&mut self, units: &[Prov])
+    pub fn break_paths(&mut self, units: &[Prov])
         requires distinct { are_provs_single units.now ≡ true }
         requires unknown { ArePathsOpen (known_of self.old) units.now }
         ensures { known_of self.new ≡ give (known_of self.old) (paths_of units.now) false }

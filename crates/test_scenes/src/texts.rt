@@ -1,0 +1,14 @@
+//! Texts that are compared.
+use test_tools::Mismatch;
+use std::alloc::Global;
+
+/// What is told is the text that is wanted.
+pub(crate) fn check_text(alloc: Global, told: &[u8], wanted: String) -> Result<(), Mismatch> {
+    if told == wanted.as_bytes() {
+        return Ok(());
+    }
+    Err(Mismatch::Text {
+        told: String::from_utf8_lossy(alloc, told)?,
+        wanted,
+    })
+}

@@ -295,7 +295,7 @@ impl Table<'_> {
             p }
     {
         placed.unit.kind.is(Kind::Fleet)
-            && self.map.terrain(placed.unit.place.prov).is_sea()
+            && self.map.kind(placed.unit.place.prov).is_sea()
             && self.is_carried(placed.order, p)
     }
 

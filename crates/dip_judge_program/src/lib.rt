@@ -17,6 +17,7 @@ mod values;
 
 pub use args::Args;
 pub use asked::{do_as_asked, run_as_asked};
+pub use dip_judge_runs::{RunFault, run_file};
 pub use failures::{Failure, status_of};
 pub use faults::UsageFault;
 pub use files::Stored;

@@ -13,7 +13,7 @@ use crate::serving::serve_all;
 use dip_judge_runs::run_file;
 use dip_letters::digest;
 use dip_map::Map;
-use dip_store::{SqlKeeper, StoreFault, write_papers};
+use dip_store::{SqlKeeper, StoreFault};
 use sqlite::{Alter, Connection};
 use std::alloc::Global;
 use std::io::{Read, Write};
@@ -106,7 +106,7 @@ pub fn report_stored<S: Alter, W: Write>(
 {
     match SqlKeeper::open(alloc, store, map, text) {
         Err((fault, store)) => (Err(Failure::Store(fault)), store),
-        Ok(mut keeper) => match write_papers(writer, &mut keeper, map, game) {
+        Ok(mut keeper) => match keeper.write_papers(map, game, writer) {
             Ok(Some(_)) => (Ok(()), keeper.into_store()),
             Ok(None) => (Err(Failure::NoGame), keeper.into_store()),
             Err(fault) => (Err(Failure::Papers(fault)), keeper.into_store()),

@@ -128,8 +128,8 @@ impl Map {
         self.parts.is_fleet_next(a, b)
     }
 
-    /// What a province is.
-    pub fn terrain(&self, p: Prov) -> Terrain
+    /// What kind of province it is.
+    pub fn kind(&self, p: Prov) -> Terrain
         ensures { result ≡ (province self.now p).terrain }
     {
         self.parts.terrain(p)

@@ -20,7 +20,7 @@ fn may_build(map: &Map, board: &Board, power: Power, kind: Kind, p: Prov) -> boo
     map.is_home(power, p)
         && board.owns(power, p)
         && board.is_vacant(p)
-        && (kind.is(Kind::Army) || map.terrain(p).is_coastal())
+        && (kind.is(Kind::Army) || map.kind(p).is_coastal())
 }
 
 /// Where in a province a unit is built.

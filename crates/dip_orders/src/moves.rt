@@ -16,7 +16,7 @@ use dip_orders_lines::{Mention, Spot};
 pub(crate) fn may_convoy(map: &Map, p: Prov, q: Prov) -> bool
     ensures { result ≡ may_convoy map.now p q }
 {
-    map.terrain(p).is_coastal() && map.terrain(q).is_coastal() && p != q
+    map.kind(p).is_coastal() && map.kind(q).is_coastal() && p != q
 }
 
 /// Whether an army may march from p to q, on foot or by convoy.

@@ -80,7 +80,7 @@ fn carrier(map: &Map, unit: &Unit) -> Result<Unit, OrderFault>
     if !unit.kind.is(Kind::Fleet) {
         return Err(OrderFault::WrongKind);
     }
-    if !map.terrain(unit.place.prov).is_sea() {
+    if !map.kind(unit.place.prov).is_sea() {
         return Err(OrderFault::NoConvoyThere);
     }
     Ok(*unit)

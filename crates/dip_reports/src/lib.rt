@@ -18,6 +18,7 @@ pub use answers::{
     withdrawn_line,
 };
 pub use board_lines::push_board_lines;
+pub use dip_desk_state::{Head, Item, Kept, Outcome, Own, Public, Reply, Standing, Status, Whole};
 pub use game_line::{push_game_line, push_phase, push_status};
 pub use inbox::inbox_text;
 pub use laws::board_lines_are_in_order;

@@ -3,12 +3,15 @@ ghost use Rattle.std.specs.Prelude.{◌≡◌, ◌<◌, ◌≤◌, ℕ, OnErr, O
 ghost use Rattle.std.specs.Io.KnownBytes.{Appends};
 ghost use Rattle.dip_store.specs.Papers.{AreBegun, AreOut, Walks, papers_of, papers_text};
 ghost use Rattle.dip_desk_state.specs.State.{game_at};
+ghost use Rattle.dip_store.specs.Stored.{book};
 
+use crate::keeper::SqlKeeper;
 use crate::paper_faults::PaperFault;
 use dip_desk::Keeper;
 use dip_desk_state::KeepFault;
 use dip_map::Map;
 use dip_streams::write_text;
+use sqlite::Alter;
 use std::io::Write;
 
 /// More papers than a game has.
@@ -90,4 +93,34 @@ pub fn write_papers<K: Keeper, W: Write>(
     }
     let count = write_all(writer, keeper, map, game)?;
     Ok(Some(count))
+}
+
+impl<S: Alter> SqlKeeper<S> {
+    /// Writes all papers of a game in their order, each as it was published, and gives how many these are; none where there is no such
+    /// game, and then nothing is written. It holds one paper at a time.
+    ///
+    /// # Errors
+    /// The writer's fault, or the keeper's: then a beginning of the papers was written.
+    pub fn write_papers<W: Write>(
+        &mut self,
+        map: &Map,
+        game: &str,
+        writer: &mut W,
+    ) -> Result<Option<u64>, PaperFault>
+        requires { self.old.failures < u64.MAX }
+        ensures out { (book S.Store).sound map.now self.old → (book S.Store).shows self.new
+            → IfOk result (λ o. AreOut o
+            (game_at game.now ((book S.Store).content map.now self.old)) (W.contents writer.old)
+            (W.contents writer.new)) }
+        ensures begun { (book S.Store).sound map.now self.old → (book S.Store).shows self.new
+            → OnErr result (AreBegun
+            (game_at game.now ((book S.Store).content map.now self.old)) (W.contents writer.old)
+            (W.contents writer.new)) }
+        ensures damaged { (book S.Store).sound map.now self.old → (book S.Store).shows self.new
+            → IsErrOf result (PaperFault.Keep KeepFault.Damaged) → MOST_PAPERS
+            ≤ length (papers_of (game_at game.now ((book S.Store).content map.now self.old))) }
+        ensures walks { Walks map.now (book S.Store) self.old self.new result }
+    {
+        write_papers(writer, self, map, game)
+    }
 }

@@ -1,5 +1,5 @@
 //! What is told of a phase that was adjudicated.
-use dip_decide_table::Resolution;
+use dip_decide::Resolution;
 use dip_map::Phase;
 use dip_names::{Power, Prov, Unit};
 use dip_orders::{Orders, PlacedOrder};

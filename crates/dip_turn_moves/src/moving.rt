@@ -5,7 +5,7 @@ ghost use Rattle.dip_turn_moves.specs.Moving as m;
 
 use crate::orders::{destination, is_at, is_convoyed, is_listed};
 use crate::standoffs::standoffs_after;
-use dip_decide_table::Resolution;
+use dip_decide::Resolution;
 use dip_map::{Board, Dislodged, Map};
 use dip_names::{Place, Prov, Unit};
 use dip_orders::{Order, PlacedOrder, retreats};

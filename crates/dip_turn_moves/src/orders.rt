@@ -152,7 +152,7 @@ fn is_sailing(map: &Map, placed: &PlacedOrder) -> bool
         (is_kind placed.now.unit.kind Fleet && is_sea
         (province map.now placed.now.unit.place.prov).terrain) }
 {
-    placed.unit.kind.is(Kind::Fleet) && map.terrain(placed.unit.place.prov).is_sea()
+    placed.unit.kind.is(Kind::Fleet) && map.kind(placed.unit.place.prov).is_sea()
 }
 
 fn carries_any(map: &Map, orders: &[PlacedOrder], order: &Order) -> bool

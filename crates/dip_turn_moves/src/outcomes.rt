@@ -9,7 +9,7 @@ use crate::lines::{Fate, MovementLine, Outcome};
 use crate::moving::{dislodged_unit, has_moved, is_driven_out, may_go};
 use crate::orders::{is_convoy, is_listed, is_support};
 use crate::standoffs::has_path;
-use dip_decide_table::Resolution;
+use dip_decide::Resolution;
 use dip_map::{Board, Map};
 use dip_orders::{Order, PlacedOrder};
 use std::alloc::{AllocError, Global};

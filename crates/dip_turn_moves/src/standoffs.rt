@@ -8,7 +8,7 @@ ghost use Rattle.dip_turn_moves.specs.Moving as m;
 
 use crate::moving::has_moved;
 use crate::orders::{destination, is_at, is_convoyed_from, is_head_to_head, is_listed};
-use dip_decide_table::Resolution;
+use dip_decide::Resolution;
 use dip_map::Map;
 use dip_names::{Prov, Unit};
 use dip_orders::PlacedOrder;

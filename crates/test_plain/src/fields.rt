@@ -127,7 +127,7 @@ impl Field<'_> {
         match fleet.order {
             Order::Convoy { at, to } => {
                 fleet.unit.kind == Kind::Fleet
-                    && self.map.terrain(origin(fleet)) == Terrain::Sea
+                    && self.map.kind(origin(fleet)) == Terrain::Sea
                     && names(at, &mover.unit)
                     && moves_to(mover, to)
                     && self.goes_by_convoy(mover)

@@ -1,5 +1,5 @@
 //! What the orders of a movement say, and which moves succeed.
-use dip_decide_table::Resolution;
+use dip_decide::Resolution;
 use dip_map::Map;
 use dip_names::{Kind, Prov, Unit};
 use dip_orders::{Order, Other, PlacedOrder};

@@ -3,7 +3,7 @@ use crate::fields::{Field, moves_to, origin};
 use crate::grounds::Ground;
 use crate::papers::{End, Line, Paper};
 use crate::states::{State, is_held};
-use dip_decide_table::Resolution;
+use dip_decide::Resolution;
 use dip_map::{Dislodged, Map};
 use dip_names::{Prov, Unit};
 use dip_orders::PlacedOrder;

@@ -4,7 +4,7 @@ use crate::papers::Paper;
 use crate::retreats::play_retreats;
 use crate::states::State;
 use crate::winters::play_winter;
-use dip_decide_table::Resolution;
+use dip_decide::Resolution;
 use dip_map::{Board, Map, Season};
 use dip_orders::{Orders, PlacedOrder};
 use std::alloc::{AllocError, Global};

@@ -20,7 +20,7 @@ fn is_beside(map: &Map, fleet: &PlacedOrder, prov: Prov) -> bool {
 
 /// Whether a fleet is at sea.
 fn is_at_sea(map: &Map, fleet: &PlacedOrder) -> bool {
-    fleet.unit.kind == Kind::Fleet && map.terrain(origin(fleet)).is_sea()
+    fleet.unit.kind == Kind::Fleet && map.kind(origin(fleet)).is_sea()
 }
 
 impl Field<'_> {

@@ -1,7 +1,7 @@
 //! Circles of moves, and the paths of a knot.
 use super::table::Table;
 use super::values::Values;
-use dip_decide_table::Decision;
+use dip_decide::Decision;
 use dip_names::Prov;
 use std::alloc::{AllocError, Global};
 

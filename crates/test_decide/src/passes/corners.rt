@@ -2,7 +2,7 @@
 use super::chains::joins;
 use super::table::Table;
 use super::values::Values;
-use dip_decide_table::Decision;
+use dip_decide::Decision;
 use dip_names::Prov;
 use std::alloc::{AllocError, Global};
 

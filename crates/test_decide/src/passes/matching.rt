@@ -144,7 +144,7 @@ impl Table<'_> {
         match self.order(x) {
             Some(placed) => {
                 placed.unit.kind.is(Kind::Fleet)
-                    && self.map.terrain(x).is_sea()
+                    && self.map.kind(x).is_sea()
                     && self.is_carried(placed.order, p)
             }
             None => false,

@@ -2,7 +2,7 @@
 use super::settling::explain;
 use super::table::table_of;
 use super::values::{value_at, values_at_start};
-use dip_decide_table::Step;
+use dip_decide::Step;
 use dip_map::Map;
 use dip_names::Prov;
 use dip_orders::Orders;

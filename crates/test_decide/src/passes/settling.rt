@@ -3,7 +3,7 @@ use super::circles::{open_paths, ring_in};
 use super::corners::Corner;
 use super::table::Table;
 use super::values::Values;
-use dip_decide_table::{Decision, Step};
+use dip_decide::{Decision, Step};
 use dip_names::Prov;
 use std::alloc::{AllocError, Global};
 

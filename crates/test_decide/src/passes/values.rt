@@ -1,6 +1,6 @@
 //! The values of decisions so far.
 use super::table::Table;
-use dip_decide_table::Decision;
+use dip_decide::Decision;
 use dip_names::Prov;
 use std::alloc::{AllocError, Global};
 

@@ -2,11 +2,11 @@
 use super::compare::compare;
 use super::draws::draw_orders;
 use super::tallies::Tally;
-use test_dice::Dice;
 use dip_map::{Map, STANDARD};
 use std::alloc::{AllocError, Global};
 use std::process::Abort;
 use std::test::Fail;
+use test_dice::Dice;
 
 /// Compares both ways over a number of boards, each with some units more around its core.
 fn compare_boards(

@@ -1,8 +1,7 @@
 //! What is told of a movement both ways, side by side.
 use super::scenes::board_of;
 use crate::{Passed, resolve_by_passes};
-use dip_decide::resolve;
-use dip_decide_table::Resolution;
+use dip_decide::{Resolution, resolve};
 use dip_map::Map;
 use dip_names::Unit;
 use dip_orders::{Orders, PlacedOrder, each_unit_has_one_order};

@@ -2,12 +2,12 @@
 use super::scenes::orders_in;
 use super::sites::{draw_power, draw_step, draw_unit, is_at_sea, is_coastal, is_near};
 use super::tallies::is_voyage;
-use test_dice::Dice;
 use dip_map::Map;
 use dip_names::{Kind, Place, Prov, Unit};
 use dip_orders::{Order, Other, PlacedOrder};
 use std::alloc::{AllocError, Global};
 use std::process::Abort;
+use test_dice::Dice;
 
 /// What other units are drawn around: units that go round; an army that attacks the support of the attack on its fleet, once the support
 /// of the attack on another one's; an army that changes places, or that goes by two fleets. The powers are drawn.

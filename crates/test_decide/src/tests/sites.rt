@@ -1,7 +1,7 @@
 //! Units and their steps, some of them by chance.
-use test_dice::Dice;
 use dip_map::Map;
 use dip_names::{Kind, Place, Power, Prov, Terrain, Unit};
+use test_dice::Dice;
 
 /// One of five powers.
 pub(crate) fn draw_power(dice: &mut Dice) -> Power {
@@ -9,11 +9,11 @@ pub(crate) fn draw_power(dice: &mut Dice) -> Power {
 }
 
 pub(crate) fn is_coastal(map: &Map, prov: Prov) -> bool {
-    map.terrain(prov).is_coastal()
+    map.kind(prov).is_coastal()
 }
 
 pub(crate) fn is_at_sea(map: &Map, unit: &Unit) -> bool {
-    unit.kind == Kind::Fleet && map.terrain(unit.place.prov).is_sea()
+    unit.kind == Kind::Fleet && map.kind(unit.place.prov).is_sea()
 }
 
 /// A neighbour of a unit.
@@ -54,7 +54,7 @@ fn draw_kind(dice: &mut Dice, terrain: Terrain) -> Kind {
 /// A unit at a place to which another one goes.
 pub(crate) fn draw_unit(dice: &mut Dice, map: &Map, place: Place) -> Option<Unit> {
     let power = draw_power(dice);
-    let kind = draw_kind(dice, map.terrain(place.prov));
+    let kind = draw_kind(dice, map.kind(place.prov));
     let coast = match kind {
         Kind::Army => 0,
         Kind::Fleet => place.coast,

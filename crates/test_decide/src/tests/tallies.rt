@@ -1,6 +1,6 @@
 //! What comes up on boards made by chance.
 use crate::Passed;
-use dip_decide_table::Step;
+use dip_decide::Step;
 use dip_map::Map;
 use dip_names::Kind;
 use dip_orders::{Order, PlacedOrder};

@@ -263,7 +263,7 @@ fn assert_province(rt: &impl Abort, map: &Map, line: &str, kind: Terrain) {
     let (code, name) = line.split_once(' ').expect(rt, "a code and a name");
     let p = the_prov(rt, map, code);
     assert!(rt;
-        map.name(p) == name && map.code(p) == code && map.terrain(p) == kind,
+        map.name(p) == name && map.code(p) == code && map.kind(p) == kind,
         "{line}"
     );
 }

@@ -22,11 +22,11 @@ pub(crate) fn sites_of(
 }
 
 pub(crate) fn is_coastal(map: &Map, prov: Prov) -> bool {
-    map.terrain(prov) == Terrain::Coast
+    map.kind(prov) == Terrain::Coast
 }
 
 pub(crate) fn is_at_sea(map: &Map, unit: &Unit) -> bool {
-    unit.kind == Kind::Fleet && map.terrain(unit.place.prov) == Terrain::Sea
+    unit.kind == Kind::Fleet && map.kind(unit.place.prov) == Terrain::Sea
 }
 
 /// One of three powers.

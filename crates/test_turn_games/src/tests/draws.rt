@@ -28,7 +28,7 @@ fn goes_by_convoy(map: &Map, placed: &PlacedOrder) -> bool {
 }
 
 fn is_coastal(map: &Map, prov: Prov) -> bool {
-    map.terrain(prov) == Terrain::Coast
+    map.kind(prov) == Terrain::Coast
 }
 
 fn power_by(map: &Map, dice: &mut Dice) -> Power {
@@ -155,7 +155,7 @@ fn help_for(map: &Map, unit: &Unit, other: &PlacedOrder) -> Option<Order> {
         kind: other.unit.kind,
         prov: origin(other),
     };
-    let is_sailor = unit.kind == Kind::Fleet && map.terrain(unit.place.prov) == Terrain::Sea;
+    let is_sailor = unit.kind == Kind::Fleet && map.kind(unit.place.prov) == Terrain::Sea;
     match destination(other) {
         _ if origin(other) == unit.place.prov => None,
         Some(to) if is_sailor && goes_by_convoy(map, other) => Some(Order::Convoy { at, to }),

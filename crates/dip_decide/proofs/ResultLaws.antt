@@ -12,7 +12,7 @@ use Rattle.std.proofs.lemmas.Bool.{ltb-true}
 use Rattle.dip_names.specs.declared.names.Kind.{Kind}
 use Rattle.dip_names.specs.declared.names.Kind.TheVariants.{Army, Fleet}
 use Rattle.dip_names.specs.declared.names.Place.{Place}
-use Rattle.dip_map.specs.Boards.{Position, IsOf}
+use Rattle.dip_map.specs.Boards.{Position, IsOf, are_ascending}
 use Rattle.dip_map_chart.specs.Charts.{Chart, may_stand, is_unit}
 use Rattle.dip_orders.specs.Standing.{units_of, are_in_force}
 use Rattle.dip_decide_table.specs.declared.decisions.Resolution.{Resolution}
@@ -35,11 +35,11 @@ use Rattle.dip_decide_table.specs.declared.decisions.Step as Written
 use Rattle.dip_decide_table.specs.declared.decisions.Step.TheVariants.{Forced, Circle, Knot}
 use Rattle.dip_decide_table.specs.Deciding.{Known, Assignment, is_among, is_broken, IsCompletion, Explains, IsCircle, IsKnot, give}
 use Rattle.dip_decide_table.specs.Movement.{Situation, IsSituation, is_listed, is_decided, at_first, rule, mentions, Satisfies}
-use Rattle.dip_decide_table.specs.Results.{is_true, breaks, are_ascending, AreInOrder, AreExplained, IsOnly, values_in, broken_in, decided_in, mentions_in, IsListing}
+use Rattle.dip_decide_table.specs.Results.{is_true, breaks, AreInOrder, AreExplained, IsOnly, values_in, broken_in, decided_in, mentions_in, IsListing}
 use Rattle.dip_decide_table.specs.Steps.{moves_of, paths_of, decisions, is_unknown, steps_of, IsStarted, Advances, IsComplete}
 use Rattle.dip_decide_table.proofs.ChainLaws.{listed_kept}
 use Rattle.dip_decide_table.proofs.Giving.{among_paths, single_moves}
-use Rattle.dip_decide_table.proofs.RingLaws.{among_moves}
+use Rattle.dip_decide_table.proofs.RingLaws.{among_moves, length_moves}
 use Rattle.dip_decide.proofs.Tested.{bounded}
 use Rattle.dip_map_chart.specs.Charts.{are_provs_single}
 
@@ -264,10 +264,6 @@ resolved_board m b orders o u f steps k tests t e c r l =
 length_numbers : (a n : ℕ) → length (range_with_len a n) ≡ n
 length_numbers a zero = refl
 length_numbers a (suc n) = ap suc (length_numbers (a + 1) n)
-
-length_moves : (ps : List ℕ) → length (moves_of ps) ≡ length ps
-length_moves [] = refl
-length_moves (p ∷ ps) = ap suc (length_moves ps)
 
 moves_only : (d : Decision) (ps : List ℕ) → is_among d (moves_of ps) ≡ true → (p : ℕ) × (d ≡ Move p)
 moves_only (Move p) ps h = (p, refl)

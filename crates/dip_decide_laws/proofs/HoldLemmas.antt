@@ -87,7 +87,7 @@ module _ (test : PlacedOrder → Bool) where
   pub unchanged : (o : PlacedOrder) → test o ≡ false → held_if test o ≡ o
   unchanged o h = rw h refl
 
-hold_walks : (m : Chart) (k : Kind) (p : ℕ) → goes_by_convoy m k p Hold ≡ false
+pub hold_walks : (m : Chart) (k : Kind) (p : ℕ) → goes_by_convoy m k p Hold ≡ false
 hold_walks m Army p = refl
 hold_walks m Fleet p = refl
 

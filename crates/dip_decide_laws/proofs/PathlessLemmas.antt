@@ -24,6 +24,7 @@ use Rattle.dip_decide_laws.proofs.OrderLemmas as order
 use Rattle.dip_decide_laws.proofs.PlayLemmas.{single}
 use Rattle.dip_decide_laws.proofs.HoldLemmas as hold
 use Rattle.dip_decide_laws.proofs.SilentLemmas.{silenced, unhelped, silent}
+use Rattle.dip_decide_laws.proofs.HoldLemmas.{hold_walks}
 
 -- orders by themselves
 
@@ -55,10 +56,6 @@ move_alone m (Retreat to) h = absurd (both_ways false refl h)
 move_alone m Disband h = absurd (both_ways false refl h)
 move_alone m Build h = absurd (both_ways false refl h)
 move_alone m Remove h = absurd (both_ways false refl h)
-
-hold_walks : (m : Chart) (k : Kind) (p : ℕ) → goes_by_convoy m k p Hold ≡ false
-hold_walks m Army p = refl
-hold_walks m Fleet p = refl
 
 -- what a support to stay is
 pub record IsStayAlone (m : Chart) (p : ℕ) (r : Order) : Type 0 where

@@ -160,7 +160,7 @@ trail_round s k start trail here t h =
     }
 
 -- a trail is no longer than there are decisions
-length_moves : (ps : List ℕ) → length (moves_of ps) ≡ length ps
+pub length_moves : (ps : List ℕ) → length (moves_of ps) ≡ length ps
 length_moves [] = refl
 length_moves (p ∷ ps) = ap suc (length_moves ps)
 

@@ -11,6 +11,7 @@ use Rattle.dip_decide_table.specs.Deciding.Step.{Forced as Forces}
 use Rattle.dip_decide_table.specs.Deciding.{Assignment, Known, Step, Explains, is_broken}
 use Rattle.dip_decide_table.specs.Movement.{Situation, is_listed, is_decided, at_first, rule, mentions}
 use Rattle.dip_decide_table.specs.Steps.{decisions}
+use Rattle.dip_map.specs.Boards.{are_ascending}
 
 -- the values that a resolution gives
 abbrev pub values_in : Resolution → Assignment
@@ -54,11 +55,6 @@ mentioners s e = mentioned_by s e (decisions s.places)
 -- how many pairs of decisions there are of which the one mentions the other
 abbrev pub mentions_in : Situation → ℕ
 mentions_in s = sum_by (λ e. cond (is_decided s e) (mentioners s e) 0) (decisions s.places)
-
--- the provinces come by code, each once
-abbrev pub are_ascending : List ℕ → Bool
-are_ascending [] = true
-are_ascending (p ∷ ps) = list_all (λ q. nat_lt p q) ps && are_ascending ps
 
 abbrev pub AreInOrder : Resolution → Type 0
 AreInOrder r = (are_ascending r.moves.items ≡ true) × (are_ascending r.paths.items ≡ true) × (are_ascending r.supports.items ≡ true) × (are_ascending r.broken.items ≡ true)

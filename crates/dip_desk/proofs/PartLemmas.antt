@@ -15,6 +15,7 @@ use Rattle.dip_desk_state.specs.State.{has_room}
 use Rattle.dip_desk.specs.Stored.{Brings, MaySend, delivered, finds_room, game, part, parts, reached}
 use Rattle.dip_desk.specs.declared.games.GameRow.{GameRow}
 use Rattle.dip_desk.specs.declared.games.SeatRow.{SeatRow}
+use Rattle.dip_desk_machine.proofs.Seeing.{both}
 
 -- what is said of a seat that is found
 pub of_seat : {X : Type 0} (f : Part → X) (r : Option (Bor SeatRow)) (found : Option Part) → option_map (λ q. part q.now) r ≡ found → option_map (λ q. f (part q.now)) r ≡ option_map f found
@@ -134,10 +135,6 @@ at_place P (x ∷ xs) zero old lt is all = subst (λ (y : SeatRow). P (part y)) 
 at_place P (x ∷ xs) (suc i) old lt is all = at_place P xs i old (omega arith) is all.1
 
 -- room for counts
-
-both : (a b : Bool) → (a && b) ≡ true → (a ≡ true) × (b ≡ true)
-both true b h = (refl, h)
-both false b h = absurd (false≢true h)
 
 each_of : (P : Part → Type 0) (ps : List Part) → ((p : Part) → P p) → AllByRecursion P ps
 each_of P [] all = tt

@@ -14,7 +14,8 @@ use Rattle.dip_letters.specs.Notes.{Request}
 use Rattle.dip_letters.specs.Notes.MasterRequest.{Tick}
 use Rattle.dip_letters.specs.Notes.Request.{Master}
 use Rattle.dip_orders.proofs.FindLaws.{find_among}
-use Rattle.dip_orders.proofs.LawfulReadLaws.{centre_low, home_centre}
+use Rattle.dip_map.proofs.SpelledLaws.{centre_low}
+use Rattle.dip_orders.proofs.LawfulReadLaws.{home_centre}
 use Rattle.dip_orders.specs.Lawful.{IsAllowed, IsDislodged, MayCome, Stands}
 use Rattle.dip_orders.specs.Reading.{order_of}
 use Rattle.dip_orders.specs.declared.faults.OrderFault.{OrderFault}

@@ -24,6 +24,7 @@ use Rattle.dip_desk_machine.specs.Lawful.{AreAscending, IsLawfulGame, IsLawfulSe
 use Rattle.dip_desk_machine.specs.Ordering.{prov_of, orders_that_stand}
 use Rattle.dip_desk_state.specs.State.{Game, Part, power_in, whole_of}
 use Rattle.dip_desk_machine.specs.Ticking.{orders_of, orders_of_seats}
+use Rattle.dip_desk_machine.proofs.Seeing.{both}
 
 -- what is found passes
 found : {A : Type 0} (test : A → Bool) (xs : List A) (x : A) → find test xs ≡ Some x → test x ≡ true
@@ -139,12 +140,6 @@ none_there p (o ∷ os) all =
 pub ascending_single : (orders : List PlacedOrder) → AreAscending (map prov_of orders) → are_units_single (units_of orders) ≡ true
 ascending_single [] up = refl
 ascending_single (o ∷ os) up = rw (none_there (prov_of o) os up.0) (ascending_single os up.1)
-
--- a test of all numbers from one on holds at each
-both : (a b : Bool) → (a && b) ≡ true → (a ≡ true) × (b ≡ true)
-both true true h = (refl, refl)
-both true false h = (refl, h)
-both false b h = absurd (cc)
 
 pub each_counted : (test : ℕ → Bool) (i n p : ℕ) → list_all test (range_with_len i n) ≡ true → i ≤ p → p < i + n → test p ≡ true
 each_counted test i zero p all low high = absurd (omega (arith, low, high))

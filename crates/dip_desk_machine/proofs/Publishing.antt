@@ -27,7 +27,8 @@ use Rattle.dip_turn.specs.declared.report.Movement.{Movement}
 use Rattle.dip_turn.specs.declared.report.Report.{Report}
 use Rattle.dip_desk_machine.specs.Mail.{Mail}
 use Rattle.dip_desk_machine.specs.Machine.{Decides, IsPublished, NotKnown, Taken, Verdict}
-use Rattle.dip_desk_machine.specs.Published.{IsFair, MovementsAreDecided, TellsMovement, is_movement, movement_paper, orders_stood}
+use Rattle.dip_orders.specs.Conditions.{is_movement}
+use Rattle.dip_desk_machine.specs.Published.{IsFair, MovementsAreDecided, TellsMovement, movement_paper, orders_stood}
 use Rattle.dip_desk_state.specs.State.{Author, Game, Nobody, Publishes, Seat, State, TheMaster, game_at, whole_of}
 use Rattle.dip_desk_machine.specs.Ticking.{orders_of, public_played}
 use Rattle.dip_desk_machine.specs.View.{IsRun, Turn, author_in, left_by}

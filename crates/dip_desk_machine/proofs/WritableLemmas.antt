@@ -11,7 +11,8 @@ use Rattle.dip_letters.specs.Letters.{FitsMaster, FitsNames, FitsNotice, FitsTex
 use Rattle.dip_letters.specs.Notes.{NoticeRequest, SeatNote}
 use Rattle.dip_letters.specs.Notes.MasterRequest.{Create}
 use Rattle.dip_letters.specs.Notes.NoticeRequest.{Announce, Close, Pause, Period, Resume}
-use Rattle.dip_letters.specs.Words.{is_lower, is_name, is_printable, is_text}
+use Rattle.dip_names.specs.Forms.{is_printable}
+use Rattle.dip_letters.specs.Words.{is_lower, is_name, is_text}
 use Rattle.dip_orders.proofs.KeptLaws.{count_cons}
 use Rattle.dip_orders.specs.declared.placed.PlacedOrder.{PlacedOrder}
 use Rattle.dip_desk_state.specs.Records.{Own, Public}

@@ -24,13 +24,7 @@ use Rattle.dip_desk_machine.specs.Machine.{Taken}
 use Rattle.dip_desk_state.specs.State.{Game, Publishes, State, game_at, whole_of}
 use Rattle.dip_desk_machine.specs.Ticking.{orders_of}
 use Rattle.dip_desk_machine.specs.View.{IsRun, IsSettledByView, Turn}
-
-abbrev pub is_movement : Season → Bool
-is_movement SpringMoves = true
-is_movement SpringRetreats = false
-is_movement FallMoves = true
-is_movement FallRetreats = false
-is_movement Winter = false
+use Rattle.dip_orders.specs.Conditions.{is_movement}
 
 -- the orders that stood in a game, one for each unit on its board: its pending order, or else a hold
 abbrev pub orders_stood : Chart → Whole → List PlacedOrder

@@ -11,38 +11,10 @@ use Rattle.dip_letters.specs.declared.letters.LetterFault.{LetterFault}
 use Rattle.dip_letters.specs.declared.letters.LetterFault.TheVariants.{Malformed, TooLong}
 use Rattle.dip_letters.specs.declared.letters.Next.{Next}
 use Rattle.dip_letters.specs.declared.letters.Next.TheVariants.{Taken, Fault, End}
-use Rattle.dip_letters.proofs.AgainLemmas.{same_next, spelling_unique}
+use Rattle.dip_letters.proofs.AgainLemmas.{blanks_settle, letter_starts, not_long, only_blank, same_next, spelling_unique, text_settles}
 use Rattle.dip_letters.proofs.NoteLemmas.{fits_inner}
 use Rattle.dip_desk_machine.specs.Mail.{Mail, mail}
 use Rattle.dip_http.specs.Answering.{IsOneLetter}
-
-blanks_settle : (i j : ℕ) (a b : List ℕ) → Starts a → Starts b → replicate i 10 ++ a ≡ replicate j 10 ++ b → a ≡ b
-blanks_settle zero zero a b first second same = same
-blanks_settle zero (suc j) [] b first second same = absurd first
-blanks_settle zero (suc j) (x ∷ a) b first second same = absurd (first (let e : x ≡ 10 = cc in e))
-blanks_settle (suc i) zero a [] first second same = absurd second
-blanks_settle (suc i) zero a (x ∷ b) first second same = absurd (second (let e : x ≡ 10 = cc in e))
-blanks_settle (suc i) (suc j) a b first second same = blanks_settle i j a b first second (let e : replicate i 10 ++ a ≡ replicate j 10 ++ b = cc in e)
-
-pub text_settles : (input a b : List ℕ) → Starts a → Starts b → Skips input a → Skips input b → a ≡ b
-text_settles input a b first second one two = blanks_settle one.blank two.blank a b first second (sym one.is ∙ two.is)
-
-only_blank : (i j : ℕ) (a : List ℕ) → Starts a → replicate i 10 ++ a ≡ replicate j 10 ++ [] → ⊥
-only_blank zero zero [] starts same = starts
-only_blank zero zero (x ∷ a) starts same = cc
-only_blank zero (suc j) [] starts same = starts
-only_blank zero (suc j) (x ∷ a) starts same = starts (let e : x ≡ 10 = cc in e)
-only_blank (suc i) zero a starts same = cc
-only_blank (suc i) (suc j) a starts same = only_blank i j a starts (let e : replicate i 10 ++ a ≡ replicate j 10 ++ [] = cc in e)
-
-pub letter_starts : (n : Note) (rest : List ℕ) → Starts (spelling n ++ rest)
-letter_starts n rest = λ e. omega (arith, e)
-
-not_long : (n : Note) (rest text : List ℕ) → Fits n → text ≡ spelling n ++ rest → IsLong text → ⊥
-not_long n rest text fits at is_long =
-    let long = is_long.no_end (lines_of n) rest (fits_inner n fits, at ∙ append_assoc (text_of (lines_of n)) end_line rest) in
-    let size = fits.size in
-    omega (arith, long, size)
 
 -- a letter behind empty lines is what stands next
 found : (body : List ℕ) (n : Note) (rest : List ℕ) (next : Next) → Fits n → Skips body (spelling n ++ rest) → IsNext body next → IsTaken n rest next

@@ -8,7 +8,7 @@ use Rattle.sha2.specs.Sha256.{sha256}
 use Rattle.dip_map_chart.specs.Charts.{Chart}
 use Rattle.dip_letters.specs.Letters.{spelling}
 use Rattle.dip_letters.specs.Notes.{Note}
-use Rattle.dip_letters.proofs.AgainLemmas.{spelling_unique}
+use Rattle.dip_letters.proofs.AgainLemmas.{spelling_unique, letter_starts, text_settles}
 use Rattle.dip_desk_machine.specs.Machine.{Step, Verdict, after, author, reply_of}
 use Rattle.dip_desk_machine.specs.Mail.{Mail}
 use Rattle.dip_desk_state.specs.State.{State}
@@ -18,11 +18,11 @@ use Rattle.dip_reports.specs.Texts.{reply_text}
 use Rattle.dip_http.specs.Answers.{answer_bytes, plain}
 use Rattle.dip_http.specs.Verdicts.{Verdict as Asked, refuse, show_game, show_paper, take_letter}
 use Rattle.dip_http.specs.Answering.{Carries, IsAnswer, IsNumber, IsOneLetter, Posts, Takes, paper_answer, paper_named, status_of}
-use Rattle.dip_http.proofs.LetterLemmas.{letter_starts, skips_to, text_settles}
+use Rattle.dip_http.proofs.LetterLemmas.{skips_to}
 use Rattle.dip_http.specs.Laws.{HasOneAnswer}
 use Rattle.dip_http.proofs.Cases.{IsHeaded, IsHeadless, IsSilent, carried, cases, no_head}
 
-own : IsNumeralModel (AllDigits 10) (digits_value 10)
+pub own : IsNumeralModel (AllDigits 10) (digits_value 10)
 own = numerals_by_value _ tells_digits
 
 same_number : (n k : ℕ) → n < 2 ^ 32 → k < 2 ^ 32 → decimal n ≡ decimal k → n ≡ k

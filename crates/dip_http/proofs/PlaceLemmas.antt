@@ -10,7 +10,7 @@ use Rattle.dip_http.specs.declared.table.Handler.{Handler}
 use Rattle.dip_http.specs.Places.{Place, letters, game, paper, behind, segment, from_slash, is_empty, paper_place, game_place, games_place, letters_place, or_place, place_of}
 use Rattle.dip_http.specs.Table.{table, letters_route, game_route, paper_route}
 use Rattle.dip_http.proofs.SeekLemmas.{under, under_all, step_under, seek_none, seek_end, seek_plain, seek_under, seek_behind, seek_fork, or_none}
-use Rattle.dip_http.proofs.SlashLemmas.{slash_text, no_slash, with_slash, cuts_no_slash, cuts_slash}
+use Rattle.dip_http.proofs.SlashLemmas.{cuts_no_slash, cuts_slash, no_slash, slash_text, sub_one, with_slash}
 
 -- the route of a place
 abbrev pub row_of : Option Place → Option (RouteOf Handler)
@@ -73,9 +73,6 @@ module _ {K : Type 0} where
       let two : step 256 (under 256 rs) ≡ rs = step_under 256 256 rs in
       let three : step 257 (under 256 rs) ≡ [] = step_under 256 257 rs in
       rw (one, two, three, seek_none 0 text, or_none) refl
-
-sub_one : (n : ℕ) → suc n - 1 ≡ n
-sub_one n = omega arith
 
 -- a paper's number, in matchit's words and here
 pub seek_number : (name text : List ℕ) → IsAscii text → seek 0 (under 256 number_rows) text ≡ row_of (paper_place name text)

@@ -5,14 +5,7 @@ use Rattle.std.proofs.lemmas.Bool.Decides.{nat_tests}
 use Rattle.matchit.specs.Rows.{RowsOf}
 use Rattle.matchit.specs.Seek.{seek, own, step, or_else, param_step, has_slash}
 use Rattle.dip_http.specs.Places.{behind}
-
-pub and_first : (a b : Bool) → (a && b) ≡ true → a ≡ true
-and_first true b e = refl
-and_first false b e = e
-
-pub and_second : (a b : Bool) → (a && b) ≡ true → b ≡ true
-and_second true b e = e
-and_second false b e = cc
+use Rattle.dip_letters.proofs.WordLemmas.{and_first, and_second}
 
 pub below : (b : ℕ) → nat_lt b 256 ≡ true → b < 256
 below b e = grind (arith, nat_tests)

@@ -32,7 +32,7 @@ with_slash (b ∷ text) e =
       | false ↦ λ is h. let rest = with_slash text h in (ap (λ t. b ∷ t) rest.0, ap (λ t. b ∷ t) rest.1, rest.2)
     ]) refl e
 
-sub_one : (n : ℕ) → suc n - 1 ≡ n
+pub sub_one : (n : ℕ) → suc n - 1 ≡ n
 sub_one n = omega arith
 
 no_end_more : (b : ℕ) (text : List ℕ) → has_slash (b ∷ text) ≡ false → ends_with nat_eq (b ∷ text) slash_text ≡ false

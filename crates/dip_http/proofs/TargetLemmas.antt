@@ -5,6 +5,7 @@ use Rattle.std.specs.Str.{IsAscii}
 use Rattle.std.proofs.lemmas.Bool.Decides.{nat_tests}
 use Rattle.std.proofs.lemmas.List.Quantifiers.{position-Some}
 use Rattle.dip_http.specs.Targets.{before_query, is_target}
+use Rattle.dip_letters.proofs.WordLemmas.{and_first, and_second}
 
 cut_at : (bs : List ℕ) (n : ℕ) → n < length bs → (get_or bs n 0 == 63) ≡ true → ((k : ℕ) → k < n → (get_or bs k 0 == 63) ≡ false) → take n bs ≡ before_query bs
 cut_at [] n lt here before = absurd (omega arith)
@@ -28,14 +29,6 @@ no_cut (b ∷ bs) e =
 
 pub query_missing : (bs : List ℕ) → position (λ b. b == 63) bs ≡ None → bs ≡ before_query bs
 query_missing bs e = no_cut bs (missing_len _ _ e)
-
-and_first : (a b : Bool) → (a && b) ≡ true → a ≡ true
-and_first true b e = refl
-and_first false b e = e
-
-and_second : (a b : Bool) → (a && b) ≡ true → b ≡ true
-and_second true b e = e
-and_second false b e = cc
 
 below : (b : ℕ) → nat_lt b 127 ≡ true → b < 128
 below b small = grind (arith, nat_tests)

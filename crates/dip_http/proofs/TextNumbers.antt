@@ -4,9 +4,7 @@ use Rattle.std.specs.Fmt.{decimal}
 use Rattle.std.specs.Str.Parse.{AllDigits, ParsesUnsigned, digits_value}
 use Rattle.std.proofs.lemmas.Fmt.{decimal_nonempty, digits_decimal, digits_value-decimal}
 use Rattle.std.proofs.lemmas.Str.Parse.{IsNumeralModel, numerals_by_value, parse_gives, tells_digits}
-
-own : IsNumeralModel (AllDigits 10) (digits_value 10)
-own = numerals_by_value _ tells_digits
+use Rattle.dip_http.proofs.OneAnswer.{own}
 
 parsed_decimal : {E : Type 0} (n : ℕ) (r : Result ℕ E) → ParsesUnsigned 32 10 (decimal n) r → n < 2 ^ 32 → r ≡ Ok n
 parsed_decimal n r h small =

@@ -7,7 +7,9 @@ use Rattle.matchit.specs.Params.{walk, wild_from, part_of, next_at}
 use Rattle.matchit.specs.Seek.{has_slash}
 use Rattle.matchit.specs.Seek as seeks
 use Rattle.dip_http.specs.Table.{game_route, paper_route}
-use Rattle.dip_http.proofs.SeekLemmas.{and_first, and_second, below}
+use Rattle.dip_letters.proofs.WordLemmas.{and_first, and_second}
+use Rattle.dip_http.proofs.SeekLemmas.{below}
+use Rattle.dip_letters.proofs.CutLemmas.{take_front}
 
 next_more : (len at : ℕ) → at < len → next_at len at ≡ at + 1
 next_more len at lt = let e : ltb at len ≡ true = grind (arith, nat_tests) in rw e refl
@@ -37,10 +39,6 @@ part_is bytes start end a b =
 take_all : (xs : List ℕ) → take (length xs) xs ≡ xs
 take_all [] = refl
 take_all (x ∷ xs) = ap (λ t. x ∷ t) (take_all xs)
-
-take_front : (a b : List ℕ) → take (length a) (a ++ b) ≡ a
-take_front [] b = refl
-take_front (x ∷ a) b = ap (λ t. x ∷ t) (take_front a b)
 
 drop_past : (a b : List ℕ) (n : ℕ) → drop (length a + n) (a ++ b) ≡ drop n b
 drop_past [] b n = let e : 0 + n ≡ n = omega arith in rw e refl

@@ -3,18 +3,7 @@ use Rattle.dip_names.specs.declared.faults.MapFault.{MapFault}
 use Rattle.dip_names.specs.declared.faults.MapFault.TheVariants.{Memory}
 use Rattle.dip_map.specs.Stated.{each, each_from}
 use Rattle.dip_names.specs.Results.{◌>>=◌, Fails}
-
--- what is looked up behind these
-abbrev pub with_front : {A : Type 0} → List A → Result (List A) MapFault → Result (List A) MapFault
-with_front front read = read >>= λ xs. Ok (front ++ xs)
-
-pub front_more : {A : Type 0} → (front : List A) (x : A) (r : Result (List A) MapFault) → with_front (front ++ x ∷ []) r ≡ with_front front (r >>= λ xs. Ok (x ∷ xs))
-front_more front x (Ok xs) = ap Ok (append_assoc front (x ∷ []) xs)
-front_more front x (Err e) = refl
-
-pub front_none : {A : Type 0} → (r : Result (List A) MapFault) → with_front [] r ≡ r
-front_none (Ok xs) = refl
-front_none (Err e) = refl
+use Rattle.dip_map_file.proofs.Front.{front_more, front_none, with_front}
 
 pub each_step : {A B : Type 0} → (f : A → Result B MapFault) (front : List B) (x : A) (y : B) (xs : List A) → f x ≡ Ok y → with_front (front ++ y ∷ []) (each f xs) ≡ with_front front (each f (x ∷ xs))
 each_step f front x y xs e = rw e (front_more front y (each f xs))

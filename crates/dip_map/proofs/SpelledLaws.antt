@@ -175,7 +175,7 @@ within m ok p = record {
       (λ k low. recursion_from_All (λ b. is_fleet_place m b ≡ true) (get_or (province m p).shores k no_shore).next (ok.fleet_within (record { prov = p; coast = k })));
 }
 
-centre_low : (m : Chart) (p : ℕ) → is_centre m p ≡ true → p < length m.provinces
+pub centre_low : (m : Chart) (p : ℕ) → is_centre m p ≡ true → p < length m.provinces
 centre_low m p h =
     elim (cases_lt p (length m.provinces)) [
       | inl low ↦ low

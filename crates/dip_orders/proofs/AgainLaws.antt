@@ -26,7 +26,8 @@ use Rattle.dip_orders.specs.declared.faults.OrderFault.{OrderFault}
 use Rattle.dip_orders.specs.declared.faults.OrderFault.TheVariants.{OutOfReach, NoSuchRetreat}
 use Rattle.dip_orders.proofs.CheckLaws.{Hold}
 use Rattle.dip_orders.proofs.FindLaws.{some_is, find_passes, find_among, find_narrow, find_kept_in}
-use Rattle.dip_orders.proofs.SpotLaws.{IsPlaceOf, shape_of, test_at, coast_for, code_named, code_on_map, knows_own, mention_of, place_low, spot_of, stands_at, written}
+use Rattle.dip_map_chart.proofs.Found.{test_at}
+use Rattle.dip_orders.proofs.SpotLaws.{IsPlaceOf, shape_of, coast_for, code_named, code_on_map, knows_own, mention_of, place_low, spot_of, stands_at, written}
 
 is_kind_self : (k : Kind) → is_kind k k ≡ true
 is_kind_self Army = refl

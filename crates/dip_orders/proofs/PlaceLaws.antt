@@ -16,7 +16,8 @@ use Rattle.dip_orders.specs.Conditions.{first_in, count_in, named_in, no_place, 
 use Rattle.dip_orders.specs.declared.faults.OrderFault.{OrderFault}
 use Rattle.dip_orders.proofs.CheckLaws.{Hold}
 use Rattle.dip_orders.proofs.KeptLaws.{count_cons}
-use Rattle.dip_orders.proofs.SpotLaws.{shape_of, test_at, written}
+use Rattle.dip_map_chart.proofs.Found.{test_at}
+use Rattle.dip_orders.proofs.SpotLaws.{shape_of, written}
 
 -- two places with one province and one coast are one
 pub same_place : (a b : Place) → a.prov ≡ b.prov → a.coast ≡ b.coast → a ≡ b

@@ -35,7 +35,7 @@ use Rattle.dip_orders.proofs.KeptLaws.{any_kept}
 use Rattle.dip_orders.proofs.LawfulReadLaws.{any_at, home_centre}
 use Rattle.dip_orders.proofs.PlaceLaws.{place_itself}
 use Rattle.dip_orders.proofs.RetreatLaws.{retreats_exact}
-use Rattle.dip_orders.proofs.SpotLaws.{test_at}
+use Rattle.dip_map_chart.proofs.Found.{test_at}
 use Rattle.dip_orders.proofs.StandingLaws.{element_cases, standing_in_force}
 
 -- what is known of orders that are read

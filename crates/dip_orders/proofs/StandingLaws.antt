@@ -40,7 +40,7 @@ find_only p (z ∷ zs) x c met only =
     ]
 
 -- what is made of an element is among what is made of all
-made_among : {A B : Type 0} (f : A → B) (xs : List A) (x : A) → Contains xs x → Contains (map f xs) (f x)
+pub made_among : {A B : Type 0} (f : A → B) (xs : List A) (x : A) → Contains xs x → Contains (map f xs) (f x)
 made_among f [] x c = absurd (omega (arith, c.1))
 made_among f (z ∷ zs) x c =
     elim (element_cases z zs x c.0 c.1 c.2) [

@@ -28,6 +28,7 @@ use Rattle.dip_orders.specs.declared.placed.Order.TheVariants.{Move as Moves, Re
 use Rattle.dip_orders.specs.declared.placed.PlacedOrder.{PlacedOrder}
 use Rattle.dip_orders.proofs.RetreatLaws.{first_open, count_open, named_open}
 use Rattle.dip_orders.proofs.CheckLaws.{Comes, if_step, need_step, need_last, found_step}
+use Rattle.dip_orders.proofs.AgainLaws.{opened}
 
 unit_tests : {B : Type 0} (k c : Bool) (x : AUnit) (f : AUnit → Result B OrderFault) (cs : List Check) (y : B) → f x ≡ outcome cs y
     → ((need k WrongKind x >>= (λ kept. need c WrongCoast kept)) >>= f) ≡ outcome (must k WrongKind ∷ must c WrongCoast ∷ cs) y
@@ -213,10 +214,6 @@ named_sail : {B : Type 0} (t : Bool) (o free n told : Option Place) (g : Place �
     ≡ outcome (must (is_some free) NoSuchRetreat ∷ must (is_some told) WrongCoast ∷ must true CoastNeeded ∷ []) (g (unwrap_or told no_place))
 named_sail true o free n told g h k = rw (h, k) (named_tests o n NoSuchRetreat g)
 named_sail false o free n told g h k = rw h refl
-
--- the places of a kind that are open
-abbrev opened : Chart → Position → Option ℕ → Kind → Place → List Place
-opened m b o k a = filter (λ x. is_open b o x.prov) (next_places m k a)
 
 -- where a dislodged unit goes
 leave_last : {B : Type 0} (m : Chart) (b : Position) (o : Option ℕ) (k : Kind) (a : Place) (q : ℕ) (coast : Option (List ℕ)) (g : Place → B)

@@ -5,13 +5,7 @@ use Rattle.sqlite.specs.Held.{Held, state}
 use Rattle.sqlite.specs.State.{State, HasCleanDisk, IsUnchanged}
 use Rattle.sqlite.proofs.StateLemmas.{survives_then}
 use Rattle.dip_store.specs.Alone.{LeavesAlone}
-
--- a call that went well, and one that failed
-abbrev pub went : (X E : Type 0) → X → Result X E
-went X E x = Ok x
-
-abbrev pub fails : (X E : Type 0) → E → Result X E
-fails X E e = Err e
+use Rattle.dip_store_sql.proofs.Parts.{fails, went}
 
 unchanged_itself : (a : State) → IsTrue a.is_open → IsUnchanged a a
 unchanged_itself a up =

@@ -15,7 +15,8 @@ use Rattle.sqlite.specs.Order.{Row}
 use Rattle.dip_store_sql.specs.Showing.{is_numbered, show_papers}
 use Rattle.dip_store_sql.proofs.Numbered.{paper_by_number}
 use Rattle.dip_store_looks.specs.Asked.{page_in, whole_in}
-use Rattle.dip_store.proofs.Finding.{found_passes, game_found, part_found}
+use Rattle.dip_store.proofs.Finding.{part_found}
+use Rattle.dip_store_tables.proofs.Found.{map_twice, then_map, found_passes, game_found}
 
 -- what is found has what all have
 found_has : {A : Type 0} (P : A → Type 0) (p : A → Bool) (xs : List A) (x : A) → AllByRecursion P xs → find p xs ≡ Some x → P x
@@ -25,17 +26,9 @@ found_has P p (y ∷ ys) x all h = elim (cases_Bool (p y)) [
   | inr e ↦ found_has P p ys x all.1 (rw e at h)
 ]
 
-map_twice : {A B C : Type 0} (g : B → C) (f : A → B) (o : Option A) → option_map g (option_map f o) ≡ option_map (λ x. g (f x)) o
-map_twice g f None = refl
-map_twice g f (Some x) = refl
-
 each_twice : {A B C : Type 0} (g : B → C) (f : A → B) (xs : List A) → map g (map f xs) ≡ map (λ x. g (f x)) xs
 each_twice g f [] = refl
 each_twice g f (x ∷ xs) = ap (λ r. g (f x) ∷ r) (each_twice g f xs)
-
-then_map : {A B C : Type 0} (h : B → C) (f : A → Option B) (o : Option A) → option_and_then (λ x. option_map h (f x)) o ≡ option_map h (option_and_then f o)
-then_map h f None = refl
-then_map h f (Some x) = refl
 
 -- a game with the own parts of its seats
 pub whole_found : (m : Chart) (t : Tables) (name : List ℕ) → option_map (whole_in m t) (find (is_named name) t.games) ≡ whole_at name (state_of m t)

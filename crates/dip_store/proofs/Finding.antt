@@ -13,10 +13,8 @@ use Rattle.dip_store_tables.specs.Tables.{GameRow, SeatRow, Tables, is_named, is
 use Rattle.dip_store_tables.specs.Reading.{part_of, game_of, state_of}
 use Rattle.dip_store_tables.specs.Coding.{AreCoded, HasGame, IsSeatOf}
 use Rattle.dip_store_tables.proofs.Records.{power_back}
-
-find_on : {A : Type 0} (p q : A → Bool) (xs : List A) → AllByRecursion (λ x. p x ≡ q x) xs → find p xs ≡ find q xs
-find_on p q [] all = refl
-find_on p q (x ∷ xs) all = ap₂ (λ b o. cond b (Some x) o) all.0 (find_on p q xs all.1)
+use Rattle.dip_store_tables.proofs.Found.{at_finds, find_map, found_passes, game_found, no_seat}
+use Rattle.dip_store_tables.proofs.Lists.{find_on}
 
 -- a seat's power, found by its name and by its number
 same_power : (m : Chart) (ok : IsMap m) (p : ℕ) → p < length m.realms → (s : SeatRow) → IsSeatOf m s → bytes_eq s.power (power_name m p) ≡ (power_numbered m s.power == p)
@@ -30,36 +28,6 @@ same_power m ok p low s it = elim (cases_Bool (bytes_eq s.power (power_name m p)
         let x = sym tied ∙ e in cc)
     | inr f ↦ e ∙ sym f
   ]
-]
-
--- the first with the key is the first that passes a test
-at_finds : {K A : Type 0} (eq : K → K → Bool) (key : A → K) (k : K) (xs : List A) → at eq key k xs ≡ find (λ x. eq (key x) k) xs
-at_finds eq key k [] = refl
-at_finds eq key k (x ∷ xs) = ap (cond (eq (key x) k) (Some x)) (at_finds eq key k xs)
-
-find_map : {A B : Type 0} (q : B → Bool) (f : A → B) (xs : List A) → find q (map f xs) ≡ option_map f (find (λ x. q (f x)) xs)
-find_map q f [] = refl
-find_map q f (x ∷ xs) = elim (cases_Bool (q (f x))) [ inl e ↦ rw e refl | inr e ↦ rw e (find_map q f xs) ]
-
--- what is found passes
-pub found_passes : {A : Type 0} (p : A → Bool) (xs : List A) (x : A) → find p xs ≡ Some x → p x ≡ true
-found_passes p [] x h = absurd (cc)
-found_passes p (y ∷ ys) x h = elim (cases_Bool (p y)) [
-  | inl e ↦ let h2 = rw e at h in let same : y ≡ x = cc in subst (λ z. p z ≡ true) same e
-  | inr e ↦ found_passes p ys x (rw e at h)
-]
-
-pub game_found : (m : Chart) (t : Tables) (name : List ℕ) → game_at name (state_of m t) ≡ option_map (game_of m t) (find (is_named name) t.games)
-game_found m t name = at_finds bytes_eq name_of name (map (game_of m t) t.games) ∙ find_map (λ g. bytes_eq (name_of g) name) (game_of m t) t.games
-
--- a seat whose game isn't there isn't there
-no_seat : (games : List GameRow) (name power : List ℕ) (seats : List SeatRow) → AllByRecursion (λ s. HasGame games s.game) seats → find (is_named name) games ≡ None → find (is_seat name power) seats ≡ None
-no_seat games name power [] all none = refl
-no_seat games name power (s ∷ ss) all none = elim (cases_Bool (is_seat name power s)) [
-  | inl e ↦ absurd (
-      let has = subst (HasGame games) (names_tell.same s.game name (and_parts _ _ e).0) all.0 in
-      let x = sym has ∙ any_is_found (is_named name) games ∙ ap is_some none in cc)
-  | inr e ↦ rw e (no_seat games name power ss all.1 none)
 ]
 
 module _ (m : Chart) (ok : IsMap m) (t : Tables) (coded : AreCoded m t) (name : List ℕ) (power : ℕ) (low : power < length m.realms) where

@@ -12,17 +12,8 @@ use Rattle.sqlite.specs.State.{State, HasCleanDisk, Survives, Executes, Executes
 use Rattle.sqlite.proofs.StateLemmas.{survives_then}
 use Rattle.dip_store_tables.specs.Tables.{Tables}
 use Rattle.dip_store_sql.specs.Calls.{Writes, Turns}
-use Rattle.dip_store_sql.proofs.Parts.{keeps_itself, keeps_then}
+use Rattle.dip_store_sql.proofs.Parts.{inside_keeps, keeps_itself, keeps_then, fails, went}
 use Rattle.dip_store.specs.Making.{Becomes, HasTables, Leads}
-use Rattle.dip_store.proofs.Alone.{went, fails}
-
-inside_keeps : (sql : List ℕ) (params : Row) (old new : State) (r : Result ℕ Error) → ExecutesInside 0 sql params old new r → KeepsCommit old new
-inside_keeps sql params old new (Ok n) h = record { was_open = λ _. h.1.was_open; committed = λ _. h.1.committed_is }
-inside_keeps sql params old new (Err e) (inl h) = elim h.1 [
-  | inl u ↦ record { was_open = λ _. u.0.was_open; committed = λ _. u.0.committed_is }
-  | inr r ↦ record { was_open = r.was_open; committed = λ o. (r.undone o).1 }
-]
-inside_keeps sql params old new (Err e) (inr h) = record { was_open = λ _. h.2.0.was_open; committed = λ _. h.2.0.committed_is }
 
 module _ {S : Type 0} (g : Ghosts S) (sql : List ℕ) (Such So : Database → Type 0) (old new : Held S) where
   -- one statement

@@ -1,4 +1,3 @@
-pub mod Typed
 pub mod Alone
 pub mod Prepared
 pub mod Leading

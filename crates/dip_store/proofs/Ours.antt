@@ -13,9 +13,7 @@ use Rattle.dip_store_sql.specs.Asking.{Asks, IsAsked, command_in}
 use Rattle.dip_store_sql.specs.Schema.{our_schema}
 use Rattle.dip_store_sql.proofs.Texts as means
 use Rattle.dip_store.specs.Known.{HasOurTables, IsKnown, IsWhole}
-
-within : (a b : ℕ) → nat_le a b ≡ true → a ≤ b
-within a b h = grind (arith, nat_tests)
+use Rattle.dip_store_sql.proofs.Found.{within}
 
 known_in : (r : Result Compiled CompileError) (command : Command) → command_in r command → (c : Compiled) × (r ≡ Ok c)
 known_in (Ok c) command h = (c, refl)

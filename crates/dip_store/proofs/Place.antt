@@ -24,6 +24,7 @@ use Rattle.dip_store_sql.specs.Keys.{AreKeyed, Differ, same_centre, same_desk, s
 use Rattle.dip_store.specs.Laws.{FindsPlaceInTables, WhatFitsFindsPlace}
 use Rattle.dip_store.proofs.Apart.{across, changed_apart, first_off, found_holds, joined_apart, left_apart, none_passes, numbers_most, only_found, own_bytes, put_apart, same_bytes, second_off, turned, under_first}
 use Rattle.dip_store.proofs.New.{centres_new, orders_new, seats_new, units_new}
+use Rattle.dip_store_tables.proofs.Authors.{noted_keys}
 
 -- a row that isn't of a game, beside one that is
 order_off : (x y : PendingRow) (n p : List ℕ) → is_pending n p x ≡ false → y.game ≡ n → y.power ≡ p → same_order x y ≡ false
@@ -45,16 +46,6 @@ paper_off x y n off a = rw a (first_off (bytes_eq x.game n) (x.number == y.numbe
 named_game : (m : Chart) (t : Tables) (name : List ℕ) (gs : List GameRow) → at bytes_eq name_of name (map (game_of m t) gs) ≡ option_map (game_of m t) (find (is_named name) gs)
 named_game m t name [] = refl
 named_game m t name (g ∷ gs) = elim (cases_Bool (bytes_eq g.name name)) [ inl e ↦ rw e refl | inr e ↦ rw e (named_game m t name gs) ]
-
--- a seat's row whose letter is kept has its key and its count of items as before
-noted_keys : (k : Kept) (e : Effect) (s : SeatRow) → ((seat_noted k e s).game ≡ s.game) × ((seat_noted k e s).power ≡ s.power) × ((seat_noted k e s).items ≡ s.items)
-noted_keys k Nothing s = (refl, refl, refl)
-noted_keys k (Pending orders) s = (refl, refl, refl)
-noted_keys k (Votes draw) s = (refl, refl, refl)
-noted_keys k (Delivers readers item) s = (refl, refl, refl)
-noted_keys k (Opens public paper seats) s = (refl, refl, refl)
-noted_keys k (Publishes public paper played) s = (refl, refl, refl)
-noted_keys k (Seats seat) s = (refl, refl, refl)
 
 abbrev SamePlace : SeatRow → SeatRow → Type 0
 SamePlace r s = (r.game ≡ s.game) × (r.power ≡ s.power) × (r.items ≡ s.items)

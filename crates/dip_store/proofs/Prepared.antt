@@ -18,7 +18,8 @@ use Rattle.sqlite_resolve.specs.declared.error.CompileError.{CompileError}
 use Rattle.dip_store_sql.specs.Faults.{IsOutside}
 use Rattle.dip_store.specs.Alone.{LeavesAlone}
 use Rattle.dip_store.specs.Known.{IsKnown, IsWhole}
-use Rattle.dip_store.proofs.Alone.{went, fails}
+use Rattle.dip_store_sql.proofs.Parts.{fails, went}
+use Rattle.dip_store_sql.proofs.Faults.{caused}
 
 -- a text that was prepared is understood
 outlined : (r : Result Compiled CompileError) (s : Outline) → Outlines r s → (c : Compiled) × (r ≡ Ok c)
@@ -30,15 +31,6 @@ prepared schema text s h = outlined (understood schema text) s h
 
 pub unchanged_keeps : (old new : State) → IsUnchanged old new → KeepsCommit old new
 unchanged_keeps old new u = record { was_open = λ _. u.0.was_open; committed = λ _. u.0.committed_is }
-
--- an error of an open store
-caused : (old new : State) (e : Error) (cause : StoreError) → e ≡ store_error cause → HasCause old new ⊥ cause → IsTrue old.is_open → IsOutside e
-caused old new e OutOfMemory is why up = inl is
-caused old new e Io is why up = inr (ap is_disk_error is)
-caused old new e Corrupt is why up = inr (ap is_disk_error is)
-caused old new e Full is why up = inr (ap is_disk_error is)
-caused old new e Broken is why up = absurd (let x = sym up ∙ why in cc)
-caused old new e Unstorable is why up = absurd why
 
 module _ (sql : List ℕ) (old new : State) (e : Error) (told : (params : Row) → IsNotRun old new sql params e) where
   -- nothing was committed

@@ -30,9 +30,7 @@ use Rattle.dip_store_looks.specs.Readable.{IsBoardReadable, IsCentreReadable, Is
 use Rattle.dip_store_looks.specs.Shown.{shown_centre, shown_unit}
 use Rattle.dip_store_looks.proofs.PublicLemmas.{found_named}
 use Rattle.dip_store_looks.proofs.RowLemmas.{found_as, has_number, has_text, small_number}
-
-below : (a b : ℕ) → nat_lt a b ≡ true → a < b
-below a b h = grind (arith, nat_tests, h)
+use Rattle.dip_store_tables.proofs.Parts.{below}
 
 -- the names of coasts
 empty_text : (w : List ℕ) → (length w == 0) ≡ true → IsText w

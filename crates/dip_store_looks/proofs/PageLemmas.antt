@@ -17,19 +17,7 @@ use Rattle.dip_store_tables.specs.Tables.{BoxRow, SeatRow, Tables, is_box, is_se
 use Rattle.dip_store_looks.specs.Asked.{page_in}
 use Rattle.dip_store_looks.specs.Shown.{shown_item}
 use Rattle.dip_store_looks.proofs.OwnLemmas.{found_seat}
-
--- the numbers from one on, so many
-abbrev from : ℕ → ℕ → List ℕ
-from i zero = []
-from i (suc n) = i ∷ from (suc i) n
-
-from_more : (i n : ℕ) → from i n ++ (i + n) ∷ [] ≡ from i (suc n)
-from_more i zero = let e : i + 0 ≡ i = omega arith in ap (λ k. k ∷ []) e
-from_more i (suc n) = let e : i + suc n ≡ suc i + n = omega arith in ap (λ ks. i ∷ ks) (ap (λ k. from (suc i) n ++ k ∷ []) e ∙ from_more (suc i) n)
-
-counted_from : (n : ℕ) → counted n ≡ from 1 n
-counted_from zero = refl
-counted_from (suc n) = let e : suc n ≡ 1 + n = omega arith in ap (λ ks. ks ++ suc n ∷ []) (counted_from n) ∙ ap (λ k. from 1 n ++ k ∷ []) e ∙ from_more 1 n
+use Rattle.dip_store_tables.proofs.Pages.{counted_from, from, from_more}
 
 length_from : (i n : ℕ) → length (from i n) ≡ n
 length_from i zero = refl

@@ -125,14 +125,14 @@ stops First Next e (inr on) = inr on
 no_stop : {A : Type 0} (a : A) (stop : Option Error) → Gives a (Err stop) → ⊥
 no_stop a stop h = absurd (cc)
 
-unmatched : (X Y : Type 0) (b : Bool) → b ≡ false → MatchBool b X Y → Y
+pub unmatched : (X Y : Type 0) (b : Bool) → b ≡ false → MatchBool b X Y → Y
 unmatched X Y true e h = absurd (let f = e in cc)
 unmatched X Y false e h = h
 
-no_count : (b c : Bool) → b ≡ false → cond b c false ≡ false
+pub no_count : (b c : Bool) → b ≡ false → cond b c false ≡ false
 no_count b c e = rw e refl
 
-no_above : (b : Bool) (top : ℤ) → b ≡ false → cond b (Above top) Chosen ≡ Chosen
+pub no_above : (b : Bool) (top : ℤ) → b ≡ false → cond b (Above top) Chosen ≡ Chosen
 no_above b top e = rw e refl
 
 -- an edit that sets off nothing is refused by a rule

@@ -50,11 +50,11 @@ blames sql params old new plain e (inl (inr f)) d = told_cause old new f.0 e f.1
 blames sql params old new plain e (inr h) d = let bare = subst IsPlain h.1.is plain in let it = rw bare.0 at h.2 in absurd (no_disk _ _ _ _ e it.2 d)
 
 -- none of them is met
-none_any : {A : Type 0} (xs : List A) → Any (λ _. ⊥) xs → ⊥
+pub none_any : {A : Type 0} (xs : List A) → Any (λ _. ⊥) xs → ⊥
 none_any xs h = h.4
 
 -- an error of an open store
-caused : (old new : State) (e : Error) (cause : StoreError) → e ≡ store_error cause → HasCause old new ⊥ cause → IsTrue old.is_open → IsOutside e
+pub caused : (old new : State) (e : Error) (cause : StoreError) → e ≡ store_error cause → HasCause old new ⊥ cause → IsTrue old.is_open → IsOutside e
 caused old new e OutOfMemory is why up = inl is
 caused old new e Io is why up = inr (ap is_disk_error is)
 caused old new e Corrupt is why up = inr (ap is_disk_error is)

@@ -87,7 +87,7 @@ module _ {A : Type 0} (put : A → Row) (take : Row → A) (t : ℕ) (tests show
       let got = reads_as text params old new our_schema schema _ (commanded _ _ asks.means.0) asks.means.1 asks.unlisted rows h in
       rows_in_turn put take t tests shown params p show tells shows old.now.trees seen it rows (got.answer Null)
 
-within : (a b : ℕ) → nat_le a b ≡ true → a ≤ b
+pub within : (a b : ℕ) → nat_le a b ≡ true → a ≤ b
 within a b h = grind (arith, nat_tests)
 
 module _ (text : List ℕ) (params : Row) (count t : ℕ) (tests shown : List Term) (order : List (Term × Key)) (names : List (List ℕ)) (asks : Asks text count (plain_query t tests shown order) names)

@@ -16,7 +16,7 @@ use Rattle.dip_store_sql.specs.Rows.{tables_of}
 use Rattle.dip_store_sql.specs.Good.{IsGood}
 use Rattle.dip_store_sql.specs.Calls.{Turns, Writes}
 
-inside_keeps : (sql : List ℕ) (params : Row) (old new : State) (r : Result ℕ Error) → ExecutesInside 0 sql params old new r → KeepsCommit old new
+pub inside_keeps : (sql : List ℕ) (params : Row) (old new : State) (r : Result ℕ Error) → ExecutesInside 0 sql params old new r → KeepsCommit old new
 inside_keeps sql params old new (Ok n) h = record { was_open = λ _. h.1.was_open; committed = λ _. h.1.committed_is }
 inside_keeps sql params old new (Err e) (inl h) = elim h.1 [
   | inl u ↦ record { was_open = λ _. u.0.was_open; committed = λ _. u.0.committed_is }

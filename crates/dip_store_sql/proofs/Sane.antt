@@ -41,12 +41,8 @@ use Rattle.dip_store_sql.proofs.Failing.{delete_refused, edits_rows, fails, inse
 use Rattle.dip_store_sql.proofs.Passing.{AreKept}
 use Rattle.dip_store_sql.proofs.Told.{want_weaker}
 use Rattle.dip_store_sql.proofs.Wanting.{KeysApart, delete_wants, insert_wants, update_wants}
-
-within : (a b : ℕ) → nat_le a b ≡ true → a ≤ b
-within a b h = grind (arith, nat_tests)
-
-none_any : {A : Type 0} (xs : List A) → Any (λ _. ⊥) xs → ⊥
-none_any xs h = h.4
+use Rattle.dip_store_sql.proofs.Faults.{none_any}
+use Rattle.dip_store_sql.proofs.Found.{within}
 
 -- a plain query of parameters that may be compared is refused by nothing
 plainly : (schema : Schema) (db : Trees) (t : ℕ) (tests shown : List Term) (params : Row) → accepts_program schema (lets_of (record { lets = []; body = plain_query t tests shown [] })) (plain_query t tests shown []) params ≡ true

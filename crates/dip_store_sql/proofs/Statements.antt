@@ -26,25 +26,8 @@ use Rattle.sqlite.proofs.Callers.{IsPlain, command_of, statement_of, runs_as, on
 use Rattle.dip_store_sql.specs.Queries.{plain_query, passes}
 use Rattle.dip_store_sql.specs.Writes.{Edits}
 use Rattle.dip_store_sql.proofs.Answered.{selected}
-
--- it didn't stop there
-went : {B E R : Type 0} {b : B} {Stops : E → Type 0} → ((stop : E) × Stops stop × (Ok b ≡ Err stop)) ⊎ R → R
-went (inl stopped) = absurd (let e = stopped.2 in cc)
-went (inr on) = on
-
-same_value : {B E : Type 0} {a b : B} → ◌≡◌ {A = Result B E} (Ok a) (Ok b) → a ≡ b
-same_value e = cc
-
--- of a table that counts no rowids: what is asked of those that do falls away
-unmatched : (X Y : Type 0) (b : Bool) → b ≡ false → MatchBool b X Y → Y
-unmatched X Y true e h = absurd (let f = e in cc)
-unmatched X Y false e h = h
-
-no_count : (b c : Bool) → b ≡ false → cond b c false ≡ false
-no_count b c e = rw e refl
-
-no_above : (b : Bool) (top : ℤ) → b ≡ false → cond b (Above top) Chosen ≡ Chosen
-no_above b top e = rw e refl
+use Rattle.dip_store_sql.proofs.Failing.{no_above, no_count, unmatched}
+use Rattle.dip_store_sql.proofs.Creating.{same_value, went}
 
 module _ (schema : Schema) (at : ℕ) (table : Table) (listed : slice_get schema.tables at ≡ Some table) (plain : table.is_counted ≡ false)
     (seen : (db : Trees) → overlay db [] table.tree ≡ db table.tree)

@@ -17,16 +17,16 @@ use Rattle.dip_store_tables.proofs.Seats.{same_power}
 use Rattle.dip_store_tables.proofs.Lists.{find_on}
 
 -- the first with the key is the first that passes a test
-at_finds : {K A : Type 0} (eq : K → K → Bool) (key : A → K) (k : K) (xs : List A) → at eq key k xs ≡ find (λ x. eq (key x) k) xs
+pub at_finds : {K A : Type 0} (eq : K → K → Bool) (key : A → K) (k : K) (xs : List A) → at eq key k xs ≡ find (λ x. eq (key x) k) xs
 at_finds eq key k [] = refl
 at_finds eq key k (x ∷ xs) = ap (cond (eq (key x) k) (Some x)) (at_finds eq key k xs)
 
-find_map : {A B : Type 0} (q : B → Bool) (f : A → B) (xs : List A) → find q (map f xs) ≡ option_map f (find (λ x. q (f x)) xs)
+pub find_map : {A B : Type 0} (q : B → Bool) (f : A → B) (xs : List A) → find q (map f xs) ≡ option_map f (find (λ x. q (f x)) xs)
 find_map q f [] = refl
 find_map q f (x ∷ xs) = elim (cases_Bool (q (f x))) [ inl e ↦ rw e refl | inr e ↦ rw e (find_map q f xs) ]
 
 -- what is found passes
-found_passes : {A : Type 0} (p : A → Bool) (xs : List A) (x : A) → find p xs ≡ Some x → p x ≡ true
+pub found_passes : {A : Type 0} (p : A → Bool) (xs : List A) (x : A) → find p xs ≡ Some x → p x ≡ true
 found_passes p [] x h = absurd (cc)
 found_passes p (y ∷ ys) x h = elim (cases_Bool (p y)) [
   | inl e ↦ let h2 = rw e at h in let same : y ≡ x = cc in subst (λ z. p z ≡ true) same e
@@ -37,7 +37,7 @@ pub game_found : (m : Chart) (t : Tables) (name : List ℕ) → game_at name (st
 game_found m t name = at_finds bytes_eq name_of name (map (game_of m t) t.games) ∙ find_map (λ g. bytes_eq (name_of g) name) (game_of m t) t.games
 
 -- a seat whose game isn't there isn't there
-no_seat : (games : List GameRow) (name power : List ℕ) (seats : List SeatRow) → AllByRecursion (λ s. HasGame games s.game) seats → find (is_named name) games ≡ None → find (is_seat name power) seats ≡ None
+pub no_seat : (games : List GameRow) (name power : List ℕ) (seats : List SeatRow) → AllByRecursion (λ s. HasGame games s.game) seats → find (is_named name) games ≡ None → find (is_seat name power) seats ≡ None
 no_seat games name power [] all none = refl
 no_seat games name power (s ∷ ss) all none = elim (cases_Bool (is_seat name power s)) [
   | inl e ↦ absurd (
@@ -65,11 +65,11 @@ module _ (m : Chart) (ok : IsMap m) (t : Tables) (coded : AreCoded m t) (name : 
   pub part_found : part_at name power (state_of m t) ≡ option_map (part_of m t) (find (is_seat name (power_name m power)) t.seats)
   part_found = ap (option_and_then (λ g. seat_at power g.seats)) (game_found m t name) ∙ in_game (find (is_named name) t.games) refl
 
-map_twice : {A B C : Type 0} (g : B → C) (f : A → B) (o : Option A) → option_map g (option_map f o) ≡ option_map (λ x. g (f x)) o
+pub map_twice : {A B C : Type 0} (g : B → C) (f : A → B) (o : Option A) → option_map g (option_map f o) ≡ option_map (λ x. g (f x)) o
 map_twice g f None = refl
 map_twice g f (Some x) = refl
 
-then_map : {A B C : Type 0} (h : B → C) (f : A → Option B) (o : Option A) → option_and_then (λ x. option_map h (f x)) o ≡ option_map h (option_and_then f o)
+pub then_map : {A B C : Type 0} (h : B → C) (f : A → Option B) (o : Option A) → option_and_then (λ x. option_map h (f x)) o ≡ option_map h (option_and_then f o)
 then_map h f None = refl
 then_map h f (Some x) = refl
 

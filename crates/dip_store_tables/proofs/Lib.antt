@@ -1,4 +1,4 @@
-mod Parts
+pub mod Parts
 mod BoardPieces
 mod Owners
 pub mod Standoffs
@@ -7,11 +7,11 @@ pub mod Returns
 pub mod Pieces
 pub mod Records
 pub mod Replies
-mod Lists
+pub mod Lists
 mod Games
 mod Seats
 mod Letters
-mod Authors
+pub mod Authors
 mod Anew
 mod Press
 mod Openings
@@ -19,9 +19,9 @@ mod Effects
 mod Changes
 mod Coded
 mod Counts
-mod Found
+pub mod Found
 mod Written
-mod Pages
+pub mod Pages
 mod Deliveries
 pub mod Cutting
 pub mod KeptLines

@@ -12,15 +12,15 @@ use Rattle.dip_store_tables.specs.Tables.{BoxRow, PaperRow, is_box, is_paper_in}
 use Rattle.dip_store_tables.proofs.Lists.{filter_on, none_found}
 
 -- the numbers from one on, so many
-abbrev from : ℕ → ℕ → List ℕ
+abbrev pub from : ℕ → ℕ → List ℕ
 from i zero = []
 from i (suc n) = i ∷ from (suc i) n
 
-from_more : (i n : ℕ) → from i n ++ (i + n) ∷ [] ≡ from i (suc n)
+pub from_more : (i n : ℕ) → from i n ++ (i + n) ∷ [] ≡ from i (suc n)
 from_more i zero = let e : i + 0 ≡ i = omega arith in ap (λ k. k ∷ []) e
 from_more i (suc n) = let e : i + suc n ≡ suc i + n = omega arith in ap (λ ks. i ∷ ks) (ap (λ k. from (suc i) n ++ k ∷ []) e ∙ from_more (suc i) n)
 
-counted_from : (n : ℕ) → counted n ≡ from 1 n
+pub counted_from : (n : ℕ) → counted n ≡ from 1 n
 counted_from zero = refl
 counted_from (suc n) = let e : suc n ≡ 1 + n = omega arith in ap₂ (λ ks k. ks ++ k ∷ []) (counted_from n) e ∙ from_more 1 n
 

@@ -11,7 +11,8 @@ use Rattle.dip_map_chart.specs.Charts.{are_units_single}
 use Rattle.dip_names.specs.declared.names.Unit.{Unit as AUnit}
 use Rattle.dip_orders.proofs.AllowanceLaws.{distinct_from, provs_of, provs_single}
 use Rattle.dip_orders.proofs.KeptLaws.{count_cons}
-use Rattle.dip_turn.proofs.SingleLemmas.{behind, first, made_among, made_from}
+use Rattle.dip_orders.proofs.StandingLaws.{made_among}
+use Rattle.dip_turn.proofs.SingleLemmas.{behind, first, made_from}
 
 pub count_append : {A : Type 0} (p : A → Bool) (xs ys : List A) → count_by p (xs ++ ys) ≡ count_by p xs + count_by p ys
 count_append p xs ys = sum_by-append (λ x. cond (p x) 1 0) xs ys

@@ -8,7 +8,7 @@ use Rattle.dip_names.specs.declared.names.Unit.{Unit as AUnit}
 use Rattle.dip_orders.specs.Given.{orders_of_power}
 use Rattle.dip_orders.specs.Standing.{units_of}
 use Rattle.dip_orders.specs.declared.placed.PlacedOrder.{PlacedOrder}
-use Rattle.dip_orders.proofs.StandingLaws.{element_cases}
+use Rattle.dip_orders.proofs.StandingLaws.{element_cases, made_among}
 use Rattle.dip_decide_table.specs.Matching.{order_at}
 use Rattle.dip_turn_moves.proofs.KeptLemmas.{kept_in}
 
@@ -89,15 +89,6 @@ pub single_cons : (u : AUnit) (us : List AUnit) → ((v : AUnit) → Contains us
 single_cons u us apart single =
     let none = nobody (λ w. w.place.prov == u.place.prov) us (λ v among met. apart v among (eqb-true _ _ met)) in
     and_from (not (list_any (λ w. w.place.prov == u.place.prov) us)) (are_units_single us) (ap not none) single
-
--- what is made of each
-pub made_among : {A B : Type 0} (f : A → B) (xs : List A) (x : A) → Contains xs x → Contains (map f xs) (f x)
-made_among f [] x c = absurd (omega (arith, c.1))
-made_among f (z ∷ zs) x c =
-    elim (element_cases z zs x c.0 c.1 c.2) [
-      | inl is ↦ (0, (omega arith), ap f is)
-      | inr rest ↦ let among = made_among f zs x rest in (suc among.0, (omega (arith, among.1)), among.2)
-    ]
 
 -- those that are kept
 pub single_kept : {A : Type 0} (key : A → AUnit) (p : A → Bool) (xs : List A) → are_units_single (map key xs) ≡ true → are_units_single (map key (filter p xs)) ≡ true

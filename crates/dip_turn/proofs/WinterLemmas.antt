@@ -21,7 +21,7 @@ use Rattle.dip_orders.specs.declared.placed.Order.TheVariants.{Hold, Move, Suppo
 use Rattle.dip_orders.specs.declared.placed.PlacedOrder.{PlacedOrder}
 use Rattle.dip_orders.proofs.KeptLaws.{count_cons}
 use Rattle.dip_orders.proofs.LawfulReadLaws.{any_at}
-use Rattle.dip_orders.proofs.StandingLaws.{same_unit, unit_itself}
+use Rattle.dip_orders.proofs.StandingLaws.{same_unit, unit_itself, made_among}
 use Rattle.dip_turn.specs.Adjusting.{after_adjustment, builds_given, disorder, disorder_of, is_among, is_given, removals_given, removals_owed, units_built, units_kept, units_of_power, units_staying}
 use Rattle.dip_turn.specs.Laws.{BuildsStand, IsEvened, WintersEvenUnits}
 use Rattle.dip_turn.specs.Phases.{Sequel, follow, has_dislodged, in_phase, last_year, new_year, sequel}
@@ -35,7 +35,7 @@ use Rattle.dip_turn.proofs.DisorderCounts.{goes_among, stays_count}
 use Rattle.dip_turn_moves.proofs.KeptLemmas.{kept_in}
 use Rattle.dip_turn.proofs.MapLemmas.{AreEachLawful, come_of, each_lawful}
 use Rattle.dip_turn.proofs.RefugeLemmas.{found_in}
-use Rattle.dip_turn.proofs.SingleLemmas.{alone, behind, first, kept_from, made_among, made_from, others_single, single_filtered, single_kept, somebody}
+use Rattle.dip_turn.proofs.SingleLemmas.{alone, behind, first, kept_from, made_from, others_single, single_filtered, single_kept, somebody}
 
 -- of units of which no two stand in one province, two in one are one
 same_stands : (us : List AUnit) (u v : AUnit) → are_units_single us ≡ true → Contains us u → Contains us v → u.place.prov ≡ v.place.prov → u ≡ v

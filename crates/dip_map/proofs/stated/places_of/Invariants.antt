@@ -1,6 +1,6 @@
 use Rattle.std.proofs.Common.{◌≡◌, drop}
 use Rattle.dip_map.specs.Stated.{each, place_at}
-use Rattle.dip_map.proofs.Front.{with_front}
+use Rattle.dip_map_file.proofs.Front.{with_front}
 use Rattle.dip_map.proofs.stated.places_of.Given as goal
 
 abbrev pub invariant-loop-site : goal.invariant-loop-site

@@ -1,6 +1,6 @@
 use Rattle.std.proofs.Common.{◌≡◌, drop, map}
 use Rattle.dip_map.specs.Stated.{each, prov_at}
-use Rattle.dip_map.proofs.Front.{with_front}
+use Rattle.dip_map_file.proofs.Front.{with_front}
 use Rattle.dip_map.proofs.stated.provs_of.Given as goal
 
 abbrev pub invariant-loop-code : goal.invariant-loop-code

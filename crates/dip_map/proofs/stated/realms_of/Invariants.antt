@@ -1,6 +1,6 @@
 use Rattle.std.proofs.Common.{◌≡◌, drop}
 use Rattle.dip_map.specs.Stated.{each_from, realm_at}
-use Rattle.dip_map.proofs.Front.{with_front}
+use Rattle.dip_map_file.proofs.Front.{with_front}
 use Rattle.dip_map.proofs.stated.realms_of.Given as goal
 
 abbrev pub invariant-loop-number : goal.invariant-loop-number

@@ -1,4 +1,4 @@
-use Rattle.dip_store.proofs.Typed.{reads}
+use Rattle.dip_store_looks.proofs.Typed.{reads}
 use Rattle.dip_store.proofs.desk_row.number_at.Goals as goal
 
 pub returns-clause-own : goal.returns-clause-own

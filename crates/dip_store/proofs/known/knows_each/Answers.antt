@@ -4,7 +4,8 @@ use Rattle.sqlite.specs.State.{HasCleanDisk}
 use Rattle.sqlite.specs.Effect.{Database}
 use Rattle.sqlite.specs.declared.error.Error.{Error}
 use Rattle.dip_store.specs.Known.{IsKnown}
-use Rattle.dip_store.proofs.Alone.{alone_as, alone_then, went}
+use Rattle.dip_store_sql.proofs.Parts.{went}
+use Rattle.dip_store.proofs.Alone.{alone_as, alone_then}
 use Rattle.dip_store.proofs.Listed.{one_more}
 use Rattle.dip_store.proofs.known.knows_each.Goals as goal
 

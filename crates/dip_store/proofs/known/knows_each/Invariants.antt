@@ -5,7 +5,7 @@ use Rattle.sqlite.specs.State.{HasCleanDisk}
 use Rattle.sqlite.specs.declared.error.Error.{Error}
 use Rattle.dip_store.specs.Alone.{LeavesAlone}
 use Rattle.dip_store.specs.Known.{IsKnown}
-use Rattle.dip_store.proofs.Alone.{went}
+use Rattle.dip_store_sql.proofs.Parts.{went}
 use Rattle.dip_store.proofs.known.knows_each.Given as goal
 
 abbrev pub invariant-loop-text : goal.invariant-loop-text

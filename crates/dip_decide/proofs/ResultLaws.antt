@@ -1,19 +1,17 @@
 -- The lists of a resolution, and what they say together.
 use Rattle.std.proofs.Common.{◌≡◌, ℕ, ◌≤◌, ◌<◌, ◌+◌, ◌^◌, List, [], ◌∷◌, length, All, refl, sym, subst, ap, ◌∙◌, append-nil, inl, inr, zero, suc, arith}
 use Rattle.std.specs.Prelude.{◌==◌, nat_lt, Bool, true, false, ◌&&◌, ◌||◌, filter, None, Some}
-use Rattle.std.specs.List.{list_any, list_all, range_with_len}
-use Rattle.std.proofs.lemmas.Bool.{cases_Bool, both_ways, cases_lt, or_cases, eqb-true, or_left, or_right, and_parts}
+use Rattle.std.specs.List.{list_any, list_all, range_with_len, AllByRecursion}
+use Rattle.std.proofs.lemmas.Bool.{cases_Bool, both_ways, cases_lt, or_cases, eqb-true, or_left, or_right, and_parts, ltb-true}
 use Rattle.std.proofs.lemmas.Bool.Decides.{nat_tests}
 use Rattle.std.proofs.Math.Path.{fun_ext}
 use mathlib.Core.Logic.{◌⊎◌}
-use Rattle.std.specs.List.{AllByRecursion}
 use Rattle.std.proofs.lemmas.List.Elements.{All-from_recursion, recursion_from_All}
-use Rattle.std.proofs.lemmas.Bool.{ltb-true}
 use Rattle.dip_names.specs.declared.names.Kind.{Kind}
 use Rattle.dip_names.specs.declared.names.Kind.TheVariants.{Army, Fleet}
 use Rattle.dip_names.specs.declared.names.Place.{Place}
 use Rattle.dip_map.specs.Boards.{Position, IsOf, are_ascending}
-use Rattle.dip_map_chart.specs.Charts.{Chart, may_stand, is_unit}
+use Rattle.dip_map.specs.Charts.{Chart, may_stand, is_unit, are_provs_single}
 use Rattle.dip_orders.specs.Standing.{units_of, are_in_force}
 use Rattle.dip_decide_table.specs.declared.decisions.Resolution.{Resolution}
 use Rattle.dip_decide_table.specs.Deciding as Deciding
@@ -41,7 +39,6 @@ use Rattle.dip_decide_table.proofs.ChainLaws.{listed_kept}
 use Rattle.dip_decide_table.proofs.Giving.{among_paths, single_moves}
 use Rattle.dip_decide_table.proofs.RingLaws.{among_moves, length_moves}
 use Rattle.dip_decide.proofs.Tested.{bounded}
-use Rattle.dip_map_chart.specs.Charts.{are_provs_single}
 
 pub broken_any : (steps : List Written.Step) (p : ℕ) → is_broken (steps_of steps) (Path p) ≡ list_any (λ s. breaks s p) steps
 broken_any [] p = refl

@@ -7,7 +7,7 @@ use mathlib.Core.Logic.{◌⊎◌}
 use Rattle.dip_names.specs.declared.names.Kind.TheVariants.{Army, Fleet}
 use Rattle.dip_names.specs.declared.names.Kind.{Kind}
 use Rattle.dip_names.specs.declared.names.Unit.{Unit as AUnit}
-use Rattle.dip_map_chart.specs.Charts.{Chart, are_provs_single, are_units_single}
+use Rattle.dip_map.specs.Charts.{Chart, are_provs_single, are_units_single}
 use Rattle.dip_orders.specs.Standing.{is_in_force, are_in_force, units_of}
 use Rattle.dip_orders.specs.declared.placed.Order.{Order}
 use Rattle.dip_orders.specs.declared.placed.Order.TheVariants.{Hold, Move, SupportHold, SupportMove, Convoy, Retreat, Disband, Build, Remove}

@@ -2,3 +2,10 @@ pub mod Statements
 pub mod Working
 pub mod Worklist
 pub mod Waking
+pub use Rattle.dip_decide_table.specs.Deciding
+pub use Rattle.dip_decide_table.specs.Laws
+pub use Rattle.dip_decide_table.specs.Matching
+pub use Rattle.dip_decide_table.specs.Movement
+pub use Rattle.dip_decide_table.specs.Results
+pub use Rattle.dip_decide_table.specs.Steps
+pub use Rattle.dip_decide_table.specs.declared.decisions.Decision

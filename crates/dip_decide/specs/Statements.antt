@@ -2,7 +2,7 @@
 use Rattle.std.specs.Prelude.{◌≡◌, ◌↔◌, ℕ, Bool, true, false, List, ◌∷◌, None, suc, length}
 use mathlib.Core.Logic.{◌⊎◌}
 use Rattle.dip_map.specs.Boards.{Position}
-use Rattle.dip_map_chart.specs.Charts.{Chart}
+use Rattle.dip_map.specs.Charts.{Chart}
 use Rattle.dip_orders.specs.declared.placed.PlacedOrder.{PlacedOrder}
 use Rattle.dip_decide_table.specs.declared.decisions.Decision.{Decision}
 use Rattle.dip_decide_table.specs.declared.decisions.Decision.TheVariants.{Move, Path}

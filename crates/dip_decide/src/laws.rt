@@ -1,7 +1,5 @@
 //! Laws of movement, each the contract of a function that does nothing.
-ghost use Rattle.dip_decide.specs.Statements.{BoardsAreSituations, OneMoveEnters, NoneIsDislodgedByItsOwn, HeadToHeadOneFails};
-ghost use Rattle.dip_decide.specs.Statements.{ExplainedSatisfies, CyclesSucceed, UndisturbedConvoysHold, ValuesAreOne};
-ghost use Rattle.dip_decide.specs.Statements.{BrokenPathsAreOne, CornersDecide, ChainsAreFound, KnotsAreFound, KnotsAreAllOpenPaths, StepsCommute};
+ghost use Rattle.dip_decide.specs.Statements.{BoardsAreSituations, OneMoveEnters, NoneIsDislodgedByItsOwn, HeadToHeadOneFails, ExplainedSatisfies, CyclesSucceed, UndisturbedConvoysHold, ValuesAreOne, BrokenPathsAreOne, CornersDecide, ChainsAreFound, KnotsAreFound, KnotsAreAllOpenPaths, StepsCommute};
 
 /// Each board with one order for each unit is a situation as the laws of movement ask for it.
 pub fn boards_are_situations()

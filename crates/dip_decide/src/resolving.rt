@@ -1,7 +1,7 @@
 //! A movement as a whole: from the orders to the resolution.
 ghost use Rattle.std.specs.Prelude.{◌≡◌, ◌≤◌, ◌+◌, IfOk, length, filter, Some, true, false};
 ghost use Rattle.std.specs.List.{list_any, slice_set};
-ghost use Rattle.dip_map_chart.specs.Charts.{provs};
+ghost use Rattle.dip_map.specs.Charts.{provs};
 ghost use Rattle.dip_map.specs.Boards.{IsOf};
 ghost use Rattle.dip_orders.specs.Standing.{units_of};
 ghost use Rattle.dip_decide_table.specs.declared.decisions.Decision.{Decision as ADecision};

@@ -9,18 +9,18 @@ use Rattle.dip_names.specs.declared.names.Place.{Place}
 use Rattle.dip_names.specs.declared.names.Terrain.{Terrain}
 use Rattle.dip_names.specs.declared.names.Terrain.TheVariants.{Inland, Coast, Sea}
 use Rattle.dip_names.specs.Kinds.{is_kind, is_sea}
-use Rattle.dip_map_chart.specs.Charts.{Chart, Shore, no_shore, province, shore, are_units_single}
+use Rattle.dip_map.specs.Charts.{Chart, Shore, no_shore, province, shore, are_units_single}
 use Rattle.dip_map.specs.Boards.{Position}
 use Rattle.dip_orders.specs.Standing.{units_of}
 use Rattle.dip_orders.specs.declared.placed.Other.{Other}
 use Rattle.dip_orders.specs.declared.placed.Order.{Order}
 use Rattle.dip_orders.specs.declared.placed.Order.TheVariants.{Hold, Move, SupportHold, SupportMove, Convoy, Retreat, Disband, Build, Remove}
 use Rattle.dip_orders.specs.declared.placed.PlacedOrder.{PlacedOrder}
-use Rattle.dip_decide_table.specs.declared.decisions.Decision.TheVariants.{Move as Moves, Path as Paths}
-use Rattle.dip_decide_table.specs.Deciding.{Assignment}
-use Rattle.dip_decide_table.specs.Laws.{AreJoined}
-use Rattle.dip_decide_table.specs.Matching.{order_at, convoys_in, is_carried, is_there, is_convoyed, is_sea_next, situation}
-use Rattle.dip_decide_table.specs.Movement.{is_at, goes, is_entered, is_listed, joins, path_rule, rule, serves}
+use Rattle.dip_decide.specs.Decision.TheVariants.{Move as Moves, Path as Paths}
+use Rattle.dip_decide.specs.Deciding.{Assignment}
+use Rattle.dip_decide.specs.Laws.{AreJoined}
+use Rattle.dip_decide.specs.Matching.{order_at, convoys_in, is_carried, is_there, is_convoyed, is_sea_next, situation}
+use Rattle.dip_decide.specs.Movement.{is_at, goes, is_entered, is_listed, joins, path_rule, rule, serves}
 use Rattle.dip_decide.specs.Statements.{ChainsAreFound}
 use Rattle.dip_decide_laws.specs.Words.{IsDecided, prov, goes_to, goes_itself, names, has_moved, has_entered}
 use Rattle.dip_decide_laws.specs.Laws.{AreNextAtSea, Carries, AreCarrying, IsCarried}

@@ -4,11 +4,11 @@ use Rattle.std.specs.Prelude.{◌==◌, nat_lt, Bool, true, false, not, ◌&&◌
 use Rattle.std.specs.List.{list_all}
 use Rattle.std.proofs.lemmas.Bool.{ltb-true, eqb-true, or_cases, or_left, or_right, cases_Bool, both_ways, and_parts, and_from, not-true}
 use Rattle.std.proofs.lemmas.Bool.Decides.{nat_tests}
-use Rattle.dip_decide_table.specs.declared.decisions.Decision.{Decision}
-use Rattle.dip_decide_table.specs.declared.decisions.Decision.TheVariants.{Move, Support}
-use Rattle.dip_decide_table.specs.Deciding.{Assignment, Equation, Known, Mentions, Step, Explains, is_among, is_broken, is_path}
-use Rattle.dip_decide_table.specs.Deciding.Step.{Forced, Circle, Knot}
-use Rattle.dip_decide_table.specs.Movement.{Situation, is_at, goes, has_move, has_path, head_to_head, support, support_against, attack, prevent, opposition, beats, succeeds, move_rule, cuts, is_support, rule, is_listed, Satisfies}
+use Rattle.dip_decide.specs.Decision.{Decision}
+use Rattle.dip_decide.specs.Decision.TheVariants.{Move, Support}
+use Rattle.dip_decide.specs.Deciding.{Assignment, Equation, Known, Mentions, Step, Explains, is_among, is_broken, is_path}
+use Rattle.dip_decide.specs.Deciding.Step.{Forced, Circle, Knot}
+use Rattle.dip_decide.specs.Movement.{Situation, is_at, goes, has_move, has_path, head_to_head, support, support_against, attack, prevent, opposition, beats, succeeds, move_rule, cuts, is_support, rule, is_listed, Satisfies}
 use Rattle.dip_decide_laws.proofs.ListLemmas.{all_at, all_each, one_fails, count_fewer}
 
 -- knots break paths alone

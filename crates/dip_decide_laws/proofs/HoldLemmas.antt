@@ -4,15 +4,15 @@ use Rattle.std.specs.Prelude.{◌==◌, Bool, true, false, cond, Option, None, S
 use Rattle.std.proofs.lemmas.Bool.{and_parts, and_from}
 use Rattle.dip_names.specs.declared.names.Kind.{Kind}
 use Rattle.dip_names.specs.declared.names.Kind.TheVariants.{Army, Fleet}
-use Rattle.dip_map_chart.specs.Charts.{Chart}
+use Rattle.dip_map.specs.Charts.{Chart}
 use Rattle.dip_map.specs.Boards.{Position}
 use Rattle.dip_orders.specs.Standing.{is_in_force, are_in_force, units_of}
 use Rattle.dip_orders.specs.declared.placed.Other.{Other}
 use Rattle.dip_orders.specs.declared.placed.Order.TheVariants.{Hold}
 use Rattle.dip_orders.specs.declared.placed.PlacedOrder.{PlacedOrder}
-use Rattle.dip_decide_table.specs.Laws.{AreOrders}
-use Rattle.dip_decide_table.specs.Matching.{goes_by_convoy, is_there, is_one_power, order_at, provinces_of, situation}
-use Rattle.dip_decide_table.specs.Movement.{Situation}
+use Rattle.dip_decide.specs.Laws.{AreOrders}
+use Rattle.dip_decide.specs.Matching.{goes_by_convoy, is_there, is_one_power, order_at, provinces_of, situation}
+use Rattle.dip_decide.specs.Movement.{Situation}
 use Rattle.dip_decide_laws.specs.Words.{prov, held_if, holding}
 
 -- an order to hold of the same unit

@@ -4,7 +4,7 @@ use Rattle.std.specs.Prelude.{◌==◌, Bool, true, false, ◌&&◌, ◌||◌, c
 use Rattle.std.specs.List.{list_all, list_any}
 use Rattle.std.proofs.lemmas.Bool.{eqb-true, or_cases, or_left, or_right, both_ways, and_parts, and_from, cases_Bool}
 use Rattle.std.proofs.lemmas.List.Sums.{sum_by-cons}
-use Rattle.dip_decide_table.specs.Movement.{is_listed}
+use Rattle.dip_decide.specs.Movement.{is_listed}
 
 -- what holds of each holds of one that is listed
 pub all_at : (t : ℕ → Bool) (ps : List ℕ) (p : ℕ) → list_all t ps ≡ true → is_listed ps p ≡ true → t p ≡ true

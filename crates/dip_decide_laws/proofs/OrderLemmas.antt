@@ -7,15 +7,15 @@ use Rattle.dip_names.specs.declared.names.Kind.{Kind}
 use Rattle.dip_names.specs.declared.names.Kind.TheVariants.{Army, Fleet}
 use Rattle.dip_names.specs.declared.names.Unit.{Unit as AUnit}
 use Rattle.dip_names.specs.Kinds.{is_kind}
-use Rattle.dip_map_chart.specs.Charts.{Chart, is_army_next, are_units_single}
+use Rattle.dip_map.specs.Charts.{Chart, is_army_next, are_units_single}
 use Rattle.dip_orders.specs.declared.placed.Order.{Order}
 use Rattle.dip_orders.specs.declared.placed.Order.TheVariants.{Hold, Move, SupportHold, SupportMove, Convoy, Retreat, Disband, Build, Remove}
 use Rattle.dip_orders.specs.declared.placed.PlacedOrder.{PlacedOrder}
 use Rattle.dip_orders.specs.Standing.{units_of}
-use Rattle.dip_decide_table.specs.Deciding.{Assignment}
-use Rattle.dip_decide_table.specs.declared.decisions.Decision.TheVariants.{Support as Supports}
-use Rattle.dip_decide_table.specs.Matching.{destination, direction, order_at, provinces_of, goes_by_convoy, is_matched, situation}
-use Rattle.dip_decide_table.specs.Movement.{Situation, is_at, is_listed, goes, has_move, head_to_head, support, support_against}
+use Rattle.dip_decide.specs.Deciding.{Assignment}
+use Rattle.dip_decide.specs.Decision.TheVariants.{Support as Supports}
+use Rattle.dip_decide.specs.Matching.{destination, direction, order_at, provinces_of, goes_by_convoy, is_matched, situation}
+use Rattle.dip_decide.specs.Movement.{Situation, is_at, is_listed, goes, has_move, head_to_head, support, support_against}
 use Rattle.dip_decide_laws.specs.Words.{prov, is_a_move, is_move_to, moves, goes_to, is_own_way, goes_itself, are_head_to_head, is_support_of, is_support_into, helps, helpers, helpers_but}
 use Rattle.dip_decide_laws.proofs.ListLemmas.{first_or_other, contains_more, count_map, count_alike}
 

@@ -6,17 +6,17 @@ use Rattle.std.proofs.Math.Path.{fun_ext}
 use Rattle.dip_names.specs.declared.names.Kind.{Kind}
 use Rattle.dip_names.specs.declared.names.Kind.TheVariants.{Army, Fleet}
 use Rattle.dip_names.specs.Kinds.{is_kind, is_sea}
-use Rattle.dip_map_chart.specs.Charts.{Chart, province, are_units_single}
+use Rattle.dip_map.specs.Charts.{Chart, province, are_units_single}
 use Rattle.dip_map.specs.Boards.{Position}
 use Rattle.dip_orders.specs.Standing.{units_of}
 use Rattle.dip_orders.specs.declared.placed.Other.{Other}
 use Rattle.dip_orders.specs.declared.placed.Order.{Order}
 use Rattle.dip_orders.specs.declared.placed.Order.TheVariants.{Hold, Move, SupportHold, SupportMove, Convoy, Retreat, Disband, Build, Remove}
 use Rattle.dip_orders.specs.declared.placed.PlacedOrder.{PlacedOrder}
-use Rattle.dip_decide_table.specs.declared.decisions.Decision.TheVariants.{Support as Supports}
-use Rattle.dip_decide_table.specs.Deciding.{Assignment}
-use Rattle.dip_decide_table.specs.Matching.{Standing, destination, target_of, direction, aim_of, goes_by_convoy, is_convoyed, is_there, is_matched, supports_in, is_carried, convoys_in, order_at, situation}
-use Rattle.dip_decide_table.specs.Movement.{IsSituation, is_at}
+use Rattle.dip_decide.specs.Decision.TheVariants.{Support as Supports}
+use Rattle.dip_decide.specs.Deciding.{Assignment}
+use Rattle.dip_decide.specs.Matching.{Standing, destination, target_of, direction, aim_of, goes_by_convoy, is_convoyed, is_there, is_matched, supports_in, is_carried, convoys_in, order_at, situation}
+use Rattle.dip_decide.specs.Movement.{IsSituation, is_at}
 use Rattle.dip_decide.specs.Statements.{BoardsAreSituations}
 use Rattle.dip_decide_laws.specs.Words.{IsDecided, prov, held_if, holding, is_a_move, is_in, is_stay_support, is_in_or_stays, is_own_way, goes_itself, was_carried}
 use Rattle.dip_decide_laws.specs.Laws.{IsTheSameBut}

@@ -2,18 +2,17 @@
 use Rattle.std.proofs.Common.{◌≡◌, ◌≢◌, ℕ, ◌≤◌, ◌⊎◌, inl, inr, List, refl, sym, subst, ap, ◌∙◌, arith, ◌<◌}
 use Rattle.std.specs.Prelude.{◌==◌, Bool, true, false, not, ◌&&◌, Contains, Option, None, Some, is_some}
 use Rattle.std.proofs.lemmas.Bool.{eqb-true, eq-eqb, or_cases, or_left, or_right, cases_Bool, both_ways, and_parts, and_from, not-true}
-use Rattle.dip_map_chart.specs.Charts.{Chart, are_units_single}
+use Rattle.dip_map.specs.Charts.{Chart, are_units_single}
 use Rattle.dip_map.specs.Boards.{Position}
 use Rattle.dip_orders.specs.Standing.{units_of}
 use Rattle.dip_orders.specs.declared.placed.Order.{Order}
 use Rattle.dip_orders.specs.declared.placed.Order.TheVariants.{Hold, Move, SupportHold, SupportMove, Convoy, Retreat, Disband, Build, Remove}
 use Rattle.dip_orders.specs.declared.placed.PlacedOrder.{PlacedOrder}
-use Rattle.dip_decide_table.specs.declared.decisions.Decision.TheVariants.{Path as Paths}
-use Rattle.dip_decide_table.specs.declared.decisions.Decision.TheVariants.{Move as Moves}
-use Rattle.dip_decide_table.specs.Deciding.{Assignment}
-use Rattle.dip_decide_table.specs.Laws.{AreOrders}
-use Rattle.dip_decide_table.specs.Matching.{situation, order_at, target_of}
-use Rattle.dip_decide_table.specs.Movement.{Situation, goes, has_path, head_to_head, prevent, support, is_support, is_at, has_move, support_against}
+use Rattle.dip_decide.specs.Decision.TheVariants.{Path as Paths, Move as Moves}
+use Rattle.dip_decide.specs.Deciding.{Assignment}
+use Rattle.dip_decide.specs.Laws.{AreOrders}
+use Rattle.dip_decide.specs.Matching.{situation, order_at, target_of}
+use Rattle.dip_decide.specs.Movement.{Situation, goes, has_path, head_to_head, prevent, support, is_support, is_at, has_move, support_against}
 use Rattle.dip_decide_laws.specs.Words.{IsDecided, prov, is_a_move, moves, goes_to, goes_itself, are_head_to_head, helps, is_support_of, has_moved, has_helped, was_carried, was_dislodged_by, WasDislodged, HasWay, helpers_but, has_entered, helpers}
 use Rattle.dip_decide_laws.specs.Laws.{IsCutBy, IsOverpowered, AreRivalsWeaker, Stays, AreOthersBelow, IsLeft, IsNoLoser}
 use Rattle.dip_decide_laws.proofs.EquationLemmas as equations

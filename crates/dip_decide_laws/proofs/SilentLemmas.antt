@@ -5,10 +5,10 @@ use Rattle.std.specs.List.{list_all}
 use Rattle.std.proofs.lemmas.Bool.{eqb-true, eq-eqb, cases_Bool, cases_lt, both_ways}
 use Rattle.std.proofs.lemmas.Bool.Decides.{nat_tests}
 use Rattle.std.proofs.Math.Path.{fun_ext}
-use Rattle.dip_decide_table.specs.declared.decisions.Decision.{Decision}
-use Rattle.dip_decide_table.specs.declared.decisions.Decision.TheVariants.{Move, Path, Support}
-use Rattle.dip_decide_table.specs.Deciding.{Assignment, is_path}
-use Rattle.dip_decide_table.specs.Movement.{Situation, is_at, goes, has_move, has_path, head_to_head, support, support_against, attack, hold, prevent, opposition, beats, succeeds, move_rule, cuts, is_support, is_entered, serves, joins, path_rule, rule, Satisfies}
+use Rattle.dip_decide.specs.Decision.{Decision}
+use Rattle.dip_decide.specs.Decision.TheVariants.{Move, Path, Support}
+use Rattle.dip_decide.specs.Deciding.{Assignment, is_path}
+use Rattle.dip_decide.specs.Movement.{Situation, is_at, goes, has_move, has_path, head_to_head, support, support_against, attack, hold, prevent, opposition, beats, succeeds, move_rule, cuts, is_support, is_entered, serves, joins, path_rule, rule, Satisfies}
 use Rattle.dip_decide_laws.proofs.EquationLemmas as equations
 use Rattle.dip_decide_laws.proofs.HoldLemmas.{made}
 use Rattle.dip_decide_laws.proofs.ListLemmas.{all_alike, any_alike, any_none, count_alike, count_none}

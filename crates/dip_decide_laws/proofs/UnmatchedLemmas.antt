@@ -7,18 +7,18 @@ use Rattle.std.proofs.Math.Path.{fun_ext}
 use Rattle.dip_names.specs.declared.names.Kind.{Kind}
 use Rattle.dip_names.specs.declared.names.Kind.TheVariants.{Army, Fleet}
 use Rattle.dip_names.specs.Kinds.{is_kind, is_sea}
-use Rattle.dip_map_chart.specs.Charts.{Chart, province, are_units_single}
+use Rattle.dip_map.specs.Charts.{Chart, province, are_units_single}
 use Rattle.dip_map.specs.Boards.{Position}
 use Rattle.dip_orders.specs.Standing.{units_of}
 use Rattle.dip_orders.specs.declared.placed.Order.{Order}
 use Rattle.dip_orders.specs.declared.placed.Order.TheVariants.{Hold, Move, SupportHold, SupportMove, Convoy, Retreat, Disband, Build, Remove}
 use Rattle.dip_orders.specs.declared.placed.PlacedOrder.{PlacedOrder}
-use Rattle.dip_decide_table.specs.declared.decisions.Decision.{Decision}
-use Rattle.dip_decide_table.specs.declared.decisions.Decision.TheVariants.{Move as Moves, Path as Paths, Support as Supports}
-use Rattle.dip_decide_table.specs.Deciding.{Assignment}
-use Rattle.dip_decide_table.specs.Laws.{AreOrders}
-use Rattle.dip_decide_table.specs.Matching.{Standing, destination, target_of, aim_of, goes_by_convoy, is_convoyed, is_matched, supports_in, is_carried, convoys_in, order_at, situation}
-use Rattle.dip_decide_table.specs.Movement.{Situation, is_at, goes, has_path, is_support, move_rule, path_rule, rule, cuts}
+use Rattle.dip_decide.specs.Decision.{Decision}
+use Rattle.dip_decide.specs.Decision.TheVariants.{Move as Moves, Path as Paths, Support as Supports}
+use Rattle.dip_decide.specs.Deciding.{Assignment}
+use Rattle.dip_decide.specs.Laws.{AreOrders}
+use Rattle.dip_decide.specs.Matching.{Standing, destination, target_of, aim_of, goes_by_convoy, is_convoyed, is_matched, supports_in, is_carried, convoys_in, order_at, situation}
+use Rattle.dip_decide.specs.Movement.{Situation, is_at, goes, has_path, is_support, move_rule, path_rule, rule, cuts}
 use Rattle.dip_decide_laws.specs.Words.{IsDecided, prov, held_if, holding, is_in, is_a_support, helps}
 use Rattle.dip_decide_laws.proofs.EquationLemmas.{given_is}
 use Rattle.dip_decide_laws.proofs.ListLemmas.{any_none}

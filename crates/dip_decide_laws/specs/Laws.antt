@@ -3,16 +3,16 @@ use Rattle.std.specs.Prelude.{◌≡◌, ◌≢◌, ℕ, ◌<◌, ◌≤◌, ◌
 use Rattle.dip_names.specs.declared.names.Kind.TheVariants.{Fleet}
 use Rattle.dip_names.specs.declared.names.Place.{Place}
 use Rattle.dip_names.specs.declared.names.Terrain.TheVariants.{Sea}
-use Rattle.dip_map_chart.specs.Charts.{Chart, is_fleet_next, province}
+use Rattle.dip_map.specs.Charts.{Chart, is_fleet_next, province}
 use Rattle.dip_map.specs.Boards.{Position}
 use Rattle.dip_orders.specs.declared.placed.Other.{Other}
 use Rattle.dip_orders.specs.declared.placed.Order.TheVariants.{Convoy}
 use Rattle.dip_orders.specs.declared.placed.PlacedOrder.{PlacedOrder}
-use Rattle.dip_decide_table.specs.declared.decisions.Decision.TheVariants.{Move as Moves, Path as Paths}
-use Rattle.dip_decide_table.specs.Deciding.{Assignment, Step}
-use Rattle.dip_decide_table.specs.Laws.{AreOrders}
-use Rattle.dip_decide_table.specs.Matching.{situation}
-use Rattle.dip_decide_table.specs.Results.{AreExplained}
+use Rattle.dip_decide.specs.Decision.TheVariants.{Move as Moves, Path as Paths}
+use Rattle.dip_decide.specs.Deciding.{Assignment, Step}
+use Rattle.dip_decide.specs.Laws.{AreOrders}
+use Rattle.dip_decide.specs.Matching.{situation}
+use Rattle.dip_decide.specs.Results.{AreExplained}
 use Rattle.dip_decide_laws.specs.Words.{IsDecided, prov, moves, goes_to, goes_itself, are_head_to_head, names, helps, is_support_into, has_moved, has_helped, was_carried, HasWay, has_entered, was_dislodged_by, WasDislodged, helpers, helpers_but, holding, is_a_support, is_in, is_in_or_stays}
 
 -- what steps explain is a movement that was decided

@@ -3,18 +3,18 @@ use Rattle.std.specs.Prelude.{◌≡◌, ◌⊎◌, ℕ, ◌==◌, ◌&&◌, ◌
 use Rattle.dip_names.specs.declared.names.Kind.{Kind}
 use Rattle.dip_names.specs.declared.names.Kind.TheVariants.{Army, Fleet}
 use Rattle.dip_names.specs.Kinds.{is_kind}
-use Rattle.dip_map_chart.specs.Charts.{Chart, is_army_next}
+use Rattle.dip_map.specs.Charts.{Chart, is_army_next}
 use Rattle.dip_map.specs.Boards.{Position}
 use Rattle.dip_orders.specs.declared.placed.Other.{Other}
 use Rattle.dip_orders.specs.declared.placed.Order.{Order}
 use Rattle.dip_orders.specs.declared.placed.Order.TheVariants.{Hold, Move, SupportHold, SupportMove}
 use Rattle.dip_orders.specs.declared.placed.PlacedOrder.{PlacedOrder}
-use Rattle.dip_decide_table.specs.declared.decisions.Decision.{Decision}
-use Rattle.dip_decide_table.specs.declared.decisions.Decision.TheVariants.{Move as Moves, Path as Paths, Support as Supports}
-use Rattle.dip_decide_table.specs.Deciding.{Assignment, is_path}
-use Rattle.dip_decide_table.specs.Laws.{AreOrders}
-use Rattle.dip_decide_table.specs.Matching.{situation}
-use Rattle.dip_decide_table.specs.Movement.{Satisfies}
+use Rattle.dip_decide.specs.Decision.{Decision}
+use Rattle.dip_decide.specs.Decision.TheVariants.{Move as Moves, Path as Paths, Support as Supports}
+use Rattle.dip_decide.specs.Deciding.{Assignment, is_path}
+use Rattle.dip_decide.specs.Laws.{AreOrders}
+use Rattle.dip_decide.specs.Matching.{situation}
+use Rattle.dip_decide.specs.Movement.{Satisfies}
 
 -- a movement that was decided: a board of a map, an order in force for each unit of it, and what came of them by the decision
 -- equations, where nothing was broken but paths

@@ -1,10 +1,5 @@
 //! Laws of movement, each the contract of a function that does nothing.
-ghost use Rattle.dip_decide_laws.specs.Laws.{DislodgedByOthersAlone, DislodgedFleetsCarryNobody};
-ghost use Rattle.dip_decide_laws.specs.Laws.{DislodgedGiveNoSupport, EnterersAreStrongest};
-ghost use Rattle.dip_decide_laws.specs.Laws.{ExplainedIsDecided, OverpoweredAreDislodged};
-ghost use Rattle.dip_decide_laws.specs.Laws.{LosersPreventNobody, NoPowerCutsItsOwn};
-ghost use Rattle.dip_decide_laws.specs.Laws.{PathlessChangesNothing, StrongestEnter, UnitsWithoutMovesStay};
-ghost use Rattle.dip_decide_laws.specs.Laws.{UnmatchedChangesNothing, UnmatchedIsVoid};
+ghost use Rattle.dip_decide_laws.specs.Laws.{DislodgedByOthersAlone, DislodgedFleetsCarryNobody, DislodgedGiveNoSupport, EnterersAreStrongest, ExplainedIsDecided, OverpoweredAreDislodged, LosersPreventNobody, NoPowerCutsItsOwn, PathlessChangesNothing, StrongestEnter, UnitsWithoutMovesStay, UnmatchedChangesNothing, UnmatchedIsVoid};
 
 use dip_decide::{boards_are_situations, chains_are_found, explained_is_lawful};
 

@@ -5,7 +5,7 @@ use Rattle.std.specs.List.{list_any, range_with_len, slice_index_or, slice_set}
 use Rattle.std.proofs.lemmas.List.{drop_more, drop_all, map-set}
 use Rattle.std.proofs.lemmas.List.FromFn.{get_or-map-range_with_len}
 use Rattle.std.proofs.lemmas.Bool.{ne_eqb, eq-eqb}
-use Rattle.dip_map_chart.specs.Charts.{Chart, provs}
+use Rattle.dip_map.specs.Charts.{Chart, provs}
 use Rattle.dip_orders.specs.declared.placed.PlacedOrder.{PlacedOrder}
 use Rattle.dip_decide_table.specs.declared.decisions.Step as Written
 use Rattle.dip_decide_table.specs.declared.decisions.Step.TheVariants.{Forced, Circle, Knot}

@@ -6,7 +6,7 @@ use Rattle.std.proofs.lemmas.Bool.{cases_Bool, both_ways, or_left, or_right, and
 use Rattle.std.proofs.lemmas.List.{take_more}
 use Rattle.std.proofs.Math.Path.{fun_ext}
 use mathlib.Core.Logic.{◌⊎◌}
-use Rattle.dip_map_chart.specs.Charts.{are_provs_single}
+use Rattle.dip_map.specs.Charts.{are_provs_single}
 use Rattle.dip_decide_table.specs.declared.decisions.Decision.{Decision}
 use Rattle.dip_decide_table.specs.declared.decisions.Decision.TheVariants.{Move, Path}
 use Rattle.dip_decide_table.specs.Deciding.{same, is_among, AreDistinct, Known, give}

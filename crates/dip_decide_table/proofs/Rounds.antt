@@ -1,12 +1,11 @@
 -- Where nothing is forced: a ring is a circle; without one, the open paths are the knot; without these, all is known.
 use Rattle.std.proofs.Common.{◌≡◌, ℕ, ◌≤◌, ◌<◌, ◌+◌, cond, List, [], ◌∷◌, ◌++◌, length, refl, sym, subst, ◌∙◌, inl, inr, zero, suc, arith}
-use Rattle.std.specs.Prelude.{◌==◌, ◌↔◌, Bool, true, false, None, Some, filter, not, ◌&&◌}
+use Rattle.std.specs.Prelude.{◌==◌, ◌↔◌, Bool, true, false, None, Some, filter, not, ◌&&◌, IfOk, OnOk, Result, Ok, Err}
 use Rattle.std.specs.List.{list_any}
 use Rattle.std.proofs.lemmas.Bool.{cases_Bool, both_ways, or_cases, or_left, or_right, eq-eqb, and_parts, not-true}
 use Rattle.std.proofs.lemmas.Bool.Decides.{nat_tests}
-use Rattle.std.specs.Prelude.{IfOk, OnOk, Result, Ok, Err}
 use mathlib.Core.Logic.{◌⊎◌}
-use Rattle.dip_map_chart.specs.Charts.{are_provs_single}
+use Rattle.dip_map.specs.Charts.{are_provs_single}
 use Rattle.dip_decide_table.specs.declared.decisions.Decision.{Decision}
 use Rattle.dip_decide_table.specs.declared.decisions.Decision.TheVariants.{Move, Path, Support}
 use Rattle.dip_decide_table.specs.Deciding.{same, is_among, Known, Equation, Mentions, Follows, AreLinked, is_move, IsCircle, is_path, IsOpenPath, IsKnotted, IsKnot, Reaches, give, Step}

@@ -1,11 +1,10 @@
 -- The search that visits each fleet once finds a chain exactly where there is one.
-use Rattle.std.proofs.Common.{◌≡◌, ℕ, ◌≤◌, ◌<◌, ◌+◌, List, [], ◌∷◌, ◌++◌, take, get_or, length, refl, sym, subst, ap, ◌∙◌, append_assoc, inl, inr, suc, arith}
+use Rattle.std.proofs.Common.{◌≡◌, ℕ, ◌≤◌, ◌<◌, ◌+◌, List, [], ◌∷◌, ◌++◌, take, get_or, length, refl, sym, subst, ap, ◌∙◌, append_assoc, inl, inr, suc, arith, length-append}
 use Rattle.std.specs.Prelude.{◌==◌, Bool, true, false, not, ◌||◌, filter}
 use Rattle.std.proofs.lemmas.Bool.{cases_Bool, both_ways, or_cases, or_left, or_right, and_parts, and_from, eqb-true, not-true}
 use Rattle.std.proofs.lemmas.List.{take_more, take_all, take-append-le}
-use Rattle.std.proofs.Common.{length-append}
 use mathlib.Core.Logic.{◌⊎◌}
-use Rattle.dip_map_chart.specs.Charts.{are_provs_single}
+use Rattle.dip_map.specs.Charts.{are_provs_single}
 use Rattle.dip_decide_table.specs.declared.decisions.Decision.{Decision}
 use Rattle.dip_decide_table.specs.declared.decisions.Decision.TheVariants.{Move, Path, Support}
 use Rattle.dip_decide_table.specs.Deciding.{Assignment, is_among}

@@ -1,6 +1,6 @@
 -- A search for a chain that visits each fleet once.
 use Rattle.std.specs.Prelude.{◌≡◌, ℕ, ◌≤◌, Bool, true, false, List, ◌++◌, take, length}
-use Rattle.dip_map_chart.specs.Charts.{are_provs_single}
+use Rattle.dip_map.specs.Charts.{are_provs_single}
 use Rattle.dip_decide_table.specs.Movement.{is_listed}
 use Rattle.dip_decide_table.specs.Laws.{AreJoined, IsChain}
 

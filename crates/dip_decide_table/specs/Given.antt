@@ -1,7 +1,7 @@
 -- What the lists of the code stand for.
 use Rattle.std.specs.Prelude.{◌≡◌, ◌&&◌, ℕ, Bool, false, List, length, map, Option, None, Some, if◌then◌else◌}
 use Rattle.std.specs.List.{slice_index_or}
-use Rattle.dip_map_chart.specs.Charts.{Chart, provs}
+use Rattle.dip_map.specs.Charts.{Chart, provs}
 use Rattle.dip_orders.specs.declared.placed.PlacedOrder.{PlacedOrder}
 use Rattle.dip_decide_table.specs.declared.decisions.Decision.{Decision}
 use Rattle.dip_decide_table.specs.declared.decisions.Decision.TheVariants.{Move, Path, Support}

@@ -1,9 +1,8 @@
 -- What the laws of movement speak of.
 use Rattle.std.specs.Prelude.{◌≡◌, ℕ, ◌≤◌, ◌&&◌, not, Bool, true, false, List, [], ◌∷◌, length}
 use Rattle.std.specs.List.{list_any}
-use Rattle.dip_map.specs.Boards.{Position}
-use Rattle.dip_map.specs.Boards.{IsOf}
-use Rattle.dip_map_chart.specs.Charts.{Chart, are_provs_single}
+use Rattle.dip_map.specs.Boards.{Position, IsOf}
+use Rattle.dip_map.specs.Charts.{Chart, are_provs_single}
 use Rattle.dip_orders.specs.Standing.{are_in_force, units_of}
 use Rattle.dip_orders.specs.declared.placed.PlacedOrder.{PlacedOrder}
 use Rattle.dip_decide_table.specs.Movement.{Situation, goes, is_listed}

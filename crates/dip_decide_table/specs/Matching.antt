@@ -3,7 +3,7 @@ use Rattle.std.specs.Prelude.{ℕ, ◌==◌, ◌&&◌, ◌||◌, not, Bool, fals
 use Rattle.std.specs.List.{list_any}
 use Rattle.dip_names.specs.declared.names.Kind.{Kind}
 use Rattle.dip_names.specs.declared.names.Kind.TheVariants.{Army, Fleet}
-use Rattle.dip_map_chart.specs.Charts.{Chart, province, is_army_next}
+use Rattle.dip_map.specs.Charts.{Chart, province, is_army_next}
 use Rattle.dip_names.specs.Kinds.{is_kind, is_sea}
 use Rattle.dip_orders.specs.declared.placed.Other.{Other}
 use Rattle.dip_orders.specs.declared.placed.Order.{Order}

@@ -1,7 +1,7 @@
 -- What a resolution says.
 use Rattle.std.specs.Prelude.{◌≡◌, ℕ, ◌&&◌, cond, nat_lt, Bool, true, false, List, [], ◌∷◌, filter, Option, None, Some}
 use Rattle.std.specs.List.{slice_index_or, list_any, list_all, count_by, sum_by}
-use Rattle.dip_map_chart.specs.Charts.{Chart, provs}
+use Rattle.dip_map.specs.Charts.{Chart, provs}
 use Rattle.dip_decide_table.specs.declared.decisions.Decision.{Decision}
 use Rattle.dip_decide_table.specs.declared.decisions.Decision.TheVariants.{Move, Path, Support}
 use Rattle.dip_decide_table.specs.declared.decisions.Resolution.{Resolution}

@@ -1,7 +1,7 @@
 //! Which orders match: where units go, and what they support and convoy.
 ghost use Rattle.std.specs.Prelude.{◌≡◌, ◌==◌, Some};
 ghost use Rattle.std.specs.List.{list_any};
-ghost use Rattle.dip_map_chart.specs.Charts.{province, shore};
+ghost use Rattle.dip_map.specs.Charts.{province, shore};
 ghost use Rattle.dip_names.specs.Kinds.{is_kind, is_sea};
 ghost use Rattle.dip_decide_table.specs.Given.{situation_of};
 ghost use Rattle.dip_decide_table.specs.Placed.{backed_of, carried, carried_of, entry, helped, keyed_by};

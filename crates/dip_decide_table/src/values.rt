@@ -5,7 +5,7 @@ ghost use Rattle.dip_decide_table.specs.Deciding.{give};
 ghost use Rattle.dip_decide_table.specs.Given.{known_of};
 ghost use Rattle.dip_decide_table.specs.Rings.{AreOpen, ArePathsOpen};
 ghost use Rattle.dip_decide_table.specs.Steps.{moves_of, paths_of};
-ghost use Rattle.dip_map_chart.specs.Charts.{are_provs_single};
+ghost use Rattle.dip_map.specs.Charts.{are_provs_single};
 
 use crate::decisions::Decision;
 use dip_names::Prov;

@@ -1,7 +1,7 @@
 -- A look, and then a step.
 use Rattle.std.proofs.Common.{◌≡◌, inl, inr, Result, Ok, Err, ap, refl, sym, subst, ◌∙◌, arith}
 use Rattle.std.proofs.lemmas.Result.{IfOk-weaker, on_err_weaker, on_ok_weaker}
-use Rattle.dip_map_chart.specs.Charts.{Chart}
+use Rattle.dip_map.specs.Charts.{Chart}
 use Rattle.dip_desk_state.specs.Faults.{faults_after, faults_with}
 use Rattle.dip_desk.specs.Keeping.{Book, Changes, Keeps, Looks, Settles, Steps}
 use Rattle.dip_desk_state.specs.State.{State}

@@ -6,12 +6,11 @@ use Rattle.std.specs.declared.rc.Rc.{Rc}
 use Rattle.std.proofs.lemmas.Bool.{false≢true, ltb-true}
 use Rattle.std.proofs.lemmas.List.{drop-map, take-map}
 use Rattle.dip_desk_state.specs.Keyed.{change_at}
-use Rattle.dip_desk_state.specs.State.{Author, Nobody, TheMaster, Seat, Change, Effect, Nothing, Pending, Votes, Delivers, Opens, Publishes, Seats, NewSeat, Part, fresh, game_after, opening_game, page_of, papers_after, power_in, public_after, whole_of, with_author, with_effect, with_item, with_letter}
+use Rattle.dip_desk_state.specs.State.{Author, Nobody, TheMaster, Seat, Change, Effect, Nothing, Pending, Votes, Delivers, Opens, Publishes, Seats, NewSeat, Part, fresh, game_after, opening_game, page_of, papers_after, power_in, public_after, whole_of, with_author, with_effect, with_item, with_letter, has_room}
 use Rattle.dip_desk_state.specs.Records.{Item, Kept, Own, Public, Whole}
 use Rattle.dip_desk_state.specs.Rows as rows
 use Rattle.dip_desk_state.specs.declared.records.Item.{Item as ItemRow}
 use Rattle.dip_desk.specs.Fitting.{FindsPlace}
-use Rattle.dip_desk_state.specs.State.{has_room}
 use Rattle.dip_desk.specs.Stored.{Brings, MaySend, delivered, finds_room, game, part, parts, reached}
 use Rattle.dip_desk.specs.declared.games.GameRow.{GameRow}
 use Rattle.dip_desk.specs.declared.games.SeatRow.{SeatRow}

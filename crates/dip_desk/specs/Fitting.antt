@@ -1,7 +1,7 @@
 -- What a keeper may be asked to keep.
 use Rattle.std.specs.Prelude.{◌≡◌, ◌≤◌, ◌+◌, true, List, ℕ, Option, None, Some}
 use Rattle.std.specs.List.{list_all}
-use Rattle.dip_map_chart.specs.Charts.{Chart}
+use Rattle.dip_map.specs.Charts.{Chart}
 use Rattle.dip_letters.specs.Words.{is_game}
 use Rattle.dip_desk_machine.specs.Fitting.{FitsMap}
 use Rattle.dip_desk_machine.specs.Machine.{Decides, Verdict, NotKnown, Again, OutOfTurn, Taken, author, change_of}

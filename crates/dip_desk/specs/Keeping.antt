@@ -1,6 +1,6 @@
 -- What each call of a keeper keeps.
 use Rattle.std.specs.Prelude.{◌≡◌, ◌≤◌, ◌⊎◌, ◌+◌, ◌-◌, ◌^◌, min, ℕ, Result, OnOk, OnErr, IfOk, IsErrOf}
-use Rattle.dip_map_chart.specs.Charts.{Chart}
+use Rattle.dip_map.specs.Charts.{Chart}
 use Rattle.dip_desk_state.specs.Faults.{faults_after}
 use Rattle.dip_desk_state.specs.State.{State}
 use Rattle.dip_desk_state.specs.declared.faults.KeepFault.{KeepFault}

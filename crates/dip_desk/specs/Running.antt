@@ -1,6 +1,6 @@
 -- What a run over letters keeps.
 use Rattle.std.specs.Prelude.{◌≡◌, ℕ, List, Contains, Result, OnOk, IfOk, IfErr, take, slice_get, Some}
-use Rattle.dip_map_chart.specs.Charts.{Chart}
+use Rattle.dip_map.specs.Charts.{Chart}
 use Rattle.dip_desk_state.specs.Records.{Reply}
 use Rattle.dip_desk_state.specs.Faults.{faults_after_run}
 use Rattle.dip_desk.specs.Keeping.{Book, Ends, IsOpen}

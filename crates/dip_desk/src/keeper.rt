@@ -1,6 +1,6 @@
 //! What keeps the desk's state.
 ghost use Rattle.std.specs.Prelude.{◌≡◌, ◌<◌, length, option_map, string_bytes};
-ghost use Rattle.dip_map_chart.specs.Charts.{Chart};
+ghost use Rattle.dip_map.specs.Charts.{Chart};
 ghost use Rattle.dip_desk.specs.Fitting.{Fits};
 ghost use Rattle.dip_desk.specs.Keeping.{Book, Changes, Looks};
 ghost use Rattle.dip_desk_state.specs.State.{items_at, own_at, paper_at, public_at, state_after, whole_at};

@@ -1,6 +1,6 @@
 //! Looking up what the author of a letter sees.
 ghost use Rattle.std.specs.Prelude.{◌≡◌, ◌<◌, Some, bytes_eq, length};
-ghost use Rattle.dip_map_chart.specs.Charts.{power_of};
+ghost use Rattle.dip_map.specs.Charts.{power_of};
 ghost use Rattle.dip_desk.specs.Keeping.{Looks};
 ghost use Rattle.dip_desk.specs.Looked.{is_seen, public_seen, seat_is_there, seat_seen, whole_seen};
 ghost use Rattle.dip_letters.specs.Views.{request};

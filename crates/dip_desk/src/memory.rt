@@ -47,7 +47,7 @@ fn record_desk(desk: &mut Desk, last: Option<Kept>)
 impl MemoryKeeper {
     ghost use Rattle.dip_desk_machine.specs.Lawful.{IsLawful};
     ghost use Rattle.dip_desk_state.specs.State.{State};
-    ghost use Rattle.dip_map_chart.specs.Charts.{Chart};
+    ghost use Rattle.dip_map.specs.Charts.{Chart};
 
     /// An empty desk whose master's secret has this digest.
     pub fn new(alloc: Global, digest: [u8; 32]) -> MemoryKeeper

@@ -8,7 +8,7 @@ use Rattle.dip_names.specs.declared.names.Kind.TheVariants.{Army, Fleet}
 use Rattle.dip_names.specs.declared.names.Unit.{Unit as AUnit}
 use Rattle.dip_map.specs.declared.boards.Dislodged.{Dislodged}
 use Rattle.dip_map.specs.Boards.{Position, IsOf, is_dislodged, opening}
-use Rattle.dip_map_chart.specs.Charts.{Chart, IsMap, Realm, home, is_unit, may_stand, no_realm, power_of, powers}
+use Rattle.dip_map.specs.Charts.{Chart, IsMap, Realm, home, is_unit, may_stand, no_realm, power_of, powers}
 use Rattle.dip_letters.specs.Letters.{FitsRequest}
 use Rattle.dip_letters.specs.Notes.{Request}
 use Rattle.dip_letters.specs.Notes.MasterRequest.{Tick}

@@ -6,7 +6,7 @@ use Rattle.std.proofs.lemmas.List.Elements.{filter-append}
 use Rattle.dip_names.specs.declared.names.Unit.{Unit as AUnit}
 use Rattle.dip_map.specs.declared.boards.Dislodged.{Dislodged}
 use Rattle.dip_map.specs.Boards.{Position, IsOf}
-use Rattle.dip_map_chart.specs.Charts.{Chart, are_units_single}
+use Rattle.dip_map.specs.Charts.{Chart, are_units_single}
 use Rattle.dip_orders.proofs.KeptLaws.{count_cons}
 use Rattle.dip_orders.specs.Given.{AreGiven, orders_of_power}
 use Rattle.dip_orders.specs.Laws.{IsGiven}

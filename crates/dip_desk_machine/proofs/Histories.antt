@@ -5,7 +5,7 @@ use Rattle.std.proofs.lemmas.List.Elements.{Contains-get_or}
 use Rattle.std.specs.Prelude.{Contains}
 use Rattle.std.specs.List.{AllByRecursion}
 use Rattle.dip_desk_machine.specs.Mail.{Mail}
-use Rattle.dip_map_chart.specs.Charts.{Chart}
+use Rattle.dip_map.specs.Charts.{Chart}
 use Rattle.dip_desk_state.specs.State.{State, Seat}
 use Rattle.dip_desk_machine.specs.Machine.{Decides, SeatName, Seen, Step, Verdict, reply_of, seen_by, verdict_on}
 use Rattle.dip_desk_state.specs.Records.{Reply}

@@ -4,7 +4,7 @@ use Rattle.std.proofs.lemmas.Bool.{eqb-true, eqb-false, lt-ltb, ltb-true, ltb-fa
 use Rattle.std.specs.Prelude.{nat_lt, not, count_by}
 use Rattle.std.specs.List.{AllByRecursion}
 use Rattle.dip_map.specs.Boards.{Position}
-use Rattle.dip_map_chart.specs.Charts.{Chart}
+use Rattle.dip_map.specs.Charts.{Chart}
 use Rattle.dip_names.specs.declared.names.Unit.{Unit as AUnit}
 use Rattle.dip_orders.proofs.KeptLaws.{count_cons}
 use Rattle.dip_orders.specs.Allowances.{builds_due, removals_due}

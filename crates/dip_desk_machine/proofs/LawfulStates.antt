@@ -13,7 +13,7 @@ use Rattle.dip_letters.specs.Notes.MasterRequest.{Create, Tick, Replace, Notify}
 use Rattle.dip_letters.specs.Notes.PlayerRequest.{Orders, Withdraw, Press, Vote, Show, Inbox}
 use Rattle.dip_letters.specs.Notes.Request.{Player, Master}
 use Rattle.dip_map.specs.Boards.{Position, IsOf, opening}
-use Rattle.dip_map_chart.specs.Charts.{Chart, Realm, no_realm, power_of, powers}
+use Rattle.dip_map.specs.Charts.{Chart, Realm, no_realm, power_of, powers}
 use Rattle.dip_desk_state.specs.Records.{Item, Kept, Own, Public}
 use Rattle.dip_reports.specs.Texts.{refusal_line}
 use Rattle.dip_reports.specs.declared.refusals.Refusal.TheVariants.{NumberUsed, Stale}

@@ -3,12 +3,12 @@ use Rattle.std.proofs.Common.{◌≡◌, ℕ, Bool, true, false, List, [], ◌�
 use Rattle.dip_map.specs.Boards.{Position}
 use Rattle.dip_map.specs.declared.boards.Phase.{Phase}
 use Rattle.dip_names.specs.declared.names.Unit.{Unit as AUnit}
-use Rattle.dip_map_chart.specs.Charts.{Chart}
+use Rattle.dip_map.specs.Charts.{Chart}
 use Rattle.dip_letters.specs.Notes.{Request}
 use Rattle.dip_letters.specs.Notes.MasterRequest.{Create, Tick, Replace, Notify}
 use Rattle.dip_letters.specs.Notes.Request.{Player, Master}
 use Rattle.dip_orders.specs.declared.placed.Order.TheVariants.{Build, Remove}
-use Rattle.dip_turn_moves.specs.declared.lines.MovementLine.{MovementLine}
+use Rattle.dip_turn.specs.MovementLine.{MovementLine}
 use Rattle.dip_turn_papers.specs.Papers.{account_text, adjusted_with, centre_line, lines_by_power, moved_lines, paper_text, retreated_lines, title, unit_line}
 use Rattle.dip_turn_papers.specs.declared.lines.Told.TheVariants.{Built, Removed, RemovedInDisorder}
 use Rattle.dip_desk_state.specs.Records.{Kept, Public, Whole}

@@ -15,7 +15,7 @@ use Rattle.dip_desk_machine.specs.Ordering.{orders_that_stand}
 use Rattle.dip_desk_machine.specs.Pressing.{is_among, item_of, readers_of}
 use Rattle.dip_desk_machine.specs.Ticking.{orders_of, orders_of_seats, public_played}
 use Rattle.std.specs.Option.{option_or}
-use Rattle.dip_map_chart.specs.Charts.{Chart}
+use Rattle.dip_map.specs.Charts.{Chart}
 use Rattle.dip_desk_state.specs.Records.{Grey, Item, Own, Public, Whole}
 use Rattle.dip_desk_state.specs.Keyed.{at}
 use Rattle.dip_desk_machine.specs.Mail.{Mail}

@@ -2,7 +2,7 @@
 use Rattle.std.proofs.Common.{◌≡◌, ℕ, ◌<◌, ◌+◌, List, [], ◌∷◌, ◌++◌, Option, None, Some, String, length, get_or, drop, refl, sym, ap, ◌∙◌, append_assoc, string_bytes}
 use Rattle.std.specs.declared.alloc.Global.{Global}
 use Rattle.std.proofs.lemmas.List.{drop_more, map-append}
-use Rattle.dip_map_chart.specs.Charts.{Chart, power_of}
+use Rattle.dip_map.specs.Charts.{Chart, power_of}
 use Rattle.dip_desk_machine.specs.Pressing.{named_powers, with_power}
 use Rattle.dip_desk_state.specs.Rows as rows
 

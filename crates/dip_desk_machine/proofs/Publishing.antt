@@ -5,15 +5,15 @@ use Rattle.dip_map.specs.Boards.{Position}
 use Rattle.dip_map.specs.declared.boards.Phase.{Phase}
 use Rattle.dip_map.specs.declared.boards.Season.{Season}
 use Rattle.dip_map.specs.declared.boards.Season.TheVariants.{SpringMoves, SpringRetreats, FallMoves, FallRetreats, Winter}
-use Rattle.dip_map_chart.specs.Charts.{Chart}
-use Rattle.dip_decide_table.specs.Matching.{situation}
-use Rattle.dip_decide_table.specs.Results.{AreExplained, values_in}
+use Rattle.dip_map.specs.Charts.{Chart}
+use Rattle.dip_decide.specs.Matching.{situation}
+use Rattle.dip_decide.specs.Results.{AreExplained, values_in}
 use Rattle.dip_decide.specs.Statements.{ExplainedSatisfies}
-use Rattle.dip_decide_table.specs.Steps.{steps_of}
+use Rattle.dip_decide.specs.Steps.{steps_of}
 use Rattle.dip_orders.specs.declared.placed.PlacedOrder.{PlacedOrder}
-use Rattle.dip_turn_moves.specs.Moving.{after_moves}
-use Rattle.dip_turn_moves.specs.Outcomes.{movement_lines}
-use Rattle.dip_turn_moves.specs.declared.lines.MovementLine.{MovementLine}
+use Rattle.dip_turn.specs.Moving.{after_moves}
+use Rattle.dip_turn.specs.Outcomes.{movement_lines}
+use Rattle.dip_turn.specs.MovementLine.{MovementLine}
 use Rattle.dip_turn_papers.specs.Papers.{account_text, centre_line, paper_text, title}
 use Rattle.dip_desk_state.specs.Records.{Public}
 use Rattle.dip_reports.specs.Texts.{board_lines, game_line}

@@ -3,7 +3,7 @@ use Rattle.std.proofs.Common.{◌≡◌, ◌≢◌, ◌==◌, ℕ, Bool, true, f
 use Rattle.std.specs.Prelude.{option_and_then}
 use Rattle.std.specs.List.{AllByRecursion, list_any}
 use Rattle.dip_letters.specs.Notes.{Request}
-use Rattle.dip_map_chart.specs.Charts.{Chart, power_of}
+use Rattle.dip_map.specs.Charts.{Chart, power_of}
 use Rattle.dip_desk_state.specs.Records.{Item, Kept, Own, Public}
 use Rattle.std.specs.Option.{option_or}
 use Rattle.dip_desk_state.specs.Keyed.{at}

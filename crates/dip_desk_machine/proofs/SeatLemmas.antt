@@ -2,7 +2,7 @@
 use Rattle.std.proofs.Common.{◌≡◌, List, [], ◌∷◌, ◌++◌, Option, None, Some, refl, ap, append_assoc, sym, ◌∙◌, ℕ}
 use Rattle.dip_desk_state.specs.State.{NewSeat}
 use Rattle.dip_letters.specs.Notes.{SeatNote}
-use Rattle.dip_map_chart.specs.Charts.{Chart}
+use Rattle.dip_map.specs.Charts.{Chart}
 use Rattle.dip_desk_machine.specs.Machine.{new_seat, new_seats, with_more}
 
 -- what is found behind these

@@ -4,7 +4,7 @@ use Rattle.std.specs.Prelude.{◌&&◌}
 use Rattle.std.specs.List.{list_any}
 use Rattle.std.specs.Option.{option_or}
 use Rattle.std.proofs.lemmas.Bool.{false≢true}
-use Rattle.dip_map_chart.specs.Charts.{Chart}
+use Rattle.dip_map.specs.Charts.{Chart}
 use Rattle.dip_desk_state.specs.Records.{Item, Kept, Own, Public, Reply}
 use Rattle.dip_desk_state.specs.Keyed.{at, change_at}
 use Rattle.dip_desk_machine.specs.Mail.{Mail}

@@ -4,7 +4,7 @@ use Rattle.std.specs.Prelude.{option_and_then}
 use Rattle.dip_letters.specs.Notes.{Request}
 use Rattle.dip_letters.specs.Notes.MasterRequest.{Create, Tick, Replace, Notify}
 use Rattle.dip_letters.specs.Notes.Request.{Player, Master}
-use Rattle.dip_map_chart.specs.Charts.{Chart, power_of}
+use Rattle.dip_map.specs.Charts.{Chart, power_of}
 use Rattle.dip_desk_state.specs.Records.{Head, Item, Kept, Own, Public, Reply}
 use Rattle.dip_reports.specs.declared.refusals.Refusal.TheVariants.{Malformed}
 use Rattle.dip_desk_machine.specs.Machine.{Decides, DecidesIn, MasterDecides, NotKnown, Again, OutOfTurn, Taken, Verdict, are_complete, author, creation, digest, head_of, master_author, new_seats, open_game, opening_public, page_shown, power_author, refusal_verdict, reply_of, seat_author, seat_command, seen_in, verdict_by, verdict_on}

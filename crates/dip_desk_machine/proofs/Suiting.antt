@@ -9,7 +9,7 @@ use Rattle.dip_letters.specs.Notes.{Request, SeatNote}
 use Rattle.dip_letters.specs.Notes.MasterRequest.{Create, Tick, Replace, Notify}
 use Rattle.dip_letters.specs.Notes.PlayerRequest.{Orders, Withdraw, Press, Vote, Show, Inbox}
 use Rattle.dip_letters.specs.Notes.Request.{Player, Master}
-use Rattle.dip_map_chart.specs.Charts.{Chart, Realm, no_realm, power_of, powers}
+use Rattle.dip_map.specs.Charts.{Chart, Realm, no_realm, power_of, powers}
 use Rattle.dip_desk_machine.specs.Drawing.{is_drawn, public_drawn, survivors}
 use Rattle.dip_desk_machine.specs.Mail.{Mail}
 use Rattle.dip_desk_machine.specs.Noting.{is_announcement, public_noted}

@@ -6,7 +6,7 @@ use Rattle.std.proofs.lemmas.Bool.{and_parts, eqb-true, false≢true, ltb-true}
 use Rattle.std.proofs.lemmas.Bool.Decides.{nat_tests}
 use Rattle.std.proofs.lemmas.List.Quantifiers.{position-Some}
 use Rattle.dip_map.specs.Boards.{Position, IsOf, is_power, is_power_if_any, opening}
-use Rattle.dip_map_chart.specs.Charts.{Chart, Realm, no_realm, power_of, powers}
+use Rattle.dip_map.specs.Charts.{Chart, Realm, no_realm, power_of, powers}
 use Rattle.dip_letters.specs.Letters.{FitsMaster, FitsNames, FitsNotice, FitsText}
 use Rattle.dip_letters.specs.Notes.{NoticeRequest, SeatNote}
 use Rattle.dip_letters.specs.Notes.MasterRequest.{Create}

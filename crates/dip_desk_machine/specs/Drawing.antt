@@ -2,7 +2,7 @@
 use Rattle.std.specs.Prelude.{ℕ, Bool, true, false, ◌==◌, ◌&&◌, ◌||◌, ◌+◌, not, List, [], ◌∷◌, filter}
 use Rattle.std.specs.List.{list_all, list_any}
 use Rattle.dip_map.specs.Boards.{Position, owns}
-use Rattle.dip_map_chart.specs.Charts.{Chart, powers, provs}
+use Rattle.dip_map.specs.Charts.{Chart, powers, provs}
 use Rattle.dip_desk_state.specs.Records.{Own, Public, Drawn, Whole}
 
 -- a power with a unit, standing or dislodged

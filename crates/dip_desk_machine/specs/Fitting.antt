@@ -1,7 +1,7 @@
 -- Effects that fit a map: what a store has to know of what it keeps.
 use Rattle.std.specs.Prelude.{◌≡◌, ◌<◌, ℕ, List, length, map, true}
 use Rattle.std.specs.List.{AllByRecursion}
-use Rattle.dip_map_chart.specs.Charts.{Chart}
+use Rattle.dip_map.specs.Charts.{Chart}
 use Rattle.dip_desk_machine.specs.Lawful.{AreAscending, IsLawful}
 use Rattle.dip_desk_machine.specs.Machine.{Decides, MayBeDamaged, Taken, are_complete}
 use Rattle.dip_desk_machine.specs.Mail.{IsMail, Mail}

@@ -1,6 +1,6 @@
 -- The orders that stand in a game, as they are handed over when its phase is adjudicated.
 use Rattle.std.specs.List.{AllByRecursion}
-use Rattle.dip_map_chart.specs.Charts.{Chart}
+use Rattle.dip_map.specs.Charts.{Chart}
 use Rattle.dip_orders.specs.Given.{AreGiven}
 use Rattle.dip_desk_machine.specs.Lawful.{IsLawful}
 use Rattle.dip_desk_state.specs.State.{State, whole_of}

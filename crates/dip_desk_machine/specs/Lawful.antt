@@ -2,18 +2,17 @@
 use Rattle.std.specs.Prelude.{◌≡◌, ◌<◌, ◌≤◌, ◌==◌, ◌+◌, ℕ, List, [], ◌∷◌, length, true, Ok, Option, None, Some, bytes_eq, count_by, map, if◌then◌else◌}
 use Rattle.std.specs.List.{AllByRecursion, list_all}
 use Rattle.dip_map.specs.Boards.{Position}
-use Rattle.dip_map_chart.specs.Charts.{Chart, powers}
+use Rattle.dip_map.specs.Charts.{Chart, powers}
 use Rattle.dip_orders.specs.Reading.{order_of}
 use Rattle.dip_orders.specs.Texts.{order_text}
 use Rattle.dip_orders.specs.declared.placed.PlacedOrder.{PlacedOrder}
-use Rattle.dip_desk_state.specs.Records.{Kept, Standing}
+use Rattle.dip_desk_state.specs.Records.{Kept, Standing, Reply}
 use Rattle.dip_desk_state.specs.Keyed.{at}
 use Rattle.dip_desk_machine.specs.Mail.{IsMail, Mail}
 use Rattle.dip_desk_machine.specs.Ordering.{kept_orders, prov_of}
 use Rattle.dip_desk_machine.specs.Machine.{MayBeDamaged, Step}
 use Rattle.dip_desk_state.specs.State.{Author, Game, Part, State, name_of, power_in}
 use Rattle.dip_desk_state.specs.Writable.{IsPublicOf}
-use Rattle.dip_desk_state.specs.Records.{Reply}
 
 -- each is less than all behind it
 abbrev pub AreAscending : List ℕ → Type 0

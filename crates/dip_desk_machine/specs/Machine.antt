@@ -9,7 +9,7 @@ use Rattle.dip_letters.specs.Notes.PlayerRequest.{Orders, Withdraw, Press, Vote,
 use Rattle.dip_letters.specs.Notes.Request.{Player, Master}
 use Rattle.dip_letters.specs.declared.letters.LetterFault.{LetterFault}
 use Rattle.dip_letters.specs.declared.letters.LetterFault.TheVariants.{Malformed as Unreadable, TooLong as OverLong}
-use Rattle.dip_map_chart.specs.Charts.{Chart, power_of, powers}
+use Rattle.dip_map.specs.Charts.{Chart, power_of, powers}
 use Rattle.dip_map.specs.Boards.{Position, IsOf, opening}
 use Rattle.dip_desk_machine.specs.Drawing.{is_drawn, public_drawn, survivors}
 use Rattle.dip_desk_machine.specs.Mail.{Mail}

@@ -1,7 +1,7 @@
 -- What a notice of the master changes of a game.
 use Rattle.std.specs.Prelude.{ℕ, Bool, true, false, ◌<◌, ◌+◌}
 use Rattle.dip_map.specs.Boards.{IsOf}
-use Rattle.dip_map_chart.specs.Charts.{Chart}
+use Rattle.dip_map.specs.Charts.{Chart}
 use Rattle.dip_letters.specs.Notes.{NoticeRequest}
 use Rattle.dip_letters.specs.Notes.NoticeRequest.{Pause, Resume, Period, Announce, Close}
 use Rattle.dip_desk_state.specs.Records.{Public, Status, Running, Paused, Closed}

@@ -1,7 +1,7 @@
 -- Whom press reaches, and what its readers are shown.
 use Rattle.std.specs.Prelude.{ℕ, Bool, true, false, ◌==◌, ◌&&◌, not, List, [], ◌∷◌, Option, Some, None, bytes_eq, codes, filter, if◌then◌else◌}
 use Rattle.std.specs.List.{list_any}
-use Rattle.dip_map_chart.specs.Charts.{Chart, power_of, powers, realm}
+use Rattle.dip_map.specs.Charts.{Chart, power_of, powers, realm}
 use Rattle.dip_desk_state.specs.Records.{Item, White, Grey}
 
 -- a name that stands for all other powers

@@ -4,16 +4,16 @@ use Rattle.std.specs.List.{AllByRecursion}
 use Rattle.dip_map.specs.declared.boards.Phase.{Phase}
 use Rattle.dip_map.specs.declared.boards.Season.{Season}
 use Rattle.dip_map.specs.declared.boards.Season.TheVariants.{SpringMoves, SpringRetreats, FallMoves, FallRetreats, Winter}
-use Rattle.dip_map_chart.specs.Charts.{Chart}
-use Rattle.dip_decide_table.specs.Deciding.{Assignment, Step, is_broken}
-use Rattle.dip_decide_table.specs.Matching.{situation}
-use Rattle.dip_decide_table.specs.Movement.{Satisfies}
-use Rattle.dip_decide_table.specs.Results.{AreExplained}
+use Rattle.dip_map.specs.Charts.{Chart}
+use Rattle.dip_decide.specs.Deciding.{Assignment, Step, is_broken}
+use Rattle.dip_decide.specs.Matching.{situation}
+use Rattle.dip_decide.specs.Movement.{Satisfies}
+use Rattle.dip_decide.specs.Results.{AreExplained}
 use Rattle.dip_orders.specs.Standing.{standing_orders}
 use Rattle.dip_orders.specs.declared.placed.PlacedOrder.{PlacedOrder}
-use Rattle.dip_turn_moves.specs.Moving.{after_moves}
-use Rattle.dip_turn_moves.specs.Outcomes.{movement_lines}
-use Rattle.dip_turn_moves.specs.declared.lines.MovementLine.{MovementLine}
+use Rattle.dip_turn.specs.Moving.{after_moves}
+use Rattle.dip_turn.specs.Outcomes.{movement_lines}
+use Rattle.dip_turn.specs.MovementLine.{MovementLine}
 use Rattle.dip_turn_papers.specs.Papers.{centre_line, lines_by_power, moved_lines, title}
 use Rattle.dip_desk_state.specs.Records.{Public, Whole}
 use Rattle.dip_reports.specs.Texts.{board_lines, game_line}

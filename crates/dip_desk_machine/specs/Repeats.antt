@@ -1,7 +1,7 @@
 -- A letter that comes twice acts once.
 use Rattle.std.specs.Prelude.{◌≡◌, ◌≢◌, ◌&&◌, Bool, true, false, List, bytes_eq}
 use Rattle.std.specs.List.{AllByRecursion}
-use Rattle.dip_map_chart.specs.Charts.{Chart}
+use Rattle.dip_map.specs.Charts.{Chart}
 use Rattle.dip_desk_state.specs.Records.{Reply}
 use Rattle.dip_desk_machine.specs.Machine.{Step, author}
 use Rattle.dip_desk_machine.specs.Mail.{Mail}

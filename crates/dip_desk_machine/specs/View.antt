@@ -8,7 +8,7 @@ use Rattle.dip_letters.specs.Notes.Request.{Player, Master}
 use Rattle.dip_desk_machine.specs.Drawing.{is_drawn}
 use Rattle.dip_desk_machine.specs.Mail.{Mail}
 use Rattle.dip_desk_machine.specs.Pressing.{is_among, is_to_all, item_of, readers_of}
-use Rattle.dip_map_chart.specs.Charts.{Chart}
+use Rattle.dip_map.specs.Charts.{Chart}
 use Rattle.dip_desk_state.specs.State.{State, Game, Author, Seat, Effect, Nothing, Pending, Votes, Delivers, Opens, Publishes, Seats, NewSeat, Part, behind_paper, fresh, game_at, is_seat, seat_at, with_digest, with_item, with_letter}
 use Rattle.dip_desk_machine.specs.Machine.{Decides, SeatName, Seen, Ticks, Verdict, NotKnown, Again, OutOfTurn, Taken, after, author, kept_of, new_seat, reply_of, seen_by, verdict_on}
 use Rattle.dip_desk_state.specs.Records.{Item, Own, Public, Reply, Whole}

@@ -1,6 +1,6 @@
 //! Laws of the desk machine, each the contract of a function that does nothing.
 ghost use Rattle.std.specs.Prelude.{List};
-ghost use Rattle.dip_map_chart.specs.Charts.{Chart};
+ghost use Rattle.dip_map.specs.Charts.{Chart};
 ghost use Rattle.dip_desk_machine.specs.Fitting.{EffectsFit, LawfulEffectsFit};
 ghost use Rattle.dip_desk_machine.specs.Handing.{StandingOrdersAreGiven};
 ghost use Rattle.dip_desk_machine.specs.Lawful.{IsNeverDamaged, StaysLawful};

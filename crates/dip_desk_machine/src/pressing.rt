@@ -1,7 +1,7 @@
 //! What PRESS comes to: whom it reaches, and what its readers are shown.
 ghost use Rattle.std.specs.Prelude.{◌≡◌, ◌==◌, not, IfOk, filter, option_map, string_bytes};
 ghost use Rattle.std.specs.List.{list_any};
-ghost use Rattle.dip_map_chart.specs.Charts.{powers};
+ghost use Rattle.dip_map.specs.Charts.{powers};
 ghost use Rattle.dip_letters.specs.Views.{names_in, texts_in};
 ghost use Rattle.dip_desk_machine.specs.Machine as m;
 ghost use Rattle.dip_desk_machine.specs.Pressing as p;

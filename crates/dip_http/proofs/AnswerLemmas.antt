@@ -6,7 +6,7 @@ use Rattle.std.specs.Str.{bytes_eq}
 use Rattle.std.proofs.lemmas.List.{nil_from_length}
 use Rattle.std.proofs.lemmas.Slice.Eq.{bytes_eq-Decides}
 use Rattle.httparse.specs.Grammar.{RequestHead, print_request}
-use Rattle.dip_map_chart.specs.Charts.{Chart}
+use Rattle.dip_map.specs.Charts.{Chart}
 use Rattle.dip_desk_state.specs.State.{State}
 use Rattle.dip_http.specs.Heads.{Ask, HasNoHead, IsHead, ask_of}
 use Rattle.dip_http.specs.Fronts.{IsFront, Shows, ask_view}

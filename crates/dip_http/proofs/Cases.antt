@@ -2,7 +2,7 @@
 use Rattle.std.proofs.Common.{◌≡◌, ◌≢◌, ◌<◌, ◌++◌, ◌∙◌, ◌⊎◌, inl, inr, ℕ, List, [], ◌∷◌, None, false, length, refl, sym, ap, subst, length-append, arith}
 use Rattle.httparse.specs.Grammar.{RequestHead, ReadsRequest, print_blank, print_end, print_request, print_section, print_version}
 use Rattle.httparse.proofs.GrammarLemmas.{request_unique}
-use Rattle.dip_map_chart.specs.Charts.{Chart}
+use Rattle.dip_map.specs.Charts.{Chart}
 use Rattle.dip_desk_state.specs.State.{State}
 use Rattle.dip_http.specs.Heads.{HasNoHead, IsHead}
 use Rattle.dip_http.specs.Answers.{refusal}

@@ -5,7 +5,7 @@ use Rattle.std.specs.Io.KnownBytes.{Appends}
 use Rattle.std.proofs.Math.Seq.{take-length}
 use Rattle.dip_desk_state.specs.State.{State}
 use Rattle.dip_http.specs.Answers.{IsPart}
-use Rattle.dip_map_chart.specs.Charts.{Chart}
+use Rattle.dip_map.specs.Charts.{Chart}
 use Rattle.dip_http.specs.Answering.{Posts}
 use Rattle.dip_http.specs.Ends.{PostsTo, PostsToPart, Shows, ShowsPart}
 use Rattle.dip_http.specs.declared.faults.HttpFault.{HttpFault}

@@ -5,7 +5,7 @@ use Rattle.std.specs.Str.Parse.{AllDigits, digits_value}
 use Rattle.std.proofs.lemmas.Fmt.{digits_value-decimal}
 use Rattle.std.proofs.lemmas.Str.Parse.{IsNumeralModel, numerals_by_value, tells_digits}
 use Rattle.sha2.specs.Sha256.{sha256}
-use Rattle.dip_map_chart.specs.Charts.{Chart}
+use Rattle.dip_map.specs.Charts.{Chart}
 use Rattle.dip_letters.specs.Letters.{spelling}
 use Rattle.dip_letters.specs.Notes.{Note}
 use Rattle.dip_letters.proofs.AgainLemmas.{spelling_unique, letter_starts, text_settles}

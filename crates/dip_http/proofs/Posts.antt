@@ -1,6 +1,6 @@
 -- What a posted letter is answered, and what it leaves.
 use Rattle.std.proofs.Common.{◌≡◌, ◌∙◌, ◌≤◌, ◌⊎◌, inl, inr, ℕ, Bool, List, [], ◌∷◌, None, false, length, take, refl, sym, ap, subst, arith}
-use Rattle.dip_map_chart.specs.Charts.{Chart}
+use Rattle.dip_map.specs.Charts.{Chart}
 use Rattle.dip_desk_machine.specs.Machine.{Decides, SeatName, Step, Verdict, after, author, reply_of, seen_by}
 use Rattle.dip_desk_machine.specs.Mail.{Mail}
 use Rattle.dip_desk_state.specs.State.{Author, Seat, State}

@@ -7,7 +7,7 @@ use Rattle.serde_json.specs.Data.{Data, string}
 use Rattle.serde_json.specs.View.{items_of}
 use Rattle.serde_json.specs.Written.{compact_text, items_text, has_float, items_have_float}
 use Rattle.serde_json.proofs.OnLiterals.{serde_json_on_literals}
-use Rattle.dip_map_chart.specs.Charts.{Chart}
+use Rattle.dip_map.specs.Charts.{Chart}
 use Rattle.dip_desk_state.specs.Records.{Public}
 use Rattle.dip_reports.specs.Texts.{board_lines}
 use Rattle.dip_http.specs.Texts.{quoted_list, state_text, truth}

@@ -3,7 +3,7 @@ use Rattle.std.specs.Prelude.{◌≡◌, ◌≢◌, ◌⊎◌, ◌^◌, ◌<◌,
 use Rattle.std.specs.Fmt.{decimal}
 use Rattle.httparse.specs.Grammar.{RequestHead}
 use Rattle.sha2.specs.Sha256.{sha256}
-use Rattle.dip_map_chart.specs.Charts.{Chart}
+use Rattle.dip_map.specs.Charts.{Chart}
 use Rattle.dip_letters.specs.Letters.{spelling}
 use Rattle.dip_letters.specs.declared.letters.LetterFault.TheVariants.{Malformed}
 use Rattle.dip_desk_state.specs.Records.{Public, Reply}

@@ -1,7 +1,7 @@
 -- Laws of the answers over HTTP.
 use Rattle.std.specs.Prelude.{◌≡◌, ◌≤◌, ℕ, List, true, length, take}
 use Rattle.httparse.specs.Grammar.{RequestHead}
-use Rattle.dip_map_chart.specs.Charts.{Chart}
+use Rattle.dip_map.specs.Charts.{Chart}
 use Rattle.dip_desk_machine.specs.Machine.{SeatName, author, seen_by}
 use Rattle.dip_desk_machine.specs.Mail.{Mail}
 use Rattle.dip_desk_state.specs.State.{Seat, State, paper_at, public_at}

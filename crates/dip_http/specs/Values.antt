@@ -3,7 +3,7 @@ use Rattle.std.specs.Prelude.{map, codes}
 use Rattle.std.specs.Str.Lines.{lines}
 use Rattle.serde_json.specs.Data.{Data, array, boolean, member, no_members, number, object, string, unsigned}
 use Rattle.serde_json.specs.View.{items_of}
-use Rattle.dip_map_chart.specs.Charts.{Chart}
+use Rattle.dip_map.specs.Charts.{Chart}
 use Rattle.dip_desk_state.specs.Records.{Public}
 use Rattle.dip_reports.specs.Texts.{board_lines, phase_text, status_text}
 

@@ -1,5 +1,5 @@
 //! What holds of every connection, whoever serves it.
-ghost use Rattle.dip_map_chart.specs.Charts.{Chart};
+ghost use Rattle.dip_map.specs.Charts.{Chart};
 ghost use Rattle.dip_http.specs.Laws.{AreTurns, HasOneAnswer, IsAnsweredFromPublic, IsPostSettled};
 
 use dip_desk_machine::{answered_from_what_is_seen, histories_are_one};

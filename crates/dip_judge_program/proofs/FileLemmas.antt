@@ -9,9 +9,9 @@ use Rattle.sqlite.specs.Held.{Held}
 use Rattle.sqlite.specs.Recovery.{Image}
 use Rattle.sqlite.specs.Start.{FindsIn}
 use Rattle.sqlite.specs.State.{HasCleanDisk}
-use Rattle.dip_map_chart.specs.Charts.{Chart}
+use Rattle.dip_map.specs.Charts.{Chart}
 use Rattle.dip_desk_state.specs.State.{State}
-use Rattle.dip_store_sql.specs.Calls.{does_show}
+use Rattle.dip_store.specs.Calls.{does_show}
 use Rattle.dip_store.specs.Opening.{IsStore}
 use Rattle.dip_store.specs.Stored.{said_by}
 use Rattle.dip_judge_program.specs.declared.args.Args.{Args}

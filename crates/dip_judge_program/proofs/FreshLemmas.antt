@@ -1,6 +1,6 @@
 -- A run from a fresh desk on.
 use Rattle.std.proofs.Common.{◌≡◌, ◌⊎◌, inl, inr, ℕ, List, Option, Result, Ok, Err, IfErr, OnOk, IsErrOf, refl, subst, ap}
-use Rattle.dip_map_chart.specs.Charts.{Chart}
+use Rattle.dip_map.specs.Charts.{Chart}
 use Rattle.dip_desk_state.specs.State.{State}
 use Rattle.dip_desk_state.specs.declared.faults.KeepFault.TheVariants.{Memory as no_room, Disk, Damaged}
 use Rattle.dip_judge_program.specs.Fresh.{AnswersFresh, IsCutShort, IsMemoryFault, fresh_desk}

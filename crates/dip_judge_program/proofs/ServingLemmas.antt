@@ -1,6 +1,6 @@
 -- Clients, one after the other.
 use Rattle.std.proofs.Common.{◌≡◌, ◌+◌, ℕ, suc, subst, sym, arith}
-use Rattle.dip_map_chart.specs.Charts.{Chart}
+use Rattle.dip_map.specs.Charts.{Chart}
 use Rattle.dip_desk_state.specs.State.{State}
 use Rattle.dip_judge_program.specs.Serving.{Serves, ServesOne}
 

@@ -1,7 +1,7 @@
 -- A store that a keeper leaves.
 use Rattle.std.proofs.Common.{◌≡◌, ◌⊎◌, inl, inr, ℕ, List, Option, Some, None, IsSome, refl, ap, subst, ◌∙◌}
 use Rattle.sqlite.specs.Store.{Ghosts}
-use Rattle.dip_map_chart.specs.Charts.{Chart}
+use Rattle.dip_map.specs.Charts.{Chart}
 use Rattle.dip_desk_state.specs.State.{Game, State, game_at}
 use Rattle.std.specs.Io.KnownBytes.{Appends}
 use Rattle.dip_store.specs.Papers.{AreBegun, AreOut, papers_text}

@@ -1,7 +1,7 @@
 -- The program, from its words, its map and its input to what it writes.
 use Rattle.std.specs.Prelude.{◌≡◌, ℕ, List, Option}
 use Rattle.clap.specs.Words.{Text}
-use Rattle.dip_map_chart.specs.Charts.{Chart}
+use Rattle.dip_map.specs.Charts.{Chart}
 use Rattle.dip_judge_program.specs.ArgsGiven.{IsFit, IsGiven, map_named}
 use Rattle.dip_judge_program.specs.UsageFaults.{IsUsageFault}
 use Rattle.dip_judge_program.specs.declared.args.Args.{Args}

@@ -6,11 +6,11 @@ use Rattle.sqlite.specs.Held.{Held, state}
 use Rattle.sqlite.specs.Recovery.{Image}
 use Rattle.sqlite.specs.Store.{Ghosts}
 use Rattle.sqlite.specs.Tree.{Trees}
-use Rattle.dip_map_chart.specs.Charts.{Chart}
+use Rattle.dip_map.specs.Charts.{Chart}
 use Rattle.dip_judge_program.specs.declared.args.Args.{Args}
 use Rattle.dip_judge_program.specs.declared.args.Args.TheVariants.{Init, Letters, Stored, Serve, Report}
 use Rattle.dip_desk_state.specs.State.{State}
-use Rattle.dip_store_sql.specs.Calls.{does_show, is_honest}
+use Rattle.dip_store.specs.Calls.{does_show, is_honest}
 use Rattle.dip_store.specs.Opening.{IsStore}
 use Rattle.dip_store.specs.Stored.{said_by}
 use Rattle.dip_judge_program.specs.Fresh.{fresh_desk}

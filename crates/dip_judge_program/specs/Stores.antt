@@ -4,11 +4,11 @@ use Rattle.std.specs.Io.KnownBytes.{Appends}
 use Rattle.sqlite.specs.Tree.{Trees}
 use Rattle.sqlite.specs.Store.{Ghosts}
 use Rattle.sqlite.specs.Held.{Held, state}
-use Rattle.dip_map_chart.specs.Charts.{Chart}
+use Rattle.dip_map.specs.Charts.{Chart}
 use Rattle.dip_desk_state.specs.State.{State, game_at}
 use Rattle.dip_store.specs.Papers.{AreBegun, papers_text}
-use Rattle.dip_store_sql.specs.Calls.{IsKept, does_show, tables_in}
-use Rattle.dip_store_tables.specs.Legible.{AreOurs}
+use Rattle.dip_store.specs.Calls.{IsKept, does_show, tables_in}
+use Rattle.dip_store.specs.Legible.{AreOurs}
 use Rattle.dip_store.specs.Stored.{said_by}
 use Rattle.dip_store.specs.declared.faults.StoreFault.{StoreFault}
 use Rattle.dip_store.specs.declared.faults.StoreFault.TheVariants.{Memory, Disk}

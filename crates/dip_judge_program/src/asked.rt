@@ -17,7 +17,7 @@ use dip_desk::MemoryKeeper;
 use dip_judge_runs::{RunFault, read_map, run_file, text_said};
 use dip_letters::digest;
 use dip_map::{Map, STANDARD};
-use sqlite_disk::Start;
+use sqlite::Start;
 use std::alloc::Global;
 use std::io::{Read, Write};
 

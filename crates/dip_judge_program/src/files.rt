@@ -7,10 +7,7 @@ ghost use Rattle.sqlite.specs.WalFiles.{image_at};
 ghost use Rattle.dip_judge_program.specs.Stores.{IsOpenFault};
 
 use dip_store::{StoreFault, open_fault};
-use sqlite::Connection;
-use sqlite_disk::Start;
-use sqlite_std_file::FileFrom;
-use sqlite_store::FileStore;
+use sqlite::{Connection, FileFrom, FileStore, Start};
 
 /// A store that lies in a file, of which `S` says what it holds at first.
 pub type Stored<S> = Connection<FileStore<FileFrom<S>>>;

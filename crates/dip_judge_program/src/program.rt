@@ -2,7 +2,7 @@
 
 use crate::asked::run_as_asked;
 use crate::failures::{Failure, status_of};
-use sqlite_disk::Unknown;
+use sqlite::Unknown;
 use std::{env, io};
 
 /// Does what the words ask for, over standard input and output.

@@ -4,7 +4,7 @@ ghost use Rattle.sqlite.specs.Held.{state};
 ghost use Rattle.dip_judge_program.specs.Fresh.{fresh_desk};
 ghost use Rattle.dip_judge_program.specs.Serving.{Serves};
 ghost use Rattle.dip_judge_program.specs.Stores.{AnswersFrom, Holds, IsReportFailure, IsServeFailure, ReadsUpTo, Reports, StopsFrom, StopsReport, StopsServing, desk_in};
-ghost use Rattle.dip_store_sql.specs.Calls.{does_show, is_honest};
+ghost use Rattle.dip_store.specs.Calls.{does_show, is_honest};
 ghost use Rattle.dip_judge_runs.specs.Runs.{IsReadToEnd};
 ghost use Rattle.dip_store.specs.Opening.{IsStore};
 

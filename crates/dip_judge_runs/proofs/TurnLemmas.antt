@@ -7,7 +7,7 @@ use Rattle.std.proofs.KnownBytes.{Appends-trans}
 use Rattle.dip_letters.specs.Input.{IsNext}
 use Rattle.dip_letters.specs.declared.letters.Next.{Next}
 use Rattle.dip_letters.specs.declared.letters.Next.TheVariants.{Taken, Fault, End}
-use Rattle.dip_map_chart.specs.Charts.{Chart}
+use Rattle.dip_map.specs.Charts.{Chart}
 use Rattle.dip_desk_machine.specs.Mail.{Mail, mail}
 use Rattle.dip_desk.specs.Keeping.{Book, Ends}
 use Rattle.dip_desk.specs.Running.{Answers}

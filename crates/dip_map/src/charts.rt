@@ -1,7 +1,6 @@
 //! A map, and what is asked of it.
 ghost use Rattle.std.specs.Prelude.{◌≡◌, ◌<◌, length, All, IfOk, true};
-ghost use Rattle.dip_map_chart.specs.Charts.{IsMap, provs, powers, province, realm, shore, army_next, fleet_next, home, is_home, prov_of, power_of, coast_of, is_centre};
-ghost use Rattle.dip_map_chart.specs.Charts.{is_fleet_place, may_stand, is_unit, is_army_next, is_fleet_next};
+ghost use Rattle.dip_map_chart.specs.Charts.{IsMap, provs, powers, province, realm, shore, army_next, fleet_next, home, is_home, prov_of, power_of, coast_of, is_centre, is_fleet_place, may_stand, is_unit, is_army_next, is_fleet_next};
 ghost use Rattle.dip_map.specs.Stated.{check, map_in};
 ghost use Rattle.dip_names.specs.Results.{Gives};
 ghost use Rattle.dip_map_chart.specs.Walks.{IsDistance};

@@ -1,6 +1,5 @@
 //! Whether a board is one of a map.
-ghost use Rattle.std.specs.Prelude.{◌≡◌, ◌<◌, ◌↔◌, ℕ, length, map, IsTrue, All, true, false, None, is_some};
-ghost use Rattle.std.specs.Prelude.{◌==◌, nat_lt};
+ghost use Rattle.std.specs.Prelude.{◌≡◌, ◌<◌, ◌↔◌, ℕ, length, map, IsTrue, All, true, false, None, is_some, ◌==◌, nat_lt};
 ghost use Rattle.std.specs.List.{list_any, list_all, slice_index_or};
 ghost use Rattle.dip_map_chart.specs.Charts.{is_unit, is_centre, are_units_single};
 ghost use Rattle.dip_map.specs.Boards.{is_prov_if_any, is_power_if_any, is_dislodged, is_held, are_ascending, IsOf};

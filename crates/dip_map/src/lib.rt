@@ -15,6 +15,7 @@ mod stated;
 pub use board_laws::openings_are_of_their_map;
 pub use boards::{Board, Dislodged, Phase, Season};
 pub use charts::Map;
+pub use dip_names::{Kind, MapFault, Place, Power, Prov, Terrain, Unit};
 pub use iterators::{Powers, Provs};
 pub use laws::{maps_are_spelled_by_their_files, maps_are_told_by_their_files};
 pub use standard::STANDARD;

@@ -14,7 +14,7 @@ use Rattle.dip_names.specs.declared.names.Terrain.TheVariants.{Inland, Coast, Se
 use Rattle.dip_names.specs.declared.names.Place.{Place}
 use Rattle.dip_names.specs.declared.names.Unit.{Unit as AUnit}
 use Rattle.dip_map.specs.declared.boards.Dislodged.{Dislodged}
-use Rattle.dip_map_chart.specs.Charts.{Chart, IsMap, Province, Shore, no_shore, coast_of, is_shaped, has_one_shore, has_named_shores, province, shore, fleet_next, is_fleet_place, is_unit, may_stand}
+use Rattle.dip_map.specs.Charts.{Chart, IsMap, Province, Shore, no_shore, coast_of, is_shaped, has_one_shore, has_named_shores, province, shore, fleet_next, is_fleet_place, is_unit, may_stand}
 use Rattle.dip_map.specs.Boards.{Position, IsOf, is_dislodged, is_prov_if_any}
 use Rattle.dip_orders_lines.specs.Forms.{is_coast}
 use Rattle.dip_orders_lines.specs.declared.forms.Mention.{Mention}
@@ -26,8 +26,7 @@ use Rattle.dip_orders.specs.declared.faults.OrderFault.{OrderFault}
 use Rattle.dip_orders.specs.declared.faults.OrderFault.TheVariants.{OutOfReach, NoSuchRetreat}
 use Rattle.dip_orders.proofs.CheckLaws.{Hold}
 use Rattle.dip_orders.proofs.FindLaws.{some_is, find_passes, find_among, find_narrow, find_kept_in}
-use Rattle.dip_map_chart.proofs.Found.{test_at}
-use Rattle.dip_orders.proofs.SpotLaws.{IsPlaceOf, shape_of, coast_for, code_named, code_on_map, knows_own, mention_of, place_low, spot_of, stands_at, written}
+use Rattle.dip_orders.proofs.SpotLaws.{test_at, IsPlaceOf, shape_of, coast_for, code_named, code_on_map, knows_own, mention_of, place_low, spot_of, stands_at, written}
 
 is_kind_self : (k : Kind) → is_kind k k ≡ true
 is_kind_self Army = refl

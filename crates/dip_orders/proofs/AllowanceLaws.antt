@@ -1,6 +1,5 @@
 -- How many units a board may have, and that an allowance is a small number.
-use Rattle.std.proofs.Common.{inl, inr, ◌≡◌, ℕ, ◌<◌, ◌≤◌, ◌==◌, eqb, true, false, zero, suc, get_or, length, map, All, List, [], ◌∷◌, refl, ◌∙◌, arith, not}
-use Rattle.std.proofs.Common.{pos, ◌-ℤ◌, FitsSigned, to_z, of_z, w16}
+use Rattle.std.proofs.Common.{inl, inr, ◌≡◌, ℕ, ◌<◌, ◌≤◌, ◌==◌, eqb, true, false, zero, suc, get_or, length, map, All, List, [], ◌∷◌, refl, ◌∙◌, arith, not, pos, ◌-ℤ◌, FitsSigned, to_z, of_z, w16}
 use Rattle.std.proofs.lemmas.Int.{ints}
 use Rattle.std.specs.Prelude.{nat_lt}
 use Rattle.std.specs.List.{list_any, IsDistinct, AllByRecursion}
@@ -12,11 +11,9 @@ use Rattle.dip_names.specs.declared.names.Unit.{Unit as AUnit}
 use Rattle.dip_names.specs.declared.names.Kind.{Kind}
 use Rattle.dip_names.specs.declared.names.Kind.TheVariants.{Army, Fleet}
 use Rattle.dip_map.specs.declared.boards.Dislodged.{Dislodged}
-use Rattle.dip_map_chart.specs.Charts.{Chart, IsMap, is_unit, may_stand}
-use Rattle.dip_map.specs.Boards.{Position, IsOf, is_dislodged}
-use Rattle.dip_map_chart.specs.Charts.{are_provs_single, are_units_single}
+use Rattle.dip_map.specs.Charts.{Chart, IsMap, is_unit, may_stand, are_provs_single, are_units_single}
+use Rattle.dip_map.specs.Boards.{Position, IsOf, is_dislodged, is_power}
 use Rattle.dip_orders.specs.Allowances.{builds_due, removals_due}
-use Rattle.dip_map.specs.Boards.{is_power}
 
 eqb_sym : (x y : ℕ) → (y == x) ≡ false → (x == y) ≡ false
 eqb_sym x y h = grind arith

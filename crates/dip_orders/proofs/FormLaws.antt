@@ -4,7 +4,7 @@ use Rattle.std.proofs.lemmas.List.{append-nil}
 use Rattle.dip_names.specs.declared.names.Kind.{Kind}
 use Rattle.dip_names.specs.declared.names.Kind.TheVariants.{Army, Fleet}
 use Rattle.dip_names.specs.declared.names.Unit.{Unit as AUnit}
-use Rattle.dip_map_chart.specs.Charts.{Chart, province}
+use Rattle.dip_map.specs.Charts.{Chart, province}
 use Rattle.dip_orders_lines.specs.Texts.{capital, canonical_text}
 use Rattle.dip_orders_lines.specs.declared.forms.Mention.{Mention}
 use Rattle.dip_orders_lines.specs.declared.forms.Form.{Form}

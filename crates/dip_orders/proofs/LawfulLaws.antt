@@ -10,13 +10,12 @@ use Rattle.dip_names.specs.declared.names.Kind.TheVariants.{Army, Fleet}
 use Rattle.dip_names.specs.declared.names.Place.{Place}
 use Rattle.dip_names.specs.declared.names.Unit.{Unit as AUnit}
 use Rattle.dip_map.specs.declared.boards.Dislodged.{Dislodged}
-use Rattle.dip_map_chart.specs.Charts.{Chart, IsMap, fleet_next, home, province, shore}
-use Rattle.dip_map.specs.Boards.{Position, IsOf}
+use Rattle.dip_map.specs.Charts.{Chart, IsMap, fleet_next, home, province, shore}
+use Rattle.dip_map.specs.Boards.{Position, IsOf, is_vacant, owns}
 use Rattle.dip_orders_lines.specs.Forms.{is_form, is_spot}
 use Rattle.dip_orders_lines.specs.declared.forms.Form.{Form}
 use Rattle.dip_orders_lines.specs.declared.forms.Form.TheVariants.{Hold as HoldForm, Move as MoveForm, SupportHold, SupportMove, Convoy, Retreat, Disband, Build, Remove}
 use Rattle.dip_orders.specs.Allowances.{builds_due, removals_due}
-use Rattle.dip_map.specs.Boards.{is_vacant, owns}
 use Rattle.dip_orders.specs.Checks.{Check, must}
 use Rattle.dip_orders.specs.Lawful.{IsLawful, IsSite, Reaches}
 use Rattle.dip_orders.specs.Retreats.{is_place_among, retreats_of}

@@ -10,7 +10,7 @@ use Rattle.dip_names.specs.declared.names.Kind.TheVariants.{Army, Fleet}
 use Rattle.dip_names.specs.declared.names.Place.{Place}
 use Rattle.dip_names.specs.declared.names.Unit.{Unit as AUnit}
 use Rattle.dip_map.specs.declared.boards.Dislodged.{Dislodged}
-use Rattle.dip_map_chart.specs.Charts.{Chart, IsMap, Province, Realm, are_places_single, army_next, fleet_next, home, no_province, no_realm, province, realm, shore, coast_of, is_army_next, is_fleet_place, is_unit, is_centre, is_power_name, may_stand}
+use Rattle.dip_map.specs.Charts.{Chart, IsMap, Province, Realm, are_places_single, army_next, fleet_next, home, no_province, no_realm, province, realm, shore, coast_of, is_army_next, is_fleet_place, is_unit, is_centre, is_power_name, may_stand}
 use Rattle.dip_map.specs.Boards.{Position, IsOf, is_dislodged, is_prov_if_any}
 use Rattle.dip_orders_lines.specs.Forms.{is_form, is_spot}
 use Rattle.dip_orders.specs.Allowances.{builds_due, removals_due}
@@ -37,9 +37,7 @@ use Rattle.dip_orders.proofs.PlaceLaws.{AreOfFleets, found_one, only_shore_there
 use Rattle.dip_orders.proofs.ReadingLaws.{Forms, form_read}
 use Rattle.dip_orders.proofs.RetreatLaws.{retreats_exact, retreats_single}
 use Rattle.dip_orders.proofs.RoundTrip.{Again}
-use Rattle.dip_map_chart.proofs.Found.{test_at}
-use Rattle.dip_orders.proofs.SpotLaws.{IsPlaceOf, bare_fine, bare_spot, code_named, code_on_map, coast_for, mention_of, place_low, spot_fine, spot_of, stands_at, written}
-use Rattle.dip_map.proofs.SpelledLaws.{centre_low}
+use Rattle.dip_orders.proofs.SpotLaws.{IsPlaceOf, bare_fine, bare_spot, code_named, code_on_map, coast_for, mention_of, place_low, spot_fine, spot_of, stands_at, test_at, written}
 
 -- an element that a test meets is at an index
 pub any_at : {A : Type 0} (q : A → Bool) (xs : List A) → list_any q xs ≡ true → (k : ℕ) × (k < length xs) × ((d : A) → q (get_or xs k d) ≡ true)
@@ -216,6 +214,13 @@ record ToldSite (m : Chart) (k : Kind) (a : Place) : Type 0 where
   pub on : IsPlaceOf m k a
   pub checks : Hold (site_checks m k a.prov (coast_for m k a))
   pub same : site m a.prov (coast_for m k a) ≡ a
+
+pub centre_low : (m : Chart) (p : ℕ) → is_centre m p ≡ true → p < length m.provinces
+centre_low m p h =
+    elim (cases_Bool (nat_lt p (length m.provinces))) [
+      | inl low ↦ ltb-true _ _ low
+      | inr past ↦ absurd (false≢true (sym (ap (λ (r : Province). r.centre) (past_province m p past)) ∙ h))
+    ]
 
 pub home_centre : (m : Chart) (power p : ℕ) → IsMap m → list_any (λ x. x == p) (home m power) ≡ true → is_centre m p ≡ true
 home_centre m power p ok h =

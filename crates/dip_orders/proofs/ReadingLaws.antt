@@ -1,6 +1,6 @@
 -- The two ways to say what a line is read as, and what follows of an order's own text.
 use Rattle.std.proofs.Common.{◌≡◌, ℕ, true, List, [], refl, sym, ap, ◌∙◌, Option, Some, None, Ok, Err}
-use Rattle.dip_map_chart.specs.Charts.{Chart, IsMap}
+use Rattle.dip_map.specs.Charts.{Chart, IsMap}
 use Rattle.dip_map.specs.Boards.{Position, IsOf}
 use Rattle.dip_orders_lines.specs.Forms.{Says, is_form}
 use Rattle.dip_orders_lines.specs.Reading.{form_in}

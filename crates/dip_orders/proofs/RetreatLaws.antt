@@ -8,12 +8,10 @@ use Rattle.dip_names.specs.declared.names.Kind.{Kind}
 use Rattle.dip_names.specs.declared.names.Kind.TheVariants.{Army, Fleet}
 use Rattle.dip_names.specs.declared.names.Place.{Place}
 use Rattle.dip_map.specs.declared.boards.Dislodged.{Dislodged}
-use Rattle.dip_map_chart.specs.Charts.{Chart, shore, army_next, fleet_next}
-use Rattle.dip_map.specs.Boards.{Position}
-use Rattle.dip_map_chart.specs.Charts.{are_provs_single, are_places_single}
+use Rattle.dip_map.specs.Charts.{Chart, shore, army_next, fleet_next, are_provs_single, are_places_single}
+use Rattle.dip_map.specs.Boards.{Position, is_held, is_standoff}
 use Rattle.dip_orders.specs.Conditions.{first_in, count_in, named_in}
 use Rattle.dip_orders.specs.Retreats.{on_foot, next_places, is_origin, is_open, retreats_of, is_place_among, MayRetreat}
-use Rattle.dip_map.specs.Boards.{is_held, is_standoff}
 use Rattle.dip_orders.proofs.KeptLaws.{find_kept, any_kept, count_kept}
 
 -- the first open place in a province, how many there are, and the one of a coast

@@ -9,8 +9,8 @@ use Rattle.dip_names.specs.declared.names.Kind.TheVariants.{Army, Fleet}
 use Rattle.dip_names.specs.declared.names.Place.{Place}
 use Rattle.dip_names.specs.declared.names.Unit.{Unit as AUnit}
 use Rattle.dip_map.specs.declared.boards.Dislodged.{Dislodged}
-use Rattle.dip_map_chart.specs.Charts.{Chart, IsMap, home, province}
-use Rattle.dip_map.specs.Boards.{Position, IsOf}
+use Rattle.dip_map.specs.Charts.{Chart, IsMap, home, province}
+use Rattle.dip_map.specs.Boards.{Position, IsOf, is_vacant, owns}
 use Rattle.dip_orders_lines.specs.Forms.{is_coast, are_letters, is_spot, is_form}
 use Rattle.dip_orders_lines.specs.Texts.{canonical_text}
 use Rattle.dip_orders_lines.specs.declared.forms.Spot.{Spot}
@@ -18,7 +18,6 @@ use Rattle.dip_orders_lines.specs.declared.forms.Mention.{Mention}
 use Rattle.dip_orders_lines.specs.declared.forms.Form.{Form}
 use Rattle.dip_orders_lines.specs.declared.forms.Form.TheVariants.{Hold as HoldForm, Move as MoveForm, SupportHold, SupportMove, Convoy, Retreat, Disband, Build, Remove}
 use Rattle.dip_orders.specs.Allowances.{builds_due, removals_due}
-use Rattle.dip_map.specs.Boards.{is_vacant, owns}
 use Rattle.dip_orders.specs.Checks.{Check, must}
 use Rattle.dip_orders.specs.Retreats.{retreats_of}
 use Rattle.dip_orders.specs.Rules.{site, site_checks, unit_checks, move_checks, move_place, other_checks, retreat_checks, is_supportable, unit_of, the_unit, dislodged_of, the_dislodged, the_other, checks_of, order_in, answer}

@@ -11,14 +11,13 @@ use Rattle.dip_names.specs.declared.names.Kind.TheVariants.{Army, Fleet}
 use Rattle.dip_names.specs.declared.names.Terrain.{Terrain}
 use Rattle.dip_names.specs.declared.names.Terrain.TheVariants.{Inland, Coast, Sea}
 use Rattle.dip_names.specs.declared.names.Place.{Place}
-use Rattle.dip_map_chart.specs.Charts.{Chart, Province, Shore, IsMap, no_shore, province, shore, prov_of, coast_of, is_shaped, is_code, is_full_name, is_coast_name, has_one_shore, has_named_shores, is_fleet_place, may_stand}
+use Rattle.dip_map.specs.Charts.{Chart, Province, Shore, IsMap, no_shore, province, shore, prov_of, coast_of, is_shaped, is_code, is_full_name, is_coast_name, has_one_shore, has_named_shores, is_fleet_place, may_stand}
 use Rattle.dip_orders_lines.specs.Forms.{are_letters, coast_text, is_coast, spot_text, is_spot}
 use Rattle.dip_orders_lines.specs.declared.forms.Spot.{Spot}
 use Rattle.dip_orders_lines.specs.declared.forms.Mention.{Mention}
 use Rattle.dip_orders.specs.Conditions.{is_on_map, prov_named, knows_coast}
 use Rattle.dip_orders.specs.Texts.{behind_slash, place_text}
 use Rattle.dip_orders.proofs.FindLaws.{some_is, position_low}
-use Rattle.dip_map_chart.proofs.Found.{test_at}
 
 -- a coast's name as it is written, none where it is empty
 abbrev pub written : List ℕ → Option (List ℕ)
@@ -70,6 +69,14 @@ pub shape_of : (m : Chart) → IsMap m → (p : ℕ) → p < length m.provinces 
 shape_of m ok p low =
     let (_, more) = and_parts (is_code (province m p).code) (is_full_name (province m p).name && is_shaped (province m p).terrain (province m p)) (ok.provinces p low) in
     (and_parts (is_full_name (province m p).name) (is_shaped (province m p).terrain (province m p)) more).1
+
+-- what a test says of each element it says of the one at an index
+pub test_at : {A : Type 0} (f : A → Bool) (xs : List A) (k : ℕ) (d : A) → list_all f xs ≡ true → k < length xs → f (get_or xs k d) ≡ true
+test_at f xs k d a h =
+    elim (cases_Bool (f (get_or xs k d))) [
+      | inl holds ↦ holds
+      | inr fails ↦ absurd (false≢true (sym (list_all_at f xs k d h fails) ∙ a))
+    ]
 
 -- a coast of a well-formed province has no name, or one of two letters
 unnamed : (s : Shore) → (length s.name == 0) ≡ true → is_coast (written s.name) ≡ true

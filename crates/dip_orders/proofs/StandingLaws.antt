@@ -10,7 +10,7 @@ use Rattle.dip_names.specs.declared.names.Place.{Place}
 use Rattle.dip_names.specs.declared.names.Unit.{Unit as AUnit}
 use Rattle.dip_map.specs.declared.boards.Season.{Season}
 use Rattle.dip_map.specs.declared.boards.Season.TheVariants.{SpringMoves, SpringRetreats, FallMoves, FallRetreats, Winter}
-use Rattle.dip_map_chart.specs.Charts.{Chart, IsMap, province, is_army_next}
+use Rattle.dip_map.specs.Charts.{Chart, IsMap, province, is_army_next}
 use Rattle.dip_map.specs.Boards.{Position}
 use Rattle.dip_orders.specs.Lawful.{IsLawful, IsAllowed, Reaches}
 use Rattle.dip_orders.specs.Conditions.{is_movement, is_retreat, is_adjustment, may_convoy, may_march}

@@ -1,6 +1,6 @@
 -- What a power may build or has to remove in Winter.
 use Rattle.std.specs.Prelude.{ℕ, ◌-◌, ◌&&◌, min, ℤ, pos, ◌-ℤ◌, count_by}
-use Rattle.dip_map_chart.specs.Charts.{Chart, home}
+use Rattle.dip_map.specs.Charts.{Chart, home}
 use Rattle.dip_map.specs.Boards.{Position, owns, is_vacant, centres_owned, units_counted}
 
 -- how many of the power's home centres are its own and vacant

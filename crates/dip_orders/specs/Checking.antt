@@ -6,7 +6,7 @@ use Rattle.dip_names.specs.declared.names.Kind.TheVariants.{Army, Fleet}
 use Rattle.dip_names.specs.declared.names.Place.{Place}
 use Rattle.dip_names.specs.declared.names.Unit.{Unit as AUnit}
 use Rattle.dip_map.specs.declared.boards.Dislodged.{Dislodged}
-use Rattle.dip_map_chart.specs.Charts.{Chart, province, fleet_next, is_army_next, prov_of, coast_of}
+use Rattle.dip_map.specs.Charts.{Chart, province, fleet_next, is_army_next, prov_of, coast_of}
 use Rattle.dip_map.specs.Boards.{Position}
 use Rattle.dip_orders_lines.specs.declared.forms.Spot.{Spot}
 use Rattle.dip_orders_lines.specs.declared.forms.Mention.{Mention}

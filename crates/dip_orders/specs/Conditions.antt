@@ -11,12 +11,11 @@ use Rattle.dip_names.specs.declared.names.Unit.{Unit as AUnit}
 use Rattle.dip_map.specs.declared.boards.Dislodged.{Dislodged}
 use Rattle.dip_map.specs.declared.boards.Season.{Season}
 use Rattle.dip_map.specs.declared.boards.Season.TheVariants.{SpringMoves, SpringRetreats, FallMoves, FallRetreats, Winter}
-use Rattle.dip_map_chart.specs.Charts.{Chart, province, shore, fleet_next, home, is_army_next, prov_of, coast_of}
-use Rattle.dip_map.specs.Boards.{Position}
+use Rattle.dip_map.specs.Charts.{Chart, province, shore, fleet_next, home, is_army_next, prov_of, coast_of}
+use Rattle.dip_map.specs.Boards.{Position, is_vacant, owns}
 use Rattle.dip_orders_lines.specs.declared.forms.Spot.{Spot}
 use Rattle.dip_orders_lines.specs.declared.forms.Form.{Form}
 use Rattle.dip_orders_lines.specs.declared.forms.Form.TheVariants.{Hold, Move, SupportHold, SupportMove, Convoy, Retreat, Disband, Build, Remove}
-use Rattle.dip_map.specs.Boards.{is_vacant, owns}
 use Rattle.dip_orders.specs.declared.placed.Order.{Order}
 use Rattle.dip_orders.specs.declared.placed.Order.TheVariants.{Hold as Holds, Move as Moves, SupportHold as SupportsHold, SupportMove as SupportsMove, Convoy as Convoys, Retreat as Retreats, Disband as Disbands, Build as Builds, Remove as Removes}
 use Rattle.dip_orders.specs.declared.placed.PlacedOrder.{PlacedOrder}

@@ -1,6 +1,6 @@
 -- What is handed over when a phase is adjudicated: orders that powers gave, each beside the others of its power.
 use Rattle.std.specs.Prelude.{◌≡◌, ℕ, ◌==◌, true, Contains, List, filter}
-use Rattle.dip_map_chart.specs.Charts.{Chart, are_units_single}
+use Rattle.dip_map.specs.Charts.{Chart, are_units_single}
 use Rattle.dip_map.specs.Boards.{Position}
 use Rattle.dip_orders.specs.Laws.{IsGiven}
 use Rattle.dip_orders.specs.Standing.{units_of}

@@ -5,7 +5,7 @@ use Rattle.dip_names.specs.declared.names.Kind.TheVariants.{Army, Fleet}
 use Rattle.dip_names.specs.declared.names.Place.{Place}
 use Rattle.dip_names.specs.declared.names.Unit.{Unit as AUnit}
 use Rattle.dip_map.specs.declared.boards.Dislodged.{Dislodged}
-use Rattle.dip_map_chart.specs.Charts.{Chart, province, is_fleet_next, is_fleet_place}
+use Rattle.dip_map.specs.Charts.{Chart, province, is_fleet_next, is_fleet_place}
 use Rattle.dip_map.specs.Boards.{Position}
 use Rattle.dip_orders.specs.Allowances.{builds_due, removals_due}
 use Rattle.dip_orders.specs.Retreats.{is_place_among, retreats_of}

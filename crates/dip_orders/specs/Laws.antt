@@ -4,13 +4,12 @@ use Rattle.dip_names.specs.declared.names.Kind.{Kind}
 use Rattle.dip_names.specs.declared.names.Kind.TheVariants.{Army, Fleet}
 use Rattle.dip_names.specs.declared.names.Place.{Place}
 use Rattle.dip_names.specs.declared.names.Unit.{Unit as AUnit}
-use Rattle.dip_map_chart.specs.Charts.{Chart, IsMap, are_provs_single, home, is_army_next, is_fleet_next, province}
+use Rattle.dip_map.specs.Charts.{Chart, IsMap, are_provs_single, home, is_army_next, is_fleet_next, province}
 use Rattle.dip_map.specs.declared.boards.Dislodged.{Dislodged}
 use Rattle.dip_map.specs.declared.boards.Season.{Season}
 use Rattle.dip_map.specs.declared.boards.Season.TheVariants.{SpringMoves, SpringRetreats, FallMoves, FallRetreats, Winter}
-use Rattle.dip_map.specs.Boards.{Position, IsOf}
+use Rattle.dip_map.specs.Boards.{Position, IsOf, centres_owned, owner, units_counted}
 use Rattle.dip_orders.specs.Allowances.{allowance}
-use Rattle.dip_map.specs.Boards.{centres_owned, owner, units_counted}
 use Rattle.dip_orders.specs.Lawful.{IsLawful}
 use Rattle.dip_orders.specs.Reading.{order_of}
 use Rattle.dip_orders.specs.Standing.{IsOnly, is_in_force, are_in_force, standing_orders, units_of}

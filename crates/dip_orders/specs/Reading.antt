@@ -1,6 +1,6 @@
 -- Reading an order line, as a function.
 use Rattle.std.specs.Prelude.{ℕ, List, Option, None, Some, Result, Err}
-use Rattle.dip_map_chart.specs.Charts.{Chart}
+use Rattle.dip_map.specs.Charts.{Chart}
 use Rattle.dip_map.specs.Boards.{Position}
 use Rattle.dip_orders_lines.specs.Reading.{form_in}
 use Rattle.dip_orders_lines.specs.declared.forms.Form.{Form}

@@ -5,7 +5,7 @@ use Rattle.dip_names.specs.declared.names.Kind.{Kind}
 use Rattle.dip_names.specs.declared.names.Kind.TheVariants.{Army, Fleet}
 use Rattle.dip_names.specs.declared.names.Place.{Place}
 use Rattle.dip_map.specs.declared.boards.Dislodged.{Dislodged}
-use Rattle.dip_map_chart.specs.Charts.{Chart, army_next, fleet_next}
+use Rattle.dip_map.specs.Charts.{Chart, army_next, fleet_next}
 use Rattle.dip_map.specs.Boards.{Position, is_held, is_standoff}
 
 -- the places of an army in these provinces: none tells a coast

@@ -8,7 +8,7 @@ use Rattle.dip_orders.specs.declared.placed.Other.{Other}
 use Rattle.dip_orders.specs.declared.placed.Order.{Order}
 use Rattle.dip_orders.specs.declared.placed.Order.TheVariants.{Hold, Move, SupportHold, SupportMove, Convoy, Retreat, Disband, Build, Remove}
 use Rattle.dip_orders.specs.declared.placed.PlacedOrder.{PlacedOrder}
-use Rattle.dip_map_chart.specs.Charts.{Chart, province, shore}
+use Rattle.dip_map.specs.Charts.{Chart, province, shore}
 
 -- a coast's name behind a slash, nothing where there is none
 abbrev pub behind_slash : List ℕ → List ℕ

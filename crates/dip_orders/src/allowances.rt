@@ -1,8 +1,7 @@
 //! What a power may build or has to remove in Winter.
 ghost use Rattle.std.specs.Prelude.{◌≡◌, ◌==◌, ◌<◌, ◌^◌, count_by};
-ghost use Rattle.dip_map.specs.Boards.{IsOf};
+ghost use Rattle.dip_map.specs.Boards.{IsOf, is_power, owns, is_left, is_vacant, centres_owned, units_counted};
 ghost use Rattle.dip_orders.specs.Allowances.{vacant_homes, builds_due, removals_due, allowance};
-ghost use Rattle.dip_map.specs.Boards.{is_power, owns, is_left, is_vacant, centres_owned, units_counted};
 
 use dip_map::{Board, Map};
 use dip_names::{Power, Prov};

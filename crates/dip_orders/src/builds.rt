@@ -1,7 +1,7 @@
 //! Orders of the Winter: builds and removals.
 ghost use Rattle.std.specs.Prelude.{◌≡◌, ◌==◌, ◌&&◌, not, count_by};
 ghost use Rattle.std.specs.List.{list_any};
-ghost use Rattle.dip_map_chart.specs.Charts.{home};
+ghost use Rattle.dip_map.specs.Charts.{home};
 ghost use Rattle.dip_orders.specs.Checking.{site_at, build_order, remove_order};
 ghost use Rattle.dip_orders.specs.Conditions.{may_build, is_build, is_remove, builds_elsewhere, removals_elsewhere};
 

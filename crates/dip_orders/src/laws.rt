@@ -1,9 +1,5 @@
 //! Laws of orders, each the contract of a function that does nothing.
-ghost use Rattle.dip_orders.specs.Laws.{AidersCouldMove, BuildsAreInVacantHomes, BuildsHaveRoom, HoldersCouldMove};
-ghost use Rattle.dip_orders.specs.Laws.{LawfulOrdersAreRead, NoMoreHaveRoom, NoneRetreatsToItsAttacker, OnlyMovementIsInForce};
-ghost use Rattle.dip_orders.specs.Laws.{OrdersAreLawful, OrdersAreOfTheirPhase, OrdersInForceStand, OrdersReadAreInForce};
-ghost use Rattle.dip_orders.specs.Laws.{OrdersStandAlone, RemovalsAreSurplus, RetreatsAreToVacantProvinces, StandingIsInForce};
-ghost use Rattle.dip_orders.specs.Laws.{TextsAreReadAgain, TextsTellOrdersApart, UnitsHaveOneOrder};
+ghost use Rattle.dip_orders.specs.Laws.{AidersCouldMove, BuildsAreInVacantHomes, BuildsHaveRoom, HoldersCouldMove, LawfulOrdersAreRead, NoMoreHaveRoom, NoneRetreatsToItsAttacker, OnlyMovementIsInForce, OrdersAreLawful, OrdersAreOfTheirPhase, OrdersInForceStand, OrdersReadAreInForce, OrdersStandAlone, RemovalsAreSurplus, RetreatsAreToVacantProvinces, StandingIsInForce, TextsAreReadAgain, TextsTellOrdersApart, UnitsHaveOneOrder};
 
 use dip_orders_lines::forms_are_read;
 

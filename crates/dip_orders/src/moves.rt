@@ -1,7 +1,7 @@
 //! Where a unit may go, and hold and move orders.
 ghost use Rattle.std.specs.Prelude.{◌≡◌, ◌==◌, ◌&&◌};
 ghost use Rattle.std.specs.Str.{bytes_eq};
-ghost use Rattle.dip_map_chart.specs.Charts.{province, shore};
+ghost use Rattle.dip_map.specs.Charts.{province, shore};
 ghost use Rattle.dip_orders.specs.Checking.{march_to, coast_to, sail_to, go_to, hold_order, move_order};
 ghost use Rattle.dip_orders.specs.Conditions.{may_convoy, may_march, first_in, count_in, named_in, could_move, could_come};
 

@@ -1,6 +1,6 @@
 //! Orders and units printed.
 ghost use Rattle.std.specs.Prelude.{◌≡◌, ◌++◌, OnOk, OnErr, codes, string_bytes};
-ghost use Rattle.dip_map_chart.specs.Charts.{province, shore};
+ghost use Rattle.dip_map.specs.Charts.{province, shore};
 ghost use Rattle.dip_orders.specs.Texts.{behind_slash, place_text, kind_letter, other_text, verb_text, via_text, action_text, order_text, unit_text, Extends};
 
 use crate::placed::{Order, Other, PlacedOrder};

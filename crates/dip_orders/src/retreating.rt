@@ -1,6 +1,6 @@
 //! Where a dislodged unit may retreat.
 ghost use Rattle.std.specs.Prelude.{◌≡◌, ◌↔◌, IsTrue, IfOk, true};
-ghost use Rattle.dip_map_chart.specs.Charts.{are_places_single};
+ghost use Rattle.dip_map.specs.Charts.{are_places_single};
 ghost use Rattle.dip_names.specs.declared.names.Place.{Place as APlace};
 ghost use Rattle.dip_orders.specs.Retreats.{on_foot, next_places, is_origin, is_open, retreats_of, is_place_among, MayRetreat};
 ghost use Rattle.dip_map.specs.Boards.{is_held};

@@ -1,6 +1,6 @@
 //! Supports and convoys.
 ghost use Rattle.std.specs.Prelude.{◌≡◌};
-ghost use Rattle.dip_map_chart.specs.Charts.{province};
+ghost use Rattle.dip_map.specs.Charts.{province};
 ghost use Rattle.dip_orders.specs.Rules.{is_supportable};
 ghost use Rattle.dip_orders.specs.Checking.{carrier, convoy_order, support_hold_order, support_move_order};
 

@@ -3,8 +3,8 @@ use Rattle.std.proofs.Common.{◌≡◌, ◌<◌, ◌≤◌, ◌+◌, ◌&&◌, 
 use Rattle.std.specs.List.{AllByRecursion}
 use Rattle.std.proofs.lemmas.Bool.{and_parts, cases_Bool}
 use Rattle.std.proofs.lemmas.Slice.Eq.{bytes_eq-Decides}
-use Rattle.sqlite_keyed.specs.Lists.{delete_where, update_where}
-use Rattle.sqlite_keyed.proofs.ListLemmas.{all_kept, all_unmap, all_weaker, ascending-append, ascending-filter}
+use Rattle.dip_store_tables.specs.Lists.{delete_where, update_where}
+use Rattle.dip_store_tables.proofs.ListLemmas.{all_kept, all_unmap, all_weaker, ascending-append, ascending-filter}
 use Rattle.dip_store_tables.specs.Counting.{counted}
 use Rattle.dip_store_sql.specs.Keys.{Differ}
 

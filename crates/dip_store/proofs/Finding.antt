@@ -2,9 +2,9 @@
 use Rattle.std.proofs.Common.{◌≡◌, ℕ, ◌<◌, ◌==◌, Bool, true, cond, ◌&&◌, List, [], ◌∷◌, map, filter, find, length, Option, Some, None, option_map, option_and_then, is_some, bytes_eq, refl, sym, ap, ap₂, subst, ◌∙◌, inl, inr}
 use Rattle.std.specs.List.{AllByRecursion}
 use Rattle.std.proofs.lemmas.Bool.{cases_Bool, and_parts, eqb-true, eq-eqb}
-use Rattle.sqlite_keyed.proofs.ListLemmas.{all_weaker}
-use Rattle.sqlite_keyed.proofs.SliceLemmas.{find-slice, any_is_found}
-use Rattle.dip_map_chart.specs.Charts.{Chart, IsMap}
+use Rattle.dip_store_tables.proofs.ListLemmas.{all_weaker}
+use Rattle.dip_store_tables.proofs.SliceLemmas.{find-slice, any_is_found}
+use Rattle.dip_map.specs.Charts.{Chart, IsMap}
 use Rattle.dip_store_tables.specs.Boards.{power_name, power_in as power_numbered}
 use Rattle.dip_desk_state.specs.Keyed.{at}
 use Rattle.dip_desk_state.specs.State.{name_of, power_in, game_at, seat_at, part_at}

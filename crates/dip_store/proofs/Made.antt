@@ -4,7 +4,7 @@ use Rattle.sqlite.specs.Effect.{Database}
 use Rattle.sqlite.specs.Tree.{Trees}
 use Rattle.sqlite.specs.Store.{Ghosts}
 use Rattle.sqlite.specs.Held.{Held, state}
-use Rattle.dip_map_chart.specs.Charts.{Chart}
+use Rattle.dip_map.specs.Charts.{Chart}
 use Rattle.dip_desk.specs.Fitting.{Fits}
 use Rattle.dip_desk.specs.Keeping.{Changes}
 use Rattle.dip_store.specs.Laws.{FindsPlaceInTables, FitsIsWritable, WhatFitsFindsPlace}

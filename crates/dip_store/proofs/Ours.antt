@@ -7,8 +7,8 @@ use Rattle.sqlite.specs.Query.{Query}
 use Rattle.sqlite.specs.Given.{IsPlain}
 use Rattle.sqlite.specs.Listing.{understood}
 use Rattle.sqlite.specs.Schema.{Schema}
-use Rattle.sqlite_resolve.specs.declared.compiled.Compiled.{Compiled}
-use Rattle.sqlite_resolve.specs.declared.error.CompileError.{CompileError}
+use Rattle.dip_store_sql.specs.Compiled.{Compiled}
+use Rattle.dip_store_sql.specs.CompileError.{CompileError}
 use Rattle.dip_store_sql.specs.Asking.{Asks, IsAsked, command_in}
 use Rattle.dip_store_sql.specs.Schema.{our_schema}
 use Rattle.dip_store_sql.proofs.Texts as means

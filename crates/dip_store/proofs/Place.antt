@@ -2,10 +2,10 @@
 use Rattle.std.proofs.Common.{◌≡◌, ◌<◌, ◌≤◌, ◌+◌, ◌^◌, ◌==◌, ◌&&◌, ℕ, suc, Bool, true, false, cond, List, [], ◌∷◌, ◌++◌, map, filter, find, length, Option, Some, None, option_map, is_some, nat_lt, bytes_eq, if◌then◌else◌, inl, inr, refl, sym, ap, ap₂, subst, ◌∙◌, arith}
 use Rattle.std.specs.List.{AllByRecursion, list_all, list_any}
 use Rattle.std.proofs.lemmas.Bool.{and_parts, cases_Bool, eqb-true, ltb-true}
-use Rattle.sqlite_keyed.specs.Lists.{delete_where, update_where}
-use Rattle.sqlite_keyed.proofs.ListLemmas.{all_from_test, all_kept, all_map, all_of, all_unmap, all_weaker, ascending-filter, ascending-map, ascending_weaker}
-use Rattle.sqlite_keyed.proofs.SliceLemmas.{any_is_found}
-use Rattle.dip_map_chart.specs.Charts.{Chart, IsMap}
+use Rattle.dip_store_tables.specs.Lists.{delete_where, update_where}
+use Rattle.dip_store_tables.proofs.ListLemmas.{all_from_test, all_kept, all_map, all_of, all_unmap, all_weaker, ascending-filter, ascending-map, ascending_weaker}
+use Rattle.dip_store_tables.proofs.SliceLemmas.{any_is_found}
+use Rattle.dip_map.specs.Charts.{Chart, IsMap}
 use Rattle.dip_map.specs.Boards.{IsOf, Position}
 use Rattle.dip_store_tables.specs.Boards.{CentreRow, UnitRow, centre_rows, centre_rows_from, dislodged_row, power_name, standing_row, unit_rows}
 use Rattle.dip_desk.specs.Fitting.{FindsPlace, Fits}

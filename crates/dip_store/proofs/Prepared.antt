@@ -11,10 +11,10 @@ use Rattle.sqlite.specs.Held.{Held, state}
 use Rattle.sqlite.specs.Schema.{Schema}
 use Rattle.sqlite.specs.State.{HasCleanDisk, Survives, State, IsNotRun, IsUnchanged, KeepsCommit, HasCause, is_disk_error, store_error}
 use Rattle.sqlite.specs.Steps.{Outlines}
-use Rattle.sqlite_trees.specs.declared.error.StoreError.{StoreError}
-use Rattle.sqlite_trees.specs.declared.error.StoreError.TheVariants.{OutOfMemory, Io, Corrupt, Full, Broken, Unstorable}
-use Rattle.sqlite_resolve.specs.declared.compiled.Compiled.{Compiled}
-use Rattle.sqlite_resolve.specs.declared.error.CompileError.{CompileError}
+use Rattle.dip_store_sql.specs.StoreError.{StoreError}
+use Rattle.dip_store_sql.specs.StoreError.TheVariants.{OutOfMemory, Io, Corrupt, Full, Broken, Unstorable}
+use Rattle.dip_store_sql.specs.Compiled.{Compiled}
+use Rattle.dip_store_sql.specs.CompileError.{CompileError}
 use Rattle.dip_store_sql.specs.Faults.{IsOutside}
 use Rattle.dip_store.specs.Alone.{LeavesAlone}
 use Rattle.dip_store.specs.Known.{IsKnown, IsWhole}

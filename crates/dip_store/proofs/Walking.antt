@@ -3,7 +3,7 @@ use Rattle.std.proofs.Common.{Ok, Err, Result, refl, ap, ◌∙◌}
 use Rattle.dip_store.specs.Papers.{Walks}
 use Rattle.dip_store.specs.declared.paper_faults.PaperFault.{PaperFault}
 use Rattle.dip_store.specs.declared.paper_faults.PaperFault.TheVariants.{Write, Keep}
-use Rattle.dip_map_chart.specs.Charts.{Chart}
+use Rattle.dip_map.specs.Charts.{Chart}
 use Rattle.dip_desk.specs.Keeping.{Book, Looks}
 use Rattle.dip_desk_state.specs.Faults.{faults_with}
 use Rattle.dip_desk_state.specs.declared.faults.KeepFault.{KeepFault}

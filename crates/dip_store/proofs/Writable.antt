@@ -2,7 +2,7 @@
 use Rattle.std.proofs.Common.{◌≡◌, ◌<◌, ◌≤◌, ◌^◌, ◌==◌, ◌||◌, ℕ, Bool, true, false, List, [], ◌∷◌, inl, inr, sym, ap, subst, ◌∙◌, arith}
 use Rattle.std.specs.List.{list_all}
 use Rattle.std.proofs.lemmas.Bool.{cases_Bool, and_parts, eqb-true}
-use Rattle.dip_map_chart.specs.Charts.{Chart}
+use Rattle.dip_map.specs.Charts.{Chart}
 use Rattle.dip_desk.specs.Fitting.{Fits}
 use Rattle.dip_letters.specs.Words.{is_digit, is_game, is_lower}
 use Rattle.dip_desk_machine.specs.Fitting.{FitsMap}

@@ -3,8 +3,8 @@ use Rattle.std.specs.Prelude.{◌≡◌, ◌≤◌, ℕ, List, [], ◌∷◌, Re
 use Rattle.std.specs.List.{AllByRecursion}
 use Rattle.sqlite.specs.Schema.{Schema}
 use Rattle.sqlite.specs.Listing.{understood}
-use Rattle.sqlite_resolve.specs.declared.compiled.Compiled.{Compiled}
-use Rattle.sqlite_resolve.specs.declared.error.CompileError.{CompileError}
+use Rattle.dip_store_sql.specs.Compiled.{Compiled}
+use Rattle.dip_store_sql.specs.CompileError.{CompileError}
 use Rattle.dip_store_sql.specs.Statements.{find_desk_text, find_game_text, list_seats_text, list_units_text, list_centres_text, list_orders_text, find_item_text, find_paper_text}
 
 -- the schema has what the text names

@@ -1,5 +1,5 @@
 -- What follows for the tables where a change fits.
-use Rattle.dip_map_chart.specs.Charts.{Chart, IsMap}
+use Rattle.dip_map.specs.Charts.{Chart, IsMap}
 use Rattle.dip_desk.specs.Fitting.{Fits}
 use Rattle.dip_store_tables.specs.Room.{HasRoom}
 use Rattle.dip_desk_state.specs.State.{Change, State}

@@ -3,7 +3,7 @@ ghost use Rattle.std.specs.Prelude.{◌≡◌, IfErr, OnOk};
 ghost use Rattle.std.specs.List.{find};
 ghost use Rattle.sha2.specs.Sha256.{sha256};
 ghost use Rattle.sqlite.specs.Held.{state};
-ghost use Rattle.dip_map_chart.specs.Charts.{Chart};
+ghost use Rattle.dip_map.specs.Charts.{Chart};
 ghost use Rattle.dip_store_sql.specs.Schema.{our_schema};
 ghost use Rattle.dip_store.specs.Desk.{DeskSays};
 ghost use Rattle.dip_store.specs.Known.{HasOurTables};

@@ -3,7 +3,7 @@ ghost use Rattle.std.specs.Prelude.{◌≡◌, ◌<◌, ◌^◌, ℕ, IfErr, IfO
 ghost use Rattle.std.specs.List.{find};
 ghost use Rattle.sqlite.specs.declared.types.Value.TheVariants.{Int, Blob as Bytes};
 ghost use Rattle.sqlite.specs.Order.{bytes, column};
-ghost use Rattle.dip_map_chart.specs.Charts.{Chart};
+ghost use Rattle.dip_map.specs.Charts.{Chart};
 ghost use Rattle.dip_store.specs.Desk.{IsMarked, columns_of, shown_columns};
 ghost use Rattle.dip_store.specs.DeskFaults.{IsFromOutside};
 ghost use Rattle.dip_store_tables.specs.Legible.{AreOurs};

@@ -1,5 +1,5 @@
 //! Laws of changes that fit, each the contract of a function that does nothing.
-ghost use Rattle.dip_map_chart.specs.Charts.{Chart};
+ghost use Rattle.dip_map.specs.Charts.{Chart};
 ghost use Rattle.dip_store.specs.Laws.{FitsIsWritable, WhatFitsFindsPlace};
 
 /// A change that a keeper has no reason to refuse can be written into the columns.

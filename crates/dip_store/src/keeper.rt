@@ -7,8 +7,7 @@ use crate::fitting_laws::{what_fits_can_be_written, what_fits_finds_place};
 use crate::papers::look_game_paper;
 use dip_desk::Keeper;
 use dip_desk_state::{Change, Desk, Item, KeepFault, Own, Public, Whole};
-use dip_map::Map;
-use dip_names::Power;
+use dip_map::{Map, Power};
 use dip_store_changes::{changes_are_made, make};
 use dip_store_looks::{look_desk, look_items, look_own, look_public, look_whole};
 use dip_store_tables::{

@@ -1,8 +1,8 @@
 -- Records behind the others, some more and none.
 use Rattle.std.proofs.Common.{◌≡◌, ℕ, List, [], ◌∷◌, ◌++◌, map, Option, ap, sym, ◌∙◌, append_assoc, append-nil, refl}
-use Rattle.sqlite_keyed.specs.Lists.{delete_where}
+use Rattle.dip_store_tables.specs.Lists.{delete_where}
 use Rattle.dip_names.specs.declared.names.Unit.{Unit as AUnit}
-use Rattle.dip_map_chart.specs.Charts.{Chart}
+use Rattle.dip_map.specs.Charts.{Chart}
 use Rattle.dip_map.specs.Boards.{Position}
 use Rattle.dip_map.specs.declared.boards.Dislodged.{Dislodged}
 use Rattle.dip_store_tables.specs.Boards.{UnitRow, CentreRow, centre_rows, centre_rows_from, dislodged_row, standing_row}

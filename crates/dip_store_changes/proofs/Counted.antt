@@ -2,10 +2,10 @@
 use Rattle.std.proofs.Common.{◌≡◌, ℕ, ◌+◌, pos, Bool, true, false, cond, ◌&&◌, List, [], ◌∷◌, filter, find, slice_get, Some, None, option_map, bytes_eq, refl, sym, ap, ap₂, subst, ◌∙◌, inl, inr}
 use Rattle.std.specs.List.{AllByRecursion}
 use Rattle.std.proofs.lemmas.Bool.{cases_Bool}
-use Rattle.sqlite_keyed.proofs.ListLemmas.{ascending-map, ascending_weaker, slice_get-filter}
+use Rattle.dip_store_tables.proofs.ListLemmas.{ascending-map, ascending_weaker, slice_get-filter}
 use Rattle.sqlite.specs.Order.{Row, column}
 use Rattle.sqlite.specs.declared.types.Value.TheVariants.{Int}
-use Rattle.dip_map_chart.specs.Charts.{Chart}
+use Rattle.dip_map.specs.Charts.{Chart}
 use Rattle.dip_store_tables.specs.Boards.{power_name}
 use Rattle.dip_desk_state.specs.State.{Author, Nobody, TheMaster, Seat, Effect, Nothing, Pending, Votes, Delivers, Opens, Publishes, Seats, Change}
 use Rattle.dip_desk_state.specs.Records.{Kept}

@@ -2,8 +2,8 @@
 use Rattle.std.proofs.Common.{◌≡◌, ℕ, ◌+◌, Bool, true, false, List, [], ◌∷◌, refl, sym, subst, ap, ap₂, inl, inr}
 use Rattle.std.specs.List.{AllByRecursion}
 use Rattle.std.proofs.lemmas.Bool.{cases_Bool}
-use Rattle.sqlite_keyed.specs.Lists.{update_where}
-use Rattle.dip_map_chart.specs.Charts.{Chart}
+use Rattle.dip_store_tables.specs.Lists.{update_where}
+use Rattle.dip_map.specs.Charts.{Chart}
 use Rattle.dip_store_tables.specs.Boards.{power_name}
 use Rattle.dip_desk_state.specs.Records.{Kept}
 use Rattle.dip_desk_state.specs.State.{Author, Seat, Effect, Nothing, Pending, Votes, Delivers, Opens, Publishes, Seats}

@@ -12,7 +12,7 @@ use Rattle.sqlite.specs.declared.error.Error.{Error}
 use Rattle.sqlite.specs.declared.error.Error.TheVariants.{SqliteFailure}
 use Rattle.sqlite.specs.declared.error.ErrorCode.TheVariants.{OutOfMemory}
 use Rattle.dip_store_sql.specs.Faults.{IsOutside}
-use Rattle.dip_map_chart.specs.Charts.{Chart, IsMap}
+use Rattle.dip_map.specs.Charts.{Chart, IsMap}
 use Rattle.dip_store_tables.specs.Coding.{IsSeatOf}
 use Rattle.dip_store_tables.specs.Tables.{SeatRow}
 use Rattle.dip_store_tables.specs.Legible.{IsSeatLegible}

@@ -5,8 +5,8 @@ use Rattle.std.proofs.lemmas.Bool.{cases_Bool, ltb-true}
 use Rattle.std.proofs.lemmas.List.Sums.{passes_at_first}
 use Rattle.std.proofs.lemmas.Slice.Eq.{bytes_eq-Decides}
 use Rattle.sqlite.specs.Order.{Row, bytes, column}
-use Rattle.sqlite_keyed.proofs.ListLemmas.{filter-map, filter_same, map-map}
-use Rattle.dip_map_chart.specs.Charts.{Chart, Realm, no_realm, power_of, realm}
+use Rattle.dip_store_tables.proofs.ListLemmas.{filter-map, filter_same, map-map}
+use Rattle.dip_map.specs.Charts.{Chart, Realm, no_realm, power_of, realm}
 use Rattle.dip_store_tables.specs.Boards.{power_in, power_name}
 use Rattle.dip_store_tables.specs.Changing.{is_reader}
 use Rattle.dip_store_tables.specs.Tables.{SeatRow, is_seat_in}

@@ -2,9 +2,9 @@
 use Rattle.std.proofs.Common.{◌≡◌, ◌<◌, ◌+◌, ◌^◌, ℕ, List, [], ◌∷◌, filter, All, subst, sym, ap, refl, arith}
 use Rattle.std.specs.List.{AllByRecursion}
 use Rattle.std.proofs.lemmas.List.Elements.{recursion_from_All}
-use Rattle.sqlite_keyed.proofs.ListLemmas.{all_weaker}
+use Rattle.dip_store_tables.proofs.ListLemmas.{all_weaker}
 use Rattle.dip_store_tables.specs.Boards.{CentreRow, UnitRow}
-use Rattle.dip_map_chart.specs.Charts.{Chart}
+use Rattle.dip_map.specs.Charts.{Chart}
 use Rattle.dip_desk_state.specs.State.{Author, Effect, Nothing, Pending, Votes, Delivers, Opens, Publishes, Seats}
 use Rattle.dip_desk_state.specs.Records.{Item}
 use Rattle.dip_store_tables.specs.Changing.{is_reader}

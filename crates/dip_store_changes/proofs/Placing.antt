@@ -1,8 +1,8 @@
 -- The rows of a board, one statement behind the other, where no key comes twice behind all.
 use Rattle.std.proofs.Common.{◌≡◌, ℕ, List, ◌++◌, map, Option, append_assoc, refl, sym, subst}
-use Rattle.sqlite_keyed.specs.Lists.{delete_where}
+use Rattle.dip_store_tables.specs.Lists.{delete_where}
 use Rattle.dip_names.specs.declared.names.Unit.{Unit as AUnit}
-use Rattle.dip_map_chart.specs.Charts.{Chart}
+use Rattle.dip_map.specs.Charts.{Chart}
 use Rattle.dip_map.specs.Boards.{Position}
 use Rattle.dip_map.specs.declared.boards.Dislodged.{Dislodged}
 use Rattle.dip_store_tables.specs.Boards.{centre_rows_from, dislodged_row, standing_row}

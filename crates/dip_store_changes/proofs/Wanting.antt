@@ -1,14 +1,14 @@
 -- A transaction of parts fails for want alone where each of its parts does.
 use Rattle.std.proofs.Common.{◌≡◌, ◌≤◌, ℕ, List, true, inl, inr, Ok, Err, Result, IsTrue, IfErr, refl, sym, ap, ◌∙◌, arith}
-use Rattle.sqlite_trees.specs.declared.error.StoreError.{StoreError}
-use Rattle.sqlite_trees.specs.declared.error.StoreError.TheVariants.{OutOfMemory, Io, Corrupt, Full, Broken, Unstorable}
+use Rattle.dip_store_sql.specs.StoreError.{StoreError}
+use Rattle.dip_store_sql.specs.StoreError.TheVariants.{OutOfMemory, Io, Corrupt, Full, Broken, Unstorable}
 use Rattle.sqlite.specs.declared.error.Error.{Error}
 use Rattle.sqlite.specs.Tree.{Trees}
 use Rattle.sqlite.specs.Store.{Ghosts}
 use Rattle.sqlite.specs.Held.{Held, state}
 use Rattle.sqlite.specs.State.{State, HasCause, HasCleanDisk, Survives, is_disk_error, store_error}
 use Rattle.sqlite.specs.Steps.{FailsToCommit}
-use Rattle.dip_map_chart.specs.Charts.{Chart}
+use Rattle.dip_map.specs.Charts.{Chart}
 use Rattle.dip_desk_state.specs.State.{Author, Effect, Nothing, Pending, Votes, Delivers, Opens, Publishes, Seats}
 use Rattle.dip_store_tables.specs.Tables.{Tables}
 use Rattle.dip_store_sql.specs.Calls.{IsKept, does_show, is_honest, tables_in}

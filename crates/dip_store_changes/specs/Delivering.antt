@@ -1,7 +1,7 @@
 -- Press in its readers' inboxes, one reader behind the other.
 use Rattle.std.specs.Prelude.{◌≡◌, ℕ, ◌+◌, List, [], ◌∷◌, ◌++◌, Bool, codes, if◌then◌else◌, string_bytes}
-use Rattle.sqlite_keyed.specs.Lists.{update_where}
-use Rattle.dip_map_chart.specs.Charts.{Chart}
+use Rattle.dip_store_tables.specs.Lists.{update_where}
+use Rattle.dip_map.specs.Charts.{Chart}
 use Rattle.dip_store_tables.specs.Boards.{power_name}
 use Rattle.dip_desk_state.specs.Records.{Item}
 use Rattle.dip_store_tables.specs.Changing.{delivering_each, with_items}

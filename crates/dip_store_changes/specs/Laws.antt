@@ -1,7 +1,7 @@
 -- What the tables of a database say behind a change that was made of them.
 use Rattle.std.specs.Prelude.{◌≡◌}
 use Rattle.sqlite.specs.Effect.{Database}
-use Rattle.dip_map_chart.specs.Charts.{Chart}
+use Rattle.dip_map.specs.Charts.{Chart}
 use Rattle.dip_desk_state.specs.State.{Change, state_after}
 use Rattle.dip_store_tables.specs.Changing.{changing}
 use Rattle.dip_store_tables.specs.Coding.{AreCoded}

@@ -3,7 +3,7 @@ use Rattle.std.specs.Prelude.{◌≡◌, ◌≤◌, ◌⊎◌, ℕ, false, None,
 use Rattle.sqlite.specs.Tree.{Trees}
 use Rattle.sqlite.specs.Store.{Ghosts}
 use Rattle.sqlite.specs.Held.{Held, state}
-use Rattle.dip_map_chart.specs.Charts.{Chart}
+use Rattle.dip_map.specs.Charts.{Chart}
 use Rattle.dip_desk_state.specs.State.{Author, Effect, Nothing, Pending, Votes, Delivers, Opens, Publishes, Seats, Change}
 use Rattle.dip_store_tables.specs.Changing.{opening, ordering, ordering_by, publishing, replacing}
 use Rattle.dip_store_tables.specs.Tables.{Tables}

@@ -1,7 +1,7 @@
 -- What the parts of a change make of the tables.
 use Rattle.std.specs.Prelude.{ℕ, Bool, List, ◌++◌, if◌then◌else◌}
-use Rattle.sqlite_keyed.specs.Lists.{delete_where}
-use Rattle.dip_map_chart.specs.Charts.{Chart}
+use Rattle.dip_store_tables.specs.Lists.{delete_where}
+use Rattle.dip_map.specs.Charts.{Chart}
 use Rattle.dip_map.specs.Boards.{Position}
 use Rattle.dip_store_tables.specs.Boards.{UnitRow, CentreRow, unit_rows, centre_rows}
 use Rattle.dip_store_tables.specs.Tables.{PendingRow, SeatRow, Tables, is_unit_in, is_centre_in, is_seat_in, is_pending_in, is_box_in, is_paper_in}

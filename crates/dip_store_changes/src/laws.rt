@@ -1,5 +1,5 @@
 //! What a change that was made says, as the contract of a function that does nothing.
-ghost use Rattle.dip_map_chart.specs.Charts.{Chart, IsMap};
+ghost use Rattle.dip_map.specs.Charts.{Chart, IsMap};
 ghost use Rattle.dip_store_changes.specs.Laws.{ChangesAreMade};
 
 use dip_store_tables::{

@@ -2,7 +2,7 @@
 ghost use Rattle.std.specs.Prelude.{◌≡◌, ◌<◌, ◌==◌, ◌+◌, ◌^◌, All, IfErr, IfOk, IsTrue, filter, map as each};
 ghost use Rattle.std.specs.List.{AllByRecursion, list_any};
 ghost use Rattle.sqlite.specs.Order.{bytes, column};
-ghost use Rattle.dip_map_chart.specs.Charts.{IsMap};
+ghost use Rattle.dip_map.specs.Charts.{IsMap};
 ghost use Rattle.dip_store_tables.specs.Boards.{power_in, power_name};
 ghost use Rattle.dip_store_tables.specs.Changing.{is_reader};
 ghost use Rattle.dip_store_tables.specs.Legible.{AreOurs};

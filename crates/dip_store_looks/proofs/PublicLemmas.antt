@@ -4,7 +4,7 @@ use Rattle.std.specs.List.{find}
 use Rattle.std.proofs.lemmas.Bool.{cases_Bool}
 use Rattle.std.proofs.lemmas.Slice.Eq.{bytes_eq-Decides}
 use Rattle.sqlite.specs.Order.{Row}
-use Rattle.dip_map_chart.specs.Charts.{Chart, Province}
+use Rattle.dip_map.specs.Charts.{Chart, Province}
 use Rattle.dip_store_tables.specs.Boards.{UnitRow, CentreRow, board_of, unit_of, dislodged_of, stands, fell, owner_in, standoff_of, season_of}
 use Rattle.dip_store_sql.specs.Showing.{show_game, show_unit, show_centre}
 use Rattle.dip_store_tables.specs.Reading.{public_of}

@@ -5,9 +5,9 @@ use Rattle.std.specs.List.{AllByRecursion, find}
 use Rattle.std.proofs.lemmas.Bool.{cases_Bool, eqb-true}
 use Rattle.sqlite.specs.declared.types.Value.TheVariants.{Int, Text as Words, Blob as Bytes}
 use Rattle.sqlite.specs.Order.{Row, column, bytes}
-use Rattle.sqlite_keyed.proofs.ListLemmas.{all_both, all-filter, all_map, all_weaker}
+use Rattle.dip_store_tables.proofs.ListLemmas.{all_both, all-filter, all_map, all_weaker}
 use Rattle.dip_store_tables.specs.Boards.{code}
-use Rattle.dip_map_chart.specs.Charts.{Chart}
+use Rattle.dip_map.specs.Charts.{Chart}
 use Rattle.dip_store_tables.specs.Columns.{IsPrinted}
 use Rattle.dip_store_tables.specs.Legible.{AreOurs, IsDeskLegible, IsItemLegible, IsOrderLegible, IsPaperLegible, IsSeatLegible, IsText}
 use Rattle.dip_store_tables.proofs.MapTexts.{code_text, power_text}

@@ -6,7 +6,7 @@ use Rattle.sqlite.specs.declared.types.Value.TheVariants.{Int, Text as Words, Bl
 use Rattle.sqlite.specs.Order.{Row, column, bytes}
 use Rattle.dip_store_tables.specs.Boards.{code, power_name}
 use Rattle.dip_store_tables.specs.WrittenBoards.{AreOfBoard}
-use Rattle.dip_map_chart.specs.Charts.{Chart}
+use Rattle.dip_map.specs.Charts.{Chart}
 use Rattle.dip_store_tables.specs.Columns.{IsPrinted, IsStatusText}
 use Rattle.dip_store_sql.specs.Rows.{number_in}
 use Rattle.dip_store_looks.specs.Shown.{shown_centre, shown_unit}

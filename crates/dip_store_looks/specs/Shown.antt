@@ -1,7 +1,7 @@
 -- Rows as the queries show them, read back as records; what a query doesn't show is left empty.
 use Rattle.std.specs.Prelude.{ℕ, ◌+◌, ◌==◌, List, [], filter, map}
 use Rattle.sqlite.specs.Order.{Row, column, bytes}
-use Rattle.dip_map_chart.specs.Charts.{Chart}
+use Rattle.dip_map.specs.Charts.{Chart}
 use Rattle.dip_store_tables.specs.Boards.{UnitRow, CentreRow, board_of, power_in}
 use Rattle.dip_desk_state.specs.State.{Desk}
 use Rattle.dip_desk_state.specs.Records.{Public, Own}

@@ -1,6 +1,6 @@
 //! The master's row.
 ghost use Rattle.std.specs.Prelude.{◌≡◌, IfErr, IfOk};
-ghost use Rattle.dip_map_chart.specs.Charts.{Chart};
+ghost use Rattle.dip_map.specs.Charts.{Chart};
 ghost use Rattle.dip_store_looks.specs.Faults.{IsFromOutside};
 ghost use Rattle.dip_store_looks.specs.Readable.{IsDeskReadable};
 ghost use Rattle.dip_store_looks.specs.Shown.{shown_desk};

@@ -2,7 +2,7 @@
 ghost use Rattle.std.specs.Prelude.{◌≡◌, ◌<◌, ◌+◌, ◌-◌, ◌^◌, ◌≤◌, ℕ, IfErr, IfOk, Some, drop, length, option_map, take};
 ghost use Rattle.std.specs.List.{find};
 ghost use Rattle.dip_store_tables.specs.Boards.{power_name};
-ghost use Rattle.dip_map_chart.specs.Charts.{Chart};
+ghost use Rattle.dip_map.specs.Charts.{Chart};
 ghost use Rattle.dip_store_looks.specs.Asked.{SelectsOn, page_in};
 ghost use Rattle.dip_store_looks.specs.Faults.{IsFromOutside};
 ghost use Rattle.dip_store_looks.specs.Readable.{IsItemReadable};

@@ -1,6 +1,6 @@
 -- A cause that is told of a part of a call is told of the whole.
 use Rattle.std.proofs.Common.{inl, inr, ℕ, ◌≤◌, arith}
-use Rattle.sqlite_disk.specs.Disk.{MoreFaults}
+use Rattle.sqlite.specs.Disk.{MoreFaults}
 use Rattle.sqlite.specs.declared.error.Error.{Error}
 use Rattle.sqlite.specs.State.{State}
 use Rattle.dip_store_sql.specs.Causes.{Faulted, IsCaused}

@@ -12,14 +12,13 @@ use Rattle.sqlite.specs.Kind.TheVariants.{Integer}
 use Rattle.sqlite.specs.Cast.{cast, cast_all, cast_row}
 use Rattle.sqlite.specs.Table.{Table}
 use Rattle.sqlite.specs.Schema.{Schema}
-use Rattle.sqlite.specs.Edit.{edit_of, edited}
-use Rattle.sqlite_rules.specs.Edit.{next_rowid, with_rowid}
+use Rattle.sqlite.specs.Edit.{edit_of, edited, next_rowid, with_rowid}
 use Rattle.sqlite_rules.specs.Calls.{ids_of}
 use Rattle.sqlite.specs.Rowids.TheVariants.{Chosen, Given}
 use Rattle.sqlite.specs.Effect.{Database}
 use Rattle.sqlite.proofs.Callers.{one_permutation}
-use Rattle.sqlite_keyed.specs.Lists.{update_where, delete_where}
-use Rattle.sqlite_keyed.proofs.ListLemmas.{map-map, filter-map}
+use Rattle.dip_store_tables.specs.Lists.{update_where, delete_where}
+use Rattle.dip_store_tables.proofs.ListLemmas.{map-map, filter-map}
 use Rattle.dip_store_sql.specs.Recorded.{IsRising, AtMostOne}
 use Rattle.dip_store_sql.specs.Queries.{passes}
 use Rattle.dip_store_sql.specs.Writes.{Edits}

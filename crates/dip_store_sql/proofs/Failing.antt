@@ -8,7 +8,7 @@ use Rattle.sqlite_schema.specs.declared.schema.Keys.TheVariants.{Enforced}
 use Rattle.sqlite_schema.specs.Rules.{Refers}
 use Rattle.sqlite_typing.specs.Types.{accepts_terms}
 use Rattle.sqlite_rules.specs.declared.error.Refusal.{Refusal}
-use Rattle.sqlite_rules.specs.Edit.{Edit, IsRefused, taken_by}
+use Rattle.sqlite.specs.Edit.{Edit, IsRefused, taken_by, edit_of}
 use Rattle.sqlite_rules.specs.Action.{works, Leads, Writes}
 use Rattle.sqlite.specs.declared.error.Error.{Error}
 use Rattle.sqlite.specs.Order.{Row}
@@ -19,7 +19,6 @@ use Rattle.sqlite.specs.Schema.{Schema}
 use Rattle.sqlite.specs.Command.{Command}
 use Rattle.sqlite.specs.Command.TheVariants.{Insert, Update, Delete, Begin, Commit, Rollback, Release, RollbackTo}
 use Rattle.sqlite.specs.Source.TheVariants.{Values}
-use Rattle.sqlite.specs.Edit.{edit_of}
 use Rattle.sqlite.specs.Rowids.TheVariants.{Chosen, Above, Given}
 use Rattle.sqlite.specs.Effect.{Answers, Database, RefusesQuery, edit_error, value_rows}
 use Rattle.sqlite.specs.Does.{Does, Concludes, due, OnRows, OnTable, Tested, WritesRows}

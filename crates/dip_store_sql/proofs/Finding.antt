@@ -6,13 +6,12 @@ use Rattle.std.proofs.lemmas.List.Sorted.{length_permutation}
 use Rattle.sqlite.specs.declared.types.Value.{Value}
 use Rattle.sqlite.specs.declared.types.Value.TheVariants.{Null, Int}
 use Rattle.sqlite.specs.Order.{Row}
-use Rattle.sqlite.specs.Tree.{Trees, rowid, IsTable}
-use Rattle.sqlite_trees.specs.Tree.{IsAscending}
+use Rattle.sqlite.specs.Tree.{Trees, rowid, IsTable, IsAscending}
 use Rattle.sqlite.specs.Term.{Term, col, eval_all}
-use Rattle.sqlite_rules.specs.Edit.{id_in}
+use Rattle.sqlite.specs.Edit.{id_in}
 use Rattle.sqlite.proofs.Callers.{one_permutation}
-use Rattle.sqlite_keyed.proofs.ListLemmas.{map-map, all_weaker, all-filter, filter-map, ascending-map, ascending_weaker, ascending-filter}
-use Rattle.sqlite_keyed.proofs.SortLemmas.{sorted_unique}
+use Rattle.dip_store_tables.proofs.ListLemmas.{map-map, all_weaker, all-filter, filter-map, ascending-map, ascending_weaker, ascending-filter}
+use Rattle.dip_store_tables.proofs.SortLemmas.{sorted_unique}
 use Rattle.sqlite_sql.proofs.QueryLemmas.{output_cmp_total}
 use Rattle.sqlite.specs.Query.{Query, IsAnswerAs, output, Output, output_cmp}
 use Rattle.sqlite.specs.Program.{overlay}

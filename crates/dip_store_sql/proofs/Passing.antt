@@ -4,14 +4,12 @@ use Rattle.std.specs.List.{AllByRecursion, list_all}
 use Rattle.std.specs.Ordering.{is_eq}
 use Rattle.sqlite.specs.declared.types.Value.{Value}
 use Rattle.sqlite.specs.Order.{Row, value_cmp}
-use Rattle.sqlite.specs.Tree.{Trees, rowid}
-use Rattle.sqlite_trees.specs.Tree.{with_tree}
+use Rattle.sqlite.specs.Tree.{Trees, rowid, with_tree}
 use Rattle.sqlite.specs.Cast.{cast_all}
 use Rattle.sqlite.specs.Table.{Table}
 use Rattle.sqlite.specs.Schema.{Schema}
-use Rattle.sqlite.specs.Edit.{edited}
-use Rattle.sqlite_trees.specs.View.{is_int}
-use Rattle.sqlite_rules.specs.Edit.{Edit, IsRefused, left_by, are_fresh, is_taken}
+use Rattle.sqlite.specs.Edit.{edited, Edit, IsRefused, left_by, are_fresh, is_taken}
+use Rattle.sqlite.specs.View.{is_int}
 use Rattle.sqlite_rules.specs.declared.error.Refusal.{Refusal}
 use Rattle.sqlite_rules.specs.declared.error.Refusal.TheVariants.{Violates, Mismatch, NoRowid, BadReference, TooDeep}
 use Rattle.sqlite.specs.Effect.{edit_error}

@@ -4,10 +4,9 @@ use Rattle.std.proofs.lemmas.Bool.Decides.{nat_tests}
 use Rattle.std.proofs.lemmas.Slice.Eq.{bytes_eq-Decides}
 use Rattle.sqlite.specs.declared.types.Value.{Value}
 use Rattle.sqlite.specs.Order.{Row}
-use Rattle.sqlite.specs.Tree.{Trees}
-use Rattle.sqlite_trees.specs.Tree.{with_tree}
+use Rattle.sqlite.specs.Tree.{Trees, with_tree}
 use Rattle.sqlite_value.specs.Keys.{first_key}
-use Rattle.sqlite_keyed.proofs.ListLemmas.{all_weaker}
+use Rattle.dip_store_tables.proofs.ListLemmas.{all_weaker}
 use Rattle.sqlite_schema.specs.declared.schema.Constraint.TheVariants.{Unique}
 use Rattle.sqlite_schema.specs.Rules.{Keeps, passes, references_fit}
 use Rattle.dip_store_sql.specs.Recorded.{IsRising}

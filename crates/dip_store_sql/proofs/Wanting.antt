@@ -8,14 +8,12 @@ use Rattle.std.proofs.lemmas.List.Sorted.{IsPermutation-map}
 use Rattle.sqlite.specs.declared.types.Value.{Value}
 use Rattle.sqlite.specs.declared.types.Value.TheVariants.{Null, Int}
 use Rattle.sqlite.specs.Order.{Row, value_cmp}
-use Rattle.sqlite.specs.Tree.{Trees, rowid, put_row, without_rowid, has_rowid}
-use Rattle.sqlite_trees.specs.Tree.{with_tree}
+use Rattle.sqlite.specs.Tree.{Trees, rowid, put_row, without_rowid, has_rowid, with_tree}
 use Rattle.sqlite.specs.Term.{Term, col, eval_all}
 use Rattle.sqlite.specs.Cast.{cast_all, cast_row}
 use Rattle.sqlite.specs.Table.{Table}
 use Rattle.sqlite.specs.Schema.{Schema}
-use Rattle.sqlite.specs.Edit.{edit_of, edited}
-use Rattle.sqlite_rules.specs.Edit.{IsRefused, next_rowid, with_rowid, put_all}
+use Rattle.sqlite.specs.Edit.{edit_of, edited, IsRefused, next_rowid, with_rowid, put_all}
 use Rattle.sqlite_rules.specs.Calls.{ids_of}
 use Rattle.sqlite_rules.specs.declared.error.Refusal.{Refusal}
 use Rattle.sqlite.specs.Rowids.TheVariants.{Chosen, Given}
@@ -24,8 +22,8 @@ use Rattle.sqlite.proofs.Callers.{one_permutation}
 use Rattle.sqlite_schema.specs.declared.schema.Keys.TheVariants.{Enforced}
 use Rattle.sqlite_schema.specs.declared.schema.Constraint.TheVariants.{Unique}
 use Rattle.sqlite_schema.specs.Rules.{Keeps}
-use Rattle.sqlite_keyed.specs.Lists.{update_where, delete_where}
-use Rattle.sqlite_keyed.proofs.ListLemmas.{all_weaker, map-map, filter-map}
+use Rattle.dip_store_tables.specs.Lists.{update_where, delete_where}
+use Rattle.dip_store_tables.proofs.ListLemmas.{all_weaker, map-map, filter-map}
 use Rattle.dip_store_sql.specs.Recorded.{IsRising, AtMostOne}
 use Rattle.dip_store_sql.specs.Queries.{passes}
 use Rattle.dip_store_sql.proofs.Changes.{cast_int, cast_null, none_in, nothing_in, one_in}

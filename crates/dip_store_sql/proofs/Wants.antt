@@ -6,8 +6,8 @@ use Rattle.sqlite.specs.declared.types.Value.TheVariants.{Int, Text as Words, Bl
 use Rattle.sqlite.specs.declared.error.Error.{Error}
 use Rattle.sqlite.specs.Tree.{Trees}
 use Rattle.sqlite.specs.State.{State, Executes}
-use Rattle.sqlite_keyed.specs.Lists.{update_where, delete_where}
-use Rattle.sqlite_keyed.proofs.ListLemmas.{all_of, ascending-filter}
+use Rattle.dip_store_tables.specs.Lists.{update_where, delete_where}
+use Rattle.dip_store_tables.proofs.ListLemmas.{all_of, ascending-filter}
 use Rattle.sqlite_catalog.specs.Listing.{IsSound}
 use Rattle.sqlite_schema.specs.declared.schema.Among.{Among}
 use Rattle.sqlite_schema.specs.declared.schema.Constraint.TheVariants.{Unique}

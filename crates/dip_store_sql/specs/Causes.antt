@@ -1,6 +1,6 @@
 -- What an error of the database has for its cause.
 use Rattle.std.specs.Prelude.{◌≡◌, ◌⊎◌, IsTrue}
-use Rattle.sqlite_disk.specs.Disk.{MoreFaults}
+use Rattle.sqlite.specs.Disk.{MoreFaults}
 use Rattle.sqlite.specs.declared.error.Error.{Error}
 use Rattle.sqlite.specs.declared.error.Error.TheVariants.{SqliteFailure}
 use Rattle.sqlite.specs.declared.error.ErrorCode.TheVariants as code

@@ -1,6 +1,6 @@
 -- The keys of the eight tables: no two rows of a table agree on its key.
 use Rattle.std.specs.Prelude.{◌≡◌, ◌==◌, ◌&&◌, Bool, false, List, bytes_eq}
-use Rattle.sqlite_trees.specs.Tree.{IsAscending}
+use Rattle.sqlite.specs.Tree.{IsAscending}
 use Rattle.dip_store_tables.specs.Boards.{UnitRow, CentreRow}
 use Rattle.dip_store_tables.specs.Coding.{same_name, same_seat}
 use Rattle.dip_store_tables.specs.Tables.{DeskRow, PendingRow, BoxRow, PaperRow, Tables}

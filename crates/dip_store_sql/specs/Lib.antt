@@ -17,3 +17,6 @@ pub mod Keys
 pub mod Refusals
 pub mod Wants
 pub mod RowViews
+pub use Rattle.sqlite_resolve.specs.declared.compiled.Compiled
+pub use Rattle.sqlite_resolve.specs.declared.error.CompileError
+pub use Rattle.sqlite_trees.specs.declared.error.StoreError

@@ -4,7 +4,7 @@ use Rattle.std.specs.List.{AllByRecursion}
 use Rattle.sqlite.specs.declared.types.Value.TheVariants.{Int}
 use Rattle.sqlite.specs.Order.{Row}
 use Rattle.sqlite.specs.Tree.{rowid, IsTable}
-use Rattle.sqlite_rules.specs.Edit.{id_in}
+use Rattle.sqlite.specs.Edit.{id_in}
 
 -- each row is a rowid and a record as it is put into columns, and the rowids rise
 pub record IsRising {A : Type 0} (put : A → Row) (take : Row → A) (rows : List Row) : Type 0 where

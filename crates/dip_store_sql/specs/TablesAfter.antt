@@ -1,6 +1,6 @@
 -- What the statements make of the tables.
 use Rattle.std.specs.Prelude.{ℕ, ◌==◌, Bool, List, [], ◌∷◌, ◌++◌}
-use Rattle.sqlite_keyed.specs.Lists.{update_where, delete_where}
+use Rattle.dip_store_tables.specs.Lists.{update_where, delete_where}
 use Rattle.dip_store_tables.specs.Boards.{UnitRow, CentreRow}
 use Rattle.dip_store_tables.specs.Tables.{DeskRow, GameRow, SeatRow, PendingRow, BoxRow, PaperRow, Tables, is_seat_in, is_unit_in, is_centre_in, is_pending_in, is_box_in, is_paper_in, is_named, is_seat, is_pending}
 

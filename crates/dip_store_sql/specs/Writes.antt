@@ -2,8 +2,7 @@
 use Rattle.std.specs.Prelude.{◌≡◌}
 use Rattle.sqlite.specs.Schema.{Schema}
 use Rattle.sqlite_schema.specs.declared.schema.Keys.TheVariants.{Enforced}
-use Rattle.sqlite.specs.Edit.{Edit}
-use Rattle.sqlite_rules.specs.Edit.{Applies}
+use Rattle.sqlite.specs.Edit.{Edit, Applies}
 use Rattle.sqlite.specs.Effect.{Database, IsDatabase}
 
 -- an edit of one table, and nothing else

@@ -1,12 +1,11 @@
 -- Rows of a game that are taken out and put in anew.
-use Rattle.std.proofs.Common.{◌≡◌, ℕ, suc, Bool, true, false, List, [], ◌∷◌, ◌++◌, map, filter, Option, Some, None, bytes_eq, refl, sym, ap, ap₂, subst, ◌∙◌, append-nil}
+use Rattle.std.proofs.Common.{◌≡◌, ℕ, suc, Bool, true, false, List, [], ◌∷◌, ◌++◌, map, filter, Option, Some, None, bytes_eq, refl, sym, ap, ap₂, subst, ◌∙◌, append-nil, map-id}
 use Rattle.std.specs.List.{AllByRecursion}
 use Rattle.std.proofs.lemmas.List.Elements.{filter-append}
 use Rattle.sqlite_keyed.specs.Lists.{delete_where}
 use Rattle.sqlite_keyed.proofs.ListLemmas.{all-append, all-map, all_weaker, filter_all, filter_none}
 use Rattle.sqlite_keyed.proofs.SliceLemmas.{slice-delete_other}
-use Rattle.std.proofs.Common.{map-id}
-use Rattle.dip_map_chart.specs.Charts.{Chart, IsMap}
+use Rattle.dip_map.specs.Charts.{Chart, IsMap}
 use Rattle.dip_map.specs.Boards.{Position, IsOf}
 use Rattle.dip_store_tables.specs.Boards.{UnitRow, CentreRow, unit_rows, centre_rows, centre_rows_from, standing_row, dislodged_row, standoff_text, season_number, board_of}
 use Rattle.dip_store_tables.proofs.Returns.{board_back}

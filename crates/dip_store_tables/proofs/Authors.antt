@@ -4,7 +4,7 @@ use Rattle.std.specs.List.{AllByRecursion}
 use Rattle.std.proofs.lemmas.Bool.{cases_Bool}
 use Rattle.sqlite_trees.specs.Tree.{IsAscending}
 use Rattle.sqlite_keyed.proofs.ListLemmas.{all-filter, all_of, all_map, ascending-filter, ascending-map}
-use Rattle.dip_map_chart.specs.Charts.{Chart, IsMap}
+use Rattle.dip_map.specs.Charts.{Chart, IsMap}
 use Rattle.dip_store_tables.specs.Boards.{power_name, power_in as power_numbered}
 use Rattle.dip_desk_state.specs.Keyed.{change_at}
 use Rattle.dip_desk_state.specs.State.{Game, Part, Author, Nobody, TheMaster, Seat, Effect, Nothing, Pending, Votes, Delivers, Opens, Publishes, Seats, name_of, power_in, with_letter, with_author}
@@ -12,11 +12,10 @@ use Rattle.dip_desk_state.proofs.KeyedLemmas.{powers_tell}
 use Rattle.dip_desk_state.specs.Records.{Kept}
 use Rattle.dip_store_tables.specs.Tables.{GameRow, SeatRow, Tables, is_seat, is_seat_in}
 use Rattle.dip_store_tables.specs.Reading.{public_of, papers_of, part_of, game_of}
-use Rattle.dip_desk_state.specs.Writable.{Lacks}
+use Rattle.dip_desk_state.specs.Writable.{Lacks, IsAuthorOf}
 use Rattle.dip_store_tables.specs.Writing.{as_printed, seat_noted}
 use Rattle.dip_store_tables.specs.Changing.{noting, ordering}
 use Rattle.dip_store_tables.specs.Coding.{AreApart, IsSeatOf, IsEffectOf, same_seat}
-use Rattle.dip_desk_state.specs.Writable.{IsAuthorOf}
 use Rattle.dip_store_tables.proofs.Lists.{each_changed, change_at_on, change_at_same, all_passed}
 use Rattle.dip_store_tables.proofs.Games.{with_parts, games_changed}
 use Rattle.dip_store_tables.proofs.Letters.{my_part, other_part}

@@ -2,7 +2,7 @@
 use Rattle.std.proofs.Common.{◌≡◌, ℕ, ◌<◌, true, List, [], ◌∷◌, ◌++◌, map, filter, length, Option, Some, None, All, refl, ap, ap₂, subst}
 use Rattle.std.proofs.lemmas.Bool.{and_parts}
 use Rattle.dip_names.specs.declared.names.Unit.{Unit as AUnit}
-use Rattle.dip_map_chart.specs.Charts.{Chart, IsMap, prov_of, is_unit, is_code}
+use Rattle.dip_map.specs.Charts.{Chart, IsMap, prov_of, is_unit, is_code}
 use Rattle.dip_map.specs.Boards.{is_prov_if_any, is_dislodged}
 use Rattle.dip_map.specs.declared.boards.Dislodged.{Dislodged}
 use Rattle.dip_store_tables.specs.Boards.{UnitRow, code, origin_text, standing_row, dislodged_row, unit_of, origin_of, dislodged_of, stands, fell}

@@ -1,27 +1,22 @@
 -- Behind a change the rows are still such as a keeper wrote.
 use Rattle.dip_desk_state.proofs.KeyedLemmas.{names_tell}
 use Rattle.std.proofs.Common.{◌||◌, inl, inr, Bool, ap₂, ◌≡◌, ℕ, ◌<◌, true, false, cond, not, List, [], ◌∷◌, ◌++◌, map, length, bytes_eq, refl, sym, ap, subst, ◌∙◌}
-use Rattle.std.specs.List.{AllByRecursion}
+use Rattle.std.specs.List.{AllByRecursion, list_any}
 use Rattle.sqlite_keyed.specs.Lists.{delete_where}
-use Rattle.sqlite_keyed.proofs.ListLemmas.{all-append, all-filter, all_map, all_weaker}
-use Rattle.dip_map_chart.specs.Charts.{Chart}
+use Rattle.sqlite_keyed.proofs.ListLemmas.{all-append, all-filter, all_map, all_weaker, all-map}
+use Rattle.dip_map.specs.Charts.{Chart}
 use Rattle.dip_store_tables.specs.Boards.{power_name}
 use Rattle.dip_desk_state.specs.State.{Author, Nobody, TheMaster, Seat, NewSeat, Effect, Nothing, Pending, Votes, Delivers, Opens, Publishes, Seats}
 use Rattle.dip_desk_state.specs.Records.{Kept}
-use Rattle.dip_store_tables.specs.Tables.{SeatRow, Tables, is_seat, is_seat_in}
-use Rattle.dip_store_tables.specs.Writing.{seat_row}
+use Rattle.dip_store_tables.specs.Tables.{SeatRow, Tables, is_seat, is_seat_in, GameRow, is_named}
+use Rattle.dip_store_tables.specs.Writing.{seat_row, game_row}
 use Rattle.dip_store_tables.specs.Changing.{noting, reaching, is_reader, one_more}
-use Rattle.dip_store_tables.specs.Coding.{IsEffectOf, IsSeatOf}
+use Rattle.dip_store_tables.specs.Coding.{IsEffectOf, IsSeatOf, HasGame}
 use Rattle.dip_store_tables.specs.Laws.{TablesStayCoded}
 use Rattle.dip_store_tables.proofs.Authors.{authored, ordering_alone}
 use Rattle.dip_store_tables.proofs.Seats.{coded_map, either_way}
-use Rattle.std.specs.List.{list_any}
 use Rattle.std.proofs.lemmas.Bool.{cases_Bool}
 use Rattle.std.proofs.lemmas.List.Folds.{list_any-append}
-use Rattle.sqlite_keyed.proofs.ListLemmas.{all-map}
-use Rattle.dip_store_tables.specs.Tables.{GameRow, is_named}
-use Rattle.dip_store_tables.specs.Coding.{HasGame}
-use Rattle.dip_store_tables.specs.Writing.{game_row}
 use Rattle.dip_store_tables.proofs.Changes.{HasDesk, desk_noted_stays, mid_coded, mid_desk, noted, noted_game, noted_games, reached_desk}
 
 new_seats : (m : Chart) (name : List ℕ) (ss : List NewSeat) → AllByRecursion (λ s. s.power < length m.realms) ss → AllByRecursion (IsSeatOf m) (map (seat_row m name) ss)

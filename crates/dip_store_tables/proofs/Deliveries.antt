@@ -2,7 +2,7 @@
 use Rattle.std.proofs.Common.{◌≡◌, ℕ, ◌+◌, Bool, cond, ◌&&◌, List, [], ◌∷◌, ◌++◌, map, filter, bytes_eq, refl, sym, ap, ap₂, subst, ◌∙◌, inl, inr, append-nil, append_assoc, map-id}
 use Rattle.std.proofs.lemmas.Bool.{cases_Bool}
 use Rattle.sqlite_keyed.proofs.ListLemmas.{all_weaker, filter_same, map-map}
-use Rattle.dip_map_chart.specs.Charts.{Chart}
+use Rattle.dip_map.specs.Charts.{Chart}
 use Rattle.dip_desk_state.specs.Records.{Item}
 use Rattle.dip_store_tables.specs.Tables.{SeatRow, Tables, is_seat}
 use Rattle.dip_store_tables.specs.Writing.{next_row}

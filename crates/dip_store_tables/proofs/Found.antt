@@ -4,7 +4,7 @@ use Rattle.std.specs.List.{AllByRecursion}
 use Rattle.std.proofs.lemmas.Bool.{cases_Bool, and_parts}
 use Rattle.sqlite_keyed.proofs.ListLemmas.{all_weaker}
 use Rattle.sqlite_keyed.proofs.SliceLemmas.{find-slice, any_is_found}
-use Rattle.dip_map_chart.specs.Charts.{Chart, IsMap}
+use Rattle.dip_map.specs.Charts.{Chart, IsMap}
 use Rattle.dip_store_tables.specs.Boards.{power_name, power_in as power_numbered}
 use Rattle.dip_desk_state.specs.Keyed.{at}
 use Rattle.dip_desk_state.specs.State.{Game, Part, name_of, power_in, game_at, seat_at, part_at}

@@ -4,7 +4,7 @@ use Rattle.std.specs.List.{AllByRecursion}
 use Rattle.std.proofs.lemmas.Bool.{cases_Bool}
 use Rattle.sqlite_trees.specs.Tree.{IsAscending}
 use Rattle.sqlite_keyed.proofs.ListLemmas.{map-map, map_same, all_both, all-filter, all_weaker, ascending-map}
-use Rattle.dip_map_chart.specs.Charts.{Chart}
+use Rattle.dip_map.specs.Charts.{Chart}
 use Rattle.dip_desk_state.specs.Keyed.{change_at}
 use Rattle.dip_desk_state.specs.State.{Game, Part, name_of}
 use Rattle.dip_desk_state.proofs.KeyedLemmas.{names_tell}

@@ -5,7 +5,7 @@ use Rattle.std.proofs.lemmas.List.Elements.{filter-append}
 use Rattle.sqlite_keyed.specs.Lists.{delete_where}
 use Rattle.sqlite_keyed.proofs.ListLemmas.{all_of, all_map, filter_all, filter_none}
 use Rattle.sqlite_keyed.proofs.SliceLemmas.{slice-delete_other}
-use Rattle.dip_map_chart.specs.Charts.{Chart, IsMap}
+use Rattle.dip_map.specs.Charts.{Chart, IsMap}
 use Rattle.dip_store_tables.specs.Boards.{code, power_name, power_in as power_numbered, prov_in, or_zero}
 use Rattle.dip_desk_state.specs.State.{Part, Seat, Effect, Nothing, Pending, Votes, Delivers, Opens, Publishes, Seats, with_letter}
 use Rattle.dip_desk_state.specs.Records.{Kept, Standing}

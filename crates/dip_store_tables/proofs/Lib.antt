@@ -31,3 +31,7 @@ pub mod Spelled
 pub mod MapTexts
 mod Told
 mod Stays
+pub use Rattle.sqlite_keyed.proofs.KeyedLemmas
+pub use Rattle.sqlite_keyed.proofs.ListLemmas
+pub use Rattle.sqlite_keyed.proofs.SliceLemmas
+pub use Rattle.sqlite_keyed.proofs.SortLemmas

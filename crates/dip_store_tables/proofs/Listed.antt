@@ -4,7 +4,7 @@ use Rattle.std.specs.List.{AllByRecursion}
 use Rattle.std.proofs.lemmas.List.{same_lists, length-map, get_or-map}
 use Rattle.std.proofs.lemmas.List.FromFn.{length-range_with_len, get_or-map-range_with_len}
 use Rattle.std.proofs.lemmas.Bool.{and_parts}
-use Rattle.dip_map_chart.specs.Charts.{Chart, Province, IsMap, no_province, province, provs, prov_of}
+use Rattle.dip_map.specs.Charts.{Chart, Province, IsMap, no_province, province, provs, prov_of}
 use Rattle.dip_store_tables.specs.Boards.{CentreRow, code, owner_at, owner_in, or_zero, prov_in, standoff_text, standoff_of}
 use Rattle.dip_store_tables.specs.WrittenBoards.{IsStandoffText}
 use Rattle.dip_store_tables.proofs.Standoffs.{three}

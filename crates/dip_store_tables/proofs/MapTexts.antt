@@ -5,7 +5,7 @@ use Rattle.std.proofs.lemmas.Bool.{and_parts}
 use Rattle.std.proofs.lemmas.Bool.Decides.{nat_tests}
 use Rattle.dip_map.specs.Boards.{is_prov_if_any}
 use Rattle.dip_store_tables.specs.Boards.{code, origin_text, power_name, standoff_text}
-use Rattle.dip_map_chart.specs.Charts.{Chart, IsMap, is_code, is_power_name}
+use Rattle.dip_map.specs.Charts.{Chart, IsMap, is_code, is_power_name}
 use Rattle.dip_desk_state.specs.Writable.{IsStatusOf}
 use Rattle.dip_desk_state.specs.Records.{Status, Running, Paused, Closed, Ended, Won, Drawn}
 use Rattle.dip_reports.specs.Texts.{status_text}

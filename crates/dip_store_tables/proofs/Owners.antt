@@ -3,7 +3,7 @@ use Rattle.std.proofs.Common.{◌≡◌, inl, inr, ℕ, zero, suc, ◌+◌, ◌<
 use Rattle.std.proofs.lemmas.Bool.{cases_Bool}
 use Rattle.std.proofs.lemmas.List.{same_lists, length-map, get_or-map}
 use Rattle.std.proofs.lemmas.Slice.Eq.{bytes_eq-Decides}
-use Rattle.dip_map_chart.specs.Charts.{Chart, Province, IsMap, no_province, prov_of, power_of}
+use Rattle.dip_map.specs.Charts.{Chart, Province, IsMap, no_province, prov_of, power_of}
 use Rattle.dip_map.specs.Boards.{Position, IsOf, is_power_if_any}
 use Rattle.dip_store_tables.specs.Boards.{code, power_name, centre_rows_from, centre_rows, owner_in}
 use Rattle.dip_store_tables.proofs.Parts.{all_parts, below}

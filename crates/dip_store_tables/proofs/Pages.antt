@@ -3,7 +3,7 @@ use Rattle.std.proofs.Common.{◌≡◌, ℕ, zero, suc, ◌+◌, ◌-◌, ◌�
 use Rattle.std.proofs.lemmas.Bool.Decides.{nat_tests}
 use Rattle.std.specs.List.{AllByRecursion}
 use Rattle.sqlite_keyed.proofs.ListLemmas.{all_of, all_weaker, filter_none}
-use Rattle.dip_map_chart.specs.Charts.{Chart}
+use Rattle.dip_map.specs.Charts.{Chart}
 use Rattle.dip_desk_state.specs.State.{paper_numbered}
 use Rattle.dip_store_tables.specs.Counting.{counted}
 use Rattle.dip_store_tables.specs.Looking.{is_within, PageIsFound, PaperIsFound}

@@ -6,7 +6,7 @@ use Rattle.dip_names.specs.declared.names.Kind.{Kind}
 use Rattle.dip_names.specs.declared.names.Kind.TheVariants.{Army, Fleet}
 use Rattle.dip_names.specs.declared.names.Place.{Place}
 use Rattle.dip_names.specs.declared.names.Unit.{Unit as AUnit}
-use Rattle.dip_map_chart.specs.Charts.{Chart, IsMap, shore, coast_of, is_unit, may_stand}
+use Rattle.dip_map.specs.Charts.{Chart, IsMap, shore, coast_of, is_unit, may_stand}
 use Rattle.dip_map.specs.declared.boards.Season.{Season}
 use Rattle.dip_map.specs.declared.boards.Season.TheVariants.{SpringMoves, SpringRetreats, FallMoves, FallRetreats, Winter}
 use Rattle.dip_store_tables.specs.Boards.{code, power_name, kind_number, season_number, coast_text, unit_row, or_zero, prov_in, power_in, kind_of, season_of, place_of, unit_of}

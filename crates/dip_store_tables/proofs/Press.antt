@@ -5,7 +5,7 @@ use Rattle.std.proofs.lemmas.Bool.{cases_Bool}
 use Rattle.std.proofs.lemmas.List.Elements.{filter-append}
 use Rattle.std.proofs.lemmas.List.{map-append}
 use Rattle.sqlite_keyed.proofs.ListLemmas.{filter-map, filter_same}
-use Rattle.dip_map_chart.specs.Charts.{Chart}
+use Rattle.dip_map.specs.Charts.{Chart}
 use Rattle.dip_store_tables.specs.Boards.{power_in as power_numbered}
 use Rattle.dip_desk_state.specs.Keyed.{change_at}
 use Rattle.dip_desk_state.specs.State.{Delivers, name_of, with_effect, with_item}

@@ -3,15 +3,14 @@ use Rattle.std.proofs.Common.{◌≡◌, ℕ, ◌<◌, ◌==◌, true, false, Li
 use Rattle.std.specs.List.{AllByRecursion, flat_map, list_all}
 use Rattle.std.proofs.lemmas.Bool.{cases_Bool, and_parts, eqb-true}
 use Rattle.std.specs.Char.{is_ascii_lowercase}
-use Rattle.dip_map_chart.specs.Charts.{Chart, IsMap, is_power_name}
+use Rattle.dip_map.specs.Charts.{Chart, IsMap, is_power_name}
 use Rattle.dip_store_tables.specs.Boards.{power_name, power_in, or_zero}
 use Rattle.dip_desk_state.specs.Records.{Item, White, Grey, Status, Running, Paused, Closed, Ended, Won, Drawn}
 use Rattle.dip_reports.specs.Texts.{status_text}
 use Rattle.dip_store_tables.specs.Texts.{joined}
-use Rattle.dip_desk_state.specs.Writable.{Lacks, IsWord}
+use Rattle.dip_desk_state.specs.Writable.{Lacks, IsWord, IsStatusOf, IsPlainItem}
 use Rattle.dip_store_tables.specs.Reading.{status_of, status_from, item_of}
 use Rattle.dip_store_tables.specs.Writing.{box_row}
-use Rattle.dip_desk_state.specs.Writable.{IsStatusOf, IsPlainItem}
 use Rattle.dip_store_tables.proofs.Pieces.{ended_back, joined_back, lacks_of}
 
 pub item_back : (name power : List ℕ) (number : ℕ) (item : Item) → IsPlainItem item → item_of (box_row name power number item) ≡ item

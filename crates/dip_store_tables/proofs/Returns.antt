@@ -1,6 +1,6 @@
 -- A board is read back.
 use Rattle.std.proofs.Common.{◌≡◌, ℕ, List, ◌++◌, map, filter, ap, ◌∙◌, append-nil}
-use Rattle.dip_map_chart.specs.Charts.{Chart, IsMap}
+use Rattle.dip_map.specs.Charts.{Chart, IsMap}
 use Rattle.dip_map.specs.Boards.{Position, IsOf}
 use Rattle.dip_store_tables.specs.Boards.{season_number, standing_row, dislodged_row, unit_rows, centre_rows, standoff_text, unit_of, dislodged_of, stands, fell, board_of}
 use Rattle.dip_store_tables.proofs.Parts.{season_back}

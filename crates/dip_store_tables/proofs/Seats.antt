@@ -4,7 +4,7 @@ use Rattle.std.specs.List.{AllByRecursion}
 use Rattle.std.proofs.lemmas.Bool.{cases_Bool, and_parts, eqb-true, eq-eqb}
 use Rattle.sqlite_trees.specs.Tree.{IsAscending}
 use Rattle.sqlite_keyed.proofs.ListLemmas.{all_both, all_map, all_weaker, ascending-map, ascending_weaker}
-use Rattle.dip_map_chart.specs.Charts.{Chart, IsMap}
+use Rattle.dip_map.specs.Charts.{Chart, IsMap}
 use Rattle.dip_store_tables.specs.Boards.{power_name, power_in}
 use Rattle.dip_desk_state.proofs.KeyedLemmas.{names_tell}
 use Rattle.dip_store_tables.specs.Tables.{SeatRow, is_seat, is_seat_in}

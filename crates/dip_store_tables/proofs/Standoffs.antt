@@ -1,7 +1,7 @@
 -- The provinces that a standoff left are read back.
 use Rattle.std.proofs.Common.{◌≡◌, ℕ, ◌<◌, true, List, [], ◌∷◌, ◌++◌, length, All, refl, sym, ap, ◌∙◌, arith}
 use Rattle.std.proofs.lemmas.Bool.{and_parts, eqb-true}
-use Rattle.dip_map_chart.specs.Charts.{Chart, IsMap, is_code}
+use Rattle.dip_map.specs.Charts.{Chart, IsMap, is_code}
 use Rattle.dip_store_tables.specs.Boards.{code, standoff_text, prov_in, standoff_of}
 use Rattle.dip_store_tables.proofs.Parts.{all_parts, code_back}
 

@@ -5,7 +5,7 @@ use Rattle.dip_names.specs.declared.names.Kind.{Kind}
 use Rattle.dip_names.specs.declared.names.Kind.TheVariants.{Army, Fleet}
 use Rattle.dip_names.specs.declared.names.Place.{Place}
 use Rattle.dip_names.specs.declared.names.Unit.{Unit as AUnit}
-use Rattle.dip_map_chart.specs.Charts.{Chart, province, realm, shore, prov_of, power_of, coast_of}
+use Rattle.dip_map.specs.Charts.{Chart, province, realm, shore, prov_of, power_of, coast_of}
 use Rattle.dip_map.specs.Boards.{Position, IsOf}
 use Rattle.dip_map.specs.declared.boards.Dislodged.{Dislodged}
 use Rattle.dip_map.specs.declared.boards.Season.{Season}

@@ -1,7 +1,7 @@
 -- Columns that were written of records of a map.
 use Rattle.std.specs.Prelude.{◌≡◌, ◌<◌, ℕ, List, ◌++◌, ◌∷◌, [], codes, length, map}
 use Rattle.std.specs.List.{AllByRecursion}
-use Rattle.dip_map_chart.specs.Charts.{Chart}
+use Rattle.dip_map.specs.Charts.{Chart}
 use Rattle.dip_store_tables.specs.Boards.{power_name}
 use Rattle.dip_desk_state.specs.Writable.{Lacks, IsStatusOf}
 use Rattle.dip_desk_state.specs.Records.{Status, Running, Paused, Closed, Ended, Won, Drawn}

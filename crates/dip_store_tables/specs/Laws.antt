@@ -1,6 +1,6 @@
 -- What the statements of a change are to come to.
 use Rattle.std.specs.Prelude.{◌≡◌, ℕ, List, [], None, filter, length}
-use Rattle.dip_map_chart.specs.Charts.{Chart}
+use Rattle.dip_map.specs.Charts.{Chart}
 use Rattle.dip_desk_state.specs.State.{Change, state_after}
 use Rattle.dip_store_tables.specs.Changing.{changing, delivering, delivering_each, is_reader}
 use Rattle.dip_store_tables.specs.Coding.{AreApart, AreCoded, IsChangeOf}

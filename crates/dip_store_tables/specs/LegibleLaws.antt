@@ -1,6 +1,6 @@
 -- Tables that are legible stay so.
 use Rattle.std.specs.Prelude.{ℕ, List}
-use Rattle.dip_map_chart.specs.Charts.{Chart, IsMap}
+use Rattle.dip_map.specs.Charts.{Chart, IsMap}
 use Rattle.dip_desk_state.specs.State.{Change}
 use Rattle.dip_desk_state.specs.Writable.{IsAuthorOf}
 use Rattle.dip_store_tables.specs.Changing.{changing}

@@ -16,3 +16,5 @@ pub mod LegibleLaws
 pub mod Legible
 pub mod Room
 pub mod ChangeTexts
+pub use Rattle.sqlite_keyed.specs.Lists
+pub use Rattle.sqlite_keyed.specs.Keyed

@@ -1,7 +1,7 @@
 -- What is asked of the desk, found in the tables.
 use Rattle.std.specs.Prelude.{◌≡◌, ◌<◌, ◌≤◌, ◌+◌, ◌==◌, ◌&&◌, nat_le, nat_lt, ℕ, Bool, List, length, map, filter, option_map}
 use Rattle.std.specs.List.{find}
-use Rattle.dip_map_chart.specs.Charts.{Chart}
+use Rattle.dip_map.specs.Charts.{Chart}
 use Rattle.dip_store_tables.specs.Boards.{power_name}
 use Rattle.dip_desk_state.specs.State.{own_at, page_of, paper_numbered, public_at}
 use Rattle.dip_store_tables.specs.Coding.{AreCoded}

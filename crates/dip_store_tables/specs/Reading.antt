@@ -1,6 +1,6 @@
 -- What the tables say of the desk, by a map.
 use Rattle.std.specs.Prelude.{ℕ, ◌-◌, ◌==◌, length, take, drop, List, [], ◌∷◌, map, filter, Option, None, Some, bytes_eq, codes, if◌then◌else◌}
-use Rattle.dip_map_chart.specs.Charts.{Chart}
+use Rattle.dip_map.specs.Charts.{Chart}
 use Rattle.dip_store_tables.specs.Boards.{UnitRow, CentreRow, board_of, power_in, prov_in}
 use Rattle.dip_desk_state.specs.Records.{Public, Own, Item, White, Grey, Kept, Standing, Status, Running, Paused, Closed, Ended, Won, Drawn}
 use Rattle.dip_desk_state.specs.State.{State, Game, Part, Desk}

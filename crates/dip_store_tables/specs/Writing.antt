@@ -1,6 +1,6 @@
 -- The rows in which records are written, by a map.
 use Rattle.std.specs.Prelude.{ℕ, ◌+◌, Bool, List, [], ◌∷◌, codes, Some, if◌then◌else◌}
-use Rattle.dip_map_chart.specs.Charts.{Chart}
+use Rattle.dip_map.specs.Charts.{Chart}
 use Rattle.dip_store_tables.specs.Boards.{code, power_name, season_number, standoff_text}
 use Rattle.dip_desk_state.specs.declared.records.Outcome.TheVariants.{Done}
 use Rattle.dip_desk_state.specs.Records.{Public, Item, White, Grey, Kept, Standing}

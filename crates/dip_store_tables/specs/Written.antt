@@ -1,7 +1,7 @@
 -- What stands in tables that a keeper wrote: each row is that of a record of the map, so that it can be read back.
 use Rattle.std.specs.Prelude.{◌≡◌, ◌<◌, ◌^◌, ◌==◌, ℕ, Bool, false, List, [], length, filter, codes, Option, None, Some}
 use Rattle.std.specs.List.{AllByRecursion}
-use Rattle.dip_map_chart.specs.Charts.{Chart}
+use Rattle.dip_map.specs.Charts.{Chart}
 use Rattle.dip_map.specs.Boards.{IsOf}
 use Rattle.dip_store_tables.specs.Boards.{UnitRow, CentreRow, code, unit_rows, centre_rows}
 use Rattle.dip_desk_state.specs.Records.{Public, Item, Kept}

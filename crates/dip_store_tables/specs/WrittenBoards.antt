@@ -2,7 +2,7 @@
 use Rattle.std.specs.Prelude.{◌≡◌, ◌<◌, ◌≤◌, ℕ, true, List, length, Option}
 use Rattle.std.specs.List.{AllByRecursion}
 use Rattle.dip_names.specs.declared.names.Unit.{Unit as AUnit}
-use Rattle.dip_map_chart.specs.Charts.{Chart, is_unit}
+use Rattle.dip_map.specs.Charts.{Chart, is_unit}
 use Rattle.dip_map.specs.Boards.{is_prov_if_any}
 use Rattle.dip_store_tables.specs.Boards.{UnitRow, CentreRow, origin_text, power_name, unit_row, standoff_text}
 

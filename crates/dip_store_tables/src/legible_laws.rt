@@ -1,5 +1,5 @@
 //! Laws of legible tables, each the contract of a function that does nothing.
-ghost use Rattle.dip_map_chart.specs.Charts.{Chart};
+ghost use Rattle.dip_map.specs.Charts.{Chart};
 ghost use Rattle.dip_store_tables.specs.LegibleLaws.{NewTablesAreLegible, TablesStayLegible};
 
 /// Behind the statements of a change legible tables are still legible, where its texts are of characters and its counts have room.

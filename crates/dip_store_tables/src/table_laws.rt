@@ -1,5 +1,5 @@
 //! Laws of the tables, each the contract of a function that does nothing.
-ghost use Rattle.dip_map_chart.specs.Charts.{Chart, IsMap};
+ghost use Rattle.dip_map.specs.Charts.{Chart, IsMap};
 ghost use Rattle.dip_store_tables.specs.Looking.{OwnIsFound, PageIsFound, PaperIsFound, PublicIsFound};
 ghost use Rattle.dip_store_tables.specs.Laws.{IsDeliveredOneByOne, NewTablesAreNew, StateIsChanged, TablesStayCoded, TablesStayCounted, TablesStayWritten};
 

@@ -1,7 +1,7 @@
 //! Units read from their rows.
 ghost use Rattle.std.specs.Prelude.{◌≡◌, ◌<◌, filter, map as each, IfNone, IfOk, IfSome, None};
 ghost use Rattle.std.specs.List.{AllByRecursion};
-ghost use Rattle.dip_map_chart.specs.Charts.{coast_of};
+ghost use Rattle.dip_map.specs.Charts.{coast_of};
 ghost use Rattle.dip_names.specs.declared.names.Kind.TheVariants.{Fleet};
 ghost use Rattle.dip_store_tables.specs.Boards.{kind_of, origin_of, place_of, unit_of, dislodged_of, stands, fell};
 ghost use Rattle.dip_store_tables.specs.WrittenBoards.{IsUnitRow, IsOriginText};

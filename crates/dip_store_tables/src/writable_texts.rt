@@ -3,8 +3,7 @@ ghost use Rattle.std.specs.Prelude.{◌↔◌, IsTrue, string_bytes};
 ghost use Rattle.std.specs.List.{AllByRecursion};
 ghost use Rattle.dip_desk_state.specs.ChangeRows as desk_rows;
 ghost use Rattle.dip_desk_state.specs.Rows as rows;
-ghost use Rattle.dip_desk_state.specs.Writable.{IsPlainItem};
-ghost use Rattle.dip_desk_state.specs.Writable.{IsWord, Lacks};
+ghost use Rattle.dip_desk_state.specs.Writable.{IsPlainItem, IsWord, Lacks};
 
 use dip_desk_state::Item;
 

@@ -7,7 +7,7 @@ use Rattle.std.proofs.lemmas.List.Sums.{sum_by-append}
 use Rattle.std.proofs.lemmas.Map.Made.{is_member-Decides, length-le_from_is_member}
 use Rattle.std.specs.Cmp.{nat_eq_equiv, unsigned_Decides}
 use Rattle.std.specs.List.{list_any, range_with_len}
-use Rattle.dip_map_chart.specs.Charts.{are_units_single}
+use Rattle.dip_map.specs.Charts.{are_units_single}
 use Rattle.dip_names.specs.declared.names.Unit.{Unit as AUnit}
 use Rattle.dip_orders.proofs.AllowanceLaws.{distinct_from, provs_of, provs_single}
 use Rattle.dip_orders.proofs.KeptLaws.{count_cons}

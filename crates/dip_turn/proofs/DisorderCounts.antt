@@ -1,7 +1,7 @@
 -- How many a removal in disorder takes: as many as are owed, if there are so many.
 use Rattle.std.proofs.Common.{◌≡◌, ◌≢◌, inl, inr, ℕ, ◌+◌, ◌-◌, ◌==◌, Bool, true, false, not, cond, zero, suc, List, [], ◌∷◌, length, filter, Contains, refl, sym, ap, ◌∙◌, subst, arith}
 use Rattle.std.proofs.lemmas.Bool.{cases_Bool, eqb-true, eq-eqb}
-use Rattle.dip_map_chart.specs.Charts.{Chart, are_units_single}
+use Rattle.dip_map.specs.Charts.{Chart, are_units_single}
 use Rattle.dip_names.specs.declared.names.Unit.{Unit as AUnit}
 use Rattle.dip_orders.proofs.StandingLaws.{element_cases}
 use Rattle.dip_turn.specs.Adjusting.{is_among}

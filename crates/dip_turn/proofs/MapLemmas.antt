@@ -6,7 +6,7 @@ use Rattle.std.specs.Prelude.{All, option_map}
 use Rattle.std.specs.List.{filter_map, list_any}
 use Rattle.std.specs.Option.{unwrap_or}
 use Rattle.dip_names.specs.declared.names.Unit.{Unit as AUnit}
-use Rattle.dip_map_chart.specs.Charts.{Chart, IsMap, are_units_single, home, is_centre, is_home, is_unit, may_stand}
+use Rattle.dip_map.specs.Charts.{Chart, IsMap, are_units_single, home, is_centre, is_home, is_unit, may_stand}
 use Rattle.dip_map.specs.declared.boards.Dislodged.{Dislodged}
 use Rattle.dip_map.specs.declared.boards.Season.{Season}
 use Rattle.dip_map.specs.declared.boards.Season.TheVariants.{SpringMoves, SpringRetreats, FallMoves, FallRetreats, Winter}
@@ -22,12 +22,12 @@ use Rattle.dip_orders.specs.declared.placed.PlacedOrder.{PlacedOrder}
 use Rattle.dip_orders.proofs.FindLaws.{find_passes}
 use Rattle.dip_orders.proofs.SpotLaws.{place_low, stands_at}
 use Rattle.dip_orders.proofs.StandingLaws.{same_unit}
-use Rattle.dip_decide_table.specs.Deciding.{Assignment, Step, is_broken}
-use Rattle.dip_decide_table.specs.Laws.{AreOrders}
-use Rattle.dip_decide_table.specs.Matching.{is_convoyed, situation}
-use Rattle.dip_decide_table.specs.Results.{AreExplained, values_in}
+use Rattle.dip_decide.specs.Deciding.{Assignment, Step, is_broken}
+use Rattle.dip_decide.specs.Laws.{AreOrders}
+use Rattle.dip_decide.specs.Matching.{is_convoyed, situation}
+use Rattle.dip_decide.specs.Results.{AreExplained, values_in}
 use Rattle.dip_decide.specs.Statements.{ExplainedSatisfies}
-use Rattle.dip_decide_table.specs.Steps.{steps_of}
+use Rattle.dip_decide.specs.Steps.{steps_of}
 use Rattle.dip_turn.specs.Adjusting.{after_adjustment, disorder, is_among, is_given, units_built, units_kept, units_staying}
 use Rattle.dip_turn.specs.Centres.{holder, owner_by, owners_after, winner, with_owners}
 use Rattle.dip_turn.specs.Laws.{BoardsStayOfTheirMap, RetreatsAreOpen}

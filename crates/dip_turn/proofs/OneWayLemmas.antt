@@ -1,16 +1,16 @@
 -- A phase comes to one result.
 use Rattle.std.proofs.Common.{◌≡◌, List, sym, ap, ◌∙◌, subst}
-use Rattle.dip_map_chart.specs.Charts.{Chart}
+use Rattle.dip_map.specs.Charts.{Chart}
 use Rattle.dip_map.specs.declared.boards.Season.{Season}
 use Rattle.dip_map.specs.declared.boards.Season.TheVariants.{SpringMoves, SpringRetreats, FallMoves, FallRetreats, Winter}
 use Rattle.dip_map.specs.Boards.{Position}
 use Rattle.dip_orders.specs.declared.placed.PlacedOrder.{PlacedOrder}
-use Rattle.dip_decide_table.specs.declared.decisions.Decision.{Decision}
-use Rattle.dip_decide_table.specs.Deciding.{Assignment, Step}
-use Rattle.dip_decide_table.specs.Matching.{situation}
-use Rattle.dip_decide_table.specs.Movement.{Situation}
-use Rattle.dip_decide_table.specs.Results.{AreExplained, values_in}
-use Rattle.dip_decide_table.specs.Steps.{steps_of}
+use Rattle.dip_decide.specs.Decision.{Decision}
+use Rattle.dip_decide.specs.Deciding.{Assignment, Step}
+use Rattle.dip_decide.specs.Matching.{situation}
+use Rattle.dip_decide.specs.Movement.{Situation}
+use Rattle.dip_decide.specs.Results.{AreExplained, values_in}
+use Rattle.dip_decide.specs.Steps.{steps_of}
 use Rattle.dip_turn.specs.Centres.{centre_lines}
 use Rattle.dip_turn.specs.Laws.{AreAlike, IsSame}
 use Rattle.dip_turn_moves.specs.Moving.{after_moves}

@@ -10,7 +10,7 @@ use Rattle.dip_names.specs.declared.names.Place.{Place}
 use Rattle.dip_names.specs.declared.names.Terrain.{Terrain}
 use Rattle.dip_names.specs.declared.names.Terrain.TheVariants.{Inland, Coast, Sea}
 use Rattle.dip_names.specs.declared.names.Unit.{Unit as AUnit}
-use Rattle.dip_map_chart.specs.Charts.{Chart, IsMap, Province, Realm, army_next, home, is_army_next, is_army_place, is_centre, is_shaped, is_unit, may_stand, no_realm, province, realm}
+use Rattle.dip_map.specs.Charts.{Chart, IsMap, Province, Realm, army_next, home, is_army_next, is_army_place, is_centre, is_shaped, is_unit, may_stand, no_realm, province, realm}
 use Rattle.dip_map.specs.declared.boards.Dislodged.{Dislodged}
 use Rattle.dip_map.specs.Boards.{Position}
 use Rattle.dip_orders.specs.Conditions.{army_place, may_convoy, may_march}

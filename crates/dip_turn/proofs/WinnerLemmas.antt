@@ -1,7 +1,7 @@
 -- A winner is one: no two powers own more than half of all centres each.
 use Rattle.std.proofs.Common.{◌≡◌, ◌≢◌, ◌⊎◌, inl, inr, ℕ, ◌≤◌, ◌+◌, ◌==◌, Bool, true, cond, suc, List, [], ◌∷◌, get_or, Option, Some, None, is_some, count_by, sym, ap, ◌∙◌, arith}
 use Rattle.std.proofs.lemmas.Bool.{cases_Bool, eqb-true, eqb-false, false≢true, ltb-true}
-use Rattle.dip_map_chart.specs.Charts.{Chart, Province, no_province, is_centre}
+use Rattle.dip_map.specs.Charts.{Chart, Province, no_province, is_centre}
 use Rattle.dip_map.specs.Boards.{Position, is_power, owner}
 use Rattle.dip_orders.proofs.KeptLaws.{count_cons}
 use Rattle.dip_turn.specs.Centres.{has_won}

@@ -6,7 +6,7 @@ use Rattle.std.proofs.lemmas.List.Elements.{All-contains, Contains-append_right,
 use Rattle.std.proofs.lemmas.List.Filters.{length-filter_both}
 use Rattle.std.proofs.lemmas.List.Sums.{count_by-le-length, length-filter}
 use Rattle.dip_names.specs.declared.names.Unit.{Unit as AUnit}
-use Rattle.dip_map_chart.specs.Charts.{Chart, IsMap, are_units_single, is_unit, may_stand, powers}
+use Rattle.dip_map.specs.Charts.{Chart, IsMap, are_units_single, is_unit, may_stand, powers}
 use Rattle.dip_map.specs.declared.boards.Season.{Season}
 use Rattle.dip_map.specs.declared.boards.Season.TheVariants.{SpringMoves, Winter}
 use Rattle.dip_map.specs.Boards.{IsOf, Position, centres_owned, units_counted}

@@ -2,7 +2,7 @@
 use Rattle.std.specs.Prelude.{ℕ, ◌==◌, ◌-◌, not, ◌&&◌, Bool, nat_lt, List, [], ◌++◌, map, filter, flat_map, count_by, Option, None, Some, if◌then◌else◌}
 use Rattle.std.specs.List.{list_any, filter_map}
 use Rattle.dip_names.specs.declared.names.Unit.{Unit as AUnit}
-use Rattle.dip_map_chart.specs.Charts.{Chart, powers}
+use Rattle.dip_map.specs.Charts.{Chart, powers}
 use Rattle.dip_map.specs.Boards.{Position}
 use Rattle.dip_orders.specs.Allowances.{builds_due, removals_due}
 use Rattle.dip_orders.specs.Standing.{is_same_unit}

@@ -2,7 +2,7 @@
 use Rattle.std.specs.Prelude.{ℕ, ◌+◌, ◌*◌, ◌==◌, nat_lt, Bool, true, false, List, [], ◌∷◌, find, Option, None, Some, option_map, count_by, if◌then◌else◌}
 use Rattle.std.specs.List.{filter_map}
 use Rattle.dip_names.specs.declared.names.Unit.{Unit as AUnit}
-use Rattle.dip_map_chart.specs.Charts.{Chart, is_centre, powers, provs}
+use Rattle.dip_map.specs.Charts.{Chart, is_centre, powers, provs}
 use Rattle.dip_map.specs.Boards.{Position, owner, centres_owned}
 use Rattle.dip_turn.specs.declared.report.CentreLine.{CentreLine}
 

@@ -4,8 +4,8 @@ use Rattle.std.specs.List.{list_any}
 use Rattle.dip_names.specs.declared.names.Kind.{Kind}
 use Rattle.dip_names.specs.declared.names.Kind.TheVariants.{Army, Fleet}
 use Rattle.dip_names.specs.declared.names.Place.{Place}
-use Rattle.dip_map_chart.specs.Charts.{Chart, fleet_next, is_fleet_place, is_home}
-use Rattle.dip_map_chart.specs.Walks.{ways}
+use Rattle.dip_map.specs.Charts.{Chart, fleet_next, is_fleet_place, is_home}
+use Rattle.dip_map.specs.Walks.{ways}
 
 -- n steps by neighbours of either kind lead from province p to a home centre of the power r
 abbrev pub army_walks : Chart → ℕ → ℕ → ℕ → Bool

@@ -1,7 +1,7 @@
 -- Laws of phases: what holds of each phase that is adjudicated, by the definitions.
 use Rattle.std.specs.Prelude.{◌≡◌, ◌≢◌, ℕ, ◌<◌, ◌≤◌, ◌+◌, ◌-◌, ◌*◌, Bool, true, false, ◌⊎◌, All, Contains, List, length, Option, Some, is_some}
 use Rattle.dip_names.specs.declared.names.Unit.{Unit as AUnit}
-use Rattle.dip_map_chart.specs.Charts.{Chart, IsMap, is_centre}
+use Rattle.dip_map.specs.Charts.{Chart, IsMap, is_centre}
 use Rattle.dip_map.specs.declared.boards.Dislodged.{Dislodged}
 use Rattle.dip_map.specs.declared.boards.Phase.{Phase}
 use Rattle.dip_map.specs.declared.boards.Season.{Season}
@@ -11,7 +11,7 @@ use Rattle.dip_orders.specs.Given.{AreGiven, IsEachGiven}
 use Rattle.dip_orders.specs.Laws.{IsEmpty}
 use Rattle.dip_orders.specs.declared.placed.Order.TheVariants.{Build}
 use Rattle.dip_orders.specs.declared.placed.PlacedOrder.{PlacedOrder}
-use Rattle.dip_decide_table.specs.Results.{values_in}
+use Rattle.dip_decide.specs.Results.{values_in}
 use Rattle.dip_orders.specs.Conditions.{is_retreat}
 use Rattle.dip_turn.specs.Adjusting.{after_adjustment, builds_given, disorder, is_among, is_given, units_built}
 use Rattle.dip_turn.specs.Centres.{has_won, holder}

@@ -6,3 +6,8 @@ pub mod Centres
 pub mod Phases
 pub mod Reports
 pub mod Laws
+pub use Rattle.dip_turn_moves.specs.Moving
+pub use Rattle.dip_turn_moves.specs.Outcomes
+pub use Rattle.dip_turn_moves.specs.declared.lines.Fate
+pub use Rattle.dip_turn_moves.specs.declared.lines.MovementLine
+pub use Rattle.dip_turn_moves.specs.declared.lines.Outcome

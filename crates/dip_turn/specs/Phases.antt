@@ -1,7 +1,7 @@
 -- The next phase, and whether the game goes on, as functions of the board that a phase left.
 use Rattle.std.specs.Prelude.{ℕ, ◌+◌, ◌==◌, nat_lt, nat_le, not, ◌&&◌, Bool, length, Option, None, Some, if◌then◌else◌}
 use Rattle.std.specs.List.{list_any}
-use Rattle.dip_map_chart.specs.Charts.{Chart, powers}
+use Rattle.dip_map.specs.Charts.{Chart, powers}
 use Rattle.dip_map.specs.declared.boards.Season.{Season}
 use Rattle.dip_map.specs.declared.boards.Season.TheVariants.{SpringMoves, SpringRetreats, FallMoves, FallRetreats, Winter}
 use Rattle.dip_map.specs.Boards.{Position}

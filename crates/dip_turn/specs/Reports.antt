@@ -1,14 +1,14 @@
 -- A phase, adjudicated: the board after it, and its report.
 use Rattle.std.specs.Prelude.{◌≡◌, List}
-use Rattle.dip_map_chart.specs.Charts.{Chart}
+use Rattle.dip_map.specs.Charts.{Chart}
 use Rattle.dip_map.specs.declared.boards.Season.{Season}
 use Rattle.dip_map.specs.declared.boards.Season.TheVariants.{SpringMoves, SpringRetreats, FallMoves, FallRetreats, Winter}
 use Rattle.dip_map.specs.Boards.{Position}
 use Rattle.dip_orders.specs.Standing.{standing_orders}
 use Rattle.dip_orders.specs.declared.placed.PlacedOrder.{PlacedOrder}
-use Rattle.dip_decide_table.specs.Matching.{situation}
-use Rattle.dip_decide_table.specs.Results.{AreExplained, values_in}
-use Rattle.dip_decide_table.specs.Steps.{steps_of}
+use Rattle.dip_decide.specs.Matching.{situation}
+use Rattle.dip_decide.specs.Results.{AreExplained, values_in}
+use Rattle.dip_decide.specs.Steps.{steps_of}
 use Rattle.dip_turn.specs.Adjusting as adjusting
 use Rattle.dip_turn.specs.Centres.{centre_lines}
 use Rattle.dip_turn_moves.specs.Moving.{after_moves}

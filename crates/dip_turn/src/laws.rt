@@ -1,8 +1,5 @@
 //! Laws of phases, each the contract of a function that does nothing.
-ghost use Rattle.dip_turn.specs.Laws.{BoardsStayOfTheirMap, BuildsStand, CentresChangeInFall};
-ghost use Rattle.dip_turn.specs.Laws.{OnlyCentresAreOwned, OnlyRetreatsHaveDislodged, PhasesFollow};
-ghost use Rattle.dip_turn.specs.Laws.{PhasesHaveOneResult, RetreatsAreOpen, RetreatsLoseNobodyElse, RetreatsMeetNowhere};
-ghost use Rattle.dip_turn.specs.Laws.{WinnersAreOne, WinnersOwnMore, WintersAddBuildsAlone, WintersEvenUnits, WintersRemoveAlone};
+ghost use Rattle.dip_turn.specs.Laws.{BoardsStayOfTheirMap, BuildsStand, CentresChangeInFall, OnlyCentresAreOwned, OnlyRetreatsHaveDislodged, PhasesFollow, PhasesHaveOneResult, RetreatsAreOpen, RetreatsLoseNobodyElse, RetreatsMeetNowhere, WinnersAreOne, WinnersOwnMore, WintersAddBuildsAlone, WintersEvenUnits, WintersRemoveAlone};
 
 use dip_decide::{explained_is_lawful, one_answer};
 use dip_orders::{

@@ -2,16 +2,16 @@
 use Rattle.std.proofs.Common.{◌≡◌, ℕ, ◌==◌, Bool, true, false, cond, not, List, [], ◌∷◌, Option, Some, None, find, refl, sym, ap, ◌∙◌}
 use Rattle.std.specs.Prelude.{◌&&◌, is_some}
 use Rattle.std.proofs.lemmas.Bool.{false≢true, eq-eqb}
-use Rattle.dip_map_chart.specs.Charts.{Chart}
+use Rattle.dip_map.specs.Charts.{Chart}
 use Rattle.dip_names.specs.declared.names.Place.{Place}
 use Rattle.dip_orders.specs.declared.placed.Order.{Order}
 use Rattle.dip_orders.specs.declared.placed.Order.TheVariants.{Hold, Move, SupportHold, SupportMove, Convoy, Retreat, Disband, Build, Remove}
 use Rattle.dip_orders.specs.declared.placed.PlacedOrder.{PlacedOrder}
-use Rattle.dip_decide_table.specs.declared.decisions.Decision.{Decision}
-use Rattle.dip_decide_table.specs.declared.decisions.Decision.TheVariants.{Move as Moves}
-use Rattle.dip_decide_table.specs.Deciding.{Assignment}
-use Rattle.dip_decide_table.specs.Matching.{destination, order_at, situation, target_of}
-use Rattle.dip_decide_table.specs.Movement.{OneEnters, Satisfies, goes, is_at, move_rule}
+use Rattle.dip_decide.specs.Decision.{Decision}
+use Rattle.dip_decide.specs.Decision.TheVariants.{Move as Moves}
+use Rattle.dip_decide.specs.Deciding.{Assignment}
+use Rattle.dip_decide.specs.Matching.{destination, order_at, situation, target_of}
+use Rattle.dip_decide.specs.Movement.{OneEnters, Satisfies, goes, is_at, move_rule}
 use Rattle.dip_turn_moves.specs.Moving.{enters, entrant, has_moved, is_driven_out, leads_to, prov, unit_after}
 
 leads_prov : (a : Place) (r : Order) (q : ℕ) → destination r ≡ Some q → (leads_to a r).prov ≡ q

@@ -3,11 +3,11 @@ use Rattle.std.proofs.Common.{◌≡◌, ℕ, Bool, true, false, List, [], ◌�
 use Rattle.std.specs.Prelude.{◌||◌, ◌&&◌}
 use Rattle.std.specs.List.{list_any}
 use Rattle.dip_names.specs.declared.names.Kind.TheVariants.{Fleet}
-use Rattle.dip_map_chart.specs.Charts.{Chart, province}
+use Rattle.dip_map.specs.Charts.{Chart, province}
 use Rattle.dip_names.specs.Kinds.{is_kind, is_sea}
 use Rattle.dip_orders.specs.declared.placed.PlacedOrder.{PlacedOrder}
-use Rattle.dip_decide_table.specs.Matching.{is_matched, is_carried, order_at, provinces_of, situation, supports_in, convoys_in}
-use Rattle.dip_decide_table.specs.Movement.{is_support}
+use Rattle.dip_decide.specs.Matching.{is_matched, is_carried, order_at, provinces_of, situation, supports_in, convoys_in}
+use Rattle.dip_decide.specs.Movement.{is_support}
 use Rattle.dip_turn_moves.specs.Outcomes.{is_convoy}
 
 any_province : (f : ℕ → Bool) (orders : List PlacedOrder) → list_any (λ o. f o.unit.place.prov) orders ≡ list_any f (provinces_of orders)

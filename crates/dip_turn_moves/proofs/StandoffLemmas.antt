@@ -3,7 +3,7 @@ use Rattle.std.proofs.Common.{◌≡◌, ℕ, zero, suc, ◌<◌, ◌≤◌, ◌
 use Rattle.std.proofs.lemmas.Bool.{and_from, and_parts, cases_Bool, lt-ltb, not-true}
 use Rattle.std.proofs.lemmas.List.Elements.{All-filter, All-from_recursion}
 use Rattle.std.specs.List.{AllByRecursion, list_all, list_any, range_with_len}
-use Rattle.dip_map_chart.specs.Charts.{provs}
+use Rattle.dip_map.specs.Charts.{provs}
 use Rattle.dip_map.specs.Boards.{are_ascending}
 use Rattle.dip_turn_moves.specs.Laws.{StandoffsAreLawful}
 use Rattle.dip_turn_moves.specs.Moving.{contends, is_standoff_after, standing_after}

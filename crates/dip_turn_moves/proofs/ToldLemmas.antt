@@ -4,9 +4,9 @@ use Rattle.std.specs.Prelude.{◌&&◌, ◌||◌, is_some}
 use Rattle.std.specs.List.{list_any}
 use Rattle.std.proofs.lemmas.Bool.{false≢true}
 use Rattle.dip_orders.specs.declared.placed.PlacedOrder.{PlacedOrder}
-use Rattle.dip_decide_table.specs.declared.decisions.Decision.TheVariants.{Move as Moves}
-use Rattle.dip_decide_table.specs.Matching.{destination, is_convoyed, situation}
-use Rattle.dip_decide_table.specs.Movement.{head_to_head, has_path, is_at}
+use Rattle.dip_decide.specs.Decision.TheVariants.{Move as Moves}
+use Rattle.dip_decide.specs.Matching.{destination, is_convoyed, situation}
+use Rattle.dip_decide.specs.Movement.{head_to_head, has_path, is_at}
 use Rattle.dip_turn_moves.specs.Laws.{ConvoysCloseNoOrigin, DislodgedWhereEntered, LosersLeaveNoStandoff}
 use Rattle.dip_turn_moves.specs.Moving.{enters, has_moved, origin, prov}
 use Rattle.dip_turn_moves.proofs.MovingLemmas.{prevents}

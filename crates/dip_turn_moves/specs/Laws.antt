@@ -1,15 +1,15 @@
 -- Laws of what a movement makes of a board.
 use Rattle.std.specs.Prelude.{◌≡◌, ℕ, ◌<◌, ◌+◌, Bool, true, false, not, ◌&&◌, All, Contains, List, length, None, Some}
 use Rattle.std.specs.List.{list_any}
-use Rattle.dip_map_chart.specs.Charts.{Chart}
+use Rattle.dip_map.specs.Charts.{Chart}
 use Rattle.dip_map.specs.Boards.{Position, are_ascending, is_held}
 use Rattle.dip_orders.specs.declared.placed.PlacedOrder.{PlacedOrder}
-use Rattle.dip_decide_table.specs.declared.decisions.Decision.{Decision}
-use Rattle.dip_decide_table.specs.Deciding.{Assignment}
-use Rattle.dip_decide_table.specs.Laws.{AreOrders}
-use Rattle.dip_decide_table.specs.declared.decisions.Decision.TheVariants.{Move as Moves}
-use Rattle.dip_decide_table.specs.Matching.{is_convoyed, order_at, situation}
-use Rattle.dip_decide_table.specs.Movement.{Satisfies, head_to_head}
+use Rattle.dip_decide.specs.Decision.{Decision}
+use Rattle.dip_decide.specs.Deciding.{Assignment}
+use Rattle.dip_decide.specs.Laws.{AreOrders}
+use Rattle.dip_decide.specs.Decision.TheVariants.{Move as Moves}
+use Rattle.dip_decide.specs.Matching.{is_convoyed, order_at, situation}
+use Rattle.dip_decide.specs.Movement.{Satisfies, head_to_head}
 use Rattle.dip_turn_moves.specs.Moving.{after_moves, contends, dislodged_after, dislodged_unit, entrant, enters, has_moved, is_driven_out, prov, standing_after, unit_after}
 
 -- after a movement no two units stand in one province: two that aren't dislodged and stand in one came from one

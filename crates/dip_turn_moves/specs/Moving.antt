@@ -3,17 +3,17 @@ use Rattle.std.specs.Prelude.{ℕ, ◌==◌, nat_lt, not, ◌&&◌, Bool, List, 
 use Rattle.std.specs.List.{list_any}
 use Rattle.dip_names.specs.declared.names.Place.{Place}
 use Rattle.dip_names.specs.declared.names.Unit.{Unit as AUnit}
-use Rattle.dip_map_chart.specs.Charts.{Chart, provs}
+use Rattle.dip_map.specs.Charts.{Chart, provs}
 use Rattle.dip_map.specs.declared.boards.Dislodged.{Dislodged}
 use Rattle.dip_map.specs.Boards.{Position}
 use Rattle.dip_orders.specs.Retreats.{retreats_of}
 use Rattle.dip_orders.specs.declared.placed.Order.{Order}
 use Rattle.dip_orders.specs.declared.placed.Order.TheVariants.{Hold, Move, SupportHold, SupportMove, Convoy, Retreat, Disband, Build, Remove}
 use Rattle.dip_orders.specs.declared.placed.PlacedOrder.{PlacedOrder}
-use Rattle.dip_decide_table.specs.declared.decisions.Decision.TheVariants.{Move as Moves}
-use Rattle.dip_decide_table.specs.Deciding.{Assignment}
-use Rattle.dip_decide_table.specs.Matching.{destination, is_convoyed, situation}
-use Rattle.dip_decide_table.specs.Movement.{is_at, prevent}
+use Rattle.dip_decide.specs.Decision.TheVariants.{Move as Moves}
+use Rattle.dip_decide.specs.Deciding.{Assignment}
+use Rattle.dip_decide.specs.Matching.{destination, is_convoyed, situation}
+use Rattle.dip_decide.specs.Movement.{is_at, prevent}
 
 -- the province of an order's unit
 abbrev pub prov : PlacedOrder → ℕ

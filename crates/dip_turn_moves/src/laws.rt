@@ -1,6 +1,5 @@
 //! Laws of what a movement makes of a board, each the contract of a function that does nothing.
-ghost use Rattle.dip_turn_moves.specs.Laws.{ConvoysCloseNoOrigin, DislodgedWhereEntered, LosersLeaveNoStandoff};
-ghost use Rattle.dip_turn_moves.specs.Laws.{MovementsKeepUnits, StandoffsAreLawful, UnitsStandApart};
+ghost use Rattle.dip_turn_moves.specs.Laws.{ConvoysCloseNoOrigin, DislodgedWhereEntered, LosersLeaveNoStandoff, MovementsKeepUnits, StandoffsAreLawful, UnitsStandApart};
 
 use dip_decide::{boards_are_situations, equations_are_lawful};
 

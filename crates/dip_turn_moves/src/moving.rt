@@ -1,6 +1,6 @@
 //! What a movement makes of a board.
 ghost use Rattle.std.specs.Prelude.{◌≡◌, Some, IfOk, find, filter, map, length, nat_lt, not};
-ghost use Rattle.dip_decide_table.specs.Results.{values_in};
+ghost use Rattle.dip_decide.specs.Results.{values_in};
 ghost use Rattle.dip_turn_moves.specs.Moving as m;
 
 use crate::orders::{destination, is_at, is_convoyed, is_listed};

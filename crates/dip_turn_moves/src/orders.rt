@@ -2,10 +2,10 @@
 ghost use Rattle.std.specs.Prelude.{◌≡◌, ◌==◌, ◌&&◌, Some, find, not, is_some};
 ghost use Rattle.std.specs.List.{list_any};
 ghost use Rattle.dip_names.specs.Kinds.{is_kind, is_sea};
-ghost use Rattle.dip_map_chart.specs.Charts.{province};
+ghost use Rattle.dip_map.specs.Charts.{province};
 ghost use Rattle.dip_names.specs.declared.names.Kind.TheVariants.{Fleet};
-ghost use Rattle.dip_decide_table.specs.Matching.{destination, target_of, order_at, is_convoyed, is_there, is_matched, is_carried, situation};
-ghost use Rattle.dip_decide_table.specs.Movement.{is_at, is_listed, head_to_head, is_support};
+ghost use Rattle.dip_decide.specs.Matching.{destination, target_of, order_at, is_convoyed, is_there, is_matched, is_carried, situation};
+ghost use Rattle.dip_decide.specs.Movement.{is_at, is_listed, head_to_head, is_support};
 ghost use Rattle.dip_turn_moves.specs.Outcomes.{is_convoy};
 
 use dip_map::Map;

@@ -1,7 +1,7 @@
 //! What became of each order of a movement, and of its unit.
 ghost use Rattle.std.specs.Prelude.{◌≡◌, IfOk};
-ghost use Rattle.dip_decide_table.specs.Matching.{situation};
-ghost use Rattle.dip_decide_table.specs.Results.{values_in};
+ghost use Rattle.dip_decide.specs.Matching.{situation};
+ghost use Rattle.dip_decide.specs.Results.{values_in};
 ghost use Rattle.dip_turn_moves.specs.Moving.{moved_board};
 ghost use Rattle.dip_turn_moves.specs.Outcomes as o;
 

@@ -1,9 +1,9 @@
 //! Standoff provinces.
 ghost use Rattle.std.specs.Prelude.{◌≡◌, ◌==◌, IfOk, nat_lt};
 ghost use Rattle.std.specs.List.{list_any};
-ghost use Rattle.dip_decide_table.specs.Matching.{situation};
-ghost use Rattle.dip_decide_table.specs.Movement.{has_path, prevent};
-ghost use Rattle.dip_decide_table.specs.Results.{values_in};
+ghost use Rattle.dip_decide.specs.Matching.{situation};
+ghost use Rattle.dip_decide.specs.Movement.{has_path, prevent};
+ghost use Rattle.dip_decide.specs.Results.{values_in};
 ghost use Rattle.dip_turn_moves.specs.Moving as m;
 
 use crate::moving::has_moved;

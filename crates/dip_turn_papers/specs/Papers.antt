@@ -2,16 +2,16 @@
 use Rattle.std.specs.Prelude.{ℕ, Bool, ◌&&◌, ◌==◌, List, [], ◌++◌, codes, if◌then◌else◌, map, filter, flat_map}
 use Rattle.std.specs.Fmt.{decimal}
 use Rattle.dip_names.specs.declared.names.Unit.{Unit as AUnit}
-use Rattle.dip_map_chart.specs.Charts.{Chart, powers, province, provs, realm}
+use Rattle.dip_map.specs.Charts.{Chart, powers, province, provs, realm}
 use Rattle.dip_map.specs.declared.boards.Phase.{Phase}
 use Rattle.dip_orders.specs.Texts.{order_text}
 use Rattle.dip_orders.specs.declared.placed.Order.{Order}
 use Rattle.dip_orders.specs.declared.placed.Order.TheVariants.{Build, Remove}
-use Rattle.dip_turn_moves.specs.declared.lines.Fate.{Fate}
-use Rattle.dip_turn_moves.specs.declared.lines.Fate.TheVariants.{Stands, Dislodged, Destroyed}
-use Rattle.dip_turn_moves.specs.declared.lines.MovementLine.{MovementLine}
-use Rattle.dip_turn_moves.specs.declared.lines.Outcome.{Outcome}
-use Rattle.dip_turn_moves.specs.declared.lines.Outcome.TheVariants.{Holds, Moves, Bounced, NoRoute, Given, Cut, Void, Convoys}
+use Rattle.dip_turn.specs.Fate.{Fate}
+use Rattle.dip_turn.specs.Fate.TheVariants.{Stands, Dislodged, Destroyed}
+use Rattle.dip_turn.specs.MovementLine.{MovementLine}
+use Rattle.dip_turn.specs.Outcome.{Outcome}
+use Rattle.dip_turn.specs.Outcome.TheVariants.{Holds, Moves, Bounced, NoRoute, Given, Cut, Void, Convoys}
 use Rattle.dip_turn.specs.declared.report.Account.{Account}
 use Rattle.dip_turn.specs.declared.report.Account.TheVariants.{Movement as OfMovement, Retreats as OfRetreats, Adjustment as OfAdjustment}
 use Rattle.dip_turn.specs.declared.report.Adjustment.{Adjustment}

@@ -1,9 +1,9 @@
 //! Letters to a desk, and what its keeper keeps.
 ghost use Rattle.dip_desk_machine.specs.Mail.{IsMail, mail};
 
-use test_tools::next_taken;
 use dip_letters::Letter;
 use std::process::Abort;
+use test_tools::next_taken;
 
 mod applying;
 mod boxes;

@@ -2,10 +2,10 @@
 use crate::requests::check_requests;
 use crate::runs::check_runs;
 use crate::scenes::{Scene, exchanges_of, scenes_of};
-use test_tools::{CREATE_WITHOUT_GREY, Mismatch, OPENED, check_on_map};
 use dip_map::STANDARD;
 use std::alloc::Global;
 use std::{env, fs, io};
+use test_tools::{CREATE_WITHOUT_GREY, Mismatch, OPENED, check_on_map};
 
 /// Plays a scene at an empty desk over the map of this text, in memory and over a store that is opened anew before each exchange.
 fn check_at_desk(alloc: Global, text: &str, lines: &str) -> Result<(), Mismatch> {

@@ -2,10 +2,10 @@
 use crate::scenes::exchanges_of;
 use crate::texts::check_text;
 use dip_desk::MemoryKeeper;
-use test_tools::{Mismatch, check_exchange, desk, letters_of, replies_of};
 use dip_http::answer_one;
 use dip_map::{Map, STANDARD};
 use std::alloc::Global;
+use test_tools::{Mismatch, check_exchange, desk, letters_of, replies_of};
 
 /// What is written for a request.
 fn answer_to(

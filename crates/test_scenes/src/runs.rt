@@ -1,9 +1,9 @@
 //! Scenes of runs of the program.
 use crate::texts::check_text;
-use test_tools::{Mismatch, letters_of, replies_of};
 use dip_judge_program::{run_as_asked, status_of};
 use sqlite_disk::Unknown;
 use std::alloc::{AllocError, Global};
+use test_tools::{Mismatch, letters_of, replies_of};
 
 /// A run of the program: the words behind its name, and its input with what is to be told.
 #[derive(Drop)]

@@ -1,6 +1,6 @@
 //! Texts that are compared.
-use test_tools::Mismatch;
 use std::alloc::Global;
+use test_tools::Mismatch;
 
 /// What is told is the text that is wanted.
 pub(crate) fn check_text(alloc: Global, told: &[u8], wanted: String) -> Result<(), Mismatch> {

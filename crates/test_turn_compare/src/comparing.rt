@@ -5,9 +5,9 @@ use dip_decide::resolve;
 use dip_map::{Board, Map, Season};
 use dip_names::{Power, Prov, Unit};
 use dip_orders::{Order, Orders, PlacedOrder, each_unit_has_one_order};
-use test_plain_turn::{End, Line, Paper, PlainCourse, State, Word, play_plainly};
 use dip_turn::{Account, Course, Fate, Outcome, Report, advance};
 use std::alloc::{AllocError, Global};
+use test_plain_turn::{End, Line, Paper, PlainCourse, State, Word, play_plainly};
 
 fn course_of(course: Course) -> PlainCourse {
     match course {

@@ -2,13 +2,13 @@
 use crate::tests::letter;
 use dip_desk::{Keeper, MemoryKeeper, take};
 use dip_desk_state::{Author, Change, Effect, Item, KeepFault, Kept, NewSeat, Own, Public};
-use test_tools::{CREATE, ORDERS, desk};
 use dip_map::{Map, STANDARD};
 use dip_names::Power;
 use std::alloc::{AllocError, Global};
 use std::process::Abort;
 use std::rc::Rc;
 use std::test::Fail;
+use test_tools::{CREATE, ORDERS, desk};
 
 fn power(rt: &impl Abort, map: &Map, name: &str) -> Power {
     let Some(power) = map.power(name) else {

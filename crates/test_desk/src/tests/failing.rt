@@ -6,13 +6,13 @@ ghost use Rattle.dip_desk_state.specs.Faults.{faults_with};
 use crate::tests::letter;
 use dip_desk::{Keeper, MemoryKeeper, run, take};
 use dip_desk_state::{Change, Desk, Item, KeepFault, Own, Public, Whole};
-use test_tools::{CREATE, ORDERS, SHOW, desk};
 use dip_map::{Map, STANDARD};
 use dip_names::Power;
 use std::alloc::Global;
 use std::process::Abort;
 use std::rc::Rc;
 use std::test::Fail;
+use test_tools::{CREATE, ORDERS, SHOW, desk};
 
 /// A keeper in memory that answers a fault at one of its calls.
 #[derive(Drop)]

@@ -2,12 +2,12 @@
 use crate::tests::letter;
 use dip_desk::{Keeper, fault_reply, run};
 use dip_desk_state::{Desk, Own, Public, Reply};
-use test_tools::{BOARD, CREATE, ORDERS, SHOW, desk, opened};
 use dip_letters::{LetterFault, digest, sum};
 use dip_map::{Map, STANDARD};
 use dip_reports::{opening_paper_text, reply_text};
 use std::alloc::Global;
 use std::test::Fail;
+use test_tools::{BOARD, CREATE, ORDERS, SHOW, desk, opened};
 
 /// A reply is this text.
 fn check_reply(alloc: Global, reply: &Reply, wanted: &str) -> Result<(), Fail> {

@@ -1,7 +1,7 @@
 //! Letters of the greatest length.
-use test_tools::{Mismatch, check_opened};
 use std::alloc::{AllocError, Global};
 use std::test::Fail;
+use test_tools::{Mismatch, check_opened};
 
 /// England's letters under a secret of 64 bytes, up to their number.
 const HEAD: &str = "LETTER

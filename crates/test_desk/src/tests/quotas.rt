@@ -1,10 +1,10 @@
 //! How much press a seat may send in a game.
 use dip_desk::MemoryKeeper;
-use test_tools::{check_exchanges, opened_without_grey, reply_to};
 use dip_map::{Map, STANDARD};
 use itoa::Buffer;
 use std::alloc::{AllocError, Global};
 use std::test::Fail;
+use test_tools::{check_exchanges, opened_without_grey, reply_to};
 
 /// England's letter of this number is press to France.
 fn press_of(alloc: Global, number: &str) -> Result<String, AllocError> {

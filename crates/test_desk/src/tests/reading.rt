@@ -1,13 +1,13 @@
 //! Games that are read whole, and papers by their numbers.
 use dip_desk::{Keeper, MemoryKeeper};
 use dip_desk_state::{Own, Whole};
-use test_tools::{Mismatch, ORDERS, check_exchange, check_paper, desk, reply_to};
 use dip_letters::digest;
 use dip_map::{Map, STANDARD};
 use dip_reports::opening_paper_text;
 use std::alloc::Global;
 use std::rc::Rc;
 use std::test::Fail;
+use test_tools::{Mismatch, ORDERS, check_exchange, check_paper, desk, reply_to};
 
 /// A game whose seats stand in another order than the powers of the map.
 const CREATE: &str = "LETTER

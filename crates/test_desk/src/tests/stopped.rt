@@ -1,12 +1,12 @@
 //! Games that are over or paused, as a letter might leave them: no tick plays them, and one that is over takes no orders.
 use dip_desk::{Keeper, MemoryKeeper};
 use dip_desk_state::{Author, Change, Effect, Kept, Public, Status};
-use test_tools::{check_exchange, opened};
 use dip_map::{Map, STANDARD};
 use dip_names::Power;
 use std::alloc::{AllocError, Global};
 use std::rc::Rc;
 use std::test::Fail;
+use test_tools::{check_exchange, opened};
 
 /// What is kept of the master's second letter.
 fn kept(alloc: Global) -> Result<Kept, AllocError> {

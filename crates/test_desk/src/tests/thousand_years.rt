@@ -1,10 +1,10 @@
 //! A game of a thousand years, which ends with the last phase of 2900.
 use dip_desk::MemoryKeeper;
-use test_tools::{check_exchange, desk, reply_to};
 use dip_map::Map;
 use itoa::Buffer;
 use std::alloc::{AllocError, Global};
 use std::test::Fail;
+use test_tools::{check_exchange, desk, reply_to};
 
 /// Each power owns half of the centres, which is not more than half.
 const TWO: &str = "name = \"two\"

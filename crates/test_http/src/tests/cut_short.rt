@@ -1,7 +1,7 @@
 //! Requests that end before they are whole.
 use crate::tests::wires::{Site, ask, post};
-use test_tools::SHOW;
 use std::test::Fail;
+use test_tools::SHOW;
 
 const BAD: &str =
     "HTTP/1.1 400 Bad Request\r\nContent-Type: text/plain\r\nContent-Length: 16\r\nConnection: close\r\n\r\n400 Bad Request\n";

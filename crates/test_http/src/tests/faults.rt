@@ -1,12 +1,12 @@
 //! Readers and writers that fail.
 use crate::tests::wires::{Page, Script, Site, ordered, post, standard};
 use dip_desk::MemoryKeeper;
-use test_tools::SHOW;
 use dip_http::{HttpFault, answer_one};
 use dip_map::Map;
 use std::alloc::Global;
 use std::process::Abort;
 use std::test::Fail;
+use test_tools::SHOW;
 
 /// Nothing is written where the reader fails behind these bytes.
 fn assert_unread(

@@ -1,6 +1,5 @@
 //! Readers and writers in memory, and what is written for a request.
 use dip_desk::MemoryKeeper;
-use test_tools::{CREATE, ORDERS, desk, opened, reply_to};
 use dip_http::{HttpFault, answer_one};
 use dip_map::{Map, STANDARD};
 use itoa::Buffer;
@@ -8,6 +7,7 @@ use std::alloc::{AllocError, Global};
 use std::io;
 use std::io::{Read, Write};
 use std::test::Fail;
+use test_tools::{CREATE, ORDERS, desk, opened, reply_to};
 
 /// A reader of some bytes, so many at a call, which fails or ends behind them.
 #[derive(Drop)]

@@ -1,7 +1,7 @@
 //! Letters by chance to games of the standard map.
 use super::texts::{digits_of, letter_of, push_all, text_of};
-use test_dice::Dice;
 use std::alloc::{AllocError, Global};
+use test_dice::Dice;
 
 /// Who writes, under which secret, and about which eight provinces.
 fn author_at(place: u32) -> (&'static str, &'static str, &'static str) {

@@ -5,9 +5,9 @@ use super::told::told_of;
 use super::words::{fate_of, values_of, word_of};
 use dip_map::{Board, Map, STANDARD};
 use dip_orders::PlacedOrder;
-use test_plain::{Field, Outcome, PlainFault, Step, is_explained, resolve_plainly};
 use std::alloc::Global;
 use std::process::Abort;
+use test_plain::{Field, Outcome, PlainFault, Step, is_explained, resolve_plainly};
 
 /// What the resolvers tell, each soundly and both the same.
 pub(crate) fn compare(

@@ -1,12 +1,12 @@
 //! Orders by chance, of units that stand close together and get in each other's way.
 use super::rings::{draw_ring, draw_siege};
 use super::steps::{draw_step, is_at_sea, is_coastal, placed_on, step_to};
-use test_dice::Dice;
 use dip_map::Map;
 use dip_names::{Kind, Place, Prov, Unit};
 use dip_orders::{Order, Other, PlacedOrder};
-use test_plain::{Field, destination, origin};
 use std::alloc::{AllocError, Global};
+use test_dice::Dice;
+use test_plain::{Field, destination, origin};
 
 /// What boards are like.
 #[derive(Clone, Copy)]

@@ -2,13 +2,13 @@
 use super::draws::{Recipe, draw_orders};
 use super::steps::sites_of;
 use super::tallies::{Tally, compare_orders};
-use test_dice::Dice;
 use dip_map::{Map, STANDARD};
 use dip_names::Unit;
-use test_plain::PlainFault;
 use std::alloc::Global;
 use std::process::Abort;
 use std::test::Fail;
+use test_dice::Dice;
+use test_plain::PlainFault;
 
 const BY_LAND: Recipe = Recipe {
     sites: "A ber,A boh,A bur,A kie,A mun,A ruh,A sil,A tyr,F bal,F ber,F den,F hol,F kie",

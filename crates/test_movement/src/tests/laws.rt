@@ -1,7 +1,7 @@
 //! What holds of every outcome.
 use dip_orders::PlacedOrder;
-use test_plain::{Completion, Decision, Field, Known, Outcome, destination, moves_to, origin};
 use std::alloc::{AllocError, Global};
+use test_plain::{Completion, Decision, Field, Known, Outcome, destination, moves_to, origin};
 
 /// The value that an outcome has for a decision.
 fn value_in(outcome: &Outcome, decision: Decision) -> bool {

@@ -1,10 +1,10 @@
 //! Units that stand so that a circle or a knot may come of it.
 use super::steps::{is_at_sea, is_coastal, placed_on, step_to};
-use test_dice::Dice;
 use dip_map::Map;
 use dip_names::{Kind, Place, Unit};
 use dip_orders::{Order, Other, PlacedOrder};
 use std::alloc::AllocError;
+use test_dice::Dice;
 
 fn other_of(unit: &Unit) -> Other {
     Other {

@@ -1,11 +1,11 @@
 //! Sites, powers and steps, some of them by chance.
 use super::scenes::unit_of;
-use test_dice::Dice;
 use dip_map::Map;
 use dip_names::{Kind, Place, Power, Prov, Terrain, Unit};
 use dip_orders::{Order, PlacedOrder};
 use std::alloc::{AllocError, Global};
 use std::process::Abort;
+use test_dice::Dice;
 
 /// The units of a list, all of one power.
 pub(crate) fn sites_of(

@@ -3,9 +3,9 @@ use super::compare::compare;
 use super::scenes::board_of;
 use dip_map::{Board, Map};
 use dip_orders::PlacedOrder;
-use test_plain::{Field, Outcome, PlainFault, Step};
 use std::alloc::{AllocError, Global};
 use std::process::Abort;
+use test_plain::{Field, Outcome, PlainFault, Step};
 
 /// What came up on the boards.
 #[derive(Clone, Copy, Default, Debug)]

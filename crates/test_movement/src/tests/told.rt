@@ -3,9 +3,9 @@ use dip_decide::resolve;
 use dip_map::{Board, Map};
 use dip_names::Prov;
 use dip_orders::{Orders, PlacedOrder, each_unit_has_one_order};
-use test_plain::{Decision, Outcome, Step};
 use std::alloc::{AllocError, Global};
 use std::process::Abort;
+use test_plain::{Decision, Outcome, Step};
 
 fn decision_of(decision: dip_decide::Decision) -> Decision {
     match decision {

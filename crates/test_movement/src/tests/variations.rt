@@ -4,14 +4,14 @@ use super::scenes::{board_in, orders_in};
 use super::steps::draw_power;
 use super::tallies::{Tally, compare_orders};
 use super::{land, sea};
-use test_dice::Dice;
 use dip_map::{Map, STANDARD};
 use dip_names::Unit;
 use dip_orders::{Order, PlacedOrder};
-use test_plain::PlainFault;
 use std::alloc::{AllocError, Global};
 use std::process::Abort;
 use std::test::Fail;
+use test_dice::Dice;
+use test_plain::PlainFault;
 
 /// A unit that may have another power, and may have lost its order.
 fn varied(dice: &mut Dice, placed: &PlacedOrder) -> PlacedOrder {

@@ -1,11 +1,11 @@
 //! The papers of a game, written out as a secretary asks for them.
 use super::papers::OPENING;
 use dip_desk::MemoryKeeper;
-use test_tools::{Mismatch, check_exchange, opened};
 use dip_map::{Map, STANDARD};
 use dip_store::write_papers;
 use std::alloc::Global;
 use std::test::Fail;
+use test_tools::{Mismatch, check_exchange, opened};
 
 const BOTH: &str = "PAPER 1 opening
 GAME g1 S1901M running DUE 100 PERIOD 100 GREY YES PAPERS 1

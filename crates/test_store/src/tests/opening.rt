@@ -1,11 +1,11 @@
 //! Stores that are opened, and that are not. The helpers have no clause, so that no test's proof carries the state of a call.
-use test_tools::{Mismatch, StoredDesk, check_exchange, check_stored, reopened, stored_desk};
 use dip_letters::digest;
 use dip_map::{Map, STANDARD};
 use dip_store::{SqlKeeper, StoreFault};
 use sqlite::{Connection, Error, MemStore};
 use std::alloc::Global;
 use std::test::Fail;
+use test_tools::{Mismatch, StoredDesk, check_exchange, check_stored, reopened, stored_desk};
 
 /// A new game, and two orders of England.
 const FIRST: &str = "= master 1

@@ -1,10 +1,10 @@
 //! The papers of a game in a store, written out.
 use dip_desk::Keeper;
-use test_tools::{Mismatch, check_exchange, reopened, stored_desk};
 use dip_map::{Map, STANDARD};
 use dip_store::write_papers;
 use std::alloc::Global;
 use std::test::Fail;
+use test_tools::{Mismatch, check_exchange, reopened, stored_desk};
 
 const CREATE: &str = "= master 1
 SEATS

@@ -1,9 +1,9 @@
 //! What stands in the eight tables. The helpers have no clause, so that no test's proof carries the state of a call.
-use test_tools::{Mismatch, check_exchange, stored_desk};
 use dip_map::{Map, STANDARD};
 use sqlite::{Connection, Error, MemStore, params};
 use std::alloc::Global;
 use std::test::Fail;
+use test_tools::{Mismatch, check_exchange, stored_desk};
 
 /// A new game, two orders of England, and what England is shown.
 const FIRST: &str = "= master 1

@@ -2,9 +2,9 @@
 use dip_map::{Board, Map};
 use dip_orders::PlacedOrder;
 use dip_turn::Report;
-use test_turn_compare::Mismatch;
 use std::alloc::{AllocError, Global};
 use std::process::Abort;
+use test_turn_compare::Mismatch;
 
 /// Adjudicates the phase of a board as the plain program does.
 pub(crate) fn compare(

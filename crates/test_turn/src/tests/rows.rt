@@ -4,10 +4,10 @@ use super::scenes::{Scene, board_of, dislodged_in, owners_in, provs_in, units_in
 use super::texts::{paper_of, title};
 use dip_map::{Board, Map, STANDARD};
 use dip_orders::{PlacedOrder, read_order};
-use test_plain_turn::State;
 use dip_turn::Report;
 use std::alloc::{AllocError, Global};
 use std::process::Abort;
+use test_plain_turn::State;
 
 /// A phase that is played.
 #[derive(Clone, Copy)]

@@ -1,10 +1,10 @@
 //! Boards and orders by chance.
-use test_dice::Dice;
 use dip_map::{Board, Dislodged, Map, Phase, Season};
 use dip_names::{Kind, Place, Power, Prov, Terrain, Unit};
 use dip_orders::{Order, Other, PlacedOrder, print_order, read_order};
 use dip_turn::retreats;
 use std::alloc::{AllocError, Global};
+use test_dice::Dice;
 
 fn origin(placed: &PlacedOrder) -> Prov {
     placed.unit.place.prov

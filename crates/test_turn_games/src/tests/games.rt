@@ -1,12 +1,12 @@
 //! Whole games by chance.
 use super::compare::compare;
 use super::draws::{draw_board, draw_orders};
-use test_dice::Dice;
 use dip_map::{Board, Map, Phase, STANDARD, Season};
 use dip_turn::{Account, Course, Fate, Report};
 use std::alloc::{AllocError, Global};
 use std::process::Abort;
 use std::test::Fail;
+use test_dice::Dice;
 
 /// What came up in the games.
 #[derive(Clone, Copy, Default, Debug)]

@@ -1,5 +1,5 @@
 use Rattle.std.proofs.Common.{◌∙◌, sym}
-use Rattle.dip_map_chart.specs.Charts.{provs}
+use Rattle.dip_map.specs.Charts.{provs}
 use Rattle.dip_decide.proofs.Unbroken.{none_broken}
 use Rattle.dip_decide.proofs.resolving.broken_by.Goals as goal
 

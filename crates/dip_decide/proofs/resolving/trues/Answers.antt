@@ -1,7 +1,7 @@
 use Rattle.std.proofs.Common.{◌≡◌, ◌∙◌, ap, arith, length, refl, rules}
 use Rattle.std.proofs.lemmas.List.{length-replicate}
 use Rattle.std.proofs.lemmas.List.FromFn.{length-range_with_len}
-use Rattle.dip_map_chart.specs.Charts.{provs}
+use Rattle.dip_map.specs.Charts.{provs}
 use Rattle.dip_decide.proofs.resolving.trues.Goals as goal
 
 pub loop-prov-init : goal.loop-prov-init

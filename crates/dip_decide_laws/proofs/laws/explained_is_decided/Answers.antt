@@ -1,6 +1,6 @@
-use Rattle.dip_decide_table.specs.Deciding.{is_broken}
-use Rattle.dip_decide_table.specs.Matching.{situation}
-use Rattle.dip_decide_table.specs.Movement.{at_first, mentions, rule}
+use Rattle.dip_decide.specs.Deciding.{is_broken}
+use Rattle.dip_decide.specs.Matching.{situation}
+use Rattle.dip_decide.specs.Movement.{at_first, mentions, rule}
 use Rattle.dip_decide_laws.proofs.EquationLemmas.{broken_paths}
 use Rattle.dip_decide_laws.proofs.laws.explained_is_decided.Goals as goal
 

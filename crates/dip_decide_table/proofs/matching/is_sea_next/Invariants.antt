@@ -1,6 +1,6 @@
 use Rattle.std.proofs.Common.{◌≡◌, ◌==◌, drop}
 use Rattle.std.specs.List.{list_any}
-use Rattle.dip_map_chart.specs.Charts.{province}
+use Rattle.dip_map.specs.Charts.{province}
 use Rattle.dip_decide_table.proofs.matching.is_sea_next.Given as goal
 
 abbrev pub invariant-loop-index : goal.invariant-loop-index

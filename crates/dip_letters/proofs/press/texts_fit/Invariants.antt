@@ -1,7 +1,6 @@
 use Rattle.std.proofs.Common.{◌≡◌}
 use Rattle.std.specs.Str.{IsUtf8}
-use Rattle.dip_letters.specs.Reading.{lines_fit}
-use Rattle.dip_letters.specs.Reading.{is_some, text_at}
+use Rattle.dip_letters.specs.Reading.{lines_fit, is_some, text_at}
 use Rattle.dip_letters.proofs.press.texts_fit.Given as goal
 
 abbrev pub invariant-loop-line : goal.invariant-loop-line

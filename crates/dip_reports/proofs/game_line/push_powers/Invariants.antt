@@ -1,5 +1,5 @@
 use Rattle.std.proofs.Common.{◌≡◌, ◌++◌, codes, drop, flat_map, string_bytes}
-use Rattle.dip_map_chart.specs.Charts.{realm}
+use Rattle.dip_map.specs.Charts.{realm}
 use Rattle.dip_reports.proofs.game_line.push_powers.Given as goal
 
 abbrev pub invariant-loop-power : goal.invariant-loop-power

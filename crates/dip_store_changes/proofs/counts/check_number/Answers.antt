@@ -1,7 +1,6 @@
 use Rattle.std.proofs.Common.{arith, ◌≡◌, ◌<◌, ◌+◌, ◌^◌, ℕ, true, refl, sym, ap, ◌∙◌}
-use Rattle.dip_store_tables.specs.Tables.{GameRow}
+use Rattle.dip_store_tables.specs.Tables.{GameRow, is_named}
 use Rattle.sqlite.specs.Held.{state}
-use Rattle.dip_store_tables.specs.Tables.{is_named}
 use Rattle.dip_store_sql.specs.Calls.{tables_in}
 use Rattle.dip_store_sql.specs.Showing.{show_papers}
 use Rattle.dip_store_sql.proofs.Apart.{one_game}

@@ -1,10 +1,9 @@
 use Rattle.std.proofs.Common.{arith, ◌≡◌, ◌<◌, ◌+◌, ◌^◌, true, refl, sym, ◌∙◌}
-use Rattle.sqlite_keyed.proofs.ListLemmas.{all_weaker}
-use Rattle.dip_store_tables.specs.Tables.{SeatRow}
+use Rattle.dip_store_tables.proofs.ListLemmas.{all_weaker}
+use Rattle.dip_store_tables.specs.Tables.{SeatRow, is_seat}
 use Rattle.dip_store_tables.specs.Legible.{IsSeatLegible}
 use Rattle.dip_store_changes.specs.Failing.{MaySend}
 use Rattle.sqlite.specs.Held.{state}
-use Rattle.dip_store_tables.specs.Tables.{is_seat}
 use Rattle.dip_store_sql.specs.Calls.{tables_in}
 use Rattle.dip_store_sql.specs.Showing.{show_sent}
 use Rattle.dip_store_sql.proofs.Apart.{one_seat}

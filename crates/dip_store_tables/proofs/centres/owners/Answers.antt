@@ -1,5 +1,5 @@
 use Rattle.std.proofs.Common.{rules, ◌≡◌, ◌∙◌, map}
-use Rattle.dip_map_chart.specs.Charts.{provs}
+use Rattle.dip_map.specs.Charts.{provs}
 use Rattle.dip_store_tables.specs.Boards.{owner_at}
 use Rattle.dip_store_tables.proofs.Listed.{owners_listed}
 use Rattle.dip_store_tables.proofs.centres.owners.Goals as goal

@@ -1,5 +1,5 @@
 use Rattle.std.proofs.Common.{◌≡◌, ◌++◌, map}
-use Rattle.dip_map_chart.specs.Charts.{provs}
+use Rattle.dip_map.specs.Charts.{provs}
 use Rattle.dip_store_tables.specs.Boards.{owner_at}
 use Rattle.dip_store_tables.proofs.centres.owners.Given as goal
 

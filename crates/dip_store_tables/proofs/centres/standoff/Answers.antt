@@ -1,5 +1,5 @@
 use Rattle.std.proofs.Common.{rules, ◌≡◌, ◌≤◌, ◌++◌, [], ◌∷◌, length, take, Some}
-use Rattle.dip_map_chart.specs.Charts.{prov_of}
+use Rattle.dip_map.specs.Charts.{prov_of}
 use Rattle.dip_store_tables.proofs.Listed.{turn}
 use Rattle.dip_store_tables.proofs.centres.standoff.Goals as goal
 

@@ -1,5 +1,5 @@
 use Rattle.std.proofs.Common.{◌≡◌, None, string_bytes, arith, rules}
-use Rattle.dip_map_chart.specs.Charts.{power_of}
+use Rattle.dip_map.specs.Charts.{power_of}
 use Rattle.dip_store_tables.proofs.StatusLemmas.{no_power_at}
 use Rattle.dip_store_tables.proofs.statuses.powers_of.Goals as goal
 

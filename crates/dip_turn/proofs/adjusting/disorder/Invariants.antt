@@ -1,5 +1,5 @@
 use Rattle.std.proofs.Common.{◌≡◌, ◌++◌, flat_map}
-use Rattle.dip_map_chart.specs.Charts.{powers}
+use Rattle.dip_map.specs.Charts.{powers}
 use Rattle.dip_turn.specs.Adjusting.{disorder_of}
 use Rattle.dip_turn.proofs.adjusting.disorder.Given as goal
 

@@ -1,6 +1,6 @@
 use Rattle.std.proofs.Common.{◌≡◌, ◌++◌}
 use Rattle.std.specs.List.{filter_map}
-use Rattle.dip_map_chart.specs.Charts.{powers}
+use Rattle.dip_map.specs.Charts.{powers}
 use Rattle.dip_turn.specs.Adjusting.{waiver}
 use Rattle.dip_turn.proofs.adjusting.waivers.Given as goal
 

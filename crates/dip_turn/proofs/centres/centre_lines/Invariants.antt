@@ -1,6 +1,6 @@
 use Rattle.std.proofs.Common.{◌≡◌, ◌++◌}
 use Rattle.std.specs.List.{filter_map}
-use Rattle.dip_map_chart.specs.Charts.{provs}
+use Rattle.dip_map.specs.Charts.{provs}
 use Rattle.dip_turn.specs.Centres.{centre_line}
 use Rattle.dip_turn.proofs.centres.centre_lines.Given as goal
 

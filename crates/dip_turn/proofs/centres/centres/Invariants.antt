@@ -1,6 +1,6 @@
 use Rattle.std.proofs.Common.{◌≡◌, ◌+◌, ◌≤◌, length}
 use Rattle.std.specs.Prelude.{count_by}
-use Rattle.dip_map_chart.specs.Charts.{is_centre, provs}
+use Rattle.dip_map.specs.Charts.{is_centre, provs}
 use Rattle.dip_turn.proofs.centres.centres.Given as goal
 
 abbrev pub invariant-loop-prov : goal.invariant-loop-prov

@@ -1,5 +1,5 @@
 use Rattle.std.proofs.Common.{◌≡◌, find}
-use Rattle.dip_map_chart.specs.Charts.{powers}
+use Rattle.dip_map.specs.Charts.{powers}
 use Rattle.dip_turn.specs.Centres.{has_won}
 use Rattle.dip_turn.proofs.centres.winner.Given as goal
 

@@ -1,6 +1,6 @@
 use Rattle.std.proofs.Common.{◌≡◌}
 use Rattle.std.specs.List.{list_any}
-use Rattle.dip_map_chart.specs.Charts.{powers}
+use Rattle.dip_map.specs.Charts.{powers}
 use Rattle.dip_turn.specs.Phases.{is_uneven}
 use Rattle.dip_turn.proofs.phases.needs_adjustment.Given as goal
 

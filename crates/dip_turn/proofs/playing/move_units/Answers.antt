@@ -1,7 +1,7 @@
 use Rattle.std.proofs.Common.{◌≡◌, List, ap, ◌∙◌}
 use Rattle.dip_map.specs.Boards.{Position}
 use Rattle.dip_orders.specs.declared.placed.PlacedOrder.{PlacedOrder}
-use Rattle.dip_decide_table.specs.Results.{values_in}
+use Rattle.dip_decide.specs.Results.{values_in}
 use Rattle.dip_turn_moves.specs.Moving.{moved_board, without_destroyed}
 use Rattle.dip_turn_moves.specs.Outcomes.{lines_on}
 use Rattle.dip_turn.proofs.playing.move_units.Goals as goal

@@ -1,4 +1,4 @@
-use Rattle.dip_decide_table.specs.Matching.{situation}
+use Rattle.dip_decide.specs.Matching.{situation}
 use Rattle.dip_turn_moves.proofs.ApartLemmas.{meet_nowhere}
 use Rattle.dip_turn_moves.proofs.laws.units_stand_apart.Goals as goal
 

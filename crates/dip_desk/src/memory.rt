@@ -4,7 +4,6 @@ ghost use Rattle.dip_desk_state.specs.ChangeRows as desk_rows;
 ghost use Rattle.dip_desk_state.specs.Rows as rows;
 ghost use Rattle.dip_desk.specs.Stored as stored;
 
-use crate::copying::{kept_copy, last_copy, own_copy};
 use crate::games::{Games, find_game, find_paper, find_seat, page_of, public_of, whole_of};
 use crate::keeper::Keeper;
 use crate::recording::record_games;
@@ -29,7 +28,7 @@ fn last_of(change: &Change) -> Result<Option<Kept>, AllocError>
         (λ k. option_map rows.kept k ≡ stored.last_of (desk_rows.change change.now)) }
 {
     match change.author {
-        Author::TheMaster => Ok(Some(kept_copy(&change.kept)?)),
+        Author::TheMaster => Ok(Some(change.kept.copy()?)),
         Author::Nobody | Author::Seat(_) => Ok(None),
     }
 }
@@ -71,10 +70,7 @@ impl Keeper for MemoryKeeper {
     }
 
     fn desk(&mut self) -> Result<Desk, KeepFault> {
-        Ok(Desk {
-            digest: self.desk.digest,
-            kept: last_copy(&self.desk.kept)?,
-        })
+        Ok(self.desk.copy()?)
     }
 
     fn public(&mut self, _map: &Map, game: &str) -> Result<Option<Public>, KeepFault> {
@@ -87,7 +83,7 @@ impl Keeper for MemoryKeeper {
     fn own(&mut self, _map: &Map, game: &str, power: Power) -> Result<Option<Own>, KeepFault> {
         match find_seat(&self.games, game, power) {
             None => Ok(None),
-            Some(seat) => Ok(Some(own_copy(self.alloc, &seat.own)?)),
+            Some(seat) => Ok(Some(seat.own.copy(self.alloc)?)),
         }
     }
 

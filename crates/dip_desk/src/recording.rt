@@ -10,10 +10,11 @@ ghost use Rattle.dip_desk_state.specs.ChangeRows as desk_rows;
 ghost use Rattle.dip_desk_state.specs.Rows as rows;
 ghost use Rattle.dip_desk.specs.Stored as stored;
 
-use crate::copying::{kept_copy, pending_copy};
 use crate::games::{GameRow, Games, SeatRow};
 use crate::opening::add_game;
-use dip_desk_state::{Author, Change, Effect, Item, KeepFault, Kept, Own, Public, Standing};
+use dip_desk_state::{
+    Author, Change, Effect, Item, KeepFault, Kept, Own, Public, Standing, copy_standings,
+};
 use dip_names::Power;
 use std::alloc::{AllocError, Global};
 use std::rc::Rc;
@@ -247,7 +248,7 @@ fn pending_in(alloc: Global, effect: &Effect) -> Result<Option<Vec<Standing>>, A
         ≡ stored.orders_in (desk_rows.effect effect.now)) }
 {
     match effect {
-        Effect::Pending(orders) => Ok(Some(pending_copy(alloc, orders.as_slice())?)),
+        Effect::Pending(orders) => Ok(Some(copy_standings(alloc, orders.as_slice())?)),
         Effect::Nothing
         | Effect::Votes(_)
         | Effect::Delivers { .. }
@@ -266,7 +267,7 @@ fn record_row(alloc: Global, game: &mut GameRow, change: &Change) -> Result<(), 
     ensures err { OnErr result ((key : List ℕ) → stored.game key game.new ≡ stored.game key
         game.old) }
 {
-    let kept = kept_copy(&change.kept)?;
+    let kept = change.kept.copy()?;
     let pending = pending_in(alloc, &change.effect)?;
     put_content(alloc, game, &change.effect)?;
     record_author(

@@ -1,6 +1,10 @@
 //! Who writes letters, and what they change.
-use crate::records::{Item, Kept, Public, Standing};
+ghost use Rattle.std.specs.Prelude.{◌≡◌, IfOk};
+ghost use Rattle.dip_desk_state.specs.ChangeRows as rows;
+
+use crate::records::{Item, Kept, Public, Standing, last_copy};
 use dip_names::Power;
+use std::alloc::AllocError;
 use std::rc::Rc;
 
 /// The master's row.
@@ -10,6 +14,18 @@ pub struct Desk {
     pub digest: [u8; 32],
     /// The master's last letter, if one is recorded.
     pub kept: Option<Kept>,
+}
+
+impl Desk {
+    /// A copy of it.
+    pub fn copy(&self) -> Result<Desk, AllocError>
+        ensures { IfOk result (λ d. rows.desk d ≡ rows.desk self.now) }
+    {
+        Ok(Desk {
+            digest: self.digest,
+            kept: last_copy(&self.kept)?,
+        })
+    }
 }
 
 /// Who wrote a letter.

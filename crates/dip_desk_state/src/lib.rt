@@ -8,4 +8,6 @@ mod records;
 
 pub use changes::{Author, Change, Desk, Effect, NewSeat};
 pub use faults::KeepFault;
-pub use records::{Head, Item, Kept, Outcome, Own, Public, Reply, Standing, Status, Whole};
+pub use records::{
+    Head, Item, Kept, Outcome, Own, Public, Reply, Standing, Status, Whole, copy_standings,
+};

@@ -1,5 +1,5 @@
 //! The records that a desk keeps and answers.
-ghost use Rattle.std.specs.Prelude.{◌≡◌, IfOk};
+ghost use Rattle.std.specs.Prelude.{◌≡◌, IfOk, option_map};
 ghost use Rattle.dip_desk_state.specs.Rows as rows;
 
 use dip_map::Board;
@@ -74,6 +74,29 @@ pub struct Kept {
     pub reply: Rc<String>,
 }
 
+impl Kept {
+    /// A copy of it, which shares the lines of its reply.
+    pub fn copy(&self) -> Result<Kept, AllocError>
+        ensures { IfOk result (λ k. rows.kept k ≡ rows.kept self.now) }
+    {
+        Ok(Kept {
+            number: self.number,
+            sum: self.sum,
+            reply: self.reply.clone()?,
+        })
+    }
+}
+
+/// A copy of an author's last letter, if there is one.
+pub(crate) fn last_copy(kept: &Option<Kept>) -> Result<Option<Kept>, AllocError>
+    ensures { IfOk result (λ k. option_map rows.kept k ≡ option_map rows.kept kept.now) }
+{
+    match kept {
+        None => Ok(None),
+        Some(kept) => Ok(Some(kept.copy()?)),
+    }
+}
+
 /// A standing order.
 #[derive(Drop)]
 pub struct Standing {
@@ -81,6 +104,29 @@ pub struct Standing {
     pub prov: Prov,
     /// Its canonical line.
     pub line: String,
+}
+
+impl Standing {
+    /// A copy of it.
+    pub fn copy(&self) -> Result<Standing, AllocError>
+        ensures { IfOk result (λ s. rows.standing s ≡ rows.standing self.now) }
+    {
+        Ok(Standing {
+            prov: self.prov,
+            line: self.line.clone()?,
+        })
+    }
+}
+
+/// A copy of standing orders.
+pub fn copy_standings(alloc: Global, pending: &[Standing]) -> Result<Vec<Standing>, AllocError>
+    ensures { IfOk result (λ v. rows.standings v.items ≡ rows.standings pending.now) }
+{
+    let mut copy = Vec::with_capacity(alloc, pending.len())?;
+    for standing in pending {
+        copy.push(standing.copy()?)?;
+    }
+    Ok(copy)
 }
 
 /// Press as its reader is shown it.
@@ -116,6 +162,23 @@ pub struct Own {
     pub sent: u32,
     /// How many items its inbox has.
     pub items: u32,
+}
+
+impl Own {
+    /// A copy of it.
+    pub fn copy(&self, alloc: Global) -> Result<Own, AllocError>
+        ensures { IfOk result (λ o. rows.own o ≡ rows.own self.now) }
+    {
+        Ok(Own {
+            power: self.power,
+            digest: self.digest,
+            vote: self.vote,
+            pending: copy_standings(alloc, self.pending.as_slice())?,
+            kept: last_copy(&self.kept)?,
+            sent: self.sent,
+            items: self.items,
+        })
+    }
 }
 
 /// A game with the own parts of all its seats, but for the items of their inboxes.

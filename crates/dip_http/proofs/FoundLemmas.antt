@@ -6,7 +6,7 @@ use Rattle.std.proofs.lemmas.Bool.Decides.{nat_tests}
 use Rattle.matchit.specs.Seek.{first, has_slash}
 use Rattle.matchit.specs.Params.{walk, AllText}
 use Rattle.matchit.specs.Router.{RouteOf}
-use Rattle.dip_http.specs.declared.table.Handler.{Handler}
+use Rattle.dip_http.specs.declared.table.Route.{Route}
 use Rattle.dip_http.specs.Places.{Place, letters, game, paper, behind, segment, from_slash, is_empty, paper_place, game_place, games_place, letters_place, or_place, place_of}
 use Rattle.dip_http.specs.Table.{table, letters_route, game_route, paper_route}
 use Rattle.dip_http.specs.Taken.{place_with}
@@ -76,7 +76,7 @@ path_of_place path place e =
     (λ h. games_path path (behind (codes "/games/") path) place (λ t was. behind_takes (codes "/games/") path t was) h) e
 
 -- a route that is found, with what it took
-pub record IsFound (path : List ℕ) (route : RouteOf Handler) : Type 0 where
+pub record IsFound (path : List ℕ) (route : RouteOf Route) : Type 0 where
   pub place : place_with route.value (walk route.pattern route.text path route.names 0 0) ≡ place_of path
   pub text : AllText (walk route.pattern route.text path route.names 0 0)
 
@@ -97,17 +97,17 @@ utf8_number : IsUtf8 (codes "number")
 unfolding lib.Utf8.encode
 utf8_number = (codes "number", (refl, refl))
 
-by_place : (path : List ℕ) (route : RouteOf Handler) (o : Option Place) → IsAscii path → place_of path ≡ o → row_of o ≡ Some route → IsFound path route
+by_place : (path : List ℕ) (route : RouteOf Route) (o : Option Place) → IsAscii path → place_of path ≡ o → row_of o ≡ Some route → IsFound path route
 by_place path route None ascii e r = absurd (cc)
 by_place path route (Some letters) ascii e r =
     let same : letters_route ≡ route = cc in
-    subst (λ (q : RouteOf Handler). IsFound path q) same (record { place = sym e; text = tt })
+    subst (λ (q : RouteOf Route). IsFound path q) same (record { place = sym e; text = tt })
 by_place path route (Some (game name)) ascii e r =
     let same : game_route ≡ route = cc in
     let is = path_of_place path (game name) e in
     let w : walk game_route.pattern game_route.text path game_route.names 0 0 ≡ (codes "game", name) ∷ [] = ap (λ (p : List ℕ). walk game_route.pattern game_route.text p game_route.names 0 0) is ∙ walk_game name in
     let plain = ascii_back (codes "/games/") name (subst (λ (p : List ℕ). IsAscii p) is ascii) in
-    subst (λ (q : RouteOf Handler). IsFound path q) same (record {
+    subst (λ (q : RouteOf Route). IsFound path q) same (record {
       place = ap (place_with game_route.value) w ∙ sym e;
       text = subst (λ (ps : List (List ℕ × List ℕ)). AllText ps) (sym w) (utf8_game, IsUtf8-from_ascii name plain, tt);
     })
@@ -118,12 +118,12 @@ by_place path route (Some (paper name number)) ascii e r =
     let plain = ascii_back (codes "/games/") (name ++ (codes "/papers/" ++ number)) (subst (λ (p : List ℕ). IsAscii p) is.0 ascii) in
     let plain_name = ascii_front name (codes "/papers/" ++ number) plain in
     let plain_number = ascii_back (codes "/papers/") number (ascii_back name (codes "/papers/" ++ number) plain) in
-    subst (λ (q : RouteOf Handler). IsFound path q) same (record {
+    subst (λ (q : RouteOf Route). IsFound path q) same (record {
       place = ap (place_with paper_route.value) w ∙ sym e;
       text = subst (λ (ps : List (List ℕ × List ℕ)). AllText ps) (sym w) (utf8_game, IsUtf8-from_ascii name plain_name, (utf8_number, IsUtf8-from_ascii number plain_number, tt));
     })
 
-pub route_found : (path : List ℕ) (route : RouteOf Handler) → IsAscii path → first table path ≡ Some route → IsFound path route
+pub route_found : (path : List ℕ) (route : RouteOf Route) → IsAscii path → first table path ≡ Some route → IsFound path route
 route_found path route ascii e = by_place path route (place_of path) ascii refl (sym (table_finds path ascii) ∙ e)
 
 by_none : (o : Option Place) → row_of o ≡ None → o ≡ None

@@ -6,30 +6,30 @@ use Rattle.matchit.specs.Rows.{RowsOf}
 use Rattle.matchit.specs.Router.{RouteOf}
 use Rattle.matchit.specs.Seek.{seek, own, step, param_step, has_slash, cuts, first}
 use Rattle.matchit.specs.Seek as seeks
-use Rattle.dip_http.specs.declared.table.Handler.{Handler}
+use Rattle.dip_http.specs.declared.table.Route.{Route}
 use Rattle.dip_http.specs.Places.{Place, letters, game, paper, behind, segment, from_slash, is_empty, paper_place, game_place, games_place, letters_place, or_place, place_of}
 use Rattle.dip_http.specs.Table.{table, letters_route, game_route, paper_route}
 use Rattle.dip_http.proofs.SeekLemmas.{under, under_all, step_under, seek_none, seek_end, seek_plain, seek_under, seek_behind, seek_fork, or_none}
 use Rattle.dip_http.proofs.SlashLemmas.{cuts_no_slash, cuts_slash, no_slash, slash_text, sub_one, with_slash}
 
 -- the route of a place
-abbrev pub row_of : Option Place → Option (RouteOf Handler)
+abbrev pub row_of : Option Place → Option (RouteOf Route)
 row_of None = None
 row_of (Some letters) = Some letters_route
 row_of (Some (game name)) = Some game_route
 row_of (Some (paper name number)) = Some paper_route
 
 abbrev Rows : Type 0
-Rows = RowsOf (RouteOf Handler)
+Rows = RowsOf (RouteOf Route)
 
 -- what follows a game's name, and a paper's number
-abbrev pub number_rows : RowsOf (RouteOf Handler)
+abbrev pub number_rows : RowsOf (RouteOf Route)
 number_rows = ([], paper_route) ∷ []
 
-abbrev pub paper_rows : RowsOf (RouteOf Handler)
+abbrev pub paper_rows : RowsOf (RouteOf Route)
 paper_rows = under_all (codes "/papers/") (under 256 number_rows)
 
-abbrev pub name_rows : RowsOf (RouteOf Handler)
+abbrev pub name_rows : RowsOf (RouteOf Route)
 name_rows = paper_rows ++ ([], game_route) ∷ []
 
 pub param_cut : (text : List ℕ) → cuts (seeks.segment text) slash_text ≡ true → param_step name_rows text ≡ (length (seeks.segment text) - 1, paper_rows)
@@ -145,7 +145,7 @@ games_found : (o : Option (List ℕ)) → ((t : List ℕ) → o ≡ Some t → I
 games_found None ascii = refl
 games_found (Some t) ascii = seek_name t (ascii t refl)
 
-abbrev letters_rows : RowsOf (RouteOf Handler)
+abbrev letters_rows : RowsOf (RouteOf Route)
 letters_rows = ([], letters_route) ∷ []
 
 letters_found : (o : Option (List ℕ)) → option_and_then (λ t. seek 0 letters_rows t) o ≡ row_of (or_place (option_and_then letters_place o) None)
@@ -153,10 +153,10 @@ letters_found None = refl
 letters_found (Some []) = seek_end letters_rows
 letters_found (Some (b ∷ text)) = seek_plain letters_rows b text refl refl ∙ seek_none 0 text
 
-abbrev game_rows : RowsOf (RouteOf Handler)
+abbrev game_rows : RowsOf (RouteOf Route)
 game_rows = under_all (codes "ames/") (under 256 name_rows)
 
-abbrev letter_rows : RowsOf (RouteOf Handler)
+abbrev letter_rows : RowsOf (RouteOf Route)
 letter_rows = under_all (codes "etters") letters_rows
 
 -- what matchit finds in the table is the route of the place
@@ -164,10 +164,10 @@ pub table_finds : (path : List ℕ) → IsAscii path → first table path ≡ ro
 table_finds [] ascii = seek_end table
 table_finds (c ∷ []) ascii =
     seek_under 47 (lit< tt) (under 103 game_rows ++ under 108 letter_rows) c []
-    ∙ (rw (seek_end (under 103 game_rows ++ under 108 letter_rows)) (elim (47 == c) as (λ t. cond {A = Option (RouteOf Handler)} t None None ≡ row_of (or_place (option_and_then letters_place (if t then None else None)) (option_and_then games_place (if t then None else None)))) [ true ↦ refl | false ↦ refl ]))
+    ∙ (rw (seek_end (under 103 game_rows ++ under 108 letter_rows)) (elim (47 == c) as (λ t. cond {A = Option (RouteOf Route)} t None None ≡ row_of (or_place (option_and_then letters_place (if t then None else None)) (option_and_then games_place (if t then None else None)))) [ true ↦ refl | false ↦ refl ]))
 table_finds (c ∷ d ∷ q) ascii =
     seek_under 47 (lit< tt) (under 103 game_rows ++ under 108 letter_rows) c (d ∷ q)
-    ∙ (ap (λ (v : Option (RouteOf Handler)). cond (47 == c) v None) (seek_fork game_rows letter_rows d q)
+    ∙ (ap (λ (v : Option (RouteOf Route)). cond (47 == c) v None) (seek_fork game_rows letter_rows d q)
     ∙ (elim (47 == c) as (λ t. cond t (cond (103 == d) (seek 0 game_rows q) (cond (108 == d) (seek 0 letter_rows q) None)) None
     ≡ row_of (or_place (option_and_then letters_place (if t then (if 108 == d then behind (codes "etters") q else None) else None)) (option_and_then games_place (if t then (if 103 == d then behind (codes "ames/") q else None) else None))))
     [ true ↦ second | false ↦ refl ]))

@@ -7,7 +7,6 @@ pub mod HeadViews
 pub mod Taken
 pub mod Places
 pub mod Table
-pub mod RouteViews
 pub mod Texts
 pub mod Values
 pub mod Answers

@@ -8,7 +8,6 @@ mod fields;
 mod front;
 mod laws;
 mod numbers;
-mod places;
 mod plans;
 mod reading;
 mod refusals;

@@ -1,18 +1,19 @@
 //! What is to be done with a request.
 ghost use Rattle.std.specs.Prelude.{◌≡◌, IfSome, IsAscii, bytes_eq, option_map};
+ghost use Rattle.matchit.specs.Params.{AllText, named};
 ghost use Rattle.dip_http.specs.Fronts.{ask_view};
 ghost use Rattle.dip_http.specs.Table.{table};
-ghost use Rattle.dip_http.specs.RouteViews.{place_view};
-ghost use Rattle.dip_http.specs.Verdicts.{ask_verdict, is_get, is_head, letter_verdict, place_verdict};
+ghost use Rattle.dip_http.specs.Places.{place_of};
+ghost use Rattle.dip_http.specs.Taken.{place_with, taken};
+ghost use Rattle.dip_http.specs.Verdicts.{ask_verdict, is_get, is_head, letter_verdict, only_get, place_verdict};
 ghost use Rattle.dip_http.specs.AnswerViews.{plan_view};
 
 use crate::front::RequestFront;
-use crate::places::{Place, place_of};
 use crate::refusals::HttpRefusal;
 use crate::size::Size;
-use crate::table::Handler;
+use crate::table::Route;
 use http::Method;
-use matchit::Router;
+use matchit::{Params, Router};
 
 /// What is to be done with a request.
 #[derive(Clone, Copy)]
@@ -56,39 +57,64 @@ fn letter_plan<'b>(size: Size) -> Plan<'b>
     }
 }
 
-/// The plan for a place.
-fn place_plan<'b>(method: &[u8], size: Size, place: Option<Place<'b>>) -> Plan<'b>
-    ensures { plan_view result
-        ≡ place_verdict method.now size (option_map place_view place.entry) }
+/// What a parameter took of the path.
+fn param<'b>(params: &Params<'_, 'b>, name: &str) -> Option<&'b str>
+    requires { AllText (taken params.now) }
+    ensures { option_map (λ v. v.now) result ≡ named name.now (taken params.now) }
 {
-    match place {
-        None => Plan::Refuse(HttpRefusal::NotFound),
-        Some(Place::Letters) => {
+    params.get(name)
+}
+
+/// This plan, where the method may have it.
+fn get_plan<'b>(method: &[u8], plan: Plan<'b>) -> Plan<'b>
+    ensures { plan_view result ≡ only_get method.now (plan_view plan) }
+{
+    if is_get(method) {
+        plan
+    } else {
+        Plan::Refuse(HttpRefusal::OnlyGet)
+    }
+}
+
+/// The plan for a route, with what its parameters took of the path.
+fn route_plan<'b>(method: &[u8], size: Size, route: Route, params: &Params<'_, 'b>) -> Plan<'b>
+    requires { AllText (taken params.now) }
+    ensures { plan_view result
+        ≡ place_verdict method.now size (place_with route (taken params.now)) }
+{
+    match route {
+        Route::Letters => {
             if is_method(method, &Method::POST) {
                 letter_plan(size)
             } else {
                 Plan::Refuse(HttpRefusal::OnlyPost)
             }
         }
-        Some(Place::Game(name)) => {
-            if is_get(method) {
-                Plan::Game(name)
-            } else {
-                Plan::Refuse(HttpRefusal::OnlyGet)
-            }
-        }
-        Some(Place::Paper(name, number)) => {
-            if is_get(method) {
-                Plan::Paper(name, number)
-            } else {
-                Plan::Refuse(HttpRefusal::OnlyGet)
-            }
-        }
+        Route::Game => match param(params, "game") {
+            Some(game) => get_plan(method, Plan::Game(game)),
+            None => Plan::Refuse(HttpRefusal::NotFound),
+        },
+        Route::Paper => match (param(params, "game"), param(params, "number")) {
+            (Some(game), Some(number)) => get_plan(method, Plan::Paper(game, number)),
+            _ => Plan::Refuse(HttpRefusal::NotFound),
+        },
+    }
+}
+
+/// The plan for a path. Nothing in a path is percent-decoded.
+fn path_plan<'b>(router: &Router<Route>, method: &[u8], size: Size, path: &'b str) -> Plan<'b>
+    requires table { router.now ≡ table }
+    requires ascii { IsAscii path.now }
+    ensures { plan_view result ≡ place_verdict method.now size (place_of path.entry.now) }
+{
+    match router.at(path) {
+        Ok(found) => route_plan(method, size, *found.value, &found.params),
+        Err(_) => Plan::Refuse(HttpRefusal::NotFound),
     }
 }
 
 /// The plan for a request.
-pub fn plan_of<'b>(router: &Router<Handler>, front: &RequestFront<'b>) -> Plan<'b>
+pub fn plan_of<'b>(router: &Router<Route>, front: &RequestFront<'b>) -> Plan<'b>
     requires table { router.now ≡ table }
     requires ascii { IfSome front.now.asked (λ a. IsAscii a.path.now) }
     ensures { plan_view result
@@ -96,6 +122,6 @@ pub fn plan_of<'b>(router: &Router<Handler>, front: &RequestFront<'b>) -> Plan<'
 {
     match front.asked {
         None => Plan::Refuse(HttpRefusal::BadRequest),
-        Some(asked) => place_plan(front.method, asked.size, place_of(router, asked.path)),
+        Some(asked) => path_plan(router, front.method, asked.size, asked.path),
     }
 }

@@ -1,5 +1,5 @@
 -- Seats in memory, behind a change.
-use Rattle.std.proofs.Common.{◌≡◌, ◌<◌, ◌==◌, ◌&&◌, ◌++◌, ◌+◌, ◌-◌, ℕ, nat_lt, Bool, true, false, cond, List, [], ◌∷◌, map, Option, None, Some, option_map, Result, Ok, Err, OnOk, Bor, refl, sym, ap, subst, ◌∙◌, slice_set, get_or, length, take, drop, zero, suc, add-one, arith}
+use Rattle.std.proofs.Common.{◌≡◌, ◌<◌, ◌==◌, ◌++◌, ◌+◌, ◌-◌, ℕ, nat_lt, Bool, true, false, cond, List, [], ◌∷◌, map, Option, None, Some, option_map, Result, Ok, Err, OnOk, Bor, refl, sym, ap, subst, ◌∙◌, slice_set, get_or, length, take, drop, zero, suc, add-one, arith}
 use Rattle.std.specs.List.{AllByRecursion, list_all, list_any}
 use Rattle.std.specs.declared.alloc.Global.{Global}
 use Rattle.std.specs.declared.rc.Rc.{Rc}

@@ -1,9 +1,7 @@
 -- What is published of a movement: the last clause of the headline.
-use Rattle.std.specs.Prelude.{◌≡◌, ◌++◌, ℕ, Bool, true, false, List, Some, codes, flat_map}
+use Rattle.std.specs.Prelude.{◌≡◌, ◌++◌, ℕ, true, List, Some, codes, flat_map}
 use Rattle.std.specs.List.{AllByRecursion}
 use Rattle.dip_map.specs.declared.boards.Phase.{Phase}
-use Rattle.dip_map.specs.declared.boards.Season.{Season}
-use Rattle.dip_map.specs.declared.boards.Season.TheVariants.{SpringMoves, SpringRetreats, FallMoves, FallRetreats, Winter}
 use Rattle.dip_map.specs.Charts.{Chart}
 use Rattle.dip_decide.specs.Deciding.{Assignment, Step, is_broken}
 use Rattle.dip_decide.specs.Matching.{situation}

@@ -1,9 +1,8 @@
 -- Bodies that are one letter.
-use Rattle.std.proofs.Common.{◌≡◌, ◌⊎◌, inl, inr, subst, Bor, ℕ, zero, suc, List, [], ◌∷◌, ◌++◌, replicate, sym, ap, ◌∙◌, append-nil, append_assoc, arith}
+use Rattle.std.proofs.Common.{◌≡◌, ◌⊎◌, inl, inr, subst, Bor, ℕ, List, ◌++◌, replicate, sym, ap, ◌∙◌, append-nil}
 use Rattle.sha2.specs.Sha256.{sha256}
-use Rattle.dip_letters.specs.Input.{IsLong, IsNext, IsSameNext, IsTaken, Skips, Starts}
-use Rattle.dip_letters.specs.Letters.{Fits, lines_of, spelling}
-use Rattle.dip_letters.specs.Lines.{end_line, text_of}
+use Rattle.dip_letters.specs.Input.{IsNext, IsSameNext, IsTaken, Skips}
+use Rattle.dip_letters.specs.Letters.{Fits, spelling}
 use Rattle.dip_letters.specs.Notes.{Note}
 use Rattle.dip_letters.specs.Views.{note}
 use Rattle.dip_letters.specs.declared.letters.Letter.{Letter}
@@ -11,8 +10,7 @@ use Rattle.dip_letters.specs.declared.letters.LetterFault.{LetterFault}
 use Rattle.dip_letters.specs.declared.letters.LetterFault.TheVariants.{Malformed, TooLong}
 use Rattle.dip_letters.specs.declared.letters.Next.{Next}
 use Rattle.dip_letters.specs.declared.letters.Next.TheVariants.{Taken, Fault, End}
-use Rattle.dip_letters.proofs.AgainLemmas.{blanks_settle, letter_starts, not_long, only_blank, same_next, spelling_unique, text_settles}
-use Rattle.dip_letters.proofs.NoteLemmas.{fits_inner}
+use Rattle.dip_letters.proofs.AgainLemmas.{letter_starts, not_long, only_blank, same_next, spelling_unique, text_settles}
 use Rattle.dip_desk_machine.specs.Mail.{Mail, mail}
 use Rattle.dip_http.specs.Answering.{IsOneLetter}
 

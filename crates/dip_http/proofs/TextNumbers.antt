@@ -1,9 +1,9 @@
 -- Numbers that a text is.
 use Rattle.std.proofs.Common.{◌≡◌, ◌<◌, ◌^◌, ◌∙◌, ℕ, List, Result, Ok, sym, ap, subst, arith}
 use Rattle.std.specs.Fmt.{decimal}
-use Rattle.std.specs.Str.Parse.{AllDigits, ParsesUnsigned, digits_value}
+use Rattle.std.specs.Str.Parse.{ParsesUnsigned, digits_value}
 use Rattle.std.proofs.lemmas.Fmt.{decimal_nonempty, digits_decimal, digits_value-decimal}
-use Rattle.std.proofs.lemmas.Str.Parse.{IsNumeralModel, numerals_by_value, parse_gives, tells_digits}
+use Rattle.std.proofs.lemmas.Str.Parse.{parse_gives}
 use Rattle.dip_http.proofs.OneAnswer.{own}
 
 parsed_decimal : {E : Type 0} (n : ℕ) (r : Result ℕ E) → ParsesUnsigned 32 10 (decimal n) r → n < 2 ^ 32 → r ≡ Ok n

@@ -1,10 +1,10 @@
 -- Numbers in decimal digits.
 use Rattle.std.proofs.Common.{◌≡◌, ◌<◌, ◌≤◌, ◌^◌, ◌==◌, true, ℕ, zero, suc, List, Result, Ok, Err, length, get_or, sym, ap, subst, ◌∙◌, arith}
 use Rattle.std.specs.Fmt.{decimal}
-use Rattle.std.specs.Str.Parse.{AllDigits, ParsesUnsigned, digits_value}
+use Rattle.std.specs.Str.Parse.{ParsesUnsigned}
 use Rattle.std.proofs.lemmas.Bool.Decides.{nat_tests}
 use Rattle.std.proofs.lemmas.Fmt.{decimal-digits_value, decimal_digit, decimal_nonempty, first_decimal, parse-decimal}
-use Rattle.std.proofs.lemmas.Str.Parse.{IsNumeralModel, numerals_by_value, parse_plain, tells_digits}
+use Rattle.std.proofs.lemmas.Str.Parse.{parse_plain}
 use Rattle.dip_http.proofs.OneAnswer.{own}
 
 -- a number has a digit

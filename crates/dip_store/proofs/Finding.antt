@@ -1,19 +1,17 @@
 -- Games and seats of the state are the first rows of their keys.
-use Rattle.std.proofs.Common.{◌≡◌, ℕ, ◌<◌, ◌==◌, Bool, true, cond, ◌&&◌, List, [], ◌∷◌, map, filter, find, length, Option, Some, None, option_map, option_and_then, is_some, bytes_eq, refl, sym, ap, ap₂, subst, ◌∙◌, inl, inr}
-use Rattle.std.specs.List.{AllByRecursion}
-use Rattle.std.proofs.lemmas.Bool.{cases_Bool, and_parts, eqb-true, eq-eqb}
+use Rattle.std.proofs.Common.{◌≡◌, ℕ, ◌<◌, ◌==◌, Bool, true, ◌&&◌, List, map, filter, find, length, Option, Some, None, option_map, option_and_then, bytes_eq, refl, sym, ap, subst, ◌∙◌, inl, inr}
+use Rattle.std.proofs.lemmas.Bool.{cases_Bool, eqb-true, eq-eqb}
 use Rattle.dip_store_tables.proofs.ListLemmas.{all_weaker}
-use Rattle.dip_store_tables.proofs.SliceLemmas.{find-slice, any_is_found}
+use Rattle.dip_store_tables.proofs.SliceLemmas.{find-slice}
 use Rattle.dip_map.specs.Charts.{Chart, IsMap}
 use Rattle.dip_store_tables.specs.Boards.{power_name, power_in as power_numbered}
-use Rattle.dip_desk_state.specs.Keyed.{at}
-use Rattle.dip_desk_state.specs.State.{name_of, power_in, game_at, seat_at, part_at}
+use Rattle.dip_desk_state.specs.State.{power_in, seat_at, part_at}
 use Rattle.dip_desk_state.proofs.KeyedLemmas.{names_tell}
 use Rattle.dip_store_tables.specs.Tables.{GameRow, SeatRow, Tables, is_named, is_seat, is_seat_in}
 use Rattle.dip_store_tables.specs.Reading.{part_of, game_of, state_of}
-use Rattle.dip_store_tables.specs.Coding.{AreCoded, HasGame, IsSeatOf}
+use Rattle.dip_store_tables.specs.Coding.{AreCoded, IsSeatOf}
 use Rattle.dip_store_tables.proofs.Records.{power_back}
-use Rattle.dip_store_tables.proofs.Found.{at_finds, find_map, found_passes, game_found, no_seat}
+use Rattle.dip_store_tables.proofs.Found.{at_finds, found_passes, game_found, no_seat}
 use Rattle.dip_store_tables.proofs.Lists.{find_on}
 
 -- a seat's power, found by its name and by its number

@@ -1,6 +1,5 @@
 -- Our schema knows our tables.
-use Rattle.std.proofs.Common.{◌≡◌, ◌≤◌, IsTrue, ℕ, nat_le, Bool, true, List, Ok, Err, Result, IfOk, arith, length, refl, sym, subst}
-use Rattle.std.proofs.lemmas.Bool.Decides.{nat_tests}
+use Rattle.std.proofs.Common.{◌≡◌, IsTrue, ℕ, Bool, List, Ok, Err, Result, IfOk, length, refl, sym, subst}
 use Rattle.sqlite.specs.declared.error.Error.{Error}
 use Rattle.sqlite.specs.Command.{Command}
 use Rattle.sqlite.specs.Query.{Query}

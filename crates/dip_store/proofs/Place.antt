@@ -1,28 +1,28 @@
 -- A change that fits leaves no key twice, and has place.
-use Rattle.std.proofs.Common.{◌≡◌, ◌<◌, ◌≤◌, ◌+◌, ◌^◌, ◌==◌, ◌&&◌, ℕ, suc, Bool, true, false, cond, List, [], ◌∷◌, ◌++◌, map, filter, find, length, Option, Some, None, option_map, is_some, nat_lt, bytes_eq, if◌then◌else◌, inl, inr, refl, sym, ap, ap₂, subst, ◌∙◌, arith}
-use Rattle.std.specs.List.{AllByRecursion, list_all, list_any}
+use Rattle.std.proofs.Common.{◌≡◌, ◌<◌, ◌≤◌, ◌+◌, ◌^◌, ◌==◌, ◌&&◌, ℕ, suc, Bool, true, false, cond, List, [], ◌∷◌, ◌++◌, map, filter, find, Option, Some, None, option_map, is_some, nat_lt, bytes_eq, if◌then◌else◌, inl, inr, refl, sym, ap, ap₂, subst, ◌∙◌, arith}
+use Rattle.std.specs.List.{AllByRecursion}
 use Rattle.std.proofs.lemmas.Bool.{and_parts, cases_Bool, eqb-true, ltb-true}
-use Rattle.dip_store_tables.specs.Lists.{delete_where, update_where}
+use Rattle.dip_store_tables.specs.Lists.{delete_where}
 use Rattle.dip_store_tables.proofs.ListLemmas.{all_from_test, all_kept, all_map, all_of, all_unmap, all_weaker, ascending-filter, ascending-map, ascending_weaker}
 use Rattle.dip_store_tables.proofs.SliceLemmas.{any_is_found}
 use Rattle.dip_map.specs.Charts.{Chart, IsMap}
 use Rattle.dip_map.specs.Boards.{IsOf, Position}
 use Rattle.dip_store_tables.specs.Boards.{CentreRow, UnitRow, centre_rows, centre_rows_from, dislodged_row, power_name, standing_row, unit_rows}
-use Rattle.dip_desk.specs.Fitting.{FindsPlace, Fits}
+use Rattle.dip_desk.specs.Fitting.{FindsPlace}
 use Rattle.dip_store_tables.specs.Room.{HasRoom, SentHasRoom}
 use Rattle.dip_desk_machine.specs.Fitting.{FitsMap}
 use Rattle.dip_desk_state.specs.Keyed.{at}
-use Rattle.dip_desk_state.specs.State.{Author, Nobody, TheMaster, Seat, Change, Effect, Nothing, Pending, Votes, Delivers, Opens, Publishes, Seats, Game, State, game_at, has_room, name_of}
+use Rattle.dip_desk_state.specs.State.{Author, Nobody, TheMaster, Seat, Effect, Nothing, Pending, Votes, Delivers, Opens, Publishes, Seats, has_room, name_of}
 use Rattle.dip_desk_state.specs.Records.{Item, White, Grey, Kept, Public}
-use Rattle.dip_store_tables.specs.Changing.{changing, is_reader, noting, one_more, ordering, reaching}
+use Rattle.dip_store_tables.specs.Changing.{is_reader, noting, one_more, ordering, reaching}
 use Rattle.dip_store_tables.specs.Coding.{AreCoded, HasGame, same_name, same_seat}
 use Rattle.dip_store_tables.specs.Counting.{AreCounted, CountsOn, counted, item_numbers, paper_numbers}
-use Rattle.dip_store_tables.specs.Reading.{game_of, part_of, state_of}
+use Rattle.dip_store_tables.specs.Reading.{game_of, part_of}
 use Rattle.dip_store_tables.specs.Tables.{BoxRow, GameRow, PaperRow, PendingRow, SeatRow, Tables, is_box, is_box_in, is_centre_in, is_named, is_paper_in, is_pending, is_pending_in, is_seat, is_seat_in, is_unit_in}
 use Rattle.dip_store_tables.specs.Writing.{as_printed, game_row, next_row, paper_row, pending_row, seat_noted, seat_row}
 use Rattle.dip_store_sql.specs.Keys.{AreKeyed, Differ, same_centre, same_desk, same_item, same_order, same_paper, same_unit}
-use Rattle.dip_store.specs.Laws.{FindsPlaceInTables, WhatFitsFindsPlace}
-use Rattle.dip_store.proofs.Apart.{across, changed_apart, first_off, found_holds, joined_apart, left_apart, none_passes, numbers_most, only_found, own_bytes, put_apart, same_bytes, second_off, turned, under_first}
+use Rattle.dip_store.specs.Laws.{WhatFitsFindsPlace}
+use Rattle.dip_store.proofs.Apart.{changed_apart, first_off, found_holds, joined_apart, left_apart, none_passes, numbers_most, only_found, own_bytes, put_apart, same_bytes, second_off, turned, under_first}
 use Rattle.dip_store.proofs.New.{centres_new, orders_new, seats_new, units_new}
 use Rattle.dip_store_tables.proofs.Authors.{noted_keys}
 

@@ -1,5 +1,5 @@
 -- What a text that is only prepared tells.
-use Rattle.std.proofs.Common.{◌≡◌, ◌⊎◌, inl, inr, IsTrue, ℕ, List, [], Ok, Err, Result, length, replicate, false, refl, sym, ap, subst, ◌∙◌, ◌≤◌}
+use Rattle.std.proofs.Common.{◌≡◌, ◌⊎◌, inl, inr, IsTrue, ℕ, List, [], Ok, Err, Result, length, replicate, false, refl, sym, subst, ◌∙◌, ◌≤◌}
 use Rattle.std.proofs.lemmas.List.{length-replicate}
 use Rattle.sqlite.specs.declared.error.Error.{Error}
 use Rattle.sqlite.specs.declared.types.Value.TheVariants.{Null}
@@ -9,10 +9,8 @@ use Rattle.sqlite.specs.Outline.{Outline}
 use Rattle.sqlite.specs.Store.{Ghosts}
 use Rattle.sqlite.specs.Held.{Held, state}
 use Rattle.sqlite.specs.Schema.{Schema}
-use Rattle.sqlite.specs.State.{HasCleanDisk, Survives, State, IsNotRun, IsUnchanged, KeepsCommit, HasCause, is_disk_error, store_error}
+use Rattle.sqlite.specs.State.{HasCleanDisk, Survives, State, IsNotRun, IsUnchanged, KeepsCommit}
 use Rattle.sqlite.specs.Steps.{Outlines}
-use Rattle.dip_store_sql.specs.StoreError.{StoreError}
-use Rattle.dip_store_sql.specs.StoreError.TheVariants.{OutOfMemory, Io, Corrupt, Full, Broken, Unstorable}
 use Rattle.dip_store_sql.specs.Compiled.{Compiled}
 use Rattle.dip_store_sql.specs.CompileError.{CompileError}
 use Rattle.dip_store_sql.specs.Faults.{IsOutside}

@@ -1,10 +1,9 @@
 -- The rows of a game of tables that are ours can be read by the map, and are those of a board of it.
-use Rattle.std.proofs.Common.{◌≡◌, ℕ, zero, suc, ◌<◌, ◌≤◌, ◌+◌, ◌^◌, ◌==◌, nat_lt, true, List, [], ◌∷◌, ◌++◌, length, map, filter, option_map, slice_index_or, Option, Some, None, refl, sym, ap, subst, ◌∙◌, ◌⊎◌, inl, inr, arith}
-use Rattle.std.specs.List.{All, AllByRecursion, find, list_all}
+use Rattle.std.proofs.Common.{◌≡◌, ℕ, zero, suc, ◌<◌, ◌≤◌, ◌+◌, ◌^◌, ◌==◌, true, List, [], ◌∷◌, length, map, filter, option_map, slice_index_or, Option, Some, None, refl, sym, ap, subst, ◌∙◌, ◌⊎◌, inl, inr, arith}
+use Rattle.std.specs.List.{AllByRecursion, find, list_all}
 use Rattle.std.proofs.lemmas.Bool.{and_parts, cases_Bool, eqb-true, or_cases}
-use Rattle.std.proofs.lemmas.Bool.Decides.{nat_tests}
 use Rattle.std.proofs.lemmas.List.Elements.{recursion_from_All}
-use Rattle.sqlite.specs.Order.{Row, column}
+use Rattle.sqlite.specs.Order.{Row}
 use Rattle.dip_store_tables.proofs.ListLemmas.{all-append, all_map, all_weaker}
 use Rattle.dip_map.specs.Boards.{Position, IsOf, is_dislodged, is_power_if_any, is_prov_if_any}
 use Rattle.dip_map.specs.declared.boards.Dislodged.{Dislodged}
@@ -12,7 +11,7 @@ use Rattle.dip_map.specs.declared.boards.Season.{Season}
 use Rattle.dip_map.specs.declared.boards.Season.TheVariants.{SpringMoves, SpringRetreats, FallMoves, FallRetreats, Winter}
 use Rattle.dip_store_tables.specs.Boards.{CentreRow, UnitRow, centre_rows, centre_rows_from, coast_text, code, dislodged_row, kind_number, power_name, season_number, standing_row, unit_row, unit_rows}
 use Rattle.dip_store_tables.specs.WrittenBoards.{IsCentreRow, IsUnitRow}
-use Rattle.dip_map.specs.Charts.{Chart, IsMap, Shore, has_named_shores, has_one_shore, is_coast_name, is_province, is_shaped, is_unit, may_stand, no_shore, province, shore}
+use Rattle.dip_map.specs.Charts.{Chart, IsMap, Shore, has_named_shores, has_one_shore, is_coast_name, is_shaped, is_unit, may_stand, no_shore, province}
 use Rattle.dip_store_tables.specs.Legible.{AreOurs, IsText}
 use Rattle.dip_store_tables.proofs.MapTexts.{code_text, origin_is_text, power_text, standoff_is_text, status_is_text}
 use Rattle.dip_store_tables.proofs.Spelled.{letters, none}
@@ -26,10 +25,10 @@ use Rattle.dip_store_sql.specs.Showing.{show_centre, show_game, show_unit}
 use Rattle.dip_store_tables.specs.Tables.{GameRow, Tables, is_centre_in, is_named, is_unit_in}
 use Rattle.dip_store_tables.specs.Writing.{game_row}
 use Rattle.dip_store_tables.specs.Written.{IsGameWritten}
-use Rattle.dip_store_looks.specs.Readable.{IsBoardReadable, IsCentreReadable, IsGameReadable, IsUnitReadable}
+use Rattle.dip_store_looks.specs.Readable.{IsCentreReadable, IsGameReadable, IsUnitReadable}
 use Rattle.dip_store_looks.specs.Shown.{shown_centre, shown_unit}
 use Rattle.dip_store_looks.proofs.PublicLemmas.{found_named}
-use Rattle.dip_store_looks.proofs.RowLemmas.{found_as, has_number, has_text, small_number}
+use Rattle.dip_store_looks.proofs.RowLemmas.{has_number, has_text, small_number}
 use Rattle.dip_store_tables.proofs.Parts.{below}
 
 -- the names of coasts

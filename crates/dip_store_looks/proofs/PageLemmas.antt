@@ -17,7 +17,7 @@ use Rattle.dip_store_tables.specs.Tables.{BoxRow, SeatRow, Tables, is_box, is_se
 use Rattle.dip_store_looks.specs.Asked.{page_in}
 use Rattle.dip_store_looks.specs.Shown.{shown_item}
 use Rattle.dip_store_looks.proofs.OwnLemmas.{found_seat}
-use Rattle.dip_store_tables.proofs.Pages.{counted_from, from, from_more}
+use Rattle.dip_store_tables.proofs.Pages.{counted_from, from}
 
 length_from : (i n : ℕ) → length (from i n) ≡ n
 length_from i zero = refl

@@ -1,7 +1,6 @@
 -- A statement on records whose keys stay apart fails for want alone.
-use Rattle.std.proofs.Common.{◌≡◌, ◌⊎◌, inl, inr, ℕ, List, [], ◌∷◌, ◌++◌, ◌/◌, ◌||◌, ◌≤◌, nat_le, map, filter, length, Bool, true, false, Some, None, Ok, Err, Result, IsTrue, Any, slice_get, refl, sym, ap, subst, ◌∙◌, arith}
+use Rattle.std.proofs.Common.{◌≡◌, ◌⊎◌, inl, inr, ℕ, List, [], ◌∷◌, ◌++◌, ◌/◌, ◌||◌, map, filter, length, Bool, true, false, Some, None, Ok, Err, Result, IsTrue, slice_get, refl, sym, ap, subst, ◌∙◌}
 use Rattle.std.specs.List.Sorted.{IsPermutation}
-use Rattle.std.proofs.lemmas.Bool.Decides.{nat_tests}
 use Rattle.sqlite.specs.declared.types.Value.{Value}
 use Rattle.sqlite.specs.declared.types.Value.TheVariants.{Null}
 use Rattle.sqlite.specs.declared.error.Error.{Error}

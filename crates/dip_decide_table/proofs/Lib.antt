@@ -15,7 +15,7 @@ pub mod Rounds
 pub mod Chaining
 pub mod Searches
 pub mod Mentioners
-mod Backing
-mod Among
-mod Columns
+pub mod Backing
+pub mod Among
+pub mod Columns
 mod Standing

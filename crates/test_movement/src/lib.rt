@@ -1,5 +1,11 @@
-//! Tests of movement: what is resolved fast is compared with the plain program, on boards worked by hand and on boards by chance.
+//! Tests of how a movement is decided: `resolve`, which tests a decision again only when something that it mentions was decided, is compared
+//! with passes over all decisions, and where there are few with the plain resolver, on boards worked by hand and on boards by chance. And what
+//! no scene tells of orders.
 #![tactic(auto)]
+
+mod passes;
+
+pub use passes::{Passed, resolve_by_passes};
 
 #[cfg(test)]
 mod tests;

@@ -1,14 +1,13 @@
-//! Movements compared and worked by hand.
+//! Movements decided three ways, and orders.
+mod boards;
+mod by_chance;
 mod compare;
 mod draws;
-mod generated;
-mod land;
 mod laws;
-mod rings;
-mod scenes;
-mod sea;
-mod steps;
+mod lines;
+mod plain;
+mod sites;
+mod standing;
 mod tallies;
 mod told;
-mod variations;
-mod words;
+mod worked;

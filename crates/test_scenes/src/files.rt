@@ -1,4 +1,5 @@
 //! Transcripts in files.
+use crate::questions::check_board;
 use crate::requests::check_requests;
 use crate::runs::check_runs;
 use crate::scenes::{Scene, exchanges_of, scenes_of};
@@ -50,8 +51,8 @@ fn check_on_file(rt: &HostRuntime, scene: &Scene) -> Result<(), Mismatch> {
 }
 
 /// Plays a scene where it plays: in runs of the program; over HTTP at a desk that is empty, that has the game of the letter CREATE, or one in
-/// which England has ordered; by letters at a desk that is empty, that has that game, or one without grey press; or by letters at an empty
-/// desk over the map of the file of that name.
+/// which England has ordered; by letters at a desk that is empty, that has that game, or one without grey press; at a board; or by letters at
+/// an empty desk over the map of the file of that name.
 fn check_scene(rt: &HostRuntime, scene: &Scene) -> Result<(), Mismatch> {
     match scene.place.as_str() {
         "program" => check_runs(rt, scene.lines.as_str()),
@@ -61,6 +62,7 @@ fn check_scene(rt: &HostRuntime, scene: &Scene) -> Result<(), Mismatch> {
         "empty" => check_behind(rt.alloc(), "", scene),
         "opened" => check_behind(rt.alloc(), OPENED, scene),
         "without grey" => check_behind(rt.alloc(), CREATE_WITHOUT_GREY, scene),
+        "board" => check_board(rt.alloc(), scene.lines.as_str()),
         _ => check_on_file(rt, scene),
     }
 }

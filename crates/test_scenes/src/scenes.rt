@@ -20,7 +20,7 @@ fn scene_of(alloc: Global, head: &str) -> Result<Scene, AllocError> {
 }
 
 /// Appends a line and its end.
-fn push_line(text: &mut String, line: &str) -> Result<(), AllocError> {
+pub(crate) fn push_line(text: &mut String, line: &str) -> Result<(), AllocError> {
     text.push_str(line)?;
     text.push_str("\n")
 }

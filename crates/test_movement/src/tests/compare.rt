@@ -1,116 +1,66 @@
-//! What the resolvers tell of a board, side by side.
-use super::laws::{keeps_laws, satisfies_equations};
-use super::scenes::{are_codes, board_in, line_of, orders_in};
-use super::told::told_of;
-use super::words::{fate_of, values_of, word_of};
-use dip_map::{Board, Map, STANDARD};
-use dip_orders::PlacedOrder;
-use std::alloc::Global;
+//! What is told of a movement each way, side by side.
+use super::boards::board_of;
+use super::plain::compare_plainly;
+use super::tallies::has_few_decisions;
+use super::told::outcome_of;
+use crate::{Passed, resolve_by_passes};
+use dip_decide::{Resolution, resolve};
+use dip_map::{Board, Map};
+use dip_names::Unit;
+use dip_orders::{Orders, PlacedOrder, each_unit_has_one_order};
+use std::alloc::{AllocError, Global};
 use std::process::Abort;
-use test_plain::{Field, Outcome, PlainFault, Step, is_explained, resolve_plainly};
+use test_plain::PlainFault;
 
-/// What the resolvers tell, each soundly and both the same.
-pub(crate) fn compare(
+/// The units that have these orders.
+fn units_of(alloc: Global, orders: &[PlacedOrder]) -> Result<Vec<Unit>, AllocError> {
+    let mut units = Vec::new(alloc);
+    for placed in orders {
+        units.push(placed.unit)?;
+    }
+    Ok(units)
+}
+
+/// Whether both ways come to the same.
+fn are_same(told: &Resolution, passed: &Passed) -> bool {
+    told.moves.as_slice() == passed.moves.as_slice()
+        && told.paths.as_slice() == passed.paths.as_slice()
+        && told.supports.as_slice() == passed.supports.as_slice()
+        && told.broken.as_slice() == passed.broken.as_slice()
+}
+
+/// What comes of these orders, which stand as they are on the board: with passes the same, in no more steps than three for each unit.
+fn compare_passed(
     rt: &impl Abort,
     alloc: Global,
     map: &Map,
     board: &Board,
     orders: &[PlacedOrder],
-) -> Result<Outcome, PlainFault> {
-    let plain = resolve_plainly(alloc, map, orders)?;
-    let told = told_of(rt, alloc, map, board, orders)?;
-    assert!(rt; told.has_values_of(&plain), "{told:?} {plain:?} {orders:?}");
-    assert!(rt; is_sound(alloc, map, orders, &plain)?, "{plain:?}");
-    assert!(rt; is_sound(alloc, map, orders, &told)?, "{told:?} {orders:?}");
-    Ok(told)
+) -> Result<(Resolution, Passed), AllocError> {
+    each_unit_has_one_order();
+    assert!(rt; board.is_of(map), "{orders:?}");
+    let standing = Orders::standing(alloc, board, orders)?;
+    assert!(rt; standing.as_slice() == orders, "{orders:?}");
+    let told = resolve(alloc, map, board, &standing)?;
+    let passed = resolve_by_passes(alloc, map, &standing)?;
+    assert!(rt; are_same(&told, &passed), "{told:?} {passed:?} {orders:?}");
+    let most = orders.len().saturating_mul(3);
+    assert!(rt; told.steps.len() <= most, "{told:?}");
+    Ok((told, passed))
 }
 
-/// Whether an outcome is explained by its steps, satisfies the equations and keeps the laws.
-fn is_sound(
+/// What comes of these orders: with passes the same, and where few decisions are made with the plain resolver.
+pub(crate) fn compare(
+    rt: &impl Abort,
     alloc: Global,
     map: &Map,
     orders: &[PlacedOrder],
-    outcome: &Outcome,
-) -> Result<bool, PlainFault> {
-    let field = Field { map, orders };
-    let is_explained = is_explained(alloc, map, orders, outcome)?;
-    let is_satisfied = satisfies_equations(alloc, field, outcome)?;
-    Ok(is_explained && is_satisfied && keeps_laws(field, outcome))
-}
-
-/// Checks the words of a paper's lines.
-fn check_words(rt: &impl Abort, field: Field, outcome: &Outcome, paper: &str) {
-    for (placed, text) in field.orders.iter().zip(paper.lines()) {
-        check_line(rt, field, outcome, placed, text);
+) -> Result<Passed, PlainFault> {
+    let board = board_of(alloc, map, units_of(alloc, orders)?)?;
+    let (told, passed) = compare_passed(rt, alloc, map, &board, orders)?;
+    if has_few_decisions(map, orders) {
+        let outcome = outcome_of(alloc, told)?;
+        compare_plainly(rt, alloc, map, orders, &outcome)?;
     }
-}
-
-/// Checks what a paper's line says of a unit.
-fn check_line(rt: &impl Abort, field: Field, outcome: &Outcome, placed: &PlacedOrder, text: &str) {
-    let line = line_of(rt, field.map, text);
-    let (word, fate) = line.outcome.split_once(", ").unwrap_or((line.outcome, ""));
-    let values = values_of(outcome);
-    assert_eq!(rt; word_of(field, values, placed), word, "at {text}");
-    assert_eq!(rt; fate_of(field, values, placed), fate, "at {text}");
-}
-
-/// Checks a paper, and gives what the resolvers told.
-fn check_paper(
-    rt: &impl Abort,
-    alloc: Global,
-    map: &Map,
-    paper: &str,
-) -> Result<Outcome, PlainFault> {
-    let board = board_in(rt, alloc, map, paper)?;
-    let orders = orders_in(rt, alloc, map, &board, paper)?;
-    let orders = orders.as_slice();
-    let outcome = compare(rt, alloc, map, &board, orders)?;
-    check_words(rt, Field { map, orders }, &outcome, paper);
-    Ok(outcome)
-}
-
-pub(crate) fn check_papers(
-    rt: &impl Abort,
-    alloc: Global,
-    papers: &[&str],
-) -> Result<(), PlainFault> {
-    let map = Map::from_toml(alloc, STANDARD).ok().expect(rt, "the map");
-    for paper in papers {
-        check_paper(rt, alloc, &map, paper)?;
-    }
-    Ok(())
-}
-
-/// Whether the steps hold one knot, of these codes, or none where there are no codes.
-fn has_knot(map: &Map, steps: &[Step], codes: &str) -> bool {
-    let mut count = 0u32;
-    for step in steps {
-        if let Step::Knot(paths) = step {
-            count = count.saturating_add(1);
-            if !are_codes(map, paths.as_slice(), codes) {
-                return false;
-            }
-        }
-    }
-    count == if codes.is_empty() { 0 } else { 1 }
-}
-
-pub(crate) fn check_knots(
-    rt: &impl Abort,
-    alloc: Global,
-    rows: &[(&str, &str)],
-) -> Result<(), PlainFault> {
-    let map = Map::from_toml(alloc, STANDARD).ok().expect(rt, "the map");
-    for (codes, paper) in rows {
-        let outcome = check_paper(rt, alloc, &map, paper)?;
-        assert!(rt;
-            has_knot(&map, outcome.steps.as_slice(), codes),
-            "at {paper}"
-        );
-        assert!(rt;
-            are_codes(&map, outcome.broken.as_slice(), codes),
-            "at {paper}"
-        );
-    }
-    Ok(())
+    Ok(passed)
 }

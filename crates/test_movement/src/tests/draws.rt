@@ -1,60 +1,103 @@
 //! Orders by chance, of units that stand close together and get in each other's way.
-use super::rings::{draw_ring, draw_siege};
-use super::steps::{draw_step, is_at_sea, is_coastal, placed_on, step_to};
+use super::boards::orders_in;
+use super::sites::{draw_power, draw_step, draw_unit, is_at_sea, is_coastal, is_near};
+use super::tallies::is_voyage;
 use dip_map::Map;
 use dip_names::{Kind, Place, Prov, Unit};
 use dip_orders::{Order, Other, PlacedOrder};
 use std::alloc::{AllocError, Global};
+use std::process::Abort;
 use test_dice::Dice;
-use test_plain::{Field, destination, origin};
 
-/// What boards are like.
-#[derive(Clone, Copy)]
-pub(crate) struct Recipe {
-    /// Where units may stand.
-    pub sites: &'static str,
-    /// How many are drawn.
-    pub units: u32,
-    /// How many boards in a hundred have three units that go round.
-    pub rings: u32,
-    /// How many have an army that attacks the support of the attack on its fleet.
-    pub sieges: u32,
-    /// How many armies on coasts in a hundred may go by convoy.
-    pub voyages: u32,
-}
+/// What other units are drawn around: units that go round; an army that attacks the support of the attack on its fleet, once the support
+/// of the attack on another one's; an army that changes places, or that goes by two fleets. The powers are drawn.
+const CORES: [&str; 13] = [
+    "italy A bur - mun\nitaly A mun - ruh\nitaly A ruh - bur",
+    "italy F ank - con\nitaly A con - smy\nitaly A smy - ank",
+    "italy A bud - gal\nitaly A gal - rum\nitaly A rum - ser\nitaly A ser - bud",
+    "italy F nth - hol\nitaly F hol - kie\nitaly F kie - hel\nitaly F hel - nth",
+    "italy A bre - lon\nitaly F eng C A bre - lon\nitaly F lon S F wal - eng\nitaly F wal - eng",
+    "italy A nwy - bel\nitaly F nth C A nwy - bel\nitaly F bel S F edi - nth\nitaly F edi - nth",
+    "italy A tun - nap\nitaly F ion C A tun - nap\nitaly F nap S F gre - ion\nitaly F gre - ion",
+    "italy A swe - ber\nitaly F bal C A swe - ber\nitaly F ber S F kie - bal\nitaly F kie - bal",
+    "italy A spa - tun\nitaly F wes C A spa - tun\nitaly F tun S F naf - wes\nitaly F naf - wes",
+    "italy A bre - lon\nitaly F eng C A bre - lon\nitaly F bel S F pic - eng\nitaly F pic - eng\nitaly A nwy - bel\nitaly F nth C A nwy - bel\nitaly F lon S F edi - nth\nitaly F edi - nth",
+    "italy A bel - hol VIA\nitaly F nth C A bel - hol\nitaly A hol - bel",
+    "italy A lon - spa\nitaly F eng C A lon - spa\nitaly F mao C A lon - spa\nitaly F bre - eng",
+    "italy A gre - apu\nitaly F aeg C A gre - apu\nitaly F ion C A gre - apu\nitaly F tun - ion",
+];
 
 fn is_taken(orders: &[PlacedOrder], prov: Prov) -> bool {
-    orders.iter().any(|placed| origin(placed) == prov)
+    orders.iter().any(|placed| placed.unit.place.prov == prov)
 }
 
-/// Adds a unit that holds, where none stands yet.
-fn add_unit(dice: &mut Dice, site: &Unit, orders: &mut Vec<PlacedOrder>) -> Result<(), AllocError> {
-    if !is_taken(orders.as_slice(), site.place.prov) {
-        orders.push(placed_on(dice, site, Order::Hold))?;
+/// Adds a unit and its order where none stands yet.
+fn add(orders: &mut Vec<PlacedOrder>, placed: &PlacedOrder) -> Result<(), AllocError> {
+    if !is_taken(orders.as_slice(), placed.unit.place.prov) {
+        orders.push(*placed)?;
     }
     Ok(())
 }
 
-/// At most that many units more.
+/// A unit of a core under some power, sometimes with no order yet.
+fn redrawn(dice: &mut Dice, placed: &PlacedOrder) -> PlacedOrder {
+    let power = draw_power(dice);
+    let unit = Unit {
+        power,
+        ..placed.unit
+    };
+    let order = if dice.happens(95) {
+        placed.order
+    } else {
+        Order::Hold
+    };
+    PlacedOrder { unit, order }
+}
+
+/// Adds the units of a core.
+fn add_core(
+    rt: &impl Abort,
+    alloc: Global,
+    dice: &mut Dice,
+    map: &Map,
+    orders: &mut Vec<PlacedOrder>,
+) -> Result<(), AllocError> {
+    let core = orders_in(rt, alloc, map, dice.pick(&CORES).unwrap_or(""))?;
+    for placed in &core {
+        let one = redrawn(dice, placed);
+        add(orders, &one)?;
+    }
+    Ok(())
+}
+
+/// A unit next to one of these.
+fn draw_neighbour(dice: &mut Dice, map: &Map, orders: &[PlacedOrder]) -> Option<Unit> {
+    let beside = dice.pick(orders)?;
+    let place = draw_step(dice, map, &beside.unit)?;
+    draw_unit(dice, map, place)
+}
+
+/// At most that many units more, which have no order yet.
 fn add_units(
     dice: &mut Dice,
-    sites: &[Unit],
+    map: &Map,
     most: u32,
     orders: &mut Vec<PlacedOrder>,
 ) -> Result<(), AllocError> {
     for _ in 0..most {
-        if let Some(site) = dice.pick(sites) {
-            add_unit(dice, &site, orders)?;
+        if let Some(unit) = draw_neighbour(dice, map, orders.as_slice()) {
+            let order = Order::Hold;
+            add(orders, &PlacedOrder { unit, order })?;
         }
     }
     Ok(())
 }
 
 /// A move, rather to where somebody stands.
-fn draw_walk(dice: &mut Dice, field: Field, unit: &Unit) -> Order {
+fn draw_walk(dice: &mut Dice, map: &Map, orders: &[PlacedOrder], unit: &Unit) -> Order {
     for _ in 0..5 {
-        if let Some(to) = draw_step(dice, field.map, unit) {
-            if is_taken(field.orders, to.prov) || dice.happens(15) {
+        if let Some(to) = draw_step(dice, map, unit) {
+            if is_taken(orders, to.prov) || dice.happens(20) {
                 return Order::Move { to, via: false };
             }
         }
@@ -63,15 +106,14 @@ fn draw_walk(dice: &mut Dice, field: Field, unit: &Unit) -> Order {
 }
 
 /// A move to a coast where somebody stands, by convoy if need be, or if the dice want it.
-fn draw_voyage(dice: &mut Dice, field: Field, unit: &Unit) -> Order {
-    let from = unit.place.prov;
+fn draw_voyage(dice: &mut Dice, map: &Map, orders: &[PlacedOrder], unit: &Unit) -> Order {
     for _ in 0..4 {
-        if let Some(other) = dice.pick(field.orders) {
-            let prov = origin(&other);
-            if is_coastal(field.map, prov) && prov != from {
+        if let Some(other) = dice.pick(orders) {
+            let prov = other.unit.place.prov;
+            if is_coastal(map, prov) && prov != unit.place.prov {
                 return Order::Move {
                     to: Place { prov, coast: 0 },
-                    via: field.map.is_army_next(from, prov) && dice.happens(60),
+                    via: dice.happens(60),
                 };
             }
         }
@@ -80,38 +122,43 @@ fn draw_voyage(dice: &mut Dice, field: Field, unit: &Unit) -> Order {
 }
 
 /// An order to stay or to move.
-fn draw_move(dice: &mut Dice, field: Field, voyages: u32, unit: &Unit) -> Order {
-    if unit.kind == Kind::Army && is_coastal(field.map, unit.place.prov) && dice.happens(voyages) {
-        return draw_voyage(dice, field, unit);
+fn draw_move(dice: &mut Dice, map: &Map, orders: &[PlacedOrder], unit: &Unit) -> Order {
+    if unit.kind == Kind::Army && is_coastal(map, unit.place.prov) && dice.happens(35) {
+        return draw_voyage(dice, map, orders, unit);
     }
-    let walks = if is_at_sea(field.map, unit) { 25 } else { 70 };
+    let walks = if is_at_sea(map, unit) { 25 } else { 60 };
     if dice.happens(walks) {
-        return draw_walk(dice, field, unit);
+        return draw_walk(dice, map, orders, unit);
     }
     Order::Hold
 }
 
 /// How a unit could help another one, if at all.
-fn help_for(field: Field, unit: &Unit, other: &PlacedOrder) -> Option<Order> {
+fn help_for(map: &Map, unit: &Unit, other: &PlacedOrder) -> Option<Order> {
     let at = Other {
         kind: other.unit.kind,
-        prov: origin(other),
+        prov: other.unit.place.prov,
     };
-    let is_sailor = is_at_sea(field.map, unit);
-    match destination(other) {
-        _ if origin(other) == unit.place.prov => None,
-        Some(to) if is_sailor && field.goes_by_convoy(other) => Some(Order::Convoy { at, to }),
-        Some(to) if step_to(field.map, unit, to).is_some() => Some(Order::SupportMove { at, to }),
-        _ if step_to(field.map, unit, at.prov).is_some() => Some(Order::SupportHold { at }),
+    if at.prov == unit.place.prov {
+        return None;
+    }
+    match other.order {
+        Order::Move { to, .. } if is_at_sea(map, unit) && is_voyage(map, other) => {
+            Some(Order::Convoy { at, to: to.prov })
+        }
+        Order::Move { to, .. } if is_near(map, unit, to.prov) => {
+            Some(Order::SupportMove { at, to: to.prov })
+        }
+        _ if is_near(map, unit, at.prov) => Some(Order::SupportHold { at }),
         _ => None,
     }
 }
 
 /// Some help for somebody, where the dice soon come upon one who can be helped.
-fn draw_help(dice: &mut Dice, field: Field, unit: &Unit) -> Order {
+fn draw_help(dice: &mut Dice, map: &Map, orders: &[PlacedOrder], unit: &Unit) -> Order {
     for _ in 0..8 {
-        if let Some(other) = dice.pick(field.orders) {
-            if let Some(order) = help_for(field, unit, &other) {
+        if let Some(other) = dice.pick(orders) {
+            if let Some(order) = help_for(map, unit, &other) {
                 return order;
             }
         }
@@ -119,90 +166,54 @@ fn draw_help(dice: &mut Dice, field: Field, unit: &Unit) -> Order {
     Order::Hold
 }
 
-/// Perhaps a ring or a siege, and some units that hold.
-fn draw_units(
-    alloc: Global,
-    dice: &mut Dice,
-    map: &Map,
-    recipe: Recipe,
-    sites: &[Unit],
-) -> Result<Vec<PlacedOrder>, AllocError> {
-    let mut orders = Vec::new(alloc);
-    if dice.happens(recipe.rings) {
-        draw_ring(dice, map, sites, &mut orders)?;
-    }
-    if dice.happens(recipe.sieges) {
-        draw_siege(dice, map, sites, &mut orders)?;
-    }
-    add_units(dice, sites, recipe.units, &mut orders)?;
-    Ok(orders)
-}
-
-/// The orders with moves for some of those who hold.
-fn with_moves(
-    alloc: Global,
-    dice: &mut Dice,
-    map: &Map,
-    voyages: u32,
-    orders: &[PlacedOrder],
-) -> Result<Vec<PlacedOrder>, AllocError> {
-    let field = Field { map, orders };
-    let mut moved = Vec::new(alloc);
-    for placed in field.orders {
-        let mut order = placed.order;
-        if order == Order::Hold {
-            order = draw_move(dice, field, voyages, &placed.unit);
+/// Draws moves for some of those who hold, then help from most of the others.
+pub(crate) fn draw_rest(dice: &mut Dice, map: &Map, orders: &mut Vec<PlacedOrder>) {
+    for index in 0..orders.len() {
+        if let Some(placed) = orders.get(index).copied() {
+            if placed.order == Order::Hold {
+                let order = draw_move(dice, map, orders.as_slice(), &placed.unit);
+                set(orders.as_mut_slice(), index, order);
+            }
         }
-        moved.push(PlacedOrder {
-            unit: placed.unit,
-            order,
-        })?;
     }
-    Ok(moved)
-}
-
-/// The orders with help from most of those who hold.
-fn with_help(
-    alloc: Global,
-    dice: &mut Dice,
-    map: &Map,
-    orders: &[PlacedOrder],
-) -> Result<Vec<PlacedOrder>, AllocError> {
-    let field = Field { map, orders };
-    let mut helped = Vec::new(alloc);
-    for placed in field.orders {
-        let mut order = placed.order;
-        if order == Order::Hold && dice.happens(90) {
-            order = draw_help(dice, field, &placed.unit);
+    for index in 0..orders.len() {
+        if let Some(placed) = orders.get(index).copied() {
+            if placed.order == Order::Hold && dice.happens(90) {
+                let order = draw_help(dice, map, orders.as_slice(), &placed.unit);
+                set(orders.as_mut_slice(), index, order);
+            }
         }
-        helped.push(PlacedOrder {
-            unit: placed.unit,
-            order,
-        })?;
     }
-    Ok(helped)
 }
 
-/// The orders with moves or help for most of those who hold.
-pub(crate) fn redraw(
-    alloc: Global,
-    dice: &mut Dice,
-    map: &Map,
-    voyages: u32,
-    orders: &[PlacedOrder],
-) -> Result<Vec<PlacedOrder>, AllocError> {
-    let moved = with_moves(alloc, dice, map, voyages, orders)?;
-    with_help(alloc, dice, map, moved.as_slice())
+fn set(orders: &mut [PlacedOrder], index: usize, order: Order) {
+    if let Some(placed) = orders.get_mut(index) {
+        placed.order = order;
+    }
+}
+
+/// What boards are like: how many in a hundred have a second core, and how often a unit more is tried at most.
+#[derive(Clone, Copy)]
+pub(crate) struct Recipe {
+    pub second: u32,
+    pub most: u32,
 }
 
 /// The orders of one board.
 pub(crate) fn draw_orders(
+    rt: &impl Abort,
     alloc: Global,
     dice: &mut Dice,
     map: &Map,
     recipe: Recipe,
-    sites: &[Unit],
 ) -> Result<Vec<PlacedOrder>, AllocError> {
-    let units = draw_units(alloc, dice, map, recipe, sites)?;
-    redraw(alloc, dice, map, recipe.voyages, units.as_slice())
+    let mut orders = Vec::new(alloc);
+    add_core(rt, alloc, dice, map, &mut orders)?;
+    if dice.happens(recipe.second) {
+        add_core(rt, alloc, dice, map, &mut orders)?;
+    }
+    let tries = dice.roll(recipe.most);
+    add_units(dice, map, tries, &mut orders)?;
+    draw_rest(dice, map, &mut orders);
+    Ok(orders)
 }

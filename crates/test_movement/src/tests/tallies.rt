@@ -1,34 +1,34 @@
 //! What comes up on boards made by chance.
-use super::compare::compare;
-use super::scenes::board_of;
-use dip_map::{Board, Map};
-use dip_orders::PlacedOrder;
-use std::alloc::{AllocError, Global};
-use std::process::Abort;
-use test_plain::{Field, Outcome, PlainFault, Step};
+use crate::Passed;
+use dip_decide::Step;
+use dip_map::Map;
+use dip_names::Kind;
+use dip_orders::{Order, PlacedOrder};
+use test_plain::Field;
 
-/// What came up on the boards.
+/// On how many boards something came up.
 #[derive(Clone, Copy, Default, Debug)]
 pub(crate) struct Tally {
-    /// Boards with a circle.
+    /// All boards.
+    pub boards: u32,
+    /// A circle.
     pub circles: u32,
-    /// Boards with a knot.
+    /// A knot.
     pub knots: u32,
-    /// Boards with a knot of more than one path.
+    /// A knot of more than one path.
     pub wide_knots: u32,
-    /// Boards where two units come head to head.
+    /// A path that is broken.
+    pub broken: u32,
+    /// A unit that goes by convoy and has a path.
+    pub convoys: u32,
+    /// A unit that goes by convoy and has no path, with no knot on the board.
+    pub lost: u32,
+    /// A support that is given.
+    pub given: u32,
+    /// A support that is cut, or matches nothing.
+    pub vain: u32,
+    /// Two units that come head to head.
     pub meetings: u32,
-}
-
-fn has_meeting(field: Field) -> bool {
-    field
-        .orders
-        .iter()
-        .any(|placed| field.opponent(placed).is_some())
-}
-
-fn one_if(holds: bool) -> u32 {
-    if holds { 1 } else { 0 }
 }
 
 fn is_circle(step: &Step) -> bool {
@@ -46,44 +46,92 @@ fn is_wide_knot(step: &Step) -> bool {
     }
 }
 
-impl Tally {
-    fn add(&mut self, field: Field, outcome: &Outcome) {
-        let steps = outcome.steps.as_slice();
-        self.circles = self
-            .circles
-            .saturating_add(one_if(steps.iter().any(is_circle)));
-        self.knots = self.knots.saturating_add(one_if(steps.iter().any(is_knot)));
-        self.wide_knots = self
-            .wide_knots
-            .saturating_add(one_if(steps.iter().any(is_wide_knot)));
-        self.meetings = self.meetings.saturating_add(one_if(has_meeting(field)));
+fn is_support(placed: &PlacedOrder) -> bool {
+    matches!(
+        placed.order,
+        Order::SupportHold { .. } | Order::SupportMove { .. }
+    )
+}
+
+/// Whether a unit goes by convoy: an army that says so, or that can't walk there.
+pub(crate) fn is_voyage(map: &Map, placed: &PlacedOrder) -> bool {
+    match placed.order {
+        Order::Move { to, via } => {
+            placed.unit.kind == Kind::Army
+                && (via || !map.is_army_next(placed.unit.place.prov, to.prov))
+        }
+        _ => false,
     }
 }
 
-/// The board on which the orders are given.
-fn board_for(
-    rt: &impl Abort,
-    alloc: Global,
-    map: &Map,
-    orders: &[PlacedOrder],
-) -> Result<Board, AllocError> {
-    let mut units = Vec::new(alloc);
+/// How many decisions an order makes.
+fn decisions_of(map: &Map, placed: &PlacedOrder) -> usize {
+    match placed.order {
+        Order::Move { .. } => if is_voyage(map, placed) { 2 } else { 1 },
+        Order::SupportHold { .. } | Order::SupportMove { .. } => 1,
+        _ => 0,
+    }
+}
+
+/// Whether there are so few decisions that the plain resolver tries all completions.
+pub(crate) fn has_few_decisions(map: &Map, orders: &[PlacedOrder]) -> bool {
+    let mut count = 0usize;
     for placed in orders {
-        units.push(placed.unit)?;
+        count = count.saturating_add(decisions_of(map, placed));
     }
-    board_of(rt, alloc, map, units)
+    count <= 10
 }
 
-/// Compares the resolvers over one board.
-pub(crate) fn compare_orders(
-    rt: &impl Abort,
-    alloc: Global,
-    map: &Map,
-    orders: &[PlacedOrder],
-    tally: &mut Tally,
-) -> Result<(), PlainFault> {
-    let board = board_for(rt, alloc, map, orders)?;
-    let outcome = compare(rt, alloc, map, &board, orders)?;
-    tally.add(Field { map, orders }, &outcome);
-    Ok(())
+/// Whether two units come head to head.
+fn has_meeting(field: Field) -> bool {
+    field
+        .orders
+        .iter()
+        .any(|placed| field.opponent(placed).is_some())
+}
+
+/// One more where it holds.
+fn add_if(count: &mut u32, holds: bool) {
+    if holds {
+        *count = count.saturating_add(1);
+    }
+}
+
+impl Tally {
+    /// Whether each thing came up on so many boards at least.
+    pub(crate) fn has(&self, least: &Tally) -> bool {
+        least.boards <= self.boards
+            && least.circles <= self.circles
+            && least.knots <= self.knots
+            && least.wide_knots <= self.wide_knots
+            && least.broken <= self.broken
+            && least.convoys <= self.convoys
+            && least.lost <= self.lost
+            && least.given <= self.given
+            && least.vain <= self.vain
+            && least.meetings <= self.meetings
+    }
+
+    /// Counts a board.
+    pub(crate) fn add(&mut self, map: &Map, orders: &[PlacedOrder], passed: &Passed) {
+        let steps = passed.steps.as_slice();
+        let voyages = orders
+            .iter()
+            .filter(|placed| is_voyage(map, placed))
+            .count();
+        let supports = orders.iter().filter(|placed| is_support(placed)).count();
+        add_if(&mut self.boards, true);
+        add_if(&mut self.meetings, has_meeting(Field { map, orders }));
+        add_if(&mut self.circles, steps.iter().any(is_circle));
+        add_if(&mut self.knots, steps.iter().any(is_knot));
+        add_if(&mut self.wide_knots, steps.iter().any(is_wide_knot));
+        add_if(&mut self.broken, !passed.broken.is_empty());
+        add_if(&mut self.convoys, !passed.paths.is_empty());
+        add_if(
+            &mut self.lost,
+            passed.broken.is_empty() && passed.paths.len() < voyages,
+        );
+        add_if(&mut self.given, !passed.supports.is_empty());
+        add_if(&mut self.vain, passed.supports.len() < supports);
+    }
 }

@@ -1,0 +1,183 @@
+//! Scenes at boards: what is asked, and what is told.
+ghost use Rattle.dip_map.specs.Boards.{IsOf};
+
+use crate::boards::board_in;
+use crate::phases::{push_decisions, push_knots, push_outcomes, push_paper};
+use crate::scenes::{exchanges_of, push_line};
+use crate::settings::{orders_in, push_orders, push_read, setting_text};
+use crate::texts::check_text;
+use dip_map::{Board, Dislodged, Map, STANDARD};
+use dip_names::Unit;
+use dip_orders::{Orders, PlacedOrder, allowance, print_unit, retreats};
+use std::alloc::{AllocError, Global};
+use test_tools::{Mismatch, letters_of, replies_of};
+
+/// Appends a dislodged unit at each place where it may go.
+fn push_refuges(
+    alloc: Global,
+    map: &Map,
+    board: &Board,
+    lost: &Dislodged,
+    out: &mut String,
+) -> Result<(), AllocError> {
+    let places = retreats(alloc, map, board, lost)?;
+    for place in places.as_slice() {
+        let there = Unit {
+            power: lost.unit.power,
+            kind: lost.unit.kind,
+            place: *place,
+        };
+        print_unit(map, &there, out)?;
+        out.push_str("\n")?;
+    }
+    Ok(())
+}
+
+/// Appends the dislodged units, each at each place where it may go.
+fn push_retreats(
+    alloc: Global,
+    map: &Map,
+    board: &Board,
+    out: &mut String,
+) -> Result<(), AllocError> {
+    for lost in board.dislodged() {
+        push_refuges(alloc, map, board, lost, out)?;
+    }
+    Ok(())
+}
+
+/// Appends the orders that stand for the units of a movement.
+fn push_standing(
+    alloc: Global,
+    map: &Map,
+    board: &Board,
+    orders: &[PlacedOrder],
+    out: &mut String,
+) -> Result<(), AllocError> {
+    let standing = Orders::standing(alloc, board, orders)?;
+    push_orders(map, standing.as_slice(), out)
+}
+
+/// Appends how many units each power may build, or, below zero, has to remove.
+fn push_allowances(map: &Map, board: &Board, out: &mut String) -> Result<(), AllocError>
+    requires of_map { IsOf map.now board.now }
+{
+    for power in map.each_power() {
+        let name = map.power_name(power);
+        let units = allowance(map, board, power);
+        write!(out, "{name} {units}\n")?;
+    }
+    Ok(())
+}
+
+/// Appends what is told when it is asked: the paper of the phase or the outcomes in it, how the movement is decided and its knots, the orders
+/// that stand, where the dislodged units may go, the allowances; and of all else, the answer to a line of a power.
+fn push_answer(
+    alloc: Global,
+    map: &Map,
+    board: &Board,
+    orders: &[PlacedOrder],
+    asked: &str,
+    out: &mut String,
+) -> Result<(), AllocError>
+    requires of_map { IsOf map.now board.now }
+{
+    match asked {
+        "paper" => push_paper(alloc, map, board, orders, out),
+        "outcomes" => push_outcomes(alloc, map, board, orders, out),
+        "decisions" => push_decisions(alloc, map, board, orders, out),
+        "knots" => push_knots(alloc, map, board, orders, out),
+        "orders" => push_standing(alloc, map, board, orders, out),
+        "retreats" => push_retreats(alloc, map, board, out),
+        "allowances" => push_allowances(map, board, out),
+        line => push_read(alloc, map, board, orders, line, out),
+    }
+}
+
+/// What is told in an exchange. A line that asks for nothing is told as it stands, so that none is passed over.
+fn told_in(
+    alloc: Global,
+    map: &Map,
+    board: &Board,
+    orders: &[PlacedOrder],
+    exchange: &str,
+) -> Result<String, AllocError>
+    requires of_map { IsOf map.now board.now }
+{
+    let lines = letters_of(alloc, exchange)?;
+    let mut told = String::new(alloc);
+    for line in lines.as_str().lines() {
+        match line.strip_prefix("? ") {
+            Some(asked) => push_answer(alloc, map, board, orders, asked, &mut told)?,
+            None => push_line(&mut told, line)?,
+        }
+    }
+    Ok(told)
+}
+
+/// What is told in each exchange is what is wanted.
+fn check_exchanges(
+    alloc: Global,
+    map: &Map,
+    board: &Board,
+    orders: &[PlacedOrder],
+    lines: &str,
+) -> Result<(), Mismatch>
+    requires of_map { IsOf map.now board.now }
+{
+    let exchanges = exchanges_of(alloc, lines)?;
+    for exchange in &exchanges {
+        let wanted = replies_of(alloc, exchange.as_str())?;
+        let told = told_in(alloc, map, board, orders, exchange.as_str())?;
+        check_text(alloc, told.as_bytes(), wanted)?;
+    }
+    Ok(())
+}
+
+/// Whether a line of a scene asks for something, or is what is told.
+fn is_of_exchange(line: &str) -> bool {
+    line.starts_with("? ") || line.starts_with("\\ ? ") || line.starts_with("< ")
+}
+
+/// The lines of a scene before its exchanges, which are the board and the orders that were given; and its exchanges.
+fn parts_of(alloc: Global, lines: &str) -> Result<(String, String), AllocError> {
+    let mut setting = String::new(alloc);
+    let mut exchanges = String::new(alloc);
+    for line in lines.lines() {
+        if exchanges.is_empty() && !is_of_exchange(line) {
+            push_line(&mut setting, line)?;
+        } else {
+            push_line(&mut exchanges, line)?;
+        }
+    }
+    Ok((setting, exchanges))
+}
+
+/// Plays a scene at this board.
+fn check_at(
+    alloc: Global,
+    map: &Map,
+    board: &Board,
+    setting: String,
+    exchanges: &str,
+) -> Result<(), Mismatch> {
+    if !board.is_of(map) {
+        return check_text(alloc, b"no board of the map\n", setting);
+    }
+    let orders = orders_in(alloc, map, board, setting.as_str())?;
+    let text = setting_text(alloc, map, board, orders.as_slice())?;
+    check_text(alloc, text.as_bytes(), setting)?;
+    check_exchanges(alloc, map, board, orders.as_slice(), exchanges)
+}
+
+fn check_over(alloc: Global, map: &Map, lines: &str) -> Result<(), Mismatch> {
+    let (setting, exchanges) = parts_of(alloc, lines)?;
+    let board = board_in(alloc, map, setting.as_str())?;
+    check_at(alloc, map, &board, setting, exchanges.as_str())
+}
+
+/// Plays a scene at a board of the standard map: its board and its orders are printed as they stand there, and what is asked is told.
+pub(crate) fn check_board(alloc: Global, lines: &str) -> Result<(), Mismatch> {
+    let map = Map::from_toml(alloc, STANDARD)?;
+    check_over(alloc, &map, lines)
+}

@@ -1,4 +1,0 @@
-//! Phases, by whole games.
-mod compare;
-mod draws;
-mod games;

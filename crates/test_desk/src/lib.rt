@@ -1,4 +1,4 @@
-//! Tests of the desk: letters and their replies, what each effect leaves, and a keeper that fails.
+//! Tests of the desk that no scene of letters shows.
 #![tactic(auto)]
 
 #[cfg(test)]

@@ -1,19 +1,12 @@
-//! Letters to a desk, and what its keeper keeps.
+//! What no letter shows: what is shared, a game with fewer seats than powers, a paper with another game's name, and letters in a run.
 ghost use Rattle.dip_desk_machine.specs.Mail.{IsMail, mail};
 
 use dip_letters::Letter;
 use std::process::Abort;
 use test_tools::next_taken;
 
-mod applying;
-mod boxes;
-mod failing;
-mod letters;
-mod limits;
-mod quotas;
-mod reading;
-mod stopped;
-mod thousand_years;
+mod changes;
+mod shared;
 
 /// The letter that this text is.
 pub(crate) fn letter<'a>(rt: &impl Abort, text: &'a str) -> Letter<'a>

@@ -1,9 +1,4 @@
-//! Requests and answers.
-mod answers;
-mod cut_short;
+//! What no scene of requests shows: readers and writers that fail, and a socket.
 mod faults;
-mod heads;
-mod hostile;
 mod loopback;
-mod states;
 mod wires;

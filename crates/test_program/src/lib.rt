@@ -1,4 +1,4 @@
-//! Tests of the program's parts: its words, the map's file, whole inputs, and what is told of a failure.
+//! Tests of the program's parts: its words, the map's file, whole inputs, letters by chance, and what is told of a failure.
 #![tactic(auto)]
 
 #[cfg(test)]

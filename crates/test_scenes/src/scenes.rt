@@ -50,6 +50,33 @@ pub(crate) fn scenes_of(alloc: Global, transcript: &str) -> Result<Vec<Scene>, A
     Ok(scenes)
 }
 
+/// The first and the last of the numbers for which an exchange stands, and its lines behind those.
+fn numbers_of(exchange: &str) -> Option<(u32, u32, &str)> {
+    let (head, lines) = exchange.strip_prefix("@ ")?.split_once("\n")?;
+    let (first, last) = head.split_once(" ")?;
+    Some((first.parse().ok()?, last.parse().ok()?, lines))
+}
+
+/// Appends an exchange. Behind a line `@ 1 9` it stands once for each of these numbers, one behind the other, with the number for each `#`.
+fn push_exchange(
+    alloc: Global,
+    exchanges: &mut Vec<String>,
+    exchange: String,
+) -> Result<(), AllocError> {
+    let Some((first, last, lines)) = numbers_of(exchange.as_str()) else {
+        exchanges.push(exchange)?;
+        return Ok(());
+    };
+    let mut repeated = String::new(alloc);
+    for number in first..=last {
+        let digits = number.to_string(alloc)?;
+        let text = lines.replace(alloc, "#", digits.as_str())?;
+        repeated.push_str(text.as_str())?;
+    }
+    exchanges.push(repeated)?;
+    Ok(())
+}
+
 /// The exchanges of a scene: each is what is sent, and behind it the lines after `< ` that are to be told.
 pub(crate) fn exchanges_of(alloc: Global, lines: &str) -> Result<Vec<String>, AllocError> {
     let mut exchanges = Vec::new(alloc);
@@ -58,12 +85,12 @@ pub(crate) fn exchanges_of(alloc: Global, lines: &str) -> Result<Vec<String>, Al
     for line in lines.lines() {
         let is_told = line.starts_with("< ");
         if was_told && !is_told {
-            exchanges.push(exchange)?;
+            push_exchange(alloc, &mut exchanges, exchange)?;
             exchange = String::new(alloc);
         }
         push_line(&mut exchange, line)?;
         was_told = is_told;
     }
-    exchanges.push(exchange)?;
+    push_exchange(alloc, &mut exchanges, exchange)?;
     Ok(exchanges)
 }

@@ -12,3 +12,16 @@ pub(crate) fn check_text(alloc: Global, told: &[u8], wanted: String) -> Result<(
         wanted,
     })
 }
+
+/// Each of these lines stands in what is told.
+pub(crate) fn check_parts(alloc: Global, told: &str, parts: &str) -> Result<(), Mismatch> {
+    for part in parts.lines() {
+        if !told.contains(part) {
+            return Err(Mismatch::Text {
+                told: String::from_str(alloc, told)?,
+                wanted: String::from_str(alloc, part)?,
+            });
+        }
+    }
+    Ok(())
+}

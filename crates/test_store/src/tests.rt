@@ -1,5 +1,7 @@
-//! Desks over stores in memory.
-mod archives;
+//! Stores in memory: how they are founded, opened and refused, their rows, and what is read and written of these.
+mod boards;
+mod columns;
+mod founding;
 mod opening;
-mod papers;
 mod rows;
+mod widths;

@@ -38,11 +38,28 @@ fn escaped(letter: char) -> char {
     }
 }
 
-/// Appends a text in which `\n`, `\r` and `\t` stand for LF, CR and TAB, and `\\` for a backslash.
-fn push_escaped(text: &str, to: &mut String) -> Result<(), AllocError> {
+/// The number of a hexadecimal digit.
+fn digit_of(letter: char) -> u32 {
+    letter.to_digit(16).unwrap_or(0)
+}
+
+/// Appends a text in which `\n`, `\r` and `\t` stand for LF, CR and TAB, `\x7f` for the letter of that number, and `\\` for a backslash.
+pub fn push_escaped(text: &str, to: &mut String) -> Result<(), AllocError> {
     let mut is_behind = false;
+    let mut digits_left = 0u32;
+    let mut number = 0u32;
     for letter in text.chars() {
-        if is_behind {
+        if digits_left > 0 {
+            digits_left -= 1;
+            number = number.wrapping_mul(16).wrapping_add(digit_of(letter));
+            if digits_left == 0 {
+                to.push(char::from_u32(number).unwrap_or('?'))?;
+            }
+        } else if is_behind && letter == 'x' {
+            is_behind = false;
+            digits_left = 2;
+            number = 0;
+        } else if is_behind {
             to.push(escaped(letter))?;
             is_behind = false;
         } else if letter == '\\' {
@@ -54,10 +71,19 @@ fn push_escaped(text: &str, to: &mut String) -> Result<(), AllocError> {
     Ok(())
 }
 
-/// Appends a letter's line of an exchange: there `SEATS` stands for a CREATE without its last seat, `= england 3` for the first lines of a
-/// letter of England with the number 3, and `= england 3 secret` for those under that secret. Behind `\ ` is a text that is no whole line,
-/// with its line ends and other such letters as `\n`, `\r` and `\t`.
-pub(crate) fn push_line(line: &str, letters: &mut String) -> Result<(), AllocError> {
+/// How often a line stands, and the line: `* 80 > x` is eighty lines `> x`.
+fn repeated(line: &str) -> (u32, &str) {
+    if let Some(text) = line.strip_prefix("* ")
+        && let Some((digits, rest)) = text.split_once(" ")
+        && let Ok(count) = digits.parse::<u32>()
+    {
+        return (count, rest);
+    }
+    (1, line)
+}
+
+/// Appends a letter's line once.
+fn push_one_line(line: &str, letters: &mut String) -> Result<(), AllocError> {
     if line == "SEATS" {
         letters.push_str(SIX_SEATS)
     } else if let Some(author) = line.strip_prefix("= ") {
@@ -70,9 +96,21 @@ pub(crate) fn push_line(line: &str, letters: &mut String) -> Result<(), AllocErr
     }
 }
 
+/// Appends a letter's line of an exchange: there `SEATS` stands for a CREATE without its last seat, `= england 3` for the first lines of a
+/// letter of England with the number 3, and `= england 3 secret` for those under that secret. Behind `\ ` is a text that is no whole line,
+/// with its line ends and other such letters as `\n`, `\r`, `\t` and `\x7f`. What stands behind `* 80 ` is there eighty times.
+pub(crate) fn push_line(line: &str, letters: &mut String) -> Result<(), AllocError> {
+    let (count, line) = repeated(line);
+    for _ in 0..count {
+        push_one_line(line, letters)?;
+    }
+    Ok(())
+}
+
 /// Appends a line of what is told: there `SHOWN` stands for what a seat is shown of the opening that hasn't ordered, `BOARD` for the board
-/// lines of the opening, and `HOLDS` for the lines of a movement in which nobody has ordered. What stands behind `\ ` is as it is sent.
-fn push_reply(line: &str, replies: &mut String) -> Result<(), AllocError> {
+/// lines of the opening, and `HOLDS` for the lines of a movement in which nobody has ordered. What stands behind `\ ` and `* 80 ` is as it is
+/// sent.
+fn push_one_reply(line: &str, replies: &mut String) -> Result<(), AllocError> {
     if let Some(text) = line.strip_prefix("\\ ") {
         return push_escaped(text, replies);
     }
@@ -89,6 +127,15 @@ fn push_reply(line: &str, replies: &mut String) -> Result<(), AllocError> {
             replies.push_str("\n")
         }
     }
+}
+
+/// Appends a line of what is told, as often as it stands.
+fn push_reply(line: &str, replies: &mut String) -> Result<(), AllocError> {
+    let (count, line) = repeated(line);
+    for _ in 0..count {
+        push_one_reply(line, replies)?;
+    }
+    Ok(())
 }
 
 /// The letters of an exchange: its lines that aren't told.

@@ -1,8 +1,8 @@
 //! One client over a socket: what it reads is what is written in memory, however much it sends, and a client that is too slow gets nothing.
-use crate::tests::wires::{ask, ordered, post_of, served, standard};
+use crate::tests::wires::{ask, ordered, post_of, served};
 use dip_desk::MemoryKeeper;
 use dip_http::{HttpFault, MOST_SECONDS, serve_one};
-use dip_map::Map;
+use dip_map::{Map, STANDARD};
 use std::cell::Cell;
 use std::io;
 use std::io::{ErrorKind, Read, Write};
@@ -52,7 +52,7 @@ fn exchange<C: Clock>(
 #[test]
 fn answers_over_a_socket(rt: HostRuntime) -> Result<(), Fail> {
     let alloc = rt.alloc();
-    let map = standard(alloc)?;
+    let map = Map::from_toml(alloc, STANDARD)?;
     let mut keeper = ordered(alloc, &map)?;
     let request = ask(alloc, "GET", "/games/g1")?;
     let wanted = served(alloc, &mut keeper, &map, request.as_bytes())?;
@@ -67,7 +67,7 @@ const TOO_LARGE: &[u8] =
 #[test]
 fn an_answer_is_not_lost_to_bytes_that_nobody_reads(rt: HostRuntime) -> Result<(), Fail> {
     let alloc = rt.alloc();
-    let map = standard(alloc)?;
+    let map = Map::from_toml(alloc, STANDARD)?;
     let mut keeper = ordered(alloc, &map)?;
     let body = "x".repeat(alloc, 60_000)?;
     let request = post_of(alloc, "60000", body.as_str())?;
@@ -79,7 +79,7 @@ fn an_answer_is_not_lost_to_bytes_that_nobody_reads(rt: HostRuntime) -> Result<(
 #[test]
 fn a_client_that_is_too_slow_gets_nothing(rt: HostRuntime) -> Result<(), Fail> {
     let alloc = rt.alloc();
-    let map = standard(alloc)?;
+    let map = Map::from_toml(alloc, STANDARD)?;
     let mut keeper = ordered(alloc, &map)?;
     let request = ask(alloc, "GET", "/games/g1")?;
     let late = Late {

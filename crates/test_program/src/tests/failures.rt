@@ -1,6 +1,6 @@
 //! What the program tells whoever started it.
 use dip_desk_state::KeepFault;
-use dip_judge_program::{Failure, UsageFault, read_args};
+use dip_judge_program::{Failure, UsageFault};
 use dip_judge_runs::{FileFault, NoMap, ReadFault, RunFault};
 use dip_names::MapFault;
 use dip_store::{PaperFault, StoreFault};
@@ -96,36 +96,6 @@ fn tells_words_that_ask_for_nothing(rt: HostRuntime) -> Result<(), Fail> {
     Ok(())
 }
 
-#[test]
-fn tells_usage_as_clap_has_it(rt: HostRuntime) -> Result<(), Fail> {
-    let alloc = rt.alloc();
-    let Err(fault) = read_args(alloc, &["dip_judge", "letters", "--game", "g1"]) else {
-        return Err(Fail::from("taken"));
-    };
-    let failure = Failure::from(fault);
-    assert_eq!(rt; failure.status(), 2);
-    let printed = failure.to_string(alloc)?;
-    assert!(rt; printed.starts_with("error: unexpected argument '--game' found\n"));
-    assert!(rt; printed.contains("Usage: dip_judge letters"));
-    Ok(())
-}
-
-#[test]
-fn tells_help_as_clap_has_it(rt: HostRuntime) -> Result<(), Fail> {
-    let alloc = rt.alloc();
-    let Err(fault) = read_args(alloc, &["dip_judge", "letters", "--help"]) else {
-        return Err(Fail::from("taken"));
-    };
-    let failure = Failure::from(fault);
-    assert_eq!(rt; failure.status(), 2);
-    let printed = failure.to_string(alloc)?;
-    assert!(rt; printed.contains("Usage: dip_judge letters [OPTIONS]\n"));
-    assert!(rt; printed.contains("--store <FILE>"));
-    assert!(rt; printed.contains("--master <SECRET>"));
-    assert!(rt; printed.contains("--map <FILE>"));
-    Ok(())
-}
-
 const STORES: &[(StoreFault, &str)] = &[
     (StoreFault::Memory, "dip_judge: S1\n"),
     (StoreFault::Disk, "dip_judge: S2\n"),
@@ -179,42 +149,5 @@ fn tells_why_there_are_no_papers(rt: HostRuntime) -> Result<(), Fail> {
         assert_told(&rt, alloc, &Failure::Papers(fault), status, text)?;
     }
     assert_told(&rt, alloc, &Failure::NoGame, 4, "dip_judge: no such game\n")?;
-    Ok(())
-}
-
-/// A command, and its options.
-const OPTIONS: &[(&str, &[&str])] = &[
-    (
-        "init",
-        &["--store <FILE>", "--master <SECRET>", "--map <FILE>"],
-    ),
-    (
-        "serve",
-        &[
-            "--store <FILE>",
-            "--port <PORT>",
-            "--count <NUMBER>",
-            "--map <FILE>",
-        ],
-    ),
-    (
-        "report",
-        &["--store <FILE>", "--game <GAME>", "--map <FILE>"],
-    ),
-];
-
-/// The help of a command names each of its options.
-#[test]
-fn tells_help_for_each_command(rt: HostRuntime) -> Result<(), Fail> {
-    let alloc = rt.alloc();
-    for &(command, options) in OPTIONS {
-        let Err(fault) = read_args(alloc, &["dip_judge", command, "--help"]) else {
-            return Err(Fail::from("taken"));
-        };
-        let printed = Failure::from(fault).to_string(alloc)?;
-        for option in options {
-            assert!(rt; printed.contains(*option));
-        }
-    }
     Ok(())
 }

@@ -6,22 +6,7 @@ use std::io::Read;
 use std::rt::Files;
 use std::test::Fail;
 use std::{fs, io};
-
-/// A reader of some bytes, which fails behind them.
-#[derive(Drop)]
-struct Broken<'a>(&'a [u8]);
-
-impl Read for Broken<'_> {
-    fn read(&mut self, buf: &mut [u8]) -> io::Result<usize> {
-        let count = buf.len().min(self.0.len());
-        if count == 0 {
-            return Err(io::ErrorKind::Other.into());
-        }
-        buf[..count].copy_from_slice(&self.0[..count]);
-        self.0 = &self.0[count..];
-        Ok(count)
-    }
-}
+use test_tools::Script;
 
 #[test]
 fn gives_the_text_that_is_there(rt: HostRuntime) -> Result<(), Fail> {
@@ -58,11 +43,20 @@ fn refuses_what_is_no_text(rt: HostRuntime) {
     }
 }
 
+/// A reader that fails behind these bytes.
+fn broken(bytes: &[u8]) -> Script<'_> {
+    Script {
+        bytes,
+        step: 100,
+        fails: true,
+    }
+}
+
 #[test]
 fn refuses_what_cant_be_read(rt: HostRuntime) {
     let alloc = rt.alloc();
     for text in ["", "name"] {
-        let read = read_text(alloc, &mut Broken(text.as_bytes()));
+        let read = read_text(alloc, &mut broken(text.as_bytes()));
         assert!(rt; matches!(&read, Err(FileFault::Unread(ReadFault::Read))));
     }
 }
@@ -75,18 +69,19 @@ fn fault_of<R: Files>(rt: &R, alloc: Global, path: &str) -> Option<FileFault> {
     }
 }
 
+/// Files that can't be read, and why.
+const UNREAD: &[(&str, ReadFault)] = &[
+    ("", ReadFault::Read),
+    ("no/such/file", ReadFault::Read),
+    ("a\u{0}b", ReadFault::Read),
+    ("/", ReadFault::Read),
+    ("/dev/zero", ReadFault::TooLong),
+];
+
 #[test]
 fn tries_the_file_that_is_named(rt: HostRuntime) {
-    let alloc = rt.alloc();
-    for (path, fault) in [
-        ("", ReadFault::Read),
-        ("no/such/file", ReadFault::Read),
-        ("a\u{0}b", ReadFault::Read),
-        ("/", ReadFault::Read),
-        ("/dev/zero", ReadFault::TooLong),
-    ] {
-        let expected = Some(FileFault::Unread(fault));
-        assert!(rt; fault_of(&rt, alloc, path) == expected);
+    for &(path, fault) in UNREAD {
+        assert!(rt; fault_of(&rt, rt.alloc(), path) == Some(FileFault::Unread(fault)));
     }
 }
 

@@ -5,9 +5,10 @@ use dip_letters::digest;
 use dip_map::{Map, STANDARD};
 use std::alloc::Global;
 use std::io;
-use std::io::{Read, Write};
+use std::io::Read;
 use std::process::Abort;
 use std::test::Fail;
+use test_tools::{Page, Script};
 
 const CREATE: &str =
     "LETTER\nGAME g1\nFROM master\nSECRET master-key\nNUMBER 1\nCREATE DUE 100 PERIOD 100 GREY YES\nSEAT austria aaaaaaaa\nSEAT england eeeeeeee\nSEAT france ffffffff\nSEAT germany gggggggg\nSEAT italy iiiiiiii\nSEAT russia rrrrrrrr\nSEAT turkey tttttttt\nEND\n";
@@ -18,34 +19,6 @@ const HOLD: &str =
     "LETTER\nGAME g1\nFROM england\nSECRET eeeeeeee\nNUMBER 1\nORDERS\nf  LON h\nEND\n";
 
 const HELD: &str = "REPLY g1 england 1\nOK F lon H\nEND\n";
-
-const MALFORMED: &str = "REPLY nobody 0\nL1 malformed letter\nEND\n";
-
-const TOO_LONG: &str = "REPLY nobody 0\nL5 letter over 16384 bytes\nEND\n";
-
-/// A reader of some bytes, so many at a call, which fails or ends behind them.
-#[derive(Drop)]
-struct Script<'a> {
-    bytes: &'a [u8],
-    step: usize,
-    fails: bool,
-}
-
-impl Read for Script<'_> {
-    fn read(&mut self, buf: &mut [u8]) -> io::Result<usize> {
-        let count = buf.len().min(self.step).min(self.bytes.len());
-        if count == 0 {
-            return if self.fails {
-                Err(io::ErrorKind::Other.into())
-            } else {
-                Ok(0)
-            };
-        }
-        buf[..count].copy_from_slice(&self.bytes[..count]);
-        self.bytes = &self.bytes[count..];
-        Ok(count)
-    }
-}
 
 /// A reader of so many line ends.
 #[derive(Drop)]
@@ -60,30 +33,6 @@ impl Read for LineEnds {
     }
 }
 
-/// A writer of at most so many bytes at a call, which fails once it is full.
-#[derive(Drop)]
-struct Page {
-    bytes: Vec<u8>,
-    step: usize,
-    most: usize,
-}
-
-impl Write for Page {
-    fn write(&mut self, buf: &[u8]) -> io::Result<usize> {
-        let room = self.most.saturating_sub(self.bytes.len());
-        let count = buf.len().min(self.step).min(room);
-        if count == 0 && !buf.is_empty() {
-            return Err(io::ErrorKind::Other.into());
-        }
-        self.bytes.extend_from_slice(&buf[..count])?;
-        Ok(count)
-    }
-
-    fn flush(&mut self) -> io::Result<()> {
-        Ok(())
-    }
-}
-
 /// Runs over a reader, from a desk with no game, and gives what was written too.
 fn run_on<R: Read>(alloc: Global, reader: &mut R, map: &Map) -> (Result<(), RunFault>, Vec<u8>) {
     let mut keeper = MemoryKeeper::new(alloc, digest("desk", "master", "master-key"));
@@ -92,58 +41,11 @@ fn run_on<R: Read>(alloc: Global, reader: &mut R, map: &Map) -> (Result<(), RunF
     (outcome, output)
 }
 
-/// What is written for an input that is answered whole.
-fn replies_to(alloc: Global, map: &Map, input: &str) -> Result<Vec<u8>, Fail> {
-    let (outcome, output) = run_on(alloc, &mut input.as_bytes(), map);
-    match outcome {
-        Ok(()) => Ok(output),
-        Err(_) => Err(Fail::from("the run ended early")),
-    }
-}
-
 fn standard(alloc: Global) -> Result<Map, Fail> {
     match Map::from_toml(alloc, STANDARD) {
         Ok(map) => Ok(map),
         Err(_) => Err(Fail::from("no standard map")),
     }
-}
-
-/// Asserts that these replies are written for this input, each given in parts.
-fn assert_answers(
-    rt: &impl Abort,
-    alloc: Global,
-    map: &Map,
-    input: &[&str],
-    replies: &[&str],
-) -> Result<(), Fail> {
-    let input = input.concat(alloc)?;
-    let replies = replies.concat(alloc)?;
-    let output = replies_to(alloc, map, input.as_str())?;
-    assert!(rt; output.as_slice() == replies.as_bytes());
-    Ok(())
-}
-
-/// Asserts that this is the reply to a letter of that size, and that the next one is answered.
-fn assert_bound(
-    rt: &impl Abort,
-    alloc: Global,
-    map: &Map,
-    size: usize,
-    reply: &str,
-) -> Result<(), Fail> {
-    let filling = "x".repeat(alloc, size.saturating_sub(12))?;
-    let letter = ["LETTER\n", filling.as_str(), "\nEND\n"].concat(alloc)?;
-    assert!(rt; letter.len() == size);
-    let input = [CREATE, letter.as_str(), HOLD];
-    assert_answers(rt, alloc, map, &input, &[CREATED, reply, HELD])
-}
-
-#[test]
-fn bounds_a_letter(rt: HostRuntime) -> Result<(), Fail> {
-    let alloc = rt.alloc();
-    let map = standard(alloc)?;
-    assert_bound(&rt, alloc, &map, 16_384, MALFORMED)?;
-    assert_bound(&rt, alloc, &map, 16_385, TOO_LONG)
 }
 
 /// Asserts that this is written for an input that is read and answered so many bytes at a call.

@@ -2,9 +2,8 @@
 use dip_desk::MemoryKeeper;
 use dip_judge_runs::{RunFault, run_file};
 use dip_letters::digest;
-use dip_map::{Map, STANDARD};
+use dip_map::Map;
 use std::alloc::{AllocError, Global};
-use std::process::Abort;
 use std::test::Fail;
 
 /// All that is written for an input, from an empty desk on.
@@ -27,22 +26,9 @@ pub(crate) fn answers(alloc: Global, map: &Map, input: &str) -> Result<String, F
     }
 }
 
-/// All that is written for an input over the standard map.
-pub(crate) fn standard_answers(alloc: Global, input: &str) -> Result<String, Fail> {
-    let map = Map::from_toml(alloc, STANDARD)?;
-    answers(alloc, &map, input)
-}
-
 /// How many lines of a text are this one.
 pub(crate) fn count_of(text: &str, wanted: &str) -> usize {
     text.lines().filter(|line| *line == wanted).count()
-}
-
-/// Each of these lines stands so many times in a text.
-pub(crate) fn assert_lines(rt: &impl Abort, text: &str, lines: &[(&str, usize)]) {
-    for &(line, count) in lines {
-        assert!(rt; count_of(text, line) == count);
-    }
 }
 
 /// How many lines of a text begin so.

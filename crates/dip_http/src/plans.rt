@@ -67,7 +67,7 @@ fn param<'b>(params: &Params<'_, 'b>, name: &str) -> Option<&'b str>
 
 /// This plan, where the method may have it.
 fn get_plan<'b>(method: &[u8], plan: Plan<'b>) -> Plan<'b>
-    ensures { plan_view result ≡ only_get method.now (plan_view plan) }
+    ensures { plan_view result ≡ only_get method.now (plan_view plan.entry) }
 {
     if is_get(method) {
         plan

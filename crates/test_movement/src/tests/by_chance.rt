@@ -70,13 +70,13 @@ const LEAST_OF_FEW: &Tally = &Tally {
     boards: 2600,
     circles: 105,
     knots: 30,
-    wide_knots: 5,
+    wide_knots: 1,
     broken: 30,
     convoys: 100,
-    lost: 100,
+    lost: 50,
     given: 100,
     vain: 100,
-    meetings: 250,
+    meetings: 20,
 };
 
 #[test]
@@ -103,7 +103,7 @@ fn boards_of_many_units(rt: HostRuntime) -> Result<(), Fail> {
 
 #[test]
 fn boards_of_few_decisions(rt: HostRuntime) -> Result<(), Fail> {
-    let recipe = Recipe { second: 5, most: 6 };
+    let recipe = Recipe { second: 0, most: 5 };
     let tallies = compare_boards(&rt, rt.alloc(), 1903, 3000, recipe)?;
     assert!(rt; tallies.few.has(LEAST_OF_FEW), "{tallies:?}");
     Ok(())

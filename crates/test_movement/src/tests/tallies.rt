@@ -79,7 +79,7 @@ pub(crate) fn has_few_decisions(map: &Map, orders: &[PlacedOrder]) -> bool {
     for placed in orders {
         count = count.saturating_add(decisions_of(map, placed));
     }
-    count <= 10
+    count <= 8
 }
 
 /// Whether two units come head to head.

@@ -62,12 +62,12 @@ const LEAST: &Tally = &Tally {
     lost: 250,
     given: 550,
     vain: 400,
-    meetings: 100,
+    meetings: 20,
 };
 
 /// On how many boards of few decisions.
 const LEAST_OF_FEW: &Tally = &Tally {
-    boards: 2600,
+    boards: 2000,
     circles: 105,
     knots: 30,
     wide_knots: 1,
@@ -76,13 +76,14 @@ const LEAST_OF_FEW: &Tally = &Tally {
     lost: 50,
     given: 100,
     vain: 100,
-    meetings: 20,
+    meetings: 250,
 };
 
 #[test]
 fn boards_of_few_units(rt: HostRuntime) -> Result<(), Fail> {
     let recipe = Recipe {
         second: 50,
+        meeting: 0,
         most: 10,
     };
     let tallies = compare_boards(&rt, rt.alloc(), 1901, 1000, recipe)?;
@@ -94,6 +95,7 @@ fn boards_of_few_units(rt: HostRuntime) -> Result<(), Fail> {
 fn boards_of_many_units(rt: HostRuntime) -> Result<(), Fail> {
     let recipe = Recipe {
         second: 50,
+        meeting: 0,
         most: 60,
     };
     let tallies = compare_boards(&rt, rt.alloc(), 1902, 1000, recipe)?;
@@ -103,7 +105,11 @@ fn boards_of_many_units(rt: HostRuntime) -> Result<(), Fail> {
 
 #[test]
 fn boards_of_few_decisions(rt: HostRuntime) -> Result<(), Fail> {
-    let recipe = Recipe { second: 0, most: 5 };
+    let recipe = Recipe {
+        second: 0,
+        meeting: 15,
+        most: 5,
+    };
     let tallies = compare_boards(&rt, rt.alloc(), 1903, 3000, recipe)?;
     assert!(rt; tallies.few.has(LEAST_OF_FEW), "{tallies:?}");
     Ok(())

@@ -27,6 +27,14 @@ const CORES: [&str; 13] = [
     "italy A gre - apu\nitaly F aeg C A gre - apu\nitaly F ion C A gre - apu\nitaly F tun - ion",
 ];
 
+/// Two units that come head to head, alone or with help for one of them.
+const MEETINGS: [&str; 4] = [
+    "italy A bur - mun\nitaly A mun - bur",
+    "italy A vie - gal\nitaly A gal - vie\nitaly A bud S A vie - gal",
+    "italy F nth - eng\nitaly F eng - nth",
+    "italy A ser - bul\nitaly A bul - ser\nitaly A gre S A ser - bul",
+];
+
 fn is_taken(orders: &[PlacedOrder], prov: Prov) -> bool {
     orders.iter().any(|placed| placed.unit.place.prov == prov)
 }
@@ -54,15 +62,16 @@ fn redrawn(dice: &mut Dice, placed: &PlacedOrder) -> PlacedOrder {
     PlacedOrder { unit, order }
 }
 
-/// Adds the units of a core.
+/// Adds the units of one of these cores.
 fn add_core(
     rt: &impl Abort,
     alloc: Global,
     dice: &mut Dice,
     map: &Map,
+    cores: &[&str],
     orders: &mut Vec<PlacedOrder>,
 ) -> Result<(), AllocError> {
-    let core = orders_in(rt, alloc, map, dice.pick(&CORES).unwrap_or(""))?;
+    let core = orders_in(rt, alloc, map, dice.pick(cores).unwrap_or(""))?;
     for placed in &core {
         let one = redrawn(dice, placed);
         add(orders, &one)?;
@@ -192,10 +201,12 @@ fn set(orders: &mut [PlacedOrder], index: usize, order: Order) {
     }
 }
 
-/// What boards are like: how many in a hundred have a second core, and how often a unit more is tried at most.
+/// What boards are like: how many in a hundred have a second core, and two units that come head to head; and how often a unit more is tried
+/// at most.
 #[derive(Clone, Copy)]
 pub(crate) struct Recipe {
     pub second: u32,
+    pub meeting: u32,
     pub most: u32,
 }
 
@@ -208,9 +219,12 @@ pub(crate) fn draw_orders(
     recipe: Recipe,
 ) -> Result<Vec<PlacedOrder>, AllocError> {
     let mut orders = Vec::new(alloc);
-    add_core(rt, alloc, dice, map, &mut orders)?;
+    add_core(rt, alloc, dice, map, &CORES, &mut orders)?;
     if dice.happens(recipe.second) {
-        add_core(rt, alloc, dice, map, &mut orders)?;
+        add_core(rt, alloc, dice, map, &CORES, &mut orders)?;
+    }
+    if recipe.meeting > 0 && dice.happens(recipe.meeting) {
+        add_core(rt, alloc, dice, map, &MEETINGS, &mut orders)?;
     }
     let tries = dice.roll(recipe.most);
     add_units(dice, map, tries, &mut orders)?;

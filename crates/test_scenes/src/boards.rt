@@ -109,11 +109,12 @@ fn push_force(
 fn push_forces(
     map: &Map,
     lines: &str,
-    listing: Listing,
+    power: Power,
+    units: &str,
     forces: &mut Forces,
 ) -> Result<(), AllocError> {
-    for text in listing.units.split(", ") {
-        push_force(map, lines, listing.power, text, forces)?;
+    for text in units.split(", ") {
+        push_force(map, lines, power, text, forces)?;
     }
     Ok(())
 }
@@ -125,7 +126,7 @@ fn forces_in(alloc: Global, map: &Map, lines: &str) -> Result<Forces, AllocError
     };
     for line in lines.lines() {
         if let Some(listing) = listing_in(map, line) {
-            push_forces(map, lines, listing, &mut forces)?;
+            push_forces(map, lines, listing.power, listing.units, &mut forces)?;
         }
     }
     Ok(forces)

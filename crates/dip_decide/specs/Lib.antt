@@ -9,3 +9,4 @@ pub use Rattle.dip_decide_table.specs.Movement
 pub use Rattle.dip_decide_table.specs.Results
 pub use Rattle.dip_decide_table.specs.Steps
 pub use Rattle.dip_decide_table.specs.declared.decisions.Decision
+pub use Rattle.dip_decide_table.specs.declared.decisions.Resolution

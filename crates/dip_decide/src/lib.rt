@@ -2,7 +2,6 @@
 #![tactic(auto)]
 
 mod circles;
-mod forcing;
 mod laws;
 mod resolving;
 mod starting;
@@ -12,10 +11,10 @@ mod waking;
 mod working;
 mod worklist;
 
-pub use dip_decide_table::{Decision, Known, Resolution, Step};
+pub use dip_decide_table::{Decision, Known, Resolution, Step, Tests};
 pub use laws::{
     boards_are_situations, chains_are_found, corners_decide, equations_are_lawful,
     explained_is_lawful, knots_are_found, one_answer, steps_commute,
 };
 pub use resolving::resolve;
-pub use testing::{Tests, forced, known_at_first};
+pub use testing::{forced, known_at_first};

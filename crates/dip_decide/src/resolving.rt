@@ -15,7 +15,7 @@ ghost use Rattle.dip_decide_table.specs.Marks.{with_all, with_broken};
 
 use crate::starting::values_at_start;
 use crate::turns::explain;
-use dip_decide_table::{Resolution, Step, Values, all_false, table_of, value_at};
+use dip_decide_table::{Resolution, Step, Tests, Values, all_false, table_of, value_at};
 use dip_map::{Board, Map};
 use dip_names::Prov;
 use dip_orders::Orders;
@@ -117,7 +117,7 @@ fn resolution_of(
     map: &Map,
     values: &Values,
     steps: Vec<Step>,
-    tests: u64,
+    tests: Tests,
 ) -> Result<Resolution, AllocError>
     ensures { IfOk result (λ r. IsListing steps.items (known_of values.now) tests map.now r) }
 {
@@ -170,7 +170,7 @@ pub fn resolve(
     let _ = board.units();
     let table = table_of(alloc, map, orders.as_slice())?;
     let mut values = values_at_start(alloc, &table)?;
-    let mut tests = 0;
+    let mut tests = Tests::new();
     let steps = explain(alloc, &table, &mut values, &mut tests)?;
     resolution_of(alloc, map, &values, steps, tests)
 }

@@ -6,27 +6,11 @@ ghost use Rattle.dip_decide_table.specs.Given.{known_of, IsAnswer};
 ghost use Rattle.dip_decide_table.specs.Matching.{situation};
 ghost use Rattle.dip_decide_table.specs.Movement.{at_first, rule};
 
-use crate::forcing;
 use crate::starting::values_at_start;
-use dip_decide_table::{Decision, Room, Values, table_of};
+use dip_decide_table::{Decision, Tests, Values, forced_by_orders, table_of};
 use dip_map::{Board, Map};
 use dip_orders::Orders;
 use std::alloc::{AllocError, Global};
-
-/// How many tests were made.
-#[derive(Clone, Copy)]
-pub struct Tests {
-    pub count: u64,
-}
-
-impl Tests {
-    /// No test was made.
-    pub fn new() -> Tests
-        ensures { result.count ≡ 0 }
-    {
-        Tests { count: 0 }
-    }
-}
 
 /// What is known before anything is decided: of all that is no decision that it is false. The only error is want of memory.
 pub fn known_at_first(
@@ -45,7 +29,8 @@ pub fn known_at_first(
 }
 
 /// The value to which an open decision is forced: what its equation gives whatever the other open decisions come to. None where
-/// it isn't forced. The only error is want of memory; the test is counted all the same.
+/// it isn't forced. `resolve` tests by the same function, over one table for all tests. The only error is want of memory; the test is
+/// counted all the same.
 pub fn forced(
     alloc: Global,
     map: &Map,
@@ -58,15 +43,12 @@ pub fn forced(
     requires is_of { IsOf map.now board.now }
     requires orders { units_of orders.now ≡ board.now.units }
     requires open { known_of known.now d ≡ None }
-    requires countable { tests.old.count + 1 < 2 ^ 64 }
+    requires countable { tests.old + 1 < 2 ^ 64 }
     ensures answer { IfOk result
         (IsAnswer (rule (situation map.now orders.now)) (known_of known.now) d) }
-    ensures counted { tests.new.count ≡ tests.old.count + 1 }
+    ensures counted { tests.new ≡ tests.old + 1 }
 {
     orders.facts();
     let _ = board.units();
-    tests.count += 1;
-    let table = table_of(alloc, map, orders.as_slice())?;
-    let mut room = Room::with_capacity(alloc, table.places.len())?;
-    forcing::forced(&mut room, &table, known, &d)
+    forced_by_orders(alloc, map, orders.as_slice(), known, &d, tests)
 }

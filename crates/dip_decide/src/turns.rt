@@ -11,7 +11,7 @@ ghost use Rattle.dip_decide.specs.Working.{Counts, IsWork, StaysWork};
 use crate::circles::{open_paths, ring_in};
 use crate::working::{put_moves, put_paths, work_at_start, work_off};
 use crate::worklist::Worklist;
-use dip_decide_table::{Room, Step, Table, Values};
+use dip_decide_table::{Room, Step, Table, Tests, Values};
 use dip_names::Prov;
 use std::alloc::{AllocError, Global};
 
@@ -114,7 +114,7 @@ fn turn(
     table: &Table,
     values: &mut Values,
     work: &mut Worklist,
-    tests: &mut u64,
+    tests: &mut Tests,
     steps: &mut Vec<Step>,
 ) -> Result<bool, AllocError>
     requires situation { IsSituation (situation_of table.now) }
@@ -139,7 +139,7 @@ pub(crate) fn explain(
     alloc: Global,
     table: &Table,
     values: &mut Values,
-    tests: &mut u64,
+    tests: &mut Tests,
 ) -> Result<Vec<Step>, AllocError>
     requires situation { IsSituation (situation_of table.now) }
     requires first { known_of values.old ≡ at_first (situation_of table.now) }

@@ -6,10 +6,9 @@ ghost use Rattle.dip_decide_table.specs.Results.{decided_in, mentioners, mention
 ghost use Rattle.dip_decide_table.specs.Steps.{steps_of, moves_of, paths_of, supports_of, decisions, is_unknown, IsStarted};
 ghost use Rattle.dip_decide.specs.Working.{weight, Counts, HasOpen, IsListed, IsWork, IsWorked};
 
-use crate::forcing::forced;
 use crate::waking::put;
 use crate::worklist::Worklist;
-use dip_decide_table::{Decision, Room, Step, Table, Values};
+use dip_decide_table::{Decision, Room, Step, Table, Tests, Values, forced};
 use dip_names::Prov;
 use std::alloc::{AllocError, Global};
 
@@ -116,7 +115,7 @@ fn work_on(
     table: &Table,
     values: &mut Values,
     work: &mut Worklist,
-    tests: &mut u64,
+    tests: &mut Tests,
     steps: &mut Vec<Step>,
     d: &Decision,
 ) -> Result<(), AllocError>
@@ -140,8 +139,7 @@ fn work_on(
     if values.look(d).is_some() {
         return Ok(());
     }
-    *tests += 1;
-    match forced(room, &*table, &*values, &*d)? {
+    match forced(room, &*table, &*values, &*d, tests)? {
         None => Ok(()),
         Some(value) => {
             steps.push(Step::Forced(*d))?;
@@ -158,7 +156,7 @@ pub(crate) fn work_off(
     table: &Table,
     values: &mut Values,
     work: &mut Worklist,
-    tests: &mut u64,
+    tests: &mut Tests,
     steps: &mut Vec<Step>,
 ) -> Result<(), AllocError>
     requires situation { IsSituation (situation_of table.now) }

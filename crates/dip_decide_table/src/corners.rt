@@ -17,7 +17,7 @@ use std::alloc::AllocError;
 
 /// The completion at which the rule of a decision is least, or greatest.
 #[derive(Clone, Copy)]
-pub struct Corner<'a> {
+pub(crate) struct Corner<'a> {
     pub table: &'a Table<'a>,
     pub known: &'a Values,
     pub of: &'a Decision,
@@ -282,7 +282,7 @@ impl Corner<'_> {
     }
 
     /// The equation of a decision.
-    pub fn rule(&self, room: &mut Room, d: &Decision) -> Result<bool, AllocError>
+    pub(crate) fn rule(&self, room: &mut Room, d: &Decision) -> Result<bool, AllocError>
         requires situation { IsSituation (situation_of self.now.table.now) }
         ensures { IfOk result
             (λ b. b ≡ rule (situation_of self.now.table.now) d.now (values self.now)) }

@@ -1,4 +1,5 @@
 //! What is decided, and the steps that decide it.
+use crate::forcing::Tests;
 use dip_names::Prov;
 
 /// What is decided of the unit in a province.
@@ -37,5 +38,5 @@ pub struct Resolution {
     /// The steps that explain it, in order.
     pub steps: Vec<Step>,
     /// How often the equation of an open decision was tested.
-    pub tests: u64,
+    pub tests: Tests,
 }

@@ -6,6 +6,7 @@ mod chains;
 mod corners;
 mod counts;
 mod decisions;
+mod forcing;
 mod held;
 mod keys;
 mod lists;
@@ -16,8 +17,8 @@ mod room;
 mod table;
 mod values;
 
-pub use corners::Corner;
 pub use decisions::{Decision, Resolution, Step};
+pub use forcing::{Tests, forced, forced_by_orders};
 pub use keys::by_key;
 pub use lists::{copy_of, is_in};
 pub use mentioning::mentions;

@@ -1,21 +1,20 @@
-use Rattle.std.proofs.Common.{◌≡◌, ◌∙◌, ap, sym, subst}
-use Rattle.dip_decide_table.specs.Given.{known_of, situation_of, IsAnswer}
+use Rattle.std.proofs.Common.{List, sym, subst}
+use Rattle.dip_orders.specs.declared.placed.PlacedOrder.{PlacedOrder}
+use Rattle.dip_decide_table.specs.Given.{known_of, IsAnswer}
 use Rattle.dip_decide_table.specs.Matching.{situation}
-use Rattle.dip_decide_table.specs.Movement.{Situation, IsSituation, rule}
-use Rattle.dip_decide.proofs.ResultLaws.{within}
+use Rattle.dip_decide_table.specs.Movement.{IsSituation, rule}
 use Rattle.dip_decide_table.proofs.Rounds.{if_ok_more}
+use Rattle.dip_decide.proofs.ResultLaws.{within}
 use Rattle.dip_decide.proofs.Situated.{situated}
 use Rattle.dip_decide.proofs.testing.forced.Goals as goal
 
-pub table_of-requires : goal.table_of-requires
-table_of-requires c = record { within = rw c.as_slice.ensures (within c.args.map.now c.args.board.now c.args.orders.now c.requires.is_of c.requires.orders) }
+pub forced_by_orders-requires-clause-within : goal.forced_by_orders-requires-clause-within
+forced_by_orders-requires-clause-within c = rw c.as_slice.ensures (within c.args.map.now c.args.board.now c.args.orders.now c.requires.is_of c.requires.orders)
 
-pub forced-requires-clause-situation : goal.forced-requires-clause-situation
-forced-requires-clause-situation c =
-    let e : situation_of c.in_ok-table.table ≡ situation c.args.map.now c.args.orders.now = c.in_ok-table.ensures ∙ ap (situation c.args.map.now) c.as_slice.ensures in
-    subst IsSituation (sym e) (situated c.args.map.now c.args.orders.now c.facts.ensures (rw c.requires.orders c.requires.is_of.apart))
+pub forced_by_orders-requires-clause-situation : goal.forced_by_orders-requires-clause-situation
+forced_by_orders-requires-clause-situation c =
+    subst (λ (os : List PlacedOrder). IsSituation (situation c.args.map.now os)) (sym c.as_slice.ensures) (situated c.args.map.now c.args.orders.now c.facts.ensures (rw c.requires.orders c.requires.is_of.apart))
 
 pub returns-clause-answer : goal.returns-clause-answer
 returns-clause-answer c =
-    let e : situation_of c.in_ok-table.table ≡ situation c.args.map.now c.args.orders.now = c.in_ok-table.ensures ∙ ap (situation c.args.map.now) c.as_slice.ensures in
-    if_ok_more _ _ c.forced.result (λ o h. subst (λ (s : Situation). IsAnswer (rule s) (known_of c.args.known.now) c.args.d o) e h) c.forced.ensures
+    if_ok_more _ _ c.forced_by_orders.result (λ o h. subst (λ (os : List PlacedOrder). IsAnswer (rule (situation c.args.map.now os)) (known_of c.args.known.now) c.args.d o) c.as_slice.ensures h) c.forced_by_orders.ensures.answer

@@ -4,7 +4,7 @@ use Rattle.dip_decide_table.specs.Given.{situation_of, known_of}
 use Rattle.dip_decide_table.specs.Movement.{rule, mentions}
 use Rattle.dip_decide_table.proofs.CornerLaws.{forced_by_least, forced_by_greatest}
 use Rattle.dip_decide_table.proofs.Rises.{rule_rises}
-use Rattle.dip_decide.proofs.forcing.forced.Goals as goal
+use Rattle.dip_decide_table.proofs.forcing.value_at_corners.Goals as goal
 
 pub returns-then-least : goal.returns-then-least
 returns-then-least c =

@@ -3,6 +3,7 @@ pub mod DisorderLemmas
 pub mod RefugeLemmas
 pub mod CentreLemmas
 pub mod CalendarLemmas
+mod AscendingLemmas
 pub mod OneWayLemmas
 pub mod CentreLaws
 pub mod KeptLemmas

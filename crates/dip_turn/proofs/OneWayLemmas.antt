@@ -6,13 +6,13 @@ use Rattle.dip_map.specs.declared.boards.Season.TheVariants.{SpringMoves, Spring
 use Rattle.dip_map.specs.Boards.{Position}
 use Rattle.dip_orders.specs.declared.placed.PlacedOrder.{PlacedOrder}
 use Rattle.dip_decide.specs.Decision.{Decision}
-use Rattle.dip_decide.specs.Deciding.{Assignment, Step}
+use Rattle.dip_decide.specs.Decision.TheVariants.{Move, Path, Support}
+use Rattle.dip_decide.specs.Deciding.{Assignment}
 use Rattle.dip_decide.specs.Matching.{situation}
-use Rattle.dip_decide.specs.Movement.{Situation}
-use Rattle.dip_decide.specs.Results.{AreExplained, values_in}
+use Rattle.dip_decide.specs.Results.{AreExplained, broken_in, values_in}
 use Rattle.dip_decide.specs.Steps.{steps_of}
 use Rattle.dip_turn.specs.Centres.{centre_lines}
-use Rattle.dip_turn.specs.Laws.{AreAlike, IsSame}
+use Rattle.dip_turn.specs.Laws.{AreAlike, DecideAlike, IsSame}
 use Rattle.dip_turn_moves.specs.Moving.{after_moves}
 use Rattle.dip_turn_moves.specs.Outcomes.{movement_lines}
 use Rattle.dip_turn.specs.Phases.{Sequel, follow, sequel}
@@ -21,10 +21,7 @@ use Rattle.dip_turn.specs.declared.report.Account.{Account}
 use Rattle.dip_turn.specs.declared.report.Account.TheVariants.{Movement as OfMovement, Retreats as OfRetreats, Adjustment as OfAdjustment}
 use Rattle.dip_turn.specs.declared.report.Movement.{Movement}
 use Rattle.dip_turn.specs.declared.report.Report.{Report}
-
--- any two lists of steps that explain a situation come to the same values
-abbrev pub HaveOneAnswer : Type 0
-HaveOneAnswer = (s : Situation) (one two : List Step) (f g : Assignment) → AreExplained s one f → AreExplained s two g → (d : Decision) → f d ≡ g d
+use Rattle.dip_turn.proofs.AscendingLemmas.{listed_alike}
 
 -- two assignments with the same values are one
 same_values : (f g : Assignment) → ((d : Decision) → f d ≡ g d) → f ≡ g
@@ -35,34 +32,49 @@ record AreSame (left other : Position) (t u : Account) : Type 0 where
   board : left ≡ other
   account : AreAlike t u
 
-moved_once : HaveOneAnswer → (m : Chart) (b : Position) (pending : List PlacedOrder) (left other : Position) (t u : Movement)
-    → IsMoved m b pending left t → IsMoved m b pending other u → AreSame left other (OfMovement t) (OfMovement u)
-moved_once one m b pending left other t u x y =
-    let orders : t.orders ≡ u.orders = x.orders ∙ sym y.orders in
-    let explained : AreExplained (situation m u.orders) (steps_of t.resolution.steps.items) (values_in t.resolution) =
-    subst (λ (os : List PlacedOrder). AreExplained (situation m os) (steps_of t.resolution.steps.items) (values_in t.resolution)) orders x.explained in
-    let values : values_in t.resolution ≡ values_in u.resolution =
-    same_values (values_in t.resolution) (values_in u.resolution)
-    (one (situation m u.orders) (steps_of t.resolution.steps.items) (steps_of u.resolution.steps.items) (values_in t.resolution) (values_in u.resolution) explained y.explained) in
-    record {
-      board =
-          x.board ∙ ap (λ (os : List PlacedOrder). after_moves m b (values_in t.resolution) os) orders
-          ∙ ap (λ (a : Assignment). after_moves m b a u.orders) values ∙ sym y.board;
-      account = (
-        orders,
-        values,
-        x.lines ∙ ap (λ (os : List PlacedOrder). movement_lines m b (values_in t.resolution) os) orders
-            ∙ ap (λ (a : Assignment). movement_lines m b a u.orders) values ∙ sym y.lines,
-      );
-    }
+module _ (m : Chart) (b : Position) (pending : List PlacedOrder) (left other : Position) (t u : Movement) (x : IsMoved m b pending left t) (y : IsMoved m b pending other u) where
+  orders_one : t.orders ≡ u.orders
+  orders_one = x.orders ∙ sym y.orders
 
-moves_once : HaveOneAnswer → (m : Chart) (b : Position) (pending : List PlacedOrder) (left other : Position) (t u : Account)
+  -- what explains the one explains the other, and so has its values and breaks its paths
+  answer_one : (d : Decision) → (values_in t.resolution d ≡ values_in u.resolution d) × (broken_in t.resolution d ≡ broken_in u.resolution d)
+  answer_one d =
+      let explained : AreExplained (situation m t.orders) (steps_of u.resolution.steps.items) (values_in u.resolution) =
+      subst (λ (os : List PlacedOrder). AreExplained (situation m os) (steps_of u.resolution.steps.items) (values_in u.resolution)) (sym orders_one) y.explained in
+      let only = x.only (steps_of u.resolution.steps.items) (values_in u.resolution) explained d in
+      (only.0, only.1 ∙ sym (y.broken d))
+
+  values_one : values_in t.resolution ≡ values_in u.resolution
+  values_one = same_values (values_in t.resolution) (values_in u.resolution) (λ d. (answer_one d).0)
+
+  lists_one : DecideAlike t.resolution u.resolution
+  lists_one = record {
+    moves = listed_alike t.resolution.moves.items u.resolution.moves.items x.ordered.0 y.ordered.0 (λ p. (answer_one (Move p)).0);
+    paths = listed_alike t.resolution.paths.items u.resolution.paths.items x.ordered.1 y.ordered.1 (λ p. (answer_one (Path p)).0);
+    supports = listed_alike t.resolution.supports.items u.resolution.supports.items x.ordered.2 y.ordered.2 (λ p. (answer_one (Support p)).0);
+    broken = listed_alike t.resolution.broken.items u.resolution.broken.items x.ordered.3 y.ordered.3 (λ p. (answer_one (Path p)).1);
+  }
+
+  moved_once : AreSame left other (OfMovement t) (OfMovement u)
+  moved_once = record {
+    board =
+        x.board ∙ ap (λ (os : List PlacedOrder). after_moves m b (values_in t.resolution) os) orders_one
+        ∙ ap (λ (a : Assignment). after_moves m b a u.orders) values_one ∙ sym y.board;
+    account = (
+      orders_one,
+      lists_one,
+      x.lines ∙ ap (λ (os : List PlacedOrder). movement_lines m b (values_in t.resolution) os) orders_one
+          ∙ ap (λ (a : Assignment). movement_lines m b a u.orders) values_one ∙ sym y.lines,
+    );
+  }
+
+moves_once : (m : Chart) (b : Position) (pending : List PlacedOrder) (left other : Position) (t u : Account)
     → LeavesMoved m b pending left t → LeavesMoved m b pending other u → AreSame left other t u
-moves_once one m b pending left other (OfMovement t) (OfMovement u) x y = moved_once one m b pending left other t u x y
-moves_once one m b pending left other (OfMovement t) (OfRetreats u) x y = absurd y
-moves_once one m b pending left other (OfMovement t) (OfAdjustment u) x y = absurd y
-moves_once one m b pending left other (OfRetreats t) u x y = absurd x
-moves_once one m b pending left other (OfAdjustment t) u x y = absurd x
+moves_once m b pending left other (OfMovement t) (OfMovement u) x y = moved_once m b pending left other t u x y
+moves_once m b pending left other (OfMovement t) (OfRetreats u) x y = absurd y
+moves_once m b pending left other (OfMovement t) (OfAdjustment u) x y = absurd y
+moves_once m b pending left other (OfRetreats t) u x y = absurd x
+moves_once m b pending left other (OfAdjustment t) u x y = absurd x
 
 retreats_once : (b : Position) (pending : List PlacedOrder) (left other : Position) (t u : Account)
     → LeavesRetreated b pending left t → LeavesRetreated b pending other u → AreSame left other t u
@@ -84,18 +96,18 @@ adjusts_once m b pending left other (OfAdjustment t) (OfRetreats u) x y = absurd
 adjusts_once m b pending left other (OfMovement t) u x y = absurd x
 adjusts_once m b pending left other (OfRetreats t) u x y = absurd x
 
-leaves_once : HaveOneAnswer → (m : Chart) (season : Season) (b : Position) (pending : List PlacedOrder) (left other : Position) (t u : Account)
+leaves_once : (m : Chart) (season : Season) (b : Position) (pending : List PlacedOrder) (left other : Position) (t u : Account)
     → Leaves m season b pending left t → Leaves m season b pending other u → AreSame left other t u
-leaves_once one m SpringMoves b pending left other t u x y = moves_once one m b pending left other t u x y
-leaves_once one m SpringRetreats b pending left other t u x y = retreats_once b pending left other t u x y
-leaves_once one m FallMoves b pending left other t u x y = moves_once one m b pending left other t u x y
-leaves_once one m FallRetreats b pending left other t u x y = retreats_once b pending left other t u x y
-leaves_once one m Winter b pending left other t u x y = adjusts_once m b pending left other t u x y
+leaves_once m SpringMoves b pending left other t u x y = moves_once m b pending left other t u x y
+leaves_once m SpringRetreats b pending left other t u x y = retreats_once b pending left other t u x y
+leaves_once m FallMoves b pending left other t u x y = moves_once m b pending left other t u x y
+leaves_once m FallRetreats b pending left other t u x y = retreats_once b pending left other t u x y
+leaves_once m Winter b pending left other t u x y = adjusts_once m b pending left other t u x y
 
-pub plays_once : HaveOneAnswer → (m : Chart) (b : Position) (pending : List PlacedOrder) (new other : Position) (one two : Report)
+pub plays_once : (m : Chart) (b : Position) (pending : List PlacedOrder) (new other : Position) (one two : Report)
     → IsPlayed m b pending new one → IsPlayed m b pending other two → IsSame new other one two
-plays_once answer m b pending new other one two x y =
-    let left = leaves_once answer m b.phase.season b pending x.left y.left one.account two.account x.account y.account in
+plays_once m b pending new other one two x y =
+    let left = leaves_once m b.phase.season b pending x.left y.left one.account two.account x.account y.account in
     let next : sequel new one.course ≡ sequel other two.course = x.next ∙ ap (follow m b.phase.season) left.board ∙ sym y.next in
     let board : new ≡ other = ap (λ (s : Sequel). s.board) next in
     record {

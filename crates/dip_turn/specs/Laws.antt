@@ -11,7 +11,7 @@ use Rattle.dip_orders.specs.Given.{AreGiven, IsEachGiven}
 use Rattle.dip_orders.specs.Laws.{IsEmpty}
 use Rattle.dip_orders.specs.declared.placed.Order.TheVariants.{Build}
 use Rattle.dip_orders.specs.declared.placed.PlacedOrder.{PlacedOrder}
-use Rattle.dip_decide.specs.Results.{values_in}
+use Rattle.dip_decide.specs.Resolution.{Resolution}
 use Rattle.dip_orders.specs.Conditions.{is_retreat}
 use Rattle.dip_turn.specs.Adjusting.{after_adjustment, builds_given, disorder, is_among, is_given, units_built}
 use Rattle.dip_turn.specs.Centres.{has_won, holder}
@@ -167,9 +167,16 @@ OnlyCentresAreOwned =
     (m : Chart) (b : Position) (pending : List PlacedOrder) (new : Position) (report : Report)
     → IsOf m b → IsPlayed m b pending new report → (p : ℕ) → is_some (owner new p) ≡ true → is_centre m p ≡ true
 
--- the two accounts tell the same, but for the steps that explain a movement
+-- two resolutions decide the same: the same moves, paths and supports are true, and the same paths are broken
+pub record DecideAlike (r q : Resolution) : Type 0 where
+  pub moves : r.moves.items ≡ q.moves.items
+  pub paths : r.paths.items ≡ q.paths.items
+  pub supports : r.supports.items ≡ q.supports.items
+  pub broken : r.broken.items ≡ q.broken.items
+
+-- the two accounts tell the same, but for the steps that explain a movement and the number of tests
 abbrev pub AreAlike : Account → Account → Type 0
-AreAlike (OfMovement s) (OfMovement t) = (s.orders ≡ t.orders) × (values_in s.resolution ≡ values_in t.resolution) × (s.lines.items ≡ t.lines.items)
+AreAlike (OfMovement s) (OfMovement t) = (s.orders ≡ t.orders) × DecideAlike s.resolution t.resolution × (s.lines.items ≡ t.lines.items)
 AreAlike (OfRetreats s) (OfRetreats t) = s.items ≡ t.items
 AreAlike (OfAdjustment s) (OfAdjustment t) = (s.builds.items ≡ t.builds.items) × (s.removals.items ≡ t.removals.items) × (s.disorder.items ≡ t.disorder.items) × (s.waivers.items ≡ t.waivers.items)
 AreAlike _ _ = ⊥

@@ -3,6 +3,7 @@ mod boards;
 mod by_chance;
 mod compare;
 mod draws;
+mod known;
 mod laws;
 mod lines;
 mod plain;

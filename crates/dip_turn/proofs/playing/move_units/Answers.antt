@@ -15,7 +15,14 @@ returns c =
     c.in_ok-moved.ensures ∙ ap (λ (os : List PlacedOrder). moved_board m c.args.board.now a os) c.as_slice.ensures in
     record {
       orders = c.in_ok-orders.ensures.value;
+      equations = c.in_ok-resolution.ensures.equations;
       explained = c.in_ok-resolution.ensures.explained;
+      only = c.in_ok-resolution.ensures.only;
+      broken = c.in_ok-resolution.ensures.broken;
+      few = c.in_ok-resolution.ensures.few;
+      ordered = c.in_ok-resolution.ensures.ordered;
+      counted = c.in_ok-resolution.ensures.counted;
+      tested = c.in_ok-resolution.ensures.tested;
       board = c.in_ok-left.ensures ∙ ap (without_destroyed m) moved;
       lines =
           c.in_ok-lines.ensures

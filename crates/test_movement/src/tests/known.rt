@@ -1,0 +1,140 @@
+//! The test of one decision where values are known in part, and its count.
+use super::boards::{board_in, orders_in};
+use dip_decide::{Decision, Known, Tests, forced, known_at_first};
+use dip_map::{Map, STANDARD};
+use dip_orders::{Orders, each_unit_has_one_order};
+use std::alloc::{AllocError, Global};
+use std::process::Abort;
+use std::test::Fail;
+
+/// A unit in the Ruhr supports a move to where one goes to the Ruhr from.
+const BY_LAND: &str = "france A bur - mun
+france A ruh S A bur - mun
+germany A mun - ruh";
+
+/// An army by convoy would cut the support that helps to dislodge its fleet.
+const BY_SEA: &str = "england F lon S F wal - eng
+england F wal - eng
+france A bre - lon
+france F eng C A bre - lon";
+
+/// What is known of a board's orders, and what each of these decisions is then forced to.
+struct State {
+    orders: &'static str,
+    known: &'static [(&'static str, bool)],
+    answers: &'static [(&'static str, Option<bool>)],
+}
+
+const STATES: &[State] = &[
+    State {
+        orders: BY_LAND,
+        known: &[],
+        answers: &[("M bur", None), ("M mun", Some(false)), ("G ruh", None)],
+    },
+    State {
+        orders: BY_LAND,
+        known: &[("M mun", false)],
+        answers: &[("G ruh", Some(true)), ("M bur", None)],
+    },
+    State {
+        orders: BY_LAND,
+        known: &[("M mun", false), ("G ruh", true)],
+        answers: &[("M bur", Some(true))],
+    },
+    State {
+        orders: BY_LAND,
+        known: &[("M mun", true)],
+        answers: &[("G ruh", Some(false)), ("M bur", Some(true))],
+    },
+    State {
+        orders: BY_SEA,
+        known: &[],
+        answers: &[
+            ("M bre", Some(false)),
+            ("P bre", None),
+            ("M wal", None),
+            ("G lon", None),
+        ],
+    },
+    State {
+        orders: BY_SEA,
+        known: &[("P bre", false)],
+        answers: &[
+            ("G lon", Some(true)),
+            ("M wal", None),
+            ("M bre", Some(false)),
+        ],
+    },
+    State {
+        orders: BY_SEA,
+        known: &[("G lon", true), ("M bre", false)],
+        answers: &[("M wal", Some(true)), ("P bre", None)],
+    },
+    State {
+        orders: BY_SEA,
+        known: &[("M wal", false)],
+        answers: &[("P bre", Some(true)), ("G lon", None)],
+    },
+    State {
+        orders: BY_SEA,
+        known: &[("M wal", true)],
+        answers: &[("P bre", Some(false)), ("P bre", Some(false))],
+    },
+];
+
+/// The decision of these words: `M bur`, a move; `P bre`, a path; `G ruh`, a support.
+fn decision_of(rt: &impl Abort, map: &Map, words: &str) -> Decision {
+    let (kind, code) = words.split_once(' ').expect(rt, words);
+    let prov = map.prov(code.as_bytes()).expect(rt, words);
+    match kind {
+        "M" => Decision::Move(prov),
+        "P" => Decision::Path(prov),
+        _ => Decision::Support(prov),
+    }
+}
+
+/// Gives an open decision its value.
+fn know(rt: &impl Abort, map: &Map, known: &mut Known, words: &str, value: bool) {
+    let decision = decision_of(rt, map, words);
+    assert!(rt; known.look(&decision).is_none(), "{words}");
+    known.give(&decision, value);
+}
+
+/// Tests the decisions of a state, one after the other: each answer is the one that is wanted, and one test more was made.
+fn check_state(rt: &impl Abort, alloc: Global, map: &Map, state: &State) -> Result<(), AllocError> {
+    each_unit_has_one_order();
+    let board = board_in(rt, alloc, map, state.orders)?;
+    assert!(rt; board.is_of(map), "{}", state.orders);
+    let given = orders_in(rt, alloc, map, state.orders)?;
+    let orders = Orders::standing(alloc, &board, given.as_slice())?;
+    let mut known = known_at_first(alloc, map, &board, &orders)?;
+    for &(words, value) in state.known {
+        know(rt, map, &mut known, words, value);
+    }
+    let mut tests = Tests::new();
+    let mut made = 0;
+    for &(words, wanted) in state.answers {
+        let decision = decision_of(rt, map, words);
+        assert!(rt; known.look(&decision).is_none(), "{words}");
+        assert!(rt; tests.count() == made && made < 100, "{words}");
+        let answer = forced(alloc, map, &board, &orders, &known, decision, &mut tests)?;
+        assert!(rt; answer == wanted, "{words}");
+        made += 1;
+    }
+    assert!(rt; tests.count() == made, "{}", state.orders);
+    Ok(())
+}
+
+fn check_states(rt: &impl Abort, alloc: Global) -> Result<(), AllocError> {
+    let map = Map::from_toml(alloc, STANDARD).ok().expect(rt, "the map");
+    for state in STATES {
+        check_state(rt, alloc, &map, state)?;
+    }
+    Ok(())
+}
+
+#[test]
+fn decisions_are_forced_by_what_is_known(rt: HostRuntime) -> Result<(), Fail> {
+    check_states(&rt, rt.alloc())?;
+    Ok(())
+}

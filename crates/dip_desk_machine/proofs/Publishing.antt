@@ -7,7 +7,7 @@ use Rattle.dip_map.specs.declared.boards.Season.{Season}
 use Rattle.dip_map.specs.declared.boards.Season.TheVariants.{SpringMoves, SpringRetreats, FallMoves, FallRetreats, Winter}
 use Rattle.dip_map.specs.Charts.{Chart}
 use Rattle.dip_decide.specs.Matching.{situation}
-use Rattle.dip_decide.specs.Results.{AreExplained, values_in}
+use Rattle.dip_decide.specs.Results.{values_in}
 use Rattle.dip_decide.specs.Statements.{ExplainedSatisfies}
 use Rattle.dip_decide.specs.Steps.{steps_of}
 use Rattle.dip_orders.specs.declared.placed.PlacedOrder.{PlacedOrder}
@@ -28,7 +28,7 @@ use Rattle.dip_turn.specs.declared.report.Report.{Report}
 use Rattle.dip_desk_machine.specs.Mail.{Mail}
 use Rattle.dip_desk_machine.specs.Machine.{Decides, IsPublished, NotKnown, Taken, Verdict}
 use Rattle.dip_orders.specs.Conditions.{is_movement}
-use Rattle.dip_desk_machine.specs.Published.{IsFair, MovementsAreDecided, TellsMovement, movement_paper, orders_stood}
+use Rattle.dip_desk_machine.specs.Published.{AreDecided, IsFair, MovementsAreDecided, TellsMovement, movement_paper, orders_stood}
 use Rattle.dip_desk_state.specs.State.{Author, Game, Nobody, Publishes, Seat, State, TheMaster, game_at, whole_of}
 use Rattle.dip_desk_machine.specs.Ticking.{orders_of, public_played}
 use Rattle.dip_desk_machine.specs.View.{IsRun, Turn, author_in, left_by}
@@ -70,14 +70,19 @@ told m equations tick g text paper public moves p = by p.report.account refl (mo
 
     by : (account : Account) → p.report.account ≡ account → LeavesMoved m b pending p.played.left account → TellsMovement m (whole_of g) public paper
     by (OfMovement t) is h =
-        let explained : AreExplained (situation m (orders_stood m (whole_of g))) (steps_of t.resolution.steps.items) (values_in t.resolution) =
-        subst (λ (os : List PlacedOrder). AreExplained (situation m os) (steps_of t.resolution.steps.items) (values_in t.resolution)) h.orders h.explained in
+        let decided : AreDecided m (orders_stood m (whole_of g)) (values_in t.resolution) =
+        subst (λ (os : List PlacedOrder). AreDecided m os (values_in t.resolution)) h.orders (record {
+          steps = steps_of t.resolution.steps.items;
+          explained = h.explained;
+          satisfied = equations (situation m t.orders) (steps_of t.resolution.steps.items) (values_in t.resolution) h.explained;
+          only = λ others a e d. let one = h.only others a e d in (one.0, sym (h.broken d) ∙ one.1);
+        }) in
         let lines : t.lines.items ≡ movement_lines m b (values_in t.resolution) (orders_stood m (whole_of g)) =
         h.lines ∙ ap (λ (os : List PlacedOrder). movement_lines m b (values_in t.resolution) os) h.orders in
         let centres : p.report.centres.items ≡ centre_lines m b public.board = p.played.centres ∙ ap (centre_lines m b) (sym board) in
         record {
           values = values_in t.resolution;
-          decided = record { steps = steps_of t.resolution.steps.items; explained = explained; satisfied = equations (situation m (orders_stood m (whole_of g))) (steps_of t.resolution.steps.items) (values_in t.resolution) explained };
+          decided = decided;
           text = printed ∙ ap (paper_text m p.report) (sym behind) ∙ paper_of m p.report t public is
               ∙ ap (λ (phase : Phase). movement_paper m phase t.lines.items p.report.centres.items public) p.played.phase
               ∙ ap (λ (ls : List MovementLine). movement_paper m b.phase ls p.report.centres.items public) lines

@@ -3,6 +3,7 @@ use Rattle.std.specs.Prelude.{◌≡◌, ◌++◌, ℕ, true, List, Some, codes,
 use Rattle.std.specs.List.{AllByRecursion}
 use Rattle.dip_map.specs.declared.boards.Phase.{Phase}
 use Rattle.dip_map.specs.Charts.{Chart}
+use Rattle.dip_decide.specs.Decision.{Decision}
 use Rattle.dip_decide.specs.Deciding.{Assignment, Step, is_broken}
 use Rattle.dip_decide.specs.Matching.{situation}
 use Rattle.dip_decide.specs.Movement.{Satisfies}
@@ -29,11 +30,12 @@ abbrev pub orders_stood : Chart → Whole → List PlacedOrder
 orders_stood m w = standing_orders w.public.board (orders_of m w)
 
 -- values that satisfy the decision equations for these orders, and are explained: steps lead to them, and only a path that one of the steps
--- breaks has another value than its equation's
+-- breaks has another value than its equation's; and whatever steps explain these orders come to these values, and break these paths
 pub record AreDecided (m : Chart) (orders : List PlacedOrder) (values : Assignment) : Type 0 where
   pub steps : List Step
   pub explained : AreExplained (situation m orders) steps values
   pub satisfied : Satisfies (situation m orders) (is_broken steps) values
+  pub only : (others : List Step) (a : Assignment) → AreExplained (situation m orders) others a → (d : Decision) → (values d ≡ a d) × (is_broken steps d ≡ is_broken others d)
 
 -- the paper of a movement: its orders with their outcomes, the centres that changed hands, and the public part behind it
 abbrev pub movement_paper : Chart → Phase → List MovementLine → List CentreLine → Public → List ℕ
@@ -42,8 +44,8 @@ movement_paper m phase lines centres public = title public.papers phase
     ++ flat_map (centre_line m) centres
     ++ game_line m public ++ board_lines m public.board ++ codes "END\n"
 
--- a paper prints, for the orders that stood, the outcomes of values that satisfy the decision equations and are explained; and the board
--- behind it is the one that these values leave
+-- a paper prints, for the orders that stood, the outcomes of values that satisfy the decision equations and are explained, of which
+-- there are no others; and the board behind it is the one that these values leave
 pub record TellsMovement (m : Chart) (w : Whole) (public : Public) (paper : List ℕ) : Type 0 where
   pub values : Assignment
   pub decided : AreDecided m (orders_stood m w) values

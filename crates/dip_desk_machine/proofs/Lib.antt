@@ -14,6 +14,7 @@ pub mod Handing
 pub mod LawfulStates
 pub mod Fitting
 pub mod Histories
+pub mod Thirds
 pub mod Publishing
 pub mod Once
 pub mod Repeating

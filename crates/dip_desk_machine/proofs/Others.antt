@@ -82,7 +82,7 @@ none_if true es is = is
 none_if false es is = refl
 
 -- what a seat's letter has another hear
-seat_heard : (m : Chart) (s : State) (n : Mail) (p power : ℕ) (v : Verdict) → Decides m s n (Seat p) v → (verdict_events power v ≡ []) ⊎ IsPressTo m power n (Seat p) v
+pub seat_heard : (m : Chart) (s : State) (n : Mail) (p power : ℕ) (v : Verdict) → Decides m s n (Seat p) v → (verdict_events power v ≡ []) ⊎ IsPressTo m power n (Seat p) v
 seat_heard m s n p power v d = go v (seat_sent m s n p v d) refl (suits v d)
   where
     suits : (v : Verdict) → Decides m s n (Seat p) v → VerdictSuits n.note.game (Seat p) (game_at n.note.game s) v
@@ -431,10 +431,10 @@ heard_alike m seat item t h =
     ∙ heard_events m seat.power t.letter (author_in m t) t.verdict h.press
     ∙ ap (λ (i : Item). Heard i ∷ []) h.shown
 
-abbrev IsDecided : Chart → Turn → Type 0
+abbrev pub IsDecided : Chart → Turn → Type 0
 IsDecided m t = Decides m t.before t.letter (author_in m t) t.verdict
 
-run_decided : (m : Chart) (ts : List Turn) (old new : State) → IsRun m old ts new → AllByRecursion (IsDecided m) ts
+pub run_decided : (m : Chart) (ts : List Turn) (old new : State) → IsRun m old ts new → AllByRecursion (IsDecided m) ts
 run_decided m [] old new run = tt
 run_decided m (t ∷ ts) old new run = (run.1, run_decided m ts (left_by m t) new run.2)
 

@@ -10,6 +10,7 @@ pub mod Ordering
 pub mod OrderingRows
 pub mod View
 pub mod Published
+pub mod Thirds
 pub mod Lawful
 pub mod Fitting
 pub mod Handing

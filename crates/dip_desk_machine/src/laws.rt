@@ -8,6 +8,7 @@ ghost use Rattle.dip_desk_machine.specs.Published.{MovementsAreDecided};
 ghost use Rattle.dip_desk_machine.specs.Repeats.{ActsOnce, ActsOnceLater};
 ghost use Rattle.dip_desk_state.specs.State.{State};
 ghost use Rattle.dip_desk_machine.specs.Strangers.{IsToNobodyExactly};
+ghost use Rattle.dip_desk_machine.specs.Thirds.{ThirdSeatsSeeAlike};
 ghost use Rattle.dip_desk_machine.specs.View.{AreAlike, AreEffectsShown, HistoriesAreOne, HistoriesLookAlike, IsAnsweredFromSeen, IsDecidedOnce, IsGreyUnsigned, IsRun, IsSettledByView, IsShownByOthers, IsUnseenByOthers, Turn, VotesAreUntold};
 
 use dip_decide::explained_is_lawful;
@@ -59,6 +60,13 @@ pub fn shown_by_others()
     ensures grey { (m : Chart) → IsGreyUnsigned m }
     ensures alike { (m : Chart) → AreAlike m }
     ensures look_alike { (m : Chart) → HistoriesLookAlike m }
+{}
+
+/// Two histories that differ only in what some powers order, vote, look at or have refused, in which of these wrote a grey press, and in
+/// other games, can't be told apart by any other seat of the game: they show it the same, and where they began alike for it, it gets the
+/// same replies and sees the same behind them. All accepted press is the same, in the same order, and what the master's letters come to.
+pub fn third_seats_see_alike()
+    ensures { (m : Chart) → ThirdSeatsSeeAlike m }
 {}
 
 /// A vote is told by its draw alone: what a tick comes to that draws no game doesn't depend on any vote.

@@ -25,8 +25,8 @@ pub fn posts_are_settled()
     answered_from_what_is_seen();
 }
 
-/// What a connection leaves is what was there, or what one letter leaves. So whatever is told of histories of letters holds of connections, one behind
-/// the other.
+/// A connection that posts a letter is the turn of that letter in a history, and its answer carries the turn's reply with the status of its
+/// kind; any other is no turn, and leaves what was there. So whatever is told of histories of letters holds of connections, one behind the other.
 pub fn connections_are_turns()
     ensures { (m : Chart) → AreTurns m }
 {}

@@ -1,21 +1,51 @@
 -- What serving clients does to a desk.
-use Rattle.std.specs.Prelude.{◌≡◌, ◌⊎◌, ℕ, zero, suc, None}
+use Rattle.std.specs.Prelude.{◌≡◌, ◌⊎◌, ℕ, zero, suc, None, List, [], ◌++◌}
 use Rattle.dip_map.specs.Charts.{Chart}
+use Rattle.dip_desk_machine.specs.Published.{IsFair}
+use Rattle.dip_desk_machine.specs.View.{IsRun, Turn}
 use Rattle.dip_desk_state.specs.State.{State}
 use Rattle.dip_desk_state.specs.declared.faults.KeepFault.{KeepFault}
 use Rattle.dip_desk_state.specs.declared.faults.KeepFault.TheVariants.{Memory, Disk, Damaged}
+use Rattle.dip_http.specs.Answering.{IsAnswer}
 use Rattle.dip_http.specs.Ends.{Answered, EndsBy}
+use Rattle.dip_http.specs.Laws.{AreTurnsOf}
 use Rattle.dip_http.specs.declared.faults.HttpFault.{HttpFault}
 
 -- one client: its call isn't taken and nothing changes, or its request is answered as it is to be, as far as the desk goes, or up to a
 -- fault
-abbrev pub ServesOne : Chart → State → State → Type 0
-ServesOne m old new = (new ≡ old) ⊎ (Answered m None old new None None ⊎ ((fault : HttpFault) × EndsBy m fault None old new None None))
+abbrev pub MeetsOne : Chart → State → State → Type 0
+MeetsOne m old new = (new ≡ old) ⊎ (Answered m None old new None None ⊎ ((fault : HttpFault) × EndsBy m fault None old new None None))
 
 -- so many clients, one after the other
-abbrev pub Serves : Chart → ℕ → State → State → Type 0
-Serves m zero old new = new ≡ old
-Serves m (suc n) old new = (mid : State) × Serves m n old mid × ServesOne m mid new
+abbrev pub Meets : Chart → ℕ → State → State → Type 0
+Meets m zero old new = new ≡ old
+Meets m (suc n) old new = (mid : State) × Meets m n old mid × MeetsOne m mid new
+
+-- a client whose bytes have this answer, all of which was written or a beginning: a letter that it posted was taken in a turn, and the
+-- answer carries the reply; GET and HEAD are answered from public parts and papers
+pub record IsAnsweredIn (m : Chart) (old : State) (turns : List Turn) (new : State) : Type 0 where
+  pub input : List ℕ
+  pub answer : List ℕ
+  pub answers : IsAnswer m input old answer new
+  pub turns_of : AreTurnsOf input answer turns
+
+-- or a client of which nothing was taken
+abbrev pub Visits : Chart → State → List Turn → State → Type 0
+Visits m old turns new = ((turns ≡ []) × (new ≡ old)) ⊎ IsAnsweredIn m old turns new
+
+-- so many clients, whose turns stand one behind the other
+abbrev pub VisitAll : Chart → ℕ → State → List Turn → State → Type 0
+VisitAll m zero old turns new = (turns ≡ []) × (new ≡ old)
+VisitAll m (suc n) old turns new =
+    (mid : State) × (before : List Turn) × (last : List Turn) × (turns ≡ before ++ last) × VisitAll m n old before mid × Visits m mid last new
+
+-- so many clients make a history: what each seat is told in it is settled by its view, and each published movement satisfies the decision
+-- equations for the orders that stood
+pub record Serves (m : Chart) (count : ℕ) (old new : State) : Type 0 where
+  pub turns : List Turn
+  pub visits : VisitAll m count old turns new
+  pub run : IsRun m old turns new
+  pub fair : IsFair m old turns new
 
 -- a fault that ends the serving: behind any other the keeper goes on
 abbrev pub IsShut : KeepFault → Type 0

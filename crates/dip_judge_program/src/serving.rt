@@ -2,11 +2,12 @@
 ghost use Rattle.std.specs.Prelude.{◌≡◌, ◌<◌, ◌≤◌, ℕ, IfErr, IsErrOf, OnOk};
 ghost use Rattle.dip_desk_state.specs.Faults.{faults_after};
 ghost use Rattle.dip_desk_machine.specs.Lawful.{IsLawful};
-ghost use Rattle.dip_judge_program.specs.Serving.{IsShut, Serves, ServesOne};
+ghost use Rattle.dip_judge_program.specs.Serving.{IsShut, MeetsOne, Serves};
 
 use dip_desk::Keeper;
+use dip_desk_machine::published_movements_are_decided;
 use dip_desk_state::KeepFault;
-use dip_http::{HttpFault, serve_one};
+use dip_http::{HttpFault, connections_are_turns, serve_one};
 use dip_map::Map;
 use std::alloc::Global;
 use std::net::TcpListener;
@@ -25,7 +26,7 @@ fn serve_next<C: Clock, K: Keeper>(
 ) -> Result<(), KeepFault>
     requires { K.book.faults keeper.old < u64.MAX }
     ensures served { K.book.sound map.now keeper.old → K.book.shows keeper.new
-        → ServesOne map.now (K.book.content map.now keeper.old)
+        → MeetsOne map.now (K.book.content map.now keeper.old)
         (K.book.content map.now keeper.new) }
     ensures lawful { K.book.sound map.now keeper.old → K.book.shows keeper.new
         → IsLawful map.now (K.book.content map.now keeper.old)
@@ -53,7 +54,8 @@ fn serve_next<C: Clock, K: Keeper>(
     }
 }
 
-/// Serves so many clients, one after the other; a client whose call can't be taken counts.
+/// Serves so many clients, one after the other; a client whose call can't be taken counts. The letters that they post make one history, whose
+/// replies their answers carry.
 ///
 /// # Errors
 /// The keeper's fault, `Disk` or `Damaged`, and then no further client is served.
@@ -81,6 +83,8 @@ pub fn serve_all<C: Clock, K: Keeper>(
     ensures count { K.book.faults keeper.new ≡ faults_after result (K.book.faults keeper.old) }
     ensures shown { K.book.shows keeper.new → K.book.shows keeper.old }
 {
+    connections_are_turns();
+    published_movements_are_decided();
     let mut served = 0;
     'clients: while served < count {
         serve_next(alloc, clock, listener, keeper, map)?;

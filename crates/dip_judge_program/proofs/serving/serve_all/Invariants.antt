@@ -1,6 +1,6 @@
 use Rattle.std.proofs.Common.{◌≡◌, ◌≤◌, ◌-◌}
 use Rattle.dip_desk_machine.specs.Lawful.{IsLawful}
-use Rattle.dip_judge_program.specs.Serving.{Serves}
+use Rattle.dip_judge_program.specs.Serving.{Meets}
 use Rattle.dip_judge_program.proofs.serving.serve_all.Given as goal
 
 abbrev pub invariant-clients : goal.invariant-clients
@@ -12,7 +12,7 @@ invariant-clients g l = let b = g.K.Keeper.book in record {
   lawful : b.sound l.fn.map l.fn.keeper → b.shows l.keeper → IsLawful l.fn.map (b.content l.fn.map l.fn.keeper)
       → IsLawful l.fn.map (b.content l.fn.map l.keeper);
   so_far : b.sound l.fn.map l.fn.keeper → b.shows l.keeper
-      → Serves l.fn.map l.served (b.content l.fn.map l.fn.keeper) (b.content l.fn.map l.keeper);
+      → Meets l.fn.map l.served (b.content l.fn.map l.fn.keeper) (b.content l.fn.map l.keeper);
 }
 
 abbrev pub decreases-clients : goal.decreases-clients

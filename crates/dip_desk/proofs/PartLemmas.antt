@@ -1,17 +1,19 @@
 -- Seats in memory, behind a change.
-use Rattle.std.proofs.Common.{◌≡◌, ◌<◌, ◌==◌, ◌++◌, ◌+◌, ◌-◌, ℕ, nat_lt, Bool, true, false, cond, List, [], ◌∷◌, map, Option, None, Some, option_map, Result, Ok, Err, OnOk, Bor, refl, sym, ap, subst, ◌∙◌, slice_set, get_or, length, take, drop, zero, suc, add-one, arith}
+use Rattle.std.proofs.Common.{◌≡◌, ◌<◌, ◌==◌, ◌++◌, ◌+◌, ◌-◌, ◌&&◌, ℕ, nat_le, nat_lt, Bool, true, false, cond, List, [], ◌∷◌, map, Option, None, Some, option_map, Result, Ok, Err, OnOk, Bor, refl, sym, ap, subst, ◌∙◌, slice_set, get_or, length, take, drop, zero, suc, add-one, arith}
 use Rattle.std.specs.List.{AllByRecursion, list_all, list_any}
 use Rattle.std.specs.declared.alloc.Global.{Global}
 use Rattle.std.specs.declared.rc.Rc.{Rc}
 use Rattle.std.proofs.lemmas.Bool.{false≢true, ltb-true}
+use Rattle.std.proofs.lemmas.Bool.Decides.{nat_tests}
 use Rattle.std.proofs.lemmas.List.{drop-map, take-map}
-use Rattle.dip_desk_state.specs.Keyed.{change_at}
-use Rattle.dip_desk_state.specs.State.{Author, Nobody, TheMaster, Seat, Change, Effect, Nothing, Pending, Votes, Delivers, Opens, Publishes, Seats, NewSeat, Part, fresh, game_after, opening_game, page_of, papers_after, power_in, public_after, whole_of, with_author, with_effect, with_item, with_letter, has_room}
+use Rattle.dip_desk_state.specs.Bounds.{most_papers, most_sent}
+use Rattle.dip_desk_state.specs.Keyed.{change_at, place}
+use Rattle.dip_desk_state.specs.State.{Author, Nobody, TheMaster, Seat, Change, Effect, Nothing, Pending, Votes, Delivers, Opens, Publishes, Seats, NewSeat, Part, fresh, game_after, opening_game, page_of, papers_after, power_in, public_after, whole_of, with_author, with_effect, with_item, with_letter, has_room, have_room, is_seat, may_get, may_send}
 use Rattle.dip_desk_state.specs.Records.{Item, Kept, Own, Public, Whole}
 use Rattle.dip_desk_state.specs.Rows as rows
 use Rattle.dip_desk_state.specs.declared.records.Item.{Item as ItemRow}
-use Rattle.dip_desk.specs.Fitting.{FindsPlace}
-use Rattle.dip_desk.specs.Stored.{Brings, MaySend, delivered, finds_room, game, part, parts, reached}
+use Rattle.dip_desk.specs.Fitting.{LacksPlace}
+use Rattle.dip_desk.specs.Stored.{AuthorMaySend, Brings, delivered, finds_room, game, inboxes_have_room, is_press, part, parts, reached}
 use Rattle.dip_desk.specs.declared.games.GameRow.{GameRow}
 use Rattle.dip_desk.specs.declared.games.SeatRow.{SeatRow}
 use Rattle.dip_desk_machine.proofs.Seeing.{both}
@@ -139,27 +141,66 @@ each_of : (P : Part → Type 0) (ps : List Part) → ((p : Part) → P p) → Al
 each_of P [] all = tt
 each_of P (p ∷ ps) all = (all p, each_of P ps all)
 
-sent_room : (readers : List ℕ) (item : Item) (ps : List Part) → list_all (λ p. has_room p.own) ps ≡ true
-    → AllByRecursion (MaySend (Delivers readers item)) (map (with_effect (Delivers readers item)) ps)
-sent_room readers item [] room = tt
-sent_room readers item (p ∷ ps) room =
-    let all = both (has_room p.own) (list_all (λ q. has_room q.own) ps) room in
-    let counts = both (nat_lt p.own.items 4294967295) (nat_lt p.own.sent 4294967295) all.0 in
-    (go (list_any (λ q. q == power_in p) readers) (ltb-true p.own.sent 4294967295 counts.1), sent_room readers item ps all.1)
+-- the author may send, as each seat of a game says
+sent_room : (who : Author) (readers : List ℕ) (item : Item) (ps : List Part) → have_room who readers ps ≡ true
+    → AllByRecursion (AuthorMaySend who (Delivers readers item)) (map (with_effect (Delivers readers item)) ps)
+sent_room who readers item [] room = tt
+sent_room who readers item (p ∷ ps) room =
+    let all = both (has_room who readers p.own) (have_room who readers ps) room in
+    let sends = (both (may_send who p.own) (may_get readers p.own) all.0).0 in
+    (go (list_any (λ q. q == power_in p) readers) (λ mine. less (is_seat who (power_in p)) mine sends), sent_room who readers item ps all.1)
   where
-    go : (b : Bool) → p.own.sent < 4294967295 → MaySend (Delivers readers item) (cond b (with_item item p) p)
-    go true lt press = lt
-    go false lt press = lt
+    less : (b : Bool) → b ≡ true → cond b (nat_lt p.own.sent most_sent) true ≡ true → p.own.sent < most_sent
+    less true mine sends = ltb-true p.own.sent most_sent sends
+    less false mine sends = absurd (false≢true mine)
+
+    go : (b : Bool) → (is_seat who (power_in p) ≡ true → p.own.sent < most_sent) → AuthorMaySend who (Delivers readers item) (cond b (with_item item p) p)
+    go true lt mine press = lt mine
+    go false lt mine press = lt mine
+
+none_sent : (who : Author) (e : Effect) (ps : List Part) → is_press e ≡ false → AllByRecursion (AuthorMaySend who e) ps
+none_sent who e ps quiet = each_of (AuthorMaySend who e) ps (λ p mine press. absurd (false≢true (sym quiet ∙ press)))
 
 -- where the counts have room, the author may have sent one more, and press leaves it that
-pub all_may_send : (e : Effect) (ps : List Part) → finds_room e ps ≡ true → AllByRecursion (MaySend e) (delivered e ps)
-all_may_send Nothing ps room = each_of (MaySend Nothing) ps (λ p press. absurd (false≢true press))
-all_may_send (Pending orders) ps room = each_of (MaySend (Pending orders)) ps (λ p press. absurd (false≢true press))
-all_may_send (Votes draw) ps room = each_of (MaySend (Votes draw)) ps (λ p press. absurd (false≢true press))
-all_may_send (Delivers readers item) ps room = sent_room readers item ps room
-all_may_send (Opens public paper seats) ps room = each_of (MaySend (Opens public paper seats)) ps (λ p press. absurd (false≢true press))
-all_may_send (Publishes public paper played) ps room = each_of (MaySend (Publishes public paper played)) ps (λ p press. absurd (false≢true press))
-all_may_send (Seats seat) ps room = each_of (MaySend (Seats seat)) ps (λ p press. absurd (false≢true press))
+pub all_may_send : (who : Author) (e : Effect) (ps : List Part) → finds_room who e ps ≡ true → AllByRecursion (AuthorMaySend who e) (delivered e ps)
+all_may_send who Nothing ps room = none_sent who Nothing ps refl
+all_may_send who (Pending orders) ps room = none_sent who (Pending orders) ps refl
+all_may_send who (Votes draw) ps room = none_sent who (Votes draw) ps refl
+all_may_send who (Delivers readers item) ps room = sent_room who readers item ps room
+all_may_send who (Opens public paper seats) ps room = none_sent who (Opens public paper seats) ps refl
+all_may_send who (Publishes public paper played) ps room = none_sent who (Publishes public paper played) ps refl
+all_may_send who (Seats seat) ps room = none_sent who (Seats seat) ps refl
+
+-- and the inboxes have room
+pub all_may_get : (who : Author) (e : Effect) (ps : List Part) → finds_room who e ps ≡ true → inboxes_have_room e ps ≡ true
+all_may_get who Nothing ps room = refl
+all_may_get who (Pending orders) ps room = refl
+all_may_get who (Votes draw) ps room = refl
+all_may_get who (Delivers readers item) ps room = gets ps room
+  where
+    gets : (qs : List Part) → have_room who readers qs ≡ true → list_all (λ q. may_get readers q.own) qs ≡ true
+    gets [] all = refl
+    gets (q ∷ qs) all =
+        let parts = both (has_room who readers q.own) (have_room who readers qs) all in
+        ap (λ (t : Bool). t && list_all (λ r. may_get readers r.own) qs) (both (may_send who q.own) (may_get readers q.own) parts.0).1 ∙ gets qs parts.1
+all_may_get who (Opens public paper seats) ps room = refl
+all_may_get who (Publishes public paper played) ps room = refl
+all_may_get who (Seats seat) ps room = refl
+
+-- the seat at the place of a power is of that power
+pub at_power : (power : ℕ) (xs : List SeatRow) (i : ℕ) (old : SeatRow) → i ≡ place (λ a b. a == b) power_in power (parts xs) → i < length xs → old ≡ get_or xs i old
+    → (power_in (part old) == power) ≡ true
+at_power power [] i old here lt is = absurd (omega (arith, lt))
+at_power power (x ∷ xs) i old here lt is = go (power_in (part x) == power) refl i here lt is (λ j here lt is. at_power power xs j old here lt is)
+  where
+    go : (b : Bool) → (power_in (part x) == power) ≡ b → (j : ℕ) → j ≡ cond b 0 (place (λ a b. a == b) power_in power (parts xs) + 1) → j < suc (length xs)
+        → old ≡ get_or (x ∷ xs) j old
+        → ((j : ℕ) → j ≡ place (λ a b. a == b) power_in power (parts xs) → j < length xs → old ≡ get_or xs j old → (power_in (part old) == power) ≡ true)
+        → (power_in (part old) == power) ≡ true
+    go true hit zero here lt is more = subst (λ (y : SeatRow). (power_in (part y) == power) ≡ true) (sym is) hit
+    go true hit (suc j) here lt is more = absurd (omega (arith, here))
+    go false off zero here lt is more = absurd (omega (arith, here))
+    go false off (suc j) here lt is more = more j (omega (arith, here)) (omega (arith, lt)) is
 
 -- the seats of a loop that reaches each in turn
 pub reach_next : (e : Effect) (xs : List SeatRow) (i : ℕ) (new d : SeatRow) → i < length xs → part new ≡ reached e (part (get_or xs i d))
@@ -172,12 +213,15 @@ reach_next e xs i new d lt is = rw (add-one i) (go xs i lt is)
     go (y ∷ ys) zero lt is = ap (λ (p : Part). p ∷ map (reached e) (parts ys)) is
     go (y ∷ ys) (suc j) lt is = ap (λ (ps : List Part). part y ∷ ps) (go ys j (omega arith) is)
 
--- where the counts have no room, the effect doesn't fit
-pub no_room : (name : List ℕ) (e : Effect) (key : List ℕ) (g : GameRow) → finds_room e (parts g.seats.items) ≡ false → FindsPlace name e (Some (game key g)) → ⊥
-no_room name Nothing key g none fits = absurd (false≢true (sym none))
-no_room name (Pending orders) key g none fits = absurd (false≢true (sym none))
-no_room name (Votes draw) key g none fits = absurd (false≢true (sym none))
-no_room name (Delivers readers item) key g none fits = absurd (false≢true (sym none ∙ fits))
-no_room name (Opens public paper seats) key g none fits = absurd (false≢true (sym none))
-no_room name (Publishes public paper played) key g none fits = absurd (false≢true (sym none))
-no_room name (Seats seat) key g none fits = absurd (false≢true (sym none))
+above : (a : ℕ) → nat_le a most_papers ≡ false → most_papers < a
+above a is = grind (arith, nat_tests)
+
+-- where the counts have no room, the effect finds no place
+pub no_room : (name : List ℕ) (who : Author) (e : Effect) (key : List ℕ) (g : GameRow) → finds_room who e (parts g.seats.items) ≡ false → LacksPlace name who e (Some (game key g))
+no_room name who Nothing key g none = absurd (false≢true (sym none))
+no_room name who (Pending orders) key g none = absurd (false≢true (sym none))
+no_room name who (Votes draw) key g none = absurd (false≢true (sym none))
+no_room name who (Delivers readers item) key g none = none
+no_room name who (Opens public paper seats) key g none = absurd (false≢true (sym none))
+no_room name who (Publishes public paper played) key g none = above public.papers none
+no_room name who (Seats seat) key g none = absurd (false≢true (sym none))

@@ -1,36 +1,32 @@
 -- What is decided by an author's sight is what the machine decides.
-use Rattle.std.proofs.Common.{◌≡◌, ℕ, ◌<◌, Bool, true, false, cond, length, List, Option, None, Some, option_map, refl, sym, ◌∙◌, ap, subst, inl, inr, bytes_eq, codes, is_some}
+use Rattle.std.proofs.Common.{◌≡◌, ℕ, ◌<◌, ◌≤◌, ◌+◌, ◌⊎◌, arith, nat_lt, Bool, true, false, cond, length, List, Option, None, Some, option_map, refl, sym, ◌∙◌, ap, subst, inl, inr, bytes_eq, codes, is_some}
 use Rattle.std.specs.Prelude.{option_and_then}
 use Rattle.std.specs.List.{AllByRecursion}
-use Rattle.std.proofs.lemmas.Bool.{false≢true}
+use Rattle.std.proofs.lemmas.Bool.{false≢true, ltb-false, ltb-true}
 use Rattle.dip_letters.specs.Letters.{FitsRequest}
 use Rattle.dip_letters.specs.Notes.{NoticeRequest, PlayerRequest, Request, SeatNote}
 use Rattle.dip_letters.specs.Notes.MasterRequest.{Create, Tick, Replace, Notify}
 use Rattle.dip_letters.specs.Notes.PlayerRequest.{Press}
 use Rattle.dip_letters.specs.Notes.Request.{Player, Master}
 use Rattle.dip_map.specs.Charts.{Chart, power_of}
+use Rattle.dip_desk_state.specs.Bounds.{most_papers}
 use Rattle.dip_desk_state.specs.Records.{Item, Public, Reply}
 use Rattle.dip_desk_machine.specs.Machine.{DecidedBy, Decides, IsDamagedBy, IsDamagedGame, IsForeign, IsDamagedSight, IsForeignTo, IsFull, IsSpoiledIn, MayBeDamaged, Sees, NoGame, ASeat, Settles, Step, after, OfMaster, OfNobody, OfSeat, Sight, Verdict, NotKnown, Again, OutOfTurn, Taken, author, author_of, change_of, digest, master_author, master_sees, master_sight, page_shown, power_author, power_sight, seat_author, seat_sight, seen_in, sight_of, verdict_by, verdict_on}
 use Rattle.dip_desk_machine.specs.Fitting.{EffectsFit, LawfulEffectsFit}
-use Rattle.dip_desk_machine.specs.Lawful.{IsLawfulGame}
+use Rattle.dip_desk_machine.specs.Lawful.{IsNeverDamaged}
 use Rattle.dip_desk_machine.specs.Mail.{IsMail, Mail}
-use Rattle.dip_desk_state.specs.State.{Author, Effect, Game, name_of, Nobody, Nothing, Part, Pending, Votes, Delivers, Opens, Publishes, Seats, Seat, State, TheMaster, game_at, own_at, own_of, part_at, public_at, seat_at, whole_of}
+use Rattle.dip_desk_state.specs.State.{Author, Change, Effect, Game, have_room, Nobody, Nothing, Part, Pending, Votes, Delivers, Opens, Publishes, Seats, Seat, State, TheMaster, game_at, own_at, own_of, part_at, public_at, seat_at, whole_of}
 use Rattle.dip_desk_machine.specs.Ticking.{public_played}
-use Rattle.dip_desk_state.specs.Writable.{IsPlainItem}
-use Rattle.dip_desk.specs.Fitting.{ChangesFit, FindsPlace, Fits, FitsGame, VerdictFits}
+use Rattle.dip_desk.specs.Fitting.{ChangesFit, FindsPlace, Fits, FitsGame, LacksPlace, VerdictFits}
 use Rattle.dip_desk.specs.Looked.{is_seen, public_seen, seat_by, seat_seen, whole_seen}
-use Rattle.dip_desk.specs.Stored.{is_press}
-use Rattle.dip_desk_machine.proofs.Fitting.{readers_low}
-use Rattle.dip_desk_machine.proofs.LawfulStates.{seats_room}
-use Rattle.dip_desk_machine.proofs.ListLemmas.{all_at}
-use Rattle.dip_desk_machine.proofs.Others.{seat_sent}
+use Rattle.dip_desk_machine.proofs.LawfulStates.{master_new}
 use Rattle.dip_desk_machine.proofs.Suiting.{Comes, IsPosted, decides_suits, master_posted, opens_where}
-use Rattle.dip_desk_machine.proofs.WritableLemmas.{author_known, item_plain}
+use Rattle.dip_desk_machine.proofs.WritableLemmas.{author_known}
 
 -- a sight is the author's, and what is decided by it is what may be decided
 abbrev pub IsRight : Chart → Mail → State → Author → Sight → Type 0
 IsRight m n s who sight =
-    (author_of sight ≡ who) × ((v : Verdict) → DecidedBy m n sight v → Decides m s n who v) × (IsDamagedSight m sight → MayBeDamaged m s n who)
+    (author_of sight ≡ who) × ((v : Verdict) → DecidedBy m n sight v → Decides m s n who v) × (IsDamagedSight m n sight → MayBeDamaged m s n who)
 
 -- the own part of a seat, and the seat
 pub own_is : (name : List ℕ) (power : ℕ) (s : State) → own_at name power s ≡ own_of (part_at name power s)
@@ -72,7 +68,7 @@ pub is_right : (m : Chart) (n : Mail) (s : State) → IsRight m n s (author m n 
 is_right m n s = go (bytes_eq n.note.sender (codes "master"))
   where
     master : (b : Bool) → IsRight m n s (cond b TheMaster Nobody) (cond b (OfMaster s.desk.kept (master_sees m n.note.command (game_at n.note.game s))) OfNobody)
-    master true = (refl, λ v d. d (game_at n.note.game s) refl, λ bad. game_spoiled m n.note.command (game_at n.note.game s) bad)
+    master true = (refl, λ v d. d (game_at n.note.game s) refl, λ bad. (bad.0, game_spoiled m n.note.command (game_at n.note.game s) bad.1))
     master false = (refl, λ v d. d, λ bad. bad)
 
     power : (q : Option ℕ) → IsRight m n s (power_author n q s) (power_sight n q s)
@@ -137,104 +133,134 @@ settled_by_sight m n s t sight who v r is whose decided done =
     let right : IsRight m n s (author m n s) sight = subst (IsRight m n s (author m n s)) (sym is) (is_right m n s) in
     (v, right.1 v decided, done.0, done.1 ∙ ap (λ (a : Author). after n a v s) (whose ∙ right.0))
 
--- what is published has the next number of its game
-next_paper : (m : Chart) (name : List ℕ) (command : Request) (game : Option Game) (text : List ℕ) (public : Public) (paper : List ℕ) (played : Bool)
-    → IsPosted m command game (Taken text (Publishes public paper played)) → FindsPlace name (Publishes public paper played) game
-next_paper m name command game text public paper true by =
+-- a count is below the greatest number of papers, or not
+few_papers : (k : ℕ) → (k < most_papers) ⊎ (k < most_papers → ⊥)
+few_papers k = go (nat_lt k most_papers) refl
+  where
+    go : (b : Bool) → nat_lt k most_papers ≡ b → (k < most_papers) ⊎ (k < most_papers → ⊥)
+    go true is = inl (ltb-true k most_papers is)
+    go false is = inr (λ less. let most = ltb-false k most_papers is in omega (arith, less, most))
+
+-- what is published has the next number of its game, where that has not as many papers as a game has; and where it has, the command can't
+-- be done in it
+paper_place : (m : Chart) (name : List ℕ) (who : Author) (command : Request) (game : Option Game) (text : List ℕ) (public : Public) (paper : List ℕ) (played : Bool)
+    → IsPosted m command game (Taken text (Publishes public paper played)) → FindsPlace name who (Publishes public paper played) game ⊎ IsSpoiledIn m command game
+paper_place m name who command game text public paper true by =
     let p = by.4 in
     let behind : public ≡ public_played by.0 by.1.public p.board p.report.course = cc in
-    subst (FindsPlace name (Publishes public paper true)) (sym by.3) (ap (λ (q : Public). q.papers) behind)
-next_paper m name command game text public paper false by = subst (FindsPlace name (Publishes public paper false)) (sym by.1) by.2.papers
+    let next : public.papers ≡ by.1.public.papers + 1 = ap (λ (q : Public). q.papers) behind in
+    subst (λ (x : Option Game). FindsPlace name who (Publishes public paper true) x ⊎ IsSpoiledIn m command x) (sym by.3)
+    (subst (λ (c : Request). FindsPlace name who (Publishes public paper true) (Some by.1) ⊎ IsSpoiledIn m c (Some by.1)) (sym by.2)
+    (elim (few_papers by.1.public.papers) [
+      | inl few ↦ inl (next, omega (arith, next, few))
+      | inr full ↦ inr (λ can of. full can.papers)
+    ]))
+paper_place m name who command game text public paper false by =
+    let next : public.papers ≡ by.0.public.papers + 1 = by.2.papers in
+    subst (λ (x : Option Game). FindsPlace name who (Publishes public paper false) x ⊎ IsSpoiledIn m command x) (sym by.1)
+    (elim (few_papers by.0.public.papers) [
+      | inl few ↦ inl (next, omega (arith, next, few))
+      | inr full ↦ inr (by.3 (λ of low. full low))
+    ])
 
 -- a paper comes from the master, in a game that is there
 published : (m : Chart) (s : State) (n : Mail) (who : Author) (text : List ℕ) (public : Public) (paper : List ℕ) (played : Bool) → Decides m s n who (Taken text (Publishes public paper played))
-    → FindsPlace n.note.game (Publishes public paper played) (game_at n.note.game s)
+    → FindsPlace n.note.game who (Publishes public paper played) (game_at n.note.game s) ⊎ MayBeDamaged m s n who
 published m s n Nobody text public paper played d = absurd (decides_suits m s n Nobody (Taken text (Publishes public paper played)) d).0
 published m s n TheMaster text public paper played d =
-    next_paper m n.note.game n.note.command (game_at n.note.game s) text public paper played
-    (master_posted m n s.desk.kept n.note.command (game_at n.note.game s) (Taken text (Publishes public paper played)) d)
+    elim (paper_place m n.note.game TheMaster n.note.command (game_at n.note.game s) text public paper played
+    (master_posted m n s.desk.kept n.note.command (game_at n.note.game s) (Taken text (Publishes public paper played)) d)) [
+      | inl place ↦ inl place
+      | inr spoiled ↦ inr (master_new m n s.desk.kept n.note.command (game_at n.note.game s) text (Publishes public paper played) d, spoiled)
+    ]
 published m s n (Seat p) text public paper played d = absurd (none (game_at n.note.game s) (decides_suits m s n (Seat p) (Taken text (Publishes public paper played)) d).0)
   where
     none : (game : Option Game) → Comes (Seat p) game (Publishes public paper played) → ⊥
     none None comes = comes
     none (Some g) comes = comes
 
--- what is no press finds place
-finds_place : (m : Chart) (s : State) (n : Mail) (who : Author) (text : List ℕ) (e : Effect) → (is_press e ≡ false) → Decides m s n who (Taken text e) → FindsPlace n.note.game e (game_at n.note.game s)
-finds_place m s n who text Nothing quiet d = tt
-finds_place m s n who text (Pending orders) quiet d = tt
-finds_place m s n who text (Votes draw) quiet d = tt
-finds_place m s n who text (Delivers readers item) quiet d = absurd (false≢true (sym quiet))
-finds_place m s n who text (Publishes public paper played) quiet d = published m s n who text public paper played d
-finds_place m s n who text (Seats seat) quiet d = tt
-finds_place m s n who text (Opens public paper seats) quiet d =
-    let all = opens_where n.note.game who (game_at n.note.game s) public paper seats (decides_suits m s n who (Taken text (Opens public paper seats)) d) in (all.2, all.1)
+-- press finds room, or a count is full
+press_place : (m : Chart) (n : Mail) (p : ℕ) (text : List ℕ) (readers : List ℕ) (item : Item) (game : Option Game)
+    → Taken text (Delivers readers item) ≡ verdict_on m n (seen_in p game) → FindsPlace n.note.game (Seat p) (Delivers readers item) game ⊎ IsFull m n p game
+press_place m n p text readers item None d = inl tt
+press_place m n p text readers item (Some g) d = go (have_room (Seat p) readers g.seats) refl
+  where
+    go : (b : Bool) → have_room (Seat p) readers g.seats ≡ b → FindsPlace n.note.game (Seat p) (Delivers readers item) (Some g) ⊎ IsFull m n p (Some g)
+    go true is = inl is
+    go false is = inr (text, readers, item, d, is)
+
+delivered : (m : Chart) (s : State) (n : Mail) (who : Author) (text : List ℕ) (readers : List ℕ) (item : Item) → Decides m s n who (Taken text (Delivers readers item))
+    → FindsPlace n.note.game who (Delivers readers item) (game_at n.note.game s) ⊎ MayBeDamaged m s n who
+delivered m s n Nobody text readers item d = absurd (decides_suits m s n Nobody (Taken text (Delivers readers item)) d).0
+delivered m s n TheMaster text readers item d = absurd (decides_suits m s n TheMaster (Taken text (Delivers readers item)) d).0
+delivered m s n (Seat p) text readers item d = elim (press_place m n p text readers item (game_at n.note.game s) d) [
+  | inl place ↦ inl place
+  | inr full ↦ inr (inr (inr full))
+]
+
+-- what is decided finds place, or the record of its author may be Damaged
+finds_place : (m : Chart) (s : State) (n : Mail) (who : Author) (text : List ℕ) (e : Effect) → Decides m s n who (Taken text e)
+    → FindsPlace n.note.game who e (game_at n.note.game s) ⊎ MayBeDamaged m s n who
+finds_place m s n who text Nothing d = inl tt
+finds_place m s n who text (Pending orders) d = inl tt
+finds_place m s n who text (Votes draw) d = inl tt
+finds_place m s n who text (Delivers readers item) d = delivered m s n who text readers item d
+finds_place m s n who text (Publishes public paper played) d = published m s n who text public paper played d
+finds_place m s n who text (Seats seat) d = inl tt
+finds_place m s n who text (Opens public paper seats) d =
+    let all = opens_where n.note.game who (game_at n.note.game s) public paper seats (decides_suits m s n who (Taken text (Opens public paper seats)) d) in inl (all.2, all.1)
 
 -- a change of a letter of the grammar fits where its effect does
-whole : (m : Chart) (s : State) (n : Mail) (text : List ℕ) (e : Effect) → IsMail n → FitsGame m n.note.game e (game_at n.note.game s) → Fits m (change_of n (author m n s) text e) s
+whole : (m : Chart) (s : State) (n : Mail) (text : List ℕ) (e : Effect) → IsMail n → FitsGame m n.note.game (author m n s) e (game_at n.note.game s)
+    → Fits m (change_of n (author m n s) text e) s
 whole m s n text e is effect = record { author = author_known m n s; least = is.number_least; most = is.number_most; name = is.game; effect = effect }
 
--- in a lawful state each change fits: press finds room in each seat
-pub changes_fit : (m : Chart) → LawfulEffectsFit m → ChangesFit m
-changes_fit m fit s n text e l is d = whole m s n text e is (fit s n (author m n s) text e l is d, place e d)
+-- in a lawful state each change fits: nothing there is Damaged
+pub changes_fit : (m : Chart) → LawfulEffectsFit m → IsNeverDamaged m → ChangesFit m
+changes_fit m fit never s n text e l is d = whole m s n text e is (fit s n (author m n s) text e l is d, place (finds_place m s n (author m n s) text e d))
   where
-    room : (readers : List ℕ) (item : Item) (game : Option Game) → game_at n.note.game s ≡ game → FindsPlace n.note.game (Delivers readers item) game
-    room readers item None found = tt
-    room readers item (Some g) found = seats_room m g.public.board g.seats (all_at bytes_eq name_of n.note.game (IsLawfulGame m) s.games g l.games found).seats
+    place : FindsPlace n.note.game (author m n s) e (game_at n.note.game s) ⊎ MayBeDamaged m s n (author m n s) → FindsPlace n.note.game (author m n s) e (game_at n.note.game s)
+    place (inl found) = found
+    place (inr damaged) = absurd (never s n (author m n s) is l damaged)
 
-    place : (e : Effect) → Decides m s n (author m n s) (Taken text e) → FindsPlace n.note.game e (game_at n.note.game s)
-    place Nothing d = finds_place m s n (author m n s) text Nothing refl d
-    place (Pending orders) d = finds_place m s n (author m n s) text (Pending orders) refl d
-    place (Votes draw) d = finds_place m s n (author m n s) text (Votes draw) refl d
-    place (Delivers readers item) d = room readers item (game_at n.note.game s) refl
-    place (Opens public paper seats) d = finds_place m s n (author m n s) text (Opens public paper seats) refl d
-    place (Publishes public paper played) d = finds_place m s n (author m n s) text (Publishes public paper played) refl d
-    place (Seats seat) d = finds_place m s n (author m n s) text (Seats seat) refl d
-
--- what is decided by a sight finds place, and where it doesn't fit the map, its author's record may be Damaged
+-- what is decided by a sight finds place and fits the map, or else its author's record may be Damaged
 pub unfit_by_sight : (m : Chart) (n : Mail) (s : State) (sight : Sight) (who : Author) (v : Verdict) → EffectsFit m → IsMail n → sight ≡ sight_of m n s → who ≡ author_of sight
     → DecidedBy m n sight v → (VerdictFits m n who v s → ⊥) → IsDamagedBy m n s
 unfit_by_sight m n s sight who v fit is_mail is whose decided unfit =
     let right : IsRight m n s (author m n s) sight = subst (IsRight m n s (author m n s)) (sym is) (is_right m n s) in
     blamed v (right.1 v decided) (subst (λ (a : Author). VerdictFits m n a v s → ⊥) (whose ∙ right.0) unfit)
   where
-    -- press that finds no place is of a game with a full count
-    full : (who : Author) (text : List ℕ) (readers : List ℕ) (item : Item) → Decides m s n who (Taken text (Delivers readers item))
-        → (FitsGame m n.note.game (Delivers readers item) (game_at n.note.game s) → ⊥) → MayBeDamaged m s n who
-    full Nobody text readers item d unfit = absurd (decides_suits m s n Nobody (Taken text (Delivers readers item)) d).0
-    full TheMaster text readers item d unfit = absurd (decides_suits m s n TheMaster (Taken text (Delivers readers item)) d).0
-    full (Seat p) text readers item d unfit =
-        let sent = seat_sent m s n p (Taken text (Delivers readers item)) d in
-        let press = subst FitsRequest sent.3 is_mail.command in
-        let on_map : AllByRecursion (λ q. q < length m.realms) readers = readers_low m p sent.1 readers sent.4 in
-        let plain : IsPlainItem item = subst IsPlainItem (sym sent.6) (item_plain m p sent.0 sent.1 sent.2 press.0 press.1) in
-        inr (inr (subst (λ (c : Request). IsFull c (game_at n.note.game s)) (sym sent.3)
-        (by sent.0 sent.1 sent.2 (game_at n.note.game s) (decides_suits m s n (Seat p) (Taken text (Delivers readers item)) d).0 (λ place. unfit ((on_map, plain), place)))))
-      where
-        by : (grey : Bool) (names lines : List (List ℕ)) (game : Option Game) → Comes (Seat p) game (Delivers readers item) → (FindsPlace n.note.game (Delivers readers item) game → ⊥)
-            → IsFull (Player (Press grey names lines)) game
-        by grey names lines None comes none = absurd comes
-        by grey names lines (Some g) comes none = none
-
     blamed : (v : Verdict) → Decides m s n (author m n s) v → (VerdictFits m n (author m n s) v s → ⊥) → IsDamagedBy m n s
     blamed NotKnown d unfit = absurd (unfit tt)
     blamed (Again text) d unfit = absurd (unfit tt)
     blamed (OutOfTurn text) d unfit = absurd (unfit tt)
-    blamed (Taken text e) d unfit = kinds e d (λ fits. unfit (whole m s n text e is_mail fits))
-      where
-        other : (e : Effect) → is_press e ≡ false → Decides m s n (author m n s) (Taken text e) → (FitsGame m n.note.game e (game_at n.note.game s) → ⊥) → IsDamagedBy m n s
-        other e quiet d unfit = fit s n (author m n s) text e is_mail d (λ on_map. unfit (on_map, finds_place m s n (author m n s) text e quiet d))
+    blamed (Taken text e) d unfit = elim (finds_place m s n (author m n s) text e d) [
+      | inl place ↦ fit s n (author m n s) text e is_mail d (λ on_map. unfit (whole m s n text e is_mail (on_map, place)))
+      | inr damaged ↦ damaged
+    ]
 
-        kinds : (e : Effect) → Decides m s n (author m n s) (Taken text e) → (FitsGame m n.note.game e (game_at n.note.game s) → ⊥) → IsDamagedBy m n s
-        kinds Nothing d unfit = other Nothing refl d unfit
-        kinds (Pending orders) d unfit = other (Pending orders) refl d unfit
-        kinds (Votes draw) d unfit = other (Votes draw) refl d unfit
-        kinds (Delivers readers item) d unfit = full (author m n s) text readers item d unfit
-        kinds (Opens public paper seats) d unfit = other (Opens public paper seats) refl d unfit
-        kinds (Publishes public paper played) d unfit = other (Publishes public paper played) refl d unfit
-        kinds (Seats seat) d unfit = other (Seats seat) refl d unfit
+-- a change that fits doesn't lack place
+pub fits_in_place : (m : Chart) (c : Change) (s : State) → Fits m c s → LacksPlace c.game c.author c.effect (game_at c.game s) → ⊥
+fits_in_place m c s fits = by c.effect (game_at c.game s) fits.effect
+  where
+    by : (e : Effect) (game : Option Game) → FitsGame m c.game c.author e game → LacksPlace c.game c.author e game → ⊥
+    by Nothing game fit lacks = lacks
+    by (Pending orders) game fit lacks = lacks
+    by (Votes draw) game fit lacks = lacks
+    by (Delivers readers item) None fit lacks = lacks
+    by (Delivers readers item) (Some g) fit lacks = false≢true (sym lacks ∙ fit.1)
+    by (Opens public paper seats) game fit lacks = elim lacks [
+      | inl other ↦ other fit.1.0
+      | inr more ↦ elim more [
+        | inl many ↦ let one = fit.0.1 in omega (arith, one, many)
+        | inr taken ↦ taken fit.1.1
+      ]
+    ]
+    by (Publishes public paper played) None fit lacks = lacks
+    by (Publishes public paper played) (Some g) fit lacks = let most = fit.1.1 in omega (arith, most, lacks)
+    by (Seats seat) game fit lacks = lacks
 
 -- and a fault of the sight is one of the letter's author
-pub blamed_by_sight : (m : Chart) (n : Mail) (s : State) (sight : Sight) → sight ≡ sight_of m n s → IsDamagedSight m sight → IsDamagedBy m n s
+pub blamed_by_sight : (m : Chart) (n : Mail) (s : State) (sight : Sight) → sight ≡ sight_of m n s → IsDamagedSight m n sight → IsDamagedBy m n s
 blamed_by_sight m n s sight is bad =
     let right : IsRight m n s (author m n s) sight = subst (IsRight m n s (author m n s)) (sym is) (is_right m n s) in right.2 bad

@@ -1,5 +1,8 @@
 //! A keeper in memory.
-ghost use Rattle.std.specs.Prelude.{◌≡◌, [], None, IfOk, option_map};
+ghost use Rattle.std.specs.Prelude.{◌≡◌, [], None, IfOk, IsErrOf, option_map, string_bytes};
+ghost use Rattle.dip_desk.specs.Fitting.{Fits, LacksPlace};
+ghost use Rattle.dip_desk.specs.Keeping.{Changes};
+ghost use Rattle.dip_desk_state.specs.State.{game_at, state_after};
 ghost use Rattle.dip_desk_state.specs.ChangeRows as desk_rows;
 ghost use Rattle.dip_desk_state.specs.Rows as rows;
 ghost use Rattle.dip_desk.specs.Stored as stored;
@@ -118,7 +121,20 @@ impl Keeper for MemoryKeeper {
         }
     }
 
-    fn apply(&mut self, _map: &Map, change: &Change) -> Result<(), KeepFault> {
+    /// Makes the change whole or not at all. `Damaged` is told only where it finds no place: of press, where what its author has sent or
+    /// the inbox of a reader is at its bound; of a new game, where its name isn't the change's or is taken, or it has more papers than a
+    /// game has; of a paper, where its number is more than a game has papers. `Disk` is never told.
+    #[tactic(auto, using(crate::proofs::Sighting::fits_in_place))]
+    fn apply(&mut self, _map: &Map, change: &Change) -> Result<(), KeepFault>
+        ensures changes { Changes _map.now stored.book self.old self.new
+            (state_after (desk_rows.change change.now))
+            (Fits _map.now (desk_rows.change change.now)) result }
+        ensures damaged { IsErrOf result KeepFault.Damaged
+            → LacksPlace (string_bytes change.now.game) (desk_rows.author change.now.author)
+            (desk_rows.effect change.now.effect)
+            (game_at (string_bytes change.now.game) (stored.state self.old)) }
+        ensures disk { IsErrOf result KeepFault.Disk → ⊥ }
+    {
         let last = last_of(change)?;
         record_games(self.alloc, &mut self.games, change)?;
         record_desk(&mut self.desk, last);

@@ -2,8 +2,7 @@
 ghost use Rattle.std.specs.Prelude.{◌≡◌, ◌∷◌, [], ◌++◌, ◌==◌, ℕ, List, Some, IfOk, IsErrOf, OnErr, OnOk, bytes_eq, map as each, option_map, string_bytes, true};
 ghost use Rattle.std.specs.List.{AllByRecursion, list_all, list_any};
 ghost use Rattle.dip_desk_state.specs.Faults.{faults_after};
-ghost use Rattle.dip_desk.specs.Fitting.{FindsPlace};
-ghost use Rattle.dip_desk_state.specs.State.{has_room};
+ghost use Rattle.dip_desk.specs.Fitting.{LacksPlace};
 ghost use Rattle.dip_desk_state.specs.Keyed.{at, change_at, place};
 ghost use Rattle.dip_desk_state.specs.State as s;
 ghost use Rattle.dip_desk_state.specs.ChangeRows as desk_rows;
@@ -13,7 +12,8 @@ ghost use Rattle.dip_desk.specs.Stored as stored;
 use crate::games::{GameRow, Games, SeatRow};
 use crate::opening::add_game;
 use dip_desk_state::{
-    Author, Change, Effect, Item, KeepFault, Kept, Own, Public, Standing, copy_standings,
+    Author, Change, Effect, Item, KeepFault, Kept, MOST_ITEMS, MOST_PAPERS, MOST_SENT, Own, Public,
+    Standing, copy_standings,
 };
 use dip_names::Power;
 use std::alloc::{AllocError, Global};
@@ -64,7 +64,8 @@ fn record_seat(
 )
     requires pending { option_map (λ l. rows.standings l.items) pending ≡ stored.orders_in
         (desk_rows.effect effect.now) }
-    requires room { AllByRecursion (stored.MaySend (desk_rows.effect effect.now))
+    requires room { AllByRecursion
+        (stored.AuthorMaySend (s.Seat power) (desk_rows.effect effect.now))
         (stored.parts seats.old.items) }
     ensures { stored.parts seats.new.items ≡ change_at (λ a b. a == b) s.power_in power
         (s.with_letter (rows.kept kept) (desk_rows.effect effect.now))
@@ -86,7 +87,8 @@ fn record_author(
 )
     requires pending { option_map (λ l. rows.standings l.items) pending ≡ stored.orders_in
         (desk_rows.effect effect.now) }
-    requires room { AllByRecursion (stored.MaySend (desk_rows.effect effect.now))
+    requires room { AllByRecursion
+        (stored.AuthorMaySend (desk_rows.author author) (desk_rows.effect effect.now))
         (stored.parts seats.old.items) }
     ensures { stored.parts seats.new.items ≡ s.with_author (desk_rows.author author)
         (rows.kept kept) (desk_rows.effect effect.now) (stored.parts seats.old.items) }
@@ -137,43 +139,63 @@ fn reach_seats(seats: &mut Vec<SeatRow>, effect: &Effect)
     }
 }
 
-/// Whether the counts of each seat have room for one item more, where the effect is press.
-fn finds_room(effect: &Effect, seats: &[SeatRow]) -> bool
-    ensures { result ≡ stored.finds_room (desk_rows.effect effect.now) (stored.parts seats.now) }
+/// Whether a seat may send one letter of press more, where it is the author.
+fn may_send(author: &Author, own: &Own) -> bool
+    ensures { result ≡ s.may_send (desk_rows.author author.now) (rows.own own.now) }
 {
-    match effect {
-        Effect::Delivers { .. } => have_room(seats),
-        Effect::Nothing
-        | Effect::Pending(_)
-        | Effect::Votes(_)
-        | Effect::Opens { .. }
-        | Effect::Publishes { .. }
-        | Effect::Seats(_) => true,
+    match author {
+        Author::Seat(power) => *power != own.power || own.sent < MOST_SENT,
+        Author::Nobody | Author::TheMaster => true,
     }
 }
 
-/// Whether a seat's counts have room for one more.
-fn has_room(own: &Own) -> bool
-    ensures { result ≡ has_room (rows.own own.now) }
+/// Whether a seat's inbox may get one item more, where it is a reader.
+fn may_get(readers: &[Power], own: &Own) -> bool
+    ensures { result ≡ s.may_get readers.now (rows.own own.now) }
 {
-    own.items < u32::MAX && own.sent < u32::MAX
+    !reads(readers, own.power) || own.items < MOST_ITEMS
 }
 
-fn have_room(seats: &[SeatRow]) -> bool
-    ensures { result ≡ list_all (λ p. has_room p.own) (stored.parts seats.now) }
+/// Whether a seat's counts have room for a letter of press.
+fn has_room(author: &Author, readers: &[Power], own: &Own) -> bool
+    ensures { result ≡ s.has_room (desk_rows.author author.now) readers.now (rows.own own.now) }
+{
+    may_send(author, own) && may_get(readers, own)
+}
+
+/// Whether the counts of all seats have.
+fn have_room(author: &Author, readers: &[Power], seats: &[SeatRow]) -> bool
+    ensures { result ≡ s.have_room (desk_rows.author author.now) readers.now
+        (stored.parts seats.now) }
 {
     for seat in seats {
-        if !has_room(&seat.own) {
+        if !has_room(author, readers, &seat.own) {
             return false;
         }
     }
     true
 }
 
+/// Whether the counts that the effect raises have room for it.
+fn finds_room(author: &Author, effect: &Effect, seats: &[SeatRow]) -> bool
+    ensures { result ≡ stored.finds_room (desk_rows.author author.now)
+        (desk_rows.effect effect.now) (stored.parts seats.now) }
+{
+    match effect {
+        Effect::Delivers { readers, .. } => have_room(author, readers.as_slice(), seats),
+        Effect::Publishes { public, .. } => public.papers <= MOST_PAPERS,
+        Effect::Nothing
+        | Effect::Pending(_)
+        | Effect::Votes(_)
+        | Effect::Opens { .. }
+        | Effect::Seats(_) => true,
+    }
+}
+
 /// Press stands behind what was in the inboxes of its readers, who share it. Before the first
 /// inbox changes, each has room for it and a share of it: a seat takes its own behind the rest.
 fn deliver(seats: &mut [SeatRow], readers: &[Power], item: &Rc<Item>) -> Result<(), AllocError>
-    requires { list_all (λ p. has_room p.own) (stored.parts seats.old) ≡ true }
+    requires { list_all (λ p. s.may_get readers.now p.own) (stored.parts seats.old) ≡ true }
     ensures ok { OnOk result (stored.parts seats.new ≡ each (s.with_effect
         (s.Delivers readers.now (rows.item item.now.value))) (stored.parts seats.old)) }
     ensures err { OnErr result (stored.parts seats.new ≡ stored.parts seats.old) }
@@ -221,7 +243,7 @@ fn put_page(
 
 /// What an effect brings into a game that is there: press or a paper. It alone wants memory.
 fn put_content(alloc: Global, game: &mut GameRow, effect: &Effect) -> Result<(), AllocError>
-    requires { stored.finds_room (desk_rows.effect effect.now)
+    requires { stored.inboxes_have_room (desk_rows.effect effect.now)
         (stored.parts game.old.seats.items) ≡ true }
     ensures ok { OnOk result
         (stored.Brings (desk_rows.effect effect.now) game.old game.new) }
@@ -260,8 +282,8 @@ fn pending_in(alloc: Global, effect: &Effect) -> Result<Option<Vec<Standing>>, A
 
 /// What a change makes of the game that it names. What wants memory comes before the first change.
 fn record_row(alloc: Global, game: &mut GameRow, change: &Change) -> Result<(), AllocError>
-    requires { stored.finds_room (desk_rows.effect change.now.effect)
-        (stored.parts game.old.seats.items) ≡ true }
+    requires { stored.finds_room (desk_rows.author change.now.author)
+        (desk_rows.effect change.now.effect) (stored.parts game.old.seats.items) ≡ true }
     ensures ok { OnOk result ((key : List ℕ) → stored.game key game.new ≡ s.game_after
         (desk_rows.change change.now) (stored.game key game.old)) }
     ensures err { OnErr result ((key : List ℕ) → stored.game key game.new ≡ stored.game key
@@ -281,18 +303,18 @@ fn record_row(alloc: Global, game: &mut GameRow, change: &Change) -> Result<(), 
     Ok(())
 }
 
-/// The same, where each count has room for it.
+/// The same, where each count that it raises has room for it.
 fn record_fitting(alloc: Global, game: &mut GameRow, change: &Change) -> Result<(), KeepFault>
     ensures ok { OnOk result ((key : List ℕ) → stored.game key game.new ≡ s.game_after
         (desk_rows.change change.now) (stored.game key game.old)) }
     ensures err { OnErr result ((key : List ℕ) → stored.game key game.new ≡ stored.game key
         game.old) }
-    ensures fitting { IsErrOf result KeepFault.Damaged → (key : List ℕ)
-        → FindsPlace (string_bytes change.now.game) (desk_rows.effect change.now.effect)
-        (Some (stored.game key game.old)) → ⊥ }
+    ensures damaged { IsErrOf result KeepFault.Damaged → (key : List ℕ)
+        → LacksPlace (string_bytes change.now.game) (desk_rows.author change.now.author)
+        (desk_rows.effect change.now.effect) (Some (stored.game key game.old)) }
     ensures disk { faults_after result 0 ≡ 0 }
 {
-    if !finds_room(&change.effect, game.seats.as_slice()) {
+    if !finds_room(&change.author, &change.effect, game.seats.as_slice()) {
         return Err(KeepFault::Damaged);
     }
     record_row(alloc, game, change)?;
@@ -306,10 +328,11 @@ fn record_game(alloc: Global, games: &mut Games, change: &Change) -> Result<(), 
         (stored.games games.old.entries)) }
     ensures err { OnErr result
         (stored.games games.new.entries ≡ stored.games games.old.entries) }
-    ensures fitting { IsErrOf result KeepFault.Damaged
-        → FindsPlace (string_bytes change.now.game) (desk_rows.effect change.now.effect)
-        (at bytes_eq s.name_of (string_bytes change.now.game) (stored.games games.old.entries))
-        → ⊥ }
+    ensures damaged { IsErrOf result KeepFault.Damaged
+        → LacksPlace (string_bytes change.now.game) (desk_rows.author change.now.author)
+        (desk_rows.effect change.now.effect)
+        (at bytes_eq s.name_of (string_bytes change.now.game)
+        (stored.games games.old.entries)) }
     ensures disk { faults_after result 0 ≡ 0 }
 {
     let Some(place) = games.get_index_of(change.game.as_str()) else {
@@ -325,10 +348,11 @@ pub fn record_games(alloc: Global, games: &mut Games, change: &Change) -> Result
         (desk_rows.change change.now) (stored.games games.old.entries)) }
     ensures err { OnErr result
         (stored.games games.new.entries ≡ stored.games games.old.entries) }
-    ensures fitting { IsErrOf result KeepFault.Damaged
-        → FindsPlace (string_bytes change.now.game) (desk_rows.effect change.now.effect)
-        (at bytes_eq s.name_of (string_bytes change.now.game) (stored.games games.old.entries))
-        → ⊥ }
+    ensures damaged { IsErrOf result KeepFault.Damaged
+        → LacksPlace (string_bytes change.now.game) (desk_rows.author change.now.author)
+        (desk_rows.effect change.now.effect)
+        (at bytes_eq s.name_of (string_bytes change.now.game)
+        (stored.games games.old.entries)) }
     ensures disk { faults_after result 0 ≡ 0 }
 {
     match &change.effect {
@@ -337,7 +361,7 @@ pub fn record_games(alloc: Global, games: &mut Games, change: &Change) -> Result
             paper,
             seats,
         } => {
-            if public.game.as_str() != change.game.as_str() {
+            if public.game.as_str() != change.game.as_str() || MOST_PAPERS < public.papers {
                 return Err(KeepFault::Damaged);
             }
             add_game(alloc, games, public, paper, seats.as_slice())

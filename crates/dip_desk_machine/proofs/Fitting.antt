@@ -1,5 +1,5 @@
 -- What is decided of a letter fits the map.
-use Rattle.std.proofs.Common.{◌≡◌, ℕ, bytes_eq, not, ◌<◌, ◌≤◌, ◌==◌, ◌&&◌, ◌+◌, Bool, nat_lt, length, inl, inr, true, false, List, [], ◌∷◌, map, Option, Some, None, Result, Ok, Err, refl, sym, ap, subst}
+use Rattle.std.proofs.Common.{◌≡◌, ℕ, bytes_eq, not, arith, ◌<◌, ◌≤◌, ◌==◌, ◌&&◌, ◌+◌, Bool, nat_lt, length, inl, inr, true, false, List, [], ◌∷◌, map, Option, Some, None, Result, Ok, Err, refl, sym, ap, subst}
 use Rattle.std.specs.List.{AllByRecursion, list_any}
 use Rattle.std.proofs.lemmas.List.Quantifiers.{position-Some}
 use Rattle.std.proofs.lemmas.Bool.{and_parts, ltb-true}
@@ -33,7 +33,8 @@ use Rattle.dip_desk_state.specs.State.{Effect, Game, Nobody, Nothing, Part, Pend
 use Rattle.dip_desk_machine.specs.Ticking.{IsPlayable, orders_of, public_played}
 use Rattle.dip_desk_state.specs.Writable.{IsPublicOf}
 use Rattle.dip_desk_machine.proofs.LawfulOrders.{AreRead, all_with_order, with_order_ascending}
-use Rattle.dip_desk_machine.proofs.LawfulStates.{OpensLawful, StaysOf, master_lawful, playable, public_of}
+use Rattle.dip_desk_machine.proofs.LawfulStates.{OpensLawful, StaysOf, master_lawful, master_new, master_newer}
+use Rattle.dip_desk_machine.proofs.NeverDamaged.{playable, public_of}
 use Rattle.dip_desk_machine.proofs.Suiting.{Comes, IsPosted, command_holds, decides_suits, master_posted, readers_hold, seat_holds}
 use Rattle.dip_desk_machine.proofs.WritableLemmas.{all_filtered, item_plain, of_played, powers_low}
 
@@ -181,15 +182,17 @@ master_fits m command game text (Publishes public paper true) fits fine stays co
     subst (λ (c : Request). IsSpoiledIn m c game) (sym by.2)
     (subst (IsSpoiledIn m (Master (Tick by.0))) (sym by.3) (λ can of. unfit (ticked_fits m by.0 by.1 text paper public true stays timely can of by.4)))
 master_fits m command game text (Publishes public paper false) fits fine stays comes h by unfit =
-    subst (IsSpoiledIn m command) (sym by.1) (by.3 (λ of. unfit (by.2.stays fits of)))
+    subst (IsSpoiledIn m command) (sym by.1) (by.3 (λ of low. unfit (by.2.stays fits of)))
 master_fits m command game text (Seats seat) fits fine stays comes h by unfit = absurd (unfit by)
 
 pub effects_fit : (m : Chart) → IsMap m → IsOf m (opening m) → ((b : Position) → IsOf m b → AreRead m b) → StaysOf m → EffectsFit m
 effects_fit m ok fine read stays s n Nobody text e is d unfit = let bad : ◌≡◌ {A = Verdict} (Taken text e) NotKnown = d in absurd (cc)
-effects_fit m ok fine read stays s n TheMaster text e is d unfit =
-    master_fits m n.note.command (game_at n.note.game s) text e is.command fine stays (decides_suits m s n TheMaster (Taken text e) d).0
-    (master_lawful m n s.desk.kept n.note.command (game_at n.note.game s) (Taken text e) d)
-    (master_posted m n s.desk.kept n.note.command (game_at n.note.game s) (Taken text e) d) unfit
+effects_fit m ok fine read stays s n TheMaster text e is d unfit = (
+  master_new m n s.desk.kept n.note.command (game_at n.note.game s) text e d,
+  master_fits m n.note.command (game_at n.note.game s) text e is.command fine stays (decides_suits m s n TheMaster (Taken text e) d).0
+      (master_lawful m n s.desk.kept n.note.command (game_at n.note.game s) (Taken text e) d)
+      (master_posted m n s.desk.kept n.note.command (game_at n.note.game s) (Taken text e) d) unfit,
+)
 effects_fit m ok fine read stays s n (Seat power) text e is d unfit = inr (inl (go (game_at n.note.game s) d))
   where
     go : (game : Option Game) → Taken text e ≡ verdict_on m n (seen_in power game) → IsOffMap m (seen_in power game).public
@@ -216,7 +219,10 @@ lawful_effects_fit m ok fine read stays s n TheMaster text e l is d =
     master_sound m n.note.command (game_at n.note.game s) text e is.command fine stays (decides_suits m s n TheMaster (Taken text e) d).0
     (master_lawful m n s.desk.kept n.note.command (game_at n.note.game s) (Taken text e) d)
     (master_posted m n s.desk.kept n.note.command (game_at n.note.game s) (Taken text e) d)
-    (λ g found. (playable m read s n.note.game g l found, public_of m s n.note.game g l found))
+    (λ g found.
+    let newer = master_newer m n s.desk.kept n.note.command (game_at n.note.game s) text e is d in
+    let most = is.number_most in
+    (playable m read s n.note.game g l (omega (arith, newer, most)) found, public_of m s n.note.game g l found))
 lawful_effects_fit m ok fine read stays s n (Seat power) text e l is d = go (game_at n.note.game s) refl d
   where
     go : (game : Option Game) → game_at n.note.game s ≡ game → Taken text e ≡ verdict_on m n (seen_in power game) → FitsMap m e

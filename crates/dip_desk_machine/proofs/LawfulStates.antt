@@ -14,6 +14,7 @@ use Rattle.dip_letters.specs.Notes.PlayerRequest.{Orders, Withdraw, Press, Vote,
 use Rattle.dip_letters.specs.Notes.Request.{Player, Master}
 use Rattle.dip_map.specs.Boards.{Position, IsOf, opening}
 use Rattle.dip_map.specs.Charts.{Chart, Realm, no_realm, power_of, powers}
+use Rattle.dip_desk_state.specs.Bounds.{most_items, most_papers, most_sent}
 use Rattle.dip_desk_state.specs.Records.{Item, Kept, Own, Public}
 use Rattle.dip_reports.specs.Texts.{refusal_line}
 use Rattle.dip_reports.specs.declared.refusals.Refusal.TheVariants.{NumberUsed, Stale}
@@ -22,7 +23,7 @@ use Rattle.dip_desk_machine.specs.Lawful.{AreNamedApart, AreStanding, IsLawful, 
 use Rattle.dip_desk_machine.specs.Machine.{Decides, DecidesIn, change_of, IsForeignTo, IsFull, IsOffMap, IsSpoiled, IsSpoiledIn, Verdict, MasterDecides, NumberedBy, NotKnown, Again, OutOfTurn, Taken, after, are_complete, author, creation, digest, kept_of, new_seat, new_seats, old_number, with_more, opening_public, page_shown, seat_command, seat_verdict, seen_in, verdict_by, verdict_on}
 use Rattle.dip_desk_machine.specs.Mail.{IsMail, Mail}
 use Rattle.dip_desk_machine.specs.Pressing.{is_among}
-use Rattle.dip_desk_state.specs.State.{State, Game, Part, Author, Nobody, TheMaster, Seat, Change, Effect, Nothing, Pending, Votes, Delivers, Opens, Publishes, Seats, NewSeat, behind_paper, desk_after, fresh, game_after, game_at, has_room, name_of, new_games, opening_game, own_of, papers_after, power_in, public_after, seat_at, whole_of, with_author, with_digest, with_effect, with_item, with_letter}
+use Rattle.dip_desk_state.specs.State.{State, Game, Part, Author, Nobody, TheMaster, Seat, Change, Effect, Nothing, Pending, Votes, Delivers, Opens, Publishes, Seats, NewSeat, behind_paper, desk_after, fresh, game_after, game_at, has_room, have_room, may_get, may_send, name_of, new_games, opening_game, own_of, papers_after, power_in, public_after, seat_at, whole_of, with_author, with_digest, with_effect, with_item, with_letter}
 use Rattle.dip_desk_state.specs.Writable.{IsPublicOf, IsStatusOf}
 use Rattle.dip_desk_machine.specs.Ordering.{has_foreign}
 use Rattle.dip_desk_machine.specs.Ticking.{IsPlayable, orders_of, public_played, status_after}
@@ -99,7 +100,7 @@ abbrev pub Fits : Chart → Position → Own → Effect → Type 0
 Fits m b o Nothing = Unit {0}
 Fits m b o (Pending orders) = AreStanding m b o.power orders
 Fits m b o (Votes draw) = Unit {0}
-Fits m b o (Delivers readers item) = o.sent < 10000
+Fits m b o (Delivers readers item) = o.sent < most_sent
 Fits m b o (Opens public paper seats) = Unit {0}
 Fits m b o (Publishes public paper played) = Unit {0}
 Fits m b o (Seats seat) = Unit {0}
@@ -124,7 +125,7 @@ letter_lawful m b k p (Some g) (Opens public paper seats) s comes few l fits = a
 letter_lawful m b k p (Some g) (Publishes public paper played) s comes few l fits = absurd comes
 letter_lawful m b k p (Some g) (Seats seat) s comes few l fits = absurd comes
 
-below : (a : ℕ) → nat_le 10000 a ≡ false → a < 10000
+below : (a : ℕ) → nat_le most_sent a ≡ false → a < most_sent
 below a is = grind (arith, nat_tests)
 
 command_fits : (m : Chart) (p : Public) (o : Own) (page : List Item) (command : Request) → AreRead m p.board → AreStanding m p.board o.power o.pending
@@ -138,7 +139,7 @@ command_fits m p o page command again l = command_holds (VerdictFits m p.board o
   sent = λ grey names lines readers of found few. below o.sent few;
 })
 
-seat_fits : (m : Chart) (n : Mail) (g : Game) (p : ℕ) (text : List ℕ) (e : Effect) → AreRead m g.public.board → Taken text e ≡ verdict_on m n (seen_in p (Some g))
+pub seat_fits : (m : Chart) (n : Mail) (g : Game) (p : ℕ) (text : List ℕ) (e : Effect) → AreRead m g.public.board → Taken text e ≡ verdict_on m n (seen_in p (Some g))
     → (s : Part) → seat_at p g.seats ≡ Some s → IsLawfulSeat m g.public.board s → Fits m g.public.board s.own e
 seat_fits m n g p text e again d s found l =
     let is : seat_verdict m n g.public s.own (page_shown n.note.command s.box) ≡ Taken text e = sym (d ∙ ap (λ (x : Option Part). verdict_by m n (Some g.public) x) found) in
@@ -178,21 +179,21 @@ record IsReached (m : Chart) (b : Position) (s : Part) : Type 0 where
   power : power_in s < length m.realms
   pending : AreStanding m b (power_in s) s.own.pending
   last : last_number s.own.kept ≤ 999999999
-  sent : s.own.sent ≤ 10000
+  sent : s.own.sent ≤ most_sent
   items : s.own.items ≡ length s.box
 
 -- no power's others have sent more than their quotas
-sent_within : (power : ℕ) (seats : List Part) → AllByRecursion (λ s. s.own.sent ≤ 10000) seats
-    → sent_by_others power seats + 10000 * count_by (λ s. power_in s == power) seats ≤ 10000 * length seats
+pub sent_within : (power : ℕ) (seats : List Part) → AllByRecursion (λ s. s.own.sent ≤ most_sent) seats
+    → sent_by_others power seats + most_sent * count_by (λ s. power_in s == power) seats ≤ most_sent * length seats
 sent_within power [] all = omega arith
 sent_within power (s ∷ ss) all =
     let rest = sent_within power ss all.1 in
     let head = count_cons (λ (x : Part). power_in x == power) s ss in
     go (power_in s == power) rest head
   where
-    go : (b : Bool) → sent_by_others power ss + 10000 * count_by (λ s. power_in s == power) ss ≤ 10000 * length ss
+    go : (b : Bool) → sent_by_others power ss + most_sent * count_by (λ s. power_in s == power) ss ≤ most_sent * length ss
         → count_by (λ (x : Part). power_in x == power) (s ∷ ss) ≡ cond b 1 0 + count_by (λ (x : Part). power_in x == power) ss
-        → (cond b 0 s.own.sent + sent_by_others power ss) + 10000 * count_by (λ (x : Part). power_in x == power) (s ∷ ss) ≤ 10000 * suc (length ss)
+        → (cond b 0 s.own.sent + sent_by_others power ss) + most_sent * count_by (λ (x : Part). power_in x == power) (s ∷ ss) ≤ most_sent * suc (length ss)
     go true rest head = omega (arith, rest, head)
     go false rest head = let few = all.0 in omega (arith, rest, head, few)
 
@@ -203,12 +204,12 @@ all_boxed m b seats many powers all boxes =
     all_both (IsReached m b) (λ s. length s.box ≤ sent_by_others (power_in s) seats) (IsLawfulSeat m b) seats
     (λ s r few. record { power = r.power; pending = r.pending; last = r.last; sent = r.sent; items = r.items; box = bounded s r.power few }) all boxes
   where
-    bounded : (s : Part) → power_in s < length m.realms → length s.box ≤ sent_by_others (power_in s) seats → length s.box ≤ 60000
+    bounded : (s : Part) → power_in s < length m.realms → length s.box ≤ sent_by_others (power_in s) seats → length s.box ≤ most_items
     bounded s low few =
         let one : (count_by (λ (x : Part). power_in x == power_in s) seats == 1) ≡ true =
         each_counted (λ p. count_by (λ (x : Part). power_in x == p) seats == 1) 0 (length m.realms) (power_in s) powers (omega arith) (omega (arith, low)) in
         let same = eqb-true (count_by (λ (x : Part). power_in x == power_in s) seats) 1 one in
-        let most = sent_within (power_in s) seats (all_weaker (IsReached m b) (λ x. x.own.sent ≤ 10000) seats (λ x r. r.sent) all) in
+        let most = sent_within (power_in s) seats (all_weaker (IsReached m b) (λ x. x.own.sent ≤ most_sent) seats (λ x r. r.sent) all) in
         omega (arith, same, most, many, few)
 
 -- the seats of a game behind a letter
@@ -470,7 +471,7 @@ master_lawful m n k command game v = master_holds (λ game. OpensLawful m comman
   in_game = λ g. record {
     refused = λ r. tt;
     played = λ tick w of p. subst (OpensLawful m command) (sym p.verdict) tt;
-    noted = λ text paper public next spoiled. tt;
+    noted = λ text paper public next told spoiled. tt;
     seated = λ note seat of new low s found. tt;
   };
 })
@@ -558,7 +559,7 @@ stays_of m stays wins b pending new report of given played =
 -- numbers
 
 -- a letter that is taken has a number greater than the last
-numbered_newer : (n : Mail) (k : Option Kept) (New : Verdict → Type 0) (text : List ℕ) (e : Effect) → IsMail n → NumberedBy (old_number n k) New (Taken text e) → last_number k < n.note.number
+pub numbered_newer : (n : Mail) (k : Option Kept) (New : Verdict → Type 0) (text : List ℕ) (e : Effect) → IsMail n → NumberedBy (old_number n k) New (Taken text e) → last_number k < n.note.number
 numbered_newer n None New text e is h = let least = is.number_least in omega (arith, least)
 numbered_newer n (Some k) New text e is h = go (nat_lt n.note.number k.number) (n.note.number == k.number) (bytes_eq n.sum k.sum) refl refl h
   where
@@ -570,7 +571,7 @@ numbered_newer n (Some k) New text e is h = go (nat_lt n.note.number k.number) (
     go false true false less same h = let bad : ◌≡◌ {A = Verdict} (Taken text e) (OutOfTurn (refusal_line (NumberUsed k.number))) = h in absurd (cc)
     go false false c less differ h = omega (arith, ltb-false n.note.number k.number less, eqb-false n.note.number k.number differ)
 
-master_newer : (m : Chart) (n : Mail) (k : Option Kept) (command : Request) (game : Option Game) (text : List ℕ) (e : Effect) → IsMail n
+pub master_newer : (m : Chart) (n : Mail) (k : Option Kept) (command : Request) (game : Option Game) (text : List ℕ) (e : Effect) → IsMail n
     → MasterDecides m n k command game (Taken text e) → last_number k < n.note.number
 master_newer m n k command (Some g) text e is h = numbered_newer n k (DecidesIn m n command g) text e is h
 master_newer m n k (Player command) None text e is h = let bad : ◌≡◌ {A = Verdict} (Taken text e) NotKnown = h in absurd (cc)
@@ -579,6 +580,28 @@ master_newer m n k (Master (Create due period grey seats)) None text e is h =
 master_newer m n k (Master (Tick tick)) None text e is h = let bad : ◌≡◌ {A = Verdict} (Taken text e) NotKnown = h in absurd (cc)
 master_newer m n k (Master (Replace seat)) None text e is h = let bad : ◌≡◌ {A = Verdict} (Taken text e) NotKnown = h in absurd (cc)
 master_newer m n k (Master (Notify notice)) None text e is h = let bad : ◌≡◌ {A = Verdict} (Taken text e) NotKnown = h in absurd (cc)
+
+-- and no old number answers it
+numbered_new : (n : Mail) (k : Option Kept) (New : Verdict → Type 0) (text : List ℕ) (e : Effect) → NumberedBy (old_number n k) New (Taken text e) → old_number n k ≡ None
+numbered_new n None New text e h = refl
+numbered_new n (Some k) New text e h = go (nat_lt n.note.number k.number) (n.note.number == k.number) (bytes_eq n.sum k.sum) h
+  where
+    go : (a b c : Bool) → NumberedBy (cond a (Some (OutOfTurn (refusal_line (Stale k.number)))) (cond b (Some (cond c (Again k.reply) (OutOfTurn (refusal_line (NumberUsed k.number))))) None)) New (Taken text e)
+        → cond a (Some (OutOfTurn (refusal_line (Stale k.number)))) (cond b (Some (cond c (Again k.reply) (OutOfTurn (refusal_line (NumberUsed k.number))))) None) ≡ None
+    go true b c h = let bad : ◌≡◌ {A = Verdict} (Taken text e) (OutOfTurn (refusal_line (Stale k.number))) = h in absurd (cc)
+    go false true true h = let bad : ◌≡◌ {A = Verdict} (Taken text e) (Again k.reply) = h in absurd (cc)
+    go false true false h = let bad : ◌≡◌ {A = Verdict} (Taken text e) (OutOfTurn (refusal_line (NumberUsed k.number))) = h in absurd (cc)
+    go false false c h = refl
+
+pub master_new : (m : Chart) (n : Mail) (k : Option Kept) (command : Request) (game : Option Game) (text : List ℕ) (e : Effect)
+    → MasterDecides m n k command game (Taken text e) → old_number n k ≡ None
+master_new m n k command (Some g) text e h = numbered_new n k (DecidesIn m n command g) text e h
+master_new m n k (Player command) None text e h = let bad : ◌≡◌ {A = Verdict} (Taken text e) NotKnown = h in absurd (cc)
+master_new m n k (Master (Create due period grey seats)) None text e h =
+    numbered_new n k (λ w. w ≡ creation m (opening_public m n.note.game due period grey) (new_seats m n.note.game seats) None) text e h
+master_new m n k (Master (Tick tick)) None text e h = let bad : ◌≡◌ {A = Verdict} (Taken text e) NotKnown = h in absurd (cc)
+master_new m n k (Master (Replace seat)) None text e h = let bad : ◌≡◌ {A = Verdict} (Taken text e) NotKnown = h in absurd (cc)
+master_new m n k (Master (Notify notice)) None text e h = let bad : ◌≡◌ {A = Verdict} (Taken text e) NotKnown = h in absurd (cc)
 
 -- one step
 
@@ -784,88 +807,3 @@ lawful_after m fine again stays s n who (Taken text e) is d l = go who e d (deci
 
 pub stays_lawful : (m : Chart) → IsOf m (opening m) → ((b : Position) → IsOf m b → AreRead m b) → StaysOf m → StaysLawful m
 stays_lawful m fine again stays old n r new is l step = subst (IsLawful m) (sym step.3) (lawful_after m fine again stays old n (author m n old) step.0 is step.1 l)
-
--- nothing Damaged
-
-none_foreign : (m : Chart) (b : Position) (seats : List Part) → AreRead m b → AllByRecursion (IsLawfulSeat m b) seats
-    → list_any (λ o. has_foreign m b o.power o.pending) (map (λ s. s.own) seats) ≡ false
-none_foreign m b [] read all = refl
-none_foreign m b (s ∷ ss) read all =
-    ap (λ (t : Bool). t || list_any (λ o. has_foreign m b o.power o.pending) (map (λ s. s.own) ss)) (standing_own m b (power_in s) s.own.pending read all.0.pending)
-    ∙ none_foreign m b ss read all.1
-
--- the public part of a lawful state's game is one of the map
-pub public_of : (m : Chart) (s : State) (name : List ℕ) (g : Game) → IsLawful m s → game_at name s ≡ Some g → IsPublicOf m g.public
-public_of m s name g l found = (all_at bytes_eq name_of name (IsLawfulGame m) s.games g l.games found).public
-
--- the phase of a lawful state's game can be adjudicated
-pub playable : (m : Chart) → ((b : Position) → IsOf m b → AreRead m b) → (s : State) (name : List ℕ) (g : Game) → IsLawful m s → game_at name s ≡ Some g → IsPlayable m (whole_of g)
-playable m read s name g l found =
-    let lg : IsLawfulGame m g = all_at bytes_eq name_of name (IsLawfulGame m) s.games g l.games found in
-    let few : g.public.papers ≤ last_number s.desk.kept = all_at bytes_eq name_of name (λ (h : Game). h.public.papers ≤ last_number s.desk.kept) s.games g l.numbered found in
-    let most = l.last in
-    record {
-      board = lg.public.board;
-      lines = none_foreign m g.public.board g.seats (read g.public.board lg.public.board) lg.seats;
-      given = whole_given m g (read g.public.board lg.public.board) lg;
-      papers = omega (arith, few, most);
-    }
-
--- each seat's counts have room
-pub seats_room : (m : Chart) (b : Position) (seats : List Part) → AllByRecursion (IsLawfulSeat m b) seats → list_all (λ s. has_room s.own) seats ≡ true
-seats_room m b [] all = refl
-seats_room m b (s ∷ ss) all =
-    let sent : s.own.sent ≤ 10000 = all.0.sent in
-    let items : s.own.items ≡ length s.box = all.0.items in
-    let box : length s.box ≤ 60000 = all.0.box in
-    let first : nat_lt s.own.items 4294967295 ≡ true = lt-ltb s.own.items 4294967295 (omega (arith, items, box)) in
-    let second : nat_lt s.own.sent 4294967295 ≡ true = lt-ltb s.own.sent 4294967295 (omega (arith, sent)) in
-    rw (first, second) (seats_room m b ss all.1)
-
-pub never_damaged : (m : Chart) → ((b : Position) → IsOf m b → AreRead m b) → IsNeverDamaged m
-never_damaged m read s n Nobody l h = h
-never_damaged m read s n TheMaster l h = go n.note.command (game_at n.note.game s) refl h
-  where
-    spoiled : (command : Request) (g : Game) → game_at n.note.game s ≡ Some g → IsSpoiled m command g → ⊥
-    spoiled (Player command) g is h = h
-    spoiled (Master (Create due period grey seats)) g is h = h
-    spoiled (Master (Tick tick)) g is h = h (playable m read s n.note.game g l is) (public_of m s n.note.game g l is)
-    spoiled (Master (Replace seat)) g is h = h
-    spoiled (Master (Notify notice)) g is h = let can = playable m read s n.note.game g l is in h (record { board = can.board; papers = can.papers }) (public_of m s n.note.game g l is)
-
-    go : (command : Request) (game : Option Game) → game_at n.note.game s ≡ game → IsSpoiledIn m command game → ⊥
-    go command None is h = h
-    go command (Some g) is h = spoiled command g is h
-never_damaged m read s n (Seat power) l h = elim h [
-  | inl foreign ↦ go (game_at n.note.game s) refl foreign
-  | inr other ↦ elim other [
-    | inl off ↦ on_map (game_at n.note.game s) refl off
-    | inr full ↦ room n.note.command (game_at n.note.game s) refl full
-  ]
-]
-  where
-    seat : (g : Game) → IsLawfulGame m g → (x : Option Part) → seat_at power g.seats ≡ x → IsForeignTo m (Some g.public) (own_of x) → ⊥
-    seat g lg None is foreign = absurd foreign
-    seat g lg (Some x) is foreign =
-        let lx : IsLawfulSeat m g.public.board x = all_at (λ a b. a == b) power_in power (IsLawfulSeat m g.public.board) g.seats x lg.seats is in
-        absurd (false≢true (sym (standing_own m g.public.board (power_in x) x.own.pending (read g.public.board lg.public.board) lx.pending) ∙ foreign))
-
-    on_map : (game : Option Game) → game_at n.note.game s ≡ game → IsOffMap m (seen_in power game).public → ⊥
-    on_map None is off = absurd off
-    on_map (Some g) is off = off (public_of m s n.note.game g l is).board
-
-    room : (command : Request) (game : Option Game) → game_at n.note.game s ≡ game → IsFull command game → ⊥
-    room (Player (Orders lines)) game is full = full
-    room (Player Withdraw) game is full = full
-    room (Player (Press grey names text)) None is full = full
-    room (Player (Press grey names text)) (Some g) is full =
-        let lg : IsLawfulGame m g = all_at bytes_eq name_of n.note.game (IsLawfulGame m) s.games g l.games is in
-        full (seats_room m g.public.board g.seats lg.seats)
-    room (Player (Vote draw)) game is full = full
-    room (Player Show) game is full = full
-    room (Player (Inbox first)) game is full = full
-    room (Master command) game is full = full
-
-    go : (game : Option Game) → game_at n.note.game s ≡ game → IsForeignTo m (seen_in power game).public (own_of (seen_in power game).seat) → ⊥
-    go None is foreign = absurd foreign
-    go (Some g) is foreign = seat g (all_at bytes_eq name_of n.note.game (IsLawfulGame m) s.games g l.games is) (seat_at power g.seats) refl foreign

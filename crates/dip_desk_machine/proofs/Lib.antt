@@ -4,7 +4,9 @@ pub mod OrderingLemmas
 pub mod TickingLemmas
 pub mod PressLemmas
 pub mod WritableLemmas
+pub mod Titles
 pub mod Suiting
+pub mod Titled
 pub mod Seeing
 pub mod Others
 pub mod Stranging
@@ -12,6 +14,7 @@ pub mod ListLemmas
 pub mod LawfulOrders
 pub mod Handing
 pub mod LawfulStates
+pub mod NeverDamaged
 pub mod Fitting
 pub mod Histories
 pub mod Thirds

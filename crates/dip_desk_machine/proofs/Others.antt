@@ -228,7 +228,7 @@ replaced_by m s n text given d =
       in_game = λ g. record {
         refused = λ r. tt;
         played = λ tick v of p. subst (IsGiven m n n.note.command) (sym p.verdict) tt;
-        noted = λ text paper public next spoiled. tt;
+        noted = λ text paper public next told spoiled. tt;
         seated = λ note seat of new low s found. (note, of, new, refl);
       };
     }) d

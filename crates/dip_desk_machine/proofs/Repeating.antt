@@ -36,7 +36,7 @@ in_game_taken m n command g v untaken d =
     in_game_holds (λ w. IsUntaken w → ⊥) m n command g v (record {
       refused = λ r u. u;
       played = λ tick w of p u. subst IsUntaken p.verdict u;
-      noted = λ text paper public next spoiled u. u;
+      noted = λ text paper public next told spoiled u. u;
       seated = λ note seat of new low s found u. u;
     }) d untaken
 

@@ -45,7 +45,7 @@ master_known m n k command (Some g) v d =
     inl (numbered_holds IsKnown (λ t. tt) (λ t. tt) n k (DecidesIn m n command g) v (in_game_holds IsKnown m n command g v (record {
       refused = λ r. tt;
       played = λ tick w of p. subst IsKnown (sym p.verdict) tt;
-      noted = λ text paper public next spoiled. tt;
+      noted = λ text paper public next told spoiled. tt;
       seated = λ note seat of new low s found. tt;
     })) d)
 master_known m n k (Player command) None v d = inr (d, refl, refl)

@@ -11,9 +11,12 @@ use Rattle.dip_letters.specs.Notes.PlayerRequest.{Orders, Withdraw, Press, Vote,
 use Rattle.dip_letters.specs.Notes.Request.{Player, Master}
 use Rattle.dip_map.specs.Charts.{Chart, Realm, no_realm, power_of, powers}
 use Rattle.dip_desk_machine.specs.Drawing.{is_drawn, public_drawn, survivors}
+use Rattle.dip_desk_machine.proofs.Titles.{draw_told, notice_told}
+use Rattle.dip_desk_machine.specs.Titles.{names_phase}
 use Rattle.dip_desk_machine.specs.Mail.{Mail}
 use Rattle.dip_desk_machine.specs.Noting.{is_announcement, public_noted}
 use Rattle.dip_desk_machine.specs.Pressing.{are_distinct, is_among, is_to_all, item_of, may_read, named_powers, names_all, other_powers, readers_of, readers_where}
+use Rattle.dip_desk_state.specs.Bounds.{most_papers, most_sent}
 use Rattle.dip_desk_state.specs.State.{State, Game, Author, Nobody, TheMaster, Seat, Effect, Nothing, Part, Pending, Votes, Delivers, Opens, Publishes, Seats, NewSeat, game_at, power_in, seat_at, whole_of}
 use Rattle.dip_desk_machine.specs.Machine.{Decides, DecidesIn, IsPublished, IsSpoiled, MasterDecides, NumberedBy, OnTime, Ticks, Verdict, NotKnown, Again, OutOfTurn, Taken, addressed, are_complete, creation, digest, draw_verdict, has_seat, new_seat, new_seats, notified, old_number, open_game, opening_public, orders_verdict, page_shown, press_to, refusal_verdict, replaced, replacement, seat_command, seen_in, unless, verdict_by, verdict_on}
 use Rattle.dip_desk_machine.specs.Ordering.{outcome_of_lines}
@@ -95,7 +98,7 @@ pub record OfPlayer (P : Verdict → Type 0) (m : Chart) (command : Request) (p 
   pub withdrawn : P (Taken withdrawn_line (Pending []))
   pub voted : (draw : Bool) → P (Taken (vote_line draw) (Votes draw))
   pub sent : (grey : Bool) (names text : List (List ℕ)) (readers : List ℕ) → command ≡ Player (Press grey names text) → readers_of m o.power names ≡ Some readers
-      → nat_le 10000 o.sent ≡ false → P (Taken press_line (Delivers readers (item_of m o.power grey names text)))
+      → nat_le most_sent o.sent ≡ false → P (Taken press_line (Delivers readers (item_of m o.power grey names text)))
 
 pub command_holds : (P : Verdict → Type 0) (m : Chart) (command : Request) (p : Public) (o : Own) (page : List Item) → OfPlayer P m command p o → P (seat_command m command p o page)
 command_holds P m (Player (Orders lines)) p o page h = unless_holds P (is_over p.status) GameOver (orders_verdict m (outcome_of_lines m p.board o.power o.pending lines)) (h.refused GameOver) (λ on. h.ordered lines)
@@ -107,7 +110,7 @@ command_holds P m (Player (Press grey names text)) p o page h = by (readers_of m
     by (Some readers) is =
         unless_holds P (is_over p.status) GameOver _ (h.refused GameOver)
         (λ on. unless_holds P (grey && not p.grey) NoGrey _ (h.refused NoGrey)
-        (λ may. unless_holds P (nat_le 10000 o.sent) QuotaUsed (Taken press_line (Delivers readers (item_of m o.power grey names text))) (h.refused QuotaUsed)
+        (λ may. unless_holds P (nat_le most_sent o.sent) QuotaUsed (Taken press_line (Delivers readers (item_of m o.power grey names text))) (h.refused QuotaUsed)
         (λ few. h.sent grey names text readers refl is few)))
 command_holds P m (Player (Vote draw)) p o page h = unless_holds P (is_over p.status) GameOver (Taken (vote_line draw) (Votes draw)) (h.refused GameOver) (λ on. h.voted draw)
 command_holds P m (Player Show) p o page h = h.told _
@@ -136,7 +139,7 @@ pub record IsNext (m : Chart) (command : Request) (p q : Public) : Type 0 where
 pub record OfGame (P : Verdict → Type 0) (m : Chart) (n : Mail) (command : Request) (g : Game) : Type 0 where
   pub refused : (r : Refusal) → P (refusal_verdict r)
   pub played : (tick : ℕ) (v : Verdict) → command ≡ Master (Tick tick) → IsPublished m tick (whole_of g) v → P v
-  pub noted : (text paper : List ℕ) (public : Public) → IsNext m command g.public public → ((IsPublicOf m g.public → ⊥) → IsSpoiled m command g)
+  pub noted : (text paper : List ℕ) (public : Public) → IsNext m command g.public public → names_phase public.papers paper ≡ false → ((IsPublicOf m g.public → g.public.papers < most_papers → ⊥) → IsSpoiled m command g)
       → P (Taken text (Publishes public paper false))
   pub seated : (note : SeatNote) (seat : NewSeat) → command ≡ Master (Replace note) → new_seat m n.note.game note ≡ Some seat → seat.power < length m.realms
       → (s : Part) → seat_at seat.power g.seats ≡ Some s → P (Taken (replaced_line note.power) (Seats seat))
@@ -154,7 +157,7 @@ in_game_holds P m n (Master (Create due period grey seats)) g v h d = subst P (s
         go false = h.refused Malformed
 in_game_holds P m n (Master (Tick tick)) g v h d =
     ticks_hold P m tick (whole_of g) (is_over g.public.status) (is_due tick g.public) v (h.refused GameOver) (h.refused NotDue)
-    (h.noted _ _ (public_drawn (survivors m g.public.board) g.public) (record { name = refl; board = refl; papers = refl; stays = λ fits of. of_drawn m g.public of }) (λ off can of. off of))
+    (h.noted _ _ (public_drawn (survivors m g.public.board) g.public) (record { name = refl; board = refl; papers = refl; stays = λ fits of. of_drawn m g.public of }) (draw_told m (public_drawn (survivors m g.public.board) g.public)) (λ off can of. off of can.papers))
     (λ p. h.played tick v refl p) d
 in_game_holds P m n (Master (Replace note)) g v h d = subst P (sym d) (subst P (sym (same (has_seat m note.power g))) (by (power_of m note.power) refl))
   where
@@ -179,7 +182,7 @@ in_game_holds P m n (Master (Replace note)) g v h d = subst P (sym d) (subst P (
 in_game_holds P m n (Master (Notify notice)) g v h d =
     subst P (sym d)
     (unless_holds P (is_over g.public.status && not (is_announcement notice)) GameOver (notified m notice (public_noted notice g.public)) (h.refused GameOver)
-    (λ on. h.noted _ _ (public_noted notice g.public) (record { name = refl; board = refl; papers = refl; stays = of_noted m notice g.public }) (λ off can of. off of)))
+    (λ on. h.noted _ _ (public_noted notice g.public) (record { name = refl; board = refl; papers = refl; stays = of_noted m notice g.public }) (notice_told m notice (public_noted notice g.public)) (λ off can of. off of can.papers)))
 
 -- each kind of verdict on a letter of the master, by its game
 pub record OfMaster (P : Option Game → Verdict → Type 0) (m : Chart) (n : Mail) (command : Request) : Type 0 where
@@ -283,7 +286,7 @@ master_suits m n k command game v = master_holds (VerdictSuits n.note.game TheMa
   in_game = λ g. record {
     refused = λ r. (tt, tt);
     played = λ tick v of p. subst (VerdictSuits n.note.game TheMaster (Some g)) (sym p.verdict) (tt, refl);
-    noted = λ text paper public next spoiled. (tt, next.name);
+    noted = λ text paper public next told spoiled. (tt, next.name);
     seated = λ note seat of new low s found. (tt, (s, found));
   };
 })
@@ -355,7 +358,7 @@ IsPosted m command game (Taken text (Opens public paper seats)) = Unit {0}
 IsPosted m command game (Taken text (Publishes public paper true)) =
     (tick : ℕ) × (g : Game) × (command ≡ Master (Tick tick)) × (game ≡ Some g) × IsPublished m tick (whole_of g) (Taken text (Publishes public paper true))
 IsPosted m command game (Taken text (Publishes public paper false)) =
-    (g : Game) × (game ≡ Some g) × IsNext m command g.public public × ((IsPublicOf m g.public → ⊥) → IsSpoiled m command g)
+    (g : Game) × (game ≡ Some g) × IsNext m command g.public public × ((IsPublicOf m g.public → g.public.papers < most_papers → ⊥) → IsSpoiled m command g)
 IsPosted m command game (Taken text (Seats seat)) = seat.power < length m.realms
 
 pub master_posted : (m : Chart) (n : Mail) (k : Option Kept) (command : Request) (game : Option Game) (v : Verdict) → MasterDecides m n k command game v → IsPosted m command game v
@@ -368,7 +371,7 @@ master_posted m n k command game v = master_holds (IsPosted m command) m n k com
   in_game = λ g. record {
     refused = λ r. tt;
     played = λ tick v of p. subst (IsPosted m command (Some g)) (sym p.verdict) (tick, g, of, refl, subst (IsPublished m tick (whole_of g)) p.verdict p);
-    noted = λ text paper public next spoiled. (g, refl, next, spoiled);
+    noted = λ text paper public next told spoiled. (g, refl, next, spoiled);
     seated = λ note seat of new low s found. low;
   };
 })

@@ -6,6 +6,7 @@ use Rattle.dip_map.specs.Charts.{Chart, powers}
 use Rattle.dip_orders.specs.Reading.{order_of}
 use Rattle.dip_orders.specs.Texts.{order_text}
 use Rattle.dip_orders.specs.declared.placed.PlacedOrder.{PlacedOrder}
+use Rattle.dip_desk_state.specs.Bounds.{most_items, most_sent}
 use Rattle.dip_desk_state.specs.Records.{Kept, Standing, Reply}
 use Rattle.dip_desk_state.specs.Keyed.{at}
 use Rattle.dip_desk_machine.specs.Mail.{IsMail, Mail}
@@ -38,9 +39,9 @@ pub record IsLawfulSeat (m : Chart) (b : Position) (s : Part) : Type 0 where
   pub power : power_in s < length m.realms
   pub pending : AreStanding m b (power_in s) s.own.pending
   pub last : last_number s.own.kept ≤ 999999999
-  pub sent : s.own.sent ≤ 10000
+  pub sent : s.own.sent ≤ most_sent
   pub items : s.own.items ≡ length s.box
-  pub box : length s.box ≤ 60000
+  pub box : length s.box ≤ most_items
 
 -- how much press the seats of a game but one power's have sent
 abbrev pub sent_by_others : ℕ → List Part → ℕ
@@ -74,6 +75,6 @@ pub record IsLawful (m : Chart) (s : State) : Type 0 where
 abbrev pub StaysLawful : Chart → Type 0
 StaysLawful m = (old : State) (n : Mail) (r : Reply) (new : State) → IsMail n → IsLawful m old → Step m old n r new → IsLawful m new
 
--- in a lawful state nothing is Damaged
+-- in a lawful state no letter of the grammar finds anything Damaged
 abbrev pub IsNeverDamaged : Chart → Type 0
-IsNeverDamaged m = (s : State) (n : Mail) (who : Author) → IsLawful m s → MayBeDamaged m s n who → ⊥
+IsNeverDamaged m = (s : State) (n : Mail) (who : Author) → IsMail n → IsLawful m s → MayBeDamaged m s n who → ⊥

@@ -13,6 +13,7 @@ pub mod Published
 pub mod Thirds
 pub mod Lawful
 pub mod Fitting
+pub mod Titles
 pub mod Handing
 pub mod Repeats
 pub mod Strangers

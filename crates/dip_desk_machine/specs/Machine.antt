@@ -17,7 +17,8 @@ use Rattle.dip_desk_machine.specs.Noting.{CanPublish, is_announcement, public_no
 use Rattle.dip_desk_machine.specs.Ordering.{Ordered, has_foreign, kept_orders, outcome_of_lines}
 use Rattle.dip_desk_machine.specs.Pressing.{item_of, readers_of}
 use Rattle.dip_desk_machine.specs.Ticking.{IsPlayable, is_due, is_over, orders_of, public_played}
-use Rattle.dip_desk_state.specs.State.{State, Game, Author, Nobody, TheMaster, Seat, Change, Effect, Nothing, Pending, Votes, Delivers, Opens, Publishes, Seats, NewSeat, Part, game_at, has_room, own_at, own_of, page_of, part_at, public_at, seat_at, state_after, whole_of}
+use Rattle.dip_desk_state.specs.Bounds.{most_sent}
+use Rattle.dip_desk_state.specs.State.{State, Game, Author, Nobody, TheMaster, Seat, Change, Effect, Nothing, Pending, Votes, Delivers, Opens, Publishes, Seats, NewSeat, Part, game_at, have_room, own_at, own_of, page_of, part_at, public_at, seat_at, state_after, whole_of}
 use Rattle.dip_desk_state.specs.Writable.{IsPublicOf}
 use Rattle.dip_turn_papers.specs.Papers.{paper_text}
 use Rattle.dip_turn.specs.Reports.{IsPlayed}
@@ -117,7 +118,7 @@ unless false r v = v
 abbrev pub press_to : Public → Own → Bool → Item → List ℕ → Verdict
 press_to p o grey item readers =
     unless (is_over p.status) GameOver (
-    unless (grey && not p.grey) NoGrey (unless (nat_le 10000 o.sent) QuotaUsed (Taken press_line (Delivers readers item)))
+    unless (grey && not p.grey) NoGrey (unless (nat_le most_sent o.sent) QuotaUsed (Taken press_line (Delivers readers item)))
     )
 
 -- press whose addressees can't be its readers is malformed
@@ -192,25 +193,22 @@ abbrev pub IsSpoiledIn : Chart → Request → Option Game → Type 0
 IsSpoiledIn m command None = ⊥
 IsSpoiledIn m command (Some g) = IsSpoiled m command g
 
--- a game in which a seat's count has no room for one more, where the letter is press
-abbrev pub IsFull : Request → Option Game → Type 0
-IsFull (Player (Orders lines)) game = ⊥
-IsFull (Player Withdraw) game = ⊥
-IsFull (Player (Press grey names text)) None = ⊥
-IsFull (Player (Press grey names text)) (Some g) = list_all (λ s. has_room s.own) g.seats ≡ true → ⊥
-IsFull (Player (Vote draw)) game = ⊥
-IsFull (Player Show) game = ⊥
-IsFull (Player (Inbox first)) game = ⊥
-IsFull (Master command) game = ⊥
+-- press of a seat that is accepted, where a count has no room for it: what the seat has sent, or a reader's inbox
+abbrev pub IsFull : Chart → Mail → ℕ → Option Game → Type 0
+IsFull m n power None = ⊥
+IsFull m n power (Some g) =
+    (text : List ℕ) × (readers : List ℕ) × (item : Item)
+    × (Taken text (Delivers readers item) ≡ verdict_on m n (seen_in power (Some g))) × (have_room (Seat power) readers g.seats ≡ false)
 
 -- what the record of a letter's author may be Damaged by: a seat's by its own standing lines, by a board of its game that isn't one of
--- the map, or, for press, by a full count of its game; the master's by the game that its command can't be done in; nobody's by nothing
+-- the map, or, for press, by a full count of its game; the master's, where its number is new, by the game that its command can't be done
+-- in; nobody's by nothing
 abbrev pub MayBeDamaged : Chart → State → Mail → Author → Type 0
 MayBeDamaged m s n Nobody = ⊥
-MayBeDamaged m s n TheMaster = IsSpoiledIn m n.note.command (game_at n.note.game s)
+MayBeDamaged m s n TheMaster = (old_number n s.desk.kept ≡ None) × IsSpoiledIn m n.note.command (game_at n.note.game s)
 MayBeDamaged m s n (Seat power) =
     IsForeign m (seen_in power (game_at n.note.game s))
-    ⊎ (IsOffMap m (seen_in power (game_at n.note.game s)).public ⊎ IsFull n.note.command (game_at n.note.game s))
+    ⊎ (IsOffMap m (seen_in power (game_at n.note.game s)).public ⊎ IsFull m n power (game_at n.note.game s))
 
 -- a seat of a new game, where its power is one of the map
 abbrev pub new_seat : Chart → List ℕ → SeatNote → Option NewSeat
@@ -397,11 +395,12 @@ IsDamagedGame m (ThePublic public) = CanPublish m public → ⊥
 IsDamagedGame m (TheWhole whole) = IsPlayable m whole → ⊥
 IsDamagedGame m (ASeat is_there) = ⊥
 
--- a sight by which nothing can be decided: of such a game, or of standing lines one of which is no order on the board
-abbrev pub IsDamagedSight : Chart → Sight → Type 0
-IsDamagedSight m OfNobody = ⊥
-IsDamagedSight m (OfMaster kept sees) = IsDamagedGame m sees
-IsDamagedSight m (OfSeat power public own page) = IsForeignTo m (Some public) (Some own)
+-- a sight by which nothing can be decided: of such a game, where the letter's number is new, or of standing lines one of which is no
+-- order on the board
+abbrev pub IsDamagedSight : Chart → Mail → Sight → Type 0
+IsDamagedSight m n OfNobody = ⊥
+IsDamagedSight m n (OfMaster kept sees) = (old_number n kept ≡ None) × IsDamagedGame m sees
+IsDamagedSight m n (OfSeat power public own page) = IsForeignTo m (Some public) (Some own)
 
 -- what is kept of a letter
 abbrev pub kept_of : Mail → List ℕ → Kept

@@ -4,6 +4,7 @@ use Rattle.dip_map.specs.Boards.{IsOf}
 use Rattle.dip_map.specs.Charts.{Chart}
 use Rattle.dip_letters.specs.Notes.{NoticeRequest}
 use Rattle.dip_letters.specs.Notes.NoticeRequest.{Pause, Resume, Period, Announce, Close}
+use Rattle.dip_desk_state.specs.Bounds.{most_papers}
 use Rattle.dip_desk_state.specs.Records.{Public, Status, Running, Paused, Closed}
 
 -- an announcement alone may come in a game that is over
@@ -37,4 +38,4 @@ public_noted notice p = record p { status = status_noted notice p.status; period
 -- a game that can publish: its board is one of the map, and there is room for one more in the count of its papers
 pub record CanPublish (m : Chart) (p : Public) : Type 0 where
   pub board : IsOf m p.board
-  pub papers : p.papers < 4294967295
+  pub papers : p.papers < most_papers

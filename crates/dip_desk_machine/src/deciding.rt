@@ -171,7 +171,7 @@ pub fn verdict_on(
         (λ v. m.DecidedBy map.now (mail letter.now) (sights.sight sight.now) (verdict v)) }
     ensures disk { faults_after result 0 ≡ 0 }
     ensures sane { IsErrOf result KeepFault.Damaged
-        → m.IsDamagedSight map.now (sights.sight sight.now) }
+        → m.IsDamagedSight map.now (mail letter.now) (sights.sight sight.now) }
 {
     match sight {
         Sight::Nobody => Ok(Verdict::NotKnown),

@@ -4,6 +4,7 @@ ghost use Rattle.std.specs.List.{list_all, list_any};
 ghost use Rattle.dip_desk_machine.specs.Drawing as d;
 ghost use Rattle.dip_desk_machine.specs.Machine as m;
 ghost use Rattle.dip_desk_machine.specs.Verdicts.{verdict};
+ghost use Rattle.dip_desk_state.specs.Bounds.{most_papers};
 ghost use Rattle.dip_desk_state.specs.Rows as rows;
 
 use crate::verdicts::Verdict;
@@ -104,7 +105,7 @@ pub fn draw_verdict(
     public: &Public,
     survivors: Vec<Power>,
 ) -> Result<Verdict, AllocError>
-    requires { public.now.papers < 4294967295 }
+    requires { public.now.papers < most_papers }
     ensures { IfOk result
         (λ v. verdict v
         ≡ m.draw_verdict map.now (d.public_drawn survivors.items (rows.public public.now))) }

@@ -9,6 +9,7 @@ ghost use Rattle.dip_desk_machine.specs.Repeats.{ActsOnce, ActsOnceLater};
 ghost use Rattle.dip_desk_state.specs.State.{State};
 ghost use Rattle.dip_desk_machine.specs.Strangers.{IsToNobodyExactly};
 ghost use Rattle.dip_desk_machine.specs.Thirds.{ThirdSeatsSeeAlike};
+ghost use Rattle.dip_desk_machine.specs.Titles.{TitlesTell};
 ghost use Rattle.dip_desk_machine.specs.View.{AreAlike, AreEffectsShown, HistoriesAreOne, HistoriesLookAlike, IsAnsweredFromSeen, IsDecidedOnce, IsGreyUnsigned, IsRun, IsSettledByView, IsShownByOthers, IsUnseenByOthers, Turn, VotesAreUntold};
 
 use dip_decide::explained_is_lawful;
@@ -72,6 +73,12 @@ pub fn third_seats_see_alike()
 /// A vote is told by its draw alone: what a tick comes to that draws no game doesn't depend on any vote.
 pub fn votes_are_untold()
     ensures { (m : Chart) → VotesAreUntold m }
+{}
+
+/// The title of each paper that is published tells whether a phase was played: what a seat is shown with a paper, that mark too, it can
+/// read in the paper itself.
+pub fn titles_tell_what_was_played()
+    ensures { (m : Chart) → TitlesTell m }
 {}
 
 /// A reply has no head exactly where the letter is nobody's: it has no author, or it is the master's, isn't CREATE, and names no game.

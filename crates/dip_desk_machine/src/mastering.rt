@@ -175,7 +175,8 @@ fn numbered_in_game(
         (m.DecidesIn map.now (mail letter.now) (request letter.now.command) g) (verdict v)) }
     ensures disk { faults_after result 0 ≡ 0 }
     ensures sane { IsErrOf result KeepFault.Damaged
-        → m.IsDamagedGame map.now (sights.sees sees.now) }
+        → (m.old_number (mail letter.now) (option_map rows.kept kept.now) ≡ None)
+        × m.IsDamagedGame map.now (sights.sees sees.now) }
 {
     match old_number(alloc, letter, kept)? {
         Some(old) => Ok(old),
@@ -199,7 +200,8 @@ pub fn master_verdict(
         (request letter.now.command) game (verdict v)) }
     ensures disk { faults_after result 0 ≡ 0 }
     ensures sane { IsErrOf result KeepFault.Damaged
-        → m.IsDamagedGame map.now (sights.sees sees.now) }
+        → (m.old_number (mail letter.now) (option_map rows.kept kept.now) ≡ None)
+        × m.IsDamagedGame map.now (sights.sees sees.now) }
 {
     match sees {
         Sees::NoGame => Ok(verdict_without_game(alloc, map, letter, kept)?),

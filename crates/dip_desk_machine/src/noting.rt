@@ -1,6 +1,7 @@
 //! What a notice of the master comes to: a paper, and what it changes of the game.
 ghost use Rattle.std.specs.Prelude.{◌≡◌, ◌<◌, IfOk, IsErrOf};
 ghost use Rattle.dip_letters.specs.Views.{notice_request};
+ghost use Rattle.dip_desk_state.specs.Bounds.{most_papers};
 ghost use Rattle.dip_desk_state.specs.Faults.{faults_after};
 ghost use Rattle.dip_desk_machine.specs.Machine as m;
 ghost use Rattle.dip_desk_machine.specs.Noting as n;
@@ -9,7 +10,7 @@ ghost use Rattle.dip_desk_state.specs.Rows as rows;
 
 use crate::ticking::is_over;
 use crate::verdicts::{Verdict, refusal_verdict};
-use dip_desk_state::{Effect, KeepFault, Public, Status};
+use dip_desk_state::{Effect, KeepFault, MOST_PAPERS, Public, Status};
 use dip_letters::Notice;
 use dip_map::Map;
 use dip_reports::{Refusal, notice_paper_text, paper_line};
@@ -51,7 +52,7 @@ fn period_noted(notice: &Notice<'_>, period: u32) -> u32
 
 /// The public part behind the notice.
 fn public_noted(alloc: Global, notice: &Notice<'_>, public: &Public) -> Result<Public, AllocError>
-    requires { public.now.papers < 4294967295 }
+    requires { public.now.papers < most_papers }
     ensures { IfOk result
         (λ p. rows.public p
         ≡ n.public_noted (notice_request notice.now) (rows.public public.now)) }
@@ -107,7 +108,7 @@ pub fn notice_verdict(
     if is_over(&public.status) && !is_announcement(notice) {
         return Ok(refusal_verdict(alloc, Refusal::GameOver)?);
     }
-    if !public.board.is_of(map) || public.papers == u32::MAX {
+    if !public.board.is_of(map) || MOST_PAPERS <= public.papers {
         return Err(KeepFault::Damaged);
     }
     let behind = public_noted(alloc, notice, public)?;

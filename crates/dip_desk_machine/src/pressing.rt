@@ -11,16 +11,13 @@ ghost use Rattle.dip_desk_state.specs.Rows as rows;
 
 use crate::ticking::is_over;
 use crate::verdicts::{Verdict, refusal_verdict};
-use dip_desk_state::{Effect, Item, Own, Public};
+use dip_desk_state::{Effect, Item, MOST_SENT, Own, Public};
 use dip_letters::{Names, Press, Texts};
 use dip_map::Map;
 use dip_names::Power;
 use dip_reports::{Refusal, press_line};
 use std::alloc::{AllocError, Global};
 use std::rc::Rc;
-
-/// The most press letters that a seat may send in a game.
-const QUOTA: u32 = 10000;
 
 /// The names, as texts of their own.
 fn names_of(alloc: Global, names: Names<'_>) -> Result<Vec<String>, AllocError>
@@ -202,7 +199,7 @@ fn press_to(
     if press.grey && !public.grey {
         return refusal_verdict(alloc, Refusal::NoGrey);
     }
-    if QUOTA <= own.sent {
+    if MOST_SENT <= own.sent {
         return refusal_verdict(alloc, Refusal::QuotaUsed);
     }
     let text = texts_of(alloc, press.text)?;

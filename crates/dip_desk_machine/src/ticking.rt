@@ -3,6 +3,7 @@ ghost use Rattle.std.specs.Prelude.{◌≡◌, ◌≤◌, ◌<◌, IfOk, IsErrOf
 ghost use Rattle.std.specs.List.{list_any};
 ghost use Rattle.dip_map.specs.Boards.{IsOf};
 ghost use Rattle.dip_desk_machine.specs.Drawing.{is_drawn};
+ghost use Rattle.dip_desk_state.specs.Bounds.{most_papers};
 ghost use Rattle.dip_desk_state.specs.Faults.{faults_after};
 ghost use Rattle.dip_desk_machine.specs.Machine as m;
 ghost use Rattle.dip_desk_machine.specs.Ordering.{has_foreign};
@@ -13,7 +14,7 @@ ghost use Rattle.dip_desk_state.specs.Rows as rows;
 use crate::drawing::{draw_verdict, is_drawn, survivors};
 use crate::ordering::standing_orders;
 use crate::verdicts::{Verdict, refusal_verdict};
-use dip_desk_state::{Effect, KeepFault, Own, Public, Status, Whole};
+use dip_desk_state::{Effect, KeepFault, MOST_PAPERS, Own, Public, Status, Whole};
 use dip_map::{Board, Map};
 use dip_orders::PlacedOrder;
 use dip_reports::{Refusal, paper_line};
@@ -100,7 +101,7 @@ fn public_played(
     course: Course,
 ) -> Result<Public, AllocError>
     requires timely { tick ≤ 999999999999 }
-    requires room { public.now.papers < 4294967295 }
+    requires room { public.now.papers < most_papers }
     ensures { IfOk result
         (λ p. rows.public p ≡ t.public_played tick (rows.public public.now) board course) }
 {
@@ -140,7 +141,7 @@ fn published(
 /// The phase of a game is adjudicated with the orders that stand; `Damaged` where it can't be.
 fn adjudicated(alloc: Global, map: &Map, tick: u64, whole: &Whole) -> Result<Verdict, KeepFault>
     requires timely { tick ≤ 999999999999 }
-    requires room { whole.now.public.papers < 4294967295 }
+    requires room { whole.now.public.papers < most_papers }
     requires board { IsOf map.now whole.now.public.board }
     ensures value { IfOk result
         (λ v. m.IsPublished map.now tick (rows.whole whole.now) (verdict v)) }
@@ -171,7 +172,7 @@ fn on_time(alloc: Global, map: &Map, tick: u64, whole: &Whole) -> Result<Verdict
         → t.IsPlayable map.now (rows.whole whole.now) → ⊥ }
 {
     let public = &whole.public;
-    if !public.board.is_of(map) || public.papers == u32::MAX {
+    if !public.board.is_of(map) || MOST_PAPERS <= public.papers {
         return Err(KeepFault::Damaged);
     }
     let survivors = survivors(alloc, map, &public.board)?;

@@ -1,3 +1,4 @@
+pub mod Bounds
 pub mod Records
 pub mod Rows
 pub mod Keyed

@@ -1,6 +1,7 @@
 -- What the desk keeps, its named parts, and what a change makes of it.
-use Rattle.std.specs.Prelude.{ℕ, zero, suc, ◌+◌, ◌-◌, ◌==◌, Bool, false, List, [], ◌∷◌, ◌++◌, Option, None, Some, option_map, option_and_then, map, nat_lt, take, drop, bytes_eq, if◌then◌else◌, ◌&&◌}
-use Rattle.std.specs.List.{list_any}
+use Rattle.std.specs.Prelude.{ℕ, zero, suc, ◌+◌, ◌-◌, ◌==◌, Bool, true, false, List, [], ◌∷◌, ◌++◌, Option, None, Some, option_map, option_and_then, map, nat_lt, take, drop, bytes_eq, if◌then◌else◌, ◌&&◌}
+use Rattle.std.specs.List.{list_all, list_any}
+use Rattle.dip_desk_state.specs.Bounds.{most_items, most_sent}
 use Rattle.dip_desk_state.specs.Keyed.{at, change_at}
 use Rattle.dip_desk_state.specs.Records.{Public, Own, Item, Kept, Standing, Whole}
 
@@ -77,10 +78,6 @@ paper_numbered (suc (suc n)) (p ∷ ps) = paper_numbered (suc n) ps
 abbrev pub paper_at : List ℕ → ℕ → State → Option (List ℕ)
 paper_at name n s = option_and_then (λ g. paper_numbered n g.papers) (game_at name s)
 
--- whether a seat's counts have room for one more
-abbrev pub has_room : Own → Bool
-has_room o = nat_lt o.items 4294967295 && nat_lt o.sent 4294967295
-
 -- who wrote a letter
 pub data Author : Type 0 where
   Nobody : Author
@@ -91,6 +88,22 @@ abbrev pub is_seat : Author → ℕ → Bool
 is_seat Nobody power = false
 is_seat TheMaster power = false
 is_seat (Seat p) power = p == power
+
+-- whether a seat may send one letter of press more, where it is the author
+abbrev pub may_send : Author → Own → Bool
+may_send who o = if is_seat who o.power then nat_lt o.sent most_sent else true
+
+-- whether its inbox may get one item more, where it is a reader
+abbrev pub may_get : List ℕ → Own → Bool
+may_get readers o = if list_any (λ p. p == o.power) readers then nat_lt o.items most_items else true
+
+-- whether a seat's counts have room for a letter of press
+abbrev pub has_room : Author → List ℕ → Own → Bool
+has_room who readers o = may_send who o && may_get readers o
+
+-- whether the counts of all seats have
+abbrev pub have_room : Author → List ℕ → List Part → Bool
+have_room who readers seats = list_all (λ s. has_room who readers s.own) seats
 
 -- a power and its digest
 pub record NewSeat : Type 0 where

@@ -1,22 +1,25 @@
 -- A change that fits leaves no key twice, and has place.
 use Rattle.std.proofs.Common.{◌≡◌, ◌<◌, ◌≤◌, ◌+◌, ◌^◌, ◌==◌, ◌&&◌, ℕ, suc, Bool, true, false, cond, List, [], ◌∷◌, ◌++◌, map, filter, find, Option, Some, None, option_map, is_some, nat_lt, bytes_eq, if◌then◌else◌, inl, inr, refl, sym, ap, ap₂, subst, ◌∙◌, arith}
-use Rattle.std.specs.List.{AllByRecursion}
-use Rattle.std.proofs.lemmas.Bool.{and_parts, cases_Bool, eqb-true, ltb-true}
+use Rattle.std.specs.List.{AllByRecursion, list_any}
+use Rattle.std.proofs.lemmas.Bool.{and_parts, cases_Bool, eqb-true, false≢true, ltb-true}
 use Rattle.dip_store_tables.specs.Lists.{delete_where}
 use Rattle.dip_store_tables.proofs.ListLemmas.{all_from_test, all_kept, all_map, all_of, all_unmap, all_weaker, ascending-filter, ascending-map, ascending_weaker}
 use Rattle.dip_store_tables.proofs.SliceLemmas.{any_is_found}
 use Rattle.dip_map.specs.Charts.{Chart, IsMap}
 use Rattle.dip_map.specs.Boards.{IsOf, Position}
-use Rattle.dip_store_tables.specs.Boards.{CentreRow, UnitRow, centre_rows, centre_rows_from, dislodged_row, power_name, standing_row, unit_rows}
+use Rattle.dip_store_tables.specs.Boards.{CentreRow, UnitRow, centre_rows, centre_rows_from, dislodged_row, power_in, power_name, standing_row, unit_rows}
 use Rattle.dip_desk.specs.Fitting.{FindsPlace}
 use Rattle.dip_store_tables.specs.Room.{HasRoom, SentHasRoom}
 use Rattle.dip_desk_machine.specs.Fitting.{FitsMap}
+use Rattle.dip_desk_state.specs.Bounds.{most_items, most_sent}
 use Rattle.dip_desk_state.specs.Keyed.{at}
-use Rattle.dip_desk_state.specs.State.{Author, Nobody, TheMaster, Seat, Effect, Nothing, Pending, Votes, Delivers, Opens, Publishes, Seats, has_room, name_of}
+use Rattle.dip_desk_state.specs.Writable.{IsAuthorOf}
+use Rattle.dip_desk_state.proofs.KeyedLemmas.{powers_tell}
+use Rattle.dip_desk_state.specs.State.{Author, Nobody, TheMaster, Seat, Effect, Nothing, Pending, Votes, Delivers, Opens, Publishes, Seats, has_room, may_get, may_send, name_of}
 use Rattle.dip_desk_state.specs.Records.{Item, White, Grey, Kept, Public}
 use Rattle.dip_store_tables.specs.Changing.{is_reader, noting, one_more, ordering, reaching}
 use Rattle.dip_store_tables.specs.Coding.{AreCoded, HasGame, same_name, same_seat}
-use Rattle.dip_store_tables.specs.Counting.{AreCounted, CountsOn, counted, item_numbers, paper_numbers}
+use Rattle.dip_store_tables.specs.Counting.{AreCounted, CountsOn, IsNextPaper, counted, item_numbers, paper_numbers}
 use Rattle.dip_store_tables.specs.Reading.{game_of, part_of}
 use Rattle.dip_store_tables.specs.Tables.{BoxRow, GameRow, PaperRow, PendingRow, SeatRow, Tables, is_box, is_box_in, is_centre_in, is_named, is_paper_in, is_pending, is_pending_in, is_seat, is_seat_in, is_unit_in}
 use Rattle.dip_store_tables.specs.Writing.{as_printed, game_row, next_row, paper_row, pending_row, seat_noted, seat_row}
@@ -25,6 +28,7 @@ use Rattle.dip_store.specs.Laws.{WhatFitsFindsPlace}
 use Rattle.dip_store.proofs.Apart.{changed_apart, first_off, found_holds, joined_apart, left_apart, none_passes, numbers_most, only_found, own_bytes, put_apart, same_bytes, second_off, turned, under_first}
 use Rattle.dip_store.proofs.New.{centres_new, orders_new, seats_new, units_new}
 use Rattle.dip_store_tables.proofs.Authors.{noted_keys}
+use Rattle.dip_store_tables.proofs.Records.{power_back}
 
 -- a row that isn't of a game, beside one that is
 order_off : (x y : PendingRow) (n p : List ℕ) → is_pending n p x ≡ false → y.game ≡ n → y.power ≡ p → same_order x y ≡ false
@@ -201,70 +205,78 @@ module _ (m : Chart) (ok : IsMap m) (name : List ℕ) (t : Tables) (keyed : AreK
 games_meet : (name : List ℕ) (a b : GameRow) → is_named name a ≡ true → is_named name b ≡ true → same_name a b ≡ true
 games_meet name a b one two = subst (λ n. bytes_eq a.name n ≡ true) (same_bytes a.name name one ∙ sym (same_bytes b.name name two)) (own_bytes a.name)
 
--- a seat with room in both of its counts
-abbrev HasPlaces : SeatRow → Type 0
-HasPlaces s = (s.items + 1 < 2 ^ 32) × (s.sent + 1 < 2 ^ 32)
-
-room_of : (m : Chart) (t : Tables) (s : SeatRow) → has_room (part_of m t s).own ≡ true → HasPlaces s
-room_of m t s has =
-    let both = and_parts (nat_lt s.items 4294967295) (nat_lt s.sent 4294967295) has in
-    let one = ltb-true s.items 4294967295 both.0 in
-    let two = ltb-true s.sent 4294967295 both.1 in
-    (omega (arith, one), omega (arith, two))
-
 module _ (m : Chart) (ok : IsMap m) (t : Tables) (coded : AreCoded m t) (counts : AreCounted t) (keyed : AreKeyed t) (name : List ℕ) where
+  -- a seat that has room for press, where it is of the game
+  abbrev HasPlace : Author → List ℕ → SeatRow → Type 0
+  HasPlace who readers s = is_seat_in name s ≡ true → has_room who readers (part_of m t s).own ≡ true
+
   -- the seats of the game have room
-  seats_room : (g : Option GameRow) (readers : List ℕ) (item : Item) → find (is_named name) t.games ≡ g → FindsPlace name (Delivers readers item) (option_map (game_of m t) g)
-      → AllByRecursion (λ s. is_seat_in name s ≡ true → HasPlaces s) t.seats
-  seats_room None readers item none place =
-      all_weaker (λ s. HasGame t.games s.game) (λ s. is_seat_in name s ≡ true → HasPlaces s) (λ s has mine. absurd (
+  seats_room : (who : Author) (g : Option GameRow) (readers : List ℕ) (item : Item) → find (is_named name) t.games ≡ g → FindsPlace name who (Delivers readers item) (option_map (game_of m t) g)
+      → AllByRecursion (HasPlace who readers) t.seats
+  seats_room who None readers item none place =
+      all_weaker (λ s. HasGame t.games s.game) (HasPlace who readers) (λ s has mine. absurd (
       let here = subst (HasGame t.games) (same_bytes s.game name mine) has in
       let bad = sym here ∙ any_is_found (is_named name) t.games ∙ ap is_some none in cc)) t.seats coded.games
-  seats_room (Some g) readers item some place =
+  seats_room who (Some g) readers item some place =
       let named = same_bytes g.name name (found_holds (λ x. Unit {0}) (is_named name) t.games g some (all_of _ (λ x. tt) t.games)).1 in
-      all_kept HasPlaces (is_seat_in name) t.seats (subst (λ n. AllByRecursion HasPlaces (filter (is_seat_in n) t.seats)) named
-      (all_weaker (λ s. has_room (part_of m t s).own ≡ true) HasPlaces (room_of m t) (filter (is_seat_in g.name) t.seats)
-      (all_unmap (λ p. has_room p.own ≡ true) (part_of m t) (filter (is_seat_in g.name) t.seats) (all_from_test (λ p. has_room p.own) (map (part_of m t) (filter (is_seat_in g.name) t.seats)) place))))
+      all_kept (λ s. has_room who readers (part_of m t s).own ≡ true) (is_seat_in name) t.seats
+      (subst (λ n. AllByRecursion (λ s. has_room who readers (part_of m t s).own ≡ true) (filter (is_seat_in n) t.seats)) named
+      (all_unmap (λ p. has_room who readers p.own ≡ true) (part_of m t) (filter (is_seat_in g.name) t.seats)
+      (all_from_test (λ p. has_room who readers p.own) (map (part_of m t) (filter (is_seat_in g.name) t.seats)) place)))
 
-  press_room : (who : Author) (readers : List ℕ) (item : Item) → AllByRecursion (λ s. is_seat_in name s ≡ true → HasPlaces s) t.seats → HasRoom m who name (Delivers readers item) t
-  press_room who readers item all = (sent who, few t.seats all)
+  press_room : (who : Author) (readers : List ℕ) (item : Item) → IsAuthorOf m who → AllByRecursion (HasPlace who readers) t.seats → HasRoom m who name (Delivers readers item) t
+  press_room who readers item of all = (sent who of all, few t.seats all)
     where
-      sent : (who : Author) → SentHasRoom m who name t.seats
-      sent Nobody = tt
-      sent TheMaster = tt
-      sent (Seat p) = all_weaker (λ s. is_seat_in name s ≡ true → HasPlaces s) (λ s. is_seat name (power_name m p) s ≡ true → s.sent + 1 < 2 ^ 32) (λ s has mine. (has (and_parts _ _ mine).0).1) t.seats all
+      below : (b : Bool) (n most : ℕ) → b ≡ true → cond b (nat_lt n most) true ≡ true → n < most
+      below true n most e less = ltb-true n most less
+      below false n most e less = absurd (false≢true e)
 
-      few : (ss : List SeatRow) → AllByRecursion (λ s. is_seat_in name s ≡ true → HasPlaces s) ss → AllByRecursion (λ s. s.items + 1 < 2 ^ 32) (filter (is_reader m name readers) ss)
+      sent : (who : Author) → IsAuthorOf m who → AllByRecursion (HasPlace who readers) t.seats → SentHasRoom m who name t.seats
+      sent Nobody of all = tt
+      sent TheMaster of all = tt
+      sent (Seat p) of all =
+          all_weaker (HasPlace (Seat p) readers) (λ s. is_seat name (power_name m p) s ≡ true → s.sent < most_sent)
+          (λ s has mine.
+          let keys = and_parts (is_seat_in name s) (bytes_eq s.power (power_name m p)) mine in
+          let both = and_parts (may_send (Seat p) (part_of m t s).own) (may_get readers (part_of m t s).own) (has keys.0) in
+          let same : power_in m s.power ≡ p = ap (power_in m) (same_bytes s.power (power_name m p) keys.1) ∙ power_back m ok p of in
+          below (p == power_in m s.power) s.sent most_sent (subst (λ q. (p == q) ≡ true) (sym same) (powers_tell.self p)) both.0) t.seats all
+
+      few : (ss : List SeatRow) → AllByRecursion (HasPlace who readers) ss → AllByRecursion (λ s. s.items < most_items) (filter (is_reader m name readers) ss)
       few [] all = tt
       few (s ∷ ss) all = elim (cases_Bool (is_reader m name readers s)) [
-        | inl e ↦ rw e ((all.0 (and_parts _ _ e).0).0, few ss all.1)
+        | inl e ↦
+            let keys = and_parts (is_seat_in name s) (list_any (λ p. p == power_in m s.power) readers) e in
+            let both = and_parts (may_send who (part_of m t s).own) (may_get readers (part_of m t s).own) (all.0 keys.0) in
+            rw e (below (list_any (λ p. p == power_in m s.power) readers) s.items most_items keys.1 both.1, few ss all.1)
         | inr e ↦ rw e (few ss all.1)
       ]
 
   -- the game of a paper, and the papers that it has
-  paper_next : (g : Option GameRow) (p : Public) (paper : List ℕ) (played : Bool) → find (is_named name) t.games ≡ g → FindsPlace name (Publishes p paper played) (option_map (game_of m t) g)
-      → AllByRecursion (λ g. is_named name g ≡ true → p.papers ≡ g.papers + 1) t.games × AllByRecursion (λ r. is_paper_in name r ≡ true → r.number < p.papers) t.papers
-  paper_next None p paper played none place = absurd place
-  paper_next (Some g) p paper played some place =
+  paper_next : (who : Author) (g : Option GameRow) (p : Public) (paper : List ℕ) (played : Bool) → find (is_named name) t.games ≡ g
+      → FindsPlace name who (Publishes p paper played) (option_map (game_of m t) g)
+      → AllByRecursion (λ g. is_named name g ≡ true → IsNextPaper p.papers g) t.games × AllByRecursion (λ r. is_paper_in name r ≡ true → r.number < p.papers) t.papers
+  paper_next who None p paper played none place = absurd place
+  paper_next who (Some g) p paper played some place =
       let found = found_holds (λ x. paper_numbers t.papers x.name ≡ counted x.papers) (is_named name) t.games g some counts.papers in
       let named = same_bytes g.name name found.1 in (
-        only_found same_name (is_named name) (games_meet name) (λ x. p.papers ≡ x.papers + 1) t.games g keyed.games some place,
-        all_weaker (λ r. is_paper_in name r ≡ true → r.number ≤ g.papers) (λ r. is_paper_in name r ≡ true → r.number < p.papers) (λ r most mine. let low = most mine in omega (arith, low, place)) t.papers
+        only_found same_name (is_named name) (games_meet name) (λ x. IsNextPaper p.papers x) t.games g keyed.games some place,
+        all_weaker (λ r. is_paper_in name r ≡ true → r.number ≤ g.papers) (λ r. is_paper_in name r ≡ true → r.number < p.papers) (λ r most mine. let low = most mine in let next = place.0 in omega (arith, low, next)) t.papers
             (numbers_most (is_paper_in name) (λ r. r.number) g.papers t.papers (subst (λ n. paper_numbers t.papers n ≡ counted g.papers) named found.0)),
       )
 
-  place_found : (who : Author) (e : Effect) → FitsMap m e → FindsPlace name e (option_map (game_of m t) (find (is_named name) t.games)) → CountsOn name e t.games × HasRoom m who name e t
-  place_found who Nothing fits place = (tt, tt)
-  place_found who (Pending orders) fits place = (tt, tt)
-  place_found who (Votes draw) fits place = (tt, tt)
-  place_found who (Delivers readers item) fits place = (tt, press_room who readers item (seats_room (find (is_named name) t.games) readers item refl place))
-  place_found who (Opens public paper seats) fits place = (fits.1, tt)
-  place_found who (Publishes public paper played) fits place = ((paper_next (find (is_named name) t.games) public paper played refl place).0, tt)
-  place_found who (Seats seat) fits place = (tt, tt)
+  place_found : (who : Author) (e : Effect) → IsAuthorOf m who → FitsMap m e → FindsPlace name who e (option_map (game_of m t) (find (is_named name) t.games)) → CountsOn name e t.games × HasRoom m who name e t
+  place_found who Nothing of fits place = (tt, tt)
+  place_found who (Pending orders) of fits place = (tt, tt)
+  place_found who (Votes draw) of fits place = (tt, tt)
+  place_found who (Delivers readers item) of fits place = (tt, press_room who readers item of (seats_room who (find (is_named name) t.games) readers item refl place))
+  place_found who (Opens public paper seats) of fits place = (fits.1, tt)
+  place_found who (Publishes public paper played) of fits place = ((paper_next who (find (is_named name) t.games) public paper played refl place).0, tt)
+  place_found who (Seats seat) of fits place = (tt, tt)
 
   -- the effect, on the tables that have what is kept of the letter
   module _ (who : Author) (k : Kept) where
-    reached_keyed : (e : Effect) → FitsMap m e → FindsPlace name e (option_map (game_of m t) (find (is_named name) t.games)) → AreKeyed (reaching m name e (ordering m who name e (noting m who name k e t)))
+    reached_keyed : (e : Effect) → FitsMap m e → FindsPlace name who e (option_map (game_of m t) (find (is_named name) t.games)) → AreKeyed (reaching m name e (ordering m who name e (noting m who name k e t)))
     reached_keyed Nothing fits place = ordered_keyed m ok name _ (noted_keyed m name k Nothing t who keyed) who Nothing fits
     reached_keyed (Pending orders) fits place = ordered_keyed m ok name _ (noted_keyed m name k (Pending orders) t who keyed) who (Pending orders) fits
     reached_keyed (Votes draw) fits place = ordered_keyed m ok name _ (noted_keyed m name k (Votes draw) t who keyed) who (Votes draw) fits
@@ -311,7 +323,7 @@ module _ (m : Chart) (ok : IsMap m) (t : Tables) (coded : AreCoded m t) (counts 
         let e = Publishes public paper played in
         let u = noting m who name k e t in
         let held = noted_keyed m name k e t who keyed in
-        let less = subst (λ ps. AllByRecursion (λ r. is_paper_in name r ≡ true → r.number < public.papers) ps) (sym (noted_papers m name k e t who)) (paper_next (find (is_named name) t.games) public paper played refl place).1 in
+        let less = subst (λ ps. AllByRecursion (λ r. is_paper_in name r ≡ true → r.number < public.papers) ps) (sym (noted_papers m name k e t who)) (paper_next who (find (is_named name) t.games) public paper played refl place).1 in
         record {
           desk = held.desk;
           games = changed_apart same_name (is_named name) (λ g. game_row m g.name public) (λ a b. refl) (λ a b. refl) u.games held.games;
@@ -343,8 +355,8 @@ module _ (m : Chart) (ok : IsMap m) (t : Tables) (coded : AreCoded m t) (counts 
 
 pub fits_finds_place : (m : Chart) → WhatFitsFindsPlace m
 fits_finds_place m c t ok coded counts keyed fits =
-    let place = subst (FindsPlace c.game c.effect) (named_game m t c.game t.games) fits.effect.1 in
-    let has = place_found m ok t coded counts keyed c.game c.author c.effect fits.effect.0 place in
+    let place = subst (FindsPlace c.game c.author c.effect) (named_game m t c.game t.games) fits.effect.1 in
+    let has = place_found m ok t coded counts keyed c.game c.author c.effect fits.author fits.effect.0 place in
     record {
       keyed = reached_keyed m ok t coded counts keyed c.game c.author c.kept c.effect fits.effect.0 place;
       paper = has.0;

@@ -1,21 +1,19 @@
 //! All papers of a game, in their order.
-ghost use Rattle.std.specs.Prelude.{◌≡◌, ◌<◌, ◌≤◌, ℕ, OnErr, OnOk, IfErr, IfOk, IsErrOf, length, take as first};
+ghost use Rattle.std.specs.Prelude.{◌≡◌, ◌<◌, ℕ, OnErr, OnOk, IfErr, IfOk, IsErrOf, length, take as first};
 ghost use Rattle.std.specs.Io.KnownBytes.{Appends};
 ghost use Rattle.dip_store.specs.Papers.{AreBegun, AreOut, Walks, papers_of, papers_text};
+ghost use Rattle.dip_desk_state.specs.Bounds.{most_papers};
 ghost use Rattle.dip_desk_state.specs.State.{game_at};
 ghost use Rattle.dip_store.specs.Stored.{book};
 
 use crate::keeper::SqlKeeper;
 use crate::paper_faults::PaperFault;
 use dip_desk::Keeper;
-use dip_desk_state::KeepFault;
+use dip_desk_state::{KeepFault, MOST_PAPERS};
 use dip_map::Map;
 use dip_streams::write_text;
 use sqlite::Alter;
 use std::io::Write;
-
-/// More papers than a game has.
-pub const MOST_PAPERS: u32 = 4_294_967_295;
 
 /// Writes a paper, or a beginning of it.
 fn write_paper<W: Write>(writer: &mut W, text: &str) -> Result<(), PaperFault>
@@ -48,11 +46,11 @@ fn write_all<K: Keeper, W: Write>(
         (W.contents writer.new)) }
     ensures damaged { K.book.sound map.now keeper.old → K.book.shows keeper.new
         → IsErrOf result (PaperFault.Keep KeepFault.Damaged)
-        → MOST_PAPERS ≤ length (papers_of (game_at game.now (K.book.content map.now keeper.old))) }
+        → most_papers < length (papers_of (game_at game.now (K.book.content map.now keeper.old))) }
     ensures walks { Walks map.now K.book keeper.old keeper.new result }
 {
     let mut count = 0;
-    'papers: while count < MOST_PAPERS {
+    'papers: while count <= MOST_PAPERS {
         match keeper.paper(map, game, count + 1)? {
             None => return Ok(u64::from(count)),
             Some(text) => {
@@ -68,8 +66,8 @@ fn write_all<K: Keeper, W: Write>(
 /// game, and then nothing is written. It holds one paper at a time.
 ///
 /// # Errors
-/// The writer's fault, or the keeper's: then a beginning of the papers was written. `Damaged` is told only of a game of `MOST_PAPERS`
-/// papers or more, where what is kept is sound.
+/// The writer's fault, or the keeper's: then a beginning of the papers was written. `Damaged` is told only of a game of more than
+/// `MOST_PAPERS` papers, where what is kept is sound.
 pub fn write_papers<K: Keeper, W: Write>(
     writer: &mut W,
     keeper: &mut K,
@@ -85,7 +83,7 @@ pub fn write_papers<K: Keeper, W: Write>(
         (W.contents writer.new)) }
     ensures damaged { K.book.sound map.now keeper.old → K.book.shows keeper.new
         → IsErrOf result (PaperFault.Keep KeepFault.Damaged)
-        → MOST_PAPERS ≤ length (papers_of (game_at game.now (K.book.content map.now keeper.old))) }
+        → most_papers < length (papers_of (game_at game.now (K.book.content map.now keeper.old))) }
     ensures walks { Walks map.now K.book keeper.old keeper.new result }
 {
     if keeper.public(map, game)?.is_none() {
@@ -117,8 +115,8 @@ impl<S: Alter> SqlKeeper<S> {
             (game_at game.now ((book S.Store).content map.now self.old)) (W.contents writer.old)
             (W.contents writer.new)) }
         ensures damaged { (book S.Store).sound map.now self.old → (book S.Store).shows self.new
-            → IsErrOf result (PaperFault.Keep KeepFault.Damaged) → MOST_PAPERS
-            ≤ length (papers_of (game_at game.now ((book S.Store).content map.now self.old))) }
+            → IsErrOf result (PaperFault.Keep KeepFault.Damaged) → most_papers
+            < length (papers_of (game_at game.now ((book S.Store).content map.now self.old))) }
         ensures walks { Walks map.now (book S.Store) self.old self.new result }
     {
         write_papers(writer, self, map, game)

@@ -16,7 +16,7 @@ mod opening;
 mod paper_faults;
 mod papers;
 
-pub use archive::{MOST_PAPERS, write_papers};
+pub use archive::write_papers;
 pub use checking::VERSION;
 pub use desk_faults::DeskFault;
 pub use desk_row::read_desk;

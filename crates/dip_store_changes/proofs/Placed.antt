@@ -5,6 +5,7 @@ use Rattle.std.proofs.lemmas.List.Elements.{recursion_from_All}
 use Rattle.dip_store_tables.proofs.ListLemmas.{all_weaker}
 use Rattle.dip_store_tables.specs.Boards.{CentreRow, UnitRow}
 use Rattle.dip_map.specs.Charts.{Chart}
+use Rattle.dip_desk_state.specs.Bounds.{most_items}
 use Rattle.dip_desk_state.specs.State.{Author, Effect, Nothing, Pending, Votes, Delivers, Opens, Publishes, Seats}
 use Rattle.dip_desk_state.specs.Records.{Item}
 use Rattle.dip_store_tables.specs.Changing.{is_reader}
@@ -41,19 +42,19 @@ press_sent m who name e readers item ss is room = subst (λ (e : Effect). PressH
 
 -- readers with room are seats with room, and the other way round
 module _ (m : Chart) (name : List ℕ) where
-  seats_room : (ss : List SeatRow) (rs : List Reader) → AreSeats m name ss rs → AllByRecursion (λ r. r.items < 4294967295) rs → AllByRecursion (λ s. s.items + 1 < 2 ^ 32) ss
+  seats_room : (ss : List SeatRow) (rs : List Reader) → AreSeats m name ss rs → AllByRecursion (λ r. r.items < most_items) rs → AllByRecursion (λ s. s.items < most_items) ss
   seats_room [] [] are room = tt
   seats_room [] (r ∷ rs) are room = absurd are
   seats_room (s ∷ ss) [] are room = absurd are
   seats_room (s ∷ ss) (r ∷ rs) are room = (omega (arith, are.2, room.0), seats_room ss rs are.3 room.1)
 
-  pub readers_room : (ss : List SeatRow) (rs : List Reader) → AreSeats m name ss rs → AllByRecursion (λ s. s.items + 1 < 2 ^ 32) ss → AllByRecursion (λ r. r.items < 4294967295) rs
+  pub readers_room : (ss : List SeatRow) (rs : List Reader) → AreSeats m name ss rs → AllByRecursion (λ s. s.items < most_items) ss → AllByRecursion (λ r. r.items < most_items) rs
   readers_room [] [] are room = tt
   readers_room [] (r ∷ rs) are room = absurd are
   readers_room (s ∷ ss) [] are room = absurd are
   readers_room (s ∷ ss) (r ∷ rs) are room = (omega (arith, are.2, room.0), readers_room ss rs are.3 room.1)
 
-  pub inboxes_room : (e : Effect) (ss : List SeatRow) (rs : List Reader) → AreReaders m name e ss rs → All (λ r. r.items < 4294967295) rs → InboxesHaveRoom m name e ss
+  pub inboxes_room : (e : Effect) (ss : List SeatRow) (rs : List Reader) → AreReaders m name e ss rs → All (λ r. r.items < most_items) rs → InboxesHaveRoom m name e ss
   inboxes_room Nothing ss rs are room = tt
   inboxes_room (Pending orders) ss rs are room = tt
   inboxes_room (Votes draw) ss rs are room = tt

@@ -1,8 +1,9 @@
 -- Why a change isn't made, and which changes have place.
-use Rattle.std.specs.Prelude.{◌≡◌, ◌<◌, ◌+◌, ◌^◌, ℕ, true, List, filter}
+use Rattle.std.specs.Prelude.{◌≡◌, ◌<◌, ◌^◌, ℕ, true, List, filter}
 use Rattle.std.specs.List.{AllByRecursion}
 use Rattle.sqlite.specs.Order.{Row}
 use Rattle.dip_map.specs.Charts.{Chart}
+use Rattle.dip_desk_state.specs.Bounds.{most_items, most_sent}
 use Rattle.dip_desk_state.specs.State.{Author, Effect, Nothing, Pending, Votes, Delivers, Opens, Publishes, Seats, Change}
 use Rattle.dip_store_tables.specs.Changing.{changing, is_reader}
 use Rattle.dip_store_tables.specs.Counting.{CountsOn}
@@ -41,7 +42,7 @@ pub record IsListed (m : Chart) (r : Row) : Type 0 where
 
 -- a seat may send one more letter of press
 abbrev pub MaySend : List ℕ → List ℕ → SeatRow → Type 0
-MaySend name power s = is_seat name power s ≡ true → s.sent + 1 < 2 ^ 32
+MaySend name power s = is_seat name power s ≡ true → s.sent < most_sent
 
 -- a letter of press counts in its author's row
 abbrev pub PressHasRoom : Chart → Author → List ℕ → Effect → List SeatRow → Type 0
@@ -59,7 +60,7 @@ InboxesHaveRoom m name Nothing ss = Unit {0}
 InboxesHaveRoom m name (Pending orders) ss = Unit {0}
 InboxesHaveRoom m name (Votes draw) ss = Unit {0}
 InboxesHaveRoom m name (Delivers powers item) ss =
-    AllByRecursion (λ s. s.items + 1 < 2 ^ 32) (filter (is_reader m name powers) ss)
+    AllByRecursion (λ s. s.items < most_items) (filter (is_reader m name powers) ss)
 InboxesHaveRoom m name (Opens public paper seats) ss = Unit {0}
 InboxesHaveRoom m name (Publishes public paper played) ss = Unit {0}
 InboxesHaveRoom m name (Seats seat) ss = Unit {0}

@@ -1,10 +1,11 @@
 //! What is counted before a change is made.
-ghost use Rattle.std.specs.Prelude.{◌≡◌, ◌<◌, ◌+◌, ◌^◌, All, IfErr, IfOk, OnOk, string_bytes, true};
+ghost use Rattle.std.specs.Prelude.{◌≡◌, ◌<◌, ◌^◌, All, IfErr, IfOk, OnOk, string_bytes, true};
 ghost use Rattle.std.specs.List.{AllByRecursion};
+ghost use Rattle.dip_desk_state.specs.Bounds.{most_items};
 ghost use Rattle.dip_desk_state.specs.ChangeRows as machine;
 ghost use Rattle.dip_desk_state.specs.State.{Seat};
 ghost use Rattle.dip_store_tables.specs.ChangeColumns.{FitsColumns};
-ghost use Rattle.dip_store_tables.specs.Counting.{CountsOn};
+ghost use Rattle.dip_store_tables.specs.Counting.{CountsOn, IsNextPaper};
 ghost use Rattle.dip_store_tables.specs.Tables.{is_named};
 ghost use Rattle.dip_store_tables.specs.Legible.{AreOurs, IsSeatLegible};
 ghost use Rattle.dip_store_sql.specs.Causes.{has_faulted};
@@ -16,7 +17,7 @@ ghost use Rattle.dip_store_changes.specs.Failing.{FailsFor, HasPlace, InboxesHav
 use crate::delivering::Reader;
 use crate::faults::MakeFault;
 use crate::readers::find_readers;
-use dip_desk_state::{Author, Change, Effect};
+use dip_desk_state::{Author, Change, Effect, MOST_PAPERS, MOST_SENT};
 use dip_map::Map;
 use dip_names::Power;
 use dip_store_sql::{count_papers, count_sent};
@@ -30,28 +31,28 @@ pub(crate) struct Counted {
     pub readers: Vec<Reader>,
 }
 
-/// Whether the paper has the next number of its game.
+/// Whether the paper has the next number of its game, which is no more than a game has.
 fn check_number<S: Alter>(
     conn: &mut Connection<S>,
     game: &str,
     papers: u32,
 ) -> Result<(), MakeFault>
     ensures value { IsKept S.Store conn.old → is_honest S.Store conn.new → OnOk result
-        (AllByRecursion (λ g. is_named game.now g ≡ true → papers ≡ g.papers + 1)
+        (AllByRecursion (λ g. is_named game.now g ≡ true → IsNextPaper papers g)
         (tables_in S.Store conn.old).games) }
     ensures selects { Selects S.Store conn.old conn.new result }
     ensures fails { IsKept S.Store conn.old → does_show S.Store conn.old
         → is_honest S.Store conn.new
         → AllByRecursion (λ g. g.papers < 2 ^ 32) (tables_in S.Store conn.old).games
         → IfErr result (FailsFor (has_faulted S.Store conn.old conn.new)
-        (¬ AllByRecursion (λ g. is_named game.now g ≡ true
-        → papers ≡ g.papers + 1) (tables_in S.Store conn.old).games)) }
+        (¬ AllByRecursion (λ g. is_named game.now g ≡ true → IsNextPaper papers g)
+        (tables_in S.Store conn.old).games)) }
 {
     let Some(row) = count_papers(conn, game)? else {
         return Ok(());
     };
     let count: u32 = row.get(0)?;
-    if count == u32::MAX || papers != count + 1 {
+    if MOST_PAPERS <= count || papers != count + 1 {
         return Err(MakeFault::Misfit);
     }
     Ok(())
@@ -103,7 +104,7 @@ fn next_of<S: Alter>(conn: &mut Connection<S>, game: &str, power: &str) -> Resul
         return Ok(0);
     };
     let sent: u32 = row.get(0)?;
-    if sent == u32::MAX {
+    if MOST_SENT <= sent {
         return Err(MakeFault::Misfit);
     }
     Ok(sent + 1)
@@ -179,7 +180,7 @@ fn readers_of<S: Alter>(
     game: &str,
     effect: &Effect,
 ) -> Result<Vec<Reader>, MakeFault>
-    ensures room { IfOk result (λ v. All (λ r. r.items < 4294967295) v.items) }
+    ensures room { IfOk result (λ v. All (λ r. r.items < most_items) v.items) }
     ensures value { IsKept S.Store conn.old → is_honest S.Store conn.new → IfOk result (λ v.
         AreReaders map.now game.now (machine.effect effect.now)
         (tables_in S.Store conn.old).seats v.items) }
@@ -211,7 +212,7 @@ pub(crate) fn count<S: Alter>(
     change: &Change,
 ) -> Result<Counted, MakeFault>
     requires { FitsColumns (machine.effect change.now.effect) }
-    ensures room { IfOk result (λ n. All (λ r. r.items < 4294967295) n.readers.items) }
+    ensures room { IfOk result (λ n. All (λ r. r.items < most_items) n.readers.items) }
     ensures value { IsKept S.Store conn.old → is_honest S.Store conn.new → IfOk result (λ n.
         Counts n.sent n.readers.items map.now (machine.change change.now)
         (tables_in S.Store conn.old)) }

@@ -2,6 +2,7 @@
 ghost use Rattle.std.specs.Prelude.{◌≡◌, ◌<◌, All};
 ghost use Rattle.sqlite.specs.Held.{state};
 ghost use Rattle.dip_map.specs.Charts.{Chart};
+ghost use Rattle.dip_desk_state.specs.Bounds.{most_items};
 ghost use Rattle.dip_desk_state.specs.Rows as records;
 ghost use Rattle.dip_store_sql.specs.Calls.{Writes};
 ghost use Rattle.dip_store_sql.specs.Keys.{Differ, same_item};
@@ -59,7 +60,7 @@ fn put_to<'r, S: Alter>(
     reader: &Reader,
     item: &'r ItemTexts,
 ) -> Result<(), Error>
-    requires { reader.now.items < 4294967295 }
+    requires { reader.now.items < most_items }
     ensures same_reference { tx.new.conn.ghost_name ≡ tx.old.conn.ghost_name }
     ensures writes { Writes
         (delivering_to map.now game.now (λ power n. boxed game.now power n item.now) reader.now)
@@ -84,7 +85,7 @@ fn put_all<S: Alter>(
     readers: &[Reader],
     item: &ItemTexts,
 ) -> Result<(), Error>
-    requires { All (λ r. r.items < 4294967295) readers.now }
+    requires { All (λ r. r.items < most_items) readers.now }
     ensures same_reference { tx.new.conn.ghost_name ≡ tx.old.conn.ghost_name }
     ensures writes { Writes
         (delivering_rows map.now game.now (λ power n. boxed game.now power n item.now) readers.now)
@@ -109,7 +110,7 @@ pub fn deliver<S: Alter>(
     readers: &[Reader],
     item: &Item,
 ) -> Result<(), Error>
-    requires { All (λ r. r.items < 4294967295) readers.now }
+    requires { All (λ r. r.items < most_items) readers.now }
     ensures same_reference { tx.new.conn.ghost_name ≡ tx.old.conn.ghost_name }
     ensures writes { Writes
         (delivering_all map.now game.now (records.item item.now) readers.now)

@@ -1,6 +1,7 @@
 //! The parts of a change, one behind the other in a transaction.
 ghost use Rattle.std.specs.Prelude.{◌≡◌, ◌<◌, All, string_bytes};
 ghost use Rattle.sqlite.specs.Held.{state};
+ghost use Rattle.dip_desk_state.specs.Bounds.{most_items};
 ghost use Rattle.dip_desk_state.specs.ChangeRows as machine;
 ghost use Rattle.dip_desk_state.specs.Rows as records;
 ghost use Rattle.dip_store_tables.specs.Changing.{ordering, ordering_by};
@@ -84,7 +85,7 @@ fn reach<S: Alter>(
 ) -> Result<(), Error>
     requires of { IsEffectOf map.now (machine.effect effect.now) }
     requires fits { FitsColumns (machine.effect effect.now) }
-    requires room { All (λ r. r.items < 4294967295) readers.now }
+    requires room { All (λ r. r.items < most_items) readers.now }
     ensures same_reference { tx.new.conn.ghost_name ≡ tx.old.conn.ghost_name }
     ensures writes { Writes
         (reaching_all readers.now map.now game.now (machine.effect effect.now))
@@ -122,7 +123,7 @@ pub(crate) fn make_parts<S: Alter>(
     readers: &[Reader],
 ) -> Result<(), Error>
     requires writable { IsWritable map.now (machine.change change.now) }
-    requires room { All (λ r. r.items < 4294967295) readers.now }
+    requires room { All (λ r. r.items < most_items) readers.now }
     ensures same_reference { tx.new.conn.ghost_name ≡ tx.old.conn.ghost_name }
     ensures writes { Writes
         (changing_sent sent readers.now map.now (machine.change change.now))

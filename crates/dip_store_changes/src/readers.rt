@@ -1,8 +1,9 @@
 //! The readers of press, as the rows of a game's seats show them.
-ghost use Rattle.std.specs.Prelude.{◌≡◌, ◌<◌, ◌==◌, ◌+◌, ◌^◌, All, IfErr, IfOk, IsTrue, filter, map as each};
+ghost use Rattle.std.specs.Prelude.{◌≡◌, ◌<◌, ◌==◌, All, IfErr, IfOk, IsTrue, filter, map as each};
 ghost use Rattle.std.specs.List.{AllByRecursion, list_any};
 ghost use Rattle.sqlite.specs.Order.{bytes, column};
 ghost use Rattle.dip_map.specs.Charts.{IsMap};
+ghost use Rattle.dip_desk_state.specs.Bounds.{most_items};
 ghost use Rattle.dip_store_tables.specs.Boards.{power_in, power_name};
 ghost use Rattle.dip_store_tables.specs.Changing.{is_reader};
 ghost use Rattle.dip_store_tables.specs.Legible.{AreOurs};
@@ -14,6 +15,7 @@ ghost use Rattle.dip_store_changes.specs.Failing.{FailsFor, IsListed};
 
 use crate::delivering::Reader;
 use crate::faults::MakeFault;
+use dip_desk_state::MOST_ITEMS;
 use dip_map::Map;
 use dip_names::Power;
 use dip_store_sql::list_seats;
@@ -72,10 +74,10 @@ fn chosen(mut readers: Vec<Reader>, powers: &[Power]) -> Vec<Reader>
 }
 
 fn have_room(readers: &[Reader]) -> bool
-    ensures room { IsTrue result → All (λ r. r.items < 4294967295) readers.now }
-    ensures full { All (λ r. r.items < 4294967295) readers.now → IsTrue result }
+    ensures room { IsTrue result → All (λ r. r.items < most_items) readers.now }
+    ensures full { All (λ r. r.items < most_items) readers.now → IsTrue result }
 {
-    readers.iter().all(|reader| reader.items < u32::MAX)
+    readers.iter().all(|reader| reader.items < MOST_ITEMS)
 }
 
 /// The seats of the game that are of these powers, in their order.
@@ -86,7 +88,7 @@ pub(crate) fn find_readers<S: Alter>(
     game: &str,
     powers: &[Power],
 ) -> Result<Vec<Reader>, MakeFault>
-    ensures room { IfOk result (λ v. All (λ r. r.items < 4294967295) v.items) }
+    ensures room { IfOk result (λ v. All (λ r. r.items < most_items) v.items) }
     ensures value { IsKept S.Store conn.old → is_honest S.Store conn.new → IfOk result (λ v.
         AreSeats map.now game.now (filter (is_reader map.now game.now powers.now)
         (tables_in S.Store conn.old).seats) v.items) }
@@ -94,7 +96,7 @@ pub(crate) fn find_readers<S: Alter>(
     ensures fails { IsKept S.Store conn.old → does_show S.Store conn.old
         → is_honest S.Store conn.new → AreOurs map.now (tables_in S.Store conn.old)
         → IfErr result (FailsFor (has_faulted S.Store conn.old conn.new)
-        (¬ AllByRecursion (λ s. s.items + 1 < 2 ^ 32)
+        (¬ AllByRecursion (λ s. s.items < most_items)
         (filter (is_reader map.now game.now powers.now) (tables_in S.Store conn.old).seats))) }
 {
     let rows = list_seats(conn, game)?;

@@ -1,5 +1,6 @@
 //! A change in one transaction, made whole or not at all.
 ghost use Rattle.std.specs.Prelude.{◌≡◌, ◌<◌, All, IfErr, false};
+ghost use Rattle.dip_desk_state.specs.Bounds.{most_items};
 ghost use Rattle.dip_desk_state.specs.ChangeRows as machine;
 ghost use Rattle.dip_store_tables.specs.ChangeColumns.{IsWritable};
 ghost use Rattle.dip_store_sql.specs.Causes.{has_faulted};
@@ -26,7 +27,7 @@ pub fn make_with<S: Alter>(
 ) -> Result<(), Error>
     requires idle { conn.old.in_transaction ≡ false }
     requires writable { IsWritable map.now (machine.change change.now) }
-    requires room { All (λ r. r.items < 4294967295) readers.now }
+    requires room { All (λ r. r.items < most_items) readers.now }
     ensures makes { Makes S.Store
         (changing_sent sent readers.now map.now (machine.change change.now))
         conn.old conn.new result }

@@ -17,7 +17,7 @@ use Rattle.dip_store_tables.specs.Tables.{GameRow, SeatRow, BoxRow, PaperRow, Ta
 use Rattle.dip_store_tables.specs.Writing.{game_row, seat_row, paper_row, next_row, seat_noted}
 use Rattle.dip_store_tables.specs.Changing.{noting, reaching, delivering, opening, publishing, is_reader, one_more}
 use Rattle.dip_store_tables.specs.Coding.{AreApart, same_name}
-use Rattle.dip_store_tables.specs.Counting.{counted, paper_numbers, item_numbers, AreCounted, CountsOn}
+use Rattle.dip_store_tables.specs.Counting.{counted, paper_numbers, item_numbers, AreCounted, CountsOn, IsNextPaper}
 use Rattle.dip_store_tables.specs.Laws.{TablesStayCounted}
 use Rattle.dip_store_tables.proofs.Anew.{put_mine, put_other}
 use Rattle.dip_store_tables.proofs.Authors.{authored, ordering_alone, noted_keys}
@@ -139,14 +139,14 @@ module _ (m : Chart) (name : List ℕ) (t : Tables) (it : AreCounted t) (apart :
     abbrev papers : List PaperRow
     papers = t.papers ++ paper_row name p.papers paper ∷ []
 
-    published : (g : GameRow) → (is_named name g ≡ true → p.papers ≡ g.papers + 1) → HasPapers t.papers g → HasPapers papers (cond (is_named name g) (game_row m g.name p) g)
+    published : (g : GameRow) → (is_named name g ≡ true → IsNextPaper p.papers g) → HasPapers t.papers g → HasPapers papers (cond (is_named name g) (game_row m g.name p) g)
     published g next has = elim (cases_Bool (is_named name g)) [
       | inl e ↦
           let same : name ≡ g.name = sym (names_tell.same g.name name e) in
           let mine : is_paper_in g.name (paper_row name p.papers paper) ≡ true = subst (λ n. bytes_eq n g.name ≡ true) (sym same) (names_tell.self g.name) in
           let is : paper_numbers papers g.name ≡ counted p.papers =
           slice-push_mine (is_paper_in g.name) (λ (r : PaperRow). r.number) t.papers (paper_row name p.papers paper) mine
-          ∙ ap₂ (λ ns n. ns ++ n ∷ []) has (next e) ∙ counted_more g.papers ∙ ap counted (sym (next e)) in
+          ∙ ap₂ (λ ns n. ns ++ n ∷ []) has (next e).0 ∙ counted_more g.papers ∙ ap counted (sym (next e).0) in
           subst (λ b. HasPapers papers (cond b (game_row m g.name p) g)) (sym e) is
       | inr e ↦
           let is : paper_numbers papers g.name ≡ counted g.papers =
@@ -154,10 +154,10 @@ module _ (m : Chart) (name : List ℕ) (t : Tables) (it : AreCounted t) (apart :
           subst (λ b. HasPapers papers (cond b (game_row m g.name p) g)) (sym e) is
     ]
 
-    published_counted : AllByRecursion (λ g. is_named name g ≡ true → p.papers ≡ g.papers + 1) t.games → AreCounted (publishing m name p paper played t)
+    published_counted : AllByRecursion (λ g. is_named name g ≡ true → IsNextPaper p.papers g) t.games → AreCounted (publishing m name p paper played t)
     published_counted next = record {
       papers = all_map (HasPapers papers) (λ g. cond (is_named name g) (game_row m g.name p) g) t.games
-          (all_both (λ g. is_named name g ≡ true → p.papers ≡ g.papers + 1) (HasPapers t.papers) (λ g. HasPapers papers (cond (is_named name g) (game_row m g.name p) g)) published t.games next it.papers);
+          (all_both (λ g. is_named name g ≡ true → IsNextPaper p.papers g) (HasPapers t.papers) (λ g. HasPapers papers (cond (is_named name g) (game_row m g.name p) g)) published t.games next it.papers);
       items = it.items;
     }
 

@@ -6,6 +6,7 @@ use Rattle.sqlite_keyed.specs.Lists.{delete_where}
 use Rattle.sqlite_keyed.proofs.ListLemmas.{all-append, all-filter, all-map, all_both, all_map, all_weaker}
 use Rattle.dip_map.specs.Charts.{Chart, IsMap}
 use Rattle.dip_store_tables.specs.Boards.{power_name}
+use Rattle.dip_desk_state.specs.Bounds.{most_items, most_sent}
 use Rattle.dip_desk_state.specs.State.{Author, Nobody, TheMaster, Seat, NewSeat, Effect, Nothing, Pending, Votes, Delivers, Opens, Publishes, Seats}
 use Rattle.dip_desk_state.specs.Writable.{IsAuthorOf}
 use Rattle.dip_desk_state.specs.Records.{Item, White, Grey, Kept, Standing}
@@ -57,7 +58,7 @@ abbrev MaySend : Effect → SeatRow → Type 0
 MaySend Nothing s = Unit {0}
 MaySend (Pending orders) s = Unit {0}
 MaySend (Votes draw) s = Unit {0}
-MaySend (Delivers readers item) s = s.sent + 1 < 2 ^ 32
+MaySend (Delivers readers item) s = s.sent < most_sent
 MaySend (Opens public paper seats) s = Unit {0}
 MaySend (Publishes public paper played) s = Unit {0}
 MaySend (Seats seat) s = Unit {0}
@@ -66,7 +67,7 @@ abbrev MayGet : Chart → List ℕ → Effect → SeatRow → Type 0
 MayGet m name Nothing s = Unit {0}
 MayGet m name (Pending orders) s = Unit {0}
 MayGet m name (Votes draw) s = Unit {0}
-MayGet m name (Delivers readers item) s = is_reader m name readers s ≡ true → s.items + 1 < 2 ^ 32
+MayGet m name (Delivers readers item) s = is_reader m name readers s ≡ true → s.items < most_items
 MayGet m name (Opens public paper seats) s = Unit {0}
 MayGet m name (Publishes public paper played) s = Unit {0}
 MayGet m name (Seats seat) s = Unit {0}
@@ -75,7 +76,7 @@ may_get : (m : Chart) (who : Author) (name : List ℕ) (e : Effect) (t : Tables)
 may_get m who name Nothing t room = always _ (λ s. tt) t.seats
 may_get m who name (Pending orders) t room = always _ (λ s. tt) t.seats
 may_get m who name (Votes draw) t room = always _ (λ s. tt) t.seats
-may_get m who name (Delivers readers item) t room = of_passed (λ s. s.items + 1 < 2 ^ 32) (is_reader m name readers) t.seats room.1
+may_get m who name (Delivers readers item) t room = of_passed (λ s. s.items < most_items) (is_reader m name readers) t.seats room.1
 may_get m who name (Opens public paper seats) t room = always _ (λ s. tt) t.seats
 may_get m who name (Publishes public paper played) t room = always _ (λ s. tt) t.seats
 may_get m who name (Seats seat) t room = always _ (λ s. tt) t.seats
@@ -96,7 +97,7 @@ noted_seat : (m : Chart) (name : List ℕ) (k : Kept) (e : Effect) (s : SeatRow)
 noted_seat m name k Nothing s told may it get = ((told, it.1, it.2), tt)
 noted_seat m name k (Pending orders) s told may it get = ((told, it.1, it.2), tt)
 noted_seat m name k (Votes draw) s told may it get = ((told, it.1, it.2), tt)
-noted_seat m name k (Delivers readers item) s told may it get = ((told, may, it.2), get)
+noted_seat m name k (Delivers readers item) s told may it get = ((told, omega (arith, may), it.2), get)
 noted_seat m name k (Opens public paper seats) s told may it get = ((told, it.1, it.2), tt)
 noted_seat m name k (Publishes public paper played) s told may it get = ((told, it.1, it.2), tt)
 noted_seat m name k (Seats seat) s told may it get = ((told, it.1, it.2), tt)
@@ -185,7 +186,7 @@ module _ (m : Chart) (name : List ℕ) (t : Tables) where
       record {
         desk = old.desk;
         seats = all_changed (λ s. IsSeatLegible s × get s) IsSeatLegible (is_reader m name readers) one_more
-            (λ s hit has. (has.0.0, has.0.1, has.1 hit)) (λ s has. has.0) t.seats (pairs IsSeatLegible get t.seats old.seats it.room);
+            (λ s hit has. (has.0.0, has.0.1, let few = has.1 hit in omega (arith, few))) (λ s has. has.0) t.seats (pairs IsSeatLegible get t.seats old.seats it.room);
         pending = old.pending;
         boxes = all-append IsItemLegible t.boxes (map (next_row item) (filter (is_reader m name readers) t.seats)) old.boxes
             (all-map IsItemLegible (next_row item) (item_row item texts) (filter (is_reader m name readers) t.seats));

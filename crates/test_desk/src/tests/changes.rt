@@ -1,33 +1,12 @@
 //! Changes that no letter makes: a game with two seats, press that names a power twice, and a paper with another game's name.
 use dip_desk::{Keeper, MemoryKeeper};
-use dip_desk_state::{Author, Change, Effect, Item, KeepFault, Kept, NewSeat, Public};
+use dip_desk_state::{Author, Effect, Item, KeepFault, NewSeat, Public};
 use dip_map::{Map, STANDARD};
 use dip_names::Power;
 use std::alloc::{AllocError, Global};
 use std::rc::Rc;
 use std::test::Fail;
-use test_tools::{Mismatch, opened};
-
-/// What is kept of an author's second letter.
-fn kept(alloc: Global) -> Result<Kept, AllocError> {
-    let reply = String::from_str(alloc, "done\n")?;
-    Ok(Kept {
-        number: 2,
-        sum: [7; 32],
-        reply: Rc::new(alloc, reply)?,
-    })
-}
-
-/// What an author's second letter changes by this effect.
-fn change(alloc: Global, game: &str, author: Author, effect: Effect) -> Result<Change, AllocError> {
-    let game = String::from_str(alloc, game)?;
-    Ok(Change {
-        game,
-        author,
-        kept: kept(alloc)?,
-        effect,
-    })
-}
+use test_tools::{Mismatch, change, opened};
 
 /// This public part, as that of g2 with another due tick.
 fn as_g2(alloc: Global, public: Public, papers: u32) -> Result<Public, AllocError> {

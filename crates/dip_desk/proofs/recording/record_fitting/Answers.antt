@@ -5,7 +5,9 @@ use Rattle.dip_desk.specs.Stored.{finds_room, parts}
 use Rattle.dip_desk.proofs.PartLemmas.{no_room}
 use Rattle.dip_desk.proofs.recording.record_fitting.Goals as goal
 
-pub returns-then-not-finds_room-clause-fitting : goal.returns-then-not-finds_room-clause-fitting
-returns-then-not-finds_room-clause-fitting c told key fits =
-    no_room (string_bytes c.args.change.now.game) (desk_rows.effect c.args.change.now.effect) key c.args.game.now
-    (ap (λ (os : List SeatRow). finds_room (desk_rows.effect c.args.change.now.effect) (parts os)) (sym c.as_slice.ensures.value) ∙ sym c.finds_room.ensures ∙ c.if-not-finds_room.true) fits
+pub returns-then-not-finds_room-clause-damaged : goal.returns-then-not-finds_room-clause-damaged
+returns-then-not-finds_room-clause-damaged c told key =
+    let who = desk_rows.author c.args.change.now.author in
+    let e = desk_rows.effect c.args.change.now.effect in
+    no_room (string_bytes c.args.change.now.game) who e key c.args.game.now
+    (ap (λ (os : List SeatRow). finds_room who e (parts os)) (sym c.as_slice.ensures.value) ∙ sym c.finds_room.ensures ∙ c.if-not-finds_room.true)

@@ -4,7 +4,7 @@ use Rattle.std.specs.Map.{keys_of, lookup}
 use Rattle.std.proofs.lemmas.Result.{on_err_weaker, on_ok_weaker}
 use Rattle.dip_desk_state.specs.ChangeRows as desk_rows
 use Rattle.dip_desk_state.specs.State as s
-use Rattle.dip_desk.specs.Fitting.{FindsPlace}
+use Rattle.dip_desk.specs.Fitting.{LacksPlace}
 use Rattle.dip_desk.proofs.GamesLemmas.{game_kept, game_same, game_set, game_there, is_named}
 use Rattle.dip_desk.proofs.recording.record_game.Goals as goal
 
@@ -33,10 +33,10 @@ returns-clause-err c =
     (λ same. game_same name es c.in-Some.place c.index_mut-game.result.now c.record_fitting.new.game there c.index_mut-game.ensures.value same)
     c.record_fitting.ensures.err
 
-pub returns-clause-fitting : goal.returns-clause-fitting
-returns-clause-fitting c bad fits =
+pub returns-clause-damaged : goal.returns-clause-damaged
+returns-clause-damaged c bad =
     let name = string_bytes c.args.change.now.game in
     let es = c.args.games.now.entries in
     let there : position (is_named name) (keys_of es) ≡ Some c.in-Some.place = ap (λ (n : List ℕ). position (is_named n) (keys_of es)) (sym c.as_str.ensures.value) ∙ sym c.in-Some.ensures.index in
-    c.record_fitting.ensures.fitting bad name
-    (subst (λ (g : Option s.Game). FindsPlace name (desk_rows.effect c.args.change.now.effect) g) (game_there name es c.in-Some.place c.index_mut-game.result.now there c.index_mut-game.ensures.value) fits)
+    subst (λ (g : Option s.Game). LacksPlace name (desk_rows.author c.args.change.now.author) (desk_rows.effect c.args.change.now.effect) g)
+    (sym (game_there name es c.in-Some.place c.index_mut-game.result.now there c.index_mut-game.ensures.value)) (c.record_fitting.ensures.damaged bad name)

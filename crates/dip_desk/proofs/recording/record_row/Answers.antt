@@ -4,14 +4,18 @@ use Rattle.dip_desk_state.specs.ChangeRows as desk_rows
 use Rattle.dip_desk_state.specs.State.{Part, with_author}
 use Rattle.dip_desk_state.specs.Records.{Kept}
 use Rattle.dip_desk_state.specs.Rows as rows
-use Rattle.dip_desk.specs.Stored.{MaySend, parts, reached}
-use Rattle.dip_desk.proofs.PartLemmas.{all_may_send, row_after}
+use Rattle.dip_desk.specs.Stored.{AuthorMaySend, parts, reached}
+use Rattle.dip_desk.proofs.PartLemmas.{all_may_get, all_may_send, row_after}
 use Rattle.dip_desk.proofs.recording.record_row.Goals as goal
 
 pub record_author-requires-clause-room : goal.record_author-requires-clause-room
 record_author-requires-clause-room c =
     let e = desk_rows.effect c.args.change.now.effect in
-    subst (AllByRecursion (MaySend e)) (sym c.in_ok-put_content.ensures.ok.seats) (all_may_send e (parts c.args.game.now.seats.items) c.requires)
+    let who = desk_rows.author c.args.change.now.author in
+    subst (AllByRecursion (AuthorMaySend who e)) (sym c.in_ok-put_content.ensures.ok.seats) (all_may_send who e (parts c.args.game.now.seats.items) c.requires)
+
+pub put_content-requires : goal.put_content-requires
+put_content-requires c = all_may_get (desk_rows.author c.args.change.now.author) (desk_rows.effect c.args.change.now.effect) (parts c.args.game.now.seats.items) c.requires
 
 pub returns-clause-ok : goal.returns-clause-ok
 returns-clause-ok c key =

@@ -85,7 +85,7 @@ returns-in-Err-take g c =
           );
       never = λ sound shows lawful bad.
           let before = took.keeps.shown shows in
-          c.lawful_states_stay_lawful.ensures.sane _ n _ (c.loop-letter.invariant.lawful sound before lawful) (took.damaged (kept.sound sound before) shows (ap (λ (e : KeepFault). Err e) bad));
+          c.lawful_states_stay_lawful.ensures.sane _ n _ (said_each IsMail (λ l. mail l) c.args.letters.now c.loop-letter.letter-index _ (omega arith) c.requires.letters) (c.loop-letter.invariant.lawful sound before lawful) (took.damaged (kept.sound sound before) shows (ap (λ (e : KeepFault). Err e) bad));
       lawful = λ sound shows lawful.
           let before = took.keeps.shown shows in
           subst (IsLawful m) (sym (took.undone (kept.sound sound before) shows)) (c.loop-letter.invariant.lawful sound before lawful);

@@ -1,6 +1,7 @@
 use Rattle.dip_map.specs.Boards.{Position, IsOf}
 use Rattle.dip_desk_machine.proofs.LawfulOrders.{AreRead}
-use Rattle.dip_desk_machine.proofs.LawfulStates.{StaysOf, never_damaged, stays_lawful, stays_of}
+use Rattle.dip_desk_machine.proofs.LawfulStates.{StaysOf, stays_lawful, stays_of}
+use Rattle.dip_desk_machine.proofs.NeverDamaged.{never_damaged}
 use Rattle.dip_desk_machine.proofs.laws.lawful_states_stay_lawful.Goals as goal
 
 pub returns-clause-stays : goal.returns-clause-stays

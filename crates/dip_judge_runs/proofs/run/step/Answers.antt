@@ -13,7 +13,7 @@ returns-in-Ok-take-clause-lawful g c sound shows lawful = c.lawful_states_stay_l
 pub returns-in-Err-take-clause-never : goal.returns-in-Err-take-clause-never
 returns-in-Err-take-clause-never g c sound shows lawful damaged =
     let same : c.in-Err-take.fault ≡ Damaged = cc in
-    c.lawful_states_stay_lawful.ensures.sane _ (mail c.in-Taken.letter) _ lawful (c.in-Err-take.ensures.damaged sound shows (ap (λ (e : KeepFault). Err e) same))
+    c.lawful_states_stay_lawful.ensures.sane _ (mail c.in-Taken.letter) _ c.in-Taken.ensures.next.0.fits lawful (c.in-Err-take.ensures.damaged sound shows (ap (λ (e : KeepFault). Err e) same))
 
 pub returns-in-Ok-take-clause-goes : goal.returns-in-Ok-take-clause-goes
 returns-in-Ok-take-clause-goes g c it honest =

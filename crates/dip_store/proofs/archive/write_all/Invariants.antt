@@ -1,8 +1,9 @@
-use Rattle.std.proofs.Common.{◌-◌, ◌≤◌, ℕ, length, take}
+use Rattle.std.proofs.Common.{◌+◌, ◌-◌, ◌≤◌, ℕ, length, take}
 use Rattle.std.specs.List.{flat_map}
 use Rattle.std.specs.Io.KnownBytes.{Appends}
 use Rattle.dip_store.specs.Papers.{Walks, papers_of}
 use Rattle.dip_store.proofs.Walking.{went}
+use Rattle.dip_desk_state.specs.Bounds.{most_papers}
 use Rattle.dip_desk_state.specs.State.{game_at}
 use Rattle.dip_store.proofs.archive.write_all.Given as goal
 
@@ -17,4 +18,4 @@ invariant-papers g l =
     }
 
 abbrev pub decreases-papers : goal.decreases-papers
-decreases-papers g l = 4294967295 - l.count
+decreases-papers g l = (most_papers + 1) - l.count

@@ -1,5 +1,6 @@
 use Rattle.std.proofs.Common.{arith, ◌≡◌, ◌<◌, ◌+◌, ◌^◌, true, refl, sym, ◌∙◌}
 use Rattle.dip_store_tables.proofs.ListLemmas.{all_weaker}
+use Rattle.dip_desk_state.specs.Bounds.{most_sent}
 use Rattle.dip_store_tables.specs.Tables.{SeatRow, is_seat}
 use Rattle.dip_store_tables.specs.Legible.{IsSeatLegible}
 use Rattle.dip_store_changes.specs.Failing.{MaySend}
@@ -36,7 +37,7 @@ pub returns-clause-room : goal.returns-clause-room
 returns-clause-room g c kept clean =
     let name = c.args.game.now in
     let power = c.args.power.now in
-    let low : c.in_ok-sent.sent + 1 < 2 ^ 32 = omega (arith, c.if-sent.false) in
+    let low : c.in_ok-sent.sent < most_sent = omega (arith, c.if-sent-ge-MOST_SENT.false) in
     all_weaker (λ (s : SeatRow). is_seat name power s ≡ true → c.in_ok-sent.sent + 1 ≡ s.sent + 1) (MaySend name power) (λ s next mine. let is = next mine in omega (arith, is, low)) (tables_in g.S.Store c.args.conn.now).seats
     (returns-clause-value g c kept clean)
 
@@ -46,9 +47,9 @@ returns-in_err-sent-clause-fails g c kept shows clean legible =
     sql_fails ⊥ _ _ c.in_err-sent.field-0.0 c.from_residual-in_err-sent.result c.from_residual-in_err-sent.ensures.1 (λ none. absurd none)
     (count_reads _ it.one.sent c.in_err-sent.field-0.0 c.in_err-sent.ensures.named c.in_err-sent.ensures.kind it.shown it.holds.1)
 
-pub returns-then-sent-clause-fails : goal.returns-then-sent-clause-fails
-returns-then-sent-clause-fails g c kept shows clean legible = λ all.
+pub returns-then-sent-ge-MOST_SENT-clause-fails : goal.returns-then-sent-ge-MOST_SENT-clause-fails
+returns-then-sent-ge-MOST_SENT-clause-fails g c kept shows clean legible = λ all.
     let it = shown_found (MaySend c.args.game.now c.args.power.now) (is_seat c.args.game.now c.args.power.now) show_sent (tables_in g.S.Store c.args.conn.now).seats _ (sym c.in-Some.is ∙ c.in_ok-row.ensures.value kept clean) all in
     let same = same_count _ it.one.sent c.in_ok-sent.sent it.shown c.in_ok-sent.ensures.ok.1 in
     let low = it.holds it.passes in
-    omega (arith, same, low, c.if-sent.true)
+    omega (arith, same, low, c.if-sent-ge-MOST_SENT.true)

@@ -2,6 +2,7 @@ use Rattle.std.proofs.Common.{rules, ◌<◌, List, All, sym, subst, ◌∙◌}
 use Rattle.std.specs.List.{AllByRecursion}
 use Rattle.std.proofs.lemmas.List.Elements.{All-from_recursion}
 use Rattle.sqlite.specs.Order.{Row}
+use Rattle.dip_desk_state.specs.Bounds.{most_items}
 use Rattle.dip_store_tables.specs.Tables.{is_seat_in}
 use Rattle.dip_store_sql.specs.Calls.{tables_in}
 use Rattle.dip_store_changes.specs.declared.delivering.Reader.{Reader}
@@ -29,5 +30,5 @@ returns-then-not-have_room-clause-fails g c kept shows clean ours = λ room.
     let are = readers_found m c.args.game.now c.args.powers.now (tables_in g.S.Store c.args.conn.now).seats c.as_slice.result.now c.in_ok-readers_in.field-0.items c.chosen-readers.result.items
     (c.as_slice.ensures.value ∙ c.in_ok-rows.ensures.value kept clean) c.in_ok-readers_in.ensures.shown c.in_ok-readers_in.ensures.names c.chosen-readers.ensures in
     let all = All-from_recursion _ _ (readers_room m c.args.game.now _ _ are room) in
-    let yes = c.have_room.ensures.full (subst (λ (rs : List Reader). All (λ r. r.items < 4294967295) rs) (sym c.as_slice-2.ensures.value) all) in
+    let yes = c.have_room.ensures.full (subst (λ (rs : List Reader). All (λ r. r.items < most_items) rs) (sym c.as_slice-2.ensures.value) all) in
     search (rules, yes)

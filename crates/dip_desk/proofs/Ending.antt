@@ -10,7 +10,7 @@ module _ {K : Type 0} (m : Chart) (b : Book K) (old new : K) where
   open_still : {X R : Type 0} (say : X → R) (Step : State → R → State → Type 0) (Damage : State → Type 0) (result : Result X KeepFault)
       → Steps m b old new say Step Damage result → IsOpen m b old → b.honest new → b.shows new → IsOpen m b new
   open_still say Step Damage result h it honest shows =
-      record { sound = h.keeps.sound it.sound shows; shows = shows; alone = h.settles it.sound honest shows it.alone }
+      record { sound = h.keeps.sound it.sound shows; shows = shows; alone = h.settles it.sound honest shows it.alone; again = h.keeps.again it.sound honest it.shows it.again }
 
   pub steps_on : {X R : Type 0} (say : X → R) (Step : State → R → State → Type 0) (Damage : State → Type 0) (result : Result X KeepFault)
       → Steps m b old new say Step Damage result → IsOpen m b old → b.honest new → IfOk result (λ x. IsOpen m b new × Step (b.content m old) (say x) (b.content m new))
@@ -28,6 +28,8 @@ module _ {K : Type 0} (m : Chart) (b : Book K) (old new : K) where
       | inl before ↦ inl (it.alone t before)
       | inr more ↦ inr more
     ];
+    again = h.keeps.again it.sound honest it.shows it.again;
+    shown = λ shows. (open_still say Step Damage (Err e) h it honest shows, h.undone it.sound shows);
     goes = elim (h.keeps.shuts honest it.shows) [
       | inl shows ↦ inl (open_still say Step Damage (Err e) h it honest shows, h.undone it.sound shows)
       | inr rises ↦ inr rises
@@ -36,13 +38,15 @@ module _ {K : Type 0} (m : Chart) (b : Book K) (old new : K) where
 
 -- a keeper that is still open has what it shows
 pub ends_open : {K : Type 0} (m : Chart) (b : Book K) (old new : K) (More : State → Type 0) → IsOpen m b new → Ends m b old new (b.content m new) More
-ends_open m b old new More it = record { left = λ t may. inl (it.alone t may); goes = inl (it, refl) }
+ends_open m b old new More it = record { left = λ t may. inl (it.alone t may); again = it.again; shown = λ shows. (it, refl); goes = inl (it, refl) }
 
 -- an end behind calls that told of more, and where what is more is named otherwise
 pub ends_late : {K : Type 0} (m : Chart) (b : Book K) (first old new : K) (s : State) (More Other : State → Type 0) → b.told first ≤ b.told old
     → ((t : State) → More t → Other t) → Ends m b old new s More → Ends m b first new s Other
 ends_late m b first old new s More Other counts turn h = record {
   left = λ t may. elim (h.left t may) [ inl is ↦ inl is | inr more ↦ inr (turn t more) ];
+  again = h.again;
+  shown = h.shown;
   goes = elim h.goes [
     | inl goes ↦ inl goes
     | inr rises ↦ inr (omega (arith, counts, rises))

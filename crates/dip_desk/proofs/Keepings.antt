@@ -26,6 +26,9 @@ keeps_then m b old mid new x result first second = record {
     ]
     | inr rises ↦ inr (omega (arith, rises, second.told))
   ];
+  again = λ sound honest shows takes.
+      let fair = second.fair honest in
+      second.again (first.firm sound fair) honest (first.stays_open sound fair shows) (first.again sound fair shows takes);
 }
 
 -- behind a look a crash leaves what it might have left
@@ -52,9 +55,10 @@ steps_then {K} {X} {Y} {R} m b old mid new x Value Damage say Near Far result lo
   undone = λ sound shows.
       let before = step.keeps.shown shows in
       on_err_weaker result (λ same. same ∙ look.same sound before) (step.undone (look.keeps.sound sound before) shows);
-  damaged = λ sound shows bad.
-      let before = step.keeps.shown shows in
-      blamed (look.value sound before) (subst Hurt (look.same sound before) (step.damaged (look.keeps.sound sound before) shows bad));
+  damaged = λ sound honest shows bad.
+      let fair = step.keeps.fair honest in
+      let open_mid = look.keeps.stays_open sound fair shows in
+      blamed (look.value sound open_mid) (subst Hurt (look.same sound open_mid) (step.damaged (look.keeps.firm sound fair) honest open_mid bad));
   settles = λ sound honest shows alone.
       let before = step.keeps.shown shows in
       step.settles (look.keeps.sound sound before) honest shows (look_alone m b old mid Value Damage (Ok x) look sound (step.keeps.fair honest) before alone);
@@ -89,9 +93,12 @@ looks_then m b old mid new x First Second Both result first further second = rec
       IfOk-weaker result (Second (b.content m mid)) Both
       (λ y seen. further (first.value sound before) y (subst (λ (s : State). Second s y) (first.same sound before) seen))
       (second.value (first.keeps.sound sound before) shows);
-  damaged = λ sound shows bad. second.damaged (first.keeps.sound sound (second.keeps.shown shows)) shows bad;
-  failed = λ sound shows bad.
-      let rises = second.failed (first.keeps.sound sound (second.keeps.shown shows)) shows bad in
+  damaged = λ sound honest shows bad.
+      let fair = second.keeps.fair honest in
+      second.damaged (first.keeps.firm sound fair) honest (first.keeps.stays_open sound fair shows) bad;
+  failed = λ sound honest shows bad.
+      let fair = second.keeps.fair honest in
+      let rises = second.failed (first.keeps.firm sound fair) honest (first.keeps.stays_open sound fair shows) bad in
       omega (arith, rises, first.keeps.told);
   same = λ sound shows. let before = second.keeps.shown shows in second.same (first.keeps.sound sound before) shows ∙ first.same sound before;
   left = λ sound honest s left. let fair = second.keeps.fair honest in first.left sound fair s (second.left (first.keeps.firm sound fair) honest s left);
@@ -114,10 +121,10 @@ pub fault_then : {K X Y R : Type 0} (m : Chart) (b : Book K) (old mid : K) (x : 
     (Blame : State → Type 0) → Looks m b old mid Value ⊥ (Ok x) → faults_with fault 0 ≡ 0 → (Value x → fault ≡ Damaged → Blame (b.content m old))
     → Steps {X = Y} m b old mid say Step Blame (Err fault)
 fault_then m b old mid x Value fault say Step Blame look other blamed = record {
-  keeps = record { count = look.keeps.count ∙ same fault other; told = look.keeps.told; fair = look.keeps.fair; shown = look.keeps.shown; sound = look.keeps.sound; firm = λ sound honest. tt; stays_open = λ sound honest shows. tt; shuts = look.keeps.shuts };
+  keeps = record { count = look.keeps.count ∙ same fault other; told = look.keeps.told; fair = look.keeps.fair; shown = look.keeps.shown; sound = look.keeps.sound; firm = λ sound honest. tt; stays_open = λ sound honest shows. tt; shuts = look.keeps.shuts; again = look.keeps.again };
   done = λ sound shows. tt;
   undone = look.same;
-  damaged = λ sound shows bad. let told : fault ≡ Damaged = cc in blamed (look.value sound shows) told;
+  damaged = λ sound honest shows bad. let told : fault ≡ Damaged = cc in blamed (look.value sound (look.keeps.stays_open sound honest shows)) told;
   settles = look_alone m b old mid Value ⊥ (Ok x) look;
   kept = λ sound honest shows. tt;
   left = λ sound honest shows s left. inl (look.left sound honest s left);
@@ -130,7 +137,7 @@ fault_then m b old mid x Value fault say Step Blame look other blamed = record {
 
 -- what is kept by an answer says nothing of its value
 pub keeps_as : {K X Y : Type 0} (m : Chart) (b : Book K) (old new : K) (x : X) (y : Y) → Keeps {X = X} m b old new (Ok x) → Keeps {X = Y} m b old new (Ok y)
-keeps_as m b old new x y k = record { count = k.count; told = k.told; fair = k.fair; shown = k.shown; sound = k.sound; firm = k.firm; stays_open = k.stays_open; shuts = k.shuts }
+keeps_as m b old new x y k = record { count = k.count; told = k.told; fair = k.fair; shown = k.shown; sound = k.sound; firm = k.firm; stays_open = k.stays_open; shuts = k.shuts; again = k.again }
 
 -- a change that a fault leaves unmade is a step that isn't taken: a crash may leave what the step would have, and what doesn't fit may
 -- be Damaged
@@ -139,10 +146,10 @@ pub unmade : {K X R : Type 0} (m : Chart) (b : Book K) (old new : K) (change : S
     → ((s : State) → s ≡ change (b.content m old) → (r : R) × Step (b.content m old) r s) → ((s : State) → Suits s → Fits s)
     → Steps {X = X} m b old new say Step (λ s. Suits s → ⊥) (Err fault)
 unmade m b old new change Fits fault say Step Suits h taken fit = record {
-  keeps = record { count = h.keeps.count; told = h.keeps.told; fair = h.keeps.fair; shown = h.keeps.shown; sound = h.keeps.sound; firm = λ sound honest. tt; stays_open = λ sound honest shows. tt; shuts = h.keeps.shuts };
+  keeps = record { count = h.keeps.count; told = h.keeps.told; fair = h.keeps.fair; shown = h.keeps.shown; sound = h.keeps.sound; firm = λ sound honest. tt; stays_open = λ sound honest shows. tt; shuts = h.keeps.shuts; again = h.keeps.again };
   done = λ sound shows. tt;
   undone = h.undone;
-  damaged = λ sound shows bad suits. let told : fault ≡ Damaged = cc in h.fitting sound shows (fit (b.content m old) suits) (ap (λ (f : KeepFault). Err f) told);
+  damaged = λ sound honest shows bad suits. let told : fault ≡ Damaged = cc in h.fitting sound honest shows (fit (b.content m old) suits) (ap (λ (f : KeepFault). Err f) told);
   settles = h.settles;
   kept = λ sound honest shows. tt;
   left = λ sound honest shows s left. elim (h.left sound honest s left) [

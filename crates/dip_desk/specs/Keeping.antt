@@ -12,6 +12,8 @@ pub record Book (K : Type 0) : Type 1 where
   pub content : Chart → K → State
   -- what an open after a crash may find
   pub may_leave : Chart → K → State → Type 0
+  -- an open takes whatever that is: it is what a keeper wrote by this map
+  pub again : Chart → K → Type 0
   -- how many faults of the disk it has told of
   pub faults : K → ℕ
   -- and how many its store has told it of
@@ -42,26 +44,32 @@ pub record Keeps {K X : Type 0} (m : Chart) (b : Book K) (old new : K) (result :
   pub stays_open : b.sound m old → b.honest new → b.shows old → OnOk result (b.shows new)
   -- it is shut only where the store told of a fault of the disk
   pub shuts : b.honest new → b.shows old → b.shows new ⊎ Rises (b.told old) (b.told new)
+  -- what a crash leaves can be opened again
+  pub again : b.sound m old → b.honest new → b.shows old → b.again m old → b.again m new
 
--- a keeper of sound records that shows them, and of which a crash leaves them alone
+-- a keeper of sound records that shows them, and of which a crash leaves them alone, to be opened again
 pub record IsOpen {K : Type 0} (m : Chart) (b : Book K) (k : K) : Type 0 where
   pub sound : b.sound m k
   pub shows : b.shows k
   pub alone : LeavesAlone m b k
+  pub again : b.again m k
 
--- how a call that answered a fault ends, in a state: a crash leaves that, or one that is more; and the keeper is open and has it, or the
--- disk shut the keeper
+-- how a call that answered a fault ends, in a state: a crash leaves that, or one that is more, which can be opened again; where the keeper shows what it keeps still,
+-- it is open and has that state; and it does, or the disk shut it
 pub record Ends {K : Type 0} (m : Chart) (b : Book K) (old new : K) (s : State) (More : State → Type 0) : Type 0 where
   pub left : (t : State) → b.may_leave m new t → (t ≡ s) ⊎ More t
+  pub again : b.again m new
+  pub shown : b.shows new → IsOpen m b new × (b.content m new ≡ s)
   pub goes : (IsOpen m b new × (b.content m new ≡ s)) ⊎ Rises (b.told old) (b.told new)
 
--- a look: its value, what Damaged tells, that the store told of what Disk tells, and that nothing else moves
+-- a look: its value, what Damaged tells, that the store told of what Disk tells, and that nothing else moves; which fault is told doesn't
+-- hang on what became of the keeper
 pub record Looks {K X : Type 0} (m : Chart) (b : Book K) (old new : K) (Value : X → Type 0) (Damage : Type 0)
     (result : Result X KeepFault) : Type 0 where
   pub keeps : Keeps m b old new result
   pub value : b.sound m old → b.shows new → IfOk result Value
-  pub damaged : b.sound m old → b.shows new → IsErrOf result Damaged → Damage
-  pub failed : b.sound m old → b.shows new → IsErrOf result Disk → Rises (b.told old) (b.told new)
+  pub damaged : b.sound m old → b.honest new → b.shows old → IsErrOf result Damaged → Damage
+  pub failed : b.sound m old → b.honest new → b.shows old → IsErrOf result Disk → Rises (b.told old) (b.told new)
   pub same : b.sound m old → b.shows new → b.content m new ≡ b.content m old
   pub left : b.sound m old → b.honest new → (s : State) → b.may_leave m new s → b.may_leave m old s
 
@@ -75,7 +83,7 @@ pub record Changes {K X : Type 0} (m : Chart) (b : Book K) (old new : K) (change
   pub keeps : Keeps m b old new result
   pub done : b.sound m old → b.shows new → OnOk result (b.content m new ≡ change (b.content m old))
   pub undone : b.sound m old → b.shows new → OnErr result (b.content m new ≡ b.content m old)
-  pub fitting : b.sound m old → b.shows new → Fits (b.content m old) → IsErrOf result Damaged → ⊥
+  pub fitting : b.sound m old → b.honest new → b.shows old → Fits (b.content m old) → IsErrOf result Damaged → ⊥
   pub settles : Settles m b old new
   pub kept : b.sound m old → b.honest new → OnOk result ((s : State) → b.may_leave m new s → s ≡ b.content m new)
   pub left : b.sound m old → b.honest new
@@ -88,7 +96,7 @@ pub record Steps {K X R : Type 0} (m : Chart) (b : Book K) (old new : K) (say : 
   pub keeps : Keeps m b old new result
   pub done : b.sound m old → b.shows new → IfOk result (λ x. Step (b.content m old) (say x) (b.content m new))
   pub undone : b.sound m old → b.shows new → OnErr result (b.content m new ≡ b.content m old)
-  pub damaged : b.sound m old → b.shows new → IsErrOf result Damaged → Damage (b.content m old)
+  pub damaged : b.sound m old → b.honest new → b.shows old → IsErrOf result Damaged → Damage (b.content m old)
   pub settles : Settles m b old new
   pub kept : b.sound m old → b.honest new → b.shows old → OnOk result ((s : State) → b.may_leave m new s
       → (s ≡ b.content m new) ⊎ ((b.content m new ≡ b.content m old) × b.may_leave m old s))

@@ -1,5 +1,5 @@
 -- What a run over letters keeps.
-use Rattle.std.specs.Prelude.{◌≡◌, ℕ, List, Contains, Result, OnOk, IfOk, IfErr, take, slice_get, Some}
+use Rattle.std.specs.Prelude.{◌≡◌, ℕ, List, Result, OnOk, IfOk, IfErr, take, slice_get, Some}
 use Rattle.dip_map.specs.Charts.{Chart}
 use Rattle.dip_desk_state.specs.Records.{Reply}
 use Rattle.dip_desk_state.specs.Faults.{faults_after_run}
@@ -26,11 +26,12 @@ pub record Runs {K X : Type 0} (m : Chart) (b : Book K) (old new : K) (letters :
   pub done : b.sound m old → b.shows new → IfOk result (λ x. Answers m (b.content m old) letters (say x) (b.content m new))
   pub undone : b.sound m old → b.shows new
       → IfErr result (λ e. (n : ℕ) × Answers m (b.content m old) (take n letters) (say e.0) (b.content m new))
-  -- Damaged is told only where the record of the author of one of the letters may be it, and never from a lawful state on, which stays
-  -- lawful
-  pub damaged : b.sound m old → b.shows new
-      → IfErr result (λ e. e.1 ≡ Damaged → (n : Mail) × Contains letters n × IsDamagedBy m n (b.content m new))
-  pub never : b.sound m old → b.shows new → IsLawful m (b.content m old) → IfErr result (λ e. e.1 ≡ Damaged → ⊥)
+  -- Damaged is told only where the record of the author of the next letter may be it, in the state behind the letters before; and never
+  -- from a lawful state on, which stays lawful
+  pub damaged : b.sound m old → b.honest new → b.shows old
+      → IfErr result (λ e. e.1 ≡ Damaged → (n : ℕ) × (s : State) × Answers m (b.content m old) (take n letters) (say e.0) s
+      × (it : Mail) × (slice_get letters n ≡ Some it) × IsDamagedBy m it s)
+  pub never : b.sound m old → b.honest new → b.shows old → IsLawful m (b.content m old) → IfErr result (λ e. e.1 ≡ Damaged → ⊥)
   pub lawful : b.sound m old → b.shows new → IsLawful m (b.content m old) → IsLawful m (b.content m new)
   pub count : b.faults new ≡ faults_after_run result (b.faults old)
   -- an open keeper stays open, where all were answered

@@ -11,8 +11,8 @@ use Rattle.sqlite.specs.Start.{FindsIn}
 use Rattle.sqlite.specs.State.{HasCleanDisk}
 use Rattle.dip_map.specs.Charts.{Chart}
 use Rattle.dip_desk_state.specs.State.{State}
-use Rattle.dip_store.specs.Calls.{does_show}
-use Rattle.dip_store.specs.Opening.{IsStore}
+use Rattle.dip_store.specs.Calls.{is_honest}
+use Rattle.dip_store.specs.Opening.{IsDesk}
 use Rattle.dip_store.specs.Stored.{said_by}
 use Rattle.dip_judge_program.specs.declared.args.Args.{Args}
 use Rattle.dip_judge_program.specs.Files.{FromHeld, HeldDesk, LeavesStore, StopsStore, WasOpened}
@@ -22,33 +22,30 @@ use Rattle.dip_judge_program.specs.Stores.{desk_in}
 module _ {D : Type 0} {g : disk.Ghosts D} (image : Image) (m : Chart) (first : Held (FileStore D g)) (opened : HasCleanDisk (file_state first) → IsOpened first)
     (found : HasCleanDisk (file_state first) → FindsIn image (file_state first)) where
   -- what was opened is the desk that the file held
-  pub is_held : HasCleanDisk (file_state first) → (s : State) → HeldDesk image m s → IsStore m (file_state first).now × (said_by m (file_state first).now.trees ≡ s)
+  pub is_held : HasCleanDisk (file_state first) → (s : State) → HeldDesk image m s → IsDesk over_files m first × (said_by m (file_state first).now.trees ≡ s)
   is_held clean s held =
       let it = opened clean in
-      held (file_state first).now (it.1 it.0.is_open).0 (subst (λ (d : Database). AreFoundIn image d.trees) (sym it.0.clean) (found clean).reads)
+      let db = held (file_state first).now (it.1 it.0.is_open).0 (subst (λ (d : Database). AreFoundIn image d.trees) (sym it.0.clean) (found clean).reads) in
+      (record { shows = (clean, it.0.is_open); idle = it.0.autocommit; wrote = db.0 }, db.1)
 
-  module _ (last : Held (FileStore D g)) (fair : does_show over_files last → HasCleanDisk (file_state first)) where
-    from_held : (P : State → State → Type 0) → (does_show over_files last → IsStore m (file_state first).now → P (desk_in over_files m first) (desk_in over_files m last))
+  module _ (last : Held (FileStore D g)) (fair : is_honest over_files last → HasCleanDisk (file_state first)) where
+    from_held : (P : State → Held (FileStore D g) → Type 0) → (is_honest over_files last → IsDesk over_files m first → P (desk_in over_files m first) last)
         → FromHeld over_files image m P last
-    from_held P does shows s held =
-        let it = is_held (fair shows) s held in
-        subst (λ s. P s (desk_in over_files m last)) it.1 (does shows it.0)
+    from_held P does clean s held =
+        let it = is_held (fair clean) s held in
+        subst (λ s. P s last) it.1 (does clean it.0)
 
-    pub ok_held : {A E : Type 0} (r : Result A E) (P : State → State → Type 0)
-        → (does_show over_files last → IsStore m (file_state first).now → OnOk r (P (desk_in over_files m first) (desk_in over_files m last)))
+    pub ok_held : {A E : Type 0} (r : Result A E) (P : State → Held (FileStore D g) → Type 0)
+        → (is_honest over_files last → IsDesk over_files m first → OnOk r (P (desk_in over_files m first) last))
         → OnOk r (WasOpened (Some last) (FromHeld over_files image m P))
     ok_held (Ok x) P does = from_held P does
     ok_held (Err e) P does = tt
 
-    pub err_held : {A E : Type 0} (r : Result A E) (P : E → State → State → Type 0)
-        → (does_show over_files last → IsStore m (file_state first).now → IfErr r (λ e. P e (desk_in over_files m first) (desk_in over_files m last)))
+    pub err_held : {A E : Type 0} (r : Result A E) (P : E → State → Held (FileStore D g) → Type 0)
+        → (is_honest over_files last → IsDesk over_files m first → IfErr r (λ e. P e (desk_in over_files m first) last))
         → IfErr r (λ e. FromHeld over_files image m (P e) last)
     err_held (Ok x) P does = tt
     err_held (Err e) P does = from_held (P e) does
-
-pub both_ok : {A E : Type 0} (P Q : Type 0) (r : Result A E) → OnOk r P → OnOk r Q → OnOk r (P × Q)
-both_ok P Q (Ok x) p q = (p, q)
-both_ok P Q (Err e) p q = tt
 
 module _ {S : Type 0} (g : Ghosts S) (image : Image) (m : Chart) (known left before after : Option (List ℕ)) (a b : Args) (is : a ≡ b) (opened : Option (Held S)) (r : Result (Unit {0}) Failure) where
   -- what is asked for, by another name

@@ -1,7 +1,11 @@
 -- What serving clients does to a desk.
-use Rattle.std.specs.Prelude.{◌≡◌, ◌⊎◌, ℕ, zero, suc, None, List, [], ◌++◌}
+use Rattle.std.specs.Prelude.{◌≡◌, ◌≤◌, ◌⊎◌, ℕ, zero, suc, None, List, [], ◌++◌}
 use Rattle.dip_map.specs.Charts.{Chart}
+use Rattle.dip_desk.specs.Keeping.{Book, Ends, Rises}
+use Rattle.dip_desk_machine.specs.Machine.{Step}
+use Rattle.dip_desk_machine.specs.Mail.{Mail}
 use Rattle.dip_desk_machine.specs.Published.{IsFair}
+use Rattle.dip_desk_state.specs.Records.{Reply}
 use Rattle.dip_desk_machine.specs.View.{IsRun, Turn}
 use Rattle.dip_desk_state.specs.State.{State}
 use Rattle.dip_desk_state.specs.declared.faults.KeepFault.{KeepFault}
@@ -46,6 +50,34 @@ pub record Serves (m : Chart) (count : ℕ) (old new : State) : Type 0 where
   pub visits : VisitAll m count old turns new
   pub run : IsRun m old turns new
   pub fair : IsFair m old turns new
+
+-- a letter more was taken
+abbrev pub TakesOne : Chart → State → State → Type 0
+TakesOne m old new = (it : Mail) × (r : Reply) × Step m old it r new
+
+-- one client over a keeper that was open: a crash leaves the state behind it, or behind a letter more
+pub record MeetsAt {K : Type 0} (m : Chart) (b : Book K) (old new : K) : Type 0 where
+  pub state : State
+  pub meets : MeetsOne m (b.content m old) state
+  pub ends : Ends m b old new state (TakesOne m state)
+
+-- at most so many clients over a keeper that was open, all of them where it still shows what it keeps; a crash leaves the state behind
+-- them, or behind a letter more. Or a fault of the disk came with one that was told of want of memory, and nothing is said of a crash
+-- behind that
+pub record MeetsTo {K : Type 0} (m : Chart) (b : Book K) (count : ℕ) (old new : K) : Type 0 where
+  pub n : ℕ
+  pub most : n ≤ count
+  pub state : State
+  pub meets : Meets m n (b.content m old) state
+  pub ends : (Ends m b old new state (TakesOne m state) × (b.shows new → n ≡ count)) ⊎ Rises (b.told old) (b.told new)
+
+-- the same by the history that they make
+pub record ServesTo {K : Type 0} (m : Chart) (b : Book K) (count : ℕ) (old new : K) : Type 0 where
+  pub n : ℕ
+  pub most : n ≤ count
+  pub state : State
+  pub serves : Serves m n (b.content m old) state
+  pub ends : Ends m b old new state (TakesOne m state) ⊎ Rises (b.told old) (b.told new)
 
 -- a fault that ends the serving: behind any other the keeper goes on
 abbrev pub IsShut : KeepFault → Type 0

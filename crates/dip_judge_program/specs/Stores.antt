@@ -1,20 +1,19 @@
 -- What is done over a store.
 use Rattle.std.specs.Prelude.{◌≡◌, ◌≤◌, ◌⊎◌, ℕ, List, Option, None, IsSome}
 use Rattle.std.specs.Io.KnownBytes.{Appends}
-use Rattle.sqlite.specs.Tree.{Trees}
 use Rattle.sqlite.specs.Store.{Ghosts}
 use Rattle.sqlite.specs.Held.{Held, state}
 use Rattle.dip_map.specs.Charts.{Chart}
 use Rattle.dip_desk_state.specs.State.{State, game_at}
 use Rattle.dip_store.specs.Papers.{AreBegun, papers_text}
-use Rattle.dip_store.specs.Calls.{IsKept, does_show, tables_in}
-use Rattle.dip_store.specs.Legible.{AreOurs}
+use Rattle.dip_store.specs.Opening.{Holds, StoreEnds}
 use Rattle.dip_store.specs.Stored.{said_by}
 use Rattle.dip_store.specs.declared.faults.StoreFault.{StoreFault}
 use Rattle.dip_store.specs.declared.faults.StoreFault.TheVariants.{Memory, Disk}
 use Rattle.dip_judge_runs.specs.RunFaults.{StopsBy}
-use Rattle.dip_judge_runs.specs.Runs.{AnswersAll, IsReadWhole, Stops}
-use Rattle.dip_judge_program.specs.Serving.{IsShut, Serves}
+use Rattle.dip_judge_runs.specs.Runs.{AnswersAll, IsReadWhole, Stops, TakesNext}
+use Rattle.dip_judge_runs.specs.declared.run.RunFault.{RunFault}
+use Rattle.dip_judge_program.specs.Serving.{IsShut, Serves, TakesOne}
 use Rattle.dip_judge_program.specs.declared.failures.Failure.{Failure}
 use Rattle.dip_judge_program.specs.declared.failures.Failure.TheVariants.{Listen, NoGame, Papers, Run, Serving, Store}
 
@@ -28,28 +27,29 @@ IsOpenFault _ = ⊥
 abbrev pub desk_in : {S : Type 0} → Ghosts S → Chart → Held S → State
 desk_in g m store = said_by m (state g store).now.trees
 
--- a store whose rows are a desk's of this state, all of it committed, so that a crash leaves it alone
-pub record Holds {S : Type 0} (g : Ghosts S) (m : Chart) (s : State) (store : Held S) : Type 0 where
-  pub shows : does_show g store
-  pub kept : IsKept g store
-  pub ours : AreOurs m (tables_in g store)
-  pub says : desk_in g m store ≡ s
-  pub only : (db : Trees) → (state g store).may_leave db → said_by m db ≡ s
-
 -- nothing was read, and nothing written
 abbrev pub IsIdle : Option (List ℕ) → Option (List ℕ) → Option (List ℕ) → Option (List ℕ) → Type 0
 IsIdle known left before after = (left ≡ known) × (after ≡ before)
 
--- the whole input was read, and all its letters were answered, from one state to another
-abbrev pub AnswersFrom : Chart → State → State → Option (List ℕ) → Option (List ℕ) → Option (List ℕ) → Option (List ℕ) → Type 0
-AnswersFrom m old new known left before after = (input : List ℕ) × IsReadWhole known left input × AnswersAll m input old new before after
+-- the whole input was read, and all its letters were answered, from one state to another, which the store holds
+abbrev pub AnswersFrom : {S : Type 0} → Ghosts S → Chart → State → Held S → Option (List ℕ) → Option (List ℕ) → Option (List ℕ) → Option (List ℕ) → Type 0
+AnswersFrom g m old new known left before after =
+    (s : State) × (input : List ℕ) × IsReadWhole known left input × AnswersAll m input old s before after × Holds g m s new
 
--- the same up to a fault: of the store, and nothing was read; or of the run
-abbrev pub StopsFrom : Chart → State → State → Option (List ℕ) → Option (List ℕ) → Option (List ℕ) → Option (List ℕ) → Failure → Type 0
-StopsFrom m old new known left before after (Store fault) = IsIdle known left before after
-StopsFrom m old new known left before after (Run fault) = ((new ≡ old) × (after ≡ before))
-    ⊎ ((input : List ℕ) × IsReadWhole known left input × Stops m fault input old new before after)
-StopsFrom m old new known left before after failure = ⊥
+-- a front of the input was answered, up to a fault: a crash leaves the state behind the letters so answered, or behind the next one too
+pub record StopsIn {S : Type 0} (g : Ghosts S) (m : Chart) (Fault : Type 0) (fault : RunFault) (input : List ℕ) (old : State) (new : Held S)
+    (before after : Option (List ℕ)) : Type 0 where
+  pub state : State
+  pub stops : Stops m fault input old state before after
+  pub ends : StoreEnds g m Fault new state (TakesNext m stops.rest state)
+
+-- the same up to a failure: of the store, and nothing was read; or of the run, and nothing was written, or a front of the input was answered
+abbrev pub StopsFrom : {S : Type 0} → Ghosts S → Chart → Type 0 → State → Held S → Option (List ℕ) → Option (List ℕ) → Option (List ℕ) → Option (List ℕ) → Failure → Type 0
+StopsFrom g m Fault old new known left before after (Store fault) =
+    IsIdle known left before after × StoreEnds g m Fault new old (λ _. ⊥)
+StopsFrom g m Fault old new known left before after (Run fault) = ((after ≡ before) × StoreEnds g m Fault new old (λ _. ⊥))
+    ⊎ ((input : List ℕ) × IsReadWhole known left input × StopsIn g m Fault fault input old new before after)
+StopsFrom g m Fault old new known left before after failure = ⊥
 
 -- what is read and written up to a fault, whatever the store has
 abbrev pub ReadsUpTo : Option (List ℕ) → Option (List ℕ) → Option (List ℕ) → Option (List ℕ) → Failure → Type 0
@@ -62,11 +62,15 @@ abbrev pub Reports : List ℕ → State → Option (List ℕ) → Option (List �
 Reports game s before after = IsSome (game_at game s) × Appends before after (papers_text (game_at game s))
 
 -- there is no such game; or a beginning of its papers was written
-abbrev pub StopsReport : List ℕ → State → Option (List ℕ) → Option (List ℕ) → Failure → Type 0
-StopsReport game s before after (Store fault) = after ≡ before
-StopsReport game s before after NoGame = (game_at game s ≡ None) × (after ≡ before)
-StopsReport game s before after (Papers fault) = AreBegun (game_at game s) before after
-StopsReport game s before after failure = ⊥
+abbrev pub ReportsUpTo : List ℕ → State → Option (List ℕ) → Option (List ℕ) → Failure → Type 0
+ReportsUpTo game s before after (Store fault) = after ≡ before
+ReportsUpTo game s before after NoGame = (game_at game s ≡ None) × (after ≡ before)
+ReportsUpTo game s before after (Papers fault) = AreBegun (game_at game s) before after
+ReportsUpTo game s before after failure = ⊥
+
+-- and nothing changed
+abbrev pub StopsReport : {S : Type 0} → Ghosts S → Chart → Type 0 → List ℕ → State → Held S → Option (List ℕ) → Option (List ℕ) → Failure → Type 0
+StopsReport g m Fault game s new before after failure = ReportsUpTo game s before after failure × StoreEnds g m Fault new s (λ _. ⊥)
 
 -- a failure of a report
 abbrev pub IsReportFailure : Failure → Type 0
@@ -82,8 +86,21 @@ IsServeFailure Listen = Unit {0}
 IsServeFailure (Serving fault) = IsShut fault
 IsServeFailure failure = ⊥
 
--- nobody was served; or fewer than so many
-abbrev pub StopsServing : Chart → ℕ → State → State → Failure → Type 0
-StopsServing m count old new Listen = new ≡ old
-StopsServing m count old new (Serving fault) = (n : ℕ) × (n ≤ count) × Serves m n old new
-StopsServing m count old new failure = Unit {0}
+-- so many clients were served, and the store holds what they left; or a fault of the disk came with one that was told of want of memory
+abbrev pub ServesFrom : {S : Type 0} → Ghosts S → Chart → Type 0 → ℕ → State → Held S → Type 0
+ServesFrom g m Fault count old new = ((s : State) × Serves m count old s × Holds g m s new) ⊎ Fault
+
+-- at most so many: a crash leaves the state behind them, or behind a letter more; or there was such a fault before
+pub record ServesUpTo {S : Type 0} (g : Ghosts S) (m : Chart) (Fault : Type 0) (count : ℕ) (old : State) (new : Held S) : Type 0 where
+  pub n : ℕ
+  pub most : n ≤ count
+  pub state : State
+  pub serves : Serves m n old state
+  pub ends : StoreEnds g m Fault new state (TakesOne m state) ⊎ Fault
+
+-- nobody was served; or at most so many
+abbrev pub StopsServing : {S : Type 0} → Ghosts S → Chart → Type 0 → ℕ → State → Held S → Failure → Type 0
+StopsServing g m Fault count old new (Store fault) = StoreEnds g m Fault new old (λ _. ⊥)
+StopsServing g m Fault count old new Listen = StoreEnds g m Fault new old (λ _. ⊥)
+StopsServing g m Fault count old new (Serving fault) = ServesUpTo g m Fault count old new
+StopsServing g m Fault count old new failure = ⊥

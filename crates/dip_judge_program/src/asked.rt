@@ -3,7 +3,7 @@ ghost use Rattle.std.specs.Prelude.{map as each, IfErr, IfSome, OnOk};
 ghost use Rattle.sqlite.specs.Files.{over_files};
 ghost use Rattle.sqlite.specs.WalFiles.{image_at};
 ghost use Rattle.dip_judge_program.specs.Asked.{Does, Fails, IsAskedFor, IsDone, IsFailed, IsInitFailure};
-ghost use Rattle.dip_judge_program.specs.Files.{AnswersIn, LeavesStore, MadeIn, ReportsIn, ServesIn, StopsIn, StopsReportIn, StopsServingIn, StopsStore, UnmadeIn, WasOpened};
+ghost use Rattle.dip_judge_program.specs.Files.{AnswersIn, AnswersUpTo, LeavesStore, MadeIn, ReportsIn, ServesIn, StopsReportIn, StopsServingIn, StopsStore, UnmadeIn, WasOpened};
 ghost use Rattle.dip_judge_program.specs.Fresh.{AnswersFresh, IsCutShort};
 ghost use Rattle.dip_judge_program.specs.Stores.{IsReportFailure, IsServeFailure, ReadsUpTo};
 ghost use Rattle.dip_judge_runs.specs.Runs.{IsReadToEnd};
@@ -76,7 +76,7 @@ fn answer_file<S: Start, R: Read, W: Write>(
         map.now (R.remaining reader.old) (R.remaining reader.new) (W.contents writer.old)
         (W.contents writer.new))) }
     ensures stops { IfErr result.0 (λ f. IfSome result.1
-        (StopsIn over_files (image_at S.Start) map.now (R.remaining reader.old)
+        (AnswersUpTo over_files (image_at S.Start) map.now (R.remaining reader.old)
         (R.remaining reader.new) (W.contents writer.old) (W.contents writer.new) f)) }
     ensures read { OnOk result.0 (IsReadToEnd (R.remaining reader.old) (R.remaining reader.new)) }
     ensures failed { IfErr result.0

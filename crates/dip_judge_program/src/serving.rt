@@ -1,8 +1,9 @@
 //! Clients over a socket, one after the other.
-ghost use Rattle.std.specs.Prelude.{◌≡◌, ◌<◌, ◌≤◌, ℕ, IfErr, IsErrOf, OnOk};
+ghost use Rattle.std.specs.Prelude.{◌≡◌, ◌<◌, ◌≤◌, ◌⊎◌, ℕ, IfErr, IsErrOf, OnOk};
+ghost use Rattle.dip_desk.specs.Keeping.{IsOpen, Rises};
 ghost use Rattle.dip_desk_state.specs.Faults.{faults_after};
 ghost use Rattle.dip_desk_machine.specs.Lawful.{IsLawful};
-ghost use Rattle.dip_judge_program.specs.Serving.{IsShut, MeetsOne, Serves};
+ghost use Rattle.dip_judge_program.specs.Serving.{IsShut, MeetsAt, MeetsOne, Serves, ServesTo};
 
 use dip_desk::Keeper;
 use dip_desk_machine::published_movements_are_decided;
@@ -34,6 +35,11 @@ fn serve_next<C: Clock, K: Keeper>(
     ensures never { K.book.sound map.now keeper.old → K.book.shows keeper.new
         → IsLawful map.now (K.book.content map.now keeper.old)
         → IsErrOf result KeepFault.Damaged → ⊥ }
+    // From an open keeper on, over an honest disk.
+    ensures ends { IsOpen map.now K.book keeper.old → K.book.honest keeper.new
+        → MeetsAt map.now K.book keeper.old keeper.new }
+    ensures fair { K.book.honest keeper.new → K.book.honest keeper.old }
+    ensures told { K.book.told keeper.old ≤ K.book.told keeper.new }
     ensures shut { IfErr result IsShut }
     ensures count { K.book.faults keeper.new ≡ faults_after result (K.book.faults keeper.old) }
     ensures shown { K.book.shows keeper.new → K.book.shows keeper.old }
@@ -75,6 +81,16 @@ pub fn serve_all<C: Clock, K: Keeper>(
         → IfErr result (λ _. (n : ℕ) × (n ≤ count)
         × Serves map.now n (K.book.content map.now keeper.old)
         (K.book.content map.now keeper.new)) }
+    // From an open keeper on, over an honest disk; `Rises` tells of a fault of the disk that came
+    // with want of memory.
+    ensures goes { IsOpen map.now K.book keeper.old → K.book.honest keeper.new → OnOk result
+        ((IsOpen map.now K.book keeper.new
+        × Serves map.now count (K.book.content map.now keeper.old)
+        (K.book.content map.now keeper.new))
+        ⊎ Rises (K.book.told keeper.old) (K.book.told keeper.new)) }
+    ensures ends { IsOpen map.now K.book keeper.old → K.book.honest keeper.new
+        → ServesTo map.now K.book count keeper.old keeper.new }
+    ensures fair { K.book.honest keeper.new → K.book.honest keeper.old }
     // From a lawful content on, as an empty desk is, Damaged is never told.
     ensures never { K.book.sound map.now keeper.old → K.book.shows keeper.new
         → IsLawful map.now (K.book.content map.now keeper.old)

@@ -2,11 +2,12 @@
 ghost use Rattle.std.specs.Prelude.{◌≡◌, IfErr, OnErr, OnOk};
 ghost use Rattle.sqlite.specs.Held.{state};
 ghost use Rattle.dip_judge_program.specs.Fresh.{fresh_desk};
-ghost use Rattle.dip_judge_program.specs.Serving.{Serves};
-ghost use Rattle.dip_judge_program.specs.Stores.{AnswersFrom, Holds, IsReportFailure, IsServeFailure, ReadsUpTo, Reports, StopsFrom, StopsReport, StopsServing, desk_in};
+ghost use Rattle.dip_judge_program.specs.Stores.{AnswersFrom, IsReportFailure, IsServeFailure, ReadsUpTo, Reports, ServesFrom, StopsFrom, StopsReport, StopsServing, desk_in};
 ghost use Rattle.dip_store.specs.Calls.{does_show, is_honest};
 ghost use Rattle.dip_judge_runs.specs.Runs.{IsReadToEnd};
-ghost use Rattle.dip_store.specs.Opening.{IsStore};
+ghost use Rattle.dip_store.specs.Causes.{has_faulted};
+ghost use Rattle.dip_store.specs.Opening.{Holds, IsDesk};
+ghost use Rattle.dip_store.specs.Stored.{IsStore};
 
 use crate::failures::Failure;
 use crate::serving::serve_all;
@@ -55,21 +56,19 @@ pub fn answer_stored<S: Alter, R: Read, W: Write>(
     reader: &mut R,
     writer: &mut W,
 ) -> (Result<(), Failure>, Connection<S>)
-    ensures done { does_show S.Store result.1 → IsStore map.now (state S.Store store).now
-        → OnOk result.0
-        (AnswersFrom map.now (desk_in S.Store map.now store) (desk_in S.Store map.now result.1)
+    ensures done { is_honest S.Store result.1 → IsStore map.now (state S.Store store).now
+        → OnOk result.0 (AnswersFrom S.Store map.now (desk_in S.Store map.now store) result.1
         (R.remaining reader.old) (R.remaining reader.new) (W.contents writer.old)
         (W.contents writer.new)) }
-    ensures stops { does_show S.Store result.1 → IsStore map.now (state S.Store store).now
-        → IfErr result.0
-        (StopsFrom map.now (desk_in S.Store map.now store) (desk_in S.Store map.now result.1)
-        (R.remaining reader.old) (R.remaining reader.new) (W.contents writer.old)
-        (W.contents writer.new)) }
+    ensures stops { is_honest S.Store result.1 → IsDesk S.Store map.now store → IfErr result.0
+        (StopsFrom S.Store map.now (has_faulted S.Store store result.1)
+        (desk_in S.Store map.now store) result.1 (R.remaining reader.old)
+        (R.remaining reader.new) (W.contents writer.old) (W.contents writer.new)) }
     ensures read { OnOk result.0 (IsReadToEnd (R.remaining reader.old) (R.remaining reader.new)) }
     ensures failed { IfErr result.0
         (ReadsUpTo (R.remaining reader.old) (R.remaining reader.new) (W.contents writer.old)
         (W.contents writer.new)) }
-    ensures fair { does_show S.Store result.1 → is_honest S.Store store }
+    ensures fair { is_honest S.Store result.1 → is_honest S.Store store }
 {
     match SqlKeeper::open(alloc, store, map, text) {
         Err((fault, store)) => (Err(Failure::Store(fault)), store),
@@ -92,17 +91,16 @@ pub fn report_stored<S: Alter, W: Write>(
     game: &str,
     writer: &mut W,
 ) -> (Result<(), Failure>, Connection<S>)
-    ensures done { does_show S.Store result.1 → IsStore map.now (state S.Store store).now
+    ensures done { is_honest S.Store result.1 → IsStore map.now (state S.Store store).now
         → OnOk result.0 (Reports game.now (desk_in S.Store map.now store) (W.contents writer.old)
+        (W.contents writer.new)
+        × Holds S.Store map.now (desk_in S.Store map.now store) result.1) }
+    ensures stops { is_honest S.Store result.1 → IsDesk S.Store map.now store → IfErr result.0
+        (StopsReport S.Store map.now (has_faulted S.Store store result.1) game.now
+        (desk_in S.Store map.now store) result.1 (W.contents writer.old)
         (W.contents writer.new)) }
-    ensures stops { does_show S.Store result.1 → IsStore map.now (state S.Store store).now
-        → IfErr result.0
-        (StopsReport game.now (desk_in S.Store map.now store) (W.contents writer.old)
-        (W.contents writer.new)) }
-    ensures same { does_show S.Store result.1 → IsStore map.now (state S.Store store).now
-        → OnOk result.0 (desk_in S.Store map.now result.1 ≡ desk_in S.Store map.now store) }
     ensures failed { IfErr result.0 IsReportFailure }
-    ensures fair { does_show S.Store result.1 → is_honest S.Store store }
+    ensures fair { is_honest S.Store result.1 → is_honest S.Store store }
 {
     match SqlKeeper::open(alloc, store, map, text) {
         Err((fault, store)) => (Err(Failure::Store(fault)), store),
@@ -127,14 +125,14 @@ pub(crate) fn serve_stored<S: Alter>(
     port: u16,
     count: u32,
 ) -> (Result<(), Failure>, Connection<S>)
-    ensures done { does_show S.Store result.1 → IsStore map.now (state S.Store store).now
-        → OnOk result.0 (Serves map.now count (desk_in S.Store map.now store)
-        (desk_in S.Store map.now result.1)) }
-    ensures stops { does_show S.Store result.1 → IsStore map.now (state S.Store store).now
-        → IfErr result.0 (StopsServing map.now count (desk_in S.Store map.now store)
-        (desk_in S.Store map.now result.1)) }
+    ensures done { is_honest S.Store result.1 → IsStore map.now (state S.Store store).now
+        → OnOk result.0 (ServesFrom S.Store map.now (has_faulted S.Store store result.1) count
+        (desk_in S.Store map.now store) result.1) }
+    ensures stops { is_honest S.Store result.1 → IsDesk S.Store map.now store → IfErr result.0
+        (StopsServing S.Store map.now (has_faulted S.Store store result.1) count
+        (desk_in S.Store map.now store) result.1) }
     ensures failed { IfErr result.0 IsServeFailure }
-    ensures fair { does_show S.Store result.1 → is_honest S.Store store }
+    ensures fair { is_honest S.Store result.1 → is_honest S.Store store }
 {
     let alloc = rt.alloc();
     match SqlKeeper::open(alloc, store, map, text) {

@@ -159,7 +159,7 @@ fn step<'a, K: Keeper>(
     ensures lawful { K.book.sound map.now keeper.old → K.book.shows keeper.new
         → IsLawful map.now (K.book.content map.now keeper.old)
         → IsLawful map.now (K.book.content map.now keeper.new) }
-    ensures never { K.book.sound map.now keeper.old → K.book.shows keeper.new
+    ensures never { IsOpen map.now K.book keeper.old → K.book.honest keeper.new
         → IsLawful map.now (K.book.content map.now keeper.old)
         → IsErrOf result (RunFault.Keep KeepFault.Damaged) → ⊥ }
     ensures goes { IsOpen map.now K.book keeper.old → K.book.honest keeper.new
@@ -208,7 +208,7 @@ fn answer_all<W: Write, K: Keeper>(
         → IfErr result
         (λ f. Stops map.now f input.now (K.book.content map.now keeper.old)
         (K.book.content map.now keeper.new) (W.contents writer.old) (W.contents writer.new)) }
-    ensures never { K.book.sound map.now keeper.old → K.book.shows keeper.new
+    ensures never { IsOpen map.now K.book keeper.old → K.book.honest keeper.new
         → IsLawful map.now (K.book.content map.now keeper.old)
         → IsErrOf result (RunFault.Keep KeepFault.Damaged) → ⊥ }
     ensures goes { IsOpen map.now K.book keeper.old → K.book.honest keeper.new
@@ -218,6 +218,7 @@ fn answer_all<W: Write, K: Keeper>(
         (W.contents writer.old) (W.contents writer.new)) }
     ensures fault { IfErr result IsAnsweringFault }
     ensures count { K.book.faults keeper.new ≡ faults_after_run result (K.book.faults keeper.old) }
+    ensures fair { K.book.honest keeper.new → K.book.honest keeper.old }
     ensures shown { K.book.shows keeper.new → K.book.shows keeper.old }
 {
     published_movements_are_decided();
@@ -269,10 +270,11 @@ pub fn run_file<R: Read, W: Write, K: Keeper>(
         × StopsAt map.now K.book f input keeper.old keeper.new (W.contents writer.old)
         (W.contents writer.new))) }
     // From a lawful content on, as an empty desk is, Damaged is never told.
-    ensures never { K.book.sound map.now keeper.old → K.book.shows keeper.new
+    ensures never { IsOpen map.now K.book keeper.old → K.book.honest keeper.new
         → IsLawful map.now (K.book.content map.now keeper.old)
         → IsErrOf result (RunFault.Keep KeepFault.Damaged) → ⊥ }
     ensures count { K.book.faults keeper.new ≡ faults_after_run result (K.book.faults keeper.old) }
+    ensures fair { K.book.honest keeper.new → K.book.honest keeper.old }
     ensures shown { K.book.shows keeper.new → K.book.shows keeper.old }
 {
     let input = read_input(alloc, reader)?;

@@ -48,16 +48,17 @@ module _ {S : Type 0} (g : Ghosts S) (m : Chart) (k : SqlKeeper S) (c : Held S) 
       firm = λ kept clean. sound_on (went X E x) p kept (p.ok kept.0 clean);
       stays_open = λ kept clean shows. p.ok kept.0 clean;
       shuts = p.closes;
+      again = λ kept clean shows takes db may. takes db (p.left kept.0 clean db may);
     };
     value = λ kept shows. value kept.0 kept.1 shows.0;
-    damaged = λ kept shows is. absurd (cc);
-    failed = λ kept shows is. absurd (cc);
+    damaged = λ kept clean shows is. absurd (cc);
+    failed = λ kept clean shows is. absurd (cc);
     same = same_on (went X E x) p;
     left = λ kept. left_on (went X E x) p kept;
   }
 
   -- what failed, by the fault that is told of it
-  looks_told : (X Y E : Type 0) (e : E) (f : KeepFault) (n : ℕ) (Value : X → Type 0) → Selects g k.conn c (fails Y E e) → n ≡ faults_with f k.failures → (Kept → does_show g c → f ≡ Damaged → ⊥) → (Kept → does_show g c → f ≡ Disk → has_faulted g k.conn c)
+  looks_told : (X Y E : Type 0) (e : E) (f : KeepFault) (n : ℕ) (Value : X → Type 0) → Selects g k.conn c (fails Y E e) → n ≡ faults_with f k.failures → (Kept → is_honest g c → does_show g k.conn → f ≡ Damaged → ⊥) → (Kept → is_honest g c → does_show g k.conn → f ≡ Disk → has_faulted g k.conn c)
       → Looks m (book g) k (record k { conn = c; failures = n }) Value ⊥ (fails X KeepFault f)
   looks_told X Y E e f n Value p count never blamed = record {
     keeps = record {
@@ -69,15 +70,16 @@ module _ {S : Type 0} (g : Ghosts S) (m : Chart) (k : SqlKeeper S) (c : Held S) 
       firm = λ kept clean. tt;
       stays_open = λ kept clean shows. tt;
       shuts = p.closes;
+      again = λ kept clean shows takes db may. takes db (p.left kept.0 clean db may);
     };
     value = λ kept shows. tt;
-    damaged = λ kept shows is. let same : f ≡ Damaged = cc in never kept shows same;
-    failed = λ kept shows is. let same : f ≡ Disk = cc in blamed kept shows same;
+    damaged = λ kept clean shows is. let same : f ≡ Damaged = cc in never kept clean shows same;
+    failed = λ kept clean shows is. let same : f ≡ Disk = cc in blamed kept clean shows same;
     same = same_on (fails Y E e) p;
     left = λ kept. left_on (fails Y E e) p kept;
   }
 
-  looks_counted : (X Y E : Type 0) (e : E) (f : KeepFault) (Value : X → Type 0) → Selects g k.conn c (fails Y E e) → (Kept → does_show g c → f ≡ Damaged → ⊥) → (Kept → does_show g c → f ≡ Disk → has_faulted g k.conn c)
+  looks_counted : (X Y E : Type 0) (e : E) (f : KeepFault) (Value : X → Type 0) → Selects g k.conn c (fails Y E e) → (Kept → is_honest g c → does_show g k.conn → f ≡ Damaged → ⊥) → (Kept → is_honest g c → does_show g k.conn → f ≡ Disk → has_faulted g k.conn c)
       → Looks m (book g) k (telling f (record k { conn = c })) Value ⊥ (fails X KeepFault f)
   looks_counted X Y E e Memory Value p never blamed = looks_told X Y E e Memory k.failures Value p refl never blamed
   looks_counted X Y E e Disk Value p never blamed = looks_told X Y E e Disk (k.failures + 1) Value p refl never blamed
@@ -88,5 +90,5 @@ module _ {S : Type 0} (g : Ghosts S) (m : Chart) (k : SqlKeeper S) (c : Held S) 
       → (IsKept g k.conn → does_show g k.conn → is_honest g c → AreOurs m (tables_in g k.conn) → IsFromOutside (has_faulted g k.conn c) e)
       → Looks m (book g) k (telling (look_fault e) (record k { conn = c })) Value ⊥ (fails X KeepFault (look_fault e))
   looks_ill X Y e Value p own = looks_counted X Y LookFault e (look_fault e) Value p
-      (λ kept shows. look_outside (has_faulted g k.conn c) e (own kept.0 (p.shown shows) shows.0 kept.1))
-      (λ kept shows. look_blamed (has_faulted g k.conn c) e (own kept.0 (p.shown shows) shows.0 kept.1))
+      (λ kept clean shows. look_outside (has_faulted g k.conn c) e (own kept.0 shows clean kept.1))
+      (λ kept clean shows. look_blamed (has_faulted g k.conn c) e (own kept.0 shows clean kept.1))

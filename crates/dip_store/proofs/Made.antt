@@ -1,5 +1,5 @@
 -- A change of the rows is the change of their keeper.
-use Rattle.std.proofs.Common.{◌≡◌, IsTrue, arith, inl, inr, ◌+◌, ℕ, refl, sym, ap, subst, ◌∙◌}
+use Rattle.std.proofs.Common.{◌≡◌, ◌⊎◌, IsTrue, arith, inl, inr, ◌+◌, ℕ, refl, sym, ap, subst, ◌∙◌}
 use Rattle.sqlite.specs.Effect.{Database}
 use Rattle.sqlite.specs.Tree.{Trees}
 use Rattle.sqlite.specs.Store.{Ghosts}
@@ -10,6 +10,9 @@ use Rattle.dip_desk.specs.Keeping.{Changes}
 use Rattle.dip_store.specs.Laws.{FindsPlaceInTables, FitsIsWritable, WhatFitsFindsPlace}
 use Rattle.dip_store_tables.specs.LegibleLaws.{TablesStayLegible}
 use Rattle.dip_store_tables.specs.Legible.{AreLegible, AreOurs}
+use Rattle.dip_store_tables.specs.Laws.{TablesStayCounted}
+use Rattle.dip_store_tables.specs.Counting.{AreCounted}
+use Rattle.dip_store_tables.specs.Coding.{AreApart}
 use Rattle.dip_store_tables.specs.ChangeTexts.{HasTexts}
 use Rattle.dip_desk_state.specs.Faults.{faults_with}
 use Rattle.dip_desk_state.specs.State.{Change, state_after}
@@ -18,6 +21,7 @@ use Rattle.dip_desk_state.specs.declared.faults.KeepFault.TheVariants.{Memory, D
 use Rattle.dip_store_tables.specs.Changing.{changing}
 use Rattle.dip_store_tables.specs.ChangeColumns.{HasWidths, IsWritable}
 use Rattle.dip_store_sql.proofs.Keyed.{are_keyed}
+use Rattle.dip_store_sql.proofs.Apart.{are_apart}
 use Rattle.dip_store_sql.specs.Calls.{IsKept, Lands, does_show, is_honest, tables_in}
 use Rattle.dip_store_sql.specs.Causes.{has_faulted}
 use Rattle.dip_store_sql.specs.Good.{IsGood}
@@ -28,7 +32,7 @@ use Rattle.dip_store_changes.specs.Laws.{ChangesAreMade, IsMade}
 use Rattle.dip_store_changes.specs.Making.{Makes}
 use Rattle.dip_store_changes.specs.declared.faults.MakeFault.{MakeFault}
 use Rattle.dip_store.specs.Faults.{make_fault}
-use Rattle.dip_store.specs.Stored.{book, said_by, telling}
+use Rattle.dip_store.specs.Stored.{AreStored, book, said_by, telling}
 use Rattle.dip_store.specs.declared.keeper.SqlKeeper.{SqlKeeper}
 use Rattle.dip_store.proofs.Outside.{make_outside}
 
@@ -45,15 +49,18 @@ module _ {S : Type 0} (g : Ghosts S) (m : Chart) (k : SqlKeeper S) (c : Change) 
     is_made kept good is = law c (state g k.conn).now (state g new).now fits kept.0.good good is
 
     -- where its texts are of characters and it finds place, the rows are still such as a keeper wrote
-    ours : (kept : Keeps) → HasTexts c → TablesStayLegible m → HasPlace m c (tables_in g k.conn) → IsGood (state g new).now → tables_in g new ≡ changing m c (tables_in g k.conn) → AreOurs m (tables_in g new)
-    ours kept texts stay place good is =
-        let made = is_made kept good is in
+    ours_of : (kept : Keeps) → HasTexts c → TablesStayLegible m → HasPlace m c (tables_in g k.conn) → (db : Database) → IsGood db → tables_of db.trees ≡ changing m c (tables_in g k.conn) → AreOurs m (tables_of db.trees)
+    ours_of kept texts stay place db good is =
+        let made = law c (state g k.conn).now db fits kept.0.good good is in
         record {
           map = kept.1.map;
           coded = made.coded kept.1.coded;
           written = made.written wide kept.1.written;
           legible = subst AreLegible (sym is) (stay c (tables_in g k.conn) kept.1.map fits.0.author texts place.room kept.1.legible);
         }
+
+    ours : (kept : Keeps) → HasTexts c → TablesStayLegible m → HasPlace m c (tables_in g k.conn) → IsGood (state g new).now → tables_in g new ≡ changing m c (tables_in g k.conn) → AreOurs m (tables_in g new)
+    ours kept texts stay place = ours_of kept texts stay place (state g new).now
 
     said : (kept : Keeps) → IsGood (state g new).now → tables_in g new ≡ changing m c (tables_in g k.conn) → said_by m (state g new).now.trees ≡ state_after c (said_by m (state g k.conn).now.trees)
     said kept good is = (is_made kept good is).says kept.1.coded
@@ -77,10 +84,13 @@ module _ {S : Type 0} (g : Ghosts S) (m : Chart) (k : SqlKeeper S) (c : Change) 
         firm = λ kept clean. sound kept (p.ok kept.0 clean);
         stays_open = λ kept clean shows. p.ok kept.0 clean;
         shuts = p.closes;
+        again = λ kept clean shows takes db may.
+            let still = sound kept (p.ok kept.0 clean) in
+            ((state g new).now, sym (p.kept kept.0 clean db may), record { good = still.0.good; counted = still.0.counted; ours = still.1 });
       };
       done = λ kept shows. let is = p.done kept.0 shows in said kept is.0.good is.1;
       undone = λ kept shows. tt;
-      fitting = λ kept shows fit is. absurd (cc);
+      fitting = λ kept clean shows fit is. absurd (cc);
       settles = λ kept clean shows alone s may. may.2 ∙ ap (said_by m) (p.kept kept.0 clean may.0 may.1);
       kept = λ kept clean s may. may.2 ∙ ap (said_by m) (p.kept kept.0 clean may.0 may.1);
       left = λ kept clean. tt;
@@ -91,10 +101,27 @@ module _ {S : Type 0} (g : Ghosts S) (m : Chart) (k : SqlKeeper S) (c : Change) 
             let is = p.done kept.0 shows in
             (stays kept.0 shows, ours kept texts stay (place kept.0 shows) is.0.good is.1)
 
-    changes_told : (X Y E : Type 0) (e : E) (f : KeepFault) (n : ℕ) → Settled → Makes g (changing m c) k.conn new (fails Y E e) → n ≡ faults_with f k.failures
-        → (Keeps → does_show g new → Fits m c (said_by m (state g k.conn).now.trees) → f ≡ Damaged → ⊥)
+    -- what a crash may leave of a change that isn't made can be opened again
+    abbrev LandsWell : Type 0
+    LandsWell = IsKept g k.conn → is_honest g new → (db : Trees) → (state g new).may_leave db → (state g k.conn).may_leave db ⊎ HasPlace m c (tables_in g k.conn)
+
+    stored : HasTexts c → TablesStayLegible m → TablesStayCounted m → (kept : Keeps) → HasPlace m c (tables_in g k.conn) → (db : Trees) → Lands (changing m c) (state g k.conn) db → AreStored m db
+    stored texts legible counted kept place db lands =
+        let is = lands.1 kept.0.good in
+        (
+          lands.0,
+          sym lands.2,
+          record {
+            good = is.0;
+            counted = subst AreCounted (sym is.1) (counted c (tables_in g k.conn) place.paper kept.0.counted (are_apart (state g k.conn).now kept.0.good) (subst AreApart is.1 (are_apart lands.0 is.0)));
+            ours = ours_of kept texts legible place lands.0 is.0 is.1;
+          },
+        )
+
+    changes_told : (X Y E : Type 0) (e : E) (f : KeepFault) (n : ℕ) → HasTexts c → TablesStayLegible m → TablesStayCounted m → LandsWell → Settled → Makes g (changing m c) k.conn new (fails Y E e) → n ≡ faults_with f k.failures
+        → (Keeps → is_honest g new → does_show g k.conn → Fits m c (said_by m (state g k.conn).now.trees) → f ≡ Damaged → ⊥)
         → Changes m (book g) k (record k { conn = new; failures = n }) (state_after c) (Fits m c) (fails X KeepFault f)
-    changes_told X Y E e f n settled p count never = record {
+    changes_told X Y E e f n texts legible counted lands_well settled p count never = record {
       keeps = record {
         count = count;
         told = p.counts;
@@ -104,10 +131,17 @@ module _ {S : Type 0} (g : Ghosts S) (m : Chart) (k : SqlKeeper S) (c : Change) 
         firm = λ kept clean. tt;
         stays_open = λ kept clean shows. tt;
         shuts = p.closes;
+        again = λ kept clean shows takes db may. elim (p.left kept.0 clean db may) [
+          | inl before ↦ takes db before
+          | inr lands ↦ elim (lands_well kept.0 clean db may) [
+            | inl before ↦ takes db before
+            | inr place ↦ stored texts legible counted kept place db lands
+          ]
+        ];
       };
       done = λ kept shows. tt;
       undone = λ kept shows. ap (λ (d : Database). said_by m d.trees) (p.undone kept.0 shows).1;
-      fitting = λ kept shows fit is. let same : f ≡ Damaged = cc in never kept shows fit same;
+      fitting = λ kept clean shows fit is. let same : f ≡ Damaged = cc in never kept clean shows fit same;
       settles = λ kept clean shows alone s may. may.2 ∙ ap (said_by m) (settled new.store may.0 shows.1 may.1 ∙ ap (λ (d : Database). d.trees) (sym (p.undone kept.0 shows).0.settled));
       kept = λ kept clean. tt;
       left = λ kept clean s may. elim (p.left kept.0 clean may.0 may.1) [
@@ -116,20 +150,20 @@ module _ {S : Type 0} (g : Ghosts S) (m : Chart) (k : SqlKeeper S) (c : Change) 
       ];
     }
 
-    changes_counted : (X Y E : Type 0) (e : E) (f : KeepFault) → Settled → Makes g (changing m c) k.conn new (fails Y E e)
-        → (Keeps → does_show g new → Fits m c (said_by m (state g k.conn).now.trees) → f ≡ Damaged → ⊥)
+    changes_counted : (X Y E : Type 0) (e : E) (f : KeepFault) → HasTexts c → TablesStayLegible m → TablesStayCounted m → LandsWell → Settled → Makes g (changing m c) k.conn new (fails Y E e)
+        → (Keeps → is_honest g new → does_show g k.conn → Fits m c (said_by m (state g k.conn).now.trees) → f ≡ Damaged → ⊥)
         → Changes m (book g) k (telling f (record k { conn = new })) (state_after c) (Fits m c) (fails X KeepFault f)
-    changes_counted X Y E e Memory settled p never = changes_told X Y E e Memory k.failures settled p refl never
-    changes_counted X Y E e Disk settled p never = changes_told X Y E e Disk (k.failures + 1) settled p refl never
-    changes_counted X Y E e Damaged settled p never = changes_told X Y E e Damaged k.failures settled p refl never
+    changes_counted X Y E e Memory texts legible counted lands settled p never = changes_told X Y E e Memory k.failures texts legible counted lands settled p refl never
+    changes_counted X Y E e Disk texts legible counted lands settled p never = changes_told X Y E e Disk (k.failures + 1) texts legible counted lands settled p refl never
+    changes_counted X Y E e Damaged texts legible counted lands settled p never = changes_told X Y E e Damaged k.failures texts legible counted lands settled p refl never
 
     -- a change that fits isn't made for want alone
-    pub changes_ill : (X Y : Type 0) (e : MakeFault) → Settled → WhatFitsFindsPlace m → Makes g (changing m c) k.conn new (fails Y MakeFault e)
+    pub changes_ill : (X Y : Type 0) (e : MakeFault) → HasTexts c → TablesStayLegible m → TablesStayCounted m → LandsWell → Settled → WhatFitsFindsPlace m → Makes g (changing m c) k.conn new (fails Y MakeFault e)
         → (IsKept g k.conn → does_show g k.conn → is_honest g new → MayMake m c (tables_in g k.conn) → FailsFor (has_faulted g k.conn new) (HasPlace m c (tables_in g k.conn) → ⊥) e)
         → Changes m (book g) k (telling (make_fault e) (record k { conn = new })) (state_after c) (Fits m c) (fails X KeepFault (make_fault e))
-    changes_ill X Y e settled finds p why = changes_counted X Y MakeFault e (make_fault e) settled p (λ kept shows fit.
+    changes_ill X Y e texts legible counted lands settled finds p why = changes_counted X Y MakeFault e (make_fault e) texts legible counted lands settled p (λ kept clean shows fit.
         let place = placed kept fit in
-        make_outside (has_faulted g k.conn new) (HasPlace m c (tables_in g k.conn) → ⊥) e (why kept.0 (p.shown shows) shows.0 (record { ours = kept.1; keyed = place.keyed })) (λ none. none (record { paper = place.paper; room = place.room })))
+        make_outside (has_faulted g k.conn new) (HasPlace m c (tables_in g k.conn) → ⊥) e (why kept.0 shows clean (record { ours = kept.1; keyed = place.keyed })) (λ none. none (record { paper = place.paper; room = place.room })))
       where
         placed : (kept : Keeps) → Fits m c (said_by m (state g k.conn).now.trees) → FindsPlaceInTables m c (tables_in g k.conn)
         placed kept fit = finds c (tables_in g k.conn) kept.1.map kept.1.coded kept.0.counted (are_keyed (state g k.conn).now kept.0.good) fit
@@ -146,10 +180,11 @@ module _ {S : Type 0} (g : Ghosts S) (m : Chart) (k : SqlKeeper S) (c : Change) 
       firm = λ kept clean. tt;
       stays_open = λ kept clean shows. tt;
       shuts = λ clean shows. inl shows;
+      again = λ kept clean shows takes. takes;
     };
     done = λ kept shows. tt;
     undone = λ kept shows. refl;
-    fitting = λ kept shows fit is. off (writable c _ fit);
+    fitting = λ kept clean shows fit is. off (writable c _ fit);
     settles = λ kept clean shows alone. alone;
     kept = λ kept clean. tt;
     left = λ kept clean s may. inl may;

@@ -1,5 +1,5 @@
 -- A keeper that was made or opened.
-use Rattle.std.proofs.Common.{◌≡◌, ℕ, List, [], Bool, true, false, not, length, None, IsTrue, refl, sym, ap, subst, ◌∙◌}
+use Rattle.std.proofs.Common.{◌≡◌, ◌≤◌, inl, inr, ℕ, List, [], Bool, true, false, not, length, None, IsTrue, refl, sym, ap, subst, ◌∙◌, arith}
 use Rattle.std.specs.declared.alloc.Global.{Global}
 use Rattle.sqlite.specs.Effect.{Database}
 use Rattle.sqlite.specs.Tree.{Trees}
@@ -13,13 +13,16 @@ use Rattle.dip_store_tables.specs.Laws.{NewTablesAreNew}
 use Rattle.dip_store_tables.specs.Reading.{state_of}
 use Rattle.dip_store_tables.specs.Writing.{new_tables}
 use Rattle.dip_store_sql.specs.Calls.{IsKept, Selects, is_honest, does_show, tables_in}
+use Rattle.dip_store_sql.specs.Causes.{has_faulted}
 use Rattle.dip_store_sql.specs.Rows.{tables_of}
-use Rattle.dip_store_sql.proofs.Parts.{went}
+use Rattle.dip_store_sql.proofs.Parts.{fails, went}
 use Rattle.dip_store_sql.specs.Schema.{our_schema}
 use Rattle.dip_store.specs.Founding.{Keeps}
 use Rattle.dip_store.specs.Known.{HasOurTables}
-use Rattle.dip_store.specs.Opening.{IsStore, Opens}
-use Rattle.dip_store.specs.Stored.{said_by}
+use Rattle.dip_store.specs.Opening.{Holds, IsDesk, Opens, StoreEnds}
+use Rattle.dip_desk.specs.Keeping.{Ends, IsOpen}
+use Rattle.dip_store.specs.Stored.{AreStored, IsStore, book, said_by}
+use Rattle.dip_store.specs.declared.keeper.SqlKeeper.{SqlKeeper}
 
 module _ {S : Type 0} (g : Ghosts S) (m : Chart) (store : Held S) (own : IsStore m (state g store).now) where
   abbrev before : Held S
@@ -60,10 +63,12 @@ module _ {S : Type 0} (g : Ghosts S) (m : Chart) (alloc : Global) (conn : Held S
     shows = shows;
     sound = (kept, ours);
     says = says;
-    only = λ left may.
-        let trees : may.0 ≡ (state g conn).now.trees = last shows.1 may.0 may.1 ∙ ap (λ (d : Database). d.trees) (sym kept.settled) in
-        may.2 ∙ ap (said_by m) trees ∙ says;
+    only = λ left may. may.2 ∙ ap (said_by m) (there_now kept shows may.0 may.1) ∙ says;
+    again = λ db may. ((state g conn).now, sym (there_now kept shows db may), record { good = kept.good; counted = kept.counted; ours = ours });
   }
+    where
+      there_now : IsKept g conn → does_show g conn → (db : Trees) → (state g conn).may_leave db → db ≡ (state g conn).now.trees
+      there_now kept shows db may = last shows.1 db may ∙ ap (λ (d : Database). d.trees) (sym kept.settled)
 
   pub opens_new : (map_sum digest : List ℕ) → IsMap m → NewTablesAreNew m → NewTablesAreLegible → length digest ≡ 32 → Keeps g conn (new_tables map_sum digest) → does_show g conn
       → Opens g m (record { desk = record { digest = digest; kept = None }; games = [] }) (record { alloc = alloc; conn = conn; failures = 0 })
@@ -82,6 +87,71 @@ module _ {S : Type 0} (g : Ghosts S) (m : Chart) (alloc : Global) (conn : Held S
       let shows = p.ok kept clean in
       let same = p.same kept shows in
       opens_kept _ (p.kept kept shows) (subst (λ (d : Database). AreOurs m (tables_of d.trees)) (sym same) own.ours) (ap (λ (d : Database). said_by m d.trees) same) shows)
+
+-- a store that isn't opened
+module _ {S : Type 0} (g : Ghosts S) (m : Chart) (store : Held S) (desk : IsDesk g m store) (end : Held S) where
+  abbrev there_still : Held S
+  there_still = before g m store desk.wrote
+
+  -- while its connection is open, a crash leaves what is committed
+  abbrev Commits : Held S → Type 0
+  Commits h = IsTrue (state g h).is_open → (db : Trees) → (state g h).may_leave db → db ≡ (state g h).committed.trees
+
+  -- read of, and refused
+  refused_there : (X E : Type 0) (e : E) (r : Bool) → Idle g m store desk.wrote there_still r → Commits there_still → Selects g there_still end (fails X E e) → is_honest g end
+      → StoreEnds g m (has_faulted g store end) end (said_by m (state g store).now.trees) (λ _. ⊥)
+  refused_there X E e r idle last p clean = record {
+    left = λ db may. (stored db may, inl (says db may));
+    shown = still;
+    goes = elim (p.closes clean desk.shows) [ inl shows ↦ inl (still shows) | inr more ↦ inr more ];
+  }
+    where
+      kept : IsKept g there_still
+      kept = kept_before g m store desk.wrote r idle
+
+      as_now : (db : Trees) → (state g end).may_leave db → db ≡ (state g store).now.trees
+      as_now db may = last desk.shows.1 db (p.left kept clean db may) ∙ ap (λ (d : Database). d.trees) (sym kept.settled)
+
+      says : (db : Trees) → (state g end).may_leave db → said_by m db ≡ said_by m (state g store).now.trees
+      says db may = ap (said_by m) (as_now db may)
+
+      stored : (db : Trees) → (state g end).may_leave db → AreStored m db
+      stored db may = ((state g store).now, sym (as_now db may), desk.wrote)
+
+      still : does_show g end → Holds g m (said_by m (state g store).now.trees) end
+      still shows = record {
+        desk = record { shows = shows; idle = p.mode desk.idle; wrote = subst (IsStore m) (sym (p.same kept shows)) desk.wrote };
+        says = ap (λ (d : Database). said_by m d.trees) (p.same kept shows);
+        only = says;
+        again = stored;
+      }
+
+  pub ends_refused : (X E : Type 0) (e : E) (h : Held S) → h ≡ there_still → (r : Bool) → Idle g m store desk.wrote h r → Commits h → Selects g h end (fails X E e) → is_honest g end
+      → StoreEnds g m (has_faulted g store end) end (said_by m (state g store).now.trees) (λ _. ⊥)
+  ends_refused X E e h is = subst (λ (h : Held S). (r : Bool) → Idle g m store desk.wrote h r → Commits h → Selects g h end (fails X E e) → is_honest g end
+      → StoreEnds g m (has_faulted g store end) end (said_by m (state g store).now.trees) (λ _. ⊥)) (sym is) (refused_there X E e)
+
+-- what an open keeper has, its store holds
+module _ {S : Type 0} (g : Ghosts S) (m : Chart) where
+  pub held_by : (k : SqlKeeper S) → IsOpen m (book g) k → Holds g m ((book g).content m k) k.conn
+  held_by k it = record {
+    desk = record { shows = it.shows; idle = it.sound.0.idle; wrote = record { good = it.sound.0.good; counted = it.sound.0.counted; ours = it.sound.1 } };
+    says = refl;
+    only = λ db may. it.alone (said_by m db) (db, may, refl);
+    again = it.again;
+  }
+
+  -- and how a keeper ends, its store does, from where it was opened on
+  pub ends_held : (store : Held S) (old new : SqlKeeper S) (s : State) (More : State → Type 0) → (state g store).faults ≤ (state g old.conn).faults
+      → Ends m (book g) old new s More → StoreEnds g m (has_faulted g store new.conn) new.conn s More
+  ends_held store old new s More counted it = record {
+    left = λ db may. (it.again db may, it.left (said_by m db) (db, may, refl));
+    shown = λ shows. let still = it.shown shows in subst (λ (t : State). Holds g m t new.conn) still.1 (held_by new still.0);
+    goes = elim it.goes [
+      | inl goes ↦ inl (subst (λ (t : State). Holds g m t new.conn) goes.1 (held_by new goes.0))
+      | inr more ↦ inr (omega (arith, counted, more))
+    ];
+  }
 
 -- what a connection knows of its tables, it knows with its limit of steps too
 module _ {S : Type 0} where

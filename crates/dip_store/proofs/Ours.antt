@@ -19,7 +19,7 @@ known_in (Ok c) command h = (c, refl)
 known_in (Err e) command h = absurd h
 
 whole_in : (size count : ℕ) (r : Result Compiled CompileError) → IsPlain r → IsAsked size count r → IsWhole size r
-whole_in size count (Ok c) plain asked = (within _ _ asked.0, plain.1)
+whole_in size count (Ok c) plain asked = (within _ _ asked.0, plain)
 whole_in size count (Err e) plain asked = absurd plain
 
 known_by : (text : List ℕ) (count : ℕ) (q : Query) (names : List (List ℕ)) → Asks text count q names → IsKnown our_schema text

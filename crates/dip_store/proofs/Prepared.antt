@@ -9,15 +9,17 @@ use Rattle.sqlite.specs.Outline.{Outline}
 use Rattle.sqlite.specs.Store.{Ghosts}
 use Rattle.sqlite.specs.Held.{Held, state}
 use Rattle.sqlite.specs.Schema.{Schema}
-use Rattle.sqlite.specs.State.{HasCleanDisk, Survives, State, IsNotRun, IsUnchanged, KeepsCommit}
+use Rattle.sqlite.specs.State.{HasCleanDisk, Survives, State, FailsToQuery, IsNotRun, IsUnchanged, KeepsCommit}
 use Rattle.sqlite.specs.Steps.{Outlines}
 use Rattle.dip_store_sql.specs.Compiled.{Compiled}
 use Rattle.dip_store_sql.specs.CompileError.{CompileError}
+use Rattle.sqlite.specs.Given.{IsPlain}
+use Rattle.dip_store_sql.specs.Causes.{Faulted, IsCaused}
 use Rattle.dip_store_sql.specs.Faults.{IsOutside}
 use Rattle.dip_store.specs.Alone.{LeavesAlone}
 use Rattle.dip_store.specs.Known.{IsKnown, IsWhole}
 use Rattle.dip_store_sql.proofs.Parts.{fails, went}
-use Rattle.dip_store_sql.proofs.Faults.{caused}
+use Rattle.dip_store_sql.proofs.Faults.{blames, caused}
 
 -- a text that was prepared is understood
 outlined : (r : Result Compiled CompileError) (s : Outline) → Outlines r s → (c : Compiled) × (r ≡ Ok c)
@@ -48,11 +50,11 @@ module _ (sql : List ℕ) (old new : State) (e : Error) (told : (params : Row) �
   ]
 
   -- a text that is understood is refused for want of memory, or by the disk
-  pub told_outside : IsTrue old.is_open → IsWhole (length sql) (understood old.now.schema sql) → IsOutside e
+  told_outside : IsTrue old.is_open → IsWhole (length sql) (understood old.now.schema sql) → IsOutside e
   unfolding IsNotRun
   told_outside up whole = go (understood old.now.schema sql) refl whole
     where
-      known : (c : Compiled) → understood old.now.schema sql ≡ Ok c → (length sql ≤ c.tail) × (c.formats ≡ []) → IsOutside e
+      known : (c : Compiled) → understood old.now.schema sql ≡ Ok c → (length sql ≤ c.tail) × IsPlain (Ok c) → IsOutside e
       known c is both = elim (told (replicate (length c.names) Null)) [
         | inl none ↦ absurd (elim none.0 [
           | inl a ↦ (let x = sym is ∙ a.1 in cc)
@@ -60,7 +62,7 @@ module _ (sql : List ℕ) (old new : State) (e : Error) (told : (params : Row) �
             | inl d ↦ d.0 (subst (λ (k : Compiled). length sql ≤ k.tail) same both.0)
             | inr d ↦ elim d [
               | inl f ↦ f.0 (subst (λ (k : Compiled). length (replicate (length c.names) Null) ≡ length k.names) same (length-replicate (length c.names) Null))
-              | inr f ↦ f.0 (subst (λ (k : Compiled). k.formats ≡ []) same both.1)
+              | inr f ↦ f.0 (subst (λ (k : Compiled). k.formats ≡ []) same both.1.1)
             ]
           ]
         ])
@@ -70,6 +72,18 @@ module _ (sql : List ℕ) (old new : State) (e : Error) (told : (params : Row) �
       go : (r : Result Compiled CompileError) → understood old.now.schema sql ≡ r → IsWhole (length sql) r → IsOutside e
       go (Ok c) is whole = known c is whole
       go (Err f) is whole = absurd whole
+
+  plain_of : (r : Result Compiled CompileError) → IsWhole (length sql) r → IsPlain r
+  plain_of (Ok c) whole = whole.1
+  plain_of (Err f) whole = absurd whole
+
+  -- and then the store told of a fault of it
+  pub told_caused : IsTrue old.is_open → IsWhole (length sql) (understood old.now.schema sql) → IsCaused (Faulted old new) e
+  unfolding FailsToQuery
+  told_caused up whole = elim (told_outside up whole) [
+    | inl memory ↦ inl memory
+    | inr disk ↦ inr (disk, blames sql [] old new (plain_of (understood old.now.schema sql) whole) e (inl (told [])) disk)
+  ]
 
 module _ {S : Type 0} (g : Ghosts S) (old new : Held S) (survives : Survives (state g old) (state g new) (λ _. ⊥)) (mode : old.in_transaction ≡ false → new.in_transaction ≡ false) where
   pub alone_ok : {X : Type 0} (x : X) → (HasCleanDisk (state g new) → IsUnchanged (state g old) (state g new)) → LeavesAlone g old new (went X Error x)

@@ -28,6 +28,23 @@ pub open_outage : (e : Error) → IsOutage (open_fault e)
 open_outage (SqliteFailure c) = code_outage c
 open_outage _ = tt
 
+-- the disk is told of only where there was this fault of it
+pub open_blamed : (fault : Type 0) (e : Error) → IsCaused fault e → open_fault e ≡ Disk → fault
+open_blamed fault e (inl memory) is = absurd (let bad : Memory ≡ Disk = ap open_fault (sym memory) ∙ is in cc)
+open_blamed fault e (inr disk) is = disk.1
+
+pub desk_blamed : (fault : Type 0) (e : DeskFault) → IsFromOutside fault e → desk_fault e ≡ Disk → fault
+desk_blamed fault (Query e) (inl memory) is = absurd (let bad : Memory ≡ Disk = ap row_fault (sym memory) ∙ is in cc)
+desk_blamed fault (Query e) (inr disk) is = disk.1
+desk_blamed fault Foreign own is = absurd own
+
+-- a row that says this version and this map is marked
+pub marked_by : (text : List ℕ) (t : Tables) → DeskSays 1 (sha256 text) t → IfSome (find is_first t.desk) IsMarked
+marked_by text t says =
+    let v = says.version_is in
+    let low : says.desk.version < 2 ^ 32 = omega (arith, v) in
+    subst (λ (o : Option DeskRow). IfSome o IsMarked) (sym says.found) (low, ap length says.map_is ∙ length-sha256 text)
+
 -- an outage is no word on the map, and refuses whatever the master's row says
 pub outage_no_map : (f : StoreFault) → IsOutage f → f ≡ OtherMap → ⊥
 outage_no_map Memory out is = absurd (cc)

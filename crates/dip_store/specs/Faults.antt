@@ -3,7 +3,7 @@ use Rattle.std.specs.Prelude.{ℕ, List, codes}
 use Rattle.sqlite.specs.declared.error.Error.{Error}
 use Rattle.sqlite.specs.declared.error.Error.TheVariants.{SqliteFailure}
 use Rattle.sqlite.specs.declared.error.ErrorCode.{ErrorCode}
-use Rattle.sqlite.specs.declared.error.ErrorCode.TheVariants.{OutOfMemory, SystemIoFailure, DatabaseCorrupt, DiskFull, TooBig, NoRowid}
+use Rattle.sqlite.specs.declared.error.ErrorCode.TheVariants.{OutOfMemory, SystemIoFailure, DatabaseCorrupt, DiskFull, TooBig, NoRowid, Closed}
 use Rattle.dip_store_looks.specs.declared.faults.LookFault.{LookFault}
 use Rattle.dip_store_looks.specs.declared.faults.LookFault.TheVariants as looks
 use Rattle.dip_store.specs.declared.desk_faults.DeskFault.{DeskFault}
@@ -15,7 +15,8 @@ use Rattle.dip_store_changes.specs.declared.faults.MakeFault.TheVariants as make
 use Rattle.dip_store.specs.declared.faults.StoreFault.{StoreFault}
 use Rattle.dip_store.specs.declared.faults.StoreFault.TheVariants as stores
 
--- want of memory; a fault of the disk or want of room on it; anything else shows that the tables aren't a desk's
+-- want of memory; a fault of the disk, want of room on it, or a store that such a fault has shut before; anything else shows that the tables
+-- aren't a desk's
 abbrev pub code_fault : ErrorCode → KeepFault
 code_fault OutOfMemory = Memory
 code_fault SystemIoFailure = Disk
@@ -23,6 +24,7 @@ code_fault DatabaseCorrupt = Disk
 code_fault DiskFull = Disk
 code_fault TooBig = Disk
 code_fault NoRowid = Disk
+code_fault Closed = Disk
 code_fault _ = Damaged
 
 abbrev pub error_fault : Error → KeepFault

@@ -1,5 +1,6 @@
 -- What a schema knows of the tables that a text names.
 use Rattle.std.specs.Prelude.{◌≡◌, ◌≤◌, ℕ, List, [], ◌∷◌, Result, Ok, Err}
+use Rattle.sqlite.specs.Given.{IsPlain}
 use Rattle.std.specs.List.{AllByRecursion}
 use Rattle.sqlite.specs.Schema.{Schema}
 use Rattle.sqlite.specs.Listing.{understood}
@@ -11,9 +12,9 @@ use Rattle.dip_store_sql.specs.Statements.{find_desk_text, find_game_text, list_
 abbrev pub IsKnown : Schema → List ℕ → Type 0
 IsKnown schema text = (c : Compiled) × (understood schema text ≡ Ok c)
 
--- a text of this length is one statement, and asks for no time
+-- a text of this length is one statement, writes nothing that it shows, and asks for no time
 abbrev pub IsWhole : ℕ → Result Compiled CompileError → Type 0
-IsWhole size (Ok c) = (size ≤ c.tail) × (c.formats ≡ [])
+IsWhole size (Ok c) = (size ≤ c.tail) × IsPlain (Ok c)
 IsWhole size (Err e) = ⊥
 
 -- for each of our tables a text that reads it

@@ -11,4 +11,5 @@ pub mod Refusing
 pub mod Stored
 pub mod Papers
 pub use Rattle.dip_store_sql.specs.Calls
+pub use Rattle.dip_store_sql.specs.Causes
 pub use Rattle.dip_store_tables.specs.Legible

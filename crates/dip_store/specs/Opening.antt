@@ -1,34 +1,45 @@
 -- What a keeper has that was made or opened.
-use Rattle.std.specs.Prelude.{◌≡◌, ◌⊎◌}
-use Rattle.sqlite.specs.Effect.{Database}
+use Rattle.std.specs.Prelude.{◌≡◌, ◌⊎◌, false}
 use Rattle.sqlite.specs.Store.{Ghosts}
 use Rattle.sqlite.specs.Held.{Held, state}
 use Rattle.sqlite.specs.Tree.{Trees}
 use Rattle.dip_map.specs.Charts.{Chart}
-use Rattle.dip_store_tables.specs.Legible.{AreOurs}
 use Rattle.dip_desk_state.specs.State.{State}
-use Rattle.dip_store_tables.specs.Counting.{AreCounted}
 use Rattle.dip_store_tables.specs.Tables.{Tables}
 use Rattle.dip_store.specs.Founding.{Founds}
-use Rattle.dip_store_sql.specs.Calls.{is_honest}
-use Rattle.dip_store_sql.specs.Good.{IsGood}
-use Rattle.dip_store_sql.specs.Rows.{tables_of}
-use Rattle.dip_store.specs.Stored.{book}
+use Rattle.dip_store_sql.specs.Calls.{does_show, is_honest}
+use Rattle.dip_store.specs.Stored.{AreStored, IsStore, book, said_by}
 use Rattle.dip_store.specs.declared.keeper.SqlKeeper.{SqlKeeper}
 
--- a database that keepers alone have written, by this map
-pub record IsStore (m : Chart) (db : Database) : Type 0 where
-  pub good : IsGood db
-  pub counted : AreCounted (tables_of db.trees)
-  pub ours : AreOurs m (tables_of db.trees)
+-- a database that keepers wrote is in a store that is open, and no change of it is under way: so a store can be opened
+pub record IsDesk {S : Type 0} (g : Ghosts S) (m : Chart) (store : Held S) : Type 0 where
+  pub shows : does_show g store
+  pub idle : store.in_transaction ≡ false
+  pub wrote : IsStore m (state g store).now
 
--- the keeper has told of no fault, says this state, and a crash leaves this state alone
+-- it is, of this state, and a crash leaves this state alone, to be opened again
+pub record Holds {S : Type 0} (g : Ghosts S) (m : Chart) (s : State) (store : Held S) : Type 0 where
+  pub desk : IsDesk g m store
+  pub says : said_by m (state g store).now.trees ≡ s
+  pub only : (db : Trees) → (state g store).may_leave db → said_by m db ≡ s
+  pub again : (db : Trees) → (state g store).may_leave db → AreStored m db
+
+-- how what is done over a store ends, in a state: a crash leaves that, or one that is more, to be opened again; where the store shows what it keeps still, it
+-- holds that state; and it does, or there was this fault of the disk
+pub record StoreEnds {S : Type 0} (g : Ghosts S) (m : Chart) (Fault : Type 0) (new : Held S) (s : State) (More : State → Type 0)
+    : Type 0 where
+  pub left : (db : Trees) → (state g new).may_leave db → AreStored m db × ((said_by m db ≡ s) ⊎ More (said_by m db))
+  pub shown : does_show g new → Holds g m s new
+  pub goes : Holds g m s new ⊎ Fault
+
+-- the keeper has told of no fault, says this state, and a crash leaves this state alone, to be opened again
 pub record Opens {S : Type 0} (g : Ghosts S) (m : Chart) (s : State) (k : SqlKeeper S) : Type 0 where
   pub none : (book g).faults k ≡ 0
   pub shows : (book g).shows k
   pub sound : (book g).sound m k
   pub says : (book g).content m k ≡ s
   pub only : (left : State) → (book g).may_leave m k left → left ≡ s
+  pub again : (book g).again m k
 
 -- what an open after a crash may find of a store in which tables are made: what it might have found before, or those tables, whole
 abbrev pub MayFound : {S : Type 0} → Ghosts S → Tables → Held S → Held S → Type 0

@@ -1,16 +1,19 @@
 -- What contracts see of a keeper over a store.
 use Rattle.std.specs.Prelude.{◌≡◌, ◌+◌}
+use Rattle.sqlite.specs.Effect.{Database}
 use Rattle.sqlite.specs.Tree.{Trees}
 use Rattle.sqlite.specs.Store.{Ghosts}
 use Rattle.sqlite.specs.Held.{state}
 use Rattle.dip_map.specs.Charts.{Chart}
 use Rattle.dip_desk.specs.Keeping.{Book}
+use Rattle.dip_store_tables.specs.Counting.{AreCounted}
 use Rattle.dip_store_tables.specs.Legible.{AreOurs}
 use Rattle.dip_desk_state.specs.State.{State}
 use Rattle.dip_desk_state.specs.declared.faults.KeepFault.{KeepFault}
 use Rattle.dip_desk_state.specs.declared.faults.KeepFault.TheVariants.{Memory, Disk, Damaged}
 use Rattle.dip_store_tables.specs.Reading.{state_of}
 use Rattle.dip_store_sql.specs.Calls.{IsKept, is_honest, does_show, tables_in}
+use Rattle.dip_store_sql.specs.Good.{IsGood}
 use Rattle.dip_store_sql.specs.Rows.{tables_of}
 use Rattle.dip_store.specs.declared.keeper.SqlKeeper.{SqlKeeper}
 
@@ -24,11 +27,22 @@ telling Memory k = k
 telling Disk k = record k { failures = k.failures + 1 }
 telling Damaged k = k
 
+-- a database that keepers alone have written, by this map
+pub record IsStore (m : Chart) (db : Database) : Type 0 where
+  pub good : IsGood db
+  pub counted : AreCounted (tables_of db.trees)
+  pub ours : AreOurs m (tables_of db.trees)
+
+-- the trees are those of such a database
+abbrev pub AreStored : Chart → Trees → Type 0
+AreStored m trees = (db : Database) × (db.trees ≡ trees) × IsStore m db
+
 -- it keeps what its connection's rows say
 abbrev pub book : {S : Type 0} → Ghosts S → Book (SqlKeeper S)
 book g = record {
   content = λ m k. said_by m (state g k.conn).now.trees;
   may_leave = λ m k s. (db : Trees) × (state g k.conn).may_leave db × (s ≡ said_by m db);
+  again = λ m k. (db : Trees) → (state g k.conn).may_leave db → AreStored m db;
   faults = λ k. k.failures;
   told = λ k. (state g k.conn).faults;
   honest = λ k. is_honest g k.conn;

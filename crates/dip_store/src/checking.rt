@@ -1,14 +1,15 @@
 //! What is looked at before a store is opened.
-ghost use Rattle.std.specs.Prelude.{◌≡◌, IfErr, OnOk};
+ghost use Rattle.std.specs.Prelude.{◌≡◌, IfErr, IfSome, IsErrOf, OnOk};
 ghost use Rattle.std.specs.List.{find};
 ghost use Rattle.sha2.specs.Sha256.{sha256};
 ghost use Rattle.sqlite.specs.Held.{state};
 ghost use Rattle.dip_map.specs.Charts.{Chart};
 ghost use Rattle.dip_store_sql.specs.Schema.{our_schema};
-ghost use Rattle.dip_store.specs.Desk.{DeskSays};
+ghost use Rattle.dip_store.specs.Desk.{DeskSays, IsMarked};
 ghost use Rattle.dip_store.specs.Known.{HasOurTables};
 ghost use Rattle.dip_store_tables.specs.Legible.{AreOurs};
 ghost use Rattle.dip_store_sql.specs.Calls.{IsKept, Selects, does_show, is_honest, tables_in};
+ghost use Rattle.dip_store_sql.specs.Causes.{has_faulted};
 ghost use Rattle.dip_store_sql.specs.TablesAfter.{is_first};
 ghost use Rattle.dip_store.specs.Refusing.{Differs, IsOutage, IsRefused};
 
@@ -28,6 +29,9 @@ fn check_tables<S: Alter>(conn: &mut Connection<S>) -> Result<(), StoreFault>
         → OnOk result (HasOurTables (state S.Store conn.old).now.schema) }
     ensures ours { is_honest S.Store conn.new → (state S.Store conn.old).now.schema ≡ our_schema
         → IfErr result IsOutage }
+    ensures caused { is_honest S.Store conn.new → does_show S.Store conn.old
+        → (state S.Store conn.old).now.schema ≡ our_schema → IsErrOf result StoreFault.Disk
+        → has_faulted S.Store conn.old conn.new }
     ensures tables_alone { IfErr result (λ f. f ≡ StoreFault.OtherMap → ⊥) }
     ensures selects { Selects S.Store conn.old conn.new result }
 {
@@ -61,6 +65,10 @@ fn check_row<S: Alter>(conn: &mut Connection<S>, map_text: &str) -> Result<(), S
         → is_honest S.Store conn.new → (m : Chart) → AreOurs m (tables_in S.Store conn.old)
         → IfErr result (IsRefused (sha256 map_text.now)
         (find is_first (tables_in S.Store conn.old).desk)) }
+    ensures caused { IsKept S.Store conn.old → does_show S.Store conn.old
+        → is_honest S.Store conn.new → (m : Chart) → AreOurs m (tables_in S.Store conn.old)
+        → IfSome (find is_first (tables_in S.Store conn.old).desk) IsMarked
+        → IsErrOf result StoreFault.Disk → has_faulted S.Store conn.old conn.new }
     ensures selects { Selects S.Store conn.old conn.new result }
 {
     match read_desk(conn) {
@@ -87,6 +95,11 @@ pub(crate) fn check_desk<S: Alter>(
         → (m : Chart) → AreOurs m (tables_in S.Store conn.old)
         → IfErr result (IsRefused (sha256 map_text.now)
         (find is_first (tables_in S.Store conn.old).desk)) }
+    ensures caused { IsKept S.Store conn.old → does_show S.Store conn.old
+        → is_honest S.Store conn.new → (state S.Store conn.old).now.schema ≡ our_schema
+        → (m : Chart) → AreOurs m (tables_in S.Store conn.old)
+        → IfSome (find is_first (tables_in S.Store conn.old).desk) IsMarked
+        → IsErrOf result StoreFault.Disk → has_faulted S.Store conn.old conn.new }
     ensures selects { Selects S.Store conn.old conn.new result }
 {
     check_tables(conn)?;

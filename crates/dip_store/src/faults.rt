@@ -10,8 +10,8 @@ use sqlite::{Error, ErrorCode};
 use std::error::Error as AnyError;
 use std::fmt;
 
-/// The keeper's fault for a failure of the database: want of memory, a fault of the disk or want of room on it; any other shows that
-/// the tables aren't a desk's.
+/// The keeper's fault for a failure of the database: want of memory, a fault of the disk or want of room on it, or that a fault of the
+/// disk has shut it before; any other shows that the tables aren't a desk's.
 fn code_fault(code: ErrorCode) -> KeepFault
     ensures { result ≡ told.code_fault code }
 {
@@ -21,7 +21,8 @@ fn code_fault(code: ErrorCode) -> KeepFault
         | ErrorCode::DatabaseCorrupt
         | ErrorCode::DiskFull
         | ErrorCode::TooBig
-        | ErrorCode::NoRowid => KeepFault::Disk,
+        | ErrorCode::NoRowid
+        | ErrorCode::Closed => KeepFault::Disk,
         _ => KeepFault::Damaged,
     }
 }

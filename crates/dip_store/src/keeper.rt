@@ -12,7 +12,7 @@ use dip_store_changes::{changes_are_made, make};
 use dip_store_looks::{look_desk, look_items, look_own, look_public, look_whole};
 use dip_store_tables::{
     has_texts, has_widths, is_writable, own_is_found, page_is_found, public_is_found,
-    tables_stay_legible,
+    tables_stay_counted, tables_stay_legible,
 };
 use sqlite::{Alter, Connection};
 use std::alloc::Global;
@@ -121,6 +121,7 @@ impl<S: Alter> Keeper for SqlKeeper<S> {
 
     fn apply(&mut self, map: &Map, change: &Change) -> Result<(), KeepFault> {
         changes_are_made();
+        tables_stay_counted();
         tables_stay_legible();
         what_fits_can_be_written();
         what_fits_finds_place();

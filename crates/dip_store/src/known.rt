@@ -6,7 +6,7 @@ ghost use Rattle.sqlite.specs.Listing.{understood};
 ghost use Rattle.sqlite.specs.State.{HasCleanDisk, IsLive};
 ghost use Rattle.dip_store_sql.specs.Creating.{no_schema};
 ghost use Rattle.dip_store_sql.specs.Schema.{our_schema};
-ghost use Rattle.dip_store_sql.specs.Faults.{IsOutside};
+ghost use Rattle.dip_store_sql.specs.Causes.{IsCaused, has_faulted};
 ghost use Rattle.dip_store_sql.specs.Calls.{Selects};
 ghost use Rattle.dip_store.specs.Alone.{LeavesAlone};
 ghost use Rattle.dip_store.specs.Known.{HasOurTables, IsKnown, IsWhole};
@@ -35,7 +35,7 @@ pub fn is_known<S: Alter>(conn: &mut Connection<S>, text: &str) -> Result<bool, 
     ensures outside { HasCleanDisk (state S.Store conn.new)
         → IsTrue (state S.Store conn.old).is_open
         → IsWhole (length text.now) (understood (state S.Store conn.old).now.schema text.now)
-        → IfErr result IsOutside }
+        → IfErr result (IsCaused (has_faulted S.Store conn.old conn.new)) }
 {
     match conn.prepare(text) {
         Ok(_statement) => Ok(true),
@@ -54,7 +54,8 @@ fn knows_each<S: Alter>(conn: &mut Connection<S>, texts: &[&str]) -> Result<bool
     ensures outside { HasCleanDisk (state S.Store conn.new)
         → IsTrue (state S.Store conn.old).is_open
         → AllByRecursion (λ t. IsWhole (length t.now)
-        (understood (state S.Store conn.old).now.schema t.now)) texts.now → IfErr result IsOutside }
+        (understood (state S.Store conn.old).now.schema t.now)) texts.now
+        → IfErr result (IsCaused (has_faulted S.Store conn.old conn.new)) }
 {
     for text in texts {
         if !is_known(conn, text)? {
@@ -79,7 +80,8 @@ pub fn knows_all<S: Alter>(conn: &mut Connection<S>) -> Result<bool, Error>
         → OnOk result (IsTrue (state S.Store conn.new).is_open) }
     ensures outside { HasCleanDisk (state S.Store conn.new)
         → IsTrue (state S.Store conn.old).is_open
-        → (state S.Store conn.old).now.schema ≡ our_schema → IfErr result IsOutside }
+        → (state S.Store conn.old).now.schema ≡ our_schema
+        → IfErr result (IsCaused (has_faulted S.Store conn.old conn.new)) }
 {
     let texts = [
         "SELECT version, map, digest, last, kept, reply FROM desk WHERE id = 1",

@@ -1,5 +1,5 @@
 //! A keeper over a store that is made, or opened.
-ghost use Rattle.std.specs.Prelude.{◌≡◌, [], IfErr, IfOk, IsTrue, None, false, length};
+ghost use Rattle.std.specs.Prelude.{◌≡◌, ◌≤◌, [], IfErr, IfOk, IsTrue, None, false, length};
 ghost use Rattle.std.specs.List.{find};
 ghost use Rattle.sha2.specs.Sha256.{sha256};
 ghost use Rattle.sqlite.specs.Held.{state};
@@ -8,10 +8,11 @@ ghost use Rattle.dip_store_sql.specs.Creating.{no_schema};
 ghost use Rattle.dip_store.specs.Desk.{DeskSays};
 ghost use Rattle.dip_store.specs.Known.{HasOurTables};
 ghost use Rattle.dip_store_sql.specs.Calls.{does_show, is_honest, tables_in};
+ghost use Rattle.dip_store_sql.specs.Causes.{has_faulted};
 ghost use Rattle.dip_store_sql.specs.TablesAfter.{is_first};
-ghost use Rattle.dip_store.specs.Opening.{IsStore, MayFound, Opens};
+ghost use Rattle.dip_store.specs.Opening.{IsDesk, MayFound, Opens, StoreEnds};
 ghost use Rattle.dip_store.specs.Refusing.{IsOutage, IsRefused};
-ghost use Rattle.dip_store.specs.Stored.{book, said_by};
+ghost use Rattle.dip_store.specs.Stored.{IsStore, book, said_by};
 ghost use Rattle.dip_store_tables.specs.Writing.{new_tables};
 
 use crate::checking::check_desk;
@@ -130,17 +131,28 @@ impl<S: Alter> SqlKeeper<S> {
         ensures own { IfErr result (λ e. is_honest S.Store e.1
             → IsStore map.now (state S.Store store).now
             → DeskSays 1 (sha256 map_text.now) (tables_in S.Store store) → IsOutage e.0) }
+        // The disk is told of only where the store told of a fault of it.
+        ensures caused { IfErr result (λ e. is_honest S.Store e.1 → IsDesk S.Store map.now store
+            → DeskSays 1 (sha256 map_text.now) (tables_in S.Store store)
+            → e.0 ≡ StoreFault.Disk → has_faulted S.Store store e.1) }
         ensures same { IfErr result (λ e. does_show S.Store e.1
             → IsStore map.now (state S.Store store).now
             → (state S.Store e.1).committed ≡ (state S.Store store).committed) }
         ensures fair { IfOk result (λ k. is_honest S.Store k.conn → is_honest S.Store store) }
         ensures fair_still { IfErr result (λ e. is_honest S.Store e.1 → is_honest S.Store store) }
+        ensures counted { IfOk result (λ k.
+            (state S.Store store).faults ≤ (state S.Store k.conn).faults) }
+        // A store that isn't opened holds what it held, or told of a fault of the disk.
+        ensures ends { IfErr result (λ e. is_honest S.Store e.1 → IsDesk S.Store map.now store
+            → StoreEnds S.Store map.now (has_faulted S.Store store e.1) e.1
+            (said_by map.now (state S.Store store).now.trees) (λ _. ⊥)) }
     {
         let mut conn = store;
         conn.set_step_limit(None);
         if !conn.is_autocommit() {
             return Err((StoreFault::Disk, conn));
         }
+        commits_last(&conn);
         match check_desk(&mut conn, map_text) {
             Ok(()) => {
                 commits_last(&conn);

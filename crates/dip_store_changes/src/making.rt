@@ -1,5 +1,7 @@
 //! A change with all that is counted before it.
-ghost use Rattle.std.specs.Prelude.{◌≡◌, IfErr, OnOk};
+ghost use Rattle.std.specs.Prelude.{◌≡◌, ◌⊎◌, IfErr, OnErr, OnOk};
+ghost use Rattle.sqlite.specs.Held.{state};
+ghost use Rattle.sqlite.specs.Tree.{Trees};
 ghost use Rattle.dip_desk_state.specs.ChangeRows as machine;
 ghost use Rattle.dip_store_tables.specs.Changing.{changing};
 ghost use Rattle.dip_store_tables.specs.ChangeColumns.{IsWritable};
@@ -36,6 +38,12 @@ pub fn make<S: Alter>(
         → OnOk result (IsKept S.Store conn.new) }
     ensures place { IsKept S.Store conn.old → does_show S.Store conn.new → OnOk result
         (HasPlace map.now (machine.change change.now) (tables_in S.Store conn.old)) }
+    // What a crash may leave of a change that isn't made, but what it might have left before, has
+    // place.
+    ensures landed { IsKept S.Store conn.old → is_honest S.Store conn.new
+        → OnErr result ((db : Trees) → (state S.Store conn.new).may_leave db
+        → (state S.Store conn.old).may_leave db
+        ⊎ HasPlace map.now (machine.change change.now) (tables_in S.Store conn.old)) }
     ensures fails { IsKept S.Store conn.old → does_show S.Store conn.old
         → is_honest S.Store conn.new
         → MayMake map.now (machine.change change.now) (tables_in S.Store conn.old)

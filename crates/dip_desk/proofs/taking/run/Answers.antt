@@ -2,7 +2,6 @@ use Rattle.std.proofs.Common.{◌≡◌, ℕ, refl, [], ◌∷◌, ◌++◌, map
 use Rattle.std.proofs.lemmas.List.{take_all, take-map}
 use Rattle.dip_desk_state.specs.Faults.{faults_with}
 use Rattle.dip_desk_machine.specs.Lawful.{IsLawful}
-use Rattle.dip_desk_machine.specs.Machine.{IsDamagedBy}
 use Rattle.dip_desk_machine.specs.Mail.{IsMail, mail}
 use Rattle.dip_desk.specs.Running.{Answers}
 use Rattle.dip_desk_state.specs.State.{State}
@@ -10,7 +9,7 @@ use Rattle.dip_desk_state.specs.declared.faults.KeepFault.{KeepFault}
 use Rattle.dip_desk_state.specs.Rows as rows
 use Rattle.dip_desk.proofs.Keepings.{keeps_as, keeps_then}
 use Rattle.dip_desk.proofs.Ending.{ends_late, ends_open, said_at, steps_end, steps_on}
-use Rattle.dip_desk_machine.proofs.Histories.{contains_said, history_more, map_more, said_each, taken_more}
+use Rattle.dip_desk_machine.proofs.Histories.{history_more, map_more, said_each, taken_more}
 use Rattle.dip_desk_machine.proofs.Publishing.{fair}
 use Rattle.dip_desk.proofs.taking.run.Goals as goal
 
@@ -47,8 +46,8 @@ returns-in-Err g c =
     record {
       done = λ sound shows. tt;
       undone = λ sound shows. (0, ([], record { run = refl; asked = refl; answered = sym none }, fair m (c.published_movements_are_decided.ensures m) (b.content m c.args.keeper.now) (b.content m c.args.keeper.now) [] refl));
-      damaged = λ sound shows bad. absurd (cc);
-      never = λ sound shows lawful bad. absurd (cc);
+      damaged = λ sound honest shows bad. absurd (cc);
+      never = λ sound honest shows lawful bad. absurd (cc);
       lawful = λ sound shows lawful. lawful;
       count = refl;
       stays_open = λ it honest. tt;
@@ -76,16 +75,25 @@ returns-in-Err-take g c =
               fair m (c.published_movements_are_decided.ensures m) (b.content m c.args.keeper.now) (b.content m c.loop-letter.keeper) steps.0 steps.1.run,
             ),
           );
-      damaged = λ sound shows bad.
-          let before = took.keeps.shown shows in
-          let there = kept.sound sound before in (
+      damaged = λ sound honest shows bad.
+          let fair_mid = took.keeps.fair honest in
+          let open_mid = kept.stays_open sound fair_mid shows in
+          let steps = c.loop-letter.invariant.steps sound open_mid in (
+            c.loop-letter.letter-index,
+            b.content m c.loop-letter.keeper,
+            (
+              steps.0,
+              record { run = steps.1.run; asked = steps.1.asked ∙ sym (take-map (λ l. mail l) c.loop-letter.letter-index c.args.letters.now); answered = steps.1.answered },
+              fair m (c.published_movements_are_decided.ensures m) (b.content m c.args.keeper.now) (b.content m c.loop-letter.keeper) steps.0 steps.1.run,
+            ),
             n,
-            contains_said (λ l. mail l) c.args.letters.now c.loop-letter.letter-index _ (omega arith),
-            subst (IsDamagedBy m n) (sym (took.undone there shows)) (took.damaged there shows (ap (λ (e : KeepFault). Err e) bad)),
+            said_at (λ l. mail l) c.args.letters.now c.loop-letter.letter-index _ (omega arith),
+            took.damaged (kept.firm sound fair_mid) honest open_mid (ap (λ (e : KeepFault). Err e) bad),
           );
-      never = λ sound shows lawful bad.
-          let before = took.keeps.shown shows in
-          c.lawful_states_stay_lawful.ensures.sane _ n _ (said_each IsMail (λ l. mail l) c.args.letters.now c.loop-letter.letter-index _ (omega arith) c.requires.letters) (c.loop-letter.invariant.lawful sound before lawful) (took.damaged (kept.sound sound before) shows (ap (λ (e : KeepFault). Err e) bad));
+      never = λ sound honest shows lawful bad.
+          let fair_mid = took.keeps.fair honest in
+          let open_mid = kept.stays_open sound fair_mid shows in
+          c.lawful_states_stay_lawful.ensures.sane _ n _ (said_each IsMail (λ l. mail l) c.args.letters.now c.loop-letter.letter-index _ (omega arith) c.requires.letters) (c.loop-letter.invariant.lawful sound open_mid lawful) (took.damaged (kept.firm sound fair_mid) honest open_mid (ap (λ (e : KeepFault). Err e) bad));
       lawful = λ sound shows lawful.
           let before = took.keeps.shown shows in
           subst (IsLawful m) (sym (took.undone (kept.sound sound before) shows)) (c.loop-letter.invariant.lawful sound before lawful);
@@ -117,8 +125,8 @@ returns g c =
           let steps = c.loop-letter.invariant.steps sound shows in
           (steps.0, record { run = steps.1.run; asked = steps.1.asked ∙ ap (λ ls. map (λ l. mail l) ls) whole; answered = steps.1.answered }, fair m (c.published_movements_are_decided.ensures m) (b.content m c.args.keeper.now) (b.content m c.loop-letter.keeper) steps.0 steps.1.run);
       undone = λ sound shows. tt;
-      damaged = λ sound shows. tt;
-      never = λ sound shows lawful. tt;
+      damaged = λ sound honest shows. tt;
+      never = λ sound honest shows lawful. tt;
       lawful = λ sound shows lawful. c.loop-letter.invariant.lawful sound shows lawful;
       count = c.loop-letter.invariant.keeps.count;
       stays_open = λ it honest. c.loop-letter.invariant.goes it honest;

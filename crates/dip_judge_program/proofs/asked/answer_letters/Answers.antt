@@ -8,4 +8,4 @@ returns-clause-done g c =
 pub returns-clause-cut : goal.returns-clause-cut
 returns-clause-cut g c =
     cut_short _ _ _ _ _ _ _ _ (rw (← c.digest.ensures) c.new-keeper.ensures.empty) _ _ _
-    c.run_file.ensures.count (c.run_file.ensures.never tt tt (c.new-keeper.ensures.lawful _)) (c.run_file.ensures.stops tt tt)
+    c.run_file.ensures.count (c.run_file.ensures.never (record { sound = tt; shows = tt; alone = λ s is. is; again = tt }) tt (c.new-keeper.ensures.lawful _)) (c.run_file.ensures.stops tt tt)

@@ -1,6 +1,7 @@
-use Rattle.std.proofs.Common.{◌≡◌, ◌+◌, ℕ, subst, arith}
+use Rattle.std.proofs.Common.{◌≡◌, ◌+◌, ◌⊎◌, ℕ, subst, arith}
 use Rattle.std.proofs.lemmas.Result.{err_from_is_err_and}
-use Rattle.dip_judge_program.proofs.ServingLemmas.{meets_more, serves}
+use Rattle.dip_judge_program.proofs.ServingLemmas.{meets_more, meets_next, serves, serves_all, serves_to}
+use Rattle.dip_desk.specs.Keeping.{IsOpen, Rises}
 use Rattle.dip_judge_program.specs.Serving.{Serves}
 use Rattle.dip_judge_program.proofs.serving.serve_all.Goals as goal
 
@@ -25,3 +26,24 @@ returns-in_err-serve_next-clause-ended g c = λ sound shows.
       omega (arith, c.clients-test.true),
       serves m (c.connections_are_turns.ensures m) (c.published_movements_are_decided.ensures m) (c.clients.served + 1) _ _ all,
     )
+
+pub returns-clause-goes : goal.returns-clause-goes
+returns-clause-goes g c = λ it honest.
+    let m = c.args.map.now in
+    let b = g.K.Keeper.book in
+    let is : c.clients.served ≡ c.args.count = omega (arith, c.clients-test.false, c.clients.invariant.most) in
+    subst (λ (n : ℕ). (IsOpen m b c.clients.keeper × Serves m n (b.content m c.args.keeper.now) (b.content m c.clients.keeper)) ⊎ Rises (b.told c.args.keeper.now) (b.told c.clients.keeper)) is
+    (serves_all m b (c.connections_are_turns.ensures m) (c.published_movements_are_decided.ensures m) c.clients.served _ _ (c.clients.invariant.ends it honest))
+
+pub returns-clause-ends : goal.returns-clause-ends
+returns-clause-ends g c = λ it honest.
+    let m = c.args.map.now in
+    serves_to m g.K.Keeper.book (c.connections_are_turns.ensures m) (c.published_movements_are_decided.ensures m) c.clients.served c.args.count _ _ c.clients.invariant.most (c.clients.invariant.ends it honest)
+
+pub returns-in_err-serve_next-clause-ends : goal.returns-in_err-serve_next-clause-ends
+returns-in_err-serve_next-clause-ends g c = λ it honest.
+    let m = c.args.map.now in
+    let b = g.K.Keeper.book in
+    let so = c.clients.invariant.ends it (c.serve_next.ensures.fair honest) in
+    serves_to m b (c.connections_are_turns.ensures m) (c.published_movements_are_decided.ensures m) (c.clients.served + 1) c.args.count _ _ (omega (arith, c.clients-test.true))
+    (meets_next m b c.clients.served c.args.keeper.now c.clients.keeper c.serve_next.new.keeper so c.clients.invariant.told c.serve_next.ensures.told (λ mid. c.serve_next.ensures.ends mid honest))

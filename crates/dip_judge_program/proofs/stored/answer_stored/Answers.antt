@@ -1,20 +1,18 @@
-use Rattle.dip_store.specs.Stored.{book}
-use Rattle.dip_judge_program.proofs.StoredLemmas.{answers_from, stops_from}
+use Rattle.dip_judge_program.proofs.StoredLemmas.{answers_from, is_open, stops_from}
 use Rattle.dip_judge_program.proofs.stored.answer_stored.Goals as goal
 
 pub returns-in-Ok-run_file-clause-done : goal.returns-in-Ok-run_file-clause-done
 returns-in-Ok-run_file-clause-done g c =
     rw c.into_store.ensures
-    (λ shows own.
-    let before = c.run_file.ensures.shown shows in
-    let opened = c.in-Ok.ensures.opened before.0 own in
-    answers_from c.args.map.now _ _ _ _ _ _ _ opened.says (c.in-Ok-run_file.ensures.answers opened.sound shows))
+    (λ clean own.
+    let opened = c.in-Ok.ensures.opened (c.run_file.ensures.fair clean) own in
+    let goes = c.in-Ok-run_file.ensures.goes (is_open g.S.Store c.args.map.now _ c.in-Ok.keeper opened) clean in
+    answers_from g.S.Store c.args.map.now _ c.in-Ok.keeper c.run_file.new.keeper _ _ _ _ opened (c.in-Ok-run_file.ensures.answers opened.sound goes.shows) goes)
 
 pub returns-in-Err-run_file-clause-stops : goal.returns-in-Err-run_file-clause-stops
 returns-in-Err-run_file-clause-stops g c =
     rw c.into_store-in-Err-run_file.ensures
-    (λ shows own.
-    let before = c.run_file.ensures.shown shows in
-    let opened = c.in-Ok.ensures.opened before.0 own in
-    stops_from ((book g.S.Store).content c.args.map.now) c.args.map.now _ _ _ _ _ _ _ opened.says c.in-Err-run_file.fault
-    (c.in-Err-run_file.ensures.stops opened.sound shows))
+    (λ clean desk.
+    let opened = c.in-Ok.ensures.opened (c.run_file.ensures.fair clean) desk.wrote in
+    stops_from g.S.Store c.args.map.now _ c.in-Ok.keeper c.run_file.new.keeper _ _ _ _ opened c.args.store c.in-Ok.ensures.counted c.in-Err-run_file.fault
+    (c.in-Err-run_file.ensures.ends (is_open g.S.Store c.args.map.now _ c.in-Ok.keeper opened) clean))

@@ -9,6 +9,7 @@ pub letters-preserved : goal.letters-preserved
 letters-preserved g c = record {
   count = c.in_ok-step.ensures.count ∙ c.letters.invariant.count;
   shown = λ shows. c.letters.invariant.shown (c.step.ensures.shown shows);
+  fair = λ honest. c.letters.invariant.fair (c.step.ensures.fair honest);
   sound = λ sound shows. c.step.ensures.sound (c.letters.invariant.sound sound (c.step.ensures.shown shows)) shows;
   goes = λ it honest. c.in_ok-step.ensures.goes (c.letters.invariant.goes it (c.step.ensures.fair honest)) honest;
   told = omega (arith, c.letters.invariant.told, c.step.ensures.told);
@@ -45,6 +46,7 @@ pub letters-init : goal.letters-init
 letters-init g c = record {
   count = refl;
   shown = λ shows. shows;
+  fair = λ honest. honest;
   sound = λ sound shows. sound;
   goes = λ it honest. it;
   told = omega arith;

@@ -12,6 +12,7 @@ abbrev pub invariant-letters : goal.invariant-letters
 invariant-letters g l = let b = g.K.Keeper.book in record {
   count : b.faults l.keeper ≡ b.faults l.fn.keeper;
   shown : b.shows l.keeper → b.shows l.fn.keeper;
+  fair : b.honest l.keeper → b.honest l.fn.keeper;
   sound : b.sound l.fn.map l.fn.keeper → b.shows l.keeper → b.sound l.fn.map l.keeper;
   goes : IsOpen l.fn.map b l.fn.keeper → b.honest l.keeper → IsOpen l.fn.map b l.keeper;
   told : b.told l.fn.keeper ≤ b.told l.keeper;

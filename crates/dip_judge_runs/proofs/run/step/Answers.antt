@@ -11,9 +11,10 @@ pub returns-in-Ok-take-clause-lawful : goal.returns-in-Ok-take-clause-lawful
 returns-in-Ok-take-clause-lawful g c sound shows lawful = c.lawful_states_stay_lawful.ensures.stays _ (mail c.in-Taken.letter) _ _ c.in-Taken.ensures.next.0.fits lawful (c.in-Ok-take.ensures.done sound shows)
 
 pub returns-in-Err-take-clause-never : goal.returns-in-Err-take-clause-never
-returns-in-Err-take-clause-never g c sound shows lawful damaged =
+returns-in-Err-take-clause-never g c it honest lawful damaged =
     let same : c.in-Err-take.fault ≡ Damaged = cc in
-    c.lawful_states_stay_lawful.ensures.sane _ (mail c.in-Taken.letter) _ c.in-Taken.ensures.next.0.fits lawful (c.in-Err-take.ensures.damaged sound shows (ap (λ (e : KeepFault). Err e) same))
+    c.lawful_states_stay_lawful.ensures.sane _ (mail c.in-Taken.letter) _ c.in-Taken.ensures.next.0.fits lawful
+    (c.in-Err-take.ensures.damaged it.sound honest it.shows (ap (λ (e : KeepFault). Err e) same))
 
 pub returns-in-Ok-take-clause-goes : goal.returns-in-Ok-take-clause-goes
 returns-in-Ok-take-clause-goes g c it honest =

@@ -2,7 +2,7 @@ use Rattle.std.proofs.Common.{Bool, false, sym, subst}
 use Rattle.sqlite.specs.Held.{state}
 use Rattle.dip_store_sql.specs.Faults.{IsOfText}
 use Rattle.dip_store_sql.proofs.Missing.{missing}
-use Rattle.dip_store.proofs.Prepared.{alone_err, alone_ok, told_outside}
+use Rattle.dip_store.proofs.Prepared.{alone_err, alone_ok, told_caused}
 use Rattle.dip_store.proofs.known.is_known.Goals as goal
 
 pub returns-in-Err-SqlInputError-clause-answer : goal.returns-in-Err-SqlInputError-clause-answer
@@ -27,5 +27,5 @@ returns-in-Err g c = record {
   answer = λ clean. tt;
   shown = λ clean. tt;
   alone = alone_err g.S.Store c.args.conn.now c.prepare.new.self c.prepare.ensures.survives c.prepare.ensures.mode Bool c.args.text.now c.in-Err.error c.in-Err.ensures.err;
-  outside = λ clean. told_outside c.args.text.now (state g.S.Store c.args.conn.now) (state g.S.Store c.prepare.new.self) c.in-Err.error (c.in-Err.ensures.err clean);
+  outside = λ clean. told_caused c.args.text.now (state g.S.Store c.args.conn.now) (state g.S.Store c.prepare.new.self) c.in-Err.error (c.in-Err.ensures.err clean);
 }

@@ -1,4 +1,4 @@
-use Rattle.std.proofs.Common.{Ok, Err, List, sym, subst}
+use Rattle.std.proofs.Common.{Ok, Err, List, inl, inr, sym, subst}
 use Rattle.sqlite.specs.Held.{state}
 use Rattle.sqlite.specs.declared.error.Error.{Error}
 use Rattle.dip_desk_state.specs.ChangeRows as machine
@@ -62,6 +62,9 @@ returns-clause-makes g c =
 
 pub returns-in-Ok-clause-place : goal.returns-in-Ok-clause-place
 returns-in-Ok-clause-place g c kept up = c.in_ok-counted.ensures.place kept (c.in-Ok.ensures.makes.fair up.0)
+
+pub returns-clause-landed : goal.returns-clause-landed
+returns-clause-landed g c kept clean = λ db may. inr (c.in_ok-counted.ensures.place kept (c.in-Err.ensures.makes.fair clean))
 
 pub returns-clause-fails : goal.returns-clause-fails
 returns-clause-fails g c kept shows clean may =

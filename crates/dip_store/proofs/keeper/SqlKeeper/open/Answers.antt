@@ -1,19 +1,22 @@
-use Rattle.std.proofs.Common.{subst}
+use Rattle.std.proofs.Common.{Err, IfSome, ap, subst, sym}
 use Rattle.std.specs.List.{find}
 use Rattle.sha2.specs.Sha256.{sha256}
-use Rattle.dip_store.specs.Desk.{DeskSays}
-use Rattle.dip_store_sql.specs.Calls.{tables_in}
+use Rattle.sqlite.specs.Held.{Held}
+use Rattle.dip_store.specs.Desk.{DeskSays, IsMarked}
+use Rattle.dip_store_sql.specs.Calls.{does_show, tables_in}
+use Rattle.dip_store_sql.specs.Causes.{has_faulted}
 use Rattle.dip_store_sql.specs.TablesAfter.{is_first}
 use Rattle.dip_store_tables.specs.Tables.{Tables}
 use Rattle.dip_store.specs.Refusing.{IsRefused}
-use Rattle.dip_store.proofs.Opened.{kept_from, known_there, opens_old, there}
-use Rattle.dip_store.proofs.Refused.{own_outage}
+use Rattle.dip_store.proofs.Opened.{ends_refused, kept_from, known_there, opens_old, there}
+use Rattle.dip_store.proofs.Refused.{marked_by, own_outage}
+use Rattle.dip_store.specs.declared.faults.StoreFault.{StoreFault}
 use Rattle.dip_store.proofs.keeper.SqlKeeper.open.Goals as goal
 
 pub returns-in-Ok-clause-opened : goal.returns-in-Ok-clause-opened
 returns-in-Ok-clause-opened g c =
     rw c.over.ensures
-    (λ clean own. opens_old g.S.Store c.args.map.now c.args.alloc c.check_desk.new.conn c.commits_last.ensures c.args.store own _ _ c.in-Ok.field-0 c.set_step_limit.new.self c.set_step_limit.ensures
+    (λ clean own. opens_old g.S.Store c.args.map.now c.args.alloc c.check_desk.new.conn c.commits_last-in-Ok.ensures c.args.store own _ _ c.in-Ok.field-0 c.set_step_limit.new.self c.set_step_limit.ensures
     c.is_autocommit.result (c.is_autocommit.ensures.value, c.is_autocommit.ensures.settled, c.if-not-is_autocommit.false, c.in-Ok.ensures.shown clean) c.in-Ok.ensures.selects clean)
 
 pub returns-in-Ok-clause-says : goal.returns-in-Ok-clause-says
@@ -42,3 +45,20 @@ returns-in-Err-clause-own g c clean own says =
     clean it.1 c.args.map.now it.2 in
     own_outage text (tables_in g.S.Store c.args.store) c.in-Err.fault says
     (subst (λ (t : Tables). IsRefused (sha256 text) (find is_first t.desk) c.in-Err.fault) it.0 refused)
+
+pub returns-in-Err-clause-ends : goal.returns-in-Err-clause-ends
+returns-in-Err-clause-ends g c clean desk =
+    ends_refused g.S.Store c.args.map.now c.args.store desk c.check_desk.new.conn _ _ c.in-Err.fault c.set_step_limit.new.self c.set_step_limit.ensures
+    c.is_autocommit.result (c.is_autocommit.ensures.value, c.is_autocommit.ensures.settled, c.if-not-is_autocommit.false, rw c.set_step_limit.ensures desk.shows) c.commits_last.ensures c.in-Err.ensures.selects clean
+
+pub returns-in-Err-clause-caused : goal.returns-in-Err-clause-caused
+returns-in-Err-clause-caused g c clean desk says is =
+    let m = c.args.map.now in
+    let h = c.set_step_limit.new.self in
+    let it = there g.S.Store m c.args.store desk.wrote h c.set_step_limit.ensures in
+    let shows : does_show g.S.Store h = rw c.set_step_limit.ensures desk.shows in
+    let kept = kept_from g.S.Store m c.args.store desk.wrote h c.set_step_limit.ensures
+    c.is_autocommit.result (c.is_autocommit.ensures.value, c.is_autocommit.ensures.settled, c.if-not-is_autocommit.false, shows) in
+    let marked = subst (λ (t : Tables). IfSome (find is_first t.desk) IsMarked) (sym it.0) (marked_by c.args.map_text.now (tables_in g.S.Store c.args.store) says) in
+    subst (λ (h : Held _). has_faulted g.S.Store h c.check_desk.new.conn) c.set_step_limit.ensures
+    (c.in-Err.ensures.caused kept.0 shows clean it.1 m it.2 marked (ap (λ (f : StoreFault). Err f) is))

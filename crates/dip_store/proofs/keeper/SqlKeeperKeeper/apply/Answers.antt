@@ -18,7 +18,8 @@ returns-in-Err g c =
     let it = machine.change c.args.change.now in
     let fits : IsWritable m it = c.is_writable.ensures.0 c.if-not-is_writable.false in
     rw (c.told-in-Err.ensures.same, c.told-in-Err.ensures.told, c.make_fault.ensures)
-    (changes_ill g.S.Store m c.args.self.now it c.make.new.conn (c.changes_are_made.ensures m c.facts.ensures) fits c.has_widths.ensures _ _ c.in-Err.fault g.met.S.Store.settled (c.what_fits_finds_place.ensures m)
+    (changes_ill g.S.Store m c.args.self.now it c.make.new.conn (c.changes_are_made.ensures m c.facts.ensures) fits c.has_widths.ensures _ _ c.in-Err.fault c.has_texts.ensures (c.tables_stay_legible.ensures m) (c.tables_stay_counted.ensures m)
+    c.in-Err.ensures.landed g.met.S.Store.settled (c.what_fits_finds_place.ensures m)
     c.in-Err.ensures.makes c.in-Err.ensures.fails)
 
 pub returns-then-not-is_writable : goal.returns-then-not-is_writable

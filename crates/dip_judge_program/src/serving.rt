@@ -32,7 +32,8 @@ fn serve_next<C: Clock, K: Keeper>(
     ensures lawful { K.book.sound map.now keeper.old → K.book.shows keeper.new
         → IsLawful map.now (K.book.content map.now keeper.old)
         → IsLawful map.now (K.book.content map.now keeper.new) }
-    ensures never { K.book.sound map.now keeper.old → K.book.shows keeper.new
+    ensures never { K.book.sound map.now keeper.old → K.book.honest keeper.new
+        → K.book.shows keeper.old
         → IsLawful map.now (K.book.content map.now keeper.old)
         → IsErrOf result KeepFault.Damaged → ⊥ }
     // From an open keeper on, over an honest disk.
@@ -92,7 +93,8 @@ pub fn serve_all<C: Clock, K: Keeper>(
         → ServesTo map.now K.book count keeper.old keeper.new }
     ensures fair { K.book.honest keeper.new → K.book.honest keeper.old }
     // From a lawful content on, as an empty desk is, Damaged is never told.
-    ensures never { K.book.sound map.now keeper.old → K.book.shows keeper.new
+    ensures never { K.book.sound map.now keeper.old → K.book.honest keeper.new
+        → K.book.shows keeper.new
         → IsLawful map.now (K.book.content map.now keeper.old)
         → IsErrOf result KeepFault.Damaged → ⊥ }
     ensures shut { IfErr result IsShut }

@@ -1,8 +1,8 @@
 //! Letters and order lines read, and printed.
-use dip_letters::{
-    Command, LetterFault, MasterCommand, Next, PlayerCommand, digest, is_secret, next_letter,
-    print_letter, sum,
+use crate::tests::press::{
+    ANNOUNCE, CLOSE, GREY, INBOX, PAUSE, PERIOD, REPLACE, RESUME, VOTE, VOTE_NO, WHITE, WITHDRAW,
 };
+use dip_letters::{LetterFault, Next, digest, is_secret, next_letter, print_letter, sum};
 use std::alloc::{AllocError, Global};
 use std::process::Abort;
 use std::test::Fail;
@@ -23,6 +23,12 @@ const SHOW: &str = "LETTER\nGAME g1\nFROM england\nSECRET eeeeeeee\nNUMBER 2\nSH
 /// The master's time.
 const TICK: &str = "LETTER\nGAME g1\nFROM master\nSECRET mmmmmmmm\nNUMBER 2\nTICK 100\nEND\n";
 
+/// Letters with each command.
+const LETTERS: &[&str] = &[
+    CREATE, ORDERS, SHOW, TICK, WHITE, GREY, WITHDRAW, VOTE, VOTE_NO, INBOX, REPLACE, PAUSE,
+    RESUME, PERIOD, ANNOUNCE, CLOSE,
+];
+
 const SEATS: &str = "SEAT england eeeeeeee\nSEAT france ffff~ff!f\n";
 
 /// What comes next, in a word, and how many bytes follow.
@@ -35,83 +41,20 @@ fn verdict(bytes: &[u8]) -> (&'static str, usize) {
     }
 }
 
-#[test]
-fn reads_create(rt: HostRuntime) -> Result<(), Fail> {
-    let Next::Taken(letter, rest) = next_letter(CREATE.as_bytes()) else {
-        return Err(Fail::from("no letter"));
+/// A letter is printed as it was read.
+fn check_printed(rt: &impl Abort, alloc: Global, text: &str) -> Result<(), AllocError> {
+    let Next::Taken(letter, _) = next_letter(text.as_bytes()) else {
+        panic!(rt; "no letter");
     };
-    assert!(rt; rest.is_empty() && letter.number == 7);
-    assert_eq!(rt; letter.game, "g1");
-    assert_eq!(rt; letter.sender, "master");
-    assert_eq!(rt; letter.secret, "mmmmmmmm");
-    assert_eq!(rt; letter.bytes, CREATE.as_bytes());
-    let Command::Master(MasterCommand::Create(opening)) = letter.command else {
-        return Err(Fail::from("no CREATE"));
-    };
-    assert!(rt; opening.due == 5 && opening.period == 10 && opening.grey);
-    let mut seats = opening.seats;
-    let Some(first) = seats.next() else {
-        return Err(Fail::from("no seat"));
-    };
-    assert!(rt; first.power == "england" && first.secret == "eeeeeeee");
-    let Some(second) = seats.next() else {
-        return Err(Fail::from("one seat"));
-    };
-    assert!(rt; second.power == "france" && second.secret == "ffff~ff!f");
-    assert!(rt; seats.next().is_none());
-    Ok(())
-}
-
-#[test]
-fn reads_orders(rt: HostRuntime) -> Result<(), Fail> {
-    let Next::Taken(letter, _) = next_letter(ORDERS.as_bytes()) else {
-        return Err(Fail::from("no letter"));
-    };
-    assert!(rt; letter.number == 1 && letter.sender == "england");
-    let Command::Player(PlayerCommand::Orders(lines)) = letter.command else {
-        return Err(Fail::from("no ORDERS"));
-    };
-    let mut text = String::new(rt.alloc());
-    for line in lines {
-        text.push_str(line)?;
-        text.push_str("|")?;
-    }
-    assert_eq!(rt; text.as_str(), "F lon - nth|A lvp H|");
-    Ok(())
-}
-
-#[test]
-fn reads_show(rt: HostRuntime) -> Result<(), Fail> {
-    let Next::Taken(letter, _) = next_letter(SHOW.as_bytes()) else {
-        return Err(Fail::from("no letter"));
-    };
-    let Command::Player(PlayerCommand::Show) = letter.command else {
-        return Err(Fail::from("no SHOW"));
-    };
-    assert!(rt; letter.number == 2 && letter.secret == "eeeeeeee");
-    Ok(())
-}
-
-#[test]
-fn reads_tick(rt: HostRuntime) -> Result<(), Fail> {
-    let Next::Taken(letter, _) = next_letter(TICK.as_bytes()) else {
-        return Err(Fail::from("no letter"));
-    };
-    let Command::Master(MasterCommand::Tick(tick)) = letter.command else {
-        return Err(Fail::from("no TICK"));
-    };
-    assert!(rt; tick == 100 && letter.sender == "master" && letter.number == 2);
+    let printed = print_letter(alloc, &letter)?;
+    assert!(rt; printed.as_slice() == text.as_bytes());
     Ok(())
 }
 
 #[test]
 fn prints_what_it_read(rt: HostRuntime) -> Result<(), Fail> {
-    for text in [CREATE, ORDERS, SHOW, TICK] {
-        let Next::Taken(letter, _) = next_letter(text.as_bytes()) else {
-            return Err(Fail::from("no letter"));
-        };
-        let printed = print_letter(rt.alloc(), &letter)?;
-        assert_eq!(rt; printed.as_slice(), text.as_bytes());
+    for text in LETTERS {
+        check_printed(&rt, rt.alloc(), text)?;
     }
     Ok(())
 }
@@ -308,38 +251,24 @@ fn counts_the_bytes_of_a_secret(rt: HostRuntime) -> Result<(), Fail> {
     Ok(())
 }
 
-#[test]
-fn reads_greatest_numbers(rt: HostRuntime) -> Result<(), Fail> {
-    let text = CREATE.replace(rt.alloc(), "NUMBER 7", "NUMBER 999999999")?;
-    let text = text.as_str().replace(
-        rt.alloc(),
-        "DUE 5 PERIOD 10 GREY YES",
-        "DUE 999999999999 PERIOD 999999 GREY NO",
-    )?;
-    let Next::Taken(letter, _) = next_letter(text.as_str().as_bytes()) else {
-        return Err(Fail::from("no letter"));
-    };
-    let Command::Master(MasterCommand::Create(opening)) = letter.command else {
-        return Err(Fail::from("no CREATE"));
-    };
-    assert!(rt; letter.number == 999999999);
-    assert!(rt; opening.due == 999999999999 && opening.period == 999999 && !opening.grey);
-    Ok(())
+/// What stands behind this letter, which an input begins with.
+fn behind<'a>(rt: &impl Abort, bytes: &'a [u8], wanted: &str) -> &'a [u8] {
+    match next_letter(bytes) {
+        Next::Taken(letter, rest) if letter.bytes == wanted.as_bytes() => rest,
+        _ => panic!(rt; "another letter"),
+    }
+}
+
+fn check_two(rt: &impl Abort, bytes: &[u8]) {
+    let rest = behind(rt, bytes, SHOW);
+    let rest = behind(rt, rest, ORDERS);
+    assert!(rt; rest == b"and more".as_slice());
 }
 
 #[test]
 fn goes_on_behind_what_it_read(rt: HostRuntime) -> Result<(), Fail> {
-    let alloc = rt.alloc();
-    let two = ["\n\n", SHOW, "\n\n\n", ORDERS, "and more"].concat(alloc)?;
-    let Next::Taken(first, rest) = next_letter(two.as_str().as_bytes()) else {
-        return Err(Fail::from("no first letter"));
-    };
-    assert_eq!(rt; first.bytes, SHOW.as_bytes());
-    let Next::Taken(second, rest) = next_letter(rest) else {
-        return Err(Fail::from("no second letter"));
-    };
-    assert_eq!(rt; second.bytes, ORDERS.as_bytes());
-    assert_eq!(rt; rest, b"and more".as_slice());
+    let two = ["\n\n", SHOW, "\n\n\n", ORDERS, "and more"].concat(rt.alloc())?;
+    check_two(&rt, two.as_str().as_bytes());
     Ok(())
 }
 
@@ -397,17 +326,6 @@ fn knows_long_letters(rt: HostRuntime) -> Result<(), Fail> {
         text.push_str(long.as_str())?;
         check_verdict(&rt, text.as_str(), want, 0);
     }
-    Ok(())
-}
-
-#[test]
-fn goes_on_behind_a_long_letter(rt: HostRuntime) -> Result<(), Fail> {
-    let mut text = long_text(rt.alloc(), 16380, "\nEND\n")?;
-    text.push_str(SHOW)?;
-    let Next::Fault(LetterFault::TooLong, rest) = next_letter(text.as_str().as_bytes()) else {
-        return Err(Fail::from("no L5"));
-    };
-    assert!(rt; verdict(rest).0 == "letter");
     Ok(())
 }
 

@@ -1,6 +1,7 @@
 //! The standard map and its opening.
 use dip_map::{Board, Map, STANDARD, Season};
 use dip_names::{Kind, Place, Power, Prov, Terrain};
+use std::alloc::{AllocError, Global};
 use std::process::Abort;
 use std::test::Fail;
 
@@ -31,26 +32,12 @@ fn check_coasts(rt: &impl Abort, map: &Map) {
     }
 }
 
-#[test]
-fn coasts_are_found_as_they_are_spelled(rt: HostRuntime) -> Result<(), Fail> {
-    let map = Map::from_toml(rt.alloc(), STANDARD)?;
-    check_coasts(&rt, &map);
-    Ok(())
-}
-
 fn check_names(rt: &impl Abort, map: &Map) {
     for code in ["xyz", "STP", "st"] {
         assert!(rt; map.prov(code.as_bytes()).is_none());
     }
     assert!(rt; map.power("france") == Some(Power::new(2)) && map.power("spain").is_none());
     assert!(rt; map.power_name(Power::new(2)) == "france");
-}
-
-#[test]
-fn names_are_found_as_they_are_spelled(rt: HostRuntime) -> Result<(), Fail> {
-    let map = Map::from_toml(rt.alloc(), STANDARD)?;
-    check_names(&rt, &map);
-    Ok(())
 }
 
 /// A unit, its province and coast, a power, and how far it is to that one's homes.
@@ -69,9 +56,12 @@ fn check_distances(rt: &impl Abort, map: &Map) {
     }
 }
 
+/// Names are found as they are spelled, and a distance is to the nearest home centre.
 #[test]
-fn a_distance_is_to_the_nearest_home_centre(rt: HostRuntime) -> Result<(), Fail> {
+fn names_and_distances_are_found(rt: HostRuntime) -> Result<(), Fail> {
     let map = Map::from_toml(rt.alloc(), STANDARD)?;
+    check_coasts(&rt, &map);
+    check_names(&rt, &map);
     check_distances(&rt, &map);
     Ok(())
 }
@@ -93,26 +83,9 @@ fn check_opening(rt: &impl Abort, map: &Map, board: &Board) {
     assert!(rt; phase.year == 1901 && phase.season == Season::SpringMoves);
 }
 
-#[test]
-fn the_opening_is_a_board_of_its_map(rt: HostRuntime) -> Result<(), Fail> {
-    let alloc = rt.alloc();
-    let map = Map::from_toml(alloc, STANDARD)?;
-    let board = Board::opening(alloc, &map)?;
-    check_opening(&rt, &map, &board);
-    Ok(())
-}
-
-fn check_copy(rt: &impl Abort, board: &Board, copy: &Board) {
-    assert!(rt; copy.units() == board.units());
-    assert!(rt; copy.owners() == board.owners());
-}
-
-#[test]
-fn a_copy_equals_its_board(rt: HostRuntime) -> Result<(), Fail> {
-    let alloc = rt.alloc();
-    let map = Map::from_toml(alloc, STANDARD)?;
-    let board = Board::opening(alloc, &map)?;
-    check_copy(&rt, &board, &board.copy(alloc)?);
+fn check_copy(rt: &impl Abort, alloc: Global, board: &Board) -> Result<(), AllocError> {
+    let copy = board.copy(alloc)?;
+    assert!(rt; copy.units() == board.units() && copy.owners() == board.owners());
     Ok(())
 }
 
@@ -122,11 +95,14 @@ fn check_homes(rt: &impl Abort, map: &Map, board: &Board) {
     }
 }
 
+/// The opening is a board of its map, whose units are in homes, and equals its copy.
 #[test]
-fn units_open_in_homes(rt: HostRuntime) -> Result<(), Fail> {
-    let alloc = rt.alloc();
-    let map = Map::from_toml(alloc, STANDARD)?;
-    check_homes(&rt, &map, &Board::opening(alloc, &map)?);
+fn the_opening_is_a_board_of_its_map(rt: HostRuntime) -> Result<(), Fail> {
+    let map = Map::from_toml(rt.alloc(), STANDARD)?;
+    let board = Board::opening(rt.alloc(), &map)?;
+    check_opening(&rt, &map, &board);
+    check_homes(&rt, &map, &board);
+    check_copy(&rt, rt.alloc(), &board)?;
     Ok(())
 }
 
@@ -152,14 +128,21 @@ fn steps_from(map: &Map, kind: Kind, prov: Prov, power: Power) -> u16 {
     map.distance(kind, Place { prov, coast: 0 }, power)
 }
 
+/// How far a province is, for an army and for a fleet.
+const STEPS: &[(&str, u16)] = &[("ard", 0), ("bay", 1000)];
+
+fn check_steps(rt: &impl Abort, map: &Map) {
+    let west = map.power("west").expect(rt, "a power");
+    for &(code, steps) in STEPS {
+        let prov = the_prov(rt, map, code);
+        assert!(rt; steps_from(map, Kind::Army, prov, west) == steps);
+        assert!(rt; steps_from(map, Kind::Fleet, prov, west) == steps);
+    }
+}
+
 #[test]
 fn what_no_walk_leads_to_is_far(rt: HostRuntime) -> Result<(), Fail> {
     let map = Map::from_toml(rt.alloc(), TWO)?;
-    let west = map.power("west").expect(&rt, "a power");
-    for (code, steps) in [("ard", 0), ("bay", 1000)] {
-        let prov = the_prov(&rt, &map, code);
-        assert_eq!(rt; steps_from(&map, Kind::Army, prov, west), steps);
-        assert_eq!(rt; steps_from(&map, Kind::Fleet, prov, west), steps);
-    }
+    check_steps(&rt, &map);
     Ok(())
 }

@@ -3,9 +3,7 @@
 //! no scene tells of orders.
 #![tactic(auto)]
 
+#[cfg(test)]
 mod passes;
-
-pub use passes::{Passed, resolve_by_passes};
-
 #[cfg(test)]
 mod tests;

@@ -8,4 +8,4 @@ mod settling;
 mod table;
 mod values;
 
-pub use resolving::{Passed, resolve_by_passes};
+pub(crate) use resolving::{Passed, resolve_by_passes};

@@ -1,5 +1,5 @@
-//! One client over a socket: what it reads is what is written in memory, however much it sends, and a client that is too slow gets nothing.
-use crate::tests::wires::{ask, ordered, post_of, served};
+//! One client over a socket: one that is too slow gets nothing.
+use crate::tests::wires::ordered;
 use dip_desk::MemoryKeeper;
 use dip_http::{HttpFault, MOST_SECONDS, serve_one};
 use dip_map::{Map, STANDARD};
@@ -28,64 +28,33 @@ impl Clock for Late {
     }
 }
 
-/// What a client reads that writes a request and ends, and how its connection ended.
-fn exchange<C: Clock>(
+/// Whether a client that writes a request and ends reads nothing, since its time is up.
+fn is_late(
     rt: &HostRuntime,
-    clock: &C,
     keeper: &mut MemoryKeeper,
     map: &Map,
     request: &[u8],
-) -> Result<(Vec<u8>, Result<(), HttpFault>), Fail> {
-    let alloc = rt.alloc();
+) -> io::Result<bool> {
     let listener = TcpListener::bind(rt, "127.0.0.1:0")?;
     let mut client = TcpStream::connect(rt, listener.local_addr()?)?;
     client.write_all(request)?;
     client.shutdown(Shutdown::Write)?;
     let (stream, _) = listener.accept()?;
-    let result = serve_one(alloc, clock, &stream, keeper, map);
+    let late = Late {
+        seconds: Cell::new(0),
+    };
+    let ended = serve_one(rt.alloc(), &late, &stream, keeper, map);
     drop(stream);
-    let mut answer = Vec::new(alloc);
+    let mut answer = Vec::new(rt.alloc());
     client.read_to_end(&mut answer)?;
-    Ok((answer, result))
-}
-
-#[test]
-fn answers_over_a_socket(rt: HostRuntime) -> Result<(), Fail> {
-    let alloc = rt.alloc();
-    let map = Map::from_toml(alloc, STANDARD)?;
-    let mut keeper = ordered(alloc, &map)?;
-    let request = ask(alloc, "GET", "/games/g1")?;
-    let wanted = served(alloc, &mut keeper, &map, request.as_bytes())?;
-    let (answer, result) = exchange(&rt, &rt, &mut keeper, &map, request.as_bytes())?;
-    assert!(rt; result.is_ok() && answer.as_slice() == wanted.as_slice());
-    Ok(())
-}
-
-const TOO_LARGE: &[u8] =
-    b"HTTP/1.1 413 Payload Too Large\r\nContent-Type: text/plain\r\nContent-Length: 22\r\nConnection: close\r\n\r\n413 Payload Too Large\n";
-
-#[test]
-fn an_answer_is_not_lost_to_bytes_that_nobody_reads(rt: HostRuntime) -> Result<(), Fail> {
-    let alloc = rt.alloc();
-    let map = Map::from_toml(alloc, STANDARD)?;
-    let mut keeper = ordered(alloc, &map)?;
-    let body = "x".repeat(alloc, 60_000)?;
-    let request = post_of(alloc, "60000", body.as_str())?;
-    let (answer, result) = exchange(&rt, &rt, &mut keeper, &map, request.as_bytes())?;
-    assert!(rt; result.is_ok() && answer.as_slice() == TOO_LARGE);
-    Ok(())
+    Ok(ended == Err(HttpFault::Read) && answer.is_empty())
 }
 
 #[test]
 fn a_client_that_is_too_slow_gets_nothing(rt: HostRuntime) -> Result<(), Fail> {
-    let alloc = rt.alloc();
-    let map = Map::from_toml(alloc, STANDARD)?;
-    let mut keeper = ordered(alloc, &map)?;
-    let request = ask(alloc, "GET", "/games/g1")?;
-    let late = Late {
-        seconds: Cell::new(0),
-    };
-    let (answer, result) = exchange(&rt, &late, &mut keeper, &map, request.as_bytes())?;
-    assert!(rt; result == Err(HttpFault::Read) && answer.is_empty());
+    let map = Map::from_toml(rt.alloc(), STANDARD)?;
+    let mut keeper = ordered(rt.alloc(), &map)?;
+    let request = b"GET /games/g1 HTTP/1.1\r\nHost: judge.example\r\n\r\n";
+    assert!(rt; is_late(&rt, &mut keeper, &map, request)?);
     Ok(())
 }

@@ -27,30 +27,14 @@ pub fn served(
     }
 }
 
-/// A POST of this body, whose size is told in these digits.
-pub fn post_of(alloc: Global, size: &str, body: &str) -> Result<String, AllocError> {
-    [
-        "POST /letters HTTP/1.1\r\nHost: judge.example\r\nContent-Length: ",
-        size,
-        "\r\n\r\n",
-        body,
-    ]
-    .concat(alloc)
-}
-
 /// A POST of this body.
 pub fn post(alloc: Global, body: &str) -> Result<String, AllocError> {
     let mut digits = Buffer::new();
-    post_of(alloc, digits.format(body.len()), body)
-}
-
-/// A request without a body, of this method and target.
-pub fn ask(alloc: Global, method: &str, target: &str) -> Result<String, AllocError> {
     [
-        method,
-        " ",
-        target,
-        " HTTP/1.1\r\nHost: judge.example\r\n\r\n",
+        "POST /letters HTTP/1.1\r\nHost: judge.example\r\nContent-Length: ",
+        digits.format(body.len()),
+        "\r\n\r\n",
+        body,
     ]
     .concat(alloc)
 }

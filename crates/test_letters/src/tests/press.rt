@@ -1,153 +1,44 @@
 //! Press, votes and inboxes, and what the master makes known.
-use super::{check_change, check_changes, verdict};
-use dip_letters::{
-    Command, MasterCommand, Names, Next, Notice, PlayerCommand, Texts, next_letter, print_letter,
-};
+use super::{check_change, check_changes};
 use std::alloc::{AllocError, Global};
+use std::process::Abort;
 use std::test::Fail;
 
-const WHITE: &str =
+pub(crate) const WHITE: &str =
     "LETTER\nGAME g1\nFROM england\nSECRET eeeeeeee\nNUMBER 3\nPRESS WHITE TO france italy\n> Hello.\n>  ~ END\nEND\n";
 
-const GREY: &str =
+pub(crate) const GREY: &str =
     "LETTER\nGAME g1\nFROM england\nSECRET eeeeeeee\nNUMBER 3\nPRESS GREY TO all\n> \nEND\n";
 
-const WITHDRAW: &str = "LETTER\nGAME g1\nFROM england\nSECRET eeeeeeee\nNUMBER 3\nWITHDRAW\nEND\n";
+pub(crate) const WITHDRAW: &str =
+    "LETTER\nGAME g1\nFROM england\nSECRET eeeeeeee\nNUMBER 3\nWITHDRAW\nEND\n";
 
-const VOTE: &str = "LETTER\nGAME g1\nFROM england\nSECRET eeeeeeee\nNUMBER 3\nVOTE YES\nEND\n";
+pub(crate) const VOTE: &str =
+    "LETTER\nGAME g1\nFROM england\nSECRET eeeeeeee\nNUMBER 3\nVOTE YES\nEND\n";
 
-const VOTE_NO: &str = "LETTER\nGAME g1\nFROM england\nSECRET eeeeeeee\nNUMBER 3\nVOTE NO\nEND\n";
+pub(crate) const VOTE_NO: &str =
+    "LETTER\nGAME g1\nFROM england\nSECRET eeeeeeee\nNUMBER 3\nVOTE NO\nEND\n";
 
-const INBOX: &str = "LETTER\nGAME g1\nFROM england\nSECRET eeeeeeee\nNUMBER 3\nINBOX 21\nEND\n";
+pub(crate) const INBOX: &str =
+    "LETTER\nGAME g1\nFROM england\nSECRET eeeeeeee\nNUMBER 3\nINBOX 21\nEND\n";
 
-const REPLACE: &str =
+pub(crate) const REPLACE: &str =
     "LETTER\nGAME g1\nFROM master\nSECRET mmmmmmmm\nNUMBER 4\nREPLACE france ffff~ff!f\nEND\n";
 
-const PAUSE: &str = "LETTER\nGAME g1\nFROM master\nSECRET mmmmmmmm\nNUMBER 4\nPAUSE\nEND\n";
+pub(crate) const PAUSE: &str =
+    "LETTER\nGAME g1\nFROM master\nSECRET mmmmmmmm\nNUMBER 4\nPAUSE\nEND\n";
 
-const RESUME: &str = "LETTER\nGAME g1\nFROM master\nSECRET mmmmmmmm\nNUMBER 4\nRESUME\nEND\n";
+pub(crate) const RESUME: &str =
+    "LETTER\nGAME g1\nFROM master\nSECRET mmmmmmmm\nNUMBER 4\nRESUME\nEND\n";
 
-const PERIOD: &str = "LETTER\nGAME g1\nFROM master\nSECRET mmmmmmmm\nNUMBER 4\nPERIOD 50\nEND\n";
+pub(crate) const PERIOD: &str =
+    "LETTER\nGAME g1\nFROM master\nSECRET mmmmmmmm\nNUMBER 4\nPERIOD 50\nEND\n";
 
-const ANNOUNCE: &str =
+pub(crate) const ANNOUNCE: &str =
     "LETTER\nGAME g1\nFROM master\nSECRET mmmmmmmm\nNUMBER 4\nANNOUNCE\n> No play on Sunday.\n> \nEND\n";
 
-const CLOSE: &str = "LETTER\nGAME g1\nFROM master\nSECRET mmmmmmmm\nNUMBER 4\nCLOSE\nEND\n";
-
-/// The command of a text that is one letter.
-fn command_in<'a>(text: &'a str) -> Option<Command<'a>> {
-    match next_letter(text.as_bytes()) {
-        Next::Taken(letter, rest) if rest.is_empty() => Some(letter.command),
-        _ => None,
-    }
-}
-
-/// Names, each with a bar behind it.
-fn names_with_bars(alloc: Global, names: Names<'_>) -> Result<String, AllocError> {
-    let mut text = String::new(alloc);
-    for name in names {
-        text.push_str(name)?;
-        text.push_str("|")?;
-    }
-    Ok(text)
-}
-
-/// Lines of a text, each with a bar behind it.
-fn lines_with_bars(alloc: Global, lines: Texts<'_>) -> Result<String, AllocError> {
-    let mut text = String::new(alloc);
-    for line in lines {
-        text.push_str(line)?;
-        text.push_str("|")?;
-    }
-    Ok(text)
-}
-
-#[test]
-fn reads_press(rt: HostRuntime) -> Result<(), Fail> {
-    let alloc = rt.alloc();
-    for (letter, grey, names, lines) in [
-        (WHITE, false, "france|italy|", "Hello.| ~ END|"),
-        (GREY, true, "all|", "|"),
-    ] {
-        let Some(Command::Player(PlayerCommand::Press(press))) = command_in(letter) else {
-            return Err(Fail::from("no PRESS"));
-        };
-        assert!(rt; press.grey == grey);
-        let addressees = names_with_bars(alloc, press.addressees)?;
-        assert_eq!(rt; addressees.as_str(), names);
-        let text = lines_with_bars(alloc, press.text)?;
-        assert_eq!(rt; text.as_str(), lines);
-    }
-    Ok(())
-}
-
-#[test]
-fn reads_commands_of_powers(rt: HostRuntime) -> Result<(), Fail> {
-    let Some(Command::Player(PlayerCommand::Withdraw)) = command_in(WITHDRAW) else {
-        return Err(Fail::from("no WITHDRAW"));
-    };
-    for (letter, want) in [(VOTE, true), (VOTE_NO, false)] {
-        let Some(Command::Player(PlayerCommand::Vote(draw))) = command_in(letter) else {
-            return Err(Fail::from("no VOTE"));
-        };
-        assert!(rt; draw == want);
-    }
-    let Some(Command::Player(PlayerCommand::Inbox(first))) = command_in(INBOX) else {
-        return Err(Fail::from("no INBOX"));
-    };
-    assert!(rt; first == 21);
-    Ok(())
-}
-
-/// The command of the master's letter, where it is one that a paper makes known.
-fn notice_in<'a>(text: &'a str) -> Option<Notice<'a>> {
-    match command_in(text) {
-        Some(Command::Master(MasterCommand::Notify(notice))) => Some(notice),
-        _ => None,
-    }
-}
-
-#[test]
-fn reads_commands_of_the_master(rt: HostRuntime) -> Result<(), Fail> {
-    let Some(Command::Master(MasterCommand::Replace(seat))) = command_in(REPLACE) else {
-        return Err(Fail::from("no REPLACE"));
-    };
-    assert!(rt; seat.power == "france" && seat.secret == "ffff~ff!f");
-    let Some(Notice::Pause) = notice_in(PAUSE) else {
-        return Err(Fail::from("no PAUSE"));
-    };
-    let Some(Notice::Resume) = notice_in(RESUME) else {
-        return Err(Fail::from("no RESUME"));
-    };
-    let Some(Notice::Close) = notice_in(CLOSE) else {
-        return Err(Fail::from("no CLOSE"));
-    };
-    let Some(Notice::Period(period)) = notice_in(PERIOD) else {
-        return Err(Fail::from("no PERIOD"));
-    };
-    assert!(rt; period == 50);
-    let Some(Notice::Announce(text)) = notice_in(ANNOUNCE) else {
-        return Err(Fail::from("no ANNOUNCE"));
-    };
-    let lines = lines_with_bars(rt.alloc(), text)?;
-    assert_eq!(rt; lines.as_str(), "No play on Sunday.||");
-    Ok(())
-}
-
-#[test]
-fn prints_what_it_read(rt: HostRuntime) -> Result<(), Fail> {
-    for text in [
-        WHITE, GREY, WITHDRAW, VOTE, VOTE_NO, INBOX, REPLACE, PAUSE, RESUME, PERIOD, ANNOUNCE,
-        CLOSE,
-    ] {
-        let Next::Taken(letter, _) = next_letter(text.as_bytes()) else {
-            return Err(Fail::from("no letter"));
-        };
-        let printed = print_letter(rt.alloc(), &letter)?;
-        assert_eq!(rt; printed.as_slice(), text.as_bytes());
-    }
-    Ok(())
-}
+pub(crate) const CLOSE: &str =
+    "LETTER\nGAME g1\nFROM master\nSECRET mmmmmmmm\nNUMBER 4\nCLOSE\nEND\n";
 
 /// What is changed of PRESS, into what, and whether that is read.
 const CHANGES_OF_PRESS: &[(&str, &str, bool)] = &[
@@ -331,61 +222,59 @@ const TEXT_SIZES: &[(usize, bool)] = &[(0, true), (1, true), (200, true), (201, 
 /// How many addressees are read.
 const READER_COUNTS: &[(usize, bool)] = &[(0, false), (1, true), (7, true), (8, false)];
 
+/// Press and an announcement of so many lines are read, or they aren't.
+fn check_text_count(
+    rt: &impl Abort,
+    alloc: Global,
+    count: usize,
+    want: bool,
+) -> Result<(), AllocError> {
+    let lines = "> x\n".repeat(alloc, count)?;
+    let lines = lines.as_str();
+    check_change(rt, alloc, WHITE, ("> Hello.\n>  ~ END\n", lines), want)?;
+    check_change(
+        rt,
+        alloc,
+        ANNOUNCE,
+        ("> No play on Sunday.\n> \n", lines),
+        want,
+    )
+}
+
+/// Press and an announcement with a line of so many bytes are read, or they aren't.
+fn check_text_size(
+    rt: &impl Abort,
+    alloc: Global,
+    size: usize,
+    want: bool,
+) -> Result<(), AllocError> {
+    let line = "~".repeat(alloc, size)?;
+    let line = line.as_str();
+    check_change(rt, alloc, WHITE, ("Hello.", line), want)?;
+    check_change(rt, alloc, ANNOUNCE, ("No play on Sunday.", line), want)
+}
+
+/// Press to so many names is read, or it isn't.
+fn check_readers(
+    rt: &impl Abort,
+    alloc: Global,
+    count: usize,
+    want: bool,
+) -> Result<(), AllocError> {
+    let names = " italy".repeat(alloc, count)?;
+    check_change(rt, alloc, WHITE, (" france italy", names.as_str()), want)
+}
+
 #[test]
 fn counts_texts_and_addressees(rt: HostRuntime) -> Result<(), Fail> {
-    let alloc = rt.alloc();
     for &(count, want) in TEXT_COUNTS {
-        let lines = "> x\n".repeat(alloc, count)?;
-        let lines = lines.as_str();
-        check_change(&rt, alloc, WHITE, ("> Hello.\n>  ~ END\n", lines), want)?;
-        check_change(
-            &rt,
-            alloc,
-            ANNOUNCE,
-            ("> No play on Sunday.\n> \n", lines),
-            want,
-        )?;
+        check_text_count(&rt, rt.alloc(), count, want)?;
     }
-    for &(count, want) in TEXT_SIZES {
-        let line = "~".repeat(alloc, count)?;
-        let line = line.as_str();
-        check_change(&rt, alloc, WHITE, ("Hello.", line), want)?;
-        check_change(&rt, alloc, ANNOUNCE, ("No play on Sunday.", line), want)?;
+    for &(size, want) in TEXT_SIZES {
+        check_text_size(&rt, rt.alloc(), size, want)?;
     }
     for &(count, want) in READER_COUNTS {
-        let names = " italy".repeat(alloc, count)?;
-        check_change(&rt, alloc, WHITE, (" france italy", names.as_str()), want)?;
+        check_readers(&rt, rt.alloc(), count, want)?;
     }
-    Ok(())
-}
-
-/// A letter of press of 80 lines of 200 bytes. These take 80 times 203 bytes, and its other lines 141 and the name of
-/// the game: LETTER 7, GAME 6, FROM 13, SECRET 72, NUMBER 17, PRESS 22, END 4.
-fn long_press(alloc: Global, game: &str) -> Result<String, AllocError> {
-    let secret = "s".repeat(alloc, 64)?;
-    let words = "w".repeat(alloc, 200)?;
-    let line = ["> ", words.as_str(), "\n"].concat(alloc)?;
-    let lines = line.as_str().repeat(alloc, 80)?;
-    let author = [
-        "LETTER\nGAME ",
-        game,
-        "\nFROM england\nSECRET ",
-        secret.as_str(),
-    ]
-    .concat(alloc)?;
-    let press = "\nNUMBER 999999999\nPRESS WHITE TO france\n";
-    [author.as_str(), press, lines.as_str(), "END\n"].concat(alloc)
-}
-
-#[test]
-fn reads_press_to_the_last_byte(rt: HostRuntime) -> Result<(), Fail> {
-    let most = long_press(rt.alloc(), "abc")?;
-    assert!(rt; most.len() == 16384);
-    let (word, rest) = verdict(most.as_str().as_bytes());
-    assert!(rt; word == "letter" && rest == 0);
-    let over = long_press(rt.alloc(), "abcd")?;
-    assert!(rt; over.len() == 16385);
-    let (word, rest) = verdict(over.as_str().as_bytes());
-    assert!(rt; word == "L5" && rest == 0);
     Ok(())
 }

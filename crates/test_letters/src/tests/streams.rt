@@ -2,7 +2,7 @@
 use dip_streams::{MOST_TRIES, read_some, write_text};
 use std::io;
 use std::io::{ErrorKind, Read, Write};
-use std::test::Fail;
+use std::process::Abort;
 
 /// A reader and writer of one byte a call, which so many signals interrupt before each.
 #[derive(Drop)]
@@ -61,33 +61,56 @@ fn wire_of(rt: &HostRuntime, signals: u32) -> Wire {
     }
 }
 
-#[test]
-fn a_call_is_made_again_where_a_signal_interrupts_it(rt: HostRuntime) -> Result<(), Fail> {
-    for signals in [0, 1, 9, MOST_TRIES - 1] {
-        let mut wire = wire_of(&rt, signals);
-        let mut buffer = [0u8; 2];
-        assert!(&rt; write_text(&mut wire, b"ab").is_ok());
-        assert!(&rt; wire.bytes.as_slice() == b"ab".as_slice());
-        assert!(&rt; matches!(read_some(&mut wire, &mut buffer), Ok(1)));
-        assert_eq!(&rt; buffer[0], b'b');
-        assert!(&rt; matches!(read_some(&mut wire, &mut buffer), Ok(1)));
-        assert_eq!(&rt; buffer[0], b'a');
-        assert!(&rt; matches!(read_some(&mut wire, &mut buffer), Ok(0)));
+/// A text is written whole.
+fn is_written(wire: &mut Wire) -> bool {
+    write_text(wire, b"ab").is_ok() && wire.bytes.as_slice() == b"ab".as_slice()
+}
+
+/// This byte is read, or nothing is.
+fn is_read(wire: &mut Wire, wanted: Option<u8>) -> bool {
+    let mut buffer = [0u8; 2];
+    match (read_some(wire, &mut buffer), wanted) {
+        (Ok(1), Some(byte)) => buffer[0] == byte,
+        (Ok(0), None) => true,
+        _ => false,
     }
-    Ok(())
+}
+
+fn check_wire(rt: &impl Abort, wire: &mut Wire) {
+    assert!(rt; is_written(wire));
+    assert!(rt; is_read(wire, Some(b'b')));
+    assert!(rt; is_read(wire, Some(b'a')));
+    assert!(rt; is_read(wire, None));
+}
+
+/// How many signals come before each byte.
+const SIGNALS: &[u32] = &[0, 1, 9, MOST_TRIES - 1];
+
+#[test]
+fn a_call_is_made_again_where_a_signal_interrupts_it(rt: HostRuntime) {
+    for &signals in SIGNALS {
+        let mut wire = wire_of(&rt, signals);
+        check_wire(&rt, &mut wire);
+    }
+}
+
+/// Nothing is written, since a signal comes each time.
+fn is_never_written(wire: &mut Wire) -> bool {
+    let ended = write_text(wire, b"ab");
+    matches!(ended, Err(error) if error.kind() == ErrorKind::TimedOut) && wire.bytes.is_empty()
+}
+
+/// Nothing is read, since a signal comes each time.
+fn is_never_read(wire: &mut Wire) -> bool {
+    let mut buffer = [0u8; 2];
+    wire.left = MOST_TRIES;
+    let ended = read_some(wire, &mut buffer);
+    matches!(ended, Err(error) if error.kind() == ErrorKind::TimedOut)
 }
 
 #[test]
-fn a_call_that_is_always_interrupted_ends(rt: HostRuntime) -> Result<(), Fail> {
+fn a_call_that_is_always_interrupted_ends(rt: HostRuntime) {
     let mut wire = wire_of(&rt, MOST_TRIES);
-    let mut buffer = [0u8; 2];
-    assert!(&rt;
-        matches!(write_text(&mut wire, b"ab"), Err(error) if error.kind() == ErrorKind::TimedOut)
-    );
-    assert!(&rt; wire.bytes.is_empty());
-    wire.left = MOST_TRIES;
-    assert!(&rt;
-        matches!(read_some(&mut wire, &mut buffer), Err(error) if error.kind() == ErrorKind::TimedOut)
-    );
-    Ok(())
+    assert!(rt; is_never_written(&mut wire));
+    assert!(rt; is_never_read(&mut wire));
 }

@@ -52,23 +52,13 @@ const HELD: &[(&str, &str, bool)] = &[
     ("par", "ber nth", false),
 ];
 
-#[test]
-fn a_province_holds_one_unit_and_one_dislodged(rt: HostRuntime) -> Result<(), Fail> {
-    let alloc = rt.alloc();
-    let map = Map::from_toml(alloc, STANDARD)?;
+/// A province holds one unit and one dislodged.
+fn check_held(rt: &impl Abort, alloc: Global, map: &Map) -> Result<(), AllocError> {
     for &(standing, dislodged, is_of) in HELD {
-        let board = board_with(&rt, alloc, &map, standing, dislodged)?;
-        assert_of(&rt, &map, &board, is_of);
+        let board = board_with(rt, alloc, map, standing, dislodged)?;
+        assert_of(rt, map, &board, is_of);
     }
     Ok(())
-}
-
-/// The board of the opening with these standoffs.
-fn board_closed(alloc: Global, map: &Map, standoff: Vec<Prov>) -> Result<Board, AllocError> {
-    let opening = Board::opening(alloc, map)?;
-    let units = opening.units().to_vec(alloc)?;
-    let owners = opening.owners().to_vec(alloc)?;
-    Ok(Board::of(units, Vec::new(alloc), standoff, owners, opening.phase()))
 }
 
 /// The provinces of these codes; a word that is no code stands for a province behind the map's last.
@@ -80,6 +70,15 @@ fn provs_of(alloc: Global, map: &Map, codes: &str) -> Result<Vec<Prov>, AllocErr
     Ok(provs)
 }
 
+/// The board of the opening with these standoffs.
+fn board_closed(alloc: Global, map: &Map, codes: &str) -> Result<Board, AllocError> {
+    let opening = Board::opening(alloc, map)?;
+    let units = opening.units().to_vec(alloc)?;
+    let owners = opening.owners().to_vec(alloc)?;
+    let standoff = provs_of(alloc, map, codes)?;
+    Ok(Board::of(units, Vec::new(alloc), standoff, owners, opening.phase()))
+}
+
 /// Standoffs, and whether a board of the map may have them.
 const STANDOFFS: &[(&str, bool)] = &[
     ("bel bur", true),
@@ -89,14 +88,11 @@ const STANDOFFS: &[(&str, bool)] = &[
     ("bel none", false),
 ];
 
-#[test]
-fn standoffs_ascend_and_are_empty(rt: HostRuntime) -> Result<(), Fail> {
-    let alloc = rt.alloc();
-    let map = Map::from_toml(alloc, STANDARD)?;
+/// Standoffs ascend and are empty.
+fn check_standoffs(rt: &impl Abort, alloc: Global, map: &Map) -> Result<(), AllocError> {
     for &(codes, is_of) in STANDOFFS {
-        let standoff = provs_of(alloc, &map, codes)?;
-        let board = board_closed(alloc, &map, standoff)?;
-        assert_of(&rt, &map, &board, is_of);
+        let board = board_closed(alloc, map, codes)?;
+        assert_of(rt, map, &board, is_of);
     }
     Ok(())
 }
@@ -126,13 +122,20 @@ fn board_owned(alloc: Global, map: &Map, code: &str, power: u8) -> Result<Board,
 /// A province, a power by its number, and whether that one may own it.
 const OWNED: &[(&str, u8, bool)] = &[("bel", 6, true), ("bel", 7, false), ("bur", 6, false)];
 
-#[test]
-fn powers_own_centres(rt: HostRuntime) -> Result<(), Fail> {
-    let alloc = rt.alloc();
-    let map = Map::from_toml(alloc, STANDARD)?;
+/// Powers own centres.
+fn check_owned(rt: &impl Abort, alloc: Global, map: &Map) -> Result<(), AllocError> {
     for &(code, power, is_of) in OWNED {
-        let board = board_owned(alloc, &map, code, power)?;
-        assert_of(&rt, &map, &board, is_of);
+        let board = board_owned(alloc, map, code, power)?;
+        assert_of(rt, map, &board, is_of);
     }
+    Ok(())
+}
+
+#[test]
+fn a_board_is_of_a_map_or_not(rt: HostRuntime) -> Result<(), Fail> {
+    let map = Map::from_toml(rt.alloc(), STANDARD)?;
+    check_held(&rt, rt.alloc(), &map)?;
+    check_standoffs(&rt, rt.alloc(), &map)?;
+    check_owned(&rt, rt.alloc(), &map)?;
     Ok(())
 }

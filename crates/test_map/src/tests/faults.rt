@@ -54,31 +54,45 @@ const NAME_TWICE: (&str, &str) = (
     "name = \"standard\"\nname = \"standard\"\n",
 );
 
+const CENTRE_AT_SEA: (&str, &str) = (
+    "\"Adriatic Sea\"\nkind = \"sea\"\n",
+    "\"Adriatic Sea\"\nkind = \"sea\"\ncentre = true\n",
+);
+
+const NO_CENTRE_AT_SEA: (&str, &str) = (
+    "\"Adriatic Sea\"\nkind = \"sea\"\n",
+    "\"Adriatic Sea\"\nkind = \"sea\"\ncentre = false\n",
+);
+
+/// What is changed of the standard map's text, and the fault that it then has.
+const FAULTS: &[((&str, &str), Option<MapFault>)] = &[
+    (NO_VIE, Some(MapFault::NotSymmetric)),
+    (HOME_GAL, Some(MapFault::UnknownName)),
+    (TWO_VIENNAS, Some(MapFault::DoubledName)),
+    (LAKE, Some(MapFault::WrongField)),
+    (EIGHTH, Some(MapFault::OverLimit)),
+    (NAME_TWICE, Some(MapFault::NotToml)),
+    (CENTRE_AT_SEA, Some(MapFault::WrongField)),
+    (NO_CENTRE_AT_SEA, None),
+];
+
+/// A text has this fault where a part of it is replaced.
+fn check_change(
+    rt: &impl Abort,
+    alloc: Global,
+    text: &str,
+    (old, new): (&str, &str),
+    fault: Option<MapFault>,
+) -> Result<(), AllocError> {
+    let text = text_with(rt, alloc, text, old, new)?;
+    assert!(rt; fault_of(alloc, text.as_str()) == fault);
+    Ok(())
+}
+
 #[test]
 fn each_fault_has_its_number(rt: HostRuntime) -> Result<(), Fail> {
-    let alloc = rt.alloc();
-    let sea = "\"Adriatic Sea\"\nkind = \"sea\"\n";
-    let rows = [
-        (NO_VIE.0, NO_VIE.1, Some(MapFault::NotSymmetric)),
-        (HOME_GAL.0, HOME_GAL.1, Some(MapFault::UnknownName)),
-        (TWO_VIENNAS.0, TWO_VIENNAS.1, Some(MapFault::DoubledName)),
-        (LAKE.0, LAKE.1, Some(MapFault::WrongField)),
-        (EIGHTH.0, EIGHTH.1, Some(MapFault::OverLimit)),
-        (NAME_TWICE.0, NAME_TWICE.1, Some(MapFault::NotToml)),
-        (
-            sea,
-            "\"Adriatic Sea\"\nkind = \"sea\"\ncentre = true\n",
-            Some(MapFault::WrongField),
-        ),
-        (
-            sea,
-            "\"Adriatic Sea\"\nkind = \"sea\"\ncentre = false\n",
-            None,
-        ),
-    ];
-    for (old, new, fault) in rows {
-        let text = text_with(&rt, alloc, STANDARD, old, new)?;
-        assert!(rt; fault_of(alloc, text.as_str()) == fault);
+    for &(change, fault) in FAULTS {
+        check_change(&rt, rt.alloc(), STANDARD, change, fault)?;
     }
     Ok(())
 }
@@ -91,19 +105,23 @@ fn check_first(
     fault: MapFault,
 ) -> Result<(), AllocError> {
     let once = text_with(rt, alloc, STANDARD, first.0, first.1)?;
-    let twice = text_with(rt, alloc, once.as_str(), second.0, second.1)?;
-    assert!(rt; fault_of(alloc, twice.as_str()) == Some(fault));
-    Ok(())
+    check_change(rt, alloc, once.as_str(), second, Some(fault))
 }
+
+/// Two changes, and the fault that is told of both.
+const FIRST_OF_TWO: &[((&str, &str), (&str, &str), MapFault)] = &[
+    (NAME_TWICE, LAKE, MapFault::NotToml),
+    (LAKE, EIGHTH, MapFault::WrongField),
+    (EIGHTH, HOME_GAL, MapFault::OverLimit),
+    (HOME_GAL, TWO_VIENNAS, MapFault::UnknownName),
+    (TWO_VIENNAS, NO_VIE, MapFault::DoubledName),
+];
 
 #[test]
 fn the_first_fault_of_two_is_told(rt: HostRuntime) -> Result<(), Fail> {
-    let alloc = rt.alloc();
-    check_first(&rt, alloc, NAME_TWICE, LAKE, MapFault::NotToml)?;
-    check_first(&rt, alloc, LAKE, EIGHTH, MapFault::WrongField)?;
-    check_first(&rt, alloc, EIGHTH, HOME_GAL, MapFault::OverLimit)?;
-    check_first(&rt, alloc, HOME_GAL, TWO_VIENNAS, MapFault::UnknownName)?;
-    check_first(&rt, alloc, TWO_VIENNAS, NO_VIE, MapFault::DoubledName)?;
+    for &(first, second, fault) in FIRST_OF_TWO {
+        check_first(&rt, rt.alloc(), first, second, fault)?;
+    }
     Ok(())
 }
 
@@ -151,9 +169,8 @@ fn check_changes(
     rows: &[(&str, &str)],
     fault: MapFault,
 ) -> Result<(), AllocError> {
-    for (old, new) in rows {
-        let text = text_with(rt, alloc, FIVE, old, new)?;
-        assert!(rt; fault_of(alloc, text.as_str()) == Some(fault));
+    for &change in rows {
+        check_change(rt, alloc, FIVE, change, Some(fault))?;
     }
     Ok(())
 }
@@ -217,12 +234,6 @@ const WRONG_FIELDS: &[(&str, &str)] = &[
     ("kind = \"sea\"\n", ""),
 ];
 
-#[test]
-fn fields_are_of_their_type_and_form(rt: HostRuntime) -> Result<(), Fail> {
-    check_changes(&rt, rt.alloc(), WRONG_FIELDS, MapFault::WrongField)?;
-    Ok(())
-}
-
 /// The same: then a name isn't known.
 const UNKNOWN_NAMES: &[(&str, &str)] = &[
     ("home = [\"bay\"]", "home = [\"xyz\"]"),
@@ -243,34 +254,34 @@ const UNKNOWN_NAMES: &[(&str, &str)] = &[
     ),
 ];
 
-#[test]
-fn codes_are_defined_and_allowed(rt: HostRuntime) -> Result<(), Fail> {
-    check_changes(&rt, rt.alloc(), UNKNOWN_NAMES, MapFault::UnknownName)?;
-    Ok(())
-}
+/// The same: then a name stands twice.
+const DOUBLED_NAMES: &[(&str, &str)] = &[
+    ("\"Oak\"", "\"Ard\""),
+    ("army = [\"bay\", \"cay\"]", "army = [\"bay\", \"bay\"]"),
+    ("sc = [\"cay\", \"sea\"]", "sc = [\"cay\", \"cay\"]"),
+    ("home = [\"bay\"]", "home = [\"bay\", \"bay\"]"),
+    ("home = [\"bay\"]", "home = [\"cay\"]"),
+    ("\"F bay/nc\"", "\"F bay/nc\", \"A bay\""),
+    ("\"F bay/nc\"", "\"A ard\""),
+];
 
+/// The same: then a neighbour isn't named back.
+const ONE_WAY: &[(&str, &str)] = &[
+    ("army = [\"ard\"]", "army = []"),
+    ("nc = [\"sea\"]", "nc = []"),
+    (
+        "fleet = [\"bay/sc\", \"sea\"]",
+        "fleet = [\"bay/nc\", \"sea\"]",
+    ),
+    ("fleet = []", "fleet = [\"sea\"]"),
+];
+
+/// Fields are of their type and form, codes are defined and allowed, nothing stands twice, and neighbours name each other.
 #[test]
-fn nothing_stands_twice(rt: HostRuntime) -> Result<(), Fail> {
-    let alloc = rt.alloc();
-    let rows = [
-        ("\"Oak\"", "\"Ard\""),
-        ("army = [\"bay\", \"cay\"]", "army = [\"bay\", \"bay\"]"),
-        ("sc = [\"cay\", \"sea\"]", "sc = [\"cay\", \"cay\"]"),
-        ("home = [\"bay\"]", "home = [\"bay\", \"bay\"]"),
-        ("home = [\"bay\"]", "home = [\"cay\"]"),
-        ("\"F bay/nc\"", "\"F bay/nc\", \"A bay\""),
-        ("\"F bay/nc\"", "\"A ard\""),
-    ];
-    check_changes(&rt, alloc, &rows, MapFault::DoubledName)?;
-    let rows = [
-        ("army = [\"ard\"]", "army = []"),
-        ("nc = [\"sea\"]", "nc = []"),
-        (
-            "fleet = [\"bay/sc\", \"sea\"]",
-            "fleet = [\"bay/nc\", \"sea\"]",
-        ),
-        ("fleet = []", "fleet = [\"sea\"]"),
-    ];
-    check_changes(&rt, alloc, &rows, MapFault::NotSymmetric)?;
+fn a_small_map_has_each_fault(rt: HostRuntime) -> Result<(), Fail> {
+    check_changes(&rt, rt.alloc(), WRONG_FIELDS, MapFault::WrongField)?;
+    check_changes(&rt, rt.alloc(), UNKNOWN_NAMES, MapFault::UnknownName)?;
+    check_changes(&rt, rt.alloc(), DOUBLED_NAMES, MapFault::DoubledName)?;
+    check_changes(&rt, rt.alloc(), ONE_WAY, MapFault::NotSymmetric)?;
     Ok(())
 }

@@ -256,16 +256,13 @@ fn the_place(rt: &impl Abort, map: &Map, text: &str) -> Place {
 
 /// How many lines there are; each is a province of this kind and full name.
 fn assert_count(rt: &impl Abort, count: usize, wanted: usize) {
-    assert_eq!(rt; count, wanted);
+    assert!(rt; count == wanted);
 }
 
 fn assert_province(rt: &impl Abort, map: &Map, line: &str, kind: Terrain) {
     let (code, name) = line.split_once(' ').expect(rt, "a code and a name");
     let p = the_prov(rt, map, code);
-    assert!(rt;
-        map.name(p) == name && map.code(p) == code && map.kind(p) == kind,
-        "{line}"
-    );
+    assert!(rt; map.name(p) == name && map.code(p) == code && map.kind(p) == kind);
 }
 
 fn count_of_kind(rt: &impl Abort, map: &Map, lines: &str, kind: Terrain) -> usize {
@@ -284,13 +281,6 @@ fn check_provinces(rt: &impl Abort, map: &Map) {
     assert_count(rt, map.province_count(), 75);
 }
 
-#[test]
-fn each_province_has_its_name_and_kind(rt: HostRuntime) -> Result<(), Fail> {
-    let map = Map::from_toml(rt.alloc(), STANDARD)?;
-    check_provinces(&rt, &map);
-    Ok(())
-}
-
 /// How many army's neighbours a line lists; they are the province's.
 fn check_army(rt: &impl Abort, map: &Map, line: &str) -> usize {
     let (code, list) = line.split_once(": ").expect(rt, "a code and a list");
@@ -300,7 +290,7 @@ fn check_army(rt: &impl Abort, map: &Map, line: &str) -> usize {
         assert!(rt; map.army_next(p).contains(&the_prov(rt, map, word)));
         count = count.saturating_add(1);
     }
-    assert_eq!(rt; map.army_next(p).len(), count);
+    assert_count(rt, map.army_next(p).len(), count);
     count
 }
 
@@ -313,15 +303,12 @@ fn army_pairs(map: &Map) -> usize {
     count
 }
 
-#[test]
-fn armies_go_where_the_list_says(rt: HostRuntime) -> Result<(), Fail> {
-    let map = Map::from_toml(rt.alloc(), STANDARD)?;
+fn check_armies(rt: &impl Abort, map: &Map) {
     let mut count = 0usize;
     for line in ARMIES.lines() {
-        count = count.saturating_add(check_army(&rt, &map, line));
+        count = count.saturating_add(check_army(rt, map, line));
     }
-    assert_eq!(rt; army_pairs(&map), count);
-    Ok(())
+    assert_count(rt, army_pairs(map), count);
 }
 
 /// How many fleet's neighbours a line lists; they are the place's.
@@ -334,7 +321,7 @@ fn check_fleet(rt: &impl Abort, map: &Map, line: &str) -> usize {
         assert!(rt; next.contains(&b));
         count = count.saturating_add(1);
     }
-    assert_eq!(rt; next.len(), count);
+    assert_count(rt, next.len(), count);
     count
 }
 
@@ -353,15 +340,12 @@ fn fleet_pairs(map: &Map) -> usize {
     count
 }
 
-#[test]
-fn fleets_go_where_the_list_says(rt: HostRuntime) -> Result<(), Fail> {
-    let map = Map::from_toml(rt.alloc(), STANDARD)?;
+fn check_fleets(rt: &impl Abort, map: &Map) {
     let mut count = 0usize;
     for line in FLEETS.lines() {
-        count = count.saturating_add(check_fleet(&rt, &map, line));
+        count = count.saturating_add(check_fleet(rt, map, line));
     }
-    assert_eq!(rt; fleet_pairs(&map), count);
-    Ok(())
+    assert_count(rt, fleet_pairs(map), count);
 }
 
 /// How many home centres a line lists; they are the power's, and centres.
@@ -375,7 +359,7 @@ fn check_homes(rt: &impl Abort, map: &Map, line: &str) -> usize {
         assert!(rt; map.is_centre(p));
         count = count.saturating_add(1);
     }
-    assert_eq!(rt; map.home(power).len(), count);
+    assert_count(rt, map.home(power).len(), count);
     count
 }
 
@@ -402,11 +386,19 @@ fn count_centres(rt: &impl Abort, map: &Map) -> usize {
     count
 }
 
+fn check_centres(rt: &impl Abort, map: &Map) {
+    assert_count(rt, count_centres(rt, map), 34);
+    assert_count(rt, centres(map), 34);
+}
+
+/// Provinces have their names and kinds, armies and fleets go, and centres are as the lists say.
 #[test]
-fn centres_are_those_of_the_list(rt: HostRuntime) -> Result<(), Fail> {
+fn the_standard_map_is_that_of_the_lists(rt: HostRuntime) -> Result<(), Fail> {
     let map = Map::from_toml(rt.alloc(), STANDARD)?;
-    assert_count(&rt, count_centres(&rt, &map), 34);
-    assert_count(&rt, centres(&map), 34);
+    check_provinces(&rt, &map);
+    check_armies(&rt, &map);
+    check_fleets(&rt, &map);
+    check_centres(&rt, &map);
     Ok(())
 }
 

@@ -10,7 +10,7 @@ use std::alloc::{AllocError, Global};
 
 /// What passes came to: provinces of units, in the order of their codes, and why.
 #[derive(Drop, Debug)]
-pub struct Passed {
+pub(crate) struct Passed {
     /// Whose move succeeds.
     pub moves: Vec<Prov>,
     /// Whose move by convoy has a path.
@@ -59,7 +59,11 @@ fn broken_by(alloc: Global, map: &Map, steps: &[Step]) -> Result<Vec<Prov>, Allo
 ///
 /// It is the plain way to what `resolve` of `dip_decide` comes to, which looks again only at decisions whose equation mentions what
 /// got its value. No contract says what it answers.
-pub fn resolve_by_passes(alloc: Global, map: &Map, orders: &Orders) -> Result<Passed, AllocError> {
+pub(crate) fn resolve_by_passes(
+    alloc: Global,
+    map: &Map,
+    orders: &Orders,
+) -> Result<Passed, AllocError> {
     let table = table_of(alloc, map, orders.as_slice())?;
     let mut values = values_at_start(alloc, &table)?;
     let steps = explain(alloc, &table, &mut values)?;

@@ -3,7 +3,7 @@ use super::boards::board_of;
 use super::plain::compare_plainly;
 use super::tallies::has_few_decisions;
 use super::told::outcome_of;
-use crate::{Passed, resolve_by_passes};
+use crate::passes::{Passed, resolve_by_passes};
 use dip_decide::{Resolution, resolve};
 use dip_map::{Board, Map};
 use dip_names::Unit;

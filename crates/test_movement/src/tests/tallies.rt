@@ -1,5 +1,5 @@
 //! What comes up on boards made by chance.
-use crate::Passed;
+use crate::passes::Passed;
 use dip_decide::Step;
 use dip_map::Map;
 use dip_names::Kind;

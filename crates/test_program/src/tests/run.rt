@@ -10,15 +10,15 @@ use std::process::Abort;
 use std::test::Fail;
 use test_tools::{Page, Script};
 
-const CREATE: &str =
+pub(crate) const CREATE: &str =
     "LETTER\nGAME g1\nFROM master\nSECRET master-key\nNUMBER 1\nCREATE DUE 100 PERIOD 100 GREY YES\nSEAT austria aaaaaaaa\nSEAT england eeeeeeee\nSEAT france ffffffff\nSEAT germany gggggggg\nSEAT italy iiiiiiii\nSEAT russia rrrrrrrr\nSEAT turkey tttttttt\nEND\n";
 
-const CREATED: &str = "REPLY g1 master 1\nOK paper 1\nEND\n";
+pub(crate) const CREATED: &str = "REPLY g1 master 1\nOK paper 1\nEND\n";
 
-const HOLD: &str =
+pub(crate) const HOLD: &str =
     "LETTER\nGAME g1\nFROM england\nSECRET eeeeeeee\nNUMBER 1\nORDERS\nf  LON h\nEND\n";
 
-const HELD: &str = "REPLY g1 england 1\nOK F lon H\nEND\n";
+pub(crate) const HELD: &str = "REPLY g1 england 1\nOK F lon H\nEND\n";
 
 /// A reader of so many line ends.
 #[derive(Drop)]
@@ -46,43 +46,6 @@ fn standard(alloc: Global) -> Result<Map, Fail> {
         Ok(map) => Ok(map),
         Err(_) => Err(Fail::from("no standard map")),
     }
-}
-
-/// Asserts that this is written for an input that is read and answered so many bytes at a call.
-fn assert_pieces(
-    rt: &impl Abort,
-    alloc: Global,
-    map: &Map,
-    input: &[u8],
-    expected: &[u8],
-    step: usize,
-) {
-    let mut reader = Script {
-        bytes: input,
-        step,
-        fails: false,
-    };
-    let mut writer = Page {
-        bytes: Vec::new(alloc),
-        step,
-        most: 1_000,
-    };
-    let mut keeper = MemoryKeeper::new(alloc, digest("desk", "master", "master-key"));
-    let outcome = run_file(alloc, &mut reader, &mut writer, &mut keeper, map);
-    assert!(rt; outcome == Ok(()));
-    assert!(rt; writer.bytes.as_slice() == expected);
-}
-
-#[test]
-fn reads_and_writes_in_pieces(rt: HostRuntime) -> Result<(), Fail> {
-    let alloc = rt.alloc();
-    let map = standard(alloc)?;
-    let input = [CREATE, HOLD].concat(alloc)?;
-    let expected = [CREATED, HELD].concat(alloc)?;
-    let (input, expected) = (input.as_bytes(), expected.as_bytes());
-    assert_pieces(&rt, alloc, &map, input, expected, 1);
-    assert_pieces(&rt, alloc, &map, input, expected, 7);
-    Ok(())
 }
 
 /// Asserts that nothing is written where the reader fails behind these bytes.

@@ -1,6 +1,5 @@
 //! Readers and writers that never fail, though signals interrupt them: a run over them ends well.
-use super::answers::answers;
-use super::letters::Letters;
+use super::run::{CREATE, CREATED, HELD, HOLD};
 use dip_desk::MemoryKeeper;
 use dip_judge_runs::run_file;
 use dip_letters::digest;
@@ -92,34 +91,29 @@ fn assert_answers(
     assert!(rt; writer.bytes.as_slice() == expected);
 }
 
-fn push_fifty(letters: &mut Letters) -> Result<(), AllocError> {
-    for _ in 0..50 {
-        let author = letters.any_author();
-        let command = letters.command(author)?;
-        letters.push(author, command.as_str())?;
+/// How many bytes a call moves.
+const STEPS: &[usize] = &[1, 3, 7, 4096, 100_000];
+
+/// An input has these answers, however many bytes a call moves.
+fn assert_same(rt: &impl Abort, alloc: Global, map: &Map, input: &[u8], expected: &[u8]) {
+    for &step in STEPS {
+        assert_answers(rt, alloc, map, input, step, expected);
     }
-    Ok(())
 }
 
-/// How many bytes a call moves.
-const STEPS: &[usize] = &[1, 3, 4096, 100_000];
-
-/// An input has the same answers, however many bytes a call moves.
-fn assert_same(rt: &impl Abort, alloc: Global, map: &Map, input: &str) -> Result<(), Fail> {
-    let expected = answers(alloc, map, input)?;
-    let expected = expected.as_bytes();
-    for &step in STEPS {
-        assert_answers(rt, alloc, map, input.as_bytes(), step, expected);
-    }
-    Ok(())
+/// A text, and behind it another a hundred times.
+fn often(alloc: Global, first: &str, again: &str) -> Result<String, AllocError> {
+    let again = again.repeat(alloc, 100)?;
+    [first, again.as_str()].concat(alloc)
 }
 
 #[test]
 fn signals_end_no_run(rt: HostRuntime) -> Result<(), Fail> {
     let map = Map::from_toml(rt.alloc(), STANDARD)?;
-    let mut letters = Letters::new(rt.alloc(), 1)?;
-    push_fifty(&mut letters)?;
-    assert_same(&rt, rt.alloc(), &map, letters.text.as_str())
+    let input = often(rt.alloc(), CREATE, HOLD)?;
+    let expected = often(rt.alloc(), CREATED, HELD)?;
+    assert_same(&rt, rt.alloc(), &map, input.as_bytes(), expected.as_bytes());
+    Ok(())
 }
 
 /// How many bytes an input has, and how many a call moves.

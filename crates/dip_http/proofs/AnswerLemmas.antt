@@ -18,9 +18,9 @@ use Rattle.dip_http.specs.declared.front.RequestFront.{RequestFront}
 use Rattle.dip_http.specs.Places.{Place, letters, game, paper, place_of}
 use Rattle.dip_http.specs.Answers.{IsPart, refusal}
 use Rattle.dip_http.specs.Reading.{IsDecided}
-use Rattle.dip_http.specs.Verdicts.{Verdict, ask_verdict, is_get, is_head, letter_verdict, place_verdict, refuse, verdict_of}
+use Rattle.dip_http.specs.Verdicts.{Verdict, ask_verdict, is_get, is_head, letter_verdict, place_verdict, refuse, show_game, show_paper, take_letter, verdict_of}
 use Rattle.dip_http.specs.Answering.{headed, headless, silent}
-use Rattle.dip_http.specs.Ends.{Answered, Carried, CarriedBy, EndsBy, WasLeft, without_body}
+use Rattle.dip_http.specs.Ends.{Answered, Carried, CarriedBy, EndsBy, EndsQuietly, PartRefused, TakesBy, TakesPost, Tells, WasLeft, without_body}
 use Rattle.dip_http.specs.declared.faults.HttpFault.{HttpFault}
 use Rattle.dip_http.specs.declared.faults.HttpFault.TheVariants.{Read, Write, Memory, Keep}
 use Rattle.dip_http.proofs.CarryLemmas.{left_of}
@@ -181,6 +181,20 @@ headed_whole m known left bytes head rest old new a b (Ok u) c is h = record {
 }
 headed_whole m known left bytes head rest old new a b (Err e) c is h = tt
 
+-- a beginning of the 503 was written
+refused : (known left : Option (List ℕ)) (bytes : List ℕ) (head : RequestHead) (rest : List ℕ) (a b : Option (List ℕ)) → Consumes known left bytes → IsHead bytes head rest
+    → IsPart a b (refusal 503 None (without_body (verdict_of head) (is_head head.method))) → PartRefused known a b
+refused known left bytes head rest a b c is h =
+    let more = left_of left in
+    record {
+      input = bytes ++ more.0;
+      read = input_of known left bytes more.0 c more.1;
+      head = head;
+      rest = rest ++ more.0;
+      headed = head_stays bytes head rest more.0 is;
+      written = subst (λ (quiet : Bool). IsPart a b (refusal 503 None quiet)) (bodiless head) h;
+    }
+
 part_of_headed : (m : Chart) (known left : Option (List ℕ)) (bytes : List ℕ) (head : RequestHead) (rest : List ℕ) (old new : State) (a b : Option (List ℕ))
     (f : HttpFault) → Consumes known left bytes → IsHead bytes head rest
     → CarriedBy m f (verdict_of head) (is_head head.method) rest left old new a b → EndsBy m f known old new a b
@@ -193,18 +207,7 @@ part_of_headed m known left bytes head rest old new a b Write c is h = record {
   answers = headed (bytes ++ h.more) old h.answer new head (rest ++ h.more) (head_stays bytes head rest h.more is) h.carries;
   written = h.written;
 }
-part_of_headed m known left bytes head rest old new a b (Keep fault) c is h =
-    let more = left_of left in (
-      h.0,
-      record {
-        input = bytes ++ more.0;
-        read = input_of known left bytes more.0 c more.1;
-        head = head;
-        rest = rest ++ more.0;
-        headed = head_stays bytes head rest more.0 is;
-        written = subst (λ (quiet : Bool). IsPart a b (refusal 503 None quiet)) (bodiless head) h.1;
-      },
-    )
+part_of_headed m known left bytes head rest old new a b (Keep fault) c is h = (h.0, refused known left bytes head rest a b c is h.1)
 
 pub headed_part : (m : Chart) (known left : Option (List ℕ)) (bytes : List ℕ) (head : RequestHead) (rest : List ℕ) (old new : State) (a b : Option (List ℕ))
     (r : Result (Unit {0}) HttpFault) → Consumes known left bytes → IsHead bytes head rest
@@ -212,6 +215,37 @@ pub headed_part : (m : Chart) (known left : Option (List ℕ)) (bytes : List ℕ
     → IfErr r (λ f. EndsBy m f known old new a b)
 headed_part m known left bytes head rest old new a b (Ok u) c is h = tt
 headed_part m known left bytes head rest old new a b (Err e) c is h = part_of_headed m known left bytes head rest old new a b e c is h
+
+-- what a fault tells
+told_of_headed : {K : Type 0} (known left : Option (List ℕ)) (bytes : List ℕ) (head : RequestHead) (rest : List ℕ) (old new : K) (a b : Option (List ℕ)) (f : HttpFault)
+    → Consumes known left bytes → IsHead bytes head rest → Tells f (without_body (verdict_of head) (is_head head.method)) old new a b → EndsQuietly f known old new a b
+told_of_headed known left bytes head rest old new a b Read c is h = h
+told_of_headed known left bytes head rest old new a b Memory c is h = h
+told_of_headed known left bytes head rest old new a b Write c is h = tt
+told_of_headed known left bytes head rest old new a b (Keep fault) c is h = refused known left bytes head rest a b c is h
+
+-- the letter that was taken is the one that the connection posts
+posted_by : (m : Chart) (known left : Option (List ℕ)) (bytes : List ℕ) (head : RequestHead) (rest : List ℕ) (old new : State) (v : Verdict)
+    → Consumes known left bytes → IsHead bytes head rest → v ≡ verdict_of head → TakesBy m v rest left old new → TakesPost m known old new
+posted_by m known left bytes head rest old new (take_letter size) c is asks h = record {
+  input = bytes ++ h.more;
+  read = input_of known left bytes h.more c h.left;
+  letter = h.takes.letter;
+  post = record {
+    head = head;
+    rest = rest ++ h.more;
+    headed = head_stays bytes head rest h.more is;
+    size = size;
+    asks = sym asks;
+    whole = h.whole;
+    letter = h.takes.is;
+  };
+  reply = h.takes.reply;
+  step = h.takes.step;
+}
+posted_by m known left bytes head rest old new (refuse status allow) c is asks h = absurd h
+posted_by m known left bytes head rest old new (show_game name) c is asks h = absurd h
+posted_by m known left bytes head rest old new (show_paper name number) c is asks h = absurd h
 
 -- the same, of what the code found: a front, a plan's verdict, whether it is HEAD, and what stands behind the head
 pub fronted_whole : (m : Chart) (known left : Option (List ℕ)) (bytes : List ℕ) (front : RequestFront) (v : Verdict) (quiet : Bool) (start : List ℕ)
@@ -235,3 +269,21 @@ fronted_part m known left bytes front v quiet start old new a b r c is v_is quie
     let by_quiet = subst (λ (q : Bool). IfErr r (λ f. CarriedBy m f (verdict_of is.1) q start left old new a b)) (quiet_is ∙ ap is_head shows.method) by_verdict in
     headed_part m known left bytes is.1 _ old new a b r c is.2
     (subst (λ (s : List ℕ). IfErr r (λ f. CarriedBy m f (verdict_of is.1) (is_head is.1.method) s left old new a b)) start_is by_quiet)
+
+pub fronted_tells : {K : Type 0} (known left : Option (List ℕ)) (bytes : List ℕ) (front : RequestFront) (v : Verdict) (quiet : Bool) (old new : K) (a b : Option (List ℕ))
+    (r : Result (Unit {0}) HttpFault) → Consumes known left bytes → IsFront bytes (Head front)
+    → v ≡ ask_verdict front.method.now (option_map ask_view front.asked) → quiet ≡ is_head front.method.now
+    → IfErr r (λ f. Tells f (without_body v quiet) old new a b) → IfErr r (λ f. EndsQuietly f known old new a b)
+fronted_tells known left bytes front v quiet old new a b (Ok u) c is v_is quiet_is h = tt
+fronted_tells known left bytes front v quiet old new a b (Err f) c is v_is quiet_is h =
+    let shows = is.3 in
+    let by_verdict = subst (λ (w : Verdict). Tells f (without_body w quiet) old new a b) (v_is ∙ asks front is.1 shows) h in
+    told_of_headed known left bytes is.1 _ old new a b f c is.2
+    (subst (λ (q : Bool). Tells f (without_body (verdict_of is.1) q) old new a b) (quiet_is ∙ ap is_head shows.method) by_verdict)
+
+pub fronted_taken : (m : Chart) (known left : Option (List ℕ)) (bytes : List ℕ) (front : RequestFront) (v : Verdict) (start : List ℕ) (old new : State)
+    → Consumes known left bytes → IsFront bytes (Head front) → v ≡ ask_verdict front.method.now (option_map ask_view front.asked) → start ≡ drop front.size bytes
+    → TakesBy m v start left old new → TakesPost m known old new
+fronted_taken m known left bytes front v start old new c is v_is start_is h =
+    posted_by m known left bytes is.1 (drop front.size bytes) old new v c is.2 (v_is ∙ asks front is.1 is.3)
+    (subst (λ (s : List ℕ). TakesBy m v s left old new) start_is h)

@@ -7,7 +7,7 @@ use Rattle.dip_map.specs.Charts.{Chart}
 use Rattle.dip_desk_state.specs.State.{State}
 use Rattle.dip_http.specs.Verdicts.Verdict.{take_letter}
 use Rattle.dip_http.specs.Answering.{Posts}
-use Rattle.dip_http.specs.Ends.{Carried, CarriedBy, PostsTo, PostsToPart, WasLeft}
+use Rattle.dip_http.specs.Ends.{Carried, CarriedBy, PostsTo, PostsToPart, TakesBody, TakesMail, WasLeft}
 use Rattle.dip_http.specs.declared.faults.HttpFault.{HttpFault}
 use Rattle.dip_http.specs.declared.faults.HttpFault.TheVariants.{Read, Write, Memory, Keep}
 
@@ -56,3 +56,16 @@ body_part m size start read body known left old new before after (Err Write) con
       written = p.2;
     }
 body_part m size start read body known left old new before after (Err (Keep f)) cons is fits p = p
+
+-- the letter that it is was taken of what stands behind the head
+pub body_taken : (m : Chart) (size : ℕ) (start read body : List ℕ) (known left : Option (List ℕ)) (old new : State)
+    → Consumes known left read → body ≡ take size (start ++ read) → size ≤ length (start ++ read)
+    → TakesMail m body old new → TakesBody m size start known old new
+body_taken m size start read body known left old new cons is fits taken =
+    let a = all_left known left read cons in
+    record {
+      more = a.0;
+      left = a.1;
+      whole = longer size start read a.2.0 a.0 a.2.1 fits;
+      takes = subst (λ (b : List ℕ). TakesMail m b old new) (is ∙ same_front size start read a.2.0 a.0 a.2.1 fits) taken;
+    }

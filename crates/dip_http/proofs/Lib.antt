@@ -15,6 +15,7 @@ pub mod AnswerLemmas
 pub mod BodyLemmas
 pub mod CarryLemmas
 pub mod EndLemmas
+pub mod OpenLemmas
 pub mod LetterLemmas
 pub mod TextNumbers
 pub mod Cases

@@ -1,24 +1,42 @@
 -- How a connection and its parts end: what was written, and what the desk is.
-use Rattle.std.specs.Prelude.{◌≡◌, ℕ, List, ◌++◌, Bool, false, Option, None, IfSome, Result}
+use Rattle.std.specs.Prelude.{◌≡◌, ◌≤◌, ◌⊎◌, ℕ, List, ◌++◌, Bool, false, Option, None, IfSome, Result, length, take}
 use Rattle.std.specs.Io.KnownBytes.{Appends}
 use Rattle.httparse.specs.Grammar.{RequestHead}
 use Rattle.dip_map.specs.Charts.{Chart}
-use Rattle.dip_desk.specs.Keeping.{Book}
+use Rattle.dip_desk.specs.Keeping.{Book, Ends, Rises, Settles}
+use Rattle.dip_desk_machine.specs.Machine.{Step}
+use Rattle.dip_desk_machine.specs.Mail.{Mail}
+use Rattle.dip_desk_state.specs.Records.{Reply}
 use Rattle.dip_desk_state.specs.State.{State}
 use Rattle.dip_http.specs.Heads.{IsHead}
 use Rattle.dip_http.specs.Answers.{IsPart, refusal}
 use Rattle.dip_http.specs.Verdicts.{Verdict, is_head, take_letter}
-use Rattle.dip_http.specs.Answering.{Carries, IsAnswer, Posts}
-use Rattle.dip_http.specs.Faults.{faults_after_answer}
+use Rattle.dip_http.specs.Answering.{Carries, IsAnswer, IsOneLetter, Posts}
+use Rattle.dip_http.specs.Laws.{IsPost}
+use Rattle.dip_http.specs.Faults.{OnKept, faults_after_answer}
 use Rattle.dip_http.specs.declared.faults.HttpFault.{HttpFault}
 use Rattle.dip_http.specs.declared.faults.HttpFault.TheVariants.{Read, Write, Memory, Keep}
 
--- what a connection keeps of a keeper, whatever it answers
+-- what a connection keeps of a keeper, whatever it answers. Where the keeper answered it stays open, and it is shut only where the store
+-- told of a fault of the disk
 pub record Keeps {K X : Type 0} (m : Chart) (b : Book K) (old new : K) (result : Result X HttpFault) : Type 0 where
   pub count : b.faults new ≡ faults_after_answer result (b.faults old)
+  pub told : b.told old ≤ b.told new
   pub fair : b.honest new → b.honest old
   pub shown : b.shows new → b.shows old
   pub sound : b.sound m old → b.shows new → b.sound m new
+  pub firm : b.sound m old → b.honest new → OnKept result (b.sound m new)
+  pub stays_open : b.sound m old → b.honest new → b.shows old → OnKept result (b.shows new)
+  pub shuts : b.honest new → b.shows old → b.shows new ⊎ Rises (b.told old) (b.told new)
+  pub settles : Settles m b old new
+
+-- what a fault tells of a keeper and of what was written, whatever the keeper shows: one of reading leaves the keeper unasked, with one of
+-- reading or memory nothing was written, and where the keeper gave no answer a beginning of the 503
+abbrev pub Tells : {K : Type 0} → HttpFault → Bool → K → K → Option (List ℕ) → Option (List ℕ) → Type 0
+Tells Read quiet old new before after = (new ≡ old) × (after ≡ before)
+Tells Memory quiet old new before after = after ≡ before
+Tells Write quiet old new before after = Unit {0}
+Tells (Keep fault) quiet old new before after = IsPart before after (refusal 503 None quiet)
 
 -- the desk stays, and this text was written
 pub record Shows (text : List ℕ) (old new : State) (before after : Option (List ℕ)) : Type 0 where
@@ -78,6 +96,25 @@ CarriedBy m Write verdict quiet start known old new before after = PartCarried m
 CarriedBy m (Keep fault) verdict quiet start known old new before after =
     (new ≡ old) × IsPart before after (refusal 503 None (without_body verdict quiet))
 
+-- the letter that a body is was taken by a step
+pub record TakesMail (m : Chart) (body : List ℕ) (old new : State) : Type 0 where
+  pub letter : Mail
+  pub is : IsOneLetter body letter
+  pub reply : Reply
+  pub step : Step m old letter reply new
+
+-- the same of a body of this size behind a head
+pub record TakesBody (m : Chart) (size : ℕ) (start : List ℕ) (known : Option (List ℕ)) (old new : State) : Type 0 where
+  pub more : List ℕ
+  pub left : WasLeft known more
+  pub whole : size ≤ length (start ++ more)
+  pub takes : TakesMail m (take size (start ++ more)) old new
+
+-- and of the body that a verdict takes; others take none
+abbrev pub TakesBy : Chart → Verdict → List ℕ → Option (List ℕ) → State → State → Type 0
+TakesBy m (take_letter size) start known old new = TakesBody m size start known old new
+TakesBy m _ start known old new = ⊥
+
 -- a body was read, and answered
 abbrev pub ReadsBody : Chart → ℕ → List ℕ → Option (List ℕ) → State → State → Option (List ℕ) → Option (List ℕ) → Type 0
 ReadsBody m size start known old new before after = Carried m (take_letter size) false start known old new before after
@@ -117,3 +154,32 @@ EndsBy m Read known old new before after = (new ≡ old) × (after ≡ before)
 EndsBy m Memory known old new before after = (new ≡ old) × (after ≡ before)
 EndsBy m Write known old new before after = PartAnswered m known old new before after
 EndsBy m (Keep fault) known old new before after = (new ≡ old) × PartRefused known before after
+
+-- what a fault tells of a connection, whatever the keeper shows
+abbrev pub EndsQuietly : {K : Type 0} → HttpFault → Option (List ℕ) → K → K → Option (List ℕ) → Option (List ℕ) → Type 0
+EndsQuietly Read known old new before after = (new ≡ old) × (after ≡ before)
+EndsQuietly Memory known old new before after = after ≡ before
+EndsQuietly Write known old new before after = Unit {0}
+EndsQuietly (Keep fault) known old new before after = PartRefused known before after
+
+-- the letter that a connection posts was taken by a step
+pub record TakesPost (m : Chart) (known : Option (List ℕ)) (old new : State) : Type 0 where
+  pub input : List ℕ
+  pub read : WasLeft known input
+  pub letter : Mail
+  pub post : IsPost input letter
+  pub reply : Reply
+  pub step : Step m old letter reply new
+
+-- what a crash may leave behind a fault beside the state: where the keeper gave no answer, what the posted letter leaves
+abbrev pub MayTake : Chart → HttpFault → Option (List ℕ) → State → State → Type 0
+MayTake m (Keep fault) known old new = TakesPost m known old new
+MayTake m _ known old new = ⊥
+
+-- how a connection to a keeper that was open ends by a fault: the state behind it is what a crash leaves, or one letter more, whole; and
+-- the keeper is open and has it, or the store told of a fault
+pub record EndsAt {K : Type 0} (m : Chart) (b : Book K) (fault : HttpFault) (known : Option (List ℕ)) (old new : K)
+    (before after : Option (List ℕ)) : Type 0 where
+  pub state : State
+  pub by : EndsBy m fault known (b.content m old) state before after
+  pub ends : Ends m b old new state (MayTake m fault known (b.content m old))

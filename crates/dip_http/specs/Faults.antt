@@ -15,3 +15,12 @@ http_name (Keep fault) = keep_fault_name fault
 abbrev pub faults_after_answer : {X : Type 0} → Result X HttpFault → ℕ → ℕ
 faults_after_answer (Err (Keep fault)) n = faults_with fault n
 faults_after_answer _ n = n
+
+-- what holds where the keeper answered, and what holds where it gave no answer
+abbrev pub OnKept : {X : Type 0} → Result X HttpFault → Type 0 → Type 0
+OnKept (Err (Keep fault)) P = Unit {0}
+OnKept _ P = P
+
+abbrev pub OnUnkept : {X : Type 0} → Result X HttpFault → Type 0 → Type 0
+OnUnkept (Err (Keep fault)) P = P
+OnUnkept _ P = Unit {0}

@@ -1,8 +1,11 @@
 //! One request and its answer.
-ghost use Rattle.std.specs.Prelude.{◌≡◌, ◌<◌, IfErr, IsErrOf, OnOk};
+ghost use Rattle.std.specs.Prelude.{◌≡◌, ◌<◌, ◌⊎◌, IfErr, IsErrOf, OnOk};
+ghost use Rattle.dip_desk.specs.Keeping.{IsOpen};
 ghost use Rattle.dip_desk_machine.specs.Lawful.{IsLawful};
+ghost use Rattle.dip_desk_state.specs.State.{State};
 ghost use Rattle.dip_http.specs.AnswerViews.{plan_view};
-ghost use Rattle.dip_http.specs.Ends.{Answered, Carried, CarriedBy, EndsBy, Keeps};
+ghost use Rattle.dip_http.specs.Ends.{Answered, Carried, CarriedBy, EndsAt, EndsBy, EndsQuietly, Keeps, TakesBy, Tells, without_body};
+ghost use Rattle.dip_http.specs.Faults.{OnUnkept};
 
 use crate::endings::refuse;
 use crate::faults::HttpFault;
@@ -32,6 +35,14 @@ fn carry_out<R: Read, W: Write, K: Keeper>(
 ) -> Result<(), HttpFault>
     requires { K.book.faults keeper.old < u64.MAX }
     ensures keeps { Keeps map.now K.book keeper.old keeper.new result }
+    ensures tells { IfErr result (λ f. Tells f (without_body (plan_view plan.entry) quiet)
+        keeper.old keeper.new (W.contents writer.old) (W.contents writer.new)) }
+    ensures left { K.book.sound map.now keeper.old → K.book.honest keeper.new
+        → K.book.shows keeper.old → OnUnkept result
+        ((s : State) → K.book.may_leave map.now keeper.new s
+        → K.book.may_leave map.now keeper.old s
+        ⊎ TakesBy map.now (plan_view plan.entry) start.now (R.remaining reader.old)
+        (K.book.content map.now keeper.old) s) }
     ensures ok { K.book.sound map.now keeper.old → K.book.shows keeper.new → OnOk result
         (Carried map.now (plan_view plan.entry) quiet start.now (R.remaining reader.old)
         (K.book.content map.now keeper.old) (K.book.content map.now keeper.new)
@@ -70,6 +81,17 @@ pub fn answer_one<R: Read, W: Write, K: Keeper>(
 ) -> Result<(), HttpFault>
     requires { K.book.faults keeper.old < u64.MAX }
     ensures keeps { Keeps map.now K.book keeper.old keeper.new result }
+    // What a fault tells whatever the keeper shows.
+    ensures tells { IfErr result (λ f. EndsQuietly f (R.remaining reader.old) keeper.old keeper.new
+        (W.contents writer.old) (W.contents writer.new)) }
+    // From an open keeper on, over an honest disk.
+    ensures goes { IsOpen map.now K.book keeper.old → K.book.honest keeper.new → OnOk result
+        (IsOpen map.now K.book keeper.new
+        × Answered map.now (R.remaining reader.old) (K.book.content map.now keeper.old)
+        (K.book.content map.now keeper.new) (W.contents writer.old) (W.contents writer.new)) }
+    ensures ends { IsOpen map.now K.book keeper.old → K.book.honest keeper.new → IfErr result
+        (λ f. EndsAt map.now K.book f (R.remaining reader.old) keeper.old keeper.new
+        (W.contents writer.old) (W.contents writer.new)) }
     ensures answered { K.book.sound map.now keeper.old → K.book.shows keeper.new → OnOk result
         (Answered map.now (R.remaining reader.old) (K.book.content map.now keeper.old)
         (K.book.content map.now keeper.new) (W.contents writer.old) (W.contents writer.new)) }

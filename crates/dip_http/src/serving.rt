@@ -1,7 +1,8 @@
 //! One client, from its first byte to the end of its socket.
 ghost use Rattle.std.specs.Prelude.{◌<◌, IfErr, IsErrOf, None, OnOk};
+ghost use Rattle.dip_desk.specs.Keeping.{IsOpen};
 ghost use Rattle.dip_desk_machine.specs.Lawful.{IsLawful};
-ghost use Rattle.dip_http.specs.Ends.{Answered, EndsBy, Keeps};
+ghost use Rattle.dip_http.specs.Ends.{Answered, EndsAt, EndsBy, EndsQuietly, Keeps};
 
 use crate::answering::answer_one;
 use crate::faults::HttpFault;
@@ -44,6 +45,14 @@ pub fn serve_one<C: Clock, K: Keeper>(
 ) -> Result<(), HttpFault>
     requires { K.book.faults keeper.old < u64.MAX }
     ensures keeps { Keeps map.now K.book keeper.old keeper.new result }
+    ensures tells { IfErr result (λ f. EndsQuietly f None keeper.old keeper.new None None) }
+    // From an open keeper on, over an honest disk.
+    ensures goes { IsOpen map.now K.book keeper.old → K.book.honest keeper.new → OnOk result
+        (IsOpen map.now K.book keeper.new
+        × Answered map.now None (K.book.content map.now keeper.old)
+        (K.book.content map.now keeper.new) None None) }
+    ensures ends { IsOpen map.now K.book keeper.old → K.book.honest keeper.new → IfErr result
+        (λ f. EndsAt map.now K.book f None keeper.old keeper.new None None) }
     // Some request was answered as it is to be, as far as the desk goes: what went over the socket
     // the system alone knows.
     ensures answered { K.book.sound map.now keeper.old → K.book.shows keeper.new → OnOk result

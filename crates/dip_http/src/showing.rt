@@ -1,8 +1,8 @@
 //! What GET and HEAD are answered: the public part of a game, or a paper.
 ghost use Rattle.std.specs.Prelude.{◌<◌, ℕ, IfErr, IsErrOf, OnOk, Option};
-ghost use Rattle.dip_desk_state.specs.State.{paper_at, public_at};
+ghost use Rattle.dip_desk_state.specs.State.{State, paper_at, public_at};
 ghost use Rattle.dip_http.specs.Answering.{IsNumber, game_answer, paper_answer, paper_named};
-ghost use Rattle.dip_http.specs.Ends.{Keeps, Shows, ShowsPart};
+ghost use Rattle.dip_http.specs.Ends.{Keeps, Shows, ShowsPart, Tells};
 
 use crate::endings::{refuse, unavailable, write_found};
 use crate::faults::HttpFault;
@@ -27,6 +27,11 @@ pub fn show_game<W: Write, K: Keeper>(
 ) -> Result<(), HttpFault>
     requires { K.book.faults keeper.old < u64.MAX }
     ensures keeps { Keeps map.now K.book keeper.old keeper.new result }
+    ensures tells { IfErr result (λ f. Tells f quiet keeper.old keeper.new
+        (W.contents writer.old) (W.contents writer.new)) }
+    ensures left { K.book.sound map.now keeper.old → K.book.honest keeper.new
+        → (s : State) → K.book.may_leave map.now keeper.new s
+        → K.book.may_leave map.now keeper.old s }
     ensures ok { K.book.sound map.now keeper.old → K.book.shows keeper.new → OnOk result
         (Shows (game_answer map.now quiet
         (public_at name.now (K.book.content map.now keeper.old)))
@@ -69,6 +74,11 @@ fn show_numbered<W: Write, K: Keeper>(
 ) -> Result<(), HttpFault>
     requires { K.book.faults keeper.old < u64.MAX }
     ensures keeps { Keeps map.now K.book keeper.old keeper.new result }
+    ensures tells { IfErr result (λ f. Tells f quiet keeper.old keeper.new
+        (W.contents writer.old) (W.contents writer.new)) }
+    ensures left { K.book.sound map.now keeper.old → K.book.honest keeper.new
+        → (s : State) → K.book.may_leave map.now keeper.new s
+        → K.book.may_leave map.now keeper.old s }
     ensures ok { K.book.sound map.now keeper.old → K.book.shows keeper.new → OnOk result
         (Shows (paper_answer quiet
         (paper_at name.now number (K.book.content map.now keeper.old)))
@@ -108,6 +118,11 @@ pub fn show_paper<W: Write, K: Keeper>(
 ) -> Result<(), HttpFault>
     requires { K.book.faults keeper.old < u64.MAX }
     ensures keeps { Keeps map.now K.book keeper.old keeper.new result }
+    ensures tells { IfErr result (λ f. Tells f quiet keeper.old keeper.new
+        (W.contents writer.old) (W.contents writer.new)) }
+    ensures left { K.book.sound map.now keeper.old → K.book.honest keeper.new
+        → (s : State) → K.book.may_leave map.now keeper.new s
+        → K.book.may_leave map.now keeper.old s }
     ensures ok { K.book.sound map.now keeper.old → K.book.shows keeper.new
         → OnOk result ((n : Option ℕ) × IsNumber number.now n
         × Shows (paper_answer quiet

@@ -1,9 +1,11 @@
 //! What POST is answered: the letter that is its body is taken.
-ghost use Rattle.std.specs.Prelude.{◌≡◌, ◌<◌, ◌++◌, ℕ, List, IfErr, IfNone, IfSome, IsErrOf, OnOk};
+ghost use Rattle.std.specs.Prelude.{◌≡◌, ◌<◌, ◌++◌, ◌⊎◌, ℕ, List, IfErr, IfNone, IfSome, IsErrOf, OnOk, false};
 ghost use Rattle.dip_desk_machine.specs.Lawful.{IsLawful};
 ghost use Rattle.dip_desk_machine.specs.Mail.{IsMail, Mail, mail};
+ghost use Rattle.dip_desk_state.specs.State.{State};
 ghost use Rattle.dip_http.specs.Answering.{IsOneLetter, status_of};
-ghost use Rattle.dip_http.specs.Ends.{Keeps, PostsTo, PostsToPart, ReadsBody, ReadsBodyPart};
+ghost use Rattle.dip_http.specs.Ends.{Keeps, PostsTo, PostsToPart, ReadsBody, ReadsBodyPart, TakesBody, TakesMail, Tells};
+ghost use Rattle.dip_http.specs.Faults.{OnUnkept};
 
 use crate::endings::{refuse, unavailable, write_reply};
 use crate::faults::HttpFault;
@@ -55,6 +57,13 @@ fn take_body<W: Write, K: Keeper>(
 ) -> Result<(), HttpFault>
     requires { K.book.faults keeper.old < u64.MAX }
     ensures keeps { Keeps map.now K.book keeper.old keeper.new result }
+    ensures tells { IfErr result (λ f. Tells f false keeper.old keeper.new
+        (W.contents writer.old) (W.contents writer.new)) }
+    ensures left { K.book.sound map.now keeper.old → K.book.honest keeper.new
+        → K.book.shows keeper.old → OnUnkept result
+        ((s : State) → K.book.may_leave map.now keeper.new s
+        → K.book.may_leave map.now keeper.old s
+        ⊎ TakesMail map.now body.now (K.book.content map.now keeper.old) s) }
     ensures ok { K.book.sound map.now keeper.old → K.book.shows keeper.new → OnOk result
         (PostsTo map.now body.now (K.book.content map.now keeper.old)
         (K.book.content map.now keeper.new) (W.contents writer.old) (W.contents writer.new)) }
@@ -94,6 +103,14 @@ pub fn take_letter<R: Read, W: Write, K: Keeper>(
 ) -> Result<(), HttpFault>
     requires { K.book.faults keeper.old < u64.MAX }
     ensures keeps { Keeps map.now K.book keeper.old keeper.new result }
+    ensures tells { IfErr result (λ f. Tells f false keeper.old keeper.new
+        (W.contents writer.old) (W.contents writer.new)) }
+    ensures left { K.book.sound map.now keeper.old → K.book.honest keeper.new
+        → K.book.shows keeper.old → OnUnkept result
+        ((s : State) → K.book.may_leave map.now keeper.new s
+        → K.book.may_leave map.now keeper.old s
+        ⊎ TakesBody map.now size start.now (R.remaining reader.old)
+        (K.book.content map.now keeper.old) s) }
     ensures ok { K.book.sound map.now keeper.old → K.book.shows keeper.new → OnOk result
         (ReadsBody map.now size start.now (R.remaining reader.old)
         (K.book.content map.now keeper.old) (K.book.content map.now keeper.new)

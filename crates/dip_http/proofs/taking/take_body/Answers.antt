@@ -1,4 +1,4 @@
-use Rattle.std.proofs.Common.{None, false, ap, inl, inr, refl}
+use Rattle.std.proofs.Common.{Err, None, false, ap, inl, inr, refl}
 use Rattle.dip_desk_state.specs.Records.{Reply}
 use Rattle.dip_desk_state.specs.Rows as rows
 use Rattle.dip_reports.specs.Texts.{reply_text}
@@ -6,6 +6,7 @@ use Rattle.dip_desk_machine.specs.Mail.{mail}
 use Rattle.dip_http.specs.Answers.{answer_bytes, plain}
 use Rattle.dip_http.specs.Answering.{status_of}
 use Rattle.dip_http.proofs.EndLemmas.{posted_part, posted_whole}
+use Rattle.dip_http.proofs.OpenLemmas.{on_unkept}
 use Rattle.dip_http.proofs.taking.take_body.Goals as goal
 
 pub returns-in-Ok-clause-ok : goal.returns-in-Ok-clause-ok
@@ -32,3 +33,11 @@ returns-in-Ok-take-clause-err g c = λ sound shows.
 
 pub returns-in-Ok-take-clause-lawful : goal.returns-in-Ok-take-clause-lawful
 returns-in-Ok-take-clause-lawful g c = λ sound shows lawful. c.lawful_states_stay_lawful.ensures.stays _ (mail c.in-Some.letter) _ _ c.in-Some.ensures.mail lawful (c.in-Ok-take.ensures.done sound shows)
+
+pub returns-in-Err-take-clause-left : goal.returns-in-Err-take-clause-left
+returns-in-Err-take-clause-left g c = λ sound honest shows.
+    on_unkept {X = Unit {0}} (Err c.unavailable.result) _
+    (λ s may. elim (c.in-Err-take.ensures.left sound honest shows s may) [
+      | inl was ↦ inl was
+      | inr taken ↦ inr (record { letter = mail c.in-Some.letter; is = c.in-Some.ensures.some; reply = taken.0; step = taken.1 })
+    ])

@@ -1,10 +1,10 @@
 -- A walk from look to look.
-use Rattle.std.proofs.Common.{Ok, Err, Result, refl, ap, ◌∙◌}
+use Rattle.std.proofs.Common.{◌⊎◌, inl, inr, Ok, Err, Result, refl, sym, ap, arith, ◌∙◌}
 use Rattle.dip_store.specs.Papers.{Walks}
 use Rattle.dip_store.specs.declared.paper_faults.PaperFault.{PaperFault}
 use Rattle.dip_store.specs.declared.paper_faults.PaperFault.TheVariants.{Write, Keep}
 use Rattle.dip_map.specs.Charts.{Chart}
-use Rattle.dip_desk.specs.Keeping.{Book, Looks}
+use Rattle.dip_desk.specs.Keeping.{Book, Ends, IsOpen, Looks, Rises}
 use Rattle.dip_desk_state.specs.Faults.{faults_with}
 use Rattle.dip_desk_state.specs.declared.faults.KeepFault.{KeepFault}
 
@@ -26,37 +26,79 @@ module _ {K : Type 0} (m : Chart) (b : Book K) where
   pub begins : (X : Type 0) (x : X) (a : K) → Walks m b a a (went X x)
   begins X x a = record {
     count = refl;
+    told = omega arith;
     fair = λ h. h;
     shown = λ h. h;
     sound = λ s h. s;
     same = λ s h. refl;
     firm = λ s h. s;
+    stays_open = λ s h o. o;
+    shuts = λ h o. inl o;
     left = λ s h t may. may;
   }
 
   module _ (X Y : Type 0) (x : X) (a c d : K) (so_far : Walks m b a c (went X x)) where
+    -- the keeper shows still, or the store told of a fault in this look or before it
+    shut : (Z : Type 0) (r : Result Z KeepFault) (V : Z → Type 0) (D : Type 0) → Looks m b c d V D r → b.honest d → b.shows a → b.shows d ⊎ Rises (b.told a) (b.told d)
+    shut Z r V D look h o = elim (so_far.shuts (look.keeps.fair h) o) [
+      | inl on ↦ elim (look.keeps.shuts h on) [
+        | inl still ↦ inl still
+        | inr rises ↦ inr (omega (arith, rises, so_far.told))
+      ]
+      | inr rises ↦ inr (omega (arith, rises, look.keeps.told))
+    ]
+
     pub goes_on : (Z : Type 0) (z : Z) (V : Y → Type 0) (D : Type 0) (y : Y) → Looks m b c d V D (shown Y y) → Walks m b a d (went Z z)
     goes_on Z z V D y look = record {
       count = look.keeps.count ∙ so_far.count;
+      told = omega (arith, so_far.told, look.keeps.told);
       fair = λ h. so_far.fair (look.keeps.fair h);
       shown = λ h. so_far.shown (look.keeps.shown h);
       sound = λ s h. look.keeps.sound (so_far.sound s (look.keeps.shown h)) h;
       same = λ s h. look.same (so_far.sound s (look.keeps.shown h)) h ∙ so_far.same s (look.keeps.shown h);
       firm = λ s h. look.keeps.firm (so_far.firm s (look.keeps.fair h)) h;
+      stays_open = λ s h o. let before = look.keeps.fair h in look.keeps.stays_open (so_far.firm s before) h (so_far.stays_open s before o);
+      shuts = λ h o. shut Y (shown Y y) V D look h o;
       left = λ s h t may. so_far.left s (look.keeps.fair h) t (look.left (so_far.firm s (look.keeps.fair h)) h t may);
     }
 
     pub ends_by : (Z : Type 0) (V : Y → Type 0) (D : Type 0) (f : KeepFault) → Looks m b c d V D (refused Y f) → Walks m b a d (stopped Z (Keep f))
     ends_by Z V D f look = record {
       count = look.keeps.count ∙ ap (faults_with f) so_far.count;
+      told = omega (arith, so_far.told, look.keeps.told);
       fair = λ h. so_far.fair (look.keeps.fair h);
       shown = λ h. so_far.shown (look.keeps.shown h);
       sound = λ s h. look.keeps.sound (so_far.sound s (look.keeps.shown h)) h;
       same = λ s h. look.same (so_far.sound s (look.keeps.shown h)) h ∙ so_far.same s (look.keeps.shown h);
       firm = λ s h. tt;
+      stays_open = λ s h o. tt;
+      shuts = λ h o. shut Y (refused Y f) V D look h o;
       left = λ s h t may. so_far.left s (look.keeps.fair h) t (look.left (so_far.firm s (look.keeps.fair h)) h t may);
     }
 
+  -- a walk that was open is open where the keeper still shows
+  still : (X : Type 0) (r : Result X PaperFault) (a c : K) → Walks m b a c r → IsOpen m b a → b.honest c → b.shows c → IsOpen m b c
+  still X r a c w it h o = record { sound = w.sound it.sound o; shows = o; alone = λ t may. it.alone t (w.left it.sound h t may) ∙ sym (w.same it.sound o) }
+
+  pub goes_open : (X : Type 0) (x : X) (a c : K) → Walks m b a c (went X x) → IsOpen m b a → b.honest c → IsOpen m b c
+  goes_open X x a c w it h = still X (went X x) a c w it h (w.stays_open it.sound h it.shows)
+
+  -- so is one that is broken off before more is asked
+  pub ends_still : (X : Type 0) (x : X) (a c : K) → Walks m b a c (went X x) → IsOpen m b a → b.honest c → Ends m b a c (b.content m a) (λ t. ⊥)
+  ends_still X x a c w it h =
+      let on = goes_open X x a c w it h in
+      record { left = λ t may. inl (it.alone t (w.left it.sound h t may)); goes = inl (on, w.same it.sound on.shows) }
+
+  -- and where it ended by a fault, it is open or the store told of a fault
+  pub ends_fault : (X : Type 0) (f : PaperFault) (a c : K) → Walks m b a c (stopped X f) → IsOpen m b a → b.honest c → Ends m b a c (b.content m a) (λ t. ⊥)
+  ends_fault X f a c w it h = record {
+    left = λ t may. inl (it.alone t (w.left it.sound h t may));
+    goes = elim (w.shuts h it.shows) [
+      | inl o ↦ inl (still X (stopped X f) a c w it h o, w.same it.sound o)
+      | inr rises ↦ inr rises
+    ];
+  }
+
   -- a writer's fault is none of the keeper
   pub breaks_off : (X Z : Type 0) (x : X) (a c : K) → Walks m b a c (went X x) → Walks m b a c (stopped Z Write)
-  breaks_off X Z x a c w = record { count = w.count; fair = w.fair; shown = w.shown; sound = w.sound; same = w.same; firm = λ s h. tt; left = w.left }
+  breaks_off X Z x a c w = record { count = w.count; told = w.told; fair = w.fair; shown = w.shown; sound = w.sound; same = w.same; firm = w.firm; stays_open = w.stays_open; shuts = w.shuts; left = w.left }

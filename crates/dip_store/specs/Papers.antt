@@ -1,13 +1,13 @@
 -- Papers as they are written out.
-use Rattle.std.specs.Prelude.{◌≡◌, ℕ, List, [], Option, None, Some, Result, Ok, Err, OnOk, codes, length, take}
+use Rattle.std.specs.Prelude.{◌≡◌, ◌≤◌, ◌⊎◌, ℕ, List, [], Option, None, Some, Result, Ok, Err, codes, length, take}
 use Rattle.std.specs.List.{flat_map}
 use Rattle.std.specs.Io.KnownBytes.{Appends}
 use Rattle.dip_store.specs.declared.paper_faults.PaperFault.{PaperFault}
 use Rattle.dip_store.specs.declared.paper_faults.PaperFault.TheVariants.{Write, Keep}
 use Rattle.dip_map.specs.Charts.{Chart}
-use Rattle.dip_desk.specs.Keeping.{Book}
+use Rattle.dip_desk.specs.Keeping.{Book, Ends, Rises}
 use Rattle.dip_desk_state.specs.Faults.{faults_with, keep_fault_name}
-use Rattle.dip_desk_state.specs.State.{Game, State}
+use Rattle.dip_desk_state.specs.State.{Game, State, game_at}
 
 -- a fault's name, as a program tells it
 abbrev pub paper_fault_name : PaperFault → List ℕ
@@ -38,12 +38,28 @@ faults_told (Ok x) n = n
 faults_told (Err Write) n = n
 faults_told (Err (Keep fault)) n = faults_with fault n
 
--- a walk through what is kept, which changes nothing
+-- what holds where the keeper answered
+abbrev pub OnShown : {X : Type 0} → Result X PaperFault → Type 0 → Type 0
+OnShown (Ok x) P = P
+OnShown (Err Write) P = P
+OnShown (Err (Keep fault)) P = Unit {0}
+
+-- a walk through what is kept, which changes nothing. Where the keeper answered it stays open, and it is shut only where the store told of a
+-- fault of the disk
 pub record Walks {K X : Type 0} (m : Chart) (b : Book K) (old new : K) (result : Result X PaperFault) : Type 0 where
   pub count : b.faults new ≡ faults_told result (b.faults old)
+  pub told : b.told old ≤ b.told new
   pub fair : b.honest new → b.honest old
   pub shown : b.shows new → b.shows old
   pub sound : b.sound m old → b.shows new → b.sound m new
   pub same : b.sound m old → b.shows new → b.content m new ≡ b.content m old
-  pub firm : b.sound m old → b.honest new → OnOk result (b.sound m new)
+  pub firm : b.sound m old → b.honest new → OnShown result (b.sound m new)
+  pub stays_open : b.sound m old → b.honest new → b.shows old → OnShown result (b.shows new)
+  pub shuts : b.honest new → b.shows old → b.shows new ⊎ Rises (b.told old) (b.told new)
   pub left : b.sound m old → b.honest new → (s : State) → b.may_leave m new s → b.may_leave m old s
+
+-- papers that a fault ended, from a keeper that was open: a beginning of them was written, a crash leaves what is kept as it was, and the
+-- keeper is open and has it, or the store told of a fault
+pub record BreaksOff {K : Type 0} (m : Chart) (b : Book K) (game : List ℕ) (old new : K) (before after : Option (List ℕ)) : Type 0 where
+  pub begun : AreBegun (game_at game (b.content m old)) before after
+  pub ends : Ends m b old new (b.content m old) (λ t. ⊥)

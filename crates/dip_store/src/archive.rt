@@ -1,7 +1,8 @@
 //! All papers of a game, in their order.
 ghost use Rattle.std.specs.Prelude.{◌≡◌, ◌<◌, ℕ, OnErr, OnOk, IfErr, IfOk, IsErrOf, length, take as first};
 ghost use Rattle.std.specs.Io.KnownBytes.{Appends};
-ghost use Rattle.dip_store.specs.Papers.{AreBegun, AreOut, Walks, papers_of, papers_text};
+ghost use Rattle.dip_desk.specs.Keeping.{IsOpen};
+ghost use Rattle.dip_store.specs.Papers.{AreBegun, AreOut, BreaksOff, Walks, papers_of, papers_text};
 ghost use Rattle.dip_desk_state.specs.Bounds.{most_papers};
 ghost use Rattle.dip_desk_state.specs.State.{game_at};
 ghost use Rattle.dip_store.specs.Stored.{book};
@@ -48,6 +49,9 @@ fn write_all<K: Keeper, W: Write>(
         → IsErrOf result (PaperFault.Keep KeepFault.Damaged)
         → most_papers < length (papers_of (game_at game.now (K.book.content map.now keeper.old))) }
     ensures walks { Walks map.now K.book keeper.old keeper.new result }
+    ensures ends { IsOpen map.now K.book keeper.old → K.book.honest keeper.new → OnErr result
+        (BreaksOff map.now K.book game.now keeper.old keeper.new (W.contents writer.old)
+        (W.contents writer.new)) }
 {
     let mut count = 0;
     'papers: while count <= MOST_PAPERS {
@@ -85,6 +89,14 @@ pub fn write_papers<K: Keeper, W: Write>(
         → IsErrOf result (PaperFault.Keep KeepFault.Damaged)
         → most_papers < length (papers_of (game_at game.now (K.book.content map.now keeper.old))) }
     ensures walks { Walks map.now K.book keeper.old keeper.new result }
+    // From an open keeper on, over an honest disk.
+    ensures goes { IsOpen map.now K.book keeper.old → K.book.honest keeper.new → IfOk result (λ o.
+        IsOpen map.now K.book keeper.new
+        × AreOut o (game_at game.now (K.book.content map.now keeper.old)) (W.contents writer.old)
+        (W.contents writer.new)) }
+    ensures ends { IsOpen map.now K.book keeper.old → K.book.honest keeper.new → OnErr result
+        (BreaksOff map.now K.book game.now keeper.old keeper.new (W.contents writer.old)
+        (W.contents writer.new)) }
 {
     if keeper.public(map, game)?.is_none() {
         return Ok(None);
@@ -118,6 +130,14 @@ impl<S: Alter> SqlKeeper<S> {
             → IsErrOf result (PaperFault.Keep KeepFault.Damaged) → most_papers
             < length (papers_of (game_at game.now ((book S.Store).content map.now self.old))) }
         ensures walks { Walks map.now (book S.Store) self.old self.new result }
+        // From an open keeper on, over an honest disk.
+        ensures goes { IsOpen map.now (book S.Store) self.old → (book S.Store).honest self.new
+            → IfOk result (λ o. IsOpen map.now (book S.Store) self.new
+            × AreOut o (game_at game.now ((book S.Store).content map.now self.old))
+            (W.contents writer.old) (W.contents writer.new)) }
+        ensures ends { IsOpen map.now (book S.Store) self.old → (book S.Store).honest self.new
+            → OnErr result (BreaksOff map.now (book S.Store) game.now self.old self.new
+            (W.contents writer.old) (W.contents writer.new)) }
     {
         write_papers(writer, self, map, game)
     }

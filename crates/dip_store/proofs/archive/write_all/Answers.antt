@@ -1,7 +1,8 @@
-use Rattle.std.proofs.Common.{rules, ◌≡◌, ◌+◌, ℕ, None, Some, suc, string_bytes, subst, arith}
+use Rattle.std.proofs.Common.{rules, ◌≡◌, ◌+◌, ℕ, Option, None, Some, suc, string_bytes, subst, arith}
 use Rattle.std.proofs.lemmas.Result.{err_from_is_err_and}
 use Rattle.dip_store.proofs.Numbers.{found, no_more}
 use Rattle.dip_store.proofs.Parts.{all, begun, begun_more, more}
+use Rattle.dip_store.proofs.Walking.{breaks_off, ends_by, ends_fault, ends_still, goes_on, goes_open}
 use Rattle.dip_desk_state.specs.State.{State, paper_at}
 use Rattle.dip_store.proofs.archive.write_all.Goals as goal
 
@@ -66,3 +67,39 @@ papers-preserved g c = record {
 
 pub returns-clause-begun : goal.returns-clause-begun
 returns-clause-begun g c = λ sound shows. begun _ c.papers.count _ _ (c.papers.invariant.so_far sound shows).1
+
+pub returns-in_err-paper-clause-ends : goal.returns-in_err-paper-clause-ends
+returns-in_err-paper-clause-ends g c = λ it honest.
+    let m = c.args.map.now in
+    let b = g.K.Keeper.book in
+    let walks = c.papers.invariant.walks in
+    let before = goes_open m b ℕ c.papers.count c.args.keeper.now c.papers.keeper walks it (c.paper.ensures.keeps.fair honest) in
+    let so_far = c.papers.invariant.so_far it.sound before.shows in
+    let p = err_from_is_err_and c.from_residual.result c.from_residual.ensures.1 in
+    rw p.1 record {
+      begun = begun _ c.papers.count _ _ so_far.1;
+      ends = ends_fault m b ℕ _ c.args.keeper.now c.paper.new.self (ends_by m b ℕ _ c.papers.count c.args.keeper.now c.papers.keeper c.paper.new.self walks ℕ _ _ _ c.in_err-paper.ensures) it honest;
+    }
+
+pub returns-in_err-write_paper-in-Some-clause-ends : goal.returns-in_err-write_paper-in-Some-clause-ends
+returns-in_err-write_paper-in-Some-clause-ends g c = λ it honest.
+    let m = c.args.map.now in
+    let b = g.K.Keeper.book in
+    let walks = goes_on m b ℕ _ c.papers.count c.args.keeper.now c.papers.keeper c.paper.new.self c.papers.invariant.walks ℕ 0 _ _ _ c.in_ok-paper.ensures in
+    let after = goes_open m b ℕ 0 c.args.keeper.now c.paper.new.self walks it honest in
+    let p = err_from_is_err_and c.from_residual-in_err-write_paper-in-Some.result c.from_residual-in_err-write_paper-in-Some.ensures.1 in
+    let part = returns-in_err-write_paper-in-Some-clause-begun g c it.sound after.shows in
+    rw p.1 record {
+      begun = rw p.1 at part;
+      ends = ends_fault m b ℕ _ c.args.keeper.now c.paper.new.self (breaks_off m b ℕ ℕ 0 c.args.keeper.now c.paper.new.self walks) it honest;
+    }
+
+pub returns-clause-ends : goal.returns-clause-ends
+returns-clause-ends g c = λ it honest.
+    let m = c.args.map.now in
+    let b = g.K.Keeper.book in
+    let on = goes_open m b ℕ c.papers.count c.args.keeper.now c.papers.keeper c.papers.invariant.walks it honest in
+    record {
+      begun = begun _ c.papers.count _ _ (c.papers.invariant.so_far it.sound on.shows).1;
+      ends = ends_still m b ℕ c.papers.count c.args.keeper.now c.papers.keeper c.papers.invariant.walks it honest;
+    }

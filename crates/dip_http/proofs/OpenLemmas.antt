@@ -1,8 +1,8 @@
 -- What a connection leaves of a keeper, by what the keeper's calls leave.
 use Rattle.std.proofs.Common.{◌≡◌, ◌⊎◌, inl, inr, ℕ, Bool, List, Option, Result, Ok, Err, refl, sym, subst, ◌∙◌, arith}
-use Rattle.std.specs.Prelude.{IfErr, IfOk, OnErr, OnOk}
+use Rattle.std.specs.Prelude.{IfErr, OnOk}
 use Rattle.dip_map.specs.Charts.{Chart}
-use Rattle.dip_desk.specs.Keeping.{Book, Ends, IsOpen, Looks, Settles, Steps}
+use Rattle.dip_desk.specs.Keeping.{Book, IsOpen, Looks, Settles, Steps}
 use Rattle.dip_desk.specs.Keeping as desk
 use Rattle.dip_desk.proofs.Ending.{ends_open}
 use Rattle.dip_desk.proofs.Keepings.{look_alone}

@@ -38,13 +38,6 @@ desk_blamed fault (Query e) (inl memory) is = absurd (let bad : Memory ≡ Disk 
 desk_blamed fault (Query e) (inr disk) is = disk.1
 desk_blamed fault Foreign own is = absurd own
 
--- a row that says this version and this map is marked
-pub marked_by : (text : List ℕ) (t : Tables) → DeskSays 1 (sha256 text) t → IfSome (find is_first t.desk) IsMarked
-marked_by text t says =
-    let v = says.version_is in
-    let low : says.desk.version < 2 ^ 32 = omega (arith, v) in
-    subst (λ (o : Option DeskRow). IfSome o IsMarked) (sym says.found) (low, ap length says.map_is ∙ length-sha256 text)
-
 -- an outage is no word on the map, and refuses whatever the master's row says
 pub outage_no_map : (f : StoreFault) → IsOutage f → f ≡ OtherMap → ⊥
 outage_no_map Memory out is = absurd (cc)

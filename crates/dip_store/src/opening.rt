@@ -1,11 +1,11 @@
 //! A keeper over a store that is made, or opened.
-ghost use Rattle.std.specs.Prelude.{◌≡◌, ◌≤◌, [], IfErr, IfOk, IsTrue, None, false, length};
+ghost use Rattle.std.specs.Prelude.{◌≡◌, ◌≤◌, [], IfErr, IfOk, IfSome, IsTrue, None, false, length};
 ghost use Rattle.std.specs.List.{find};
 ghost use Rattle.sha2.specs.Sha256.{sha256};
 ghost use Rattle.sqlite.specs.Held.{state};
 ghost use Rattle.sqlite.specs.Tree.{Trees};
 ghost use Rattle.dip_store_sql.specs.Creating.{no_schema};
-ghost use Rattle.dip_store.specs.Desk.{DeskSays};
+ghost use Rattle.dip_store.specs.Desk.{DeskSays, IsMarked};
 ghost use Rattle.dip_store.specs.Known.{HasOurTables};
 ghost use Rattle.dip_store_sql.specs.Calls.{does_show, is_honest, tables_in};
 ghost use Rattle.dip_store_sql.specs.Causes.{has_faulted};
@@ -131,9 +131,10 @@ impl<S: Alter> SqlKeeper<S> {
         ensures own { IfErr result (λ e. is_honest S.Store e.1
             → IsStore map.now (state S.Store store).now
             → DeskSays 1 (sha256 map_text.now) (tables_in S.Store store) → IsOutage e.0) }
-        // The disk is told of only where the store told of a fault of it.
+        // Of a desk, whatever its version and its map, the disk is told of only where the store told
+        // of a fault of it.
         ensures caused { IfErr result (λ e. is_honest S.Store e.1 → IsDesk S.Store map.now store
-            → DeskSays 1 (sha256 map_text.now) (tables_in S.Store store)
+            → IfSome (find is_first (tables_in S.Store store).desk) IsMarked
             → e.0 ≡ StoreFault.Disk → has_faulted S.Store store e.1) }
         ensures same { IfErr result (λ e. does_show S.Store e.1
             → IsStore map.now (state S.Store store).now

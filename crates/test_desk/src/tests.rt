@@ -5,6 +5,7 @@ use dip_letters::Letter;
 use std::process::Abort;
 use test_tools::next_taken;
 
+mod bounds;
 mod changes;
 mod shared;
 

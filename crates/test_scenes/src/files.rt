@@ -6,13 +6,15 @@ use crate::scenes::{Scene, exchanges_of, scenes_of};
 use dip_map::STANDARD;
 use std::alloc::Global;
 use std::{env, fs, io};
-use test_tools::{
-    CREATE_WITHOUT_GREY, Mismatch, OPENED, check_changed, check_failing, check_on_map,
-};
+use test_tools::{CREATE_WITHOUT_GREY, Mismatch, OPENED, check_failing, check_on_map};
 
 /// Plays a scene at an empty desk over the map of this text, in memory and over a store that is opened anew before each exchange.
 fn check_at_desk(alloc: Global, text: &str, lines: &str) -> Result<(), Mismatch> {
     let exchanges = exchanges_of(alloc, lines)?;
+    let exchanges = exchanges
+        .iter()
+        .map(|exchange| exchange.as_str())
+        .collect::<Vec<&str>>(alloc)?;
     check_on_map(alloc, text, exchanges.as_slice())
 }
 
@@ -53,23 +55,17 @@ fn check_behind_calls(alloc: Global, fault: &str, lines: &str) -> Result<(), Mis
         return Err(Mismatch::NoFile);
     };
     let exchanges = exchanges_of(alloc, lines)?;
+    let exchanges = exchanges
+        .iter()
+        .map(|exchange| exchange.as_str())
+        .collect::<Vec<&str>>(alloc)?;
     check_failing(alloc, calls, kind == "disk", exchanges.as_slice())
 }
 
-/// Plays a scene over a store whose rows these statements of SQL changed.
-fn check_rows(alloc: Global, sql: &str, lines: &str) -> Result<(), Mismatch> {
-    let exchanges = exchanges_of(alloc, lines)?;
-    check_changed(alloc, sql, exchanges.as_slice())
-}
-
-/// Plays a scene at an empty desk over a keeper that fails, over rows that were changed, or over the map of a file.
+/// Plays a scene at an empty desk over a keeper that fails, or over the map of a file.
 fn check_elsewhere(rt: &HostRuntime, scene: &Scene) -> Result<(), Mismatch> {
-    let place = scene.place.as_str();
-    if let Some(fault) = place.strip_prefix("failing ") {
-        return check_behind_calls(rt.alloc(), fault, scene.lines.as_str());
-    }
-    match place.strip_prefix("rows ") {
-        Some(sql) => check_rows(rt.alloc(), sql, scene.lines.as_str()),
+    match scene.place.as_str().strip_prefix("failing ") {
+        Some(fault) => check_behind_calls(rt.alloc(), fault, scene.lines.as_str()),
         None => check_on_file(rt, scene),
     }
 }
@@ -84,9 +80,8 @@ fn check_on_file(rt: &HostRuntime, scene: &Scene) -> Result<(), Mismatch> {
 
 /// Plays a scene where it plays: in runs of the program; over HTTP at a desk that is empty, that has the game of the letter CREATE, or one in
 /// which England has ordered; by requests that are cut short, at the last of these; by letters at a desk that is empty, that has that game, or
-/// one without grey press; at a board; by letters at an empty desk whose keeper fails, as `failing disk 3`; by letters at a desk with that game
-/// over a store whose rows were changed, as `rows UPDATE game SET papers = 9`; or by letters at an empty desk over the map of the file of that
-/// name.
+/// one without grey press; at a board; by letters at an empty desk whose keeper fails, as `failing disk 3`; or by letters at an empty desk over
+/// the map of the file of that name.
 fn check_scene(rt: &HostRuntime, scene: &Scene) -> Result<(), Mismatch> {
     match scene.place.as_str() {
         "program" => check_runs(rt, scene.lines.as_str()),

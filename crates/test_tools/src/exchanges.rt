@@ -2,7 +2,6 @@
 ghost use Rattle.std.specs.Prelude.{IfSome};
 ghost use Rattle.dip_desk_machine.specs.Mail.{IsMail, mail};
 
-use crate::changes::make_asked;
 use crate::lines::{push_line, replies_of};
 use crate::mismatch::Mismatch;
 use dip_desk::{Keeper, fault_reply, take};
@@ -128,35 +127,14 @@ fn number_in(digits: Option<&str>) -> Option<u32> {
     digits?.parse::<u32>().ok()
 }
 
-/// The keeper makes what is asked for, and the line `done` is appended or the fault's name.
-fn push_made<K: Keeper>(
-    alloc: Global,
-    keeper: &mut K,
-    map: &Map,
-    asked: &str,
-    told: &mut String,
-) -> Result<(), AllocError> {
-    let word = match make_asked(alloc, keeper, map, asked) {
-        Ok(()) => "done",
-        Err(fault) => fault.name(),
-    };
-    told.push_str(word)?;
-    told.push_str("\n")
-}
-
 /// Appends what is asked for: `g1 2` is the game's second paper, and `g1 france 3 10` at most ten items of France's inbox there, from the
-/// third on. Behind `make ` it is a change that no letter makes.
+/// third on.
 fn push_asked<K: Keeper>(
-    alloc: Global,
     keeper: &mut K,
     map: &Map,
     asked: &str,
     told: &mut String,
 ) -> Result<(), Mismatch> {
-    if let Some(asked) = asked.strip_prefix("make ") {
-        push_made(alloc, keeper, map, asked, told)?;
-        return Ok(());
-    }
     let mut words = asked.split(' ');
     let game = words.next().unwrap_or("");
     let second = words.next().unwrap_or("");
@@ -166,8 +144,8 @@ fn push_asked<K: Keeper>(
     }
 }
 
-/// Appends what a desk tells in an exchange: the replies to its letters, and behind `? ` the papers, pages and changes that it asks for, each
-/// after the letters that stand before it.
+/// Appends what a desk tells in an exchange: the replies to its letters, and behind `? ` the papers and pages that it asks for, each after
+/// the letters that stand before it.
 fn push_told<K: Keeper>(
     alloc: Global,
     keeper: &mut K,
@@ -180,7 +158,7 @@ fn push_told<K: Keeper>(
         if let Some(asked) = line.strip_prefix("? ") {
             push_replies(alloc, keeper, map, letters.as_str(), told)?;
             letters.clear();
-            push_asked(alloc, keeper, map, asked, told)?;
+            push_asked(keeper, map, asked, told)?;
         } else if !line.starts_with("< ") {
             push_line(line, &mut letters)?;
         }
@@ -258,10 +236,10 @@ pub fn check_exchanges<K: Keeper>(
     alloc: Global,
     keeper: &mut K,
     map: &Map,
-    exchanges: &[String],
+    exchanges: &[&str],
 ) -> Result<(), Mismatch> {
     for exchange in exchanges {
-        check_exchange(alloc, keeper, map, exchange.as_str())?;
+        check_exchange(alloc, keeper, map, exchange)?;
     }
     Ok(())
 }

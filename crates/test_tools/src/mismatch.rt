@@ -14,10 +14,10 @@ pub enum Mismatch {
     Keeper(KeepFault),
     /// A store isn't opened.
     Store(StoreFault),
-    /// A store doesn't take a statement.
-    NoStatement,
     /// A text is another than the one that was wanted.
     Text { told: String, wanted: String },
+    /// A paper isn't there that was wanted, or is there that wasn't.
+    Paper(u32),
     /// A text is no letter.
     NoLetter,
     /// What an exchange asks for isn't a game and a number.
@@ -34,8 +34,8 @@ impl fmt::Display for Mismatch {
             Mismatch::Map(fault) => write!(f, "no map: {fault}"),
             Mismatch::Keeper(fault) => write!(f, "the keeper: {fault}"),
             Mismatch::Store(fault) => write!(f, "the store: {fault}"),
-            Mismatch::NoStatement => f.write_str("no statement"),
             Mismatch::Text { told, wanted } => write!(f, "told:\n{told}and not:\n{wanted}"),
+            Mismatch::Paper(number) => write!(f, "paper {number}"),
             Mismatch::NoLetter => f.write_str("no letter"),
             Mismatch::NoPaper => f.write_str("no game and number"),
             Mismatch::NoFile => f.write_str("no such file"),

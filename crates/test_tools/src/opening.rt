@@ -1,7 +1,7 @@
 //! What is told of the opening of the standard map.
 
 /// The board lines.
-pub(crate) const BOARD: &str = "austria 3/3: A bud, F tri, A vie | bud tri vie
+pub const BOARD: &str = "austria 3/3: A bud, F tri, A vie | bud tri vie
 england 3/3: F edi, F lon, A lvp | edi lon lvp
 france 3/3: F bre, A mar, A par | bre mar par
 germany 3/3: A ber, F kie, A mun | ber kie mun
@@ -11,7 +11,7 @@ turkey 3/3: F ank, A con, A smy | ank con smy
 ";
 
 /// The lines of a movement in which nobody has ordered.
-pub(crate) const HOLDS: &str = "austria A bud H: holds
+pub const HOLDS: &str = "austria A bud H: holds
 austria F tri H: holds
 austria A vie H: holds
 england F edi H: holds

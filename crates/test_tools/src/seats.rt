@@ -52,7 +52,7 @@ const SECRETS: [(&str, &str); 8] = [
 ];
 
 /// The secret of the power of this name, or the master's.
-pub(crate) fn secret_of(name: &str) -> Option<&'static str> {
+pub fn secret_of(name: &str) -> Option<&'static str> {
     for (sender, secret) in SECRETS {
         if sender == name {
             return Some(secret);

@@ -20,39 +20,33 @@ pub fn stored_desk(alloc: Global, map: &Map, text: &str) -> Result<StoredDesk, M
     }
 }
 
-/// The desk over the same store, opened anew behind these statements of SQL.
+/// The desk over the same store, opened anew.
 pub fn reopened(
     alloc: Global,
     keeper: StoredDesk,
     map: &Map,
     text: &str,
-    sql: &str,
 ) -> Result<StoredDesk, Mismatch> {
-    let mut store = keeper.into_store();
-    if store.execute_batch(sql).is_err() {
-        return Err(Mismatch::NoStatement);
-    }
-    match SqlKeeper::open(alloc, store, map, text) {
+    match SqlKeeper::open(alloc, keeper.into_store(), map, text) {
         Ok(keeper) => Ok(keeper),
         Err((fault, _)) => Err(Mismatch::Store(fault)),
     }
 }
 
-/// These exchanges, one after the other, behind a first one and these statements of SQL at a new desk over a store that is opened anew before
-/// each; the text is that of the map.
+/// These exchanges, one after the other, behind a first one at a new desk over a store that is opened anew before each; the text is
+/// that of the map.
 pub fn check_stored(
     alloc: Global,
     map: &Map,
     text: &str,
-    (first, sql): (&str, &str),
-    exchanges: &[String],
+    first: &str,
+    exchanges: &[&str],
 ) -> Result<(), Mismatch> {
     let mut keeper = stored_desk(alloc, map, text)?;
     check_exchange(alloc, &mut keeper, map, first)?;
-    keeper = reopened(alloc, keeper, map, text, sql)?;
     for exchange in exchanges {
-        check_exchange(alloc, &mut keeper, map, exchange.as_str())?;
-        keeper = reopened(alloc, keeper, map, text, "")?;
+        keeper = reopened(alloc, keeper, map, text)?;
+        check_exchange(alloc, &mut keeper, map, exchange)?;
     }
     Ok(())
 }

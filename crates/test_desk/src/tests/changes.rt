@@ -121,17 +121,13 @@ fn is_shared(keeper: &mut MemoryKeeper, map: &Map) -> Result<bool, Mismatch> {
     Ok(Rc::ptr_eq(&one, &other))
 }
 
-/// Whether that is so of the two powers, and another has no page.
-fn is_shared_by_two(alloc: Global, map: &Map) -> Result<bool, Mismatch> {
-    let mut keeper = with_two_seats(alloc, map)?;
-    Ok(is_shared(&mut keeper, map)? && items(&mut keeper, map, "turkey")?.is_none())
-}
-
 /// Press lies in memory once, and comes once to whoever is named twice; who has no seat has no page.
 #[test]
 fn readers_share_an_item(rt: HostRuntime) -> Result<(), Fail> {
     let map = Map::from_toml(rt.alloc(), STANDARD)?;
-    assert!(rt; matches!(is_shared_by_two(rt.alloc(), &map), Ok(true)));
+    let mut keeper = with_two_seats(rt.alloc(), &map)?;
+    assert!(rt; is_shared(&mut keeper, &map)?);
+    assert!(rt; items(&mut keeper, &map, "turkey")?.is_none());
     Ok(())
 }
 
@@ -153,16 +149,12 @@ fn is_renewed(keeper: &mut MemoryKeeper, map: &Map) -> Result<bool, KeepFault> {
     }
 }
 
-/// Whether it has them once that paper was published.
-fn is_renewed_by_it(alloc: Global, map: &Map) -> Result<bool, Mismatch> {
-    let mut keeper = opened(alloc, map)?;
-    publish(alloc, &mut keeper, map)?;
-    Ok(is_renewed(&mut keeper, map)?)
-}
-
 #[test]
 fn a_game_keeps_its_name(rt: HostRuntime) -> Result<(), Fail> {
-    let map = Map::from_toml(rt.alloc(), STANDARD)?;
-    assert!(rt; matches!(is_renewed_by_it(rt.alloc(), &map), Ok(true)));
+    let alloc = rt.alloc();
+    let map = Map::from_toml(alloc, STANDARD)?;
+    let mut keeper = opened(alloc, &map)?;
+    publish(alloc, &mut keeper, &map)?;
+    assert!(rt; is_renewed(&mut keeper, &map)?);
     Ok(())
 }

@@ -2,10 +2,10 @@
 use dip_letters::digest;
 use dip_map::{Map, STANDARD};
 use dip_store::{SqlKeeper, StoreFault};
-use sqlite::{Connection, MemStore};
+use sqlite::{Connection, Error, MemStore};
 use std::alloc::Global;
 use std::test::Fail;
-use test_tools::{Mismatch, StoredDesk, check_exchange, reopened, stored_desk};
+use test_tools::{Mismatch, StoredDesk, check_exchange, check_stored, reopened, stored_desk};
 
 /// A new game, and two orders of England.
 const FIRST: &str = "= master 1
@@ -40,6 +40,31 @@ END
 < END
 ";
 
+/// Orders that come twice, and others with their number.
+const AGAIN: &str = "= england 1
+ORDERS
+F edi - nth
+f  LON h
+END
+= england 1
+ORDERS
+F edi H
+END
+= england 0
+SHOW
+END
+< REPLY g1 england 1
+< OK F edi - nth
+< OK F lon H
+< END
+< REPLY g1 england 1
+< L4 number 1 used by another letter
+< END
+< REPLY nobody 0
+< L1 malformed letter
+< END
+";
+
 /// An empty store.
 fn empty(alloc: Global) -> Result<Connection<MemStore>, Mismatch> {
     Ok(Connection::open_in_memory(alloc)?)
@@ -52,11 +77,9 @@ fn made(alloc: Global, map: &Map) -> Result<Connection<MemStore>, Mismatch> {
 }
 
 /// The store behind such a text of SQL.
-fn with(mut conn: Connection<MemStore>, sql: &str) -> Result<Connection<MemStore>, Mismatch> {
-    match conn.execute_batch(sql) {
-        Ok(()) => Ok(conn),
-        Err(_) => Err(Mismatch::NoStatement),
-    }
+fn with(mut conn: Connection<MemStore>, sql: &str) -> Result<Connection<MemStore>, Error> {
+    conn.execute_batch(sql)?;
+    Ok(conn)
 }
 
 /// Why a store isn't opened with a map's text, and the store.
@@ -102,66 +125,79 @@ fn goes_on(alloc: Global, map: &Map, store: Connection<MemStore>) -> Result<(), 
 fn store_behind(alloc: Global, map: &Map) -> Result<Connection<MemStore>, Mismatch> {
     let mut keeper = stored_desk(alloc, map, STANDARD)?;
     check_exchange(alloc, &mut keeper, map, FIRST)?;
-    let keeper = reopened(alloc, keeper, map, STANDARD, "")?;
+    let keeper = reopened(alloc, keeper, map, STANDARD)?;
     Ok(keeper.into_store())
 }
 
-/// The text of another map is refused, and the desk goes on.
-fn refuses_another_map(alloc: Global, map: &Map) -> Result<bool, Mismatch> {
-    let store = store_behind(alloc, map)?;
-    let (fault, store) = refused(alloc, map, store, "another map");
-    goes_on(alloc, map, store)?;
-    Ok(fault == Some(StoreFault::OtherMap))
-}
-
-/// An empty store isn't opened, and a desk is made in it.
-fn refuses_an_empty_store(alloc: Global, map: &Map) -> Result<bool, Mismatch> {
-    let (fault, store) = refused(alloc, map, empty(alloc)?, STANDARD);
-    let (made, _) = taken(alloc, map, store);
-    Ok(fault == Some(StoreFault::OtherSchema) && made == None)
-}
-
-/// A store without one table isn't opened, and no desk is made in it.
-fn refuses_a_lost_table(alloc: Global, map: &Map) -> Result<bool, Mismatch> {
-    let store = with(made(alloc, map)?, "DROP TABLE box")?;
-    let (fault, store) = refused(alloc, map, store, "another map");
-    let (made, _) = taken(alloc, map, store);
-    Ok(fault == Some(StoreFault::OtherSchema) && made == Some(StoreFault::OtherSchema))
-}
-
-/// A store of another version isn't opened, and one of none.
-fn refuses_another_version(alloc: Global, map: &Map) -> Result<bool, Mismatch> {
-    let store = with(made(alloc, map)?, "UPDATE desk SET version = 2")?;
-    let (other, store) = refused(alloc, map, store, "another map");
-    let store = with(store, "DELETE FROM desk")?;
-    let (none, _) = refused(alloc, map, store, STANDARD);
-    Ok(other == Some(StoreFault::OtherSchema) && none == Some(StoreFault::OtherSchema))
-}
-
-/// No desk is made over another, which goes on.
-fn makes_none_over_another(alloc: Global, map: &Map) -> Result<bool, Mismatch> {
-    let (fault, store) = taken(alloc, map, store_behind(alloc, map)?);
-    goes_on(alloc, map, store)?;
-    Ok(fault == Some(StoreFault::OtherSchema))
-}
-
-/// No desk is made beside a table, and none is opened there.
-fn makes_none_beside_a_table(alloc: Global, map: &Map) -> Result<bool, Mismatch> {
-    let sql = "CREATE TABLE paper (name TEXT NOT NULL) STRICT";
-    let store = with(empty(alloc)?, sql)?;
-    let (made, store) = taken(alloc, map, store);
-    let (fault, _) = refused(alloc, map, store, STANDARD);
-    Ok(made == Some(StoreFault::OtherSchema) && fault == Some(StoreFault::OtherSchema))
+#[test]
+fn a_desk_goes_on_where_it_was(rt: HostRuntime) -> Result<(), Fail> {
+    let map = Map::from_toml(rt.alloc(), STANDARD)?;
+    check_stored(rt.alloc(), &map, STANDARD, FIRST, &[AGAIN, SHOWN])?;
+    Ok(())
 }
 
 #[test]
-fn a_store_is_opened_as_it_was_made(rt: HostRuntime) -> Result<(), Fail> {
+fn another_map_is_refused(rt: HostRuntime) -> Result<(), Fail> {
     let map = Map::from_toml(rt.alloc(), STANDARD)?;
-    assert!(rt; matches!(refuses_another_map(rt.alloc(), &map), Ok(true)));
-    assert!(rt; matches!(refuses_an_empty_store(rt.alloc(), &map), Ok(true)));
-    assert!(rt; matches!(refuses_a_lost_table(rt.alloc(), &map), Ok(true)));
-    assert!(rt; matches!(refuses_another_version(rt.alloc(), &map), Ok(true)));
-    assert!(rt; matches!(makes_none_over_another(rt.alloc(), &map), Ok(true)));
-    assert!(rt; matches!(makes_none_beside_a_table(rt.alloc(), &map), Ok(true)));
+    let store = store_behind(rt.alloc(), &map)?;
+    let (fault, store) = refused(rt.alloc(), &map, store, "another map");
+    assert!(rt; fault == Some(StoreFault::OtherMap));
+    goes_on(rt.alloc(), &map, store)?;
+    Ok(())
+}
+
+#[test]
+fn an_empty_store_is_not_opened(rt: HostRuntime) -> Result<(), Fail> {
+    let map = Map::from_toml(rt.alloc(), STANDARD)?;
+    let (fault, store) = refused(rt.alloc(), &map, empty(rt.alloc())?, STANDARD);
+    assert!(rt; fault == Some(StoreFault::OtherSchema));
+    let (fault, _) = taken(rt.alloc(), &map, store);
+    assert!(rt; fault == None);
+    Ok(())
+}
+
+#[test]
+fn a_store_without_one_table_is_not_opened(rt: HostRuntime) -> Result<(), Fail> {
+    let map = Map::from_toml(rt.alloc(), STANDARD)?;
+    let store = with(made(rt.alloc(), &map)?, "DROP TABLE box")?;
+    let (fault, store) = refused(rt.alloc(), &map, store, "another map");
+    assert!(rt; fault == Some(StoreFault::OtherSchema));
+    let (fault, _) = taken(rt.alloc(), &map, store);
+    assert!(rt; fault == Some(StoreFault::OtherSchema));
+    Ok(())
+}
+
+#[test]
+fn another_version_is_not_opened(rt: HostRuntime) -> Result<(), Fail> {
+    let map = Map::from_toml(rt.alloc(), STANDARD)?;
+    let store = with(made(rt.alloc(), &map)?, "UPDATE desk SET version = 2")?;
+    let (fault, store) = refused(rt.alloc(), &map, store, "another map");
+    assert!(rt; fault == Some(StoreFault::OtherSchema));
+    let store = with(store, "DELETE FROM desk")?;
+    let (fault, _) = refused(rt.alloc(), &map, store, STANDARD);
+    assert!(rt; fault == Some(StoreFault::OtherSchema));
+    Ok(())
+}
+
+#[test]
+fn no_desk_is_made_over_another(rt: HostRuntime) -> Result<(), Fail> {
+    let map = Map::from_toml(rt.alloc(), STANDARD)?;
+    let (fault, store) = taken(rt.alloc(), &map, store_behind(rt.alloc(), &map)?);
+    assert!(rt; fault == Some(StoreFault::OtherSchema));
+    goes_on(rt.alloc(), &map, store)?;
+    Ok(())
+}
+
+#[test]
+fn no_desk_is_made_beside_a_table(rt: HostRuntime) -> Result<(), Fail> {
+    let map = Map::from_toml(rt.alloc(), STANDARD)?;
+    let store = with(
+        empty(rt.alloc())?,
+        "CREATE TABLE paper (name TEXT NOT NULL) STRICT",
+    )?;
+    let (fault, store) = taken(rt.alloc(), &map, store);
+    assert!(rt; fault == Some(StoreFault::OtherSchema));
+    let (fault, _) = refused(rt.alloc(), &map, store, STANDARD);
+    assert!(rt; fault == Some(StoreFault::OtherSchema));
     Ok(())
 }

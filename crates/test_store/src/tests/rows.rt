@@ -2,7 +2,6 @@
 use dip_map::{Map, STANDARD};
 use sqlite::{Connection, Error, MemStore, params};
 use std::alloc::Global;
-use std::process::Abort;
 use std::test::Fail;
 use test_tools::{Mismatch, check_exchange, stored_desk};
 
@@ -88,97 +87,90 @@ fn numbers(conn: &mut Connection<MemStore>, sql: &str) -> Result<(u64, usize), E
     Ok((sum, rows.len()))
 }
 
-/// Each query shows its texts.
-fn check_texts(
-    rt: &impl Abort,
-    alloc: Global,
-    conn: &mut Connection<MemStore>,
-    rows: &[(&str, &str)],
-) -> Result<(), Error> {
-    for &(sql, wanted) in rows {
-        let shown = texts(conn, alloc, sql)?;
-        assert!(rt; shown.as_str() == wanted);
-    }
-    Ok(())
-}
-
-/// Each query shows its sum in so many rows.
-fn check_numbers(
-    rt: &impl Abort,
-    conn: &mut Connection<MemStore>,
-    rows: &[(&str, u64, usize)],
-) -> Result<(), Error> {
-    for &(sql, sum, many) in rows {
-        assert!(rt; numbers(conn, sql)? == (sum, many));
-    }
-    Ok(())
-}
-
-/// What queries show of a new game in which England has ordered: the game, its seats, its board, orders, no press and one paper.
-const TEXTS: &[(&str, &str)] = &[
-    ("SELECT name, status, standoff FROM game", "g1|running||\n"),
-    (
-        "SELECT power FROM seat ORDER BY rowid",
-        "austria|\nengland|\nfrance|\ngermany|\nitaly|\nrussia|\nturkey|\n",
-    ),
-    (
-        "SELECT power, coast, origin FROM unit WHERE province = 'stp'",
-        "russia|sc||\n",
-    ),
-    (
-        "SELECT province FROM centre WHERE power = 'italy'",
-        "nap|\nrom|\nven|\n",
-    ),
-    (
-        "SELECT game, power, province, line FROM pending ORDER BY rowid",
-        "g1|england|edi|F edi - nth|\ng1|england|lon|F lon H|\n",
-    ),
-    ("SELECT power FROM box", ""),
-    ("SELECT game FROM paper", "g1|\n"),
-];
-
-/// The same of numbers.
-const NUMBERS: &[(&str, u64, usize)] = &[
-    ("SELECT year FROM game", 1901, 1),
-    ("SELECT phase FROM game", 0, 1),
-    ("SELECT due FROM game", 100, 1),
-    ("SELECT period FROM game", 100, 1),
-    ("SELECT grey FROM game", 1, 1),
-    ("SELECT papers FROM game", 1, 1),
-    ("SELECT last FROM seat WHERE power = 'england'", 2, 1),
-    ("SELECT last FROM seat", 2, 7),
-    ("SELECT last FROM desk", 1, 1),
-    ("SELECT version FROM desk", 1, 1),
-    ("SELECT kind FROM unit", 9, 22),
-    ("SELECT dislodged FROM unit", 0, 22),
-];
-
 #[test]
 fn a_new_game_has_its_rows(rt: HostRuntime) -> Result<(), Fail> {
     let mut conn = store_behind(rt.alloc(), &[FIRST])?;
-    check_texts(&rt, rt.alloc(), &mut conn, TEXTS)?;
-    check_numbers(&rt, &mut conn, NUMBERS)?;
+    let game = texts(
+        &mut conn,
+        rt.alloc(),
+        "SELECT name, status, standoff FROM game",
+    )?;
+    assert!(rt; game.as_str() == "g1|running||\n");
+    assert!(rt; numbers(&mut conn, "SELECT year FROM game")? == (1901, 1));
+    assert!(rt; numbers(&mut conn, "SELECT phase FROM game")? == (0, 1));
+    assert!(rt; numbers(&mut conn, "SELECT due FROM game")? == (100, 1));
+    assert!(rt; numbers(&mut conn, "SELECT period FROM game")? == (100, 1));
+    assert!(rt; numbers(&mut conn, "SELECT grey FROM game")? == (1, 1));
+    assert!(rt; numbers(&mut conn, "SELECT papers FROM game")? == (1, 1));
     Ok(())
 }
 
-/// What queries show of press: grey press keeps no writer.
-const TEXTS_OF_PRESS: &[(&str, &str)] = &[(
-    "SELECT power, writer, addressees FROM box WHERE power = 'france' ORDER BY rowid",
-    "france|england|france germany|\nfrance||all|\n",
-)];
-
-/// The same of numbers.
-const NUMBERS_OF_PRESS: &[(&str, u64, usize)] = &[
-    ("SELECT number FROM box WHERE power = 'france'", 3, 2),
-    ("SELECT grey FROM box", 6, 8),
-    ("SELECT items FROM seat", 8, 7),
-    ("SELECT sent FROM seat", 2, 7),
-];
+#[test]
+fn a_new_game_has_seven_seats(rt: HostRuntime) -> Result<(), Fail> {
+    let mut conn = store_behind(rt.alloc(), &[FIRST])?;
+    let seats = texts(
+        &mut conn,
+        rt.alloc(),
+        "SELECT power FROM seat ORDER BY rowid",
+    )?;
+    assert!(rt;
+        seats.as_str() == "austria|\nengland|\nfrance|\ngermany|\nitaly|\nrussia|\nturkey|\n"
+    );
+    assert!(rt; numbers(&mut conn, "SELECT last FROM seat WHERE power = 'england'")? == (2, 1));
+    assert!(rt; numbers(&mut conn, "SELECT last FROM seat")? == (2, 7));
+    assert!(rt; numbers(&mut conn, "SELECT last FROM desk")? == (1, 1));
+    assert!(rt; numbers(&mut conn, "SELECT version FROM desk")? == (1, 1));
+    Ok(())
+}
 
 #[test]
-fn press_has_its_rows(rt: HostRuntime) -> Result<(), Fail> {
+fn a_new_game_has_its_board(rt: HostRuntime) -> Result<(), Fail> {
+    let mut conn = store_behind(rt.alloc(), &[FIRST])?;
+    assert!(rt; numbers(&mut conn, "SELECT kind FROM unit")? == (9, 22));
+    assert!(rt; numbers(&mut conn, "SELECT dislodged FROM unit")? == (0, 22));
+    let fleet = texts(
+        &mut conn,
+        rt.alloc(),
+        "SELECT power, coast, origin FROM unit WHERE province = 'stp'",
+    )?;
+    assert!(rt; fleet.as_str() == "russia|sc||\n");
+    let centres = texts(
+        &mut conn,
+        rt.alloc(),
+        "SELECT province FROM centre WHERE power = 'italy'",
+    )?;
+    assert!(rt; centres.as_str() == "nap|\nrom|\nven|\n");
+    Ok(())
+}
+
+#[test]
+fn orders_that_stand_have_rows(rt: HostRuntime) -> Result<(), Fail> {
+    let mut conn = store_behind(rt.alloc(), &[FIRST])?;
+    let orders = texts(
+        &mut conn,
+        rt.alloc(),
+        "SELECT game, power, province, line FROM pending ORDER BY rowid",
+    )?;
+    assert!(rt; orders.as_str() == "g1|england|edi|F edi - nth|\ng1|england|lon|F lon H|\n");
+    let boxes = texts(&mut conn, rt.alloc(), "SELECT power FROM box")?;
+    assert!(rt; boxes.is_empty());
+    let papers = texts(&mut conn, rt.alloc(), "SELECT game FROM paper")?;
+    assert!(rt; papers.as_str() == "g1|\n");
+    Ok(())
+}
+
+#[test]
+fn grey_press_keeps_no_writer(rt: HostRuntime) -> Result<(), Fail> {
     let mut conn = store_behind(rt.alloc(), &[FIRST, PRESS])?;
-    check_texts(&rt, rt.alloc(), &mut conn, TEXTS_OF_PRESS)?;
-    check_numbers(&rt, &mut conn, NUMBERS_OF_PRESS)?;
+    let items = texts(
+        &mut conn,
+        rt.alloc(),
+        "SELECT power, writer, addressees FROM box WHERE power = 'france' ORDER BY rowid",
+    )?;
+    assert!(rt; items.as_str() == "france|england|france germany|\nfrance||all|\n");
+    assert!(rt; numbers(&mut conn, "SELECT number FROM box WHERE power = 'france'")? == (3, 2));
+    assert!(rt; numbers(&mut conn, "SELECT grey FROM box")? == (6, 8));
+    assert!(rt; numbers(&mut conn, "SELECT items FROM seat")? == (8, 7));
+    assert!(rt; numbers(&mut conn, "SELECT sent FROM seat")? == (2, 7));
     Ok(())
 }

@@ -9,7 +9,7 @@ use Rattle.dip_store_sql.specs.TablesAfter.{is_first}
 use Rattle.dip_store_tables.specs.Tables.{Tables}
 use Rattle.dip_store.specs.Refusing.{IsRefused}
 use Rattle.dip_store.proofs.Opened.{ends_refused, kept_from, known_there, opens_old, there}
-use Rattle.dip_store.proofs.Refused.{marked_by, own_outage}
+use Rattle.dip_store.proofs.Refused.{own_outage}
 use Rattle.dip_store.specs.declared.faults.StoreFault.{StoreFault}
 use Rattle.dip_store.proofs.keeper.SqlKeeper.open.Goals as goal
 
@@ -52,13 +52,13 @@ returns-in-Err-clause-ends g c clean desk =
     c.is_autocommit.result (c.is_autocommit.ensures.value, c.is_autocommit.ensures.settled, c.if-not-is_autocommit.false, rw c.set_step_limit.ensures desk.shows) c.commits_last.ensures c.in-Err.ensures.selects clean
 
 pub returns-in-Err-clause-caused : goal.returns-in-Err-clause-caused
-returns-in-Err-clause-caused g c clean desk says is =
+returns-in-Err-clause-caused g c clean desk there_marked is =
     let m = c.args.map.now in
     let h = c.set_step_limit.new.self in
     let it = there g.S.Store m c.args.store desk.wrote h c.set_step_limit.ensures in
     let shows : does_show g.S.Store h = rw c.set_step_limit.ensures desk.shows in
     let kept = kept_from g.S.Store m c.args.store desk.wrote h c.set_step_limit.ensures
     c.is_autocommit.result (c.is_autocommit.ensures.value, c.is_autocommit.ensures.settled, c.if-not-is_autocommit.false, shows) in
-    let marked = subst (λ (t : Tables). IfSome (find is_first t.desk) IsMarked) (sym it.0) (marked_by c.args.map_text.now (tables_in g.S.Store c.args.store) says) in
+    let marked = subst (λ (t : Tables). IfSome (find is_first t.desk) IsMarked) (sym it.0) there_marked in
     subst (λ (h : Held _). has_faulted g.S.Store h c.check_desk.new.conn) c.set_step_limit.ensures
     (c.in-Err.ensures.caused kept.0 shows clean it.1 m it.2 marked (ap (λ (f : StoreFault). Err f) is))

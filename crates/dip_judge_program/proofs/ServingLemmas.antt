@@ -9,7 +9,7 @@ use Rattle.dip_desk_machine.specs.View.{IsRun, Turn, left_by}
 use Rattle.dip_desk_machine.proofs.Publishing.{fair}
 use Rattle.dip_desk_state.specs.State.{State}
 use Rattle.dip_http.specs.Answering.{IsAnswer}
-use Rattle.dip_http.specs.Ends.{Answered, EndsBy, MayTake}
+use Rattle.dip_http.specs.Ends.{Answered, EndsAt, EndsBy, MayTake}
 use Rattle.dip_http.specs.Laws.{AreTurns}
 use Rattle.dip_http.specs.declared.faults.HttpFault.{HttpFault}
 use Rattle.dip_http.specs.declared.faults.HttpFault.TheVariants.{Read, Write, Memory, Keep}
@@ -55,6 +55,22 @@ takes_one m Write old s by t may = absurd may
 takes_one m (Keep fault) old s by t may = (may.letter, may.reply, subst (λ (o : State). Step m o may.letter may.reply t) (sym by.0) may.step)
 
 module _ {K : Type 0} (m : Chart) (b : Book K) where
+  -- a client whose call isn't taken
+  pub met_nobody : (k : K) → IsOpen m b k → MeetsAt m b k k
+  met_nobody k it = record { state = b.content m k; meets = inl refl; ends = ends_open m b k k _ it }
+
+  -- one that was answered
+  pub met_well : (old new : K) → IsOpen m b new × Answered m None (b.content m old) (b.content m new) None None → MeetsAt m b old new
+  met_well old new it = record { state = b.content m new; meets = inr (inl it.1); ends = ends_open m b old new _ it.0 }
+
+  -- and one that a fault ended
+  pub met_ill : (old new : K) (fault : HttpFault) → EndsAt m b fault None old new None None → MeetsAt m b old new
+  met_ill old new fault it = record {
+    state = it.state;
+    meets = inr (inr (fault, it.by));
+    ends = ends_late m b old old new it.state _ _ (omega arith) (takes_one m fault (b.content m old) it.state it.by) it.ends;
+  }
+
   -- nobody yet
   pub meets_none : (first : K) → IsOpen m b first → MeetsTo m b 0 first first
   meets_none first it = record { n = 0; most = omega arith; state = b.content m first; meets = refl; ends = inl (ends_open m b first first _ it, λ shows. refl) }

@@ -107,8 +107,7 @@ module _ {S : Type 0} (g : Ghosts S) (m : Chart) (k : SqlKeeper S) (c : Change) 
 
     stored : HasTexts c → TablesStayLegible m → TablesStayCounted m → (kept : Keeps) → HasPlace m c (tables_in g k.conn) → (db : Trees) → Lands (changing m c) (state g k.conn) db → AreStored m db
     stored texts legible counted kept place db lands =
-        let is = lands.1 kept.0.good in
-        (
+        let is = lands.1 kept.0.good in (
           lands.0,
           sym lands.2,
           record {

@@ -1,4 +1,4 @@
-use Rattle.std.proofs.Common.{◌≡◌, ◌+◌, ◌⊎◌, ℕ, subst, arith}
+use Rattle.std.proofs.Common.{◌≡◌, ◌∙◌, ◌+◌, ◌⊎◌, ℕ, subst, arith}
 use Rattle.std.proofs.lemmas.Result.{err_from_is_err_and}
 use Rattle.dip_judge_program.proofs.ServingLemmas.{meets_more, meets_next, serves, serves_all, serves_to}
 use Rattle.dip_desk.specs.Keeping.{IsOpen, Rises}
@@ -47,3 +47,23 @@ returns-in_err-serve_next-clause-ends g c = λ it honest.
     let so = c.clients.invariant.ends it (c.serve_next.ensures.fair honest) in
     serves_to m b (c.connections_are_turns.ensures m) (c.published_movements_are_decided.ensures m) (c.clients.served + 1) c.args.count _ _ (omega (arith, c.clients-test.true))
     (meets_next m b c.clients.served c.args.keeper.now c.clients.keeper c.serve_next.new.keeper so c.clients.invariant.told c.serve_next.ensures.told (λ mid. c.serve_next.ensures.ends mid honest))
+
+pub clients-preserved : goal.clients-preserved
+clients-preserved g c =
+    let m = c.args.map.now in
+    let b = g.K.Keeper.book in
+    let before = c.clients.invariant in
+    let call = c.serve_next.ensures in
+    record {
+      most = omega (arith, c.clients-test.true);
+      count = c.in_ok-serve_next.ensures.count ∙ before.count;
+      shown = λ shows. before.shown (call.shown shows);
+      fair = λ honest. before.fair (call.fair honest);
+      told = omega (arith, before.told, call.told);
+      ends = λ it honest. meets_next m b c.clients.served c.args.keeper.now c.clients.keeper c.serve_next.new.keeper (before.ends it (call.fair honest)) before.told call.told (λ mid. call.ends mid honest);
+      sound = λ sound shows. call.sound (before.sound sound (call.shown shows)) shows;
+      lawful = λ sound shows lawful. let at = call.shown shows in call.lawful (before.sound sound at) shows (before.lawful sound at lawful);
+      so_far = λ sound shows.
+          let at = call.shown shows in
+          meets_more m c.clients.served _ _ _ (before.so_far sound at) (call.served (before.sound sound at) shows);
+    }

@@ -66,6 +66,7 @@ impl Keeper for Failing {
     ghost book = { record {
       content = λ m k. stored.state k.inner;
       may_leave = λ m k left. left ≡ stored.state k.inner;
+      again = λ m k. Unit {0};
       faults = λ k. k.told;
       told = λ k. k.told;
       honest = λ _. Unit {0};

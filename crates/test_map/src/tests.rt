@@ -95,14 +95,19 @@ fn check_homes(rt: &impl Abort, map: &Map, board: &Board) {
     }
 }
 
+/// That of a map is of it, and its units in homes; its copy is the same.
+fn check_board(rt: &impl Abort, alloc: Global, map: &Map) -> Result<(), AllocError> {
+    let board = Board::opening(alloc, map)?;
+    check_opening(rt, map, &board);
+    check_homes(rt, map, &board);
+    check_copy(rt, alloc, &board)
+}
+
 /// The opening is a board of its map, whose units are in homes, and equals its copy.
 #[test]
 fn the_opening_is_a_board_of_its_map(rt: HostRuntime) -> Result<(), Fail> {
     let map = Map::from_toml(rt.alloc(), STANDARD)?;
-    let board = Board::opening(rt.alloc(), &map)?;
-    check_opening(&rt, &map, &board);
-    check_homes(&rt, &map, &board);
-    check_copy(&rt, rt.alloc(), &board)?;
+    check_board(&rt, rt.alloc(), &map)?;
     Ok(())
 }
 

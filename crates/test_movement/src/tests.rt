@@ -1,14 +1,8 @@
-//! Movements decided three ways, and orders.
+//! Movements decided both ways, and orders.
 mod boards;
-mod by_chance;
 mod compare;
-mod draws;
 mod known;
-mod laws;
 mod lines;
-mod plain;
-mod sites;
+mod positions;
 mod standing;
-mod tallies;
-mod told;
 mod worked;

@@ -1,7 +1,6 @@
 //! Exchanges of letters and replies with a desk, in memory and over a store, for tests alone.
 #![tactic(auto)]
 
-mod changes;
 mod checks;
 mod desks;
 mod exchanges;
@@ -14,7 +13,6 @@ mod seats;
 mod stores;
 mod without_grey;
 
-pub use changes::{change, make, publish_paper, send_press, with_papers};
 pub use checks::{check_failing, check_on_map, check_opened};
 pub use desks::{OPENED, check_no_paper, check_paper, desk, opened, reply_to};
 pub use exchanges::{check_exchange, check_exchanges, check_to_fault, next_taken};

@@ -5,9 +5,9 @@ use std::alloc::{AllocError, Global};
 use std::process::Abort;
 use std::test::Fail;
 
-/// An army in the province of a code.
-fn the_army(rt: &impl Abort, map: &Map, code: &str) -> Unit {
-    let prov = map.prov(code.as_bytes()).expect(rt, "a code of the map");
+/// An army in the province of a code; a word that is no code stands for a province behind the map's last.
+fn the_army(map: &Map, code: &str) -> Unit {
+    let prov = map.prov(code.as_bytes()).unwrap_or(Prov::new(75));
     Unit {
         power: Power::new(0),
         kind: Kind::Army,
@@ -17,7 +17,6 @@ fn the_army(rt: &impl Abort, map: &Map, code: &str) -> Unit {
 
 /// The board of the opening with these armies alone, standing and dislodged.
 fn board_with(
-    rt: &impl Abort,
     alloc: Global,
     map: &Map,
     standing: &str,
@@ -27,12 +26,12 @@ fn board_with(
     let owners = opening.owners().to_vec(alloc)?;
     let mut units = Vec::new(alloc);
     for code in standing.split(' ') {
-        units.push(the_army(rt, map, code))?;
+        units.push(the_army(map, code))?;
     }
     let mut gone = Vec::new(alloc);
     for code in dislodged.split(' ') {
         gone.push(Dislodged {
-            unit: the_army(rt, map, code),
+            unit: the_army(map, code),
             origin: None,
         })?;
     }
@@ -55,7 +54,7 @@ const HELD: &[(&str, &str, bool)] = &[
 /// A province holds one unit and one dislodged.
 fn check_held(rt: &impl Abort, alloc: Global, map: &Map) -> Result<(), AllocError> {
     for &(standing, dislodged, is_of) in HELD {
-        let board = board_with(rt, alloc, map, standing, dislodged)?;
+        let board = board_with(alloc, map, standing, dislodged)?;
         assert_of(rt, map, &board, is_of);
     }
     Ok(())

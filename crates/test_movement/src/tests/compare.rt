@@ -1,16 +1,12 @@
-//! What is told of a movement each way, side by side.
+//! What is told of a movement both ways, side by side.
 use super::boards::board_of;
-use super::plain::compare_plainly;
-use super::tallies::has_few_decisions;
-use super::told::outcome_of;
 use crate::passes::{Passed, resolve_by_passes};
 use dip_decide::{Resolution, resolve};
-use dip_map::{Board, Map};
+use dip_map::Map;
 use dip_names::Unit;
 use dip_orders::{Orders, PlacedOrder, each_unit_has_one_order};
 use std::alloc::{AllocError, Global};
 use std::process::Abort;
-use test_plain::PlainFault;
 
 /// The units that have these orders.
 fn units_of(alloc: Global, orders: &[PlacedOrder]) -> Result<Vec<Unit>, AllocError> {
@@ -29,38 +25,22 @@ fn are_same(told: &Resolution, passed: &Passed) -> bool {
         && told.broken.as_slice() == passed.broken.as_slice()
 }
 
-/// What comes of these orders, which stand as they are on the board: with passes the same, in no more steps than three for each unit.
-fn compare_passed(
-    rt: &impl Abort,
-    alloc: Global,
-    map: &Map,
-    board: &Board,
-    orders: &[PlacedOrder],
-) -> Result<(Resolution, Passed), AllocError> {
-    each_unit_has_one_order();
-    assert!(rt; board.is_of(map), "{orders:?}");
-    let standing = Orders::standing(alloc, board, orders)?;
-    assert!(rt; standing.as_slice() == orders, "{orders:?}");
-    let told = resolve(alloc, map, board, &standing)?;
-    let passed = resolve_by_passes(alloc, map, &standing)?;
-    assert!(rt; are_same(&told, &passed), "{told:?} {passed:?} {orders:?}");
-    let most = orders.len().saturating_mul(3);
-    assert!(rt; told.steps.len() <= most, "{told:?}");
-    Ok((told, passed))
-}
-
-/// What comes of these orders: with passes the same, and where few decisions are made with the plain resolver.
+/// What comes of these orders, which stand as they are on a board of their units: with passes the same, in no more steps than three for each.
 pub(crate) fn compare(
     rt: &impl Abort,
     alloc: Global,
     map: &Map,
     orders: &[PlacedOrder],
-) -> Result<Passed, PlainFault> {
+) -> Result<(Resolution, Passed), AllocError> {
+    each_unit_has_one_order();
     let board = board_of(alloc, map, units_of(alloc, orders)?)?;
-    let (told, passed) = compare_passed(rt, alloc, map, &board, orders)?;
-    if has_few_decisions(map, orders) {
-        let outcome = outcome_of(alloc, told)?;
-        compare_plainly(rt, alloc, map, orders, &outcome)?;
-    }
-    Ok(passed)
+    assert!(rt; board.is_of(map), "{orders:?}");
+    let standing = Orders::standing(alloc, &board, orders)?;
+    assert!(rt; standing.as_slice() == orders, "{orders:?}");
+    let told = resolve(alloc, map, &board, &standing)?;
+    let passed = resolve_by_passes(alloc, map, &standing)?;
+    assert!(rt; are_same(&told, &passed), "{told:?} {passed:?} {orders:?}");
+    let most = orders.len().saturating_mul(3);
+    assert!(rt; told.steps.len() <= most, "{told:?}");
+    Ok((told, passed))
 }

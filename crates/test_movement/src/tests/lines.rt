@@ -90,14 +90,20 @@ fn check_lines(
     Ok(())
 }
 
+/// All of these lines, on the board of the one unit.
+fn check_hold(rt: &impl Abort, alloc: Global, map: &Map) -> Result<(), AllocError> {
+    let board = board_in(rt, alloc, map, HOLD)?;
+    let orders = orders_in(rt, alloc, map, HOLD)?;
+    for hold in &orders {
+        check_lines(rt, alloc, map, &board, hold)?;
+    }
+    assert!(rt; orders.len() == 1);
+    Ok(())
+}
+
 #[test]
 fn more_bytes_are_harmless_only_as_spaces(rt: HostRuntime) -> Result<(), Fail> {
-    let map = Map::from_toml(rt.alloc(), STANDARD)
-        .ok()
-        .expect(&rt, "the map");
-    let board = board_in(&rt, rt.alloc(), &map, HOLD)?;
-    let orders = orders_in(&rt, rt.alloc(), &map, HOLD)?;
-    let hold = orders.first().expect(&rt, "the order");
-    check_lines(&rt, rt.alloc(), &map, &board, hold)?;
+    let map = Map::from_toml(rt.alloc(), STANDARD)?;
+    check_hold(&rt, rt.alloc(), &map)?;
     Ok(())
 }

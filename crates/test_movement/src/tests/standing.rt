@@ -66,9 +66,7 @@ fn check_units(rt: &impl Abort, alloc: Global, map: &Map) -> Result<(), AllocErr
 
 #[test]
 fn what_is_not_in_force_is_left_out(rt: HostRuntime) -> Result<(), Fail> {
-    let map = Map::from_toml(rt.alloc(), STANDARD)
-        .ok()
-        .expect(&rt, "the map");
+    let map = Map::from_toml(rt.alloc(), STANDARD)?;
     check_units(&rt, rt.alloc(), &map)?;
     Ok(())
 }

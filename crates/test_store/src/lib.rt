@@ -1,5 +1,0 @@
-//! Tests of a desk over a store.
-#![tactic(auto)]
-
-#[cfg(test)]
-mod tests;

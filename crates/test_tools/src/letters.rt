@@ -1,4 +1,4 @@
-//! The first letters of a game, and its seats.
+//! The first letters of a game.
 
 /// A new game.
 pub const CREATE: &str = "LETTER
@@ -38,25 +38,3 @@ NUMBER 2
 SHOW
 END
 ";
-
-/// Who writes letters, and their secrets.
-const SECRETS: [(&str, &str); 8] = [
-    ("master", "master-key"),
-    ("austria", "aaaaaaaa"),
-    ("england", "eeeeeeee"),
-    ("france", "ffffffff"),
-    ("germany", "gggggggg"),
-    ("italy", "iiiiiiii"),
-    ("russia", "rrrrrrrr"),
-    ("turkey", "tttttttt"),
-];
-
-/// The secret of the power of this name, or the master's.
-pub fn secret_of(name: &str) -> Option<&'static str> {
-    for (sender, secret) in SECRETS {
-        if sender == name {
-            return Some(secret);
-        }
-    }
-    None
-}

@@ -1,34 +1,41 @@
-//! Desks, single letters and papers.
-use crate::exchanges::{check_exchange, next_taken};
+//! Desks, and letters to them.
+ghost use Rattle.std.specs.Prelude.{IfSome};
+ghost use Rattle.dip_desk_machine.specs.Mail.{IsMail, mail};
+
+use crate::letters::CREATE;
 use crate::mismatch::Mismatch;
 use dip_desk::{Keeper, MemoryKeeper, take};
-use dip_desk_state::Reply;
-use dip_letters::digest;
+use dip_desk_state::{KeepFault, Reply};
+use dip_letters::{Letter, Next, digest, next_letter};
 use dip_map::Map;
+use dip_reports::reply_text;
 use std::alloc::Global;
-
-/// The letter CREATE, and its reply.
-pub const OPENED: &str = "= master 1
-SEATS
-SEAT turkey tttttttt
-END
-< REPLY g1 master 1
-< OK paper 1
-< END
-";
 
 /// An empty desk.
 pub fn desk(alloc: Global) -> MemoryKeeper {
     MemoryKeeper::new(alloc, digest("desk", "master", "master-key"))
 }
 
+/// The letter at the front of an input, and the rest; none where no letter is there.
+pub fn next_taken(input: &[u8]) -> Option<(Letter<'_>, &[u8])>
+    ensures { IfSome result (λ p. IsMail (mail p.0)) }
+{
+    match next_letter(input) {
+        Next::Taken(letter, rest) => Some((letter, rest)),
+        Next::Fault(_, _) | Next::End => None,
+    }
+}
+
 /// The reply to the letter that this text is.
-pub fn reply_to(
+pub fn reply_to<K: Keeper>(
     alloc: Global,
-    keeper: &mut MemoryKeeper,
+    keeper: &mut K,
     map: &Map,
     text: &str,
 ) -> Result<Reply, Mismatch> {
+    if keeper.failures() == u64::MAX {
+        return Err(Mismatch::Keeper(KeepFault::Disk));
+    }
     let Some((letter, _)) = next_taken(text.as_bytes()) else {
         return Err(Mismatch::NoLetter);
     };
@@ -38,40 +45,41 @@ pub fn reply_to(
 /// A desk with the game of the letter CREATE.
 pub fn opened(alloc: Global, map: &Map) -> Result<MemoryKeeper, Mismatch> {
     let mut keeper = desk(alloc);
-    check_exchange(alloc, &mut keeper, map, OPENED)?;
+    reply_to(alloc, &mut keeper, map, CREATE)?;
     Ok(keeper)
 }
 
-/// The game's paper of this number is this text.
-pub fn check_paper(
+/// Appends the replies to these letters.
+fn push_replies<K: Keeper>(
     alloc: Global,
-    keeper: &mut MemoryKeeper,
+    keeper: &mut K,
     map: &Map,
-    game: &str,
-    number: u32,
-    wanted: &str,
+    letters: &[&str],
+    told: &mut String,
 ) -> Result<(), Mismatch> {
-    let Some(paper) = keeper.paper(map, game, number)? else {
-        return Err(Mismatch::Paper(number));
-    };
-    if paper.as_str() == wanted {
-        return Ok(());
-    }
-    Err(Mismatch::Text {
-        told: paper,
-        wanted: String::from_str(alloc, wanted)?,
-    })
-}
-
-/// The game has no paper of this number.
-pub fn check_no_paper(
-    keeper: &mut MemoryKeeper,
-    map: &Map,
-    game: &str,
-    number: u32,
-) -> Result<(), Mismatch> {
-    if keeper.paper(map, game, number)?.is_some() {
-        return Err(Mismatch::Paper(number));
+    for letter in letters {
+        let reply = reply_to(alloc, keeper, map, letter)?;
+        let text = reply_text(alloc, &reply)?;
+        told.push_str(text.as_str())?;
     }
     Ok(())
+}
+
+/// The replies to these letters, up to a fault of the keeper, whose name is told behind them.
+pub fn told<K: Keeper>(
+    alloc: Global,
+    keeper: &mut K,
+    map: &Map,
+    letters: &[&str],
+) -> Result<String, Mismatch> {
+    let mut told = String::new(alloc);
+    match push_replies(alloc, keeper, map, letters, &mut told) {
+        Ok(()) => {}
+        Err(Mismatch::Keeper(fault)) => {
+            told.push_str(fault.name())?;
+            told.push_str("\n")?;
+        }
+        Err(other) => return Err(other),
+    }
+    Ok(told)
 }

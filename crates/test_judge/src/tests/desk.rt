@@ -1,4 +1,4 @@
-//! What no letter shows: what is shared, a game with fewer seats than powers, a paper with another game's name, and letters in a run.
+//! What no letter shows: what is shared, a game with fewer seats than powers, a paper with another game's name, letters in a run, and a keeper that fails.
 ghost use Rattle.dip_desk_machine.specs.Mail.{IsMail, mail};
 
 use dip_letters::Letter;
@@ -7,6 +7,7 @@ use test_tools::next_taken;
 
 mod bounds;
 mod changes;
+mod failing;
 mod making;
 mod shared;
 

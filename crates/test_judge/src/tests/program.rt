@@ -1,5 +1,3 @@
-//! What no scene of runs and no run of the built program shows, by subject: what is told of faults that no run has at will, and readers and
-//! writers that fail.
-mod failures;
+//! What no scene of runs and no run of the built program shows: readers and writers that fail at each place, or come in pieces of all sizes.
 mod run;
 mod streams;

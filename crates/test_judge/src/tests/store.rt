@@ -1,6 +1,4 @@
-//! Stores in memory: how they are founded, their rows, and what is read and written of these.
+//! What is read of rows, and which changes can be written.
 mod boards;
 mod columns;
-mod founding;
-mod rows;
 mod widths;

@@ -97,11 +97,11 @@ fn items(
 /// The one item of the inbox of a power's seat in g2.
 fn one_item(keeper: &mut MemoryKeeper, map: &Map, name: &str) -> Result<Rc<Item>, Mismatch> {
     let Some(mut items) = items(keeper, map, name)? else {
-        return Err(Mismatch::NoPaper);
+        return Err(Mismatch::NoItem);
     };
     match items.pop() {
         Some(item) if items.is_empty() => Ok(item),
-        _ => Err(Mismatch::NoPaper),
+        _ => Err(Mismatch::NoItem),
     }
 }
 

@@ -2,7 +2,6 @@
 use dip_desk::MemoryKeeper;
 use dip_http::answer_one;
 use dip_map::Map;
-use itoa::Buffer;
 use std::alloc::{AllocError, Global};
 use test_tools::{Mismatch, ORDERS, opened, reply_to};
 
@@ -29,10 +28,10 @@ pub fn served(
 
 /// A POST of this body.
 pub fn post(alloc: Global, body: &str) -> Result<String, AllocError> {
-    let mut digits = Buffer::new();
+    let digits = body.len().to_string(alloc)?;
     [
         "POST /letters HTTP/1.1\r\nHost: judge.example\r\nContent-Length: ",
-        digits.format(body.len()),
+        digits.as_str(),
         "\r\n\r\n",
         body,
     ]

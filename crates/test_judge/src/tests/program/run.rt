@@ -1,16 +1,11 @@
 //! Whole inputs, and what is written for them.
-use dip_desk::MemoryKeeper;
 use dip_judge_runs::{FileFault, ReadFault, RunFault, read_text, run_file};
-use dip_letters::digest;
 use dip_map::{Map, STANDARD};
 use std::alloc::Global;
 use std::io::Read;
 use std::process::Abort;
 use std::test::Fail;
-use test_tools::{Page, Script};
-
-pub(crate) const CREATE: &str =
-    "LETTER\nGAME g1\nFROM master\nSECRET master-key\nNUMBER 1\nCREATE DUE 100 PERIOD 100 GREY YES\nSEAT austria aaaaaaaa\nSEAT england eeeeeeee\nSEAT france ffffffff\nSEAT germany gggggggg\nSEAT italy iiiiiiii\nSEAT russia rrrrrrrr\nSEAT turkey tttttttt\nEND\n";
+use test_tools::{CREATE, Page, Script, desk};
 
 pub(crate) const CREATED: &str = "REPLY g1 master 1\nOK paper 1\nEND\n";
 
@@ -21,7 +16,7 @@ pub(crate) const HELD: &str = "REPLY g1 england 1\nOK F lon H\nEND\n";
 
 /// Runs over a reader, from a desk with no game, and gives what was written too.
 fn run_on<R: Read>(alloc: Global, reader: &mut R, map: &Map) -> (Result<(), RunFault>, Vec<u8>) {
-    let mut keeper = MemoryKeeper::new(alloc, digest("desk", "master", "master-key"));
+    let mut keeper = desk(alloc);
     let mut output = Vec::new(alloc);
     let outcome = run_file(alloc, reader, &mut output, &mut keeper, map);
     (outcome, output)
@@ -76,7 +71,7 @@ fn assert_unwritten(
         step: 5,
         most,
     };
-    let mut keeper = MemoryKeeper::new(alloc, digest("desk", "master", "master-key"));
+    let mut keeper = desk(alloc);
     let outcome = run_file(alloc, &mut input, &mut writer, &mut keeper, map);
     assert!(rt; outcome == Err(RunFault::Write));
     assert!(rt; writer.bytes.as_slice() == &expected[..most.min(expected.len())]);

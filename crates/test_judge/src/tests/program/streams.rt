@@ -1,14 +1,13 @@
 //! Readers and writers that never fail, though signals interrupt them: a run over them ends well.
-use super::run::{CREATE, CREATED, HELD, HOLD};
-use dip_desk::MemoryKeeper;
+use super::run::{CREATED, HELD, HOLD};
 use dip_judge_runs::run_file;
-use dip_letters::digest;
 use dip_map::{Map, STANDARD};
 use std::alloc::{AllocError, Global};
 use std::io;
 use std::io::{ErrorKind, Read, Write};
 use std::process::Abort;
 use std::test::Fail;
+use test_tools::{CREATE, desk};
 
 /// A signal before each call.
 #[derive(Drop)]
@@ -85,7 +84,7 @@ fn assert_answers(
         bytes: Vec::new(alloc),
         step,
     };
-    let mut keeper = MemoryKeeper::new(alloc, digest("desk", "master", "master-key"));
+    let mut keeper = desk(alloc);
     let outcome = run_file(alloc, &mut reader, &mut writer, &mut keeper, map);
     assert!(rt; outcome == Ok(()));
     assert!(rt; writer.bytes.as_slice() == expected);

@@ -3,14 +3,13 @@ ghost use Rattle.dip_map.specs.Boards.{IsOf};
 
 use crate::boards::board_in;
 use crate::phases::{push_decisions, push_knots, push_outcomes, push_paper};
-use crate::scenes::{exchanges_of, push_line};
+use crate::scenes::{exchanges_of, wanted_in};
 use crate::settings::{orders_in, push_orders, push_read, setting_text};
-use crate::texts::check_text;
+use crate::texts::{Mismatch, check_text, push_line};
 use dip_map::{Board, Dislodged, Map, STANDARD};
 use dip_names::Unit;
 use dip_orders::{Orders, PlacedOrder, allowance, print_unit, retreats};
 use std::alloc::{AllocError, Global};
-use test_tools::{Mismatch, letters_of, replies_of};
 
 /// Appends a dislodged unit at each place where it may go.
 fn push_refuges(
@@ -104,12 +103,12 @@ fn told_in(
 ) -> Result<String, AllocError>
     requires of_map { IsOf map.now board.now }
 {
-    let lines = letters_of(alloc, exchange)?;
     let mut told = String::new(alloc);
-    for line in lines.as_str().lines() {
-        match line.strip_prefix("? ") {
-            Some(asked) => push_answer(alloc, map, board, orders, asked, &mut told)?,
-            None => push_line(&mut told, line)?,
+    for line in exchange.lines() {
+        if let Some(asked) = line.strip_prefix("? ") {
+            push_answer(alloc, map, board, orders, asked, &mut told)?;
+        } else if !line.starts_with("< ") {
+            push_line(&mut told, line)?;
         }
     }
     Ok(told)
@@ -127,16 +126,16 @@ fn check_exchanges(
 {
     let exchanges = exchanges_of(alloc, lines)?;
     for exchange in &exchanges {
-        let wanted = replies_of(alloc, exchange.as_str())?;
+        let wanted = wanted_in(alloc, exchange.as_str())?;
         let told = told_in(alloc, map, board, orders, exchange.as_str())?;
-        check_text(alloc, told.as_bytes(), wanted)?;
+        check_text(alloc, told.as_str(), wanted)?;
     }
     Ok(())
 }
 
 /// Whether a line of a scene asks for something, or is what is told.
 fn is_of_exchange(line: &str) -> bool {
-    line.starts_with("? ") || line.starts_with("\\ ? ") || line.starts_with("< ")
+    line.starts_with("? ") || line.starts_with("< ")
 }
 
 /// The lines of a scene before its exchanges, which are the board and the orders that were given; and its exchanges.
@@ -162,11 +161,11 @@ fn check_at(
     exchanges: &str,
 ) -> Result<(), Mismatch> {
     if !board.is_of(map) {
-        return check_text(alloc, b"no board of the map\n", setting);
+        return check_text(alloc, "no board of the map\n", setting);
     }
     let orders = orders_in(alloc, map, board, setting.as_str())?;
     let text = setting_text(alloc, map, board, orders.as_slice())?;
-    check_text(alloc, text.as_bytes(), setting)?;
+    check_text(alloc, text.as_str(), setting)?;
     check_exchanges(alloc, map, board, orders.as_slice(), exchanges)
 }
 

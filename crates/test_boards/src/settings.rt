@@ -1,5 +1,5 @@
 //! What scenes at boards are set on: a board and the orders that were given, printed as they are read.
-use crate::scenes::push_line;
+use crate::texts::push_line;
 use dip_map::{Board, Map};
 use dip_names::Power;
 use dip_orders::{OrderFault, PlacedOrder, print_order, print_unit, read_order};

@@ -101,6 +101,8 @@ class Players:
 
     def retreat_line(self, game, power):
         board = game.board
+        if not board.dislodged:
+            return self.dice.choice(LINES)
         code = self.dice.choice([it for it, unit in board.dislodged.items() if unit[0] == power] or list(board.dislodged))
         _, kind, coast, _ = board.dislodged[code]
         me, places = f"{kind} {self.spot(code, coast)}", board.refuges(self.chart, code) or self.chart.next_to(kind, code, coast)

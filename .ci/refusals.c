@@ -2,7 +2,8 @@
  *
  * REFUSE_COUNT=file              the calls are counted in the file's first eight bytes, as they come
  * REFUSE_AT=n                    the nth call is refused, and no other
- * REFUSE_STEP=m REFUSE_TALK=fd   the first call is refused, and each mth behind it, each in a run of its own: there the program is split, and a child
+ * REFUSE_STEP=m REFUSE_TALK=fd   the first call is refused, and each mth behind it, and each of those behind the first read of the input that is a
+ * REFUSE_INPUT=m                 multiple of this other m, each in a run of its own: there the program is split, and a child
  * REFUSE_FOLDER=folder           goes on in that folder, which has copies of all files of the folder that the program runs in; those that are open
  *                                (input, output, a store) are open again as they were. How it ends is told on fd as "n status"; once a byte
  *                                comes back the program itself goes on, as if nothing had been refused. */
@@ -16,6 +17,7 @@
 #include <string.h>
 #include <sys/mman.h>
 #include <sys/stat.h>
+#include <sys/syscall.h>
 #include <sys/wait.h>
 #include <unistd.h>
 
@@ -26,7 +28,7 @@ extern void *__libc_calloc(size_t, size_t);
 extern void *__libc_realloc(void *, size_t);
 extern void *__libc_memalign(size_t, size_t);
 
-static long uncounted, *calls = &uncounted, at, step;
+static long uncounted, *calls = &uncounted, at, step, step_behind;
 static const char *there;
 static char here[PATH_MAX];
 static int talk, is_child;
@@ -52,6 +54,7 @@ __attribute__((constructor)) static void begin(void) {
     if (!count) return;
     at = number_of("REFUSE_AT", 0);
     step = number_of("REFUSE_STEP", 0);
+    step_behind = number_of("REFUSE_INPUT", step);
     talk = (int)number_of("REFUSE_TALK", -1);
     there = getenv("REFUSE_FOLDER");
     file = open(count, O_RDWR | O_CREAT | O_CLOEXEC, 0644);
@@ -59,6 +62,7 @@ __attribute__((constructor)) static void begin(void) {
     calls = mmap(NULL, sizeof *calls, PROT_READ | PROT_WRITE, MAP_SHARED, file, 0);
     if (calls == MAP_FAILED || !getcwd(here, sizeof here)) cannot(count);
     close(file);
+    *calls = 0;
 }
 
 static void copy(const char *from, const char *to) {
@@ -131,6 +135,12 @@ static int split(long n) {
     size = snprintf(line, sizeof line, "%ld %d\n", n, WIFEXITED(status) ? WEXITSTATUS(status) : KILLED + WTERMSIG(status));
     if (write(talk, line, (size_t)size) != size || read(talk, line, 1) != 1) cannot("REFUSE_TALK");
     return 0;
+}
+
+/* A read, as it is; the first of the input is noted. */
+ssize_t read(int number, void *bytes, size_t size) {
+    if (number == 0) step = step_behind;
+    return syscall(SYS_read, number, bytes, size);
 }
 
 /* Whether this call is refused. */

@@ -4,13 +4,16 @@
  * STOP_AT=k               k on, every call on it answers EIO and does nothing; `both` counts the calls on both, and on their folder
  * STOP_NOTES=file         what is done with the two files goes there, call by call, so that their bytes at each sync can be told
  * STOP_INPUT=k            standard input gives k bytes and fails then
- * STOP_PIECE=n            one read gives at most n bytes, of standard input or of a request
  * STOP_OUTPUT=k           standard output takes k bytes and fails then
  * STOP_REQUEST=k          the first client gives k bytes and is gone then
  * STOP_ANSWER=k           the first client takes k bytes and is gone then
+ * STOP_MAP=k              the map's file map.toml gives k bytes and fails then
+ * STOP_PIECE=n            one read or write moves at most n bytes, of these four and of the map's file
+ * STOP_SIGNAL=k           a signal interrupts the call number k of these, before it does anything; 0 for each of them
+ * STOP_SIGNALS=n          so many signals, one behind another, in place of one
  *
  * A note is a line, `write db 4096 24`, with so many bytes behind it; or `size db 4096 0`, `sync db`, `made db`, `half db 4096 24` of a write that
- * failed, with its bytes, `stop` where the first call failed, and `calls 17` at the end. Bytes by chance are the same in each run, and so the
+ * failed, with its bytes, `stop` where the first call failed, and `calls 17` and `moves 9` at the end. Bytes by chance are the same in each run, and so the
  * files of two runs are alike up to where one is stopped. */
 #define _GNU_SOURCE
 #include <dlfcn.h>
@@ -28,13 +31,13 @@
 #include <sys/uio.h>
 #include <unistd.h>
 
-enum { NONE, DB, WAL, FOLDER };
-static const char *const NAMES[] = {"none", "db", "wal", "folder"};
+enum { NONE, DB, WAL, FOLDER, MAP };
+static const char *const NAMES[] = {"none", "db", "wal", "folder", "map"};
 
 static char folder[PATH_MAX];
 static unsigned char of[4096];
-static int fails[4], notes = -1, client = -1, clients, stopped;
-static long calls, stop_at, input, piece, output, request, answer;
+static int fails[5], notes = -1, client = -1, clients, stopped;
+static long calls, stop_at, input, piece, output, request, answer, map, moves, signal_at, signals, came;
 
 static long number(const char *name) {
     const char *text = getenv(name);
@@ -67,6 +70,9 @@ __attribute__((constructor)) static void begin(void) {
     output = number("STOP_OUTPUT");
     request = number("STOP_REQUEST");
     answer = number("STOP_ANSWER");
+    map = number("STOP_MAP");
+    signal_at = number("STOP_SIGNAL");
+    signals = signal_at < 0 ? 0 : getenv("STOP_SIGNALS") ? number("STOP_SIGNALS") : 1;
     if (files) {
         fails[DB] = !strcmp(files, "db") || !strcmp(files, "both");
         fails[WAL] = !strcmp(files, "wal") || !strcmp(files, "both");
@@ -82,7 +88,7 @@ __attribute__((constructor)) static void begin(void) {
 
 __attribute__((destructor)) static void end(void) {
     char line[80];
-    snprintf(line, sizeof line, "calls %ld\n", calls);
+    snprintf(line, sizeof line, "calls %ld\nmoves %ld\n", calls, moves);
     note(line);
 }
 
@@ -103,7 +109,7 @@ static int of_path(const char *path) {
     if (!strcmp(path, folder)) return FOLDER;
     const char *name = strrchr(path, '/');
     name = name ? name + 1 : path;
-    return !strcmp(name, "club.db") ? DB : !strcmp(name, "club.db-wal") ? WAL : NONE;
+    return !strcmp(name, "club.db") ? DB : !strcmp(name, "club.db-wal") ? WAL : !strcmp(name, "map.toml") ? MAP : NONE;
 }
 
 static int open_as(int at, const char *path, int flags, int mode) {
@@ -222,11 +228,26 @@ static ssize_t gone(int error) {
     return -1;
 }
 
+/* Whether a signal interrupts this call. */
+static int is_interrupted(void) {
+    if (came < signals && (signal_at == 0 || moves + 1 == signal_at)) {
+        if (!stopped) note("stop\n");
+        stopped = 1;
+        came++;
+        errno = EINTR;
+        return 1;
+    }
+    came = 0;
+    moves++;
+    return 0;
+}
+
 static ssize_t take(long call, int fd, void *bytes, size_t size, int flags) {
-    long *left = fd == 0 && call == SYS_read ? &input : fd == client && client >= 0 && clients == 1 ? &request : NULL;
+    long *left = fd == 0 && call == SYS_read ? &input : of_fd(fd) == MAP ? &map : fd == client && client >= 0 && clients == 1 ? &request : NULL;
     if (!left) return call == SYS_read ? syscall(call, fd, bytes, size) : syscall(call, fd, bytes, size, flags, NULL, NULL);
+    if (is_interrupted()) return -1;
     long most = passing(*left, size, piece);
-    if (most < 0) return gone(fd == 0 || number("STOP_REQUEST") % 2 ? EIO : ECONNRESET);
+    if (most < 0) return gone(left == &input || left == &map || number("STOP_REQUEST") % 2 ? EIO : ECONNRESET);
     ssize_t got = call == SYS_read ? syscall(call, fd, bytes, most) : syscall(call, fd, bytes, most, flags, NULL, NULL);
     if (got > 0 && *left > 0) *left -= got;
     return got;
@@ -239,7 +260,8 @@ ssize_t recv(int fd, void *bytes, size_t size, int flags) { return take(SYS_recv
 static ssize_t give(long call, int fd, const void *bytes, size_t size, int flags) {
     long *left = fd == 1 && call == SYS_write ? &output : fd == client && client >= 0 && clients == 1 ? &answer : NULL;
     if (!left) return call == SYS_write ? syscall(call, fd, bytes, size) : syscall(call, fd, bytes, size, flags, NULL, 0);
-    long most = passing(*left, size, 0);
+    if (is_interrupted()) return -1;
+    long most = passing(*left, size, piece);
     if (most < 0) return gone(fd == 1 || number("STOP_ANSWER") % 2 ? EIO : ECONNRESET);
     ssize_t put = call == SYS_write ? syscall(call, fd, bytes, most) : syscall(call, fd, bytes, most, flags, NULL, 0);
     if (put > 0 && *left > 0) *left -= put;

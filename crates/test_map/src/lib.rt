@@ -1,4 +1,4 @@
-//! Tests of maps and boards: the standard map against the rulebook's lists, the faults of files, and boards.
+//! Tests of maps and boards: the standard map against the rulebook's lists, distances, and boards.
 #![tactic(auto)]
 
 #[cfg(test)]

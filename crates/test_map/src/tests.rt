@@ -6,10 +6,7 @@ use std::process::Abort;
 use std::test::Fail;
 
 mod boards;
-mod faults;
-mod files;
 mod lists;
-mod names;
 mod walks;
 
 fn the_prov(rt: &impl Abort, map: &Map, code: &str) -> Prov {

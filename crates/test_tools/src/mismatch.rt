@@ -12,8 +12,6 @@ pub enum Mismatch {
     NoLetter,
     /// An inbox has another number of items.
     NoItem,
-    /// A connection has no answer.
-    NoAnswer,
 }
 
 impl fmt::Display for Mismatch {
@@ -22,7 +20,6 @@ impl fmt::Display for Mismatch {
             Mismatch::Keeper(fault) => write!(f, "the keeper: {fault}"),
             Mismatch::NoLetter => f.write_str("no letter"),
             Mismatch::NoItem => f.write_str("another number of items"),
-            Mismatch::NoAnswer => f.write_str("no answer"),
         }
     }
 }

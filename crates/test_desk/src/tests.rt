@@ -1,0 +1,3 @@
+//! The desk, and rows.
+mod desk;
+mod store;

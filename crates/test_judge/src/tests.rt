@@ -1,5 +1,0 @@
-//! The desk, HTTP, the program and stores.
-mod desk;
-mod http;
-mod program;
-mod store;

@@ -8,7 +8,7 @@ use Rattle.dip_letters.specs.Words.{is_due, is_empty, is_game, is_name, is_numbe
 use Rattle.dip_letters.specs.Notes.{MasterRequest, Note, NoticeRequest, PlayerRequest, Request, SeatNote}
 use Rattle.dip_letters.specs.Notes.MasterRequest.{Create, Notify, Replace, Tick}
 use Rattle.dip_letters.specs.Notes.NoticeRequest.{Announce, Close, Pause, Period, Resume}
-use Rattle.dip_letters.specs.Notes.PlayerRequest.{Inbox, Orders, Press, Show, Vote, Withdraw}
+use Rattle.dip_letters.specs.Notes.PlayerRequest.{Inbox, Orders, Press, Show, Vote, VoteFor, Withdraw}
 use Rattle.dip_letters.specs.Notes.Request.{Master, Player}
 use Rattle.dip_names.specs.Options.{◌>>=◌}
 
@@ -166,6 +166,12 @@ vote_at line body = do
   draw ← answer_at word
   if is_empty body then Some (Vote draw) else None
 
+unfoldable pub vote_for_at : List ℕ → List ℕ → Option PlayerRequest
+vote_for_at line body = do
+  words ← after_name (codes "VOTE FOR ") line
+  powers ← names_at words
+  if is_empty body then Some (VoteFor powers) else None
+
 unfoldable pub inbox_at : List ℕ → List ℕ → Option PlayerRequest
 inbox_at line body = do
   word ← after_name (codes "INBOX ") line
@@ -180,7 +186,7 @@ first <|> second = option_or first second
 unfoldable pub player_at : List ℕ → List ℕ → Option PlayerRequest
 player_at line body =
     orders_at line body <|> plain_at (codes "WITHDRAW") Withdraw line body <|> press_at false (codes "PRESS WHITE TO ") line body
-    <|> press_at true (codes "PRESS GREY TO ") line body <|> vote_at line body <|> plain_at (codes "SHOW") Show line body <|> inbox_at line body
+    <|> press_at true (codes "PRESS GREY TO ") line body <|> vote_at line body <|> vote_for_at line body <|> plain_at (codes "SHOW") Show line body <|> inbox_at line body
 
 unfoldable pub new_period_at : List ℕ → List ℕ → Option NoticeRequest
 new_period_at line body = do

@@ -38,8 +38,10 @@ pub enum PlayerCommand<'a> {
     Withdraw,
     /// Press to other powers.
     Press(Press<'a>),
-    /// Whether the power votes for a draw from now on.
+    /// Whether the power votes for a draw between all who survive, from now on.
     Vote(bool),
+    /// A vote for a draw between these powers alone, from now on: 1 to 7 names.
+    VoteFor(Names<'a>),
     /// The state of the game.
     Show,
     /// The items of its inbox from this number on, 1 to 999999; the first item has the number 1.

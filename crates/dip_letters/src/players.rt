@@ -1,6 +1,6 @@
 //! The commands of powers.
 ghost use Rattle.std.specs.Prelude.{◌≡◌, option_map};
-ghost use Rattle.dip_letters.specs.Reading.{inbox_at, orders_at, player_at, press_at, vote_at};
+ghost use Rattle.dip_letters.specs.Reading.{inbox_at, orders_at, player_at, press_at, vote_at, vote_for_at};
 ghost use Rattle.dip_letters.specs.Views.{player_request};
 
 use crate::bodies::order_lines_of;
@@ -20,6 +20,7 @@ pub fn player_of<'a>(line: &'a str, body: &'a str) -> Option<PlayerCommand<'a>>
         .or(press_of(false, "PRESS WHITE TO ", line, body))
         .or(press_of(true, "PRESS GREY TO ", line, body))
         .or(vote_of(line, body))
+        .or(vote_for_of(line, body))
         .or(plain_of("SHOW", PlayerCommand::Show, line, body))
         .or(inbox_of(line, body))
 }
@@ -60,6 +61,19 @@ fn vote_of<'a>(line: &'a str, body: &'a str) -> Option<PlayerCommand<'a>>
     let draw = answer_of(word)?;
     if body.is_empty() {
         Some(PlayerCommand::Vote(draw))
+    } else {
+        None
+    }
+}
+
+#[tactic(auto, unfolding(crate::specs::Reading::vote_for_at))]
+fn vote_for_of<'a>(line: &'a str, body: &'a str) -> Option<PlayerCommand<'a>>
+    ensures { option_map player_request result ≡ vote_for_at line.entry.now body.entry.now }
+{
+    let words = after("VOTE FOR ", line)?;
+    let powers = names_of(words)?;
+    if body.is_empty() {
+        Some(PlayerCommand::VoteFor(powers))
     } else {
         None
     }

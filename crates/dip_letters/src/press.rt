@@ -1,4 +1,4 @@
-//! The addressees of press, and the lines of a text: press or an announcement.
+//! Names of powers, as in the addressees of press, and the lines of a text: press or an announcement.
 ghost use Rattle.std.specs.Prelude.{◌≡◌, option_map};
 ghost use Rattle.std.specs.Iterator.{YieldsFirstRef, item_count};
 ghost use Rattle.dip_letters.specs.Lines.{first_word_at};
@@ -9,7 +9,7 @@ ghost use Rattle.dip_letters.specs.Words.{is_name};
 use crate::lines::{after, line_of, word_of};
 use crate::words::{is_name, is_text};
 
-/// The addressees of press, from the first one on.
+/// Names, as of the addressees of press or of the powers that a draw is wanted between, from the first one on.
 #[derive(Clone, Copy, Drop)]
 pub struct Names<'a> {
     text: &'a str,

@@ -79,6 +79,11 @@ fn push_player(
         PlayerCommand::Withdraw => text.push_str("WITHDRAW\n"),
         PlayerCommand::Press(press) => push_press(text, press),
         PlayerCommand::Vote(draw) => push_line(text, "VOTE ", yes_or_no(draw)),
+        PlayerCommand::VoteFor(powers) => {
+            text.push_str("VOTE FOR")?;
+            push_names(text, powers)?;
+            text.push_str("\n")
+        }
         PlayerCommand::Show => text.push_str("SHOW\n"),
         PlayerCommand::Inbox(first) => push_number(alloc, text, "INBOX ", u64::from(first)),
     }

@@ -14,5 +14,6 @@ returns c =
     let three = said_by_either player_request _ _ _ _ _ c.or-2.ensures two c.press_of.ensures in
     let four = said_by_either player_request _ _ _ _ _ c.or-3.ensures three c.press_of-2.ensures in
     let five = said_by_either player_request _ _ _ _ _ c.or-4.ensures four c.vote_of.ensures in
-    let six = said_by_either player_request _ _ _ _ _ c.or-5.ensures five show in
-    said_by_either player_request _ _ _ _ _ c.or-6.ensures six c.inbox_of.ensures
+    let six = said_by_either player_request _ _ _ _ _ c.or-5.ensures five c.vote_for_of.ensures in
+    let seven = said_by_either player_request _ _ _ _ _ c.or-6.ensures six show in
+    said_by_either player_request _ _ _ _ _ c.or-7.ensures seven c.inbox_of.ensures

@@ -133,6 +133,18 @@ class Players:
         lines = "".join("> " + "".join(map(chr, self.dice.choices(range(32, 127), k=self.dice.choice([0, 1, 40, 200])))) + "\n" for _ in range(self.dice.randint(1, 3)))
         return f"PRESS {self.dice.choice(['WHITE', 'GREY'])} TO {' '.join(names)}\n{lines}"
 
+    def vote(self, game):
+        """A vote: for all, for none, or for some powers; seldom for names that make none."""
+        powers, way = self.chart.powers, self.dice.random()
+        if way < 0.3:
+            return self.dice.choice(["VOTE YES\n", "VOTE NO\n"])
+        named = self.dice.sample(powers, self.dice.randint(1, len(powers)))
+        if way < 0.4 and game in self.desk.games:
+            named = self.desk.games[game].survivors()
+        elif way < 0.5:
+            named = named[:6] + [self.dice.choice(["spain", "master", "all", named[0]])]
+        return f"VOTE FOR {' '.join(named)}\n"
+
     def any_letter(self, game):
         """Some letter, which may be one more time the last, or bytes that are none."""
         way, power = self.dice.random(), self.dice.choice(self.chart.powers)
@@ -148,6 +160,8 @@ class Players:
             self.replace(game, power)
         elif way < 0.55:
             self.write(game, power, self.press(power))
+        elif way < 0.65:
+            self.write(game, power, self.vote(game))
         elif way < 0.8:
             self.write(game, power, self.dice.choice(QUIET))
         else:
@@ -174,11 +188,20 @@ class Players:
                     self.write(name, power, self.orders(name, power))
         for _ in range(self.dice.randint(0, chatter)):
             self.any_letter(name)
-        if self.happens(0.02):
-            for power in self.chart.powers:
-                self.write(name, power, "VOTE YES\n")
+        if self.happens(0.03):
+            self.agree(name, game)
         if not game.is_over():
             self.tick(name)
+
+    def agree(self, name, game):
+        """All powers vote for a draw between the same powers, or all but one of them do."""
+        living = game.survivors() or self.chart.powers
+        named = self.dice.sample(living, self.dice.randint(1, len(living)))
+        named = self.dice.choice([named, living, named + [it for it in self.chart.powers if it not in living][:1]])
+        for power in self.chart.powers:
+            if self.happens(0.98):
+                all_of = "VOTE YES\n" if set(named) == set(living) and self.happens(0.5) else None
+                self.write(name, power, all_of or f"VOTE FOR {' '.join(self.dice.sample(named, len(named)))}\n")
 
     def play(self, names, turns, chatter=5):
         """The letters of so many turns of each game, and what all powers are shown behind them."""

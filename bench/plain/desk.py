@@ -52,6 +52,11 @@ def announce_in(_, lines):
     return ("announce", text) if text else None
 
 
+def vote_in(found, lines):
+    names = found[1].split(" ")
+    return ("vote", names) if len(names) <= 8 and not lines else None
+
+
 def create_in(found, lines):
     due, period = count_in(found[1], 0, MOST_TICK), count_in(found[2], 1, 999_999)
     seats = [re.fullmatch(f"SEAT ({NAME}) ({SECRET})", line) for line in lines]
@@ -75,7 +80,7 @@ COMMANDS = [
     (r"ORDERS", orders_in),
     (r"WITHDRAW|SHOW|PAUSE|RESUME|CLOSE", plain_command),
     (rf"PRESS (WHITE|GREY) TO ({NAME}(?: {NAME})*)", press_in),
-    (r"VOTE (YES|NO)", lambda found, lines: None if lines else ("vote", found[1] == "YES")),
+    (rf"VOTE (YES|NO|FOR {NAME}(?: {NAME})*)", vote_in),
     (r"INBOX ([0-9]+)", count_command("inbox", 1, 999_999)),
     (r"CREATE DUE ([0-9]+) PERIOD ([0-9]+) GREY (YES|NO)", create_in),
     (r"TICK ([0-9]+)", count_command("tick", 0, MOST_TICK)),
@@ -122,7 +127,7 @@ class Author:
 
     def __init__(self, known):
         self.digest, self.last, self.kept, self.reply = known, 0, None, None
-        self.vote, self.sent, self.inbox, self.pending = False, 0, [], {}
+        self.vote, self.sent, self.inbox, self.pending = ["NO"], 0, [], {}
 
 
 class Game:
@@ -148,11 +153,17 @@ class Game:
     def survivors(self):
         return [power for power in self.chart.powers if self.board.count_units(power) or self.board.centres(power)]
 
+    def shared(self):
+        """The powers between which all survivors want a draw, if they agree on survivors alone."""
+        survivors = set(self.survivors())
+        wanted = [{"NO": set(), "YES": survivors}.get(vote[0], set(vote[1:])) for vote in (self.seats[power].vote for power in survivors)]
+        return wanted[0] if wanted and all(it == wanted[0] for it in wanted) and wanted[0] <= survivors else set()
+
     def play(self, tick):
         """A due tick: a draw, or the phase with the orders that stand."""
-        survivors = self.survivors()
-        if survivors and all(self.seats[power].vote for power in survivors):
-            self.status = "drawn by " + " ".join(survivors)
+        shared = self.shared()
+        if shared:
+            self.status = "drawn by " + " ".join(sorted(shared))
             return self.publish("draw")
         pending = {(power, code): it for power, seat in self.seats.items() for code, it in seat.pending.items()}
         title = self.board.phase()
@@ -207,6 +218,9 @@ class Desk:
             return names != ["all"] and (len(set(names)) < len(names) or not set(names) <= set(powers) - {sender})
         if kind == "create":
             return sorted(power for power, _ in command[4]) != powers
+        if kind == "vote":
+            names = command[1][1:]
+            return len(set(names)) < len(names) or not set(names) <= set(powers)
         return kind == "replace" and command[1] not in powers
 
     def refusal(self, letter, author):
@@ -258,12 +272,12 @@ class Desk:
                 game.seats[power].inbox.append((head, text))
         return ["OK press"]
 
-    def vote(self, _game, _sender, author, draw):
-        author.vote = draw
-        return [f"OK vote {'YES' if draw else 'NO'}"]
+    def vote(self, _game, _sender, author, words):
+        author.vote = [words[0], *sorted(words[1:])]
+        return [f"OK vote {' '.join(author.vote)}"]
 
     def show(self, game, _sender, author):
-        own = [f"VOTE {'YES' if author.vote else 'NO'}", f"SENT {author.sent} INBOX {len(author.inbox)}"]
+        own = [f"VOTE {' '.join(author.vote)}", f"SENT {author.sent} INBOX {len(author.inbox)}"]
         return [game.line(), *game.board.lines(self.chart), *own, *(f"ORDER {author.pending[code]['text']}" for code in sorted(author.pending))]
 
     def inbox(self, _game, _sender, author, first):

@@ -132,7 +132,7 @@ module _ (m : Chart) (ok : IsMap m) (name : List ℕ) (t : Tables) (keyed : AreK
     papers = keyed.papers;
   }
   ordered_keyed who Nothing fits = keyed
-  ordered_keyed who (Votes draw) fits = keyed
+  ordered_keyed who (Votes vote) fits = keyed
   ordered_keyed who (Delivers readers item) fits = keyed
   ordered_keyed who (Opens public paper seats) fits = keyed
   ordered_keyed who (Publishes public paper played) fits = keyed
@@ -268,7 +268,7 @@ module _ (m : Chart) (ok : IsMap m) (t : Tables) (coded : AreCoded m t) (counts 
   place_found : (who : Author) (e : Effect) → IsAuthorOf m who → FitsMap m e → FindsPlace name who e (option_map (game_of m t) (find (is_named name) t.games)) → CountsOn name e t.games × HasRoom m who name e t
   place_found who Nothing of fits place = (tt, tt)
   place_found who (Pending orders) of fits place = (tt, tt)
-  place_found who (Votes draw) of fits place = (tt, tt)
+  place_found who (Votes vote) of fits place = (tt, tt)
   place_found who (Delivers readers item) of fits place = (tt, press_room who readers item of (seats_room who (find (is_named name) t.games) readers item refl place))
   place_found who (Opens public paper seats) of fits place = (fits.1, tt)
   place_found who (Publishes public paper played) of fits place = ((paper_next who (find (is_named name) t.games) public paper played refl place).0, tt)
@@ -279,7 +279,7 @@ module _ (m : Chart) (ok : IsMap m) (t : Tables) (coded : AreCoded m t) (counts 
     reached_keyed : (e : Effect) → FitsMap m e → FindsPlace name who e (option_map (game_of m t) (find (is_named name) t.games)) → AreKeyed (reaching m name e (ordering m who name e (noting m who name k e t)))
     reached_keyed Nothing fits place = ordered_keyed m ok name _ (noted_keyed m name k Nothing t who keyed) who Nothing fits
     reached_keyed (Pending orders) fits place = ordered_keyed m ok name _ (noted_keyed m name k (Pending orders) t who keyed) who (Pending orders) fits
-    reached_keyed (Votes draw) fits place = ordered_keyed m ok name _ (noted_keyed m name k (Votes draw) t who keyed) who (Votes draw) fits
+    reached_keyed (Votes vote) fits place = ordered_keyed m ok name _ (noted_keyed m name k (Votes vote) t who keyed) who (Votes vote) fits
     reached_keyed (Delivers readers item) fits place =
         let e = Delivers readers item in
         let u = noting m who name k e t in

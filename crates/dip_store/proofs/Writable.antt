@@ -36,7 +36,7 @@ not_zero n least = elim (cases_Bool (n == 0)) [
 of_map : (m : Chart) (e : Effect) → FitsMap m e → IsEffectOf m e
 of_map m Nothing fits = tt
 of_map m (Pending orders) fits = fits.1
-of_map m (Votes draw) fits = tt
+of_map m (Votes vote) fits = fits
 of_map m (Delivers readers item) fits = fits.1
 of_map m (Opens public paper seats) fits = (fits.0.board, fits.0.status, fits.3)
 of_map m (Publishes public paper played) fits = (fits.board, fits.status)
@@ -49,7 +49,7 @@ due_fits due most = omega (arith, most)
 in_columns : (m : Chart) (e : Effect) → FitsMap m e → FitsColumns e
 in_columns m Nothing fits = tt
 in_columns m (Pending orders) fits = tt
-in_columns m (Votes draw) fits = tt
+in_columns m (Votes vote) fits = tt
 in_columns m (Delivers readers item) fits = tt
 in_columns m (Opens public paper seats) fits = (due_fits public.due fits.0.due, fits.1)
 in_columns m (Publishes public paper played) fits = due_fits public.due fits.due

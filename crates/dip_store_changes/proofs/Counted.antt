@@ -50,7 +50,7 @@ module _ (m : Chart) (name : List ℕ) (k : Kept) (e : Effect) where
   noted_keys : (k : Kept) (e : Effect) (s : SeatRow) → ((seat_noted k e s).game ≡ s.game) × ((seat_noted k e s).power ≡ s.power) × ((seat_noted k e s).items ≡ s.items)
   noted_keys k Nothing s = (refl, refl, refl)
   noted_keys k (Pending orders) s = (refl, refl, refl)
-  noted_keys k (Votes draw) s = (refl, refl, refl)
+  noted_keys k (Votes vote) s = (refl, refl, refl)
   noted_keys k (Delivers readers item) s = (refl, refl, refl)
   noted_keys k (Opens public paper seats) s = (refl, refl, refl)
   noted_keys k (Publishes public paper played) s = (refl, refl, refl)
@@ -87,7 +87,7 @@ module _ (m : Chart) (each : ReadersAreSeats m) (one : IsDeliveredOneByOne m) (r
       → reaching_all rs m name e (ordering m who name e (noting m who name k e t)) ≡ reaching m name e (ordering m who name e (noting m who name k e t))
   reached Nothing are = refl
   reached (Pending orders) are = refl
-  reached (Votes draw) are = refl
+  reached (Votes vote) are = refl
   reached (Delivers powers item) are =
       let e = Delivers powers item in
       let u = noting m who name k e t in

@@ -21,7 +21,7 @@ use Rattle.dip_store_changes.specs.Failing.{InboxesHaveRoom, PressHasRoom}
 pub rooms : (m : Chart) (who : Author) (name : List ℕ) (e : Effect) (t : Tables) → HasRoom m who name e t → PressHasRoom m who name e t.seats × InboxesHaveRoom m name e t.seats
 rooms m who name Nothing t room = (tt, tt)
 rooms m who name (Pending orders) t room = (tt, tt)
-rooms m who name (Votes draw) t room = (tt, tt)
+rooms m who name (Votes vote) t room = (tt, tt)
 rooms m who name (Delivers powers item) t room = room
 rooms m who name (Opens public paper seats) t room = (tt, tt)
 rooms m who name (Publishes public paper played) t room = (tt, tt)
@@ -30,7 +30,7 @@ rooms m who name (Seats seat) t room = (tt, tt)
 pub room_of : (m : Chart) (who : Author) (name : List ℕ) (e : Effect) (t : Tables) → PressHasRoom m who name e t.seats → InboxesHaveRoom m name e t.seats → HasRoom m who name e t
 room_of m who name Nothing t one two = tt
 room_of m who name (Pending orders) t one two = tt
-room_of m who name (Votes draw) t one two = tt
+room_of m who name (Votes vote) t one two = tt
 room_of m who name (Delivers powers item) t one two = (one, two)
 room_of m who name (Opens public paper seats) t one two = tt
 room_of m who name (Publishes public paper played) t one two = tt
@@ -57,7 +57,7 @@ module _ (m : Chart) (name : List ℕ) where
   pub inboxes_room : (e : Effect) (ss : List SeatRow) (rs : List Reader) → AreReaders m name e ss rs → All (λ r. r.items < most_items) rs → InboxesHaveRoom m name e ss
   inboxes_room Nothing ss rs are room = tt
   inboxes_room (Pending orders) ss rs are room = tt
-  inboxes_room (Votes draw) ss rs are room = tt
+  inboxes_room (Votes vote) ss rs are room = tt
   inboxes_room (Delivers powers item) ss rs are room = seats_room (filter (is_reader m name powers) ss) rs are (recursion_from_All _ _ room)
   inboxes_room (Opens public paper seats) ss rs are room = tt
   inboxes_room (Publishes public paper played) ss rs are room = tt

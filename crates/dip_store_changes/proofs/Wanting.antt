@@ -58,7 +58,7 @@ module _ {S : Type 0} (g : Ghosts S) (Allow : Tables → Type 0) (old last end :
 pub orders_keyed : (rs : List Reader) (m : Chart) (who : Author) (name : List ℕ) (e : Effect) (t : Tables) → AreKeyed (reaching_all rs m name e (ordering m who name e t)) → OrdersDiffer m who name e t
 orders_keyed rs m who name Nothing t keyed = tt
 orders_keyed rs m who name (Pending orders) t keyed = keyed.pending
-orders_keyed rs m who name (Votes draw) t keyed = tt
+orders_keyed rs m who name (Votes vote) t keyed = tt
 orders_keyed rs m who name (Delivers readers item) t keyed = tt
 orders_keyed rs m who name (Opens public paper seats) t keyed = tt
 orders_keyed rs m who name (Publishes public paper played) t keyed = tt

@@ -24,7 +24,7 @@ CountsSent n m who name e t = (k : Kept) → noting_sent n m who name k e t ≡ 
 abbrev pub AreReaders : Chart → List ℕ → Effect → List SeatRow → List Reader → Type 0
 AreReaders m name Nothing ss rs = Unit {0}
 AreReaders m name (Pending orders) ss rs = Unit {0}
-AreReaders m name (Votes draw) ss rs = Unit {0}
+AreReaders m name (Votes vote) ss rs = Unit {0}
 AreReaders m name (Delivers powers item) ss rs = AreSeats m name (filter (is_reader m name powers) ss) rs
 AreReaders m name (Opens public paper seats) ss rs = Unit {0}
 AreReaders m name (Publishes public paper played) ss rs = Unit {0}

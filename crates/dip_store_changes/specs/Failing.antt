@@ -48,7 +48,7 @@ MaySend name power s = is_seat name power s ≡ true → s.sent < most_sent
 abbrev pub PressHasRoom : Chart → Author → List ℕ → Effect → List SeatRow → Type 0
 PressHasRoom m who name Nothing ss = Unit {0}
 PressHasRoom m who name (Pending orders) ss = Unit {0}
-PressHasRoom m who name (Votes draw) ss = Unit {0}
+PressHasRoom m who name (Votes vote) ss = Unit {0}
 PressHasRoom m who name (Delivers powers item) ss = SentHasRoom m who name ss
 PressHasRoom m who name (Opens public paper seats) ss = Unit {0}
 PressHasRoom m who name (Publishes public paper played) ss = Unit {0}
@@ -58,7 +58,7 @@ PressHasRoom m who name (Seats seat) ss = Unit {0}
 abbrev pub InboxesHaveRoom : Chart → List ℕ → Effect → List SeatRow → Type 0
 InboxesHaveRoom m name Nothing ss = Unit {0}
 InboxesHaveRoom m name (Pending orders) ss = Unit {0}
-InboxesHaveRoom m name (Votes draw) ss = Unit {0}
+InboxesHaveRoom m name (Votes vote) ss = Unit {0}
 InboxesHaveRoom m name (Delivers powers item) ss =
     AllByRecursion (λ s. s.items < most_items) (filter (is_reader m name powers) ss)
 InboxesHaveRoom m name (Opens public paper seats) ss = Unit {0}

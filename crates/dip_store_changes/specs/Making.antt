@@ -19,7 +19,7 @@ use Rattle.dip_store_changes.specs.declared.delivering.Reader.{Reader}
 abbrev pub reaching_all : List Reader → Chart → List ℕ → Effect → Tables → Tables
 reaching_all rs m name Nothing t = t
 reaching_all rs m name (Pending orders) t = t
-reaching_all rs m name (Votes draw) t = t
+reaching_all rs m name (Votes vote) t = t
 reaching_all rs m name (Delivers readers item) t = delivering_all m name item rs t
 reaching_all rs m name (Opens public paper seats) t = opening m public paper seats t
 reaching_all rs m name (Publishes public paper played) t = publishing m name public paper played t
@@ -29,7 +29,7 @@ reaching_all rs m name (Seats seat) t = replacing m name seat t
 abbrev pub OrdersDiffer : Chart → Author → List ℕ → Effect → Tables → Type 0
 OrdersDiffer m who name Nothing t = Unit {0}
 OrdersDiffer m who name (Pending orders) t = Differ same_order (ordering_by m who name orders t).pending
-OrdersDiffer m who name (Votes draw) t = Unit {0}
+OrdersDiffer m who name (Votes vote) t = Unit {0}
 OrdersDiffer m who name (Delivers readers item) t = Unit {0}
 OrdersDiffer m who name (Opens public paper seats) t = Unit {0}
 OrdersDiffer m who name (Publishes public paper played) t = Unit {0}

@@ -132,6 +132,7 @@ pub(crate) fn make_parts<S: Alter>(
         (changing_sent sent readers.now map.now (machine.change change.now) t))
         (state S.Store tx.old.conn.now) (state S.Store tx.new.conn.now) result }
 {
+    map.facts();
     let game = change.game.as_str();
     note_author(alloc, tx, map, change, sent)?;
     order(tx, map, game, change.author, &change.effect)?;

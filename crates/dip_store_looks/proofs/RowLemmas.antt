@@ -7,10 +7,11 @@ use Rattle.sqlite.specs.declared.types.Value.TheVariants.{Int, Text as Words, Bl
 use Rattle.sqlite.specs.Order.{Row, column, bytes}
 use Rattle.dip_store_tables.proofs.ListLemmas.{all_both, all-filter, all_map, all_weaker}
 use Rattle.dip_store_tables.specs.Boards.{code}
-use Rattle.dip_map.specs.Charts.{Chart}
+use Rattle.dip_map.specs.Charts.{Chart, IsMap}
 use Rattle.dip_store_tables.specs.Columns.{IsPrinted}
 use Rattle.dip_store_tables.specs.Legible.{AreOurs, IsDeskLegible, IsItemLegible, IsOrderLegible, IsPaperLegible, IsSeatLegible, IsText}
 use Rattle.dip_store_tables.proofs.MapTexts.{code_text, power_text}
+use Rattle.dip_store_tables.proofs.VoteLemmas.{number_low}
 use Rattle.dip_desk_state.specs.Records.{Item, White, Grey, Kept}
 use Rattle.dip_store_sql.specs.Rows.{number_in}
 use Rattle.dip_store_sql.specs.Showing.{is_item, is_numbered, show_desk, show_item, show_listed, show_order, show_paper, show_seat}
@@ -93,24 +94,22 @@ kept_readable r at game sender (Some k) last sum reply it text low one two three
     }
 
 -- seats
-abbrev IsSeatOurs : SeatRow → Type 0
-IsSeatOurs s = IsSeatWritten s × IsSeatLegible s
+abbrev IsSeatOurs : Chart → SeatRow → Type 0
+IsSeatOurs m s = IsSeatWritten m s × IsSeatLegible s
 
-vote_small : (s : SeatRow) → IsSeatWritten s → s.vote < 2 ^ 32
-vote_small s it = subst (λ n. n < 2 ^ 32) (sym it.vote.1) (small_number it.vote.0)
-
-seat_readable : (s : SeatRow) → IsSeatOurs s → IsSeatReadable (show_seat s) 0
-seat_readable s it =
+seat_readable : (m : Chart) → IsMap m → (s : SeatRow) → IsSeatOurs m s → IsSeatReadable m (show_seat s) 0
+seat_readable m ok s it =
     let r = show_seat s in
     record {
       digest = has_digest r 0 s.digest (omega arith) refl it.0.digest;
-      vote = has_number r 1 s.vote (omega arith) refl (vote_small s it.0);
+      vote = has_number r 1 s.vote (omega arith) refl (number_low m s.vote ok it.0.vote);
+      votes = it.0.vote;
       kept = kept_readable r 2 s.game s.power it.0.letter.0 s.last s.kept s.reply it.0.letter.1 it.1.0 (omega arith) refl refl refl;
       sent = has_number r 5 s.sent (omega arith) refl it.1.1;
       items = has_number r 6 s.items (omega arith) refl it.1.2;
     }
 
-seat_listed : (m : Chart) (t : Tables) → AreOurs m t → (s : SeatRow) → IsSeatOf m s × IsSeatOurs s → IsListedReadable m (show_listed s)
+seat_listed : (m : Chart) (t : Tables) → AreOurs m t → (s : SeatRow) → IsSeatOf m s × IsSeatOurs m s → IsListedReadable m (show_listed s)
 seat_listed m t ours s of_ours =
     let r = show_listed s in
     let it = of_ours.1 in
@@ -122,7 +121,8 @@ seat_listed m t ours s of_ours =
       of_map = power.2;
       seat = record {
         digest = has_digest r 1 s.digest (omega arith) refl it.0.digest;
-        vote = has_number r 2 s.vote (omega arith) refl (vote_small s it.0);
+        vote = has_number r 2 s.vote (omega arith) refl (number_low m s.vote ours.map it.0.vote);
+        votes = it.0.vote;
         kept = kept_readable r 3 s.game s.power it.0.letter.0 s.last s.kept s.reply it.0.letter.1 it.1.0 (omega arith) refl refl refl;
         sent = has_number r 6 s.sent (omega arith) refl it.1.1;
         items = has_number r 7 s.items (omega arith) refl it.1.2;
@@ -130,16 +130,16 @@ seat_listed m t ours s of_ours =
     }
 
 module _ (m : Chart) (t : Tables) (ours : AreOurs m t) where
-  seats_ours : AllByRecursion IsSeatOurs t.seats
-  seats_ours = all_both IsSeatWritten IsSeatLegible IsSeatOurs (λ s a b. (a, b)) t.seats ours.written.seats ours.legible.seats
+  seats_ours : AllByRecursion (IsSeatOurs m) t.seats
+  seats_ours = all_both (IsSeatWritten m) IsSeatLegible (IsSeatOurs m) (λ s a b. (a, b)) t.seats ours.written.seats ours.legible.seats
 
-  pub seat_found_readable : (name power : List ℕ) (row : Row) → Some row ≡ option_map show_seat (find (is_seat name power) t.seats) → IsSeatReadable row 0
-  seat_found_readable name power row shown = found_as IsSeatOurs (λ r. IsSeatReadable r 0) show_seat (is_seat name power) seat_readable t.seats row seats_ours shown
+  pub seat_found_readable : (name power : List ℕ) (row : Row) → Some row ≡ option_map show_seat (find (is_seat name power) t.seats) → IsSeatReadable m row 0
+  seat_found_readable name power row shown = found_as (IsSeatOurs m) (λ r. IsSeatReadable m r 0) show_seat (is_seat name power) (seat_readable m ours.map) t.seats row seats_ours shown
 
   pub seats_readable : (name : List ℕ) (rows : List Row) → rows ≡ map show_listed (filter (is_seat_in name) t.seats) → AllByRecursion (IsListedReadable m) rows
   seats_readable name rows is =
-      listed_as (λ s. IsSeatOf m s × IsSeatOurs s) (IsListedReadable m) show_listed (is_seat_in name) (seat_listed m t ours) t.seats rows
-      (all_both (IsSeatOf m) IsSeatOurs (λ s. IsSeatOf m s × IsSeatOurs s) (λ s a b. (a, b)) t.seats ours.coded.seats seats_ours) is
+      listed_as (λ s. IsSeatOf m s × IsSeatOurs m s) (IsListedReadable m) show_listed (is_seat_in name) (seat_listed m t ours) t.seats rows
+      (all_both (IsSeatOf m) (IsSeatOurs m) (λ s. IsSeatOf m s × IsSeatOurs m s) (λ s a b. (a, b)) t.seats ours.coded.seats seats_ours) is
 
   order_readable : (p : PendingRow) → IsOrderWritten m p × IsOrderLegible p → IsOrderReadable m (show_order p)
   order_readable p it =

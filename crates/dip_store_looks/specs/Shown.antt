@@ -9,6 +9,7 @@ use Rattle.dip_store_sql.specs.Rows.{number_in}
 use Rattle.dip_store_sql.specs.Showing.{show_order}
 use Rattle.dip_store_tables.specs.Reading.{kept_of, standing_of, status_of}
 use Rattle.dip_store_tables.specs.Tables.{BoxRow, PendingRow, is_pending}
+use Rattle.dip_store_tables.specs.Votes.{vote_of}
 
 abbrev pub shown_unit : Row → UnitRow
 shown_unit r = record {
@@ -45,7 +46,7 @@ abbrev pub shown_own : Chart → ℕ → ℕ → Row → List Row → Own
 shown_own m power at r orders = record {
   power = power;
   digest = bytes (column r at);
-  vote = number_in (column r (at + 1)) == 1;
+  vote = vote_of (number_in (column r (at + 1)));
   pending = map (λ o. standing_of m (shown_order o)) orders;
   kept = kept_of (number_in (column r (at + 2))) (bytes (column r (at + 3))) (bytes (column r (at + 4)));
   sent = number_in (column r (at + 5));

@@ -1,9 +1,10 @@
 //! A seat's own part.
 ghost use Rattle.std.specs.Prelude.{◌≡◌, ◌<◌, IfErr, IfOk, length, map as each, option_map};
+ghost use Rattle.sqlite.specs.Order.{column};
 ghost use Rattle.std.specs.List.{AllByRecursion, find};
 ghost use Rattle.dip_store_tables.specs.Boards.{power_name};
 ghost use Rattle.dip_store_looks.specs.Faults.{IsFromOutside};
-ghost use Rattle.dip_store_looks.specs.Readable.{IsOrderReadable, IsSeatReadable};
+ghost use Rattle.dip_store_looks.specs.Readable.{HasNumber, IsOrderReadable, IsSeatReadable};
 ghost use Rattle.dip_store_looks.specs.Shown.{shown_order, shown_own};
 ghost use Rattle.dip_store_tables.specs.Legible.{AreOurs};
 ghost use Rattle.dip_desk_state.specs.Rows as rows;
@@ -11,14 +12,17 @@ ghost use Rattle.dip_store_sql.specs.Causes.{has_faulted};
 ghost use Rattle.dip_store_sql.specs.Calls.{IsKept, Selects, does_show, is_honest, tables_in};
 ghost use Rattle.dip_store_tables.specs.Reading.{own_of, standing_of};
 ghost use Rattle.dip_store_tables.specs.Tables.{is_seat};
+ghost use Rattle.dip_store_tables.specs.Votes.{IsVoteNumber, vote_of};
+ghost use Rattle.dip_store_sql.specs.Rows.{number_in};
 
 use crate::faults::LookFault;
 use crate::letters::{digest_in, kept_in};
 use crate::values::{number_at, text_at};
-use dip_desk_state::{Own, Standing};
+use dip_desk_state::{Own, Standing, Vote};
 use dip_map::Map;
 use dip_names::Power;
 use dip_store_sql::{find_seat, list_orders};
+use dip_store_tables::read_vote;
 use sqlite::{Alter, Connection, Row};
 use std::alloc::Global;
 
@@ -51,6 +55,20 @@ fn standings_in(alloc: Global, map: &Map, orders: &[Row]) -> Result<Vec<Standing
     Ok(standings)
 }
 
+/// What the seat votes for, by the number in a column.
+fn vote_in(alloc: Global, map: &Map, row: &Row, at: usize) -> Result<Vote, LookFault>
+    ensures value { IfOk result (λ v.
+        rows.vote v ≡ vote_of (number_in (column row.now at))) }
+    ensures own { HasNumber row.now at → IsVoteNumber map.now (number_in (column row.now at))
+        → IfErr result (IsFromOutside ⊥) }
+{
+    let number = number_at(row, at)?;
+    match read_vote(alloc, map, number)? {
+        Some(vote) => Ok(vote),
+        None => Err(LookFault::Foreign),
+    }
+}
+
 /// The own part that a seat's row, from a column on, and the rows of its orders show.
 pub(crate) fn own_in(
     alloc: Global,
@@ -62,14 +80,14 @@ pub(crate) fn own_in(
 ) -> Result<Own, LookFault>
     requires { at < 2 }
     ensures value { IfOk result (λ o. rows.own o ≡ shown_own map.now power at row.now orders.now) }
-    ensures own { IsSeatReadable row.now at → AllByRecursion (IsOrderReadable map.now) orders.now
+    ensures own { IsSeatReadable map.now row.now at → AllByRecursion (IsOrderReadable map.now) orders.now
         → IfErr result (IsFromOutside ⊥) }
 {
-    let vote = number_at(row, at + 1)?;
+    let vote = vote_in(alloc, map, row, at + 1)?;
     Ok(Own {
         power,
         digest: digest_in(row, at)?,
-        vote: vote == 1,
+        vote,
         pending: standings_in(alloc, map, orders)?,
         kept: kept_in(alloc, row, at + 2)?,
         sent: number_at(row, at + 5)?,

@@ -4,7 +4,6 @@ ghost use Rattle.sqlite.specs.Held.{state};
 ghost use Rattle.dip_store_sql.specs.Calls.{Writes};
 ghost use Rattle.dip_store_sql.specs.TablesAfter.{counting, game_as, on_desk, on_game, on_seat, secret_as, sending, voting};
 ghost use Rattle.dip_store_sql.specs.Wants.{Wants, always};
-ghost use Rattle.dip_store_tables.specs.Writing.{number_of};
 ghost use Rattle.dip_store_sql.specs.RowViews as rows;
 
 use crate::rows::{GameRow, LastLetter};
@@ -48,17 +47,17 @@ pub fn note_seat<S: Alter>(
     )
 }
 
-/// The seat's vote, and its last letter.
+/// The number of the seat's vote, and its last letter.
 pub fn note_vote<S: Alter>(
     tx: &mut Transaction<'_, S>,
     game: &str,
     power: &str,
-    vote: bool,
+    vote: u32,
     letter: &LastLetter<'_>,
 ) -> Result<usize, Error>
     ensures same_reference { tx.new.conn.ghost_name ≡ tx.old.conn.ghost_name }
     ensures writes { Writes (on_seat game.now power.now
-        (λ s. voting (number_of vote) (rows.seat_kept letter.now s)))
+        (λ s. voting vote (rows.seat_kept letter.now s)))
         (state S.Store tx.old.conn.now) (state S.Store tx.new.conn.now) result }
     ensures wants { Wants always
         (state S.Store tx.old.conn.now) (state S.Store tx.new.conn.now) result }

@@ -33,7 +33,7 @@ with_seats who k e g = record g { seats = with_author who k e g.seats }
 pub no_orders : (m : Chart) (name : List ℕ) (e : Effect) (t : Tables) → (ordering m Nobody name e t ≡ t) × (ordering m TheMaster name e t ≡ t)
 no_orders m name Nothing t = (refl, refl)
 no_orders m name (Pending orders) t = (refl, refl)
-no_orders m name (Votes draw) t = (refl, refl)
+no_orders m name (Votes vote) t = (refl, refl)
 no_orders m name (Delivers readers item) t = (refl, refl)
 no_orders m name (Opens public paper seats) t = (refl, refl)
 no_orders m name (Publishes public paper played) t = (refl, refl)
@@ -43,7 +43,7 @@ no_orders m name (Seats seat) t = (refl, refl)
 pub noted_keys : (k : Kept) (e : Effect) (s : SeatRow) → ((seat_noted k e s).game ≡ s.game) × ((seat_noted k e s).power ≡ s.power) × ((seat_noted k e s).items ≡ s.items)
 noted_keys k Nothing s = (refl, refl, refl)
 noted_keys k (Pending orders) s = (refl, refl, refl)
-noted_keys k (Votes draw) s = (refl, refl, refl)
+noted_keys k (Votes vote) s = (refl, refl, refl)
 noted_keys k (Delivers readers item) s = (refl, refl, refl)
 noted_keys k (Opens public paper seats) s = (refl, refl, refl)
 noted_keys k (Publishes public paper played) s = (refl, refl, refl)
@@ -67,7 +67,7 @@ ordering_alone m who name Nothing t = same t
 ordering_alone m Nobody name (Pending orders) t = same t
 ordering_alone m TheMaster name (Pending orders) t = same t
 ordering_alone m (Seat power) name (Pending orders) t = record { desk = refl; games = refl; seats = refl; units = refl; centres = refl; papers = refl; boxes = refl }
-ordering_alone m who name (Votes draw) t = same t
+ordering_alone m who name (Votes vote) t = same t
 ordering_alone m who name (Delivers readers item) t = same t
 ordering_alone m who name (Opens public paper seats) t = same t
 ordering_alone m who name (Publishes public paper played) t = same t

@@ -91,7 +91,7 @@ module _ (m : Chart) (name : List ℕ) (k : Kept) (e : Effect) (t : Tables) wher
 pub reached_desk : (m : Chart) (name : List ℕ) (e : Effect) (t : Tables) → (reaching m name e t).desk ≡ t.desk
 reached_desk m name Nothing t = refl
 reached_desk m name (Pending orders) t = refl
-reached_desk m name (Votes draw) t = refl
+reached_desk m name (Votes vote) t = refl
 reached_desk m name (Delivers readers item) t = refl
 reached_desk m name (Opens public paper seats) t = refl
 reached_desk m name (Publishes public paper played) t = refl

@@ -25,7 +25,7 @@ new_seats m name ss low = all_map (IsSeatOf m) (seat_row m name) ss (all_weaker 
 reached_coded : (m : Chart) (name : List ℕ) (e : Effect) (t : Tables) → IsEffectOf m e → AllByRecursion (IsSeatOf m) t.seats → AllByRecursion (IsSeatOf m) (reaching m name e t).seats
 reached_coded m name Nothing t fits all = all
 reached_coded m name (Pending orders) t fits all = all
-reached_coded m name (Votes draw) t fits all = all
+reached_coded m name (Votes vote) t fits all = all
 reached_coded m name (Delivers readers item) t fits all =
     coded_map (λ s. cond (is_reader m name readers s) (one_more s) s) (λ s. either_way (λ r. r.game) (is_reader m name readers s) (one_more s) s refl)
     (λ s. either_way (λ r. r.power) (is_reader m name readers s) (one_more s) s refl) m t.seats all
@@ -68,7 +68,7 @@ mid_homes m who name k e t all =
 reached_homes : (m : Chart) (name : List ℕ) (e : Effect) (t : Tables) → AllByRecursion (λ s. HasGame t.games s.game) t.seats → AllByRecursion (λ s. HasGame (reaching m name e t).games s.game) (reaching m name e t).seats
 reached_homes m name Nothing t all = all
 reached_homes m name (Pending orders) t all = all
-reached_homes m name (Votes draw) t all = all
+reached_homes m name (Votes vote) t all = all
 reached_homes m name (Delivers readers item) t all =
     homes_map t.games (λ s. cond (is_reader m name readers s) (one_more s) s) (λ s. either_way (λ r. r.game) (is_reader m name readers s) (one_more s) s refl) t.seats all
 reached_homes m name (Opens p paper seats) t all =

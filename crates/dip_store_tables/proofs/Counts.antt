@@ -164,7 +164,7 @@ module _ (m : Chart) (name : List ℕ) (t : Tables) (it : AreCounted t) (apart :
   reached_counted : (e : Effect) → CountsOn name e t.games → AreApart (reaching m name e t) → AreCounted (reaching m name e t)
   reached_counted Nothing next later = it
   reached_counted (Pending orders) next later = it
-  reached_counted (Votes draw) next later = it
+  reached_counted (Votes vote) next later = it
   reached_counted (Delivers readers item) next later = delivered_counted readers item
   reached_counted (Opens public paper seats) next later = opened_counted public paper seats next later.games
   reached_counted (Publishes public paper played) next later = published_counted public paper played next

@@ -14,6 +14,7 @@ use Rattle.dip_desk_state.specs.State.{Game, Part, NewSeat, Effect, Nothing, Pen
 use Rattle.dip_desk_state.proofs.KeyedLemmas.{names_tell}
 use Rattle.dip_desk_state.specs.Records.{Public, Standing}
 use Rattle.dip_store_tables.specs.Tables.{GameRow, SeatRow, PendingRow, PaperRow, Tables, is_named, is_seat, is_pending_in, is_paper_in}
+use Rattle.dip_store_tables.specs.Votes.{vote_of}
 use Rattle.dip_store_tables.specs.Reading.{kept_of, public_of, pending_of, standing_of, items_of, part_of, game_of, status_of}
 use Rattle.dip_store_tables.specs.Writing.{game_row, paper_row}
 use Rattle.dip_store_tables.specs.Changing.{publishing, replacing, reaching}
@@ -118,7 +119,7 @@ module _ (m : Chart) (ok : IsMap m) (name : List ℕ) (t : Tables) (apart : AreA
     -- a seat with other orders
     abbrev ordered : SeatRow → List Standing → Part
     ordered s orders = record {
-      own = record { power = power_numbered m s.power; digest = s.digest; vote = s.vote == 1; pending = orders; kept = kept_of s.last s.kept s.reply; sent = s.sent; items = s.items };
+      own = record { power = power_numbered m s.power; digest = s.digest; vote = vote_of s.vote; pending = orders; kept = kept_of s.last s.kept s.reply; sent = s.sent; items = s.items };
       box = items_of t.boxes s.game s.power;
     }
 
@@ -141,7 +142,7 @@ module _ (m : Chart) (ok : IsMap m) (name : List ℕ) (t : Tables) (apart : AreA
       → map (game_of m (reaching m name e t)) (reaching m name e t).games ≡ change_at bytes_eq name_of name (game_behind e) (map (game_of m t) t.games) ++ new_games e
   games_reached Nothing fits coded later = sym (append-nil _ ∙ unmoved Nothing name (map (game_of m t) t.games) (λ p. refl) (λ ps. refl) (λ s. refl))
   games_reached (Pending orders) fits coded later = sym (append-nil _ ∙ unmoved (Pending orders) name (map (game_of m t) t.games) (λ p. refl) (λ ps. refl) (λ s. refl))
-  games_reached (Votes draw) fits coded later = sym (append-nil _ ∙ unmoved (Votes draw) name (map (game_of m t) t.games) (λ p. refl) (λ ps. refl) (λ s. refl))
+  games_reached (Votes vote) fits coded later = sym (append-nil _ ∙ unmoved (Votes vote) name (map (game_of m t) t.games) (λ p. refl) (λ ps. refl) (λ s. refl))
   games_reached (Delivers readers item) fits coded later = games_delivered m t name readers item fits apart ∙ sym (append-nil _)
   games_reached (Opens public paper seats) fits coded later =
       games_opened m ok public paper seats t fits.0 fits.1 fits.2 later.games

@@ -8,14 +8,16 @@ use Rattle.sqlite_keyed.proofs.SliceLemmas.{slice-delete_other}
 use Rattle.dip_map.specs.Charts.{Chart, IsMap}
 use Rattle.dip_store_tables.specs.Boards.{code, power_name, power_in as power_numbered, prov_in, or_zero}
 use Rattle.dip_desk_state.specs.State.{Part, Seat, Effect, Nothing, Pending, Votes, Delivers, Opens, Publishes, Seats, with_letter}
-use Rattle.dip_desk_state.specs.Records.{Kept, Standing}
+use Rattle.dip_desk_state.specs.Records.{Kept, Standing, Vote}
 use Rattle.dip_store_tables.specs.Tables.{SeatRow, PendingRow, Tables, is_seat, is_pending}
 use Rattle.dip_store_tables.specs.Reading.{kept_of, pending_of, standing_of, items_of, part_of}
 use Rattle.dip_desk_state.specs.Writable.{Lacks}
 use Rattle.dip_store_tables.specs.Writing.{number_of, pending_row, as_printed, seat_noted}
 use Rattle.dip_store_tables.specs.Changing.{noting, ordering}
 use Rattle.dip_store_tables.specs.Coding.{IsEffectOf}
+use Rattle.dip_store_tables.specs.Votes.{vote_of}
 use Rattle.dip_store_tables.proofs.Records.{name_plain}
+use Rattle.dip_store_tables.proofs.VoteLemmas.{vote_back}
 use Rattle.dip_store_tables.proofs.Replies.{printed_back}
 use Rattle.dip_store_tables.proofs.Lists.{none_left}
 use Rattle.dip_store_tables.proofs.Seats.{both_same, both_tell, keys_turned}
@@ -28,7 +30,7 @@ number_back false = refl
 abbrev pub orders_behind : Effect → List Standing → List Standing
 orders_behind Nothing ls = ls
 orders_behind (Pending orders) ls = orders
-orders_behind (Votes draw) ls = ls
+orders_behind (Votes vote) ls = ls
 orders_behind (Delivers readers item) ls = ls
 orders_behind (Opens public paper seats) ls = ls
 orders_behind (Publishes public paper played) ls = ls
@@ -83,7 +85,7 @@ module _ (m : Chart) (ok : IsMap m) (name : List ℕ) (plain : Lacks 10 name) (k
       let same = both_same s.game s.power name (power_name m power) mine in
       ap₂ (pending_of m (noted (Pending orders) t).pending) same.0 same.1 ∙ orders_given m ok name (power_name m power) orders t.pending fits
   my_orders Nothing t fits s mine = refl
-  my_orders (Votes draw) t fits s mine = refl
+  my_orders (Votes vote) t fits s mine = refl
   my_orders (Delivers readers item) t fits s mine = refl
   my_orders (Opens public paper seats) t fits s mine = refl
   my_orders (Publishes public paper played) t fits s mine = refl
@@ -92,32 +94,32 @@ module _ (m : Chart) (ok : IsMap m) (name : List ℕ) (plain : Lacks 10 name) (k
   other_orders : (e : Effect) (t : Tables) (s : SeatRow) → is_seat name (power_name m power) s ≡ false → pending_of m (noted e t).pending s.game s.power ≡ pending_of m t.pending s.game s.power
   other_orders (Pending orders) t s far = orders_kept m ok name (power_name m power) orders t.pending s.game s.power far
   other_orders Nothing t s far = refl
-  other_orders (Votes draw) t s far = refl
+  other_orders (Votes vote) t s far = refl
   other_orders (Delivers readers item) t s far = refl
   other_orders (Opens public paper seats) t s far = refl
   other_orders (Publishes public paper played) t s far = refl
   other_orders (Seats seat) t s far = refl
 
   -- what a seat's row says, with other orders and another letter kept
-  abbrev lettered : Tables → Bool → ℕ → SeatRow → List Standing → Option Kept → Part
+  abbrev lettered : Tables → Vote → ℕ → SeatRow → List Standing → Option Kept → Part
   lettered t vote sent s orders kept = record {
     own = record { power = power_numbered m s.power; digest = s.digest; vote = vote; pending = orders; kept = kept; sent = sent; items = s.items };
     box = items_of t.boxes s.game s.power;
   }
 
   pub my_part : (e : Effect) (t : Tables) → IsEffectOf m e → (s : SeatRow) → is_seat name (power_name m power) s ≡ true → part_of m (noted e t) (seat_noted printed e s) ≡ with_letter k e (part_of m t s)
-  my_part Nothing t fits s mine = ap₂ (lettered t (s.vote == 1) s.sent s) (my_orders Nothing t fits s mine) kept_back
-  my_part (Pending orders) t fits s mine = ap₂ (lettered t (s.vote == 1) s.sent s) (my_orders (Pending orders) t fits s mine) kept_back
-  my_part (Votes draw) t fits s mine = ap₂ (λ v o. lettered t v s.sent s (pending_of m t.pending s.game s.power) o) (number_back draw) kept_back
-  my_part (Delivers readers item) t fits s mine = ap₂ (lettered t (s.vote == 1) (s.sent + 1) s) (my_orders (Delivers readers item) t fits s mine) kept_back
-  my_part (Opens public paper seats) t fits s mine = ap₂ (lettered t (s.vote == 1) s.sent s) (my_orders (Opens public paper seats) t fits s mine) kept_back
-  my_part (Publishes public paper played) t fits s mine = ap₂ (lettered t (s.vote == 1) s.sent s) (my_orders (Publishes public paper played) t fits s mine) kept_back
-  my_part (Seats seat) t fits s mine = ap₂ (lettered t (s.vote == 1) s.sent s) (my_orders (Seats seat) t fits s mine) kept_back
+  my_part Nothing t fits s mine = ap₂ (lettered t (vote_of s.vote) s.sent s) (my_orders Nothing t fits s mine) kept_back
+  my_part (Pending orders) t fits s mine = ap₂ (lettered t (vote_of s.vote) s.sent s) (my_orders (Pending orders) t fits s mine) kept_back
+  my_part (Votes vote) t fits s mine = ap₂ (λ v o. lettered t v s.sent s (pending_of m t.pending s.game s.power) o) (vote_back m vote ok fits) kept_back
+  my_part (Delivers readers item) t fits s mine = ap₂ (lettered t (vote_of s.vote) (s.sent + 1) s) (my_orders (Delivers readers item) t fits s mine) kept_back
+  my_part (Opens public paper seats) t fits s mine = ap₂ (lettered t (vote_of s.vote) s.sent s) (my_orders (Opens public paper seats) t fits s mine) kept_back
+  my_part (Publishes public paper played) t fits s mine = ap₂ (lettered t (vote_of s.vote) s.sent s) (my_orders (Publishes public paper played) t fits s mine) kept_back
+  my_part (Seats seat) t fits s mine = ap₂ (lettered t (vote_of s.vote) s.sent s) (my_orders (Seats seat) t fits s mine) kept_back
 
   boxes_stay : (e : Effect) (t : Tables) → (noted e t).boxes ≡ t.boxes
   boxes_stay Nothing t = refl
   boxes_stay (Pending orders) t = refl
-  boxes_stay (Votes draw) t = refl
+  boxes_stay (Votes vote) t = refl
   boxes_stay (Delivers readers item) t = refl
   boxes_stay (Opens public paper seats) t = refl
   boxes_stay (Publishes public paper played) t = refl
@@ -128,6 +130,6 @@ module _ (m : Chart) (ok : IsMap m) (name : List ℕ) (plain : Lacks 10 name) (k
       let orders = other_orders e t s far in
       let boxes = boxes_stay e t in
       λ i. record {
-        own = record { power = power_numbered m s.power; digest = s.digest; vote = s.vote == 1; pending = orders i; kept = kept_of s.last s.kept s.reply; sent = s.sent; items = s.items };
+        own = record { power = power_numbered m s.power; digest = s.digest; vote = vote_of s.vote; pending = orders i; kept = kept_of s.last s.kept s.reply; sent = s.sent; items = s.items };
         box = items_of (boxes i) s.game s.power;
       }

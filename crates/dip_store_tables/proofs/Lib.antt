@@ -10,6 +10,7 @@ pub mod Replies
 pub mod Lists
 mod Games
 mod Seats
+pub mod VoteLemmas
 mod Letters
 pub mod Authors
 mod Anew

@@ -9,8 +9,9 @@ use Rattle.dip_map.specs.Boards.{IsOf}
 use Rattle.dip_store_tables.specs.Boards.{UnitRow, CentreRow, power_name, power_in as power_numbered, board_of, unit_rows, centre_rows}
 use Rattle.dip_desk_state.specs.State.{NewSeat, fresh, opening_game}
 use Rattle.dip_desk_state.proofs.KeyedLemmas.{names_tell}
-use Rattle.dip_desk_state.specs.Records.{Public}
+use Rattle.dip_desk_state.specs.Records.{Public, No}
 use Rattle.dip_store_tables.specs.Tables.{GameRow, SeatRow, PendingRow, BoxRow, PaperRow, Tables, is_seat_in, is_pending_in, is_box_in}
+use Rattle.dip_store_tables.specs.Votes.{vote_of}
 use Rattle.dip_store_tables.specs.Reading.{kept_of, pending_of, standing_of, items_of, item_of, part_of, game_of, status_of}
 use Rattle.dip_store_tables.specs.Writing.{game_row, seat_row, paper_row}
 use Rattle.dip_store_tables.specs.Changing.{opening}
@@ -47,7 +48,7 @@ module _ (m : Chart) (ok : IsMap m) (p : Public) (paper : List ℕ) (seats : Lis
       let orders = no_orders (power_name m s.power) in
       let items = no_items (power_name m s.power) in
       let first : part_of m new (seat_row m p.game s) ≡ fresh s =
-      λ i. record { own = record { power = power i; digest = s.digest; vote = false; pending = orders i; kept = kept_of 0 [] []; sent = 0; items = 0 }; box = items i } in
+      λ i. record { own = record { power = power i; digest = s.digest; vote = No; pending = orders i; kept = kept_of 0 [] []; sent = 0; items = 0 }; box = items i } in
       ap₂ ◌∷◌ first (fresh_seats ss low.1)
 
   opened : IsOf m p.board → IsStatusOf m p.status → AllByRecursion (λ s. s.power < length m.realms) seats → game_of m new (game_row m p.game p) ≡ opening_game p paper seats
@@ -69,7 +70,7 @@ module _ (m : Chart) (ok : IsMap m) (p : Public) (paper : List ℕ) (seats : Lis
       let items : items_of new.boxes s.game s.power ≡ items_of t.boxes s.game s.power =
       ap (map item_of) (far_deleted (λ (b : BoxRow). b.game) (λ b. bytes_eq b.power s.power) s.game p.game back t.boxes) in
       λ i. record {
-        own = record { power = power_numbered m s.power; digest = s.digest; vote = s.vote == 1; pending = orders i; kept = kept_of s.last s.kept s.reply; sent = s.sent; items = s.items };
+        own = record { power = power_numbered m s.power; digest = s.digest; vote = vote_of s.vote; pending = orders i; kept = kept_of s.last s.kept s.reply; sent = s.sent; items = s.items };
         box = items i;
       }
 

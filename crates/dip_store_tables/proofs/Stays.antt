@@ -57,7 +57,7 @@ reply_text game sender k named from told =
 abbrev MaySend : Effect → SeatRow → Type 0
 MaySend Nothing s = Unit {0}
 MaySend (Pending orders) s = Unit {0}
-MaySend (Votes draw) s = Unit {0}
+MaySend (Votes vote) s = Unit {0}
 MaySend (Delivers readers item) s = s.sent < most_sent
 MaySend (Opens public paper seats) s = Unit {0}
 MaySend (Publishes public paper played) s = Unit {0}
@@ -66,7 +66,7 @@ MaySend (Seats seat) s = Unit {0}
 abbrev MayGet : Chart → List ℕ → Effect → SeatRow → Type 0
 MayGet m name Nothing s = Unit {0}
 MayGet m name (Pending orders) s = Unit {0}
-MayGet m name (Votes draw) s = Unit {0}
+MayGet m name (Votes vote) s = Unit {0}
 MayGet m name (Delivers readers item) s = is_reader m name readers s ≡ true → s.items < most_items
 MayGet m name (Opens public paper seats) s = Unit {0}
 MayGet m name (Publishes public paper played) s = Unit {0}
@@ -75,7 +75,7 @@ MayGet m name (Seats seat) s = Unit {0}
 may_get : (m : Chart) (who : Author) (name : List ℕ) (e : Effect) (t : Tables) → HasRoom m who name e t → AllByRecursion (MayGet m name e) t.seats
 may_get m who name Nothing t room = always _ (λ s. tt) t.seats
 may_get m who name (Pending orders) t room = always _ (λ s. tt) t.seats
-may_get m who name (Votes draw) t room = always _ (λ s. tt) t.seats
+may_get m who name (Votes vote) t room = always _ (λ s. tt) t.seats
 may_get m who name (Delivers readers item) t room = of_passed (λ s. s.items < most_items) (is_reader m name readers) t.seats room.1
 may_get m who name (Opens public paper seats) t room = always _ (λ s. tt) t.seats
 may_get m who name (Publishes public paper played) t room = always _ (λ s. tt) t.seats
@@ -85,7 +85,7 @@ may_send : (m : Chart) (p : ℕ) (name : List ℕ) (e : Effect) (t : Tables) →
     → AllByRecursion (λ s. is_seat name (power_name m p) s ≡ true → MaySend e s) t.seats
 may_send m p name Nothing t room = always _ (λ s _. tt) t.seats
 may_send m p name (Pending orders) t room = always _ (λ s _. tt) t.seats
-may_send m p name (Votes draw) t room = always _ (λ s _. tt) t.seats
+may_send m p name (Votes vote) t room = always _ (λ s _. tt) t.seats
 may_send m p name (Delivers readers item) t room = room.0
 may_send m p name (Opens public paper seats) t room = always _ (λ s _. tt) t.seats
 may_send m p name (Publishes public paper played) t room = always _ (λ s _. tt) t.seats
@@ -96,7 +96,7 @@ noted_seat : (m : Chart) (name : List ℕ) (k : Kept) (e : Effect) (s : SeatRow)
     → IsSeatLegible (seat_noted k e s) × MayGet m name e (seat_noted k e s)
 noted_seat m name k Nothing s told may it get = ((told, it.1, it.2), tt)
 noted_seat m name k (Pending orders) s told may it get = ((told, it.1, it.2), tt)
-noted_seat m name k (Votes draw) s told may it get = ((told, it.1, it.2), tt)
+noted_seat m name k (Votes vote) s told may it get = ((told, it.1, it.2), tt)
 noted_seat m name k (Delivers readers item) s told may it get = ((told, omega (arith, may), it.2), get)
 noted_seat m name k (Opens public paper seats) s told may it get = ((told, it.1, it.2), tt)
 noted_seat m name k (Publishes public paper played) s told may it get = ((told, it.1, it.2), tt)
@@ -160,7 +160,7 @@ ordered m who name Nothing t texts it = it
 ordered m Nobody name (Pending orders) t texts it = it
 ordered m TheMaster name (Pending orders) t texts it = it
 ordered m (Seat power) name (Pending orders) t texts it = record { legible = with_pending t it.legible name (power_name m power) m orders texts; room = it.room }
-ordered m who name (Votes draw) t texts it = it
+ordered m who name (Votes vote) t texts it = it
 ordered m who name (Delivers readers item) t texts it = it
 ordered m who name (Opens public paper seats) t texts it = it
 ordered m who name (Publishes public paper played) t texts it = it
@@ -179,7 +179,7 @@ module _ (m : Chart) (name : List ℕ) (t : Tables) where
   reached : (e : Effect) → HasEffectTexts e → AreReady m name e t → AreLegible (reaching m name e t)
   reached Nothing texts it = it.legible
   reached (Pending orders) texts it = it.legible
-  reached (Votes draw) texts it = it.legible
+  reached (Votes vote) texts it = it.legible
   reached (Delivers readers item) texts it =
       let old = it.legible in
       let get = MayGet m name (Delivers readers item) in

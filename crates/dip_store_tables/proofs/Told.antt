@@ -33,7 +33,7 @@ order_texts (o ∷ os) = (text o.line, order_texts os)
 effect_texts : (e : Effect) → HasEffectTexts (desk_rows.effect e)
 effect_texts Nothing = tt
 effect_texts (Pending orders) = order_texts orders.items
-effect_texts (Votes draw) = tt
+effect_texts (Votes vote) = tt
 effect_texts (Delivers readers item) = item_texts item.value
 effect_texts (Opens public paper seats) = text paper
 effect_texts (Publishes public paper played) = text paper

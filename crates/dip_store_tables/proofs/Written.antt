@@ -10,7 +10,7 @@ use Rattle.dip_map.specs.Boards.{IsOf}
 use Rattle.dip_store_tables.specs.Boards.{UnitRow, CentreRow, power_name, unit_rows, centre_rows}
 use Rattle.dip_desk_state.specs.State.{Author, Nobody, TheMaster, Seat, Effect, Nothing, Pending, Votes, Delivers, Opens, Publishes, Seats}
 use Rattle.dip_desk_state.proofs.KeyedLemmas.{names_tell}
-use Rattle.dip_desk_state.specs.Records.{Public, Item, White, Grey, Kept}
+use Rattle.dip_desk_state.specs.Records.{Public, Item, White, Grey, Kept, No}
 use Rattle.dip_store_tables.specs.Changing.{noting, ordering, reaching, is_reader, one_more}
 use Rattle.dip_store_tables.specs.Coding.{IsEffectOf, same_name}
 use Rattle.dip_desk_state.specs.Writable.{IsPlainItem, IsStatusOf}
@@ -36,22 +36,22 @@ left : {A : Type 0} (P : A → Type 0) (test : A → Bool) (xs : List A) → All
 left P test xs all = all-filter P (λ x. not (test x)) xs all
 
 -- what an effect does to its author's row
-effect_written : (e : Effect) (s : SeatRow) → IsSeatWritten s → IsSeatWritten (seat_effect e s)
-effect_written Nothing s it = it
-effect_written (Pending orders) s it = it
-effect_written (Votes draw) s it = record { digest = it.digest; vote = (draw, refl); letter = it.letter }
-effect_written (Delivers readers item) s it = record { digest = it.digest; vote = it.vote; letter = it.letter }
-effect_written (Opens public paper seats) s it = it
-effect_written (Publishes public paper played) s it = it
-effect_written (Seats seat) s it = it
+effect_written : (m : Chart) (e : Effect) → IsEffectOf m e → (s : SeatRow) → IsSeatWritten m s → IsSeatWritten m (seat_effect e s)
+effect_written m Nothing fits s it = it
+effect_written m (Pending orders) fits s it = it
+effect_written m (Votes vote) fits s it = record { digest = it.digest; vote = (vote, fits, refl); letter = it.letter }
+effect_written m (Delivers readers item) fits s it = record { digest = it.digest; vote = it.vote; letter = it.letter }
+effect_written m (Opens public paper seats) fits s it = it
+effect_written m (Publishes public paper played) fits s it = it
+effect_written m (Seats seat) fits s it = it
 
 module _ (m : Chart) (name : List ℕ) (k : Kept) (numbered : (k.number == 0) ≡ false) (small : k.number < 2 ^ 32) (wide : length k.sum ≡ 32) (e : Effect) (fits : IsEffectOf m e) where
-  noted_seat : (power : List ℕ) (s : SeatRow) → is_seat name power s ≡ true → IsSeatWritten s → IsSeatWritten (seat_noted (as_printed name power k) e s)
+  noted_seat : (power : List ℕ) (s : SeatRow) → is_seat name power s ≡ true → IsSeatWritten m s → IsSeatWritten m (seat_noted (as_printed name power k) e s)
   noted_seat power s mine it =
       let same = both_same s.game s.power name power mine in
-      let kept : IsSeatWritten (seat_kept (as_printed name power k) s) =
+      let kept : IsSeatWritten m (seat_kept (as_printed name power k) s) =
       record { digest = it.digest; vote = it.vote; letter = (Some k, (numbered, small, refl, refl, wide, ap₂ (λ g p. whole_reply g p k) (sym same.0) (sym same.1))) } in
-      effect_written e (seat_kept (as_printed name power k) s) kept
+      effect_written m e fits (seat_kept (as_printed name power k) s) kept
 
   noted_written : (who : Author) (t : Tables) → AreWritten m t → AreWritten m (noting m who name k e t)
   noted_written Nobody t it = it
@@ -66,7 +66,7 @@ module _ (m : Chart) (name : List ℕ) (k : Kept) (numbered : (k.number == 0) �
   noted_written (Seat power) t it = record {
     desk = it.desk;
     games = it.games;
-    seats = all_changed IsSeatWritten (is_seat name (power_name m power)) (seat_noted (as_printed name (power_name m power) k) e) (noted_seat (power_name m power)) t.seats it.seats;
+    seats = all_changed (IsSeatWritten m) (is_seat name (power_name m power)) (seat_noted (as_printed name (power_name m power) k) e) (noted_seat (power_name m power)) t.seats it.seats;
     pending = it.pending;
     boxes = it.boxes;
   }
@@ -80,7 +80,7 @@ module _ (m : Chart) (name : List ℕ) (k : Kept) (numbered : (k.number == 0) �
       (left (IsOrderWritten m) (is_pending name (power_name m power)) t.pending all)
       (all_map (IsOrderWritten m) (pending_row m name (power_name m power)) orders
       (all_weaker _ (λ o. IsOrderWritten m (pending_row m name (power_name m power) o)) (λ o h. (o.province, h, refl)) orders low))
-  ordered_written who (Votes draw) t low all = all
+  ordered_written who (Votes vote) t low all = all
   ordered_written who (Delivers readers item) t low all = all
   ordered_written who (Opens public paper seats) t low all = all
   ordered_written who (Publishes public paper played) t low all = all
@@ -97,7 +97,7 @@ module _ (m : Chart) (name : List ℕ) (k : Kept) (numbered : (k.number == 0) �
         games = subst (λ us. AllByRecursion (IsGameWritten m us v.centres) v.games) (sym alone.units)
             (subst (λ cs. AllByRecursion (IsGameWritten m u.units cs) v.games) (sym alone.centres)
             (subst (AllByRecursion (IsGameWritten m u.units u.centres)) (sym alone.games) has.games));
-        seats = subst (AllByRecursion IsSeatWritten) (sym alone.seats) has.seats;
+        seats = subst (AllByRecursion (IsSeatWritten m)) (sym alone.seats) has.seats;
         pending = ordered_written who e u fits has.pending;
         boxes = subst (AllByRecursion IsItemWritten) (sym alone.boxes) has.boxes;
       }
@@ -160,11 +160,11 @@ module _ (m : Chart) (name : List ℕ) (t : Tables) (it : AreWritten m t) where
   reached_written : (e : Effect) → IsEffectOf m e → FitsColumns e → IsEffectNarrow e → IsAscending (λ a b. same_name a b ≡ false) (reaching m name e t).games → AreWritten m (reaching m name e t)
   reached_written Nothing fits column wide later = it
   reached_written (Pending orders) fits column wide later = it
-  reached_written (Votes draw) fits column wide later = it
+  reached_written (Votes vote) fits column wide later = it
   reached_written (Delivers readers item) fits column wide later = record {
     desk = it.desk;
     games = it.games;
-    seats = all_changed IsSeatWritten (is_reader m name readers) one_more (λ s e old. record { digest = old.digest; vote = old.vote; letter = old.letter }) t.seats it.seats;
+    seats = all_changed (IsSeatWritten m) (is_reader m name readers) one_more (λ s e old. record { digest = old.digest; vote = old.vote; letter = old.letter }) t.seats it.seats;
     pending = it.pending;
     boxes = all-append IsItemWritten t.boxes (map (next_row item) (filter (is_reader m name readers) t.seats)) it.boxes
         (all-map IsItemWritten (next_row item) (item_written item fits) (filter (is_reader m name readers) t.seats));
@@ -172,9 +172,9 @@ module _ (m : Chart) (name : List ℕ) (t : Tables) (it : AreWritten m t) where
   reached_written (Opens p paper seats) fits column wide later = record {
     desk = it.desk;
     games = opened_games m p.game p fits.0 fits.1 column.0 wide.0 t later it.games;
-    seats = all-append IsSeatWritten (delete_where (is_seat_in p.game) t.seats) (map (seat_row m p.game) seats) (left IsSeatWritten (is_seat_in p.game) t.seats it.seats)
-        (all_map IsSeatWritten (seat_row m p.game) seats
-        (all_weaker _ (λ s. IsSeatWritten (seat_row m p.game s)) (λ s h. record { digest = h; vote = (false, refl); letter = (None, (refl, refl, refl)) }) seats wide.1));
+    seats = all-append (IsSeatWritten m) (delete_where (is_seat_in p.game) t.seats) (map (seat_row m p.game) seats) (left (IsSeatWritten m) (is_seat_in p.game) t.seats it.seats)
+        (all_map (IsSeatWritten m) (seat_row m p.game) seats
+        (all_weaker _ (λ s. IsSeatWritten m (seat_row m p.game s)) (λ s h. record { digest = h; vote = (No, tt, refl); letter = (None, (refl, refl, refl)) }) seats wide.1));
     pending = left (IsOrderWritten m) (is_pending_in p.game) t.pending it.pending;
     boxes = left IsItemWritten (is_box_in p.game) t.boxes it.boxes;
   }
@@ -189,7 +189,7 @@ module _ (m : Chart) (name : List ℕ) (t : Tables) (it : AreWritten m t) where
   reached_written (Seats seat) fits column wide later = record {
     desk = it.desk;
     games = it.games;
-    seats = all_changed IsSeatWritten (is_seat name (power_name m seat.power)) (λ s. record s { digest = seat.digest })
+    seats = all_changed (IsSeatWritten m) (is_seat name (power_name m seat.power)) (λ s. record s { digest = seat.digest })
         (λ s e old. record { digest = wide; vote = old.vote; letter = old.letter }) t.seats it.seats;
     pending = it.pending;
     boxes = it.boxes;

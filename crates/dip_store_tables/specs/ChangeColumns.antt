@@ -10,7 +10,7 @@ use Rattle.dip_store_tables.specs.Coding.{IsChangeOf}
 abbrev pub FitsColumns : Effect → Type 0
 FitsColumns Nothing = Unit {0}
 FitsColumns (Pending orders) = Unit {0}
-FitsColumns (Votes draw) = Unit {0}
+FitsColumns (Votes vote) = Unit {0}
 FitsColumns (Delivers readers item) = Unit {0}
 FitsColumns (Opens public paper seats) = (public.due < 2 ^ 63) × (public.papers ≡ 1)
 FitsColumns (Publishes public paper played) = public.due < 2 ^ 63
@@ -28,7 +28,7 @@ IsNarrow p = (p.board.phase.year < 2 ^ 16) × (p.period < 2 ^ 32) × (p.papers <
 abbrev pub IsEffectNarrow : Effect → Type 0
 IsEffectNarrow Nothing = Unit {0}
 IsEffectNarrow (Pending orders) = Unit {0}
-IsEffectNarrow (Votes draw) = Unit {0}
+IsEffectNarrow (Votes vote) = Unit {0}
 IsEffectNarrow (Delivers readers item) = Unit {0}
 IsEffectNarrow (Opens public paper seats) = IsNarrow public × AllByRecursion (λ s. length s.digest ≡ 32) seats
 IsEffectNarrow (Publishes public paper played) = IsNarrow public

@@ -12,7 +12,7 @@ IsItemOfTexts (Grey to_all text) = AllByRecursion IsText text
 abbrev pub HasEffectTexts : Effect → Type 0
 HasEffectTexts Nothing = Unit {0}
 HasEffectTexts (Pending orders) = AllByRecursion (λ o. IsText o.line) orders
-HasEffectTexts (Votes draw) = Unit {0}
+HasEffectTexts (Votes vote) = Unit {0}
 HasEffectTexts (Delivers readers item) = IsItemOfTexts item
 HasEffectTexts (Opens public paper seats) = IsText paper
 HasEffectTexts (Publishes public paper played) = IsText paper

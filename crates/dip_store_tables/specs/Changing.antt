@@ -31,7 +31,7 @@ ordering_by m (Seat power) name orders t = with_orders m name (power_name m powe
 abbrev pub ordering : Chart → Author → List ℕ → Effect → Tables → Tables
 ordering m who name Nothing t = t
 ordering m who name (Pending orders) t = ordering_by m who name orders t
-ordering m who name (Votes draw) t = t
+ordering m who name (Votes vote) t = t
 ordering m who name (Delivers readers item) t = t
 ordering m who name (Opens public paper seats) t = t
 ordering m who name (Publishes public paper played) t = t
@@ -81,7 +81,7 @@ replacing m name seat t =
 abbrev pub reaching : Chart → List ℕ → Effect → Tables → Tables
 reaching m name Nothing t = t
 reaching m name (Pending orders) t = t
-reaching m name (Votes draw) t = t
+reaching m name (Votes vote) t = t
 reaching m name (Delivers readers item) t = delivering m name readers item t
 reaching m name (Opens public paper seats) t = opening m public paper seats t
 reaching m name (Publishes public paper played) t = publishing m name public paper played t

@@ -8,7 +8,7 @@ use Rattle.dip_store_tables.specs.Boards.{power_name}
 use Rattle.dip_desk_state.specs.Records.{Item, White, Grey, Status, Running, Paused, Closed, Ended, Won, Drawn}
 use Rattle.dip_desk_state.specs.State.{Author, Nobody, TheMaster, Seat, Effect, Nothing, Pending, Votes, Delivers, Opens, Publishes, Seats, Change}
 use Rattle.dip_store_tables.specs.Tables.{DeskRow, GameRow, SeatRow, Tables, is_named, is_seat}
-use Rattle.dip_desk_state.specs.Writable.{Lacks, IsPlainItem, IsStatusOf, IsAuthorOf}
+use Rattle.dip_desk_state.specs.Writable.{Lacks, IsPlainItem, IsStatusOf, IsVoteOf, IsAuthorOf}
 
 -- the seat's power is one of the map
 abbrev pub IsSeatOf : Chart → SeatRow → Type 0
@@ -38,7 +38,7 @@ pub record AreApart (t : Tables) : Type 0 where
 abbrev pub IsEffectOf : Chart → Effect → Type 0
 IsEffectOf m Nothing = Unit {0}
 IsEffectOf m (Pending orders) = AllByRecursion (λ o. o.province < length m.provinces) orders
-IsEffectOf m (Votes draw) = Unit {0}
+IsEffectOf m (Votes vote) = IsVoteOf m vote
 IsEffectOf m (Delivers readers item) = IsPlainItem item
 IsEffectOf m (Opens public paper seats) =
     IsOf m public.board × IsStatusOf m public.status × AllByRecursion (λ s. s.power < length m.realms) seats

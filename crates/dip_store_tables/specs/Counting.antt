@@ -29,7 +29,7 @@ IsNextPaper n g = (n ≡ g.papers + 1) × (n ≤ most_papers)
 abbrev pub CountsOn : List ℕ → Effect → List GameRow → Type 0
 CountsOn name Nothing games = Unit {0}
 CountsOn name (Pending orders) games = Unit {0}
-CountsOn name (Votes draw) games = Unit {0}
+CountsOn name (Votes vote) games = Unit {0}
 CountsOn name (Delivers readers item) games = Unit {0}
 CountsOn name (Opens public paper seats) games = public.papers ≡ 1
 CountsOn name (Publishes public paper played) games = AllByRecursion (λ g. is_named name g ≡ true → IsNextPaper public.papers g) games

@@ -8,6 +8,7 @@ pub mod Laws
 pub mod Looking
 pub mod Reading
 pub mod Tables
+pub mod Votes
 pub mod Texts
 pub mod Writing
 pub mod Written

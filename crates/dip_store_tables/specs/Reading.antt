@@ -6,6 +6,7 @@ use Rattle.dip_desk_state.specs.Records.{Public, Own, Item, White, Grey, Kept, S
 use Rattle.dip_desk_state.specs.State.{State, Game, Part, Desk}
 use Rattle.dip_store_tables.specs.Tables.{DeskRow, GameRow, SeatRow, PendingRow, BoxRow, PaperRow, Tables, is_seat_in, is_unit_in, is_centre_in, is_paper_in, is_pending, is_box}
 use Rattle.dip_store_tables.specs.Texts.{behind, pieces}
+use Rattle.dip_store_tables.specs.Votes.{vote_of}
 
 -- the lines of a printed reply: it begins with its head, a line, and ends with the four bytes of END and LF
 abbrev pub without_end : List ℕ → List ℕ
@@ -61,7 +62,7 @@ abbrev pub own_of : Chart → List PendingRow → SeatRow → Own
 own_of m pending s = record {
   power = power_in m s.power;
   digest = s.digest;
-  vote = s.vote == 1;
+  vote = vote_of s.vote;
   pending = pending_of m pending s.game s.power;
   kept = kept_of s.last s.kept s.reply;
   sent = s.sent;

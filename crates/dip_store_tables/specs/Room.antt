@@ -18,7 +18,7 @@ SentHasRoom m (Seat p) name seats = AllByRecursion (λ s. is_seat name (power_na
 abbrev pub HasRoom : Chart → Author → List ℕ → Effect → Tables → Type 0
 HasRoom m who name Nothing t = Unit {0}
 HasRoom m who name (Pending orders) t = Unit {0}
-HasRoom m who name (Votes draw) t = Unit {0}
+HasRoom m who name (Votes vote) t = Unit {0}
 HasRoom m who name (Delivers powers item) t =
     SentHasRoom m who name t.seats × AllByRecursion (λ s. s.items < most_items) (filter (is_reader m name powers) t.seats)
 HasRoom m who name (Opens public paper seats) t = Unit {0}

@@ -8,6 +8,7 @@ use Rattle.dip_reports.specs.Texts.{reply_text, status_text}
 use Rattle.dip_desk_state.specs.State.{NewSeat, Effect, Nothing, Pending, Votes, Delivers, Opens, Publishes, Seats}
 use Rattle.dip_store_tables.specs.Tables.{DeskRow, GameRow, SeatRow, PendingRow, BoxRow, PaperRow, Tables}
 use Rattle.dip_store_tables.specs.Texts.{joined, ended}
+use Rattle.dip_store_tables.specs.Votes.{vote_number}
 
 abbrev pub number_of : Bool → ℕ
 number_of b = if b then 1 else 0
@@ -90,7 +91,7 @@ seat_kept k s = record s { last = k.number; kept = k.sum; reply = k.reply }
 abbrev pub seat_effect : Effect → SeatRow → SeatRow
 seat_effect Nothing s = s
 seat_effect (Pending orders) s = s
-seat_effect (Votes draw) s = record s { vote = number_of draw }
+seat_effect (Votes vote) s = record s { vote = vote_number vote }
 seat_effect (Delivers readers item) s = record s { sent = s.sent + 1 }
 seat_effect (Opens public paper seats) s = s
 seat_effect (Publishes public paper played) s = s

@@ -8,6 +8,7 @@ ghost use Rattle.dip_desk_state.specs.Writable.{IsStatusOf};
 ghost use Rattle.dip_store_tables.specs.ChangeColumns.{FitsColumns};
 
 use crate::writable_parts::{are_orders, are_seats, is_power, is_status};
+use crate::votes::is_vote;
 use crate::writable_texts::is_plain;
 use dip_desk_state::{Effect, Public};
 use dip_map::Map;
@@ -27,7 +28,8 @@ pub(crate) fn is_effect(map: &Map, effect: &Effect) -> bool
         × FitsColumns (desk_rows.effect effect.now)) }
 {
     match effect {
-        Effect::Nothing | Effect::Votes(_) => true,
+        Effect::Nothing => true,
+        Effect::Votes(vote) => is_vote(map, vote),
         Effect::Pending(orders) => are_orders(map, orders.as_slice()),
         Effect::Delivers { item, .. } => is_plain(item),
         Effect::Opens { public, seats, .. } => {

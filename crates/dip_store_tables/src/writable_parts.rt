@@ -17,7 +17,7 @@ pub(crate) fn is_power(map: &Map, power: Power) -> bool
 }
 
 /// Whether each power is one of the map.
-fn are_powers(map: &Map, powers: &[Power]) -> bool
+pub(crate) fn are_powers(map: &Map, powers: &[Power]) -> bool
     ensures { IsTrue result ↔ AllByRecursion (λ p. p < length map.now.realms) powers.now }
 {
     powers.iter().all(|power| is_power(map, *power))

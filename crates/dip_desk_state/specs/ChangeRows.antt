@@ -24,7 +24,7 @@ new_seat n = record { power = n.power; digest = n.digest }
 abbrev pub effect : Effect → s.Effect
 effect Nothing = s.Nothing
 effect (Pending orders) = s.Pending (rows.standings orders.items)
-effect (Votes draw) = s.Votes draw
+effect (Votes vote) = s.Votes (rows.vote vote)
 effect (Delivers readers item) = s.Delivers readers.items (rows.item item.value)
 effect (Opens public paper seats) = s.Opens (rows.public public) (string_bytes paper) (map new_seat seats.items)
 effect (Publishes public paper played) = s.Publishes (rows.public public) (string_bytes paper) played

@@ -33,6 +33,12 @@ pub record Standing : Type 0 where
   pub province : ℕ
   pub line : List ℕ
 
+-- what a seat votes for: no draw, one between all who survive at the tick, or one between exactly these powers, which ascend
+pub data Vote : Type 0 where
+  No : Vote
+  Yes : Vote
+  For : (powers : List ℕ) → Vote
+
 -- press as its reader is shown it: white with its writer and its addressees as they were named; grey with whether all have it, and
 -- with nobody's name
 pub data Item : Type 0 where
@@ -43,7 +49,7 @@ pub data Item : Type 0 where
 pub record Own : Type 0 where
   pub power : ℕ
   pub digest : List ℕ
-  pub vote : Bool
+  pub vote : Vote
   pub pending : List Standing
   pub kept : Option Kept
   pub sent : ℕ

@@ -8,6 +8,8 @@ use Rattle.dip_desk_state.specs.declared.records.Status.TheVariants.{Running, Pa
 use Rattle.dip_desk_state.specs.declared.records.Public.{Public}
 use Rattle.dip_desk_state.specs.declared.records.Kept.{Kept}
 use Rattle.dip_desk_state.specs.declared.records.Standing.{Standing}
+use Rattle.dip_desk_state.specs.declared.records.Vote.{Vote}
+use Rattle.dip_desk_state.specs.declared.records.Vote.TheVariants.{No, Yes, For}
 use Rattle.dip_desk_state.specs.declared.records.Item.{Item}
 use Rattle.dip_desk_state.specs.declared.records.Item.TheVariants.{White, Grey}
 use Rattle.dip_desk_state.specs.declared.records.Own.{Own}
@@ -47,6 +49,11 @@ standing s = record { province = s.prov; line = string_bytes s.line }
 abbrev pub standings : List Standing → List r.Standing
 standings ss = map (λ s. standing s) ss
 
+abbrev pub vote : Vote → r.Vote
+vote No = r.No
+vote Yes = r.Yes
+vote (For powers) = r.For powers.items
+
 abbrev pub item : Item → r.Item
 item (White writer addressees text) = r.White (string_bytes writer) (lines addressees.items) (lines text.items)
 item (Grey to_all text) = r.Grey to_all (lines text.items)
@@ -59,7 +66,7 @@ abbrev pub own : Own → r.Own
 own o = record {
   power = o.power;
   digest = o.digest;
-  vote = o.vote;
+  vote = vote o.vote;
   pending = standings o.pending.items;
   kept = option_map kept o.kept;
   sent = o.sent;

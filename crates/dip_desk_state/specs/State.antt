@@ -3,7 +3,7 @@ use Rattle.std.specs.Prelude.{ℕ, zero, suc, ◌+◌, ◌-◌, ◌==◌, Bool, 
 use Rattle.std.specs.List.{list_all, list_any}
 use Rattle.dip_desk_state.specs.Bounds.{most_items, most_sent}
 use Rattle.dip_desk_state.specs.Keyed.{at, change_at}
-use Rattle.dip_desk_state.specs.Records.{Public, Own, Item, Kept, Standing, Whole}
+use Rattle.dip_desk_state.specs.Records.{Public, Own, Item, Kept, Standing, Vote, No, Whole}
 
 -- the master's row
 pub record Desk : Type 0 where
@@ -115,8 +115,8 @@ pub data Effect : Type 0 where
   Nothing : Effect
   -- the author's standing orders, by province
   Pending : (orders : List Standing) → Effect
-  -- the author's vote for a draw
-  Votes : (draw : Bool) → Effect
+  -- what the author votes for
+  Votes : (vote : Vote) → Effect
   -- press for the inboxes of these powers
   Delivers : (readers : List ℕ) → (item : Item) → Effect
   -- a new game with its first paper
@@ -136,7 +136,7 @@ pub record Change : Type 0 where
 -- a seat that nobody has used yet
 abbrev pub fresh : NewSeat → Part
 fresh s = record {
-  own = record { power = s.power; digest = s.digest; vote = false; pending = []; kept = None; sent = 0; items = 0 };
+  own = record { power = s.power; digest = s.digest; vote = No; pending = []; kept = None; sent = 0; items = 0 };
   box = [];
 }
 
@@ -144,7 +144,7 @@ fresh s = record {
 abbrev pub own_effect : Effect → Own → Own
 own_effect Nothing o = o
 own_effect (Pending orders) o = record o { pending = orders }
-own_effect (Votes draw) o = record o { vote = draw }
+own_effect (Votes vote) o = record o { vote = vote }
 own_effect (Delivers readers item) o = record o { sent = o.sent + 1 }
 own_effect (Opens public paper seats) o = o
 own_effect (Publishes public paper played) o = o
@@ -169,7 +169,7 @@ behind_paper played s = if played then record s { own = record s.own { pending =
 abbrev pub with_effect : Effect → Part → Part
 with_effect Nothing s = s
 with_effect (Pending orders) s = s
-with_effect (Votes draw) s = s
+with_effect (Votes vote) s = s
 with_effect (Delivers readers item) s = if list_any (λ p. p == power_in s) readers then with_item item s else s
 with_effect (Opens public paper seats) s = s
 with_effect (Publishes public paper played) s = behind_paper played s
@@ -185,7 +185,7 @@ with_author (Seat power) k e seats = change_at (λ a b. a == b) power_in power (
 abbrev pub public_after : Effect → Public → Public
 public_after Nothing p = p
 public_after (Pending orders) p = p
-public_after (Votes draw) p = p
+public_after (Votes vote) p = p
 public_after (Delivers readers item) p = p
 public_after (Opens public paper seats) p = p
 public_after (Publishes public paper played) p = record public { game = p.game }
@@ -194,7 +194,7 @@ public_after (Seats seat) p = p
 abbrev pub papers_after : Effect → List (List ℕ) → List (List ℕ)
 papers_after Nothing ps = ps
 papers_after (Pending orders) ps = ps
-papers_after (Votes draw) ps = ps
+papers_after (Votes vote) ps = ps
 papers_after (Delivers readers item) ps = ps
 papers_after (Opens public paper seats) ps = ps
 papers_after (Publishes public paper played) ps = ps ++ paper ∷ []
@@ -216,7 +216,7 @@ opening_game public paper seats = record { public = public; papers = paper ∷ [
 abbrev pub new_games : Effect → List Game
 new_games Nothing = []
 new_games (Pending orders) = []
-new_games (Votes draw) = []
+new_games (Votes vote) = []
 new_games (Delivers readers item) = []
 new_games (Opens public paper seats) = opening_game public paper seats ∷ []
 new_games (Publishes public paper played) = []

@@ -1,9 +1,9 @@
 -- What a store can write: words and lines that stand in one text, and what is of the map.
-use Rattle.std.specs.Prelude.{◌≡◌, ◌<◌, ◌≤◌, ◌==◌, ℕ, false, List, [], ◌∷◌, length}
+use Rattle.std.specs.Prelude.{◌≡◌, ◌<◌, ◌≤◌, ◌==◌, ℕ, false, true, List, [], ◌∷◌, length}
 use Rattle.std.specs.List.{AllByRecursion}
-use Rattle.dip_map.specs.Boards.{IsOf}
+use Rattle.dip_map.specs.Boards.{IsOf, are_ascending}
 use Rattle.dip_map.specs.Charts.{Chart}
-use Rattle.dip_desk_state.specs.Records.{Item, White, Grey, Public, Status, Running, Paused, Closed, Ended, Won, Drawn}
+use Rattle.dip_desk_state.specs.Records.{Item, White, Grey, Public, Status, Running, Paused, Closed, Ended, Won, Drawn, Vote, No, Yes, For}
 use Rattle.dip_desk_state.specs.State.{Author, Nobody, TheMaster, Seat}
 
 -- there is no such byte in it
@@ -28,6 +28,13 @@ IsStatusOf m Closed = Unit {0}
 IsStatusOf m Ended = Unit {0}
 IsStatusOf m (Won power) = power < length m.realms
 IsStatusOf m (Drawn powers) = AllByRecursion (λ p. p < length m.realms) powers
+
+-- the powers that a vote names are of the map, ascend, and there is one at least
+abbrev pub IsVoteOf : Chart → Vote → Type 0
+IsVoteOf m No = Unit {0}
+IsVoteOf m Yes = Unit {0}
+IsVoteOf m (For powers) =
+    AllByRecursion (λ p. p < length m.realms) powers × (are_ascending powers ≡ true) × (0 < length powers)
 
 -- the seat's power is one of the map
 abbrev pub IsAuthorOf : Chart → Author → Type 0

@@ -2,7 +2,7 @@
 ghost use Rattle.std.specs.Prelude.{◌≡◌, IfOk};
 ghost use Rattle.dip_desk_state.specs.ChangeRows as rows;
 
-use crate::records::{Item, Kept, Public, Standing, last_copy};
+use crate::records::{Item, Kept, Public, Standing, Vote, last_copy};
 use dip_names::Power;
 use std::alloc::AllocError;
 use std::rc::Rc;
@@ -50,8 +50,8 @@ pub enum Effect {
     Nothing,
     /// The author's standing orders are these.
     Pending(Vec<Standing>),
-    /// Whether the author votes for a draw.
-    Votes(bool),
+    /// What the author votes for.
+    Votes(Vote),
     /// Press for the inboxes of these powers. It lies in memory once, however many have it.
     Delivers {
         readers: Vec<Power>,

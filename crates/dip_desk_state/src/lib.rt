@@ -11,5 +11,6 @@ pub use bounds::{MOST_ITEMS, MOST_PAPERS, MOST_SENT, bounds_are_named};
 pub use changes::{Author, Change, Desk, Effect, NewSeat};
 pub use faults::KeepFault;
 pub use records::{
-    Head, Item, Kept, Outcome, Own, Public, Reply, Standing, Status, Whole, copy_standings,
+    Head, Item, Kept, Outcome, Own, Public, Reply, Standing, Status, Vote, Whole, copy_powers,
+    copy_standings,
 };

@@ -7,6 +7,15 @@ use dip_names::{Power, Prov};
 use std::alloc::{AllocError, Global};
 use std::rc::Rc;
 
+/// A copy of a list of powers.
+pub fn copy_powers(alloc: Global, powers: &[Power]) -> Result<Vec<Power>, AllocError>
+    ensures { IfOk result (λ v. v.items ≡ powers.now) }
+{
+    let mut copy = Vec::with_capacity(alloc, powers.len())?;
+    copy.extend_from_slice(powers)?;
+    Ok(copy)
+}
+
 /// How a game stands.
 #[derive(Drop)]
 pub enum Status {
@@ -35,11 +44,7 @@ impl Status {
             Status::Closed => Ok(Status::Closed),
             Status::Ended => Ok(Status::Ended),
             Status::Won(power) => Ok(Status::Won(*power)),
-            Status::Drawn(powers) => {
-                let mut copy = Vec::with_capacity(alloc, powers.len())?;
-                copy.extend_from_slice(powers.as_slice())?;
-                Ok(Status::Drawn(copy))
-            }
+            Status::Drawn(powers) => Ok(Status::Drawn(copy_powers(alloc, powers.as_slice())?)),
         }
     }
 }
@@ -129,6 +134,30 @@ pub fn copy_standings(alloc: Global, pending: &[Standing]) -> Result<Vec<Standin
     Ok(copy)
 }
 
+/// What a seat votes for.
+#[derive(Drop)]
+pub enum Vote {
+    /// No draw.
+    No,
+    /// A draw between all who survive at the tick.
+    Yes,
+    /// A draw between exactly these powers, in the map's order, each once.
+    For(Vec<Power>),
+}
+
+impl Vote {
+    /// A copy of it.
+    pub fn copy(&self, alloc: Global) -> Result<Vote, AllocError>
+        ensures { IfOk result (λ v. rows.vote v ≡ rows.vote self.now) }
+    {
+        match self {
+            Vote::No => Ok(Vote::No),
+            Vote::Yes => Ok(Vote::Yes),
+            Vote::For(powers) => Ok(Vote::For(copy_powers(alloc, powers.as_slice())?)),
+        }
+    }
+}
+
 /// Press as its reader is shown it.
 #[derive(Drop)]
 pub enum Item {
@@ -152,8 +181,8 @@ pub struct Own {
     pub power: Power,
     /// SHA-256 of the game, the power and the seat's secret.
     pub digest: [u8; 32],
-    /// Whether the seat votes for a draw.
-    pub vote: bool,
+    /// What it votes for.
+    pub vote: Vote,
     /// Its standing orders, by province.
     pub pending: Vec<Standing>,
     /// Its last letter, if it has sent one that is recorded.
@@ -172,7 +201,7 @@ impl Own {
         Ok(Own {
             power: self.power,
             digest: self.digest,
-            vote: self.vote,
+            vote: self.vote.copy(alloc)?,
             pending: copy_standings(alloc, self.pending.as_slice())?,
             kept: last_copy(&self.kept)?,
             sent: self.sent,

@@ -7,7 +7,7 @@ use Rattle.dip_map.specs.declared.boards.Season.{Season}
 use Rattle.dip_map.specs.declared.boards.Season.TheVariants.{SpringMoves, SpringRetreats, FallMoves, FallRetreats, Winter}
 use Rattle.dip_reports.specs.declared.refusals.Refusal.{Refusal}
 use Rattle.dip_reports.specs.declared.refusals.Refusal.TheVariants.{Malformed, Unknown, Stale, NumberUsed, TooLong, QuotaUsed, NoGrey, GameOver, WrongSender, NotDue, NameTaken}
-use Rattle.dip_desk_state.specs.Records.{Public, Own, Item, White, Grey, Head, Reply, Standing, Status, Running, Paused, Closed, Ended, Won, Drawn}
+use Rattle.dip_desk_state.specs.Records.{Public, Own, Item, White, Grey, Head, Reply, Standing, Status, Running, Paused, Closed, Ended, Won, Drawn, Vote, No, Yes, For}
 use Rattle.dip_map.specs.Charts.{Chart, powers, province, provs, realm}
 use Rattle.dip_letters.specs.Notes.{NoticeRequest}
 use Rattle.dip_letters.specs.Notes.NoticeRequest.{Announce, Close, Pause, Period, Resume}
@@ -84,9 +84,15 @@ withdrawn_line = codes "OK withdrawn\n"
 abbrev pub press_line : List ℕ
 press_line = codes "OK press\n"
 
--- the reply's line of VOTE: whether the seat votes for a draw from now on
-abbrev pub vote_line : Bool → List ℕ
-vote_line draw = codes "OK vote " ++ yes_or_no draw ++ codes "\n"
+-- what a seat votes for, with the powers that it names
+unfoldable pub vote_text : Chart → Vote → List ℕ
+vote_text m No = codes "NO"
+vote_text m Yes = codes "YES"
+vote_text m (For powers) = codes "FOR" ++ flat_map (λ p. codes " " ++ (realm m p).name) powers
+
+-- the reply's line of VOTE: what the seat votes for from now on
+abbrev pub vote_line : Chart → Vote → List ℕ
+vote_line m v = codes "OK vote " ++ vote_text m v ++ codes "\n"
 
 -- the reply's line of REPLACE: the power whose seat has another secret
 abbrev pub replaced_line : List ℕ → List ℕ
@@ -184,13 +190,13 @@ abbrev pub order_lines : List Standing → List ℕ
 order_lines orders = flat_map (λ o. codes "ORDER " ++ o.line ++ codes "\n") orders
 
 -- what a seat alone may know
-abbrev pub own_lines : Own → List ℕ
-own_lines o = codes "VOTE " ++ yes_or_no o.vote ++ codes "\nSENT " ++ decimal o.sent ++ codes " INBOX " ++ decimal o.items ++ codes "\n"
+abbrev pub own_lines : Chart → Own → List ℕ
+own_lines m o = codes "VOTE " ++ vote_text m o.vote ++ codes "\nSENT " ++ decimal o.sent ++ codes " INBOX " ++ decimal o.items ++ codes "\n"
     ++ order_lines o.pending
 
 -- what SHOW answers
 abbrev pub show_text : Chart → Public → Own → List ℕ
-show_text m p o = game_line m p ++ board_lines m p.board ++ own_lines o
+show_text m p o = game_line m p ++ board_lines m p.board ++ own_lines m o
 
 -- names, each behind a space
 abbrev pub spaced : List (List ℕ) → List ℕ

@@ -1,8 +1,7 @@
 //! What a letter is answered: the lines of its reply.
 ghost use Rattle.std.specs.Prelude.{◌≡◌, ◌++◌, IfOk, OnOk, string_bytes};
-ghost use Rattle.dip_reports.specs.Texts.{fault_line, order_line, paper_line, press_line, refusal_line, replaced_line, vote_line, withdrawn_line};
+ghost use Rattle.dip_reports.specs.Texts.{fault_line, order_line, paper_line, press_line, refusal_line, replaced_line, withdrawn_line};
 
-use crate::game_line::yes_or_no;
 use crate::refusals::Refusal;
 use dip_map::Map;
 use dip_orders::{OrderFault, PlacedOrder, print_order};
@@ -34,14 +33,6 @@ pub fn press_line(alloc: Global) -> Result<String, AllocError>
     ensures { IfOk result (λ line. string_bytes line ≡ press_line) }
 {
     String::from_str(alloc, "OK press\n")
-}
-
-/// The line of VOTE: whether the seat votes for a draw from now on.
-pub fn vote_line(alloc: Global, draw: bool) -> Result<String, AllocError>
-    ensures { IfOk result (λ line. string_bytes line ≡ vote_line draw) }
-{
-    let vote = yes_or_no(draw);
-    format!(in alloc; "OK vote {vote}\n")
 }
 
 /// The line of REPLACE: the power whose seat has another secret.

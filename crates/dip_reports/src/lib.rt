@@ -12,13 +12,15 @@ mod paper_parts;
 mod refusals;
 mod replies;
 mod show;
+mod votes;
 
 pub use answers::{
-    paper_line, press_line, push_fault, push_order, refusal_line, replaced_line, vote_line,
-    withdrawn_line,
+    paper_line, press_line, push_fault, push_order, refusal_line, replaced_line, withdrawn_line,
 };
 pub use board_lines::push_board_lines;
-pub use dip_desk_state::{Head, Item, Kept, Outcome, Own, Public, Reply, Standing, Status, Whole};
+pub use dip_desk_state::{
+    Head, Item, Kept, Outcome, Own, Public, Reply, Standing, Status, Vote, Whole,
+};
 pub use game_line::{push_game_line, push_phase, push_status};
 pub use inbox::inbox_text;
 pub use laws::board_lines_are_in_order;
@@ -27,3 +29,4 @@ pub use opening_paper::opening_paper_text;
 pub use refusals::Refusal;
 pub use replies::{reply_pieces, reply_text};
 pub use show::show_text;
+pub use votes::vote_line;

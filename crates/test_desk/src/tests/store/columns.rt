@@ -1,7 +1,7 @@
 //! Columns read as a store has them.
-use dip_desk_state::{Item, Status};
+use dip_desk_state::{Item, Status, Vote};
 use dip_map::{Map, STANDARD};
-use dip_store_tables::{ItemColumns, read_item, read_kept, read_status};
+use dip_store_tables::{ItemColumns, read_item, read_kept, read_status, read_vote};
 use std::alloc::{AllocError, Global};
 use std::test::Fail;
 
@@ -46,6 +46,40 @@ fn a_status_is_read_from_its_words(rt: HostRuntime) -> Result<(), Fail> {
     let map = Map::from_toml(alloc, STANDARD)?;
     for &(text, letter, number) in STATUSES {
         assert!(rt; told(alloc, &map, text)? == (letter, number));
+    }
+    Ok(())
+}
+
+/// How the number of a vote is read, and how many powers it names.
+fn vote_told(alloc: Global, map: &Map, number: u32) -> Result<(char, usize), AllocError> {
+    match read_vote(alloc, map, number)? {
+        None => Ok(('-', 0)),
+        Some(Vote::No) => Ok(('n', 0)),
+        Some(Vote::Yes) => Ok(('y', 0)),
+        Some(Vote::For(powers)) => Ok(('f', powers.len())),
+    }
+}
+
+/// The number of a vote, and what is read of it: digits of base eight behind a leading one are powers.
+const VOTES: &[(u32, char, usize)] = &[
+    (0, 'n', 0),
+    (1, 'y', 0),
+    (2, '-', 0),
+    (7, '-', 0),
+    (8, 'f', 1),
+    (14, 'f', 1),
+    (15, '-', 0),
+    (98, 'f', 2),
+    (0o1654_3210, 'f', 7),
+    (0xffff_ffff, '-', 0),
+];
+
+#[test]
+fn a_vote_is_read_from_its_number(rt: HostRuntime) -> Result<(), Fail> {
+    let alloc = rt.alloc();
+    let map = Map::from_toml(alloc, STANDARD)?;
+    for &(number, letter, count) in VOTES {
+        assert!(rt; vote_told(alloc, &map, number)? == (letter, count));
     }
     Ok(())
 }

@@ -1,5 +1,5 @@
 //! Changes that can be written, each beside one that can't.
-use dip_desk_state::{Author, Change, Effect, Item, Kept, NewSeat, Public, Standing, Status};
+use dip_desk_state::{Author, Change, Effect, Item, Kept, NewSeat, Public, Standing, Status, Vote};
 use dip_map::{Board, Map, STANDARD};
 use dip_names::{Power, Prov};
 use dip_store_tables::{has_widths, is_writable};
@@ -107,7 +107,7 @@ fn takes_letter(
     number: u32,
 ) -> Result<bool, AllocError> {
     let author = Author::Seat(Power::new(power));
-    let change = the_change(alloc, game, author, number, Effect::Votes(true))?;
+    let change = the_change(alloc, game, author, number, Effect::Votes(Vote::Yes))?;
     has_widths(&change);
     Ok(is_writable(map, &change))
 }
@@ -126,6 +126,36 @@ fn letters_have_a_seat_a_number_and_a_game(rt: HostRuntime) -> Result<(), Fail> 
     let map = Map::from_toml(alloc, STANDARD)?;
     for &(game, power, number, wanted) in LETTERS {
         assert!(rt; takes_letter(alloc, &map, game, power, number)? == wanted);
+    }
+    Ok(())
+}
+
+/// Whether a vote for these powers can be written.
+fn takes_vote(alloc: Global, map: &Map, numbers: &[u8]) -> Result<bool, AllocError> {
+    let mut powers = Vec::new(alloc);
+    for number in numbers {
+        powers.push(Power::new(*number))?;
+    }
+    is_taken(alloc, map, Effect::Votes(Vote::For(powers)))
+}
+
+/// The powers that a vote names, and whether it can be written: each is of the map, they ascend, and there is one.
+const VOTES: &[(&[u8], bool)] = &[
+    (&[0], true),
+    (&[6], true),
+    (&[0, 1, 2, 3, 4, 5, 6], true),
+    (&[7], false),
+    (&[], false),
+    (&[1, 0], false),
+    (&[2, 2], false),
+];
+
+#[test]
+fn votes_name_powers_in_order(rt: HostRuntime) -> Result<(), Fail> {
+    let alloc = rt.alloc();
+    let map = Map::from_toml(alloc, STANDARD)?;
+    for &(powers, wanted) in VOTES {
+        assert!(rt; takes_vote(alloc, &map, powers)? == wanted);
     }
     Ok(())
 }

@@ -3,7 +3,7 @@ use Rattle.std.proofs.Common.{◌≡◌, ℕ, ◌<◌, ◌==◌, Bool, true, fal
 use Rattle.std.specs.List.{AllByRecursion}
 use Rattle.std.proofs.lemmas.Bool.{cases_Bool}
 use Rattle.sqlite_trees.specs.Tree.{IsAscending}
-use Rattle.sqlite_keyed.proofs.ListLemmas.{all-filter, all_of, all_map, ascending-filter, ascending-map}
+use Rattle.sqlite_keyed.proofs.ListLemmas.{all-filter, all_both, all_of, all_map, ascending-filter, ascending-map}
 use Rattle.dip_map.specs.Charts.{Chart, IsMap}
 use Rattle.dip_store_tables.specs.Boards.{power_name, power_in as power_numbered}
 use Rattle.dip_desk_state.specs.Keyed.{change_at}
@@ -15,7 +15,7 @@ use Rattle.dip_store_tables.specs.Reading.{public_of, papers_of, part_of, game_o
 use Rattle.dip_desk_state.specs.Writable.{Lacks, IsAuthorOf}
 use Rattle.dip_store_tables.specs.Writing.{as_printed, seat_noted}
 use Rattle.dip_store_tables.specs.Changing.{noting, ordering}
-use Rattle.dip_store_tables.specs.Coding.{AreApart, IsSeatOf, IsEffectOf, same_seat}
+use Rattle.dip_store_tables.specs.Coding.{AreApart, HasBallot, IsSeatOf, IsEffectOf, same_seat}
 use Rattle.dip_store_tables.proofs.Lists.{each_changed, change_at_on, change_at_same, all_passed}
 use Rattle.dip_store_tables.proofs.Games.{with_parts, games_changed}
 use Rattle.dip_store_tables.proofs.Letters.{my_part, other_part}
@@ -49,7 +49,7 @@ noted_keys k (Opens public paper seats) s = (refl, refl, refl)
 noted_keys k (Publishes public paper played) s = (refl, refl, refl)
 noted_keys k (Seats seat) s = (refl, refl, refl)
 
--- orders are rows of pending alone
+-- orders are rows of pending alone, and votes of ballots
 pub record IsPendingAlone (old new : Tables) : Type 0 where
   pub desk : new.desk ≡ old.desk
   pub games : new.games ≡ old.games
@@ -67,14 +67,22 @@ ordering_alone m who name Nothing t = same t
 ordering_alone m Nobody name (Pending orders) t = same t
 ordering_alone m TheMaster name (Pending orders) t = same t
 ordering_alone m (Seat power) name (Pending orders) t = record { desk = refl; games = refl; seats = refl; units = refl; centres = refl; papers = refl; boxes = refl }
-ordering_alone m who name (Votes vote) t = same t
+ordering_alone m Nobody name (Votes vote) t = same t
+ordering_alone m TheMaster name (Votes vote) t = same t
+ordering_alone m (Seat power) name (Votes vote) t = record { desk = refl; games = refl; seats = refl; units = refl; centres = refl; papers = refl; boxes = refl }
 ordering_alone m who name (Delivers readers item) t = same t
 ordering_alone m who name (Opens public paper seats) t = same t
 ordering_alone m who name (Publishes public paper played) t = same t
 ordering_alone m who name (Seats seat) t = same t
 
 module _ (m : Chart) (ok : IsMap m) (name : List ℕ) (plain : Lacks 10 name) (k : Kept) (numbered : (k.number == 0) ≡ false) (e : Effect) (fits : IsEffectOf m e) (t : Tables)
-    (apart : AreApart t) (coded : AllByRecursion (IsSeatOf m) t.seats) where
+    (apart : AreApart t) (coded : AllByRecursion (IsSeatOf m) t.seats) (voted : AllByRecursion (λ s. HasBallot t.ballots s.game s.power) t.seats) where
+  abbrev IsKnown : SeatRow → Type 0
+  IsKnown s = IsSeatOf m s × HasBallot t.ballots s.game s.power
+
+  known : AllByRecursion IsKnown t.seats
+  known = all_both (IsSeatOf m) (λ s. HasBallot t.ballots s.game s.power) IsKnown (λ s a b. (a, b)) t.seats coded voted
+
   module _ (power : ℕ) (low : power < length m.realms) where
     abbrev new : Tables
     new = authored m (Seat power) name k e t
@@ -91,19 +99,19 @@ module _ (m : Chart) (ok : IsMap m) (name : List ℕ) (plain : Lacks 10 name) (k
     alone : IsPendingAlone (noting m (Seat power) name k e t) new
     alone = ordering_alone m (Seat power) name e (noting m (Seat power) name k e t)
 
-    near : (s : SeatRow) → IsSeatOf m s → bytes_eq s.game name ≡ true → part_of m new (cond (mine s) (seat_noted printed e s) s) ≡ changed (part_of m t s)
+    near : (s : SeatRow) → IsKnown s → bytes_eq s.game name ≡ true → part_of m new (cond (mine s) (seat_noted printed e s) s) ≡ changed (part_of m t s)
     near s of_map here =
-        let link : mine s ≡ (power_numbered m s.power == power) = ap (λ b. b && bytes_eq s.power (power_name m power)) here ∙ same_power m ok power low s of_map in
+        let link : mine s ≡ (power_numbered m s.power == power) = ap (λ b. b && bytes_eq s.power (power_name m power)) here ∙ same_power m ok power low s of_map.0 in
         elim (cases_Bool (mine s)) [
           | inl i ↦
-              ap (λ b. part_of m new (cond b (seat_noted printed e s) s)) i ∙ my_part m ok name plain k numbered power low e t fits s i
+              ap (λ b. part_of m new (cond b (seat_noted printed e s) s)) i ∙ my_part m ok name plain k numbered power low e t fits s of_map.1 i
               ∙ ap (λ b. cond b (with_letter k e (part_of m t s)) (part_of m t s)) (sym i ∙ link)
           | inr i ↦
               ap (λ b. part_of m new (cond b (seat_noted printed e s) s)) i ∙ other_part m ok name plain k numbered power low e t s i
               ∙ ap (λ b. cond b (with_letter k e (part_of m t s)) (part_of m t s)) (sym i ∙ link)
         ]
 
-    far : (s : SeatRow) → IsSeatOf m s → bytes_eq s.game name ≡ false → part_of m new (cond (mine s) (seat_noted printed e s) s) ≡ part_of m t s
+    far : (s : SeatRow) → IsKnown s → bytes_eq s.game name ≡ false → part_of m new (cond (mine s) (seat_noted printed e s) s) ≡ part_of m t s
     far s of_map away =
         let i : mine s ≡ false = ap (λ b. b && bytes_eq s.power (power_name m power)) away in
         ap (λ b. part_of m new (cond b (seat_noted printed e s) s)) i ∙ other_part m ok name plain k numbered power low e t s i
@@ -112,8 +120,8 @@ module _ (m : Chart) (ok : IsMap m) (name : List ℕ) (plain : Lacks 10 name) (k
     public_same g = ap₂ (λ us cs. public_of m us cs g) alone.units alone.centres
 
     seats_changed : map (game_of m new) new.games ≡ change_at bytes_eq name_of name (with_parts (λ p. p) (λ ps. ps) changed) (map (game_of m t) t.games)
-    seats_changed = games_changed m t new name (λ p. p) (λ ps. ps) changed (λ g. g) (λ s. cond (mine s) (seat_noted printed e s) s) (IsSeatOf m)
-        apart.games coded (alone.games ∙ sym (map-id t.games)) alone.seats (λ g. refl) (stays e) (λ g h. public_same g) (λ g h. public_same g)
+    seats_changed = games_changed m t new name (λ p. p) (λ ps. ps) changed (λ g. g) (λ s. cond (mine s) (seat_noted printed e s) s) IsKnown
+        apart.games known (alone.games ∙ sym (map-id t.games)) alone.seats (λ g. refl) (stays e) (λ g h. public_same g) (λ g h. public_same g)
         (ap (λ ps. papers_of ps name) alone.papers) (λ n h. ap (λ ps. papers_of ps n) alone.papers) near far
       where
         stays : (d : Effect) (s : SeatRow) → (cond (mine s) (seat_noted printed d s) s).game ≡ s.game

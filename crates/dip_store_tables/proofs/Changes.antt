@@ -102,7 +102,7 @@ state_changed m ok c t fits coded apart later =
     let u = authored m c.author c.game c.kept c.effect t in
     let desk : desk_of (changing m c t).desk ≡ desk_after c.author c.kept (desk_of t.desk) =
     ap desk_of (reached_desk m c.game c.effect u ∙ mid_desk m c.game c.kept c.effect t c.author) ∙ noted_desk m c.game c.kept c.effect t c.author fits.named fits.numbered coded.desk in
-    let first = games_authored m ok c.game fits.named c.kept fits.numbered c.effect fits.effect t apart coded.seats c.author fits.author in
+    let first = games_authored m ok c.game fits.named c.kept fits.numbered c.effect fits.effect t apart coded.seats coded.ballots c.author fits.author in
     let games : map (game_of m (changing m c t)) (changing m c t).games ≡ change_at bytes_eq name_of c.game (game_after c) (map (game_of m t) t.games) ++ new_games c.effect =
     games_reached m ok c.game u (mid_apart m c.game c.kept c.effect t c.author apart) c.effect fits.effect (mid_coded m c.game c.kept c.effect t c.author coded.seats) later
     ∙ ap (λ gs. gs ++ new_games c.effect)

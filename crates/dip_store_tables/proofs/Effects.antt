@@ -14,7 +14,7 @@ use Rattle.dip_desk_state.specs.State.{Game, Part, NewSeat, Effect, Nothing, Pen
 use Rattle.dip_desk_state.proofs.KeyedLemmas.{names_tell}
 use Rattle.dip_desk_state.specs.Records.{Public, Standing}
 use Rattle.dip_store_tables.specs.Tables.{GameRow, SeatRow, PendingRow, PaperRow, Tables, is_named, is_seat, is_pending_in, is_paper_in}
-use Rattle.dip_store_tables.specs.Votes.{vote_of}
+use Rattle.dip_store_tables.specs.Votes.{vote_in}
 use Rattle.dip_store_tables.specs.Reading.{kept_of, public_of, pending_of, standing_of, items_of, part_of, game_of, status_of}
 use Rattle.dip_store_tables.specs.Writing.{game_row, paper_row}
 use Rattle.dip_store_tables.specs.Changing.{publishing, replacing, reaching}
@@ -119,7 +119,7 @@ module _ (m : Chart) (ok : IsMap m) (name : List ℕ) (t : Tables) (apart : AreA
     -- a seat with other orders
     abbrev ordered : SeatRow → List Standing → Part
     ordered s orders = record {
-      own = record { power = power_numbered m s.power; digest = s.digest; vote = vote_of s.vote; pending = orders; kept = kept_of s.last s.kept s.reply; sent = s.sent; items = s.items };
+      own = record { power = power_numbered m s.power; digest = s.digest; vote = vote_in m t.ballots s.game s.power; pending = orders; kept = kept_of s.last s.kept s.reply; sent = s.sent; items = s.items };
       box = items_of t.boxes s.game s.power;
     }
 

@@ -14,10 +14,10 @@ use Rattle.dip_store_tables.specs.Reading.{kept_of, pending_of, standing_of, ite
 use Rattle.dip_desk_state.specs.Writable.{Lacks}
 use Rattle.dip_store_tables.specs.Writing.{number_of, pending_row, as_printed, seat_noted}
 use Rattle.dip_store_tables.specs.Changing.{noting, ordering}
-use Rattle.dip_store_tables.specs.Coding.{IsEffectOf}
-use Rattle.dip_store_tables.specs.Votes.{vote_of}
+use Rattle.dip_store_tables.specs.Coding.{HasBallot, IsEffectOf}
+use Rattle.dip_store_tables.specs.Votes.{vote_in}
 use Rattle.dip_store_tables.proofs.Records.{name_plain}
-use Rattle.dip_store_tables.proofs.VoteLemmas.{vote_back}
+use Rattle.dip_store_tables.proofs.Ballots.{vote_changed, vote_far}
 use Rattle.dip_store_tables.proofs.Replies.{printed_back}
 use Rattle.dip_store_tables.proofs.Lists.{none_left}
 use Rattle.dip_store_tables.proofs.Seats.{both_same, both_tell, keys_turned}
@@ -107,14 +107,20 @@ module _ (m : Chart) (ok : IsMap m) (name : List ℕ) (plain : Lacks 10 name) (k
     box = items_of t.boxes s.game s.power;
   }
 
-  pub my_part : (e : Effect) (t : Tables) → IsEffectOf m e → (s : SeatRow) → is_seat name (power_name m power) s ≡ true → part_of m (noted e t) (seat_noted printed e s) ≡ with_letter k e (part_of m t s)
-  my_part Nothing t fits s mine = ap₂ (lettered t (vote_of s.vote) s.sent s) (my_orders Nothing t fits s mine) kept_back
-  my_part (Pending orders) t fits s mine = ap₂ (lettered t (vote_of s.vote) s.sent s) (my_orders (Pending orders) t fits s mine) kept_back
-  my_part (Votes vote) t fits s mine = ap₂ (λ v o. lettered t v s.sent s (pending_of m t.pending s.game s.power) o) (vote_back m vote ok fits) kept_back
-  my_part (Delivers readers item) t fits s mine = ap₂ (lettered t (vote_of s.vote) (s.sent + 1) s) (my_orders (Delivers readers item) t fits s mine) kept_back
-  my_part (Opens public paper seats) t fits s mine = ap₂ (lettered t (vote_of s.vote) s.sent s) (my_orders (Opens public paper seats) t fits s mine) kept_back
-  my_part (Publishes public paper played) t fits s mine = ap₂ (lettered t (vote_of s.vote) s.sent s) (my_orders (Publishes public paper played) t fits s mine) kept_back
-  my_part (Seats seat) t fits s mine = ap₂ (lettered t (vote_of s.vote) s.sent s) (my_orders (Seats seat) t fits s mine) kept_back
+  pub my_part : (e : Effect) (t : Tables) → IsEffectOf m e → (s : SeatRow) → HasBallot t.ballots s.game s.power → is_seat name (power_name m power) s ≡ true → part_of m (noted e t) (seat_noted printed e s) ≡ with_letter k e (part_of m t s)
+  my_part Nothing t fits s has mine = ap₂ (lettered t (vote_in m t.ballots s.game s.power) s.sent s) (my_orders Nothing t fits s mine) kept_back
+  my_part (Pending orders) t fits s has mine = ap₂ (lettered t (vote_in m t.ballots s.game s.power) s.sent s) (my_orders (Pending orders) t fits s mine) kept_back
+  my_part (Votes vote) t fits s has mine =
+      let same = both_same s.game s.power name (power_name m power) mine in
+      let ballots = (noted (Votes vote) t).ballots in
+      let vote_is : vote_in m ballots s.game s.power ≡ vote =
+      ap₂ (vote_in m ballots) same.0 same.1
+      ∙ vote_changed m ok vote fits name (power_name m power) t.ballots (subst (λ g. HasBallot t.ballots g (power_name m power)) same.0 (subst (HasBallot t.ballots s.game) same.1 has)) in
+      ap₂ (λ v o. lettered t v s.sent s (pending_of m t.pending s.game s.power) o) vote_is kept_back
+  my_part (Delivers readers item) t fits s has mine = ap₂ (lettered t (vote_in m t.ballots s.game s.power) (s.sent + 1) s) (my_orders (Delivers readers item) t fits s mine) kept_back
+  my_part (Opens public paper seats) t fits s has mine = ap₂ (lettered t (vote_in m t.ballots s.game s.power) s.sent s) (my_orders (Opens public paper seats) t fits s mine) kept_back
+  my_part (Publishes public paper played) t fits s has mine = ap₂ (lettered t (vote_in m t.ballots s.game s.power) s.sent s) (my_orders (Publishes public paper played) t fits s mine) kept_back
+  my_part (Seats seat) t fits s has mine = ap₂ (lettered t (vote_in m t.ballots s.game s.power) s.sent s) (my_orders (Seats seat) t fits s mine) kept_back
 
   boxes_stay : (e : Effect) (t : Tables) → (noted e t).boxes ≡ t.boxes
   boxes_stay Nothing t = refl
@@ -125,11 +131,21 @@ module _ (m : Chart) (ok : IsMap m) (name : List ℕ) (plain : Lacks 10 name) (k
   boxes_stay (Publishes public paper played) t = refl
   boxes_stay (Seats seat) t = refl
 
+  other_vote : (e : Effect) (t : Tables) (s : SeatRow) → is_seat name (power_name m power) s ≡ false → vote_in m (noted e t).ballots s.game s.power ≡ vote_in m t.ballots s.game s.power
+  other_vote (Votes vote) t s far = vote_far m vote name (power_name m power) s.game s.power far t.ballots
+  other_vote Nothing t s far = refl
+  other_vote (Pending orders) t s far = refl
+  other_vote (Delivers readers item) t s far = refl
+  other_vote (Opens public paper seats) t s far = refl
+  other_vote (Publishes public paper played) t s far = refl
+  other_vote (Seats seat) t s far = refl
+
   pub other_part : (e : Effect) (t : Tables) (s : SeatRow) → is_seat name (power_name m power) s ≡ false → part_of m (noted e t) s ≡ part_of m t s
   other_part e t s far =
       let orders = other_orders e t s far in
       let boxes = boxes_stay e t in
+      let vote = other_vote e t s far in
       λ i. record {
-        own = record { power = power_numbered m s.power; digest = s.digest; vote = vote_of s.vote; pending = orders i; kept = kept_of s.last s.kept s.reply; sent = s.sent; items = s.items };
+        own = record { power = power_numbered m s.power; digest = s.digest; vote = vote i; pending = orders i; kept = kept_of s.last s.kept s.reply; sent = s.sent; items = s.items };
         box = items_of (boxes i) s.game s.power;
       }

@@ -10,7 +10,6 @@ pub mod Replies
 pub mod Lists
 mod Games
 mod Seats
-pub mod VoteLemmas
 mod Letters
 pub mod Authors
 mod Anew
@@ -30,6 +29,8 @@ pub mod StatusLemmas
 pub mod Mapped
 pub mod Spelled
 pub mod MapTexts
+pub mod VoteLemmas
+mod Ballots
 mod Told
 mod Stays
 pub use Rattle.sqlite_keyed.proofs.KeyedLemmas

@@ -1,24 +1,27 @@
 -- What the tables say of a game that is opened.
-use Rattle.std.proofs.Common.{◌≡◌, ℕ, ◌<◌, ◌==◌, true, false, List, [], ◌∷◌, ◌++◌, map, filter, length, bytes_eq, refl, sym, ap, ap₂, subst, ◌∙◌}
+use Rattle.std.proofs.Common.{◌≡◌, ℕ, ◌<◌, ◌==◌, ◌&&◌, not, codes, true, false, List, [], ◌∷◌, ◌++◌, map, filter, length, bytes_eq, refl, sym, ap, ap₂, subst, ◌∙◌}
 use Rattle.std.specs.List.{AllByRecursion}
 use Rattle.std.proofs.lemmas.List.{map-append}
 use Rattle.sqlite_trees.specs.Tree.{IsAscending}
-use Rattle.sqlite_keyed.proofs.ListLemmas.{all-map, all_weaker}
+use Rattle.sqlite_keyed.proofs.ListLemmas.{all-append, all-map, all_weaker}
 use Rattle.dip_map.specs.Charts.{Chart, IsMap}
 use Rattle.dip_map.specs.Boards.{IsOf}
 use Rattle.dip_store_tables.specs.Boards.{UnitRow, CentreRow, power_name, power_in as power_numbered, board_of, unit_rows, centre_rows}
 use Rattle.dip_desk_state.specs.State.{NewSeat, fresh, opening_game}
 use Rattle.dip_desk_state.proofs.KeyedLemmas.{names_tell}
 use Rattle.dip_desk_state.specs.Records.{Public, No}
-use Rattle.dip_store_tables.specs.Tables.{GameRow, SeatRow, PendingRow, BoxRow, PaperRow, Tables, is_seat_in, is_pending_in, is_box_in}
-use Rattle.dip_store_tables.specs.Votes.{vote_of}
+use Rattle.dip_store_tables.specs.Tables.{GameRow, SeatRow, PendingRow, BoxRow, PaperRow, Tables, is_seat_in, is_pending_in, is_box_in, BallotRow, is_ballot, is_ballot_in}
+use Rattle.dip_store_tables.specs.Votes.{vote_in, vote_on}
 use Rattle.dip_store_tables.specs.Reading.{kept_of, pending_of, standing_of, items_of, item_of, part_of, game_of, status_of}
-use Rattle.dip_store_tables.specs.Writing.{game_row, seat_row, paper_row}
+use Rattle.dip_store_tables.specs.Writing.{ballot_row, game_row, seat_row, paper_row}
 use Rattle.dip_store_tables.specs.Changing.{opening}
 use Rattle.dip_store_tables.specs.Coding.{same_name}
 use Rattle.dip_desk_state.specs.Writable.{IsStatusOf}
 use Rattle.dip_store_tables.proofs.Anew.{put_mine, put_other, units_of_game, centres_of_game, public_back}
 use Rattle.dip_store_tables.proofs.Lists.{map_on, all_passed, none_narrower, far_deleted}
+use Rattle.std.proofs.lemmas.Bool.{and_parts, not-true}
+use Rattle.sqlite_keyed.specs.Lists.{delete_where}
+use Rattle.dip_store_tables.proofs.Ballots.{found_before, found_left, game_far, says_no}
 use Rattle.dip_store_tables.proofs.Records.{power_back}
 use Rattle.dip_store_tables.proofs.Seats.{name_turned}
 
@@ -41,14 +44,26 @@ module _ (m : Chart) (ok : IsMap m) (p : Public) (paper : List ℕ) (seats : Lis
   no_items : (power : List ℕ) → items_of new.boxes p.game power ≡ []
   no_items power = ap (map item_of) (none_narrower (is_box_in p.game) (λ b. bytes_eq b.power power) t.boxes)
 
+  -- the new seats' ballots say NO, and no others are of the game
+  no_vote : (power : List ℕ) → vote_in m new.ballots p.game power ≡ No
+  no_vote power =
+      says_no m p.game power new.ballots
+      (all-append (Says power) (delete_where (is_ballot_in p.game) t.ballots) (map (ballot_row m p.game) seats)
+      (all_weaker _ (Says power) (λ b off mine. absurd (let here = (and_parts _ _ mine).0 in let bad = sym here ∙ not-true _ off in cc)) _ (all_passed (λ b. not (is_ballot_in p.game b)) t.ballots))
+      (all-map (Says power) (ballot_row m p.game) (λ s _. refl) seats))
+    where
+      Says : List ℕ → BallotRow → Type 0
+      Says power b = is_ballot p.game power b ≡ true → b.names ≡ codes "NO"
+
   fresh_seats : (ss : List NewSeat) → AllByRecursion (λ s. s.power < length m.realms) ss → map (part_of m new) (map (seat_row m p.game) ss) ≡ map fresh ss
   fresh_seats [] low = refl
   fresh_seats (s ∷ ss) low =
       let power = power_back m ok s.power low.0 in
       let orders = no_orders (power_name m s.power) in
       let items = no_items (power_name m s.power) in
+      let vote = no_vote (power_name m s.power) in
       let first : part_of m new (seat_row m p.game s) ≡ fresh s =
-      λ i. record { own = record { power = power i; digest = s.digest; vote = No; pending = orders i; kept = kept_of 0 [] []; sent = 0; items = 0 }; box = items i } in
+      λ i. record { own = record { power = power i; digest = s.digest; vote = vote i; pending = orders i; kept = kept_of 0 [] []; sent = 0; items = 0 }; box = items i } in
       ap₂ ◌∷◌ first (fresh_seats ss low.1)
 
   opened : IsOf m p.board → IsStatusOf m p.status → AllByRecursion (λ s. s.power < length m.realms) seats → game_of m new (game_row m p.game p) ≡ opening_game p paper seats
@@ -69,8 +84,13 @@ module _ (m : Chart) (ok : IsMap m) (p : Public) (paper : List ℕ) (seats : Lis
       ap (map (standing_of m)) (far_deleted (λ (q : PendingRow). q.game) (λ q. bytes_eq q.power s.power) s.game p.game back t.pending) in
       let items : items_of new.boxes s.game s.power ≡ items_of t.boxes s.game s.power =
       ap (map item_of) (far_deleted (λ (b : BoxRow). b.game) (λ b. bytes_eq b.power s.power) s.game p.game back t.boxes) in
+      let vote : vote_in m new.ballots s.game s.power ≡ vote_in m t.ballots s.game s.power =
+      ap (vote_on m)
+      (found_before (is_ballot s.game s.power) (delete_where (is_ballot_in p.game) t.ballots) (map (ballot_row m p.game) seats)
+      (all-map (λ b. is_ballot s.game s.power b ≡ false) (ballot_row m p.game) (λ r. ap (λ c. c && bytes_eq (power_name m r.power) s.power) back) seats)
+      ∙ found_left (is_ballot_in p.game) (is_ballot s.game s.power) (λ b. b) (game_far p.game s.game s.power away) t.ballots) in
       λ i. record {
-        own = record { power = power_numbered m s.power; digest = s.digest; vote = vote_of s.vote; pending = orders i; kept = kept_of s.last s.kept s.reply; sent = s.sent; items = s.items };
+        own = record { power = power_numbered m s.power; digest = s.digest; vote = vote i; pending = orders i; kept = kept_of s.last s.kept s.reply; sent = s.sent; items = s.items };
         box = items i;
       }
 

@@ -52,14 +52,14 @@ module _ (m : Chart) (t : Tables) (name readers : List ℕ) (item : Item) (plain
   reader : (s : SeatRow) → IsAlone t.seats s → reader_row s ≡ true → part_of m new (one_more s) ≡ with_item item (part_of m t s)
   reader s one e =
       let found : filter reader_row (s ∷ []) ≡ s ∷ [] = rw e refl in
-      ap (λ b. record { own = own_of m t.pending (one_more s); box = b })
+      ap (λ b. record { own = own_of m t.pending t.ballots (one_more s); box = b })
       (boxes_of s one ∙ ap (λ rs. items_of t.boxes s.game s.power ++ map item_of (map (next_row item) rs)) found
       ∙ ap (λ x. items_of t.boxes s.game s.power ++ x ∷ []) (item_back s.game s.power (s.items + 1) item plain))
 
   others : (s : SeatRow) → IsAlone t.seats s → reader_row s ≡ false → part_of m new s ≡ part_of m t s
   others s one e =
       let found : filter reader_row (s ∷ []) ≡ [] = rw e refl in
-      ap (λ b. record { own = own_of m t.pending s; box = b })
+      ap (λ b. record { own = own_of m t.pending t.ballots s; box = b })
       (boxes_of s one ∙ ap (λ rs. items_of t.boxes s.game s.power ++ map item_of (map (next_row item) rs)) found ∙ append-nil (items_of t.boxes s.game s.power))
 
   near : (s : SeatRow) → IsAlone t.seats s → bytes_eq s.game name ≡ true → part_of m new (cond (reader_row s) (one_more s) s) ≡ with_effect (Delivers readers item) (part_of m t s)

@@ -67,11 +67,11 @@ module _ (m : Chart) (ok : IsMap m) where
   pub name_plain : (p : ℕ) → p < length m.realms → Lacks 10 (power_name m p)
   name_plain p low = lacks_of 10 (power_name m p) (name_word 10 refl p low)
 
-  names_words : (ps : List ℕ) → AllByRecursion (λ p. p < length m.realms) ps → AllByRecursion (IsWord 32) (map (power_name m) ps)
+  pub names_words : (ps : List ℕ) → AllByRecursion (λ p. p < length m.realms) ps → AllByRecursion (IsWord 32) (map (power_name m) ps)
   names_words [] all = tt
   names_words (p ∷ ps) all = (name_word 32 refl p all.0, names_words ps all.1)
 
-  names_back : (ps : List ℕ) → AllByRecursion (λ p. p < length m.realms) ps → map (power_in m) (map (power_name m) ps) ≡ ps
+  pub names_back : (ps : List ℕ) → AllByRecursion (λ p. p < length m.realms) ps → map (power_in m) (map (power_name m) ps) ≡ ps
   names_back [] all = refl
   names_back (p ∷ ps) all = ap₂ ◌∷◌ (power_back p all.0) (names_back ps all.1)
 

@@ -15,7 +15,7 @@ use Rattle.dip_store_tables.proofs.Pieces.{joined_back}
 use Rattle.dip_store_tables.proofs.Records.{status_words, words_text, words}
 use Rattle.dip_store_tables.specs.Columns.{ArePowers, IsStatusText, IsToldBy, word_of, names_of}
 
-all_powers : (m : Chart) (ps : List ℕ) → AllByRecursion (λ p. p < length m.realms) ps → ArePowers m (map (power_name m) ps)
+pub all_powers : (m : Chart) (ps : List ℕ) → AllByRecursion (λ p. p < length m.realms) ps → ArePowers m (map (power_name m) ps)
 all_powers m [] all = tt
 all_powers m (p ∷ ps) all = ((p, all.0, refl), all_powers m ps all.1)
 

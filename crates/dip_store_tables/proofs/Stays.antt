@@ -160,7 +160,10 @@ ordered m who name Nothing t texts it = it
 ordered m Nobody name (Pending orders) t texts it = it
 ordered m TheMaster name (Pending orders) t texts it = it
 ordered m (Seat power) name (Pending orders) t texts it = record { legible = with_pending t it.legible name (power_name m power) m orders texts; room = it.room }
-ordered m who name (Votes vote) t texts it = it
+ordered m Nobody name (Votes vote) t texts it = it
+ordered m TheMaster name (Votes vote) t texts it = it
+ordered m (Seat power) name (Votes vote) t texts it =
+    let old = it.legible in record { legible = record { desk = old.desk; seats = old.seats; pending = old.pending; boxes = old.boxes; papers = old.papers }; room = it.room }
 ordered m who name (Delivers readers item) t texts it = it
 ordered m who name (Opens public paper seats) t texts it = it
 ordered m who name (Publishes public paper played) t texts it = it

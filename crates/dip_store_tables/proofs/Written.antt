@@ -16,8 +16,9 @@ use Rattle.dip_store_tables.specs.Coding.{IsEffectOf, same_name}
 use Rattle.dip_desk_state.specs.Writable.{IsPlainItem, IsStatusOf}
 use Rattle.dip_store_tables.specs.ChangeColumns.{FitsColumns, IsEffectNarrow, IsNarrow}
 use Rattle.dip_store_tables.specs.Laws.{TablesStayWritten}
-use Rattle.dip_store_tables.specs.Tables.{GameRow, SeatRow, Tables, is_named, is_seat, is_seat_in, is_unit_in, is_centre_in, is_pending, is_pending_in, is_box_in}
-use Rattle.dip_store_tables.specs.Writing.{as_printed, desk_noted, game_row, next_row, pending_row, seat_effect, seat_kept, seat_noted, seat_row, whole_reply}
+use Rattle.dip_store_tables.specs.Tables.{GameRow, SeatRow, Tables, is_named, is_seat, is_seat_in, is_unit_in, is_centre_in, is_pending, is_pending_in, is_box_in, is_ballot, is_ballot_in}
+use Rattle.dip_store_tables.specs.Writing.{as_printed, ballot_noted, ballot_row, desk_noted, game_row, next_row, pending_row, seat_effect, seat_kept, seat_noted, seat_row, whole_reply}
+use Rattle.dip_store_tables.specs.Votes.{IsBallotText}
 use Rattle.dip_store_tables.specs.Written.{AreWritten, IsDeskWritten, IsGameWritten, IsItemWritten, IsOrderWritten, IsSeatWritten}
 use Rattle.dip_store_tables.proofs.Anew.{put_mine, put_other, units_of_game, centres_of_game}
 use Rattle.dip_store_tables.proofs.Authors.{authored, ordering_alone}
@@ -36,22 +37,22 @@ left : {A : Type 0} (P : A → Type 0) (test : A → Bool) (xs : List A) → All
 left P test xs all = all-filter P (λ x. not (test x)) xs all
 
 -- what an effect does to its author's row
-effect_written : (m : Chart) (e : Effect) → IsEffectOf m e → (s : SeatRow) → IsSeatWritten m s → IsSeatWritten m (seat_effect e s)
-effect_written m Nothing fits s it = it
-effect_written m (Pending orders) fits s it = it
-effect_written m (Votes vote) fits s it = record { digest = it.digest; vote = (vote, fits, refl); letter = it.letter }
-effect_written m (Delivers readers item) fits s it = record { digest = it.digest; vote = it.vote; letter = it.letter }
-effect_written m (Opens public paper seats) fits s it = it
-effect_written m (Publishes public paper played) fits s it = it
-effect_written m (Seats seat) fits s it = it
+effect_written : (e : Effect) (s : SeatRow) → IsSeatWritten s → IsSeatWritten (seat_effect e s)
+effect_written Nothing s it = it
+effect_written (Pending orders) s it = it
+effect_written (Votes vote) s it = it
+effect_written (Delivers readers item) s it = record { digest = it.digest; vote = it.vote; letter = it.letter }
+effect_written (Opens public paper seats) s it = it
+effect_written (Publishes public paper played) s it = it
+effect_written (Seats seat) s it = it
 
 module _ (m : Chart) (name : List ℕ) (k : Kept) (numbered : (k.number == 0) ≡ false) (small : k.number < 2 ^ 32) (wide : length k.sum ≡ 32) (e : Effect) (fits : IsEffectOf m e) where
-  noted_seat : (power : List ℕ) (s : SeatRow) → is_seat name power s ≡ true → IsSeatWritten m s → IsSeatWritten m (seat_noted (as_printed name power k) e s)
+  noted_seat : (power : List ℕ) (s : SeatRow) → is_seat name power s ≡ true → IsSeatWritten s → IsSeatWritten (seat_noted (as_printed name power k) e s)
   noted_seat power s mine it =
       let same = both_same s.game s.power name power mine in
-      let kept : IsSeatWritten m (seat_kept (as_printed name power k) s) =
+      let kept : IsSeatWritten (seat_kept (as_printed name power k) s) =
       record { digest = it.digest; vote = it.vote; letter = (Some k, (numbered, small, refl, refl, wide, ap₂ (λ g p. whole_reply g p k) (sym same.0) (sym same.1))) } in
-      effect_written m e fits (seat_kept (as_printed name power k) s) kept
+      effect_written e (seat_kept (as_printed name power k) s) kept
 
   noted_written : (who : Author) (t : Tables) → AreWritten m t → AreWritten m (noting m who name k e t)
   noted_written Nobody t it = it
@@ -62,13 +63,15 @@ module _ (m : Chart) (name : List ℕ) (k : Kept) (numbered : (k.number == 0) �
     seats = it.seats;
     pending = it.pending;
     boxes = it.boxes;
+    ballots = it.ballots;
   }
   noted_written (Seat power) t it = record {
     desk = it.desk;
     games = it.games;
-    seats = all_changed (IsSeatWritten m) (is_seat name (power_name m power)) (seat_noted (as_printed name (power_name m power) k) e) (noted_seat (power_name m power)) t.seats it.seats;
+    seats = all_changed IsSeatWritten (is_seat name (power_name m power)) (seat_noted (as_printed name (power_name m power) k) e) (noted_seat (power_name m power)) t.seats it.seats;
     pending = it.pending;
     boxes = it.boxes;
+    ballots = it.ballots;
   }
 
   ordered_written : (who : Author) (d : Effect) (t : Tables) → IsEffectOf m d → AllByRecursion (IsOrderWritten m) t.pending → AllByRecursion (IsOrderWritten m) (ordering m who name d t).pending
@@ -80,11 +83,27 @@ module _ (m : Chart) (name : List ℕ) (k : Kept) (numbered : (k.number == 0) �
       (left (IsOrderWritten m) (is_pending name (power_name m power)) t.pending all)
       (all_map (IsOrderWritten m) (pending_row m name (power_name m power)) orders
       (all_weaker _ (λ o. IsOrderWritten m (pending_row m name (power_name m power) o)) (λ o h. (o.province, h, refl)) orders low))
-  ordered_written who (Votes vote) t low all = all
+  ordered_written Nobody (Votes vote) t low all = all
+  ordered_written TheMaster (Votes vote) t low all = all
+  ordered_written (Seat power) (Votes vote) t low all = all
   ordered_written who (Delivers readers item) t low all = all
   ordered_written who (Opens public paper seats) t low all = all
   ordered_written who (Publishes public paper played) t low all = all
   ordered_written who (Seats seat) t low all = all
+
+  ordered_ballots : (who : Author) (d : Effect) (t : Tables) → IsEffectOf m d → AllByRecursion (λ b. IsBallotText m b.names) t.ballots → AllByRecursion (λ b. IsBallotText m b.names) (ordering m who name d t).ballots
+  ordered_ballots who Nothing t low all = all
+  ordered_ballots Nobody (Pending orders) t low all = all
+  ordered_ballots TheMaster (Pending orders) t low all = all
+  ordered_ballots (Seat power) (Pending orders) t low all = all
+  ordered_ballots Nobody (Votes vote) t low all = all
+  ordered_ballots TheMaster (Votes vote) t low all = all
+  ordered_ballots (Seat power) (Votes vote) t low all =
+      all_changed (λ b. IsBallotText m b.names) (is_ballot name (power_name m power)) (ballot_noted m vote) (λ b mine old. (vote, low, refl)) t.ballots all
+  ordered_ballots who (Delivers readers item) t low all = all
+  ordered_ballots who (Opens public paper seats) t low all = all
+  ordered_ballots who (Publishes public paper played) t low all = all
+  ordered_ballots who (Seats seat) t low all = all
 
   mid_written : (who : Author) (t : Tables) → AreWritten m t → AreWritten m (authored m who name k e t)
   mid_written who t it =
@@ -97,9 +116,10 @@ module _ (m : Chart) (name : List ℕ) (k : Kept) (numbered : (k.number == 0) �
         games = subst (λ us. AllByRecursion (IsGameWritten m us v.centres) v.games) (sym alone.units)
             (subst (λ cs. AllByRecursion (IsGameWritten m u.units cs) v.games) (sym alone.centres)
             (subst (AllByRecursion (IsGameWritten m u.units u.centres)) (sym alone.games) has.games));
-        seats = subst (AllByRecursion (IsSeatWritten m)) (sym alone.seats) has.seats;
+        seats = subst (AllByRecursion IsSeatWritten) (sym alone.seats) has.seats;
         pending = ordered_written who e u fits has.pending;
         boxes = subst (AllByRecursion IsItemWritten) (sym alone.boxes) has.boxes;
+        ballots = ordered_ballots who e u fits has.ballots;
       }
 
 -- rows of one game are put in anew
@@ -164,19 +184,22 @@ module _ (m : Chart) (name : List ℕ) (t : Tables) (it : AreWritten m t) where
   reached_written (Delivers readers item) fits column wide later = record {
     desk = it.desk;
     games = it.games;
-    seats = all_changed (IsSeatWritten m) (is_reader m name readers) one_more (λ s e old. record { digest = old.digest; vote = old.vote; letter = old.letter }) t.seats it.seats;
+    seats = all_changed IsSeatWritten (is_reader m name readers) one_more (λ s e old. record { digest = old.digest; vote = old.vote; letter = old.letter }) t.seats it.seats;
     pending = it.pending;
     boxes = all-append IsItemWritten t.boxes (map (next_row item) (filter (is_reader m name readers) t.seats)) it.boxes
         (all-map IsItemWritten (next_row item) (item_written item fits) (filter (is_reader m name readers) t.seats));
+    ballots = it.ballots;
   }
   reached_written (Opens p paper seats) fits column wide later = record {
     desk = it.desk;
     games = opened_games m p.game p fits.0 fits.1 column.0 wide.0 t later it.games;
-    seats = all-append (IsSeatWritten m) (delete_where (is_seat_in p.game) t.seats) (map (seat_row m p.game) seats) (left (IsSeatWritten m) (is_seat_in p.game) t.seats it.seats)
-        (all_map (IsSeatWritten m) (seat_row m p.game) seats
-        (all_weaker _ (λ s. IsSeatWritten m (seat_row m p.game s)) (λ s h. record { digest = h; vote = (No, tt, refl); letter = (None, (refl, refl, refl)) }) seats wide.1));
+    seats = all-append IsSeatWritten (delete_where (is_seat_in p.game) t.seats) (map (seat_row m p.game) seats) (left IsSeatWritten (is_seat_in p.game) t.seats it.seats)
+        (all_map IsSeatWritten (seat_row m p.game) seats
+        (all_weaker _ (λ s. IsSeatWritten (seat_row m p.game s)) (λ s h. record { digest = h; vote = refl; letter = (None, (refl, refl, refl)) }) seats wide.1));
     pending = left (IsOrderWritten m) (is_pending_in p.game) t.pending it.pending;
     boxes = left IsItemWritten (is_box_in p.game) t.boxes it.boxes;
+    ballots = all-append (λ b. IsBallotText m b.names) (delete_where (is_ballot_in p.game) t.ballots) (map (ballot_row m p.game) seats)
+        (left (λ b. IsBallotText m b.names) (is_ballot_in p.game) t.ballots it.ballots) (all-map (λ b. IsBallotText m b.names) (ballot_row m p.game) (λ s. (No, tt, refl)) seats);
   }
   reached_written (Publishes p paper played) fits column wide later = record {
     desk = it.desk;
@@ -185,14 +208,16 @@ module _ (m : Chart) (name : List ℕ) (t : Tables) (it : AreWritten m t) where
     pending = cond_both played (delete_where (is_pending_in name) t.pending) t.pending (AllByRecursion (IsOrderWritten m))
         (λ e. left (IsOrderWritten m) (is_pending_in name) t.pending it.pending) (λ e. it.pending);
     boxes = it.boxes;
+    ballots = it.ballots;
   }
   reached_written (Seats seat) fits column wide later = record {
     desk = it.desk;
     games = it.games;
-    seats = all_changed (IsSeatWritten m) (is_seat name (power_name m seat.power)) (λ s. record s { digest = seat.digest })
+    seats = all_changed IsSeatWritten (is_seat name (power_name m seat.power)) (λ s. record s { digest = seat.digest })
         (λ s e old. record { digest = wide; vote = old.vote; letter = old.letter }) t.seats it.seats;
     pending = it.pending;
     boxes = it.boxes;
+    ballots = it.ballots;
   }
 
 pub tables_stay_written : (m : Chart) → TablesStayWritten m

@@ -4,10 +4,10 @@ use Rattle.std.specs.List.{list_any}
 use Rattle.sqlite_keyed.specs.Lists.{update_where, delete_where}
 use Rattle.dip_map.specs.Charts.{Chart}
 use Rattle.dip_store_tables.specs.Boards.{power_name, power_in, unit_rows, centre_rows}
-use Rattle.dip_desk_state.specs.Records.{Public, Item, Kept, Standing}
+use Rattle.dip_desk_state.specs.Records.{Public, Item, Kept, Standing, Vote}
 use Rattle.dip_desk_state.specs.State.{Author, Nobody, TheMaster, Seat, NewSeat, Effect, Nothing, Pending, Votes, Delivers, Opens, Publishes, Seats, Change}
-use Rattle.dip_store_tables.specs.Tables.{SeatRow, Tables, is_named, is_seat_in, is_unit_in, is_centre_in, is_pending_in, is_box_in, is_paper_in, is_seat, is_pending}
-use Rattle.dip_store_tables.specs.Writing.{game_row, seat_row, pending_row, paper_row, next_row, as_printed, desk_noted, seat_noted}
+use Rattle.dip_store_tables.specs.Tables.{SeatRow, Tables, is_named, is_seat_in, is_unit_in, is_centre_in, is_pending_in, is_box_in, is_paper_in, is_ballot_in, is_choice_in, is_seat, is_pending, is_ballot}
+use Rattle.dip_store_tables.specs.Writing.{game_row, seat_row, pending_row, paper_row, ballot_row, choice_row, next_row, as_printed, ballot_noted, desk_noted, seat_noted}
 
 -- the author's row is written anew, with the reply as it was printed
 abbrev pub noting : Chart → Author → List ℕ → Kept → Effect → Tables → Tables
@@ -22,16 +22,26 @@ abbrev pub with_orders : Chart → List ℕ → List ℕ → List Standing → T
 with_orders m name power orders t =
     record t { pending = delete_where (is_pending name power) t.pending ++ map (pending_row m name power) orders }
 
+-- a seat's ballot says another vote
+abbrev pub with_vote : Chart → List ℕ → List ℕ → Vote → Tables → Tables
+with_vote m name power v t = record t { ballots = update_where (is_ballot name power) (ballot_noted m v) t.ballots }
+
+abbrev pub voting_by : Chart → Author → List ℕ → Vote → Tables → Tables
+voting_by m Nobody name v t = t
+voting_by m TheMaster name v t = t
+voting_by m (Seat power) name v t = with_vote m name (power_name m power) v t
+
 -- the author's standing orders, where the effect gives any
 abbrev pub ordering_by : Chart → Author → List ℕ → List Standing → Tables → Tables
 ordering_by m Nobody name orders t = t
 ordering_by m TheMaster name orders t = t
 ordering_by m (Seat power) name orders t = with_orders m name (power_name m power) orders t
 
+-- what the author orders or votes for, where the effect says it
 abbrev pub ordering : Chart → Author → List ℕ → Effect → Tables → Tables
 ordering m who name Nothing t = t
 ordering m who name (Pending orders) t = ordering_by m who name orders t
-ordering m who name (Votes vote) t = t
+ordering m who name (Votes vote) t = voting_by m who name vote t
 ordering m who name (Delivers readers item) t = t
 ordering m who name (Opens public paper seats) t = t
 ordering m who name (Publishes public paper played) t = t
@@ -61,6 +71,8 @@ opening m p paper seats t = record t {
   pending = delete_where (is_pending_in p.game) t.pending;
   boxes = delete_where (is_box_in p.game) t.boxes;
   papers = delete_where (is_paper_in p.game) t.papers ++ paper_row p.game p.papers paper ∷ [];
+  ballots = delete_where (is_ballot_in p.game) t.ballots ++ map (ballot_row m p.game) seats;
+  choices = delete_where (is_choice_in p.game) t.choices ++ choice_row p.game ∷ [];
 }
 
 -- the game's row and its board are written anew, with a paper more; where a phase was played no order stands any more
@@ -87,7 +99,7 @@ reaching m name (Opens public paper seats) t = opening m public paper seats t
 reaching m name (Publishes public paper played) t = publishing m name public paper played t
 reaching m name (Seats seat) t = replacing m name seat t
 
--- a change: its author's row, the author's orders, and the effect on the game
+-- a change: its author's row, the author's orders or ballot, and the effect on the game
 abbrev pub changing : Chart → Change → Tables → Tables
 changing m c t = reaching m c.game c.effect (ordering m c.author c.game c.effect (noting m c.author c.game c.kept c.effect t))
 

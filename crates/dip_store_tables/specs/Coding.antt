@@ -7,7 +7,7 @@ use Rattle.dip_map.specs.Boards.{IsOf}
 use Rattle.dip_store_tables.specs.Boards.{power_name}
 use Rattle.dip_desk_state.specs.Records.{Item, White, Grey, Status, Running, Paused, Closed, Ended, Won, Drawn}
 use Rattle.dip_desk_state.specs.State.{Author, Nobody, TheMaster, Seat, Effect, Nothing, Pending, Votes, Delivers, Opens, Publishes, Seats, Change}
-use Rattle.dip_store_tables.specs.Tables.{DeskRow, GameRow, SeatRow, Tables, is_named, is_seat}
+use Rattle.dip_store_tables.specs.Tables.{BallotRow, DeskRow, GameRow, SeatRow, Tables, is_ballot, is_named, is_seat}
 use Rattle.dip_desk_state.specs.Writable.{Lacks, IsPlainItem, IsStatusOf, IsVoteOf, IsAuthorOf}
 
 -- the seat's power is one of the map
@@ -18,11 +18,16 @@ IsSeatOf m s = (p : ℕ) × (p < length m.realms) × (s.power ≡ power_name m p
 abbrev pub HasGame : List GameRow → List ℕ → Type 0
 HasGame games name = list_any (is_named name) games ≡ true
 
--- the master's row is there, each seat's power is one of the map, and its game is there
+-- the seat's ballot is there
+abbrev pub HasBallot : List BallotRow → List ℕ → List ℕ → Type 0
+HasBallot ballots name power = list_any (is_ballot name power) ballots ≡ true
+
+-- the master's row is there, each seat's power is one of the map, and its game is there, and so is its ballot
 pub record AreCoded (m : Chart) (t : Tables) : Type 0 where
   pub desk : (d : DeskRow) × (t.desk ≡ d ∷ []) × ((d.id == 1) ≡ true)
   pub seats : AllByRecursion (IsSeatOf m) t.seats
   pub games : AllByRecursion (λ s. HasGame t.games s.game) t.seats
+  pub ballots : AllByRecursion (λ s. HasBallot t.ballots s.game s.power) t.seats
 
 abbrev pub same_name : GameRow → GameRow → Bool
 same_name a b = bytes_eq a.name b.name

@@ -16,7 +16,7 @@ PublicIsFound m = (t : Tables) (name : List ℕ) → public_at name (state_of m 
 -- and a seat's own part is what the first row of its game and its power's name says
 abbrev pub OwnIsFound : Chart → Type 0
 OwnIsFound m = (t : Tables) (name : List ℕ) (power : ℕ) → AreCoded m t → power < length m.realms
-    → own_at name power (state_of m t) ≡ option_map (own_of m t.pending) (find (is_seat name (power_name m power)) t.seats)
+    → own_at name power (state_of m t) ≡ option_map (own_of m t.pending t.ballots) (find (is_seat name (power_name m power)) t.seats)
 
 -- whether a number is one of so many from a first on
 abbrev pub is_within : ℕ → ℕ → ℕ → Bool

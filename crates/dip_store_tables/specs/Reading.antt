@@ -4,9 +4,9 @@ use Rattle.dip_map.specs.Charts.{Chart}
 use Rattle.dip_store_tables.specs.Boards.{UnitRow, CentreRow, board_of, power_in, prov_in}
 use Rattle.dip_desk_state.specs.Records.{Public, Own, Item, White, Grey, Kept, Standing, Status, Running, Paused, Closed, Ended, Won, Drawn}
 use Rattle.dip_desk_state.specs.State.{State, Game, Part, Desk}
-use Rattle.dip_store_tables.specs.Tables.{DeskRow, GameRow, SeatRow, PendingRow, BoxRow, PaperRow, Tables, is_seat_in, is_unit_in, is_centre_in, is_paper_in, is_pending, is_box}
+use Rattle.dip_store_tables.specs.Tables.{DeskRow, GameRow, SeatRow, PendingRow, BoxRow, PaperRow, BallotRow, Tables, is_seat_in, is_unit_in, is_centre_in, is_paper_in, is_pending, is_box}
 use Rattle.dip_store_tables.specs.Texts.{behind, pieces}
-use Rattle.dip_store_tables.specs.Votes.{vote_of}
+use Rattle.dip_store_tables.specs.Votes.{vote_in}
 
 -- the lines of a printed reply: it begins with its head, a line, and ends with the four bytes of END and LF
 abbrev pub without_end : List ℕ → List ℕ
@@ -58,11 +58,11 @@ standing_of m p = record { province = prov_in m p.province; line = p.line }
 abbrev pub pending_of : Chart → List PendingRow → List ℕ → List ℕ → List Standing
 pending_of m pending name power = map (standing_of m) (filter (is_pending name power) pending)
 
-abbrev pub own_of : Chart → List PendingRow → SeatRow → Own
-own_of m pending s = record {
+abbrev pub own_of : Chart → List PendingRow → List BallotRow → SeatRow → Own
+own_of m pending ballots s = record {
   power = power_in m s.power;
   digest = s.digest;
-  vote = vote_of s.vote;
+  vote = vote_in m ballots s.game s.power;
   pending = pending_of m pending s.game s.power;
   kept = kept_of s.last s.kept s.reply;
   sent = s.sent;
@@ -79,7 +79,7 @@ abbrev pub items_of : List BoxRow → List ℕ → List ℕ → List Item
 items_of boxes name power = map item_of (filter (is_box name power) boxes)
 
 abbrev pub part_of : Chart → Tables → SeatRow → Part
-part_of m t s = record { own = own_of m t.pending s; box = items_of t.boxes s.game s.power }
+part_of m t s = record { own = own_of m t.pending t.ballots s; box = items_of t.boxes s.game s.power }
 
 abbrev pub papers_of : List PaperRow → List ℕ → List (List ℕ)
 papers_of papers name = map (λ p. p.body) (filter (is_paper_in name) papers)

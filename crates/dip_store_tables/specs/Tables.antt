@@ -56,6 +56,17 @@ pub record PaperRow : Type 0 where
   pub number : ℕ
   pub body : List ℕ
 
+-- what a seat votes for: NO, YES, or the names of the powers between which it wants a draw
+pub record BallotRow : Type 0 where
+  pub game : List ℕ
+  pub power : List ℕ
+  pub names : List ℕ
+
+-- the option of a game, which is 0
+pub record ChoiceRow : Type 0 where
+  pub game : List ℕ
+  pub intent : ℕ
+
 -- all of them, the rows of each in the order in which they were put in
 pub record Tables : Type 0 where
   pub desk : List DeskRow
@@ -66,6 +77,8 @@ pub record Tables : Type 0 where
   pub pending : List PendingRow
   pub boxes : List BoxRow
   pub papers : List PaperRow
+  pub ballots : List BallotRow
+  pub choices : List ChoiceRow
 
 -- which rows are of a game
 abbrev pub is_named : List ℕ → GameRow → Bool
@@ -89,6 +102,12 @@ is_box_in name b = bytes_eq b.game name
 abbrev pub is_paper_in : List ℕ → PaperRow → Bool
 is_paper_in name p = bytes_eq p.game name
 
+abbrev pub is_ballot_in : List ℕ → BallotRow → Bool
+is_ballot_in name b = bytes_eq b.game name
+
+abbrev pub is_choice_in : List ℕ → ChoiceRow → Bool
+is_choice_in name c = bytes_eq c.game name
+
 -- and which are of a seat, by its power's name
 abbrev pub is_seat : List ℕ → List ℕ → SeatRow → Bool
 is_seat name power s = bytes_eq s.game name && bytes_eq s.power power
@@ -98,3 +117,6 @@ is_pending name power p = bytes_eq p.game name && bytes_eq p.power power
 
 abbrev pub is_box : List ℕ → List ℕ → BoxRow → Bool
 is_box name power b = bytes_eq b.game name && bytes_eq b.power power
+
+abbrev pub is_ballot : List ℕ → List ℕ → BallotRow → Bool
+is_ballot name power b = bytes_eq b.game name && bytes_eq b.power power

@@ -1,31 +1,33 @@
--- A seat's vote as the number of its column.
-use Rattle.std.specs.Prelude.{◌≡◌, ◌<◌, ◌+◌, ◌*◌, ◌/◌, ◌%◌, ◌==◌, nat_lt, ℕ, zero, suc, List, [], ◌∷◌, if◌then◌else◌}
+-- A seat's vote as the text of its ballot.
+use Rattle.std.specs.Prelude.{◌≡◌, List, ℕ, codes, map, Option, None, Some, bytes_eq, if◌then◌else◌}
+use Rattle.std.specs.List.{find}
 use Rattle.dip_map.specs.Charts.{Chart}
 use Rattle.dip_desk_state.specs.Records.{Vote, No, Yes, For}
 use Rattle.dip_desk_state.specs.Writable.{IsVoteOf}
+use Rattle.dip_store_tables.specs.Boards.{power_in, power_name}
+use Rattle.dip_store_tables.specs.Tables.{BallotRow, is_ballot}
+use Rattle.dip_store_tables.specs.Texts.{joined, pieces}
 
--- the powers as digits of base eight, the first one last, behind a leading one
-abbrev pub set_number : List ℕ → ℕ
-set_number [] = 1
-set_number (p ∷ ps) = set_number ps * 8 + p
+-- NO, YES, or the names of the powers, joined by spaces
+abbrev pub ballot_text : Chart → Vote → List ℕ
+ballot_text m No = codes "NO"
+ballot_text m Yes = codes "YES"
+ballot_text m (For powers) = joined 32 (map (power_name m) powers)
 
--- 0 is no draw, 1 one between all who survive, 8 and more one between these powers
-abbrev pub vote_number : Vote → ℕ
-vote_number No = 0
-vote_number Yes = 1
-vote_number (For powers) = set_number powers
+-- and the vote of such a text
+abbrev pub vote_of : Chart → List ℕ → Vote
+vote_of m text =
+    if bytes_eq text (codes "NO") then No else if bytes_eq text (codes "YES") then Yes
+    else For (map (power_in m) (pieces 32 text))
 
--- the last digits, so many at most, all but the leading one
-abbrev pub last_digits : ℕ → ℕ → List ℕ
-last_digits zero n = []
-last_digits (suc k) n = if nat_lt n 8 then [] else n % 8 ∷ last_digits k (n / 8)
+-- what the first ballot of a seat says; no draw where it has none
+abbrev pub vote_on : Chart → Option BallotRow → Vote
+vote_on m None = No
+vote_on m (Some b) = vote_of m b.names
 
-abbrev pub digits_of : ℕ → List ℕ
-digits_of n = last_digits n n
+abbrev pub vote_in : Chart → List BallotRow → List ℕ → List ℕ → Vote
+vote_in m ballots name power = vote_on m (find (is_ballot name power) ballots)
 
-abbrev pub vote_of : ℕ → Vote
-vote_of n = if n == 0 then No else if nat_lt n 8 then Yes else For (digits_of n)
-
--- the number of a vote of the map
-abbrev pub IsVoteNumber : Chart → ℕ → Type 0
-IsVoteNumber m n = (v : Vote) × IsVoteOf m v × (n ≡ vote_number v)
+-- the text of a vote of the map
+abbrev pub IsBallotText : Chart → List ℕ → Type 0
+IsBallotText m text = (v : Vote) × IsVoteOf m v × (text ≡ ballot_text m v)

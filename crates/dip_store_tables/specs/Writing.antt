@@ -3,12 +3,12 @@ use Rattle.std.specs.Prelude.{ℕ, ◌+◌, Bool, List, [], ◌∷◌, codes, So
 use Rattle.dip_map.specs.Charts.{Chart}
 use Rattle.dip_store_tables.specs.Boards.{code, power_name, season_number, standoff_text}
 use Rattle.dip_desk_state.specs.declared.records.Outcome.TheVariants.{Done}
-use Rattle.dip_desk_state.specs.Records.{Public, Item, White, Grey, Kept, Standing}
+use Rattle.dip_desk_state.specs.Records.{Public, Item, White, Grey, Kept, Standing, Vote}
 use Rattle.dip_reports.specs.Texts.{reply_text, status_text}
 use Rattle.dip_desk_state.specs.State.{NewSeat, Effect, Nothing, Pending, Votes, Delivers, Opens, Publishes, Seats}
-use Rattle.dip_store_tables.specs.Tables.{DeskRow, GameRow, SeatRow, PendingRow, BoxRow, PaperRow, Tables}
+use Rattle.dip_store_tables.specs.Tables.{DeskRow, GameRow, SeatRow, PendingRow, BoxRow, PaperRow, BallotRow, ChoiceRow, Tables}
 use Rattle.dip_store_tables.specs.Texts.{joined, ended}
-use Rattle.dip_store_tables.specs.Votes.{vote_number}
+use Rattle.dip_store_tables.specs.Votes.{ballot_text}
 
 abbrev pub number_of : Bool → ℕ
 number_of b = if b then 1 else 0
@@ -36,7 +36,7 @@ game_row m name p = record {
   standoff = standoff_text m p.board.standoff;
 }
 
--- a seat that nobody has used yet
+-- a seat that nobody has used yet; its vote is on its ballot, and is 0 in its row
 abbrev pub seat_row : Chart → List ℕ → NewSeat → SeatRow
 seat_row m name s = record {
   game = name;
@@ -49,6 +49,13 @@ seat_row m name s = record {
   sent = 0;
   items = 0;
 }
+
+-- the ballot of such a seat, and the choice of a new game
+abbrev pub ballot_row : Chart → List ℕ → NewSeat → BallotRow
+ballot_row m name s = record { game = name; power = power_name m s.power; names = codes "NO" }
+
+abbrev pub choice_row : List ℕ → ChoiceRow
+choice_row name = record { game = name; intent = 0 }
 
 abbrev pub pending_row : Chart → List ℕ → List ℕ → Standing → PendingRow
 pending_row m name power o = record { game = name; power = power; province = code m o.province; line = o.line }
@@ -91,19 +98,23 @@ seat_kept k s = record s { last = k.number; kept = k.sum; reply = k.reply }
 abbrev pub seat_effect : Effect → SeatRow → SeatRow
 seat_effect Nothing s = s
 seat_effect (Pending orders) s = s
-seat_effect (Votes vote) s = record s { vote = vote_number vote }
+seat_effect (Votes vote) s = s
 seat_effect (Delivers readers item) s = record s { sent = s.sent + 1 }
 seat_effect (Opens public paper seats) s = s
 seat_effect (Publishes public paper played) s = s
 seat_effect (Seats seat) s = s
 
+-- a ballot with another vote
+abbrev pub ballot_noted : Chart → Vote → BallotRow → BallotRow
+ballot_noted m v b = record b { names = ballot_text m v }
+
 abbrev pub seat_noted : Kept → Effect → SeatRow → SeatRow
 seat_noted k e s = seat_effect e (seat_kept k s)
 
--- the tables of a new desk, of version 1
+-- the tables of a new desk, of version 2
 abbrev pub new_tables : List ℕ → List ℕ → Tables
 new_tables map_sum digest = record {
-  desk = record { id = 1; version = 1; map = map_sum; digest = digest; last = 0; kept = []; reply = [] } ∷ [];
+  desk = record { id = 1; version = 2; map = map_sum; digest = digest; last = 0; kept = []; reply = [] } ∷ [];
   games = [];
   seats = [];
   units = [];
@@ -111,4 +122,6 @@ new_tables map_sum digest = record {
   pending = [];
   boxes = [];
   papers = [];
+  ballots = [];
+  choices = [];
 }

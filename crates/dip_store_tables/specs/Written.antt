@@ -9,7 +9,7 @@ use Rattle.dip_desk_state.specs.Writable.{IsPlainItem, IsStatusOf}
 use Rattle.dip_store_tables.specs.ChangeColumns.{IsNarrow}
 use Rattle.dip_store_tables.specs.Tables.{DeskRow, GameRow, SeatRow, PendingRow, BoxRow, Tables, is_unit_in, is_centre_in}
 use Rattle.dip_store_tables.specs.Writing.{box_row, game_row, whole_reply}
-use Rattle.dip_store_tables.specs.Votes.{IsVoteNumber}
+use Rattle.dip_store_tables.specs.Votes.{IsBallotText}
 
 -- of an author's last letter: nothing before the first, then its number, its sum, and its reply as it was printed
 abbrev pub KeepsLetter : List ℕ → List ℕ → Option Kept → ℕ → List ℕ → List ℕ → Type 0
@@ -23,9 +23,9 @@ pub record IsDeskWritten (d : DeskRow) : Type 0 where
   pub digest : length d.digest ≡ 32
   pub letter : (game : List ℕ) × (k : Option Kept) × KeepsLetter game (codes "master") k d.last d.kept d.reply
 
-pub record IsSeatWritten (m : Chart) (s : SeatRow) : Type 0 where
+pub record IsSeatWritten (s : SeatRow) : Type 0 where
   pub digest : length s.digest ≡ 32
-  pub vote : IsVoteNumber m s.vote
+  pub vote : s.vote ≡ 0
   pub letter : (k : Option Kept) × KeepsLetter s.game s.power k s.last s.kept s.reply
 
 -- a game's row, its units and its centres are those of a public part of the map
@@ -49,6 +49,7 @@ IsItemWritten b = (item : Item) × IsPlainItem item × (b ≡ box_row b.game b.p
 pub record AreWritten (m : Chart) (t : Tables) : Type 0 where
   pub desk : AllByRecursion IsDeskWritten t.desk
   pub games : AllByRecursion (IsGameWritten m t.units t.centres) t.games
-  pub seats : AllByRecursion (IsSeatWritten m) t.seats
+  pub seats : AllByRecursion IsSeatWritten t.seats
   pub pending : AllByRecursion (IsOrderWritten m) t.pending
   pub boxes : AllByRecursion IsItemWritten t.boxes
+  pub ballots : AllByRecursion (λ b. IsBallotText m b.names) t.ballots

@@ -33,6 +33,6 @@ pub use table_laws::{
     new_tables_are_new, own_is_found, page_is_found, paper_is_found, press_is_delivered_one_by_one,
     public_is_found, state_is_changed, tables_stay_coded, tables_stay_counted, tables_stay_written,
 };
-pub use votes::{read_vote, vote_number};
+pub use votes::{ballot_text, read_vote};
 pub use widths::has_widths;
 pub use writable::is_writable;

@@ -1,77 +1,79 @@
-//! A seat's vote and the number of its column.
-ghost use Rattle.std.specs.Prelude.{◌≡◌, ◌<◌, ◌^◌, ◌↔◌, IfOk, IfSome, IfNone, IsTrue, nat_lt};
+//! A seat's vote and the text of its ballot.
+ghost use Rattle.std.specs.Prelude.{◌≡◌, ◌++◌, ◌∷◌, ◌↔◌, IfOk, IfSome, IfNone, IsTrue, OnOk, flat_map, map as each, nat_lt, string_bytes};
 ghost use Rattle.std.specs.List.{list_all};
 ghost use Rattle.dip_map.specs.Boards.{are_ascending};
 ghost use Rattle.dip_desk_state.specs.Rows as rows;
 ghost use Rattle.dip_desk_state.specs.Writable.{IsVoteOf};
-ghost use Rattle.dip_store_tables.specs.Votes.{IsVoteNumber, digits_of, set_number, vote_number, vote_of};
+ghost use Rattle.dip_store_tables.specs.Boards.{power_name};
+ghost use Rattle.dip_store_tables.specs.Texts.{joined};
+ghost use Rattle.dip_store_tables.specs.Votes.{IsBallotText, ballot_text, vote_of};
 
+use crate::cuts::pieces_of;
+use crate::statuses::powers_of;
 use crate::writable_parts::are_powers;
 use dip_desk_state::Vote;
 use dip_map::Map;
 use dip_names::Power;
 use std::alloc::{AllocError, Global};
 
-/// The powers as digits of base eight, the first one last, behind a leading one.
-fn set_number(powers: &[Power]) -> u32
-    requires { set_number powers.now < 2 ^ 32 }
-    ensures { result ≡ set_number powers.now }
+/// Appends the names of powers, each behind a space.
+fn push_names(map: &Map, powers: &[Power], out: &mut String) -> Result<(), AllocError>
+    ensures { OnOk result (string_bytes out.new
+        ≡ string_bytes out.old ++ flat_map (λ p. 32 ∷ power_name map.now p) powers.now) }
 {
-    match powers.split_first() {
-        Some((first, others)) => set_number(others) * 8 + u32::from(first.index()),
-        None => 1,
+    for power in powers {
+        out.push_str(" ")?;
+        out.push_str(map.power_name(*power))?;
     }
+    Ok(())
 }
 
-/// The number that a vote has in its column: 0 is no draw, 1 one between all who survive; one between named powers has 8 or more.
-pub fn vote_number(vote: &Vote) -> u32
-    requires { vote_number (rows.vote vote.now) < 2 ^ 32 }
-    ensures { result ≡ vote_number (rows.vote vote.now) }
+/// The names of powers, joined by spaces.
+#[tactic(auto, using(crate::proofs::VoteLemmas::names_joined))]
+fn names_text(alloc: Global, map: &Map, powers: &[Power]) -> Result<String, AllocError>
+    ensures { IfOk result (λ t.
+        string_bytes t ≡ joined 32 (each (power_name map.now) powers.now)) }
 {
-    match vote {
-        Vote::No => 0,
-        Vote::Yes => 1,
-        Vote::For(powers) => set_number(powers.as_slice()),
-    }
+    let mut text = String::new(alloc);
+    let Some((first, others)) = powers.split_first() else {
+        return Ok(text);
+    };
+    text.push_str(map.power_name(*first))?;
+    push_names(map, others, &mut text)?;
+    Ok(text)
 }
 
-/// The powers that a number of 8 or more names; none where one isn't of the map.
-fn powers_in(alloc: Global, map: &Map, number: u32) -> Result<Option<Vec<Power>>, AllocError>
-    ensures value { IfOk result (λ o. IfSome o (λ v. v.items ≡ digits_of number)) }
-    ensures none { IfOk result (λ o. IfNone o (IsVoteNumber map.now number → ⊥)) }
-{
-    map.facts();
-    let mut powers = Vec::new(alloc);
-    let mut left = number;
-    while left >= 8 {
-        let digit = (left % 8) as u8;
-        if map.power_count() <= digit as usize {
-            return Ok(None);
-        }
-        powers.push(Power::new(digit))?;
-        left /= 8;
-    }
-    Ok(Some(powers))
-}
-
-/// The vote that has a number in its column; none where no vote of the map has it.
+/// The text of a vote's ballot: `NO`, `YES`, or the names of the powers that it names, by alphabet, a space between two of them.
 ///
 /// # Errors
 /// Want of memory.
-pub fn read_vote(alloc: Global, map: &Map, number: u32) -> Result<Option<Vote>, AllocError>
-    ensures value { IfOk result (λ o. IfSome o (λ v. rows.vote v ≡ vote_of number)) }
-    ensures none { IfOk result (λ o. IfNone o (IsVoteNumber map.now number → ⊥)) }
+pub fn ballot_text(alloc: Global, map: &Map, vote: &Vote) -> Result<String, AllocError>
+    ensures { IfOk result (λ t. string_bytes t ≡ ballot_text map.now (rows.vote vote.now)) }
 {
-    if number == 0 {
+    match vote {
+        Vote::No => String::from_str(alloc, "NO"),
+        Vote::Yes => String::from_str(alloc, "YES"),
+        Vote::For(powers) => names_text(alloc, map, powers.as_slice()),
+    }
+}
+
+/// The vote of a ballot's text; none where no vote of the map has it.
+///
+/// # Errors
+/// Want of memory.
+pub fn read_vote(alloc: Global, map: &Map, text: &str) -> Result<Option<Vote>, AllocError>
+    ensures value { IfOk result (λ o. IfSome o (λ v. rows.vote v ≡ vote_of map.now text.now)) }
+    ensures none { IfOk result (λ o. IfNone o (IsBallotText map.now text.now → ⊥)) }
+{
+    map.facts();
+    if text == "NO" {
         return Ok(Some(Vote::No));
     }
-    if number == 1 {
+    if text == "YES" {
         return Ok(Some(Vote::Yes));
     }
-    if number < 8 {
-        return Ok(None);
-    }
-    match powers_in(alloc, map, number)? {
+    let names = pieces_of(alloc, text, ' ')?;
+    match powers_of(alloc, map, names.as_slice())? {
         Some(powers) => Ok(Some(Vote::For(powers))),
         None => Ok(None),
     }

@@ -1,8 +1,15 @@
-use Rattle.std.proofs.Common.{arith}
-use Rattle.dip_store_tables.proofs.VoteLemmas.{too_small}
+use Rattle.std.proofs.Common.{◌≡◌, true, false, bytes_eq, codes, ap, subst, sym, ◌∙◌, rules}
+use Rattle.dip_desk_state.specs.Rows as rows
+use Rattle.dip_store_tables.specs.Columns.{ArePowers}
+use Rattle.dip_store_tables.proofs.VoteLemmas.{named_powers}
 use Rattle.dip_store_tables.proofs.votes.read_vote.Goals as goal
 
-pub returns-then-number-lt8-clause-none : goal.returns-then-number-lt8-clause-none
-returns-then-number-lt8-clause-none c =
-    let low = c.if-number-lt8.true in
-    too_small c.args.map.now c.args.number c.if-number-eq0.false c.if-number-eq1.false (omega (arith, low))
+pub returns-clause-none : goal.returns-clause-none
+returns-clause-none c said =
+    let text = c.args.text.now in
+    let not_no : bytes_eq text (codes "NO") ≡ false = search rules in
+    let not_yes : bytes_eq text (codes "YES") ≡ false = search rules in
+    let never : ArePowers c.args.map.now (rows.lines c.in_ok-names.names.items) → ⊥ = search rules in
+    never (subst (ArePowers c.args.map.now) (sym c.in_ok-names.ensures)
+    (named_powers c.args.map.now c.facts.ensures text (λ e. let bad : true ≡ false = sym (ap (λ t. bytes_eq t (codes "NO")) e) ∙ not_no in cc)
+    (λ e. let bad : true ≡ false = sym (ap (λ t. bytes_eq t (codes "YES")) e) ∙ not_yes in cc) said))

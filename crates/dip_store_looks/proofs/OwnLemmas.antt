@@ -9,6 +9,8 @@ use Rattle.dip_store_tables.specs.Boards.{power_in, power_name, or_zero}
 use Rattle.dip_store_sql.specs.Showing.{show_order, show_seat}
 use Rattle.dip_store_tables.specs.Reading.{own_of, pending_of, standing_of}
 use Rattle.dip_store_tables.specs.Tables.{PendingRow, SeatRow, Tables, is_pending, is_seat}
+use Rattle.dip_desk_state.specs.Records.{Vote}
+use Rattle.dip_store_tables.specs.Votes.{vote_in}
 use Rattle.dip_store_looks.specs.Shown.{shown_order, shown_own}
 
 module _ (m : Chart) where
@@ -29,22 +31,24 @@ module _ (m : Chart) where
     | inr off ↦ rw off (λ is. found_seat name power ss s is)
   ]
 
-  pub own_is : IsMap m → (t : Tables) (name : List ℕ) (power : ℕ) (row : Row) (orders : List Row) → power < length m.realms
+  pub own_is : IsMap m → (t : Tables) (name : List ℕ) (power : ℕ) (row : Row) (vote : Vote) (orders : List Row) → power < length m.realms
       → Some row ≡ option_map show_seat (find (is_seat name (power_name m power)) t.seats)
-      → orders ≡ map show_order (filter (is_pending name (power_name m power)) t.pending)
-      → Some (shown_own m power 0 row orders) ≡ option_map (own_of m t.pending) (find (is_seat name (power_name m power)) t.seats)
-  own_is ok t name power row orders low shown os = by_seat (find (is_seat name (power_name m power)) t.seats) refl
+      → vote ≡ vote_in m t.ballots name (power_name m power) → orders ≡ map show_order (filter (is_pending name (power_name m power)) t.pending)
+      → Some (shown_own m power vote 0 row orders) ≡ option_map (own_of m t.pending t.ballots) (find (is_seat name (power_name m power)) t.seats)
+  own_is ok t name power row vote orders low shown voted os = by_seat (find (is_seat name (power_name m power)) t.seats) refl
     where
-      of_seat : (s : SeatRow) → (s.game ≡ name) × (s.power ≡ power_name m power) → row ≡ show_seat s → shown_own m power 0 row orders ≡ own_of m t.pending s
+      of_seat : (s : SeatRow) → (s.game ≡ name) × (s.power ≡ power_name m power) → row ≡ show_seat s → shown_own m power vote 0 row orders ≡ own_of m t.pending t.ballots s
       of_seat s named is =
           let mine = ap (map (λ r. standing_of m (shown_order r))) os ∙ orders_shown (filter (is_pending name (power_name m power)) t.pending) in
           let pending = mine ∙ ap₂ (pending_of m t.pending) (sym named.0) (sym named.1) in
           let number : power ≡ power_in m s.power = sym (ap or_zero (ok.names_found power low)) ∙ ap (power_in m) (sym named.1) in
-          ap (λ r. shown_own m power 0 r orders) is ∙ ap₂ (λ n p. record (own_of m t.pending s) { power = n; pending = p }) number pending
+          let votes : vote ≡ vote_in m t.ballots s.game s.power = voted ∙ ap₂ (vote_in m t.ballots) (sym named.0) (sym named.1) in
+          ap (λ r. shown_own m power vote 0 r orders) is
+          ∙ (λ i. record (own_of m t.pending t.ballots s) { power = number i; vote = votes i; pending = pending i })
 
       by_seat : (o : Option SeatRow) → find (is_seat name (power_name m power)) t.seats ≡ o
-          → Some (shown_own m power 0 row orders) ≡ option_map (own_of m t.pending) (find (is_seat name (power_name m power)) t.seats)
+          → Some (shown_own m power vote 0 row orders) ≡ option_map (own_of m t.pending t.ballots) (find (is_seat name (power_name m power)) t.seats)
       by_seat None none = absurd (let bad = shown ∙ ap (option_map show_seat) none in cc)
       by_seat (Some s) found =
           let same : row ≡ show_seat s = (let both = shown ∙ ap (option_map show_seat) found in cc) in
-          ap Some (of_seat s (found_seat name (power_name m power) t.seats s found) same) ∙ sym (ap (option_map (own_of m t.pending)) found)
+          ap Some (of_seat s (found_seat name (power_name m power) t.seats s found) same) ∙ sym (ap (option_map (own_of m t.pending t.ballots)) found)

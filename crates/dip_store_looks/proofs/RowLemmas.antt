@@ -7,20 +7,21 @@ use Rattle.sqlite.specs.declared.types.Value.TheVariants.{Int, Text as Words, Bl
 use Rattle.sqlite.specs.Order.{Row, column, bytes}
 use Rattle.dip_store_tables.proofs.ListLemmas.{all_both, all-filter, all_map, all_weaker}
 use Rattle.dip_store_tables.specs.Boards.{code}
-use Rattle.dip_map.specs.Charts.{Chart, IsMap}
+use Rattle.dip_map.specs.Charts.{Chart}
 use Rattle.dip_store_tables.specs.Columns.{IsPrinted}
 use Rattle.dip_store_tables.specs.Legible.{AreOurs, IsDeskLegible, IsItemLegible, IsOrderLegible, IsPaperLegible, IsSeatLegible, IsText}
 use Rattle.dip_store_tables.proofs.MapTexts.{code_text, power_text}
-use Rattle.dip_store_tables.proofs.VoteLemmas.{number_low}
+use Rattle.dip_store_tables.proofs.VoteLemmas.{ballot_is_text}
 use Rattle.dip_desk_state.specs.Records.{Item, White, Grey, Kept}
 use Rattle.dip_store_sql.specs.Rows.{number_in}
-use Rattle.dip_store_sql.specs.Showing.{is_item, is_numbered, show_desk, show_item, show_listed, show_order, show_paper, show_seat}
+use Rattle.dip_store_sql.specs.Showing.{is_item, is_numbered, show_ballot, show_desk, show_item, show_listed, show_order, show_paper, show_seat}
 use Rattle.dip_store_sql.specs.TablesAfter.{is_first}
 use Rattle.dip_store_tables.specs.Coding.{AreCoded, IsSeatOf}
-use Rattle.dip_store_tables.specs.Tables.{BoxRow, DeskRow, PaperRow, PendingRow, SeatRow, Tables, is_pending, is_seat, is_seat_in}
+use Rattle.dip_store_tables.specs.Tables.{BoxRow, DeskRow, PaperRow, PendingRow, SeatRow, Tables, is_ballot, is_pending, is_seat, is_seat_in}
 use Rattle.dip_store_tables.specs.Writing.{box_row, number_of, whole_reply}
+use Rattle.dip_store_tables.specs.Votes.{IsBallotText}
 use Rattle.dip_store_tables.specs.Written.{IsDeskWritten, IsItemWritten, IsOrderWritten, IsSeatWritten, KeepsLetter}
-use Rattle.dip_store_looks.specs.Readable.{HasDigest, HasNumber, HasText, IsDeskReadable, IsItemReadable, IsKeptReadable, IsListedReadable, IsOrderReadable, IsSeatReadable}
+use Rattle.dip_store_looks.specs.Readable.{IsBallotReadable, HasDigest, HasNumber, HasText, IsDeskReadable, IsItemReadable, IsKeptReadable, IsListedReadable, IsOrderReadable, IsSeatReadable}
 
 pub has_text : (r : Row) (at : ℕ) (t : List ℕ) → at < length r → column r at ≡ Words t → IsText t → HasText r at
 has_text r at t low is it = record { there = low; text = t; is = is; utf8 = it.utf8 }
@@ -94,22 +95,20 @@ kept_readable r at game sender (Some k) last sum reply it text low one two three
     }
 
 -- seats
-abbrev IsSeatOurs : Chart → SeatRow → Type 0
-IsSeatOurs m s = IsSeatWritten m s × IsSeatLegible s
+abbrev IsSeatOurs : SeatRow → Type 0
+IsSeatOurs s = IsSeatWritten s × IsSeatLegible s
 
-seat_readable : (m : Chart) → IsMap m → (s : SeatRow) → IsSeatOurs m s → IsSeatReadable m (show_seat s) 0
-seat_readable m ok s it =
+seat_readable : (s : SeatRow) → IsSeatOurs s → IsSeatReadable (show_seat s) 0
+seat_readable s it =
     let r = show_seat s in
     record {
       digest = has_digest r 0 s.digest (omega arith) refl it.0.digest;
-      vote = has_number r 1 s.vote (omega arith) refl (number_low m s.vote ok it.0.vote);
-      votes = it.0.vote;
       kept = kept_readable r 2 s.game s.power it.0.letter.0 s.last s.kept s.reply it.0.letter.1 it.1.0 (omega arith) refl refl refl;
       sent = has_number r 5 s.sent (omega arith) refl it.1.1;
       items = has_number r 6 s.items (omega arith) refl it.1.2;
     }
 
-seat_listed : (m : Chart) (t : Tables) → AreOurs m t → (s : SeatRow) → IsSeatOf m s × IsSeatOurs m s → IsListedReadable m (show_listed s)
+seat_listed : (m : Chart) (t : Tables) → AreOurs m t → (s : SeatRow) → IsSeatOf m s × IsSeatOurs s → IsListedReadable m (show_listed s)
 seat_listed m t ours s of_ours =
     let r = show_listed s in
     let it = of_ours.1 in
@@ -121,8 +120,6 @@ seat_listed m t ours s of_ours =
       of_map = power.2;
       seat = record {
         digest = has_digest r 1 s.digest (omega arith) refl it.0.digest;
-        vote = has_number r 2 s.vote (omega arith) refl (number_low m s.vote ours.map it.0.vote);
-        votes = it.0.vote;
         kept = kept_readable r 3 s.game s.power it.0.letter.0 s.last s.kept s.reply it.0.letter.1 it.1.0 (omega arith) refl refl refl;
         sent = has_number r 6 s.sent (omega arith) refl it.1.1;
         items = has_number r 7 s.items (omega arith) refl it.1.2;
@@ -130,16 +127,16 @@ seat_listed m t ours s of_ours =
     }
 
 module _ (m : Chart) (t : Tables) (ours : AreOurs m t) where
-  seats_ours : AllByRecursion (IsSeatOurs m) t.seats
-  seats_ours = all_both (IsSeatWritten m) IsSeatLegible (IsSeatOurs m) (λ s a b. (a, b)) t.seats ours.written.seats ours.legible.seats
+  seats_ours : AllByRecursion IsSeatOurs t.seats
+  seats_ours = all_both IsSeatWritten IsSeatLegible IsSeatOurs (λ s a b. (a, b)) t.seats ours.written.seats ours.legible.seats
 
-  pub seat_found_readable : (name power : List ℕ) (row : Row) → Some row ≡ option_map show_seat (find (is_seat name power) t.seats) → IsSeatReadable m row 0
-  seat_found_readable name power row shown = found_as (IsSeatOurs m) (λ r. IsSeatReadable m r 0) show_seat (is_seat name power) (seat_readable m ours.map) t.seats row seats_ours shown
+  pub seat_found_readable : (name power : List ℕ) (row : Row) → Some row ≡ option_map show_seat (find (is_seat name power) t.seats) → IsSeatReadable row 0
+  seat_found_readable name power row shown = found_as IsSeatOurs (λ r. IsSeatReadable r 0) show_seat (is_seat name power) seat_readable t.seats row seats_ours shown
 
   pub seats_readable : (name : List ℕ) (rows : List Row) → rows ≡ map show_listed (filter (is_seat_in name) t.seats) → AllByRecursion (IsListedReadable m) rows
   seats_readable name rows is =
-      listed_as (λ s. IsSeatOf m s × IsSeatOurs m s) (IsListedReadable m) show_listed (is_seat_in name) (seat_listed m t ours) t.seats rows
-      (all_both (IsSeatOf m) (IsSeatOurs m) (λ s. IsSeatOf m s × IsSeatOurs m s) (λ s a b. (a, b)) t.seats ours.coded.seats seats_ours) is
+      listed_as (λ s. IsSeatOf m s × IsSeatOurs s) (IsListedReadable m) show_listed (is_seat_in name) (seat_listed m t ours) t.seats rows
+      (all_both (IsSeatOf m) IsSeatOurs (λ s. IsSeatOf m s × IsSeatOurs s) (λ s a b. (a, b)) t.seats ours.coded.seats seats_ours) is
 
   order_readable : (p : PendingRow) → IsOrderWritten m p × IsOrderLegible p → IsOrderReadable m (show_order p)
   order_readable p it =
@@ -199,3 +196,11 @@ desk_there m t coded is =
     let first : find is_first (d ∷ []) ≡ Some d = rw coded.desk.2 refl in
     let bad : None ≡ Some (show_desk d) = is ∙ ap (λ ds. option_map show_desk (find is_first ds)) coded.desk.1 ∙ ap (option_map show_desk) first in
     cc
+
+  ballots_readable : AllByRecursion (λ b. IsBallotReadable m (show_ballot b)) t.ballots
+  ballots_readable =
+      all_weaker (λ b. IsBallotText m b.names) (λ b. IsBallotReadable m (show_ballot b))
+      (λ b it. record { text = has_text (show_ballot b) 0 b.names (omega arith) refl (subst IsText (sym it.2) (ballot_is_text m ours.map it.0 it.1)); vote = it }) t.ballots ours.written.ballots
+
+  pub ballot_found_readable : (name power : List ℕ) (row : Row) → Some row ≡ option_map show_ballot (find (is_ballot name power) t.ballots) → IsBallotReadable m row
+  ballot_found_readable name power row shown = found_as (λ b. IsBallotReadable m (show_ballot b)) (IsBallotReadable m) show_ballot (is_ballot name power) (λ b it. it) t.ballots row ballots_readable shown

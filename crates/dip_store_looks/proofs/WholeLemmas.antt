@@ -11,28 +11,30 @@ use Rattle.dip_store_sql.specs.TablesAfter.{is_first}
 use Rattle.dip_store_tables.specs.Coding.{AreCoded}
 use Rattle.dip_store_tables.specs.Reading.{desk_of, own_of, pending_of, public_of, state_of}
 use Rattle.dip_store_tables.specs.Tables.{GameRow, PendingRow, SeatRow, Tables, is_named, is_pending, is_seat_in}
+use Rattle.dip_store_tables.specs.Votes.{vote_in}
 use Rattle.dip_store_looks.specs.Asked.{whole_in}
 use Rattle.dip_store_looks.specs.Shown.{listed_own, shown_desk}
 use Rattle.dip_store_looks.proofs.OwnLemmas.{orders_shown}
 use Rattle.dip_store_looks.proofs.PublicLemmas.{found_named}
 
 module _ (m : Chart) where
-  own_listed : (pending : List PendingRow) (name : List ℕ) (s : SeatRow) → s.game ≡ name → listed_own m pending name (show_listed s) ≡ own_of m pending s
-  own_listed pending name s named =
-      let mine = orders_shown m (filter (is_pending name s.power) pending) ∙ ap (λ n. pending_of m pending n s.power) (sym named) in
-      ap (λ p. record (own_of m pending s) { pending = p }) mine
+  own_listed : (t : Tables) (name : List ℕ) (s : SeatRow) → s.game ≡ name → listed_own m t name (show_listed s) ≡ own_of m t.pending t.ballots s
+  own_listed t name s named =
+      let mine = orders_shown m (filter (is_pending name s.power) t.pending) ∙ ap (λ n. pending_of m t.pending n s.power) (sym named) in
+      let votes : vote_in m t.ballots name s.power ≡ vote_in m t.ballots s.game s.power = ap (λ n. vote_in m t.ballots n s.power) (sym named) in
+      λ i. record (own_of m t.pending t.ballots s) { vote = votes i; pending = mine i }
 
-  owns_listed : (pending : List PendingRow) (name : List ℕ) (ss : List SeatRow)
-      → map (listed_own m pending name) (map show_listed (filter (is_seat_in name) ss)) ≡ map (own_of m pending) (filter (is_seat_in name) ss)
-  owns_listed pending name [] = refl
-  owns_listed pending name (s ∷ ss) = elim (cases_Bool (is_seat_in name s)) [
-    | inl hit ↦ rw hit (ap₂ ◌∷◌ (own_listed pending name s ((bytes_eq-Decides s.game name).0 hit)) (owns_listed pending name ss))
-    | inr off ↦ rw off (owns_listed pending name ss)
+  owns_listed : (t : Tables) (name : List ℕ) (ss : List SeatRow)
+      → map (listed_own m t name) (map show_listed (filter (is_seat_in name) ss)) ≡ map (own_of m t.pending t.ballots) (filter (is_seat_in name) ss)
+  owns_listed t name [] = refl
+  owns_listed t name (s ∷ ss) = elim (cases_Bool (is_seat_in name s)) [
+    | inl hit ↦ rw hit (ap₂ ◌∷◌ (own_listed t name s ((bytes_eq-Decides s.game name).0 hit)) (owns_listed t name ss))
+    | inr off ↦ rw off (owns_listed t name ss)
   ]
 
   pub whole_is : (t : Tables) (name : List ℕ) (public : Public) (owns : List Own) (seats : List Row)
       → Some public ≡ option_map (public_of m t.units t.centres) (find (is_named name) t.games)
-      → owns ≡ map (listed_own m t.pending name) seats → seats ≡ map show_listed (filter (is_seat_in name) t.seats)
+      → owns ≡ map (listed_own m t name) seats → seats ≡ map show_listed (filter (is_seat_in name) t.seats)
       → Some (record { public = public; seats = owns }) ≡ option_map (whole_in m t) (find (is_named name) t.games)
   whole_is t name public owns seats told read listed = by_game (find (is_named name) t.games) refl
     where
@@ -41,7 +43,7 @@ module _ (m : Chart) where
       by_game (Some g) found =
           let same : public ≡ public_of m t.units t.centres g = (let both = told ∙ ap (option_map (public_of m t.units t.centres)) found in cc) in
           let named = found_named m name t.games g found in
-          let mine = read ∙ ap (map (listed_own m t.pending name)) listed ∙ owns_listed t.pending name t.seats ∙ ap (λ n. map (own_of m t.pending) (filter (is_seat_in n) t.seats)) (sym named) in
+          let mine = read ∙ ap (map (listed_own m t name)) listed ∙ owns_listed t name t.seats ∙ ap (λ n. map (own_of m t.pending t.ballots) (filter (is_seat_in n) t.seats)) (sym named) in
           ap₂ (λ p os. Some (record { public = p; seats = os })) same mine ∙ sym (ap (option_map (whole_in m t)) found)
 
   pub desk_is : (t : Tables) (row : Row) → AreCoded m t → Some row ≡ option_map show_desk (find is_first t.desk) → shown_desk row ≡ (state_of m t).desk

@@ -19,7 +19,7 @@ page_in boxes first most s =
 abbrev pub whole_in : Chart → Tables → GameRow → Whole
 whole_in m t g = record {
   public = public_of m t.units t.centres g;
-  seats = map (own_of m t.pending) (filter (is_seat_in g.name) t.seats);
+  seats = map (own_of m t.pending t.ballots) (filter (is_seat_in g.name) t.seats);
 }
 
 -- a call that is made behind one that read and went well: what both come to

@@ -8,7 +8,7 @@ use Rattle.dip_store_tables.specs.Boards.{code, power_name}
 use Rattle.dip_store_tables.specs.WrittenBoards.{AreOfBoard}
 use Rattle.dip_map.specs.Charts.{Chart}
 use Rattle.dip_store_tables.specs.Columns.{IsPrinted, IsStatusText}
-use Rattle.dip_store_tables.specs.Votes.{IsVoteNumber}
+use Rattle.dip_store_tables.specs.Votes.{IsBallotText}
 use Rattle.dip_store_sql.specs.Rows.{number_in}
 use Rattle.dip_store_looks.specs.Shown.{shown_centre, shown_unit}
 
@@ -87,10 +87,8 @@ pub record IsOrderReadable (m : Chart) (r : Row) : Type 0 where
   pub line : HasText r 1
 
 -- a seat, from a column on
-pub record IsSeatReadable (m : Chart) (r : Row) (at : ℕ) : Type 0 where
+pub record IsSeatReadable (r : Row) (at : ℕ) : Type 0 where
   pub digest : HasDigest r at
-  pub vote : HasNumber r (at + 1)
-  pub votes : IsVoteNumber m (number_in (column r (at + 1)))
   pub kept : IsKeptReadable r (at + 2)
   pub sent : HasNumber r (at + 5)
   pub items : HasNumber r (at + 6)
@@ -101,7 +99,12 @@ pub record IsListedReadable (m : Chart) (r : Row) : Type 0 where
   pub number : ℕ
   pub low : number < length m.realms
   pub of_map : bytes (column r 0) ≡ power_name m number
-  pub seat : IsSeatReadable m r 1
+  pub seat : IsSeatReadable r 1
+
+-- a ballot whose text is that of a vote of the map
+pub record IsBallotReadable (m : Chart) (r : Row) : Type 0 where
+  pub text : HasText r 0
+  pub vote : IsBallotText m (bytes (column r 0))
 
 pub record IsItemReadable (r : Row) : Type 0 where
   pub grey : HasNumber r 0

@@ -1,15 +1,17 @@
 -- Rows as the queries show them, read back as records; what a query doesn't show is left empty.
-use Rattle.std.specs.Prelude.{ℕ, ◌+◌, ◌==◌, List, [], filter, map}
+use Rattle.dip_store_looks.specs.declared.own.Beside.{Beside}
+use Rattle.std.specs.Prelude.{◌≡◌, ℕ, ◌+◌, ◌==◌, List, [], filter, map}
 use Rattle.sqlite.specs.Order.{Row, column, bytes}
 use Rattle.dip_map.specs.Charts.{Chart}
 use Rattle.dip_store_tables.specs.Boards.{UnitRow, CentreRow, board_of, power_in}
 use Rattle.dip_desk_state.specs.State.{Desk}
-use Rattle.dip_desk_state.specs.Records.{Public, Own}
+use Rattle.dip_desk_state.specs.Records.{Public, Own, Vote}
+use Rattle.dip_desk_state.specs.Rows as rows
 use Rattle.dip_store_sql.specs.Rows.{number_in}
 use Rattle.dip_store_sql.specs.Showing.{show_order}
 use Rattle.dip_store_tables.specs.Reading.{kept_of, standing_of, status_of}
-use Rattle.dip_store_tables.specs.Tables.{BoxRow, PendingRow, is_pending}
-use Rattle.dip_store_tables.specs.Votes.{vote_of}
+use Rattle.dip_store_tables.specs.Tables.{BoxRow, PendingRow, Tables, is_pending}
+use Rattle.dip_store_tables.specs.Votes.{vote_in}
 
 abbrev pub shown_unit : Row → UnitRow
 shown_unit r = record {
@@ -41,12 +43,12 @@ shown_public m name r units centres = record {
 abbrev pub shown_order : Row → PendingRow
 shown_order r = record { game = []; power = []; province = bytes (column r 0); line = bytes (column r 1) }
 
--- the own part of a power's seat that its row, from a column on, and the rows of its orders show
-abbrev pub shown_own : Chart → ℕ → ℕ → Row → List Row → Own
-shown_own m power at r orders = record {
+-- the own part of a power's seat with this vote that its row, from a column on, and the rows of its orders show
+abbrev pub shown_own : Chart → ℕ → Vote → ℕ → Row → List Row → Own
+shown_own m power vote at r orders = record {
   power = power;
   digest = bytes (column r at);
-  vote = vote_of (number_in (column r (at + 1)));
+  vote = vote;
   pending = map (λ o. standing_of m (shown_order o)) orders;
   kept = kept_of (number_in (column r (at + 2))) (bytes (column r (at + 3))) (bytes (column r (at + 4)));
   sent = number_in (column r (at + 5));
@@ -54,9 +56,10 @@ shown_own m power at r orders = record {
 }
 
 -- and that of a seat whose row begins with its power's name, in a game of that name
-abbrev pub listed_own : Chart → List PendingRow → List ℕ → Row → Own
-listed_own m pending game r =
-    shown_own m (power_in m (bytes (column r 0))) 1 r (map show_order (filter (is_pending game (bytes (column r 0))) pending))
+abbrev pub listed_own : Chart → Tables → List ℕ → Row → Own
+listed_own m t game r =
+    let name = bytes (column r 0) in
+    shown_own m (power_in m name) (vote_in m t.ballots game name) 1 r (map show_order (filter (is_pending game name) t.pending))
 
 -- an item, without its game, its power and its number
 abbrev pub shown_item : Row → BoxRow
@@ -76,3 +79,8 @@ shown_desk r = record {
   digest = bytes (column r 2);
   kept = kept_of (number_in (column r 3)) (bytes (column r 4)) (bytes (column r 5));
 }
+
+-- what a seat has beside its row: its vote, and the rows of its orders
+pub record IsBeside (m : Chart) (t : Tables) (game power : List ℕ) (b : Beside) : Type 0 where
+  pub vote : rows.vote b.vote ≡ vote_in m t.ballots game power
+  pub orders : b.orders.items ≡ map show_order (filter (is_pending game power) t.pending)

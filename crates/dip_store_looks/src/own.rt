@@ -1,19 +1,18 @@
 //! A seat's own part.
 ghost use Rattle.std.specs.Prelude.{◌≡◌, ◌<◌, IfErr, IfOk, length, map as each, option_map};
-ghost use Rattle.sqlite.specs.Order.{column};
+ghost use Rattle.sqlite.specs.Order.{bytes, column};
 ghost use Rattle.std.specs.List.{AllByRecursion, find};
 ghost use Rattle.dip_store_tables.specs.Boards.{power_name};
 ghost use Rattle.dip_store_looks.specs.Faults.{IsFromOutside};
-ghost use Rattle.dip_store_looks.specs.Readable.{HasNumber, IsOrderReadable, IsSeatReadable};
-ghost use Rattle.dip_store_looks.specs.Shown.{shown_order, shown_own};
+ghost use Rattle.dip_store_looks.specs.Readable.{IsBallotReadable, IsOrderReadable, IsSeatReadable};
+ghost use Rattle.dip_store_looks.specs.Shown.{IsBeside, shown_order, shown_own};
 ghost use Rattle.dip_store_tables.specs.Legible.{AreOurs};
 ghost use Rattle.dip_desk_state.specs.Rows as rows;
 ghost use Rattle.dip_store_sql.specs.Causes.{has_faulted};
 ghost use Rattle.dip_store_sql.specs.Calls.{IsKept, Selects, does_show, is_honest, tables_in};
 ghost use Rattle.dip_store_tables.specs.Reading.{own_of, standing_of};
 ghost use Rattle.dip_store_tables.specs.Tables.{is_seat};
-ghost use Rattle.dip_store_tables.specs.Votes.{IsVoteNumber, vote_of};
-ghost use Rattle.dip_store_sql.specs.Rows.{number_in};
+ghost use Rattle.dip_store_tables.specs.Votes.{vote_in, vote_of};
 
 use crate::faults::LookFault;
 use crate::letters::{digest_in, kept_in};
@@ -21,7 +20,7 @@ use crate::values::{number_at, text_at};
 use dip_desk_state::{Own, Standing, Vote};
 use dip_map::Map;
 use dip_names::Power;
-use dip_store_sql::{find_seat, list_orders};
+use dip_store_sql::{find_ballot, find_seat, list_orders};
 use dip_store_tables::read_vote;
 use sqlite::{Alter, Connection, Row};
 use std::alloc::Global;
@@ -55,18 +54,66 @@ fn standings_in(alloc: Global, map: &Map, orders: &[Row]) -> Result<Vec<Standing
     Ok(standings)
 }
 
-/// What the seat votes for, by the number in a column.
-fn vote_in(alloc: Global, map: &Map, row: &Row, at: usize) -> Result<Vote, LookFault>
-    ensures value { IfOk result (λ v.
-        rows.vote v ≡ vote_of (number_in (column row.now at))) }
-    ensures own { HasNumber row.now at → IsVoteNumber map.now (number_in (column row.now at))
-        → IfErr result (IsFromOutside ⊥) }
+/// What a ballot's row says.
+fn vote_on(alloc: Global, map: &Map, row: &Row) -> Result<Vote, LookFault>
+    ensures value { IfOk result (λ v. rows.vote v ≡ vote_of map.now (bytes (column row.now 0))) }
+    ensures own { IsBallotReadable map.now row.now → IfErr result (IsFromOutside ⊥) }
 {
-    let number = number_at(row, at)?;
-    match read_vote(alloc, map, number)? {
+    let names = text_at(row, 0)?;
+    match read_vote(alloc, map, names.as_str())? {
         Some(vote) => Ok(vote),
         None => Err(LookFault::Foreign),
     }
+}
+
+/// What a seat votes for, by its game and its power's name; no draw where it has no ballot.
+fn look_vote<S: Alter>(
+    conn: &mut Connection<S>,
+    alloc: Global,
+    map: &Map,
+    game: &str,
+    power: &str,
+) -> Result<Vote, LookFault>
+    ensures value { IsKept S.Store conn.old → is_honest S.Store conn.new → IfOk result (λ v.
+        rows.vote v ≡ vote_in map.now (tables_in S.Store conn.old).ballots game.now power.now) }
+    ensures selects { Selects S.Store conn.old conn.new result }
+    ensures own { IsKept S.Store conn.old → does_show S.Store conn.old → is_honest S.Store conn.new
+        → AreOurs map.now (tables_in S.Store conn.old)
+        → IfErr result (IsFromOutside (has_faulted S.Store conn.old conn.new)) }
+{
+    match find_ballot(conn, game, power)? {
+        Some(row) => vote_on(alloc, map, &row),
+        None => Ok(Vote::No),
+    }
+}
+
+/// What a seat has beside its row.
+#[derive(Drop)]
+pub(crate) struct Beside {
+    /// What it votes for.
+    pub vote: Vote,
+    /// The rows of its orders.
+    pub orders: Vec<Row>,
+}
+
+/// What a seat has beside its row, by its game and its power's name.
+pub(crate) fn look_beside<S: Alter>(
+    conn: &mut Connection<S>,
+    alloc: Global,
+    map: &Map,
+    game: &str,
+    power: &str,
+) -> Result<Beside, LookFault>
+    ensures value { IsKept S.Store conn.old → is_honest S.Store conn.new → IfOk result (λ b.
+        IsBeside map.now (tables_in S.Store conn.old) game.now power.now b) }
+    ensures selects { Selects S.Store conn.old conn.new result }
+    ensures own { IsKept S.Store conn.old → does_show S.Store conn.old → is_honest S.Store conn.new
+        → AreOurs map.now (tables_in S.Store conn.old)
+        → IfErr result (IsFromOutside (has_faulted S.Store conn.old conn.new)) }
+{
+    let orders = list_orders(conn, game, power)?;
+    let vote = look_vote(conn, alloc, map, game, power)?;
+    Ok(Beside { vote, orders })
 }
 
 /// The own part that a seat's row, from a column on, and the rows of its orders show.
@@ -76,19 +123,19 @@ pub(crate) fn own_in(
     power: Power,
     row: &Row,
     at: usize,
-    orders: &[Row],
+    beside: Beside,
 ) -> Result<Own, LookFault>
     requires { at < 2 }
-    ensures value { IfOk result (λ o. rows.own o ≡ shown_own map.now power at row.now orders.now) }
-    ensures own { IsSeatReadable map.now row.now at → AllByRecursion (IsOrderReadable map.now) orders.now
+    ensures value { IfOk result (λ o. rows.own o ≡ shown_own map.now power (rows.vote beside.vote) at row.now beside.orders.items) }
+    ensures own { IsSeatReadable row.now at → AllByRecursion (IsOrderReadable map.now) beside.orders.items
         → IfErr result (IsFromOutside ⊥) }
 {
-    let vote = vote_in(alloc, map, row, at + 1)?;
+    let Beside { vote, orders } = beside;
     Ok(Own {
         power,
         digest: digest_in(row, at)?,
         vote,
-        pending: standings_in(alloc, map, orders)?,
+        pending: standings_in(alloc, map, orders.as_slice())?,
         kept: kept_in(alloc, row, at + 2)?,
         sent: number_at(row, at + 5)?,
         items: number_at(row, at + 6)?,
@@ -108,8 +155,8 @@ pub fn look_own<S: Alter>(
 ) -> Result<Option<Own>, LookFault>
     requires { power < length map.now.realms }
     ensures value { IsKept S.Store conn.old → is_honest S.Store conn.new → IfOk result (λ o.
-        option_map rows.own o
-        ≡ option_map (own_of map.now (tables_in S.Store conn.old).pending)
+        option_map rows.own o ≡ option_map (own_of map.now (tables_in S.Store conn.old).pending
+        (tables_in S.Store conn.old).ballots)
         (find (is_seat game.now (power_name map.now power)) (tables_in S.Store conn.old).seats)) }
     ensures selects { Selects S.Store conn.old conn.new result }
     ensures own { IsKept S.Store conn.old → does_show S.Store conn.old → is_honest S.Store conn.new
@@ -121,7 +168,7 @@ pub fn look_own<S: Alter>(
     let Some(row) = find_seat(conn, game, name)? else {
         return Ok(None);
     };
-    let orders = list_orders(conn, game, name)?;
-    let own = own_in(alloc, map, power, &row, 0, orders.as_slice())?;
+    let beside = look_beside(conn, alloc, map, game, name)?;
+    let own = own_in(alloc, map, power, &row, 0, beside)?;
     Ok(Some(own))
 }

@@ -12,12 +12,12 @@ ghost use Rattle.dip_store_sql.specs.Calls.{IsKept, Selects, does_show, is_hones
 ghost use Rattle.dip_store_tables.specs.Tables.{is_named};
 
 use crate::faults::LookFault;
-use crate::own::own_in;
+use crate::own::{look_beside, own_in};
 use crate::public::look_public;
 use crate::values::text_at;
 use dip_desk_state::{Own, Whole};
 use dip_map::Map;
-use dip_store_sql::{list_orders, list_seats};
+use dip_store_sql::list_seats;
 use sqlite::{Alter, Connection, Row};
 use std::alloc::Global;
 
@@ -31,7 +31,7 @@ fn own_of<S: Alter>(
 ) -> Result<Own, LookFault>
     ensures value { IsKept S.Store conn.old → is_honest S.Store conn.new → IfOk result (λ o.
         rows.own o
-        ≡ listed_own map.now (tables_in S.Store conn.old).pending game.now row.now) }
+        ≡ listed_own map.now (tables_in S.Store conn.old) game.now row.now) }
     ensures selects { Selects S.Store conn.old conn.new result }
     ensures own { IsKept S.Store conn.old → does_show S.Store conn.old → is_honest S.Store conn.new
         → AreOurs map.now (tables_in S.Store conn.old) → IsListedReadable map.now row.now
@@ -42,8 +42,8 @@ fn own_of<S: Alter>(
     let Some(power) = map.power(name.as_str()) else {
         return Err(LookFault::Foreign);
     };
-    let orders = list_orders(conn, game, name.as_str())?;
-    own_in(alloc, map, power, row, 1, orders.as_slice())
+    let beside = look_beside(conn, alloc, map, game, name.as_str())?;
+    own_in(alloc, map, power, row, 1, beside)
 }
 
 fn owns_of<S: Alter>(
@@ -55,7 +55,7 @@ fn owns_of<S: Alter>(
 ) -> Result<Vec<Own>, LookFault>
     ensures value { IsKept S.Store conn.old → is_honest S.Store conn.new → IfOk result (λ v.
         each rows.own v.items
-        ≡ each (listed_own map.now (tables_in S.Store conn.old).pending game.now) seats.now) }
+        ≡ each (listed_own map.now (tables_in S.Store conn.old) game.now) seats.now) }
     ensures selects { SelectsOn S.Store conn.old conn.new result }
     ensures own { IsKept S.Store conn.old → does_show S.Store conn.old → is_honest S.Store conn.new
         → AreOurs map.now (tables_in S.Store conn.old)

@@ -10,10 +10,10 @@ use Rattle.sqlite.specs.Effect.{Database}
 use Rattle.dip_store_sql.specs.Recorded.{AtMostOne}
 use Rattle.dip_store_sql.proofs.Keys.{apart_in, at_most_one}
 use Rattle.dip_store_sql.proofs.Tests.{text_test, number_test, and_true}
-use Rattle.dip_store_sql.specs.Schema.{our_schema, desk_table, game_table, seat_table, box_table, paper_table}
-use Rattle.dip_store_tables.specs.Tables.{DeskRow, SeatRow, BoxRow, PaperRow, is_named, is_seat}
+use Rattle.dip_store_sql.specs.Schema.{our_schema, desk_table, game_table, seat_table, box_table, paper_table, ballot_table}
+use Rattle.dip_store_tables.specs.Tables.{DeskRow, SeatRow, BoxRow, PaperRow, BallotRow, is_ballot, is_named, is_seat}
 use Rattle.dip_store_tables.specs.Coding.{same_name, same_seat, AreApart}
-use Rattle.dip_store_sql.specs.Rows.{tables_of, put_desk, take_desk, put_game, take_game, put_seat, take_seat, put_box, take_box, put_paper, take_paper}
+use Rattle.dip_store_sql.specs.Rows.{tables_of, put_desk, take_desk, put_game, take_game, put_seat, take_seat, put_box, take_box, put_paper, take_paper, put_ballot, take_ballot}
 use Rattle.dip_store_sql.specs.Good.{IsGood}
 use Rattle.dip_store_sql.specs.Showing.{is_item, is_numbered}
 use Rattle.dip_store_sql.specs.TablesAfter.{is_first}
@@ -32,6 +32,9 @@ same_item a b = is_item b.game b.power b.number a
 
 abbrev same_paper : PaperRow → PaperRow → Bool
 same_paper a b = is_numbered b.game b.number a
+
+abbrev same_ballot : BallotRow → BallotRow → Bool
+same_ballot a b = is_ballot b.game b.power a
 
 module _ (db : Database) (good : IsGood db) where
   desk_apart : IsAscending (λ a b. same_id a b ≡ false) (map take_desk (db.trees 0))
@@ -64,6 +67,12 @@ module _ (db : Database) (good : IsGood db) where
       (λ v w a b. ap₂ (λ x y. x && (y && true)) (text_test a.game b.game) (number_test a.number b.number) ∙ and_both (bytes_eq a.game b.game) (a.number == b.number))
       (inr (inr (inr (inr (inr (inr (inr (inl refl)))))))) refl db.trees (subst (λ s. IsSound s db.trees) good.schema good.sound) good.papers
 
+  ballots_apart : IsAscending (λ a b. same_ballot a b ≡ false) (map take_ballot (db.trees 16))
+  unfolding first_key
+  ballots_apart = apart_in put_ballot take_ballot (1 ∷ 2 ∷ []) same_ballot our_schema ballot_table
+      (λ v w a b. ap₂ (λ x y. x && (y && true)) (text_test a.game b.game) (text_test a.power b.power) ∙ and_both (bytes_eq a.game b.game) (bytes_eq a.power b.power))
+      (inr (inr (inr (inr (inr (inr (inr (inr (inl refl))))))))) refl db.trees (subst (λ s. IsSound s db.trees) good.schema good.sound) good.ballots
+
   -- no two games have one name, and no two seats of a game one power
   pub are_apart : AreApart (tables_of db.trees)
   are_apart = record { games = games_apart; seats = seats_apart }
@@ -88,6 +97,12 @@ module _ (db : Database) (good : IsGood db) where
   one_seat game power = at_most_one same_seat (is_seat game power) tied (map take_seat (db.trees 4)) (seats_apart db good)
     where
       tied : (a b : SeatRow) → is_seat game power a ≡ true → is_seat game power b ≡ true → same_seat a b ≡ true
+      tied a b h k = let x = and_parts _ _ h in let y = and_parts _ _ k in both_true _ _ (alike a.game b.game game x.0 y.0) (alike a.power b.power power x.1 y.1)
+
+  pub one_ballot : (game power : List ℕ) → AtMostOne (is_ballot game power) (map take_ballot (db.trees 16))
+  one_ballot game power = at_most_one same_ballot (is_ballot game power) tied (map take_ballot (db.trees 16)) (ballots_apart db good)
+    where
+      tied : (a b : BallotRow) → is_ballot game power a ≡ true → is_ballot game power b ≡ true → same_ballot a b ≡ true
       tied a b h k = let x = and_parts _ _ h in let y = and_parts _ _ k in both_true _ _ (alike a.game b.game game x.0 y.0) (alike a.power b.power power x.1 y.1)
 
   pub one_item : (game power : List ℕ) (number : ℕ) → AtMostOne (is_item game power number) (map take_box (db.trees 12))

@@ -38,6 +38,14 @@ pub add_paper : IsAsked (length text.add_paper_text) 3 (understood our_schema te
 unfolding understood everything
 add_paper = (refl, refl)
 
+pub add_ballot : IsAsked (length text.add_ballot_text) 3 (understood our_schema text.add_ballot_text)
+unfolding understood everything
+add_ballot = (refl, refl)
+
+pub add_choice : IsAsked (length text.add_choice_text) 1 (understood our_schema text.add_choice_text)
+unfolding understood everything
+add_choice = (refl, refl)
+
 pub drop_seats : IsAsked (length text.drop_seats_text) 1 (understood our_schema text.drop_seats_text)
 unfolding understood everything
 drop_seats = (refl, refl)
@@ -66,6 +74,14 @@ pub drop_papers : IsAsked (length text.drop_papers_text) 1 (understood our_schem
 unfolding understood everything
 drop_papers = (refl, refl)
 
+pub drop_ballots : IsAsked (length text.drop_ballots_text) 1 (understood our_schema text.drop_ballots_text)
+unfolding understood everything
+drop_ballots = (refl, refl)
+
+pub drop_choices : IsAsked (length text.drop_choices_text) 1 (understood our_schema text.drop_choices_text)
+unfolding understood everything
+drop_choices = (refl, refl)
+
 pub note_desk : IsAsked (length text.note_desk_text) 3 (understood our_schema text.note_desk_text)
 unfolding understood everything
 note_desk = (refl, refl)
@@ -74,9 +90,17 @@ pub note_seat : IsAsked (length text.note_seat_text) 5 (understood our_schema te
 unfolding understood everything
 note_seat = (refl, refl)
 
-pub note_vote : IsAsked (length text.note_vote_text) 6 (understood our_schema text.note_vote_text)
+pub note_ballot : IsAsked (length text.note_ballot_text) 3 (understood our_schema text.note_ballot_text)
 unfolding understood everything
-note_vote = (refl, refl)
+note_ballot = (refl, refl)
+
+pub clear_vote : IsAsked (length text.clear_vote_text) 2 (understood our_schema text.clear_vote_text)
+unfolding understood everything
+clear_vote = (refl, refl)
+
+pub set_version : IsAsked (length text.set_version_text) 0 (understood our_schema text.set_version_text)
+unfolding understood everything
+set_version = (refl, refl)
 
 pub note_sent : IsAsked (length text.note_sent_text) 6 (understood our_schema text.note_sent_text)
 unfolding understood everything

@@ -2,10 +2,10 @@
 use Rattle.std.proofs.Common.{◌≡◌, pos, refl}
 use Rattle.sqlite.specs.Cast.{cast_all}
 use Rattle.dip_store_sql.proofs.Changes.{cast_int}
-use Rattle.dip_store_sql.specs.Schema.{desk_table, game_table, seat_table, unit_table, centre_table, pending_table, box_table, paper_table}
+use Rattle.dip_store_sql.specs.Schema.{desk_table, game_table, seat_table, unit_table, centre_table, pending_table, box_table, paper_table, ballot_table, choice_table}
 use Rattle.dip_store_tables.specs.Boards.{UnitRow, CentreRow}
-use Rattle.dip_store_tables.specs.Tables.{DeskRow, GameRow, SeatRow, PendingRow, BoxRow, PaperRow}
-use Rattle.dip_store_sql.specs.Rows.{put_desk, put_game, put_seat, put_unit, put_centre, put_pending, put_box, put_paper}
+use Rattle.dip_store_tables.specs.Tables.{DeskRow, GameRow, SeatRow, PendingRow, BoxRow, PaperRow, BallotRow, ChoiceRow}
+use Rattle.dip_store_sql.specs.Rows.{put_desk, put_game, put_seat, put_unit, put_centre, put_pending, put_box, put_paper, put_ballot, put_choice}
 
 pub cast_desk : (d : DeskRow) → cast_all desk_table.columns (put_desk d) ≡ put_desk d
 cast_desk d = rw (cast_int (pos d.id), cast_int (pos d.version), cast_int (pos d.last)) refl
@@ -30,3 +30,9 @@ cast_box b = rw (cast_int (pos b.number), cast_int (pos b.grey)) refl
 
 pub cast_paper : (p : PaperRow) → cast_all paper_table.columns (put_paper p) ≡ put_paper p
 cast_paper p = rw (cast_int (pos p.number)) refl
+
+pub cast_ballot : (b : BallotRow) → cast_all ballot_table.columns (put_ballot b) ≡ put_ballot b
+cast_ballot b = refl
+
+pub cast_choice : (c : ChoiceRow) → cast_all choice_table.columns (put_choice c) ≡ put_choice c
+cast_choice c = rw (cast_int (pos c.intent)) refl

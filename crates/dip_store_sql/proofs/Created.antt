@@ -11,9 +11,9 @@ use Rattle.sqlite.proofs.Callers.{IsPlain, command_of, statement_of}
 use Rattle.sqlite_tied.specs.Compute.{everything}
 use Rattle.dip_store_sql.specs.NewTables.{IsBare}
 use Rattle.dip_store_sql.proofs.Creating.{bare_more}
-use Rattle.dip_store_sql.specs.Schema.{our_schema, desk_table, game_table, seat_table, unit_table, centre_table, pending_table, box_table, paper_table}
-use Rattle.dip_store_sql.specs.Creating.{no_schema, schema_with, create_desk, create_game, create_seat, create_unit, create_centre, create_pending, create_box, create_paper}
-use Rattle.dip_store_sql.proofs.Defined.{desk_defined, game_defined, seat_defined, unit_defined, centre_defined, pending_defined, box_defined, paper_defined}
+use Rattle.dip_store_sql.specs.Schema.{our_schema, desk_table, game_table, seat_table, unit_table, centre_table, pending_table, box_table, paper_table, ballot_table, choice_table}
+use Rattle.dip_store_sql.specs.Creating.{no_schema, schema_with, create_desk, create_game, create_seat, create_unit, create_centre, create_pending, create_box, create_paper, create_ballot, create_choice}
+use Rattle.dip_store_sql.proofs.Defined.{desk_defined, game_defined, seat_defined, unit_defined, centre_defined, pending_defined, box_defined, paper_defined, ballot_defined, choice_defined}
 
 -- the tables so far
 abbrev pub made : List Table → Schema
@@ -81,3 +81,17 @@ paper_makes = (refl, (refl, refl), refl)
 
 pub paper_made : (old new : State) (count : ℕ) → IsBare (made (desk_table ∷ game_table ∷ seat_table ∷ unit_table ∷ centre_table ∷ pending_table ∷ box_table ∷ [])) old.now → Executes create_paper [] old new (Ok count) → IsBare (made (desk_table ∷ game_table ∷ seat_table ∷ unit_table ∷ centre_table ∷ pending_table ∷ box_table ∷ paper_table ∷ [])) new.now × IsDatabase new.now
 paper_made old new count bare h = bare_more (made (desk_table ∷ game_table ∷ seat_table ∷ unit_table ∷ centre_table ∷ pending_table ∷ box_table ∷ [])) create_paper (record paper_table { tree = 0 }) paper_makes.0 paper_makes.1 paper_makes.2 paper_defined refl old new count bare h
+
+ballot_makes : Makes (made (desk_table ∷ game_table ∷ seat_table ∷ unit_table ∷ centre_table ∷ pending_table ∷ box_table ∷ paper_table ∷ [])) create_ballot
+unfolding understood everything
+ballot_makes = (refl, (refl, refl), refl)
+
+pub ballot_made : (old new : State) (count : ℕ) → IsBare (made (desk_table ∷ game_table ∷ seat_table ∷ unit_table ∷ centre_table ∷ pending_table ∷ box_table ∷ paper_table ∷ [])) old.now → Executes create_ballot [] old new (Ok count) → IsBare (made (desk_table ∷ game_table ∷ seat_table ∷ unit_table ∷ centre_table ∷ pending_table ∷ box_table ∷ paper_table ∷ ballot_table ∷ [])) new.now × IsDatabase new.now
+ballot_made old new count bare h = bare_more (made (desk_table ∷ game_table ∷ seat_table ∷ unit_table ∷ centre_table ∷ pending_table ∷ box_table ∷ paper_table ∷ [])) create_ballot (record ballot_table { tree = 0 }) ballot_makes.0 ballot_makes.1 ballot_makes.2 ballot_defined refl old new count bare h
+
+choice_makes : Makes (made (desk_table ∷ game_table ∷ seat_table ∷ unit_table ∷ centre_table ∷ pending_table ∷ box_table ∷ paper_table ∷ ballot_table ∷ [])) create_choice
+unfolding understood everything
+choice_makes = (refl, (refl, refl), refl)
+
+pub choice_made : (old new : State) (count : ℕ) → IsBare (made (desk_table ∷ game_table ∷ seat_table ∷ unit_table ∷ centre_table ∷ pending_table ∷ box_table ∷ paper_table ∷ ballot_table ∷ [])) old.now → Executes create_choice [] old new (Ok count) → IsBare (made (desk_table ∷ game_table ∷ seat_table ∷ unit_table ∷ centre_table ∷ pending_table ∷ box_table ∷ paper_table ∷ ballot_table ∷ choice_table ∷ [])) new.now × IsDatabase new.now
+choice_made old new count bare h = bare_more (made (desk_table ∷ game_table ∷ seat_table ∷ unit_table ∷ centre_table ∷ pending_table ∷ box_table ∷ paper_table ∷ ballot_table ∷ [])) create_choice (record choice_table { tree = 0 }) choice_makes.0 choice_makes.1 choice_makes.2 choice_defined refl old new count bare h

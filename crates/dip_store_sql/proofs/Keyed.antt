@@ -5,11 +5,11 @@ use Rattle.sqlite_value.specs.Keys.{first_key}
 use Rattle.sqlite_catalog.specs.Listing.{IsSound}
 use Rattle.dip_store_sql.proofs.Keys.{apart_in}
 use Rattle.dip_store_sql.proofs.Tests.{text_test, number_test, and_true}
-use Rattle.dip_store_sql.specs.Schema.{our_schema, desk_table, unit_table, centre_table, pending_table, box_table, paper_table}
+use Rattle.dip_store_sql.specs.Schema.{our_schema, desk_table, unit_table, centre_table, pending_table, box_table, paper_table, ballot_table, choice_table}
 use Rattle.dip_store_sql.specs.Good.{IsGood}
-use Rattle.dip_store_sql.specs.Rows.{tables_of, put_desk, take_desk, put_unit, take_unit, put_centre, take_centre, put_pending, take_pending, put_box, take_box, put_paper, take_paper}
+use Rattle.dip_store_sql.specs.Rows.{tables_of, put_desk, take_desk, put_unit, take_unit, put_centre, take_centre, put_pending, take_pending, put_box, take_box, put_paper, take_paper, put_ballot, take_ballot, put_choice, take_choice}
 use Rattle.dip_store_sql.proofs.Apart.{and_both, and_all, are_apart}
-use Rattle.dip_store_sql.specs.Keys.{AreKeyed, Differ, same_centre, same_desk, same_item, same_order, same_paper, same_unit}
+use Rattle.dip_store_sql.specs.Keys.{AreKeyed, Differ, same_ballot, same_centre, same_choice, same_desk, same_item, same_order, same_paper, same_unit}
 
 module _ (db : Database) (good : IsGood db) where
   desk_differ : Differ same_desk (map take_desk (db.trees 0))
@@ -48,6 +48,18 @@ module _ (db : Database) (good : IsGood db) where
       (λ v w a b. ap₂ (λ x y. x && (y && true)) (text_test a.game b.game) (number_test a.number b.number) ∙ and_both (bytes_eq a.game b.game) (a.number == b.number))
       (inr (inr (inr (inr (inr (inr (inr (inl refl)))))))) refl db.trees (subst (λ s. IsSound s db.trees) good.schema good.sound) good.papers
 
+  ballots_differ : Differ same_ballot (map take_ballot (db.trees 16))
+  unfolding first_key
+  ballots_differ = apart_in put_ballot take_ballot (1 ∷ 2 ∷ []) same_ballot our_schema ballot_table
+      (λ v w a b. ap₂ (λ x y. x && (y && true)) (text_test a.game b.game) (text_test a.power b.power) ∙ and_both (bytes_eq a.game b.game) (bytes_eq a.power b.power))
+      (inr (inr (inr (inr (inr (inr (inr (inr (inl refl))))))))) refl db.trees (subst (λ s. IsSound s db.trees) good.schema good.sound) good.ballots
+
+  choices_differ : Differ same_choice (map take_choice (db.trees 18))
+  unfolding first_key
+  choices_differ = apart_in put_choice take_choice (1 ∷ []) same_choice our_schema choice_table
+      (λ v w a b. ap (λ x. x && true) (text_test a.game b.game) ∙ and_true (bytes_eq a.game b.game))
+      (inr (inr (inr (inr (inr (inr (inr (inr (inr (inl refl)))))))))) refl db.trees (subst (λ s. IsSound s db.trees) good.schema good.sound) good.choices
+
   pub are_keyed : AreKeyed (tables_of db.trees)
   are_keyed = record {
     desk = desk_differ;
@@ -58,4 +70,6 @@ module _ (db : Database) (good : IsGood db) where
     pending = pending_differ;
     boxes = boxes_differ;
     papers = papers_differ;
+    ballots = ballots_differ;
+    choices = choices_differ;
   }

@@ -6,7 +6,7 @@ use Rattle.dip_store_sql.specs.NewTables.{IsBare}
 use Rattle.dip_store_sql.specs.Recorded.{IsRising}
 use Rattle.dip_store_sql.specs.Schema.{our_schema}
 use Rattle.dip_store_tables.specs.Writing.{new_tables}
-use Rattle.dip_store_sql.specs.Rows.{tables_of, put_desk, take_desk, put_game, take_game, put_seat, take_seat, put_unit, take_unit, put_centre, take_centre, put_pending, take_pending, put_box, take_box, put_paper, take_paper}
+use Rattle.dip_store_sql.specs.Rows.{tables_of, put_desk, take_desk, put_game, take_game, put_seat, take_seat, put_unit, take_unit, put_centre, take_centre, put_pending, take_pending, put_box, take_box, put_paper, take_paper, put_ballot, take_ballot, put_choice, take_choice}
 use Rattle.dip_store_sql.specs.Good.{IsGood}
 use Rattle.dip_store_sql.specs.TablesAfter.{no_tables, with_desk, new_desk}
 
@@ -23,7 +23,9 @@ bare_good db bare sound =
     let centres : db.trees 8 ≡ [] = bare.empty.1.1.1.1.0 in
     let pending : db.trees 10 ≡ [] = bare.empty.1.1.1.1.1.0 in
     let boxes : db.trees 12 ≡ [] = bare.empty.1.1.1.1.1.1.0 in
-    let papers : db.trees 14 ≡ [] = bare.empty.1.1.1.1.1.1.1.0 in (
+    let papers : db.trees 14 ≡ [] = bare.empty.1.1.1.1.1.1.1.0 in
+    let ballots : db.trees 16 ≡ [] = bare.empty.1.1.1.1.1.1.1.1.0 in
+    let choices : db.trees 18 ≡ [] = bare.empty.1.1.1.1.1.1.1.1.1.0 in (
       record {
         schema = bare.schema_is;
         sound = sound;
@@ -35,8 +37,10 @@ bare_good db bare sound =
         pending = no_rows put_pending take_pending _ pending;
         boxes = no_rows put_box take_box _ boxes;
         papers = no_rows put_paper take_paper _ papers;
+        ballots = no_rows put_ballot take_ballot _ ballots;
+        choices = no_rows put_choice take_choice _ choices;
       },
-      rw (desk, games, seats, units, centres, pending, boxes, papers) refl,
+      rw (desk, games, seats, units, centres, pending, boxes, papers, ballots, choices) refl,
     )
 
 -- with the master's row they are those of a new desk

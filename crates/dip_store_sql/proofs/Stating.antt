@@ -4,20 +4,21 @@ use Rattle.sqlite.specs.declared.types.Value.TheVariants.{Int, Text as Words, Bl
 use Rattle.sqlite.specs.State.{State, Executes}
 use Rattle.dip_store_sql.proofs.Statements.{inserted, updated, deleted}
 use Rattle.dip_store_sql.proofs.Changes.{insert_is, delete_is, update_is}
-use Rattle.dip_store_sql.specs.Schema.{our_schema, desk_table, game_table, seat_table, unit_table, centre_table, pending_table, box_table, paper_table}
+use Rattle.dip_store_sql.specs.Schema.{our_schema, desk_table, game_table, seat_table, unit_table, centre_table, pending_table, box_table, paper_table, ballot_table, choice_table}
 use Rattle.dip_store_sql.specs.Asking.{by_one, by_two, by_first}
 use Rattle.dip_store_sql.specs.Statements as text
 use Rattle.dip_store_sql.proofs.Texts as means
 use Rattle.dip_store_sql.proofs.Meaning.{commanded}
 use Rattle.dip_store_tables.specs.Boards.{UnitRow, CentreRow}
-use Rattle.dip_store_tables.specs.Tables.{GameRow, PendingRow, BoxRow, PaperRow, is_seat_in, is_unit_in, is_centre_in, is_pending_in, is_box_in, is_paper_in, is_named, is_seat, is_pending}
-use Rattle.dip_store_sql.specs.Rows.{tables_of, put_desk, take_desk, put_game, take_game, put_seat, take_seat, put_unit, take_unit, put_centre, take_centre, put_pending, take_pending, put_box, take_box, put_paper, take_paper}
+use Rattle.dip_store_tables.specs.Tables.{GameRow, PendingRow, BoxRow, PaperRow, BallotRow, is_ballot_in, is_choice_in, is_ballot, is_seat_in, is_unit_in, is_centre_in, is_pending_in, is_box_in, is_paper_in, is_named, is_seat, is_pending}
+use Rattle.dip_store_sql.specs.Rows.{tables_of, put_desk, take_desk, put_game, take_game, put_seat, take_seat, put_unit, take_unit, put_centre, take_centre, put_pending, take_pending, put_box, take_box, put_paper, take_paper, put_ballot, take_ballot, put_choice, take_choice}
+use Rattle.dip_store_tables.specs.Writing.{choice_row}
 use Rattle.dip_store_sql.specs.Good.{IsGood}
-use Rattle.dip_store_sql.specs.TablesAfter.{is_first, on_desk, on_game, on_seat, with_desk, with_game, with_seat, with_unit, with_centre, with_order, with_item, with_paper, no_seats, no_units, no_centres, no_pending, no_orders, no_items, no_papers, new_desk, new_seat, desk_with, seat_with, voting, sending, counting, secret_as, game_as}
-use Rattle.dip_store_sql.proofs.Turned.{desk_turned, game_turned, seat_turned, unit_turned, centre_turned, pending_turned, box_turned, paper_turned}
-use Rattle.dip_store_sql.proofs.Casting.{cast_desk, cast_game, cast_seat, cast_unit, cast_centre, cast_pending, cast_box, cast_paper}
-use Rattle.dip_store_sql.proofs.Apart.{one_desk, one_game, one_seat}
-use Rattle.dip_store_sql.proofs.Telling.{tells_desk, tells_game_in, tells_seat_in, tells_unit_in, tells_centre_in, tells_pending_in, tells_box_in, tells_paper_in, tells_seat, tells_pending}
+use Rattle.dip_store_sql.specs.TablesAfter.{is_first, on_desk, on_game, on_seat, with_desk, with_game, with_seat, with_unit, with_centre, with_order, with_item, with_paper, with_ballot, with_choice, on_ballot, named, second, voteless, no_ballots, no_choices, no_seats, no_units, no_centres, no_pending, no_orders, no_items, no_papers, new_desk, new_seat, desk_with, seat_with, sending, counting, secret_as, game_as}
+use Rattle.dip_store_sql.proofs.Turned.{desk_turned, game_turned, seat_turned, unit_turned, centre_turned, pending_turned, box_turned, paper_turned, ballot_turned, choice_turned}
+use Rattle.dip_store_sql.proofs.Casting.{cast_desk, cast_game, cast_seat, cast_unit, cast_centre, cast_pending, cast_box, cast_paper, cast_ballot, cast_choice}
+use Rattle.dip_store_sql.proofs.Apart.{one_ballot, one_desk, one_game, one_seat}
+use Rattle.dip_store_sql.proofs.Telling.{tells_desk, tells_game_in, tells_seat_in, tells_unit_in, tells_centre_in, tells_pending_in, tells_box_in, tells_paper_in, tells_ballot_in, tells_choice_in, tells_ballot, tells_seat, tells_pending}
 
 module _ (old new : State) (count : ℕ) (good : IsGood old.now) where
   pub add_desk : (map digest : List ℕ) → Executes text.add_desk_text (Bytes map ∷ Bytes digest ∷ []) old new (Ok count) → IsGood new.now × (tables_of new.now.trees ≡ with_desk (new_desk map digest) (tables_of old.now.trees))
@@ -59,6 +60,16 @@ module _ (old new : State) (count : ℕ) (good : IsGood old.now) where
   add_paper p h =
       let e = inserted our_schema 7 paper_table refl refl (λ db. refl) (λ olds news. refl) text.add_paper_text means.add_paper.1 old new (put_paper p) count good.schema text.add_paper_values 4 (commanded _ _ means.add_paper.0) h in
       paper_turned old.now new.now good _ e _ refl (insert_is put_paper take_paper (λ v a. refl) paper_table cast_paper our_schema old.now new.now good.papers p _ refl e)
+
+  pub add_ballot : (b : BallotRow) → Executes text.add_ballot_text (put_ballot b) old new (Ok count) → IsGood new.now × (tables_of new.now.trees ≡ with_ballot b (tables_of old.now.trees))
+  add_ballot b h =
+      let e = inserted our_schema 8 ballot_table refl refl (λ db. refl) (λ olds news. refl) text.add_ballot_text means.add_ballot.1 old new (put_ballot b) count good.schema text.add_ballot_values 4 (commanded _ _ means.add_ballot.0) h in
+      ballot_turned old.now new.now good _ e _ refl (insert_is put_ballot take_ballot (λ v a. refl) ballot_table cast_ballot our_schema old.now new.now good.ballots b _ refl e)
+
+  pub add_choice : (game : List ℕ) → Executes text.add_choice_text (Words game ∷ []) old new (Ok count) → IsGood new.now × (tables_of new.now.trees ≡ with_choice (choice_row game) (tables_of old.now.trees))
+  add_choice game h =
+      let e = inserted our_schema 9 choice_table refl refl (λ db. refl) (λ olds news. refl) text.add_choice_text means.add_choice.1 old new (Words game ∷ []) count good.schema text.add_choice_values 3 (commanded _ _ means.add_choice.0) h in
+      choice_turned old.now new.now good _ e _ refl (insert_is put_choice take_choice (λ v a. refl) choice_table cast_choice our_schema old.now new.now good.choices (choice_row game) _ refl e)
 
   pub drop_seats : (game : List ℕ) → Executes text.drop_seats_text (Words game ∷ []) old new (Ok count) → IsGood new.now × (tables_of new.now.trees ≡ no_seats game (tables_of old.now.trees))
   drop_seats game h =
@@ -102,6 +113,18 @@ module _ (old new : State) (count : ℕ) (good : IsGood old.now) where
       let it = deleted our_schema 7 paper_table refl refl (λ db. refl) (λ olds news. refl) text.drop_papers_text means.drop_papers.1 old new params count good.schema by_one (commanded _ _ means.drop_papers.0) h in
       paper_turned old.now new.now good _ it.2 _ refl (delete_is put_paper take_paper (λ v a. refl) paper_table cast_paper our_schema old.now new.now good.papers params by_one (is_paper_in game) (tells_paper_in game []) it.0 it.1 it.2)
 
+  pub drop_ballots : (game : List ℕ) → Executes text.drop_ballots_text (Words game ∷ []) old new (Ok count) → IsGood new.now × (tables_of new.now.trees ≡ no_ballots game (tables_of old.now.trees))
+  drop_ballots game h =
+      let params = Words game ∷ [] in
+      let it = deleted our_schema 8 ballot_table refl refl (λ db. refl) (λ olds news. refl) text.drop_ballots_text means.drop_ballots.1 old new params count good.schema by_one (commanded _ _ means.drop_ballots.0) h in
+      ballot_turned old.now new.now good _ it.2 _ refl (delete_is put_ballot take_ballot (λ v a. refl) ballot_table cast_ballot our_schema old.now new.now good.ballots params by_one (is_ballot_in game) (tells_ballot_in game []) it.0 it.1 it.2)
+
+  pub drop_choices : (game : List ℕ) → Executes text.drop_choices_text (Words game ∷ []) old new (Ok count) → IsGood new.now × (tables_of new.now.trees ≡ no_choices game (tables_of old.now.trees))
+  drop_choices game h =
+      let params = Words game ∷ [] in
+      let it = deleted our_schema 9 choice_table refl refl (λ db. refl) (λ olds news. refl) text.drop_choices_text means.drop_choices.1 old new params count good.schema by_one (commanded _ _ means.drop_choices.0) h in
+      choice_turned old.now new.now good _ it.2 _ refl (delete_is put_choice take_choice (λ v a. refl) choice_table cast_choice our_schema old.now new.now good.choices params by_one (is_choice_in game) (tells_choice_in game []) it.0 it.1 it.2)
+
   pub note_desk : (last : ℕ) (kept reply : List ℕ) → Executes text.note_desk_text (Int (pos last) ∷ Bytes kept ∷ Words reply ∷ []) old new (Ok count) → IsGood new.now × (tables_of new.now.trees ≡ on_desk (desk_with last kept reply) (tables_of old.now.trees))
   note_desk last kept reply h =
       let more = Int (pos last) ∷ Bytes kept ∷ Words reply ∷ [] in
@@ -116,12 +139,23 @@ module _ (old new : State) (count : ℕ) (good : IsGood old.now) where
       let it = updated our_schema 2 seat_table refl refl (λ db. refl) (λ olds news. refl) text.note_seat_text means.note_seat.1 old new params count good.schema by_two text.note_seat_row (commanded _ _ means.note_seat.0) h in
       seat_turned old.now new.now good _ it.2 _ refl (update_is put_seat take_seat (λ v a. refl) seat_table cast_seat our_schema old.now new.now good.seats params by_two (is_seat game power) (tells_seat game power more) (seat_with last kept reply) text.note_seat_row (λ v a. refl) (one_seat old.now good game power) it.0 it.1 it.2)
 
-  pub note_vote : (game power : List ℕ) (vote last : ℕ) (kept reply : List ℕ) → Executes text.note_vote_text (Words game ∷ Words power ∷ Int (pos vote) ∷ Int (pos last) ∷ Bytes kept ∷ Words reply ∷ []) old new (Ok count) → IsGood new.now × (tables_of new.now.trees ≡ on_seat game power (λ s. voting vote (seat_with last kept reply s)) (tables_of old.now.trees))
-  note_vote game power vote last kept reply h =
-      let more = Int (pos vote) ∷ Int (pos last) ∷ Bytes kept ∷ Words reply ∷ [] in
+  pub note_ballot : (game power names : List ℕ) → Executes text.note_ballot_text (Words game ∷ Words power ∷ Words names ∷ []) old new (Ok count) → IsGood new.now × (tables_of new.now.trees ≡ on_ballot game power (named names) (tables_of old.now.trees))
+  note_ballot game power names h =
+      let more = Words names ∷ [] in
       let params = Words game ∷ Words power ∷ more in
-      let it = updated our_schema 2 seat_table refl refl (λ db. refl) (λ olds news. refl) text.note_vote_text means.note_vote.1 old new params count good.schema by_two text.note_vote_row (commanded _ _ means.note_vote.0) h in
-      seat_turned old.now new.now good _ it.2 _ refl (update_is put_seat take_seat (λ v a. refl) seat_table cast_seat our_schema old.now new.now good.seats params by_two (is_seat game power) (tells_seat game power more) (λ s. voting vote (seat_with last kept reply s)) text.note_vote_row (λ v a. refl) (one_seat old.now good game power) it.0 it.1 it.2)
+      let it = updated our_schema 8 ballot_table refl refl (λ db. refl) (λ olds news. refl) text.note_ballot_text means.note_ballot.1 old new params count good.schema by_two text.note_ballot_row (commanded _ _ means.note_ballot.0) h in
+      ballot_turned old.now new.now good _ it.2 _ refl (update_is put_ballot take_ballot (λ v a. refl) ballot_table cast_ballot our_schema old.now new.now good.ballots params by_two (is_ballot game power) (tells_ballot game power more) (named names) text.note_ballot_row (λ v a. refl) (one_ballot old.now good game power) it.0 it.1 it.2)
+
+  pub clear_vote : (game power : List ℕ) → Executes text.clear_vote_text (Words game ∷ Words power ∷ []) old new (Ok count) → IsGood new.now × (tables_of new.now.trees ≡ on_seat game power voteless (tables_of old.now.trees))
+  clear_vote game power h =
+      let params = Words game ∷ Words power ∷ [] in
+      let it = updated our_schema 2 seat_table refl refl (λ db. refl) (λ olds news. refl) text.clear_vote_text means.clear_vote.1 old new params count good.schema by_two text.clear_vote_row (commanded _ _ means.clear_vote.0) h in
+      seat_turned old.now new.now good _ it.2 _ refl (update_is put_seat take_seat (λ v a. refl) seat_table cast_seat our_schema old.now new.now good.seats params by_two (is_seat game power) (tells_seat game power []) voteless text.clear_vote_row (λ v a. refl) (one_seat old.now good game power) it.0 it.1 it.2)
+
+  pub set_version : Executes text.set_version_text [] old new (Ok count) → IsGood new.now × (tables_of new.now.trees ≡ on_desk second (tables_of old.now.trees))
+  set_version h =
+      let it = updated our_schema 0 desk_table refl refl (λ db. refl) (λ olds news. refl) text.set_version_text means.set_version.1 old new [] count good.schema by_first text.set_version_row (commanded _ _ means.set_version.0) h in
+      desk_turned old.now new.now good _ it.2 _ refl (update_is put_desk take_desk (λ v a. refl) desk_table cast_desk our_schema old.now new.now good.desk [] by_first is_first (tells_desk []) second text.set_version_row (λ v a. refl) (one_desk old.now good) it.0 it.1 it.2)
 
   pub note_sent : (game power : List ℕ) (last : ℕ) (kept reply : List ℕ) (sent : ℕ) → Executes text.note_sent_text (Words game ∷ Words power ∷ Int (pos last) ∷ Bytes kept ∷ Words reply ∷ Int (pos sent) ∷ []) old new (Ok count) → IsGood new.now × (tables_of new.now.trees ≡ on_seat game power (λ s. sending sent (seat_with last kept reply s)) (tables_of old.now.trees))
   note_sent game power last kept reply sent h =

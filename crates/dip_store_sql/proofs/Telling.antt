@@ -7,8 +7,8 @@ use Rattle.dip_store_sql.specs.Queries.{passes}
 use Rattle.dip_store_sql.proofs.Tests.{text_test, number_test, and_true}
 use Rattle.dip_store_sql.specs.Asking.{by_one, by_two, by_three, by_first}
 use Rattle.dip_store_tables.specs.Boards.{UnitRow, CentreRow}
-use Rattle.dip_store_tables.specs.Tables.{DeskRow, GameRow, SeatRow, PendingRow, BoxRow, PaperRow, is_seat_in, is_unit_in, is_centre_in, is_pending_in, is_box_in, is_paper_in, is_named, is_seat, is_pending}
-use Rattle.dip_store_sql.specs.Rows.{put_desk, put_game, put_seat, put_unit, put_centre, put_pending, put_box, put_paper}
+use Rattle.dip_store_tables.specs.Tables.{DeskRow, GameRow, SeatRow, PendingRow, BoxRow, PaperRow, BallotRow, ChoiceRow, is_ballot_in, is_choice_in, is_ballot, is_seat_in, is_unit_in, is_centre_in, is_pending_in, is_box_in, is_paper_in, is_named, is_seat, is_pending}
+use Rattle.dip_store_sql.specs.Rows.{put_desk, put_game, put_seat, put_unit, put_centre, put_pending, put_box, put_paper, put_ballot, put_choice}
 use Rattle.dip_store_sql.specs.Showing.{is_item, is_numbered}
 use Rattle.dip_store_sql.specs.TablesAfter.{is_first}
 use Rattle.dip_store_sql.proofs.Apart.{and_both, and_all}
@@ -38,7 +38,16 @@ module _ (game : List ℕ) (more : Row) where
   pub tells_paper_in : (v : Value) (p : PaperRow) → passes by_one (Words game ∷ more) (v ∷ put_paper p) ≡ is_paper_in game p
   tells_paper_in v p = ap (λ x. x && true) (text_test p.game game) ∙ and_true (bytes_eq p.game game)
 
+  pub tells_ballot_in : (v : Value) (b : BallotRow) → passes by_one (Words game ∷ more) (v ∷ put_ballot b) ≡ is_ballot_in game b
+  tells_ballot_in v b = ap (λ x. x && true) (text_test b.game game) ∙ and_true (bytes_eq b.game game)
+
+  pub tells_choice_in : (v : Value) (c : ChoiceRow) → passes by_one (Words game ∷ more) (v ∷ put_choice c) ≡ is_choice_in game c
+  tells_choice_in v c = ap (λ x. x && true) (text_test c.game game) ∙ and_true (bytes_eq c.game game)
+
 module _ (game power : List ℕ) (more : Row) where
+  pub tells_ballot : (v : Value) (b : BallotRow) → passes by_two (Words game ∷ Words power ∷ more) (v ∷ put_ballot b) ≡ is_ballot game power b
+  tells_ballot v b = ap₂ (λ x y. x && (y && true)) (text_test b.game game) (text_test b.power power) ∙ and_both (bytes_eq b.game game) (bytes_eq b.power power)
+
   pub tells_seat : (v : Value) (s : SeatRow) → passes by_two (Words game ∷ Words power ∷ more) (v ∷ put_seat s) ≡ is_seat game power s
   tells_seat v s = ap₂ (λ x y. x && (y && true)) (text_test s.game game) (text_test s.power power) ∙ and_both (bytes_eq s.game game) (bytes_eq s.power power)
 

@@ -7,7 +7,7 @@ use Rattle.sqlite_tied.specs.Compute.{everything}
 use Rattle.sqlite.specs.Listing.{understood}
 use Rattle.dip_store_sql.specs.Queries.{plain_query}
 use Rattle.dip_store_sql.specs.Asking.{Means, Asks, by_one, by_two, by_first}
-use Rattle.dip_store_sql.specs.Statements.{add_desk_text, add_game_text, add_seat_text, add_unit_text, add_centre_text, add_pending_text, add_item_text, add_paper_text, drop_seats_text, drop_units_text, drop_centres_text, drop_pending_text, drop_orders_text, drop_items_text, drop_papers_text, note_desk_text, note_seat_text, note_vote_text, note_sent_text, count_item_text, replace_digest_text, renew_game_text, find_desk_text, find_game_text, count_papers_text, find_seat_text, count_sent_text, find_item_text, find_paper_text, list_seats_text, list_units_text, list_centres_text, list_orders_text, add_desk_values, add_game_values, add_seat_values, add_unit_values, add_centre_values, add_pending_values, add_item_values, add_paper_values, note_desk_row, note_seat_row, note_vote_row, note_sent_row, count_item_row, replace_digest_row, renew_game_row, find_desk_query, find_game_query, count_papers_query, find_seat_query, count_sent_query, find_item_query, find_paper_query, list_seats_query, list_units_query, list_centres_query, list_orders_query}
+use Rattle.dip_store_sql.specs.Statements.{add_desk_text, add_game_text, add_seat_text, add_unit_text, add_centre_text, add_pending_text, add_item_text, add_paper_text, add_ballot_text, add_choice_text, drop_seats_text, drop_units_text, drop_centres_text, drop_pending_text, drop_orders_text, drop_items_text, drop_papers_text, drop_ballots_text, drop_choices_text, note_desk_text, note_seat_text, note_ballot_text, clear_vote_text, set_version_text, note_sent_text, count_item_text, replace_digest_text, renew_game_text, find_desk_text, find_game_text, count_papers_text, find_seat_text, count_sent_text, find_item_text, find_paper_text, find_ballot_text, list_seats_text, list_units_text, list_centres_text, list_orders_text, list_games_text, list_votes_text, add_desk_values, add_game_values, add_seat_values, add_unit_values, add_centre_values, add_pending_values, add_item_values, add_paper_values, add_ballot_values, add_choice_values, note_desk_row, note_seat_row, note_ballot_row, clear_vote_row, set_version_row, note_sent_row, count_item_row, replace_digest_row, renew_game_row, find_desk_query, find_game_query, count_papers_query, find_seat_query, count_sent_query, find_item_query, find_paper_query, find_ballot_query, list_seats_query, list_units_query, list_centres_query, list_orders_query, list_games_query, list_votes_query}
 
 pub add_desk : Means add_desk_text (Insert 0 (Values add_desk_values 8))
 unfolding understood everything
@@ -41,6 +41,14 @@ pub add_paper : Means add_paper_text (Insert 7 (Values add_paper_values 4))
 unfolding understood everything
 add_paper = (refl, (refl, refl))
 
+pub add_ballot : Means add_ballot_text (Insert 8 (Values add_ballot_values 4))
+unfolding understood everything
+add_ballot = (refl, (refl, refl))
+
+pub add_choice : Means add_choice_text (Insert 9 (Values add_choice_values 3))
+unfolding understood everything
+add_choice = (refl, (refl, refl))
+
 pub drop_seats : Means drop_seats_text (Delete 2 (record { lets = []; body = plain_query 4 by_one (col 1 0 ∷ []) [] }))
 unfolding understood everything
 drop_seats = (refl, (refl, refl))
@@ -69,6 +77,14 @@ pub drop_papers : Means drop_papers_text (Delete 7 (record { lets = []; body = p
 unfolding understood everything
 drop_papers = (refl, (refl, refl))
 
+pub drop_ballots : Means drop_ballots_text (Delete 8 (record { lets = []; body = plain_query 16 by_one (col 1 0 ∷ []) [] }))
+unfolding understood everything
+drop_ballots = (refl, (refl, refl))
+
+pub drop_choices : Means drop_choices_text (Delete 9 (record { lets = []; body = plain_query 18 by_one (col 1 0 ∷ []) [] }))
+unfolding understood everything
+drop_choices = (refl, (refl, refl))
+
 pub note_desk : Means note_desk_text (Update 0 (record { lets = []; body = plain_query 0 by_first note_desk_row [] }))
 unfolding understood everything
 note_desk = (refl, (refl, refl))
@@ -77,9 +93,17 @@ pub note_seat : Means note_seat_text (Update 2 (record { lets = []; body = plain
 unfolding understood everything
 note_seat = (refl, (refl, refl))
 
-pub note_vote : Means note_vote_text (Update 2 (record { lets = []; body = plain_query 4 by_two note_vote_row [] }))
+pub note_ballot : Means note_ballot_text (Update 8 (record { lets = []; body = plain_query 16 by_two note_ballot_row [] }))
 unfolding understood everything
-note_vote = (refl, (refl, refl))
+note_ballot = (refl, (refl, refl))
+
+pub clear_vote : Means clear_vote_text (Update 2 (record { lets = []; body = plain_query 4 by_two clear_vote_row [] }))
+unfolding understood everything
+clear_vote = (refl, (refl, refl))
+
+pub set_version : Means set_version_text (Update 0 (record { lets = []; body = plain_query 0 by_first set_version_row [] }))
+unfolding understood everything
+set_version = (refl, (refl, refl))
 
 pub note_sent : Means note_sent_text (Update 2 (record { lets = []; body = plain_query 4 by_two note_sent_row [] }))
 unfolding understood everything
@@ -117,6 +141,10 @@ pub count_sent : Asks count_sent_text 2 count_sent_query (codes "sent" ∷ [])
 unfolding understood everything
 count_sent = record { means = (refl, (refl, refl)); unlisted = refl; asked = (refl, refl) }
 
+pub find_ballot : Asks find_ballot_text 2 find_ballot_query (codes "names" ∷ [])
+unfolding understood everything
+find_ballot = record { means = (refl, (refl, refl)); unlisted = refl; asked = (refl, refl) }
+
 pub find_item : Asks find_item_text 3 find_item_query (codes "grey" ∷ codes "writer" ∷ codes "addressees" ∷ codes "body" ∷ [])
 unfolding understood everything
 find_item = record { means = (refl, (refl, refl)); unlisted = refl; asked = (refl, refl) }
@@ -140,3 +168,11 @@ list_centres = record { means = (refl, (refl, refl)); unlisted = refl; asked = (
 pub list_orders : Asks list_orders_text 2 list_orders_query (codes "province" ∷ codes "line" ∷ [])
 unfolding understood everything
 list_orders = record { means = (refl, (refl, refl)); unlisted = refl; asked = (refl, refl) }
+
+pub list_games : Asks list_games_text 0 list_games_query (codes "name" ∷ [])
+unfolding understood everything
+list_games = record { means = (refl, (refl, refl)); unlisted = refl; asked = (refl, refl) }
+
+pub list_votes : Asks list_votes_text 1 list_votes_query (codes "power" ∷ codes "vote" ∷ [])
+unfolding understood everything
+list_votes = record { means = (refl, (refl, refl)); unlisted = refl; asked = (refl, refl) }

@@ -6,10 +6,10 @@ use Rattle.sqlite.specs.Effect.{Database}
 use Rattle.sqlite.specs.Table.{Table}
 use Rattle.dip_store_sql.specs.Recorded.{IsRising}
 use Rattle.dip_store_sql.specs.Writes.{Edits}
-use Rattle.dip_store_sql.specs.Schema.{our_schema, desk_table, game_table, seat_table, unit_table, centre_table, pending_table, box_table, paper_table}
+use Rattle.dip_store_sql.specs.Schema.{our_schema, desk_table, game_table, seat_table, unit_table, centre_table, pending_table, box_table, paper_table, ballot_table, choice_table}
 use Rattle.dip_store_tables.specs.Boards.{UnitRow, CentreRow}
-use Rattle.dip_store_tables.specs.Tables.{DeskRow, GameRow, SeatRow, PendingRow, BoxRow, PaperRow}
-use Rattle.dip_store_sql.specs.Rows.{tables_of, put_desk, take_desk, put_game, take_game, put_seat, take_seat, put_unit, take_unit, put_centre, take_centre, put_pending, take_pending, put_box, take_box, put_paper, take_paper}
+use Rattle.dip_store_tables.specs.Tables.{DeskRow, GameRow, SeatRow, PendingRow, BoxRow, PaperRow, BallotRow, ChoiceRow}
+use Rattle.dip_store_sql.specs.Rows.{tables_of, put_desk, take_desk, put_game, take_game, put_seat, take_seat, put_unit, take_unit, put_centre, take_centre, put_pending, take_pending, put_box, take_box, put_paper, take_paper, put_ballot, take_ballot, put_choice, take_choice}
 use Rattle.dip_store_sql.specs.Good.{IsGood}
 
 module _ (old new : Database) (good : IsGood old) (e : Edit) (done : Edits our_schema e old new) where
@@ -26,7 +26,9 @@ module _ (old new : Database) (good : IsGood old) (e : Edit) (done : Edits our_s
       let centres = all.1.1.1.1.0 (λ x. omega (arith, x)) in
       let pending = all.1.1.1.1.1.0 (λ x. omega (arith, x)) in
       let boxes = all.1.1.1.1.1.1.0 (λ x. omega (arith, x)) in
-      let papers = all.1.1.1.1.1.1.1.0 (λ x. omega (arith, x)) in (
+      let papers = all.1.1.1.1.1.1.1.0 (λ x. omega (arith, x)) in
+      let ballots = all.1.1.1.1.1.1.1.1.0 (λ x. omega (arith, x)) in
+      let choices = all.1.1.1.1.1.1.1.1.1.0 (λ x. omega (arith, x)) in (
         record {
           schema = done.schema_is;
           sound = done.sound;
@@ -38,8 +40,10 @@ module _ (old new : Database) (good : IsGood old) (e : Edit) (done : Edits our_s
           pending = subst (IsRising put_pending take_pending) (sym pending) good.pending;
           boxes = subst (IsRising put_box take_box) (sym boxes) good.boxes;
           papers = subst (IsRising put_paper take_paper) (sym papers) good.papers;
+          ballots = subst (IsRising put_ballot take_ballot) (sym ballots) good.ballots;
+          choices = subst (IsRising put_choice take_choice) (sym choices) good.choices;
         },
-        rw (games, seats, units, centres, pending, boxes, papers, it.1) refl,
+        rw (games, seats, units, centres, pending, boxes, papers, ballots, choices, it.1) refl,
       )
 
   pub game_turned : (rows : List GameRow) → e.table ≡ game_table → IsRising put_game take_game (new.trees 2) × (map take_game (new.trees 2) ≡ rows)
@@ -52,7 +56,9 @@ module _ (old new : Database) (good : IsGood old) (e : Edit) (done : Edits our_s
       let centres = all.1.1.1.1.0 (λ x. omega (arith, x)) in
       let pending = all.1.1.1.1.1.0 (λ x. omega (arith, x)) in
       let boxes = all.1.1.1.1.1.1.0 (λ x. omega (arith, x)) in
-      let papers = all.1.1.1.1.1.1.1.0 (λ x. omega (arith, x)) in (
+      let papers = all.1.1.1.1.1.1.1.0 (λ x. omega (arith, x)) in
+      let ballots = all.1.1.1.1.1.1.1.1.0 (λ x. omega (arith, x)) in
+      let choices = all.1.1.1.1.1.1.1.1.1.0 (λ x. omega (arith, x)) in (
         record {
           schema = done.schema_is;
           sound = done.sound;
@@ -64,8 +70,10 @@ module _ (old new : Database) (good : IsGood old) (e : Edit) (done : Edits our_s
           pending = subst (IsRising put_pending take_pending) (sym pending) good.pending;
           boxes = subst (IsRising put_box take_box) (sym boxes) good.boxes;
           papers = subst (IsRising put_paper take_paper) (sym papers) good.papers;
+          ballots = subst (IsRising put_ballot take_ballot) (sym ballots) good.ballots;
+          choices = subst (IsRising put_choice take_choice) (sym choices) good.choices;
         },
-        rw (desk, seats, units, centres, pending, boxes, papers, it.1) refl,
+        rw (desk, seats, units, centres, pending, boxes, papers, ballots, choices, it.1) refl,
       )
 
   pub seat_turned : (rows : List SeatRow) → e.table ≡ seat_table → IsRising put_seat take_seat (new.trees 4) × (map take_seat (new.trees 4) ≡ rows)
@@ -78,7 +86,9 @@ module _ (old new : Database) (good : IsGood old) (e : Edit) (done : Edits our_s
       let centres = all.1.1.1.1.0 (λ x. omega (arith, x)) in
       let pending = all.1.1.1.1.1.0 (λ x. omega (arith, x)) in
       let boxes = all.1.1.1.1.1.1.0 (λ x. omega (arith, x)) in
-      let papers = all.1.1.1.1.1.1.1.0 (λ x. omega (arith, x)) in (
+      let papers = all.1.1.1.1.1.1.1.0 (λ x. omega (arith, x)) in
+      let ballots = all.1.1.1.1.1.1.1.1.0 (λ x. omega (arith, x)) in
+      let choices = all.1.1.1.1.1.1.1.1.1.0 (λ x. omega (arith, x)) in (
         record {
           schema = done.schema_is;
           sound = done.sound;
@@ -90,8 +100,10 @@ module _ (old new : Database) (good : IsGood old) (e : Edit) (done : Edits our_s
           pending = subst (IsRising put_pending take_pending) (sym pending) good.pending;
           boxes = subst (IsRising put_box take_box) (sym boxes) good.boxes;
           papers = subst (IsRising put_paper take_paper) (sym papers) good.papers;
+          ballots = subst (IsRising put_ballot take_ballot) (sym ballots) good.ballots;
+          choices = subst (IsRising put_choice take_choice) (sym choices) good.choices;
         },
-        rw (desk, games, units, centres, pending, boxes, papers, it.1) refl,
+        rw (desk, games, units, centres, pending, boxes, papers, ballots, choices, it.1) refl,
       )
 
   pub unit_turned : (rows : List UnitRow) → e.table ≡ unit_table → IsRising put_unit take_unit (new.trees 6) × (map take_unit (new.trees 6) ≡ rows)
@@ -104,7 +116,9 @@ module _ (old new : Database) (good : IsGood old) (e : Edit) (done : Edits our_s
       let centres = all.1.1.1.1.0 (λ x. omega (arith, x)) in
       let pending = all.1.1.1.1.1.0 (λ x. omega (arith, x)) in
       let boxes = all.1.1.1.1.1.1.0 (λ x. omega (arith, x)) in
-      let papers = all.1.1.1.1.1.1.1.0 (λ x. omega (arith, x)) in (
+      let papers = all.1.1.1.1.1.1.1.0 (λ x. omega (arith, x)) in
+      let ballots = all.1.1.1.1.1.1.1.1.0 (λ x. omega (arith, x)) in
+      let choices = all.1.1.1.1.1.1.1.1.1.0 (λ x. omega (arith, x)) in (
         record {
           schema = done.schema_is;
           sound = done.sound;
@@ -116,8 +130,10 @@ module _ (old new : Database) (good : IsGood old) (e : Edit) (done : Edits our_s
           pending = subst (IsRising put_pending take_pending) (sym pending) good.pending;
           boxes = subst (IsRising put_box take_box) (sym boxes) good.boxes;
           papers = subst (IsRising put_paper take_paper) (sym papers) good.papers;
+          ballots = subst (IsRising put_ballot take_ballot) (sym ballots) good.ballots;
+          choices = subst (IsRising put_choice take_choice) (sym choices) good.choices;
         },
-        rw (desk, games, seats, centres, pending, boxes, papers, it.1) refl,
+        rw (desk, games, seats, centres, pending, boxes, papers, ballots, choices, it.1) refl,
       )
 
   pub centre_turned : (rows : List CentreRow) → e.table ≡ centre_table → IsRising put_centre take_centre (new.trees 8) × (map take_centre (new.trees 8) ≡ rows)
@@ -130,7 +146,9 @@ module _ (old new : Database) (good : IsGood old) (e : Edit) (done : Edits our_s
       let units = all.1.1.1.0 (λ x. omega (arith, x)) in
       let pending = all.1.1.1.1.1.0 (λ x. omega (arith, x)) in
       let boxes = all.1.1.1.1.1.1.0 (λ x. omega (arith, x)) in
-      let papers = all.1.1.1.1.1.1.1.0 (λ x. omega (arith, x)) in (
+      let papers = all.1.1.1.1.1.1.1.0 (λ x. omega (arith, x)) in
+      let ballots = all.1.1.1.1.1.1.1.1.0 (λ x. omega (arith, x)) in
+      let choices = all.1.1.1.1.1.1.1.1.1.0 (λ x. omega (arith, x)) in (
         record {
           schema = done.schema_is;
           sound = done.sound;
@@ -142,8 +160,10 @@ module _ (old new : Database) (good : IsGood old) (e : Edit) (done : Edits our_s
           pending = subst (IsRising put_pending take_pending) (sym pending) good.pending;
           boxes = subst (IsRising put_box take_box) (sym boxes) good.boxes;
           papers = subst (IsRising put_paper take_paper) (sym papers) good.papers;
+          ballots = subst (IsRising put_ballot take_ballot) (sym ballots) good.ballots;
+          choices = subst (IsRising put_choice take_choice) (sym choices) good.choices;
         },
-        rw (desk, games, seats, units, pending, boxes, papers, it.1) refl,
+        rw (desk, games, seats, units, pending, boxes, papers, ballots, choices, it.1) refl,
       )
 
   pub pending_turned : (rows : List PendingRow) → e.table ≡ pending_table → IsRising put_pending take_pending (new.trees 10) × (map take_pending (new.trees 10) ≡ rows)
@@ -156,7 +176,9 @@ module _ (old new : Database) (good : IsGood old) (e : Edit) (done : Edits our_s
       let units = all.1.1.1.0 (λ x. omega (arith, x)) in
       let centres = all.1.1.1.1.0 (λ x. omega (arith, x)) in
       let boxes = all.1.1.1.1.1.1.0 (λ x. omega (arith, x)) in
-      let papers = all.1.1.1.1.1.1.1.0 (λ x. omega (arith, x)) in (
+      let papers = all.1.1.1.1.1.1.1.0 (λ x. omega (arith, x)) in
+      let ballots = all.1.1.1.1.1.1.1.1.0 (λ x. omega (arith, x)) in
+      let choices = all.1.1.1.1.1.1.1.1.1.0 (λ x. omega (arith, x)) in (
         record {
           schema = done.schema_is;
           sound = done.sound;
@@ -168,8 +190,10 @@ module _ (old new : Database) (good : IsGood old) (e : Edit) (done : Edits our_s
           pending = it.0;
           boxes = subst (IsRising put_box take_box) (sym boxes) good.boxes;
           papers = subst (IsRising put_paper take_paper) (sym papers) good.papers;
+          ballots = subst (IsRising put_ballot take_ballot) (sym ballots) good.ballots;
+          choices = subst (IsRising put_choice take_choice) (sym choices) good.choices;
         },
-        rw (desk, games, seats, units, centres, boxes, papers, it.1) refl,
+        rw (desk, games, seats, units, centres, boxes, papers, ballots, choices, it.1) refl,
       )
 
   pub box_turned : (rows : List BoxRow) → e.table ≡ box_table → IsRising put_box take_box (new.trees 12) × (map take_box (new.trees 12) ≡ rows)
@@ -182,7 +206,9 @@ module _ (old new : Database) (good : IsGood old) (e : Edit) (done : Edits our_s
       let units = all.1.1.1.0 (λ x. omega (arith, x)) in
       let centres = all.1.1.1.1.0 (λ x. omega (arith, x)) in
       let pending = all.1.1.1.1.1.0 (λ x. omega (arith, x)) in
-      let papers = all.1.1.1.1.1.1.1.0 (λ x. omega (arith, x)) in (
+      let papers = all.1.1.1.1.1.1.1.0 (λ x. omega (arith, x)) in
+      let ballots = all.1.1.1.1.1.1.1.1.0 (λ x. omega (arith, x)) in
+      let choices = all.1.1.1.1.1.1.1.1.1.0 (λ x. omega (arith, x)) in (
         record {
           schema = done.schema_is;
           sound = done.sound;
@@ -194,8 +220,10 @@ module _ (old new : Database) (good : IsGood old) (e : Edit) (done : Edits our_s
           pending = subst (IsRising put_pending take_pending) (sym pending) good.pending;
           boxes = it.0;
           papers = subst (IsRising put_paper take_paper) (sym papers) good.papers;
+          ballots = subst (IsRising put_ballot take_ballot) (sym ballots) good.ballots;
+          choices = subst (IsRising put_choice take_choice) (sym choices) good.choices;
         },
-        rw (desk, games, seats, units, centres, pending, papers, it.1) refl,
+        rw (desk, games, seats, units, centres, pending, papers, ballots, choices, it.1) refl,
       )
 
   pub paper_turned : (rows : List PaperRow) → e.table ≡ paper_table → IsRising put_paper take_paper (new.trees 14) × (map take_paper (new.trees 14) ≡ rows)
@@ -208,7 +236,9 @@ module _ (old new : Database) (good : IsGood old) (e : Edit) (done : Edits our_s
       let units = all.1.1.1.0 (λ x. omega (arith, x)) in
       let centres = all.1.1.1.1.0 (λ x. omega (arith, x)) in
       let pending = all.1.1.1.1.1.0 (λ x. omega (arith, x)) in
-      let boxes = all.1.1.1.1.1.1.0 (λ x. omega (arith, x)) in (
+      let boxes = all.1.1.1.1.1.1.0 (λ x. omega (arith, x)) in
+      let ballots = all.1.1.1.1.1.1.1.1.0 (λ x. omega (arith, x)) in
+      let choices = all.1.1.1.1.1.1.1.1.1.0 (λ x. omega (arith, x)) in (
         record {
           schema = done.schema_is;
           sound = done.sound;
@@ -220,6 +250,68 @@ module _ (old new : Database) (good : IsGood old) (e : Edit) (done : Edits our_s
           pending = subst (IsRising put_pending take_pending) (sym pending) good.pending;
           boxes = subst (IsRising put_box take_box) (sym boxes) good.boxes;
           papers = it.0;
+          ballots = subst (IsRising put_ballot take_ballot) (sym ballots) good.ballots;
+          choices = subst (IsRising put_choice take_choice) (sym choices) good.choices;
         },
-        rw (desk, games, seats, units, centres, pending, boxes, it.1) refl,
+        rw (desk, games, seats, units, centres, pending, boxes, ballots, choices, it.1) refl,
+      )
+
+  pub ballot_turned : (rows : List BallotRow) → e.table ≡ ballot_table → IsRising put_ballot take_ballot (new.trees 16) × (map take_ballot (new.trees 16) ≡ rows)
+      → IsGood new × (tables_of new.trees ≡ record (tables_of old.trees) { ballots = rows })
+  ballot_turned rows is it =
+      let all = others ballot_table is in
+      let desk = all.0 (λ x. omega (arith, x)) in
+      let games = all.1.0 (λ x. omega (arith, x)) in
+      let seats = all.1.1.0 (λ x. omega (arith, x)) in
+      let units = all.1.1.1.0 (λ x. omega (arith, x)) in
+      let centres = all.1.1.1.1.0 (λ x. omega (arith, x)) in
+      let pending = all.1.1.1.1.1.0 (λ x. omega (arith, x)) in
+      let boxes = all.1.1.1.1.1.1.0 (λ x. omega (arith, x)) in
+      let papers = all.1.1.1.1.1.1.1.0 (λ x. omega (arith, x)) in
+      let choices = all.1.1.1.1.1.1.1.1.1.0 (λ x. omega (arith, x)) in (
+        record {
+          schema = done.schema_is;
+          sound = done.sound;
+          desk = subst (IsRising put_desk take_desk) (sym desk) good.desk;
+          games = subst (IsRising put_game take_game) (sym games) good.games;
+          seats = subst (IsRising put_seat take_seat) (sym seats) good.seats;
+          units = subst (IsRising put_unit take_unit) (sym units) good.units;
+          centres = subst (IsRising put_centre take_centre) (sym centres) good.centres;
+          pending = subst (IsRising put_pending take_pending) (sym pending) good.pending;
+          boxes = subst (IsRising put_box take_box) (sym boxes) good.boxes;
+          papers = subst (IsRising put_paper take_paper) (sym papers) good.papers;
+          ballots = it.0;
+          choices = subst (IsRising put_choice take_choice) (sym choices) good.choices;
+        },
+        rw (desk, games, seats, units, centres, pending, boxes, papers, choices, it.1) refl,
+      )
+
+  pub choice_turned : (rows : List ChoiceRow) → e.table ≡ choice_table → IsRising put_choice take_choice (new.trees 18) × (map take_choice (new.trees 18) ≡ rows)
+      → IsGood new × (tables_of new.trees ≡ record (tables_of old.trees) { choices = rows })
+  choice_turned rows is it =
+      let all = others choice_table is in
+      let desk = all.0 (λ x. omega (arith, x)) in
+      let games = all.1.0 (λ x. omega (arith, x)) in
+      let seats = all.1.1.0 (λ x. omega (arith, x)) in
+      let units = all.1.1.1.0 (λ x. omega (arith, x)) in
+      let centres = all.1.1.1.1.0 (λ x. omega (arith, x)) in
+      let pending = all.1.1.1.1.1.0 (λ x. omega (arith, x)) in
+      let boxes = all.1.1.1.1.1.1.0 (λ x. omega (arith, x)) in
+      let papers = all.1.1.1.1.1.1.1.0 (λ x. omega (arith, x)) in
+      let ballots = all.1.1.1.1.1.1.1.1.0 (λ x. omega (arith, x)) in (
+        record {
+          schema = done.schema_is;
+          sound = done.sound;
+          desk = subst (IsRising put_desk take_desk) (sym desk) good.desk;
+          games = subst (IsRising put_game take_game) (sym games) good.games;
+          seats = subst (IsRising put_seat take_seat) (sym seats) good.seats;
+          units = subst (IsRising put_unit take_unit) (sym units) good.units;
+          centres = subst (IsRising put_centre take_centre) (sym centres) good.centres;
+          pending = subst (IsRising put_pending take_pending) (sym pending) good.pending;
+          boxes = subst (IsRising put_box take_box) (sym boxes) good.boxes;
+          papers = subst (IsRising put_paper take_paper) (sym papers) good.papers;
+          ballots = subst (IsRising put_ballot take_ballot) (sym ballots) good.ballots;
+          choices = it.0;
+        },
+        rw (desk, games, seats, units, centres, pending, boxes, papers, ballots, it.1) refl,
       )

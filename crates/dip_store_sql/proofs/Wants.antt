@@ -13,24 +13,25 @@ use Rattle.sqlite_schema.specs.declared.schema.Among.{Among}
 use Rattle.sqlite_schema.specs.declared.schema.Constraint.TheVariants.{Unique}
 use Rattle.sqlite_schema.specs.Rules.{Keeps, Refers}
 use Rattle.dip_store_sql.specs.Asking.{by_one, by_two, by_first}
-use Rattle.dip_store_sql.specs.Schema.{our_schema, desk_table, game_table, seat_table, unit_table, centre_table, pending_table, box_table, paper_table}
+use Rattle.dip_store_sql.specs.Schema.{our_schema, desk_table, game_table, seat_table, unit_table, centre_table, pending_table, box_table, paper_table, ballot_table, choice_table}
 use Rattle.dip_store_sql.specs.Statements as text
 use Rattle.dip_store_sql.proofs.Texts as means
 use Rattle.dip_store_tables.specs.Boards.{UnitRow, CentreRow}
 use Rattle.dip_store_tables.specs.Coding.{same_name, same_seat}
-use Rattle.dip_store_tables.specs.Tables.{GameRow, PendingRow, BoxRow, PaperRow, is_seat_in, is_unit_in, is_centre_in, is_pending_in, is_box_in, is_paper_in, is_named, is_seat, is_pending}
+use Rattle.dip_store_tables.specs.Tables.{GameRow, PendingRow, BoxRow, PaperRow, BallotRow, is_ballot_in, is_choice_in, is_ballot, is_seat_in, is_unit_in, is_centre_in, is_pending_in, is_box_in, is_paper_in, is_named, is_seat, is_pending}
 use Rattle.dip_store_sql.specs.Causes.{Faulted}
 use Rattle.dip_store_sql.specs.Good.{IsGood}
-use Rattle.dip_store_sql.specs.Rows.{tables_of, put_desk, take_desk, put_game, take_game, put_seat, take_seat, put_unit, take_unit, put_centre, take_centre, put_pending, take_pending, put_box, take_box, put_paper, take_paper}
-use Rattle.dip_store_sql.specs.TablesAfter.{is_first, new_desk, new_seat, desk_with, seat_with, voting, sending, counting, secret_as, game_as}
-use Rattle.dip_store_sql.proofs.Apart.{one_desk, one_game, one_seat}
-use Rattle.dip_store_sql.proofs.Casting.{cast_desk, cast_game, cast_seat, cast_unit, cast_centre, cast_pending, cast_box, cast_paper}
-use Rattle.dip_store_sql.proofs.Telling.{tells_desk, tells_game_in, tells_seat_in, tells_unit_in, tells_centre_in, tells_pending_in, tells_box_in, tells_paper_in, tells_seat, tells_pending}
-use Rattle.dip_store_sql.specs.Keys.{AreKeyed, Differ, same_centre, same_desk, same_item, same_order, same_paper, same_unit}
+use Rattle.dip_store_tables.specs.Writing.{choice_row}
+use Rattle.dip_store_sql.specs.Rows.{tables_of, put_desk, take_desk, put_game, take_game, put_seat, take_seat, put_unit, take_unit, put_centre, take_centre, put_pending, take_pending, put_box, take_box, put_paper, take_paper, put_ballot, take_ballot, put_choice, take_choice}
+use Rattle.dip_store_sql.specs.TablesAfter.{is_first, new_desk, new_seat, desk_with, seat_with, named, second, voteless, sending, counting, secret_as, game_as}
+use Rattle.dip_store_sql.proofs.Apart.{one_ballot, one_desk, one_game, one_seat}
+use Rattle.dip_store_sql.proofs.Casting.{cast_desk, cast_game, cast_seat, cast_unit, cast_centre, cast_pending, cast_box, cast_paper, cast_ballot, cast_choice}
+use Rattle.dip_store_sql.proofs.Telling.{tells_desk, tells_game_in, tells_seat_in, tells_unit_in, tells_centre_in, tells_pending_in, tells_box_in, tells_paper_in, tells_ballot_in, tells_choice_in, tells_ballot, tells_seat, tells_pending}
+use Rattle.dip_store_sql.specs.Keys.{AreKeyed, Differ, same_ballot, same_centre, same_choice, same_desk, same_item, same_order, same_paper, same_unit}
 use Rattle.dip_store_sql.specs.Refusals.{IsWant}
 use Rattle.dip_store_sql.proofs.Asked as asked
 use Rattle.dip_store_sql.proofs.Keyed.{are_keyed}
-use Rattle.dip_store_sql.proofs.Ruled.{desk_rules, game_rules, seat_rules, unit_rules, centre_rules, pending_rules, box_rules, paper_rules, desk_keyed, games_keyed, seats_keyed, units_keyed, centres_keyed, pending_keyed, boxes_keyed, papers_keyed}
+use Rattle.dip_store_sql.proofs.Ruled.{desk_rules, game_rules, seat_rules, unit_rules, centre_rules, pending_rules, box_rules, paper_rules, ballot_rules, choice_rules, desk_keyed, games_keyed, seats_keyed, units_keyed, centres_keyed, pending_keyed, boxes_keyed, papers_keyed, ballots_keyed, choices_keyed}
 use Rattle.dip_store_sql.proofs.Sane.{delete_sane, insert_sane, update_sane}
 
 -- records that are left, or changed but for their key, still differ
@@ -56,7 +57,7 @@ changed {A} same p f one other (x ∷ xs) apart = (behind x xs apart.0, changed 
 
 -- there are no references
 refers : (among : Among) (db : Trees) → Refers among our_schema db
-refers among db = (all_of _ (λ r. refl) (db 0), (all_of _ (λ r. refl) (db 2), (all_of _ (λ r. refl) (db 4), (all_of _ (λ r. refl) (db 6), (all_of _ (λ r. refl) (db 8), (all_of _ (λ r. refl) (db 10), (all_of _ (λ r. refl) (db 12), (all_of _ (λ r. refl) (db 14), tt))))))))
+refers among db = (all_of _ (λ r. refl) (db 0), (all_of _ (λ r. refl) (db 2), (all_of _ (λ r. refl) (db 4), (all_of _ (λ r. refl) (db 6), (all_of _ (λ r. refl) (db 8), (all_of _ (λ r. refl) (db 10), (all_of _ (λ r. refl) (db 12), (all_of _ (λ r. refl) (db 14), (all_of _ (λ r. refl) (db 16), (all_of _ (λ r. refl) (db 18), tt))))))))))
 
 module _ (old new : State) (good : IsGood old.now) (up : IsTrue old.is_open) (unlimited : old.step_limit ≡ None) (e : Error) where
   unique : Keeps Unique our_schema old.now.trees
@@ -105,6 +106,16 @@ module _ (old new : State) (good : IsGood old.now) (up : IsTrue old.is_open) (un
       insert_sane our_schema 7 paper_table refl refl (λ db. refl) (λ olds news. refl) refers put_paper take_paper (λ v a. refl) cast_paper paper_rules text.add_paper_text means.add_paper.1 (put_paper p) asked.add_paper old new good.schema up unlimited good.papers e h
       text.add_paper_values 4 means.add_paper.0 refl (p) refl (λ rows it are. papers_keyed old.now.trees unique rows it (subst (Differ same_paper) (sym are) (apart)))
 
+  pub add_ballot : (b : BallotRow) → Differ same_ballot ((tables_of old.now.trees).ballots ++ b ∷ []) → Executes text.add_ballot_text (put_ballot b) old new (Err e) → IsWant (Faulted old new) e
+  add_ballot b apart h =
+      insert_sane our_schema 8 ballot_table refl refl (λ db. refl) (λ olds news. refl) refers put_ballot take_ballot (λ v a. refl) cast_ballot ballot_rules text.add_ballot_text means.add_ballot.1 (put_ballot b) asked.add_ballot old new good.schema up unlimited good.ballots e h
+      text.add_ballot_values 4 means.add_ballot.0 refl (b) refl (λ rows it are. ballots_keyed old.now.trees unique rows it (subst (Differ same_ballot) (sym are) (apart)))
+
+  pub add_choice : (game : List ℕ) → Differ same_choice ((tables_of old.now.trees).choices ++ (choice_row game) ∷ []) → Executes text.add_choice_text (Words game ∷ []) old new (Err e) → IsWant (Faulted old new) e
+  add_choice game apart h =
+      insert_sane our_schema 9 choice_table refl refl (λ db. refl) (λ olds news. refl) refers put_choice take_choice (λ v a. refl) cast_choice choice_rules text.add_choice_text means.add_choice.1 (Words game ∷ []) asked.add_choice old new good.schema up unlimited good.choices e h
+      text.add_choice_values 3 means.add_choice.0 refl (choice_row game) refl (λ rows it are. choices_keyed old.now.trees unique rows it (subst (Differ same_choice) (sym are) (apart)))
+
   pub drop_seats : (game : List ℕ) → Executes text.drop_seats_text (Words game ∷ []) old new (Err e) → IsWant (Faulted old new) e
   drop_seats game h =
       delete_sane our_schema 2 seat_table refl refl (λ db. refl) (λ olds news. refl) refers put_seat take_seat (λ v a. refl) cast_seat seat_rules text.drop_seats_text means.drop_seats.1 (Words game ∷ []) asked.drop_seats old new good.schema up unlimited good.seats e h
@@ -140,6 +151,16 @@ module _ (old new : State) (good : IsGood old.now) (up : IsTrue old.is_open) (un
       delete_sane our_schema 7 paper_table refl refl (λ db. refl) (λ olds news. refl) refers put_paper take_paper (λ v a. refl) cast_paper paper_rules text.drop_papers_text means.drop_papers.1 (Words game ∷ []) asked.drop_papers old new good.schema up unlimited good.papers e h
       by_one (is_paper_in game) (tells_paper_in game []) means.drop_papers.0 refl (λ rows it are. papers_keyed old.now.trees unique rows it (subst (Differ same_paper) (sym are) (left same_paper (is_paper_in game) _ keyed.papers)))
 
+  pub drop_ballots : (game : List ℕ) → Executes text.drop_ballots_text (Words game ∷ []) old new (Err e) → IsWant (Faulted old new) e
+  drop_ballots game h =
+      delete_sane our_schema 8 ballot_table refl refl (λ db. refl) (λ olds news. refl) refers put_ballot take_ballot (λ v a. refl) cast_ballot ballot_rules text.drop_ballots_text means.drop_ballots.1 (Words game ∷ []) asked.drop_ballots old new good.schema up unlimited good.ballots e h
+      by_one (is_ballot_in game) (tells_ballot_in game []) means.drop_ballots.0 refl (λ rows it are. ballots_keyed old.now.trees unique rows it (subst (Differ same_ballot) (sym are) (left same_ballot (is_ballot_in game) _ keyed.ballots)))
+
+  pub drop_choices : (game : List ℕ) → Executes text.drop_choices_text (Words game ∷ []) old new (Err e) → IsWant (Faulted old new) e
+  drop_choices game h =
+      delete_sane our_schema 9 choice_table refl refl (λ db. refl) (λ olds news. refl) refers put_choice take_choice (λ v a. refl) cast_choice choice_rules text.drop_choices_text means.drop_choices.1 (Words game ∷ []) asked.drop_choices old new good.schema up unlimited good.choices e h
+      by_one (is_choice_in game) (tells_choice_in game []) means.drop_choices.0 refl (λ rows it are. choices_keyed old.now.trees unique rows it (subst (Differ same_choice) (sym are) (left same_choice (is_choice_in game) _ keyed.choices)))
+
   pub note_desk : (last : ℕ) (kept reply : List ℕ) → Executes text.note_desk_text (Int (pos last) ∷ Bytes kept ∷ Words reply ∷ []) old new (Err e) → IsWant (Faulted old new) e
   note_desk last kept reply h =
       let more = Int (pos last) ∷ Bytes kept ∷ Words reply ∷ [] in
@@ -154,12 +175,23 @@ module _ (old new : State) (good : IsGood old.now) (up : IsTrue old.is_open) (un
       update_sane our_schema 2 seat_table refl refl (λ db. refl) (λ olds news. refl) refers put_seat take_seat (λ v a. refl) cast_seat seat_rules text.note_seat_text means.note_seat.1 params asked.note_seat old new good.schema up unlimited good.seats e h
       by_two (is_seat game power) (tells_seat game power more) (seat_with last kept reply) text.note_seat_row (λ v a. refl) (one_seat old.now good game power) means.note_seat.0 refl (λ rows it are. seats_keyed old.now.trees unique rows it (subst (Differ same_seat) (sym are) (changed same_seat (is_seat game power) (seat_with last kept reply) (λ a b. refl) (λ a b. refl) _ keyed.seats)))
 
-  pub note_vote : (game power : List ℕ) (vote last : ℕ) (kept reply : List ℕ) → Executes text.note_vote_text (Words game ∷ Words power ∷ Int (pos vote) ∷ Int (pos last) ∷ Bytes kept ∷ Words reply ∷ []) old new (Err e) → IsWant (Faulted old new) e
-  note_vote game power vote last kept reply h =
-      let more = Int (pos vote) ∷ Int (pos last) ∷ Bytes kept ∷ Words reply ∷ [] in
+  pub note_ballot : (game power names : List ℕ) → Executes text.note_ballot_text (Words game ∷ Words power ∷ Words names ∷ []) old new (Err e) → IsWant (Faulted old new) e
+  note_ballot game power names h =
+      let more = Words names ∷ [] in
       let params = Words game ∷ Words power ∷ more in
-      update_sane our_schema 2 seat_table refl refl (λ db. refl) (λ olds news. refl) refers put_seat take_seat (λ v a. refl) cast_seat seat_rules text.note_vote_text means.note_vote.1 params asked.note_vote old new good.schema up unlimited good.seats e h
-      by_two (is_seat game power) (tells_seat game power more) (λ s. voting vote (seat_with last kept reply s)) text.note_vote_row (λ v a. refl) (one_seat old.now good game power) means.note_vote.0 refl (λ rows it are. seats_keyed old.now.trees unique rows it (subst (Differ same_seat) (sym are) (changed same_seat (is_seat game power) (λ s. voting vote (seat_with last kept reply s)) (λ a b. refl) (λ a b. refl) _ keyed.seats)))
+      update_sane our_schema 8 ballot_table refl refl (λ db. refl) (λ olds news. refl) refers put_ballot take_ballot (λ v a. refl) cast_ballot ballot_rules text.note_ballot_text means.note_ballot.1 params asked.note_ballot old new good.schema up unlimited good.ballots e h
+      by_two (is_ballot game power) (tells_ballot game power more) (named names) text.note_ballot_row (λ v a. refl) (one_ballot old.now good game power) means.note_ballot.0 refl (λ rows it are. ballots_keyed old.now.trees unique rows it (subst (Differ same_ballot) (sym are) (changed same_ballot (is_ballot game power) (named names) (λ a b. refl) (λ a b. refl) _ keyed.ballots)))
+
+  pub clear_vote : (game power : List ℕ) → Executes text.clear_vote_text (Words game ∷ Words power ∷ []) old new (Err e) → IsWant (Faulted old new) e
+  clear_vote game power h =
+      let params = Words game ∷ Words power ∷ [] in
+      update_sane our_schema 2 seat_table refl refl (λ db. refl) (λ olds news. refl) refers put_seat take_seat (λ v a. refl) cast_seat seat_rules text.clear_vote_text means.clear_vote.1 params asked.clear_vote old new good.schema up unlimited good.seats e h
+      by_two (is_seat game power) (tells_seat game power []) voteless text.clear_vote_row (λ v a. refl) (one_seat old.now good game power) means.clear_vote.0 refl (λ rows it are. seats_keyed old.now.trees unique rows it (subst (Differ same_seat) (sym are) (changed same_seat (is_seat game power) voteless (λ a b. refl) (λ a b. refl) _ keyed.seats)))
+
+  pub set_version : Executes text.set_version_text [] old new (Err e) → IsWant (Faulted old new) e
+  set_version h =
+      update_sane our_schema 0 desk_table refl refl (λ db. refl) (λ olds news. refl) refers put_desk take_desk (λ v a. refl) cast_desk desk_rules text.set_version_text means.set_version.1 [] asked.set_version old new good.schema up unlimited good.desk e h
+      by_first is_first (tells_desk []) second text.set_version_row (λ v a. refl) (one_desk old.now good) means.set_version.0 refl (λ rows it are. desk_keyed old.now.trees unique rows it (subst (Differ same_desk) (sym are) (changed same_desk is_first second (λ a b. refl) (λ a b. refl) _ keyed.desk)))
 
   pub note_sent : (game power : List ℕ) (last : ℕ) (kept reply : List ℕ) (sent : ℕ) → Executes text.note_sent_text (Words game ∷ Words power ∷ Int (pos last) ∷ Bytes kept ∷ Words reply ∷ Int (pos sent) ∷ []) old new (Err e) → IsWant (Faulted old new) e
   note_sent game power last kept reply sent h =

@@ -36,6 +36,14 @@ abbrev pub create_paper : List ℕ
 create_paper =
     codes "CREATE TABLE paper (game TEXT NOT NULL, number INTEGER NOT NULL, body TEXT NOT NULL, PRIMARY KEY (game, number)) STRICT"
 
+abbrev pub create_ballot : List ℕ
+create_ballot =
+    codes "CREATE TABLE ballot (game TEXT NOT NULL, power TEXT NOT NULL, names TEXT NOT NULL, PRIMARY KEY (game, power)) STRICT"
+
+abbrev pub create_choice : List ℕ
+create_choice =
+    codes "CREATE TABLE choice (game TEXT NOT NULL PRIMARY KEY, intent INTEGER NOT NULL) STRICT"
+
 -- a schema without a table, and one with tables made in turn
 abbrev pub no_schema : Schema
 no_schema = record { tables = []; indexes = []; views = [] }

@@ -3,7 +3,7 @@ use Rattle.std.specs.Prelude.{◌≡◌}
 use Rattle.sqlite.specs.Effect.{Database, IsDatabase}
 use Rattle.dip_store_sql.specs.Recorded.{IsRising}
 use Rattle.dip_store_sql.specs.Schema.{our_schema}
-use Rattle.dip_store_sql.specs.Rows.{put_desk, take_desk, put_game, take_game, put_seat, take_seat, put_unit, take_unit, put_centre, take_centre, put_pending, take_pending, put_box, take_box, put_paper, take_paper}
+use Rattle.dip_store_sql.specs.Rows.{put_desk, take_desk, put_game, take_game, put_seat, take_seat, put_unit, take_unit, put_centre, take_centre, put_pending, take_pending, put_box, take_box, put_paper, take_paper, put_ballot, take_ballot, put_choice, take_choice}
 
 -- the database has our schema, and each row is a record as it is put into columns
 pub record IsGood (db : Database) : Type 0 where
@@ -17,3 +17,5 @@ pub record IsGood (db : Database) : Type 0 where
   pub pending : IsRising put_pending take_pending (db.trees 10)
   pub boxes : IsRising put_box take_box (db.trees 12)
   pub papers : IsRising put_paper take_paper (db.trees 14)
+  pub ballots : IsRising put_ballot take_ballot (db.trees 16)
+  pub choices : IsRising put_choice take_choice (db.trees 18)

@@ -1,9 +1,9 @@
--- The keys of the eight tables: no two rows of a table agree on its key.
+-- The keys of the ten tables: no two rows of a table agree on its key.
 use Rattle.std.specs.Prelude.{◌≡◌, ◌==◌, ◌&&◌, Bool, false, List, bytes_eq}
 use Rattle.sqlite.specs.Tree.{IsAscending}
 use Rattle.dip_store_tables.specs.Boards.{UnitRow, CentreRow}
 use Rattle.dip_store_tables.specs.Coding.{same_name, same_seat}
-use Rattle.dip_store_tables.specs.Tables.{DeskRow, PendingRow, BoxRow, PaperRow, Tables}
+use Rattle.dip_store_tables.specs.Tables.{DeskRow, PendingRow, BoxRow, PaperRow, BallotRow, ChoiceRow, Tables}
 
 abbrev pub same_desk : DeskRow → DeskRow → Bool
 same_desk a b = a.id == b.id
@@ -23,6 +23,12 @@ same_item a b = bytes_eq a.game b.game && (bytes_eq a.power b.power && (a.number
 abbrev pub same_paper : PaperRow → PaperRow → Bool
 same_paper a b = bytes_eq a.game b.game && (a.number == b.number)
 
+abbrev pub same_ballot : BallotRow → BallotRow → Bool
+same_ballot a b = bytes_eq a.game b.game && bytes_eq a.power b.power
+
+abbrev pub same_choice : ChoiceRow → ChoiceRow → Bool
+same_choice a b = bytes_eq a.game b.game
+
 -- no two records of a list agree on their key
 abbrev pub Differ : {A : Type 0} → (A → A → Bool) → List A → Type 0
 Differ same xs = IsAscending (λ a b. same a b ≡ false) xs
@@ -36,3 +42,5 @@ pub record AreKeyed (t : Tables) : Type 0 where
   pub pending : Differ same_order t.pending
   pub boxes : Differ same_item t.boxes
   pub papers : Differ same_paper t.papers
+  pub ballots : Differ same_ballot t.ballots
+  pub choices : Differ same_choice t.choices

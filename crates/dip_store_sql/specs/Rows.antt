@@ -5,7 +5,7 @@ use Rattle.sqlite.specs.declared.types.Value.TheVariants.{Null, Int, Real, Text 
 use Rattle.sqlite.specs.Order.{Row, column, bytes}
 use Rattle.sqlite.specs.Tree.{Trees}
 use Rattle.dip_store_tables.specs.Boards.{UnitRow, CentreRow}
-use Rattle.dip_store_tables.specs.Tables.{DeskRow, GameRow, SeatRow, PendingRow, BoxRow, PaperRow, Tables}
+use Rattle.dip_store_tables.specs.Tables.{DeskRow, GameRow, SeatRow, PendingRow, BoxRow, PaperRow, BallotRow, ChoiceRow, Tables}
 
 -- what isn't a number from 0 on is read as 0
 abbrev pub number_in : Value → ℕ
@@ -132,6 +132,25 @@ take_paper r = record {
   body = bytes (column r 3);
 }
 
+abbrev pub put_ballot : BallotRow → Row
+put_ballot b = Words b.game ∷ Words b.power ∷ Words b.names ∷ []
+
+abbrev pub take_ballot : Row → BallotRow
+take_ballot r = record {
+  game = bytes (column r 1);
+  power = bytes (column r 2);
+  names = bytes (column r 3);
+}
+
+abbrev pub put_choice : ChoiceRow → Row
+put_choice c = Words c.game ∷ Int (pos c.intent) ∷ []
+
+abbrev pub take_choice : Row → ChoiceRow
+take_choice r = record {
+  game = bytes (column r 1);
+  intent = number_in (column r 2);
+}
+
 -- each table is a tree's rows, in their order
 abbrev pub tables_of : Trees → Tables
 tables_of db = record {
@@ -143,4 +162,6 @@ tables_of db = record {
   pending = map take_pending (db 10);
   boxes = map take_box (db 12);
   papers = map take_paper (db 14);
+  ballots = map take_ballot (db 16);
+  choices = map take_choice (db 18);
 }

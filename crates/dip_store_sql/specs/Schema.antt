@@ -1,4 +1,4 @@
--- The eight tables: their columns and their keys.
+-- The ten tables: their columns and their keys.
 use Rattle.std.specs.Prelude.{true, false, [], ◌∷◌, None, codes, List, ℕ, ◌+◌}
 use Rattle.sqlite.specs.Collation.TheVariants.{Binary}
 use Rattle.sqlite.specs.declared.types.Value.TheVariants.{Null}
@@ -136,6 +136,25 @@ paper_table = keyed (codes "paper") 14
     )
     (1 ∷ 2 ∷ []) (1 ∷ 2 ∷ [])
 
+abbrev pub ballot_table : Table
+ballot_table = keyed (codes "ballot") 16
+    (
+    given (codes "game") Text ∷
+    given (codes "power") Text ∷
+    given (codes "names") Text ∷
+    []
+    )
+    (1 ∷ 2 ∷ []) (1 ∷ 2 ∷ [])
+
+abbrev pub choice_table : Table
+choice_table = keyed (codes "choice") 18
+    (
+    given (codes "game") Text ∷
+    given (codes "intent") Integer ∷
+    []
+    )
+    (1 ∷ []) (1 ∷ [])
+
 -- what SQL makes of a key: an index behind its table
 abbrev pub index_of : List ℕ → ℕ → List ℕ → Index
 index_of name table columns = record {
@@ -158,6 +177,8 @@ our_schema = record {
       pending_table ∷
       box_table ∷
       paper_table ∷
+      ballot_table ∷
+      choice_table ∷
       [];
   indexes =
       index_of (codes "sqlite_autoindex_desk_1") 0 (1 ∷ []) ∷
@@ -168,6 +189,8 @@ our_schema = record {
       index_of (codes "sqlite_autoindex_pending_1") 10 (1 ∷ 2 ∷ 3 ∷ []) ∷
       index_of (codes "sqlite_autoindex_box_1") 12 (1 ∷ 2 ∷ 3 ∷ []) ∷
       index_of (codes "sqlite_autoindex_paper_1") 14 (1 ∷ 2 ∷ []) ∷
+      index_of (codes "sqlite_autoindex_ballot_1") 16 (1 ∷ 2 ∷ []) ∷
+      index_of (codes "sqlite_autoindex_choice_1") 18 (1 ∷ []) ∷
       [];
   views = [];
 }

@@ -3,7 +3,7 @@ use Rattle.std.specs.Prelude.{ℕ, pos, ◌==◌, ◌&&◌, Bool, List, [], ◌�
 use Rattle.sqlite.specs.declared.types.Value.TheVariants.{Int, Text as Words, Blob as Bytes}
 use Rattle.sqlite.specs.Order.{Row}
 use Rattle.dip_store_tables.specs.Boards.{UnitRow, CentreRow}
-use Rattle.dip_store_tables.specs.Tables.{DeskRow, GameRow, SeatRow, PendingRow, BoxRow, PaperRow}
+use Rattle.dip_store_tables.specs.Tables.{DeskRow, GameRow, SeatRow, PendingRow, BoxRow, PaperRow, BallotRow}
 
 abbrev pub show_desk : DeskRow → Row
 show_desk d =
@@ -47,6 +47,15 @@ show_centre c = Words c.province ∷ Words c.power ∷ []
 
 abbrev pub show_order : PendingRow → Row
 show_order p = Words p.province ∷ Words p.line ∷ []
+
+abbrev pub show_ballot : BallotRow → Row
+show_ballot b = Words b.names ∷ []
+
+abbrev pub show_name : GameRow → Row
+show_name g = Words g.name ∷ []
+
+abbrev pub show_vote : SeatRow → Row
+show_vote s = Words s.power ∷ Int (pos s.vote) ∷ []
 
 -- an item of an inbox by its number, and a paper of a game
 abbrev pub is_item : List ℕ → List ℕ → ℕ → BoxRow → Bool

@@ -8,11 +8,11 @@ use Rattle.dip_store_sql.specs.Asking.{by_one, by_two, by_three, by_first, in_tu
 
 abbrev pub add_desk_text : List ℕ
 add_desk_text =
-    codes "INSERT INTO desk (id, version, map, digest, last, kept, reply) VALUES (1, 1, ?1, ?2, 0, x'', '')"
+    codes "INSERT INTO desk (id, version, map, digest, last, kept, reply) VALUES (1, 2, ?1, ?2, 0, x'', '')"
 
 abbrev pub add_desk_values : List Term
 add_desk_values =
-    lit Null ∷ lit (Int (pos 1)) ∷ lit (Int (pos 1)) ∷ col 0 0 ∷ col 0 1 ∷ lit (Int (pos 0)) ∷
+    lit Null ∷ lit (Int (pos 1)) ∷ lit (Int (pos 2)) ∷ col 0 0 ∷ col 0 1 ∷ lit (Int (pos 0)) ∷
     lit (Blob []) ∷ lit (Text []) ∷ []
 
 abbrev pub add_game_text : List ℕ
@@ -70,6 +70,20 @@ add_paper_text =
 abbrev pub add_paper_values : List Term
 add_paper_values = lit Null ∷ col 0 0 ∷ col 0 1 ∷ col 0 2 ∷ []
 
+abbrev pub add_ballot_text : List ℕ
+add_ballot_text =
+    codes "INSERT INTO ballot (game, power, names) VALUES (?1, ?2, ?3)"
+
+abbrev pub add_ballot_values : List Term
+add_ballot_values = lit Null ∷ col 0 0 ∷ col 0 1 ∷ col 0 2 ∷ []
+
+abbrev pub add_choice_text : List ℕ
+add_choice_text =
+    codes "INSERT INTO choice (game, intent) VALUES (?1, 0)"
+
+abbrev pub add_choice_values : List Term
+add_choice_values = lit Null ∷ col 0 0 ∷ lit (Int (pos 0)) ∷ []
+
 abbrev pub drop_seats_text : List ℕ
 drop_seats_text =
     codes "DELETE FROM seat WHERE game = ?1"
@@ -98,6 +112,14 @@ abbrev pub drop_papers_text : List ℕ
 drop_papers_text =
     codes "DELETE FROM paper WHERE game = ?1"
 
+abbrev pub drop_ballots_text : List ℕ
+drop_ballots_text =
+    codes "DELETE FROM ballot WHERE game = ?1"
+
+abbrev pub drop_choices_text : List ℕ
+drop_choices_text =
+    codes "DELETE FROM choice WHERE game = ?1"
+
 abbrev pub note_desk_text : List ℕ
 note_desk_text =
     codes "UPDATE desk SET last = ?1, kept = ?2, reply = ?3 WHERE id = 1"
@@ -115,14 +137,29 @@ note_seat_row =
     col 1 0 ∷ col 1 0 ∷ col 1 1 ∷ col 1 2 ∷ col 1 3 ∷ col 1 4 ∷ col 0 2 ∷ col 0 3 ∷ col 0 4 ∷
     col 1 8 ∷ col 1 9 ∷ []
 
-abbrev pub note_vote_text : List ℕ
-note_vote_text =
-    codes "UPDATE seat SET vote = ?3, last = ?4, kept = ?5, reply = ?6 WHERE game = ?1 AND power = ?2"
+abbrev pub note_ballot_text : List ℕ
+note_ballot_text =
+    codes "UPDATE ballot SET names = ?3 WHERE game = ?1 AND power = ?2"
 
-abbrev pub note_vote_row : List Term
-note_vote_row =
-    col 1 0 ∷ col 1 0 ∷ col 1 1 ∷ col 1 2 ∷ col 1 3 ∷ col 0 2 ∷ col 0 3 ∷ col 0 4 ∷ col 0 5 ∷
+abbrev pub note_ballot_row : List Term
+note_ballot_row = col 1 0 ∷ col 1 0 ∷ col 1 1 ∷ col 1 2 ∷ col 0 2 ∷ []
+
+abbrev pub clear_vote_text : List ℕ
+clear_vote_text =
+    codes "UPDATE seat SET vote = 0 WHERE game = ?1 AND power = ?2"
+
+abbrev pub clear_vote_row : List Term
+clear_vote_row =
+    col 1 0 ∷ col 1 0 ∷ col 1 1 ∷ col 1 2 ∷ col 1 3 ∷ lit (Int (pos 0)) ∷ col 1 5 ∷ col 1 6 ∷ col 1 7 ∷
     col 1 8 ∷ col 1 9 ∷ []
+
+abbrev pub set_version_text : List ℕ
+set_version_text =
+    codes "UPDATE desk SET version = 2 WHERE id = 1"
+
+abbrev pub set_version_row : List Term
+set_version_row =
+    col 1 0 ∷ col 1 0 ∷ col 1 1 ∷ lit (Int (pos 2)) ∷ col 1 3 ∷ col 1 4 ∷ col 1 5 ∷ col 1 6 ∷ col 1 7 ∷ []
 
 abbrev pub note_sent_text : List ℕ
 note_sent_text =
@@ -210,6 +247,16 @@ count_sent_shown = col 1 8 ∷ []
 abbrev pub count_sent_query : Query
 count_sent_query = plain_query 4 by_two count_sent_shown []
 
+abbrev pub find_ballot_text : List ℕ
+find_ballot_text =
+    codes "SELECT names FROM ballot WHERE game = ?1 AND power = ?2"
+
+abbrev pub find_ballot_shown : List Term
+find_ballot_shown = col 1 3 ∷ []
+
+abbrev pub find_ballot_query : Query
+find_ballot_query = plain_query 16 by_two find_ballot_shown []
+
 abbrev pub find_item_text : List ℕ
 find_item_text =
     codes "SELECT grey, writer, addressees, body FROM box WHERE game = ?1 AND power = ?2 AND number = ?3"
@@ -270,3 +317,23 @@ list_orders_shown = col 1 3 ∷ col 1 4 ∷ []
 
 abbrev pub list_orders_query : Query
 list_orders_query = plain_query 10 by_two list_orders_shown in_turn
+
+abbrev pub list_games_text : List ℕ
+list_games_text =
+    codes "SELECT name FROM game ORDER BY rowid"
+
+abbrev pub list_games_shown : List Term
+list_games_shown = col 1 1 ∷ []
+
+abbrev pub list_games_query : Query
+list_games_query = plain_query 2 [] list_games_shown in_turn
+
+abbrev pub list_votes_text : List ℕ
+list_votes_text =
+    codes "SELECT power, vote FROM seat WHERE game = ?1 ORDER BY rowid"
+
+abbrev pub list_votes_shown : List Term
+list_votes_shown = col 1 2 ∷ col 1 4 ∷ []
+
+abbrev pub list_votes_query : Query
+list_votes_query = plain_query 4 by_one list_votes_shown in_turn

@@ -2,7 +2,7 @@
 use Rattle.std.specs.Prelude.{ℕ, ◌==◌, Bool, List, [], ◌∷◌, ◌++◌}
 use Rattle.dip_store_tables.specs.Lists.{update_where, delete_where}
 use Rattle.dip_store_tables.specs.Boards.{UnitRow, CentreRow}
-use Rattle.dip_store_tables.specs.Tables.{DeskRow, GameRow, SeatRow, PendingRow, BoxRow, PaperRow, Tables, is_seat_in, is_unit_in, is_centre_in, is_pending_in, is_box_in, is_paper_in, is_named, is_seat, is_pending}
+use Rattle.dip_store_tables.specs.Tables.{DeskRow, GameRow, SeatRow, PendingRow, BoxRow, PaperRow, BallotRow, ChoiceRow, Tables, is_seat_in, is_unit_in, is_centre_in, is_pending_in, is_box_in, is_paper_in, is_ballot_in, is_choice_in, is_named, is_seat, is_pending, is_ballot}
 
 -- a record behind the others
 abbrev pub with_desk : DeskRow → Tables → Tables
@@ -29,6 +29,12 @@ with_item b t = record t { boxes = t.boxes ++ b ∷ [] }
 abbrev pub with_paper : PaperRow → Tables → Tables
 with_paper p t = record t { papers = t.papers ++ p ∷ [] }
 
+abbrev pub with_ballot : BallotRow → Tables → Tables
+with_ballot b t = record t { ballots = t.ballots ++ b ∷ [] }
+
+abbrev pub with_choice : ChoiceRow → Tables → Tables
+with_choice c t = record t { choices = t.choices ++ c ∷ [] }
+
 -- none of a game, or of a seat
 abbrev pub no_seats : List ℕ → Tables → Tables
 no_seats game t = record t { seats = delete_where (is_seat_in game) t.seats }
@@ -52,6 +58,12 @@ no_items game t = record t { boxes = delete_where (is_box_in game) t.boxes }
 abbrev pub no_papers : List ℕ → Tables → Tables
 no_papers game t = record t { papers = delete_where (is_paper_in game) t.papers }
 
+abbrev pub no_ballots : List ℕ → Tables → Tables
+no_ballots game t = record t { ballots = delete_where (is_ballot_in game) t.ballots }
+
+abbrev pub no_choices : List ℕ → Tables → Tables
+no_choices game t = record t { choices = delete_where (is_choice_in game) t.choices }
+
 -- one record written anew
 abbrev pub is_first : DeskRow → Bool
 is_first d = d.id == 1
@@ -65,6 +77,9 @@ on_game name f t = record t { games = update_where (is_named name) f t.games }
 abbrev pub on_seat : List ℕ → List ℕ → (SeatRow → SeatRow) → Tables → Tables
 on_seat game power f t = record t { seats = update_where (is_seat game power) f t.seats }
 
+abbrev pub on_ballot : List ℕ → List ℕ → (BallotRow → BallotRow) → Tables → Tables
+on_ballot game power f t = record t { ballots = update_where (is_ballot game power) f t.ballots }
+
 -- tables without a row
 abbrev pub no_tables : Tables
 no_tables = record {
@@ -76,12 +91,14 @@ no_tables = record {
   pending = [];
   boxes = [];
   papers = [];
+  ballots = [];
+  choices = [];
 }
 
--- the master's row of a new desk, of version 1
+-- the master's row of a new desk, of version 2
 abbrev pub new_desk : List ℕ → List ℕ → DeskRow
 new_desk map digest =
-    record { id = 1; version = 1; map = map; digest = digest; last = 0; kept = []; reply = [] }
+    record { id = 1; version = 2; map = map; digest = digest; last = 0; kept = []; reply = [] }
 
 -- a seat that nobody has used yet
 abbrev pub new_seat : List ℕ → List ℕ → List ℕ → SeatRow
@@ -104,8 +121,15 @@ desk_with last kept reply d = record d { last = last; kept = kept; reply = reply
 abbrev pub seat_with : ℕ → List ℕ → List ℕ → SeatRow → SeatRow
 seat_with last kept reply s = record s { last = last; kept = kept; reply = reply }
 
-abbrev pub voting : ℕ → SeatRow → SeatRow
-voting vote s = record s { vote = vote }
+abbrev pub named : List ℕ → BallotRow → BallotRow
+named names b = record b { names = names }
+
+-- in tables of version 2
+abbrev pub voteless : SeatRow → SeatRow
+voteless s = record s { vote = 0 }
+
+abbrev pub second : DeskRow → DeskRow
+second d = record d { version = 2 }
 
 abbrev pub sending : ℕ → SeatRow → SeatRow
 sending sent s = record s { sent = sent }

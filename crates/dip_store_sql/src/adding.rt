@@ -3,17 +3,18 @@ ghost use Rattle.std.specs.Prelude.{◌≡◌, ◌<◌, ◌^◌};
 ghost use Rattle.sqlite.specs.Held.{state};
 ghost use Rattle.dip_store_tables.specs.Coding.{same_name, same_seat};
 ghost use Rattle.dip_store_sql.specs.Calls.{Writes};
-ghost use Rattle.dip_store_sql.specs.TablesAfter.{new_desk, new_seat, with_centre, with_desk, with_game, with_item, with_order, with_paper, with_seat, with_unit};
-ghost use Rattle.dip_store_sql.specs.Keys.{Differ, same_centre, same_desk, same_item, same_order, same_paper, same_unit};
+ghost use Rattle.dip_store_sql.specs.TablesAfter.{new_desk, new_seat, with_centre, with_desk, with_game, with_item, with_order, with_ballot, with_choice, with_paper, with_seat, with_unit};
+ghost use Rattle.dip_store_sql.specs.Keys.{Differ, same_ballot, same_centre, same_choice, same_desk, same_item, same_order, same_paper, same_unit};
 ghost use Rattle.dip_store_sql.specs.Wants.{Wants};
 ghost use Rattle.dip_store_sql.specs.RowViews as rows;
+ghost use Rattle.dip_store_tables.specs.Writing.{choice_row};
 
 use crate::rows::{GameRow, ItemRow, UnitRow};
 use crate::ticks::tick_of;
 use sqlite::types::ToSql;
 use sqlite::{Alter, Error, Transaction, params};
 
-/// The master's row of a new desk, of version 1.
+/// The master's row of a new desk, of version 2.
 pub fn add_desk<S: Alter>(
     tx: &mut Transaction<'_, S>,
     map: &[u8],
@@ -26,7 +27,7 @@ pub fn add_desk<S: Alter>(
         (state S.Store tx.old.conn.now) (state S.Store tx.new.conn.now) result }
 {
     tx.execute(
-        "INSERT INTO desk (id, version, map, digest, last, kept, reply) VALUES (1, 1, ?1, ?2, 0, x'', '')",
+        "INSERT INTO desk (id, version, map, digest, last, kept, reply) VALUES (1, 2, ?1, ?2, 0, x'', '')",
         params![map, digest],
     )
 }
@@ -183,4 +184,36 @@ pub fn add_paper<S: Alter>(
         "INSERT INTO paper (game, number, body) VALUES (?1, ?2, ?3)",
         params![game, number, body],
     )
+}
+
+/// The ballot of a seat. No other has its game and power, where that goes well.
+pub fn add_ballot<S: Alter>(
+    tx: &mut Transaction<'_, S>,
+    game: &str,
+    power: &str,
+    names: &str,
+) -> Result<usize, Error>
+    ensures same_reference { tx.new.conn.ghost_name ≡ tx.old.conn.ghost_name }
+    ensures writes { Writes
+        (with_ballot (record { game = game.now; power = power.now; names = names.now }))
+        (state S.Store tx.old.conn.now) (state S.Store tx.new.conn.now) result }
+    ensures wants { Wants (λ t. Differ same_ballot (with_ballot
+        (record { game = game.now; power = power.now; names = names.now }) t).ballots)
+        (state S.Store tx.old.conn.now) (state S.Store tx.new.conn.now) result }
+{
+    tx.execute(
+        "INSERT INTO ballot (game, power, names) VALUES (?1, ?2, ?3)",
+        params![game, power, names],
+    )
+}
+
+/// The choice of a game. No other is the game's, where that goes well.
+pub fn add_choice<S: Alter>(tx: &mut Transaction<'_, S>, game: &str) -> Result<usize, Error>
+    ensures same_reference { tx.new.conn.ghost_name ≡ tx.old.conn.ghost_name }
+    ensures writes { Writes (with_choice (choice_row game.now))
+        (state S.Store tx.old.conn.now) (state S.Store tx.new.conn.now) result }
+    ensures wants { Wants (λ t. Differ same_choice (with_choice (choice_row game.now) t).choices)
+        (state S.Store tx.old.conn.now) (state S.Store tx.new.conn.now) result }
+{
+    tx.execute("INSERT INTO choice (game, intent) VALUES (?1, 0)", params![game])
 }

@@ -2,7 +2,7 @@
 ghost use Rattle.std.specs.Prelude.{◌≡◌};
 ghost use Rattle.sqlite.specs.Held.{state};
 ghost use Rattle.dip_store_sql.specs.Calls.{Writes};
-ghost use Rattle.dip_store_sql.specs.TablesAfter.{no_centres, no_items, no_orders, no_papers, no_pending, no_seats, no_units};
+ghost use Rattle.dip_store_sql.specs.TablesAfter.{no_ballots, no_centres, no_choices, no_items, no_orders, no_papers, no_pending, no_seats, no_units};
 ghost use Rattle.dip_store_sql.specs.Wants.{Wants, always};
 
 use sqlite::{Alter, Error, Transaction, params};
@@ -89,4 +89,26 @@ pub fn drop_papers<S: Alter>(tx: &mut Transaction<'_, S>, game: &str) -> Result<
         (state S.Store tx.old.conn.now) (state S.Store tx.new.conn.now) result }
 {
     tx.execute("DELETE FROM paper WHERE game = ?1", params![game])
+}
+
+/// No ballot of the game.
+pub fn drop_ballots<S: Alter>(tx: &mut Transaction<'_, S>, game: &str) -> Result<usize, Error>
+    ensures same_reference { tx.new.conn.ghost_name ≡ tx.old.conn.ghost_name }
+    ensures writes { Writes (no_ballots game.now)
+        (state S.Store tx.old.conn.now) (state S.Store tx.new.conn.now) result }
+    ensures wants { Wants always
+        (state S.Store tx.old.conn.now) (state S.Store tx.new.conn.now) result }
+{
+    tx.execute("DELETE FROM ballot WHERE game = ?1", params![game])
+}
+
+/// No choice of the game.
+pub fn drop_choices<S: Alter>(tx: &mut Transaction<'_, S>, game: &str) -> Result<usize, Error>
+    ensures same_reference { tx.new.conn.ghost_name ≡ tx.old.conn.ghost_name }
+    ensures writes { Writes (no_choices game.now)
+        (state S.Store tx.old.conn.now) (state S.Store tx.new.conn.now) result }
+    ensures wants { Wants always
+        (state S.Store tx.old.conn.now) (state S.Store tx.new.conn.now) result }
+{
+    tx.execute("DELETE FROM choice WHERE game = ?1", params![game])
 }

@@ -11,16 +11,19 @@ mod rows;
 mod ticks;
 
 pub use adding::{
-    add_centre, add_desk, add_game, add_item, add_paper, add_pending, add_seat, add_unit,
+    add_ballot, add_centre, add_choice, add_desk, add_game, add_item, add_paper, add_pending, add_seat,
+    add_unit,
 };
 pub use dropping::{
-    drop_centres, drop_items, drop_orders, drop_papers, drop_pending, drop_seats, drop_units,
+    drop_ballots, drop_centres, drop_choices, drop_items, drop_orders, drop_papers, drop_pending,
+    drop_seats, drop_units,
 };
 pub use listings::{list_centres, list_orders, list_seats, list_units};
 pub use lookups::{
-    count_papers, count_sent, find_desk, find_game, find_item, find_paper, find_seat,
+    count_papers, count_sent, find_ballot, find_desk, find_game, find_item, find_paper, find_seat,
 };
 pub use noting::{
-    count_item, note_desk, note_seat, note_sent, note_vote, renew_game, replace_digest,
+    clear_vote, count_item, note_ballot, note_desk, note_seat, note_sent, renew_game, replace_digest,
+    set_version,
 };
 pub use rows::{GameRow, ItemRow, LastLetter, UnitRow};

@@ -2,7 +2,7 @@
 ghost use Rattle.std.specs.Prelude.{◌≡◌, ◌<◌, ◌^◌};
 ghost use Rattle.sqlite.specs.Held.{state};
 ghost use Rattle.dip_store_sql.specs.Calls.{Writes};
-ghost use Rattle.dip_store_sql.specs.TablesAfter.{counting, game_as, on_desk, on_game, on_seat, secret_as, sending, voting};
+ghost use Rattle.dip_store_sql.specs.TablesAfter.{counting, game_as, named, on_ballot, on_desk, on_game, on_seat, second, secret_as, sending, voteless};
 ghost use Rattle.dip_store_sql.specs.Wants.{Wants, always};
 ghost use Rattle.dip_store_sql.specs.RowViews as rows;
 
@@ -47,25 +47,52 @@ pub fn note_seat<S: Alter>(
     )
 }
 
-/// The number of the seat's vote, and its last letter.
-pub fn note_vote<S: Alter>(
+/// What the seat votes for, by the text of its ballot.
+pub fn note_ballot<S: Alter>(
     tx: &mut Transaction<'_, S>,
     game: &str,
     power: &str,
-    vote: u32,
-    letter: &LastLetter<'_>,
+    names: &str,
 ) -> Result<usize, Error>
     ensures same_reference { tx.new.conn.ghost_name ≡ tx.old.conn.ghost_name }
-    ensures writes { Writes (on_seat game.now power.now
-        (λ s. voting vote (rows.seat_kept letter.now s)))
+    ensures writes { Writes (on_ballot game.now power.now (named names.now))
         (state S.Store tx.old.conn.now) (state S.Store tx.new.conn.now) result }
     ensures wants { Wants always
         (state S.Store tx.old.conn.now) (state S.Store tx.new.conn.now) result }
 {
     tx.execute(
-        "UPDATE seat SET vote = ?3, last = ?4, kept = ?5, reply = ?6 WHERE game = ?1 AND power = ?2",
-        params![game, power, vote, letter.number, letter.sum, letter.reply],
+        "UPDATE ballot SET names = ?3 WHERE game = ?1 AND power = ?2",
+        params![game, power, names],
     )
+}
+
+/// No vote in the seat's row: it is on its ballot.
+pub fn clear_vote<S: Alter>(
+    tx: &mut Transaction<'_, S>,
+    game: &str,
+    power: &str,
+) -> Result<usize, Error>
+    ensures same_reference { tx.new.conn.ghost_name ≡ tx.old.conn.ghost_name }
+    ensures writes { Writes (on_seat game.now power.now voteless)
+        (state S.Store tx.old.conn.now) (state S.Store tx.new.conn.now) result }
+    ensures wants { Wants always
+        (state S.Store tx.old.conn.now) (state S.Store tx.new.conn.now) result }
+{
+    tx.execute(
+        "UPDATE seat SET vote = 0 WHERE game = ?1 AND power = ?2",
+        params![game, power],
+    )
+}
+
+/// The tables are of version 2.
+pub fn set_version<S: Alter>(tx: &mut Transaction<'_, S>) -> Result<usize, Error>
+    ensures same_reference { tx.new.conn.ghost_name ≡ tx.old.conn.ghost_name }
+    ensures writes { Writes (on_desk second)
+        (state S.Store tx.old.conn.now) (state S.Store tx.new.conn.now) result }
+    ensures wants { Wants always
+        (state S.Store tx.old.conn.now) (state S.Store tx.new.conn.now) result }
+{
+    tx.execute("UPDATE desk SET version = 2 WHERE id = 1", &[])
 }
 
 /// How many press letters the seat has sent, and its last letter.

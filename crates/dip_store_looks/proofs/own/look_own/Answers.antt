@@ -1,11 +1,12 @@
-use Rattle.std.proofs.Common.{◌≡◌, map, filter, subst, ap, Some, ◌∙◌}
+use Rattle.std.proofs.Common.{◌≡◌, subst, sym, ap, Some, ◌∙◌}
 use Rattle.std.proofs.lemmas.Result.{err_from_is_err_and}
 use Rattle.sqlite.specs.Effect.{Database}
 use Rattle.dip_store_tables.specs.Boards.{power_name}
+use Rattle.dip_store_tables.specs.Legible.{AreOurs}
+use Rattle.dip_desk_state.specs.Rows as rows
 use Rattle.dip_store_sql.specs.Calls.{tables_in}
 use Rattle.dip_store_sql.specs.Rows.{tables_of}
-use Rattle.dip_store_sql.specs.Showing.{show_order}
-use Rattle.dip_store_tables.specs.Tables.{is_pending}
+use Rattle.dip_store_looks.specs.Shown.{IsBeside}
 use Rattle.dip_store_looks.proofs.Blaming.{outside_weaker, told_on}
 use Rattle.dip_store_sql.proofs.Caused.{faulted_late}
 use Rattle.sqlite.specs.Held.{state}
@@ -16,40 +17,40 @@ use Rattle.dip_store_looks.proofs.own.look_own.Goals as goal
 pub returns-clause-value : goal.returns-clause-value
 returns-clause-value g c kept clean =
     let a = c.in_ok-row.ensures.selects in
-    let clean1 = c.in_ok-orders.ensures.selects.fair clean in
+    let clean1 = c.in_ok-beside.ensures.selects.fair clean in
     let shows1 = a.ok kept clean1 in
     let kept1 = a.kept kept shows1 in
     let same1 = a.same kept shows1 in
     let m = c.args.map.now in
     let name = c.args.game.now in
     let row = rw (c.in-Some.is, c.power_name-name.ensures) at (c.in_ok-row.ensures.value kept clean1) in
-    let listed = rw c.power_name-name.ensures at (c.in_ok-orders.ensures.value kept1 clean) in
-    let orders = subst (λ (d : Database). c.in_ok-orders.orders.items ≡ map show_order (filter (is_pending name (power_name m c.args.power)) (tables_of d.trees).pending)) same1 listed in
-    let said = rw c.as_slice.ensures.value at c.in_ok-own.ensures.value in
-    ap Some said
-    ∙ own_is m c.facts.ensures (tables_in g.S.Store c.args.conn.now) name c.args.power c.in-Some.row c.in_ok-orders.orders.items c.requires row orders
+    let there = rw c.power_name-name.ensures at (c.in_ok-beside.ensures.value kept1 clean) in
+    let beside = subst (λ (d : Database). IsBeside m (tables_of d.trees) name (power_name m c.args.power) c.in_ok-beside.beside) same1 there in
+    ap Some c.in_ok-own.ensures.value
+    ∙ own_is m c.facts.ensures (tables_in g.S.Store c.args.conn.now) name c.args.power c.in-Some.row (rows.vote c.in_ok-beside.beside.vote) c.in_ok-beside.beside.orders.items c.requires row beside.vote beside.orders
 
 pub returns-in_err-own-clause-own : goal.returns-in_err-own-clause-own
 returns-in_err-own-clause-own g c kept shows clean ours =
     let a = c.in_ok-row.ensures.selects in
-    let clean1 = c.in_ok-orders.ensures.selects.fair clean in
+    let clean1 = c.in_ok-beside.ensures.selects.fair clean in
     let shows1 = a.ok kept clean1 in
     let kept1 = a.kept kept shows1 in
     let same1 = a.same kept shows1 in
     let m = c.args.map.now in
     let name = c.args.game.now in
     let row = rw (c.in-Some.is, c.power_name-name.ensures) at (c.in_ok-row.ensures.value kept clean1) in
-    let listed = rw c.power_name-name.ensures at (c.in_ok-orders.ensures.value kept1 clean) in
-    let orders = subst (λ (d : Database). c.in_ok-orders.orders.items ≡ map show_order (filter (is_pending name (power_name m c.args.power)) (tables_of d.trees).pending)) same1 listed in
+    let there = rw c.power_name-name.ensures at (c.in_ok-beside.ensures.value kept1 clean) in
+    let beside = subst (λ (d : Database). IsBeside m (tables_of d.trees) name (power_name m c.args.power) c.in_ok-beside.beside) same1 there in
     let t = tables_in g.S.Store c.args.conn.now in
-    let fails = rw c.as_slice.ensures.value at c.in_err-own.ensures.own in
     let p = err_from_is_err_and c.from_residual-in_err-own.result c.from_residual-in_err-own.ensures.1 in
-    rw (p.1, p.2) (outside_weaker ⊥ _ _ (λ none. absurd none) (fails (seat_found_readable m t ours name (power_name m c.args.power) c.in-Some.row row) (orders_readable m t ours name (power_name m c.args.power) c.in_ok-orders.orders.items orders)))
+    rw (p.1, p.2) (outside_weaker ⊥ _ _ (λ none. absurd none) (c.in_err-own.ensures.own (seat_found_readable m t ours name (power_name m c.args.power) c.in-Some.row row) (orders_readable m t ours name (power_name m c.args.power) c.in_ok-beside.beside.orders.items beside.orders)))
 
-pub returns-in_err-orders-clause-own : goal.returns-in_err-orders-clause-own
-returns-in_err-orders-clause-own g c kept shows clean ours =
+pub returns-in_err-beside-clause-own : goal.returns-in_err-beside-clause-own
+returns-in_err-beside-clause-own g c kept shows clean ours =
     let a = c.in_ok-row.ensures.selects in
-    let shows1 = a.ok kept (c.in_err-orders.ensures.selects.fair clean) in
-    let late = faulted_late (state g.S.Store c.args.conn.now) (state g.S.Store c.find_seat.new.conn) (state g.S.Store c.list_orders.new.conn) a.counts in
-    told_on _ _ c.in_err-orders.field-0.0 c.from_residual-in_err-orders.result c.from_residual-in_err-orders.ensures.1 late
-    (c.in_err-orders.ensures.caused (a.kept kept shows1) shows1 clean)
+    let shows1 = a.ok kept (c.in_err-beside.ensures.selects.fair clean) in
+    let late = faulted_late (state g.S.Store c.args.conn.now) (state g.S.Store c.find_seat.new.conn) (state g.S.Store c.look_beside.new.conn) a.counts in
+    let m = c.args.map.now in
+    let same1 = a.same kept shows1 in
+    let p = err_from_is_err_and c.from_residual-in_err-beside.result c.from_residual-in_err-beside.ensures.1 in
+    rw (p.1, p.2) (outside_weaker _ _ _ late (c.in_err-beside.ensures.own (a.kept kept shows1) shows1 clean (subst (λ (d : Database). AreOurs m (tables_of d.trees)) (sym same1) ours)))

@@ -30,7 +30,7 @@ returns-in-Ok-clause-value g c kept clean =
     let here1 = leaves g.S.Store c.args.conn.now _ c.in_ok-public.field-0 one kept clean1 in
     let here2 = leaves g.S.Store c.args.conn.now _ seats both kept clean2 in
     let listed = subst (λ (t : Tables). seats.items ≡ map show_listed (filter (is_seat_in name) t.seats)) here1.1 (c.in_ok-rows.ensures.value here1.0 clean2) in
-    let read = subst (λ (t : Tables). map rows.own owns.items ≡ map (listed_own m t.pending name) seats.items) here2.1
+    let read = subst (λ (t : Tables). map rows.own owns.items ≡ map (listed_own m t name) seats.items) here2.1
     (rw c.as_slice.ensures.value at (c.in-Ok.ensures.value here2.0 clean)) in
     whole_is m (tables_in g.S.Store c.args.conn.now) name (rows.public public) (map rows.own owns.items) seats.items
     (rw c.in-Some.is at (c.in_ok-public.ensures.value kept clean1)) read listed

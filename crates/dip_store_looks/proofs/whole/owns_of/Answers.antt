@@ -22,12 +22,12 @@ loop-seat-preserved g c =
       value = λ kept clean.
           let before = so_far.same kept (p.fair clean) in
           let one = c.in_ok-own_of.ensures.value before.0 clean
-          ∙ ap (λ (u : Tables). listed_own c.args.map.now u.pending c.args.game.now c.seat-item.result) before.1
-          ∙ ap (listed_own c.args.map.now t.pending c.args.game.now) c.seat-item.is in
+          ∙ ap (λ (u : Tables). listed_own c.args.map.now u c.args.game.now c.seat-item.result) before.1
+          ∙ ap (listed_own c.args.map.now t c.args.game.now) c.seat-item.is in
           ap (map rows.own) c.in_ok-push.ensures.items ∙ map-append rows.own c.loop-seat.owns.items (own ∷ [])
           ∙ ap (λ xs. xs ++ rows.own own ∷ []) (so_far.value kept (p.fair clean))
-          ∙ ap (λ x. map (listed_own c.args.map.now t.pending c.args.game.now) (take c.loop-seat.seat-index c.args.seats.now) ++ x ∷ []) one
-          ∙ sym (taken_more (listed_own c.args.map.now t.pending c.args.game.now) c.args.seats.now c.loop-seat.seat-index _ (omega arith));
+          ∙ ap (λ x. map (listed_own c.args.map.now t c.args.game.now) (take c.loop-seat.seat-index c.args.seats.now) ++ x ∷ []) one
+          ∙ sym (taken_more (listed_own c.args.map.now t c.args.game.now) c.args.seats.now c.loop-seat.seat-index _ (omega arith));
       same = λ kept clean.
           let before = so_far.same kept (p.fair clean) in
           let on = leaves g.S.Store {X = Own} {E = LookFault} _ _ own p before.0 clean in

@@ -10,7 +10,7 @@ use Rattle.dip_store_looks.proofs.whole.owns_of.Given as goal
 
 abbrev pub invariant-loop-seat : goal.invariant-loop-seat
 invariant-loop-seat g l = record {
-  value : IsKept g.S.Store l.fn.conn → is_honest g.S.Store l.conn → map rows.own l.owns.items ≡ map (listed_own l.map (tables_in g.S.Store l.fn.conn).pending l.game) (take l.seat-index l.seats);
+  value : IsKept g.S.Store l.fn.conn → is_honest g.S.Store l.conn → map rows.own l.owns.items ≡ map (listed_own l.map (tables_in g.S.Store l.fn.conn) l.game) (take l.seat-index l.seats);
   same : IsKept g.S.Store l.fn.conn → is_honest g.S.Store l.conn → IsKept g.S.Store l.conn × (tables_in g.S.Store l.conn ≡ tables_in g.S.Store l.fn.conn);
   shows : IsKept g.S.Store l.fn.conn → does_show g.S.Store l.fn.conn → is_honest g.S.Store l.conn → does_show g.S.Store l.conn;
   selects : SelectsOn g.S.Store l.fn.conn l.conn (went (Unit {0}) Error tt);

@@ -1,0 +1,21 @@
+use Rattle.std.proofs.Common.{[], ◌∷◌, refl}
+use Rattle.sqlite.specs.declared.types.Value.TheVariants.{Text as Words}
+use Rattle.dip_store_sql.specs.Statements as text
+use Rattle.dip_store_sql.proofs.Texts as means
+use Rattle.dip_store_sql.specs.TablesAfter.{on_desk, second}
+use Rattle.dip_store_sql.proofs.Parts.{one}
+use Rattle.dip_store_sql.proofs.Stating as made
+use Rattle.dip_store_sql.proofs.Calls.{wants_one}
+use Rattle.dip_store_sql.proofs.Wants as want
+use Rattle.dip_store_sql.proofs.noting.set_version.Goals as goal
+
+pub returns-clause-writes : goal.returns-clause-writes
+returns-clause-writes g c =
+    one g.S.Store text.set_version_text [] (on_desk second)
+    c.args.tx.now.conn.now c.execute.new.self.conn.now c.execute.result c.execute.ensures.survives c.execute.ensures.ended
+    c.execute.ensures.runs (λ count good h. made.set_version _ _ count good h)
+
+pub returns-clause-wants : goal.returns-clause-wants
+returns-clause-wants g c =
+    wants_one text.set_version_text [] _ _ _ _ _ means.set_version.0 refl c.execute.result (returns-clause-writes g c)
+    c.execute.ensures.runs (λ e ready may h. want.set_version _ _ ready.good ready.up ready.unlimited e h)

@@ -7,8 +7,8 @@ use Rattle.dip_map.specs.Boards.{Position}
 use Rattle.dip_map.specs.declared.boards.Dislodged.{Dislodged}
 use Rattle.dip_store_tables.specs.Boards.{UnitRow, CentreRow, centre_rows, centre_rows_from, dislodged_row, standing_row}
 use Rattle.dip_store_sql.specs.TablesAfter.{no_centres, no_units}
-use Rattle.dip_store_tables.specs.Tables.{PendingRow, SeatRow, Tables, is_unit_in, is_centre_in}
-use Rattle.dip_store_changes.specs.Parts.{more_orders, more_seats, more_units, more_centres, with_board}
+use Rattle.dip_store_tables.specs.Tables.{BallotRow, PendingRow, SeatRow, Tables, is_unit_in, is_centre_in}
+use Rattle.dip_store_changes.specs.Parts.{more_ballots, more_orders, more_seats, more_units, more_centres, with_board}
 
 pub orders_more : (ps qs rs : List PendingRow) → rs ≡ ps ++ qs → (t : Tables) → more_orders qs (more_orders ps t) ≡ more_orders rs t
 orders_more ps qs rs is t = ap (λ rows. record t { pending = rows }) (append_assoc t.pending ps qs ∙ ap (λ xs. t.pending ++ xs) (sym is))
@@ -21,6 +21,12 @@ units_more ps qs rs is t = ap (λ rows. record t { units = rows }) (append_assoc
 
 pub centres_more : (ps qs rs : List CentreRow) → rs ≡ ps ++ qs → (t : Tables) → more_centres qs (more_centres ps t) ≡ more_centres rs t
 centres_more ps qs rs is t = ap (λ rows. record t { centres = rows }) (append_assoc t.centres ps qs ∙ ap (λ xs. t.centres ++ xs) (sym is))
+
+pub ballots_more : (ps qs rs : List BallotRow) → rs ≡ ps ++ qs → (t : Tables) → more_ballots qs (more_ballots ps t) ≡ more_ballots rs t
+ballots_more ps qs rs is t = ap (λ rows. record t { ballots = rows }) (append_assoc t.ballots ps qs ∙ ap (λ xs. t.ballots ++ xs) (sym is))
+
+pub no_ballots_more : (t : Tables) → more_ballots [] t ≡ t
+no_ballots_more t = ap (λ rows. record t { ballots = rows }) (append-nil t.ballots)
 
 pub no_orders_more : (t : Tables) → more_orders [] t ≡ t
 no_orders_more t = ap (λ rows. record t { pending = rows }) (append-nil t.pending)

@@ -3,16 +3,14 @@ use Rattle.std.proofs.Common.{◌≡◌, ℕ, ◌+◌, Bool, true, false, List, 
 use Rattle.std.specs.List.{AllByRecursion}
 use Rattle.std.proofs.lemmas.Bool.{cases_Bool}
 use Rattle.dip_store_tables.specs.Lists.{update_where}
-use Rattle.dip_map.specs.Charts.{Chart, IsMap}
+use Rattle.dip_map.specs.Charts.{Chart}
 use Rattle.dip_store_tables.specs.Boards.{power_name}
 use Rattle.dip_desk_state.specs.Records.{Kept}
 use Rattle.dip_desk_state.specs.State.{Author, Seat, Effect, Nothing, Pending, Votes, Delivers, Opens, Publishes, Seats}
 use Rattle.dip_store_tables.specs.Tables.{SeatRow, Tables, is_seat}
 use Rattle.dip_store_tables.specs.Writing.{as_printed, seat_kept, seat_noted}
 use Rattle.dip_store_sql.specs.TablesAfter.{on_seat}
-use Rattle.dip_store_tables.specs.Coding.{IsEffectOf}
-use Rattle.dip_store_tables.proofs.VoteLemmas.{vote_low}
-use Rattle.dip_store_changes.specs.Noting.{HasLowVote, IsNext, NextCountsAreNoted, noting_sent, seat_sent}
+use Rattle.dip_store_changes.specs.Noting.{IsNext, NextCountsAreNoted, noting_sent, seat_sent}
 
 one_noted : (n : ℕ) (k : Kept) (e : Effect) (s : SeatRow) → n ≡ s.sent + 1 → seat_sent n k e s ≡ seat_noted k e s
 one_noted n k Nothing s next = refl
@@ -40,13 +38,3 @@ pub noted_as : (n : ℕ) (m : Chart) (who : Author) (power : ℕ) (name : List �
     → on_seat game seat (seat_sent n (as_printed game seat k) e) t ≡ noting_sent n m who name k e t
 noted_as n m who power name k e game seat is a b t =
     subst (λ w. on_seat game seat (seat_sent n (as_printed game seat k) e) t ≡ noting_sent n m w name k e t) (sym is) (rw (a, b) refl)
-
--- a vote of the map has a number of 32 bits
-pub low_vote : (m : Chart) (e : Effect) → IsMap m → IsEffectOf m e → HasLowVote e
-low_vote m Nothing ok of_map = tt
-low_vote m (Pending orders) ok of_map = tt
-low_vote m (Votes vote) ok of_map = vote_low m vote ok of_map
-low_vote m (Delivers readers item) ok of_map = tt
-low_vote m (Opens public paper seats) ok of_map = tt
-low_vote m (Publishes public paper played) ok of_map = tt
-low_vote m (Seats seat) ok of_map = tt

@@ -1,5 +1,5 @@
 -- The row of a letter's author, with the count of its press as it is handed over.
-use Rattle.std.specs.Prelude.{◌≡◌, ◌<◌, ◌^◌, ℕ, ◌+◌, true, List}
+use Rattle.std.specs.Prelude.{◌≡◌, ℕ, ◌+◌, true, List}
 use Rattle.std.specs.List.{AllByRecursion}
 use Rattle.dip_store_tables.specs.Lists.{update_where}
 use Rattle.dip_map.specs.Charts.{Chart}
@@ -8,9 +8,8 @@ use Rattle.dip_desk_state.specs.Records.{Kept}
 use Rattle.dip_desk_state.specs.State.{Author, Nobody, TheMaster, Seat, Effect, Nothing, Pending, Votes, Delivers, Opens, Publishes, Seats}
 use Rattle.dip_store_tables.specs.Changing.{noting}
 use Rattle.dip_store_tables.specs.Tables.{SeatRow, Tables, is_seat}
-use Rattle.dip_store_tables.specs.Votes.{vote_number}
 use Rattle.dip_store_tables.specs.Writing.{as_printed, seat_kept}
-use Rattle.dip_store_sql.specs.TablesAfter.{on_seat, sending, voting}
+use Rattle.dip_store_sql.specs.TablesAfter.{on_seat, sending}
 use Rattle.dip_store_sql.specs.declared.rows.LastLetter.{LastLetter}
 
 -- what is kept of a letter, with its whole reply
@@ -21,21 +20,11 @@ letter_kept l = record { number = l.number; sum = l.sum.now; reply = l.reply.now
 abbrev pub seat_sent : ℕ → Kept → Effect → SeatRow → SeatRow
 seat_sent n k Nothing s = seat_kept k s
 seat_sent n k (Pending orders) s = seat_kept k s
-seat_sent n k (Votes vote) s = voting (vote_number vote) (seat_kept k s)
+seat_sent n k (Votes vote) s = seat_kept k s
 seat_sent n k (Delivers readers item) s = sending n (seat_kept k s)
 seat_sent n k (Opens public paper seats) s = seat_kept k s
 seat_sent n k (Publishes public paper played) s = seat_kept k s
 seat_sent n k (Seats seat) s = seat_kept k s
-
--- the number of a vote has 32 bits
-abbrev pub HasLowVote : Effect → Type 0
-HasLowVote Nothing = Unit {0}
-HasLowVote (Pending orders) = Unit {0}
-HasLowVote (Votes vote) = vote_number vote < 2 ^ 32
-HasLowVote (Delivers readers item) = Unit {0}
-HasLowVote (Opens public paper seats) = Unit {0}
-HasLowVote (Publishes public paper played) = Unit {0}
-HasLowVote (Seats seat) = Unit {0}
 
 abbrev pub noting_sent : ℕ → Chart → Author → List ℕ → Kept → Effect → Tables → Tables
 noting_sent n m Nobody name k e t = t

@@ -1,11 +1,13 @@
 -- What the parts of a change make of the tables.
-use Rattle.std.specs.Prelude.{ℕ, Bool, List, ◌++◌, if◌then◌else◌}
+use Rattle.std.specs.Prelude.{ℕ, Bool, List, [], ◌∷◌, ◌++◌, map, if◌then◌else◌}
 use Rattle.dip_store_tables.specs.Lists.{delete_where}
 use Rattle.dip_map.specs.Charts.{Chart}
 use Rattle.dip_map.specs.Boards.{Position}
 use Rattle.dip_store_tables.specs.Boards.{UnitRow, CentreRow, unit_rows, centre_rows}
-use Rattle.dip_store_tables.specs.Tables.{PendingRow, SeatRow, Tables, is_unit_in, is_centre_in, is_seat_in, is_pending_in, is_box_in, is_paper_in}
-use Rattle.dip_store_sql.specs.Keys.{Differ, same_centre, same_unit}
+use Rattle.dip_store_tables.specs.Tables.{BallotRow, PendingRow, SeatRow, Tables, is_ballot_in, is_choice_in, is_unit_in, is_centre_in, is_seat_in, is_pending_in, is_box_in, is_paper_in}
+use Rattle.dip_desk_state.specs.State.{NewSeat}
+use Rattle.dip_store_tables.specs.Writing.{ballot_row, choice_row}
+use Rattle.dip_store_sql.specs.Keys.{Differ, same_ballot, same_centre, same_choice, same_unit}
 
 -- records behind the others
 abbrev pub more_orders : List PendingRow → Tables → Tables
@@ -27,6 +29,16 @@ with_board m game b t = record t {
   centres = delete_where (is_centre_in game) t.centres ++ centre_rows m game b;
 }
 
+abbrev pub more_ballots : List BallotRow → Tables → Tables
+more_ballots bs t = record t { ballots = t.ballots ++ bs }
+
+-- a game's ballots are those of new seats, and its choice is that of a new game
+abbrev pub with_votes : Chart → List ℕ → List NewSeat → Tables → Tables
+with_votes m game seats t = record t {
+  ballots = delete_where (is_ballot_in game) t.ballots ++ map (ballot_row m game) seats;
+  choices = delete_where (is_choice_in game) t.choices ++ choice_row game ∷ [];
+}
+
 -- no seats, orders, items and papers of a game
 abbrev pub cleared : List ℕ → Tables → Tables
 cleared game t = record t {
@@ -43,3 +55,7 @@ pending_left game played t = record t { pending = if played then delete_where (i
 -- no two units and no two owned centres agree on their key
 abbrev pub BoardsDiffer : Tables → Type 0
 BoardsDiffer t = Differ same_unit t.units × Differ same_centre t.centres
+
+-- no two ballots and no two choices agree on their key
+abbrev pub VotesDiffer : Tables → Type 0
+VotesDiffer t = Differ same_ballot t.ballots × Differ same_choice t.choices

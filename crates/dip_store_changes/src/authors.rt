@@ -8,13 +8,12 @@ ghost use Rattle.dip_store_tables.specs.Writing.{as_printed, desk_noted, whole_r
 ghost use Rattle.dip_store_sql.specs.Calls.{Writes};
 ghost use Rattle.dip_store_sql.specs.TablesAfter.{on_desk, on_seat};
 ghost use Rattle.dip_store_sql.specs.Wants.{Wants, always};
-ghost use Rattle.dip_store_changes.specs.Noting.{HasLowVote, NextCountsAreNoted, letter_kept, noting_sent, seat_sent};
+ghost use Rattle.dip_store_changes.specs.Noting.{NextCountsAreNoted, letter_kept, noting_sent, seat_sent};
 
 use dip_desk_state::{Author, Change, Effect, Head, Kept, Outcome, Reply};
 use dip_map::Map;
 use dip_reports::reply_text;
-use dip_store_sql::{LastLetter, note_desk, note_seat, note_sent, note_vote};
-use dip_store_tables::vote_number;
+use dip_store_sql::{LastLetter, note_desk, note_seat, note_sent};
 use sqlite::{Alter, Error, Transaction};
 use std::alloc::{AllocError, Global};
 use std::rc::Rc;
@@ -47,7 +46,6 @@ fn note_at_seat<S: Alter>(
     effect: &Effect,
     sent: u32,
 ) -> Result<(), Error>
-    requires { HasLowVote (machine.effect effect.now) }
     ensures same_reference { tx.new.conn.ghost_name ≡ tx.old.conn.ghost_name }
     ensures writes { Writes (on_seat game.now power.now
         (seat_sent sent (letter_kept letter.now) (machine.effect effect.now)))
@@ -56,8 +54,8 @@ fn note_at_seat<S: Alter>(
         (state S.Store tx.old.conn.now) (state S.Store tx.new.conn.now) result }
 {
     match effect {
-        Effect::Votes(vote) => {
-            note_vote(tx, game, power, vote_number(vote), letter)?;
+        Effect::Votes(_) => {
+            note_seat(tx, game, power, letter)?;
         }
         Effect::Delivers { .. } => {
             note_sent(tx, game, power, letter, sent)?;
@@ -115,7 +113,6 @@ fn note_own<S: Alter>(
     effect: &Effect,
     sent: u32,
 ) -> Result<(), Error>
-    requires { HasLowVote (machine.effect effect.now) }
     ensures same_reference { tx.new.conn.ghost_name ≡ tx.old.conn.ghost_name }
     ensures writes { Writes (on_seat game.now power.now (seat_sent sent
         (as_printed game.now power.now (records.kept kept.now)) (machine.effect effect.now)))
@@ -140,7 +137,6 @@ pub fn note_author<S: Alter>(
     change: &Change,
     sent: u32,
 ) -> Result<(), Error>
-    requires { HasLowVote (machine.effect change.now.effect) }
     ensures same_reference { tx.new.conn.ghost_name ≡ tx.old.conn.ghost_name }
     ensures writes { Writes
         (noting_sent sent map.now (machine.author change.now.author) (string_bytes change.now.game)

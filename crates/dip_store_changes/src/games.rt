@@ -15,6 +15,7 @@ ghost use Rattle.dip_store_sql.specs.Wants.{Wants, always};
 ghost use Rattle.dip_store_sql.specs.RowViews as rows;
 ghost use Rattle.dip_store_changes.specs.Parts.{cleared, pending_left};
 
+use crate::ballots::open_votes;
 use crate::boards::put_board;
 use crate::seats::add_seats;
 use crate::texts::{standoff_text, status_text};
@@ -130,7 +131,7 @@ fn clear<S: Alter>(tx: &mut Transaction<'_, S>, game: &str) -> Result<(), Error>
     Ok(())
 }
 
-/// A new game with its first paper and its seats. Rows that are there of a game of that name go first.
+/// A new game with its first paper, its seats and their ballots. Rows that are there of a game of that name go first.
 pub fn open_game<S: Alter>(
     alloc: Global,
     tx: &mut Transaction<'_, S>,
@@ -155,6 +156,7 @@ pub fn open_game<S: Alter>(
     add_seats(tx, map, game, seats)?;
     put_board(tx, map, game, &public.board)?;
     add_paper(tx, game, public.papers, paper)?;
+    open_votes(tx, map, game, seats)?;
     Ok(())
 }
 

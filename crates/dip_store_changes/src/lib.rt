@@ -2,6 +2,7 @@
 #![tactic(auto)]
 
 mod authors;
+mod ballots;
 mod boards;
 mod counts;
 mod delivering;

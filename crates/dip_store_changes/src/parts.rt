@@ -4,20 +4,21 @@ ghost use Rattle.sqlite.specs.Held.{state};
 ghost use Rattle.dip_desk_state.specs.Bounds.{most_items};
 ghost use Rattle.dip_desk_state.specs.ChangeRows as machine;
 ghost use Rattle.dip_desk_state.specs.Rows as records;
-ghost use Rattle.dip_store_tables.specs.Changing.{ordering, ordering_by};
+ghost use Rattle.dip_store_tables.specs.Changing.{ordering, ordering_by, voting_by};
 ghost use Rattle.dip_store_tables.specs.Coding.{IsEffectOf};
 ghost use Rattle.dip_store_tables.specs.ChangeColumns.{FitsColumns, IsWritable};
 ghost use Rattle.dip_store_sql.specs.Calls.{Writes};
 ghost use Rattle.dip_store_sql.specs.Keys.{AreKeyed, Differ, same_order};
-ghost use Rattle.dip_store_sql.specs.Wants.{Wants};
+ghost use Rattle.dip_store_sql.specs.Wants.{Wants, always};
 ghost use Rattle.dip_store_changes.specs.Making.{OrdersDiffer, changing_sent, reaching_all};
 
 use crate::authors::note_author;
+use crate::ballots::put_vote;
 use crate::delivering::{Reader, deliver};
 use crate::games::{open_game, publish};
 use crate::orders::put_orders;
 use crate::seats::replace;
-use dip_desk_state::{Author, Change, Effect, Standing};
+use dip_desk_state::{Author, Change, Effect, Standing, Vote};
 use dip_map::Map;
 use sqlite::{Alter, Error, Transaction};
 use std::alloc::Global;
@@ -47,8 +48,32 @@ fn order_by<S: Alter>(
     }
 }
 
-/// The author's standing orders, where the effect gives any.
+/// The author's ballot says this vote, where the author has a seat.
+fn vote_by<S: Alter>(
+    alloc: Global,
+    tx: &mut Transaction<'_, S>,
+    map: &Map,
+    game: &str,
+    author: Author,
+    vote: &Vote,
+) -> Result<(), Error>
+    ensures same_reference { tx.new.conn.ghost_name ≡ tx.old.conn.ghost_name }
+    ensures writes { Writes
+        (voting_by map.now (machine.author author) game.now (records.vote vote.now))
+        (state S.Store tx.old.conn.now) (state S.Store tx.new.conn.now) result }
+    ensures wants { Wants always
+        (state S.Store tx.old.conn.now) (state S.Store tx.new.conn.now) result }
+{
+    match author {
+        Author::Nobody => Ok(()),
+        Author::TheMaster => Ok(()),
+        Author::Seat(power) => put_vote(alloc, tx, map, game, power, vote),
+    }
+}
+
+/// What the author orders or votes for, where the effect says it.
 fn order<S: Alter>(
+    alloc: Global,
     tx: &mut Transaction<'_, S>,
     map: &Map,
     game: &str,
@@ -65,8 +90,8 @@ fn order<S: Alter>(
 {
     match effect {
         Effect::Pending(orders) => order_by(tx, map, game, author, orders.as_slice()),
+        Effect::Votes(vote) => vote_by(alloc, tx, map, game, author, vote),
         Effect::Nothing => Ok(()),
-        Effect::Votes(_) => Ok(()),
         Effect::Delivers { .. } => Ok(()),
         Effect::Opens { .. } => Ok(()),
         Effect::Publishes { .. } => Ok(()),
@@ -113,7 +138,7 @@ fn reach<S: Alter>(
     }
 }
 
-/// All parts of a change: what is kept of its letter, its author's orders, and what it does to its game.
+/// All parts of a change: what is kept of its letter, its author's orders or vote, and what it does to its game.
 pub(crate) fn make_parts<S: Alter>(
     alloc: Global,
     tx: &mut Transaction<'_, S>,
@@ -132,9 +157,8 @@ pub(crate) fn make_parts<S: Alter>(
         (changing_sent sent readers.now map.now (machine.change change.now) t))
         (state S.Store tx.old.conn.now) (state S.Store tx.new.conn.now) result }
 {
-    map.facts();
     let game = change.game.as_str();
     note_author(alloc, tx, map, change, sent)?;
-    order(tx, map, game, change.author, &change.effect)?;
+    order(alloc, tx, map, game, change.author, &change.effect)?;
     reach(alloc, tx, map, game, &change.effect, readers)
 }

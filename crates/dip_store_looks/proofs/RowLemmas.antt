@@ -1,12 +1,11 @@
 -- The rows of tables that are ours can be read by the map.
-use Rattle.std.proofs.Common.{◌≡◌, ℕ, pos, ◌<◌, ◌≤◌, ◌+◌, ◌^◌, ◌==◌, Bool, true, false, cond, List, [], ◌∷◌, ◌++◌, length, map, filter, option_map, codes, Option, Some, None, refl, sym, ap, subst, ◌∙◌, inl, inr, append_assoc, arith}
+use Rattle.std.proofs.Common.{◌≡◌, ℕ, pos, ◌<◌, ◌+◌, ◌^◌, ◌==◌, Bool, true, false, List, [], ◌∷◌, ◌++◌, length, map, filter, option_map, codes, Option, Some, None, refl, sym, ap, subst, ◌∙◌, inl, inr, append_assoc, arith}
 use Rattle.std.specs.Fmt.{decimal}
 use Rattle.std.specs.List.{AllByRecursion, find}
 use Rattle.std.proofs.lemmas.Bool.{cases_Bool, eqb-true}
 use Rattle.sqlite.specs.declared.types.Value.TheVariants.{Int, Text as Words, Blob as Bytes}
 use Rattle.sqlite.specs.Order.{Row, column, bytes}
 use Rattle.dip_store_tables.proofs.ListLemmas.{all_both, all-filter, all_map, all_weaker}
-use Rattle.dip_store_tables.specs.Boards.{code}
 use Rattle.dip_map.specs.Charts.{Chart}
 use Rattle.dip_store_tables.specs.Columns.{IsPrinted}
 use Rattle.dip_store_tables.specs.Legible.{AreOurs, IsDeskLegible, IsItemLegible, IsOrderLegible, IsPaperLegible, IsSeatLegible, IsText}
@@ -17,7 +16,7 @@ use Rattle.dip_store_sql.specs.Rows.{number_in}
 use Rattle.dip_store_sql.specs.Showing.{is_item, is_numbered, show_ballot, show_desk, show_item, show_listed, show_order, show_paper, show_seat}
 use Rattle.dip_store_sql.specs.TablesAfter.{is_first}
 use Rattle.dip_store_tables.specs.Coding.{AreCoded, IsSeatOf}
-use Rattle.dip_store_tables.specs.Tables.{BoxRow, DeskRow, PaperRow, PendingRow, SeatRow, Tables, is_ballot, is_pending, is_seat, is_seat_in}
+use Rattle.dip_store_tables.specs.Tables.{BoxRow, DeskRow, PendingRow, SeatRow, Tables, is_ballot, is_pending, is_seat, is_seat_in}
 use Rattle.dip_store_tables.specs.Writing.{box_row, number_of, whole_reply}
 use Rattle.dip_store_tables.specs.Votes.{IsBallotText}
 use Rattle.dip_store_tables.specs.Written.{IsDeskWritten, IsItemWritten, IsOrderWritten, IsSeatWritten, KeepsLetter}
@@ -197,6 +196,7 @@ desk_there m t coded is =
     let bad : None ≡ Some (show_desk d) = is ∙ ap (λ ds. option_map show_desk (find is_first ds)) coded.desk.1 ∙ ap (option_map show_desk) first in
     cc
 
+module _ (m : Chart) (t : Tables) (ours : AreOurs m t) where
   ballots_readable : AllByRecursion (λ b. IsBallotReadable m (show_ballot b)) t.ballots
   ballots_readable =
       all_weaker (λ b. IsBallotText m b.names) (λ b. IsBallotReadable m (show_ballot b))

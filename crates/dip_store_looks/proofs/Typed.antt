@@ -1,5 +1,5 @@
 -- Where a column has a value of its kind, reading it fails only for want of memory.
-use Rattle.std.proofs.Common.{◌≡◌, ◌≢◌, ◌<◌, ◌⊎◌, ℕ, length, Result, Ok, Err, IfErr, inl, inr, refl, sym, ◌∙◌}
+use Rattle.std.proofs.Common.{◌≢◌, ◌<◌, ℕ, length, Result, Ok, Err, IfErr, inl, inr}
 use Rattle.sqlite.specs.declared.error.Error.{Error}
 use Rattle.sqlite.specs.declared.error.Error.TheVariants.{SqliteFailure}
 use Rattle.sqlite.specs.declared.error.ErrorCode.TheVariants.{OutOfMemory}

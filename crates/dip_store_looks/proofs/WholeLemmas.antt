@@ -10,7 +10,7 @@ use Rattle.dip_store_sql.specs.Showing.{show_desk, show_listed}
 use Rattle.dip_store_sql.specs.TablesAfter.{is_first}
 use Rattle.dip_store_tables.specs.Coding.{AreCoded}
 use Rattle.dip_store_tables.specs.Reading.{desk_of, own_of, pending_of, public_of, state_of}
-use Rattle.dip_store_tables.specs.Tables.{GameRow, PendingRow, SeatRow, Tables, is_named, is_pending, is_seat_in}
+use Rattle.dip_store_tables.specs.Tables.{GameRow, SeatRow, Tables, is_named, is_pending, is_seat_in}
 use Rattle.dip_store_tables.specs.Votes.{vote_in}
 use Rattle.dip_store_looks.specs.Asked.{whole_in}
 use Rattle.dip_store_looks.specs.Shown.{listed_own, shown_desk}

@@ -1,4 +1,4 @@
-use Rattle.std.proofs.Common.{◌≡◌, subst, sym, ap, Some, ◌∙◌}
+use Rattle.std.proofs.Common.{subst, sym, ap, Some, ◌∙◌}
 use Rattle.std.proofs.lemmas.Result.{err_from_is_err_and}
 use Rattle.sqlite.specs.Effect.{Database}
 use Rattle.dip_store_tables.specs.Boards.{power_name}
@@ -7,7 +7,7 @@ use Rattle.dip_desk_state.specs.Rows as rows
 use Rattle.dip_store_sql.specs.Calls.{tables_in}
 use Rattle.dip_store_sql.specs.Rows.{tables_of}
 use Rattle.dip_store_looks.specs.Shown.{IsBeside}
-use Rattle.dip_store_looks.proofs.Blaming.{outside_weaker, told_on}
+use Rattle.dip_store_looks.proofs.Blaming.{outside_weaker}
 use Rattle.dip_store_sql.proofs.Caused.{faulted_late}
 use Rattle.sqlite.specs.Held.{state}
 use Rattle.dip_store_looks.proofs.OwnLemmas.{own_is}

@@ -5,9 +5,9 @@ use Rattle.dip_store_looks.proofs.whole.own_of.Goals as goal
 
 pub returns-clause-own : goal.returns-clause-own
 returns-clause-own g c kept shows clean ours row =
-    let orders = orders_readable c.args.map.now (tables_in g.S.Store c.args.conn.now) ours c.args.game.now c.as_str-2.result.now c.in_ok-orders.orders.items (c.in_ok-orders.ensures.value kept clean) in
-    let fails = rw c.as_slice.ensures.value at c.own_in.ensures.own in
-    read_of _ c.own_in.result (fails row.seat orders)
+    let beside = c.in_ok-beside.ensures.value kept clean in
+    let orders = orders_readable c.args.map.now (tables_in g.S.Store c.args.conn.now) ours c.args.game.now c.as_str-2.result.now c.in_ok-beside.beside.orders.items beside.orders in
+    read_of _ c.own_in.result (c.own_in.ensures.own row.seat orders)
 
 pub returns-in_err-name-clause-own : goal.returns-in_err-name-clause-own
 returns-in_err-name-clause-own g c kept shows clean ours row =

@@ -1,0 +1,15 @@
+use Rattle.std.proofs.Common.{refl, rules, map}
+use Rattle.dip_desk_state.specs.ChangeRows as machine
+use Rattle.dip_store_sql.proofs.Parts.{writes_and, writes_as}
+use Rattle.dip_store_sql.proofs.Joining.{wants_broken, wants_more}
+use Rattle.dip_store_sql.specs.Wants.{always}
+use Rattle.dip_store_changes.specs.Parts.{VotesDiffer, with_votes}
+use Rattle.dip_store_changes.proofs.Outcomes.{writes_ok}
+use Rattle.dip_store_changes.proofs.ballots.open_votes.Goals as goal
+
+pub returns-clause-writes : goal.returns-clause-writes
+returns-clause-writes g c =
+    let two = writes_and _ _ _ _ _ _ _ c.in_ok-drop_ballots.field-0 _ c.in_ok-drop_ballots.ensures.writes c.in_ok-add_ballots.ensures.writes in
+    let three = writes_and _ _ _ _ _ _ _ c.in_ok-add_ballots.field-0 _ two c.in_ok-drop_choices.ensures.writes in
+    let four = writes_and _ _ _ _ _ _ _ c.in_ok-drop_choices.field-0 _ three c.in_ok-add_choice.ensures.writes in
+    writes_as _ _ _ _ _ _ _ (λ t. refl) (writes_ok _ _ _ _ _ _ tt four)

@@ -1,5 +1,5 @@
 -- A statement of a transaction fails for want alone.
-use Rattle.std.proofs.Common.{◌≡◌, inl, inr, ℕ, List, true, IsTrue, Ok, Err, Result, refl, sym, ap, ◌∙◌}
+use Rattle.std.proofs.Common.{◌≡◌, inl, inr, ℕ, List, true, IsTrue, Ok, Err, Result, refl, sym, ap, subst, ◌∙◌}
 use Rattle.sqlite.specs.declared.error.Error.{Error}
 use Rattle.sqlite.specs.Order.{Row}
 use Rattle.sqlite.specs.Command.{Command}
@@ -12,10 +12,11 @@ use Rattle.dip_store_sql.specs.Asking.{command_in}
 use Rattle.dip_store_sql.specs.Schema.{our_schema}
 use Rattle.dip_store_tables.specs.Tables.{Tables}
 use Rattle.dip_store_sql.specs.Calls.{Writes}
-use Rattle.dip_store_sql.specs.Causes.{Faulted}
+use Rattle.dip_store_sql.specs.Causes.{Faulted, IsCaused}
 use Rattle.dip_store_sql.specs.Rows.{tables_of}
-use Rattle.dip_store_sql.specs.Refusals.{IsWant}
-use Rattle.dip_store_sql.specs.Wants.{IsReady, Wants}
+use Rattle.dip_store_sql.specs.Refusals.{IsBlamed, IsWant}
+use Rattle.dip_store_sql.specs.Wants.{FailsOutside, IsReady, Wants}
+use Rattle.dip_store_sql.proofs.Blamed.{IsAlwaysCalm, edits_calm, executes_blamed}
 use Rattle.dip_store_sql.proofs.Failing.{edits_rows, other_than}
 
 module _ (sql : List ℕ) (params : Row) (Allow : Tables → Type 0) (f : Tables → Tables) (old new : State) (command : Command) (means : command_in (understood our_schema sql) command) (edits : edits_rows command ≡ true) where
@@ -35,6 +36,17 @@ module _ (sql : List ℕ) (params : Row) (Allow : Tables → Type 0) (f : Tables
           ]
       go (Err e) is does = does
 
+  -- it tells of the disk only where the store did
+  blamed : (e : Error) → IsReady old → Executes sql params old new (Err e) → IsBlamed (Faulted old new) e
+  blamed e ready ran = executes_blamed sql params old new e ready.up (λ c is. calm (understood our_schema sql) (ap (λ s. understood s sql) ready.good.schema) c is means) ran
+    where
+      calm : (r : Result Compiled CompileError) → understood old.now.schema sql ≡ r → (c : Compiled) → understood old.now.schema sql ≡ Ok c → command_in r command → IsAlwaysCalm c.command
+      calm (Ok k) here c is does =
+          let x = sym here ∙ is in
+          let same : k ≡ c = cc in
+          subst IsAlwaysCalm (sym does ∙ ap (λ (k : Compiled). k.command) same) (edits_calm command edits)
+      calm (Err e) here c is does = absurd does
+
   pub wants_one : (r : Result ℕ Error) → Writes f old new r → (HasCleanDisk new → IsTrue old.in_transaction → ExecutesInside 0 sql params old new r)
       → ((e : Error) → IsReady old → Allow (tables_of old.now.trees) → Executes sql params old new (Err e) → IsWant (Faulted old new) e) → Wants Allow old new r
   wants_one (Ok count) writes runs wanting = record {
@@ -47,6 +59,7 @@ module _ (sql : List ℕ) (params : Row) (Allow : Tables → Type 0) (f : Tables
           good = (it.good ready.good).0;
         };
     fails = λ clean ready may. tt;
+    blames = λ clean ready. tt;
   }
   wants_one (Err e) writes runs wanting = record {
     ready = λ clean ready. tt;
@@ -54,4 +67,16 @@ module _ (sql : List ℕ) (params : Row) (Allow : Tables → Type 0) (f : Tables
       | inl ran ↦ wanting e ready may ran.0
       | inr ended ↦ absurd (goes_on ready ended.0)
     ];
+    blames = λ clean ready. elim (runs clean ready.inside) [
+      | inl ran ↦ blamed e ready ran.0
+      | inr ended ↦ absurd (goes_on ready ended.0)
+    ];
   }
+
+  pub first_one : (r : Result ℕ Error) → (HasCleanDisk new → IsTrue old.in_transaction → ExecutesInside 0 sql params old new r)
+      → ((e : Error) → IsReady old → Allow (tables_of old.now.trees) → Executes sql params old new (Err e) → IsCaused (Faulted old new) e) → FailsOutside Allow old new r
+  first_one (Ok count) runs cause clean ready may = tt
+  first_one (Err e) runs cause clean ready may = elim (runs clean ready.inside) [
+    | inl ran ↦ cause e ready may ran.0
+    | inr ended ↦ absurd (goes_on ready ended.0)
+  ]

@@ -8,9 +8,12 @@ use Rattle.sqlite_schema.specs.declared.schema.Keys.TheVariants.{Enforced}
 use Rattle.sqlite_schema.specs.Rules.{Refers}
 use Rattle.sqlite_typing.specs.Types.{accepts_terms}
 use Rattle.sqlite_rules.specs.declared.error.Refusal.{Refusal}
-use Rattle.sqlite.specs.Edit.{Edit, IsRefused, taken_by, edit_of}
+use Rattle.sqlite.specs.Edit.{Edit, IsOversized, IsRefused, taken_by, edit_of}
+use Rattle.sqlite_rules.specs.Lists.{Has}
 use Rattle.sqlite_rules.specs.Action.{works, Leads, Writes}
 use Rattle.sqlite.specs.declared.error.Error.{Error}
+use Rattle.sqlite.specs.declared.error.Error.TheVariants.{SqliteFailure}
+use Rattle.sqlite.specs.declared.error.ErrorCode.TheVariants as code
 use Rattle.sqlite.specs.Order.{Row}
 use Rattle.sqlite.specs.Tree.{Trees}
 use Rattle.sqlite.specs.Term.{Term}
@@ -29,8 +32,7 @@ use Rattle.sqlite.specs.Listing.{understood}
 use Rattle.sqlite.specs.Clock.{timed}
 use Rattle.sqlite.specs.declared.run.Mode.{Mode}
 use Rattle.sqlite.specs.State.{State, mode_of, text_of, shows_rows, HasCause, IsMisplaced, IsNotRun, RunsAlone, RunsCommand, Executes, ExecutesIn, store_error, is_disk_error}
-use Rattle.dip_store_sql.specs.Causes.{Faulted}
-use Rattle.dip_store_sql.specs.Refusals.{IsWant}
+use Rattle.dip_store_sql.specs.Causes.{Faulted, IsCaused}
 
 -- ---- a statement that isn't run
 
@@ -52,21 +54,21 @@ well_placed s command e edits (inl h) = elim h.1 [
 ]
 well_placed s command e edits (inr h) = elim h.2 [ inl p ↦ other_than command (Release h.1) edits refl p | inr p ↦ other_than command (RollbackTo h.1) edits refl p ]
 
--- an error of an open store
-caused : (old new : State) (big : Type 0) (e : Error) (cause : StoreError) → e ≡ store_error cause → HasCause old new big cause → IsTrue old.is_open → IsWant (Faulted old new) e
+-- an error of an open store: for want of memory, by the disk, or for a row that is too long
+caused : (old new : State) (big : Type 0) (e : Error) (cause : StoreError) → e ≡ store_error cause → HasCause old new big cause → IsTrue old.is_open → IsCaused (Faulted old new) e ⊎ ((e ≡ SqliteFailure code.TooBig) × big)
 caused old new big e OutOfMemory is why up = inl (inl is)
 caused old new big e Io is why up = inl (inr (ap is_disk_error is, why))
 caused old new big e Corrupt is why up = inl (inr (ap is_disk_error is, why))
 caused old new big e Full is why up = inl (inr (ap is_disk_error is, why))
 caused old new big e Broken is why up = absurd (let x = sym up ∙ why in cc)
-caused old new big e Unstorable is why up = inr (inl is)
+caused old new big e Unstorable is why up = inr (is, why)
 
 module _ (sql : List ℕ) (params : Row) (old new : State) (c : Compiled) (is : understood old.now.schema sql ≡ Ok c) (whole : length sql ≤ c.tail) (given : length params ≡ length c.names) (clock : c.formats ≡ [])
     (plain : c.returning ≡ None) (up : IsTrue old.is_open) where
   untimed : (formats : List (List ℕ)) (now : ℕ) → formats ≡ [] → timed params formats now ≡ params
   untimed formats now none = ap (λ f. timed params f now) none ∙ append-nil params
 
-  not_run : (e : Error) → IsNotRun old new sql params e → IsWant (Faulted old new) e
+  not_run : (e : Error) → IsNotRun old new sql params e → IsCaused (Faulted old new) e
   unfolding IsNotRun
   not_run e (inl h) = absurd (elim h.0 [
     | inl a ↦ let x = sym is ∙ a.1 in cc
@@ -75,36 +77,43 @@ module _ (sql : List ℕ) (params : Row) (old new : State) (c : Compiled) (is : 
       | inr d ↦ elim d [ inl f ↦ f.0 (subst (λ (k : Compiled). length params ≡ length k.names) same given) | inr f ↦ f.0 (subst (λ (k : Compiled). k.formats ≡ []) same clock) ]
     ]
   ])
-  not_run e (inr f) = caused old new ⊥ e f.0 f.1 f.2 up
+  not_run e (inr f) = elim (caused old new ⊥ e f.0 f.1 f.2 up) [ inl c ↦ c | inr big ↦ absurd big.1 ]
 
   module _ (command : Command) (does : c.command ≡ command) (edits : edits_rows command ≡ true) where
+    -- what the statement does, or where it stops
+    abbrev pub StopsAt : Option Error → Type 0
+    StopsAt stop = Does old.step_limit (mode_of old) params old.now (text_of sql c) None command (Err stop)
+
+    -- it fails for want of memory or by the disk, for a row that is too long, or the database refuses it
+    abbrev pub Fails : Error → Type 0
+    Fails e = IsCaused (Faulted old new) e ⊎ (((e ≡ SqliteFailure code.TooBig) × StopsAt None) ⊎ StopsAt (Some e))
+
+    told : (k : Compiled) (ps : Row) (stop : Option Error) → c ≡ k → ps ≡ params → Does old.step_limit (mode_of old) ps old.now (text_of sql k) k.returning k.command (Err stop) → StopsAt stop
+    told k ps stop same bound d =
+        let one = subst (λ p. Does old.step_limit (mode_of old) p old.now (text_of sql k) k.returning k.command (Err stop)) bound d in
+        let two = subst (λ (x : Compiled). Does old.step_limit (mode_of old) params old.now (text_of sql x) x.returning x.command (Err stop)) (sym same) one in
+        subst₂ (λ r x. Does old.step_limit (mode_of old) params old.now (text_of sql c) r x (Err stop)) plain does two
+
     -- what the statement does, it does in full or not at all
-    ran : (k : Compiled) (ps : Row) (e : Error) → c ≡ k → ps ≡ params → shows_rows false k ≡ false → RunsAlone false old new sql k ps (Err e)
-        → IsWant (Faulted old new) e ⊎ Does old.step_limit (mode_of old) params old.now (text_of sql c) None command (Err (Some e))
+    ran : (k : Compiled) (ps : Row) (e : Error) → c ≡ k → ps ≡ params → shows_rows false k ≡ false → RunsAlone false old new sql k ps (Err e) → Fails e
     ran k ps e same bound shows h =
         let it : RunsCommand old new sql k ps (Err e) = rw shows at h in
         elim it [
           | inl r ↦ elim r.0 [
             | inl m ↦ absurd (well_placed old command e edits (subst (λ x. IsMisplaced old x e) (sym (ap (λ (k : Compiled). k.command) same) ∙ does) m))
-            | inr d ↦ inr (told k ps e same bound d.1)
+            | inr d ↦ inr (inr (told k ps (Some e) same bound d.1))
           ]
-          | inr f ↦ inl (caused old new _ e f.0 f.1 f.2 up)
+          | inr f ↦ elim (caused old new (Does old.step_limit (mode_of old) ps old.now (text_of sql k) k.returning k.command (Err None)) e f.0 f.1 f.2 up) [
+            | inl cause ↦ inl cause
+            | inr big ↦ inr (inl (big.0, told k ps None same bound big.1))
+          ]
         ]
-      where
-        told : (k : Compiled) (ps : Row) (e : Error) → c ≡ k → ps ≡ params → Does old.step_limit (mode_of old) ps old.now (text_of sql k) k.returning k.command (Err (Some e))
-            → Does old.step_limit (mode_of old) params old.now (text_of sql c) None command (Err (Some e))
-        told k ps e same bound d =
-            let one = subst (λ p. Does old.step_limit (mode_of old) p old.now (text_of sql k) k.returning k.command (Err (Some e))) bound d in
-            let two = subst (λ (x : Compiled). Does old.step_limit (mode_of old) params old.now (text_of sql x) x.returning x.command (Err (Some e))) (sym same) one in
-            subst₂ (λ r x. Does old.step_limit (mode_of old) params old.now (text_of sql c) r x (Err (Some e))) plain does two
 
     -- no rows are shown by it
     silent : (k : Compiled) → c ≡ k → shows_rows false c ≡ false → shows_rows false k ≡ false
     silent k same quiet = subst (λ (x : Compiled). shows_rows false x ≡ false) same quiet
 
-    -- it fails for want, or the database refuses it
-    pub fails : shows_rows false c ≡ false → (e : Error) → Executes sql params old new (Err e)
-        → IsWant (Faulted old new) e ⊎ Does old.step_limit (mode_of old) params old.now (text_of sql c) None command (Err (Some e))
+    pub fails : shows_rows false c ≡ false → (e : Error) → Executes sql params old new (Err e) → Fails e
     unfolding ExecutesIn
     fails quiet e (inl h) = inl (not_run e h)
     fails quiet e (inr h) =
@@ -119,6 +128,11 @@ module _ (sql : List ℕ) (params : Row) (old new : State) (c : Compiled) (is : 
 stops : {A B : Type 0} (First : Part A) (Next : A → Part B) (e : Error) → Then First Next (Err (Some e)) → First (Err (Some e)) ⊎ ((a : A) × First (Ok a) × Next a (Err (Some e)))
 stops First Next e (inl s) = let x = s.2 in let same : s.0 ≡ Some e = cc in inl (subst (λ (stop : Option Error). First (Err stop)) same s.1)
 stops First Next e (inr on) = inr on
+
+-- the same, where it may stop at a row that can't be stored too
+halts : {A B : Type 0} (First : Part A) (Next : A → Part B) (stop : Option Error) → Then First Next (Err stop) → First (Err stop) ⊎ ((a : A) × First (Ok a) × Next a (Err stop))
+halts First Next stop (inl s) = let x = s.2 in let same : s.0 ≡ stop = cc in inl (subst (λ (stop : Option Error). First (Err stop)) same s.1)
+halts First Next stop (inr on) = inr on
 
 -- a part that gives a value doesn't stop
 no_stop : {A : Type 0} (a : A) (stop : Option Error) → Gives a (Err stop) → ⊥
@@ -151,6 +165,24 @@ edit_refused schema db edit none e h = by h.0 h.1 h.2
     by : (why : Option Refusal) → Writes schema Enforced db edit (Err why) → Some e ≡ option_map edit_error why → (w : Refusal) × IsRefused schema Enforced db edit w × (e ≡ edit_error w)
     by None writes is = absurd (let x = is in cc)
     by (Some w) writes is = let x = is in let same : e ≡ edit_error w = cc in because w same writes
+
+-- and stops for a row that can't be stored
+edit_oversized : (schema : Schema) (db : Trees) (edit : Edit) → works schema Enforced 0 edit.table.tree (taken_by db edit) edit.news ≡ [] → Edited schema Enforced db edit (Err None)
+    → (row : Row) × Has edit.news row × IsOversized schema edit.table row
+edit_oversized schema db edit none h = by h.0 h.1 h.2
+  where
+    settled : (n : ℕ) (next : Trees) → Leads schema Enforced n next [] (Err None) → ⊥
+    settled zero next l = absurd (let x = l.1 in cc)
+    settled (suc n) next l = absurd (omega (arith, ap length l.2, length-append l.0 (l.1 ∷ [])))
+
+    because : Writes schema Enforced db edit (Err None) → (row : Row) × Has edit.news row × IsOversized schema edit.table row
+    because (inl r) = absurd (let x = r.2 in cc)
+    because (inr (inl big)) = (big.0, big.1, big.2)
+    because (inr (inr went)) = absurd (settled went.2.0 went.0 (rw none at went.2.1))
+
+    by : (why : Option Refusal) → Writes schema Enforced db edit (Err why) → None ≡ option_map edit_error why → (row : Row) × Has edit.news row × IsOversized schema edit.table row
+    by None writes is = because writes
+    by (Some w) writes is = absurd (let x = is in cc)
 
 -- no key waits for the commit
 abbrev pub mode : Mode
@@ -241,6 +273,48 @@ module _ (schema : Schema) (at : ℕ) (table : Table) (listed : slice_get schema
           | inr mid ↦ absurd (elim mid.2 [
             | inl s ↦ uncounted mid.0 counter.0 (fold higher (count_of counter.0) edit.news) s.0 s.1
             | inr on ↦ no_stop _ (Some e) on.2
+          ])
+        ]
+      ]
+
+  -- a stop at a row that can't be stored, behind which nothing stops the statement
+  concludes_none : (w : Written) → Concludes task mode None w (Err None) → ⊥
+  concludes_none w h = elim (halts (Tested mode (λ among. Refers among schema w.trees)) (λ in_doubt. Then (Gives []) (λ rows. Gives (record { rows = Some (length w.rows); last = w.last; shown = rows; in_doubt = in_doubt }, record { schema = schema; trees = w.trees }))) None h) [
+    | inl t ↦ t.0 (refers (due mode) w.trees)
+    | inr on ↦ elim on.2 [
+      | inl s ↦ no_stop [] s.0 s.1
+      | inr more ↦ no_stop _ None more.2
+    ]
+  ]
+
+  pub insert_oversized : (terms : List Term) (width : ℕ) → Does None mode params old text None (Insert at (Values terms width)) (Err None)
+      → (row : Row) × Has (edit_of old.trees table [] Chosen 0 (value_rows (stamped table params) width (length terms / width) terms)).news row × IsOversized schema table row
+  insert_oversized terms width h =
+      let there : OnRows task mode None (Insert at (Values terms width)) old.trees (Err None) = rw listed at (subst (λ s. OnTable None mode params (record old { schema = s }) at (λ t. OnRows t mode None (Insert at (Values terms width)) old.trees) (Err None)) has h) in
+      elim (halts (WritesRows task old.trees (Insert at (Values terms width))) (Concludes task mode None) None there) [
+        | inl s ↦ elim (halts (Sourced None (record { schema = schema; trees = old.trees }) (stamped table params) (Values terms width)) (λ rows. Then (Counter task old.trees) (behind_rows rows)) None s) [
+          | inl none ↦ absurd none
+          | inr rows ↦ counted rows.0 rows.1 rows.2
+        ]
+        | inr on ↦ absurd (concludes_none on.0 on.2)
+      ]
+    where
+      counted : (rows : List Row) → Sourced None (record { schema = schema; trees = old.trees }) (stamped table params) (Values terms width) (Ok rows)
+          → Then (Counter task old.trees) (behind_rows rows) (Err None)
+          → (row : Row) × Has (edit_of old.trees table [] Chosen 0 (value_rows (stamped table params) width (length terms / width) terms)).news row × IsOversized schema table row
+      counted rows from h = elim (halts (Counter task old.trees) (behind_rows rows) None h) [
+        | inl s ↦ absurd (no_stop None None (unmatched _ _ table.is_counted bare s))
+        | inr counter ↦ let edit = edit_of old.trees table [] (rowids_for table (count_of counter.0)) 0 rows in elim (halts (Edited schema Enforced old.trees edit) (behind_edit counter.0 edit) None counter.2) [
+          | inl s ↦
+              let chosen : rowids_for table (count_of counter.0) ≡ Chosen = no_above table.is_counted (count_of counter.0) bare in
+              let whole : edit_of old.trees table [] (rowids_for table (count_of counter.0)) 0 rows ≡ edit_of old.trees table [] Chosen 0 (value_rows (stamped table params) width (length terms / width) terms) =
+              ap (λ ids. edit_of old.trees table [] ids 0 rows) chosen ∙ ap (edit_of old.trees table [] Chosen 0) from.1 in
+              edit_oversized schema old.trees (edit_of old.trees table [] Chosen 0 (value_rows (stamped table params) width (length terms / width) terms))
+              (calm (taken_by old.trees (edit_of old.trees table [] Chosen 0 (value_rows (stamped table params) width (length terms / width) terms))) (edit_of old.trees table [] Chosen 0 (value_rows (stamped table params) width (length terms / width) terms)).news)
+              (subst (λ (x : Edit). Edited schema Enforced old.trees x (Err None)) whole s)
+          | inr mid ↦ absurd (elim (halts (Counts task mid.0 counter.0 (fold higher (count_of counter.0) edit.news)) (made edit) None mid.2) [
+            | inl s ↦ uncounted mid.0 counter.0 (fold higher (count_of counter.0) edit.news) None s
+            | inr on ↦ no_stop _ None on.2
           ])
         ]
       ]

@@ -9,23 +9,24 @@ use Rattle.dip_store_sql.proofs.Parts.{went, fails}
 use Rattle.dip_store_sql.specs.Causes.{Faulted}
 use Rattle.dip_store_sql.proofs.Caused.{faulted_late}
 use Rattle.dip_store_sql.specs.Wants.{IsReady, Wants}
+use Rattle.dip_store_sql.proofs.Blamed.{blamed_of, blamed_weaker}
 use Rattle.dip_store_sql.proofs.Told.{want_of, want_weaker}
 
 -- a part that fails, by what it was allowed
 pub wants_fail : (X Y : Type 0) (Allow Asked : Tables → Type 0) (a b : State) (e : Error) → ((t : Tables) → Allow t → Asked t) → Wants Asked a b (fails X Error e) → Wants Allow a b (fails Y Error e)
-wants_fail X Y Allow Asked a b e may p = record { ready = λ clean ready. tt; fails = λ clean ready allow. p.fails clean ready (may _ allow) }
+wants_fail X Y Allow Asked a b e may p = record { ready = λ clean ready. tt; fails = λ clean ready allow. p.fails clean ready (may _ allow); blames = p.blames }
 
 -- a part that goes well is allowed whatever it is
 pub wants_went : (X Y : Type 0) (Allow Asked : Tables → Type 0) (a b : State) (x : X) (y : Y) → Wants Asked a b (went X Error x) → Wants Allow a b (went Y Error y)
-wants_went X Y Allow Asked a b x y p = record { ready = p.ready; fails = λ clean ready allow. tt }
+wants_went X Y Allow Asked a b x y p = record { ready = p.ready; fails = λ clean ready allow. tt; blames = λ clean ready. tt }
 
 -- the same part, by what is asked of it
 pub wants_as : (X : Type 0) (Allow Asked : Tables → Type 0) (a b : State) (r : Result X Error) → ((t : Tables) → Allow t → Asked t) → Wants Asked a b r → Wants Allow a b r
-wants_as X Allow Asked a b r may p = record { ready = p.ready; fails = λ clean ready allow. p.fails clean ready (may _ allow) }
+wants_as X Allow Asked a b r may p = record { ready = p.ready; fails = λ clean ready allow. p.fails clean ready (may _ allow); blames = p.blames }
 
 -- no part
 pub wants_none : (X : Type 0) (Allow : Tables → Type 0) (a : State) (x : X) → Wants Allow a a (went X Error x)
-wants_none X Allow a x = record { ready = λ clean ready. ready; fails = λ clean ready allow. tt }
+wants_none X Allow a x = record { ready = λ clean ready. ready; fails = λ clean ready allow. tt; blames = λ clean ready. tt }
 
 module _ (X Y : Type 0) (Allow First Next : Tables → Type 0) (f h : Tables → Tables) (a b c : State) (both : (t : Tables) → Allow t → First t × Next (f t)) (x : X)
     (written : Writes f a b (went X Error x)) (first : Wants First a b (went X Error x)) where
@@ -42,6 +43,7 @@ module _ (X Y : Type 0) (Allow First Next : Tables → Type 0) (f h : Tables →
     fails = λ clean ready allow.
         let up = clear r writes clean in
         want_of (Faulted b c) (Faulted a c) r (faulted_late a b c written.survives.counts) (next.fails clean (first.ready up ready) (allowed up ready allow));
+    blames = λ clean ready. blamed_of (Faulted b c) (Faulted a c) r (faulted_late a b c written.survives.counts) (next.blames clean (first.ready (clear r writes clean) ready));
   }
 
   -- a part that fails behind another
@@ -51,6 +53,7 @@ module _ (X Y : Type 0) (Allow First Next : Tables → Type 0) (f h : Tables →
     fails = λ clean ready allow.
         let up = clear _ writes clean in
         want_weaker (Faulted b c) (Faulted a c) e (faulted_late a b c written.survives.counts) (next.fails clean (first.ready up ready) (allowed up ready allow));
+    blames = λ clean ready. blamed_weaker (Faulted b c) (Faulted a c) e (faulted_late a b c written.survives.counts) (next.blames clean (first.ready (clear _ writes clean) ready));
   }
 
 -- one more turn of a loop
@@ -59,4 +62,5 @@ pub wants_more : (X Y Z : Type 0) (Allow First Next : Tables → Type 0) (h : Ta
 wants_more X Y Z Allow First Next h a b c x y z first writes next = record {
   ready = λ clean ready. next.ready clean (first.ready (omega (arith, clean, writes.survives.clean)) ready);
   fails = λ clean ready allow. tt;
+  blames = λ clean ready. tt;
 }

@@ -27,6 +27,10 @@ pub mod Stating
 pub mod Telling
 pub mod Turned
 pub mod Asked
+pub mod Blamed
+pub mod Founding
+pub mod Founded
+pub mod First
 pub mod Calls
 pub mod Failing
 pub mod Joining

@@ -1,20 +1,29 @@
 -- A statement on records whose keys stay apart fails for want alone.
-use Rattle.std.proofs.Common.{◌≡◌, ◌⊎◌, inl, inr, ℕ, List, [], ◌∷◌, ◌++◌, ◌/◌, ◌||◌, map, filter, length, Bool, true, false, Some, None, Ok, Err, Result, IsTrue, slice_get, refl, sym, ap, subst, ◌∙◌}
+use Rattle.std.proofs.Common.{◌≡◌, ◌⊎◌, inl, inr, pos, ap₂, ℕ, List, [], ◌∷◌, ◌++◌, ◌/◌, ◌||◌, map, filter, length, Bool, true, false, Some, None, Ok, Err, Result, IsTrue, slice_get, refl, sym, ap, subst, ◌∙◌}
+use Rattle.std.specs.List.{list_all}
 use Rattle.std.specs.List.Sorted.{IsPermutation}
 use Rattle.sqlite.specs.declared.types.Value.{Value}
-use Rattle.sqlite.specs.declared.types.Value.TheVariants.{Null}
+use Rattle.sqlite.specs.declared.types.Value.TheVariants.{Null, Int}
 use Rattle.sqlite.specs.declared.error.Error.{Error}
+use Rattle.sqlite.specs.declared.error.Error.TheVariants.{SqliteFailure}
+use Rattle.sqlite.specs.declared.error.ErrorCode.TheVariants as code
 use Rattle.sqlite.specs.Order.{Row}
-use Rattle.sqlite.specs.Tree.{Trees}
+use Rattle.sqlite.specs.Tree.{Trees, rowid}
+use Rattle.sqlite.specs.Ops.{fits_i64}
+use Rattle.sqlite.specs.Edit.{IsOversized, IsRefused, edit_of, id_in, next_rowid, with_rowid}
+use Rattle.sqlite.specs.Rowids.TheVariants.{Chosen}
+use Rattle.sqlite_rules.specs.Lists.{Has}
+use Rattle.sqlite_rules.specs.declared.error.Refusal.{Refusal}
+use Rattle.sqlite_rules.specs.declared.error.Refusal.TheVariants.{Violates, Mismatch, NoRowid, BadReference, TooDeep}
 use Rattle.sqlite.specs.Term.{Term, col, eval_all}
-use Rattle.sqlite.specs.Cast.{cast_all}
+use Rattle.sqlite.specs.Cast.{cast_all, cast_row}
 use Rattle.sqlite.specs.Table.{Table}
 use Rattle.sqlite.specs.Schema.{Schema}
 use Rattle.sqlite.specs.Program.{overlay}
 use Rattle.sqlite.specs.Command.{Command}
 use Rattle.sqlite.specs.Command.TheVariants.{Insert, Update, Delete}
 use Rattle.sqlite.specs.Source.TheVariants.{Values}
-use Rattle.sqlite.specs.Effect.{Answers, RefusesQuery, is_query, value_rows}
+use Rattle.sqlite.specs.Effect.{Answers, RefusesQuery, edit_error, is_query, value_rows}
 use Rattle.sqlite.specs.Does.{Does}
 use Rattle.sqlite.specs.Rows.{stamped}
 use Rattle.sqlite.specs.Given.{IsPlain}
@@ -34,9 +43,10 @@ use Rattle.dip_store_sql.specs.Asking.{IsAsked, command_in}
 use Rattle.dip_store_sql.specs.Recorded.{IsRising, AtMostOne}
 use Rattle.dip_store_sql.specs.Queries.{passes, plain_query}
 use Rattle.dip_store_sql.proofs.Answered.{selected}
-use Rattle.dip_store_sql.specs.Causes.{Faulted}
+use Rattle.dip_store_sql.proofs.Changes.{cast_null}
+use Rattle.dip_store_sql.specs.Causes.{Faulted, IsCaused}
 use Rattle.dip_store_sql.specs.Refusals.{IsWant}
-use Rattle.dip_store_sql.proofs.Failing.{delete_refused, edits_rows, fails, insert_refused, mode, update_refused}
+use Rattle.dip_store_sql.proofs.Failing.{delete_refused, edits_rows, fails, insert_oversized, insert_refused, mode, update_refused}
 use Rattle.dip_store_sql.proofs.Passing.{AreKept}
 use Rattle.dip_store_sql.proofs.Told.{want_weaker}
 use Rattle.dip_store_sql.proofs.Wanting.{KeysApart, delete_wants, insert_wants, update_wants}
@@ -51,6 +61,19 @@ plainly schema db t tests shown params accepts e (inr (inl (h, inl none))) = non
 plainly schema db t tests shown params accepts e (inr (inl (h, inr any))) = none_any (overlay db [] t) any
 plainly schema db t tests shown params accepts e (inr (inr h)) = let x = h.1 in cc
 
+-- want of memory, of room or of numbers
+abbrev is_room : Error → Bool
+is_room (SqliteFailure code.OutOfMemory) = true
+is_room (SqliteFailure code.TooBig) = true
+is_room (SqliteFailure code.NoRowid) = true
+is_room _ = false
+
+not_want : (e : Error) → is_room e ≡ false → IsWant ⊥ e → ⊥
+not_want e none (inl (inl memory)) = let x : true ≡ false = sym (ap is_room memory) ∙ none in absurd (cc)
+not_want e none (inl (inr disk)) = disk.1
+not_want e none (inr (inl big)) = let x : true ≡ false = sym (ap is_room big) ∙ none in absurd (cc)
+not_want e none (inr (inr full)) = let x : true ≡ false = sym (ap is_room full) ∙ none in absurd (cc)
+
 -- what shows no rows
 shows_none : (c : Compiled) (command : Command) → c.command ≡ command → c.returning ≡ None → (is_query command || (is_pragma command || false)) ≡ false → shows_rows false c ≡ false
 shows_none c command does plain quiet = rw (does, plain) quiet
@@ -60,17 +83,33 @@ module _ (schema : Schema) (at : ℕ) (table : Table) (listed : slice_get schema
     {A : Type 0} (put : A → Row) (take : Row → A) (back : (v : Value) (a : A) → take (v ∷ put a) ≡ a) (casts : (a : A) → cast_all table.columns (put a) ≡ put a) (rules : AreKept put schema table)
     (text : List ℕ) (plain : IsPlain (understood schema text)) (params : Row) (asked : IsAsked (length text) (length params) (understood schema text))
     (old new : State) (has : old.now.schema ≡ schema) (up : IsTrue old.is_open) (unlimited : old.step_limit ≡ None) (it : IsRising put take (old.now.trees table.tree)) (e : Error) (h : Executes text params old new (Err e)) where
-  unmet : (command : Command) → command_in (understood schema text) command → edits_rows command ≡ true → (is_query command || (is_pragma command || false)) ≡ false
-      → IsWant (Faulted old new) e ⊎ ((said : List ℕ) × Does None mode params old.now said None command (Err (Some e)))
-  unmet command means edits quiet = go (understood schema text) (ap (λ s. understood s text) has) means plain asked
+  abbrev Unmet : Command → Type 0
+  Unmet command =
+      IsCaused (Faulted old new) e
+      ⊎ (((e ≡ SqliteFailure code.TooBig) × (said : List ℕ) × Does None mode params old.now said None command (Err None)) ⊎ ((said : List ℕ) × Does None mode params old.now said None command (Err (Some e))))
+
+  unmet_so : (command : Command) → command_in (understood schema text) command → edits_rows command ≡ true → (is_query command || (is_pragma command || false)) ≡ false → Unmet command
+  unmet_so command means edits quiet = go (understood schema text) (ap (λ s. understood s text) has) means plain asked
     where
-      go : (r : Result Compiled CompileError) → understood old.now.schema text ≡ r → command_in r command → IsPlain r → IsAsked (length text) (length params) r
-          → IsWant (Faulted old new) e ⊎ ((said : List ℕ) × Does None mode params old.now said None command (Err (Some e)))
+      go : (r : Result Compiled CompileError) → understood old.now.schema text ≡ r → command_in r command → IsPlain r → IsAsked (length text) (length params) r → Unmet command
       go (Ok c) is means plain asked = elim (fails text params old new c is (within _ _ asked.0) (sym asked.1) plain.1 plain.0 up command means edits (shows_none c command means plain.0 quiet) e h) [
         | inl w ↦ inl w
-        | inr d ↦ inr (text_of text c, subst (λ l. Does l (mode_of old) params old.now (text_of text c) None command (Err (Some e))) unlimited d)
+        | inr more ↦ elim more [
+          | inl big ↦ inr (inl (big.0, text_of text c, subst (λ l. Does l (mode_of old) params old.now (text_of text c) None command (Err None)) unlimited big.1))
+          | inr d ↦ inr (inr (text_of text c, subst (λ l. Does l (mode_of old) params old.now (text_of text c) None command (Err (Some e))) unlimited d))
+        ]
       ]
       go (Err e) is means plain asked = absurd means
+
+  unmet : (command : Command) → command_in (understood schema text) command → edits_rows command ≡ true → (is_query command || (is_pragma command || false)) ≡ false
+      → IsWant (Faulted old new) e ⊎ ((said : List ℕ) × Does None mode params old.now said None command (Err (Some e)))
+  unmet command means edits quiet = elim (unmet_so command means edits quiet) [
+    | inl w ↦ inl (inl w)
+    | inr more ↦ elim more [
+      | inl big ↦ inl (inr (inl big.0))
+      | inr d ↦ inr d
+    ]
+  ]
 
   pub insert_sane : (terms : List Term) (width : ℕ) → command_in (understood schema text) (Insert at (Values terms width)) → accepts_terms terms (stamped table params) ≡ true
       → (a : A) → value_rows (stamped table params) width (length terms / width) terms ≡ (Null ∷ put a) ∷ []
@@ -81,6 +120,45 @@ module _ (schema : Schema) (at : ℕ) (table : Table) (listed : slice_get schema
         let r = insert_refused schema at table listed bare calm refers params old.now has d.0 terms width accepts e d.1 in
         want_weaker ⊥ (Faulted old new) e (λ none. absurd none) (subst (IsWant ⊥) (sym r.2) (insert_wants put take back schema table casts rules old.now.trees it a _ are unique r.0 r.1))
   ]
+
+  -- a row that can be stored, into a table without a row: neither is it too long, nor is no number left
+  pub insert_first : (terms : List Term) (width : ℕ) → command_in (understood schema text) (Insert at (Values terms width)) → accepts_terms terms (stamped table params) ≡ true
+      → (a : A) → value_rows (stamped table params) width (length terms / width) terms ≡ (Null ∷ put a) ∷ []
+      → KeysApart put take back schema table casts rules old.now.trees it (map take (old.now.trees table.tree) ++ a ∷ [])
+      → old.now.trees table.tree ≡ [] → (IsOversized schema table (Int (pos 1) ∷ put a) → ⊥) → IsCaused (Faulted old new) e
+  insert_first terms width means accepts a are unique empty fits = elim (unmet_so (Insert at (Values terms width)) means refl refl) [
+    | inl w ↦ w
+    | inr more ↦ elim more [
+      | inl big ↦
+          let r = insert_oversized schema at table listed bare calm refers params old.now has big.1 terms width big.2 in
+          let here : r.0 ≡ Int (pos 1) ∷ put a = alone (subst (λ (rows : List Row). Has rows r.0) news r.1) in
+          absurd (fits (subst (IsOversized schema table) here r.2))
+      | inr d ↦
+          let r = insert_refused schema at table listed bare calm refers params old.now has d.0 terms width accepts e d.1 in
+          absurd (numbered r.0 (insert_wants put take back schema table casts rules old.now.trees it a _ are unique r.0 r.1) r.1)
+    ]
+  ]
+    where
+      sources : List Row
+      sources = value_rows (stamped table params) width (length terms / width) terms
+
+      news : (edit_of old.now.trees table [] Chosen 0 sources).news ≡ (Int (pos 1) ∷ put a) ∷ []
+      news =
+          let cast : cast_row table (Null ∷ put a) ≡ Null ∷ put a = ap₂ ◌∷◌ cast_null (casts a) in
+          ap (λ all. (edit_of old.now.trees table [] Chosen 0 all).news) are
+          ∙ ap (λ r. with_rowid Chosen (old.now.trees table.tree) r ∷ []) cast
+          ∙ ap (λ rows. (Int (next_rowid rows) ∷ put a) ∷ []) empty
+
+      alone : {row : Row} → Has ((Int (pos 1) ∷ put a) ∷ []) row → row ≡ Int (pos 1) ∷ put a
+      alone (inl same) = same
+      alone (inr none) = absurd none
+
+      numbered : (why : Refusal) → IsWant ⊥ (edit_error why) → IsRefused schema Enforced old.now.trees (edit_of old.now.trees table [] Chosen 0 sources) why → ⊥
+      numbered (Violates rule) want refused = not_want (edit_error (Violates rule)) refl want
+      numbered Mismatch want refused = not_want (edit_error Mismatch) refl want
+      numbered BadReference want refused = not_want (edit_error BadReference) refl want
+      numbered TooDeep want refused = not_want (edit_error TooDeep) refl want
+      numbered NoRowid want refused = let full : list_all (λ r. fits_i64 (id_in (rowid r))) ((Int (pos 1) ∷ put a) ∷ []) ≡ false = subst (λ (rows : List Row). list_all (λ r. fits_i64 (id_in (rowid r))) rows ≡ false) news refused in absurd (let x : true ≡ false = full in cc)
 
   module _ (tests : List Term) (p : A → Bool) (tells : (v : Value) (a : A) → passes tests params (v ∷ put a) ≡ p a) where
     met : (shown : List Term) (rows : List Row) → Answers (record { schema = schema; trees = old.now.trees }) (record { lets = []; body = plain_query table.tree tests shown [] }) params rows

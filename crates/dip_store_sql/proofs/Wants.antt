@@ -1,9 +1,10 @@
 -- On the tables of a desk a statement that writes fails for want alone, where no key comes twice.
-use Rattle.std.proofs.Common.{◌≡◌, inl, inr, ℕ, pos, List, [], ◌∷◌, ◌++◌, map, Bool, false, not, cond, Err, IsTrue, None, refl, sym, subst, ◌∙◌}
+use Rattle.std.proofs.Common.{◌≡◌, inl, inr, ℕ, pos, List, [], ◌∷◌, ◌++◌, length, map, Bool, false, not, cond, Err, IsTrue, None, refl, sym, subst, ◌∙◌}
 use Rattle.std.specs.List.{AllByRecursion}
 use Rattle.std.proofs.lemmas.Bool.{cases_Bool}
 use Rattle.sqlite.specs.declared.types.Value.TheVariants.{Int, Text as Words, Blob as Bytes}
 use Rattle.sqlite.specs.declared.error.Error.{Error}
+use Rattle.sqlite.specs.Order.{Row}
 use Rattle.sqlite.specs.Tree.{Trees}
 use Rattle.sqlite.specs.State.{State, Executes}
 use Rattle.dip_store_tables.specs.Lists.{update_where, delete_where}
@@ -19,7 +20,7 @@ use Rattle.dip_store_sql.proofs.Texts as means
 use Rattle.dip_store_tables.specs.Boards.{UnitRow, CentreRow}
 use Rattle.dip_store_tables.specs.Coding.{same_name, same_seat}
 use Rattle.dip_store_tables.specs.Tables.{GameRow, PendingRow, BoxRow, PaperRow, BallotRow, is_ballot_in, is_choice_in, is_ballot, is_seat_in, is_unit_in, is_centre_in, is_pending_in, is_box_in, is_paper_in, is_named, is_seat, is_pending}
-use Rattle.dip_store_sql.specs.Causes.{Faulted}
+use Rattle.dip_store_sql.specs.Causes.{Faulted, IsCaused}
 use Rattle.dip_store_sql.specs.Good.{IsGood}
 use Rattle.dip_store_tables.specs.Writing.{choice_row}
 use Rattle.dip_store_sql.specs.Rows.{tables_of, put_desk, take_desk, put_game, take_game, put_seat, take_seat, put_unit, take_unit, put_centre, take_centre, put_pending, take_pending, put_box, take_box, put_paper, take_paper, put_ballot, take_ballot, put_choice, take_choice}
@@ -30,9 +31,10 @@ use Rattle.dip_store_sql.proofs.Telling.{tells_desk, tells_game_in, tells_seat_i
 use Rattle.dip_store_sql.specs.Keys.{AreKeyed, Differ, same_ballot, same_centre, same_choice, same_desk, same_item, same_order, same_paper, same_unit}
 use Rattle.dip_store_sql.specs.Refusals.{IsWant}
 use Rattle.dip_store_sql.proofs.Asked as asked
+use Rattle.dip_store_sql.proofs.First.{desk_fits}
 use Rattle.dip_store_sql.proofs.Keyed.{are_keyed}
 use Rattle.dip_store_sql.proofs.Ruled.{desk_rules, game_rules, seat_rules, unit_rules, centre_rules, pending_rules, box_rules, paper_rules, ballot_rules, choice_rules, desk_keyed, games_keyed, seats_keyed, units_keyed, centres_keyed, pending_keyed, boxes_keyed, papers_keyed, ballots_keyed, choices_keyed}
-use Rattle.dip_store_sql.proofs.Sane.{delete_sane, insert_sane, update_sane}
+use Rattle.dip_store_sql.proofs.Sane.{delete_sane, insert_first, insert_sane, update_sane}
 
 -- records that are left, or changed but for their key, still differ
 left : {A : Type 0} (same : A → A → Bool) (p : A → Bool) (xs : List A) → Differ same xs → Differ same (delete_where p xs)
@@ -55,6 +57,11 @@ changed {A} same p f one other (x ∷ xs) apart = (behind x xs apart.0, changed 
     behind x [] all = tt
     behind x (y ∷ ys) all = (both x y all.0, behind x ys all.1)
 
+-- no record is there, so no row
+no_rows : {A : Type 0} (take : Row → A) (rows : List Row) → map take rows ≡ [] → rows ≡ []
+no_rows take [] none = refl
+no_rows take (r ∷ rows) none = absurd (cc)
+
 -- there are no references
 refers : (among : Among) (db : Trees) → Refers among our_schema db
 refers among db = (all_of _ (λ r. refl) (db 0), (all_of _ (λ r. refl) (db 2), (all_of _ (λ r. refl) (db 4), (all_of _ (λ r. refl) (db 6), (all_of _ (λ r. refl) (db 8), (all_of _ (λ r. refl) (db 10), (all_of _ (λ r. refl) (db 12), (all_of _ (λ r. refl) (db 14), (all_of _ (λ r. refl) (db 16), (all_of _ (λ r. refl) (db 18), tt))))))))))
@@ -70,6 +77,14 @@ module _ (old new : State) (good : IsGood old.now) (up : IsTrue old.is_open) (un
   add_desk map digest apart h =
       insert_sane our_schema 0 desk_table refl refl (λ db. refl) (λ olds news. refl) refers put_desk take_desk (λ v a. refl) cast_desk desk_rules text.add_desk_text means.add_desk.1 (Bytes map ∷ Bytes digest ∷ []) asked.add_desk old new good.schema up unlimited good.desk e h
       text.add_desk_values 8 means.add_desk.0 refl (new_desk map digest) refl (λ rows it are. desk_keyed old.now.trees unique rows it (subst (Differ same_desk) (sym are) (apart)))
+
+  -- the first row of the table
+  pub first_desk : (map digest : List ℕ) → length map ≡ 32 → length digest ≡ 32 → (tables_of old.now.trees).desk ≡ [] → Executes text.add_desk_text (Bytes map ∷ Bytes digest ∷ []) old new (Err e) → IsCaused (Faulted old new) e
+  first_desk map digest one other none h =
+      insert_first our_schema 0 desk_table refl refl (λ db. refl) (λ olds news. refl) refers put_desk take_desk (λ v a. refl) cast_desk desk_rules text.add_desk_text means.add_desk.1 (Bytes map ∷ Bytes digest ∷ []) asked.add_desk old new good.schema up unlimited good.desk e h
+      text.add_desk_values 8 means.add_desk.0 refl (new_desk map digest) refl
+      (λ rows it are. desk_keyed old.now.trees unique rows it (subst (Differ same_desk) (sym are) (subst (λ ds. Differ same_desk (ds ++ (new_desk map digest) ∷ [])) (sym none) (tt, tt))))
+      (no_rows take_desk (old.now.trees 0) none) (desk_fits map digest one other)
 
   pub add_game : (g : GameRow) → Differ same_name ((tables_of old.now.trees).games ++ g ∷ []) → Executes text.add_game_text (put_game g) old new (Err e) → IsWant (Faulted old new) e
   add_game g apart h =

@@ -3,10 +3,10 @@ use Rattle.std.specs.Prelude.{◌≡◌, IsTrue, None, Result, OnOk, IfErr}
 use Rattle.sqlite.specs.declared.error.Error.{Error}
 use Rattle.sqlite.specs.State.{State, HasCleanDisk}
 use Rattle.dip_store_tables.specs.Tables.{Tables}
-use Rattle.dip_store_sql.specs.Causes.{Faulted}
+use Rattle.dip_store_sql.specs.Causes.{Faulted, IsCaused}
 use Rattle.dip_store_sql.specs.Good.{IsGood}
 use Rattle.dip_store_sql.specs.Rows.{tables_of}
-use Rattle.dip_store_sql.specs.Refusals.{IsWant}
+use Rattle.dip_store_sql.specs.Refusals.{IsBlamed, IsWant}
 
 -- a transaction is open on tables that a desk wrote, without a limit on steps
 pub record IsReady (s : State) : Type 0 where
@@ -19,8 +19,15 @@ pub record IsReady (s : State) : Type 0 where
 abbrev pub always : Tables → Type 0
 always t = Unit {0}
 
--- where the tables allow it the part fails for want alone, and where it goes well the transaction goes on
+-- where the tables allow it the part fails for want alone, and where it goes well the transaction goes on; whatever they are, it tells of
+-- the disk only where the store did
 pub record Wants {X : Type 0} (Allow : Tables → Type 0) (old new : State) (r : Result X Error)
     : Type 0 where
   pub ready : HasCleanDisk new → IsReady old → OnOk r (IsReady new)
   pub fails : HasCleanDisk new → IsReady old → Allow (tables_of old.now.trees) → IfErr r (IsWant (Faulted old new))
+  pub blames : HasCleanDisk new → IsReady old → IfErr r (IsBlamed (Faulted old new))
+
+-- where the tables are such, the part fails for want of memory, or by the disk where the store told of a fault, and for nothing else
+abbrev pub FailsOutside : {X : Type 0} → (Tables → Type 0) → State → State → Result X Error → Type 0
+FailsOutside Such old new r =
+    HasCleanDisk new → IsReady old → Such (tables_of old.now.trees) → IfErr r (IsCaused (Faulted old new))

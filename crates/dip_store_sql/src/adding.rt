@@ -1,11 +1,11 @@
 //! Rows behind the others of their tables.
-ghost use Rattle.std.specs.Prelude.{◌≡◌, ◌<◌, ◌^◌};
+ghost use Rattle.std.specs.Prelude.{◌≡◌, ◌<◌, ◌^◌, [], length};
 ghost use Rattle.sqlite.specs.Held.{state};
 ghost use Rattle.dip_store_tables.specs.Coding.{same_name, same_seat};
 ghost use Rattle.dip_store_sql.specs.Calls.{Writes};
 ghost use Rattle.dip_store_sql.specs.TablesAfter.{new_desk, new_seat, with_centre, with_desk, with_game, with_item, with_order, with_ballot, with_choice, with_paper, with_seat, with_unit};
 ghost use Rattle.dip_store_sql.specs.Keys.{Differ, same_ballot, same_centre, same_choice, same_desk, same_item, same_order, same_paper, same_unit};
-ghost use Rattle.dip_store_sql.specs.Wants.{Wants};
+ghost use Rattle.dip_store_sql.specs.Wants.{FailsOutside, Wants};
 ghost use Rattle.dip_store_sql.specs.RowViews as rows;
 ghost use Rattle.dip_store_tables.specs.Writing.{choice_row};
 
@@ -24,6 +24,10 @@ pub fn add_desk<S: Alter>(
     ensures writes { Writes (with_desk (new_desk map.now digest.now))
         (state S.Store tx.old.conn.now) (state S.Store tx.new.conn.now) result }
     ensures wants { Wants (λ t. Differ same_desk (with_desk (new_desk map.now digest.now) t).desk)
+        (state S.Store tx.old.conn.now) (state S.Store tx.new.conn.now) result }
+    // A first row of two sums is neither too long to be stored nor without a number.
+    ensures first { length map.now ≡ 32 → length digest.now ≡ 32
+        → FailsOutside (λ t. t.desk ≡ [])
         (state S.Store tx.old.conn.now) (state S.Store tx.new.conn.now) result }
 {
     tx.execute(

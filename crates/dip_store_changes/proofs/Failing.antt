@@ -19,8 +19,9 @@ use Rattle.dip_store_tables.specs.Legible.{IsSeatLegible}
 use Rattle.dip_store_tables.proofs.MapTexts.{power_text}
 use Rattle.dip_store_sql.specs.Showing.{show_listed}
 use Rattle.dip_store_sql.specs.Refusals.{IsWant}
+use Rattle.dip_store_sql.proofs.Blamed.{want_blamed}
 use Rattle.dip_store_sql.proofs.Told.{want_weaker}
-use Rattle.dip_store_changes.specs.Failing.{FailsFor, IsListed}
+use Rattle.dip_store_changes.specs.Failing.{BlamesFor, FailsFor, IsListed}
 use Rattle.dip_store_changes.specs.declared.faults.MakeFault.{MakeFault}
 use Rattle.dip_store_changes.specs.declared.faults.MakeFault.TheVariants.{Memory, Sql, Misfit}
 
@@ -55,6 +56,16 @@ fault_fails f g one two Misfit late turn fails = turn fails
 pub same_fails : {X : Type 0} (f g one two : Type 0) (e : MakeFault) (r : Result X MakeFault) → IsErrAnd r (λ x. x ≡ e) → (f → g) → (one → two) → FailsFor f one e → IfErr r (FailsFor g two)
 same_fails f g one two e (Ok x) gives late turn fails = tt
 same_fails f g one two e (Err x) gives late turn fails = subst (FailsFor g two) (sym gives) (fault_fails f g one two e late turn fails)
+
+-- what fails for want tells of the disk only where that is to blame
+pub fails_blame : (fault misfit : Type 0) (e : MakeFault) → FailsFor fault misfit e → BlamesFor fault e
+fails_blame fault misfit Memory fails = tt
+fails_blame fault misfit (Sql e) fails = want_blamed fault e fails
+fails_blame fault misfit Misfit fails = tt
+
+pub result_blames : {X : Type 0} (fault misfit : Type 0) (r : Result X MakeFault) → IfErr r (FailsFor fault misfit) → IfErr r (BlamesFor fault)
+result_blames fault misfit (Ok x) fails = tt
+result_blames fault misfit (Err e) fails = fails_blame fault misfit e fails
 
 -- the same, as a whole answer
 pub result_fails : {X : Type 0} (f g one two : Type 0) (r : Result X MakeFault) → (f → g) → (one → two) → IfErr r (FailsFor f one) → IfErr r (FailsFor g two)

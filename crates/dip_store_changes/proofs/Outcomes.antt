@@ -1,5 +1,5 @@
 -- Parts of a transaction by what they answer.
-use Rattle.std.proofs.Common.{◌≡◌, inl, refl}
+use Rattle.std.proofs.Common.{◌≡◌, false, true, inl, refl, sym, ap, ◌∙◌}
 use Rattle.sqlite.specs.declared.error.Error.{Error}
 use Rattle.sqlite.specs.declared.error.Error.TheVariants.{SqliteFailure}
 use Rattle.sqlite.specs.declared.error.ErrorCode.TheVariants.{OutOfMemory}
@@ -7,6 +7,7 @@ use Rattle.sqlite.specs.State.{State}
 use Rattle.dip_store_tables.specs.Tables.{Tables}
 use Rattle.dip_store_sql.specs.Calls.{Writes}
 use Rattle.dip_store_sql.proofs.Parts.{fails, went, writes_none}
+use Rattle.dip_store_sql.specs.Refusals.{is_outage}
 use Rattle.dip_store_sql.specs.Wants.{Wants}
 
 -- a part that went well, whatever it answers
@@ -23,4 +24,4 @@ writes_not X f a e = record {
 
 -- and that for want of memory
 pub wants_not : (X : Type 0) (Allow : Tables → Type 0) (a : State) (e : Error) → e ≡ SqliteFailure OutOfMemory → Wants Allow a a (fails X Error e)
-wants_not X Allow a e is = record { ready = λ clean ready. tt; fails = λ clean ready allow. inl (inl is) }
+wants_not X Allow a e is = record { ready = λ clean ready. tt; fails = λ clean ready allow. inl (inl is); blames = λ clean ready out. absurd (let x : false ≡ true = ap is_outage (sym is) ∙ out in cc) }

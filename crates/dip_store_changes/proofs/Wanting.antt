@@ -13,10 +13,11 @@ use Rattle.dip_desk_state.specs.State.{Author, Effect, Nothing, Pending, Votes, 
 use Rattle.dip_store_tables.specs.Tables.{Tables}
 use Rattle.dip_store_sql.specs.Calls.{IsKept, does_show, is_honest, tables_in}
 use Rattle.dip_store_sql.specs.Causes.{Faulted, has_faulted}
+use Rattle.dip_store_sql.proofs.Blamed.{want_blamed}
 use Rattle.dip_store_sql.proofs.Caused.{faulted_late}
 use Rattle.dip_store_sql.proofs.Parts.{fails, went}
 use Rattle.dip_store_sql.specs.Keys.{AreKeyed}
-use Rattle.dip_store_sql.specs.Refusals.{IsWant}
+use Rattle.dip_store_sql.specs.Refusals.{IsBlamed, IsWant}
 use Rattle.dip_store_sql.specs.Wants.{IsReady, Wants}
 use Rattle.dip_store_sql.proofs.Told.{want_weaker}
 use Rattle.dip_store_changes.specs.declared.delivering.Reader.{Reader}
@@ -32,7 +33,7 @@ caused old new e Full is why up = inl (inr (ap is_disk_error is, why))
 caused old new e Broken is why up = absurd (let x = sym up ∙ why in cc)
 caused old new e Unstorable is why up = absurd why
 
-module _ {S : Type 0} (g : Ghosts S) (Allow : Tables → Type 0) (old last end : Held S) (kept : IsKept g old) (shows : does_show g old) (allow : Allow (tables_in g old)) where
+module _ {S : Type 0} (g : Ghosts S) (Allow : Tables → Type 0) (old last end : Held S) (kept : IsKept g old) (shows : does_show g old) where
   abbrev begun : Held S
   begun = record old { in_transaction = true }
 
@@ -40,10 +41,13 @@ module _ {S : Type 0} (g : Ghosts S) (Allow : Tables → Type 0) (old last end :
   ready = record { inside = refl; up = shows.1; unlimited = kept.unlimited; good = kept.good }
 
   -- a part failed
-  pub parts_want : (X : Type 0) (e : Error) → Wants Allow (state g begun) (state g last) (fails X Error e) → is_honest g last → IsWant (has_faulted g old last) e
-  parts_want X e wants clean = wants.fails clean ready allow
+  pub parts_want : (allow : Allow (tables_in g old)) (X : Type 0) (e : Error) → Wants Allow (state g begun) (state g last) (fails X Error e) → is_honest g last → IsWant (has_faulted g old last) e
+  parts_want allow X e wants clean = wants.fails clean ready allow
 
-  -- the parts went well
+  pub parts_blame : (X : Type 0) (e : Error) → Wants Allow (state g begun) (state g last) (fails X Error e) → is_honest g last → IsBlamed (has_faulted g old last) e
+  parts_blame X e wants clean = wants.blames clean ready
+
+  -- the parts went well: whatever was allowed, the commit fails for want alone
   pub commit_wants : (X Y : Type 0) (x : X) (r : Result Y Error) (Commits : Trees → Type 0) → Wants Allow (state g begun) (state g last) (went X Error x) → Survives (state g last) (state g end) Commits
       → (HasCleanDisk (state g end) → IfErr r (FailsToCommit (state g last) (state g end))) → (state g begun).faults ≤ (state g last).faults → is_honest g end → IfErr r (IsWant (has_faulted g old end))
   commit_wants X Y x (Ok y) Commits wants survives err counts clean = tt
@@ -53,6 +57,11 @@ module _ {S : Type 0} (g : Ghosts S) (Allow : Tables → Type 0) (old last end :
         | inl f ↦ want_weaker _ _ e (faulted_late (state g old) (state g last) (state g end) counts) (caused (state g last) (state g end) e f.0 f.1 f.2 late.up)
         | inr out ↦ absurd (let x = sym late.inside ∙ out.1 in cc)
       ]
+
+-- what is want is told of the disk only where that is to blame
+pub want_blames : {Y : Type 0} (fault : Type 0) (r : Result Y Error) → IfErr r (IsWant fault) → IfErr r (IsBlamed fault)
+want_blames fault (Ok y) want = tt
+want_blames fault (Err e) want = want_blamed fault e want
 
 -- behind a change no key comes twice, so none does of its orders
 pub orders_keyed : (rs : List Reader) (m : Chart) (who : Author) (name : List ℕ) (e : Effect) (t : Tables) → AreKeyed (reaching_all rs m name e (ordering m who name e t)) → OrdersDiffer m who name e t

@@ -13,7 +13,7 @@ use Rattle.dip_store_tables.specs.Legible.{AreOurs, IsSeatLegible}
 use Rattle.dip_store_tables.specs.Room.{HasRoom, SentHasRoom}
 use Rattle.dip_store_sql.specs.Showing.{show_listed}
 use Rattle.dip_store_sql.specs.Keys.{AreKeyed}
-use Rattle.dip_store_sql.specs.Refusals.{IsWant}
+use Rattle.dip_store_sql.specs.Refusals.{IsBlamed, IsWant}
 use Rattle.dip_store_changes.specs.declared.faults.MakeFault.{MakeFault}
 use Rattle.dip_store_changes.specs.declared.faults.MakeFault.TheVariants.{Memory, Sql, Misfit}
 
@@ -22,6 +22,12 @@ abbrev pub FailsFor : Type 0 → Type 0 → MakeFault → Type 0
 FailsFor fault misfit Memory = Unit {0}
 FailsFor fault misfit (Sql e) = IsWant fault e
 FailsFor fault misfit Misfit = misfit
+
+-- the disk is told of only where there was this fault of it
+abbrev pub BlamesFor : Type 0 → MakeFault → Type 0
+BlamesFor fault Memory = Unit {0}
+BlamesFor fault (Sql e) = IsBlamed fault e
+BlamesFor fault Misfit = Unit {0}
 
 -- tables of a desk by the map, of which no key comes twice behind the change
 pub record MayMake (m : Chart) (c : Change) (t : Tables) : Type 0 where

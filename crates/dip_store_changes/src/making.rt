@@ -5,9 +5,10 @@ ghost use Rattle.sqlite.specs.Tree.{Trees};
 ghost use Rattle.dip_desk_state.specs.ChangeRows as machine;
 ghost use Rattle.dip_store_tables.specs.Changing.{changing};
 ghost use Rattle.dip_store_tables.specs.ChangeColumns.{IsWritable};
+ghost use Rattle.dip_store_tables.specs.Legible.{AreOurs};
 ghost use Rattle.dip_store_sql.specs.Causes.{has_faulted};
 ghost use Rattle.dip_store_sql.specs.Calls.{IsKept, does_show, is_honest, tables_in};
-ghost use Rattle.dip_store_changes.specs.Failing.{FailsFor, HasPlace, MayMake};
+ghost use Rattle.dip_store_changes.specs.Failing.{BlamesFor, FailsFor, HasPlace, MayMake};
 ghost use Rattle.dip_store_changes.specs.Making.{Makes};
 
 use crate::counts::count;
@@ -50,6 +51,10 @@ pub fn make<S: Alter>(
         → IfErr result (FailsFor (has_faulted S.Store conn.old conn.new)
         (¬ HasPlace map.now (machine.change change.now)
         (tables_in S.Store conn.old))) }
+    // Of any change, whether it fits or not.
+    ensures blames { IsKept S.Store conn.old → does_show S.Store conn.old
+        → is_honest S.Store conn.new → AreOurs map.now (tables_in S.Store conn.old)
+        → IfErr result (BlamesFor (has_faulted S.Store conn.old conn.new)) }
 {
     readers_are_seats();
     press_is_delivered_one_by_one();

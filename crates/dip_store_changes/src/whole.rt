@@ -6,7 +6,7 @@ ghost use Rattle.dip_store_tables.specs.ChangeColumns.{IsWritable};
 ghost use Rattle.dip_store_sql.specs.Causes.{has_faulted};
 ghost use Rattle.dip_store_sql.specs.Calls.{IsKept, does_show, is_honest, tables_in};
 ghost use Rattle.dip_store_sql.specs.Keys.{AreKeyed};
-ghost use Rattle.dip_store_sql.specs.Refusals.{IsWant};
+ghost use Rattle.dip_store_sql.specs.Refusals.{IsBlamed, IsWant};
 ghost use Rattle.dip_store_changes.specs.Making.{Makes, changing_sent};
 
 use crate::delivering::Reader;
@@ -35,6 +35,9 @@ pub fn make_with<S: Alter>(
         → is_honest S.Store conn.new → AreKeyed (changing_sent sent readers.now map.now
         (machine.change change.now) (tables_in S.Store conn.old))
         → IfErr result (IsWant (has_faulted S.Store conn.old conn.new)) }
+    ensures blames { IsKept S.Store conn.old → does_show S.Store conn.old
+        → is_honest S.Store conn.new
+        → IfErr result (IsBlamed (has_faulted S.Store conn.old conn.new)) }
 {
     let mut tx = conn.transaction();
     make_parts(alloc, &mut tx, map, change, sent, readers)?;

@@ -7,6 +7,7 @@ use Rattle.dip_store_tables.specs.Coding.{AreApart}
 use Rattle.dip_store_tables.specs.Counting.{AreCounted}
 use Rattle.dip_store_sql.specs.Calls.{tables_in}
 use Rattle.dip_store_sql.proofs.Caused.{faulted_late}
+use Rattle.dip_store_sql.proofs.Blamed.{blamed_weaker}
 use Rattle.dip_store_sql.proofs.Told.{want_weaker}
 use Rattle.dip_store_sql.proofs.Apart.{are_apart}
 use Rattle.dip_store_tables.specs.Tables.{Tables}
@@ -82,3 +83,13 @@ returns-clause-fails g c kept shows clean may =
     let same = counted_change m (c.readers_are_seats.ensures m) (c.press_is_delivered_one_by_one.ensures m) it t n rs (are_apart (state g.S.Store old).now kept.good) counts in
     let late = faulted_late (state g.S.Store old) (state g.S.Store mid) (state g.S.Store c.make_with.new.conn) (peeks_counts g.S.Store {X = Counted} {E = MakeFault} old mid c.in_ok-counted.counted c.in_ok-counted.ensures.peeks) in
     want_weaker _ _ c.in-Err.error late (c.in-Err.ensures.wants there.0 up clean (subst (λ (u : Tables). AreKeyed (changing_sent n rs m it u)) (sym there.1) (subst AreKeyed (sym same) may.keyed)))
+
+pub returns-clause-blames : goal.returns-clause-blames
+returns-clause-blames g c kept shows clean ours =
+    let old = c.args.conn.now in
+    let mid = c.count.new.conn in
+    let honest = c.in-Err.ensures.makes.fair clean in
+    let there = peeks_kept g.S.Store {X = Counted} {E = MakeFault} old mid c.in_ok-counted.counted c.in_ok-counted.ensures.peeks kept honest in
+    let up = peeks_shows g.S.Store {X = Counted} {E = MakeFault} old mid c.in_ok-counted.counted c.in_ok-counted.ensures.peeks kept shows honest in
+    let late = faulted_late (state g.S.Store old) (state g.S.Store mid) (state g.S.Store c.make_with.new.conn) (peeks_counts g.S.Store {X = Counted} {E = MakeFault} old mid c.in_ok-counted.counted c.in_ok-counted.ensures.peeks) in
+    blamed_weaker _ _ c.in-Err.error late (c.in-Err.ensures.blames there.0 up clean)

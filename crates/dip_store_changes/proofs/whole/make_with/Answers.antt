@@ -7,13 +7,14 @@ use Rattle.dip_store_sql.specs.Calls.{Writes, is_honest}
 use Rattle.dip_store_sql.proofs.Parts.{fails, went}
 use Rattle.dip_store_sql.specs.Keys.{AreKeyed}
 use Rattle.dip_store_sql.specs.Wants.{Wants}
+use Rattle.dip_store_sql.proofs.Blamed.{blamed_weaker}
 use Rattle.dip_store_sql.proofs.Told.{want_weaker}
 use Rattle.dip_store_sql.specs.Causes.{has_faulted}
 use Rattle.dip_store_sql.proofs.Caused.{faulted_early}
 use Rattle.dip_store_sql.specs.Refusals.{IsWant}
 use Rattle.dip_store_changes.specs.Making.{Makes, changing_sent}
 use Rattle.dip_store_changes.proofs.Made.{makes_committed}
-use Rattle.dip_store_changes.proofs.Wanting.{commit_wants, parts_want}
+use Rattle.dip_store_changes.proofs.Wanting.{commit_wants, parts_blame, parts_want, want_blames}
 use Rattle.dip_store_changes.proofs.whole.make_with.Goals as goal
 
 pub returns : goal.returns
@@ -34,7 +35,11 @@ returns g c =
       makes = made _ (search rules);
       wants = λ kept shows clean may.
           let honest : is_honest g.S.Store end = search (rules, clean) in
-          told c.conn-2-1.given.0 (search rules) (commit_wants g.S.Store allow old last end kept shows may (Unit {0}) (Unit {0}) c.in_ok-make_parts.field-0 c.commit.result _ wants c.commit.ensures.survives c.commit.ensures.err parts.survives.counts honest);
+          told c.conn-2-1.given.0 (search rules) (commit_wants g.S.Store allow old last end kept shows (Unit {0}) (Unit {0}) c.in_ok-make_parts.field-0 c.commit.result _ wants c.commit.ensures.survives c.commit.ensures.err parts.survives.counts honest);
+      blames = λ kept shows clean.
+          let honest : is_honest g.S.Store end = search (rules, clean) in
+          want_blames (has_faulted g.S.Store old c.conn-2-1.given.0) c.commit.result
+          (told c.conn-2-1.given.0 (search rules) (commit_wants g.S.Store allow old last end kept shows (Unit {0}) (Unit {0}) c.in_ok-make_parts.field-0 c.commit.result _ wants c.commit.ensures.survives c.commit.ensures.err parts.survives.counts honest));
     }
 
 pub returns-in_err-make_parts-clause-wants : goal.returns-in_err-make_parts-clause-wants
@@ -47,4 +52,16 @@ returns-in_err-make_parts-clause-wants g c kept shows clean may =
     let honest : is_honest g.S.Store c.drop-tx.new.self.0 = search (rules, clean) in
     let want = parts_want g.S.Store allow old last last kept shows may (Unit {0}) c.in_err-make_parts.field-0.0 wants (omega (arith, honest, c.drop-tx.ensures.survives.clean)) in
     let late = want_weaker _ _ c.in_err-make_parts.field-0.0 (faulted_early (state g.S.Store old) (state g.S.Store last) (state g.S.Store c.drop-tx.new.self.0) c.drop-tx.ensures.survives.counts) want in
+    search (rules, late)
+
+pub returns-in_err-make_parts-clause-blames : goal.returns-in_err-make_parts-clause-blames
+returns-in_err-make_parts-clause-blames g c kept shows clean =
+    let f = changing_sent c.args.sent c.args.readers.now c.args.map.now (machine.change c.args.change.now) in
+    let allow : Tables → Type 0 = λ t. AreKeyed (f t) in
+    let old = c.args.conn.now in
+    let last = c.make_parts.new.tx.conn.now in
+    let wants = subst (λ (h : Held _). Wants allow (state g.S.Store h) (state g.S.Store last) (fails (Unit {0}) Error c.in_err-make_parts.field-0.0)) c.transaction-tx.ensures.begun c.in_err-make_parts.ensures.wants in
+    let honest : is_honest g.S.Store c.drop-tx.new.self.0 = search (rules, clean) in
+    let blame = parts_blame g.S.Store allow old last last kept shows (Unit {0}) c.in_err-make_parts.field-0.0 wants (omega (arith, honest, c.drop-tx.ensures.survives.clean)) in
+    let late = blamed_weaker _ _ c.in_err-make_parts.field-0.0 (faulted_early (state g.S.Store old) (state g.S.Store last) (state g.S.Store c.drop-tx.new.self.0) c.drop-tx.ensures.survives.counts) blame in
     search (rules, late)

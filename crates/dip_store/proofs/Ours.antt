@@ -29,7 +29,7 @@ pub whole_by : (text : List ℕ) (count : ℕ) (q : Query) (names : List (List �
 whole_by text count q names asks = whole_in _ count _ asks.means.1 asks.asked
 
 ours_known : HasOurTables our_schema
-ours_known = (known_by _ _ _ _ means.find_desk, (known_by _ _ _ _ means.find_game, (known_by _ _ _ _ means.list_seats, (known_by _ _ _ _ means.list_units, (known_by _ _ _ _ means.list_centres, (known_by _ _ _ _ means.list_orders, (known_by _ _ _ _ means.find_item, (known_by _ _ _ _ means.find_paper, tt))))))))
+ours_known = (known_by _ _ _ _ means.find_desk, (known_by _ _ _ _ means.find_game, (known_by _ _ _ _ means.list_seats, (known_by _ _ _ _ means.list_units, (known_by _ _ _ _ means.list_centres, (known_by _ _ _ _ means.list_orders, (known_by _ _ _ _ means.find_item, (known_by _ _ _ _ means.find_paper, (known_by _ _ _ _ means.find_ballot, (known_by _ _ _ _ means.find_choice, tt))))))))))
 
 pub known_of_ours : (schema : Schema) → schema ≡ our_schema → HasOurTables schema
 known_of_ours schema is = subst HasOurTables (sym is) ours_known

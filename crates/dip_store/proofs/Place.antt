@@ -15,15 +15,15 @@ use Rattle.dip_desk_state.specs.Bounds.{most_items, most_sent}
 use Rattle.dip_desk_state.specs.Keyed.{at}
 use Rattle.dip_desk_state.specs.Writable.{IsAuthorOf}
 use Rattle.dip_desk_state.proofs.KeyedLemmas.{powers_tell}
-use Rattle.dip_desk_state.specs.State.{Author, Nobody, TheMaster, Seat, Effect, Nothing, Pending, Votes, Delivers, Opens, Publishes, Seats, has_room, may_get, may_send, name_of}
+use Rattle.dip_desk_state.specs.State.{Author, Nobody, TheMaster, Seat, NewSeat, Effect, Nothing, Pending, Votes, Delivers, Opens, Publishes, Seats, has_room, may_get, may_send, name_of}
 use Rattle.dip_desk_state.specs.Records.{Item, White, Grey, Kept, Public}
 use Rattle.dip_store_tables.specs.Changing.{is_reader, noting, one_more, ordering, reaching}
 use Rattle.dip_store_tables.specs.Coding.{AreCoded, HasGame, same_name, same_seat}
 use Rattle.dip_store_tables.specs.Counting.{AreCounted, CountsOn, IsNextPaper, counted, item_numbers, paper_numbers}
 use Rattle.dip_store_tables.specs.Reading.{game_of, part_of}
-use Rattle.dip_store_tables.specs.Tables.{BoxRow, GameRow, PaperRow, PendingRow, SeatRow, Tables, is_box, is_box_in, is_centre_in, is_named, is_paper_in, is_pending, is_pending_in, is_seat, is_seat_in, is_unit_in}
-use Rattle.dip_store_tables.specs.Writing.{as_printed, game_row, next_row, paper_row, pending_row, seat_noted, seat_row}
-use Rattle.dip_store_sql.specs.Keys.{AreKeyed, Differ, same_centre, same_desk, same_item, same_order, same_paper, same_unit}
+use Rattle.dip_store_tables.specs.Tables.{BallotRow, BoxRow, ChoiceRow, GameRow, PaperRow, PendingRow, SeatRow, Tables, is_ballot, is_ballot_in, is_box, is_box_in, is_centre_in, is_choice_in, is_named, is_paper_in, is_pending, is_pending_in, is_seat, is_seat_in, is_unit_in}
+use Rattle.dip_store_tables.specs.Writing.{as_printed, ballot_noted, ballot_row, choice_row, game_row, next_row, paper_row, pending_row, seat_noted, seat_row}
+use Rattle.dip_store_sql.specs.Keys.{AreKeyed, Differ, same_ballot, same_centre, same_choice, same_desk, same_item, same_order, same_paper, same_unit}
 use Rattle.dip_store.specs.Laws.{WhatFitsFindsPlace}
 use Rattle.dip_store.proofs.Apart.{changed_apart, first_off, found_holds, joined_apart, left_apart, none_passes, numbers_most, only_found, own_bytes, put_apart, same_bytes, second_off, turned, under_first}
 use Rattle.dip_store.proofs.New.{centres_new, orders_new, seats_new, units_new}
@@ -45,6 +45,21 @@ seat_off x y n off a = rw a (first_off (bytes_eq x.game n) (bytes_eq x.power y.p
 
 paper_off : (x y : PaperRow) (n : List ℕ) → is_paper_in n x ≡ false → y.game ≡ n → same_paper x y ≡ false
 paper_off x y n off a = rw a (first_off (bytes_eq x.game n) (x.number == y.number) off)
+
+ballot_off : (x y : BallotRow) (n : List ℕ) → is_ballot_in n x ≡ false → y.game ≡ n → same_ballot x y ≡ false
+ballot_off x y n off a = rw a (first_off (bytes_eq x.game n) (bytes_eq x.power y.power) off)
+
+choice_off : (x y : ChoiceRow) (n : List ℕ) → is_choice_in n x ≡ false → y.game ≡ n → same_choice x y ≡ false
+choice_off x y n off a = rw a off
+
+-- the ballots of seats differ as the seats do
+ballots_new : (m : Chart) (name : List ℕ) (ss : List NewSeat) → Differ same_seat (map (seat_row m name) ss) → Differ same_ballot (map (ballot_row m name) ss)
+ballots_new m name [] apart = tt
+ballots_new m name (s ∷ ss) apart = (behind ss apart.0, ballots_new m name ss apart.1)
+  where
+    behind : (xs : List NewSeat) → AllByRecursion (λ y. same_seat (seat_row m name s) y ≡ false) (map (seat_row m name) xs) → AllByRecursion (λ y. same_ballot (ballot_row m name s) y ≡ false) (map (ballot_row m name) xs)
+    behind [] all = tt
+    behind (x ∷ xs) all = (all.0, behind xs all.1)
 
 -- a game of the state is that of the row with its name
 named_game : (m : Chart) (t : Tables) (name : List ℕ) (gs : List GameRow) → at bytes_eq name_of name (map (game_of m t) gs) ≡ option_map (game_of m t) (find (is_named name) gs)
@@ -70,6 +85,8 @@ module _ (m : Chart) (name : List ℕ) (k : Kept) (e : Effect) (t : Tables) wher
     pending = keyed.pending;
     boxes = keyed.boxes;
     papers = keyed.papers;
+    ballots = keyed.ballots;
+    choices = keyed.choices;
   }
   noted_keyed (Seat power) keyed =
       let kept = as_printed name (power_name m power) k in
@@ -84,6 +101,8 @@ module _ (m : Chart) (name : List ℕ) (k : Kept) (e : Effect) (t : Tables) wher
         pending = keyed.pending;
         boxes = keyed.boxes;
         papers = keyed.papers;
+        ballots = keyed.ballots;
+        choices = keyed.choices;
       }
 
   -- what holds of seats by their keys and counts holds of them as noted
@@ -130,9 +149,24 @@ module _ (m : Chart) (ok : IsMap m) (name : List ℕ) (t : Tables) (keyed : AreK
         (λ x y off its. order_off x y name (power_name m power) off its.0 its.1) keyed.pending (orders_new m ok name (power_name m power) orders fits.0 fits.1) (all_map (λ y. (y.game ≡ name) × (y.power ≡ power_name m power)) (pending_row m name (power_name m power)) orders (all_of _ (λ o. (refl, refl)) orders));
     boxes = keyed.boxes;
     papers = keyed.papers;
+    ballots = keyed.ballots;
+    choices = keyed.choices;
   }
   ordered_keyed who Nothing fits = keyed
-  ordered_keyed who (Votes vote) fits = keyed
+  ordered_keyed Nobody (Votes vote) fits = keyed
+  ordered_keyed TheMaster (Votes vote) fits = keyed
+  ordered_keyed (Seat power) (Votes vote) fits = record {
+    desk = keyed.desk;
+    games = keyed.games;
+    seats = keyed.seats;
+    units = keyed.units;
+    centres = keyed.centres;
+    pending = keyed.pending;
+    boxes = keyed.boxes;
+    papers = keyed.papers;
+    ballots = changed_apart same_ballot (is_ballot name (power_name m power)) (ballot_noted m vote) (λ a b. refl) (λ a b. refl) t.ballots keyed.ballots;
+    choices = keyed.choices;
+  }
   ordered_keyed who (Delivers readers item) fits = keyed
   ordered_keyed who (Opens public paper seats) fits = keyed
   ordered_keyed who (Publishes public paper played) fits = keyed
@@ -297,6 +331,8 @@ module _ (m : Chart) (ok : IsMap m) (t : Tables) (coded : AreCoded m t) (counts 
           pending = held.pending;
           boxes = items_more m ok name u held (is_reader m name readers) item has;
           papers = held.papers;
+          ballots = held.ballots;
+          choices = held.choices;
         }
     reached_keyed (Opens public paper seats) fits place =
         let e = Opens public paper seats in
@@ -314,6 +350,9 @@ module _ (m : Chart) (ok : IsMap m) (t : Tables) (coded : AreCoded m t) (counts 
           pending = left_apart same_order (is_pending_in public.game) u.pending held.pending;
           boxes = left_apart same_item (is_box_in public.game) u.boxes held.boxes;
           papers = put_apart same_paper (is_paper_in public.game) (λ y. y.game ≡ public.game) u.papers (paper_row public.game public.papers paper ∷ []) (λ x y off its. paper_off x y public.game off its) held.papers (tt, tt) (refl, tt);
+          ballots = put_apart same_ballot (is_ballot_in public.game) (λ y. y.game ≡ public.game) u.ballots (map (ballot_row m public.game) seats) (λ x y off its. ballot_off x y public.game off its) held.ballots
+              (ballots_new m public.game seats (seats_new m ok public.game seats fits.2 fits.3)) (all_map (λ y. y.game ≡ public.game) (ballot_row m public.game) seats (all_of _ (λ s. refl) seats));
+          choices = put_apart same_choice (is_choice_in public.game) (λ y. y.game ≡ public.game) u.choices (choice_row public.game ∷ []) (λ x y off its. choice_off x y public.game off its) held.choices (tt, tt) (refl, tt);
         }
       where
         no_game : (g : Option GameRow) → option_map (game_of m t) g ≡ None → g ≡ None
@@ -333,6 +372,8 @@ module _ (m : Chart) (ok : IsMap m) (t : Tables) (coded : AreCoded m t) (counts 
           pending = orders_left played u.pending held.pending;
           boxes = held.boxes;
           papers = paper_more m ok name u held public.papers paper less;
+          ballots = held.ballots;
+          choices = held.choices;
         }
       where
         orders_left : (played : Bool) (ps : List _) → Differ same_order ps → Differ same_order (if played then delete_where (is_pending_in name) ps else ps)
@@ -351,6 +392,8 @@ module _ (m : Chart) (ok : IsMap m) (t : Tables) (coded : AreCoded m t) (counts 
           pending = held.pending;
           boxes = held.boxes;
           papers = held.papers;
+          ballots = held.ballots;
+          choices = held.choices;
         }
 
 pub fits_finds_place : (m : Chart) → WhatFitsFindsPlace m

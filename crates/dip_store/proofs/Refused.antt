@@ -101,7 +101,7 @@ differs_refused map_sum (Some d) c f is w = which f w
     which OtherSchema w = λ e at marked version. w (ap (λ (x : DeskColumns). x.version) same ∙ let there : d ≡ e = cc in ap (λ (x : DeskRow). x.version) there ∙ version)
 
 -- where it says this version and this map, that is no reason
-pub own_outage : (text : List ℕ) (t : Tables) (f : StoreFault) → DeskSays 1 (sha256 text) t → IsRefused (sha256 text) (find is_first t.desk) f → IsOutage f
+pub own_outage : (text : List ℕ) (t : Tables) (f : StoreFault) → DeskSays 2 (sha256 text) t → IsRefused (sha256 text) (find is_first t.desk) f → IsOutage f
 own_outage text t Memory says w = tt
 own_outage text t Disk says w = tt
 own_outage text t OtherMap says w =

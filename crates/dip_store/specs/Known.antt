@@ -6,7 +6,7 @@ use Rattle.sqlite.specs.Schema.{Schema}
 use Rattle.sqlite.specs.Listing.{understood}
 use Rattle.dip_store_sql.specs.Compiled.{Compiled}
 use Rattle.dip_store_sql.specs.CompileError.{CompileError}
-use Rattle.dip_store_sql.specs.Statements.{find_desk_text, find_game_text, list_seats_text, list_units_text, list_centres_text, list_orders_text, find_item_text, find_paper_text}
+use Rattle.dip_store_sql.specs.Statements.{find_desk_text, find_game_text, list_seats_text, list_units_text, list_centres_text, list_orders_text, find_item_text, find_paper_text, find_ballot_text, find_choice_text}
 
 -- the schema has what the text names
 abbrev pub IsKnown : Schema → List ℕ → Type 0
@@ -28,6 +28,8 @@ table_texts =
     list_orders_text ∷
     find_item_text ∷
     find_paper_text ∷
+    find_ballot_text ∷
+    find_choice_text ∷
     []
 
 -- our tables are there, with the columns that are read of them

@@ -14,15 +14,15 @@ IsOutage _ = ⊥
 
 -- by what the master's row says: another version, or else another map than this
 abbrev pub Differs : DeskColumns → List ℕ → StoreFault → Type 0
-Differs c map_sum OtherSchema = c.version ≡ 1 → ⊥
-Differs c map_sum OtherMap = (c.version ≡ 1) × (c.map_sum ≡ map_sum → ⊥)
+Differs c map_sum OtherSchema = c.version ≡ 2 → ⊥
+Differs c map_sum OtherMap = (c.version ≡ 2) × (c.map_sum ≡ map_sum → ⊥)
 Differs c map_sum _ = ⊥
 
 -- where the tables are there, by their master's row, if they have one: there is none of this version; or there is, and it says
 -- another map than this
 abbrev pub IsRefused : List ℕ → Option DeskRow → StoreFault → Type 0
 IsRefused map_sum row OtherSchema =
-    (d : DeskRow) → row ≡ Some d → IsMarked d → d.version ≡ 1 → ⊥
+    (d : DeskRow) → row ≡ Some d → IsMarked d → d.version ≡ 2 → ⊥
 IsRefused map_sum row OtherMap =
-    (d : DeskRow) × (row ≡ Some d) × (d.version ≡ 1) × (d.map ≡ map_sum → ⊥)
+    (d : DeskRow) × (row ≡ Some d) × (d.version ≡ 2) × (d.map ≡ map_sum → ⊥)
 IsRefused map_sum row _ = Unit {0}

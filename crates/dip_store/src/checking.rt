@@ -20,9 +20,9 @@ use dip_letters::sum;
 use sqlite::{Alter, Connection};
 
 /// The version of the tables.
-pub const VERSION: u32 = 1;
+pub const VERSION: u32 = 2;
 
-/// The eight tables are there.
+/// The ten tables are there.
 fn check_tables<S: Alter>(conn: &mut Connection<S>) -> Result<(), StoreFault>
     ensures shown { is_honest S.Store conn.new → OnOk result (does_show S.Store conn.old) }
     ensures known { is_honest S.Store conn.new
@@ -45,7 +45,7 @@ fn check_tables<S: Alter>(conn: &mut Connection<S>) -> Result<(), StoreFault>
 /// The master's row is of this version, and says this map.
 fn check_columns(columns: &DeskColumns, map_text: &str) -> Result<(), StoreFault>
     ensures is { OnOk result
-        ((columns.now.version ≡ 1) × (columns.now.map_sum ≡ sha256 map_text.now)) }
+        ((columns.now.version ≡ 2) × (columns.now.map_sum ≡ sha256 map_text.now)) }
     ensures differs { IfErr result (Differs columns.now (sha256 map_text.now)) }
 {
     if columns.version != VERSION {
@@ -60,7 +60,7 @@ fn check_columns(columns: &DeskColumns, map_text: &str) -> Result<(), StoreFault
 /// There is a master's row, of this version and with this map.
 fn check_row<S: Alter>(conn: &mut Connection<S>, map_text: &str) -> Result<(), StoreFault>
     ensures says { IsKept S.Store conn.old → is_honest S.Store conn.new
-        → OnOk result (DeskSays 1 (sha256 map_text.now) (tables_in S.Store conn.old)) }
+        → OnOk result (DeskSays 2 (sha256 map_text.now) (tables_in S.Store conn.old)) }
     ensures refused { IsKept S.Store conn.old → does_show S.Store conn.old
         → is_honest S.Store conn.new → (m : Chart) → AreOurs m (tables_in S.Store conn.old)
         → IfErr result (IsRefused (sha256 map_text.now)
@@ -84,7 +84,7 @@ pub(crate) fn check_desk<S: Alter>(
     map_text: &str,
 ) -> Result<(), StoreFault>
     ensures says { IsKept S.Store conn.old → is_honest S.Store conn.new
-        → OnOk result (DeskSays 1 (sha256 map_text.now) (tables_in S.Store conn.old)) }
+        → OnOk result (DeskSays 2 (sha256 map_text.now) (tables_in S.Store conn.old)) }
     ensures shown { is_honest S.Store conn.new → OnOk result (does_show S.Store conn.old) }
     ensures known { is_honest S.Store conn.new
         → OnOk result (HasOurTables (state S.Store conn.old).now.schema) }

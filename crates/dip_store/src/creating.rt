@@ -107,13 +107,41 @@ fn create_box<S: Alter>(tx: &mut Transaction<'_, S>) -> Result<usize, Error>
 /// The table of papers.
 fn create_paper<S: Alter>(tx: &mut Transaction<'_, S>) -> Result<usize, Error>
     ensures same_reference { tx.new.conn.ghost_name ≡ tx.old.conn.ghost_name }
-    ensures leads { Leads (HasFirst 7) (HasTables no_tables)
+    ensures leads { Leads (HasFirst 7) (HasFirst 8)
         (state S.Store tx.old.conn.now) (state S.Store tx.new.conn.now) result }
-    ensures tries { Tries (HasFirst 7) (HasTables no_tables)
+    ensures tries { Tries (HasFirst 7) (HasFirst 8)
         (state S.Store tx.old.conn.now) (state S.Store tx.new.conn.now) result }
 {
     tx.execute(
         "CREATE TABLE paper (game TEXT NOT NULL, number INTEGER NOT NULL, body TEXT NOT NULL, PRIMARY KEY (game, number)) STRICT",
+        &[],
+    )
+}
+
+/// The table of ballots, the vote of each seat.
+fn create_ballot<S: Alter>(tx: &mut Transaction<'_, S>) -> Result<usize, Error>
+    ensures same_reference { tx.new.conn.ghost_name ≡ tx.old.conn.ghost_name }
+    ensures leads { Leads (HasFirst 8) (HasFirst 9)
+        (state S.Store tx.old.conn.now) (state S.Store tx.new.conn.now) result }
+    ensures tries { Tries (HasFirst 8) (HasFirst 9)
+        (state S.Store tx.old.conn.now) (state S.Store tx.new.conn.now) result }
+{
+    tx.execute(
+        "CREATE TABLE ballot (game TEXT NOT NULL, power TEXT NOT NULL, names TEXT NOT NULL, PRIMARY KEY (game, power)) STRICT",
+        &[],
+    )
+}
+
+/// The table of what was chosen for each game.
+fn create_choice<S: Alter>(tx: &mut Transaction<'_, S>) -> Result<usize, Error>
+    ensures same_reference { tx.new.conn.ghost_name ≡ tx.old.conn.ghost_name }
+    ensures leads { Leads (HasFirst 9) (HasTables no_tables)
+        (state S.Store tx.old.conn.now) (state S.Store tx.new.conn.now) result }
+    ensures tries { Tries (HasFirst 9) (HasTables no_tables)
+        (state S.Store tx.old.conn.now) (state S.Store tx.new.conn.now) result }
+{
+    tx.execute(
+        "CREATE TABLE choice (game TEXT NOT NULL PRIMARY KEY, intent INTEGER NOT NULL) STRICT",
         &[],
     )
 }
@@ -146,15 +174,28 @@ pub(crate) fn create_boards<S: Alter>(tx: &mut Transaction<'_, S>) -> Result<(),
     Ok(())
 }
 
-/// Those of inboxes and papers, the last.
+/// Those of inboxes and papers.
 pub(crate) fn create_texts<S: Alter>(tx: &mut Transaction<'_, S>) -> Result<(), Error>
     ensures same_reference { tx.new.conn.ghost_name ≡ tx.old.conn.ghost_name }
-    ensures leads { Leads (HasFirst 6) (HasTables no_tables)
+    ensures leads { Leads (HasFirst 6) (HasFirst 8)
         (state S.Store tx.old.conn.now) (state S.Store tx.new.conn.now) result }
-    ensures tries { Tries (HasFirst 6) (HasTables no_tables)
+    ensures tries { Tries (HasFirst 6) (HasFirst 8)
         (state S.Store tx.old.conn.now) (state S.Store tx.new.conn.now) result }
 {
     create_box(tx)?;
     create_paper(tx)?;
+    Ok(())
+}
+
+/// Those of votes and of what was chosen, the last.
+pub(crate) fn create_choices<S: Alter>(tx: &mut Transaction<'_, S>) -> Result<(), Error>
+    ensures same_reference { tx.new.conn.ghost_name ≡ tx.old.conn.ghost_name }
+    ensures leads { Leads (HasFirst 8) (HasTables no_tables)
+        (state S.Store tx.old.conn.now) (state S.Store tx.new.conn.now) result }
+    ensures tries { Tries (HasFirst 8) (HasTables no_tables)
+        (state S.Store tx.old.conn.now) (state S.Store tx.new.conn.now) result }
+{
+    create_ballot(tx)?;
+    create_choice(tx)?;
     Ok(())
 }

@@ -65,7 +65,7 @@ fn knows_each<S: Alter>(conn: &mut Connection<S>, texts: &[&str]) -> Result<bool
     Ok(true)
 }
 
-/// Whether our eight tables are there, with the columns that are read of them.
+/// Whether our ten tables are there, with the columns that are read of them.
 ///
 /// # Errors
 /// Over our own schema: want of memory, or a fault of the disk.
@@ -92,6 +92,8 @@ pub fn knows_all<S: Alter>(conn: &mut Connection<S>) -> Result<bool, Error>
         "SELECT province, line FROM pending WHERE game = ?1 AND power = ?2 ORDER BY rowid",
         "SELECT grey, writer, addressees, body FROM box WHERE game = ?1 AND power = ?2 AND number = ?3",
         "SELECT body FROM paper WHERE game = ?1 AND number = ?2",
+        "SELECT names FROM ballot WHERE game = ?1 AND power = ?2",
+        "SELECT intent FROM choice WHERE game = ?1",
     ];
     knows_each(conn, &texts)
 }

@@ -4,7 +4,7 @@ ghost use Rattle.sqlite.specs.Held.{state};
 ghost use Rattle.dip_store.specs.Making.{HasFirst, HasTables, Leads, Tries};
 ghost use Rattle.dip_store_tables.specs.Writing.{new_tables};
 
-use crate::creating::{create_boards, create_people, create_texts};
+use crate::creating::{create_boards, create_choices, create_people, create_texts};
 use dip_store_sql::add_desk;
 use sqlite::{Alter, Error, Transaction};
 
@@ -15,7 +15,7 @@ pub(crate) fn has_32(sum: &[u8; 32])
     let _sum = sum;
 }
 
-/// The eight tables, and in them the master's row alone, of version 1: it says the SHA-256 of the map's text, and the master's digest.
+/// The ten tables, and in them the master's row alone, of version 2: it says the SHA-256 of the map's text, and the master's digest.
 pub fn make_tables<S: Alter>(
     tx: &mut Transaction<'_, S>,
     map_sum: &[u8; 32],
@@ -32,6 +32,7 @@ pub fn make_tables<S: Alter>(
     create_people(tx)?;
     create_boards(tx)?;
     create_texts(tx)?;
+    create_choices(tx)?;
     add_desk(tx, map_sum, digest)?;
     Ok(())
 }

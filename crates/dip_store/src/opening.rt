@@ -121,7 +121,7 @@ impl<S: Alter> SqlKeeper<S> {
         ensures told { IfOk result (λ k. (book S.Store).faults k ≡ 0) }
         ensures says { IfOk result (λ k. is_honest S.Store k.conn
             → IsStore map.now (state S.Store store).now
-            → DeskSays 1 (sha256 map_text.now) (tables_in S.Store store)) }
+            → DeskSays 2 (sha256 map_text.now) (tables_in S.Store store)) }
         ensures known { IfOk result (λ k. is_honest S.Store k.conn
             → HasOurTables (state S.Store store).now.schema) }
         ensures known_first { IfErr result (λ e. is_honest S.Store e.1
@@ -131,7 +131,7 @@ impl<S: Alter> SqlKeeper<S> {
             (find is_first (tables_in S.Store store).desk) e.0) }
         ensures own { IfErr result (λ e. is_honest S.Store e.1
             → IsStore map.now (state S.Store store).now
-            → DeskSays 1 (sha256 map_text.now) (tables_in S.Store store) → IsOutage e.0) }
+            → DeskSays 2 (sha256 map_text.now) (tables_in S.Store store) → IsOutage e.0) }
         // Of a desk, whatever its version and its map, the disk is told of only where the store told
         // of a fault of it.
         ensures caused { IfErr result (λ e. is_honest S.Store e.1 → IsDesk S.Store map.now store

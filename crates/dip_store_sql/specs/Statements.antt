@@ -257,6 +257,16 @@ find_ballot_shown = col 1 3 ∷ []
 abbrev pub find_ballot_query : Query
 find_ballot_query = plain_query 16 by_two find_ballot_shown []
 
+abbrev pub find_choice_text : List ℕ
+find_choice_text =
+    codes "SELECT intent FROM choice WHERE game = ?1"
+
+abbrev pub find_choice_shown : List Term
+find_choice_shown = col 1 2 ∷ []
+
+abbrev pub find_choice_query : Query
+find_choice_query = plain_query 18 by_one find_choice_shown []
+
 abbrev pub find_item_text : List ℕ
 find_item_text =
     codes "SELECT grey, writer, addressees, body FROM box WHERE game = ?1 AND power = ?2 AND number = ?3"

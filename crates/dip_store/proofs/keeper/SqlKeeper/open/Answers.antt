@@ -25,7 +25,7 @@ returns-in-Ok-clause-says g c =
     (λ clean own.
     let kept = kept_from g.S.Store c.args.map.now c.args.store own c.set_step_limit.new.self c.set_step_limit.ensures
     c.is_autocommit.result (c.is_autocommit.ensures.value, c.is_autocommit.ensures.settled, c.if-not-is_autocommit.false, c.in-Ok.ensures.shown clean) in
-    subst (DeskSays 1 (sha256 c.args.map_text.now)) kept.1 (c.in-Ok.ensures.says kept.0 clean))
+    subst (DeskSays 2 (sha256 c.args.map_text.now)) kept.1 (c.in-Ok.ensures.says kept.0 clean))
 
 pub returns-in-Ok-clause-known : goal.returns-in-Ok-clause-known
 returns-in-Ok-clause-known g c =

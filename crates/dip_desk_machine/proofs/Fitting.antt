@@ -1,14 +1,13 @@
 -- What is decided of a letter fits the map.
-use Rattle.std.proofs.Common.{◌≡◌, ℕ, bytes_eq, not, arith, ◌<◌, ◌≤◌, ◌==◌, ◌&&◌, ◌+◌, Bool, nat_lt, length, inl, inr, true, false, List, [], ◌∷◌, map, Option, Some, None, Result, Ok, Err, refl, sym, ap, subst}
+use Rattle.std.proofs.Common.{◌≡◌, ℕ, not, arith, ◌<◌, ◌≤◌, ◌==◌, ◌&&◌, ◌+◌, Bool, nat_lt, length, inl, inr, true, false, List, [], ◌∷◌, map, Option, Some, None, Result, Ok, Err, refl, sym, ap, subst}
 use Rattle.std.specs.List.{AllByRecursion, list_any}
-use Rattle.std.proofs.lemmas.List.Quantifiers.{position-Some}
 use Rattle.std.proofs.lemmas.Bool.{and_parts, ltb-true}
 use Rattle.dip_names.specs.declared.names.Kind.{Kind}
 use Rattle.dip_names.specs.declared.names.Kind.TheVariants.{Army, Fleet}
 use Rattle.dip_names.specs.declared.names.Unit.{Unit as AUnit}
 use Rattle.dip_map.specs.declared.boards.Dislodged.{Dislodged}
 use Rattle.dip_map.specs.Boards.{Position, IsOf, is_dislodged, opening}
-use Rattle.dip_map.specs.Charts.{Chart, IsMap, Realm, home, is_unit, may_stand, no_realm, power_of, powers}
+use Rattle.dip_map.specs.Charts.{Chart, IsMap, home, is_unit, may_stand, powers}
 use Rattle.dip_letters.specs.Letters.{FitsRequest}
 use Rattle.dip_letters.specs.Notes.{Request}
 use Rattle.dip_letters.specs.Notes.MasterRequest.{Tick}
@@ -28,7 +27,7 @@ use Rattle.dip_desk_machine.specs.Lawful.{AreAscending}
 use Rattle.dip_desk_machine.specs.Machine.{IsOffMap, IsPublished, IsSpoiledIn, Verdict, NotKnown, Again, OutOfTurn, Taken, page_shown, seat_command, seen_in, verdict_by, verdict_on}
 use Rattle.dip_desk_machine.specs.Mail.{IsMail, Mail}
 use Rattle.dip_desk_machine.specs.Ordering.{Ordered, after_line, after_lines, kept_orders, orders_after, orders_that_stand, outcome_of_lines, prov_of, standing_with}
-use Rattle.dip_desk_machine.specs.Pressing.{named_powers, readers_of, with_power}
+use Rattle.dip_desk_machine.specs.Pressing.{readers_of}
 use Rattle.dip_desk_state.specs.State.{Effect, Game, Nobody, Nothing, Part, Pending, Votes, Delivers, Opens, Publishes, Seats, Seat, TheMaster, game_at, seat_at, whole_of}
 use Rattle.dip_desk_machine.specs.Ticking.{IsPlayable, orders_of, public_played}
 use Rattle.dip_desk_state.specs.Writable.{IsPublicOf}
@@ -36,6 +35,7 @@ use Rattle.dip_desk_machine.proofs.LawfulOrders.{AreRead, all_with_order, with_o
 use Rattle.dip_desk_machine.proofs.LawfulStates.{OpensLawful, StaysOf, master_lawful, master_new, master_newer}
 use Rattle.dip_desk_machine.proofs.NeverDamaged.{playable, public_of}
 use Rattle.dip_desk_machine.proofs.Suiting.{Comes, IsPosted, command_holds, decides_suits, master_posted, readers_hold, seat_holds}
+use Rattle.dip_desk_machine.proofs.VotingLemmas.{named_low, plain_fits, set_fits}
 use Rattle.dip_desk_machine.proofs.WritableLemmas.{all_filtered, item_plain, of_played, powers_low}
 
 -- the unit of an order that can be given is in a province of the map
@@ -120,19 +120,6 @@ VerdictFits m (Again text) = Unit {0}
 VerdictFits m (OutOfTurn text) = Unit {0}
 VerdictFits m (Taken text e) = FitsMap m e
 
--- the powers of names are powers of the map
-named_low : (m : Chart) (names : List (List ℕ)) (found : List ℕ) → named_powers m names ≡ Some found → AllByRecursion (λ p. p < length m.realms) found
-named_low m [] found is = let none : [] ≡ found = cc in subst (AllByRecursion (λ p. p < length m.realms)) none tt
-named_low m (name ∷ names) found is = go (power_of m name) refl (named_powers m names) refl (named_low m names) is
-  where
-    go : (q : Option ℕ) → power_of m name ≡ q → (rest : Option (List ℕ)) → named_powers m names ≡ rest
-        → ((qs : List ℕ) → named_powers m names ≡ Some qs → AllByRecursion (λ p. p < length m.realms) qs) → with_power q rest ≡ Some found → AllByRecursion (λ p. p < length m.realms) found
-    go None at rest more low e = absurd (cc)
-    go (Some q) at None more low e = absurd (cc)
-    go (Some q) at (Some qs) more low e =
-        let same : q ∷ qs ≡ found = cc in
-        subst (AllByRecursion (λ p. p < length m.realms)) same ((position-Some (λ (x : Realm). bytes_eq x.name name) m.realms q no_realm at).0, low qs more)
-
 pub readers_low : (m : Chart) (writer : ℕ) (names : List (List ℕ)) (readers : List ℕ) → readers_of m writer names ≡ Some readers → AllByRecursion (λ p. p < length m.realms) readers
 readers_low m writer names readers =
     readers_hold (AllByRecursion (λ p. p < length m.realms)) m writer names readers
@@ -149,7 +136,8 @@ command_fits m p o page command fits ok of read = command_holds (VerdictFits m) 
       (lines_fit m p.board o.power 1 lines (record { orders = orders_that_stand m p.board o.power o.pending; answers = [] }) ok of read
       (standing_fit m p.board o.power [] o.pending ok of read (record { ascending = tt; low = tt })));
   withdrawn = (tt, tt);
-  voted = λ draw. tt;
+  voted = λ draw. plain_fits m draw;
+  voted_for = λ names set is found. set_fits m names set (subst FitsRequest is fits) found;
   sent = λ grey names lines readers is found few.
       let press = subst FitsRequest is fits in
       (readers_low m o.power names readers found, item_plain m o.power grey names lines press.0 press.1);
@@ -174,7 +162,7 @@ master_fits : (m : Chart) (command : Request) (game : Option Game) (text : List 
     → IsPosted m command game (Taken text e) → (FitsMap m e → ⊥) → IsSpoiledIn m command game
 master_fits m command game text Nothing fits fine stays comes h by unfit = absurd (unfit tt)
 master_fits m command game text (Pending orders) fits fine stays comes h by unfit = absurd comes
-master_fits m command game text (Votes draw) fits fine stays comes h by unfit = absurd comes
+master_fits m command game text (Votes vote) fits fine stays comes h by unfit = absurd comes
 master_fits m command game text (Delivers readers item) fits fine stays comes h by unfit = absurd comes
 master_fits m command game text (Opens public paper seats) fits fine stays comes h by unfit = absurd (unfit (h.of_map fine fits, h.papers, h.complete, h.known))
 master_fits m command game text (Publishes public paper true) fits fine stays comes h by unfit =
@@ -204,7 +192,7 @@ master_sound : (m : Chart) (command : Request) (game : Option Game) (text : List
     → OpensLawful m command (Taken text e) → IsPosted m command game (Taken text e) → ((g : Game) → game ≡ Some g → IsPlayable m (whole_of g) × IsPublicOf m g.public) → FitsMap m e
 master_sound m command game text Nothing fits fine stays comes h by sound = tt
 master_sound m command game text (Pending orders) fits fine stays comes h by sound = absurd comes
-master_sound m command game text (Votes draw) fits fine stays comes h by sound = absurd comes
+master_sound m command game text (Votes vote) fits fine stays comes h by sound = absurd comes
 master_sound m command game text (Delivers readers item) fits fine stays comes h by sound = absurd comes
 master_sound m command game text (Opens public paper seats) fits fine stays comes h by sound = (h.of_map fine fits, h.papers, h.complete, h.known)
 master_sound m command game text (Publishes public paper true) fits fine stays comes h by sound =

@@ -1,7 +1,7 @@
 -- Each step keeps a state lawful.
-use Rattle.std.proofs.Common.{◌≡◌, ◌<◌, ◌≤◌, ◌*◌, ℕ, suc, nat_le, nat_lt, length, lt-ltb, arith, option_map, ◌==◌, ◌+◌, Bool, true, false, cond, List, [], ◌∷◌, ◌++◌, append-nil, length-append, inl, inr, refl, sym, ap, subst, ◌∙◌, Option, Some, None, bytes_eq, map}
-use Rattle.std.specs.Prelude.{count_by, ◌||◌}
-use Rattle.std.specs.List.{AllByRecursion, list_all, list_any}
+use Rattle.std.proofs.Common.{◌≡◌, ◌<◌, ◌≤◌, ◌*◌, ℕ, suc, nat_le, nat_lt, length, arith, option_map, ◌==◌, ◌+◌, Bool, true, false, cond, List, [], ◌∷◌, ◌++◌, append-nil, length-append, inl, inr, refl, sym, ap, subst, ◌∙◌, Option, Some, None, bytes_eq, map}
+use Rattle.std.specs.Prelude.{count_by}
+use Rattle.std.specs.List.{AllByRecursion, list_all}
 use Rattle.std.specs.Option.{option_or}
 use Rattle.std.proofs.lemmas.Bool.{eqb-false, eqb-true, false≢true, ltb-false}
 use Rattle.std.proofs.lemmas.Bool.Decides.{nat_tests}
@@ -10,23 +10,21 @@ use Rattle.std.proofs.lemmas.List.Quantifiers.{position-Some}
 use Rattle.dip_letters.specs.Letters.{FitsRequest}
 use Rattle.dip_letters.specs.Notes.{Request, SeatNote}
 use Rattle.dip_letters.specs.Notes.MasterRequest.{Create, Tick, Replace, Notify}
-use Rattle.dip_letters.specs.Notes.PlayerRequest.{Orders, Withdraw, Press, Vote, Show, Inbox}
 use Rattle.dip_letters.specs.Notes.Request.{Player, Master}
 use Rattle.dip_map.specs.Boards.{Position, IsOf, opening}
 use Rattle.dip_map.specs.Charts.{Chart, Realm, no_realm, power_of, powers}
-use Rattle.dip_desk_state.specs.Bounds.{most_items, most_papers, most_sent}
+use Rattle.dip_desk_state.specs.Bounds.{most_items, most_sent}
 use Rattle.dip_desk_state.specs.Records.{Item, Kept, Own, Public}
 use Rattle.dip_reports.specs.Texts.{refusal_line}
 use Rattle.dip_reports.specs.declared.refusals.Refusal.TheVariants.{NumberUsed, Stale}
 use Rattle.dip_desk_state.specs.Keyed.{at, change_at}
-use Rattle.dip_desk_machine.specs.Lawful.{AreNamedApart, AreStanding, IsLawful, IsLawfulGame, IsLawfulSeat, IsNeverDamaged, StaysLawful, last_number, sent_by_others}
-use Rattle.dip_desk_machine.specs.Machine.{Decides, DecidesIn, change_of, IsForeignTo, IsFull, IsOffMap, IsSpoiled, IsSpoiledIn, Verdict, MasterDecides, NumberedBy, NotKnown, Again, OutOfTurn, Taken, after, are_complete, author, creation, digest, kept_of, new_seat, new_seats, old_number, with_more, opening_public, page_shown, seat_command, seat_verdict, seen_in, verdict_by, verdict_on}
+use Rattle.dip_desk_machine.specs.Lawful.{AreNamedApart, AreStanding, IsLawful, IsLawfulGame, IsLawfulSeat, StaysLawful, last_number, sent_by_others}
+use Rattle.dip_desk_machine.specs.Machine.{Decides, DecidesIn, change_of, Verdict, MasterDecides, NumberedBy, NotKnown, Again, OutOfTurn, Taken, after, are_complete, author, creation, digest, kept_of, new_seat, new_seats, old_number, with_more, opening_public, page_shown, seat_command, seat_verdict, seen_in, verdict_by, verdict_on}
 use Rattle.dip_desk_machine.specs.Mail.{IsMail, Mail}
 use Rattle.dip_desk_machine.specs.Pressing.{is_among}
-use Rattle.dip_desk_state.specs.State.{State, Game, Part, Author, Nobody, TheMaster, Seat, Change, Effect, Nothing, Pending, Votes, Delivers, Opens, Publishes, Seats, NewSeat, behind_paper, desk_after, fresh, game_after, game_at, has_room, have_room, may_get, may_send, name_of, new_games, opening_game, own_of, papers_after, power_in, public_after, seat_at, whole_of, with_author, with_digest, with_effect, with_item, with_letter}
-use Rattle.dip_desk_state.specs.Writable.{IsPublicOf, IsStatusOf}
-use Rattle.dip_desk_machine.specs.Ordering.{has_foreign}
-use Rattle.dip_desk_machine.specs.Ticking.{IsPlayable, orders_of, public_played, status_after}
+use Rattle.dip_desk_state.specs.State.{State, Game, Part, Author, Nobody, TheMaster, Seat, Change, Effect, Nothing, Pending, Votes, Delivers, Opens, Publishes, Seats, NewSeat, behind_paper, desk_after, fresh, game_after, game_at, name_of, new_games, opening_game, papers_after, power_in, public_after, seat_at, whole_of, with_author, with_digest, with_effect, with_item, with_letter}
+use Rattle.dip_desk_state.specs.Writable.{IsPublicOf, IsStatusOf, IsVoteOf}
+use Rattle.dip_desk_machine.specs.Ticking.{orders_of, public_played, status_after}
 use Rattle.dip_orders.proofs.KeptLaws.{count_cons}
 use Rattle.dip_orders.specs.Given.{AreGiven}
 use Rattle.dip_orders.specs.declared.placed.PlacedOrder.{PlacedOrder}
@@ -34,12 +32,13 @@ use Rattle.dip_turn.specs.Laws.{WinnersOwnMore}
 use Rattle.dip_turn.specs.Reports.{IsPlayed}
 use Rattle.dip_turn.specs.declared.report.Report.{Report}
 use Rattle.dip_desk_state.proofs.KeyedLemmas.{at-append, names_tell, powers_tell}
-use Rattle.dip_desk_machine.proofs.LawfulOrders.{AreRead, ordered_standing, standing_own}
+use Rattle.dip_desk_machine.proofs.LawfulOrders.{AreRead, ordered_standing}
 use Rattle.dip_desk_machine.proofs.Counting.{all_both, all_weaker}
 use Rattle.dip_desk_machine.proofs.ListLemmas.{all_at, all_change, all_last, all_map, all_same, count_change, count_map}
 use Rattle.dip_desk_machine.proofs.Seeing.{effect_power, letter_power, name_kept}
 use Rattle.dip_desk_machine.proofs.Suiting.{Comes, IsFitting, IsPosted, command_holds, decides_suits, master_holds, master_posted, master_where, seat_holds}
 use Rattle.dip_desk_machine.proofs.Handing.{each_counted, whole_given}
+use Rattle.dip_desk_machine.proofs.VotingLemmas.{plain_fits, set_fits}
 use Rattle.dip_desk_machine.proofs.WritableLemmas.{of_opening, of_played, of_renamed, status_played}
 
 -- names stay apart
@@ -99,7 +98,7 @@ apart_last (g ∷ gs) new apart none =
 abbrev pub Fits : Chart → Position → Own → Effect → Type 0
 Fits m b o Nothing = Unit {0}
 Fits m b o (Pending orders) = AreStanding m b o.power orders
-Fits m b o (Votes draw) = Unit {0}
+Fits m b o (Votes vote) = IsVoteOf m vote
 Fits m b o (Delivers readers item) = o.sent < most_sent
 Fits m b o (Opens public paper seats) = Unit {0}
 Fits m b o (Publishes public paper played) = Unit {0}
@@ -117,10 +116,10 @@ none_standing m b power = record { orders = []; lines = refl; ascending = tt; ea
 letter_lawful : (m : Chart) (b : Position) (k : Kept) (p : ℕ) (game : Option Game) (e : Effect) (s : Part) → Comes (Seat p) game e → k.number ≤ 999999999 → IsLawfulSeat m b s
     → Fits m b s.own e → IsLawfulSeat m b (with_letter k e s)
 letter_lawful m b k p None e s comes few l fits = absurd comes
-letter_lawful m b k p (Some g) Nothing s comes few l fits = record { power = l.power; pending = l.pending; last = few; sent = l.sent; items = l.items; box = l.box }
-letter_lawful m b k p (Some g) (Pending orders) s comes few l fits = record { power = l.power; pending = fits; last = few; sent = l.sent; items = l.items; box = l.box }
-letter_lawful m b k p (Some g) (Votes draw) s comes few l fits = record { power = l.power; pending = l.pending; last = few; sent = l.sent; items = l.items; box = l.box }
-letter_lawful m b k p (Some g) (Delivers readers item) s comes few l fits = record { power = l.power; pending = l.pending; last = few; sent = omega (arith, fits); items = l.items; box = l.box }
+letter_lawful m b k p (Some g) Nothing s comes few l fits = record { power = l.power; vote = l.vote; pending = l.pending; last = few; sent = l.sent; items = l.items; box = l.box }
+letter_lawful m b k p (Some g) (Pending orders) s comes few l fits = record { power = l.power; vote = l.vote; pending = fits; last = few; sent = l.sent; items = l.items; box = l.box }
+letter_lawful m b k p (Some g) (Votes vote) s comes few l fits = record { power = l.power; vote = fits; pending = l.pending; last = few; sent = l.sent; items = l.items; box = l.box }
+letter_lawful m b k p (Some g) (Delivers readers item) s comes few l fits = record { power = l.power; vote = l.vote; pending = l.pending; last = few; sent = omega (arith, fits); items = l.items; box = l.box }
 letter_lawful m b k p (Some g) (Opens public paper seats) s comes few l fits = absurd comes
 letter_lawful m b k p (Some g) (Publishes public paper played) s comes few l fits = absurd comes
 letter_lawful m b k p (Some g) (Seats seat) s comes few l fits = absurd comes
@@ -128,24 +127,25 @@ letter_lawful m b k p (Some g) (Seats seat) s comes few l fits = absurd comes
 below : (a : ℕ) → nat_le most_sent a ≡ false → a < most_sent
 below a is = grind (arith, nat_tests)
 
-command_fits : (m : Chart) (p : Public) (o : Own) (page : List Item) (command : Request) → AreRead m p.board → AreStanding m p.board o.power o.pending
+command_fits : (m : Chart) (p : Public) (o : Own) (page : List Item) (command : Request) → FitsRequest command → AreRead m p.board → AreStanding m p.board o.power o.pending
     → VerdictFits m p.board o (seat_command m command p o page)
-command_fits m p o page command again l = command_holds (VerdictFits m p.board o) m command p o page (record {
+command_fits m p o page command fits again l = command_holds (VerdictFits m p.board o) m command p o page (record {
   refused = λ r. tt;
   told = λ t. tt;
   ordered = λ lines. ordered_standing m p.board o.power o.pending lines again l;
   withdrawn = none_standing m p.board o.power;
-  voted = λ draw. tt;
+  voted = λ draw. plain_fits m draw;
+  voted_for = λ names set is found. set_fits m names set (subst FitsRequest is fits) found;
   sent = λ grey names lines readers of found few. below o.sent few;
 })
 
-pub seat_fits : (m : Chart) (n : Mail) (g : Game) (p : ℕ) (text : List ℕ) (e : Effect) → AreRead m g.public.board → Taken text e ≡ verdict_on m n (seen_in p (Some g))
+pub seat_fits : (m : Chart) (n : Mail) (g : Game) (p : ℕ) (text : List ℕ) (e : Effect) → IsMail n → AreRead m g.public.board → Taken text e ≡ verdict_on m n (seen_in p (Some g))
     → (s : Part) → seat_at p g.seats ≡ Some s → IsLawfulSeat m g.public.board s → Fits m g.public.board s.own e
-seat_fits m n g p text e again d s found l =
+seat_fits m n g p text e mail again d s found l =
     let is : seat_verdict m n g.public s.own (page_shown n.note.command s.box) ≡ Taken text e = sym (d ∙ ap (λ (x : Option Part). verdict_by m n (Some g.public) x) found) in
     subst (VerdictFits m g.public.board s.own) is
     (seat_holds (VerdictFits m g.public.board s.own) (λ t. tt) (λ t. tt) n s.own.kept (seat_command m n.note.command g.public s.own (page_shown n.note.command s.box))
-    (command_fits m g.public s.own (page_shown n.note.command s.box) n.note.command again l.pending))
+    (command_fits m g.public s.own (page_shown n.note.command s.box) n.note.command mail.command again l.pending))
 
 -- the seats that have the author's letter
 with_author_count : (who : Author) (k : Kept) (e : Effect) (q : ℕ) (seats : List Part) → count_by (λ (s : Part). power_in s == q) (with_author who k e seats) ≡ count_by (λ (s : Part). power_in s == q) seats
@@ -177,6 +177,7 @@ with_author_length (Seat p) k e seats = length_change p (with_letter k e) seats
 -- a lawful seat but for the bound of its box
 record IsReached (m : Chart) (b : Position) (s : Part) : Type 0 where
   power : power_in s < length m.realms
+  vote : IsVoteOf m s.own.vote
   pending : AreStanding m b (power_in s) s.own.pending
   last : last_number s.own.kept ≤ 999999999
   sent : s.own.sent ≤ most_sent
@@ -202,7 +203,7 @@ all_boxed : (m : Chart) (b : Position) (seats : List Part) → length seats ≤ 
     → AllByRecursion (IsReached m b) seats → AllByRecursion (λ s. length s.box ≤ sent_by_others (power_in s) seats) seats → AllByRecursion (IsLawfulSeat m b) seats
 all_boxed m b seats many powers all boxes =
     all_both (IsReached m b) (λ s. length s.box ≤ sent_by_others (power_in s) seats) (IsLawfulSeat m b) seats
-    (λ s r few. record { power = r.power; pending = r.pending; last = r.last; sent = r.sent; items = r.items; box = bounded s r.power few }) all boxes
+    (λ s r few. record { power = r.power; vote = r.vote; pending = r.pending; last = r.last; sent = r.sent; items = r.items; box = bounded s r.power few }) all boxes
   where
     bounded : (s : Part) → power_in s < length m.realms → length s.box ≤ sent_by_others (power_in s) seats → length s.box ≤ most_items
     bounded s low few =
@@ -438,7 +439,7 @@ OpensLawful m command (Again text) = Unit {0}
 OpensLawful m command (OutOfTurn text) = Unit {0}
 OpensLawful m command (Taken text Nothing) = Unit {0}
 OpensLawful m command (Taken text (Pending lines)) = Unit {0}
-OpensLawful m command (Taken text (Votes draw)) = Unit {0}
+OpensLawful m command (Taken text (Votes vote)) = Unit {0}
 OpensLawful m command (Taken text (Delivers readers item)) = Unit {0}
 OpensLawful m command (Taken text (Opens public paper seats)) = IsLawfulOpening m command public seats
 OpensLawful m command (Taken text (Publishes public paper played)) = Unit {0}
@@ -484,7 +485,7 @@ opened_lawful m command public paper seats fine fits few h = record {
       (λ q. ap (λ (c : ℕ). c == 1) (count_map fresh (λ (s : Part). power_in s == q) (λ (s : NewSeat). s.power == q) seats (λ s. refl)))
       ∙ h.complete;
   few = (let same = length-map seats fresh in omega (arith, same, few));
-  seats = all_map (λ s. s.power < length m.realms) (IsLawfulSeat m public.board) fresh seats (λ s low. record { power = low; pending = none_standing m public.board s.power; last = omega arith; sent = omega arith; items = refl; box = omega arith }) h.known;
+  seats = all_map (λ s. s.power < length m.realms) (IsLawfulSeat m public.board) fresh seats (λ s low. record { power = low; vote = tt; pending = none_standing m public.board s.power; last = omega arith; sent = omega arith; items = refl; box = omega arith }) h.known;
   boxes = all_map (λ s. Unit {0}) (λ s. length s.box ≤ sent_by_others (power_in s) (map fresh seats)) fresh seats (λ s u. omega arith) (each_unit seats);
   papers = h.papers;
 }
@@ -496,7 +497,7 @@ opened_lawful m command public paper seats fine fits few h = record {
 -- ---- what each effect does to each seat
 
 reached_same : (m : Chart) (b : Position) (s : Part) → IsLawfulSeat m b s → IsReached m b s
-reached_same m b s l = record { power = l.power; pending = l.pending; last = l.last; sent = l.sent; items = l.items }
+reached_same m b s l = record { power = l.power; vote = l.vote; pending = l.pending; last = l.last; sent = l.sent; items = l.items }
 
 reached_delivered : (m : Chart) (b : Position) (readers : List ℕ) (item : Item) (s : Part) → IsLawfulSeat m b s → IsReached m b (with_effect (Delivers readers item) s)
 reached_delivered m b readers item s l = go (is_among (power_in s) readers)
@@ -504,6 +505,7 @@ reached_delivered m b readers item s l = go (is_among (power_in s) readers)
     go : (t : Bool) → IsReached m b (cond t (with_item item s) s)
     go true = record {
       power = l.power;
+      vote = l.vote;
       pending = l.pending;
       last = l.last;
       sent = l.sent;
@@ -513,13 +515,13 @@ reached_delivered m b readers item s l = go (is_among (power_in s) readers)
 
 -- a seat whose orders are gone, on any board
 reached_played : (m : Chart) (b c : Position) (s : Part) → IsLawfulSeat m b s → IsReached m c (behind_paper true s)
-reached_played m b c s l = record { power = l.power; pending = none_standing m c (power_in s); last = l.last; sent = l.sent; items = l.items }
+reached_played m b c s l = record { power = l.power; vote = l.vote; pending = none_standing m c (power_in s); last = l.last; sent = l.sent; items = l.items }
 
 reached_seated : (m : Chart) (b : Position) (seat : NewSeat) (s : Part) → IsLawfulSeat m b s → IsReached m b (with_effect (Seats seat) s)
 reached_seated m b seat s l = go (seat.power == power_in s)
   where
     go : (t : Bool) → IsReached m b (cond t (with_digest seat.digest s) s)
-    go true = record { power = l.power; pending = l.pending; last = l.last; sent = l.sent; items = l.items }
+    go true = record { power = l.power; vote = l.vote; pending = l.pending; last = l.last; sent = l.sent; items = l.items }
     go false = reached_same m b s l
 
 -- the effects that send no press
@@ -737,7 +739,7 @@ lawful_after m fine again stays s n who (Taken text e) is d l = go who e d (deci
     own_part p e d comes g found lg q author part there lp =
         let same : p ≡ q = cc in
         letter_lawful m g.public.board (kept_of n text) p (game_at n.note.game s) e part comes is.number_most lp
-        (seat_fits m n g p text e (again g.public.board lg.public.board) (d ∙ ap (λ (x : Option Game). verdict_on m n (seen_in p x)) found) part
+        (seat_fits m n g p text e is (again g.public.board lg.public.board) (d ∙ ap (λ (x : Option Game). verdict_on m n (seen_in p x)) found) part
         (subst (λ (x : ℕ). seat_at x g.seats ≡ Some part) (sym same) there) lp)
 
     -- a letter that has an author's seat is of one that is there
@@ -780,7 +782,7 @@ lawful_after m fine again stays s n who (Taken text e) is d l = go who e d (deci
     by_power p e d None at comes = absurd comes
     by_power p Nothing d (Some g) at comes = quiet p Nothing d (subst (λ (x : Option Game). Comes (Seat p) x Nothing) (sym at) comes) (record { sent = λ s. refl; box = λ s. refl; own = λ k s. refl; kept = λ k s. refl }) refl (λ x. refl) (λ q. refl) (λ ps. refl)
     by_power p (Pending orders) d (Some g) at comes = quiet p (Pending orders) d (subst (λ (x : Option Game). Comes (Seat p) x (Pending orders)) (sym at) comes) (record { sent = λ s. refl; box = λ s. refl; own = λ k s. refl; kept = λ k s. refl }) refl (λ x. refl) (λ q. refl) (λ ps. refl)
-    by_power p (Votes draw) d (Some g) at comes = quiet p (Votes draw) d (subst (λ (x : Option Game). Comes (Seat p) x (Votes draw)) (sym at) comes) (record { sent = λ s. refl; box = λ s. refl; own = λ k s. refl; kept = λ k s. refl }) refl (λ x. refl) (λ q. refl) (λ ps. refl)
+    by_power p (Votes vote) d (Some g) at comes = quiet p (Votes vote) d (subst (λ (x : Option Game). Comes (Seat p) x (Votes vote)) (sym at) comes) (record { sent = λ s. refl; box = λ s. refl; own = λ k s. refl; kept = λ k s. refl }) refl (λ x. refl) (λ q. refl) (λ ps. refl)
     by_power p (Delivers readers item) d (Some g) at comes = delivering p readers item d (subst (λ (x : Option Game). Comes (Seat p) x (Delivers readers item)) (sym at) comes)
     by_power p (Opens public paper seats) d (Some g) at comes = absurd comes
     by_power p (Publishes public paper played) d (Some g) at comes = absurd comes

@@ -4,10 +4,12 @@ pub mod OrderingLemmas
 pub mod TickingLemmas
 pub mod PressLemmas
 pub mod WritableLemmas
+pub mod VotingLemmas
 pub mod Titles
 pub mod Suiting
 pub mod Titled
 pub mod Seeing
+pub mod Draws
 pub mod Others
 pub mod Stranging
 pub mod ListLemmas

@@ -1,46 +1,31 @@
 -- In a lawful state nothing is Damaged: each line is an order, each phase can be adjudicated, and each count that is raised has room.
-use Rattle.std.proofs.Common.{◌≡◌, ◌<◌, ◌≤◌, ◌*◌, ℕ, suc, nat_le, nat_lt, length, lt-ltb, arith, option_map, ◌==◌, ◌+◌, Bool, true, false, cond, ◌&&◌, List, [], ◌∷◌, ◌++◌, append-nil, length-append, inl, inr, refl, sym, ap, subst, ◌∙◌, Option, Some, None, bytes_eq, map}
+use Rattle.std.proofs.Common.{◌≡◌, ◌<◌, ◌≤◌, ◌*◌, ℕ, suc, nat_lt, length, lt-ltb, arith, ◌==◌, ◌+◌, Bool, true, false, cond, ◌&&◌, List, [], ◌∷◌, inl, inr, refl, sym, ap, subst, ◌∙◌, Option, Some, None, bytes_eq, map}
 use Rattle.std.specs.Prelude.{count_by, ◌||◌}
-use Rattle.std.specs.List.{AllByRecursion, list_all, list_any}
-use Rattle.std.specs.Option.{option_or}
-use Rattle.std.proofs.lemmas.Bool.{eqb-false, eqb-true, false≢true, ltb-false}
-use Rattle.std.proofs.lemmas.Bool.Decides.{nat_tests}
-use Rattle.std.proofs.lemmas.List.{length-map}
-use Rattle.std.proofs.lemmas.List.Quantifiers.{position-Some}
-use Rattle.dip_letters.specs.Letters.{FitsRequest}
-use Rattle.dip_letters.specs.Notes.{Request, SeatNote}
+use Rattle.std.specs.List.{AllByRecursion, list_any}
+use Rattle.std.proofs.lemmas.Bool.{eqb-true, false≢true}
+use Rattle.dip_letters.specs.Notes.{Request}
 use Rattle.dip_letters.specs.Notes.MasterRequest.{Create, Tick, Replace, Notify}
-use Rattle.dip_letters.specs.Notes.PlayerRequest.{Orders, Withdraw, Press, Vote, Show, Inbox}
 use Rattle.dip_letters.specs.Notes.Request.{Player, Master}
-use Rattle.dip_map.specs.Boards.{Position, IsOf, opening}
-use Rattle.dip_map.specs.Charts.{Chart, Realm, no_realm, power_of, powers}
-use Rattle.dip_desk_state.specs.Bounds.{most_items, most_papers, most_sent}
-use Rattle.dip_desk_state.specs.Records.{Item, Kept, Own, Public}
-use Rattle.dip_reports.specs.Texts.{refusal_line}
-use Rattle.dip_reports.specs.declared.refusals.Refusal.TheVariants.{NumberUsed, Stale}
-use Rattle.dip_desk_state.specs.Keyed.{at, change_at}
-use Rattle.dip_desk_machine.specs.Lawful.{AreNamedApart, AreStanding, IsLawful, IsLawfulGame, IsLawfulSeat, IsNeverDamaged, StaysLawful, last_number, sent_by_others}
-use Rattle.dip_desk_machine.specs.Machine.{Decides, DecidesIn, change_of, IsForeignTo, IsFull, IsOffMap, IsSpoiled, IsSpoiledIn, Verdict, MasterDecides, NumberedBy, NotKnown, Again, OutOfTurn, Taken, after, are_complete, author, creation, digest, kept_of, new_seat, new_seats, old_number, with_more, opening_public, page_shown, seat_command, seat_verdict, seen_in, verdict_by, verdict_on}
+use Rattle.dip_map.specs.Boards.{Position, IsOf}
+use Rattle.dip_map.specs.Charts.{Chart}
+use Rattle.dip_desk_state.specs.Bounds.{most_items, most_sent}
+use Rattle.dip_desk_state.specs.Records.{Item, Kept}
+use Rattle.dip_desk_state.specs.Keyed.{at}
+use Rattle.dip_desk_machine.specs.Lawful.{IsLawful, IsLawfulGame, IsLawfulSeat, IsNeverDamaged, last_number, sent_by_others}
+use Rattle.dip_desk_machine.specs.Machine.{Decides, IsForeignTo, IsFull, IsOffMap, IsSpoiled, IsSpoiledIn, Verdict, NumberedBy, NotKnown, Taken, old_number, seen_in, verdict_by, verdict_on}
 use Rattle.dip_desk_machine.specs.Mail.{IsMail, Mail}
 use Rattle.dip_desk_machine.specs.Pressing.{is_among}
-use Rattle.dip_desk_state.specs.State.{State, Game, Part, Author, Nobody, TheMaster, Seat, Change, Effect, Nothing, Pending, Votes, Delivers, Opens, Publishes, Seats, NewSeat, behind_paper, desk_after, fresh, game_after, game_at, has_room, have_room, may_get, may_send, name_of, new_games, opening_game, own_of, papers_after, power_in, public_after, seat_at, whole_of, with_author, with_digest, with_effect, with_item, with_letter}
-use Rattle.dip_desk_state.specs.Writable.{IsPublicOf, IsStatusOf}
+use Rattle.dip_desk_state.specs.State.{State, Game, Part, Nobody, TheMaster, Seat, Nothing, Delivers, game_at, has_room, have_room, may_get, may_send, name_of, own_of, power_in, seat_at, whole_of}
+use Rattle.dip_desk_state.specs.Writable.{IsPublicOf}
 use Rattle.dip_desk_machine.specs.Ordering.{has_foreign}
-use Rattle.dip_desk_machine.specs.Ticking.{IsPlayable, orders_of, public_played, status_after}
+use Rattle.dip_desk_machine.specs.Ticking.{IsPlayable}
 use Rattle.dip_orders.proofs.KeptLaws.{count_cons}
-use Rattle.dip_orders.specs.Given.{AreGiven}
-use Rattle.dip_orders.specs.declared.placed.PlacedOrder.{PlacedOrder}
-use Rattle.dip_turn.specs.Laws.{WinnersOwnMore}
-use Rattle.dip_turn.specs.Reports.{IsPlayed}
-use Rattle.dip_turn.specs.declared.report.Report.{Report}
 use Rattle.dip_desk_state.proofs.KeyedLemmas.{at_key, powers_tell}
-use Rattle.dip_desk_machine.proofs.LawfulOrders.{AreRead, ordered_standing, standing_own}
+use Rattle.dip_desk_machine.proofs.LawfulOrders.{AreRead, standing_own}
 use Rattle.dip_desk_machine.proofs.Counting.{all_both, all_weaker}
-use Rattle.dip_desk_machine.proofs.ListLemmas.{all_at, all_change, all_last, all_map, all_same, count_change, count_map}
-use Rattle.dip_desk_machine.proofs.Seeing.{effect_power, letter_power, name_kept}
-use Rattle.dip_desk_machine.proofs.Suiting.{Comes, IsFitting, IsPosted, command_holds, decides_suits, master_holds, master_posted, master_where, seat_holds}
+use Rattle.dip_desk_machine.proofs.ListLemmas.{all_at}
+use Rattle.dip_desk_machine.proofs.Suiting.{Comes, decides_suits}
 use Rattle.dip_desk_machine.proofs.Handing.{each_counted, whole_given}
-use Rattle.dip_desk_machine.proofs.WritableLemmas.{of_opening, of_played, of_renamed, status_played}
 use Rattle.dip_desk_machine.proofs.LawfulStates.{numbered_newer, seat_fits, sent_within}
 
 -- ---- games that can be played
@@ -192,9 +177,9 @@ module _ (m : Chart) (g : Game) (l : IsLawfulGame m g) (p : ℕ) (readers : List
       tested (s ∷ ss) all = ap (λ (t : Bool). t && have_room (Seat p) readers ss) all.0 ∙ tested ss all.1
 
 -- press that is decided of a letter in a lawful state finds room
-pub room_for_press : (m : Chart) (s : State) (n : Mail) (p : ℕ) (text : List ℕ) (readers : List ℕ) (item : Item) (g : Game) → ((b : Position) → IsOf m b → AreRead m b) → IsLawful m s
+pub room_for_press : (m : Chart) (s : State) (n : Mail) (p : ℕ) (text : List ℕ) (readers : List ℕ) (item : Item) (g : Game) → ((b : Position) → IsOf m b → AreRead m b) → IsMail n → IsLawful m s
     → Decides m s n (Seat p) (Taken text (Delivers readers item)) → game_at n.note.game s ≡ Some g → have_room (Seat p) readers g.seats ≡ true
-room_for_press m s n p text readers item g read l d found = go (seat_at p g.seats) refl
+room_for_press m s n p text readers item g read is l d found = go (seat_at p g.seats) refl
   where
     lg : IsLawfulGame m g
     lg = all_at bytes_eq name_of n.note.game (IsLawfulGame m) s.games g l.games found
@@ -207,7 +192,7 @@ room_for_press m s n p text readers item g read l d found = go (seat_at p g.seat
         let bad : ◌≡◌ {A = Verdict} (Taken text (Delivers readers item)) NotKnown = told ∙ ap (λ (x : Option Part). verdict_by m n (Some g.public) x) at in absurd (cc)
     go (Some x) at =
         let lx : IsLawfulSeat m g.public.board x = all_at (λ a b. a == b) power_in p (IsLawfulSeat m g.public.board) g.seats x lg.seats at in
-        press_finds_room m g lg p readers x at (seat_fits m n g p text (Delivers readers item) (read g.public.board lg.public.board) told x at lx)
+        press_finds_room m g lg p readers x at (seat_fits m n g p text (Delivers readers item) is (read g.public.board lg.public.board) told x at lx)
         (subst (λ (y : Option Game). Comes (Seat p) y (Delivers readers item)) found (decides_suits m s n (Seat p) (Taken text (Delivers readers item)) d).0)
 
 -- ---- nothing Damaged
@@ -251,7 +236,7 @@ never_damaged m read s n (Seat power) is l h = elim h [
     room None at full = full
     room (Some g) at full =
         let decided : Decides m s n (Seat power) (Taken full.0 (Delivers full.1 full.2)) = full.3 ∙ ap (λ (x : Option Game). verdict_on m n (seen_in power x)) (sym at) in
-        false≢true (sym full.4 ∙ room_for_press m s n power full.0 full.1 full.2 g read l decided at)
+        false≢true (sym full.4 ∙ room_for_press m s n power full.0 full.1 full.2 g read is l decided at)
 
     go : (game : Option Game) → game_at n.note.game s ≡ game → IsForeignTo m (seen_in power game).public (own_of (seen_in power game).seat) → ⊥
     go None at foreign = absurd foreign

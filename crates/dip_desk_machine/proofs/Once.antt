@@ -21,7 +21,7 @@ use Rattle.dip_turn.specs.declared.report.Course.{Course}
 use Rattle.dip_turn.specs.declared.report.Report.{Report}
 use Rattle.dip_turn.specs.declared.report.RetreatLine.{RetreatLine}
 use Rattle.dip_turn.specs.declared.report.Waiver.{Waiver}
-use Rattle.dip_desk_machine.specs.Drawing.{is_drawn}
+use Rattle.dip_desk_machine.specs.Drawing.{drawn_between}
 use Rattle.dip_desk_machine.specs.Machine.{Decides, DecidesIn, DecidesNew, IsPublished, MasterDecides, NumberedBy, OnTime, Taken, Ticks, Verdict, author, old_number, paper_verdict}
 use Rattle.dip_desk_machine.specs.Mail.{Mail}
 use Rattle.dip_desk_state.specs.State.{Game, Nobody, Publishes, Seat, State, TheMaster, game_at, whole_of}
@@ -68,11 +68,11 @@ published_once m one tick w v u p q =
 ticks_once : (m : Chart) → PhasesHaveOneResult → (tick : ℕ) (w : Whole) (over due : Bool) (v u : Verdict) → Ticks m tick w over due v → Ticks m tick w over due u → v ≡ u
 ticks_once m one tick w true due v u x y = x ∙ sym y
 ticks_once m one tick w false false v u x y = x ∙ sym y
-ticks_once m one tick w false true v u x y = go (is_drawn m w) x y
+ticks_once m one tick w false true v u x y = go (drawn_between m w) x y
   where
-    go : (b : Bool) → OnTime m tick w b v → OnTime m tick w b u → v ≡ u
-    go true x y = x ∙ sym y
-    go false x y = published_once m one tick w v u x y
+    go : (o : Option (List ℕ)) → OnTime m tick w o v → OnTime m tick w o u → v ≡ u
+    go (Some set) x y = x ∙ sym y
+    go None x y = published_once m one tick w v u x y
 
 numbered_once : (o : Option Verdict) (New : Verdict → Type 0) (a b : Verdict) → (New a → New b → a ≡ b) → NumberedBy o New a → NumberedBy o New b → a ≡ b
 numbered_once None New a b new x y = new x y

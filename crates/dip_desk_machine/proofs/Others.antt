@@ -38,7 +38,7 @@ IsSent m n p (Again text) = Unit {0}
 IsSent m n p (OutOfTurn text) = Unit {0}
 IsSent m n p (Taken text Nothing) = Unit {0}
 IsSent m n p (Taken text (Pending orders)) = Unit {0}
-IsSent m n p (Taken text (Votes draw)) = Unit {0}
+IsSent m n p (Taken text (Votes vote)) = Unit {0}
 IsSent m n p (Taken text (Delivers readers item)) =
     (grey : Bool) × (names : List (List ℕ)) × (lines : List (List ℕ)) × (n.note.command ≡ Player (Press grey names lines)) × (readers_of m p names ≡ Some readers)
     × (text ≡ press_line) × (item ≡ item_of m p grey names lines)
@@ -59,6 +59,7 @@ seat_sent m s n p v d = go (game_at n.note.game s) d
           ordered = λ lines. tt;
           withdrawn = tt;
           voted = λ draw. tt;
+          voted_for = λ names set of found. tt;
           sent = λ grey names lines readers of found few. (
             grey,
             names,
@@ -92,7 +93,7 @@ seat_heard m s n p power v d = go v (seat_sent m s n p v d) refl (suits v d)
     no None e h = absurd h
     no (Some g) Nothing h = inl refl
     no (Some g) (Pending orders) h = inl refl
-    no (Some g) (Votes draw) h = inl refl
+    no (Some g) (Votes vote) h = inl refl
     no (Some g) (Delivers readers item) h = inr (readers, item, refl)
     no (Some g) (Opens public paper seats) h = absurd h
     no (Some g) (Publishes public paper played) h = absurd h
@@ -176,7 +177,7 @@ pub seat_unpublished : (p : ℕ) (game : Option Game) (e : Effect) → Comes (Se
 seat_unpublished p None e h = absurd h
 seat_unpublished p (Some g) Nothing h = (refl, λ ps. refl)
 seat_unpublished p (Some g) (Pending orders) h = (refl, λ ps. refl)
-seat_unpublished p (Some g) (Votes draw) h = (refl, λ ps. refl)
+seat_unpublished p (Some g) (Votes vote) h = (refl, λ ps. refl)
 seat_unpublished p (Some g) (Delivers readers item) h = (refl, λ ps. refl)
 seat_unpublished p (Some g) (Opens public paper seats) h = absurd h
 seat_unpublished p (Some g) (Publishes public paper played) h = absurd h
@@ -209,7 +210,7 @@ IsGiven m n command (Again text) = Unit {0}
 IsGiven m n command (OutOfTurn text) = Unit {0}
 IsGiven m n command (Taken text Nothing) = Unit {0}
 IsGiven m n command (Taken text (Pending orders)) = Unit {0}
-IsGiven m n command (Taken text (Votes draw)) = Unit {0}
+IsGiven m n command (Taken text (Votes vote)) = Unit {0}
 IsGiven m n command (Taken text (Delivers readers item)) = Unit {0}
 IsGiven m n command (Taken text (Opens public paper seats)) = Unit {0}
 IsGiven m n command (Taken text (Publishes public paper played)) = Unit {0}
@@ -498,4 +499,4 @@ votes_untold m tick a b over due v same quiet silent h = go over due h
     go true due h = h
     go false false h = h
     go false true h =
-        subst (λ (t : Bool). OnTime m tick b t v) (sym silent) (published (subst (λ (t : Bool). OnTime m tick a t v) quiet h))
+        subst (λ (o : Option (List ℕ)). OnTime m tick b o v) (sym silent) (published (subst (λ (o : Option (List ℕ)). OnTime m tick a o v) quiet h))

@@ -134,7 +134,7 @@ seat_stays m n p s t same is = go (bytes_eq n.note.sender (codes "master")) is
 letter_digest : (k : Kept) (e : Effect) (s : Part) → (with_letter k e s).own.digest ≡ s.own.digest
 letter_digest k Nothing s = refl
 letter_digest k (Pending orders) s = refl
-letter_digest k (Votes draw) s = refl
+letter_digest k (Votes vote) s = refl
 letter_digest k (Delivers readers item) s = refl
 letter_digest k (Opens public paper seats) s = refl
 letter_digest k (Publishes public paper played) s = refl
@@ -144,7 +144,7 @@ seat_digest : (p : ℕ) (game : Option Game) (e : Effect) (s : Part) → Comes (
 seat_digest p None e s h = absurd h
 seat_digest p (Some g) Nothing s h = refl
 seat_digest p (Some g) (Pending orders) s h = refl
-seat_digest p (Some g) (Votes draw) s h = refl
+seat_digest p (Some g) (Votes vote) s h = refl
 seat_digest p (Some g) (Delivers readers item) s h = go (list_any (λ p. p == power_in s) readers)
   where
     go : (b : Bool) → (cond b (with_item item s) s).own.digest ≡ s.own.digest
@@ -158,7 +158,7 @@ seat_digest p (Some g) (Seats seat) s h = absurd h
 letter_kept : (k : Kept) (e : Effect) (s : Part) → (with_letter k e s).own.kept ≡ Some k
 letter_kept k Nothing s = refl
 letter_kept k (Pending orders) s = refl
-letter_kept k (Votes draw) s = refl
+letter_kept k (Votes vote) s = refl
 letter_kept k (Delivers readers item) s = refl
 letter_kept k (Opens public paper seats) s = refl
 letter_kept k (Publishes public paper played) s = refl
@@ -168,7 +168,7 @@ seat_kept : (p : ℕ) (game : Option Game) (e : Effect) (s : Part) → Comes (Se
 seat_kept p None e s h = absurd h
 seat_kept p (Some g) Nothing s h = refl
 seat_kept p (Some g) (Pending orders) s h = refl
-seat_kept p (Some g) (Votes draw) s h = refl
+seat_kept p (Some g) (Votes vote) s h = refl
 seat_kept p (Some g) (Delivers readers item) s h = go (list_any (λ p. p == power_in s) readers)
   where
     go : (b : Bool) → (cond b (with_item item s) s).own.kept ≡ s.own.kept

@@ -71,7 +71,7 @@ verdict_not_own power (Again text) = tt
 verdict_not_own power (OutOfTurn text) = tt
 verdict_not_own power (Taken text Nothing) = tt
 verdict_not_own power (Taken text (Pending orders)) = tt
-verdict_not_own power (Taken text (Votes draw)) = tt
+verdict_not_own power (Taken text (Votes vote)) = tt
 verdict_not_own power (Taken text (Delivers readers item)) = go (list_any (λ p. p == power) readers)
   where
     go : (t : Bool) → AllByRecursion IsNotOwn (cond t (Heard item ∷ []) [])
@@ -153,6 +153,7 @@ command_taken m command p o page = command_holds (λ v. IsUntaken v → ⊥) m c
   ordered = λ lines h. h;
   withdrawn = λ h. h;
   voted = λ draw h. h;
+  voted_for = λ names set of found h. h;
   sent = λ grey names lines readers of found few h. h;
 })
 

@@ -35,7 +35,7 @@ effect_absorbed : (m : Chart) (name : List ℕ) (e : Effect) (g : Game) (s : Par
     → at_one (Some (public_after e g.public)) (with_effect e s) ≡ absorb_all m (power_in s) (at_one (Some g.public) s) (effect_events (power_in s) e)
 effect_absorbed m name Nothing g s h = refl
 effect_absorbed m name (Pending orders) g s h = refl
-effect_absorbed m name (Votes draw) g s h = refl
+effect_absorbed m name (Votes vote) g s h = refl
 effect_absorbed m name (Delivers readers item) g s h = sym (heard_one m (power_in s) (list_any (λ p. p == power_in s) readers) (Some g.public) s item)
 effect_absorbed m name (Opens public paper seats) g s h = absurd h
 effect_absorbed m name (Publishes public paper played) g s h =
@@ -45,7 +45,7 @@ effect_absorbed m name (Seats seat) g s h = sym (seated_one m (power_in s) (seat
 pub own_power : (e : Effect) (o : Own) → (own_effect e o).power ≡ o.power
 own_power Nothing o = refl
 own_power (Pending orders) o = refl
-own_power (Votes draw) o = refl
+own_power (Votes vote) o = refl
 own_power (Delivers readers item) o = refl
 own_power (Opens public paper seats) o = refl
 own_power (Publishes public paper played) o = refl
@@ -54,7 +54,7 @@ own_power (Seats seat) o = refl
 pub effect_power : (e : Effect) (s : Part) → power_in (with_effect e s) ≡ power_in s
 effect_power Nothing s = refl
 effect_power (Pending orders) s = refl
-effect_power (Votes draw) s = refl
+effect_power (Votes vote) s = refl
 effect_power (Delivers readers item) s = go (list_any (λ p. p == power_in s) readers)
   where
     go : (t : Bool) → power_in (cond t (with_item item s) s) ≡ power_in s
@@ -121,7 +121,7 @@ absent_absorbed m name power b n e g suits none = here e suits ∙ sym (mine b)
     here : (e : Effect) → Suits name (Some g) e → record { public = Some (public_after e g.public); seat = None } ≡ absorb_all m power (record { public = Some g.public; seat = None }) (effect_events power e)
     here Nothing h = refl
     here (Pending orders) h = refl
-    here (Votes draw) h = refl
+    here (Votes vote) h = refl
     here (Delivers readers item) h = go (list_any (λ p. p == power) readers)
       where
         go : (t : Bool) → record { public = Some g.public; seat = None } ≡ absorb_all m power (record { public = Some g.public; seat = None }) (cond t (Heard item ∷ []) [])
@@ -174,7 +174,7 @@ name_kept c g = go c.effect
     go : (e : Effect) → (public_after e g.public).game ≡ g.public.game
     go Nothing = refl
     go (Pending orders) = refl
-    go (Votes draw) = refl
+    go (Votes vote) = refl
     go (Delivers readers item) = refl
     go (Opens public paper seats) = refl
     go (Publishes public paper played) = refl
@@ -224,7 +224,7 @@ taken_seen m power s n who text e h own = ap (seen_in power) (same_game (change_
         new : (e : Effect) → Suits n.note.game None e → seen_in power (at bytes_eq name_of n.note.game (new_games e)) ≡ absorb_all m power (record { public = None; seat = None }) (effect_events power e)
         new Nothing k = refl
         new (Pending orders) k = absurd k
-        new (Votes draw) k = absurd k
+        new (Votes vote) k = absurd k
         new (Delivers readers item) k = absurd k
         new (Opens public paper seats) k =
             let here : bytes_eq public.game n.note.game ≡ true = ap (λ (x : List ℕ). bytes_eq x n.note.game) k ∙ names_tell.self n.note.game in
@@ -247,7 +247,7 @@ other_game c s name suits differ =
     none : (e : Effect) (game : Option Game) → Suits c.game game e → at bytes_eq name_of name (new_games e) ≡ None
     none Nothing game h = refl
     none (Pending orders) game h = refl
-    none (Votes draw) game h = refl
+    none (Votes vote) game h = refl
     none (Delivers readers item) game h = refl
     none (Opens public paper seats) None h =
         let unlike : bytes_eq public.game name ≡ false = ap (λ (x : List ℕ). bytes_eq x name) h ∙ differ in rw unlike refl
@@ -346,7 +346,7 @@ effect_tells m power s true (Again text) = refl
 effect_tells m power s true (OutOfTurn text) = refl
 effect_tells m power s true (Taken text Nothing) = refl
 effect_tells m power s true (Taken text (Pending orders)) = refl
-effect_tells m power s true (Taken text (Votes draw)) = refl
+effect_tells m power s true (Taken text (Votes vote)) = refl
 effect_tells m power s true (Taken text (Delivers readers item)) = one_tells m power s (list_any (λ p. p == power) readers) (Heard item) refl
 effect_tells m power s true (Taken text (Opens public paper seats)) = seats_tell m power (absorb m power s (Published public paper false)) seats
 effect_tells m power s true (Taken text (Publishes public paper played)) = refl

@@ -33,6 +33,7 @@ command_known m command p o page = command_holds IsKnown m command p o page (rec
   ordered = λ lines. tt;
   withdrawn = tt;
   voted = λ draw. tt;
+  voted_for = λ names set of found. tt;
   sent = λ grey names lines readers of found few. tt;
 })
 

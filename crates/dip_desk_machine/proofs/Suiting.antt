@@ -7,10 +7,10 @@ use Rattle.std.proofs.lemmas.List.Quantifiers.{position-Some}
 use Rattle.dip_letters.specs.Letters.{FitsRequest}
 use Rattle.dip_letters.specs.Notes.{Request, SeatNote}
 use Rattle.dip_letters.specs.Notes.MasterRequest.{Create, Tick, Replace, Notify}
-use Rattle.dip_letters.specs.Notes.PlayerRequest.{Orders, Withdraw, Press, Vote, Show, Inbox}
+use Rattle.dip_letters.specs.Notes.PlayerRequest.{Orders, Withdraw, Press, Vote, VoteFor, Show, Inbox}
 use Rattle.dip_letters.specs.Notes.Request.{Player, Master}
 use Rattle.dip_map.specs.Charts.{Chart, Realm, no_realm, power_of, powers}
-use Rattle.dip_desk_machine.specs.Drawing.{is_drawn, public_drawn, survivors}
+use Rattle.dip_desk_machine.specs.Drawing.{drawn_between, public_drawn}
 use Rattle.dip_desk_machine.proofs.Titles.{draw_told, notice_told}
 use Rattle.dip_desk_machine.specs.Titles.{names_phase}
 use Rattle.dip_desk_machine.specs.Mail.{Mail}
@@ -18,16 +18,18 @@ use Rattle.dip_desk_machine.specs.Noting.{is_announcement, public_noted}
 use Rattle.dip_desk_machine.specs.Pressing.{are_distinct, is_among, is_to_all, item_of, may_read, named_powers, names_all, other_powers, readers_of, readers_where}
 use Rattle.dip_desk_state.specs.Bounds.{most_papers, most_sent}
 use Rattle.dip_desk_state.specs.State.{State, Game, Author, Nobody, TheMaster, Seat, Effect, Nothing, Part, Pending, Votes, Delivers, Opens, Publishes, Seats, NewSeat, game_at, power_in, seat_at, whole_of}
-use Rattle.dip_desk_machine.specs.Machine.{Decides, DecidesIn, IsPublished, IsSpoiled, MasterDecides, NumberedBy, OnTime, Ticks, Verdict, NotKnown, Again, OutOfTurn, Taken, addressed, are_complete, creation, digest, draw_verdict, has_seat, new_seat, new_seats, notified, old_number, open_game, opening_public, orders_verdict, page_shown, press_to, refusal_verdict, replaced, replacement, seat_command, seen_in, unless, verdict_by, verdict_on}
+use Rattle.dip_desk_machine.specs.Machine.{Decides, DecidesIn, IsPublished, IsSpoiled, MasterDecides, NumberedBy, OnTime, Ticks, Verdict, NotKnown, Again, OutOfTurn, Taken, addressed, are_complete, creation, digest, draw_verdict, has_seat, new_seat, new_seats, notified, old_number, open_game, opening_public, orders_verdict, page_shown, press_to, refusal_verdict, replaced, replacement, seat_command, seen_in, unless, verdict_by, verdict_on, vote_verdict}
 use Rattle.dip_desk_machine.specs.Ordering.{outcome_of_lines}
 use Rattle.dip_desk_machine.specs.Ticking.{is_due, is_over}
+use Rattle.dip_desk_machine.specs.Voting.{plain_vote, set_of}
 use Rattle.dip_desk_machine.specs.View.{Suits}
 use Rattle.dip_desk_state.specs.Writable.{IsPublicOf}
-use Rattle.dip_desk_state.specs.Records.{Item, Public, Own, Kept, Whole}
+use Rattle.dip_desk_state.specs.Records.{Item, Public, Own, Kept, For, Whole}
 use Rattle.dip_reports.specs.Texts.{opening_paper, paper_line, press_line, refusal_line, replaced_line, vote_line, withdrawn_line}
 use Rattle.dip_reports.specs.declared.refusals.Refusal.{Refusal}
 use Rattle.dip_reports.specs.declared.refusals.Refusal.TheVariants.{GameOver, Malformed, NameTaken, NoGrey, NotDue, NumberUsed, QuotaUsed, Stale, WrongSender}
 use Rattle.dip_desk_state.proofs.KeyedLemmas.{at_key, powers_tell}
+use Rattle.dip_desk_machine.proofs.VotingLemmas.{drawn_low}
 use Rattle.dip_desk_machine.proofs.WritableLemmas.{of_drawn, of_noted}
 
 -- from whom an effect comes: a seat orders, votes and sends press, which it doesn't send to itself; the master opens games, publishes and
@@ -36,7 +38,7 @@ abbrev pub Comes : Author → Option Game → Effect → Type 0
 Comes Nobody game e = ⊥
 Comes TheMaster game Nothing = Unit {0}
 Comes TheMaster game (Pending orders) = ⊥
-Comes TheMaster game (Votes draw) = ⊥
+Comes TheMaster game (Votes vote) = ⊥
 Comes TheMaster game (Delivers readers item) = ⊥
 Comes TheMaster game (Opens public paper seats) = Unit {0}
 Comes TheMaster game (Publishes public paper played) = Unit {0}
@@ -44,7 +46,7 @@ Comes TheMaster game (Seats seat) = Unit {0}
 Comes (Seat p) None e = ⊥
 Comes (Seat p) (Some g) Nothing = Unit {0}
 Comes (Seat p) (Some g) (Pending orders) = Unit {0}
-Comes (Seat p) (Some g) (Votes draw) = Unit {0}
+Comes (Seat p) (Some g) (Votes vote) = Unit {0}
 Comes (Seat p) (Some g) (Delivers readers item) = is_among p readers ≡ false
 Comes (Seat p) (Some g) (Opens public paper seats) = ⊥
 Comes (Seat p) (Some g) (Publishes public paper played) = ⊥
@@ -96,7 +98,8 @@ pub record OfPlayer (P : Verdict → Type 0) (m : Chart) (command : Request) (p 
   pub told : (text : List ℕ) → P (Taken text Nothing)
   pub ordered : (lines : List (List ℕ)) → P (orders_verdict m (outcome_of_lines m p.board o.power o.pending lines))
   pub withdrawn : P (Taken withdrawn_line (Pending []))
-  pub voted : (draw : Bool) → P (Taken (vote_line draw) (Votes draw))
+  pub voted : (draw : Bool) → P (Taken (vote_line m (plain_vote draw)) (Votes (plain_vote draw)))
+  pub voted_for : (names : List (List ℕ)) (set : List ℕ) → command ≡ Player (VoteFor names) → set_of m names ≡ Some set → P (Taken (vote_line m (For set)) (Votes (For set)))
   pub sent : (grey : Bool) (names text : List (List ℕ)) (readers : List ℕ) → command ≡ Player (Press grey names text) → readers_of m o.power names ≡ Some readers
       → nat_le most_sent o.sent ≡ false → P (Taken press_line (Delivers readers (item_of m o.power grey names text)))
 
@@ -112,21 +115,27 @@ command_holds P m (Player (Press grey names text)) p o page h = by (readers_of m
         (λ on. unless_holds P (grey && not p.grey) NoGrey _ (h.refused NoGrey)
         (λ may. unless_holds P (nat_le most_sent o.sent) QuotaUsed (Taken press_line (Delivers readers (item_of m o.power grey names text))) (h.refused QuotaUsed)
         (λ few. h.sent grey names text readers refl is few)))
-command_holds P m (Player (Vote draw)) p o page h = unless_holds P (is_over p.status) GameOver (Taken (vote_line draw) (Votes draw)) (h.refused GameOver) (λ on. h.voted draw)
+command_holds P m (Player (Vote draw)) p o page h =
+    unless_holds P (is_over p.status) GameOver (Taken (vote_line m (plain_vote draw)) (Votes (plain_vote draw))) (h.refused GameOver) (λ on. h.voted draw)
+command_holds P m (Player (VoteFor names)) p o page h = by (set_of m names) refl
+  where
+    by : (found : Option (List ℕ)) → set_of m names ≡ found → P (addressed found (λ set. vote_verdict m p (For set)))
+    by None is = h.refused Malformed
+    by (Some set) is = unless_holds P (is_over p.status) GameOver (Taken (vote_line m (For set)) (Votes (For set))) (h.refused GameOver) (λ on. h.voted_for names set refl is)
 command_holds P m (Player Show) p o page h = h.told _
 command_holds P m (Player (Inbox first)) p o page h = h.told _
 command_holds P m (Master command) p o page h = h.refused WrongSender
 
 -- what holds of a refused TICK, of a draw, and of a paper that is published
 pub ticks_hold : (P : Verdict → Type 0) (m : Chart) (tick : ℕ) (w : Whole) (over due : Bool) (v : Verdict) → P (refusal_verdict GameOver) → P (refusal_verdict NotDue)
-    → P (draw_verdict m (public_drawn (survivors m w.public.board) w.public)) → (IsPublished m tick w v → P v) → Ticks m tick w over due v → P v
+    → ((set : List ℕ) → drawn_between m w ≡ Some set → P (draw_verdict m (public_drawn set w.public))) → (IsPublished m tick w v → P v) → Ticks m tick w over due v → P v
 ticks_hold P m tick w true due v ended early drawn played h = subst P (sym h) ended
 ticks_hold P m tick w false false v ended early drawn played h = subst P (sym h) early
-ticks_hold P m tick w false true v ended early drawn played h = go (is_drawn m w) h
+ticks_hold P m tick w false true v ended early drawn played h = go (drawn_between m w) refl h
   where
-    go : (b : Bool) → OnTime m tick w b v → P v
-    go true is = subst P (sym is) drawn
-    go false is = played is
+    go : (o : Option (List ℕ)) → drawn_between m w ≡ o → OnTime m tick w o v → P v
+    go (Some set) at is = subst P (sym is) (drawn set at)
+    go None at is = played is
 
 -- a public part with one paper more, on the same board; behind a command of the grammar it is one of the map, where the old one is
 pub record IsNext (m : Chart) (command : Request) (p q : Public) : Type 0 where
@@ -157,7 +166,9 @@ in_game_holds P m n (Master (Create due period grey seats)) g v h d = subst P (s
         go false = h.refused Malformed
 in_game_holds P m n (Master (Tick tick)) g v h d =
     ticks_hold P m tick (whole_of g) (is_over g.public.status) (is_due tick g.public) v (h.refused GameOver) (h.refused NotDue)
-    (h.noted _ _ (public_drawn (survivors m g.public.board) g.public) (record { name = refl; board = refl; papers = refl; stays = λ fits of. of_drawn m g.public of }) (draw_told m (public_drawn (survivors m g.public.board) g.public)) (λ off can of. off of can.papers))
+    (λ set is.
+    h.noted _ _ (public_drawn set g.public) (record { name = refl; board = refl; papers = refl; stays = λ fits of. of_drawn m set g.public (drawn_low m (whole_of g) set is) of })
+    (draw_told m (public_drawn set g.public)) (λ off can of. off of can.papers))
     (λ p. h.played tick v refl p) d
 in_game_holds P m n (Master (Replace note)) g v h d = subst P (sym d) (subst P (sym (same (has_seat m note.power g))) (by (power_of m note.power) refl))
   where
@@ -265,6 +276,7 @@ seat_suits m name p g n (Some s) is =
       ordered = λ lines. (tt, tt);
       withdrawn = (tt, tt);
       voted = λ draw. (tt, tt);
+      voted_for = λ names set of found. (tt, tt);
       sent = λ grey names text readers of found few. (subst (λ (q : ℕ). is_among q readers ≡ false) it (readers_apart m s.own.power names readers found), tt);
     }))
   where
@@ -335,7 +347,7 @@ pub master_where : (name : List ℕ) (game : Option Game) (e : Effect) → IsFit
     → (e ≡ Nothing) ⊎ (OpensGame name game e ⊎ (PublishesIn game e ⊎ SeatsIn game e))
 master_where name game Nothing h = inl refl
 master_where name game (Pending orders) h = absurd h.0
-master_where name game (Votes draw) h = absurd h.0
+master_where name game (Votes vote) h = absurd h.0
 master_where name game (Delivers readers item) h = absurd h.0
 master_where name None (Opens public paper seats) h = inr (inl (public, paper, seats, refl, refl, h.1))
 master_where name (Some g) (Opens public paper seats) h = absurd h.1
@@ -352,7 +364,7 @@ IsPosted m command game (Again text) = Unit {0}
 IsPosted m command game (OutOfTurn text) = Unit {0}
 IsPosted m command game (Taken text Nothing) = Unit {0}
 IsPosted m command game (Taken text (Pending orders)) = Unit {0}
-IsPosted m command game (Taken text (Votes draw)) = Unit {0}
+IsPosted m command game (Taken text (Votes vote)) = Unit {0}
 IsPosted m command game (Taken text (Delivers readers item)) = Unit {0}
 IsPosted m command game (Taken text (Opens public paper seats)) = Unit {0}
 IsPosted m command game (Taken text (Publishes public paper true)) =

@@ -4,7 +4,7 @@ use Rattle.std.specs.Prelude.{◌&&◌, ◌||◌, filter}
 use Rattle.std.specs.List.{AllByRecursion, list_any}
 use Rattle.std.proofs.lemmas.Bool.{false≢true}
 use Rattle.dip_letters.specs.Notes.{Request}
-use Rattle.dip_letters.specs.Notes.PlayerRequest.{Orders, Withdraw, Press, Vote, Show, Inbox}
+use Rattle.dip_letters.specs.Notes.PlayerRequest.{Orders, Withdraw, Press, Vote, VoteFor, Show, Inbox}
 use Rattle.dip_letters.specs.Notes.Request.{Player, Master}
 use Rattle.dip_map.specs.Charts.{Chart, powers}
 use Rattle.dip_desk_state.specs.Records.{Item}
@@ -47,6 +47,7 @@ heard_of m p power (Player (Press grey names text)) = heard_by m p power grey na
 heard_of m p power (Player (Orders lines)) = []
 heard_of m p power (Player Withdraw) = []
 heard_of m p power (Player (Vote draw)) = []
+heard_of m p power (Player (VoteFor names)) = []
 heard_of m p power (Player Show) = []
 heard_of m p power (Player (Inbox first)) = []
 heard_of m p power (Master command) = []
@@ -57,7 +58,7 @@ heard m n p power (Again text) sent is = absurd (false≢true is)
 heard m n p power (OutOfTurn text) sent is = absurd (false≢true is)
 heard m n p power (Taken text Nothing) sent is = absurd (false≢true is)
 heard m n p power (Taken text (Pending orders)) sent is = absurd (false≢true is)
-heard m n p power (Taken text (Votes draw)) sent is = absurd (false≢true is)
+heard m n p power (Taken text (Votes vote)) sent is = absurd (false≢true is)
 heard m n p power (Taken text (Opens public paper seats)) sent is = absurd (false≢true is)
 heard m n p power (Taken text (Publishes public paper played)) sent is = absurd (false≢true is)
 heard m n p power (Taken text (Seats seat)) sent is = absurd (false≢true is)
@@ -206,7 +207,7 @@ grey_alike m those seat t u none d e g =
         go (OutOfTurn text) sent is = absurd (false≢true is)
         go (Taken text Nothing) sent is = absurd (false≢true is)
         go (Taken text (Pending orders)) sent is = absurd (false≢true is)
-        go (Taken text (Votes draw)) sent is = absurd (false≢true is)
+        go (Taken text (Votes vote)) sent is = absurd (false≢true is)
         go (Taken text (Opens public paper seats)) sent is = absurd (false≢true is)
         go (Taken text (Publishes public paper played)) sent is = absurd (false≢true is)
         go (Taken text (Seats seat)) sent is = absurd (false≢true is)

@@ -1,10 +1,8 @@
 -- The title of each paper that is published tells whether a phase was played.
-use Rattle.std.proofs.Common.{◌≡◌, ℕ, Bool, true, false, List, Option, Some, None, sym, subst}
+use Rattle.std.proofs.Common.{◌≡◌, Option, Some, None, sym, subst}
 use Rattle.dip_map.specs.Charts.{Chart}
-use Rattle.dip_desk_state.specs.Records.{Public}
-use Rattle.dip_desk_state.specs.State.{Author, Effect, Game, Nobody, Nothing, Pending, Votes, Delivers, Opens, Publishes, Seats, Seat, State, TheMaster, game_at}
-use Rattle.dip_desk_machine.specs.Machine.{Decides, Verdict, NotKnown, Again, OutOfTurn, Taken}
-use Rattle.dip_desk_machine.specs.Mail.{Mail}
+use Rattle.dip_desk_state.specs.State.{Effect, Game, Nobody, Nothing, Pending, Votes, Delivers, Opens, Publishes, Seats, Seat, TheMaster, game_at}
+use Rattle.dip_desk_machine.specs.Machine.{Verdict, NotKnown, Again, OutOfTurn, Taken}
 use Rattle.dip_desk_machine.specs.Ticking.{public_played}
 use Rattle.dip_desk_machine.specs.Titles.{TitlesTell, names_phase}
 use Rattle.dip_desk_machine.proofs.Suiting.{Comes, decides_suits, master_holds}
@@ -13,7 +11,7 @@ use Rattle.dip_desk_machine.proofs.Titles.{phase_told}
 abbrev EffectTold : Effect → Type 0
 EffectTold Nothing = Unit {0}
 EffectTold (Pending orders) = Unit {0}
-EffectTold (Votes draw) = Unit {0}
+EffectTold (Votes vote) = Unit {0}
 EffectTold (Delivers readers item) = Unit {0}
 EffectTold (Opens public paper seats) = Unit {0}
 EffectTold (Publishes public paper played) = names_phase public.papers paper ≡ played

@@ -22,7 +22,7 @@ use Rattle.dip_turn.specs.Reports.{IsPlayed}
 use Rattle.dip_turn.specs.declared.report.Course.{Course}
 use Rattle.dip_turn.specs.declared.report.Course.TheVariants.{GoesOn, Won as WonBy, Ended as AtAnEnd}
 use Rattle.dip_turn.specs.declared.report.Report.{Report}
-use Rattle.dip_desk_machine.specs.Drawing.{public_drawn, survives, survivors}
+use Rattle.dip_desk_machine.specs.Drawing.{public_drawn}
 use Rattle.dip_desk_machine.specs.Machine.{author, digest, master_author, opening_public, power_author, seat_author}
 use Rattle.dip_desk_machine.specs.Mail.{Mail}
 use Rattle.dip_desk_machine.specs.Noting.{public_noted}
@@ -124,13 +124,8 @@ pub of_opening : (m : Chart) (game : List ℕ) (due period : ℕ) (grey : Bool) 
 of_opening m game due period grey seats fine fits =
     let first : due ≤ 999999999999 = fits.0 in record { board = fine; status = tt; due = omega (arith, first); period = fits.2 }
 
-pub of_drawn : (m : Chart) (p : Public) → IsPublicOf m p → IsPublicOf m (public_drawn (survivors m p.board) p)
-of_drawn m p of = record {
-  board = of.board;
-  status = all_filtered (λ q. q < length m.realms) (survives m p.board) (powers m) (powers_low m);
-  due = of.due;
-  period = of.period;
-}
+pub of_drawn : (m : Chart) (powers : List ℕ) (p : Public) → AllByRecursion (λ q. q < length m.realms) powers → IsPublicOf m p → IsPublicOf m (public_drawn powers p)
+of_drawn m powers p low of = record { board = of.board; status = low; due = of.due; period = of.period }
 
 pub of_noted : (m : Chart) (notice : NoticeRequest) (p : Public) → FitsNotice notice → IsPublicOf m p → IsPublicOf m (public_noted notice p)
 of_noted m Pause p fits of = record { board = of.board; status = tt; due = of.due; period = of.period }

@@ -1,9 +1,10 @@
 -- When a game is drawn, and between whom.
-use Rattle.std.specs.Prelude.{ℕ, Bool, true, false, ◌==◌, ◌&&◌, ◌||◌, ◌+◌, not, List, [], ◌∷◌, filter}
+use Rattle.std.specs.Prelude.{ℕ, Bool, false, ◌==◌, ◌&&◌, ◌||◌, ◌+◌, List, [], ◌∷◌, Option, None, Some, bytes_eq as are_same, filter, if◌then◌else◌}
 use Rattle.std.specs.List.{list_all, list_any}
 use Rattle.dip_map.specs.Boards.{Position, owns}
 use Rattle.dip_map.specs.Charts.{Chart, powers, provs}
-use Rattle.dip_desk_state.specs.Records.{Own, Public, Drawn, Whole}
+use Rattle.dip_desk_machine.specs.Pressing.{is_among}
+use Rattle.dip_desk_state.specs.Records.{Own, Public, Drawn, Vote, No, Yes, For, Whole}
 
 -- a power with a unit, standing or dislodged
 abbrev pub has_unit : Position → ℕ → Bool
@@ -21,21 +22,42 @@ survives m b power = has_unit b power || has_centre m b power
 abbrev pub survivors : Chart → Position → List ℕ
 survivors m b = filter (survives m b) (powers m)
 
--- whether the seat of a power votes for a draw
-abbrev pub votes_for_draw : List Own → ℕ → Bool
-votes_for_draw seats power = list_any (λ o. o.power == power && o.vote) seats
+-- what a power votes for: what its seat does, and no draw where it has none
+abbrev pub vote_of : List Own → ℕ → Vote
+vote_of [] power = No
+vote_of (o ∷ os) power = if o.power == power then o.vote else vote_of os power
 
-abbrev pub is_nobody : List ℕ → Bool
-is_nobody [] = true
-is_nobody (p ∷ ps) = false
+-- the powers between which a vote asks for a draw: all survivors, or those that it names
+abbrev pub asked : List ℕ → Vote → Option (List ℕ)
+asked survivors No = None
+asked survivors Yes = Some survivors
+asked survivors (For powers) = Some powers
 
--- there is one of these powers, and each votes for a draw
-abbrev pub is_wanted : List ℕ → List Own → Bool
-is_wanted powers seats = not (is_nobody powers) && list_all (votes_for_draw seats) powers
+-- whether it is these powers
+abbrev pub is_set : List ℕ → Option (List ℕ) → Bool
+is_set set None = false
+is_set set (Some powers) = are_same powers set
 
--- there is a survivor, and every survivor votes for a draw
-abbrev pub is_drawn : Chart → Whole → Bool
-is_drawn m w = is_wanted (survivors m w.public.board) w.seats
+-- whether every survivor's vote asks for this set, and it holds survivors alone
+abbrev pub is_agreed : List ℕ → List Own → List ℕ → Bool
+is_agreed survivors seats set =
+    list_all (λ p. is_set set (asked survivors (vote_of seats p))) survivors && list_all (λ p. is_among p survivors) set
+
+abbrev pub where_agreed : List ℕ → List Own → Option (List ℕ) → Option (List ℕ)
+where_agreed survivors seats None = None
+where_agreed survivors seats (Some set) = if is_agreed survivors seats set then Some set else None
+
+-- the set that the first of these powers asks for
+abbrev pub first_asked : List ℕ → List Own → Option (List ℕ)
+first_asked [] seats = None
+first_asked (p ∷ ps) seats = asked (p ∷ ps) (vote_of seats p)
+
+abbrev pub agreed : List ℕ → List Own → Option (List ℕ)
+agreed survivors seats = where_agreed survivors seats (first_asked survivors seats)
+
+-- the powers between which a game is drawn: there is a survivor, every survivor's vote asks for one set, and it holds survivors alone
+abbrev pub drawn_between : Chart → Whole → Option (List ℕ)
+drawn_between m w = agreed (survivors m w.public.board) w.seats
 
 -- the public part behind a draw: the powers that share the game; board and due tick stay
 abbrev pub public_drawn : List ℕ → Public → Public

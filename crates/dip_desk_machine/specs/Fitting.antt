@@ -6,14 +6,15 @@ use Rattle.dip_desk_machine.specs.Lawful.{AreAscending, IsLawful}
 use Rattle.dip_desk_machine.specs.Machine.{Decides, MayBeDamaged, Taken, are_complete}
 use Rattle.dip_desk_machine.specs.Mail.{IsMail, Mail}
 use Rattle.dip_desk_state.specs.State.{Author, Effect, Nothing, Pending, Votes, Delivers, Opens, Publishes, Seats, State}
-use Rattle.dip_desk_state.specs.Writable.{IsPlainItem, IsPublicOf}
+use Rattle.dip_desk_state.specs.Writable.{IsPlainItem, IsPublicOf, IsVoteOf}
 
--- provinces and powers are the map's: standing orders are one a province, by province; press can be written; a new game's public part is
--- one of the map, its paper is the first, and each power has one seat; so is the public part behind a paper
+-- provinces and powers are the map's: standing orders are one a province, by province; a vote names powers in order, each once; press can be
+-- written; a new game's public part is one of the map, its paper is the first, and each power has one seat; so is the public part behind a
+-- paper
 abbrev pub FitsMap : Chart → Effect → Type 0
 FitsMap m Nothing = Unit {0}
 FitsMap m (Pending orders) = AreAscending (map (λ o. o.province) orders) × AllByRecursion (λ o. o.province < length m.provinces) orders
-FitsMap m (Votes draw) = Unit {0}
+FitsMap m (Votes vote) = IsVoteOf m vote
 FitsMap m (Delivers readers item) = AllByRecursion (λ p. p < length m.realms) readers × IsPlainItem item
 FitsMap m (Opens public paper seats) =
     IsPublicOf m public × (public.papers ≡ 1) × (are_complete m seats ≡ true) × AllByRecursion (λ s. s.power < length m.realms) seats

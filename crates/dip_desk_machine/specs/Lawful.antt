@@ -13,7 +13,7 @@ use Rattle.dip_desk_machine.specs.Mail.{IsMail, Mail}
 use Rattle.dip_desk_machine.specs.Ordering.{kept_orders, prov_of}
 use Rattle.dip_desk_machine.specs.Machine.{MayBeDamaged, Step}
 use Rattle.dip_desk_state.specs.State.{Author, Game, Part, State, name_of, power_in}
-use Rattle.dip_desk_state.specs.Writable.{IsPublicOf}
+use Rattle.dip_desk_state.specs.Writable.{IsPublicOf, IsVoteOf}
 
 -- each is less than all behind it
 abbrev pub AreAscending : List ℕ → Type 0
@@ -33,10 +33,11 @@ abbrev pub last_number : Option Kept → ℕ
 last_number None = 0
 last_number (Some k) = k.number
 
--- a seat of a game with this board: it is of a power of the map; its orders stand together; its last letter has a letter's number; it
--- has sent no more press than a seat may, and its items are counted and no more than six others may send
+-- a seat of a game with this board: it is of a power of the map; its vote names powers of the map; its orders stand together; its last
+-- letter has a letter's number; it has sent no more press than a seat may, and its items are counted and no more than six others may send
 pub record IsLawfulSeat (m : Chart) (b : Position) (s : Part) : Type 0 where
   pub power : power_in s < length m.realms
+  pub vote : IsVoteOf m s.own.vote
   pub pending : AreStanding m b (power_in s) s.own.pending
   pub last : last_number s.own.kept ≤ 999999999
   pub sent : s.own.sent ≤ most_sent

@@ -1,6 +1,7 @@
 pub mod Mail
 pub mod Ticking
 pub mod Pressing
+pub mod Voting
 pub mod Drawing
 pub mod Noting
 pub mod Machine
@@ -8,6 +9,7 @@ pub mod Verdicts
 pub mod Sights
 pub mod Ordering
 pub mod OrderingRows
+pub mod Draws
 pub mod View
 pub mod Published
 pub mod Thirds

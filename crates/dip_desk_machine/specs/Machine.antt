@@ -5,18 +5,19 @@ use Rattle.sha2.specs.Sha256.{sha256}
 use Rattle.dip_letters.specs.Digests.{seat_text}
 use Rattle.dip_letters.specs.Notes.{NoticeRequest, PlayerRequest, Request, SeatNote}
 use Rattle.dip_letters.specs.Notes.MasterRequest.{Create, Tick, Replace, Notify}
-use Rattle.dip_letters.specs.Notes.PlayerRequest.{Orders, Withdraw, Press, Vote, Show, Inbox}
+use Rattle.dip_letters.specs.Notes.PlayerRequest.{Orders, Withdraw, Press, Vote as VoteNote, VoteFor, Show, Inbox}
 use Rattle.dip_letters.specs.Notes.Request.{Player, Master}
 use Rattle.dip_letters.specs.declared.letters.LetterFault.{LetterFault}
 use Rattle.dip_letters.specs.declared.letters.LetterFault.TheVariants.{Malformed as Unreadable, TooLong as OverLong}
 use Rattle.dip_map.specs.Charts.{Chart, power_of, powers}
 use Rattle.dip_map.specs.Boards.{Position, IsOf, opening}
-use Rattle.dip_desk_machine.specs.Drawing.{is_drawn, public_drawn, survivors}
+use Rattle.dip_desk_machine.specs.Drawing.{drawn_between, public_drawn}
 use Rattle.dip_desk_machine.specs.Mail.{Mail}
 use Rattle.dip_desk_machine.specs.Noting.{CanPublish, is_announcement, public_noted}
 use Rattle.dip_desk_machine.specs.Ordering.{Ordered, has_foreign, kept_orders, outcome_of_lines}
 use Rattle.dip_desk_machine.specs.Pressing.{item_of, readers_of}
 use Rattle.dip_desk_machine.specs.Ticking.{IsPlayable, is_due, is_over, orders_of, public_played}
+use Rattle.dip_desk_machine.specs.Voting.{plain_vote, set_of}
 use Rattle.dip_desk_state.specs.Bounds.{most_sent}
 use Rattle.dip_desk_state.specs.State.{State, Game, Author, Nobody, TheMaster, Seat, Change, Effect, Nothing, Pending, Votes, Delivers, Opens, Publishes, Seats, NewSeat, Part, game_at, have_room, own_at, own_of, page_of, part_at, public_at, seat_at, state_after, whole_of}
 use Rattle.dip_desk_state.specs.Writable.{IsPublicOf}
@@ -24,7 +25,7 @@ use Rattle.dip_turn_papers.specs.Papers.{paper_text}
 use Rattle.dip_turn.specs.Reports.{IsPlayed}
 use Rattle.dip_turn.specs.declared.report.Report.{Report}
 use Rattle.dip_reports.specs.Texts.{draw_paper, inbox_text, notice_paper, opening_paper, paper_line, press_line, refusal_line, replaced_line, show_text, vote_line, withdrawn_line}
-use Rattle.dip_desk_state.specs.Records.{Public, Own, Item, Kept, Head, Reply, Running, Whole}
+use Rattle.dip_desk_state.specs.Records.{Public, Own, Item, Kept, Head, Reply, Running, Vote, For, Whole}
 use Rattle.dip_desk_state.specs.declared.records.Outcome.TheVariants.{Unknown as NoneKnown, OutOfTurn as Refused, Done}
 use Rattle.dip_reports.specs.declared.refusals.Refusal.{Refusal}
 use Rattle.dip_reports.specs.declared.refusals.Refusal.TheVariants.{Malformed, Unknown, Stale, NumberUsed, TooLong, QuotaUsed, NoGrey, GameOver, WrongSender, NotDue, NameTaken}
@@ -121,10 +122,14 @@ press_to p o grey item readers =
     unless (grey && not p.grey) NoGrey (unless (nat_le most_sent o.sent) QuotaUsed (Taken press_line (Delivers readers item)))
     )
 
--- press whose addressees can't be its readers is malformed
+-- names that can't be those of the powers meant, readers of press or powers that a draw is wanted between, are malformed
 abbrev pub addressed : Option (List ℕ) → (List ℕ → Verdict) → Verdict
 addressed None v = refusal_verdict Malformed
-addressed (Some readers) v = v readers
+addressed (Some powers) v = v powers
+
+-- a vote: none is taken in a game that is over
+abbrev pub vote_verdict : Chart → Public → Vote → Verdict
+vote_verdict m p v = unless (is_over p.status) GameOver (Taken (vote_line m v) (Votes v))
 
 -- what a command of a power comes to, by what its seat sees alone; the page is of its inbox, where the command shows one
 abbrev pub player_verdict : Chart → PlayerRequest → Public → Own → List Item → Verdict
@@ -133,7 +138,8 @@ player_verdict m (Orders lines) p o page =
 player_verdict m Withdraw p o page = unless (is_over p.status) GameOver (Taken withdrawn_line (Pending []))
 player_verdict m (Press grey names text) p o page =
     addressed (readers_of m o.power names) (press_to p o grey (item_of m o.power grey names text))
-player_verdict m (Vote draw) p o page = unless (is_over p.status) GameOver (Taken (vote_line draw) (Votes draw))
+player_verdict m (VoteNote draw) p o page = vote_verdict m p (plain_vote draw)
+player_verdict m (VoteFor names) p o page = addressed (set_of m names) (λ powers. vote_verdict m p (For powers))
 player_verdict m Show p o page = Taken (show_text m p o) Nothing
 player_verdict m (Inbox first) p o page = Taken (inbox_text o.items first page) Nothing
 
@@ -151,7 +157,8 @@ abbrev pub page_shown : Request → List Item → List Item
 page_shown (Player (Orders lines)) box = []
 page_shown (Player Withdraw) box = []
 page_shown (Player (Press grey names text)) box = []
-page_shown (Player (Vote draw)) box = []
+page_shown (Player (VoteNote draw)) box = []
+page_shown (Player (VoteFor names)) box = []
 page_shown (Player Show) box = []
 page_shown (Player (Inbox first)) box = page_of first 10 box
 page_shown (Master command) box = []
@@ -253,20 +260,20 @@ pub record IsPublished (m : Chart) (tick : ℕ) (w : Whole) (v : Verdict) : Type
   pub played : IsPlayed m w.public.board (orders_of m w) board report
   pub verdict : v ≡ paper_verdict m report (public_played tick w.public board report.course)
 
--- a game that its survivors share: the draw is published, and no phase is played
+-- a game that powers share: the draw is published, and no phase is played
 abbrev pub draw_verdict : Chart → Public → Verdict
 draw_verdict m public = Taken (paper_line public.papers) (Publishes public (draw_paper m public) false)
 
--- what a due tick may come to: a draw where all survivors want one, or else the phase is adjudicated
-abbrev pub OnTime : Chart → ℕ → Whole → (drawn : Bool) → Verdict → Type 0
-OnTime m tick w true v = v ≡ draw_verdict m (public_drawn (survivors m w.public.board) w.public)
-OnTime m tick w false v = IsPublished m tick w v
+-- what a due tick may come to: a draw where all survivors ask for the same, or else the phase is adjudicated
+abbrev pub OnTime : Chart → ℕ → Whole → (drawn : Option (List ℕ)) → Verdict → Type 0
+OnTime m tick w (Some powers) v = v ≡ draw_verdict m (public_drawn powers w.public)
+OnTime m tick w None v = IsPublished m tick w v
 
 -- what TICK may come to: nothing is played in a game that is over, nor before its time
 abbrev pub Ticks : Chart → ℕ → Whole → (over due : Bool) → Verdict → Type 0
 Ticks m tick w true due v = v ≡ refusal_verdict GameOver
 Ticks m tick w false false v = v ≡ refusal_verdict NotDue
-Ticks m tick w false true v = OnTime m tick w (is_drawn m w) v
+Ticks m tick w false true v = OnTime m tick w (drawn_between m w) v
 
 abbrev pub TicksIn : Chart → ℕ → Game → Verdict → Type 0
 TicksIn m tick g v = Ticks m tick (whole_of g) (is_over g.public.status) (is_due tick g.public) v

@@ -5,13 +5,13 @@ use Rattle.dip_letters.specs.Notes.{SeatNote}
 use Rattle.dip_letters.specs.Notes.MasterRequest.{Replace}
 use Rattle.dip_letters.specs.Notes.PlayerRequest.{Press}
 use Rattle.dip_letters.specs.Notes.Request.{Player, Master}
-use Rattle.dip_desk_machine.specs.Drawing.{is_drawn}
+use Rattle.dip_desk_machine.specs.Drawing.{drawn_between}
 use Rattle.dip_desk_machine.specs.Mail.{Mail}
 use Rattle.dip_desk_machine.specs.Pressing.{is_among, is_to_all, item_of, readers_of}
 use Rattle.dip_map.specs.Charts.{Chart}
 use Rattle.dip_desk_state.specs.State.{State, Game, Author, Seat, Effect, Nothing, Pending, Votes, Delivers, Opens, Publishes, Seats, NewSeat, Part, behind_paper, fresh, game_at, is_seat, seat_at, with_digest, with_item, with_letter}
 use Rattle.dip_desk_machine.specs.Machine.{Decides, SeatName, Seen, Ticks, Verdict, NotKnown, Again, OutOfTurn, Taken, after, author, kept_of, new_seat, reply_of, seen_by, verdict_on}
-use Rattle.dip_desk_state.specs.Records.{Item, Own, Public, Reply, Whole}
+use Rattle.dip_desk_state.specs.Records.{Item, Own, Public, Reply, No, Whole}
 use Rattle.dip_reports.specs.Texts.{press_line, replaced_line}
 
 -- one step of a history: the state before it, the letter, and what was decided. What it leaves follows
@@ -58,7 +58,7 @@ seat_events power (s ∷ ss) = if s.power == power then Seated s.digest ∷ [] e
 abbrev pub effect_events : ℕ → Effect → List Event
 effect_events power Nothing = []
 effect_events power (Pending orders) = []
-effect_events power (Votes draw) = []
+effect_events power (Votes vote) = []
 effect_events power (Delivers readers item) = if list_any (λ p. p == power) readers then Heard item ∷ [] else []
 effect_events power (Opens public paper seats) = Published public paper false ∷ seat_events power seats
 effect_events power (Publishes public paper played) = Published public paper played ∷ []
@@ -133,14 +133,14 @@ pub record IsHistory (m : Chart) (old : State) (letters : List Mail) (replies : 
 abbrev pub Suits : List ℕ → Option Game → Effect → Type 0
 Suits name None Nothing = Unit {0}
 Suits name None (Pending orders) = ⊥
-Suits name None (Votes draw) = ⊥
+Suits name None (Votes vote) = ⊥
 Suits name None (Delivers readers item) = ⊥
 Suits name None (Opens public paper seats) = public.game ≡ name
 Suits name None (Publishes public paper played) = ⊥
 Suits name None (Seats seat) = ⊥
 Suits name (Some g) Nothing = Unit {0}
 Suits name (Some g) (Pending orders) = Unit {0}
-Suits name (Some g) (Votes draw) = Unit {0}
+Suits name (Some g) (Votes vote) = Unit {0}
 Suits name (Some g) (Delivers readers item) = Unit {0}
 Suits name (Some g) (Opens public paper seats) = ⊥
 Suits name (Some g) (Publishes public paper played) = public.game ≡ g.public.game
@@ -259,7 +259,7 @@ HistoriesLookAlike m = (seat : SeatName) (old new first last : State) (ts us : L
 
 -- a game but for its votes
 abbrev pub without_vote : Own → Own
-without_vote o = record o { vote = false }
+without_vote o = record o { vote = No }
 
 abbrev pub without_votes : Whole → Whole
 without_votes w = record { public = w.public; seats = map without_vote w.seats }
@@ -267,7 +267,7 @@ without_votes w = record { public = w.public; seats = map without_vote w.seats }
 -- a vote is told by its draw alone: what a tick comes to that draws no game doesn't depend on any
 abbrev pub VotesAreUntold : Chart → Type 0
 VotesAreUntold m = (tick : ℕ) (a b : Whole) (over due : Bool) (v : Verdict) → without_votes a ≡ without_votes b
-    → is_drawn m a ≡ false → is_drawn m b ≡ false → Ticks m tick a over due v → Ticks m tick b over due v
+    → drawn_between m a ≡ None → drawn_between m b ≡ None → Ticks m tick a over due v → Ticks m tick b over due v
 
 -- a letter is decided in one way: a tick too, whoever adjudicates
 abbrev pub IsDecidedOnce : Chart → Type 0

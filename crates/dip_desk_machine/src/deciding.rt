@@ -7,11 +7,11 @@ ghost use Rattle.dip_desk_machine.specs.Mail.{mail};
 ghost use Rattle.dip_desk_machine.specs.Machine as m;
 ghost use Rattle.dip_desk_machine.specs.Ordering.{has_foreign, outcome_of_lines};
 ghost use Rattle.dip_desk_machine.specs.Sights as sights;
-ghost use Rattle.dip_desk_state.specs.State.{Pending, Votes};
+ghost use Rattle.dip_desk_state.specs.State.{Pending};
 ghost use Rattle.dip_desk_machine.specs.Ticking.{is_over};
 ghost use Rattle.dip_desk_machine.specs.Verdicts.{verdict};
 ghost use Rattle.dip_desk_state.specs.Rows as rows;
-ghost use Rattle.dip_reports.specs.Texts.{vote_line, withdrawn_line};
+ghost use Rattle.dip_reports.specs.Texts.{withdrawn_line};
 
 use crate::mastering::master_verdict;
 use crate::ordering::{Ordered, kept_orders, standing_orders, take_lines};
@@ -19,10 +19,11 @@ use crate::pressing::press_verdict;
 use crate::sights::Sight;
 use crate::ticking::is_over;
 use crate::verdicts::{Verdict, old_number, refusal_verdict};
+use crate::voting::{plain_vote, vote_for_verdict, vote_verdict};
 use dip_desk_state::{Effect, Item, KeepFault, Own, Public};
 use dip_letters::{Command, Letter, Lines, PlayerCommand};
 use dip_map::{Board, Map};
-use dip_reports::{Refusal, inbox_text, show_text, vote_line, withdrawn_line};
+use dip_reports::{Refusal, inbox_text, show_text, withdrawn_line};
 use std::alloc::{AllocError, Global};
 use std::rc::Rc;
 
@@ -89,18 +90,6 @@ fn withdraw_verdict(alloc: Global, public: &Public) -> Result<Verdict, AllocErro
     Ok(Verdict::Taken(withdrawn_line(alloc)?, none))
 }
 
-/// What VOTE comes to.
-fn vote_verdict(alloc: Global, public: &Public, draw: bool) -> Result<Verdict, AllocError>
-    ensures { IfOk result
-        (λ v. verdict v ≡ m.unless (is_over (rows.status public.now.status)) Refusal.GameOver
-        (m.Taken (vote_line draw) (Votes draw))) }
-{
-    if is_over(&public.status) {
-        return refusal_verdict(alloc, Refusal::GameOver);
-    }
-    Ok(Verdict::Taken(vote_line(alloc, draw)?, Effect::Votes(draw)))
-}
-
 /// What a command of a power comes to, by what its seat sees alone; the page is of its inbox, where the command shows one.
 fn player_verdict(
     alloc: Global,
@@ -122,7 +111,8 @@ fn player_verdict(
         PlayerCommand::Orders(lines) => orders_in_game(alloc, map, public, own, *lines),
         PlayerCommand::Withdraw => Ok(withdraw_verdict(alloc, public)?),
         PlayerCommand::Press(press) => Ok(press_verdict(alloc, map, press, public, own)?),
-        PlayerCommand::Vote(draw) => Ok(vote_verdict(alloc, public, *draw)?),
+        PlayerCommand::Vote(draw) => Ok(vote_verdict(alloc, map, public, plain_vote(*draw))?),
+        PlayerCommand::VoteFor(names) => Ok(vote_for_verdict(alloc, map, public, *names)?),
         PlayerCommand::Show => {
             let text = show_text(alloc, map, public, own)?;
             Ok(Verdict::Taken(text, Effect::Nothing))

@@ -1,14 +1,16 @@
-//! When a due tick draws a game: every survivor votes for it.
-ghost use Rattle.std.specs.Prelude.{◌≡◌, ◌<◌, ◌==◌, ◌&&◌, IfOk, map as each};
+//! When a due tick draws a game, and between whom: every survivor asks for the same powers, and all of these survive.
+ghost use Rattle.std.specs.Prelude.{◌≡◌, ◌<◌, ◌==◌, ◌&&◌, IfOk, map as each, option_map};
 ghost use Rattle.std.specs.List.{list_all, list_any};
 ghost use Rattle.dip_desk_machine.specs.Drawing as d;
 ghost use Rattle.dip_desk_machine.specs.Machine as m;
+ghost use Rattle.dip_desk_machine.specs.Pressing.{is_among};
 ghost use Rattle.dip_desk_machine.specs.Verdicts.{verdict};
 ghost use Rattle.dip_desk_state.specs.Bounds.{most_papers};
 ghost use Rattle.dip_desk_state.specs.Rows as rows;
 
+use crate::pressing::is_among;
 use crate::verdicts::Verdict;
-use dip_desk_state::{Effect, Own, Public, Status};
+use dip_desk_state::{Effect, Own, Public, Status, Vote, Whole, copy_powers};
 use dip_map::{Board, Dislodged, Map};
 use dip_names::{Power, Unit};
 use dip_reports::{draw_paper_text, paper_line};
@@ -55,7 +57,7 @@ fn survives(map: &Map, board: &Board, power: Power) -> bool
 }
 
 /// All powers with a unit or an owned centre.
-pub fn survivors(alloc: Global, map: &Map, board: &Board) -> Result<Vec<Power>, AllocError>
+fn survivors(alloc: Global, map: &Map, board: &Board) -> Result<Vec<Power>, AllocError>
     ensures { IfOk result (λ v. v.items ≡ d.survivors map.now board.now) }
 {
     let mut found = Vec::new(alloc);
@@ -67,35 +69,126 @@ pub fn survivors(alloc: Global, map: &Map, board: &Board) -> Result<Vec<Power>, 
     Ok(found)
 }
 
-/// Whether the seat of the power votes for a draw.
-fn votes_for_draw(seats: &[Own], power: Power) -> bool
-    ensures { result ≡ d.votes_for_draw (each (λ o. rows.own o) seats.now) power }
+/// Whether a vote asks for a draw between exactly these powers.
+fn asks_for(survivors: &[Power], vote: &Vote, set: &[Power]) -> bool
+    ensures { result ≡ d.is_set set.now (d.asked survivors.now (rows.vote vote.now)) }
+{
+    match vote {
+        Vote::No => false,
+        Vote::Yes => survivors == set,
+        Vote::For(powers) => powers.as_slice() == set,
+    }
+}
+
+/// Whether the seat of the power asks for one between them.
+fn seat_asks_for(survivors: &[Power], seats: &[Own], set: &[Power], power: Power) -> bool
+    ensures { result ≡ d.is_set set.now
+        (d.asked survivors.now (d.vote_of (each (λ o. rows.own o) seats.now) power)) }
 {
     for seat in seats {
-        if seat.power == power && seat.vote {
-            return true;
+        if seat.power == power {
+            return asks_for(survivors, &seat.vote, set);
         }
     }
     false
 }
 
-/// Whether each of these powers votes for a draw.
-fn all_vote(powers: &[Power], seats: &[Own]) -> bool
-    ensures { result ≡ list_all (d.votes_for_draw (each (λ o. rows.own o) seats.now)) powers.now }
+/// Whether each of these powers asks for one between them.
+fn all_ask_for(survivors: &[Power], seats: &[Own], set: &[Power], powers: &[Power]) -> bool
+    ensures { result ≡ list_all (λ p. d.is_set set.now
+        (d.asked survivors.now (d.vote_of (each (λ o. rows.own o) seats.now) p))) powers.now }
 {
     for power in powers {
-        if !votes_for_draw(seats, *power) {
+        if !seat_asks_for(survivors, seats, set, *power) {
             return false;
         }
     }
     true
 }
 
-/// Whether there is a survivor, and every survivor votes for a draw.
-pub fn is_drawn(survivors: &[Power], seats: &[Own]) -> bool
-    ensures { result ≡ d.is_wanted survivors.now (each (λ o. rows.own o) seats.now) }
+/// Whether each power of a set survives.
+fn all_survive(survivors: &[Power], set: &[Power]) -> bool
+    ensures { result ≡ list_all (λ p. is_among p survivors.now) set.now }
 {
-    !survivors.is_empty() && all_vote(survivors, seats)
+    for power in set {
+        if !is_among(*power, survivors) {
+            return false;
+        }
+    }
+    true
+}
+
+/// Whether every survivor asks for a draw between these powers, and all of them survive.
+fn is_agreed(survivors: &[Power], seats: &[Own], set: &[Power]) -> bool
+    ensures { result ≡ d.is_agreed survivors.now (each (λ o. rows.own o) seats.now) set.now }
+{
+    all_ask_for(survivors, seats, set, survivors) && all_survive(survivors, set)
+}
+
+/// The powers between which a vote asks for a draw, if it asks for one.
+fn asked(alloc: Global, survivors: &[Power], vote: &Vote) -> Result<Option<Vec<Power>>, AllocError>
+    ensures { IfOk result (λ found. option_map (λ v. v.items) found
+        ≡ d.asked survivors.now (rows.vote vote.now)) }
+{
+    let set = match vote {
+        Vote::No => return Ok(None),
+        Vote::Yes => survivors,
+        Vote::For(powers) => powers.as_slice(),
+    };
+    Ok(Some(copy_powers(alloc, set)?))
+}
+
+/// The powers between which the seat of a power asks for a draw, if it asks for one.
+fn asked_by(
+    alloc: Global,
+    survivors: &[Power],
+    seats: &[Own],
+    power: Power,
+) -> Result<Option<Vec<Power>>, AllocError>
+    ensures { IfOk result (λ found. option_map (λ v. v.items) found
+        ≡ d.asked survivors.now (d.vote_of (each (λ o. rows.own o) seats.now) power)) }
+{
+    for seat in seats {
+        if seat.power == power {
+            return asked(alloc, survivors, &seat.vote);
+        }
+    }
+    Ok(None)
+}
+
+/// The powers on whom these survivors agree, if they do.
+fn agreed(
+    alloc: Global,
+    survivors: &[Power],
+    seats: &[Own],
+) -> Result<Option<Vec<Power>>, AllocError>
+    ensures { IfOk result (λ found. option_map (λ v. v.items) found
+        ≡ d.agreed survivors.now (each (λ o. rows.own o) seats.now)) }
+{
+    let Some(first) = survivors.first() else {
+        return Ok(None);
+    };
+    let Some(set) = asked_by(alloc, survivors, seats, *first)? else {
+        return Ok(None);
+    };
+    if is_agreed(survivors, seats, set.as_slice()) {
+        Ok(Some(set))
+    } else {
+        Ok(None)
+    }
+}
+
+/// The powers between which a game is drawn, if it is.
+pub fn drawn_between(
+    alloc: Global,
+    map: &Map,
+    whole: &Whole,
+) -> Result<Option<Vec<Power>>, AllocError>
+    ensures { IfOk result (λ found. option_map (λ v. v.items) found
+        ≡ d.drawn_between map.now (rows.whole whole.now)) }
+{
+    let survivors = survivors(alloc, map, &whole.public.board)?;
+    agreed(alloc, survivors.as_slice(), whole.seats.as_slice())
 }
 
 /// A game that these powers share: its paper is published, and no phase is played.
@@ -103,17 +196,17 @@ pub fn draw_verdict(
     alloc: Global,
     map: &Map,
     public: &Public,
-    survivors: Vec<Power>,
+    powers: Vec<Power>,
 ) -> Result<Verdict, AllocError>
     requires { public.now.papers < most_papers }
     ensures { IfOk result
         (λ v. verdict v
-        ≡ m.draw_verdict map.now (d.public_drawn survivors.items (rows.public public.now))) }
+        ≡ m.draw_verdict map.now (d.public_drawn powers.items (rows.public public.now))) }
 {
     let behind = Public {
         game: public.game.clone()?,
         board: public.board.copy(alloc)?,
-        status: Status::Drawn(survivors),
+        status: Status::Drawn(powers),
         due: public.due,
         period: public.period,
         grey: public.grey,

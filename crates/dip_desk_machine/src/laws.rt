@@ -1,6 +1,7 @@
 //! Laws of the desk machine, each the contract of a function that does nothing.
 ghost use Rattle.std.specs.Prelude.{List};
 ghost use Rattle.dip_map.specs.Charts.{Chart};
+ghost use Rattle.dip_desk_machine.specs.Draws.{DrawsAreAgreed};
 ghost use Rattle.dip_desk_machine.specs.Fitting.{EffectsFit, LawfulEffectsFit};
 ghost use Rattle.dip_desk_machine.specs.Handing.{StandingOrdersAreGiven};
 ghost use Rattle.dip_desk_machine.specs.Lawful.{IsNeverDamaged, StaysLawful};
@@ -73,6 +74,12 @@ pub fn third_seats_see_alike()
 /// A vote is told by its draw alone: what a tick comes to that draws no game doesn't depend on any vote.
 pub fn votes_are_untold()
     ensures { (m : Chart) → VotesAreUntold m }
+{}
+
+/// A tick draws a game between powers exactly where it is due, the game isn't over, and all survivors agree on them: somebody survives, each
+/// survivor asks for a draw between exactly these powers, and each of them survives.
+pub fn draws_are_agreed()
+    ensures { (m : Chart) → DrawsAreAgreed m }
 {}
 
 /// The title of each paper that is published tells whether a phase was played: what a seat is shown with a paper, that mark too, it can

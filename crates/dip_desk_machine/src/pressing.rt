@@ -20,7 +20,7 @@ use std::alloc::{AllocError, Global};
 use std::rc::Rc;
 
 /// The names, as texts of their own.
-fn names_of(alloc: Global, names: Names<'_>) -> Result<Vec<String>, AllocError>
+pub fn names_of(alloc: Global, names: Names<'_>) -> Result<Vec<String>, AllocError>
     ensures { IfOk result (λ v. rows.lines v.items ≡ names_in names.entry) }
 {
     let mut found = Vec::new(alloc);
@@ -80,7 +80,7 @@ fn other_powers(alloc: Global, map: &Map, power: Power) -> Result<Vec<Power>, Al
 }
 
 /// The powers of these names, where each is one of the map's.
-fn named_powers(
+pub fn named_powers(
     alloc: Global,
     map: &Map,
     names: &[String],
@@ -98,14 +98,15 @@ fn named_powers(
     Ok(Some(found))
 }
 
-fn is_among(power: Power, powers: &[Power]) -> bool
+/// Whether the power is one of these.
+pub fn is_among(power: Power, powers: &[Power]) -> bool
     ensures { result ≡ p.is_among power powers.now }
 {
     powers.iter().any(|other| *other == power)
 }
 
 /// Whether no power stands twice.
-fn are_distinct(powers: &[Power]) -> bool
+pub fn are_distinct(powers: &[Power]) -> bool
     ensures { result ≡ p.are_distinct powers.now }
 {
     let mut rest = powers;

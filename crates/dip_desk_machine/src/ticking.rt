@@ -2,7 +2,7 @@
 ghost use Rattle.std.specs.Prelude.{◌≡◌, ◌≤◌, ◌<◌, IfOk, IsErrOf, map as each, true};
 ghost use Rattle.std.specs.List.{list_any};
 ghost use Rattle.dip_map.specs.Boards.{IsOf};
-ghost use Rattle.dip_desk_machine.specs.Drawing.{is_drawn};
+ghost use Rattle.dip_desk_machine.specs.Drawing.{drawn_between};
 ghost use Rattle.dip_desk_state.specs.Bounds.{most_papers};
 ghost use Rattle.dip_desk_state.specs.Faults.{faults_after};
 ghost use Rattle.dip_desk_machine.specs.Machine as m;
@@ -11,7 +11,7 @@ ghost use Rattle.dip_desk_machine.specs.Ticking as t;
 ghost use Rattle.dip_desk_machine.specs.Verdicts.{verdict};
 ghost use Rattle.dip_desk_state.specs.Rows as rows;
 
-use crate::drawing::{draw_verdict, is_drawn, survivors};
+use crate::drawing::{draw_verdict, drawn_between};
 use crate::ordering::standing_orders;
 use crate::verdicts::{Verdict, refusal_verdict};
 use dip_desk_state::{Effect, KeepFault, MOST_PAPERS, Own, Public, Status, Whole};
@@ -161,12 +161,12 @@ fn adjudicated(alloc: Global, map: &Map, tick: u64, whole: &Whole) -> Result<Ver
     }
 }
 
-/// What a due tick comes to: a draw where all survivors want one, or else the phase is adjudicated; `Damaged` where it can't be.
+/// What a due tick comes to: a draw where all survivors ask for the same, or else the phase is adjudicated; `Damaged` where it can't be.
 fn on_time(alloc: Global, map: &Map, tick: u64, whole: &Whole) -> Result<Verdict, KeepFault>
     requires timely { tick ≤ 999999999999 }
     ensures value { IfOk result
         (λ v. m.OnTime map.now tick (rows.whole whole.now)
-        (is_drawn map.now (rows.whole whole.now)) (verdict v)) }
+        (drawn_between map.now (rows.whole whole.now)) (verdict v)) }
     ensures disk { faults_after result 0 ≡ 0 }
     ensures sane { IsErrOf result KeepFault.Damaged
         → t.IsPlayable map.now (rows.whole whole.now) → ⊥ }
@@ -175,11 +175,10 @@ fn on_time(alloc: Global, map: &Map, tick: u64, whole: &Whole) -> Result<Verdict
     if !public.board.is_of(map) || MOST_PAPERS <= public.papers {
         return Err(KeepFault::Damaged);
     }
-    let survivors = survivors(alloc, map, &public.board)?;
-    if is_drawn(survivors.as_slice(), whole.seats.as_slice()) {
-        return Ok(draw_verdict(alloc, map, public, survivors)?);
+    match drawn_between(alloc, map, whole)? {
+        Some(powers) => Ok(draw_verdict(alloc, map, public, powers)?),
+        None => adjudicated(alloc, map, tick, whole),
     }
-    adjudicated(alloc, map, tick, whole)
 }
 
 /// What TICK comes to in a game: nothing is played in one that is over, nor before its time.

@@ -19,4 +19,5 @@ pub mod Outside
 pub mod Refused
 pub mod Numbers
 pub mod Parts
+pub mod Passing
 pub mod Walking

@@ -87,14 +87,14 @@ none_refused map_sum None is = λ d at marked version. absurd (cc)
 none_refused map_sum (Some d) is = absurd (cc)
 
 -- and by what it says
-pub differs_refused : (map_sum : List ℕ) (row : Option DeskRow) (c : DeskColumns) (f : StoreFault) → Some c ≡ option_map columns_of row → Differs c map_sum f → IsRefused map_sum row f
+pub differs_refused : (map_sum : List ℕ) (row : Option DeskRow) (c : DeskColumns) (f : StoreFault) → Some c ≡ option_map columns_of row → Differs 2 c map_sum f → IsRefused map_sum row f
 differs_refused map_sum None c f is w = absurd (cc)
 differs_refused map_sum (Some d) c f is w = which f w
   where
     same : c ≡ columns_of d
     same = cc
 
-    which : (f : StoreFault) → Differs c map_sum f → IsRefused map_sum (Some d) f
+    which : (f : StoreFault) → Differs 2 c map_sum f → IsRefused map_sum (Some d) f
     which Memory w = tt
     which Disk w = tt
     which OtherMap w = (d, refl, ap (λ (x : DeskColumns). x.version) (sym same) ∙ w.0, λ is. w.1 (ap (λ (x : DeskColumns). x.map_sum) same ∙ is))

@@ -17,7 +17,19 @@ abbrev pub IsWhole : ℕ → Result Compiled CompileError → Type 0
 IsWhole size (Ok c) = (size ≤ c.tail) × IsPlain (Ok c)
 IsWhole size (Err e) = ⊥
 
--- for each of our tables a text that reads it
+-- for each table of version 1 a text that reads it, and for each of our tables
+abbrev pub old_texts : List (List ℕ)
+old_texts =
+    find_desk_text ∷
+    find_game_text ∷
+    list_seats_text ∷
+    list_units_text ∷
+    list_centres_text ∷
+    list_orders_text ∷
+    find_item_text ∷
+    find_paper_text ∷
+    []
+
 abbrev pub table_texts : List (List ℕ)
 table_texts =
     find_desk_text ∷
@@ -35,3 +47,7 @@ table_texts =
 -- our tables are there, with the columns that are read of them
 abbrev pub HasOurTables : Schema → Type 0
 HasOurTables schema = AllByRecursion (IsKnown schema) table_texts
+
+-- those of version 1 are
+abbrev pub HasOldTables : Schema → Type 0
+HasOldTables schema = AllByRecursion (IsKnown schema) old_texts

@@ -13,10 +13,10 @@ IsOutage Disk = Unit {0}
 IsOutage _ = ⊥
 
 -- by what the master's row says: another version, or else another map than this
-abbrev pub Differs : DeskColumns → List ℕ → StoreFault → Type 0
-Differs c map_sum OtherSchema = c.version ≡ 2 → ⊥
-Differs c map_sum OtherMap = (c.version ≡ 2) × (c.map_sum ≡ map_sum → ⊥)
-Differs c map_sum _ = ⊥
+abbrev pub Differs : ℕ → DeskColumns → List ℕ → StoreFault → Type 0
+Differs version c map_sum OtherSchema = c.version ≡ version → ⊥
+Differs version c map_sum OtherMap = (c.version ≡ version) × (c.map_sum ≡ map_sum → ⊥)
+Differs version c map_sum _ = ⊥
 
 -- where the tables are there, by their master's row, if they have one: there is none of this version; or there is, and it says
 -- another map than this

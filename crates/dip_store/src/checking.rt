@@ -1,12 +1,12 @@
 //! What is looked at before a store is opened.
-ghost use Rattle.std.specs.Prelude.{◌≡◌, IfErr, IfSome, IsErrOf, OnOk};
+ghost use Rattle.std.specs.Prelude.{◌≡◌, ◌≤◌, IfErr, IfSome, IsErrOf, OnOk, false};
 ghost use Rattle.std.specs.List.{find};
 ghost use Rattle.sha2.specs.Sha256.{sha256};
 ghost use Rattle.sqlite.specs.Held.{state};
 ghost use Rattle.dip_map.specs.Charts.{Chart};
 ghost use Rattle.dip_store_sql.specs.Schema.{our_schema};
 ghost use Rattle.dip_store.specs.Desk.{DeskSays, IsMarked};
-ghost use Rattle.dip_store.specs.Known.{HasOurTables};
+ghost use Rattle.dip_store.specs.Known.{HasOldTables, HasOurTables};
 ghost use Rattle.dip_store_tables.specs.Legible.{AreOurs};
 ghost use Rattle.dip_store_sql.specs.Calls.{IsKept, Selects, does_show, is_honest, tables_in};
 ghost use Rattle.dip_store_sql.specs.Causes.{has_faulted};
@@ -15,12 +15,16 @@ ghost use Rattle.dip_store.specs.Refusing.{Differs, IsOutage, IsRefused};
 
 use crate::desk_row::{DeskColumns, read_desk};
 use crate::faults::{StoreFault, desk_fault, open_fault};
-use crate::known::knows_all;
+use crate::known::{knows_all, knows_old};
+use crate::renewing::renew;
 use dip_letters::sum;
 use sqlite::{Alter, Connection};
 
 /// The version of the tables.
 pub const VERSION: u32 = 2;
+
+/// The version of tables that are made anew at opening.
+const OLD_VERSION: u32 = 1;
 
 /// The ten tables are there.
 fn check_tables<S: Alter>(conn: &mut Connection<S>) -> Result<(), StoreFault>
@@ -43,12 +47,12 @@ fn check_tables<S: Alter>(conn: &mut Connection<S>) -> Result<(), StoreFault>
 }
 
 /// The master's row is of this version, and says this map.
-fn check_columns(columns: &DeskColumns, map_text: &str) -> Result<(), StoreFault>
+fn check_columns(columns: &DeskColumns, version: u32, map_text: &str) -> Result<(), StoreFault>
     ensures is { OnOk result
-        ((columns.now.version ≡ 2) × (columns.now.map_sum ≡ sha256 map_text.now)) }
-    ensures differs { IfErr result (Differs columns.now (sha256 map_text.now)) }
+        ((columns.now.version ≡ version) × (columns.now.map_sum ≡ sha256 map_text.now)) }
+    ensures differs { IfErr result (Differs version columns.now (sha256 map_text.now)) }
 {
-    if columns.version != VERSION {
+    if columns.version != version {
         return Err(StoreFault::OtherSchema);
     }
     if columns.map_sum != sum(map_text.as_bytes()) {
@@ -72,7 +76,7 @@ fn check_row<S: Alter>(conn: &mut Connection<S>, map_text: &str) -> Result<(), S
     ensures selects { Selects S.Store conn.old conn.new result }
 {
     match read_desk(conn) {
-        Ok(Some(columns)) => check_columns(&columns, map_text),
+        Ok(Some(columns)) => check_columns(&columns, VERSION, map_text),
         Ok(None) => Err(StoreFault::OtherSchema),
         Err(fault) => Err(desk_fault(fault)),
     }
@@ -104,4 +108,57 @@ pub(crate) fn check_desk<S: Alter>(
 {
     check_tables(conn)?;
     check_row(conn, map_text)
+}
+
+/// The eight tables of version 1 are there.
+fn check_old_tables<S: Alter>(conn: &mut Connection<S>) -> Result<(), StoreFault>
+    ensures known { is_honest S.Store conn.new
+        → OnOk result (HasOldTables (state S.Store conn.old).now.schema) }
+    ensures tables_alone { IfErr result (λ f. f ≡ StoreFault.OtherMap → ⊥) }
+    ensures fair { is_honest S.Store conn.new → is_honest S.Store conn.old }
+    ensures counted { (state S.Store conn.old).faults ≤ (state S.Store conn.new).faults }
+    ensures mode { conn.old.in_transaction ≡ false → conn.new.in_transaction ≡ false }
+{
+    match knows_old(conn) {
+        Ok(true) => Ok(()),
+        Ok(false) => Err(StoreFault::OtherSchema),
+        Err(error) => Err(open_fault(error)),
+    }
+}
+
+/// There is a master's row of version 1, with this map.
+fn check_old_row<S: Alter>(conn: &mut Connection<S>, map_text: &str) -> Result<(), StoreFault>
+    ensures fair { is_honest S.Store conn.new → is_honest S.Store conn.old }
+    ensures counted { (state S.Store conn.old).faults ≤ (state S.Store conn.new).faults }
+    ensures mode { conn.old.in_transaction ≡ false → conn.new.in_transaction ≡ false }
+{
+    match read_desk(conn) {
+        Ok(Some(columns)) => check_columns(&columns, OLD_VERSION, map_text),
+        Ok(None) => Err(StoreFault::OtherSchema),
+        Err(fault) => Err(desk_fault(fault)),
+    }
+}
+
+/// A store of version 1, made with this map's text, becomes one of version 2.
+///
+/// # Errors
+/// `OtherSchema` where it isn't of version 1, or a vote isn't one; `OtherMap` where it says another map; `Memory`; `Disk`.
+pub(crate) fn renew_desk<S: Alter>(
+    conn: &mut Connection<S>,
+    map_text: &str,
+) -> Result<(), StoreFault>
+    requires { conn.old.in_transaction ≡ false }
+    ensures known { is_honest S.Store conn.new
+        → OnOk result (HasOldTables (state S.Store conn.old).now.schema) }
+    ensures known_first { is_honest S.Store conn.new → IfErr result (λ f.
+        f ≡ StoreFault.OtherMap → HasOldTables (state S.Store conn.old).now.schema) }
+    ensures fair { is_honest S.Store conn.new → is_honest S.Store conn.old }
+    ensures counted { (state S.Store conn.old).faults ≤ (state S.Store conn.new).faults }
+{
+    check_old_tables(conn)?;
+    check_old_row(conn, map_text)?;
+    match renew(conn) {
+        Ok(()) => Ok(()),
+        Err(fault) => Err(desk_fault(fault)),
+    }
 }

@@ -9,7 +9,7 @@ ghost use Rattle.dip_store_sql.specs.Schema.{our_schema};
 ghost use Rattle.dip_store_sql.specs.Causes.{IsCaused, has_faulted};
 ghost use Rattle.dip_store_sql.specs.Calls.{Selects};
 ghost use Rattle.dip_store.specs.Alone.{LeavesAlone};
-ghost use Rattle.dip_store.specs.Known.{HasOurTables, IsKnown, IsWhole};
+ghost use Rattle.dip_store.specs.Known.{HasOldTables, HasOurTables, IsKnown, IsWhole};
 
 use sqlite::{Alter, Connection, Error};
 
@@ -63,6 +63,34 @@ fn knows_each<S: Alter>(conn: &mut Connection<S>, texts: &[&str]) -> Result<bool
         }
     }
     Ok(true)
+}
+
+/// Whether the eight tables of version 1 are there, with the columns that are read of them.
+pub fn knows_old<S: Alter>(conn: &mut Connection<S>) -> Result<bool, Error>
+    ensures answer { HasCleanDisk (state S.Store conn.new) → IfOk result (λ b.
+        IsTrue b ↔ HasOldTables (state S.Store conn.old).now.schema) }
+    ensures alone { LeavesAlone S.Store conn.old conn.new result }
+{
+    let texts = [
+        "SELECT version, map, digest, last, kept, reply FROM desk WHERE id = 1",
+        "SELECT year, phase, status, due, period, grey, papers, standoff FROM game WHERE name = ?1",
+        "SELECT power, digest, vote, last, kept, reply, sent, items FROM seat WHERE game = ?1 ORDER BY rowid",
+        "SELECT province, dislodged, power, kind, coast, origin FROM unit WHERE game = ?1 ORDER BY rowid",
+        "SELECT province, power FROM centre WHERE game = ?1 ORDER BY rowid",
+        "SELECT province, line FROM pending WHERE game = ?1 AND power = ?2 ORDER BY rowid",
+        "SELECT grey, writer, addressees, body FROM box WHERE game = ?1 AND power = ?2 AND number = ?3",
+        "SELECT body FROM paper WHERE game = ?1 AND number = ?2",
+    ];
+    knows_each(conn, &texts)
+}
+
+/// Whether the store has a table of ballots, as one of version 1 hasn't.
+pub(crate) fn has_ballots<S: Alter>(conn: &Connection<S>) -> bool
+    ensures ours { (state S.Store conn.now).now.schema ≡ our_schema → IsTrue result }
+    ensures live { IsLive (state S.Store conn.now) }
+{
+    let schema = conn.schema();
+    schema.tables.iter().any(|table| table.name.as_slice() == b"ballot")
 }
 
 /// Whether our ten tables are there, with the columns that are read of them.

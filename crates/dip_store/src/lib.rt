@@ -15,6 +15,7 @@ mod making;
 mod opening;
 mod paper_faults;
 mod papers;
+mod renewing;
 
 pub use archive::write_papers;
 pub use checking::VERSION;

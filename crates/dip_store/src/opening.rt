@@ -6,7 +6,7 @@ ghost use Rattle.sqlite.specs.Held.{state};
 ghost use Rattle.sqlite.specs.Tree.{Trees};
 ghost use Rattle.dip_store_sql.specs.Creating.{no_schema};
 ghost use Rattle.dip_store.specs.Desk.{DeskSays, IsMarked};
-ghost use Rattle.dip_store.specs.Known.{HasOurTables};
+ghost use Rattle.dip_store.specs.Known.{HasOldTables, HasOurTables};
 ghost use Rattle.dip_store_sql.specs.Calls.{does_show, is_honest, tables_in};
 ghost use Rattle.dip_store_sql.specs.Causes.{has_faulted};
 ghost use Rattle.dip_store_sql.specs.TablesAfter.{is_first};
@@ -15,11 +15,11 @@ ghost use Rattle.dip_store.specs.Refusing.{IsOutage, IsRefused};
 ghost use Rattle.dip_store.specs.Stored.{IsStore, book, said_by};
 ghost use Rattle.dip_store_tables.specs.Writing.{new_tables};
 
-use crate::checking::check_desk;
+use crate::checking::{check_desk, renew_desk};
 use crate::faults::{StoreFault, open_fault};
 use crate::founding::found;
 use crate::keeper::SqlKeeper;
-use crate::known::knows_none;
+use crate::known::{has_ballots, knows_none};
 use crate::making::has_32;
 use dip_letters::sum;
 use dip_map::Map;
@@ -103,7 +103,32 @@ impl<S: Alter> SqlKeeper<S> {
         }
     }
 
-    /// Opens a store in which `create` has made a desk's tables with this map's text.
+    /// Opens a store of version 1, which becomes one of version 2.
+    fn open_old(
+        alloc: Global,
+        store: Connection<S>,
+        map_text: &str,
+    ) -> Result<SqlKeeper<S>, (StoreFault, Connection<S>)>
+        requires { store.in_transaction ≡ false }
+        ensures told { IfOk result (λ k. (book S.Store).faults k ≡ 0) }
+        ensures known { IfOk result (λ k. is_honest S.Store k.conn
+            → HasOldTables (state S.Store store).now.schema) }
+        ensures known_first { IfErr result (λ e. is_honest S.Store e.1
+            → e.0 ≡ StoreFault.OtherMap → HasOldTables (state S.Store store).now.schema) }
+        ensures fair { IfOk result (λ k. is_honest S.Store k.conn → is_honest S.Store store) }
+        ensures fair_still { IfErr result (λ e. is_honest S.Store e.1 → is_honest S.Store store) }
+        ensures counted { IfOk result (λ k.
+            (state S.Store store).faults ≤ (state S.Store k.conn).faults) }
+    {
+        let mut conn = store;
+        match renew_desk(&mut conn, map_text) {
+            Ok(()) => Ok(SqlKeeper::over(alloc, conn)),
+            Err(fault) => Err((fault, conn)),
+        }
+    }
+
+    /// Opens a store in which `create` has made a desk's tables with this map's text. One of version 1 is made one of version 2 first,
+    /// in one transaction: its votes become ballots, and all else stays.
     ///
     /// # Errors
     /// `OtherSchema` where a table isn't there, or the master's row isn't or is of another version; `OtherMap` where that row says
@@ -123,9 +148,11 @@ impl<S: Alter> SqlKeeper<S> {
             → IsStore map.now (state S.Store store).now
             → DeskSays 2 (sha256 map_text.now) (tables_in S.Store store)) }
         ensures known { IfOk result (λ k. is_honest S.Store k.conn
-            → HasOurTables (state S.Store store).now.schema) }
+            → HasOurTables (state S.Store store).now.schema
+            ⊎ HasOldTables (state S.Store store).now.schema) }
         ensures known_first { IfErr result (λ e. is_honest S.Store e.1
-            → e.0 ≡ StoreFault.OtherMap → HasOurTables (state S.Store store).now.schema) }
+            → e.0 ≡ StoreFault.OtherMap → HasOurTables (state S.Store store).now.schema
+            ⊎ HasOldTables (state S.Store store).now.schema) }
         ensures refused { IfErr result (λ e. is_honest S.Store e.1
             → IsStore map.now (state S.Store store).now → IsRefused (sha256 map_text.now)
             (find is_first (tables_in S.Store store).desk) e.0) }
@@ -153,6 +180,9 @@ impl<S: Alter> SqlKeeper<S> {
         conn.set_step_limit(None);
         if !conn.is_autocommit() {
             return Err((StoreFault::Disk, conn));
+        }
+        if !has_ballots(&conn) {
+            return SqlKeeper::open_old(alloc, conn, map_text);
         }
         commits_last(&conn);
         match check_desk(&mut conn, map_text) {

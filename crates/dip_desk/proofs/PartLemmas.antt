@@ -99,7 +99,7 @@ each_same f h (p ∷ ps) same = ap (λ (q : Part). q ∷ map f ps) (same p) ∙ 
 seats_after : (who : Author) (k : Kept) (e : Effect) (ps : List Part) → map (reached e) (with_author who k e (delivered e ps)) ≡ map (with_effect e) (with_author who k e ps)
 seats_after who k Nothing ps = each_same (reached Nothing) (with_effect Nothing) (with_author who k Nothing ps) (λ p. refl)
 seats_after who k (Pending orders) ps = each_same (reached (Pending orders)) (with_effect (Pending orders)) (with_author who k (Pending orders) ps) (λ p. refl)
-seats_after who k (Votes draw) ps = each_same (reached (Votes draw)) (with_effect (Votes draw)) (with_author who k (Votes draw) ps) (λ p. refl)
+seats_after who k (Votes vote) ps = each_same (reached (Votes vote)) (with_effect (Votes vote)) (with_author who k (Votes vote) ps) (λ p. refl)
 seats_after who k (Delivers readers item) ps =
     each_kept (reached (Delivers readers item)) (with_author who k (Delivers readers item) (map (with_effect (Delivers readers item)) ps)) (λ p. refl)
     ∙ press_author who k readers item ps
@@ -165,7 +165,7 @@ none_sent who e ps quiet = each_of (AuthorMaySend who e) ps (λ p mine press. ab
 pub all_may_send : (who : Author) (e : Effect) (ps : List Part) → finds_room who e ps ≡ true → AllByRecursion (AuthorMaySend who e) (delivered e ps)
 all_may_send who Nothing ps room = none_sent who Nothing ps refl
 all_may_send who (Pending orders) ps room = none_sent who (Pending orders) ps refl
-all_may_send who (Votes draw) ps room = none_sent who (Votes draw) ps refl
+all_may_send who (Votes vote) ps room = none_sent who (Votes vote) ps refl
 all_may_send who (Delivers readers item) ps room = sent_room who readers item ps room
 all_may_send who (Opens public paper seats) ps room = none_sent who (Opens public paper seats) ps refl
 all_may_send who (Publishes public paper played) ps room = none_sent who (Publishes public paper played) ps refl
@@ -175,7 +175,7 @@ all_may_send who (Seats seat) ps room = none_sent who (Seats seat) ps refl
 pub all_may_get : (who : Author) (e : Effect) (ps : List Part) → finds_room who e ps ≡ true → inboxes_have_room e ps ≡ true
 all_may_get who Nothing ps room = refl
 all_may_get who (Pending orders) ps room = refl
-all_may_get who (Votes draw) ps room = refl
+all_may_get who (Votes vote) ps room = refl
 all_may_get who (Delivers readers item) ps room = gets ps room
   where
     gets : (qs : List Part) → have_room who readers qs ≡ true → list_all (λ q. may_get readers q.own) qs ≡ true
@@ -220,7 +220,7 @@ above a is = grind (arith, nat_tests)
 pub no_room : (name : List ℕ) (who : Author) (e : Effect) (key : List ℕ) (g : GameRow) → finds_room who e (parts g.seats.items) ≡ false → LacksPlace name who e (Some (game key g))
 no_room name who Nothing key g none = absurd (false≢true (sym none))
 no_room name who (Pending orders) key g none = absurd (false≢true (sym none))
-no_room name who (Votes draw) key g none = absurd (false≢true (sym none))
+no_room name who (Votes vote) key g none = absurd (false≢true (sym none))
 no_room name who (Delivers readers item) key g none = none
 no_room name who (Opens public paper seats) key g none = absurd (false≢true (sym none))
 no_room name who (Publishes public paper played) key g none = above public.papers none

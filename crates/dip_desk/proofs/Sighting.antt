@@ -1,12 +1,9 @@
 -- What is decided by an author's sight is what the machine decides.
-use Rattle.std.proofs.Common.{◌≡◌, ℕ, ◌<◌, ◌≤◌, ◌+◌, ◌⊎◌, arith, nat_lt, Bool, true, false, cond, length, List, Option, None, Some, option_map, refl, sym, ◌∙◌, ap, subst, inl, inr, bytes_eq, codes, is_some}
+use Rattle.std.proofs.Common.{◌≡◌, ℕ, ◌<◌, ◌+◌, ◌⊎◌, arith, nat_lt, Bool, true, false, cond, List, Option, None, Some, option_map, refl, sym, ◌∙◌, ap, subst, inl, inr, bytes_eq, codes, is_some}
 use Rattle.std.specs.Prelude.{option_and_then}
-use Rattle.std.specs.List.{AllByRecursion}
 use Rattle.std.proofs.lemmas.Bool.{false≢true, ltb-false, ltb-true}
-use Rattle.dip_letters.specs.Letters.{FitsRequest}
 use Rattle.dip_letters.specs.Notes.{NoticeRequest, PlayerRequest, Request, SeatNote}
 use Rattle.dip_letters.specs.Notes.MasterRequest.{Create, Tick, Replace, Notify}
-use Rattle.dip_letters.specs.Notes.PlayerRequest.{Press}
 use Rattle.dip_letters.specs.Notes.Request.{Player, Master}
 use Rattle.dip_map.specs.Charts.{Chart, power_of}
 use Rattle.dip_desk_state.specs.Bounds.{most_papers}
@@ -203,7 +200,7 @@ finds_place : (m : Chart) (s : State) (n : Mail) (who : Author) (text : List ℕ
     → FindsPlace n.note.game who e (game_at n.note.game s) ⊎ MayBeDamaged m s n who
 finds_place m s n who text Nothing d = inl tt
 finds_place m s n who text (Pending orders) d = inl tt
-finds_place m s n who text (Votes draw) d = inl tt
+finds_place m s n who text (Votes vote) d = inl tt
 finds_place m s n who text (Delivers readers item) d = delivered m s n who text readers item d
 finds_place m s n who text (Publishes public paper played) d = published m s n who text public paper played d
 finds_place m s n who text (Seats seat) d = inl tt
@@ -246,7 +243,7 @@ fits_in_place m c s fits = by c.effect (game_at c.game s) fits.effect
     by : (e : Effect) (game : Option Game) → FitsGame m c.game c.author e game → LacksPlace c.game c.author e game → ⊥
     by Nothing game fit lacks = lacks
     by (Pending orders) game fit lacks = lacks
-    by (Votes draw) game fit lacks = lacks
+    by (Votes vote) game fit lacks = lacks
     by (Delivers readers item) None fit lacks = lacks
     by (Delivers readers item) (Some g) fit lacks = false≢true (sym lacks ∙ fit.1)
     by (Opens public paper seats) game fit lacks = elim lacks [

@@ -16,7 +16,7 @@ use Rattle.dip_desk_state.specs.Writable.{IsAuthorOf}
 abbrev pub FindsPlace : List ℕ → Author → Effect → Option Game → Type 0
 FindsPlace name who Nothing game = Unit {0}
 FindsPlace name who (Pending orders) game = Unit {0}
-FindsPlace name who (Votes draw) game = Unit {0}
+FindsPlace name who (Votes vote) game = Unit {0}
 FindsPlace name who (Delivers readers item) None = Unit {0}
 FindsPlace name who (Delivers readers item) (Some g) = have_room who readers g.seats ≡ true
 FindsPlace name who (Opens public paper seats) game = (public.game ≡ name) × (game ≡ None)
@@ -30,7 +30,7 @@ FindsPlace name who (Seats seat) game = Unit {0}
 abbrev pub LacksPlace : List ℕ → Author → Effect → Option Game → Type 0
 LacksPlace name who Nothing game = ⊥
 LacksPlace name who (Pending orders) game = ⊥
-LacksPlace name who (Votes draw) game = ⊥
+LacksPlace name who (Votes vote) game = ⊥
 LacksPlace name who (Delivers readers item) None = ⊥
 LacksPlace name who (Delivers readers item) (Some g) = have_room who readers g.seats ≡ false
 LacksPlace name who (Opens public paper seats) game = (public.game ≡ name → ⊥) ⊎ ((most_papers < public.papers) ⊎ (game ≡ None → ⊥))

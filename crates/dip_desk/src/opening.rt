@@ -8,7 +8,7 @@ ghost use Rattle.dip_desk_state.specs.Rows as rows;
 ghost use Rattle.dip_desk.specs.Stored as stored;
 
 use crate::games::{GameRow, Games, SeatRow};
-use dip_desk_state::{KeepFault, NewSeat, Own, Public};
+use dip_desk_state::{KeepFault, NewSeat, Own, Public, Vote};
 use std::alloc::{AllocError, Global};
 
 fn fresh(alloc: Global, seat: &NewSeat) -> SeatRow
@@ -18,7 +18,7 @@ fn fresh(alloc: Global, seat: &NewSeat) -> SeatRow
         own: Own {
             power: seat.power,
             digest: seat.digest,
-            vote: false,
+            vote: Vote::No,
             pending: Vec::new(alloc),
             kept: None,
             sent: 0,

@@ -1,5 +1,5 @@
 //! What a change makes of the games.
-ghost use Rattle.std.specs.Prelude.{◌≡◌, ◌∷◌, [], ◌++◌, ◌==◌, ℕ, List, Some, IfOk, IsErrOf, OnErr, OnOk, bytes_eq, map as each, option_map, string_bytes, true};
+ghost use Rattle.std.specs.Prelude.{◌≡◌, ◌∷◌, [], ◌++◌, ◌==◌, ℕ, List, Some, IfOk, IsErrOf, OnErr, OnOk, bytes_eq, map as each, string_bytes, true};
 ghost use Rattle.std.specs.List.{AllByRecursion, list_all, list_any};
 ghost use Rattle.dip_desk_state.specs.Faults.{faults_after};
 ghost use Rattle.dip_desk.specs.Fitting.{LacksPlace};
@@ -13,11 +13,19 @@ use crate::games::{GameRow, Games, SeatRow};
 use crate::opening::add_game;
 use dip_desk_state::{
     Author, Change, Effect, Item, KeepFault, Kept, MOST_ITEMS, MOST_PAPERS, MOST_SENT, Own, Public,
-    Standing, copy_standings,
+    Standing, Vote, copy_standings,
 };
 use dip_names::Power;
 use std::alloc::{AllocError, Global};
 use std::rc::Rc;
+
+/// What an effect gives its author to keep. It is copied before anything is changed, since a copy wants memory.
+#[derive(Drop)]
+pub(crate) enum Given {
+    Nothing,
+    Pending(Vec<Standing>),
+    Vote(Vote),
+}
 
 /// The place of the seat of that power, or the length.
 fn seat_place(seats: &[SeatRow], power: Power) -> usize
@@ -32,38 +40,26 @@ fn seat_place(seats: &[SeatRow], power: Power) -> usize
 }
 
 /// What a letter of its own changes in a seat.
-fn record_own(seat: &mut SeatRow, kept: Kept, effect: &Effect, pending: Option<Vec<Standing>>)
-    requires pending { option_map (λ l. rows.standings l.items) pending ≡ stored.orders_in
-        (desk_rows.effect effect.now) }
+fn record_own(seat: &mut SeatRow, kept: Kept, effect: &Effect, given: Given)
+    requires given { stored.given given ≡ stored.given_in (desk_rows.effect effect.now) }
     requires room { stored.MaySend (desk_rows.effect effect.now) (stored.part seat.old) }
     ensures { stored.part seat.new ≡ s.with_letter (rows.kept kept)
         (desk_rows.effect effect.now) (stored.part seat.old) }
 {
     seat.own.kept = Some(kept);
-    if let Some(pending) = pending {
-        seat.own.pending = pending;
-        return;
-    }
-    match effect {
-        Effect::Votes(draw) => seat.own.vote = *draw,
-        Effect::Delivers { .. } => seat.own.sent += 1,
-        Effect::Nothing
-        | Effect::Pending(_)
-        | Effect::Opens { .. }
-        | Effect::Publishes { .. }
-        | Effect::Seats(_) => {}
+    match given {
+        Given::Pending(orders) => seat.own.pending = orders,
+        Given::Vote(vote) => seat.own.vote = vote,
+        Given::Nothing => {
+            if let Effect::Delivers { .. } = effect {
+                seat.own.sent += 1;
+            }
+        }
     }
 }
 
-fn record_seat(
-    seats: &mut Vec<SeatRow>,
-    power: Power,
-    kept: Kept,
-    effect: &Effect,
-    pending: Option<Vec<Standing>>,
-)
-    requires pending { option_map (λ l. rows.standings l.items) pending ≡ stored.orders_in
-        (desk_rows.effect effect.now) }
+fn record_seat(seats: &mut Vec<SeatRow>, power: Power, kept: Kept, effect: &Effect, given: Given)
+    requires given { stored.given given ≡ stored.given_in (desk_rows.effect effect.now) }
     requires room { AllByRecursion
         (stored.AuthorMaySend (s.Seat power) (desk_rows.effect effect.now))
         (stored.parts seats.old.items) }
@@ -73,7 +69,7 @@ fn record_seat(
 {
     let place = seat_place(seats.as_slice(), power);
     if place < seats.len() {
-        record_own(&mut seats[place], kept, effect, pending);
+        record_own(&mut seats[place], kept, effect, given);
     }
 }
 
@@ -83,10 +79,9 @@ fn record_author(
     author: Author,
     kept: Kept,
     effect: &Effect,
-    pending: Option<Vec<Standing>>,
+    given: Given,
 )
-    requires pending { option_map (λ l. rows.standings l.items) pending ≡ stored.orders_in
-        (desk_rows.effect effect.now) }
+    requires given { stored.given given ≡ stored.given_in (desk_rows.effect effect.now) }
     requires room { AllByRecursion
         (stored.AuthorMaySend (desk_rows.author author) (desk_rows.effect effect.now))
         (stored.parts seats.old.items) }
@@ -94,7 +89,7 @@ fn record_author(
         (rows.kept kept) (desk_rows.effect effect.now) (stored.parts seats.old.items) }
 {
     match author {
-        Author::Seat(power) => record_seat(seats, power, kept, effect, pending),
+        Author::Seat(power) => record_seat(seats, power, kept, effect, given),
         Author::Nobody | Author::TheMaster => {}
     }
 }
@@ -263,20 +258,19 @@ fn put_content(alloc: Global, game: &mut GameRow, effect: &Effect) -> Result<(),
     }
 }
 
-/// The standing orders that an effect gives its author, where it gives any.
-fn pending_in(alloc: Global, effect: &Effect) -> Result<Option<Vec<Standing>>, AllocError>
+/// A copy of what an effect gives its author to keep.
+fn given_in(alloc: Global, effect: &Effect) -> Result<Given, AllocError>
     ensures { IfOk result
-        (λ o. option_map (λ l. rows.standings l.items) o
-        ≡ stored.orders_in (desk_rows.effect effect.now)) }
+        (λ given. stored.given given ≡ stored.given_in (desk_rows.effect effect.now)) }
 {
     match effect {
-        Effect::Pending(orders) => Ok(Some(copy_standings(alloc, orders.as_slice())?)),
+        Effect::Pending(orders) => { Ok(Given::Pending(copy_standings(alloc, orders.as_slice())?)) }
+        Effect::Votes(vote) => Ok(Given::Vote(vote.copy(alloc)?)),
         Effect::Nothing
-        | Effect::Votes(_)
         | Effect::Delivers { .. }
         | Effect::Opens { .. }
         | Effect::Publishes { .. }
-        | Effect::Seats(_) => Ok(None),
+        | Effect::Seats(_) => Ok(Given::Nothing),
     }
 }
 
@@ -290,15 +284,9 @@ fn record_row(alloc: Global, game: &mut GameRow, change: &Change) -> Result<(), 
         game.old) }
 {
     let kept = change.kept.copy()?;
-    let pending = pending_in(alloc, &change.effect)?;
+    let given = given_in(alloc, &change.effect)?;
     put_content(alloc, game, &change.effect)?;
-    record_author(
-        &mut game.seats,
-        change.author,
-        kept,
-        &change.effect,
-        pending,
-    );
+    record_author(&mut game.seats, change.author, kept, &change.effect, given);
     reach_seats(&mut game.seats, &change.effect);
     Ok(())
 }

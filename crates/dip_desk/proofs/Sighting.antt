@@ -1,12 +1,9 @@
 -- What is decided by an author's sight is what the machine decides.
-use Rattle.std.proofs.Common.{◌≡◌, ℕ, ◌<◌, ◌≤◌, ◌+◌, ◌⊎◌, arith, nat_lt, Bool, true, false, cond, length, List, Option, None, Some, option_map, refl, sym, ◌∙◌, ap, subst, inl, inr, bytes_eq, codes, is_some}
+use Rattle.std.proofs.Common.{◌≡◌, ℕ, ◌<◌, ◌+◌, ◌⊎◌, arith, nat_lt, Bool, true, false, cond, List, Option, None, Some, option_map, refl, sym, ◌∙◌, ap, subst, inl, inr, bytes_eq, codes, is_some}
 use Rattle.std.specs.Prelude.{option_and_then}
-use Rattle.std.specs.List.{AllByRecursion}
 use Rattle.std.proofs.lemmas.Bool.{false≢true, ltb-false, ltb-true}
-use Rattle.dip_letters.specs.Letters.{FitsRequest}
 use Rattle.dip_letters.specs.Notes.{NoticeRequest, PlayerRequest, Request, SeatNote}
 use Rattle.dip_letters.specs.Notes.MasterRequest.{Create, Tick, Replace, Notify}
-use Rattle.dip_letters.specs.Notes.PlayerRequest.{Press}
 use Rattle.dip_letters.specs.Notes.Request.{Player, Master}
 use Rattle.dip_map.specs.Charts.{Chart, power_of}
 use Rattle.dip_desk_state.specs.Bounds.{most_papers}

@@ -1,5 +1,5 @@
 -- Records behind the others, some more and none.
-use Rattle.std.proofs.Common.{◌≡◌, ℕ, List, [], ◌∷◌, ◌++◌, map, Option, ap, sym, ◌∙◌, append_assoc, append-nil, refl}
+use Rattle.std.proofs.Common.{◌≡◌, ℕ, List, [], ◌++◌, map, Option, ap, sym, ◌∙◌, append_assoc, append-nil}
 use Rattle.dip_store_tables.specs.Lists.{delete_where}
 use Rattle.dip_names.specs.declared.names.Unit.{Unit as AUnit}
 use Rattle.dip_map.specs.Charts.{Chart}

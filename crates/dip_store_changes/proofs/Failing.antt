@@ -1,7 +1,7 @@
 -- Why what is read before a change fails.
-use Rattle.std.proofs.Common.{◌≡◌, ◌<◌, ◌+◌, ◌^◌, ℕ, pos, Bool, true, false, List, [], ◌∷◌, filter, find, map, length, Option, Some, None, option_map, Ok, Err, Result, IfErr, inl, inr, refl, sym, ap, subst, ◌∙◌, arith}
+use Rattle.std.proofs.Common.{◌≡◌, ◌<◌, ◌^◌, ℕ, pos, Bool, true, List, [], ◌∷◌, filter, find, map, length, Some, option_map, Ok, Err, Result, IfErr, inl, inr, refl, sym, ap, subst, ◌∙◌, arith}
 use Rattle.std.specs.List.{AllByRecursion}
-use Rattle.std.specs.Result.{IsErr, IsErrAnd}
+use Rattle.std.specs.Result.{IsErrAnd}
 use Rattle.std.specs.Str.{IsUtf8}
 use Rattle.std.proofs.lemmas.Bool.{cases_Bool}
 use Rattle.sqlite.specs.Order.{Row, column}
@@ -11,7 +11,6 @@ use Rattle.sqlite.specs.declared.types.Value.TheVariants.{Int, Text as Words}
 use Rattle.sqlite.specs.declared.error.Error.{Error}
 use Rattle.sqlite.specs.declared.error.Error.TheVariants.{SqliteFailure}
 use Rattle.sqlite.specs.declared.error.ErrorCode.TheVariants.{OutOfMemory}
-use Rattle.dip_store_sql.specs.Faults.{IsOutside}
 use Rattle.dip_map.specs.Charts.{Chart, IsMap}
 use Rattle.dip_store_tables.specs.Coding.{IsSeatOf}
 use Rattle.dip_store_tables.specs.Tables.{SeatRow}

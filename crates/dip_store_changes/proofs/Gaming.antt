@@ -1,5 +1,5 @@
 -- A game's row, and what the statements of a paper come to.
-use Rattle.std.proofs.Common.{◌≡◌, ℕ, List, [], ◌∷◌, Bool, true, false, refl}
+use Rattle.std.proofs.Common.{◌≡◌, ℕ, List, Bool, true, false, refl}
 use Rattle.dip_map.specs.Charts.{Chart}
 use Rattle.dip_store_tables.specs.Boards.{season_number, standoff_text}
 use Rattle.dip_desk_state.specs.Records.{Public}

@@ -1,12 +1,11 @@
 -- Press handed to one reader behind the other.
-use Rattle.std.proofs.Common.{◌≡◌, ℕ, zero, suc, ◌+◌, ◌<◌, List, [], ◌∷◌, length, get_or, take, refl, sym, ap, subst, ◌∙◌, arith}
+use Rattle.std.proofs.Common.{◌≡◌, ℕ, zero, suc, ◌+◌, ◌<◌, List, [], ◌∷◌, length, get_or, take, refl, ap, subst, ◌∙◌, arith}
 use Rattle.dip_map.specs.Charts.{Chart}
 use Rattle.dip_store_tables.specs.Boards.{power_name}
-use Rattle.dip_desk_state.specs.Records.{Item, White, Grey}
-use Rattle.dip_store_tables.specs.Changing.{delivering_each, delivering_one}
-use Rattle.dip_store_tables.specs.Tables.{BoxRow, SeatRow, Tables}
+use Rattle.dip_store_tables.specs.Changing.{delivering_one}
+use Rattle.dip_store_tables.specs.Tables.{BoxRow, Tables}
 use Rattle.dip_store_tables.specs.Writing.{box_row}
-use Rattle.dip_store_changes.specs.Delivering.{AreSeats, ReadersAreSeats, delivering_rows, delivering_to, putting}
+use Rattle.dip_store_changes.specs.Delivering.{ReadersAreSeats, delivering_rows, delivering_to, putting}
 use Rattle.dip_store_changes.specs.declared.delivering.Reader.{Reader}
 
 module _ (m : Chart) (game : List ℕ) (row : List ℕ → ℕ → BoxRow) where

@@ -9,7 +9,7 @@ use Rattle.dip_store_tables.specs.Changing.{changing, is_reader}
 use Rattle.dip_store_tables.specs.Counting.{CountsOn}
 use Rattle.dip_store_tables.specs.Coding.{IsSeatOf}
 use Rattle.dip_store_tables.specs.Tables.{SeatRow, Tables, is_seat}
-use Rattle.dip_store_tables.specs.Legible.{AreOurs, IsSeatLegible}
+use Rattle.dip_store_tables.specs.Legible.{AreOurs}
 use Rattle.dip_store_tables.specs.Room.{HasRoom, SentHasRoom}
 use Rattle.dip_store_sql.specs.Showing.{show_listed}
 use Rattle.dip_store_sql.specs.Keys.{AreKeyed}

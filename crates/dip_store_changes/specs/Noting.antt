@@ -1,7 +1,6 @@
 -- The row of a letter's author, with the count of its press as it is handed over.
 use Rattle.std.specs.Prelude.{◌≡◌, ℕ, ◌+◌, true, List}
 use Rattle.std.specs.List.{AllByRecursion}
-use Rattle.dip_store_tables.specs.Lists.{update_where}
 use Rattle.dip_map.specs.Charts.{Chart}
 use Rattle.dip_store_tables.specs.Boards.{power_name}
 use Rattle.dip_desk_state.specs.Records.{Kept}

@@ -1,8 +1,11 @@
-use Rattle.std.proofs.Common.{rules, arith, refl, ◌++◌, ◌∷◌, [], ◌∙◌}
+use Rattle.std.proofs.Common.{◌≡◌, Err, ap, rules, arith, refl, ◌++◌, ◌∷◌, [], ◌∙◌}
 use Rattle.dip_desk_state.specs.Rows as rows
 use Rattle.dip_desk.proofs.Ending.{ends_late, ends_open}
 use Rattle.dip_desk.proofs.Keepings.{told_late}
 use Rattle.std.proofs.lemmas.Result.{err_from_is_err_and}
+use Rattle.dip_desk_state.specs.declared.faults.KeepFault.TheVariants.{Disk}
+use Rattle.dip_judge_runs.specs.declared.run.RunFault.{RunFault}
+use Rattle.dip_judge_runs.specs.declared.run.RunFault.TheVariants.{Keep}
 use Rattle.dip_judge_runs.proofs.TurnLemmas.{front_more, front_of, stopped_before, stops_before, stops_in_write, written_more}
 use Rattle.dip_judge_runs.proofs.run.answer_all.Goals as goal
 
@@ -88,4 +91,6 @@ returns-in_err-step-clause-failed g c = λ it honest.
     let b = g.K.Keeper.book in
     let on = c.letters.invariant.goes it (c.step.ensures.fair honest) in
     let p = err_from_is_err_and c.from_residual.result c.from_residual.ensures.1 in
-    rw (p.1, p.2) (λ disk. told_late b c.args.keeper.now c.letters.keeper c.step.new.keeper c.letters.invariant.told c.letters.invariant.of_size (c.in_err-step.ensures.failed on honest disk))
+    rw (p.1, p.2) (λ disk.
+    let same : c.in_err-step.field-0.0 ≡ Keep Disk = cc in
+    told_late b c.args.keeper.now c.letters.keeper c.step.new.keeper c.letters.invariant.told c.letters.invariant.of_size (c.in_err-step.ensures.failed on honest (ap (λ (f : RunFault). Err f) same)))

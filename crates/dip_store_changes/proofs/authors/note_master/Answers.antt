@@ -1,4 +1,4 @@
-use Rattle.std.proofs.Common.{◌≡◌, ap, ◌∙◌}
+use Rattle.std.proofs.Common.{ap, ◌∙◌}
 use Rattle.dip_desk_state.specs.Rows as records
 use Rattle.dip_store_sql.specs.TablesAfter.{desk_with, on_desk}
 use Rattle.dip_store_sql.proofs.Parts.{writes_as}

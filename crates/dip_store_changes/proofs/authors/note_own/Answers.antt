@@ -1,6 +1,5 @@
-use Rattle.std.proofs.Common.{◌≡◌, ap, ◌∙◌}
+use Rattle.std.proofs.Common.{ap, ◌∙◌}
 use Rattle.dip_desk_state.specs.ChangeRows as machine
-use Rattle.dip_desk_state.specs.Records.{Kept}
 use Rattle.dip_desk_state.specs.Rows as records
 use Rattle.dip_store_sql.specs.TablesAfter.{on_seat}
 use Rattle.dip_store_sql.proofs.Parts.{writes_as}

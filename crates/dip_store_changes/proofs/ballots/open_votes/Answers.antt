@@ -1,9 +1,5 @@
-use Rattle.std.proofs.Common.{refl, rules, map}
-use Rattle.dip_desk_state.specs.ChangeRows as machine
+use Rattle.std.proofs.Common.{refl}
 use Rattle.dip_store_sql.proofs.Parts.{writes_and, writes_as}
-use Rattle.dip_store_sql.proofs.Joining.{wants_broken, wants_more}
-use Rattle.dip_store_sql.specs.Wants.{always}
-use Rattle.dip_store_changes.specs.Parts.{VotesDiffer, with_votes}
 use Rattle.dip_store_changes.proofs.Outcomes.{writes_ok}
 use Rattle.dip_store_changes.proofs.ballots.open_votes.Goals as goal
 

@@ -1,4 +1,4 @@
-use Rattle.std.proofs.Common.{arith, rules, ◌≡◌, [], ◌∷◌, Option, ℕ, None, take, subst, sym, ◌∙◌}
+use Rattle.std.proofs.Common.{rules, [], ◌∷◌, Option, ℕ, subst, ◌∙◌}
 use Rattle.sqlite.specs.declared.error.Error.{Error}
 use Rattle.sqlite.specs.Held.{state}
 use Rattle.dip_store_tables.specs.Boards.{centre_rows_from}
@@ -9,7 +9,7 @@ use Rattle.dip_store_sql.specs.Keys.{Differ, same_centre}
 use Rattle.dip_store_sql.specs.Wants.{Wants, always}
 use Rattle.dip_store_changes.specs.Parts.{more_centres}
 use Rattle.dip_store_changes.proofs.Apart.{owners_apart}
-use Rattle.dip_store_changes.proofs.Adding.{no_centres_more, centres_more}
+use Rattle.dip_store_changes.proofs.Adding.{centres_more}
 use Rattle.dip_store_changes.proofs.Centres.{owner_more}
 use Rattle.dip_store_changes.proofs.boards.add_owners.Goals as goal
 

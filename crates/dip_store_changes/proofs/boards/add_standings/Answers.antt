@@ -1,4 +1,4 @@
-use Rattle.std.proofs.Common.{arith, rules, ◌≡◌, [], ◌∷◌, map, take, subst, ◌∙◌}
+use Rattle.std.proofs.Common.{arith, rules, [], ◌∷◌, map, subst, ◌∙◌}
 use Rattle.sqlite.specs.declared.error.Error.{Error}
 use Rattle.sqlite.specs.Held.{state}
 use Rattle.dip_store_tables.specs.Boards.{standing_row}
@@ -9,7 +9,7 @@ use Rattle.dip_store_sql.specs.Keys.{Differ, same_unit}
 use Rattle.dip_store_sql.specs.Wants.{Wants, always}
 use Rattle.dip_store_changes.specs.Parts.{more_units}
 use Rattle.dip_store_changes.proofs.Apart.{mapped_apart}
-use Rattle.dip_store_changes.proofs.Adding.{no_units_more, units_more}
+use Rattle.dip_store_changes.proofs.Adding.{units_more}
 use Rattle.dip_store_changes.proofs.boards.add_standings.Goals as goal
 
 pub loop-unit-preserved : goal.loop-unit-preserved

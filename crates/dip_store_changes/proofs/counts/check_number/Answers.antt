@@ -1,4 +1,4 @@
-use Rattle.std.proofs.Common.{arith, ◌≡◌, ◌<◌, ◌≤◌, ◌+◌, ◌^◌, ℕ, true, refl, sym, ap, ◌∙◌}
+use Rattle.std.proofs.Common.{arith, ◌≡◌, ◌<◌, ◌≤◌, ◌+◌, ◌^◌, true, refl, sym, ap, ◌∙◌}
 use Rattle.dip_desk_state.specs.Bounds.{most_papers}
 use Rattle.dip_store_tables.proofs.ListLemmas.{all_weaker}
 use Rattle.dip_store_tables.specs.Counting.{IsNextPaper}

@@ -1,4 +1,4 @@
-use Rattle.std.proofs.Common.{arith, ◌≡◌, ◌<◌, ◌+◌, ◌^◌, true, refl, sym, ◌∙◌}
+use Rattle.std.proofs.Common.{arith, ◌≡◌, ◌<◌, ◌+◌, true, refl, sym, ◌∙◌}
 use Rattle.dip_store_tables.proofs.ListLemmas.{all_weaker}
 use Rattle.dip_desk_state.specs.Bounds.{most_sent}
 use Rattle.dip_store_tables.specs.Tables.{SeatRow, is_seat}

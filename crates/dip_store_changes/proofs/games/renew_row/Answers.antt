@@ -1,4 +1,4 @@
-use Rattle.std.proofs.Common.{◌≡◌, ap, refl, ◌∙◌}
+use Rattle.std.proofs.Common.{ap, refl, ◌∙◌}
 use Rattle.dip_store_tables.specs.Boards.{standoff_text}
 use Rattle.dip_desk_state.specs.Rows as records
 use Rattle.dip_store_sql.specs.TablesAfter.{game_as, on_game}

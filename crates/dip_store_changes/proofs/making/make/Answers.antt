@@ -1,4 +1,4 @@
-use Rattle.std.proofs.Common.{Ok, Err, List, inl, inr, sym, subst}
+use Rattle.std.proofs.Common.{Ok, Err, List, inr, sym, subst}
 use Rattle.sqlite.specs.Held.{state}
 use Rattle.sqlite.specs.declared.error.Error.{Error}
 use Rattle.dip_desk_state.specs.ChangeRows as machine

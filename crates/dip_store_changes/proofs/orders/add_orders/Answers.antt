@@ -1,4 +1,4 @@
-use Rattle.std.proofs.Common.{arith, rules, ◌≡◌, [], ◌∷◌, map, take, subst, ◌∙◌}
+use Rattle.std.proofs.Common.{arith, rules, [], ◌∷◌, map, subst, ◌∙◌}
 use Rattle.sqlite.specs.declared.error.Error.{Error}
 use Rattle.sqlite.specs.Held.{state}
 use Rattle.dip_desk_state.specs.Rows as records
@@ -10,7 +10,7 @@ use Rattle.dip_store_sql.specs.Keys.{Differ, same_order}
 use Rattle.dip_store_sql.specs.Wants.{Wants, always}
 use Rattle.dip_store_changes.specs.Parts.{more_orders}
 use Rattle.dip_store_changes.proofs.Apart.{both_apart}
-use Rattle.dip_store_changes.proofs.Adding.{no_orders_more, orders_more}
+use Rattle.dip_store_changes.proofs.Adding.{orders_more}
 use Rattle.dip_store_changes.proofs.orders.add_orders.Goals as goal
 
 pub loop-order-preserved : goal.loop-order-preserved

@@ -1,4 +1,4 @@
-use Rattle.dip_store_sql.proofs.Parts.{writes_and, writes_fail}
+use Rattle.dip_store_sql.proofs.Parts.{writes_and}
 use Rattle.dip_store_changes.proofs.orders.put_orders.Goals as goal
 
 pub returns-clause-writes : goal.returns-clause-writes

@@ -1,4 +1,4 @@
-use Rattle.std.proofs.Common.{arith, rules, ◌≡◌, [], ◌∷◌, map, take, subst, ◌∙◌}
+use Rattle.std.proofs.Common.{arith, rules, [], ◌∷◌, map, subst, ◌∙◌}
 use Rattle.sqlite.specs.declared.error.Error.{Error}
 use Rattle.sqlite.specs.Held.{state}
 use Rattle.dip_desk_state.specs.ChangeRows as machine
@@ -11,7 +11,7 @@ use Rattle.dip_store_sql.specs.Keys.{Differ}
 use Rattle.dip_store_sql.specs.Wants.{Wants, always}
 use Rattle.dip_store_changes.specs.Parts.{more_seats}
 use Rattle.dip_store_changes.proofs.Apart.{both_apart}
-use Rattle.dip_store_changes.proofs.Adding.{no_seats_more, seats_more}
+use Rattle.dip_store_changes.proofs.Adding.{seats_more}
 use Rattle.dip_store_changes.proofs.seats.add_seats.Goals as goal
 
 pub loop-seat-preserved : goal.loop-seat-preserved

@@ -1,4 +1,4 @@
-use Rattle.std.proofs.Common.{arith, ◌≡◌, ◌++◌, codes, ap, ap₂, flat_map, ◌∙◌}
+use Rattle.std.proofs.Common.{arith, ◌++◌, codes, ap, ap₂, flat_map, ◌∙◌}
 use Rattle.dip_store_tables.specs.Boards.{code}
 use Rattle.dip_store_changes.proofs.Joining.{codes_joined}
 use Rattle.dip_store_changes.proofs.texts.standoff_text.Goals as goal

@@ -1,4 +1,4 @@
-use Rattle.std.proofs.Common.{inr, refl, subst}
+use Rattle.std.proofs.Common.{inr, refl, sym, subst, ◌∙◌}
 use Rattle.sqlite.specs.Held.{Held}
 use Rattle.dip_store_sql.specs.Calls.{does_show}
 use Rattle.dip_store_sql.specs.Causes.{has_faulted}
@@ -25,4 +25,4 @@ returns-in-Err-clause-caused g c clean shows is =
       unlimited = rw c.set_step_limit.ensures refl;
     } in
     let there : does_show g.S.Store h = rw c.set_step_limit.ensures shows in
-    inr (subst (λ (h : Held _). has_faulted g.S.Store h c.found.new.conn) c.set_step_limit.ensures (open_blamed _ c.in-Err.error (c.in-Err.ensures.fails new there clean) is))
+    inr (subst (λ (h : Held _). has_faulted g.S.Store h c.found.new.conn) c.set_step_limit.ensures (open_blamed _ c.in-Err.error (c.in-Err.ensures.fails new there clean) (sym c.open_fault.ensures ∙ is)))

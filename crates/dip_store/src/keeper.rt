@@ -19,7 +19,7 @@ use sqlite::{Alter, Connection};
 use std::alloc::Global;
 use std::rc::Rc;
 
-/// A keeper of the desk's state in the eight tables of an SQL store. Each call reads the rows that it is asked for and no others; a
+/// A keeper of the desk's state in the ten tables of an SQL store. Each call reads the rows that it is asked for and no others; a
 /// change is one transaction, made whole or not at all.
 ///
 /// After `Disk` or `Damaged` the store is to be opened anew, which finds what a crash may leave.

@@ -1,4 +1,4 @@
-//! A keeper over an SQL store: the desk's eight tables in one database, each change one transaction, and a game's papers written out.
+//! A keeper over an SQL store: the desk's ten tables in one database, each change one transaction, and a game's papers written out.
 #![tactic(auto)]
 
 mod archive;

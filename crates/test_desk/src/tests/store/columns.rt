@@ -50,9 +50,9 @@ fn a_status_is_read_from_its_words(rt: HostRuntime) -> Result<(), Fail> {
     Ok(())
 }
 
-/// How the number of a vote is read, and how many powers it names.
-fn vote_told(alloc: Global, map: &Map, number: u32) -> Result<(char, usize), AllocError> {
-    match read_vote(alloc, map, number)? {
+/// How the words of a ballot are read, and how many powers they name.
+fn vote_told(alloc: Global, map: &Map, text: &str) -> Result<(char, usize), AllocError> {
+    match read_vote(alloc, map, text)? {
         None => Ok(('-', 0)),
         Some(Vote::No) => Ok(('n', 0)),
         Some(Vote::Yes) => Ok(('y', 0)),
@@ -60,26 +60,27 @@ fn vote_told(alloc: Global, map: &Map, number: u32) -> Result<(char, usize), All
     }
 }
 
-/// The number of a vote, and what is read of it: digits of base eight behind a leading one are powers.
-const VOTES: &[(u32, char, usize)] = &[
-    (0, 'n', 0),
-    (1, 'y', 0),
-    (2, '-', 0),
-    (7, '-', 0),
-    (8, 'f', 1),
-    (14, 'f', 1),
-    (15, '-', 0),
-    (98, 'f', 2),
-    (0o1654_3210, 'f', 7),
-    (0xffff_ffff, '-', 0),
+/// The words of a ballot, and what is read of them.
+const BALLOTS: &[(&str, char, usize)] = &[
+    ("NO", 'n', 0),
+    ("YES", 'y', 0),
+    ("france", 'f', 1),
+    ("france italy", 'f', 2),
+    ("austria england france germany italy russia turkey", 'f', 7),
+    ("", '-', 0),
+    ("no", '-', 0),
+    ("NO YES", '-', 0),
+    ("spain", '-', 0),
+    ("france spain", '-', 0),
+    ("france  italy", '-', 0),
 ];
 
 #[test]
-fn a_vote_is_read_from_its_number(rt: HostRuntime) -> Result<(), Fail> {
+fn a_vote_is_read_from_its_ballot(rt: HostRuntime) -> Result<(), Fail> {
     let alloc = rt.alloc();
     let map = Map::from_toml(alloc, STANDARD)?;
-    for &(number, letter, count) in VOTES {
-        assert!(rt; vote_told(alloc, &map, number)? == (letter, count));
+    for &(text, letter, count) in BALLOTS {
+        assert!(rt; vote_told(alloc, &map, text)? == (letter, count));
     }
     Ok(())
 }

@@ -126,8 +126,10 @@ pub(crate) fn own_in(
     beside: Beside,
 ) -> Result<Own, LookFault>
     requires { at < 2 }
-    ensures value { IfOk result (λ o. rows.own o ≡ shown_own map.now power (rows.vote beside.vote) at row.now beside.orders.items) }
-    ensures own { IsSeatReadable row.now at → AllByRecursion (IsOrderReadable map.now) beside.orders.items
+    ensures value { IfOk result (λ o. rows.own o
+        ≡ shown_own map.now power (rows.vote beside.vote) at row.now beside.orders.items) }
+    ensures own { IsSeatReadable row.now at
+        → AllByRecursion (IsOrderReadable map.now) beside.orders.items
         → IfErr result (IsFromOutside ⊥) }
 {
     let Beside { vote, orders } = beside;

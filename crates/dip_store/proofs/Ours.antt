@@ -1,5 +1,5 @@
 -- Our schema knows our tables.
-use Rattle.std.proofs.Common.{◌≡◌, IsTrue, ℕ, Bool, List, Ok, Err, Result, IfOk, length, refl, sym, subst}
+use Rattle.std.proofs.Common.{◌≡◌, IsTrue, ℕ, Bool, true, codes, List, Ok, Err, Result, IfOk, length, refl, sym, subst}
 use Rattle.sqlite.specs.declared.error.Error.{Error}
 use Rattle.sqlite.specs.Command.{Command}
 use Rattle.sqlite.specs.Query.{Query}
@@ -11,7 +11,7 @@ use Rattle.dip_store_sql.specs.CompileError.{CompileError}
 use Rattle.dip_store_sql.specs.Asking.{Asks, IsAsked, command_in}
 use Rattle.dip_store_sql.specs.Schema.{our_schema}
 use Rattle.dip_store_sql.proofs.Texts as means
-use Rattle.dip_store.specs.Known.{HasOurTables, IsKnown, IsWhole}
+use Rattle.dip_store.specs.Known.{has_table, HasOurTables, IsKnown, IsWhole}
 use Rattle.dip_store_sql.proofs.Found.{within}
 
 known_in : (r : Result Compiled CompileError) (command : Command) → command_in r command → (c : Compiled) × (r ≡ Ok c)
@@ -33,6 +33,10 @@ ours_known = (known_by _ _ _ _ means.find_desk, (known_by _ _ _ _ means.find_gam
 
 pub known_of_ours : (schema : Schema) → schema ≡ our_schema → HasOurTables schema
 known_of_ours schema is = subst HasOurTables (sym is) ours_known
+
+-- it has a table of ballots
+pub ours_has_ballots : (schema : Schema) → schema ≡ our_schema → has_table (codes "ballot") schema ≡ true
+ours_has_ballots schema is = subst (λ (s : Schema). has_table (codes "ballot") s ≡ true) (sym is) refl
 
 pub all_known : (r : Result Bool Error) (P : Type 0) → IfOk r (λ b. (IsTrue b → P) × (P → IsTrue b)) → P → IfOk r IsTrue
 all_known (Ok b) P h p = h.1 p

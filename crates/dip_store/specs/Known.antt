@@ -1,12 +1,16 @@
 -- What a schema knows of the tables that a text names.
-use Rattle.std.specs.Prelude.{◌≡◌, ◌≤◌, ℕ, List, [], ◌∷◌, Result, Ok, Err}
+use Rattle.std.specs.Prelude.{◌≡◌, ◌≤◌, ℕ, Bool, bytes_eq, List, [], ◌∷◌, Result, Ok, Err}
 use Rattle.sqlite.specs.Given.{IsPlain}
-use Rattle.std.specs.List.{AllByRecursion}
+use Rattle.std.specs.List.{AllByRecursion, list_any}
 use Rattle.sqlite.specs.Schema.{Schema}
 use Rattle.sqlite.specs.Listing.{understood}
 use Rattle.dip_store_sql.specs.Compiled.{Compiled}
 use Rattle.dip_store_sql.specs.CompileError.{CompileError}
 use Rattle.dip_store_sql.specs.Statements.{find_desk_text, find_game_text, list_seats_text, list_units_text, list_centres_text, list_orders_text, find_item_text, find_paper_text, find_ballot_text, find_choice_text}
+
+-- the schema has a table of this name
+abbrev pub has_table : List ℕ → Schema → Bool
+has_table name schema = list_any (λ t. bytes_eq t.name name) schema.tables
 
 -- the schema has what the text names
 abbrev pub IsKnown : Schema → List ℕ → Type 0

@@ -1,5 +1,5 @@
 //! What a store's schema knows.
-ghost use Rattle.std.specs.Prelude.{◌↔◌, ◌≡◌, IfErr, IfOk, IsTrue, OnOk, ◌<◌, length};
+ghost use Rattle.std.specs.Prelude.{◌↔◌, ◌≡◌, IfErr, IfOk, IsTrue, OnOk, ◌<◌, codes, length};
 ghost use Rattle.std.specs.List.{AllByRecursion};
 ghost use Rattle.sqlite.specs.Held.{state};
 ghost use Rattle.sqlite.specs.Listing.{understood};
@@ -9,7 +9,7 @@ ghost use Rattle.dip_store_sql.specs.Schema.{our_schema};
 ghost use Rattle.dip_store_sql.specs.Causes.{IsCaused, has_faulted};
 ghost use Rattle.dip_store_sql.specs.Calls.{Selects};
 ghost use Rattle.dip_store.specs.Alone.{LeavesAlone};
-ghost use Rattle.dip_store.specs.Known.{HasOldTables, HasOurTables, IsKnown, IsWhole};
+ghost use Rattle.dip_store.specs.Known.{has_table, HasOldTables, HasOurTables, IsKnown, IsWhole};
 
 use sqlite::{Alter, Connection, Error};
 
@@ -86,11 +86,10 @@ pub fn knows_old<S: Alter>(conn: &mut Connection<S>) -> Result<bool, Error>
 
 /// Whether the store has a table of ballots, as one of version 1 hasn't.
 pub(crate) fn has_ballots<S: Alter>(conn: &Connection<S>) -> bool
-    ensures ours { (state S.Store conn.now).now.schema ≡ our_schema → IsTrue result }
-    ensures live { IsLive (state S.Store conn.now) }
+    ensures value { result ≡ has_table (codes "ballot") (state S.Store conn.now).now.schema }
 {
     let schema = conn.schema();
-    schema.tables.iter().any(|table| table.name.as_slice() == b"ballot")
+    schema.tables.iter().any(|table| table.name.as_slice() == b"ballot".as_slice())
 }
 
 /// Whether our ten tables are there, with the columns that are read of them.

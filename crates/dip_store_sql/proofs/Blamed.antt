@@ -1,6 +1,5 @@
 -- A statement that writes tells of the disk only where the store did.
-use Rattle.std.proofs.Common.{◌≡◌, ◌⊎◌, inl, inr, ℕ, ℤ, List, [], ◌∷◌, ◌++◌, length, fold, Bool, true, false, Some, None, Option, option_map, Ok, Err, Result, IfErr, IsTrue, MatchBool, cond, slice_get, refl, sym, ap, subst, ◌∙◌}
-use Rattle.std.proofs.lemmas.Bool.{cases_Bool}
+use Rattle.std.proofs.Common.{◌≡◌, inl, inr, ℕ, ℤ, List, [], ◌∷◌, ◌++◌, length, fold, Bool, true, false, Some, None, Option, option_map, Ok, Err, Result, IfErr, IsTrue, MatchBool, slice_get, refl, sym, ap, subst, ◌∙◌}
 use Rattle.sqlite.specs.declared.types.Value.TheVariants.{Null}
 use Rattle.sqlite_trees.specs.declared.error.StoreError.{StoreError}
 use Rattle.sqlite_trees.specs.declared.error.StoreError.TheVariants.{OutOfMemory, Io, Corrupt, Full, Broken, Unstorable}
@@ -14,23 +13,21 @@ use Rattle.sqlite_schema.specs.Rules.{Refers}
 use Rattle.sqlite_rules.specs.declared.error.Refusal.{Refusal}
 use Rattle.sqlite_rules.specs.declared.error.Refusal.TheVariants.{Violates, Mismatch, NoRowid, BadReference, TooDeep}
 use Rattle.sqlite_rules.specs.Calls.{ids_of}
-use Rattle.sqlite_catalog.specs.declared.error.Refusal as alter
-use Rattle.sqlite_catalog.specs.declared.error.Refusal.TheVariants as why
 use Rattle.sqlite.specs.Edit.{Edit, edit_of, taken_by}
 use Rattle.sqlite.specs.declared.error.Error.{Error}
 use Rattle.sqlite.specs.declared.error.Error.TheVariants.{SqliteFailure, InvalidQuery, ExecuteReturnedResults}
 use Rattle.sqlite.specs.declared.error.ErrorCode.TheVariants as code
 use Rattle.sqlite.specs.Order.{Row}
-use Rattle.sqlite.specs.Tree.{Trees, rowid}
+use Rattle.sqlite.specs.Tree.{Trees}
 use Rattle.sqlite.specs.Table.{Table}
 use Rattle.sqlite.specs.Schema.{Schema}
 use Rattle.sqlite.specs.Command.{Command}
-use Rattle.sqlite.specs.Command.TheVariants.{Insert, Update, Delete, CreateTable}
+use Rattle.sqlite.specs.Command.TheVariants.{Insert, Update, Delete}
 use Rattle.sqlite.specs.Source.{Source}
 use Rattle.sqlite.specs.Source.TheVariants.{Values, Query}
 use Rattle.sqlite.specs.Rowids.TheVariants.{Given}
-use Rattle.sqlite.specs.Effect.{Database, IsNoText, RefusesQuery, RefusesToAlter, alter_error, edit_error}
-use Rattle.sqlite.specs.Does.{AtPlace, Concludes, Counted, Defines, Does, MakesSequence, MakesTable, OnRows, Redefines, Returns, Shows, Tally, Tested, WritesRows, lacks_sequence, no_rows, sequence_text}
+use Rattle.sqlite.specs.Effect.{Database, RefusesQuery, edit_error}
+use Rattle.sqlite.specs.Does.{AtPlace, Concludes, Counted, Does, OnRows, Returns, Shows, Tally, Tested, WritesRows}
 use Rattle.sqlite.specs.Rows.{Counter, CounterIn, Counts, CountsIn, Edited, Gives, Inserts, Part, Queried, Refuses, Sourced, Task, Then, Written, count_of, counting, higher, last_id, rowids_for, sequence, shown, stamped}
 use Rattle.sqlite.specs.Listing.{understood}
 use Rattle.sqlite.specs.Clock.{timed}

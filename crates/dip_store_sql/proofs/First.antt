@@ -1,5 +1,5 @@
 -- The master's row of a new desk isn't too long to be stored.
-use Rattle.std.proofs.Common.{◌≡◌, inl, inr, ℕ, ℤ, pos, negsuc, suc, List, [], ◌∷◌, drop, length, sym, subst, arith}
+use Rattle.std.proofs.Common.{◌≡◌, inl, inr, ℕ, pos, suc, List, [], ◌∷◌, drop, length, sym, subst, arith}
 use Rattle.std.specs.List.{AllByRecursion}
 use Rattle.std.specs.Float.{NotNan}
 use Rattle.std.proofs.lemmas.List.Elements.{All-from_recursion}

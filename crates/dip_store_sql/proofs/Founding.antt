@@ -1,5 +1,5 @@
 -- Why a CREATE TABLE of ours fails: for want of memory, or by the disk where the store told of a fault.
-use Rattle.std.proofs.Common.{◌≡◌, ◌⊎◌, inl, inr, ℕ, List, [], ◌∷◌, ◌+◌, ◌*◌, ◌^◌, ◌≤◌, length, codes, Bool, true, false, Some, None, Option, Ok, Err, Result, IsTrue, MatchBool, IsUtf8, nat_le, refl, sym, ap, subst, ◌∙◌, arith, append-nil}
+use Rattle.std.proofs.Common.{◌≡◌, inl, inr, ℕ, List, [], ◌∷◌, ◌+◌, ◌*◌, ◌^◌, ◌≤◌, length, codes, Bool, true, false, Some, None, Option, Ok, Err, Result, IsTrue, IsUtf8, nat_le, refl, sym, ap, subst, ◌∙◌, arith}
 use Rattle.std.specs.List.{AllByRecursion}
 use Rattle.std.proofs.lemmas.Bool.{leb-false, leb-true}
 use Rattle.sqlite.specs.declared.types.Value.TheVariants.{Text}
@@ -17,18 +17,15 @@ use Rattle.sqlite_catalog.specs.Listing.{is_fit, is_formed}
 use Rattle.sqlite.specs.Change.{automatics, created, is_reserved, is_used, next_tree}
 use Rattle.sqlite.specs.Compile.{table_defined_by}
 use Rattle.sqlite.specs.declared.error.Error.{Error}
-use Rattle.sqlite.specs.declared.error.Error.TheVariants.{ExecuteReturnedResults}
 use Rattle.sqlite.specs.Order.{Row}
 use Rattle.sqlite.specs.Table.{Table}
 use Rattle.sqlite.specs.Schema.{Schema}
 use Rattle.sqlite.specs.Command.{Command}
-use Rattle.sqlite.specs.Command.TheVariants.{CreateTable, Begin, Commit, Rollback, Release, RollbackTo}
+use Rattle.sqlite.specs.Command.TheVariants.{CreateTable}
 use Rattle.sqlite.specs.Does.{Does, MakesSequence, MakesTable, lacks_sequence}
 use Rattle.sqlite.specs.Effect.{Database}
-use Rattle.sqlite.specs.Given.{IsPlain}
 use Rattle.sqlite.specs.Listing.{understood}
 use Rattle.sqlite.specs.Clock.{timed}
-use Rattle.sqlite.specs.Rows.{Part, Then, Gives}
 use Rattle.sqlite.specs.State.{State, EndsScope, Executes, ExecutesIn, ExecutesInside, HasCause, IsMisplaced, IsNotRun, RunsAlone, RunsCommand, is_disk_error, mode_of, shows_rows, store_error, text_of}
 use Rattle.dip_store_sql.specs.Causes.{Faulted, IsCaused}
 

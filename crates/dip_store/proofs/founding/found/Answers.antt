@@ -1,4 +1,5 @@
-use Rattle.std.proofs.Common.{◌≡◌, IfErr, arith, rules, subst}
+use Rattle.std.proofs.Common.{◌≡◌, arith, rules, subst}
+use Rattle.sqlite.specs.declared.error.Error.{Error}
 use Rattle.sqlite.specs.Held.{Held, state}
 use Rattle.sqlite.specs.State.{Survives}
 use Rattle.sqlite.proofs.Callers.{survives_begin}
@@ -7,6 +8,7 @@ use Rattle.dip_store_tables.specs.Writing.{new_tables}
 use Rattle.dip_store_sql.specs.Calls.{is_honest}
 use Rattle.dip_store_sql.specs.Causes.{IsCaused, has_faulted}
 use Rattle.dip_store_sql.proofs.Caused.{caused_weaker, faulted_early}
+use Rattle.dip_store_sql.proofs.Parts.{fails}
 use Rattle.dip_store.specs.Founding.{Founds}
 use Rattle.dip_store.specs.Making.{HasFirst, HasTables}
 use Rattle.dip_store.proofs.Trying.{begun_set, commit_caused, parts_caused}
@@ -47,8 +49,11 @@ returns-in_err-commit-clause-fails g c new shows clean =
     let honest : is_honest g.S.Store end = search (rules, clean) in
     let t = new_tables c.args.map_sum.now c.args.digest.now in
     let tries = rw c.transaction-tx.ensures.begun at c.in_ok-make_tables.ensures.tries in
-    let cause = commit_caused g.S.Store (HasFirst 0) (HasTables t) old last end (begun_set g.S.Store old new shows) (Unit {0}) (Unit {0}) c.in_ok-make_tables.field-0 c.commit.result _ tries c.commit.ensures.survives c.commit.ensures.err honest in
-    subst (λ (h : Held _). IfErr c.commit.result (IsCaused (has_faulted g.S.Store old h))) same cause
+    let error = c.in_err-commit.field-0.0 in
+    let cause : IsCaused (has_faulted g.S.Store old end) error =
+    commit_caused g.S.Store (HasFirst 0) (HasTables t) old last end (begun_set g.S.Store old new shows) (Unit {0}) (Unit {0}) c.in_ok-make_tables.field-0 (fails (Unit {0}) Error error) _ tries c.commit.ensures.survives c.in_err-commit.ensures.err honest in
+    let there = subst (λ (h : Held _). IsCaused (has_faulted g.S.Store old h) error) same cause in
+    search (rules, there)
 
 pub returns-in_err-make_tables-clause-fails : goal.returns-in_err-make_tables-clause-fails
 returns-in_err-make_tables-clause-fails g c new shows clean =

@@ -71,7 +71,7 @@ pub fn knows_old<S: Alter>(conn: &mut Connection<S>) -> Result<bool, Error>
         IsTrue b ↔ HasOldTables (state S.Store conn.old).now.schema) }
     ensures alone { LeavesAlone S.Store conn.old conn.new result }
 {
-    let texts = [
+    let old_texts = [
         "SELECT version, map, digest, last, kept, reply FROM desk WHERE id = 1",
         "SELECT year, phase, status, due, period, grey, papers, standoff FROM game WHERE name = ?1",
         "SELECT power, digest, vote, last, kept, reply, sent, items FROM seat WHERE game = ?1 ORDER BY rowid",
@@ -81,15 +81,17 @@ pub fn knows_old<S: Alter>(conn: &mut Connection<S>) -> Result<bool, Error>
         "SELECT grey, writer, addressees, body FROM box WHERE game = ?1 AND power = ?2 AND number = ?3",
         "SELECT body FROM paper WHERE game = ?1 AND number = ?2",
     ];
-    knows_each(conn, &texts)
+    knows_each(conn, &old_texts)
 }
 
 /// Whether the store has a table of ballots, as one of version 1 hasn't.
 pub(crate) fn has_ballots<S: Alter>(conn: &Connection<S>) -> bool
     ensures value { result ≡ has_table (codes "ballot") (state S.Store conn.now).now.schema }
 {
-    let schema = conn.schema();
-    schema.tables.iter().any(|table| table.name.as_slice() == b"ballot".as_slice())
+    let tables = conn.schema().tables.as_slice();
+    tables
+        .iter()
+        .any(|table| table.name.as_slice() == b"ballot".as_slice())
 }
 
 /// Whether our ten tables are there, with the columns that are read of them.

@@ -219,5 +219,8 @@ pub fn add_choice<S: Alter>(tx: &mut Transaction<'_, S>, game: &str) -> Result<u
     ensures wants { Wants (λ t. Differ same_choice (with_choice (choice_row game.now) t).choices)
         (state S.Store tx.old.conn.now) (state S.Store tx.new.conn.now) result }
 {
-    tx.execute("INSERT INTO choice (game, intent) VALUES (?1, 0)", params![game])
+    tx.execute(
+        "INSERT INTO choice (game, intent) VALUES (?1, 0)",
+        params![game],
+    )
 }

@@ -11,8 +11,8 @@ mod rows;
 mod ticks;
 
 pub use adding::{
-    add_ballot, add_centre, add_choice, add_desk, add_game, add_item, add_paper, add_pending, add_seat,
-    add_unit,
+    add_ballot, add_centre, add_choice, add_desk, add_game, add_item, add_paper, add_pending,
+    add_seat, add_unit,
 };
 pub use dropping::{
     drop_ballots, drop_centres, drop_choices, drop_items, drop_orders, drop_papers, drop_pending,
@@ -23,7 +23,7 @@ pub use lookups::{
     count_papers, count_sent, find_ballot, find_desk, find_game, find_item, find_paper, find_seat,
 };
 pub use noting::{
-    clear_vote, count_item, note_ballot, note_desk, note_seat, note_sent, renew_game, replace_digest,
-    set_version,
+    clear_vote, count_item, note_ballot, note_desk, note_seat, note_sent, renew_game,
+    replace_digest, set_version,
 };
 pub use rows::{GameRow, ItemRow, LastLetter, UnitRow};

@@ -12,7 +12,11 @@ use dip_names::Power;
 use std::alloc::{AllocError, Global};
 
 /// The powers of these names; none where one isn't a power of the map.
-pub(crate) fn powers_of(alloc: Global, map: &Map, names: &[String]) -> Result<Option<Vec<Power>>, AllocError>
+pub(crate) fn powers_of(
+    alloc: Global,
+    map: &Map,
+    names: &[String],
+) -> Result<Option<Vec<Power>>, AllocError>
     ensures value { IfOk result (λ o. IfSome o (λ v.
         v.items ≡ each (power_in map.now) (rows.lines names.now))) }
     ensures none { IfOk result (λ o. IfNone o (ArePowers map.now (rows.lines names.now) → ⊥)) }

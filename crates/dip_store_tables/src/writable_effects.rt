@@ -7,8 +7,8 @@ ghost use Rattle.dip_store_tables.specs.Coding.{IsEffectOf};
 ghost use Rattle.dip_desk_state.specs.Writable.{IsStatusOf};
 ghost use Rattle.dip_store_tables.specs.ChangeColumns.{FitsColumns};
 
-use crate::writable_parts::{are_orders, are_seats, is_power, is_status};
 use crate::votes::is_vote;
+use crate::writable_parts::{are_orders, are_seats, is_power, is_status};
 use crate::writable_texts::is_plain;
 use dip_desk_state::{Effect, Public};
 use dip_map::Map;

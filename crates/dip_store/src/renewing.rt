@@ -19,11 +19,7 @@ fn ballot_of(vote: u32) -> Option<&'static str> {
 }
 
 /// A seat's vote goes into a ballot of its own.
-fn renew_seat<S: Alter>(
-    tx: &mut Transaction<'_, S>,
-    game: &str,
-    row: &Row,
-) -> Result<(), DeskFault>
+fn renew_seat<S: Alter>(tx: &mut Transaction<'_, S>, game: &str, row: &Row) -> Result<(), DeskFault>
     ensures same_reference { tx.new.conn.ghost_name ≡ tx.old.conn.ghost_name }
     ensures passes { Passes
         (state S.Store tx.old.conn.now) (state S.Store tx.new.conn.now) }

@@ -1,9 +1,9 @@
 -- A look, and then a step.
-use Rattle.std.proofs.Common.{◌≡◌, inl, inr, Result, Ok, Err, ap, refl, sym, subst, ◌∙◌, arith}
+use Rattle.std.proofs.Common.{◌≡◌, ◌≤◌, inl, inr, Result, Ok, Err, ap, refl, sym, subst, ◌∙◌, arith}
 use Rattle.std.proofs.lemmas.Result.{IfOk-weaker, on_err_weaker, on_ok_weaker}
 use Rattle.dip_map.specs.Charts.{Chart}
 use Rattle.dip_desk_state.specs.Faults.{faults_after, faults_with}
-use Rattle.dip_desk.specs.Keeping.{Book, Changes, Keeps, Looks, Settles, Steps}
+use Rattle.dip_desk.specs.Keeping.{Book, Changes, Keeps, Looks, Settles, Steps, WasTold}
 use Rattle.dip_desk_state.specs.State.{State}
 use Rattle.dip_desk_state.specs.declared.faults.KeepFault.{KeepFault}
 use Rattle.dip_desk_state.specs.declared.faults.KeepFault.TheVariants.{Memory, Disk, Damaged}
@@ -14,6 +14,7 @@ pub keeps_then : {K X Y : Type 0} (m : Chart) (b : Book K) (old mid new : K) (x 
 keeps_then m b old mid new x result first second = record {
   count = second.count ∙ ap (faults_after result) first.count;
   told = omega (arith, first.told, second.told);
+  of_size = omega (arith, first.of_size, second.of_size);
   fair = λ honest. first.fair (second.fair honest);
   shown = λ shows. first.shown (second.shown shows);
   sound = λ sound shows. second.sound (first.sound sound (second.shown shows)) shows;
@@ -30,6 +31,11 @@ keeps_then m b old mid new x result first second = record {
       let fair = second.fair honest in
       second.again (first.firm sound fair) honest (first.stays_open sound fair shows) (first.again sound fair shows takes);
 }
+
+-- what a store told behind a call it told behind what came before too
+pub told_late : {K : Type 0} (b : Book K) (first old new : K) → b.told first ≤ b.told old → b.of_size first ≤ b.of_size old → WasTold b old new → WasTold b first new
+told_late b first old new counts sizes (inl rises) = inl (omega (arith, counts, rises))
+told_late b first old new counts sizes (inr rises) = inr (omega (arith, sizes, rises))
 
 -- behind a look a crash leaves what it might have left
 pub look_alone : {K X : Type 0} (m : Chart) (b : Book K) (old new : K) (Value : X → Type 0) (Damage : Type 0) (result : Result X KeepFault)
@@ -59,6 +65,9 @@ steps_then {K} {X} {Y} {R} m b old mid new x Value Damage say Near Far result lo
       let fair = step.keeps.fair honest in
       let open_mid = look.keeps.stays_open sound fair shows in
       blamed (look.value sound open_mid) (subst Hurt (look.same sound open_mid) (step.damaged (look.keeps.firm sound fair) honest open_mid bad));
+  failed = λ sound honest shows bad.
+      let fair = step.keeps.fair honest in
+      told_late b old mid new look.keeps.told look.keeps.of_size (step.failed (look.keeps.firm sound fair) honest (look.keeps.stays_open sound fair shows) bad);
   settles = λ sound honest shows alone.
       let before = step.keeps.shown shows in
       step.settles (look.keeps.sound sound before) honest shows (look_alone m b old mid Value Damage (Ok x) look sound (step.keeps.fair honest) before alone);
@@ -121,10 +130,11 @@ pub fault_then : {K X Y R : Type 0} (m : Chart) (b : Book K) (old mid : K) (x : 
     (Blame : State → Type 0) → Looks m b old mid Value ⊥ (Ok x) → faults_with fault 0 ≡ 0 → (Value x → fault ≡ Damaged → Blame (b.content m old))
     → Steps {X = Y} m b old mid say Step Blame (Err fault)
 fault_then m b old mid x Value fault say Step Blame look other blamed = record {
-  keeps = record { count = look.keeps.count ∙ same fault other; told = look.keeps.told; fair = look.keeps.fair; shown = look.keeps.shown; sound = look.keeps.sound; firm = λ sound honest. tt; stays_open = λ sound honest shows. tt; shuts = look.keeps.shuts; again = look.keeps.again };
+  keeps = record { count = look.keeps.count ∙ same fault other; told = look.keeps.told; of_size = look.keeps.of_size; fair = look.keeps.fair; shown = look.keeps.shown; sound = look.keeps.sound; firm = λ sound honest. tt; stays_open = λ sound honest shows. tt; shuts = look.keeps.shuts; again = look.keeps.again };
   done = λ sound shows. tt;
   undone = look.same;
   damaged = λ sound honest shows bad. let told : fault ≡ Damaged = cc in blamed (look.value sound (look.keeps.stays_open sound honest shows)) told;
+  failed = λ sound honest shows bad. let told : fault ≡ Disk = cc in absurd (let none = subst (λ (f : KeepFault). faults_with f 0 ≡ 0) told other in omega (arith, none));
   settles = look_alone m b old mid Value ⊥ (Ok x) look;
   kept = λ sound honest shows. tt;
   left = λ sound honest shows s left. inl (look.left sound honest s left);
@@ -137,7 +147,7 @@ fault_then m b old mid x Value fault say Step Blame look other blamed = record {
 
 -- what is kept by an answer says nothing of its value
 pub keeps_as : {K X Y : Type 0} (m : Chart) (b : Book K) (old new : K) (x : X) (y : Y) → Keeps {X = X} m b old new (Ok x) → Keeps {X = Y} m b old new (Ok y)
-keeps_as m b old new x y k = record { count = k.count; told = k.told; fair = k.fair; shown = k.shown; sound = k.sound; firm = k.firm; stays_open = k.stays_open; shuts = k.shuts; again = k.again }
+keeps_as m b old new x y k = record { count = k.count; told = k.told; of_size = k.of_size; fair = k.fair; shown = k.shown; sound = k.sound; firm = k.firm; stays_open = k.stays_open; shuts = k.shuts; again = k.again }
 
 -- a change that a fault leaves unmade is a step that isn't taken: a crash may leave what the step would have, and what doesn't fit may
 -- be Damaged
@@ -146,10 +156,11 @@ pub unmade : {K X R : Type 0} (m : Chart) (b : Book K) (old new : K) (change : S
     → ((s : State) → s ≡ change (b.content m old) → (r : R) × Step (b.content m old) r s) → ((s : State) → Suits s → Fits s)
     → Steps {X = X} m b old new say Step (λ s. Suits s → ⊥) (Err fault)
 unmade m b old new change Fits fault say Step Suits h taken fit = record {
-  keeps = record { count = h.keeps.count; told = h.keeps.told; fair = h.keeps.fair; shown = h.keeps.shown; sound = h.keeps.sound; firm = λ sound honest. tt; stays_open = λ sound honest shows. tt; shuts = h.keeps.shuts; again = h.keeps.again };
+  keeps = record { count = h.keeps.count; told = h.keeps.told; of_size = h.keeps.of_size; fair = h.keeps.fair; shown = h.keeps.shown; sound = h.keeps.sound; firm = λ sound honest. tt; stays_open = λ sound honest shows. tt; shuts = h.keeps.shuts; again = h.keeps.again };
   done = λ sound shows. tt;
   undone = h.undone;
   damaged = λ sound honest shows bad suits. let told : fault ≡ Damaged = cc in h.fitting sound honest shows (fit (b.content m old) suits) (ap (λ (f : KeepFault). Err f) told);
+  failed = λ sound honest shows bad. let told : fault ≡ Disk = cc in h.failed sound honest shows (ap (λ (f : KeepFault). Err f) told);
   settles = h.settles;
   kept = λ sound honest shows. tt;
   left = λ sound honest shows s left. elim (h.left sound honest s left) [

@@ -18,6 +18,8 @@ pub record Book (K : Type 0) : Type 1 where
   pub faults : K → ℕ
   -- and how many its store has told it of
   pub told : K → ℕ
+  -- how many faults of size its store has told it of: a row that is too long to be stored, or no number left for one
+  pub of_size : K → ℕ
   -- the disk has returned what was written, so far
   pub honest : K → Type 0
   -- it is honest and not shut, so that its content is what is kept
@@ -29,6 +31,10 @@ pub record Book (K : Type 0) : Type 1 where
 abbrev pub Rises : ℕ → ℕ → Type 0
 Rises old new = min (old + 1) (2 ^ 64 - 1) ≤ new
 
+-- between these two its store told of a fault: of the disk, or of size
+abbrev pub WasTold : {K : Type 0} → Book K → K → K → Type 0
+WasTold b old new = Rises (b.told old) (b.told new) ⊎ Rises (b.of_size old) (b.of_size new)
+
 -- a crash leaves what is kept, and nothing else
 abbrev pub LeavesAlone : {K : Type 0} → Chart → Book K → K → Type 0
 LeavesAlone m b k = (s : State) → b.may_leave m k s → s ≡ b.content m k
@@ -37,6 +43,7 @@ LeavesAlone m b k = (s : State) → b.may_leave m k s → s ≡ b.content m k
 pub record Keeps {K X : Type 0} (m : Chart) (b : Book K) (old new : K) (result : Result X KeepFault) : Type 0 where
   pub count : b.faults new ≡ faults_after result (b.faults old)
   pub told : b.told old ≤ b.told new
+  pub of_size : b.of_size old ≤ b.of_size new
   pub fair : b.honest new → b.honest old
   pub shown : b.shows new → b.shows old
   pub sound : b.sound m old → b.shows new → b.sound m new
@@ -77,13 +84,15 @@ pub record Looks {K X : Type 0} (m : Chart) (b : Book K) (old new : K) (Value : 
 abbrev pub Settles : {K : Type 0} → Chart → Book K → K → K → Type 0
 Settles m b old new = b.sound m old → b.honest new → b.shows new → LeavesAlone m b old → LeavesAlone m b new
 
--- a change that is made whole or not at all; behind a fault a crash may leave it made or not
+-- a change that is made whole or not at all; behind a fault a crash may leave it made or not. The disk is told of only where the store told
+-- of a fault
 pub record Changes {K X : Type 0} (m : Chart) (b : Book K) (old new : K) (change : State → State) (Fits : State → Type 0)
     (result : Result X KeepFault) : Type 0 where
   pub keeps : Keeps m b old new result
   pub done : b.sound m old → b.shows new → OnOk result (b.content m new ≡ change (b.content m old))
   pub undone : b.sound m old → b.shows new → OnErr result (b.content m new ≡ b.content m old)
   pub fitting : b.sound m old → b.honest new → b.shows old → Fits (b.content m old) → IsErrOf result Damaged → ⊥
+  pub failed : b.sound m old → b.honest new → b.shows old → IsErrOf result Disk → WasTold b old new
   pub settles : Settles m b old new
   pub kept : b.sound m old → b.honest new → OnOk result ((s : State) → b.may_leave m new s → s ≡ b.content m new)
   pub left : b.sound m old → b.honest new
@@ -97,6 +106,7 @@ pub record Steps {K X R : Type 0} (m : Chart) (b : Book K) (old new : K) (say : 
   pub done : b.sound m old → b.shows new → IfOk result (λ x. Step (b.content m old) (say x) (b.content m new))
   pub undone : b.sound m old → b.shows new → OnErr result (b.content m new ≡ b.content m old)
   pub damaged : b.sound m old → b.honest new → b.shows old → IsErrOf result Damaged → Damage (b.content m old)
+  pub failed : b.sound m old → b.honest new → b.shows old → IsErrOf result Disk → WasTold b old new
   pub settles : Settles m b old new
   pub kept : b.sound m old → b.honest new → b.shows old → OnOk result ((s : State) → b.may_leave m new s
       → (s ≡ b.content m new) ⊎ ((b.content m new ≡ b.content m old) × b.may_leave m old s))

@@ -3,7 +3,7 @@ use Rattle.std.specs.Prelude.{◌≡◌, ℕ, List, Result, OnOk, IfOk, IfErr, t
 use Rattle.dip_map.specs.Charts.{Chart}
 use Rattle.dip_desk_state.specs.Records.{Reply}
 use Rattle.dip_desk_state.specs.Faults.{faults_after_run}
-use Rattle.dip_desk.specs.Keeping.{Book, Ends, IsOpen}
+use Rattle.dip_desk.specs.Keeping.{Book, Ends, IsOpen, WasTold}
 use Rattle.dip_desk_machine.specs.Lawful.{IsLawful}
 use Rattle.dip_desk_machine.specs.Machine.{IsDamagedBy, Step}
 use Rattle.dip_desk_machine.specs.Mail.{Mail}
@@ -11,7 +11,7 @@ use Rattle.dip_desk_state.specs.State.{State}
 use Rattle.dip_desk_machine.specs.Published.{IsFair}
 use Rattle.dip_desk_machine.specs.View.{IsHistory, Turn}
 use Rattle.dip_desk_state.specs.declared.faults.KeepFault.{KeepFault}
-use Rattle.dip_desk_state.specs.declared.faults.KeepFault.TheVariants.{Damaged}
+use Rattle.dip_desk_state.specs.declared.faults.KeepFault.TheVariants.{Damaged, Disk}
 
 -- the replies are those of a history of the machine over the letters; each seat's view settles what it is told, and each movement that
 -- it publishes satisfies the decision equations for the orders that stood
@@ -32,6 +32,8 @@ pub record Runs {K X : Type 0} (m : Chart) (b : Book K) (old new : K) (letters :
       → IfErr result (λ e. e.1 ≡ Damaged → (n : ℕ) × (s : State) × Answers m (b.content m old) (take n letters) (say e.0) s
       × (it : Mail) × (slice_get letters n ≡ Some it) × IsDamagedBy m it s)
   pub never : b.sound m old → b.honest new → b.shows old → IsLawful m (b.content m old) → IfErr result (λ e. e.1 ≡ Damaged → ⊥)
+  -- Disk is told only where the store told of a fault
+  pub failed : b.sound m old → b.honest new → b.shows old → IfErr result (λ e. e.1 ≡ Disk → WasTold b old new)
   pub lawful : b.sound m old → b.shows new → IsLawful m (b.content m old) → IsLawful m (b.content m new)
   pub count : b.faults new ≡ faults_after_run result (b.faults old)
   -- an open keeper stays open, where all were answered

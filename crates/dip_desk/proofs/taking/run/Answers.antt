@@ -7,7 +7,7 @@ use Rattle.dip_desk.specs.Running.{Answers}
 use Rattle.dip_desk_state.specs.State.{State}
 use Rattle.dip_desk_state.specs.declared.faults.KeepFault.{KeepFault}
 use Rattle.dip_desk_state.specs.Rows as rows
-use Rattle.dip_desk.proofs.Keepings.{keeps_as, keeps_then}
+use Rattle.dip_desk.proofs.Keepings.{keeps_as, keeps_then, told_late}
 use Rattle.dip_desk.proofs.Ending.{ends_late, ends_open, said_at, steps_end, steps_on}
 use Rattle.dip_desk_machine.proofs.Histories.{history_more, map_more, said_each, taken_more}
 use Rattle.dip_desk_machine.proofs.Publishing.{fair}
@@ -48,6 +48,7 @@ returns-in-Err g c =
       undone = λ sound shows. (0, ([], record { run = refl; asked = refl; answered = sym none }, fair m (c.published_movements_are_decided.ensures m) (b.content m c.args.keeper.now) (b.content m c.args.keeper.now) [] refl));
       damaged = λ sound honest shows bad. absurd (cc);
       never = λ sound honest shows lawful bad. absurd (cc);
+      failed = λ sound honest shows bad. absurd (cc);
       lawful = λ sound shows lawful. lawful;
       count = refl;
       stays_open = λ it honest. tt;
@@ -94,6 +95,10 @@ returns-in-Err-take g c =
           let fair_mid = took.keeps.fair honest in
           let open_mid = kept.stays_open sound fair_mid shows in
           c.lawful_states_stay_lawful.ensures.sane _ n _ (said_each IsMail (λ l. mail l) c.args.letters.now c.loop-letter.letter-index _ (omega arith) c.requires.letters) (c.loop-letter.invariant.lawful sound open_mid lawful) (took.damaged (kept.firm sound fair_mid) honest open_mid (ap (λ (e : KeepFault). Err e) bad));
+      failed = λ sound honest shows bad.
+          let fair_mid = took.keeps.fair honest in
+          told_late b c.args.keeper.now c.loop-letter.keeper c.take.new.keeper kept.told kept.of_size
+          (took.failed (kept.firm sound fair_mid) honest (kept.stays_open sound fair_mid shows) (ap (λ (e : KeepFault). Err e) bad));
       lawful = λ sound shows lawful.
           let before = took.keeps.shown shows in
           subst (IsLawful m) (sym (took.undone (kept.sound sound before) shows)) (c.loop-letter.invariant.lawful sound before lawful);
@@ -127,6 +132,7 @@ returns g c =
       undone = λ sound shows. tt;
       damaged = λ sound honest shows. tt;
       never = λ sound honest shows lawful. tt;
+      failed = λ sound honest shows. tt;
       lawful = λ sound shows lawful. c.loop-letter.invariant.lawful sound shows lawful;
       count = c.loop-letter.invariant.keeps.count;
       stays_open = λ it honest. c.loop-letter.invariant.goes it honest;

@@ -3,7 +3,7 @@ ghost use Rattle.std.specs.Prelude.{◌≡◌, ◌<◌, ◌≤◌, ◌⊎◌, �
 ghost use Rattle.std.specs.List.{flat_map};
 ghost use Rattle.std.specs.Io.KnownBytes.{Appends};
 ghost use Rattle.dip_letters.specs.Input.{IsNext};
-ghost use Rattle.dip_desk.specs.Keeping.{Ends, IsOpen};
+ghost use Rattle.dip_desk.specs.Keeping.{Ends, IsOpen, WasTold};
 ghost use Rattle.dip_desk_machine.specs.Lawful.{IsLawful};
 ghost use Rattle.dip_reports.specs.Texts.{reply_text};
 ghost use Rattle.dip_desk_state.specs.Rows as rows;
@@ -162,6 +162,8 @@ fn step<'a, K: Keeper>(
     ensures never { IsOpen map.now K.book keeper.old → K.book.honest keeper.new
         → IsLawful map.now (K.book.content map.now keeper.old)
         → IsErrOf result (RunFault.Keep KeepFault.Damaged) → ⊥ }
+    ensures failed { IsOpen map.now K.book keeper.old → K.book.honest keeper.new
+        → IsErrOf result (RunFault.Keep KeepFault.Disk) → WasTold K.book keeper.old keeper.new }
     ensures goes { IsOpen map.now K.book keeper.old → K.book.honest keeper.new
         → OnOk result (IsOpen map.now K.book keeper.new) }
     ensures ends { IsOpen map.now K.book keeper.old → K.book.honest keeper.new → OnErr result
@@ -169,6 +171,7 @@ fn step<'a, K: Keeper>(
         (TakesNext map.now input.entry.now (K.book.content map.now keeper.old))) }
     ensures fair { K.book.honest keeper.new → K.book.honest keeper.old }
     ensures told { K.book.told keeper.old ≤ K.book.told keeper.new }
+    ensures of_size { K.book.of_size keeper.old ≤ K.book.of_size keeper.new }
     ensures none { IfOk result
         (λ o. IfNone o (IsNext input.entry.now Next.End × (keeper.new ≡ keeper.old))) }
     ensures fault { IfErr result IsTakingFault }
@@ -211,6 +214,8 @@ fn answer_all<W: Write, K: Keeper>(
     ensures never { IsOpen map.now K.book keeper.old → K.book.honest keeper.new
         → IsLawful map.now (K.book.content map.now keeper.old)
         → IsErrOf result (RunFault.Keep KeepFault.Damaged) → ⊥ }
+    ensures failed { IsOpen map.now K.book keeper.old → K.book.honest keeper.new
+        → IsErrOf result (RunFault.Keep KeepFault.Disk) → WasTold K.book keeper.old keeper.new }
     ensures goes { IsOpen map.now K.book keeper.old → K.book.honest keeper.new
         → OnOk result (IsOpen map.now K.book keeper.new) }
     ensures ends { IsOpen map.now K.book keeper.old → K.book.honest keeper.new
@@ -273,6 +278,9 @@ pub fn run_file<R: Read, W: Write, K: Keeper>(
     ensures never { IsOpen map.now K.book keeper.old → K.book.honest keeper.new
         → IsLawful map.now (K.book.content map.now keeper.old)
         → IsErrOf result (RunFault.Keep KeepFault.Damaged) → ⊥ }
+    // The disk is told of only where the store told of a fault.
+    ensures failed { IsOpen map.now K.book keeper.old → K.book.honest keeper.new
+        → IsErrOf result (RunFault.Keep KeepFault.Disk) → WasTold K.book keeper.old keeper.new }
     ensures count { K.book.faults keeper.new ≡ faults_after_run result (K.book.faults keeper.old) }
     ensures fair { K.book.honest keeper.new → K.book.honest keeper.old }
     ensures shown { K.book.shows keeper.new → K.book.shows keeper.old }

@@ -1,7 +1,11 @@
-use Rattle.std.proofs.Common.{rules, arith, refl, ◌++◌, ◌∷◌, [], ◌∙◌}
+use Rattle.std.proofs.Common.{◌≡◌, Err, ap, rules, arith, refl, ◌++◌, ◌∷◌, [], ◌∙◌}
 use Rattle.dip_desk_state.specs.Rows as rows
 use Rattle.dip_desk.proofs.Ending.{ends_late, ends_open}
+use Rattle.dip_desk.proofs.Keepings.{told_late}
 use Rattle.std.proofs.lemmas.Result.{err_from_is_err_and}
+use Rattle.dip_desk_state.specs.declared.faults.KeepFault.TheVariants.{Disk}
+use Rattle.dip_judge_runs.specs.declared.run.RunFault.{RunFault}
+use Rattle.dip_judge_runs.specs.declared.run.RunFault.TheVariants.{Keep}
 use Rattle.dip_judge_runs.proofs.TurnLemmas.{front_more, front_of, stopped_before, stops_before, stops_in_write, written_more}
 use Rattle.dip_judge_runs.proofs.run.answer_all.Goals as goal
 
@@ -13,6 +17,7 @@ letters-preserved g c = record {
   sound = λ sound shows. c.step.ensures.sound (c.letters.invariant.sound sound (c.step.ensures.shown shows)) shows;
   goes = λ it honest. c.in_ok-step.ensures.goes (c.letters.invariant.goes it (c.step.ensures.fair honest)) honest;
   told = omega (arith, c.letters.invariant.told, c.step.ensures.told);
+  of_size = omega (arith, c.letters.invariant.of_size, c.step.ensures.of_size);
   lawful = λ sound shows lawful. let before = c.step.ensures.shown shows in c.step.ensures.lawful (c.letters.invariant.sound sound before) shows (c.letters.invariant.lawful sound before lawful);
   so_far = λ sound shows.
       let before = c.step.ensures.shown shows in
@@ -50,6 +55,7 @@ letters-init g c = record {
   sound = λ sound shows. sound;
   goes = λ it honest. it;
   told = omega arith;
+  of_size = omega arith;
   lawful = λ sound shows lawful. lawful;
   so_far = λ sound shows. ([], front_of c.args.map.now (c.published_movements_are_decided.ensures c.args.map.now) c.args.input.now _, search rules);
 }
@@ -79,3 +85,12 @@ returns-in_err-write_reply-in-Some-clause-ends g c = λ it honest.
       stops = stops_in_write m (c.published_movements_are_decided.ensures m) c.args.input.now _ so_far.0 _ c.letters.rest.now (rows.reply c.in-Some.reply) _ c.in-Some.after.now _ _ _ part.0 so_far.1 turn so_far.2 part.1;
       ends = ends_open m b c.args.keeper.now c.step.new.keeper _ after;
     }
+
+pub returns-in_err-step-clause-failed : goal.returns-in_err-step-clause-failed
+returns-in_err-step-clause-failed g c = λ it honest.
+    let b = g.K.Keeper.book in
+    let on = c.letters.invariant.goes it (c.step.ensures.fair honest) in
+    let p = err_from_is_err_and c.from_residual.result c.from_residual.ensures.1 in
+    rw (p.1, p.2) (λ disk.
+    let same : c.in_err-step.field-0.0 ≡ Keep Disk = cc in
+    told_late b c.args.keeper.now c.letters.keeper c.step.new.keeper c.letters.invariant.told c.letters.invariant.of_size (c.in_err-step.ensures.failed on honest (ap (λ (f : RunFault). Err f) same)))

@@ -16,6 +16,7 @@ invariant-letters g l = let b = g.K.Keeper.book in record {
   sound : b.sound l.fn.map l.fn.keeper → b.shows l.keeper → b.sound l.fn.map l.keeper;
   goes : IsOpen l.fn.map b l.fn.keeper → b.honest l.keeper → IsOpen l.fn.map b l.keeper;
   told : b.told l.fn.keeper ≤ b.told l.keeper;
+  of_size : b.of_size l.fn.keeper ≤ b.of_size l.keeper;
   lawful : b.sound l.fn.map l.fn.keeper → b.shows l.keeper → IsLawful l.fn.map (b.content l.fn.map l.fn.keeper) → IsLawful l.fn.map (b.content l.fn.map l.keeper);
   so_far : b.sound l.fn.map l.fn.keeper → b.shows l.keeper → (replies : List Reply)
       × AnswersFront l.fn.map l.fn.input (b.content l.fn.map l.fn.keeper) (b.content l.fn.map l.keeper) replies l.rest

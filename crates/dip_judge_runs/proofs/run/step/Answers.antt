@@ -4,7 +4,7 @@ use Rattle.dip_letters.specs.declared.letters.Next.TheVariants.{Taken}
 use Rattle.dip_desk_state.specs.Rows as rows
 use Rattle.dip_desk_machine.specs.Mail.{mail}
 use Rattle.dip_desk_state.specs.declared.faults.KeepFault.{KeepFault}
-use Rattle.dip_desk_state.specs.declared.faults.KeepFault.TheVariants.{Damaged}
+use Rattle.dip_desk_state.specs.declared.faults.KeepFault.TheVariants.{Damaged, Disk}
 use Rattle.dip_judge_runs.proofs.run.step.Goals as goal
 
 pub returns-in-Ok-take-clause-lawful : goal.returns-in-Ok-take-clause-lawful
@@ -15,6 +15,11 @@ returns-in-Err-take-clause-never g c it honest lawful damaged =
     let same : c.in-Err-take.fault ≡ Damaged = cc in
     c.lawful_states_stay_lawful.ensures.sane _ (mail c.in-Taken.letter) _ c.in-Taken.ensures.next.0.fits lawful
     (c.in-Err-take.ensures.damaged it.sound honest it.shows (ap (λ (e : KeepFault). Err e) same))
+
+pub returns-in-Err-take-clause-failed : goal.returns-in-Err-take-clause-failed
+returns-in-Err-take-clause-failed g c it honest disk =
+    let same : c.in-Err-take.fault ≡ Disk = cc in
+    c.in-Err-take.ensures.failed it.sound honest it.shows (ap (λ (e : KeepFault). Err e) same)
 
 pub returns-in-Ok-take-clause-goes : goal.returns-in-Ok-take-clause-goes
 returns-in-Ok-take-clause-goes g c it honest =

@@ -1,13 +1,14 @@
 -- What a connection leaves of a keeper, by what the keeper's calls leave.
-use Rattle.std.proofs.Common.{◌≡◌, ◌⊎◌, inl, inr, ℕ, Bool, List, Option, Result, Ok, Err, refl, sym, subst, ◌∙◌, arith}
-use Rattle.std.specs.Prelude.{IfErr, OnOk}
+use Rattle.std.proofs.Common.{◌≡◌, ◌⊎◌, inl, inr, ℕ, Bool, List, Option, Result, Ok, Err, refl, sym, ap, subst, ◌∙◌, arith}
+use Rattle.std.specs.Prelude.{IfErr, IsErrOf, OnOk}
 use Rattle.dip_map.specs.Charts.{Chart}
-use Rattle.dip_desk.specs.Keeping.{Book, IsOpen, Looks, Settles, Steps}
+use Rattle.dip_desk.specs.Keeping.{Book, IsOpen, Looks, Settles, Steps, WasTold}
 use Rattle.dip_desk.specs.Keeping as desk
 use Rattle.dip_desk.proofs.Ending.{ends_open}
 use Rattle.dip_desk.proofs.Keepings.{look_alone}
 use Rattle.dip_desk_state.specs.State.{State}
 use Rattle.dip_desk_state.specs.declared.faults.KeepFault.{KeepFault}
+use Rattle.dip_desk_state.specs.declared.faults.KeepFault.TheVariants.{Disk}
 use Rattle.dip_http.specs.Ends.{Answered, EndsAt, EndsBy, EndsQuietly, Keeps, MayTake, TakesPost, Tells}
 use Rattle.dip_http.specs.Faults.{OnKept, OnUnkept, faults_after_answer}
 use Rattle.dip_http.specs.declared.faults.HttpFault.{HttpFault}
@@ -76,18 +77,28 @@ same_count (Err Write) n is = refl
 same_count (Err Memory) n is = refl
 same_count (Err (Keep f)) n is = absurd is
 
+-- an answer that is no fault of the keeper tells of no disk
+no_disk : {X : Type 0} (r : Result X HttpFault) → IsKept r → IsErrOf r (Keep Disk) → ⊥
+no_disk (Ok x) is bad = absurd (cc)
+no_disk (Err Read) is bad = absurd (cc)
+no_disk (Err Write) is bad = absurd (cc)
+no_disk (Err Memory) is bad = absurd (cc)
+no_disk (Err (Keep f)) is bad = absurd is
+
 module _ {K : Type 0} (m : Chart) (b : Book K) where
   -- a keeper that isn't asked
   pub keeps_unasked : {X : Type 0} (k : K) (r : Result X HttpFault) → IsKept r → Keeps m b k k r
   keeps_unasked k r is = record {
     count = same_count r (b.faults k) is;
     told = omega arith;
+    of_size = omega arith;
     fair = λ honest. honest;
     shown = λ shows. shows;
     sound = λ sound shows. sound;
     firm = λ sound honest. on_kept r (b.sound m k) sound;
     stays_open = λ sound honest shows. on_kept r (b.shows k) shows;
     shuts = λ honest shows. inl shows;
+    failed = λ sound honest shows bad. absurd (no_disk r is bad);
     settles = λ sound honest shows alone. alone;
     again = λ sound honest shows takes. takes;
   }
@@ -105,27 +116,32 @@ module _ {K : Type 0} (m : Chart) (b : Book K) where
     answered y r is k settles = record {
       count = k.count ∙ same_count r (b.faults old) is;
       told = k.told;
+      of_size = k.of_size;
       fair = k.fair;
       shown = k.shown;
       sound = k.sound;
       firm = λ sound honest. on_kept r (b.sound m new) (k.firm sound honest);
       stays_open = λ sound honest shows. on_kept r (b.shows new) (k.stays_open sound honest shows);
       shuts = k.shuts;
+      failed = λ sound honest shows bad. absurd (no_disk r is bad);
       settles = settles;
       again = k.again;
     }
 
     -- and one that it gave no answer to
-    unanswered : {X Y : Type 0} (f : KeepFault) (h : HttpFault) → h ≡ Keep f → desk.Keeps {X = Y} m b old new (Err f) → Settles m b old new → Keeps {X = X} m b old new (Err h)
-    unanswered {X} f h is k settles = subst (λ (g : HttpFault). Keeps {X = X} m b old new (Err g)) (sym is) record {
+    unanswered : {X Y : Type 0} (f : KeepFault) (h : HttpFault) → h ≡ Keep f → desk.Keeps {X = Y} m b old new (Err f)
+        → (b.sound m old → b.honest new → b.shows old → f ≡ Disk → WasTold b old new) → Settles m b old new → Keeps {X = X} m b old new (Err h)
+    unanswered {X} f h is k told settles = subst (λ (g : HttpFault). Keeps {X = X} m b old new (Err g)) (sym is) record {
       count = k.count;
       told = k.told;
+      of_size = k.of_size;
       fair = k.fair;
       shown = k.shown;
       sound = k.sound;
       firm = λ sound honest. tt;
       stays_open = λ sound honest shows. tt;
       shuts = k.shuts;
+      failed = λ sound honest shows bad. let same : f ≡ Disk = cc in told sound honest shows same;
       settles = settles;
       again = k.again;
     }
@@ -144,7 +160,7 @@ module _ {K : Type 0} (m : Chart) (b : Book K) where
     look_answered Value Damage y r is look = answered y r is look.keeps (look_alone m b old new Value Damage (Ok y) look)
 
     pub look_unanswered : {X Y : Type 0} (Value : Y → Type 0) (Damage : Type 0) (f : KeepFault) (h : HttpFault) → h ≡ Keep f → Looks m b old new Value Damage (Err f) → Keeps {X = X} m b old new (Err h)
-    look_unanswered Value Damage f h is look = unanswered f h is look.keeps (look_alone m b old new Value Damage (Err f) look)
+    look_unanswered Value Damage f h is look = unanswered f h is look.keeps (λ sound honest shows same. inl (look.failed sound honest shows (ap (λ (f : KeepFault). Err f) same))) (look_alone m b old new Value Damage (Err f) look)
 
     pub step_answered : {X Y R : Type 0} (say : Y → R) (Step : State → R → State → Type 0) (Damage : State → Type 0) (y : Y) (r : Result X HttpFault) → IsKept r
         → Steps m b old new say Step Damage (Ok y) → Keeps m b old new r
@@ -152,7 +168,7 @@ module _ {K : Type 0} (m : Chart) (b : Book K) where
 
     pub step_unanswered : {X Y R : Type 0} (say : Y → R) (Step : State → R → State → Type 0) (Damage : State → Type 0) (f : KeepFault) (h : HttpFault) → h ≡ Keep f
         → Steps m b old new say Step Damage (Err f) → Keeps {X = X} m b old new (Err h)
-    step_unanswered say Step Damage f h is step = unanswered f h is step.keeps step.settles
+    step_unanswered say Step Damage f h is step = unanswered f h is step.keeps (λ sound honest shows same. step.failed sound honest shows (ap (λ (f : KeepFault). Err f) same)) step.settles
 
     -- what still shows is open
     open_still : {X : Type 0} (r : Result X HttpFault) → Keeps m b old new r → IsOpen m b old → b.honest new → b.shows new → IsOpen m b new

@@ -69,6 +69,7 @@ impl Keeper for Failing {
       again = λ m k. Unit {0};
       faults = λ k. k.told;
       told = λ k. k.told;
+      of_size = λ _. 0;
       honest = λ _. Unit {0};
       shows = λ _. Unit {0};
       sound = λ m k. Unit {0};

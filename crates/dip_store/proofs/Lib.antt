@@ -1,6 +1,7 @@
 pub mod Alone
 pub mod Prepared
 pub mod Leading
+pub mod Trying
 pub mod Listed
 pub mod Quiet
 pub mod LastMade

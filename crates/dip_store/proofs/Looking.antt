@@ -1,5 +1,5 @@
 -- A look at the rows is a look of their keeper.
-use Rattle.std.proofs.Common.{◌≡◌, ◌+◌, ℕ, Result, refl, sym, ap, subst}
+use Rattle.std.proofs.Common.{◌≡◌, ◌+◌, ℕ, Result, arith, refl, sym, ap, subst}
 use Rattle.sqlite.specs.Effect.{Database}
 use Rattle.sqlite.specs.Store.{Ghosts}
 use Rattle.sqlite.specs.Held.{Held, state}
@@ -42,6 +42,7 @@ module _ {S : Type 0} (g : Ghosts S) (m : Chart) (k : SqlKeeper S) (c : Held S) 
     keeps = record {
       count = refl;
       told = p.counts;
+      of_size = omega arith;
       fair = p.fair;
       shown = p.shown;
       sound = sound_on (went X E x) p;
@@ -64,6 +65,7 @@ module _ {S : Type 0} (g : Ghosts S) (m : Chart) (k : SqlKeeper S) (c : Held S) 
     keeps = record {
       count = count;
       told = p.counts;
+      of_size = omega arith;
       fair = p.fair;
       shown = p.shown;
       sound = sound_on (fails Y E e) p;

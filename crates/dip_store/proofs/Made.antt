@@ -1,12 +1,13 @@
 -- A change of the rows is the change of their keeper.
-use Rattle.std.proofs.Common.{◌≡◌, ◌⊎◌, IsTrue, arith, inl, inr, ◌+◌, ℕ, refl, sym, ap, subst, ◌∙◌}
+use Rattle.std.proofs.Common.{◌≡◌, ◌≤◌, ◌⊎◌, ◌-◌, ◌^◌, Bool, true, false, nat_lt, IsTrue, arith, inl, inr, ◌+◌, ℕ, refl, sym, ap, subst, ◌∙◌}
+use Rattle.std.proofs.lemmas.Bool.{cases_Bool, ltb-false}
 use Rattle.sqlite.specs.Effect.{Database}
 use Rattle.sqlite.specs.Tree.{Trees}
 use Rattle.sqlite.specs.Store.{Ghosts}
 use Rattle.sqlite.specs.Held.{Held, state}
 use Rattle.dip_map.specs.Charts.{Chart}
 use Rattle.dip_desk.specs.Fitting.{Fits}
-use Rattle.dip_desk.specs.Keeping.{Changes}
+use Rattle.dip_desk.specs.Keeping.{Changes, Rises}
 use Rattle.dip_store.specs.Laws.{FindsPlaceInTables, FitsIsWritable, WhatFitsFindsPlace}
 use Rattle.dip_store_tables.specs.LegibleLaws.{TablesStayLegible}
 use Rattle.dip_store_tables.specs.Legible.{AreLegible, AreOurs}
@@ -27,14 +28,33 @@ use Rattle.dip_store_sql.specs.Causes.{has_faulted}
 use Rattle.dip_store_sql.specs.Good.{IsGood}
 use Rattle.dip_store_sql.specs.Rows.{tables_of}
 use Rattle.dip_store_sql.proofs.Parts.{fails, went}
-use Rattle.dip_store_changes.specs.Failing.{FailsFor, HasPlace, MayMake}
+use Rattle.dip_store_changes.specs.Failing.{BlamesFor, FailsFor, HasPlace, MayMake}
 use Rattle.dip_store_changes.specs.Laws.{ChangesAreMade, IsMade}
 use Rattle.dip_store_changes.specs.Making.{Makes}
 use Rattle.dip_store_changes.specs.declared.faults.MakeFault.{MakeFault}
-use Rattle.dip_store.specs.Faults.{make_fault}
-use Rattle.dip_store.specs.Stored.{AreStored, book, said_by, telling}
+use Rattle.dip_store.specs.Faults.{is_of_size, make_fault}
+use Rattle.dip_store.specs.Stored.{AreStored, book, said_by, sized, sizing, telling}
 use Rattle.dip_store.specs.declared.keeper.SqlKeeper.{SqlKeeper}
-use Rattle.dip_store.proofs.Outside.{make_outside}
+use Rattle.dip_store.proofs.Outside.{make_caused, make_outside}
+
+-- a count of faults of size doesn't fall, and where it counts one it rises
+size_counts : (b : Bool) (n : ℕ) → n ≤ sized b n
+size_counts false n = omega arith
+size_counts true n = elim (cases_Bool (nat_lt n (2 ^ 64 - 1))) [
+  | inl less ↦ rw less (omega arith)
+  | inr most ↦ rw most (omega arith)
+]
+
+size_rises : (n : ℕ) → Rises n (sized true n)
+size_rises n = elim (cases_Bool (nat_lt n (2 ^ 64 - 1))) [
+  | inl less ↦ rw less (omega arith)
+  | inr most ↦ let full = ltb-false n (2 ^ 64 - 1) most in rw most (omega (arith, full))
+]
+
+size_rose : (fault : Type 0) (b : Bool) (n : ℕ) → fault ⊎ (b ≡ true) → fault ⊎ Rises n (sized b n)
+size_rose fault b n (inl was) = inl was
+size_rose fault true n (inr is) = inr (size_rises n)
+size_rose fault false n (inr is) = absurd (let x = is in cc)
 
 module _ {S : Type 0} (g : Ghosts S) (m : Chart) (k : SqlKeeper S) (c : Change) where
   -- while a store is open, a crash leaves its last commit
@@ -78,6 +98,7 @@ module _ {S : Type 0} (g : Ghosts S) (m : Chart) (k : SqlKeeper S) (c : Change) 
       keeps = record {
         count = refl;
         told = p.counts;
+        of_size = omega arith;
         fair = p.fair;
         shown = p.shown;
         sound = sound;
@@ -91,6 +112,7 @@ module _ {S : Type 0} (g : Ghosts S) (m : Chart) (k : SqlKeeper S) (c : Change) 
       done = λ kept shows. let is = p.done kept.0 shows in said kept is.0.good is.1;
       undone = λ kept shows. tt;
       fitting = λ kept clean shows fit is. absurd (cc);
+      failed = λ kept clean shows is. absurd (cc);
       settles = λ kept clean shows alone s may. may.2 ∙ ap (said_by m) (p.kept kept.0 clean may.0 may.1);
       kept = λ kept clean s may. may.2 ∙ ap (said_by m) (p.kept kept.0 clean may.0 may.1);
       left = λ kept clean. tt;
@@ -117,13 +139,15 @@ module _ {S : Type 0} (g : Ghosts S) (m : Chart) (k : SqlKeeper S) (c : Change) 
           },
         )
 
-    changes_told : (X Y E : Type 0) (e : E) (f : KeepFault) (n : ℕ) → HasTexts c → TablesStayLegible m → TablesStayCounted m → LandsWell → Settled → Makes g (changing m c) k.conn new (fails Y E e) → n ≡ faults_with f k.failures
+    changes_told : (X Y E : Type 0) (e : E) (f : KeepFault) (n z : ℕ) → HasTexts c → TablesStayLegible m → TablesStayCounted m → LandsWell → Settled → Makes g (changing m c) k.conn new (fails Y E e) → n ≡ faults_with f k.failures → k.of_size ≤ z
         → (Keeps → is_honest g new → does_show g k.conn → Fits m c (said_by m (state g k.conn).now.trees) → f ≡ Damaged → ⊥)
-        → Changes m (book g) k (record k { conn = new; failures = n }) (state_after c) (Fits m c) (fails X KeepFault f)
-    changes_told X Y E e f n texts legible counted lands_well settled p count never = record {
+        → (Keeps → is_honest g new → does_show g k.conn → f ≡ Disk → has_faulted g k.conn new ⊎ Rises k.of_size z)
+        → Changes m (book g) k (record k { conn = new; failures = n; of_size = z }) (state_after c) (Fits m c) (fails X KeepFault f)
+    changes_told X Y E e f n z texts legible counted lands_well settled p count sizes never caused = record {
       keeps = record {
         count = count;
         told = p.counts;
+        of_size = sizes;
         fair = p.fair;
         shown = p.shown;
         sound = λ kept shows. let is = p.undone kept.0 shows in (is.0, subst (λ (d : Database). AreOurs m (tables_of d.trees)) (sym is.1) kept.1);
@@ -141,6 +165,7 @@ module _ {S : Type 0} (g : Ghosts S) (m : Chart) (k : SqlKeeper S) (c : Change) 
       done = λ kept shows. tt;
       undone = λ kept shows. ap (λ (d : Database). said_by m d.trees) (p.undone kept.0 shows).1;
       fitting = λ kept clean shows fit is. let same : f ≡ Damaged = cc in never kept clean shows fit same;
+      failed = λ kept clean shows is. let same : f ≡ Disk = cc in caused kept clean shows same;
       settles = λ kept clean shows alone s may. may.2 ∙ ap (said_by m) (settled new.store may.0 shows.1 may.1 ∙ ap (λ (d : Database). d.trees) (sym (p.undone kept.0 shows).0.settled));
       kept = λ kept clean. tt;
       left = λ kept clean s may. elim (p.left kept.0 clean may.0 may.1) [
@@ -149,20 +174,28 @@ module _ {S : Type 0} (g : Ghosts S) (m : Chart) (k : SqlKeeper S) (c : Change) 
       ];
     }
 
-    changes_counted : (X Y E : Type 0) (e : E) (f : KeepFault) → HasTexts c → TablesStayLegible m → TablesStayCounted m → LandsWell → Settled → Makes g (changing m c) k.conn new (fails Y E e)
+    changes_counted : (X Y E : Type 0) (e : E) (f : KeepFault) (b : Bool) → HasTexts c → TablesStayLegible m → TablesStayCounted m → LandsWell → Settled → Makes g (changing m c) k.conn new (fails Y E e)
         → (Keeps → is_honest g new → does_show g k.conn → Fits m c (said_by m (state g k.conn).now.trees) → f ≡ Damaged → ⊥)
-        → Changes m (book g) k (telling f (record k { conn = new })) (state_after c) (Fits m c) (fails X KeepFault f)
-    changes_counted X Y E e Memory texts legible counted lands settled p never = changes_told X Y E e Memory k.failures texts legible counted lands settled p refl never
-    changes_counted X Y E e Disk texts legible counted lands settled p never = changes_told X Y E e Disk (k.failures + 1) texts legible counted lands settled p refl never
-    changes_counted X Y E e Damaged texts legible counted lands settled p never = changes_told X Y E e Damaged k.failures texts legible counted lands settled p refl never
+        → (Keeps → is_honest g new → does_show g k.conn → f ≡ Disk → has_faulted g k.conn new ⊎ (b ≡ true))
+        → Changes m (book g) k (telling f (sizing b (record k { conn = new }))) (state_after c) (Fits m c) (fails X KeepFault f)
+    changes_counted X Y E e f b texts legible counted lands settled p never caused = by f never (λ kept clean shows is. size_rose (has_faulted g k.conn new) b k.of_size (caused kept clean shows is))
+      where
+        by : (f : KeepFault) → (Keeps → is_honest g new → does_show g k.conn → Fits m c (said_by m (state g k.conn).now.trees) → f ≡ Damaged → ⊥)
+            → (Keeps → is_honest g new → does_show g k.conn → f ≡ Disk → has_faulted g k.conn new ⊎ Rises k.of_size (sized b k.of_size))
+            → Changes m (book g) k (telling f (sizing b (record k { conn = new }))) (state_after c) (Fits m c) (fails X KeepFault f)
+        by Memory never rose = changes_told X Y E e Memory k.failures (sized b k.of_size) texts legible counted lands settled p refl (size_counts b k.of_size) never rose
+        by Disk never rose = changes_told X Y E e Disk (k.failures + 1) (sized b k.of_size) texts legible counted lands settled p refl (size_counts b k.of_size) never rose
+        by Damaged never rose = changes_told X Y E e Damaged k.failures (sized b k.of_size) texts legible counted lands settled p refl (size_counts b k.of_size) never rose
 
-    -- a change that fits isn't made for want alone
+    -- a change that fits isn't made for want alone, and of any change the disk is told of only where the store told of a fault
     pub changes_ill : (X Y : Type 0) (e : MakeFault) → HasTexts c → TablesStayLegible m → TablesStayCounted m → LandsWell → Settled → WhatFitsFindsPlace m → Makes g (changing m c) k.conn new (fails Y MakeFault e)
         → (IsKept g k.conn → does_show g k.conn → is_honest g new → MayMake m c (tables_in g k.conn) → FailsFor (has_faulted g k.conn new) (HasPlace m c (tables_in g k.conn) → ⊥) e)
-        → Changes m (book g) k (telling (make_fault e) (record k { conn = new })) (state_after c) (Fits m c) (fails X KeepFault (make_fault e))
-    changes_ill X Y e texts legible counted lands settled finds p why = changes_counted X Y MakeFault e (make_fault e) texts legible counted lands settled p (λ kept clean shows fit.
+        → (IsKept g k.conn → does_show g k.conn → is_honest g new → AreOurs m (tables_in g k.conn) → BlamesFor (has_faulted g k.conn new) e)
+        → Changes m (book g) k (telling (make_fault e) (sizing (is_of_size e) (record k { conn = new }))) (state_after c) (Fits m c) (fails X KeepFault (make_fault e))
+    changes_ill X Y e texts legible counted lands settled finds p why blames = changes_counted X Y MakeFault e (make_fault e) (is_of_size e) texts legible counted lands settled p (λ kept clean shows fit.
         let place = placed kept fit in
         make_outside (has_faulted g k.conn new) (HasPlace m c (tables_in g k.conn) → ⊥) e (why kept.0 shows clean (record { ours = kept.1; keyed = place.keyed })) (λ none. none (record { paper = place.paper; room = place.room })))
+        (λ kept clean shows. make_caused (has_faulted g k.conn new) e (blames kept.0 shows clean kept.1))
       where
         placed : (kept : Keeps) → Fits m c (said_by m (state g k.conn).now.trees) → FindsPlaceInTables m c (tables_in g k.conn)
         placed kept fit = finds c (tables_in g k.conn) kept.1.map kept.1.coded kept.0.counted (are_keyed (state g k.conn).now kept.0.good) fit
@@ -173,6 +206,7 @@ module _ {S : Type 0} (g : Ghosts S) (m : Chart) (k : SqlKeeper S) (c : Change) 
     keeps = record {
       count = refl;
       told = omega arith;
+      of_size = omega arith;
       fair = λ clean. clean;
       shown = λ shows. shows;
       sound = λ kept shows. kept;
@@ -184,6 +218,7 @@ module _ {S : Type 0} (g : Ghosts S) (m : Chart) (k : SqlKeeper S) (c : Change) 
     done = λ kept shows. tt;
     undone = λ kept shows. refl;
     fitting = λ kept clean shows fit is. off (writable c _ fit);
+    failed = λ kept clean shows is. absurd (cc);
     settles = λ kept clean shows alone. alone;
     kept = λ kept clean. tt;
     left = λ kept clean s may. inl may;

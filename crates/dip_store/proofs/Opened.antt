@@ -57,7 +57,7 @@ module _ {S : Type 0} (g : Ghosts S) (m : Chart) (alloc : Global) (conn : Held S
     (last : IsTrue (state g conn).is_open → (db : Trees) → (state g conn).may_leave db → db ≡ (state g conn).committed.trees) where
   -- a keeper of kept rows
   opens_kept : (s : State) → IsKept g conn → AreOurs m (tables_in g conn) → said_by m (state g conn).now.trees ≡ s → does_show g conn
-      → Opens g m s (record { alloc = alloc; conn = conn; failures = 0 })
+      → Opens g m s (record { alloc = alloc; conn = conn; failures = 0; of_size = 0 })
   opens_kept s kept ours says shows = record {
     none = refl;
     shows = shows;
@@ -71,16 +71,16 @@ module _ {S : Type 0} (g : Ghosts S) (m : Chart) (alloc : Global) (conn : Held S
       there_now kept shows db may = last shows.1 db may ∙ ap (λ (d : Database). d.trees) (sym kept.settled)
 
   pub opens_new : (map_sum digest : List ℕ) → IsMap m → NewTablesAreNew m → NewTablesAreLegible → length digest ≡ 32 → Keeps g conn (new_tables map_sum digest) → does_show g conn
-      → Opens g m (record { desk = record { digest = digest; kept = None }; games = [] }) (record { alloc = alloc; conn = conn; failures = 0 })
+      → Opens g m (record { desk = record { digest = digest; kept = None }; games = [] }) (record { alloc = alloc; conn = conn; failures = 0; of_size = 0 })
   opens_new map_sum digest map law legible long it shows =
       let new = law map_sum digest in
       let ours : AreOurs m (new_tables map_sum digest) = record { map = map; coded = new.coded; written = new.written long; legible = legible map_sum digest } in
       opens_kept _ it.kept (subst (AreOurs m) (sym it.tables) ours) (ap (state_of m) it.tables ∙ new.says) shows
 
   pub opens_old : (store : Held S) (own : IsStore m (state g store).now) (X E : Type 0) (x : X) (h : Held S) → h ≡ before g m store own → (r : Bool) → Idle g m store own h r → Selects g h conn (went X E x) → is_honest g conn
-      → Opens g m (said_by m (state g store).now.trees) (record { alloc = alloc; conn = conn; failures = 0 })
+      → Opens g m (said_by m (state g store).now.trees) (record { alloc = alloc; conn = conn; failures = 0; of_size = 0 })
   opens_old store own X E x h is =
-      subst (λ (h : Held S). (r : Bool) → Idle g m store own h r → Selects g h conn (went X E x) → is_honest g conn → Opens g m (said_by m (state g store).now.trees) (record { alloc = alloc; conn = conn; failures = 0 }))
+      subst (λ (h : Held S). (r : Bool) → Idle g m store own h r → Selects g h conn (went X E x) → is_honest g conn → Opens g m (said_by m (state g store).now.trees) (record { alloc = alloc; conn = conn; failures = 0; of_size = 0 }))
       (sym is)
       (λ r idle p clean.
       let kept = kept_before g m store own r idle in

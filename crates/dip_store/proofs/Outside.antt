@@ -1,21 +1,21 @@
 -- Want of memory, of room, and faults of the disk are never told as Damaged.
-use Rattle.std.proofs.Common.{◌≡◌, IsTrue, false, true, inl, inr, refl, ap, sym, ◌∙◌}
+use Rattle.std.proofs.Common.{◌≡◌, ◌⊎◌, IsTrue, false, true, inl, inr, refl, ap, sym, ◌∙◌}
 use Rattle.sqlite.specs.State.{is_disk_error}
 use Rattle.sqlite.specs.declared.error.Error.{Error}
 use Rattle.sqlite.specs.declared.error.Error.TheVariants.{SqliteFailure}
 use Rattle.sqlite.specs.declared.error.ErrorCode.{ErrorCode}
-use Rattle.sqlite.specs.declared.error.ErrorCode.TheVariants.{OutOfMemory, SystemIoFailure, DatabaseCorrupt, DiskFull, TooBig, NoRowid}
+use Rattle.sqlite.specs.declared.error.ErrorCode.TheVariants.{OutOfMemory, SystemIoFailure, DatabaseCorrupt, DiskFull, TooBig, NoRowid, Closed}
 use Rattle.dip_store_looks.specs.Faults.{IsFromOutside}
 use Rattle.dip_store_looks.specs.declared.faults.LookFault.{LookFault}
 use Rattle.dip_store_looks.specs.declared.faults.LookFault.TheVariants as looks
 use Rattle.dip_desk_state.specs.declared.faults.KeepFault.{KeepFault}
 use Rattle.dip_desk_state.specs.declared.faults.KeepFault.TheVariants.{Memory, Disk, Damaged}
-use Rattle.dip_store_changes.specs.Failing.{FailsFor}
+use Rattle.dip_store_changes.specs.Failing.{BlamesFor, FailsFor}
 use Rattle.dip_store_changes.specs.declared.faults.MakeFault.{MakeFault}
 use Rattle.dip_store_changes.specs.declared.faults.MakeFault.TheVariants as makes
-use Rattle.dip_store_sql.specs.Refusals.{IsWant}
+use Rattle.dip_store_sql.specs.Refusals.{IsBlamed, IsWant}
 use Rattle.dip_store_sql.specs.Causes.{IsCaused}
-use Rattle.dip_store.specs.Faults.{code_fault, error_fault, look_fault, make_fault}
+use Rattle.dip_store.specs.Faults.{code_fault, error_fault, is_code_of_size, is_error_of_size, is_of_size, look_fault, make_fault}
 
 not_memory : Memory ≡ Damaged → ⊥
 not_memory is = absurd (cc)
@@ -68,3 +68,23 @@ pub make_outside : (fault Misfit : Type 0) (e : MakeFault) → FailsFor fault Mi
 make_outside fault Misfit makes.Memory fails fits is = not_memory is
 make_outside fault Misfit (makes.Sql e) fails fits is = error_wanting fault e fails is
 make_outside fault Misfit makes.Misfit fails fits is = fits fails
+
+-- a change tells of the disk where there was a fault of it, or one of size
+code_caused : (fault : Type 0) (c : ErrorCode) → IsBlamed fault (SqliteFailure c) → code_fault c ≡ Disk → fault ⊎ (is_code_of_size c ≡ true)
+code_caused fault OutOfMemory blamed is = absurd (let bad : Memory ≡ Disk = is in cc)
+code_caused fault SystemIoFailure blamed is = inl (blamed refl)
+code_caused fault DatabaseCorrupt blamed is = inl (blamed refl)
+code_caused fault DiskFull blamed is = inl (blamed refl)
+code_caused fault Closed blamed is = inl (blamed refl)
+code_caused fault TooBig blamed is = inr refl
+code_caused fault NoRowid blamed is = inr refl
+code_caused fault _ blamed is = absurd (let bad : Damaged ≡ Disk = is in cc)
+
+error_caused : (fault : Type 0) (e : Error) → IsBlamed fault e → error_fault e ≡ Disk → fault ⊎ (is_error_of_size e ≡ true)
+error_caused fault (SqliteFailure c) blamed is = code_caused fault c blamed is
+error_caused fault _ blamed is = absurd (let bad : Damaged ≡ Disk = is in cc)
+
+pub make_caused : (fault : Type 0) (e : MakeFault) → BlamesFor fault e → make_fault e ≡ Disk → fault ⊎ (is_of_size e ≡ true)
+make_caused fault makes.Memory blamed is = absurd (let bad : Memory ≡ Disk = is in cc)
+make_caused fault (makes.Sql e) blamed is = error_caused fault e blamed is
+make_caused fault makes.Misfit blamed is = absurd (let bad : Damaged ≡ Disk = is in cc)

@@ -1,5 +1,5 @@
 -- A walk from look to look.
-use Rattle.std.proofs.Common.{◌⊎◌, inl, inr, Ok, Err, Result, refl, sym, ap, arith, ◌∙◌}
+use Rattle.std.proofs.Common.{◌≡◌, ◌⊎◌, inl, inr, Ok, Err, Result, refl, sym, ap, arith, ◌∙◌}
 use Rattle.dip_store.specs.Papers.{Walks}
 use Rattle.dip_store.specs.declared.paper_faults.PaperFault.{PaperFault}
 use Rattle.dip_store.specs.declared.paper_faults.PaperFault.TheVariants.{Write, Keep}
@@ -7,6 +7,7 @@ use Rattle.dip_map.specs.Charts.{Chart}
 use Rattle.dip_desk.specs.Keeping.{Book, Ends, IsOpen, Looks, Rises}
 use Rattle.dip_desk_state.specs.Faults.{faults_with}
 use Rattle.dip_desk_state.specs.declared.faults.KeepFault.{KeepFault}
+use Rattle.dip_desk_state.specs.declared.faults.KeepFault.TheVariants.{Disk}
 
 -- a walk that went well so far
 abbrev pub went : (X : Type 0) → X → Result X PaperFault
@@ -34,6 +35,7 @@ module _ {K : Type 0} (m : Chart) (b : Book K) where
     firm = λ s h. s;
     stays_open = λ s h o. o;
     shuts = λ h o. inl o;
+    failed = λ s h o bad. absurd (cc);
     left = λ s h t may. may;
     again = λ s h o takes. takes;
   }
@@ -60,6 +62,7 @@ module _ {K : Type 0} (m : Chart) (b : Book K) where
       firm = λ s h. look.keeps.firm (so_far.firm s (look.keeps.fair h)) h;
       stays_open = λ s h o. let before = look.keeps.fair h in look.keeps.stays_open (so_far.firm s before) h (so_far.stays_open s before o);
       shuts = λ h o. shut Y (shown Y y) V D look h o;
+      failed = λ s h o bad. absurd (cc);
       left = λ s h t may. so_far.left s (look.keeps.fair h) t (look.left (so_far.firm s (look.keeps.fair h)) h t may);
       again = λ s h o takes. let before = look.keeps.fair h in look.keeps.again (so_far.firm s before) h (so_far.stays_open s before o) (so_far.again s before o takes);
     }
@@ -75,6 +78,11 @@ module _ {K : Type 0} (m : Chart) (b : Book K) where
       firm = λ s h. tt;
       stays_open = λ s h o. tt;
       shuts = λ h o. shut Y (refused Y f) V D look h o;
+      failed = λ s h o bad.
+          let before = look.keeps.fair h in
+          let same : f ≡ Disk = cc in
+          let rises = look.failed (so_far.firm s before) h (so_far.stays_open s before o) (ap (λ (f : KeepFault). Err f) same) in
+          omega (arith, rises, so_far.told);
       left = λ s h t may. so_far.left s (look.keeps.fair h) t (look.left (so_far.firm s (look.keeps.fair h)) h t may);
       again = λ s h o takes. let before = look.keeps.fair h in look.keeps.again (so_far.firm s before) h (so_far.stays_open s before o) (so_far.again s before o takes);
     }
@@ -106,4 +114,4 @@ module _ {K : Type 0} (m : Chart) (b : Book K) where
 
   -- a writer's fault is none of the keeper
   pub breaks_off : (X Z : Type 0) (x : X) (a c : K) → Walks m b a c (went X x) → Walks m b a c (stopped Z Write)
-  breaks_off X Z x a c w = record { count = w.count; told = w.told; fair = w.fair; shown = w.shown; sound = w.sound; same = w.same; firm = w.firm; stays_open = w.stays_open; shuts = w.shuts; left = w.left; again = w.again }
+  breaks_off X Z x a c w = record { count = w.count; told = w.told; fair = w.fair; shown = w.shown; sound = w.sound; same = w.same; firm = w.firm; stays_open = w.stays_open; shuts = w.shuts; failed = λ s h o bad. absurd (cc); left = w.left; again = w.again }

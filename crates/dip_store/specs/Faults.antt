@@ -1,5 +1,5 @@
 -- How a fault of the database is told.
-use Rattle.std.specs.Prelude.{ℕ, List, codes}
+use Rattle.std.specs.Prelude.{ℕ, Bool, true, false, List, codes}
 use Rattle.sqlite.specs.declared.error.Error.{Error}
 use Rattle.sqlite.specs.declared.error.Error.TheVariants.{SqliteFailure}
 use Rattle.sqlite.specs.declared.error.ErrorCode.{ErrorCode}
@@ -42,6 +42,21 @@ abbrev pub make_fault : MakeFault → KeepFault
 make_fault makes.Memory = Memory
 make_fault (makes.Sql error) = error_fault error
 make_fault makes.Misfit = Damaged
+
+-- a row that is too long to be stored, or no number left for one
+abbrev pub is_code_of_size : ErrorCode → Bool
+is_code_of_size TooBig = true
+is_code_of_size NoRowid = true
+is_code_of_size _ = false
+
+abbrev pub is_error_of_size : Error → Bool
+is_error_of_size (SqliteFailure code) = is_code_of_size code
+is_error_of_size _ = false
+
+abbrev pub is_of_size : MakeFault → Bool
+is_of_size makes.Memory = false
+is_of_size (makes.Sql error) = is_error_of_size error
+is_of_size makes.Misfit = false
 
 -- a fault's number, as a program tells it
 abbrev pub store_fault_name : StoreFault → List ℕ

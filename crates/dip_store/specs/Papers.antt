@@ -1,5 +1,5 @@
 -- Papers as they are written out.
-use Rattle.std.specs.Prelude.{◌≡◌, ◌≤◌, ◌⊎◌, ℕ, List, [], Option, None, Some, Result, Ok, Err, codes, length, take}
+use Rattle.std.specs.Prelude.{◌≡◌, ◌≤◌, ◌⊎◌, ℕ, List, [], Option, None, Some, IsErrOf, Result, Ok, Err, codes, length, take}
 use Rattle.std.specs.List.{flat_map}
 use Rattle.std.specs.Io.KnownBytes.{Appends}
 use Rattle.dip_store.specs.declared.paper_faults.PaperFault.{PaperFault}
@@ -8,6 +8,7 @@ use Rattle.dip_map.specs.Charts.{Chart}
 use Rattle.dip_desk.specs.Keeping.{Book, Ends, Rises}
 use Rattle.dip_desk_state.specs.Faults.{faults_with, keep_fault_name}
 use Rattle.dip_desk_state.specs.State.{Game, State, game_at}
+use Rattle.dip_desk_state.specs.declared.faults.KeepFault.TheVariants.{Disk}
 
 -- a fault's name, as a program tells it
 abbrev pub paper_fault_name : PaperFault → List ℕ
@@ -56,6 +57,8 @@ pub record Walks {K X : Type 0} (m : Chart) (b : Book K) (old new : K) (result :
   pub firm : b.sound m old → b.honest new → OnShown result (b.sound m new)
   pub stays_open : b.sound m old → b.honest new → b.shows old → OnShown result (b.shows new)
   pub shuts : b.honest new → b.shows old → b.shows new ⊎ Rises (b.told old) (b.told new)
+  -- the disk is told of only where the store told of a fault of it
+  pub failed : b.sound m old → b.honest new → b.shows old → IsErrOf result (Keep Disk) → Rises (b.told old) (b.told new)
   pub left : b.sound m old → b.honest new → (s : State) → b.may_leave m new s → b.may_leave m old s
   pub again : b.sound m old → b.honest new → b.shows old → b.again m old → b.again m new
 

@@ -1,5 +1,5 @@
 -- What contracts see of a keeper over a store.
-use Rattle.std.specs.Prelude.{◌≡◌, ◌+◌}
+use Rattle.std.specs.Prelude.{◌≡◌, ◌+◌, ◌-◌, ◌^◌, ℕ, Bool, true, false, nat_lt, if◌then◌else◌}
 use Rattle.sqlite.specs.Effect.{Database}
 use Rattle.sqlite.specs.Tree.{Trees}
 use Rattle.sqlite.specs.Store.{Ghosts}
@@ -27,6 +27,15 @@ telling Memory k = k
 telling Disk k = record k { failures = k.failures + 1 }
 telling Damaged k = k
 
+-- a count with one more fault of size, up to its greatest
+abbrev pub sized : Bool → ℕ → ℕ
+sized false n = n
+sized true n = if nat_lt n (2 ^ 64 - 1) then n + 1 else n
+
+-- a keeper whose store may have told it of one
+abbrev pub sizing : {S : Type 0} → Bool → SqlKeeper S → SqlKeeper S
+sizing is_one k = record k { of_size = sized is_one k.of_size }
+
 -- a database that keepers alone have written, by this map
 pub record IsStore (m : Chart) (db : Database) : Type 0 where
   pub good : IsGood db
@@ -45,6 +54,7 @@ book g = record {
   again = λ m k. (db : Trees) → (state g k.conn).may_leave db → AreStored m db;
   faults = λ k. k.failures;
   told = λ k. (state g k.conn).faults;
+  of_size = λ k. k.of_size;
   honest = λ k. is_honest g k.conn;
   shows = λ k. does_show g k.conn;
   sound = λ m k. IsKept g k.conn × AreOurs m (tables_in g k.conn);

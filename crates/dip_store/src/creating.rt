@@ -1,7 +1,7 @@
 //! The statements that make our tables, one behind another.
 ghost use Rattle.std.specs.Prelude.{◌≡◌};
 ghost use Rattle.sqlite.specs.Held.{state};
-ghost use Rattle.dip_store.specs.Making.{HasFirst, HasTables, Leads};
+ghost use Rattle.dip_store.specs.Making.{HasFirst, HasTables, Leads, Tries};
 ghost use Rattle.dip_store_sql.specs.TablesAfter.{no_tables};
 
 use sqlite::{Alter, Error, Transaction};
@@ -10,6 +10,8 @@ use sqlite::{Alter, Error, Transaction};
 fn create_desk<S: Alter>(tx: &mut Transaction<'_, S>) -> Result<usize, Error>
     ensures same_reference { tx.new.conn.ghost_name ≡ tx.old.conn.ghost_name }
     ensures leads { Leads (HasFirst 0) (HasFirst 1)
+        (state S.Store tx.old.conn.now) (state S.Store tx.new.conn.now) result }
+    ensures tries { Tries (HasFirst 0) (HasFirst 1)
         (state S.Store tx.old.conn.now) (state S.Store tx.new.conn.now) result }
 {
     tx.execute(
@@ -23,6 +25,8 @@ fn create_game<S: Alter>(tx: &mut Transaction<'_, S>) -> Result<usize, Error>
     ensures same_reference { tx.new.conn.ghost_name ≡ tx.old.conn.ghost_name }
     ensures leads { Leads (HasFirst 1) (HasFirst 2)
         (state S.Store tx.old.conn.now) (state S.Store tx.new.conn.now) result }
+    ensures tries { Tries (HasFirst 1) (HasFirst 2)
+        (state S.Store tx.old.conn.now) (state S.Store tx.new.conn.now) result }
 {
     tx.execute(
         "CREATE TABLE game (name TEXT NOT NULL PRIMARY KEY, year INTEGER NOT NULL, phase INTEGER NOT NULL, status TEXT NOT NULL, due INTEGER NOT NULL, period INTEGER NOT NULL, grey INTEGER NOT NULL, papers INTEGER NOT NULL, standoff TEXT NOT NULL) STRICT",
@@ -34,6 +38,8 @@ fn create_game<S: Alter>(tx: &mut Transaction<'_, S>) -> Result<usize, Error>
 fn create_seat<S: Alter>(tx: &mut Transaction<'_, S>) -> Result<usize, Error>
     ensures same_reference { tx.new.conn.ghost_name ≡ tx.old.conn.ghost_name }
     ensures leads { Leads (HasFirst 2) (HasFirst 3)
+        (state S.Store tx.old.conn.now) (state S.Store tx.new.conn.now) result }
+    ensures tries { Tries (HasFirst 2) (HasFirst 3)
         (state S.Store tx.old.conn.now) (state S.Store tx.new.conn.now) result }
 {
     tx.execute(
@@ -47,6 +53,8 @@ fn create_unit<S: Alter>(tx: &mut Transaction<'_, S>) -> Result<usize, Error>
     ensures same_reference { tx.new.conn.ghost_name ≡ tx.old.conn.ghost_name }
     ensures leads { Leads (HasFirst 3) (HasFirst 4)
         (state S.Store tx.old.conn.now) (state S.Store tx.new.conn.now) result }
+    ensures tries { Tries (HasFirst 3) (HasFirst 4)
+        (state S.Store tx.old.conn.now) (state S.Store tx.new.conn.now) result }
 {
     tx.execute(
         "CREATE TABLE unit (game TEXT NOT NULL, province TEXT NOT NULL, dislodged INTEGER NOT NULL, power TEXT NOT NULL, kind INTEGER NOT NULL, coast TEXT NOT NULL, origin TEXT NOT NULL, PRIMARY KEY (game, province, dislodged)) STRICT",
@@ -58,6 +66,8 @@ fn create_unit<S: Alter>(tx: &mut Transaction<'_, S>) -> Result<usize, Error>
 fn create_centre<S: Alter>(tx: &mut Transaction<'_, S>) -> Result<usize, Error>
     ensures same_reference { tx.new.conn.ghost_name ≡ tx.old.conn.ghost_name }
     ensures leads { Leads (HasFirst 4) (HasFirst 5)
+        (state S.Store tx.old.conn.now) (state S.Store tx.new.conn.now) result }
+    ensures tries { Tries (HasFirst 4) (HasFirst 5)
         (state S.Store tx.old.conn.now) (state S.Store tx.new.conn.now) result }
 {
     tx.execute(
@@ -71,6 +81,8 @@ fn create_pending<S: Alter>(tx: &mut Transaction<'_, S>) -> Result<usize, Error>
     ensures same_reference { tx.new.conn.ghost_name ≡ tx.old.conn.ghost_name }
     ensures leads { Leads (HasFirst 5) (HasFirst 6)
         (state S.Store tx.old.conn.now) (state S.Store tx.new.conn.now) result }
+    ensures tries { Tries (HasFirst 5) (HasFirst 6)
+        (state S.Store tx.old.conn.now) (state S.Store tx.new.conn.now) result }
 {
     tx.execute(
         "CREATE TABLE pending (game TEXT NOT NULL, power TEXT NOT NULL, province TEXT NOT NULL, line TEXT NOT NULL, PRIMARY KEY (game, power, province)) STRICT",
@@ -82,6 +94,8 @@ fn create_pending<S: Alter>(tx: &mut Transaction<'_, S>) -> Result<usize, Error>
 fn create_box<S: Alter>(tx: &mut Transaction<'_, S>) -> Result<usize, Error>
     ensures same_reference { tx.new.conn.ghost_name ≡ tx.old.conn.ghost_name }
     ensures leads { Leads (HasFirst 6) (HasFirst 7)
+        (state S.Store tx.old.conn.now) (state S.Store tx.new.conn.now) result }
+    ensures tries { Tries (HasFirst 6) (HasFirst 7)
         (state S.Store tx.old.conn.now) (state S.Store tx.new.conn.now) result }
 {
     tx.execute(
@@ -95,6 +109,8 @@ fn create_paper<S: Alter>(tx: &mut Transaction<'_, S>) -> Result<usize, Error>
     ensures same_reference { tx.new.conn.ghost_name ≡ tx.old.conn.ghost_name }
     ensures leads { Leads (HasFirst 7) (HasTables no_tables)
         (state S.Store tx.old.conn.now) (state S.Store tx.new.conn.now) result }
+    ensures tries { Tries (HasFirst 7) (HasTables no_tables)
+        (state S.Store tx.old.conn.now) (state S.Store tx.new.conn.now) result }
 {
     tx.execute(
         "CREATE TABLE paper (game TEXT NOT NULL, number INTEGER NOT NULL, body TEXT NOT NULL, PRIMARY KEY (game, number)) STRICT",
@@ -106,6 +122,8 @@ fn create_paper<S: Alter>(tx: &mut Transaction<'_, S>) -> Result<usize, Error>
 pub(crate) fn create_people<S: Alter>(tx: &mut Transaction<'_, S>) -> Result<(), Error>
     ensures same_reference { tx.new.conn.ghost_name ≡ tx.old.conn.ghost_name }
     ensures leads { Leads (HasFirst 0) (HasFirst 3)
+        (state S.Store tx.old.conn.now) (state S.Store tx.new.conn.now) result }
+    ensures tries { Tries (HasFirst 0) (HasFirst 3)
         (state S.Store tx.old.conn.now) (state S.Store tx.new.conn.now) result }
 {
     create_desk(tx)?;
@@ -119,6 +137,8 @@ pub(crate) fn create_boards<S: Alter>(tx: &mut Transaction<'_, S>) -> Result<(),
     ensures same_reference { tx.new.conn.ghost_name ≡ tx.old.conn.ghost_name }
     ensures leads { Leads (HasFirst 3) (HasFirst 6)
         (state S.Store tx.old.conn.now) (state S.Store tx.new.conn.now) result }
+    ensures tries { Tries (HasFirst 3) (HasFirst 6)
+        (state S.Store tx.old.conn.now) (state S.Store tx.new.conn.now) result }
 {
     create_unit(tx)?;
     create_centre(tx)?;
@@ -130,6 +150,8 @@ pub(crate) fn create_boards<S: Alter>(tx: &mut Transaction<'_, S>) -> Result<(),
 pub(crate) fn create_texts<S: Alter>(tx: &mut Transaction<'_, S>) -> Result<(), Error>
     ensures same_reference { tx.new.conn.ghost_name ≡ tx.old.conn.ghost_name }
     ensures leads { Leads (HasFirst 6) (HasTables no_tables)
+        (state S.Store tx.old.conn.now) (state S.Store tx.new.conn.now) result }
+    ensures tries { Tries (HasFirst 6) (HasTables no_tables)
         (state S.Store tx.old.conn.now) (state S.Store tx.new.conn.now) result }
 {
     create_box(tx)?;

@@ -59,6 +59,36 @@ pub(crate) fn make_fault(fault: MakeFault) -> KeepFault
     }
 }
 
+/// Whether this says that a row is too long to be stored, or that no number is left for one.
+fn is_code_of_size(code: ErrorCode) -> bool
+    ensures { result ≡ told.is_code_of_size code }
+{
+    match code {
+        ErrorCode::TooBig | ErrorCode::NoRowid => true,
+        _ => false,
+    }
+}
+
+/// Whether the database says so.
+fn is_error_of_size(error: &Error) -> bool
+    ensures { result ≡ told.is_error_of_size error.now }
+{
+    match error {
+        Error::SqliteFailure(code) => is_code_of_size(*code),
+        _ => false,
+    }
+}
+
+/// Whether a change met a fault of size.
+pub(crate) fn is_of_size(fault: &MakeFault) -> bool
+    ensures { result ≡ told.is_of_size fault.now }
+{
+    match fault {
+        MakeFault::Sql(error) => is_error_of_size(error),
+        MakeFault::Memory | MakeFault::Misfit => false,
+    }
+}
+
 /// Why a store isn't opened. It is handed back, and what it has committed is as it was.
 #[derive(Clone, Copy, Debug, PartialEq, Eq)]
 pub enum StoreFault {

@@ -1,9 +1,10 @@
 //! A store in which our tables are made.
-ghost use Rattle.std.specs.Prelude.{◌≡◌, OnErr, OnOk, false};
+ghost use Rattle.std.specs.Prelude.{◌≡◌, IfErr, OnErr, OnOk, false};
 ghost use Rattle.sqlite.specs.Held.{state};
 ghost use Rattle.sqlite.specs.State.{Survives};
 ghost use Rattle.dip_store.specs.Founding.{Founds, IsNewStore, Keeps};
 ghost use Rattle.dip_store_sql.specs.Calls.{does_show, is_honest};
+ghost use Rattle.dip_store_sql.specs.Causes.{IsCaused, has_faulted};
 ghost use Rattle.dip_store_tables.specs.Writing.{new_tables};
 
 use crate::making::make_tables;
@@ -28,6 +29,9 @@ pub fn found<S: Alter>(
         ((state S.Store conn.new).committed ≡ (state S.Store conn.old).committed) }
     ensures err { does_show S.Store conn.new → OnErr result
         ((state S.Store conn.new).now ≡ (state S.Store conn.old).committed) }
+    ensures fails { IsNewStore S.Store conn.old → does_show S.Store conn.old
+        → is_honest S.Store conn.new
+        → IfErr result (IsCaused (has_faulted S.Store conn.old conn.new)) }
     ensures crash { Survives (state S.Store conn.old) (state S.Store conn.new)
         (Founds (new_tables map_sum.now digest.now) (state S.Store conn.old)) }
 {

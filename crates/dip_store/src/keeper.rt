@@ -1,14 +1,15 @@
 //! A keeper over an SQL store.
 ghost use Rattle.std.specs.Prelude.{◌≡◌, ◌<◌};
+ghost use Rattle.dip_store.specs.Faults as told;
 ghost use Rattle.dip_store.specs.Stored as stored;
 
-use crate::faults::{look_fault, make_fault};
+use crate::faults::{is_of_size, look_fault, make_fault};
 use crate::fitting_laws::{what_fits_can_be_written, what_fits_finds_place};
 use crate::papers::look_game_paper;
 use dip_desk::Keeper;
 use dip_desk_state::{Change, Desk, Item, KeepFault, Own, Public, Whole};
 use dip_map::{Map, Power};
-use dip_store_changes::{changes_are_made, make};
+use dip_store_changes::{MakeFault, changes_are_made, make};
 use dip_store_looks::{look_desk, look_items, look_own, look_public, look_whole};
 use dip_store_tables::{
     has_texts, has_widths, is_writable, own_is_found, page_is_found, public_is_found,
@@ -28,6 +29,9 @@ pub struct SqlKeeper<S: Alter> {
     pub(crate) conn: Connection<S>,
     /// How many faults of the disk it has told of.
     pub(crate) failures: u64,
+    /// How many faults of size its store has told it of: a row that is too long to be stored, or no number left for one. Only
+    /// `told_by_store` raises it, and it stops at its greatest.
+    pub(crate) of_size: u64,
 }
 
 impl<S: Alter> SqlKeeper<S> {
@@ -39,6 +43,7 @@ impl<S: Alter> SqlKeeper<S> {
             alloc: _,
             conn,
             failures: _,
+            of_size: _,
         } = self;
         conn
     }
@@ -55,6 +60,28 @@ impl<S: Alter> SqlKeeper<S> {
             KeepFault::Damaged => {}
         }
         fault
+    }
+
+    /// Counts a fault of size that the store told of.
+    fn count_size(&mut self, is_one: bool)
+        ensures { self.new ≡ stored.sizing is_one self.old }
+    {
+        if is_one {
+            if self.of_size < u64::MAX {
+                self.of_size += 1;
+            }
+        }
+    }
+
+    /// Tells what the store told of a change.
+    fn told_by_store(&mut self, fault: MakeFault) -> KeepFault
+        requires { self.old.failures < u64.MAX }
+        ensures same { result ≡ told.make_fault fault }
+        ensures told { self.new ≡ stored.telling (told.make_fault fault)
+            (stored.sizing (told.is_of_size fault) self.old) }
+    {
+        self.count_size(is_of_size(&fault));
+        self.told(make_fault(fault))
     }
 }
 
@@ -133,7 +160,7 @@ impl<S: Alter> Keeper for SqlKeeper<S> {
         }
         match make(&mut self.conn, self.alloc, map, change) {
             Ok(()) => Ok(()),
-            Err(fault) => Err(self.told(make_fault(fault))),
+            Err(fault) => Err(self.told_by_store(fault)),
         }
     }
 }

@@ -1,5 +1,5 @@
 //! A keeper over a store that is made, or opened.
-ghost use Rattle.std.specs.Prelude.{◌≡◌, ◌≤◌, [], IfErr, IfOk, IfSome, IsTrue, None, false, length};
+ghost use Rattle.std.specs.Prelude.{◌≡◌, ◌≤◌, ◌⊎◌, [], IfErr, IfOk, IfSome, IsTrue, None, false};
 ghost use Rattle.std.specs.List.{find};
 ghost use Rattle.sha2.specs.Sha256.{sha256};
 ghost use Rattle.sqlite.specs.Held.{state};
@@ -20,6 +20,7 @@ use crate::faults::{StoreFault, open_fault};
 use crate::founding::found;
 use crate::keeper::SqlKeeper;
 use crate::known::knows_none;
+use crate::making::has_32;
 use dip_letters::sum;
 use dip_map::Map;
 use dip_store_tables::{new_tables_are_legible, new_tables_are_new};
@@ -32,21 +33,16 @@ fn commits_last<S: Alter>(conn: &Connection<S>)
         → (state S.Store conn.now).may_leave db → db ≡ (state S.Store conn.now).committed.trees }
 {}
 
-fn has_32(digest: &[u8; 32])
-    ensures { length digest.now ≡ 32 }
-{
-    let _digest = digest;
-}
-
 impl<S: Alter> SqlKeeper<S> {
     /// The keeper of a connection's rows.
     fn over(alloc: Global, conn: Connection<S>) -> SqlKeeper<S>
-        ensures { result ≡ record { alloc = alloc; conn = conn; failures = 0 } }
+        ensures { result ≡ record { alloc = alloc; conn = conn; failures = 0; of_size = 0 } }
     {
         SqlKeeper {
             alloc,
             conn,
             failures: 0,
+            of_size: 0,
         }
     }
 
@@ -72,6 +68,11 @@ impl<S: Alter> SqlKeeper<S> {
         ensures taken { IfErr result (λ e. e.0 ≡ StoreFault.OtherSchema
             → (state S.Store store).now.schema ≡ no_schema → ⊥) }
         ensures refused { IfErr result (λ e. e.0 ≡ StoreFault.OtherMap → ⊥) }
+        // The disk is told of only where a transaction was under way, or the store told of a fault
+        // of it.
+        ensures caused { IfErr result (λ e. is_honest S.Store e.1 → does_show S.Store store
+            → e.0 ≡ StoreFault.Disk
+            → IsTrue store.in_transaction ⊎ has_faulted S.Store store e.1) }
         ensures same { IfErr result (λ e. does_show S.Store e.1
             → (state S.Store e.1).committed ≡ (state S.Store store).committed) }
         ensures fair { IfOk result (λ k. is_honest S.Store k.conn → is_honest S.Store store) }

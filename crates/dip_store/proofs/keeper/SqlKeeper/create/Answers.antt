@@ -1,6 +1,10 @@
-use Rattle.std.proofs.Common.{refl}
+use Rattle.std.proofs.Common.{inr, refl, sym, subst, ◌∙◌}
+use Rattle.sqlite.specs.Held.{Held}
+use Rattle.dip_store_sql.specs.Calls.{does_show}
+use Rattle.dip_store_sql.specs.Causes.{has_faulted}
 use Rattle.dip_store.specs.Founding.{IsNewStore}
 use Rattle.dip_store.proofs.Opened.{opens_new}
+use Rattle.dip_store.proofs.Refused.{open_blamed}
 use Rattle.dip_store.proofs.keeper.SqlKeeper.create.Goals as goal
 
 pub returns-in-Ok-clause-opened : goal.returns-in-Ok-clause-opened
@@ -12,3 +16,13 @@ returns-in-Ok-clause-opened g c =
     rw c.over.ensures
     (λ clean. opens_new g.S.Store c.args.map.now c.args.alloc c.found.new.conn c.commits_last.ensures _ c.args.digest.now c.facts.ensures (c.new_tables_are_new.ensures c.args.map.now) c.new_tables_are_legible.ensures c.has_32.ensures
     (c.in-Ok.ensures.kept new clean) (c.in-Ok.ensures.ok clean))
+
+pub returns-in-Err-clause-caused : goal.returns-in-Err-clause-caused
+returns-in-Err-clause-caused g c clean shows is =
+    let h = c.set_step_limit.new.self in
+    let new : IsNewStore g.S.Store h = record {
+      empty = c.knows_none.ensures.value.0 c.if-not-knows_none.false;
+      unlimited = rw c.set_step_limit.ensures refl;
+    } in
+    let there : does_show g.S.Store h = rw c.set_step_limit.ensures shows in
+    inr (subst (λ (h : Held _). has_faulted g.S.Store h c.found.new.conn) c.set_step_limit.ensures (open_blamed _ c.in-Err.error (c.in-Err.ensures.fails new there clean) (sym c.open_fault.ensures ∙ is)))

@@ -17,10 +17,10 @@ returns-in-Err g c =
     let m = c.args.map.now in
     let it = machine.change c.args.change.now in
     let fits : IsWritable m it = c.is_writable.ensures.0 c.if-not-is_writable.false in
-    rw (c.told-in-Err.ensures.same, c.told-in-Err.ensures.told, c.make_fault.ensures)
+    rw (c.told_by_store.ensures.same, c.told_by_store.ensures.told)
     (changes_ill g.S.Store m c.args.self.now it c.make.new.conn (c.changes_are_made.ensures m c.facts.ensures) fits c.has_widths.ensures _ _ c.in-Err.fault c.has_texts.ensures (c.tables_stay_legible.ensures m) (c.tables_stay_counted.ensures m)
     c.in-Err.ensures.landed g.met.S.Store.settled (c.what_fits_finds_place.ensures m)
-    c.in-Err.ensures.makes c.in-Err.ensures.fails)
+    c.in-Err.ensures.makes c.in-Err.ensures.fails c.in-Err.ensures.blames)
 
 pub returns-then-not-is_writable : goal.returns-then-not-is_writable
 returns-then-not-is_writable g c =

@@ -1,6 +1,6 @@
 //! Clients over a socket, one after the other.
 ghost use Rattle.std.specs.Prelude.{◌≡◌, ◌<◌, ◌≤◌, ◌⊎◌, ℕ, IfErr, IsErrOf, OnOk};
-ghost use Rattle.dip_desk.specs.Keeping.{IsOpen, Rises};
+ghost use Rattle.dip_desk.specs.Keeping.{IsOpen, Rises, WasTold};
 ghost use Rattle.dip_desk_state.specs.Faults.{faults_after};
 ghost use Rattle.dip_desk_machine.specs.Lawful.{IsLawful};
 ghost use Rattle.dip_judge_program.specs.Serving.{IsShut, MeetsAt, MeetsOne, Serves, ServesTo};
@@ -40,7 +40,10 @@ fn serve_next<C: Clock, K: Keeper>(
     ensures ends { IsOpen map.now K.book keeper.old → K.book.honest keeper.new
         → MeetsAt map.now K.book keeper.old keeper.new }
     ensures fair { K.book.honest keeper.new → K.book.honest keeper.old }
+    ensures failed { IsOpen map.now K.book keeper.old → K.book.honest keeper.new
+        → IsErrOf result KeepFault.Disk → WasTold K.book keeper.old keeper.new }
     ensures told { K.book.told keeper.old ≤ K.book.told keeper.new }
+    ensures of_size { K.book.of_size keeper.old ≤ K.book.of_size keeper.new }
     ensures shut { IfErr result IsShut }
     ensures count { K.book.faults keeper.new ≡ faults_after result (K.book.faults keeper.old) }
     ensures shown { K.book.shows keeper.new → K.book.shows keeper.old }
@@ -97,6 +100,9 @@ pub fn serve_all<C: Clock, K: Keeper>(
         → K.book.shows keeper.new
         → IsLawful map.now (K.book.content map.now keeper.old)
         → IsErrOf result KeepFault.Damaged → ⊥ }
+    // The disk is told of only where the store told of a fault.
+    ensures failed { IsOpen map.now K.book keeper.old → K.book.honest keeper.new
+        → IsErrOf result KeepFault.Disk → WasTold K.book keeper.old keeper.new }
     ensures shut { IfErr result IsShut }
     ensures count { K.book.faults keeper.new ≡ faults_after result (K.book.faults keeper.old) }
     ensures shown { K.book.shows keeper.new → K.book.shows keeper.old }

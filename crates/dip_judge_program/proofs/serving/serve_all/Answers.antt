@@ -1,6 +1,6 @@
 use Rattle.std.proofs.Common.{◌≡◌, ◌∙◌, ◌+◌, ◌⊎◌, ℕ, subst, arith}
 use Rattle.std.proofs.lemmas.Result.{err_from_is_err_and}
-use Rattle.dip_judge_program.proofs.ServingLemmas.{meets_more, meets_next, serves, serves_all, serves_to}
+use Rattle.dip_judge_program.proofs.ServingLemmas.{meets_more, meets_next, serves, serves_all, serves_to, told_next}
 use Rattle.dip_desk.specs.Keeping.{IsOpen, Rises}
 use Rattle.dip_judge_program.specs.Serving.{Serves}
 use Rattle.dip_judge_program.proofs.serving.serve_all.Goals as goal
@@ -60,6 +60,7 @@ clients-preserved g c =
       shown = λ shows. before.shown (call.shown shows);
       fair = λ honest. before.fair (call.fair honest);
       told = omega (arith, before.told, call.told);
+      of_size = omega (arith, before.of_size, call.of_size);
       ends = λ it honest. meets_next m b c.clients.served c.args.keeper.now c.clients.keeper c.serve_next.new.keeper (before.ends it (call.fair honest)) before.told call.told (λ mid. call.ends mid honest);
       sound = λ sound shows. call.sound (before.sound sound (call.shown shows)) shows;
       lawful = λ sound shows lawful. let at = call.shown shows in call.lawful (before.sound sound at) shows (before.lawful sound at lawful);
@@ -67,3 +68,12 @@ clients-preserved g c =
           let at = call.shown shows in
           meets_more m c.clients.served _ _ _ (before.so_far sound at) (call.served (before.sound sound at) shows);
     }
+
+pub returns-in_err-serve_next-clause-failed : goal.returns-in_err-serve_next-clause-failed
+returns-in_err-serve_next-clause-failed g c = λ it honest.
+    let m = c.args.map.now in
+    let b = g.K.Keeper.book in
+    let so = c.clients.invariant.ends it (c.serve_next.ensures.fair honest) in
+    let p = err_from_is_err_and c.from_residual.result c.from_residual.ensures.1 in
+    rw (p.1, p.2) (λ disk. told_next m b c.clients.served c.args.keeper.now c.clients.keeper c.serve_next.new.keeper so c.clients.invariant.told c.serve_next.ensures.told c.clients.invariant.of_size
+    (λ mid. c.in_err-serve_next.ensures.failed mid honest disk))

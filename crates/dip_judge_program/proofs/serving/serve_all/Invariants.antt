@@ -11,6 +11,7 @@ invariant-clients g l = let b = g.K.Keeper.book in record {
   shown : b.shows l.keeper → b.shows l.fn.keeper;
   fair : b.honest l.keeper → b.honest l.fn.keeper;
   told : b.told l.fn.keeper ≤ b.told l.keeper;
+  of_size : b.of_size l.fn.keeper ≤ b.of_size l.keeper;
   ends : IsOpen l.fn.map b l.fn.keeper → b.honest l.keeper → MeetsTo l.fn.map b l.served l.fn.keeper l.keeper;
   sound : b.sound l.fn.map l.fn.keeper → b.shows l.keeper → b.sound l.fn.map l.keeper;
   lawful : b.sound l.fn.map l.fn.keeper → b.shows l.keeper → IsLawful l.fn.map (b.content l.fn.map l.fn.keeper)

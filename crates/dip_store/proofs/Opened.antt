@@ -1,5 +1,5 @@
 -- A keeper that was made or opened.
-use Rattle.std.proofs.Common.{◌≡◌, ◌≤◌, inl, inr, ℕ, List, [], Bool, true, false, not, length, None, IsTrue, refl, sym, ap, subst, ◌∙◌, arith}
+use Rattle.std.proofs.Common.{◌≡◌, ◌≤◌, inl, inr, ℕ, List, [], Bool, true, false, not, codes, length, None, Ok, Err, Result, IfOk, IfErr, IsTrue, refl, sym, ap, subst, ◌∙◌, arith}
 use Rattle.std.specs.declared.alloc.Global.{Global}
 use Rattle.sqlite.specs.Effect.{Database}
 use Rattle.sqlite.specs.Tree.{Trees}
@@ -18,7 +18,9 @@ use Rattle.dip_store_sql.specs.Rows.{tables_of}
 use Rattle.dip_store_sql.proofs.Parts.{fails, went}
 use Rattle.dip_store_sql.specs.Schema.{our_schema}
 use Rattle.dip_store.specs.Founding.{Keeps}
-use Rattle.dip_store.specs.Known.{HasOurTables}
+use Rattle.dip_store.specs.Known.{has_table, HasOldTables, HasOurTables}
+use Rattle.dip_store.proofs.Ours.{ours_has_ballots}
+use Rattle.std.proofs.lemmas.Bool.{false≢true}
 use Rattle.dip_store.specs.Opening.{Holds, IsDesk, Opens, StoreEnds}
 use Rattle.dip_desk.specs.Keeping.{Ends, IsOpen}
 use Rattle.dip_store.specs.Stored.{AreStored, IsStore, book, said_by}
@@ -52,6 +54,23 @@ module _ {S : Type 0} (g : Ghosts S) (m : Chart) (store : Held S) (own : IsStore
   -- it has the schema of a desk's tables, and rows that are ours
   pub there : (h : Held S) → h ≡ before → (tables_in g h ≡ tables_in g store) × (h.schema ≡ our_schema) × AreOurs m (tables_in g h)
   there h is = subst (λ (h : Held S). (tables_in g h ≡ tables_in g store) × (h.schema ≡ our_schema) × AreOurs m (tables_in g h)) (sym is) (refl, own.good.schema, own.ours)
+
+-- what holds of whatever is answered
+pub if_err : {X E : Type 0} (P : E → Type 0) (r : Result X E) → ((e : E) → P e) → IfErr r P
+if_err P (Ok x) holds = tt
+if_err P (Err e) holds = holds e
+
+pub ok_turned : {X E : Type 0} (P Q : X → Type 0) (r : Result X E) → ((x : X) → P x → Q x) → IfOk r P → IfOk r Q
+ok_turned P Q (Ok x) turn holds = turn x holds
+ok_turned P Q (Err e) turn holds = tt
+
+pub err_turned : {X E : Type 0} (P Q : E → Type 0) (r : Result X E) → ((e : E) → P e → Q e) → IfErr r P → IfErr r Q
+err_turned P Q (Ok x) turn holds = tt
+err_turned P Q (Err e) turn holds = turn e holds
+
+-- a store that keepers wrote has ballots
+pub has_them : {S : Type 0} (g : Ghosts S) (m : Chart) (store h : Held S) → h ≡ record store { step_limit = None } → has_table (codes "ballot") h.schema ≡ false → IsStore m (state g store).now → ⊥
+has_them {S} g m store h is none own = false≢true (sym (subst (λ (h : Held S). has_table (codes "ballot") h.schema ≡ false) is none) ∙ ours_has_ballots store.schema own.good.schema)
 
 module _ {S : Type 0} (g : Ghosts S) (m : Chart) (alloc : Global) (conn : Held S)
     (last : IsTrue (state g conn).is_open → (db : Trees) → (state g conn).may_leave db → db ≡ (state g conn).committed.trees) where
@@ -157,3 +176,6 @@ module _ {S : Type 0} (g : Ghosts S) (m : Chart) where
 module _ {S : Type 0} where
   pub known_there : (store h : Held S) → h ≡ record store { step_limit = None } → HasOurTables h.schema → HasOurTables store.schema
   known_there store h is all = subst HasOurTables (ap (λ (x : Held S). x.schema) is) all
+
+  pub old_there : (store h : Held S) → h ≡ record store { step_limit = None } → HasOldTables h.schema → HasOldTables store.schema
+  old_there store h is all = subst HasOldTables (ap (λ (x : Held S). x.schema) is) all

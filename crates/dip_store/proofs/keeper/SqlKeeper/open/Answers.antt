@@ -1,4 +1,4 @@
-use Rattle.std.proofs.Common.{Err, IfSome, ap, subst, sym}
+use Rattle.std.proofs.Common.{inl, inr, Err, IfSome, ap, subst, sym, ◌∙◌}
 use Rattle.std.specs.List.{find}
 use Rattle.sha2.specs.Sha256.{sha256}
 use Rattle.sqlite.specs.Held.{Held}
@@ -8,7 +8,7 @@ use Rattle.dip_store_sql.specs.Causes.{has_faulted}
 use Rattle.dip_store_sql.specs.TablesAfter.{is_first}
 use Rattle.dip_store_tables.specs.Tables.{Tables}
 use Rattle.dip_store.specs.Refusing.{IsRefused}
-use Rattle.dip_store.proofs.Opened.{ends_refused, kept_from, known_there, opens_old, there}
+use Rattle.dip_store.proofs.Opened.{ends_refused, err_turned, has_them, if_err, kept_from, known_there, ok_turned, old_there, opens_old, there}
 use Rattle.dip_store.proofs.Refused.{own_outage}
 use Rattle.dip_store.specs.declared.faults.StoreFault.{StoreFault}
 use Rattle.dip_store.proofs.keeper.SqlKeeper.open.Goals as goal
@@ -29,11 +29,37 @@ returns-in-Ok-clause-says g c =
 
 pub returns-in-Ok-clause-known : goal.returns-in-Ok-clause-known
 returns-in-Ok-clause-known g c =
-    rw c.over.ensures (λ clean. known_there c.args.store c.set_step_limit.new.self c.set_step_limit.ensures (c.in-Ok.ensures.known clean))
+    rw c.over.ensures (λ clean. inl (known_there c.args.store c.set_step_limit.new.self c.set_step_limit.ensures (c.in-Ok.ensures.known clean)))
 
 pub returns-in-Err-clause-known_first : goal.returns-in-Err-clause-known_first
 returns-in-Err-clause-known_first g c clean is =
-    known_there c.args.store c.set_step_limit.new.self c.set_step_limit.ensures (c.in-Err.ensures.known_first clean is)
+    inl (known_there c.args.store c.set_step_limit.new.self c.set_step_limit.ensures (c.in-Err.ensures.known_first clean is))
+
+pub returns-in-Err-clause-refused : goal.returns-in-Err-clause-refused
+returns-in-Err-clause-refused g c clean own =
+    let text = c.args.map_text.now in
+    let it = there g.S.Store c.args.map.now c.args.store own c.set_step_limit.new.self c.set_step_limit.ensures in
+    let refused = c.in-Err.ensures.refused
+    (λ shows. (kept_from g.S.Store c.args.map.now c.args.store own c.set_step_limit.new.self c.set_step_limit.ensures
+    c.is_autocommit.result (c.is_autocommit.ensures.value, c.is_autocommit.ensures.settled, c.if-not-is_autocommit.false, shows)).0)
+    clean it.1 c.args.map.now it.2 in
+    subst (λ (t : Tables). IsRefused (sha256 text) (find is_first t.desk) c.in-Err.fault) it.0 refused
+
+pub returns-then-not-has_ballots-clause-known : goal.returns-then-not-has_ballots-clause-known
+returns-then-not-has_ballots-clause-known g c =
+    ok_turned _ _ c.open_old.result (λ k old clean. inr (old_there c.args.store c.set_step_limit.new.self c.set_step_limit.ensures (old clean))) c.open_old.ensures.known
+
+pub returns-then-not-has_ballots-clause-known_first : goal.returns-then-not-has_ballots-clause-known_first
+returns-then-not-has_ballots-clause-known_first g c =
+    err_turned _ _ c.open_old.result (λ e old clean is. inr (old_there c.args.store c.set_step_limit.new.self c.set_step_limit.ensures (old clean is))) c.open_old.ensures.known_first
+
+pub returns-then-not-has_ballots-clause-own : goal.returns-then-not-has_ballots-clause-own
+returns-then-not-has_ballots-clause-own g c =
+    if_err _ c.open_old.result (λ e clean own says. absurd (has_them g.S.Store c.args.map.now c.args.store c.set_step_limit.new.self c.set_step_limit.ensures (sym c.has_ballots.ensures.value ∙ c.if-not-has_ballots.true) own))
+
+pub returns-then-not-has_ballots-clause-ends : goal.returns-then-not-has_ballots-clause-ends
+returns-then-not-has_ballots-clause-ends g c =
+    if_err _ c.open_old.result (λ e clean desk. absurd (has_them g.S.Store c.args.map.now c.args.store c.set_step_limit.new.self c.set_step_limit.ensures (sym c.has_ballots.ensures.value ∙ c.if-not-has_ballots.true) desk.wrote))
 
 pub returns-in-Err-clause-own : goal.returns-in-Err-clause-own
 returns-in-Err-clause-own g c clean own says =

@@ -67,7 +67,6 @@ const BALLOTS: &[(&str, char, usize)] = &[
     ("france", 'f', 1),
     ("france italy", 'f', 2),
     ("austria england france germany italy russia turkey", 'f', 7),
-    ("", '-', 0),
     ("no", '-', 0),
     ("NO YES", '-', 0),
     ("spain", '-', 0),

@@ -1,0 +1,25 @@
+use Rattle.dip_judge.proofs.StoredLemmas.{ends_still, holds, is_open, serves_from, serves_up_to}
+use Rattle.dip_judge.proofs.stored.serve_stored.Goals as goal
+
+pub returns-in-Ok-serve_all-clause-done : goal.returns-in-Ok-serve_all-clause-done
+returns-in-Ok-serve_all-clause-done g c =
+    rw c.into_store-in-Ok-serve_all.ensures
+    (λ clean own.
+    let opened = c.in-Ok.ensures.opened (c.serve_all.ensures.fair clean) own in
+    serves_from g.S.Store c.args.map.now c.args.store c.args.count _ c.in-Ok.keeper c.serve_all.new.keeper opened c.in-Ok.ensures.counted
+    (c.in-Ok-serve_all.ensures.goes (is_open g.S.Store c.args.map.now _ c.in-Ok.keeper opened) clean))
+
+pub returns-clause-stops : goal.returns-clause-stops
+returns-clause-stops g c =
+    rw c.into_store-in-Err-serve_all.ensures
+    (λ clean desk.
+    let opened = c.in-Ok.ensures.opened (c.serve_all.ensures.fair clean) desk.wrote in
+    serves_up_to g.S.Store c.args.map.now c.args.store c.args.count _ c.in-Ok.keeper c.serve_all.new.keeper opened c.in-Ok.ensures.counted
+    (c.serve_all.ensures.ends (is_open g.S.Store c.args.map.now _ c.in-Ok.keeper opened) clean))
+
+pub returns-in-Err-bind-clause-stops : goal.returns-in-Err-bind-clause-stops
+returns-in-Err-bind-clause-stops g c =
+    rw c.into_store.ensures
+    (λ clean desk.
+    let opened = c.in-Ok.ensures.opened clean desk.wrote in
+    ends_still g.S.Store c.args.map.now _ _ c.in-Ok.keeper.conn _ (holds g.S.Store c.args.map.now _ c.in-Ok.keeper opened))

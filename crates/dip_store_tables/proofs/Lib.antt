@@ -33,6 +33,7 @@ pub mod VoteLemmas
 mod Ballots
 mod Told
 mod Stays
+pub mod Renewing
 pub use Rattle.sqlite_keyed.proofs.KeyedLemmas
 pub use Rattle.sqlite_keyed.proofs.ListLemmas
 pub use Rattle.sqlite_keyed.proofs.SliceLemmas

@@ -69,3 +69,11 @@ module _ (m : Chart) (ok : IsMap m) where
   named_powers text not_no not_yes (Yes, of_map, is) = absurd (not_yes is)
   named_powers text not_no not_yes (For ps, of_map, is) =
       subst (ArePowers m) (sym (ap (pieces 32) is ∙ names_cut ps of_map.0)) (all_powers m ps of_map.0)
+
+  -- a ballot's text is never empty
+  pub never_empty : (text : List ℕ) → length text ≡ 0 → IsBallotText m text → ⊥
+  never_empty text none (No, of_map, is) = absurd (omega (arith, none, ap length is))
+  never_empty text none (Yes, of_map, is) = absurd (omega (arith, none, ap length is))
+  never_empty [] none (For [], of_map, is) = absurd (omega (arith, of_map.2))
+  never_empty [] none (For (p ∷ ps), of_map, is) = let cut : [] ≡ map (power_name m) (p ∷ ps) = ap (pieces 32) is ∙ names_cut (p ∷ ps) of_map.0 in cc
+  never_empty (x ∷ xs) none (For ps, of_map, is) = absurd (omega (arith, none))

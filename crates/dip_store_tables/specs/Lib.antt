@@ -16,6 +16,7 @@ pub mod Columns
 pub mod LegibleLaws
 pub mod Legible
 pub mod Room
+pub mod Renewing
 pub mod ChangeTexts
 pub use Rattle.sqlite_keyed.specs.Lists
 pub use Rattle.sqlite_keyed.specs.Keyed

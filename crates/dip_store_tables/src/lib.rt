@@ -30,8 +30,9 @@ pub use legible_laws::{new_tables_are_legible, tables_stay_legible};
 pub use legible_texts::has_texts;
 pub use statuses::read_status;
 pub use table_laws::{
-    new_tables_are_new, own_is_found, page_is_found, paper_is_found, press_is_delivered_one_by_one,
-    public_is_found, state_is_changed, tables_stay_coded, tables_stay_counted, tables_stay_written,
+    new_tables_are_new, old_tables_are_renewed, own_is_found, page_is_found, paper_is_found,
+    press_is_delivered_one_by_one, public_is_found, state_is_changed, tables_stay_coded,
+    tables_stay_counted, tables_stay_written,
 };
 pub use votes::{ballot_text, read_vote};
 pub use widths::has_widths;

@@ -1,6 +1,7 @@
 //! Laws of the tables, each the contract of a function that does nothing.
 ghost use Rattle.dip_map.specs.Charts.{Chart, IsMap};
 ghost use Rattle.dip_store_tables.specs.Looking.{OwnIsFound, PageIsFound, PaperIsFound, PublicIsFound};
+ghost use Rattle.dip_store_tables.specs.Renewing.{OldTablesAreRenewed};
 ghost use Rattle.dip_store_tables.specs.Laws.{IsDeliveredOneByOne, NewTablesAreNew, StateIsChanged, TablesStayCoded, TablesStayCounted, TablesStayWritten};
 
 /// What the statements of a change do is the change: behind them the tables say the state after it.
@@ -51,4 +52,9 @@ pub fn press_is_delivered_one_by_one()
 /// The tables of a new desk say that it has no game, and are such as a keeper wrote.
 pub fn new_tables_are_new()
     ensures { (m : Chart) → NewTablesAreNew m }
+{}
+
+/// Tables of version 1 become tables of version 2 that say the same: each seat's vote stands on its ballot, and all else is as it was.
+pub fn old_tables_are_renewed()
+    ensures { (m : Chart) → OldTablesAreRenewed m }
 {}

@@ -66,6 +66,9 @@ pub fn read_vote(alloc: Global, map: &Map, text: &str) -> Result<Option<Vote>, A
     ensures none { IfOk result (λ o. IfNone o (IsBallotText map.now text.now → ⊥)) }
 {
     map.facts();
+    if text.is_empty() {
+        return Ok(None);
+    }
     if text == "NO" {
         return Ok(Some(Vote::No));
     }

@@ -1,7 +1,7 @@
-use Rattle.std.proofs.Common.{◌≡◌, true, false, bytes_eq, codes, ap, subst, sym, ◌∙◌, rules}
+use Rattle.std.proofs.Common.{length, ◌≡◌, true, false, bytes_eq, codes, ap, subst, sym, ◌∙◌, rules}
 use Rattle.dip_desk_state.specs.Rows as rows
 use Rattle.dip_store_tables.specs.Columns.{ArePowers}
-use Rattle.dip_store_tables.proofs.VoteLemmas.{named_powers}
+use Rattle.dip_store_tables.proofs.VoteLemmas.{named_powers, never_empty}
 use Rattle.dip_store_tables.proofs.votes.read_vote.Goals as goal
 
 pub returns-clause-none : goal.returns-clause-none
@@ -13,3 +13,8 @@ returns-clause-none c said =
     never (subst (ArePowers c.args.map.now) (sym c.in_ok-names.ensures)
     (named_powers c.args.map.now c.facts.ensures text (λ e. let bad : true ≡ false = sym (ap (λ t. bytes_eq t (codes "NO")) e) ∙ not_no in cc)
     (λ e. let bad : true ≡ false = sym (ap (λ t. bytes_eq t (codes "YES")) e) ∙ not_yes in cc) said))
+
+pub returns-then-is_empty-clause-none : goal.returns-then-is_empty-clause-none
+returns-then-is_empty-clause-none c said =
+    let none : length c.args.text.now ≡ 0 = search rules in
+    never_empty c.args.map.now c.facts.ensures c.args.text.now none said

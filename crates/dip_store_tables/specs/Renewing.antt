@@ -7,7 +7,7 @@ use Rattle.dip_desk_state.specs.Records.{Kept, Vote, No, Yes}
 use Rattle.dip_desk_state.specs.State.{Game, Part, State}
 use Rattle.dip_store_tables.specs.Coding.{AreApart, HasGame, IsSeatOf}
 use Rattle.dip_store_tables.specs.Counting.{AreCounted}
-use Rattle.dip_store_tables.specs.Legible.{AreLegible, AreOurs}
+use Rattle.dip_store_tables.specs.Legible.{AreLegible, AreOurs, IsText}
 use Rattle.dip_store_tables.specs.Reading.{desk_of, items_of, own_of, papers_of, public_of, state_of}
 use Rattle.dip_store_tables.specs.Tables.{BallotRow, DeskRow, GameRow, SeatRow, Tables, is_seat_in}
 use Rattle.dip_store_tables.specs.Writing.{choice_row}
@@ -69,6 +69,7 @@ pub record WereOurs (m : Chart) (t : Tables) : Type 0 where
   pub desk : (d : DeskRow) × (t.desk ≡ d ∷ []) × ((d.id == 1) ≡ true)
   pub desks : AllByRecursion IsDeskWritten t.desk
   pub games : AllByRecursion (IsGameWritten m t.units t.centres) t.games
+  pub names : AllByRecursion (λ g. IsText g.name) t.games
   pub seats : AllByRecursion WasSeatWritten t.seats
   pub powers : AllByRecursion (IsSeatOf m) t.seats
   pub played : AllByRecursion (λ s. HasGame t.games s.game) t.seats

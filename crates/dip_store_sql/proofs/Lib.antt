@@ -12,6 +12,7 @@ pub mod Missing
 pub mod Creating
 pub mod Accepted
 pub mod Created
+pub mod Grown
 pub mod Defined
 pub mod Meaning
 pub mod Texts

@@ -340,10 +340,10 @@ list_games_query = plain_query 2 [] list_games_shown in_turn
 
 abbrev pub list_votes_text : List ℕ
 list_votes_text =
-    codes "SELECT power, vote FROM seat WHERE game = ?1 ORDER BY rowid"
+    codes "SELECT game, power, vote FROM seat ORDER BY rowid"
 
 abbrev pub list_votes_shown : List Term
-list_votes_shown = col 1 2 ∷ col 1 4 ∷ []
+list_votes_shown = col 1 1 ∷ col 1 2 ∷ col 1 4 ∷ []
 
 abbrev pub list_votes_query : Query
-list_votes_query = plain_query 4 by_one list_votes_shown in_turn
+list_votes_query = plain_query 4 [] list_votes_shown in_turn

@@ -41,6 +41,7 @@ pub mod Ruled
 pub mod Sane
 pub mod Unique
 pub mod Wanting
+pub mod Whole
 pub mod Wants
 pub mod Told
 pub mod Flags

@@ -144,12 +144,12 @@ note_ballot_text =
 abbrev pub note_ballot_row : List Term
 note_ballot_row = col 1 0 ∷ col 1 0 ∷ col 1 1 ∷ col 1 2 ∷ col 0 2 ∷ []
 
-abbrev pub clear_vote_text : List ℕ
-clear_vote_text =
-    codes "UPDATE seat SET vote = 0 WHERE game = ?1 AND power = ?2"
+abbrev pub clear_votes_text : List ℕ
+clear_votes_text =
+    codes "UPDATE seat SET vote = 0"
 
-abbrev pub clear_vote_row : List Term
-clear_vote_row =
+abbrev pub clear_votes_row : List Term
+clear_votes_row =
     col 1 0 ∷ col 1 0 ∷ col 1 1 ∷ col 1 2 ∷ col 1 3 ∷ lit (Int (pos 0)) ∷ col 1 5 ∷ col 1 6 ∷ col 1 7 ∷
     col 1 8 ∷ col 1 9 ∷ []
 

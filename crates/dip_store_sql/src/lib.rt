@@ -23,7 +23,7 @@ pub use lookups::{
     count_papers, count_sent, find_ballot, find_desk, find_game, find_item, find_paper, find_seat,
 };
 pub use noting::{
-    clear_vote, count_item, note_ballot, note_desk, note_seat, note_sent, renew_game,
+    clear_votes, count_item, note_ballot, note_desk, note_seat, note_sent, renew_game,
     replace_digest, set_version,
 };
 pub use rows::{GameRow, ItemRow, LastLetter, UnitRow};

@@ -1,7 +1,8 @@
 -- What the queries are asked with.
 use Rattle.std.proofs.Common.{ℕ, pos, List, [], ◌∷◌, refl}
 use Rattle.sqlite.specs.declared.types.Value.TheVariants.{Int, Text}
-use Rattle.dip_store_sql.specs.Asking.{Accepts}
+use Rattle.dip_store_sql.specs.Asking.{Accepts, AcceptsIn}
+use Rattle.dip_store_sql.specs.Old.{old_schema}
 use Rattle.dip_store_sql.specs.Statements.{find_desk_query, find_game_query, count_papers_query, find_seat_query, count_sent_query, find_item_query, find_paper_query, list_seats_query, list_units_query, list_centres_query, list_orders_query, find_ballot_query, list_games_query, list_votes_query}
 
 pub find_desk : Accepts find_desk_query []
@@ -40,8 +41,12 @@ list_orders game power = refl
 pub find_ballot : (game : List ℕ) (power : List ℕ) → Accepts find_ballot_query (Text game ∷ Text power ∷ [])
 find_ballot game power = refl
 
-pub list_games : Accepts list_games_query []
+-- in a store of version 1
+pub find_old_desk : AcceptsIn old_schema find_desk_query []
+find_old_desk = refl
+
+pub list_games : AcceptsIn old_schema list_games_query []
 list_games = refl
 
-pub list_votes : (game : List ℕ) → Accepts list_votes_query (Text game ∷ [])
-list_votes game = refl
+pub list_votes : AcceptsIn old_schema list_votes_query []
+list_votes = refl

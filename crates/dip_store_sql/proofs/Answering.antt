@@ -1,5 +1,5 @@
 -- What each query answers.
-use Rattle.std.proofs.Common.{◌≡◌, ℕ, pos, true, List, [], ◌∷◌, map, filter, option_map, option_to_list, refl}
+use Rattle.std.proofs.Common.{◌≡◌, ℕ, pos, true, List, [], ◌∷◌, map, filter, option_map, option_to_list, refl, ap, ◌∙◌}
 use Rattle.std.specs.List.{find}
 use Rattle.sqlite.specs.declared.types.Value.TheVariants.{Int, Text as Words}
 use Rattle.sqlite.specs.Order.{Row}
@@ -10,11 +10,17 @@ use Rattle.dip_store_sql.proofs.Texts as means
 use Rattle.dip_store_tables.specs.Tables.{is_ballot, is_named, is_seat, is_seat_in, is_unit_in, is_centre_in, is_pending}
 use Rattle.dip_store_sql.specs.Rows.{tables_of, put_desk, take_desk, put_game, take_game, put_seat, take_seat, put_unit, take_unit, put_centre, take_centre, put_pending, take_pending, put_box, take_box, put_paper, take_paper, put_ballot, take_ballot}
 use Rattle.dip_store_sql.specs.Good.{IsGood}
+use Rattle.dip_store_sql.specs.Old.{WasGood, old_tables_of}
 use Rattle.dip_store_sql.specs.Showing.{show_desk, show_game, show_papers, show_seat, show_sent, show_item, show_paper, show_listed, show_unit, show_centre, show_order, show_ballot, show_name, show_vote, is_item, is_numbered}
 use Rattle.dip_store_sql.specs.TablesAfter.{is_first}
-use Rattle.dip_store_sql.proofs.Apart.{one_ballot, one_desk, one_game, one_seat, one_item, one_paper}
+use Rattle.dip_store_sql.proofs.Apart.{one_ballot, one_desk, one_old_desk, one_game, one_seat, one_item, one_paper}
 use Rattle.dip_store_sql.proofs.Telling.{tells_ballot, tells_desk, tells_game_in, tells_seat_in, tells_unit_in, tells_centre_in, tells_seat, tells_pending, tells_item, tells_paper}
 use Rattle.dip_store_sql.proofs.Found.{one_found, all_found}
+
+-- where nothing is asked for, each row passes
+all_pass : {A : Type 0} (xs : List A) → filter (λ x. true) xs ≡ xs
+all_pass [] = refl
+all_pass (x ∷ xs) = ap (λ ys. x ∷ ys) (all_pass xs)
 
 module _ (old new : State) (good : IsGood old.now) where
   pub find_desk : (rows : List Row) → Shown text.find_desk_text ([]) old new rows → rows ≡ option_to_list (option_map show_desk (find is_first (tables_of old.now.trees).desk))
@@ -77,12 +83,21 @@ module _ (old new : State) (good : IsGood old.now) where
       one_found put_ballot take_ballot 16 by_two text.find_ballot_shown (Words game ∷ Words power ∷ []) (is_ballot game power) show_ballot (tells_ballot game power []) (λ v a. refl) text.find_ballot_text 2 _ old new good.schema refl good.ballots
       means.find_ballot (one_ballot old.now good game power) rows h
 
-  pub list_games : (rows : List Row) → Shown text.list_games_text [] old new rows → rows ≡ map show_name (filter (λ g. true) (tables_of old.now.trees).games)
+-- in a store of version 1; the rows of its games and seats are listed whole
+module _ (old new : State) (good : WasGood old.now) where
+  pub find_old_desk : (rows : List Row) → Shown text.find_desk_text [] old new rows → rows ≡ option_to_list (option_map show_desk (find is_first (old_tables_of old.now.trees).desk))
+  find_old_desk rows h =
+      one_found put_desk take_desk 0 by_first text.find_desk_shown [] is_first show_desk (tells_desk []) (λ v a. refl) text.find_desk_text 0 _ old new good.schema refl good.desk
+      means.find_old_desk (one_old_desk old.now good) rows h
+
+  pub list_games : (rows : List Row) → Shown text.list_games_text [] old new rows → rows ≡ map show_name (old_tables_of old.now.trees).games
   list_games rows h =
       all_found put_game take_game 2 [] text.list_games_shown [] (λ g. true) show_name (λ v g. refl) (λ v a. refl) text.list_games_text 0 _ old new good.schema refl good.games
       means.list_games rows h
+      ∙ ap (map show_name) (all_pass (old_tables_of old.now.trees).games)
 
-  pub list_votes : (game : List ℕ) (rows : List Row) → Shown text.list_votes_text (Words game ∷ []) old new rows → rows ≡ map show_vote (filter (is_seat_in game) (tables_of old.now.trees).seats)
-  list_votes game rows h =
-      all_found put_seat take_seat 4 by_one text.list_votes_shown (Words game ∷ []) (is_seat_in game) show_vote (tells_seat_in game []) (λ v a. refl) text.list_votes_text 1 _ old new good.schema refl good.seats
+  pub list_votes : (rows : List Row) → Shown text.list_votes_text [] old new rows → rows ≡ map show_vote (old_tables_of old.now.trees).seats
+  list_votes rows h =
+      all_found put_seat take_seat 4 [] text.list_votes_shown [] (λ s. true) show_vote (λ v s. refl) (λ v a. refl) text.list_votes_text 0 _ old new good.schema refl good.seats
       means.list_votes rows h
+      ∙ ap (map show_vote) (all_pass (old_tables_of old.now.trees).seats)

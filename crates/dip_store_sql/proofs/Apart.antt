@@ -6,8 +6,11 @@ use Rattle.std.proofs.lemmas.Slice.Eq.{bytes_eq-Decides}
 use Rattle.sqlite.specs.Tree.{IsAscending}
 use Rattle.sqlite_value.specs.Keys.{first_key}
 use Rattle.sqlite_catalog.specs.Listing.{IsSound}
-use Rattle.sqlite.specs.Effect.{Database}
-use Rattle.dip_store_sql.specs.Recorded.{AtMostOne}
+use Rattle.sqlite.specs.Effect.{Database, IsDatabase}
+use Rattle.sqlite.specs.Schema.{Schema}
+use Rattle.sqlite_rules.specs.Lists.{Has}
+use Rattle.dip_store_sql.specs.Old.{WasGood, old_schema}
+use Rattle.dip_store_sql.specs.Recorded.{AtMostOne, IsRising}
 use Rattle.dip_store_sql.proofs.Keys.{apart_in, at_most_one}
 use Rattle.dip_store_sql.proofs.Tests.{text_test, number_test, and_true}
 use Rattle.dip_store_sql.specs.Schema.{our_schema, desk_table, game_table, seat_table, box_table, paper_table, ballot_table}
@@ -37,12 +40,6 @@ abbrev same_ballot : BallotRow → BallotRow → Bool
 same_ballot a b = is_ballot b.game b.power a
 
 module _ (db : Database) (good : IsGood db) where
-  desk_apart : IsAscending (λ a b. same_id a b ≡ false) (map take_desk (db.trees 0))
-  unfolding first_key
-  desk_apart = apart_in put_desk take_desk (1 ∷ []) same_id our_schema desk_table
-      (λ v w a b. ap (λ x. x && true) (number_test a.id b.id) ∙ and_true (a.id == b.id))
-      (inl refl) refl db.trees (subst (λ s. IsSound s db.trees) good.schema good.sound) good.desk
-
   games_apart : IsAscending (λ a b. same_name a b ≡ false) (map take_game (db.trees 2))
   unfolding first_key
   games_apart = apart_in put_game take_game (1 ∷ []) same_name our_schema game_table
@@ -86,9 +83,24 @@ equal a b c h k = grind (arith, nat_tests)
 both_true : (a b : Bool) → a ≡ true → b ≡ true → (a && b) ≡ true
 both_true a b h k = rw (h, k) refl
 
+-- a schema of which the master's table is one
+module _ (schema : Schema) (listed : Has schema.tables desk_table) (db : Database) (has : db.schema ≡ schema) (sound : IsDatabase db) (it : IsRising put_desk take_desk (db.trees 0)) where
+  desk_apart : IsAscending (λ a b. same_id a b ≡ false) (map take_desk (db.trees 0))
+  unfolding first_key
+  desk_apart = apart_in put_desk take_desk (1 ∷ []) same_id schema desk_table
+      (λ v w a b. ap (λ x. x && true) (number_test a.id b.id) ∙ and_true (a.id == b.id))
+      listed refl db.trees (subst (λ s. IsSound s db.trees) has sound) it
+
+  first_alone : AtMostOne is_first (map take_desk (db.trees 0))
+  first_alone = at_most_one same_id is_first (λ a b h k. equal a.id b.id 1 h k) (map take_desk (db.trees 0)) desk_apart
+
+-- in a store of version 1 too the master has one row
+pub one_old_desk : (db : Database) → WasGood db → AtMostOne is_first (map take_desk (db.trees 0))
+one_old_desk db good = first_alone old_schema (inl refl) db good.schema good.sound good.desk
+
 module _ (db : Database) (good : IsGood db) where
   pub one_desk : AtMostOne is_first (map take_desk (db.trees 0))
-  one_desk = at_most_one same_id is_first (λ a b h k. equal a.id b.id 1 h k) (map take_desk (db.trees 0)) (desk_apart db good)
+  one_desk = first_alone our_schema (inl refl) db good.schema good.sound good.desk
 
   pub one_game : (name : List ℕ) → AtMostOne (is_named name) (map take_game (db.trees 2))
   one_game name = at_most_one same_name (is_named name) (λ a b h k. alike a.name b.name name h k) (map take_game (db.trees 2)) (games_apart db good)

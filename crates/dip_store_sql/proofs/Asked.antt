@@ -94,9 +94,9 @@ pub note_ballot : IsAsked (length text.note_ballot_text) 3 (understood our_schem
 unfolding understood everything
 note_ballot = (refl, refl)
 
-pub clear_vote : IsAsked (length text.clear_vote_text) 2 (understood our_schema text.clear_vote_text)
+pub clear_votes : IsAsked (length text.clear_votes_text) 0 (understood our_schema text.clear_votes_text)
 unfolding understood everything
-clear_vote = (refl, refl)
+clear_votes = (refl, refl)
 
 pub set_version : IsAsked (length text.set_version_text) 0 (understood our_schema text.set_version_text)
 unfolding understood everything

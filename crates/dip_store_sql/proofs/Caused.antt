@@ -1,6 +1,5 @@
 -- A cause that is told of a part of a call is told of the whole.
-use Rattle.std.proofs.Common.{inl, inr, ℕ, ◌≤◌, arith}
-use Rattle.sqlite.specs.Disk.{MoreFaults}
+use Rattle.std.proofs.Common.{inl, inr, ◌≤◌, arith}
 use Rattle.sqlite.specs.declared.error.Error.{Error}
 use Rattle.sqlite.specs.State.{State}
 use Rattle.dip_store_sql.specs.Causes.{Faulted, IsCaused}

@@ -23,7 +23,7 @@ pub all_made : made our_schema.tables ≡ our_schema
 unfolding digits
 all_made = refl
 
-abbrev Makes : Schema → List ℕ → Type 0
+abbrev pub Makes : Schema → List ℕ → Type 0
 Makes schema sql = (command_of (understood schema sql) ≡ CreateTable) × IsPlain (understood schema sql) × (statement_of sql (understood schema sql) ≡ sql)
 
 desk_makes : Makes (no_schema) create_desk
@@ -82,14 +82,14 @@ paper_makes = (refl, (refl, refl), refl)
 pub paper_made : (old new : State) (count : ℕ) → IsBare (made (desk_table ∷ game_table ∷ seat_table ∷ unit_table ∷ centre_table ∷ pending_table ∷ box_table ∷ [])) old.now → Executes create_paper [] old new (Ok count) → IsBare (made (desk_table ∷ game_table ∷ seat_table ∷ unit_table ∷ centre_table ∷ pending_table ∷ box_table ∷ paper_table ∷ [])) new.now × IsDatabase new.now
 paper_made old new count bare h = bare_more (made (desk_table ∷ game_table ∷ seat_table ∷ unit_table ∷ centre_table ∷ pending_table ∷ box_table ∷ [])) create_paper (record paper_table { tree = 0 }) paper_makes.0 paper_makes.1 paper_makes.2 paper_defined refl old new count bare h
 
-ballot_makes : Makes (made (desk_table ∷ game_table ∷ seat_table ∷ unit_table ∷ centre_table ∷ pending_table ∷ box_table ∷ paper_table ∷ [])) create_ballot
+pub ballot_makes : Makes (made (desk_table ∷ game_table ∷ seat_table ∷ unit_table ∷ centre_table ∷ pending_table ∷ box_table ∷ paper_table ∷ [])) create_ballot
 unfolding understood everything
 ballot_makes = (refl, (refl, refl), refl)
 
 pub ballot_made : (old new : State) (count : ℕ) → IsBare (made (desk_table ∷ game_table ∷ seat_table ∷ unit_table ∷ centre_table ∷ pending_table ∷ box_table ∷ paper_table ∷ [])) old.now → Executes create_ballot [] old new (Ok count) → IsBare (made (desk_table ∷ game_table ∷ seat_table ∷ unit_table ∷ centre_table ∷ pending_table ∷ box_table ∷ paper_table ∷ ballot_table ∷ [])) new.now × IsDatabase new.now
 ballot_made old new count bare h = bare_more (made (desk_table ∷ game_table ∷ seat_table ∷ unit_table ∷ centre_table ∷ pending_table ∷ box_table ∷ paper_table ∷ [])) create_ballot (record ballot_table { tree = 0 }) ballot_makes.0 ballot_makes.1 ballot_makes.2 ballot_defined refl old new count bare h
 
-choice_makes : Makes (made (desk_table ∷ game_table ∷ seat_table ∷ unit_table ∷ centre_table ∷ pending_table ∷ box_table ∷ paper_table ∷ ballot_table ∷ [])) create_choice
+pub choice_makes : Makes (made (desk_table ∷ game_table ∷ seat_table ∷ unit_table ∷ centre_table ∷ pending_table ∷ box_table ∷ paper_table ∷ ballot_table ∷ [])) create_choice
 unfolding understood everything
 choice_makes = (refl, (refl, refl), refl)
 

@@ -31,10 +31,10 @@ one_more P (y ∷ xs) x all here = (all.0, one_more P xs x all.1 here)
 
 module _ (schema : Schema) (sql : List ℕ) (table : Table) (is : command_of (understood schema sql) ≡ CreateTable) (plain : IsPlain (understood schema sql)) (whole : statement_of sql (understood schema sql) ≡ sql)
     (defined : table_defined_by sql ≡ Ok table) (uncounted : lacks_sequence (created schema table) ≡ false) where
-  -- a table more, without a row, and the others are as they were
-  pub bare_more : (old new : State) (count : ℕ) → IsBare schema old.now → Executes sql [] old new (Ok count) → IsBare (created schema table) new.now × IsDatabase new.now
-  bare_more old new count bare h =
-      let has = bare.schema_is in
+  -- a table more, without a row; the rows of the others are as they were
+  pub table_more : (old new : State) (count : ℕ) → old.now.schema ≡ schema → Executes sql [] old new (Ok count)
+      → (new.now.schema ≡ created schema table) × IsDatabase new.now × KeepsRows schema.tables old.now.trees new.now.trees × (new.now.trees (next_tree schema) ≡ [])
+  table_more old new count has h =
       let w = subst (λ t. Writes old new None CreateTable t [] count) whole (runs_as sql [] old new schema has CreateTable is plain count h) in
       let all = went w.changed in
       let first = went all.1 in
@@ -45,6 +45,16 @@ module _ (schema : Schema) (sql : List ℕ) (table : Table) (is : command_of (un
       let counts : lacks_sequence first.0.schema ≡ false = ap lacks_sequence after ∙ uncounted in
       let now : new.now ≡ first.0 = ap (λ (p : Tally × Database). p.1) (same_value all.2) ∙ same_value (rw counts at first.2) in
       let here : first.0.trees (next_tree schema) ≡ [] = subst (λ s. first.0.trees (next_tree s) ≡ []) has made.empty in
-      let kept : KeepsRows schema.tables old.now.trees first.0.trees = subst (λ (s : Schema). KeepsRows s.tables old.now.trees first.0.trees) has made.others in
-      let empty = one_more (λ (t : Table). first.0.trees t.tree ≡ []) schema.tables (record table { tree = next_tree schema }) (still_empty schema.tables old.now.trees first.0.trees kept bare.empty) here in
-      (subst (IsBare (created schema table)) (sym now) (record { schema_is = after; empty = empty }), w.sound)
+      let kept : KeepsRows schema.tables old.now.trees first.0.trees = subst (λ (s : Schema). KeepsRows s.tables old.now.trees first.0.trees) has made.others in (
+        ap (λ (d : Database). d.schema) now ∙ after,
+        w.sound,
+        subst (λ (d : Database). KeepsRows schema.tables old.now.trees d.trees) (sym now) kept,
+        ap (λ (d : Database). d.trees (next_tree schema)) now ∙ here,
+      )
+
+  -- none of its tables has a row, where none had one
+  pub bare_more : (old new : State) (count : ℕ) → IsBare schema old.now → Executes sql [] old new (Ok count) → IsBare (created schema table) new.now × IsDatabase new.now
+  bare_more old new count bare h =
+      let more = table_more old new count bare.schema_is h in
+      let empty = one_more (λ (t : Table). new.now.trees t.tree ≡ []) schema.tables (record table { tree = next_tree schema }) (still_empty schema.tables old.now.trees new.now.trees more.2 bare.empty) more.3 in
+      (record { schema_is = more.0; empty = empty }, more.1)

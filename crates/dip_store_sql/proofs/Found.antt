@@ -9,6 +9,7 @@ use Rattle.sqlite.specs.declared.types.Value.{Value}
 use Rattle.sqlite.specs.declared.types.Value.TheVariants.{Null}
 use Rattle.sqlite.specs.declared.error.Error.{Error}
 use Rattle.sqlite.specs.Order.{Row}
+use Rattle.sqlite.specs.Schema.{Schema}
 use Rattle.sqlite.specs.Term.{Term, eval_all}
 use Rattle.sqlite_value.specs.declared.keys.Key.{Key}
 use Rattle.sqlite.specs.Command.TheVariants.{Select}
@@ -24,8 +25,7 @@ use Rattle.dip_store_sql.specs.Queries.{passes, plain_query}
 use Rattle.dip_store_sql.specs.Faults.{IsOutside}
 use Rattle.dip_store_sql.proofs.Finding.{shown_rows, rows_in_turn}
 use Rattle.dip_store_sql.proofs.Faults.{blames, query_sane}
-use Rattle.dip_store_sql.specs.Schema.{our_schema}
-use Rattle.dip_store_sql.specs.Asking.{Asks, Accepts, IsAsked, command_in, in_turn}
+use Rattle.dip_store_sql.specs.Asking.{AsksIn, AcceptsIn, IsAsked, command_in, in_turn}
 use Rattle.dip_store_sql.proofs.Meaning.{commanded}
 use Rattle.dip_store_sql.specs.Causes.{Faulted, IsCaused}
 
@@ -71,40 +71,40 @@ popped {X} rows rest o (Some y) split some is = ends rest o split some
     ends (w ∷ []) (Some x) split some = absurd (let h = sym split ∙ is in let e = ap length h in omega (arith, e))
     ends (w ∷ v ∷ ws) (Some x) split some = absurd (let h = sym split ∙ is in cc)
 
-module _ {A : Type 0} (put : A → Row) (take : Row → A) (t : ℕ) (tests shown : List Term) (params : Row) (p : A → Bool) (show : A → Row) (tells : (v : Value) (a : A) → passes tests params (v ∷ put a) ≡ p a)
-    (shows : (v : Value) (a : A) → eval_all shown (params ∷ (v ∷ put a) ∷ []) ≡ show a) (text : List ℕ) (count : ℕ) (names : List (List ℕ)) (old new : State) (schema : old.now.schema ≡ our_schema)
+module _ {schema : Schema} {A : Type 0} (put : A → Row) (take : Row → A) (t : ℕ) (tests shown : List Term) (params : Row) (p : A → Bool) (show : A → Row) (tells : (v : Value) (a : A) → passes tests params (v ∷ put a) ≡ p a)
+    (shows : (v : Value) (a : A) → eval_all shown (params ∷ (v ∷ put a) ∷ []) ≡ show a) (text : List ℕ) (count : ℕ) (names : List (List ℕ)) (old new : State) (has : old.now.schema ≡ schema)
     (seen : overlay old.now.trees [] t ≡ old.now.trees t) (it : IsRising put take (old.now.trees t)) where
   -- of at most one that passes, its row
-  pub one_found : Asks text count (plain_query t tests shown []) names → AtMostOne p (map take (old.now.trees t)) → (rows : List Row) → Shown text params old new rows
+  pub one_found : AsksIn schema text count (plain_query t tests shown []) names → AtMostOne p (map take (old.now.trees t)) → (rows : List Row) → Shown text params old new rows
       → rows ≡ option_to_list (option_map show (find p (map take (old.now.trees t))))
   one_found asks lone rows h =
-      let got = reads_as text params old new our_schema schema _ (commanded _ _ asks.means.0) asks.means.1 asks.unlisted rows h in
+      let got = reads_as text params old new schema has _ (commanded _ _ asks.means.0) asks.means.1 asks.unlisted rows h in
       alone p show (map take (old.now.trees t)) rows lone (shown_rows put take t tests shown params p show tells shows old.now.trees seen it rows (got.answer Null))
 
   -- all that pass, in the order in which they stand
-  pub all_found : Asks text count (plain_query t tests shown in_turn) names → (rows : List Row) → Shown text params old new rows → rows ≡ map show (filter p (map take (old.now.trees t)))
+  pub all_found : AsksIn schema text count (plain_query t tests shown in_turn) names → (rows : List Row) → Shown text params old new rows → rows ≡ map show (filter p (map take (old.now.trees t)))
   all_found asks rows h =
-      let got = reads_as text params old new our_schema schema _ (commanded _ _ asks.means.0) asks.means.1 asks.unlisted rows h in
+      let got = reads_as text params old new schema has _ (commanded _ _ asks.means.0) asks.means.1 asks.unlisted rows h in
       rows_in_turn put take t tests shown params p show tells shows old.now.trees seen it rows (got.answer Null)
 
 pub within : (a b : ℕ) → nat_le a b ≡ true → a ≤ b
 within a b h = grind (arith, nat_tests)
 
-module _ (text : List ℕ) (params : Row) (count t : ℕ) (tests shown : List Term) (order : List (Term × Key)) (names : List (List ℕ)) (asks : Asks text count (plain_query t tests shown order) names)
-    (accepts : Accepts (plain_query t tests shown order) params) (given : length params ≡ count) (old new : State) (schema : old.now.schema ≡ our_schema) (unlimited : old.step_limit ≡ None) (up : IsTrue old.is_open) where
+module _ {schema : Schema} (text : List ℕ) (params : Row) (count t : ℕ) (tests shown : List Term) (order : List (Term × Key)) (names : List (List ℕ)) (asks : AsksIn schema text count (plain_query t tests shown order) names)
+    (accepts : AcceptsIn schema (plain_query t tests shown order) params) (given : length params ≡ count) (old new : State) (has : old.now.schema ≡ schema) (unlimited : old.step_limit ≡ None) (up : IsTrue old.is_open) where
   -- a query fails for want of memory, or by the disk
   fails_outside : (e : Error) → FailsToQuery text params old new e → IsOutside e
-  fails_outside e h = go (understood our_schema text) (ap (λ s. understood s text) schema) asks.means.0 asks.means.1 asks.asked
+  fails_outside e h = go (understood schema text) (ap (λ s. understood s text) has) asks.means.0 asks.means.1 asks.asked
     where
       go : (r : Result Compiled CompileError) → understood old.now.schema text ≡ r → command_in r (Select (record { lets = []; body = plain_query t tests shown order }) names) → IsPlain r → IsAsked (length text) count r → IsOutside e
       go (Ok c) is means plain asked =
           query_sane text params old new c is (within _ _ asked.0) (given ∙ sym asked.1) plain.1 plain.0 t tests shown order names means
-          (ap (λ s. reads_listing s text) schema ∙ asks.unlisted) (subst (λ s. accepts_program s [] (plain_query t tests shown order) params ≡ true) (sym schema) accepts) unlimited up e h
+          (ap (λ s. reads_listing s text) has ∙ asks.unlisted) (subst (λ s. accepts_program s [] (plain_query t tests shown order) params ≡ true) (sym has) accepts) unlimited up e h
       go (Err e) is means plain asked = absurd means
 
   -- and by the disk only where the store told of it
   pub fails_caused : (e : Error) → FailsToQuery text params old new e → IsCaused (Faulted old new) e
   fails_caused e h = elim (fails_outside e h) [
     | inl memory ↦ inl memory
-    | inr disk ↦ inr (disk, blames text params old new (subst (λ s. IsPlain (understood s text)) (sym schema) asks.means.1) e h disk)
+    | inr disk ↦ inr (disk, blames text params old new (subst (λ s. IsPlain (understood s text)) (sym has) asks.means.1) e h disk)
   ]

@@ -12,6 +12,7 @@ pub mod Missing
 pub mod Creating
 pub mod Accepted
 pub mod Created
+pub mod Grown
 pub mod Defined
 pub mod Meaning
 pub mod Texts
@@ -40,6 +41,7 @@ pub mod Ruled
 pub mod Sane
 pub mod Unique
 pub mod Wanting
+pub mod Whole
 pub mod Wants
 pub mod Told
 pub mod Flags

@@ -10,7 +10,7 @@ use Rattle.dip_store_sql.specs.Rows.{tables_of, put_desk, take_desk, put_game, t
 use Rattle.dip_store_sql.specs.Good.{IsGood}
 use Rattle.dip_store_sql.specs.TablesAfter.{no_tables, with_desk, new_desk}
 
-no_rows : {A : Type 0} (put : A → Row) (take : Row → A) (rows : List Row) → rows ≡ [] → IsRising put take rows
+pub no_rows : {A : Type 0} (put : A → Row) (take : Row → A) (rows : List Row) → rows ≡ [] → IsRising put take rows
 no_rows put take rows none = subst (IsRising put take) (sym none) (record { typed = tt; rising = tt })
 
 -- a database of our schema without a row has no records

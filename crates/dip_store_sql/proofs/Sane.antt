@@ -49,7 +49,7 @@ use Rattle.dip_store_sql.specs.Refusals.{IsWant}
 use Rattle.dip_store_sql.proofs.Failing.{delete_refused, edits_rows, fails, insert_oversized, insert_refused, mode, update_refused}
 use Rattle.dip_store_sql.proofs.Passing.{AreKept}
 use Rattle.dip_store_sql.proofs.Told.{want_weaker}
-use Rattle.dip_store_sql.proofs.Wanting.{KeysApart, delete_wants, insert_wants, update_wants}
+use Rattle.dip_store_sql.proofs.Wanting.{KeysApart, delete_wants, insert_wants, update_wants, whole_wants}
 use Rattle.dip_store_sql.proofs.Faults.{none_any}
 use Rattle.dip_store_sql.proofs.Found.{within}
 
@@ -189,3 +189,15 @@ module _ (schema : Schema) (at : ℕ) (table : Table) (listed : slice_get schema
               let r = update_refused schema at table listed bare calm refers params old.now has d.0 q (plainly schema old.now.trees table.tree tests shown params accepts) e d.1 in
               want_weaker ⊥ (Faulted old new) e (λ none. absurd none) (subst (IsWant ⊥) (sym r.4) (update_wants put take back schema table casts rules old.now.trees it params tests p tells f shown shows lone r.0 (met shown r.0 r.1) unique r.2 r.3))
         ]
+
+  pub whole_sane : (f : A → A) (shown : List Term) → ((v : Value) (a : A) → eval_all shown (params ∷ (v ∷ put a) ∷ []) ≡ v ∷ v ∷ put (f a))
+      → command_in (understood schema text) (Update at (record { lets = []; body = plain_query table.tree [] shown [] }))
+      → accepts_program schema (lets_of (record { lets = []; body = plain_query table.tree [] shown [] })) (plain_query table.tree [] shown []) params ≡ true
+      → KeysApart put take back schema table casts rules old.now.trees it (map f (map take (old.now.trees table.tree))) → IsWant (Faulted old new) e
+  whole_sane f shown shows means accepts unique =
+      let q : Program = record { lets = []; body = plain_query table.tree [] shown [] } in elim (unmet (Update at q) means refl refl) [
+        | inl w ↦ w
+        | inr d ↦
+            let r = update_refused schema at table listed bare calm refers params old.now has d.0 q (plainly schema old.now.trees table.tree [] shown params accepts) e d.1 in
+            want_weaker ⊥ (Faulted old new) e (λ none. absurd none) (subst (IsWant ⊥) (sym r.4) (whole_wants put take back schema table casts rules old.now.trees it params f shown shows r.0 (met [] (λ a. true) (λ v a. refl) shown r.0 r.1) unique r.2 r.3))
+      ]

@@ -11,17 +11,23 @@ use Rattle.sqlite.specs.State.{HasCleanDisk, IsUnchanged, IsRolledBack, Survives
 use Rattle.sqlite.proofs.Callers.{IsPlain, never_commits}
 use Rattle.dip_store_sql.proofs.Reading.{row_same, none_same, err_undone, row_open}
 use Rattle.sqlite.specs.Effect.{Database}
+use Rattle.sqlite.specs.Schema.{Schema}
 use Rattle.dip_store_sql.specs.Schema.{our_schema}
 use Rattle.dip_store_tables.specs.Counting.{AreCounted}
 use Rattle.dip_store_sql.specs.Rows.{tables_of}
 use Rattle.dip_store_sql.specs.Good.{IsGood}
-use Rattle.dip_store_sql.specs.Calls.{IsKept, Selects, is_honest, does_show}
+use Rattle.dip_store_sql.specs.Calls.{IsKept, SelectsFrom, WasKept, is_honest, does_show}
+use Rattle.dip_store_sql.specs.Old.{WasGood, old_schema}
 use Rattle.dip_store_sql.specs.Causes.{has_faulted}
 use Rattle.dip_store_sql.proofs.Caused.{faulted_early, faulted_late}
 use Rattle.dip_store_sql.proofs.Parts.{went, fails}
 
-module _ {S : Type 0} (g : Ghosts S) where
-  pub selects_then : {X E Y F : Type 0} (a b c : Held S) (x : X) (r : Result Y F) → Selects g a b (went X E x) → Selects g b c r → Selects g a c r
+any_ok : {Y F : Type 0} (r : Result Y F) (P : Type 0) → P → OnOk r P
+any_ok (Ok y) P p = p
+any_ok (Err f) P p = tt
+
+module _ {S : Type 0} {Kept : Held S → Type 0} (g : Ghosts S) where
+  pub selects_then : {X E Y F : Type 0} (a b c : Held S) (x : X) (r : Result Y F) → SelectsFrom Kept g a b (went X E x) → SelectsFrom Kept g b c r → SelectsFrom Kept g a c r
   selects_then a b c x r p q = record {
     fair = λ clean. p.fair (q.fair clean);
     shown = λ shows. p.shown (q.shown shows);
@@ -41,23 +47,52 @@ module _ {S : Type 0} (g : Ghosts S) where
       ]
       closes_then (inr more) clean = inr (faulted_early (state g a) (state g b) (state g c) q.counts more)
 
-  any_ok : {Y F : Type 0} (r : Result Y F) (P : Type 0) → P → OnOk r P
-  any_ok (Ok y) P p = p
-  any_ok (Err f) P p = tt
-
   -- what went well may yet be answered otherwise
-  pub selects_as : {X E Y F : Type 0} (a b : Held S) (x : X) (r : Result Y F) → Selects g a b (went X E x) → Selects g a b r
+  pub selects_as : {X E Y F : Type 0} (a b : Held S) (x : X) (r : Result Y F) → SelectsFrom Kept g a b (went X E x) → SelectsFrom Kept g a b r
   selects_as a b x r p = record { fair = p.fair; shown = p.shown; mode = p.mode; counts = p.counts; kept = p.kept; same = p.same; ok = λ kept clean. any_ok r (does_show g b) (p.ok kept clean); closes = p.closes; left = p.left }
 
-  pub selects_fails : {X E Y F : Type 0} (a b : Held S) (e : E) (f : F) → Selects g a b (fails X E e) → Selects g a b (fails Y F f)
+  pub selects_fails : {X E Y F : Type 0} (a b : Held S) (e : E) (f : F) → SelectsFrom Kept g a b (fails X E e) → SelectsFrom Kept g a b (fails Y F f)
   selects_fails a b e f p = record { fair = p.fair; shown = p.shown; mode = p.mode; counts = p.counts; kept = p.kept; same = p.same; ok = λ kept clean. tt; closes = p.closes; left = p.left }
 
-module _ {S : Type 0} (g : Ghosts S) (text : List ℕ) (params : Row) (old new : Held S) (plain : IsPlain (understood our_schema text)) (survives : Survives (state g old) (state g new) (CommitsShowing text params (state g old)))
-    (mode : old.in_transaction ≡ false → new.in_transaction ≡ false) where
-  plain_in : IsKept g old → IsPlain (understood (state g old).now.schema text)
-  plain_in kept = subst (λ s. IsPlain (understood s text)) (sym kept.good.schema) plain
+-- rows of one schema, all of them committed, that are kept while the database and the limit of steps are the same
+pub record IsLasting {S : Type 0} (schema : Schema) (Kept : Held S → Type 0) (g : Ghosts S) : Type 0 where
+  pub has : (h : Held S) → Kept h → (state g h).now.schema ≡ schema
+  pub settled : (h : Held S) → Kept h → (state g h).now ≡ (state g h).committed
+  pub lasts : (old new : Held S) → Kept old → (state g new).now ≡ (state g old).now → (state g new).committed ≡ (state g old).committed
+      → (old.in_transaction ≡ false → new.in_transaction ≡ false) → new.step_limit ≡ old.step_limit → Kept new
 
-  left_by : IsKept g old → is_honest g new → (db : Trees) → (state g new).may_leave db → (state g old).may_leave db
+-- what a keeper has written, of our schema, and of that of version 1
+pub kept_lasts : {S : Type 0} (g : Ghosts S) → IsLasting our_schema (IsKept g) g
+kept_lasts g = record {
+  has = λ h kept. kept.good.schema;
+  settled = λ h kept. kept.settled;
+  lasts = λ old new kept now committed mode limit. record {
+    good = subst IsGood (sym now) kept.good;
+    counted = subst (λ (d : Database). AreCounted (tables_of d.trees)) (sym now) kept.counted;
+    idle = mode kept.idle;
+    settled = now ∙ kept.settled ∙ sym committed;
+    unlimited = limit ∙ kept.unlimited;
+  };
+}
+
+pub old_lasts : {S : Type 0} (g : Ghosts S) → IsLasting old_schema (WasKept g) g
+old_lasts g = record {
+  has = λ h kept. kept.good.schema;
+  settled = λ h kept. kept.settled;
+  lasts = λ old new kept now committed mode limit. record {
+    good = subst WasGood (sym now) kept.good;
+    idle = mode kept.idle;
+    settled = now ∙ kept.settled ∙ sym committed;
+    unlimited = limit ∙ kept.unlimited;
+  };
+}
+
+module _ {S : Type 0} {schema : Schema} {Kept : Held S → Type 0} (g : Ghosts S) (lasting : IsLasting schema Kept g) (text : List ℕ) (params : Row) (old new : Held S) (plain : IsPlain (understood schema text)) (survives : Survives (state g old) (state g new) (CommitsShowing text params (state g old)))
+    (mode : old.in_transaction ≡ false → new.in_transaction ≡ false) where
+  plain_in : Kept old → IsPlain (understood (state g old).now.schema text)
+  plain_in kept = subst (λ s. IsPlain (understood s text)) (sym (lasting.has old kept)) plain
+
+  left_by : Kept old → is_honest g new → (db : Trees) → (state g new).may_leave db → (state g old).may_leave db
   left_by kept clean db may = elim (survives.crash clean db may) [
     | inl before ↦ before
     | inr done ↦ absurd (never_commits text params (state g old) db (plain_in kept) done)
@@ -66,11 +101,11 @@ module _ {S : Type 0} (g : Ghosts S) (text : List ℕ) (params : Row) (old new :
   closes_by : is_honest g new → does_show g old → does_show g new ⊎ has_faulted g old new
   closes_by clean shows = elim (survives.closes clean shows.1) [ inl up ↦ inl (clean, up) | inr more ↦ inr more ]
 
-  kept_as : IsKept g old → (state g new).now ≡ (state g old).now → (state g new).committed ≡ (state g old).committed → IsKept g new
-  kept_as kept now committed = record { good = subst IsGood (sym now) kept.good; counted = subst (λ (d : Database). AreCounted (tables_of d.trees)) (sym now) kept.counted; idle = mode kept.idle; settled = now ∙ kept.settled ∙ sym committed; unlimited = survives.limit ∙ kept.unlimited }
+  kept_as : Kept old → (state g new).now ≡ (state g old).now → (state g new).committed ≡ (state g old).committed → Kept new
+  kept_as kept now committed = lasting.lasts old new kept now committed mode survives.limit
 
   module _ (up : HasCleanDisk (state g new) → IsTrue (state g new).is_open → IsTrue (state g old).is_open) where
-    selects_on : {X E : Type 0} (r : Result X E) → (IsKept g old → is_honest g new → IsUnchanged (state g old) (state g new)) → Selects g old new r
+    selects_on : {X E : Type 0} (r : Result X E) → (Kept old → is_honest g new → IsUnchanged (state g old) (state g new)) → SelectsFrom Kept g old new r
     selects_on {X} {E} r same = record {
       fair = λ clean. omega (arith, clean, survives.clean);
       shown = λ shows. (omega (arith, shows.0, survives.clean), up shows.0 shows.1);
@@ -83,37 +118,37 @@ module _ {S : Type 0} (g : Ghosts S) (text : List ℕ) (params : Row) (old new :
       left = left_by;
     }
       where
-        ok_in : (q : Result X E) → IsKept g old → is_honest g new → OnOk q (does_show g new)
+        ok_in : (q : Result X E) → Kept old → is_honest g new → OnOk q (does_show g new)
         ok_in (Ok x) kept clean = (clean, (same kept clean).0.is_open)
         ok_in (Err e) kept clean = tt
 
-    selects_back : (X E : Type 0) (e : E) → (IsKept g old → is_honest g new → IsUnchanged (state g old) (state g new) ⊎ IsRolledBack (state g old) (state g new)) → Selects g old new (fails X E e)
+    selects_back : (X E : Type 0) (e : E) → (Kept old → is_honest g new → IsUnchanged (state g old) (state g new) ⊎ IsRolledBack (state g old) (state g new)) → SelectsFrom Kept g old new (fails X E e)
     selects_back X E e how = record {
       fair = λ clean. omega (arith, clean, survives.clean);
       shown = λ shows. (omega (arith, shows.0, survives.clean), up shows.0 shows.1);
       mode = mode;
       counts = survives.counts;
-      kept = λ kept shows. elim (how kept shows.0) [ inl u ↦ kept_as kept u.0.now_is u.0.committed_is | inr b ↦ kept_as kept ((b.undone shows.1).0 ∙ sym kept.settled) (b.undone shows.1).1 ];
-      same = λ kept shows. elim (how kept shows.0) [ inl u ↦ u.0.now_is | inr b ↦ (b.undone shows.1).0 ∙ sym kept.settled ];
+      kept = λ kept shows. elim (how kept shows.0) [ inl u ↦ kept_as kept u.0.now_is u.0.committed_is | inr b ↦ kept_as kept ((b.undone shows.1).0 ∙ sym (lasting.settled old kept)) (b.undone shows.1).1 ];
+      same = λ kept shows. elim (how kept shows.0) [ inl u ↦ u.0.now_is | inr b ↦ (b.undone shows.1).0 ∙ sym (lasting.settled old kept) ];
       ok = λ kept clean. tt;
       closes = closes_by;
       left = left_by;
     }
 
-  pub selects_row : (X : Type 0) (row : Row) (x : X) → (HasCleanDisk (state g new) → QueriesRow text params (state g old) (state g new) (Ok row)) → Selects g old new (went X Error x)
+  pub selects_row : (X : Type 0) (row : Row) (x : X) → (HasCleanDisk (state g new) → QueriesRow text params (state g old) (state g new) (Ok row)) → SelectsFrom Kept g old new (went X Error x)
   selects_row X row x h = selects_on (λ clean. row_open text params (state g old) (state g new) (Ok row) (h clean)) (went X Error x)
       (λ kept clean. row_same text params (state g old) (state g new) (plain_in kept) row (h clean))
 
-  pub selects_none : (X : Type 0) (x : X) → (HasCleanDisk (state g new) → QueriesRow text params (state g old) (state g new) (Err QueryReturnedNoRows)) → Selects g old new (went X Error x)
+  pub selects_none : (X : Type 0) (x : X) → (HasCleanDisk (state g new) → QueriesRow text params (state g old) (state g new) (Err QueryReturnedNoRows)) → SelectsFrom Kept g old new (went X Error x)
   selects_none X x h = selects_on (λ clean. row_open text params (state g old) (state g new) (Err QueryReturnedNoRows) (h clean)) (went X Error x)
       (λ kept clean. none_same text params (state g old) (state g new) (plain_in kept) (h clean))
 
-  pub selects_err : (X : Type 0) (e : Error) → (HasCleanDisk (state g new) → QueriesRow text params (state g old) (state g new) (Err e)) → Selects g old new (fails X Error e)
+  pub selects_err : (X : Type 0) (e : Error) → (HasCleanDisk (state g new) → QueriesRow text params (state g old) (state g new) (Err e)) → SelectsFrom Kept g old new (fails X Error e)
   selects_err X e h = selects_back (λ clean. row_open text params (state g old) (state g new) (Err e) (h clean)) X Error e
       (λ kept clean. err_undone text params (state g old) (state g new) (plain_in kept) e (h clean))
 
   -- all rows are a first row and more, or none
-  pub selects_all : (X : Type 0) (rows : List Row) (x : X) → (HasCleanDisk (state g new) → Shown text params (state g old) (state g new) rows) → Selects g old new (went X Error x)
+  pub selects_all : (X : Type 0) (rows : List Row) (x : X) → (HasCleanDisk (state g new) → Shown text params (state g old) (state g new) rows) → SelectsFrom Kept g old new (went X Error x)
   unfolding QueriesRow
   selects_all X [] x h = selects_none X x as_none
     where
@@ -124,7 +159,7 @@ module _ {S : Type 0} (g : Ghosts S) (text : List ℕ) (params : Row) (old new :
       as_first : HasCleanDisk (state g new) → QueriesRow text params (state g old) (state g new) (Ok row)
       as_first clean = inr (row ∷ rows, h clean, refl)
 
-  pub selects_all_err : (X : Type 0) (e : Error) → (HasCleanDisk (state g new) → FailsToQuery text params (state g old) (state g new) e) → Selects g old new (fails X Error e)
+  pub selects_all_err : (X : Type 0) (e : Error) → (HasCleanDisk (state g new) → FailsToQuery text params (state g old) (state g new) e) → SelectsFrom Kept g old new (fails X Error e)
   unfolding QueriesRow
   selects_all_err X e h = selects_err X e as_row
     where

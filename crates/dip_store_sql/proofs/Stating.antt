@@ -4,6 +4,7 @@ use Rattle.sqlite.specs.declared.types.Value.TheVariants.{Int, Text as Words, Bl
 use Rattle.sqlite.specs.State.{State, Executes}
 use Rattle.dip_store_sql.proofs.Statements.{inserted, updated, deleted}
 use Rattle.dip_store_sql.proofs.Changes.{insert_is, delete_is, update_is}
+use Rattle.dip_store_sql.proofs.Whole.{whole_rising}
 use Rattle.dip_store_sql.specs.Schema.{our_schema, desk_table, game_table, seat_table, unit_table, centre_table, pending_table, box_table, paper_table, ballot_table, choice_table}
 use Rattle.dip_store_sql.specs.Asking.{by_one, by_two, by_first}
 use Rattle.dip_store_sql.specs.Statements as text
@@ -14,7 +15,7 @@ use Rattle.dip_store_tables.specs.Tables.{GameRow, PendingRow, BoxRow, PaperRow,
 use Rattle.dip_store_sql.specs.Rows.{tables_of, put_desk, take_desk, put_game, take_game, put_seat, take_seat, put_unit, take_unit, put_centre, take_centre, put_pending, take_pending, put_box, take_box, put_paper, take_paper, put_ballot, take_ballot, put_choice, take_choice}
 use Rattle.dip_store_tables.specs.Writing.{choice_row}
 use Rattle.dip_store_sql.specs.Good.{IsGood}
-use Rattle.dip_store_sql.specs.TablesAfter.{is_first, on_desk, on_game, on_seat, with_desk, with_game, with_seat, with_unit, with_centre, with_order, with_item, with_paper, with_ballot, with_choice, on_ballot, named, second, voteless, no_ballots, no_choices, no_seats, no_units, no_centres, no_pending, no_orders, no_items, no_papers, new_desk, new_seat, desk_with, seat_with, sending, counting, secret_as, game_as}
+use Rattle.dip_store_sql.specs.TablesAfter.{is_first, on_desk, on_game, on_seat, on_seats, with_desk, with_game, with_seat, with_unit, with_centre, with_order, with_item, with_paper, with_ballot, with_choice, on_ballot, named, second, voteless, no_ballots, no_choices, no_seats, no_units, no_centres, no_pending, no_orders, no_items, no_papers, new_desk, new_seat, desk_with, seat_with, sending, counting, secret_as, game_as}
 use Rattle.dip_store_sql.proofs.Turned.{desk_turned, game_turned, seat_turned, unit_turned, centre_turned, pending_turned, box_turned, paper_turned, ballot_turned, choice_turned}
 use Rattle.dip_store_sql.proofs.Casting.{cast_desk, cast_game, cast_seat, cast_unit, cast_centre, cast_pending, cast_box, cast_paper, cast_ballot, cast_choice}
 use Rattle.dip_store_sql.proofs.Apart.{one_ballot, one_desk, one_game, one_seat}
@@ -146,11 +147,10 @@ module _ (old new : State) (count : ℕ) (good : IsGood old.now) where
       let it = updated our_schema 8 ballot_table refl refl (λ db. refl) (λ olds news. refl) text.note_ballot_text means.note_ballot.1 old new params count good.schema by_two text.note_ballot_row (commanded _ _ means.note_ballot.0) h in
       ballot_turned old.now new.now good _ it.2 _ refl (update_is put_ballot take_ballot (λ v a. refl) ballot_table cast_ballot our_schema old.now new.now good.ballots params by_two (is_ballot game power) (tells_ballot game power more) (named names) text.note_ballot_row (λ v a. refl) (one_ballot old.now good game power) it.0 it.1 it.2)
 
-  pub clear_vote : (game power : List ℕ) → Executes text.clear_vote_text (Words game ∷ Words power ∷ []) old new (Ok count) → IsGood new.now × (tables_of new.now.trees ≡ on_seat game power voteless (tables_of old.now.trees))
-  clear_vote game power h =
-      let params = Words game ∷ Words power ∷ [] in
-      let it = updated our_schema 2 seat_table refl refl (λ db. refl) (λ olds news. refl) text.clear_vote_text means.clear_vote.1 old new params count good.schema by_two text.clear_vote_row (commanded _ _ means.clear_vote.0) h in
-      seat_turned old.now new.now good _ it.2 _ refl (update_is put_seat take_seat (λ v a. refl) seat_table cast_seat our_schema old.now new.now good.seats params by_two (is_seat game power) (tells_seat game power []) voteless text.clear_vote_row (λ v a. refl) (one_seat old.now good game power) it.0 it.1 it.2)
+  pub clear_votes : Executes text.clear_votes_text [] old new (Ok count) → IsGood new.now × (tables_of new.now.trees ≡ on_seats voteless (tables_of old.now.trees))
+  clear_votes h =
+      let it = updated our_schema 2 seat_table refl refl (λ db. refl) (λ olds news. refl) text.clear_votes_text means.clear_votes.1 old new [] count good.schema [] text.clear_votes_row (commanded _ _ means.clear_votes.0) h in
+      seat_turned old.now new.now good _ it.2 _ refl (whole_rising put_seat take_seat (λ v a. refl) seat_table cast_seat old.now.trees good.seats [] voteless text.clear_votes_row (λ v a. refl) it.0 it.1 (new.now.trees 4) it.2.applies.rows)
 
   pub set_version : Executes text.set_version_text [] old new (Ok count) → IsGood new.now × (tables_of new.now.trees ≡ on_desk second (tables_of old.now.trees))
   set_version h =

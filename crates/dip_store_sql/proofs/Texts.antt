@@ -6,8 +6,9 @@ use Rattle.sqlite.specs.Command.TheVariants.{Insert, Update, Delete}
 use Rattle.sqlite_tied.specs.Compute.{everything}
 use Rattle.sqlite.specs.Listing.{understood}
 use Rattle.dip_store_sql.specs.Queries.{plain_query}
-use Rattle.dip_store_sql.specs.Asking.{Means, Asks, by_one, by_two, by_first}
-use Rattle.dip_store_sql.specs.Statements.{add_desk_text, add_game_text, add_seat_text, add_unit_text, add_centre_text, add_pending_text, add_item_text, add_paper_text, add_ballot_text, add_choice_text, drop_seats_text, drop_units_text, drop_centres_text, drop_pending_text, drop_orders_text, drop_items_text, drop_papers_text, drop_ballots_text, drop_choices_text, note_desk_text, note_seat_text, note_ballot_text, clear_vote_text, set_version_text, note_sent_text, count_item_text, replace_digest_text, renew_game_text, find_desk_text, find_game_text, count_papers_text, find_seat_text, count_sent_text, find_item_text, find_paper_text, find_ballot_text, find_choice_text, list_seats_text, list_units_text, list_centres_text, list_orders_text, list_games_text, list_votes_text, add_desk_values, add_game_values, add_seat_values, add_unit_values, add_centre_values, add_pending_values, add_item_values, add_paper_values, add_ballot_values, add_choice_values, note_desk_row, note_seat_row, note_ballot_row, clear_vote_row, set_version_row, note_sent_row, count_item_row, replace_digest_row, renew_game_row, find_desk_query, find_game_query, count_papers_query, find_seat_query, count_sent_query, find_item_query, find_paper_query, find_ballot_query, find_choice_query, list_seats_query, list_units_query, list_centres_query, list_orders_query, list_games_query, list_votes_query}
+use Rattle.dip_store_sql.specs.Old.{old_schema}
+use Rattle.dip_store_sql.specs.Asking.{Means, Asks, AsksIn, by_one, by_two, by_first}
+use Rattle.dip_store_sql.specs.Statements.{add_desk_text, add_game_text, add_seat_text, add_unit_text, add_centre_text, add_pending_text, add_item_text, add_paper_text, add_ballot_text, add_choice_text, drop_seats_text, drop_units_text, drop_centres_text, drop_pending_text, drop_orders_text, drop_items_text, drop_papers_text, drop_ballots_text, drop_choices_text, note_desk_text, note_seat_text, note_ballot_text, clear_votes_text, set_version_text, note_sent_text, count_item_text, replace_digest_text, renew_game_text, find_desk_text, find_game_text, count_papers_text, find_seat_text, count_sent_text, find_item_text, find_paper_text, find_ballot_text, find_choice_text, list_seats_text, list_units_text, list_centres_text, list_orders_text, list_games_text, list_votes_text, add_desk_values, add_game_values, add_seat_values, add_unit_values, add_centre_values, add_pending_values, add_item_values, add_paper_values, add_ballot_values, add_choice_values, note_desk_row, note_seat_row, note_ballot_row, clear_votes_row, set_version_row, note_sent_row, count_item_row, replace_digest_row, renew_game_row, find_desk_query, find_game_query, count_papers_query, find_seat_query, count_sent_query, find_item_query, find_paper_query, find_ballot_query, find_choice_query, list_seats_query, list_units_query, list_centres_query, list_orders_query, list_games_query, list_votes_query}
 
 pub add_desk : Means add_desk_text (Insert 0 (Values add_desk_values 8))
 unfolding understood everything
@@ -97,9 +98,9 @@ pub note_ballot : Means note_ballot_text (Update 8 (record { lets = []; body = p
 unfolding understood everything
 note_ballot = (refl, (refl, refl))
 
-pub clear_vote : Means clear_vote_text (Update 2 (record { lets = []; body = plain_query 4 by_two clear_vote_row [] }))
+pub clear_votes : Means clear_votes_text (Update 2 (record { lets = []; body = plain_query 4 [] clear_votes_row [] }))
 unfolding understood everything
-clear_vote = (refl, (refl, refl))
+clear_votes = (refl, (refl, refl))
 
 pub set_version : Means set_version_text (Update 0 (record { lets = []; body = plain_query 0 by_first set_version_row [] }))
 unfolding understood everything
@@ -173,10 +174,15 @@ pub list_orders : Asks list_orders_text 2 list_orders_query (codes "province" �
 unfolding understood everything
 list_orders = record { means = (refl, (refl, refl)); unlisted = refl; asked = (refl, refl) }
 
-pub list_games : Asks list_games_text 0 list_games_query (codes "name" ∷ [])
+-- in a store of version 1
+pub find_old_desk : AsksIn old_schema find_desk_text 0 find_desk_query (codes "version" ∷ codes "map" ∷ codes "digest" ∷ codes "last" ∷ codes "kept" ∷ codes "reply" ∷ [])
+unfolding understood everything
+find_old_desk = record { means = (refl, (refl, refl)); unlisted = refl; asked = (refl, refl) }
+
+pub list_games : AsksIn old_schema list_games_text 0 list_games_query (codes "name" ∷ [])
 unfolding understood everything
 list_games = record { means = (refl, (refl, refl)); unlisted = refl; asked = (refl, refl) }
 
-pub list_votes : Asks list_votes_text 1 list_votes_query (codes "power" ∷ codes "vote" ∷ [])
+pub list_votes : AsksIn old_schema list_votes_text 0 list_votes_query (codes "game" ∷ codes "power" ∷ codes "vote" ∷ [])
 unfolding understood everything
 list_votes = record { means = (refl, (refl, refl)); unlisted = refl; asked = (refl, refl) }

@@ -31,7 +31,8 @@ use Rattle.dip_store_sql.proofs.Edits.{grown, shrunk, renewed, not_renewed}
 use Rattle.dip_store_sql.proofs.Finding.{passing}
 use Rattle.dip_store_sql.proofs.Places.{above_next, id_of, ids_in, of_found}
 use Rattle.dip_store_sql.specs.Refusals.{IsWant}
-use Rattle.dip_store_sql.proofs.Passing.{AreKept, fresh, no_record, not_taken, one_record}
+use Rattle.dip_store_sql.proofs.Passing.{AreKept, fresh, no_record, not_taken, one_record, records}
+use Rattle.dip_store_sql.proofs.Whole.{whole_fresh, whole_records, whole_rising}
 
 -- what is left behind a filter passes it
 all_left : (id : ℤ) (rows : List Row) → AllByRecursion (λ r. has_rowid id r ≡ false) (without_rowid id rows)
@@ -122,3 +123,13 @@ module _ {A : Type 0} (put : A → Row) (take : Row → A) (back : (v : Value) (
             let g = renewed put take back p f rows (edited db edit) r it only.1 same in
             one_record put take back schema table casts rules db edit (Int (id_of r)) (f (take r)) refl news (fresh new rest (not_taken new rest (all_left (id_of r) rows))) refl (unique (edited db edit) g.0 g.1) why
             (subst (λ all. IsRefused schema Enforced db (edit_of db table (ids_of all) Given 1 all) why) whole h)
+
+  -- an UPDATE of all rows
+  pub whole_wants : (params : Row) (f : A → A) (shown : List Term) (shows : (v : Value) (a : A) → eval_all shown (params ∷ (v ∷ put a) ∷ []) ≡ v ∷ v ∷ put (f a))
+      → (given : List Row) → IsPermutation (map (λ r. eval_all shown (params ∷ r ∷ [])) (filter (passes [] params) (db table.tree))) given
+      → KeysApart (map f (map take (db table.tree))) → (why : Refusal) → IsRefused schema Enforced db (edit_of db table (ids_of given) Given 1 given) why → IsWant ⊥ (edit_error why)
+  whole_wants params f shown shows given are unique why h =
+      let edit = edit_of db table (ids_of given) Given 1 given in
+      let g = whole_rising put take back table casts db it params f shown shows given are (edited db edit) refl in
+      records put take back schema table casts rules db edit refl (whole_records put take back table casts db it params f shown shows given are) (whole_fresh put take back table casts db it params f shown shows given are)
+      (unique (edited db edit) g.0 g.1) why h

@@ -8,7 +8,7 @@ use Rattle.sqlite.specs.Order.{Row}
 use Rattle.sqlite.specs.Tree.{Trees}
 use Rattle.sqlite.specs.State.{State, Executes}
 use Rattle.dip_store_tables.specs.Lists.{update_where, delete_where}
-use Rattle.dip_store_tables.proofs.ListLemmas.{all_of, ascending-filter}
+use Rattle.dip_store_tables.proofs.ListLemmas.{all_of, ascending-filter, ascending-map}
 use Rattle.sqlite_catalog.specs.Listing.{IsSound}
 use Rattle.sqlite_schema.specs.declared.schema.Among.{Among}
 use Rattle.sqlite_schema.specs.declared.schema.Constraint.TheVariants.{Unique}
@@ -34,7 +34,7 @@ use Rattle.dip_store_sql.proofs.Asked as asked
 use Rattle.dip_store_sql.proofs.First.{desk_fits}
 use Rattle.dip_store_sql.proofs.Keyed.{are_keyed}
 use Rattle.dip_store_sql.proofs.Ruled.{desk_rules, game_rules, seat_rules, unit_rules, centre_rules, pending_rules, box_rules, paper_rules, ballot_rules, choice_rules, desk_keyed, games_keyed, seats_keyed, units_keyed, centres_keyed, pending_keyed, boxes_keyed, papers_keyed, ballots_keyed, choices_keyed}
-use Rattle.dip_store_sql.proofs.Sane.{delete_sane, insert_first, insert_sane, update_sane}
+use Rattle.dip_store_sql.proofs.Sane.{delete_sane, insert_first, insert_sane, update_sane, whole_sane}
 
 -- records that are left, or changed but for their key, still differ
 left : {A : Type 0} (same : A → A → Bool) (p : A → Bool) (xs : List A) → Differ same xs → Differ same (delete_where p xs)
@@ -197,11 +197,10 @@ module _ (old new : State) (good : IsGood old.now) (up : IsTrue old.is_open) (un
       update_sane our_schema 8 ballot_table refl refl (λ db. refl) (λ olds news. refl) refers put_ballot take_ballot (λ v a. refl) cast_ballot ballot_rules text.note_ballot_text means.note_ballot.1 params asked.note_ballot old new good.schema up unlimited good.ballots e h
       by_two (is_ballot game power) (tells_ballot game power more) (named names) text.note_ballot_row (λ v a. refl) (one_ballot old.now good game power) means.note_ballot.0 refl (λ rows it are. ballots_keyed old.now.trees unique rows it (subst (Differ same_ballot) (sym are) (changed same_ballot (is_ballot game power) (named names) (λ a b. refl) (λ a b. refl) _ keyed.ballots)))
 
-  pub clear_vote : (game power : List ℕ) → Executes text.clear_vote_text (Words game ∷ Words power ∷ []) old new (Err e) → IsWant (Faulted old new) e
-  clear_vote game power h =
-      let params = Words game ∷ Words power ∷ [] in
-      update_sane our_schema 2 seat_table refl refl (λ db. refl) (λ olds news. refl) refers put_seat take_seat (λ v a. refl) cast_seat seat_rules text.clear_vote_text means.clear_vote.1 params asked.clear_vote old new good.schema up unlimited good.seats e h
-      by_two (is_seat game power) (tells_seat game power []) voteless text.clear_vote_row (λ v a. refl) (one_seat old.now good game power) means.clear_vote.0 refl (λ rows it are. seats_keyed old.now.trees unique rows it (subst (Differ same_seat) (sym are) (changed same_seat (is_seat game power) voteless (λ a b. refl) (λ a b. refl) _ keyed.seats)))
+  pub clear_votes : Executes text.clear_votes_text [] old new (Err e) → IsWant (Faulted old new) e
+  clear_votes h =
+      whole_sane our_schema 2 seat_table refl refl (λ db. refl) (λ olds news. refl) refers put_seat take_seat (λ v a. refl) cast_seat seat_rules text.clear_votes_text means.clear_votes.1 [] asked.clear_votes old new good.schema up unlimited good.seats e h
+      voteless text.clear_votes_row (λ v a. refl) means.clear_votes.0 refl (λ rows it are. seats_keyed old.now.trees unique rows it (subst (Differ same_seat) (sym are) (ascending-map (λ a b. same_seat a b ≡ false) voteless _ keyed.seats)))
 
   pub set_version : Executes text.set_version_text [] old new (Err e) → IsWant (Faulted old new) e
   set_version h =

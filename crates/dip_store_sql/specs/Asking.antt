@@ -10,6 +10,7 @@ use Rattle.sqlite.specs.Collation.TheVariants.{Binary}
 use Rattle.sqlite.specs.Command.{Command}
 use Rattle.sqlite.specs.Command.TheVariants.{Select}
 use Rattle.sqlite.specs.Query.{Query}
+use Rattle.sqlite.specs.Schema.{Schema}
 use Rattle.sqlite.specs.Given.{IsPlain}
 use Rattle.sqlite.specs.Listing.{understood, reads_listing}
 use Rattle.sqlite_resolve.specs.declared.compiled.Compiled.{Compiled}
@@ -47,16 +48,27 @@ abbrev pub IsAsked : ℕ → ℕ → Result Compiled CompileError → Type 0
 IsAsked size count (Ok c) = (nat_le size c.tail ≡ true) × (length c.names ≡ count)
 IsAsked size count (Err e) = ⊥
 
--- against our schema the text is this command
-abbrev pub Means : List ℕ → Command → Type 0
-Means text command = command_in (understood our_schema text) command × IsPlain (understood our_schema text)
+-- against this schema the text is this command
+abbrev pub MeansIn : Schema → List ℕ → Command → Type 0
+MeansIn schema text command = command_in (understood schema text) command × IsPlain (understood schema text)
 
 -- and this query, of so many parameters
-pub record Asks (text : List ℕ) (count : ℕ) (q : Query) (names : List (List ℕ)) : Type 0 where
-  pub means : Means text (Select (record { lets = []; body = q }) names)
-  pub unlisted : reads_listing our_schema text ≡ false
-  pub asked : IsAsked (length text) count (understood our_schema text)
+pub record AsksIn (schema : Schema) (text : List ℕ) (count : ℕ) (q : Query) (names : List (List ℕ))
+    : Type 0 where
+  pub means : MeansIn schema text (Select (record { lets = []; body = q }) names)
+  pub unlisted : reads_listing schema text ≡ false
+  pub asked : IsAsked (length text) count (understood schema text)
 
 -- parameters of these kinds may be compared with the columns
+abbrev pub AcceptsIn : Schema → Query → Row → Type 0
+AcceptsIn schema q params = accepts_program schema [] q params ≡ true
+
+-- the same against our schema
+abbrev pub Means : List ℕ → Command → Type 0
+Means = MeansIn our_schema
+
+abbrev pub Asks : List ℕ → ℕ → Query → List (List ℕ) → Type 0
+Asks = AsksIn our_schema
+
 abbrev pub Accepts : Query → Row → Type 0
-Accepts q params = accepts_program our_schema [] q params ≡ true
+Accepts = AcceptsIn our_schema

@@ -9,6 +9,7 @@ use Rattle.dip_store_tables.specs.Tables.{Tables}
 use Rattle.dip_store_tables.specs.Counting.{AreCounted}
 use Rattle.dip_store_sql.specs.Rows.{tables_of}
 use Rattle.dip_store_sql.specs.Good.{IsGood}
+use Rattle.dip_store_sql.specs.Old.{WasGood, old_tables_of}
 use Rattle.dip_store_sql.specs.Causes.{has_faulted}
 
 -- the tables become these, and a transaction goes on
@@ -48,16 +49,30 @@ module _ {S : Type 0} (g : Ghosts S) (h : Held S) where
     pub settled : (state g h).now ≡ (state g h).committed
     pub unlimited : h.step_limit ≡ None
 
--- a call that reads: it changes nothing, and where it succeeds the connection is open
-pub record Selects {S X E : Type 0} (g : Ghosts S) (old new : Held S) (r : Result X E) : Type 0 where
+  -- rows that a keeper of version 1 has written, all of them committed; and its tables
+  pub record WasKept : Type 0 where
+    pub good : WasGood (state g h).now
+    pub idle : (state g h).in_transaction ≡ false
+    pub settled : (state g h).now ≡ (state g h).committed
+    pub unlimited : h.step_limit ≡ None
+
+  abbrev pub old_tables_in : Tables
+  old_tables_in = old_tables_of (state g h).now.trees
+
+-- a call that reads what is kept so: it changes nothing, and where it succeeds the connection is open
+pub record SelectsFrom {S X E : Type 0} (Kept : Held S → Type 0) (g : Ghosts S) (old new : Held S)
+    (r : Result X E) : Type 0 where
   pub fair : is_honest g new → is_honest g old
   pub shown : does_show g new → does_show g old
   pub mode : old.in_transaction ≡ false → new.in_transaction ≡ false
   pub counts : (state g old).faults ≤ (state g new).faults
-  pub kept : IsKept g old → does_show g new → IsKept g new
-  pub same : IsKept g old → does_show g new → (state g new).now ≡ (state g old).now
-  pub ok : IsKept g old → is_honest g new → OnOk r (does_show g new)
+  pub kept : Kept old → does_show g new → Kept new
+  pub same : Kept old → does_show g new → (state g new).now ≡ (state g old).now
+  pub ok : Kept old → is_honest g new → OnOk r (does_show g new)
   -- only a fault of the disk shuts the connection
   pub closes : is_honest g new → does_show g old → does_show g new ⊎ has_faulted g old new
-  pub left : IsKept g old → is_honest g new → (db : Trees)
-      → (state g new).may_leave db → (state g old).may_leave db
+  pub left : Kept old → is_honest g new → (db : Trees) → (state g new).may_leave db → (state g old).may_leave db
+
+-- what a keeper has written
+abbrev pub Selects : {S X E : Type 0} → Ghosts S → Held S → Held S → Result X E → Type 0
+Selects {S} {X} {E} g old new r = SelectsFrom {S = S} {X = X} {E = E} (IsKept g) g old new r

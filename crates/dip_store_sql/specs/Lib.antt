@@ -10,6 +10,7 @@ pub mod Statements
 pub mod Calls
 pub mod Causes
 pub mod Good
+pub mod Old
 pub mod Rows
 pub mod Showing
 pub mod TablesAfter

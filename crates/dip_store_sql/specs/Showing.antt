@@ -55,7 +55,7 @@ abbrev pub show_name : GameRow → Row
 show_name g = Words g.name ∷ []
 
 abbrev pub show_vote : SeatRow → Row
-show_vote s = Words s.power ∷ Int (pos s.vote) ∷ []
+show_vote s = Words s.game ∷ Words s.power ∷ Int (pos s.vote) ∷ []
 
 -- an item of an inbox by its number, and a paper of a game
 abbrev pub is_item : List ℕ → List ℕ → ℕ → BoxRow → Bool

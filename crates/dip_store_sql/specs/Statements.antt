@@ -144,12 +144,12 @@ note_ballot_text =
 abbrev pub note_ballot_row : List Term
 note_ballot_row = col 1 0 ∷ col 1 0 ∷ col 1 1 ∷ col 1 2 ∷ col 0 2 ∷ []
 
-abbrev pub clear_vote_text : List ℕ
-clear_vote_text =
-    codes "UPDATE seat SET vote = 0 WHERE game = ?1 AND power = ?2"
+abbrev pub clear_votes_text : List ℕ
+clear_votes_text =
+    codes "UPDATE seat SET vote = 0"
 
-abbrev pub clear_vote_row : List Term
-clear_vote_row =
+abbrev pub clear_votes_row : List Term
+clear_votes_row =
     col 1 0 ∷ col 1 0 ∷ col 1 1 ∷ col 1 2 ∷ col 1 3 ∷ lit (Int (pos 0)) ∷ col 1 5 ∷ col 1 6 ∷ col 1 7 ∷
     col 1 8 ∷ col 1 9 ∷ []
 
@@ -340,10 +340,10 @@ list_games_query = plain_query 2 [] list_games_shown in_turn
 
 abbrev pub list_votes_text : List ℕ
 list_votes_text =
-    codes "SELECT power, vote FROM seat WHERE game = ?1 ORDER BY rowid"
+    codes "SELECT game, power, vote FROM seat ORDER BY rowid"
 
 abbrev pub list_votes_shown : List Term
-list_votes_shown = col 1 2 ∷ col 1 4 ∷ []
+list_votes_shown = col 1 1 ∷ col 1 2 ∷ col 1 4 ∷ []
 
 abbrev pub list_votes_query : Query
-list_votes_query = plain_query 4 by_one list_votes_shown in_turn
+list_votes_query = plain_query 4 [] list_votes_shown in_turn

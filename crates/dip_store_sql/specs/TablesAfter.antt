@@ -1,5 +1,5 @@
 -- What the statements make of the tables.
-use Rattle.std.specs.Prelude.{ℕ, ◌==◌, Bool, List, [], ◌∷◌, ◌++◌}
+use Rattle.std.specs.Prelude.{ℕ, ◌==◌, Bool, List, [], ◌∷◌, ◌++◌, map}
 use Rattle.dip_store_tables.specs.Lists.{update_where, delete_where}
 use Rattle.dip_store_tables.specs.Boards.{UnitRow, CentreRow}
 use Rattle.dip_store_tables.specs.Tables.{DeskRow, GameRow, SeatRow, PendingRow, BoxRow, PaperRow, BallotRow, ChoiceRow, Tables, is_seat_in, is_unit_in, is_centre_in, is_pending_in, is_box_in, is_paper_in, is_ballot_in, is_choice_in, is_named, is_seat, is_pending, is_ballot}
@@ -79,6 +79,10 @@ on_seat game power f t = record t { seats = update_where (is_seat game power) f 
 
 abbrev pub on_ballot : List ℕ → List ℕ → (BallotRow → BallotRow) → Tables → Tables
 on_ballot game power f t = record t { ballots = update_where (is_ballot game power) f t.ballots }
+
+-- each seat written anew
+abbrev pub on_seats : (SeatRow → SeatRow) → Tables → Tables
+on_seats f t = record t { seats = map f t.seats }
 
 -- tables without a row
 abbrev pub no_tables : Tables

@@ -18,12 +18,12 @@ pub use dropping::{
     drop_ballots, drop_centres, drop_choices, drop_items, drop_orders, drop_papers, drop_pending,
     drop_seats, drop_units,
 };
-pub use listings::{list_centres, list_orders, list_seats, list_units};
+pub use listings::{list_centres, list_games, list_orders, list_seats, list_units, list_votes};
 pub use lookups::{
     count_papers, count_sent, find_ballot, find_desk, find_game, find_item, find_paper, find_seat,
 };
 pub use noting::{
-    clear_vote, count_item, note_ballot, note_desk, note_seat, note_sent, renew_game,
+    clear_votes, count_item, note_ballot, note_desk, note_seat, note_sent, renew_game,
     replace_digest, set_version,
 };
 pub use rows::{GameRow, ItemRow, LastLetter, UnitRow};

@@ -1,8 +1,8 @@
-//! One row written anew.
+//! One row written anew, or all of a table.
 ghost use Rattle.std.specs.Prelude.{◌≡◌, ◌<◌, ◌^◌};
 ghost use Rattle.sqlite.specs.Held.{state};
 ghost use Rattle.dip_store_sql.specs.Calls.{Writes};
-ghost use Rattle.dip_store_sql.specs.TablesAfter.{counting, game_as, named, on_ballot, on_desk, on_game, on_seat, second, secret_as, sending, voteless};
+ghost use Rattle.dip_store_sql.specs.TablesAfter.{counting, game_as, named, on_ballot, on_desk, on_game, on_seat, on_seats, second, secret_as, sending, voteless};
 ghost use Rattle.dip_store_sql.specs.Wants.{Wants, always};
 ghost use Rattle.dip_store_sql.specs.RowViews as rows;
 
@@ -66,22 +66,15 @@ pub fn note_ballot<S: Alter>(
     )
 }
 
-/// No vote in the seat's row: it is on its ballot.
-pub fn clear_vote<S: Alter>(
-    tx: &mut Transaction<'_, S>,
-    game: &str,
-    power: &str,
-) -> Result<usize, Error>
+/// No vote in any seat's row: each is on a ballot.
+pub fn clear_votes<S: Alter>(tx: &mut Transaction<'_, S>) -> Result<usize, Error>
     ensures same_reference { tx.new.conn.ghost_name ≡ tx.old.conn.ghost_name }
-    ensures writes { Writes (on_seat game.now power.now voteless)
+    ensures writes { Writes (on_seats voteless)
         (state S.Store tx.old.conn.now) (state S.Store tx.new.conn.now) result }
     ensures wants { Wants always
         (state S.Store tx.old.conn.now) (state S.Store tx.new.conn.now) result }
 {
-    tx.execute(
-        "UPDATE seat SET vote = 0 WHERE game = ?1 AND power = ?2",
-        params![game, power],
-    )
+    tx.execute("UPDATE seat SET vote = 0", &[])
 }
 
 /// The tables are of version 2.

@@ -5,7 +5,7 @@ use Rattle.dip_store_sql.specs.Statements as text
 use Rattle.dip_store_sql.proofs.Accepted as accepted
 use Rattle.dip_store_sql.proofs.Texts as means
 use Rattle.dip_store_sql.proofs.Found.{fails_caused}
-use Rattle.dip_store_sql.proofs.Selecting.{selects_all, selects_all_err}
+use Rattle.dip_store_sql.proofs.Selecting.{kept_lasts, selects_all, selects_all_err}
 use Rattle.dip_store_sql.proofs.Answering as answers
 use Rattle.dip_store_sql.proofs.listings.list_seats.Goals as goal
 
@@ -14,13 +14,13 @@ returns-in-Ok-clause-value g c kept clean = answers.list_seats _ _ kept.good c.a
 
 pub returns-in-Ok-clause-selects : goal.returns-in-Ok-clause-selects
 returns-in-Ok-clause-selects g c =
-    selects_all g.S.Store text.list_seats_text (Words c.args.game.now ∷ []) c.args.conn.now c.query_all.new.self means.list_seats.means.1 (rw (c.params-to_sql.ensures) at c.query_all.ensures.survives) c.query_all.ensures.mode _ c.in-Ok.rows.items _ (rw (c.params-to_sql.ensures) at c.in-Ok.ensures.ok)
+    selects_all g.S.Store (kept_lasts g.S.Store) text.list_seats_text (Words c.args.game.now ∷ []) c.args.conn.now c.query_all.new.self means.list_seats.means.1 (rw (c.params-to_sql.ensures) at c.query_all.ensures.survives) c.query_all.ensures.mode _ c.in-Ok.rows.items _ (rw (c.params-to_sql.ensures) at c.in-Ok.ensures.ok)
 
 pub returns-in-Err : goal.returns-in-Err
 returns-in-Err g c = record {
   value = λ _ _. tt;
   selects =
-      selects_all_err g.S.Store text.list_seats_text (Words c.args.game.now ∷ []) c.args.conn.now c.query_all.new.self means.list_seats.means.1 (rw (c.params-to_sql.ensures) at c.query_all.ensures.survives) c.query_all.ensures.mode _ c.in-Err.error (rw (c.params-to_sql.ensures) at c.in-Err.ensures.err);
+      selects_all_err g.S.Store (kept_lasts g.S.Store) text.list_seats_text (Words c.args.game.now ∷ []) c.args.conn.now c.query_all.new.self means.list_seats.means.1 (rw (c.params-to_sql.ensures) at c.query_all.ensures.survives) c.query_all.ensures.mode _ c.in-Err.error (rw (c.params-to_sql.ensures) at c.in-Err.ensures.err);
   caused = λ kept shows clean.
       fails_caused text.list_seats_text (Words c.args.game.now ∷ []) 1 4 by_one text.list_seats_shown in_turn _ means.list_seats (accepted.list_seats c.args.game.now) refl _ _ kept.good.schema kept.unlimited shows.1
       c.in-Err.error (rw (c.params-to_sql.ensures) at (c.in-Err.ensures.err clean));

@@ -4,7 +4,7 @@ use Rattle.dip_store_sql.specs.Statements as text
 use Rattle.dip_store_sql.proofs.Accepted as accepted
 use Rattle.dip_store_sql.proofs.Texts as means
 use Rattle.dip_store_sql.proofs.Found.{fails_caused}
-use Rattle.dip_store_sql.proofs.Selecting.{selects_all, selects_all_err}
+use Rattle.dip_store_sql.proofs.Selecting.{kept_lasts, old_lasts, selects_all, selects_all_err}
 use Rattle.dip_store_sql.proofs.Answering as answers
 use Rattle.dip_store_sql.proofs.lookups.find_desk.Goals as goal
 
@@ -13,14 +13,27 @@ returns-in-Ok-clause-value g c kept clean = c.only.ensures _ (answers.find_desk 
 
 pub returns-in-Ok-clause-selects : goal.returns-in-Ok-clause-selects
 returns-in-Ok-clause-selects g c =
-    selects_all g.S.Store text.find_desk_text ([]) c.args.conn.now c.query_all.new.self means.find_desk.means.1 c.query_all.ensures.survives c.query_all.ensures.mode _ c.in-Ok.rows.items _ c.in-Ok.ensures.ok
+    selects_all g.S.Store (kept_lasts g.S.Store) text.find_desk_text ([]) c.args.conn.now c.query_all.new.self means.find_desk.means.1 c.query_all.ensures.survives c.query_all.ensures.mode _ c.in-Ok.rows.items _ c.in-Ok.ensures.ok
+
+pub returns-in-Ok-clause-old_value : goal.returns-in-Ok-clause-old_value
+returns-in-Ok-clause-old_value g c kept clean = c.only.ensures _ (answers.find_old_desk _ _ kept.good c.in-Ok.rows.items (c.in-Ok.ensures.ok clean))
+
+pub returns-in-Ok-clause-old_selects : goal.returns-in-Ok-clause-old_selects
+returns-in-Ok-clause-old_selects g c =
+    selects_all g.S.Store (old_lasts g.S.Store) text.find_desk_text [] c.args.conn.now c.query_all.new.self means.find_old_desk.means.1 c.query_all.ensures.survives c.query_all.ensures.mode _ c.in-Ok.rows.items _ c.in-Ok.ensures.ok
 
 pub returns-in-Err : goal.returns-in-Err
 returns-in-Err g c = record {
   value = λ _ _. tt;
   selects =
-      selects_all_err g.S.Store text.find_desk_text ([]) c.args.conn.now c.query_all.new.self means.find_desk.means.1 c.query_all.ensures.survives c.query_all.ensures.mode _ c.in-Err.error c.in-Err.ensures.err;
+      selects_all_err g.S.Store (kept_lasts g.S.Store) text.find_desk_text ([]) c.args.conn.now c.query_all.new.self means.find_desk.means.1 c.query_all.ensures.survives c.query_all.ensures.mode _ c.in-Err.error c.in-Err.ensures.err;
   caused = λ kept shows clean.
       fails_caused text.find_desk_text ([]) 0 0 by_first text.find_desk_shown [] _ means.find_desk accepted.find_desk refl _ _ kept.good.schema kept.unlimited shows.1
+      c.in-Err.error (c.in-Err.ensures.err clean);
+  old_value = λ _ _. tt;
+  old_selects =
+      selects_all_err g.S.Store (old_lasts g.S.Store) text.find_desk_text [] c.args.conn.now c.query_all.new.self means.find_old_desk.means.1 c.query_all.ensures.survives c.query_all.ensures.mode _ c.in-Err.error c.in-Err.ensures.err;
+  old_caused = λ kept shows clean.
+      fails_caused text.find_desk_text [] 0 0 by_first text.find_desk_shown [] _ means.find_old_desk accepted.find_old_desk refl _ _ kept.good.schema kept.unlimited shows.1
       c.in-Err.error (c.in-Err.ensures.err clean);
 }

@@ -1,0 +1,20 @@
+use Rattle.std.proofs.Common.{[], refl}
+use Rattle.dip_store_sql.specs.Statements as text
+use Rattle.dip_store_sql.proofs.Texts as means
+use Rattle.dip_store_sql.specs.TablesAfter.{on_seats, voteless}
+use Rattle.dip_store_sql.proofs.Parts.{one}
+use Rattle.dip_store_sql.proofs.Stating as made
+use Rattle.dip_store_sql.proofs.Calls.{wants_one}
+use Rattle.dip_store_sql.proofs.Wants as want
+use Rattle.dip_store_sql.proofs.noting.clear_votes.Goals as goal
+
+pub returns-clause-writes : goal.returns-clause-writes
+returns-clause-writes g c =
+    one g.S.Store text.clear_votes_text [] (on_seats voteless)
+    c.args.tx.now.conn.now c.execute.new.self.conn.now c.execute.result c.execute.ensures.survives c.execute.ensures.ended
+    c.execute.ensures.runs (λ count good h. made.clear_votes _ _ count good h)
+
+pub returns-clause-wants : goal.returns-clause-wants
+returns-clause-wants g c =
+    wants_one text.clear_votes_text [] _ _ _ _ _ means.clear_votes.0 refl c.execute.result (returns-clause-writes g c)
+    c.execute.ensures.runs (λ e ready may h. want.clear_votes _ _ ready.good ready.up ready.unlimited e h)

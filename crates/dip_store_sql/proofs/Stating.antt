@@ -15,7 +15,8 @@ use Rattle.dip_store_tables.specs.Tables.{GameRow, PendingRow, BoxRow, PaperRow,
 use Rattle.dip_store_sql.specs.Rows.{tables_of, put_desk, take_desk, put_game, take_game, put_seat, take_seat, put_unit, take_unit, put_centre, take_centre, put_pending, take_pending, put_box, take_box, put_paper, take_paper, put_ballot, take_ballot, put_choice, take_choice}
 use Rattle.dip_store_tables.specs.Writing.{choice_row}
 use Rattle.dip_store_sql.specs.Good.{IsGood}
-use Rattle.dip_store_sql.specs.TablesAfter.{is_first, on_desk, on_game, on_seat, on_seats, with_desk, with_game, with_seat, with_unit, with_centre, with_order, with_item, with_paper, with_ballot, with_choice, on_ballot, named, second, voteless, no_ballots, no_choices, no_seats, no_units, no_centres, no_pending, no_orders, no_items, no_papers, new_desk, new_seat, desk_with, seat_with, sending, counting, secret_as, game_as}
+use Rattle.dip_store_sql.specs.TablesAfter.{is_first, on_desk, on_game, on_seat, on_seats, with_desk, with_game, with_seat, with_unit, with_centre, with_order, with_item, with_paper, with_ballot, with_choice, on_ballot, named, no_ballots, no_choices, no_seats, no_units, no_centres, no_pending, no_orders, no_items, no_papers, new_desk, new_seat, desk_with, seat_with, sending, counting, secret_as, game_as}
+use Rattle.dip_store_tables.specs.Renewing.{second, voteless}
 use Rattle.dip_store_sql.proofs.Turned.{desk_turned, game_turned, seat_turned, unit_turned, centre_turned, pending_turned, box_turned, paper_turned, ballot_turned, choice_turned}
 use Rattle.dip_store_sql.proofs.Casting.{cast_desk, cast_game, cast_seat, cast_unit, cast_centre, cast_pending, cast_box, cast_paper, cast_ballot, cast_choice}
 use Rattle.dip_store_sql.proofs.Apart.{one_ballot, one_desk, one_game, one_seat}

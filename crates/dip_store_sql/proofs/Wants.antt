@@ -24,7 +24,8 @@ use Rattle.dip_store_sql.specs.Causes.{Faulted, IsCaused}
 use Rattle.dip_store_sql.specs.Good.{IsGood}
 use Rattle.dip_store_tables.specs.Writing.{choice_row}
 use Rattle.dip_store_sql.specs.Rows.{tables_of, put_desk, take_desk, put_game, take_game, put_seat, take_seat, put_unit, take_unit, put_centre, take_centre, put_pending, take_pending, put_box, take_box, put_paper, take_paper, put_ballot, take_ballot, put_choice, take_choice}
-use Rattle.dip_store_sql.specs.TablesAfter.{is_first, new_desk, new_seat, desk_with, seat_with, named, second, voteless, sending, counting, secret_as, game_as}
+use Rattle.dip_store_sql.specs.TablesAfter.{is_first, new_desk, new_seat, desk_with, seat_with, named, sending, counting, secret_as, game_as}
+use Rattle.dip_store_tables.specs.Renewing.{second, voteless}
 use Rattle.dip_store_sql.proofs.Apart.{one_ballot, one_desk, one_game, one_seat}
 use Rattle.dip_store_sql.proofs.Casting.{cast_desk, cast_game, cast_seat, cast_unit, cast_centre, cast_pending, cast_box, cast_paper, cast_ballot, cast_choice}
 use Rattle.dip_store_sql.proofs.Telling.{tells_desk, tells_game_in, tells_seat_in, tells_unit_in, tells_centre_in, tells_pending_in, tells_box_in, tells_paper_in, tells_ballot_in, tells_choice_in, tells_ballot, tells_seat, tells_pending}

@@ -128,13 +128,6 @@ seat_with last kept reply s = record s { last = last; kept = kept; reply = reply
 abbrev pub named : List ℕ → BallotRow → BallotRow
 named names b = record b { names = names }
 
--- in tables of version 2
-abbrev pub voteless : SeatRow → SeatRow
-voteless s = record s { vote = 0 }
-
-abbrev pub second : DeskRow → DeskRow
-second d = record d { version = 2 }
-
 abbrev pub sending : ℕ → SeatRow → SeatRow
 sending sent s = record s { sent = sent }
 

@@ -2,7 +2,8 @@
 ghost use Rattle.std.specs.Prelude.{◌≡◌, ◌<◌, ◌^◌};
 ghost use Rattle.sqlite.specs.Held.{state};
 ghost use Rattle.dip_store_sql.specs.Calls.{Writes};
-ghost use Rattle.dip_store_sql.specs.TablesAfter.{counting, game_as, named, on_ballot, on_desk, on_game, on_seat, on_seats, second, secret_as, sending, voteless};
+ghost use Rattle.dip_store_sql.specs.TablesAfter.{counting, game_as, named, on_ballot, on_desk, on_game, on_seat, on_seats, secret_as, sending};
+ghost use Rattle.dip_store_tables.specs.Renewing.{second, voteless};
 ghost use Rattle.dip_store_sql.specs.Wants.{Wants, always};
 ghost use Rattle.dip_store_sql.specs.RowViews as rows;
 

@@ -1,7 +1,8 @@
 use Rattle.std.proofs.Common.{[], refl}
 use Rattle.dip_store_sql.specs.Statements as text
 use Rattle.dip_store_sql.proofs.Texts as means
-use Rattle.dip_store_sql.specs.TablesAfter.{on_seats, voteless}
+use Rattle.dip_store_sql.specs.TablesAfter.{on_seats}
+use Rattle.dip_store_tables.specs.Renewing.{voteless}
 use Rattle.dip_store_sql.proofs.Parts.{one}
 use Rattle.dip_store_sql.proofs.Stating as made
 use Rattle.dip_store_sql.proofs.Calls.{wants_one}

@@ -21,3 +21,7 @@ pub mod Numbers
 pub mod Parts
 pub mod Passing
 pub mod Walking
+pub mod Filling
+pub mod Renewed
+pub mod Renewal
+pub mod Rewritten

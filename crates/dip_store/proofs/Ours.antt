@@ -1,4 +1,4 @@
--- Our schema knows our tables.
+-- Each schema knows its own tables.
 use Rattle.std.proofs.Common.{◌≡◌, IsTrue, ℕ, Bool, true, codes, List, Ok, Err, Result, IfOk, length, refl, sym, subst}
 use Rattle.sqlite.specs.declared.error.Error.{Error}
 use Rattle.sqlite.specs.Command.{Command}
@@ -8,10 +8,12 @@ use Rattle.sqlite.specs.Listing.{understood}
 use Rattle.sqlite.specs.Schema.{Schema}
 use Rattle.dip_store_sql.specs.Compiled.{Compiled}
 use Rattle.dip_store_sql.specs.CompileError.{CompileError}
+use Rattle.sqlite_tied.specs.Compute.{everything}
+use Rattle.dip_store_sql.specs.Old.{old_schema}
 use Rattle.dip_store_sql.specs.Asking.{Asks, IsAsked, command_in}
 use Rattle.dip_store_sql.specs.Schema.{our_schema}
 use Rattle.dip_store_sql.proofs.Texts as means
-use Rattle.dip_store.specs.Known.{has_table, HasOurTables, IsKnown, IsWhole}
+use Rattle.dip_store.specs.Known.{has_table, HasOldTables, HasOurTables, IsKnown, IsWhole}
 use Rattle.dip_store_sql.proofs.Found.{within}
 
 known_in : (r : Result Compiled CompileError) (command : Command) → command_in r command → (c : Compiled) × (r ≡ Ok c)
@@ -34,7 +36,15 @@ ours_known = (known_by _ _ _ _ means.find_desk, (known_by _ _ _ _ means.find_gam
 pub known_of_ours : (schema : Schema) → schema ≡ our_schema → HasOurTables schema
 known_of_ours schema is = subst HasOurTables (sym is) ours_known
 
--- it has a table of ballots
+-- that of version 1 knows its own
+old_known : HasOldTables old_schema
+unfolding understood everything
+old_known = ((_, refl), ((_, refl), ((_, refl), ((_, refl), ((_, refl), ((_, refl), ((_, refl), ((_, refl), tt))))))))
+
+pub known_of_old : (schema : Schema) → schema ≡ old_schema → HasOldTables schema
+known_of_old schema is = subst HasOldTables (sym is) old_known
+
+-- ours has a table of ballots
 pub ours_has_ballots : (schema : Schema) → schema ≡ our_schema → has_table (codes "ballot") schema ≡ true
 ours_has_ballots schema is = subst (λ (s : Schema). has_table (codes "ballot") s ≡ true) (sym is) refl
 

@@ -8,15 +8,15 @@ use Rattle.sqlite.specs.declared.error.Error.TheVariants.{SqliteFailure}
 use Rattle.sqlite.specs.declared.error.ErrorCode.{ErrorCode}
 use Rattle.sqlite.specs.declared.error.ErrorCode.TheVariants as code
 use Rattle.dip_store.specs.Desk.{DeskSays, IsMarked, columns_of}
-use Rattle.dip_store.specs.DeskFaults.{IsFromOutside}
+use Rattle.dip_store_looks.specs.Faults.{IsFromOutside}
 use Rattle.dip_store.specs.declared.desk_row.DeskColumns.{DeskColumns}
-use Rattle.dip_store.specs.declared.desk_faults.DeskFault.{DeskFault}
-use Rattle.dip_store.specs.declared.desk_faults.DeskFault.TheVariants.{Query, Foreign}
+use Rattle.dip_store_looks.specs.declared.faults.LookFault.{LookFault}
+use Rattle.dip_store_looks.specs.declared.faults.LookFault.TheVariants as looks
 use Rattle.dip_store_sql.specs.Causes.{IsCaused}
 use Rattle.dip_store_sql.specs.TablesAfter.{is_first}
 use Rattle.dip_store_tables.specs.Tables.{DeskRow, Tables}
 use Rattle.dip_store.specs.Faults.{open_code_fault, open_fault, row_fault, desk_fault}
-use Rattle.dip_store.specs.Refusing.{Differs, IsOutage, IsRefused}
+use Rattle.dip_store.specs.Refusing.{IsRefusedAs, Differs, IsOutage, IsRefused}
 use Rattle.dip_store.specs.declared.faults.StoreFault.{StoreFault}
 use Rattle.dip_store.specs.declared.faults.StoreFault.TheVariants.{Memory, Disk, OtherMap, OtherSchema}
 
@@ -33,10 +33,11 @@ pub open_blamed : (fault : Type 0) (e : Error) → IsCaused fault e → open_fau
 open_blamed fault e (inl memory) is = absurd (let bad : Memory ≡ Disk = ap open_fault (sym memory) ∙ is in cc)
 open_blamed fault e (inr disk) is = disk.1
 
-pub desk_blamed : (fault : Type 0) (e : DeskFault) → IsFromOutside fault e → desk_fault e ≡ Disk → fault
-desk_blamed fault (Query e) (inl memory) is = absurd (let bad : Memory ≡ Disk = ap row_fault (sym memory) ∙ is in cc)
-desk_blamed fault (Query e) (inr disk) is = disk.1
-desk_blamed fault Foreign own is = absurd own
+pub desk_blamed : (fault : Type 0) (e : LookFault) → IsFromOutside fault e → desk_fault e ≡ Disk → fault
+desk_blamed fault looks.Memory own is = absurd (cc)
+desk_blamed fault (looks.Query e) (inl memory) is = absurd (let bad : Memory ≡ Disk = ap row_fault (sym memory) ∙ is in cc)
+desk_blamed fault (looks.Query e) (inr disk) is = disk.1
+desk_blamed fault looks.Foreign own is = absurd own
 
 -- an outage is no word on the map, and refuses whatever the master's row says
 pub outage_no_map : (f : StoreFault) → IsOutage f → f ≡ OtherMap → ⊥
@@ -45,20 +46,21 @@ outage_no_map Disk out is = absurd (cc)
 outage_no_map OtherMap out is = out
 outage_no_map OtherSchema out is = out
 
-pub outage_refused : (map_sum : List ℕ) (row : Option DeskRow) (f : StoreFault) → IsOutage f → IsRefused map_sum row f
-outage_refused map_sum row Memory out = tt
-outage_refused map_sum row Disk out = tt
-outage_refused map_sum row OtherMap out = absurd out
-outage_refused map_sum row OtherSchema out = absurd out
+pub outage_refused : (version : ℕ) (map_sum : List ℕ) (row : Option DeskRow) (f : StoreFault) → IsOutage f → IsRefusedAs version map_sum row f
+outage_refused version map_sum row Memory out = tt
+outage_refused version map_sum row Disk out = tt
+outage_refused version map_sum row OtherMap out = absurd out
+outage_refused version map_sum row OtherSchema out = absurd out
 
 caused_outage : (fault : Type 0) (e : Error) → IsCaused fault e → IsOutage (row_fault e)
 caused_outage fault e (inl memory) = subst (λ (x : Error). IsOutage (row_fault x)) (sym memory) tt
 caused_outage fault (SqliteFailure c) (inr disk) = code_outage c
 caused_outage fault _ (inr disk) = absurd (let x : false ≡ true = disk.0 in cc)
 
-desk_outage : (fault : Type 0) (e : DeskFault) → IsFromOutside fault e → IsOutage (desk_fault e)
-desk_outage fault (Query e) own = caused_outage fault e own
-desk_outage fault Foreign own = absurd own
+desk_outage : (fault : Type 0) (e : LookFault) → IsFromOutside fault e → IsOutage (desk_fault e)
+desk_outage fault looks.Memory own = tt
+desk_outage fault (looks.Query e) own = caused_outage fault e own
+desk_outage fault looks.Foreign own = absurd own
 
 code_no_map : (c : ErrorCode) → open_code_fault c ≡ OtherMap → ⊥
 code_no_map c = outage_no_map (open_code_fault c) (code_outage c)
@@ -67,49 +69,50 @@ row_no_map : (e : Error) → row_fault e ≡ OtherMap → ⊥
 row_no_map (SqliteFailure c) is = code_no_map c is
 row_no_map _ is = absurd (let x : OtherSchema ≡ OtherMap = is in cc)
 
-desk_no_map : (e : DeskFault) → desk_fault e ≡ OtherMap → ⊥
-desk_no_map (Query e) is = row_no_map e is
-desk_no_map Foreign is = absurd (let x : OtherSchema ≡ OtherMap = is in cc)
+desk_no_map : (e : LookFault) → desk_fault e ≡ OtherMap → ⊥
+desk_no_map looks.Memory is = absurd (let x : Memory ≡ OtherMap = is in cc)
+desk_no_map (looks.Query e) is = row_no_map e is
+desk_no_map looks.Foreign is = absurd (let x : OtherSchema ≡ OtherMap = is in cc)
 
 -- where the master's row wasn't read
-pub unread_refused : (fault : Type 0) (map_sum : List ℕ) (row : Option DeskRow) (e : DeskFault) → (IfSome row IsMarked → IsFromOutside fault e) → IsRefused map_sum row (desk_fault e)
-unread_refused fault map_sum row e h = which (desk_fault e) refl
+pub unread_refused : (fault : Type 0) (version : ℕ) (map_sum : List ℕ) (row : Option DeskRow) (e : LookFault) → (IfSome row IsMarked → IsFromOutside fault e) → IsRefusedAs version map_sum row (desk_fault e)
+unread_refused fault version map_sum row e h = which (desk_fault e) refl
   where
-    which : (f : StoreFault) → desk_fault e ≡ f → IsRefused map_sum row f
+    which : (f : StoreFault) → desk_fault e ≡ f → IsRefusedAs version map_sum row f
     which Memory is = tt
     which Disk is = tt
     which OtherMap is = absurd (desk_no_map e is)
-    which OtherSchema is = λ d at marked version. subst IsOutage is (desk_outage fault e (h (subst (λ (o : Option DeskRow). IfSome o IsMarked) (sym at) marked)))
+    which OtherSchema is = λ d at marked same. subst IsOutage is (desk_outage fault e (h (subst (λ (o : Option DeskRow). IfSome o IsMarked) (sym at) marked)))
 
 -- where there is none
-pub none_refused : (map_sum : List ℕ) (row : Option DeskRow) → None ≡ option_map columns_of row → IsRefused map_sum row OtherSchema
-none_refused map_sum None is = λ d at marked version. absurd (cc)
-none_refused map_sum (Some d) is = absurd (cc)
+pub none_refused : (version : ℕ) (map_sum : List ℕ) (row : Option DeskRow) → None ≡ option_map columns_of row → IsRefusedAs version map_sum row OtherSchema
+none_refused version map_sum None is = λ d at marked same. absurd (cc)
+none_refused version map_sum (Some d) is = absurd (cc)
 
 -- and by what it says
-pub differs_refused : (map_sum : List ℕ) (row : Option DeskRow) (c : DeskColumns) (f : StoreFault) → Some c ≡ option_map columns_of row → Differs 2 c map_sum f → IsRefused map_sum row f
-differs_refused map_sum None c f is w = absurd (cc)
-differs_refused map_sum (Some d) c f is w = which f w
+pub differs_refused : (version : ℕ) (map_sum : List ℕ) (row : Option DeskRow) (c : DeskColumns) (f : StoreFault) → Some c ≡ option_map columns_of row → Differs version c map_sum f → IsRefusedAs version map_sum row f
+differs_refused version map_sum None c f is w = absurd (cc)
+differs_refused version map_sum (Some d) c f is w = which f w
   where
     same : c ≡ columns_of d
     same = cc
 
-    which : (f : StoreFault) → Differs 2 c map_sum f → IsRefused map_sum (Some d) f
+    which : (f : StoreFault) → Differs version c map_sum f → IsRefusedAs version map_sum (Some d) f
     which Memory w = tt
     which Disk w = tt
     which OtherMap w = (d, refl, ap (λ (x : DeskColumns). x.version) (sym same) ∙ w.0, λ is. w.1 (ap (λ (x : DeskColumns). x.map_sum) same ∙ is))
-    which OtherSchema w = λ e at marked version. w (ap (λ (x : DeskColumns). x.version) same ∙ let there : d ≡ e = cc in ap (λ (x : DeskRow). x.version) there ∙ version)
+    which OtherSchema w = λ e at marked so. w (ap (λ (x : DeskColumns). x.version) same ∙ let there : d ≡ e = cc in ap (λ (x : DeskRow). x.version) there ∙ so)
 
 -- where it says this version and this map, that is no reason
-pub own_outage : (text : List ℕ) (t : Tables) (f : StoreFault) → DeskSays 2 (sha256 text) t → IsRefused (sha256 text) (find is_first t.desk) f → IsOutage f
-own_outage text t Memory says w = tt
-own_outage text t Disk says w = tt
-own_outage text t OtherMap says w =
+pub own_outage : (version : ℕ) (text : List ℕ) (t : Tables) (f : StoreFault) → version < 2 ^ 32 → DeskSays version (sha256 text) t → IsRefusedAs version (sha256 text) (find is_first t.desk) f → IsOutage f
+own_outage version text t Memory low says w = tt
+own_outage version text t Disk low says w = tt
+own_outage version text t OtherMap low says w =
     let found = says.found in
     let at = w.1 in
     let there : says.desk ≡ w.0 = cc in
     absurd (w.3 (ap (λ (x : DeskRow). x.map) (sym there) ∙ says.map_is))
-own_outage text t OtherSchema says w =
+own_outage version text t OtherSchema low says w =
     let v = says.version_is in
-    let low : says.desk.version < 2 ^ 32 = omega (arith, v) in
-    w says.desk says.found (low, ap length says.map_is ∙ length-sha256 text) v
+    let small : says.desk.version < 2 ^ 32 = omega (arith, v, low) in
+    w says.desk says.found (small, ap length says.map_is ∙ length-sha256 text) v

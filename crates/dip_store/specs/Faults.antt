@@ -6,8 +6,6 @@ use Rattle.sqlite.specs.declared.error.ErrorCode.{ErrorCode}
 use Rattle.sqlite.specs.declared.error.ErrorCode.TheVariants.{OutOfMemory, SystemIoFailure, DatabaseCorrupt, DiskFull, TooBig, NoRowid, Closed}
 use Rattle.dip_store_looks.specs.declared.faults.LookFault.{LookFault}
 use Rattle.dip_store_looks.specs.declared.faults.LookFault.TheVariants as looks
-use Rattle.dip_store.specs.declared.desk_faults.DeskFault.{DeskFault}
-use Rattle.dip_store.specs.declared.desk_faults.DeskFault.TheVariants as desks
 use Rattle.dip_desk_state.specs.declared.faults.KeepFault.{KeepFault}
 use Rattle.dip_desk_state.specs.declared.faults.KeepFault.TheVariants.{Memory, Disk, Damaged}
 use Rattle.dip_store_changes.specs.declared.faults.MakeFault.{MakeFault}
@@ -79,6 +77,7 @@ abbrev pub row_fault : Error → StoreFault
 row_fault (SqliteFailure code) = open_code_fault code
 row_fault _ = stores.OtherSchema
 
-abbrev pub desk_fault : DeskFault → StoreFault
-desk_fault (desks.Query error) = row_fault error
-desk_fault desks.Foreign = stores.OtherSchema
+abbrev pub desk_fault : LookFault → StoreFault
+desk_fault looks.Memory = stores.Memory
+desk_fault (looks.Query error) = row_fault error
+desk_fault looks.Foreign = stores.OtherSchema

@@ -1,6 +1,5 @@
 pub mod Alone
 pub mod Desk
-pub mod DeskFaults
 pub mod Founding
 pub mod Known
 pub mod Making

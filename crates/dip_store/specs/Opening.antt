@@ -8,6 +8,7 @@ use Rattle.dip_desk_state.specs.State.{State}
 use Rattle.dip_store_tables.specs.Tables.{Tables}
 use Rattle.dip_store.specs.Founding.{Founds}
 use Rattle.dip_store_sql.specs.Calls.{does_show, is_honest}
+use Rattle.dip_store.specs.Renewing.{IsOldStore, WereStored, old_said_by}
 use Rattle.dip_store.specs.Stored.{AreStored, IsStore, book, said_by}
 use Rattle.dip_store.specs.declared.keeper.SqlKeeper.{SqlKeeper}
 
@@ -31,6 +32,17 @@ pub record StoreEnds {S : Type 0} (g : Ghosts S) (m : Chart) (Fault : Type 0) (n
   pub left : (db : Trees) → (state g new).may_leave db → AreStored m db × ((said_by m db ≡ s) ⊎ More (said_by m db))
   pub shown : does_show g new → Holds g m s new
   pub goes : Holds g m s new ⊎ Fault
+
+-- a database that keepers of version 1 alone have written is in a store that is open, and no change of it is under way
+pub record IsOldDesk {S : Type 0} (g : Ghosts S) (m : Chart) (store : Held S) : Type 0 where
+  pub shows : does_show g store
+  pub idle : store.in_transaction ≡ false
+  pub wrote : IsOldStore m (state g store).now
+
+-- a crash leaves tables of version 1 that say what these did, or tables of version 2 that do, to be opened
+abbrev pub MayRenew : {S : Type 0} → Ghosts S → Chart → Held S → Trees → Type 0
+MayRenew g m new old = (db : Trees) → (state g new).may_leave db
+    → (WereStored m db × (old_said_by m db ≡ old_said_by m old)) ⊎ (AreStored m db × (said_by m db ≡ old_said_by m old))
 
 -- the keeper has told of no fault, says this state, and a crash leaves this state alone, to be opened again
 pub record Opens {S : Type 0} (g : Ghosts S) (m : Chart) (s : State) (k : SqlKeeper S) : Type 0 where

@@ -20,9 +20,12 @@ Differs version c map_sum _ = ⊥
 
 -- where the tables are there, by their master's row, if they have one: there is none of this version; or there is, and it says
 -- another map than this
+abbrev pub IsRefusedAs : ℕ → List ℕ → Option DeskRow → StoreFault → Type 0
+IsRefusedAs version map_sum row OtherSchema =
+    (d : DeskRow) → row ≡ Some d → IsMarked d → d.version ≡ version → ⊥
+IsRefusedAs version map_sum row OtherMap =
+    (d : DeskRow) × (row ≡ Some d) × (d.version ≡ version) × (d.map ≡ map_sum → ⊥)
+IsRefusedAs version map_sum row _ = Unit {0}
+
 abbrev pub IsRefused : List ℕ → Option DeskRow → StoreFault → Type 0
-IsRefused map_sum row OtherSchema =
-    (d : DeskRow) → row ≡ Some d → IsMarked d → d.version ≡ 2 → ⊥
-IsRefused map_sum row OtherMap =
-    (d : DeskRow) × (row ≡ Some d) × (d.version ≡ 2) × (d.map ≡ map_sum → ⊥)
-IsRefused map_sum row _ = Unit {0}
+IsRefused map_sum row f = IsRefusedAs 2 map_sum row f

@@ -1,6 +1,67 @@
--- Tables made into those of another version, in a transaction.
-use Rattle.sqlite.specs.State.{State, Survives}
+-- Tables of version 1 made into those of version 2.
+use Rattle.std.specs.Prelude.{◌≡◌, ◌⊎◌, ◌==◌, ◌++◌, ℕ, pos, List, map, codes, if◌then◌else◌}
+use Rattle.sqlite.specs.declared.types.Value.TheVariants.{Int}
+use Rattle.sqlite.specs.Order.{Row, bytes, column}
+use Rattle.sqlite.specs.Effect.{Database}
+use Rattle.sqlite.specs.State.{State}
+use Rattle.sqlite.specs.Tree.{Trees}
+use Rattle.dip_map.specs.Charts.{Chart}
+use Rattle.dip_desk_state.specs.State.{State as Content}
+use Rattle.dip_store_tables.specs.Counting.{AreCounted}
+use Rattle.dip_store_tables.specs.Tables.{BallotRow, ChoiceRow, Tables}
+use Rattle.dip_store_tables.specs.Writing.{choice_row}
+use Rattle.dip_store_looks.specs.Readable.{HasText}
+use Rattle.dip_store_changes.specs.Parts.{more_ballots}
+use Rattle.dip_store_sql.specs.Rows.{number_in}
+use Rattle.dip_store_sql.specs.TablesAfter.{on_desk, on_seats}
+use Rattle.dip_store.specs.Making.{HasTables}
+use Rattle.dip_store_sql.specs.Old.{WasGood, old_tables_of}
+use Rattle.dip_store_tables.specs.Renewing.{WereOurs, old_state_of, renewed, second, voteless}
 
--- a part of a transaction, however it ends: it commits nothing
-pub record Passes (old new : State) : Type 0 where
-  pub survives : Survives old new (λ _. ⊥)
+-- a database that keepers of version 1 alone have written, by this map
+pub record IsOldStore (m : Chart) (db : Database) : Type 0 where
+  pub good : WasGood db
+  pub counted : AreCounted (old_tables_of db.trees)
+  pub ours : WereOurs m (old_tables_of db.trees)
+
+-- the trees are those of such a database
+abbrev pub WereStored : Chart → Trees → Type 0
+WereStored m trees = (db : Database) × (db.trees ≡ trees) × IsOldStore m db
+
+-- the state that its rows say
+abbrev pub old_said_by : Chart → Trees → Content
+old_said_by m db = old_state_of m (old_tables_of db)
+
+-- choices behind the others
+abbrev pub more_choices : List ChoiceRow → Tables → Tables
+more_choices cs t = record t { choices = t.choices ++ cs }
+
+-- tables with these ballots and a choice for each of these games, without votes in the seats' rows, and of version 2
+abbrev pub filled : List (List ℕ) → List BallotRow → Tables → Tables
+filled names ballots t = on_desk second (on_seats voteless (more_choices (map choice_row names) (more_ballots ballots t)))
+
+-- a game's name, and a seat's ballot, as the queries show them
+abbrev pub shown_name : Row → List ℕ
+shown_name r = bytes (column r 0)
+
+abbrev pub shown_ballot : Row → BallotRow
+shown_ballot r = record {
+  game = bytes (column r 0);
+  power = bytes (column r 1);
+  names = if number_in (column r 2) == 0 then codes "NO" else codes "YES";
+}
+
+-- such a row can be read: names are texts, and a vote is 0 or 1
+pub record IsVoteReadable (r : Row) : Type 0 where
+  pub game : HasText r 0
+  pub power : HasText r 1
+  pub vote : (column r 2 ≡ Int (pos 0)) ⊎ (column r 2 ≡ Int (pos 1))
+
+-- the trees of tables of version 1 that were filled so, whole
+abbrev pub Fills : List (List ℕ) → List BallotRow → State → Trees → Type 0
+Fills names ballots old trees =
+    (db : Database) × (WasGood old.now → HasTables (filled names ballots (old_tables_of old.now.trees)) db) × (trees ≡ db.trees)
+
+-- the trees of tables of version 2 that these of version 1 became, whole
+abbrev pub Renews : Tables → Trees → Type 0
+Renews t db = (d : Database) × HasTables (renewed t) d × (db ≡ d.trees)

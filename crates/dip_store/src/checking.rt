@@ -1,5 +1,5 @@
 //! What is looked at before a store is opened.
-ghost use Rattle.std.specs.Prelude.{◌≡◌, ◌≤◌, IfErr, IfSome, IsErrOf, OnOk, false};
+ghost use Rattle.std.specs.Prelude.{◌≡◌, IfErr, IfSome, IsErrOf, OnOk};
 ghost use Rattle.std.specs.List.{find};
 ghost use Rattle.sha2.specs.Sha256.{sha256};
 ghost use Rattle.sqlite.specs.Held.{state};
@@ -11,12 +11,14 @@ ghost use Rattle.dip_store_tables.specs.Legible.{AreOurs};
 ghost use Rattle.dip_store_sql.specs.Calls.{IsKept, Selects, does_show, is_honest, tables_in};
 ghost use Rattle.dip_store_sql.specs.Causes.{has_faulted};
 ghost use Rattle.dip_store_sql.specs.TablesAfter.{is_first};
-ghost use Rattle.dip_store.specs.Refusing.{Differs, IsOutage, IsRefused};
+ghost use Rattle.dip_store.specs.Refusing.{Differs, IsOutage, IsRefused, IsRefusedAs};
+ghost use Rattle.dip_store_sql.specs.Old.{old_schema};
+ghost use Rattle.dip_store_sql.specs.Calls.{SelectsFrom, WasKept, old_tables_in};
+ghost use Rattle.dip_store_tables.specs.Renewing.{WereOurs};
 
 use crate::desk_row::{DeskColumns, read_desk};
 use crate::faults::{StoreFault, desk_fault, open_fault};
 use crate::known::{knows_all, knows_old};
-use crate::renewing::renew;
 use dip_letters::sum;
 use sqlite::{Alter, Connection};
 
@@ -62,21 +64,33 @@ fn check_columns(columns: &DeskColumns, version: u32, map_text: &str) -> Result<
 }
 
 /// There is a master's row, of this version and with this map.
-fn check_row<S: Alter>(conn: &mut Connection<S>, map_text: &str) -> Result<(), StoreFault>
+fn check_row<S: Alter>(
+    conn: &mut Connection<S>,
+    version: u32,
+    map_text: &str,
+) -> Result<(), StoreFault>
     ensures says { IsKept S.Store conn.old → is_honest S.Store conn.new
-        → OnOk result (DeskSays 2 (sha256 map_text.now) (tables_in S.Store conn.old)) }
+        → OnOk result (DeskSays version (sha256 map_text.now) (tables_in S.Store conn.old)) }
     ensures refused { IsKept S.Store conn.old → does_show S.Store conn.old
         → is_honest S.Store conn.new → (m : Chart) → AreOurs m (tables_in S.Store conn.old)
-        → IfErr result (IsRefused (sha256 map_text.now)
+        → IfErr result (IsRefusedAs version (sha256 map_text.now)
         (find is_first (tables_in S.Store conn.old).desk)) }
     ensures caused { IsKept S.Store conn.old → does_show S.Store conn.old
         → is_honest S.Store conn.new → (m : Chart) → AreOurs m (tables_in S.Store conn.old)
         → IfSome (find is_first (tables_in S.Store conn.old).desk) IsMarked
         → IsErrOf result StoreFault.Disk → has_faulted S.Store conn.old conn.new }
     ensures selects { Selects S.Store conn.old conn.new result }
+    // And of a store of version 1.
+    ensures old_says { WasKept S.Store conn.old → is_honest S.Store conn.new
+        → OnOk result (DeskSays version (sha256 map_text.now) (old_tables_in S.Store conn.old)) }
+    ensures old_refused { WasKept S.Store conn.old → does_show S.Store conn.old
+        → is_honest S.Store conn.new → (m : Chart) → WereOurs m (old_tables_in S.Store conn.old)
+        → IfErr result (IsRefusedAs version (sha256 map_text.now)
+        (find is_first (old_tables_in S.Store conn.old).desk)) }
+    ensures old_selects { SelectsFrom (WasKept S.Store) S.Store conn.old conn.new result }
 {
     match read_desk(conn) {
-        Ok(Some(columns)) => check_columns(&columns, VERSION, map_text),
+        Ok(Some(columns)) => check_columns(&columns, version, map_text),
         Ok(None) => Err(StoreFault::OtherSchema),
         Err(fault) => Err(desk_fault(fault)),
     }
@@ -107,7 +121,7 @@ pub(crate) fn check_desk<S: Alter>(
     ensures selects { Selects S.Store conn.old conn.new result }
 {
     check_tables(conn)?;
-    check_row(conn, map_text)
+    check_row(conn, VERSION, map_text)
 }
 
 /// The eight tables of version 1 are there.
@@ -115,9 +129,10 @@ fn check_old_tables<S: Alter>(conn: &mut Connection<S>) -> Result<(), StoreFault
     ensures known { is_honest S.Store conn.new
         → OnOk result (HasOldTables (state S.Store conn.old).now.schema) }
     ensures tables_alone { IfErr result (λ f. f ≡ StoreFault.OtherMap → ⊥) }
-    ensures fair { is_honest S.Store conn.new → is_honest S.Store conn.old }
-    ensures counted { (state S.Store conn.old).faults ≤ (state S.Store conn.new).faults }
-    ensures mode { conn.old.in_transaction ≡ false → conn.new.in_transaction ≡ false }
+    ensures own { is_honest S.Store conn.new → (state S.Store conn.old).now.schema ≡ old_schema
+        → IfErr result IsOutage }
+    ensures shown { is_honest S.Store conn.new → OnOk result (does_show S.Store conn.old) }
+    ensures selects { SelectsFrom (WasKept S.Store) S.Store conn.old conn.new result }
 {
     match knows_old(conn) {
         Ok(true) => Ok(()),
@@ -126,39 +141,24 @@ fn check_old_tables<S: Alter>(conn: &mut Connection<S>) -> Result<(), StoreFault
     }
 }
 
-/// There is a master's row of version 1, with this map.
-fn check_old_row<S: Alter>(conn: &mut Connection<S>, map_text: &str) -> Result<(), StoreFault>
-    ensures fair { is_honest S.Store conn.new → is_honest S.Store conn.old }
-    ensures counted { (state S.Store conn.old).faults ≤ (state S.Store conn.new).faults }
-    ensures mode { conn.old.in_transaction ≡ false → conn.new.in_transaction ≡ false }
-{
-    match read_desk(conn) {
-        Ok(Some(columns)) => check_columns(&columns, OLD_VERSION, map_text),
-        Ok(None) => Err(StoreFault::OtherSchema),
-        Err(fault) => Err(desk_fault(fault)),
-    }
-}
-
-/// A store of version 1, made with this map's text, becomes one of version 2.
-///
-/// # Errors
-/// `OtherSchema` where it isn't of version 1, or a vote isn't one; `OtherMap` where it says another map; `Memory`; `Disk`.
-pub(crate) fn renew_desk<S: Alter>(
+/// The store has the tables of version 1, made with this map's text.
+pub(crate) fn check_old_desk<S: Alter>(
     conn: &mut Connection<S>,
     map_text: &str,
 ) -> Result<(), StoreFault>
-    requires { conn.old.in_transaction ≡ false }
     ensures known { is_honest S.Store conn.new
         → OnOk result (HasOldTables (state S.Store conn.old).now.schema) }
     ensures known_first { is_honest S.Store conn.new → IfErr result (λ f.
         f ≡ StoreFault.OtherMap → HasOldTables (state S.Store conn.old).now.schema) }
-    ensures fair { is_honest S.Store conn.new → is_honest S.Store conn.old }
-    ensures counted { (state S.Store conn.old).faults ≤ (state S.Store conn.new).faults }
+    ensures says { WasKept S.Store conn.old → is_honest S.Store conn.new
+        → OnOk result (DeskSays 1 (sha256 map_text.now) (old_tables_in S.Store conn.old)) }
+    ensures shown { is_honest S.Store conn.new → OnOk result (does_show S.Store conn.old) }
+    ensures refused { WasKept S.Store conn.old → does_show S.Store conn.old
+        → is_honest S.Store conn.new → (m : Chart) → WereOurs m (old_tables_in S.Store conn.old)
+        → IfErr result (IsRefusedAs 1 (sha256 map_text.now)
+        (find is_first (old_tables_in S.Store conn.old).desk)) }
+    ensures selects { SelectsFrom (WasKept S.Store) S.Store conn.old conn.new result }
 {
     check_old_tables(conn)?;
-    check_old_row(conn, map_text)?;
-    match renew(conn) {
-        Ok(()) => Ok(()),
-        Err(fault) => Err(desk_fault(fault)),
-    }
+    check_row(conn, OLD_VERSION, map_text)
 }

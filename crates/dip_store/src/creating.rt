@@ -3,6 +3,8 @@ ghost use Rattle.std.specs.Prelude.{◌≡◌};
 ghost use Rattle.sqlite.specs.Held.{state};
 ghost use Rattle.dip_store.specs.Making.{HasFirst, HasTables, Leads, Tries};
 ghost use Rattle.dip_store_sql.specs.TablesAfter.{no_tables};
+ghost use Rattle.dip_store_tables.specs.Tables.{Tables};
+ghost use Rattle.dip_store_sql.specs.Old.{HasNine, HasOld};
 
 use sqlite::{Alter, Error, Transaction};
 
@@ -125,6 +127,8 @@ fn create_ballot<S: Alter>(tx: &mut Transaction<'_, S>) -> Result<usize, Error>
         (state S.Store tx.old.conn.now) (state S.Store tx.new.conn.now) result }
     ensures tries { Tries (HasFirst 8) (HasFirst 9)
         (state S.Store tx.old.conn.now) (state S.Store tx.new.conn.now) result }
+    ensures over { (t : Tables) → Leads (HasOld t) (HasNine t)
+        (state S.Store tx.old.conn.now) (state S.Store tx.new.conn.now) result }
 {
     tx.execute(
         "CREATE TABLE ballot (game TEXT NOT NULL, power TEXT NOT NULL, names TEXT NOT NULL, PRIMARY KEY (game, power)) STRICT",
@@ -138,6 +142,8 @@ fn create_choice<S: Alter>(tx: &mut Transaction<'_, S>) -> Result<usize, Error>
     ensures leads { Leads (HasFirst 9) (HasTables no_tables)
         (state S.Store tx.old.conn.now) (state S.Store tx.new.conn.now) result }
     ensures tries { Tries (HasFirst 9) (HasTables no_tables)
+        (state S.Store tx.old.conn.now) (state S.Store tx.new.conn.now) result }
+    ensures over { (t : Tables) → Leads (HasNine t) (HasTables t)
         (state S.Store tx.old.conn.now) (state S.Store tx.new.conn.now) result }
 {
     tx.execute(
@@ -193,6 +199,8 @@ pub(crate) fn create_choices<S: Alter>(tx: &mut Transaction<'_, S>) -> Result<()
     ensures leads { Leads (HasFirst 8) (HasTables no_tables)
         (state S.Store tx.old.conn.now) (state S.Store tx.new.conn.now) result }
     ensures tries { Tries (HasFirst 8) (HasTables no_tables)
+        (state S.Store tx.old.conn.now) (state S.Store tx.new.conn.now) result }
+    ensures over { (t : Tables) → Leads (HasOld t) (HasTables t)
         (state S.Store tx.old.conn.now) (state S.Store tx.new.conn.now) result }
 {
     create_ballot(tx)?;

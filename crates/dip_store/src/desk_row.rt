@@ -5,16 +5,18 @@ ghost use Rattle.sqlite.specs.declared.types.Value.TheVariants.{Int, Blob as Byt
 ghost use Rattle.sqlite.specs.Order.{bytes, column};
 ghost use Rattle.dip_map.specs.Charts.{Chart};
 ghost use Rattle.dip_store.specs.Desk.{IsMarked, columns_of, shown_columns};
-ghost use Rattle.dip_store.specs.DeskFaults.{IsFromOutside};
+ghost use Rattle.dip_store_looks.specs.Faults.{IsFromOutside};
 ghost use Rattle.dip_store_tables.specs.Legible.{AreOurs};
 ghost use Rattle.dip_store_sql.specs.Calls.{IsKept, Selects, does_show, is_honest, tables_in};
 ghost use Rattle.dip_store_sql.specs.Showing.{show_desk};
 ghost use Rattle.dip_store_sql.specs.TablesAfter.{is_first};
 ghost use Rattle.dip_store_sql.specs.Causes.{IsCaused, has_faulted};
+ghost use Rattle.dip_store_sql.specs.Calls.{SelectsFrom, WasKept, old_tables_in};
+ghost use Rattle.dip_store_tables.specs.Renewing.{WereOurs};
 ghost use Rattle.dip_store_tables.specs.Tables.{DeskRow};
 ghost use Rattle.dip_store_tables.specs.Written.{IsDeskWritten};
 
-use crate::desk_faults::DeskFault;
+use dip_store_looks::LookFault;
 use dip_store_sql::find_desk;
 use sqlite::{Alter, Connection, Error, Row};
 
@@ -29,7 +31,7 @@ pub struct DeskColumns {
 }
 
 /// A number of 32 bits.
-fn number_at(row: &Row, at: usize) -> Result<u32, Error>
+pub(crate) fn number_at(row: &Row, at: usize) -> Result<u32, Error>
     ensures value { IfOk result (λ n. column row.now at ≡ Int (pos n)) }
     ensures own { (n : ℕ) → at < length row.now → column row.now at ≡ Int (pos n) → n < 2 ^ 32
         → IfErr result (IsCaused ⊥) }
@@ -46,7 +48,7 @@ fn bytes_at(row: &Row, at: usize) -> Result<Vec<u8>, Error>
 }
 
 /// The 32 bytes of a column.
-fn digest_in(row: &Row, at: usize) -> Result<[u8; 32], DeskFault>
+fn digest_in(row: &Row, at: usize) -> Result<[u8; 32], LookFault>
     ensures value { IfOk result (λ d. d ≡ bytes (column row.now at)) }
     ensures own { (b : List ℕ) → at < length row.now → column row.now at ≡ Bytes b
         → length b ≡ 32 → IfErr result (IsFromOutside ⊥) }
@@ -54,11 +56,11 @@ fn digest_in(row: &Row, at: usize) -> Result<[u8; 32], DeskFault>
     let found = bytes_at(row, at)?;
     match <[u8; 32]>::try_from(found.as_slice()) {
         Ok(digest) => Ok(digest),
-        Err(_) => Err(DeskFault::Foreign),
+        Err(_) => Err(LookFault::Foreign),
     }
 }
 
-fn columns_in(row: &Row) -> Result<DeskColumns, DeskFault>
+fn columns_in(row: &Row) -> Result<DeskColumns, LookFault>
     ensures value { IfOk result (λ d. d ≡ shown_columns row.now) }
     ensures own { (d : DeskRow) → row.now ≡ show_desk d → IsMarked d → IsDeskWritten d
         → IfErr result (IsFromOutside ⊥) }
@@ -75,13 +77,21 @@ fn columns_in(row: &Row) -> Result<DeskColumns, DeskFault>
 ///
 /// # Errors
 /// Want of memory, the database's own, or a column that no keeper writes.
-pub fn read_desk<S: Alter>(conn: &mut Connection<S>) -> Result<Option<DeskColumns>, DeskFault>
+pub fn read_desk<S: Alter>(conn: &mut Connection<S>) -> Result<Option<DeskColumns>, LookFault>
     ensures value { IsKept S.Store conn.old → is_honest S.Store conn.new → IfOk result (λ o. o
         ≡ option_map columns_of (find is_first (tables_in S.Store conn.old).desk)) }
     ensures selects { Selects S.Store conn.old conn.new result }
     ensures own { IsKept S.Store conn.old → does_show S.Store conn.old → is_honest S.Store conn.new
         → (m : Chart) → AreOurs m (tables_in S.Store conn.old)
         → IfSome (find is_first (tables_in S.Store conn.old).desk) IsMarked
+        → IfErr result (IsFromOutside (has_faulted S.Store conn.old conn.new)) }
+    // And of a store of version 1.
+    ensures old_value { WasKept S.Store conn.old → is_honest S.Store conn.new → IfOk result (λ o. o
+        ≡ option_map columns_of (find is_first (old_tables_in S.Store conn.old).desk)) }
+    ensures old_selects { SelectsFrom (WasKept S.Store) S.Store conn.old conn.new result }
+    ensures old_own { WasKept S.Store conn.old → does_show S.Store conn.old
+        → is_honest S.Store conn.new → (m : Chart) → WereOurs m (old_tables_in S.Store conn.old)
+        → IfSome (find is_first (old_tables_in S.Store conn.old).desk) IsMarked
         → IfErr result (IsFromOutside (has_faulted S.Store conn.old conn.new)) }
 {
     let Some(row) = find_desk(conn)? else {

@@ -2,7 +2,6 @@
 ghost use Rattle.std.specs.Prelude.{◌≡◌};
 ghost use Rattle.dip_store.specs.Faults as told;
 
-use crate::desk_faults::DeskFault;
 use dip_desk_state::KeepFault;
 use dip_store_changes::MakeFault;
 use dip_store_looks::LookFault;
@@ -159,11 +158,12 @@ fn row_fault(error: Error) -> StoreFault
 }
 
 /// The fault for why the master's row isn't read: where it isn't the disk nor want of memory, the row is none of this version.
-pub(crate) fn desk_fault(fault: DeskFault) -> StoreFault
+pub(crate) fn desk_fault(fault: LookFault) -> StoreFault
     ensures { result ≡ told.desk_fault fault }
 {
     match fault {
-        DeskFault::Query(error) => row_fault(error),
-        DeskFault::Foreign => StoreFault::OtherSchema,
+        LookFault::Memory => StoreFault::Memory,
+        LookFault::Query(error) => row_fault(error),
+        LookFault::Foreign => StoreFault::OtherSchema,
     }
 }

@@ -9,6 +9,8 @@ ghost use Rattle.dip_store_sql.specs.Schema.{our_schema};
 ghost use Rattle.dip_store_sql.specs.Causes.{IsCaused, has_faulted};
 ghost use Rattle.dip_store_sql.specs.Calls.{Selects};
 ghost use Rattle.dip_store.specs.Alone.{LeavesAlone};
+ghost use Rattle.dip_store_sql.specs.Old.{old_schema};
+ghost use Rattle.dip_store_sql.specs.Calls.{SelectsFrom, WasKept};
 ghost use Rattle.dip_store.specs.Known.{has_table, HasOldTables, HasOurTables, IsKnown, IsWhole};
 
 use sqlite::{Alter, Connection, Error};
@@ -69,7 +71,12 @@ fn knows_each<S: Alter>(conn: &mut Connection<S>, texts: &[&str]) -> Result<bool
 pub fn knows_old<S: Alter>(conn: &mut Connection<S>) -> Result<bool, Error>
     ensures answer { HasCleanDisk (state S.Store conn.new) → IfOk result (λ b.
         IsTrue b ↔ HasOldTables (state S.Store conn.old).now.schema) }
+    ensures old { HasCleanDisk (state S.Store conn.new)
+        → (state S.Store conn.old).now.schema ≡ old_schema → IfOk result IsTrue }
+    ensures selects { SelectsFrom (WasKept S.Store) S.Store conn.old conn.new result }
     ensures alone { LeavesAlone S.Store conn.old conn.new result }
+    ensures shown { HasCleanDisk (state S.Store conn.new)
+        → OnOk result (IsTrue (state S.Store conn.new).is_open) }
 {
     let old_texts = [
         "SELECT version, map, digest, last, kept, reply FROM desk WHERE id = 1",

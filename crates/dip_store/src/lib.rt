@@ -4,7 +4,6 @@
 mod archive;
 mod checking;
 mod creating;
-mod desk_faults;
 mod desk_row;
 mod faults;
 mod fitting_laws;
@@ -12,6 +11,7 @@ mod founding;
 mod keeper;
 mod known;
 mod making;
+mod old_rows;
 mod opening;
 mod paper_faults;
 mod papers;
@@ -19,7 +19,6 @@ mod renewing;
 
 pub use archive::write_papers;
 pub use checking::VERSION;
-pub use desk_faults::DeskFault;
 pub use desk_row::read_desk;
 pub use faults::{StoreFault, open_fault};
 pub use founding::found;

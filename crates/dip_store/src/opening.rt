@@ -10,20 +10,24 @@ ghost use Rattle.dip_store.specs.Known.{HasOldTables, HasOurTables};
 ghost use Rattle.dip_store_sql.specs.Calls.{does_show, is_honest, tables_in};
 ghost use Rattle.dip_store_sql.specs.Causes.{has_faulted};
 ghost use Rattle.dip_store_sql.specs.TablesAfter.{is_first};
-ghost use Rattle.dip_store.specs.Opening.{IsDesk, MayFound, Opens, StoreEnds};
-ghost use Rattle.dip_store.specs.Refusing.{IsOutage, IsRefused};
+ghost use Rattle.dip_store_sql.specs.Calls.{WasKept, old_tables_in};
+ghost use Rattle.dip_store_tables.specs.Renewing.{WereOurs};
+ghost use Rattle.dip_store.specs.Opening.{IsDesk, IsOldDesk, MayFound, MayRenew, Opens, StoreEnds};
+ghost use Rattle.dip_store.specs.Renewing.{IsOldStore, old_said_by};
+ghost use Rattle.dip_store.specs.Refusing.{IsOutage, IsRefused, IsRefusedAs};
 ghost use Rattle.dip_store.specs.Stored.{IsStore, book, said_by};
 ghost use Rattle.dip_store_tables.specs.Writing.{new_tables};
 
-use crate::checking::{check_desk, renew_desk};
+use crate::checking::{check_desk, check_old_desk};
 use crate::faults::{StoreFault, open_fault};
 use crate::founding::found;
 use crate::keeper::SqlKeeper;
 use crate::known::{has_ballots, knows_none};
 use crate::making::has_32;
+use crate::renewing::renew;
 use dip_letters::sum;
 use dip_map::Map;
-use dip_store_tables::{new_tables_are_legible, new_tables_are_new};
+use dip_store_tables::{new_tables_are_legible, new_tables_are_new, old_tables_are_renewed};
 use sqlite::{Alter, Connection};
 use std::alloc::Global;
 
@@ -107,22 +111,49 @@ impl<S: Alter> SqlKeeper<S> {
     fn open_old(
         alloc: Global,
         store: Connection<S>,
+        map: &Map,
         map_text: &str,
     ) -> Result<SqlKeeper<S>, (StoreFault, Connection<S>)>
         requires { store.in_transaction ≡ false }
+        ensures opened { IfOk result (λ k. is_honest S.Store k.conn → WasKept S.Store store
+            → IsOldStore map.now (state S.Store store).now → Opens S.Store map.now
+            (old_said_by map.now (state S.Store store).now.trees) k) }
         ensures told { IfOk result (λ k. (book S.Store).faults k ≡ 0) }
+        ensures says { IfOk result (λ k. is_honest S.Store k.conn → WasKept S.Store store
+            → DeskSays 1 (sha256 map_text.now) (old_tables_in S.Store store)) }
         ensures known { IfOk result (λ k. is_honest S.Store k.conn
             → HasOldTables (state S.Store store).now.schema) }
         ensures known_first { IfErr result (λ e. is_honest S.Store e.1
             → e.0 ≡ StoreFault.OtherMap → HasOldTables (state S.Store store).now.schema) }
+        ensures refused { IfErr result (λ e. is_honest S.Store e.1 → WasKept S.Store store
+            → does_show S.Store store → WereOurs map.now (old_tables_in S.Store store)
+            → IsRefusedAs 1 (sha256 map_text.now)
+            (find is_first (old_tables_in S.Store store).desk) e.0) }
+        ensures same { IfErr result (λ e. does_show S.Store e.1 → WasKept S.Store store
+            → (state S.Store e.1).committed ≡ (state S.Store store).committed) }
+        ensures left { IfErr result (λ e. is_honest S.Store e.1 → WasKept S.Store store
+            → IsOldDesk S.Store map.now store
+            → MayRenew S.Store map.now e.1 (state S.Store store).now.trees) }
+        ensures shown { IfOk result (λ k. is_honest S.Store k.conn → does_show S.Store store) }
+        ensures shown_still { IfErr result (λ e. does_show S.Store e.1 → does_show S.Store store) }
         ensures fair { IfOk result (λ k. is_honest S.Store k.conn → is_honest S.Store store) }
         ensures fair_still { IfErr result (λ e. is_honest S.Store e.1 → is_honest S.Store store) }
         ensures counted { IfOk result (λ k.
             (state S.Store store).faults ≤ (state S.Store k.conn).faults) }
+        ensures closes { IfErr result (λ e. is_honest S.Store e.1 → does_show S.Store store
+            → does_show S.Store e.1 ⊎ has_faulted S.Store store e.1) }
     {
+        old_tables_are_renewed();
         let mut conn = store;
-        match renew_desk(&mut conn, map_text) {
-            Ok(()) => Ok(SqlKeeper::over(alloc, conn)),
+        commits_last(&conn);
+        if let Err(fault) = check_old_desk(&mut conn, map_text) {
+            return Err((fault, conn));
+        }
+        match renew(&mut conn, alloc) {
+            Ok(()) => {
+                commits_last(&conn);
+                Ok(SqlKeeper::over(alloc, conn))
+            }
             Err(fault) => Err((fault, conn)),
         }
     }
@@ -171,6 +202,24 @@ impl<S: Alter> SqlKeeper<S> {
         ensures fair_still { IfErr result (λ e. is_honest S.Store e.1 → is_honest S.Store store) }
         ensures counted { IfOk result (λ k.
             (state S.Store store).faults ≤ (state S.Store k.conn).faults) }
+        // A store of version 1 is opened as one of version 2 that says the same.
+        ensures renewed { IfOk result (λ k. is_honest S.Store k.conn
+            → IsOldStore map.now (state S.Store store).now → Opens S.Store map.now
+            (old_said_by map.now (state S.Store store).now.trees) k) }
+        ensures old_says { IfOk result (λ k. is_honest S.Store k.conn
+            → IsOldStore map.now (state S.Store store).now
+            → DeskSays 1 (sha256 map_text.now) (old_tables_in S.Store store)) }
+        ensures old_refused { IfErr result (λ e. is_honest S.Store e.1
+            → IsOldDesk S.Store map.now store → IsRefusedAs 1 (sha256 map_text.now)
+            (find is_first (old_tables_in S.Store store).desk) e.0) }
+        ensures old_same { IfErr result (λ e. does_show S.Store e.1
+            → IsOldStore map.now (state S.Store store).now
+            → (state S.Store e.1).committed ≡ (state S.Store store).committed) }
+        // Of one that isn't opened a crash leaves the tables of version 1, or those of version 2 that
+        // say the same, whole.
+        ensures old_left { IfErr result (λ e. is_honest S.Store e.1
+            → IsOldDesk S.Store map.now store
+            → MayRenew S.Store map.now e.1 (state S.Store store).now.trees) }
         // A store that isn't opened holds what it held, or told of a fault of the disk.
         ensures ends { IfErr result (λ e. is_honest S.Store e.1 → IsDesk S.Store map.now store
             → StoreEnds S.Store map.now (has_faulted S.Store store e.1) e.1
@@ -182,7 +231,7 @@ impl<S: Alter> SqlKeeper<S> {
             return Err((StoreFault::Disk, conn));
         }
         if !has_ballots(&conn) {
-            return SqlKeeper::open_old(alloc, conn, map_text);
+            return SqlKeeper::open_old(alloc, conn, map, map_text);
         }
         commits_last(&conn);
         match check_desk(&mut conn, map_text) {

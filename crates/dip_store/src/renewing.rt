@@ -1,105 +1,188 @@
-//! Tables of version 1 made into those of version 2.
-ghost use Rattle.std.specs.Prelude.{◌≡◌, ◌≤◌, false};
+//! Tables of version 1 made into those of version 2, in one transaction.
+ghost use Rattle.std.specs.Prelude.{◌≡◌, ◌≤◌, ◌⊎◌, ◌∷◌, [], IfErr, IfOk, None, OnErr, OnOk, false, map as each};
 ghost use Rattle.sqlite.specs.Held.{state};
-ghost use Rattle.dip_store.specs.Renewing.{Passes};
-ghost use Rattle.dip_store_sql.specs.Calls.{is_honest};
+ghost use Rattle.sqlite.specs.State.{Survives};
+ghost use Rattle.dip_desk_state.specs.Rows.{lines};
+ghost use Rattle.dip_store_changes.specs.Parts.{more_ballots};
+ghost use Rattle.dip_store_changes.specs.Making.{IsLaid};
+ghost use Rattle.dip_store_looks.specs.Faults.{IsFromOutside};
+ghost use Rattle.dip_store_sql.specs.Calls.{Writes, does_show, is_honest, tables_in};
+ghost use Rattle.dip_store_sql.specs.Causes.{has_faulted};
+ghost use Rattle.dip_map.specs.Charts.{Chart};
+ghost use Rattle.sqlite.specs.Tree.{Trees};
+ghost use Rattle.dip_store_tables.specs.Writing.{choice_row};
+ghost use Rattle.dip_store.specs.Founding.{Keeps};
+ghost use Rattle.dip_store.specs.Making.{HasTables, Leads};
+ghost use Rattle.dip_store_sql.specs.Old.{HasOld, WasGood};
+ghost use Rattle.dip_store_sql.specs.Calls.{SelectsFrom, WasKept, old_tables_in};
+ghost use Rattle.dip_store_tables.specs.Renewing.{WereOurs, old_ballot, renewed};
+ghost use Rattle.dip_store.specs.Refusing.{IsOutage};
+ghost use Rattle.dip_store.specs.Renewing.{Fills, IsOldStore, Renews, filled, more_choices};
 
 use crate::creating::create_choices;
-use crate::desk_faults::DeskFault;
-use dip_store_sql::{add_ballot, add_choice, clear_vote, set_version};
-use sqlite::{Alter, Connection, Row, Transaction, params};
+use crate::faults::{StoreFault, desk_fault, open_fault};
+use crate::old_rows::{NewBallot, ballots_in, names_in};
+use dip_store_looks::LookFault;
+use dip_store_sql::{add_ballot, add_choice, clear_votes, list_games, list_votes, set_version};
+use dip_store_tables::old_tables_are_renewed;
+use sqlite::{Alter, Connection, Error, Transaction};
+use std::alloc::Global;
 
-/// The words of a ballot for a vote as version 1 numbers it; none for a number that no keeper wrote.
-fn ballot_of(vote: u32) -> Option<&'static str> {
-    match vote {
-        0 => Some("NO"),
-        1 => Some("YES"),
-        _ => None,
-    }
-}
-
-/// A seat's vote goes into a ballot of its own.
-fn renew_seat<S: Alter>(tx: &mut Transaction<'_, S>, game: &str, row: &Row) -> Result<(), DeskFault>
+fn add_new_ballot<S: Alter>(tx: &mut Transaction<'_, S>, ballot: &NewBallot) -> Result<(), Error>
     ensures same_reference { tx.new.conn.ghost_name ≡ tx.old.conn.ghost_name }
-    ensures passes { Passes
-        (state S.Store tx.old.conn.now) (state S.Store tx.new.conn.now) }
+    ensures writes { Writes (more_ballots (ballot.now ∷ []))
+        (state S.Store tx.old.conn.now) (state S.Store tx.new.conn.now) result }
 {
-    let power: String = row.get(0)?;
-    let vote: u32 = row.get(1)?;
-    let Some(names) = ballot_of(vote) else {
-        return Err(DeskFault::Foreign);
-    };
-    add_ballot(tx, game, power.as_str(), names)?;
-    clear_vote(tx, game, power.as_str())?;
+    let names = if ballot.draws { "YES" } else { "NO" };
+    add_ballot(tx, ballot.game.as_str(), ballot.power.as_str(), names)?;
     Ok(())
 }
 
-fn renew_seats<S: Alter>(
+fn add_ballots<S: Alter>(tx: &mut Transaction<'_, S>, ballots: &[NewBallot]) -> Result<(), Error>
+    ensures same_reference { tx.new.conn.ghost_name ≡ tx.old.conn.ghost_name }
+    ensures writes { Writes (more_ballots ballots.now)
+        (state S.Store tx.old.conn.now) (state S.Store tx.new.conn.now) result }
+{
+    for ballot in ballots {
+        add_new_ballot(tx, ballot)?;
+    }
+    Ok(())
+}
+
+fn add_new_choice<S: Alter>(tx: &mut Transaction<'_, S>, game: &str) -> Result<(), Error>
+    ensures same_reference { tx.new.conn.ghost_name ≡ tx.old.conn.ghost_name }
+    ensures writes { Writes (more_choices (choice_row game.now ∷ []))
+        (state S.Store tx.old.conn.now) (state S.Store tx.new.conn.now) result }
+{
+    add_choice(tx, game)?;
+    Ok(())
+}
+
+fn add_choices<S: Alter>(tx: &mut Transaction<'_, S>, games: &[String]) -> Result<(), Error>
+    ensures same_reference { tx.new.conn.ghost_name ≡ tx.old.conn.ghost_name }
+    ensures writes { Writes (more_choices (each choice_row (lines games.now)))
+        (state S.Store tx.old.conn.now) (state S.Store tx.new.conn.now) result }
+{
+    for game in games {
+        add_new_choice(tx, game.as_str())?;
+    }
+    Ok(())
+}
+
+/// The two tables of version 2 are made and filled, no seat's row has a vote, and the master's row says that version.
+fn renew_tables<S: Alter>(
     tx: &mut Transaction<'_, S>,
-    game: &str,
-    rows: &[Row],
-) -> Result<(), DeskFault>
+    games: &[String],
+    ballots: &[NewBallot],
+) -> Result<(), Error>
     ensures same_reference { tx.new.conn.ghost_name ≡ tx.old.conn.ghost_name }
-    ensures passes { Passes
-        (state S.Store tx.old.conn.now) (state S.Store tx.new.conn.now) }
-{
-    for row in rows {
-        renew_seat(tx, game, row)?;
-    }
-    Ok(())
-}
-
-/// The ballots of a game's seats, and what was chosen for the game: nothing.
-fn renew_game<S: Alter>(tx: &mut Transaction<'_, S>, row: &Row) -> Result<(), DeskFault>
-    ensures same_reference { tx.new.conn.ghost_name ≡ tx.old.conn.ghost_name }
-    ensures passes { Passes
-        (state S.Store tx.old.conn.now) (state S.Store tx.new.conn.now) }
-{
-    let game: String = row.get(0)?;
-    add_choice(tx, game.as_str())?;
-    let seats = tx.query_all(
-        "SELECT power, vote FROM seat WHERE game = ?1 ORDER BY rowid",
-        params![game.as_str()],
-    )?;
-    renew_seats(tx, game.as_str(), seats.as_slice())
-}
-
-fn renew_games<S: Alter>(tx: &mut Transaction<'_, S>, rows: &[Row]) -> Result<(), DeskFault>
-    ensures same_reference { tx.new.conn.ghost_name ≡ tx.old.conn.ghost_name }
-    ensures passes { Passes
-        (state S.Store tx.old.conn.now) (state S.Store tx.new.conn.now) }
-{
-    for row in rows {
-        renew_game(tx, row)?;
-    }
-    Ok(())
-}
-
-/// The two tables of version 2 are made and filled, and the master's row says that version.
-fn renew_tables<S: Alter>(tx: &mut Transaction<'_, S>) -> Result<(), DeskFault>
-    ensures same_reference { tx.new.conn.ghost_name ≡ tx.old.conn.ghost_name }
-    ensures passes { Passes
-        (state S.Store tx.old.conn.now) (state S.Store tx.new.conn.now) }
+    ensures leads { Leads (HasOld (old_tables_in S.Store tx.old.conn.now)) (HasTables
+        (filled (lines games.now) ballots.now (old_tables_in S.Store tx.old.conn.now)))
+        (state S.Store tx.old.conn.now) (state S.Store tx.new.conn.now) result }
 {
     create_choices(tx)?;
-    let games = tx.query_all("SELECT name FROM game ORDER BY rowid", &[])?;
-    renew_games(tx, games.as_slice())?;
+    add_ballots(tx, ballots)?;
+    add_choices(tx, games)?;
+    clear_votes(tx)?;
     set_version(tx)?;
     Ok(())
+}
+
+/// Tables of version 1 become those of version 2 with these ballots, and with nothing chosen for these games: the whole of it or nothing.
+///
+/// # Errors
+/// Want of memory, or what the disk refused. Then what was committed is as before.
+pub(crate) fn fill<S: Alter>(
+    conn: &mut Connection<S>,
+    games: &[String],
+    ballots: &[NewBallot],
+) -> Result<(), Error>
+    requires { conn.old.in_transaction ≡ false }
+    ensures laid { WasGood (state S.Store conn.old).now → conn.old.step_limit ≡ None
+        → is_honest S.Store conn.new → OnOk result (IsLaid S.Store conn.new
+        × (tables_in S.Store conn.new
+        ≡ filled (lines games.now) ballots.now (old_tables_in S.Store conn.old))) }
+    ensures ok { is_honest S.Store conn.new → OnOk result (does_show S.Store conn.new) }
+    ensures shown { does_show S.Store conn.new → does_show S.Store conn.old }
+    ensures idle { conn.new.in_transaction ≡ false }
+    ensures base { does_show S.Store conn.new → OnErr result
+        ((state S.Store conn.new).committed ≡ (state S.Store conn.old).committed) }
+    ensures err { does_show S.Store conn.new → OnErr result
+        ((state S.Store conn.new).now ≡ (state S.Store conn.old).committed) }
+    ensures crash { Survives (state S.Store conn.old) (state S.Store conn.new)
+        (Fills (lines games.now) ballots.now (state S.Store conn.old)) }
+{
+    let mut tx = conn.transaction();
+    renew_tables(&mut tx, games, ballots)?;
+    tx.commit()?;
+    Ok(())
+}
+
+/// The names of all games of a store of version 1.
+fn old_games<S: Alter>(conn: &mut Connection<S>, alloc: Global) -> Result<Vec<String>, LookFault>
+    ensures value { WasKept S.Store conn.old → is_honest S.Store conn.new → IfOk result (λ v.
+        lines v.items ≡ each (λ g. g.name) (old_tables_in S.Store conn.old).games) }
+    ensures own { WasKept S.Store conn.old → does_show S.Store conn.old
+        → is_honest S.Store conn.new → (m : Chart) → WereOurs m (old_tables_in S.Store conn.old)
+        → IfErr result (IsFromOutside (has_faulted S.Store conn.old conn.new)) }
+    ensures selects { SelectsFrom (WasKept S.Store) S.Store conn.old conn.new result }
+{
+    let rows = list_games(conn)?;
+    names_in(alloc, rows.as_slice())
+}
+
+/// The ballots of all its seats.
+fn old_ballots<S: Alter>(
+    conn: &mut Connection<S>,
+    alloc: Global,
+) -> Result<Vec<NewBallot>, LookFault>
+    ensures value { WasKept S.Store conn.old → is_honest S.Store conn.new → IfOk result (λ v.
+        v.items ≡ each old_ballot (old_tables_in S.Store conn.old).seats) }
+    ensures own { WasKept S.Store conn.old → does_show S.Store conn.old
+        → is_honest S.Store conn.new → (m : Chart) → WereOurs m (old_tables_in S.Store conn.old)
+        → IfErr result (IsFromOutside (has_faulted S.Store conn.old conn.new)) }
+    ensures selects { SelectsFrom (WasKept S.Store) S.Store conn.old conn.new result }
+{
+    let rows = list_votes(conn)?;
+    ballots_in(alloc, rows.as_slice())
 }
 
 /// Tables of version 1 become those of version 2, the whole of them or none: a vote becomes a ballot, and all else stays.
 ///
 /// # Errors
-/// Want of memory, what the disk refused, or a vote that no keeper wrote. Then what was committed is as before.
-pub(crate) fn renew<S: Alter>(conn: &mut Connection<S>) -> Result<(), DeskFault>
+/// `Memory`, `Disk`, or `OtherSchema` for a vote that no keeper wrote. Then what was committed is as before.
+pub(crate) fn renew<S: Alter>(conn: &mut Connection<S>, alloc: Global) -> Result<(), StoreFault>
     requires { conn.old.in_transaction ≡ false }
+    ensures kept { WasKept S.Store conn.old → (m : Chart) → IsOldStore m (state S.Store conn.old).now
+        → is_honest S.Store conn.new
+        → OnOk result (Keeps S.Store conn.new (renewed (old_tables_in S.Store conn.old))) }
+    ensures own { WasKept S.Store conn.old → does_show S.Store conn.old
+        → is_honest S.Store conn.new → (m : Chart) → WereOurs m (old_tables_in S.Store conn.old)
+        → IfErr result IsOutage }
+    ensures ok { is_honest S.Store conn.new → OnOk result (does_show S.Store conn.new) }
     ensures fair { is_honest S.Store conn.new → is_honest S.Store conn.old }
+    ensures shown { does_show S.Store conn.new → does_show S.Store conn.old }
     ensures counted { (state S.Store conn.old).faults ≤ (state S.Store conn.new).faults }
     ensures idle { conn.new.in_transaction ≡ false }
+    ensures base { WasKept S.Store conn.old → does_show S.Store conn.new → OnErr result
+        ((state S.Store conn.new).committed ≡ (state S.Store conn.old).committed) }
+    ensures closes { is_honest S.Store conn.new → does_show S.Store conn.old
+        → does_show S.Store conn.new ⊎ has_faulted S.Store conn.old conn.new }
+    ensures left { WasKept S.Store conn.old → is_honest S.Store conn.new → (db : Trees)
+        → (state S.Store conn.new).may_leave db → (state S.Store conn.old).may_leave db
+        ⊎ Renews (old_tables_in S.Store conn.old) db }
 {
-    let mut tx = conn.transaction();
-    renew_tables(&mut tx)?;
-    tx.commit()?;
-    Ok(())
+    old_tables_are_renewed();
+    let games = match old_games(conn, alloc) {
+        Ok(games) => games,
+        Err(fault) => return Err(desk_fault(fault)),
+    };
+    let ballots = match old_ballots(conn, alloc) {
+        Ok(ballots) => ballots,
+        Err(fault) => return Err(desk_fault(fault)),
+    };
+    match fill(conn, games.as_slice(), ballots.as_slice()) {
+        Ok(()) => Ok(()),
+        Err(error) => Err(open_fault(error)),
+    }
 }

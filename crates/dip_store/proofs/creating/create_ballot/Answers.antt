@@ -3,6 +3,8 @@ use Rattle.dip_store_sql.specs.Creating.{create_ballot}
 use Rattle.dip_store.specs.Making.{HasFirst}
 use Rattle.dip_store_sql.proofs.Created.{ballot_made}
 use Rattle.dip_store_sql.proofs.Founded.{ballot_caused}
+use Rattle.dip_store_sql.specs.Old.{HasNine, HasOld}
+use Rattle.dip_store_sql.proofs.Grown.{ballot_over}
 use Rattle.dip_store.proofs.Leading.{leads_one}
 use Rattle.dip_store.proofs.Trying.{tries_one}
 use Rattle.dip_store.proofs.creating.create_ballot.Goals as goal
@@ -16,3 +18,8 @@ pub returns-clause-tries : goal.returns-clause-tries
 returns-clause-tries g c =
     tries_one create_ballot (HasFirst 8) (HasFirst 9) (state g.S.Store c.args.tx.now.conn.now) (state g.S.Store c.execute.new.self.conn.now) c.execute.result
     c.execute.ensures.survives c.execute.ensures.runs (λ count bare h. (ballot_made _ _ count bare h).0) (λ e set h. ballot_caused _ _ set.now.schema_is set.up e h)
+
+pub returns-clause-over : goal.returns-clause-over
+returns-clause-over g c t =
+    leads_one g.S.Store create_ballot (HasOld t) (HasNine t) c.args.tx.now.conn.now c.execute.new.self.conn.now c.execute.result
+    c.execute.ensures.survives c.execute.ensures.ended c.execute.ensures.runs (ballot_over t _ _)

@@ -3,6 +3,8 @@ use Rattle.dip_store_sql.specs.Creating.{create_choice}
 use Rattle.dip_store_sql.specs.TablesAfter.{no_tables}
 use Rattle.dip_store.specs.Making.{HasFirst, HasTables}
 use Rattle.dip_store_sql.proofs.Founded.{choice_caused}
+use Rattle.dip_store_sql.specs.Old.{HasNine}
+use Rattle.dip_store_sql.proofs.Grown.{choice_over}
 use Rattle.dip_store.proofs.Leading.{leads_one}
 use Rattle.dip_store.proofs.Trying.{tries_one}
 use Rattle.dip_store.proofs.LastMade.{last_made}
@@ -17,3 +19,8 @@ pub returns-clause-tries : goal.returns-clause-tries
 returns-clause-tries g c =
     tries_one create_choice (HasFirst 9) (HasTables no_tables) (state g.S.Store c.args.tx.now.conn.now) (state g.S.Store c.execute.new.self.conn.now) c.execute.result
     c.execute.ensures.survives c.execute.ensures.runs (last_made _ _) (λ e set h. choice_caused _ _ set.now.schema_is set.up e h)
+
+pub returns-clause-over : goal.returns-clause-over
+returns-clause-over g c t =
+    leads_one g.S.Store create_choice (HasNine t) (HasTables t) c.args.tx.now.conn.now c.execute.new.self.conn.now c.execute.result
+    c.execute.ensures.survives c.execute.ensures.ended c.execute.ensures.runs (choice_over t _ _)

@@ -1,4 +1,4 @@
-use Rattle.std.proofs.Common.{inl, inr, Err, IfSome, ap, subst, sym, ◌∙◌}
+use Rattle.std.proofs.Common.{inl, inr, Err, IfSome, ap, arith, subst, sym, ◌∙◌}
 use Rattle.std.specs.List.{find}
 use Rattle.sha2.specs.Sha256.{sha256}
 use Rattle.sqlite.specs.Held.{Held}
@@ -7,9 +7,15 @@ use Rattle.dip_store_sql.specs.Calls.{does_show, tables_in}
 use Rattle.dip_store_sql.specs.Causes.{has_faulted}
 use Rattle.dip_store_sql.specs.TablesAfter.{is_first}
 use Rattle.dip_store_tables.specs.Tables.{Tables}
-use Rattle.dip_store.specs.Refusing.{IsRefused}
+use Rattle.sqlite.specs.Effect.{Database}
+use Rattle.dip_store_sql.specs.Old.{old_tables_of}
+use Rattle.dip_store_tables.specs.Renewing.{WereOurs}
+use Rattle.dip_store.specs.Opening.{IsOldDesk, MayRenew, Opens}
+use Rattle.dip_store.specs.Renewing.{IsOldStore, old_said_by}
+use Rattle.dip_store.specs.Refusing.{IsRefused, IsRefusedAs}
 use Rattle.dip_store.proofs.Opened.{ends_refused, err_turned, has_them, if_err, kept_from, known_there, ok_turned, old_there, opens_old, there}
 use Rattle.dip_store.proofs.Refused.{own_outage}
+use Rattle.dip_store.proofs.Renewal.{desk_still, err_both, has_none, ok_both, same_base, same_store, was_kept}
 use Rattle.dip_store.specs.declared.faults.StoreFault.{StoreFault}
 use Rattle.dip_store.proofs.keeper.SqlKeeper.open.Goals as goal
 
@@ -69,7 +75,7 @@ returns-in-Err-clause-own g c clean own says =
     (λ shows. (kept_from g.S.Store c.args.map.now c.args.store own c.set_step_limit.new.self c.set_step_limit.ensures
     c.is_autocommit.result (c.is_autocommit.ensures.value, c.is_autocommit.ensures.settled, c.if-not-is_autocommit.false, shows)).0)
     clean it.1 c.args.map.now it.2 in
-    own_outage text (tables_in g.S.Store c.args.store) c.in-Err.fault says
+    own_outage 2 text (tables_in g.S.Store c.args.store) c.in-Err.fault (omega arith) says
     (subst (λ (t : Tables). IsRefused (sha256 text) (find is_first t.desk) c.in-Err.fault) it.0 refused)
 
 pub returns-in-Err-clause-ends : goal.returns-in-Err-clause-ends
@@ -88,3 +94,74 @@ returns-in-Err-clause-caused g c clean desk there_marked is =
     let marked = subst (λ (t : Tables). IfSome (find is_first t.desk) IsMarked) (sym it.0) there_marked in
     subst (λ (h : Held _). has_faulted g.S.Store h c.check_desk.new.conn) c.set_step_limit.ensures
     (c.in-Err.ensures.caused kept.0 shows clean it.1 m it.2 marked (ap (λ (f : StoreFault). Err f) is))
+
+-- a store of version 1
+pub returns-then-not-has_ballots-clause-renewed : goal.returns-then-not-has_ballots-clause-renewed
+returns-then-not-has_ballots-clause-renewed g c =
+    let m = c.args.map.now in
+    let h = c.set_step_limit.new.self in
+    let same = same_store g.S.Store m c.args.store h c.set_step_limit.ensures in
+    ok_both _ _ _ c.open_old.result (λ k opened shown clean own.
+    let kept = was_kept g.S.Store m c.args.store own h c.set_step_limit.ensures c.is_autocommit.result (c.is_autocommit.ensures.value, c.is_autocommit.ensures.settled, c.if-not-is_autocommit.false, shown clean) in
+    subst (λ (d : Database). Opens g.S.Store m (old_said_by m d.trees) k) same (opened clean kept (subst (IsOldStore m) (sym same) own)))
+    c.open_old.ensures.opened c.open_old.ensures.shown
+
+pub returns-then-not-has_ballots-clause-old_says : goal.returns-then-not-has_ballots-clause-old_says
+returns-then-not-has_ballots-clause-old_says g c =
+    let m = c.args.map.now in
+    let h = c.set_step_limit.new.self in
+    let same = same_store g.S.Store m c.args.store h c.set_step_limit.ensures in
+    ok_both _ _ _ c.open_old.result (λ k says shown clean own.
+    let kept = was_kept g.S.Store m c.args.store own h c.set_step_limit.ensures c.is_autocommit.result (c.is_autocommit.ensures.value, c.is_autocommit.ensures.settled, c.if-not-is_autocommit.false, shown clean) in
+    subst (λ (d : Database). DeskSays 1 (sha256 c.args.map_text.now) (old_tables_of d.trees)) same (says clean kept))
+    c.open_old.ensures.says c.open_old.ensures.shown
+
+pub returns-then-not-has_ballots-clause-old_refused : goal.returns-then-not-has_ballots-clause-old_refused
+returns-then-not-has_ballots-clause-old_refused g c =
+    let m = c.args.map.now in
+    let h = c.set_step_limit.new.self in
+    let same = same_store g.S.Store m c.args.store h c.set_step_limit.ensures in
+    err_turned _ _ c.open_old.result (λ e refused clean desk.
+    let shows : does_show g.S.Store h = rw c.set_step_limit.ensures desk.shows in
+    let kept = was_kept g.S.Store m c.args.store desk.wrote h c.set_step_limit.ensures c.is_autocommit.result (c.is_autocommit.ensures.value, c.is_autocommit.ensures.settled, c.if-not-is_autocommit.false, shows) in
+    subst (λ (d : Database). IsRefusedAs 1 (sha256 c.args.map_text.now) (find is_first (old_tables_of d.trees).desk) e.0) same
+    (refused clean kept shows (subst (λ (d : Database). WereOurs m (old_tables_of d.trees)) (sym same) desk.wrote.ours)))
+    c.open_old.ensures.refused
+
+pub returns-then-not-has_ballots-clause-old_same : goal.returns-then-not-has_ballots-clause-old_same
+returns-then-not-has_ballots-clause-old_same g c =
+    let m = c.args.map.now in
+    let h = c.set_step_limit.new.self in
+    err_both _ _ _ c.open_old.result (λ e same shown shows own.
+    let kept = was_kept g.S.Store m c.args.store own h c.set_step_limit.ensures c.is_autocommit.result (c.is_autocommit.ensures.value, c.is_autocommit.ensures.settled, c.if-not-is_autocommit.false, shown shows) in
+    same shows kept ∙ same_base g.S.Store m c.args.store h c.set_step_limit.ensures)
+    c.open_old.ensures.same c.open_old.ensures.shown_still
+
+pub returns-then-not-has_ballots-clause-old_left : goal.returns-then-not-has_ballots-clause-old_left
+returns-then-not-has_ballots-clause-old_left g c =
+    let m = c.args.map.now in
+    let h = c.set_step_limit.new.self in
+    let same = same_store g.S.Store m c.args.store h c.set_step_limit.ensures in
+    err_turned _ _ c.open_old.result (λ e left clean desk.
+    let shows : does_show g.S.Store h = rw c.set_step_limit.ensures desk.shows in
+    let kept = was_kept g.S.Store m c.args.store desk.wrote h c.set_step_limit.ensures c.is_autocommit.result (c.is_autocommit.ensures.value, c.is_autocommit.ensures.settled, c.if-not-is_autocommit.false, shows) in
+    subst (λ (d : Database). MayRenew g.S.Store m e.1 d.trees) same (left clean kept (desk_still g.S.Store m c.args.store h c.set_step_limit.ensures desk)))
+    c.open_old.ensures.left
+
+-- one of version 2 is none of version 1
+pub returns-in-Ok-clause-renewed : goal.returns-in-Ok-clause-renewed
+returns-in-Ok-clause-renewed g c =
+    rw c.over.ensures (λ clean own. absurd (has_none g.S.Store c.args.map.now c.args.store c.set_step_limit.new.self c.set_step_limit.ensures (sym c.has_ballots.ensures.value ∙ c.if-not-has_ballots.false) own))
+
+pub returns-in-Ok-clause-old_says : goal.returns-in-Ok-clause-old_says
+returns-in-Ok-clause-old_says g c =
+    rw c.over.ensures (λ clean own. absurd (has_none g.S.Store c.args.map.now c.args.store c.set_step_limit.new.self c.set_step_limit.ensures (sym c.has_ballots.ensures.value ∙ c.if-not-has_ballots.false) own))
+
+pub returns-in-Err-clause-old_refused : goal.returns-in-Err-clause-old_refused
+returns-in-Err-clause-old_refused g c clean desk = absurd (has_none g.S.Store c.args.map.now c.args.store c.set_step_limit.new.self c.set_step_limit.ensures (sym c.has_ballots.ensures.value ∙ c.if-not-has_ballots.false) desk.wrote)
+
+pub returns-in-Err-clause-old_same : goal.returns-in-Err-clause-old_same
+returns-in-Err-clause-old_same g c shows own = absurd (has_none g.S.Store c.args.map.now c.args.store c.set_step_limit.new.self c.set_step_limit.ensures (sym c.has_ballots.ensures.value ∙ c.if-not-has_ballots.false) own)
+
+pub returns-in-Err-clause-old_left : goal.returns-in-Err-clause-old_left
+returns-in-Err-clause-old_left g c clean desk = absurd (has_none g.S.Store c.args.map.now c.args.store c.set_step_limit.new.self c.set_step_limit.ensures (sym c.has_ballots.ensures.value ∙ c.if-not-has_ballots.false) desk.wrote)

@@ -1,0 +1,12 @@
+use Rattle.std.proofs.Common.{ℕ}
+use Rattle.sqlite.specs.declared.error.Error.{Error}
+use Rattle.dip_store_sql.specs.Old.{HasNine, HasOld}
+use Rattle.dip_store_sql.proofs.Parts.{went}
+use Rattle.dip_store.specs.Making.{HasTables}
+use Rattle.dip_store.proofs.Leading.{leads_ok, leads_then}
+use Rattle.dip_store.proofs.creating.create_choices.Goals as goal
+
+pub returns-clause-over : goal.returns-clause-over
+returns-clause-over g c t =
+    leads_ok (HasOld t) (HasTables t) _ _ c.in_ok-create_choice.field-0 tt
+    (leads_then (HasOld t) (HasNine t) (HasTables t) _ _ _ c.in_ok-create_ballot.field-0 (went ℕ Error c.in_ok-create_choice.field-0) (c.in_ok-create_ballot.ensures.over t) (c.in_ok-create_choice.ensures.over t))

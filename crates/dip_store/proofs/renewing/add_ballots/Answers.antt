@@ -1,0 +1,19 @@
+use Rattle.std.proofs.Common.{arith, rules, [], ◌∷◌, subst, ◌∙◌}
+use Rattle.sqlite.specs.declared.error.Error.{Error}
+use Rattle.sqlite.specs.Held.{state}
+use Rattle.dip_store_sql.specs.Calls.{Writes}
+use Rattle.dip_store_sql.proofs.Parts.{went, writes_more}
+use Rattle.dip_store_changes.specs.Parts.{more_ballots}
+use Rattle.dip_store.proofs.Filling.{ballots_on, take_more}
+use Rattle.dip_store.proofs.renewing.add_ballots.Goals as goal
+
+pub loop-ballot-preserved : goal.loop-ballot-preserved
+loop-ballot-preserved g c =
+    let d = c.ballot-item.result in
+    let step = subst (λ b. Writes (more_ballots (b ∷ [])) (state g.S.Store c.loop-ballot.tx.conn.now) (state g.S.Store c.add_new_ballot.new.tx.conn.now) (went (Unit {0}) Error tt)) c.ballot-item.is c.in_ok-add_new_ballot.ensures.writes in
+    record {
+      same_reference = c.in_ok-add_new_ballot.ensures.same_reference ∙ c.loop-ballot.invariant.same_reference;
+      writes = writes_more _ _ _ _ _ _ _ _ _ tt tt tt
+          (ballots_on _ _ _ (take_more c.args.ballots.now c.loop-ballot.ballot-index d (omega arith)))
+          c.loop-ballot.invariant.writes step;
+    }

@@ -1,5 +1,6 @@
 -- What the program tells whoever started it.
 use Rattle.std.specs.Prelude.{ℕ, List, ◌++◌, Option, None, Some, Result, Ok, Err, codes}
+use Rattle.std.specs.Fmt.{decimal}
 use Rattle.std.specs.declared.io.ErrorKind.{ErrorKind}
 use Rattle.std.specs.declared.io.ErrorKind.TheVariants.{OutOfMemory}
 use Rattle.dip_store.specs.Papers.{paper_fault_name}
@@ -51,6 +52,10 @@ printed (Run fault) = told (run_name fault)
 printed (Serving fault) = told (keep_fault_name fault)
 printed NoGame = Some (codes "dip_judge: no such game\n")
 printed (Papers fault) = told (paper_fault_name fault)
+
+-- what `serve` tells once its port is listened on
+abbrev pub listening_text : ℕ → Option (List ℕ)
+listening_text port = Some (codes "dip_judge: listens on 127.0.0.1:" ++ decimal port ++ codes "\n")
 
 -- why there are no arguments: want of memory, or one of them is no text
 abbrev pub words_fault : ErrorKind → UsageFault

@@ -9,7 +9,7 @@ use Rattle.dip_store.specs.Papers.{AreBegun, papers_text}
 use Rattle.dip_store.specs.Opening.{Holds, StoreEnds}
 use Rattle.dip_store.specs.Stored.{said_by}
 use Rattle.dip_store.specs.declared.faults.StoreFault.{StoreFault}
-use Rattle.dip_store.specs.declared.faults.StoreFault.TheVariants.{Memory, Disk}
+use Rattle.dip_store.specs.declared.faults.StoreFault.TheVariants.{Memory, Disk, OtherSchema}
 use Rattle.dip_judge_runs.specs.RunFaults.{StopsBy}
 use Rattle.dip_judge_runs.specs.Runs.{AnswersAll, IsReadWhole, Stops, TakesNext}
 use Rattle.dip_judge_runs.specs.declared.run.RunFault.{RunFault}
@@ -22,6 +22,11 @@ abbrev pub IsOpenFault : StoreFault → Type 0
 IsOpenFault Memory = Unit {0}
 IsOpenFault Disk = Unit {0}
 IsOpenFault _ = ⊥
+
+-- the same, or there is no file
+abbrev pub IsFindFault : StoreFault → Type 0
+IsFindFault OtherSchema = Unit {0}
+IsFindFault fault = IsOpenFault fault
 
 -- the state that a store's rows say by a map
 abbrev pub desk_in : {S : Type 0} → Ghosts S → Chart → Held S → State

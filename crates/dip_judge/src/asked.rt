@@ -10,7 +10,7 @@ ghost use Rattle.dip_judge_runs.specs.Runs.{IsReadToEnd};
 
 use crate::args::Args;
 use crate::failures::Failure;
-use crate::files::{Stored, close_file, open_file};
+use crate::files::{Stored, close_file, open_file, open_present};
 use crate::reading::read_args;
 use crate::stored::{answer_stored, make_desk, report_stored, serve_stored};
 use dip_desk::MemoryKeeper;
@@ -83,7 +83,7 @@ fn answer_file<S: Start, R: Read, W: Write>(
         (ReadsUpTo (R.remaining reader.old) (R.remaining reader.new) (W.contents writer.old)
         (W.contents writer.new)) }
 {
-    match open_file(rt, start, path) {
+    match open_present(rt, start, path) {
         Err(fault) => (Err(Failure::Store(fault)), None),
         Ok(store) => {
             let (answered, store) = answer_stored(rt.alloc(), store, map, text, reader, writer);
@@ -108,7 +108,7 @@ fn serve_file<S: Start>(
         (StopsServingIn over_files (image_at S.Start) map.now count f)) }
     ensures failed { IfErr result.0 IsServeFailure }
 {
-    match open_file(rt, start, path) {
+    match open_present(rt, start, path) {
         Err(fault) => (Err(Failure::Store(fault)), None),
         Ok(store) => {
             let (served, store) = serve_stored(rt, store, map, text, port, count);
@@ -134,7 +134,7 @@ fn report_file<S: Start, W: Write>(
         (W.contents writer.new) f)) }
     ensures failed { IfErr result.0 IsReportFailure }
 {
-    match open_file(rt, start, path) {
+    match open_present(rt, start, path) {
         Err(fault) => (Err(Failure::Store(fault)), None),
         Ok(store) => {
             let (reported, store) = report_stored(rt.alloc(), store, map, text, game, writer);

@@ -31,6 +31,9 @@ fn letters_command<'a>(alloc: Global) -> Result<Command<'a>, AllocError>
         .arg(store_arg(alloc))?
         .arg(master_arg(alloc))?
         .arg(map_arg(alloc))?;
+    let command = command.override_usage(
+        "dip_judge letters [OPTIONS] <--store <FILE>|--master <SECRET>>",
+    );
     Ok(command.about(
         "Answers the letters on standard input, with the tables of a file or, by --master, in memory",
     ))

@@ -4,10 +4,12 @@ ghost use Rattle.sqlite.specs.Files.{IsOpened, file_state};
 ghost use Rattle.sqlite.specs.Start.{FindsIn};
 ghost use Rattle.sqlite.specs.State.{HasCleanDisk};
 ghost use Rattle.sqlite.specs.WalFiles.{image_at};
-ghost use Rattle.dip_judge.specs.Stores.{IsOpenFault};
+ghost use Rattle.dip_judge.specs.Stores.{IsOpenFault, IsFindFault};
 
 use dip_store::{StoreFault, open_fault};
 use sqlite::{Connection, FileFrom, FileStore, Start};
+use std::path::Path;
+use std::{fs, io};
 
 /// A store that lies in a file, of which `S` says what it holds at first.
 pub type Stored<S> = Connection<FileStore<FileFrom<S>>>;
@@ -30,6 +32,45 @@ pub(crate) fn open_file<S: Start>(
         Ok(conn) => Ok(conn),
         Err((error, _)) => Err(open_fault(error)),
     }
+}
+
+/// Whether the folder in which a file of this path would lie is there.
+fn has_folder(rt: &HostRuntime, path: &str) -> bool {
+    match Path::new(path).parent() {
+        Some(folder) => folder.as_os_str().is_empty() || folder.is_dir(rt),
+        None => false,
+    }
+}
+
+/// Whether no file has this name, and to open its store would make one. The database refuses `:memory:` and a URI itself.
+fn is_missing(rt: &HostRuntime, path: &str) -> bool {
+    if path == ":memory:" || path.starts_with("file:") {
+        return false;
+    }
+    match fs::symlink_metadata(rt, path) {
+        Ok(_) => false,
+        Err(error) => error.kind() == io::ErrorKind::NotFound && has_folder(rt, path),
+    }
+}
+
+/// Opens the store of a file that is there.
+///
+/// # Errors
+/// Where there is no file, that it has no desk's tables, and none is made; else those of `open_file`.
+pub(crate) fn open_present<S: Start>(
+    rt: &HostRuntime,
+    start: S,
+    path: &str,
+) -> Result<Stored<S>, StoreFault>
+    ensures fault { IfErr result IsFindFault }
+    ensures opened { IfOk result (λ c. HasCleanDisk (file_state c) → IsOpened c) }
+    ensures found { IfOk result
+        (λ c. HasCleanDisk (file_state c) → FindsIn (image_at S.Start) (file_state c)) }
+{
+    if is_missing(rt, path) {
+        return Err(StoreFault::OtherSchema);
+    }
+    open_file(rt, start, path)
 }
 
 /// Closes a store's file. What is committed stays committed, whatever closing it comes to.

@@ -8,6 +8,7 @@ mod commands;
 mod failures;
 mod faults;
 mod files;
+mod listening;
 mod numbers;
 mod options;
 mod program;
@@ -17,8 +18,6 @@ mod stored;
 mod values;
 
 use crate::program::run_program;
-use std::process::ExitCode;
-
 pub use args::Args;
 pub use asked::{do_as_asked, run_as_asked};
 pub use dip_judge_runs::{RunFault, run_file};
@@ -27,6 +26,7 @@ pub use faults::UsageFault;
 pub use files::Stored;
 pub use reading::read_args;
 pub use serving::serve_all;
+use std::process::ExitCode;
 pub use stored::{answer_stored, make_desk, report_stored};
 
 fn main(rt: HostRuntime) -> ExitCode {

@@ -10,6 +10,7 @@ ghost use Rattle.dip_store.specs.Opening.{Holds, IsDesk};
 ghost use Rattle.dip_store.specs.Stored.{IsStore};
 
 use crate::failures::Failure;
+use crate::listening::Listening;
 use crate::serving::serve_all;
 use dip_judge_runs::run_file;
 use dip_letters::digest;
@@ -113,7 +114,7 @@ pub fn report_stored<S: Alter, W: Write>(
 }
 
 /// Serves so many clients on this port of 127.0.0.1, one after the other, from the desk of a store on, which was made for the map of
-/// this text. The store is handed back.
+/// this text. Standard error has a line once the port is listened on. The store is handed back.
 ///
 /// # Errors
 /// The store's fault; the port can't be listened on; else the keeper's fault, `Disk` or `Damaged`.
@@ -139,10 +140,14 @@ pub(crate) fn serve_stored<S: Alter>(
         Err((fault, store)) => (Err(Failure::Store(fault)), store),
         Ok(mut keeper) => match TcpListener::bind(rt, ("127.0.0.1", port)) {
             Err(_) => (Err(Failure::Listen), keeper.into_store()),
-            Ok(listener) => match serve_all(alloc, rt, &listener, count, &mut keeper, map) {
-                Ok(()) => (Ok(()), keeper.into_store()),
-                Err(fault) => (Err(Failure::Serving(fault)), keeper.into_store()),
-            },
+            Ok(listener) => {
+                // a standard error that takes nothing is no reason not to serve
+                let _ = rt.eprint(Listening { port });
+                match serve_all(alloc, rt, &listener, count, &mut keeper, map) {
+                    Ok(()) => (Ok(()), keeper.into_store()),
+                    Err(fault) => (Err(Failure::Serving(fault)), keeper.into_store()),
+                }
+            }
         },
     }
 }

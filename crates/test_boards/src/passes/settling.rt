@@ -58,10 +58,12 @@ fn settle_unit(
     steps: &mut Vec<Step>,
     p: Prov,
 ) -> Result<bool, AllocError> {
-    let by_move = settle(alloc, table, values, steps, &Decision::Move(p))?;
-    let by_path = settle(alloc, table, values, steps, &Decision::Path(p))?;
-    let by_support = settle(alloc, table, values, steps, &Decision::Support(p))?;
-    Ok(by_move || by_path || by_support)
+    let mut changed = false;
+    for decision in &[Decision::Move(p), Decision::Path(p), Decision::Support(p)] {
+        let settled = settle(alloc, table, values, steps, decision)?;
+        changed = changed || settled;
+    }
+    Ok(changed)
 }
 
 /// Settles what is forced, of all units in turn, and tells whether anything was.

@@ -67,17 +67,28 @@ impl Corner<'_> {
             .saturating_add(1)
     }
 
-    fn attack(&self, p: Prov, q: Prov) -> usize {
-        if !self.has_path(p) {
-            0
-        } else if !self.table.is_occupied(q)
+    /// Whether nobody is there, or who is there leaves.
+    fn is_open(&self, p: Prov, q: Prov) -> bool {
+        !self.table.is_occupied(q)
             || (self.value(&Decision::Move(q)) && !self.table.head_to_head(p, q))
-        {
+    }
+
+    /// The same where the unit has a path.
+    fn attack_there(&self, p: Prov, q: Prov) -> usize {
+        if self.is_open(p, q) {
             self.strength(p)
         } else if self.table.same_power(p, q) {
             0
         } else {
             self.strength_against(p, q)
+        }
+    }
+
+    fn attack(&self, p: Prov, q: Prov) -> usize {
+        if self.has_path(p) {
+            self.attack_there(p, q)
+        } else {
+            0
         }
     }
 

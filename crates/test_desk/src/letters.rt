@@ -1,7 +1,7 @@
 //! The first letters of a game.
 
 /// A new game.
-pub const CREATE: &str = "LETTER
+pub(crate) const CREATE: &str = "LETTER
 GAME g1
 FROM master
 SECRET master-key
@@ -18,7 +18,7 @@ END
 ";
 
 /// Two orders of England.
-pub const ORDERS: &str = "LETTER
+pub(crate) const ORDERS: &str = "LETTER
 GAME g1
 FROM england
 SECRET eeeeeeee
@@ -30,11 +30,31 @@ END
 ";
 
 /// What England asks then.
-pub const SHOW: &str = "LETTER
+pub(crate) const SHOW: &str = "LETTER
 GAME g1
 FROM england
 SECRET eeeeeeee
 NUMBER 2
 SHOW
+END
+";
+
+/// What England asks afterwards.
+pub(crate) const SHOW_AGAIN: &str = "LETTER
+GAME g1
+FROM england
+SECRET eeeeeeee
+NUMBER 3
+SHOW
+END
+";
+
+/// A tick of the game.
+pub(crate) const TICK: &str = "LETTER
+GAME g1
+FROM master
+SECRET master-key
+NUMBER 2
+TICK 100
 END
 ";

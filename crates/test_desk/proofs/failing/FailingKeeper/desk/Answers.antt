@@ -1,5 +1,5 @@
 use Rattle.std.proofs.Common.{rules}
-use Rattle.test_tools.proofs.failing.FailingKeeper.desk.Goals as goal
+use Rattle.test_desk.proofs.failing.FailingKeeper.desk.Goals as goal
 
 pub returns-in-Ok : goal.returns-in-Ok
 returns-in-Ok c m = let looked = c.desk.ensures m in search rules

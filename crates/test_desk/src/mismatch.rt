@@ -1,17 +1,22 @@
-//! What isn't as a test says.
+//! What keeps something from being told.
 use dip_desk_state::KeepFault;
+use dip_names::MapFault;
 use std::alloc::AllocError;
 use std::fmt;
 
-/// What isn't as a test says.
+/// What keeps something from being told.
 #[derive(Drop, Debug)]
-pub enum Mismatch {
+pub(crate) enum Mismatch {
     /// The keeper told of a fault.
     Keeper(KeepFault),
     /// A text is no letter.
     NoLetter,
-    /// An inbox has another number of items.
+    /// A power has no seat, or its inbox another number of items.
     NoItem,
+    /// The map has no power of a name.
+    NoPower,
+    /// There is no map.
+    Map(MapFault),
 }
 
 impl fmt::Display for Mismatch {
@@ -20,6 +25,8 @@ impl fmt::Display for Mismatch {
             Mismatch::Keeper(fault) => write!(f, "the keeper: {fault}"),
             Mismatch::NoLetter => f.write_str("no letter"),
             Mismatch::NoItem => f.write_str("another number of items"),
+            Mismatch::NoPower => f.write_str("no such power"),
+            Mismatch::Map(fault) => write!(f, "no map: {fault}"),
         }
     }
 }
@@ -27,6 +34,12 @@ impl fmt::Display for Mismatch {
 impl From<KeepFault> for Mismatch {
     fn from(fault: KeepFault) -> Mismatch {
         Mismatch::Keeper(fault)
+    }
+}
+
+impl From<MapFault> for Mismatch {
+    fn from(fault: MapFault) -> Mismatch {
+        Mismatch::Map(fault)
     }
 }
 

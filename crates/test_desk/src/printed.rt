@@ -1,8 +1,8 @@
 //! Letters of each command, printed as they were read.
+use crate::making::{push_line, word_of};
+use crate::mismatch::Mismatch;
 use dip_letters::{Next, next_letter, print_letter};
-use std::alloc::{AllocError, Global};
-use std::process::Abort;
-use std::test::Fail;
+use std::alloc::Global;
 
 /// Letters with each command.
 const LETTERS: &[&str] = &[
@@ -24,20 +24,21 @@ const LETTERS: &[&str] = &[
     "LETTER\nGAME g1\nFROM master\nSECRET mmmmmmmm\nNUMBER 4\nCLOSE\nEND\n",
 ];
 
-/// A letter is printed as it was read.
-fn check_printed(rt: &impl Abort, alloc: Global, text: &str) -> Result<(), AllocError> {
-    let Next::Taken(letter, _) = next_letter(text.as_bytes()) else {
-        panic!(rt; "no letter");
+/// Whether a letter is printed as it was read.
+fn is_printed(alloc: Global, text: &str) -> Result<bool, Mismatch> {
+    let Next::Taken(letter, _rest) = next_letter(text.as_bytes()) else {
+        return Err(Mismatch::NoLetter);
     };
     let printed = print_letter(alloc, &letter)?;
-    assert!(rt; printed.as_slice() == text.as_bytes());
-    Ok(())
+    Ok(printed.as_slice() == text.as_bytes())
 }
 
-#[test]
-fn prints_what_it_read(rt: HostRuntime) -> Result<(), Fail> {
+/// Appends it for each.
+pub(crate) fn push_printed(alloc: Global, out: &mut String) -> Result<(), Mismatch> {
+    out.push_str("printed as read:")?;
     for text in LETTERS {
-        check_printed(&rt, rt.alloc(), text)?;
+        out.push_str(" ")?;
+        out.push_str(word_of(is_printed(alloc, text)?))?;
     }
-    Ok(())
+    Ok(push_line(out, &[])?)
 }

@@ -12,12 +12,12 @@ use dip_reports::reply_text;
 use std::alloc::Global;
 
 /// An empty desk.
-pub fn desk(alloc: Global) -> MemoryKeeper {
+pub(crate) fn desk(alloc: Global) -> MemoryKeeper {
     MemoryKeeper::new(alloc, digest("desk", "master", "master-key"))
 }
 
 /// The letter at the front of an input, and the rest; none where no letter is there.
-pub fn next_taken(input: &[u8]) -> Option<(Letter<'_>, &[u8])>
+pub(crate) fn next_taken(input: &[u8]) -> Option<(Letter<'_>, &[u8])>
     ensures { IfSome result (λ p. IsMail (mail p.0)) }
 {
     match next_letter(input) {
@@ -27,7 +27,7 @@ pub fn next_taken(input: &[u8]) -> Option<(Letter<'_>, &[u8])>
 }
 
 /// The reply to the letter that this text is.
-pub fn reply_to<K: Keeper>(
+pub(crate) fn reply_to<K: Keeper>(
     alloc: Global,
     keeper: &mut K,
     map: &Map,
@@ -43,7 +43,7 @@ pub fn reply_to<K: Keeper>(
 }
 
 /// A desk with the game of the letter CREATE.
-pub fn opened(alloc: Global, map: &Map) -> Result<MemoryKeeper, Mismatch> {
+pub(crate) fn opened(alloc: Global, map: &Map) -> Result<MemoryKeeper, Mismatch> {
     let mut keeper = desk(alloc);
     reply_to(alloc, &mut keeper, map, CREATE)?;
     Ok(keeper)
@@ -66,7 +66,7 @@ fn push_replies<K: Keeper>(
 }
 
 /// The replies to these letters, up to a fault of the keeper, whose name is told behind them.
-pub fn told<K: Keeper>(
+pub(crate) fn told<K: Keeper>(
     alloc: Global,
     keeper: &mut K,
     map: &Map,

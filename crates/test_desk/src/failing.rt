@@ -11,7 +11,7 @@ use std::rc::Rc;
 
 /// A keeper in memory that answers a fault at one of its calls.
 #[derive(Drop)]
-pub struct Failing {
+pub(crate) struct Failing {
     inner: MemoryKeeper,
     /// How many calls go well before it.
     left: u32,
@@ -22,7 +22,7 @@ pub struct Failing {
 
 impl Failing {
     /// A keeper that fails at each call behind so many, for the disk or else for want of memory.
-    pub fn new(inner: MemoryKeeper, left: u32, is_disk: bool) -> Failing {
+    pub(crate) fn new(inner: MemoryKeeper, left: u32, is_disk: bool) -> Failing {
         Failing {
             inner,
             left,
@@ -32,7 +32,7 @@ impl Failing {
     }
 
     /// What it has kept.
-    pub fn into_inner(self) -> MemoryKeeper {
+    pub(crate) fn into_inner(self) -> MemoryKeeper {
         self.inner
     }
 

@@ -50,21 +50,21 @@ struct Listing<'a> {
     centres: &'a str,
 }
 
-/// The board line that a line is, `france 4/2: A mun*, F spa/nc | bre mar par spa`, if it is one.
+/// The board line that a line is, `france 4/2: A mun*, F spa/nc | bre mar par spa`, if it is one. A name that no power has stands for a power
+/// behind the map's last.
 fn listing_in<'a>(map: &Map, line: &'a str) -> Option<Listing<'a>> {
     let (head, rest) = line.split_once(": ")?;
     let (name, _counts) = head.split_once(' ')?;
     let (units, centres) = rest.split_once(" | ")?;
-    let power = map.power(name)?;
     Some(Listing {
-        power,
+        power: map.power(name).unwrap_or(Power::new(7)),
         units,
         centres,
     })
 }
 
 /// The unit of a power that a text is, `F spa/nc`.
-fn unit_in(map: &Map, power: Power, text: &str) -> Option<Unit> {
+pub(crate) fn unit_in(map: &Map, power: Power, text: &str) -> Option<Unit> {
     let (kind, site) = text.split_once(' ')?;
     let (code, coast) = site.split_once('/').unwrap_or((site, ""));
     let prov = map.prov(code.as_bytes())?;
@@ -132,13 +132,15 @@ fn forces_in(alloc: Global, map: &Map, lines: &str) -> Result<Forces, AllocError
     Ok(forces)
 }
 
-/// The provinces of the line `standoff boh por`.
+/// The provinces of the line `standoff boh por`. A word that is no code stands for a province behind the map's last.
 fn standoff_in(alloc: Global, map: &Map, lines: &str) -> Result<Vec<Prov>, AllocError> {
     let mut standoff = Vec::new(alloc);
-    for code in behind(lines, "standoff", " ").split(' ') {
-        if let Some(prov) = map.prov(code.as_bytes()) {
-            standoff.push(prov)?;
-        }
+    let codes = behind(lines, "standoff", " ");
+    if codes.is_empty() {
+        return Ok(standoff);
+    }
+    for code in codes.split(' ') {
+        standoff.push(map.prov(code.as_bytes()).unwrap_or(Prov::new(75)))?;
     }
     Ok(standoff)
 }
@@ -164,7 +166,7 @@ fn owners_in(alloc: Global, map: &Map, lines: &str) -> Result<Vec<Option<Power>>
 }
 
 /// The board of lines: its phase; the board lines of the powers that have something; where the attackers of dislodged units came from; and
-/// where standoffs were. What can't be read is left out.
+/// where standoffs were. Units that can't be read are left out.
 pub(crate) fn board_in(alloc: Global, map: &Map, lines: &str) -> Result<Board, AllocError> {
     let forces = forces_in(alloc, map, lines)?;
     let standoff = standoff_in(alloc, map, lines)?;

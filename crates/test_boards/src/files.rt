@@ -1,5 +1,5 @@
 //! Files of scenes.
-use crate::questions::check_board;
+use crate::questions::check_scene;
 use crate::scenes::scenes_of;
 use std::{env, fs, io};
 
@@ -8,7 +8,7 @@ fn play(rt: &HostRuntime, file: &str) -> io::Result<()> {
     let text = fs::read_to_string(rt, file)?;
     let scenes = scenes_of(rt.alloc(), text.as_str())?;
     for scene in &scenes {
-        if let Err(mismatch) = check_board(rt.alloc(), scene.lines.as_str()) {
+        if let Err(mismatch) = check_scene(rt.alloc(), scene) {
             println!(rt; "{file}: {}\n{mismatch}", scene.title)?;
             return Err(io::ErrorKind::Other.into());
         }

@@ -54,45 +54,49 @@ fn played(
     }
 }
 
+fn is_of(map: &Map, board: &Board) -> bool {
+    board.is_of(map)
+}
+
 /// Appends the paper of a phase, and behind it what it doesn't tell of the board.
-pub(crate) fn push_paper(
-    alloc: Global,
-    map: &Map,
-    board: &Board,
-    orders: &[PlacedOrder],
-    out: &mut String,
-) -> Result<(), AllocError>
-    requires of_map { IsOf map.now board.now }
-{
-    let (after, report) = played(alloc, map, board, orders)?;
-    let paper = paper_of(alloc, map, &report, &after)?;
-    push_lines(paper.as_str(), out)?;
-    push_marks(map, &after, out)?;
-    if after.is_of(map) {
+fn push_whole(map: &Map, paper: &str, after: &Board, out: &mut String) -> Result<(), AllocError> {
+    push_lines(paper, out)?;
+    push_marks(map, after, out)?;
+    if is_of(map, after) {
         return Ok(());
     }
     out.push_str("no board of the map\n")
 }
 
 /// Appends what the paper of a phase tells of the orders.
-pub(crate) fn push_outcomes(
+fn push_own(paper: &str, out: &mut String) -> Result<(), AllocError> {
+    let (own, _rest) = paper.split_once("\nGAME ").unwrap_or(("", ""));
+    let (_title, lines) = own.split_once('\n').unwrap_or(("", ""));
+    push_lines(lines, out)
+}
+
+/// Appends the paper of a phase, or what it tells of the orders alone.
+pub(crate) fn push_paper(
     alloc: Global,
     map: &Map,
     board: &Board,
     orders: &[PlacedOrder],
+    is_whole: bool,
     out: &mut String,
 ) -> Result<(), AllocError>
     requires of_map { IsOf map.now board.now }
 {
     let (after, report) = played(alloc, map, board, orders)?;
     let paper = paper_of(alloc, map, &report, &after)?;
-    let (own, _rest) = paper.as_str().split_once("\nGAME ").unwrap_or(("", ""));
-    let (_title, lines) = own.split_once('\n').unwrap_or(("", ""));
-    push_lines(lines, out)
+    if is_whole {
+        push_whole(map, paper.as_str(), &after, out)
+    } else {
+        push_own(paper.as_str(), out)
+    }
 }
 
 /// How a movement is decided.
-fn decided(
+pub(crate) fn decided(
     alloc: Global,
     map: &Map,
     board: &Board,
@@ -106,7 +110,12 @@ fn decided(
 }
 
 /// Appends a word and provinces: `moves bel lon`.
-fn push_codes(map: &Map, word: &str, provs: &[Prov], out: &mut String) -> Result<(), AllocError> {
+pub(crate) fn push_codes(
+    map: &Map,
+    word: &str,
+    provs: &[Prov],
+    out: &mut String,
+) -> Result<(), AllocError> {
     out.push_str(word)?;
     for prov in provs {
         out.push_str(" ")?;
@@ -115,12 +124,45 @@ fn push_codes(map: &Map, word: &str, provs: &[Prov], out: &mut String) -> Result
     out.push_str("\n")
 }
 
-fn is_circle(step: &Step) -> bool {
-    matches!(step, Step::Circle(_))
+/// Where the units stand whose moves succeed, who have a path, whose support is given, and whose path is broken.
+#[derive(Clone, Copy)]
+pub(crate) struct Lists<'a> {
+    pub moves: &'a [Prov],
+    pub paths: &'a [Prov],
+    pub supports: &'a [Prov],
+    pub broken: &'a [Prov],
 }
 
-/// Appends where the units stand whose moves succeed, who have a path, whose support is given, and whose path is broken; and how many circles
-/// were taken.
+/// Appends these lists.
+pub(crate) fn push_lists(map: &Map, lists: &Lists, out: &mut String) -> Result<(), AllocError> {
+    push_codes(map, "moves", lists.moves, out)?;
+    push_codes(map, "paths", lists.paths, out)?;
+    push_codes(map, "supports", lists.supports, out)?;
+    push_codes(map, "broken", lists.broken, out)
+}
+
+/// The lists of what was decided.
+pub(crate) fn lists_of(told: &Resolution) -> Lists<'_> {
+    Lists {
+        moves: told.moves.as_slice(),
+        paths: told.paths.as_slice(),
+        supports: told.supports.as_slice(),
+        broken: told.broken.as_slice(),
+    }
+}
+
+/// How many circles were taken.
+fn circles(steps: &[Step]) -> usize {
+    let mut count = 0usize;
+    for step in steps {
+        if matches!(step, Step::Circle(_)) {
+            count = count.saturating_add(1);
+        }
+    }
+    count
+}
+
+/// Appends these lists, and how many circles were taken.
 pub(crate) fn push_decisions(
     alloc: Global,
     map: &Map,
@@ -131,12 +173,8 @@ pub(crate) fn push_decisions(
     requires of_map { IsOf map.now board.now }
 {
     let told = decided(alloc, map, board, orders)?;
-    push_codes(map, "moves", told.moves.as_slice(), out)?;
-    push_codes(map, "paths", told.paths.as_slice(), out)?;
-    push_codes(map, "supports", told.supports.as_slice(), out)?;
-    push_codes(map, "broken", told.broken.as_slice(), out)?;
-    let circles = told.steps.iter().filter(|step| is_circle(step)).count();
-    write!(out, "circles {circles}\n")
+    push_lists(map, &lists_of(&told), out)?;
+    write!(out, "circles {}\n", circles(told.steps.as_slice()))
 }
 
 /// Appends where the units stand whose path is broken, and a line for each knot with its armies.

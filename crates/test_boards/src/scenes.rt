@@ -2,18 +2,28 @@
 use crate::texts::push_line;
 use std::alloc::{AllocError, Global};
 
-/// A scene: what it shows, and its lines.
+/// A scene: what it shows, the file of its map, which is the standard one where there is none, and its lines.
 #[derive(Drop)]
 pub(crate) struct Scene {
     pub title: String,
+    pub map: String,
     pub lines: String,
 }
 
 fn scene_of(alloc: Global, title: &str) -> Result<Scene, AllocError> {
     Ok(Scene {
         title: String::from_str(alloc, title)?,
+        map: String::new(alloc),
         lines: String::new(alloc),
     })
+}
+
+/// Appends a line to a scene: one behind `$ ` is of the file of its map.
+fn push_to_scene(scene: &mut Scene, line: &str) -> Result<(), AllocError> {
+    match line.strip_prefix("$ ") {
+        Some(line) => push_line(&mut scene.map, line),
+        None => push_line(&mut scene.lines, line),
+    }
 }
 
 /// Appends a line of a file to its scenes: one behind `! ` begins a scene and says what it shows, one behind `// ` is for readers alone, and
@@ -27,7 +37,7 @@ fn push_to_scenes(alloc: Global, scenes: &mut Vec<Scene>, line: &str) -> Result<
         return Ok(());
     }
     match scenes.last_mut() {
-        Some(scene) => push_line(&mut scene.lines, line),
+        Some(scene) => push_to_scene(scene, line),
         None => Ok(()),
     }
 }

@@ -54,7 +54,12 @@ pub(crate) fn push_marks(map: &Map, board: &Board, out: &mut String) -> Result<(
 }
 
 /// Appends a board: its phase, its board lines, and what those don't tell.
-fn push_board(alloc: Global, map: &Map, board: &Board, out: &mut String) -> Result<(), AllocError> {
+pub(crate) fn push_board(
+    alloc: Global,
+    map: &Map,
+    board: &Board,
+    out: &mut String,
+) -> Result<(), AllocError> {
     push_phase(board.phase(), out)?;
     out.push_str("\n")?;
     let mut text = String::new(alloc);

@@ -42,6 +42,14 @@ pub(crate) fn push_line(text: &mut String, line: &str) -> Result<(), AllocError>
     text.push_str("\n")
 }
 
+/// Appends words, one behind the other.
+pub(crate) fn push_words(text: &mut String, words: &[&str]) -> Result<(), AllocError> {
+    for word in words {
+        text.push_str(word)?;
+    }
+    Ok(())
+}
+
 /// What is told is the text that is wanted.
 pub(crate) fn check_text(alloc: Global, told: &str, wanted: String) -> Result<(), Mismatch> {
     if told == wanted.as_str() {

@@ -1,3 +1,0 @@
-//! The desk, and rows.
-mod desk;
-mod store;

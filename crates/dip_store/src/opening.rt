@@ -212,6 +212,9 @@ impl<S: Alter> SqlKeeper<S> {
         ensures old_refused { IfErr result (λ e. is_honest S.Store e.1
             → IsOldDesk S.Store map.now store → IsRefusedAs 1 (sha256 map_text.now)
             (find is_first (old_tables_in S.Store store).desk) e.0) }
+        ensures old_own { IfErr result (λ e. is_honest S.Store e.1
+            → IsOldDesk S.Store map.now store
+            → DeskSays 1 (sha256 map_text.now) (old_tables_in S.Store store) → IsOutage e.0) }
         ensures old_same { IfErr result (λ e. does_show S.Store e.1
             → IsOldStore map.now (state S.Store store).now
             → (state S.Store e.1).committed ≡ (state S.Store store).committed) }

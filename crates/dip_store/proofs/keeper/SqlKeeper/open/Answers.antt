@@ -3,7 +3,7 @@ use Rattle.std.specs.List.{find}
 use Rattle.sha2.specs.Sha256.{sha256}
 use Rattle.sqlite.specs.Held.{Held}
 use Rattle.dip_store.specs.Desk.{DeskSays, IsMarked}
-use Rattle.dip_store_sql.specs.Calls.{does_show, tables_in}
+use Rattle.dip_store_sql.specs.Calls.{does_show, old_tables_in, tables_in}
 use Rattle.dip_store_sql.specs.Causes.{has_faulted}
 use Rattle.dip_store_sql.specs.TablesAfter.{is_first}
 use Rattle.dip_store_tables.specs.Tables.{Tables}
@@ -128,6 +128,20 @@ returns-then-not-has_ballots-clause-old_refused g c =
     (refused clean kept shows (subst (λ (d : Database). WereOurs m (old_tables_of d.trees)) (sym same) desk.wrote.ours)))
     c.open_old.ensures.refused
 
+pub returns-then-not-has_ballots-clause-old_own : goal.returns-then-not-has_ballots-clause-old_own
+returns-then-not-has_ballots-clause-old_own g c =
+    let text = c.args.map_text.now in
+    let m = c.args.map.now in
+    let h = c.set_step_limit.new.self in
+    let same = same_store g.S.Store m c.args.store h c.set_step_limit.ensures in
+    err_turned _ _ c.open_old.result (λ e refused clean desk says.
+    let shows : does_show g.S.Store h = rw c.set_step_limit.ensures desk.shows in
+    let kept = was_kept g.S.Store m c.args.store desk.wrote h c.set_step_limit.ensures c.is_autocommit.result (c.is_autocommit.ensures.value, c.is_autocommit.ensures.settled, c.if-not-is_autocommit.false, shows) in
+    own_outage 1 text (old_tables_in g.S.Store c.args.store) e.0 (omega arith) says
+    (subst (λ (d : Database). IsRefusedAs 1 (sha256 text) (find is_first (old_tables_of d.trees).desk) e.0) same
+    (refused clean kept shows (subst (λ (d : Database). WereOurs m (old_tables_of d.trees)) (sym same) desk.wrote.ours))))
+    c.open_old.ensures.refused
+
 pub returns-then-not-has_ballots-clause-old_same : goal.returns-then-not-has_ballots-clause-old_same
 returns-then-not-has_ballots-clause-old_same g c =
     let m = c.args.map.now in
@@ -159,6 +173,9 @@ returns-in-Ok-clause-old_says g c =
 
 pub returns-in-Err-clause-old_refused : goal.returns-in-Err-clause-old_refused
 returns-in-Err-clause-old_refused g c clean desk = absurd (has_none g.S.Store c.args.map.now c.args.store c.set_step_limit.new.self c.set_step_limit.ensures (sym c.has_ballots.ensures.value ∙ c.if-not-has_ballots.false) desk.wrote)
+
+pub returns-in-Err-clause-old_own : goal.returns-in-Err-clause-old_own
+returns-in-Err-clause-old_own g c clean desk says = absurd (has_none g.S.Store c.args.map.now c.args.store c.set_step_limit.new.self c.set_step_limit.ensures (sym c.has_ballots.ensures.value ∙ c.if-not-has_ballots.false) desk.wrote)
 
 pub returns-in-Err-clause-old_same : goal.returns-in-Err-clause-old_same
 returns-in-Err-clause-old_same g c shows own = absurd (has_none g.S.Store c.args.map.now c.args.store c.set_step_limit.new.self c.set_step_limit.ensures (sym c.has_ballots.ensures.value ∙ c.if-not-has_ballots.false) own)

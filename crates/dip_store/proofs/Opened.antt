@@ -75,7 +75,7 @@ has_them {S} g m store h is none own = false≢true (sym (subst (λ (h : Held S)
 module _ {S : Type 0} (g : Ghosts S) (m : Chart) (alloc : Global) (conn : Held S)
     (last : IsTrue (state g conn).is_open → (db : Trees) → (state g conn).may_leave db → db ≡ (state g conn).committed.trees) where
   -- a keeper of kept rows
-  opens_kept : (s : State) → IsKept g conn → AreOurs m (tables_in g conn) → said_by m (state g conn).now.trees ≡ s → does_show g conn
+  pub opens_kept : (s : State) → IsKept g conn → AreOurs m (tables_in g conn) → said_by m (state g conn).now.trees ≡ s → does_show g conn
       → Opens g m s (record { alloc = alloc; conn = conn; failures = 0; of_size = 0 })
   opens_kept s kept ours says shows = record {
     none = refl;

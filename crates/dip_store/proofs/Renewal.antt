@@ -7,7 +7,7 @@ use Rattle.sqlite.specs.Tree.{Trees}
 use Rattle.sqlite.specs.Store.{Ghosts}
 use Rattle.sqlite.specs.Held.{Held, state}
 use Rattle.dip_map.specs.Charts.{Chart}
-use Rattle.dip_store_sql.specs.Calls.{does_show}
+use Rattle.dip_store_sql.specs.Calls.{SelectsFrom, does_show, is_honest}
 use Rattle.dip_store_sql.specs.Rows.{tables_of}
 use Rattle.dip_store_tables.specs.Reading.{state_of}
 use Rattle.dip_store_tables.specs.Counting.{AreCounted}
@@ -16,13 +16,17 @@ use Rattle.dip_store.specs.Known.{has_table}
 use Rattle.dip_store_sql.specs.Old.{old_schema, old_tables_of}
 use Rattle.dip_store_sql.specs.Calls.{WasKept, old_tables_in}
 use Rattle.dip_store_tables.specs.Renewing.{OldTablesAreRenewed, renewed}
-use Rattle.dip_store.specs.Opening.{IsOldDesk, MayRenew}
+use Rattle.dip_store.specs.Opening.{IsOldDesk, MayRenew, Opens}
 use Rattle.dip_store.specs.Renewing.{IsOldStore, Renews, WereStored, old_said_by}
 use Rattle.dip_store.specs.Stored.{AreStored, said_by}
 use Rattle.dip_store_looks.specs.Faults.{IsFromOutside}
 use Rattle.dip_store_looks.specs.declared.faults.LookFault.{LookFault}
 use Rattle.dip_store_looks.specs.declared.faults.LookFault.TheVariants as looks
 use Rattle.dip_store_sql.proofs.Caused.{caused_weaker}
+use Rattle.std.specs.declared.alloc.Global.{Global}
+use Rattle.dip_store_sql.proofs.Parts.{went}
+use Rattle.dip_store.specs.Founding.{Keeps}
+use Rattle.dip_store.proofs.Opened.{opens_kept}
 use Rattle.dip_store.proofs.Renewed.{were_apart}
 
 -- such a store has no ballots
@@ -99,3 +103,19 @@ module _ {S : Type 0} (g : Ghosts S) (m : Chart) (law : OldTablesAreRenewed m) (
     | inl before ↦ inl (were_stored db (last desk.shows.1 db before ∙ ap (λ (d : Database). d.trees) (sym kept.settled)))
     | inr renews ↦ inr (renews_stored db renews)
   ]
+
+-- one that was renewed is open, and says what it said
+module _ {S : Type 0} (g : Ghosts S) (m : Chart) (law : OldTablesAreRenewed m) (alloc : Global) (store a conn : Held S)
+    (last : IsTrue (state g conn).is_open → (db : Trees) → (state g conn).may_leave db → db ≡ (state g conn).committed.trees) where
+  pub opens_renewed : {X E : Type 0} (x : X) → SelectsFrom (WasKept g) g store a (went X E x) → WasKept g store → IsOldStore m (state g store).now → is_honest g a
+      → (WasKept g a → IsOldStore m (state g a).now → Keeps g conn (renewed (old_tables_in g a))) → does_show g conn
+      → Opens g m (old_said_by m (state g store).now.trees) (record { alloc = alloc; conn = conn; failures = 0; of_size = 0 })
+  opens_renewed x p kept own clean keeps shows =
+      let up = p.ok kept clean in
+      let same = p.same kept up in
+      let here = subst (IsOldStore m) (sym same) own in
+      let it = keeps (p.kept kept up) here in
+      let t = old_tables_in g a in
+      let now = law t here.ours (were_apart t (state g conn).now it.kept.good it.tables) in
+      subst (λ (d : Database). Opens g m (old_said_by m d.trees) (record { alloc = alloc; conn = conn; failures = 0; of_size = 0 })) same
+      (opens_kept g m alloc conn last (old_said_by m (state g a).now.trees) it.kept (subst (AreOurs m) (sym it.tables) now.ours) (ap (state_of m) it.tables ∙ now.says) shows)

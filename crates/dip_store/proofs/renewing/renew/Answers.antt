@@ -1,0 +1,51 @@
+use Rattle.std.proofs.Common.{◌≡◌, arith, ap, map, ◌∙◌}
+use Rattle.sqlite.specs.Effect.{Database}
+use Rattle.dip_desk_state.specs.Rows.{lines}
+use Rattle.dip_store_tables.specs.Renewing.{old_ballot}
+use Rattle.dip_store_sql.specs.Calls.{is_honest, old_tables_in}
+use Rattle.dip_store_sql.specs.Old.{old_tables_of}
+use Rattle.dip_store.proofs.Rewritten.{keeps_renewed, kept_first, left_renewed}
+use Rattle.dip_store.proofs.renewing.renew.Goals as goal
+
+pub returns-in-Ok-fill-clause-kept : goal.returns-in-Ok-fill-clause-kept
+returns-in-Ok-fill-clause-kept g c kept m own clean =
+    let old = c.args.conn.now in
+    let a = c.old_games.new.conn in
+    let b = c.old_ballots.new.conn in
+    let end = c.fill.new.conn in
+    let first = c.in-Ok.ensures.selects in
+    let next = c.in-Ok-old_ballots.ensures.selects in
+    let honest : is_honest g.S.Store b = omega (arith, clean, c.in-Ok-fill.ensures.crash.clean) in
+    let early = kept_first g.S.Store old a b end c.in-Ok.games c.in-Ok-old_ballots.ballots first next kept (next.fair honest) in
+    let named : lines c.as_slice.result.now ≡ map (λ t. t.name) (old_tables_in g.S.Store old).games = ap lines c.as_slice.ensures.value ∙ c.in-Ok.ensures.value kept (next.fair honest) in
+    let voted : c.as_slice-2.result.now ≡ map old_ballot (old_tables_in g.S.Store old).seats = c.as_slice-2.ensures.value ∙ c.in-Ok-old_ballots.ensures.value early.0 honest ∙ ap (λ (d : Database). map old_ballot (old_tables_of d.trees).seats) early.1 in
+    keeps_renewed g.S.Store old a b end c.in-Ok.games c.in-Ok-old_ballots.ballots first next kept (lines c.as_slice.result.now) c.as_slice-2.result.now named voted m (c.old_tables_are_renewed.ensures m) own honest
+    (λ good unlimited. c.in-Ok-fill.ensures.laid good unlimited clean)
+
+pub returns-in-Ok-fill-clause-left : goal.returns-in-Ok-fill-clause-left
+returns-in-Ok-fill-clause-left g c kept clean =
+    let old = c.args.conn.now in
+    let a = c.old_games.new.conn in
+    let b = c.old_ballots.new.conn in
+    let end = c.fill.new.conn in
+    let first = c.in-Ok.ensures.selects in
+    let next = c.in-Ok-old_ballots.ensures.selects in
+    let honest : is_honest g.S.Store b = omega (arith, clean, c.in-Ok-fill.ensures.crash.clean) in
+    let early = kept_first g.S.Store old a b end c.in-Ok.games c.in-Ok-old_ballots.ballots first next kept (next.fair honest) in
+    let named : lines c.as_slice.result.now ≡ map (λ t. t.name) (old_tables_in g.S.Store old).games = ap lines c.as_slice.ensures.value ∙ c.in-Ok.ensures.value kept (next.fair honest) in
+    let voted : c.as_slice-2.result.now ≡ map old_ballot (old_tables_in g.S.Store old).seats = c.as_slice-2.ensures.value ∙ c.in-Ok-old_ballots.ensures.value early.0 honest ∙ ap (λ (d : Database). map old_ballot (old_tables_of d.trees).seats) early.1 in
+    left_renewed g.S.Store old a b end c.in-Ok.games c.in-Ok-old_ballots.ballots first next kept (lines c.as_slice.result.now) c.as_slice-2.result.now named voted c.in-Ok-fill.ensures.crash clean
+
+pub returns-clause-left : goal.returns-clause-left
+returns-clause-left g c kept clean =
+    let old = c.args.conn.now in
+    let a = c.old_games.new.conn in
+    let b = c.old_ballots.new.conn in
+    let end = c.fill.new.conn in
+    let first = c.in-Ok.ensures.selects in
+    let next = c.in-Ok-old_ballots.ensures.selects in
+    let honest : is_honest g.S.Store b = omega (arith, clean, c.in-Err-fill.ensures.crash.clean) in
+    let early = kept_first g.S.Store old a b end c.in-Ok.games c.in-Ok-old_ballots.ballots first next kept (next.fair honest) in
+    let named : lines c.as_slice.result.now ≡ map (λ t. t.name) (old_tables_in g.S.Store old).games = ap lines c.as_slice.ensures.value ∙ c.in-Ok.ensures.value kept (next.fair honest) in
+    let voted : c.as_slice-2.result.now ≡ map old_ballot (old_tables_in g.S.Store old).seats = c.as_slice-2.ensures.value ∙ c.in-Ok-old_ballots.ensures.value early.0 honest ∙ ap (λ (d : Database). map old_ballot (old_tables_of d.trees).seats) early.1 in
+    left_renewed g.S.Store old a b end c.in-Ok.games c.in-Ok-old_ballots.ballots first next kept (lines c.as_slice.result.now) c.as_slice-2.result.now named voted c.in-Err-fill.ensures.crash clean

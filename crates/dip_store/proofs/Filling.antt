@@ -1,5 +1,5 @@
 -- Ballots and choices, one behind another.
-use Rattle.std.proofs.Common.{◌≡◌, ◌<◌, ◌+◌, ℕ, zero, suc, List, [], ◌∷◌, ◌++◌, take, get_or, length, map, ap, sym, refl, ◌∙◌, append_assoc, append-nil, arith}
+use Rattle.std.proofs.Common.{◌≡◌, ◌<◌, ◌+◌, ℕ, zero, suc, List, [], ◌∷◌, ◌++◌, take, get_or, length, ap, sym, refl, ◌∙◌, append_assoc, append-nil, arith}
 use Rattle.dip_store_tables.specs.Tables.{BallotRow, ChoiceRow, Tables}
 use Rattle.dip_store_changes.specs.Parts.{more_ballots}
 use Rattle.dip_store.specs.Renewing.{more_choices}

@@ -19,7 +19,6 @@ pub mod Outside
 pub mod Refused
 pub mod Numbers
 pub mod Parts
-pub mod Passing
 pub mod Walking
 pub mod Filling
 pub mod Renewed

@@ -1,5 +1,5 @@
 -- The rows that a change puts in have no key twice.
-use Rattle.std.proofs.Common.{◌≡◌, ◌<◌, ◌≤◌, ◌+◌, ◌==◌, ◌&&◌, ℕ, zero, suc, Bool, true, false, cond, not, nat_lt, List, [], ◌∷◌, ◌++◌, map, length, Option, Some, None, bytes_eq, inl, inr, refl, sym, ap, subst, ◌∙◌, arith}
+use Rattle.std.proofs.Common.{◌≡◌, ◌<◌, ◌≤◌, ◌+◌, ◌==◌, ◌&&◌, ℕ, zero, suc, Bool, true, false, cond, not, nat_lt, List, [], ◌∷◌, map, length, Option, Some, None, bytes_eq, inl, inr, refl, sym, ap, subst, ◌∙◌, arith}
 use Rattle.std.specs.List.{AllByRecursion, count_by, list_all, list_any, range_with_len}
 use Rattle.std.proofs.lemmas.Bool.{and_parts, cases_Bool, cases_lt, eq-eqb, eqb-false, eqb-true, ltb-true, not-true}
 use Rattle.std.proofs.lemmas.List.Sums.{sum_by-cons}
@@ -8,10 +8,10 @@ use Rattle.dip_store_tables.proofs.ListLemmas.{all_map, all_of, all_weaker, none
 use Rattle.dip_names.specs.declared.names.Kind.{Kind}
 use Rattle.dip_names.specs.declared.names.Kind.TheVariants.{Army, Fleet}
 use Rattle.dip_names.specs.declared.names.Unit.{Unit as AUnit}
-use Rattle.dip_map.specs.Charts.{Chart, IsMap, are_units_single, is_unit, may_stand, power_of, powers, prov_of}
+use Rattle.dip_map.specs.Charts.{Chart, IsMap, are_units_single, is_unit, may_stand, power_of, prov_of}
 use Rattle.dip_map.specs.Boards.{IsOf, Position, is_dislodged, is_prov_if_any}
 use Rattle.dip_map.specs.declared.boards.Dislodged.{Dislodged}
-use Rattle.dip_store_tables.specs.Boards.{CentreRow, UnitRow, centre_rows_from, code, dislodged_row, power_name, standing_row, unit_rows}
+use Rattle.dip_store_tables.specs.Boards.{UnitRow, centre_rows_from, code, dislodged_row, power_name, standing_row, unit_rows}
 use Rattle.dip_desk_machine.specs.Lawful.{AreAscending}
 use Rattle.dip_desk_machine.specs.Machine.{are_complete}
 use Rattle.dip_desk_state.specs.State.{NewSeat}

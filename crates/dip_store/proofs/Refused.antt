@@ -16,7 +16,7 @@ use Rattle.dip_store_sql.specs.Causes.{IsCaused}
 use Rattle.dip_store_sql.specs.TablesAfter.{is_first}
 use Rattle.dip_store_tables.specs.Tables.{DeskRow, Tables}
 use Rattle.dip_store.specs.Faults.{open_code_fault, open_fault, row_fault, desk_fault}
-use Rattle.dip_store.specs.Refusing.{IsRefusedAs, Differs, IsOutage, IsRefused}
+use Rattle.dip_store.specs.Refusing.{IsRefusedAs, Differs, IsOutage}
 use Rattle.dip_store.specs.declared.faults.StoreFault.{StoreFault}
 use Rattle.dip_store.specs.declared.faults.StoreFault.TheVariants.{Memory, Disk, OtherMap, OtherSchema}
 

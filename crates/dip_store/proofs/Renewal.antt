@@ -1,5 +1,5 @@
 -- A store of version 1 that is opened.
-use Rattle.std.proofs.Common.{◌≡◌, ◌⊎◌, inl, inr, List, [], Bool, true, false, not, codes, None, Ok, Err, Result, IfOk, IfErr, IsTrue, refl, sym, ap, subst, ◌∙◌}
+use Rattle.std.proofs.Common.{◌≡◌, ◌⊎◌, inl, inr, Bool, true, false, not, codes, None, Ok, Err, Result, IfOk, IfErr, IsTrue, refl, sym, ap, subst, ◌∙◌}
 use Rattle.std.proofs.lemmas.Bool.{false≢true}
 use Rattle.sqlite.specs.Effect.{Database}
 use Rattle.sqlite.specs.Schema.{Schema}
@@ -8,12 +8,11 @@ use Rattle.sqlite.specs.Store.{Ghosts}
 use Rattle.sqlite.specs.Held.{Held, state}
 use Rattle.dip_map.specs.Charts.{Chart}
 use Rattle.dip_store_sql.specs.Calls.{SelectsFrom, does_show, is_honest}
-use Rattle.dip_store_sql.specs.Rows.{tables_of}
 use Rattle.dip_store_tables.specs.Reading.{state_of}
 use Rattle.dip_store_tables.specs.Counting.{AreCounted}
 use Rattle.dip_store_tables.specs.Legible.{AreOurs}
 use Rattle.dip_store.specs.Known.{has_table}
-use Rattle.dip_store_sql.specs.Old.{old_schema, old_tables_of}
+use Rattle.dip_store_sql.specs.Old.{old_schema}
 use Rattle.dip_store_sql.specs.Calls.{WasKept, old_tables_in}
 use Rattle.dip_store_tables.specs.Renewing.{OldTablesAreRenewed, renewed}
 use Rattle.dip_store.specs.Opening.{IsOldDesk, MayRenew, Opens}

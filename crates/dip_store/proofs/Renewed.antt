@@ -1,11 +1,11 @@
 -- Tables of version 1 that were filled are those of version 2 that say the same.
-use Rattle.std.proofs.Common.{◌≡◌, ◌&&◌, ℕ, Bool, true, false, pos, List, [], ◌∷◌, map, bytes_eq, length, refl, sym, ap, ap₂, subst, ◌∙◌, inl, inr, arith}
-use Rattle.std.specs.List.{AllByRecursion, list_any}
+use Rattle.std.proofs.Common.{◌≡◌, ℕ, true, false, List, [], ◌∷◌, map, refl, sym, ap, ap₂, subst, ◌∙◌, inl, inr, arith}
+use Rattle.std.specs.List.{AllByRecursion}
 use Rattle.std.proofs.lemmas.Bool.{cases_Bool}
 use Rattle.sqlite.specs.Order.{Row}
 use Rattle.sqlite.specs.Effect.{Database}
 use Rattle.sqlite_trees.specs.Tree.{IsAscending}
-use Rattle.dip_map.specs.Charts.{Chart, IsMap}
+use Rattle.dip_map.specs.Charts.{Chart}
 use Rattle.dip_desk_state.proofs.KeyedLemmas.{names_tell}
 use Rattle.dip_store_tables.proofs.ListLemmas.{all_both, all_map, all_unmap, all_weaker}
 use Rattle.dip_store_tables.proofs.MapTexts.{power_text}
@@ -19,7 +19,6 @@ use Rattle.dip_store_sql.specs.Good.{IsGood}
 use Rattle.dip_store_sql.specs.Rows.{tables_of}
 use Rattle.dip_store_sql.specs.Showing.{show_name, show_vote}
 use Rattle.dip_store_sql.proofs.Apart.{are_apart}
-use Rattle.dip_store_sql.specs.Old.{old_tables_of}
 use Rattle.dip_store_tables.specs.Renewing.{WasSeatWritten, WereOurs, old_ballot, renewed, voteless}
 use Rattle.dip_store.specs.Renewing.{IsVoteReadable, filled, shown_ballot, shown_name}
 

@@ -1,16 +1,15 @@
 -- A store of version 1 that was read, and then written anew.
-use Rattle.std.proofs.Common.{◌≡◌, ◌≤◌, ◌⊎◌, inl, inr, ℕ, List, [], map, None, Ok, Err, Result, refl, sym, ap, subst, ◌∙◌, arith}
+use Rattle.std.proofs.Common.{◌≡◌, ◌⊎◌, inl, inr, ℕ, List, map, None, refl, sym, ap, subst, ◌∙◌, arith}
 use Rattle.sqlite.specs.Effect.{Database}
 use Rattle.sqlite.specs.Tree.{Trees}
 use Rattle.sqlite.specs.Store.{Ghosts}
 use Rattle.sqlite.specs.Held.{Held, state}
-use Rattle.sqlite.specs.State.{HasCleanDisk, Survives}
+use Rattle.sqlite.specs.State.{Survives}
 use Rattle.dip_map.specs.Charts.{Chart}
 use Rattle.dip_store_tables.specs.Counting.{AreCounted}
 use Rattle.dip_store_tables.specs.Tables.{BallotRow, Tables}
 use Rattle.dip_store_changes.specs.Making.{IsLaid}
-use Rattle.dip_store_sql.specs.Calls.{does_show, is_honest, tables_in}
-use Rattle.dip_store_sql.specs.Causes.{has_faulted}
+use Rattle.dip_store_sql.specs.Calls.{is_honest, tables_in}
 use Rattle.dip_store_sql.proofs.Parts.{went}
 use Rattle.dip_store.specs.Founding.{Keeps}
 use Rattle.dip_store.specs.Making.{HasTables}

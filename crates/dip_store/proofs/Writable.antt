@@ -1,12 +1,11 @@
 -- A change that fits can be written.
-use Rattle.std.proofs.Common.{◌≡◌, ◌<◌, ◌≤◌, ◌^◌, ◌==◌, ◌||◌, ℕ, Bool, true, false, List, [], ◌∷◌, inl, inr, sym, ap, subst, ◌∙◌, arith}
+use Rattle.std.proofs.Common.{◌≡◌, ◌<◌, ◌≤◌, ◌^◌, ◌==◌, ◌||◌, ℕ, true, false, List, [], ◌∷◌, inl, inr, subst, arith}
 use Rattle.std.specs.List.{list_all}
 use Rattle.std.proofs.lemmas.Bool.{cases_Bool, and_parts, eqb-true}
 use Rattle.dip_map.specs.Charts.{Chart}
-use Rattle.dip_desk.specs.Fitting.{Fits}
 use Rattle.dip_letters.specs.Words.{is_digit, is_game, is_lower}
 use Rattle.dip_desk_machine.specs.Fitting.{FitsMap}
-use Rattle.dip_desk_state.specs.State.{Change, Effect, Nothing, Pending, Votes, Delivers, Opens, Publishes, Seats, State}
+use Rattle.dip_desk_state.specs.State.{Effect, Nothing, Pending, Votes, Delivers, Opens, Publishes, Seats}
 use Rattle.dip_desk_state.specs.Writable.{Lacks}
 use Rattle.dip_store_tables.specs.Coding.{IsEffectOf}
 use Rattle.dip_store_tables.specs.ChangeColumns.{FitsColumns}

@@ -153,8 +153,8 @@ fn old_ballots<S: Alter>(
 /// `Memory`, `Disk`, or `OtherSchema` for a vote that no keeper wrote. Then what was committed is as before.
 pub(crate) fn renew<S: Alter>(conn: &mut Connection<S>, alloc: Global) -> Result<(), StoreFault>
     requires { conn.old.in_transaction ≡ false }
-    ensures kept { WasKept S.Store conn.old → (m : Chart) → IsOldStore m (state S.Store conn.old).now
-        → is_honest S.Store conn.new
+    ensures kept { WasKept S.Store conn.old → (m : Chart)
+        → IsOldStore m (state S.Store conn.old).now → is_honest S.Store conn.new
         → OnOk result (Keeps S.Store conn.new (renewed (old_tables_in S.Store conn.old))) }
     ensures own { WasKept S.Store conn.old → does_show S.Store conn.old
         → is_honest S.Store conn.new → (m : Chart) → WereOurs m (old_tables_in S.Store conn.old)

@@ -1,4 +1,4 @@
-use Rattle.std.proofs.Common.{rules, ◌≡◌, ◌+◌, ℕ, Option, None, Some, suc, string_bytes, subst, arith}
+use Rattle.std.proofs.Common.{rules, ◌≡◌, ◌+◌, ℕ, None, Some, suc, string_bytes, subst, arith}
 use Rattle.std.proofs.lemmas.Result.{err_from_is_err_and}
 use Rattle.dip_store.proofs.Numbers.{found, no_more}
 use Rattle.dip_store.proofs.Parts.{all, begun, begun_more, more}

@@ -1,4 +1,4 @@
-use Rattle.std.proofs.Common.{arith, rules, [], ◌∷◌, subst, ◌∙◌}
+use Rattle.std.proofs.Common.{arith, [], ◌∷◌, subst, ◌∙◌}
 use Rattle.sqlite.specs.declared.error.Error.{Error}
 use Rattle.sqlite.specs.Held.{state}
 use Rattle.dip_store_sql.specs.Calls.{Writes}

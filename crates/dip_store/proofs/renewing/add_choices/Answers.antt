@@ -1,4 +1,4 @@
-use Rattle.std.proofs.Common.{◌≡◌, arith, rules, [], ◌∷◌, map, subst, string_bytes, ◌∙◌}
+use Rattle.std.proofs.Common.{◌≡◌, arith, rules, [], ◌∷◌, subst, string_bytes, ◌∙◌}
 use Rattle.sqlite.specs.declared.error.Error.{Error}
 use Rattle.sqlite.specs.Held.{state}
 use Rattle.dip_store_tables.specs.Writing.{choice_row}

@@ -2,7 +2,6 @@ use Rattle.std.proofs.Common.{◌≡◌, map, sym, subst, ◌∙◌}
 use Rattle.std.specs.List.{AllByRecursion}
 use Rattle.dip_store.specs.Renewing.{IsVoteReadable}
 use Rattle.dip_store_sql.specs.Calls.{old_tables_in}
-use Rattle.dip_store_sql.specs.Causes.{has_faulted}
 use Rattle.dip_store_sql.specs.Showing.{show_vote}
 use Rattle.dip_store.proofs.Opened.{ok_turned}
 use Rattle.dip_store.proofs.Renewal.{outside_more}

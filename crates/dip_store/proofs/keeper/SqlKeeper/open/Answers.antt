@@ -10,7 +10,7 @@ use Rattle.dip_store_tables.specs.Tables.{Tables}
 use Rattle.sqlite.specs.Effect.{Database}
 use Rattle.dip_store_sql.specs.Old.{old_tables_of}
 use Rattle.dip_store_tables.specs.Renewing.{WereOurs}
-use Rattle.dip_store.specs.Opening.{IsOldDesk, MayRenew, Opens}
+use Rattle.dip_store.specs.Opening.{MayRenew, Opens}
 use Rattle.dip_store.specs.Renewing.{IsOldStore, old_said_by}
 use Rattle.dip_store.specs.Refusing.{IsRefused, IsRefusedAs}
 use Rattle.dip_store.proofs.Opened.{ends_refused, err_turned, has_them, if_err, kept_from, known_there, ok_turned, old_there, opens_old, there}

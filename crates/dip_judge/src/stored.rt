@@ -7,6 +7,7 @@ ghost use Rattle.dip_store.specs.Calls.{does_show, is_honest};
 ghost use Rattle.dip_judge_runs.specs.Runs.{IsReadToEnd};
 ghost use Rattle.dip_store.specs.Causes.{has_faulted};
 ghost use Rattle.dip_store.specs.Opening.{Holds, IsDesk};
+ghost use Rattle.dip_store.specs.Renewing.{IsOldStore, old_said_by};
 ghost use Rattle.dip_store.specs.Stored.{IsStore};
 
 use crate::failures::Failure;
@@ -61,6 +62,12 @@ pub fn answer_stored<S: Alter, R: Read, W: Write>(
         → OnOk result.0 (AnswersFrom S.Store map.now (desk_in S.Store map.now store) result.1
         (R.remaining reader.old) (R.remaining reader.new) (W.contents writer.old)
         (W.contents writer.new)) }
+    // So it is from what a store of version 1 says.
+    ensures renewed { is_honest S.Store result.1
+        → IsOldStore map.now (state S.Store store).now → OnOk result.0 (AnswersFrom S.Store map.now
+        (old_said_by map.now (state S.Store store).now.trees) result.1
+        (R.remaining reader.old) (R.remaining reader.new) (W.contents writer.old)
+        (W.contents writer.new)) }
     ensures stops { is_honest S.Store result.1 → IsDesk S.Store map.now store → IfErr result.0
         (StopsFrom S.Store map.now (has_faulted S.Store store result.1)
         (desk_in S.Store map.now store) result.1 (R.remaining reader.old)
@@ -96,6 +103,11 @@ pub fn report_stored<S: Alter, W: Write>(
         → OnOk result.0 (Reports game.now (desk_in S.Store map.now store) (W.contents writer.old)
         (W.contents writer.new)
         × Holds S.Store map.now (desk_in S.Store map.now store) result.1) }
+    ensures renewed { is_honest S.Store result.1
+        → IsOldStore map.now (state S.Store store).now → OnOk result.0 (Reports game.now
+        (old_said_by map.now (state S.Store store).now.trees) (W.contents writer.old)
+        (W.contents writer.new) × Holds S.Store map.now
+        (old_said_by map.now (state S.Store store).now.trees) result.1) }
     ensures stops { is_honest S.Store result.1 → IsDesk S.Store map.now store → IfErr result.0
         (StopsReport S.Store map.now (has_faulted S.Store store result.1) game.now
         (desk_in S.Store map.now store) result.1 (W.contents writer.old)
@@ -129,6 +141,10 @@ pub(crate) fn serve_stored<S: Alter>(
     ensures done { is_honest S.Store result.1 → IsStore map.now (state S.Store store).now
         → OnOk result.0 (ServesFrom S.Store map.now (has_faulted S.Store store result.1) count
         (desk_in S.Store map.now store) result.1) }
+    ensures renewed { is_honest S.Store result.1
+        → IsOldStore map.now (state S.Store store).now → OnOk result.0 (ServesFrom S.Store map.now
+        (has_faulted S.Store store result.1) count
+        (old_said_by map.now (state S.Store store).now.trees) result.1) }
     ensures stops { is_honest S.Store result.1 → IsDesk S.Store map.now store → IfErr result.0
         (StopsServing S.Store map.now (has_faulted S.Store store result.1) count
         (desk_in S.Store map.now store) result.1) }

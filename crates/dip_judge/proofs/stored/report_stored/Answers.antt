@@ -27,3 +27,13 @@ returns-in-Err-write_papers-clause-stops g c =
     let opened = c.in-Ok.ensures.opened (c.write_papers.ensures.walks.fair clean) desk.wrote in
     breaks_off g.S.Store c.args.map.now c.args.game.now c.args.store _ c.in-Ok.keeper c.write_papers.new.self c.in-Err-write_papers.fault _ _ opened c.in-Ok.ensures.counted
     (c.in-Err-write_papers.ensures.ends (is_open g.S.Store c.args.map.now _ c.in-Ok.keeper opened) clean))
+
+pub returns-in-Ok-Some-clause-renewed : goal.returns-in-Ok-Some-clause-renewed
+returns-in-Ok-Some-clause-renewed g c =
+    rw c.into_store.ensures
+    (λ clean own.
+    let opened = c.in-Ok.ensures.renewed (c.write_papers.ensures.walks.fair clean) own in
+    let goes = rw c.in-Ok-Some.field-0-is at (c.in-Ok-Some.ensures.goes (is_open g.S.Store c.args.map.now _ c.in-Ok.keeper opened) clean) in (
+      reports c.args.game.now _ _ _ _ _ opened.says goes.1,
+      holds_still g.S.Store c.args.map.now _ c.in-Ok.keeper c.write_papers.new.self opened goes.0 (c.write_papers.ensures.walks.same opened.sound goes.0.shows),
+    ))

@@ -23,3 +23,11 @@ returns-in-Err-bind-clause-stops g c =
     (λ clean desk.
     let opened = c.in-Ok.ensures.opened clean desk.wrote in
     ends_still g.S.Store c.args.map.now _ _ c.in-Ok.keeper.conn _ (holds g.S.Store c.args.map.now _ c.in-Ok.keeper opened))
+
+pub returns-in-Ok-serve_all-clause-renewed : goal.returns-in-Ok-serve_all-clause-renewed
+returns-in-Ok-serve_all-clause-renewed g c =
+    rw c.into_store-in-Ok-serve_all.ensures
+    (λ clean own.
+    let opened = c.in-Ok.ensures.renewed (c.serve_all.ensures.fair clean) own in
+    serves_from g.S.Store c.args.map.now c.args.store c.args.count _ c.in-Ok.keeper c.serve_all.new.keeper opened c.in-Ok.ensures.counted
+    (c.in-Ok-serve_all.ensures.goes (is_open g.S.Store c.args.map.now _ c.in-Ok.keeper opened) clean))

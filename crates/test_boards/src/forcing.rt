@@ -3,7 +3,6 @@ ghost use Rattle.std.specs.Prelude.{◌≡◌};
 ghost use Rattle.dip_map.specs.Boards.{IsOf};
 ghost use Rattle.dip_orders.specs.Standing.{units_of};
 
-use crate::texts::push_words;
 use dip_decide::{Decision, Known, Tests, forced, known_at_first};
 use dip_map::{Board, Map};
 use dip_orders::{Orders, PlacedOrder, each_unit_has_one_order};
@@ -57,8 +56,8 @@ fn known_with(
     Ok(known)
 }
 
-/// Appends how many tests were made and what a decision is forced to by the last, `3 bur/M no`; or that it has its value.
-fn push_forced_one(
+/// What a decision is forced to, by one more test; or that it has its value.
+fn word_forced(
     alloc: Global,
     map: &Map,
     board: &Board,
@@ -66,18 +65,22 @@ fn push_forced_one(
     known: &Known,
     word: &str,
     tests: &mut Tests,
-    out: &mut String,
-) -> Result<(), AllocError>
+) -> Result<&'static str, AllocError>
     requires of_map { IsOf map.now board.now }
     requires orders { units_of standing.now ≡ board.now.units }
 {
     if let Some(decision) = decision_in(map, word) {
         if known.look(&decision).is_none() && tests.count() < 100 {
             let answer = forced(alloc, map, board, standing, known, decision, tests)?;
-            return write!(out, "{} {word} {}\n", tests.count(), answer_text(answer));
+            return Ok(answer_text(answer));
         }
     }
-    push_words(out, &[word, " isn't open\n"])
+    Ok("isn't open")
+}
+
+/// Appends how many tests were made and what was told of a decision: `3 bur/M no`.
+fn push_told(tests: u64, word: &str, told: &str, out: &mut String) -> Result<(), AllocError> {
+    write!(out, "{tests} {word} {told}\n")
 }
 
 /// Appends what decisions are forced to, one behind the other, where others have values: `bur/M ruh/S | mun/M=no`.
@@ -97,7 +100,8 @@ pub(crate) fn push_forced(
     let known = known_with(alloc, map, board, &standing, values)?;
     let mut tests = Tests::new();
     for word in words.split(' ') {
-        push_forced_one(alloc, map, board, &standing, &known, word, &mut tests, out)?;
+        let told = word_forced(alloc, map, board, &standing, &known, word, &mut tests)?;
+        push_told(tests.count(), word, told, out)?;
     }
     Ok(())
 }

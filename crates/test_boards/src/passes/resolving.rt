@@ -1,7 +1,7 @@
 //! A movement as a whole, by passes.
 use super::settling::explain;
 use super::table::table_of;
-use super::values::{value_at, values_at_start};
+use super::values::{Values, value_at, values_at_start};
 use dip_decide::Step;
 use dip_map::Map;
 use dip_names::Prov;
@@ -23,15 +23,14 @@ pub(crate) struct Passed {
     pub steps: Vec<Step>,
 }
 
-/// The provinces of a column with true, by code.
-fn trues(alloc: Global, map: &Map, column: &[Option<bool>]) -> Result<Vec<Prov>, AllocError> {
-    let mut found = Vec::new(alloc);
+/// Appends the provinces of a column with true, by code.
+fn push_trues(map: &Map, column: &[Option<bool>], found: &mut Vec<Prov>) -> Result<(), AllocError> {
     for prov in map.each_province() {
         if value_at(column, prov).unwrap_or(false) {
             found.push(prov)?;
         }
     }
-    Ok(found)
+    Ok(())
 }
 
 /// Whether a step breaks the path of a unit.
@@ -53,6 +52,13 @@ fn broken_by(alloc: Global, map: &Map, steps: &[Step]) -> Result<Vec<Prov>, Allo
     Ok(broken)
 }
 
+/// Appends what the values came to.
+fn fill(map: &Map, values: &Values, passed: &mut Passed) -> Result<(), AllocError> {
+    push_trues(map, values.moves.as_slice(), &mut passed.moves)?;
+    push_trues(map, values.paths.as_slice(), &mut passed.paths)?;
+    push_trues(map, values.supports.as_slice(), &mut passed.supports)
+}
+
 /// What comes of the orders of a movement, by passes: each goes over all decisions, and gives each open one that is forced its value;
 /// after a pass in which none was forced a circle is taken, or the knot where there is no circle. A decision is forced where its
 /// equation has one value at the least and the greatest completion.
@@ -67,15 +73,13 @@ pub(crate) fn resolve_by_passes(
     let table = table_of(alloc, map, orders.as_slice())?;
     let mut values = values_at_start(alloc, &table)?;
     let steps = explain(alloc, &table, &mut values)?;
-    let moves = trues(alloc, map, values.moves.as_slice())?;
-    let paths = trues(alloc, map, values.paths.as_slice())?;
-    let supports = trues(alloc, map, values.supports.as_slice())?;
-    let broken = broken_by(alloc, map, steps.as_slice())?;
-    Ok(Passed {
-        moves,
-        paths,
-        supports,
-        broken,
+    let mut passed = Passed {
+        moves: Vec::new(alloc),
+        paths: Vec::new(alloc),
+        supports: Vec::new(alloc),
+        broken: broken_by(alloc, map, steps.as_slice())?,
         steps,
-    })
+    };
+    fill(map, &values, &mut passed)?;
+    Ok(passed)
 }

@@ -14,11 +14,11 @@ use Rattle.dip_judge_runs.specs.declared.run.RunFault.TheVariants.{Read, TooLong
 use Rattle.dip_desk.specs.Keeping.{Ends, IsOpen, Rises}
 use Rattle.dip_desk.proofs.Ending.{ends_open}
 use Rattle.dip_store.specs.Causes.{has_faulted}
-use Rattle.dip_store.specs.Opening.{Holds, Opens, StoreEnds}
+use Rattle.dip_store.specs.Opening.{Holds, OldEnds, Opens, StoreEnds}
 use Rattle.dip_store.specs.Stored.{book}
 use Rattle.dip_store.proofs.Opened.{ends_held, held_by}
 use Rattle.dip_store.specs.declared.keeper.SqlKeeper.{SqlKeeper}
-use Rattle.dip_judge.specs.Stores.{AnswersFrom, ReadsUpTo, Reports, ServesFrom, ServesUpTo, StopsFrom, StopsIn, StopsReport, StopsServing}
+use Rattle.dip_judge.specs.Stores.{AnswersFrom, OldStopsFrom, OldStopsReport, OldStopsServing, ReadsUpTo, Reports, ServesFrom, ServesUpTo, StopsFrom, StopsIn, StopsReport, StopsServing}
 use Rattle.dip_judge.specs.Serving.{Serves, ServesTo}
 use Rattle.dip_judge.specs.declared.failures.Failure.{Failure}
 use Rattle.dip_judge.specs.declared.failures.Failure.TheVariants.{Listen, Map, NoGame, Papers, Run, Serving, Store, Usage}
@@ -76,6 +76,21 @@ module _ {S : Type 0} (g : Ghosts S) (m : Chart) (F G : Type 0) (turn : F → G)
   stops_as_of (Serving fault) it = absurd it
   stops_as_of NoGame it = absurd it
   stops_as_of (Papers fault) it = absurd it
+
+-- and of a store of version 1
+old_ends_as : {S : Type 0} (g : Ghosts S) (m : Chart) (F G : Type 0) (new : Held S) (s : State) → (F → G) → OldEnds g m F new s → OldEnds g m G new s
+old_ends_as g m F G new s turn it = record { left = it.left; shown = it.shown; goes = elim it.goes [ inl holds_it ↦ inl holds_it | inr fault ↦ inr (turn fault) ] }
+
+module _ {S : Type 0} (g : Ghosts S) (m : Chart) (F G : Type 0) (turn : F → G) (old : State) (new : Held S) (known left before after : Option (List ℕ)) where
+  pub old_stops_as_of : (failure : Failure) → OldStopsFrom g m F old new known left before after failure → OldStopsFrom g m G old new known left before after failure
+  old_stops_as_of (Store fault) it = (it.0, old_ends_as g m F G new old turn it.1)
+  old_stops_as_of (Run fault) it = stops_as_of g m F G turn old new known left before after (Run fault) it
+  old_stops_as_of (Usage fault) it = absurd it
+  old_stops_as_of (Map fault) it = absurd it
+  old_stops_as_of Listen it = absurd it
+  old_stops_as_of (Serving fault) it = absurd it
+  old_stops_as_of NoGame it = absurd it
+  old_stops_as_of (Papers fault) it = absurd it
 
 -- more faults than before are some
 pub some_fault : {S : Type 0} (g : Ghosts S) (old new : Held S) → has_faulted g old new → 1 ≤ (state g new).faults
@@ -155,6 +170,28 @@ module _ {S : Type 0} (g : Ghosts S) (m : Chart) (F G : Type 0) (turn : F → G)
   serving_as count (Run fault) it = absurd it
   serving_as count NoGame it = absurd it
   serving_as count (Papers fault) it = absurd it
+
+-- of a store of version 1
+module _ {S : Type 0} (g : Ghosts S) (m : Chart) (F G : Type 0) (turn : F → G) (old : State) (new : Held S) where
+  pub old_report_as : (name : List ℕ) (before after : Option (List ℕ)) (failure : Failure) → OldStopsReport g m F name old new before after failure → OldStopsReport g m G name old new before after failure
+  old_report_as name before after (Store fault) it = (it.0, old_ends_as g m F G new old turn it.1)
+  old_report_as name before after NoGame it = report_as g m F G turn old new name before after NoGame it
+  old_report_as name before after (Papers fault) it = report_as g m F G turn old new name before after (Papers fault) it
+  old_report_as name before after (Usage fault) it = report_as g m F G turn old new name before after (Usage fault) it
+  old_report_as name before after (Map fault) it = report_as g m F G turn old new name before after (Map fault) it
+  old_report_as name before after (Run fault) it = report_as g m F G turn old new name before after (Run fault) it
+  old_report_as name before after Listen it = report_as g m F G turn old new name before after Listen it
+  old_report_as name before after (Serving fault) it = report_as g m F G turn old new name before after (Serving fault) it
+
+  pub old_serving_as : (count : ℕ) (failure : Failure) → OldStopsServing g m F count old new failure → OldStopsServing g m G count old new failure
+  old_serving_as count (Store fault) it = old_ends_as g m F G new old turn it
+  old_serving_as count Listen it = serving_as g m F G turn old new count Listen it
+  old_serving_as count (Serving fault) it = serving_as g m F G turn old new count (Serving fault) it
+  old_serving_as count (Usage fault) it = absurd it
+  old_serving_as count (Map fault) it = absurd it
+  old_serving_as count (Run fault) it = absurd it
+  old_serving_as count NoGame it = absurd it
+  old_serving_as count (Papers fault) it = absurd it
 
 -- papers that are out are a report
 pub reports : (name : List ℕ) (s old : State) (n : ℕ) (before after : Option (List ℕ)) → s ≡ old → AreOut (Some n) (game_at name s) before after → Reports name old before after

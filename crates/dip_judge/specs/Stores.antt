@@ -6,7 +6,7 @@ use Rattle.sqlite.specs.Held.{Held, state}
 use Rattle.dip_map.specs.Charts.{Chart}
 use Rattle.dip_desk_state.specs.State.{State, game_at}
 use Rattle.dip_store.specs.Papers.{AreBegun, papers_text}
-use Rattle.dip_store.specs.Opening.{Holds, StoreEnds}
+use Rattle.dip_store.specs.Opening.{Holds, OldEnds, StoreEnds}
 use Rattle.dip_store.specs.Stored.{said_by}
 use Rattle.dip_store.specs.declared.faults.StoreFault.{StoreFault}
 use Rattle.dip_store.specs.declared.faults.StoreFault.TheVariants.{Memory, Disk, OtherSchema}
@@ -56,6 +56,11 @@ StopsFrom g m Fault old new known left before after (Run fault) = ((after ≡ be
     ⊎ ((input : List ℕ) × IsReadWhole known left input × StopsIn g m Fault fault input old new before after)
 StopsFrom g m Fault old new known left before after failure = ⊥
 
+-- of a store of version 1: where it isn't opened it may be one still
+abbrev pub OldStopsFrom : {S : Type 0} → Ghosts S → Chart → Type 0 → State → Held S → Option (List ℕ) → Option (List ℕ) → Option (List ℕ) → Option (List ℕ) → Failure → Type 0
+OldStopsFrom g m Fault old new known left before after (Store fault) = IsIdle known left before after × OldEnds g m Fault new old
+OldStopsFrom g m Fault old new known left before after failure = StopsFrom g m Fault old new known left before after failure
+
 -- what is read and written up to a fault, whatever the store has
 abbrev pub ReadsUpTo : Option (List ℕ) → Option (List ℕ) → Option (List ℕ) → Option (List ℕ) → Failure → Type 0
 ReadsUpTo known left before after (Store fault) = IsIdle known left before after
@@ -76,6 +81,10 @@ ReportsUpTo game s before after failure = ⊥
 -- and nothing changed
 abbrev pub StopsReport : {S : Type 0} → Ghosts S → Chart → Type 0 → List ℕ → State → Held S → Option (List ℕ) → Option (List ℕ) → Failure → Type 0
 StopsReport g m Fault game s new before after failure = ReportsUpTo game s before after failure × StoreEnds g m Fault new s (λ _. ⊥)
+
+abbrev pub OldStopsReport : {S : Type 0} → Ghosts S → Chart → Type 0 → List ℕ → State → Held S → Option (List ℕ) → Option (List ℕ) → Failure → Type 0
+OldStopsReport g m Fault game s new before after (Store fault) = (after ≡ before) × OldEnds g m Fault new s
+OldStopsReport g m Fault game s new before after failure = StopsReport g m Fault game s new before after failure
 
 -- a failure of a report
 abbrev pub IsReportFailure : Failure → Type 0
@@ -109,3 +118,7 @@ StopsServing g m Fault count old new (Store fault) = StoreEnds g m Fault new old
 StopsServing g m Fault count old new Listen = StoreEnds g m Fault new old (λ _. ⊥)
 StopsServing g m Fault count old new (Serving fault) = ServesUpTo g m Fault count old new
 StopsServing g m Fault count old new failure = ⊥
+
+abbrev pub OldStopsServing : {S : Type 0} → Ghosts S → Chart → Type 0 → ℕ → State → Held S → Failure → Type 0
+OldStopsServing g m Fault count old new (Store fault) = OldEnds g m Fault new old
+OldStopsServing g m Fault count old new failure = StopsServing g m Fault count old new failure

@@ -2,11 +2,11 @@
 ghost use Rattle.std.specs.Prelude.{◌≡◌, IfErr, OnErr, OnOk};
 ghost use Rattle.sqlite.specs.Held.{state};
 ghost use Rattle.dip_judge.specs.Fresh.{fresh_desk};
-ghost use Rattle.dip_judge.specs.Stores.{AnswersFrom, IsReportFailure, IsServeFailure, ReadsUpTo, Reports, ServesFrom, StopsFrom, StopsReport, StopsServing, desk_in};
+ghost use Rattle.dip_judge.specs.Stores.{AnswersFrom, OldStopsFrom, OldStopsReport, OldStopsServing, IsReportFailure, IsServeFailure, ReadsUpTo, Reports, ServesFrom, StopsFrom, StopsReport, StopsServing, desk_in};
 ghost use Rattle.dip_store.specs.Calls.{does_show, is_honest};
 ghost use Rattle.dip_judge_runs.specs.Runs.{IsReadToEnd};
 ghost use Rattle.dip_store.specs.Causes.{has_faulted};
-ghost use Rattle.dip_store.specs.Opening.{Holds, IsDesk};
+ghost use Rattle.dip_store.specs.Opening.{Holds, IsDesk, IsOldDesk};
 ghost use Rattle.dip_store.specs.Renewing.{IsOldStore, old_said_by};
 ghost use Rattle.dip_store.specs.Stored.{IsStore};
 
@@ -72,6 +72,10 @@ pub fn answer_stored<S: Alter, R: Read, W: Write>(
         (StopsFrom S.Store map.now (has_faulted S.Store store result.1)
         (desk_in S.Store map.now store) result.1 (R.remaining reader.old)
         (R.remaining reader.new) (W.contents writer.old) (W.contents writer.new)) }
+    ensures old_stops { is_honest S.Store result.1 → IsOldDesk S.Store map.now store
+        → IfErr result.0 (OldStopsFrom S.Store map.now (has_faulted S.Store store result.1)
+        (old_said_by map.now (state S.Store store).now.trees) result.1 (R.remaining reader.old)
+        (R.remaining reader.new) (W.contents writer.old) (W.contents writer.new)) }
     ensures read { OnOk result.0 (IsReadToEnd (R.remaining reader.old) (R.remaining reader.new)) }
     ensures failed { IfErr result.0
         (ReadsUpTo (R.remaining reader.old) (R.remaining reader.new) (W.contents writer.old)
@@ -112,6 +116,10 @@ pub fn report_stored<S: Alter, W: Write>(
         (StopsReport S.Store map.now (has_faulted S.Store store result.1) game.now
         (desk_in S.Store map.now store) result.1 (W.contents writer.old)
         (W.contents writer.new)) }
+    ensures old_stops { is_honest S.Store result.1 → IsOldDesk S.Store map.now store
+        → IfErr result.0 (OldStopsReport S.Store map.now (has_faulted S.Store store result.1)
+        game.now (old_said_by map.now (state S.Store store).now.trees) result.1
+        (W.contents writer.old) (W.contents writer.new)) }
     ensures failed { IfErr result.0 IsReportFailure }
     ensures fair { is_honest S.Store result.1 → is_honest S.Store store }
 {
@@ -148,6 +156,9 @@ pub(crate) fn serve_stored<S: Alter>(
     ensures stops { is_honest S.Store result.1 → IsDesk S.Store map.now store → IfErr result.0
         (StopsServing S.Store map.now (has_faulted S.Store store result.1) count
         (desk_in S.Store map.now store) result.1) }
+    ensures old_stops { is_honest S.Store result.1 → IsOldDesk S.Store map.now store
+        → IfErr result.0 (OldStopsServing S.Store map.now (has_faulted S.Store store result.1)
+        count (old_said_by map.now (state S.Store store).now.trees) result.1) }
     ensures failed { IfErr result.0 IsServeFailure }
     ensures fair { is_honest S.Store result.1 → is_honest S.Store store }
 {

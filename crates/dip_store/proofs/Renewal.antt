@@ -15,7 +15,7 @@ use Rattle.dip_store.specs.Known.{has_table}
 use Rattle.dip_store_sql.specs.Old.{old_schema}
 use Rattle.dip_store_sql.specs.Calls.{WasKept, old_tables_in}
 use Rattle.dip_store_tables.specs.Renewing.{OldTablesAreRenewed, renewed}
-use Rattle.dip_store.specs.Opening.{IsOldDesk, MayRenew, Opens}
+use Rattle.dip_store.specs.Opening.{HoldsEither, IsOldDesk, MayRenew, OldEnds, Opens}
 use Rattle.dip_store.specs.Renewing.{IsOldStore, Renews, WereStored, old_said_by}
 use Rattle.dip_store.specs.Stored.{AreStored, said_by}
 use Rattle.dip_store_looks.specs.Faults.{IsFromOutside}
@@ -72,6 +72,10 @@ pub err_both : {X E : Type 0} (P Q R : E → Type 0) (r : Result X E) → ((e : 
 err_both P Q R (Ok x) both p q = tt
 err_both P Q R (Err e) both p q = both e p q
 
+pub err_all : {X E : Type 0} (P Q R : E → Type 0) (r : Result X E) → IfErr r P → IfErr r Q → IfErr r R → IfErr r (λ e. P e × Q e × R e)
+err_all P Q R (Ok x) p q t = tt
+err_all P Q R (Err e) p q t = (p, q, t)
+
 -- want of memory and the disk are no more to blame where there was a fault
 pub outside_more : {X : Type 0} (fault : Type 0) (r : Result X LookFault) → IfErr r (IsFromOutside ⊥) → IfErr r (IsFromOutside fault)
 outside_more fault (Ok x) own = tt
@@ -97,11 +101,26 @@ module _ {S : Type 0} (g : Ghosts S) (m : Chart) (law : OldTablesAreRenewed m) (
   were_stored db is = ((were, sym is, desk.wrote), ap (old_said_by m) is)
 
   pub may_renew : (new : Held S) → WasKept g store → (IsTrue (state g store).is_open → (db : Trees) → (state g store).may_leave db → db ≡ (state g store).committed.trees)
-      → ((db : Trees) → (state g new).may_leave db → (state g store).may_leave db ⊎ Renews (old_tables_in g store) db) → MayRenew g m new were.trees
+      → ((db : Trees) → (state g new).may_leave db → (state g store).may_leave db ⊎ Renews (old_tables_in g store) db) → MayRenew g m new (old_said_by m were.trees)
   may_renew new kept last left db may = elim (left db may) [
     | inl before ↦ inl (were_stored db (last desk.shows.1 db before ∙ ap (λ (d : Database). d.trees) (sym kept.settled)))
     | inr renews ↦ inr (renews_stored db renews)
   ]
+
+-- one that isn't opened
+module _ {S : Type 0} (g : Ghosts S) (m : Chart) (store h end : Held S) (is : h ≡ unlimited g m store) where
+  pub ends_either : (Fault : Type 0) → IsOldDesk g m store → end.in_transaction ≡ false → (does_show g end → (state g end).now ≡ (state g h).now) → does_show g end ⊎ Fault
+      → MayRenew g m end (old_said_by m (state g store).now.trees) → OldEnds g m Fault end (old_said_by m (state g store).now.trees)
+  ends_either Fault desk idle still closes left = record {
+    left = left;
+    shown = holds;
+    goes = elim closes [ inl shows ↦ inl (holds shows) | inr fault ↦ inr fault ];
+  }
+    where
+      holds : does_show g end → HoldsEither g m (old_said_by m (state g store).now.trees) end
+      holds shows =
+          let same = still shows ∙ same_store g m store h is in
+          record { shows = shows; idle = idle; has = inl (subst (IsOldStore m) (sym same) desk.wrote, ap (λ (d : Database). old_said_by m d.trees) same); only = left }
 
 -- one that was renewed is open, and says what it said
 module _ {S : Type 0} (g : Ghosts S) (m : Chart) (law : OldTablesAreRenewed m) (alloc : Global) (store a conn : Held S)

@@ -39,10 +39,27 @@ pub record IsOldDesk {S : Type 0} (g : Ghosts S) (m : Chart) (store : Held S) : 
   pub idle : store.in_transaction ≡ false
   pub wrote : IsOldStore m (state g store).now
 
--- a crash leaves tables of version 1 that say what these did, or tables of version 2 that do, to be opened
-abbrev pub MayRenew : {S : Type 0} → Ghosts S → Chart → Held S → Trees → Type 0
-MayRenew g m new old = (db : Trees) → (state g new).may_leave db
-    → (WereStored m db × (old_said_by m db ≡ old_said_by m old)) ⊎ (AreStored m db × (said_by m db ≡ old_said_by m old))
+-- tables of version 1 or of version 2, to be opened, that say this state
+abbrev pub AreHeld : Chart → Trees → State → Type 0
+AreHeld m db s = (WereStored m db × (old_said_by m db ≡ s)) ⊎ (AreStored m db × (said_by m db ≡ s))
+
+-- a crash leaves such tables
+abbrev pub MayRenew : {S : Type 0} → Ghosts S → Chart → Held S → State → Type 0
+MayRenew g m new s = (db : Trees) → (state g new).may_leave db → AreHeld m db s
+
+-- the store is open, no change of it is under way, and it has such tables
+pub record HoldsEither {S : Type 0} (g : Ghosts S) (m : Chart) (s : State) (store : Held S) : Type 0 where
+  pub shows : does_show g store
+  pub idle : store.in_transaction ≡ false
+  pub has : (IsOldStore m (state g store).now × (old_said_by m (state g store).now.trees ≡ s)) ⊎ (IsStore m (state g store).now × (said_by m (state g store).now.trees ≡ s))
+  pub only : MayRenew g m store s
+
+-- how a store of version 1 ends that isn't opened: a crash leaves such tables; where it shows what it keeps still, it has them; and it does, or there was this fault of
+-- the disk
+pub record OldEnds {S : Type 0} (g : Ghosts S) (m : Chart) (Fault : Type 0) (new : Held S) (s : State) : Type 0 where
+  pub left : MayRenew g m new s
+  pub shown : does_show g new → HoldsEither g m s new
+  pub goes : HoldsEither g m s new ⊎ Fault
 
 -- the keeper has told of no fault, says this state, and a crash leaves this state alone, to be opened again
 pub record Opens {S : Type 0} (g : Ghosts S) (m : Chart) (s : State) (k : SqlKeeper S) : Type 0 where

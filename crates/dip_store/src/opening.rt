@@ -12,7 +12,7 @@ ghost use Rattle.dip_store_sql.specs.Causes.{has_faulted};
 ghost use Rattle.dip_store_sql.specs.TablesAfter.{is_first};
 ghost use Rattle.dip_store_sql.specs.Calls.{WasKept, old_tables_in};
 ghost use Rattle.dip_store_tables.specs.Renewing.{WereOurs};
-ghost use Rattle.dip_store.specs.Opening.{IsDesk, IsOldDesk, MayFound, MayRenew, Opens, StoreEnds};
+ghost use Rattle.dip_store.specs.Opening.{IsDesk, IsOldDesk, MayFound, MayRenew, OldEnds, Opens, StoreEnds};
 ghost use Rattle.dip_store.specs.Renewing.{IsOldStore, old_said_by};
 ghost use Rattle.dip_store.specs.Refusing.{IsOutage, IsRefused, IsRefusedAs};
 ghost use Rattle.dip_store.specs.Stored.{IsStore, book, said_by};
@@ -133,7 +133,10 @@ impl<S: Alter> SqlKeeper<S> {
             → (state S.Store e.1).committed ≡ (state S.Store store).committed) }
         ensures left { IfErr result (λ e. is_honest S.Store e.1 → WasKept S.Store store
             → IsOldDesk S.Store map.now store
-            → MayRenew S.Store map.now e.1 (state S.Store store).now.trees) }
+            → MayRenew S.Store map.now e.1 (old_said_by map.now (state S.Store store).now.trees)) }
+        ensures still { IfErr result (λ e. does_show S.Store e.1 → WasKept S.Store store
+            → (state S.Store e.1).now ≡ (state S.Store store).now) }
+        ensures idle { IfErr result (λ e. e.1.in_transaction ≡ false) }
         ensures shown { IfOk result (λ k. is_honest S.Store k.conn → does_show S.Store store) }
         ensures shown_still { IfErr result (λ e. does_show S.Store e.1 → does_show S.Store store) }
         ensures fair { IfOk result (λ k. is_honest S.Store k.conn → is_honest S.Store store) }
@@ -220,9 +223,10 @@ impl<S: Alter> SqlKeeper<S> {
             → (state S.Store e.1).committed ≡ (state S.Store store).committed) }
         // Of one that isn't opened a crash leaves the tables of version 1, or those of version 2 that
         // say the same, whole.
-        ensures old_left { IfErr result (λ e. is_honest S.Store e.1
+        ensures old_ends { IfErr result (λ e. is_honest S.Store e.1
             → IsOldDesk S.Store map.now store
-            → MayRenew S.Store map.now e.1 (state S.Store store).now.trees) }
+            → OldEnds S.Store map.now (has_faulted S.Store store e.1) e.1
+            (old_said_by map.now (state S.Store store).now.trees)) }
         // A store that isn't opened holds what it held, or told of a fault of the disk.
         ensures ends { IfErr result (λ e. is_honest S.Store e.1 → IsDesk S.Store map.now store
             → StoreEnds S.Store map.now (has_faulted S.Store store e.1) e.1

@@ -166,6 +166,8 @@ pub(crate) fn renew<S: Alter>(conn: &mut Connection<S>, alloc: Global) -> Result
     ensures idle { conn.new.in_transaction ≡ false }
     ensures base { WasKept S.Store conn.old → does_show S.Store conn.new → OnErr result
         ((state S.Store conn.new).committed ≡ (state S.Store conn.old).committed) }
+    ensures still { WasKept S.Store conn.old → does_show S.Store conn.new → OnErr result
+        ((state S.Store conn.new).now ≡ (state S.Store conn.old).now) }
     ensures closes { is_honest S.Store conn.new → does_show S.Store conn.old
         → does_show S.Store conn.new ⊎ has_faulted S.Store conn.old conn.new }
     ensures left { WasKept S.Store conn.old → is_honest S.Store conn.new → (db : Trees)

@@ -4,9 +4,9 @@ use Rattle.sqlite.specs.WalFiles.{image_at}
 use Rattle.dip_store.specs.Causes.{has_faulted}
 use Rattle.dip_store.specs.Opening.{Holds}
 use Rattle.dip_judge.specs.Files.{HasFaults}
-use Rattle.dip_judge.specs.Stores.{Reports, StopsReport, desk_in}
+use Rattle.dip_judge.specs.Stores.{OldStopsReport, Reports, StopsReport, desk_in}
 use Rattle.dip_judge.proofs.FileLemmas.{err_held, ok_held}
-use Rattle.dip_judge.proofs.StoredLemmas.{report_as, some_fault}
+use Rattle.dip_judge.proofs.StoredLemmas.{old_report_as, report_as, some_fault}
 use Rattle.dip_judge.proofs.asked.report_file.Goals as goal
 
 pub returns-in-Ok-clause-done : goal.returns-in-Ok-clause-done
@@ -14,7 +14,7 @@ returns-in-Ok-clause-done g c =
     let call = c.report_stored-reported in
     ok_held (image_at g.S.Start) c.args.map.now c.in-Ok.store c.in-Ok.ensures.opened c.in-Ok.ensures.found call.result.1 call.ensures.fair call.result.0
     (λ s new. Reports c.args.game.now s (g.W.Write.contents c.args.writer.now) (g.W.Write.contents call.new.writer) × Holds over_files c.args.map.now s new)
-    (λ clean desk. call.ensures.done clean desk.wrote)
+    (λ clean desk. call.ensures.done clean desk.wrote) (λ clean desk. call.ensures.renewed clean desk.wrote)
 
 pub returns-in-Ok-clause-stops : goal.returns-in-Ok-clause-stops
 returns-in-Ok-clause-stops g c =
@@ -24,6 +24,10 @@ returns-in-Ok-clause-stops g c =
     let Fault = has_faulted over_files c.in-Ok.store last in
     err_held (image_at g.S.Start) m c.in-Ok.store c.in-Ok.ensures.opened c.in-Ok.ensures.found last call.ensures.fair call.result.0
     (λ f s new. StopsReport over_files m (HasFaults over_files new) c.args.game.now s new (g.W.Write.contents c.args.writer.now) (g.W.Write.contents call.new.writer) f)
+    (λ f s new. OldStopsReport over_files m (HasFaults over_files new) c.args.game.now s new (g.W.Write.contents c.args.writer.now) (g.W.Write.contents call.new.writer) f)
     (λ clean desk. IfErr-weaker call.result.0 _ _
     (report_as over_files m Fault (HasFaults over_files last) (some_fault over_files c.in-Ok.store last) (desk_in over_files m c.in-Ok.store) last c.args.game.now _ _)
     (call.ensures.stops clean desk))
+    (λ clean desk. IfErr-weaker call.result.0 _ _
+    (old_report_as over_files m Fault (HasFaults over_files last) (some_fault over_files c.in-Ok.store last) _ last c.args.game.now _ _)
+    (call.ensures.old_stops clean desk))

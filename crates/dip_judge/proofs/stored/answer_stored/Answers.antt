@@ -24,3 +24,11 @@ returns-in-Ok-run_file-clause-renewed g c =
     let opened = c.in-Ok.ensures.renewed (c.run_file.ensures.fair clean) own in
     let goes = c.in-Ok-run_file.ensures.goes (is_open g.S.Store c.args.map.now _ c.in-Ok.keeper opened) clean in
     answers_from g.S.Store c.args.map.now _ c.in-Ok.keeper c.run_file.new.keeper _ _ _ _ opened (c.in-Ok-run_file.ensures.answers opened.sound goes.shows) goes)
+
+pub returns-in-Err-run_file-clause-old_stops : goal.returns-in-Err-run_file-clause-old_stops
+returns-in-Err-run_file-clause-old_stops g c =
+    rw c.into_store-in-Err-run_file.ensures
+    (λ clean desk.
+    let opened = c.in-Ok.ensures.renewed (c.run_file.ensures.fair clean) desk.wrote in
+    stops_from g.S.Store c.args.map.now _ c.in-Ok.keeper c.run_file.new.keeper _ _ _ _ opened c.args.store c.in-Ok.ensures.counted c.in-Err-run_file.fault
+    (c.in-Err-run_file.ensures.ends (is_open g.S.Store c.args.map.now _ c.in-Ok.keeper opened) clean))

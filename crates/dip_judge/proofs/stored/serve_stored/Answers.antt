@@ -31,3 +31,18 @@ returns-in-Ok-serve_all-clause-renewed g c =
     let opened = c.in-Ok.ensures.renewed (c.serve_all.ensures.fair clean) own in
     serves_from g.S.Store c.args.map.now c.args.store c.args.count _ c.in-Ok.keeper c.serve_all.new.keeper opened c.in-Ok.ensures.counted
     (c.in-Ok-serve_all.ensures.goes (is_open g.S.Store c.args.map.now _ c.in-Ok.keeper opened) clean))
+
+pub returns-clause-old_stops : goal.returns-clause-old_stops
+returns-clause-old_stops g c =
+    rw c.into_store-in-Err-serve_all.ensures
+    (λ clean desk.
+    let opened = c.in-Ok.ensures.renewed (c.serve_all.ensures.fair clean) desk.wrote in
+    serves_up_to g.S.Store c.args.map.now c.args.store c.args.count _ c.in-Ok.keeper c.serve_all.new.keeper opened c.in-Ok.ensures.counted
+    (c.serve_all.ensures.ends (is_open g.S.Store c.args.map.now _ c.in-Ok.keeper opened) clean))
+
+pub returns-in-Err-bind-clause-old_stops : goal.returns-in-Err-bind-clause-old_stops
+returns-in-Err-bind-clause-old_stops g c =
+    rw c.into_store.ensures
+    (λ clean desk.
+    let opened = c.in-Ok.ensures.renewed clean desk.wrote in
+    ends_still g.S.Store c.args.map.now _ _ c.in-Ok.keeper.conn _ (holds g.S.Store c.args.map.now _ c.in-Ok.keeper opened))

@@ -1,4 +1,4 @@
-use Rattle.std.proofs.Common.{inl, inr, Err, IfSome, ap, arith, subst, sym, ◌∙◌}
+use Rattle.std.proofs.Common.{◌⊎◌, inl, inr, Err, IfSome, ap, arith, subst, sym, ◌∙◌}
 use Rattle.std.specs.List.{find}
 use Rattle.sha2.specs.Sha256.{sha256}
 use Rattle.sqlite.specs.Held.{Held}
@@ -15,7 +15,7 @@ use Rattle.dip_store.specs.Renewing.{IsOldStore, old_said_by}
 use Rattle.dip_store.specs.Refusing.{IsRefused, IsRefusedAs}
 use Rattle.dip_store.proofs.Opened.{ends_refused, err_turned, has_them, if_err, kept_from, known_there, ok_turned, old_there, opens_old, there}
 use Rattle.dip_store.proofs.Refused.{own_outage}
-use Rattle.dip_store.proofs.Renewal.{desk_still, err_both, has_none, ok_both, same_base, same_store, was_kept}
+use Rattle.dip_store.proofs.Renewal.{desk_still, ends_either, err_all, err_both, has_none, ok_both, same_base, same_store, was_kept}
 use Rattle.dip_store.specs.declared.faults.StoreFault.{StoreFault}
 use Rattle.dip_store.proofs.keeper.SqlKeeper.open.Goals as goal
 
@@ -151,16 +151,19 @@ returns-then-not-has_ballots-clause-old_same g c =
     same shows kept ∙ same_base g.S.Store m c.args.store h c.set_step_limit.ensures)
     c.open_old.ensures.same c.open_old.ensures.shown_still
 
-pub returns-then-not-has_ballots-clause-old_left : goal.returns-then-not-has_ballots-clause-old_left
-returns-then-not-has_ballots-clause-old_left g c =
+pub returns-then-not-has_ballots-clause-old_ends : goal.returns-then-not-has_ballots-clause-old_ends
+returns-then-not-has_ballots-clause-old_ends g c =
     let m = c.args.map.now in
     let h = c.set_step_limit.new.self in
-    let same = same_store g.S.Store m c.args.store h c.set_step_limit.ensures in
-    err_turned _ _ c.open_old.result (λ e left clean desk.
-    let shows : does_show g.S.Store h = rw c.set_step_limit.ensures desk.shows in
-    let kept = was_kept g.S.Store m c.args.store desk.wrote h c.set_step_limit.ensures c.is_autocommit.result (c.is_autocommit.ensures.value, c.is_autocommit.ensures.settled, c.if-not-is_autocommit.false, shows) in
-    subst (λ (d : Database). MayRenew g.S.Store m e.1 d.trees) same (left clean kept (desk_still g.S.Store m c.args.store h c.set_step_limit.ensures desk)))
-    c.open_old.ensures.left
+    let is = c.set_step_limit.ensures in
+    let same = same_store g.S.Store m c.args.store h is in
+    err_both _ _ _ c.open_old.result (λ e both idle clean desk.
+    let shows : does_show g.S.Store h = rw is desk.shows in
+    let kept = was_kept g.S.Store m c.args.store desk.wrote h is c.is_autocommit.result (c.is_autocommit.ensures.value, c.is_autocommit.ensures.settled, c.if-not-is_autocommit.false, shows) in
+    ends_either g.S.Store m c.args.store h e.1 is (has_faulted g.S.Store c.args.store e.1) desk idle (λ up. both.1 up kept)
+    (subst (λ (k : Held _). does_show g.S.Store e.1 ⊎ has_faulted g.S.Store k e.1) is (both.2 clean shows))
+    (subst (λ (d : Database). MayRenew g.S.Store m e.1 (old_said_by m d.trees)) same (both.0 clean kept (desk_still g.S.Store m c.args.store h is desk))))
+    (err_all _ _ _ c.open_old.result c.open_old.ensures.left c.open_old.ensures.still c.open_old.ensures.closes) c.open_old.ensures.idle
 
 -- one of version 2 is none of version 1
 pub returns-in-Ok-clause-renewed : goal.returns-in-Ok-clause-renewed
@@ -180,5 +183,5 @@ returns-in-Err-clause-old_own g c clean desk says = absurd (has_none g.S.Store c
 pub returns-in-Err-clause-old_same : goal.returns-in-Err-clause-old_same
 returns-in-Err-clause-old_same g c shows own = absurd (has_none g.S.Store c.args.map.now c.args.store c.set_step_limit.new.self c.set_step_limit.ensures (sym c.has_ballots.ensures.value ∙ c.if-not-has_ballots.false) own)
 
-pub returns-in-Err-clause-old_left : goal.returns-in-Err-clause-old_left
-returns-in-Err-clause-old_left g c clean desk = absurd (has_none g.S.Store c.args.map.now c.args.store c.set_step_limit.new.self c.set_step_limit.ensures (sym c.has_ballots.ensures.value ∙ c.if-not-has_ballots.false) desk.wrote)
+pub returns-in-Err-clause-old_ends : goal.returns-in-Err-clause-old_ends
+returns-in-Err-clause-old_ends g c clean desk = absurd (has_none g.S.Store c.args.map.now c.args.store c.set_step_limit.new.self c.set_step_limit.ensures (sym c.has_ballots.ensures.value ∙ c.if-not-has_ballots.false) desk.wrote)

@@ -5,6 +5,7 @@ pub mod Waking
 pub use Rattle.dip_decide_table.specs.Deciding
 pub use Rattle.dip_decide_table.specs.Laws
 pub use Rattle.dip_decide_table.specs.Matching
+pub use Rattle.dip_decide_table.specs.Meaning
 pub use Rattle.dip_decide_table.specs.Movement
 pub use Rattle.dip_decide_table.specs.Results
 pub use Rattle.dip_decide_table.specs.Steps

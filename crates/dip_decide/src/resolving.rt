@@ -7,7 +7,7 @@ ghost use Rattle.dip_orders.specs.Standing.{units_of};
 ghost use Rattle.dip_decide_table.specs.declared.decisions.Decision.{Decision as ADecision};
 ghost use Rattle.dip_decide_table.specs.Deciding.{is_broken};
 ghost use Rattle.dip_decide_table.specs.Given.{known_of};
-ghost use Rattle.dip_decide_table.specs.Matching.{situation};
+ghost use Rattle.dip_decide_table.specs.Meaning.{situation_on};
 ghost use Rattle.dip_decide_table.specs.Movement.{Satisfies};
 ghost use Rattle.dip_decide_table.specs.Results.{values_in, broken_in, AreExplained, IsOnly, AreInOrder, decided_in, forced_in, mentions_in, is_true, trues, breaks, is_knot, IsListing};
 ghost use Rattle.dip_decide_table.specs.Steps.{steps_of};
@@ -15,7 +15,7 @@ ghost use Rattle.dip_decide_table.specs.Marks.{with_all, with_broken};
 
 use crate::starting::values_at_start;
 use crate::turns::explain;
-use dip_decide_table::{Resolution, Step, Tests, Values, all_false, table_of, value_at};
+use dip_decide_table::{Resolution, Step, Tests, Values, all_false, table_on, value_at};
 use dip_map::{Board, Map};
 use dip_names::Prov;
 use dip_orders::Orders;
@@ -135,7 +135,7 @@ fn resolution_of(
     })
 }
 
-/// What comes of the orders of a movement: one for each unit of the board.
+/// What comes of the orders of a movement: one for each unit of the board, as they are meant on it (`meant`).
 ///
 /// The values satisfy the decision equations, and the steps explain them: each decision was forced by those before it, or was
 /// settled with a circle or with a knot, which is taken only where nothing is forced and there is no circle. Whatever steps explain
@@ -151,24 +151,23 @@ pub fn resolve(
     requires is_of { IsOf map.now board.now }
     requires orders { units_of orders.now ≡ board.now.units }
     ensures equations { IfOk result
-        (λ r. Satisfies (situation map.now orders.now) (broken_in r) (values_in r)) }
+        (λ r. Satisfies (situation_on map.now board.now orders.now) (broken_in r) (values_in r)) }
     ensures explained { IfOk result
-        (λ r. AreExplained (situation map.now orders.now) (steps_of r.steps.items) (values_in r)) }
-    ensures only { IfOk result (IsOnly (situation map.now orders.now)) }
+        (λ r. AreExplained (situation_on map.now board.now orders.now) (steps_of r.steps.items) (values_in r)) }
+    ensures only { IfOk result (IsOnly (situation_on map.now board.now orders.now)) }
     ensures broken { IfOk result
         (λ r. (d : ADecision) → broken_in r d ≡ is_broken (steps_of r.steps.items) d) }
     ensures few { IfOk result
-        (λ r. length r.steps.items ≤ decided_in (situation map.now orders.now)) }
+        (λ r. length r.steps.items ≤ decided_in (situation_on map.now board.now orders.now)) }
     ensures ordered { IfOk result AreInOrder }
     ensures counted { IfOk result (λ r. forced_in (steps_of r.steps.items) ≤ r.tests) }
     ensures tested { IfOk result
-        (λ r. r.tests ≤ decided_in (situation map.now orders.now) + mentions_in (situation map.now
-        orders.now)) }
+        (λ r. r.tests ≤ decided_in (situation_on map.now board.now orders.now) + mentions_in (situation_on map.now board.now orders.now)) }
 {
     map.facts();
     orders.facts();
     let _ = board.units();
-    let table = table_of(alloc, map, orders.as_slice())?;
+    let table = table_on(alloc, map, board, orders.as_slice())?;
     let mut values = values_at_start(alloc, &table)?;
     let mut tests = Tests::new();
     let steps = explain(alloc, &table, &mut values, &mut tests)?;

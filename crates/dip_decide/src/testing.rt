@@ -3,11 +3,11 @@ ghost use Rattle.std.specs.Prelude.{◌≡◌, ◌+◌, ◌<◌, ◌^◌, None, 
 ghost use Rattle.dip_map.specs.Boards.{IsOf};
 ghost use Rattle.dip_orders.specs.Standing.{units_of};
 ghost use Rattle.dip_decide_table.specs.Given.{known_of, IsAnswer};
-ghost use Rattle.dip_decide_table.specs.Matching.{situation};
+ghost use Rattle.dip_decide_table.specs.Meaning.{situation_on};
 ghost use Rattle.dip_decide_table.specs.Movement.{at_first, rule};
 
 use crate::starting::values_at_start;
-use dip_decide_table::{Decision, Tests, Values, forced_by_orders, table_of};
+use dip_decide_table::{Decision, Tests, Values, forced_by_orders, table_on};
 use dip_map::{Board, Map};
 use dip_orders::Orders;
 use std::alloc::{AllocError, Global};
@@ -21,10 +21,10 @@ pub fn known_at_first(
 ) -> Result<Values, AllocError>
     requires is_of { IsOf map.now board.now }
     requires orders { units_of orders.now ≡ board.now.units }
-    ensures { IfOk result (λ k. known_of k ≡ at_first (situation map.now orders.now)) }
+    ensures { IfOk result (λ k. known_of k ≡ at_first (situation_on map.now board.now orders.now)) }
 {
     let _ = board.units();
-    let table = table_of(alloc, map, orders.as_slice())?;
+    let table = table_on(alloc, map, board, orders.as_slice())?;
     values_at_start(alloc, &table)
 }
 
@@ -45,10 +45,10 @@ pub fn forced(
     requires open { known_of known.now d ≡ None }
     requires countable { tests.old + 1 < 2 ^ 64 }
     ensures answer { IfOk result
-        (IsAnswer (rule (situation map.now orders.now)) (known_of known.now) d) }
+        (IsAnswer (rule (situation_on map.now board.now orders.now)) (known_of known.now) d) }
     ensures counted { tests.new ≡ tests.old + 1 }
 {
     orders.facts();
     let _ = board.units();
-    forced_by_orders(alloc, map, orders.as_slice(), known, &d, tests)
+    forced_by_orders(alloc, map, board, orders.as_slice(), known, &d, tests)
 }

@@ -3,6 +3,7 @@ pub mod Held
 pub mod Deciding
 pub mod Movement
 pub mod Matching
+pub mod Meaning
 pub mod Chains
 pub mod Placed
 pub mod Given

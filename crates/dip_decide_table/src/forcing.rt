@@ -1,16 +1,16 @@
 //! The test of a decision, and the count of all tests. Nothing else reads an equation, and nothing else raises the count.
 ghost use Rattle.std.specs.Prelude.{◌≡◌, ◌+◌, ◌<◌, ◌^◌, All, None, IfOk, length};
 ghost use Rattle.dip_decide_table.specs.Given.{situation_of, known_of, IsAnswer};
-ghost use Rattle.dip_decide_table.specs.Matching.{situation};
+ghost use Rattle.dip_decide_table.specs.Meaning.{situation_on};
 ghost use Rattle.dip_decide_table.specs.Movement.{rule, IsSituation};
 
 use crate::corners::Corner;
 use crate::decisions::Decision;
+use crate::meaning::table_on;
 use crate::placed::Table;
 use crate::room::Room;
-use crate::table::table_of;
 use crate::values::Values;
-use dip_map::Map;
+use dip_map::{Board, Map};
 use dip_orders::PlacedOrder;
 use std::alloc::{AllocError, Global};
 use std::marker::Model;
@@ -102,16 +102,17 @@ pub fn forced<'a>(
     value_at_corners(room, table, known, of)
 }
 
-/// The table of a movement, and room for the searches of one test.
+/// The table of a movement, its orders as they are meant, and room for the searches of one test.
 fn ground_of<'a>(
     alloc: Global,
     map: &'a Map,
+    board: &Board,
     orders: &[PlacedOrder],
 ) -> Result<(Table<'a>, Room), AllocError>
     requires within { All (λ o. o.unit.place.prov < length map.now.provinces) orders.now }
-    ensures { IfOk result (λ g. situation_of g.0 ≡ situation map.now orders.now) }
+    ensures { IfOk result (λ g. situation_of g.0 ≡ situation_on map.now board.now orders.now) }
 {
-    let table = table_of(alloc, map, orders)?;
+    let table = table_on(alloc, map, board, orders)?;
     let room = Room::with_capacity(alloc, table.places.len())?;
     Ok((table, room))
 }
@@ -120,6 +121,7 @@ fn ground_of<'a>(
 pub fn forced_by_orders(
     alloc: Global,
     map: &Map,
+    board: &Board,
     orders: &[PlacedOrder],
     known: &Values,
     of: &Decision,
@@ -127,13 +129,13 @@ pub fn forced_by_orders(
 ) -> Result<Option<bool>, AllocError>
     requires within { All (λ o. o.unit.place.prov < length map.now.provinces) orders.now }
     requires unknown { known_of known.now of.now ≡ None }
-    requires situation { IsSituation (situation map.now orders.now) }
+    requires situation { IsSituation (situation_on map.now board.now orders.now) }
     requires countable { tests.old + 1 < 2 ^ 64 }
     ensures answer { IfOk result
-        (IsAnswer (rule (situation map.now orders.now)) (known_of known.now) of.now) }
+        (IsAnswer (rule (situation_on map.now board.now orders.now)) (known_of known.now) of.now) }
     ensures counted { tests.new ≡ tests.old + 1 }
 {
-    match ground_of(alloc, map, orders) {
+    match ground_of(alloc, map, board, orders) {
         Ok((table, mut room)) => forced(&mut room, &table, known, of, tests),
         Err(error) => {
             tests.raise();

@@ -14,6 +14,8 @@ pub record Position : Type 0 where
   pub standoff : List ℕ
   pub owners : List (Option ℕ)
   pub phase : Phase
+  -- the game's option: an army goes by convoy also where a fleet of its own power is ordered to carry it
+  pub intent : Bool
 
 -- a province that may be none is one of the map
 abbrev pub is_prov_if_any : Chart → Option ℕ → Bool
@@ -97,4 +99,5 @@ opening m = record {
   standoff = [];
   owners = map (owner_at m) (provs m);
   phase = record { year = 1901; season = SpringMoves };
+  intent = false;
 }

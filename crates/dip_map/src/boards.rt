@@ -34,7 +34,7 @@ pub struct Phase {
     pub season: Season,
 }
 
-/// A board: what stands where, what was dislodged, who owns what, and the phase to be played.
+/// A board: what stands where, what was dislodged, who owns what, the phase to be played, and the game's option INTENT.
 #[derive(Drop)]
 pub struct Board {
     units: Vec<Unit>,
@@ -42,6 +42,7 @@ pub struct Board {
     standoff: Vec<Prov>,
     owners: Vec<Option<Power>>,
     phase: Phase,
+    intent: bool,
 }
 
 impl Model for Board {
@@ -49,7 +50,7 @@ impl Model for Board {
 
     ghost Value = { Position };
 
-    ghost view = { λ b. record { units = b.units.items; dislodged = b.dislodged.items; standoff = b.standoff.items; owners = b.owners.items; phase = b.phase } };
+    ghost view = { λ b. record { units = b.units.items; dislodged = b.dislodged.items; standoff = b.standoff.items; owners = b.owners.items; phase = b.phase; intent = b.intent } };
 }
 
 impl Board {
@@ -60,6 +61,7 @@ impl Board {
         standoff: Vec<Prov>,
         owners: Vec<Option<Power>>,
         phase: Phase,
+        intent: bool,
     ) -> Board
         ensures { result ≡ record {
           units = units.items;
@@ -68,6 +70,7 @@ impl Board {
           owners =
               owners.items;
           phase = phase;
+          intent = intent;
         } }
     {
         Board {
@@ -76,6 +79,7 @@ impl Board {
             standoff,
             owners,
             phase,
+            intent,
         }
     }
 
@@ -89,10 +93,25 @@ impl Board {
             standoff: self.standoff,
             owners: self.owners,
             phase,
+            intent: self.intent,
         }
     }
 
-    /// The board of the opening, in Spring 1901.
+    /// This board with the option INTENT on or off.
+    pub fn with_intent(self, intent: bool) -> Board
+        ensures { result ≡ record self { intent = intent } }
+    {
+        Board {
+            units: self.units,
+            dislodged: self.dislodged,
+            standoff: self.standoff,
+            owners: self.owners,
+            phase: self.phase,
+            intent,
+        }
+    }
+
+    /// The board of the opening, in Spring 1901, with the option INTENT off.
     #[tactic(auto, using(crate::proofs::BoardLaws::opening_law))]
     pub fn opening(alloc: Global, map: &Map) -> Result<Board, AllocError>
         ensures value { IfOk result (λ b. b ≡ opening map.now) }
@@ -110,6 +129,7 @@ impl Board {
                 year: 1901,
                 season: Season::SpringMoves,
             },
+            intent: false,
         })
     }
 
@@ -127,6 +147,7 @@ impl Board {
             standoff,
             owners,
             phase: self.phase,
+            intent: self.intent,
         })
     }
 
@@ -163,6 +184,14 @@ impl Board {
         ensures { result ≡ self.now.phase }
     {
         self.phase
+    }
+
+    /// The option INTENT: whether an army's move between two coastal provinces goes by convoy also where a fleet of its own power in a sea
+    /// is ordered to convoy that very move. A game's master chooses it, and no phase changes it.
+    pub fn intent(&self) -> bool
+        ensures { result ≡ self.now.intent }
+    {
+        self.intent
     }
 }
 

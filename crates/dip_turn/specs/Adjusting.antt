@@ -66,6 +66,7 @@ after_adjustment m b pending = record {
   standoff = [];
   owners = b.owners;
   phase = b.phase;
+  intent = b.intent;
 }
 
 -- how many builds that are due the power lets go

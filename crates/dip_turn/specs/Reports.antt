@@ -8,7 +8,7 @@ use Rattle.dip_orders.specs.Standing.{standing_orders}
 use Rattle.dip_orders.specs.declared.placed.PlacedOrder.{PlacedOrder}
 use Rattle.dip_decide.specs.Decision.{Decision}
 use Rattle.dip_decide.specs.Deciding.{is_broken}
-use Rattle.dip_decide.specs.Matching.{situation}
+use Rattle.dip_decide.specs.Meaning.{meant_on, situation_on}
 use Rattle.dip_decide.specs.Movement.{Satisfies}
 use Rattle.dip_decide.specs.Results.{AreExplained, AreInOrder, IsOnly, broken_in, decided_in, forced_in, mentions_in, values_in}
 use Rattle.dip_decide.specs.Steps.{steps_of}
@@ -24,21 +24,21 @@ use Rattle.dip_turn.specs.declared.report.Adjustment.{Adjustment}
 use Rattle.dip_turn.specs.declared.report.Movement.{Movement}
 use Rattle.dip_turn.specs.declared.report.Report.{Report}
 
--- a movement of the orders that stand, one for each unit: its values satisfy the decision equations but for the paths that are named as
+-- a movement of the orders that stand, one for each unit, as they are meant: its values satisfy the decision equations but for the paths that are named as
 -- broken, steps explain them and break these paths, and whatever steps explain the same orders come to the same; the lists are in order,
 -- there are as many steps as decisions at most, and of tests at least as many as forced steps and at most as many as decisions and
 -- mentions; and the values make the board and the outcomes
 pub record IsMoved (m : Chart) (b : Position) (pending : List PlacedOrder) (left : Position) (t : Movement) : Type 0 where
   pub orders : t.orders ≡ standing_orders b pending
-  pub equations : Satisfies (situation m t.orders) (broken_in t.resolution) (values_in t.resolution)
-  pub explained : AreExplained (situation m t.orders) (steps_of t.resolution.steps.items) (values_in t.resolution)
-  pub only : IsOnly (situation m t.orders) t.resolution
+  pub equations : Satisfies (situation_on m b t.orders) (broken_in t.resolution) (values_in t.resolution)
+  pub explained : AreExplained (situation_on m b t.orders) (steps_of t.resolution.steps.items) (values_in t.resolution)
+  pub only : IsOnly (situation_on m b t.orders) t.resolution
   pub broken : (d : Decision) → broken_in t.resolution d ≡ is_broken (steps_of t.resolution.steps.items) d
-  pub few : length t.resolution.steps.items ≤ decided_in (situation m t.orders)
+  pub few : length t.resolution.steps.items ≤ decided_in (situation_on m b t.orders)
   pub ordered : AreInOrder t.resolution
   pub counted : forced_in (steps_of t.resolution.steps.items) ≤ t.resolution.tests
-  pub tested : t.resolution.tests ≤ decided_in (situation m t.orders) + mentions_in (situation m t.orders)
-  pub board : left ≡ after_moves m b (values_in t.resolution) t.orders
+  pub tested : t.resolution.tests ≤ decided_in (situation_on m b t.orders) + mentions_in (situation_on m b t.orders)
+  pub board : left ≡ after_moves m b (values_in t.resolution) (meant_on m b t.orders)
   pub lines : t.lines.items ≡ movement_lines m b (values_in t.resolution) t.orders
 
 -- builds, removals that stand and removals in disorder, and the builds that nobody made

@@ -75,6 +75,7 @@ after_retreats b pending = record {
   standoff = [];
   owners = b.owners;
   phase = b.phase;
+  intent = b.intent;
 }
 
 abbrev pub retreat_line : Position → List PlacedOrder → Dislodged → RetreatLine

@@ -191,6 +191,7 @@ pub(crate) fn after_adjustment(
         Vec::new(alloc),
         owners,
         board.phase(),
+        board.intent(),
     ))
 }
 

@@ -56,7 +56,14 @@ pub(crate) fn with_owners(alloc: Global, map: &Map, board: &Board) -> Result<Boa
     let dislodged = board.dislodged().to_vec(alloc)?;
     let standoff = board.standoff().to_vec(alloc)?;
     let owners = owners_after(alloc, map, board)?;
-    Ok(Board::of(units, dislodged, standoff, owners, board.phase()))
+    Ok(Board::of(
+        units,
+        dislodged,
+        standoff,
+        owners,
+        board.phase(),
+        board.intent(),
+    ))
 }
 
 /// How many centres the map has.

@@ -40,7 +40,14 @@ fn in_phase(alloc: Global, board: &Board, year: u16, season: Season) -> Result<B
     let dislodged = board.dislodged().to_vec(alloc)?;
     let standoff = board.standoff().to_vec(alloc)?;
     let owners = board.owners().to_vec(alloc)?;
-    Ok(Board::of(units, dislodged, standoff, owners, Phase { year, season }))
+    Ok(Board::of(
+        units,
+        dislodged,
+        standoff,
+        owners,
+        Phase { year, season },
+        board.intent(),
+    ))
 }
 
 fn goes_on(alloc: Global, board: &Board, season: Season) -> Result<(Board, Course), AllocError>

@@ -9,7 +9,7 @@ use crate::centres::centre_lines;
 use crate::phases::follow;
 use crate::report::{Account, Adjustment, Movement, Report};
 use crate::retreating::{after_retreats, retreat_lines};
-use dip_decide::resolve;
+use dip_decide::{meant, resolve};
 use dip_map::{Board, Map, Season};
 use dip_orders::{Orders, PlacedOrder, each_unit_has_one_order};
 use dip_turn_moves::{moved_board, movement_lines, without_destroyed};
@@ -28,8 +28,16 @@ fn move_units(
     let orders = Orders::standing(alloc, board, pending)?;
     each_unit_has_one_order();
     let resolution = resolve(alloc, map, board, &orders)?;
-    let moved = moved_board(alloc, map, board, &resolution, orders.as_slice())?;
-    let lines = movement_lines(alloc, map, &moved, &resolution, orders.as_slice())?;
+    let meant = meant(alloc, map, board, orders.as_slice())?;
+    let moved = moved_board(alloc, map, board, &resolution, meant.as_slice())?;
+    let lines = movement_lines(
+        alloc,
+        map,
+        &moved,
+        &resolution,
+        meant.as_slice(),
+        orders.as_slice(),
+    )?;
     let left = without_destroyed(alloc, map, &moved)?;
     Ok((
         left,

@@ -133,6 +133,7 @@ pub(crate) fn after_retreats(
         Vec::new(alloc),
         owners,
         board.phase(),
+        board.intent(),
     ))
 }
 

@@ -92,6 +92,7 @@ moved_board m b a orders = record {
   standoff = standoffs_after m a orders (standing_after a orders);
   owners = b.owners;
   phase = b.phase;
+  intent = b.intent;
 }
 
 -- a dislodged unit has a place to retreat to

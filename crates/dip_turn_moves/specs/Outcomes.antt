@@ -9,6 +9,7 @@ use Rattle.dip_orders.specs.declared.placed.PlacedOrder.{PlacedOrder}
 use Rattle.dip_decide.specs.Decision.TheVariants.{Support}
 use Rattle.dip_decide.specs.Deciding.{Assignment}
 use Rattle.dip_decide.specs.Matching.{situation}
+use Rattle.dip_decide.specs.Meaning.{meant_on}
 use Rattle.dip_decide.specs.Movement.{Situation, has_path, is_support}
 use Rattle.dip_turn_moves.specs.Moving.{prov, has_moved, is_driven_out, dislodged_unit, moved_board, may_go}
 use Rattle.dip_turn_moves.specs.declared.lines.Fate.{Fate}
@@ -58,9 +59,10 @@ fate_on m moved a orders o =
 abbrev pub line_on : Chart → Position → Assignment → List PlacedOrder → PlacedOrder → MovementLine
 line_on m moved a orders o = record { placed = o; outcome = outcome m a orders o; fate = fate_on m moved a orders o }
 
-abbrev pub lines_on : Chart → Position → Assignment → List PlacedOrder → List MovementLine
-lines_on m moved a orders = map (line_on m moved a orders) orders
+-- a line for each order as it was given, by what the orders mean
+abbrev pub lines_on : Chart → Position → Assignment → List PlacedOrder → List PlacedOrder → List MovementLine
+lines_on m moved a orders given = map (line_on m moved a orders) given
 
--- what the paper of a movement tells of each unit
+-- what the paper of a movement tells of each unit: its order as it was given, and what became of it as it was meant
 abbrev pub movement_lines : Chart → Position → Assignment → List PlacedOrder → List MovementLine
-movement_lines m b a orders = lines_on m (moved_board m b a orders) a orders
+movement_lines m b a given = lines_on m (moved_board m b a (meant_on m b given)) a (meant_on m b given) given

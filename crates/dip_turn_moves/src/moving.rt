@@ -150,7 +150,14 @@ pub fn moved_board(
     let dislodged = dislodged_after(alloc, map, resolution, orders)?;
     let standoff = standoffs_after(alloc, map, resolution, orders, units.as_slice())?;
     let owners = board.owners().to_vec(alloc)?;
-    Ok(Board::of(units, dislodged, standoff, owners, board.phase()))
+    Ok(Board::of(
+        units,
+        dislodged,
+        standoff,
+        owners,
+        board.phase(),
+        board.intent(),
+    ))
 }
 
 /// Whether a dislodged unit has a place to retreat to.
@@ -187,5 +194,12 @@ pub fn without_destroyed(alloc: Global, map: &Map, board: &Board) -> Result<Boar
     let units = board.units().to_vec(alloc)?;
     let standoff = board.standoff().to_vec(alloc)?;
     let owners = board.owners().to_vec(alloc)?;
-    Ok(Board::of(units, dislodged, standoff, owners, board.phase()))
+    Ok(Board::of(
+        units,
+        dislodged,
+        standoff,
+        owners,
+        board.phase(),
+        board.intent(),
+    ))
 }

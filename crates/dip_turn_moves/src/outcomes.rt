@@ -125,19 +125,21 @@ fn movement_line(
     })
 }
 
-/// A line for each of the orders, in their order; `moved` is the board with all dislodged units.
+/// A line for each of the orders as they were given, in their order; `orders` are the same as they are meant, and `moved` is the board
+/// with all dislodged units.
 pub fn movement_lines(
     alloc: Global,
     map: &Map,
     moved: &Board,
     resolution: &Resolution,
     orders: &[PlacedOrder],
+    given: &[PlacedOrder],
 ) -> Result<Vec<MovementLine>, AllocError>
     ensures { IfOk result
-        (λ v. v.items ≡ o.lines_on map.now moved.now (values_in resolution.now) orders.now) }
+        (λ v. v.items ≡ o.lines_on map.now moved.now (values_in resolution.now) orders.now given.now) }
 {
     let mut lines = Vec::new(alloc);
-    for placed in orders {
+    for placed in given {
         let line = movement_line(alloc, map, moved, resolution, orders, placed)?;
         lines.push(line)?;
     }

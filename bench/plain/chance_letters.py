@@ -13,10 +13,10 @@ INTENTS = ["", " INTENT NO", " INTENT YES", " INTENT YES"]
 
 
 class Players:
-    """The letters of a master and of all powers in some games."""
+    """The letters of a master and of all powers in some games, which CREATE opens with one of these words on the option INTENT."""
 
-    def __init__(self, chart, dice):
-        self.chart, self.dice, self.desk = chart, dice, Desk(chart, MASTER)
+    def __init__(self, chart, dice, intents=INTENTS):
+        self.chart, self.dice, self.desk, self.intents = chart, dice, Desk(chart, MASTER), intents
         self.sent, self.numbers, self.secrets, self.last = [], {}, {}, PIECES[0]
 
     def happens(self, part):
@@ -46,7 +46,7 @@ class Players:
         powers = self.dice.sample(self.chart.powers, len(self.chart.powers))
         seats = "".join(f"SEAT {power} {self.secret(game, power)}\n" for power in powers)
         due = self.dice.choice([0, 5, 100]) if due is None else due
-        chosen = f"GREY {self.dice.choice(['YES', 'NO'])}{self.dice.choice(INTENTS)}"
+        chosen = f"GREY {self.dice.choice(['YES', 'NO'])}{self.dice.choice(self.intents)}"
         self.write(game, "master", f"CREATE DUE {due} PERIOD {self.dice.choice([1, 100, 999999])} {chosen}\n{seats}")
 
     def spelled(self, line):

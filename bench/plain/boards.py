@@ -8,9 +8,10 @@ def spot(code, coast):
 
 class Board:
     """Standing units by province: power, kind, coast. Dislodged ones: these, and where the attacker came from, or None. A phase is a year and a
-    season: 0 to 4 for the movements and retreats of spring and fall, and winter."""
+    season: 0 to 4 for the movements and retreats of spring and fall, and winter. With intent an army goes by sea where a fleet of its power carries it."""
 
-    def __init__(self, chart):
+    def __init__(self, chart, intent=False):
+        self.intent = intent
         self.units = {code: (power, kind, coast) for power in chart.powers for kind, code, coast in chart.opening[power]}
         self.dislodged, self.standoff = {}, set()
         self.owner = {code: power for power in chart.powers for code in chart.home[power]}

@@ -43,7 +43,7 @@ class Players:
         powers = self.dice.sample(self.chart.powers, len(self.chart.powers))
         seats = "".join(f"SEAT {power} {self.secret(game, power)}\n" for power in powers)
         due = self.dice.choice([0, 5, 100]) if due is None else due
-        self.write(game, "master", f"CREATE DUE {due} PERIOD {self.dice.choice([1, 100, 999999])} GREY {self.dice.choice(['YES', 'NO'])}\n{seats}")
+        self.write(game, "master", f"CREATE DUE {due} PERIOD {self.dice.choice([1, 100, 999999])} GREY {self.dice.choice(['YES', 'NO'])}{self.dice.choice(['', ' INTENT YES', ' INTENT NO'])}\n{seats}")
 
     def spelled(self, line):
         """An order line with other spaces and letters, as players write."""

@@ -9,6 +9,7 @@ class Movement:
         self.chart, self.board = chart, board
         self.move = {code: it["to"] for code, it in orders.items() if it["do"] == "move"}
         self.by_sea = {code for code, to in self.move.items() if orders[code]["kind"] == "A" and (orders[code]["via"] or to not in chart.army[code])}
+        self.by_sea |= {code for code in self.move if board.intent and self.is_meant_by_sea(orders, code)}
         self.into = {}
         for code, to in self.move.items():
             self.into.setdefault(to, []).append(code)
@@ -30,6 +31,11 @@ class Movement:
         """The fleets in seas that are ordered to convoy this very move."""
         fleets = {at for at, it in orders.items() if it["do"] == "convoy" and it["at"] == code and it["to"] == self.move[code]}
         return {at for at in fleets if self.chart.kind[at] == "sea"}
+
+    def is_meant_by_sea(self, orders, code):
+        """Whether an army goes from coast to coast, and a fleet of its power is ordered to convoy that very move."""
+        ends = (code, self.move[code])
+        return orders[code]["kind"] == "A" and all(map(self.chart.is_coastal, ends)) and any(self.power(it) == self.power(code) for it in self.fleets_for(orders, code))
 
     def power(self, code):
         return self.board.units[code][0]

@@ -91,7 +91,7 @@ carried_to m orders o q c =
 -- a move of an army by land is meant by sea exactly where it goes itself no more
 way_by : (m : Chart) (p : ℕ) (via next sea : Bool) → (not via && next) ≡ true → ((not (via || sea) && next) ≡ false) ↔ (sea ≡ true)
 way_by m p false true true h = (λ e. refl, λ e. refl)
-way_by m p false true false h = (λ e. absurd (both_ways true refl e), λ e. absurd (both_ways false refl e))
+way_by m p false true false h = (λ e. absurd (both_ways true e refl), λ e. absurd (both_ways false refl e))
 way_by m p false false sea h = absurd (both_ways false refl h)
 way_by m p true next sea h = absurd (both_ways false refl h)
 
@@ -99,7 +99,7 @@ sea_by : (m : Chart) (orders : List PlacedOrder) (o : PlacedOrder) (q : ℕ) (ki
     → is_own_way m kind (prov o) order ≡ true
     → (is_own_way m kind (prov o) (meant_order m orders o.unit order) ≡ false) ↔ (is_meant_by_sea m orders o.unit q ≡ true)
 sea_by m orders o q Fleet order is to way =
-    (λ e. absurd (both_ways true refl e), λ e. absurd (both_ways false (rw is refl) e))
+    (λ e. absurd (both_ways true e refl), λ e. let army : is_kind o.unit.kind Army ≡ true = (and_parts _ _ e).0 in absurd (both_ways false refl (rw is at army)))
 sea_by m orders o q Army (Move place via) is to way =
     let same : place.prov ≡ q = eqb-true _ _ to in
     let both = way_by m (prov o) via (is_army_next m (prov o) place.prov) (is_meant_by_sea m orders o.unit place.prov) way in
@@ -134,7 +134,7 @@ to_still m all u q Remove = refl
 
 other_still : (m : Chart) (all : List PlacedOrder) (u : AUnit) (order : Order) → is_a_move order ≡ false → meant_order m all u order ≡ order
 other_still m all u Hold h = refl
-other_still m all u (Move to via) h = absurd (both_ways true refl h)
+other_still m all u (Move to via) h = absurd (both_ways true h refl)
 other_still m all u (SupportHold at) h = refl
 other_still m all u (SupportMove at to) h = refl
 other_still m all u (Convoy at to) h = refl
@@ -162,7 +162,7 @@ module _ (m : Chart) (test : PlacedOrder → Bool) where
       no_convoy (Move to via) h = refl
       no_convoy (SupportHold at) h = refl
       no_convoy (SupportMove at to) h = refl
-      no_convoy (Convoy at to) h = absurd (both_ways true refl h)
+      no_convoy (Convoy at to) h = absurd (both_ways true h refl)
       no_convoy (Retreat to) h = refl
       no_convoy Disband h = refl
       no_convoy Build h = refl

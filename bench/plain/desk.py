@@ -140,8 +140,8 @@ class Game:
         return self.status not in ("running", "paused")
 
     def line(self):
-        grey, intent = "YES" if self.grey else "NO", " INTENT YES" if self.board.intent else ""
-        return f"GAME {self.name} {self.board.phase()} {self.status} DUE {self.due} PERIOD {self.period} GREY {grey}{intent} PAPERS {len(self.papers)}"
+        chosen = f"GREY {'YES' if self.grey else 'NO'}{' INTENT YES' if self.board.intent else ''}"
+        return f"GAME {self.name} {self.board.phase()} {self.status} DUE {self.due} PERIOD {self.period} {chosen} PAPERS {len(self.papers)}"
 
     def publish(self, title, lines=()):
         """Adds a paper, and gives the line of the reply."""
@@ -217,7 +217,7 @@ class Desk:
             names = command[2]
             return names != ["all"] and (len(set(names)) < len(names) or not set(names) <= set(powers) - {sender})
         if kind == "create":
-            return sorted(power for power, _ in command[5]) != powers
+            return sorted(power for power, _ in command[-1]) != powers
         if kind == "vote":
             names = command[1][1:]
             return len(set(names)) < len(names) or not set(names) <= set(powers)

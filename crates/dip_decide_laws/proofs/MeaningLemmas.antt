@@ -1,22 +1,20 @@
 -- What the option INTENT means, in a player's words.
-use Rattle.std.proofs.Common.{◌≡◌, ℕ, ◌⊎◌, inl, inr, List, [], ◌∷◌, map, refl, sym, subst, ap, ◌∙◌, arith, zero, Contains}
+use Rattle.std.proofs.Common.{◌≡◌, ℕ, List, [], ◌∷◌, map, refl, sym, subst, ap, ◌∙◌, arith, zero, Contains}
 use Rattle.std.specs.Prelude.{◌==◌, ◌↔◌, Bool, true, false, not, ◌&&◌, ◌||◌, cond}
 use Rattle.std.specs.List.{list_any}
-use Rattle.std.proofs.lemmas.Bool.{eqb-true, eq-eqb, both_ways, and_parts, and_from, not-true, not-false}
+use Rattle.std.proofs.lemmas.Bool.{eqb-true, eq-eqb, both_ways, and_parts, and_from}
 use Rattle.dip_names.specs.declared.names.Kind.{Kind}
 use Rattle.dip_names.specs.declared.names.Kind.TheVariants.{Army, Fleet}
-use Rattle.dip_names.specs.declared.names.Terrain.TheVariants.{Sea}
 use Rattle.dip_names.specs.declared.names.Unit.{Unit as AUnit}
 use Rattle.dip_names.specs.Kinds.{is_kind, is_sea}
-use Rattle.dip_map.specs.Boards.{Position}
 use Rattle.dip_map.specs.Charts.{Chart, is_army_next, province}
 use Rattle.dip_orders.specs.declared.placed.Other.{Other}
 use Rattle.dip_orders.specs.declared.placed.Order.{Order}
 use Rattle.dip_orders.specs.declared.placed.Order.TheVariants.{Hold, Move, SupportHold, SupportMove, Convoy, Retreat, Disband, Build, Remove}
 use Rattle.dip_orders.specs.declared.placed.PlacedOrder.{PlacedOrder}
-use Rattle.dip_decide.specs.Meaning.{are_coastal, carries_for, is_convoy_of, is_meant_by_sea, meant, meant_of, meant_on, meant_order}
+use Rattle.dip_decide.specs.Meaning.{are_coastal, carries_for, is_convoy_of, is_meant_by_sea, meant, meant_of, meant_order}
 use Rattle.dip_decide_laws.specs.Laws.{IsCarriedByOwn, IsOwnCarrier, MeansTheSame}
-use Rattle.dip_decide_laws.specs.Words.{goes_itself, goes_to, held_if, holding, is_a_convoy, is_a_move, is_move_to, is_own_way, moves, names, prov}
+use Rattle.dip_decide_laws.specs.Words.{goes_itself, goes_to, held_if, holding, is_a_convoy, is_a_move, is_move_to, is_own_way, prov}
 use Rattle.dip_decide_laws.proofs.ConvoyLemmas.{a_fleet, a_sea, passes}
 use Rattle.dip_decide_laws.proofs.ListLemmas.{contains_more, one_passes}
 

@@ -84,8 +84,10 @@ pub public_back : (m : Chart) → IsMap m → (n : List ℕ) (p : Public) (units
     → find (is_choice_in n) choices ≡ Some (choice_row n p.board.intent) → public_of m units centres choices (game_row m n p) ≡ record p { game = n }
 public_back m ok n p units centres choices of_map status us cs chosen =
     let intent : intent_in choices n ≡ p.board.intent = ap intends chosen ∙ number_back p.board.intent in
-    let rows = λ x y. board_of m x y (standoff_text m p.board.standoff) p.board.phase.year (season_number p.board.phase.season) in
-    let board = (λ i. rows (us i) (cs i) (intent i)) ∙ board_back m ok p.board of_map n in
+    let standoff = standoff_text m p.board.standoff in
+    let season = season_number p.board.phase.season in
+    let rows = ap₂ (λ x y. board_of m x y standoff p.board.phase.year season (intent_in choices n)) us cs in
+    let board = rows ∙ ap (board_of m (unit_rows m n p.board) (centre_rows m n p.board) standoff p.board.phase.year season) intent ∙ board_back m ok p.board of_map n in
     let said = status_back m ok p.status status in
     let grey = number_back p.grey in
     λ i. record { game = n; board = board i; status = said i; due = p.due; period = p.period; grey = grey i; papers = p.papers }

@@ -1,5 +1,5 @@
 -- What the tables say behind a letter's author's row and orders.
-use Rattle.std.proofs.Common.{◌≡◌, ℕ, ◌<◌, ◌==◌, Bool, true, false, cond, ◌&&◌, List, map, filter, length, bytes_eq, refl, sym, ap, ap₂, ◌∙◌, inl, inr, map-id}
+use Rattle.std.proofs.Common.{◌≡◌, ℕ, ◌<◌, ◌==◌, Bool, true, false, cond, ◌&&◌, List, map, filter, length, bytes_eq, refl, sym, ap, ◌∙◌, inl, inr, map-id}
 use Rattle.std.specs.List.{AllByRecursion}
 use Rattle.std.proofs.lemmas.Bool.{cases_Bool}
 use Rattle.sqlite_trees.specs.Tree.{IsAscending}

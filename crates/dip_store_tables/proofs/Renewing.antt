@@ -1,6 +1,6 @@
 -- Tables of version 1 become tables of version 2 that say the same.
-use Rattle.std.proofs.Common.{◌≡◌, ◌==◌, ◌&&◌, ℕ, Bool, true, false, cond, List, [], ◌∷◌, map, filter, find, Option, Some, None, option_map, is_some, bytes_eq, codes, refl, sym, ap, ap₂, subst, ◌∙◌, inl, inr}
-use Rattle.std.specs.List.{AllByRecursion, list_any}
+use Rattle.std.proofs.Common.{◌≡◌, ◌==◌, ◌&&◌, ℕ, true, false, cond, List, [], ◌∷◌, map, filter, find, Some, option_map, is_some, bytes_eq, codes, refl, sym, ap, ap₂, ◌∙◌, inl, inr}
+use Rattle.std.specs.List.{AllByRecursion}
 use Rattle.std.proofs.lemmas.Bool.{cases_Bool, cond_both}
 use Rattle.sqlite_trees.specs.Tree.{IsAscending}
 use Rattle.sqlite_keyed.specs.Lists.{update_where}
@@ -8,16 +8,16 @@ use Rattle.sqlite_keyed.proofs.ListLemmas.{all_both, all_map, all_of, all_weaker
 use Rattle.sqlite_keyed.proofs.SliceLemmas.{any_is_found}
 use Rattle.dip_map.specs.Charts.{Chart}
 use Rattle.dip_desk_state.proofs.KeyedLemmas.{names_tell}
-use Rattle.dip_desk_state.specs.Records.{Vote, No, Yes}
-use Rattle.dip_store_tables.specs.Coding.{AreApart, HasBallot, HasGame, IsSeatOf, same_seat}
-use Rattle.dip_store_tables.specs.Counting.{AreCounted, counted, item_numbers}
-use Rattle.dip_store_tables.specs.Legible.{AreLegible, IsDeskLegible, IsSeatLegible}
+use Rattle.dip_desk_state.specs.Records.{No, Yes}
+use Rattle.dip_store_tables.specs.Coding.{HasBallot, HasGame, IsSeatOf, same_seat}
+use Rattle.dip_store_tables.specs.Counting.{counted, item_numbers}
+use Rattle.dip_store_tables.specs.Legible.{IsDeskLegible, IsSeatLegible}
 use Rattle.dip_store_tables.specs.Boards.{board_of}
 use Rattle.dip_store_tables.specs.Reading.{desk_of, game_of, intent_in, items_of, own_of, papers_of, part_of, public_of}
-use Rattle.dip_store_tables.specs.Tables.{BallotRow, DeskRow, GameRow, SeatRow, Tables, is_ballot, is_centre_in, is_choice_in, is_seat, is_seat_in, is_unit_in}
+use Rattle.dip_store_tables.specs.Tables.{DeskRow, GameRow, SeatRow, Tables, is_ballot, is_centre_in, is_choice_in, is_seat, is_seat_in, is_unit_in}
 use Rattle.dip_store_tables.specs.Votes.{IsBallotText, vote_in, vote_of, vote_on}
 use Rattle.dip_store_tables.specs.Written.{IsDeskWritten, IsGameWritten, IsSeatWritten}
-use Rattle.dip_store_tables.specs.Renewing.{IsRenewed, OldTablesAreRenewed, WasGameWritten, WasSeatWritten, WereOurs, old_ballot, old_choice, old_game_of, old_part_of, old_vote, renewed, second, voteless}
+use Rattle.dip_store_tables.specs.Renewing.{OldTablesAreRenewed, WasGameWritten, WasSeatWritten, old_ballot, old_choice, old_game_of, old_part_of, old_vote, renewed, second, voteless}
 
 -- where no two seats agree on their key, each is found by its own
 abbrev IsFound : List SeatRow → SeatRow → Type 0

@@ -78,10 +78,10 @@ module _ (m : Chart) where
     where
       of_game : (g : GameRow) → g.name ≡ name → row ≡ show_game g → shown_public m name row units centres choice ≡ public_of m t.units t.centres t.choices g
       of_game g named is =
-          let all = λ i. shown_public m name (show_game g) (us i) (cs i) (chosen i) in
           let mine_units = filter (is_unit_in name) t.units in
           let mine_centres = filter (is_centre_in name) t.centres in
           let mine_choice = find (is_choice_in name) t.choices in
+          let all = ap₂ (λ u c. shown_public m name (show_game g) u c choice) us cs ∙ ap (shown_public m name (show_game g) (map show_unit mine_units) (map show_centre mine_centres)) chosen in
           let board = board_shown mine_units mine_centres g.standoff g.year g.phase (shown_intent (option_map show_choice mine_choice)) ∙ ap (board_of m mine_units mine_centres g.standoff g.year g.phase) (intent_shown mine_choice) in
           let mine = ap (λ b. record (public_of m t.units t.centres t.choices g) { game = name; board = b }) board in
           let other = ap (λ n. record (public_of m t.units t.centres t.choices g) { game = n; board = board_of m (filter (is_unit_in n) t.units) (filter (is_centre_in n) t.centres) g.standoff g.year g.phase (intent_in t.choices n) }) (sym named) in

@@ -8,13 +8,14 @@ def spot(code, coast):
 
 class Board:
     """Standing units by province: power, kind, coast. Dislodged ones: these, and where the attacker came from, or None. A phase is a year and a
-    season: 0 to 4 for the movements and retreats of spring and fall, and winter."""
+    season: 0 to 4 for the movements and retreats of spring and fall, and winter. The option INTENT is on or off for the whole game."""
 
-    def __init__(self, chart):
+    def __init__(self, chart, intent=False):
         self.units = {code: (power, kind, coast) for power in chart.powers for kind, code, coast in chart.opening[power]}
         self.dislodged, self.standoff = {}, set()
         self.owner = {code: power for power in chart.powers for code in chart.home[power]}
         self.year, self.season = 1901, 0
+        self.intent = intent
 
     def phase(self):
         return "SSFFW"[self.season] + str(self.year) + "MRMRA"[self.season]

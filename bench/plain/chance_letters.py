@@ -7,13 +7,16 @@ LINES = ["A", "A par", "- -", "A par - - bur", "A par S", "F nth C F lon - bel",
 PIECES = [b"END\n", b"LETTER\nGAME g1\nEND\n", b"x\nEND\n", b"\n\n", b"\nLETTER\n\nEND\n"]
 QUIET = ["SHOW\n", "SHOW\n", "WITHDRAW\n", "VOTE YES\n", "VOTE NO\n", "INBOX 1\n", "INBOX 2\n", "INBOX 11\n", "INBOX 999999\n"]
 MASTERS = ["PAUSE\n", "RESUME\n", "RESUME\n", "PERIOD 1\n", "PERIOD 999999\n", "ANNOUNCE\n> Words.\n>  \n", "TICK 0\n", "SHOW\n", "INBOX 1\n", "CREATE DUE 1 PERIOD 1 GREY NO\nSEAT spain ssssssss\n"]
+MASTERS += [f"CREATE DUE 1 PERIOD 1 GREY {it}\nSEAT spain ssssssss\n" for it in ("YES INTENT YES", "NO INTENT MAYBE", "YES INTENT", "NO INTENT YES INTENT NO")]
+# What CREATE says of the option INTENT.
+INTENTS = ["", " INTENT NO", " INTENT YES", " INTENT YES"]
 
 
 class Players:
-    """The letters of a master and of all powers in some games."""
+    """The letters of a master and of all powers in some games, which CREATE opens with one of these words on the option INTENT."""
 
-    def __init__(self, chart, dice):
-        self.chart, self.dice, self.desk = chart, dice, Desk(chart, MASTER)
+    def __init__(self, chart, dice, intents=INTENTS):
+        self.chart, self.dice, self.desk, self.intents = chart, dice, Desk(chart, MASTER), intents
         self.sent, self.numbers, self.secrets, self.last = [], {}, {}, PIECES[0]
 
     def happens(self, part):
@@ -43,7 +46,8 @@ class Players:
         powers = self.dice.sample(self.chart.powers, len(self.chart.powers))
         seats = "".join(f"SEAT {power} {self.secret(game, power)}\n" for power in powers)
         due = self.dice.choice([0, 5, 100]) if due is None else due
-        self.write(game, "master", f"CREATE DUE {due} PERIOD {self.dice.choice([1, 100, 999999])} GREY {self.dice.choice(['YES', 'NO'])}\n{seats}")
+        chosen = f"GREY {self.dice.choice(['YES', 'NO'])}{self.dice.choice(self.intents)}"
+        self.write(game, "master", f"CREATE DUE {due} PERIOD {self.dice.choice([1, 100, 999999])} {chosen}\n{seats}")
 
     def spelled(self, line):
         """An order line with other spaces and letters, as players write."""
@@ -99,6 +103,21 @@ class Players:
         armies, shores = [it for it in reach if units.get(it, "  ")[1] == "A"], [it for it in reach if chart.kind[it] == "coast"]
         return f"{me} C A {dice.choice(armies)} - {dice.choice(shores)}" if armies and shores else None
 
+    def carried_lines(self, game, power):
+        """An army's move along a coast, and the convoy of it by a fleet of the same power; nothing where there is none."""
+        chart, units = self.chart, game.board.units
+        own = [code for code, unit in units.items() if unit[0] == power]
+        fleets = [code for code in own if chart.kind[code] == "sea"]
+        armies = [code for code in own if units[code][1] == "A" and chart.kind[code] == "coast"]
+        goals = [(code, to, by) for code in armies for to in chart.army[code] if chart.kind[to] == "coast" for by in fleets if self.joins(by, code, to)]
+        if not goals:
+            return []
+        code, to, by = self.dice.choice(goals)
+        return [f"A {code} - {to}", f"F {by} C A {code} - {to}"]
+
+    def joins(self, sea, one, other):
+        return self.chart.could_move("F", sea, "", one) and self.chart.could_move("F", sea, "", other)
+
     def retreat_line(self, game, power):
         board = game.board
         if not board.dislodged:
@@ -125,7 +144,9 @@ class Players:
         else:
             lines = [self.retreat_line(game, power) if phase == "R" else self.winter_line(game, power) for _ in range(self.dice.randint(1, 4))]
         lines += [self.dice.choice(LINES)] if self.happens(0.1) or not lines else []
-        return "ORDERS\n" + "".join(f"{self.spelled(line)}\n" for line in self.dice.sample(lines, len(lines))[:64])
+        lines = self.dice.sample(lines, len(lines))[:60]
+        lines += self.carried_lines(game, power) if phase == "M" and self.happens(0.3) else []
+        return "ORDERS\n" + "".join(f"{self.spelled(line)}\n" for line in lines)
 
     def press(self, power):
         others = [it for it in self.chart.powers if it != power] or ["spain"]

@@ -61,7 +61,7 @@ def create_in(found, lines):
     due, period = count_in(found[1], 0, MOST_TICK), count_in(found[2], 1, 999_999)
     seats = [re.fullmatch(f"SEAT ({NAME}) ({SECRET})", line) for line in lines]
     fits = due is not None and period is not None and 1 <= len(seats) <= 7 and all(seats)
-    return ("create", due, period, found[3] == "YES", [it.groups() for it in seats]) if fits else None
+    return ("create", due, period, found[3] == "YES", found[4] == "YES", [it.groups() for it in seats]) if fits else None
 
 
 def count_command(name, least, most):
@@ -82,7 +82,7 @@ COMMANDS = [
     (rf"PRESS (WHITE|GREY) TO ({NAME}(?: {NAME})*)", press_in),
     (rf"VOTE (YES|NO|FOR {NAME}(?: {NAME})*)", vote_in),
     (r"INBOX ([0-9]+)", count_command("inbox", 1, 999_999)),
-    (r"CREATE DUE ([0-9]+) PERIOD ([0-9]+) GREY (YES|NO)", create_in),
+    (r"CREATE DUE ([0-9]+) PERIOD ([0-9]+) GREY (YES|NO)(?: INTENT (YES|NO))?", create_in),
     (r"TICK ([0-9]+)", count_command("tick", 0, MOST_TICK)),
     (rf"REPLACE ({NAME}) ({SECRET})", lambda found, lines: None if lines else ("replace", found[1], found[2])),
     (r"PERIOD ([0-9]+)", count_command("period", 1, 999_999)),
@@ -131,17 +131,17 @@ class Author:
 
 
 class Game:
-    def __init__(self, chart, name, due, period, grey, seats):
+    def __init__(self, chart, name, due, period, grey, intent, seats):
         self.chart, self.name, self.due, self.period, self.grey = chart, name, due, period, grey
-        self.board, self.status, self.papers = Board(chart), "running", []
+        self.board, self.status, self.papers = Board(chart, intent), "running", []
         self.seats = {power: Author(digest(name, power, secret)) for power, secret in seats}
 
     def is_over(self):
         return self.status not in ("running", "paused")
 
     def line(self):
-        grey = "YES" if self.grey else "NO"
-        return f"GAME {self.name} {self.board.phase()} {self.status} DUE {self.due} PERIOD {self.period} GREY {grey} PAPERS {len(self.papers)}"
+        chosen = f"GREY {'YES' if self.grey else 'NO'}{' INTENT YES' if self.board.intent else ''}"
+        return f"GAME {self.name} {self.board.phase()} {self.status} DUE {self.due} PERIOD {self.period} {chosen} PAPERS {len(self.papers)}"
 
     def publish(self, title, lines=()):
         """Adds a paper, and gives the line of the reply."""
@@ -217,7 +217,7 @@ class Desk:
             names = command[2]
             return names != ["all"] and (len(set(names)) < len(names) or not set(names) <= set(powers) - {sender})
         if kind == "create":
-            return sorted(power for power, _ in command[4]) != powers
+            return sorted(power for power, _ in command[-1]) != powers
         if kind == "vote":
             names = command[1][1:]
             return len(set(names)) < len(names) or not set(names) <= set(powers)

@@ -8,7 +8,7 @@ class Movement:
     def __init__(self, chart, board, orders):
         self.chart, self.board = chart, board
         self.move = {code: it["to"] for code, it in orders.items() if it["do"] == "move"}
-        self.by_sea = {code for code, to in self.move.items() if orders[code]["kind"] == "A" and (orders[code]["via"] or to not in chart.army[code])}
+        self.by_sea = {code for code, to in self.move.items() if orders[code]["kind"] == "A" and self.goes_by_sea(orders, code, to)}
         self.into = {}
         for code, to in self.move.items():
             self.into.setdefault(to, []).append(code)
@@ -19,6 +19,13 @@ class Movement:
         self.carriers = {code: self.fleets_for(orders, code) for code in self.by_sea}
         self.decisions = [*(("M", it) for it in self.move), *(("P", it) for it in self.by_sea), *(("G", it) for it in self.given)]
         self.known, self.broken = {}, set()
+
+    def goes_by_sea(self, orders, code, to):
+        """Whether an army goes by convoy: where VIA says so, where it can't walk, and with INTENT where a fleet of its own power is to carry it."""
+        if orders[code]["via"] or to not in self.chart.army[code]:
+            return True
+        spans_water = self.chart.kind[code] == self.chart.kind[to] == "coast"
+        return self.board.intent and spans_water and any(self.power(it) == self.power(code) for it in self.fleets_for(orders, code))
 
     def matches(self, it):
         """Whether a support counts: of a move where the unit has that move, to hold where it has none."""

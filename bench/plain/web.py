@@ -72,8 +72,8 @@ def refusal(status, has_body=True, allow=None):
 def shown(game):
     """The public part of a game as it is answered."""
     board = game.board.lines(game.chart)
-    keys = {"board": board, "due": game.due, "game": game.name, "grey": game.grey, "papers": len(game.papers), "period": game.period}
-    return json.dumps({**keys, "phase": game.board.phase(), "status": game.status}, separators=(",", ":"))
+    keys = {"board": board, "due": game.due, "game": game.name, "grey": game.grey, "intent": game.board.intent, "papers": len(game.papers)}
+    return json.dumps({**keys, "period": game.period, "phase": game.board.phase(), "status": game.status}, separators=(",", ":"))
 
 
 def posted(desk, head, data):

@@ -17,6 +17,8 @@ use Rattle.dip_decide_table.specs.declared.decisions.Resolution.{Resolution}
 use Rattle.dip_decide_table.specs.Deciding as Deciding
 use Rattle.dip_decide_table.specs.Deciding.Step.{Forced as Forces, Circle as Circles, Knot as Knots}
 use Rattle.dip_decide_table.specs.Matching.{order_at, provinces_of, supports_in, situation}
+use Rattle.dip_decide_table.specs.Meaning.{meant_on, situation_on}
+use Rattle.dip_decide_table.proofs.Meanings.{meant_in_force, meant_units}
 use Rattle.dip_decide_table.proofs.TableLaws.{none_behind}
 use Rattle.dip_decide_table.proofs.FromSteps.{known_unbroken, satisfied, knot_open}
 use Rattle.dip_decide_table.proofs.Continuing.{give_grows}
@@ -251,10 +253,16 @@ resolved s i m behind steps k tests c r l =
       ordered = ordered s i m behind steps k tests c r l;
     }
 
--- of the orders of a board
-pub resolved_board : (m : Chart) (b : Position) (orders : List PlacedOrder) → IsOf m b → units_of orders ≡ b.units → are_in_force orders ≡ true → (steps : List Written.Step) (k : Known) (tests : ℕ) (t : Situation) → t ≡ situation m orders → IsComplete t (steps_of steps) k → (r : Resolution) → IsListing steps k tests m r → IsResolved (situation m orders) r
+-- the orders of a board as they are meant on it are a situation
+pub situated_on : (m : Chart) (b : Position) (orders : List PlacedOrder) → IsOf m b → units_of orders ≡ b.units → are_in_force orders ≡ true → IsSituation (situation_on m b orders)
+situated_on m b orders o u f =
+    let own : units_of (meant_on m b orders) ≡ b.units = meant_units m b orders ∙ u in
+    situated m (meant_on m b orders) (meant_in_force m b orders ∙ f) (rw own o.apart)
+
+-- and what is resolved of them
+pub resolved_board : (m : Chart) (b : Position) (orders : List PlacedOrder) → IsOf m b → units_of orders ≡ b.units → are_in_force orders ≡ true → (steps : List Written.Step) (k : Known) (tests : ℕ) (t : Situation) → t ≡ situation_on m b orders → IsComplete t (steps_of steps) k → (r : Resolution) → IsListing steps k tests m r → IsResolved (situation_on m b orders) r
 resolved_board m b orders o u f steps k tests t e c r l =
-    resolved (situation m orders) (situated m orders f (rw u o.apart)) m (behind_all m orders (within m b orders o u)) steps k tests (subst (λ (x : Situation). IsComplete x (steps_of steps) k) e c) r l
+    resolved (situation_on m b orders) (situated_on m b orders o u f) m (behind_all m (meant_on m b orders) (within m b (meant_on m b orders) o (meant_units m b orders ∙ u))) steps k tests (subst (λ (x : Situation). IsComplete x (steps_of steps) k) e c) r l
 
 -- the units of a board stand in provinces of a map, so that there are few
 
@@ -295,9 +303,12 @@ places_below : (orders : List PlacedOrder) (n : ℕ) → AllByRecursion (λ o. o
 places_below [] n a = tt
 places_below (o ∷ orders) n a = (a.0, places_below orders n a.1)
 
-pub bounded_board : (m : Chart) (b : Position) (orders : List PlacedOrder) → IsOf m b → units_of orders ≡ b.units → are_in_force orders ≡ true → length m.provinces ≤ 200 → decided_in (situation m orders) + mentions_in (situation m orders) < 2 ^ 64
-bounded_board m b orders o u f h =
+bounded_by : (m : Chart) (b : Position) (orders : List PlacedOrder) → IsOf m b → units_of orders ≡ b.units → are_in_force orders ≡ true → length m.provinces ≤ 200 → decided_in (situation m orders) + mentions_in (situation m orders) < 2 ^ 64
+bounded_by m b orders o u f h =
     let i = situated m orders f (rw u o.apart) in
     let l = few_places (provinces_of orders) (length m.provinces) i.distinct (places_below orders (length m.provinces) (recursion_from_All _ _ (within m b orders o u))) in
     let d = bounded (situation m orders) (let r : length (provinces_of orders) ≤ 200 = omega arith in r) in
     omega arith
+
+pub bounded_board : (m : Chart) (b : Position) (orders : List PlacedOrder) → IsOf m b → units_of orders ≡ b.units → are_in_force orders ≡ true → length m.provinces ≤ 200 → decided_in (situation_on m b orders) + mentions_in (situation_on m b orders) < 2 ^ 64
+bounded_board m b orders o u f h = bounded_by m b (meant_on m b orders) o (meant_units m b orders ∙ u) (meant_in_force m b orders ∙ f) h

@@ -10,6 +10,7 @@ use Rattle.dip_decide_table.specs.Deciding.{Assignment, Known, Step, IsForced, I
 use Rattle.dip_decide_table.specs.Corners.{rises, corner}
 use Rattle.dip_decide_table.specs.Laws.{AreOrders, IsCycle, IsChain, is_undisturbed}
 use Rattle.dip_decide_table.specs.Matching.{situation}
+use Rattle.dip_decide_table.specs.Meaning.{meant_on}
 use Rattle.dip_decide_table.specs.Movement.{Situation, IsSituation, Satisfies, OneEnters, NoneDislodgesItsOwn, NoneSwaps, goes, is_listed, joins, rule, mentions}
 use Rattle.dip_decide_table.specs.Results.{AreExplained}
 use Rattle.dip_decide_table.specs.Steps.{IsStarted, NoneForced}
@@ -18,6 +19,15 @@ use Rattle.dip_decide_table.specs.Steps.{IsStarted, NoneForced}
 abbrev pub BoardsAreSituations : Type 0
 BoardsAreSituations =
     (m : Chart) (b : Position) (orders : List PlacedOrder) → AreOrders m b orders → IsSituation (situation m orders)
+
+-- the orders of a board as they are meant on it are one for each unit, each in force
+abbrev pub MeantAreOrders : Type 0
+MeantAreOrders =
+    (m : Chart) (b : Position) (orders : List PlacedOrder) → AreOrders m b orders → AreOrders m b (meant_on m b orders)
+
+-- with the option off they are the orders as they were given
+abbrev pub MeantAsGiven : Type 0
+MeantAsGiven = (m : Chart) (b : Position) (orders : List PlacedOrder) → b.intent ≡ false → meant_on m b orders ≡ orders
 
 -- at most one move enters a province
 abbrev pub OneMoveEnters : Type 0

@@ -1,9 +1,16 @@
 //! Laws of movement, each the contract of a function that does nothing.
-ghost use Rattle.dip_decide.specs.Statements.{BoardsAreSituations, OneMoveEnters, NoneIsDislodgedByItsOwn, HeadToHeadOneFails, ExplainedSatisfies, CyclesSucceed, UndisturbedConvoysHold, ValuesAreOne, BrokenPathsAreOne, CornersDecide, ChainsAreFound, KnotsAreFound, KnotsAreAllOpenPaths, StepsCommute};
+ghost use Rattle.dip_decide.specs.Statements.{BoardsAreSituations, MeantAreOrders, MeantAsGiven, OneMoveEnters, NoneIsDislodgedByItsOwn, HeadToHeadOneFails, ExplainedSatisfies, CyclesSucceed, UndisturbedConvoysHold, ValuesAreOne, BrokenPathsAreOne, CornersDecide, ChainsAreFound, KnotsAreFound, KnotsAreAllOpenPaths, StepsCommute};
 
 /// Each board with one order for each unit is a situation as the laws of movement ask for it.
 pub fn boards_are_situations()
     ensures { BoardsAreSituations }
+{}
+
+/// The orders of a board as they are meant on it are one for each unit too, so that what they come to is of that board; with the option
+/// INTENT off they are the orders as they were given.
+pub fn orders_are_meant()
+    ensures orders { MeantAreOrders }
+    ensures plainly { MeantAsGiven }
 {}
 
 /// From the decision equations alone, whatever is broken: at most one move enters a province, no power dislodges its own unit,

@@ -31,7 +31,7 @@ use Rattle.dip_decide_laws.proofs.PlayLemmas.{single}
 
 -- lists
 
-passes : {A : Type 0} (t : A → Bool) (xs : List A) (x : A) → Contains xs x → t x ≡ true → list_any t xs ≡ true
+pub passes : {A : Type 0} (t : A → Bool) (xs : List A) (x : A) → Contains xs x → t x ≡ true → list_any t xs ≡ true
 passes t [] x (k, low, is) h = absurd (omega arith)
 passes t (y ∷ xs) x c h = go (first_or_other y xs x c) (λ d. passes t xs x d h)
   where
@@ -65,11 +65,11 @@ next_at_sea m p q h =
 
 -- kinds
 
-a_fleet : (k : Kind) → is_kind k Fleet ≡ true → k ≡ Fleet
+pub a_fleet : (k : Kind) → is_kind k Fleet ≡ true → k ≡ Fleet
 a_fleet Army h = absurd (both_ways false refl h)
 a_fleet Fleet h = refl
 
-a_sea : (t : Terrain) → is_sea t ≡ true → t ≡ Sea
+pub a_sea : (t : Terrain) → is_sea t ≡ true → t ≡ Sea
 a_sea Inland h = absurd (both_ways false refl h)
 a_sea Coast h = absurd (both_ways false refl h)
 a_sea Sea h = refl

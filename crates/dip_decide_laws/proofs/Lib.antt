@@ -3,6 +3,7 @@ pub mod OrderLemmas
 pub mod EquationLemmas
 pub mod PlayLemmas
 pub mod ConvoyLemmas
+pub mod MeaningLemmas
 pub mod HoldLemmas
 pub mod UnmatchedLemmas
 pub mod SilentLemmas

@@ -1,6 +1,6 @@
 -- The laws of movement in a player's words, as statements.
-use Rattle.std.specs.Prelude.{◌≡◌, ◌≢◌, ℕ, ◌<◌, ◌≤◌, ◌↔◌, true, false, Contains, List, [], ◌∷◌, length}
-use Rattle.dip_names.specs.declared.names.Kind.TheVariants.{Fleet}
+use Rattle.std.specs.Prelude.{◌≡◌, ◌≢◌, ℕ, ◌<◌, ◌≤◌, ◌↔◌, Bool, true, false, Contains, List, [], ◌∷◌, length}
+use Rattle.dip_names.specs.declared.names.Kind.TheVariants.{Army, Fleet}
 use Rattle.dip_names.specs.declared.names.Place.{Place}
 use Rattle.dip_names.specs.declared.names.Terrain.TheVariants.{Sea}
 use Rattle.dip_map.specs.Charts.{Chart, is_fleet_next, province}
@@ -11,15 +11,55 @@ use Rattle.dip_orders.specs.declared.placed.PlacedOrder.{PlacedOrder}
 use Rattle.dip_decide.specs.Decision.TheVariants.{Move as Moves, Path as Paths}
 use Rattle.dip_decide.specs.Deciding.{Assignment, Step}
 use Rattle.dip_decide.specs.Laws.{AreOrders}
-use Rattle.dip_decide.specs.Matching.{situation}
+use Rattle.dip_decide.specs.Meaning.{are_coastal, meant_of, meant_on, situation_on}
 use Rattle.dip_decide.specs.Results.{AreExplained}
-use Rattle.dip_decide_laws.specs.Words.{IsDecided, prov, moves, goes_to, goes_itself, are_head_to_head, names, helps, is_support_into, has_moved, has_helped, was_carried, HasWay, has_entered, was_dislodged_by, WasDislodged, helpers, helpers_but, holding, is_a_support, is_in, is_in_or_stays}
+use Rattle.dip_decide_laws.specs.Words.{IsDecided, is_a_convoy, prov, moves, goes_to, goes_itself, are_head_to_head, names, helps, is_support_into, has_moved, has_helped, was_carried, HasWay, has_entered, was_dislodged_by, WasDislodged, helpers, helpers_but, holding, is_a_support, is_in, is_in_or_stays}
 
--- what steps explain is a movement that was decided
+-- what steps explain is a movement that was decided, of the orders as they are meant
 abbrev pub ExplainedIsDecided : Type 0
 ExplainedIsDecided =
     (m : Chart) (b : Position) (orders : List PlacedOrder) (steps : List Step) (a : Assignment)
-    → AreOrders m b orders → AreExplained (situation m orders) steps a → IsDecided m b orders a
+    → AreOrders m b orders → AreExplained (situation_on m b orders) steps a → IsDecided m b (meant_on m b orders) a
+
+-- a fleet of an army's own power in a sea, ordered to convoy that army to that province
+pub record IsOwnCarrier (m : Chart) (orders : List PlacedOrder) (o : PlacedOrder) (q : ℕ) (x : PlacedOrder) : Type 0 where
+  pub ordered : Contains orders x
+  pub own : x.unit.power ≡ o.unit.power
+  pub fleet : x.unit.kind ≡ Fleet
+  pub at_sea : (province m (prov x)).terrain ≡ Sea
+  pub at : Other
+  pub named : names at o ≡ true
+  pub convoys : x.order ≡ Convoy at q
+
+-- a unit that would walk is meant to go by convoy: an army between two coastal provinces, which a fleet of its own power is to carry
+pub record IsCarriedByOwn (m : Chart) (orders : List PlacedOrder) (o : PlacedOrder) (q : ℕ) : Type 0 where
+  pub army : o.unit.kind ≡ Army
+  pub coasts : are_coastal m (prov o) q ≡ true
+  pub carrier : PlacedOrder
+  pub carries : IsOwnCarrier m orders o q carrier
+
+-- with the option INTENT a unit that would go by itself goes by convoy exactly where a fleet of its own power is to carry it
+abbrev pub OwnFleetsCarry : Type 0
+OwnFleetsCarry =
+    (m : Chart) (orders : List PlacedOrder) (o : PlacedOrder) (q : ℕ) → goes_to o q ≡ true → goes_itself m o ≡ true
+    → (goes_itself m (meant_of m orders o) ≡ false) ↔ IsCarriedByOwn m orders o q
+
+-- whatever the option, units and where they are sent to stay, and so do all orders but moves
+pub record MeansTheSame (o meant : PlacedOrder) : Type 0 where
+  pub unit : meant.unit ≡ o.unit
+  pub goes : (q : ℕ) → goes_to meant q ≡ goes_to o q
+  pub others : moves o ≡ false → meant ≡ o
+
+abbrev pub MeaningKeepsOrders : Type 0
+MeaningKeepsOrders = (m : Chart) (orders : List PlacedOrder) (o : PlacedOrder) → MeansTheSame o (meant_of m orders o)
+
+-- that units hold which aren't ordered to convoy leaves what the others mean
+abbrev pub HoldingKeepsMeaning : Type 0
+HoldingKeepsMeaning =
+    (m : Chart) (b : Position) (orders : List PlacedOrder) (test : PlacedOrder → Bool)
+    → ((o : PlacedOrder) → test (meant_of m orders o) ≡ test o)
+    → ((o : PlacedOrder) → Contains orders o → test o ≡ true → is_a_convoy o.order ≡ false)
+    → meant_on m b (holding test orders) ≡ holding test (meant_on m b orders)
 
 -- the support of a dislodged unit isn't given
 abbrev pub DislodgedGiveNoSupport : Type 0

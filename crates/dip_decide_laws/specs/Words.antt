@@ -1,4 +1,4 @@
--- A movement in a player's words: units with their orders, and what came of them.
+-- A movement in a player's words: units with their orders as they are meant on the board, and what came of them.
 use Rattle.std.specs.Prelude.{◌≡◌, ◌⊎◌, ℕ, ◌==◌, ◌&&◌, ◌||◌, not, Bool, true, false, Contains, List, map, count_by, if◌then◌else◌}
 use Rattle.dip_names.specs.declared.names.Kind.{Kind}
 use Rattle.dip_names.specs.declared.names.Kind.TheVariants.{Army, Fleet}
@@ -7,7 +7,7 @@ use Rattle.dip_map.specs.Charts.{Chart, is_army_next}
 use Rattle.dip_map.specs.Boards.{Position}
 use Rattle.dip_orders.specs.declared.placed.Other.{Other}
 use Rattle.dip_orders.specs.declared.placed.Order.{Order}
-use Rattle.dip_orders.specs.declared.placed.Order.TheVariants.{Hold, Move, SupportHold, SupportMove}
+use Rattle.dip_orders.specs.declared.placed.Order.TheVariants.{Hold, Move, SupportHold, SupportMove, Convoy}
 use Rattle.dip_orders.specs.declared.placed.PlacedOrder.{PlacedOrder}
 use Rattle.dip_decide.specs.Decision.{Decision}
 use Rattle.dip_decide.specs.Decision.TheVariants.{Move as Moves, Path as Paths, Support as Supports}
@@ -16,7 +16,7 @@ use Rattle.dip_decide.specs.Laws.{AreOrders}
 use Rattle.dip_decide.specs.Matching.{situation}
 use Rattle.dip_decide.specs.Movement.{Satisfies}
 
--- a movement that was decided: a board of a map, an order in force for each unit of it, and what came of them by the decision
+-- a movement that was decided: a board of a map, an order in force for each unit of it as it is meant, and what came of them by the decision
 -- equations, where nothing was broken but paths
 pub record IsDecided (m : Chart) (b : Position) (orders : List PlacedOrder) (a : Assignment) : Type 0 where
   pub standing : AreOrders m b orders
@@ -127,6 +127,11 @@ abbrev pub is_a_support : Order → Bool
 is_a_support (SupportHold at) = true
 is_a_support (SupportMove at to) = true
 is_a_support _ = false
+
+-- the order is a convoy, of whatever it names
+abbrev pub is_a_convoy : Order → Bool
+is_a_convoy (Convoy at to) = true
+is_a_convoy _ = false
 
 -- the unit stands in that province
 abbrev pub is_in : ℕ → PlacedOrder → Bool

@@ -1,14 +1,26 @@
 //! Laws of movement, each the contract of a function that does nothing.
-ghost use Rattle.dip_decide_laws.specs.Laws.{DislodgedByOthersAlone, DislodgedFleetsCarryNobody, DislodgedGiveNoSupport, EnterersAreStrongest, ExplainedIsDecided, OverpoweredAreDislodged, LosersPreventNobody, NoPowerCutsItsOwn, PathlessChangesNothing, StrongestEnter, UnitsWithoutMovesStay, UnmatchedChangesNothing, UnmatchedIsVoid};
+ghost use Rattle.dip_decide_laws.specs.Laws.{DislodgedByOthersAlone, DislodgedFleetsCarryNobody, DislodgedGiveNoSupport, EnterersAreStrongest, ExplainedIsDecided, HoldingKeepsMeaning, MeaningKeepsOrders, OverpoweredAreDislodged, OwnFleetsCarry, LosersPreventNobody, NoPowerCutsItsOwn, PathlessChangesNothing, StrongestEnter, UnitsWithoutMovesStay, UnmatchedChangesNothing, UnmatchedIsVoid};
 
-use dip_decide::{boards_are_situations, chains_are_found, explained_is_lawful};
+use dip_decide::{boards_are_situations, chains_are_found, explained_is_lawful, orders_are_meant};
 
-/// Each movement whose values steps explain, so each that is published, is one of which the laws below speak. A law: it does nothing.
+/// Each movement whose values steps explain, so each that is published, is one of which the laws below speak: of its orders as they are
+/// meant on the board. A law: it does nothing.
 pub fn explained_is_decided()
     ensures { ExplainedIsDecided }
 {
     explained_is_lawful();
+    orders_are_meant();
 }
+
+/// What the option INTENT means: a unit that would go by itself goes by convoy exactly where it is an army between two coastal provinces and
+/// a fleet of its own power in a sea is ordered to convoy that very move. Units stay, and where they are sent to, and all orders but moves;
+/// and what an order means stays where others hold that aren't ordered to convoy. So what the laws below say of supports, and of a
+/// unit that holds in place of a support or of a move without a path, is said of the orders as they were given too. A law: it does nothing.
+pub fn own_fleets_carry()
+    ensures carried { OwnFleetsCarry }
+    ensures kept { MeaningKeepsOrders }
+    ensures held { HoldingKeepsMeaning }
+{}
 
 /// A dislodged unit gives no support. A law: it does nothing.
 pub fn dislodged_give_no_support()

@@ -18,4 +18,5 @@ pub mod Mentioners
 pub mod Backing
 pub mod Among
 pub mod Columns
+pub mod Meanings
 mod Standing

@@ -11,6 +11,7 @@ pub mod WinnerLemmas
 pub mod SingleLemmas
 pub mod PlaceLemmas
 pub mod MapLemmas
+pub mod IntentLemmas
 pub mod CountLemmas
 pub mod DisorderCounts
 pub mod WinterLemmas

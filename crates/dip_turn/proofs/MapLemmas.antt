@@ -5,6 +5,7 @@ use Rattle.std.proofs.lemmas.List.Elements.{All-append, All-contains, All-filter
 use Rattle.std.specs.Prelude.{All, option_map}
 use Rattle.std.specs.List.{filter_map, list_any}
 use Rattle.std.specs.Option.{unwrap_or}
+use Rattle.dip_names.specs.declared.names.Place.{Place}
 use Rattle.dip_names.specs.declared.names.Unit.{Unit as AUnit}
 use Rattle.dip_map.specs.Charts.{Chart, IsMap, are_units_single, home, is_centre, is_home, is_unit, may_stand}
 use Rattle.dip_map.specs.declared.boards.Dislodged.{Dislodged}
@@ -25,8 +26,9 @@ use Rattle.dip_orders.proofs.StandingLaws.{same_unit}
 use Rattle.dip_decide.specs.Deciding.{Assignment, Step, is_broken}
 use Rattle.dip_decide.specs.Laws.{AreOrders}
 use Rattle.dip_decide.specs.Matching.{is_convoyed, situation}
+use Rattle.dip_decide.specs.Meaning.{meant, meant_of, meant_on, meant_order, situation_on}
 use Rattle.dip_decide.specs.Results.{AreExplained, values_in}
-use Rattle.dip_decide.specs.Statements.{ExplainedSatisfies}
+use Rattle.dip_decide.specs.Statements.{ExplainedSatisfies, MeantAreOrders}
 use Rattle.dip_decide.specs.Steps.{steps_of}
 use Rattle.dip_turn.specs.Adjusting.{after_adjustment, disorder, is_among, is_given, units_built, units_kept, units_staying}
 use Rattle.dip_turn.specs.Centres.{holder, owner_by, owners_after, winner, with_owners}
@@ -73,36 +75,78 @@ either_unit m true u v one two = one
 either_unit m false u v one two = two
 
 -- whose order stands is a unit of the board
-ordered_unit : (m : Chart) (b : Position) (pending : List PlacedOrder) (o : PlacedOrder) → IsOf m b → Contains (standing_orders b pending) o → is_unit m o.unit ≡ true
-ordered_unit m b pending o of among =
+given_unit : (m : Chart) (b : Position) (pending : List PlacedOrder) (o : PlacedOrder) → IsOf m b → Contains (standing_orders b pending) o → is_unit m o.unit ≡ true
+given_unit m b pending o of among =
     let (u, there, is) = made_from (order_among pending) b.units o among in
     subst (λ (x : PlacedOrder). is_unit m x.unit ≡ true) is (All-contains (λ v. is_unit m v ≡ true) b.units u of.units there)
 
-moved_unit : (m : Chart) (b : Position) (pending : List PlacedOrder) (a : Assignment) (o : PlacedOrder) → IsMap m → IsOf m b → AreEachLawful m b pending → Contains (standing_orders b pending) o
+given_moved : (m : Chart) (b : Position) (pending : List PlacedOrder) (a : Assignment) (o : PlacedOrder) → IsMap m → IsOf m b → AreEachLawful m b pending → Contains (standing_orders b pending) o
     → is_unit m (unit_after a o) ≡ true
-moved_unit m b pending a o ok of lawful among =
+given_moved m b pending a o ok of lawful among =
     let (u, there, is) = made_from (order_among pending) b.units o among in
     let on : is_unit m u ≡ true = All-contains (λ v. is_unit m v ≡ true) b.units u of.units there in
     subst (λ (x : PlacedOrder). is_unit m (unit_after a x) ≡ true) is
     (either_unit m (has_moved a (order_among pending u)) (at_destination (order_among pending u)) u (led_by m b pending u (found_order pending u) ok lawful on refl) on)
 
+-- what an order means is of its unit, and leads it to the same place
+record IsAsGiven (x o : PlacedOrder) : Type 0 where
+  unit : o.unit ≡ x.unit
+  leads : at_destination o ≡ at_destination x
+
+led_still : (m : Chart) (all : List PlacedOrder) (u : AUnit) (a : Place) (order : Order) → leads_to a (meant_order m all u order) ≡ leads_to a order
+led_still m all u a Hold = refl
+led_still m all u a (Move to via) = refl
+led_still m all u a (SupportHold at) = refl
+led_still m all u a (SupportMove at to) = refl
+led_still m all u a (Convoy at to) = refl
+led_still m all u a (Retreat to) = refl
+led_still m all u a Disband = refl
+led_still m all u a Build = refl
+led_still m all u a Remove = refl
+
+as_given : (m : Chart) (intent : Bool) (orders : List PlacedOrder) (o : PlacedOrder) → Contains (meant m intent orders) o → (x : PlacedOrder) × Contains orders x × IsAsGiven x o
+as_given m true orders o among =
+    let (x, there, is) = made_from (meant_of m orders) orders o among in
+    let same : IsAsGiven x (meant_of m orders x) = record {
+      unit = refl;
+      leads = ap (λ (p : Place). record { power = x.unit.power; kind = x.unit.kind; place = p }) (led_still m orders x.unit x.unit.place x.order);
+    } in
+    (x, there, subst (λ (y : PlacedOrder). IsAsGiven x y) is same)
+as_given m false orders o among = (o, among, record { unit = refl; leads = refl })
+
+-- the orders that stand, as they are meant
+abbrev meant_orders : Chart → Position → List PlacedOrder → List PlacedOrder
+meant_orders m b pending = meant_on m b (standing_orders b pending)
+
+ordered_unit : (m : Chart) (b : Position) (pending : List PlacedOrder) (o : PlacedOrder) → IsOf m b → Contains (meant_orders m b pending) o → is_unit m o.unit ≡ true
+ordered_unit m b pending o of among =
+    let (x, there, same) = as_given m b.intent (standing_orders b pending) o among in
+    subst (λ (u : AUnit). is_unit m u ≡ true) (sym same.unit) (given_unit m b pending x of there)
+
+moved_unit : (m : Chart) (b : Position) (pending : List PlacedOrder) (a : Assignment) (o : PlacedOrder) → IsMap m → IsOf m b → AreEachLawful m b pending → Contains (meant_orders m b pending) o
+    → is_unit m (unit_after a o) ≡ true
+moved_unit m b pending a o ok of lawful among =
+    let (x, there, same) = as_given m b.intent (standing_orders b pending) o among in
+    let led : is_unit m (at_destination x) ≡ true = given_moved m b pending (λ d. true) x ok of lawful there in
+    either_unit m (has_moved a o) (at_destination o) o.unit (subst (λ (u : AUnit). is_unit m u ≡ true) (sym same.leads) led) (ordered_unit m b pending o of among)
+
 unit_low : (m : Chart) (u : AUnit) → is_unit m u ≡ true → u.place.prov < length m.provinces
 unit_low m u on = place_low m u.kind u.place (stands_at m u.kind u.place (and_parts (nat_lt u.power (length m.realms)) (may_stand m u.kind u.place) on).1)
 
 origin_within : (m : Chart) (b : Position) (pending : List PlacedOrder) (a : Assignment) (p : ℕ) (w : Option PlacedOrder) → IsOf m b
-    → entrant a (standing_orders b pending) p ≡ w → is_prov_if_any m (origin m w) ≡ true
+    → entrant a (meant_orders m b pending) p ≡ w → is_prov_if_any m (origin m w) ≡ true
 origin_within m b pending a p None of is = refl
 origin_within m b pending a p (Some w) of is = by_way (is_convoyed m (Some w))
   where
     by_way : (c : Bool) → is_prov_if_any m (cond c None (Some (prov w))) ≡ true
     by_way true = refl
-    by_way false = lt-ltb _ _ (unit_low m w.unit (ordered_unit m b pending w of (found_in (enters a p) (standing_orders b pending) w is)))
+    by_way false = lt-ltb _ _ (unit_low m w.unit (ordered_unit m b pending w of (found_in (enters a p) (meant_orders m b pending) w is)))
 
-dislodged_on : (m : Chart) (b : Position) (pending : List PlacedOrder) (a : Assignment) (o : PlacedOrder) → IsOf m b → Contains (standing_orders b pending) o
-    → is_dislodged m (dislodged_unit m a (standing_orders b pending) o) ≡ true
+dislodged_on : (m : Chart) (b : Position) (pending : List PlacedOrder) (a : Assignment) (o : PlacedOrder) → IsOf m b → Contains (meant_orders m b pending) o
+    → is_dislodged m (dislodged_unit m a (meant_orders m b pending) o) ≡ true
 dislodged_on m b pending a o of among =
-    and_from (is_unit m o.unit) (is_prov_if_any m (origin m (entrant a (standing_orders b pending) (prov o)))) (ordered_unit m b pending o of among)
-    (origin_within m b pending a (prov o) (entrant a (standing_orders b pending) (prov o)) of refl)
+    and_from (is_unit m o.unit) (is_prov_if_any m (origin m (entrant a (meant_orders m b pending) (prov o)))) (ordered_unit m b pending o of among)
+    (origin_within m b pending a (prov o) (entrant a (meant_orders m b pending) (prov o)) of refl)
 
 same_units : (m : Chart) (a : Assignment) (orders os : List PlacedOrder) → map (λ (d : Dislodged). d.unit) (map (dislodged_unit m a orders) os) ≡ units_of os
 same_units m a orders [] = refl
@@ -123,9 +167,9 @@ meets apart satisfies m b orders steps a are told single x y u v in_x in_y is_u 
     (ap (λ (w : AUnit). w.place.prov) one ∙ same ∙ sym (ap (λ (w : AUnit). w.place.prov) two))
 
 moved_of : UnitsStandApart → ExplainedSatisfies → (m : Chart) (b : Position) (pending : List PlacedOrder) (steps : List Step) (a : Assignment) → IsMap m → IsOf m b → AreEachLawful m b pending
-    → AreOrders m b (standing_orders b pending) → AreExplained (situation m (standing_orders b pending)) steps a → IsOf m (after_moves m b a (standing_orders b pending))
+    → AreOrders m b (meant_orders m b pending) → AreExplained (situation m (meant_orders m b pending)) steps a → IsOf m (after_moves m b a (meant_orders m b pending))
 moved_of apart satisfies m b pending steps a ok of lawful are told =
-    let orders : List PlacedOrder = standing_orders b pending in
+    let orders : List PlacedOrder = meant_orders m b pending in
     let stays : PlacedOrder → Bool = λ o. not (is_driven_out a orders o) in
     let single : are_units_single (units_of orders) ≡ true = subst (λ (us : List AUnit). are_units_single us ≡ true) (sym are.units) of.apart in
     let kept = movements_keep_units m a orders in
@@ -338,6 +382,7 @@ follow_of m Winter b of = year_of m b of
 pub record Lower : Type 0 where
   pub apart : UnitsStandApart
   pub satisfies : ExplainedSatisfies
+  pub meant : MeantAreOrders
   pub are_open : RetreatsAreOpen
   pub lawful : OrdersAreLawful
   pub units : UnitsHaveOneOrder
@@ -352,11 +397,11 @@ record Before (m : Chart) (b : Position) (pending : List PlacedOrder) : Type 0 w
 
 left_moved : Lower → (m : Chart) (b : Position) (pending : List PlacedOrder) (left : Position) (t : Account) → Before m b pending → LeavesMoved m b pending left t → IsOf m left
 left_moved lower m b pending left (OfMovement t) before h =
-    let are : AreOrders m b (standing_orders b pending) = record { is_of = before.of; units = lower.units b pending; in_force = lower.in_force b pending } in
+    let are : AreOrders m b (meant_orders m b pending) = lower.meant m b (standing_orders b pending) (record { is_of = before.of; units = lower.units b pending; in_force = lower.in_force b pending }) in
     let values : Assignment = values_in t.resolution in
     let steps : List Step = steps_of t.resolution.steps.items in
-    let made : IsOf m (after_moves m b values t.orders) =
-    subst (λ (os : List PlacedOrder). AreExplained (situation m os) steps values → IsOf m (after_moves m b values os)) (sym h.orders)
+    let made : IsOf m (after_moves m b values (meant_on m b t.orders)) =
+    subst (λ (os : List PlacedOrder). AreExplained (situation_on m b os) steps values → IsOf m (after_moves m b values (meant_on m b os))) (sym h.orders)
     (moved_of lower.apart lower.satisfies m b pending steps values before.ok before.of before.lawful are) h.explained in
     subst (λ (p : Position). IsOf m p) (sym h.board) made
 left_moved lower m b pending left (OfRetreats t) before h = absurd h

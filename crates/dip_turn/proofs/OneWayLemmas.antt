@@ -8,7 +8,7 @@ use Rattle.dip_orders.specs.declared.placed.PlacedOrder.{PlacedOrder}
 use Rattle.dip_decide.specs.Decision.{Decision}
 use Rattle.dip_decide.specs.Decision.TheVariants.{Move, Path, Support}
 use Rattle.dip_decide.specs.Deciding.{Assignment}
-use Rattle.dip_decide.specs.Matching.{situation}
+use Rattle.dip_decide.specs.Meaning.{meant_on, situation_on}
 use Rattle.dip_decide.specs.Results.{AreExplained, broken_in, values_in}
 use Rattle.dip_decide.specs.Steps.{steps_of}
 use Rattle.dip_turn.specs.Centres.{centre_lines}
@@ -39,8 +39,8 @@ module _ (m : Chart) (b : Position) (pending : List PlacedOrder) (left other : P
   -- what explains the one explains the other, and so has its values and breaks its paths
   answer_one : (d : Decision) → (values_in t.resolution d ≡ values_in u.resolution d) × (broken_in t.resolution d ≡ broken_in u.resolution d)
   answer_one d =
-      let explained : AreExplained (situation m t.orders) (steps_of u.resolution.steps.items) (values_in u.resolution) =
-      subst (λ (os : List PlacedOrder). AreExplained (situation m os) (steps_of u.resolution.steps.items) (values_in u.resolution)) (sym orders_one) y.explained in
+      let explained : AreExplained (situation_on m b t.orders) (steps_of u.resolution.steps.items) (values_in u.resolution) =
+      subst (λ (os : List PlacedOrder). AreExplained (situation_on m b os) (steps_of u.resolution.steps.items) (values_in u.resolution)) (sym orders_one) y.explained in
       let only = x.only (steps_of u.resolution.steps.items) (values_in u.resolution) explained d in
       (only.0, only.1 ∙ sym (y.broken d))
 
@@ -58,8 +58,8 @@ module _ (m : Chart) (b : Position) (pending : List PlacedOrder) (left other : P
   moved_once : AreSame left other (OfMovement t) (OfMovement u)
   moved_once = record {
     board =
-        x.board ∙ ap (λ (os : List PlacedOrder). after_moves m b (values_in t.resolution) os) orders_one
-        ∙ ap (λ (a : Assignment). after_moves m b a u.orders) values_one ∙ sym y.board;
+        x.board ∙ ap (λ (os : List PlacedOrder). after_moves m b (values_in t.resolution) (meant_on m b os)) orders_one
+        ∙ ap (λ (a : Assignment). after_moves m b a (meant_on m b u.orders)) values_one ∙ sym y.board;
     account = (
       orders_one,
       lists_one,

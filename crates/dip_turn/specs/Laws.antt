@@ -83,6 +83,12 @@ PhasesFollow =
     (m : Chart) (b : Position) (pending : List PlacedOrder) (new : Position) (report : Report)
     → IsPlayed m b pending new report → IsAfter b.phase report.course new.phase
 
+-- no phase changes the option INTENT
+abbrev pub PhasesKeepIntent : Type 0
+PhasesKeepIntent =
+    (m : Chart) (b : Position) (pending : List PlacedOrder) (new : Position) (report : Report)
+    → IsPlayed m b pending new report → new.intent ≡ b.intent
+
 -- a power that has won owns more than half of all centres
 abbrev pub WinnersOwnMore : Type 0
 WinnersOwnMore =

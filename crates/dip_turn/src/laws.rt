@@ -1,7 +1,7 @@
 //! Laws of phases, each the contract of a function that does nothing.
-ghost use Rattle.dip_turn.specs.Laws.{BoardsStayOfTheirMap, BuildsStand, CentresChangeInFall, OnlyCentresAreOwned, OnlyRetreatsHaveDislodged, PhasesFollow, PhasesHaveOneResult, RetreatsAreOpen, RetreatsLoseNobodyElse, RetreatsMeetNowhere, WinnersAreOne, WinnersOwnMore, WintersAddBuildsAlone, WintersEvenUnits, WintersRemoveAlone};
+ghost use Rattle.dip_turn.specs.Laws.{BoardsStayOfTheirMap, BuildsStand, CentresChangeInFall, OnlyCentresAreOwned, OnlyRetreatsHaveDislodged, PhasesFollow, PhasesHaveOneResult, PhasesKeepIntent, RetreatsAreOpen, RetreatsLoseNobodyElse, RetreatsMeetNowhere, WinnersAreOne, WinnersOwnMore, WintersAddBuildsAlone, WintersEvenUnits, WintersRemoveAlone};
 
-use dip_decide::explained_is_lawful;
+use dip_decide::{explained_is_lawful, orders_are_meant};
 use dip_orders::{
     each_unit_has_one_order, none_retreats_to_its_attacker, orders_are_lawful,
     retreats_and_builds_are_to_vacant_provinces,
@@ -34,6 +34,7 @@ pub fn boards_stay_of_their_map()
     units_stand_apart();
     retreats_are_open();
     explained_is_lawful();
+    orders_are_meant();
     orders_are_lawful();
     each_unit_has_one_order();
 }
@@ -45,6 +46,11 @@ pub fn winters_even_units()
 {
     orders_are_lawful();
 }
+
+/// No phase changes the option INTENT.
+pub fn phases_keep_the_intent()
+    ensures { PhasesKeepIntent }
+{}
 
 /// Nobody is dislodged on a board whose phase is no retreat.
 pub fn only_retreats_have_dislodged()

@@ -5,7 +5,7 @@ ghost use Rattle.dip_map.specs.Boards.{IsOf};
 use crate::passes::resolve_by_passes;
 use crate::phases::{Lists, decided, lists_of, push_lists};
 use crate::texts::{Mismatch, check_text};
-use dip_decide::Resolution;
+use dip_decide::{Resolution, meant};
 use dip_map::{Board, Map, Season};
 use dip_orders::{Orders, PlacedOrder};
 use std::alloc::{AllocError, Global};
@@ -25,7 +25,7 @@ fn resolved_text(
     Ok(text)
 }
 
-/// What passes tell of it.
+/// What passes over the orders as they are meant tell of it.
 fn passed_text(
     alloc: Global,
     map: &Map,
@@ -33,6 +33,8 @@ fn passed_text(
     orders: &[PlacedOrder],
 ) -> Result<String, AllocError> {
     let standing = Orders::standing(alloc, board, orders)?;
+    let by_sea = meant(alloc, map, board, standing.as_slice())?;
+    let standing = Orders::standing(alloc, board, by_sea.as_slice())?;
     let passed = resolve_by_passes(alloc, map, &standing)?;
     let lists = Lists {
         moves: passed.moves.as_slice(),

@@ -165,12 +165,20 @@ fn owners_in(alloc: Global, map: &Map, lines: &str) -> Result<Vec<Option<Power>>
     Ok(owners)
 }
 
-/// The board of lines: its phase; the board lines of the powers that have something; where the attackers of dislodged units came from; and
-/// where standoffs were. Units that can't be read are left out.
+/// The board of lines: its phase; the board lines of the powers that have something; where the attackers of dislodged units came from;
+/// where standoffs were; and the line `intent` where the option INTENT is on. Units that can't be read are left out.
 pub(crate) fn board_in(alloc: Global, map: &Map, lines: &str) -> Result<Board, AllocError> {
     let forces = forces_in(alloc, map, lines)?;
     let standoff = standoff_in(alloc, map, lines)?;
     let owners = owners_in(alloc, map, lines)?;
     let phase = phase_in(lines.lines().next().unwrap_or(""));
-    Ok(Board::of(forces.units, forces.dislodged, standoff, owners, phase))
+    let intent = lines.lines().any(|line| line == "intent");
+    Ok(Board::of(
+        forces.units,
+        forces.dislodged,
+        standoff,
+        owners,
+        phase,
+        intent,
+    ))
 }

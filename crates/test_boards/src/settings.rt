@@ -53,7 +53,7 @@ pub(crate) fn push_marks(map: &Map, board: &Board, out: &mut String) -> Result<(
     push_standoff(map, board, out)
 }
 
-/// Appends a board: its phase, its board lines, and what those don't tell.
+/// Appends a board: its phase, its board lines, what those don't tell, and the line `intent` where the option INTENT is on.
 pub(crate) fn push_board(
     alloc: Global,
     map: &Map,
@@ -65,7 +65,11 @@ pub(crate) fn push_board(
     let mut text = String::new(alloc);
     push_board_lines(alloc, map, board, &mut text)?;
     push_lines(text.as_str(), out)?;
-    push_marks(map, board, out)
+    push_marks(map, board, out)?;
+    if board.intent() {
+        out.push_str("intent\n")?;
+    }
+    Ok(())
 }
 
 /// Appends orders, each behind the name of its power.

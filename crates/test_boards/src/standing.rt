@@ -80,6 +80,7 @@ pub(crate) fn push_standing_without(
         Vec::new(alloc),
         owners,
         board.phase(),
+        board.intent(),
     );
     push_standing(alloc, map, &left, orders, out)
 }

@@ -1,11 +1,10 @@
 use Rattle.std.proofs.Common.{List, sym, subst}
 use Rattle.dip_orders.specs.declared.placed.PlacedOrder.{PlacedOrder}
 use Rattle.dip_decide_table.specs.Given.{known_of, IsAnswer}
-use Rattle.dip_decide_table.specs.Matching.{situation}
+use Rattle.dip_decide_table.specs.Meaning.{situation_on}
 use Rattle.dip_decide_table.specs.Movement.{IsSituation, rule}
 use Rattle.dip_decide_table.proofs.Rounds.{if_ok_more}
-use Rattle.dip_decide.proofs.ResultLaws.{within}
-use Rattle.dip_decide.proofs.Situated.{situated}
+use Rattle.dip_decide.proofs.ResultLaws.{situated_on, within}
 use Rattle.dip_decide.proofs.testing.forced.Goals as goal
 
 pub forced_by_orders-requires-clause-within : goal.forced_by_orders-requires-clause-within
@@ -13,8 +12,8 @@ forced_by_orders-requires-clause-within c = rw c.as_slice.ensures (within c.args
 
 pub forced_by_orders-requires-clause-situation : goal.forced_by_orders-requires-clause-situation
 forced_by_orders-requires-clause-situation c =
-    subst (λ (os : List PlacedOrder). IsSituation (situation c.args.map.now os)) (sym c.as_slice.ensures) (situated c.args.map.now c.args.orders.now c.facts.ensures (rw c.requires.orders c.requires.is_of.apart))
+    subst (λ (os : List PlacedOrder). IsSituation (situation_on c.args.map.now c.args.board.now os)) (sym c.as_slice.ensures) (situated_on c.args.map.now c.args.board.now c.args.orders.now c.requires.is_of c.requires.orders c.facts.ensures)
 
 pub returns-clause-answer : goal.returns-clause-answer
 returns-clause-answer c =
-    if_ok_more _ _ c.forced_by_orders.result (λ o h. subst (λ (os : List PlacedOrder). IsAnswer (rule (situation c.args.map.now os)) (known_of c.args.known.now) c.args.d o) c.as_slice.ensures h) c.forced_by_orders.ensures.answer
+    if_ok_more _ _ c.forced_by_orders.result (λ o h. subst (λ (os : List PlacedOrder). IsAnswer (rule (situation_on c.args.map.now c.args.board.now os)) (known_of c.args.known.now) c.args.d o) c.as_slice.ensures h) c.forced_by_orders.ensures.answer

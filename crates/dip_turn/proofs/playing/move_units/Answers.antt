@@ -1,6 +1,7 @@
 use Rattle.std.proofs.Common.{◌≡◌, List, ap, ◌∙◌}
 use Rattle.dip_map.specs.Boards.{Position}
 use Rattle.dip_orders.specs.declared.placed.PlacedOrder.{PlacedOrder}
+use Rattle.dip_decide.specs.Meaning.{meant_on}
 use Rattle.dip_decide.specs.Results.{values_in}
 use Rattle.dip_turn_moves.specs.Moving.{moved_board, without_destroyed}
 use Rattle.dip_turn_moves.specs.Outcomes.{lines_on}
@@ -11,8 +12,10 @@ returns c =
     let m = c.args.map.now in
     let a = values_in c.in_ok-resolution.resolution in
     let orders = c.in_ok-orders.orders in
-    let moved : c.in_ok-moved.moved ≡ moved_board m c.args.board.now a orders =
-    c.in_ok-moved.ensures ∙ ap (λ (os : List PlacedOrder). moved_board m c.args.board.now a os) c.as_slice.ensures in
+    let meant : c.in_ok-meant.meant.items ≡ meant_on m c.args.board.now orders =
+    c.in_ok-meant.ensures ∙ ap (meant_on m c.args.board.now) c.as_slice.ensures in
+    let moved : c.in_ok-moved.moved ≡ moved_board m c.args.board.now a (meant_on m c.args.board.now orders) =
+    c.in_ok-moved.ensures ∙ ap (λ (os : List PlacedOrder). moved_board m c.args.board.now a os) (c.as_slice-2.ensures.value ∙ meant) in
     record {
       orders = c.in_ok-orders.ensures.value;
       equations = c.in_ok-resolution.ensures.equations;
@@ -26,6 +29,7 @@ returns c =
       board = c.in_ok-left.ensures ∙ ap (without_destroyed m) moved;
       lines =
           c.in_ok-lines.ensures
-          ∙ ap (λ (os : List PlacedOrder). lines_on m c.in_ok-moved.moved a os) c.as_slice-2.ensures
-          ∙ ap (λ (b : Position). lines_on m b a orders) moved;
+          ∙ ap (λ (os : List PlacedOrder). lines_on m c.in_ok-moved.moved a os c.as_slice-4.result.now) (c.as_slice-3.ensures.value ∙ meant)
+          ∙ ap (lines_on m c.in_ok-moved.moved a (meant_on m c.args.board.now orders)) c.as_slice-4.ensures
+          ∙ ap (λ (b : Position). lines_on m b a (meant_on m c.args.board.now orders) orders) moved;
     }

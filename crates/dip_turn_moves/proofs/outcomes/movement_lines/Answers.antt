@@ -7,5 +7,5 @@ use Rattle.dip_turn_moves.proofs.outcomes.movement_lines.Goals as goal
 pub loop-placed-preserved : goal.loop-placed-preserved
 loop-placed-preserved c =
     rw c.in_ok-push.ensures.items
-    (map_step (line_on c.args.map.now c.args.moved.now (values_in c.args.resolution.now) c.args.orders.now) c.args.orders.now _ _ c.loop-placed.placed-index c.placed-item.result
+    (map_step (line_on c.args.map.now c.args.moved.now (values_in c.args.resolution.now) c.args.orders.now) c.args.given.now _ _ c.loop-placed.placed-index c.placed-item.result
     c.in_ok-line.line (omega arith) c.placed-item.is c.in_ok-line.ensures c.loop-placed.invariant)

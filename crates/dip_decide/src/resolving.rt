@@ -153,7 +153,8 @@ pub fn resolve(
     ensures equations { IfOk result
         (λ r. Satisfies (situation_on map.now board.now orders.now) (broken_in r) (values_in r)) }
     ensures explained { IfOk result
-        (λ r. AreExplained (situation_on map.now board.now orders.now) (steps_of r.steps.items) (values_in r)) }
+        (λ r. AreExplained (situation_on map.now board.now orders.now) (steps_of r.steps.items)
+        (values_in r)) }
     ensures only { IfOk result (IsOnly (situation_on map.now board.now orders.now)) }
     ensures broken { IfOk result
         (λ r. (d : ADecision) → broken_in r d ≡ is_broken (steps_of r.steps.items) d) }
@@ -162,7 +163,8 @@ pub fn resolve(
     ensures ordered { IfOk result AreInOrder }
     ensures counted { IfOk result (λ r. forced_in (steps_of r.steps.items) ≤ r.tests) }
     ensures tested { IfOk result
-        (λ r. r.tests ≤ decided_in (situation_on map.now board.now orders.now) + mentions_in (situation_on map.now board.now orders.now)) }
+        (λ r. r.tests ≤ decided_in (situation_on map.now board.now orders.now)
+        + mentions_in (situation_on map.now board.now orders.now)) }
 {
     map.facts();
     orders.facts();

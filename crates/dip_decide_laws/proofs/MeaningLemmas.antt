@@ -1,22 +1,20 @@
 -- What the option INTENT means, in a player's words.
-use Rattle.std.proofs.Common.{◌≡◌, ℕ, ◌⊎◌, inl, inr, List, [], ◌∷◌, map, refl, sym, subst, ap, ◌∙◌, arith, zero, Contains}
+use Rattle.std.proofs.Common.{◌≡◌, ℕ, List, [], ◌∷◌, map, refl, sym, subst, ap, ◌∙◌, arith, zero, Contains}
 use Rattle.std.specs.Prelude.{◌==◌, ◌↔◌, Bool, true, false, not, ◌&&◌, ◌||◌, cond}
 use Rattle.std.specs.List.{list_any}
-use Rattle.std.proofs.lemmas.Bool.{eqb-true, eq-eqb, both_ways, and_parts, and_from, not-true, not-false}
+use Rattle.std.proofs.lemmas.Bool.{eqb-true, eq-eqb, both_ways, and_parts, and_from}
 use Rattle.dip_names.specs.declared.names.Kind.{Kind}
 use Rattle.dip_names.specs.declared.names.Kind.TheVariants.{Army, Fleet}
-use Rattle.dip_names.specs.declared.names.Terrain.TheVariants.{Sea}
 use Rattle.dip_names.specs.declared.names.Unit.{Unit as AUnit}
 use Rattle.dip_names.specs.Kinds.{is_kind, is_sea}
-use Rattle.dip_map.specs.Boards.{Position}
 use Rattle.dip_map.specs.Charts.{Chart, is_army_next, province}
 use Rattle.dip_orders.specs.declared.placed.Other.{Other}
 use Rattle.dip_orders.specs.declared.placed.Order.{Order}
 use Rattle.dip_orders.specs.declared.placed.Order.TheVariants.{Hold, Move, SupportHold, SupportMove, Convoy, Retreat, Disband, Build, Remove}
 use Rattle.dip_orders.specs.declared.placed.PlacedOrder.{PlacedOrder}
-use Rattle.dip_decide.specs.Meaning.{are_coastal, carries_for, is_convoy_of, is_meant_by_sea, meant, meant_of, meant_on, meant_order}
+use Rattle.dip_decide.specs.Meaning.{are_coastal, carries_for, is_convoy_of, is_meant_by_sea, meant, meant_of, meant_order}
 use Rattle.dip_decide_laws.specs.Laws.{IsCarriedByOwn, IsOwnCarrier, MeansTheSame}
-use Rattle.dip_decide_laws.specs.Words.{goes_itself, goes_to, held_if, holding, is_a_convoy, is_a_move, is_move_to, is_own_way, moves, names, prov}
+use Rattle.dip_decide_laws.specs.Words.{goes_itself, goes_to, held_if, holding, is_a_convoy, is_a_move, is_move_to, is_own_way, prov}
 use Rattle.dip_decide_laws.proofs.ConvoyLemmas.{a_fleet, a_sea, passes}
 use Rattle.dip_decide_laws.proofs.ListLemmas.{contains_more, one_passes}
 
@@ -91,7 +89,7 @@ carried_to m orders o q c =
 -- a move of an army by land is meant by sea exactly where it goes itself no more
 way_by : (m : Chart) (p : ℕ) (via next sea : Bool) → (not via && next) ≡ true → ((not (via || sea) && next) ≡ false) ↔ (sea ≡ true)
 way_by m p false true true h = (λ e. refl, λ e. refl)
-way_by m p false true false h = (λ e. absurd (both_ways true refl e), λ e. absurd (both_ways false refl e))
+way_by m p false true false h = (λ e. absurd (both_ways true e refl), λ e. absurd (both_ways false refl e))
 way_by m p false false sea h = absurd (both_ways false refl h)
 way_by m p true next sea h = absurd (both_ways false refl h)
 
@@ -99,7 +97,7 @@ sea_by : (m : Chart) (orders : List PlacedOrder) (o : PlacedOrder) (q : ℕ) (ki
     → is_own_way m kind (prov o) order ≡ true
     → (is_own_way m kind (prov o) (meant_order m orders o.unit order) ≡ false) ↔ (is_meant_by_sea m orders o.unit q ≡ true)
 sea_by m orders o q Fleet order is to way =
-    (λ e. absurd (both_ways true refl e), λ e. absurd (both_ways false (rw is refl) e))
+    (λ e. absurd (both_ways true e refl), λ e. let army : is_kind o.unit.kind Army ≡ true = (and_parts _ _ e).0 in absurd (both_ways false refl (rw is at army)))
 sea_by m orders o q Army (Move place via) is to way =
     let same : place.prov ≡ q = eqb-true _ _ to in
     let both = way_by m (prov o) via (is_army_next m (prov o) place.prov) (is_meant_by_sea m orders o.unit place.prov) way in
@@ -134,7 +132,7 @@ to_still m all u q Remove = refl
 
 other_still : (m : Chart) (all : List PlacedOrder) (u : AUnit) (order : Order) → is_a_move order ≡ false → meant_order m all u order ≡ order
 other_still m all u Hold h = refl
-other_still m all u (Move to via) h = absurd (both_ways true refl h)
+other_still m all u (Move to via) h = absurd (both_ways true h refl)
 other_still m all u (SupportHold at) h = refl
 other_still m all u (SupportMove at to) h = refl
 other_still m all u (Convoy at to) h = refl
@@ -162,7 +160,7 @@ module _ (m : Chart) (test : PlacedOrder → Bool) where
       no_convoy (Move to via) h = refl
       no_convoy (SupportHold at) h = refl
       no_convoy (SupportMove at to) h = refl
-      no_convoy (Convoy at to) h = absurd (both_ways true refl h)
+      no_convoy (Convoy at to) h = absurd (both_ways true h refl)
       no_convoy (Retreat to) h = refl
       no_convoy Disband h = refl
       no_convoy Build h = refl

@@ -6,5 +6,6 @@ mod laws;
 pub use laws::{
     dislodged_by_others_alone, dislodged_fleets_carry_nobody, dislodged_give_no_support,
     enterers_are_strongest, explained_is_decided, losers_prevent_nobody, no_power_cuts_its_own,
-    own_fleets_carry, pathless_changes_nothing, strongest_enter, units_without_moves_stay, unmatched_changes_nothing,
+    own_fleets_carry, pathless_changes_nothing, strongest_enter, units_without_moves_stay,
+    unmatched_changes_nothing,
 };

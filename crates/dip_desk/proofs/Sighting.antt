@@ -56,7 +56,7 @@ seat_right m n s p (Some g) is = own (seat_at p g.seats) refl
 game_spoiled : (m : Chart) (command : Request) (game : Option Game) → IsDamagedGame m (master_sees m command game) → IsSpoiledIn m command game
 game_spoiled m command None bad = bad
 game_spoiled m (Player command) (Some g) bad = bad
-game_spoiled m (Master (Create due period grey seats)) (Some g) bad = bad
+game_spoiled m (Master (Create due period grey intent seats)) (Some g) bad = bad
 game_spoiled m (Master (Tick tick)) (Some g) bad = λ can of. bad can
 game_spoiled m (Master (Replace seat)) (Some g) bad = bad
 game_spoiled m (Master (Notify notice)) (Some g) bad = λ can of. bad can
@@ -82,9 +82,9 @@ pub seen_game : (m : Chart) (command : PlayerRequest) (game : Option Game) → i
 seen_game m command None = refl
 seen_game m command (Some g) = refl
 
-pub seen_opening : (m : Chart) (due period : ℕ) (grey : Bool) (seats : List SeatNote) (game : Option Game) → is_seen game ≡ master_sees m (Master (Create due period grey seats)) game
-seen_opening m due period grey seats None = refl
-seen_opening m due period grey seats (Some g) = refl
+pub seen_opening : (m : Chart) (due period : ℕ) (grey : Bool) (intent : Option Bool) (seats : List SeatNote) (game : Option Game) → is_seen game ≡ master_sees m (Master (Create due period grey intent seats)) game
+seen_opening m due period grey intent seats None = refl
+seen_opening m due period grey intent seats (Some g) = refl
 
 pub seen_whole : (m : Chart) (tick : ℕ) (game : Option Game) → whole_seen (option_map whole_of game) ≡ master_sees m (Master (Tick tick)) game
 seen_whole m tick None = refl

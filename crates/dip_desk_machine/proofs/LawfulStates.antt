@@ -7,7 +7,7 @@ use Rattle.std.proofs.lemmas.Bool.{eqb-false, eqb-true, false≢true, ltb-false}
 use Rattle.std.proofs.lemmas.Bool.Decides.{nat_tests}
 use Rattle.std.proofs.lemmas.List.{length-map}
 use Rattle.std.proofs.lemmas.List.Quantifiers.{position-Some}
-use Rattle.dip_letters.specs.Letters.{FitsRequest}
+use Rattle.dip_letters.specs.Letters.{FitsRequest, is_on}
 use Rattle.dip_letters.specs.Notes.{Request, SeatNote}
 use Rattle.dip_letters.specs.Notes.MasterRequest.{Create, Tick, Replace, Notify}
 use Rattle.dip_letters.specs.Notes.Request.{Player, Master}
@@ -431,7 +431,7 @@ pub record IsLawfulOpening (m : Chart) (command : Request) (public : Public) (se
   pub papers : public.papers ≡ 1
   pub complete : are_complete m seats ≡ true
   pub known : AreKnown m seats
-  pub asked : (due : ℕ) × (period : ℕ) × (grey : Bool) × (notes : List SeatNote) × (command ≡ Master (Create due period grey notes)) × (length seats ≡ length notes)
+  pub asked : (due : ℕ) × (period : ℕ) × (grey : Bool) × (intent : Option Bool) × (notes : List SeatNote) × (command ≡ Master (Create due period grey intent notes)) × (length seats ≡ length notes)
 
 abbrev pub OpensLawful : Chart → Request → Verdict → Type 0
 OpensLawful m command NotKnown = Unit {0}
@@ -462,12 +462,12 @@ master_lawful m n k command game v = master_holds (λ game. OpensLawful m comman
   again = λ game text. tt;
   out = λ game text. tt;
   free = λ r. tt;
-  opened = λ due period grey notes found of is all. record {
-    of_map = λ fine fits. of_opening m n.note.game due period grey notes fine (subst FitsRequest of fits);
+  opened = λ due period grey intent notes found of is all. record {
+    of_map = λ fine fits. of_opening m n.note.game due period grey intent notes fine (subst FitsRequest of fits);
     papers = refl;
     complete = all;
     known = seats_known m n.note.game notes found is;
-    asked = (due, period, grey, notes, of, seats_named m n.note.game notes found is);
+    asked = (due, period, grey, intent, notes, of, seats_named m n.note.game notes found is);
   };
   in_game = λ g. record {
     refused = λ r. tt;
@@ -577,8 +577,8 @@ pub master_newer : (m : Chart) (n : Mail) (k : Option Kept) (command : Request) 
     → MasterDecides m n k command game (Taken text e) → last_number k < n.note.number
 master_newer m n k command (Some g) text e is h = numbered_newer n k (DecidesIn m n command g) text e is h
 master_newer m n k (Player command) None text e is h = let bad : ◌≡◌ {A = Verdict} (Taken text e) NotKnown = h in absurd (cc)
-master_newer m n k (Master (Create due period grey seats)) None text e is h =
-    numbered_newer n k (λ w. w ≡ creation m (opening_public m n.note.game due period grey) (new_seats m n.note.game seats) None) text e is h
+master_newer m n k (Master (Create due period grey intent seats)) None text e is h =
+    numbered_newer n k (λ w. w ≡ creation m (opening_public m n.note.game due period grey (is_on intent)) (new_seats m n.note.game seats) None) text e is h
 master_newer m n k (Master (Tick tick)) None text e is h = let bad : ◌≡◌ {A = Verdict} (Taken text e) NotKnown = h in absurd (cc)
 master_newer m n k (Master (Replace seat)) None text e is h = let bad : ◌≡◌ {A = Verdict} (Taken text e) NotKnown = h in absurd (cc)
 master_newer m n k (Master (Notify notice)) None text e is h = let bad : ◌≡◌ {A = Verdict} (Taken text e) NotKnown = h in absurd (cc)
@@ -599,8 +599,8 @@ pub master_new : (m : Chart) (n : Mail) (k : Option Kept) (command : Request) (g
     → MasterDecides m n k command game (Taken text e) → old_number n k ≡ None
 master_new m n k command (Some g) text e h = numbered_new n k (DecidesIn m n command g) text e h
 master_new m n k (Player command) None text e h = let bad : ◌≡◌ {A = Verdict} (Taken text e) NotKnown = h in absurd (cc)
-master_new m n k (Master (Create due period grey seats)) None text e h =
-    numbered_new n k (λ w. w ≡ creation m (opening_public m n.note.game due period grey) (new_seats m n.note.game seats) None) text e h
+master_new m n k (Master (Create due period grey intent seats)) None text e h =
+    numbered_new n k (λ w. w ≡ creation m (opening_public m n.note.game due period grey (is_on intent)) (new_seats m n.note.game seats) None) text e h
 master_new m n k (Master (Tick tick)) None text e h = let bad : ◌≡◌ {A = Verdict} (Taken text e) NotKnown = h in absurd (cc)
 master_new m n k (Master (Replace seat)) None text e h = let bad : ◌≡◌ {A = Verdict} (Taken text e) NotKnown = h in absurd (cc)
 master_new m n k (Master (Notify notice)) None text e h = let bad : ◌≡◌ {A = Verdict} (Taken text e) NotKnown = h in absurd (cc)
@@ -658,9 +658,9 @@ lawful_after m fine again stays s n who (Taken text e) is d l = go who e d (deci
     opening_it public paper seats d free named =
         let f : Game → Game = game_after (change_of n TheMaster text (Opens public paper seats)) in
         let opens : IsLawfulOpening m n.note.command public seats = master_lawful m n s.desk.kept n.note.command (game_at n.note.game s) (Taken text (Opens public paper seats)) d in
-        let fits : FitsRequest (Master (Create opens.asked.0 opens.asked.1 opens.asked.2 opens.asked.3)) = subst FitsRequest opens.asked.4 is.command in
-        let named_few : length opens.asked.3 ≤ 7 = fits.4 in
-        let as_many : length seats ≡ length opens.asked.3 = opens.asked.5 in
+        let fits : FitsRequest (Master (Create opens.asked.0 opens.asked.1 opens.asked.2 opens.asked.3 opens.asked.4)) = subst FitsRequest opens.asked.5 is.command in
+        let named_few : length opens.asked.4 ≤ 7 = fits.4 in
+        let as_many : length seats ≡ length opens.asked.4 = opens.asked.6 in
         let few : length seats ≤ 7 = omega (arith, named_few, as_many) in
         let first : public.papers ≡ 1 = opens.papers in
         let least : 1 ≤ n.note.number = is.number_least in

@@ -21,6 +21,7 @@ pub mod Fitting
 pub mod Histories
 pub mod Thirds
 pub mod Publishing
+pub mod Intents
 pub mod Once
 pub mod Repeating
 pub mod RepeatingLater

@@ -206,7 +206,7 @@ never_damaged m read s n TheMaster is l h = go n.note.command (game_at n.note.ga
 
     spoiled : (command : Request) (g : Game) → game_at n.note.game s ≡ Some g → IsSpoiled m command g → ⊥
     spoiled (Player command) g at h = h
-    spoiled (Master (Create due period grey seats)) g at h = h
+    spoiled (Master (Create due period grey intent seats)) g at h = h
     spoiled (Master (Tick tick)) g at h = h (playable m read s n.note.game g l more at) (public_of m s n.note.game g l at)
     spoiled (Master (Replace seat)) g at h = h
     spoiled (Master (Notify notice)) g at h = let can = playable m read s n.note.game g l more at in h (record { board = can.board; papers = can.papers }) (public_of m s n.note.game g l at)

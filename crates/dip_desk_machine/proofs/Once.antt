@@ -80,14 +80,14 @@ numbered_once (Some old) New a b new x y = x ∙ sym y
 
 in_game_once : (m : Chart) → PhasesHaveOneResult → (n : Mail) (command : Request) (g : Game) (v w : Verdict) → DecidesIn m n command g v → DecidesIn m n command g w → v ≡ w
 in_game_once m one n (Player command) g v w x y = x ∙ sym y
-in_game_once m one n (Master (Create due period grey seats)) g v w x y = x ∙ sym y
+in_game_once m one n (Master (Create due period grey intent seats)) g v w x y = x ∙ sym y
 in_game_once m one n (Master (Tick tick)) g v w x y = ticks_once m one tick (whole_of g) (is_over g.public.status) (is_due tick g.public) v w x y
 in_game_once m one n (Master (Replace seat)) g v w x y = x ∙ sym y
 in_game_once m one n (Master (Notify notice)) g v w x y = x ∙ sym y
 
 new_once : (m : Chart) (n : Mail) (k : Option Kept) (command : Request) (v w : Verdict) → DecidesNew m n k command v → DecidesNew m n k command w → v ≡ w
 new_once m n k (Player command) v w x y = x ∙ sym y
-new_once m n k (Master (Create due period grey seats)) v w x y = numbered_once (old_number n k) _ v w (λ a b. a ∙ sym b) x y
+new_once m n k (Master (Create due period grey intent seats)) v w x y = numbered_once (old_number n k) _ v w (λ a b. a ∙ sym b) x y
 new_once m n k (Master (Tick tick)) v w x y = x ∙ sym y
 new_once m n k (Master (Replace seat)) v w x y = x ∙ sym y
 new_once m n k (Master (Notify notice)) v w x y = x ∙ sym y

@@ -6,7 +6,7 @@ use Rattle.dip_map.specs.declared.boards.Phase.{Phase}
 use Rattle.dip_map.specs.declared.boards.Season.{Season}
 use Rattle.dip_map.specs.declared.boards.Season.TheVariants.{SpringMoves, SpringRetreats, FallMoves, FallRetreats, Winter}
 use Rattle.dip_map.specs.Charts.{Chart}
-use Rattle.dip_decide.specs.Matching.{situation}
+use Rattle.dip_decide.specs.Meaning.{meant_on, situation_on}
 use Rattle.dip_decide.specs.Results.{values_in}
 use Rattle.dip_decide.specs.Statements.{ExplainedSatisfies}
 use Rattle.dip_decide.specs.Steps.{steps_of}
@@ -70,11 +70,11 @@ told m equations tick g text paper public moves p = by p.report.account refl (mo
 
     by : (account : Account) → p.report.account ≡ account → LeavesMoved m b pending p.played.left account → TellsMovement m (whole_of g) public paper
     by (OfMovement t) is h =
-        let decided : AreDecided m (orders_stood m (whole_of g)) (values_in t.resolution) =
-        subst (λ (os : List PlacedOrder). AreDecided m os (values_in t.resolution)) h.orders (record {
+        let decided : AreDecided m b (orders_stood m (whole_of g)) (values_in t.resolution) =
+        subst (λ (os : List PlacedOrder). AreDecided m b os (values_in t.resolution)) h.orders (record {
           steps = steps_of t.resolution.steps.items;
           explained = h.explained;
-          satisfied = equations (situation m t.orders) (steps_of t.resolution.steps.items) (values_in t.resolution) h.explained;
+          satisfied = equations (situation_on m b t.orders) (steps_of t.resolution.steps.items) (values_in t.resolution) h.explained;
           only = λ others a e d. let one = h.only others a e d in (one.0, sym (h.broken d) ∙ one.1);
         }) in
         let lines : t.lines.items ≡ movement_lines m b (values_in t.resolution) (orders_stood m (whole_of g)) =
@@ -89,7 +89,7 @@ told m equations tick g text paper public moves p = by p.report.account refl (mo
               ∙ ap (λ (cs : List CentreLine). movement_paper m b.phase (movement_lines m b (values_in t.resolution) (orders_stood m (whole_of g))) cs public) centres;
           board = board ∙ ap (λ (s : Sequel). s.board) p.played.next
               ∙ ap (λ (left : Position). (follow m b.phase.season left).board)
-              (h.board ∙ ap (λ (os : List PlacedOrder). after_moves m b (values_in t.resolution) os) h.orders);
+              (h.board ∙ ap (λ (os : List PlacedOrder). after_moves m b (values_in t.resolution) (meant_on m b os)) h.orders);
         }
     by (OfRetreats lines) is h = absurd h
     by (OfAdjustment t) is h = absurd h

@@ -4,6 +4,7 @@ use Rattle.std.specs.Prelude.{option_and_then}
 use Rattle.std.specs.List.{list_any}
 use Rattle.std.proofs.lemmas.Bool.{eq-eqb, false≢true, ltb-true}
 use Rattle.dip_letters.specs.Notes.{Request}
+use Rattle.dip_letters.specs.Letters.{is_on}
 use Rattle.dip_letters.specs.Notes.MasterRequest.{Create, Tick, Replace, Notify}
 use Rattle.dip_letters.specs.Notes.Request.{Player, Master}
 use Rattle.dip_map.specs.Charts.{Chart, power_of}
@@ -50,9 +51,9 @@ created_taken m p (Some seats) h = go (are_complete m seats) h
 
 new_one : (m : Chart) (n : Mail) (k : Option Kept) (command : Request) (v w : Verdict) → IsUntaken w → DecidesNew m n k command v → DecidesNew m n k command w → v ≡ w
 new_one m n k (Player command) v w untaken x y = x ∙ sym y
-new_one m n k (Master (Create due period grey seats)) v w untaken x y =
-    numbered_one (old_number n k) (λ v. v ≡ creation m (opening_public m n.note.game due period grey) (new_seats m n.note.game seats) None) v w
-    (λ is. created_taken m (opening_public m n.note.game due period grey) (new_seats m n.note.game seats) (subst IsUntaken is untaken)) x y
+new_one m n k (Master (Create due period grey intent seats)) v w untaken x y =
+    numbered_one (old_number n k) (λ v. v ≡ creation m (opening_public m n.note.game due period grey (is_on intent)) (new_seats m n.note.game seats) None) v w
+    (λ is. created_taken m (opening_public m n.note.game due period grey (is_on intent)) (new_seats m n.note.game seats) (subst IsUntaken is untaken)) x y
 new_one m n k (Master (Tick tick)) v w untaken x y = x ∙ sym y
 new_one m n k (Master (Replace seat)) v w untaken x y = x ∙ sym y
 new_one m n k (Master (Notify notice)) v w untaken x y = x ∙ sym y
@@ -227,8 +228,8 @@ none_there (inr found) = let bad : ◌≡◌ {A = Option Game} None (Some found.
 again_in : (m : Chart) (n : Mail) (text : List ℕ) (command : Request) (after : Option Game) → (is_create command ≡ true) ⊎ ((h : Game) × (after ≡ Some h))
     → MasterDecides m n (Some (kept_of n text)) command after (Again text)
 again_in m n text command (Some h) there = known_again n text (DecidesIn m n command h)
-again_in m n text (Master (Create due period grey seats)) None there =
-    known_again n text (λ w. w ≡ creation m (opening_public m n.note.game due period grey) (new_seats m n.note.game seats) None)
+again_in m n text (Master (Create due period grey intent seats)) None there =
+    known_again n text (λ w. w ≡ creation m (opening_public m n.note.game due period grey (is_on intent)) (new_seats m n.note.game seats) None)
 again_in m n text (Player command) None there = absurd (none_there there)
 again_in m n text (Master (Tick tick)) None there = absurd (none_there there)
 again_in m n text (Master (Replace seat)) None there = absurd (none_there there)
@@ -237,7 +238,7 @@ again_in m n text (Master (Notify notice)) None there = absurd (none_there there
 master_again : (m : Chart) (n : Mail) (k : Option Kept) (text : List ℕ) (e : Effect) (command : Request) (game after : Option Game)
     → MasterDecides m n k command game (Taken text e) → ((g : Game) → game ≡ Some g → (h : Game) × (after ≡ Some h)) → MasterDecides m n (Some (kept_of n text)) command after (Again text)
 master_again m n k text e command (Some g) after d stays = again_in m n text command after (inr (stays g refl))
-master_again m n k text e (Master (Create due period grey seats)) None after d stays = again_in m n text (Master (Create due period grey seats)) after (inl refl)
+master_again m n k text e (Master (Create due period grey intent seats)) None after d stays = again_in m n text (Master (Create due period grey intent seats)) after (inl refl)
 master_again m n k text e (Player command) None after d stays = let bad : ◌≡◌ {A = Verdict} (Taken text e) NotKnown = d in absurd (cc)
 master_again m n k text e (Master (Tick tick)) None after d stays = let bad : ◌≡◌ {A = Verdict} (Taken text e) NotKnown = d in absurd (cc)
 master_again m n k text e (Master (Replace seat)) None after d stays = let bad : ◌≡◌ {A = Verdict} (Taken text e) NotKnown = d in absurd (cc)

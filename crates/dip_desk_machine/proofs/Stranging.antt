@@ -2,6 +2,7 @@
 use Rattle.std.proofs.Common.{◌≡◌, ◌⊎◌, inl, inr, ℕ, Bool, true, false, cond, List, Option, Some, None, refl, sym, ap, subst, ◌∙◌, bytes_eq, codes}
 use Rattle.std.specs.Prelude.{option_and_then}
 use Rattle.dip_letters.specs.Notes.{Request}
+use Rattle.dip_letters.specs.Letters.{is_on}
 use Rattle.dip_letters.specs.Notes.MasterRequest.{Create, Tick, Replace, Notify}
 use Rattle.dip_letters.specs.Notes.Request.{Player, Master}
 use Rattle.dip_map.specs.Charts.{Chart, power_of}
@@ -50,15 +51,15 @@ master_known m n k command (Some g) v d =
       seated = λ note seat of new low s found. tt;
     })) d)
 master_known m n k (Player command) None v d = inr (d, refl, refl)
-master_known m n k (Master (Create due period grey seats)) None v d =
-    inl (numbered_holds IsKnown (λ t. tt) (λ t. tt) n k (λ w. w ≡ creation m (opening_public m n.note.game due period grey) (new_seats m n.note.game seats) None) v
+master_known m n k (Master (Create due period grey intent seats)) None v d =
+    inl (numbered_holds IsKnown (λ t. tt) (λ t. tt) n k (λ w. w ≡ creation m (opening_public m n.note.game due period grey (is_on intent)) (new_seats m n.note.game seats) None) v
     (λ is. subst IsKnown (sym is) (by (new_seats m n.note.game seats))) d)
   where
-    by : (found : Option (List NewSeat)) → IsKnown (creation m (opening_public m n.note.game due period grey) found None)
+    by : (found : Option (List NewSeat)) → IsKnown (creation m (opening_public m n.note.game due period grey (is_on intent)) found None)
     by None = tt
     by (Some found) = go (are_complete m found)
       where
-        go : (b : Bool) → IsKnown (cond b (open_game m (opening_public m n.note.game due period grey) found None) (refusal_verdict Malformed))
+        go : (b : Bool) → IsKnown (cond b (open_game m (opening_public m n.note.game due period grey (is_on intent)) found None) (refusal_verdict Malformed))
         go true = tt
         go false = tt
 master_known m n k (Master (Tick tick)) None v d = inr (d, refl, refl)
@@ -119,7 +120,7 @@ decided_known m n s TheMaster v is d = elim (master_known m n s.desk.kept n.note
     unknown : IsKnown v → (command : Request) (game : Option Game) → is_create command ≡ false → game ≡ None → MasterDecides m n s.desk.kept command game v → ⊥
     unknown known command (Some g) other none h = absurd (cc)
     unknown known (Player command) None other none h = subst IsKnown h known
-    unknown known (Master (Create due period grey seats)) None other none h = absurd (cc)
+    unknown known (Master (Create due period grey intent seats)) None other none h = absurd (cc)
     unknown known (Master (Tick tick)) None other none h = subst IsKnown h known
     unknown known (Master (Replace seat)) None other none h = subst IsKnown h known
     unknown known (Master (Notify notice)) None other none h = subst IsKnown h known

@@ -4,7 +4,7 @@ use Rattle.std.specs.Prelude.{◌&&◌, ◌||◌, option_and_then, filter}
 use Rattle.std.specs.List.{list_any}
 use Rattle.std.proofs.lemmas.Bool.{and_parts}
 use Rattle.std.proofs.lemmas.List.Quantifiers.{position-Some}
-use Rattle.dip_letters.specs.Letters.{FitsRequest}
+use Rattle.dip_letters.specs.Letters.{FitsRequest, is_on}
 use Rattle.dip_letters.specs.Notes.{Request, SeatNote}
 use Rattle.dip_letters.specs.Notes.MasterRequest.{Create, Tick, Replace, Notify}
 use Rattle.dip_letters.specs.Notes.PlayerRequest.{Orders, Withdraw, Press, Vote, VoteFor, Show, Inbox}
@@ -155,13 +155,13 @@ pub record OfGame (P : Verdict → Type 0) (m : Chart) (n : Mail) (command : Req
 
 pub in_game_holds : (P : Verdict → Type 0) (m : Chart) (n : Mail) (command : Request) (g : Game) (v : Verdict) → OfGame P m n command g → DecidesIn m n command g v → P v
 in_game_holds P m n (Player command) g v h d = subst P (sym d) (h.refused WrongSender)
-in_game_holds P m n (Master (Create due period grey seats)) g v h d = subst P (sym d) (by (new_seats m n.note.game seats))
+in_game_holds P m n (Master (Create due period grey intent seats)) g v h d = subst P (sym d) (by (new_seats m n.note.game seats))
   where
-    by : (found : Option (List NewSeat)) → P (creation m (opening_public m n.note.game due period grey) found (Some g))
+    by : (found : Option (List NewSeat)) → P (creation m (opening_public m n.note.game due period grey (is_on intent)) found (Some g))
     by None = h.refused Malformed
     by (Some found) = go (are_complete m found)
       where
-        go : (b : Bool) → P (cond b (open_game m (opening_public m n.note.game due period grey) found (Some g)) (refusal_verdict Malformed))
+        go : (b : Bool) → P (cond b (open_game m (opening_public m n.note.game due period grey (is_on intent)) found (Some g)) (refusal_verdict Malformed))
         go true = h.refused NameTaken
         go false = h.refused Malformed
 in_game_holds P m n (Master (Tick tick)) g v h d =
@@ -201,9 +201,9 @@ pub record OfMaster (P : Option Game → Verdict → Type 0) (m : Chart) (n : Ma
   pub again : (game : Option Game) (text : List ℕ) → P game (Again text)
   pub out : (game : Option Game) (text : List ℕ) → P game (OutOfTurn text)
   pub free : (r : Refusal) → P None (refusal_verdict r)
-  pub opened : (due period : ℕ) (grey : Bool) (notes : List SeatNote) (found : List NewSeat) → command ≡ Master (Create due period grey notes)
+  pub opened : (due period : ℕ) (grey : Bool) (intent : Option Bool) (notes : List SeatNote) (found : List NewSeat) → command ≡ Master (Create due period grey intent notes)
       → new_seats m n.note.game notes ≡ Some found → are_complete m found ≡ true
-      → P None (Taken (paper_line 1) (Opens (opening_public m n.note.game due period grey) (opening_paper m (opening_public m n.note.game due period grey)) found))
+      → P None (Taken (paper_line 1) (Opens (opening_public m n.note.game due period grey (is_on intent)) (opening_paper m (opening_public m n.note.game due period grey (is_on intent))) found))
   pub in_game : (g : Game) → OfGame (P (Some g)) m n command g
 
 pub master_holds : (P : Option Game → Verdict → Type 0) (m : Chart) (n : Mail) (k : Option Kept) (command : Request) (game : Option Game) (v : Verdict) → OfMaster P m n command
@@ -211,16 +211,16 @@ pub master_holds : (P : Option Game → Verdict → Type 0) (m : Chart) (n : Mai
 master_holds P m n k command (Some g) v h d =
     numbered_holds (P (Some g)) (h.again (Some g)) (h.out (Some g)) n k (DecidesIn m n command g) v (in_game_holds (P (Some g)) m n command g v (h.in_game g)) d
 master_holds P m n k (Player command) None v h d = subst (P None) (sym d) h.unknown
-master_holds P m n k (Master (Create due period grey seats)) None v h d =
-    numbered_holds (P None) (h.again None) (h.out None) n k (λ w. w ≡ creation m (opening_public m n.note.game due period grey) (new_seats m n.note.game seats) None) v
+master_holds P m n k (Master (Create due period grey intent seats)) None v h d =
+    numbered_holds (P None) (h.again None) (h.out None) n k (λ w. w ≡ creation m (opening_public m n.note.game due period grey (is_on intent)) (new_seats m n.note.game seats) None) v
     (λ is. subst (P None) (sym is) (by (new_seats m n.note.game seats) refl)) d
   where
-    by : (found : Option (List NewSeat)) → new_seats m n.note.game seats ≡ found → P None (creation m (opening_public m n.note.game due period grey) found None)
+    by : (found : Option (List NewSeat)) → new_seats m n.note.game seats ≡ found → P None (creation m (opening_public m n.note.game due period grey (is_on intent)) found None)
     by None is = h.free Malformed
     by (Some found) is = go (are_complete m found) refl
       where
-        go : (b : Bool) → are_complete m found ≡ b → P None (cond b (open_game m (opening_public m n.note.game due period grey) found None) (refusal_verdict Malformed))
-        go true all = h.opened due period grey seats found refl is all
+        go : (b : Bool) → are_complete m found ≡ b → P None (cond b (open_game m (opening_public m n.note.game due period grey (is_on intent)) found None) (refusal_verdict Malformed))
+        go true all = h.opened due period grey intent seats found refl is all
         go false some = h.free Malformed
 master_holds P m n k (Master (Tick tick)) None v h d = subst (P None) (sym d) h.unknown
 master_holds P m n k (Master (Replace seat)) None v h d = subst (P None) (sym d) h.unknown
@@ -294,7 +294,7 @@ master_suits m n k command game v = master_holds (VerdictSuits n.note.game TheMa
   again = λ game text. tt;
   out = λ game text. tt;
   free = λ r. (tt, tt);
-  opened = λ due period grey notes found of is all. (tt, refl);
+  opened = λ due period grey intent notes found of is all. (tt, refl);
   in_game = λ g. record {
     refused = λ r. (tt, tt);
     played = λ tick v of p. subst (VerdictSuits n.note.game TheMaster (Some g)) (sym p.verdict) (tt, refl);
@@ -379,7 +379,7 @@ master_posted m n k command game v = master_holds (IsPosted m command) m n k com
   again = λ game text. tt;
   out = λ game text. tt;
   free = λ r. tt;
-  opened = λ due period grey notes found of is all. tt;
+  opened = λ due period grey intent notes found of is all. tt;
   in_game = λ g. record {
     refused = λ r. tt;
     played = λ tick v of p. subst (IsPosted m command (Some g)) (sym p.verdict) (tick, g, of, refl, subst (IsPublished m tick (whole_of g)) p.verdict p);

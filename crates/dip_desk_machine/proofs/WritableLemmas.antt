@@ -7,7 +7,7 @@ use Rattle.std.proofs.lemmas.Bool.Decides.{nat_tests}
 use Rattle.std.proofs.lemmas.List.Quantifiers.{position-Some}
 use Rattle.dip_map.specs.Boards.{Position, IsOf, is_power, is_power_if_any, opening}
 use Rattle.dip_map.specs.Charts.{Chart, Realm, no_realm, power_of, powers}
-use Rattle.dip_letters.specs.Letters.{FitsMaster, FitsNames, FitsNotice, FitsText}
+use Rattle.dip_letters.specs.Letters.{FitsMaster, FitsNames, FitsNotice, FitsText, is_on}
 use Rattle.dip_letters.specs.Notes.{NoticeRequest, SeatNote}
 use Rattle.dip_letters.specs.Notes.MasterRequest.{Create}
 use Rattle.dip_letters.specs.Notes.NoticeRequest.{Announce, Close, Pause, Period, Resume}
@@ -115,14 +115,29 @@ author_known m n s = go (bytes_eq n.note.sender (codes "master"))
 
 -- ---- the public part
 
+-- with the option or without it a board is of the same map
+pub of_intent : (m : Chart) (b : Position) (intent : Bool) → IsOf m b → IsOf m (record b { intent = intent })
+of_intent m b intent of = record {
+  units = of.units;
+  apart = of.apart;
+  dislodged = of.dislodged;
+  dislodged_apart = of.dislodged_apart;
+  standoff = of.standoff;
+  standoff_once = of.standoff_once;
+  standoff_empty = of.standoff_empty;
+  owners = of.owners;
+  owners_count = of.owners_count;
+  owners_centres = of.owners_centres;
+}
+
 -- under another name
 pub of_renamed : (m : Chart) (name : List ℕ) (p : Public) → IsPublicOf m p → IsPublicOf m (record p { game = name })
 of_renamed m name p of = record { board = of.board; status = of.status; due = of.due; period = of.period }
 
-pub of_opening : (m : Chart) (game : List ℕ) (due period : ℕ) (grey : Bool) (seats : List SeatNote) → IsOf m (opening m) → FitsMaster (Create due period grey seats)
-    → IsPublicOf m (opening_public m game due period grey)
-of_opening m game due period grey seats fine fits =
-    let first : due ≤ 999999999999 = fits.0 in record { board = fine; status = tt; due = omega (arith, first); period = fits.2 }
+pub of_opening : (m : Chart) (game : List ℕ) (due period : ℕ) (grey : Bool) (intent : Option Bool) (seats : List SeatNote) → IsOf m (opening m) → FitsMaster (Create due period grey intent seats)
+    → IsPublicOf m (opening_public m game due period grey (is_on intent))
+of_opening m game due period grey intent seats fine fits =
+    let first : due ≤ 999999999999 = fits.0 in record { board = of_intent m (opening m) (is_on intent) fine; status = tt; due = omega (arith, first); period = fits.2 }
 
 pub of_drawn : (m : Chart) (powers : List ℕ) (p : Public) → AllByRecursion (λ q. q < length m.realms) powers → IsPublicOf m p → IsPublicOf m (public_drawn powers p)
 of_drawn m powers p low of = record { board = of.board; status = low; due = of.due; period = of.period }

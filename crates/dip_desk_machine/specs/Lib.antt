@@ -17,5 +17,6 @@ pub mod Lawful
 pub mod Fitting
 pub mod Titles
 pub mod Handing
+pub mod Intents
 pub mod Repeats
 pub mod Strangers

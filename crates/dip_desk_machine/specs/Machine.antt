@@ -3,6 +3,7 @@ use Rattle.std.specs.Prelude.{true, false, ℕ, ◌≡◌, ◌≤◌, ◌⊎◌,
 use Rattle.std.specs.List.{list_all}
 use Rattle.sha2.specs.Sha256.{sha256}
 use Rattle.dip_letters.specs.Digests.{seat_text}
+use Rattle.dip_letters.specs.Letters.{is_on}
 use Rattle.dip_letters.specs.Notes.{NoticeRequest, PlayerRequest, Request, SeatNote}
 use Rattle.dip_letters.specs.Notes.MasterRequest.{Create, Tick, Replace, Notify}
 use Rattle.dip_letters.specs.Notes.PlayerRequest.{Orders, Withdraw, Press, Vote as VoteNote, VoteFor, Show, Inbox}
@@ -50,7 +51,7 @@ power_author n (Some power) s = seat_author n power (own_at n.note.game power s)
 -- the time of TICK is one of the grammar
 abbrev pub IsTimely : Request → Type 0
 IsTimely (Player command) = Unit {0}
-IsTimely (Master (Create due period grey seats)) = Unit {0}
+IsTimely (Master (Create due period grey intent seats)) = Unit {0}
 IsTimely (Master (Tick tick)) = tick ≤ 999999999999
 IsTimely (Master (Replace seat)) = Unit {0}
 IsTimely (Master (Notify notice)) = Unit {0}
@@ -191,7 +192,7 @@ IsOffMap m (Some p) = IsOf m p.board → ⊥
 -- both where its public part isn't one of the map
 abbrev pub IsSpoiled : Chart → Request → Game → Type 0
 IsSpoiled m (Player command) g = ⊥
-IsSpoiled m (Master (Create due period grey seats)) g = ⊥
+IsSpoiled m (Master (Create due period grey intent seats)) g = ⊥
 IsSpoiled m (Master (Tick tick)) g = IsPlayable m (whole_of g) → IsPublicOf m g.public → ⊥
 IsSpoiled m (Master (Replace seat)) g = ⊥
 IsSpoiled m (Master (Notify notice)) g = CanPublish m g.public → IsPublicOf m g.public → ⊥
@@ -235,8 +236,16 @@ abbrev pub are_complete : Chart → List NewSeat → Bool
 are_complete m seats = list_all (λ p. count_by (λ s. s.power == p) seats == 1) (powers m)
 
 -- the public part of a new game
-abbrev pub opening_public : Chart → List ℕ → ℕ → ℕ → Bool → Public
-opening_public m game due period grey = record { game = game; board = opening m; status = Running; due = due; period = period; grey = grey; papers = 1 }
+abbrev pub opening_public : Chart → List ℕ → ℕ → ℕ → (grey intent : Bool) → Public
+opening_public m game due period grey intent = record {
+  game = game;
+  board = record (opening m) { intent = intent };
+  status = Running;
+  due = due;
+  period = period;
+  grey = grey;
+  papers = 1;
+}
 
 -- a new game, where its name is free
 abbrev pub open_game : Chart → Public → List NewSeat → Option Game → Verdict
@@ -302,8 +311,8 @@ replacement m game seat false = refusal_verdict Malformed
 -- what a new letter of the master may come to in a game that is there: the powers' commands aren't for it
 abbrev pub DecidesIn : Chart → Mail → Request → Game → Verdict → Type 0
 DecidesIn m n (Player command) g v = v ≡ refusal_verdict WrongSender
-DecidesIn m n (Master (Create due period grey seats)) g v =
-    v ≡ creation m (opening_public m n.note.game due period grey) (new_seats m n.note.game seats) (Some g)
+DecidesIn m n (Master (Create due period grey intent seats)) g v =
+    v ≡ creation m (opening_public m n.note.game due period grey (is_on intent)) (new_seats m n.note.game seats) (Some g)
 DecidesIn m n (Master (Tick tick)) g v = TicksIn m tick g v
 DecidesIn m n (Master (Replace seat)) g v = v ≡ replacement m n.note.game seat (has_seat m seat.power g)
 DecidesIn m n (Master (Notify notice)) g v = v ≡ notice_verdict m notice g.public
@@ -311,9 +320,9 @@ DecidesIn m n (Master (Notify notice)) g v = v ≡ notice_verdict m notice g.pub
 -- where no game has the name, a letter of the master but CREATE is nobody's, whatever its number
 abbrev pub DecidesNew : Chart → Mail → Option Kept → Request → Verdict → Type 0
 DecidesNew m n k (Player command) v = v ≡ NotKnown
-DecidesNew m n k (Master (Create due period grey seats)) v =
+DecidesNew m n k (Master (Create due period grey intent seats)) v =
     NumberedBy (old_number n k)
-    (λ v. v ≡ creation m (opening_public m n.note.game due period grey) (new_seats m n.note.game seats) None) v
+    (λ v. v ≡ creation m (opening_public m n.note.game due period grey (is_on intent)) (new_seats m n.note.game seats) None) v
 DecidesNew m n k (Master (Tick tick)) v = v ≡ NotKnown
 DecidesNew m n k (Master (Replace seat)) v = v ≡ NotKnown
 DecidesNew m n k (Master (Notify notice)) v = v ≡ NotKnown
@@ -361,7 +370,7 @@ power_sight n (Some power) s = seat_sight n power (public_at n.note.game s) (par
 -- what a command of the master needs of a game: all of it for TICK alone
 abbrev pub needs_of : Chart → Request → Game → Sees
 needs_of m (Player command) g = AGame
-needs_of m (Master (Create due period grey seats)) g = AGame
+needs_of m (Master (Create due period grey intent seats)) g = AGame
 needs_of m (Master (Tick tick)) g = TheWhole (whole_of g)
 needs_of m (Master (Replace seat)) g = ASeat (has_seat m seat.power g)
 needs_of m (Master (Notify notice)) g = ThePublic g.public

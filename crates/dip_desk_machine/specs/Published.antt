@@ -2,10 +2,11 @@
 use Rattle.std.specs.Prelude.{◌≡◌, ◌++◌, ℕ, true, List, Some, codes, flat_map}
 use Rattle.std.specs.List.{AllByRecursion}
 use Rattle.dip_map.specs.declared.boards.Phase.{Phase}
+use Rattle.dip_map.specs.Boards.{Position}
 use Rattle.dip_map.specs.Charts.{Chart}
 use Rattle.dip_decide.specs.Decision.{Decision}
 use Rattle.dip_decide.specs.Deciding.{Assignment, Step, is_broken}
-use Rattle.dip_decide.specs.Matching.{situation}
+use Rattle.dip_decide.specs.Meaning.{meant_on, situation_on}
 use Rattle.dip_decide.specs.Movement.{Satisfies}
 use Rattle.dip_decide.specs.Results.{AreExplained}
 use Rattle.dip_orders.specs.Standing.{standing_orders}
@@ -29,13 +30,14 @@ use Rattle.dip_orders.specs.Conditions.{is_movement}
 abbrev pub orders_stood : Chart → Whole → List PlacedOrder
 orders_stood m w = standing_orders w.public.board (orders_of m w)
 
--- values that satisfy the decision equations for these orders, and are explained: steps lead to them, and only a path that one of the steps
--- breaks has another value than its equation's; and whatever steps explain these orders come to these values, and break these paths
-pub record AreDecided (m : Chart) (orders : List PlacedOrder) (values : Assignment) : Type 0 where
+-- values that satisfy the decision equations for these orders as they are meant on the board, and are explained: steps lead to them, and
+-- only a path that one of the steps breaks has another value than its equation's; and whatever steps explain these orders come to these
+-- values, and break these paths
+pub record AreDecided (m : Chart) (b : Position) (orders : List PlacedOrder) (values : Assignment) : Type 0 where
   pub steps : List Step
-  pub explained : AreExplained (situation m orders) steps values
-  pub satisfied : Satisfies (situation m orders) (is_broken steps) values
-  pub only : (others : List Step) (a : Assignment) → AreExplained (situation m orders) others a → (d : Decision) → (values d ≡ a d) × (is_broken steps d ≡ is_broken others d)
+  pub explained : AreExplained (situation_on m b orders) steps values
+  pub satisfied : Satisfies (situation_on m b orders) (is_broken steps) values
+  pub only : (others : List Step) (a : Assignment) → AreExplained (situation_on m b orders) others a → (d : Decision) → (values d ≡ a d) × (is_broken steps d ≡ is_broken others d)
 
 -- the paper of a movement: its orders with their outcomes, the centres that changed hands, and the public part behind it
 abbrev pub movement_paper : Chart → Phase → List MovementLine → List CentreLine → Public → List ℕ
@@ -48,10 +50,10 @@ movement_paper m phase lines centres public = title public.papers phase
 -- there are no others; and the board behind it is the one that these values leave
 pub record TellsMovement (m : Chart) (w : Whole) (public : Public) (paper : List ℕ) : Type 0 where
   pub values : Assignment
-  pub decided : AreDecided m (orders_stood m w) values
+  pub decided : AreDecided m w.public.board (orders_stood m w) values
   pub text : paper ≡ movement_paper m w.public.board.phase (movement_lines m w.public.board values (orders_stood m w))
       (centre_lines m w.public.board public.board) public
-  pub board : public.board ≡ (follow m w.public.board.phase.season (after_moves m w.public.board values (orders_stood m w))).board
+  pub board : public.board ≡ (follow m w.public.board.phase.season (after_moves m w.public.board values (meant_on m w.public.board (orders_stood m w)))).board
 
 -- each movement that a turn publishes is told so
 abbrev pub TellsTruly : Chart → Turn → Type 0

@@ -11,7 +11,7 @@ use Rattle.dip_desk_state.specs.State.{State, Nobody, TheMaster, game_at}
 
 abbrev pub is_create : Request → Bool
 is_create (Player command) = false
-is_create (Master (Create due period grey seats)) = true
+is_create (Master (Create due period grey intent seats)) = true
 is_create (Master (Tick tick)) = false
 is_create (Master (Replace seat)) = false
 is_create (Master (Notify notice)) = false

@@ -1,5 +1,6 @@
 //! What CREATE comes to.
 ghost use Rattle.std.specs.Prelude.{◌≡◌, ◌==◌, Option, IfOk, count_by, is_none, map as each, option_map};
+ghost use Rattle.dip_letters.specs.Letters.{is_on};
 ghost use Rattle.dip_letters.specs.Views.{seat_note, seats_in};
 ghost use Rattle.dip_desk_state.specs.State as s;
 ghost use Rattle.dip_desk_machine.specs.Machine as m;
@@ -83,11 +84,11 @@ fn opening_public(
 ) -> Result<Public, AllocError>
     ensures { IfOk result
         (λ p. rows.public p ≡ m.opening_public map.now game.now opening.now.due opening.now.period
-        opening.now.grey) }
+        opening.now.grey (is_on opening.now.intent)) }
 {
     Ok(Public {
         game: String::from_str(alloc, game)?,
-        board: Board::opening(alloc, map)?,
+        board: Board::opening(alloc, map)?.with_intent(opening.has_intent()),
         status: Status::Running,
         due: opening.due,
         period: opening.period,
@@ -134,7 +135,8 @@ pub fn creation(
     ensures { IfOk result
         (λ v. (known : Option s.Game) → is_free ≡ is_none known
         → verdict v ≡ m.creation map.now
-        (m.opening_public map.now game.now opening.now.due opening.now.period opening.now.grey)
+        (m.opening_public map.now game.now opening.now.due opening.now.period opening.now.grey
+        (is_on opening.now.intent))
         (m.new_seats map.now game.now (seats_in opening.now.seats)) known) }
 {
     let Some(seats) = new_seats(alloc, map, game, opening.seats)? else {

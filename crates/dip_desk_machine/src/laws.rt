@@ -4,6 +4,7 @@ ghost use Rattle.dip_map.specs.Charts.{Chart};
 ghost use Rattle.dip_desk_machine.specs.Draws.{DrawsAreAgreed};
 ghost use Rattle.dip_desk_machine.specs.Fitting.{EffectsFit, LawfulEffectsFit};
 ghost use Rattle.dip_desk_machine.specs.Handing.{StandingOrdersAreGiven};
+ghost use Rattle.dip_desk_machine.specs.Intents.{KeepsIntent, OpensAsAsked};
 ghost use Rattle.dip_desk_machine.specs.Lawful.{IsNeverDamaged, StaysLawful};
 ghost use Rattle.dip_desk_machine.specs.Published.{MovementsAreDecided};
 ghost use Rattle.dip_desk_machine.specs.Repeats.{ActsOnce, ActsOnceLater};
@@ -16,7 +17,9 @@ ghost use Rattle.dip_desk_machine.specs.View.{AreAlike, AreEffectsShown, Histori
 use dip_decide::explained_is_lawful;
 use dip_map::{Map, openings_are_of_their_map};
 use dip_orders::{lawful_orders_are_read, orders_are_lawful, orders_are_read_again};
-use dip_turn::{boards_stay_of_their_map, phases_have_one_result, winners_own_more};
+use dip_turn::{
+    boards_stay_of_their_map, phases_have_one_result, phases_keep_the_intent, winners_own_more,
+};
 
 /// A letter of a seat gets one reply in all states that the seat sees alike, and leaves them alike for it.
 pub fn answered_from_what_is_seen()
@@ -45,6 +48,15 @@ pub fn published_movements_are_decided()
     ensures { (m : Chart) → MovementsAreDecided m }
 {
     explained_is_lawful();
+}
+
+/// A game is opened with the option INTENT exactly where its CREATE says YES of it, and has that option, or has it not, behind each letter
+/// that follows.
+pub fn games_keep_their_intent()
+    ensures opened { (m : Chart) → OpensAsAsked m }
+    ensures kept { (m : Chart) → KeepsIntent m }
+{
+    phases_keep_the_intent();
 }
 
 /// Whatever effect comes to a game that it suits, each seat sees behind it what its events say.

@@ -18,7 +18,7 @@ mod voting;
 pub use deciding::verdict_on;
 pub use laws::{
     answered_from_what_is_seen, draws_are_agreed, effects_are_shown, effects_fit,
-    histories_are_one, lawful_states_stay_lawful, letters_act_once,
+    games_keep_their_intent, histories_are_one, lawful_states_stay_lawful, letters_act_once,
     published_movements_are_decided, replies_to_nobody, settled_by_view, shown_by_others,
     standing_orders_are_given, third_seats_see_alike, titles_tell_what_was_played,
     votes_are_untold,

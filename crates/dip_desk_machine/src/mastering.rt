@@ -128,7 +128,7 @@ fn verdict_on_opening(
     ensures { IfOk result
         (λ v. m.NumberedBy (m.old_number (mail letter.now) (option_map rows.kept kept.now))
         (λ w. w ≡ m.creation map.now (m.opening_public map.now letter.now.game.now opening.now.due
-        opening.now.period opening.now.grey)
+        opening.now.period opening.now.grey (is_on opening.now.intent))
         (m.new_seats map.now letter.now.game.now (seats_in opening.now.seats)) None) (verdict v)) }
 {
     match old_number(alloc, letter, kept)? {

@@ -31,7 +31,7 @@ no_float m p = rw (no_floats (lines (board_lines m p.board))) refl
 
 pub whole_text : (m : Chart) (p : Public) → compact_text (state_data m p) ≡ state_text m p
 unfolding serde_json_on_literals
-whole_text m p = rw (list_text (lines (board_lines m p.board)), append_assoc (quoted_list (lines (board_lines m p.board))), truth_text p.grey) refl
+whole_text m p = rw (list_text (lines (board_lines m p.board)), append_assoc (quoted_list (lines (board_lines m p.board))), truth_text p.grey, truth_text p.board.intent) refl
 
 pub map_fused : {A : Type 0} (f : List ℕ → Data) (g : A → List ℕ) (xs : List A) → map (λ x. f (g x)) xs ≡ map f (map g xs)
 map_fused f g [] = refl

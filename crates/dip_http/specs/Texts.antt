@@ -24,8 +24,9 @@ state_text m p =
     ++ (codes "],\"due\":" ++ (decimal p.due
     ++ (codes ",\"game\":" ++ (quoted p.game
     ++ (codes ",\"grey\":" ++ (truth p.grey
+    ++ (codes ",\"intent\":" ++ (truth p.board.intent
     ++ (codes ",\"papers\":" ++ (decimal p.papers
     ++ (codes ",\"period\":" ++ (decimal p.period
     ++ (codes ",\"phase\":" ++ (quoted (phase_text p.board.phase)
     ++ (codes ",\"status\":" ++ (quoted (status_text m p.status)
-    ++ codes "}")))))))))))))))
+    ++ codes "}")))))))))))))))))

@@ -72,6 +72,12 @@ fn state_value(alloc: Global, map: &Map, public: &Public) -> Result<Value, Alloc
     put(&mut members, alloc, "due", Value::from(public.due))?;
     put(&mut members, alloc, "game", name_value(&public.game)?)?;
     put(&mut members, alloc, "grey", Value::Bool(public.grey))?;
+    put(
+        &mut members,
+        alloc,
+        "intent",
+        Value::Bool(public.board.intent()),
+    )?;
     put(&mut members, alloc, "papers", Value::from(public.papers))?;
     put(&mut members, alloc, "period", Value::from(public.period))?;
     put(

@@ -201,7 +201,22 @@ notice_at line body =
     plain_at (codes "PAUSE") Pause line body <|> plain_at (codes "RESUME") Resume line body <|> new_period_at line body <|> announce_at line body
     <|> plain_at (codes "CLOSE") Close line body
 
--- CREATE: when the game begins, its period, whether it has grey press, and its seats
+-- an answer at the front of a text, and what follows it
+unfoldable pub first_answer_at : List ℕ → Option (Bool × List ℕ)
+first_answer_at text =
+    option_map (λ rest. (true, rest)) (after_name (codes "YES") text) <|> option_map (λ rest. (false, rest)) (after_name (codes "NO") text)
+
+-- an answer behind the name INTENT
+unfoldable pub intent_word_at : List ℕ → Option (Option Bool)
+intent_word_at text = do
+  word ← after_name (codes " INTENT ") text
+  option_map Some (answer_at word)
+
+-- what a line says of INTENT: an answer behind its name, or nothing
+unfoldable pub intent_at : List ℕ → Option (Option Bool)
+intent_at text = if is_empty text then Some None else intent_word_at text
+
+-- CREATE: when the game begins, its period, whether it has grey press, what it says of INTENT, and its seats
 unfoldable pub opening_at : List ℕ → List ℕ → Option MasterRequest
 opening_at line body = do
   fields ← after_name (codes "CREATE DUE ") line
@@ -209,9 +224,10 @@ opening_at line body = do
   more ← after_name (codes "PERIOD ") due.1
   period ← period_at more
   last ← after_name (codes "GREY ") period.1
-  grey ← answer_at last
+  grey ← first_answer_at last
+  intent ← intent_at grey.1
   seats ← seats_at body
-  Some (Create due.0 period.0 grey seats)
+  Some (Create due.0 period.0 grey.0 intent seats)
 
 unfoldable pub tick_at : List ℕ → List ℕ → Option MasterRequest
 tick_at line body = do

@@ -96,8 +96,25 @@ pub struct Opening<'a> {
     pub period: u32,
     /// Whether the game has grey press.
     pub grey: bool,
+    /// What is said of INTENT: nothing means that it is off.
+    pub intent: Option<bool>,
     /// 1 to 7 seats.
     pub seats: Seats<'a>,
+}
+
+impl<'a> Opening<'a> {
+    ghost use Rattle.std.specs.Prelude.{◌≡◌};
+    ghost use Rattle.dip_letters.specs.Letters.{is_on};
+
+    /// Whether the game has the option INTENT: its letter says YES of it.
+    pub fn has_intent(&self) -> bool
+        ensures { result ≡ is_on self.now.intent }
+    {
+        match self.intent {
+            Some(answer) => answer,
+            None => false,
+        }
+    }
 }
 
 /// A seat of a new game.

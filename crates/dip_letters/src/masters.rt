@@ -1,6 +1,6 @@
 //! The commands of the master.
 ghost use Rattle.std.specs.Prelude.{◌≡◌, option_map};
-ghost use Rattle.dip_letters.specs.Reading.{announce_at, due_at, master_at, new_period_at, notice_at, opening_at, period_at, replace_at, tick_at};
+ghost use Rattle.dip_letters.specs.Reading.{announce_at, due_at, first_answer_at, intent_at, intent_word_at, master_at, new_period_at, notice_at, opening_at, period_at, replace_at, tick_at};
 ghost use Rattle.dip_letters.specs.Notes.MasterRequest.{Notify};
 ghost use Rattle.dip_letters.specs.Views.{master_request, notice_request};
 
@@ -32,12 +32,14 @@ fn opening_of<'a>(line: &'a str, body: &'a str) -> Option<MasterCommand<'a>>
     let fields = after("PERIOD ", fields)?;
     let (period, fields) = period_of(fields)?;
     let fields = after("GREY ", fields)?;
-    let grey = answer_of(fields)?;
+    let (grey, fields) = first_answer_of(fields)?;
+    let intent = intent_of(fields)?;
     let seats = seats_of(body)?;
     Some(MasterCommand::Create(Opening {
         due,
         period,
         grey,
+        intent,
         seats,
     }))
 }
@@ -66,6 +68,42 @@ fn period_of(text: &str) -> Option<(u32, &str)>
     } else {
         None
     }
+}
+
+/// The answer at the front, and what is behind it.
+#[tactic(auto, unfolding(crate::specs::Reading::first_answer_at))]
+fn first_answer_of(text: &str) -> Option<(bool, &str)>
+    ensures { option_map (λ p. (p.0, p.1.now)) result ≡ first_answer_at text.now }
+{
+    match after("YES", text) {
+        Some(rest) => Some((true, rest)),
+        None => {
+            let rest = after("NO", text)?;
+            Some((false, rest))
+        }
+    }
+}
+
+/// What is said of INTENT: an answer behind its name, or nothing.
+#[tactic(auto, unfolding(crate::specs::Reading::intent_at))]
+fn intent_of(text: &str) -> Option<Option<bool>>
+    ensures { result ≡ intent_at text.now }
+{
+    if text.is_empty() {
+        Some(None)
+    } else {
+        intent_word_of(text)
+    }
+}
+
+/// The answer behind the name INTENT.
+#[tactic(auto, unfolding(crate::specs::Reading::intent_word_at))]
+fn intent_word_of(text: &str) -> Option<Option<bool>>
+    ensures { result ≡ intent_word_at text.now }
+{
+    let word = after(" INTENT ", text)?;
+    let answer = answer_of(word)?;
+    Some(Some(answer))
 }
 
 #[tactic(auto, unfolding(crate::specs::Reading::tick_at), using(crate::proofs::NumberLemmas::due_facts))]

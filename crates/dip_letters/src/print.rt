@@ -1,7 +1,7 @@
 //! Letters as bytes.
 ghost use Rattle.std.specs.Prelude.{◌≡◌, ◌++◌, ◌∷◌, [], IfOk, OnOk, codes, map, string_bytes};
 ghost use Rattle.std.specs.Fmt.{decimal};
-ghost use Rattle.dip_letters.specs.Letters.{body_lines, command_line, master_body, master_line, notice_body, notice_line, player_body, player_line, press_name, seat_line, seat_words, spelling, text_line, words_of, yes_or_no};
+ghost use Rattle.dip_letters.specs.Letters.{body_lines, command_line, intent_words, master_body, master_line, notice_body, notice_line, player_body, player_line, press_name, seat_line, seat_words, spelling, text_line, words_of, yes_or_no};
 ghost use Rattle.dip_letters.specs.Lines.{text_of};
 ghost use Rattle.dip_letters.specs.Views.{lines_in, master_request, names_in, note, notice_request, player_request, request, seat_note, seats_in, texts_in};
 
@@ -161,7 +161,22 @@ fn opening_line(alloc: Global, opening: Opening<'_>) -> Result<String, AllocErro
         (master_request (MasterCommand.Create opening.entry))) }
 {
     let grey = yes_or_no(opening.grey);
-    format!(in alloc; "DUE {} PERIOD {} GREY {grey}", opening.due, opening.period)
+    let intent = intent_words(opening.intent);
+    format!(in alloc;
+        "DUE {} PERIOD {} GREY {grey}{intent}",
+        opening.due, opening.period
+    )
+}
+
+/// What a line says of INTENT.
+fn intent_words(intent: Option<bool>) -> &'static str
+    ensures { result.now ≡ intent_words intent }
+{
+    match intent {
+        Some(true) => " INTENT YES",
+        Some(false) => " INTENT NO",
+        None => "",
+    }
 }
 
 fn yes_or_no(answer: bool) -> &'static str

@@ -98,10 +98,14 @@ vote_line m v = codes "OK vote " ++ vote_text m v ++ codes "\n"
 abbrev pub replaced_line : List ℕ → List ℕ
 replaced_line power = codes "OK seat " ++ power ++ codes "\n"
 
--- when the next tick is due, what may be sent, and how many papers there are
-abbrev pub terms_text : Public → List ℕ
+-- that a game has the option INTENT; nothing where it has not
+abbrev pub intent_text : Bool → List ℕ
+intent_text intent = if intent then codes " INTENT YES" else []
+
+-- when the next tick is due, what may be sent, how moves are meant, and how many papers there are
+unfoldable pub terms_text : Public → List ℕ
 terms_text p = codes " DUE " ++ decimal p.due ++ codes " PERIOD " ++ decimal p.period ++ codes " GREY " ++ yes_or_no p.grey
-    ++ codes " PAPERS " ++ decimal p.papers
+    ++ intent_text p.board.intent ++ codes " PAPERS " ++ decimal p.papers
 
 -- the game line
 unfoldable pub game_line : Chart → Public → List ℕ

@@ -352,7 +352,7 @@ module _ (m : Chart) (ok : IsMap m) (t : Tables) (coded : AreCoded m t) (counts 
           papers = put_apart same_paper (is_paper_in public.game) (λ y. y.game ≡ public.game) u.papers (paper_row public.game public.papers paper ∷ []) (λ x y off its. paper_off x y public.game off its) held.papers (tt, tt) (refl, tt);
           ballots = put_apart same_ballot (is_ballot_in public.game) (λ y. y.game ≡ public.game) u.ballots (map (ballot_row m public.game) seats) (λ x y off its. ballot_off x y public.game off its) held.ballots
               (ballots_new m public.game seats (seats_new m ok public.game seats fits.2 fits.3)) (all_map (λ y. y.game ≡ public.game) (ballot_row m public.game) seats (all_of _ (λ s. refl) seats));
-          choices = put_apart same_choice (is_choice_in public.game) (λ y. y.game ≡ public.game) u.choices (choice_row public.game ∷ []) (λ x y off its. choice_off x y public.game off its) held.choices (tt, tt) (refl, tt);
+          choices = put_apart same_choice (is_choice_in public.game) (λ y. y.game ≡ public.game) u.choices (choice_row public.game public.board.intent ∷ []) (λ x y off its. choice_off x y public.game off its) held.choices (tt, tt) (refl, tt);
         }
       where
         no_game : (g : Option GameRow) → option_map (game_of m t) g ≡ None → g ≡ None
@@ -373,7 +373,7 @@ module _ (m : Chart) (ok : IsMap m) (t : Tables) (coded : AreCoded m t) (counts 
           boxes = held.boxes;
           papers = paper_more m ok name u held public.papers paper less;
           ballots = held.ballots;
-          choices = held.choices;
+          choices = put_apart same_choice (is_choice_in name) (λ y. y.game ≡ name) u.choices (choice_row name public.board.intent ∷ []) (λ x y off its. choice_off x y name off its) held.choices (tt, tt) (refl, tt);
         }
       where
         orders_left : (played : Bool) (ps : List _) → Differ same_order ps → Differ same_order (if played then delete_where (is_pending_in name) ps else ps)

@@ -12,14 +12,13 @@ use Rattle.dip_store_tables.proofs.MapTexts.{power_text}
 use Rattle.dip_store_tables.specs.Coding.{AreApart, HasGame, IsSeatOf, same_seat}
 use Rattle.dip_store_tables.specs.Legible.{IsText}
 use Rattle.dip_store_tables.specs.Tables.{BallotRow, GameRow, SeatRow, Tables, is_named}
-use Rattle.dip_store_tables.specs.Writing.{choice_row}
 use Rattle.dip_store_looks.specs.Readable.{HasText}
 use Rattle.dip_store_looks.proofs.RowLemmas.{has_text}
 use Rattle.dip_store_sql.specs.Good.{IsGood}
 use Rattle.dip_store_sql.specs.Rows.{tables_of}
 use Rattle.dip_store_sql.specs.Showing.{show_name, show_vote}
 use Rattle.dip_store_sql.proofs.Apart.{are_apart}
-use Rattle.dip_store_tables.specs.Renewing.{WasSeatWritten, WereOurs, old_ballot, renewed, voteless}
+use Rattle.dip_store_tables.specs.Renewing.{WasSeatWritten, WereOurs, old_ballot, old_choice, renewed, voteless}
 use Rattle.dip_store.specs.Renewing.{IsVoteReadable, filled, shown_ballot, shown_name}
 
 each_behind : {A B C : Type 0} (g : B → C) (f : A → B) (h : A → C) → ((x : A) → g (f x) ≡ h x) → (xs : List A) → map g (map f xs) ≡ map h xs
@@ -37,7 +36,7 @@ ballots_shown rows ss is = ap (map shown_ballot) is ∙ each_behind shown_ballot
 module _ (t : Tables) (no_ballots : t.ballots ≡ []) (no_choices : t.choices ≡ []) where
   pub filled_renewed : (names : List (List ℕ)) (ballots : List BallotRow) → names ≡ map (λ g. g.name) t.games → ballots ≡ map old_ballot t.seats → filled names ballots t ≡ renewed t
   filled_renewed names ballots named voted =
-      rw (no_ballots, no_choices, voted, named) (ap (λ cs. record (renewed t) { choices = cs }) (each_behind choice_row (λ (g : GameRow). g.name) (λ g. choice_row g.name) (λ g. refl) t.games))
+      rw (no_ballots, no_choices, voted, named) (ap (λ cs. record (renewed t) { choices = cs }) (each_behind old_choice (λ (g : GameRow). g.name) (λ g. old_choice g.name) (λ g. refl) t.games))
 
 -- no two games, and no two seats, agree on their key
 ascending_unmap : {A B : Type 0} (R : B → B → Type 0) (f : A → B) (xs : List A) → IsAscending R (map f xs) → IsAscending (λ a b. R (f a) (f b)) xs

@@ -9,14 +9,13 @@ use Rattle.dip_map.specs.Charts.{Chart}
 use Rattle.dip_desk_state.specs.State.{State as Content}
 use Rattle.dip_store_tables.specs.Counting.{AreCounted}
 use Rattle.dip_store_tables.specs.Tables.{BallotRow, ChoiceRow, Tables}
-use Rattle.dip_store_tables.specs.Writing.{choice_row}
 use Rattle.dip_store_looks.specs.Readable.{HasText}
 use Rattle.dip_store_changes.specs.Parts.{more_ballots}
 use Rattle.dip_store_sql.specs.Rows.{number_in}
 use Rattle.dip_store_sql.specs.TablesAfter.{on_desk, on_seats}
 use Rattle.dip_store.specs.Making.{HasTables}
 use Rattle.dip_store_sql.specs.Old.{WasGood, old_tables_of}
-use Rattle.dip_store_tables.specs.Renewing.{WereOurs, old_state_of, renewed, second, voteless}
+use Rattle.dip_store_tables.specs.Renewing.{WereOurs, old_choice, old_state_of, renewed, second, voteless}
 
 -- a database that keepers of version 1 alone have written, by this map
 pub record IsOldStore (m : Chart) (db : Database) : Type 0 where
@@ -38,7 +37,7 @@ more_choices cs t = record t { choices = t.choices ++ cs }
 
 -- tables with these ballots and a choice for each of these games, without votes in the seats' rows, and of version 2
 abbrev pub filled : List (List ℕ) → List BallotRow → Tables → Tables
-filled names ballots t = on_desk second (on_seats voteless (more_choices (map choice_row names) (more_ballots ballots t)))
+filled names ballots t = on_desk second (on_seats voteless (more_choices (map old_choice names) (more_ballots ballots t)))
 
 -- a game's name, and a seat's ballot, as the queries show them
 abbrev pub shown_name : Row → List ℕ

@@ -10,12 +10,11 @@ ghost use Rattle.dip_store_sql.specs.Calls.{Writes, does_show, is_honest, tables
 ghost use Rattle.dip_store_sql.specs.Causes.{has_faulted};
 ghost use Rattle.dip_map.specs.Charts.{Chart};
 ghost use Rattle.sqlite.specs.Tree.{Trees};
-ghost use Rattle.dip_store_tables.specs.Writing.{choice_row};
 ghost use Rattle.dip_store.specs.Founding.{Keeps};
 ghost use Rattle.dip_store.specs.Making.{HasTables, Leads};
 ghost use Rattle.dip_store_sql.specs.Old.{HasOld, WasGood};
 ghost use Rattle.dip_store_sql.specs.Calls.{SelectsFrom, WasKept, old_tables_in};
-ghost use Rattle.dip_store_tables.specs.Renewing.{WereOurs, old_ballot, renewed};
+ghost use Rattle.dip_store_tables.specs.Renewing.{WereOurs, old_ballot, old_choice, renewed};
 ghost use Rattle.dip_store.specs.Refusing.{IsOutage};
 ghost use Rattle.dip_store.specs.Renewing.{Fills, IsOldStore, Renews, filled, more_choices};
 
@@ -51,16 +50,16 @@ fn add_ballots<S: Alter>(tx: &mut Transaction<'_, S>, ballots: &[NewBallot]) -> 
 
 fn add_new_choice<S: Alter>(tx: &mut Transaction<'_, S>, game: &str) -> Result<(), Error>
     ensures same_reference { tx.new.conn.ghost_name ≡ tx.old.conn.ghost_name }
-    ensures writes { Writes (more_choices (choice_row game.now ∷ []))
+    ensures writes { Writes (more_choices (old_choice game.now ∷ []))
         (state S.Store tx.old.conn.now) (state S.Store tx.new.conn.now) result }
 {
-    add_choice(tx, game)?;
+    add_choice(tx, game, false)?;
     Ok(())
 }
 
 fn add_choices<S: Alter>(tx: &mut Transaction<'_, S>, games: &[String]) -> Result<(), Error>
     ensures same_reference { tx.new.conn.ghost_name ≡ tx.old.conn.ghost_name }
-    ensures writes { Writes (more_choices (each choice_row (lines games.now)))
+    ensures writes { Writes (more_choices (each old_choice (lines games.now)))
         (state S.Store tx.old.conn.now) (state S.Store tx.new.conn.now) result }
 {
     for game in games {
@@ -88,7 +87,7 @@ fn renew_tables<S: Alter>(
     Ok(())
 }
 
-/// Tables of version 1 become those of version 2 with these ballots, and with nothing chosen for these games: the whole of it or nothing.
+/// Tables of version 1 become those of version 2 with these ballots, and these games without the option INTENT: the whole of it or nothing.
 ///
 /// # Errors
 /// Want of memory, or what the disk refused. Then what was committed is as before.
@@ -147,7 +146,8 @@ fn old_ballots<S: Alter>(
     ballots_in(alloc, rows.as_slice())
 }
 
-/// Tables of version 1 become those of version 2, the whole of them or none: a vote becomes a ballot, and all else stays.
+/// Tables of version 1 become those of version 2, the whole of them or none: a vote becomes a ballot, no game has the option INTENT,
+/// and all else stays.
 ///
 /// # Errors
 /// `Memory`, `Disk`, or `OtherSchema` for a vote that no keeper wrote. Then what was committed is as before.

@@ -8,7 +8,7 @@ use Rattle.dip_store_tables.specs.Changing.{publishing}
 use Rattle.dip_store_tables.specs.Tables.{GameRow, Tables}
 use Rattle.dip_store_tables.specs.Writing.{game_row, number_of, paper_row}
 use Rattle.dip_store_sql.specs.TablesAfter.{game_as, on_game, with_paper}
-use Rattle.dip_store_changes.specs.Parts.{pending_left, with_board}
+use Rattle.dip_store_changes.specs.Parts.{choosing, pending_left, with_board}
 
 abbrev pub row_with : Chart → List ℕ → List ℕ → List ℕ → Public → GameRow
 row_with m name status standoff p = record {
@@ -28,6 +28,6 @@ pub row_is : (m : Chart) (p : Public) (n name s o : List ℕ) (r : GameRow) → 
 row_is m p n name s o r is a b c = rw (is, a, b, c) refl
 
 pub published : (m : Chart) (name paper : List ℕ) (p : Public) (played : Bool) (t : Tables)
-    → with_paper (paper_row name p.papers paper) (pending_left name played (with_board m name p.board (on_game name (game_as (game_row m name p)) t))) ≡ publishing m name p paper played t
+    → with_paper (paper_row name p.papers paper) (pending_left name played (choosing name p.board.intent (with_board m name p.board (on_game name (game_as (game_row m name p)) t)))) ≡ publishing m name p paper played t
 published m name paper p true t = refl
 published m name paper p false t = refl

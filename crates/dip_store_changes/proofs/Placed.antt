@@ -9,7 +9,7 @@ use Rattle.dip_desk_state.specs.Bounds.{most_items}
 use Rattle.dip_desk_state.specs.State.{Author, Effect, Nothing, Pending, Votes, Delivers, Opens, Publishes, Seats}
 use Rattle.dip_desk_state.specs.Records.{Item}
 use Rattle.dip_store_tables.specs.Changing.{is_reader}
-use Rattle.dip_store_tables.specs.Tables.{GameRow, SeatRow, Tables}
+use Rattle.dip_store_tables.specs.Tables.{ChoiceRow, GameRow, SeatRow, Tables}
 use Rattle.dip_store_tables.specs.Written.{IsGameWritten}
 use Rattle.dip_store_tables.specs.Room.{HasRoom, SentHasRoom}
 use Rattle.dip_store_changes.specs.Delivering.{AreSeats}
@@ -64,5 +64,5 @@ module _ (m : Chart) (name : List ℕ) where
   inboxes_room (Seats seat) ss rs are room = tt
 
 -- a written game counts its papers in 32 bits
-pub papers_narrow : (m : Chart) (units : List UnitRow) (centres : List CentreRow) (gs : List GameRow) → AllByRecursion (IsGameWritten m units centres) gs → AllByRecursion (λ g. g.papers < 2 ^ 32) gs
-papers_narrow m units centres gs all = all_weaker (IsGameWritten m units centres) (λ g. g.papers < 2 ^ 32) (λ g it. subst (λ n. n < 2 ^ 32) (sym (ap (λ (x : GameRow). x.papers) it.row)) it.narrow.2) gs all
+pub papers_narrow : (m : Chart) (units : List UnitRow) (centres : List CentreRow) (choices : List ChoiceRow) (gs : List GameRow) → AllByRecursion (IsGameWritten m units centres choices) gs → AllByRecursion (λ g. g.papers < 2 ^ 32) gs
+papers_narrow m units centres choices gs all = all_weaker (IsGameWritten m units centres choices) (λ g. g.papers < 2 ^ 32) (λ g it. subst (λ n. n < 2 ^ 32) (sym (ap (λ (x : GameRow). x.papers) it.row)) it.narrow.2) gs all

@@ -32,11 +32,15 @@ with_board m game b t = record t {
 abbrev pub more_ballots : List BallotRow → Tables → Tables
 more_ballots bs t = record t { ballots = t.ballots ++ bs }
 
--- a game's ballots are those of new seats, and its choice is that of a new game
-abbrev pub with_votes : Chart → List ℕ → List NewSeat → Tables → Tables
-with_votes m game seats t = record t {
+-- a game's choice is this
+abbrev pub choosing : List ℕ → Bool → Tables → Tables
+choosing game intent t = record t { choices = delete_where (is_choice_in game) t.choices ++ choice_row game intent ∷ [] }
+
+-- a game's ballots are those of new seats, and its choice is this
+abbrev pub with_votes : Chart → List ℕ → List NewSeat → Bool → Tables → Tables
+with_votes m game seats intent t = record t {
   ballots = delete_where (is_ballot_in game) t.ballots ++ map (ballot_row m game) seats;
-  choices = delete_where (is_choice_in game) t.choices ++ choice_row game ∷ [];
+  choices = delete_where (is_choice_in game) t.choices ++ choice_row game intent ∷ [];
 }
 
 -- no seats, orders, items and papers of a game

@@ -7,12 +7,12 @@ ghost use Rattle.dip_store_tables.specs.Boards.{power_name};
 ghost use Rattle.dip_store_tables.specs.Changing.{with_vote};
 ghost use Rattle.dip_store_tables.specs.Writing.{ballot_row};
 ghost use Rattle.dip_store_sql.specs.Calls.{Writes};
-ghost use Rattle.dip_store_sql.specs.Keys.{Differ, same_ballot};
+ghost use Rattle.dip_store_sql.specs.Keys.{Differ, same_ballot, same_choice};
 ghost use Rattle.dip_store_sql.specs.Wants.{Wants, always};
-ghost use Rattle.dip_store_changes.specs.Parts.{VotesDiffer, more_ballots, with_votes};
+ghost use Rattle.dip_store_changes.specs.Parts.{VotesDiffer, choosing, more_ballots, with_votes};
 
 use dip_desk_state::{NewSeat, Vote};
-use dip_map::Map;
+use dip_map::{Board, Map};
 use dip_names::Power;
 use dip_store_sql::{add_ballot, add_choice, drop_ballots, drop_choices, note_ballot};
 use dip_store_tables::ballot_text;
@@ -57,24 +57,43 @@ fn add_ballots<S: Alter>(
     Ok(())
 }
 
-/// The ballots of a new game's seats, which say `NO`, and its choice. Rows that are there of a game of that name go first.
+/// The game's choice is that of the board: whether it has the option INTENT.
+pub(crate) fn put_choice<S: Alter>(
+    tx: &mut Transaction<'_, S>,
+    game: &str,
+    board: &Board,
+) -> Result<(), Error>
+    ensures same_reference { tx.new.conn.ghost_name ≡ tx.old.conn.ghost_name }
+    ensures writes { Writes (choosing game.now board.now.intent)
+        (state S.Store tx.old.conn.now) (state S.Store tx.new.conn.now) result }
+    ensures wants { Wants (λ t. Differ same_choice (choosing game.now board.now.intent t).choices)
+        (state S.Store tx.old.conn.now) (state S.Store tx.new.conn.now) result }
+{
+    drop_choices(tx, game)?;
+    add_choice(tx, game, board.intent())?;
+    Ok(())
+}
+
+/// The ballots of a new game's seats, which say `NO`, and its choice, that of its board. Rows that are there of a game of that name go
+/// first.
 pub(crate) fn open_votes<S: Alter>(
     tx: &mut Transaction<'_, S>,
     map: &Map,
     game: &str,
     seats: &[NewSeat],
+    board: &Board,
 ) -> Result<(), Error>
     ensures same_reference { tx.new.conn.ghost_name ≡ tx.old.conn.ghost_name }
-    ensures writes { Writes (with_votes map.now game.now (each machine.new_seat seats.now))
+    ensures writes { Writes
+        (with_votes map.now game.now (each machine.new_seat seats.now) board.now.intent)
         (state S.Store tx.old.conn.now) (state S.Store tx.new.conn.now) result }
     ensures wants { Wants (λ t. VotesDiffer
-        (with_votes map.now game.now (each machine.new_seat seats.now) t))
+        (with_votes map.now game.now (each machine.new_seat seats.now) board.now.intent t))
         (state S.Store tx.old.conn.now) (state S.Store tx.new.conn.now) result }
 {
     drop_ballots(tx, game)?;
     add_ballots(tx, map, game, seats)?;
-    drop_choices(tx, game)?;
-    add_choice(tx, game)?;
+    put_choice(tx, game, board)?;
     Ok(())
 }
 

@@ -15,7 +15,7 @@ ghost use Rattle.dip_store_sql.specs.Wants.{Wants, always};
 ghost use Rattle.dip_store_sql.specs.RowViews as rows;
 ghost use Rattle.dip_store_changes.specs.Parts.{cleared, pending_left};
 
-use crate::ballots::open_votes;
+use crate::ballots::{open_votes, put_choice};
 use crate::boards::put_board;
 use crate::seats::add_seats;
 use crate::texts::{standoff_text, status_text};
@@ -156,7 +156,7 @@ pub fn open_game<S: Alter>(
     add_seats(tx, map, game, seats)?;
     put_board(tx, map, game, &public.board)?;
     add_paper(tx, game, public.papers, paper)?;
-    open_votes(tx, map, game, seats)?;
+    open_votes(tx, map, game, seats, &public.board)?;
     Ok(())
 }
 
@@ -195,6 +195,7 @@ pub fn publish<S: Alter>(
 {
     renew_row(alloc, tx, map, game, public)?;
     put_board(tx, map, game, &public.board)?;
+    put_choice(tx, game, &public.board)?;
     end_phase(tx, game, played)?;
     add_paper(tx, game, public.papers, paper)?;
     Ok(())

@@ -21,9 +21,9 @@ use Rattle.dip_names.specs.declared.names.Place.{Place}
 use Rattle.dip_names.specs.declared.names.Terrain.{Terrain}
 use Rattle.dip_names.specs.declared.names.Terrain.TheVariants.{Inland, Coast, Sea}
 use Rattle.dip_names.specs.declared.names.Unit.{Unit as AUnit}
-use Rattle.dip_store_sql.specs.Showing.{show_centre, show_game, show_unit}
-use Rattle.dip_store_tables.specs.Tables.{GameRow, Tables, is_centre_in, is_named, is_unit_in}
-use Rattle.dip_store_tables.specs.Writing.{game_row}
+use Rattle.dip_store_sql.specs.Showing.{show_centre, show_choice, show_game, show_unit}
+use Rattle.dip_store_tables.specs.Tables.{ChoiceRow, GameRow, Tables, is_centre_in, is_choice_in, is_named, is_unit_in}
+use Rattle.dip_store_tables.specs.Writing.{choice_row, game_row}
 use Rattle.dip_store_tables.specs.Written.{IsGameWritten}
 use Rattle.dip_store_looks.specs.Readable.{IsCentreReadable, IsGameReadable, IsUnitReadable}
 use Rattle.dip_store_looks.specs.Shown.{shown_centre, shown_unit}
@@ -150,9 +150,9 @@ module _ (m : Chart) (ok : IsMap m) where
   season_small FallRetreats = omega arith
   season_small Winter = omega arith
 
-  game_readable : (units : List UnitRow) (centres : List CentreRow) (g : GameRow) (it : IsGameWritten m units centres g)
-      → IsGameReadable m (show_game (game_row m g.name it.public)) (map show_unit (unit_rows m g.name it.public.board)) (map show_centre (centre_rows m g.name it.public.board))
-  game_readable units centres g it =
+  game_readable : (units : List UnitRow) (centres : List CentreRow) (choices : List ChoiceRow) (g : GameRow) (it : IsGameWritten m units centres choices g)
+      → IsGameReadable m (show_game (game_row m g.name it.public)) (map show_unit (unit_rows m g.name it.public.board)) (map show_centre (centre_rows m g.name it.public.board)) (Some (show_choice (choice_row g.name it.public.board.intent)))
+  game_readable units centres choices g it =
       let p = it.public in
       let n = g.name in
       let r = show_game (game_row m n p) in
@@ -181,26 +181,27 @@ module _ (m : Chart) (ok : IsMap m) where
         period = has_number r 4 p.period (omega arith) refl it.narrow.1;
         grey = has_number r 5 _ (omega arith) refl (small_number p.grey);
         papers = has_number r 6 p.papers (omega arith) refl it.narrow.2;
+        intent = has_number (show_choice (choice_row n p.board.intent)) 0 _ (omega arith) refl (small_number p.board.intent);
       }
 
 -- the rows of the game that is found
-pub game_found_readable : (m : Chart) (t : Tables) → AreOurs m t → (name : List ℕ) (row : Row) (units centres : List Row)
+pub game_found_readable : (m : Chart) (t : Tables) → AreOurs m t → (name : List ℕ) (row : Row) (units centres : List Row) (choice : Option Row)
     → Some row ≡ option_map show_game (find (is_named name) t.games)
     → units ≡ map show_unit (filter (is_unit_in name) t.units) → centres ≡ map show_centre (filter (is_centre_in name) t.centres)
-    → IsGameReadable m row units centres
-game_found_readable m t ours name row units centres shown us cs = by_game (find (is_named name) t.games) refl
+    → choice ≡ option_map show_choice (find (is_choice_in name) t.choices) → IsGameReadable m row units centres choice
+game_found_readable m t ours name row units centres choice shown us cs chosen = by_game (find (is_named name) t.games) refl
   where
-    written : (g : GameRow) → find (is_named name) t.games ≡ Some g → IsGameWritten m t.units t.centres g
+    written : (g : GameRow) → find (is_named name) t.games ≡ Some g → IsGameWritten m t.units t.centres t.choices g
     written g found = all_found t.games ours.written.games found
       where
-        all_found : (xs : List GameRow) → AllByRecursion (IsGameWritten m t.units t.centres) xs → find (is_named name) xs ≡ Some g → IsGameWritten m t.units t.centres g
+        all_found : (xs : List GameRow) → AllByRecursion (IsGameWritten m t.units t.centres t.choices) xs → find (is_named name) xs ≡ Some g → IsGameWritten m t.units t.centres t.choices g
         all_found [] all = λ is. absurd (cc)
         all_found (x ∷ xs) all = elim (cases_Bool (is_named name x)) [
-          | inl hit ↦ rw hit (λ is. let same : x ≡ g = cc in subst (IsGameWritten m t.units t.centres) same all.0)
+          | inl hit ↦ rw hit (λ is. let same : x ≡ g = cc in subst (IsGameWritten m t.units t.centres t.choices) same all.0)
           | inr off ↦ rw off (λ is. all_found xs all.1 is)
         ]
 
-    by_game : (o : Option GameRow) → find (is_named name) t.games ≡ o → IsGameReadable m row units centres
+    by_game : (o : Option GameRow) → find (is_named name) t.games ≡ o → IsGameReadable m row units centres choice
     by_game None none = absurd (let bad = shown ∙ ap (option_map show_game) none in cc)
     by_game (Some g) found =
         let same : row ≡ show_game g = (let both = shown ∙ ap (option_map show_game) found in cc) in
@@ -209,7 +210,9 @@ game_found_readable m t ours name row units centres shown us cs = by_game (find 
         let row_is = same ∙ ap show_game it.row in
         let units_are = us ∙ ap (λ n. map show_unit (filter (is_unit_in n) t.units)) (sym named) ∙ ap (map show_unit) it.its_units in
         let centres_are = cs ∙ ap (λ n. map show_centre (filter (is_centre_in n) t.centres)) (sym named) ∙ ap (map show_centre) it.its_centres in
-        let read = game_readable m ours.map t.units t.centres g it in
-        subst (λ r. IsGameReadable m r units centres) (sym row_is)
-        (subst (λ xs. IsGameReadable m (show_game (game_row m g.name it.public)) xs centres) (sym units_are)
-        (subst (λ xs. IsGameReadable m (show_game (game_row m g.name it.public)) (map show_unit (unit_rows m g.name it.public.board)) xs) (sym centres_are) read))
+        let choice_is = chosen ∙ ap (λ n. option_map show_choice (find (is_choice_in n) t.choices)) (sym named) ∙ ap (option_map show_choice) it.its_choice in
+        let read = game_readable m ours.map t.units t.centres t.choices g it in
+        subst (λ r. IsGameReadable m r units centres choice) (sym row_is)
+        (subst (λ xs. IsGameReadable m (show_game (game_row m g.name it.public)) xs centres choice) (sym units_are)
+        (subst (λ xs. IsGameReadable m (show_game (game_row m g.name it.public)) (map show_unit (unit_rows m g.name it.public.board)) xs choice) (sym centres_are)
+        (subst (λ o. IsGameReadable m (show_game (game_row m g.name it.public)) (map show_unit (unit_rows m g.name it.public.board)) (map show_centre (centre_rows m g.name it.public.board)) o) (sym choice_is) read)))

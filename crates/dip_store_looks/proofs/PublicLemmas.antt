@@ -1,15 +1,15 @@
 -- What the rows of a game show is what its records say.
-use Rattle.std.proofs.Common.{◌≡◌, ℕ, List, [], ◌∷◌, map, filter, option_map, bytes_eq, Option, Some, None, refl, sym, ap, ap₂, ◌∙◌, inl, inr}
+use Rattle.std.proofs.Common.{◌≡◌, ℕ, Bool, List, [], ◌∷◌, map, filter, option_map, bytes_eq, Option, Some, None, refl, sym, ap, ap₂, ◌∙◌, inl, inr}
 use Rattle.std.specs.List.{find}
 use Rattle.std.proofs.lemmas.Bool.{cases_Bool}
 use Rattle.std.proofs.lemmas.Slice.Eq.{bytes_eq-Decides}
 use Rattle.sqlite.specs.Order.{Row}
 use Rattle.dip_map.specs.Charts.{Chart, Province}
 use Rattle.dip_store_tables.specs.Boards.{UnitRow, CentreRow, board_of, unit_of, dislodged_of, stands, fell, owner_in, standoff_of, season_of}
-use Rattle.dip_store_sql.specs.Showing.{show_game, show_unit, show_centre}
-use Rattle.dip_store_tables.specs.Reading.{public_of}
-use Rattle.dip_store_tables.specs.Tables.{GameRow, Tables, is_named, is_unit_in, is_centre_in}
-use Rattle.dip_store_looks.specs.Shown.{shown_unit, shown_centre, shown_public}
+use Rattle.dip_store_sql.specs.Showing.{show_choice, show_game, show_unit, show_centre}
+use Rattle.dip_store_tables.specs.Reading.{intends, intent_in, public_of}
+use Rattle.dip_store_tables.specs.Tables.{ChoiceRow, GameRow, Tables, is_named, is_unit_in, is_centre_in, is_choice_in}
+use Rattle.dip_store_looks.specs.Shown.{shown_unit, shown_centre, shown_intent, shown_public}
 
 module _ (m : Chart) where
   standing_shown : (us : List UnitRow) → map (unit_of m) (filter stands (map shown_unit (map show_unit us))) ≡ map (unit_of m) (filter stands us)
@@ -38,9 +38,9 @@ module _ (m : Chart) where
   owners_shown cs [] = refl
   owners_shown cs (p ∷ ps) = ap₂ ◌∷◌ (owner_shown cs p.code) (owners_shown cs ps)
 
-  board_shown : (us : List UnitRow) (cs : List CentreRow) (standoff : List ℕ) (year season : ℕ)
-      → board_of m (map shown_unit (map show_unit us)) (map shown_centre (map show_centre cs)) standoff year season ≡ board_of m us cs standoff year season
-  board_shown us cs standoff year season =
+  board_shown : (us : List UnitRow) (cs : List CentreRow) (standoff : List ℕ) (year season : ℕ) (intent : Bool)
+      → board_of m (map shown_unit (map show_unit us)) (map shown_centre (map show_centre cs)) standoff year season intent ≡ board_of m us cs standoff year season intent
+  board_shown us cs standoff year season intent =
       let units = standing_shown us in
       let dislodged = fallen_shown us in
       let owners = owners_shown cs m.provinces in
@@ -50,7 +50,12 @@ module _ (m : Chart) where
         standoff = standoff_of m standoff;
         owners = owners i;
         phase = record { year = year; season = season_of season };
+        intent = intent;
       }
+
+  intent_shown : (o : Option ChoiceRow) → shown_intent (option_map show_choice o) ≡ intends o
+  intent_shown None = refl
+  intent_shown (Some c) = refl
 
   -- the game that is found has the name
   pub found_named : (name : List ℕ) (gs : List GameRow) (g : GameRow) → find (is_named name) gs ≡ Some g → g.name ≡ name
@@ -64,22 +69,26 @@ module _ (m : Chart) where
       name_if name None = name
       name_if name (Some x) = x.name
 
-  pub public_is : (t : Tables) (name : List ℕ) (row : Row) (units centres : List Row)
+  pub public_is : (t : Tables) (name : List ℕ) (row : Row) (units centres : List Row) (choice : Option Row)
       → Some row ≡ option_map show_game (find (is_named name) t.games)
       → units ≡ map show_unit (filter (is_unit_in name) t.units) → centres ≡ map show_centre (filter (is_centre_in name) t.centres)
-      → Some (shown_public m name row units centres) ≡ option_map (public_of m t.units t.centres) (find (is_named name) t.games)
-  public_is t name row units centres shown us cs = by_game (find (is_named name) t.games) refl
+      → choice ≡ option_map show_choice (find (is_choice_in name) t.choices)
+      → Some (shown_public m name row units centres choice) ≡ option_map (public_of m t.units t.centres t.choices) (find (is_named name) t.games)
+  public_is t name row units centres choice shown us cs chosen = by_game (find (is_named name) t.games) refl
     where
-      of_game : (g : GameRow) → g.name ≡ name → row ≡ show_game g → shown_public m name row units centres ≡ public_of m t.units t.centres g
+      of_game : (g : GameRow) → g.name ≡ name → row ≡ show_game g → shown_public m name row units centres choice ≡ public_of m t.units t.centres t.choices g
       of_game g named is =
-          let all = ap₂ (λ u c. shown_public m name (show_game g) u c) us cs in
-          let board = board_shown (filter (is_unit_in name) t.units) (filter (is_centre_in name) t.centres) g.standoff g.year g.phase in
-          let mine = ap (λ b. record (public_of m t.units t.centres g) { game = name; board = b }) board in
-          let other = ap (λ n. record (public_of m t.units t.centres g) { game = n; board = board_of m (filter (is_unit_in n) t.units) (filter (is_centre_in n) t.centres) g.standoff g.year g.phase }) (sym named) in
-          ap (λ r. shown_public m name r units centres) is ∙ all ∙ mine ∙ other
+          let mine_units = filter (is_unit_in name) t.units in
+          let mine_centres = filter (is_centre_in name) t.centres in
+          let mine_choice = find (is_choice_in name) t.choices in
+          let all = ap₂ (λ u c. shown_public m name (show_game g) u c choice) us cs ∙ ap (shown_public m name (show_game g) (map show_unit mine_units) (map show_centre mine_centres)) chosen in
+          let board = board_shown mine_units mine_centres g.standoff g.year g.phase (shown_intent (option_map show_choice mine_choice)) ∙ ap (board_of m mine_units mine_centres g.standoff g.year g.phase) (intent_shown mine_choice) in
+          let mine = ap (λ b. record (public_of m t.units t.centres t.choices g) { game = name; board = b }) board in
+          let other = ap (λ n. record (public_of m t.units t.centres t.choices g) { game = n; board = board_of m (filter (is_unit_in n) t.units) (filter (is_centre_in n) t.centres) g.standoff g.year g.phase (intent_in t.choices n) }) (sym named) in
+          ap (λ r. shown_public m name r units centres choice) is ∙ all ∙ mine ∙ other
 
-      by_game : (o : Option GameRow) → find (is_named name) t.games ≡ o → Some (shown_public m name row units centres) ≡ option_map (public_of m t.units t.centres) (find (is_named name) t.games)
+      by_game : (o : Option GameRow) → find (is_named name) t.games ≡ o → Some (shown_public m name row units centres choice) ≡ option_map (public_of m t.units t.centres t.choices) (find (is_named name) t.games)
       by_game None none = absurd (let bad = shown ∙ ap (option_map show_game) none in cc)
       by_game (Some g) found =
           let same : row ≡ show_game g = (let both = shown ∙ ap (option_map show_game) found in cc) in
-          ap Some (of_game g (found_named name t.games g found) same) ∙ sym (ap (option_map (public_of m t.units t.centres)) found)
+          ap Some (of_game g (found_named name t.games g found) same) ∙ sym (ap (option_map (public_of m t.units t.centres t.choices)) found)

@@ -33,15 +33,15 @@ module _ (m : Chart) where
   ]
 
   pub whole_is : (t : Tables) (name : List ℕ) (public : Public) (owns : List Own) (seats : List Row)
-      → Some public ≡ option_map (public_of m t.units t.centres) (find (is_named name) t.games)
+      → Some public ≡ option_map (public_of m t.units t.centres t.choices) (find (is_named name) t.games)
       → owns ≡ map (listed_own m t name) seats → seats ≡ map show_listed (filter (is_seat_in name) t.seats)
       → Some (record { public = public; seats = owns }) ≡ option_map (whole_in m t) (find (is_named name) t.games)
   whole_is t name public owns seats told read listed = by_game (find (is_named name) t.games) refl
     where
       by_game : (o : Option GameRow) → find (is_named name) t.games ≡ o → Some (record { public = public; seats = owns }) ≡ option_map (whole_in m t) (find (is_named name) t.games)
-      by_game None none = absurd (let bad = told ∙ ap (option_map (public_of m t.units t.centres)) none in cc)
+      by_game None none = absurd (let bad = told ∙ ap (option_map (public_of m t.units t.centres t.choices)) none in cc)
       by_game (Some g) found =
-          let same : public ≡ public_of m t.units t.centres g = (let both = told ∙ ap (option_map (public_of m t.units t.centres)) found in cc) in
+          let same : public ≡ public_of m t.units t.centres t.choices g = (let both = told ∙ ap (option_map (public_of m t.units t.centres t.choices)) found in cc) in
           let named = found_named m name t.games g found in
           let mine = read ∙ ap (map (listed_own m t name)) listed ∙ owns_listed t name t.seats ∙ ap (λ n. map (own_of m t.pending t.ballots) (filter (is_seat_in n) t.seats)) (sym named) in
           ap₂ (λ p os. Some (record { public = p; seats = os })) same mine ∙ sym (ap (option_map (whole_in m t)) found)

@@ -18,7 +18,7 @@ page_in boxes first most s =
 -- a game with the own parts of its seats
 abbrev pub whole_in : Chart → Tables → GameRow → Whole
 whole_in m t g = record {
-  public = public_of m t.units t.centres g;
+  public = public_of m t.units t.centres t.choices g;
   seats = map (own_of m t.pending t.ballots) (filter (is_seat_in g.name) t.seats);
 }
 

@@ -1,5 +1,5 @@
 -- Rows that can be read by a map: each column has a value of its kind, and what it says is of the map.
-use Rattle.std.specs.Prelude.{◌≡◌, ℕ, pos, ◌<◌, ◌+◌, ◌^◌, List, length, map}
+use Rattle.std.specs.Prelude.{◌≡◌, ℕ, pos, ◌<◌, ◌+◌, ◌^◌, List, Option, None, Some, length, map}
 use Rattle.std.specs.List.{AllByRecursion}
 use Rattle.std.specs.Str.{IsUtf8}
 use Rattle.sqlite.specs.declared.types.Value.TheVariants.{Int, Text as Words, Blob as Bytes}
@@ -62,7 +62,12 @@ pub record IsBoardReadable (m : Chart) (r : Row) (units centres : List Row) : Ty
   pub of_map : AreOfBoard m (map shown_unit units) (map shown_centre centres) (bytes (column r 7))
       (number_in (column r 1))
 
-pub record IsGameReadable (m : Chart) (r : Row) (units centres : List Row) : Type 0 where
+-- the row of a choice, if there is one
+abbrev pub IsChoiceReadable : Option Row → Type 0
+IsChoiceReadable None = Unit {0}
+IsChoiceReadable (Some r) = HasNumber r 0
+
+pub record IsGameReadable (m : Chart) (r : Row) (units centres : List Row) (choice : Option Row) : Type 0 where
   pub board : IsBoardReadable m r units centres
   pub status : HasText r 2
   pub told : IsStatusText m (bytes (column r 2))
@@ -70,6 +75,7 @@ pub record IsGameReadable (m : Chart) (r : Row) (units centres : List Row) : Typ
   pub period : HasNumber r 4
   pub grey : HasNumber r 5
   pub papers : HasNumber r 6
+  pub intent : IsChoiceReadable choice
 
 -- an author's last letter, from a column on: its number, and behind the first letter a sum and a printed reply
 pub record IsKeptReadable (r : Row) (at : ℕ) : Type 0 where

@@ -1,6 +1,6 @@
 -- Rows as the queries show them, read back as records; what a query doesn't show is left empty.
 use Rattle.dip_store_looks.specs.declared.own.Beside.{Beside}
-use Rattle.std.specs.Prelude.{◌≡◌, ℕ, ◌+◌, ◌==◌, List, [], filter, map}
+use Rattle.std.specs.Prelude.{◌≡◌, ℕ, ◌+◌, ◌==◌, Bool, false, List, [], Option, None, Some, filter, map}
 use Rattle.sqlite.specs.Order.{Row, column, bytes}
 use Rattle.dip_map.specs.Charts.{Chart}
 use Rattle.dip_store_tables.specs.Boards.{UnitRow, CentreRow, board_of, power_in}
@@ -27,12 +27,17 @@ shown_unit r = record {
 abbrev pub shown_centre : Row → CentreRow
 shown_centre r = record { game = []; province = bytes (column r 0); power = bytes (column r 1) }
 
--- the public part of a game that its row, its units and its centres show
-abbrev pub shown_public : Chart → List ℕ → Row → List Row → List Row → Public
-shown_public m name r units centres = record {
+-- a game has the option INTENT where the row of its choice shows 1; without such a row it hasn't
+abbrev pub shown_intent : Option Row → Bool
+shown_intent None = false
+shown_intent (Some r) = number_in (column r 0) == 1
+
+-- the public part of a game that its row, its units, its centres and its choice show
+abbrev pub shown_public : Chart → List ℕ → Row → List Row → List Row → Option Row → Public
+shown_public m name r units centres choice = record {
   game = name;
   board = board_of m (map shown_unit units) (map shown_centre centres) (bytes (column r 7)) (number_in (column r 0))
-      (number_in (column r 1));
+      (number_in (column r 1)) (shown_intent choice);
   status = status_of m (bytes (column r 2));
   due = number_in (column r 3);
   period = number_in (column r 4);

@@ -27,17 +27,18 @@ fn year_of(row: &Row) -> Result<u16, LookFault>
     }
 }
 
-/// The board of a game's row, its units' rows and its centres' rows.
+/// The board of a game's row, its units' rows and its centres' rows, with the option INTENT or without it.
 pub(crate) fn board_in(
     alloc: Global,
     map: &Map,
     row: &Row,
     units: &[Row],
     centres: &[Row],
+    intent: bool,
 ) -> Result<Board, LookFault>
     ensures value { IfOk result (λ b. b ≡ board_of map.now (each shown_unit units.now)
         (each shown_centre centres.now) (bytes (column row.now 7)) (number_in (column row.now 0))
-        (number_in (column row.now 1))) }
+        (number_in (column row.now 1)) intent) }
     ensures own { IsBoardReadable map.now row.now units.now centres.now
         → IfErr result (IsFromOutside ⊥) }
 {
@@ -53,6 +54,7 @@ pub(crate) fn board_in(
         standoff.as_str(),
         year_of(row)?,
         season,
+        intent,
     )?;
     match read {
         Some(board) => Ok(board),

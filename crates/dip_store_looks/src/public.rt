@@ -4,8 +4,8 @@ ghost use Rattle.std.specs.List.{find};
 ghost use Rattle.sqlite.specs.Order.{bytes, column};
 ghost use Rattle.dip_store_tables.specs.Columns.{IsStatusText};
 ghost use Rattle.dip_store_looks.specs.Faults.{IsFromOutside};
-ghost use Rattle.dip_store_looks.specs.Readable.{HasText, IsGameReadable};
-ghost use Rattle.dip_store_looks.specs.Shown.{shown_public};
+ghost use Rattle.dip_store_looks.specs.Readable.{HasText, IsChoiceReadable, IsGameReadable};
+ghost use Rattle.dip_store_looks.specs.Shown.{shown_intent, shown_public};
 ghost use Rattle.dip_store_tables.specs.Legible.{AreOurs};
 ghost use Rattle.dip_desk_state.specs.Rows as rows;
 ghost use Rattle.dip_store_sql.specs.Causes.{has_faulted};
@@ -18,7 +18,7 @@ use crate::faults::LookFault;
 use crate::values::{number_at, text_at, tick_at};
 use dip_desk_state::{Public, Status};
 use dip_map::Map;
-use dip_store_sql::{find_game, list_centres, list_units};
+use dip_store_sql::{find_choice, find_game, list_centres, list_units};
 use dip_store_tables::read_status;
 use sqlite::{Alter, Connection, Row};
 use std::alloc::Global;
@@ -36,7 +36,18 @@ fn status_in(alloc: Global, map: &Map, row: &Row) -> Result<Status, LookFault>
     }
 }
 
-/// The public part that a game's row, its units' rows and its centres' rows show.
+/// Whether a game has the option INTENT, by the row of its choice; without such a row it hasn't.
+fn intent_in(choice: Option<Row>) -> Result<bool, LookFault>
+    ensures value { IfOk result (λ b. b ≡ shown_intent choice) }
+    ensures own { IsChoiceReadable choice → IfErr result (IsFromOutside ⊥) }
+{
+    match choice {
+        Some(row) => Ok(number_at(&row, 0)? == 1),
+        None => Ok(false),
+    }
+}
+
+/// The public part that a game's row, its units' rows, its centres' rows and its choice's row show.
 fn public_in(
     alloc: Global,
     map: &Map,
@@ -44,16 +55,19 @@ fn public_in(
     row: &Row,
     units: &[Row],
     centres: &[Row],
+    choice: Option<Row>,
 ) -> Result<Public, LookFault>
     ensures value { IfOk result (λ p.
-        rows.public p ≡ shown_public map.now game.now row.now units.now centres.now) }
-    ensures own { IsGameReadable map.now row.now units.now centres.now
+        rows.public p
+        ≡ shown_public map.now game.now row.now units.now centres.now choice) }
+    ensures own { IsGameReadable map.now row.now units.now centres.now choice
         → IfErr result (IsFromOutside ⊥) }
 {
     let grey = number_at(row, 5)?;
+    let intent = intent_in(choice)?;
     Ok(Public {
         game: String::from_str(alloc, game)?,
-        board: board_in(alloc, map, row, units, centres)?,
+        board: board_in(alloc, map, row, units, centres, intent)?,
         status: status_in(alloc, map, row)?,
         due: tick_at(row, 3)?,
         period: number_at(row, 4)?,
@@ -74,7 +88,8 @@ pub fn look_public<S: Alter>(
 ) -> Result<Option<Public>, LookFault>
     ensures value { IsKept S.Store conn.old → is_honest S.Store conn.new → IfOk result (λ o.
         option_map rows.public o ≡ option_map
-        (public_of map.now (tables_in S.Store conn.old).units (tables_in S.Store conn.old).centres)
+        (public_of map.now (tables_in S.Store conn.old).units (tables_in S.Store conn.old).centres
+        (tables_in S.Store conn.old).choices)
         (find (is_named game.now) (tables_in S.Store conn.old).games)) }
     ensures selects { Selects S.Store conn.old conn.new result }
     ensures own { IsKept S.Store conn.old → does_show S.Store conn.old → is_honest S.Store conn.new
@@ -86,6 +101,15 @@ pub fn look_public<S: Alter>(
     };
     let units = list_units(conn, game)?;
     let centres = list_centres(conn, game)?;
-    let public = public_in(alloc, map, game, &row, units.as_slice(), centres.as_slice())?;
+    let choice = find_choice(conn, game)?;
+    let public = public_in(
+        alloc,
+        map,
+        game,
+        &row,
+        units.as_slice(),
+        centres.as_slice(),
+        choice,
+    )?;
     Ok(Some(public))
 }

@@ -3,7 +3,7 @@ use Rattle.std.proofs.Common.{ℕ, pos, List, [], ◌∷◌, refl}
 use Rattle.sqlite.specs.declared.types.Value.TheVariants.{Int, Text}
 use Rattle.dip_store_sql.specs.Asking.{Accepts, AcceptsIn}
 use Rattle.dip_store_sql.specs.Old.{old_schema}
-use Rattle.dip_store_sql.specs.Statements.{find_desk_query, find_game_query, count_papers_query, find_seat_query, count_sent_query, find_item_query, find_paper_query, list_seats_query, list_units_query, list_centres_query, list_orders_query, find_ballot_query, list_games_query, list_votes_query}
+use Rattle.dip_store_sql.specs.Statements.{find_desk_query, find_game_query, count_papers_query, find_seat_query, count_sent_query, find_item_query, find_paper_query, list_seats_query, list_units_query, list_centres_query, list_orders_query, find_ballot_query, find_choice_query, list_games_query, list_votes_query}
 
 pub find_desk : Accepts find_desk_query []
 find_desk = refl
@@ -40,6 +40,9 @@ list_orders game power = refl
 
 pub find_ballot : (game : List ℕ) (power : List ℕ) → Accepts find_ballot_query (Text game ∷ Text power ∷ [])
 find_ballot game power = refl
+
+pub find_choice : (game : List ℕ) → Accepts find_choice_query (Text game ∷ [])
+find_choice game = refl
 
 -- in a store of version 1
 pub find_old_desk : AcceptsIn old_schema find_desk_query []

@@ -7,14 +7,14 @@ use Rattle.sqlite.specs.State.{State, Shown}
 use Rattle.dip_store_sql.specs.Asking.{by_one, by_two, by_three, by_first}
 use Rattle.dip_store_sql.specs.Statements as text
 use Rattle.dip_store_sql.proofs.Texts as means
-use Rattle.dip_store_tables.specs.Tables.{is_ballot, is_named, is_seat, is_seat_in, is_unit_in, is_centre_in, is_pending}
-use Rattle.dip_store_sql.specs.Rows.{tables_of, put_desk, take_desk, put_game, take_game, put_seat, take_seat, put_unit, take_unit, put_centre, take_centre, put_pending, take_pending, put_box, take_box, put_paper, take_paper, put_ballot, take_ballot}
+use Rattle.dip_store_tables.specs.Tables.{is_ballot, is_choice_in, is_named, is_seat, is_seat_in, is_unit_in, is_centre_in, is_pending}
+use Rattle.dip_store_sql.specs.Rows.{tables_of, put_desk, take_desk, put_game, take_game, put_seat, take_seat, put_unit, take_unit, put_centre, take_centre, put_pending, take_pending, put_box, take_box, put_paper, take_paper, put_ballot, take_ballot, put_choice, take_choice}
 use Rattle.dip_store_sql.specs.Good.{IsGood}
 use Rattle.dip_store_sql.specs.Old.{WasGood, old_tables_of}
-use Rattle.dip_store_sql.specs.Showing.{show_desk, show_game, show_papers, show_seat, show_sent, show_item, show_paper, show_listed, show_unit, show_centre, show_order, show_ballot, show_name, show_vote, is_item, is_numbered}
+use Rattle.dip_store_sql.specs.Showing.{show_desk, show_game, show_papers, show_seat, show_sent, show_item, show_paper, show_listed, show_unit, show_centre, show_order, show_ballot, show_choice, show_name, show_vote, is_item, is_numbered}
 use Rattle.dip_store_sql.specs.TablesAfter.{is_first}
-use Rattle.dip_store_sql.proofs.Apart.{one_ballot, one_desk, one_old_desk, one_game, one_seat, one_item, one_paper}
-use Rattle.dip_store_sql.proofs.Telling.{tells_ballot, tells_desk, tells_game_in, tells_seat_in, tells_unit_in, tells_centre_in, tells_seat, tells_pending, tells_item, tells_paper}
+use Rattle.dip_store_sql.proofs.Apart.{one_ballot, one_choice, one_desk, one_old_desk, one_game, one_seat, one_item, one_paper}
+use Rattle.dip_store_sql.proofs.Telling.{tells_ballot, tells_choice_in, tells_desk, tells_game_in, tells_seat_in, tells_unit_in, tells_centre_in, tells_seat, tells_pending, tells_item, tells_paper}
 use Rattle.dip_store_sql.proofs.Found.{one_found, all_found}
 
 -- where nothing is asked for, each row passes
@@ -82,6 +82,11 @@ module _ (old new : State) (good : IsGood old.now) where
   find_ballot game power rows h =
       one_found put_ballot take_ballot 16 by_two text.find_ballot_shown (Words game ∷ Words power ∷ []) (is_ballot game power) show_ballot (tells_ballot game power []) (λ v a. refl) text.find_ballot_text 2 _ old new good.schema refl good.ballots
       means.find_ballot (one_ballot old.now good game power) rows h
+
+  pub find_choice : (game : List ℕ) (rows : List Row) → Shown text.find_choice_text (Words game ∷ []) old new rows → rows ≡ option_to_list (option_map show_choice (find (is_choice_in game) (tables_of old.now.trees).choices))
+  find_choice game rows h =
+      one_found put_choice take_choice 18 by_one text.find_choice_shown (Words game ∷ []) (is_choice_in game) show_choice (tells_choice_in game []) (λ v a. refl) text.find_choice_text 1 _ old new good.schema refl good.choices
+      means.find_choice (one_choice old.now good game) rows h
 
 -- in a store of version 1; the rows of its games and seats are listed whole
 module _ (old new : State) (good : WasGood old.now) where

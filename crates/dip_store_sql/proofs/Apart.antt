@@ -13,10 +13,10 @@ use Rattle.dip_store_sql.specs.Old.{WasGood, old_schema}
 use Rattle.dip_store_sql.specs.Recorded.{AtMostOne, IsRising}
 use Rattle.dip_store_sql.proofs.Keys.{apart_in, at_most_one}
 use Rattle.dip_store_sql.proofs.Tests.{text_test, number_test, and_true}
-use Rattle.dip_store_sql.specs.Schema.{our_schema, desk_table, game_table, seat_table, box_table, paper_table, ballot_table}
-use Rattle.dip_store_tables.specs.Tables.{DeskRow, SeatRow, BoxRow, PaperRow, BallotRow, is_ballot, is_named, is_seat}
+use Rattle.dip_store_sql.specs.Schema.{our_schema, desk_table, game_table, seat_table, box_table, paper_table, ballot_table, choice_table}
+use Rattle.dip_store_tables.specs.Tables.{DeskRow, SeatRow, BoxRow, PaperRow, BallotRow, ChoiceRow, is_ballot, is_choice_in, is_named, is_seat}
 use Rattle.dip_store_tables.specs.Coding.{same_name, same_seat, AreApart}
-use Rattle.dip_store_sql.specs.Rows.{tables_of, put_desk, take_desk, put_game, take_game, put_seat, take_seat, put_box, take_box, put_paper, take_paper, put_ballot, take_ballot}
+use Rattle.dip_store_sql.specs.Rows.{tables_of, put_desk, take_desk, put_game, take_game, put_seat, take_seat, put_box, take_box, put_paper, take_paper, put_ballot, take_ballot, put_choice, take_choice}
 use Rattle.dip_store_sql.specs.Good.{IsGood}
 use Rattle.dip_store_sql.specs.Showing.{is_item, is_numbered}
 use Rattle.dip_store_sql.specs.TablesAfter.{is_first}
@@ -38,6 +38,9 @@ same_paper a b = is_numbered b.game b.number a
 
 abbrev same_ballot : BallotRow → BallotRow → Bool
 same_ballot a b = is_ballot b.game b.power a
+
+abbrev same_choice : ChoiceRow → ChoiceRow → Bool
+same_choice a b = is_choice_in b.game a
 
 module _ (db : Database) (good : IsGood db) where
   games_apart : IsAscending (λ a b. same_name a b ≡ false) (map take_game (db.trees 2))
@@ -69,6 +72,12 @@ module _ (db : Database) (good : IsGood db) where
   ballots_apart = apart_in put_ballot take_ballot (1 ∷ 2 ∷ []) same_ballot our_schema ballot_table
       (λ v w a b. ap₂ (λ x y. x && (y && true)) (text_test a.game b.game) (text_test a.power b.power) ∙ and_both (bytes_eq a.game b.game) (bytes_eq a.power b.power))
       (inr (inr (inr (inr (inr (inr (inr (inr (inl refl))))))))) refl db.trees (subst (λ s. IsSound s db.trees) good.schema good.sound) good.ballots
+
+  choices_apart : IsAscending (λ a b. same_choice a b ≡ false) (map take_choice (db.trees 18))
+  unfolding first_key
+  choices_apart = apart_in put_choice take_choice (1 ∷ []) same_choice our_schema choice_table
+      (λ v w a b. ap (λ x. x && true) (text_test a.game b.game) ∙ and_true (bytes_eq a.game b.game))
+      (inr (inr (inr (inr (inr (inr (inr (inr (inr (inl refl)))))))))) refl db.trees (subst (λ s. IsSound s db.trees) good.schema good.sound) good.choices
 
   -- no two games have one name, and no two seats of a game one power
   pub are_apart : AreApart (tables_of db.trees)
@@ -130,3 +139,6 @@ module _ (db : Database) (good : IsGood db) where
     where
       tied : (a b : PaperRow) → is_numbered game number a ≡ true → is_numbered game number b ≡ true → same_paper a b ≡ true
       tied a b h k = let x = and_parts _ _ h in let y = and_parts _ _ k in both_true _ _ (alike a.game b.game game x.0 y.0) (equal a.number b.number number x.1 y.1)
+
+  pub one_choice : (game : List ℕ) → AtMostOne (is_choice_in game) (map take_choice (db.trees 18))
+  one_choice game = at_most_one same_choice (is_choice_in game) (λ a b h k. alike a.game b.game game h k) (map take_choice (db.trees 18)) (choices_apart db good)

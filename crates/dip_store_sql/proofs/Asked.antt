@@ -42,7 +42,7 @@ pub add_ballot : IsAsked (length text.add_ballot_text) 3 (understood our_schema 
 unfolding understood everything
 add_ballot = (refl, refl)
 
-pub add_choice : IsAsked (length text.add_choice_text) 1 (understood our_schema text.add_choice_text)
+pub add_choice : IsAsked (length text.add_choice_text) 2 (understood our_schema text.add_choice_text)
 unfolding understood everything
 add_choice = (refl, refl)
 

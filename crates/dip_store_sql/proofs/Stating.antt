@@ -11,9 +11,8 @@ use Rattle.dip_store_sql.specs.Statements as text
 use Rattle.dip_store_sql.proofs.Texts as means
 use Rattle.dip_store_sql.proofs.Meaning.{commanded}
 use Rattle.dip_store_tables.specs.Boards.{UnitRow, CentreRow}
-use Rattle.dip_store_tables.specs.Tables.{GameRow, PendingRow, BoxRow, PaperRow, BallotRow, is_ballot_in, is_choice_in, is_ballot, is_seat_in, is_unit_in, is_centre_in, is_pending_in, is_box_in, is_paper_in, is_named, is_seat, is_pending}
+use Rattle.dip_store_tables.specs.Tables.{GameRow, PendingRow, BoxRow, PaperRow, BallotRow, ChoiceRow, is_ballot_in, is_choice_in, is_ballot, is_seat_in, is_unit_in, is_centre_in, is_pending_in, is_box_in, is_paper_in, is_named, is_seat, is_pending}
 use Rattle.dip_store_sql.specs.Rows.{tables_of, put_desk, take_desk, put_game, take_game, put_seat, take_seat, put_unit, take_unit, put_centre, take_centre, put_pending, take_pending, put_box, take_box, put_paper, take_paper, put_ballot, take_ballot, put_choice, take_choice}
-use Rattle.dip_store_tables.specs.Writing.{choice_row}
 use Rattle.dip_store_sql.specs.Good.{IsGood}
 use Rattle.dip_store_sql.specs.TablesAfter.{is_first, on_desk, on_game, on_seat, on_seats, with_desk, with_game, with_seat, with_unit, with_centre, with_order, with_item, with_paper, with_ballot, with_choice, on_ballot, named, no_ballots, no_choices, no_seats, no_units, no_centres, no_pending, no_orders, no_items, no_papers, new_desk, new_seat, desk_with, seat_with, sending, counting, secret_as, game_as}
 use Rattle.dip_store_tables.specs.Renewing.{second, voteless}
@@ -68,10 +67,10 @@ module _ (old new : State) (count : ℕ) (good : IsGood old.now) where
       let e = inserted our_schema 8 ballot_table refl refl (λ db. refl) (λ olds news. refl) text.add_ballot_text means.add_ballot.1 old new (put_ballot b) count good.schema text.add_ballot_values 4 (commanded _ _ means.add_ballot.0) h in
       ballot_turned old.now new.now good _ e _ refl (insert_is put_ballot take_ballot (λ v a. refl) ballot_table cast_ballot our_schema old.now new.now good.ballots b _ refl e)
 
-  pub add_choice : (game : List ℕ) → Executes text.add_choice_text (Words game ∷ []) old new (Ok count) → IsGood new.now × (tables_of new.now.trees ≡ with_choice (choice_row game) (tables_of old.now.trees))
-  add_choice game h =
-      let e = inserted our_schema 9 choice_table refl refl (λ db. refl) (λ olds news. refl) text.add_choice_text means.add_choice.1 old new (Words game ∷ []) count good.schema text.add_choice_values 3 (commanded _ _ means.add_choice.0) h in
-      choice_turned old.now new.now good _ e _ refl (insert_is put_choice take_choice (λ v a. refl) choice_table cast_choice our_schema old.now new.now good.choices (choice_row game) _ refl e)
+  pub add_choice : (c : ChoiceRow) → Executes text.add_choice_text (put_choice c) old new (Ok count) → IsGood new.now × (tables_of new.now.trees ≡ with_choice c (tables_of old.now.trees))
+  add_choice c h =
+      let e = inserted our_schema 9 choice_table refl refl (λ db. refl) (λ olds news. refl) text.add_choice_text means.add_choice.1 old new (put_choice c) count good.schema text.add_choice_values 3 (commanded _ _ means.add_choice.0) h in
+      choice_turned old.now new.now good _ e _ refl (insert_is put_choice take_choice (λ v a. refl) choice_table cast_choice our_schema old.now new.now good.choices c _ refl e)
 
   pub drop_seats : (game : List ℕ) → Executes text.drop_seats_text (Words game ∷ []) old new (Ok count) → IsGood new.now × (tables_of new.now.trees ≡ no_seats game (tables_of old.now.trees))
   drop_seats game h =

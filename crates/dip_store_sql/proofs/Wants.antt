@@ -19,10 +19,9 @@ use Rattle.dip_store_sql.specs.Statements as text
 use Rattle.dip_store_sql.proofs.Texts as means
 use Rattle.dip_store_tables.specs.Boards.{UnitRow, CentreRow}
 use Rattle.dip_store_tables.specs.Coding.{same_name, same_seat}
-use Rattle.dip_store_tables.specs.Tables.{GameRow, PendingRow, BoxRow, PaperRow, BallotRow, is_ballot_in, is_choice_in, is_ballot, is_seat_in, is_unit_in, is_centre_in, is_pending_in, is_box_in, is_paper_in, is_named, is_seat, is_pending}
+use Rattle.dip_store_tables.specs.Tables.{GameRow, PendingRow, BoxRow, PaperRow, BallotRow, ChoiceRow, is_ballot_in, is_choice_in, is_ballot, is_seat_in, is_unit_in, is_centre_in, is_pending_in, is_box_in, is_paper_in, is_named, is_seat, is_pending}
 use Rattle.dip_store_sql.specs.Causes.{Faulted, IsCaused}
 use Rattle.dip_store_sql.specs.Good.{IsGood}
-use Rattle.dip_store_tables.specs.Writing.{choice_row}
 use Rattle.dip_store_sql.specs.Rows.{tables_of, put_desk, take_desk, put_game, take_game, put_seat, take_seat, put_unit, take_unit, put_centre, take_centre, put_pending, take_pending, put_box, take_box, put_paper, take_paper, put_ballot, take_ballot, put_choice, take_choice}
 use Rattle.dip_store_sql.specs.TablesAfter.{is_first, new_desk, new_seat, desk_with, seat_with, named, sending, counting, secret_as, game_as}
 use Rattle.dip_store_tables.specs.Renewing.{second, voteless}
@@ -127,10 +126,10 @@ module _ (old new : State) (good : IsGood old.now) (up : IsTrue old.is_open) (un
       insert_sane our_schema 8 ballot_table refl refl (λ db. refl) (λ olds news. refl) refers put_ballot take_ballot (λ v a. refl) cast_ballot ballot_rules text.add_ballot_text means.add_ballot.1 (put_ballot b) asked.add_ballot old new good.schema up unlimited good.ballots e h
       text.add_ballot_values 4 means.add_ballot.0 refl (b) refl (λ rows it are. ballots_keyed old.now.trees unique rows it (subst (Differ same_ballot) (sym are) (apart)))
 
-  pub add_choice : (game : List ℕ) → Differ same_choice ((tables_of old.now.trees).choices ++ (choice_row game) ∷ []) → Executes text.add_choice_text (Words game ∷ []) old new (Err e) → IsWant (Faulted old new) e
-  add_choice game apart h =
-      insert_sane our_schema 9 choice_table refl refl (λ db. refl) (λ olds news. refl) refers put_choice take_choice (λ v a. refl) cast_choice choice_rules text.add_choice_text means.add_choice.1 (Words game ∷ []) asked.add_choice old new good.schema up unlimited good.choices e h
-      text.add_choice_values 3 means.add_choice.0 refl (choice_row game) refl (λ rows it are. choices_keyed old.now.trees unique rows it (subst (Differ same_choice) (sym are) (apart)))
+  pub add_choice : (c : ChoiceRow) → Differ same_choice ((tables_of old.now.trees).choices ++ c ∷ []) → Executes text.add_choice_text (put_choice c) old new (Err e) → IsWant (Faulted old new) e
+  add_choice c apart h =
+      insert_sane our_schema 9 choice_table refl refl (λ db. refl) (λ olds news. refl) refers put_choice take_choice (λ v a. refl) cast_choice choice_rules text.add_choice_text means.add_choice.1 (put_choice c) asked.add_choice old new good.schema up unlimited good.choices e h
+      text.add_choice_values 3 means.add_choice.0 refl (c) refl (λ rows it are. choices_keyed old.now.trees unique rows it (subst (Differ same_choice) (sym are) (apart)))
 
   pub drop_seats : (game : List ℕ) → Executes text.drop_seats_text (Words game ∷ []) old new (Err e) → IsWant (Faulted old new) e
   drop_seats game h =

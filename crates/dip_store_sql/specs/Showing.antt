@@ -3,7 +3,7 @@ use Rattle.std.specs.Prelude.{ℕ, pos, ◌==◌, ◌&&◌, Bool, List, [], ◌�
 use Rattle.sqlite.specs.declared.types.Value.TheVariants.{Int, Text as Words, Blob as Bytes}
 use Rattle.sqlite.specs.Order.{Row}
 use Rattle.dip_store_tables.specs.Boards.{UnitRow, CentreRow}
-use Rattle.dip_store_tables.specs.Tables.{DeskRow, GameRow, SeatRow, PendingRow, BoxRow, PaperRow, BallotRow}
+use Rattle.dip_store_tables.specs.Tables.{DeskRow, GameRow, SeatRow, PendingRow, BoxRow, PaperRow, BallotRow, ChoiceRow}
 
 abbrev pub show_desk : DeskRow → Row
 show_desk d =
@@ -50,6 +50,9 @@ show_order p = Words p.province ∷ Words p.line ∷ []
 
 abbrev pub show_ballot : BallotRow → Row
 show_ballot b = Words b.names ∷ []
+
+abbrev pub show_choice : ChoiceRow → Row
+show_choice c = Int (pos c.intent) ∷ []
 
 abbrev pub show_name : GameRow → Row
 show_name g = Words g.name ∷ []

@@ -79,10 +79,10 @@ add_ballot_values = lit Null ∷ col 0 0 ∷ col 0 1 ∷ col 0 2 ∷ []
 
 abbrev pub add_choice_text : List ℕ
 add_choice_text =
-    codes "INSERT INTO choice (game, intent) VALUES (?1, 0)"
+    codes "INSERT INTO choice (game, intent) VALUES (?1, ?2)"
 
 abbrev pub add_choice_values : List Term
-add_choice_values = lit Null ∷ col 0 0 ∷ lit (Int (pos 0)) ∷ []
+add_choice_values = lit Null ∷ col 0 0 ∷ col 0 1 ∷ []
 
 abbrev pub drop_seats_text : List ℕ
 drop_seats_text =

@@ -211,16 +211,21 @@ pub fn add_ballot<S: Alter>(
     )
 }
 
-/// The choice of a game. No other is the game's, where that goes well.
-pub fn add_choice<S: Alter>(tx: &mut Transaction<'_, S>, game: &str) -> Result<usize, Error>
+/// The choice of a game: whether it has the option INTENT. No other is the game's, where that goes well.
+pub fn add_choice<S: Alter>(
+    tx: &mut Transaction<'_, S>,
+    game: &str,
+    intent: bool,
+) -> Result<usize, Error>
     ensures same_reference { tx.new.conn.ghost_name ≡ tx.old.conn.ghost_name }
-    ensures writes { Writes (with_choice (choice_row game.now))
+    ensures writes { Writes (with_choice (choice_row game.now intent))
         (state S.Store tx.old.conn.now) (state S.Store tx.new.conn.now) result }
-    ensures wants { Wants (λ t. Differ same_choice (with_choice (choice_row game.now) t).choices)
+    ensures wants { Wants (λ t. Differ same_choice
+        (with_choice (choice_row game.now intent) t).choices)
         (state S.Store tx.old.conn.now) (state S.Store tx.new.conn.now) result }
 {
     tx.execute(
-        "INSERT INTO choice (game, intent) VALUES (?1, 0)",
-        params![game],
+        "INSERT INTO choice (game, intent) VALUES (?1, ?2)",
+        params![game, intent],
     )
 }

@@ -1,10 +1,10 @@
 //! Queries of one row.
 ghost use Rattle.std.specs.Prelude.{◌≡◌, IfErr, IfOk, option_map};
 ghost use Rattle.std.specs.List.{find};
-ghost use Rattle.dip_store_tables.specs.Tables.{is_ballot, is_named, is_seat};
+ghost use Rattle.dip_store_tables.specs.Tables.{is_ballot, is_choice_in, is_named, is_seat};
 ghost use Rattle.dip_store_sql.specs.Calls.{IsKept, Selects, SelectsFrom, WasKept, does_show, is_honest, old_tables_in, tables_in};
 ghost use Rattle.dip_store_sql.specs.Causes.{IsCaused, has_faulted};
-ghost use Rattle.dip_store_sql.specs.Showing.{is_item, is_numbered, show_ballot, show_desk, show_game, show_item, show_paper, show_papers, show_seat, show_sent};
+ghost use Rattle.dip_store_sql.specs.Showing.{is_item, is_numbered, show_ballot, show_choice, show_desk, show_game, show_item, show_paper, show_papers, show_seat, show_sent};
 ghost use Rattle.dip_store_sql.specs.TablesAfter.{is_first};
 
 use crate::only::only;
@@ -131,6 +131,22 @@ pub fn find_ballot<S: Alter>(
         "SELECT names FROM ballot WHERE game = ?1 AND power = ?2",
         params![game, power],
     ) {
+        Ok(rows) => Ok(only(rows)),
+        Err(error) => Err(error),
+    }
+}
+
+/// The choice of a game.
+pub fn find_choice<S: Alter>(conn: &mut Connection<S>, game: &str) -> Result<Option<Row>, Error>
+    ensures value { IsKept S.Store conn.old → is_honest S.Store conn.new → IfOk result (λ o. o
+        ≡ option_map show_choice
+        (find (is_choice_in game.now) (tables_in S.Store conn.old).choices)) }
+    ensures selects { Selects S.Store conn.old conn.new result }
+    ensures caused { IsKept S.Store conn.old → does_show S.Store conn.old
+        → is_honest S.Store conn.new
+        → IfErr result (IsCaused (has_faulted S.Store conn.old conn.new)) }
+{
+    match conn.query_all("SELECT intent FROM choice WHERE game = ?1", params![game]) {
         Ok(rows) => Ok(only(rows)),
         Err(error) => Err(error),
     }

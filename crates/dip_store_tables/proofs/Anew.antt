@@ -1,6 +1,7 @@
 -- Rows of a game that are taken out and put in anew.
-use Rattle.std.proofs.Common.{◌≡◌, ℕ, suc, Bool, true, false, List, [], ◌∷◌, ◌++◌, map, filter, Option, Some, None, bytes_eq, refl, sym, ap, ap₂, subst, ◌∙◌, append-nil, map-id}
+use Rattle.std.proofs.Common.{◌≡◌, ℕ, suc, Bool, true, false, List, [], ◌∷◌, ◌++◌, map, filter, find, Option, Some, None, bytes_eq, refl, sym, ap, ap₂, subst, ◌∙◌, append-nil, map-id, inl, inr}
 use Rattle.std.specs.List.{AllByRecursion}
+use Rattle.std.proofs.lemmas.Bool.{cases_Bool}
 use Rattle.std.proofs.lemmas.List.Elements.{filter-append}
 use Rattle.sqlite_keyed.specs.Lists.{delete_where}
 use Rattle.sqlite_keyed.proofs.ListLemmas.{all-append, all-map, all_weaker, filter_all, filter_none}
@@ -11,10 +12,11 @@ use Rattle.dip_store_tables.specs.Boards.{UnitRow, CentreRow, unit_rows, centre_
 use Rattle.dip_store_tables.proofs.Returns.{board_back}
 use Rattle.dip_desk_state.proofs.KeyedLemmas.{names_tell}
 use Rattle.dip_desk_state.specs.Records.{Public}
-use Rattle.dip_store_tables.specs.Tables.{is_unit_in, is_centre_in}
-use Rattle.dip_store_tables.specs.Reading.{public_of}
-use Rattle.dip_store_tables.specs.Writing.{game_row}
+use Rattle.dip_store_tables.specs.Tables.{ChoiceRow, is_unit_in, is_centre_in, is_choice_in}
+use Rattle.dip_store_tables.specs.Reading.{intends, intent_in, public_of}
+use Rattle.dip_store_tables.specs.Writing.{choice_row, game_row}
 use Rattle.dip_desk_state.specs.Writable.{IsStatusOf}
+use Rattle.dip_store_tables.proofs.Ballots.{found_before, found_left}
 use Rattle.dip_store_tables.proofs.Lists.{none_left}
 use Rattle.dip_store_tables.proofs.Letters.{number_back}
 use Rattle.dip_store_tables.proofs.Records.{status_back}
@@ -62,12 +64,30 @@ centres_from m n p (Some r ∷ os) = (refl, centres_from m n (suc p) os)
 pub centres_of_game : (m : Chart) (n : List ℕ) (b : Position) → AllByRecursion (λ (c : CentreRow). c.game ≡ n) (centre_rows m n b)
 centres_of_game m n b = centres_from m n 0 b.owners
 
+-- a game's choice is the one that was put in, and those of other games are as they were
+pub put_choice : (n : List ℕ) (b : Bool) (cs : List ChoiceRow) → find (is_choice_in n) (delete_where (is_choice_in n) cs ++ choice_row n b ∷ []) ≡ Some (choice_row n b)
+put_choice n b [] = rw (names_tell.self n) refl
+put_choice n b (c ∷ cs) = elim (cases_Bool (is_choice_in n c)) [
+  | inl e ↦ rw e (put_choice n b cs)
+  | inr e ↦ rw (e, e) (put_choice n b cs)
+]
+
+pub other_choice : (n k : List ℕ) (b : Bool) (cs : List ChoiceRow) → bytes_eq n k ≡ false
+    → find (is_choice_in n) (delete_where (is_choice_in k) cs ++ choice_row k b ∷ []) ≡ find (is_choice_in n) cs
+other_choice n k b cs far =
+    found_before (is_choice_in n) (delete_where (is_choice_in k) cs) (choice_row k b ∷ []) (name_turned n k far, tt)
+    ∙ found_left (is_choice_in k) (is_choice_in n) (λ c. c) (λ c mine. away (λ (x : ChoiceRow). x.game) n k far c (names_tell.same c.game k mine)) cs
+
 -- the public part is read back
-pub public_back : (m : Chart) → IsMap m → (n : List ℕ) (p : Public) (units : List UnitRow) (centres : List CentreRow) → IsOf m p.board → IsStatusOf m p.status
+pub public_back : (m : Chart) → IsMap m → (n : List ℕ) (p : Public) (units : List UnitRow) (centres : List CentreRow) (choices : List ChoiceRow) → IsOf m p.board → IsStatusOf m p.status
     → filter (is_unit_in n) units ≡ unit_rows m n p.board → filter (is_centre_in n) centres ≡ centre_rows m n p.board
-    → public_of m units centres (game_row m n p) ≡ record p { game = n }
-public_back m ok n p units centres of_map status us cs =
-    let board = ap₂ (λ x y. board_of m x y (standoff_text m p.board.standoff) p.board.phase.year (season_number p.board.phase.season)) us cs ∙ board_back m ok p.board of_map n in
+    → find (is_choice_in n) choices ≡ Some (choice_row n p.board.intent) → public_of m units centres choices (game_row m n p) ≡ record p { game = n }
+public_back m ok n p units centres choices of_map status us cs chosen =
+    let intent : intent_in choices n ≡ p.board.intent = ap intends chosen ∙ number_back p.board.intent in
+    let standoff = standoff_text m p.board.standoff in
+    let season = season_number p.board.phase.season in
+    let rows = ap₂ (λ x y. board_of m x y standoff p.board.phase.year season (intent_in choices n)) us cs in
+    let board = rows ∙ ap (board_of m (unit_rows m n p.board) (centre_rows m n p.board) standoff p.board.phase.year season) intent ∙ board_back m ok p.board of_map n in
     let said = status_back m ok p.status status in
     let grey = number_back p.grey in
     λ i. record { game = n; board = board i; status = said i; due = p.due; period = p.period; grey = grey i; papers = p.papers }

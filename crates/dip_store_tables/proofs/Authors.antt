@@ -1,5 +1,5 @@
 -- What the tables say behind a letter's author's row and orders.
-use Rattle.std.proofs.Common.{◌≡◌, ℕ, ◌<◌, ◌==◌, Bool, true, false, cond, ◌&&◌, List, map, filter, length, bytes_eq, refl, sym, ap, ap₂, ◌∙◌, inl, inr, map-id}
+use Rattle.std.proofs.Common.{◌≡◌, ℕ, ◌<◌, ◌==◌, Bool, true, false, cond, ◌&&◌, List, map, filter, length, bytes_eq, refl, sym, ap, ◌∙◌, inl, inr, map-id}
 use Rattle.std.specs.List.{AllByRecursion}
 use Rattle.std.proofs.lemmas.Bool.{cases_Bool}
 use Rattle.sqlite_trees.specs.Tree.{IsAscending}
@@ -58,18 +58,19 @@ pub record IsPendingAlone (old new : Tables) : Type 0 where
   pub centres : new.centres ≡ old.centres
   pub papers : new.papers ≡ old.papers
   pub boxes : new.boxes ≡ old.boxes
+  pub choices : new.choices ≡ old.choices
 
 same : (t : Tables) → IsPendingAlone t t
-same t = record { desk = refl; games = refl; seats = refl; units = refl; centres = refl; papers = refl; boxes = refl }
+same t = record { desk = refl; games = refl; seats = refl; units = refl; centres = refl; papers = refl; boxes = refl; choices = refl }
 
 pub ordering_alone : (m : Chart) (who : Author) (name : List ℕ) (e : Effect) (t : Tables) → IsPendingAlone t (ordering m who name e t)
 ordering_alone m who name Nothing t = same t
 ordering_alone m Nobody name (Pending orders) t = same t
 ordering_alone m TheMaster name (Pending orders) t = same t
-ordering_alone m (Seat power) name (Pending orders) t = record { desk = refl; games = refl; seats = refl; units = refl; centres = refl; papers = refl; boxes = refl }
+ordering_alone m (Seat power) name (Pending orders) t = record { desk = refl; games = refl; seats = refl; units = refl; centres = refl; papers = refl; boxes = refl; choices = refl }
 ordering_alone m Nobody name (Votes vote) t = same t
 ordering_alone m TheMaster name (Votes vote) t = same t
-ordering_alone m (Seat power) name (Votes vote) t = record { desk = refl; games = refl; seats = refl; units = refl; centres = refl; papers = refl; boxes = refl }
+ordering_alone m (Seat power) name (Votes vote) t = record { desk = refl; games = refl; seats = refl; units = refl; centres = refl; papers = refl; boxes = refl; choices = refl }
 ordering_alone m who name (Delivers readers item) t = same t
 ordering_alone m who name (Opens public paper seats) t = same t
 ordering_alone m who name (Publishes public paper played) t = same t
@@ -116,8 +117,8 @@ module _ (m : Chart) (ok : IsMap m) (name : List ℕ) (plain : Lacks 10 name) (k
         let i : mine s ≡ false = ap (λ b. b && bytes_eq s.power (power_name m power)) away in
         ap (λ b. part_of m new (cond b (seat_noted printed e s) s)) i ∙ other_part m ok name plain k numbered power low e t s i
 
-    public_same : (g : GameRow) → public_of m new.units new.centres g ≡ public_of m t.units t.centres g
-    public_same g = ap₂ (λ us cs. public_of m us cs g) alone.units alone.centres
+    public_same : (g : GameRow) → public_of m new.units new.centres new.choices g ≡ public_of m t.units t.centres t.choices g
+    public_same g = λ i. public_of m (alone.units i) (alone.centres i) (alone.choices i) g
 
     seats_changed : map (game_of m new) new.games ≡ change_at bytes_eq name_of name (with_parts (λ p. p) (λ ps. ps) changed) (map (game_of m t) t.games)
     seats_changed = games_changed m t new name (λ p. p) (λ ps. ps) changed (λ g. g) (λ s. cond (mine s) (seat_noted printed e s) s) IsKnown
@@ -134,7 +135,7 @@ module _ (m : Chart) (ok : IsMap m) (name : List ℕ) (plain : Lacks 10 name) (k
         ascending-map (λ a b. (power_in a == power_in b) ≡ false) (part_of m t) seats
         (powers_apart m ok g.name seats (ascending-filter (λ a b. same_seat a b ≡ false) (is_seat_in g.name) t.seats apart.seats)
         (all-filter (IsSeatOf m) (is_seat_in g.name) t.seats coded) (all_passed (is_seat_in g.name) t.seats)) in
-        ap (λ ss. record { public = public_of m t.units t.centres g; papers = papers_of t.papers g.name; seats = ss })
+        ap (λ ss. record { public = public_of m t.units t.centres t.choices g; papers = papers_of t.papers g.name; seats = ss })
         (sym (each_changed (λ a b. a == b) power_in power powers_tell (with_letter k e) (map (part_of m t) seats) up))
 
     pub seat_authored : map (game_of m new) new.games ≡ change_at bytes_eq name_of name (with_seats (Seat power) k e) (map (game_of m t) t.games)

@@ -1,5 +1,5 @@
 -- What the ballots say where some are changed.
-use Rattle.std.proofs.Common.{◌≡◌, ℕ, Bool, true, false, cond, ◌&&◌, ◌||◌, List, [], ◌∷◌, ◌++◌, map, find, Option, Some, None, option_map, is_some, bytes_eq, codes, refl, sym, ap, ap₂, subst, ◌∙◌, inl, inr}
+use Rattle.std.proofs.Common.{◌≡◌, ℕ, Bool, true, false, cond, ◌&&◌, ◌||◌, List, [], ◌∷◌, ◌++◌, find, Option, Some, None, option_map, is_some, bytes_eq, codes, refl, sym, ap, ap₂, subst, ◌∙◌, inl, inr}
 use Rattle.std.specs.List.{AllByRecursion, list_any}
 use Rattle.std.proofs.lemmas.Bool.{cases_Bool}
 use Rattle.sqlite_keyed.specs.Lists.{delete_where, update_where}
@@ -7,11 +7,10 @@ use Rattle.sqlite_keyed.proofs.SliceLemmas.{any_is_found}
 use Rattle.dip_map.specs.Charts.{Chart, IsMap}
 use Rattle.dip_desk_state.proofs.KeyedLemmas.{names_tell}
 use Rattle.dip_desk_state.specs.Records.{Vote, No}
-use Rattle.dip_desk_state.specs.State.{NewSeat}
 use Rattle.dip_desk_state.specs.Writable.{IsVoteOf}
 use Rattle.dip_store_tables.specs.Tables.{BallotRow, is_ballot, is_ballot_in}
-use Rattle.dip_store_tables.specs.Votes.{ballot_text, vote_in, vote_of, vote_on}
-use Rattle.dip_store_tables.specs.Writing.{ballot_noted, ballot_row}
+use Rattle.dip_store_tables.specs.Votes.{vote_in, vote_of, vote_on}
+use Rattle.dip_store_tables.specs.Writing.{ballot_noted}
 use Rattle.dip_store_tables.specs.Coding.{HasBallot}
 use Rattle.dip_store_tables.proofs.Seats.{both_same, keys_turned, name_turned}
 use Rattle.dip_store_tables.proofs.VoteLemmas.{vote_back}

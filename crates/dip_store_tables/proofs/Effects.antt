@@ -15,12 +15,12 @@ use Rattle.dip_desk_state.proofs.KeyedLemmas.{names_tell}
 use Rattle.dip_desk_state.specs.Records.{Public, Standing}
 use Rattle.dip_store_tables.specs.Tables.{GameRow, SeatRow, PendingRow, PaperRow, Tables, is_named, is_seat, is_pending_in, is_paper_in}
 use Rattle.dip_store_tables.specs.Votes.{vote_in}
-use Rattle.dip_store_tables.specs.Reading.{kept_of, public_of, pending_of, standing_of, items_of, part_of, game_of, status_of}
+use Rattle.dip_store_tables.specs.Reading.{intends, kept_of, public_of, pending_of, standing_of, items_of, part_of, game_of, status_of}
 use Rattle.dip_store_tables.specs.Writing.{game_row, paper_row}
 use Rattle.dip_store_tables.specs.Changing.{publishing, replacing, reaching}
 use Rattle.dip_store_tables.specs.Coding.{AreApart, IsSeatOf, IsEffectOf}
 use Rattle.dip_desk_state.specs.Writable.{IsStatusOf}
-use Rattle.dip_store_tables.proofs.Anew.{put_mine, put_other, units_of_game, centres_of_game, public_back}
+use Rattle.dip_store_tables.proofs.Anew.{other_choice, put_choice, put_mine, put_other, units_of_game, centres_of_game, public_back}
 use Rattle.dip_store_tables.proofs.Lists.{change_at_same, none_narrower, far_deleted}
 use Rattle.dip_store_tables.proofs.Games.{with_parts, games_changed}
 use Rattle.dip_store_tables.proofs.Openings.{games_opened}
@@ -81,23 +81,25 @@ module _ (m : Chart) (ok : IsMap m) (name : List ℕ) (t : Tables) (apart : AreA
     abbrev renewed : GameRow → GameRow
     renewed g = cond (is_named name g) (game_row m g.name p) g
 
-    my_public : (g : GameRow) → bytes_eq g.name name ≡ true → public_of m new.units new.centres (renewed g) ≡ record p { game = g.name }
+    my_public : (g : GameRow) → bytes_eq g.name name ≡ true → public_of m new.units new.centres new.choices (renewed g) ≡ record p { game = g.name }
     my_public g e =
         let same : name ≡ g.name = sym (names_tell.same g.name name e) in
-        ap (λ b. public_of m new.units new.centres (cond b (game_row m g.name p) g)) e
-        ∙ subst (λ n. public_of m new.units new.centres (game_row m n p) ≡ record p { game = n }) same
-        (public_back m ok name p new.units new.centres of_map status
+        ap (λ b. public_of m new.units new.centres new.choices (cond b (game_row m g.name p) g)) e
+        ∙ subst (λ n. public_of m new.units new.centres new.choices (game_row m n p) ≡ record p { game = n }) same
+        (public_back m ok name p new.units new.centres new.choices of_map status
         (put_mine (λ (u : UnitRow). u.game) name t.units (unit_rows m name p.board) (units_of_game m name p.board))
-        (put_mine (λ (c : CentreRow). c.game) name t.centres (centre_rows m name p.board) (centres_of_game m name p.board)))
+        (put_mine (λ (c : CentreRow). c.game) name t.centres (centre_rows m name p.board) (centres_of_game m name p.board))
+        (put_choice name p.board.intent t.choices))
 
-    other_public : (g : GameRow) → bytes_eq g.name name ≡ false → public_of m new.units new.centres (renewed g) ≡ public_of m t.units t.centres g
+    other_public : (g : GameRow) → bytes_eq g.name name ≡ false → public_of m new.units new.centres new.choices (renewed g) ≡ public_of m t.units t.centres t.choices g
     other_public g far =
         let units = put_other (λ (u : UnitRow). u.game) g.name name t.units (unit_rows m name p.board) (units_of_game m name p.board) far in
         let centres = put_other (λ (c : CentreRow). c.game) g.name name t.centres (centre_rows m name p.board) (centres_of_game m name p.board) far in
-        ap (λ b. public_of m new.units new.centres (cond b (game_row m g.name p) g)) far
+        let choice = other_choice g.name name p.board.intent t.choices far in
+        ap (λ b. public_of m new.units new.centres new.choices (cond b (game_row m g.name p) g)) far
         ∙ (λ i. record {
           game = g.name;
-          board = board_of m (units i) (centres i) g.standoff g.year g.phase;
+          board = board_of m (units i) (centres i) g.standoff g.year g.phase (intends (choice i));
           status = status_of m g.status;
           due = g.due;
           period = g.period;

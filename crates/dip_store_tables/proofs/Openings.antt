@@ -12,12 +12,12 @@ use Rattle.dip_desk_state.proofs.KeyedLemmas.{names_tell}
 use Rattle.dip_desk_state.specs.Records.{Public, No}
 use Rattle.dip_store_tables.specs.Tables.{GameRow, SeatRow, PendingRow, BoxRow, PaperRow, Tables, is_seat_in, is_pending_in, is_box_in, BallotRow, is_ballot, is_ballot_in}
 use Rattle.dip_store_tables.specs.Votes.{vote_in, vote_on}
-use Rattle.dip_store_tables.specs.Reading.{kept_of, pending_of, standing_of, items_of, item_of, part_of, game_of, status_of}
+use Rattle.dip_store_tables.specs.Reading.{intends, kept_of, pending_of, standing_of, items_of, item_of, part_of, game_of, status_of}
 use Rattle.dip_store_tables.specs.Writing.{ballot_row, game_row, seat_row, paper_row}
 use Rattle.dip_store_tables.specs.Changing.{opening}
 use Rattle.dip_store_tables.specs.Coding.{same_name}
 use Rattle.dip_desk_state.specs.Writable.{IsStatusOf}
-use Rattle.dip_store_tables.proofs.Anew.{put_mine, put_other, units_of_game, centres_of_game, public_back}
+use Rattle.dip_store_tables.proofs.Anew.{other_choice, put_choice, put_mine, put_other, units_of_game, centres_of_game, public_back}
 use Rattle.dip_store_tables.proofs.Lists.{map_on, all_passed, none_narrower, far_deleted}
 use Rattle.std.proofs.lemmas.Bool.{and_parts, not-true}
 use Rattle.sqlite_keyed.specs.Lists.{delete_where}
@@ -68,9 +68,10 @@ module _ (m : Chart) (ok : IsMap m) (p : Public) (paper : List ℕ) (seats : Lis
 
   opened : IsOf m p.board → IsStatusOf m p.status → AllByRecursion (λ s. s.power < length m.realms) seats → game_of m new (game_row m p.game p) ≡ opening_game p paper seats
   opened of_map status low =
-      let public = public_back m ok p.game p new.units new.centres of_map status
+      let public = public_back m ok p.game p new.units new.centres new.choices of_map status
       (put_mine (λ (u : UnitRow). u.game) p.game t.units (unit_rows m p.game p.board) (units_of_game m p.game p.board))
-      (put_mine (λ (c : CentreRow). c.game) p.game t.centres (centre_rows m p.game p.board) (centres_of_game m p.game p.board)) in
+      (put_mine (λ (c : CentreRow). c.game) p.game t.centres (centre_rows m p.game p.board) (centres_of_game m p.game p.board))
+      (put_choice p.game p.board.intent t.choices) in
       let papers = ap (map (λ (r : PaperRow). r.body)) (put_mine (λ (r : PaperRow). r.game) p.game t.papers (paper_row p.game p.papers paper ∷ []) (refl, tt)) in
       let parts = ap (map (part_of m new)) (put_mine (λ (s : SeatRow). s.game) p.game t.seats (map (seat_row m p.game) seats) (all-map (λ (s : SeatRow). s.game ≡ p.game) (seat_row m p.game) (λ s. refl) seats)) ∙ fresh_seats seats low in
       λ i. record { public = public i; papers = papers i; seats = parts i }
@@ -98,6 +99,7 @@ module _ (m : Chart) (ok : IsMap m) (p : Public) (paper : List ℕ) (seats : Lis
   far_game g far =
       let units = put_other (λ (u : UnitRow). u.game) g.name p.game t.units (unit_rows m p.game p.board) (units_of_game m p.game p.board) far in
       let centres = put_other (λ (c : CentreRow). c.game) g.name p.game t.centres (centre_rows m p.game p.board) (centres_of_game m p.game p.board) far in
+      let choice = other_choice g.name p.game p.board.intent t.choices far in
       let papers = ap (map (λ (r : PaperRow). r.body)) (put_other (λ (r : PaperRow). r.game) g.name p.game t.papers (paper_row p.game p.papers paper ∷ []) (refl, tt) far) in
       let mine = filter (is_seat_in g.name) t.seats in
       let parts : map (part_of m new) (filter (is_seat_in g.name) new.seats) ≡ map (part_of m t) mine =
@@ -106,7 +108,7 @@ module _ (m : Chart) (ok : IsMap m) (p : Public) (paper : List ℕ) (seats : Lis
       λ i. record {
         public = record {
           game = g.name;
-          board = board_of m (units i) (centres i) g.standoff g.year g.phase;
+          board = board_of m (units i) (centres i) g.standoff g.year g.phase (intends (choice i));
           status = status_of m g.status;
           due = g.due;
           period = g.period;

@@ -1,6 +1,6 @@
 -- Tables of version 1 become tables of version 2 that say the same.
-use Rattle.std.proofs.Common.{◌≡◌, ◌==◌, ◌&&◌, ℕ, Bool, true, false, cond, List, [], ◌∷◌, map, filter, find, Option, Some, None, option_map, is_some, bytes_eq, codes, refl, sym, ap, ap₂, subst, ◌∙◌, inl, inr}
-use Rattle.std.specs.List.{AllByRecursion, list_any}
+use Rattle.std.proofs.Common.{◌≡◌, ◌==◌, ◌&&◌, ℕ, true, false, cond, List, [], ◌∷◌, map, filter, find, Some, option_map, is_some, bytes_eq, codes, refl, sym, ap, ap₂, ◌∙◌, inl, inr}
+use Rattle.std.specs.List.{AllByRecursion}
 use Rattle.std.proofs.lemmas.Bool.{cases_Bool, cond_both}
 use Rattle.sqlite_trees.specs.Tree.{IsAscending}
 use Rattle.sqlite_keyed.specs.Lists.{update_where}
@@ -8,15 +8,16 @@ use Rattle.sqlite_keyed.proofs.ListLemmas.{all_both, all_map, all_of, all_weaker
 use Rattle.sqlite_keyed.proofs.SliceLemmas.{any_is_found}
 use Rattle.dip_map.specs.Charts.{Chart}
 use Rattle.dip_desk_state.proofs.KeyedLemmas.{names_tell}
-use Rattle.dip_desk_state.specs.Records.{Vote, No, Yes}
-use Rattle.dip_store_tables.specs.Coding.{AreApart, HasBallot, HasGame, IsSeatOf, same_seat}
-use Rattle.dip_store_tables.specs.Counting.{AreCounted, counted, item_numbers}
-use Rattle.dip_store_tables.specs.Legible.{AreLegible, IsDeskLegible, IsSeatLegible}
-use Rattle.dip_store_tables.specs.Reading.{desk_of, items_of, own_of, part_of}
-use Rattle.dip_store_tables.specs.Tables.{BallotRow, DeskRow, SeatRow, Tables, is_ballot, is_seat, is_seat_in}
+use Rattle.dip_desk_state.specs.Records.{No, Yes}
+use Rattle.dip_store_tables.specs.Coding.{HasBallot, HasGame, IsSeatOf, same_seat}
+use Rattle.dip_store_tables.specs.Counting.{counted, item_numbers}
+use Rattle.dip_store_tables.specs.Legible.{IsDeskLegible, IsSeatLegible}
+use Rattle.dip_store_tables.specs.Boards.{board_of}
+use Rattle.dip_store_tables.specs.Reading.{desk_of, game_of, intent_in, items_of, own_of, papers_of, part_of, public_of}
+use Rattle.dip_store_tables.specs.Tables.{DeskRow, GameRow, SeatRow, Tables, is_ballot, is_centre_in, is_choice_in, is_seat, is_seat_in, is_unit_in}
 use Rattle.dip_store_tables.specs.Votes.{IsBallotText, vote_in, vote_of, vote_on}
-use Rattle.dip_store_tables.specs.Written.{IsDeskWritten, IsSeatWritten}
-use Rattle.dip_store_tables.specs.Renewing.{IsRenewed, OldTablesAreRenewed, WasSeatWritten, WereOurs, old_ballot, old_game_of, old_part_of, old_vote, renewed, second, voteless}
+use Rattle.dip_store_tables.specs.Written.{IsDeskWritten, IsGameWritten, IsSeatWritten}
+use Rattle.dip_store_tables.specs.Renewing.{OldTablesAreRenewed, WasGameWritten, WasSeatWritten, old_ballot, old_choice, old_game_of, old_part_of, old_vote, renewed, second, voteless}
 
 -- where no two seats agree on their key, each is found by its own
 abbrev IsFound : List SeatRow → SeatRow → Type 0
@@ -70,6 +71,51 @@ module _ (m : Chart) (t : Tables) where
     | inr e ↦ rw e (parts_same name xs all.1)
   ]
 
+-- no game has the option INTENT, and each has a choice
+none_intends : (gs : List GameRow) (n : List ℕ) → intent_in (map (λ g. old_choice g.name) gs) n ≡ false
+none_intends [] n = refl
+none_intends (g ∷ gs) n = elim (cases_Bool (bytes_eq g.name n)) [
+  | inl e ↦ rw e refl
+  | inr e ↦ rw e (none_intends gs n)
+]
+
+abbrev IsChosen : List GameRow → GameRow → Type 0
+IsChosen gs g = find (is_choice_in g.name) (map (λ x. old_choice x.name) gs) ≡ Some (old_choice g.name)
+
+chosen_first : (x : GameRow) (xs : List GameRow) → IsChosen (x ∷ xs) x
+chosen_first x xs = rw (names_tell.self x.name) refl
+
+chosen_later : (x : GameRow) (xs : List GameRow) (g : GameRow) → IsChosen xs g → IsChosen (x ∷ xs) g
+chosen_later x xs g it = elim (cases_Bool (bytes_eq x.name g.name)) [
+  | inl e ↦ rw e (ap (λ n. Some (old_choice n)) (names_tell.same x.name g.name e))
+  | inr e ↦ rw e it
+]
+
+each_chosen : (xs : List GameRow) → AllByRecursion (IsChosen xs) xs
+each_chosen [] = tt
+each_chosen (x ∷ xs) = (chosen_first x xs, all_weaker (IsChosen xs) (IsChosen (x ∷ xs)) (chosen_later x xs) xs (each_chosen xs))
+
+module _ (m : Chart) (t : Tables) where
+  game_same : (g : GameRow) → AllByRecursion (Votes m t.seats) t.seats → game_of m (renewed t) g ≡ old_game_of m t g
+  game_same g votes =
+      let intent = none_intends t.games g.name in
+      let parts = parts_same m t g.name t.seats votes in
+      let rows = board_of m (filter (is_unit_in g.name) t.units) (filter (is_centre_in g.name) t.centres) g.standoff g.year g.phase in
+      λ i. record { public = record (public_of m t.units t.centres [] g) { board = rows (intent i) }; papers = papers_of t.papers g.name; seats = parts i }
+
+  game_written : (g : GameRow) → IsChosen t.games g → WasGameWritten m t.units t.centres g → IsGameWritten m t.units t.centres (renewed t).choices g
+  game_written g chosen it = record {
+    public = it.public;
+    board = it.board;
+    status = it.status;
+    due = it.due;
+    narrow = it.narrow;
+    row = it.row;
+    its_units = it.its_units;
+    its_centres = it.its_centres;
+    its_choice = chosen ∙ sym (chosen_first g []) ∙ it.its_choice;
+  }
+
 -- a master's row of version 2 says the same
 desk_same : (ds : List DeskRow) → desk_of (update_where (λ d. d.id == 1) second ds) ≡ desk_of ds
 desk_same [] = refl
@@ -101,7 +147,7 @@ old_tables_are_renewed m t it apart =
     let found = each_found t.seats apart.seats in
     let votes = all_weaker (IsFound t.seats) (Votes m t.seats) (votes_so m t.seats) t.seats found in
     record {
-      says = ap₂ (λ d gs. record { desk = d; games = gs }) (desk_same t.desk) (map_same _ (old_game_of m t) (λ g. ap (λ ss. record (old_game_of m t g) { seats = ss }) (parts_same m t g.name t.seats votes)) t.games);
+      says = ap₂ (λ d gs. record { desk = d; games = gs }) (desk_same t.desk) (map_same (game_of m (renewed t)) (old_game_of m t) (λ g. game_same m t g votes) t.games);
       ours = record {
         map = it.map;
         coded = record {
@@ -112,7 +158,7 @@ old_tables_are_renewed m t it apart =
         };
         written = record {
           desk = all_second IsDeskWritten desk_written t.desk it.desks;
-          games = it.games;
+          games = all_both (IsChosen t.games) (WasGameWritten m t.units t.centres) (IsGameWritten m t.units t.centres (renewed t).choices) (game_written m t) t.games (each_chosen t.games) it.games;
           seats = all_map IsSeatWritten voteless t.seats (all_weaker WasSeatWritten (λ s. IsSeatWritten (voteless s)) seat_written t.seats it.seats);
           pending = it.pending;
           boxes = it.boxes;

@@ -9,7 +9,7 @@ use Rattle.dip_store_tables.proofs.Owners.{owners_back}
 use Rattle.dip_store_tables.proofs.Standoffs.{standoff_back}
 
 module _ (m : Chart) (ok : IsMap m) where
-  pub board_back : (b : Position) → IsOf m b → (game : List ℕ) → board_of m (unit_rows m game b) (centre_rows m game b) (standoff_text m b.standoff) b.phase.year (season_number b.phase.season) ≡ b
+  pub board_back : (b : Position) → IsOf m b → (game : List ℕ) → board_of m (unit_rows m game b) (centre_rows m game b) (standoff_text m b.standoff) b.phase.year (season_number b.phase.season) b.intent ≡ b
   board_back b of_map game =
       let ds = map (dislodged_row m game) b.dislodged in
       let us = map (standing_row m game) b.units in
@@ -20,4 +20,4 @@ module _ (m : Chart) (ok : IsMap m) where
       let standoff = standoff_back m ok b.standoff of_map.standoff in
       let owners = owners_back m ok game b of_map in
       let season = season_back b.phase.season in
-      λ i. record { units = units i; dislodged = dislodged i; standoff = standoff i; owners = owners i; phase = record { year = b.phase.year; season = season i } }
+      λ i. record { units = units i; dislodged = dislodged i; standoff = standoff i; owners = owners i; phase = record { year = b.phase.year; season = season i }; intent = b.intent }

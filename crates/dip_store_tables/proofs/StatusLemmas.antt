@@ -1,12 +1,11 @@
 -- The words of a status.
-use Rattle.std.proofs.Common.{◌≡◌, ℕ, zero, suc, ◌<◌, true, false, bytes_eq, List, [], ◌∷◌, length, get_or, drop, map, codes, Option, Some, None, String, string_bytes, refl, sym, ap, subst, ◌∙◌, arith}
+use Rattle.std.proofs.Common.{◌≡◌, ℕ, zero, suc, ◌<◌, true, false, bytes_eq, List, [], ◌∷◌, length, get_or, drop, map, codes, Some, None, String, string_bytes, refl, sym, ap, subst, ◌∙◌, arith}
 use Rattle.std.specs.List.{AllByRecursion}
 use Rattle.std.specs.declared.alloc.Global.{Global}
 use Rattle.std.proofs.lemmas.List.{get_or-map, length-map}
 use Rattle.std.proofs.lemmas.Slice.Eq.{bytes_eq-Decides}
 use Rattle.dip_map.specs.Charts.{Chart, IsMap, power_of}
 use Rattle.dip_store_tables.specs.Boards.{power_name}
-use Rattle.dip_desk_state.specs.Writable.{IsStatusOf}
 use Rattle.dip_desk_state.specs.Records.{Status, Running, Paused, Closed, Ended, Won, Drawn}
 use Rattle.dip_desk_state.specs.Rows as rows
 use Rattle.dip_store_tables.specs.Reading.{status_from, status_in, status_of}

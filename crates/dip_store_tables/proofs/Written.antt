@@ -16,11 +16,11 @@ use Rattle.dip_store_tables.specs.Coding.{IsEffectOf, same_name}
 use Rattle.dip_desk_state.specs.Writable.{IsPlainItem, IsStatusOf}
 use Rattle.dip_store_tables.specs.ChangeColumns.{FitsColumns, IsEffectNarrow, IsNarrow}
 use Rattle.dip_store_tables.specs.Laws.{TablesStayWritten}
-use Rattle.dip_store_tables.specs.Tables.{GameRow, SeatRow, Tables, is_named, is_seat, is_seat_in, is_unit_in, is_centre_in, is_pending, is_pending_in, is_box_in, is_ballot, is_ballot_in}
-use Rattle.dip_store_tables.specs.Writing.{as_printed, ballot_noted, ballot_row, desk_noted, game_row, next_row, pending_row, seat_effect, seat_kept, seat_noted, seat_row, whole_reply}
+use Rattle.dip_store_tables.specs.Tables.{GameRow, SeatRow, ChoiceRow, Tables, is_named, is_choice_in, is_seat, is_seat_in, is_unit_in, is_centre_in, is_pending, is_pending_in, is_box_in, is_ballot, is_ballot_in}
+use Rattle.dip_store_tables.specs.Writing.{as_printed, ballot_noted, ballot_row, choice_row, desk_noted, game_row, next_row, pending_row, seat_effect, seat_kept, seat_noted, seat_row, whole_reply}
 use Rattle.dip_store_tables.specs.Votes.{IsBallotText}
 use Rattle.dip_store_tables.specs.Written.{AreWritten, IsDeskWritten, IsGameWritten, IsItemWritten, IsOrderWritten, IsSeatWritten}
-use Rattle.dip_store_tables.proofs.Anew.{put_mine, put_other, units_of_game, centres_of_game}
+use Rattle.dip_store_tables.proofs.Anew.{other_choice, put_choice, put_mine, put_other, units_of_game, centres_of_game}
 use Rattle.dip_store_tables.proofs.Authors.{authored, ordering_alone}
 use Rattle.dip_store_tables.proofs.Openings.{ends_apart}
 use Rattle.dip_store_tables.proofs.Seats.{both_same}
@@ -113,9 +113,10 @@ module _ (m : Chart) (name : List ℕ) (k : Kept) (numbered : (k.number == 0) �
       let has = noted_written who t it in
       record {
         desk = subst (AllByRecursion IsDeskWritten) (sym alone.desk) has.desk;
-        games = subst (λ us. AllByRecursion (IsGameWritten m us v.centres) v.games) (sym alone.units)
-            (subst (λ cs. AllByRecursion (IsGameWritten m u.units cs) v.games) (sym alone.centres)
-            (subst (AllByRecursion (IsGameWritten m u.units u.centres)) (sym alone.games) has.games));
+        games = subst (λ us. AllByRecursion (IsGameWritten m us v.centres v.choices) v.games) (sym alone.units)
+            (subst (λ cs. AllByRecursion (IsGameWritten m u.units cs v.choices) v.games) (sym alone.centres)
+            (subst (λ os. AllByRecursion (IsGameWritten m u.units u.centres os) v.games) (sym alone.choices)
+            (subst (AllByRecursion (IsGameWritten m u.units u.centres u.choices)) (sym alone.games) has.games)));
         seats = subst (AllByRecursion IsSeatWritten) (sym alone.seats) has.seats;
         pending = ordered_written who e u fits has.pending;
         boxes = subst (AllByRecursion IsItemWritten) (sym alone.boxes) has.boxes;
@@ -130,7 +131,10 @@ module _ (m : Chart) (name : List ℕ) (p : Public) (of_map : IsOf m p.board) (s
   abbrev centres : List CentreRow
   centres = delete_where (is_centre_in name) t.centres ++ centre_rows m name p.board
 
-  my_game : IsGameWritten m units centres (game_row m name p)
+  abbrev choices : List ChoiceRow
+  choices = delete_where (is_choice_in name) t.choices ++ choice_row name p.board.intent ∷ []
+
+  my_game : IsGameWritten m units centres choices (game_row m name p)
   my_game = record {
     public = p;
     board = of_map;
@@ -140,9 +144,10 @@ module _ (m : Chart) (name : List ℕ) (p : Public) (of_map : IsOf m p.board) (s
     row = refl;
     its_units = put_mine (λ (u : UnitRow). u.game) name t.units (unit_rows m name p.board) (units_of_game m name p.board);
     its_centres = put_mine (λ (c : CentreRow). c.game) name t.centres (centre_rows m name p.board) (centres_of_game m name p.board);
+    its_choice = put_choice name p.board.intent t.choices;
   }
 
-  other_game : (g : GameRow) → bytes_eq g.name name ≡ false → IsGameWritten m t.units t.centres g → IsGameWritten m units centres g
+  other_game : (g : GameRow) → bytes_eq g.name name ≡ false → IsGameWritten m t.units t.centres t.choices g → IsGameWritten m units centres choices g
   other_game g far it = record {
     public = it.public;
     board = it.board;
@@ -152,24 +157,25 @@ module _ (m : Chart) (name : List ℕ) (p : Public) (of_map : IsOf m p.board) (s
     row = it.row;
     its_units = put_other (λ (u : UnitRow). u.game) g.name name t.units (unit_rows m name p.board) (units_of_game m name p.board) far ∙ it.its_units;
     its_centres = put_other (λ (c : CentreRow). c.game) g.name name t.centres (centre_rows m name p.board) (centres_of_game m name p.board) far ∙ it.its_centres;
+    its_choice = other_choice g.name name p.board.intent t.choices far ∙ it.its_choice;
   }
 
-  opened_games : IsAscending (λ a b. same_name a b ≡ false) (t.games ++ game_row m name p ∷ []) → AllByRecursion (IsGameWritten m t.units t.centres) t.games
-      → AllByRecursion (IsGameWritten m units centres) (t.games ++ game_row m name p ∷ [])
+  opened_games : IsAscending (λ a b. same_name a b ≡ false) (t.games ++ game_row m name p ∷ []) → AllByRecursion (IsGameWritten m t.units t.centres t.choices) t.games
+      → AllByRecursion (IsGameWritten m units centres choices) (t.games ++ game_row m name p ∷ [])
   opened_games later all =
-      all-append (IsGameWritten m units centres) t.games (game_row m name p ∷ [])
-      (all_both (λ g. bytes_eq g.name name ≡ false) (IsGameWritten m t.units t.centres) (IsGameWritten m units centres) other_game t.games (ends_apart t.games (game_row m name p) later) all)
+      all-append (IsGameWritten m units centres choices) t.games (game_row m name p ∷ [])
+      (all_both (λ g. bytes_eq g.name name ≡ false) (IsGameWritten m t.units t.centres t.choices) (IsGameWritten m units centres choices) other_game t.games (ends_apart t.games (game_row m name p) later) all)
       (my_game, tt)
 
-  published_game : (g : GameRow) → IsGameWritten m t.units t.centres g → IsGameWritten m units centres (cond (is_named name g) (game_row m g.name p) g)
+  published_game : (g : GameRow) → IsGameWritten m t.units t.centres t.choices g → IsGameWritten m units centres choices (cond (is_named name g) (game_row m g.name p) g)
   published_game g it =
-      cond_both (is_named name g) (game_row m g.name p) g (IsGameWritten m units centres)
-      (λ e. subst (λ n. IsGameWritten m units centres (game_row m n p)) (sym (names_tell.same g.name name e)) my_game) (λ e. other_game g e it)
+      cond_both (is_named name g) (game_row m g.name p) g (IsGameWritten m units centres choices)
+      (λ e. subst (λ n. IsGameWritten m units centres choices (game_row m n p)) (sym (names_tell.same g.name name e)) my_game) (λ e. other_game g e it)
 
-  published_games : AllByRecursion (IsGameWritten m t.units t.centres) t.games → AllByRecursion (IsGameWritten m units centres) (map (λ g. cond (is_named name g) (game_row m g.name p) g) t.games)
+  published_games : AllByRecursion (IsGameWritten m t.units t.centres t.choices) t.games → AllByRecursion (IsGameWritten m units centres choices) (map (λ g. cond (is_named name g) (game_row m g.name p) g) t.games)
   published_games all =
-      all_map (IsGameWritten m units centres) (λ g. cond (is_named name g) (game_row m g.name p) g) t.games
-      (all_weaker (IsGameWritten m t.units t.centres) (λ g. IsGameWritten m units centres (cond (is_named name g) (game_row m g.name p) g)) published_game t.games all)
+      all_map (IsGameWritten m units centres choices) (λ g. cond (is_named name g) (game_row m g.name p) g) t.games
+      (all_weaker (IsGameWritten m t.units t.centres t.choices) (λ g. IsGameWritten m units centres choices (cond (is_named name g) (game_row m g.name p) g)) published_game t.games all)
 
 -- an item's row is that of the item
 item_written : (item : Item) → IsPlainItem item → (s : SeatRow) → IsItemWritten (next_row item s)

@@ -151,17 +151,18 @@ standoff_of m (a ∷ b ∷ c ∷ d ∷ rest) = prov_in m (a ∷ b ∷ c ∷ []) 
 standoff_of m (a ∷ b ∷ c ∷ []) = prov_in m (a ∷ b ∷ c ∷ []) ∷ []
 standoff_of m _ = []
 
--- the board of a game's rows, with its text of standoffs, its year and the number of its season
-abbrev pub board_of : Chart → List UnitRow → List CentreRow → List ℕ → ℕ → ℕ → Position
-board_of m units centres standoff year season = record {
+-- the board of a game's rows, with its text of standoffs, its year, the number of its season, and whether it has the option INTENT
+abbrev pub board_of : Chart → List UnitRow → List CentreRow → List ℕ → ℕ → ℕ → Bool → Position
+board_of m units centres standoff year season intent = record {
   units = map (unit_of m) (filter stands units);
   dislodged = map (dislodged_of m) (filter fell units);
   standoff = standoff_of m standoff;
   owners = map (λ p. owner_in m centres p.code) m.provinces;
   phase = record { year = year; season = season_of season };
+  intent = intent;
 }
 
 -- a board of the map
 abbrev pub BoardsComeBack : Chart → Type 0
 BoardsComeBack m = (game : List ℕ) (b : Position) → IsOf m b
-    → board_of m (unit_rows m game b) (centre_rows m game b) (standoff_text m b.standoff) b.phase.year (season_number b.phase.season) ≡ b
+    → board_of m (unit_rows m game b) (centre_rows m game b) (standoff_text m b.standoff) b.phase.year (season_number b.phase.season) b.intent ≡ b

@@ -72,7 +72,7 @@ opening m p paper seats t = record t {
   boxes = delete_where (is_box_in p.game) t.boxes;
   papers = delete_where (is_paper_in p.game) t.papers ++ paper_row p.game p.papers paper ∷ [];
   ballots = delete_where (is_ballot_in p.game) t.ballots ++ map (ballot_row m p.game) seats;
-  choices = delete_where (is_choice_in p.game) t.choices ++ choice_row p.game ∷ [];
+  choices = delete_where (is_choice_in p.game) t.choices ++ choice_row p.game p.board.intent ∷ [];
 }
 
 -- the game's row and its board are written anew, with a paper more; where a phase was played no order stands any more
@@ -83,6 +83,7 @@ publishing m name p paper played t = record t {
   centres = delete_where (is_centre_in name) t.centres ++ centre_rows m name p.board;
   pending = if played then delete_where (is_pending_in name) t.pending else t.pending;
   papers = t.papers ++ paper_row name p.papers paper ∷ [];
+  choices = delete_where (is_choice_in name) t.choices ++ choice_row name p.board.intent ∷ [];
 }
 
 abbrev pub replacing : Chart → List ℕ → NewSeat → Tables → Tables

@@ -5,8 +5,7 @@ use Rattle.sqlite_trees.specs.Tree.{IsAscending}
 use Rattle.dip_map.specs.Charts.{Chart}
 use Rattle.dip_map.specs.Boards.{IsOf}
 use Rattle.dip_store_tables.specs.Boards.{power_name}
-use Rattle.dip_desk_state.specs.Records.{Item, White, Grey, Status, Running, Paused, Closed, Ended, Won, Drawn}
-use Rattle.dip_desk_state.specs.State.{Author, Nobody, TheMaster, Seat, Effect, Nothing, Pending, Votes, Delivers, Opens, Publishes, Seats, Change}
+use Rattle.dip_desk_state.specs.State.{Effect, Nothing, Pending, Votes, Delivers, Opens, Publishes, Seats, Change}
 use Rattle.dip_store_tables.specs.Tables.{BallotRow, DeskRow, GameRow, SeatRow, Tables, is_ballot, is_named, is_seat}
 use Rattle.dip_desk_state.specs.Writable.{Lacks, IsPlainItem, IsStatusOf, IsVoteOf, IsAuthorOf}
 

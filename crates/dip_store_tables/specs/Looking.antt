@@ -11,7 +11,7 @@ use Rattle.dip_store_tables.specs.Tables.{GameRow, SeatRow, Tables, is_box, is_n
 
 -- the public part of a game is what the first row of its name says
 abbrev pub PublicIsFound : Chart → Type 0
-PublicIsFound m = (t : Tables) (name : List ℕ) → public_at name (state_of m t) ≡ option_map (public_of m t.units t.centres) (find (is_named name) t.games)
+PublicIsFound m = (t : Tables) (name : List ℕ) → public_at name (state_of m t) ≡ option_map (public_of m t.units t.centres t.choices) (find (is_named name) t.games)
 
 -- and a seat's own part is what the first row of its game and its power's name says
 abbrev pub OwnIsFound : Chart → Type 0

@@ -1,10 +1,11 @@
 -- What the tables say of the desk, by a map.
-use Rattle.std.specs.Prelude.{ℕ, ◌-◌, ◌==◌, length, take, drop, List, [], ◌∷◌, map, filter, Option, None, Some, bytes_eq, codes, if◌then◌else◌}
+use Rattle.std.specs.Prelude.{ℕ, ◌-◌, ◌==◌, Bool, false, length, take, drop, List, [], ◌∷◌, map, filter, Option, None, Some, bytes_eq, codes, if◌then◌else◌}
+use Rattle.std.specs.List.{find}
 use Rattle.dip_map.specs.Charts.{Chart}
 use Rattle.dip_store_tables.specs.Boards.{UnitRow, CentreRow, board_of, power_in, prov_in}
 use Rattle.dip_desk_state.specs.Records.{Public, Own, Item, White, Grey, Kept, Standing, Status, Running, Paused, Closed, Ended, Won, Drawn}
 use Rattle.dip_desk_state.specs.State.{State, Game, Part, Desk}
-use Rattle.dip_store_tables.specs.Tables.{DeskRow, GameRow, SeatRow, PendingRow, BoxRow, PaperRow, BallotRow, Tables, is_seat_in, is_unit_in, is_centre_in, is_paper_in, is_pending, is_box}
+use Rattle.dip_store_tables.specs.Tables.{DeskRow, GameRow, SeatRow, PendingRow, BoxRow, PaperRow, BallotRow, ChoiceRow, Tables, is_seat_in, is_unit_in, is_centre_in, is_choice_in, is_paper_in, is_pending, is_box}
 use Rattle.dip_store_tables.specs.Texts.{behind, pieces}
 use Rattle.dip_store_tables.specs.Votes.{vote_in}
 
@@ -41,10 +42,19 @@ status_from m (w ∷ ws) = status_in m w (drop 1 ws)
 abbrev pub status_of : Chart → List ℕ → Status
 status_of m text = status_from m (pieces 32 text)
 
-abbrev pub public_of : Chart → List UnitRow → List CentreRow → GameRow → Public
-public_of m units centres g = record {
+-- a game has the option INTENT where its first choice says 1; one without a choice hasn't it
+abbrev pub intends : Option ChoiceRow → Bool
+intends None = false
+intends (Some c) = c.intent == 1
+
+abbrev pub intent_in : List ChoiceRow → List ℕ → Bool
+intent_in choices name = intends (find (is_choice_in name) choices)
+
+abbrev pub public_of : Chart → List UnitRow → List CentreRow → List ChoiceRow → GameRow → Public
+public_of m units centres choices g = record {
   game = g.name;
-  board = board_of m (filter (is_unit_in g.name) units) (filter (is_centre_in g.name) centres) g.standoff g.year g.phase;
+  board = board_of m (filter (is_unit_in g.name) units) (filter (is_centre_in g.name) centres) g.standoff g.year g.phase
+      (intent_in choices g.name);
   status = status_of m g.status;
   due = g.due;
   period = g.period;
@@ -86,7 +96,7 @@ papers_of papers name = map (λ p. p.body) (filter (is_paper_in name) papers)
 
 abbrev pub game_of : Chart → Tables → GameRow → Game
 game_of m t g = record {
-  public = public_of m t.units t.centres g;
+  public = public_of m t.units t.centres t.choices g;
   papers = papers_of t.papers g.name;
   seats = map (part_of m t) (filter (is_seat_in g.name) t.seats);
 }

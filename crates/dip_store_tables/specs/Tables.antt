@@ -62,7 +62,7 @@ pub record BallotRow : Type 0 where
   pub power : List ℕ
   pub names : List ℕ
 
--- the option of a game, which is 0
+-- the option INTENT of a game: 1 where it has it, 0 where it hasn't
 pub record ChoiceRow : Type 0 where
   pub game : List ℕ
   pub intent : ℕ

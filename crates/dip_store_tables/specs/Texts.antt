@@ -1,6 +1,5 @@
 -- Words and lines in one text.
-use Rattle.std.specs.Prelude.{◌≡◌, ℕ, ◌==◌, false, List, [], ◌∷◌, ◌++◌, flat_map, if◌then◌else◌}
-use Rattle.std.specs.List.{AllByRecursion}
+use Rattle.std.specs.Prelude.{ℕ, ◌==◌, List, [], ◌∷◌, ◌++◌, flat_map, if◌then◌else◌}
 
 -- words with a byte between two of them
 abbrev pub joined : ℕ → List (List ℕ) → List ℕ

@@ -22,7 +22,7 @@ whole_reply game sender k =
 abbrev pub as_printed : List ℕ → List ℕ → Kept → Kept
 as_printed game sender k = record k { reply = whole_reply game sender k }
 
--- the public part of a game of that name, but for its board's units and owners
+-- the public part of a game of that name, but for its board's units, its owners and its option
 abbrev pub game_row : Chart → List ℕ → Public → GameRow
 game_row m name p = record {
   name = name;
@@ -50,12 +50,13 @@ seat_row m name s = record {
   items = 0;
 }
 
--- the ballot of such a seat, and the choice of a new game
+-- the ballot of such a seat
 abbrev pub ballot_row : Chart → List ℕ → NewSeat → BallotRow
 ballot_row m name s = record { game = name; power = power_name m s.power; names = codes "NO" }
 
-abbrev pub choice_row : List ℕ → ChoiceRow
-choice_row name = record { game = name; intent = 0 }
+-- whether a game of that name has the option INTENT
+abbrev pub choice_row : List ℕ → Bool → ChoiceRow
+choice_row name intent = record { game = name; intent = number_of intent }
 
 abbrev pub pending_row : Chart → List ℕ → List ℕ → Standing → PendingRow
 pending_row m name power o = record { game = name; power = power; province = code m o.province; line = o.line }

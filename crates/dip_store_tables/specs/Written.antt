@@ -1,14 +1,14 @@
 -- What stands in tables that a keeper wrote: each row is that of a record of the map, so that it can be read back.
 use Rattle.std.specs.Prelude.{◌≡◌, ◌<◌, ◌^◌, ◌==◌, ℕ, false, List, [], length, filter, codes, Option, None, Some}
-use Rattle.std.specs.List.{AllByRecursion}
+use Rattle.std.specs.List.{AllByRecursion, find}
 use Rattle.dip_map.specs.Charts.{Chart}
 use Rattle.dip_map.specs.Boards.{IsOf}
 use Rattle.dip_store_tables.specs.Boards.{UnitRow, CentreRow, code, unit_rows, centre_rows}
 use Rattle.dip_desk_state.specs.Records.{Public, Item, Kept}
 use Rattle.dip_desk_state.specs.Writable.{IsPlainItem, IsStatusOf}
 use Rattle.dip_store_tables.specs.ChangeColumns.{IsNarrow}
-use Rattle.dip_store_tables.specs.Tables.{DeskRow, GameRow, SeatRow, PendingRow, BoxRow, Tables, is_unit_in, is_centre_in}
-use Rattle.dip_store_tables.specs.Writing.{box_row, game_row, whole_reply}
+use Rattle.dip_store_tables.specs.Tables.{DeskRow, GameRow, SeatRow, PendingRow, BoxRow, ChoiceRow, Tables, is_unit_in, is_centre_in, is_choice_in}
+use Rattle.dip_store_tables.specs.Writing.{box_row, choice_row, game_row, whole_reply}
 use Rattle.dip_store_tables.specs.Votes.{IsBallotText}
 
 -- of an author's last letter: nothing before the first, then its number, its sum, and its reply as it was printed
@@ -28,8 +28,8 @@ pub record IsSeatWritten (s : SeatRow) : Type 0 where
   pub vote : s.vote ≡ 0
   pub letter : (k : Option Kept) × KeepsLetter s.game s.power k s.last s.kept s.reply
 
--- a game's row, its units and its centres are those of a public part of the map
-pub record IsGameWritten (m : Chart) (units : List UnitRow) (centres : List CentreRow) (g : GameRow) : Type 0 where
+-- a game's row, its units, its centres and its choice are those of a public part of the map
+pub record IsGameWritten (m : Chart) (units : List UnitRow) (centres : List CentreRow) (choices : List ChoiceRow) (g : GameRow) : Type 0 where
   pub public : Public
   pub board : IsOf m public.board
   pub status : IsStatusOf m public.status
@@ -38,6 +38,7 @@ pub record IsGameWritten (m : Chart) (units : List UnitRow) (centres : List Cent
   pub row : g ≡ game_row m g.name public
   pub its_units : filter (is_unit_in g.name) units ≡ unit_rows m g.name public.board
   pub its_centres : filter (is_centre_in g.name) centres ≡ centre_rows m g.name public.board
+  pub its_choice : find (is_choice_in g.name) choices ≡ Some (choice_row g.name public.board.intent)
 
 -- a standing order's province is one of the map, and an item's words and lines are found again
 abbrev pub IsOrderWritten : Chart → PendingRow → Type 0
@@ -48,7 +49,7 @@ IsItemWritten b = (item : Item) × IsPlainItem item × (b ≡ box_row b.game b.p
 
 pub record AreWritten (m : Chart) (t : Tables) : Type 0 where
   pub desk : AllByRecursion IsDeskWritten t.desk
-  pub games : AllByRecursion (IsGameWritten m t.units t.centres) t.games
+  pub games : AllByRecursion (IsGameWritten m t.units t.centres t.choices) t.games
   pub seats : AllByRecursion IsSeatWritten t.seats
   pub pending : AllByRecursion (IsOrderWritten m) t.pending
   pub boxes : AllByRecursion IsItemWritten t.boxes

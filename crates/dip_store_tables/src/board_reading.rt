@@ -24,8 +24,8 @@ fn season_in(number: u32) -> Option<Season>
     }
 }
 
-/// The board of a game's rows, with its text of standoffs, its year and the number of its season, 0 for the moves of Spring to 4
-/// for Winter.
+/// The board of a game's rows, with its text of standoffs, its year, the number of its season, 0 for the moves of Spring to 4 for
+/// Winter, and whether it has the option INTENT.
 ///
 /// None where a code or a name isn't the map's, or there is no season of that number. Rows that were written of a board of the
 /// map are read.
@@ -37,9 +37,10 @@ pub fn read_board(
     standoffs: &str,
     year: u16,
     season: u32,
+    intent: bool,
 ) -> Result<Option<Board>, AllocError>
     ensures value { IfOk result (λ o. IfSome o (λ b.
-        b ≡ board_of map.now units.now centres.now standoffs.now year season)) }
+        b ≡ board_of map.now units.now centres.now standoffs.now year season intent)) }
     ensures none { IfOk result (λ o. IfNone o (
         AreOfBoard map.now units.now centres.now standoffs.now season → ⊥)) }
 {
@@ -58,5 +59,5 @@ pub fn read_board(
     let Some(owned) = owners(alloc, map, centres)? else {
         return Ok(None);
     };
-    Ok(Some(Board::of(stand, fell, closed, owned, Phase { year, season })))
+    Ok(Some(Board::of(stand, fell, closed, owned, Phase { year, season }, intent)))
 }

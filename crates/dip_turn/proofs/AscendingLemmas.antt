@@ -1,6 +1,6 @@
 -- Lists of numbers that ascend: what they list says which they are.
 use Rattle.std.proofs.Common.{◌≡◌, ◌<◌, ℕ, List, [], ◌∷◌, refl, sym, ap₂, subst, ◌∙◌, arith, inl, inr}
-use Rattle.std.specs.Prelude.{◌==◌, ◌||◌, nat_lt, Bool, true, false}
+use Rattle.std.specs.Prelude.{◌==◌, ◌||◌, nat_lt, true, false}
 use Rattle.std.specs.List.{list_all}
 use Rattle.std.proofs.lemmas.Bool.{and_parts, both_ways, cases_Bool, eq-eqb, eqb-true, ltb-true, or_cases, or_left}
 use mathlib.Core.Logic.{◌⊎◌}

@@ -1,5 +1,5 @@
 -- No phase changes the option INTENT.
-use Rattle.std.proofs.Common.{◌≡◌, ◌+◌, ℕ, Bool, true, false, cond, List, nat_le, Option, None, Some, refl, sym, ap, ◌∙◌}
+use Rattle.std.proofs.Common.{◌≡◌, ◌+◌, ℕ, Bool, true, false, cond, List, nat_le, Option, None, Some, refl, ap, ◌∙◌}
 use Rattle.dip_map.specs.Charts.{Chart}
 use Rattle.dip_map.specs.declared.boards.Season.{Season}
 use Rattle.dip_map.specs.declared.boards.Season.TheVariants.{SpringMoves, SpringRetreats, FallMoves, FallRetreats, Winter}

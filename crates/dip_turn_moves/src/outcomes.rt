@@ -136,7 +136,8 @@ pub fn movement_lines(
     given: &[PlacedOrder],
 ) -> Result<Vec<MovementLine>, AllocError>
     ensures { IfOk result
-        (λ v. v.items ≡ o.lines_on map.now moved.now (values_in resolution.now) orders.now given.now) }
+        (λ v. v.items
+        ≡ o.lines_on map.now moved.now (values_in resolution.now) orders.now given.now) }
 {
     let mut lines = Vec::new(alloc);
     for placed in given {

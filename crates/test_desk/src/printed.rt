@@ -7,6 +7,8 @@ use std::alloc::Global;
 /// Letters with each command.
 const LETTERS: &[&str] = &[
     "LETTER\nGAME g1\nFROM master\nSECRET mmmmmmmm\nNUMBER 7\nCREATE DUE 5 PERIOD 10 GREY YES\nSEAT england eeeeeeee\nSEAT france ffff~ff!f\nEND\n",
+    "LETTER\nGAME g1\nFROM master\nSECRET mmmmmmmm\nNUMBER 7\nCREATE DUE 5 PERIOD 10 GREY NO INTENT YES\nSEAT england eeeeeeee\nSEAT france ffff~ff!f\nEND\n",
+    "LETTER\nGAME g1\nFROM master\nSECRET mmmmmmmm\nNUMBER 7\nCREATE DUE 5 PERIOD 10 GREY YES INTENT NO\nSEAT england eeeeeeee\nSEAT france ffff~ff!f\nEND\n",
     "LETTER\nGAME g1\nFROM england\nSECRET eeeeeeee\nNUMBER 1\nORDERS\nF lon - nth\nA lvp H\nEND\n",
     "LETTER\nGAME g1\nFROM england\nSECRET eeeeeeee\nNUMBER 2\nSHOW\nEND\n",
     "LETTER\nGAME g1\nFROM master\nSECRET mmmmmmmm\nNUMBER 2\nTICK 100\nEND\n",

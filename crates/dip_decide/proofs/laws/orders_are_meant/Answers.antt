@@ -1,6 +1,5 @@
-use Rattle.std.proofs.Common.{ap, List}
+use Rattle.std.proofs.Common.{ap}
 use Rattle.std.specs.Prelude.{Bool}
-use Rattle.dip_orders.specs.declared.placed.PlacedOrder.{PlacedOrder}
 use Rattle.dip_decide_table.specs.Meaning.{meant}
 use Rattle.dip_decide_table.proofs.Meanings.{meant_are_orders}
 use Rattle.dip_decide.proofs.laws.orders_are_meant.Goals as goal

@@ -1,7 +1,7 @@
 use Rattle.std.proofs.Common.{◌≡◌, arith, rules, [], ◌∷◌, subst, string_bytes, ◌∙◌}
 use Rattle.sqlite.specs.declared.error.Error.{Error}
 use Rattle.sqlite.specs.Held.{state}
-use Rattle.dip_store_tables.specs.Writing.{choice_row}
+use Rattle.dip_store_tables.specs.Renewing.{old_choice}
 use Rattle.dip_store_sql.specs.Calls.{Writes}
 use Rattle.dip_store_sql.proofs.Parts.{taken_both, went, writes_more}
 use Rattle.dip_store.specs.Renewing.{more_choices}
@@ -12,11 +12,11 @@ pub loop-game-preserved : goal.loop-game-preserved
 loop-game-preserved g c =
     let d = c.game-item.result in
     let named : c.as_str.result.now ≡ string_bytes c.game-item.result = search rules in
-    let here = subst (λ n. Writes (more_choices (choice_row n ∷ [])) (state g.S.Store c.loop-game.tx.conn.now) (state g.S.Store c.add_new_choice.new.tx.conn.now) (went (Unit {0}) Error tt)) named c.in_ok-add_new_choice.ensures.writes in
-    let step = subst (λ s. Writes (more_choices (choice_row (string_bytes s) ∷ [])) (state g.S.Store c.loop-game.tx.conn.now) (state g.S.Store c.add_new_choice.new.tx.conn.now) (went (Unit {0}) Error tt)) c.game-item.is here in
+    let here = subst (λ n. Writes (more_choices (old_choice n ∷ [])) (state g.S.Store c.loop-game.tx.conn.now) (state g.S.Store c.add_new_choice.new.tx.conn.now) (went (Unit {0}) Error tt)) named c.in_ok-add_new_choice.ensures.writes in
+    let step = subst (λ s. Writes (more_choices (old_choice (string_bytes s) ∷ [])) (state g.S.Store c.loop-game.tx.conn.now) (state g.S.Store c.add_new_choice.new.tx.conn.now) (went (Unit {0}) Error tt)) c.game-item.is here in
     record {
       same_reference = c.in_ok-add_new_choice.ensures.same_reference ∙ c.loop-game.invariant.same_reference;
       writes = writes_more _ _ _ _ _ _ _ _ _ tt tt tt
-          (choices_on _ _ _ (taken_both choice_row (λ s. string_bytes s) c.args.games.now c.loop-game.game-index d (omega arith)))
+          (choices_on _ _ _ (taken_both old_choice (λ s. string_bytes s) c.args.games.now c.loop-game.game-index d (omega arith)))
           c.loop-game.invariant.writes step;
     }

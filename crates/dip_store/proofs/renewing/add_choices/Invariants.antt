@@ -2,7 +2,7 @@ use Rattle.std.proofs.Common.{◌≡◌, map, take}
 use Rattle.sqlite.specs.Held.{state}
 use Rattle.sqlite.specs.declared.error.Error.{Error}
 use Rattle.dip_desk_state.specs.Rows.{lines}
-use Rattle.dip_store_tables.specs.Writing.{choice_row}
+use Rattle.dip_store_tables.specs.Renewing.{old_choice}
 use Rattle.dip_store_sql.specs.Calls.{Writes}
 use Rattle.dip_store_sql.proofs.Parts.{went}
 use Rattle.dip_store.specs.Renewing.{more_choices}
@@ -11,5 +11,5 @@ use Rattle.dip_store.proofs.renewing.add_choices.Given as goal
 abbrev pub invariant-loop-game : goal.invariant-loop-game
 invariant-loop-game g l = record {
   same_reference : l.tx.conn.ghost_name ≡ l.fn.tx.conn.ghost_name;
-  writes : Writes (more_choices (map choice_row (lines (take l.game-index l.games)))) (state g.S.Store l.fn.tx.conn.now) (state g.S.Store l.tx.conn.now) (went (Unit {0}) Error tt);
+  writes : Writes (more_choices (map old_choice (lines (take l.game-index l.games)))) (state g.S.Store l.fn.tx.conn.now) (state g.S.Store l.tx.conn.now) (went (Unit {0}) Error tt);
 }

@@ -22,7 +22,7 @@ returns-in_err-check_paper-clause-fails g c kept shows clean ours =
     let t = tables_in g.S.Store c.args.conn.now in
     same_fails _ _ _ _ c.in_err-check_paper.field-0.0 c.from_residual.result c.from_residual.ensures.1 (λ fault. fault)
     (λ off place. off (subst (λ (n : List ℕ). CountsOn n it.effect t.games) (sym c.as_str-game.ensures.value) place.paper))
-    (c.in_err-check_paper.ensures.fails kept shows clean (papers_narrow c.args.map.now t.units t.centres t.games ours.written.games))
+    (c.in_err-check_paper.ensures.fails kept shows clean (papers_narrow c.args.map.now t.units t.centres t.choices t.games ours.written.games))
 
 pub returns-in_err-readers-clause-peeks : goal.returns-in_err-readers-clause-peeks
 returns-in_err-readers-clause-peeks g c =

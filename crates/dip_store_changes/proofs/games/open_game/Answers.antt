@@ -15,7 +15,7 @@ returns-clause-writes g c =
     let m = c.args.map.now in
     let p = records.public c.args.public.now in
     let seats = map machine.new_seat c.args.seats.now in
-    let all : List ℕ → Tables → Tables = λ n t. with_votes m n seats (with_paper (paper_row n p.papers c.args.paper.now) (with_board m n p.board (more_seats (map (seat_row m n) seats) (with_game (game_row m p.game p) (cleared n t))))) in
+    let all : List ℕ → Tables → Tables = λ n t. with_votes m n seats p.board.intent (with_paper (paper_row n p.papers c.args.paper.now) (with_board m n p.board (more_seats (map (seat_row m n) seats) (with_game (game_row m p.game p) (cleared n t))))) in
     let same : (t : Tables) → all c.as_str-game.result.now t ≡ opening m p c.args.paper.now seats t =
     subst (λ n. (t : Tables) → all n t ≡ opening m p c.args.paper.now seats t) (sym c.as_str-game.ensures.value) (λ t. refl) in
     let two = writes_and _ _ _ _ _ _ _ c.in_ok-clear.field-0 _ c.in_ok-clear.ensures.writes c.in_ok-open_row.ensures.writes in

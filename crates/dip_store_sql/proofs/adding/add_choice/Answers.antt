@@ -1,22 +1,23 @@
-use Rattle.std.proofs.Common.{[], ◌∷◌, refl}
-use Rattle.sqlite.specs.declared.types.Value.TheVariants.{Text as Words}
+use Rattle.std.proofs.Common.{[], ◌∷◌, pos, refl}
+use Rattle.sqlite.specs.declared.types.Value.TheVariants.{Int, Text as Words}
 use Rattle.dip_store_sql.specs.Statements as text
 use Rattle.dip_store_sql.proofs.Texts as means
 use Rattle.dip_store_sql.specs.TablesAfter.{with_choice}
-use Rattle.dip_store_tables.specs.Writing.{choice_row}
+use Rattle.dip_store_tables.specs.Writing.{choice_row, number_of}
 use Rattle.dip_store_sql.proofs.Parts.{one}
 use Rattle.dip_store_sql.proofs.Stating as made
 use Rattle.dip_store_sql.proofs.Calls.{wants_one}
 use Rattle.dip_store_sql.proofs.Wants as want
+use Rattle.dip_store_sql.proofs.Flags.{flag}
 use Rattle.dip_store_sql.proofs.adding.add_choice.Goals as goal
 
 pub returns-clause-writes : goal.returns-clause-writes
 returns-clause-writes g c =
-    one g.S.Store text.add_choice_text (Words c.args.game.now ∷ []) (with_choice (choice_row c.args.game.now))
+    one g.S.Store text.add_choice_text (Words c.args.game.now ∷ Int (pos (number_of c.args.intent)) ∷ []) (with_choice (choice_row c.args.game.now c.args.intent))
     c.args.tx.now.conn.now c.execute.new.self.conn.now c.execute.result c.execute.ensures.survives c.execute.ensures.ended
-    (rw (c.params-to_sql.ensures) at c.execute.ensures.runs) (λ count good h. made.add_choice _ _ count good c.args.game.now h)
+    (rw (c.params-to_sql.ensures, c.params-to_sql-2.ensures, flag c.args.intent) at c.execute.ensures.runs) (λ count good h. made.add_choice _ _ count good (choice_row c.args.game.now c.args.intent) h)
 
 pub returns-clause-wants : goal.returns-clause-wants
 returns-clause-wants g c =
-    wants_one text.add_choice_text (Words c.args.game.now ∷ []) _ _ _ _ _ means.add_choice.0 refl c.execute.result (returns-clause-writes g c)
-    (rw (c.params-to_sql.ensures) at c.execute.ensures.runs) (λ e ready may h. want.add_choice _ _ ready.good ready.up ready.unlimited e c.args.game.now may h)
+    wants_one text.add_choice_text (Words c.args.game.now ∷ Int (pos (number_of c.args.intent)) ∷ []) _ _ _ _ _ means.add_choice.0 refl c.execute.result (returns-clause-writes g c)
+    (rw (c.params-to_sql.ensures, c.params-to_sql-2.ensures, flag c.args.intent) at c.execute.ensures.runs) (λ e ready may h. want.add_choice _ _ ready.good ready.up ready.unlimited e (choice_row c.args.game.now c.args.intent) may h)

@@ -2,7 +2,6 @@ use Rattle.std.proofs.Common.{◌≡◌, ◌∷◌, length, drop, ◌∙◌, sym
 use Rattle.dip_desk_state.specs.Rows as rows
 use Rattle.dip_store_tables.specs.Reading.{status_in, status_of}
 use Rattle.dip_store_tables.specs.Texts.{pieces}
-use Rattle.dip_store_tables.specs.Columns.{IsToldBy}
 use Rattle.dip_store_tables.proofs.KeptLines.{none_as, ok_as}
 use Rattle.dip_store_tables.proofs.StatusLemmas.{no_words, told, status_told, lines_behind}
 use Rattle.dip_store_tables.proofs.statuses.read_status.Goals as goal

@@ -9,7 +9,7 @@ use Rattle.dip_map.specs.Boards.{Position}
 use Rattle.dip_map.specs.Charts.{Chart}
 use Rattle.dip_turn.specs.Laws.{PhasesKeepIntent}
 use Rattle.dip_desk_state.specs.Records.{Public}
-use Rattle.dip_desk_state.specs.State.{Author, Nobody, TheMaster, Seat, Effect, Nothing, Pending, Votes, Delivers, Opens, Publishes, Seats, Game, State, game_after, game_at, name_of, new_games, public_after, state_after, whole_of}
+use Rattle.dip_desk_state.specs.State.{Author, Nobody, TheMaster, Seat, Effect, Nothing, Pending, Votes, Delivers, Opens, Publishes, Seats, Game, State, game_after, game_at, name_of, new_games, public_after, whole_of}
 use Rattle.dip_desk_state.specs.Keyed.{at}
 use Rattle.dip_desk_state.proofs.KeyedLemmas.{names_tell}
 use Rattle.dip_desk_machine.specs.Intents.{KeepsIntent, OpensAsAsked, has_intent}

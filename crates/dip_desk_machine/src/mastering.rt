@@ -1,5 +1,6 @@
 //! What is decided of a letter of the master, by what its command needs of its game.
 ghost use Rattle.std.specs.Prelude.{◌≡◌, ◌≤◌, Option, None, IfOk, IsErrOf, option_map};
+ghost use Rattle.dip_letters.specs.Letters.{is_on};
 ghost use Rattle.dip_letters.specs.Views.{notice_request, request, seat_note, seats_in};
 ghost use Rattle.dip_desk_state.specs.Faults.{faults_after};
 ghost use Rattle.dip_desk_machine.specs.Mail.{mail};

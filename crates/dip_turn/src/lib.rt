@@ -14,8 +14,8 @@ pub use dip_orders::{allowance, retreats};
 pub use dip_turn_moves::{Fate, MovementLine, Outcome};
 pub use laws::{
     boards_stay_of_their_map, centres_change_in_fall, only_retreats_have_dislodged, phases_follow,
-    phases_have_one_result, retreats_are_open, units_are_kept, winners_own_more,
-    winters_even_units,
+    phases_have_one_result, phases_keep_the_intent, retreats_are_open, units_are_kept,
+    winners_own_more, winters_even_units,
 };
 pub use playing::advance;
 pub use report::{Account, Adjustment, CentreLine, Course, Movement, Report, RetreatLine, Waiver};

@@ -6,7 +6,7 @@ class Movement:
     `("G", unit)` of a support that matches, each unit named by its province."""
 
     def __init__(self, chart, board, orders):
-        self.chart, self.board = chart, board
+        self.chart, self.units, self.intent = chart, board.units, board.intent
         self.move = {code: it["to"] for code, it in orders.items() if it["do"] == "move"}
         self.by_sea = {code for code, to in self.move.items() if orders[code]["kind"] == "A" and self.goes_by_sea(orders, code, to)}
         self.into = {}
@@ -25,12 +25,12 @@ class Movement:
         if orders[code]["via"] or to not in self.chart.army[code]:
             return True
         spans_water = self.chart.kind[code] == self.chart.kind[to] == "coast"
-        return self.board.intent and spans_water and any(self.power(it) == self.power(code) for it in self.fleets_for(orders, code))
+        return self.intent and spans_water and any(self.power(it) == self.power(code) for it in self.fleets_for(orders, code))
 
     def matches(self, it):
         """Whether a support counts: of a move where the unit has that move, to hold where it has none."""
         if it["do"] == "support":
-            return it["at"] in self.board.units and it["at"] not in self.move
+            return it["at"] in self.units and it["at"] not in self.move
         return it["do"] == "help" and self.move.get(it["at"]) == it["to"]
 
     def fleets_for(self, orders, code):
@@ -39,7 +39,7 @@ class Movement:
         return {at for at in fleets if self.chart.kind[at] == "sea"}
 
     def power(self, code):
-        return self.board.units[code][0]
+        return self.units[code][0]
 
     def head_to_head(self, unit, other):
         return self.move.get(other) == unit and self.move[unit] == other and not {unit, other} & self.by_sea
@@ -55,12 +55,12 @@ class Movement:
         to = self.move[unit]
         if not self.path(value, unit):
             return 0
-        if to not in self.board.units or (to in self.move and not self.head_to_head(unit, to) and value(("M", to))):
+        if to not in self.units or (to in self.move and not self.head_to_head(unit, to) and value(("M", to))):
             return 1 + self.support(value, unit)
         return 0 if self.power(to) == self.power(unit) else 1 + self.support(value, unit, self.power(to))
 
     def hold(self, value, code):
-        if code not in self.board.units:
+        if code not in self.units:
             return 0
         if code in self.move:
             return 0 if value(("M", code)) else 1
@@ -68,7 +68,7 @@ class Movement:
 
     def prevent(self, value, unit):
         to = self.move[unit]
-        beaten = to in self.board.units and self.head_to_head(unit, to) and value(("M", to))
+        beaten = to in self.units and self.head_to_head(unit, to) and value(("M", to))
         return 0 if beaten or not self.path(value, unit) else 1 + self.support(value, unit)
 
     def equation(self, value, decision):
@@ -79,7 +79,7 @@ class Movement:
         to, attack = self.move[unit], self.attack(value, unit)
         if any(attack <= self.prevent(value, it) for it in self.into[to] if it != unit):
             return False
-        if to in self.board.units and self.head_to_head(unit, to):
+        if to in self.units and self.head_to_head(unit, to):
             return attack > 1 + self.support(value, to)
         return attack > self.hold(value, to)
 

@@ -4,6 +4,7 @@ ghost use Rattle.dip_letters.specs.Views.{notice_request, texts_in};
 ghost use Rattle.dip_reports.specs.Texts.{draw_paper, marked_lines, notice_lines, notice_paper};
 ghost use Rattle.dip_desk_state.specs.Rows as rows;
 
+use crate::game_line::GAME_ROOM;
 use crate::paper_parts::{push_marked_line, push_paper_end, push_paper_title};
 use dip_desk_state::Public;
 use dip_letters::{Notice, Texts};
@@ -47,7 +48,7 @@ pub fn notice_paper_text(
         (λ text. string_bytes text ≡ notice_paper map.now (notice_request notice.entry)
         (rows.public public.now)) }
 {
-    let mut out = String::new(alloc);
+    let mut out = String::with_capacity(alloc, GAME_ROOM)?;
     push_paper_title(public.papers, "notice", &mut out)?;
     push_notice(notice, &mut out)?;
     push_paper_end(alloc, map, public, &mut out)?;
@@ -59,7 +60,7 @@ pub fn draw_paper_text(alloc: Global, map: &Map, public: &Public) -> Result<Stri
     ensures { IfOk result
         (λ text. string_bytes text ≡ draw_paper map.now (rows.public public.now)) }
 {
-    let mut out = String::new(alloc);
+    let mut out = String::with_capacity(alloc, GAME_ROOM)?;
     push_paper_title(public.papers, "draw", &mut out)?;
     push_paper_end(alloc, map, public, &mut out)?;
     Ok(out)

@@ -2,3 +2,4 @@ pub mod Front
 pub mod TellingLaws
 pub mod SpelledLaws
 pub mod BoardLaws
+pub mod Searching

@@ -1,16 +1,19 @@
 //! A map, and what is asked of it.
 ghost use Rattle.std.specs.Prelude.{◌≡◌, ◌<◌, length, All, IfOk, true};
-ghost use Rattle.dip_map_chart.specs.Charts.{IsMap, provs, powers, province, realm, shore, army_next, fleet_next, home, is_home, prov_of, power_of, coast_of, is_centre, is_fleet_place, may_stand, is_unit, is_army_next, is_fleet_next};
+ghost use Rattle.std.specs.Cmp.Lexicographic.{slice_cmp};
+ghost use Rattle.std.specs.Ordering.{nat_cmp};
+ghost use Rattle.dip_map_chart.specs.Charts.{Chart, IsMap, provs, powers, province, realm, shore, army_next, fleet_next, home, is_home, prov_of, power_of, coast_of, is_centre, is_fleet_place, may_stand, is_unit, is_army_next, is_fleet_next};
 ghost use Rattle.dip_map.specs.Stated.{check, map_in};
 ghost use Rattle.dip_names.specs.Results.{Gives};
 ghost use Rattle.dip_map_chart.specs.Walks.{IsDistance};
 
 use crate::iterators::{Powers, Provs};
 use crate::stated::parts_in;
-use dip_map_chart::{Distances, Parts, Realm};
+use dip_map_chart::{Distances, Parts, Province, Realm};
 use dip_map_file::{draft_of, tables_of};
 use dip_names::{Kind, MapFault, Place, Power, Prov, Terrain, Unit};
 use std::alloc::Global;
+use std::cmp::Ordering;
 use std::marker::Model;
 
 /// A map whose parts were checked: within limits, well formed, nothing twice, each neighbour allowed and named back.
@@ -31,6 +34,24 @@ impl Model for Map {
     ghost view = { λ m. m.parts };
 
     ghost invariant = { λ m. IsMap m.parts × AreDistances m.parts m.distances };
+}
+
+/// How a province's code stands to another.
+fn beside(province: &Province, code: &[u8]) -> Ordering
+    ensures { result ≡ slice_cmp nat_cmp province.now.code code.now }
+{
+    province.code.as_bytes().cmp(code)
+}
+
+/// The number of the province with a code, by halves, since the codes of a map ascend.
+fn index_of(provinces: &[Province], code: &[u8]) -> Option<usize>
+    ensures { (m : Chart) → IsMap m → provinces.now ≡ m.provinces
+        → result ≡ prov_of m code.now }
+{
+    match provinces.binary_search_by(|province| beside(province, code)) {
+        Ok(index) => Some(index),
+        Err(_) => None,
+    }
 }
 
 impl Map {
@@ -159,7 +180,8 @@ impl Map {
     pub fn prov(&self, code: &[u8]) -> Option<Prov>
         ensures { result ≡ prov_of self.now code.now }
     {
-        match self.parts.prov_index(code) {
+        self.facts();
+        match index_of(self.parts.provinces.as_slice(), code) {
             Some(index) => Some(Prov::new(index as u8)),
             None => None,
         }

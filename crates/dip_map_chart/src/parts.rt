@@ -1,6 +1,6 @@
 //! The parts of a map, and what is looked up in them.
 ghost use Rattle.std.specs.Prelude.{◌≡◌, length};
-ghost use Rattle.dip_map_chart.specs.Charts.{province, realm, shore, army_next, fleet_next, home, is_home, prov_of, power_of, coast_of, is_centre};
+ghost use Rattle.dip_map_chart.specs.Charts.{province, realm, shore, army_next, fleet_next, home, is_home, power_of, coast_of, is_centre};
 ghost use Rattle.dip_map_chart.specs.Charts.{is_fleet_place, is_army_place, may_stand, is_unit, is_army_next, is_fleet_next};
 ghost use Rattle.dip_names.specs.Kinds.{is_sea};
 
@@ -193,15 +193,6 @@ impl Parts {
             Some(realm) => realm.name.as_str(),
             None => "",
         }
-    }
-
-    /// The number of the province with a code.
-    pub fn prov_index(&self, code: &[u8]) -> Option<usize>
-        ensures { result ≡ prov_of self.now code.now }
-    {
-        self.provinces
-            .iter()
-            .position(|province| province.code.as_bytes() == code)
     }
 
     /// The number of the power with a name.

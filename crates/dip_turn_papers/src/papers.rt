@@ -12,6 +12,9 @@ use dip_reports::{push_board_lines, push_game_line, push_phase};
 use dip_turn::{Account, Adjustment, CentreLine, Report, Waiver};
 use std::alloc::{AllocError, Global};
 
+/// Bytes at first for the paper of a phase: more than most take on the standard map.
+const PAPER_ROOM: usize = 2048;
+
 /// Appends how many builds a power waives, where it waives any.
 fn push_waivers(
     map: &Map,
@@ -152,7 +155,7 @@ pub fn paper_text(
     ensures { IfOk result
         (λ text. string_bytes text ≡ paper_text map.now report.now (rows.public public.now)) }
 {
-    let mut out = String::new(alloc);
+    let mut out = String::with_capacity(alloc, PAPER_ROOM)?;
     push_title(public.papers, report.phase, &mut out)?;
     push_account(alloc, map, &report.account, &mut out)?;
     push_centres(map, report.centres.as_slice(), &mut out)?;

@@ -27,6 +27,9 @@ use dip_reports::{Refusal, inbox_text, show_text, withdrawn_line};
 use std::alloc::{AllocError, Global};
 use std::rc::Rc;
 
+/// Bytes at first for the answers to the lines of ORDERS: as many as those to half a dozen orders take.
+const ANSWERS_ROOM: usize = 128;
+
 /// What ORDERS comes to.
 fn orders_verdict(
     alloc: Global,
@@ -45,10 +48,8 @@ fn orders_verdict(
         true }
 {
     let orders = standing_orders(alloc, map, board, own.power, own.pending.as_slice())?;
-    let mut taken = Ordered {
-        orders,
-        answers: String::new(alloc),
-    };
+    let answers = String::with_capacity(alloc, ANSWERS_ROOM)?;
+    let mut taken = Ordered { orders, answers };
     take_lines(map, board, own.power, lines, &mut taken)?;
     let Ordered { orders, answers } = taken;
     let pending = kept_orders(alloc, map, orders.as_slice())?;

@@ -1,5 +1,5 @@
 -- A text that only reads is one statement that only reads, whatever the schema has.
-use Rattle.std.proofs.Common.{◌≡◌, ◌≤◌, ◌+◌, inl, inr, ℕ, List, [], Bool, true, None, Ok, Err, length, nat_le, refl, sym, ap, subst, ◌∙◌}
+use Rattle.std.proofs.Common.{◌≡◌, ◌≤◌, ◌+◌, inl, inr, ℕ, List, [], true, None, Ok, Err, length, nat_le, refl, sym, ap, subst, ◌∙◌}
 use Rattle.std.proofs.lemmas.Bool.{cases_Bool}
 use Rattle.sqlite.specs.Compile.{command, compiled, first, meaning, planned, returning, small, timed, with_command}
 use Rattle.sqlite.specs.Given.{IsPlain}

@@ -180,6 +180,10 @@ module _ {S : Type 0} where
   pub old_there : (store h : Held S) → h ≡ record store { step_limit = None } → HasOldTables h.schema → HasOldTables store.schema
   old_there store h is all = subst HasOldTables (ap (λ (x : Held S). x.schema) is) all
 
+  -- and a fault since its limit was taken off is one since before
+  pub faulted_there : (g : Ghosts S) (store h end : Held S) → h ≡ record store { step_limit = None } → has_faulted g h end → has_faulted g store end
+  faulted_there g store h end is = subst (λ (k : Held S). has_faulted g k end) is
+
   -- one that hasn't a desk's tables hasn't those of the version that its ballots tell
   lacks_there : (store h : Held S) (b : Bool) → h ≡ record store { step_limit = None } → has_table (codes "ballot") h.schema ≡ b → (HasDeskTables store.schema → ⊥) → HasTablesOf b h.schema → ⊥
   lacks_there store h b is has none there =

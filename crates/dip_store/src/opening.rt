@@ -177,7 +177,8 @@ impl<S: Alter> SqlKeeper<S> {
     /// # Errors
     /// `OtherSchema` where a table isn't there, or the master's row isn't or is of another version; `OtherMap` where that row says
     /// another map. Of a store that keepers wrote these are told nowhere else. `Memory`; `Disk` also for a store with a transaction
-    /// under way. The store is handed back, and nothing of it changes.
+    /// under way: of one without a desk's tables, whatever it has, and of one that keepers wrote, only where the store told of a fault
+    /// of the disk, or a row of version 1 can't be written anew. The store is handed back, and nothing of it changes.
     pub fn open(
         alloc: Global,
         store: Connection<S>,

@@ -13,7 +13,7 @@ use Rattle.dip_store_tables.specs.Renewing.{WereOurs}
 use Rattle.dip_store.specs.Opening.{MayRenew, Opens}
 use Rattle.dip_store.specs.Renewing.{IsOldStore, old_said_by}
 use Rattle.dip_store.specs.Refusing.{IsRefused, IsRefusedAs}
-use Rattle.dip_store.proofs.Opened.{ends_refused, err_turned, has_them, if_err, kept_from, known_there, lacks_old, lacks_ours, ok_turned, old_there, opens_old, there}
+use Rattle.dip_store.proofs.Opened.{ends_refused, err_turned, faulted_there, has_them, if_err, kept_from, known_there, lacks_old, lacks_ours, ok_turned, old_there, opens_old, there}
 use Rattle.dip_store.proofs.Refused.{own_outage}
 use Rattle.dip_store.proofs.Renewal.{desk_still, ends_either, err_all, err_both, has_none, ok_both, same_base, same_store, was_kept}
 use Rattle.dip_store.specs.declared.faults.StoreFault.{StoreFault}
@@ -92,7 +92,7 @@ returns-in-Err-clause-caused g c clean desk there_marked is =
     let kept = kept_from g.S.Store m c.args.store desk.wrote h c.set_step_limit.ensures
     c.is_autocommit.result (c.is_autocommit.ensures.value, c.is_autocommit.ensures.settled, c.if-not-is_autocommit.false, shows) in
     let marked = subst (λ (t : Tables). IfSome (find is_first t.desk) IsMarked) (sym it.0) there_marked in
-    subst (λ (h : Held _). has_faulted g.S.Store h c.check_desk.new.conn) c.set_step_limit.ensures
+    faulted_there g.S.Store c.args.store h c.check_desk.new.conn c.set_step_limit.ensures
     (c.in-Err.ensures.caused kept.0 shows clean it.1 m it.2 marked (ap (λ (f : StoreFault). Err f) is))
 
 -- one with other tables
@@ -101,7 +101,7 @@ returns-in-Err-clause-caused_elsewhere g c clean shows idle none is =
     let h = c.set_step_limit.new.self in
     let there : does_show g.S.Store h = rw c.set_step_limit.ensures shows in
     let lacks = lacks_ours c.args.store h c.set_step_limit.ensures (sym c.has_ballots.ensures.value ∙ c.if-not-has_ballots.false) none in
-    subst (λ (h : Held _). has_faulted g.S.Store h c.check_desk.new.conn) c.set_step_limit.ensures
+    faulted_there g.S.Store c.args.store h c.check_desk.new.conn c.set_step_limit.ensures
     (c.in-Err.ensures.caused_elsewhere clean there lacks (ap (λ (f : StoreFault). Err f) is))
 
 pub returns-then-not-has_ballots-clause-caused_elsewhere : goal.returns-then-not-has_ballots-clause-caused_elsewhere
@@ -110,7 +110,7 @@ returns-then-not-has_ballots-clause-caused_elsewhere g c =
     err_turned _ _ c.open_old.result (λ e caused clean shows idle none is.
     let there : does_show g.S.Store h = rw c.set_step_limit.ensures shows in
     let lacks = lacks_old c.args.store h c.set_step_limit.ensures (sym c.has_ballots.ensures.value ∙ c.if-not-has_ballots.true) none in
-    subst (λ (k : Held _). has_faulted g.S.Store k e.1) c.set_step_limit.ensures (caused clean there lacks is))
+    faulted_there g.S.Store c.args.store h e.1 c.set_step_limit.ensures (caused clean there lacks is))
     c.open_old.ensures.caused_elsewhere
 
 -- a store of version 1
@@ -194,7 +194,7 @@ returns-then-not-has_ballots-clause-old_caused g c =
     let ours = subst (λ (d : Database). WereOurs m (old_tables_of d.trees)) (sym same) desk.wrote.ours in
     let there = subst (λ (d : Database). IfSome (find is_first (old_tables_of d.trees).desk) IsMarked) (sym same) marked in
     elim (caused clean kept shows ours there is) [
-      | inl fault ↦ inl (subst (λ (k : Held _). has_faulted g.S.Store k e.1) c.set_step_limit.ensures fault)
+      | inl fault ↦ inl (faulted_there g.S.Store c.args.store h e.1 c.set_step_limit.ensures fault)
       | inr says ↦ inr (subst (λ (d : Database). DeskSays 1 (sha256 c.args.map_text.now) (old_tables_of d.trees)) same says)
     ])
     c.open_old.ensures.caused

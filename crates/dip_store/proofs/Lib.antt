@@ -1,5 +1,6 @@
 pub mod Alone
 pub mod Prepared
+pub mod Fronts
 pub mod Leading
 pub mod Trying
 pub mod Listed

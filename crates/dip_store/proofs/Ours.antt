@@ -1,34 +1,25 @@
 -- Each schema knows its own tables.
-use Rattle.std.proofs.Common.{◌≡◌, IsTrue, ℕ, Bool, true, codes, List, Ok, Err, Result, IfOk, length, refl, sym, subst}
+use Rattle.std.proofs.Common.{◌≡◌, IsTrue, ℕ, Bool, true, codes, List, Ok, Err, Result, IfOk, refl, sym, subst}
 use Rattle.sqlite.specs.declared.error.Error.{Error}
 use Rattle.sqlite.specs.Command.{Command}
 use Rattle.sqlite.specs.Query.{Query}
-use Rattle.sqlite.specs.Given.{IsPlain}
 use Rattle.sqlite.specs.Listing.{understood}
 use Rattle.sqlite.specs.Schema.{Schema}
 use Rattle.dip_store_sql.specs.Compiled.{Compiled}
 use Rattle.dip_store_sql.specs.CompileError.{CompileError}
 use Rattle.sqlite_tied.specs.Compute.{everything}
 use Rattle.dip_store_sql.specs.Old.{old_schema}
-use Rattle.dip_store_sql.specs.Asking.{Asks, IsAsked, command_in}
+use Rattle.dip_store_sql.specs.Asking.{Asks, command_in}
 use Rattle.dip_store_sql.specs.Schema.{our_schema}
 use Rattle.dip_store_sql.proofs.Texts as means
-use Rattle.dip_store.specs.Known.{has_table, HasOldTables, HasOurTables, IsKnown, IsWhole}
-use Rattle.dip_store_sql.proofs.Found.{within}
+use Rattle.dip_store.specs.Known.{has_table, HasOldTables, HasOurTables, IsKnown}
 
 known_in : (r : Result Compiled CompileError) (command : Command) → command_in r command → (c : Compiled) × (r ≡ Ok c)
 known_in (Ok c) command h = (c, refl)
 known_in (Err e) command h = absurd h
 
-whole_in : (size count : ℕ) (r : Result Compiled CompileError) → IsPlain r → IsAsked size count r → IsWhole size r
-whole_in size count (Ok c) plain asked = (within _ _ asked.0, plain)
-whole_in size count (Err e) plain asked = absurd plain
-
 known_by : (text : List ℕ) (count : ℕ) (q : Query) (names : List (List ℕ)) → Asks text count q names → IsKnown our_schema text
 known_by text count q names asks = known_in _ _ asks.means.0
-
-pub whole_by : (text : List ℕ) (count : ℕ) (q : Query) (names : List (List ℕ)) → Asks text count q names → IsWhole (length text) (understood our_schema text)
-whole_by text count q names asks = whole_in _ count _ asks.means.1 asks.asked
 
 ours_known : HasOurTables our_schema
 ours_known = (known_by _ _ _ _ means.find_desk, (known_by _ _ _ _ means.find_game, (known_by _ _ _ _ means.list_seats, (known_by _ _ _ _ means.list_units, (known_by _ _ _ _ means.list_centres, (known_by _ _ _ _ means.list_orders, (known_by _ _ _ _ means.find_item, (known_by _ _ _ _ means.find_paper, (known_by _ _ _ _ means.find_ballot, (known_by _ _ _ _ means.find_choice, tt))))))))))

@@ -1,11 +1,12 @@
 -- What a schema knows of the tables that a text names.
-use Rattle.std.specs.Prelude.{◌≡◌, ◌≤◌, ℕ, Bool, bytes_eq, List, [], ◌∷◌, Result, Ok, Err}
+use Rattle.std.specs.Prelude.{◌≡◌, ◌≤◌, ℕ, Bool, true, false, bytes_eq, codes, length, List, [], ◌∷◌, Ok}
 use Rattle.sqlite.specs.Given.{IsPlain}
+use Rattle.sqlite.specs.declared.error.Error.{Error}
+use Rattle.sqlite.specs.declared.error.Error.TheVariants.{SqlInputError}
 use Rattle.std.specs.List.{AllByRecursion, list_any}
 use Rattle.sqlite.specs.Schema.{Schema}
 use Rattle.sqlite.specs.Listing.{understood}
 use Rattle.dip_store_sql.specs.Compiled.{Compiled}
-use Rattle.dip_store_sql.specs.CompileError.{CompileError}
 use Rattle.dip_store_sql.specs.Statements.{find_desk_text, find_game_text, list_seats_text, list_units_text, list_centres_text, list_orders_text, find_item_text, find_paper_text, find_ballot_text, find_choice_text}
 
 -- the schema has a table of this name
@@ -16,10 +17,15 @@ has_table name schema = list_any (λ t. bytes_eq t.name name) schema.tables
 abbrev pub IsKnown : Schema → List ℕ → Type 0
 IsKnown schema text = (c : Compiled) × (understood schema text ≡ Ok c)
 
--- a text of this length is one statement, writes nothing that it shows, and asks for no time
-abbrev pub IsWhole : ℕ → Result Compiled CompileError → Type 0
-IsWhole size (Ok c) = (size ≤ c.tail) × IsPlain (Ok c)
-IsWhole size (Err e) = ⊥
+-- the error says that a text is wrong, or names what the schema hasn't
+abbrev pub is_of_text : Error → Bool
+is_of_text (SqlInputError fault) = true
+is_of_text _ = false
+
+-- whatever a schema has: where the text is understood, it is one statement, writes nothing that it shows, and asks for no time
+pub record IsWhole (text : List ℕ) : Type 0 where
+  pub reads : (schema : Schema) (c : Compiled) → understood schema text ≡ Ok c
+      → (length text ≤ c.tail) × IsPlain (Ok c)
 
 -- for each table of version 1 a text that reads it, and for each of our tables
 abbrev pub old_texts : List (List ℕ)
@@ -55,3 +61,11 @@ HasOurTables schema = AllByRecursion (IsKnown schema) table_texts
 -- those of version 1 are
 abbrev pub HasOldTables : Schema → Type 0
 HasOldTables schema = AllByRecursion (IsKnown schema) old_texts
+
+-- those of the version that a schema is of: ours where it has a table of ballots, else those of version 1
+abbrev pub HasTablesOf : Bool → Schema → Type 0
+HasTablesOf true schema = HasOurTables schema
+HasTablesOf false schema = HasOldTables schema
+
+abbrev pub HasDeskTables : Schema → Type 0
+HasDeskTables schema = HasTablesOf (has_table (codes "ballot") schema) schema

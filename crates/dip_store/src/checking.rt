@@ -36,8 +36,7 @@ fn check_tables<S: Alter>(conn: &mut Connection<S>) -> Result<(), StoreFault>
     ensures ours { is_honest S.Store conn.new → (state S.Store conn.old).now.schema ≡ our_schema
         → IfErr result IsOutage }
     ensures caused { is_honest S.Store conn.new → does_show S.Store conn.old
-        → (state S.Store conn.old).now.schema ≡ our_schema → IsErrOf result StoreFault.Disk
-        → has_faulted S.Store conn.old conn.new }
+        → IsErrOf result StoreFault.Disk → has_faulted S.Store conn.old conn.new }
     ensures tables_alone { IfErr result (λ f. f ≡ StoreFault.OtherMap → ⊥) }
     ensures selects { Selects S.Store conn.old conn.new result }
 {
@@ -87,6 +86,10 @@ fn check_row<S: Alter>(
         → is_honest S.Store conn.new → (m : Chart) → WereOurs m (old_tables_in S.Store conn.old)
         → IfErr result (IsRefusedAs version (sha256 map_text.now)
         (find is_first (old_tables_in S.Store conn.old).desk)) }
+    ensures old_caused { WasKept S.Store conn.old → does_show S.Store conn.old
+        → is_honest S.Store conn.new → (m : Chart) → WereOurs m (old_tables_in S.Store conn.old)
+        → IfSome (find is_first (old_tables_in S.Store conn.old).desk) IsMarked
+        → IsErrOf result StoreFault.Disk → has_faulted S.Store conn.old conn.new }
     ensures old_selects { SelectsFrom (WasKept S.Store) S.Store conn.old conn.new result }
 {
     match read_desk(conn) {
@@ -118,6 +121,9 @@ pub(crate) fn check_desk<S: Alter>(
         → (m : Chart) → AreOurs m (tables_in S.Store conn.old)
         → IfSome (find is_first (tables_in S.Store conn.old).desk) IsMarked
         → IsErrOf result StoreFault.Disk → has_faulted S.Store conn.old conn.new }
+    ensures caused_elsewhere { is_honest S.Store conn.new → does_show S.Store conn.old
+        → (HasOurTables (state S.Store conn.old).now.schema → ⊥)
+        → IsErrOf result StoreFault.Disk → has_faulted S.Store conn.old conn.new }
     ensures selects { Selects S.Store conn.old conn.new result }
 {
     check_tables(conn)?;
@@ -132,6 +138,8 @@ fn check_old_tables<S: Alter>(conn: &mut Connection<S>) -> Result<(), StoreFault
     ensures own { is_honest S.Store conn.new → (state S.Store conn.old).now.schema ≡ old_schema
         → IfErr result IsOutage }
     ensures shown { is_honest S.Store conn.new → OnOk result (does_show S.Store conn.old) }
+    ensures caused { is_honest S.Store conn.new → does_show S.Store conn.old
+        → IsErrOf result StoreFault.Disk → has_faulted S.Store conn.old conn.new }
     ensures selects { SelectsFrom (WasKept S.Store) S.Store conn.old conn.new result }
 {
     match knows_old(conn) {
@@ -157,6 +165,13 @@ pub(crate) fn check_old_desk<S: Alter>(
         → is_honest S.Store conn.new → (m : Chart) → WereOurs m (old_tables_in S.Store conn.old)
         → IfErr result (IsRefusedAs 1 (sha256 map_text.now)
         (find is_first (old_tables_in S.Store conn.old).desk)) }
+    ensures caused { WasKept S.Store conn.old → does_show S.Store conn.old
+        → is_honest S.Store conn.new → (m : Chart) → WereOurs m (old_tables_in S.Store conn.old)
+        → IfSome (find is_first (old_tables_in S.Store conn.old).desk) IsMarked
+        → IsErrOf result StoreFault.Disk → has_faulted S.Store conn.old conn.new }
+    ensures caused_elsewhere { is_honest S.Store conn.new → does_show S.Store conn.old
+        → (HasOldTables (state S.Store conn.old).now.schema → ⊥)
+        → IsErrOf result StoreFault.Disk → has_faulted S.Store conn.old conn.new }
     ensures selects { SelectsFrom (WasKept S.Store) S.Store conn.old conn.new result }
 {
     check_old_tables(conn)?;

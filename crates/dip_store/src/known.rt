@@ -2,7 +2,6 @@
 ghost use Rattle.std.specs.Prelude.{◌↔◌, ◌≡◌, IfErr, IfOk, IsTrue, OnOk, ◌<◌, codes, length};
 ghost use Rattle.std.specs.List.{AllByRecursion};
 ghost use Rattle.sqlite.specs.Held.{state};
-ghost use Rattle.sqlite.specs.Listing.{understood};
 ghost use Rattle.sqlite.specs.State.{HasCleanDisk, IsLive};
 ghost use Rattle.dip_store_sql.specs.Creating.{no_schema};
 ghost use Rattle.dip_store_sql.specs.Schema.{our_schema};
@@ -11,6 +10,7 @@ ghost use Rattle.dip_store_sql.specs.Calls.{Selects};
 ghost use Rattle.dip_store.specs.Alone.{LeavesAlone};
 ghost use Rattle.dip_store_sql.specs.Old.{old_schema};
 ghost use Rattle.dip_store_sql.specs.Calls.{SelectsFrom, WasKept};
+ghost use Rattle.dip_store.specs.Known as told;
 ghost use Rattle.dip_store.specs.Known.{has_table, HasOldTables, HasOurTables, IsKnown, IsWhole};
 
 use sqlite::{Alter, Connection, Error};
@@ -24,10 +24,20 @@ pub fn knows_none<S: Alter>(conn: &Connection<S>) -> bool
     schema.tables.is_empty() && schema.indexes.is_empty() && schema.views.is_empty()
 }
 
+/// Whether the error says that a text is wrong, or names what the schema hasn't.
+fn is_of_text(error: &Error) -> bool
+    ensures { result ≡ told.is_of_text error.now }
+{
+    match error {
+        Error::SqlInputError(_) => true,
+        _ => false,
+    }
+}
+
 /// Whether the schema has what the text names. No row is read.
 ///
 /// # Errors
-/// Of a text that is one statement and asks for no time: want of memory, or a fault of the disk.
+/// Of a text that is one statement and asks for no time, whatever the schema has: want of memory, or a fault of the disk.
 pub fn is_known<S: Alter>(conn: &mut Connection<S>, text: &str) -> Result<bool, Error>
     ensures answer { HasCleanDisk (state S.Store conn.new) → IfOk result (λ b.
         IsTrue b ↔ IsKnown (state S.Store conn.old).now.schema text.now) }
@@ -36,13 +46,17 @@ pub fn is_known<S: Alter>(conn: &mut Connection<S>, text: &str) -> Result<bool, 
         → OnOk result (IsTrue (state S.Store conn.new).is_open) }
     ensures outside { HasCleanDisk (state S.Store conn.new)
         → IsTrue (state S.Store conn.old).is_open
-        → IsWhole (length text.now) (understood (state S.Store conn.old).now.schema text.now)
+        → IsWhole text.now
         → IfErr result (IsCaused (has_faulted S.Store conn.old conn.new)) }
 {
     match conn.prepare(text) {
         Ok(_statement) => Ok(true),
-        Err(Error::SqlInputError(_fault)) => Ok(false),
-        Err(error) => Err(error),
+        Err(error) => {
+            if is_of_text(&error) {
+                return Ok(false);
+            }
+            Err(error)
+        }
     }
 }
 
@@ -55,8 +69,7 @@ fn knows_each<S: Alter>(conn: &mut Connection<S>, texts: &[&str]) -> Result<bool
         → OnOk result (IsTrue (state S.Store conn.new).is_open) }
     ensures outside { HasCleanDisk (state S.Store conn.new)
         → IsTrue (state S.Store conn.old).is_open
-        → AllByRecursion (λ t. IsWhole (length t.now)
-        (understood (state S.Store conn.old).now.schema t.now)) texts.now
+        → AllByRecursion (λ t. IsWhole t.now) texts.now
         → IfErr result (IsCaused (has_faulted S.Store conn.old conn.new)) }
 {
     for text in texts {
@@ -68,6 +81,9 @@ fn knows_each<S: Alter>(conn: &mut Connection<S>, texts: &[&str]) -> Result<bool
 }
 
 /// Whether the eight tables of version 1 are there, with the columns that are read of them.
+///
+/// # Errors
+/// Want of memory, or a fault of the disk.
 pub fn knows_old<S: Alter>(conn: &mut Connection<S>) -> Result<bool, Error>
     ensures answer { HasCleanDisk (state S.Store conn.new) → IfOk result (λ b.
         IsTrue b ↔ HasOldTables (state S.Store conn.old).now.schema) }
@@ -77,6 +93,9 @@ pub fn knows_old<S: Alter>(conn: &mut Connection<S>) -> Result<bool, Error>
     ensures alone { LeavesAlone S.Store conn.old conn.new result }
     ensures shown { HasCleanDisk (state S.Store conn.new)
         → OnOk result (IsTrue (state S.Store conn.new).is_open) }
+    ensures outside { HasCleanDisk (state S.Store conn.new)
+        → IsTrue (state S.Store conn.old).is_open
+        → IfErr result (IsCaused (has_faulted S.Store conn.old conn.new)) }
 {
     let old_texts = [
         "SELECT version, map, digest, last, kept, reply FROM desk WHERE id = 1",
@@ -104,7 +123,7 @@ pub(crate) fn has_ballots<S: Alter>(conn: &Connection<S>) -> bool
 /// Whether our ten tables are there, with the columns that are read of them.
 ///
 /// # Errors
-/// Over our own schema: want of memory, or a fault of the disk.
+/// Want of memory, or a fault of the disk.
 pub fn knows_all<S: Alter>(conn: &mut Connection<S>) -> Result<bool, Error>
     ensures answer { HasCleanDisk (state S.Store conn.new) → IfOk result (λ b.
         IsTrue b ↔ HasOurTables (state S.Store conn.old).now.schema) }
@@ -116,7 +135,6 @@ pub fn knows_all<S: Alter>(conn: &mut Connection<S>) -> Result<bool, Error>
         → OnOk result (IsTrue (state S.Store conn.new).is_open) }
     ensures outside { HasCleanDisk (state S.Store conn.new)
         → IsTrue (state S.Store conn.old).is_open
-        → (state S.Store conn.old).now.schema ≡ our_schema
         → IfErr result (IsCaused (has_faulted S.Store conn.old conn.new)) }
 {
     let texts = [

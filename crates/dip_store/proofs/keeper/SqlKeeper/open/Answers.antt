@@ -13,7 +13,7 @@ use Rattle.dip_store_tables.specs.Renewing.{WereOurs}
 use Rattle.dip_store.specs.Opening.{MayRenew, Opens}
 use Rattle.dip_store.specs.Renewing.{IsOldStore, old_said_by}
 use Rattle.dip_store.specs.Refusing.{IsRefused, IsRefusedAs}
-use Rattle.dip_store.proofs.Opened.{ends_refused, err_turned, has_them, if_err, kept_from, known_there, ok_turned, old_there, opens_old, there}
+use Rattle.dip_store.proofs.Opened.{ends_refused, err_turned, faulted_there, has_them, if_err, kept_from, known_there, lacks_old, lacks_ours, ok_turned, old_there, opens_old, there}
 use Rattle.dip_store.proofs.Refused.{own_outage}
 use Rattle.dip_store.proofs.Renewal.{desk_still, ends_either, err_all, err_both, has_none, ok_both, same_base, same_store, was_kept}
 use Rattle.dip_store.specs.declared.faults.StoreFault.{StoreFault}
@@ -92,8 +92,26 @@ returns-in-Err-clause-caused g c clean desk there_marked is =
     let kept = kept_from g.S.Store m c.args.store desk.wrote h c.set_step_limit.ensures
     c.is_autocommit.result (c.is_autocommit.ensures.value, c.is_autocommit.ensures.settled, c.if-not-is_autocommit.false, shows) in
     let marked = subst (λ (t : Tables). IfSome (find is_first t.desk) IsMarked) (sym it.0) there_marked in
-    subst (λ (h : Held _). has_faulted g.S.Store h c.check_desk.new.conn) c.set_step_limit.ensures
+    faulted_there g.S.Store c.args.store h c.check_desk.new.conn c.set_step_limit.ensures
     (c.in-Err.ensures.caused kept.0 shows clean it.1 m it.2 marked (ap (λ (f : StoreFault). Err f) is))
+
+-- one with other tables
+pub returns-in-Err-clause-caused_elsewhere : goal.returns-in-Err-clause-caused_elsewhere
+returns-in-Err-clause-caused_elsewhere g c clean shows idle none is =
+    let h = c.set_step_limit.new.self in
+    let there : does_show g.S.Store h = rw c.set_step_limit.ensures shows in
+    let lacks = lacks_ours c.args.store h c.set_step_limit.ensures (sym c.has_ballots.ensures.value ∙ c.if-not-has_ballots.false) none in
+    faulted_there g.S.Store c.args.store h c.check_desk.new.conn c.set_step_limit.ensures
+    (c.in-Err.ensures.caused_elsewhere clean there lacks (ap (λ (f : StoreFault). Err f) is))
+
+pub returns-then-not-has_ballots-clause-caused_elsewhere : goal.returns-then-not-has_ballots-clause-caused_elsewhere
+returns-then-not-has_ballots-clause-caused_elsewhere g c =
+    let h = c.set_step_limit.new.self in
+    err_turned _ _ c.open_old.result (λ e caused clean shows idle none is.
+    let there : does_show g.S.Store h = rw c.set_step_limit.ensures shows in
+    let lacks = lacks_old c.args.store h c.set_step_limit.ensures (sym c.has_ballots.ensures.value ∙ c.if-not-has_ballots.true) none in
+    faulted_there g.S.Store c.args.store h e.1 c.set_step_limit.ensures (caused clean there lacks is))
+    c.open_old.ensures.caused_elsewhere
 
 -- a store of version 1
 pub returns-then-not-has_ballots-clause-renewed : goal.returns-then-not-has_ballots-clause-renewed
@@ -165,6 +183,22 @@ returns-then-not-has_ballots-clause-old_ends g c =
     (subst (λ (d : Database). MayRenew g.S.Store m e.1 (old_said_by m d.trees)) same (both.0 clean kept (desk_still g.S.Store m c.args.store h is desk))))
     (err_all _ _ _ c.open_old.result c.open_old.ensures.left c.open_old.ensures.still c.open_old.ensures.closes) c.open_old.ensures.idle
 
+pub returns-then-not-has_ballots-clause-old_caused : goal.returns-then-not-has_ballots-clause-old_caused
+returns-then-not-has_ballots-clause-old_caused g c =
+    let m = c.args.map.now in
+    let h = c.set_step_limit.new.self in
+    let same = same_store g.S.Store m c.args.store h c.set_step_limit.ensures in
+    err_turned _ _ c.open_old.result (λ e caused clean desk marked is.
+    let shows : does_show g.S.Store h = rw c.set_step_limit.ensures desk.shows in
+    let kept = was_kept g.S.Store m c.args.store desk.wrote h c.set_step_limit.ensures c.is_autocommit.result (c.is_autocommit.ensures.value, c.is_autocommit.ensures.settled, c.if-not-is_autocommit.false, shows) in
+    let ours = subst (λ (d : Database). WereOurs m (old_tables_of d.trees)) (sym same) desk.wrote.ours in
+    let there = subst (λ (d : Database). IfSome (find is_first (old_tables_of d.trees).desk) IsMarked) (sym same) marked in
+    elim (caused clean kept shows ours there is) [
+      | inl fault ↦ inl (faulted_there g.S.Store c.args.store h e.1 c.set_step_limit.ensures fault)
+      | inr says ↦ inr (subst (λ (d : Database). DeskSays 1 (sha256 c.args.map_text.now) (old_tables_of d.trees)) same says)
+    ])
+    c.open_old.ensures.caused
+
 -- one of version 2 is none of version 1
 pub returns-in-Ok-clause-renewed : goal.returns-in-Ok-clause-renewed
 returns-in-Ok-clause-renewed g c =
@@ -185,3 +219,6 @@ returns-in-Err-clause-old_same g c shows own = absurd (has_none g.S.Store c.args
 
 pub returns-in-Err-clause-old_ends : goal.returns-in-Err-clause-old_ends
 returns-in-Err-clause-old_ends g c clean desk = absurd (has_none g.S.Store c.args.map.now c.args.store c.set_step_limit.new.self c.set_step_limit.ensures (sym c.has_ballots.ensures.value ∙ c.if-not-has_ballots.false) desk.wrote)
+
+pub returns-in-Err-clause-old_caused : goal.returns-in-Err-clause-old_caused
+returns-in-Err-clause-old_caused g c clean desk marked is = absurd (has_none g.S.Store c.args.map.now c.args.store c.set_step_limit.new.self c.set_step_limit.ensures (sym c.has_ballots.ensures.value ∙ c.if-not-has_ballots.false) desk.wrote)

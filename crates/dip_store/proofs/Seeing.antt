@@ -1,5 +1,5 @@
 -- Public parts that are remembered.
-use Rattle.std.proofs.Common.{◌≡◌, ◌++◌, ◌&&◌, ℕ, nat_lt, length, Bool, true, false, cond, List, [], ◌∷◌, Option, None, Some, map, option_map, option_copied, Bor, refl, sym, ap, subst, ◌∙◌, bytes_eq, String, string_bytes}
+use Rattle.std.proofs.Common.{◌≡◌, ◌&&◌, ℕ, nat_lt, length, Bool, true, false, cond, List, [], ◌∷◌, Option, None, Some, map, option_map, option_copied, Bor, refl, sym, ap, subst, ◌∙◌, bytes_eq, String, string_bytes}
 use Rattle.std.specs.declared.alloc.Global.{Global}
 use Rattle.std.specs.declared.rc.Rc.{Rc}
 use Rattle.std.specs.Option.{option_or}

@@ -1,5 +1,5 @@
 -- What is remembered of games.
-use Rattle.std.specs.Prelude.{◌≡◌, ℕ, Bool, true, false, List, [], Option, None, Some, length, nat_lt, bytes_eq, ◌&&◌, if◌then◌else◌}
+use Rattle.std.specs.Prelude.{◌≡◌, ℕ, Bool, true, false, List, [], Option, Some, length, nat_lt, bytes_eq, ◌&&◌, if◌then◌else◌}
 use Rattle.std.specs.Map.{lookup}
 use Rattle.dip_desk_state.specs.Records.{Public}
 use Rattle.dip_desk_state.specs.State.{Change, Effect, Nothing, Pending, Votes, Delivers, Opens, Publishes, Seats, State, public_at}

@@ -1,4 +1,4 @@
-use Rattle.std.proofs.Common.{sym, ◌∙◌, None}
+use Rattle.std.proofs.Common.{sym, None}
 use Rattle.dip_store.proofs.Seeing.{parts_updated}
 use Rattle.dip_store.proofs.seen.Seen.forget.Goals as goal
 

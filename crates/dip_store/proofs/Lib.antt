@@ -14,6 +14,7 @@ pub mod Writable
 pub mod Asked
 pub mod Finding
 pub mod Looking
+pub mod Seeing
 pub mod Made
 pub mod Opened
 pub mod Outside

@@ -16,7 +16,7 @@ use Rattle.dip_store_tables.specs.Counting.{AreCounted}
 use Rattle.dip_store_tables.specs.Coding.{AreApart}
 use Rattle.dip_store_tables.specs.ChangeTexts.{HasTexts}
 use Rattle.dip_desk_state.specs.Faults.{faults_with}
-use Rattle.dip_desk_state.specs.State.{Change, state_after}
+use Rattle.dip_desk_state.specs.State.{Change, State, state_after}
 use Rattle.dip_desk_state.specs.declared.faults.KeepFault.{KeepFault}
 use Rattle.dip_desk_state.specs.declared.faults.KeepFault.TheVariants.{Memory, Disk, Damaged}
 use Rattle.dip_store_tables.specs.Changing.{changing}
@@ -33,9 +33,11 @@ use Rattle.dip_store_changes.specs.Laws.{ChangesAreMade, IsMade}
 use Rattle.dip_store_changes.specs.Making.{Makes}
 use Rattle.dip_store_changes.specs.declared.faults.MakeFault.{MakeFault}
 use Rattle.dip_store.specs.Faults.{is_of_size, make_fault}
+use Rattle.dip_store.specs.Seen.{Parts, Recalls}
 use Rattle.dip_store.specs.Stored.{AreStored, book, said_by, sized, sizing, telling}
 use Rattle.dip_store.specs.declared.keeper.SqlKeeper.{SqlKeeper}
 use Rattle.dip_store.proofs.Outside.{make_caused, make_outside}
+use Rattle.dip_store.proofs.Seeing.{Heeds}
 
 -- a count of faults of size doesn't fall, and where it counts one it rises
 size_counts : (b : Bool) (n : ℕ) → n ≤ sized b n
@@ -62,9 +64,9 @@ module _ {S : Type 0} (g : Ghosts S) (m : Chart) (k : SqlKeeper S) (c : Change) 
   Settled = (s : S) (db : Trees) → IsTrue (g.view s).is_open → g.recovers s db → db ≡ (g.view s).committed
 
   abbrev Keeps : Type 0
-  Keeps = IsKept g k.conn × AreOurs m (tables_in g k.conn)
+  Keeps = IsKept g k.conn × AreOurs m (tables_in g k.conn) × Recalls (said_by m (state g k.conn).now.trees) k.seen
 
-  module _ (new : Held S) (law : ChangesAreMade m) (fits : IsWritable m c) (wide : HasWidths c) where
+  module _ (new : Held S) (law : ChangesAreMade m) (fits : IsWritable m c) (wide : HasWidths c) (seen : Parts) (heeds : Heeds c k.seen seen) where
     is_made : (kept : Keeps) → IsGood (state g new).now → tables_in g new ≡ changing m c (tables_in g k.conn) → IsMade m c (tables_in g k.conn) (tables_in g new)
     is_made kept good is = law c (state g k.conn).now (state g new).now fits kept.0.good good is
 
@@ -93,7 +95,7 @@ module _ {S : Type 0} (g : Ghosts S) (m : Chart) (k : SqlKeeper S) (c : Change) 
 
     pub changes_well : (X E : Type 0) (x : X) → HasTexts c → TablesStayLegible m → Makes g (changing m c) k.conn new (went X E x) → (IsKept g k.conn → does_show g new → IsKept g new)
         → (IsKept g k.conn → does_show g new → HasPlace m c (tables_in g k.conn))
-        → Changes m (book g) k (record k { conn = new }) (state_after c) (Fits m c) (went X KeepFault x)
+        → Changes m (book g) k (record k { conn = new; seen = seen }) (state_after c) (Fits m c) (went X KeepFault x)
     changes_well X E x texts stay p stays place = record {
       keeps = record {
         count = refl;
@@ -118,10 +120,13 @@ module _ {S : Type 0} (g : Ghosts S) (m : Chart) (k : SqlKeeper S) (c : Change) 
       left = λ kept clean. tt;
     }
       where
-        sound : Keeps → does_show g new → IsKept g new × AreOurs m (tables_in g new)
+        sound : Keeps → does_show g new → IsKept g new × AreOurs m (tables_in g new) × Recalls (said_by m (state g new).now.trees) seen
         sound kept shows =
-            let is = p.done kept.0 shows in
-            (stays kept.0 shows, ours kept texts stay (place kept.0 shows) is.0.good is.1)
+            let is = p.done kept.0 shows in (
+              stays kept.0 shows,
+              ours kept texts stay (place kept.0 shows) is.0.good is.1,
+              subst (λ (s : State). Recalls s seen) (sym (said kept is.0.good is.1)) (heeds (said_by m (state g k.conn).now.trees) kept.2).1,
+            )
 
     -- what a crash may leave of a change that isn't made can be opened again
     abbrev LandsWell : Type 0
@@ -142,7 +147,7 @@ module _ {S : Type 0} (g : Ghosts S) (m : Chart) (k : SqlKeeper S) (c : Change) 
     changes_told : (X Y E : Type 0) (e : E) (f : KeepFault) (n z : ℕ) → HasTexts c → TablesStayLegible m → TablesStayCounted m → LandsWell → Settled → Makes g (changing m c) k.conn new (fails Y E e) → n ≡ faults_with f k.failures → k.of_size ≤ z
         → (Keeps → is_honest g new → does_show g k.conn → Fits m c (said_by m (state g k.conn).now.trees) → f ≡ Damaged → ⊥)
         → (Keeps → is_honest g new → does_show g k.conn → f ≡ Disk → has_faulted g k.conn new ⊎ Rises k.of_size z)
-        → Changes m (book g) k (record k { conn = new; failures = n; of_size = z }) (state_after c) (Fits m c) (fails X KeepFault f)
+        → Changes m (book g) k (record k { conn = new; failures = n; of_size = z; seen = seen }) (state_after c) (Fits m c) (fails X KeepFault f)
     changes_told X Y E e f n z texts legible counted lands_well settled p count sizes never caused = record {
       keeps = record {
         count = count;
@@ -150,7 +155,9 @@ module _ {S : Type 0} (g : Ghosts S) (m : Chart) (k : SqlKeeper S) (c : Change) 
         of_size = sizes;
         fair = p.fair;
         shown = p.shown;
-        sound = λ kept shows. let is = p.undone kept.0 shows in (is.0, subst (λ (d : Database). AreOurs m (tables_of d.trees)) (sym is.1) kept.1);
+        sound = λ kept shows.
+            let is = p.undone kept.0 shows in
+            (is.0, subst (λ (d : Database). AreOurs m (tables_of d.trees)) (sym is.1) kept.1, subst (λ (d : Database). Recalls (said_by m d.trees) seen) (sym is.1) (heeds (said_by m (state g k.conn).now.trees) kept.2).0);
         firm = λ kept clean. tt;
         stays_open = λ kept clean shows. tt;
         shuts = p.closes;
@@ -177,12 +184,12 @@ module _ {S : Type 0} (g : Ghosts S) (m : Chart) (k : SqlKeeper S) (c : Change) 
     changes_counted : (X Y E : Type 0) (e : E) (f : KeepFault) (b : Bool) → HasTexts c → TablesStayLegible m → TablesStayCounted m → LandsWell → Settled → Makes g (changing m c) k.conn new (fails Y E e)
         → (Keeps → is_honest g new → does_show g k.conn → Fits m c (said_by m (state g k.conn).now.trees) → f ≡ Damaged → ⊥)
         → (Keeps → is_honest g new → does_show g k.conn → f ≡ Disk → has_faulted g k.conn new ⊎ (b ≡ true))
-        → Changes m (book g) k (telling f (sizing b (record k { conn = new }))) (state_after c) (Fits m c) (fails X KeepFault f)
+        → Changes m (book g) k (telling f (sizing b (record k { conn = new; seen = seen }))) (state_after c) (Fits m c) (fails X KeepFault f)
     changes_counted X Y E e f b texts legible counted lands settled p never caused = by f never (λ kept clean shows is. size_rose (has_faulted g k.conn new) b k.of_size (caused kept clean shows is))
       where
         by : (f : KeepFault) → (Keeps → is_honest g new → does_show g k.conn → Fits m c (said_by m (state g k.conn).now.trees) → f ≡ Damaged → ⊥)
             → (Keeps → is_honest g new → does_show g k.conn → f ≡ Disk → has_faulted g k.conn new ⊎ Rises k.of_size (sized b k.of_size))
-            → Changes m (book g) k (telling f (sizing b (record k { conn = new }))) (state_after c) (Fits m c) (fails X KeepFault f)
+            → Changes m (book g) k (telling f (sizing b (record k { conn = new; seen = seen }))) (state_after c) (Fits m c) (fails X KeepFault f)
         by Memory never rose = changes_told X Y E e Memory k.failures (sized b k.of_size) texts legible counted lands settled p refl (size_counts b k.of_size) never rose
         by Disk never rose = changes_told X Y E e Disk (k.failures + 1) (sized b k.of_size) texts legible counted lands settled p refl (size_counts b k.of_size) never rose
         by Damaged never rose = changes_told X Y E e Damaged k.failures (sized b k.of_size) texts legible counted lands settled p refl (size_counts b k.of_size) never rose
@@ -191,7 +198,7 @@ module _ {S : Type 0} (g : Ghosts S) (m : Chart) (k : SqlKeeper S) (c : Change) 
     pub changes_ill : (X Y : Type 0) (e : MakeFault) → HasTexts c → TablesStayLegible m → TablesStayCounted m → LandsWell → Settled → WhatFitsFindsPlace m → Makes g (changing m c) k.conn new (fails Y MakeFault e)
         → (IsKept g k.conn → does_show g k.conn → is_honest g new → MayMake m c (tables_in g k.conn) → FailsFor (has_faulted g k.conn new) (HasPlace m c (tables_in g k.conn) → ⊥) e)
         → (IsKept g k.conn → does_show g k.conn → is_honest g new → AreOurs m (tables_in g k.conn) → BlamesFor (has_faulted g k.conn new) e)
-        → Changes m (book g) k (telling (make_fault e) (sizing (is_of_size e) (record k { conn = new }))) (state_after c) (Fits m c) (fails X KeepFault (make_fault e))
+        → Changes m (book g) k (telling (make_fault e) (sizing (is_of_size e) (record k { conn = new; seen = seen }))) (state_after c) (Fits m c) (fails X KeepFault (make_fault e))
     changes_ill X Y e texts legible counted lands settled finds p why blames = changes_counted X Y MakeFault e (make_fault e) (is_of_size e) texts legible counted lands settled p (λ kept clean shows fit.
         let place = placed kept fit in
         make_outside (has_faulted g k.conn new) (HasPlace m c (tables_in g k.conn) → ⊥) e (why kept.0 shows clean (record { ours = kept.1; keyed = place.keyed })) (λ none. none (record { paper = place.paper; room = place.room })))

@@ -20,10 +20,11 @@ use Rattle.dip_store_sql.specs.Schema.{our_schema}
 use Rattle.dip_store.specs.Founding.{Keeps}
 use Rattle.dip_store.specs.Known.{has_table, HasDeskTables, HasOldTables, HasOurTables, HasTablesOf}
 use Rattle.dip_store.proofs.Ours.{ours_has_ballots}
+use Rattle.dip_store.proofs.Seeing.{recalls_none}
 use Rattle.std.proofs.lemmas.Bool.{false≢true}
 use Rattle.dip_store.specs.Opening.{Holds, IsDesk, Opens, StoreEnds}
 use Rattle.dip_desk.specs.Keeping.{Ends, IsOpen}
-use Rattle.dip_store.specs.Stored.{AreStored, IsStore, book, said_by}
+use Rattle.dip_store.specs.Stored.{AreStored, IsStore, book, fresh_keeper, said_by}
 use Rattle.dip_store.specs.declared.keeper.SqlKeeper.{SqlKeeper}
 
 module _ {S : Type 0} (g : Ghosts S) (m : Chart) (store : Held S) (own : IsStore m (state g store).now) where
@@ -76,11 +77,11 @@ module _ {S : Type 0} (g : Ghosts S) (m : Chart) (alloc : Global) (conn : Held S
     (last : IsTrue (state g conn).is_open → (db : Trees) → (state g conn).may_leave db → db ≡ (state g conn).committed.trees) where
   -- a keeper of kept rows
   pub opens_kept : (s : State) → IsKept g conn → AreOurs m (tables_in g conn) → said_by m (state g conn).now.trees ≡ s → does_show g conn
-      → Opens g m s (record { alloc = alloc; conn = conn; failures = 0; of_size = 0 })
+      → Opens g m s (fresh_keeper alloc conn)
   opens_kept s kept ours says shows = record {
     none = refl;
     shows = shows;
-    sound = (kept, ours);
+    sound = (kept, ours, recalls_none (said_by m (state g conn).now.trees));
     says = says;
     only = λ left may. may.2 ∙ ap (said_by m) (there_now kept shows may.0 may.1) ∙ says;
     again = λ db may. ((state g conn).now, sym (there_now kept shows db may), record { good = kept.good; counted = kept.counted; ours = ours });
@@ -90,16 +91,16 @@ module _ {S : Type 0} (g : Ghosts S) (m : Chart) (alloc : Global) (conn : Held S
       there_now kept shows db may = last shows.1 db may ∙ ap (λ (d : Database). d.trees) (sym kept.settled)
 
   pub opens_new : (map_sum digest : List ℕ) → IsMap m → NewTablesAreNew m → NewTablesAreLegible → length digest ≡ 32 → Keeps g conn (new_tables map_sum digest) → does_show g conn
-      → Opens g m (record { desk = record { digest = digest; kept = None }; games = [] }) (record { alloc = alloc; conn = conn; failures = 0; of_size = 0 })
+      → Opens g m (record { desk = record { digest = digest; kept = None }; games = [] }) (fresh_keeper alloc conn)
   opens_new map_sum digest map law legible long it shows =
       let new = law map_sum digest in
       let ours : AreOurs m (new_tables map_sum digest) = record { map = map; coded = new.coded; written = new.written long; legible = legible map_sum digest } in
       opens_kept _ it.kept (subst (AreOurs m) (sym it.tables) ours) (ap (state_of m) it.tables ∙ new.says) shows
 
   pub opens_old : (store : Held S) (own : IsStore m (state g store).now) (X E : Type 0) (x : X) (h : Held S) → h ≡ before g m store own → (r : Bool) → Idle g m store own h r → Selects g h conn (went X E x) → is_honest g conn
-      → Opens g m (said_by m (state g store).now.trees) (record { alloc = alloc; conn = conn; failures = 0; of_size = 0 })
+      → Opens g m (said_by m (state g store).now.trees) (fresh_keeper alloc conn)
   opens_old store own X E x h is =
-      subst (λ (h : Held S). (r : Bool) → Idle g m store own h r → Selects g h conn (went X E x) → is_honest g conn → Opens g m (said_by m (state g store).now.trees) (record { alloc = alloc; conn = conn; failures = 0; of_size = 0 }))
+      subst (λ (h : Held S). (r : Bool) → Idle g m store own h r → Selects g h conn (went X E x) → is_honest g conn → Opens g m (said_by m (state g store).now.trees) (fresh_keeper alloc conn))
       (sym is)
       (λ r idle p clean.
       let kept = kept_before g m store own r idle in

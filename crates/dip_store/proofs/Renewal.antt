@@ -17,7 +17,7 @@ use Rattle.dip_store_sql.specs.Calls.{WasKept, old_tables_in}
 use Rattle.dip_store_tables.specs.Renewing.{OldTablesAreRenewed, renewed}
 use Rattle.dip_store.specs.Opening.{HoldsEither, IsOldDesk, MayRenew, OldEnds, Opens}
 use Rattle.dip_store.specs.Renewing.{IsOldStore, Renews, WereStored, old_said_by}
-use Rattle.dip_store.specs.Stored.{AreStored, said_by}
+use Rattle.dip_store.specs.Stored.{AreStored, fresh_keeper, said_by}
 use Rattle.dip_store_looks.specs.Faults.{IsFromOutside}
 use Rattle.dip_store_looks.specs.declared.faults.LookFault.{LookFault}
 use Rattle.dip_store_looks.specs.declared.faults.LookFault.TheVariants as looks
@@ -127,7 +127,7 @@ module _ {S : Type 0} (g : Ghosts S) (m : Chart) (law : OldTablesAreRenewed m) (
     (last : IsTrue (state g conn).is_open → (db : Trees) → (state g conn).may_leave db → db ≡ (state g conn).committed.trees) where
   pub opens_renewed : {X E : Type 0} (x : X) → SelectsFrom (WasKept g) g store a (went X E x) → WasKept g store → IsOldStore m (state g store).now → is_honest g a
       → (WasKept g a → IsOldStore m (state g a).now → Keeps g conn (renewed (old_tables_in g a))) → does_show g conn
-      → Opens g m (old_said_by m (state g store).now.trees) (record { alloc = alloc; conn = conn; failures = 0; of_size = 0 })
+      → Opens g m (old_said_by m (state g store).now.trees) (fresh_keeper alloc conn)
   opens_renewed x p kept own clean keeps shows =
       let up = p.ok kept clean in
       let same = p.same kept up in
@@ -135,5 +135,5 @@ module _ {S : Type 0} (g : Ghosts S) (m : Chart) (law : OldTablesAreRenewed m) (
       let it = keeps (p.kept kept up) here in
       let t = old_tables_in g a in
       let now = law t here.ours (were_apart t (state g conn).now it.kept.good it.tables) in
-      subst (λ (d : Database). Opens g m (old_said_by m d.trees) (record { alloc = alloc; conn = conn; failures = 0; of_size = 0 })) same
+      subst (λ (d : Database). Opens g m (old_said_by m d.trees) (fresh_keeper alloc conn)) same
       (opens_kept g m alloc conn last (old_said_by m (state g a).now.trees) it.kept (subst (AreOurs m) (sym it.tables) now.ours) (ap (state_of m) it.tables ∙ now.says) shows)

@@ -8,6 +8,7 @@ pub mod Faults
 pub mod Opening
 pub mod Refusing
 pub mod Renewing
+pub mod Seen
 pub mod Stored
 pub mod Papers
 pub use Rattle.dip_store_sql.specs.Calls

@@ -1,9 +1,10 @@
 -- What contracts see of a keeper over a store.
-use Rattle.std.specs.Prelude.{◌≡◌, ◌+◌, ◌-◌, ◌^◌, ℕ, Bool, true, false, nat_lt, if◌then◌else◌}
+use Rattle.std.specs.Prelude.{◌≡◌, ◌+◌, ◌-◌, ◌^◌, ℕ, Bool, [], true, false, nat_lt, if◌then◌else◌}
+use Rattle.std.specs.declared.alloc.Global.{Global}
 use Rattle.sqlite.specs.Effect.{Database}
 use Rattle.sqlite.specs.Tree.{Trees}
 use Rattle.sqlite.specs.Store.{Ghosts}
-use Rattle.sqlite.specs.Held.{state}
+use Rattle.sqlite.specs.Held.{Held, state}
 use Rattle.dip_map.specs.Charts.{Chart}
 use Rattle.dip_desk.specs.Keeping.{Book}
 use Rattle.dip_store_tables.specs.Counting.{AreCounted}
@@ -15,11 +16,16 @@ use Rattle.dip_store_tables.specs.Reading.{state_of}
 use Rattle.dip_store_sql.specs.Calls.{IsKept, is_honest, does_show, tables_in}
 use Rattle.dip_store_sql.specs.Good.{IsGood}
 use Rattle.dip_store_sql.specs.Rows.{tables_of}
+use Rattle.dip_store.specs.Seen.{Recalls}
 use Rattle.dip_store.specs.declared.keeper.SqlKeeper.{SqlKeeper}
 
 -- the state that the rows of a database say by a map
 abbrev pub said_by : Chart → Trees → State
 said_by m db = state_of m (tables_of db)
+
+-- a keeper of a connection's rows that has told of no fault and remembers no game
+abbrev pub fresh_keeper : {S : Type 0} → Global → Held S → SqlKeeper S
+fresh_keeper alloc conn = record { alloc = alloc; conn = conn; failures = 0; of_size = 0; seen = [] }
 
 -- a keeper that has told a fault
 abbrev pub telling : {S : Type 0} → KeepFault → SqlKeeper S → SqlKeeper S
@@ -46,7 +52,7 @@ pub record IsStore (m : Chart) (db : Database) : Type 0 where
 abbrev pub AreStored : Chart → Trees → Type 0
 AreStored m trees = (db : Database) × (db.trees ≡ trees) × IsStore m db
 
--- it keeps what its connection's rows say
+-- it keeps what its connection's rows say; what it remembers of them, they say still
 abbrev pub book : {S : Type 0} → Ghosts S → Book (SqlKeeper S)
 book g = record {
   content = λ m k. said_by m (state g k.conn).now.trees;
@@ -57,5 +63,5 @@ book g = record {
   of_size = λ k. k.of_size;
   honest = λ k. is_honest g k.conn;
   shows = λ k. does_show g k.conn;
-  sound = λ m k. IsKept g k.conn × AreOurs m (tables_in g k.conn);
+  sound = λ m k. IsKept g k.conn × AreOurs m (tables_in g k.conn) × Recalls (said_by m (state g k.conn).now.trees) k.seen;
 }

@@ -6,6 +6,7 @@ ghost use Rattle.dip_store.specs.Stored as stored;
 use crate::faults::{is_of_size, look_fault, make_fault};
 use crate::fitting_laws::{what_fits_can_be_written, what_fits_finds_place};
 use crate::papers::look_game_paper;
+use crate::seen::{Seen, copy_of};
 use dip_desk::Keeper;
 use dip_desk_state::{Change, Desk, Item, KeepFault, Own, Public, Whole};
 use dip_map::{Map, Power};
@@ -20,7 +21,8 @@ use std::alloc::Global;
 use std::rc::Rc;
 
 /// A keeper of the desk's state in the ten tables of an SQL store. Each call reads the rows that it is asked for and no others; a
-/// change is one transaction, made whole or not at all.
+/// change is one transaction, made whole or not at all. The public parts that it has read it has in memory too, and reads them no
+/// more until a paper changes them: while the store is its own, nobody else writes to it.
 ///
 /// After `Disk` or `Damaged` the store is to be opened anew, which finds what a crash may leave.
 #[derive(Drop)]
@@ -32,6 +34,8 @@ pub struct SqlKeeper<S: Alter> {
     /// How many faults of size its store has told it of: a row that is too long to be stored, or no number left for one. Only
     /// `told_by_store` raises it, and it stops at its greatest.
     pub(crate) of_size: u64,
+    /// The public parts that it has seen, as its rows have them.
+    pub(crate) seen: Seen,
 }
 
 impl<S: Alter> SqlKeeper<S> {
@@ -44,6 +48,7 @@ impl<S: Alter> SqlKeeper<S> {
             conn,
             failures: _,
             of_size: _,
+            seen: _,
         } = self;
         conn
     }
@@ -100,9 +105,15 @@ impl<S: Alter> Keeper for SqlKeeper<S> {
     }
 
     fn public(&mut self, map: &Map, game: &str) -> Result<Option<Public>, KeepFault> {
+        if let Some(part) = self.seen.find(game) {
+            return Ok(Some(copy_of(self.alloc, part)?));
+        }
         public_is_found();
         match look_public(&mut self.conn, self.alloc, map, game) {
-            Ok(public) => Ok(public),
+            Ok(public) => {
+                self.seen.learn(self.alloc, game, &public);
+                Ok(public)
+            }
             Err(fault) => Err(self.told(look_fault(fault))),
         }
     }
@@ -158,6 +169,7 @@ impl<S: Alter> Keeper for SqlKeeper<S> {
         if !is_writable(map, change) {
             return Err(self.told(KeepFault::Damaged));
         }
+        self.seen.heed(change);
         match make(&mut self.conn, self.alloc, map, change) {
             Ok(()) => Ok(()),
             Err(fault) => Err(self.told_by_store(fault)),

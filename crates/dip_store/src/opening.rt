@@ -15,7 +15,7 @@ ghost use Rattle.dip_store_tables.specs.Renewing.{WereOurs};
 ghost use Rattle.dip_store.specs.Opening.{IsDesk, IsOldDesk, MayFound, MayRenew, OldEnds, Opens, StoreEnds};
 ghost use Rattle.dip_store.specs.Renewing.{IsOldStore, old_said_by};
 ghost use Rattle.dip_store.specs.Refusing.{IsOutage, IsRefused, IsRefusedAs};
-ghost use Rattle.dip_store.specs.Stored.{IsStore, book, said_by};
+ghost use Rattle.dip_store.specs.Stored.{IsStore, book, fresh_keeper, said_by};
 ghost use Rattle.dip_store_tables.specs.Writing.{new_tables};
 
 use crate::checking::{check_desk, check_old_desk};
@@ -25,6 +25,7 @@ use crate::keeper::SqlKeeper;
 use crate::known::{has_ballots, knows_none};
 use crate::making::has_32;
 use crate::renewing::renew;
+use crate::seen::Seen;
 use dip_letters::sum;
 use dip_map::Map;
 use dip_store_tables::{new_tables_are_legible, new_tables_are_new, old_tables_are_renewed};
@@ -40,13 +41,14 @@ fn commits_last<S: Alter>(conn: &Connection<S>)
 impl<S: Alter> SqlKeeper<S> {
     /// The keeper of a connection's rows.
     fn over(alloc: Global, conn: Connection<S>) -> SqlKeeper<S>
-        ensures { result ≡ record { alloc = alloc; conn = conn; failures = 0; of_size = 0 } }
+        ensures { result ≡ fresh_keeper alloc conn }
     {
         SqlKeeper {
             alloc,
             conn,
             failures: 0,
             of_size: 0,
+            seen: Seen::new(alloc),
         }
     }
 

@@ -1,13 +1,29 @@
-use Rattle.std.proofs.Common.{sym, ◌∙◌}
+use Rattle.std.proofs.Common.{rules, ◌≡◌, Some, sym, ◌∙◌}
+use Rattle.std.proofs.lemmas.Result.{err_from_is_err_and}
+use Rattle.sqlite.specs.Held.{state}
+use Rattle.dip_desk_state.specs.Rows as rows
 use Rattle.dip_store_sql.specs.Calls.{tables_in}
-use Rattle.dip_store.proofs.Looking.{looks_well, looks_ill}
+use Rattle.dip_store.specs.Seen.{part_of}
+use Rattle.dip_store.specs.Stored.{said_by}
+use Rattle.dip_store.proofs.Looking.{looks_learned, looks_ill, looks_recalled, looks_wanting}
 use Rattle.dip_store.proofs.keeper.SqlKeeperKeeper.public.Goals as goal
+
+pub returns-in-Some : goal.returns-in-Some
+returns-in-Some g c =
+    let copied : part_of c.args.game.now c.args.self.now.seen ≡ Some (rows.public c.in_ok-copy_of.field-0) = search rules in
+    looks_recalled g.S.Store c.args.map.now c.args.self.now _ _ _ (λ recalls. sym (recalls c.args.game.now (rows.public c.in_ok-copy_of.field-0) copied))
+
+pub returns-in_err-copy_of : goal.returns-in_err-copy_of
+returns-in_err-copy_of g c =
+    let p = err_from_is_err_and c.from_residual.result c.from_residual.ensures.1 in
+    rw (p.1, p.2) (looks_wanting g.S.Store c.args.map.now c.args.self.now _ _)
 
 pub returns-in-Ok : goal.returns-in-Ok
 returns-in-Ok g c =
     let m = c.args.map.now in
-    looks_well g.S.Store m c.args.self.now c.look_public.new.conn _ _ c.in-Ok.public _ c.in-Ok.ensures.selects
+    looks_learned g.S.Store m c.args.self.now c.look_public.new.conn _ _ c.in-Ok.public _ c.learn.new.self c.in-Ok.ensures.selects
     (λ kept ours clean. c.in-Ok.ensures.value kept clean ∙ sym (c.public_is_found.ensures m (tables_in g.S.Store c.args.self.now.conn) c.args.game.now))
+    (c.learn.ensures (said_by m (state g.S.Store c.args.self.now.conn).now.trees))
 
 pub returns-in-Err : goal.returns-in-Err
 returns-in-Err g c =

@@ -1,0 +1,158 @@
+-- Public parts that are remembered.
+use Rattle.std.proofs.Common.{◌≡◌, ◌&&◌, ℕ, nat_lt, length, Bool, true, false, cond, List, [], ◌∷◌, Option, None, Some, map, option_map, option_copied, Bor, refl, sym, ap, subst, ◌∙◌, bytes_eq, String, string_bytes}
+use Rattle.std.specs.declared.alloc.Global.{Global}
+use Rattle.std.specs.declared.rc.Rc.{Rc}
+use Rattle.std.specs.Option.{option_or}
+use Rattle.std.specs.Map.{lookup}
+use Rattle.std.specs.String.{string_eq}
+use Rattle.indexmap.specs.IndexMap.{IndexMap, UpdatesBy}
+use Rattle.std.proofs.lemmas.Map.Text.{hash_map_updates_text}
+use Rattle.std.proofs.lemmas.Slice.Eq.{bytes_eq-Decides}
+use Rattle.dip_desk_state.specs.Records as r
+use Rattle.dip_desk_state.specs.Rows as rows
+use Rattle.dip_desk_state.specs.State.{Change, Effect, Game, Nothing, Pending, Votes, Delivers, Opens, Publishes, Seats, State, game_after, game_at, name_of, new_games, public_after, public_at, state_after}
+use Rattle.dip_desk_state.specs.Keyed.{at, change_at}
+use Rattle.dip_desk_state.proofs.KeyedLemmas.{at-append, at-change_at_other, at-change_at_same, names_tell}
+use Rattle.dip_desk_state.specs.declared.records.Public.{Public}
+use Rattle.dip_store.specs.Seen.{Parts, Recalls, gives_part, is_paper, most_seen, part_of, with_room}
+
+-- a part as it lies in memory
+abbrev Entry : Type 0
+Entry = String Global × Rc Public Global
+
+abbrev shown : Entry → List ℕ × r.Public
+shown e = (string_bytes e.0, rows.public e.1.value)
+
+-- what is found under a name is the part of that name
+pub part_found : (name : List ℕ) (es : List Entry)
+    → option_map (λ p. rows.public p.value) (lookup (λ k. bytes_eq name (string_bytes k)) es) ≡ part_of name (map shown es)
+part_found name [] = refl
+part_found name (e ∷ es) = go (bytes_eq name (string_bytes e.0)) (part_found name es)
+  where
+    go : (b : Bool) → option_map (λ p. rows.public p.value) (lookup (λ k. bytes_eq name (string_bytes k)) es) ≡ part_of name (map shown es)
+        → option_map (λ p. rows.public p.value) (cond b (Some e.1) (lookup (λ k. bytes_eq name (string_bytes k)) es)) ≡ cond b (Some (rows.public e.1.value)) (part_of name (map shown es))
+    go true more = refl
+    go false more = more
+
+-- what a change at a name leaves of each
+pub parts_updated : {S : Type 0} (bs : List ℕ) (m n : IndexMap (String Global) (Rc Public Global) S) (w : Option (Rc Public Global)) → UpdatesBy string_eq (λ k. bytes_eq bs (string_bytes k)) m n w
+    → (other : List ℕ) → part_of other (map shown n.entries) ≡ cond (bytes_eq bs other) (option_map (λ p. rows.public p.value) w) (part_of other (map shown m.entries))
+parts_updated bs m n w updates other =
+    sym (part_found other n.entries)
+    ∙ ap (option_map (λ (p : Rc Public Global). rows.public p.value)) (hash_map_updates_text bs m n w updates other)
+    ∙ over (bytes_eq bs other) (lookup (λ k. bytes_eq other (string_bytes k)) m.entries)
+    ∙ ap (cond (bytes_eq bs other) (option_map (λ (p : Rc Public Global). rows.public p.value) w)) (part_found other m.entries)
+  where
+    over : (b : Bool) (o : Option (Rc Public Global)) → option_map (λ p. rows.public p.value) (cond b w o) ≡ cond b (option_map (λ p. rows.public p.value) w) (option_map (λ p. rows.public p.value) o)
+    over true o = refl
+    over false o = refl
+
+-- by the name, the part and the parts that are meant
+pub part_noted : (other bs name : List ℕ) (p q : r.Public) (ps qs : Parts) → bs ≡ name → p ≡ q → ps ≡ qs
+    → cond (bytes_eq bs other) (Some p) (part_of other ps) ≡ cond (bytes_eq name other) (Some q) (part_of other qs)
+part_noted other bs name p q ps qs key part same =
+    ap (λ (n : List ℕ). cond (bytes_eq n other) (Some p) (part_of other ps)) key
+    ∙ ap (λ (x : r.Public). cond (bytes_eq name other) (Some x) (part_of other ps)) part
+    ∙ ap (λ (xs : Parts). cond (bytes_eq name other) (Some q) (part_of other xs)) same
+
+pub part_shown : (o : Option (Bor (Rc Public Global))) → option_map (λ p. rows.public p.now.value) o ≡ option_map (λ p. rows.public p.value) (option_copied o)
+part_shown None = refl
+part_shown (Some p) = refl
+
+-- nothing is remembered wrong where nothing is
+pub recalls_none : (s : State) → Recalls s []
+recalls_none s name p h = absurd (let x = h in cc)
+
+-- nor where room is made
+roomy : (s : State) (ps : Parts) → Recalls s ps → Recalls s (with_room ps)
+roomy s ps holds = go (nat_lt (length ps) most_seen)
+  where
+    go : (b : Bool) → Recalls s (cond b ps [])
+    go true = holds
+    go false = recalls_none s
+
+-- a part that the state has may be remembered
+pub learned : (s : State) (old new : Parts) (name : List ℕ) (p : r.Public) → Recalls s old → Some p ≡ public_at name s
+    → ((other : List ℕ) → part_of other new ≡ cond (bytes_eq name other) (Some p) (part_of other (with_room old))) → Recalls s new
+learned s old new name p holds is noted other q h = go (bytes_eq name other) refl (noted other)
+  where
+    go : (b : Bool) → bytes_eq name other ≡ b → part_of other new ≡ cond b (Some p) (part_of other (with_room old)) → public_at other s ≡ Some q
+    go true e n = subst (λ (w : List ℕ). public_at w s ≡ Some q) ((bytes_eq-Decides name other).0 e) (sym is ∙ sym n ∙ h)
+    go false e n = roomy s old holds other q (sym n ∙ h)
+
+pub not_learned : (s : State) (old new : Parts) → Recalls s old → new ≡ with_room old → Recalls s new
+not_learned s old new holds is = subst (Recalls s) (sym is) (roomy s old holds)
+
+-- a game keeps its name
+keeps_name : (c : Change) (g : Game) → name_of (game_after c g) ≡ name_of g
+keeps_name c g = go c.effect
+  where
+    go : (e : Effect) → (public_after e g.public).game ≡ g.public.game
+    go Nothing = refl
+    go (Pending orders) = refl
+    go (Votes vote) = refl
+    go (Delivers readers item) = refl
+    go (Opens public paper seats) = refl
+    go (Publishes public paper played) = refl
+    go (Seats seat) = refl
+
+-- and its public part, but for a paper
+keeps_part : (e : Effect) (p : r.Public) → is_paper e ≡ false → public_after e p ≡ p
+keeps_part Nothing p none = refl
+keeps_part (Pending orders) p none = refl
+keeps_part (Votes vote) p none = refl
+keeps_part (Delivers readers item) p none = refl
+keeps_part (Opens public paper seats) p none = refl
+keeps_part (Publishes public paper played) p none = absurd (cc)
+keeps_part (Seats seat) p none = refl
+
+-- a game to which a change gives no other part has the one that it had
+part_stays : (c : Change) (s : State) (name : List ℕ) (p : r.Public) → gives_part c name ≡ false → public_at name s ≡ Some p
+    → public_at name (state_after c s) ≡ Some p
+part_stays c s name p other is =
+    ap (option_map (λ (g : Game). g.public)) (at-append bytes_eq name_of name (change_at bytes_eq name_of c.game (game_after c) s.games) (new_games c.effect))
+    ∙ first (at bytes_eq name_of name (change_at bytes_eq name_of c.game (game_after c) s.games)) (changed (bytes_eq c.game name) refl other)
+  where
+    first : (o : Option Game) → option_map (λ g. g.public) o ≡ Some p → option_map (λ g. g.public) (option_or o (at bytes_eq name_of name (new_games c.effect))) ≡ Some p
+    first None h = cc
+    first (Some g) h = h
+
+    kept : is_paper c.effect ≡ false → (o : Option Game) → option_map (λ g. g.public) o ≡ Some p → option_map (λ g. g.public) (option_map (game_after c) o) ≡ Some p
+    kept none None h = cc
+    kept none (Some g) h = ap Some (keeps_part c.effect g.public none) ∙ h
+
+    and_true : (b : Bool) → (b && true) ≡ false → b ≡ false
+    and_true false h = refl
+    and_true true h = h
+
+    changed : (b : Bool) → bytes_eq c.game name ≡ b → (is_paper c.effect && b) ≡ false
+        → option_map (λ g. g.public) (at bytes_eq name_of name (change_at bytes_eq name_of c.game (game_after c) s.games)) ≡ Some p
+    changed false e h = ap (option_map (λ (g : Game). g.public)) (at-change_at_other bytes_eq name_of c.game name (game_after c) s.games names_tell (keeps_name c) e) ∙ is
+    changed true e h =
+        let same = (bytes_eq-Decides c.game name).0 e in
+        subst (λ (w : List ℕ). option_map (λ g. g.public) (at bytes_eq name_of w (change_at bytes_eq name_of c.game (game_after c) s.games)) ≡ Some p) same
+        (ap (option_map (λ (g : Game). g.public)) (at-change_at_same bytes_eq name_of c.game (game_after c) s.games (keeps_name c))
+        ∙ kept (and_true (is_paper c.effect) h) (game_at c.game s) (subst (λ (w : List ℕ). public_at w s ≡ Some p) (sym same) is))
+
+-- the parts but for the one that a change gives
+abbrev IsHeeded : Change → Parts → Parts → Type 0
+IsHeeded c old new = (name : List ℕ) → part_of name new ≡ cond (gives_part c name) None (part_of name old)
+
+heeded_by : (b : Bool) (o : Option r.Public) (p : r.Public) → cond b None o ≡ Some p → (b ≡ false) × (o ≡ Some p)
+heeded_by true o p h = absurd (cc)
+heeded_by false o p h = (refl, h)
+
+-- what is left of what a state has, it has before a change and behind it
+abbrev pub Heeds : Change → Parts → Parts → Type 0
+Heeds c old new = (s : State) → Recalls s old → Recalls s new × Recalls (state_after c s) new
+
+pub heeded : (c : Change) (old new : Parts) → IsHeeded c old new → Heeds c old new
+heeded c old new is s holds = (before, behind)
+  where
+    before : Recalls s new
+    before name p h = holds name p (heeded_by (gives_part c name) (part_of name old) p (sym (is name) ∙ h)).1
+
+    behind : Recalls (state_after c s) new
+    behind name p h =
+        let it = heeded_by (gives_part c name) (part_of name old) p (sym (is name) ∙ h) in
+        part_stays c s name p it.0 (holds name p it.1)

@@ -1,0 +1,130 @@
+//! What a keeper remembers of the games that it has looked at.
+ghost use Rattle.std.specs.Prelude.{◌≡◌, [], ℕ, List, IfOk, None, OnErr, OnOk, Some, bytes_eq, if◌then◌else◌, option_map};
+ghost use Rattle.dip_desk_state.specs.ChangeRows as desk_rows;
+ghost use Rattle.dip_desk_state.specs.Rows as rows;
+ghost use Rattle.dip_desk_state.specs.State.{State, public_at};
+ghost use Rattle.dip_store.specs.Seen.{Recalls, gives_part, is_paper, part_of, with_room};
+
+use dip_desk_state::{Change, Effect, Public};
+use indexmap::IndexMap;
+use std::alloc::{AllocError, Global};
+use std::marker::Model;
+use std::rc::Rc;
+
+/// The most games whose public parts are remembered.
+const MOST_SEEN: usize = 1024;
+
+/// Public parts of games, each under its game's name: at most `MOST_SEEN`. Where one more comes, all others are forgotten.
+#[derive(Drop)]
+pub(crate) struct Seen {
+    parts: IndexMap<String, Rc<Public>>,
+}
+
+impl Model for Seen {
+    ghost use Rattle.std.specs.Prelude.{map, string_bytes};
+    ghost use Rattle.dip_desk_state.specs.Rows as rows;
+    ghost use Rattle.dip_store.specs.Seen.{Parts};
+
+    ghost Value = { Parts };
+
+    ghost view = { λ s. map (λ e. (string_bytes e.0, rows.public e.1.value)) s.parts.entries };
+}
+
+/// A copy of a public part.
+pub(crate) fn copy_of(alloc: Global, public: &Public) -> Result<Public, AllocError>
+    ensures { IfOk result (λ p. rows.public p ≡ rows.public public.now) }
+{
+    Ok(Public {
+        game: public.game.clone()?,
+        board: public.board.copy(alloc)?,
+        status: public.status.copy(alloc)?,
+        due: public.due,
+        period: public.period,
+        grey: public.grey,
+        papers: public.papers,
+    })
+}
+
+/// Whether an effect gives its game another public part.
+fn is_new_part(effect: &Effect) -> bool
+    ensures { result ≡ is_paper (desk_rows.effect effect.now) }
+{
+    match effect {
+        Effect::Publishes { .. } => true,
+        Effect::Nothing
+        | Effect::Pending(_)
+        | Effect::Votes(_)
+        | Effect::Delivers { .. }
+        | Effect::Opens { .. }
+        | Effect::Seats(_) => false,
+    }
+}
+
+impl Seen {
+    /// No part of any game.
+    pub(crate) fn new(alloc: Global) -> Seen
+        ensures { result ≡ [] }
+    {
+        Seen {
+            parts: IndexMap::new(alloc),
+        }
+    }
+
+    /// What is remembered of the game of that name.
+    pub(crate) fn find(&self, name: &str) -> Option<&Rc<Public>>
+        ensures { option_map (λ p. rows.public p.now.value) result ≡ part_of name.now self.now }
+    {
+        self.parts.get(name)
+    }
+
+    fn make_room(&mut self)
+        ensures { self.new ≡ with_room self.old }
+    {
+        if self.parts.len() >= MOST_SEEN {
+            self.parts.clear();
+        }
+    }
+
+    /// Remembers a copy of a game's public part.
+    fn note(&mut self, alloc: Global, name: &str, public: &Public) -> Result<(), AllocError>
+        ensures ok { OnOk result ((other : List ℕ) → part_of other self.new
+            ≡ (if bytes_eq name.now other then Some (rows.public public.now)
+            else part_of other (with_room self.old))) }
+        ensures err { OnErr result (self.new ≡ with_room self.old) }
+    {
+        self.make_room();
+        let key = String::from_str(alloc, name)?;
+        let part = Rc::new(alloc, copy_of(alloc, public)?)?;
+        self.parts.insert(key, part)?;
+        Ok(())
+    }
+
+    /// Remembers what a look found of a game. Where memory is wanting for it, it isn't remembered, and that is no fault.
+    pub(crate) fn learn(&mut self, alloc: Global, name: &str, found: &Option<Public>)
+        ensures { (s : State) → Recalls s self.old
+            → option_map rows.public found.now ≡ public_at name.now s → Recalls s self.new }
+    {
+        if let Some(public) = found {
+            let _ = self.note(alloc, name, public);
+        }
+    }
+
+    /// Forgets the public part of a game.
+    fn forget(&mut self, name: &str)
+        ensures { (other : List ℕ) → part_of other self.new
+            ≡ (if bytes_eq name.now other then None else part_of other self.old) }
+    {
+        self.parts.swap_remove(name);
+    }
+
+    /// Forgets what a change makes anew, whether it will be made or not.
+    pub(crate) fn heed(&mut self, change: &Change)
+        ensures { (name : List ℕ) → part_of name self.new
+            ≡ (if gives_part (desk_rows.change change.now) name then None
+            else part_of name self.old) }
+    {
+        if is_new_part(&change.effect) {
+            self.forget(change.game.as_str());
+        }
+    }
+}

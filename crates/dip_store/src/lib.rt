@@ -16,6 +16,7 @@ mod opening;
 mod paper_faults;
 mod papers;
 mod renewing;
+mod shared;
 
 pub use archive::write_papers;
 pub use checking::VERSION;

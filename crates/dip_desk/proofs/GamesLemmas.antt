@@ -177,10 +177,6 @@ pub named_shown : (name : List ℕ) (es : List Entry) (r : Option (Bor GameRow))
 named_shown name es None named found = tt
 named_shown name es (Some g) named found = found_named name es g.now named (sym found)
 
--- a public part under the name that it has is itself
-pub part_named : (name : List ℕ) (g : GameRow) → stored.name_in g ≡ name → rows.public g.public.value ≡ (stored.game name g).public
-part_named name g is = ap (λ (n : List ℕ). record (rows.public g.public.value) { game = n }) is
-
 -- a new game under its name
 pub named_added : (key : String Global) (row : GameRow) (es : List Entry) → stored.name_in row ≡ string_bytes key → is_some (lookup (is_named (string_bytes key)) es) ≡ false
     → stored.are_named es ≡ true → stored.are_named (insert_entry string_eq es key row) ≡ true

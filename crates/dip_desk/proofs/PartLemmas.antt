@@ -120,10 +120,6 @@ row_after c old new public papers seats key =
     ∙ ap (λ (ps : List Part). record { public = public_after c.effect (game key old).public; papers = papers_after c.effect (rows.lines old.papers.items); seats = ps })
     (seats ∙ seats_after c.author c.kept c.effect (parts old.seats.items))
 
--- a name that is put in the place of another
-pub named_anew : (p public : Public) (name key : List ℕ) → p ≡ record public { game = name } → ◌≡◌ {A = Public} (record p { game = key }) (record public { game = key })
-named_anew p public name key is = ap (λ (q : Public). record q { game = key }) is
-
 -- a paper with the public part behind it
 pub page_brings : {E : Type 0} (e : Effect) (public : Public) (paper : List ℕ) (played : Bool) (old new : GameRow) (r : Result (Unit {0}) E) → e ≡ Publishes public paper played
     → OnOk r ((key : List ℕ) → (game key new).public ≡ record public { game = key }) → OnOk r (rows.lines new.papers.items ≡ rows.lines old.papers.items ++ paper ∷ [])

@@ -6,6 +6,7 @@ use Rattle.dip_desk.specs.declared.memory.MemoryKeeper.{MemoryKeeper}
 use Rattle.dip_desk_state.specs.ChangeRows as desk_rows
 use Rattle.dip_desk_state.specs.State as s
 
+-- the desk's state that it has
 abbrev pub state : MemoryKeeper → s.State
 state k = record { desk = desk_rows.desk k.desk; games = games k.games.entries }
 

@@ -1,4 +1,4 @@
-use Rattle.std.proofs.Common.{◌∙◌, ap, option_map, sym, Option, Some, rules, ◌≡◌}
+use Rattle.std.proofs.Common.{◌∙◌, ap, option_map, sym, Option, Some}
 use Rattle.dip_store_sql.specs.Calls.{tables_in}
 use Rattle.dip_desk_state.specs.Rows as rows
 use Rattle.dip_desk_state.specs.declared.records.Public.{Public}

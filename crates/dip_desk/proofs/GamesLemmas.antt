@@ -1,5 +1,6 @@
 -- Games that are found by their names among entries.
-use Rattle.std.proofs.Common.{◌≡◌, ◌<◌, ◌++◌, ◌+◌, ℕ, zero, suc, Bool, true, false, cond, List, [], ◌∷◌, Option, None, Some, length, option_map, option_copied, is_some, Bor, refl, sym, ap, ◌∙◌, arith, bytes_eq, String, string_bytes, slice_get, if◌then◌else◌}
+use Rattle.std.proofs.Common.{◌≡◌, ◌<◌, ◌++◌, ◌+◌, ◌&&◌, ℕ, zero, suc, Bool, true, false, cond, List, [], ◌∷◌, Option, None, Some, length, option_map, option_copied, is_some, Bor, refl, sym, ap, ◌∙◌, arith, bytes_eq, String, string_bytes, slice_get, if◌then◌else◌}
+use Rattle.std.specs.Prelude.{IfSome}
 use Rattle.std.specs.declared.alloc.Global.{Global}
 use Rattle.std.specs.List.{position_or_len, position}
 use Rattle.std.specs.Map.{keys_of, lookup, values_of}
@@ -14,6 +15,7 @@ use Rattle.dip_desk_state.specs.State as s
 use Rattle.dip_desk_state.specs.Rows as rows
 use Rattle.dip_desk.specs.Stored as stored
 use Rattle.dip_desk.specs.declared.games.GameRow.{GameRow}
+use Rattle.dip_desk_machine.proofs.Seeing.{both}
 
 abbrev pub Entry : Type 0
 Entry = String Global × GameRow
@@ -150,6 +152,56 @@ unchanged name (g ∷ gs) = go (bytes_eq (s.name_of g) name) (unchanged name gs)
 pub game_same : (name : List ℕ) (es : List Entry) (i : ℕ) (old new : GameRow) → position (is_named name) (keys_of es) ≡ Some i → slice_get (values_of es) i ≡ Some old
     → ((key : List ℕ) → stored.game key new ≡ stored.game key old) → stored.games (set_value_at es i new) ≡ stored.games es
 game_same name es i old new there value made = game_set name (λ g. g) es i old new there value made ∙ unchanged name (stored.games es)
+
+-- what is found under a name has it
+pub found_named : (name : List ℕ) (es : List Entry) (g : GameRow) → stored.are_named es ≡ true → lookup (is_named name) es ≡ Some g → stored.name_in g ≡ name
+found_named name [] g named found = absurd (cc)
+found_named name (e ∷ es) g named found = go (bytes_eq name key) refl found (found_named name es g rest.1)
+  where
+    key : List ℕ
+    key = string_bytes e.0
+
+    rest : (bytes_eq (stored.name_in e.1) key ≡ true) × (stored.are_named es ≡ true)
+    rest = both (bytes_eq (stored.name_in e.1) key) (stored.are_named es) named
+
+    go : (b : Bool) → bytes_eq name key ≡ b → cond b (Some e.1) (lookup (is_named name) es) ≡ Some g → (lookup (is_named name) es ≡ Some g → stored.name_in g ≡ name)
+        → stored.name_in g ≡ name
+    go true is here more =
+        let same : e.1 ≡ g = cc in
+        ap (λ (r : GameRow). stored.name_in r) (sym same) ∙ (bytes_eq-Decides (stored.name_in e.1) key).0 rest.0 ∙ sym ((bytes_eq-Decides name key).0 is)
+    go false is here more = more here
+
+-- so has what is lent
+pub named_shown : (name : List ℕ) (es : List Entry) (r : Option (Bor GameRow)) → stored.are_named es ≡ true → option_copied r ≡ lookup (is_named name) es
+    → IfSome r (λ g. stored.name_in g.now ≡ name)
+named_shown name es None named found = tt
+named_shown name es (Some g) named found = found_named name es g.now named (sym found)
+
+-- a new game under its name
+pub named_added : (key : String Global) (row : GameRow) (es : List Entry) → stored.name_in row ≡ string_bytes key → is_some (lookup (is_named (string_bytes key)) es) ≡ false
+    → stored.are_named es ≡ true → stored.are_named (insert_entry string_eq es key row) ≡ true
+named_added key row [] is free named = ap (λ (b : Bool). b && true) ((bytes_eq-Decides (stored.name_in row) (string_bytes key)).1 is)
+named_added key row (e ∷ es) is free named = go (bytes_eq (string_bytes key) (string_bytes e.0)) free (λ more. named_added key row es is more rest.1)
+  where
+    rest : (bytes_eq (stored.name_in e.1) (string_bytes e.0) ≡ true) × (stored.are_named es ≡ true)
+    rest = both (bytes_eq (stored.name_in e.1) (string_bytes e.0)) (stored.are_named es) named
+
+    go : (b : Bool) → is_some (cond b (Some e.1) (lookup (is_named (string_bytes key)) es)) ≡ false
+        → (is_some (lookup (is_named (string_bytes key)) es) ≡ false → stored.are_named (insert_entry string_eq es key row) ≡ true)
+        → stored.are_named (cond b ((e.0, row) ∷ es) (e ∷ insert_entry string_eq es key row)) ≡ true
+    go true h more = absurd (cc)
+    go false h more = ap (λ (b : Bool). b && stored.are_named (insert_entry string_eq es key row)) rest.0 ∙ more h
+
+-- a game in its place whose public part keeps its name
+pub named_set : (es : List Entry) (i : ℕ) (old new : GameRow) → slice_get (values_of es) i ≡ Some old → stored.name_in new ≡ stored.name_in old → stored.are_named es ≡ true
+    → stored.are_named (set_value_at es i new) ≡ true
+named_set [] i old new value same named = refl
+named_set (e ∷ es) zero old new value same named =
+    let here : e.1 ≡ old = cc in
+    ap (λ (n : List ℕ). bytes_eq n (string_bytes e.0) && stored.are_named es) (same ∙ ap (λ (r : GameRow). stored.name_in r) (sym here)) ∙ named
+named_set (e ∷ es) (suc i) old new value same named =
+    let rest = both (bytes_eq (stored.name_in e.1) (string_bytes e.0)) (stored.are_named es) named in
+    ap (λ (b : Bool). b && stored.are_named (set_value_at es i new)) rest.0 ∙ named_set es i old new value same rest.1
 
 -- the paper of a number lies one place before it
 paper_there : (i : ℕ) (ps : List (String Global)) → option_map (λ p. string_bytes p) (slice_get ps i) ≡ s.paper_numbered (suc i) (rows.lines ps)

@@ -1,13 +1,12 @@
 //! Games as they lie in memory, and what is found in them.
-ghost use Rattle.std.specs.Prelude.{◌≡◌, ℕ, IfOk, bytes_eq, drop, option_and_then, option_map, string_bytes, take};
+ghost use Rattle.std.specs.Prelude.{◌≡◌, ℕ, IfOk, IfSome, bytes_eq, drop, option_and_then, option_map, string_bytes, take, true};
 ghost use Rattle.dip_desk_state.specs.Keyed.{at};
 ghost use Rattle.dip_desk_state.specs.State as s;
 ghost use Rattle.dip_desk_state.specs.Rows as rows;
 ghost use Rattle.dip_desk.specs.Stored as stored;
 
-use crate::copying::{items_shared, owns_copy};
-use dip_desk_state::{Item, Own, Public, Status, Whole};
-use dip_map::Board;
+use crate::copying::{items_shared, owns_copy, public_under};
+use dip_desk_state::{Item, Own, Public, Whole};
 use dip_names::Power;
 use indexmap::IndexMap;
 use std::alloc::{AllocError, Global};
@@ -24,12 +23,8 @@ pub struct SeatRow {
 /// A game as it lies in memory, under its name.
 #[derive(Drop)]
 pub struct GameRow {
-    pub board: Board,
-    pub status: Status,
-    pub due: u64,
-    pub period: u32,
-    pub grey: bool,
-    pub count: u32,
+    /// Its public part. Whoever asks for it shares it, and a paper puts another in its place.
+    pub public: Rc<Public>,
     pub papers: Vec<String>,
     pub seats: Vec<SeatRow>,
 }
@@ -37,35 +32,22 @@ pub struct GameRow {
 /// The games by their names, in the order in which they were opened.
 pub type Games = IndexMap<String, GameRow>;
 
-/// The public part of the game of that name.
-pub fn public_of(alloc: Global, name: &str, game: &GameRow) -> Result<Public, AllocError>
-    ensures { IfOk result (λ p. rows.public p ≡ (stored.game name.now game.now).public) }
-{
-    Ok(Public {
-        game: String::from_str(alloc, name)?,
-        board: game.board.copy(alloc)?,
-        status: game.status.copy(alloc)?,
-        due: game.due,
-        period: game.period,
-        grey: game.grey,
-        papers: game.count,
-    })
-}
-
 /// The game of that name, with the own parts of its seats.
 pub fn whole_of(alloc: Global, name: &str, game: &GameRow) -> Result<Whole, AllocError>
     ensures { IfOk result (λ w. rows.whole w ≡ s.whole_of (stored.game name.now game.now)) }
 {
     Ok(Whole {
-        public: public_of(alloc, name, game)?,
+        public: public_under(alloc, name, &game.public)?,
         seats: owns_copy(alloc, game.seats.as_slice())?,
     })
 }
 
 /// The game of that name.
 pub fn find_game<'a>(games: &'a Games, name: &str) -> Option<&'a GameRow>
-    ensures { option_map (λ g. stored.game name.now g.now) result ≡ at bytes_eq s.name_of name.now
-        (stored.games games.entry.now.entries) }
+    ensures found { option_map (λ g. stored.game name.now g.now) result
+        ≡ at bytes_eq s.name_of name.now (stored.games games.entry.now.entries) }
+    ensures named { stored.are_named games.entry.now.entries ≡ true
+        → IfSome result (λ g. stored.name_in g.now ≡ name.now) }
 {
     games.get(name)
 }

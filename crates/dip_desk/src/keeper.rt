@@ -27,12 +27,12 @@ pub trait Keeper {
         ensures { (m : Chart) → Looks m book self.old self.new
             (λ d. desk_rows.desk d ≡ (book.content m self.old).desk) ⊥ result };
 
-    /// The public part of a game; `None` where there is no such game.
-    fn public(&mut self, map: &Map, game: &str) -> Result<Option<Public>, KeepFault>
+    /// The public part of a game, which the keeper may share; `None` where there is no such game.
+    fn public(&mut self, map: &Map, game: &str) -> Result<Option<Rc<Public>>, KeepFault>
         requires { book.faults self.old < u64.MAX }
         ensures { Looks map.now book self.old self.new
-            (λ p. option_map rows.public p ≡ public_at game.now (book.content map.now self.old)) ⊥
-            result };
+            (λ p. option_map (λ r. rows.public r.value) p
+            ≡ public_at game.now (book.content map.now self.old)) ⊥ result };
 
     /// A seat's own part, all but the items of its inbox; `None` where there is no such seat.
     fn own(&mut self, map: &Map, game: &str, power: Power) -> Result<Option<Own>, KeepFault>

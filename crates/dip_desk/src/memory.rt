@@ -1,5 +1,5 @@
 //! A keeper in memory.
-ghost use Rattle.std.specs.Prelude.{◌≡◌, [], None, IfOk, IsErrOf, option_map, string_bytes};
+ghost use Rattle.std.specs.Prelude.{◌≡◌, [], None, IfOk, IsErrOf, option_map, string_bytes, true};
 ghost use Rattle.dip_desk.specs.Fitting.{Fits, LacksPlace};
 ghost use Rattle.dip_desk.specs.Keeping.{Changes};
 ghost use Rattle.dip_desk_state.specs.State.{game_at, state_after};
@@ -7,7 +7,7 @@ ghost use Rattle.dip_desk_state.specs.ChangeRows as desk_rows;
 ghost use Rattle.dip_desk_state.specs.Rows as rows;
 ghost use Rattle.dip_desk.specs.Stored as stored;
 
-use crate::games::{Games, find_game, find_paper, find_seat, page_of, public_of, whole_of};
+use crate::games::{Games, find_game, find_paper, find_seat, page_of, whole_of};
 use crate::keeper::Keeper;
 use crate::recording::record_games;
 use dip_desk_state::{Author, Change, Desk, Item, KeepFault, Kept, Own, Public, Whole};
@@ -23,6 +23,7 @@ pub struct MemoryKeeper {
     alloc: Global,
     desk: Desk,
     games: Games,
+    ghost named: { stored.are_named games.entries ≡ true },
 }
 
 /// The master's last letter, where it is the master's.
@@ -47,15 +48,16 @@ fn record_desk(desk: &mut Desk, last: Option<Kept>)
 }
 
 impl MemoryKeeper {
+    ghost use Rattle.dip_desk.specs.InMemory as in_memory;
     ghost use Rattle.dip_desk_machine.specs.Lawful.{IsLawful};
     ghost use Rattle.dip_desk_state.specs.State.{State};
     ghost use Rattle.dip_map.specs.Charts.{Chart};
 
     /// An empty desk whose master's secret has this digest.
     pub fn new(alloc: Global, digest: [u8; 32]) -> MemoryKeeper
-        ensures empty { stored.state result ≡ record
+        ensures empty { in_memory.state result ≡ record
             { desk = record { digest = digest; kept = None }; games = [] } }
-        ensures lawful { (m : Chart) → IsLawful m (stored.state result) }
+        ensures lawful { (m : Chart) → IsLawful m (in_memory.state result) }
     {
         MemoryKeeper {
             alloc,
@@ -66,7 +68,9 @@ impl MemoryKeeper {
 }
 
 impl Keeper for MemoryKeeper {
-    ghost book = { stored.book };
+    ghost use Rattle.dip_desk.specs.InMemory as in_memory;
+
+    ghost book = { in_memory.book };
 
     fn failures(&self) -> u64 {
         0
@@ -76,10 +80,10 @@ impl Keeper for MemoryKeeper {
         Ok(self.desk.copy()?)
     }
 
-    fn public(&mut self, _map: &Map, game: &str) -> Result<Option<Public>, KeepFault> {
+    fn public(&mut self, _map: &Map, game: &str) -> Result<Option<Rc<Public>>, KeepFault> {
         match find_game(&self.games, game) {
             None => Ok(None),
-            Some(found) => Ok(Some(public_of(self.alloc, game, found)?)),
+            Some(found) => Ok(Some(found.public.clone()?)),
         }
     }
 
@@ -126,13 +130,13 @@ impl Keeper for MemoryKeeper {
     /// game has; of a paper, where its number is more than a game has papers. `Disk` is never told.
     #[tactic(auto, using(crate::proofs::Sighting::fits_in_place))]
     fn apply(&mut self, _map: &Map, change: &Change) -> Result<(), KeepFault>
-        ensures changes { Changes _map.now stored.book self.old self.new
+        ensures changes { Changes _map.now in_memory.book self.old self.new
             (state_after (desk_rows.change change.now))
             (Fits _map.now (desk_rows.change change.now)) result }
         ensures damaged { IsErrOf result KeepFault.Damaged
             → LacksPlace (string_bytes change.now.game) (desk_rows.author change.now.author)
             (desk_rows.effect change.now.effect)
-            (game_at (string_bytes change.now.game) (stored.state self.old)) }
+            (game_at (string_bytes change.now.game) (in_memory.state self.old)) }
         ensures disk { IsErrOf result KeepFault.Disk → ⊥ }
     {
         let last = last_of(change)?;

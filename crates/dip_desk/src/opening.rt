@@ -1,5 +1,5 @@
 //! A new game, as it comes to lie in memory.
-ghost use Rattle.std.specs.Prelude.{◌≡◌, [], ◌∷◌, ◌++◌, ℕ, List, None, IfOk, IsErrOf, OnErr, OnOk, bytes_eq, map as each, string_bytes};
+ghost use Rattle.std.specs.Prelude.{◌≡◌, [], ◌∷◌, ◌++◌, ℕ, List, None, IfOk, IsErrOf, OnErr, OnOk, bytes_eq, map as each, string_bytes, true};
 ghost use Rattle.dip_desk_state.specs.Faults.{faults_after};
 ghost use Rattle.dip_desk_state.specs.Keyed.{at, change_at};
 ghost use Rattle.dip_desk_state.specs.State as s;
@@ -7,9 +7,11 @@ ghost use Rattle.dip_desk_state.specs.ChangeRows as desk_rows;
 ghost use Rattle.dip_desk_state.specs.Rows as rows;
 ghost use Rattle.dip_desk.specs.Stored as stored;
 
+use crate::copying::public_under;
 use crate::games::{GameRow, Games, SeatRow};
 use dip_desk_state::{KeepFault, NewSeat, Own, Public, Vote};
 use std::alloc::{AllocError, Global};
+use std::rc::Rc;
 
 fn fresh(alloc: Global, seat: &NewSeat) -> SeatRow
     ensures { stored.part result ≡ s.fresh (desk_rows.new_seat seat.now) }
@@ -40,27 +42,23 @@ fn fresh_seats(alloc: Global, seats: &[NewSeat]) -> Result<Vec<SeatRow>, AllocEr
     Ok(new_rows)
 }
 
-/// A new game, but for its name.
+/// A new game.
 fn game_of(
     alloc: Global,
     public: &Public,
     paper: &String,
     seats: &[NewSeat],
 ) -> Result<GameRow, AllocError>
-    ensures { IfOk result
+    ensures game { IfOk result
         (λ g. (name : List ℕ) → name ≡ (rows.public public.now).game → stored.game name g
         ≡ s.opening_game (rows.public public.now) (string_bytes paper.now)
         (each (λ n. desk_rows.new_seat n) seats.now)) }
+    ensures name { IfOk result (λ g. stored.name_in g ≡ string_bytes public.now.game) }
 {
     let mut papers = Vec::new(alloc);
     papers.push(paper.clone()?)?;
     Ok(GameRow {
-        board: public.board.copy(alloc)?,
-        status: public.status.copy(alloc)?,
-        due: public.due,
-        period: public.period,
-        grey: public.grey,
-        count: public.papers,
+        public: Rc::new(alloc, public_under(alloc, public.game.as_str(), public)?)?,
         papers,
         seats: fresh_seats(alloc, seats)?,
     })
@@ -82,6 +80,8 @@ pub fn add_game(
         (stored.games games.old.entries)) }
     ensures err { OnErr result
         (stored.games games.new.entries ≡ stored.games games.old.entries) }
+    ensures named { stored.are_named games.old.entries ≡ true
+        → stored.are_named games.new.entries ≡ true }
     ensures taken { IsErrOf result KeepFault.Damaged
         → at bytes_eq s.name_of (string_bytes public.now.game) (stored.games games.old.entries)
         ≡ None → ⊥ }

@@ -9,6 +9,7 @@ ghost use Rattle.dip_desk_state.specs.ChangeRows as desk_rows;
 ghost use Rattle.dip_desk_state.specs.Rows as rows;
 ghost use Rattle.dip_desk.specs.Stored as stored;
 
+use crate::copying::public_under;
 use crate::games::{GameRow, Games, SeatRow};
 use crate::opening::add_game;
 use dip_desk_state::{
@@ -221,18 +222,16 @@ fn put_page(
     ensures papers { OnOk result (rows.lines game.new.papers.items ≡ rows.lines
         game.old.papers.items ++ string_bytes paper.now ∷ []) }
     ensures seats { game.new.seats ≡ game.old.seats }
+    ensures name { stored.name_in game.new ≡ stored.name_in game.old }
     ensures err { OnErr result ((key : List ℕ) → stored.game key game.new ≡ stored.game key
         game.old) }
 {
-    let board = public.board.copy(alloc)?;
-    let status = public.status.copy(alloc)?;
+    let behind = Rc::new(
+        alloc,
+        public_under(alloc, game.public.game.as_str(), public)?,
+    )?;
     game.papers.push(paper.clone()?)?;
-    game.board = board;
-    game.status = status;
-    game.due = public.due;
-    game.period = public.period;
-    game.grey = public.grey;
-    game.count = public.papers;
+    game.public = behind;
     Ok(())
 }
 
@@ -242,6 +241,7 @@ fn put_content(alloc: Global, game: &mut GameRow, effect: &Effect) -> Result<(),
         (stored.parts game.old.seats.items) ≡ true }
     ensures ok { OnOk result
         (stored.Brings (desk_rows.effect effect.now) game.old game.new) }
+    ensures name { stored.name_in game.new ≡ stored.name_in game.old }
     ensures err { OnErr result ((key : List ℕ) → stored.game key game.new ≡ stored.game key
         game.old) }
 {
@@ -280,6 +280,7 @@ fn record_row(alloc: Global, game: &mut GameRow, change: &Change) -> Result<(), 
         (desk_rows.effect change.now.effect) (stored.parts game.old.seats.items) ≡ true }
     ensures ok { OnOk result ((key : List ℕ) → stored.game key game.new ≡ s.game_after
         (desk_rows.change change.now) (stored.game key game.old)) }
+    ensures name { stored.name_in game.new ≡ stored.name_in game.old }
     ensures err { OnErr result ((key : List ℕ) → stored.game key game.new ≡ stored.game key
         game.old) }
 {
@@ -295,6 +296,7 @@ fn record_row(alloc: Global, game: &mut GameRow, change: &Change) -> Result<(), 
 fn record_fitting(alloc: Global, game: &mut GameRow, change: &Change) -> Result<(), KeepFault>
     ensures ok { OnOk result ((key : List ℕ) → stored.game key game.new ≡ s.game_after
         (desk_rows.change change.now) (stored.game key game.old)) }
+    ensures name { stored.name_in game.new ≡ stored.name_in game.old }
     ensures err { OnErr result ((key : List ℕ) → stored.game key game.new ≡ stored.game key
         game.old) }
     ensures damaged { IsErrOf result KeepFault.Damaged → (key : List ℕ)
@@ -316,6 +318,8 @@ fn record_game(alloc: Global, games: &mut Games, change: &Change) -> Result<(), 
         (stored.games games.old.entries)) }
     ensures err { OnErr result
         (stored.games games.new.entries ≡ stored.games games.old.entries) }
+    ensures named { stored.are_named games.old.entries ≡ true
+        → stored.are_named games.new.entries ≡ true }
     ensures damaged { IsErrOf result KeepFault.Damaged
         → LacksPlace (string_bytes change.now.game) (desk_rows.author change.now.author)
         (desk_rows.effect change.now.effect)
@@ -336,6 +340,8 @@ pub fn record_games(alloc: Global, games: &mut Games, change: &Change) -> Result
         (desk_rows.change change.now) (stored.games games.old.entries)) }
     ensures err { OnErr result
         (stored.games games.new.entries ≡ stored.games games.old.entries) }
+    ensures named { stored.are_named games.old.entries ≡ true
+        → stored.are_named games.new.entries ≡ true }
     ensures damaged { IsErrOf result KeepFault.Damaged
         → LacksPlace (string_bytes change.now.game) (desk_rows.author change.now.author)
         (desk_rows.effect change.now.effect)

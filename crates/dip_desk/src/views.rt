@@ -82,14 +82,14 @@ impl<'k, K: Keeper> SeatView<'k, K> {
     }
 
     /// The public part of the seat's game; `None` where there is no such game.
-    pub(crate) fn public(&mut self) -> Result<Option<Public>, KeepFault>
+    pub(crate) fn public(&mut self) -> Result<Option<Rc<Public>>, KeepFault>
         requires { K.book.faults self.old.keeper.now < u64.MAX }
         ensures same_reference { self.new.keeper.ghost_name ≡ self.old.keeper.ghost_name }
         ensures map { self.new.map.now ≡ self.old.map.now }
         ensures game { self.new.game.now ≡ self.old.game.now }
         ensures power { self.new.power ≡ self.old.power }
         ensures looks { Looks self.old.map.now K.book self.old.keeper.now self.new.keeper.now
-            (λ p. option_map rows.public p ≡ public_at self.old.game.now
+            (λ p. option_map (λ r. rows.public r.value) p ≡ public_at self.old.game.now
             (K.book.content self.old.map.now self.old.keeper.now)) ⊥ result }
     {
         self.keeper.public(self.map, self.game)

@@ -17,7 +17,7 @@ pub enum Sees {
     /// There is one: for commands that need no more of it.
     AGame,
     /// Its public part: for notices.
-    ThePublic(Public),
+    ThePublic(Rc<Public>),
     /// All of it, but for the items of inboxes: for TICK.
     TheWhole(Whole),
     /// Whether the power has a seat in it: for REPLACE.
@@ -37,7 +37,7 @@ pub enum Sight {
     /// The seat of a power: the public part of its game, its own part, and the page of its inbox that its command shows, if it shows one.
     Seat {
         power: Power,
-        public: Public,
+        public: Rc<Public>,
         own: Own,
         page: Vec<Rc<Item>>,
     },

@@ -6,15 +6,16 @@ ghost use Rattle.dip_store.specs.Stored as stored;
 use crate::faults::{is_of_size, look_fault, make_fault};
 use crate::fitting_laws::{what_fits_can_be_written, what_fits_finds_place};
 use crate::papers::look_game_paper;
-use crate::seen::{Seen, copy_of};
+use crate::seen::Seen;
+use crate::shared::look_shared_public;
 use dip_desk::Keeper;
 use dip_desk_state::{Change, Desk, Item, KeepFault, Own, Public, Whole};
 use dip_map::{Map, Power};
 use dip_store_changes::{MakeFault, changes_are_made, make};
-use dip_store_looks::{look_desk, look_items, look_own, look_public, look_whole};
+use dip_store_looks::{look_desk, look_items, look_own, look_whole};
 use dip_store_tables::{
-    has_texts, has_widths, is_writable, own_is_found, page_is_found, public_is_found,
-    tables_stay_counted, tables_stay_legible,
+    has_texts, has_widths, is_writable, own_is_found, page_is_found, tables_stay_counted,
+    tables_stay_legible,
 };
 use sqlite::{Alter, Connection};
 use std::alloc::Global;
@@ -104,12 +105,11 @@ impl<S: Alter> Keeper for SqlKeeper<S> {
         }
     }
 
-    fn public(&mut self, map: &Map, game: &str) -> Result<Option<Public>, KeepFault> {
+    fn public(&mut self, map: &Map, game: &str) -> Result<Option<Rc<Public>>, KeepFault> {
         if let Some(part) = self.seen.find(game) {
-            return Ok(Some(copy_of(self.alloc, part)?));
+            return Ok(Some(part.clone()?));
         }
-        public_is_found();
-        match look_public(&mut self.conn, self.alloc, map, game) {
+        match look_shared_public(&mut self.conn, self.alloc, map, game) {
             Ok(public) => {
                 self.seen.learn(self.alloc, game, &public);
                 Ok(public)

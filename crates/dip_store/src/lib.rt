@@ -17,6 +17,7 @@ mod paper_faults;
 mod papers;
 mod renewing;
 mod seen;
+mod shared;
 
 pub use archive::write_papers;
 pub use checking::VERSION;

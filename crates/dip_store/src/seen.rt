@@ -1,5 +1,5 @@
 //! What a keeper remembers of the games that it has looked at.
-ghost use Rattle.std.specs.Prelude.{◌≡◌, [], ℕ, List, IfOk, None, OnErr, OnOk, Some, bytes_eq, if◌then◌else◌, option_map};
+ghost use Rattle.std.specs.Prelude.{◌≡◌, [], ℕ, List, None, OnErr, OnOk, Some, bytes_eq, if◌then◌else◌, option_map};
 ghost use Rattle.dip_desk_state.specs.ChangeRows as desk_rows;
 ghost use Rattle.dip_desk_state.specs.Rows as rows;
 ghost use Rattle.dip_desk_state.specs.State.{State, public_at};
@@ -28,21 +28,6 @@ impl Model for Seen {
     ghost Value = { Parts };
 
     ghost view = { λ s. map (λ e. (string_bytes e.0, rows.public e.1.value)) s.parts.entries };
-}
-
-/// A copy of a public part.
-pub(crate) fn copy_of(alloc: Global, public: &Public) -> Result<Public, AllocError>
-    ensures { IfOk result (λ p. rows.public p ≡ rows.public public.now) }
-{
-    Ok(Public {
-        game: public.game.clone()?,
-        board: public.board.copy(alloc)?,
-        status: public.status.copy(alloc)?,
-        due: public.due,
-        period: public.period,
-        grey: public.grey,
-        papers: public.papers,
-    })
 }
 
 /// Whether an effect gives its game another public part.
@@ -85,24 +70,25 @@ impl Seen {
         }
     }
 
-    /// Remembers a copy of a game's public part.
-    fn note(&mut self, alloc: Global, name: &str, public: &Public) -> Result<(), AllocError>
+    /// Remembers a game's public part, which it shares.
+    fn note(&mut self, alloc: Global, name: &str, public: &Rc<Public>) -> Result<(), AllocError>
         ensures ok { OnOk result ((other : List ℕ) → part_of other self.new
-            ≡ (if bytes_eq name.now other then Some (rows.public public.now)
+            ≡ (if bytes_eq name.now other then Some (rows.public public.now.value)
             else part_of other (with_room self.old))) }
         ensures err { OnErr result (self.new ≡ with_room self.old) }
     {
         self.make_room();
         let key = String::from_str(alloc, name)?;
-        let part = Rc::new(alloc, copy_of(alloc, public)?)?;
+        let part = public.clone()?;
         self.parts.insert(key, part)?;
         Ok(())
     }
 
     /// Remembers what a look found of a game. Where memory is wanting for it, it isn't remembered, and that is no fault.
-    pub(crate) fn learn(&mut self, alloc: Global, name: &str, found: &Option<Public>)
+    pub(crate) fn learn(&mut self, alloc: Global, name: &str, found: &Option<Rc<Public>>)
         ensures { (s : State) → Recalls s self.old
-            → option_map rows.public found.now ≡ public_at name.now s → Recalls s self.new }
+            → option_map (λ p. rows.public p.value) found.now ≡ public_at name.now s
+            → Recalls s self.new }
     {
         if let Some(public) = found {
             let _ = self.note(alloc, name, public);

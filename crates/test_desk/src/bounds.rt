@@ -1,6 +1,6 @@
 //! A keeper in memory at the most that is counted: one more is Damaged, and changes nothing.
 use crate::desks::{desk, opened};
-use crate::making::{apply, grey, name_of, power, public_of_g1, push_line};
+use crate::making::{apply, copy_of_g1, grey, name_of, power, public_of_g1, push_line};
 use crate::mismatch::Mismatch;
 use dip_desk::{Keeper, MemoryKeeper};
 use dip_desk_state::{
@@ -99,7 +99,7 @@ fn push_paper(
     papers: u32,
     out: &mut String,
 ) -> Result<(), Mismatch> {
-    let public = public_of_g1(keeper, map)?;
+    let public = copy_of_g1(keeper, map)?;
     let effect = Effect::Publishes {
         public: Public { papers, ..public },
         paper: String::from_str(alloc, "PAPER\n")?,
@@ -137,9 +137,9 @@ fn push_opened(
 /// Appends what comes of the last paper that a game may have and one more, of a new game with too many, and of one whose name is taken.
 fn push_papers(alloc: Global, map: &Map, out: &mut String) -> Result<(), Mismatch> {
     let mut keeper = opened(alloc, map)?;
-    let public = public_of_g1(&mut keeper, map)?;
+    let public = copy_of_g1(&mut keeper, map)?;
     push_opened(alloc, &mut keeper, map, public, 1, out)?;
-    let public = public_of_g1(&mut keeper, map)?;
+    let public = copy_of_g1(&mut keeper, map)?;
     push_opened(alloc, &mut desk(alloc), map, public, MOST_PAPERS + 1, out)?;
     push_paper(alloc, &mut keeper, map, MOST_PAPERS, out)?;
     push_paper(alloc, &mut keeper, map, MOST_PAPERS + 1, out)

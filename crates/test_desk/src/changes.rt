@@ -1,6 +1,6 @@
 //! Changes that no letter makes: a game with two seats, press that names a power twice, and a paper with another game's name.
 use crate::desks::opened;
-use crate::making::{apply, grey, power, public_of_g1, push_line, word_of};
+use crate::making::{apply, copy_of_g1, grey, power, public_of_g1, push_line, word_of};
 use crate::mismatch::Mismatch;
 use dip_desk::{Keeper, MemoryKeeper};
 use dip_desk_state::{Author, Effect, Item, KeepFault, NewSeat, Public};
@@ -16,7 +16,7 @@ fn public_of_g2(
     map: &Map,
     papers: u32,
 ) -> Result<Public, KeepFault> {
-    let public = public_of_g1(keeper, map)?;
+    let public = copy_of_g1(keeper, map)?;
     Ok(Public {
         game: String::from_str(alloc, "g2")?,
         due: 200,

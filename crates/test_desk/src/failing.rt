@@ -61,11 +61,11 @@ impl Failing {
 }
 
 impl Keeper for Failing {
-    ghost use Rattle.dip_desk.specs.Stored as stored;
+    ghost use Rattle.dip_desk.specs.InMemory as in_memory;
 
     ghost book = { record {
-      content = λ m k. stored.state k.inner;
-      may_leave = λ m k left. left ≡ stored.state k.inner;
+      content = λ m k. in_memory.state k.inner;
+      may_leave = λ m k left. left ≡ in_memory.state k.inner;
       again = λ m k. Unit {0};
       faults = λ k. k.told;
       told = λ k. k.told;
@@ -89,7 +89,7 @@ impl Keeper for Failing {
         }
     }
 
-    fn public(&mut self, map: &Map, game: &str) -> Result<Option<Public>, KeepFault> {
+    fn public(&mut self, map: &Map, game: &str) -> Result<Option<Rc<Public>>, KeepFault> {
         if let Some(fault) = self.fault_now() {
             return Err(fault);
         }

@@ -50,10 +50,18 @@ pub(crate) fn apply(
     keeper.apply(map, &change)
 }
 
-/// The public part of g1.
-pub(crate) fn public_of_g1(keeper: &mut MemoryKeeper, map: &Map) -> Result<Public, KeepFault> {
+/// The public part of g1, as it is shared.
+pub(crate) fn public_of_g1(keeper: &mut MemoryKeeper, map: &Map) -> Result<Rc<Public>, KeepFault> {
     match keeper.public(map, "g1")? {
         Some(public) => Ok(public),
+        None => Err(KeepFault::Damaged),
+    }
+}
+
+/// A copy of the public part of g1.
+pub(crate) fn copy_of_g1(keeper: &mut MemoryKeeper, map: &Map) -> Result<Public, KeepFault> {
+    match keeper.whole(map, "g1")? {
+        Some(whole) => Ok(whole.public),
         None => Err(KeepFault::Damaged),
     }
 }

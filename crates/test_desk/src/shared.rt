@@ -4,7 +4,7 @@ ghost use Rattle.dip_desk_machine.specs.Mail.{IsMail, mail};
 
 use crate::desks::{desk, next_taken, opened, reply_to};
 use crate::letters::{CREATE, ORDERS, SHOW};
-use crate::making::{push_line, word_of};
+use crate::making::{public_of_g1, push_line, word_of};
 use crate::mismatch::Mismatch;
 use dip_desk::{Keeper, MemoryKeeper, run};
 use dip_letters::Letter;
@@ -26,6 +26,15 @@ fn push_kept(alloc: Global, map: &Map, out: &mut String) -> Result<(), Mismatch>
     let again = reply_to(alloc, &mut keeper, map, CREATE)?;
     let is_so = is_kept(&mut keeper, &again.text)?;
     Ok(push_line(out, &["a kept reply is shared: ", word_of(is_so)])?)
+}
+
+/// Whoever asks for a game's public part gets the very one that is kept.
+fn push_public(alloc: Global, map: &Map, out: &mut String) -> Result<(), Mismatch> {
+    let mut keeper = opened(alloc, map)?;
+    let one = public_of_g1(&mut keeper, map)?;
+    let other = public_of_g1(&mut keeper, map)?;
+    let is_so = Rc::ptr_eq(&one, &other);
+    Ok(push_line(out, &["a public part is shared: ", word_of(is_so)])?)
 }
 
 /// The letter that this text is.
@@ -51,5 +60,6 @@ fn push_run(alloc: Global, map: &Map, out: &mut String) -> Result<(), Mismatch> 
 /// Appends what is shared, and how many replies a run has.
 pub(crate) fn push_shared(alloc: Global, map: &Map, out: &mut String) -> Result<(), Mismatch> {
     push_kept(alloc, map, out)?;
+    push_public(alloc, map, out)?;
     push_run(alloc, map, out)
 }

@@ -8,4 +8,4 @@ pub returns : goal.returns
 returns c =
     c.numbered.ensures
     ∙ ap (λ (ps : List (String Global)). s.paper_numbered c.args.number (rows.lines ps)) c.as_slice.ensures.value
-    ∙ ap (λ (x : Option s.Game). option_and_then (λ g. s.paper_numbered c.args.number g.papers) x) c.in_ok-game.ensures
+    ∙ ap (λ (x : Option s.Game). option_and_then (λ g. s.paper_numbered c.args.number g.papers) x) c.in_ok-game.ensures.found

@@ -1,7 +1,7 @@
 use Rattle.std.proofs.Common.{◌≡◌, ◌∙◌, List, ℕ, ap, is_some, sym, false, string_bytes, true≢false, rules}
 use Rattle.std.specs.Map.{lookup}
-use Rattle.dip_desk.specs.Stored.{games}
-use Rattle.dip_desk.proofs.GamesLemmas.{game_added, game_kept, is_named, nothing_found}
+use Rattle.dip_desk.specs.Stored.{are_named, games}
+use Rattle.dip_desk.proofs.GamesLemmas.{game_added, game_kept, is_named, named_added, nothing_found}
 use Rattle.dip_desk.proofs.opening.add_game.Goals as goal
 
 pub returns-then-contains_key-clause-taken : goal.returns-then-contains_key-clause-taken
@@ -19,7 +19,17 @@ returns-clause-ok c =
     ap (λ (n : List ℕ). is_some (lookup (is_named n) es)) (sym c.as_str.ensures.value) ∙ sym c.if-contains_key.ensures in
     ap games c.in_ok-insert.ensures.entries
     ∙ game_added c.in_ok-clone.field-0 c.in_ok-game.game _ es (ap (λ (n : List ℕ). is_some (lookup (is_named n) es)) same ∙ free)
-    (c.in_ok-game.ensures (string_bytes c.in_ok-clone.field-0) same)
+    (c.in_ok-game.ensures.game (string_bytes c.in_ok-clone.field-0) same)
+
+pub returns-clause-named : goal.returns-clause-named
+returns-clause-named c named =
+    let name = string_bytes c.args.public.now.game in
+    let es = c.args.games.now.entries in
+    let same : string_bytes c.in_ok-clone.field-0 ≡ name = search rules in
+    let free : is_some (lookup (is_named name) es) ≡ false =
+    ap (λ (n : List ℕ). is_some (lookup (is_named n) es)) (sym c.as_str.ensures.value) ∙ sym c.if-contains_key.ensures in
+    ap are_named c.in_ok-insert.ensures.entries
+    ∙ named_added c.in_ok-clone.field-0 c.in_ok-game.game es (c.in_ok-game.ensures.name ∙ sym same) (ap (λ (n : List ℕ). is_some (lookup (is_named n) es)) same ∙ free) named
 
 pub returns-clause-free : goal.returns-clause-free
 returns-clause-free c f =

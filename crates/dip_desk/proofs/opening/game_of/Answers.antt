@@ -4,16 +4,11 @@ use Rattle.dip_desk_state.specs.Rows as rows
 use Rattle.dip_desk.proofs.PartLemmas.{new_game}
 use Rattle.dip_desk.proofs.opening.game_of.Goals as goal
 
-pub returns : goal.returns
-returns c name is =
+pub returns-clause-game : goal.returns-clause-game
+returns-clause-game c name is =
     new_game name
     (record {
-      board = c.in_ok-copy.field-0;
-      status = c.in_ok-copy-2.field-0;
-      due = c.args.public.now.due;
-      period = c.args.public.now.period;
-      grey = c.args.public.now.grey;
-      count = c.args.public.now.papers;
+      public = c.in_ok-new.field-0;
       papers = c.push.new.self;
       seats = c.in_ok-fresh_seats.field-0;
     })

@@ -5,7 +5,7 @@ use Rattle.std.proofs.lemmas.Result.{on_err_weaker, on_ok_weaker}
 use Rattle.dip_desk_state.specs.ChangeRows as desk_rows
 use Rattle.dip_desk_state.specs.State as s
 use Rattle.dip_desk.specs.Fitting.{LacksPlace}
-use Rattle.dip_desk.proofs.GamesLemmas.{game_kept, game_same, game_set, game_there, is_named}
+use Rattle.dip_desk.proofs.GamesLemmas.{game_kept, game_same, game_set, game_there, is_named, named_set}
 use Rattle.dip_desk.proofs.recording.record_game.Goals as goal
 
 pub returns-in_default-clause-ok : goal.returns-in_default-clause-ok
@@ -23,6 +23,10 @@ returns-clause-ok c =
     on_ok_weaker c.record_fitting.result
     (λ made. game_set name (s.game_after (desk_rows.change c.args.change.now)) es c.in-Some.place c.index_mut-game.result.now c.record_fitting.new.game there c.index_mut-game.ensures.value made)
     c.record_fitting.ensures.ok
+
+pub returns-clause-named : goal.returns-clause-named
+returns-clause-named c named =
+    named_set c.args.games.now.entries c.in-Some.place c.index_mut-game.result.now c.record_fitting.new.game c.index_mut-game.ensures.value c.record_fitting.ensures.name named
 
 pub returns-clause-err : goal.returns-clause-err
 returns-clause-err c =

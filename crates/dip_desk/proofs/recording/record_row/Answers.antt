@@ -24,12 +24,7 @@ returns-clause-ok c key =
     let brings = c.in_ok-put_content.ensures.ok in
     row_after (desk_rows.change c.args.change.now) c.args.game.now
     (record {
-      board = c.put_content.new.game.board;
-      status = c.put_content.new.game.status;
-      due = c.put_content.new.game.due;
-      period = c.put_content.new.game.period;
-      grey = c.put_content.new.game.grey;
-      count = c.put_content.new.game.count;
+      public = c.put_content.new.game.public;
       papers = c.put_content.new.game.papers;
       seats = c.reach_seats.new.seats;
     })

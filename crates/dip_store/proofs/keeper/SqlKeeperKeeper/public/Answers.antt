@@ -10,23 +10,22 @@ use Rattle.dip_store.proofs.keeper.SqlKeeperKeeper.public.Goals as goal
 
 pub returns-in-Some : goal.returns-in-Some
 returns-in-Some g c =
-    let copied : part_of c.args.game.now c.args.self.now.seen ≡ Some (rows.public c.in_ok-copy_of.field-0) = search rules in
-    looks_recalled g.S.Store c.args.map.now c.args.self.now _ _ _ (λ recalls. sym (recalls c.args.game.now (rows.public c.in_ok-copy_of.field-0) copied))
+    let copied : part_of c.args.game.now c.args.self.now.seen ≡ Some (rows.public c.in_ok-clone.field-0.value) = search rules in
+    looks_recalled g.S.Store c.args.map.now c.args.self.now _ _ _ (λ recalls. sym (recalls c.args.game.now (rows.public c.in_ok-clone.field-0.value) copied))
 
-pub returns-in_err-copy_of : goal.returns-in_err-copy_of
-returns-in_err-copy_of g c =
+pub returns-in_err-clone : goal.returns-in_err-clone
+returns-in_err-clone g c =
     let p = err_from_is_err_and c.from_residual.result c.from_residual.ensures.1 in
     rw (p.1, p.2) (looks_wanting g.S.Store c.args.map.now c.args.self.now _ _)
 
 pub returns-in-Ok : goal.returns-in-Ok
 returns-in-Ok g c =
     let m = c.args.map.now in
-    looks_learned g.S.Store m c.args.self.now c.look_public.new.conn _ _ c.in-Ok.public _ c.learn.new.self c.in-Ok.ensures.selects
-    (λ kept ours clean. c.in-Ok.ensures.value kept clean ∙ sym (c.public_is_found.ensures m (tables_in g.S.Store c.args.self.now.conn) c.args.game.now))
+    looks_learned g.S.Store m c.args.self.now c.look_shared_public.new.conn _ _ c.in-Ok.public _ c.learn.new.self c.in-Ok.ensures.selects
+    (λ kept ours clean. c.in-Ok.ensures.value kept clean)
     (c.learn.ensures (said_by m (state g.S.Store c.args.self.now.conn).now.trees))
 
 pub returns-in-Err : goal.returns-in-Err
 returns-in-Err g c =
-    let m = c.args.map.now in
     rw (c.told.ensures.same, c.told.ensures.told, c.look_fault.ensures)
-    (looks_ill g.S.Store m c.args.self.now c.look_public.new.conn _ _ c.in-Err.fault _ c.in-Err.ensures.selects c.in-Err.ensures.own)
+    (looks_ill g.S.Store c.args.map.now c.args.self.now c.look_shared_public.new.conn _ _ c.in-Err.fault _ c.in-Err.ensures.selects c.in-Err.ensures.own)

@@ -11,6 +11,6 @@ returns-in_default-clause-value g c kept clean =
 
 pub returns-clause-value : goal.returns-clause-value
 returns-clause-value g c kept clean =
-    ap (λ (p : Public). Some (rows.public p)) c.in_ok-new.ensures.value
+    ap (λ (p : Public). Some (rows.public p)) c.in_ok-new.ensures.ok
     ∙ ap (λ (o : Option Public). option_map rows.public o) (sym c.in-Some.is) ∙ c.in_ok-public.ensures.value kept clean
     ∙ sym (c.public_is_found.ensures c.args.map.now (tables_in g.S.Store c.args.conn.now) c.args.game.now)

@@ -1,6 +1,5 @@
 pub mod Alone
 pub mod Prepared
-pub mod Fronts
 pub mod Leading
 pub mod Trying
 pub mod Listed

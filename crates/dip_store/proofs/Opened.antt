@@ -18,7 +18,7 @@ use Rattle.dip_store_sql.specs.Rows.{tables_of}
 use Rattle.dip_store_sql.proofs.Parts.{fails, went}
 use Rattle.dip_store_sql.specs.Schema.{our_schema}
 use Rattle.dip_store.specs.Founding.{Keeps}
-use Rattle.dip_store.specs.Known.{has_table, HasDeskTables, HasOldTables, HasOurTables, HasTablesOf}
+use Rattle.dip_store.specs.Known.{has_table, HasOldTables, HasOurTables, IsOfVersion1}
 use Rattle.dip_store.proofs.Ours.{ours_has_ballots}
 use Rattle.dip_store.proofs.Seeing.{recalls_none}
 use Rattle.std.proofs.lemmas.Bool.{false≢true}
@@ -185,15 +185,5 @@ module _ {S : Type 0} where
   pub faulted_there : (g : Ghosts S) (store h end : Held S) → h ≡ record store { step_limit = None } → has_faulted g h end → has_faulted g store end
   faulted_there g store h end is = subst (λ (k : Held S). has_faulted g k end) is
 
-  -- one that hasn't a desk's tables hasn't those of the version that its ballots tell
-  lacks_there : (store h : Held S) (b : Bool) → h ≡ record store { step_limit = None } → has_table (codes "ballot") h.schema ≡ b → (HasDeskTables store.schema → ⊥) → HasTablesOf b h.schema → ⊥
-  lacks_there store h b is has none there =
-      let same = ap (λ (x : Held S). x.schema) is in
-      let as_there : has_table (codes "ballot") store.schema ≡ b = subst (λ s. has_table (codes "ballot") s ≡ b) same has in
-      none (subst (λ c. HasTablesOf c store.schema) (sym as_there) (subst (HasTablesOf b) same there))
-
-  pub lacks_ours : (store h : Held S) → h ≡ record store { step_limit = None } → has_table (codes "ballot") h.schema ≡ true → (HasDeskTables store.schema → ⊥) → HasOurTables h.schema → ⊥
-  lacks_ours store h is has none there = lacks_there store h true is has none there
-
-  pub lacks_old : (store h : Held S) → h ≡ record store { step_limit = None } → has_table (codes "ballot") h.schema ≡ false → (HasDeskTables store.schema → ⊥) → HasOldTables h.schema → ⊥
-  lacks_old store h is has none there = lacks_there store h false is has none there
+  pub of_version_1 : (store h : Held S) → h ≡ record store { step_limit = None } → has_table (codes "ballot") h.schema ≡ false → HasOldTables h.schema → IsOfVersion1 store.schema
+  of_version_1 store h is none all = subst IsOfVersion1 (ap (λ (x : Held S). x.schema) is) (none, all)

@@ -20,7 +20,8 @@ use Rattle.sqlite.specs.Given.{IsPlain}
 use Rattle.dip_store_sql.specs.Causes.{Faulted, IsCaused}
 use Rattle.dip_store_sql.specs.Faults.{IsOfText}
 use Rattle.dip_store.specs.Alone.{LeavesAlone}
-use Rattle.dip_store.specs.Known.{IsKnown, IsWhole, is_of_text}
+use Rattle.dip_store_sql.specs.Asking.{IsWhole}
+use Rattle.dip_store.specs.Known.{IsKnown, is_of_text}
 use Rattle.dip_store_sql.proofs.Parts.{fails, went}
 
 -- a text that was prepared is understood

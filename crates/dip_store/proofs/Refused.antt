@@ -1,5 +1,5 @@
 -- Why a store isn't opened, by what was told of its tables and of its master's row.
-use Rattle.std.proofs.Common.{◌≡◌, ◌<◌, ◌^◌, ℕ, List, Option, Some, None, IfSome, true, false, length, option_map, refl, sym, ap, subst, ◌∙◌, inl, inr, arith}
+use Rattle.std.proofs.Common.{◌≡◌, ◌<◌, ◌^◌, ℕ, List, Option, Some, None, IfErr, IfSome, IsTrue, Ok, Err, Result, true, false, length, option_map, refl, sym, ap, subst, ◌∙◌, inl, inr, arith}
 use Rattle.std.specs.List.{find}
 use Rattle.sha2.specs.Sha256.{sha256}
 use Rattle.sha2.proofs.Facts256.{length-sha256}
@@ -7,6 +7,7 @@ use Rattle.sqlite.specs.declared.error.Error.{Error}
 use Rattle.sqlite.specs.declared.error.Error.TheVariants.{SqliteFailure}
 use Rattle.sqlite.specs.declared.error.ErrorCode.{ErrorCode}
 use Rattle.sqlite.specs.declared.error.ErrorCode.TheVariants as code
+use Rattle.sqlite.specs.State.{is_disk_error}
 use Rattle.dip_store.specs.Desk.{DeskSays, IsMarked, columns_of}
 use Rattle.dip_store_looks.specs.Faults.{IsFromOutside}
 use Rattle.dip_store.specs.declared.desk_row.DeskColumns.{DeskColumns}
@@ -15,7 +16,10 @@ use Rattle.dip_store_looks.specs.declared.faults.LookFault.TheVariants as looks
 use Rattle.dip_store_sql.specs.Causes.{IsCaused}
 use Rattle.dip_store_sql.specs.TablesAfter.{is_first}
 use Rattle.dip_store_tables.specs.Tables.{DeskRow, Tables}
-use Rattle.dip_store.specs.Faults.{open_code_fault, open_fault, row_fault, desk_fault}
+use Rattle.dip_store_sql.specs.Refusals.{IsBlamed, is_outage}
+use Rattle.sqlite.specs.Reading.{IsReadError}
+use Rattle.sqlite.specs.declared.types.Value.{Value}
+use Rattle.dip_store.specs.Faults.{IsLookBlamed, desk_fault, open_code_fault, open_fault, row_code_fault, row_fault}
 use Rattle.dip_store.specs.Refusing.{IsRefusedAs, Differs, IsOutage}
 use Rattle.dip_store.specs.declared.faults.StoreFault.{StoreFault}
 use Rattle.dip_store.specs.declared.faults.StoreFault.TheVariants.{Memory, Disk, OtherMap, OtherSchema}
@@ -33,11 +37,40 @@ pub open_blamed : (fault : Type 0) (e : Error) → IsCaused fault e → open_fau
 open_blamed fault e (inl memory) is = absurd (let bad : Memory ≡ Disk = ap open_fault (sym memory) ∙ is in cc)
 open_blamed fault e (inr disk) is = disk.1
 
-pub desk_blamed : (fault : Type 0) (e : LookFault) → IsFromOutside fault e → desk_fault e ≡ Disk → fault
-desk_blamed fault looks.Memory own is = absurd (cc)
-desk_blamed fault (looks.Query e) (inl memory) is = absurd (let bad : Memory ≡ Disk = ap row_fault (sym memory) ∙ is in cc)
-desk_blamed fault (looks.Query e) (inr disk) is = disk.1
-desk_blamed fault looks.Foreign own is = absurd own
+-- and of a query of rows, whatever the rows are
+code_told : (fault : Type 0) (c : ErrorCode) → IsBlamed fault (SqliteFailure c) → row_code_fault c ≡ Disk → fault
+code_told fault code.OutOfMemory blamed is = absurd (let x : Memory ≡ Disk = is in cc)
+code_told fault code.SystemIoFailure blamed is = blamed refl
+code_told fault code.DatabaseCorrupt blamed is = blamed refl
+code_told fault code.DiskFull blamed is = blamed refl
+code_told fault code.Closed blamed is = blamed refl
+code_told fault _ blamed is = absurd (let x : OtherSchema ≡ Disk = is in cc)
+
+row_told : (fault : Type 0) (e : Error) → IsBlamed fault e → row_fault e ≡ Disk → fault
+row_told fault (SqliteFailure c) blamed is = code_told fault c blamed is
+row_told fault _ blamed is = absurd (let x : OtherSchema ≡ Disk = is in cc)
+
+pub desk_told : (fault : Type 0) (e : LookFault) → IsLookBlamed fault e → desk_fault e ≡ Disk → fault
+desk_told fault looks.Memory blamed is = absurd (let x : Memory ≡ Disk = is in cc)
+desk_told fault (looks.Query e) blamed is = row_told fault e blamed is
+desk_told fault looks.Foreign blamed is = absurd (let x : OtherSchema ≡ Disk = is in cc)
+
+-- an error of reading a column is none of the disk
+unblamed : (at : ℕ) (v : Value) (e : Error) → IsReadError at v e → IsBlamed ⊥ e
+unblamed at v e (inl is) out = absurd (let x : false ≡ true = sym (ap is_outage is) ∙ out in cc)
+unblamed at v e (inr (inl is)) out = absurd (let x : false ≡ true = sym (ap is_outage is) ∙ out in cc)
+unblamed at v e (inr (inr (inl is))) out = absurd (let x : false ≡ true = sym (ap is_outage is) ∙ out in cc)
+unblamed at v e (inr (inr (inr (inl is)))) out = absurd (let x : false ≡ true = sym (ap is_outage is) ∙ out in cc)
+unblamed at v e (inr (inr (inr (inr is)))) out = absurd (let x : false ≡ true = sym (ap is_outage is) ∙ out in cc)
+
+pub read_unblamed : {X : Type 0} (r : Result X Error) (at : ℕ) (v : Value) → IfErr r (IsReadError at v) → IfErr r (IsBlamed ⊥)
+read_unblamed (Ok x) at v named = tt
+read_unblamed (Err e) at v named = unblamed at v e named
+
+pub look_blamed_more : (fault : Type 0) (e : LookFault) → IsLookBlamed ⊥ e → IsLookBlamed fault e
+look_blamed_more fault looks.Memory blamed = tt
+look_blamed_more fault (looks.Query e) blamed = λ out. absurd (blamed out)
+look_blamed_more fault looks.Foreign blamed = tt
 
 -- an outage is no word on the map, and refuses whatever the master's row says
 pub outage_no_map : (f : StoreFault) → IsOutage f → f ≡ OtherMap → ⊥
@@ -52,9 +85,15 @@ outage_refused version map_sum row Disk out = tt
 outage_refused version map_sum row OtherMap out = absurd out
 outage_refused version map_sum row OtherSchema out = absurd out
 
+disk_outage : (c : ErrorCode) → IsTrue (is_disk_error (SqliteFailure c)) → IsOutage (row_code_fault c)
+disk_outage code.SystemIoFailure disk = tt
+disk_outage code.DatabaseCorrupt disk = tt
+disk_outage code.DiskFull disk = tt
+disk_outage _ disk = absurd (let x : false ≡ true = disk in cc)
+
 caused_outage : (fault : Type 0) (e : Error) → IsCaused fault e → IsOutage (row_fault e)
 caused_outage fault e (inl memory) = subst (λ (x : Error). IsOutage (row_fault x)) (sym memory) tt
-caused_outage fault (SqliteFailure c) (inr disk) = code_outage c
+caused_outage fault (SqliteFailure c) (inr disk) = disk_outage c disk.0
 caused_outage fault _ (inr disk) = absurd (let x : false ≡ true = disk.0 in cc)
 
 desk_outage : (fault : Type 0) (e : LookFault) → IsFromOutside fault e → IsOutage (desk_fault e)
@@ -62,8 +101,13 @@ desk_outage fault looks.Memory own = tt
 desk_outage fault (looks.Query e) own = caused_outage fault e own
 desk_outage fault looks.Foreign own = absurd own
 
-code_no_map : (c : ErrorCode) → open_code_fault c ≡ OtherMap → ⊥
-code_no_map c = outage_no_map (open_code_fault c) (code_outage c)
+code_no_map : (c : ErrorCode) → row_code_fault c ≡ OtherMap → ⊥
+code_no_map code.OutOfMemory is = absurd (let x : Memory ≡ OtherMap = is in cc)
+code_no_map code.SystemIoFailure is = absurd (let x : Disk ≡ OtherMap = is in cc)
+code_no_map code.DatabaseCorrupt is = absurd (let x : Disk ≡ OtherMap = is in cc)
+code_no_map code.DiskFull is = absurd (let x : Disk ≡ OtherMap = is in cc)
+code_no_map code.Closed is = absurd (let x : Disk ≡ OtherMap = is in cc)
+code_no_map _ is = absurd (let x : OtherSchema ≡ OtherMap = is in cc)
 
 row_no_map : (e : Error) → row_fault e ≡ OtherMap → ⊥
 row_no_map (SqliteFailure c) is = code_no_map c is

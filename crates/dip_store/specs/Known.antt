@@ -1,6 +1,5 @@
 -- What a schema knows of the tables that a text names.
-use Rattle.std.specs.Prelude.{◌≡◌, ◌≤◌, ℕ, Bool, true, false, bytes_eq, codes, length, List, [], ◌∷◌, Ok}
-use Rattle.sqlite.specs.Given.{IsPlain}
+use Rattle.std.specs.Prelude.{◌≡◌, ℕ, Bool, true, false, bytes_eq, codes, List, [], ◌∷◌, Ok}
 use Rattle.sqlite.specs.declared.error.Error.{Error}
 use Rattle.sqlite.specs.declared.error.Error.TheVariants.{SqlInputError}
 use Rattle.std.specs.List.{AllByRecursion, list_any}
@@ -21,11 +20,6 @@ IsKnown schema text = (c : Compiled) × (understood schema text ≡ Ok c)
 abbrev pub is_of_text : Error → Bool
 is_of_text (SqlInputError fault) = true
 is_of_text _ = false
-
--- whatever a schema has: where the text is understood, it is one statement, writes nothing that it shows, and asks for no time
-pub record IsWhole (text : List ℕ) : Type 0 where
-  pub reads : (schema : Schema) (c : Compiled) → understood schema text ≡ Ok c
-      → (length text ≤ c.tail) × IsPlain (Ok c)
 
 -- for each table of version 1 a text that reads it, and for each of our tables
 abbrev pub old_texts : List (List ℕ)
@@ -62,10 +56,6 @@ HasOurTables schema = AllByRecursion (IsKnown schema) table_texts
 abbrev pub HasOldTables : Schema → Type 0
 HasOldTables schema = AllByRecursion (IsKnown schema) old_texts
 
--- those of the version that a schema is of: ours where it has a table of ballots, else those of version 1
-abbrev pub HasTablesOf : Bool → Schema → Type 0
-HasTablesOf true schema = HasOurTables schema
-HasTablesOf false schema = HasOldTables schema
-
-abbrev pub HasDeskTables : Schema → Type 0
-HasDeskTables schema = HasTablesOf (has_table (codes "ballot") schema) schema
+-- they are, and no table of ballots, which those of version 2 have
+abbrev pub IsOfVersion1 : Schema → Type 0
+IsOfVersion1 schema = (has_table (codes "ballot") schema ≡ false) × HasOldTables schema

@@ -1,11 +1,11 @@
 //! What is looked at before a store is opened.
-ghost use Rattle.std.specs.Prelude.{◌≡◌, IfErr, IfSome, IsErrOf, OnOk};
+ghost use Rattle.std.specs.Prelude.{◌≡◌, IfErr, IsErrOf, OnOk};
 ghost use Rattle.std.specs.List.{find};
 ghost use Rattle.sha2.specs.Sha256.{sha256};
 ghost use Rattle.sqlite.specs.Held.{state};
 ghost use Rattle.dip_map.specs.Charts.{Chart};
 ghost use Rattle.dip_store_sql.specs.Schema.{our_schema};
-ghost use Rattle.dip_store.specs.Desk.{DeskSays, IsMarked};
+ghost use Rattle.dip_store.specs.Desk.{DeskSays};
 ghost use Rattle.dip_store.specs.Known.{HasOldTables, HasOurTables};
 ghost use Rattle.dip_store_tables.specs.Legible.{AreOurs};
 ghost use Rattle.dip_store_sql.specs.Calls.{IsKept, Selects, does_show, is_honest, tables_in};
@@ -35,6 +35,7 @@ fn check_tables<S: Alter>(conn: &mut Connection<S>) -> Result<(), StoreFault>
         → OnOk result (HasOurTables (state S.Store conn.old).now.schema) }
     ensures ours { is_honest S.Store conn.new → (state S.Store conn.old).now.schema ≡ our_schema
         → IfErr result IsOutage }
+    ensures open_still { is_honest S.Store conn.new → OnOk result (does_show S.Store conn.new) }
     ensures caused { is_honest S.Store conn.new → does_show S.Store conn.old
         → IsErrOf result StoreFault.Disk → has_faulted S.Store conn.old conn.new }
     ensures tables_alone { IfErr result (λ f. f ≡ StoreFault.OtherMap → ⊥) }
@@ -74,9 +75,8 @@ fn check_row<S: Alter>(
         → is_honest S.Store conn.new → (m : Chart) → AreOurs m (tables_in S.Store conn.old)
         → IfErr result (IsRefusedAs version (sha256 map_text.now)
         (find is_first (tables_in S.Store conn.old).desk)) }
-    ensures caused { IsKept S.Store conn.old → does_show S.Store conn.old
-        → is_honest S.Store conn.new → (m : Chart) → AreOurs m (tables_in S.Store conn.old)
-        → IfSome (find is_first (tables_in S.Store conn.old).desk) IsMarked
+    // Whatever the store has, the disk is told of only where it told of a fault of it.
+    ensures caused { is_honest S.Store conn.new → does_show S.Store conn.old
         → IsErrOf result StoreFault.Disk → has_faulted S.Store conn.old conn.new }
     ensures selects { Selects S.Store conn.old conn.new result }
     // And of a store of version 1.
@@ -86,10 +86,6 @@ fn check_row<S: Alter>(
         → is_honest S.Store conn.new → (m : Chart) → WereOurs m (old_tables_in S.Store conn.old)
         → IfErr result (IsRefusedAs version (sha256 map_text.now)
         (find is_first (old_tables_in S.Store conn.old).desk)) }
-    ensures old_caused { WasKept S.Store conn.old → does_show S.Store conn.old
-        → is_honest S.Store conn.new → (m : Chart) → WereOurs m (old_tables_in S.Store conn.old)
-        → IfSome (find is_first (old_tables_in S.Store conn.old).desk) IsMarked
-        → IsErrOf result StoreFault.Disk → has_faulted S.Store conn.old conn.new }
     ensures old_selects { SelectsFrom (WasKept S.Store) S.Store conn.old conn.new result }
 {
     match read_desk(conn) {
@@ -116,13 +112,7 @@ pub(crate) fn check_desk<S: Alter>(
         → (m : Chart) → AreOurs m (tables_in S.Store conn.old)
         → IfErr result (IsRefused (sha256 map_text.now)
         (find is_first (tables_in S.Store conn.old).desk)) }
-    ensures caused { IsKept S.Store conn.old → does_show S.Store conn.old
-        → is_honest S.Store conn.new → (state S.Store conn.old).now.schema ≡ our_schema
-        → (m : Chart) → AreOurs m (tables_in S.Store conn.old)
-        → IfSome (find is_first (tables_in S.Store conn.old).desk) IsMarked
-        → IsErrOf result StoreFault.Disk → has_faulted S.Store conn.old conn.new }
-    ensures caused_elsewhere { is_honest S.Store conn.new → does_show S.Store conn.old
-        → (HasOurTables (state S.Store conn.old).now.schema → ⊥)
+    ensures caused { is_honest S.Store conn.new → does_show S.Store conn.old
         → IsErrOf result StoreFault.Disk → has_faulted S.Store conn.old conn.new }
     ensures selects { Selects S.Store conn.old conn.new result }
 {
@@ -138,6 +128,7 @@ fn check_old_tables<S: Alter>(conn: &mut Connection<S>) -> Result<(), StoreFault
     ensures own { is_honest S.Store conn.new → (state S.Store conn.old).now.schema ≡ old_schema
         → IfErr result IsOutage }
     ensures shown { is_honest S.Store conn.new → OnOk result (does_show S.Store conn.old) }
+    ensures open_still { is_honest S.Store conn.new → OnOk result (does_show S.Store conn.new) }
     ensures caused { is_honest S.Store conn.new → does_show S.Store conn.old
         → IsErrOf result StoreFault.Disk → has_faulted S.Store conn.old conn.new }
     ensures selects { SelectsFrom (WasKept S.Store) S.Store conn.old conn.new result }
@@ -165,12 +156,7 @@ pub(crate) fn check_old_desk<S: Alter>(
         → is_honest S.Store conn.new → (m : Chart) → WereOurs m (old_tables_in S.Store conn.old)
         → IfErr result (IsRefusedAs 1 (sha256 map_text.now)
         (find is_first (old_tables_in S.Store conn.old).desk)) }
-    ensures caused { WasKept S.Store conn.old → does_show S.Store conn.old
-        → is_honest S.Store conn.new → (m : Chart) → WereOurs m (old_tables_in S.Store conn.old)
-        → IfSome (find is_first (old_tables_in S.Store conn.old).desk) IsMarked
-        → IsErrOf result StoreFault.Disk → has_faulted S.Store conn.old conn.new }
-    ensures caused_elsewhere { is_honest S.Store conn.new → does_show S.Store conn.old
-        → (HasOldTables (state S.Store conn.old).now.schema → ⊥)
+    ensures caused { is_honest S.Store conn.new → does_show S.Store conn.old
         → IsErrOf result StoreFault.Disk → has_faulted S.Store conn.old conn.new }
     ensures selects { SelectsFrom (WasKept S.Store) S.Store conn.old conn.new result }
 {

@@ -5,6 +5,8 @@ ghost use Rattle.sqlite.specs.declared.types.Value.TheVariants.{Int, Blob as Byt
 ghost use Rattle.sqlite.specs.Order.{bytes, column};
 ghost use Rattle.dip_map.specs.Charts.{Chart};
 ghost use Rattle.dip_store.specs.Desk.{IsMarked, columns_of, shown_columns};
+ghost use Rattle.dip_store.specs.Faults.{IsLookBlamed};
+ghost use Rattle.dip_store_sql.specs.Refusals.{IsBlamed};
 ghost use Rattle.dip_store_looks.specs.Faults.{IsFromOutside};
 ghost use Rattle.dip_store_tables.specs.Legible.{AreOurs};
 ghost use Rattle.dip_store_sql.specs.Calls.{IsKept, Selects, does_show, is_honest, tables_in};
@@ -35,6 +37,7 @@ pub(crate) fn number_at(row: &Row, at: usize) -> Result<u32, Error>
     ensures value { IfOk result (λ n. column row.now at ≡ Int (pos n)) }
     ensures own { (n : ℕ) → at < length row.now → column row.now at ≡ Int (pos n) → n < 2 ^ 32
         → IfErr result (IsCaused ⊥) }
+    ensures blames { IfErr result (IsBlamed ⊥) }
 {
     row.get(at)
 }
@@ -43,6 +46,7 @@ fn bytes_at(row: &Row, at: usize) -> Result<Vec<u8>, Error>
     ensures value { IfOk result (λ v. column row.now at ≡ Bytes v.items) }
     ensures own { (b : List ℕ) → at < length row.now → column row.now at ≡ Bytes b
         → IfErr result (IsCaused ⊥) }
+    ensures blames { IfErr result (IsBlamed ⊥) }
 {
     row.get(at)
 }
@@ -52,6 +56,7 @@ fn digest_in(row: &Row, at: usize) -> Result<[u8; 32], LookFault>
     ensures value { IfOk result (λ d. d ≡ bytes (column row.now at)) }
     ensures own { (b : List ℕ) → at < length row.now → column row.now at ≡ Bytes b
         → length b ≡ 32 → IfErr result (IsFromOutside ⊥) }
+    ensures blames { IfErr result (IsLookBlamed ⊥) }
 {
     let found = bytes_at(row, at)?;
     match <[u8; 32]>::try_from(found.as_slice()) {
@@ -64,6 +69,7 @@ fn columns_in(row: &Row) -> Result<DeskColumns, LookFault>
     ensures value { IfOk result (λ d. d ≡ shown_columns row.now) }
     ensures own { (d : DeskRow) → row.now ≡ show_desk d → IsMarked d → IsDeskWritten d
         → IfErr result (IsFromOutside ⊥) }
+    ensures blames { IfErr result (IsLookBlamed ⊥) }
 {
     Ok(DeskColumns {
         version: number_at(row, 0)?,
@@ -85,6 +91,9 @@ pub fn read_desk<S: Alter>(conn: &mut Connection<S>) -> Result<Option<DeskColumn
         → (m : Chart) → AreOurs m (tables_in S.Store conn.old)
         → IfSome (find is_first (tables_in S.Store conn.old).desk) IsMarked
         → IfErr result (IsFromOutside (has_faulted S.Store conn.old conn.new)) }
+    // Whatever the store has, the disk is told of only where it told of a fault of it.
+    ensures blames { does_show S.Store conn.old → is_honest S.Store conn.new
+        → IfErr result (IsLookBlamed (has_faulted S.Store conn.old conn.new)) }
     // And of a store of version 1.
     ensures old_value { WasKept S.Store conn.old → is_honest S.Store conn.new → IfOk result (λ o. o
         ≡ option_map columns_of (find is_first (old_tables_in S.Store conn.old).desk)) }

@@ -147,12 +147,28 @@ pub fn open_fault(error: Error) -> StoreFault
     }
 }
 
-/// The fault for an error of the query for the master's row: where it isn't the disk nor want of memory, a column doesn't read.
+/// The fault for a failure of a query of a database that is opened: want of memory, or the disk; any other shows that the tables aren't
+/// a desk's.
+fn row_code_fault(code: ErrorCode) -> StoreFault
+    ensures { result ≡ told.row_code_fault code }
+{
+    match code {
+        ErrorCode::OutOfMemory => StoreFault::Memory,
+        ErrorCode::SystemIoFailure
+        | ErrorCode::DatabaseCorrupt
+        | ErrorCode::DiskFull
+        | ErrorCode::Closed => StoreFault::Disk,
+        _ => StoreFault::OtherSchema,
+    }
+}
+
+/// The fault for an error of such a query: where it isn't the disk nor want of memory, the tables aren't a desk's, or a column doesn't
+/// read.
 fn row_fault(error: Error) -> StoreFault
     ensures { result ≡ told.row_fault error }
 {
     match error {
-        Error::SqliteFailure(code) => open_code_fault(code),
+        Error::SqliteFailure(code) => row_code_fault(code),
         _ => StoreFault::OtherSchema,
     }
 }

@@ -11,7 +11,8 @@ ghost use Rattle.dip_store.specs.Alone.{LeavesAlone};
 ghost use Rattle.dip_store_sql.specs.Old.{old_schema};
 ghost use Rattle.dip_store_sql.specs.Calls.{SelectsFrom, WasKept};
 ghost use Rattle.dip_store.specs.Known as told;
-ghost use Rattle.dip_store.specs.Known.{has_table, HasOldTables, HasOurTables, IsKnown, IsWhole};
+ghost use Rattle.dip_store.specs.Known.{has_table, HasOldTables, HasOurTables, IsKnown};
+ghost use Rattle.dip_store_sql.specs.Asking.{IsWhole};
 
 use sqlite::{Alter, Connection, Error};
 

@@ -1,12 +1,12 @@
 //! A keeper over a store that is made, or opened.
-ghost use Rattle.std.specs.Prelude.{◌≡◌, ◌≤◌, ◌⊎◌, [], IfErr, IfOk, IfSome, IsTrue, None, false};
+ghost use Rattle.std.specs.Prelude.{◌≡◌, ◌≤◌, ◌⊎◌, [], IfErr, IfOk, IsTrue, None, false};
 ghost use Rattle.std.specs.List.{find};
 ghost use Rattle.sha2.specs.Sha256.{sha256};
 ghost use Rattle.sqlite.specs.Held.{state};
 ghost use Rattle.sqlite.specs.Tree.{Trees};
 ghost use Rattle.dip_store_sql.specs.Creating.{no_schema};
-ghost use Rattle.dip_store.specs.Desk.{DeskSays, IsMarked};
-ghost use Rattle.dip_store.specs.Known.{HasDeskTables, HasOldTables, HasOurTables};
+ghost use Rattle.dip_store.specs.Desk.{DeskSays};
+ghost use Rattle.dip_store.specs.Known.{HasOldTables, HasOurTables, IsOfVersion1};
 ghost use Rattle.dip_store_sql.specs.Calls.{does_show, is_honest, tables_in};
 ghost use Rattle.dip_store_sql.specs.Causes.{has_faulted};
 ghost use Rattle.dip_store_sql.specs.TablesAfter.{is_first};
@@ -131,16 +131,14 @@ impl<S: Alter> SqlKeeper<S> {
             → does_show S.Store store → WereOurs map.now (old_tables_in S.Store store)
             → IsRefusedAs 1 (sha256 map_text.now)
             (find is_first (old_tables_in S.Store store).desk) e.0) }
-        // The disk is told of only where the store told of a fault of it, but for a store that this
-        // map's text lets be made anew: there a row may also be too long, or without a number.
-        ensures caused { IfErr result (λ e. is_honest S.Store e.1 → WasKept S.Store store
-            → does_show S.Store store → WereOurs map.now (old_tables_in S.Store store)
-            → IfSome (find is_first (old_tables_in S.Store store).desk) IsMarked
+        // The disk is told of only where the store told of a fault of it, but for a store that is
+        // made anew: there a row may also be too long, or without a number.
+        ensures caused { IfErr result (λ e. is_honest S.Store e.1 → does_show S.Store store
             → e.0 ≡ StoreFault.Disk → has_faulted S.Store store e.1
+            ⊎ HasOldTables (state S.Store store).now.schema) }
+        ensures caused_of_ours { IfErr result (λ e. is_honest S.Store e.1 → WasKept S.Store store
+            → does_show S.Store store → e.0 ≡ StoreFault.Disk → has_faulted S.Store store e.1
             ⊎ DeskSays 1 (sha256 map_text.now) (old_tables_in S.Store store)) }
-        ensures caused_elsewhere { IfErr result (λ e. is_honest S.Store e.1
-            → does_show S.Store store → (HasOldTables (state S.Store store).now.schema → ⊥)
-            → e.0 ≡ StoreFault.Disk → has_faulted S.Store store e.1) }
         ensures same { IfErr result (λ e. does_show S.Store e.1 → WasKept S.Store store
             → (state S.Store e.1).committed ≡ (state S.Store store).committed) }
         ensures left { IfErr result (λ e. is_honest S.Store e.1 → WasKept S.Store store
@@ -177,10 +175,10 @@ impl<S: Alter> SqlKeeper<S> {
     /// in one transaction: its votes become ballots, and all else stays.
     ///
     /// # Errors
-    /// `OtherSchema` where a table isn't there, or the master's row isn't or is of another version; `OtherMap` where that row says
-    /// another map. Of a store that keepers wrote these are told nowhere else. `Memory`; `Disk` also for a store with a transaction
-    /// under way: of one without a desk's tables, whatever it has, and of one that keepers wrote, only where the store told of a fault
-    /// of the disk, or a row of version 1 can't be written anew. The store is handed back, and nothing of it changes.
+    /// `OtherSchema` where a table isn't there, or the master's row isn't, doesn't read or is of another version; `OtherMap` where that
+    /// row says another map. Of a store that keepers wrote these are told nowhere else. `Memory`; `Disk` also for a store with a
+    /// transaction under way, and else only where the store told of a fault of the disk, or its tables of version 1 can't be made anew.
+    /// The store is handed back, and nothing of it changes.
     pub fn open(
         alloc: Global,
         store: Connection<S>,
@@ -206,16 +204,12 @@ impl<S: Alter> SqlKeeper<S> {
         ensures own { IfErr result (λ e. is_honest S.Store e.1
             → IsStore map.now (state S.Store store).now
             → DeskSays 2 (sha256 map_text.now) (tables_in S.Store store) → IsOutage e.0) }
-        // Of a desk, whatever its version and its map, the disk is told of only where the store told
-        // of a fault of it.
-        ensures caused { IfErr result (λ e. is_honest S.Store e.1 → IsDesk S.Store map.now store
-            → IfSome (find is_first (tables_in S.Store store).desk) IsMarked
-            → e.0 ≡ StoreFault.Disk → has_faulted S.Store store e.1) }
-        // Nor is it of a store that hasn't a desk's tables, whatever it has.
-        ensures caused_elsewhere { IfErr result (λ e. is_honest S.Store e.1
-            → does_show S.Store store → store.in_transaction ≡ false
-            → (HasDeskTables (state S.Store store).now.schema → ⊥)
-            → e.0 ≡ StoreFault.Disk → has_faulted S.Store store e.1) }
+        // Whatever a store has, the disk is told of only where a transaction was under way, or the
+        // store told of a fault of it, or it has the tables of version 1, to be made anew.
+        ensures caused { IfErr result (λ e. is_honest S.Store e.1 → does_show S.Store store
+            → e.0 ≡ StoreFault.Disk → IsTrue store.in_transaction
+            ⊎ (has_faulted S.Store store e.1
+            ⊎ IsOfVersion1 (state S.Store store).now.schema)) }
         ensures same { IfErr result (λ e. does_show S.Store e.1
             → IsStore map.now (state S.Store store).now
             → (state S.Store e.1).committed ≡ (state S.Store store).committed) }
@@ -240,7 +234,6 @@ impl<S: Alter> SqlKeeper<S> {
         // where its master's row let it be made anew.
         ensures old_caused { IfErr result (λ e. is_honest S.Store e.1
             → IsOldDesk S.Store map.now store
-            → IfSome (find is_first (old_tables_in S.Store store).desk) IsMarked
             → e.0 ≡ StoreFault.Disk → has_faulted S.Store store e.1
             ⊎ DeskSays 1 (sha256 map_text.now) (old_tables_in S.Store store)) }
         ensures old_same { IfErr result (λ e. does_show S.Store e.1

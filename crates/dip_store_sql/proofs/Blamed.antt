@@ -22,17 +22,17 @@ use Rattle.sqlite.specs.Tree.{Trees}
 use Rattle.sqlite.specs.Table.{Table}
 use Rattle.sqlite.specs.Schema.{Schema}
 use Rattle.sqlite.specs.Command.{Command}
-use Rattle.sqlite.specs.Command.TheVariants.{Insert, Update, Delete}
+use Rattle.sqlite.specs.Command.TheVariants.{Delete, Insert, Rows, Select, Update}
 use Rattle.sqlite.specs.Source.{Source}
 use Rattle.sqlite.specs.Source.TheVariants.{Values, Query}
 use Rattle.sqlite.specs.Rowids.TheVariants.{Given}
-use Rattle.sqlite.specs.Effect.{Database, RefusesQuery, edit_error}
+use Rattle.sqlite.specs.Effect.{Database, RefusesQuery, RefusesToRead, edit_error}
 use Rattle.sqlite.specs.Does.{AtPlace, Concludes, Counted, Does, OnRows, Returns, Shows, Tally, Tested, WritesRows}
 use Rattle.sqlite.specs.Rows.{Counter, CounterIn, Counts, CountsIn, Edited, Gives, Inserts, Part, Queried, Refuses, Sourced, Task, Then, Written, count_of, counting, higher, last_id, rowids_for, sequence, shown, stamped}
 use Rattle.sqlite.specs.Listing.{understood}
 use Rattle.sqlite.specs.Clock.{timed}
 use Rattle.sqlite.specs.declared.run.Mode.{Mode}
-use Rattle.sqlite.specs.State.{State, Executes, ExecutesIn, HasCause, IsMisplaced, IsNotRun, RunsAlone, RunsCommand, mode_of, shows_rows, store_error, text_of}
+use Rattle.sqlite.specs.State.{State, Executes, ExecutesIn, FailsToQuery, HasCause, IsMisplaced, IsNotRun, RunsAlone, RunsCommand, mode_of, shows_rows, store_error, text_of}
 use Rattle.dip_store_sql.specs.Causes.{Faulted}
 use Rattle.dip_store_sql.specs.Refusals.{IsBlamed, IsWant, is_outage}
 use Rattle.dip_store_sql.proofs.Failing.{edits_rows}
@@ -74,6 +74,11 @@ query_calm : (limit : Option ℕ) (db : Database) (q : Program) (params : Row) (
 query_calm limit db q params e (inl h) = ap is_outage h.0
 query_calm limit db q params e (inr (inl h)) = ap is_outage h.0
 query_calm limit db q params e (inr (inr h)) = ap is_outage h.0
+
+read_calm : (limit : Option ℕ) (command : Command) (db : Database) (params : Row) (e : Error) → RefusesToRead limit command db params e → is_outage e ≡ false
+read_calm limit (Select q names) db params e h = query_calm limit db q params e h
+read_calm limit (Rows values width names) db params e h = ap is_outage h.0
+read_calm limit _ db params e h = ap is_outage h
 
 queried_calm : (limit : Option ℕ) (db : Database) (q : Program) (params : Row) → IsCalm (Queried limit db q params)
 queried_calm limit db q params e h = query_calm limit db q params e h
@@ -227,6 +232,12 @@ module _ (sql : List ℕ) (params : Row) (old new : State) (e : Error) (up : IsT
   unfolding ExecutesIn
   executes_blamed calm (inl h) = not_run_blamed h
   executes_blamed calm (inr h) = alone_blamed h.0 (timed params h.0.formats h.1.now) (calm h.0 h.1.is) (shows_rows false h.0) refl h.2
+
+  -- a query whose text shows nothing that it writes
+  pub queries_blamed : ((c : Compiled) → understood old.now.schema sql ≡ Ok c → c.returning ≡ None) → FailsToQuery sql params old new e → IsBlamed (Faulted old new) e
+  unfolding FailsToQuery
+  queries_blamed silent (inl h) = not_run_blamed h
+  queries_blamed silent (inr h) = let it = rw (silent h.0 h.1.is) at h.2 in calm_blamed (read_calm old.step_limit h.0.command it.0 (timed params h.0.formats h.1.now) e it.2)
 
 -- ---- a part of a call
 

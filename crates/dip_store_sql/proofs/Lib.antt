@@ -20,6 +20,7 @@ pub mod Apart
 pub mod Casting
 pub mod Caused
 pub mod Found
+pub mod Fronts
 pub mod New
 pub mod Numbered
 pub mod Parts

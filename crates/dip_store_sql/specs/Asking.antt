@@ -1,5 +1,5 @@
 -- What is said of the text of a statement, and of a query.
-use Rattle.std.specs.Prelude.{◌≡◌, ℕ, pos, true, false, List, [], ◌∷◌, length, Result, Ok, Err, nat_le}
+use Rattle.std.specs.Prelude.{◌≡◌, ◌≤◌, ℕ, pos, true, false, List, [], ◌∷◌, length, Result, Ok, Err, nat_le}
 use Rattle.sqlite.specs.declared.types.Value.TheVariants.{Int}
 use Rattle.sqlite.specs.Order.{Row}
 use Rattle.sqlite.specs.Term.{Term, lit, col, op2}
@@ -47,6 +47,11 @@ command_in (Err e) command = ⊥
 abbrev pub IsAsked : ℕ → ℕ → Result Compiled CompileError → Type 0
 IsAsked size count (Ok c) = (nat_le size c.tail ≡ true) × (length c.names ≡ count)
 IsAsked size count (Err e) = ⊥
+
+-- whatever a schema has: where the text is understood, it is one statement, writes nothing that it shows, and asks for no time
+pub record IsWhole (text : List ℕ) : Type 0 where
+  pub reads : (schema : Schema) (c : Compiled) → understood schema text ≡ Ok c
+      → (length text ≤ c.tail) × IsPlain (Ok c)
 
 -- against this schema the text is this command
 abbrev pub MeansIn : Schema → List ℕ → Command → Type 0

@@ -4,6 +4,7 @@ ghost use Rattle.std.specs.List.{find};
 ghost use Rattle.dip_store_tables.specs.Tables.{is_ballot, is_choice_in, is_named, is_seat};
 ghost use Rattle.dip_store_sql.specs.Calls.{IsKept, Selects, SelectsFrom, WasKept, does_show, is_honest, old_tables_in, tables_in};
 ghost use Rattle.dip_store_sql.specs.Causes.{IsCaused, has_faulted};
+ghost use Rattle.dip_store_sql.specs.Refusals.{IsBlamed};
 ghost use Rattle.dip_store_sql.specs.Showing.{is_item, is_numbered, show_ballot, show_choice, show_desk, show_game, show_item, show_paper, show_papers, show_seat, show_sent};
 ghost use Rattle.dip_store_sql.specs.TablesAfter.{is_first};
 
@@ -24,6 +25,9 @@ pub fn find_desk<S: Alter>(conn: &mut Connection<S>) -> Result<Option<Row>, Erro
     ensures old_caused { WasKept S.Store conn.old → does_show S.Store conn.old
         → is_honest S.Store conn.new
         → IfErr result (IsCaused (has_faulted S.Store conn.old conn.new)) }
+    // Whatever the store has, the disk is told of only where it told of a fault of it.
+    ensures blames { does_show S.Store conn.old → is_honest S.Store conn.new
+        → IfErr result (IsBlamed (has_faulted S.Store conn.old conn.new)) }
 {
     match conn.query_all(
         "SELECT version, map, digest, last, kept, reply FROM desk WHERE id = 1",

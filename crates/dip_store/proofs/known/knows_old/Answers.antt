@@ -2,7 +2,7 @@ use Rattle.std.proofs.Common.{arith}
 use Rattle.dip_store_sql.proofs.Selecting.{old_lasts}
 use Rattle.dip_store.specs.Known.{HasOldTables}
 use Rattle.dip_store.proofs.Quiet.{alone_selects}
-use Rattle.dip_store.proofs.Fronts as whole
+use Rattle.dip_store_sql.proofs.Fronts as whole
 use Rattle.dip_store.proofs.Ours.{all_known, known_of_old}
 use Rattle.dip_store.proofs.known.knows_old.Goals as goal
 

@@ -1,9 +1,12 @@
 use Rattle.std.proofs.Common.{[], refl}
+use Rattle.sqlite.specs.Held.{state}
 use Rattle.dip_store_sql.specs.Asking.{by_first}
 use Rattle.dip_store_sql.specs.Statements as text
 use Rattle.dip_store_sql.proofs.Accepted as accepted
 use Rattle.dip_store_sql.proofs.Texts as means
+use Rattle.dip_store_sql.proofs.Blamed.{queries_blamed}
 use Rattle.dip_store_sql.proofs.Found.{fails_caused}
+use Rattle.dip_store_sql.proofs.Fronts as whole
 use Rattle.dip_store_sql.proofs.Selecting.{kept_lasts, old_lasts, selects_all, selects_all_err}
 use Rattle.dip_store_sql.proofs.Answering as answers
 use Rattle.dip_store_sql.proofs.lookups.find_desk.Goals as goal
@@ -36,4 +39,7 @@ returns-in-Err g c = record {
   old_caused = λ kept shows clean.
       fails_caused text.find_desk_text [] 0 0 by_first text.find_desk_shown [] _ means.find_old_desk accepted.find_old_desk refl _ _ kept.good.schema kept.unlimited shows.1
       c.in-Err.error (c.in-Err.ensures.err clean);
+  blames = λ shows clean.
+      queries_blamed text.find_desk_text [] (state g.S.Store c.args.conn.now) (state g.S.Store c.query_all.new.self) c.in-Err.error shows.1
+      (λ k is. (whole.find_desk.reads (state g.S.Store c.args.conn.now).now.schema k is).1.0) (c.in-Err.ensures.err clean);
 }

@@ -1,8 +1,8 @@
-use Rattle.std.proofs.Common.{◌⊎◌, inl, inr, Err, IfSome, ap, arith, subst, sym, ◌∙◌}
+use Rattle.std.proofs.Common.{◌⊎◌, inl, inr, Err, ap, arith, subst, sym, ◌∙◌}
 use Rattle.std.specs.List.{find}
 use Rattle.sha2.specs.Sha256.{sha256}
 use Rattle.sqlite.specs.Held.{Held}
-use Rattle.dip_store.specs.Desk.{DeskSays, IsMarked}
+use Rattle.dip_store.specs.Desk.{DeskSays}
 use Rattle.dip_store_sql.specs.Calls.{does_show, old_tables_in, tables_in}
 use Rattle.dip_store_sql.specs.Causes.{has_faulted}
 use Rattle.dip_store_sql.specs.TablesAfter.{is_first}
@@ -13,7 +13,7 @@ use Rattle.dip_store_tables.specs.Renewing.{WereOurs}
 use Rattle.dip_store.specs.Opening.{MayRenew, Opens}
 use Rattle.dip_store.specs.Renewing.{IsOldStore, old_said_by}
 use Rattle.dip_store.specs.Refusing.{IsRefused, IsRefusedAs}
-use Rattle.dip_store.proofs.Opened.{ends_refused, err_turned, faulted_there, has_them, if_err, kept_from, known_there, lacks_old, lacks_ours, ok_turned, old_there, opens_old, there}
+use Rattle.dip_store.proofs.Opened.{ends_refused, err_turned, faulted_there, has_them, if_err, kept_from, known_there, of_version_1, ok_turned, old_there, opens_old, there}
 use Rattle.dip_store.proofs.Refused.{own_outage}
 use Rattle.dip_store.proofs.Renewal.{desk_still, ends_either, err_all, err_both, has_none, ok_both, same_base, same_store, was_kept}
 use Rattle.dip_store.specs.declared.faults.StoreFault.{StoreFault}
@@ -84,34 +84,21 @@ returns-in-Err-clause-ends g c clean desk =
     c.is_autocommit.result (c.is_autocommit.ensures.value, c.is_autocommit.ensures.settled, c.if-not-is_autocommit.false, rw c.set_step_limit.ensures desk.shows) c.commits_last.ensures c.in-Err.ensures.selects clean
 
 pub returns-in-Err-clause-caused : goal.returns-in-Err-clause-caused
-returns-in-Err-clause-caused g c clean desk there_marked is =
-    let m = c.args.map.now in
-    let h = c.set_step_limit.new.self in
-    let it = there g.S.Store m c.args.store desk.wrote h c.set_step_limit.ensures in
-    let shows : does_show g.S.Store h = rw c.set_step_limit.ensures desk.shows in
-    let kept = kept_from g.S.Store m c.args.store desk.wrote h c.set_step_limit.ensures
-    c.is_autocommit.result (c.is_autocommit.ensures.value, c.is_autocommit.ensures.settled, c.if-not-is_autocommit.false, shows) in
-    let marked = subst (λ (t : Tables). IfSome (find is_first t.desk) IsMarked) (sym it.0) there_marked in
-    faulted_there g.S.Store c.args.store h c.check_desk.new.conn c.set_step_limit.ensures
-    (c.in-Err.ensures.caused kept.0 shows clean it.1 m it.2 marked (ap (λ (f : StoreFault). Err f) is))
-
--- one with other tables
-pub returns-in-Err-clause-caused_elsewhere : goal.returns-in-Err-clause-caused_elsewhere
-returns-in-Err-clause-caused_elsewhere g c clean shows idle none is =
+returns-in-Err-clause-caused g c clean shows is =
     let h = c.set_step_limit.new.self in
     let there : does_show g.S.Store h = rw c.set_step_limit.ensures shows in
-    let lacks = lacks_ours c.args.store h c.set_step_limit.ensures (sym c.has_ballots.ensures.value ∙ c.if-not-has_ballots.false) none in
-    faulted_there g.S.Store c.args.store h c.check_desk.new.conn c.set_step_limit.ensures
-    (c.in-Err.ensures.caused_elsewhere clean there lacks (ap (λ (f : StoreFault). Err f) is))
+    inr (inl (faulted_there g.S.Store c.args.store h c.check_desk.new.conn c.set_step_limit.ensures (c.in-Err.ensures.caused clean there (ap (λ (f : StoreFault). Err f) is))))
 
-pub returns-then-not-has_ballots-clause-caused_elsewhere : goal.returns-then-not-has_ballots-clause-caused_elsewhere
-returns-then-not-has_ballots-clause-caused_elsewhere g c =
+pub returns-then-not-has_ballots-clause-caused : goal.returns-then-not-has_ballots-clause-caused
+returns-then-not-has_ballots-clause-caused g c =
     let h = c.set_step_limit.new.self in
-    err_turned _ _ c.open_old.result (λ e caused clean shows idle none is.
+    err_turned _ _ c.open_old.result (λ e caused clean shows is.
     let there : does_show g.S.Store h = rw c.set_step_limit.ensures shows in
-    let lacks = lacks_old c.args.store h c.set_step_limit.ensures (sym c.has_ballots.ensures.value ∙ c.if-not-has_ballots.true) none in
-    faulted_there g.S.Store c.args.store h e.1 c.set_step_limit.ensures (caused clean there lacks is))
-    c.open_old.ensures.caused_elsewhere
+    elim (caused clean there is) [
+      | inl fault ↦ inr (inl (faulted_there g.S.Store c.args.store h e.1 c.set_step_limit.ensures fault))
+      | inr all ↦ inr (inr (of_version_1 c.args.store h c.set_step_limit.ensures (sym c.has_ballots.ensures.value ∙ c.if-not-has_ballots.true) all))
+    ])
+    c.open_old.ensures.caused
 
 -- a store of version 1
 pub returns-then-not-has_ballots-clause-renewed : goal.returns-then-not-has_ballots-clause-renewed
@@ -188,16 +175,14 @@ returns-then-not-has_ballots-clause-old_caused g c =
     let m = c.args.map.now in
     let h = c.set_step_limit.new.self in
     let same = same_store g.S.Store m c.args.store h c.set_step_limit.ensures in
-    err_turned _ _ c.open_old.result (λ e caused clean desk marked is.
+    err_turned _ _ c.open_old.result (λ e caused clean desk is.
     let shows : does_show g.S.Store h = rw c.set_step_limit.ensures desk.shows in
     let kept = was_kept g.S.Store m c.args.store desk.wrote h c.set_step_limit.ensures c.is_autocommit.result (c.is_autocommit.ensures.value, c.is_autocommit.ensures.settled, c.if-not-is_autocommit.false, shows) in
-    let ours = subst (λ (d : Database). WereOurs m (old_tables_of d.trees)) (sym same) desk.wrote.ours in
-    let there = subst (λ (d : Database). IfSome (find is_first (old_tables_of d.trees).desk) IsMarked) (sym same) marked in
-    elim (caused clean kept shows ours there is) [
+    elim (caused clean kept shows is) [
       | inl fault ↦ inl (faulted_there g.S.Store c.args.store h e.1 c.set_step_limit.ensures fault)
       | inr says ↦ inr (subst (λ (d : Database). DeskSays 1 (sha256 c.args.map_text.now) (old_tables_of d.trees)) same says)
     ])
-    c.open_old.ensures.caused
+    c.open_old.ensures.caused_of_ours
 
 -- one of version 2 is none of version 1
 pub returns-in-Ok-clause-renewed : goal.returns-in-Ok-clause-renewed
@@ -221,4 +206,4 @@ pub returns-in-Err-clause-old_ends : goal.returns-in-Err-clause-old_ends
 returns-in-Err-clause-old_ends g c clean desk = absurd (has_none g.S.Store c.args.map.now c.args.store c.set_step_limit.new.self c.set_step_limit.ensures (sym c.has_ballots.ensures.value ∙ c.if-not-has_ballots.false) desk.wrote)
 
 pub returns-in-Err-clause-old_caused : goal.returns-in-Err-clause-old_caused
-returns-in-Err-clause-old_caused g c clean desk marked is = absurd (has_none g.S.Store c.args.map.now c.args.store c.set_step_limit.new.self c.set_step_limit.ensures (sym c.has_ballots.ensures.value ∙ c.if-not-has_ballots.false) desk.wrote)
+returns-in-Err-clause-old_caused g c clean desk is = absurd (has_none g.S.Store c.args.map.now c.args.store c.set_step_limit.new.self c.set_step_limit.ensures (sym c.has_ballots.ensures.value ∙ c.if-not-has_ballots.false) desk.wrote)

@@ -5,13 +5,13 @@ use Rattle.sqlite.specs.Compile.{command, compiled, first, meaning, planned, ret
 use Rattle.sqlite.specs.Given.{IsPlain}
 use Rattle.sqlite.specs.Listing.{if_select, is_select, listing_schema, reads_listing, understood}
 use Rattle.sqlite.specs.Schema.{Schema}
+use Rattle.sqlite_resolve.specs.declared.compiled.Compiled.{Compiled}
 use Rattle.sqlite_resolve.specs.Lowering.{Checked, and_then}
 use Rattle.sqlite_syntax.specs.declared.statement.Parsed.{Parsed}
 use Rattle.sqlite_tied.specs.Compute.{everything}
-use Rattle.dip_store_sql.specs.Compiled.{Compiled}
+use Rattle.dip_store_sql.specs.Asking.{IsWhole}
 use Rattle.dip_store_sql.specs.Statements as text
 use Rattle.dip_store_sql.proofs.Found.{within}
-use Rattle.dip_store.specs.Known.{IsWhole}
 
 then_ok : {A B : Type 0} (r : Checked A) (f : A → Checked B) (b : B) → and_then r f ≡ Ok b → (a : A) × (r ≡ Ok a) × (f a ≡ Ok b)
 then_ok (Ok a) f b h = (a, refl, h)

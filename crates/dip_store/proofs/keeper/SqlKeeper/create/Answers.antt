@@ -1,8 +1,10 @@
-use Rattle.std.proofs.Common.{inr, refl, sym, subst, ◌∙◌}
-use Rattle.sqlite.specs.Held.{Held}
+use Rattle.std.proofs.Common.{rules, ◌≡◌, ◌⊎◌, ℕ, List, inr, refl, sym, subst, ◌∙◌}
+use Rattle.sha2.specs.Sha256.{sha256}
+use Rattle.sqlite.specs.Held.{Held, state}
 use Rattle.dip_store_sql.specs.Calls.{does_show}
 use Rattle.dip_store_sql.specs.Causes.{has_faulted}
-use Rattle.dip_store.specs.Founding.{IsNewStore}
+use Rattle.dip_store.specs.Founding.{Founds, IsNewStore}
+use Rattle.dip_store_tables.specs.Writing.{new_tables}
 use Rattle.dip_store.proofs.Opened.{opens_new}
 use Rattle.dip_store.proofs.Refused.{open_blamed}
 use Rattle.dip_store.proofs.keeper.SqlKeeper.create.Goals as goal
@@ -16,6 +18,17 @@ returns-in-Ok-clause-opened g c =
     rw c.over.ensures
     (λ clean. opens_new g.S.Store c.args.map.now c.args.alloc c.found.new.conn c.commits_last.ensures _ c.args.digest.now c.facts.ensures (c.new_tables_are_new.ensures c.args.map.now) c.new_tables_are_legible.ensures c.has_32.ensures
     (c.in-Ok.ensures.kept new clean) (c.in-Ok.ensures.ok clean))
+
+-- the limit of steps is nothing that a crash could leave
+pub returns-in-Ok-clause-crash : goal.returns-in-Ok-clause-crash
+returns-in-Ok-clause-crash g c =
+    let h = c.set_step_limit.new.self in
+    let sum : c.sum.result ≡ sha256 c.args.map_text.now = search rules in
+    rw c.over.ensures
+    (λ clean db may. subst (λ (h : Held _). (state g.S.Store h).may_leave db ⊎ Founds (new_tables (sha256 c.args.map_text.now) c.args.digest.now) (state g.S.Store h) db)
+    c.set_step_limit.ensures
+    (subst (λ (s : List ℕ). (state g.S.Store h).may_leave db ⊎ Founds (new_tables s c.args.digest.now) (state g.S.Store h) db) sum
+    (c.in-Ok.ensures.crash.crash clean db may)))
 
 pub returns-in-Err-clause-caused : goal.returns-in-Err-clause-caused
 returns-in-Err-clause-caused g c clean shows is =

@@ -2,8 +2,10 @@
 //! It is what a programmer writes who proves nothing: hash maps, shared nothing, one buffer a reply, one write a reply.
 //! `bench/beside/run` compiles it and times it beside the judge, over the same bytes, whose replies have to be the same.
 use std::collections::{BTreeMap, HashMap};
+use std::fmt::Write as _;
 use std::fs;
 use std::io::{self, Read, Write};
+use std::os::fd::AsFd;
 
 type Code = [u8; 3];
 type Sum = [u8; 32];
@@ -86,8 +88,8 @@ struct Map {
     army: HashMap<Code, Vec<Code>>,
     fleet: HashMap<(Code, String), Vec<(Code, String)>>,
     coasts: HashMap<Code, Vec<String>>,
-    homes: Vec<(String, Code)>,
-    units: Vec<(String, u8, Code, String)>,
+    homes: Vec<(usize, Code)>,
+    units: Vec<(usize, u8, Code, String)>,
 }
 
 fn code_of(text: &str) -> Code {
@@ -116,10 +118,13 @@ fn read_map(path: &str) -> Map {
             "fleet" => {
                 map.fleet.insert(place_of(words[1]), words[2..].iter().map(|it| place_of(it)).collect());
             }
-            "home" => map.homes.push((words[1].into(), code_of(words[2]))),
+            "home" => {
+                let power = map.power(words[1]).unwrap();
+                map.homes.push((power, code_of(words[2])));
+            }
             _ => {
-                let (code, coast) = place_of(words[3]);
-                map.units.push((words[1].into(), words[2].as_bytes()[0], code, coast));
+                let (power, (code, coast)) = (map.power(words[1]).unwrap(), place_of(words[3]));
+                map.units.push((power, words[2].as_bytes()[0], code, coast));
             }
         }
     }
@@ -127,6 +132,10 @@ fn read_map(path: &str) -> Map {
 }
 
 impl Map {
+    fn power(&self, name: &str) -> Option<usize> {
+        self.powers.iter().position(|it| it == name)
+    }
+
     fn could_move(&self, kind: u8, code: Code, coast: &str, to: Code) -> bool {
         if kind == b'A' {
             return self.army.get(&code).is_some_and(|them| them.contains(&to));
@@ -148,7 +157,7 @@ impl Map {
 }
 
 struct Unit {
-    power: String,
+    power: usize,
     kind: u8,
     coast: String,
 }
@@ -177,8 +186,8 @@ struct Game {
     grey: bool,
     papers: u32,
     units: BTreeMap<Code, Unit>,
-    owner: BTreeMap<Code, String>,
-    seats: HashMap<String, Seat>,
+    owner: BTreeMap<Code, usize>,
+    seats: Vec<Seat>,
 }
 
 struct Desk {
@@ -199,23 +208,26 @@ fn push_place(out: &mut String, code: Code, coast: &str) {
     }
 }
 
+/// The board, a line a power: one pass over the units, one over the centres.
 fn push_lines(out: &mut String, map: &Map, game: &Game) {
-    for power in &map.powers {
-        let centres = game.owner.values().filter(|it| *it == power).count();
-        let units = game.units.values().filter(|it| it.power == *power).count();
-        out.push_str(&format!("{power} {centres}/{units}: "));
-        for (at, (code, unit)) in game.units.iter().filter(|it| it.1.power == *power).enumerate() {
-            out.push_str(if at > 0 { ", " } else { "" });
-            out.push(unit.kind as char);
-            out.push(' ');
-            push_place(out, *code, &unit.coast);
-        }
-        out.push_str(if units == 0 { "- |" } else { " |" });
-        for (code, _) in game.owner.iter().filter(|it| it.1 == power) {
-            out.push(' ');
-            out.push_str(text(code));
-        }
-        out.push_str(if centres == 0 { " -\n" } else { "\n" });
+    let mut lines = vec![(0, String::with_capacity(96), 0, String::with_capacity(96)); map.powers.len()];
+    for (code, unit) in &game.units {
+        let (count, line, _, _) = &mut lines[unit.power];
+        line.push_str(if *count > 0 { ", " } else { "" });
+        line.push(unit.kind as char);
+        line.push(' ');
+        push_place(line, *code, &unit.coast);
+        *count += 1;
+    }
+    for (code, power) in &game.owner {
+        let (_, _, count, line) = &mut lines[*power];
+        line.push(' ');
+        line.push_str(text(code));
+        *count += 1;
+    }
+    for (power, (units, line, centres, owned)) in map.powers.iter().zip(&lines) {
+        let (line, owned) = (if *units == 0 { "-" } else { line }, if *centres == 0 { " -" } else { owned });
+        let _ = writeln!(out, "{power} {centres}/{units}: {line} |{owned}");
     }
 }
 
@@ -230,7 +242,7 @@ fn place_in(word: &str) -> Option<(Code, &str)> {
 }
 
 /// An order of a movement phase, as it is printed, with its unit's province; or the number of its fault.
-fn read_order(map: &Map, game: &Game, power: &str, line: &str) -> Result<(Code, String), u8> {
+fn read_order(map: &Map, game: &Game, power: usize, line: &str) -> Result<(Code, String), u8> {
     let lower = line.to_ascii_lowercase();
     let mut words: Vec<&str> = Vec::with_capacity(8);
     for word in lower.split(' ').filter(|it| !it.is_empty()) {
@@ -362,12 +374,13 @@ fn digest(game: &str, sender: &str, secret: &str) -> Sum {
 impl Desk {
     fn create(&mut self, letter: &Letter, out: &mut String) {
         let words: Vec<&str> = letter.lines[0].split(' ').collect();
-        let seats = letter.lines[1..].iter().map(|line| {
+        let mut seats: Vec<Seat> = self.map.powers.iter().map(|_| Seat::new([0; 32])).collect();
+        for line in &letter.lines[1..] {
             let (power, secret) = line[5..].split_once(' ').unwrap();
-            (power.to_string(), Seat::new(digest(letter.game, power, secret)))
-        });
+            seats[self.map.power(power).unwrap()].digest = digest(letter.game, power, secret);
+        }
         let units = self.map.units.iter().map(|(power, kind, code, coast)| {
-            (*code, Unit { power: power.clone(), kind: *kind, coast: coast.clone() })
+            (*code, Unit { power: *power, kind: *kind, coast: coast.clone() })
         });
         let game = Game {
             due: words[2].parse().unwrap(),
@@ -375,34 +388,36 @@ impl Desk {
             grey: words[6] == "YES",
             papers: 1,
             units: units.collect(),
-            owner: self.map.homes.iter().map(|(power, code)| (*code, power.clone())).collect(),
-            seats: seats.collect(),
+            owner: self.map.homes.iter().map(|(power, code)| (*code, *power)).collect(),
+            seats,
         };
         self.games.insert(letter.game.into(), game);
         out.push_str("OK paper 1\n");
     }
 
-    fn carry_out(map: &Map, game: &mut Game, letter: &Letter, out: &mut String) {
+    fn carry_out(map: &Map, game: &mut Game, power: usize, letter: &Letter, out: &mut String) {
         let words: Vec<&str> = letter.lines[0].split(' ').collect();
         match words[0] {
             "ORDERS" => {
                 for (at, line) in letter.lines[1..].iter().enumerate() {
-                    match read_order(map, game, letter.sender, line) {
+                    match read_order(map, game, power, line) {
                         Ok((code, order)) => {
-                            out.push_str(&format!("OK {order}\n"));
-                            game.seats.get_mut(letter.sender).unwrap().pending.insert(code, order);
+                            let _ = writeln!(out, "OK {order}");
+                            game.seats[power].pending.insert(code, order);
                         }
-                        Err(fault) => out.push_str(&format!("O{fault} line {}\n", at + 1)),
+                        Err(fault) => {
+                            let _ = writeln!(out, "O{fault} line {}", at + 1);
+                        }
                     }
                 }
             }
             "WITHDRAW" => {
-                game.seats.get_mut(letter.sender).unwrap().pending.clear();
+                game.seats[power].pending.clear();
                 out.push_str("OK withdrawn\n");
             }
             "VOTE" => {
-                game.seats.get_mut(letter.sender).unwrap().vote = letter.lines[0][5..].into();
-                out.push_str(&format!("OK vote {}\n", &letter.lines[0][5..]));
+                game.seats[power].vote = letter.lines[0][5..].into();
+                let _ = writeln!(out, "OK vote {}", &letter.lines[0][5..]);
             }
             "PRESS" => {
                 let (is_grey, to_all) = (words[1] == "GREY", words[3] == "all");
@@ -412,32 +427,30 @@ impl Desk {
                     _ => format!("white from {} to {}", letter.sender, words[3..].join(" ")),
                 };
                 let body = letter.lines[1..].iter().flat_map(|it| [*it, "\n"]).collect::<String>();
-                for (power, seat) in game.seats.iter_mut() {
-                    if power == letter.sender {
+                for (other, seat) in game.seats.iter_mut().enumerate() {
+                    if other == power {
                         seat.sent += 1;
-                    } else if to_all || words[3..].contains(&power.as_str()) {
+                    } else if to_all || words[3..].contains(&map.powers[other].as_str()) {
                         seat.inbox.push((head.clone(), body.clone()));
                     }
                 }
                 out.push_str("OK press\n");
             }
             "INBOX" => {
-                let seat = &game.seats[letter.sender];
+                let seat = &game.seats[power];
                 let first: usize = words[1].parse().unwrap();
-                out.push_str(&format!("INBOX {}\n", seat.inbox.len()));
+                let _ = writeln!(out, "INBOX {}", seat.inbox.len());
                 for (at, (head, body)) in seat.inbox.iter().enumerate().skip(first - 1).take(10) {
-                    out.push_str(&format!("ITEM {} {head}\n{body}", at + 1));
+                    let _ = write!(out, "ITEM {} {head}\n{body}", at + 1);
                 }
             }
             _ => {
-                let seat = &game.seats[letter.sender];
+                let seat = &game.seats[power];
                 let grey = if game.grey { "YES" } else { "NO" };
-                out.push_str(&format!(
-                    "GAME {} S1901M running DUE {} PERIOD {} GREY {grey} PAPERS {}\n",
-                    letter.game, game.due, game.period, game.papers
-                ));
+                let (game_name, due, period, papers) = (letter.game, game.due, game.period, game.papers);
+                let _ = writeln!(out, "GAME {game_name} S1901M running DUE {due} PERIOD {period} GREY {grey} PAPERS {papers}");
                 push_lines(out, map, game);
-                out.push_str(&format!("VOTE {}\nSENT {} INBOX {}\n", seat.vote, seat.sent, seat.inbox.len()));
+                let _ = writeln!(out, "VOTE {}\nSENT {} INBOX {}", seat.vote, seat.sent, seat.inbox.len());
                 for order in seat.pending.values() {
                     out.push_str("ORDER ");
                     out.push_str(order);
@@ -448,61 +461,74 @@ impl Desk {
     }
 
     fn take(&mut self, letter: &Letter, out: &mut String) {
-        let is_master = letter.sender == "master";
-        let known = match (is_master, self.games.get(letter.game)) {
-            (true, _) => self.master.digest == digest("desk", "master", letter.secret),
-            (false, Some(game)) => {
-                game.seats.get(letter.sender).is_some_and(|it| it.digest == digest(letter.game, letter.sender, letter.secret))
-            }
-            _ => false,
+        let (is_master, power) = (letter.sender == "master", self.map.power(letter.sender));
+        let mut game = if is_master { None } else { self.games.get_mut(letter.game) };
+        let author = match (&mut game, power) {
+            (None, _) if is_master => Some(&mut self.master),
+            (Some(game), Some(power)) => Some(&mut game.seats[power]),
+            _ => None,
         };
-        if !known {
+        let known = match is_master {
+            true => digest("desk", "master", letter.secret),
+            false => digest(letter.game, letter.sender, letter.secret),
+        };
+        let Some(author) = author.filter(|it| it.digest == known) else {
             return out.push_str("REPLY nobody 0\nL2 unknown game, sender or secret\nEND\n");
-        }
-        let sum = sha256(&[letter.bytes]);
-        let author = if is_master { &self.master } else { &self.games[letter.game].seats[letter.sender] };
-        let head = format!("REPLY {} {} {}\n", letter.game, letter.sender, letter.number);
-        if letter.number <= author.last {
-            if letter.number == author.last && author.sum == sum {
-                out.push_str(&author.reply);
-            } else if letter.number == author.last {
-                out.push_str(&format!("{head}L4 number {} used by another letter\nEND\n", letter.number));
-            } else {
-                out.push_str(&format!("{head}L3 stale number, last is {}\nEND\n", author.last));
-            }
+        };
+        let (sum, number) = (sha256(&[letter.bytes]), letter.number);
+        let head = out.len();
+        let _ = writeln!(out, "REPLY {} {} {number}", letter.game, letter.sender);
+        if number == author.last && author.sum == sum {
+            out.truncate(head);
+            return out.push_str(&author.reply);
+        } else if number <= author.last {
+            let _ = match number == author.last {
+                true => writeln!(out, "L4 number {number} used by another letter\nEND"),
+                false => writeln!(out, "L3 stale number, last is {}\nEND", author.last),
+            };
             return;
         }
-        out.push_str(&head);
-        if is_master {
-            self.create(letter, out);
-        } else {
-            Self::carry_out(&self.map, self.games.get_mut(letter.game).unwrap(), letter, out);
+        match (game, power) {
+            (Some(game), Some(power)) => Self::carry_out(&self.map, game, power, letter, out),
+            _ => self.create(letter, out),
         }
         out.push_str("END\n");
-        let author = if is_master {
-            &mut self.master
-        } else {
-            self.games.get_mut(letter.game).unwrap().seats.get_mut(letter.sender).unwrap()
+        let author = match power {
+            Some(power) => &mut self.games.get_mut(letter.game).unwrap().seats[power],
+            None => &mut self.master,
         };
-        author.last = letter.number;
+        author.last = number;
         author.sum = sum;
-        author.reply = out.clone();
+        author.reply = out[head..].into();
     }
+}
+
+/// The end of the first letter: behind its first line that is END.
+fn end_of(all: &str) -> usize {
+    let mut at = 0;
+    while let Some(line) = all[at..].find('\n') {
+        let is_end = &all[at..at + line] == "END";
+        at += line + 1;
+        if is_end {
+            return at;
+        }
+    }
+    all.len()
 }
 
 fn main() {
     let words: Vec<String> = std::env::args().collect();
     let master = Seat::new(digest("desk", "master", &words[2]));
     let mut desk = Desk { map: read_map(&words[1]), master, games: HashMap::new() };
-    let mut input = Vec::new();
-    io::stdin().read_to_end(&mut input).expect("letters");
+    let mut input = String::new();
+    io::stdin().read_to_string(&mut input).expect("letters in ASCII");
     let mut rest = &input[..];
-    let mut told = io::stdout();
+    let mut told = fs::File::from(io::stdout().as_fd().try_clone_to_owned().expect("standard output"));
     let mut out = String::with_capacity(4096);
     while !rest.is_empty() {
-        let end = rest.windows(5).position(|it| it == b"\nEND\n").map_or(rest.len(), |it| it + 5);
+        let end = end_of(rest);
         out.clear();
-        match letter_in(&rest[..end]) {
+        match letter_in(rest[..end].as_bytes()) {
             Some(letter) => desk.take(&letter, &mut out),
             None => out.push_str("REPLY nobody 0\nL1 malformed letter\nEND\n"),
         }

@@ -105,17 +105,17 @@ recalled_own s ws name power o recalls h = among (owns_of name ws) (recalls name
         go true is h more = subst (λ (p : ℕ). own_at name p s ≡ Some x) (eqb-true x.power power is) all.0 ∙ h
         go false is h more = more h
 
-all_weaker : {P Q : r.Own → Type 0} → ((o : r.Own) → P o → Q o) → (os : List r.Own) → AllByRecursion P os → AllByRecursion Q os
-all_weaker turn [] all = tt
-all_weaker turn (o ∷ os) all = (turn o all.0, all_weaker turn os all.1)
+all_weaker : (P Q : r.Own → Type 0) → ((o : r.Own) → P o → Q o) → (os : List r.Own) → AllByRecursion P os → AllByRecursion Q os
+all_weaker P Q turn [] all = tt
+all_weaker P Q turn (o ∷ os) all = (turn o all.0, all_weaker P Q turn os all.1)
 
-all_with : {P : r.Own → Type 0} (os : List r.Own) (o : r.Own) → AllByRecursion P os → P o → AllByRecursion P (os ++ o ∷ [])
-all_with [] o all has = (has, tt)
-all_with (x ∷ xs) o all has = (all.0, all_with xs o all.1 has)
+all_with : (P : r.Own → Type 0) (os : List r.Own) (o : r.Own) → AllByRecursion P os → P o → AllByRecursion P (os ++ o ∷ [])
+all_with P [] o all has = (has, tt)
+all_with P (x ∷ xs) o all has = (all.0, all_with P xs o all.1 has)
 
-all_reached : {P Q : r.Own → Type 0} (test : r.Own → Bool) (f : r.Own → r.Own) → ((o : r.Own) → P o → Q (f o)) → (os : List r.Own) → AllByRecursion P os → AllByRecursion Q (filter test (map f os))
-all_reached test f turn [] all = tt
-all_reached {P} {Q} test f turn (o ∷ os) all = go (test (f o)) (turn o all.0) (all_reached test f turn os all.1)
+all_reached : (P Q : r.Own → Type 0) (test : r.Own → Bool) (f : r.Own → r.Own) → ((o : r.Own) → P o → Q (f o)) → (os : List r.Own) → AllByRecursion P os → AllByRecursion Q (filter test (map f os))
+all_reached P Q test f turn [] all = tt
+all_reached P Q test f turn (o ∷ os) all = go (test (f o)) (turn o all.0) (all_reached P Q test f turn os all.1)
   where
     go : (b : Bool) → Q (f o) → AllByRecursion Q (filter test (map f os)) → AllByRecursion Q (cond b (f o ∷ filter test (map f os)) (filter test (map f os)))
     go true has more = (has, more)
@@ -149,7 +149,7 @@ left_behind c s old new left recalls other = go (bytes_eq c.game other) refl (le
   where
     go : (b : Bool) → bytes_eq c.game other ≡ b → owns_of other new ≡ cond b [] (owns_of other old) → AllByRecursion (HasOwn (state_after c s) other) (owns_of other new)
     go true same is = subst (AllByRecursion (HasOwn (state_after c s) other)) (sym is) tt
-    go false differ is = subst (AllByRecursion (HasOwn (state_after c s) other)) (sym is) (all_weaker (other_stays c s other differ) (owns_of other old) (recalls other))
+    go false differ is = subst (AllByRecursion (HasOwn (state_after c s) other)) (sym is) (all_weaker _ _ (other_stays c s other differ) (owns_of other old) (recalls other))
 
 -- those of its game that were taken out the state has
 pub taken_had : (s : State) (name : List ℕ) (os : List r.Own) (old : Owns) → os ≡ owns_of name old → RecallsOwns s old → AllByRecursion (HasOwn s name) os
@@ -158,12 +158,16 @@ taken_had s name os old is recalls = subst (AllByRecursion (HasOwn s name)) (sym
 -- what a letter makes of them is what the state behind it has
 pub reached_had : (c : Change) (s : State) (test : r.Own → Bool) (os : List r.Own) → is_own c.effect ≡ true → AllByRecursion (HasOwn s c.game) os
     → AllByRecursion (HasOwn (state_after c s) c.game) (filter test (map (own_behind c) os))
-reached_had c s test os own all = all_reached test (own_behind c) (letter_stays c s own) os all
+reached_had c s test os own all = all_reached (HasOwn s c.game) (HasOwn (state_after c s) c.game) test (own_behind c) (letter_stays c s own) os all
 
 -- whichever way it went
-pub either_way : {X E : Type 0} {P Q R : Type 0} (r : Result X E) → OnOk r P → OnErr r Q → (P → R) → (Q → R) → R
+pub either_way : {X E : Type 0} {P Q R : Type 0} (did : Result X E) → OnOk did P → OnErr did Q → (P → R) → (Q → R) → R
 either_way (Ok x) ok err well ill = well ok
 either_way (Err e) ok err well ill = ill err
+
+pub on_err : {X E P : Type 0} (did : Result X E) → P → OnErr did P
+on_err (Ok x) holds = tt
+on_err (Err e) holds = holds
 
 -- by the name and the own parts that are meant
 pub put_named : (other bs name : List ℕ) (os : List r.Own) (ws vs : Owns) → bs ≡ name → ws ≡ vs → cond (bytes_eq bs other) os (owns_of other ws) ≡ cond (bytes_eq name other) os (owns_of other vs)
@@ -179,11 +183,11 @@ made_recalls c name is old left new os took out keeps s recalls =
     (taken_had s c.game os old (took ∙ ap (λ (n : List ℕ). owns_of n old) is) recalls)
 
 -- and what a letter makes of them put back
-pub letter_recalls : {X E : Type 0} (r : Result X E) (c : Change) (s : State) (name : List ℕ) → name ≡ c.game → (test : r.Own → Bool) (os reached short : List r.Own) (old new : Owns) → is_own c.effect ≡ true
-    → reached ≡ map (own_behind c) os → short ≡ filter test reached → OnOk r (IsPut name short old new) → OnErr r (new ≡ old)
+pub letter_recalls : {X E : Type 0} (did : Result X E) (c : Change) (s : State) (name : List ℕ) → name ≡ c.game → (test : r.Own → Bool) (os reached short : List r.Own) (old new : Owns) → is_own c.effect ≡ true
+    → reached ≡ map (own_behind c) os → short ≡ filter test reached → OnOk did (IsPut name short old new) → OnErr did (new ≡ old)
     → RecallsOwns (state_after c s) old → AllByRecursion (HasOwn s c.game) os → RecallsOwns (state_after c s) new
-letter_recalls r c s name is test os reached short old new own reaches passes ok err recalls all =
-    either_way r ok err
+letter_recalls did c s name is test os reached short old new own reaches passes ok err recalls all =
+    either_way did ok err
     (λ put. put_recalls (state_after c s) name short old new put recalls (subst (λ (n : List ℕ). AllByRecursion (HasOwn (state_after c s) n) short) (sym is) had))
     (λ same. subst (RecallsOwns (state_after c s)) (sym same) recalls)
   where
@@ -214,7 +218,7 @@ not_noted s name old room left new roomy out same recalls =
 
 pub noted_recalls : (s : State) (name : List ℕ) (o : r.Own) (old new : Owns) → IsNoted name o old new → HasOwn s name o → RecallsOwns s old → RecallsOwns s new
 noted_recalls s name o old new noted has recalls =
-    put_recalls s name (owns_of name (owns_with_room old) ++ o ∷ []) (owns_with_room old) new put before (all_with (owns_of name (owns_with_room old)) o (before name) has)
+    put_recalls s name (owns_of name (owns_with_room old) ++ o ∷ []) (owns_with_room old) new put before (all_with (HasOwn s name) (owns_of name (owns_with_room old)) o (before name) has)
   where
     before : RecallsOwns s (owns_with_room old)
     before = recalls_with_room s old recalls
@@ -227,7 +231,7 @@ noted_recalls s name o old new noted has recalls =
         go true same is = is ∙ ap (λ (n : List ℕ). owns_of n (owns_with_room old) ++ o ∷ []) (sym ((bytes_eq-Decides name other).0 same))
         go false differ is = is
 
-pub learned_own : {X E : Type 0} (r : Result X E) (s : State) (name : List ℕ) (power : ℕ) (o : r.Own) (old new : Owns) → OnOk r (IsNoted name o old new) → OnErr r ((s : State) → RecallsOwns s old → RecallsOwns s new)
+pub learned_own : {X E : Type 0} (did : Result X E) (s : State) (name : List ℕ) (power : ℕ) (o : r.Own) (old new : Owns) → OnOk did (IsNoted name o old new) → OnErr did ((s : State) → RecallsOwns s old → RecallsOwns s new)
     → Some o ≡ own_at name power s → RecallsOwns s old → RecallsOwns s new
-learned_own r s name power o old new noted not is recalls =
-    either_way r noted not (λ noted. noted_recalls s name o old new noted (has_own s name power o (sym is)) recalls) (λ stays. stays s recalls)
+learned_own did s name power o old new noted not is recalls =
+    either_way did noted not (λ noted. noted_recalls s name o old new noted (has_own s name power o (sym is)) recalls) (λ stays. stays s recalls)

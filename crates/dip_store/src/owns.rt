@@ -180,10 +180,10 @@ impl SeenOwns {
         ensures left { (other : List ℕ) → owns_of other self.new
             ≡ (if bytes_eq game.now other then [] else owns_of other self.old) }
     {
-        match self.games.swap_remove(game) {
-            None => Vec::new(alloc),
-            Some(owns) => owns,
-        }
+        let Some(owns) = self.games.swap_remove(game) else {
+            return Vec::new(alloc);
+        };
+        owns
     }
 
     /// Puts own parts of a game's seats in place of what is remembered of them.

@@ -2,7 +2,7 @@ use Rattle.std.proofs.Common.{◌∙◌, ap, List, map, refl}
 use Rattle.std.proofs.lemmas.Result.{on_err_weaker, on_ok_weaker}
 use Rattle.dip_desk_state.specs.Rows as rows
 use Rattle.dip_desk_state.specs.declared.records.Own.{Own}
-use Rattle.dip_store.proofs.Owning.{not_noted, noted_own, owned, pushed_said}
+use Rattle.dip_store.proofs.Owning.{not_noted, noted_own, on_err, owned, pushed_said}
 use Rattle.dip_store.proofs.owns.SeenOwns.note.Goals as goal
 
 pub returns-clause-ok : goal.returns-clause-ok
@@ -20,5 +20,6 @@ returns-clause-err c =
     c.put.ensures.err
 
 pub returns-in_err-push-clause-err : goal.returns-in_err-push-clause-err
-returns-in_err-push-clause-err c s =
-    not_noted s c.args.game.now c.args.self.now c.make_room.new.self c.take-owns.new.self c.take-owns.new.self c.make_room.ensures c.take-owns.ensures.left refl
+returns-in_err-push-clause-err c =
+    on_err c.from_residual-in_err-push.result
+    (λ s. not_noted s c.args.game.now c.args.self.now c.make_room.new.self c.take-owns.new.self c.take-owns.new.self c.make_room.ensures c.take-owns.ensures.left refl)

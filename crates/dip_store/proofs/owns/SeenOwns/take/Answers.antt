@@ -5,21 +5,21 @@ use Rattle.dip_store.specs.Owns.{owns_of}
 use Rattle.dip_store.proofs.Owning.{owns_found, owns_updated}
 use Rattle.dip_store.proofs.owns.SeenOwns.take.Goals as goal
 
-pub returns-in-None-clause-taken : goal.returns-in-None-clause-taken
-returns-in-None-clause-taken c =
+pub returns-in_default-clause-taken : goal.returns-in_default-clause-taken
+returns-in_default-clause-taken c =
     ap (λ (os : List Own). map (λ o. rows.own o) os) c.new.ensures.items
-    ∙ owns_found c.args.game.now c.self.inside.games.entries None (sym c.in-None.is ∙ c.swap_remove.ensures.value)
+    ∙ owns_found c.args.game.now c.self.inside.games.entries None (sym c.in_default.is ∙ c.swap_remove.ensures.value)
     ∙ ap (owns_of c.args.game.now) c.self.view_is
 
-pub returns-in-None-clause-left : goal.returns-in-None-clause-left
-returns-in-None-clause-left c other =
+pub returns-in_default-clause-left : goal.returns-in_default-clause-left
+returns-in_default-clause-left c other =
     rw (sym c.self.view_is) (owns_updated c.args.game.now c.self.inside.games c.swap_remove.new.self None c.swap_remove.ensures.updates other)
 
-pub returns-in-Some-clause-taken : goal.returns-in-Some-clause-taken
-returns-in-Some-clause-taken c =
+pub returns-clause-taken : goal.returns-clause-taken
+returns-clause-taken c =
     owns_found c.args.game.now c.self.inside.games.entries (Some c.in-Some.owns) (sym c.in-Some.is ∙ c.swap_remove.ensures.value)
     ∙ ap (owns_of c.args.game.now) c.self.view_is
 
-pub returns-in-Some-clause-left : goal.returns-in-Some-clause-left
-returns-in-Some-clause-left c other =
+pub returns-clause-left : goal.returns-clause-left
+returns-clause-left c other =
     rw (sym c.self.view_is) (owns_updated c.args.game.now c.self.inside.games c.swap_remove.new.self None c.swap_remove.ensures.updates other)

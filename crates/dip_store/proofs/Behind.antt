@@ -1,7 +1,6 @@
 -- Own parts behind a change.
 use Rattle.std.proofs.Common.{◌≡◌, ◌==◌, ℕ, Bool, true, false, cond, List, [], ◌∷◌, Option, None, Some, map, option_map, option_and_then, refl, sym, ap, subst, ◌∙◌, bytes_eq, eqb-true}
 use Rattle.std.specs.Option.{option_or}
-use Rattle.std.proofs.lemmas.Slice.Eq.{bytes_eq-Decides}
 use Rattle.dip_desk_state.specs.Keyed.{at, change_at}
 use Rattle.dip_desk_state.specs.Records.{Kept, Own}
 use Rattle.dip_desk_state.specs.State.{Author, Nobody, TheMaster, Seat, Change, Effect, Nothing, Pending, Votes, Delivers, Opens, Publishes, Seats, Game, Part, State, game_after, game_at, is_seat, name_of, new_games, own_at, own_effect, own_of, power_in, seat_at, state_after, with_author, with_effect, with_letter}

@@ -5,8 +5,8 @@ ghost use Rattle.dip_store.specs.Stored as stored;
 
 use crate::faults::{is_of_size, look_fault, make_fault};
 use crate::fitting_laws::{what_fits_can_be_written, what_fits_finds_place};
-use crate::papers::look_game_paper;
 use crate::owns::SeenOwns;
+use crate::papers::look_game_paper;
 use crate::seen::Seen;
 use crate::shared::look_shared_public;
 use dip_desk::Keeper;
@@ -25,11 +25,11 @@ use std::rc::Rc;
 /// A keeper of the desk's state in the ten tables of an SQL store. Each call reads the rows that it is asked for and no others; a
 /// change is one transaction, made whole or not at all.
 ///
-/// The public parts that it has read it has in memory too, of at most 1,024 games, and reads them no more until a paper changes
-/// them. So it has the own parts of at most 1,024 seats: a seat's ORDERS, its vote and what only its own kept reply tells of are
-/// done to its part in memory as to its rows; press, a paper and another secret forget the own parts of their game. An own part
-/// whose kept reply is longer than 4,096 bytes isn't remembered, so that all of this stays within some 10 MB. While the store is
-/// its own, nobody else writes to it.
+/// What it has read of games and seats it has in memory too, and reads it no more while nothing changes it: the store is its own,
+/// and nobody else writes to it. It remembers the public parts of at most 1,024 games, each until a paper, and the own parts of at
+/// most 1,024 seats. A letter that changes no own part but its author's (orders, a vote, or only what is kept of it) is done to that
+/// part in memory as to its rows; any other forgets the own parts of its game. An own part whose kept reply is longer than 4,096
+/// bytes isn't remembered, so that all of this stays within some 10 MB for games of the standard map.
 ///
 /// After `Disk` or `Damaged` the store is to be opened anew, which finds what a crash may leave.
 #[derive(Drop)]

@@ -1,7 +1,6 @@
 use Rattle.std.proofs.Common.{◌≡◌, ◌+◌, ◌<◌}
 use Rattle.dip_store.specs.Owns.{many_owns}
-use Rattle.dip_store.proofs.Named.{said}
-use Rattle.dip_store.proofs.Owning.{owned, tally}
+use Rattle.dip_store.proofs.Owning.{tally}
 use Rattle.dip_store.proofs.owns.SeenOwns.is_full.Given as goal
 
 abbrev pub invariant-loop-owns : goal.invariant-loop-owns

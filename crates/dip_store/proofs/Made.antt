@@ -33,6 +33,7 @@ use Rattle.dip_store_changes.specs.Laws.{ChangesAreMade, IsMade}
 use Rattle.dip_store_changes.specs.Making.{Makes}
 use Rattle.dip_store_changes.specs.declared.faults.MakeFault.{MakeFault}
 use Rattle.dip_store.specs.Faults.{is_of_size, make_fault}
+use Rattle.dip_store.specs.Owns.{Owns, RecallsOwns}
 use Rattle.dip_store.specs.Seen.{Parts, Recalls}
 use Rattle.dip_store.specs.Stored.{AreStored, book, said_by, sized, sizing, telling}
 use Rattle.dip_store.specs.declared.keeper.SqlKeeper.{SqlKeeper}
@@ -64,9 +65,9 @@ module _ {S : Type 0} (g : Ghosts S) (m : Chart) (k : SqlKeeper S) (c : Change) 
   Settled = (s : S) (db : Trees) → IsTrue (g.view s).is_open → g.recovers s db → db ≡ (g.view s).committed
 
   abbrev Keeps : Type 0
-  Keeps = IsKept g k.conn × AreOurs m (tables_in g k.conn) × Recalls (said_by m (state g k.conn).now.trees) k.seen
+  Keeps = IsKept g k.conn × AreOurs m (tables_in g k.conn) × Recalls (said_by m (state g k.conn).now.trees) k.seen × RecallsOwns (said_by m (state g k.conn).now.trees) k.owns
 
-  module _ (new : Held S) (law : ChangesAreMade m) (fits : IsWritable m c) (wide : HasWidths c) (seen : Parts) (heeds : Heeds c k.seen seen) where
+  module _ (new : Held S) (law : ChangesAreMade m) (fits : IsWritable m c) (wide : HasWidths c) (seen : Parts) (heeds : Heeds c k.seen seen) (owns : Owns) where
     is_made : (kept : Keeps) → IsGood (state g new).now → tables_in g new ≡ changing m c (tables_in g k.conn) → IsMade m c (tables_in g k.conn) (tables_in g new)
     is_made kept good is = law c (state g k.conn).now (state g new).now fits kept.0.good good is
 
@@ -95,8 +96,9 @@ module _ {S : Type 0} (g : Ghosts S) (m : Chart) (k : SqlKeeper S) (c : Change) 
 
     pub changes_well : (X E : Type 0) (x : X) → HasTexts c → TablesStayLegible m → Makes g (changing m c) k.conn new (went X E x) → (IsKept g k.conn → does_show g new → IsKept g new)
         → (IsKept g k.conn → does_show g new → HasPlace m c (tables_in g k.conn))
-        → Changes m (book g) k (record k { conn = new; seen = seen }) (state_after c) (Fits m c) (went X KeepFault x)
-    changes_well X E x texts stay p stays place = record {
+        → ((s : State) → RecallsOwns s k.owns → RecallsOwns (state_after c s) owns)
+        → Changes m (book g) k (record k { conn = new; seen = seen; owns = owns }) (state_after c) (Fits m c) (went X KeepFault x)
+    changes_well X E x texts stay p stays place follows = record {
       keeps = record {
         count = refl;
         told = p.counts;
@@ -120,12 +122,14 @@ module _ {S : Type 0} (g : Ghosts S) (m : Chart) (k : SqlKeeper S) (c : Change) 
       left = λ kept clean. tt;
     }
       where
-        sound : Keeps → does_show g new → IsKept g new × AreOurs m (tables_in g new) × Recalls (said_by m (state g new).now.trees) seen
+        sound : Keeps → does_show g new
+            → IsKept g new × AreOurs m (tables_in g new) × Recalls (said_by m (state g new).now.trees) seen × RecallsOwns (said_by m (state g new).now.trees) owns
         sound kept shows =
             let is = p.done kept.0 shows in (
               stays kept.0 shows,
               ours kept texts stay (place kept.0 shows) is.0.good is.1,
               subst (λ (s : State). Recalls s seen) (sym (said kept is.0.good is.1)) (heeds (said_by m (state g k.conn).now.trees) kept.2).1,
+              subst (λ (s : State). RecallsOwns s owns) (sym (said kept is.0.good is.1)) (follows (said_by m (state g k.conn).now.trees) kept.3),
             )
 
     -- what a crash may leave of a change that isn't made can be opened again
@@ -144,11 +148,15 @@ module _ {S : Type 0} (g : Ghosts S) (m : Chart) (k : SqlKeeper S) (c : Change) 
           },
         )
 
-    changes_told : (X Y E : Type 0) (e : E) (f : KeepFault) (n z : ℕ) → HasTexts c → TablesStayLegible m → TablesStayCounted m → LandsWell → Settled → Makes g (changing m c) k.conn new (fails Y E e) → n ≡ faults_with f k.failures → k.of_size ≤ z
+    -- what is remembered where a change isn't made
+    abbrev StaysRemembered : Type 0
+    StaysRemembered = (s : State) → RecallsOwns s k.owns → RecallsOwns s owns
+
+    changes_told : (X Y E : Type 0) (e : E) (f : KeepFault) (n z : ℕ) → StaysRemembered → HasTexts c → TablesStayLegible m → TablesStayCounted m → LandsWell → Settled → Makes g (changing m c) k.conn new (fails Y E e) → n ≡ faults_with f k.failures → k.of_size ≤ z
         → (Keeps → is_honest g new → does_show g k.conn → Fits m c (said_by m (state g k.conn).now.trees) → f ≡ Damaged → ⊥)
         → (Keeps → is_honest g new → does_show g k.conn → f ≡ Disk → has_faulted g k.conn new ⊎ Rises k.of_size z)
-        → Changes m (book g) k (record k { conn = new; failures = n; of_size = z; seen = seen }) (state_after c) (Fits m c) (fails X KeepFault f)
-    changes_told X Y E e f n z texts legible counted lands_well settled p count sizes never caused = record {
+        → Changes m (book g) k (record k { conn = new; failures = n; of_size = z; seen = seen; owns = owns }) (state_after c) (Fits m c) (fails X KeepFault f)
+    changes_told X Y E e f n z remembered texts legible counted lands_well settled p count sizes never caused = record {
       keeps = record {
         count = count;
         told = p.counts;
@@ -156,8 +164,12 @@ module _ {S : Type 0} (g : Ghosts S) (m : Chart) (k : SqlKeeper S) (c : Change) 
         fair = p.fair;
         shown = p.shown;
         sound = λ kept shows.
-            let is = p.undone kept.0 shows in
-            (is.0, subst (λ (d : Database). AreOurs m (tables_of d.trees)) (sym is.1) kept.1, subst (λ (d : Database). Recalls (said_by m d.trees) seen) (sym is.1) (heeds (said_by m (state g k.conn).now.trees) kept.2).0);
+            let is = p.undone kept.0 shows in (
+              is.0,
+              subst (λ (d : Database). AreOurs m (tables_of d.trees)) (sym is.1) kept.1,
+              subst (λ (d : Database). Recalls (said_by m d.trees) seen) (sym is.1) (heeds (said_by m (state g k.conn).now.trees) kept.2).0,
+              subst (λ (d : Database). RecallsOwns (said_by m d.trees) owns) (sym is.1) (remembered (said_by m (state g k.conn).now.trees) kept.3),
+            );
         firm = λ kept clean. tt;
         stays_open = λ kept clean shows. tt;
         shuts = p.closes;
@@ -181,25 +193,25 @@ module _ {S : Type 0} (g : Ghosts S) (m : Chart) (k : SqlKeeper S) (c : Change) 
       ];
     }
 
-    changes_counted : (X Y E : Type 0) (e : E) (f : KeepFault) (b : Bool) → HasTexts c → TablesStayLegible m → TablesStayCounted m → LandsWell → Settled → Makes g (changing m c) k.conn new (fails Y E e)
+    changes_counted : (X Y E : Type 0) (e : E) (f : KeepFault) (b : Bool) → StaysRemembered → HasTexts c → TablesStayLegible m → TablesStayCounted m → LandsWell → Settled → Makes g (changing m c) k.conn new (fails Y E e)
         → (Keeps → is_honest g new → does_show g k.conn → Fits m c (said_by m (state g k.conn).now.trees) → f ≡ Damaged → ⊥)
         → (Keeps → is_honest g new → does_show g k.conn → f ≡ Disk → has_faulted g k.conn new ⊎ (b ≡ true))
-        → Changes m (book g) k (telling f (sizing b (record k { conn = new; seen = seen }))) (state_after c) (Fits m c) (fails X KeepFault f)
-    changes_counted X Y E e f b texts legible counted lands settled p never caused = by f never (λ kept clean shows is. size_rose (has_faulted g k.conn new) b k.of_size (caused kept clean shows is))
+        → Changes m (book g) k (telling f (sizing b (record k { conn = new; seen = seen; owns = owns }))) (state_after c) (Fits m c) (fails X KeepFault f)
+    changes_counted X Y E e f b remembered texts legible counted lands settled p never caused = by f never (λ kept clean shows is. size_rose (has_faulted g k.conn new) b k.of_size (caused kept clean shows is))
       where
         by : (f : KeepFault) → (Keeps → is_honest g new → does_show g k.conn → Fits m c (said_by m (state g k.conn).now.trees) → f ≡ Damaged → ⊥)
             → (Keeps → is_honest g new → does_show g k.conn → f ≡ Disk → has_faulted g k.conn new ⊎ Rises k.of_size (sized b k.of_size))
-            → Changes m (book g) k (telling f (sizing b (record k { conn = new; seen = seen }))) (state_after c) (Fits m c) (fails X KeepFault f)
-        by Memory never rose = changes_told X Y E e Memory k.failures (sized b k.of_size) texts legible counted lands settled p refl (size_counts b k.of_size) never rose
-        by Disk never rose = changes_told X Y E e Disk (k.failures + 1) (sized b k.of_size) texts legible counted lands settled p refl (size_counts b k.of_size) never rose
-        by Damaged never rose = changes_told X Y E e Damaged k.failures (sized b k.of_size) texts legible counted lands settled p refl (size_counts b k.of_size) never rose
+            → Changes m (book g) k (telling f (sizing b (record k { conn = new; seen = seen; owns = owns }))) (state_after c) (Fits m c) (fails X KeepFault f)
+        by Memory never rose = changes_told X Y E e Memory k.failures (sized b k.of_size) remembered texts legible counted lands settled p refl (size_counts b k.of_size) never rose
+        by Disk never rose = changes_told X Y E e Disk (k.failures + 1) (sized b k.of_size) remembered texts legible counted lands settled p refl (size_counts b k.of_size) never rose
+        by Damaged never rose = changes_told X Y E e Damaged k.failures (sized b k.of_size) remembered texts legible counted lands settled p refl (size_counts b k.of_size) never rose
 
     -- a change that fits isn't made for want alone, and of any change the disk is told of only where the store told of a fault
-    pub changes_ill : (X Y : Type 0) (e : MakeFault) → HasTexts c → TablesStayLegible m → TablesStayCounted m → LandsWell → Settled → WhatFitsFindsPlace m → Makes g (changing m c) k.conn new (fails Y MakeFault e)
+    pub changes_ill : (X Y : Type 0) (e : MakeFault) → StaysRemembered → HasTexts c → TablesStayLegible m → TablesStayCounted m → LandsWell → Settled → WhatFitsFindsPlace m → Makes g (changing m c) k.conn new (fails Y MakeFault e)
         → (IsKept g k.conn → does_show g k.conn → is_honest g new → MayMake m c (tables_in g k.conn) → FailsFor (has_faulted g k.conn new) (HasPlace m c (tables_in g k.conn) → ⊥) e)
         → (IsKept g k.conn → does_show g k.conn → is_honest g new → AreOurs m (tables_in g k.conn) → BlamesFor (has_faulted g k.conn new) e)
-        → Changes m (book g) k (telling (make_fault e) (sizing (is_of_size e) (record k { conn = new; seen = seen }))) (state_after c) (Fits m c) (fails X KeepFault (make_fault e))
-    changes_ill X Y e texts legible counted lands settled finds p why blames = changes_counted X Y MakeFault e (make_fault e) (is_of_size e) texts legible counted lands settled p (λ kept clean shows fit.
+        → Changes m (book g) k (telling (make_fault e) (sizing (is_of_size e) (record k { conn = new; seen = seen; owns = owns }))) (state_after c) (Fits m c) (fails X KeepFault (make_fault e))
+    changes_ill X Y e remembered texts legible counted lands settled finds p why blames = changes_counted X Y MakeFault e (make_fault e) (is_of_size e) remembered texts legible counted lands settled p (λ kept clean shows fit.
         let place = placed kept fit in
         make_outside (has_faulted g k.conn new) (HasPlace m c (tables_in g k.conn) → ⊥) e (why kept.0 shows clean (record { ours = kept.1; keyed = place.keyed })) (λ none. none (record { paper = place.paper; room = place.room })))
         (λ kept clean shows. make_caused (has_faulted g k.conn new) e (blames kept.0 shows clean kept.1))

@@ -1,12 +1,11 @@
 -- Public parts that are remembered.
-use Rattle.std.proofs.Common.{◌≡◌, ◌&&◌, ℕ, nat_lt, length, Bool, true, false, cond, List, [], ◌∷◌, Option, None, Some, map, option_map, option_copied, Bor, refl, sym, ap, subst, ◌∙◌, bytes_eq, String, string_bytes}
+use Rattle.std.proofs.Common.{◌≡◌, ◌&&◌, ℕ, nat_lt, length, Bool, true, false, cond, List, [], Option, None, Some, option_map, option_copied, Bor, refl, sym, ap, subst, ◌∙◌, bytes_eq, String, string_bytes}
 use Rattle.std.specs.declared.alloc.Global.{Global}
 use Rattle.std.specs.declared.rc.Rc.{Rc}
 use Rattle.std.specs.Option.{option_or}
 use Rattle.std.specs.Map.{lookup}
 use Rattle.std.specs.String.{string_eq}
 use Rattle.indexmap.specs.IndexMap.{IndexMap, UpdatesBy}
-use Rattle.std.proofs.lemmas.Map.Text.{hash_map_updates_text}
 use Rattle.std.proofs.lemmas.Slice.Eq.{bytes_eq-Decides}
 use Rattle.dip_desk_state.specs.Records as r
 use Rattle.dip_desk_state.specs.Rows as rows
@@ -14,38 +13,22 @@ use Rattle.dip_desk_state.specs.State.{Change, Effect, Game, Nothing, Pending, V
 use Rattle.dip_desk_state.specs.Keyed.{at, change_at}
 use Rattle.dip_desk_state.proofs.KeyedLemmas.{at-append, at-change_at_other, at-change_at_same, names_tell}
 use Rattle.dip_desk_state.specs.declared.records.Public.{Public}
+use Rattle.dip_store.proofs.Named.{found_said, lent_said, said, updated_said}
 use Rattle.dip_store.specs.Seen.{Parts, Recalls, gives_part, is_paper, most_seen, part_of, with_room}
 
--- a part as it lies in memory
-abbrev Entry : Type 0
-Entry = String Global × Rc Public Global
-
-abbrev shown : Entry → List ℕ × r.Public
-shown e = (string_bytes e.0, rows.public e.1.value)
+-- what a part as it lies in memory says
+abbrev pub says : Rc Public Global → r.Public
+says p = rows.public p.value
 
 -- what is found under a name is the part of that name
-pub part_found : (name : List ℕ) (es : List Entry)
-    → option_map (λ p. rows.public p.value) (lookup (λ k. bytes_eq name (string_bytes k)) es) ≡ part_of name (map shown es)
-part_found name [] = refl
-part_found name (e ∷ es) = go (bytes_eq name (string_bytes e.0)) (part_found name es)
-  where
-    go : (b : Bool) → option_map (λ p. rows.public p.value) (lookup (λ k. bytes_eq name (string_bytes k)) es) ≡ part_of name (map shown es)
-        → option_map (λ p. rows.public p.value) (cond b (Some e.1) (lookup (λ k. bytes_eq name (string_bytes k)) es)) ≡ cond b (Some (rows.public e.1.value)) (part_of name (map shown es))
-    go true more = refl
-    go false more = more
+pub part_found : (name : List ℕ) (es : List (String Global × Rc Public Global))
+    → option_map (λ p. rows.public p.value) (lookup (λ k. bytes_eq name (string_bytes k)) es) ≡ part_of name (said says es)
+part_found name es = found_said says name es
 
 -- what a change at a name leaves of each
 pub parts_updated : {S : Type 0} (bs : List ℕ) (m n : IndexMap (String Global) (Rc Public Global) S) (w : Option (Rc Public Global)) → UpdatesBy string_eq (λ k. bytes_eq bs (string_bytes k)) m n w
-    → (other : List ℕ) → part_of other (map shown n.entries) ≡ cond (bytes_eq bs other) (option_map (λ p. rows.public p.value) w) (part_of other (map shown m.entries))
-parts_updated bs m n w updates other =
-    sym (part_found other n.entries)
-    ∙ ap (option_map (λ (p : Rc Public Global). rows.public p.value)) (hash_map_updates_text bs m n w updates other)
-    ∙ over (bytes_eq bs other) (lookup (λ k. bytes_eq other (string_bytes k)) m.entries)
-    ∙ ap (cond (bytes_eq bs other) (option_map (λ (p : Rc Public Global). rows.public p.value) w)) (part_found other m.entries)
-  where
-    over : (b : Bool) (o : Option (Rc Public Global)) → option_map (λ p. rows.public p.value) (cond b w o) ≡ cond b (option_map (λ p. rows.public p.value) w) (option_map (λ p. rows.public p.value) o)
-    over true o = refl
-    over false o = refl
+    → (other : List ℕ) → part_of other (said says n.entries) ≡ cond (bytes_eq bs other) (option_map (λ p. rows.public p.value) w) (part_of other (said says m.entries))
+parts_updated bs m n w updates other = updated_said says bs m n w updates other
 
 -- by the name, the part and the parts that are meant
 pub part_noted : (other bs name : List ℕ) (p q : r.Public) (ps qs : Parts) → bs ≡ name → p ≡ q → ps ≡ qs
@@ -56,8 +39,7 @@ part_noted other bs name p q ps qs key part same =
     ∙ ap (λ (xs : Parts). cond (bytes_eq name other) (Some q) (part_of other xs)) same
 
 pub part_shown : (o : Option (Bor (Rc Public Global))) → option_map (λ p. rows.public p.now.value) o ≡ option_map (λ p. rows.public p.value) (option_copied o)
-part_shown None = refl
-part_shown (Some p) = refl
+part_shown o = lent_said says o
 
 -- nothing is remembered wrong where nothing is
 pub recalls_none : (s : State) → Recalls s []
@@ -84,7 +66,7 @@ pub not_learned : (s : State) (old new : Parts) → Recalls s old → new ≡ wi
 not_learned s old new holds is = subst (Recalls s) (sym is) (roomy s old holds)
 
 -- a game keeps its name
-keeps_name : (c : Change) (g : Game) → name_of (game_after c g) ≡ name_of g
+pub keeps_name : (c : Change) (g : Game) → name_of (game_after c g) ≡ name_of g
 keeps_name c g = go c.effect
   where
     go : (e : Effect) → (public_after e g.public).game ≡ g.public.game

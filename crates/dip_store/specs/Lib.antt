@@ -9,6 +9,7 @@ pub mod Opening
 pub mod Refusing
 pub mod Renewing
 pub mod Seen
+pub mod Owns
 pub mod Stored
 pub mod Papers
 pub use Rattle.dip_store_sql.specs.Calls

@@ -5,6 +5,7 @@ ghost use Rattle.dip_store.specs.Stored as stored;
 
 use crate::faults::{is_of_size, look_fault, make_fault};
 use crate::fitting_laws::{what_fits_can_be_written, what_fits_finds_place};
+use crate::owns::SeenOwns;
 use crate::papers::look_game_paper;
 use crate::seen::Seen;
 use crate::shared::look_shared_public;
@@ -22,8 +23,13 @@ use std::alloc::Global;
 use std::rc::Rc;
 
 /// A keeper of the desk's state in the ten tables of an SQL store. Each call reads the rows that it is asked for and no others; a
-/// change is one transaction, made whole or not at all. The public parts that it has read it has in memory too, and reads them no
-/// more until a paper changes them: while the store is its own, nobody else writes to it.
+/// change is one transaction, made whole or not at all.
+///
+/// What it has read of games and seats it has in memory too, and reads it no more while nothing changes it: the store is its own,
+/// and nobody else writes to it. It remembers the public parts of at most 1,024 games, each until a paper, and the own parts of at
+/// most 1,024 seats. A letter that changes no own part but its author's (orders, a vote, or only what is kept of it) is done to that
+/// part in memory as to its rows; any other forgets the own parts of its game. An own part whose kept reply is longer than 4,096
+/// bytes isn't remembered, so that all of this stays within some 10 MB for games of the standard map.
 ///
 /// After `Disk` or `Damaged` the store is to be opened anew, which finds what a crash may leave.
 #[derive(Drop)]
@@ -37,6 +43,8 @@ pub struct SqlKeeper<S: Alter> {
     pub(crate) of_size: u64,
     /// The public parts that it has seen, as its rows have them.
     pub(crate) seen: Seen,
+    /// The own parts that it has seen, as its rows have them.
+    pub(crate) owns: SeenOwns,
 }
 
 impl<S: Alter> SqlKeeper<S> {
@@ -50,6 +58,7 @@ impl<S: Alter> SqlKeeper<S> {
             failures: _,
             of_size: _,
             seen: _,
+            owns: _,
         } = self;
         conn
     }
@@ -119,10 +128,16 @@ impl<S: Alter> Keeper for SqlKeeper<S> {
     }
 
     fn own(&mut self, map: &Map, game: &str, power: Power) -> Result<Option<Own>, KeepFault> {
+        if let Some(own) = self.owns.find(game, power) {
+            return Ok(Some(own.copy(self.alloc)?));
+        }
         own_is_found();
         map.facts();
         match look_own(&mut self.conn, self.alloc, map, game, power) {
-            Ok(own) => Ok(own),
+            Ok(own) => {
+                self.owns.learn(self.alloc, game, &own);
+                Ok(own)
+            }
             Err(fault) => Err(self.told(look_fault(fault))),
         }
     }
@@ -170,8 +185,12 @@ impl<S: Alter> Keeper for SqlKeeper<S> {
             return Err(self.told(KeepFault::Damaged));
         }
         self.seen.heed(change);
+        let owns = self.owns.take(self.alloc, change.game.as_str());
         match make(&mut self.conn, self.alloc, map, change) {
-            Ok(()) => Ok(()),
+            Ok(()) => {
+                self.owns.keep(self.alloc, change, owns);
+                Ok(())
+            }
             Err(fault) => Err(self.told_by_store(fault)),
         }
     }

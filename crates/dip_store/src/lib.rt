@@ -13,6 +13,7 @@ mod known;
 mod making;
 mod old_rows;
 mod opening;
+mod owns;
 mod paper_faults;
 mod papers;
 mod renewing;

@@ -24,6 +24,7 @@ use crate::founding::found;
 use crate::keeper::SqlKeeper;
 use crate::known::{has_ballots, knows_none};
 use crate::making::has_32;
+use crate::owns::SeenOwns;
 use crate::renewing::renew;
 use crate::seen::Seen;
 use dip_letters::sum;
@@ -49,6 +50,7 @@ impl<S: Alter> SqlKeeper<S> {
             failures: 0,
             of_size: 0,
             seen: Seen::new(alloc),
+            owns: SeenOwns::new(alloc),
         }
     }
 

@@ -23,3 +23,6 @@ returns-in-Err-renew-clause-left g c clean kept desk =
       | inl before ↦ inl (p.left kept honest db before)
       | inr renews ↦ inr (subst (λ (d : Database). Renews (old_tables_of d.trees) db) (p.same kept up) renews)
     ])
+
+pub returns-in-Ok-clause-known : goal.returns-in-Ok-clause-known
+returns-in-Ok-clause-known g c = rw c.over.ensures (λ clean. c.in_default.ensures.known (c.in-Ok.ensures.fair clean))

@@ -2,6 +2,7 @@ use Rattle.std.proofs.Common.{sym, ◌∙◌}
 use Rattle.dip_desk_state.specs.ChangeRows as machine
 use Rattle.dip_store_tables.specs.ChangeColumns.{IsWritable}
 use Rattle.dip_store.proofs.Made.{changes_well, changes_ill, changes_none}
+use Rattle.dip_store.proofs.Owning.{left_recalls, made_recalls, owned}
 use Rattle.dip_store.proofs.Seeing.{heeded}
 use Rattle.dip_store.proofs.keeper.SqlKeeperKeeper.apply.Goals as goal
 
@@ -10,8 +11,9 @@ returns-in-Ok g c =
     let m = c.args.map.now in
     let it = machine.change c.args.change.now in
     let fits : IsWritable m it = c.is_writable.ensures.0 c.if-not-is_writable.false in
-    changes_well g.S.Store m c.args.self.now it c.make.new.conn (c.changes_are_made.ensures m c.facts.ensures) fits c.has_widths.ensures c.heed.new.self (heeded it c.args.self.now.seen c.heed.new.self c.heed.ensures) _ _ c.in-Ok.field-0 c.has_texts.ensures (c.tables_stay_legible.ensures m)
+    changes_well g.S.Store m c.args.self.now it c.make.new.conn (c.changes_are_made.ensures m c.facts.ensures) fits c.has_widths.ensures c.heed.new.self (heeded it c.args.self.now.seen c.heed.new.self c.heed.ensures) c.keep.new.self _ _ c.in-Ok.field-0 c.has_texts.ensures (c.tables_stay_legible.ensures m)
     c.in-Ok.ensures.makes c.in-Ok.ensures.kept c.in-Ok.ensures.place
+    (made_recalls it c.as_str.result.now c.as_str.ensures.value c.args.self.now.owns c.take-owns.new.self c.keep.new.self (owned c.take-owns.result) c.take-owns.ensures.taken c.take-owns.ensures.left c.keep.ensures)
 
 pub returns-in-Err : goal.returns-in-Err
 returns-in-Err g c =
@@ -19,7 +21,8 @@ returns-in-Err g c =
     let it = machine.change c.args.change.now in
     let fits : IsWritable m it = c.is_writable.ensures.0 c.if-not-is_writable.false in
     rw (c.told_by_store.ensures.same, c.told_by_store.ensures.told)
-    (changes_ill g.S.Store m c.args.self.now it c.make.new.conn (c.changes_are_made.ensures m c.facts.ensures) fits c.has_widths.ensures c.heed.new.self (heeded it c.args.self.now.seen c.heed.new.self c.heed.ensures) _ _ c.in-Err.fault c.has_texts.ensures (c.tables_stay_legible.ensures m) (c.tables_stay_counted.ensures m)
+    (changes_ill g.S.Store m c.args.self.now it c.make.new.conn (c.changes_are_made.ensures m c.facts.ensures) fits c.has_widths.ensures c.heed.new.self (heeded it c.args.self.now.seen c.heed.new.self c.heed.ensures) c.take-owns.new.self _ _ c.in-Err.fault
+    (λ s. left_recalls s c.as_str.result.now c.args.self.now.owns c.take-owns.new.self c.take-owns.ensures.left) c.has_texts.ensures (c.tables_stay_legible.ensures m) (c.tables_stay_counted.ensures m)
     c.in-Err.ensures.landed g.met.S.Store.settled (c.what_fits_finds_place.ensures m)
     c.in-Err.ensures.makes c.in-Err.ensures.fails c.in-Err.ensures.blames)
 

@@ -1,8 +1,7 @@
-use Rattle.std.proofs.Common.{rules, ◌≡◌, Some, sym, ◌∙◌}
+use Rattle.std.proofs.Common.{rules, ◌≡◌, Some, sym}
 use Rattle.std.proofs.lemmas.Result.{err_from_is_err_and}
 use Rattle.sqlite.specs.Held.{state}
 use Rattle.dip_desk_state.specs.Rows as rows
-use Rattle.dip_store_sql.specs.Calls.{tables_in}
 use Rattle.dip_store.specs.Seen.{part_of}
 use Rattle.dip_store.specs.Stored.{said_by}
 use Rattle.dip_store.proofs.Looking.{looks_learned, looks_ill, looks_recalled, looks_wanting}
@@ -11,7 +10,7 @@ use Rattle.dip_store.proofs.keeper.SqlKeeperKeeper.public.Goals as goal
 pub returns-in-Some : goal.returns-in-Some
 returns-in-Some g c =
     let copied : part_of c.args.game.now c.args.self.now.seen ≡ Some (rows.public c.in_ok-clone.field-0.value) = search rules in
-    looks_recalled g.S.Store c.args.map.now c.args.self.now _ _ _ (λ recalls. sym (recalls c.args.game.now (rows.public c.in_ok-clone.field-0.value) copied))
+    looks_recalled g.S.Store c.args.map.now c.args.self.now _ _ _ (λ recalls. sym (recalls.0 c.args.game.now (rows.public c.in_ok-clone.field-0.value) copied))
 
 pub returns-in_err-clone : goal.returns-in_err-clone
 returns-in_err-clone g c =
@@ -21,9 +20,9 @@ returns-in_err-clone g c =
 pub returns-in-Ok : goal.returns-in-Ok
 returns-in-Ok g c =
     let m = c.args.map.now in
-    looks_learned g.S.Store m c.args.self.now c.look_shared_public.new.conn _ _ c.in-Ok.public _ c.learn.new.self c.in-Ok.ensures.selects
+    looks_learned g.S.Store m c.args.self.now c.look_shared_public.new.conn _ _ c.in-Ok.public _ c.learn.new.self c.args.self.now.owns c.in-Ok.ensures.selects
     (λ kept ours clean. c.in-Ok.ensures.value kept clean)
-    (c.learn.ensures (said_by m (state g.S.Store c.args.self.now.conn).now.trees))
+    (λ recalls is. (c.learn.ensures (said_by m (state g.S.Store c.args.self.now.conn).now.trees) recalls.0 is, recalls.1))
 
 pub returns-in-Err : goal.returns-in-Err
 returns-in-Err g c =

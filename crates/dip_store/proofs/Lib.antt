@@ -25,3 +25,4 @@ pub mod Filling
 pub mod Renewed
 pub mod Renewal
 pub mod Rewritten
+pub mod Refilling

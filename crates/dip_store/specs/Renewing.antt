@@ -1,26 +1,26 @@
 -- Tables of version 1 made into those of version 2.
-use Rattle.std.specs.Prelude.{◌≡◌, ◌⊎◌, ◌==◌, ◌++◌, ℕ, suc, pos, true, List, [], ◌∷◌, map, codes, if◌then◌else◌}
+use Rattle.std.specs.Prelude.{◌≡◌, ◌⊎◌, ◌==◌, ◌++◌, ℕ, suc, pos, List, [], ◌∷◌, map, codes, if◌then◌else◌}
 use Rattle.std.specs.List.{AllByRecursion}
 use Rattle.sqlite.specs.declared.types.Value.TheVariants.{Int}
 use Rattle.sqlite.specs.Order.{Row, bytes, column}
-use Rattle.sqlite.specs.Edit.{IsOversized, id_in}
 use Rattle.sqlite.specs.Effect.{Database}
-use Rattle.sqlite.specs.Ops.{fits_i64}
 use Rattle.sqlite.specs.State.{State}
-use Rattle.sqlite.specs.Table.{Table}
-use Rattle.sqlite.specs.Tree.{Trees, rowid}
+use Rattle.sqlite.specs.Tree.{Trees}
 use Rattle.dip_map.specs.Charts.{Chart}
 use Rattle.dip_desk_state.specs.State.{State as Content}
 use Rattle.dip_store_tables.specs.Counting.{AreCounted}
 use Rattle.dip_store_tables.specs.Tables.{BallotRow, ChoiceRow, Tables}
 use Rattle.dip_store_looks.specs.Readable.{HasText}
 use Rattle.dip_store_changes.specs.Parts.{more_ballots}
-use Rattle.dip_store_sql.specs.Rows.{number_in, put_ballot, put_choice, put_desk, put_seat, take_desk, take_seat}
-use Rattle.dip_store_sql.specs.Schema.{our_schema, ballot_table, choice_table, desk_table, seat_table}
+use Rattle.dip_store_sql.specs.Rows.{number_in, put_ballot, put_choice}
+use Rattle.dip_store_sql.specs.Schema.{ballot_table, choice_table, desk_table, seat_table}
+use Rattle.dip_store_sql.specs.Storing.{CanStand, second_row, voteless_row}
 use Rattle.dip_store_sql.specs.TablesAfter.{on_desk, on_seats}
+use Rattle.dip_store.specs.Desk.{DeskSays}
+use Rattle.dip_store.specs.Known.{IsOfVersion1}
 use Rattle.dip_store.specs.Making.{HasTables}
 use Rattle.dip_store_sql.specs.Old.{WasGood, old_tables_of}
-use Rattle.dip_store_tables.specs.Renewing.{WereOurs, old_choice, old_state_of, renewed, second, voteless}
+use Rattle.dip_store_tables.specs.Renewing.{WereOurs, old_ballot, old_choice, old_state_of, renewed, second, voteless}
 
 -- a database that keepers of version 1 alone have written, by this map
 pub record IsOldStore (m : Chart) (db : Database) : Type 0 where
@@ -70,29 +70,31 @@ Fills names ballots old trees =
 abbrev pub Renews : Tables → Trees → Type 0
 Renews t db = (d : Database) × HasTables (renewed t) d × (db ≡ d.trees)
 
--- a row can be stored in its table, with its entries in the indexes, and its number has 64 bits
-abbrev pub CanStand : Table → Row → Type 0
-CanStand table row = (IsOversized our_schema table row → ⊥) × (fits_i64 (id_in (rowid row)) ≡ true)
-
 -- the rows of records, numbered from here on
 abbrev pub rows_from : {A : Type 0} → ℕ → (A → Row) → List A → List Row
 rows_from n put [] = []
 rows_from n put (x ∷ xs) = (Int (pos n) ∷ put x) ∷ rows_from (suc n) put xs
 
--- a seat's row without a vote, and a master's row of version 2, each with its number
-abbrev pub voteless_row : Row → Row
-voteless_row r = rowid r ∷ put_seat (voteless (take_seat r))
-
-abbrev pub second_row : Row → Row
-second_row r = rowid r ∷ put_desk (second (take_desk r))
-
--- each row that is written where these tables of version 1 are made anew can stand in its table
+-- each row that is written where these tables of version 1 are made anew can be stored in its table, and has a number
 pub record HasRoomAnew (db : Trees) : Type 0 where
   pub ballots : AllByRecursion (CanStand ballot_table) (rows_from 1 put_ballot (renewed (old_tables_of db)).ballots)
   pub choices : AllByRecursion (CanStand choice_table) (rows_from 1 put_choice (renewed (old_tables_of db)).choices)
-  pub seats : AllByRecursion (λ r. CanStand seat_table (voteless_row r)) (db 4)
-  pub desk : AllByRecursion (λ r. CanStand desk_table (second_row r)) (db 0)
+  pub seats : AllByRecursion (CanStand seat_table) (map voteless_row (db 4))
+  pub desk : AllByRecursion (CanStand desk_table) (map second_row (db 0))
 
 -- not each can: one is longer than a store takes, or there is no number left for it
 abbrev pub Outgrows : Trees → Type 0
 Outgrows db = HasRoomAnew db → ⊥
+
+-- the master's row is of version 1 and says this map, and they can't be made anew
+abbrev pub IsTooFullFor : List ℕ → Trees → Type 0
+IsTooFullFor map_sum db = DeskSays 1 map_sum (old_tables_of db) × Outgrows db
+
+-- tables of version 1 that aren't made anew for a reason of their own: no keeper of that version wrote them, or they can't be
+abbrev pub IsLeftOld : Chart → List ℕ → Database → Type 0
+IsLeftOld m map_sum db = IsOfVersion1 db.schema × (IsOldStore m db → IsTooFullFor map_sum db.trees)
+
+-- the names of the games, and the ballots of the seats, as they are read
+pub record AreRead (names : List (List ℕ)) (ballots : List BallotRow) (t : Tables) : Type 0 where
+  pub named : names ≡ map (λ g. g.name) t.games
+  pub voted : ballots ≡ map old_ballot t.seats

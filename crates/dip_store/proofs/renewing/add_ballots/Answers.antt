@@ -5,6 +5,7 @@ use Rattle.dip_store_sql.specs.Calls.{Writes}
 use Rattle.dip_store_sql.proofs.Parts.{went, writes_more}
 use Rattle.dip_store_changes.specs.Parts.{more_ballots}
 use Rattle.dip_store.proofs.Filling.{ballots_on, take_more}
+use Rattle.dip_store.proofs.Refilling.{BallotIs, ballots_next}
 use Rattle.dip_store.proofs.renewing.add_ballots.Goals as goal
 
 pub loop-ballot-preserved : goal.loop-ballot-preserved
@@ -16,4 +17,6 @@ loop-ballot-preserved g c =
       writes = writes_more _ _ _ _ _ _ _ _ _ tt tt tt
           (ballots_on _ _ _ (take_more c.args.ballots.now c.loop-ballot.ballot-index d (omega arith)))
           c.loop-ballot.invariant.writes step;
+      tries = ballots_next c.args.ballots.now c.loop-ballot.ballot-index d (omega arith) _ _ _ tt (went (Unit {0}) Error tt) c.loop-ballot.invariant.tries
+          (subst (λ b. BallotIs b (state g.S.Store c.loop-ballot.tx.conn.now) (state g.S.Store c.add_new_ballot.new.tx.conn.now) (went (Unit {0}) Error tt)) c.ballot-item.is c.in_ok-add_new_ballot.ensures.tries);
     }

@@ -1,5 +1,5 @@
 -- Tables of version 1 that are filled with rows that can be stored.
-use Rattle.std.proofs.Common.{◌≡◌, ◌≤◌, ◌<◌, ◌⊎◌, inl, inr, Bool, false, ℕ, suc, ℤ, pos, ◌+◌, ◌+ℤ◌, List, [], ◌∷◌, ◌++◌, map, fold, length, length-append, append_assoc, take, drop, get_or, take-append-drop, String, string_bytes, IsTrue, leb, leb-false, leb-true, Ok, Err, Result, OnOk, refl, sym, ap, subst, subst₂, ◌∙◌, arith}
+use Rattle.std.proofs.Common.{◌≡◌, ◌≤◌, ◌<◌, ◌⊎◌, inl, inr, Bool, true, false, ℕ, suc, ℤ, pos, ◌+◌, ◌+ℤ◌, List, [], ◌∷◌, ◌++◌, map, fold, length, length-append, append_assoc, take, drop, get_or, take-append-drop, String, string_bytes, IsTrue, leb, leb-false, leb-true, Ok, Err, Result, OnOk, refl, sym, ap, subst, subst₂, ◌∙◌, arith}
 use Rattle.std.specs.List.{AllByRecursion}
 use Rattle.std.specs.declared.alloc.Global.{Global}
 use Rattle.std.proofs.lemmas.List.{map-append}
@@ -28,7 +28,7 @@ use Rattle.dip_store_sql.specs.Old.{HasOld, WasGood, nine_schema, old_schema, ol
 use Rattle.dip_store_sql.specs.Rows.{put_ballot, put_choice, tables_of, take_ballot, take_choice}
 use Rattle.dip_store_sql.specs.Schema.{ballot_table, choice_table, desk_table, seat_table}
 use Rattle.dip_store_sql.specs.Storing.{AreSpared, CanStand, Stores, StoresBehind, next_row, second_row, voteless_row}
-use Rattle.dip_store_sql.specs.TablesAfter.{on_desk, on_seats}
+use Rattle.dip_store_sql.specs.TablesAfter.{on_desk, on_seats, with_ballot, with_choice}
 use Rattle.dip_store_sql.specs.Wants.{IsReady, Wants, always}
 use Rattle.dip_store_sql.proofs.Caused.{faulted_late}
 use Rattle.dip_store_sql.proofs.Created.{ballot_makes, choice_makes}
@@ -107,6 +107,27 @@ module _ {A : Type 0} (table : Table) (off : (0 ≡ table.tree → ⊥) × (4 �
     ready = λ clean set. stands_on r (writes.runs clean) (wants.ready clean (at_hand set)) (stores.stores.others clean (at_hand set)) (stores.behind clean (at_hand set)) set;
     fails = λ clean set. stores.stores.fails clean (at_hand set) (subst Such (sym set.now.0.has.1) such) (subst (λ (z : ℤ). CanStand table (Int z ∷ put x)) (sym set.now.1) fits, tt);
   }
+
+-- a ballot, and a choice
+abbrev pub BallotIs : {X : Type 0} → BallotRow → State → State → Result X Error → Type 0
+BallotIs b a c r =
+    (old : Database) (t : Tables) (n : ℕ) → Differ same_ballot (t.ballots ++ b ∷ []) → CanStand ballot_table (Int (pos n) ∷ put_ballot b)
+    → Tries (StandsAt 16 n old t) (StandsAt 16 (suc n) old (more_ballots (b ∷ []) t)) a c r
+
+abbrev pub ChoiceIs : {X : Type 0} → ChoiceRow → State → State → Result X Error → Type 0
+ChoiceIs x a c r =
+    (old : Database) (t : Tables) (n : ℕ) → Differ same_choice (t.choices ++ x ∷ []) → CanStand choice_table (Int (pos n) ∷ put_choice x)
+    → Tries (StandsAt 18 n old t) (StandsAt 18 (suc n) old (more_choices (x ∷ []) t)) a c r
+
+pub ballot_tries : (b : BallotRow) (a c : State) (r : Result ℕ Error) → Writes (with_ballot b) a c r → Wants (λ t. Differ same_ballot (with_ballot b t).ballots) a c r
+    → StoresBehind ballot_table (λ t. Differ same_ballot (with_ballot b t).ballots) (next_row put_ballot b) a c r → BallotIs b a c r
+ballot_tries b a c r writes wants stores old t n apart fits =
+    tries_behind ballot_table (λ x. omega (arith, x), λ x. omega (arith, x)) put_ballot (with_ballot b) (λ t. Differ same_ballot (with_ballot b t).ballots) old t b n a c apart fits r writes wants stores
+
+pub choice_tries : (x : ChoiceRow) (a c : State) (r : Result ℕ Error) → Writes (with_choice x) a c r → Wants (λ t. Differ same_choice (with_choice x t).choices) a c r
+    → StoresBehind choice_table (λ t. Differ same_choice (with_choice x t).choices) (next_row put_choice x) a c r → ChoiceIs x a c r
+choice_tries x a c r writes wants stores old t n apart fits =
+    tries_behind choice_table (λ x. omega (arith, x), λ x. omega (arith, x)) put_choice (with_choice x) (λ t. Differ same_choice (with_choice x t).choices) old t x n a c apart fits r writes wants stores
 
 -- no seat's row with a vote
 module _ (old : Database) (t : Tables) (a b : State) where
@@ -207,11 +228,6 @@ BallotsAre all front a b r =
     (old : Database) (t : Tables) → Differ same_ballot (t.ballots ++ all) → AllByRecursion (CanStand ballot_table) (rows_from 1 put_ballot all)
     → Tries (StandsAt 16 1 old t) (StandsAt 16 (suc (length front)) old (more_ballots front t)) a b r
 
-abbrev pub BallotIs : {X : Type 0} → BallotRow → State → State → Result X Error → Type 0
-BallotIs b a c r =
-    (old : Database) (t : Tables) (n : ℕ) → Differ same_ballot (t.ballots ++ b ∷ []) → CanStand ballot_table (Int (pos n) ∷ put_ballot b)
-    → Tries (StandsAt 16 n old t) (StandsAt 16 (suc n) old (more_ballots (b ∷ []) t)) a c r
-
 ballots_both : (xs : List BallotRow) (x : BallotRow) (t : Tables) → more_ballots (x ∷ []) (more_ballots xs t) ≡ more_ballots (xs ++ x ∷ []) t
 ballots_both xs x t = ballots_on xs (x ∷ []) (xs ++ x ∷ []) refl t
 
@@ -229,11 +245,6 @@ abbrev pub ChoicesAre : {X : Type 0} → List ChoiceRow → List ChoiceRow → S
 ChoicesAre all front a b r =
     (old : Database) (t : Tables) → Differ same_choice (t.choices ++ all) → AllByRecursion (CanStand choice_table) (rows_from 1 put_choice all)
     → Tries (StandsAt 18 1 old t) (StandsAt 18 (suc (length front)) old (more_choices front t)) a b r
-
-abbrev pub ChoiceIs : {X : Type 0} → ChoiceRow → State → State → Result X Error → Type 0
-ChoiceIs x a c r =
-    (old : Database) (t : Tables) (n : ℕ) → Differ same_choice (t.choices ++ x ∷ []) → CanStand choice_table (Int (pos n) ∷ put_choice x)
-    → Tries (StandsAt 18 n old t) (StandsAt 18 (suc n) old (more_choices (x ∷ []) t)) a c r
 
 choices_both : (xs : List ChoiceRow) (x : ChoiceRow) (t : Tables) → more_choices (x ∷ []) (more_choices xs t) ≡ more_choices (xs ++ x ∷ []) t
 choices_both xs x t = choices_on xs (x ∷ []) (xs ++ x ∷ []) refl t
@@ -272,8 +283,7 @@ module _ (old : Database) (t : Tables) (a b : State) {X : Type 0} (r : Result X 
       found : (db : Database) → Stands old t db → Differ same_ballot (t.ballots ++ bs) × StandsAt 16 1 old t db
       found db it = (
         subst (λ xs. Differ same_ballot (xs ++ bs)) (sym none) (subst (Differ same_ballot) (sym voted) (ascending-map (λ a b. same_ballot a b ≡ false) old_ballot t.seats (keyed_of t db it.has).seats)),
-        it,
-        ap next_rowid (no_rows take_ballot (db.trees 16) (ap (λ (u : Tables). u.ballots) it.has.1 ∙ none)),
+        (it, ap next_rowid (no_rows take_ballot (db.trees 16) (ap (λ (u : Tables). u.ballots) it.has.1 ∙ none))),
       )
 
   pub choices_put : (names : List (List ℕ)) → names ≡ map (λ g. g.name) t.games → t.choices ≡ [] → Writes (more_choices (map old_choice names)) a b r
@@ -287,8 +297,7 @@ module _ (old : Database) (t : Tables) (a b : State) {X : Type 0} (r : Result X 
           let games = (keyed_of t db it.has).games in
           let all = ascending-map (λ a b. same_choice a b ≡ false) old_choice _ (ascending-map (λ a b. same_choice (old_choice a) (old_choice b) ≡ false) (λ (g : GameRow). g.name) t.games games) in (
             subst (λ xs. Differ same_choice (xs ++ map old_choice names)) (sym none) (subst (λ xs. Differ same_choice (map old_choice xs)) (sym named) all),
-            it,
-            ap next_rowid (no_rows take_choice (db.trees 18) (ap (λ (u : Tables). u.choices) it.has.1 ∙ none)),
+            (it, ap next_rowid (no_rows take_choice (db.trees 18) (ap (λ (u : Tables). u.choices) it.has.1 ∙ none))),
           )
 
 -- the choices that are written are those of the tables made anew

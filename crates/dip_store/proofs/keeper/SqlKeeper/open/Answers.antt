@@ -106,11 +106,11 @@ returns-then-not-has_ballots-clause-caused g c =
           | inr all ↦ of_version_1 c.args.store h c.set_step_limit.ensures (sym c.has_ballots.ensures.value ∙ c.if-not-has_ballots.true) all
         ],
         λ own.
-        let kept = was_kept g.S.Store m c.args.store own h c.set_step_limit.ensures c.is_autocommit.result (c.is_autocommit.ensures.value, c.is_autocommit.ensures.settled, c.if-not-is_autocommit.false, there) in
-        elim (ours clean kept there (subst (λ (d : Database). WereOurs m (old_tables_of d.trees)) (sym same) own.ours) is) [
-          | inl fault ↦ absurd (none (faulted_there g.S.Store c.args.store h e.1 c.set_step_limit.ensures fault))
-          | inr full ↦ subst (λ (d : Database). IsTooFullFor text d.trees) same full
-        ],
+            let kept = was_kept g.S.Store m c.args.store own h c.set_step_limit.ensures c.is_autocommit.result (c.is_autocommit.ensures.value, c.is_autocommit.ensures.settled, c.if-not-is_autocommit.false, there) in
+            elim (ours clean kept there (subst (λ (d : Database). WereOurs m (old_tables_of d.trees)) (sym same) own.ours) is) [
+              | inl fault ↦ absurd (none (faulted_there g.S.Store c.args.store h e.1 c.set_step_limit.ensures fault))
+              | inr full ↦ subst (λ (d : Database). IsTooFullFor text d.trees) same full
+            ],
       ))
     ])
     c.open_old.ensures.caused c.open_old.ensures.caused_of_ours

@@ -28,3 +28,4 @@ pub mod Filling
 pub mod Renewed
 pub mod Renewal
 pub mod Rewritten
+pub mod Refilling

@@ -55,6 +55,16 @@ desk_told fault looks.Memory blamed is = absurd (let x : Memory ≡ Disk = is in
 desk_told fault (looks.Query e) blamed is = row_told fault e blamed is
 desk_told fault looks.Foreign blamed is = absurd (let x : OtherSchema ≡ Disk = is in cc)
 
+-- so is it where the rows are those of a desk
+row_caused : (fault : Type 0) (e : Error) → IsCaused fault e → row_fault e ≡ Disk → fault
+row_caused fault e (inl memory) is = absurd (let bad : Memory ≡ Disk = ap row_fault (sym memory) ∙ is in cc)
+row_caused fault e (inr disk) is = disk.1
+
+pub desk_caused : (fault : Type 0) (e : LookFault) → IsFromOutside fault e → desk_fault e ≡ Disk → fault
+desk_caused fault looks.Memory own is = absurd (let x : Memory ≡ Disk = is in cc)
+desk_caused fault (looks.Query e) own is = row_caused fault e own is
+desk_caused fault looks.Foreign own is = absurd own
+
 -- an error of reading a column is none of the disk
 unblamed : (at : ℕ) (v : Value) (e : Error) → IsReadError at v e → IsBlamed ⊥ e
 unblamed at v e (inl is) out = absurd (let x : false ≡ true = sym (ap is_outage is) ∙ out in cc)

@@ -8,6 +8,7 @@ pub mod Faults
 pub mod Opening
 pub mod Refusing
 pub mod Renewing
+pub mod Rewriting
 pub mod Seen
 pub mod Owns
 pub mod Stored

@@ -1,5 +1,6 @@
 -- Tables of version 1 made into those of version 2.
-use Rattle.std.specs.Prelude.{◌≡◌, ◌⊎◌, ◌==◌, ◌++◌, ℕ, pos, List, map, codes, if◌then◌else◌}
+use Rattle.std.specs.Prelude.{◌≡◌, ◌⊎◌, ◌==◌, ◌++◌, ℕ, suc, pos, List, [], ◌∷◌, map, codes, if◌then◌else◌}
+use Rattle.std.specs.List.{AllByRecursion}
 use Rattle.sqlite.specs.declared.types.Value.TheVariants.{Int}
 use Rattle.sqlite.specs.Order.{Row, bytes, column}
 use Rattle.sqlite.specs.Effect.{Database}
@@ -11,11 +12,15 @@ use Rattle.dip_store_tables.specs.Counting.{AreCounted}
 use Rattle.dip_store_tables.specs.Tables.{BallotRow, ChoiceRow, Tables}
 use Rattle.dip_store_looks.specs.Readable.{HasText}
 use Rattle.dip_store_changes.specs.Parts.{more_ballots}
-use Rattle.dip_store_sql.specs.Rows.{number_in}
+use Rattle.dip_store_sql.specs.Rows.{number_in, put_ballot, put_choice}
+use Rattle.dip_store_sql.specs.Schema.{ballot_table, choice_table, desk_table, seat_table}
+use Rattle.dip_store_sql.specs.Storing.{CanStand, second_row, voteless_row}
 use Rattle.dip_store_sql.specs.TablesAfter.{on_desk, on_seats}
+use Rattle.dip_store.specs.Desk.{DeskSays}
+use Rattle.dip_store.specs.Known.{IsOfVersion1}
 use Rattle.dip_store.specs.Making.{HasTables}
 use Rattle.dip_store_sql.specs.Old.{WasGood, old_tables_of}
-use Rattle.dip_store_tables.specs.Renewing.{WereOurs, old_choice, old_state_of, renewed, second, voteless}
+use Rattle.dip_store_tables.specs.Renewing.{WereOurs, old_ballot, old_choice, old_state_of, renewed, second, voteless}
 
 -- a database that keepers of version 1 alone have written, by this map
 pub record IsOldStore (m : Chart) (db : Database) : Type 0 where
@@ -64,3 +69,32 @@ Fills names ballots old trees =
 -- the trees of tables of version 2 that these of version 1 became, whole
 abbrev pub Renews : Tables → Trees → Type 0
 Renews t db = (d : Database) × HasTables (renewed t) d × (db ≡ d.trees)
+
+-- the rows of records, numbered from here on
+abbrev pub rows_from : {A : Type 0} → ℕ → (A → Row) → List A → List Row
+rows_from n put [] = []
+rows_from n put (x ∷ xs) = (Int (pos n) ∷ put x) ∷ rows_from (suc n) put xs
+
+-- each row that is written where these tables of version 1 are made anew can be stored in its table, and has a number
+pub record HasRoomAnew (db : Trees) : Type 0 where
+  pub ballots : AllByRecursion (CanStand ballot_table) (rows_from 1 put_ballot (renewed (old_tables_of db)).ballots)
+  pub choices : AllByRecursion (CanStand choice_table) (rows_from 1 put_choice (renewed (old_tables_of db)).choices)
+  pub seats : AllByRecursion (CanStand seat_table) (map voteless_row (db 4))
+  pub desk : AllByRecursion (CanStand desk_table) (map second_row (db 0))
+
+-- not each can: one is longer than a store takes, or there is no number left for it
+abbrev pub Outgrows : Trees → Type 0
+Outgrows db = HasRoomAnew db → ⊥
+
+-- the master's row is of version 1 and says this map, and they can't be made anew
+abbrev pub IsTooFullFor : List ℕ → Trees → Type 0
+IsTooFullFor map_sum db = DeskSays 1 map_sum (old_tables_of db) × Outgrows db
+
+-- tables of version 1 that aren't made anew for a reason of their own: no keeper of that version wrote them, or they can't be
+abbrev pub IsLeftOld : Chart → List ℕ → Database → Type 0
+IsLeftOld m map_sum db = IsOfVersion1 db.schema × (IsOldStore m db → IsTooFullFor map_sum db.trees)
+
+-- the names of the games, and the ballots of the seats, as they are read
+pub record AreRead (names : List (List ℕ)) (ballots : List BallotRow) (t : Tables) : Type 0 where
+  pub named : names ≡ map (λ g. g.name) t.games
+  pub voted : ballots ≡ map old_ballot t.seats

@@ -1,10 +1,12 @@
 //! The statements that make our tables, one behind another.
 ghost use Rattle.std.specs.Prelude.{◌≡◌};
+ghost use Rattle.sqlite.specs.Effect.{Database};
 ghost use Rattle.sqlite.specs.Held.{state};
 ghost use Rattle.dip_store.specs.Making.{HasFirst, HasTables, Leads, Tries};
+ghost use Rattle.dip_store.specs.Rewriting.{HasBallotsOver, Stands};
 ghost use Rattle.dip_store_sql.specs.TablesAfter.{no_tables};
 ghost use Rattle.dip_store_tables.specs.Tables.{Tables};
-ghost use Rattle.dip_store_sql.specs.Old.{HasNine, HasOld};
+ghost use Rattle.dip_store_sql.specs.Old.{HasNine, HasOld, WasGood, old_tables_of};
 
 use sqlite::{Alter, Error, Transaction};
 
@@ -129,6 +131,9 @@ fn create_ballot<S: Alter>(tx: &mut Transaction<'_, S>) -> Result<usize, Error>
         (state S.Store tx.old.conn.now) (state S.Store tx.new.conn.now) result }
     ensures over { (t : Tables) → Leads (HasOld t) (HasNine t)
         (state S.Store tx.old.conn.now) (state S.Store tx.new.conn.now) result }
+    ensures tries_over { (old : Database) → WasGood old → Tries (λ db. db ≡ old)
+        (HasBallotsOver old)
+        (state S.Store tx.old.conn.now) (state S.Store tx.new.conn.now) result }
 {
     tx.execute(
         "CREATE TABLE ballot (game TEXT NOT NULL, power TEXT NOT NULL, names TEXT NOT NULL, PRIMARY KEY (game, power)) STRICT",
@@ -144,6 +149,9 @@ fn create_choice<S: Alter>(tx: &mut Transaction<'_, S>) -> Result<usize, Error>
     ensures tries { Tries (HasFirst 9) (HasTables no_tables)
         (state S.Store tx.old.conn.now) (state S.Store tx.new.conn.now) result }
     ensures over { (t : Tables) → Leads (HasNine t) (HasTables t)
+        (state S.Store tx.old.conn.now) (state S.Store tx.new.conn.now) result }
+    ensures tries_over { (old : Database) → Tries (HasBallotsOver old)
+        (Stands old (old_tables_of old.trees))
         (state S.Store tx.old.conn.now) (state S.Store tx.new.conn.now) result }
 {
     tx.execute(
@@ -201,6 +209,9 @@ pub(crate) fn create_choices<S: Alter>(tx: &mut Transaction<'_, S>) -> Result<()
     ensures tries { Tries (HasFirst 8) (HasTables no_tables)
         (state S.Store tx.old.conn.now) (state S.Store tx.new.conn.now) result }
     ensures over { (t : Tables) → Leads (HasOld t) (HasTables t)
+        (state S.Store tx.old.conn.now) (state S.Store tx.new.conn.now) result }
+    ensures tries_over { (old : Database) → WasGood old → Tries (λ db. db ≡ old)
+        (Stands old (old_tables_of old.trees))
         (state S.Store tx.old.conn.now) (state S.Store tx.new.conn.now) result }
 {
     create_ballot(tx)?;

@@ -6,14 +6,14 @@ ghost use Rattle.sqlite.specs.Held.{state};
 ghost use Rattle.sqlite.specs.Tree.{Trees};
 ghost use Rattle.dip_store_sql.specs.Creating.{no_schema};
 ghost use Rattle.dip_store.specs.Desk.{DeskSays};
-ghost use Rattle.dip_store.specs.Known.{HasOldTables, HasOurTables, IsOfVersion1};
+ghost use Rattle.dip_store.specs.Known.{HasOldTables, HasOurTables};
 ghost use Rattle.dip_store_sql.specs.Calls.{does_show, is_honest, tables_in};
 ghost use Rattle.dip_store_sql.specs.Causes.{has_faulted};
 ghost use Rattle.dip_store_sql.specs.TablesAfter.{is_first};
 ghost use Rattle.dip_store_sql.specs.Calls.{WasKept, old_tables_in};
 ghost use Rattle.dip_store_tables.specs.Renewing.{WereOurs};
 ghost use Rattle.dip_store.specs.Opening.{IsDesk, IsOldDesk, MayFound, MayRenew, OldEnds, Opens, StoreEnds};
-ghost use Rattle.dip_store.specs.Renewing.{IsOldStore, old_said_by};
+ghost use Rattle.dip_store.specs.Renewing.{IsLeftOld, IsOldStore, IsTooFullFor, old_said_by};
 ghost use Rattle.dip_store.specs.Refusing.{IsOutage, IsRefused, IsRefusedAs};
 ghost use Rattle.dip_store.specs.Stored.{IsStore, book, fresh_keeper, said_by};
 ghost use Rattle.dip_store_tables.specs.Writing.{new_tables};
@@ -134,13 +134,15 @@ impl<S: Alter> SqlKeeper<S> {
             → IsRefusedAs 1 (sha256 map_text.now)
             (find is_first (old_tables_in S.Store store).desk) e.0) }
         // The disk is told of only where the store told of a fault of it, but for a store that is
-        // made anew: there a row may also be too long, or without a number.
+        // made anew.
         ensures caused { IfErr result (λ e. is_honest S.Store e.1 → does_show S.Store store
             → e.0 ≡ StoreFault.Disk → has_faulted S.Store store e.1
             ⊎ HasOldTables (state S.Store store).now.schema) }
+        // There a row may also be too long to be stored, or without a number.
         ensures caused_of_ours { IfErr result (λ e. is_honest S.Store e.1 → WasKept S.Store store
-            → does_show S.Store store → e.0 ≡ StoreFault.Disk → has_faulted S.Store store e.1
-            ⊎ DeskSays 1 (sha256 map_text.now) (old_tables_in S.Store store)) }
+            → does_show S.Store store → WereOurs map.now (old_tables_in S.Store store)
+            → e.0 ≡ StoreFault.Disk → has_faulted S.Store store e.1
+            ⊎ IsTooFullFor (sha256 map_text.now) (state S.Store store).now.trees) }
         ensures same { IfErr result (λ e. does_show S.Store e.1 → WasKept S.Store store
             → (state S.Store e.1).committed ≡ (state S.Store store).committed) }
         ensures left { IfErr result (λ e. is_honest S.Store e.1 → WasKept S.Store store
@@ -179,7 +181,8 @@ impl<S: Alter> SqlKeeper<S> {
     /// # Errors
     /// `OtherSchema` where a table isn't there, or the master's row isn't, doesn't read or is of another version; `OtherMap` where that
     /// row says another map. Of a store that keepers wrote these are told nowhere else. `Memory`; `Disk` also for a store with a
-    /// transaction under way, and else only where the store told of a fault of the disk, or its tables of version 1 can't be made anew.
+    /// transaction under way, and else only where the store told of a fault of the disk, or its tables of version 1 can't be made anew:
+    /// no keeper of that version wrote them, or one of the rows that are written is past 10^9 bytes, or without a number of 64 bits.
     /// The store is handed back, and nothing of it changes.
     pub fn open(
         alloc: Global,
@@ -207,11 +210,12 @@ impl<S: Alter> SqlKeeper<S> {
             → IsStore map.now (state S.Store store).now
             → DeskSays 2 (sha256 map_text.now) (tables_in S.Store store) → IsOutage e.0) }
         // Whatever a store has, the disk is told of only where a transaction was under way, or the
-        // store told of a fault of it, or it has the tables of version 1, to be made anew.
+        // store told of a fault of it, or it has tables of version 1 that no keeper of that version
+        // wrote, or that can't be made anew.
         ensures caused { IfErr result (λ e. is_honest S.Store e.1 → does_show S.Store store
             → e.0 ≡ StoreFault.Disk → IsTrue store.in_transaction
             ⊎ (has_faulted S.Store store e.1
-            ⊎ IsOfVersion1 (state S.Store store).now.schema)) }
+            ⊎ IsLeftOld map.now (sha256 map_text.now) (state S.Store store).now)) }
         ensures same { IfErr result (λ e. does_show S.Store e.1
             → IsStore map.now (state S.Store store).now
             → (state S.Store e.1).committed ≡ (state S.Store store).committed) }
@@ -233,11 +237,12 @@ impl<S: Alter> SqlKeeper<S> {
             → IsOldDesk S.Store map.now store
             → DeskSays 1 (sha256 map_text.now) (old_tables_in S.Store store) → IsOutage e.0) }
         // Of a desk of version 1 the disk is told of only where the store told of a fault of it, or
-        // where its master's row let it be made anew.
+        // where its master's row let it be made anew, and one of the rows that this writes is too
+        // long to be stored, or without a number.
         ensures old_caused { IfErr result (λ e. is_honest S.Store e.1
             → IsOldDesk S.Store map.now store
             → e.0 ≡ StoreFault.Disk → has_faulted S.Store store e.1
-            ⊎ DeskSays 1 (sha256 map_text.now) (old_tables_in S.Store store)) }
+            ⊎ IsTooFullFor (sha256 map_text.now) (state S.Store store).now.trees) }
         ensures old_same { IfErr result (λ e. does_show S.Store e.1
             → IsOldStore map.now (state S.Store store).now
             → (state S.Store e.1).committed ≡ (state S.Store store).committed) }

@@ -1,5 +1,8 @@
 //! Tables of version 1 made into those of version 2, in one transaction.
-ghost use Rattle.std.specs.Prelude.{◌≡◌, ◌≤◌, ◌⊎◌, ◌∷◌, [], IfErr, IfOk, None, OnErr, OnOk, false, map as each};
+ghost use Rattle.std.specs.Prelude.{◌≡◌, ◌≤◌, ◌⊎◌, ◌∷◌, ◌++◌, ℕ, suc, pos, [], IfErr, IfOk, IsErrOf, None, OnErr, OnOk, false, map as each};
+ghost use Rattle.std.specs.List.{AllByRecursion};
+ghost use Rattle.sqlite.specs.declared.types.Value.TheVariants.{Int};
+ghost use Rattle.sqlite.specs.Effect.{Database};
 ghost use Rattle.sqlite.specs.Held.{state};
 ghost use Rattle.sqlite.specs.State.{Survives};
 ghost use Rattle.dip_desk_state.specs.Rows.{lines};
@@ -7,16 +10,23 @@ ghost use Rattle.dip_store_changes.specs.Parts.{more_ballots};
 ghost use Rattle.dip_store_changes.specs.Making.{IsLaid};
 ghost use Rattle.dip_store_looks.specs.Faults.{IsFromOutside};
 ghost use Rattle.dip_store_sql.specs.Calls.{Writes, does_show, is_honest, tables_in};
-ghost use Rattle.dip_store_sql.specs.Causes.{has_faulted};
+ghost use Rattle.dip_store_sql.specs.Causes.{IsCaused, has_faulted};
+ghost use Rattle.dip_store_sql.specs.Keys.{Differ, same_ballot, same_choice};
+ghost use Rattle.dip_store_sql.specs.Rows.{put_ballot, put_choice};
+ghost use Rattle.dip_store_sql.specs.Schema.{ballot_table, choice_table};
+ghost use Rattle.dip_store_sql.specs.Storing.{CanStand};
+ghost use Rattle.dip_store_sql.specs.TablesAfter.{with_ballot, with_choice};
 ghost use Rattle.dip_map.specs.Charts.{Chart};
 ghost use Rattle.sqlite.specs.Tree.{Trees};
 ghost use Rattle.dip_store.specs.Founding.{Keeps};
-ghost use Rattle.dip_store.specs.Making.{HasTables, Leads};
-ghost use Rattle.dip_store_sql.specs.Old.{HasOld, WasGood};
+ghost use Rattle.dip_store.specs.Making.{HasTables, Leads, Tries};
+ghost use Rattle.dip_store_sql.specs.Old.{HasOld, WasGood, old_tables_of};
 ghost use Rattle.dip_store_sql.specs.Calls.{SelectsFrom, WasKept, old_tables_in};
 ghost use Rattle.dip_store_tables.specs.Renewing.{WereOurs, old_ballot, old_choice, renewed};
 ghost use Rattle.dip_store.specs.Refusing.{IsOutage};
-ghost use Rattle.dip_store.specs.Renewing.{Fills, IsOldStore, Renews, filled, more_choices};
+ghost use Rattle.dip_store.specs.Renewing.{AreRead, Fills, HasRoomAnew, IsOldStore, Outgrows, Renews, filled, more_choices, rows_from};
+ghost use Rattle.dip_store.specs.Rewriting.{Stands, StandsAt};
+ghost use Rattle.dip_store_tables.specs.Tables.{Tables};
 
 use crate::creating::create_choices;
 use crate::faults::{StoreFault, desk_fault, open_fault};
@@ -31,6 +41,11 @@ fn add_new_ballot<S: Alter>(tx: &mut Transaction<'_, S>, ballot: &NewBallot) -> 
     ensures same_reference { tx.new.conn.ghost_name ≡ tx.old.conn.ghost_name }
     ensures writes { Writes (more_ballots (ballot.now ∷ []))
         (state S.Store tx.old.conn.now) (state S.Store tx.new.conn.now) result }
+    ensures tries { (old : Database) → (t : Tables) → (n : ℕ)
+        → Differ same_ballot (t.ballots ++ ballot.now ∷ [])
+        → CanStand ballot_table (Int (pos n) ∷ put_ballot ballot.now)
+        → Tries (StandsAt 16 n old t) (StandsAt 16 (suc n) old (with_ballot ballot.now t))
+        (state S.Store tx.old.conn.now) (state S.Store tx.new.conn.now) result }
 {
     let names = if ballot.draws { "YES" } else { "NO" };
     add_ballot(tx, ballot.game.as_str(), ballot.power.as_str(), names)?;
@@ -40,6 +55,11 @@ fn add_new_ballot<S: Alter>(tx: &mut Transaction<'_, S>, ballot: &NewBallot) -> 
 fn add_ballots<S: Alter>(tx: &mut Transaction<'_, S>, ballots: &[NewBallot]) -> Result<(), Error>
     ensures same_reference { tx.new.conn.ghost_name ≡ tx.old.conn.ghost_name }
     ensures writes { Writes (more_ballots ballots.now)
+        (state S.Store tx.old.conn.now) (state S.Store tx.new.conn.now) result }
+    ensures tries { (old : Database) → (t : Tables)
+        → Differ same_ballot (t.ballots ++ ballots.now)
+        → AllByRecursion (CanStand ballot_table) (rows_from 1 put_ballot ballots.now)
+        → Tries (StandsAt 16 1 old t) (Stands old (more_ballots ballots.now t))
         (state S.Store tx.old.conn.now) (state S.Store tx.new.conn.now) result }
 {
     for ballot in ballots {
@@ -52,6 +72,12 @@ fn add_new_choice<S: Alter>(tx: &mut Transaction<'_, S>, game: &str) -> Result<(
     ensures same_reference { tx.new.conn.ghost_name ≡ tx.old.conn.ghost_name }
     ensures writes { Writes (more_choices (old_choice game.now ∷ []))
         (state S.Store tx.old.conn.now) (state S.Store tx.new.conn.now) result }
+    ensures tries { (old : Database) → (t : Tables) → (n : ℕ)
+        → Differ same_choice (t.choices ++ old_choice game.now ∷ [])
+        → CanStand choice_table (Int (pos n) ∷ put_choice (old_choice game.now))
+        → Tries (StandsAt 18 n old t)
+        (StandsAt 18 (suc n) old (with_choice (old_choice game.now) t))
+        (state S.Store tx.old.conn.now) (state S.Store tx.new.conn.now) result }
 {
     add_choice(tx, game, false)?;
     Ok(())
@@ -60,6 +86,13 @@ fn add_new_choice<S: Alter>(tx: &mut Transaction<'_, S>, game: &str) -> Result<(
 fn add_choices<S: Alter>(tx: &mut Transaction<'_, S>, games: &[String]) -> Result<(), Error>
     ensures same_reference { tx.new.conn.ghost_name ≡ tx.old.conn.ghost_name }
     ensures writes { Writes (more_choices (each old_choice (lines games.now)))
+        (state S.Store tx.old.conn.now) (state S.Store tx.new.conn.now) result }
+    ensures tries { (old : Database) → (t : Tables)
+        → Differ same_choice (t.choices ++ each old_choice (lines games.now))
+        → AllByRecursion (CanStand choice_table)
+        (rows_from 1 put_choice (each old_choice (lines games.now)))
+        → Tries (StandsAt 18 1 old t)
+        (Stands old (more_choices (each old_choice (lines games.now)) t))
         (state S.Store tx.old.conn.now) (state S.Store tx.new.conn.now) result }
 {
     for game in games {
@@ -78,6 +111,11 @@ fn renew_tables<S: Alter>(
     ensures leads { Leads (HasOld (old_tables_in S.Store tx.old.conn.now)) (HasTables
         (filled (lines games.now) ballots.now (old_tables_in S.Store tx.old.conn.now)))
         (state S.Store tx.old.conn.now) (state S.Store tx.new.conn.now) result }
+    ensures tries { (old : Database) → WasGood old
+        → AreRead (lines games.now) ballots.now (old_tables_of old.trees)
+        → HasRoomAnew old.trees → Tries (λ db. db ≡ old)
+        (HasTables (filled (lines games.now) ballots.now (old_tables_of old.trees)))
+        (state S.Store tx.old.conn.now) (state S.Store tx.new.conn.now) result }
 {
     create_choices(tx)?;
     add_ballots(tx, ballots)?;
@@ -90,7 +128,8 @@ fn renew_tables<S: Alter>(
 /// Tables of version 1 become those of version 2 with these ballots, and these games without the option INTENT: the whole of it or nothing.
 ///
 /// # Errors
-/// Want of memory, or what the disk refused. Then what was committed is as before.
+/// Want of memory, what the disk refused, or a row that is too long to be stored or has no number left. Then what was committed is as
+/// before.
 pub(crate) fn fill<S: Alter>(
     conn: &mut Connection<S>,
     games: &[String],
@@ -108,6 +147,13 @@ pub(crate) fn fill<S: Alter>(
         ((state S.Store conn.new).committed ≡ (state S.Store conn.old).committed) }
     ensures err { does_show S.Store conn.new → OnErr result
         ((state S.Store conn.new).now ≡ (state S.Store conn.old).committed) }
+    // Where each row can be stored, and has a number, it fails for want of memory, or by the disk
+    // where the store told of a fault of it.
+    ensures fails { WasKept S.Store conn.old → does_show S.Store conn.old
+        → is_honest S.Store conn.new
+        → AreRead (lines games.now) ballots.now (old_tables_in S.Store conn.old)
+        → HasRoomAnew (state S.Store conn.old).now.trees
+        → IfErr result (IsCaused (has_faulted S.Store conn.old conn.new)) }
     ensures crash { Survives (state S.Store conn.old) (state S.Store conn.new)
         (Fills (lines games.now) ballots.now (state S.Store conn.old)) }
 {
@@ -150,7 +196,8 @@ fn old_ballots<S: Alter>(
 /// and all else stays.
 ///
 /// # Errors
-/// `Memory`, `Disk`, or `OtherSchema` for a vote that no keeper wrote. Then what was committed is as before.
+/// `Memory`; `Disk`, of a keeper's rows only where the store told of a fault of the disk, or a row that is written is too long to be
+/// stored or has no number left; `OtherSchema` for a vote that no keeper wrote. Then what was committed is as before.
 pub(crate) fn renew<S: Alter>(conn: &mut Connection<S>, alloc: Global) -> Result<(), StoreFault>
     requires { conn.old.in_transaction ≡ false }
     ensures kept { WasKept S.Store conn.old → (m : Chart)
@@ -159,6 +206,12 @@ pub(crate) fn renew<S: Alter>(conn: &mut Connection<S>, alloc: Global) -> Result
     ensures own { WasKept S.Store conn.old → does_show S.Store conn.old
         → is_honest S.Store conn.new → (m : Chart) → WereOurs m (old_tables_in S.Store conn.old)
         → IfErr result IsOutage }
+    // The disk is told of only where the store told of a fault of it, or a row is too long to be
+    // stored, or without a number.
+    ensures caused { WasKept S.Store conn.old → does_show S.Store conn.old
+        → is_honest S.Store conn.new → (m : Chart) → WereOurs m (old_tables_in S.Store conn.old)
+        → IsErrOf result StoreFault.Disk → has_faulted S.Store conn.old conn.new
+        ⊎ Outgrows (state S.Store conn.old).now.trees }
     ensures ok { is_honest S.Store conn.new → OnOk result (does_show S.Store conn.new) }
     ensures fair { is_honest S.Store conn.new → is_honest S.Store conn.old }
     ensures shown { does_show S.Store conn.new → does_show S.Store conn.old }

@@ -1,7 +1,10 @@
 -- A statement of a transaction fails for want alone.
-use Rattle.std.proofs.Common.{◌≡◌, inl, inr, ℕ, List, true, IsTrue, Ok, Err, Result, refl, sym, ap, subst, ◌∙◌}
+use Rattle.std.proofs.Common.{◌≡◌, inl, inr, ℕ, List, [], ◌∷◌, ◌++◌, true, IsTrue, Ok, Err, Result, refl, sym, ap, subst, ◌∙◌}
+use Rattle.std.specs.List.{AllByRecursion}
 use Rattle.sqlite.specs.declared.error.Error.{Error}
 use Rattle.sqlite.specs.Order.{Row}
+use Rattle.sqlite.specs.Table.{Table}
+use Rattle.sqlite.specs.Tree.{Trees}
 use Rattle.sqlite.specs.Command.{Command}
 use Rattle.sqlite.specs.Command.TheVariants.{Commit, Rollback, Release, RollbackTo}
 use Rattle.sqlite.specs.Listing.{understood}
@@ -15,6 +18,7 @@ use Rattle.dip_store_sql.specs.Calls.{Writes}
 use Rattle.dip_store_sql.specs.Causes.{Faulted, IsCaused}
 use Rattle.dip_store_sql.specs.Rows.{tables_of}
 use Rattle.dip_store_sql.specs.Refusals.{IsBlamed, IsWant}
+use Rattle.dip_store_sql.specs.Storing.{AreSpared, CanStand, Stores, StoresBehind}
 use Rattle.dip_store_sql.specs.Wants.{FailsOutside, IsReady, Wants}
 use Rattle.dip_store_sql.proofs.Blamed.{IsAlwaysCalm, edits_calm, executes_blamed}
 use Rattle.dip_store_sql.proofs.Failing.{edits_rows, other_than}
@@ -72,6 +76,25 @@ module _ (sql : List ℕ) (params : Row) (Allow : Tables → Type 0) (f : Tables
       | inr ended ↦ absurd (goes_on ready ended.0)
     ];
   }
+
+  -- its rows, where they can stand
+  pub stores_one : (table : Table) (rows : Trees → List Row) (r : Result ℕ Error) → (HasCleanDisk new → IsTrue old.in_transaction → ExecutesInside 0 sql params old new r)
+      → ((e : Error) → IsReady old → Allow (tables_of old.now.trees) → AllByRecursion (CanStand table) (rows old.now.trees) → Executes sql params old new (Err e) → IsCaused (Faulted old new) e)
+      → ((count : ℕ) → IsReady old → Executes sql params old new (Ok count) → AreSpared table old.now.trees new.now.trees) → Stores table Allow rows old new r
+  stores_one table rows (Ok count) runs cause spares = record { fails = λ clean ready may fits. tt; others = λ clean ready. spares count ready (runs clean ready.inside).0 }
+  stores_one table rows (Err e) runs cause spares = record {
+    fails = λ clean ready may fits. elim (runs clean ready.inside) [
+      | inl ran ↦ cause e ready may fits ran.0
+      | inr ended ↦ absurd (goes_on ready ended.0)
+    ];
+    others = λ clean ready. tt;
+  }
+
+  pub behind_one : (table : Table) (row : List Row → Row) (r : Result ℕ Error) → Stores table Allow (λ db. row (db table.tree) ∷ []) old new r
+      → (HasCleanDisk new → IsTrue old.in_transaction → ExecutesInside 0 sql params old new r)
+      → ((count : ℕ) → IsReady old → Executes sql params old new (Ok count) → new.now.trees table.tree ≡ old.now.trees table.tree ++ row (old.now.trees table.tree) ∷ []) → StoresBehind table Allow row old new r
+  behind_one table row (Ok count) stores runs stands = record { stores = stores; behind = λ clean ready. stands count ready (runs clean ready.inside).0 }
+  behind_one table row (Err e) stores runs stands = record { stores = stores; behind = λ clean ready. tt }
 
   pub first_one : (r : Result ℕ Error) → (HasCleanDisk new → IsTrue old.in_transaction → ExecutesInside 0 sql params old new r)
       → ((e : Error) → IsReady old → Allow (tables_of old.now.trees) → Executes sql params old new (Err e) → IsCaused (Faulted old new) e) → FailsOutside Allow old new r

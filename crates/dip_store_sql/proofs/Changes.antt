@@ -18,11 +18,11 @@ use Rattle.sqlite.specs.Rowids.TheVariants.{Chosen, Given}
 use Rattle.sqlite.specs.Effect.{Database}
 use Rattle.sqlite.proofs.Callers.{one_permutation}
 use Rattle.dip_store_tables.specs.Lists.{update_where, delete_where}
-use Rattle.dip_store_tables.proofs.ListLemmas.{map-map, filter-map}
+use Rattle.dip_store_tables.proofs.ListLemmas.{all_weaker, map-map, filter-map}
 use Rattle.dip_store_sql.specs.Recorded.{IsRising, AtMostOne}
 use Rattle.dip_store_sql.specs.Queries.{passes}
 use Rattle.dip_store_sql.specs.Writes.{Edits}
-use Rattle.dip_store_sql.proofs.Places.{id_of, ids_in, of_found}
+use Rattle.dip_store_sql.proofs.Places.{added_last, id_of, ids_in, of_found}
 use Rattle.dip_store_sql.proofs.Edits.{grown, shrunk, renewed, not_renewed}
 use Rattle.dip_store_sql.proofs.Finding.{passing}
 
@@ -64,6 +64,16 @@ module _ {A : Type 0} (put : A → Row) (take : Row → A) (back : (v : Value) (
         let is : new.trees table.tree ≡ put_row (Int (next_rowid rows) ∷ put a) rows =
         e.applies.rows ∙ ap (λ all. edited old.trees (edit_of old.trees table [] Chosen 0 all)) are ∙ ap (λ r. put_row (with_rowid Chosen rows r) rows) row in
         grown put take back rows (new.trees table.tree) a it is
+
+    -- its row stands behind theirs
+    pub insert_behind : (a : A) (sources : List Row) → sources ≡ (Null ∷ put a) ∷ [] → Edits schema (edit_of old.trees table [] Chosen 0 sources) old new
+        → new.trees table.tree ≡ old.trees table.tree ++ (Int (next_rowid (old.trees table.tree)) ∷ put a) ∷ []
+    insert_behind a sources are e =
+        let rows = old.trees table.tree in
+        let row : cast_row table (Null ∷ put a) ≡ Null ∷ put a = ap₂ ◌∷◌ cast_null (casts a) in
+        let is : new.trees table.tree ≡ put_row (Int (next_rowid rows) ∷ put a) rows =
+        e.applies.rows ∙ ap (λ all. edited old.trees (edit_of old.trees table [] Chosen 0 all)) are ∙ ap (λ r. put_row (with_rowid Chosen rows r) rows) row in
+        is ∙ added_last rows (put a) (all_weaker _ (λ r. rowid r ≡ Int (id_of r)) (λ r h. ap rowid h) rows it.typed) it.rising
 
     module _ (params : Row) (tests : List Term) (p : A → Bool) (tells : (v : Value) (a : A) → passes tests params (v ∷ put a) ≡ p a) where
       same_rows : filter (passes tests params) (old.trees table.tree) ≡ filter (λ r. p (take r)) (old.trees table.tree)

@@ -330,6 +330,22 @@ module _ (schema : Schema) (at : ℕ) (table : Table) (listed : slice_get schema
     ]
   ]
 
+  -- and one that stops at a row that can't be stored
+  pub update_oversized : (q : Program) → Does None mode params old text None (Update at q) (Err None)
+      → (rows : List Row) × Answers (record { schema = schema; trees = old.trees }) q params rows × (row : Row) × Has (edit_of old.trees table (ids_of rows) Given 1 rows).news row × IsOversized schema table row
+  update_oversized q h =
+      let there : OnRows task mode None (Update at q) old.trees (Err None) = rw listed at (subst (λ s. OnTable None mode params (record old { schema = s }) at (λ t. OnRows t mode None (Update at q) old.trees) (Err None)) has h) in
+      elim (halts (WritesRows task old.trees (Update at q)) (Concludes task mode None) None there) [
+        | inl s ↦ elim (halts (found q) updated None s) [
+          | inl none ↦ absurd none
+          | inr rows ↦ let edit = edit_of old.trees table (ids_of rows.0) Given 1 rows.0 in elim (halts (Edited schema Enforced old.trees edit) (put_anew rows.0) None rows.2) [
+            | inl s ↦ (let r = edit_oversized schema old.trees edit (calm (taken_by old.trees edit) edit.news) s in (rows.0, rows.1, r.0, r.1, r.2))
+            | inr on ↦ absurd (no_stop _ None on.2)
+          ]
+        ]
+        | inr on ↦ absurd (concludes_none on.0 on.2)
+      ]
+
   -- a DELETE of the rows that a query finds
   pub delete_refused : (q : Program) → ((er : Error) → RefusesQuery None (record { schema = schema; trees = old.trees }) q params er → ⊥) → (e : Error) → Does None mode params old text None (Delete at q) (Err (Some e))
       → (rows : List Row) × Answers (record { schema = schema; trees = old.trees }) q params rows × (why : Refusal) × IsRefused schema Enforced old.trees (edit_of old.trees table (ids_of rows) Given 0 []) why × (e ≡ edit_error why)

@@ -26,6 +26,7 @@ pub mod Numbered
 pub mod Parts
 pub mod Selecting
 pub mod Stating
+pub mod Storing
 pub mod Telling
 pub mod Turned
 pub mod Asked

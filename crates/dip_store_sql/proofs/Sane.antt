@@ -1,7 +1,9 @@
 -- A statement on records whose keys stay apart fails for want alone.
-use Rattle.std.proofs.Common.{◌≡◌, ◌⊎◌, inl, inr, pos, ap₂, ℕ, List, [], ◌∷◌, ◌++◌, ◌/◌, ◌||◌, map, filter, length, Bool, true, false, Some, None, Ok, Err, Result, IsTrue, slice_get, refl, sym, ap, subst, ◌∙◌}
-use Rattle.std.specs.List.{list_all}
+use Rattle.std.proofs.Common.{◌≡◌, ◌⊎◌, inl, inr, pos, ap₂, ℕ, List, [], ◌∷◌, ◌++◌, ◌/◌, ◌||◌, map, filter, drop, length, Bool, true, false, Some, None, Ok, Err, Result, IsTrue, slice_get, refl, sym, ap, subst, ◌∙◌}
+use Rattle.std.specs.List.{AllByRecursion}
 use Rattle.std.specs.List.Sorted.{IsPermutation}
+use Rattle.std.proofs.lemmas.List.Elements.{All-from_recursion, recursion_from_All}
+use Rattle.std.proofs.lemmas.List.Sorted.{All-permutation}
 use Rattle.sqlite.specs.declared.types.Value.{Value}
 use Rattle.sqlite.specs.declared.types.Value.TheVariants.{Null, Int}
 use Rattle.sqlite.specs.declared.error.Error.{Error}
@@ -10,8 +12,9 @@ use Rattle.sqlite.specs.declared.error.ErrorCode.TheVariants as code
 use Rattle.sqlite.specs.Order.{Row}
 use Rattle.sqlite.specs.Tree.{Trees, rowid}
 use Rattle.sqlite.specs.Ops.{fits_i64}
-use Rattle.sqlite.specs.Edit.{IsOversized, IsRefused, edit_of, id_in, next_rowid, with_rowid}
-use Rattle.sqlite.specs.Rowids.TheVariants.{Chosen}
+use Rattle.sqlite.specs.Edit.{Edit, IsOversized, IsRefused, edit_of, id_in, left_by, next_rowid, with_rowid}
+use Rattle.sqlite.specs.Rowids.TheVariants.{Chosen, Given}
+use Rattle.sqlite_rules.specs.Calls.{ids_of}
 use Rattle.sqlite_rules.specs.Lists.{Has}
 use Rattle.sqlite_rules.specs.declared.error.Refusal.{Refusal}
 use Rattle.sqlite_rules.specs.declared.error.Refusal.TheVariants.{Violates, Mismatch, NoRowid, BadReference, TooDeep}
@@ -39,18 +42,23 @@ use Rattle.sqlite_schema.specs.Program.{lets_of}
 use Rattle.sqlite_schema.specs.Rules.{Refers}
 use Rattle.sqlite_typing.specs.Types.{accepts_program, accepts_terms}
 use Rattle.dip_store_tables.specs.Lists.{update_where, delete_where}
+use Rattle.dip_store_tables.proofs.ListLemmas.{all-filter, all_both, all_map, all_weaker, test_from_all}
 use Rattle.dip_store_sql.specs.Asking.{IsAsked, command_in}
 use Rattle.dip_store_sql.specs.Recorded.{IsRising, AtMostOne}
 use Rattle.dip_store_sql.specs.Queries.{passes, plain_query}
 use Rattle.dip_store_sql.proofs.Answered.{selected}
-use Rattle.dip_store_sql.proofs.Changes.{cast_null}
+use Rattle.dip_store_sql.proofs.Changes.{cast_int, cast_null}
 use Rattle.dip_store_sql.specs.Causes.{Faulted, IsCaused}
 use Rattle.dip_store_sql.specs.Refusals.{IsWant}
-use Rattle.dip_store_sql.proofs.Failing.{delete_refused, edits_rows, fails, insert_oversized, insert_refused, mode, update_refused}
+use Rattle.dip_store_sql.specs.Storing.{CanStandIn}
+use Rattle.dip_store_sql.proofs.Failing.{delete_refused, edits_rows, fails, insert_oversized, insert_refused, mode, update_oversized, update_refused}
 use Rattle.dip_store_sql.proofs.Passing.{AreKept}
 use Rattle.dip_store_sql.proofs.Told.{want_weaker}
 use Rattle.dip_store_sql.proofs.Wanting.{KeysApart, delete_wants, insert_wants, update_wants, whole_wants}
 use Rattle.dip_store_sql.proofs.Faults.{none_any}
+use Rattle.dip_store_sql.proofs.Founding.{each_has}
+use Rattle.dip_store_sql.proofs.Places.{id_of}
+use Rattle.dip_store_sql.proofs.Whole.{as_given}
 use Rattle.dip_store_sql.proofs.Found.{within}
 
 -- a plain query of parameters that may be compared is refused by nothing
@@ -121,44 +129,54 @@ module _ (schema : Schema) (at : ℕ) (table : Table) (listed : slice_get schema
         want_weaker ⊥ (Faulted old new) e (λ none. absurd none) (subst (IsWant ⊥) (sym r.2) (insert_wants put take back schema table casts rules old.now.trees it a _ are unique r.0 r.1))
   ]
 
+  -- where the rows can stand, none is too long, and none lacks a number
+  none_long : (edit : Edit) → AllByRecursion (CanStandIn schema table) edit.news → (row : Row) → Has edit.news row → IsOversized schema table row → ⊥
+  none_long edit all row has = (each_has (CanStandIn schema table) edit.news row all has).0
+
+  no_rule : (edit : Edit) → AllByRecursion (CanStandIn schema table) edit.news → (why : Refusal) → IsWant ⊥ (edit_error why) → IsRefused schema Enforced old.now.trees edit why → ⊥
+  no_rule edit all (Violates rule) want refused = not_want (edit_error (Violates rule)) refl want
+  no_rule edit all Mismatch want refused = not_want (edit_error Mismatch) refl want
+  no_rule edit all BadReference want refused = not_want (edit_error BadReference) refl want
+  no_rule edit all TooDeep want refused = not_want (edit_error TooDeep) refl want
+  no_rule edit all NoRowid want refused =
+      let each = all_weaker (CanStandIn schema table) (λ r. fits_i64 (id_in (rowid r)) ≡ true) (λ r it. it.1) edit.news all in
+      absurd (let x = sym (test_from_all (λ r. fits_i64 (id_in (rowid r))) edit.news each) ∙ refused in cc)
+
+  -- a row that can stand behind the others
+  pub insert_fits : (terms : List Term) (width : ℕ) → command_in (understood schema text) (Insert at (Values terms width)) → accepts_terms terms (stamped table params) ≡ true
+      → (a : A) → value_rows (stamped table params) width (length terms / width) terms ≡ (Null ∷ put a) ∷ []
+      → KeysApart put take back schema table casts rules old.now.trees it (map take (old.now.trees table.tree) ++ a ∷ [])
+      → CanStandIn schema table (Int (next_rowid (old.now.trees table.tree)) ∷ put a) → IsCaused (Faulted old new) e
+  insert_fits terms width means accepts a are unique fits = elim (unmet_so (Insert at (Values terms width)) means refl refl) [
+    | inl w ↦ w
+    | inr more ↦ elim more [
+      | inl big ↦ let r = insert_oversized schema at table listed bare calm refers params old.now has big.1 terms width big.2 in absurd (none_long edit all r.0 r.1 r.2)
+      | inr d ↦
+          let r = insert_refused schema at table listed bare calm refers params old.now has d.0 terms width accepts e d.1 in
+          absurd (no_rule edit all r.0 (insert_wants put take back schema table casts rules old.now.trees it a _ are unique r.0 r.1) r.1)
+    ]
+  ]
+    where
+      edit : Edit
+      edit = edit_of old.now.trees table [] Chosen 0 (value_rows (stamped table params) width (length terms / width) terms)
+
+      news : edit.news ≡ (Int (next_rowid (old.now.trees table.tree)) ∷ put a) ∷ []
+      news =
+          let cast : cast_row table (Null ∷ put a) ≡ Null ∷ put a = ap₂ ◌∷◌ cast_null (casts a) in
+          ap (λ all. (edit_of old.now.trees table [] Chosen 0 all).news) are
+          ∙ ap (λ r. with_rowid Chosen (old.now.trees table.tree) r ∷ []) cast
+
+      all : AllByRecursion (CanStandIn schema table) edit.news
+      all = subst (AllByRecursion (CanStandIn schema table)) (sym news) (fits, tt)
+
   -- a row that can be stored, into a table without a row: neither is it too long, nor is no number left
   pub insert_first : (terms : List Term) (width : ℕ) → command_in (understood schema text) (Insert at (Values terms width)) → accepts_terms terms (stamped table params) ≡ true
       → (a : A) → value_rows (stamped table params) width (length terms / width) terms ≡ (Null ∷ put a) ∷ []
       → KeysApart put take back schema table casts rules old.now.trees it (map take (old.now.trees table.tree) ++ a ∷ [])
       → old.now.trees table.tree ≡ [] → (IsOversized schema table (Int (pos 1) ∷ put a) → ⊥) → IsCaused (Faulted old new) e
-  insert_first terms width means accepts a are unique empty fits = elim (unmet_so (Insert at (Values terms width)) means refl refl) [
-    | inl w ↦ w
-    | inr more ↦ elim more [
-      | inl big ↦
-          let r = insert_oversized schema at table listed bare calm refers params old.now has big.1 terms width big.2 in
-          let here : r.0 ≡ Int (pos 1) ∷ put a = alone (subst (λ (rows : List Row). Has rows r.0) news r.1) in
-          absurd (fits (subst (IsOversized schema table) here r.2))
-      | inr d ↦
-          let r = insert_refused schema at table listed bare calm refers params old.now has d.0 terms width accepts e d.1 in
-          absurd (numbered r.0 (insert_wants put take back schema table casts rules old.now.trees it a _ are unique r.0 r.1) r.1)
-    ]
-  ]
-    where
-      sources : List Row
-      sources = value_rows (stamped table params) width (length terms / width) terms
-
-      news : (edit_of old.now.trees table [] Chosen 0 sources).news ≡ (Int (pos 1) ∷ put a) ∷ []
-      news =
-          let cast : cast_row table (Null ∷ put a) ≡ Null ∷ put a = ap₂ ◌∷◌ cast_null (casts a) in
-          ap (λ all. (edit_of old.now.trees table [] Chosen 0 all).news) are
-          ∙ ap (λ r. with_rowid Chosen (old.now.trees table.tree) r ∷ []) cast
-          ∙ ap (λ rows. (Int (next_rowid rows) ∷ put a) ∷ []) empty
-
-      alone : {row : Row} → Has ((Int (pos 1) ∷ put a) ∷ []) row → row ≡ Int (pos 1) ∷ put a
-      alone (inl same) = same
-      alone (inr none) = absurd none
-
-      numbered : (why : Refusal) → IsWant ⊥ (edit_error why) → IsRefused schema Enforced old.now.trees (edit_of old.now.trees table [] Chosen 0 sources) why → ⊥
-      numbered (Violates rule) want refused = not_want (edit_error (Violates rule)) refl want
-      numbered Mismatch want refused = not_want (edit_error Mismatch) refl want
-      numbered BadReference want refused = not_want (edit_error BadReference) refl want
-      numbered TooDeep want refused = not_want (edit_error TooDeep) refl want
-      numbered NoRowid want refused = let full : list_all (λ r. fits_i64 (id_in (rowid r))) ((Int (pos 1) ∷ put a) ∷ []) ≡ false = subst (λ (rows : List Row). list_all (λ r. fits_i64 (id_in (rowid r))) rows ≡ false) news refused in absurd (let x : true ≡ false = full in cc)
+  insert_first terms width means accepts a are unique empty fits =
+      insert_fits terms width means accepts a are unique
+      (subst (λ (rows : List Row). CanStandIn schema table (Int (next_rowid rows) ∷ put a)) (sym empty) (fits, refl))
 
   module _ (tests : List Term) (p : A → Bool) (tells : (v : Value) (a : A) → passes tests params (v ∷ put a) ≡ p a) where
     met : (shown : List Term) (rows : List Row) → Answers (record { schema = schema; trees = old.now.trees }) (record { lets = []; body = plain_query table.tree tests shown [] }) params rows
@@ -189,6 +207,54 @@ module _ (schema : Schema) (at : ℕ) (table : Table) (listed : slice_get schema
               let r = update_refused schema at table listed bare calm refers params old.now has d.0 q (plainly schema old.now.trees table.tree tests shown params accepts) e d.1 in
               want_weaker ⊥ (Faulted old new) e (λ none. absurd none) (subst (IsWant ⊥) (sym r.4) (update_wants put take back schema table casts rules old.now.trees it params tests p tells f shown shows lone r.0 (met shown r.0 r.1) unique r.2 r.3))
         ]
+
+    -- rows that can stand anew
+    pub update_fits : (f : A → A) (shown : List Term) → ((v : Value) (a : A) → eval_all shown (params ∷ (v ∷ put a) ∷ []) ≡ v ∷ v ∷ put (f a))
+        → command_in (understood schema text) (Update at (record { lets = []; body = plain_query table.tree tests shown [] }))
+        → accepts_program schema (lets_of (record { lets = []; body = plain_query table.tree tests shown [] })) (plain_query table.tree tests shown []) params ≡ true
+        → ((given : List Row) → IsPermutation (map (λ r. eval_all shown (params ∷ r ∷ [])) (filter (passes tests params) (old.now.trees table.tree))) given
+        → (why : Refusal) → IsRefused schema Enforced old.now.trees (edit_of old.now.trees table (ids_of given) Given 1 given) why → IsWant ⊥ (edit_error why))
+        → AllByRecursion (λ r. CanStandIn schema table (rowid r ∷ put (f (take r)))) (old.now.trees table.tree) → IsCaused (Faulted old new) e
+    update_fits f shown shows means accepts wants fits =
+        let q : Program = record { lets = []; body = plain_query table.tree tests shown [] } in elim (unmet_so (Update at q) means refl refl) [
+          | inl w ↦ w
+          | inr more ↦ elim more [
+            | inl big ↦
+                let r = update_oversized schema at table listed bare calm refers params old.now has big.1 q big.2 in
+                absurd (none_long (edit r.0) (all r.0 (met shown r.0 r.1)) r.2 r.3 r.4)
+            | inr d ↦
+                let r = update_refused schema at table listed bare calm refers params old.now has d.0 q (plainly schema old.now.trees table.tree tests shown params accepts) e d.1 in
+                absurd (no_rule (edit r.0) (all r.0 (met shown r.0 r.1)) r.2 (wants r.0 (met shown r.0 r.1) r.2 r.3) r.3)
+          ]
+        ]
+      where
+        edit : List Row → Edit
+        edit given = edit_of old.now.trees table (ids_of given) Given 1 given
+
+        show : Row → Row
+        show r = eval_all shown (params ∷ r ∷ [])
+
+        column_of : Row → Row
+        column_of r = cast_row table (drop 1 r)
+
+        Stands : Row → Type 0
+        Stands r = CanStandIn schema table (column_of r)
+
+        anew : (r : Row) → r ≡ Int (id_of r) ∷ put (take r) → column_of (show r) ≡ rowid r ∷ put (f (take r))
+        anew r e =
+            ap column_of (ap show e ∙ shows (Int (id_of r)) (take r)) ∙ ap₂ ◌∷◌ (cast_int (id_of r)) (casts (f (take r)))
+            ∙ ap (λ v. v ∷ put (f (take r))) (sym (ap rowid e))
+
+        each : AllByRecursion (λ r. Stands (show r)) (old.now.trees table.tree)
+        each =
+            all_both (λ r. r ≡ Int (id_of r) ∷ put (take r)) (λ r. CanStandIn schema table (rowid r ∷ put (f (take r)))) (λ r. Stands (show r))
+            (λ r e can. subst (CanStandIn schema table) (sym (anew r e)) can) (old.now.trees table.tree) it.typed fits
+
+        all : (given : List Row) → IsPermutation (map show (filter (passes tests params) (old.now.trees table.tree))) given → AllByRecursion (CanStandIn schema table) (edit given).news
+        all given are =
+            let shown_all = all_map Stands show _ (all-filter (λ r. Stands (show r)) (passes tests params) (old.now.trees table.tree) each) in
+            let given_all = recursion_from_All Stands given (All-permutation Stands _ given are (All-from_recursion Stands _ shown_all)) in
+            subst (AllByRecursion (CanStandIn schema table)) (sym (as_given (left_by old.now.trees (edit given)) (map column_of given))) (all_map (CanStandIn schema table) column_of given given_all)
 
   pub whole_sane : (f : A → A) (shown : List Term) → ((v : Value) (a : A) → eval_all shown (params ∷ (v ∷ put a) ∷ []) ≡ v ∷ v ∷ put (f a))
       → command_in (understood schema text) (Update at (record { lets = []; body = plain_query table.tree [] shown [] }))

@@ -1,5 +1,5 @@
 -- On the tables of a desk a statement that writes fails for want alone, where no key comes twice.
-use Rattle.std.proofs.Common.{◌≡◌, inl, inr, ℕ, pos, List, [], ◌∷◌, ◌++◌, length, map, Bool, false, not, cond, Err, IsTrue, None, refl, sym, subst, ◌∙◌}
+use Rattle.std.proofs.Common.{◌≡◌, inl, inr, ℕ, pos, List, [], ◌∷◌, ◌++◌, length, map, Bool, true, false, not, cond, Err, IsTrue, None, refl, sym, subst, ◌∙◌}
 use Rattle.std.specs.List.{AllByRecursion}
 use Rattle.std.proofs.lemmas.Bool.{cases_Bool}
 use Rattle.sqlite.specs.declared.types.Value.TheVariants.{Int, Text as Words, Blob as Bytes}
@@ -8,7 +8,7 @@ use Rattle.sqlite.specs.Order.{Row}
 use Rattle.sqlite.specs.Tree.{Trees}
 use Rattle.sqlite.specs.State.{State, Executes}
 use Rattle.dip_store_tables.specs.Lists.{update_where, delete_where}
-use Rattle.dip_store_tables.proofs.ListLemmas.{all_of, ascending-filter, ascending-map}
+use Rattle.dip_store_tables.proofs.ListLemmas.{all_of, all_unmap, ascending-filter, ascending-map}
 use Rattle.sqlite_catalog.specs.Listing.{IsSound}
 use Rattle.sqlite_schema.specs.declared.schema.Among.{Among}
 use Rattle.sqlite_schema.specs.declared.schema.Constraint.TheVariants.{Unique}
@@ -30,11 +30,13 @@ use Rattle.dip_store_sql.proofs.Casting.{cast_desk, cast_game, cast_seat, cast_u
 use Rattle.dip_store_sql.proofs.Telling.{tells_desk, tells_game_in, tells_seat_in, tells_unit_in, tells_centre_in, tells_pending_in, tells_box_in, tells_paper_in, tells_ballot_in, tells_choice_in, tells_ballot, tells_seat, tells_pending}
 use Rattle.dip_store_sql.specs.Keys.{AreKeyed, Differ, same_ballot, same_centre, same_choice, same_desk, same_item, same_order, same_paper, same_unit}
 use Rattle.dip_store_sql.specs.Refusals.{IsWant}
+use Rattle.dip_store_sql.specs.Storing.{CanStand, next_row, second_row, voteless_row}
 use Rattle.dip_store_sql.proofs.Asked as asked
 use Rattle.dip_store_sql.proofs.First.{desk_fits}
 use Rattle.dip_store_sql.proofs.Keyed.{are_keyed}
 use Rattle.dip_store_sql.proofs.Ruled.{desk_rules, game_rules, seat_rules, unit_rules, centre_rules, pending_rules, box_rules, paper_rules, ballot_rules, choice_rules, desk_keyed, games_keyed, seats_keyed, units_keyed, centres_keyed, pending_keyed, boxes_keyed, papers_keyed, ballots_keyed, choices_keyed}
-use Rattle.dip_store_sql.proofs.Sane.{delete_sane, insert_first, insert_sane, update_sane, whole_sane}
+use Rattle.dip_store_sql.proofs.Sane.{delete_sane, insert_first, insert_fits, insert_sane, update_fits, update_sane, whole_sane}
+use Rattle.dip_store_sql.proofs.Wanting.{update_wants, whole_wants}
 
 -- records that are left, or changed but for their key, still differ
 left : {A : Type 0} (same : A → A → Bool) (p : A → Bool) (xs : List A) → Differ same xs → Differ same (delete_where p xs)
@@ -131,6 +133,17 @@ module _ (old new : State) (good : IsGood old.now) (up : IsTrue old.is_open) (un
       insert_sane our_schema 9 choice_table refl refl (λ db. refl) (λ olds news. refl) refers put_choice take_choice (λ v a. refl) cast_choice choice_rules text.add_choice_text means.add_choice.1 (put_choice c) asked.add_choice old new good.schema up unlimited good.choices e h
       text.add_choice_values 3 means.add_choice.0 refl (c) refl (λ rows it are. choices_keyed old.now.trees unique rows it (subst (Differ same_choice) (sym are) (apart)))
 
+  -- a ballot, or a choice, whose row can stand
+  pub fits_ballot : (b : BallotRow) → Differ same_ballot ((tables_of old.now.trees).ballots ++ b ∷ []) → CanStand ballot_table (next_row put_ballot b (old.now.trees 16)) → Executes text.add_ballot_text (put_ballot b) old new (Err e) → IsCaused (Faulted old new) e
+  fits_ballot b apart fits h =
+      insert_fits our_schema 8 ballot_table refl refl (λ db. refl) (λ olds news. refl) refers put_ballot take_ballot (λ v a. refl) cast_ballot ballot_rules text.add_ballot_text means.add_ballot.1 (put_ballot b) asked.add_ballot old new good.schema up unlimited good.ballots e h
+      text.add_ballot_values 4 means.add_ballot.0 refl (b) refl (λ rows it are. ballots_keyed old.now.trees unique rows it (subst (Differ same_ballot) (sym are) (apart))) fits
+
+  pub fits_choice : (c : ChoiceRow) → Differ same_choice ((tables_of old.now.trees).choices ++ c ∷ []) → CanStand choice_table (next_row put_choice c (old.now.trees 18)) → Executes text.add_choice_text (put_choice c) old new (Err e) → IsCaused (Faulted old new) e
+  fits_choice c apart fits h =
+      insert_fits our_schema 9 choice_table refl refl (λ db. refl) (λ olds news. refl) refers put_choice take_choice (λ v a. refl) cast_choice choice_rules text.add_choice_text means.add_choice.1 (put_choice c) asked.add_choice old new good.schema up unlimited good.choices e h
+      text.add_choice_values 3 means.add_choice.0 refl (c) refl (λ rows it are. choices_keyed old.now.trees unique rows it (subst (Differ same_choice) (sym are) (apart))) fits
+
   pub drop_seats : (game : List ℕ) → Executes text.drop_seats_text (Words game ∷ []) old new (Err e) → IsWant (Faulted old new) e
   drop_seats game h =
       delete_sane our_schema 2 seat_table refl refl (λ db. refl) (λ olds news. refl) refers put_seat take_seat (λ v a. refl) cast_seat seat_rules text.drop_seats_text means.drop_seats.1 (Words game ∷ []) asked.drop_seats old new good.schema up unlimited good.seats e h
@@ -206,6 +219,23 @@ module _ (old new : State) (good : IsGood old.now) (up : IsTrue old.is_open) (un
   set_version h =
       update_sane our_schema 0 desk_table refl refl (λ db. refl) (λ olds news. refl) refers put_desk take_desk (λ v a. refl) cast_desk desk_rules text.set_version_text means.set_version.1 [] asked.set_version old new good.schema up unlimited good.desk e h
       by_first is_first (tells_desk []) second text.set_version_row (λ v a. refl) (one_desk old.now good) means.set_version.0 refl (λ rows it are. desk_keyed old.now.trees unique rows it (subst (Differ same_desk) (sym are) (changed same_desk is_first second (λ a b. refl) (λ a b. refl) _ keyed.desk)))
+
+  -- the seats without votes, and the master's row of version 2, where their rows can stand
+  pub fits_votes : AllByRecursion (CanStand seat_table) (map voteless_row (old.now.trees 4)) → Executes text.clear_votes_text [] old new (Err e) → IsCaused (Faulted old new) e
+  fits_votes fits h =
+      let wants = whole_wants put_seat take_seat (λ v a. refl) our_schema seat_table cast_seat seat_rules old.now.trees good.seats [] voteless text.clear_votes_row (λ v a. refl) in
+      update_fits our_schema 2 seat_table refl refl (λ db. refl) (λ olds news. refl) refers put_seat take_seat (λ v a. refl) cast_seat seat_rules text.clear_votes_text means.clear_votes.1 [] asked.clear_votes old new good.schema up unlimited good.seats e h
+      [] (λ a. true) (λ v a. refl) voteless text.clear_votes_row (λ v a. refl) means.clear_votes.0 refl
+      (λ given are. wants given are (λ rows it are. seats_keyed old.now.trees unique rows it (subst (Differ same_seat) (sym are) (ascending-map (λ a b. same_seat a b ≡ false) voteless _ keyed.seats))))
+      (all_unmap (CanStand seat_table) voteless_row (old.now.trees 4) fits)
+
+  pub fits_version : AllByRecursion (CanStand desk_table) (map second_row (old.now.trees 0)) → Executes text.set_version_text [] old new (Err e) → IsCaused (Faulted old new) e
+  fits_version fits h =
+      let wants = update_wants put_desk take_desk (λ v a. refl) our_schema desk_table cast_desk desk_rules old.now.trees good.desk [] by_first is_first (tells_desk []) second text.set_version_row (λ v a. refl) (one_desk old.now good) in
+      update_fits our_schema 0 desk_table refl refl (λ db. refl) (λ olds news. refl) refers put_desk take_desk (λ v a. refl) cast_desk desk_rules text.set_version_text means.set_version.1 [] asked.set_version old new good.schema up unlimited good.desk e h
+      by_first is_first (tells_desk []) second text.set_version_row (λ v a. refl) means.set_version.0 refl
+      (λ given are. wants given are (λ rows it are. desk_keyed old.now.trees unique rows it (subst (Differ same_desk) (sym are) (changed same_desk is_first second (λ a b. refl) (λ a b. refl) _ keyed.desk))))
+      (all_unmap (CanStand desk_table) second_row (old.now.trees 0) fits)
 
   pub note_sent : (game power : List ℕ) (last : ℕ) (kept reply : List ℕ) (sent : ℕ) → Executes text.note_sent_text (Words game ∷ Words power ∷ Int (pos last) ∷ Bytes kept ∷ Words reply ∷ Int (pos sent) ∷ []) old new (Err e) → IsWant (Faulted old new) e
   note_sent game power last kept reply sent h =

@@ -111,7 +111,7 @@ put_anew rows news up same =
     (fresh, sorted_unique row_cmp row_total rows (put_all [] news) up all (sorted (put_all [] news) (table_put [] news tt)))
 
 -- rowids that are given stay
-as_given : (rows news : List Row) → numbered Given rows news ≡ news
+pub as_given : (rows news : List Row) → numbered Given rows news ≡ news
 as_given rows [] = refl
 as_given rows (r ∷ news) = ap (λ rs. r ∷ rs) (as_given (put_row r rows) news)
 

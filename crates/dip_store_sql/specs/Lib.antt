@@ -17,6 +17,7 @@ pub mod TablesAfter
 pub mod Keys
 pub mod Refusals
 pub mod Wants
+pub mod Storing
 pub mod RowViews
 pub use Rattle.sqlite_resolve.specs.declared.compiled.Compiled
 pub use Rattle.sqlite_resolve.specs.declared.error.CompileError

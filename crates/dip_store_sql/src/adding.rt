@@ -5,6 +5,9 @@ ghost use Rattle.dip_store_tables.specs.Coding.{same_name, same_seat};
 ghost use Rattle.dip_store_sql.specs.Calls.{Writes};
 ghost use Rattle.dip_store_sql.specs.TablesAfter.{new_desk, new_seat, with_centre, with_desk, with_game, with_item, with_order, with_ballot, with_choice, with_paper, with_seat, with_unit};
 ghost use Rattle.dip_store_sql.specs.Keys.{Differ, same_ballot, same_centre, same_choice, same_desk, same_item, same_order, same_paper, same_unit};
+ghost use Rattle.dip_store_sql.specs.Rows.{put_ballot, put_choice};
+ghost use Rattle.dip_store_sql.specs.Schema.{ballot_table, choice_table};
+ghost use Rattle.dip_store_sql.specs.Storing.{StoresBehind, next_row};
 ghost use Rattle.dip_store_sql.specs.Wants.{FailsOutside, Wants};
 ghost use Rattle.dip_store_sql.specs.RowViews as rows;
 ghost use Rattle.dip_store_tables.specs.Writing.{choice_row};
@@ -204,6 +207,11 @@ pub fn add_ballot<S: Alter>(
     ensures wants { Wants (λ t. Differ same_ballot (with_ballot
         (record { game = game.now; power = power.now; names = names.now }) t).ballots)
         (state S.Store tx.old.conn.now) (state S.Store tx.new.conn.now) result }
+    // A row that can be stored, and has a number, is no reason to fail.
+    ensures stores { StoresBehind ballot_table (λ t. Differ same_ballot (with_ballot
+        (record { game = game.now; power = power.now; names = names.now }) t).ballots)
+        (next_row put_ballot (record { game = game.now; power = power.now; names = names.now }))
+        (state S.Store tx.old.conn.now) (state S.Store tx.new.conn.now) result }
 {
     tx.execute(
         "INSERT INTO ballot (game, power, names) VALUES (?1, ?2, ?3)",
@@ -222,6 +230,11 @@ pub fn add_choice<S: Alter>(
         (state S.Store tx.old.conn.now) (state S.Store tx.new.conn.now) result }
     ensures wants { Wants (λ t. Differ same_choice
         (with_choice (choice_row game.now intent) t).choices)
+        (state S.Store tx.old.conn.now) (state S.Store tx.new.conn.now) result }
+    // A row that can be stored, and has a number, is no reason to fail.
+    ensures stores { StoresBehind choice_table (λ t. Differ same_choice
+        (with_choice (choice_row game.now intent) t).choices)
+        (next_row put_choice (choice_row game.now intent))
         (state S.Store tx.old.conn.now) (state S.Store tx.new.conn.now) result }
 {
     tx.execute(

@@ -1,9 +1,11 @@
 //! One row written anew, or all of a table.
-ghost use Rattle.std.specs.Prelude.{◌≡◌, ◌<◌, ◌^◌};
+ghost use Rattle.std.specs.Prelude.{◌≡◌, ◌<◌, ◌^◌, map as each};
 ghost use Rattle.sqlite.specs.Held.{state};
 ghost use Rattle.dip_store_sql.specs.Calls.{Writes};
 ghost use Rattle.dip_store_sql.specs.TablesAfter.{counting, game_as, named, on_ballot, on_desk, on_game, on_seat, on_seats, secret_as, sending};
 ghost use Rattle.dip_store_tables.specs.Renewing.{second, voteless};
+ghost use Rattle.dip_store_sql.specs.Schema.{desk_table, seat_table};
+ghost use Rattle.dip_store_sql.specs.Storing.{Stores, second_row, voteless_row};
 ghost use Rattle.dip_store_sql.specs.Wants.{Wants, always};
 ghost use Rattle.dip_store_sql.specs.RowViews as rows;
 
@@ -74,6 +76,9 @@ pub fn clear_votes<S: Alter>(tx: &mut Transaction<'_, S>) -> Result<usize, Error
         (state S.Store tx.old.conn.now) (state S.Store tx.new.conn.now) result }
     ensures wants { Wants always
         (state S.Store tx.old.conn.now) (state S.Store tx.new.conn.now) result }
+    // Rows that can be stored, and have a number, are no reason to fail.
+    ensures stores { Stores seat_table always (λ db. each voteless_row (db 4))
+        (state S.Store tx.old.conn.now) (state S.Store tx.new.conn.now) result }
 {
     tx.execute("UPDATE seat SET vote = 0", &[])
 }
@@ -84,6 +89,9 @@ pub fn set_version<S: Alter>(tx: &mut Transaction<'_, S>) -> Result<usize, Error
     ensures writes { Writes (on_desk second)
         (state S.Store tx.old.conn.now) (state S.Store tx.new.conn.now) result }
     ensures wants { Wants always
+        (state S.Store tx.old.conn.now) (state S.Store tx.new.conn.now) result }
+    // A row that can be stored, and has a number, is no reason to fail.
+    ensures stores { Stores desk_table always (λ db. each second_row (db 0))
         (state S.Store tx.old.conn.now) (state S.Store tx.new.conn.now) result }
 {
     tx.execute("UPDATE desk SET version = 2 WHERE id = 1", &[])

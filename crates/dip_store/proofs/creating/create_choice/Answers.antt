@@ -3,9 +3,11 @@ use Rattle.dip_store_sql.specs.Creating.{create_choice}
 use Rattle.dip_store_sql.specs.TablesAfter.{no_tables}
 use Rattle.dip_store.specs.Making.{HasFirst, HasTables}
 use Rattle.dip_store_sql.proofs.Founded.{choice_caused}
-use Rattle.dip_store_sql.specs.Old.{HasNine}
-use Rattle.dip_store_sql.proofs.Grown.{choice_over}
+use Rattle.dip_store_sql.specs.Old.{HasNine, old_tables_of}
+use Rattle.dip_store_sql.proofs.Grown.{choice_over, choice_over_caused}
 use Rattle.dip_store.proofs.Leading.{leads_one}
+use Rattle.dip_store.specs.Rewriting.{HasBallotsOver, Stands}
+use Rattle.dip_store.proofs.Refilling.{choices_made}
 use Rattle.dip_store.proofs.Trying.{tries_one}
 use Rattle.dip_store.proofs.LastMade.{last_made}
 use Rattle.dip_store.proofs.creating.create_choice.Goals as goal
@@ -24,3 +26,8 @@ pub returns-clause-over : goal.returns-clause-over
 returns-clause-over g c t =
     leads_one g.S.Store create_choice (HasNine t) (HasTables t) c.args.tx.now.conn.now c.execute.new.self.conn.now c.execute.result
     c.execute.ensures.survives c.execute.ensures.ended c.execute.ensures.runs (choice_over t _ _)
+
+pub returns-clause-tries_over : goal.returns-clause-tries_over
+returns-clause-tries_over g c old =
+    tries_one create_choice (HasBallotsOver old) (Stands old (old_tables_of old.trees)) (state g.S.Store c.args.tx.now.conn.now) (state g.S.Store c.execute.new.self.conn.now) c.execute.result
+    c.execute.ensures.survives c.execute.ensures.runs (choices_made old _ _) (λ e set h. choice_over_caused (old_tables_of old.trees) _ _ set.now.has set.up e h)

@@ -6,10 +6,12 @@ use Rattle.dip_store_tables.specs.Renewing.{old_choice}
 use Rattle.dip_store_sql.specs.Calls.{Writes}
 use Rattle.dip_store_sql.proofs.Parts.{went}
 use Rattle.dip_store.specs.Renewing.{more_choices}
+use Rattle.dip_store.proofs.Refilling.{ChoicesAre}
 use Rattle.dip_store.proofs.renewing.add_choices.Given as goal
 
 abbrev pub invariant-loop-game : goal.invariant-loop-game
 invariant-loop-game g l = record {
   same_reference : l.tx.conn.ghost_name ≡ l.fn.tx.conn.ghost_name;
   writes : Writes (more_choices (map old_choice (lines (take l.game-index l.games)))) (state g.S.Store l.fn.tx.conn.now) (state g.S.Store l.tx.conn.now) (went (Unit {0}) Error tt);
+  tries : ChoicesAre (map old_choice (lines l.games)) (map old_choice (lines (take l.game-index l.games))) (state g.S.Store l.fn.tx.conn.now) (state g.S.Store l.tx.conn.now) (went (Unit {0}) Error tt);
 }

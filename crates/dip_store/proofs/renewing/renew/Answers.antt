@@ -1,10 +1,17 @@
-use Rattle.std.proofs.Common.{◌≡◌, arith, ap, map, ◌∙◌}
+use Rattle.std.proofs.Common.{◌≡◌, arith, inl, inr, ap, map, subst, sym, ◌∙◌}
+use Rattle.sqlite.specs.Held.{state}
 use Rattle.sqlite.specs.Effect.{Database}
 use Rattle.dip_desk_state.specs.Rows.{lines}
 use Rattle.dip_store_tables.specs.Renewing.{old_ballot}
 use Rattle.dip_store_sql.specs.Calls.{is_honest, old_tables_in}
 use Rattle.dip_store_sql.specs.Old.{old_tables_of}
-use Rattle.dip_store.proofs.Rewritten.{keeps_renewed, kept_first, left_renewed}
+use Rattle.dip_store_sql.proofs.Caused.{faulted_late}
+use Rattle.dip_store.specs.Renewing.{Outgrows}
+use Rattle.dip_store.specs.Faults.{open_fault}
+use Rattle.dip_store.specs.declared.faults.StoreFault.TheVariants.{Disk}
+use Rattle.dip_store.proofs.Refilling.{fault_or_full, read_there}
+use Rattle.dip_store.proofs.Refused.{desk_caused}
+use Rattle.dip_store.proofs.Rewritten.{keeps_renewed, kept_both, kept_first, left_renewed}
 use Rattle.dip_store.proofs.renewing.renew.Goals as goal
 
 pub returns-in-Ok-fill-clause-kept : goal.returns-in-Ok-fill-clause-kept
@@ -49,3 +56,25 @@ returns-clause-left g c kept clean =
     let named : lines c.as_slice.result.now ≡ map (λ t. t.name) (old_tables_in g.S.Store old).games = ap lines c.as_slice.ensures.value ∙ c.in-Ok.ensures.value kept (next.fair honest) in
     let voted : c.as_slice-2.result.now ≡ map old_ballot (old_tables_in g.S.Store old).seats = c.as_slice-2.ensures.value ∙ c.in-Ok-old_ballots.ensures.value early.0 honest ∙ ap (λ (d : Database). map old_ballot (old_tables_of d.trees).seats) early.1 in
     left_renewed g.S.Store old a b end c.in-Ok.games c.in-Ok-old_ballots.ballots first next kept (lines c.as_slice.result.now) c.as_slice-2.result.now named voted c.in-Err-fill.ensures.crash clean
+
+pub returns-clause-caused : goal.returns-clause-caused
+returns-clause-caused g c kept shows clean m ours is =
+    let old = c.args.conn.now in
+    let a = c.old_games.new.conn in
+    let b = c.old_ballots.new.conn in
+    let end = c.fill.new.conn in
+    let first = c.in-Ok.ensures.selects in
+    let next = c.in-Ok-old_ballots.ensures.selects in
+    let honest : is_honest g.S.Store b = omega (arith, clean, c.in-Err-fill.ensures.crash.clean) in
+    let early = kept_first g.S.Store old a b end c.in-Ok.games c.in-Ok-old_ballots.ballots first next kept (next.fair honest) in
+    let both = kept_both g.S.Store old a b end c.in-Ok.games c.in-Ok-old_ballots.ballots first next kept honest in
+    let named : lines c.as_slice.result.now ≡ map (λ t. t.name) (old_tables_in g.S.Store old).games = ap lines c.as_slice.ensures.value ∙ c.in-Ok.ensures.value kept (next.fair honest) in
+    let voted : c.as_slice-2.result.now ≡ map old_ballot (old_tables_in g.S.Store old).seats = c.as_slice-2.ensures.value ∙ c.in-Ok-old_ballots.ensures.value early.0 honest ∙ ap (λ (d : Database). map old_ballot (old_tables_of d.trees).seats) early.1 in
+    let read = read_there (lines c.as_slice.result.now) c.as_slice-2.result.now (state g.S.Store old).now (state g.S.Store b).now both.1 named voted in
+    let got : c.open_fault.result ≡ Disk = (let x = is in cc) in
+    let told : open_fault c.in-Err-fill.error ≡ Disk = sym c.open_fault.ensures ∙ got in
+    let late = fault_or_full g.S.Store _ old b end (omega (arith, first.counts, next.counts)) c.in-Err-fill.error (λ room. c.in-Err-fill.ensures.fails both.0 (next.ok early.0 honest) clean read room) told in
+    elim late [
+      | inl fault ↦ inl fault
+      | inr full ↦ inr (subst (λ (d : Database). Outgrows d.trees) both.1 full)
+    ]

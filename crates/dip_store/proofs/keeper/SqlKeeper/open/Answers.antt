@@ -11,9 +11,10 @@ use Rattle.sqlite.specs.Effect.{Database}
 use Rattle.dip_store_sql.specs.Old.{old_tables_of}
 use Rattle.dip_store_tables.specs.Renewing.{WereOurs}
 use Rattle.dip_store.specs.Opening.{MayRenew, Opens}
-use Rattle.dip_store.specs.Renewing.{IsOldStore, old_said_by}
+use Rattle.dip_store.specs.Renewing.{IsOldStore, IsTooFullFor, old_said_by}
 use Rattle.dip_store.specs.Refusing.{IsRefused, IsRefusedAs}
 use Rattle.dip_store.proofs.Opened.{ends_refused, err_turned, faulted_there, has_them, if_err, kept_from, known_there, of_version_1, ok_turned, old_there, opens_old, there}
+use Rattle.dip_store.proofs.Refilling.{decided}
 use Rattle.dip_store.proofs.Refused.{own_outage}
 use Rattle.dip_store.proofs.Renewal.{desk_still, ends_either, err_all, err_both, has_none, ok_both, same_base, same_store, was_kept}
 use Rattle.dip_store.specs.declared.faults.StoreFault.{StoreFault}
@@ -92,13 +93,27 @@ returns-in-Err-clause-caused g c clean shows is =
 pub returns-then-not-has_ballots-clause-caused : goal.returns-then-not-has_ballots-clause-caused
 returns-then-not-has_ballots-clause-caused g c =
     let h = c.set_step_limit.new.self in
-    err_turned _ _ c.open_old.result (λ e caused clean shows is.
+    let m = c.args.map.now in
+    let text = sha256 c.args.map_text.now in
+    let same = same_store g.S.Store m c.args.store h c.set_step_limit.ensures in
+    err_both _ _ _ c.open_old.result (λ e caused ours clean shows is.
     let there : does_show g.S.Store h = rw c.set_step_limit.ensures shows in
-    elim (caused clean there is) [
-      | inl fault ↦ inr (inl (faulted_there g.S.Store c.args.store h e.1 c.set_step_limit.ensures fault))
-      | inr all ↦ inr (inr (of_version_1 c.args.store h c.set_step_limit.ensures (sym c.has_ballots.ensures.value ∙ c.if-not-has_ballots.true) all))
+    elim (decided g.S.Store c.args.store e.1) [
+      | inl fault ↦ inr (inl fault)
+      | inr none ↦ inr (inr (
+        elim (caused clean there is) [
+          | inl fault ↦ absurd (none (faulted_there g.S.Store c.args.store h e.1 c.set_step_limit.ensures fault))
+          | inr all ↦ of_version_1 c.args.store h c.set_step_limit.ensures (sym c.has_ballots.ensures.value ∙ c.if-not-has_ballots.true) all
+        ],
+        λ own.
+            let kept = was_kept g.S.Store m c.args.store own h c.set_step_limit.ensures c.is_autocommit.result (c.is_autocommit.ensures.value, c.is_autocommit.ensures.settled, c.if-not-is_autocommit.false, there) in
+            elim (ours clean kept there (subst (λ (d : Database). WereOurs m (old_tables_of d.trees)) (sym same) own.ours) is) [
+              | inl fault ↦ absurd (none (faulted_there g.S.Store c.args.store h e.1 c.set_step_limit.ensures fault))
+              | inr full ↦ subst (λ (d : Database). IsTooFullFor text d.trees) same full
+            ],
+      ))
     ])
-    c.open_old.ensures.caused
+    c.open_old.ensures.caused c.open_old.ensures.caused_of_ours
 
 -- a store of version 1
 pub returns-then-not-has_ballots-clause-renewed : goal.returns-then-not-has_ballots-clause-renewed
@@ -178,9 +193,9 @@ returns-then-not-has_ballots-clause-old_caused g c =
     err_turned _ _ c.open_old.result (λ e caused clean desk is.
     let shows : does_show g.S.Store h = rw c.set_step_limit.ensures desk.shows in
     let kept = was_kept g.S.Store m c.args.store desk.wrote h c.set_step_limit.ensures c.is_autocommit.result (c.is_autocommit.ensures.value, c.is_autocommit.ensures.settled, c.if-not-is_autocommit.false, shows) in
-    elim (caused clean kept shows is) [
+    elim (caused clean kept shows (subst (λ (d : Database). WereOurs m (old_tables_of d.trees)) (sym same) desk.wrote.ours) is) [
       | inl fault ↦ inl (faulted_there g.S.Store c.args.store h e.1 c.set_step_limit.ensures fault)
-      | inr says ↦ inr (subst (λ (d : Database). DeskSays 1 (sha256 c.args.map_text.now) (old_tables_of d.trees)) same says)
+      | inr full ↦ inr (subst (λ (d : Database). IsTooFullFor (sha256 c.args.map_text.now) d.trees) same full)
     ])
     c.open_old.ensures.caused_of_ours
 

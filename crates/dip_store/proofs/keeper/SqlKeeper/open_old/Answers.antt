@@ -1,7 +1,11 @@
-use Rattle.std.proofs.Common.{inl, inr, subst}
+use Rattle.std.proofs.Common.{Err, inl, inr, ap, subst, sym}
 use Rattle.sqlite.specs.Effect.{Database}
+use Rattle.sqlite.specs.Held.{state}
 use Rattle.dip_store_sql.specs.Old.{old_tables_of}
-use Rattle.dip_store.specs.Renewing.{Renews}
+use Rattle.dip_store_sql.proofs.Caused.{faulted_late}
+use Rattle.dip_store_tables.specs.Renewing.{WereOurs}
+use Rattle.dip_store.specs.Renewing.{Outgrows, Renews}
+use Rattle.dip_store.specs.declared.faults.StoreFault.{StoreFault}
 use Rattle.dip_store.proofs.Renewal.{may_renew, opens_renewed}
 use Rattle.dip_store.proofs.keeper.SqlKeeper.open_old.Goals as goal
 
@@ -26,3 +30,16 @@ returns-in-Err-renew-clause-left g c clean kept desk =
 
 pub returns-in-Ok-clause-known : goal.returns-in-Ok-clause-known
 returns-in-Ok-clause-known g c = rw c.over.ensures (λ clean. c.in_default.ensures.known (c.in-Ok.ensures.fair clean))
+
+pub returns-in-Err-renew-clause-caused_of_ours : goal.returns-in-Err-renew-clause-caused_of_ours
+returns-in-Err-renew-clause-caused_of_ours g c clean kept shows ours is =
+    let m = c.args.map.now in
+    let p = c.in_default.ensures.selects in
+    let honest = c.in-Err-renew.ensures.fair clean in
+    let up = p.ok kept honest in
+    let same = p.same kept up in
+    let there = subst (λ (d : Database). WereOurs m (old_tables_of d.trees)) (sym same) ours in
+    elim (c.in-Err-renew.ensures.caused (p.kept kept up) up clean m there (ap (λ (f : StoreFault). Err f) is)) [
+      | inl fault ↦ inl (faulted_late (state g.S.Store c.args.store) (state g.S.Store c.check_old_desk.new.conn) (state g.S.Store c.renew.new.conn) p.counts fault)
+      | inr full ↦ inr (c.in_default.ensures.says kept honest, subst (λ (d : Database). Outgrows d.trees) same full)
+    ]

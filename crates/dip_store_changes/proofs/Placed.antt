@@ -36,10 +36,6 @@ room_of m who name (Opens public paper seats) t one two = tt
 room_of m who name (Publishes public paper played) t one two = tt
 room_of m who name (Seats seat) t one two = tt
 
--- the author's part of it
-pub press_sent : (m : Chart) (who : Author) (name : List ℕ) (e : Effect) (readers : List ℕ) (item : Item) (ss : List SeatRow) → e ≡ Delivers readers item → PressHasRoom m who name e ss → SentHasRoom m who name ss
-press_sent m who name e readers item ss is room = subst (λ (e : Effect). PressHasRoom m who name e ss) is room
-
 -- readers with room are seats with room, and the other way round
 module _ (m : Chart) (name : List ℕ) where
   seats_room : (ss : List SeatRow) (rs : List Reader) → AreSeats m name ss rs → AllByRecursion (λ r. r.items < most_items) rs → AllByRecursion (λ s. s.items < most_items) ss

@@ -170,7 +170,7 @@ impl<S: Alter> Keeper for SqlKeeper<S> {
             return Err(self.told(KeepFault::Damaged));
         }
         self.seen.heed(change);
-        match make(&mut self.conn, self.alloc, map, change) {
+        match make(&mut self.conn, self.alloc, map, change, None) {
             Ok(()) => Ok(()),
             Err(fault) => Err(self.told_by_store(fault)),
         }

@@ -31,8 +31,9 @@ impl AuthorRow {
     pub fn of(own: &Own) -> AuthorRow
         ensures { result ≡ own_row (records.own own.now) }
     {
+        let digest = own.digest;
         AuthorRow {
-            digest: own.digest,
+            digest,
             sent: own.sent,
             items: own.items,
         }
@@ -156,8 +157,9 @@ pub(crate) fn row_behind(row: AuthorRow, effect: &Effect) -> Result<AuthorRow, M
     if MOST_SENT <= row.sent {
         return Err(MakeFault::Misfit);
     }
+    let digest = row.digest;
     Ok(AuthorRow {
-        digest: row.digest,
+        digest,
         sent: row.sent + 1,
         items: row.items,
     })

@@ -41,7 +41,7 @@ returns-in_err-count-clause-fails g c kept shows clean narrow =
 pub returns-then-count-ge-MOST_PAPERS-clause-fails : goal.returns-then-count-ge-MOST_PAPERS-clause-fails
 returns-then-count-ge-MOST_PAPERS-clause-fails g c kept shows clean narrow = λ all.
     let it = shown_found (λ (x : GameRow). is_named c.args.game.now x ≡ true → IsNextPaper c.args.papers x) (is_named c.args.game.now) show_game (tables_in g.S.Store c.args.conn.now).games _ (sym c.in-Some.is ∙ c.in_ok-row.ensures.value kept clean) all in
-    let same = same_count 6 _ it.one.papers c.in_ok-count.count (ap (λ (r : Row). column r 6) it.shown) c.in_ok-count.ensures.ok.1 in
+    let same = same_count 6 c.in-Some.row it.one.papers c.in_ok-count.count (ap (λ (r : Row). column r 6) it.shown) c.in_ok-count.ensures.ok.1 in
     let few = (it.holds it.passes).1 in
     let next : c.args.papers ≡ c.in_ok-count.count + 1 = (it.holds it.passes).0 ∙ ap (λ n. n + 1) (sym same) in
     elim c.then-count-ge-MOST_PAPERS.branch [

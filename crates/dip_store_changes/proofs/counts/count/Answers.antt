@@ -83,7 +83,7 @@ returns-in_err-row-clause-fails g c kept shows clean ours =
     let late = faulted_late (state g.S.Store old) (state g.S.Store mid) (state g.S.Store c.count_author.new.conn) (peeks_counts g.S.Store {X = Unit {0}} {E = MakeFault} old mid c.in_ok-check_paper.field-0 c.in_ok-check_paper.ensures.peeks) in
     let named = c.as_str-game.ensures.value in
     let known = known_at c.args.known m it.author it.game game t (tables_in g.S.Store mid) named first.1 kept.1 in
-    let all = subst (λ (u : Tables). AllByRecursion IsSeatKept u.seats) (sym first.1) (all_both IsSeatWritten IsSeatLegible t.seats ours.written.seats ours.legible.seats) in
+    let all = subst (λ (u : Tables). AllByRecursion IsSeatKept u.seats) (sym first.1) (all_both IsSeatWritten IsSeatLegible IsSeatKept (λ s a b. (a, b)) t.seats ours.written.seats ours.legible.seats) in
     same_fails _ _ _ _ c.in_err-row.field-0.0 c.from_residual-in_err-row.result c.from_residual-in_err-row.ensures.1 late
     (λ off place. off (subst (λ (u : Tables). PressHasRoom m it.author game it.effect u.seats) (sym first.1)
     (subst (λ (n : List ℕ). PressHasRoom m it.author n it.effect t.seats) (sym named) (rooms m it.author it.game it.effect t place.room).0)))

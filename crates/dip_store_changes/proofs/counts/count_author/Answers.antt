@@ -1,10 +1,13 @@
-use Rattle.std.proofs.Common.{List, ℕ, Some, None, refl, ap, sym, ◌∙◌}
+use Rattle.std.proofs.Common.{Ok, Option, Some, None, refl, ap, sym, ◌∙◌}
 use Rattle.sqlite.specs.Held.{state}
 use Rattle.dip_desk_state.specs.ChangeRows as machine
 use Rattle.dip_store_sql.specs.Calls.{tables_in}
 use Rattle.dip_store_sql.proofs.Apart.{one_seat}
 use Rattle.dip_store_changes.proofs.Failing.{same_fails}
 use Rattle.dip_store_changes.proofs.Knowing.{counts_next, press_room, row_room}
+use Rattle.dip_store_changes.proofs.Peeking.{peeks_as}
+use Rattle.dip_store_changes.specs.declared.faults.MakeFault.{MakeFault}
+use Rattle.dip_store_changes.specs.declared.known.AuthorRow.{AuthorRow}
 use Rattle.dip_store_changes.proofs.counts.count_author.Goals as goal
 
 pub returns-in_default-clause-value : goal.returns-in_default-clause-value
@@ -41,3 +44,11 @@ returns-in_err-next-clause-fails g c kept known shows clean all =
     same_fails ⊥ _ _ _ c.in_err-next.field-0.0 c.from_residual-in_err-next.result c.from_residual-in_err-next.ensures.1 (λ none. absurd none)
     (λ off room. off (row_room c.args.map.now c.args.game.now t.seats c.in-Some.row (machine.author c.args.author) (machine.effect c.args.effect.now) (sym c.in-Some.is ∙ c.in_ok-row.ensures.value kept known clean) room))
     c.in_err-next.ensures.fails
+
+pub returns-in_err-next-clause-peeks : goal.returns-in_err-next-clause-peeks
+returns-in_err-next-clause-peeks g c =
+    peeks_as g.S.Store {X = Option AuthorRow} {E = MakeFault} {Y = Option AuthorRow} {F = MakeFault} c.args.conn.now c.know_author.new.conn c.in_ok-row.field-0 c.from_residual-in_err-next.result c.in_ok-row.ensures.peeks
+
+pub returns-clause-peeks : goal.returns-clause-peeks
+returns-clause-peeks g c =
+    peeks_as g.S.Store {X = Option AuthorRow} {E = MakeFault} {Y = Option AuthorRow} {F = MakeFault} c.args.conn.now c.know_author.new.conn c.in_ok-row.field-0 (Ok (Some c.in_ok-next.next)) c.in_ok-row.ensures.peeks

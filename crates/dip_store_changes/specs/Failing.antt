@@ -1,14 +1,14 @@
 -- Why a change isn't made, and which changes have place.
-use Rattle.std.specs.Prelude.{◌≡◌, ◌<◌, ◌^◌, ℕ, true, List, filter, length}
+use Rattle.std.specs.Prelude.{◌≡◌, ◌<◌, ◌^◌, ℕ, List, filter, length}
 use Rattle.std.specs.List.{AllByRecursion}
 use Rattle.sqlite.specs.Order.{Row}
 use Rattle.dip_map.specs.Charts.{Chart}
-use Rattle.dip_desk_state.specs.Bounds.{most_items, most_sent}
+use Rattle.dip_desk_state.specs.Bounds.{most_items}
 use Rattle.dip_desk_state.specs.State.{Author, Effect, Nothing, Pending, Votes, Delivers, Opens, Publishes, Seats, Change}
 use Rattle.dip_store_tables.specs.Changing.{changing, is_reader}
 use Rattle.dip_store_tables.specs.Counting.{CountsOn}
 use Rattle.dip_store_tables.specs.Coding.{IsSeatOf}
-use Rattle.dip_store_tables.specs.Tables.{SeatRow, Tables, is_seat}
+use Rattle.dip_store_tables.specs.Tables.{SeatRow, Tables}
 use Rattle.dip_store_tables.specs.Legible.{AreOurs, IsSeatLegible}
 use Rattle.dip_store_tables.specs.Written.{IsSeatWritten}
 use Rattle.dip_store_tables.specs.Room.{HasRoom, SentHasRoom}
@@ -57,10 +57,6 @@ pub record IsSeatShown (r : Row) : Type 0 where
   pub digest : length seat.digest ≡ 32
   pub sent : seat.sent < 2 ^ 32
   pub items : seat.items < 2 ^ 32
-
--- a seat may send one more letter of press
-abbrev pub MaySend : List ℕ → List ℕ → SeatRow → Type 0
-MaySend name power s = is_seat name power s ≡ true → s.sent < most_sent
 
 -- a letter of press counts in its author's row
 abbrev pub PressHasRoom : Chart → Author → List ℕ → Effect → List SeatRow → Type 0

@@ -1,5 +1,5 @@
 //! What is counted before a change is made.
-ghost use Rattle.std.specs.Prelude.{◌≡◌, ◌<◌, ◌^◌, All, IfErr, IfOk, OnOk, string_bytes, true};
+ghost use Rattle.std.specs.Prelude.{◌≡◌, ◌<◌, ◌^◌, All, IfErr, IfOk, OnOk, true};
 ghost use Rattle.std.specs.List.{AllByRecursion};
 ghost use Rattle.dip_desk_state.specs.Bounds.{most_items};
 ghost use Rattle.dip_desk_state.specs.ChangeRows as machine;

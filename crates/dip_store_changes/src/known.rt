@@ -1,5 +1,5 @@
 //! What is known of the row of a letter's author, or found in it.
-ghost use Rattle.std.specs.Prelude.{◌≡◌, IfErr, IfOk, OnOk, IsTrue, option_map, true};
+ghost use Rattle.std.specs.Prelude.{◌≡◌, IfErr, IfOk, OnOk, option_map};
 ghost use Rattle.std.specs.List.{AllByRecursion, find};
 ghost use Rattle.sqlite.specs.Order.{bytes, column};
 ghost use Rattle.dip_desk_state.specs.ChangeRows as machine;

@@ -107,7 +107,7 @@ fn find_author<S: Alter>(
     }
 }
 
-/// The same, and nothing is asked where it is known.
+/// What the author's row says; nothing is asked where it is known.
 pub(crate) fn know_author<S: Alter>(
     conn: &mut Connection<S>,
     map: &Map,

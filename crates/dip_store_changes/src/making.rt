@@ -23,12 +23,13 @@ use dip_store_tables::{press_is_delivered_one_by_one, tables_stay_counted};
 use sqlite::{Alter, Connection, Error, ErrorCode};
 use std::alloc::Global;
 
-/// Makes the whole change, or nothing of it. Where what the author's row says is known, the row isn't asked for; that it says so is asked
-/// of who calls.
+/// Makes the whole change, or nothing of it. Of a change by a seat, what its row says may be known (`AuthorRow::of`); it isn't asked for
+/// then, and has to be what the row says.
 ///
 /// # Errors
 /// Want of memory, the database's own, one of a transaction that is open before, and `Misfit` where a count has no room for one more,
-/// the change's paper hasn't the next number of its game, or a seat of the game is of no power of the map.
+/// the change's paper hasn't the next number of its game, a seat of the game is of no power of the map, or the author's digest hasn't 32
+/// bytes.
 pub fn make<S: Alter>(
     conn: &mut Connection<S>,
     alloc: Global,

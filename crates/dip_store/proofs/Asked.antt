@@ -12,7 +12,7 @@ use Rattle.dip_store_tables.specs.Looking.{PageIsFound, PaperIsFound}
 use Rattle.dip_store_tables.specs.Reading.{game_of, part_of, state_of}
 use Rattle.dip_store_tables.specs.Tables.{GameRow, SeatRow, Tables, is_named, is_paper_in, is_seat, is_seat_in}
 use Rattle.sqlite.specs.Order.{Row}
-use Rattle.dip_store_sql.specs.Showing.{is_numbered, show_papers}
+use Rattle.dip_store_sql.specs.Showing.{is_numbered, show_game}
 use Rattle.dip_store_sql.proofs.Numbered.{paper_by_number}
 use Rattle.dip_store_looks.specs.Asked.{page_in, whole_in}
 use Rattle.dip_store.proofs.Finding.{part_found}
@@ -59,7 +59,7 @@ module _ (m : Chart) (law : PaperIsFound m) (t : Tables) (counts : AreCounted t)
       ∙ ap (λ n. option_map (λ p. p.body) (find (λ p. p.number == number) (filter (is_paper_in n) t.papers))) same
       ∙ ap (option_map (λ p. p.body)) (sym (paper_by_number name number t.papers)))
 
--- of a query for how many papers a game has: there is none
+-- of a query for a game: there is none
 none_shown : {A B : Type 0} (f : A → B) (o : Option A) → None ≡ option_map f o → o ≡ None
 none_shown f None is = refl
 none_shown f (Some x) is = absurd (cc)
@@ -70,13 +70,13 @@ some_shown f None y is = absurd (cc)
 some_shown f (Some x) y is = (x, refl)
 
 module _ (m : Chart) (law : PaperIsFound m) (t : Tables) (counts : AreCounted t) (name : List ℕ) (number : ℕ) where
-  pub no_paper_is : None ≡ option_map show_papers (find (is_named name) t.games) → None ≡ paper_at name number (state_of m t)
-  no_paper_is none = sym (no_paper m law t counts name number (none_shown show_papers (find (is_named name) t.games) none))
+  pub no_paper_is : None ≡ option_map show_game (find (is_named name) t.games) → None ≡ paper_at name number (state_of m t)
+  no_paper_is none = sym (no_paper m law t counts name number (none_shown show_game (find (is_named name) t.games) none))
 
-  pub paper_is : (row : Row) (body : Option (List ℕ)) → Some row ≡ option_map show_papers (find (is_named name) t.games)
+  pub paper_is : (row : Row) (body : Option (List ℕ)) → Some row ≡ option_map show_game (find (is_named name) t.games)
       → body ≡ option_map (λ p. p.body) (find (is_numbered name number) t.papers) → body ≡ paper_at name number (state_of m t)
   paper_is row body some read =
-      let game = some_shown show_papers (find (is_named name) t.games) row some in
+      let game = some_shown show_game (find (is_named name) t.games) row some in
       read ∙ paper_found m law t counts name number game.0 game.1
 
 -- a page of a seat's inbox

@@ -1,5 +1,5 @@
 -- A change of the rows is the change of their keeper.
-use Rattle.std.proofs.Common.{◌≡◌, ◌≤◌, ◌⊎◌, ◌-◌, ◌^◌, Bool, true, false, nat_lt, IsTrue, arith, inl, inr, ◌+◌, ℕ, refl, sym, ap, subst, ◌∙◌}
+use Rattle.std.proofs.Common.{◌≡◌, ◌≤◌, ◌⊎◌, ◌-◌, ◌^◌, Bool, true, false, nat_lt, IsTrue, arith, inl, inr, ◌+◌, ℕ, Option, refl, sym, ap, subst, ◌∙◌}
 use Rattle.std.proofs.lemmas.Bool.{cases_Bool, ltb-false}
 use Rattle.sqlite.specs.Effect.{Database}
 use Rattle.sqlite.specs.Tree.{Trees}
@@ -30,10 +30,15 @@ use Rattle.dip_store_sql.specs.Rows.{tables_of}
 use Rattle.dip_store_sql.proofs.Parts.{fails, went}
 use Rattle.dip_store_changes.specs.Failing.{BlamesFor, FailsFor, HasPlace, MayMake}
 use Rattle.dip_store_changes.specs.Laws.{ChangesAreMade, IsMade}
-use Rattle.dip_store_changes.specs.Making.{Makes}
+use Rattle.dip_store_changes.specs.Making.{MakesFrom}
 use Rattle.dip_store_changes.specs.declared.faults.MakeFault.{MakeFault}
 use Rattle.dip_store.specs.Faults.{is_of_size, make_fault}
-use Rattle.dip_store.specs.Owns.{Owns, RecallsOwns}
+use Rattle.dip_desk_state.specs.Writable.{IsAuthorOf}
+use Rattle.dip_store_tables.specs.Looking.{OwnIsFound}
+use Rattle.dip_store_changes.specs.Knowing.{IsKeptAs, IsKnown}
+use Rattle.dip_store_changes.specs.declared.known.AuthorRow.{AuthorRow}
+use Rattle.dip_store.specs.Owns.{Owns, RecallsOwns, known_among, owns_of}
+use Rattle.dip_store.proofs.Owning.{known_of}
 use Rattle.dip_store.specs.Seen.{Parts, Recalls}
 use Rattle.dip_store.specs.Stored.{AreStored, book, said_by, sized, sizing, telling}
 use Rattle.dip_store.specs.declared.keeper.SqlKeeper.{SqlKeeper}
@@ -67,6 +72,10 @@ module _ {S : Type 0} (g : Ghosts S) (m : Chart) (k : SqlKeeper S) (c : Change) 
   abbrev Keeps : Type 0
   Keeps = IsKept g k.conn × AreOurs m (tables_in g k.conn) × Recalls (said_by m (state g k.conn).now.trees) k.seen × RecallsOwns (said_by m (state g k.conn).now.trees) k.owns
 
+  -- what is known of the author's row is what the tables have there
+  pub knows : OwnIsFound m → IsAuthorOf m c.author → (known : Option AuthorRow) → known ≡ known_among c.author (owns_of c.game k.owns) → Keeps → IsKeptAs g known m c k.conn
+  knows law author known is keeps = (keeps.0, subst (λ (x : Option AuthorRow). IsKnown x m c.author c.game (tables_in g k.conn).seats) (sym is) (known_of m c.author c.game (tables_in g k.conn) k.owns law keeps.1.coded author keeps.3))
+
   module _ (new : Held S) (law : ChangesAreMade m) (fits : IsWritable m c) (wide : HasWidths c) (seen : Parts) (heeds : Heeds c k.seen seen) (owns : Owns) where
     is_made : (kept : Keeps) → IsGood (state g new).now → tables_in g new ≡ changing m c (tables_in g k.conn) → IsMade m c (tables_in g k.conn) (tables_in g new)
     is_made kept good is = law c (state g k.conn).now (state g new).now fits kept.0.good good is
@@ -94,8 +103,8 @@ module _ {S : Type 0} (g : Ghosts S) (m : Chart) (k : SqlKeeper S) (c : Change) 
         let is = lands.1 kept.0.good in
         ap (said_by m) lands.2 ∙ (law c (state g k.conn).now lands.0 fits kept.0.good is.0 is.1).says kept.1.coded
 
-    pub changes_well : (X E : Type 0) (x : X) → HasTexts c → TablesStayLegible m → Makes g (changing m c) k.conn new (went X E x) → (IsKept g k.conn → does_show g new → IsKept g new)
-        → (IsKept g k.conn → does_show g new → HasPlace m c (tables_in g k.conn))
+    pub changes_well : (X E : Type 0) (x : X) → HasTexts c → TablesStayLegible m → MakesFrom Keeps g (changing m c) k.conn new (went X E x) → (Keeps → does_show g new → IsKept g new)
+        → (Keeps → does_show g new → HasPlace m c (tables_in g k.conn))
         → ((s : State) → RecallsOwns s k.owns → RecallsOwns (state_after c s) owns)
         → Changes m (book g) k (record k { conn = new; seen = seen; owns = owns }) (state_after c) (Fits m c) (went X KeepFault x)
     changes_well X E x texts stay p stays place follows = record {
@@ -106,35 +115,35 @@ module _ {S : Type 0} (g : Ghosts S) (m : Chart) (k : SqlKeeper S) (c : Change) 
         fair = p.fair;
         shown = p.shown;
         sound = sound;
-        firm = λ kept clean. sound kept (p.ok kept.0 clean);
-        stays_open = λ kept clean shows. p.ok kept.0 clean;
+        firm = λ kept clean. sound kept (p.ok kept clean);
+        stays_open = λ kept clean shows. p.ok kept clean;
         shuts = p.closes;
         again = λ kept clean shows takes db may.
-            let still = sound kept (p.ok kept.0 clean) in
-            ((state g new).now, sym (p.kept kept.0 clean db may), record { good = still.0.good; counted = still.0.counted; ours = still.1 });
+            let still = sound kept (p.ok kept clean) in
+            ((state g new).now, sym (p.kept kept clean db may), record { good = still.0.good; counted = still.0.counted; ours = still.1 });
       };
-      done = λ kept shows. let is = p.done kept.0 shows in said kept is.0.good is.1;
+      done = λ kept shows. let is = p.done kept shows in said kept is.0.good is.1;
       undone = λ kept shows. tt;
       fitting = λ kept clean shows fit is. absurd (cc);
       failed = λ kept clean shows is. absurd (cc);
-      settles = λ kept clean shows alone s may. may.2 ∙ ap (said_by m) (p.kept kept.0 clean may.0 may.1);
-      kept = λ kept clean s may. may.2 ∙ ap (said_by m) (p.kept kept.0 clean may.0 may.1);
+      settles = λ kept clean shows alone s may. may.2 ∙ ap (said_by m) (p.kept kept clean may.0 may.1);
+      kept = λ kept clean s may. may.2 ∙ ap (said_by m) (p.kept kept clean may.0 may.1);
       left = λ kept clean. tt;
     }
       where
         sound : Keeps → does_show g new
             → IsKept g new × AreOurs m (tables_in g new) × Recalls (said_by m (state g new).now.trees) seen × RecallsOwns (said_by m (state g new).now.trees) owns
         sound kept shows =
-            let is = p.done kept.0 shows in (
-              stays kept.0 shows,
-              ours kept texts stay (place kept.0 shows) is.0.good is.1,
+            let is = p.done kept shows in (
+              stays kept shows,
+              ours kept texts stay (place kept shows) is.0.good is.1,
               subst (λ (s : State). Recalls s seen) (sym (said kept is.0.good is.1)) (heeds (said_by m (state g k.conn).now.trees) kept.2).1,
               subst (λ (s : State). RecallsOwns s owns) (sym (said kept is.0.good is.1)) (follows (said_by m (state g k.conn).now.trees) kept.3),
             )
 
     -- what a crash may leave of a change that isn't made can be opened again
     abbrev LandsWell : Type 0
-    LandsWell = IsKept g k.conn → is_honest g new → (db : Trees) → (state g new).may_leave db → (state g k.conn).may_leave db ⊎ HasPlace m c (tables_in g k.conn)
+    LandsWell = Keeps → is_honest g new → (db : Trees) → (state g new).may_leave db → (state g k.conn).may_leave db ⊎ HasPlace m c (tables_in g k.conn)
 
     stored : HasTexts c → TablesStayLegible m → TablesStayCounted m → (kept : Keeps) → HasPlace m c (tables_in g k.conn) → (db : Trees) → Lands (changing m c) (state g k.conn) db → AreStored m db
     stored texts legible counted kept place db lands =
@@ -152,7 +161,7 @@ module _ {S : Type 0} (g : Ghosts S) (m : Chart) (k : SqlKeeper S) (c : Change) 
     abbrev StaysRemembered : Type 0
     StaysRemembered = (s : State) → RecallsOwns s k.owns → RecallsOwns s owns
 
-    changes_told : (X Y E : Type 0) (e : E) (f : KeepFault) (n z : ℕ) → StaysRemembered → HasTexts c → TablesStayLegible m → TablesStayCounted m → LandsWell → Settled → Makes g (changing m c) k.conn new (fails Y E e) → n ≡ faults_with f k.failures → k.of_size ≤ z
+    changes_told : (X Y E : Type 0) (e : E) (f : KeepFault) (n z : ℕ) → StaysRemembered → HasTexts c → TablesStayLegible m → TablesStayCounted m → LandsWell → Settled → MakesFrom Keeps g (changing m c) k.conn new (fails Y E e) → n ≡ faults_with f k.failures → k.of_size ≤ z
         → (Keeps → is_honest g new → does_show g k.conn → Fits m c (said_by m (state g k.conn).now.trees) → f ≡ Damaged → ⊥)
         → (Keeps → is_honest g new → does_show g k.conn → f ≡ Disk → has_faulted g k.conn new ⊎ Rises k.of_size z)
         → Changes m (book g) k (record k { conn = new; failures = n; of_size = z; seen = seen; owns = owns }) (state_after c) (Fits m c) (fails X KeepFault f)
@@ -164,7 +173,7 @@ module _ {S : Type 0} (g : Ghosts S) (m : Chart) (k : SqlKeeper S) (c : Change) 
         fair = p.fair;
         shown = p.shown;
         sound = λ kept shows.
-            let is = p.undone kept.0 shows in (
+            let is = p.undone kept shows in (
               is.0,
               subst (λ (d : Database). AreOurs m (tables_of d.trees)) (sym is.1) kept.1,
               subst (λ (d : Database). Recalls (said_by m d.trees) seen) (sym is.1) (heeds (said_by m (state g k.conn).now.trees) kept.2).0,
@@ -173,27 +182,27 @@ module _ {S : Type 0} (g : Ghosts S) (m : Chart) (k : SqlKeeper S) (c : Change) 
         firm = λ kept clean. tt;
         stays_open = λ kept clean shows. tt;
         shuts = p.closes;
-        again = λ kept clean shows takes db may. elim (p.left kept.0 clean db may) [
+        again = λ kept clean shows takes db may. elim (p.left kept clean db may) [
           | inl before ↦ takes db before
-          | inr lands ↦ elim (lands_well kept.0 clean db may) [
+          | inr lands ↦ elim (lands_well kept clean db may) [
             | inl before ↦ takes db before
             | inr place ↦ stored texts legible counted kept place db lands
           ]
         ];
       };
       done = λ kept shows. tt;
-      undone = λ kept shows. ap (λ (d : Database). said_by m d.trees) (p.undone kept.0 shows).1;
+      undone = λ kept shows. ap (λ (d : Database). said_by m d.trees) (p.undone kept shows).1;
       fitting = λ kept clean shows fit is. let same : f ≡ Damaged = cc in never kept clean shows fit same;
       failed = λ kept clean shows is. let same : f ≡ Disk = cc in caused kept clean shows same;
-      settles = λ kept clean shows alone s may. may.2 ∙ ap (said_by m) (settled new.store may.0 shows.1 may.1 ∙ ap (λ (d : Database). d.trees) (sym (p.undone kept.0 shows).0.settled));
+      settles = λ kept clean shows alone s may. may.2 ∙ ap (said_by m) (settled new.store may.0 shows.1 may.1 ∙ ap (λ (d : Database). d.trees) (sym (p.undone kept shows).0.settled));
       kept = λ kept clean. tt;
-      left = λ kept clean s may. elim (p.left kept.0 clean may.0 may.1) [
+      left = λ kept clean s may. elim (p.left kept clean may.0 may.1) [
         | inl before ↦ inl (may.0, before, may.2)
         | inr after ↦ inr (may.2 ∙ landed kept may.0 after)
       ];
     }
 
-    changes_counted : (X Y E : Type 0) (e : E) (f : KeepFault) (b : Bool) → StaysRemembered → HasTexts c → TablesStayLegible m → TablesStayCounted m → LandsWell → Settled → Makes g (changing m c) k.conn new (fails Y E e)
+    changes_counted : (X Y E : Type 0) (e : E) (f : KeepFault) (b : Bool) → StaysRemembered → HasTexts c → TablesStayLegible m → TablesStayCounted m → LandsWell → Settled → MakesFrom Keeps g (changing m c) k.conn new (fails Y E e)
         → (Keeps → is_honest g new → does_show g k.conn → Fits m c (said_by m (state g k.conn).now.trees) → f ≡ Damaged → ⊥)
         → (Keeps → is_honest g new → does_show g k.conn → f ≡ Disk → has_faulted g k.conn new ⊎ (b ≡ true))
         → Changes m (book g) k (telling f (sizing b (record k { conn = new; seen = seen; owns = owns }))) (state_after c) (Fits m c) (fails X KeepFault f)
@@ -207,14 +216,14 @@ module _ {S : Type 0} (g : Ghosts S) (m : Chart) (k : SqlKeeper S) (c : Change) 
         by Damaged never rose = changes_told X Y E e Damaged k.failures (sized b k.of_size) remembered texts legible counted lands settled p refl (size_counts b k.of_size) never rose
 
     -- a change that fits isn't made for want alone, and of any change the disk is told of only where the store told of a fault
-    pub changes_ill : (X Y : Type 0) (e : MakeFault) → StaysRemembered → HasTexts c → TablesStayLegible m → TablesStayCounted m → LandsWell → Settled → WhatFitsFindsPlace m → Makes g (changing m c) k.conn new (fails Y MakeFault e)
-        → (IsKept g k.conn → does_show g k.conn → is_honest g new → MayMake m c (tables_in g k.conn) → FailsFor (has_faulted g k.conn new) (HasPlace m c (tables_in g k.conn) → ⊥) e)
-        → (IsKept g k.conn → does_show g k.conn → is_honest g new → AreOurs m (tables_in g k.conn) → BlamesFor (has_faulted g k.conn new) e)
+    pub changes_ill : (X Y : Type 0) (e : MakeFault) → StaysRemembered → HasTexts c → TablesStayLegible m → TablesStayCounted m → LandsWell → Settled → WhatFitsFindsPlace m → MakesFrom Keeps g (changing m c) k.conn new (fails Y MakeFault e)
+        → (Keeps → does_show g k.conn → is_honest g new → MayMake m c (tables_in g k.conn) → FailsFor (has_faulted g k.conn new) (HasPlace m c (tables_in g k.conn) → ⊥) e)
+        → (Keeps → does_show g k.conn → is_honest g new → AreOurs m (tables_in g k.conn) → BlamesFor (has_faulted g k.conn new) e)
         → Changes m (book g) k (telling (make_fault e) (sizing (is_of_size e) (record k { conn = new; seen = seen; owns = owns }))) (state_after c) (Fits m c) (fails X KeepFault (make_fault e))
     changes_ill X Y e remembered texts legible counted lands settled finds p why blames = changes_counted X Y MakeFault e (make_fault e) (is_of_size e) remembered texts legible counted lands settled p (λ kept clean shows fit.
         let place = placed kept fit in
-        make_outside (has_faulted g k.conn new) (HasPlace m c (tables_in g k.conn) → ⊥) e (why kept.0 shows clean (record { ours = kept.1; keyed = place.keyed })) (λ none. none (record { paper = place.paper; room = place.room })))
-        (λ kept clean shows. make_caused (has_faulted g k.conn new) e (blames kept.0 shows clean kept.1))
+        make_outside (has_faulted g k.conn new) (HasPlace m c (tables_in g k.conn) → ⊥) e (why kept shows clean (record { ours = kept.1; keyed = place.keyed })) (λ none. none (record { paper = place.paper; room = place.room })))
+        (λ kept clean shows. make_caused (has_faulted g k.conn new) e (blames kept shows clean kept.1))
       where
         placed : (kept : Keeps) → Fits m c (said_by m (state g k.conn).now.trees) → FindsPlaceInTables m c (tables_in g k.conn)
         placed kept fit = finds c (tables_in g k.conn) kept.1.map kept.1.coded kept.0.counted (are_keyed (state g k.conn).now kept.0.good) fit

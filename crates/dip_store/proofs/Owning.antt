@@ -1,7 +1,7 @@
 -- Own parts that are remembered.
-use Rattle.std.proofs.Common.{◌≡◌, ◌<◌, ◌==◌, ◌+◌, ◌++◌, ℕ, zero, suc, Bool, true, false, cond, nat_le, List, [], ◌∷◌, Option, Some, Result, Ok, Err, OnOk, OnErr, map, filter, take, drop, get_or, length, option_map, unwrap_or, refl, sym, ap, subst, ◌∙◌, arith, add-one, bytes_eq, String, string_bytes, Vec, vec_len, slice_set, eqb-true}
+use Rattle.std.proofs.Common.{◌≡◌, ◌<◌, ◌==◌, ◌+◌, ◌++◌, ℕ, zero, suc, Bool, true, false, cond, nat_le, List, [], ◌∷◌, Option, None, Some, Result, Ok, Err, OnOk, OnErr, map, filter, take, drop, get_or, length, option_map, unwrap_or, refl, sym, ap, subst, ◌∙◌, arith, add-one, bytes_eq, String, string_bytes, Vec, vec_len, slice_set, eqb-true}
 use Rattle.std.specs.declared.alloc.Global.{Global}
-use Rattle.std.specs.List.{AllByRecursion}
+use Rattle.std.specs.List.{AllByRecursion, find}
 use Rattle.std.specs.Map.{lookup, values_of}
 use Rattle.std.specs.String.{string_eq}
 use Rattle.indexmap.specs.IndexMap.{IndexMap, UpdatesBy}
@@ -9,9 +9,17 @@ use Rattle.std.proofs.lemmas.List.{map-append}
 use Rattle.std.proofs.lemmas.Slice.Eq.{bytes_eq-Decides}
 use Rattle.dip_desk_state.specs.Records as r
 use Rattle.dip_desk_state.specs.Rows as rows
-use Rattle.dip_desk_state.specs.State.{Change, State, own_at, state_after}
+use Rattle.dip_desk_state.specs.State.{Author, Nobody, TheMaster, Seat, Change, State, own_at, state_after}
+use Rattle.dip_desk_state.specs.Writable.{IsAuthorOf}
 use Rattle.dip_desk_state.specs.declared.records.Own.{Own}
-use Rattle.dip_store.specs.Owns.{HasOwn, Owns, RecallsOwns, is_own, many_owns, most_owns, own_among, own_behind, owns_of, owns_with_room}
+use Rattle.dip_map.specs.Charts.{Chart}
+use Rattle.dip_store_tables.specs.Boards.{power_name}
+use Rattle.dip_store_tables.specs.Coding.{AreCoded}
+use Rattle.dip_store_tables.specs.Looking.{OwnIsFound}
+use Rattle.dip_store_tables.specs.Reading.{own_of, state_of}
+use Rattle.dip_store_tables.specs.Tables.{SeatRow, Tables, is_seat}
+use Rattle.dip_store_changes.specs.Knowing.{IsKnown, own_row, row_of}
+use Rattle.dip_store.specs.Owns.{HasOwn, Owns, RecallsOwns, is_own, known_among, many_owns, most_owns, own_among, own_behind, owns_of, owns_with_room}
 use Rattle.dip_store.proofs.Behind.{has_own, letter_stays, other_stays}
 use Rattle.dip_store.proofs.Named.{found_said, said, updated_said}
 
@@ -235,3 +243,17 @@ pub learned_own : {X E : Type 0} (did : Result X E) (s : State) (name : List ℕ
     → Some o ≡ own_at name power s → RecallsOwns s old → RecallsOwns s new
 learned_own did s name power o old new noted not is recalls =
     either_way did noted not (λ noted. noted_recalls s name o old new noted (has_own s name power o (sym is)) recalls) (λ stays. stays s recalls)
+
+-- what they say of the row of a letter's author is what the tables have there
+pub known_of : (m : Chart) (who : Author) (name : List ℕ) (t : Tables) (ws : Owns) → OwnIsFound m → AreCoded m t → IsAuthorOf m who → RecallsOwns (state_of m t) ws → IsKnown (known_among who (owns_of name ws)) m who name t.seats
+known_of m Nobody name t ws law coded author recalls = tt
+known_of m TheMaster name t ws law coded author recalls = tt
+known_of m (Seat power) name t ws law coded author recalls = go (own_among power (owns_of name ws)) refl
+  where
+    among : (o : r.Own) (s : Option SeatRow) → option_map (own_of m t.pending t.ballots) s ≡ Some o → Some (own_row o) ≡ option_map row_of s
+    among o None is = absurd (cc)
+    among o (Some s) is = let same : own_of m t.pending t.ballots s ≡ o = cc in ap (λ (x : r.Own). Some (own_row x)) (sym same)
+
+    go : (o : Option r.Own) → own_among power (owns_of name ws) ≡ o → IsKnown (option_map own_row o) m (Seat power) name t.seats
+    go None is = tt
+    go (Some o) is = among o (find (is_seat name (power_name m power)) t.seats) (sym (law t name power coded author) ∙ recalled_own (state_of m t) ws name power o recalls is)

@@ -1,10 +1,12 @@
 -- What is remembered of seats.
-use Rattle.std.specs.Prelude.{◌≡◌, ◌==◌, ◌+◌, ℕ, Bool, true, false, List, [], ◌∷◌, Option, None, Some, length, nat_le, bytes_eq, unwrap_or, if◌then◌else◌}
+use Rattle.std.specs.Prelude.{◌≡◌, ◌==◌, ◌+◌, ℕ, Bool, true, false, List, [], ◌∷◌, Option, None, Some, length, nat_le, bytes_eq, option_map, unwrap_or, if◌then◌else◌}
 use Rattle.std.specs.List.{AllByRecursion}
 use Rattle.std.specs.Map.{lookup}
 use Rattle.dip_desk_state.specs.Keyed.{at}
 use Rattle.dip_desk_state.specs.Records.{Kept, Own}
-use Rattle.dip_desk_state.specs.State.{Change, Effect, Nothing, Pending, Votes, Delivers, Opens, Publishes, Seats, State, is_seat, own_at, own_effect}
+use Rattle.dip_desk_state.specs.State.{Author, Nobody, TheMaster, Seat, Change, Effect, Nothing, Pending, Votes, Delivers, Opens, Publishes, Seats, State, is_seat, own_at, own_effect}
+use Rattle.dip_store_changes.specs.Knowing.{own_row}
+use Rattle.dip_store_changes.specs.declared.known.AuthorRow.{AuthorRow}
 
 -- own parts of seats, under the names of their games
 abbrev pub Owns : Type 0
@@ -17,6 +19,12 @@ owns_of name ws = unwrap_or (lookup (bytes_eq name) ws) []
 -- the own part of a power among them
 abbrev pub own_among : ℕ → List Own → Option Own
 own_among power os = at (λ a b. a == b) (λ o. o.power) power os
+
+-- what they say of the row of a letter's author, where its own part is among them
+abbrev pub known_among : Author → List Own → Option AuthorRow
+known_among Nobody os = None
+known_among TheMaster os = None
+known_among (Seat power) os = option_map own_row (own_among power os)
 
 -- a state has this own part in the game of a name
 abbrev pub HasOwn : State → List ℕ → Own → Type 0

@@ -4,10 +4,11 @@ ghost use Rattle.std.specs.List.{AllByRecursion};
 ghost use Rattle.dip_desk_state.specs.ChangeRows as desk_rows;
 ghost use Rattle.dip_desk_state.specs.Rows as rows;
 ghost use Rattle.dip_desk_state.specs.State.{State, is_seat, own_at, own_effect, state_after};
-ghost use Rattle.dip_store.specs.Owns.{HasOwn, RecallsOwns, is_own, is_short, many_owns, most_owns, own_among, own_behind, owns_of, owns_with_room};
+ghost use Rattle.dip_store.specs.Owns.{HasOwn, RecallsOwns, is_own, is_short, known_among, many_owns, most_owns, own_among, own_behind, owns_of, owns_with_room};
 
 use dip_desk_state::{Author, Change, Effect, Own, copy_standings};
 use dip_map::Power;
+use dip_store_changes::AuthorRow;
 use indexmap::IndexMap;
 use std::alloc::{AllocError, Global};
 use std::marker::Model;
@@ -88,6 +89,19 @@ fn own_in(owns: &[Own], power: Power) -> Option<&Own>
         }
     }
     None
+}
+
+/// What the own parts of a game say of the row of a letter's author, where its own is among them.
+pub(crate) fn known_row(author: Author, owns: &[Own]) -> Option<AuthorRow>
+    ensures { result ≡ known_among (desk_rows.author author) (each (λ o. rows.own o) owns.now) }
+{
+    match author {
+        Author::Nobody | Author::TheMaster => None,
+        Author::Seat(power) => {
+            let own = own_in(owns, power)?;
+            Some(AuthorRow::of(own))
+        }
+    }
 }
 
 /// What a letter of its own makes of an own part.

@@ -9,7 +9,7 @@ ghost use Rattle.dip_store_sql.specs.Calls.{IsKept, Selects, does_show, is_hones
 ghost use Rattle.dip_store_tables.specs.Reading.{state_of};
 
 use dip_store_looks::{LookFault, look_paper};
-use dip_store_sql::count_papers;
+use dip_store_sql::find_game;
 use dip_store_tables::paper_is_found;
 use sqlite::{Alter, Connection};
 
@@ -32,7 +32,7 @@ pub(crate) fn look_game_paper<S: Alter>(
         → IfErr result (IsFromOutside (has_faulted S.Store conn.old conn.new)) }
 {
     paper_is_found();
-    let Some(_count) = count_papers(conn, game)? else {
+    let Some(_game) = find_game(conn, game)? else {
         return Ok(None);
     };
     let paper = look_paper(conn, game, number)?;

@@ -1,5 +1,5 @@
 -- A change that is made with the counts before it is the change.
-use Rattle.std.proofs.Common.{◌≡◌, ℕ, ◌+◌, pos, Bool, true, false, cond, ◌&&◌, List, [], ◌∷◌, filter, find, slice_get, Some, None, option_map, bytes_eq, refl, sym, ap, ap₂, subst, ◌∙◌, inl, inr}
+use Rattle.std.proofs.Common.{◌≡◌, ℕ, ◌+◌, pos, Bool, true, false, cond, ◌&&◌, List, [], ◌∷◌, filter, find, slice_get, Option, Some, None, option_map, bytes_eq, refl, sym, ap, ap₂, subst, ◌∙◌, inl, inr}
 use Rattle.std.specs.List.{AllByRecursion}
 use Rattle.std.proofs.lemmas.Bool.{cases_Bool}
 use Rattle.dip_store_tables.proofs.ListLemmas.{ascending-map, ascending_weaker, slice_get-filter}
@@ -17,8 +17,9 @@ use Rattle.dip_store_tables.specs.Tables.{SeatRow, Tables, is_seat}
 use Rattle.dip_store_tables.specs.Writing.{as_printed, seat_noted}
 use Rattle.dip_store_changes.specs.Delivering.{AreSeats, ReadersAreSeats}
 use Rattle.dip_store_changes.specs.declared.delivering.Reader.{Reader}
+use Rattle.dip_store_changes.specs.declared.known.AuthorRow.{AuthorRow}
 use Rattle.dip_store_changes.specs.Counts.{AreReaders, Counts}
-use Rattle.dip_store_changes.specs.Making.{changing_sent, reaching_all}
+use Rattle.dip_store_changes.specs.Making.{changing_row, reaching_all}
 use Rattle.dip_store_changes.proofs.Listed.{still_readers}
 
 module _ {A : Type 0} (p : A → Bool) (Q : A → Type 0) where
@@ -30,19 +31,19 @@ module _ {A : Type 0} (p : A → Bool) (Q : A → Type 0) where
   ]
 
   -- what holds of the one that is found holds of all that pass
-  found_alone : (xs : List A) → AtMostOne p xs → ((x : A) → find p xs ≡ Some x → Q x) → AllByRecursion (λ x. p x ≡ true → Q x) xs
+  pub found_alone : (xs : List A) → AtMostOne p xs → ((x : A) → find p xs ≡ Some x → Q x) → AllByRecursion (λ x. p x ≡ true → Q x) xs
   found_alone xs (inl none) holds = passed xs (subst (AllByRecursion Q) (sym none) tt)
   found_alone xs (inr one) holds = passed xs (subst (AllByRecursion Q) (sym one.1) (holds one.0 (sym (slice_get-filter p xs) ∙ ap (λ ys. slice_get ys 0) one.1), tt))
 
--- a count in the only column of the one row that passes
-module _ {A : Type 0} (p : A → Bool) (show : A → Row) (number : A → ℕ) (shown : (x : A) → column (show x) 0 ≡ Int (pos (number x))) (xs : List A) (one : AtMostOne p xs) where
+-- a count in a column of the one row that passes
+module _ {A : Type 0} (p : A → Bool) (at : ℕ) (show : A → Row) (number : A → ℕ) (shown : (x : A) → column (show x) at ≡ Int (pos (number x))) (xs : List A) (one : AtMostOne p xs) where
   pub none_counted : None ≡ option_map show (find p xs) → (n : ℕ) → AllByRecursion (λ x. p x ≡ true → n ≡ number x + 1) xs
   none_counted none n = found_alone p (λ x. n ≡ number x + 1) xs one (λ x is. absurd (let bad = none ∙ ap (option_map show) is in cc))
 
-  pub one_counted : (row : Row) (count n : ℕ) → Some row ≡ option_map show (find p xs) → column row 0 ≡ Int (pos count) → n ≡ count + 1 → AllByRecursion (λ x. p x ≡ true → n ≡ number x + 1) xs
+  pub one_counted : (row : Row) (count n : ℕ) → Some row ≡ option_map show (find p xs) → column row at ≡ Int (pos count) → n ≡ count + 1 → AllByRecursion (λ x. p x ≡ true → n ≡ number x + 1) xs
   one_counted row count n found reads next = found_alone p (λ x. n ≡ number x + 1) xs one (λ x is.
       let same : row ≡ show x = (let both = found ∙ ap (option_map show) is in cc) in
-      let columns = sym reads ∙ ap (λ r. column r 0) same ∙ shown x in
+      let columns = sym reads ∙ ap (λ r. column r at) same ∙ shown x in
       let counts : count ≡ number x = cc in
       next ∙ ap (λ k. k + 1) counts)
 
@@ -96,7 +97,7 @@ module _ (m : Chart) (each : ReadersAreSeats m) (one : IsDeliveredOneByOne m) (r
   reached (Publishes public paper played) are = refl
   reached (Seats seat) are = refl
 
-pub counted_change : (m : Chart) → ReadersAreSeats m → IsDeliveredOneByOne m → (c : Change) (t : Tables) (n : ℕ) (rs : List Reader) → AreApart t → Counts n rs m c t → changing_sent n rs m c t ≡ changing m c t
-counted_change m each one c t n rs apart counts =
-    ap (λ u. reaching_all rs m c.game c.effect (ordering m c.author c.game c.effect u)) (counts.sent c.kept)
+pub counted_change : (m : Chart) → ReadersAreSeats m → IsDeliveredOneByOne m → (c : Change) (t : Tables) (row : Option AuthorRow) (rs : List Reader) → AreApart t → Counts row rs m c t → changing_row row rs m c t ≡ changing m c t
+counted_change m each one c t row rs apart counts =
+    ap (λ u. reaching_all rs m c.game c.effect (ordering m c.author c.game c.effect u)) (counts.author c.kept)
     ∙ reached m each one rs c.author c.game c.kept t apart c.effect counts.readers

@@ -7,7 +7,7 @@ use Rattle.std.proofs.lemmas.Bool.{cases_Bool}
 use Rattle.sqlite.specs.Order.{Row, column}
 use Rattle.sqlite.specs.Reading.{IsReadError}
 use Rattle.sqlite.specs.declared.types.Value.{Value}
-use Rattle.sqlite.specs.declared.types.Value.TheVariants.{Int, Text as Words}
+use Rattle.sqlite.specs.declared.types.Value.TheVariants.{Int, Text as Words, Blob as Bytes}
 use Rattle.sqlite.specs.declared.error.Error.{Error}
 use Rattle.sqlite.specs.declared.error.Error.TheVariants.{SqliteFailure}
 use Rattle.sqlite.specs.declared.error.ErrorCode.TheVariants.{OutOfMemory}
@@ -20,7 +20,7 @@ use Rattle.dip_store_sql.specs.Showing.{show_listed}
 use Rattle.dip_store_sql.specs.Refusals.{IsWant}
 use Rattle.dip_store_sql.proofs.Blamed.{want_blamed}
 use Rattle.dip_store_sql.proofs.Told.{want_weaker}
-use Rattle.dip_store_changes.specs.Failing.{BlamesFor, FailsFor, IsListed}
+use Rattle.dip_store_changes.specs.Failing.{BlamesFor, FailsFor, IsListed, IsSeatShown}
 use Rattle.dip_store_changes.specs.declared.faults.MakeFault.{MakeFault}
 use Rattle.dip_store_changes.specs.declared.faults.MakeFault.TheVariants.{Memory, Sql, Misfit}
 
@@ -72,30 +72,34 @@ result_fails f g one two (Ok x) late turn fails = tt
 result_fails f g one two (Err e) late turn fails = fault_fails f g one two e late turn fails
 
 -- the row of the one that is found, which passes
-pub record IsFound {A : Type 0} (P : A → Type 0) (p : A → Bool) (show : A → Row) (row : Row) : Type 0 where
+pub record IsFound {A B : Type 0} (P : A → Type 0) (p : A → Bool) (show : A → B) (row : B) : Type 0 where
   pub one : A
   pub shown : row ≡ show one
   pub holds : P one
   pub passes : p one ≡ true
 
-pub shown_found : {A : Type 0} (P : A → Type 0) (p : A → Bool) (show : A → Row) (xs : List A) (row : Row) → Some row ≡ option_map show (find p xs) → AllByRecursion P xs → IsFound P p show row
+pub shown_found : {A B : Type 0} (P : A → Type 0) (p : A → Bool) (show : A → B) (xs : List A) (row : B) → Some row ≡ option_map show (find p xs) → AllByRecursion P xs → IsFound P p show row
 shown_found P p show [] row is all = absurd (cc)
 shown_found P p show (y ∷ ys) row is all = elim (cases_Bool (p y)) [
   | inl e ↦ let both = rw e at is in let same : row ≡ show y = cc in record { one = y; shown = same; holds = all.0; passes = e }
   | inr e ↦ shown_found P p show ys row (rw e at is) all.1
 ]
 
--- a count alone in its row
-pub count_reads : (row : Row) (n : ℕ) (e : Error) → IsReadError 0 (column row 0) e → ((e ≡ SqliteFailure OutOfMemory → ⊥) → 0 < length row → ((k : ℕ) × (column row 0 ≡ Int (pos k)) × (k < 2 ^ 32)) → ⊥)
-    → row ≡ Int (pos n) ∷ [] → n < 2 ^ 32 → IsWant ⊥ e
-count_reads row n e named kind is low =
-    column_wants 0 (length row) (column row 0) _ e named kind (subst (λ (r : Row). 0 < length r) (sym is) (omega arith)) (n, ap (λ (r : Row). column r 0) is, low)
+-- a count in a column of a row
+pub count_reads : (at : ℕ) (row : Row) (n : ℕ) (e : Error) → IsReadError at (column row at) e → ((e ≡ SqliteFailure OutOfMemory → ⊥) → at < length row → ((k : ℕ) × (column row at ≡ Int (pos k)) × (k < 2 ^ 32)) → ⊥)
+    → at < length row → column row at ≡ Int (pos n) → n < 2 ^ 32 → IsWant ⊥ e
+count_reads at row n e named kind low is small = column_wants at (length row) (column row at) _ e named kind low (n, is, small)
 
--- two counts of one row
-pub same_count : (row : Row) (n k : ℕ) → row ≡ Int (pos n) ∷ [] → column row 0 ≡ Int (pos k) → k ≡ n
-same_count row n k is reads =
-    let both : Int (pos k) ≡ Int (pos n) = sym reads ∙ ap (λ (r : Row). column r 0) is in
+-- two counts of one column
+pub same_count : (at : ℕ) (row : Row) (n k : ℕ) → column row at ≡ Int (pos n) → column row at ≡ Int (pos k) → k ≡ n
+same_count at row n k is reads =
+    let both : Int (pos k) ≡ Int (pos n) = sym reads ∙ is in
     cc
+
+-- the digest of a seat's secret, in a row as it is found
+pub digest_reads : (row : Row) → IsSeatShown row → (e : Error) → IsReadError 0 (column row 0) e → ((e ≡ SqliteFailure OutOfMemory → ⊥) → 0 < length row → ((all : List ℕ) × (column row 0 ≡ Bytes all)) → ⊥) → IsWant ⊥ e
+digest_reads row it e named kind =
+    column_wants 0 (length row) (column row 0) _ e named kind (subst (λ (r : Row). 0 < length r) (sym it.shown) (omega arith)) (it.seat.digest, ap (λ (r : Row). column r 0) it.shown)
 
 -- the name of a power of the map, in a listed row
 pub power_reads : (m : Chart) → IsMap m → (row : Row) → IsListed m row → (e : Error) → IsReadError 0 (column row 0) e

@@ -5,6 +5,7 @@ pub mod Counting
 pub mod Gaming
 pub mod Handing
 pub mod Joining
+pub mod Knowing
 pub mod Outcomes
 pub mod Placing
 pub mod Counted

@@ -16,7 +16,7 @@ use Rattle.dip_store_sql.specs.Causes.{has_faulted}
 use Rattle.dip_store_sql.proofs.Caused.{faulted_early, faulted_late}
 use Rattle.dip_store_sql.proofs.Parts.{failed_commit, fails, undone_all, undone_base, went}
 use Rattle.dip_store_changes.specs.Counts.{Peeks}
-use Rattle.dip_store_changes.specs.Making.{IsLaid, Makes}
+use Rattle.dip_store_changes.specs.Making.{IsLaid, Makes, MakesFrom}
 
 -- both went well, or neither
 abbrev pub AreAlike : {X E F : Type 0} → Result X E → Result X F → Type 0
@@ -170,26 +170,26 @@ module _ {S : Type 0} (g : Ghosts S) (f : Tables → Tables) (old last end : Hel
 
 module _ {S : Type 0} (g : Ghosts S) where
   -- nothing was changed
-  pub makes_unmade : (X E Y F : Type 0) (f : Tables → Tables) (old new : Held S) (e : E) (d : F) → Peeks g old new (fails X E e) → Makes g f old new (fails Y F d)
-  makes_unmade X E Y F f old new e d (inl s) = record {
+  pub makes_unmade : (K X E Y F : Type 0) (f : Tables → Tables) (old new : Held S) (e : E) (d : F) → Peeks g old new (fails X E e) → MakesFrom (IsKept g old × K) g f old new (fails Y F d)
+  makes_unmade K X E Y F f old new e d (inl s) = record {
     fair = s.fair;
     shown = s.shown;
     mode = s.mode;
     counts = s.counts;
     done = λ kept up. tt;
-    undone = λ kept up. (s.kept kept up, s.same kept up);
+    undone = λ kept up. (s.kept kept.0 up, s.same kept.0 up);
     ok = λ kept clean. tt;
     closes = s.closes;
     kept = λ kept clean. tt;
-    left = λ kept clean db may. inl (s.left kept clean db may);
+    left = λ kept clean db may. inl (s.left kept.0 clean db may);
   }
-  makes_unmade X E Y F f old new e d (inr same) = subst (λ h. Makes g f old h (fails Y F d)) (sym same) (record {
+  makes_unmade K X E Y F f old new e d (inr same) = subst (λ h. MakesFrom (IsKept g old × K) g f old h (fails Y F d)) (sym same) (record {
     fair = λ clean. clean;
     shown = λ up. up;
     mode = λ idle. idle;
     counts = omega arith;
     done = λ kept up. tt;
-    undone = λ kept up. (kept, refl);
+    undone = λ kept up. (kept.0, refl);
     ok = λ kept clean. tt;
     closes = λ clean up. inl up;
     kept = λ kept clean. tt;
@@ -212,23 +212,38 @@ module _ {S : Type 0} (g : Ghosts S) where
   alike_itself (Ok y) = tt
   alike_itself (Err e) = tt
 
-  -- the same by another name, answered in other words
-  pub makes_named : (Y F G : Type 0) (h f : Tables → Tables) (old new : Held S) (r : Result Y F) (q : Result Y G) → AreAlike r q
-      → (IsKept g old → is_honest g new → h (tables_in g old) ≡ f (tables_in g old)) → Makes g h old new r → Makes g f old new q
-  makes_named Y F G h f old new r q alike same k = record {
+  -- the same by another name, where more is known, answered in other words
+  pub makes_named : (K Y F G : Type 0) (h f : Tables → Tables) (old new : Held S) (r : Result Y F) (q : Result Y G) → AreAlike r q
+      → (IsKept g old × K → is_honest g new → h (tables_in g old) ≡ f (tables_in g old)) → Makes g h old new r → MakesFrom (IsKept g old × K) g f old new q
+  makes_named K Y F G h f old new r q alike same k = record {
     fair = k.fair;
     shown = k.shown;
     mode = k.mode;
     counts = k.counts;
-    done = λ kept up. on_ok r q alike (λ it. (it.0, it.1 ∙ same kept up.0)) (k.done kept up);
-    undone = λ kept up. on_err r q alike (λ it. it) (k.undone kept up);
-    ok = λ kept clean. on_ok r q alike (λ it. it) (k.ok kept clean);
+    done = λ kept up. on_ok r q alike (λ it. (it.0, it.1 ∙ same kept up.0)) (k.done kept.0 up);
+    undone = λ kept up. on_err r q alike (λ it. it) (k.undone kept.0 up);
+    ok = λ kept clean. on_ok r q alike (λ it. it) (k.ok kept.0 clean);
     closes = k.closes;
-    kept = λ kept clean. on_ok r q alike (λ it. it) (k.kept kept clean);
+    kept = λ kept clean. on_ok r q alike (λ it. it) (k.kept kept.0 clean);
     left = λ kept clean. on_err r q alike (λ it db may. elim (it db may) [
       | inl before ↦ inl before
       | inr lands ↦ inr (lands.0, (λ good. let made = lands.1 good in (made.0, made.1 ∙ same kept clean)), lands.2)
-    ]) (k.left kept clean);
+    ]) (k.left kept.0 clean);
+  }
+
+  -- what is made where this holds is made where that holds of which it follows
+  pub makes_when : (One Two Y F : Type 0) (f : Tables → Tables) (old new : Held S) (r : Result Y F) → (Two → One) → MakesFrom One g f old new r → MakesFrom Two g f old new r
+  makes_when One Two Y F f old new r turn k = record {
+    fair = k.fair;
+    shown = k.shown;
+    mode = k.mode;
+    counts = k.counts;
+    done = λ kept up. k.done (turn kept) up;
+    undone = λ kept up. k.undone (turn kept) up;
+    ok = λ kept clean. k.ok (turn kept) clean;
+    closes = k.closes;
+    kept = λ kept clean. k.kept (turn kept) clean;
+    left = λ kept clean. k.left (turn kept) clean;
   }
 
   -- behind what was read

@@ -1,5 +1,5 @@
 -- The place of a change, from what is counted before it.
-use Rattle.std.proofs.Common.{◌≡◌, ◌<◌, ◌^◌, ℕ, List, [], ◌∷◌, filter, All, subst, sym, ap, arith}
+use Rattle.std.proofs.Common.{◌<◌, ◌^◌, ℕ, List, [], ◌∷◌, filter, All, subst, sym, ap, arith}
 use Rattle.std.specs.List.{AllByRecursion}
 use Rattle.std.proofs.lemmas.List.Elements.{recursion_from_All}
 use Rattle.dip_store_tables.proofs.ListLemmas.{all_weaker}
@@ -7,11 +7,10 @@ use Rattle.dip_store_tables.specs.Boards.{CentreRow, UnitRow}
 use Rattle.dip_map.specs.Charts.{Chart}
 use Rattle.dip_desk_state.specs.Bounds.{most_items}
 use Rattle.dip_desk_state.specs.State.{Author, Effect, Nothing, Pending, Votes, Delivers, Opens, Publishes, Seats}
-use Rattle.dip_desk_state.specs.Records.{Item}
 use Rattle.dip_store_tables.specs.Changing.{is_reader}
 use Rattle.dip_store_tables.specs.Tables.{ChoiceRow, GameRow, SeatRow, Tables}
 use Rattle.dip_store_tables.specs.Written.{IsGameWritten}
-use Rattle.dip_store_tables.specs.Room.{HasRoom, SentHasRoom}
+use Rattle.dip_store_tables.specs.Room.{HasRoom}
 use Rattle.dip_store_changes.specs.Delivering.{AreSeats}
 use Rattle.dip_store_changes.specs.declared.delivering.Reader.{Reader}
 use Rattle.dip_store_changes.specs.Counts.{AreReaders}
@@ -35,10 +34,6 @@ room_of m who name (Delivers powers item) t one two = (one, two)
 room_of m who name (Opens public paper seats) t one two = tt
 room_of m who name (Publishes public paper played) t one two = tt
 room_of m who name (Seats seat) t one two = tt
-
--- the author's part of it
-pub press_sent : (m : Chart) (who : Author) (name : List ℕ) (e : Effect) (readers : List ℕ) (item : Item) (ss : List SeatRow) → e ≡ Delivers readers item → PressHasRoom m who name e ss → SentHasRoom m who name ss
-press_sent m who name e readers item ss is room = subst (λ (e : Effect). PressHasRoom m who name e ss) is room
 
 -- readers with room are seats with room, and the other way round
 module _ (m : Chart) (name : List ℕ) where

@@ -1,5 +1,5 @@
 -- What is counted before a change is made.
-use Rattle.std.specs.Prelude.{◌≡◌, ◌⊎◌, ℕ, List, Result, filter}
+use Rattle.std.specs.Prelude.{◌≡◌, ◌⊎◌, ℕ, List, Option, Result, filter}
 use Rattle.sqlite.specs.Store.{Ghosts}
 use Rattle.sqlite.specs.Held.{Held}
 use Rattle.sqlite.specs.Order.{Row, bytes, column}
@@ -13,12 +13,13 @@ use Rattle.dip_store_tables.specs.Tables.{SeatRow, Tables}
 use Rattle.dip_store_sql.specs.Calls.{Selects}
 use Rattle.dip_store_sql.specs.Rows.{number_in}
 use Rattle.dip_store_changes.specs.Delivering.{AreSeats}
-use Rattle.dip_store_changes.specs.Noting.{noting_sent}
+use Rattle.dip_store_changes.specs.Noting.{noting_row}
 use Rattle.dip_store_changes.specs.declared.delivering.Reader.{Reader}
+use Rattle.dip_store_changes.specs.declared.known.AuthorRow.{AuthorRow}
 
--- the count is what an author's row has with this letter
-abbrev pub CountsSent : ℕ → Chart → Author → List ℕ → Effect → Tables → Type 0
-CountsSent n m who name e t = (k : Kept) → noting_sent n m who name k e t ≡ noting m who name k e t
+-- these are the columns of the author's row with this letter
+abbrev pub CountsRow : Option AuthorRow → Chart → Author → List ℕ → Effect → Tables → Type 0
+CountsRow row m who name e t = (k : Kept) → noting_row row m who name k t ≡ noting m who name k e t
 
 -- where the effect is press, the readers are the seats of the game that it is for
 abbrev pub AreReaders : Chart → List ℕ → Effect → List SeatRow → List Reader → Type 0
@@ -31,9 +32,9 @@ AreReaders m name (Publishes public paper played) ss rs = Unit {0}
 AreReaders m name (Seats seat) ss rs = Unit {0}
 
 -- the counts that a change is made with
-pub record Counts (n : ℕ) (rs : List Reader) (m : Chart) (c : Change) (t : Tables) : Type 0 where
+pub record Counts (row : Option AuthorRow) (rs : List Reader) (m : Chart) (c : Change) (t : Tables) : Type 0 where
   pub paper : CountsOn c.game c.effect t.games
-  pub sent : CountsSent n m c.author c.game c.effect t
+  pub author : CountsRow row m c.author c.game c.effect t
   pub readers : AreReaders m c.game c.effect t.seats rs
 
 -- a seat as it is listed: its power's number, and how many items its inbox has

@@ -1,17 +1,18 @@
 -- Why a change isn't made, and which changes have place.
-use Rattle.std.specs.Prelude.{◌≡◌, ◌<◌, ◌^◌, ℕ, true, List, filter}
+use Rattle.std.specs.Prelude.{◌≡◌, ◌<◌, ◌^◌, ℕ, List, filter, length}
 use Rattle.std.specs.List.{AllByRecursion}
 use Rattle.sqlite.specs.Order.{Row}
 use Rattle.dip_map.specs.Charts.{Chart}
-use Rattle.dip_desk_state.specs.Bounds.{most_items, most_sent}
+use Rattle.dip_desk_state.specs.Bounds.{most_items}
 use Rattle.dip_desk_state.specs.State.{Author, Effect, Nothing, Pending, Votes, Delivers, Opens, Publishes, Seats, Change}
 use Rattle.dip_store_tables.specs.Changing.{changing, is_reader}
 use Rattle.dip_store_tables.specs.Counting.{CountsOn}
 use Rattle.dip_store_tables.specs.Coding.{IsSeatOf}
-use Rattle.dip_store_tables.specs.Tables.{SeatRow, Tables, is_seat}
-use Rattle.dip_store_tables.specs.Legible.{AreOurs}
+use Rattle.dip_store_tables.specs.Tables.{SeatRow, Tables}
+use Rattle.dip_store_tables.specs.Legible.{AreOurs, IsSeatLegible}
+use Rattle.dip_store_tables.specs.Written.{IsSeatWritten}
 use Rattle.dip_store_tables.specs.Room.{HasRoom, SentHasRoom}
-use Rattle.dip_store_sql.specs.Showing.{show_listed}
+use Rattle.dip_store_sql.specs.Showing.{show_listed, show_seat}
 use Rattle.dip_store_sql.specs.Keys.{AreKeyed}
 use Rattle.dip_store_sql.specs.Refusals.{IsBlamed, IsWant}
 use Rattle.dip_store_changes.specs.declared.faults.MakeFault.{MakeFault}
@@ -46,9 +47,16 @@ pub record IsListed (m : Chart) (r : Row) : Type 0 where
   pub of_map : IsSeatOf m seat
   pub items : seat.items < 2 ^ 32
 
--- a seat may send one more letter of press
-abbrev pub MaySend : List ℕ → List ℕ → SeatRow → Type 0
-MaySend name power s = is_seat name power s ≡ true → s.sent < most_sent
+-- a seat's row that a keeper wrote, and that can be read back; and as it is found
+abbrev pub IsSeatKept : SeatRow → Type 0
+IsSeatKept s = IsSeatWritten s × IsSeatLegible s
+
+pub record IsSeatShown (r : Row) : Type 0 where
+  pub seat : SeatRow
+  pub shown : r ≡ show_seat seat
+  pub digest : length seat.digest ≡ 32
+  pub sent : seat.sent < 2 ^ 32
+  pub items : seat.items < 2 ^ 32
 
 -- a letter of press counts in its author's row
 abbrev pub PressHasRoom : Chart → Author → List ℕ → Effect → List SeatRow → Type 0

@@ -1,4 +1,5 @@
 pub mod Delivering
+pub mod Knowing
 pub mod Noting
 pub mod Parts
 pub mod Counts

@@ -1,5 +1,5 @@
 -- A change of the tables with its counts handed over, and a call that makes it whole or not at all.
-use Rattle.std.specs.Prelude.{◌≡◌, ◌≤◌, ◌⊎◌, ℕ, false, None, List, Result, OnOk, OnErr}
+use Rattle.std.specs.Prelude.{◌≡◌, ◌≤◌, ◌⊎◌, ℕ, false, None, List, Option, Result, OnOk, OnErr}
 use Rattle.sqlite.specs.Tree.{Trees}
 use Rattle.sqlite.specs.Store.{Ghosts}
 use Rattle.sqlite.specs.Held.{Held, state}
@@ -12,8 +12,9 @@ use Rattle.dip_store_sql.specs.Causes.{has_faulted}
 use Rattle.dip_store_sql.specs.Good.{IsGood}
 use Rattle.dip_store_sql.specs.Keys.{Differ, same_order}
 use Rattle.dip_store_changes.specs.Delivering.{delivering_all}
-use Rattle.dip_store_changes.specs.Noting.{noting_sent}
+use Rattle.dip_store_changes.specs.Noting.{noting_row}
 use Rattle.dip_store_changes.specs.declared.delivering.Reader.{Reader}
+use Rattle.dip_store_changes.specs.declared.known.AuthorRow.{AuthorRow}
 
 -- the effect on its game, where press goes to these readers
 abbrev pub reaching_all : List Reader → Chart → List ℕ → Effect → Tables → Tables
@@ -35,10 +36,10 @@ OrdersDiffer m who name (Opens public paper seats) t = Unit {0}
 OrdersDiffer m who name (Publishes public paper played) t = Unit {0}
 OrdersDiffer m who name (Seats seat) t = Unit {0}
 
--- a change: its author's row, which has sent so much press, the author's orders, and the effect on the game
-abbrev pub changing_sent : ℕ → List Reader → Chart → Change → Tables → Tables
-changing_sent n rs m c t =
-    reaching_all rs m c.game c.effect (ordering m c.author c.game c.effect (noting_sent n m c.author c.game c.kept c.effect t))
+-- a change: its author's row, whose other columns are these, the author's orders, and the effect on the game
+abbrev pub changing_row : Option AuthorRow → List Reader → Chart → Change → Tables → Tables
+changing_row row rs m c t =
+    reaching_all rs m c.game c.effect (ordering m c.author c.game c.effect (noting_row row m c.author c.game c.kept t))
 
 module _ {S : Type 0} (g : Ghosts S) (h : Held S) where
   -- tables of our schema, all of it committed, whether or not papers and items are numbered
@@ -48,18 +49,22 @@ module _ {S : Type 0} (g : Ghosts S) (h : Held S) where
     pub settled : (state g h).now ≡ (state g h).committed
     pub unlimited : h.step_limit ≡ None
 
--- a call that changes the tables so, whole or not at all; behind an error a crash may leave them changed or not
-pub record Makes {S X E : Type 0} (g : Ghosts S) (f : Tables → Tables) (old new : Held S) (r : Result X E) : Type 0 where
+-- a call that changes the tables so, where this holds of them, whole or not at all; behind an error a crash may leave them changed or not
+pub record MakesFrom {S X E : Type 0} (Kept : Type 0) (g : Ghosts S) (f : Tables → Tables) (old new : Held S) (r : Result X E) : Type 0 where
   pub fair : is_honest g new → is_honest g old
   pub shown : does_show g new → does_show g old
   pub mode : old.in_transaction ≡ false → new.in_transaction ≡ false
   pub counts : (state g old).faults ≤ (state g new).faults
-  pub done : IsKept g old → does_show g new → OnOk r (IsLaid g new × (tables_in g new ≡ f (tables_in g old)))
-  pub undone : IsKept g old → does_show g new → OnErr r (IsKept g new × ((state g new).now ≡ (state g old).now))
-  pub ok : IsKept g old → is_honest g new → OnOk r (does_show g new)
+  pub done : Kept → does_show g new → OnOk r (IsLaid g new × (tables_in g new ≡ f (tables_in g old)))
+  pub undone : Kept → does_show g new → OnErr r (IsKept g new × ((state g new).now ≡ (state g old).now))
+  pub ok : Kept → is_honest g new → OnOk r (does_show g new)
   -- only a fault of the disk shuts the connection
   pub closes : is_honest g new → does_show g old → does_show g new ⊎ has_faulted g old new
-  pub kept : IsKept g old → is_honest g new
+  pub kept : Kept → is_honest g new
       → OnOk r ((db : Trees) → (state g new).may_leave db → db ≡ (state g new).now.trees)
-  pub left : IsKept g old → is_honest g new
+  pub left : Kept → is_honest g new
       → OnErr r ((db : Trees) → (state g new).may_leave db → (state g old).may_leave db ⊎ Lands f (state g old) db)
+
+-- what a keeper has written
+abbrev pub Makes : {S X E : Type 0} → Ghosts S → (Tables → Tables) → Held S → Held S → Result X E → Type 0
+Makes {S} {X} {E} g f old new r = MakesFrom {S = S} {X = X} {E = E} (IsKept g old) g f old new r

@@ -8,12 +8,13 @@ ghost use Rattle.dip_store_tables.specs.Writing.{as_printed, desk_noted, whole_r
 ghost use Rattle.dip_store_sql.specs.Calls.{Writes};
 ghost use Rattle.dip_store_sql.specs.TablesAfter.{on_desk, on_seat};
 ghost use Rattle.dip_store_sql.specs.Wants.{Wants, always};
-ghost use Rattle.dip_store_changes.specs.Noting.{NextCountsAreNoted, letter_kept, noting_sent, seat_sent};
+ghost use Rattle.dip_store_changes.specs.Noting.{NextRowsAreNoted, noting_row, on_row, row_noted};
 
-use dip_desk_state::{Author, Change, Effect, Head, Kept, Outcome, Reply};
+use crate::known::AuthorRow;
+use dip_desk_state::{Author, Change, Head, Kept, Outcome, Reply};
 use dip_map::Map;
 use dip_reports::reply_text;
-use dip_store_sql::{LastLetter, note_desk, note_seat, note_sent};
+use dip_store_sql::{LastLetter, SeatRow, note_desk, renew_seat};
 use sqlite::{Alter, Error, Transaction};
 use std::alloc::{AllocError, Global};
 use std::rc::Rc;
@@ -36,47 +37,6 @@ fn whole_reply(alloc: Global, game: &str, sender: &str, kept: &Kept) -> Result<S
         text: kept.reply.clone()?,
     };
     reply_text(alloc, &reply)
-}
-
-fn note_at_seat<S: Alter>(
-    tx: &mut Transaction<'_, S>,
-    game: &str,
-    power: &str,
-    letter: &LastLetter<'_>,
-    effect: &Effect,
-    sent: u32,
-) -> Result<(), Error>
-    ensures same_reference { tx.new.conn.ghost_name ≡ tx.old.conn.ghost_name }
-    ensures writes { Writes (on_seat game.now power.now
-        (seat_sent sent (letter_kept letter.now) (machine.effect effect.now)))
-        (state S.Store tx.old.conn.now) (state S.Store tx.new.conn.now) result }
-    ensures wants { Wants always
-        (state S.Store tx.old.conn.now) (state S.Store tx.new.conn.now) result }
-{
-    match effect {
-        Effect::Votes(_) => {
-            note_seat(tx, game, power, letter)?;
-        }
-        Effect::Delivers { .. } => {
-            note_sent(tx, game, power, letter, sent)?;
-        }
-        Effect::Nothing => {
-            note_seat(tx, game, power, letter)?;
-        }
-        Effect::Pending(_) => {
-            note_seat(tx, game, power, letter)?;
-        }
-        Effect::Opens { .. } => {
-            note_seat(tx, game, power, letter)?;
-        }
-        Effect::Publishes { .. } => {
-            note_seat(tx, game, power, letter)?;
-        }
-        Effect::Seats(_) => {
-            note_seat(tx, game, power, letter)?;
-        }
-    }
-    Ok(())
 }
 
 #[tactic(auto, using(crate::proofs::Outcomes::writes_not))]
@@ -103,44 +63,70 @@ fn note_master<S: Alter>(
     Ok(())
 }
 
+/// The row of a seat with its last letter, and these columns.
 #[tactic(auto, using(crate::proofs::Outcomes::writes_not))]
+fn note_row<S: Alter>(
+    alloc: Global,
+    tx: &mut Transaction<'_, S>,
+    game: &str,
+    power: &str,
+    kept: &Kept,
+    row: &AuthorRow,
+) -> Result<(), Error>
+    ensures same_reference { tx.new.conn.ghost_name ≡ tx.old.conn.ghost_name }
+    ensures writes { Writes (on_seat game.now power.now
+        (row_noted row.now (as_printed game.now power.now (records.kept kept.now))))
+        (state S.Store tx.old.conn.now) (state S.Store tx.new.conn.now) result }
+    ensures wants { Wants always
+        (state S.Store tx.old.conn.now) (state S.Store tx.new.conn.now) result }
+{
+    let reply = whole_reply(alloc, game, power, kept)?;
+    let seat = SeatRow {
+        digest: &row.digest,
+        number: kept.number,
+        sum: &kept.sum,
+        reply: reply.as_str(),
+        sent: row.sent,
+        items: row.items,
+    };
+    renew_seat(tx, game, power, &seat)?;
+    Ok(())
+}
+
+/// The same, where there is such a seat.
 fn note_own<S: Alter>(
     alloc: Global,
     tx: &mut Transaction<'_, S>,
     game: &str,
     power: &str,
     kept: &Kept,
-    effect: &Effect,
-    sent: u32,
+    row: Option<AuthorRow>,
 ) -> Result<(), Error>
     ensures same_reference { tx.new.conn.ghost_name ≡ tx.old.conn.ghost_name }
-    ensures writes { Writes (on_seat game.now power.now (seat_sent sent
-        (as_printed game.now power.now (records.kept kept.now)) (machine.effect effect.now)))
+    ensures writes { Writes (on_row row game.now power.now
+        (as_printed game.now power.now (records.kept kept.now)))
         (state S.Store tx.old.conn.now) (state S.Store tx.new.conn.now) result }
     ensures wants { Wants always
         (state S.Store tx.old.conn.now) (state S.Store tx.new.conn.now) result }
 {
-    let reply = whole_reply(alloc, game, power, kept)?;
-    let letter = LastLetter {
-        number: kept.number,
-        sum: &kept.sum,
-        reply: reply.as_str(),
-    };
-    note_at_seat(tx, game, power, &letter, effect, sent)
+    match row {
+        Some(row) => note_row(alloc, tx, game, power, kept, &row),
+        None => Ok(()),
+    }
 }
 
-/// What is kept of the letter, in its author's row; where it is press, the seat has sent so many.
+/// What is kept of the letter, in its author's row, whose other columns are these.
 pub fn note_author<S: Alter>(
     alloc: Global,
     tx: &mut Transaction<'_, S>,
     map: &Map,
     change: &Change,
-    sent: u32,
+    row: Option<AuthorRow>,
 ) -> Result<(), Error>
     ensures same_reference { tx.new.conn.ghost_name ≡ tx.old.conn.ghost_name }
     ensures writes { Writes
-        (noting_sent sent map.now (machine.author change.now.author) (string_bytes change.now.game)
-        (records.kept change.now.kept) (machine.effect change.now.effect))
+        (noting_row row map.now (machine.author change.now.author) (string_bytes change.now.game)
+        (records.kept change.now.kept))
         (state S.Store tx.old.conn.now) (state S.Store tx.new.conn.now) result }
     ensures wants { Wants always
         (state S.Store tx.old.conn.now) (state S.Store tx.new.conn.now) result }
@@ -151,12 +137,12 @@ pub fn note_author<S: Alter>(
         Author::TheMaster => note_master(alloc, tx, game, &change.kept),
         Author::Seat(power) => {
             let name = map.power_name(power);
-            note_own(alloc, tx, game, name, &change.kept, &change.effect, sent)
+            note_own(alloc, tx, game, name, &change.kept, row)
         }
     }
 }
 
-/// Where the count is the next of the author's row, this is what noting makes of the tables.
-pub fn next_counts_are_noted()
-    ensures { (m : Chart) → NextCountsAreNoted m }
+/// Where its other columns are those of the author's row behind its letter, this is what noting makes of the tables.
+pub fn next_rows_are_noted()
+    ensures { (m : Chart) → NextRowsAreNoted m }
 {}

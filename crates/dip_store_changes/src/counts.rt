@@ -1,33 +1,32 @@
 //! What is counted before a change is made.
-ghost use Rattle.std.specs.Prelude.{◌≡◌, ◌<◌, ◌^◌, All, IfErr, IfOk, OnOk, string_bytes, true};
+ghost use Rattle.std.specs.Prelude.{◌≡◌, ◌<◌, ◌^◌, All, IfErr, IfOk, OnOk, true};
 ghost use Rattle.std.specs.List.{AllByRecursion};
 ghost use Rattle.dip_desk_state.specs.Bounds.{most_items};
 ghost use Rattle.dip_desk_state.specs.ChangeRows as machine;
-ghost use Rattle.dip_desk_state.specs.State.{Seat};
 ghost use Rattle.dip_store_tables.specs.ChangeColumns.{FitsColumns};
 ghost use Rattle.dip_store_tables.specs.Counting.{CountsOn, IsNextPaper};
 ghost use Rattle.dip_store_tables.specs.Tables.{is_named};
-ghost use Rattle.dip_store_tables.specs.Legible.{AreOurs, IsSeatLegible};
+ghost use Rattle.dip_store_tables.specs.Legible.{AreOurs};
 ghost use Rattle.dip_store_sql.specs.Causes.{has_faulted};
 ghost use Rattle.dip_store_sql.specs.Calls.{IsKept, Selects, does_show, is_honest, tables_in};
-ghost use Rattle.dip_store_changes.specs.Noting.{IsNext};
-ghost use Rattle.dip_store_changes.specs.Counts.{AreReaders, Counts, CountsSent, Peeks};
-ghost use Rattle.dip_store_changes.specs.Failing.{FailsFor, HasPlace, InboxesHaveRoom, MaySend, PressHasRoom};
+ghost use Rattle.dip_store_changes.specs.Counts.{AreReaders, Counts, CountsRow, Peeks};
+ghost use Rattle.dip_store_changes.specs.Failing.{FailsFor, HasPlace, InboxesHaveRoom, IsSeatKept, PressHasRoom};
+ghost use Rattle.dip_store_changes.specs.Knowing.{IsKeptAs, IsKnown};
 
 use crate::delivering::Reader;
 use crate::faults::MakeFault;
+use crate::known::{AuthorRow, know_author, row_behind};
 use crate::readers::find_readers;
-use dip_desk_state::{Author, Change, Effect, MOST_PAPERS, MOST_SENT};
+use dip_desk_state::{Author, Change, Effect, MOST_PAPERS};
 use dip_map::Map;
-use dip_names::Power;
-use dip_store_sql::{count_papers, count_sent};
+use dip_store_sql::find_game;
 use sqlite::{Alter, Connection};
 use std::alloc::Global;
 
-/// How much press a letter's author has sent with it, and the seats that have it.
+/// The author's row behind its letter, but for the letter, where the author has a seat; and the seats that have its press.
 #[derive(Drop)]
 pub(crate) struct Counted {
-    pub sent: u32,
+    pub row: Option<AuthorRow>,
     pub readers: Vec<Reader>,
 }
 
@@ -48,10 +47,10 @@ fn check_number<S: Alter>(
         (¬ AllByRecursion (λ g. is_named game.now g ≡ true → IsNextPaper papers g)
         (tables_in S.Store conn.old).games)) }
 {
-    let Some(row) = count_papers(conn, game)? else {
+    let Some(row) = find_game(conn, game)? else {
         return Ok(());
     };
-    let count: u32 = row.get(0)?;
+    let count: u32 = row.get(6)?;
     if MOST_PAPERS <= count || papers != count + 1 {
         return Err(MakeFault::Misfit);
     }
@@ -86,90 +85,37 @@ fn check_paper<S: Alter>(
     }
 }
 
-/// The next count of the press that a seat has sent.
-fn next_of<S: Alter>(conn: &mut Connection<S>, game: &str, power: &str) -> Result<u32, MakeFault>
-    ensures value { IsKept S.Store conn.old → is_honest S.Store conn.new → IfOk result (λ n.
-        AllByRecursion (IsNext n game.now power.now) (tables_in S.Store conn.old).seats) }
-    ensures selects { Selects S.Store conn.old conn.new result }
-    ensures room { IsKept S.Store conn.old → is_honest S.Store conn.new → OnOk result
-        (AllByRecursion (MaySend game.now power.now) (tables_in S.Store conn.old).seats) }
-    ensures fails { IsKept S.Store conn.old → does_show S.Store conn.old
-        → is_honest S.Store conn.new
-        → AllByRecursion IsSeatLegible (tables_in S.Store conn.old).seats
-        → IfErr result (FailsFor (has_faulted S.Store conn.old conn.new)
-        (¬ AllByRecursion (MaySend game.now power.now)
-        (tables_in S.Store conn.old).seats)) }
-{
-    let Some(row) = count_sent(conn, game, power)? else {
-        return Ok(0);
-    };
-    let sent: u32 = row.get(0)?;
-    if MOST_SENT <= sent {
-        return Err(MakeFault::Misfit);
-    }
-    Ok(sent + 1)
-}
-
-/// How much press the seat of a power has sent with a letter of this effect; 0 where it is none.
-fn count_of<S: Alter>(
-    conn: &mut Connection<S>,
-    map: &Map,
-    game: &str,
-    power: Power,
-    effect: &Effect,
-) -> Result<u32, MakeFault>
-    ensures value { IsKept S.Store conn.old → is_honest S.Store conn.new → IfOk result (λ n.
-        CountsSent n map.now (Seat power) game.now (machine.effect effect.now)
-        (tables_in S.Store conn.old)) }
-    ensures peeks { Peeks S.Store conn.old conn.new result }
-    ensures room { IsKept S.Store conn.old → is_honest S.Store conn.new → OnOk result
-        (PressHasRoom map.now (Seat power) game.now (machine.effect effect.now)
-        (tables_in S.Store conn.old).seats) }
-    ensures fails { IsKept S.Store conn.old → does_show S.Store conn.old
-        → is_honest S.Store conn.new
-        → AllByRecursion IsSeatLegible (tables_in S.Store conn.old).seats
-        → IfErr result (FailsFor (has_faulted S.Store conn.old conn.new)
-        (¬ PressHasRoom map.now (Seat power) game.now
-        (machine.effect effect.now) (tables_in S.Store conn.old).seats)) }
-{
-    match effect {
-        Effect::Delivers { .. } => next_of(conn, game, map.power_name(power)),
-        Effect::Nothing => Ok(0),
-        Effect::Pending(_) => Ok(0),
-        Effect::Votes(_) => Ok(0),
-        Effect::Opens { .. } => Ok(0),
-        Effect::Publishes { .. } => Ok(0),
-        Effect::Seats(_) => Ok(0),
-    }
-}
-
-/// How much press the author has sent with a letter of this effect; 0 where it is none of a seat's.
-fn count_press<S: Alter>(
+/// The author's row behind its letter, but for the letter; none where the author has no seat.
+fn count_author<S: Alter>(
     conn: &mut Connection<S>,
     map: &Map,
     game: &str,
     author: Author,
     effect: &Effect,
-) -> Result<u32, MakeFault>
-    ensures value { IsKept S.Store conn.old → is_honest S.Store conn.new → IfOk result (λ n.
-        CountsSent n map.now (machine.author author) game.now (machine.effect effect.now)
+    known: Option<AuthorRow>,
+) -> Result<Option<AuthorRow>, MakeFault>
+    ensures value { IsKept S.Store conn.old → IsKnown known map.now (machine.author author) game.now
+        (tables_in S.Store conn.old).seats → is_honest S.Store conn.new → IfOk result (λ row.
+        CountsRow row map.now (machine.author author) game.now (machine.effect effect.now)
         (tables_in S.Store conn.old)) }
     ensures peeks { Peeks S.Store conn.old conn.new result }
-    ensures room { IsKept S.Store conn.old → is_honest S.Store conn.new → OnOk result
+    ensures room { IsKept S.Store conn.old → IsKnown known map.now (machine.author author) game.now
+        (tables_in S.Store conn.old).seats → is_honest S.Store conn.new → OnOk result
         (PressHasRoom map.now (machine.author author) game.now (machine.effect effect.now)
         (tables_in S.Store conn.old).seats) }
-    ensures fails { IsKept S.Store conn.old → does_show S.Store conn.old
+    ensures fails { IsKept S.Store conn.old → IsKnown known map.now (machine.author author) game.now
+        (tables_in S.Store conn.old).seats → does_show S.Store conn.old
         → is_honest S.Store conn.new
-        → AllByRecursion IsSeatLegible (tables_in S.Store conn.old).seats
+        → AllByRecursion IsSeatKept (tables_in S.Store conn.old).seats
         → IfErr result (FailsFor (has_faulted S.Store conn.old conn.new)
         (¬ PressHasRoom map.now (machine.author author) game.now
         (machine.effect effect.now) (tables_in S.Store conn.old).seats)) }
 {
-    match author {
-        Author::Nobody => Ok(0),
-        Author::TheMaster => Ok(0),
-        Author::Seat(power) => count_of(conn, map, game, power, effect),
-    }
+    let Some(row) = know_author(conn, map, game, author, known)? else {
+        return Ok(None);
+    };
+    let next = row_behind(row, effect)?;
+    Ok(Some(next))
 }
 
 /// The readers of the effect, where it is press.
@@ -210,24 +156,28 @@ pub(crate) fn count<S: Alter>(
     alloc: Global,
     map: &Map,
     change: &Change,
+    known: Option<AuthorRow>,
 ) -> Result<Counted, MakeFault>
     requires { FitsColumns (machine.effect change.now.effect) }
     ensures room { IfOk result (λ n. All (λ r. r.items < most_items) n.readers.items) }
-    ensures value { IsKept S.Store conn.old → is_honest S.Store conn.new → IfOk result (λ n.
-        Counts n.sent n.readers.items map.now (machine.change change.now)
+    ensures value { IsKeptAs S.Store known map.now (machine.change change.now) conn.old
+        → is_honest S.Store conn.new → IfOk result (λ n.
+        Counts n.row n.readers.items map.now (machine.change change.now)
         (tables_in S.Store conn.old)) }
     ensures peeks { Peeks S.Store conn.old conn.new result }
-    ensures place { IsKept S.Store conn.old → is_honest S.Store conn.new → OnOk result
+    ensures place { IsKeptAs S.Store known map.now (machine.change change.now) conn.old
+        → is_honest S.Store conn.new → OnOk result
         (HasPlace map.now (machine.change change.now) (tables_in S.Store conn.old)) }
-    ensures fails { IsKept S.Store conn.old → does_show S.Store conn.old
-        → is_honest S.Store conn.new → AreOurs map.now (tables_in S.Store conn.old)
+    ensures fails { IsKeptAs S.Store known map.now (machine.change change.now) conn.old
+        → does_show S.Store conn.old → is_honest S.Store conn.new
+        → AreOurs map.now (tables_in S.Store conn.old)
         → IfErr result (FailsFor (has_faulted S.Store conn.old conn.new)
         (¬ HasPlace map.now (machine.change change.now)
         (tables_in S.Store conn.old))) }
 {
     let game = change.game.as_str();
     check_paper(conn, game, &change.effect)?;
-    let sent = count_press(conn, map, game, change.author, &change.effect)?;
+    let row = count_author(conn, map, game, change.author, &change.effect, known)?;
     let readers = readers_of(conn, alloc, map, game, &change.effect)?;
-    Ok(Counted { sent, readers })
+    Ok(Counted { row, readers })
 }

@@ -11,7 +11,8 @@ pub enum MakeFault {
     Memory,
     /// The database refused a statement, or a column of a row doesn't read.
     Sql(Error),
-    /// A count has no room for one more, a paper hasn't the next number of its game, or a row names no power of the map.
+    /// A count has no room for one more, a paper hasn't the next number of its game, or a row names no power of the map or has no digest of
+    /// 32 bytes.
     Misfit,
 }
 

@@ -9,11 +9,13 @@ ghost use Rattle.dip_store_tables.specs.Legible.{AreOurs};
 ghost use Rattle.dip_store_sql.specs.Causes.{has_faulted};
 ghost use Rattle.dip_store_sql.specs.Calls.{IsKept, does_show, is_honest, tables_in};
 ghost use Rattle.dip_store_changes.specs.Failing.{BlamesFor, FailsFor, HasPlace, MayMake};
-ghost use Rattle.dip_store_changes.specs.Making.{Makes};
+ghost use Rattle.dip_store_changes.specs.Knowing.{IsKeptAs};
+ghost use Rattle.dip_store_changes.specs.Making.{MakesFrom};
 
 use crate::counts::count;
 use crate::delivering::readers_are_seats;
 use crate::faults::MakeFault;
+use crate::known::AuthorRow;
 use crate::whole::make_with;
 use dip_desk_state::Change;
 use dip_map::Map;
@@ -21,39 +23,46 @@ use dip_store_tables::{press_is_delivered_one_by_one, tables_stay_counted};
 use sqlite::{Alter, Connection, Error, ErrorCode};
 use std::alloc::Global;
 
-/// Makes the whole change, or nothing of it.
+/// Makes the whole change, or nothing of it. Of a change by a seat, what its row says may be known (`AuthorRow::of`); it isn't asked for
+/// then, and has to be what the row says.
 ///
 /// # Errors
 /// Want of memory, the database's own, one of a transaction that is open before, and `Misfit` where a count has no room for one more,
-/// the change's paper hasn't the next number of its game, or a seat of the game is of no power of the map.
+/// the change's paper hasn't the next number of its game, a seat of the game is of no power of the map, or the author's digest hasn't 32
+/// bytes.
 pub fn make<S: Alter>(
     conn: &mut Connection<S>,
     alloc: Global,
     map: &Map,
     change: &Change,
+    known: Option<AuthorRow>,
 ) -> Result<(), MakeFault>
     requires { IsWritable map.now (machine.change change.now) }
-    ensures makes { Makes S.Store (changing map.now (machine.change change.now))
-        conn.old conn.new result }
-    ensures kept { IsKept S.Store conn.old → does_show S.Store conn.new
-        → OnOk result (IsKept S.Store conn.new) }
-    ensures place { IsKept S.Store conn.old → does_show S.Store conn.new → OnOk result
+    ensures makes { MakesFrom
+        (IsKeptAs S.Store known map.now (machine.change change.now) conn.old)
+        S.Store (changing map.now (machine.change change.now)) conn.old conn.new result }
+    ensures kept { IsKeptAs S.Store known map.now (machine.change change.now) conn.old
+        → does_show S.Store conn.new → OnOk result (IsKept S.Store conn.new) }
+    ensures place { IsKeptAs S.Store known map.now (machine.change change.now) conn.old
+        → does_show S.Store conn.new → OnOk result
         (HasPlace map.now (machine.change change.now) (tables_in S.Store conn.old)) }
     // What a crash may leave of a change that isn't made, but what it might have left before, has
     // place.
-    ensures landed { IsKept S.Store conn.old → is_honest S.Store conn.new
+    ensures landed { IsKeptAs S.Store known map.now (machine.change change.now) conn.old
+        → is_honest S.Store conn.new
         → OnErr result ((db : Trees) → (state S.Store conn.new).may_leave db
         → (state S.Store conn.old).may_leave db
         ⊎ HasPlace map.now (machine.change change.now) (tables_in S.Store conn.old)) }
-    ensures fails { IsKept S.Store conn.old → does_show S.Store conn.old
-        → is_honest S.Store conn.new
+    ensures fails { IsKeptAs S.Store known map.now (machine.change change.now) conn.old
+        → does_show S.Store conn.old → is_honest S.Store conn.new
         → MayMake map.now (machine.change change.now) (tables_in S.Store conn.old)
         → IfErr result (FailsFor (has_faulted S.Store conn.old conn.new)
         (¬ HasPlace map.now (machine.change change.now)
         (tables_in S.Store conn.old))) }
     // Of any change, whether it fits or not.
-    ensures blames { IsKept S.Store conn.old → does_show S.Store conn.old
-        → is_honest S.Store conn.new → AreOurs map.now (tables_in S.Store conn.old)
+    ensures blames { IsKeptAs S.Store known map.now (machine.change change.now) conn.old
+        → does_show S.Store conn.old → is_honest S.Store conn.new
+        → AreOurs map.now (tables_in S.Store conn.old)
         → IfErr result (BlamesFor (has_faulted S.Store conn.old conn.new)) }
 {
     readers_are_seats();
@@ -62,13 +71,13 @@ pub fn make<S: Alter>(
     if !conn.is_autocommit() {
         return Err(MakeFault::Sql(Error::SqliteFailure(ErrorCode::TransactionState)));
     }
-    let counted = count(conn, alloc, map, change)?;
+    let counted = count(conn, alloc, map, change, known)?;
     match make_with(
         conn,
         alloc,
         map,
         change,
-        counted.sent,
+        counted.row,
         counted.readers.as_slice(),
     ) {
         Ok(()) => Ok(()),

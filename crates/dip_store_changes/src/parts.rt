@@ -10,12 +10,13 @@ ghost use Rattle.dip_store_tables.specs.ChangeColumns.{FitsColumns, IsWritable};
 ghost use Rattle.dip_store_sql.specs.Calls.{Writes};
 ghost use Rattle.dip_store_sql.specs.Keys.{AreKeyed, Differ, same_order};
 ghost use Rattle.dip_store_sql.specs.Wants.{Wants, always};
-ghost use Rattle.dip_store_changes.specs.Making.{OrdersDiffer, changing_sent, reaching_all};
+ghost use Rattle.dip_store_changes.specs.Making.{OrdersDiffer, changing_row, reaching_all};
 
 use crate::authors::note_author;
 use crate::ballots::put_vote;
 use crate::delivering::{Reader, deliver};
 use crate::games::{open_game, publish};
+use crate::known::AuthorRow;
 use crate::orders::put_orders;
 use crate::seats::replace;
 use dip_desk_state::{Author, Change, Effect, Standing, Vote};
@@ -144,21 +145,21 @@ pub(crate) fn make_parts<S: Alter>(
     tx: &mut Transaction<'_, S>,
     map: &Map,
     change: &Change,
-    sent: u32,
+    row: Option<AuthorRow>,
     readers: &[Reader],
 ) -> Result<(), Error>
     requires writable { IsWritable map.now (machine.change change.now) }
     requires room { All (λ r. r.items < most_items) readers.now }
     ensures same_reference { tx.new.conn.ghost_name ≡ tx.old.conn.ghost_name }
     ensures writes { Writes
-        (changing_sent sent readers.now map.now (machine.change change.now))
+        (changing_row row readers.now map.now (machine.change change.now))
         (state S.Store tx.old.conn.now) (state S.Store tx.new.conn.now) result }
     ensures wants { Wants (λ t. AreKeyed
-        (changing_sent sent readers.now map.now (machine.change change.now) t))
+        (changing_row row readers.now map.now (machine.change change.now) t))
         (state S.Store tx.old.conn.now) (state S.Store tx.new.conn.now) result }
 {
     let game = change.game.as_str();
-    note_author(alloc, tx, map, change, sent)?;
+    note_author(alloc, tx, map, change, row)?;
     order(alloc, tx, map, game, change.author, &change.effect)?;
     reach(alloc, tx, map, game, &change.effect, readers)
 }

@@ -7,32 +7,34 @@ ghost use Rattle.dip_store_sql.specs.Causes.{has_faulted};
 ghost use Rattle.dip_store_sql.specs.Calls.{IsKept, does_show, is_honest, tables_in};
 ghost use Rattle.dip_store_sql.specs.Keys.{AreKeyed};
 ghost use Rattle.dip_store_sql.specs.Refusals.{IsBlamed, IsWant};
-ghost use Rattle.dip_store_changes.specs.Making.{Makes, changing_sent};
+ghost use Rattle.dip_store_changes.specs.Making.{Makes, changing_row};
 
 use crate::delivering::Reader;
+use crate::known::AuthorRow;
 use crate::parts::make_parts;
 use dip_desk_state::Change;
 use dip_map::Map;
 use sqlite::{Alter, Connection, Error};
 use std::alloc::Global;
 
-/// Makes the whole change or nothing of it. Where it is press of a seat, the seat has then sent so much, and the readers have it.
+/// Makes the whole change or nothing of it. The author's row has these columns beside the letter, where the author has a
+/// seat; where it is press, the readers have it.
 pub fn make_with<S: Alter>(
     conn: &mut Connection<S>,
     alloc: Global,
     map: &Map,
     change: &Change,
-    sent: u32,
+    row: Option<AuthorRow>,
     readers: &[Reader],
 ) -> Result<(), Error>
     requires idle { conn.old.in_transaction ≡ false }
     requires writable { IsWritable map.now (machine.change change.now) }
     requires room { All (λ r. r.items < most_items) readers.now }
     ensures makes { Makes S.Store
-        (changing_sent sent readers.now map.now (machine.change change.now))
+        (changing_row row readers.now map.now (machine.change change.now))
         conn.old conn.new result }
     ensures wants { IsKept S.Store conn.old → does_show S.Store conn.old
-        → is_honest S.Store conn.new → AreKeyed (changing_sent sent readers.now map.now
+        → is_honest S.Store conn.new → AreKeyed (changing_row row readers.now map.now
         (machine.change change.now) (tables_in S.Store conn.old))
         → IfErr result (IsWant (has_faulted S.Store conn.old conn.new)) }
     ensures blames { IsKept S.Store conn.old → does_show S.Store conn.old
@@ -40,6 +42,6 @@ pub fn make_with<S: Alter>(
         → IfErr result (IsBlamed (has_faulted S.Store conn.old conn.new)) }
 {
     let mut tx = conn.transaction();
-    make_parts(alloc, &mut tx, map, change, sent, readers)?;
+    make_parts(alloc, &mut tx, map, change, row, readers)?;
     tx.commit()
 }

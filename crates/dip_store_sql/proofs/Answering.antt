@@ -11,7 +11,7 @@ use Rattle.dip_store_tables.specs.Tables.{is_ballot, is_choice_in, is_named, is_
 use Rattle.dip_store_sql.specs.Rows.{tables_of, put_desk, take_desk, put_game, take_game, put_seat, take_seat, put_unit, take_unit, put_centre, take_centre, put_pending, take_pending, put_box, take_box, put_paper, take_paper, put_ballot, take_ballot, put_choice, take_choice}
 use Rattle.dip_store_sql.specs.Good.{IsGood}
 use Rattle.dip_store_sql.specs.Old.{WasGood, old_tables_of}
-use Rattle.dip_store_sql.specs.Showing.{show_desk, show_game, show_papers, show_seat, show_sent, show_item, show_paper, show_listed, show_unit, show_centre, show_order, show_ballot, show_choice, show_name, show_vote, is_item, is_numbered}
+use Rattle.dip_store_sql.specs.Showing.{show_desk, show_game, show_seat, show_item, show_paper, show_listed, show_unit, show_centre, show_order, show_ballot, show_choice, show_name, show_vote, is_item, is_numbered}
 use Rattle.dip_store_sql.specs.TablesAfter.{is_first}
 use Rattle.dip_store_sql.proofs.Apart.{one_ballot, one_choice, one_desk, one_old_desk, one_game, one_seat, one_item, one_paper}
 use Rattle.dip_store_sql.proofs.Telling.{tells_ballot, tells_choice_in, tells_desk, tells_game_in, tells_seat_in, tells_unit_in, tells_centre_in, tells_seat, tells_pending, tells_item, tells_paper}
@@ -33,20 +33,10 @@ module _ (old new : State) (good : IsGood old.now) where
       one_found put_game take_game 2 by_one text.find_game_shown (Words game ∷ []) (is_named game) show_game (tells_game_in game []) (λ v a. refl) text.find_game_text 1 _ old new good.schema refl good.games
       means.find_game (one_game old.now good game) rows h
 
-  pub count_papers : (game : List ℕ) (rows : List Row) → Shown text.count_papers_text (Words game ∷ []) old new rows → rows ≡ option_to_list (option_map show_papers (find (is_named game) (tables_of old.now.trees).games))
-  count_papers game rows h =
-      one_found put_game take_game 2 by_one text.count_papers_shown (Words game ∷ []) (is_named game) show_papers (tells_game_in game []) (λ v a. refl) text.count_papers_text 1 _ old new good.schema refl good.games
-      means.count_papers (one_game old.now good game) rows h
-
   pub find_seat : (game : List ℕ) (power : List ℕ) (rows : List Row) → Shown text.find_seat_text (Words game ∷ Words power ∷ []) old new rows → rows ≡ option_to_list (option_map show_seat (find (is_seat game power) (tables_of old.now.trees).seats))
   find_seat game power rows h =
       one_found put_seat take_seat 4 by_two text.find_seat_shown (Words game ∷ Words power ∷ []) (is_seat game power) show_seat (tells_seat game power []) (λ v a. refl) text.find_seat_text 2 _ old new good.schema refl good.seats
       means.find_seat (one_seat old.now good game power) rows h
-
-  pub count_sent : (game : List ℕ) (power : List ℕ) (rows : List Row) → Shown text.count_sent_text (Words game ∷ Words power ∷ []) old new rows → rows ≡ option_to_list (option_map show_sent (find (is_seat game power) (tables_of old.now.trees).seats))
-  count_sent game power rows h =
-      one_found put_seat take_seat 4 by_two text.count_sent_shown (Words game ∷ Words power ∷ []) (is_seat game power) show_sent (tells_seat game power []) (λ v a. refl) text.count_sent_text 2 _ old new good.schema refl good.seats
-      means.count_sent (one_seat old.now good game power) rows h
 
   pub find_item : (game : List ℕ) (power : List ℕ) (number : ℕ) (rows : List Row) → Shown text.find_item_text (Words game ∷ Words power ∷ Int (pos number) ∷ []) old new rows → rows ≡ option_to_list (option_map show_item (find (is_item game power number) (tables_of old.now.trees).boxes))
   find_item game power number rows h =

@@ -86,9 +86,9 @@ pub note_desk : IsAsked (length text.note_desk_text) 3 (understood our_schema te
 unfolding understood everything
 note_desk = (refl, refl)
 
-pub note_seat : IsAsked (length text.note_seat_text) 5 (understood our_schema text.note_seat_text)
+pub renew_seat : IsAsked (length text.renew_seat_text) 8 (understood our_schema text.renew_seat_text)
 unfolding understood everything
-note_seat = (refl, refl)
+renew_seat = (refl, refl)
 
 pub note_ballot : IsAsked (length text.note_ballot_text) 3 (understood our_schema text.note_ballot_text)
 unfolding understood everything
@@ -101,10 +101,6 @@ clear_votes = (refl, refl)
 pub set_version : IsAsked (length text.set_version_text) 0 (understood our_schema text.set_version_text)
 unfolding understood everything
 set_version = (refl, refl)
-
-pub note_sent : IsAsked (length text.note_sent_text) 6 (understood our_schema text.note_sent_text)
-unfolding understood everything
-note_sent = (refl, refl)
 
 pub count_item : IsAsked (length text.count_item_text) 3 (understood our_schema text.count_item_text)
 unfolding understood everything

@@ -14,7 +14,7 @@ use Rattle.dip_store_tables.specs.Boards.{UnitRow, CentreRow}
 use Rattle.dip_store_tables.specs.Tables.{GameRow, PendingRow, BoxRow, PaperRow, BallotRow, ChoiceRow, is_ballot_in, is_choice_in, is_ballot, is_seat_in, is_unit_in, is_centre_in, is_pending_in, is_box_in, is_paper_in, is_named, is_seat, is_pending}
 use Rattle.dip_store_sql.specs.Rows.{tables_of, put_desk, take_desk, put_game, take_game, put_seat, take_seat, put_unit, take_unit, put_centre, take_centre, put_pending, take_pending, put_box, take_box, put_paper, take_paper, put_ballot, take_ballot, put_choice, take_choice}
 use Rattle.dip_store_sql.specs.Good.{IsGood}
-use Rattle.dip_store_sql.specs.TablesAfter.{is_first, on_desk, on_game, on_seat, on_seats, with_desk, with_game, with_seat, with_unit, with_centre, with_order, with_item, with_paper, with_ballot, with_choice, on_ballot, named, no_ballots, no_choices, no_seats, no_units, no_centres, no_pending, no_orders, no_items, no_papers, new_desk, new_seat, desk_with, seat_with, sending, counting, secret_as, game_as}
+use Rattle.dip_store_sql.specs.TablesAfter.{is_first, on_desk, on_game, on_seat, on_seats, with_desk, with_game, with_seat, with_unit, with_centre, with_order, with_item, with_paper, with_ballot, with_choice, on_ballot, named, no_ballots, no_choices, no_seats, no_units, no_centres, no_pending, no_orders, no_items, no_papers, new_desk, new_seat, desk_with, seat_with, counting, secret_as, game_as}
 use Rattle.dip_store_tables.specs.Renewing.{second, voteless}
 use Rattle.dip_store_sql.proofs.Turned.{desk_turned, game_turned, seat_turned, unit_turned, centre_turned, pending_turned, box_turned, paper_turned, ballot_turned, choice_turned}
 use Rattle.dip_store_sql.proofs.Casting.{cast_desk, cast_game, cast_seat, cast_unit, cast_centre, cast_pending, cast_box, cast_paper, cast_ballot, cast_choice}
@@ -133,12 +133,12 @@ module _ (old new : State) (count : ℕ) (good : IsGood old.now) where
       let it = updated our_schema 0 desk_table refl refl (λ db. refl) (λ olds news. refl) text.note_desk_text means.note_desk.1 old new params count good.schema by_first text.note_desk_row (commanded _ _ means.note_desk.0) h in
       desk_turned old.now new.now good _ it.2 _ refl (update_is put_desk take_desk (λ v a. refl) desk_table cast_desk our_schema old.now new.now good.desk params by_first is_first (tells_desk params) (desk_with last kept reply) text.note_desk_row (λ v a. refl) (one_desk old.now good) it.0 it.1 it.2)
 
-  pub note_seat : (game power : List ℕ) (last : ℕ) (kept reply : List ℕ) → Executes text.note_seat_text (Words game ∷ Words power ∷ Int (pos last) ∷ Bytes kept ∷ Words reply ∷ []) old new (Ok count) → IsGood new.now × (tables_of new.now.trees ≡ on_seat game power (seat_with last kept reply) (tables_of old.now.trees))
-  note_seat game power last kept reply h =
-      let more = Int (pos last) ∷ Bytes kept ∷ Words reply ∷ [] in
+  pub renew_seat : (game power digest : List ℕ) (last : ℕ) (kept reply : List ℕ) (sent items : ℕ) → Executes text.renew_seat_text (Words game ∷ Words power ∷ Bytes digest ∷ Int (pos last) ∷ Bytes kept ∷ Words reply ∷ Int (pos sent) ∷ Int (pos items) ∷ []) old new (Ok count) → IsGood new.now × (tables_of new.now.trees ≡ on_seat game power (seat_with digest last kept reply sent items) (tables_of old.now.trees))
+  renew_seat game power digest last kept reply sent items h =
+      let more = Bytes digest ∷ Int (pos last) ∷ Bytes kept ∷ Words reply ∷ Int (pos sent) ∷ Int (pos items) ∷ [] in
       let params = Words game ∷ Words power ∷ more in
-      let it = updated our_schema 2 seat_table refl refl (λ db. refl) (λ olds news. refl) text.note_seat_text means.note_seat.1 old new params count good.schema by_two text.note_seat_row (commanded _ _ means.note_seat.0) h in
-      seat_turned old.now new.now good _ it.2 _ refl (update_is put_seat take_seat (λ v a. refl) seat_table cast_seat our_schema old.now new.now good.seats params by_two (is_seat game power) (tells_seat game power more) (seat_with last kept reply) text.note_seat_row (λ v a. refl) (one_seat old.now good game power) it.0 it.1 it.2)
+      let it = updated our_schema 2 seat_table refl refl (λ db. refl) (λ olds news. refl) text.renew_seat_text means.renew_seat.1 old new params count good.schema by_two text.renew_seat_row (commanded _ _ means.renew_seat.0) h in
+      seat_turned old.now new.now good _ it.2 _ refl (update_is put_seat take_seat (λ v a. refl) seat_table cast_seat our_schema old.now new.now good.seats params by_two (is_seat game power) (tells_seat game power more) (seat_with digest last kept reply sent items) text.renew_seat_row (λ v a. refl) (one_seat old.now good game power) it.0 it.1 it.2)
 
   pub note_ballot : (game power names : List ℕ) → Executes text.note_ballot_text (Words game ∷ Words power ∷ Words names ∷ []) old new (Ok count) → IsGood new.now × (tables_of new.now.trees ≡ on_ballot game power (named names) (tables_of old.now.trees))
   note_ballot game power names h =
@@ -156,13 +156,6 @@ module _ (old new : State) (count : ℕ) (good : IsGood old.now) where
   set_version h =
       let it = updated our_schema 0 desk_table refl refl (λ db. refl) (λ olds news. refl) text.set_version_text means.set_version.1 old new [] count good.schema by_first text.set_version_row (commanded _ _ means.set_version.0) h in
       desk_turned old.now new.now good _ it.2 _ refl (update_is put_desk take_desk (λ v a. refl) desk_table cast_desk our_schema old.now new.now good.desk [] by_first is_first (tells_desk []) second text.set_version_row (λ v a. refl) (one_desk old.now good) it.0 it.1 it.2)
-
-  pub note_sent : (game power : List ℕ) (last : ℕ) (kept reply : List ℕ) (sent : ℕ) → Executes text.note_sent_text (Words game ∷ Words power ∷ Int (pos last) ∷ Bytes kept ∷ Words reply ∷ Int (pos sent) ∷ []) old new (Ok count) → IsGood new.now × (tables_of new.now.trees ≡ on_seat game power (λ s. sending sent (seat_with last kept reply s)) (tables_of old.now.trees))
-  note_sent game power last kept reply sent h =
-      let more = Int (pos last) ∷ Bytes kept ∷ Words reply ∷ Int (pos sent) ∷ [] in
-      let params = Words game ∷ Words power ∷ more in
-      let it = updated our_schema 2 seat_table refl refl (λ db. refl) (λ olds news. refl) text.note_sent_text means.note_sent.1 old new params count good.schema by_two text.note_sent_row (commanded _ _ means.note_sent.0) h in
-      seat_turned old.now new.now good _ it.2 _ refl (update_is put_seat take_seat (λ v a. refl) seat_table cast_seat our_schema old.now new.now good.seats params by_two (is_seat game power) (tells_seat game power more) (λ s. sending sent (seat_with last kept reply s)) text.note_sent_row (λ v a. refl) (one_seat old.now good game power) it.0 it.1 it.2)
 
   pub count_item : (game power : List ℕ) (items : ℕ) → Executes text.count_item_text (Words game ∷ Words power ∷ Int (pos items) ∷ []) old new (Ok count) → IsGood new.now × (tables_of new.now.trees ≡ on_seat game power (counting items) (tables_of old.now.trees))
   count_item game power items h =

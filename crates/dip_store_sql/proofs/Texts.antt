@@ -8,7 +8,7 @@ use Rattle.sqlite.specs.Listing.{understood}
 use Rattle.dip_store_sql.specs.Queries.{plain_query}
 use Rattle.dip_store_sql.specs.Old.{old_schema}
 use Rattle.dip_store_sql.specs.Asking.{Means, Asks, AsksIn, by_one, by_two, by_first}
-use Rattle.dip_store_sql.specs.Statements.{add_desk_text, add_game_text, add_seat_text, add_unit_text, add_centre_text, add_pending_text, add_item_text, add_paper_text, add_ballot_text, add_choice_text, drop_seats_text, drop_units_text, drop_centres_text, drop_pending_text, drop_orders_text, drop_items_text, drop_papers_text, drop_ballots_text, drop_choices_text, note_desk_text, note_seat_text, note_ballot_text, clear_votes_text, set_version_text, note_sent_text, count_item_text, replace_digest_text, renew_game_text, find_desk_text, find_game_text, count_papers_text, find_seat_text, count_sent_text, find_item_text, find_paper_text, find_ballot_text, find_choice_text, list_seats_text, list_units_text, list_centres_text, list_orders_text, list_games_text, list_votes_text, add_desk_values, add_game_values, add_seat_values, add_unit_values, add_centre_values, add_pending_values, add_item_values, add_paper_values, add_ballot_values, add_choice_values, note_desk_row, note_seat_row, note_ballot_row, clear_votes_row, set_version_row, note_sent_row, count_item_row, replace_digest_row, renew_game_row, find_desk_query, find_game_query, count_papers_query, find_seat_query, count_sent_query, find_item_query, find_paper_query, find_ballot_query, find_choice_query, list_seats_query, list_units_query, list_centres_query, list_orders_query, list_games_query, list_votes_query}
+use Rattle.dip_store_sql.specs.Statements.{add_desk_text, add_game_text, add_seat_text, add_unit_text, add_centre_text, add_pending_text, add_item_text, add_paper_text, add_ballot_text, add_choice_text, drop_seats_text, drop_units_text, drop_centres_text, drop_pending_text, drop_orders_text, drop_items_text, drop_papers_text, drop_ballots_text, drop_choices_text, note_desk_text, renew_seat_text, note_ballot_text, clear_votes_text, set_version_text, count_item_text, replace_digest_text, renew_game_text, find_desk_text, find_game_text, find_seat_text, find_item_text, find_paper_text, find_ballot_text, find_choice_text, list_seats_text, list_units_text, list_centres_text, list_orders_text, list_games_text, list_votes_text, add_desk_values, add_game_values, add_seat_values, add_unit_values, add_centre_values, add_pending_values, add_item_values, add_paper_values, add_ballot_values, add_choice_values, note_desk_row, renew_seat_row, note_ballot_row, clear_votes_row, set_version_row, count_item_row, replace_digest_row, renew_game_row, find_desk_query, find_game_query, find_seat_query, find_item_query, find_paper_query, find_ballot_query, find_choice_query, list_seats_query, list_units_query, list_centres_query, list_orders_query, list_games_query, list_votes_query}
 
 pub add_desk : Means add_desk_text (Insert 0 (Values add_desk_values 8))
 unfolding understood everything
@@ -90,9 +90,9 @@ pub note_desk : Means note_desk_text (Update 0 (record { lets = []; body = plain
 unfolding understood everything
 note_desk = (refl, (refl, refl))
 
-pub note_seat : Means note_seat_text (Update 2 (record { lets = []; body = plain_query 4 by_two note_seat_row [] }))
+pub renew_seat : Means renew_seat_text (Update 2 (record { lets = []; body = plain_query 4 by_two renew_seat_row [] }))
 unfolding understood everything
-note_seat = (refl, (refl, refl))
+renew_seat = (refl, (refl, refl))
 
 pub note_ballot : Means note_ballot_text (Update 8 (record { lets = []; body = plain_query 16 by_two note_ballot_row [] }))
 unfolding understood everything
@@ -105,10 +105,6 @@ clear_votes = (refl, (refl, refl))
 pub set_version : Means set_version_text (Update 0 (record { lets = []; body = plain_query 0 by_first set_version_row [] }))
 unfolding understood everything
 set_version = (refl, (refl, refl))
-
-pub note_sent : Means note_sent_text (Update 2 (record { lets = []; body = plain_query 4 by_two note_sent_row [] }))
-unfolding understood everything
-note_sent = (refl, (refl, refl))
 
 pub count_item : Means count_item_text (Update 2 (record { lets = []; body = plain_query 4 by_two count_item_row [] }))
 unfolding understood everything
@@ -130,17 +126,9 @@ pub find_game : Asks find_game_text 1 find_game_query (codes "year" ∷ codes "p
 unfolding understood everything
 find_game = record { means = (refl, (refl, refl)); unlisted = refl; asked = (refl, refl) }
 
-pub count_papers : Asks count_papers_text 1 count_papers_query (codes "papers" ∷ [])
-unfolding understood everything
-count_papers = record { means = (refl, (refl, refl)); unlisted = refl; asked = (refl, refl) }
-
 pub find_seat : Asks find_seat_text 2 find_seat_query (codes "digest" ∷ codes "vote" ∷ codes "last" ∷ codes "kept" ∷ codes "reply" ∷ codes "sent" ∷ codes "items" ∷ [])
 unfolding understood everything
 find_seat = record { means = (refl, (refl, refl)); unlisted = refl; asked = (refl, refl) }
-
-pub count_sent : Asks count_sent_text 2 count_sent_query (codes "sent" ∷ [])
-unfolding understood everything
-count_sent = record { means = (refl, (refl, refl)); unlisted = refl; asked = (refl, refl) }
 
 pub find_ballot : Asks find_ballot_text 2 find_ballot_query (codes "names" ∷ [])
 unfolding understood everything

@@ -23,7 +23,7 @@ use Rattle.dip_store_tables.specs.Tables.{GameRow, PendingRow, BoxRow, PaperRow,
 use Rattle.dip_store_sql.specs.Causes.{Faulted, IsCaused}
 use Rattle.dip_store_sql.specs.Good.{IsGood}
 use Rattle.dip_store_sql.specs.Rows.{tables_of, put_desk, take_desk, put_game, take_game, put_seat, take_seat, put_unit, take_unit, put_centre, take_centre, put_pending, take_pending, put_box, take_box, put_paper, take_paper, put_ballot, take_ballot, put_choice, take_choice}
-use Rattle.dip_store_sql.specs.TablesAfter.{is_first, new_desk, new_seat, desk_with, seat_with, named, sending, counting, secret_as, game_as}
+use Rattle.dip_store_sql.specs.TablesAfter.{is_first, new_desk, new_seat, desk_with, seat_with, named, counting, secret_as, game_as}
 use Rattle.dip_store_tables.specs.Renewing.{second, voteless}
 use Rattle.dip_store_sql.proofs.Apart.{one_ballot, one_desk, one_game, one_seat}
 use Rattle.dip_store_sql.proofs.Casting.{cast_desk, cast_game, cast_seat, cast_unit, cast_centre, cast_pending, cast_box, cast_paper, cast_ballot, cast_choice}
@@ -196,12 +196,12 @@ module _ (old new : State) (good : IsGood old.now) (up : IsTrue old.is_open) (un
       update_sane our_schema 0 desk_table refl refl (λ db. refl) (λ olds news. refl) refers put_desk take_desk (λ v a. refl) cast_desk desk_rules text.note_desk_text means.note_desk.1 params asked.note_desk old new good.schema up unlimited good.desk e h
       by_first (is_first) (tells_desk params) (desk_with last kept reply) text.note_desk_row (λ v a. refl) (one_desk old.now good) means.note_desk.0 refl (λ rows it are. desk_keyed old.now.trees unique rows it (subst (Differ same_desk) (sym are) (changed same_desk (is_first) (desk_with last kept reply) (λ a b. refl) (λ a b. refl) _ keyed.desk)))
 
-  pub note_seat : (game power : List ℕ) (last : ℕ) (kept reply : List ℕ) → Executes text.note_seat_text (Words game ∷ Words power ∷ Int (pos last) ∷ Bytes kept ∷ Words reply ∷ []) old new (Err e) → IsWant (Faulted old new) e
-  note_seat game power last kept reply h =
-      let more = Int (pos last) ∷ Bytes kept ∷ Words reply ∷ [] in
+  pub renew_seat : (game power digest : List ℕ) (last : ℕ) (kept reply : List ℕ) (sent items : ℕ) → Executes text.renew_seat_text (Words game ∷ Words power ∷ Bytes digest ∷ Int (pos last) ∷ Bytes kept ∷ Words reply ∷ Int (pos sent) ∷ Int (pos items) ∷ []) old new (Err e) → IsWant (Faulted old new) e
+  renew_seat game power digest last kept reply sent items h =
+      let more = Bytes digest ∷ Int (pos last) ∷ Bytes kept ∷ Words reply ∷ Int (pos sent) ∷ Int (pos items) ∷ [] in
       let params = Words game ∷ Words power ∷ more in
-      update_sane our_schema 2 seat_table refl refl (λ db. refl) (λ olds news. refl) refers put_seat take_seat (λ v a. refl) cast_seat seat_rules text.note_seat_text means.note_seat.1 params asked.note_seat old new good.schema up unlimited good.seats e h
-      by_two (is_seat game power) (tells_seat game power more) (seat_with last kept reply) text.note_seat_row (λ v a. refl) (one_seat old.now good game power) means.note_seat.0 refl (λ rows it are. seats_keyed old.now.trees unique rows it (subst (Differ same_seat) (sym are) (changed same_seat (is_seat game power) (seat_with last kept reply) (λ a b. refl) (λ a b. refl) _ keyed.seats)))
+      update_sane our_schema 2 seat_table refl refl (λ db. refl) (λ olds news. refl) refers put_seat take_seat (λ v a. refl) cast_seat seat_rules text.renew_seat_text means.renew_seat.1 params asked.renew_seat old new good.schema up unlimited good.seats e h
+      by_two (is_seat game power) (tells_seat game power more) (seat_with digest last kept reply sent items) text.renew_seat_row (λ v a. refl) (one_seat old.now good game power) means.renew_seat.0 refl (λ rows it are. seats_keyed old.now.trees unique rows it (subst (Differ same_seat) (sym are) (changed same_seat (is_seat game power) (seat_with digest last kept reply sent items) (λ a b. refl) (λ a b. refl) _ keyed.seats)))
 
   pub note_ballot : (game power names : List ℕ) → Executes text.note_ballot_text (Words game ∷ Words power ∷ Words names ∷ []) old new (Err e) → IsWant (Faulted old new) e
   note_ballot game power names h =
@@ -236,13 +236,6 @@ module _ (old new : State) (good : IsGood old.now) (up : IsTrue old.is_open) (un
       by_first is_first (tells_desk []) second text.set_version_row (λ v a. refl) means.set_version.0 refl
       (λ given are. wants given are (λ rows it are. desk_keyed old.now.trees unique rows it (subst (Differ same_desk) (sym are) (changed same_desk is_first second (λ a b. refl) (λ a b. refl) _ keyed.desk))))
       (all_unmap (CanStand desk_table) second_row (old.now.trees 0) fits)
-
-  pub note_sent : (game power : List ℕ) (last : ℕ) (kept reply : List ℕ) (sent : ℕ) → Executes text.note_sent_text (Words game ∷ Words power ∷ Int (pos last) ∷ Bytes kept ∷ Words reply ∷ Int (pos sent) ∷ []) old new (Err e) → IsWant (Faulted old new) e
-  note_sent game power last kept reply sent h =
-      let more = Int (pos last) ∷ Bytes kept ∷ Words reply ∷ Int (pos sent) ∷ [] in
-      let params = Words game ∷ Words power ∷ more in
-      update_sane our_schema 2 seat_table refl refl (λ db. refl) (λ olds news. refl) refers put_seat take_seat (λ v a. refl) cast_seat seat_rules text.note_sent_text means.note_sent.1 params asked.note_sent old new good.schema up unlimited good.seats e h
-      by_two (is_seat game power) (tells_seat game power more) (λ s. sending sent (seat_with last kept reply s)) text.note_sent_row (λ v a. refl) (one_seat old.now good game power) means.note_sent.0 refl (λ rows it are. seats_keyed old.now.trees unique rows it (subst (Differ same_seat) (sym are) (changed same_seat (is_seat game power) (λ s. sending sent (seat_with last kept reply s)) (λ a b. refl) (λ a b. refl) _ keyed.seats)))
 
   pub count_item : (game power : List ℕ) (items : ℕ) → Executes text.count_item_text (Words game ∷ Words power ∷ Int (pos items) ∷ []) old new (Err e) → IsWant (Faulted old new) e
   count_item game power items h =

@@ -7,6 +7,7 @@ use Rattle.dip_store_sql.specs.declared.rows.GameRow.{GameRow}
 use Rattle.dip_store_sql.specs.declared.rows.UnitRow.{UnitRow}
 use Rattle.dip_store_sql.specs.declared.rows.ItemRow.{ItemRow}
 use Rattle.dip_store_sql.specs.declared.rows.LastLetter.{LastLetter}
+use Rattle.dip_store_sql.specs.declared.rows.SeatRow.{SeatRow}
 
 abbrev pub game : GameRow → tables.GameRow
 game g = record {
@@ -43,9 +44,10 @@ item b = record {
   body = b.body.now;
 }
 
--- a row with its author's last letter
+-- the master's row with a last letter
 abbrev pub desk_kept : LastLetter → tables.DeskRow → tables.DeskRow
 desk_kept l = desk_with l.number l.sum.now l.reply.now
 
-abbrev pub seat_kept : LastLetter → tables.SeatRow → tables.SeatRow
-seat_kept l = seat_with l.number l.sum.now l.reply.now
+-- all but the keys and the vote of a seat's row
+abbrev pub seat_as : SeatRow → tables.SeatRow → tables.SeatRow
+seat_as r = seat_with r.digest.now r.number r.sum.now r.reply.now r.sent r.items

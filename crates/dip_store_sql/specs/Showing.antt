@@ -15,16 +15,10 @@ show_game g =
     Int (pos g.year) ∷ Int (pos g.phase) ∷ Words g.status ∷ Int (pos g.due) ∷ Int (pos g.period) ∷
     Int (pos g.grey) ∷ Int (pos g.papers) ∷ Words g.standoff ∷ []
 
-abbrev pub show_papers : GameRow → Row
-show_papers g = Int (pos g.papers) ∷ []
-
 abbrev pub show_seat : SeatRow → Row
 show_seat s =
     Bytes s.digest ∷ Int (pos s.vote) ∷ Int (pos s.last) ∷ Bytes s.kept ∷ Words s.reply ∷
     Int (pos s.sent) ∷ Int (pos s.items) ∷ []
-
-abbrev pub show_sent : SeatRow → Row
-show_sent s = Int (pos s.sent) ∷ []
 
 abbrev pub show_item : BoxRow → Row
 show_item b = Int (pos b.grey) ∷ Words b.writer ∷ Words b.addressees ∷ Words b.body ∷ []

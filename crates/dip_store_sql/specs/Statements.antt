@@ -128,14 +128,14 @@ abbrev pub note_desk_row : List Term
 note_desk_row =
     col 1 0 ∷ col 1 0 ∷ col 1 1 ∷ col 1 2 ∷ col 1 3 ∷ col 1 4 ∷ col 0 0 ∷ col 0 1 ∷ col 0 2 ∷ []
 
-abbrev pub note_seat_text : List ℕ
-note_seat_text =
-    codes "UPDATE seat SET last = ?3, kept = ?4, reply = ?5 WHERE game = ?1 AND power = ?2"
+abbrev pub renew_seat_text : List ℕ
+renew_seat_text =
+    codes "UPDATE seat SET digest = ?3, last = ?4, kept = ?5, reply = ?6, sent = ?7, items = ?8 WHERE game = ?1 AND power = ?2"
 
-abbrev pub note_seat_row : List Term
-note_seat_row =
-    col 1 0 ∷ col 1 0 ∷ col 1 1 ∷ col 1 2 ∷ col 1 3 ∷ col 1 4 ∷ col 0 2 ∷ col 0 3 ∷ col 0 4 ∷
-    col 1 8 ∷ col 1 9 ∷ []
+abbrev pub renew_seat_row : List Term
+renew_seat_row =
+    col 1 0 ∷ col 1 0 ∷ col 1 1 ∷ col 1 2 ∷ col 0 2 ∷ col 1 4 ∷ col 0 3 ∷ col 0 4 ∷ col 0 5 ∷
+    col 0 6 ∷ col 0 7 ∷ []
 
 abbrev pub note_ballot_text : List ℕ
 note_ballot_text =
@@ -160,15 +160,6 @@ set_version_text =
 abbrev pub set_version_row : List Term
 set_version_row =
     col 1 0 ∷ col 1 0 ∷ col 1 1 ∷ lit (Int (pos 2)) ∷ col 1 3 ∷ col 1 4 ∷ col 1 5 ∷ col 1 6 ∷ col 1 7 ∷ []
-
-abbrev pub note_sent_text : List ℕ
-note_sent_text =
-    codes "UPDATE seat SET last = ?3, kept = ?4, reply = ?5, sent = ?6 WHERE game = ?1 AND power = ?2"
-
-abbrev pub note_sent_row : List Term
-note_sent_row =
-    col 1 0 ∷ col 1 0 ∷ col 1 1 ∷ col 1 2 ∷ col 1 3 ∷ col 1 4 ∷ col 0 2 ∷ col 0 3 ∷ col 0 4 ∷
-    col 0 5 ∷ col 1 9 ∷ []
 
 abbrev pub count_item_text : List ℕ
 count_item_text =
@@ -217,16 +208,6 @@ find_game_shown = col 1 2 ∷ col 1 3 ∷ col 1 4 ∷ col 1 5 ∷ col 1 6 ∷ co
 abbrev pub find_game_query : Query
 find_game_query = plain_query 2 by_one find_game_shown []
 
-abbrev pub count_papers_text : List ℕ
-count_papers_text =
-    codes "SELECT papers FROM game WHERE name = ?1"
-
-abbrev pub count_papers_shown : List Term
-count_papers_shown = col 1 8 ∷ []
-
-abbrev pub count_papers_query : Query
-count_papers_query = plain_query 2 by_one count_papers_shown []
-
 abbrev pub find_seat_text : List ℕ
 find_seat_text =
     codes "SELECT digest, vote, last, kept, reply, sent, items FROM seat WHERE game = ?1 AND power = ?2"
@@ -236,16 +217,6 @@ find_seat_shown = col 1 3 ∷ col 1 4 ∷ col 1 5 ∷ col 1 6 ∷ col 1 7 ∷ co
 
 abbrev pub find_seat_query : Query
 find_seat_query = plain_query 4 by_two find_seat_shown []
-
-abbrev pub count_sent_text : List ℕ
-count_sent_text =
-    codes "SELECT sent FROM seat WHERE game = ?1 AND power = ?2"
-
-abbrev pub count_sent_shown : List Term
-count_sent_shown = col 1 8 ∷ []
-
-abbrev pub count_sent_query : Query
-count_sent_query = plain_query 4 by_two count_sent_shown []
 
 abbrev pub find_ballot_text : List ℕ
 find_ballot_text =

@@ -122,14 +122,13 @@ new_seat game power digest = record {
 abbrev pub desk_with : ℕ → List ℕ → List ℕ → DeskRow → DeskRow
 desk_with last kept reply d = record d { last = last; kept = kept; reply = reply }
 
-abbrev pub seat_with : ℕ → List ℕ → List ℕ → SeatRow → SeatRow
-seat_with last kept reply s = record s { last = last; kept = kept; reply = reply }
+-- all but a seat's keys and its vote: the digest of its secret, its last letter, how much it has sent, and how many items it has
+abbrev pub seat_with : List ℕ → ℕ → List ℕ → List ℕ → ℕ → ℕ → SeatRow → SeatRow
+seat_with digest last kept reply sent items s =
+    record s { digest = digest; last = last; kept = kept; reply = reply; sent = sent; items = items }
 
 abbrev pub named : List ℕ → BallotRow → BallotRow
 named names b = record b { names = names }
-
-abbrev pub sending : ℕ → SeatRow → SeatRow
-sending sent s = record s { sent = sent }
 
 abbrev pub counting : ℕ → SeatRow → SeatRow
 counting items s = record s { items = items }

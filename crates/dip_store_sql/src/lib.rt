@@ -20,11 +20,10 @@ pub use dropping::{
 };
 pub use listings::{list_centres, list_games, list_orders, list_seats, list_units, list_votes};
 pub use lookups::{
-    count_papers, count_sent, find_ballot, find_choice, find_desk, find_game, find_item,
-    find_paper, find_seat,
+    find_ballot, find_choice, find_desk, find_game, find_item, find_paper, find_seat,
 };
 pub use noting::{
-    clear_votes, count_item, note_ballot, note_desk, note_seat, note_sent, renew_game,
-    replace_digest, set_version,
+    clear_votes, count_item, note_ballot, note_desk, renew_game, renew_seat, replace_digest,
+    set_version,
 };
-pub use rows::{GameRow, ItemRow, LastLetter, UnitRow};
+pub use rows::{GameRow, ItemRow, LastLetter, SeatRow, UnitRow};

@@ -2,14 +2,14 @@
 ghost use Rattle.std.specs.Prelude.{◌≡◌, ◌<◌, ◌^◌, map as each};
 ghost use Rattle.sqlite.specs.Held.{state};
 ghost use Rattle.dip_store_sql.specs.Calls.{Writes};
-ghost use Rattle.dip_store_sql.specs.TablesAfter.{counting, game_as, named, on_ballot, on_desk, on_game, on_seat, on_seats, secret_as, sending};
+ghost use Rattle.dip_store_sql.specs.TablesAfter.{counting, game_as, named, on_ballot, on_desk, on_game, on_seat, on_seats, secret_as};
 ghost use Rattle.dip_store_tables.specs.Renewing.{second, voteless};
 ghost use Rattle.dip_store_sql.specs.Schema.{desk_table, seat_table};
 ghost use Rattle.dip_store_sql.specs.Storing.{Stores, second_row, voteless_row};
 ghost use Rattle.dip_store_sql.specs.Wants.{Wants, always};
 ghost use Rattle.dip_store_sql.specs.RowViews as rows;
 
-use crate::rows::{GameRow, LastLetter};
+use crate::rows::{GameRow, LastLetter, SeatRow};
 use crate::ticks::tick_of;
 use sqlite::types::ToSql;
 use sqlite::{Alter, Error, Transaction, params};
@@ -31,22 +31,31 @@ pub fn note_desk<S: Alter>(
     )
 }
 
-/// The seat's last letter.
-pub fn note_seat<S: Alter>(
+/// A seat's row, but for its keys and its vote.
+pub fn renew_seat<S: Alter>(
     tx: &mut Transaction<'_, S>,
     game: &str,
     power: &str,
-    letter: &LastLetter<'_>,
+    seat: &SeatRow<'_>,
 ) -> Result<usize, Error>
     ensures same_reference { tx.new.conn.ghost_name ≡ tx.old.conn.ghost_name }
-    ensures writes { Writes (on_seat game.now power.now (rows.seat_kept letter.now))
+    ensures writes { Writes (on_seat game.now power.now (rows.seat_as seat.now))
         (state S.Store tx.old.conn.now) (state S.Store tx.new.conn.now) result }
     ensures wants { Wants always
         (state S.Store tx.old.conn.now) (state S.Store tx.new.conn.now) result }
 {
     tx.execute(
-        "UPDATE seat SET last = ?3, kept = ?4, reply = ?5 WHERE game = ?1 AND power = ?2",
-        params![game, power, letter.number, letter.sum, letter.reply],
+        "UPDATE seat SET digest = ?3, last = ?4, kept = ?5, reply = ?6, sent = ?7, items = ?8 WHERE game = ?1 AND power = ?2",
+        params![
+            game,
+            power,
+            seat.digest,
+            seat.number,
+            seat.sum,
+            seat.reply,
+            seat.sent,
+            seat.items
+        ],
     )
 }
 
@@ -95,27 +104,6 @@ pub fn set_version<S: Alter>(tx: &mut Transaction<'_, S>) -> Result<usize, Error
         (state S.Store tx.old.conn.now) (state S.Store tx.new.conn.now) result }
 {
     tx.execute("UPDATE desk SET version = 2 WHERE id = 1", &[])
-}
-
-/// How many press letters the seat has sent, and its last letter.
-pub fn note_sent<S: Alter>(
-    tx: &mut Transaction<'_, S>,
-    game: &str,
-    power: &str,
-    letter: &LastLetter<'_>,
-    sent: u32,
-) -> Result<usize, Error>
-    ensures same_reference { tx.new.conn.ghost_name ≡ tx.old.conn.ghost_name }
-    ensures writes { Writes (on_seat game.now power.now
-        (λ s. sending sent (rows.seat_kept letter.now s)))
-        (state S.Store tx.old.conn.now) (state S.Store tx.new.conn.now) result }
-    ensures wants { Wants always
-        (state S.Store tx.old.conn.now) (state S.Store tx.new.conn.now) result }
-{
-    tx.execute(
-        "UPDATE seat SET last = ?3, kept = ?4, reply = ?5, sent = ?6 WHERE game = ?1 AND power = ?2",
-        params![game, power, letter.number, letter.sum, letter.reply, sent],
-    )
 }
 
 /// How many items the seat's inbox has.

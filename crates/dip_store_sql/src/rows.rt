@@ -38,7 +38,19 @@ pub struct ItemRow<'a> {
     pub body: &'a str,
 }
 
-/// An author's last letter: its number, the SHA-256 of its bytes, and its reply.
+/// A seat's row but for its keys and its vote: the digest of its secret, its last letter by its number, the SHA-256 of its bytes and its
+/// reply, how many press letters it has sent, and how many items its inbox has.
+#[derive(Drop)]
+pub struct SeatRow<'a> {
+    pub digest: &'a [u8],
+    pub number: u32,
+    pub sum: &'a [u8],
+    pub reply: &'a str,
+    pub sent: u32,
+    pub items: u32,
+}
+
+/// The master's last letter: its number, the SHA-256 of its bytes, and its reply.
 #[derive(Drop)]
 pub struct LastLetter<'a> {
     pub number: u32,

@@ -8,5 +8,5 @@ use Rattle.dip_store_changes.proofs.authors.note_author.Goals as goal
 pub returns-in-Seat-clause-writes : goal.returns-in-Seat-clause-writes
 returns-in-Seat-clause-writes g c =
     let it = c.args.change.now in
-    writes_as _ _ _ _ _ _ _ (noted_as c.args.sent c.args.map.now (machine.author it.author) c.in-Seat.power (string_bytes it.game) (records.kept it.kept) (machine.effect it.effect) _ _
+    writes_as _ _ _ _ _ _ _ (noted_as c.args.row c.args.map.now (machine.author it.author) c.in-Seat.power (string_bytes it.game) (records.kept it.kept) _ _
     (ap (λ w. machine.author w) c.in-Seat.is) c.as_str-game.ensures.value c.power_name-name.ensures) c.note_own.ensures.writes

@@ -14,7 +14,8 @@ use Rattle.dip_store_tables.specs.Tables.{Tables}
 use Rattle.dip_store_sql.specs.Keys.{AreKeyed}
 use Rattle.dip_store_changes.specs.declared.delivering.Reader.{Reader}
 use Rattle.dip_store_changes.specs.Counts.{Counts}
-use Rattle.dip_store_changes.specs.Making.{changing_sent}
+use Rattle.dip_store_changes.specs.Knowing.{IsKnown}
+use Rattle.dip_store_changes.specs.Making.{changing_row}
 use Rattle.dip_store_changes.specs.declared.faults.MakeFault.{MakeFault}
 use Rattle.dip_store_changes.proofs.Counted.{counted_change}
 use Rattle.dip_store_changes.specs.declared.counts.Counted.{Counted}
@@ -27,13 +28,13 @@ returns-in-Ok-clause-makes g c =
     let m = c.args.map.now in
     let it = machine.change c.args.change.now in
     let old = c.args.conn.now in
-    let n = c.in_ok-counted.counted.sent in
+    let n = c.in_ok-counted.counted.row in
     let rs = c.as_slice.result.now in
     let k = c.in-Ok.ensures.makes in
-    makes_named g.S.Store (Unit {0}) Error MakeFault (changing_sent n rs m it) (changing m it) old c.make_with.new.conn (Ok c.in-Ok.field-0) _ tt
-    (λ kept clean. counted_change m (c.readers_are_seats.ensures m) (c.press_is_delivered_one_by_one.ensures m) it (tables_in g.S.Store old) n rs (are_apart (state g.S.Store old).now kept.good)
+    makes_named g.S.Store (IsKnown c.args.known m it.author it.game (tables_in g.S.Store old).seats) (Unit {0}) Error MakeFault (changing_row n rs m it) (changing m it) old c.make_with.new.conn (Ok c.in-Ok.field-0) _ tt
+    (λ kept clean. counted_change m (c.readers_are_seats.ensures m) (c.press_is_delivered_one_by_one.ensures m) it (tables_in g.S.Store old) n rs (are_apart (state g.S.Store old).now kept.0.good)
     (subst (λ (rs : List Reader). Counts n rs m it (tables_in g.S.Store old)) (sym c.as_slice.ensures.value) (c.in_ok-counted.ensures.value kept (k.fair clean))))
-    (makes_peeked g.S.Store _ _ _ _ (changing_sent n rs m it) old c.count.new.conn c.make_with.new.conn c.in_ok-counted.counted _ c.in_ok-counted.ensures.peeks k)
+    (makes_peeked g.S.Store _ _ _ _ (changing_row n rs m it) old c.count.new.conn c.make_with.new.conn c.in_ok-counted.counted _ c.in_ok-counted.ensures.peeks k)
 
 pub returns-in-Ok-clause-kept : goal.returns-in-Ok-clause-kept
 returns-in-Ok-clause-kept g c kept up =
@@ -45,7 +46,7 @@ returns-in-Ok-clause-kept g c kept up =
     let made = (returns-in-Ok-clause-makes g c).done kept up in
     let counts = c.in_ok-counted.ensures.value kept (c.in-Ok.ensures.makes.fair up.0) in
     let later : AreApart (changing m it t) = subst AreApart made.1 (are_apart (state g.S.Store new).now made.0.good) in
-    let counted = c.tables_stay_counted.ensures m it t counts.paper kept.counted (are_apart (state g.S.Store old).now kept.good) later in
+    let counted = c.tables_stay_counted.ensures m it t counts.paper kept.0.counted (are_apart (state g.S.Store old).now kept.0.good) later in
     laid_kept g.S.Store new made.0 (subst AreCounted (sym made.1) counted)
 
 pub returns-clause-makes : goal.returns-clause-makes
@@ -53,13 +54,13 @@ returns-clause-makes g c =
     let m = c.args.map.now in
     let it = machine.change c.args.change.now in
     let old = c.args.conn.now in
-    let n = c.in_ok-counted.counted.sent in
+    let n = c.in_ok-counted.counted.row in
     let rs = c.as_slice.result.now in
     let k = c.in-Err.ensures.makes in
-    makes_named g.S.Store (Unit {0}) Error MakeFault (changing_sent n rs m it) (changing m it) old c.make_with.new.conn (Err c.in-Err.error) _ tt
-    (λ kept clean. counted_change m (c.readers_are_seats.ensures m) (c.press_is_delivered_one_by_one.ensures m) it (tables_in g.S.Store old) n rs (are_apart (state g.S.Store old).now kept.good)
+    makes_named g.S.Store (IsKnown c.args.known m it.author it.game (tables_in g.S.Store old).seats) (Unit {0}) Error MakeFault (changing_row n rs m it) (changing m it) old c.make_with.new.conn (Err c.in-Err.error) _ tt
+    (λ kept clean. counted_change m (c.readers_are_seats.ensures m) (c.press_is_delivered_one_by_one.ensures m) it (tables_in g.S.Store old) n rs (are_apart (state g.S.Store old).now kept.0.good)
     (subst (λ (rs : List Reader). Counts n rs m it (tables_in g.S.Store old)) (sym c.as_slice.ensures.value) (c.in_ok-counted.ensures.value kept (k.fair clean))))
-    (makes_peeked g.S.Store _ _ _ _ (changing_sent n rs m it) old c.count.new.conn c.make_with.new.conn c.in_ok-counted.counted _ c.in_ok-counted.ensures.peeks k)
+    (makes_peeked g.S.Store _ _ _ _ (changing_row n rs m it) old c.count.new.conn c.make_with.new.conn c.in_ok-counted.counted _ c.in_ok-counted.ensures.peeks k)
 
 pub returns-in-Ok-clause-place : goal.returns-in-Ok-clause-place
 returns-in-Ok-clause-place g c kept up = c.in_ok-counted.ensures.place kept (c.in-Ok.ensures.makes.fair up.0)
@@ -74,22 +75,22 @@ returns-clause-fails g c kept shows clean may =
     let old = c.args.conn.now in
     let mid = c.count.new.conn in
     let t = tables_in g.S.Store old in
-    let n = c.in_ok-counted.counted.sent in
+    let n = c.in_ok-counted.counted.row in
     let rs = c.as_slice.result.now in
     let honest = c.in-Err.ensures.makes.fair clean in
-    let there = peeks_kept g.S.Store {X = Counted} {E = MakeFault} old mid c.in_ok-counted.counted c.in_ok-counted.ensures.peeks kept honest in
-    let up = peeks_shows g.S.Store {X = Counted} {E = MakeFault} old mid c.in_ok-counted.counted c.in_ok-counted.ensures.peeks kept shows honest in
+    let there = peeks_kept g.S.Store {X = Counted} {E = MakeFault} old mid c.in_ok-counted.counted c.in_ok-counted.ensures.peeks kept.0 honest in
+    let up = peeks_shows g.S.Store {X = Counted} {E = MakeFault} old mid c.in_ok-counted.counted c.in_ok-counted.ensures.peeks kept.0 shows honest in
     let counts = subst (λ (rs : List Reader). Counts n rs m it t) (sym c.as_slice.ensures.value) (c.in_ok-counted.ensures.value kept honest) in
-    let same = counted_change m (c.readers_are_seats.ensures m) (c.press_is_delivered_one_by_one.ensures m) it t n rs (are_apart (state g.S.Store old).now kept.good) counts in
+    let same = counted_change m (c.readers_are_seats.ensures m) (c.press_is_delivered_one_by_one.ensures m) it t n rs (are_apart (state g.S.Store old).now kept.0.good) counts in
     let late = faulted_late (state g.S.Store old) (state g.S.Store mid) (state g.S.Store c.make_with.new.conn) (peeks_counts g.S.Store {X = Counted} {E = MakeFault} old mid c.in_ok-counted.counted c.in_ok-counted.ensures.peeks) in
-    want_weaker _ _ c.in-Err.error late (c.in-Err.ensures.wants there.0 up clean (subst (λ (u : Tables). AreKeyed (changing_sent n rs m it u)) (sym there.1) (subst AreKeyed (sym same) may.keyed)))
+    want_weaker _ _ c.in-Err.error late (c.in-Err.ensures.wants there.0 up clean (subst (λ (u : Tables). AreKeyed (changing_row n rs m it u)) (sym there.1) (subst AreKeyed (sym same) may.keyed)))
 
 pub returns-clause-blames : goal.returns-clause-blames
 returns-clause-blames g c kept shows clean ours =
     let old = c.args.conn.now in
     let mid = c.count.new.conn in
     let honest = c.in-Err.ensures.makes.fair clean in
-    let there = peeks_kept g.S.Store {X = Counted} {E = MakeFault} old mid c.in_ok-counted.counted c.in_ok-counted.ensures.peeks kept honest in
-    let up = peeks_shows g.S.Store {X = Counted} {E = MakeFault} old mid c.in_ok-counted.counted c.in_ok-counted.ensures.peeks kept shows honest in
+    let there = peeks_kept g.S.Store {X = Counted} {E = MakeFault} old mid c.in_ok-counted.counted c.in_ok-counted.ensures.peeks kept.0 honest in
+    let up = peeks_shows g.S.Store {X = Counted} {E = MakeFault} old mid c.in_ok-counted.counted c.in_ok-counted.ensures.peeks kept.0 shows honest in
     let late = faulted_late (state g.S.Store old) (state g.S.Store mid) (state g.S.Store c.make_with.new.conn) (peeks_counts g.S.Store {X = Counted} {E = MakeFault} old mid c.in_ok-counted.counted c.in_ok-counted.ensures.peeks) in
     blamed_weaker _ _ c.in-Err.error late (c.in-Err.ensures.blames there.0 up clean)

@@ -12,14 +12,14 @@ use Rattle.dip_store_sql.proofs.Told.{want_weaker}
 use Rattle.dip_store_sql.specs.Causes.{has_faulted}
 use Rattle.dip_store_sql.proofs.Caused.{faulted_early}
 use Rattle.dip_store_sql.specs.Refusals.{IsWant}
-use Rattle.dip_store_changes.specs.Making.{Makes, changing_sent}
+use Rattle.dip_store_changes.specs.Making.{Makes, changing_row}
 use Rattle.dip_store_changes.proofs.Made.{makes_committed}
 use Rattle.dip_store_changes.proofs.Wanting.{commit_wants, parts_blame, parts_want, want_blames}
 use Rattle.dip_store_changes.proofs.whole.make_with.Goals as goal
 
 pub returns : goal.returns
 returns g c =
-    let f = changing_sent c.args.sent c.args.readers.now c.args.map.now (machine.change c.args.change.now) in
+    let f = changing_row c.args.row c.args.readers.now c.args.map.now (machine.change c.args.change.now) in
     let old = c.args.conn.now in
     let last = c.make_parts.new.tx.conn.now in
     let end = c.commit.new.self.0 in
@@ -44,7 +44,7 @@ returns g c =
 
 pub returns-in_err-make_parts-clause-wants : goal.returns-in_err-make_parts-clause-wants
 returns-in_err-make_parts-clause-wants g c kept shows clean may =
-    let f = changing_sent c.args.sent c.args.readers.now c.args.map.now (machine.change c.args.change.now) in
+    let f = changing_row c.args.row c.args.readers.now c.args.map.now (machine.change c.args.change.now) in
     let allow : Tables → Type 0 = λ t. AreKeyed (f t) in
     let old = c.args.conn.now in
     let last = c.make_parts.new.tx.conn.now in
@@ -56,7 +56,7 @@ returns-in_err-make_parts-clause-wants g c kept shows clean may =
 
 pub returns-in_err-make_parts-clause-blames : goal.returns-in_err-make_parts-clause-blames
 returns-in_err-make_parts-clause-blames g c kept shows clean =
-    let f = changing_sent c.args.sent c.args.readers.now c.args.map.now (machine.change c.args.change.now) in
+    let f = changing_row c.args.row c.args.readers.now c.args.map.now (machine.change c.args.change.now) in
     let allow : Tables → Type 0 = λ t. AreKeyed (f t) in
     let old = c.args.conn.now in
     let last = c.make_parts.new.tx.conn.now in

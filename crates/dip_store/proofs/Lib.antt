@@ -26,3 +26,4 @@ pub mod Renewed
 pub mod Renewal
 pub mod Rewritten
 pub mod Refilling
+pub mod Short

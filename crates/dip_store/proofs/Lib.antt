@@ -29,3 +29,4 @@ pub mod Renewed
 pub mod Renewal
 pub mod Rewritten
 pub mod Refilling
+pub mod Short

@@ -16,7 +16,7 @@ use Rattle.sqlite.specs.Table.{Table}
 use Rattle.sqlite.specs.Tree.{rowid}
 use Rattle.dip_desk_state.specs.Rows.{lines}
 use Rattle.dip_store_tables.proofs.ListLemmas.{ascending-map, map-map}
-use Rattle.dip_store_tables.specs.Tables.{BallotRow, ChoiceRow, GameRow, SeatRow, Tables}
+use Rattle.dip_store_tables.specs.Tables.{BallotRow, ChoiceRow, GameRow, Tables}
 use Rattle.dip_store_tables.specs.Renewing.{old_ballot, old_choice, second, voteless}
 use Rattle.dip_store_changes.proofs.Apart.{front_apart}
 use Rattle.dip_store_changes.specs.Parts.{more_ballots}
@@ -25,7 +25,7 @@ use Rattle.dip_store_sql.specs.Causes.{Faulted, IsCaused, has_faulted}
 use Rattle.dip_store_sql.specs.Creating.{create_ballot, create_choice}
 use Rattle.dip_store_sql.specs.Keys.{AreKeyed, Differ, same_ballot, same_choice}
 use Rattle.dip_store_sql.specs.Old.{HasOld, WasGood, nine_schema, old_schema, old_tables_of}
-use Rattle.dip_store_sql.specs.Rows.{put_ballot, put_choice, tables_of, take_ballot, take_choice}
+use Rattle.dip_store_sql.specs.Rows.{put_ballot, put_choice, take_ballot, take_choice}
 use Rattle.dip_store_sql.specs.Schema.{ballot_table, choice_table, desk_table, seat_table}
 use Rattle.dip_store_sql.specs.Storing.{AreSpared, CanStand, Stores, StoresBehind, next_row, second_row, voteless_row}
 use Rattle.dip_store_sql.specs.TablesAfter.{on_desk, on_seats, with_ballot, with_choice}

@@ -1,11 +1,13 @@
 -- Tables of version 1 made into those of version 2.
-use Rattle.std.specs.Prelude.{◌≡◌, ◌⊎◌, ◌==◌, ◌++◌, ℕ, suc, pos, List, [], ◌∷◌, map, codes, if◌then◌else◌}
+use Rattle.std.specs.Prelude.{◌≡◌, ◌≤◌, ◌<◌, ◌^◌, ◌⊎◌, ◌==◌, ◌++◌, ℕ, suc, pos, true, length, List, [], ◌∷◌, map, codes, if◌then◌else◌}
 use Rattle.std.specs.List.{AllByRecursion}
 use Rattle.sqlite.specs.declared.types.Value.TheVariants.{Int}
 use Rattle.sqlite.specs.Order.{Row, bytes, column}
+use Rattle.sqlite.specs.Edit.{id_in}
 use Rattle.sqlite.specs.Effect.{Database}
+use Rattle.sqlite.specs.Ops.{fits_i64}
 use Rattle.sqlite.specs.State.{State}
-use Rattle.sqlite.specs.Tree.{Trees}
+use Rattle.sqlite.specs.Tree.{Trees, rowid}
 use Rattle.dip_map.specs.Charts.{Chart}
 use Rattle.dip_desk_state.specs.State.{State as Content}
 use Rattle.dip_store_tables.specs.Counting.{AreCounted}
@@ -14,7 +16,7 @@ use Rattle.dip_store_looks.specs.Readable.{HasText}
 use Rattle.dip_store_changes.specs.Parts.{more_ballots}
 use Rattle.dip_store_sql.specs.Rows.{number_in, put_ballot, put_choice}
 use Rattle.dip_store_sql.specs.Schema.{ballot_table, choice_table, desk_table, seat_table}
-use Rattle.dip_store_sql.specs.Storing.{CanStand, second_row, voteless_row}
+use Rattle.dip_store_sql.specs.Storing.{CanStand, IsShortDesk, IsShortSeat, second_row, voteless_row}
 use Rattle.dip_store_sql.specs.TablesAfter.{on_desk, on_seats}
 use Rattle.dip_store.specs.Desk.{DeskSays}
 use Rattle.dip_store.specs.Known.{IsOfVersion1}
@@ -85,6 +87,16 @@ pub record HasRoomAnew (db : Trees) : Type 0 where
 -- not each can: one is longer than a store takes, or there is no number left for it
 abbrev pub Outgrows : Trees → Type 0
 Outgrows db = HasRoomAnew db → ⊥
+
+-- each text of theirs that is written anew has at most a hundred million bytes, and the rows' numbers have 64 bits, as do those of seats and games
+pub record AreShort (db : Trees) : Type 0 where
+  pub games : AllByRecursion (λ g. length g.name ≤ 10 ^ 8) (old_tables_of db).games
+  pub seats : AllByRecursion IsShortSeat (old_tables_of db).seats
+  pub desk : AllByRecursion IsShortDesk (old_tables_of db).desk
+  pub seat_numbers : AllByRecursion (λ r. fits_i64 (id_in (rowid r)) ≡ true) (db 4)
+  pub desk_numbers : AllByRecursion (λ r. fits_i64 (id_in (rowid r)) ≡ true) (db 0)
+  pub few_games : length (old_tables_of db).games < 2 ^ 63
+  pub few_seats : length (old_tables_of db).seats < 2 ^ 63
 
 -- the master's row is of version 1 and says this map, and they can't be made anew
 abbrev pub IsTooFullFor : List ℕ → Trees → Type 0

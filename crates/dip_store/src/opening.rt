@@ -13,7 +13,7 @@ ghost use Rattle.dip_store_sql.specs.TablesAfter.{is_first};
 ghost use Rattle.dip_store_sql.specs.Calls.{WasKept, old_tables_in};
 ghost use Rattle.dip_store_tables.specs.Renewing.{WereOurs};
 ghost use Rattle.dip_store.specs.Opening.{IsDesk, IsOldDesk, MayFound, MayRenew, OldEnds, Opens, StoreEnds};
-ghost use Rattle.dip_store.specs.Renewing.{IsLeftOld, IsOldStore, IsTooFullFor, old_said_by};
+ghost use Rattle.dip_store.specs.Renewing.{AreShort, IsLeftOld, IsOldStore, IsTooFullFor, old_said_by};
 ghost use Rattle.dip_store.specs.Refusing.{IsOutage, IsRefused, IsRefusedAs};
 ghost use Rattle.dip_store.specs.Stored.{IsStore, book, fresh_keeper, said_by};
 ghost use Rattle.dip_store_tables.specs.Writing.{new_tables};
@@ -243,6 +243,10 @@ impl<S: Alter> SqlKeeper<S> {
             → IsOldDesk S.Store map.now store
             → e.0 ≡ StoreFault.Disk → has_faulted S.Store store e.1
             ⊎ IsTooFullFor (sha256 map_text.now) (state S.Store store).now.trees) }
+        // So of one whose texts are short it is told only where the store told of a fault.
+        ensures old_short { IfErr result (λ e. is_honest S.Store e.1
+            → IsOldDesk S.Store map.now store → AreShort (state S.Store store).now.trees
+            → e.0 ≡ StoreFault.Disk → has_faulted S.Store store e.1) }
         ensures old_same { IfErr result (λ e. does_show S.Store e.1
             → IsOldStore map.now (state S.Store store).now
             → (state S.Store e.1).committed ≡ (state S.Store store).committed) }

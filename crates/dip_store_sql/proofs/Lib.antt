@@ -27,6 +27,7 @@ pub mod Parts
 pub mod Selecting
 pub mod Stating
 pub mod Storing
+pub mod Short
 pub mod Telling
 pub mod Turned
 pub mod Asked

@@ -1,5 +1,5 @@
 -- Which rows can be stored, and what a statement says of those that it puts into a table.
-use Rattle.std.specs.Prelude.{◌≡◌, true, List, [], ◌∷◌, ◌++◌, Result, OnOk, IfErr}
+use Rattle.std.specs.Prelude.{◌≡◌, ◌≤◌, ◌^◌, true, List, [], ◌∷◌, ◌++◌, length, Result, OnOk, IfErr}
 use Rattle.std.specs.List.{AllByRecursion}
 use Rattle.sqlite.specs.declared.error.Error.{Error}
 use Rattle.sqlite.specs.declared.types.Value.TheVariants.{Int}
@@ -11,7 +11,7 @@ use Rattle.sqlite.specs.State.{State, HasCleanDisk}
 use Rattle.sqlite.specs.Table.{Table}
 use Rattle.sqlite.specs.Tree.{Trees, rowid}
 use Rattle.dip_store_tables.specs.Renewing.{second, voteless}
-use Rattle.dip_store_tables.specs.Tables.{Tables}
+use Rattle.dip_store_tables.specs.Tables.{BallotRow, DeskRow, SeatRow, Tables}
 use Rattle.dip_store_sql.specs.Causes.{Faulted, IsCaused}
 use Rattle.dip_store_sql.specs.Rows.{put_desk, put_seat, tables_of, take_desk, take_seat}
 use Rattle.dip_store_sql.specs.Schema.{our_schema}
@@ -34,6 +34,25 @@ voteless_row r = rowid r ∷ put_seat (voteless (take_seat r))
 
 abbrev pub second_row : Row → Row
 second_row r = rowid r ∷ put_desk (second (take_desk r))
+
+-- the texts of a record have at most a hundred million bytes each
+pub record IsShortBallot (b : BallotRow) : Type 0 where
+  pub game : length b.game ≤ 10 ^ 8
+  pub power : length b.power ≤ 10 ^ 8
+  pub names : length b.names ≤ 10 ^ 8
+
+pub record IsShortSeat (s : SeatRow) : Type 0 where
+  pub game : length s.game ≤ 10 ^ 8
+  pub power : length s.power ≤ 10 ^ 8
+  pub digest : length s.digest ≤ 10 ^ 8
+  pub kept : length s.kept ≤ 10 ^ 8
+  pub reply : length s.reply ≤ 10 ^ 8
+
+pub record IsShortDesk (d : DeskRow) : Type 0 where
+  pub map : length d.map ≤ 10 ^ 8
+  pub digest : length d.digest ≤ 10 ^ 8
+  pub kept : length d.kept ≤ 10 ^ 8
+  pub reply : length d.reply ≤ 10 ^ 8
 
 -- each table but this has the rows that it had
 abbrev pub AreSpared : Table → Trees → Trees → Type 0

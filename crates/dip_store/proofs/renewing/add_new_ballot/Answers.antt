@@ -3,7 +3,6 @@ use Rattle.sqlite.specs.declared.error.Error.{Error}
 use Rattle.sqlite.specs.Held.{state}
 use Rattle.dip_store_tables.specs.Tables.{BallotRow}
 use Rattle.dip_store_sql.proofs.Parts.{fails, went}
-use Rattle.dip_store.specs.Rewriting.{StandsAt}
 use Rattle.dip_store.proofs.Refilling.{BallotIs, ballot_tries}
 use Rattle.dip_store.proofs.Trying.{tries_fails, tries_ok}
 use Rattle.dip_store.proofs.renewing.add_new_ballot.Goals as goal

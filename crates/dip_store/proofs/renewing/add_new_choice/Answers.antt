@@ -1,4 +1,4 @@
-use Rattle.std.proofs.Common.{ℕ, suc, false, rules}
+use Rattle.std.proofs.Common.{ℕ, suc, rules}
 use Rattle.sqlite.specs.declared.error.Error.{Error}
 use Rattle.dip_store_tables.specs.Renewing.{old_choice}
 use Rattle.dip_store_sql.specs.TablesAfter.{with_choice}

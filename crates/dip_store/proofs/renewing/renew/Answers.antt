@@ -5,12 +5,10 @@ use Rattle.dip_desk_state.specs.Rows.{lines}
 use Rattle.dip_store_tables.specs.Renewing.{old_ballot}
 use Rattle.dip_store_sql.specs.Calls.{is_honest, old_tables_in}
 use Rattle.dip_store_sql.specs.Old.{old_tables_of}
-use Rattle.dip_store_sql.proofs.Caused.{faulted_late}
 use Rattle.dip_store.specs.Renewing.{Outgrows}
 use Rattle.dip_store.specs.Faults.{open_fault}
 use Rattle.dip_store.specs.declared.faults.StoreFault.TheVariants.{Disk}
 use Rattle.dip_store.proofs.Refilling.{fault_or_full, read_there}
-use Rattle.dip_store.proofs.Refused.{desk_caused}
 use Rattle.dip_store.proofs.Rewritten.{keeps_renewed, kept_both, kept_first, left_renewed}
 use Rattle.dip_store.proofs.renewing.renew.Goals as goal
 

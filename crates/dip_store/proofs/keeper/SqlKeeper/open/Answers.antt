@@ -1,7 +1,7 @@
 use Rattle.std.proofs.Common.{◌⊎◌, inl, inr, Err, ap, arith, subst, sym, ◌∙◌}
 use Rattle.std.specs.List.{find}
 use Rattle.sha2.specs.Sha256.{sha256}
-use Rattle.sqlite.specs.Held.{Held}
+use Rattle.sqlite.specs.Held.{Held, state}
 use Rattle.dip_store.specs.Desk.{DeskSays}
 use Rattle.dip_store_sql.specs.Calls.{does_show, old_tables_in, tables_in}
 use Rattle.dip_store_sql.specs.Causes.{has_faulted}
@@ -11,11 +11,12 @@ use Rattle.sqlite.specs.Effect.{Database}
 use Rattle.dip_store_sql.specs.Old.{old_tables_of}
 use Rattle.dip_store_tables.specs.Renewing.{WereOurs}
 use Rattle.dip_store.specs.Opening.{MayRenew, Opens}
-use Rattle.dip_store.specs.Renewing.{IsOldStore, IsTooFullFor, old_said_by}
+use Rattle.dip_store.specs.Renewing.{HasRoomAnew, IsOldStore, IsTooFullFor, old_said_by}
 use Rattle.dip_store.specs.Refusing.{IsRefused, IsRefusedAs}
 use Rattle.dip_store.proofs.Opened.{ends_refused, err_turned, faulted_there, has_them, if_err, kept_from, known_there, of_version_1, ok_turned, old_there, opens_old, there}
 use Rattle.dip_store.proofs.Refilling.{decided}
 use Rattle.dip_store.proofs.Refused.{own_outage}
+use Rattle.dip_store.proofs.Short.{short_room}
 use Rattle.dip_store.proofs.Renewal.{desk_still, ends_either, err_all, err_both, has_none, ok_both, same_base, same_store, was_kept}
 use Rattle.dip_store.specs.declared.faults.StoreFault.{StoreFault}
 use Rattle.dip_store.proofs.keeper.SqlKeeper.open.Goals as goal
@@ -199,6 +200,20 @@ returns-then-not-has_ballots-clause-old_caused g c =
     ])
     c.open_old.ensures.caused_of_ours
 
+pub returns-then-not-has_ballots-clause-old_short : goal.returns-then-not-has_ballots-clause-old_short
+returns-then-not-has_ballots-clause-old_short g c =
+    let m = c.args.map.now in
+    let h = c.set_step_limit.new.self in
+    let same = same_store g.S.Store m c.args.store h c.set_step_limit.ensures in
+    err_turned _ _ c.open_old.result (λ e caused clean desk texts is.
+    let shows : does_show g.S.Store h = rw c.set_step_limit.ensures desk.shows in
+    let kept = was_kept g.S.Store m c.args.store desk.wrote h c.set_step_limit.ensures c.is_autocommit.result (c.is_autocommit.ensures.value, c.is_autocommit.ensures.settled, c.if-not-is_autocommit.false, shows) in
+    elim (caused clean kept shows (subst (λ (d : Database). WereOurs m (old_tables_of d.trees)) (sym same) desk.wrote.ours) is) [
+      | inl fault ↦ faulted_there g.S.Store c.args.store h e.1 c.set_step_limit.ensures fault
+      | inr full ↦ absurd (full.1 (subst (λ (d : Database). HasRoomAnew d.trees) (sym same) (short_room (state g.S.Store c.args.store).now desk.wrote.good texts)))
+    ])
+    c.open_old.ensures.caused_of_ours
+
 -- one of version 2 is none of version 1
 pub returns-in-Ok-clause-renewed : goal.returns-in-Ok-clause-renewed
 returns-in-Ok-clause-renewed g c =
@@ -222,3 +237,6 @@ returns-in-Err-clause-old_ends g c clean desk = absurd (has_none g.S.Store c.arg
 
 pub returns-in-Err-clause-old_caused : goal.returns-in-Err-clause-old_caused
 returns-in-Err-clause-old_caused g c clean desk is = absurd (has_none g.S.Store c.args.map.now c.args.store c.set_step_limit.new.self c.set_step_limit.ensures (sym c.has_ballots.ensures.value ∙ c.if-not-has_ballots.false) desk.wrote)
+
+pub returns-in-Err-clause-old_short : goal.returns-in-Err-clause-old_short
+returns-in-Err-clause-old_short g c clean desk texts is = absurd (has_none g.S.Store c.args.map.now c.args.store c.set_step_limit.new.self c.set_step_limit.ensures (sym c.has_ballots.ensures.value ∙ c.if-not-has_ballots.false) desk.wrote)

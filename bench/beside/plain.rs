@@ -46,37 +46,30 @@ fn compress(state: &mut [u32; 8], block: &[u8]) {
 
 fn sha256(parts: &[&[u8]]) -> Sum {
     let mut state = [0x6a09e667, 0xbb67ae85, 0x3c6ef372, 0xa54ff53a, 0x510e527f, 0x9b05688c, 0x1f83d9ab, 0x5be0cd19];
-    let mut tail: Vec<u8> = Vec::with_capacity(128);
-    let mut size = 0u64;
+    let (mut block, mut filled, mut size) = ([0u8; 64], 0, 0u64);
     for part in parts {
         size += part.len() as u64;
         let mut rest = *part;
-        if !tail.is_empty() {
-            let take = rest.len().min(64 - tail.len());
-            tail.extend_from_slice(&rest[..take]);
-            rest = &rest[take..];
-            if tail.len() == 64 {
-                compress(&mut state, &tail);
-                tail.clear();
-            }
+        while filled + rest.len() >= 64 {
+            let (taken, left) = rest.split_at(64 - filled);
+            block[filled..].copy_from_slice(taken);
+            compress(&mut state, &block);
+            (filled, rest) = (0, left);
         }
-        while rest.len() >= 64 {
-            compress(&mut state, &rest[..64]);
-            rest = &rest[64..];
-        }
-        tail.extend_from_slice(rest);
+        block[filled..filled + rest.len()].copy_from_slice(rest);
+        filled += rest.len();
     }
-    tail.push(0x80);
-    while tail.len() % 64 != 56 {
-        tail.push(0);
+    block[filled] = 0x80;
+    block[filled + 1..].fill(0);
+    if filled >= 56 {
+        compress(&mut state, &block);
+        block.fill(0);
     }
-    tail.extend_from_slice(&(size * 8).to_be_bytes());
-    for block in tail.chunks(64) {
-        compress(&mut state, block);
-    }
+    block[56..].copy_from_slice(&(size * 8).to_be_bytes());
+    compress(&mut state, &block);
     let mut sum = [0; 32];
-    for i in 0..8 {
-        sum[4 * i..4 * i + 4].copy_from_slice(&state[i].to_be_bytes());
+    for (bytes, word) in sum.chunks_mut(4).zip(state) {
+        bytes.copy_from_slice(&word.to_be_bytes());
     }
     sum
 }

@@ -1,11 +1,15 @@
 //! A plain judge for letters that need no tick: CREATE, ORDERS, WITHDRAW, PRESS, VOTE, SHOW and INBOX, with all games in memory.
-//! It is what a programmer writes who proves nothing: hash maps, shared nothing, one buffer a reply, one write a reply.
+//! It is what a programmer writes who proves nothing: hash maps, one buffer a reply, one write a reply; with the name of a file each letter is
+//! also one transaction there, but for press, which is kept in memory alone.
 //! `bench/beside/run` compiles it and times it beside the judge, over the same bytes, whose replies have to be the same.
+mod store;
+
 use std::collections::{BTreeMap, HashMap};
 use std::fmt::Write as _;
 use std::fs;
 use std::io::{self, Read, Write};
 use std::os::fd::AsFd;
+use store::{Does, Store, Value};
 
 type Code = [u8; 3];
 type Sum = [u8; 32];
@@ -187,6 +191,7 @@ struct Desk {
     map: Map,
     master: Seat,
     games: HashMap<String, Game>,
+    store: Option<Store>,
 }
 
 fn text(code: &[u8]) -> &str {
@@ -493,6 +498,53 @@ impl Desk {
         author.last = number;
         author.sum = sum;
         author.reply = out[head..].into();
+        if let Some(store) = &self.store {
+            self.save(store, letter, power);
+        }
+    }
+
+    /// One transaction for a letter.
+    fn save(&self, store: &Store, letter: &Letter, power: Option<usize>) {
+        let (name, game) = (letter.game, &self.games[letter.game]);
+        store.run(Does::Begin, &[]);
+        match power {
+            Some(power) => self.save_seat(store, letter, &game.seats[power]),
+            None => {
+                self.save_game(store, name, game);
+                let of = &self.master;
+                store.run(Does::NoteDesk, &[Value::Int(of.last.into()), Value::Bytes(&of.sum), Value::Text(&of.reply)]);
+            }
+        }
+        store.run(Does::Commit, &[]);
+    }
+
+    fn save_seat(&self, store: &Store, letter: &Letter, seat: &Seat) {
+        let (name, power) = (Value::Text(letter.game), Value::Text(letter.sender));
+        let (last, sent, items) = (Value::Int(seat.last.into()), Value::Int(seat.sent.into()), Value::Int(seat.inbox.len() as i64));
+        let row = [name, power, Value::Text(&seat.vote), last, Value::Bytes(&seat.sum), Value::Text(&seat.reply), sent, items];
+        store.run(Does::NoteSeat, &row);
+        if letter.lines[0] == "ORDERS" || letter.lines[0] == "WITHDRAW" {
+            store.run(Does::DropOrders, &row[..2]);
+            for (code, line) in &seat.pending {
+                store.run(Does::AddOrder, &[Value::Text(letter.game), Value::Text(letter.sender), Value::Text(text(code)), Value::Text(line)]);
+            }
+        }
+    }
+
+    fn save_game(&self, store: &Store, name: &str, game: &Game) {
+        let (due, period) = (Value::Int(game.due as i64), Value::Int(game.period.into()));
+        store.run(Does::AddGame, &[Value::Text(name), due, period, Value::Int(game.grey.into())]);
+        for (power, seat) in self.map.powers.iter().zip(&game.seats) {
+            store.run(Does::AddSeat, &[Value::Text(name), Value::Text(power), Value::Bytes(&seat.digest)]);
+        }
+        for (code, unit) in &game.units {
+            let (kind, power) = ([unit.kind], &self.map.powers[unit.power]);
+            let place = [Value::Text(name), Value::Text(text(code)), Value::Text(power), Value::Text(text(&kind)), Value::Text(&unit.coast)];
+            store.run(Does::AddUnit, &place);
+        }
+        for (code, power) in &game.owner {
+            store.run(Does::AddCentre, &[Value::Text(name), Value::Text(text(code)), Value::Text(&self.map.powers[*power])]);
+        }
     }
 }
 
@@ -512,7 +564,8 @@ fn end_of(all: &str) -> usize {
 fn main() {
     let words: Vec<String> = std::env::args().collect();
     let master = Seat::new(digest("desk", "master", &words[2]));
-    let mut desk = Desk { map: read_map(&words[1]), master, games: HashMap::new() };
+    let store = words.get(3).map(|path| Store::new(path));
+    let mut desk = Desk { map: read_map(&words[1]), master, games: HashMap::new(), store };
     let mut input = String::new();
     io::stdin().read_to_string(&mut input).expect("letters in ASCII");
     let mut rest = &input[..];

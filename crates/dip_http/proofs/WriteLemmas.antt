@@ -41,10 +41,6 @@ part_later a b c front text first part = record {
   written = subst (λ (t : List ℕ). Appends a c t) (sym (take-append-add front text part.size)) (Appends-trans a b c _ _ first part.written);
 }
 
-pub of_failed : {E : Type 0} (r : Result (Unit {0}) E) (P : Type 0) → is_err r ≡ true → OnErr r P → P
-of_failed (Ok u) P failed h = absurd (false≢true failed)
-of_failed (Err e) P failed h = h
-
 pub part_weaker : {E : Type 0} (r : Result (Unit {0}) E) (P Q : Type 0) → (P → Q) → OnErr r P → OnErr r Q
 part_weaker (Ok u) P Q f h = tt
 part_weaker (Err e) P Q f h = f h
@@ -52,21 +48,3 @@ part_weaker (Err e) P Q f h = f h
 pub whole_stronger : {E : Type 0} (r : Result (Unit {0}) E) (P Q : Type 0) → (P → Q) → OnOk r P → OnOk r Q
 whole_stronger (Ok u) P Q f h = f h
 whole_stronger (Err e) P Q f h = tt
-
--- a list of texts is those before one of them, that one and those behind it
-one_of : {X : Type 0} (f : X → List ℕ) (xs : List X) (i : ℕ) (d : X) → i < length xs
-    → flat_map f xs ≡ (flat_map f (take i xs) ++ f (get_or xs i d)) ++ flat_map f (drop (i + 1) xs)
-one_of f xs i d inside =
-    let cut = ap (flat_map f) (sym (take-append-drop (i + 1) xs)) ∙ flat_map-append f (take (i + 1) xs) (drop (i + 1) xs) in
-    let front = ap (flat_map f) (take_more xs i d inside) ∙ flat_map-append f (take i xs) (get_or xs i d ∷ [])
-    ∙ ap (λ t. flat_map f (take i xs) ++ t) (append-nil (f (get_or xs i d))) in
-    cut ∙ ap (λ t. t ++ flat_map f (drop (i + 1) xs)) front
-
--- whole texts and a beginning of the next one are a beginning of all
-pub texts_part : {X : Type 0} (a b c : Option (List ℕ)) (f : X → List ℕ) (xs : List X) (i : ℕ) (d : X) → i < length xs
-    → Appends a b (flat_map f (take i xs)) → IsPart b c (f (get_or xs i d)) → IsPart a c (flat_map f xs)
-texts_part a b c f xs i d inside first part =
-    let p = flat_map f (take i xs) in
-    let t = f (get_or xs i d) in
-    let q = flat_map f (drop (i + 1) xs) in
-    subst (λ (s : List ℕ). IsPart a c s) (sym (one_of f xs i d inside)) (part_first a c (p ++ t) q (part_later a b c p t first part))

@@ -5,7 +5,7 @@ ghost use Rattle.std.specs.Io.KnownBytes.{Appends};
 ghost use Rattle.dip_http.specs.Answers.{IsPart, allow_field, head_of};
 ghost use Rattle.dip_http.specs.AnswerViews.{answer_text, head_text};
 
-use dip_streams::write_text;
+use dip_streams::write_texts;
 use http::StatusCode;
 use itoa::Buffer;
 use std::io::Write;
@@ -26,19 +26,17 @@ pub struct Answer {
     pub quiet: bool,
 }
 
-/// Writes texts one behind the other, or a beginning of them.
-fn write_texts<W: Write>(writer: &mut W, texts: &[&str]) -> Result<(), Unwritten>
+/// Writes pieces one behind the other, or a beginning of them.
+fn write_pieces<W: Write>(writer: &mut W, pieces: &[&str]) -> Result<(), Unwritten>
     ensures ok { OnOk result (Appends (W.contents writer.old) (W.contents writer.new)
-        (flat_map (λ t. t.now) texts.entry.now)) }
+        (flat_map (λ t. t.now) pieces.entry.now)) }
     ensures err { OnErr result (IsPart (W.contents writer.old) (W.contents writer.new)
-        (flat_map (λ t. t.now) texts.entry.now)) }
+        (flat_map (λ t. t.now) pieces.entry.now)) }
 {
-    'texts: for text in texts {
-        if write_text(writer, text.as_bytes()).is_err() {
-            return Err(Unwritten);
-        }
+    match write_texts(writer, pieces) {
+        Ok(()) => Ok(()),
+        Err(_) => Err(Unwritten),
     }
-    Ok(())
 }
 
 /// How many bytes texts have together: a number of 128 bits, since one text may stand many times.
@@ -102,7 +100,7 @@ fn write_head<W: Write>(writer: &mut W, answer: &Answer, size: u128) -> Result<(
     let phrase = answer.status.canonical_reason().unwrap_or("");
     let length = digits.format(size);
     let allow = allow_pieces(answer.allow);
-    write_texts(
+    write_pieces(
         writer,
         &head_pieces(status, phrase, answer.kind, length, allow),
     )
@@ -123,5 +121,5 @@ pub fn write_answer<W: Write>(
     if answer.quiet {
         return Ok(());
     }
-    write_texts(writer, body)
+    write_pieces(writer, body)
 }

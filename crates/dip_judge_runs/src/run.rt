@@ -1,6 +1,5 @@
 //! A run over a reader and a writer: letters in, replies out.
 ghost use Rattle.std.specs.Prelude.{◌≡◌, ◌<◌, ◌≤◌, ◌⊎◌, ℕ, List, IfOk, IfErr, IfSome, IfNone, OnOk, OnErr, IsErrOf, length, take as first};
-ghost use Rattle.std.specs.List.{flat_map};
 ghost use Rattle.std.specs.Io.KnownBytes.{Appends};
 ghost use Rattle.dip_letters.specs.Input.{IsNext};
 ghost use Rattle.dip_desk.specs.Keeping.{Ends, IsOpen, WasTold};
@@ -18,7 +17,7 @@ use dip_desk_state::{KeepFault, Reply};
 use dip_letters::{Next, next_letter};
 use dip_map::Map;
 use dip_reports::{reply_pieces, reply_text};
-use dip_streams::write_text;
+use dip_streams::{write_text, write_texts};
 use itoa::Buffer;
 use std::alloc::Global;
 use std::error::Error;
@@ -100,20 +99,6 @@ fn write_piece<W: Write>(writer: &mut W, text: &[u8]) -> Result<(), RunFault>
     }
 }
 
-/// Writes texts one behind the other, or a beginning of them.
-fn write_texts<W: Write>(writer: &mut W, texts: &[&str]) -> Result<(), RunFault>
-    ensures ok { OnOk result (Appends (W.contents writer.old) (W.contents writer.new)
-        (flat_map (λ t. t.now) texts.entry.now)) }
-    ensures err { OnErr result ((size : ℕ) × Appends (W.contents writer.old) (W.contents writer.new)
-        (first size (flat_map (λ t. t.now) texts.entry.now))) }
-    ensures fault { IfErr result (λ f. f ≡ RunFault.Write) }
-{
-    'texts: for text in texts {
-        write_piece(writer, text.as_bytes())?;
-    }
-    Ok(())
-}
-
 /// Writes a reply, or a beginning of it, piece by piece. It needs no memory, so a letter that was taken is answered.
 fn write_pieces<W: Write>(writer: &mut W, reply: &Reply) -> Result<(), RunFault>
     ensures ok { OnOk result (Appends (W.contents writer.old) (W.contents writer.new)
@@ -123,7 +108,10 @@ fn write_pieces<W: Write>(writer: &mut W, reply: &Reply) -> Result<(), RunFault>
     ensures fault { IfErr result (λ f. f ≡ RunFault.Write) }
 {
     let mut digits = Buffer::new();
-    write_texts(writer, &reply_pieces(reply, &mut digits))
+    match write_texts(writer, &reply_pieces(reply, &mut digits)) {
+        Ok(()) => Ok(()),
+        Err(_) => Err(RunFault::Write),
+    }
 }
 
 /// Writes a reply, or a beginning of it: in one write where there is room for its text and the writer takes it whole.

@@ -6,6 +6,7 @@ use Rattle.std.proofs.lemmas.List.Concat.{flat_map-append}
 use Rattle.std.specs.List.{flat_map}
 use Rattle.std.specs.Io.KnownBytes.{Appends}
 use Rattle.std.proofs.KnownBytes.{Appends-trans}
+use Rattle.dip_streams.proofs.TextLemmas.{part_written}
 use Rattle.dip_store.proofs.Numbers.{one_more}
 
 abbrev text : List (List ℕ) → List ℕ
@@ -25,14 +26,7 @@ begun ps n a b out =
 pub begun_more : (ps : List (List ℕ)) (n : ℕ) (t : List ℕ) (size : ℕ) (a b c : Option (List ℕ)) → n < length ps → get_or ps n [] ≡ t → Appends a b (text (take n ps)) → Appends b c (take size t)
     → (k : ℕ) × Appends a c (take k (text ps))
 begun_more ps n t size a b c inside is out part =
-    let done = text (take n ps) in
-    let cut : (done ++ take size t) ++ (drop size t ++ text (drop (n + 1) ps)) ≡ text ps =
-    append_assoc done (take size t) (drop size t ++ text (drop (n + 1) ps))
-    ∙ ap (λ s. done ++ s) (sym (append_assoc (take size t) (drop size t) (text (drop (n + 1) ps))) ∙ ap (λ s. s ++ text (drop (n + 1) ps)) (take-append-drop size t))
-    ∙ sym (append_assoc done t (text (drop (n + 1) ps)))
-    ∙ ap (λ s. s ++ text (drop (n + 1) ps)) (sym (one_more ps n t inside is))
-    ∙ sym (flat_map-append (λ p. p) (take (n + 1) ps) (drop (n + 1) ps)) ∙ ap text (take-append-drop (n + 1) ps) in
-    (length (done ++ take size t), subst (λ (s : List ℕ). Appends a c s) (front _ _ (text ps) cut) (Appends-trans a b c _ _ out part))
+    part_written a b c (λ p. p) ps n [] size inside out (subst (λ (s : List ℕ). Appends b c (take size s)) (sym is) part)
 
 -- one paper more
 pub more : (ps : List (List ℕ)) (n : ℕ) (t : List ℕ) (a b c : Option (List ℕ)) → n < length ps → get_or ps n [] ≡ t → Appends a b (text (take n ps)) → Appends b c t → Appends a c (text (take (n + 1) ps))

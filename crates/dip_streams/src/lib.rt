@@ -3,4 +3,4 @@
 
 mod streams;
 
-pub use streams::{MOST_TRIES, read_some, write_text};
+pub use streams::{MOST_TRIES, read_some, write_text, write_texts};

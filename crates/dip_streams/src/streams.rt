@@ -1,6 +1,7 @@
-//! A read, a write, and a text that is written.
+//! A read, a write, and texts that are written.
 ghost use Rattle.std.specs.Prelude.{◌≡◌, ◌≢◌, ℕ, true, false, OnOk, OnErr, IfErr, take as first};
 ghost use Rattle.std.specs.Io.{ReadsAtMost, WritesAtMost};
+ghost use Rattle.std.specs.List.{flat_map};
 ghost use Rattle.std.specs.Io.KnownBytes.{Appends, ReadConsumes, WriteAppends};
 ghost use Rattle.std.specs.IoError.{error_kind};
 
@@ -85,6 +86,23 @@ pub fn write_text<W: Write>(writer: &mut W, text: &[u8]) -> io::Result<()>
             Ok(count) => at += count,
             Err(error) => return Err(error),
         }
+    }
+    Ok(())
+}
+
+/// Writes texts one behind the other, or a beginning of them.
+///
+/// # Errors
+/// What the writer fails with, as of `write_text`.
+pub fn write_texts<W: Write>(writer: &mut W, texts: &[&str]) -> io::Result<()>
+    ensures ok { OnOk result (Appends (W.contents writer.old) (W.contents writer.new)
+        (flat_map (λ t. t.now) texts.entry.now)) }
+    ensures err { OnErr result ((size : ℕ) × Appends (W.contents writer.old) (W.contents writer.new)
+        (first size (flat_map (λ t. t.now) texts.entry.now))) }
+    ensures retried { IfErr result (λ e. error_kind e ≢ ErrorKind.Interrupted) }
+{
+    'texts: for text in texts {
+        write_text(writer, text.as_bytes())?;
     }
     Ok(())
 }

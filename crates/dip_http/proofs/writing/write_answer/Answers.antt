@@ -15,12 +15,12 @@ returns-in_err-write_head-clause-err g c =
 pub returns-clause-ok : goal.returns-clause-ok
 returns-clause-ok g c =
     let front = rw c.size_of.ensures at c.in_ok-write_head.ensures.ok in
-    rw c.if-answer.false (whole_stronger c.write_texts.result _ _ (λ h. Appends-trans _ _ _ _ _ front h) c.write_texts.ensures.ok)
+    rw c.if-answer.false (whole_stronger c.write_pieces.result _ _ (λ h. Appends-trans _ _ _ _ _ front h) c.write_pieces.ensures.ok)
 
 pub returns-clause-err : goal.returns-clause-err
 returns-clause-err g c =
     let front = rw c.size_of.ensures at c.in_ok-write_head.ensures.ok in
-    rw c.if-answer.false (part_weaker c.write_texts.result _ _ (λ h. part_later _ _ _ _ _ front h) c.write_texts.ensures.err)
+    rw c.if-answer.false (part_weaker c.write_pieces.result _ _ (λ h. part_later _ _ _ _ _ front h) c.write_pieces.ensures.err)
 
 pub returns-then-answer-clause-ok : goal.returns-then-answer-clause-ok
 returns-then-answer-clause-ok g c =

@@ -2,9 +2,13 @@
 use Rattle.std.proofs.Common.{◌≡◌, ℕ, ◌⊎◌, inl, inr, zero, suc, List, [], ◌∷◌, map, refl, sym, subst, arith, ◌≤◌}
 use Rattle.std.specs.Prelude.{◌==◌, Bool, true, false, ◌&&◌, ◌||◌, cond, Contains, count_by}
 use Rattle.std.specs.List.{list_all, list_any}
-use Rattle.std.proofs.lemmas.Bool.{eqb-true, or_cases, or_left, or_right, both_ways, and_parts, and_from, cases_Bool}
+use Rattle.std.proofs.lemmas.Bool.{and_right, eqb-true, or_cases, or_left, or_right, both_ways, and_parts, and_from, cases_Bool}
 use Rattle.std.proofs.lemmas.List.Sums.{sum_by-cons}
 use Rattle.dip_decide.specs.Movement.{is_listed}
+
+-- what is false makes a conjunction false
+pub and_no : (b : Bool) → (b && false) ≡ false
+and_no b = and_right b false refl
 
 -- what holds of each holds of one that is listed
 pub all_at : (t : ℕ → Bool) (ps : List ℕ) (p : ℕ) → list_all t ps ≡ true → is_listed ps p ≡ true → t p ≡ true

@@ -25,6 +25,7 @@ use Rattle.dip_decide_laws.proofs.PlayLemmas.{single}
 use Rattle.dip_decide_laws.proofs.HoldLemmas as hold
 use Rattle.dip_decide_laws.proofs.SilentLemmas.{silenced, unhelped, silent}
 use Rattle.dip_decide_laws.proofs.HoldLemmas.{hold_walks}
+use Rattle.dip_decide_laws.proofs.ListLemmas.{and_no}
 
 -- orders by themselves
 
@@ -92,10 +93,6 @@ stay_alone m p (Retreat to) h = absurd (both_ways false refl h)
 stay_alone m p Disband h = absurd (both_ways false refl h)
 stay_alone m p Build h = absurd (both_ways false refl h)
 stay_alone m p Remove h = absurd (both_ways false refl h)
-
-and_no : (b : Bool) → (b && false) ≡ false
-and_no true = refl
-and_no false = refl
 
 same_either : {X : Type 0} (b : Bool) (x : X) → x ≡ cond b x x
 same_either true x = refl

@@ -11,7 +11,7 @@ use Rattle.dip_decide.specs.Deciding.{Assignment, is_path}
 use Rattle.dip_decide.specs.Movement.{Situation, is_at, goes, has_move, has_path, head_to_head, support, support_against, attack, hold, prevent, opposition, beats, succeeds, move_rule, cuts, is_support, is_entered, serves, joins, path_rule, rule, Satisfies}
 use Rattle.dip_decide_laws.proofs.EquationLemmas as equations
 use Rattle.dip_decide_laws.proofs.HoldLemmas.{made}
-use Rattle.dip_decide_laws.proofs.ListLemmas.{all_alike, any_alike, any_none, count_alike, count_none}
+use Rattle.dip_decide_laws.proofs.ListLemmas.{and_no, all_alike, any_alike, any_none, count_alike, count_none}
 
 -- the unit in p has no move, and nobody helps it
 abbrev pub silenced : Situation → ℕ → Situation
@@ -25,10 +25,6 @@ unhelped s p a (Path x) = a (Path x)
 unhelped s p a (Support h) = a (Support h) && not (s.supports h p)
 
 -- over plain values
-
-and_no : (b : Bool) → (b && false) ≡ false
-and_no true = refl
-and_no false = refl
 
 or_yes : (b : Bool) → (b || true) ≡ true
 or_yes true = refl

@@ -21,7 +21,7 @@ use Rattle.dip_decide.specs.Matching.{Standing, destination, target_of, aim_of, 
 use Rattle.dip_decide.specs.Movement.{Situation, is_at, goes, has_path, is_support, move_rule, path_rule, rule, cuts}
 use Rattle.dip_decide_laws.specs.Words.{IsDecided, prov, held_if, holding, is_in, is_a_support, helps}
 use Rattle.dip_decide_laws.proofs.EquationLemmas.{given_is}
-use Rattle.dip_decide_laws.proofs.ListLemmas.{any_none}
+use Rattle.dip_decide_laws.proofs.ListLemmas.{and_no, any_none}
 use Rattle.dip_decide_laws.proofs.OrderLemmas as order
 use Rattle.dip_decide_laws.proofs.PlayLemmas.{single}
 use Rattle.dip_decide_laws.proofs.HoldLemmas as hold
@@ -86,10 +86,6 @@ support_carries_none m who (Retreat to) p h = refl
 support_carries_none m who Disband p h = refl
 support_carries_none m who Build p h = refl
 support_carries_none m who Remove p h = refl
-
-and_no : (b : Bool) → (b && false) ≡ false
-and_no true = refl
-and_no false = refl
 
 -- nobody there is supported
 nobody_matched : (who : Standing) (r : Order) (p : ℕ) → who p ≡ None → is_matched who r p ≡ false

@@ -22,3 +22,4 @@ pub mod Cases
 pub mod OneAnswer
 pub mod PublicAnswers
 pub mod Posts
+pub mod ServingLemmas

@@ -17,3 +17,4 @@ pub mod Answering
 pub mod Ends
 pub mod Faults
 pub mod Laws
+pub mod Serving

@@ -1,7 +1,8 @@
-//! One connection over HTTP: a request in, an answer out, over any reader, writer and keeper; and one client over a socket.
+//! One connection over HTTP: a request in, an answer out, over any reader, writer and keeper; and clients over a socket, one after the other.
 #![tactic(auto)]
 
 mod answering;
+mod client;
 mod endings;
 mod faults;
 mod fields;
@@ -22,12 +23,13 @@ mod timed;
 mod writing;
 
 pub use answering::answer_one;
+pub use client::{MOST_DROPPED, serve_one};
 pub use faults::HttpFault;
 pub use front::{Asked, Front, MOST_FIELDS, MOST_HEAD, front_of};
 pub use laws::{answers_are_one, connections_are_turns, gets_are_public, posts_are_settled};
 pub use reading::{ReadFault, read_body, read_head};
 pub use refusals::HttpRefusal;
-pub use serving::{MOST_DROPPED, serve_one};
+pub use serving::serve_all;
 pub use size::{MOST_BODY, Size};
 pub use state::state_text;
 pub use timed::{MOST_SECONDS, Timed};

@@ -1,85 +1,120 @@
-//! One client, from its first byte to the end of its socket.
-ghost use Rattle.std.specs.Prelude.{◌<◌, IfErr, IsErrOf, None, OnOk};
-ghost use Rattle.dip_desk.specs.Keeping.{IsOpen};
+//! Clients over a socket, one after the other.
+ghost use Rattle.std.specs.Prelude.{◌≡◌, ◌<◌, ◌≤◌, ◌⊎◌, ℕ, IfErr, IsErrOf, OnOk};
+ghost use Rattle.dip_desk.specs.Keeping.{IsOpen, Rises, WasTold};
+ghost use Rattle.dip_desk_state.specs.Faults.{faults_after};
 ghost use Rattle.dip_desk_machine.specs.Lawful.{IsLawful};
-ghost use Rattle.dip_http.specs.Ends.{Answered, EndsAt, EndsBy, EndsQuietly, Keeps};
+ghost use Rattle.dip_http.specs.Serving.{IsShut, MeetsAt, MeetsOne, Serves, ServesTo};
 
-use crate::answering::answer_one;
+use crate::client::serve_one;
 use crate::faults::HttpFault;
-use crate::timed::{MOST_SECONDS, Timed};
+use crate::laws::connections_are_turns;
 use dip_desk::Keeper;
+use dip_desk_machine::published_movements_are_decided;
 use dip_desk_state::KeepFault;
 use dip_map::Map;
-use dip_streams::read_some;
 use std::alloc::Global;
-use std::io::Read;
-use std::net::{Shutdown, TcpStream};
-use std::time::{Clock, Duration};
+use std::net::TcpListener;
+use std::time::Clock;
 
-/// How many reads, of at most 1,024 bytes each, are made of what a client still sends behind its request.
-pub const MOST_DROPPED: u32 = 64;
-
-/// Reads what a client still sends, and drops it: a socket that is closed with unread bytes takes back the answer.
-fn drop_rest<R: Read>(reader: &mut R) {
-    let mut buffer = [0u8; 1024];
-    'dropping: for _ in 0..MOST_DROPPED {
-        match read_some(reader, &mut buffer) {
-            Ok(0) | Err(_) => return,
-            Ok(_) => {}
-        }
-    }
-}
-
-/// Answers one client: its request has `MOST_SECONDS` to come, and each write of the answer as long to be taken. Then no more is written, and
-/// what the client still sends within its time is dropped, at most `MOST_DROPPED` reads of it, so that the answer reaches it.
+/// Serves the next client. What is wrong with a client, or with taking its call, ends nothing.
 ///
 /// # Errors
-/// Those of `answer_one`: a client that was too slow gives `Read`, and its answer is nothing; a clock or a socket that can't be asked gives `Read`
-/// too. Nothing behind the answer is told of.
-pub fn serve_one<C: Clock, K: Keeper>(
+/// The keeper's fault, but for want of memory, which the client is told of.
+fn serve_next<C: Clock, K: Keeper>(
     alloc: Global,
     clock: &C,
-    stream: &TcpStream,
+    listener: &TcpListener,
     keeper: &mut K,
     map: &Map,
-) -> Result<(), HttpFault>
+) -> Result<(), KeepFault>
     requires { K.book.faults keeper.old < u64.MAX }
-    ensures keeps { Keeps map.now K.book keeper.old keeper.new result }
-    ensures tells { IfErr result (λ f. EndsQuietly f None keeper.old keeper.new None None) }
-    // From an open keeper on, over an honest disk.
-    ensures goes { IsOpen map.now K.book keeper.old → K.book.honest keeper.new → OnOk result
-        (IsOpen map.now K.book keeper.new
-        × Answered map.now None (K.book.content map.now keeper.old)
-        (K.book.content map.now keeper.new) None None) }
-    ensures ends { IsOpen map.now K.book keeper.old → K.book.honest keeper.new → IfErr result
-        (λ f. EndsAt map.now K.book f None keeper.old keeper.new None None) }
-    // Some request was answered as it is to be, as far as the desk goes: what went over the socket
-    // the system alone knows.
-    ensures answered { K.book.sound map.now keeper.old → K.book.shows keeper.new → OnOk result
-        (Answered map.now None (K.book.content map.now keeper.old)
-        (K.book.content map.now keeper.new) None None) }
-    ensures ended { K.book.sound map.now keeper.old → K.book.shows keeper.new → IfErr result
-        (λ f. EndsBy map.now f None (K.book.content map.now keeper.old)
-        (K.book.content map.now keeper.new) None None) }
+    ensures served { K.book.sound map.now keeper.old → K.book.shows keeper.new
+        → MeetsOne map.now (K.book.content map.now keeper.old)
+        (K.book.content map.now keeper.new) }
     ensures lawful { K.book.sound map.now keeper.old → K.book.shows keeper.new
         → IsLawful map.now (K.book.content map.now keeper.old)
         → IsLawful map.now (K.book.content map.now keeper.new) }
     ensures never { K.book.sound map.now keeper.old → K.book.honest keeper.new
         → K.book.shows keeper.old
         → IsLawful map.now (K.book.content map.now keeper.old)
-        → IsErrOf result (HttpFault.Keep KeepFault.Damaged) → ⊥ }
+        → IsErrOf result KeepFault.Damaged → ⊥ }
+    // From an open keeper on, over an honest disk.
+    ensures ends { IsOpen map.now K.book keeper.old → K.book.honest keeper.new
+        → MeetsAt map.now K.book keeper.old keeper.new }
+    ensures fair { K.book.honest keeper.new → K.book.honest keeper.old }
+    ensures failed { IsOpen map.now K.book keeper.old → K.book.honest keeper.new
+        → IsErrOf result KeepFault.Disk → WasTold K.book keeper.old keeper.new }
+    ensures told { K.book.told keeper.old ≤ K.book.told keeper.new }
+    ensures of_size { K.book.of_size keeper.old ≤ K.book.of_size keeper.new }
+    ensures shut { IfErr result IsShut }
+    ensures count { K.book.faults keeper.new ≡ faults_after result (K.book.faults keeper.old) }
+    ensures shown { K.book.shows keeper.new → K.book.shows keeper.old }
+    ensures sound { K.book.sound map.now keeper.old → K.book.shows keeper.new
+        → K.book.sound map.now keeper.new }
 {
-    let Ok(mut reader) = Timed::new(stream, clock) else {
-        return Err(HttpFault::Read);
+    let Ok((stream, _)) = listener.accept() else {
+        return Ok(());
     };
-    let most = Some(Duration::from_secs(MOST_SECONDS));
-    if stream.set_write_timeout(most).is_err() {
-        return Err(HttpFault::Read);
+    match serve_one(alloc, clock, &stream, keeper, map) {
+        Ok(()) => Ok(()),
+        Err(HttpFault::Read) => Ok(()),
+        Err(HttpFault::Write) => Ok(()),
+        Err(HttpFault::Memory) => Ok(()),
+        Err(HttpFault::Keep(KeepFault::Memory)) => Ok(()),
+        Err(HttpFault::Keep(KeepFault::Disk)) => Err(KeepFault::Disk),
+        Err(HttpFault::Keep(KeepFault::Damaged)) => Err(KeepFault::Damaged),
     }
-    let mut writer = stream;
-    let result = answer_one(alloc, &mut reader, &mut writer, keeper, map);
-    if stream.shutdown(Shutdown::Write).is_ok() {
-        drop_rest(&mut reader);
+}
+
+/// Serves so many clients, one after the other; a client whose call can't be taken counts. The letters that they post make one history, whose
+/// replies their answers carry.
+///
+/// # Errors
+/// The keeper's fault, `Disk` or `Damaged`, and then no further client is served.
+pub fn serve_all<C: Clock, K: Keeper>(
+    alloc: Global,
+    clock: &C,
+    listener: &TcpListener,
+    count: u32,
+    keeper: &mut K,
+    map: &Map,
+) -> Result<(), KeepFault>
+    requires { K.book.faults keeper.old < u64.MAX }
+    ensures served { K.book.sound map.now keeper.old → K.book.shows keeper.new
+        → OnOk result (Serves map.now count (K.book.content map.now keeper.old)
+        (K.book.content map.now keeper.new)) }
+    ensures ended { K.book.sound map.now keeper.old → K.book.shows keeper.new
+        → IfErr result (λ _. (n : ℕ) × (n ≤ count)
+        × Serves map.now n (K.book.content map.now keeper.old)
+        (K.book.content map.now keeper.new)) }
+    // From an open keeper on, over an honest disk; `Rises` tells of a fault of the disk that came
+    // with want of memory.
+    ensures goes { IsOpen map.now K.book keeper.old → K.book.honest keeper.new → OnOk result
+        ((IsOpen map.now K.book keeper.new
+        × Serves map.now count (K.book.content map.now keeper.old)
+        (K.book.content map.now keeper.new))
+        ⊎ Rises (K.book.told keeper.old) (K.book.told keeper.new)) }
+    ensures ends { IsOpen map.now K.book keeper.old → K.book.honest keeper.new
+        → ServesTo map.now K.book count keeper.old keeper.new }
+    ensures fair { K.book.honest keeper.new → K.book.honest keeper.old }
+    // From a lawful content on, as an empty desk is, Damaged is never told.
+    ensures never { K.book.sound map.now keeper.old → K.book.honest keeper.new
+        → K.book.shows keeper.new
+        → IsLawful map.now (K.book.content map.now keeper.old)
+        → IsErrOf result KeepFault.Damaged → ⊥ }
+    // The disk is told of only where the store told of a fault.
+    ensures failed { IsOpen map.now K.book keeper.old → K.book.honest keeper.new
+        → IsErrOf result KeepFault.Disk → WasTold K.book keeper.old keeper.new }
+    ensures shut { IfErr result IsShut }
+    ensures count { K.book.faults keeper.new ≡ faults_after result (K.book.faults keeper.old) }
+    ensures shown { K.book.shows keeper.new → K.book.shows keeper.old }
+{
+    connections_are_turns();
+    published_movements_are_decided();
+    let mut served = 0;
+    'clients: while served < count {
+        serve_next(alloc, clock, listener, keeper, map)?;
+        served += 1;
     }
-    result
+    Ok(())
 }

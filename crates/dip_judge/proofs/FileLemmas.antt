@@ -15,7 +15,7 @@ use Rattle.dip_store.specs.Calls.{is_honest}
 use Rattle.dip_store.specs.Opening.{IsDesk, IsOldDesk}
 use Rattle.dip_store.specs.Renewing.{old_said_by}
 use Rattle.dip_store.specs.Stored.{said_by}
-use Rattle.dip_judge.specs.declared.args.Args.{Args}
+use Rattle.dip_judge_words.specs.declared.args.Args.{Args}
 use Rattle.dip_judge.specs.Files.{FromHeld, HeldDesk, HeldOld, LeavesStore, StopsStore, WasOpened}
 use Rattle.dip_judge.specs.declared.failures.Failure.{Failure}
 use Rattle.dip_judge.specs.Stores.{desk_in}

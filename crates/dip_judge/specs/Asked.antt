@@ -2,13 +2,13 @@
 use Rattle.std.specs.Prelude.{◌≡◌, ℕ, List, Option}
 use Rattle.clap.specs.Words.{Text}
 use Rattle.dip_map.specs.Charts.{Chart}
-use Rattle.dip_judge.specs.ArgsGiven.{IsFit, IsGiven, map_named}
-use Rattle.dip_judge.specs.UsageFaults.{IsUsageFault}
-use Rattle.dip_judge.specs.declared.args.Args.{Args}
-use Rattle.dip_judge.specs.declared.args.Args.TheVariants.{Init, Letters, Stored, Serve, Report}
+use Rattle.dip_judge_words.specs.ArgsGiven.{IsFit, IsGiven, map_named}
+use Rattle.dip_judge_words.specs.UsageFaults.{IsUsageFault}
+use Rattle.dip_judge_words.specs.declared.args.Args.{Args}
+use Rattle.dip_judge_words.specs.declared.args.Args.TheVariants.{Init, Letters, Stored, Serve, Report}
 use Rattle.dip_judge_runs.specs.MapFiles.{IsMapOf, IsNoMapOf}
 use Rattle.dip_judge_runs.specs.Runs.{IsReadToEnd}
-use Rattle.dip_judge.specs.Fresh.{AnswersFresh, IsCutShort}
+use Rattle.dip_judge_runs.specs.Fresh.{AnswersFresh, IsCutShort}
 use Rattle.dip_judge.specs.Stores.{IsIdle, IsReportFailure, IsServeFailure, ReadsUpTo}
 use Rattle.dip_judge.specs.declared.failures.Failure.{Failure}
 use Rattle.dip_judge.specs.declared.failures.Failure.TheVariants.{Usage, Map, Store, Run}

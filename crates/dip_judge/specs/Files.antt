@@ -7,14 +7,14 @@ use Rattle.sqlite.specs.Recovery.{Image}
 use Rattle.sqlite.specs.Store.{Ghosts}
 use Rattle.sqlite.specs.Tree.{Trees}
 use Rattle.dip_map.specs.Charts.{Chart}
-use Rattle.dip_judge.specs.declared.args.Args.{Args}
-use Rattle.dip_judge.specs.declared.args.Args.TheVariants.{Init, Letters, Stored, Serve, Report}
+use Rattle.dip_judge_words.specs.declared.args.Args.{Args}
+use Rattle.dip_judge_words.specs.declared.args.Args.TheVariants.{Init, Letters, Stored, Serve, Report}
 use Rattle.dip_desk_state.specs.State.{State}
 use Rattle.dip_store.specs.Calls.{does_show, is_honest}
 use Rattle.dip_store.specs.Opening.{Holds}
 use Rattle.dip_store.specs.Renewing.{IsOldStore, old_said_by}
 use Rattle.dip_store.specs.Stored.{IsStore, said_by}
-use Rattle.dip_judge.specs.Fresh.{fresh_desk}
+use Rattle.dip_judge_runs.specs.Fresh.{fresh_desk}
 use Rattle.dip_judge.specs.Stores.{AnswersFrom, OldStopsFrom, OldStopsReport, OldStopsServing, Reports, ServesFrom, StopsFrom, StopsReport, StopsServing}
 use Rattle.dip_judge.specs.declared.failures.Failure.{Failure}
 

@@ -1,9 +1,3 @@
-pub mod CommandLine
-pub mod ArgsGiven
-pub mod UsageFaults
-pub mod Reading
-pub mod Fresh
-pub mod Serving
 pub mod Stores
 pub mod Failures
 pub mod Files

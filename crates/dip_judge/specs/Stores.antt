@@ -13,7 +13,7 @@ use Rattle.dip_store.specs.declared.faults.StoreFault.TheVariants.{Memory, Disk,
 use Rattle.dip_judge_runs.specs.RunFaults.{StopsBy}
 use Rattle.dip_judge_runs.specs.Runs.{AnswersAll, IsReadWhole, Stops, TakesNext}
 use Rattle.dip_judge_runs.specs.declared.run.RunFault.{RunFault}
-use Rattle.dip_judge.specs.Serving.{IsShut, Serves, TakesOne}
+use Rattle.dip_http.specs.Serving.{IsShut, Serves, TakesOne}
 use Rattle.dip_judge.specs.declared.failures.Failure.{Failure}
 use Rattle.dip_judge.specs.declared.failures.Failure.TheVariants.{Listen, NoGame, Papers, Run, Serving, Store}
 

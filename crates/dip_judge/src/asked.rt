@@ -4,39 +4,17 @@ ghost use Rattle.sqlite.specs.Files.{over_files};
 ghost use Rattle.sqlite.specs.WalFiles.{image_at};
 ghost use Rattle.dip_judge.specs.Asked.{Does, Fails, IsAskedFor, IsDone, IsFailed, IsInitFailure};
 ghost use Rattle.dip_judge.specs.Files.{AnswersIn, AnswersUpTo, LeavesStore, MadeIn, ReportsIn, ServesIn, StopsReportIn, StopsServingIn, StopsStore, UnmadeIn, WasOpened};
-ghost use Rattle.dip_judge.specs.Fresh.{AnswersFresh, IsCutShort};
 ghost use Rattle.dip_judge.specs.Stores.{IsReportFailure, IsServeFailure, ReadsUpTo};
 ghost use Rattle.dip_judge_runs.specs.Runs.{IsReadToEnd};
 
-use crate::args::Args;
 use crate::failures::Failure;
 use crate::files::{Stored, close_file, open_file, open_present};
-use crate::reading::read_args;
 use crate::stored::{answer_stored, make_desk, report_stored, serve_stored};
-use dip_desk::MemoryKeeper;
-use dip_judge_runs::{RunFault, read_map, run_file, text_said};
-use dip_letters::digest;
+use dip_judge_runs::{answer_letters, read_map, text_said};
+use dip_judge_words::{Args, read_args};
 use dip_map::{Map, STANDARD};
 use sqlite::Start;
-use std::alloc::Global;
 use std::io::{Read, Write};
-
-/// Answers the letters of a reader from a fresh desk on, whose master has this secret.
-fn answer_letters<R: Read, W: Write>(
-    alloc: Global,
-    reader: &mut R,
-    writer: &mut W,
-    master: &str,
-    map: &Map,
-) -> Result<(), RunFault>
-    ensures done { OnOk result (AnswersFresh map.now master.now (R.remaining reader.old)
-        (R.remaining reader.new) (W.contents writer.old) (W.contents writer.new)) }
-    ensures cut { IfErr result (λ f. IsCutShort map.now master.now f (R.remaining reader.old)
-        (R.remaining reader.new) (W.contents writer.old) (W.contents writer.new)) }
-{
-    let mut keeper = MemoryKeeper::new(alloc, digest("desk", "master", master));
-    run_file(alloc, reader, writer, &mut keeper, map)
-}
 
 /// Makes a desk in the store of a file, which is handed back where it was opened.
 fn init_file<S: Start>(

@@ -1,13 +1,13 @@
 //! Why the program ends early: its exit status, and what it prints on standard error.
 ghost use Rattle.std.specs.Prelude.{◌≡◌};
-ghost use Rattle.dip_judge.specs.declared.faults.UsageFault.TheVariants.{Memory as no_words};
+ghost use Rattle.dip_judge_words.specs.declared.faults.UsageFault.TheVariants.{Memory as no_words};
 ghost use Rattle.dip_judge.specs.Failures.{exit_status, status_of, words_fault};
-ghost use Rattle.dip_judge.specs.declared.failures.Failure.TheVariants.{Usage, Map, Store, Run, Papers};
+ghost use Rattle.dip_judge.specs.declared.failures.Failure.TheVariants.{Usage};
 ghost use Rattle.std.specs.IoError.{error_kind};
 
-use crate::faults::UsageFault;
 use dip_desk_state::KeepFault;
 use dip_judge_runs::{NoMap, RunFault};
+use dip_judge_words::UsageFault;
 use dip_store::{PaperFault, StoreFault};
 use std::alloc::AllocError;
 use std::{fmt, io};
@@ -87,46 +87,6 @@ impl fmt::Display for Failure {
             Failure::NoGame => f.write_str("dip_judge: no such game\n"),
             Failure::Papers(fault) => write!(f, "dip_judge: {fault}\n"),
         }
-    }
-}
-
-impl From<UsageFault> for Failure {
-    ghost from_gives = { λ fault f. f ≡ Usage fault };
-
-    fn from(fault: UsageFault) -> Failure {
-        Failure::Usage(fault)
-    }
-}
-
-impl From<NoMap> for Failure {
-    ghost from_gives = { λ fault f. f ≡ Map fault };
-
-    fn from(fault: NoMap) -> Failure {
-        Failure::Map(fault)
-    }
-}
-
-impl From<StoreFault> for Failure {
-    ghost from_gives = { λ fault f. f ≡ Store fault };
-
-    fn from(fault: StoreFault) -> Failure {
-        Failure::Store(fault)
-    }
-}
-
-impl From<RunFault> for Failure {
-    ghost from_gives = { λ fault f. f ≡ Run fault };
-
-    fn from(fault: RunFault) -> Failure {
-        Failure::Run(fault)
-    }
-}
-
-impl From<PaperFault> for Failure {
-    ghost from_gives = { λ fault f. f ≡ Papers fault };
-
-    fn from(fault: PaperFault) -> Failure {
-        Failure::Papers(fault)
     }
 }
 

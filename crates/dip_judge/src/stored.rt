@@ -1,7 +1,7 @@
 //! What is done over a store: a desk is made, letters are answered, clients served, a game's papers written out.
 ghost use Rattle.std.specs.Prelude.{◌≡◌, IfErr, OnErr, OnOk};
 ghost use Rattle.sqlite.specs.Held.{state};
-ghost use Rattle.dip_judge.specs.Fresh.{fresh_desk};
+ghost use Rattle.dip_judge_runs.specs.Fresh.{fresh_desk};
 ghost use Rattle.dip_judge.specs.Stores.{AnswersFrom, OldStopsFrom, OldStopsReport, OldStopsServing, IsReportFailure, IsServeFailure, ReadsUpTo, Reports, ServesFrom, StopsFrom, StopsReport, StopsServing, desk_in};
 ghost use Rattle.dip_store.specs.Calls.{does_show, is_honest};
 ghost use Rattle.dip_judge_runs.specs.Runs.{IsReadToEnd};
@@ -12,7 +12,7 @@ ghost use Rattle.dip_store.specs.Stored.{IsStore};
 
 use crate::failures::Failure;
 use crate::listening::Listening;
-use crate::serving::serve_all;
+use dip_http::serve_all;
 use dip_judge_runs::run_file;
 use dip_letters::digest;
 use dip_map::Map;

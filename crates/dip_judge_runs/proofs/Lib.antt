@@ -1,1 +1,2 @@
 pub mod TurnLemmas
+pub mod FreshLemmas

@@ -19,6 +19,7 @@ pub mod Seeing
 pub mod Owning
 pub mod Made
 pub mod Opened
+pub mod Holding
 pub mod Outside
 pub mod Refused
 pub mod Numbers

@@ -1,0 +1,2 @@
+pub mod CommandLineLemmas
+pub mod NumberLemmas

@@ -1,0 +1,4 @@
+pub mod CommandLine
+pub mod ArgsGiven
+pub mod UsageFaults
+pub mod Reading

@@ -1,0 +1,52 @@
+//! What the program is asked to do.
+ghost use Rattle.std.specs.Prelude.{◌≡◌, option_map};
+ghost use Rattle.dip_judge_words.specs.ArgsGiven.{map_named};
+
+/// What the program is asked to do. Each command goes by the map of the file that is named; where none is named by the standard map.
+#[derive(Clone, Copy)]
+pub enum Args<'a> {
+    /// Make the tables in this file, with a master of this secret.
+    Init {
+        store: &'a str,
+        master: &'a str,
+        map: Option<&'a str>,
+    },
+    /// Take letters from standard input, with tables in memory whose master has this secret.
+    Letters {
+        master: &'a str,
+        map: Option<&'a str>,
+    },
+    /// Take letters from standard input, with the tables of this file.
+    Stored {
+        store: &'a str,
+        map: Option<&'a str>,
+    },
+    /// Serve so many connections on this port, with the tables of this file.
+    Serve {
+        store: &'a str,
+        port: u16,
+        count: u32,
+        map: Option<&'a str>,
+    },
+    /// Print all papers of this game, from the tables of this file.
+    Report {
+        store: &'a str,
+        game: &'a str,
+        map: Option<&'a str>,
+    },
+}
+
+impl<'a> Args<'a> {
+    /// The map's file, where one is named.
+    pub fn map(&self) -> Option<&'a str>
+        ensures { option_map (λ file. file.now) result ≡ map_named self.now }
+    {
+        match *self {
+            Args::Init { map, .. } => map,
+            Args::Letters { map, .. } => map,
+            Args::Stored { map, .. } => map,
+            Args::Serve { map, .. } => map,
+            Args::Report { map, .. } => map,
+        }
+    }
+}

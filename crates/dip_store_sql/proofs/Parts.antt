@@ -67,10 +67,6 @@ went X E x = Ok x
 abbrev pub fails : (X E : Type 0) → E → Result X E
 fails X E e = Err e
 
--- a part that fails keeps the commit, whatever it was to do
-pub writes_fail : (X Y E : Type 0) (f h : Tables → Tables) (a b : State) (e : E) → Writes f a b (fails X E e) → Writes h a b (fails Y E e)
-writes_fail X Y E f h a b e p = record { survives = p.survives; keeps = p.keeps; runs = λ clean. tt }
-
 module _ {X Y E : Type 0} (f h k : Tables → Tables) (a b c : State) (same : (t : Tables) → h (f t) ≡ k t) (x : X) where
   -- two parts
   pub writes_then : (r : Result Y E) → Writes f a b (went X E x) → Writes h b c r → Writes k a c r
@@ -101,14 +97,6 @@ writes_as X E f h a b (Err e) same p = record { survives = p.survives; keeps = p
 pub writes_more : (X Y Z : Type 0) (f h k : Tables → Tables) (a b c : State) (x : X) (y : Y) (z : Z) → ((t : Tables) → h (f t) ≡ k t) → Writes f a b (went X Error x) → Writes h b c (went Y Error y) → Writes k a c (went Z Error z)
 writes_more X Y Z f h k a b c x y z same p q = let both = writes_then {X = X} {Y = Y} {E = Error} f h k a b c same x (went Y Error y) p q in record { survives = both.survives; keeps = both.keeps; runs = both.runs }
 
--- a part that fails behind another
-pub writes_broken : (X Y Z : Type 0) (f h k : Tables → Tables) (a b c : State) (x : X) (e : Error) → Writes f a b (went X Error x) → Writes h b c (fails Y Error e) → Writes k a c (fails Z Error e)
-writes_broken X Y Z f h k a b c x e p q = record {
-  survives = survives_then a b c _ _ (λ _. ⊥) (λ _ db none. none) (λ _ db none. none) p.survives q.survives;
-  keeps = λ clean. keeps_then a b c (p.keeps (omega (arith, clean, q.survives.clean))) (q.keeps clean);
-  runs = λ clean. tt;
-}
-
 take_more : {A : Type 0} (xs : List A) (i : ℕ) (d : A) → i < length xs → take (i + 1) xs ≡ take i xs ++ get_or xs i d ∷ []
 take_more [] i d low = absurd (omega (arith, low))
 take_more (x ∷ xs) zero d low = refl
@@ -128,9 +116,6 @@ undone_all a b c keeps back up = (back.undone up).0 ∙ keeps.committed (back.wa
 
 pub undone_base : (a b c : State) → KeepsCommit a b → IsRolledBack b c → IsTrue c.is_open → c.committed ≡ a.committed
 undone_base a b c keeps back up = (back.undone up).1 ∙ keeps.committed (back.was_open up)
-
-pub undone_open : (a b c : State) → KeepsCommit a b → IsRolledBack b c → IsTrue c.is_open → IsTrue a.is_open
-undone_open a b c keeps back up = keeps.was_open (back.was_open up)
 
 -- a commit that fails leaves what was committed
 pub failed_commit : (a b c : State) (e : Error) → IsTrue b.in_transaction → KeepsCommit a b → FailsToCommit b c e → IsTrue c.is_open → c.now ≡ a.committed

@@ -33,6 +33,37 @@ same_choice a b = bytes_eq a.game b.game
 abbrev pub Differ : {A : Type 0} → (A → A → Bool) → List A → Type 0
 Differ same xs = IsAscending (λ a b. same a b ≡ false) xs
 
+-- the same of a table
+abbrev pub DesksDiffer : Tables → Type 0
+DesksDiffer t = Differ same_desk t.desk
+
+abbrev pub GamesDiffer : Tables → Type 0
+GamesDiffer t = Differ same_name t.games
+
+abbrev pub SeatsDiffer : Tables → Type 0
+SeatsDiffer t = Differ same_seat t.seats
+
+abbrev pub UnitsDiffer : Tables → Type 0
+UnitsDiffer t = Differ same_unit t.units
+
+abbrev pub CentresDiffer : Tables → Type 0
+CentresDiffer t = Differ same_centre t.centres
+
+abbrev pub OrdersDiffer : Tables → Type 0
+OrdersDiffer t = Differ same_order t.pending
+
+abbrev pub ItemsDiffer : Tables → Type 0
+ItemsDiffer t = Differ same_item t.boxes
+
+abbrev pub PapersDiffer : Tables → Type 0
+PapersDiffer t = Differ same_paper t.papers
+
+abbrev pub BallotsDiffer : Tables → Type 0
+BallotsDiffer t = Differ same_ballot t.ballots
+
+abbrev pub ChoicesDiffer : Tables → Type 0
+ChoicesDiffer t = Differ same_choice t.choices
+
 pub record AreKeyed (t : Tables) : Type 0 where
   pub desk : Differ same_desk t.desk
   pub games : Differ same_name t.games

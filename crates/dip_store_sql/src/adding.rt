@@ -1,14 +1,12 @@
 //! Rows behind the others of their tables.
 ghost use Rattle.std.specs.Prelude.{◌≡◌, ◌<◌, ◌^◌, [], length};
 ghost use Rattle.sqlite.specs.Held.{state};
-ghost use Rattle.dip_store_tables.specs.Coding.{same_name, same_seat};
-ghost use Rattle.dip_store_sql.specs.Calls.{Writes};
 ghost use Rattle.dip_store_sql.specs.TablesAfter.{new_desk, new_seat, with_centre, with_desk, with_game, with_item, with_order, with_ballot, with_choice, with_paper, with_seat, with_unit};
-ghost use Rattle.dip_store_sql.specs.Keys.{Differ, same_ballot, same_centre, same_choice, same_desk, same_item, same_order, same_paper, same_unit};
+ghost use Rattle.dip_store_sql.specs.Keys.{BallotsDiffer, CentresDiffer, ChoicesDiffer, DesksDiffer, Differ, GamesDiffer, ItemsDiffer, OrdersDiffer, PapersDiffer, SeatsDiffer, UnitsDiffer, same_ballot, same_choice};
 ghost use Rattle.dip_store_sql.specs.Rows.{put_ballot, put_choice};
 ghost use Rattle.dip_store_sql.specs.Schema.{ballot_table, choice_table};
 ghost use Rattle.dip_store_sql.specs.Storing.{StoresBehind, next_row};
-ghost use Rattle.dip_store_sql.specs.Wants.{FailsOutside, Wants};
+ghost use Rattle.dip_store_sql.specs.Wants.{Does, FailsOutside};
 ghost use Rattle.dip_store_sql.specs.RowViews as rows;
 ghost use Rattle.dip_store_tables.specs.Writing.{choice_row};
 
@@ -24,9 +22,7 @@ pub fn add_desk<S: Alter>(
     digest: &[u8],
 ) -> Result<usize, Error>
     ensures same_reference { tx.new.conn.ghost_name ≡ tx.old.conn.ghost_name }
-    ensures writes { Writes (with_desk (new_desk map.now digest.now))
-        (state S.Store tx.old.conn.now) (state S.Store tx.new.conn.now) result }
-    ensures wants { Wants (λ t. Differ same_desk (with_desk (new_desk map.now digest.now) t).desk)
+    ensures does { Does (with_desk (new_desk map.now digest.now)) DesksDiffer
         (state S.Store tx.old.conn.now) (state S.Store tx.new.conn.now) result }
     // A first row of two sums is neither too long to be stored nor without a number.
     ensures first { length map.now ≡ 32 → length digest.now ≡ 32
@@ -43,9 +39,7 @@ pub fn add_desk<S: Alter>(
 pub fn add_game<S: Alter>(tx: &mut Transaction<'_, S>, game: &GameRow<'_>) -> Result<usize, Error>
     requires { game.now.due < 2 ^ 63 }
     ensures same_reference { tx.new.conn.ghost_name ≡ tx.old.conn.ghost_name }
-    ensures writes { Writes (with_game (rows.game game.now))
-        (state S.Store tx.old.conn.now) (state S.Store tx.new.conn.now) result }
-    ensures wants { Wants (λ t. Differ same_name (with_game (rows.game game.now) t).games)
+    ensures does { Does (with_game (rows.game game.now)) GamesDiffer
         (state S.Store tx.old.conn.now) (state S.Store tx.new.conn.now) result }
 {
     tx.execute(
@@ -72,10 +66,7 @@ pub fn add_seat<S: Alter>(
     digest: &[u8],
 ) -> Result<usize, Error>
     ensures same_reference { tx.new.conn.ghost_name ≡ tx.old.conn.ghost_name }
-    ensures writes { Writes (with_seat (new_seat game.now power.now digest.now))
-        (state S.Store tx.old.conn.now) (state S.Store tx.new.conn.now) result }
-    ensures wants { Wants (λ t. Differ same_seat (with_seat
-        (new_seat game.now power.now digest.now) t).seats)
+    ensures does { Does (with_seat (new_seat game.now power.now digest.now)) SeatsDiffer
         (state S.Store tx.old.conn.now) (state S.Store tx.new.conn.now) result }
 {
     tx.execute(
@@ -87,9 +78,7 @@ pub fn add_seat<S: Alter>(
 /// A unit of a game's board.
 pub fn add_unit<S: Alter>(tx: &mut Transaction<'_, S>, unit: &UnitRow<'_>) -> Result<usize, Error>
     ensures same_reference { tx.new.conn.ghost_name ≡ tx.old.conn.ghost_name }
-    ensures writes { Writes (with_unit (rows.unit unit.now))
-        (state S.Store tx.old.conn.now) (state S.Store tx.new.conn.now) result }
-    ensures wants { Wants (λ t. Differ same_unit (with_unit (rows.unit unit.now) t).units)
+    ensures does { Does (with_unit (rows.unit unit.now)) UnitsDiffer
         (state S.Store tx.old.conn.now) (state S.Store tx.new.conn.now) result }
 {
     tx.execute(
@@ -114,12 +103,9 @@ pub fn add_centre<S: Alter>(
     power: &str,
 ) -> Result<usize, Error>
     ensures same_reference { tx.new.conn.ghost_name ≡ tx.old.conn.ghost_name }
-    ensures writes { Writes (with_centre
-        (record { game = game.now; province = province.now; power = power.now }))
-        (state S.Store tx.old.conn.now) (state S.Store tx.new.conn.now) result }
-    ensures wants { Wants (λ t. Differ same_centre (with_centre
-        (record { game = game.now; province = province.now; power = power.now }) t).centres)
-        (state S.Store tx.old.conn.now) (state S.Store tx.new.conn.now) result }
+    ensures does { Does
+        (with_centre (record { game = game.now; province = province.now; power = power.now }))
+        CentresDiffer (state S.Store tx.old.conn.now) (state S.Store tx.new.conn.now) result }
 {
     tx.execute(
         "INSERT INTO centre (game, province, power) VALUES (?1, ?2, ?3)",
@@ -136,13 +122,10 @@ pub fn add_pending<S: Alter>(
     line: &str,
 ) -> Result<usize, Error>
     ensures same_reference { tx.new.conn.ghost_name ≡ tx.old.conn.ghost_name }
-    ensures writes { Writes (with_order
+    ensures does { Does
+        (with_order
         (record { game = game.now; power = power.now; province = province.now; line = line.now }))
-        (state S.Store tx.old.conn.now) (state S.Store tx.new.conn.now) result }
-    ensures wants { Wants (λ t. Differ same_order (with_order (record
-        { game = game.now; power = power.now; province = province.now; line = line.now })
-        t).pending)
-        (state S.Store tx.old.conn.now) (state S.Store tx.new.conn.now) result }
+        OrdersDiffer (state S.Store tx.old.conn.now) (state S.Store tx.new.conn.now) result }
 {
     tx.execute(
         "INSERT INTO pending (game, power, province, line) VALUES (?1, ?2, ?3, ?4)",
@@ -153,9 +136,7 @@ pub fn add_pending<S: Alter>(
 /// An item of a seat's inbox.
 pub fn add_item<S: Alter>(tx: &mut Transaction<'_, S>, item: &ItemRow<'_>) -> Result<usize, Error>
     ensures same_reference { tx.new.conn.ghost_name ≡ tx.old.conn.ghost_name }
-    ensures writes { Writes (with_item (rows.item item.now))
-        (state S.Store tx.old.conn.now) (state S.Store tx.new.conn.now) result }
-    ensures wants { Wants (λ t. Differ same_item (with_item (rows.item item.now) t).boxes)
+    ensures does { Does (with_item (rows.item item.now)) ItemsDiffer
         (state S.Store tx.old.conn.now) (state S.Store tx.new.conn.now) result }
 {
     tx.execute(
@@ -180,11 +161,8 @@ pub fn add_paper<S: Alter>(
     body: &str,
 ) -> Result<usize, Error>
     ensures same_reference { tx.new.conn.ghost_name ≡ tx.old.conn.ghost_name }
-    ensures writes { Writes (with_paper
-        (record { game = game.now; number = number; body = body.now }))
-        (state S.Store tx.old.conn.now) (state S.Store tx.new.conn.now) result }
-    ensures wants { Wants (λ t. Differ same_paper (with_paper
-        (record { game = game.now; number = number; body = body.now }) t).papers)
+    ensures does { Does
+        (with_paper (record { game = game.now; number = number; body = body.now })) PapersDiffer
         (state S.Store tx.old.conn.now) (state S.Store tx.new.conn.now) result }
 {
     tx.execute(
@@ -201,12 +179,9 @@ pub fn add_ballot<S: Alter>(
     names: &str,
 ) -> Result<usize, Error>
     ensures same_reference { tx.new.conn.ghost_name ≡ tx.old.conn.ghost_name }
-    ensures writes { Writes
+    ensures does { Does
         (with_ballot (record { game = game.now; power = power.now; names = names.now }))
-        (state S.Store tx.old.conn.now) (state S.Store tx.new.conn.now) result }
-    ensures wants { Wants (λ t. Differ same_ballot (with_ballot
-        (record { game = game.now; power = power.now; names = names.now }) t).ballots)
-        (state S.Store tx.old.conn.now) (state S.Store tx.new.conn.now) result }
+        BallotsDiffer (state S.Store tx.old.conn.now) (state S.Store tx.new.conn.now) result }
     // A row that can be stored, and has a number, is no reason to fail.
     ensures stores { StoresBehind ballot_table (λ t. Differ same_ballot (with_ballot
         (record { game = game.now; power = power.now; names = names.now }) t).ballots)
@@ -226,10 +201,7 @@ pub fn add_choice<S: Alter>(
     intent: bool,
 ) -> Result<usize, Error>
     ensures same_reference { tx.new.conn.ghost_name ≡ tx.old.conn.ghost_name }
-    ensures writes { Writes (with_choice (choice_row game.now intent))
-        (state S.Store tx.old.conn.now) (state S.Store tx.new.conn.now) result }
-    ensures wants { Wants (λ t. Differ same_choice
-        (with_choice (choice_row game.now intent) t).choices)
+    ensures does { Does (with_choice (choice_row game.now intent)) ChoicesDiffer
         (state S.Store tx.old.conn.now) (state S.Store tx.new.conn.now) result }
     // A row that can be stored, and has a number, is no reason to fail.
     ensures stores { StoresBehind choice_table (λ t. Differ same_choice

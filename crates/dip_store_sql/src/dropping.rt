@@ -1,18 +1,15 @@
 //! No rows of a game, or of a seat.
 ghost use Rattle.std.specs.Prelude.{◌≡◌};
 ghost use Rattle.sqlite.specs.Held.{state};
-ghost use Rattle.dip_store_sql.specs.Calls.{Writes};
 ghost use Rattle.dip_store_sql.specs.TablesAfter.{no_ballots, no_centres, no_choices, no_items, no_orders, no_papers, no_pending, no_seats, no_units};
-ghost use Rattle.dip_store_sql.specs.Wants.{Wants, always};
+ghost use Rattle.dip_store_sql.specs.Wants.{Does, always};
 
 use sqlite::{Alter, Error, Transaction, params};
 
 /// No seat of the game.
 pub fn drop_seats<S: Alter>(tx: &mut Transaction<'_, S>, game: &str) -> Result<usize, Error>
     ensures same_reference { tx.new.conn.ghost_name ≡ tx.old.conn.ghost_name }
-    ensures writes { Writes (no_seats game.now)
-        (state S.Store tx.old.conn.now) (state S.Store tx.new.conn.now) result }
-    ensures wants { Wants always
+    ensures does { Does (no_seats game.now) always
         (state S.Store tx.old.conn.now) (state S.Store tx.new.conn.now) result }
 {
     tx.execute("DELETE FROM seat WHERE game = ?1", params![game])
@@ -21,9 +18,7 @@ pub fn drop_seats<S: Alter>(tx: &mut Transaction<'_, S>, game: &str) -> Result<u
 /// No unit of the game.
 pub fn drop_units<S: Alter>(tx: &mut Transaction<'_, S>, game: &str) -> Result<usize, Error>
     ensures same_reference { tx.new.conn.ghost_name ≡ tx.old.conn.ghost_name }
-    ensures writes { Writes (no_units game.now)
-        (state S.Store tx.old.conn.now) (state S.Store tx.new.conn.now) result }
-    ensures wants { Wants always
+    ensures does { Does (no_units game.now) always
         (state S.Store tx.old.conn.now) (state S.Store tx.new.conn.now) result }
 {
     tx.execute("DELETE FROM unit WHERE game = ?1", params![game])
@@ -32,9 +27,7 @@ pub fn drop_units<S: Alter>(tx: &mut Transaction<'_, S>, game: &str) -> Result<u
 /// No owner of a centre in the game.
 pub fn drop_centres<S: Alter>(tx: &mut Transaction<'_, S>, game: &str) -> Result<usize, Error>
     ensures same_reference { tx.new.conn.ghost_name ≡ tx.old.conn.ghost_name }
-    ensures writes { Writes (no_centres game.now)
-        (state S.Store tx.old.conn.now) (state S.Store tx.new.conn.now) result }
-    ensures wants { Wants always
+    ensures does { Does (no_centres game.now) always
         (state S.Store tx.old.conn.now) (state S.Store tx.new.conn.now) result }
 {
     tx.execute("DELETE FROM centre WHERE game = ?1", params![game])
@@ -43,9 +36,7 @@ pub fn drop_centres<S: Alter>(tx: &mut Transaction<'_, S>, game: &str) -> Result
 /// No standing order in the game.
 pub fn drop_pending<S: Alter>(tx: &mut Transaction<'_, S>, game: &str) -> Result<usize, Error>
     ensures same_reference { tx.new.conn.ghost_name ≡ tx.old.conn.ghost_name }
-    ensures writes { Writes (no_pending game.now)
-        (state S.Store tx.old.conn.now) (state S.Store tx.new.conn.now) result }
-    ensures wants { Wants always
+    ensures does { Does (no_pending game.now) always
         (state S.Store tx.old.conn.now) (state S.Store tx.new.conn.now) result }
 {
     tx.execute("DELETE FROM pending WHERE game = ?1", params![game])
@@ -58,9 +49,7 @@ pub fn drop_orders<S: Alter>(
     power: &str,
 ) -> Result<usize, Error>
     ensures same_reference { tx.new.conn.ghost_name ≡ tx.old.conn.ghost_name }
-    ensures writes { Writes (no_orders game.now power.now)
-        (state S.Store tx.old.conn.now) (state S.Store tx.new.conn.now) result }
-    ensures wants { Wants always
+    ensures does { Does (no_orders game.now power.now) always
         (state S.Store tx.old.conn.now) (state S.Store tx.new.conn.now) result }
 {
     tx.execute(
@@ -72,9 +61,7 @@ pub fn drop_orders<S: Alter>(
 /// No item of an inbox in the game.
 pub fn drop_items<S: Alter>(tx: &mut Transaction<'_, S>, game: &str) -> Result<usize, Error>
     ensures same_reference { tx.new.conn.ghost_name ≡ tx.old.conn.ghost_name }
-    ensures writes { Writes (no_items game.now)
-        (state S.Store tx.old.conn.now) (state S.Store tx.new.conn.now) result }
-    ensures wants { Wants always
+    ensures does { Does (no_items game.now) always
         (state S.Store tx.old.conn.now) (state S.Store tx.new.conn.now) result }
 {
     tx.execute("DELETE FROM box WHERE game = ?1", params![game])
@@ -83,9 +70,7 @@ pub fn drop_items<S: Alter>(tx: &mut Transaction<'_, S>, game: &str) -> Result<u
 /// No paper of the game.
 pub fn drop_papers<S: Alter>(tx: &mut Transaction<'_, S>, game: &str) -> Result<usize, Error>
     ensures same_reference { tx.new.conn.ghost_name ≡ tx.old.conn.ghost_name }
-    ensures writes { Writes (no_papers game.now)
-        (state S.Store tx.old.conn.now) (state S.Store tx.new.conn.now) result }
-    ensures wants { Wants always
+    ensures does { Does (no_papers game.now) always
         (state S.Store tx.old.conn.now) (state S.Store tx.new.conn.now) result }
 {
     tx.execute("DELETE FROM paper WHERE game = ?1", params![game])
@@ -94,9 +79,7 @@ pub fn drop_papers<S: Alter>(tx: &mut Transaction<'_, S>, game: &str) -> Result<
 /// No ballot of the game.
 pub fn drop_ballots<S: Alter>(tx: &mut Transaction<'_, S>, game: &str) -> Result<usize, Error>
     ensures same_reference { tx.new.conn.ghost_name ≡ tx.old.conn.ghost_name }
-    ensures writes { Writes (no_ballots game.now)
-        (state S.Store tx.old.conn.now) (state S.Store tx.new.conn.now) result }
-    ensures wants { Wants always
+    ensures does { Does (no_ballots game.now) always
         (state S.Store tx.old.conn.now) (state S.Store tx.new.conn.now) result }
 {
     tx.execute("DELETE FROM ballot WHERE game = ?1", params![game])
@@ -105,9 +88,7 @@ pub fn drop_ballots<S: Alter>(tx: &mut Transaction<'_, S>, game: &str) -> Result
 /// No choice of the game.
 pub fn drop_choices<S: Alter>(tx: &mut Transaction<'_, S>, game: &str) -> Result<usize, Error>
     ensures same_reference { tx.new.conn.ghost_name ≡ tx.old.conn.ghost_name }
-    ensures writes { Writes (no_choices game.now)
-        (state S.Store tx.old.conn.now) (state S.Store tx.new.conn.now) result }
-    ensures wants { Wants always
+    ensures does { Does (no_choices game.now) always
         (state S.Store tx.old.conn.now) (state S.Store tx.new.conn.now) result }
 {
     tx.execute("DELETE FROM choice WHERE game = ?1", params![game])

@@ -1,12 +1,11 @@
 //! One row written anew, or all of a table.
 ghost use Rattle.std.specs.Prelude.{◌≡◌, ◌<◌, ◌^◌, map as each};
 ghost use Rattle.sqlite.specs.Held.{state};
-ghost use Rattle.dip_store_sql.specs.Calls.{Writes};
 ghost use Rattle.dip_store_sql.specs.TablesAfter.{counting, game_as, named, on_ballot, on_desk, on_game, on_seat, on_seats, secret_as};
 ghost use Rattle.dip_store_tables.specs.Renewing.{second, voteless};
 ghost use Rattle.dip_store_sql.specs.Schema.{desk_table, seat_table};
 ghost use Rattle.dip_store_sql.specs.Storing.{Stores, second_row, voteless_row};
-ghost use Rattle.dip_store_sql.specs.Wants.{Wants, always};
+ghost use Rattle.dip_store_sql.specs.Wants.{Does, always};
 ghost use Rattle.dip_store_sql.specs.RowViews as rows;
 
 use crate::rows::{GameRow, LastLetter, SeatRow};
@@ -20,9 +19,7 @@ pub fn note_desk<S: Alter>(
     letter: &LastLetter<'_>,
 ) -> Result<usize, Error>
     ensures same_reference { tx.new.conn.ghost_name ≡ tx.old.conn.ghost_name }
-    ensures writes { Writes (on_desk (rows.desk_kept letter.now))
-        (state S.Store tx.old.conn.now) (state S.Store tx.new.conn.now) result }
-    ensures wants { Wants always
+    ensures does { Does (on_desk (rows.desk_kept letter.now)) always
         (state S.Store tx.old.conn.now) (state S.Store tx.new.conn.now) result }
 {
     tx.execute(
@@ -39,9 +36,7 @@ pub fn renew_seat<S: Alter>(
     seat: &SeatRow<'_>,
 ) -> Result<usize, Error>
     ensures same_reference { tx.new.conn.ghost_name ≡ tx.old.conn.ghost_name }
-    ensures writes { Writes (on_seat game.now power.now (rows.seat_as seat.now))
-        (state S.Store tx.old.conn.now) (state S.Store tx.new.conn.now) result }
-    ensures wants { Wants always
+    ensures does { Does (on_seat game.now power.now (rows.seat_as seat.now)) always
         (state S.Store tx.old.conn.now) (state S.Store tx.new.conn.now) result }
 {
     tx.execute(
@@ -67,9 +62,7 @@ pub fn note_ballot<S: Alter>(
     names: &str,
 ) -> Result<usize, Error>
     ensures same_reference { tx.new.conn.ghost_name ≡ tx.old.conn.ghost_name }
-    ensures writes { Writes (on_ballot game.now power.now (named names.now))
-        (state S.Store tx.old.conn.now) (state S.Store tx.new.conn.now) result }
-    ensures wants { Wants always
+    ensures does { Does (on_ballot game.now power.now (named names.now)) always
         (state S.Store tx.old.conn.now) (state S.Store tx.new.conn.now) result }
 {
     tx.execute(
@@ -81,9 +74,7 @@ pub fn note_ballot<S: Alter>(
 /// No vote in any seat's row: each is on a ballot.
 pub fn clear_votes<S: Alter>(tx: &mut Transaction<'_, S>) -> Result<usize, Error>
     ensures same_reference { tx.new.conn.ghost_name ≡ tx.old.conn.ghost_name }
-    ensures writes { Writes (on_seats voteless)
-        (state S.Store tx.old.conn.now) (state S.Store tx.new.conn.now) result }
-    ensures wants { Wants always
+    ensures does { Does (on_seats voteless) always
         (state S.Store tx.old.conn.now) (state S.Store tx.new.conn.now) result }
     // Rows that can be stored, and have a number, are no reason to fail.
     ensures stores { Stores seat_table always (λ db. each voteless_row (db 4))
@@ -95,9 +86,7 @@ pub fn clear_votes<S: Alter>(tx: &mut Transaction<'_, S>) -> Result<usize, Error
 /// The tables are of version 2.
 pub fn set_version<S: Alter>(tx: &mut Transaction<'_, S>) -> Result<usize, Error>
     ensures same_reference { tx.new.conn.ghost_name ≡ tx.old.conn.ghost_name }
-    ensures writes { Writes (on_desk second)
-        (state S.Store tx.old.conn.now) (state S.Store tx.new.conn.now) result }
-    ensures wants { Wants always
+    ensures does { Does (on_desk second) always
         (state S.Store tx.old.conn.now) (state S.Store tx.new.conn.now) result }
     // A row that can be stored, and has a number, is no reason to fail.
     ensures stores { Stores desk_table always (λ db. each second_row (db 0))
@@ -114,9 +103,7 @@ pub fn count_item<S: Alter>(
     items: u32,
 ) -> Result<usize, Error>
     ensures same_reference { tx.new.conn.ghost_name ≡ tx.old.conn.ghost_name }
-    ensures writes { Writes (on_seat game.now power.now (counting items))
-        (state S.Store tx.old.conn.now) (state S.Store tx.new.conn.now) result }
-    ensures wants { Wants always
+    ensures does { Does (on_seat game.now power.now (counting items)) always
         (state S.Store tx.old.conn.now) (state S.Store tx.new.conn.now) result }
 {
     tx.execute(
@@ -133,9 +120,7 @@ pub fn replace_digest<S: Alter>(
     digest: &[u8],
 ) -> Result<usize, Error>
     ensures same_reference { tx.new.conn.ghost_name ≡ tx.old.conn.ghost_name }
-    ensures writes { Writes (on_seat game.now power.now (secret_as digest.now))
-        (state S.Store tx.old.conn.now) (state S.Store tx.new.conn.now) result }
-    ensures wants { Wants always
+    ensures does { Does (on_seat game.now power.now (secret_as digest.now)) always
         (state S.Store tx.old.conn.now) (state S.Store tx.new.conn.now) result }
 {
     tx.execute(
@@ -148,9 +133,7 @@ pub fn replace_digest<S: Alter>(
 pub fn renew_game<S: Alter>(tx: &mut Transaction<'_, S>, game: &GameRow<'_>) -> Result<usize, Error>
     requires { game.now.due < 2 ^ 63 }
     ensures same_reference { tx.new.conn.ghost_name ≡ tx.old.conn.ghost_name }
-    ensures writes { Writes (on_game game.now.name.now (game_as (rows.game game.now)))
-        (state S.Store tx.old.conn.now) (state S.Store tx.new.conn.now) result }
-    ensures wants { Wants always
+    ensures does { Does (on_game game.now.name.now (game_as (rows.game game.now))) always
         (state S.Store tx.old.conn.now) (state S.Store tx.new.conn.now) result }
 {
     tx.execute(

@@ -2,20 +2,13 @@ use Rattle.std.proofs.Common.{[], ◌∷◌, refl}
 use Rattle.sqlite.specs.declared.types.Value.TheVariants.{Text as Words}
 use Rattle.dip_store_sql.specs.Statements as text
 use Rattle.dip_store_sql.proofs.Texts as means
-use Rattle.dip_store_sql.specs.TablesAfter.{with_order}
-use Rattle.dip_store_sql.proofs.Parts.{one}
 use Rattle.dip_store_sql.proofs.Stating as made
-use Rattle.dip_store_sql.proofs.Calls.{wants_one}
+use Rattle.dip_store_sql.proofs.Calls.{does_one}
 use Rattle.dip_store_sql.proofs.Wants as want
 use Rattle.dip_store_sql.proofs.adding.add_pending.Goals as goal
 
-pub returns-clause-writes : goal.returns-clause-writes
-returns-clause-writes g c =
-    one g.S.Store text.add_pending_text (Words c.args.game.now ∷ Words c.args.power.now ∷ Words c.args.province.now ∷ Words c.args.line.now ∷ []) (with_order (record { game = c.args.game.now; power = c.args.power.now; province = c.args.province.now; line = c.args.line.now }))
-    c.args.tx.now.conn.now c.execute.new.self.conn.now c.execute.result c.execute.ensures.survives c.execute.ensures.ended
-    (rw (c.params-to_sql.ensures, c.params-to_sql-2.ensures, c.params-to_sql-3.ensures, c.params-to_sql-4.ensures) at c.execute.ensures.runs) (λ count good h. made.add_pending _ _ count good (record { game = c.args.game.now; power = c.args.power.now; province = c.args.province.now; line = c.args.line.now }) h)
-
-pub returns-clause-wants : goal.returns-clause-wants
-returns-clause-wants g c =
-    wants_one text.add_pending_text (Words c.args.game.now ∷ Words c.args.power.now ∷ Words c.args.province.now ∷ Words c.args.line.now ∷ []) _ _ _ _ _ means.add_pending.0 refl c.execute.result (returns-clause-writes g c)
-    (rw (c.params-to_sql.ensures, c.params-to_sql-2.ensures, c.params-to_sql-3.ensures, c.params-to_sql-4.ensures) at c.execute.ensures.runs) (λ e ready may h. want.add_pending _ _ ready.good ready.up ready.unlimited e (record { game = c.args.game.now; power = c.args.power.now; province = c.args.province.now; line = c.args.line.now }) may h)
+pub returns-clause-does : goal.returns-clause-does
+returns-clause-does g c =
+    does_one g.S.Store text.add_pending_text (Words c.args.game.now ∷ Words c.args.power.now ∷ Words c.args.province.now ∷ Words c.args.line.now ∷ []) _ _ c.args.tx.now.conn.now c.execute.new.self.conn.now _ means.add_pending.0 refl c.execute.result c.execute.ensures.survives c.execute.ensures.ended
+    (rw (c.params-to_sql.ensures, c.params-to_sql-2.ensures, c.params-to_sql-3.ensures, c.params-to_sql-4.ensures) at c.execute.ensures.runs)
+    (λ count good h. made.add_pending _ _ count good (record { game = c.args.game.now; power = c.args.power.now; province = c.args.province.now; line = c.args.line.now }) h) (λ e ready keep h. want.add_pending _ _ ready.good ready.up ready.unlimited e (record { game = c.args.game.now; power = c.args.power.now; province = c.args.province.now; line = c.args.line.now }) keep h)

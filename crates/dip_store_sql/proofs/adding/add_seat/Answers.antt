@@ -2,20 +2,13 @@ use Rattle.std.proofs.Common.{[], ◌∷◌, refl}
 use Rattle.sqlite.specs.declared.types.Value.TheVariants.{Text as Words, Blob as Bytes}
 use Rattle.dip_store_sql.specs.Statements as text
 use Rattle.dip_store_sql.proofs.Texts as means
-use Rattle.dip_store_sql.specs.TablesAfter.{new_seat, with_seat}
-use Rattle.dip_store_sql.proofs.Parts.{one}
 use Rattle.dip_store_sql.proofs.Stating as made
-use Rattle.dip_store_sql.proofs.Calls.{wants_one}
+use Rattle.dip_store_sql.proofs.Calls.{does_one}
 use Rattle.dip_store_sql.proofs.Wants as want
 use Rattle.dip_store_sql.proofs.adding.add_seat.Goals as goal
 
-pub returns-clause-writes : goal.returns-clause-writes
-returns-clause-writes g c =
-    one g.S.Store text.add_seat_text (Words c.args.game.now ∷ Words c.args.power.now ∷ Bytes c.args.digest.now ∷ []) (with_seat (new_seat c.args.game.now c.args.power.now c.args.digest.now))
-    c.args.tx.now.conn.now c.execute.new.self.conn.now c.execute.result c.execute.ensures.survives c.execute.ensures.ended
-    (rw (c.params-to_sql.ensures, c.params-to_sql-2.ensures, c.params-to_sql-3.ensures) at c.execute.ensures.runs) (λ count good h. made.add_seat _ _ count good c.args.game.now c.args.power.now c.args.digest.now h)
-
-pub returns-clause-wants : goal.returns-clause-wants
-returns-clause-wants g c =
-    wants_one text.add_seat_text (Words c.args.game.now ∷ Words c.args.power.now ∷ Bytes c.args.digest.now ∷ []) _ _ _ _ _ means.add_seat.0 refl c.execute.result (returns-clause-writes g c)
-    (rw (c.params-to_sql.ensures, c.params-to_sql-2.ensures, c.params-to_sql-3.ensures) at c.execute.ensures.runs) (λ e ready may h. want.add_seat _ _ ready.good ready.up ready.unlimited e c.args.game.now c.args.power.now c.args.digest.now may h)
+pub returns-clause-does : goal.returns-clause-does
+returns-clause-does g c =
+    does_one g.S.Store text.add_seat_text (Words c.args.game.now ∷ Words c.args.power.now ∷ Bytes c.args.digest.now ∷ []) _ _ c.args.tx.now.conn.now c.execute.new.self.conn.now _ means.add_seat.0 refl c.execute.result c.execute.ensures.survives c.execute.ensures.ended
+    (rw (c.params-to_sql.ensures, c.params-to_sql-2.ensures, c.params-to_sql-3.ensures) at c.execute.ensures.runs)
+    (λ count good h. made.add_seat _ _ count good c.args.game.now c.args.power.now c.args.digest.now h) (λ e ready keep h. want.add_seat _ _ ready.good ready.up ready.unlimited e c.args.game.now c.args.power.now c.args.digest.now keep h)

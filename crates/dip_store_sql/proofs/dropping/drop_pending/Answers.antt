@@ -2,20 +2,13 @@ use Rattle.std.proofs.Common.{[], ◌∷◌, refl}
 use Rattle.sqlite.specs.declared.types.Value.TheVariants.{Text as Words}
 use Rattle.dip_store_sql.specs.Statements as text
 use Rattle.dip_store_sql.proofs.Texts as means
-use Rattle.dip_store_sql.specs.TablesAfter.{no_pending}
-use Rattle.dip_store_sql.proofs.Parts.{one}
 use Rattle.dip_store_sql.proofs.Stating as made
-use Rattle.dip_store_sql.proofs.Calls.{wants_one}
+use Rattle.dip_store_sql.proofs.Calls.{does_one}
 use Rattle.dip_store_sql.proofs.Wants as want
 use Rattle.dip_store_sql.proofs.dropping.drop_pending.Goals as goal
 
-pub returns-clause-writes : goal.returns-clause-writes
-returns-clause-writes g c =
-    one g.S.Store text.drop_pending_text (Words c.args.game.now ∷ []) (no_pending c.args.game.now)
-    c.args.tx.now.conn.now c.execute.new.self.conn.now c.execute.result c.execute.ensures.survives c.execute.ensures.ended
-    (rw (c.params-to_sql.ensures) at c.execute.ensures.runs) (λ count good h. made.drop_pending _ _ count good c.args.game.now h)
-
-pub returns-clause-wants : goal.returns-clause-wants
-returns-clause-wants g c =
-    wants_one text.drop_pending_text (Words c.args.game.now ∷ []) _ _ _ _ _ means.drop_pending.0 refl c.execute.result (returns-clause-writes g c)
-    (rw (c.params-to_sql.ensures) at c.execute.ensures.runs) (λ e ready may h. want.drop_pending _ _ ready.good ready.up ready.unlimited e c.args.game.now h)
+pub returns-clause-does : goal.returns-clause-does
+returns-clause-does g c =
+    does_one g.S.Store text.drop_pending_text (Words c.args.game.now ∷ []) _ _ c.args.tx.now.conn.now c.execute.new.self.conn.now _ means.drop_pending.0 refl c.execute.result c.execute.ensures.survives c.execute.ensures.ended
+    (rw (c.params-to_sql.ensures) at c.execute.ensures.runs)
+    (λ count good h. made.drop_pending _ _ count good c.args.game.now h) (λ e ready keep h. want.drop_pending _ _ ready.good ready.up ready.unlimited e c.args.game.now h)

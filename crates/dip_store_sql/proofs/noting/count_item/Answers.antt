@@ -2,20 +2,13 @@ use Rattle.std.proofs.Common.{[], ◌∷◌, pos, refl}
 use Rattle.sqlite.specs.declared.types.Value.TheVariants.{Int, Text as Words}
 use Rattle.dip_store_sql.specs.Statements as text
 use Rattle.dip_store_sql.proofs.Texts as means
-use Rattle.dip_store_sql.specs.TablesAfter.{counting, on_seat}
-use Rattle.dip_store_sql.proofs.Parts.{one}
 use Rattle.dip_store_sql.proofs.Stating as made
-use Rattle.dip_store_sql.proofs.Calls.{wants_one}
+use Rattle.dip_store_sql.proofs.Calls.{does_one}
 use Rattle.dip_store_sql.proofs.Wants as want
 use Rattle.dip_store_sql.proofs.noting.count_item.Goals as goal
 
-pub returns-clause-writes : goal.returns-clause-writes
-returns-clause-writes g c =
-    one g.S.Store text.count_item_text (Words c.args.game.now ∷ Words c.args.power.now ∷ Int (pos c.args.items) ∷ []) (on_seat c.args.game.now c.args.power.now (counting c.args.items))
-    c.args.tx.now.conn.now c.execute.new.self.conn.now c.execute.result c.execute.ensures.survives c.execute.ensures.ended
-    (rw (c.params-to_sql.ensures, c.params-to_sql-2.ensures, c.params-to_sql-3.ensures) at c.execute.ensures.runs) (λ count good h. made.count_item _ _ count good c.args.game.now c.args.power.now c.args.items h)
-
-pub returns-clause-wants : goal.returns-clause-wants
-returns-clause-wants g c =
-    wants_one text.count_item_text (Words c.args.game.now ∷ Words c.args.power.now ∷ Int (pos c.args.items) ∷ []) _ _ _ _ _ means.count_item.0 refl c.execute.result (returns-clause-writes g c)
-    (rw (c.params-to_sql.ensures, c.params-to_sql-2.ensures, c.params-to_sql-3.ensures) at c.execute.ensures.runs) (λ e ready may h. want.count_item _ _ ready.good ready.up ready.unlimited e c.args.game.now c.args.power.now c.args.items h)
+pub returns-clause-does : goal.returns-clause-does
+returns-clause-does g c =
+    does_one g.S.Store text.count_item_text (Words c.args.game.now ∷ Words c.args.power.now ∷ Int (pos c.args.items) ∷ []) _ _ c.args.tx.now.conn.now c.execute.new.self.conn.now _ means.count_item.0 refl c.execute.result c.execute.ensures.survives c.execute.ensures.ended
+    (rw (c.params-to_sql.ensures, c.params-to_sql-2.ensures, c.params-to_sql-3.ensures) at c.execute.ensures.runs)
+    (λ count good h. made.count_item _ _ count good c.args.game.now c.args.power.now c.args.items h) (λ e ready keep h. want.count_item _ _ ready.good ready.up ready.unlimited e c.args.game.now c.args.power.now c.args.items h)

@@ -6,7 +6,6 @@ pub mod Gaming
 pub mod Handing
 pub mod Joining
 pub mod Knowing
-pub mod Outcomes
 pub mod Placing
 pub mod Counted
 pub mod Failing

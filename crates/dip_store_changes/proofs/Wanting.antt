@@ -1,5 +1,5 @@
 -- A transaction of parts fails for want alone where each of its parts does.
-use Rattle.std.proofs.Common.{◌≡◌, ◌≤◌, ℕ, List, true, inl, inr, Ok, Err, Result, IsTrue, IfErr, refl, sym, ap, ◌∙◌, arith}
+use Rattle.std.proofs.Common.{◌≡◌, ℕ, List, true, inl, inr, Ok, Err, Result, IsTrue, IfErr, refl, sym, ap, ◌∙◌, arith}
 use Rattle.dip_store_sql.specs.StoreError.{StoreError}
 use Rattle.dip_store_sql.specs.StoreError.TheVariants.{OutOfMemory, Io, Corrupt, Full, Broken, Unstorable}
 use Rattle.sqlite.specs.declared.error.Error.{Error}
@@ -18,11 +18,11 @@ use Rattle.dip_store_sql.proofs.Caused.{faulted_late}
 use Rattle.dip_store_sql.proofs.Parts.{fails, went}
 use Rattle.dip_store_sql.specs.Keys.{AreKeyed}
 use Rattle.dip_store_sql.specs.Refusals.{IsBlamed, IsWant}
-use Rattle.dip_store_sql.specs.Wants.{IsReady, Wants}
+use Rattle.dip_store_sql.specs.Wants.{Does, IsReady}
 use Rattle.dip_store_sql.proofs.Told.{want_weaker}
 use Rattle.dip_store_changes.specs.declared.delivering.Reader.{Reader}
 use Rattle.dip_store_tables.specs.Changing.{ordering}
-use Rattle.dip_store_changes.specs.Making.{OrdersDiffer, reaching_all}
+use Rattle.dip_store_changes.specs.Making.{GivenOrdersDiffer, reaching_all}
 
 -- an open store fails for want
 caused : (old new : State) (e : Error) (cause : StoreError) → e ≡ store_error cause → HasCause old new ⊥ cause → IsTrue old.is_open → IsWant (Faulted old new) e
@@ -33,7 +33,7 @@ caused old new e Full is why up = inl (inr (ap is_disk_error is, why))
 caused old new e Broken is why up = absurd (let x = sym up ∙ why in cc)
 caused old new e Unstorable is why up = absurd why
 
-module _ {S : Type 0} (g : Ghosts S) (Allow : Tables → Type 0) (old last end : Held S) (kept : IsKept g old) (shows : does_show g old) where
+module _ {S : Type 0} (g : Ghosts S) (f : Tables → Tables) (Keep : Tables → Type 0) (old last end : Held S) (kept : IsKept g old) (shows : does_show g old) where
   abbrev begun : Held S
   begun = record old { in_transaction = true }
 
@@ -41,20 +41,20 @@ module _ {S : Type 0} (g : Ghosts S) (Allow : Tables → Type 0) (old last end :
   ready = record { inside = refl; up = shows.1; unlimited = kept.unlimited; good = kept.good }
 
   -- a part failed
-  pub parts_want : (allow : Allow (tables_in g old)) (X : Type 0) (e : Error) → Wants Allow (state g begun) (state g last) (fails X Error e) → is_honest g last → IsWant (has_faulted g old last) e
-  parts_want allow X e wants clean = wants.fails clean ready allow
+  pub parts_want : (X : Type 0) (e : Error) → Does f Keep (state g begun) (state g last) (fails X Error e) → is_honest g last → Keep (f (tables_in g old)) → IsWant (has_faulted g old last) e
+  parts_want X e parts clean keep = parts.fails clean ready keep
 
-  pub parts_blame : (X : Type 0) (e : Error) → Wants Allow (state g begun) (state g last) (fails X Error e) → is_honest g last → IsBlamed (has_faulted g old last) e
-  parts_blame X e wants clean = wants.blames clean ready
+  pub parts_blame : (X : Type 0) (e : Error) → Does f Keep (state g begun) (state g last) (fails X Error e) → is_honest g last → IsBlamed (has_faulted g old last) e
+  parts_blame X e parts clean = parts.blames clean ready
 
-  -- the parts went well: whatever was allowed, the commit fails for want alone
-  pub commit_wants : (X Y : Type 0) (x : X) (r : Result Y Error) (Commits : Trees → Type 0) → Wants Allow (state g begun) (state g last) (went X Error x) → Survives (state g last) (state g end) Commits
-      → (HasCleanDisk (state g end) → IfErr r (FailsToCommit (state g last) (state g end))) → (state g begun).faults ≤ (state g last).faults → is_honest g end → IfErr r (IsWant (has_faulted g old end))
-  commit_wants X Y x (Ok y) Commits wants survives err counts clean = tt
-  commit_wants X Y x (Err e) Commits wants survives err counts clean =
-      let late = wants.ready (omega (arith, clean, survives.clean)) ready in
+  -- the parts went well: whatever the tables are to be, the commit fails for want alone
+  pub commit_wants : (X Y : Type 0) (x : X) (r : Result Y Error) (Commits : Trees → Type 0) → Does f Keep (state g begun) (state g last) (went X Error x) → Survives (state g last) (state g end) Commits
+      → (HasCleanDisk (state g end) → IfErr r (FailsToCommit (state g last) (state g end))) → is_honest g end → IfErr r (IsWant (has_faulted g old end))
+  commit_wants X Y x (Ok y) Commits parts survives err clean = tt
+  commit_wants X Y x (Err e) Commits parts survives err clean =
+      let late = parts.ready (omega (arith, clean, survives.clean)) ready in
       elim (err clean) [
-        | inl f ↦ want_weaker _ _ e (faulted_late (state g old) (state g last) (state g end) counts) (caused (state g last) (state g end) e f.0 f.1 f.2 late.up)
+        | inl f ↦ want_weaker _ _ e (faulted_late (state g old) (state g last) (state g end) parts.writes.survives.counts) (caused (state g last) (state g end) e f.0 f.1 f.2 late.up)
         | inr out ↦ absurd (let x = sym late.inside ∙ out.1 in cc)
       ]
 
@@ -64,7 +64,7 @@ want_blames fault (Ok y) want = tt
 want_blames fault (Err e) want = want_blamed fault e want
 
 -- behind a change no key comes twice, so none does of its orders
-pub orders_keyed : (rs : List Reader) (m : Chart) (who : Author) (name : List ℕ) (e : Effect) (t : Tables) → AreKeyed (reaching_all rs m name e (ordering m who name e t)) → OrdersDiffer m who name e t
+pub orders_keyed : (rs : List Reader) (m : Chart) (who : Author) (name : List ℕ) (e : Effect) (t : Tables) → AreKeyed (reaching_all rs m name e (ordering m who name e t)) → GivenOrdersDiffer e (ordering m who name e t)
 orders_keyed rs m who name Nothing t keyed = tt
 orders_keyed rs m who name (Pending orders) t keyed = keyed.pending
 orders_keyed rs m who name (Votes vote) t keyed = tt

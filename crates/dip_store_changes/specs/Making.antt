@@ -4,13 +4,13 @@ use Rattle.sqlite.specs.Tree.{Trees}
 use Rattle.sqlite.specs.Store.{Ghosts}
 use Rattle.sqlite.specs.Held.{Held, state}
 use Rattle.dip_map.specs.Charts.{Chart}
-use Rattle.dip_desk_state.specs.State.{Author, Effect, Nothing, Pending, Votes, Delivers, Opens, Publishes, Seats, Change}
-use Rattle.dip_store_tables.specs.Changing.{opening, ordering, ordering_by, publishing, replacing}
+use Rattle.dip_desk_state.specs.State.{Effect, Nothing, Pending, Votes, Delivers, Opens, Publishes, Seats, Change}
+use Rattle.dip_store_tables.specs.Changing.{opening, ordering, publishing, replacing}
 use Rattle.dip_store_tables.specs.Tables.{Tables}
 use Rattle.dip_store_sql.specs.Calls.{IsKept, Lands, does_show, is_honest, tables_in}
 use Rattle.dip_store_sql.specs.Causes.{has_faulted}
 use Rattle.dip_store_sql.specs.Good.{IsGood}
-use Rattle.dip_store_sql.specs.Keys.{Differ, same_order}
+use Rattle.dip_store_sql.specs.Keys.{OrdersDiffer}
 use Rattle.dip_store_changes.specs.Delivering.{delivering_all}
 use Rattle.dip_store_changes.specs.Noting.{noting_row}
 use Rattle.dip_store_changes.specs.declared.delivering.Reader.{Reader}
@@ -26,15 +26,15 @@ reaching_all rs m name (Opens public paper seats) t = opening m public paper sea
 reaching_all rs m name (Publishes public paper played) t = publishing m name public paper played t
 reaching_all rs m name (Seats seat) t = replacing m name seat t
 
--- where the effect gives its author orders, no two of them agree on their key
-abbrev pub OrdersDiffer : Chart → Author → List ℕ → Effect → Tables → Type 0
-OrdersDiffer m who name Nothing t = Unit {0}
-OrdersDiffer m who name (Pending orders) t = Differ same_order (ordering_by m who name orders t).pending
-OrdersDiffer m who name (Votes vote) t = Unit {0}
-OrdersDiffer m who name (Delivers readers item) t = Unit {0}
-OrdersDiffer m who name (Opens public paper seats) t = Unit {0}
-OrdersDiffer m who name (Publishes public paper played) t = Unit {0}
-OrdersDiffer m who name (Seats seat) t = Unit {0}
+-- where the effect gives its author orders, no two orders agree on their key
+abbrev pub GivenOrdersDiffer : Effect → Tables → Type 0
+GivenOrdersDiffer Nothing t = Unit {0}
+GivenOrdersDiffer (Pending orders) t = OrdersDiffer t
+GivenOrdersDiffer (Votes vote) t = Unit {0}
+GivenOrdersDiffer (Delivers readers item) t = Unit {0}
+GivenOrdersDiffer (Opens public paper seats) t = Unit {0}
+GivenOrdersDiffer (Publishes public paper played) t = Unit {0}
+GivenOrdersDiffer (Seats seat) t = Unit {0}
 
 -- a change: its author's row, whose other columns are these, the author's orders, and the effect on the game
 abbrev pub changing_row : Option AuthorRow → List Reader → Chart → Change → Tables → Tables

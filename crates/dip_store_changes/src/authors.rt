@@ -5,9 +5,8 @@ ghost use Rattle.dip_desk_state.specs.ChangeRows as machine;
 ghost use Rattle.dip_desk_state.specs.Rows as records;
 ghost use Rattle.dip_map.specs.Charts.{Chart};
 ghost use Rattle.dip_store_tables.specs.Writing.{as_printed, desk_noted, whole_reply};
-ghost use Rattle.dip_store_sql.specs.Calls.{Writes};
 ghost use Rattle.dip_store_sql.specs.TablesAfter.{on_desk, on_seat};
-ghost use Rattle.dip_store_sql.specs.Wants.{Wants, always};
+ghost use Rattle.dip_store_sql.specs.Wants.{Does, always};
 ghost use Rattle.dip_store_changes.specs.Noting.{NextRowsAreNoted, noting_row, on_row, row_noted};
 
 use crate::known::AuthorRow;
@@ -39,7 +38,7 @@ fn whole_reply(alloc: Global, game: &str, sender: &str, kept: &Kept) -> Result<S
     reply_text(alloc, &reply)
 }
 
-#[tactic(auto, using(crate::proofs::Outcomes::writes_not))]
+#[tactic(auto, using(dip_store_sql::proofs::Joining::does_not))]
 fn note_master<S: Alter>(
     alloc: Global,
     tx: &mut Transaction<'_, S>,
@@ -47,10 +46,8 @@ fn note_master<S: Alter>(
     kept: &Kept,
 ) -> Result<(), Error>
     ensures same_reference { tx.new.conn.ghost_name ≡ tx.old.conn.ghost_name }
-    ensures writes { Writes
-        (on_desk (desk_noted (as_printed game.now (codes "master") (records.kept kept.now))))
-        (state S.Store tx.old.conn.now) (state S.Store tx.new.conn.now) result }
-    ensures wants { Wants always
+    ensures does { Does
+        (on_desk (desk_noted (as_printed game.now (codes "master") (records.kept kept.now)))) always
         (state S.Store tx.old.conn.now) (state S.Store tx.new.conn.now) result }
 {
     let reply = whole_reply(alloc, game, "master", kept)?;
@@ -64,7 +61,7 @@ fn note_master<S: Alter>(
 }
 
 /// The row of a seat with its last letter, and these columns.
-#[tactic(auto, using(crate::proofs::Outcomes::writes_not))]
+#[tactic(auto, using(dip_store_sql::proofs::Joining::does_not))]
 fn note_row<S: Alter>(
     alloc: Global,
     tx: &mut Transaction<'_, S>,
@@ -74,10 +71,9 @@ fn note_row<S: Alter>(
     row: &AuthorRow,
 ) -> Result<(), Error>
     ensures same_reference { tx.new.conn.ghost_name ≡ tx.old.conn.ghost_name }
-    ensures writes { Writes (on_seat game.now power.now
-        (row_noted row.now (as_printed game.now power.now (records.kept kept.now))))
-        (state S.Store tx.old.conn.now) (state S.Store tx.new.conn.now) result }
-    ensures wants { Wants always
+    ensures does { Does
+        (on_seat game.now power.now
+        (row_noted row.now (as_printed game.now power.now (records.kept kept.now)))) always
         (state S.Store tx.old.conn.now) (state S.Store tx.new.conn.now) result }
 {
     let reply = whole_reply(alloc, game, power, kept)?;
@@ -103,11 +99,9 @@ fn note_own<S: Alter>(
     row: Option<AuthorRow>,
 ) -> Result<(), Error>
     ensures same_reference { tx.new.conn.ghost_name ≡ tx.old.conn.ghost_name }
-    ensures writes { Writes (on_row row game.now power.now
-        (as_printed game.now power.now (records.kept kept.now)))
-        (state S.Store tx.old.conn.now) (state S.Store tx.new.conn.now) result }
-    ensures wants { Wants always
-        (state S.Store tx.old.conn.now) (state S.Store tx.new.conn.now) result }
+    ensures does { Does
+        (on_row row game.now power.now (as_printed game.now power.now (records.kept kept.now)))
+        always (state S.Store tx.old.conn.now) (state S.Store tx.new.conn.now) result }
 {
     match row {
         Some(row) => note_row(alloc, tx, game, power, kept, &row),
@@ -124,11 +118,9 @@ pub fn note_author<S: Alter>(
     row: Option<AuthorRow>,
 ) -> Result<(), Error>
     ensures same_reference { tx.new.conn.ghost_name ≡ tx.old.conn.ghost_name }
-    ensures writes { Writes
+    ensures does { Does
         (noting_row row map.now (machine.author change.now.author) (string_bytes change.now.game)
-        (records.kept change.now.kept))
-        (state S.Store tx.old.conn.now) (state S.Store tx.new.conn.now) result }
-    ensures wants { Wants always
+        (records.kept change.now.kept)) always
         (state S.Store tx.old.conn.now) (state S.Store tx.new.conn.now) result }
 {
     let game = change.game.as_str();

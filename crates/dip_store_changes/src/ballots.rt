@@ -6,9 +6,8 @@ ghost use Rattle.dip_desk_state.specs.Rows as records;
 ghost use Rattle.dip_store_tables.specs.Boards.{power_name};
 ghost use Rattle.dip_store_tables.specs.Changing.{with_vote};
 ghost use Rattle.dip_store_tables.specs.Writing.{ballot_row};
-ghost use Rattle.dip_store_sql.specs.Calls.{Writes};
-ghost use Rattle.dip_store_sql.specs.Keys.{Differ, same_ballot, same_choice};
-ghost use Rattle.dip_store_sql.specs.Wants.{Wants, always};
+ghost use Rattle.dip_store_sql.specs.Keys.{BallotsDiffer, ChoicesDiffer};
+ghost use Rattle.dip_store_sql.specs.Wants.{Does, always};
 ghost use Rattle.dip_store_changes.specs.Parts.{VotesDiffer, choosing, more_ballots, with_votes};
 
 use dip_desk_state::{NewSeat, Vote};
@@ -26,12 +25,9 @@ fn add_new_ballot<S: Alter>(
     seat: &NewSeat,
 ) -> Result<(), Error>
     ensures same_reference { tx.new.conn.ghost_name ≡ tx.old.conn.ghost_name }
-    ensures writes { Writes
+    ensures does { Does
         (more_ballots (each (ballot_row map.now game.now) (each machine.new_seat (seat.now ∷ []))))
-        (state S.Store tx.old.conn.now) (state S.Store tx.new.conn.now) result }
-    ensures wants { Wants (λ t. Differ same_ballot (more_ballots
-        (each (ballot_row map.now game.now) (each machine.new_seat (seat.now ∷ []))) t).ballots)
-        (state S.Store tx.old.conn.now) (state S.Store tx.new.conn.now) result }
+        BallotsDiffer (state S.Store tx.old.conn.now) (state S.Store tx.new.conn.now) result }
 {
     add_ballot(tx, game, map.power_name(seat.power), "NO")?;
     Ok(())
@@ -44,12 +40,9 @@ fn add_ballots<S: Alter>(
     seats: &[NewSeat],
 ) -> Result<(), Error>
     ensures same_reference { tx.new.conn.ghost_name ≡ tx.old.conn.ghost_name }
-    ensures writes { Writes
+    ensures does { Does
         (more_ballots (each (ballot_row map.now game.now) (each machine.new_seat seats.now)))
-        (state S.Store tx.old.conn.now) (state S.Store tx.new.conn.now) result }
-    ensures wants { Wants (λ t. Differ same_ballot (more_ballots
-        (each (ballot_row map.now game.now) (each machine.new_seat seats.now)) t).ballots)
-        (state S.Store tx.old.conn.now) (state S.Store tx.new.conn.now) result }
+        BallotsDiffer (state S.Store tx.old.conn.now) (state S.Store tx.new.conn.now) result }
 {
     for seat in seats {
         add_new_ballot(tx, map, game, seat)?;
@@ -64,9 +57,7 @@ pub(crate) fn put_choice<S: Alter>(
     board: &Board,
 ) -> Result<(), Error>
     ensures same_reference { tx.new.conn.ghost_name ≡ tx.old.conn.ghost_name }
-    ensures writes { Writes (choosing game.now board.now.intent)
-        (state S.Store tx.old.conn.now) (state S.Store tx.new.conn.now) result }
-    ensures wants { Wants (λ t. Differ same_choice (choosing game.now board.now.intent t).choices)
+    ensures does { Does (choosing game.now board.now.intent) ChoicesDiffer
         (state S.Store tx.old.conn.now) (state S.Store tx.new.conn.now) result }
 {
     drop_choices(tx, game)?;
@@ -84,11 +75,8 @@ pub(crate) fn open_votes<S: Alter>(
     board: &Board,
 ) -> Result<(), Error>
     ensures same_reference { tx.new.conn.ghost_name ≡ tx.old.conn.ghost_name }
-    ensures writes { Writes
-        (with_votes map.now game.now (each machine.new_seat seats.now) board.now.intent)
-        (state S.Store tx.old.conn.now) (state S.Store tx.new.conn.now) result }
-    ensures wants { Wants (λ t. VotesDiffer
-        (with_votes map.now game.now (each machine.new_seat seats.now) board.now.intent t))
+    ensures does { Does
+        (with_votes map.now game.now (each machine.new_seat seats.now) board.now.intent) VotesDiffer
         (state S.Store tx.old.conn.now) (state S.Store tx.new.conn.now) result }
 {
     drop_ballots(tx, game)?;
@@ -98,7 +86,7 @@ pub(crate) fn open_votes<S: Alter>(
 }
 
 /// The ballot of the power's seat says this vote.
-#[tactic(auto, using(crate::proofs::Outcomes::writes_not))]
+#[tactic(auto, using(dip_store_sql::proofs::Joining::does_not))]
 pub(crate) fn put_vote<S: Alter>(
     alloc: Global,
     tx: &mut Transaction<'_, S>,
@@ -108,10 +96,8 @@ pub(crate) fn put_vote<S: Alter>(
     vote: &Vote,
 ) -> Result<(), Error>
     ensures same_reference { tx.new.conn.ghost_name ≡ tx.old.conn.ghost_name }
-    ensures writes { Writes
-        (with_vote map.now game.now (power_name map.now power) (records.vote vote.now))
-        (state S.Store tx.old.conn.now) (state S.Store tx.new.conn.now) result }
-    ensures wants { Wants always
+    ensures does { Does
+        (with_vote map.now game.now (power_name map.now power) (records.vote vote.now)) always
         (state S.Store tx.old.conn.now) (state S.Store tx.new.conn.now) result }
 {
     let text = ballot_text(alloc, map, vote)?;

@@ -2,9 +2,8 @@
 ghost use Rattle.std.specs.Prelude.{◌≡◌, map as each, length, [], ◌∷◌};
 ghost use Rattle.sqlite.specs.Held.{state};
 ghost use Rattle.dip_store_tables.specs.Boards.{centre_rows_from, coast_text, dislodged_row, origin_text, kind_number, standing_row};
-ghost use Rattle.dip_store_sql.specs.Calls.{Writes};
-ghost use Rattle.dip_store_sql.specs.Keys.{Differ, same_centre, same_unit};
-ghost use Rattle.dip_store_sql.specs.Wants.{Wants};
+ghost use Rattle.dip_store_sql.specs.Keys.{CentresDiffer, UnitsDiffer};
+ghost use Rattle.dip_store_sql.specs.Wants.{Does};
 ghost use Rattle.dip_store_changes.specs.Parts.{BoardsDiffer, more_centres, more_units, with_board};
 
 use dip_map::{Board, Dislodged, Map};
@@ -46,10 +45,7 @@ fn add_standing<'r, S: Alter>(
     unit: &Unit,
 ) -> Result<(), Error>
     ensures same_reference { tx.new.conn.ghost_name ≡ tx.old.conn.ghost_name }
-    ensures writes { Writes (more_units (standing_row map.now game.now unit.now ∷ []))
-        (state S.Store tx.old.conn.now) (state S.Store tx.new.conn.now) result }
-    ensures wants { Wants (λ t. Differ same_unit
-        (more_units (standing_row map.now game.now unit.now ∷ []) t).units)
+    ensures does { Does (more_units (standing_row map.now game.now unit.now ∷ [])) UnitsDiffer
         (state S.Store tx.old.conn.now) (state S.Store tx.new.conn.now) result }
 {
     let row = UnitRow {
@@ -72,10 +68,7 @@ fn add_dislodged<'r, S: Alter>(
     dislodged: &Dislodged,
 ) -> Result<(), Error>
     ensures same_reference { tx.new.conn.ghost_name ≡ tx.old.conn.ghost_name }
-    ensures writes { Writes (more_units (dislodged_row map.now game.now dislodged.now ∷ []))
-        (state S.Store tx.old.conn.now) (state S.Store tx.new.conn.now) result }
-    ensures wants { Wants (λ t. Differ same_unit
-        (more_units (dislodged_row map.now game.now dislodged.now ∷ []) t).units)
+    ensures does { Does (more_units (dislodged_row map.now game.now dislodged.now ∷ [])) UnitsDiffer
         (state S.Store tx.old.conn.now) (state S.Store tx.new.conn.now) result }
 {
     let unit = &dislodged.unit;
@@ -99,10 +92,7 @@ fn add_standings<S: Alter>(
     units: &[Unit],
 ) -> Result<(), Error>
     ensures same_reference { tx.new.conn.ghost_name ≡ tx.old.conn.ghost_name }
-    ensures writes { Writes (more_units (each (standing_row map.now game.now) units.now))
-        (state S.Store tx.old.conn.now) (state S.Store tx.new.conn.now) result }
-    ensures wants { Wants (λ t. Differ same_unit
-        (more_units (each (standing_row map.now game.now) units.now) t).units)
+    ensures does { Does (more_units (each (standing_row map.now game.now) units.now)) UnitsDiffer
         (state S.Store tx.old.conn.now) (state S.Store tx.new.conn.now) result }
 {
     for unit in units {
@@ -118,10 +108,7 @@ fn add_fallen<S: Alter>(
     units: &[Dislodged],
 ) -> Result<(), Error>
     ensures same_reference { tx.new.conn.ghost_name ≡ tx.old.conn.ghost_name }
-    ensures writes { Writes (more_units (each (dislodged_row map.now game.now) units.now))
-        (state S.Store tx.old.conn.now) (state S.Store tx.new.conn.now) result }
-    ensures wants { Wants (λ t. Differ same_unit
-        (more_units (each (dislodged_row map.now game.now) units.now) t).units)
+    ensures does { Does (more_units (each (dislodged_row map.now game.now) units.now)) UnitsDiffer
         (state S.Store tx.old.conn.now) (state S.Store tx.new.conn.now) result }
 {
     for unit in units {
@@ -138,10 +125,8 @@ fn add_owned<S: Alter>(
     owner: Option<Power>,
 ) -> Result<(), Error>
     ensures same_reference { tx.new.conn.ghost_name ≡ tx.old.conn.ghost_name }
-    ensures writes { Writes (more_centres (centre_rows_from map.now game.now prov (owner ∷ [])))
-        (state S.Store tx.old.conn.now) (state S.Store tx.new.conn.now) result }
-    ensures wants { Wants (λ t. Differ same_centre
-        (more_centres (centre_rows_from map.now game.now prov (owner ∷ [])) t).centres)
+    ensures does { Does
+        (more_centres (centre_rows_from map.now game.now prov (owner ∷ []))) CentresDiffer
         (state S.Store tx.old.conn.now) (state S.Store tx.new.conn.now) result }
 {
     match owner {
@@ -161,10 +146,8 @@ fn add_owners<S: Alter>(
 ) -> Result<(), Error>
     requires { length owners.now ≡ length map.now.provinces }
     ensures same_reference { tx.new.conn.ghost_name ≡ tx.old.conn.ghost_name }
-    ensures writes { Writes (more_centres (centre_rows_from map.now game.now 0 owners.now))
-        (state S.Store tx.old.conn.now) (state S.Store tx.new.conn.now) result }
-    ensures wants { Wants (λ t. Differ same_centre
-        (more_centres (centre_rows_from map.now game.now 0 owners.now) t).centres)
+    ensures does { Does
+        (more_centres (centre_rows_from map.now game.now 0 owners.now)) CentresDiffer
         (state S.Store tx.old.conn.now) (state S.Store tx.new.conn.now) result }
 {
     map.facts();
@@ -183,9 +166,7 @@ pub fn put_board<S: Alter>(
 ) -> Result<(), Error>
     requires { length board.now.owners ≡ length map.now.provinces }
     ensures same_reference { tx.new.conn.ghost_name ≡ tx.old.conn.ghost_name }
-    ensures writes { Writes (with_board map.now game.now board.now)
-        (state S.Store tx.old.conn.now) (state S.Store tx.new.conn.now) result }
-    ensures wants { Wants (λ t. BoardsDiffer (with_board map.now game.now board.now t))
+    ensures does { Does (with_board map.now game.now board.now) BoardsDiffer
         (state S.Store tx.old.conn.now) (state S.Store tx.new.conn.now) result }
 {
     drop_units(tx, game)?;

@@ -4,9 +4,8 @@ ghost use Rattle.sqlite.specs.Held.{state};
 ghost use Rattle.dip_map.specs.Charts.{Chart};
 ghost use Rattle.dip_desk_state.specs.Bounds.{most_items};
 ghost use Rattle.dip_desk_state.specs.Rows as records;
-ghost use Rattle.dip_store_sql.specs.Calls.{Writes};
-ghost use Rattle.dip_store_sql.specs.Keys.{Differ, same_item};
-ghost use Rattle.dip_store_sql.specs.Wants.{Wants};
+ghost use Rattle.dip_store_sql.specs.Keys.{ItemsDiffer};
+ghost use Rattle.dip_store_sql.specs.Wants.{Does};
 ghost use Rattle.dip_store_changes.specs.Delivering.{ReadersAreSeats, boxed, delivering_all, delivering_rows, delivering_to, putting};
 
 use crate::items::{ItemTexts, item_texts};
@@ -32,11 +31,8 @@ fn put_item<'r, S: Alter>(
     item: &'r ItemTexts,
 ) -> Result<(), Error>
     ensures same_reference { tx.new.conn.ghost_name ≡ tx.old.conn.ghost_name }
-    ensures writes { Writes
-        (putting game.now power.now (boxed game.now power.now number item.now) number)
-        (state S.Store tx.old.conn.now) (state S.Store tx.new.conn.now) result }
-    ensures wants { Wants (λ t. Differ same_item
-        (putting game.now power.now (boxed game.now power.now number item.now) number t).boxes)
+    ensures does { Does
+        (putting game.now power.now (boxed game.now power.now number item.now) number) ItemsDiffer
         (state S.Store tx.old.conn.now) (state S.Store tx.new.conn.now) result }
 {
     count_item(tx, game, power, number)?;
@@ -62,12 +58,9 @@ fn put_to<'r, S: Alter>(
 ) -> Result<(), Error>
     requires { reader.now.items < most_items }
     ensures same_reference { tx.new.conn.ghost_name ≡ tx.old.conn.ghost_name }
-    ensures writes { Writes
+    ensures does { Does
         (delivering_to map.now game.now (λ power n. boxed game.now power n item.now) reader.now)
-        (state S.Store tx.old.conn.now) (state S.Store tx.new.conn.now) result }
-    ensures wants { Wants (λ t. Differ same_item (delivering_to map.now game.now
-        (λ power n. boxed game.now power n item.now) reader.now t).boxes)
-        (state S.Store tx.old.conn.now) (state S.Store tx.new.conn.now) result }
+        ItemsDiffer (state S.Store tx.old.conn.now) (state S.Store tx.new.conn.now) result }
 {
     put_item(
         tx,
@@ -87,12 +80,9 @@ fn put_all<S: Alter>(
 ) -> Result<(), Error>
     requires { All (λ r. r.items < most_items) readers.now }
     ensures same_reference { tx.new.conn.ghost_name ≡ tx.old.conn.ghost_name }
-    ensures writes { Writes
+    ensures does { Does
         (delivering_rows map.now game.now (λ power n. boxed game.now power n item.now) readers.now)
-        (state S.Store tx.old.conn.now) (state S.Store tx.new.conn.now) result }
-    ensures wants { Wants (λ t. Differ same_item (delivering_rows map.now game.now
-        (λ power n. boxed game.now power n item.now) readers.now t).boxes)
-        (state S.Store tx.old.conn.now) (state S.Store tx.new.conn.now) result }
+        ItemsDiffer (state S.Store tx.old.conn.now) (state S.Store tx.new.conn.now) result }
 {
     for reader in readers {
         put_to(tx, map, game, reader, item)?;
@@ -101,7 +91,7 @@ fn put_all<S: Alter>(
 }
 
 /// Each reader's seat counts the item, and its inbox has it.
-#[tactic(auto, using(crate::proofs::Outcomes::writes_not))]
+#[tactic(auto, using(dip_store_sql::proofs::Joining::does_not))]
 pub fn deliver<S: Alter>(
     alloc: Global,
     tx: &mut Transaction<'_, S>,
@@ -112,11 +102,8 @@ pub fn deliver<S: Alter>(
 ) -> Result<(), Error>
     requires { All (λ r. r.items < most_items) readers.now }
     ensures same_reference { tx.new.conn.ghost_name ≡ tx.old.conn.ghost_name }
-    ensures writes { Writes
-        (delivering_all map.now game.now (records.item item.now) readers.now)
-        (state S.Store tx.old.conn.now) (state S.Store tx.new.conn.now) result }
-    ensures wants { Wants (λ t. Differ same_item
-        (delivering_all map.now game.now (records.item item.now) readers.now t).boxes)
+    ensures does { Does
+        (delivering_all map.now game.now (records.item item.now) readers.now) ItemsDiffer
         (state S.Store tx.old.conn.now) (state S.Store tx.new.conn.now) result }
 {
     let texts = item_texts(alloc, item)?;

@@ -6,12 +6,10 @@ ghost use Rattle.dip_store_tables.specs.Boards.{season_number};
 ghost use Rattle.dip_desk_state.specs.ChangeRows as machine;
 ghost use Rattle.dip_desk_state.specs.Rows as records;
 ghost use Rattle.dip_store_tables.specs.Changing.{opening, publishing};
-ghost use Rattle.dip_store_tables.specs.Coding.{same_name};
 ghost use Rattle.dip_store_tables.specs.Writing.{game_row, number_of};
-ghost use Rattle.dip_store_sql.specs.Calls.{Writes};
-ghost use Rattle.dip_store_sql.specs.TablesAfter.{game_as, no_pending, on_game, with_game};
-ghost use Rattle.dip_store_sql.specs.Keys.{AreKeyed, Differ};
-ghost use Rattle.dip_store_sql.specs.Wants.{Wants, always};
+ghost use Rattle.dip_store_sql.specs.TablesAfter.{game_as, on_game, with_game};
+ghost use Rattle.dip_store_sql.specs.Keys.{AreKeyed, GamesDiffer};
+ghost use Rattle.dip_store_sql.specs.Wants.{Does, always};
 ghost use Rattle.dip_store_sql.specs.RowViews as rows;
 ghost use Rattle.dip_store_changes.specs.Parts.{cleared, pending_left};
 
@@ -66,7 +64,7 @@ fn game_row<'r>(name: &'r str, public: &Public, status: &'r str, standoff: &'r s
     }
 }
 
-#[tactic(auto, using(crate::proofs::Outcomes::writes_not))]
+#[tactic(auto, using(dip_store_sql::proofs::Joining::does_not))]
 fn open_row<S: Alter>(
     alloc: Global,
     tx: &mut Transaction<'_, S>,
@@ -75,12 +73,9 @@ fn open_row<S: Alter>(
 ) -> Result<(), Error>
     requires { public.now.due < 2 ^ 63 }
     ensures same_reference { tx.new.conn.ghost_name ≡ tx.old.conn.ghost_name }
-    ensures writes { Writes
+    ensures does { Does
         (with_game (game_row map.now (string_bytes public.now.game) (records.public public.now)))
-        (state S.Store tx.old.conn.now) (state S.Store tx.new.conn.now) result }
-    ensures wants { Wants (λ t. Differ same_name (with_game
-        (game_row map.now (string_bytes public.now.game) (records.public public.now)) t).games)
-        (state S.Store tx.old.conn.now) (state S.Store tx.new.conn.now) result }
+        GamesDiffer (state S.Store tx.old.conn.now) (state S.Store tx.new.conn.now) result }
 {
     let status = status_text(alloc, map, &public.status)?;
     let standoff = standoff_text(alloc, map, public.board.standoff())?;
@@ -94,7 +89,7 @@ fn open_row<S: Alter>(
     Ok(())
 }
 
-#[tactic(auto, using(crate::proofs::Outcomes::writes_not))]
+#[tactic(auto, using(dip_store_sql::proofs::Joining::does_not))]
 fn renew_row<S: Alter>(
     alloc: Global,
     tx: &mut Transaction<'_, S>,
@@ -104,10 +99,8 @@ fn renew_row<S: Alter>(
 ) -> Result<(), Error>
     requires { public.now.due < 2 ^ 63 }
     ensures same_reference { tx.new.conn.ghost_name ≡ tx.old.conn.ghost_name }
-    ensures writes { Writes
-        (on_game game.now (game_as (game_row map.now game.now (records.public public.now))))
-        (state S.Store tx.old.conn.now) (state S.Store tx.new.conn.now) result }
-    ensures wants { Wants always
+    ensures does { Does
+        (on_game game.now (game_as (game_row map.now game.now (records.public public.now)))) always
         (state S.Store tx.old.conn.now) (state S.Store tx.new.conn.now) result }
 {
     let status = status_text(alloc, map, &public.status)?;
@@ -119,9 +112,7 @@ fn renew_row<S: Alter>(
 
 fn clear<S: Alter>(tx: &mut Transaction<'_, S>, game: &str) -> Result<(), Error>
     ensures same_reference { tx.new.conn.ghost_name ≡ tx.old.conn.ghost_name }
-    ensures writes { Writes (cleared game.now)
-        (state S.Store tx.old.conn.now) (state S.Store tx.new.conn.now) result }
-    ensures wants { Wants always
+    ensures does { Does (cleared game.now) always
         (state S.Store tx.old.conn.now) (state S.Store tx.new.conn.now) result }
 {
     drop_seats(tx, game)?;
@@ -143,12 +134,9 @@ pub fn open_game<S: Alter>(
     requires board { IsOf map.now public.now.board }
     requires due { public.now.due < 2 ^ 63 }
     ensures same_reference { tx.new.conn.ghost_name ≡ tx.old.conn.ghost_name }
-    ensures writes { Writes
+    ensures does { Does
         (opening map.now (records.public public.now) paper.now (each machine.new_seat seats.now))
-        (state S.Store tx.old.conn.now) (state S.Store tx.new.conn.now) result }
-    ensures wants { Wants (λ t. AreKeyed
-        (opening map.now (records.public public.now) paper.now (each machine.new_seat seats.now) t))
-        (state S.Store tx.old.conn.now) (state S.Store tx.new.conn.now) result }
+        AreKeyed (state S.Store tx.old.conn.now) (state S.Store tx.new.conn.now) result }
 {
     let game = public.game.as_str();
     clear(tx, game)?;
@@ -162,9 +150,7 @@ pub fn open_game<S: Alter>(
 
 fn end_phase<S: Alter>(tx: &mut Transaction<'_, S>, game: &str, played: bool) -> Result<(), Error>
     ensures same_reference { tx.new.conn.ghost_name ≡ tx.old.conn.ghost_name }
-    ensures writes { Writes (pending_left game.now played)
-        (state S.Store tx.old.conn.now) (state S.Store tx.new.conn.now) result }
-    ensures wants { Wants always
+    ensures does { Does (pending_left game.now played) always
         (state S.Store tx.old.conn.now) (state S.Store tx.new.conn.now) result }
 {
     if played {
@@ -186,11 +172,8 @@ pub fn publish<S: Alter>(
     requires board { IsOf map.now public.now.board }
     requires due { public.now.due < 2 ^ 63 }
     ensures same_reference { tx.new.conn.ghost_name ≡ tx.old.conn.ghost_name }
-    ensures writes { Writes
-        (publishing map.now game.now (records.public public.now) paper.now played)
-        (state S.Store tx.old.conn.now) (state S.Store tx.new.conn.now) result }
-    ensures wants { Wants (λ t. AreKeyed
-        (publishing map.now game.now (records.public public.now) paper.now played t))
+    ensures does { Does
+        (publishing map.now game.now (records.public public.now) paper.now played) AreKeyed
         (state S.Store tx.old.conn.now) (state S.Store tx.new.conn.now) result }
 {
     renew_row(alloc, tx, map, game, public)?;

@@ -4,9 +4,8 @@ ghost use Rattle.sqlite.specs.Held.{state};
 ghost use Rattle.dip_desk_state.specs.Rows as records;
 ghost use Rattle.dip_store_tables.specs.Changing.{with_orders};
 ghost use Rattle.dip_store_tables.specs.Writing.{pending_row};
-ghost use Rattle.dip_store_sql.specs.Calls.{Writes};
-ghost use Rattle.dip_store_sql.specs.Keys.{Differ, same_order};
-ghost use Rattle.dip_store_sql.specs.Wants.{Wants};
+ghost use Rattle.dip_store_sql.specs.Keys.{OrdersDiffer};
+ghost use Rattle.dip_store_sql.specs.Wants.{Does};
 ghost use Rattle.dip_store_changes.specs.Parts.{more_orders};
 
 use dip_desk_state::Standing;
@@ -22,14 +21,10 @@ fn add_order<S: Alter>(
     order: &Standing,
 ) -> Result<(), Error>
     ensures same_reference { tx.new.conn.ghost_name ≡ tx.old.conn.ghost_name }
-    ensures writes { Writes
+    ensures does { Does
         (more_orders
         (each (pending_row map.now game.now power.now) (records.standings (order.now ∷ []))))
-        (state S.Store tx.old.conn.now) (state S.Store tx.new.conn.now) result }
-    ensures wants { Wants (λ t. Differ same_order (more_orders
-        (each (pending_row map.now game.now power.now) (records.standings (order.now ∷ [])))
-        t).pending)
-        (state S.Store tx.old.conn.now) (state S.Store tx.new.conn.now) result }
+        OrdersDiffer (state S.Store tx.old.conn.now) (state S.Store tx.new.conn.now) result }
 {
     add_pending(tx, game, power, map.code(order.prov), order.line.as_str())?;
     Ok(())
@@ -43,12 +38,9 @@ fn add_orders<S: Alter>(
     orders: &[Standing],
 ) -> Result<(), Error>
     ensures same_reference { tx.new.conn.ghost_name ≡ tx.old.conn.ghost_name }
-    ensures writes { Writes
+    ensures does { Does
         (more_orders (each (pending_row map.now game.now power.now) (records.standings orders.now)))
-        (state S.Store tx.old.conn.now) (state S.Store tx.new.conn.now) result }
-    ensures wants { Wants (λ t. Differ same_order (more_orders
-        (each (pending_row map.now game.now power.now) (records.standings orders.now)) t).pending)
-        (state S.Store tx.old.conn.now) (state S.Store tx.new.conn.now) result }
+        OrdersDiffer (state S.Store tx.old.conn.now) (state S.Store tx.new.conn.now) result }
 {
     for order in orders {
         add_order(tx, map, game, power, order)?;
@@ -65,11 +57,8 @@ pub fn put_orders<S: Alter>(
     orders: &[Standing],
 ) -> Result<(), Error>
     ensures same_reference { tx.new.conn.ghost_name ≡ tx.old.conn.ghost_name }
-    ensures writes { Writes
-        (with_orders map.now game.now power.now (records.standings orders.now))
-        (state S.Store tx.old.conn.now) (state S.Store tx.new.conn.now) result }
-    ensures wants { Wants (λ t. Differ same_order
-        (with_orders map.now game.now power.now (records.standings orders.now) t).pending)
+    ensures does { Does
+        (with_orders map.now game.now power.now (records.standings orders.now)) OrdersDiffer
         (state S.Store tx.old.conn.now) (state S.Store tx.new.conn.now) result }
 {
     drop_orders(tx, game, power)?;

@@ -7,10 +7,9 @@ ghost use Rattle.dip_desk_state.specs.Rows as records;
 ghost use Rattle.dip_store_tables.specs.Changing.{ordering, ordering_by, voting_by};
 ghost use Rattle.dip_store_tables.specs.Coding.{IsEffectOf};
 ghost use Rattle.dip_store_tables.specs.ChangeColumns.{FitsColumns, IsWritable};
-ghost use Rattle.dip_store_sql.specs.Calls.{Writes};
-ghost use Rattle.dip_store_sql.specs.Keys.{AreKeyed, Differ, same_order};
-ghost use Rattle.dip_store_sql.specs.Wants.{Wants, always};
-ghost use Rattle.dip_store_changes.specs.Making.{OrdersDiffer, changing_row, reaching_all};
+ghost use Rattle.dip_store_sql.specs.Keys.{AreKeyed, OrdersDiffer};
+ghost use Rattle.dip_store_sql.specs.Wants.{Does, always};
+ghost use Rattle.dip_store_changes.specs.Making.{GivenOrdersDiffer, changing_row, reaching_all};
 
 use crate::authors::note_author;
 use crate::ballots::put_vote;
@@ -34,13 +33,9 @@ fn order_by<S: Alter>(
     orders: &[Standing],
 ) -> Result<(), Error>
     ensures same_reference { tx.new.conn.ghost_name ≡ tx.old.conn.ghost_name }
-    ensures writes { Writes
+    ensures does { Does
         (ordering_by map.now (machine.author author) game.now (records.standings orders.now))
-        (state S.Store tx.old.conn.now) (state S.Store tx.new.conn.now) result }
-    ensures wants { Wants (λ t. Differ same_order
-        (ordering_by map.now (machine.author author) game.now (records.standings orders.now)
-        t).pending)
-        (state S.Store tx.old.conn.now) (state S.Store tx.new.conn.now) result }
+        OrdersDiffer (state S.Store tx.old.conn.now) (state S.Store tx.new.conn.now) result }
 {
     match author {
         Author::Nobody => Ok(()),
@@ -59,10 +54,8 @@ fn vote_by<S: Alter>(
     vote: &Vote,
 ) -> Result<(), Error>
     ensures same_reference { tx.new.conn.ghost_name ≡ tx.old.conn.ghost_name }
-    ensures writes { Writes
-        (voting_by map.now (machine.author author) game.now (records.vote vote.now))
-        (state S.Store tx.old.conn.now) (state S.Store tx.new.conn.now) result }
-    ensures wants { Wants always
+    ensures does { Does
+        (voting_by map.now (machine.author author) game.now (records.vote vote.now)) always
         (state S.Store tx.old.conn.now) (state S.Store tx.new.conn.now) result }
 {
     match author {
@@ -82,11 +75,9 @@ fn order<S: Alter>(
     effect: &Effect,
 ) -> Result<(), Error>
     ensures same_reference { tx.new.conn.ghost_name ≡ tx.old.conn.ghost_name }
-    ensures writes { Writes
+    ensures does { Does
         (ordering map.now (machine.author author) game.now (machine.effect effect.now))
-        (state S.Store tx.old.conn.now) (state S.Store tx.new.conn.now) result }
-    ensures wants { Wants
-        (OrdersDiffer map.now (machine.author author) game.now (machine.effect effect.now))
+        (GivenOrdersDiffer (machine.effect effect.now))
         (state S.Store tx.old.conn.now) (state S.Store tx.new.conn.now) result }
 {
     match effect {
@@ -113,11 +104,8 @@ fn reach<S: Alter>(
     requires fits { FitsColumns (machine.effect effect.now) }
     requires room { All (λ r. r.items < most_items) readers.now }
     ensures same_reference { tx.new.conn.ghost_name ≡ tx.old.conn.ghost_name }
-    ensures writes { Writes
-        (reaching_all readers.now map.now game.now (machine.effect effect.now))
-        (state S.Store tx.old.conn.now) (state S.Store tx.new.conn.now) result }
-    ensures wants { Wants (λ t. AreKeyed
-        (reaching_all readers.now map.now game.now (machine.effect effect.now) t))
+    ensures does { Does
+        (reaching_all readers.now map.now game.now (machine.effect effect.now)) AreKeyed
         (state S.Store tx.old.conn.now) (state S.Store tx.new.conn.now) result }
 {
     match effect {
@@ -151,11 +139,7 @@ pub(crate) fn make_parts<S: Alter>(
     requires writable { IsWritable map.now (machine.change change.now) }
     requires room { All (λ r. r.items < most_items) readers.now }
     ensures same_reference { tx.new.conn.ghost_name ≡ tx.old.conn.ghost_name }
-    ensures writes { Writes
-        (changing_row row readers.now map.now (machine.change change.now))
-        (state S.Store tx.old.conn.now) (state S.Store tx.new.conn.now) result }
-    ensures wants { Wants (λ t. AreKeyed
-        (changing_row row readers.now map.now (machine.change change.now) t))
+    ensures does { Does (changing_row row readers.now map.now (machine.change change.now)) AreKeyed
         (state S.Store tx.old.conn.now) (state S.Store tx.new.conn.now) result }
 {
     let game = change.game.as_str();

@@ -3,11 +3,9 @@ ghost use Rattle.std.specs.Prelude.{◌≡◌, map as each, [], ◌∷◌};
 ghost use Rattle.sqlite.specs.Held.{state};
 ghost use Rattle.dip_desk_state.specs.ChangeRows as machine;
 ghost use Rattle.dip_store_tables.specs.Changing.{replacing};
-ghost use Rattle.dip_store_tables.specs.Coding.{same_seat};
 ghost use Rattle.dip_store_tables.specs.Writing.{seat_row};
-ghost use Rattle.dip_store_sql.specs.Calls.{Writes};
-ghost use Rattle.dip_store_sql.specs.Keys.{Differ};
-ghost use Rattle.dip_store_sql.specs.Wants.{Wants, always};
+ghost use Rattle.dip_store_sql.specs.Keys.{SeatsDiffer};
+ghost use Rattle.dip_store_sql.specs.Wants.{Does, always};
 ghost use Rattle.dip_store_changes.specs.Parts.{more_seats};
 
 use dip_desk_state::NewSeat;
@@ -22,12 +20,9 @@ fn add_new_seat<S: Alter>(
     seat: &NewSeat,
 ) -> Result<(), Error>
     ensures same_reference { tx.new.conn.ghost_name ≡ tx.old.conn.ghost_name }
-    ensures writes { Writes
+    ensures does { Does
         (more_seats (each (seat_row map.now game.now) (each machine.new_seat (seat.now ∷ []))))
-        (state S.Store tx.old.conn.now) (state S.Store tx.new.conn.now) result }
-    ensures wants { Wants (λ t. Differ same_seat (more_seats
-        (each (seat_row map.now game.now) (each machine.new_seat (seat.now ∷ []))) t).seats)
-        (state S.Store tx.old.conn.now) (state S.Store tx.new.conn.now) result }
+        SeatsDiffer (state S.Store tx.old.conn.now) (state S.Store tx.new.conn.now) result }
 {
     add_seat(tx, game, map.power_name(seat.power), &seat.digest)?;
     Ok(())
@@ -40,12 +35,9 @@ pub(crate) fn add_seats<S: Alter>(
     seats: &[NewSeat],
 ) -> Result<(), Error>
     ensures same_reference { tx.new.conn.ghost_name ≡ tx.old.conn.ghost_name }
-    ensures writes { Writes
+    ensures does { Does
         (more_seats (each (seat_row map.now game.now) (each machine.new_seat seats.now)))
-        (state S.Store tx.old.conn.now) (state S.Store tx.new.conn.now) result }
-    ensures wants { Wants (λ t. Differ same_seat (more_seats
-        (each (seat_row map.now game.now) (each machine.new_seat seats.now)) t).seats)
-        (state S.Store tx.old.conn.now) (state S.Store tx.new.conn.now) result }
+        SeatsDiffer (state S.Store tx.old.conn.now) (state S.Store tx.new.conn.now) result }
 {
     for seat in seats {
         add_new_seat(tx, map, game, seat)?;
@@ -61,9 +53,7 @@ pub fn replace<S: Alter>(
     seat: &NewSeat,
 ) -> Result<(), Error>
     ensures same_reference { tx.new.conn.ghost_name ≡ tx.old.conn.ghost_name }
-    ensures writes { Writes (replacing map.now game.now (machine.new_seat seat.now))
-        (state S.Store tx.old.conn.now) (state S.Store tx.new.conn.now) result }
-    ensures wants { Wants always
+    ensures does { Does (replacing map.now game.now (machine.new_seat seat.now)) always
         (state S.Store tx.old.conn.now) (state S.Store tx.new.conn.now) result }
 {
     replace_digest(tx, game, map.power_name(seat.power), &seat.digest)?;

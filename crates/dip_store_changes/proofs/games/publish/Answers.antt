@@ -1,13 +1,20 @@
+use Rattle.std.proofs.Common.{rules, sym, subst}
 use Rattle.dip_desk_state.specs.Rows as records
-use Rattle.dip_store_sql.proofs.Parts.{writes_and, writes_as}
+use Rattle.dip_store_tables.specs.Changing.{publishing}
+use Rattle.dip_store_sql.specs.Keys.{AreKeyed}
+use Rattle.dip_store_sql.proofs.Joining.{does_and, does_as, does_fail, does_ok}
 use Rattle.dip_store_changes.proofs.Gaming.{published}
-use Rattle.dip_store_changes.proofs.Outcomes.{writes_ok}
 use Rattle.dip_store_changes.proofs.games.publish.Goals as goal
 
-pub returns-clause-writes : goal.returns-clause-writes
-returns-clause-writes g c =
-    let two = writes_and _ _ _ _ _ _ _ c.in_ok-renew_row.field-0 _ c.in_ok-renew_row.ensures.writes c.in_ok-put_board.ensures.writes in
-    let three = writes_and _ _ _ _ _ _ _ c.in_ok-put_board.field-0 _ two c.in_ok-put_choice.ensures.writes in
-    let four = writes_and _ _ _ _ _ _ _ c.in_ok-put_choice.field-0 _ three c.in_ok-end_phase.ensures.writes in
-    let five = writes_and _ _ _ _ _ _ _ c.in_ok-end_phase.field-0 _ four c.in_ok-add_paper.ensures.writes in
-    writes_as _ _ _ _ _ _ _ (published c.args.map.now c.args.game.now c.args.paper.now (records.public c.args.public.now) c.args.played) (writes_ok _ _ _ _ _ _ tt five)
+pub returns-clause-does : goal.returns-clause-does
+returns-clause-does g c =
+    does_ok _ tt (does_as (does_and (does_and (does_and (does_and c.in_ok-renew_row.ensures.does c.in_ok-put_board.ensures.does) c.in_ok-put_choice.ensures.does) c.in_ok-end_phase.ensures.does) c.in_ok-add_paper.ensures.does)
+    (published c.args.map.now c.args.game.now c.args.paper.now (records.public c.args.public.now) c.args.played))
+
+pub returns-in_err-add_paper-clause-does : goal.returns-in_err-add_paper-clause-does
+returns-in_err-add_paper-clause-does g c =
+    let same = published c.args.map.now c.args.game.now c.args.paper.now (records.public c.args.public.now) c.args.played in
+    let four = does_and (does_and (does_and c.in_ok-renew_row.ensures.does c.in_ok-put_board.ensures.does) c.in_ok-put_choice.ensures.does) c.in_ok-end_phase.ensures.does in
+    let broken = does_fail (Unit {0}) (publishing c.args.map.now c.args.game.now (records.public c.args.public.now) c.args.paper.now c.args.played) AreKeyed
+    (does_and four c.in_err-add_paper.ensures.does) (λ t keyed. (subst AreKeyed (sym (same t)) keyed).papers) in
+    search (rules, broken)

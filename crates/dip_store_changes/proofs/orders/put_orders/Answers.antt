@@ -1,6 +1,5 @@
-use Rattle.dip_store_sql.proofs.Parts.{writes_and}
+use Rattle.dip_store_sql.proofs.Joining.{does_and}
 use Rattle.dip_store_changes.proofs.orders.put_orders.Goals as goal
 
-pub returns-clause-writes : goal.returns-clause-writes
-returns-clause-writes g c =
-    writes_and _ _ _ _ _ _ _ c.in_ok-drop_orders.field-0 _ c.in_ok-drop_orders.ensures.writes c.add_orders.ensures.writes
+pub returns-clause-does : goal.returns-clause-does
+returns-clause-does g c = does_and c.in_ok-drop_orders.ensures.does c.add_orders.ensures.does

@@ -1,39 +1,29 @@
-use Rattle.std.proofs.Common.{arith, rules, [], ◌∷◌, map, subst, ◌∙◌}
-use Rattle.sqlite.specs.declared.error.Error.{Error}
-use Rattle.sqlite.specs.Held.{state}
+use Rattle.std.proofs.Common.{arith, rules, map, ◌∙◌}
 use Rattle.dip_desk_state.specs.ChangeRows as machine
 use Rattle.dip_store_tables.specs.Coding.{same_seat}
 use Rattle.dip_store_tables.specs.Writing.{seat_row}
-use Rattle.dip_store_sql.specs.Calls.{Writes}
-use Rattle.dip_store_sql.proofs.Parts.{fails, went, taken_both, writes_more}
-use Rattle.dip_store_sql.proofs.Joining.{wants_broken, wants_more}
-use Rattle.dip_store_sql.specs.Keys.{Differ}
-use Rattle.dip_store_sql.specs.Wants.{Wants, always}
+use Rattle.dip_store_sql.proofs.Joining.{does_and, does_fail, does_more}
+use Rattle.dip_store_sql.specs.Keys.{SeatsDiffer}
 use Rattle.dip_store_changes.specs.Parts.{more_seats}
 use Rattle.dip_store_changes.proofs.Apart.{both_apart}
 use Rattle.dip_store_changes.proofs.Adding.{seats_more}
+use Rattle.dip_store_sql.proofs.Parts.{taken_both}
 use Rattle.dip_store_changes.proofs.seats.add_seats.Goals as goal
 
 pub loop-seat-preserved : goal.loop-seat-preserved
 loop-seat-preserved g c =
     let d = c.seat-item.result in
     let row = seat_row c.args.map.now c.args.game.now in
-    let step = subst (λ s. Writes (more_seats (map row (map machine.new_seat (s ∷ [])))) (state g.S.Store c.loop-seat.tx.conn.now) (state g.S.Store c.add_new_seat.new.tx.conn.now) (went (Unit {0}) Error tt)) c.seat-item.is c.in_ok-add_new_seat.ensures.writes in
+    let step = rw c.seat-item.is at c.in_ok-add_new_seat.ensures.does in
     record {
       same_reference = c.in_ok-add_new_seat.ensures.same_reference ∙ c.loop-seat.invariant.same_reference;
-      writes = writes_more _ _ _ _ _ _ _ _ _ tt tt tt
-          (seats_more _ _ _ (taken_both row machine.new_seat c.args.seats.now c.loop-seat.seat-index d (omega arith)))
-          c.loop-seat.invariant.writes step;
-      wants = wants_more _ _ _ _ _ _ _ _ _ _ tt tt tt c.loop-seat.invariant.wants step c.in_ok-add_new_seat.ensures.wants;
+      does = does_more _ tt c.loop-seat.invariant.does step (seats_more _ _ _ (taken_both row machine.new_seat c.args.seats.now c.loop-seat.seat-index d (omega arith)));
     }
 
-pub returns-in_err-add_new_seat-clause-wants : goal.returns-in_err-add_new_seat-clause-wants
-returns-in_err-add_new_seat-clause-wants g c =
+pub returns-in_err-add_new_seat-clause-does : goal.returns-in_err-add_new_seat-clause-does
+returns-in_err-add_new_seat-clause-does g c =
     let d = c.seat-item.result in
     let row = seat_row c.args.map.now c.args.game.now in
-    let e = c.in_err-add_new_seat.field-0.0 in
-    let next = subst (λ s. Wants (λ t. Differ same_seat (more_seats (map row (map machine.new_seat (s ∷ []))) t).seats) (state g.S.Store c.loop-seat.tx.conn.now) (state g.S.Store c.add_new_seat.new.tx.conn.now) (fails (Unit {0}) Error e)) c.seat-item.is c.in_err-add_new_seat.ensures.wants in
-    let broken = wants_broken (Unit {0}) (Unit {0}) (λ t. Differ same_seat (more_seats (map row (map machine.new_seat c.args.seats.now)) t).seats) always _ _ _ _ _ _
-    (λ t apart. (tt, both_apart same_seat row machine.new_seat c.args.seats.now c.loop-seat.seat-index d (omega arith) t.seats apart))
-    tt c.loop-seat.invariant.writes c.loop-seat.invariant.wants (Unit {0}) e c.in_err-add_new_seat.ensures.writes next in
+    let step = rw c.seat-item.is at c.in_err-add_new_seat.ensures.does in
+    let broken = does_fail (Unit {0}) (more_seats (map row (map machine.new_seat c.args.seats.now))) SeatsDiffer (does_and c.loop-seat.invariant.does step) (λ t apart. both_apart same_seat row machine.new_seat c.args.seats.now c.loop-seat.seat-index d (omega arith) t.seats apart) in
     search (rules, broken)

@@ -16,7 +16,7 @@ use Rattle.dip_desk.proofs.Ending.{ends_open}
 use Rattle.dip_store.specs.Causes.{has_faulted}
 use Rattle.dip_store.specs.Opening.{Holds, OldEnds, Opens, StoreEnds}
 use Rattle.dip_store.specs.Stored.{book}
-use Rattle.dip_store.proofs.Holding.{ends_held, held_by}
+use Rattle.dip_store.proofs.Opened.{ends_held, held_by}
 use Rattle.dip_store.specs.declared.keeper.SqlKeeper.{SqlKeeper}
 use Rattle.dip_judge.specs.Stores.{AnswersFrom, OldStopsFrom, OldStopsReport, OldStopsServing, ReadsUpTo, Reports, ServesFrom, ServesUpTo, StopsFrom, StopsIn, StopsReport, StopsServing}
 use Rattle.dip_http.specs.Serving.{Serves, ServesTo}

@@ -19,7 +19,6 @@ pub mod Seeing
 pub mod Owning
 pub mod Made
 pub mod Opened
-pub mod Holding
 pub mod Outside
 pub mod Refused
 pub mod Numbers

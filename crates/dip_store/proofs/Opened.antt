@@ -1,5 +1,5 @@
 -- A keeper that was made or opened.
-use Rattle.std.proofs.Common.{◌≡◌, inl, inr, ℕ, List, [], Bool, true, false, not, codes, length, None, Ok, Err, Result, IfOk, IfErr, IsTrue, refl, sym, ap, subst, ◌∙◌}
+use Rattle.std.proofs.Common.{◌≡◌, ◌≤◌, inl, inr, ℕ, List, [], Bool, true, false, not, codes, length, None, Ok, Err, Result, IfOk, IfErr, IsTrue, refl, sym, ap, subst, ◌∙◌, arith}
 use Rattle.std.specs.declared.alloc.Global.{Global}
 use Rattle.sqlite.specs.Effect.{Database}
 use Rattle.sqlite.specs.Tree.{Trees}
@@ -24,7 +24,9 @@ use Rattle.dip_store.proofs.Owning.{recalls_no_owns}
 use Rattle.dip_store.proofs.Seeing.{recalls_none}
 use Rattle.std.proofs.lemmas.Bool.{false≢true}
 use Rattle.dip_store.specs.Opening.{Holds, IsDesk, Opens, StoreEnds}
-use Rattle.dip_store.specs.Stored.{AreStored, IsStore, fresh_keeper, said_by}
+use Rattle.dip_desk.specs.Keeping.{Ends, IsOpen}
+use Rattle.dip_store.specs.Stored.{AreStored, IsStore, book, fresh_keeper, said_by}
+use Rattle.dip_store.specs.declared.keeper.SqlKeeper.{SqlKeeper}
 
 module _ {S : Type 0} (g : Ghosts S) (m : Chart) (store : Held S) (own : IsStore m (state g store).now) where
   abbrev before : Held S
@@ -149,6 +151,28 @@ module _ {S : Type 0} (g : Ghosts S) (m : Chart) (store : Held S) (desk : IsDesk
       → StoreEnds g m (has_faulted g store end) end (said_by m (state g store).now.trees) (λ _. ⊥)
   ends_refused X E e h is = subst (λ (h : Held S). (r : Bool) → Idle g m store desk.wrote h r → Commits h → Selects g h end (fails X E e) → is_honest g end
       → StoreEnds g m (has_faulted g store end) end (said_by m (state g store).now.trees) (λ _. ⊥)) (sym is) (refused_there X E e)
+
+-- what an open keeper has, its store holds
+module _ {S : Type 0} (g : Ghosts S) (m : Chart) where
+  pub held_by : (k : SqlKeeper S) → IsOpen m (book g) k → Holds g m ((book g).content m k) k.conn
+  held_by k it = record {
+    desk = record { shows = it.shows; idle = it.sound.0.idle; wrote = record { good = it.sound.0.good; counted = it.sound.0.counted; ours = it.sound.1 } };
+    says = refl;
+    only = λ db may. it.alone (said_by m db) (db, may, refl);
+    again = it.again;
+  }
+
+  -- and how a keeper ends, its store does, from where it was opened on
+  pub ends_held : (store : Held S) (old new : SqlKeeper S) (s : State) (More : State → Type 0) → (state g store).faults ≤ (state g old.conn).faults
+      → Ends m (book g) old new s More → StoreEnds g m (has_faulted g store new.conn) new.conn s More
+  ends_held store old new s More counted it = record {
+    left = λ db may. (it.again db may, it.left (said_by m db) (db, may, refl));
+    shown = λ shows. let still = it.shown shows in subst (λ (t : State). Holds g m t new.conn) still.1 (held_by new still.0);
+    goes = elim it.goes [
+      | inl goes ↦ inl (subst (λ (t : State). Holds g m t new.conn) goes.1 (held_by new goes.0))
+      | inr more ↦ inr (omega (arith, counted, more))
+    ];
+  }
 
 -- what a connection knows of its tables, it knows with its limit of steps too
 module _ {S : Type 0} where

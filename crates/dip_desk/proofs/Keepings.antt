@@ -1,6 +1,5 @@
 -- A look, and then a step.
-use Rattle.std.proofs.Common.{◌≡◌, ◌≤◌, inl, inr, Result, Ok, Err, IfOk, ap, refl, sym, subst, ◌∙◌, arith}
-use Rattle.std.specs.Prelude.{IsErrOf}
+use Rattle.std.proofs.Common.{◌≡◌, ◌≤◌, inl, inr, Result, Ok, Err, ap, refl, sym, subst, ◌∙◌, arith}
 use Rattle.std.proofs.lemmas.Result.{IfOk-weaker, on_err_weaker, on_ok_weaker}
 use Rattle.dip_map.specs.Charts.{Chart}
 use Rattle.dip_desk_state.specs.Faults.{faults_after, faults_with}
@@ -109,27 +108,6 @@ fault_then m b old new Value Damage fault say Step Blame look blamed = record {
 -- what is kept by an answer says nothing of its value
 pub keeps_as : {K X Y : Type 0} (m : Chart) (b : Book K) (old new : K) (x : X) (y : Y) → Keeps {X = X} m b old new (Ok x) → Keeps {X = Y} m b old new (Ok y)
 keeps_as m b old new x y k = record { count = k.count; told = k.told; of_size = k.of_size; fair = k.fair; shown = k.shown; sound = k.sound; firm = k.firm; stays_open = k.stays_open; shuts = k.shuts; again = k.again }
-
--- what is decided of what a look found, by a call that has no keeper
-pub decided_then : {K X Y : Type 0} (m : Chart) (b : Book K) (old new : K) (x : X) (Value : X → Type 0) (Decided : Y → Type 0) (Damage : Type 0) (result : Result Y KeepFault)
-    → Looks m b old new Value ⊥ (Ok x) → faults_after result 0 ≡ 0 → (Value x → IfOk result Decided) → (Value x → IsErrOf result Damaged → Damage) → Looks m b old new Decided Damage result
-decided_then {K} {X} {Y} m b old new x Value Decided Damage result look other value damaged = record {
-  keeps = by result other;
-  value = λ sound shows. value (look.value sound shows);
-  damaged = λ sound honest shows. damaged (look.value sound (look.keeps.stays_open sound honest shows));
-  failed = λ sound honest shows bad. absurd (let none = subst (λ (r : Result Y KeepFault). faults_after r 0 ≡ 0) bad other in omega (arith, none));
-  same = look.same;
-  left = look.left;
-}
-  where
-    fault : (f : KeepFault) → b.faults new ≡ faults_with f (b.faults old) → Keeps {X = Y} m b old new (Err f)
-    fault f count = record { count = count; told = look.keeps.told; of_size = look.keeps.of_size; fair = look.keeps.fair; shown = look.keeps.shown; sound = look.keeps.sound; firm = λ sound honest. tt; stays_open = λ sound honest shows. tt; shuts = look.keeps.shuts; again = look.keeps.again }
-
-    by : (r : Result Y KeepFault) → faults_after r 0 ≡ 0 → Keeps m b old new r
-    by (Ok y) other = keeps_as m b old new x y look.keeps
-    by (Err Memory) other = fault Memory look.keeps.count
-    by (Err Disk) other = absurd (omega (arith, other))
-    by (Err Damaged) other = fault Damaged look.keeps.count
 
 -- a change that a fault leaves unmade is a step that isn't taken: a crash may leave what the step would have, and what doesn't fit may
 -- be Damaged

@@ -1,12 +1,12 @@
 -- A look, and then a step.
-use Rattle.std.proofs.Common.{◌≡◌, ◌≤◌, inl, inr, Result, Ok, Err, ap, refl, sym, subst, ◌∙◌, arith}
+use Rattle.std.proofs.Common.{◌≡◌, ◌≤◌, inl, inr, Result, Ok, Err, ap, sym, subst, ◌∙◌, arith}
 use Rattle.std.proofs.lemmas.Result.{IfOk-weaker, on_err_weaker, on_ok_weaker}
 use Rattle.dip_map.specs.Charts.{Chart}
-use Rattle.dip_desk_state.specs.Faults.{faults_after, faults_with}
+use Rattle.dip_desk_state.specs.Faults.{faults_after}
 use Rattle.dip_desk.specs.Keeping.{Book, Changes, Keeps, Looks, Settles, Steps, WasTold}
 use Rattle.dip_desk_state.specs.State.{State}
 use Rattle.dip_desk_state.specs.declared.faults.KeepFault.{KeepFault}
-use Rattle.dip_desk_state.specs.declared.faults.KeepFault.TheVariants.{Memory, Disk, Damaged}
+use Rattle.dip_desk_state.specs.declared.faults.KeepFault.TheVariants.{Disk, Damaged}
 
 -- what is kept by a look and the call behind it
 pub keeps_then : {K X Y : Type 0} (m : Chart) (b : Book K) (old mid new : K) (x : X) (result : Result Y KeepFault)

@@ -177,12 +177,7 @@ fn on_time(alloc: Global, map: &Map, tick: u64, whole: Whole) -> Result<Verdict,
 }
 
 /// What TICK comes to in a game: nothing is played in one that is over, nor before its time.
-pub fn tick_verdict(
-    alloc: Global,
-    map: &Map,
-    tick: u64,
-    whole: Whole,
-) -> Result<Verdict, KeepFault>
+pub fn tick_verdict(alloc: Global, map: &Map, tick: u64, whole: Whole) -> Result<Verdict, KeepFault>
     requires timely { tick ≤ 999999999999 }
     ensures value { IfOk result (λ v. m.Ticks map.now tick (rows.whole whole)
         (t.is_over (rows.status whole.public.status)) (t.is_due tick (rows.public whole.public))

@@ -1,12 +1,12 @@
 -- A look, and then a step.
-use Rattle.std.proofs.Common.{◌≡◌, ◌≤◌, inl, inr, Result, Ok, Err, ap, refl, sym, subst, ◌∙◌, arith}
+use Rattle.std.proofs.Common.{◌≡◌, ◌≤◌, inl, inr, Result, Ok, Err, ap, sym, subst, ◌∙◌, arith}
 use Rattle.std.proofs.lemmas.Result.{IfOk-weaker, on_err_weaker, on_ok_weaker}
 use Rattle.dip_map.specs.Charts.{Chart}
-use Rattle.dip_desk_state.specs.Faults.{faults_after, faults_with}
+use Rattle.dip_desk_state.specs.Faults.{faults_after}
 use Rattle.dip_desk.specs.Keeping.{Book, Changes, Keeps, Looks, Settles, Steps, WasTold}
 use Rattle.dip_desk_state.specs.State.{State}
 use Rattle.dip_desk_state.specs.declared.faults.KeepFault.{KeepFault}
-use Rattle.dip_desk_state.specs.declared.faults.KeepFault.TheVariants.{Memory, Disk, Damaged}
+use Rattle.dip_desk_state.specs.declared.faults.KeepFault.TheVariants.{Disk, Damaged}
 
 -- what is kept by a look and the call behind it
 pub keeps_then : {K X Y : Type 0} (m : Chart) (b : Book K) (old mid new : K) (x : X) (result : Result Y KeepFault)
@@ -91,59 +91,19 @@ steps_then {K} {X} {Y} {R} m b old mid new x Value Damage say Near Far result lo
       (step.left (look.keeps.firm sound fair) honest open_mid);
 }
 
--- a look behind a look that finds something whole is a look at the same content
-pub looks_then : {K X Y : Type 0} (m : Chart) (b : Book K) (old mid new : K) (x : X) (First : X → Type 0) (Second : State → Y → Type 0) (Both : Y → Type 0) (result : Result Y KeepFault)
-    → Looks m b old mid First ⊥ (Ok x) → (First x → (y : Y) → Second (b.content m old) y → Both y) → Looks m b mid new (Second (b.content m mid)) ⊥ result
-    → Looks m b old new Both ⊥ result
-looks_then m b old mid new x First Second Both result first further second = record {
-  keeps = keeps_then m b old mid new x result first.keeps second.keeps;
-  value = λ sound shows.
-      let before = second.keeps.shown shows in
-      IfOk-weaker result (Second (b.content m mid)) Both
-      (λ y seen. further (first.value sound before) y (subst (λ (s : State). Second s y) (first.same sound before) seen))
-      (second.value (first.keeps.sound sound before) shows);
-  damaged = λ sound honest shows bad.
-      let fair = second.keeps.fair honest in
-      second.damaged (first.keeps.firm sound fair) honest (first.keeps.stays_open sound fair shows) bad;
-  failed = λ sound honest shows bad.
-      let fair = second.keeps.fair honest in
-      let rises = second.failed (first.keeps.firm sound fair) honest (first.keeps.stays_open sound fair shows) bad in
-      omega (arith, rises, first.keeps.told);
-  same = λ sound shows. let before = second.keeps.shown shows in second.same (first.keeps.sound sound before) shows ∙ first.same sound before;
-  left = λ sound honest s left. let fair = second.keeps.fair honest in first.left sound fair s (second.left (first.keeps.firm sound fair) honest s left);
-}
-
--- what a look gives is what follows from it
-pub looks_as : {K X : Type 0} (m : Chart) (b : Book K) (old new : K) (Value Other : X → Type 0) (result : Result X KeepFault) → ((x : X) → Value x → Other x)
-    → Looks m b old new Value ⊥ result → Looks m b old new Other ⊥ result
-looks_as m b old new Value Other result follows look = record {
-  keeps = look.keeps;
-  value = λ sound shows. IfOk-weaker result Value Other follows (look.value sound shows);
-  damaged = look.damaged;
-  failed = look.failed;
-  same = look.same;
-  left = look.left;
-}
-
--- a fault behind a look that isn't the disk's is a step that isn't taken
-pub fault_then : {K X Y R : Type 0} (m : Chart) (b : Book K) (old mid : K) (x : X) (Value : X → Type 0) (fault : KeepFault) (say : Y → R) (Step : State → R → State → Type 0)
-    (Blame : State → Type 0) → Looks m b old mid Value ⊥ (Ok x) → faults_with fault 0 ≡ 0 → (Value x → fault ≡ Damaged → Blame (b.content m old))
-    → Steps {X = Y} m b old mid say Step Blame (Err fault)
-fault_then m b old mid x Value fault say Step Blame look other blamed = record {
-  keeps = record { count = look.keeps.count ∙ same fault other; told = look.keeps.told; of_size = look.keeps.of_size; fair = look.keeps.fair; shown = look.keeps.shown; sound = look.keeps.sound; firm = λ sound honest. tt; stays_open = λ sound honest shows. tt; shuts = look.keeps.shuts; again = look.keeps.again };
+-- a look that answers a fault is a step that isn't taken
+pub fault_then : {K X Y R : Type 0} (m : Chart) (b : Book K) (old new : K) (Value : X → Type 0) (Damage : Type 0) (fault : KeepFault) (say : Y → R) (Step : State → R → State → Type 0)
+    (Blame : State → Type 0) → Looks m b old new Value Damage (Err fault) → (Damage → Blame (b.content m old)) → Steps {X = Y} m b old new say Step Blame (Err fault)
+fault_then m b old new Value Damage fault say Step Blame look blamed = record {
+  keeps = record { count = look.keeps.count; told = look.keeps.told; of_size = look.keeps.of_size; fair = look.keeps.fair; shown = look.keeps.shown; sound = look.keeps.sound; firm = λ sound honest. tt; stays_open = λ sound honest shows. tt; shuts = look.keeps.shuts; again = look.keeps.again };
   done = λ sound shows. tt;
   undone = look.same;
-  damaged = λ sound honest shows bad. let told : fault ≡ Damaged = cc in blamed (look.value sound (look.keeps.stays_open sound honest shows)) told;
-  failed = λ sound honest shows bad. let told : fault ≡ Disk = cc in absurd (let none = subst (λ (f : KeepFault). faults_with f 0 ≡ 0) told other in omega (arith, none));
-  settles = look_alone m b old mid Value ⊥ (Ok x) look;
+  damaged = λ sound honest shows bad. let told : fault ≡ Damaged = cc in blamed (look.damaged sound honest shows (ap (λ (f : KeepFault). Err f) told));
+  failed = λ sound honest shows bad. let told : fault ≡ Disk = cc in inl (look.failed sound honest shows (ap (λ (f : KeepFault). Err f) told));
+  settles = look_alone m b old new Value Damage (Err fault) look;
   kept = λ sound honest shows. tt;
   left = λ sound honest shows s left. inl (look.left sound honest s left);
 }
-  where
-    same : (f : KeepFault) → faults_with f 0 ≡ 0 → b.faults old ≡ faults_with f (b.faults old)
-    same Memory is = refl
-    same Disk is = absurd (omega (arith, is))
-    same Damaged is = refl
 
 -- what is kept by an answer says nothing of its value
 pub keeps_as : {K X Y : Type 0} (m : Chart) (b : Book K) (old new : K) (x : X) (y : Y) → Keeps {X = X} m b old new (Ok x) → Keeps {X = Y} m b old new (Ok y)

@@ -1,21 +1,21 @@
 -- What is decided by an author's sight is what the machine decides.
-use Rattle.std.proofs.Common.{◌≡◌, ℕ, ◌<◌, ◌+◌, ◌⊎◌, arith, nat_lt, Bool, true, false, cond, List, Option, None, Some, option_map, refl, sym, ◌∙◌, ap, subst, inl, inr, bytes_eq, codes, is_some}
+use Rattle.std.proofs.Common.{◌≡◌, ℕ, ◌<◌, ◌+◌, ◌⊎◌, arith, nat_lt, Bool, true, false, cond, List, Option, None, Some, option_map, refl, sym, ◌∙◌, ap, subst, inl, inr, bytes_eq, codes}
 use Rattle.std.specs.Prelude.{option_and_then}
 use Rattle.std.proofs.lemmas.Bool.{false≢true, ltb-false, ltb-true}
-use Rattle.dip_letters.specs.Notes.{NoticeRequest, PlayerRequest, Request, SeatNote}
+use Rattle.dip_letters.specs.Notes.{Request}
 use Rattle.dip_letters.specs.Notes.MasterRequest.{Create, Tick, Replace, Notify}
 use Rattle.dip_letters.specs.Notes.Request.{Player, Master}
 use Rattle.dip_map.specs.Charts.{Chart, power_of}
 use Rattle.dip_desk_state.specs.Bounds.{most_papers}
 use Rattle.dip_desk_state.specs.Records.{Item, Public, Reply}
-use Rattle.dip_desk_machine.specs.Machine.{DecidedBy, Decides, IsDamagedBy, IsDamagedGame, IsForeign, IsDamagedSight, IsForeignTo, IsFull, IsSpoiledIn, MayBeDamaged, Sees, NoGame, ASeat, Settles, Step, after, OfMaster, OfNobody, OfSeat, Sight, Verdict, NotKnown, Again, OutOfTurn, Taken, author, author_of, change_of, digest, master_author, master_sees, master_sight, page_shown, power_author, power_sight, seat_author, seat_sight, seen_in, sight_of, verdict_by, verdict_on}
+use Rattle.dip_desk_machine.specs.Machine.{DecidedBy, Decides, IsDamagedBy, IsDamagedGame, IsForeign, IsDamagedSight, IsForeignTo, IsFull, IsSpoiledIn, MayBeDamaged, Settles, Step, after, OfMaster, OfNobody, OfSeat, Sight, Verdict, NotKnown, Again, OutOfTurn, Taken, author, author_of, change_of, digest, master_author, master_sees, master_sight, page_shown, power_author, power_sight, seat_author, seat_sight, seen_in, sight_of, verdict_by, verdict_on}
 use Rattle.dip_desk_machine.specs.Fitting.{EffectsFit, LawfulEffectsFit}
 use Rattle.dip_desk_machine.specs.Lawful.{IsNeverDamaged}
 use Rattle.dip_desk_machine.specs.Mail.{IsMail, Mail}
-use Rattle.dip_desk_state.specs.State.{Author, Change, Effect, Game, have_room, Nobody, Nothing, Part, Pending, Votes, Delivers, Opens, Publishes, Seats, Seat, State, TheMaster, game_at, own_at, own_of, part_at, public_at, seat_at, whole_of}
+use Rattle.dip_desk_state.specs.State.{Author, Change, Effect, Game, have_room, Nobody, Nothing, Part, Pending, Votes, Delivers, Opens, Publishes, Seats, Seat, State, TheMaster, game_at, own_of, seat_at}
 use Rattle.dip_desk_machine.specs.Ticking.{public_played}
 use Rattle.dip_desk.specs.Fitting.{ChangesFit, FindsPlace, Fits, FitsGame, LacksPlace, VerdictFits}
-use Rattle.dip_desk.specs.Looked.{is_seen, public_seen, seat_by, seat_seen, whole_seen}
+use Rattle.dip_desk.specs.Looked.{DecidedFor}
 use Rattle.dip_desk_machine.proofs.LawfulStates.{master_new}
 use Rattle.dip_desk_machine.proofs.Suiting.{Comes, IsPosted, decides_suits, master_posted, opens_where}
 use Rattle.dip_desk_machine.proofs.WritableLemmas.{author_known}
@@ -24,14 +24,6 @@ use Rattle.dip_desk_machine.proofs.WritableLemmas.{author_known}
 abbrev pub IsRight : Chart → Mail → State → Author → Sight → Type 0
 IsRight m n s who sight =
     (author_of sight ≡ who) × ((v : Verdict) → DecidedBy m n sight v → Decides m s n who v) × (IsDamagedSight m n sight → MayBeDamaged m s n who)
-
--- the own part of a seat, and the seat
-pub own_is : (name : List ℕ) (power : ℕ) (s : State) → own_at name power s ≡ own_of (part_at name power s)
-own_is name power s = go (game_at name s)
-  where
-    go : (game : Option Game) → option_and_then (λ g. own_of (seat_at power g.seats)) game ≡ own_of (option_and_then (λ g. seat_at power g.seats) game)
-    go None = refl
-    go (Some g) = refl
 
 seat_right : (m : Chart) (n : Mail) (s : State) (p : ℕ) (game : Option Game) → game_at n.note.game s ≡ game
     → IsRight m n s (seat_author n p (option_and_then (λ g. own_of (seat_at p g.seats)) game)) (seat_sight n p (option_map (λ g. g.public) game) (option_and_then (λ g. seat_at p g.seats) game))
@@ -76,59 +68,10 @@ is_right m n s = go (bytes_eq n.note.sender (codes "master"))
     go true = master (bytes_eq (digest (codes "desk") (codes "master") n.note.secret) s.desk.digest)
     go false = power (power_of m n.note.sender)
 
--- ---- looks for the master
-
-pub seen_game : (m : Chart) (command : PlayerRequest) (game : Option Game) → is_seen game ≡ master_sees m (Player command) game
-seen_game m command None = refl
-seen_game m command (Some g) = refl
-
-pub seen_opening : (m : Chart) (due period : ℕ) (grey : Bool) (intent : Option Bool) (seats : List SeatNote) (game : Option Game) → is_seen game ≡ master_sees m (Master (Create due period grey intent seats)) game
-seen_opening m due period grey intent seats None = refl
-seen_opening m due period grey intent seats (Some g) = refl
-
-pub seen_whole : (m : Chart) (tick : ℕ) (game : Option Game) → whole_seen (option_map whole_of game) ≡ master_sees m (Master (Tick tick)) game
-seen_whole m tick None = refl
-seen_whole m tick (Some g) = refl
-
-pub seen_public : (m : Chart) (notice : NoticeRequest) (game : Option Game) → public_seen (option_map (λ g. g.public) game) ≡ master_sees m (Master (Notify notice)) game
-seen_public m notice None = refl
-seen_public m notice (Some g) = refl
-
-abbrev there_by : Option ℕ → Option Game → Bool
-there_by None game = false
-there_by (Some p) game = is_some (option_and_then (λ g. own_of (seat_at p g.seats)) game)
-
-abbrev sees_by : Option ℕ → Option Game → Sees
-sees_by q None = NoGame
-sees_by q (Some g) = ASeat (is_some (option_and_then (λ p. seat_at p g.seats) q))
-
-part_there : (x : Option Part) → is_some (own_of x) ≡ is_some x
-part_there None = refl
-part_there (Some x) = refl
-
-seen_by_power : (q : Option ℕ) (game : Option Game) → seat_by (there_by q game) (option_map (λ g. g.public) game) ≡ sees_by q game
-seen_by_power None None = refl
-seen_by_power None (Some g) = refl
-seen_by_power (Some p) None = refl
-seen_by_power (Some p) (Some g) = ap ASeat (part_there (seat_at p g.seats))
-
-pub seen_seat : (m : Chart) (seat : SeatNote) (name : List ℕ) (s : State) → seat_seen (power_of m seat.power) name s ≡ master_sees m (Master (Replace seat)) (game_at name s)
-seen_seat m seat name s = same (power_of m seat.power) ∙ seen_by_power (power_of m seat.power) (game_at name s) ∙ sees (game_at name s)
-  where
-    same : (q : Option ℕ) → seat_seen q name s ≡ seat_by (there_by q (game_at name s)) (public_at name s)
-    same None = refl
-    same (Some p) = refl
-
-    sees : (game : Option Game) → sees_by (power_of m seat.power) game ≡ master_sees m (Master (Replace seat)) game
-    sees None = refl
-    sees (Some g) = refl
-
 -- what is settled by a sight's verdict is a step
-pub settled_by_sight : (m : Chart) (n : Mail) (s t : State) (sight : Sight) (who : Author) (v : Verdict) (r : Reply) → sight ≡ sight_of m n s → who ≡ author_of sight
-    → DecidedBy m n sight v → Settles n who v s r t → Step m s n r t
-settled_by_sight m n s t sight who v r is whose decided done =
-    let right : IsRight m n s (author m n s) sight = subst (IsRight m n s (author m n s)) (sym is) (is_right m n s) in
-    (v, right.1 v decided, done.0, done.1 ∙ ap (λ (a : Author). after n a v s) (whose ∙ right.0))
+pub settled_by_sight : (m : Chart) (n : Mail) (s t : State) (who : Author) (v : Verdict) (r : Reply) → DecidedFor m n (sight_of m n s) who v → Settles n who v s r t → Step m s n r t
+settled_by_sight m n s t who v r decided done =
+    let right = is_right m n s in (v, right.1 v decided.1, done.0, done.1 ∙ ap (λ (a : Author). after n a v s) (decided.0 ∙ right.0))
 
 -- a count is below the greatest number of papers, or not
 few_papers : (k : ℕ) → (k < most_papers) ⊎ (k < most_papers → ⊥)
@@ -221,11 +164,10 @@ changes_fit m fit never s n text e l is d = whole m s n text e is (fit s n (auth
     place (inr damaged) = absurd (never s n (author m n s) is l damaged)
 
 -- what is decided by a sight finds place and fits the map, or else its author's record may be Damaged
-pub unfit_by_sight : (m : Chart) (n : Mail) (s : State) (sight : Sight) (who : Author) (v : Verdict) → EffectsFit m → IsMail n → sight ≡ sight_of m n s → who ≡ author_of sight
-    → DecidedBy m n sight v → (VerdictFits m n who v s → ⊥) → IsDamagedBy m n s
-unfit_by_sight m n s sight who v fit is_mail is whose decided unfit =
-    let right : IsRight m n s (author m n s) sight = subst (IsRight m n s (author m n s)) (sym is) (is_right m n s) in
-    blamed v (right.1 v decided) (subst (λ (a : Author). VerdictFits m n a v s → ⊥) (whose ∙ right.0) unfit)
+pub unfit_by_sight : (m : Chart) (n : Mail) (s : State) (who : Author) (v : Verdict) → EffectsFit m → IsMail n → DecidedFor m n (sight_of m n s) who v → (VerdictFits m n who v s → ⊥)
+    → IsDamagedBy m n s
+unfit_by_sight m n s who v fit is_mail decided unfit =
+    let right = is_right m n s in blamed v (right.1 v decided.1) (subst (λ (a : Author). VerdictFits m n a v s → ⊥) (decided.0 ∙ right.0) unfit)
   where
     blamed : (v : Verdict) → Decides m s n (author m n s) v → (VerdictFits m n (author m n s) v s → ⊥) → IsDamagedBy m n s
     blamed NotKnown d unfit = absurd (unfit tt)
@@ -258,6 +200,5 @@ fits_in_place m c s fits = by c.effect (game_at c.game s) fits.effect
     by (Seats seat) game fit lacks = lacks
 
 -- and a fault of the sight is one of the letter's author
-pub blamed_by_sight : (m : Chart) (n : Mail) (s : State) (sight : Sight) → sight ≡ sight_of m n s → IsDamagedSight m n sight → IsDamagedBy m n s
-blamed_by_sight m n s sight is bad =
-    let right : IsRight m n s (author m n s) sight = subst (IsRight m n s (author m n s)) (sym is) (is_right m n s) in right.2 bad
+pub blamed_by_sight : (m : Chart) (n : Mail) (s : State) → IsDamagedSight m n (sight_of m n s) → IsDamagedBy m n s
+blamed_by_sight m n s bad = let right = is_right m n s in right.2 bad

@@ -1,29 +1,28 @@
--- What a look at a game gives the master's sight.
-use Rattle.std.specs.Prelude.{ℕ, Bool, false, List, Option, None, Some, is_some}
-use Rattle.dip_desk_machine.specs.Machine.{Sees, NoGame, AGame, ThePublic, TheWhole, ASeat}
-use Rattle.dip_desk_state.specs.State.{Game, State, own_at, public_at}
-use Rattle.dip_desk_state.specs.Records.{Public, Whole}
+-- What is seen of a state for a letter, and what is decided by it.
+use Rattle.std.specs.Prelude.{◌≡◌, ℕ, Option, None, Some, Result}
+use Rattle.dip_map.specs.Charts.{Chart}
+use Rattle.dip_desk.specs.Keeping.{Book, Looks}
+use Rattle.dip_desk.specs.declared.looking.SeatSight.{SeatSight}
+use Rattle.dip_desk_machine.specs.Machine.{DecidedBy, IsDamagedSight, OfMaster, OfNobody, OfSeat, Sight, Verdict, author_of, master_sees}
+use Rattle.dip_desk_machine.specs.Mail.{Mail}
+use Rattle.dip_desk_state.specs.Records.{Kept}
+use Rattle.dip_desk_state.specs.Rows as rows
+use Rattle.dip_desk_state.specs.State.{Author, State, game_at}
+use Rattle.dip_desk_state.specs.declared.faults.KeepFault.{KeepFault}
 
-abbrev pub is_seen : Option Game → Sees
-is_seen None = NoGame
-is_seen (Some g) = AGame
+-- the master's sight, by what is kept of its last letter
+abbrev pub master_seen : Chart → Mail → Option Kept → State → Sight
+master_seen m n kept s = OfMaster kept (master_sees m n.note.command (game_at n.note.game s))
 
-abbrev pub public_seen : Option Public → Sees
-public_seen None = NoGame
-public_seen (Some p) = ThePublic p
+-- a seat's, where the letter is its own
+abbrev pub seat_seen : ℕ → Option SeatSight → Sight
+seat_seen power None = OfNobody
+seat_seen power (Some x) = OfSeat power (rows.public x.public.value) (rows.own x.own) (rows.items x.page.items)
 
-abbrev pub whole_seen : Option Whole → Sees
-whole_seen None = NoGame
-whole_seen (Some w) = TheWhole w
+-- who wrote the letter, and what is decided of it, by a sight alone
+abbrev pub DecidedFor : Chart → Mail → Sight → Author → Verdict → Type 0
+DecidedFor m n sight who v = (who ≡ author_of sight) × DecidedBy m n sight v
 
--- whether a power, where there is one of that name, has a seat in the game
-abbrev pub seat_is_there : Option ℕ → List ℕ → State → Bool
-seat_is_there None game s = false
-seat_is_there (Some power) game s = is_some (own_at game power s)
-
-abbrev pub seat_by : Bool → Option Public → Sees
-seat_by is_there None = NoGame
-seat_by is_there (Some p) = ASeat is_there
-
-abbrev pub seat_seen : Option ℕ → List ℕ → State → Sees
-seat_seen power game s = seat_by (seat_is_there power game s) (public_at game s)
+-- a look at a sight, and what is decided by that alone
+abbrev pub DecidesBy : {K X : Type 0} → Chart → Book K → (old new : K) → Mail → (sight : Sight) → (Sight → X → Type 0) → Result X KeepFault → Type 0
+DecidesBy m b old new n sight Decided result = Looks m b old new (Decided sight) (IsDamagedSight m n sight) result

@@ -1,22 +1,33 @@
-//! Looking up what the author of a letter sees.
-ghost use Rattle.std.specs.Prelude.{◌≡◌, ◌<◌, Some, bytes_eq, length};
+//! Looking up what the author of a letter sees, and deciding by that.
+ghost use Rattle.std.specs.Prelude.{◌≡◌, ◌<◌, Some, IfOk, IsErrOf, bytes_eq, length};
 ghost use Rattle.dip_desk.specs.Keeping.{Looks};
+ghost use Rattle.dip_desk.specs.Looked.{DecidedFor, DecidesBy, seat_seen};
 ghost use Rattle.dip_letters.specs.Views.{request};
-ghost use Rattle.dip_desk_machine.specs.Machine.{digest, master_sight, page_shown, power_sight, sight_of};
+ghost use Rattle.dip_desk_machine.specs.Machine.{IsDamagedSight, IsTimely, digest, master_sight, page_shown, power_sight, sight_of};
 ghost use Rattle.dip_desk_machine.specs.Mail.{mail};
-ghost use Rattle.dip_desk_machine.specs.Sights as sights;
+ghost use Rattle.dip_desk_machine.specs.Verdicts.{verdict};
+ghost use Rattle.dip_desk_state.specs.ChangeRows as desk_rows;
+ghost use Rattle.dip_desk_state.specs.Faults.{faults_after};
 ghost use Rattle.dip_desk_state.specs.State.{Part, part_at};
 ghost use Rattle.dip_desk_state.specs.Rows as rows;
 
 use crate::keeper::Keeper;
 use crate::views::{MasterView, SeatView};
-use dip_desk_machine::{Sight, digest_of};
-use dip_desk_state::{Item, KeepFault};
+use dip_desk_machine::{Verdict, digest_of, seat_verdict};
+use dip_desk_state::{Author, Item, KeepFault, Own, Public};
 use dip_letters::{Command, Letter, PlayerCommand};
 use dip_map::Map;
 use dip_names::Power;
 use std::alloc::Global;
 use std::rc::Rc;
+
+/// What a seat sees: the public part of its game, its own part, and the page of its inbox that its command shows, if it shows one.
+#[derive(Drop)]
+pub struct SeatSight {
+    pub public: Rc<Public>,
+    pub own: Own,
+    pub page: Vec<Rc<Item>>,
+}
 
 /// Whether the letter's secret has this digest.
 fn opens(letter: &Letter<'_>, game: &str, sender: &str, kept: &[u8; 32]) -> bool
@@ -26,27 +37,27 @@ fn opens(letter: &Letter<'_>, game: &str, sender: &str, kept: &[u8; 32]) -> bool
     told.as_slice() == kept.as_slice()
 }
 
-/// What the master sees, where the letter's secret is the master's.
-fn look_as_master<K: Keeper>(
+/// What is decided of a letter of the master, where its secret is the master's.
+fn decide_as_master<K: Keeper>(
+    alloc: Global,
     view: &mut MasterView<'_, K>,
     letter: &Letter<'_>,
-) -> Result<Sight, KeepFault>
+) -> Result<(Author, Verdict), KeepFault>
     requires room { K.book.faults view.old.keeper.now < u64.MAX }
-    requires game { view.old.game.now ≡ letter.now.game.now }
+    requires timely { IsTimely (request letter.now.command) }
     ensures same_reference { view.new.keeper.ghost_name ≡ view.old.keeper.ghost_name }
-    ensures looks { Looks view.old.map.now K.book view.old.keeper.now view.new.keeper.now
-        (λ s. sights.sight s ≡ master_sight view.old.map.now (mail letter.now)
-        (K.book.content view.old.map.now view.old.keeper.now)) ⊥ result }
+    ensures decides { DecidesBy view.old.map.now K.book view.old.keeper.now view.new.keeper.now
+        (mail letter.now) (master_sight view.old.map.now (mail letter.now)
+        (K.book.content view.old.map.now view.old.keeper.now))
+        (λ sight d. DecidedFor view.old.map.now (mail letter.now) sight (desk_rows.author d.0)
+        (verdict d.1)) result }
 {
     let desk = view.desk()?;
     if !opens(letter, "desk", "master", &desk.digest) {
-        return Ok(Sight::Nobody);
+        return Ok((Author::Nobody, Verdict::NotKnown));
     }
-    let sees = view.needed(&letter.command)?;
-    Ok(Sight::Master {
-        kept: desk.kept,
-        sees,
-    })
+    let decided = view.decided(alloc, letter, &desk.kept)?;
+    Ok((Author::TheMaster, decided))
 }
 
 /// The items of the seat's inbox that the command shows: INBOX at most ten, from a number on.
@@ -80,55 +91,76 @@ fn look_as_seat<K: Keeper>(
     alloc: Global,
     view: &mut SeatView<'_, K>,
     letter: &Letter<'_>,
-    power: Power,
-) -> Result<Sight, KeepFault>
+) -> Result<Option<SeatSight>, KeepFault>
     requires room { K.book.faults view.old.keeper.now < u64.MAX }
     requires game { view.old.game.now ≡ letter.now.game.now }
-    requires seat { view.old.power ≡ power }
-    requires power { power < length view.old.map.now.realms }
+    requires power { view.old.power < length view.old.map.now.realms }
     ensures same_reference { view.new.keeper.ghost_name ≡ view.old.keeper.ghost_name }
     ensures looks { Looks view.old.map.now K.book view.old.keeper.now view.new.keeper.now
-        (λ s. sights.sight s ≡ power_sight (mail letter.now) (Some power)
+        (λ x. seat_seen view.old.power x ≡ power_sight (mail letter.now) (Some view.old.power)
         (K.book.content view.old.map.now view.old.keeper.now)) ⊥ result }
 {
     let Some(own) = view.own()? else {
-        return Ok(Sight::Nobody);
+        return Ok(None);
     };
     if !opens(letter, letter.game, letter.sender, &own.digest) {
-        return Ok(Sight::Nobody);
+        return Ok(None);
     }
     let page = look_at_page(alloc, view, &letter.command)?;
     match view.public()? {
-        None => Ok(Sight::Nobody),
-        Some(public) => Ok(Sight::Seat {
-            power,
-            public,
-            own,
-            page,
-        }),
+        None => Ok(None),
+        Some(public) => Ok(Some(SeatSight { public, own, page })),
     }
 }
 
-/// What the author of the letter sees.
-pub fn look<K: Keeper>(
+/// What is decided of a letter of a seat by what it sees.
+fn decide_on(
+    alloc: Global,
+    map: &Map,
+    letter: &Letter<'_>,
+    power: Power,
+    sight: &Option<SeatSight>,
+) -> Result<(Author, Verdict), KeepFault>
+    ensures value { IfOk result
+        (λ d. DecidedFor map.now (mail letter.now) (seat_seen power sight.now)
+        (desk_rows.author d.0) (verdict d.1)) }
+    ensures disk { faults_after result 0 ≡ 0 }
+    ensures sane { IsErrOf result KeepFault.Damaged
+        → IsDamagedSight map.now (mail letter.now) (seat_seen power sight.now) }
+{
+    match sight {
+        None => Ok((Author::Nobody, Verdict::NotKnown)),
+        Some(sight) => {
+            let page = sight.page.as_slice();
+            let decided = seat_verdict(alloc, map, letter, &sight.public, &sight.own, page)?;
+            Ok((Author::Seat(power), decided))
+        }
+    }
+}
+
+/// Who wrote the letter, and what is decided of it by what its author sees.
+pub fn decide<K: Keeper>(
     alloc: Global,
     keeper: &mut K,
     map: &Map,
     letter: &Letter<'_>,
-) -> Result<Sight, KeepFault>
-    requires { K.book.faults keeper.old < u64.MAX }
-    ensures { Looks map.now K.book keeper.old keeper.new
-        (λ s. sights.sight s ≡ sight_of map.now (mail letter.now)
-        (K.book.content map.now keeper.old)) ⊥ result }
+) -> Result<(Author, Verdict), KeepFault>
+    requires room { K.book.faults keeper.old < u64.MAX }
+    requires timely { IsTimely (request letter.now.command) }
+    ensures { DecidesBy map.now K.book keeper.old keeper.new (mail letter.now)
+        (sight_of map.now (mail letter.now) (K.book.content map.now keeper.old))
+        (λ sight d. DecidedFor map.now (mail letter.now) sight (desk_rows.author d.0)
+        (verdict d.1)) result }
 {
     if letter.sender == "master" {
-        return look_as_master(&mut MasterView::new(keeper, map, letter.game), letter);
+        return decide_as_master(alloc, &mut MasterView::new(keeper, map), letter);
     }
     match map.power(letter.sender) {
-        None => Ok(Sight::Nobody),
+        None => Ok((Author::Nobody, Verdict::NotKnown)),
         Some(power) => {
             let mut view = SeatView::new(keeper, map, letter.game, power);
-            look_as_seat(alloc, &mut view, letter, power)
+            let sight = look_as_seat(alloc, &mut view, letter)?;
+            decide_on(alloc, map, letter, power, &sight)
         }
     }
 }

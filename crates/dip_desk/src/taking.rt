@@ -1,4 +1,4 @@
-//! One letter at a time: look, decide, keep.
+//! One letter at a time: look and decide, keep.
 ghost use Rattle.std.specs.Prelude.{◌≡◌, ◌<◌, IfOk, None, Some, map as each, string_bytes};
 ghost use Rattle.dip_desk.specs.Fitting.{VerdictFits};
 ghost use Rattle.dip_desk.specs.Keeping.{Steps};
@@ -12,10 +12,9 @@ ghost use Rattle.dip_desk_state.specs.Rows as rows;
 ghost use Rattle.dip_reports.specs.Texts.{refusal_line};
 
 use crate::keeper::Keeper;
-use crate::looking::look;
+use crate::looking::decide;
 use dip_desk_machine::{
-    Verdict, author_of, effects_fit, lawful_states_stay_lawful, published_movements_are_decided,
-    verdict_on,
+    Verdict, effects_fit, lawful_states_stay_lawful, published_movements_are_decided,
 };
 use dip_desk_state::{Author, Change, Effect, Head, KeepFault, Kept, Outcome, Reply};
 use dip_letters::{Letter, LetterFault, sum};
@@ -156,10 +155,9 @@ pub fn take<K: Keeper>(
         (m.IsDamagedBy map.now (mail letter.now)) result }
 {
     effects_fit(map);
-    let sight = look(alloc, keeper, map, letter)?;
-    match verdict_on(alloc, map, letter, &sight) {
+    match decide(alloc, keeper, map, letter) {
         Err(fault) => Err(fault),
-        Ok(decided) => settle(alloc, keeper, map, letter, author_of(&sight), decided),
+        Ok((author, decided)) => settle(alloc, keeper, map, letter, author, decided),
     }
 }
 

@@ -1,22 +1,25 @@
 //! What can be asked of a keeper for a letter: for a seat's its own part, its inbox and the public part of its game, and for the
-//! master's what its command needs.
-ghost use Rattle.std.specs.Prelude.{◌≡◌, ◌<◌, length, option_map};
-ghost use Rattle.dip_map.specs.Charts.{power_of};
+//! master's what it comes to by what its command needs.
+ghost use Rattle.std.specs.Prelude.{◌≡◌, ◌<◌, is_some, length, option_map};
 ghost use Rattle.dip_desk.specs.Keeping.{Looks};
-ghost use Rattle.dip_desk.specs.Looked.{is_seen, public_seen, seat_is_there, seat_seen, whole_seen};
+ghost use Rattle.dip_desk.specs.Looked.{DecidesBy, master_seen};
 ghost use Rattle.dip_letters.specs.Views.{request};
-ghost use Rattle.dip_desk_machine.specs.Machine.{master_sees};
-ghost use Rattle.dip_desk_machine.specs.Sights as sights;
+ghost use Rattle.dip_desk_machine.specs.Machine.{DecidedBy, IsTimely, has_seat};
+ghost use Rattle.dip_desk_machine.specs.Mail.{mail};
+ghost use Rattle.dip_desk_machine.specs.Verdicts.{verdict};
 ghost use Rattle.dip_desk_state.specs.ChangeRows as desk_rows;
 ghost use Rattle.dip_desk_state.specs.Rows as rows;
-ghost use Rattle.dip_desk_state.specs.State.{game_at, items_at, own_at, public_at, whole_at};
+ghost use Rattle.dip_desk_state.specs.State.{game_at, items_at, own_at, public_at};
 
 use crate::keeper::Keeper;
-use dip_desk_machine::Sees;
-use dip_desk_state::{Desk, Item, KeepFault, Own, Public};
-use dip_letters::{Command, MasterCommand};
+use dip_desk_machine::{
+    Verdict, decide_create, decide_notice, decide_power_command, decide_replace, decide_tick,
+};
+use dip_desk_state::{Desk, Item, KeepFault, Kept, Own, Public};
+use dip_letters::{Command, Letter, MasterCommand};
 use dip_map::Map;
 use dip_names::Power;
+use std::alloc::Global;
 use std::rc::Rc;
 
 /// A keeper of which nothing can be asked but one seat's own part, its inbox and the public part of its game.
@@ -96,117 +99,89 @@ impl<'k, K: Keeper> SeatView<'k, K> {
     }
 }
 
-/// A keeper of which nothing can be asked but the master's row, and of one game what a command of the master needs.
+/// A keeper of which nothing can be asked but the master's row, and what a letter of the master comes to.
 #[derive(Drop)]
 pub(crate) struct MasterView<'k, K> {
     keeper: &'k mut K,
     map: &'k Map,
-    game: &'k str,
 }
 
 /// Whether there is a game of that name, which is all that some commands need of it.
-fn look_for_game<K: Keeper>(keeper: &mut K, map: &Map, game: &str) -> Result<Sees, KeepFault>
+fn look_for_game<K: Keeper>(keeper: &mut K, map: &Map, game: &str) -> Result<bool, KeepFault>
     requires { K.book.faults keeper.old < u64.MAX }
     ensures { Looks map.now K.book keeper.old keeper.new
-        (λ x. sights.sees x ≡ is_seen (game_at game.now (K.book.content map.now keeper.old))) ⊥
-        result }
+        (λ b. b ≡ is_some (game_at game.now (K.book.content map.now keeper.old))) ⊥ result }
 {
-    match keeper.public(map, game)? {
-        None => Ok(Sees::NoGame),
-        Some(_) => Ok(Sees::AGame),
-    }
+    Ok(keeper.public(map, game)?.is_some())
 }
 
-/// The public part of the game, for notices.
-fn look_at_public<K: Keeper>(keeper: &mut K, map: &Map, game: &str) -> Result<Sees, KeepFault>
-    requires { K.book.faults keeper.old < u64.MAX }
-    ensures { Looks map.now K.book keeper.old keeper.new
-        (λ x. sights.sees x
-        ≡ public_seen (public_at game.now (K.book.content map.now keeper.old))) ⊥ result }
-{
-    match keeper.public(map, game)? {
-        None => Ok(Sees::NoGame),
-        Some(public) => Ok(Sees::ThePublic(public)),
-    }
-}
-
-/// All of the game, for TICK.
-fn look_at_whole<K: Keeper>(keeper: &mut K, map: &Map, game: &str) -> Result<Sees, KeepFault>
-    requires { K.book.faults keeper.old < u64.MAX }
-    ensures { Looks map.now K.book keeper.old keeper.new
-        (λ x. sights.sees x ≡ whole_seen (whole_at game.now (K.book.content map.now keeper.old)))
-        ⊥ result }
-{
-    match keeper.whole(map, game)? {
-        None => Ok(Sees::NoGame),
-        Some(whole) => Ok(Sees::TheWhole(whole)),
-    }
-}
-
-/// Whether the power of that name has a seat in the game.
-fn has_seat<K: Keeper>(keeper: &mut K, map: &Map, game: &str, name: &str) -> Result<bool, KeepFault>
-    requires { K.book.faults keeper.old < u64.MAX }
-    ensures { Looks map.now K.book keeper.old keeper.new
-        (λ b. b ≡ seat_is_there (power_of map.now name.now) game.now
-        (K.book.content map.now keeper.old)) ⊥ result }
-{
-    match map.power(name) {
-        None => Ok(false),
-        Some(power) => Ok(keeper.own(map, game, power)?.is_some()),
-    }
-}
-
-/// Whether the power of that name has a seat, for REPLACE.
+/// Whether the power of that name has a seat in the game; `None` where there is no such game.
 fn look_for_seat<K: Keeper>(
     keeper: &mut K,
     map: &Map,
     game: &str,
     name: &str,
-) -> Result<Sees, KeepFault>
+) -> Result<Option<bool>, KeepFault>
     requires { K.book.faults keeper.old < u64.MAX }
     ensures { Looks map.now K.book keeper.old keeper.new
-        (λ x. sights.sees x ≡ seat_seen (power_of map.now name.now) game.now
-        (K.book.content map.now keeper.old)) ⊥ result }
+        (λ x. x ≡ option_map (has_seat map.now name.now)
+        (game_at game.now (K.book.content map.now keeper.old))) ⊥ result }
 {
-    let is_there = has_seat(keeper, map, game, name)?;
-    match keeper.public(map, game)? {
-        None => Ok(Sees::NoGame),
-        Some(_) => Ok(Sees::ASeat(is_there)),
+    if !look_for_game(keeper, map, game)? {
+        return Ok(None);
+    }
+    match map.power(name) {
+        None => Ok(Some(false)),
+        Some(power) => Ok(Some(keeper.own(map, game, power)?.is_some())),
     }
 }
 
-/// What a command of the master needs of the game that its letter names.
-fn look_as_needed<K: Keeper>(
+/// What a letter of the master comes to: its command is handed what it needs of the game, and nothing else is asked for.
+fn decide_as_needed<K: Keeper>(
+    alloc: Global,
     keeper: &mut K,
     map: &Map,
-    game: &str,
-    command: &Command<'_>,
-) -> Result<Sees, KeepFault>
-    requires { K.book.faults keeper.old < u64.MAX }
-    ensures { Looks map.now K.book keeper.old keeper.new
-        (λ x. sights.sees x ≡ master_sees map.now (request command.now)
-        (game_at game.now (K.book.content map.now keeper.old))) ⊥ result }
+    letter: &Letter<'_>,
+    kept: &Option<Kept>,
+) -> Result<Verdict, KeepFault>
+    requires room { K.book.faults keeper.old < u64.MAX }
+    requires timely { IsTimely (request letter.now.command) }
+    ensures { DecidesBy map.now K.book keeper.old keeper.new (mail letter.now)
+        (master_seen map.now (mail letter.now) (option_map rows.kept kept.now)
+        (K.book.content map.now keeper.old))
+        (λ sight v. DecidedBy map.now (mail letter.now) sight (verdict v)) result }
 {
-    match command {
-        Command::Player(_) | Command::Master(MasterCommand::Create(_)) => {
-            look_for_game(keeper, map, game)
+    match &letter.command {
+        Command::Player(_) => {
+            let is_there = look_for_game(keeper, map, letter.game)?;
+            Ok(decide_power_command(alloc, letter, kept, is_there)?)
         }
-        Command::Master(MasterCommand::Tick(_)) => look_at_whole(keeper, map, game),
+        Command::Master(MasterCommand::Create(opening)) => {
+            let is_there = look_for_game(keeper, map, letter.game)?;
+            Ok(decide_create(alloc, map, letter, kept, opening, is_there)?)
+        }
+        Command::Master(MasterCommand::Tick(tick)) => {
+            let whole = keeper.whole(map, letter.game)?;
+            decide_tick(alloc, map, letter, kept, *tick, whole)
+        }
         Command::Master(MasterCommand::Replace(seat)) => {
-            look_for_seat(keeper, map, game, seat.power)
+            let is_seated = look_for_seat(keeper, map, letter.game, seat.power)?;
+            Ok(decide_replace(alloc, map, letter, kept, seat, is_seated)?)
         }
-        Command::Master(MasterCommand::Notify(_)) => look_at_public(keeper, map, game),
+        Command::Master(MasterCommand::Notify(notice)) => {
+            let public = keeper.public(map, letter.game)?;
+            decide_notice(alloc, map, letter, kept, notice, public)
+        }
     }
 }
 
 impl<'k, K: Keeper> MasterView<'k, K> {
-    pub(crate) fn new(keeper: &'k mut K, map: &'k Map, game: &'k str) -> MasterView<'k, K>
+    pub(crate) fn new(keeper: &'k mut K, map: &'k Map) -> MasterView<'k, K>
         ensures same_reference { result.keeper.ghost_name ≡ keeper.entry.ghost_name }
         ensures keeper { result.keeper.now ≡ keeper.old }
         ensures map { result.map.now ≡ map.now }
-        ensures game { result.game.now ≡ game.now }
     {
-        MasterView { keeper, map, game }
+        MasterView { keeper, map }
     }
 
     /// The master's row.
@@ -214,7 +189,6 @@ impl<'k, K: Keeper> MasterView<'k, K> {
         requires { K.book.faults self.old.keeper.now < u64.MAX }
         ensures same_reference { self.new.keeper.ghost_name ≡ self.old.keeper.ghost_name }
         ensures map { self.new.map.now ≡ self.old.map.now }
-        ensures game { self.new.game.now ≡ self.old.game.now }
         ensures looks { Looks self.old.map.now K.book self.old.keeper.now self.new.keeper.now
             (λ d. desk_rows.desk d
             ≡ (K.book.content self.old.map.now self.old.keeper.now).desk) ⊥ result }
@@ -222,17 +196,21 @@ impl<'k, K: Keeper> MasterView<'k, K> {
         self.keeper.desk()
     }
 
-    /// What the command needs of the game.
-    pub(crate) fn needed(&mut self, command: &Command<'_>) -> Result<Sees, KeepFault>
-        requires { K.book.faults self.old.keeper.now < u64.MAX }
+    /// What a letter of the master comes to, by what its command needs of its game.
+    pub(crate) fn decided(
+        &mut self,
+        alloc: Global,
+        letter: &Letter<'_>,
+        kept: &Option<Kept>,
+    ) -> Result<Verdict, KeepFault>
+        requires room { K.book.faults self.old.keeper.now < u64.MAX }
+        requires timely { IsTimely (request letter.now.command) }
         ensures same_reference { self.new.keeper.ghost_name ≡ self.old.keeper.ghost_name }
-        ensures map { self.new.map.now ≡ self.old.map.now }
-        ensures game { self.new.game.now ≡ self.old.game.now }
-        ensures looks { Looks self.old.map.now K.book self.old.keeper.now self.new.keeper.now
-            (λ x. sights.sees x ≡ master_sees self.old.map.now (request command.now)
-            (game_at self.old.game.now (K.book.content self.old.map.now self.old.keeper.now)))
-            ⊥ result }
+        ensures decides { DecidesBy self.old.map.now K.book self.old.keeper.now
+            self.new.keeper.now (mail letter.now) (master_seen self.old.map.now (mail letter.now)
+            (option_map rows.kept kept.now) (K.book.content self.old.map.now self.old.keeper.now))
+            (λ sight v. DecidedBy self.old.map.now (mail letter.now) sight (verdict v)) result }
     {
-        look_as_needed(self.keeper, self.map, self.game, command)
+        decide_as_needed(alloc, self.keeper, self.map, letter, kept)
     }
 }

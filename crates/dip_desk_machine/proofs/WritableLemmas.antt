@@ -149,14 +149,14 @@ of_noted m (Period period) p fits of = record { board = of.board; status = of.st
 of_noted m (Announce text) p fits of = record { board = of.board; status = of.status; due = of.due; period = of.period }
 of_noted m Close p fits of = record { board = of.board; status = tt; due = of.due; period = of.period }
 
-due_low : (tick : ℕ) (p : Public) (course : Course) → tick ≤ 999999999999 → p.due ≤ 1000000999998 → p.period ≤ 999999 → due_after tick p course ≤ 1000000999998
-due_low tick p GoesOn timely due period = omega (arith, timely, period)
-due_low tick p (WonBy power) timely due period = due
-due_low tick p AtAnEnd timely due period = due
+due_low : (tick due period : ℕ) (course : Course) → tick ≤ 999999999999 → due ≤ 1000000999998 → period ≤ 999999 → due_after tick due period course ≤ 1000000999998
+due_low tick due period GoesOn timely low short = omega (arith, timely, short)
+due_low tick due period (WonBy power) timely low short = low
+due_low tick due period AtAnEnd timely low short = low
 
 pub of_played : (m : Chart) (tick : ℕ) (p : Public) (b : Position) (course : Course) → tick ≤ 999999999999 → IsPublicOf m p → IsOf m b → IsStatusOf m (status_after course)
     → IsPublicOf m (public_played tick p b course)
-of_played m tick p b course timely of board status = record { board = board; status = status; due = due_low tick p course timely of.due of.period; period = of.period }
+of_played m tick p b course timely of board status = record { board = board; status = status; due = due_low tick p.due p.period course timely of.due of.period; period = of.period }
 
 -- whoever has won by a phase is a power of the map
 pub status_played : (m : Chart) (b : Position) (pending : List PlacedOrder) (new : Position) (report : Report) → WinnersOwnMore → IsOf m new → IsPlayed m b pending new report

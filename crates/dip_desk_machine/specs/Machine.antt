@@ -396,11 +396,14 @@ author_of OfNobody = Nobody
 author_of (OfMaster kept sees) = TheMaster
 author_of (OfSeat power public own page) = Seat power
 
+-- what a letter of the master may come to by what its command sees alone: what it may come to in each game of which it sees that
+abbrev pub MasterDecidesBy : Chart → Mail → Option Kept → Request → Sees → Verdict → Type 0
+MasterDecidesBy m n k command sees v = (game : Option Game) → master_sees m command game ≡ sees → MasterDecides m n k command game v
+
 -- what may be decided of a letter by a sight alone
 abbrev pub DecidedBy : Chart → Mail → Sight → Verdict → Type 0
 DecidedBy m n OfNobody v = v ≡ NotKnown
-DecidedBy m n (OfMaster kept sees) v =
-    (game : Option Game) → master_sees m n.note.command game ≡ sees → MasterDecides m n kept n.note.command game v
+DecidedBy m n (OfMaster kept sees) v = MasterDecidesBy m n kept n.note.command sees v
 DecidedBy m n (OfSeat power public own page) v = v ≡ seat_verdict m n public own page
 
 -- of a game by which nothing can be decided: its phase can't be adjudicated, or it can't publish

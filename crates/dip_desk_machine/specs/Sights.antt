@@ -1,20 +1,24 @@
--- What the code's sights say.
-use Rattle.std.specs.Prelude.{option_map}
-use Rattle.dip_desk_machine.specs.Machine as m
-use Rattle.dip_desk_state.specs.Rows as rows
-use Rattle.dip_desk_machine.specs.declared.sights.Sees.{Sees}
-use Rattle.dip_desk_machine.specs.declared.sights.Sees.TheVariants.{NoGame, AGame, ThePublic, TheWhole, ASeat}
-use Rattle.dip_desk_machine.specs.declared.sights.Sight.{Sight}
-use Rattle.dip_desk_machine.specs.declared.sights.Sight.TheVariants.{Nobody, Master, Seat}
+-- What the master sees of a game, by what its command is handed.
+use Rattle.std.specs.Prelude.{Bool, true, false, Option, None, Some}
+use Rattle.dip_desk_machine.specs.Machine.{Sees, NoGame, AGame, ThePublic, TheWhole, ASeat}
+use Rattle.dip_desk_state.specs.Records.{Public, Whole}
 
-abbrev pub sees : Sees → m.Sees
-sees NoGame = m.NoGame
-sees AGame = m.AGame
-sees (ThePublic public) = m.ThePublic (rows.public public.value)
-sees (TheWhole whole) = m.TheWhole (rows.whole whole)
-sees (ASeat is_there) = m.ASeat is_there
+-- whether there is a game
+abbrev pub game_seen : Bool → Sees
+game_seen true = AGame
+game_seen false = NoGame
 
-abbrev pub sight : Sight → m.Sight
-sight Nobody = m.OfNobody
-sight (Master kept of_game) = m.OfMaster (option_map rows.kept kept) (sees of_game)
-sight (Seat power public own page) = m.OfSeat power (rows.public public.value) (rows.own own) (rows.items page.items)
+-- its public part
+abbrev pub public_seen : Option Public → Sees
+public_seen None = NoGame
+public_seen (Some public) = ThePublic public
+
+-- all of it
+abbrev pub whole_seen : Option Whole → Sees
+whole_seen None = NoGame
+whole_seen (Some whole) = TheWhole whole
+
+-- whether a power has a seat in it
+abbrev pub seat_seen : Option Bool → Sees
+seat_seen None = NoGame
+seat_seen (Some is_there) = ASeat is_there

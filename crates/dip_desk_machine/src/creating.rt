@@ -1,5 +1,5 @@
 //! What CREATE comes to.
-ghost use Rattle.std.specs.Prelude.{◌≡◌, ◌==◌, Option, IfOk, count_by, is_none, map as each, option_map};
+ghost use Rattle.std.specs.Prelude.{◌≡◌, ◌==◌, Option, IfOk, count_by, is_some, map as each, option_map};
 ghost use Rattle.dip_letters.specs.Letters.{is_on};
 ghost use Rattle.dip_letters.specs.Views.{seat_note, seats_in};
 ghost use Rattle.dip_desk_state.specs.State as s;
@@ -8,7 +8,7 @@ ghost use Rattle.dip_desk_state.specs.ChangeRows as desk_rows;
 ghost use Rattle.dip_desk_machine.specs.Verdicts.{verdict};
 ghost use Rattle.dip_desk_state.specs.Rows as rows;
 
-use crate::sights::digest_of;
+use crate::digests::digest_of;
 use crate::verdicts::{Verdict, refusal_verdict};
 use dip_desk_state::{Effect, NewSeat, Public, Status};
 use dip_letters::{Opening, Seat, Seats};
@@ -103,14 +103,14 @@ fn open_game(
     map: &Map,
     public: Public,
     seats: Vec<NewSeat>,
-    is_free: bool,
+    is_there: bool,
 ) -> Result<Verdict, AllocError>
     ensures { IfOk result
-        (λ v. (game : Option s.Game) → is_free ≡ is_none game
+        (λ v. (game : Option s.Game) → is_there ≡ is_some game
         → verdict v ≡ m.open_game map.now (rows.public public) (each desk_rows.new_seat seats.items)
         game) }
 {
-    if !is_free {
+    if is_there {
         return refusal_verdict(alloc, Refusal::NameTaken);
     }
     let paper = opening_paper_text(alloc, map, &public)?;
@@ -124,16 +124,16 @@ fn open_game(
     ))
 }
 
-/// What CREATE comes to, by its seats and whether its name is free.
+/// What CREATE comes to, by its seats and whether there is a game of its name.
 pub fn creation(
     alloc: Global,
     map: &Map,
     game: &str,
     opening: &Opening<'_>,
-    is_free: bool,
+    is_there: bool,
 ) -> Result<Verdict, AllocError>
     ensures { IfOk result
-        (λ v. (known : Option s.Game) → is_free ≡ is_none known
+        (λ v. (known : Option s.Game) → is_there ≡ is_some known
         → verdict v ≡ m.creation map.now
         (m.opening_public map.now game.now opening.now.due opening.now.period opening.now.grey
         (is_on opening.now.intent))
@@ -146,5 +146,5 @@ pub fn creation(
         return refusal_verdict(alloc, Refusal::Malformed);
     }
     let public = opening_public(alloc, map, game, opening)?;
-    open_game(alloc, map, public, seats, is_free)
+    open_game(alloc, map, public, seats, is_there)
 }

@@ -1,22 +1,19 @@
-//! What is decided of a letter, by what its author sees alone.
+//! What is decided of a letter of a seat, by what the seat sees alone.
 ghost use Rattle.std.specs.Prelude.{◌≡◌, [], Some, IfOk, IsErrOf, true};
 ghost use Rattle.dip_letters.specs.Notes.PlayerRequest.{Orders};
-ghost use Rattle.dip_letters.specs.Views.{lines_in, player_request, request};
+ghost use Rattle.dip_letters.specs.Views.{lines_in, player_request};
 ghost use Rattle.dip_desk_state.specs.Faults.{faults_after};
 ghost use Rattle.dip_desk_machine.specs.Mail.{mail};
 ghost use Rattle.dip_desk_machine.specs.Machine as m;
 ghost use Rattle.dip_desk_machine.specs.Ordering.{has_foreign, outcome_of_lines};
-ghost use Rattle.dip_desk_machine.specs.Sights as sights;
 ghost use Rattle.dip_desk_state.specs.State.{Pending};
 ghost use Rattle.dip_desk_machine.specs.Ticking.{is_over};
 ghost use Rattle.dip_desk_machine.specs.Verdicts.{verdict};
 ghost use Rattle.dip_desk_state.specs.Rows as rows;
 ghost use Rattle.dip_reports.specs.Texts.{withdrawn_line};
 
-use crate::mastering::master_verdict;
 use crate::ordering::{Ordered, kept_orders, standing_orders, take_lines};
 use crate::pressing::press_verdict;
-use crate::sights::Sight;
 use crate::ticking::is_over;
 use crate::verdicts::{Verdict, old_number, refusal_verdict};
 use crate::voting::{plain_vote, vote_for_verdict, vote_verdict};
@@ -126,7 +123,7 @@ fn player_verdict(
 }
 
 /// What a seat's letter comes to, by what the seat sees alone.
-fn seat_verdict(
+pub fn seat_verdict(
     alloc: Global,
     map: &Map,
     letter: &Letter<'_>,
@@ -147,31 +144,5 @@ fn seat_verdict(
     match &letter.command {
         Command::Player(command) => player_verdict(alloc, map, command, public, own, page),
         Command::Master(_) => Ok(refusal_verdict(alloc, Refusal::WrongSender)?),
-    }
-}
-
-/// What is decided of a letter by what its author sees.
-pub fn verdict_on(
-    alloc: Global,
-    map: &Map,
-    letter: &Letter<'_>,
-    sight: &Sight,
-) -> Result<Verdict, KeepFault>
-    requires timely { m.IsTimely (request letter.now.command) }
-    ensures value { IfOk result
-        (λ v. m.DecidedBy map.now (mail letter.now) (sights.sight sight.now) (verdict v)) }
-    ensures disk { faults_after result 0 ≡ 0 }
-    ensures sane { IsErrOf result KeepFault.Damaged
-        → m.IsDamagedSight map.now (mail letter.now) (sights.sight sight.now) }
-{
-    match sight {
-        Sight::Nobody => Ok(Verdict::NotKnown),
-        Sight::Master { kept, sees } => master_verdict(alloc, map, letter, kept, sees),
-        Sight::Seat {
-            public,
-            own,
-            page,
-            ..
-        } => seat_verdict(alloc, map, letter, public, own, page.as_slice()),
     }
 }

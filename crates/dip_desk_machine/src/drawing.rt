@@ -195,22 +195,18 @@ pub fn drawn_between(
 pub fn draw_verdict(
     alloc: Global,
     map: &Map,
-    public: &Public,
+    public: Public,
     powers: Vec<Power>,
 ) -> Result<Verdict, AllocError>
-    requires { public.now.papers < most_papers }
+    requires { public.papers < most_papers }
     ensures { IfOk result
         (λ v. verdict v
-        ≡ m.draw_verdict map.now (d.public_drawn powers.items (rows.public public.now))) }
+        ≡ m.draw_verdict map.now (d.public_drawn powers.items (rows.public public))) }
 {
     let behind = Public {
-        game: public.game.clone()?,
-        board: public.board.copy(alloc)?,
         status: Status::Drawn(powers),
-        due: public.due,
-        period: public.period,
-        grey: public.grey,
         papers: public.papers + 1,
+        ..public
     };
     let line = paper_line(alloc, behind.papers)?;
     let paper = draw_paper_text(alloc, map, &behind)?;

@@ -3,6 +3,7 @@
 
 mod creating;
 mod deciding;
+mod digests;
 mod drawing;
 mod laws;
 mod mastering;
@@ -10,12 +11,12 @@ mod noting;
 mod ordering;
 mod pressing;
 mod replacing;
-mod sights;
 mod ticking;
 mod verdicts;
 mod voting;
 
-pub use deciding::verdict_on;
+pub use deciding::seat_verdict;
+pub use digests::digest_of;
 pub use laws::{
     answered_from_what_is_seen, draws_are_agreed, effects_are_shown, effects_fit,
     games_keep_their_intent, histories_are_one, lawful_states_stay_lawful, letters_act_once,
@@ -23,5 +24,7 @@ pub use laws::{
     standing_orders_are_given, third_seats_see_alike, titles_tell_what_was_played,
     votes_are_untold,
 };
-pub use sights::{Sees, Sight, author_of, digest_of};
+pub use mastering::{
+    decide_create, decide_notice, decide_power_command, decide_replace, decide_tick,
+};
 pub use verdicts::Verdict;

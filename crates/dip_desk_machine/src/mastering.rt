@@ -1,213 +1,141 @@
-//! What is decided of a letter of the master, by what its command needs of its game.
-ghost use Rattle.std.specs.Prelude.{◌≡◌, ◌≤◌, Option, None, IfOk, IsErrOf, option_map};
-ghost use Rattle.dip_letters.specs.Letters.{is_on};
-ghost use Rattle.dip_letters.specs.Views.{notice_request, request, seat_note, seats_in};
+//! What is decided of a letter of the master: each command by what it needs of its game, which is all that it is handed.
+ghost use Rattle.std.specs.Prelude.{◌≡◌, ◌≤◌, None, IfOk, IsErrOf, option_map};
+ghost use Rattle.dip_map.specs.Charts.{Chart};
+ghost use Rattle.dip_letters.specs.Notes.{PlayerRequest};
+ghost use Rattle.dip_letters.specs.Notes.MasterRequest.{Create, Notify, Replace, Tick};
+ghost use Rattle.dip_letters.specs.Notes.Request.{Master, Player};
+ghost use Rattle.dip_letters.specs.Views.{notice_request, seat_note, seats_in};
 ghost use Rattle.dip_desk_state.specs.Faults.{faults_after};
 ghost use Rattle.dip_desk_machine.specs.Mail.{mail};
-ghost use Rattle.dip_desk_machine.specs.Machine as m;
-ghost use Rattle.dip_desk_machine.specs.Sights as sights;
-ghost use Rattle.dip_desk_state.specs.State as s;
+ghost use Rattle.dip_desk_machine.specs.Machine.{IsDamagedSight, MasterDecidesBy, OfMaster};
+ghost use Rattle.dip_desk_machine.specs.Sights.{game_seen, public_seen, seat_seen, whole_seen};
 ghost use Rattle.dip_desk_machine.specs.Verdicts.{verdict};
 ghost use Rattle.dip_desk_state.specs.Rows as rows;
 
 use crate::creating::creation;
 use crate::noting::notice_verdict;
 use crate::replacing::replacement;
-use crate::sights::Sees;
 use crate::ticking::tick_verdict;
 use crate::verdicts::{Verdict, old_number, refusal_verdict};
-use dip_desk_state::{KeepFault, Kept};
-use dip_letters::{Command, Letter, MasterCommand, Notice, Opening, Seat};
+use dip_desk_state::{KeepFault, Kept, Public, Whole};
+use dip_letters::{Letter, Notice, Opening, Seat};
 use dip_map::Map;
 use dip_reports::Refusal;
 use std::alloc::{AllocError, Global};
+use std::rc::Rc;
 
-/// A command that isn't for this sender.
-fn wrong_sender(alloc: Global) -> Result<Verdict, KeepFault>
-    ensures value { IfOk result (λ v. verdict v ≡ m.refusal_verdict Refusal.WrongSender) }
-    ensures fault { IsErrOf result KeepFault.Damaged → ⊥ }
-    ensures disk { faults_after result 0 ≡ 0 }
+/// What a power's command of the master comes to, by whether there is a game: it isn't for this sender.
+pub fn decide_power_command(
+    alloc: Global,
+    letter: &Letter<'_>,
+    kept: &Option<Kept>,
+    is_there: bool,
+) -> Result<Verdict, AllocError>
+    ensures { IfOk result
+        (λ v. (m : Chart) (command : PlayerRequest) → MasterDecidesBy m (mail letter.now)
+        (option_map rows.kept kept.now) (Player command) (game_seen is_there) (verdict v)) }
 {
-    Ok(refusal_verdict(alloc, Refusal::WrongSender)?)
+    if !is_there {
+        return Ok(Verdict::NotKnown);
+    }
+    match old_number(alloc, letter, kept)? {
+        Some(old) => Ok(old),
+        None => refusal_verdict(alloc, Refusal::WrongSender),
+    }
 }
 
-/// What TICK comes to by what the master sees, which is all of the game.
-fn tick_by(alloc: Global, map: &Map, tick: u64, sees: &Sees) -> Result<Verdict, KeepFault>
+/// What CREATE comes to, by whether there is a game of its name.
+pub fn decide_create(
+    alloc: Global,
+    map: &Map,
+    letter: &Letter<'_>,
+    kept: &Option<Kept>,
+    opening: &Opening<'_>,
+    is_there: bool,
+) -> Result<Verdict, AllocError>
+    ensures { IfOk result
+        (λ v. MasterDecidesBy map.now (mail letter.now) (option_map rows.kept kept.now)
+        (Master (Create opening.now.due opening.now.period opening.now.grey opening.now.intent
+        (seats_in opening.now.seats))) (game_seen is_there) (verdict v)) }
+{
+    match old_number(alloc, letter, kept)? {
+        Some(old) => Ok(old),
+        None => creation(alloc, map, letter.game, opening, is_there),
+    }
+}
+
+/// What TICK comes to, by all of its game, if there is one.
+pub fn decide_tick(
+    alloc: Global,
+    map: &Map,
+    letter: &Letter<'_>,
+    kept: &Option<Kept>,
+    tick: u64,
+    whole: Option<Whole>,
+) -> Result<Verdict, KeepFault>
     requires timely { tick ≤ 999999999999 }
     ensures value { IfOk result
-        (λ v. (g : s.Game) → m.TheWhole (s.whole_of g) ≡ sights.sees sees.now
-        → m.TicksIn map.now tick g (verdict v)) }
+        (λ v. MasterDecidesBy map.now (mail letter.now) (option_map rows.kept kept.now)
+        (Master (Tick tick)) (whole_seen (option_map rows.whole whole)) (verdict v)) }
     ensures disk { faults_after result 0 ≡ 0 }
     ensures sane { IsErrOf result KeepFault.Damaged
-        → m.IsDamagedGame map.now (sights.sees sees.now) }
+        → IsDamagedSight map.now (mail letter.now)
+        (OfMaster (option_map rows.kept kept.now) (whole_seen (option_map rows.whole whole))) }
 {
-    match sees {
-        Sees::TheWhole(whole) => tick_verdict(alloc, map, tick, whole),
-        Sees::NoGame | Sees::AGame | Sees::ThePublic(_) | Sees::ASeat(_) => wrong_sender(alloc),
-    }
-}
-
-/// What REPLACE comes to by what the master sees, which is whether the seat is there.
-fn replace_by(
-    alloc: Global,
-    map: &Map,
-    game: &str,
-    seat: &Seat<'_>,
-    sees: &Sees,
-) -> Result<Verdict, KeepFault>
-    ensures value { IfOk result
-        (λ v. (g : s.Game) → m.ASeat (m.has_seat map.now seat.now.power.now g) ≡ sights.sees
-        sees.now → verdict v ≡ m.replacement map.now game.now (seat_note seat.now)
-        (m.has_seat map.now seat.now.power.now g)) }
-    ensures disk { faults_after result 0 ≡ 0 }
-    ensures sane { IsErrOf result KeepFault.Damaged
-        → m.IsDamagedGame map.now (sights.sees sees.now) }
-{
-    match sees {
-        Sees::ASeat(is_there) => Ok(replacement(alloc, map, game, seat, *is_there)?),
-        Sees::NoGame | Sees::AGame | Sees::ThePublic(_) | Sees::TheWhole(_) => {
-            wrong_sender(alloc)
-        }
-    }
-}
-
-/// What a notice comes to by what the master sees, which is the public part of the game.
-fn notify_by(
-    alloc: Global,
-    map: &Map,
-    notice: &Notice<'_>,
-    sees: &Sees,
-) -> Result<Verdict, KeepFault>
-    ensures value { IfOk result
-        (λ v. (g : s.Game) → m.ThePublic g.public ≡ sights.sees sees.now
-        → verdict v ≡ m.notice_verdict map.now (notice_request notice.now) g.public) }
-    ensures disk { faults_after result 0 ≡ 0 }
-    ensures sane { IsErrOf result KeepFault.Damaged
-        → m.IsDamagedGame map.now (sights.sees sees.now) }
-{
-    match sees {
-        Sees::ThePublic(public) => notice_verdict(alloc, map, notice, public),
-        Sees::NoGame | Sees::AGame | Sees::TheWhole(_) | Sees::ASeat(_) => wrong_sender(alloc),
-    }
-}
-
-/// What a new letter of the master comes to in a game that is there.
-fn verdict_in_game(
-    alloc: Global,
-    map: &Map,
-    letter: &Letter<'_>,
-    sees: &Sees,
-) -> Result<Verdict, KeepFault>
-    requires timely { m.IsTimely (request letter.now.command) }
-    ensures value { IfOk result
-        (λ v. (g : s.Game)
-        → m.needs_of map.now (request letter.now.command) g ≡ sights.sees sees.now
-        → m.DecidesIn map.now (mail letter.now) (request letter.now.command) g (verdict v)) }
-    ensures disk { faults_after result 0 ≡ 0 }
-    ensures sane { IsErrOf result KeepFault.Damaged
-        → m.IsDamagedGame map.now (sights.sees sees.now) }
-{
-    let Command::Master(command) = &letter.command else {
-        return wrong_sender(alloc);
+    let Some(whole) = whole else {
+        return Ok(Verdict::NotKnown);
     };
-    match command {
-        MasterCommand::Create(opening) => Ok(creation(alloc, map, letter.game, opening, false)?),
-        MasterCommand::Tick(tick) => tick_by(alloc, map, *tick, sees),
-        MasterCommand::Replace(seat) => replace_by(alloc, map, letter.game, seat, sees),
-        MasterCommand::Notify(notice) => notify_by(alloc, map, notice, sees),
-    }
-}
-
-/// What CREATE comes to where its name is free.
-fn verdict_on_opening(
-    alloc: Global,
-    map: &Map,
-    letter: &Letter<'_>,
-    opening: &Opening<'_>,
-    kept: &Option<Kept>,
-) -> Result<Verdict, AllocError>
-    ensures { IfOk result
-        (λ v. m.NumberedBy (m.old_number (mail letter.now) (option_map rows.kept kept.now))
-        (λ w. w ≡ m.creation map.now (m.opening_public map.now letter.now.game.now opening.now.due
-        opening.now.period opening.now.grey (is_on opening.now.intent))
-        (m.new_seats map.now letter.now.game.now (seats_in opening.now.seats)) None) (verdict v)) }
-{
     match old_number(alloc, letter, kept)? {
         Some(old) => Ok(old),
-        None => creation(alloc, map, letter.game, opening, true),
+        None => tick_verdict(alloc, map, tick, whole),
     }
 }
 
-/// What a letter of the master comes to where no game has the name.
-fn verdict_without_game(
+/// What REPLACE comes to, by whether the power that it names has a seat in its game, if there is one.
+pub fn decide_replace(
     alloc: Global,
     map: &Map,
     letter: &Letter<'_>,
     kept: &Option<Kept>,
+    seat: &Seat<'_>,
+    is_seated: Option<bool>,
 ) -> Result<Verdict, AllocError>
     ensures { IfOk result
-        (λ v. m.DecidesNew map.now (mail letter.now) (option_map rows.kept kept.now)
-        (request letter.now.command) (verdict v)) }
+        (λ v. MasterDecidesBy map.now (mail letter.now) (option_map rows.kept kept.now)
+        (Master (Replace (seat_note seat.now))) (seat_seen is_seated) (verdict v)) }
 {
-    match &letter.command {
-        Command::Master(MasterCommand::Create(opening)) => {
-            verdict_on_opening(alloc, map, letter, opening, kept)
-        }
-        Command::Player(_)
-        | Command::Master(MasterCommand::Tick(_))
-        | Command::Master(MasterCommand::Replace(_))
-        | Command::Master(MasterCommand::Notify(_)) => Ok(Verdict::NotKnown),
-    }
-}
-
-/// What a letter of the master comes to in a game that is there.
-fn numbered_in_game(
-    alloc: Global,
-    map: &Map,
-    letter: &Letter<'_>,
-    kept: &Option<Kept>,
-    sees: &Sees,
-) -> Result<Verdict, KeepFault>
-    requires timely { m.IsTimely (request letter.now.command) }
-    ensures value { IfOk result
-        (λ v. (g : s.Game)
-        → m.needs_of map.now (request letter.now.command) g ≡ sights.sees sees.now
-        → m.NumberedBy (m.old_number (mail letter.now) (option_map rows.kept kept.now))
-        (m.DecidesIn map.now (mail letter.now) (request letter.now.command) g) (verdict v)) }
-    ensures disk { faults_after result 0 ≡ 0 }
-    ensures sane { IsErrOf result KeepFault.Damaged
-        → (m.old_number (mail letter.now) (option_map rows.kept kept.now) ≡ None)
-        × m.IsDamagedGame map.now (sights.sees sees.now) }
-{
+    let Some(is_seated) = is_seated else {
+        return Ok(Verdict::NotKnown);
+    };
     match old_number(alloc, letter, kept)? {
         Some(old) => Ok(old),
-        None => verdict_in_game(alloc, map, letter, sees),
+        None => replacement(alloc, map, letter.game, seat, is_seated),
     }
 }
 
-/// What a letter of the master comes to, by what it sees.
-pub fn master_verdict(
+/// What a notice comes to, by the public part of its game, if there is one.
+pub fn decide_notice(
     alloc: Global,
     map: &Map,
     letter: &Letter<'_>,
     kept: &Option<Kept>,
-    sees: &Sees,
+    notice: &Notice<'_>,
+    public: Option<Rc<Public>>,
 ) -> Result<Verdict, KeepFault>
-    requires timely { m.IsTimely (request letter.now.command) }
     ensures value { IfOk result
-        (λ v. (game : Option s.Game)
-        → m.master_sees map.now (request letter.now.command) game ≡ sights.sees sees.now
-        → m.MasterDecides map.now (mail letter.now) (option_map rows.kept kept.now)
-        (request letter.now.command) game (verdict v)) }
+        (λ v. MasterDecidesBy map.now (mail letter.now) (option_map rows.kept kept.now)
+        (Master (Notify (notice_request notice.now)))
+        (public_seen (option_map (λ p. rows.public p.value) public)) (verdict v)) }
     ensures disk { faults_after result 0 ≡ 0 }
     ensures sane { IsErrOf result KeepFault.Damaged
-        → (m.old_number (mail letter.now) (option_map rows.kept kept.now) ≡ None)
-        × m.IsDamagedGame map.now (sights.sees sees.now) }
+        → IsDamagedSight map.now (mail letter.now) (OfMaster (option_map rows.kept kept.now)
+        (public_seen (option_map (λ p. rows.public p.value) public))) }
 {
-    match sees {
-        Sees::NoGame => Ok(verdict_without_game(alloc, map, letter, kept)?),
-        Sees::AGame | Sees::ThePublic(_) | Sees::TheWhole(_) | Sees::ASeat(_) => {
-            numbered_in_game(alloc, map, letter, kept, sees)
-        }
+    let Some(public) = public else {
+        return Ok(Verdict::NotKnown);
+    };
+    match old_number(alloc, letter, kept)? {
+        Some(old) => Ok(old),
+        None => notice_verdict(alloc, map, notice, &public),
     }
 }

@@ -83,37 +83,14 @@ fn status_after(course: Course) -> Status
 }
 
 /// The tick from which on the phase behind this one is due; a game that is over keeps the old one.
-fn due_after(tick: u64, public: &Public, course: Course) -> u64
+fn due_after(tick: u64, due: u64, period: u32, course: Course) -> u64
     requires { tick ≤ 999999999999 }
-    ensures { result ≡ t.due_after tick (rows.public public.now) course }
+    ensures { result ≡ t.due_after tick due period course }
 {
     match course {
-        Course::GoesOn => tick + u64::from(public.period),
-        Course::Won(_) | Course::Ended => public.due,
+        Course::GoesOn => tick + u64::from(period),
+        Course::Won(_) | Course::Ended => due,
     }
-}
-
-/// The public part behind a phase.
-fn public_played(
-    tick: u64,
-    public: &Public,
-    board: Board,
-    course: Course,
-) -> Result<Public, AllocError>
-    requires timely { tick ≤ 999999999999 }
-    requires room { public.now.papers < most_papers }
-    ensures { IfOk result
-        (λ p. rows.public p ≡ t.public_played tick (rows.public public.now) board course) }
-{
-    Ok(Public {
-        game: public.game.clone()?,
-        board,
-        status: status_after(course),
-        due: due_after(tick, public, course),
-        period: public.period,
-        grey: public.grey,
-        papers: public.papers + 1,
-    })
 }
 
 /// A phase that was adjudicated: its paper is published.
@@ -139,62 +116,75 @@ fn published(
 }
 
 /// The phase of a game is adjudicated with the orders that stand; `Damaged` where it can't be.
-fn adjudicated(alloc: Global, map: &Map, tick: u64, whole: &Whole) -> Result<Verdict, KeepFault>
+fn adjudicated(alloc: Global, map: &Map, tick: u64, whole: Whole) -> Result<Verdict, KeepFault>
     requires timely { tick ≤ 999999999999 }
-    requires room { whole.now.public.papers < most_papers }
-    requires board { IsOf map.now whole.now.public.board }
-    ensures value { IfOk result
-        (λ v. m.IsPublished map.now tick (rows.whole whole.now) (verdict v)) }
+    requires room { whole.public.papers < most_papers }
+    requires board { IsOf map.now whole.public.board }
+    ensures value { IfOk result (λ v. m.IsPublished map.now tick (rows.whole whole) (verdict v)) }
     ensures disk { faults_after result 0 ≡ 0 }
     ensures sane { IsErrOf result KeepFault.Damaged
-        → t.IsPlayable map.now (rows.whole whole.now) → ⊥ }
+        → t.IsPlayable map.now (rows.whole whole) → ⊥ }
 {
-    let public = &whole.public;
-    let orders = orders_of_seats(alloc, map, &public.board, whole.seats.as_slice())?;
-    let board = public.board.copy(alloc)?;
+    let Whole { public, seats } = whole;
+    let orders = orders_of_seats(alloc, map, &public.board, seats.as_slice())?;
+    let Public {
+        game,
+        board,
+        due,
+        period,
+        grey,
+        papers,
+        ..
+    } = public;
     match advance(alloc, map, board, orders.as_slice()) {
         Err(_) => Err(KeepFault::Memory),
         Ok((board, report)) => {
-            let behind = public_played(tick, public, board, report.course)?;
+            let behind = Public {
+                game,
+                board,
+                status: status_after(report.course),
+                due: due_after(tick, due, period, report.course),
+                period,
+                grey,
+                papers: papers + 1,
+            };
             Ok(published(alloc, map, &report, behind)?)
         }
     }
 }
 
 /// What a due tick comes to: a draw where all survivors ask for the same, or else the phase is adjudicated; `Damaged` where it can't be.
-fn on_time(alloc: Global, map: &Map, tick: u64, whole: &Whole) -> Result<Verdict, KeepFault>
+fn on_time(alloc: Global, map: &Map, tick: u64, whole: Whole) -> Result<Verdict, KeepFault>
     requires timely { tick ≤ 999999999999 }
     ensures value { IfOk result
-        (λ v. m.OnTime map.now tick (rows.whole whole.now)
-        (drawn_between map.now (rows.whole whole.now)) (verdict v)) }
+        (λ v. m.OnTime map.now tick (rows.whole whole) (drawn_between map.now (rows.whole whole))
+        (verdict v)) }
     ensures disk { faults_after result 0 ≡ 0 }
     ensures sane { IsErrOf result KeepFault.Damaged
-        → t.IsPlayable map.now (rows.whole whole.now) → ⊥ }
+        → t.IsPlayable map.now (rows.whole whole) → ⊥ }
 {
     let public = &whole.public;
     if !public.board.is_of(map) || MOST_PAPERS <= public.papers {
         return Err(KeepFault::Damaged);
     }
-    match drawn_between(alloc, map, whole)? {
-        Some(powers) => Ok(draw_verdict(alloc, map, public, powers)?),
+    match drawn_between(alloc, map, &whole)? {
+        Some(powers) => {
+            let Whole { public, .. } = whole;
+            Ok(draw_verdict(alloc, map, public, powers)?)
+        }
         None => adjudicated(alloc, map, tick, whole),
     }
 }
 
 /// What TICK comes to in a game: nothing is played in one that is over, nor before its time.
-pub fn tick_verdict(
-    alloc: Global,
-    map: &Map,
-    tick: u64,
-    whole: &Whole,
-) -> Result<Verdict, KeepFault>
+pub fn tick_verdict(alloc: Global, map: &Map, tick: u64, whole: Whole) -> Result<Verdict, KeepFault>
     requires timely { tick ≤ 999999999999 }
-    ensures value { IfOk result (λ v. m.Ticks map.now tick (rows.whole whole.now)
-        (t.is_over (rows.status whole.now.public.status))
-        (t.is_due tick (rows.public whole.now.public)) (verdict v)) }
+    ensures value { IfOk result (λ v. m.Ticks map.now tick (rows.whole whole)
+        (t.is_over (rows.status whole.public.status)) (t.is_due tick (rows.public whole.public))
+        (verdict v)) }
     ensures disk { faults_after result 0 ≡ 0 }
     ensures sane { IsErrOf result KeepFault.Damaged
-        → t.IsPlayable map.now (rows.whole whole.now) → ⊥ }
+        → t.IsPlayable map.now (rows.whole whole) → ⊥ }
 {
     if is_over(&whole.public.status) {
         return Ok(refusal_verdict(alloc, Refusal::GameOver)?);

@@ -1,9 +1,6 @@
 use Rattle.std.proofs.Common.{◌≡◌, ap, subst, ◌∙◌, map, List}
-use Rattle.dip_map.specs.Boards.{Position}
 use Rattle.dip_orders.specs.declared.placed.PlacedOrder.{PlacedOrder}
-use Rattle.dip_desk_machine.specs.Machine as m
 use Rattle.dip_desk_machine.specs.Ticking.{orders_of, orders_of_seats}
-use Rattle.dip_desk_state.specs.Records.{Public}
 use Rattle.dip_desk_state.specs.Rows as rows
 use Rattle.dip_desk_state.specs.declared.records.Own.{Own}
 use Rattle.dip_turn.specs.Reports.{IsPlayed}
@@ -12,13 +9,12 @@ use Rattle.dip_desk_machine.proofs.ticking.adjudicated.Goals as goal
 pub returns-clause-value : goal.returns-clause-value
 returns-clause-value c =
     let map_now = c.args.map.now in
-    let of = c.args.whole.now.public.board in
-    let orders : c.as_slice-2.result.now ≡ orders_of map_now (rows.whole c.args.whole.now) =
+    let of = c.args.whole.public.board in
+    let orders : c.as_slice-2.result.now ≡ orders_of map_now (rows.whole c.args.whole) =
     c.as_slice-2.ensures.value ∙ c.in_ok-orders.ensures.value ∙ ap (λ (os : List Own). orders_of_seats map_now of (map (λ o. rows.own o) os)) c.as_slice.ensures.value in
     record {
       board = c.in-Ok.board;
       report = c.in-Ok.report;
-      played = subst (λ (b : Position). IsPlayed map_now b (orders_of map_now (rows.whole c.args.whole.now)) c.in-Ok.board c.in-Ok.report) c.in_ok-board.ensures
-          (subst (λ (os : List PlacedOrder). IsPlayed map_now c.in_ok-board.board os c.in-Ok.board c.in-Ok.report) orders c.in-Ok.ensures.played);
-      verdict = c.in_ok-published-in-Ok.ensures ∙ ap (λ (p : Public). m.paper_verdict map_now c.in-Ok.report p) c.in_ok-behind-in-Ok.ensures;
+      played = subst (λ (os : List PlacedOrder). IsPlayed map_now of os c.in-Ok.board c.in-Ok.report) orders c.in-Ok.ensures.played;
+      verdict = c.in_ok-published-in-Ok.ensures ∙ (cc);
     }

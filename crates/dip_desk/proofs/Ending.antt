@@ -1,5 +1,5 @@
 -- How a step ends of a keeper that was open.
-use Rattle.std.proofs.Common.{◌≡◌, ◌<◌, ◌≤◌, ◌⊎◌, inl, inr, Result, Ok, Err, OnErr, IfOk, arith, refl, ℕ, zero, suc, List, [], ◌∷◌, map, get_or, length, Some, slice_get}
+use Rattle.std.proofs.Common.{◌≡◌, ◌<◌, ◌≤◌, inl, inr, Result, Ok, Err, OnErr, IfOk, arith, refl, ℕ, zero, suc, List, [], ◌∷◌, map, get_or, length, Some, slice_get}
 use Rattle.dip_map.specs.Charts.{Chart}
 use Rattle.dip_desk.specs.Keeping.{Book, Ends, IsOpen, Steps}
 use Rattle.dip_desk_state.specs.State.{State}

@@ -61,10 +61,6 @@ leads_ok P Q a b x y p = record { survives = p.survives; keeps = p.keeps; runs =
 pub leads_fails : {X Y E F : Type 0} (P Q R T : Database → Type 0) (a b : State) (e : E) (f : F) → Leads P Q a b (fails X E e) → Leads R T a b (fails Y F f)
 leads_fails P Q R T a b e f p = record { survives = p.survives; keeps = p.keeps; runs = λ clean. tt }
 
--- a part that fails behind another
-pub leads_broken : {X Y Z E : Type 0} (P Q R T : Database → Type 0) (a b c : State) (x : X) (e : E) → Leads P Q a b (went X E x) → Leads Q R b c (fails Y E e) → Leads P T a c (fails Z E e)
-leads_broken {X} {Y} {Z} {E} P Q R T a b c x e p q = leads_fails P R P T a c e e (leads_then P Q R a b c x (fails Y E e) p q)
-
 -- statements on our tables
 pub writes_leads : {X E : Type 0} (f : Tables → Tables) (t : Tables) (a b : State) (r : Result X E) → Writes f a b r → Leads (HasTables t) (HasTables (f t)) a b r
 writes_leads {X} {E} f t a b r p = record { survives = p.survives; keeps = p.keeps; runs = λ clean. turned r (p.runs clean) }

@@ -23,13 +23,13 @@ use Rattle.dip_store_changes.specs.Parts.{more_ballots}
 use Rattle.dip_store_sql.specs.Calls.{Turns, WasKept, Writes, does_show}
 use Rattle.dip_store_sql.specs.Causes.{Faulted, IsCaused, has_faulted}
 use Rattle.dip_store_sql.specs.Creating.{create_ballot, create_choice}
-use Rattle.dip_store_sql.specs.Keys.{AreKeyed, Differ, same_ballot, same_choice}
+use Rattle.dip_store_sql.specs.Keys.{AreKeyed, BallotsDiffer, ChoicesDiffer, Differ, same_ballot, same_choice}
 use Rattle.dip_store_sql.specs.Old.{HasOld, WasGood, nine_schema, old_schema, old_tables_of}
 use Rattle.dip_store_sql.specs.Rows.{put_ballot, put_choice, take_ballot, take_choice}
 use Rattle.dip_store_sql.specs.Schema.{ballot_table, choice_table, desk_table, seat_table}
 use Rattle.dip_store_sql.specs.Storing.{AreSpared, CanStand, Stores, StoresBehind, next_row, second_row, voteless_row}
 use Rattle.dip_store_sql.specs.TablesAfter.{on_desk, on_seats, with_ballot, with_choice}
-use Rattle.dip_store_sql.specs.Wants.{IsReady, Wants, always}
+use Rattle.dip_store_sql.specs.Wants.{Does, IsReady, always}
 use Rattle.dip_store_sql.proofs.Caused.{faulted_late}
 use Rattle.dip_store_sql.proofs.Created.{ballot_makes, choice_makes}
 use Rattle.dip_store_sql.proofs.Creating.{table_more}
@@ -38,7 +38,7 @@ use Rattle.dip_store_sql.proofs.Grown.{ballot_over, ballot_over_caused, choice_o
 use Rattle.dip_store_sql.proofs.Keyed.{are_keyed}
 use Rattle.dip_store_sql.proofs.Parts.{taken_both, went}
 use Rattle.dip_store.specs.Making.{HasTables, IsSet, Tries}
-use Rattle.dip_store.specs.Renewing.{AreRead, HasRoomAnew, more_choices, rows_from}
+use Rattle.dip_store.specs.Renewing.{HasRoomAnew, more_choices, rows_from}
 use Rattle.dip_store.specs.Rewriting.{HasBallotsOver, HasDeskOf, Stands, StandsAt}
 use Rattle.dip_store.specs.Faults.{open_fault}
 use Rattle.dip_store.specs.declared.faults.StoreFault.TheVariants.{Disk}
@@ -99,12 +99,12 @@ module _ {A : Type 0} (table : Table) (off : (0 ≡ table.tree → ⊥) × (4 �
       }
   stands_on (Err e) turns ready spared behind set = tt
 
-  pub tries_behind : Such t → CanStand table (Int (pos n) ∷ put x) → (r : Result ℕ Error) → Writes f a b r → Wants Such a b r → StoresBehind table Such (next_row put x) a b r
+  pub tries_behind : Such t → CanStand table (Int (pos n) ∷ put x) → {K : Tables → Type 0} (r : Result ℕ Error) → Does f K a b r → StoresBehind table Such (next_row put x) a b r
       → Tries (StandsAt table.tree n old t) (StandsAt table.tree (suc n) old (f t)) a b r
-  tries_behind such fits r writes wants stores = record {
-    clean = λ clean. omega (arith, clean, writes.survives.clean);
-    counts = writes.survives.counts;
-    ready = λ clean set. stands_on r (writes.runs clean) (wants.ready clean (at_hand set)) (stores.stores.others clean (at_hand set)) (stores.behind clean (at_hand set)) set;
+  tries_behind such fits r does stores = record {
+    clean = λ clean. omega (arith, clean, does.writes.survives.clean);
+    counts = does.writes.survives.counts;
+    ready = λ clean set. stands_on r (does.writes.runs clean) (does.ready clean (at_hand set)) (stores.stores.others clean (at_hand set)) (stores.behind clean (at_hand set)) set;
     fails = λ clean set. stores.stores.fails clean (at_hand set) (subst Such (sym set.now.0.has.1) such) (subst (λ (z : ℤ). CanStand table (Int z ∷ put x)) (sym set.now.1) fits, tt);
   }
 
@@ -119,24 +119,24 @@ ChoiceIs x a c r =
     (old : Database) (t : Tables) (n : ℕ) → Differ same_choice (t.choices ++ x ∷ []) → CanStand choice_table (Int (pos n) ∷ put_choice x)
     → Tries (StandsAt 18 n old t) (StandsAt 18 (suc n) old (more_choices (x ∷ []) t)) a c r
 
-pub ballot_tries : (b : BallotRow) (a c : State) (r : Result ℕ Error) → Writes (with_ballot b) a c r → Wants (λ t. Differ same_ballot (with_ballot b t).ballots) a c r
+pub ballot_tries : (b : BallotRow) (a c : State) (r : Result ℕ Error) → Does (with_ballot b) BallotsDiffer a c r
     → StoresBehind ballot_table (λ t. Differ same_ballot (with_ballot b t).ballots) (next_row put_ballot b) a c r → BallotIs b a c r
-ballot_tries b a c r writes wants stores old t n apart fits =
-    tries_behind ballot_table (λ x. omega (arith, x), λ x. omega (arith, x)) put_ballot (with_ballot b) (λ t. Differ same_ballot (with_ballot b t).ballots) old t b n a c apart fits r writes wants stores
+ballot_tries b a c r does stores old t n apart fits =
+    tries_behind ballot_table (λ x. omega (arith, x), λ x. omega (arith, x)) put_ballot (with_ballot b) (λ t. Differ same_ballot (with_ballot b t).ballots) old t b n a c apart fits r does stores
 
-pub choice_tries : (x : ChoiceRow) (a c : State) (r : Result ℕ Error) → Writes (with_choice x) a c r → Wants (λ t. Differ same_choice (with_choice x t).choices) a c r
+pub choice_tries : (x : ChoiceRow) (a c : State) (r : Result ℕ Error) → Does (with_choice x) ChoicesDiffer a c r
     → StoresBehind choice_table (λ t. Differ same_choice (with_choice x t).choices) (next_row put_choice x) a c r → ChoiceIs x a c r
-choice_tries x a c r writes wants stores old t n apart fits =
-    tries_behind choice_table (λ x. omega (arith, x), λ x. omega (arith, x)) put_choice (with_choice x) (λ t. Differ same_choice (with_choice x t).choices) old t x n a c apart fits r writes wants stores
+choice_tries x a c r does stores old t n apart fits =
+    tries_behind choice_table (λ x. omega (arith, x), λ x. omega (arith, x)) put_choice (with_choice x) (λ t. Differ same_choice (with_choice x t).choices) old t x n a c apart fits r does stores
 
 -- no seat's row with a vote
 module _ (old : Database) (t : Tables) (a b : State) where
-  pub tries_votes : AllByRecursion (CanStand seat_table) (map voteless_row (old.trees 4)) → (r : Result ℕ Error) → Writes (on_seats voteless) a b r → Wants always a b r
+  pub tries_votes : AllByRecursion (CanStand seat_table) (map voteless_row (old.trees 4)) → (r : Result ℕ Error) → Does (on_seats voteless) always a b r
       → Stores seat_table always (λ db. map voteless_row (db 4)) a b r → Tries (Stands old t) (HasDeskOf old (on_seats voteless t)) a b r
-  tries_votes fits r writes wants stores = record {
-    clean = λ clean. omega (arith, clean, writes.survives.clean);
-    counts = writes.survives.counts;
-    ready = λ clean set. turned r (writes.runs clean) (wants.ready clean (hand set)) (stores.others clean (hand set)) set;
+  tries_votes fits r does stores = record {
+    clean = λ clean. omega (arith, clean, does.writes.survives.clean);
+    counts = does.writes.survives.counts;
+    ready = λ clean set. turned r (does.writes.runs clean) (does.ready clean (hand set)) (stores.others clean (hand set)) set;
     fails = λ clean set. stores.fails clean (hand set) tt (subst (λ (rows : List Row). AllByRecursion (CanStand seat_table) (map voteless_row rows)) (sym set.now.seats) fits);
   }
     where
@@ -151,12 +151,12 @@ module _ (old : Database) (t : Tables) (a b : State) where
       turned (Err e) turns ready spared set = tt
 
   -- and the master's row of version 2
-  pub tries_version : AllByRecursion (CanStand desk_table) (map second_row (old.trees 0)) → (r : Result ℕ Error) → Writes (on_desk second) a b r → Wants always a b r
+  pub tries_version : AllByRecursion (CanStand desk_table) (map second_row (old.trees 0)) → (r : Result ℕ Error) → Does (on_desk second) always a b r
       → Stores desk_table always (λ db. map second_row (db 0)) a b r → Tries (HasDeskOf old t) (HasTables (on_desk second t)) a b r
-  tries_version fits r writes wants stores = record {
-    clean = λ clean. omega (arith, clean, writes.survives.clean);
-    counts = writes.survives.counts;
-    ready = λ clean set. turned r (writes.runs clean) (wants.ready clean (hand set)) set;
+  tries_version fits r does stores = record {
+    clean = λ clean. omega (arith, clean, does.writes.survives.clean);
+    counts = does.writes.survives.counts;
+    ready = λ clean set. turned r (does.writes.runs clean) (does.ready clean (hand set)) set;
     fails = λ clean set. stores.fails clean (hand set) tt (subst (λ (rows : List Row). AllByRecursion (CanStand desk_table) (map second_row rows)) (sym set.now.1) fits);
   }
     where
@@ -351,8 +351,3 @@ module _ {S : Type 0} (g : Ghosts S) where
         | inl fault ↦ inl fault
         | inr none ↦ inr (λ room. none (faulted_late (state g old) (state g b) (state g end) counts (open_blamed (has_faulted g b end) e (cause room) is)))
       ]
-
--- what was read of the same rows
-pub read_there : (names : List (List ℕ)) (ballots : List BallotRow) (was db : Database) → db ≡ was → names ≡ map (λ g. g.name) (old_tables_of was.trees).games → ballots ≡ map old_ballot (old_tables_of was.trees).seats
-    → AreRead names ballots (old_tables_of db.trees)
-read_there names ballots was db is named voted = subst (λ (d : Database). AreRead names ballots (old_tables_of d.trees)) (sym is) (record { named = named; voted = voted })

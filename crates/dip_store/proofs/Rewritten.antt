@@ -16,7 +16,7 @@ use Rattle.dip_store.specs.Making.{HasTables}
 use Rattle.dip_store_sql.specs.Old.{WasGood, old_tables_of}
 use Rattle.dip_store_sql.specs.Calls.{SelectsFrom, WasKept, old_tables_in}
 use Rattle.dip_store_tables.specs.Renewing.{OldTablesAreRenewed, old_ballot, renewed}
-use Rattle.dip_store.specs.Renewing.{Fills, IsOldStore, Renews, filled}
+use Rattle.dip_store.specs.Renewing.{AreRead, Fills, IsOldStore, Renews, filled}
 use Rattle.dip_store.proofs.Renewed.{filled_renewed, were_apart}
 
 module _ {S : Type 0} (g : Ghosts S) (old a b end : Held S) {X Y E F : Type 0} (x : X) (y : Y)
@@ -31,9 +31,16 @@ module _ {S : Type 0} (g : Ghosts S) (old a b end : Held S) {X Y E F : Type 0} (
       let shows = next.ok one.0 clean in
       (next.kept one.0 shows, next.same one.0 shows ∙ one.1)
 
-  module _ (names : List (List ℕ)) (ballots : List BallotRow) (named : names ≡ map (λ g. g.name) (old_tables_in g old).games) (voted : ballots ≡ map old_ballot (old_tables_in g old).seats) where
+  -- what they read is read of these rows
+  pub read_both : (names : List (List ℕ)) (ballots : List BallotRow) → is_honest g b → (WasKept g old → is_honest g a → names ≡ map (λ t. t.name) (old_tables_in g old).games)
+      → (WasKept g a → is_honest g b → ballots ≡ map old_ballot (old_tables_in g a).seats) → AreRead names ballots (old_tables_in g old)
+  read_both names ballots clean named voted =
+      let one = kept_first (next.fair clean) in
+      record { named = named kept (next.fair clean); voted = voted one.0 clean ∙ ap (λ (d : Database). map old_ballot (old_tables_of d.trees).seats) one.1 }
+
+  module _ (names : List (List ℕ)) (ballots : List BallotRow) (read : AreRead names ballots (old_tables_in g old)) where
     as_renewed : filled names ballots (old_tables_in g old) ≡ renewed (old_tables_in g old)
-    as_renewed = filled_renewed (old_tables_in g old) refl refl names ballots named voted
+    as_renewed = filled_renewed (old_tables_in g old) refl refl names ballots read.named read.voted
 
     -- then the rows are those of version 2 that say the same
     pub keeps_renewed : (m : Chart) → OldTablesAreRenewed m → IsOldStore m (state g old).now → is_honest g b

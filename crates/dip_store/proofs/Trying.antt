@@ -10,12 +10,12 @@ use Rattle.sqlite.specs.Tree.{Trees}
 use Rattle.sqlite.specs.State.{State, HasCause, HasCleanDisk, Survives, Executes, ExecutesInside, is_disk_error, store_error}
 use Rattle.sqlite.specs.Steps.{FailsToCommit}
 use Rattle.dip_store_tables.specs.Tables.{Tables}
-use Rattle.dip_store_sql.specs.Calls.{Turns, Writes, does_show, is_honest}
+use Rattle.dip_store_sql.specs.Calls.{Turns, does_show, is_honest}
 use Rattle.dip_store_sql.specs.Causes.{Faulted, IsCaused, has_faulted}
-use Rattle.dip_store_sql.specs.Wants.{FailsOutside, IsReady, Wants}
+use Rattle.dip_store_sql.specs.Wants.{Does, FailsOutside, IsReady}
 use Rattle.dip_store_sql.proofs.Caused.{caused_weaker, faulted_late}
 use Rattle.dip_store_sql.proofs.Parts.{fails, went}
-use Rattle.dip_store_sql.specs.Keys.{Differ, same_desk}
+use Rattle.dip_store_sql.specs.Keys.{DesksDiffer}
 use Rattle.dip_store_sql.specs.TablesAfter.{new_desk, no_tables, with_desk}
 use Rattle.dip_store_tables.specs.Writing.{new_tables}
 use Rattle.dip_store.specs.Founding.{IsNewStore}
@@ -62,21 +62,16 @@ tries_ok P Q a b x y p = record { clean = p.clean; counts = p.counts; ready = p.
 pub tries_fails : {X Y : Type 0} (P Q R : Database → Type 0) (a b : State) (e : Error) → Tries P Q a b (fails X Error e) → Tries P R a b (fails Y Error e)
 tries_fails P Q R a b e p = record { clean = p.clean; counts = p.counts; ready = λ clean set. tt; fails = p.fails }
 
--- a part that fails behind another
-pub tries_broken : {X Y Z : Type 0} (P Q R T : Database → Type 0) (a b c : State) (x : X) (e : Error) → Tries P Q a b (went X Error x) → Tries Q R b c (fails Y Error e) → Tries P T a c (fails Z Error e)
-tries_broken {X} {Y} {Z} P Q R T a b c x e p q = tries_fails {X = Y} {Y = Z} P R T a c e (tries_then P Q R a b c x p (fails Y Error e) q)
-
 -- a transaction on our tables goes on
 set_ready : (t : Tables) (a : State) → IsSet (HasTables t) a → IsReady a
 set_ready t a set = record { inside = set.inside; up = set.up; unlimited = set.unlimited; good = set.now.0 }
 
 -- a statement on them
-pub tries_write : (f : Tables → Tables) (Such : Tables → Type 0) (t : Tables) (a b : State) (r : Result ℕ Error) → Such t → Writes f a b r → FailsOutside Such a b r
-    → (HasCleanDisk b → IsReady a → OnOk r (IsReady b)) → Tries (HasTables t) (HasTables (f t)) a b r
-tries_write f Such t a b r such p cause on = record {
-  clean = λ clean. omega (arith, clean, p.survives.clean);
-  counts = p.survives.counts;
-  ready = λ clean set. turned r (p.runs clean) set (on clean (set_ready t a set));
+pub tries_write : (f : Tables → Tables) (Such : Tables → Type 0) (t : Tables) (a b : State) {K : Tables → Type 0} (r : Result ℕ Error) → Such t → Does f K a b r → FailsOutside Such a b r → Tries (HasTables t) (HasTables (f t)) a b r
+tries_write f Such t a b r such p cause = record {
+  clean = λ clean. omega (arith, clean, p.writes.survives.clean);
+  counts = p.writes.survives.counts;
+  ready = λ clean set. turned r (p.writes.runs clean) set (p.ready clean (set_ready t a set));
   fails = λ clean set. cause clean (set_ready t a set) (subst Such (sym set.now.1) such);
 }
   where
@@ -117,6 +112,6 @@ pub begun_set : {S : Type 0} (g : Ghosts S) (old : Held S) → IsNewStore g old 
 begun_set g old new shows = record { inside = refl; up = shows.1; unlimited = new.unlimited; now = record { schema_is = new.empty; empty = tt } }
 
 -- the first row
-pub first_tries : (map digest : List ℕ) (a b : State) (r : Result ℕ Error) → Writes (with_desk (new_desk map digest)) a b r → FailsOutside (λ t. t.desk ≡ []) a b r
-    → Wants (λ t. Differ same_desk (with_desk (new_desk map digest) t).desk) a b r → Tries (HasTables no_tables) (HasTables (new_tables map digest)) a b r
-first_tries map digest a b r writes first wants = tries_write (with_desk (new_desk map digest)) (λ t. t.desk ≡ []) no_tables a b r refl writes first wants.ready
+pub first_tries : (map digest : List ℕ) (a b : State) (r : Result ℕ Error) → Does (with_desk (new_desk map digest)) DesksDiffer a b r → FailsOutside (λ t. t.desk ≡ []) a b r
+    → Tries (HasTables no_tables) (HasTables (new_tables map digest)) a b r
+first_tries map digest a b r does first = tries_write (with_desk (new_desk map digest)) (λ t. t.desk ≡ []) no_tables a b r refl does first

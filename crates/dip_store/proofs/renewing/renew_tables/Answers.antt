@@ -21,8 +21,8 @@ returns-clause-leads g c =
     let t = old_tables_in g.S.Store c.args.tx.now.conn.now in
     let f = filled (lines c.args.games.now) c.args.ballots.now in
     let two = writes_and _ _ _ _ _ _ _ c.in_ok-add_ballots.field-0 _ c.in_ok-add_ballots.ensures.writes c.in_ok-add_choices.ensures.writes in
-    let three = writes_and _ _ _ _ _ _ _ c.in_ok-add_choices.field-0 _ two c.in_ok-clear_votes.ensures.writes in
-    let four = writes_and _ _ _ _ _ _ _ c.in_ok-clear_votes.field-0 _ three c.in_ok-set_version.ensures.writes in
+    let three = writes_and _ _ _ _ _ _ _ c.in_ok-add_choices.field-0 _ two c.in_ok-clear_votes.ensures.does.writes in
+    let four = writes_and _ _ _ _ _ _ _ c.in_ok-clear_votes.field-0 _ three c.in_ok-set_version.ensures.does.writes in
     let all = writes_leads f t _ _ (went ℕ Error c.in_ok-set_version.field-0) (writes_as _ _ _ f _ _ _ (λ t. refl) four) in
     leads_ok (HasOld t) (HasTables (f t)) _ _ c.in_ok-set_version.field-0 tt
     (leads_then (HasOld t) (HasTables t) (HasTables (f t)) _ _ _ c.in_ok-create_choices.field-0 (went ℕ Error c.in_ok-set_version.field-0) (c.in_ok-create_choices.ensures.over t) all)
@@ -33,8 +33,8 @@ returns-in_err-set_version-clause-leads g c =
     let f = filled (lines c.args.games.now) c.args.ballots.now in
     let e = c.in_err-set_version.field-0.0 in
     let two = writes_and _ _ _ _ _ _ _ c.in_ok-add_ballots.field-0 _ c.in_ok-add_ballots.ensures.writes c.in_ok-add_choices.ensures.writes in
-    let three = writes_and _ _ _ _ _ _ _ c.in_ok-add_choices.field-0 _ two c.in_ok-clear_votes.ensures.writes in
-    let four = writes_and _ _ _ _ _ _ _ c.in_ok-clear_votes.field-0 _ three c.in_err-set_version.ensures.writes in
+    let three = writes_and _ _ _ _ _ _ _ c.in_ok-add_choices.field-0 _ two c.in_ok-clear_votes.ensures.does.writes in
+    let four = writes_and _ _ _ _ _ _ _ c.in_ok-clear_votes.field-0 _ three c.in_err-set_version.ensures.does.writes in
     let all = writes_leads f t _ _ (fails ℕ Error e) (writes_as _ _ _ f _ _ (fails ℕ Error e) (λ t. refl) four) in
     let it = leads_fails {X = ℕ} {Y = Unit {0}} (HasOld t) (HasTables (f t)) (HasOld t) (HasTables (f t)) _ _ e e
     (leads_then (HasOld t) (HasTables t) (HasTables (f t)) _ _ _ c.in_ok-create_choices.field-0 (fails ℕ Error e) (c.in_ok-create_choices.ensures.over t) all) in
@@ -53,8 +53,8 @@ returns-clause-tries g c old good read room =
     let one = c.in_ok-create_choices.ensures.tries_over old good in
     let two = ballots_put old t _ _ (went (Unit {0}) Error c.in_ok-add_ballots.field-0) bs read.voted refl c.in_ok-add_ballots.ensures.writes (λ apart. c.in_ok-add_ballots.ensures.tries old t apart (ballots_room old bs read.voted room)) in
     let three = choices_put old u _ _ (went (Unit {0}) Error c.in_ok-add_choices.field-0) names read.named refl c.in_ok-add_choices.ensures.writes (λ apart. c.in_ok-add_choices.ensures.tries old u apart (choices_room old names read.named room)) in
-    let four = tries_votes old v _ _ room.seats (went ℕ Error c.in_ok-clear_votes.field-0) c.in_ok-clear_votes.ensures.writes c.in_ok-clear_votes.ensures.wants c.in_ok-clear_votes.ensures.stores in
-    let five = tries_version old w _ _ room.desk (went ℕ Error c.in_ok-set_version.field-0) c.in_ok-set_version.ensures.writes c.in_ok-set_version.ensures.wants c.in_ok-set_version.ensures.stores in
+    let four = tries_votes old v _ _ room.seats (went ℕ Error c.in_ok-clear_votes.field-0) c.in_ok-clear_votes.ensures.does c.in_ok-clear_votes.ensures.stores in
+    let five = tries_version old w _ _ room.desk (went ℕ Error c.in_ok-set_version.field-0) c.in_ok-set_version.ensures.does c.in_ok-set_version.ensures.stores in
     tries_ok P So _ _ c.in_ok-set_version.field-0 tt
     (tries_then P (Stands old t) So _ _ _ c.in_ok-create_choices.field-0 one (went ℕ Error c.in_ok-set_version.field-0)
     (tries_then (Stands old t) (Stands old u) So _ _ _ c.in_ok-add_ballots.field-0 two (went ℕ Error c.in_ok-set_version.field-0)
@@ -125,7 +125,7 @@ returns-in_err-clear_votes-clause-tries g c old good read room =
     let one = c.in_ok-create_choices.ensures.tries_over old good in
     let two = ballots_put old t _ _ (went (Unit {0}) Error c.in_ok-add_ballots.field-0) bs read.voted refl c.in_ok-add_ballots.ensures.writes (λ apart. c.in_ok-add_ballots.ensures.tries old t apart (ballots_room old bs read.voted room)) in
     let three = choices_put old u _ _ (went (Unit {0}) Error c.in_ok-add_choices.field-0) names read.named refl c.in_ok-add_choices.ensures.writes (λ apart. c.in_ok-add_choices.ensures.tries old u apart (choices_room old names read.named room)) in
-    let four = tries_votes old v _ _ room.seats (fails ℕ Error e) c.in_err-clear_votes.ensures.writes c.in_err-clear_votes.ensures.wants c.in_err-clear_votes.ensures.stores in
+    let four = tries_votes old v _ _ room.seats (fails ℕ Error e) c.in_err-clear_votes.ensures.does c.in_err-clear_votes.ensures.stores in
     let it = tries_fails {X = ℕ} {Y = Unit {0}} P (HasDeskOf old w) So _ _ e
     (tries_then P (Stands old t) (HasDeskOf old w) _ _ _ c.in_ok-create_choices.field-0 one (fails ℕ Error e) (tries_then (Stands old t) (Stands old u) (HasDeskOf old w) _ _ _ c.in_ok-add_ballots.field-0 two (fails ℕ Error e) (tries_then (Stands old u) (Stands old v) (HasDeskOf old w) _ _ _ c.in_ok-add_choices.field-0 three (fails ℕ Error e) four))) in
     search (rules, it)
@@ -144,8 +144,8 @@ returns-in_err-set_version-clause-tries g c old good read room =
     let one = c.in_ok-create_choices.ensures.tries_over old good in
     let two = ballots_put old t _ _ (went (Unit {0}) Error c.in_ok-add_ballots.field-0) bs read.voted refl c.in_ok-add_ballots.ensures.writes (λ apart. c.in_ok-add_ballots.ensures.tries old t apart (ballots_room old bs read.voted room)) in
     let three = choices_put old u _ _ (went (Unit {0}) Error c.in_ok-add_choices.field-0) names read.named refl c.in_ok-add_choices.ensures.writes (λ apart. c.in_ok-add_choices.ensures.tries old u apart (choices_room old names read.named room)) in
-    let four = tries_votes old v _ _ room.seats (went ℕ Error c.in_ok-clear_votes.field-0) c.in_ok-clear_votes.ensures.writes c.in_ok-clear_votes.ensures.wants c.in_ok-clear_votes.ensures.stores in
-    let five = tries_version old w _ _ room.desk (fails ℕ Error e) c.in_err-set_version.ensures.writes c.in_err-set_version.ensures.wants c.in_err-set_version.ensures.stores in
+    let four = tries_votes old v _ _ room.seats (went ℕ Error c.in_ok-clear_votes.field-0) c.in_ok-clear_votes.ensures.does c.in_ok-clear_votes.ensures.stores in
+    let five = tries_version old w _ _ room.desk (fails ℕ Error e) c.in_err-set_version.ensures.does c.in_err-set_version.ensures.stores in
     let it = tries_fails {X = ℕ} {Y = Unit {0}} P So So _ _ e
     (tries_then P (Stands old t) So _ _ _ c.in_ok-create_choices.field-0 one (fails ℕ Error e) (tries_then (Stands old t) (Stands old u) So _ _ _ c.in_ok-add_ballots.field-0 two (fails ℕ Error e) (tries_then (Stands old u) (Stands old v) So _ _ _ c.in_ok-add_choices.field-0 three (fails ℕ Error e) (tries_then (Stands old v) (HasDeskOf old w) So _ _ _ c.in_ok-clear_votes.field-0 four (fails ℕ Error e) five)))) in
     search (rules, it)

@@ -19,12 +19,12 @@ IsAsked standard words a m = IsGiven words a × IsFit a × ((text : List ℕ) ×
 
 -- what a command reads and writes: over tables in memory the letters were answered, from a fresh desk on; over a store they were read to
 -- their end; a report reads nothing, and the others write nothing either
-abbrev pub Does : Chart → Option (List ℕ) → Option (List ℕ) → Option (List ℕ) → Option (List ℕ) → Args → Type 0
-Does m known left before after (Init store master file) = IsIdle known left before after
-Does m known left before after (Letters master file) = AnswersFresh m master.now known left before after
-Does m known left before after (Stored store file) = IsReadToEnd known left
-Does m known left before after (Serve store port count file) = IsIdle known left before after
-Does m known left before after (Report store game file) = left ≡ known
+abbrev pub Streams : Chart → Option (List ℕ) → Option (List ℕ) → Option (List ℕ) → Option (List ℕ) → Args → Type 0
+Streams m known left before after (Init store master file) = IsIdle known left before after
+Streams m known left before after (Letters master file) = AnswersFresh m master.now known left before after
+Streams m known left before after (Stored store file) = IsReadToEnd known left
+Streams m known left before after (Serve store port count file) = IsIdle known left before after
+Streams m known left before after (Report store game file) = left ≡ known
 
 -- the words ask for something, by a map, of which this is so
 abbrev pub IsAskedFor : List ℕ → List Text → (Args → Chart → Type 0) → Type 0
@@ -32,7 +32,7 @@ IsAskedFor standard words P = (a : Args) × (m : Chart) × IsAsked standard word
 
 -- it was done as the words ask
 abbrev pub IsDone : List ℕ → List Text → Option (List ℕ) → Option (List ℕ) → Option (List ℕ) → Option (List ℕ) → Type 0
-IsDone standard words known left before after = IsAskedFor standard words (λ a m. Does m known left before after a)
+IsDone standard words known left before after = IsAskedFor standard words (λ a m. Streams m known left before after a)
 
 -- a desk isn't made: only by the store's fault
 abbrev pub IsInitFailure : Failure → Type 0

@@ -2,7 +2,7 @@
 ghost use Rattle.std.specs.Prelude.{map as each, IfErr, IfSome, OnOk};
 ghost use Rattle.sqlite.specs.Files.{over_files};
 ghost use Rattle.sqlite.specs.WalFiles.{image_at};
-ghost use Rattle.dip_judge.specs.Asked.{Does, Fails, IsAskedFor, IsDone, IsFailed, IsInitFailure};
+ghost use Rattle.dip_judge.specs.Asked.{Fails, IsAskedFor, IsDone, IsFailed, IsInitFailure, Streams};
 ghost use Rattle.dip_judge.specs.Files.{AnswersIn, AnswersUpTo, LeavesStore, MadeIn, ReportsIn, ServesIn, StopsReportIn, StopsServingIn, StopsStore, UnmadeIn, WasOpened};
 ghost use Rattle.dip_judge.specs.Stores.{IsReportFailure, IsServeFailure, ReadsUpTo};
 ghost use Rattle.dip_judge_runs.specs.Runs.{IsReadToEnd};
@@ -131,7 +131,7 @@ fn do_asked<S: Start, R: Read, W: Write>(
     reader: &mut R,
     writer: &mut W,
 ) -> (Result<(), Failure>, Option<Stored<S>>)
-    ensures done { OnOk result.0 (Does map.now (R.remaining reader.old) (R.remaining reader.new)
+    ensures done { OnOk result.0 (Streams map.now (R.remaining reader.old) (R.remaining reader.new)
         (W.contents writer.old) (W.contents writer.new) args.now) }
     ensures failed { IfErr result.0 (Fails map.now (R.remaining reader.old)
         (R.remaining reader.new) (W.contents writer.old) (W.contents writer.new) args.now) }

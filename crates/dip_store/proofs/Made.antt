@@ -21,8 +21,7 @@ use Rattle.dip_desk_state.specs.declared.faults.KeepFault.{KeepFault}
 use Rattle.dip_desk_state.specs.declared.faults.KeepFault.TheVariants.{Memory, Disk, Damaged}
 use Rattle.dip_store_tables.specs.Changing.{changing}
 use Rattle.dip_store_tables.specs.ChangeColumns.{HasWidths, IsWritable}
-use Rattle.dip_store_sql.proofs.Keyed.{are_keyed}
-use Rattle.dip_store_sql.proofs.Apart.{are_apart}
+use Rattle.dip_store_sql.proofs.Keyed.{are_apart, are_keyed}
 use Rattle.dip_store_sql.specs.Calls.{IsKept, Lands, does_show, is_honest, tables_in}
 use Rattle.dip_store_sql.specs.Causes.{has_faulted}
 use Rattle.dip_store_sql.specs.Good.{IsGood}

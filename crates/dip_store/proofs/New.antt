@@ -5,9 +5,9 @@ use Rattle.std.proofs.lemmas.Bool.{and_parts, cases_Bool, cases_lt, eq-eqb, eqb-
 use Rattle.std.proofs.lemmas.List.Sums.{sum_by-cons}
 use Rattle.std.proofs.lemmas.List.Elements.{recursion_from_All}
 use Rattle.dip_store_tables.proofs.ListLemmas.{all_map, all_of, all_weaker, none_from_any}
-use Rattle.dip_names.specs.declared.names.Kind.{Kind}
-use Rattle.dip_names.specs.declared.names.Kind.TheVariants.{Army, Fleet}
-use Rattle.dip_names.specs.declared.names.Unit.{Unit as AUnit}
+use Rattle.dip_store_changes.specs.Kind.{Kind}
+use Rattle.dip_store_changes.specs.Kind.TheVariants.{Army, Fleet}
+use Rattle.dip_store_changes.specs.Unit.{Unit as AUnit}
 use Rattle.dip_map.specs.Charts.{Chart, IsMap, are_units_single, is_unit, may_stand, power_of, prov_of}
 use Rattle.dip_map.specs.Boards.{IsOf, Position, is_dislodged, is_prov_if_any}
 use Rattle.dip_map.specs.declared.boards.Dislodged.{Dislodged}

@@ -7,7 +7,7 @@ use Rattle.sqlite.specs.Listing.{understood}
 use Rattle.sqlite.specs.Schema.{Schema}
 use Rattle.dip_store_sql.specs.Compiled.{Compiled}
 use Rattle.dip_store_sql.specs.CompileError.{CompileError}
-use Rattle.sqlite_tied.specs.Compute.{everything}
+use Rattle.dip_store_sql.specs.Compute.{everything}
 use Rattle.dip_store_sql.specs.Old.{old_schema}
 use Rattle.dip_store_sql.specs.Asking.{Asks, command_in}
 use Rattle.dip_store_sql.specs.Schema.{our_schema}

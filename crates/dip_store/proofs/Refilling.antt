@@ -29,20 +29,21 @@ use Rattle.dip_store_sql.specs.Rows.{put_ballot, put_choice, take_ballot, take_c
 use Rattle.dip_store_sql.specs.Schema.{ballot_table, choice_table, desk_table, seat_table}
 use Rattle.dip_store_sql.specs.Storing.{AreSpared, CanStand, Stores, StoresBehind, next_row, second_row, voteless_row}
 use Rattle.dip_store_sql.specs.TablesAfter.{on_desk, on_seats, with_ballot, with_choice}
-use Rattle.dip_store_sql.specs.Wants.{Does, IsReady, always}
+use Rattle.dip_store_sql.specs.Transactions.{Does, IsReady, always}
 use Rattle.dip_store_sql.proofs.Caused.{faulted_late}
 use Rattle.dip_store_sql.proofs.Created.{ballot_makes, choice_makes}
 use Rattle.dip_store_sql.proofs.Creating.{table_more}
 use Rattle.dip_store_sql.proofs.Defined.{ballot_defined, choice_defined}
 use Rattle.dip_store_sql.proofs.Grown.{ballot_over, ballot_over_caused, choice_over}
 use Rattle.dip_store_sql.proofs.Keyed.{are_keyed}
-use Rattle.dip_store_sql.proofs.Parts.{taken_both, went}
+use Rattle.dip_store_sql.proofs.Parts.{take_more, taken_both, went}
+use Rattle.dip_store_sql.proofs.Wants.{rows_of_none}
 use Rattle.dip_store.specs.Making.{HasTables, IsSet, Tries}
 use Rattle.dip_store.specs.Renewing.{HasRoomAnew, more_choices, rows_from}
 use Rattle.dip_store.specs.Rewriting.{HasBallotsOver, HasDeskOf, Stands, StandsAt}
 use Rattle.dip_store.specs.Faults.{open_fault}
 use Rattle.dip_store.specs.declared.faults.StoreFault.TheVariants.{Disk}
-use Rattle.dip_store.proofs.Filling.{ballots_on, choices_on, none_of_ballots, none_of_choices, take_more}
+use Rattle.dip_store.proofs.Filling.{ballots_on, choices_on, none_of_ballots, none_of_choices}
 use Rattle.dip_store.proofs.Refused.{open_blamed}
 use Rattle.dip_store.proofs.Trying.{tries_then}
 
@@ -266,10 +267,6 @@ choices_next games i d low a b c y r before step old t apart fits =
 
 -- ---- what tables without ballots and choices show
 
-no_rows : {A : Type 0} (take : Row → A) (rows : List Row) → map take rows ≡ [] → rows ≡ []
-no_rows take [] none = refl
-no_rows take (r ∷ rows) none = absurd (cc)
-
 keyed_of : (t : Tables) (db : Database) → HasTables t db → AreKeyed t
 keyed_of t db has = subst AreKeyed has.1 (are_keyed db has.0)
 
@@ -283,7 +280,7 @@ module _ (old : Database) (t : Tables) (a b : State) {X : Type 0} (r : Result X 
       found : (db : Database) → Stands old t db → Differ same_ballot (t.ballots ++ bs) × StandsAt 16 1 old t db
       found db it = (
         subst (λ xs. Differ same_ballot (xs ++ bs)) (sym none) (subst (Differ same_ballot) (sym voted) (ascending-map (λ a b. same_ballot a b ≡ false) old_ballot t.seats (keyed_of t db it.has).seats)),
-        (it, ap next_rowid (no_rows take_ballot (db.trees 16) (ap (λ (u : Tables). u.ballots) it.has.1 ∙ none))),
+        (it, ap next_rowid (rows_of_none take_ballot (db.trees 16) (ap (λ (u : Tables). u.ballots) it.has.1 ∙ none))),
       )
 
   pub choices_put : (names : List (List ℕ)) → names ≡ map (λ g. g.name) t.games → t.choices ≡ [] → Writes (more_choices (map old_choice names)) a b r
@@ -297,7 +294,7 @@ module _ (old : Database) (t : Tables) (a b : State) {X : Type 0} (r : Result X 
           let games = (keyed_of t db it.has).games in
           let all = ascending-map (λ a b. same_choice a b ≡ false) old_choice _ (ascending-map (λ a b. same_choice (old_choice a) (old_choice b) ≡ false) (λ (g : GameRow). g.name) t.games games) in (
             subst (λ xs. Differ same_choice (xs ++ map old_choice names)) (sym none) (subst (λ xs. Differ same_choice (map old_choice xs)) (sym named) all),
-            (it, ap next_rowid (no_rows take_choice (db.trees 18) (ap (λ (u : Tables). u.choices) it.has.1 ∙ none))),
+            (it, ap next_rowid (rows_of_none take_choice (db.trees 18) (ap (λ (u : Tables). u.choices) it.has.1 ∙ none))),
           )
 
 -- the choices that are written are those of the tables made anew

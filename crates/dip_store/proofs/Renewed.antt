@@ -4,7 +4,7 @@ use Rattle.std.specs.List.{AllByRecursion}
 use Rattle.std.proofs.lemmas.Bool.{cases_Bool}
 use Rattle.sqlite.specs.Order.{Row}
 use Rattle.sqlite.specs.Effect.{Database}
-use Rattle.sqlite_trees.specs.Tree.{IsAscending}
+use Rattle.sqlite.specs.Tree.{IsAscending}
 use Rattle.dip_map.specs.Charts.{Chart}
 use Rattle.dip_desk_state.proofs.KeyedLemmas.{names_tell}
 use Rattle.dip_store_tables.proofs.ListLemmas.{all_both, all_map, all_unmap, all_weaker}
@@ -17,7 +17,7 @@ use Rattle.dip_store_looks.proofs.RowLemmas.{has_text}
 use Rattle.dip_store_sql.specs.Good.{IsGood}
 use Rattle.dip_store_sql.specs.Rows.{tables_of}
 use Rattle.dip_store_sql.specs.Showing.{show_name, show_vote}
-use Rattle.dip_store_sql.proofs.Apart.{are_apart}
+use Rattle.dip_store_sql.proofs.Keyed.{are_apart}
 use Rattle.dip_store_tables.specs.Renewing.{WasSeatWritten, WereOurs, old_ballot, old_choice, renewed, voteless}
 use Rattle.dip_store.specs.Renewing.{IsVoteReadable, filled, shown_ballot, shown_name}
 

@@ -1,5 +1,5 @@
 -- Parts of a transaction that make tables, and why they fail.
-use Rattle.std.proofs.Common.{◌≡◌, inl, inr, ℕ, List, [], true, IsTrue, Ok, Err, Result, OnOk, IfErr, refl, sym, ap, subst, ◌∙◌, arith}
+use Rattle.std.proofs.Common.{◌≡◌, inl, inr, ℕ, List, [], true, IsTrue, Ok, Err, Result, IfErr, refl, sym, ap, ◌∙◌, arith}
 use Rattle.dip_store_sql.specs.StoreError.{StoreError}
 use Rattle.dip_store_sql.specs.StoreError.TheVariants.{OutOfMemory, Io, Corrupt, Full, Broken, Unstorable}
 use Rattle.sqlite.specs.declared.error.Error.{Error}
@@ -9,17 +9,12 @@ use Rattle.sqlite.specs.Effect.{Database}
 use Rattle.sqlite.specs.Tree.{Trees}
 use Rattle.sqlite.specs.State.{State, HasCause, HasCleanDisk, Survives, Executes, ExecutesInside, is_disk_error, store_error}
 use Rattle.sqlite.specs.Steps.{FailsToCommit}
-use Rattle.dip_store_tables.specs.Tables.{Tables}
-use Rattle.dip_store_sql.specs.Calls.{Turns, does_show, is_honest}
+use Rattle.dip_store_sql.specs.Calls.{does_show, is_honest}
 use Rattle.dip_store_sql.specs.Causes.{Faulted, IsCaused, has_faulted}
-use Rattle.dip_store_sql.specs.Wants.{Does, FailsOutside, IsReady}
 use Rattle.dip_store_sql.proofs.Caused.{caused_weaker, faulted_late}
 use Rattle.dip_store_sql.proofs.Parts.{fails, went}
-use Rattle.dip_store_sql.specs.Keys.{DesksDiffer}
-use Rattle.dip_store_sql.specs.TablesAfter.{new_desk, no_tables, with_desk}
-use Rattle.dip_store_tables.specs.Writing.{new_tables}
 use Rattle.dip_store.specs.Founding.{IsNewStore}
-use Rattle.dip_store.specs.Making.{HasFirst, HasTables, IsSet, Tries}
+use Rattle.dip_store.specs.Making.{HasFirst, IsSet, Tries}
 
 module _ (sql : List ℕ) (Such So : Database → Type 0) (old new : State) where
   -- one statement
@@ -62,23 +57,6 @@ tries_ok P Q a b x y p = record { clean = p.clean; counts = p.counts; ready = p.
 pub tries_fails : {X Y : Type 0} (P Q R : Database → Type 0) (a b : State) (e : Error) → Tries P Q a b (fails X Error e) → Tries P R a b (fails Y Error e)
 tries_fails P Q R a b e p = record { clean = p.clean; counts = p.counts; ready = λ clean set. tt; fails = p.fails }
 
--- a transaction on our tables goes on
-set_ready : (t : Tables) (a : State) → IsSet (HasTables t) a → IsReady a
-set_ready t a set = record { inside = set.inside; up = set.up; unlimited = set.unlimited; good = set.now.0 }
-
--- a statement on them
-pub tries_write : (f : Tables → Tables) (Such : Tables → Type 0) (t : Tables) (a b : State) {K : Tables → Type 0} (r : Result ℕ Error) → Such t → Does f K a b r → FailsOutside Such a b r → Tries (HasTables t) (HasTables (f t)) a b r
-tries_write f Such t a b r such p cause = record {
-  clean = λ clean. omega (arith, clean, p.writes.survives.clean);
-  counts = p.writes.survives.counts;
-  ready = λ clean set. turned r (p.writes.runs clean) set (p.ready clean (set_ready t a set));
-  fails = λ clean set. cause clean (set_ready t a set) (subst Such (sym set.now.1) such);
-}
-  where
-    turned : (r : Result ℕ Error) → OnOk r (Turns f a b) → IsSet (HasTables t) a → OnOk r (IsReady b) → OnOk r (IsSet (HasTables (f t)) b)
-    turned (Ok x) it set ready = let now = it.good set.now.0 in record { inside = ready.inside; up = ready.up; unlimited = ready.unlimited; now = (now.0, now.1 ∙ ap f set.now.1) }
-    turned (Err e) it set ready = tt
-
 module _ {S : Type 0} (g : Ghosts S) (Such So : Database → Type 0) (old last end : Held S) where
   abbrev begun : Held S
   begun = record old { in_transaction = true }
@@ -110,8 +88,3 @@ module _ {S : Type 0} (g : Ghosts S) (Such So : Database → Type 0) (old last e
 -- a transaction in a new store has none of our tables
 pub begun_set : {S : Type 0} (g : Ghosts S) (old : Held S) → IsNewStore g old → does_show g old → IsSet (HasFirst 0) (state g (record old { in_transaction = true }))
 begun_set g old new shows = record { inside = refl; up = shows.1; unlimited = new.unlimited; now = record { schema_is = new.empty; empty = tt } }
-
--- the first row
-pub first_tries : (map digest : List ℕ) (a b : State) (r : Result ℕ Error) → Does (with_desk (new_desk map digest)) DesksDiffer a b r → FailsOutside (λ t. t.desk ≡ []) a b r
-    → Tries (HasTables no_tables) (HasTables (new_tables map digest)) a b r
-first_tries map digest a b r does first = tries_write (with_desk (new_desk map digest)) (λ t. t.desk ≡ []) no_tables a b r refl does first

@@ -18,7 +18,7 @@ use Rattle.dip_store_sql.proofs.Caused.{faulted_late}
 use Rattle.dip_store_sql.proofs.Parts.{fails, went}
 use Rattle.dip_store_sql.specs.Keys.{AreKeyed}
 use Rattle.dip_store_sql.specs.Refusals.{IsBlamed, IsWant}
-use Rattle.dip_store_sql.specs.Wants.{Does, IsReady}
+use Rattle.dip_store_sql.specs.Transactions.{Does, IsReady}
 use Rattle.dip_store_sql.proofs.Told.{want_weaker}
 use Rattle.dip_store_changes.specs.declared.delivering.Reader.{Reader}
 use Rattle.dip_store_tables.specs.Changing.{ordering}

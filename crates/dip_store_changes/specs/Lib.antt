@@ -6,3 +6,5 @@ pub mod Counts
 pub mod Failing
 pub mod Laws
 pub mod Making
+pub use Rattle.dip_names.specs.declared.names.Kind
+pub use Rattle.dip_names.specs.declared.names.Unit

@@ -6,7 +6,7 @@ ghost use Rattle.dip_desk_state.specs.Rows as records;
 ghost use Rattle.dip_map.specs.Charts.{Chart};
 ghost use Rattle.dip_store_tables.specs.Writing.{as_printed, desk_noted, whole_reply};
 ghost use Rattle.dip_store_sql.specs.TablesAfter.{on_desk, on_seat};
-ghost use Rattle.dip_store_sql.specs.Wants.{Does, always};
+ghost use Rattle.dip_store_sql.specs.Transactions.{Does, always};
 ghost use Rattle.dip_store_changes.specs.Noting.{NextRowsAreNoted, noting_row, on_row, row_noted};
 
 use crate::known::AuthorRow;

@@ -7,7 +7,7 @@ ghost use Rattle.dip_store_tables.specs.Boards.{power_name};
 ghost use Rattle.dip_store_tables.specs.Changing.{with_vote};
 ghost use Rattle.dip_store_tables.specs.Writing.{ballot_row};
 ghost use Rattle.dip_store_sql.specs.Keys.{BallotsDiffer, ChoicesDiffer};
-ghost use Rattle.dip_store_sql.specs.Wants.{Does, always};
+ghost use Rattle.dip_store_sql.specs.Transactions.{Does, always};
 ghost use Rattle.dip_store_changes.specs.Parts.{VotesDiffer, choosing, more_ballots, with_votes};
 
 use dip_desk_state::{NewSeat, Vote};

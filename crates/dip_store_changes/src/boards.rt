@@ -3,7 +3,7 @@ ghost use Rattle.std.specs.Prelude.{◌≡◌, map as each, length, [], ◌∷�
 ghost use Rattle.sqlite.specs.Held.{state};
 ghost use Rattle.dip_store_tables.specs.Boards.{centre_rows_from, coast_text, dislodged_row, origin_text, kind_number, standing_row};
 ghost use Rattle.dip_store_sql.specs.Keys.{CentresDiffer, UnitsDiffer};
-ghost use Rattle.dip_store_sql.specs.Wants.{Does};
+ghost use Rattle.dip_store_sql.specs.Transactions.{Does};
 ghost use Rattle.dip_store_changes.specs.Parts.{BoardsDiffer, more_centres, more_units, with_board};
 
 use dip_map::{Board, Dislodged, Map};

@@ -5,7 +5,7 @@ ghost use Rattle.dip_map.specs.Charts.{Chart};
 ghost use Rattle.dip_desk_state.specs.Bounds.{most_items};
 ghost use Rattle.dip_desk_state.specs.Rows as records;
 ghost use Rattle.dip_store_sql.specs.Keys.{ItemsDiffer};
-ghost use Rattle.dip_store_sql.specs.Wants.{Does};
+ghost use Rattle.dip_store_sql.specs.Transactions.{Does};
 ghost use Rattle.dip_store_changes.specs.Delivering.{ReadersAreSeats, boxed, delivering_all, delivering_rows, delivering_to, putting};
 
 use crate::items::{ItemTexts, item_texts};

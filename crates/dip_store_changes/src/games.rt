@@ -9,7 +9,7 @@ ghost use Rattle.dip_store_tables.specs.Changing.{opening, publishing};
 ghost use Rattle.dip_store_tables.specs.Writing.{game_row, number_of};
 ghost use Rattle.dip_store_sql.specs.TablesAfter.{game_as, on_game, with_game};
 ghost use Rattle.dip_store_sql.specs.Keys.{AreKeyed, GamesDiffer};
-ghost use Rattle.dip_store_sql.specs.Wants.{Does, always};
+ghost use Rattle.dip_store_sql.specs.Transactions.{Does, always};
 ghost use Rattle.dip_store_sql.specs.RowViews as rows;
 ghost use Rattle.dip_store_changes.specs.Parts.{cleared, pending_left};
 

@@ -5,7 +5,7 @@ ghost use Rattle.dip_desk_state.specs.Rows as records;
 ghost use Rattle.dip_store_tables.specs.Changing.{with_orders};
 ghost use Rattle.dip_store_tables.specs.Writing.{pending_row};
 ghost use Rattle.dip_store_sql.specs.Keys.{OrdersDiffer};
-ghost use Rattle.dip_store_sql.specs.Wants.{Does};
+ghost use Rattle.dip_store_sql.specs.Transactions.{Does};
 ghost use Rattle.dip_store_changes.specs.Parts.{more_orders};
 
 use dip_desk_state::Standing;

@@ -8,7 +8,7 @@ ghost use Rattle.dip_store_tables.specs.Changing.{ordering, ordering_by, voting_
 ghost use Rattle.dip_store_tables.specs.Coding.{IsEffectOf};
 ghost use Rattle.dip_store_tables.specs.ChangeColumns.{FitsColumns, IsWritable};
 ghost use Rattle.dip_store_sql.specs.Keys.{AreKeyed, OrdersDiffer};
-ghost use Rattle.dip_store_sql.specs.Wants.{Does, always};
+ghost use Rattle.dip_store_sql.specs.Transactions.{Does, always};
 ghost use Rattle.dip_store_changes.specs.Making.{GivenOrdersDiffer, changing_row, reaching_all};
 
 use crate::authors::note_author;

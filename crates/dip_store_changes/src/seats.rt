@@ -5,7 +5,7 @@ ghost use Rattle.dip_desk_state.specs.ChangeRows as machine;
 ghost use Rattle.dip_store_tables.specs.Changing.{replacing};
 ghost use Rattle.dip_store_tables.specs.Writing.{seat_row};
 ghost use Rattle.dip_store_sql.specs.Keys.{SeatsDiffer};
-ghost use Rattle.dip_store_sql.specs.Wants.{Does, always};
+ghost use Rattle.dip_store_sql.specs.Transactions.{Does, always};
 ghost use Rattle.dip_store_changes.specs.Parts.{more_seats};
 
 use dip_desk_state::NewSeat;

@@ -24,7 +24,7 @@ use Rattle.dip_store_sql.specs.Good.{IsGood}
 use Rattle.dip_store_sql.specs.Rows.{tables_of}
 use Rattle.dip_store_sql.specs.Refusals.{IsBlamed, IsWant}
 use Rattle.dip_store_sql.specs.Storing.{AreSpared, CanStand, Stores, StoresBehind}
-use Rattle.dip_store_sql.specs.Wants.{Does, FailsOutside, IsReady}
+use Rattle.dip_store_sql.specs.Transactions.{Does, FailsOutside, IsReady}
 use Rattle.dip_store_sql.proofs.Blamed.{IsAlwaysCalm, edits_calm, executes_blamed}
 use Rattle.dip_store_sql.proofs.Failing.{edits_rows, other_than}
 use Rattle.dip_store_sql.proofs.Parts.{one}

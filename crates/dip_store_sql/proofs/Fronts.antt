@@ -7,7 +7,6 @@ use Rattle.sqlite.specs.Listing.{if_select, is_select, listing_schema, reads_lis
 use Rattle.sqlite.specs.Schema.{Schema}
 use Rattle.sqlite_resolve.specs.declared.compiled.Compiled.{Compiled}
 use Rattle.sqlite_resolve.specs.Lowering.{Checked, and_then}
-use Rattle.sqlite_syntax.specs.declared.statement.Parsed.{Parsed}
 use Rattle.sqlite_tied.specs.Compute.{everything}
 use Rattle.dip_store_sql.specs.Asking.{IsWhole}
 use Rattle.dip_store_sql.specs.Statements as text
@@ -25,13 +24,13 @@ selected (Ok k) c h = elim (cases_Bool (is_select k.command)) [
 selected (Err e) c h = absurd (cc)
 
 -- by what is read in the text alone: it is one statement, which shows nothing that it writes, and wants no time
-record IsFront (text : List ℕ) (p : Parsed) : Type 0 where
+record IsFront (text : List ℕ) (p : _) : Type 0 where
   is : first text ≡ Ok p
   whole : nat_le (length text) p.tail ≡ true
   silent : (schema : Schema) (base : ℕ) → returning schema base p.statement ≡ Ok None
   untimed : (schema : Schema) → timed schema p.formats p.statement ≡ []
 
-module _ (text : List ℕ) (p : Parsed) (front : IsFront text p) where
+module _ (text : List ℕ) (p : _) (front : IsFront text p) where
   abbrev IsRead : Compiled → Type 0
   IsRead c = (length text ≤ c.tail) × IsPlain (Ok c)
 

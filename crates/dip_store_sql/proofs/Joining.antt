@@ -8,7 +8,7 @@ use Rattle.dip_store_tables.specs.Tables.{Tables}
 use Rattle.dip_store_sql.specs.Causes.{Faulted}
 use Rattle.dip_store_sql.specs.Refusals.{is_outage}
 use Rattle.dip_store_sql.specs.Rows.{tables_of}
-use Rattle.dip_store_sql.specs.Wants.{Does}
+use Rattle.dip_store_sql.specs.Transactions.{Does}
 use Rattle.dip_store_sql.proofs.Blamed.{blamed_of}
 use Rattle.dip_store_sql.proofs.Caused.{faulted_late}
 use Rattle.dip_store_sql.proofs.Parts.{fails, went, writes_as, writes_none, writes_then}

@@ -97,7 +97,7 @@ writes_as X E f h a b (Err e) same p = record { survives = p.survives; keeps = p
 pub writes_more : (X Y Z : Type 0) (f h k : Tables → Tables) (a b c : State) (x : X) (y : Y) (z : Z) → ((t : Tables) → h (f t) ≡ k t) → Writes f a b (went X Error x) → Writes h b c (went Y Error y) → Writes k a c (went Z Error z)
 writes_more X Y Z f h k a b c x y z same p q = let both = writes_then {X = X} {Y = Y} {E = Error} f h k a b c same x (went Y Error y) p q in record { survives = both.survives; keeps = both.keeps; runs = both.runs }
 
-take_more : {A : Type 0} (xs : List A) (i : ℕ) (d : A) → i < length xs → take (i + 1) xs ≡ take i xs ++ get_or xs i d ∷ []
+pub take_more : {A : Type 0} (xs : List A) (i : ℕ) (d : A) → i < length xs → take (i + 1) xs ≡ take i xs ++ get_or xs i d ∷ []
 take_more [] i d low = absurd (omega (arith, low))
 take_more (x ∷ xs) zero d low = refl
 take_more (x ∷ xs) (suc i) d low = let e : suc i + 1 ≡ suc (i + 1) = omega arith in rw e (ap (λ ys. x ∷ ys) (take_more xs i d (omega (arith, low))))

@@ -34,3 +34,9 @@ number_test m n = int_test (pos m) (pos n) ∙ same_number
 pub and_true : (b : Bool) → (b && true) ≡ b
 and_true true = refl
 and_true false = refl
+
+pub and_both : (a b : Bool) → (a && (b && true)) ≡ (a && b)
+and_both a b = ap (λ x. a && x) (and_true b)
+
+pub and_all : (a b c : Bool) → (a && (b && (c && true))) ≡ (a && (b && c))
+and_all a b c = ap (λ x. a && (b && x)) (and_true c)

@@ -60,9 +60,9 @@ changed {A} same p f one other (x ∷ xs) apart = (behind x xs apart.0, changed 
     behind x (y ∷ ys) all = (both x y all.0, behind x ys all.1)
 
 -- no record is there, so no row
-no_rows : {A : Type 0} (take : Row → A) (rows : List Row) → map take rows ≡ [] → rows ≡ []
-no_rows take [] none = refl
-no_rows take (r ∷ rows) none = absurd (cc)
+pub rows_of_none : {A : Type 0} (take : Row → A) (rows : List Row) → map take rows ≡ [] → rows ≡ []
+rows_of_none take [] none = refl
+rows_of_none take (r ∷ rows) none = absurd (cc)
 
 -- there are no references
 refers : (among : Among) (db : Trees) → Refers among our_schema db
@@ -86,7 +86,7 @@ module _ (old new : State) (good : IsGood old.now) (up : IsTrue old.is_open) (un
       insert_first our_schema 0 desk_table refl refl (λ db. refl) (λ olds news. refl) refers put_desk take_desk (λ v a. refl) cast_desk desk_rules text.add_desk_text means.add_desk.1 (Bytes map ∷ Bytes digest ∷ []) asked.add_desk old new good.schema up unlimited good.desk e h
       text.add_desk_values 8 means.add_desk.0 refl (new_desk map digest) refl
       (λ rows it are. desk_keyed old.now.trees unique rows it (subst (Differ same_desk) (sym are) (subst (λ ds. Differ same_desk (ds ++ (new_desk map digest) ∷ [])) (sym none) (tt, tt))))
-      (no_rows take_desk (old.now.trees 0) none) (desk_fits map digest one other)
+      (rows_of_none take_desk (old.now.trees 0) none) (desk_fits map digest one other)
 
   pub add_game : (g : GameRow) → Differ same_name ((tables_of old.now.trees).games ++ g ∷ []) → Executes text.add_game_text (put_game g) old new (Err e) → IsWant (Faulted old new) e
   add_game g apart h =

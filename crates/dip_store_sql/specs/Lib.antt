@@ -16,9 +16,10 @@ pub mod Showing
 pub mod TablesAfter
 pub mod Keys
 pub mod Refusals
-pub mod Wants
+pub mod Transactions
 pub mod Storing
 pub mod RowViews
 pub use Rattle.sqlite_resolve.specs.declared.compiled.Compiled
 pub use Rattle.sqlite_resolve.specs.declared.error.CompileError
+pub use Rattle.sqlite_tied.specs.Compute
 pub use Rattle.sqlite_trees.specs.declared.error.StoreError

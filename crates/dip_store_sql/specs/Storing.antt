@@ -15,7 +15,7 @@ use Rattle.dip_store_tables.specs.Tables.{BallotRow, DeskRow, SeatRow, Tables}
 use Rattle.dip_store_sql.specs.Causes.{Faulted, IsCaused}
 use Rattle.dip_store_sql.specs.Rows.{put_desk, put_seat, tables_of, take_desk, take_seat}
 use Rattle.dip_store_sql.specs.Schema.{our_schema}
-use Rattle.dip_store_sql.specs.Wants.{IsReady}
+use Rattle.dip_store_sql.specs.Transactions.{IsReady}
 
 -- a row can be stored in its table, with its entries in the indexes, and its number has 64 bits
 abbrev pub CanStandIn : Schema → Table → Row → Type 0

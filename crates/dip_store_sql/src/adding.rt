@@ -6,7 +6,7 @@ ghost use Rattle.dip_store_sql.specs.Keys.{BallotsDiffer, CentresDiffer, Choices
 ghost use Rattle.dip_store_sql.specs.Rows.{put_ballot, put_choice};
 ghost use Rattle.dip_store_sql.specs.Schema.{ballot_table, choice_table};
 ghost use Rattle.dip_store_sql.specs.Storing.{StoresBehind, next_row};
-ghost use Rattle.dip_store_sql.specs.Wants.{Does, FailsOutside};
+ghost use Rattle.dip_store_sql.specs.Transactions.{Does, FailsOutside};
 ghost use Rattle.dip_store_sql.specs.RowViews as rows;
 ghost use Rattle.dip_store_tables.specs.Writing.{choice_row};
 

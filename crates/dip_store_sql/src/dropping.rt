@@ -2,7 +2,7 @@
 ghost use Rattle.std.specs.Prelude.{◌≡◌};
 ghost use Rattle.sqlite.specs.Held.{state};
 ghost use Rattle.dip_store_sql.specs.TablesAfter.{no_ballots, no_centres, no_choices, no_items, no_orders, no_papers, no_pending, no_seats, no_units};
-ghost use Rattle.dip_store_sql.specs.Wants.{Does, always};
+ghost use Rattle.dip_store_sql.specs.Transactions.{Does, always};
 
 use sqlite::{Alter, Error, Transaction, params};
 

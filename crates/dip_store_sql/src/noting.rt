@@ -5,7 +5,7 @@ ghost use Rattle.dip_store_sql.specs.TablesAfter.{counting, game_as, named, on_b
 ghost use Rattle.dip_store_tables.specs.Renewing.{second, voteless};
 ghost use Rattle.dip_store_sql.specs.Schema.{desk_table, seat_table};
 ghost use Rattle.dip_store_sql.specs.Storing.{Stores, second_row, voteless_row};
-ghost use Rattle.dip_store_sql.specs.Wants.{Does, always};
+ghost use Rattle.dip_store_sql.specs.Transactions.{Does, always};
 ghost use Rattle.dip_store_sql.specs.RowViews as rows;
 
 use crate::rows::{GameRow, LastLetter, SeatRow};

@@ -2,9 +2,9 @@ use Rattle.std.proofs.Common.{arith, rules, [], ◌∷◌, subst, ◌∙◌}
 use Rattle.sqlite.specs.declared.error.Error.{Error}
 use Rattle.sqlite.specs.Held.{state}
 use Rattle.dip_store_sql.specs.Calls.{Writes}
-use Rattle.dip_store_sql.proofs.Parts.{fails, went, writes_more}
+use Rattle.dip_store_sql.proofs.Parts.{fails, take_more, went, writes_more}
 use Rattle.dip_store_changes.specs.Parts.{more_ballots}
-use Rattle.dip_store.proofs.Filling.{ballots_on, take_more}
+use Rattle.dip_store.proofs.Filling.{ballots_on}
 use Rattle.dip_store.proofs.Refilling.{BallotIs, ballots_next}
 use Rattle.dip_store.specs.Rewriting.{Stands}
 use Rattle.dip_store.proofs.Trying.{tries_fails}

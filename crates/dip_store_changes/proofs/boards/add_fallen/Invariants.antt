@@ -3,7 +3,7 @@ use Rattle.sqlite.specs.Held.{state}
 use Rattle.sqlite.specs.declared.error.Error.{Error}
 use Rattle.dip_store_tables.specs.Boards.{dislodged_row}
 use Rattle.dip_store_sql.proofs.Parts.{went}
-use Rattle.dip_store_sql.specs.Wants.{Does, always}
+use Rattle.dip_store_sql.specs.Transactions.{Does, always}
 use Rattle.dip_store_changes.specs.Parts.{more_units}
 use Rattle.dip_store_changes.proofs.boards.add_fallen.Given as goal
 

@@ -9,7 +9,7 @@ use Rattle.dip_store_changes.specs.Delivering.{boxed, delivering_rows}
 use Rattle.dip_store_changes.proofs.Apart.{reader_apart}
 use Rattle.dip_store_changes.proofs.Handing.{reader_more}
 use Rattle.dip_store_sql.proofs.Parts.{went}
-use Rattle.dip_store_sql.specs.Wants.{Does, always}
+use Rattle.dip_store_sql.specs.Transactions.{Does, always}
 use Rattle.dip_store_changes.proofs.delivering.put_all.Goals as goal
 
 pub loop-reader-preserved : goal.loop-reader-preserved

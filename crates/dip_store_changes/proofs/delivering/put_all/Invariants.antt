@@ -2,7 +2,7 @@ use Rattle.std.proofs.Common.{◌≡◌, take}
 use Rattle.sqlite.specs.Held.{state}
 use Rattle.sqlite.specs.declared.error.Error.{Error}
 use Rattle.dip_store_sql.proofs.Parts.{went}
-use Rattle.dip_store_sql.specs.Wants.{Does, always}
+use Rattle.dip_store_sql.specs.Transactions.{Does, always}
 use Rattle.dip_store_changes.specs.Delivering.{boxed, delivering_rows}
 use Rattle.dip_store_changes.proofs.delivering.put_all.Given as goal
 

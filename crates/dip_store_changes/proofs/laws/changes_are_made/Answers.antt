@@ -4,7 +4,7 @@ use Rattle.dip_store_tables.specs.Counting.{AreCounted}
 use Rattle.dip_store_tables.specs.Reading.{state_of}
 use Rattle.dip_store_tables.specs.Written.{AreWritten}
 use Rattle.dip_store_sql.specs.Rows.{tables_of}
-use Rattle.dip_store_sql.proofs.Apart.{are_apart}
+use Rattle.dip_store_sql.proofs.Keyed.{are_apart}
 use Rattle.dip_store_changes.proofs.laws.changes_are_made.Goals as goal
 
 pub returns : goal.returns

@@ -9,7 +9,7 @@ use Rattle.dip_store_sql.specs.Calls.{tables_in}
 use Rattle.dip_store_sql.proofs.Caused.{faulted_late}
 use Rattle.dip_store_sql.proofs.Blamed.{blamed_weaker}
 use Rattle.dip_store_sql.proofs.Told.{want_weaker}
-use Rattle.dip_store_sql.proofs.Apart.{are_apart}
+use Rattle.dip_store_sql.proofs.Keyed.{are_apart}
 use Rattle.dip_store_tables.specs.Tables.{Tables}
 use Rattle.dip_store_sql.specs.Keys.{AreKeyed}
 use Rattle.dip_store_changes.specs.declared.delivering.Reader.{Reader}

@@ -4,7 +4,7 @@ use Rattle.sqlite.specs.declared.error.Error.{Error}
 use Rattle.dip_desk_state.specs.Rows as records
 use Rattle.dip_store_tables.specs.Writing.{pending_row}
 use Rattle.dip_store_sql.proofs.Parts.{went}
-use Rattle.dip_store_sql.specs.Wants.{Does, always}
+use Rattle.dip_store_sql.specs.Transactions.{Does, always}
 use Rattle.dip_store_changes.specs.Parts.{more_orders}
 use Rattle.dip_store_changes.proofs.orders.add_orders.Given as goal
 

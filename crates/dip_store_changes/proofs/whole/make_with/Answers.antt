@@ -5,7 +5,7 @@ use Rattle.dip_desk_state.specs.ChangeRows as machine
 use Rattle.dip_store_sql.specs.Calls.{is_honest}
 use Rattle.dip_store_sql.proofs.Parts.{fails, went}
 use Rattle.dip_store_sql.specs.Keys.{AreKeyed}
-use Rattle.dip_store_sql.specs.Wants.{Does}
+use Rattle.dip_store_sql.specs.Transactions.{Does}
 use Rattle.dip_store_sql.proofs.Blamed.{blamed_weaker}
 use Rattle.dip_store_sql.proofs.Told.{want_weaker}
 use Rattle.dip_store_sql.specs.Causes.{has_faulted}

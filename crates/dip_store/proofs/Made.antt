@@ -38,11 +38,11 @@ use Rattle.dip_store_changes.specs.Knowing.{IsKeptAs, IsKnown}
 use Rattle.dip_store_changes.specs.declared.known.AuthorRow.{AuthorRow}
 use Rattle.dip_store.specs.Owns.{Owns, RecallsOwns, known_among, owns_of}
 use Rattle.dip_store.proofs.Owning.{known_of}
-use Rattle.dip_store.specs.Seen.{Parts, Recalls}
+use Rattle.dip_store.specs.Seen.{DifferByName, Parts, Recalls}
 use Rattle.dip_store.specs.Stored.{AreStored, book, said_by, sized, sizing, telling}
 use Rattle.dip_store.specs.declared.keeper.SqlKeeper.{SqlKeeper}
 use Rattle.dip_store.proofs.Outside.{make_caused, make_outside}
-use Rattle.dip_store.proofs.Seeing.{Heeds}
+use Rattle.dip_store.proofs.Seeing.{Heeds, differ_by_name}
 
 -- a count of faults of size doesn't fall, and where it counts one it rises
 size_counts : (b : Bool) (n : ℕ) → n ≤ sized b n
@@ -105,8 +105,9 @@ module _ {S : Type 0} (g : Ghosts S) (m : Chart) (k : SqlKeeper S) (c : Change) 
     pub changes_well : (X E : Type 0) (x : X) → HasTexts c → TablesStayLegible m → MakesFrom Keeps g (changing m c) k.conn new (went X E x) → (Keeps → does_show g new → IsKept g new)
         → (Keeps → does_show g new → HasPlace m c (tables_in g k.conn))
         → ((s : State) → RecallsOwns s k.owns → RecallsOwns (state_after c s) owns)
-        → Changes m (book g) k (record k { conn = new; seen = seen; owns = owns }) (state_after c) (Fits m c) (went X KeepFault x)
-    changes_well X E x texts stay p stays place follows = record {
+        → (later : Parts) → ((s : State) → Recalls s k.seen → Recalls (state_after c s) seen → DifferByName (state_after c s).games → Recalls (state_after c s) later)
+        → Changes m (book g) k (record k { conn = new; seen = later; owns = owns }) (state_after c) (Fits m c) (went X KeepFault x)
+    changes_well X E x texts stay p stays place follows later notes = record {
       keeps = record {
         count = refl;
         told = p.counts;
@@ -131,13 +132,16 @@ module _ {S : Type 0} (g : Ghosts S) (m : Chart) (k : SqlKeeper S) (c : Change) 
     }
       where
         sound : Keeps → does_show g new
-            → IsKept g new × AreOurs m (tables_in g new) × Recalls (said_by m (state g new).now.trees) seen × RecallsOwns (said_by m (state g new).now.trees) owns
+            → IsKept g new × AreOurs m (tables_in g new) × Recalls (said_by m (state g new).now.trees) later × RecallsOwns (said_by m (state g new).now.trees) owns
         sound kept shows =
-            let is = p.done kept shows in (
+            let is = p.done kept shows in
+            let before = said_by m (state g k.conn).now.trees in
+            let behind : said_by m (state g new).now.trees ≡ state_after c before = said kept is.0.good is.1 in
+            let apart : DifferByName (state_after c before).games = subst (λ (s : State). DifferByName s.games) behind (differ_by_name m (state g new).now is.0.good) in (
               stays kept shows,
               ours kept texts stay (place kept shows) is.0.good is.1,
-              subst (λ (s : State). Recalls s seen) (sym (said kept is.0.good is.1)) (heeds (said_by m (state g k.conn).now.trees) kept.2).1,
-              subst (λ (s : State). RecallsOwns s owns) (sym (said kept is.0.good is.1)) (follows (said_by m (state g k.conn).now.trees) kept.3),
+              subst (λ (s : State). Recalls s later) (sym behind) (notes before kept.2 (heeds before kept.2).1 apart),
+              subst (λ (s : State). RecallsOwns s owns) (sym behind) (follows before kept.3),
             )
 
     -- what a crash may leave of a change that isn't made can be opened again

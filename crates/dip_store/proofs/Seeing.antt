@@ -1,20 +1,31 @@
 -- Public parts that are remembered.
-use Rattle.std.proofs.Common.{◌≡◌, ◌&&◌, ℕ, nat_lt, length, Bool, true, false, cond, List, [], Option, None, Some, option_map, option_copied, Bor, refl, sym, ap, subst, ◌∙◌, bytes_eq, String, string_bytes}
+use Rattle.std.proofs.Common.{◌≡◌, ◌&&◌, ◌++◌, ℕ, nat_lt, length, Bool, true, false, cond, List, [], ◌∷◌, Option, None, Some, is_some, option_map, option_copied, Bor, Result, Ok, Err, OnOk, OnErr, refl, sym, ap, subst, ◌∙◌, bytes_eq, String, string_bytes}
+use Rattle.std.specs.List.{AllByRecursion}
 use Rattle.std.specs.declared.alloc.Global.{Global}
 use Rattle.std.specs.declared.rc.Rc.{Rc}
 use Rattle.std.specs.Option.{option_or}
 use Rattle.std.specs.Map.{lookup}
 use Rattle.std.specs.String.{string_eq}
 use Rattle.indexmap.specs.IndexMap.{IndexMap, UpdatesBy}
+use Rattle.std.proofs.lemmas.Bool.{and_parts}
 use Rattle.std.proofs.lemmas.Slice.Eq.{bytes_eq-Decides}
+use Rattle.sqlite.specs.Tree.{IsAscending}
+use Rattle.sqlite.specs.Effect.{Database}
+use Rattle.dip_map.specs.Charts.{Chart}
 use Rattle.dip_desk_state.specs.Records as r
 use Rattle.dip_desk_state.specs.Rows as rows
-use Rattle.dip_desk_state.specs.State.{Change, Effect, Game, Nothing, Pending, Votes, Delivers, Opens, Publishes, Seats, State, game_after, game_at, name_of, new_games, public_after, public_at, state_after}
+use Rattle.dip_desk_state.specs.State.{Change, Effect, Game, Nothing, NewSeat, Pending, Votes, Delivers, Opens, Publishes, Seats, State, game_after, game_at, name_of, new_games, opening_game, public_after, public_at, state_after}
 use Rattle.dip_desk_state.specs.Keyed.{at, change_at}
-use Rattle.dip_desk_state.proofs.KeyedLemmas.{at-append, at-change_at_other, at-change_at_same, names_tell}
+use Rattle.dip_desk_state.proofs.KeyedLemmas.{Tells, at_key, at-append, at-change_at_other, at-change_at_same, names_tell}
 use Rattle.dip_desk_state.specs.declared.records.Public.{Public}
+use Rattle.dip_store_sql.specs.Good.{IsGood}
+use Rattle.dip_store_sql.specs.Rows.{tables_of}
+use Rattle.dip_store_sql.proofs.Keyed.{are_apart}
+use Rattle.dip_store_tables.proofs.ListLemmas.{ascending-map}
+use Rattle.dip_store_tables.specs.Reading.{game_of}
 use Rattle.dip_store.proofs.Named.{found_said, lent_said, said, updated_said}
-use Rattle.dip_store.specs.Seen.{Parts, Recalls, gives_part, is_paper, most_seen, part_of, with_room}
+use Rattle.dip_store.specs.Seen.{DifferByName, IsThere, Parts, Recalls, gives_part, is_paper, most_seen, part_of, replaces_part, with_room}
+use Rattle.dip_store.specs.Stored.{said_by}
 
 -- what a part as it lies in memory says
 abbrev pub says : Rc Public Global → r.Public
@@ -29,6 +40,11 @@ part_found name es = found_said says name es
 pub parts_updated : {S : Type 0} (bs : List ℕ) (m n : IndexMap (String Global) (Rc Public Global) S) (w : Option (Rc Public Global)) → UpdatesBy string_eq (λ k. bytes_eq bs (string_bytes k)) m n w
     → (other : List ℕ) → part_of other (said says n.entries) ≡ cond (bytes_eq bs other) (option_map (λ p. rows.public p.value) w) (part_of other (said says m.entries))
 parts_updated bs m n w updates other = updated_said says bs m n w updates other
+
+-- whether something lies there is whether it says something
+pub some_said : (o : Option (Rc Public Global)) → is_some o ≡ is_some (option_map (λ p. rows.public p.value) o)
+some_said None = refl
+some_said (Some p) = refl
 
 -- by the name, the part and the parts that are meant
 pub part_noted : (other bs name : List ℕ) (p q : r.Public) (ps qs : Parts) → bs ≡ name → p ≡ q → ps ≡ qs
@@ -64,6 +80,13 @@ learned s old new name p holds is noted other q h = go (bytes_eq name other) ref
 
 pub not_learned : (s : State) (old new : Parts) → Recalls s old → new ≡ with_room old → Recalls s new
 not_learned s old new holds is = subst (Recalls s) (sym is) (roomy s old holds)
+
+-- so it is whether memory was there for it or not
+pub noted_recalls : {X E : Type 0} (did : Result X E) (s : State) (name : List ℕ) (p : r.Public) (old new : Parts)
+    → OnOk did ((other : List ℕ) → part_of other new ≡ cond (bytes_eq name other) (Some p) (part_of other (with_room old))) → OnErr did (new ≡ with_room old)
+    → Recalls s old → public_at name s ≡ Some p → Recalls s new
+noted_recalls (Ok x) s name p old new noted not holds is = learned s old new name p holds (sym is) noted
+noted_recalls (Err e) s name p old new noted not holds is = not_learned s old new holds not
 
 -- a game keeps its name
 pub keeps_name : (c : Change) (g : Game) → name_of (game_after c g) ≡ name_of g
@@ -138,3 +161,53 @@ heeded c old new is s holds = (before, behind)
     behind name p h =
         let it = heeded_by (gives_part c name) (part_of name old) p (sym (is name) ∙ h) in
         part_stays c s name p it.0 (holds name p it.1)
+
+-- a game whose part was remembered is there
+pub was_there : (c : Change) (s : State) (ps : Parts) (was : Bool) → was ≡ replaces_part c ps → Recalls s ps → was ≡ true → IsThere c.game s
+was_there c s ps was is holds so = go (part_of c.game ps) refl (and_parts (is_paper c.effect) (is_some (part_of c.game ps)) (sym is ∙ so)).1
+  where
+    go : (o : Option r.Public) → part_of c.game ps ≡ o → is_some o ≡ true → IsThere c.game s
+    go None found some = absurd (cc)
+    go (Some p) found some = ap (λ (o : Option r.Public). is_some o) (holds c.game p found)
+
+last_has : {A : Type 0} (P : A → Type 0) (xs : List A) (x : A) → AllByRecursion P (xs ++ x ∷ []) → P x
+last_has P [] x all = all.0
+last_has P (y ∷ ys) x all = last_has P ys x all.1
+
+-- where no two records have one key, the last is found at its own
+at_last : {K A : Type 0} (eq : K → K → Bool) (key : A → K) (xs : List A) (x : A) → Tells eq → IsAscending (λ a b. eq (key a) (key b) ≡ false) (xs ++ x ∷ []) → at eq key (key x) (xs ++ x ∷ []) ≡ Some x
+at_last eq key [] x tells apart = rw (tells.self (key x)) refl
+at_last eq key (y ∷ ys) x tells apart = rw (last_has (λ b. eq (key y) (key b) ≡ false) ys x apart.0) (at_last eq key ys x tells apart.1)
+
+-- a game that is opened has the part that came with it
+pub opened : (c : Change) (s : State) (name : List ℕ) (p : r.Public) (paper : List ℕ) (seats : List NewSeat) → name ≡ p.game → c.effect ≡ Opens p paper seats → DifferByName (state_after c s).games
+    → public_at name (state_after c s) ≡ Some (record p { game = name })
+opened c s name p paper seats named is apart = subst (λ (n : List ℕ). public_at n (state_after c s) ≡ Some (record p { game = n })) (sym named) here
+  where
+    new : new_games c.effect ≡ opening_game p paper seats ∷ []
+    new = ap (λ (e : Effect). new_games e) is
+
+    here : public_at p.game (state_after c s) ≡ Some p
+    here =
+        let before = change_at bytes_eq name_of c.game (game_after c) s.games in
+        ap (λ (o : Option Game). option_map (λ g. g.public) o) (
+        ap (λ (gs : List Game). at bytes_eq name_of p.game (before ++ gs)) new
+        ∙ at_last bytes_eq name_of before (opening_game p paper seats) names_tell (subst (λ (gs : List Game). DifferByName (before ++ gs)) new apart))
+
+-- and so has a game that is there, with a paper
+pub published : (c : Change) (s : State) (name : List ℕ) (p : r.Public) (paper : List ℕ) (played : Bool) → name ≡ c.game → c.effect ≡ Publishes p paper played → IsThere c.game s
+    → public_at name (state_after c s) ≡ Some (record p { game = name })
+published c s name p paper played named is there = subst (λ (n : List ℕ). public_at n (state_after c s) ≡ Some (record p { game = n })) (sym named) (go (game_at c.game s) refl there)
+  where
+    go : (o : Option Game) → game_at c.game s ≡ o → is_some (option_map (λ (g : Game). g.public) o) ≡ true → public_at c.game (state_after c s) ≡ Some (record p { game = c.game })
+    go None found some = absurd (cc)
+    go (Some g) found some =
+        ap (λ (o : Option Game). option_map (λ g. g.public) o) (
+        at-append bytes_eq name_of c.game (change_at bytes_eq name_of c.game (game_after c) s.games) (new_games c.effect)
+        ∙ ap (λ (o : Option Game). option_or o (at bytes_eq name_of c.game (new_games c.effect))) (at-change_at_same bytes_eq name_of c.game (game_after c) s.games (keeps_name c) ∙ ap (λ (o : Option Game). option_map (game_after c) o) found))
+        ∙ ap (λ (e : Effect). Some (public_after e g.public)) is
+        ∙ ap (λ (n : List ℕ). Some (record p { game = n })) (names_tell.same (name_of g) c.game (at_key bytes_eq name_of c.game s.games g found))
+
+-- in what tables say no two games have one name
+pub differ_by_name : (m : Chart) (db : Database) → IsGood db → DifferByName (said_by m db.trees).games
+differ_by_name m db good = ascending-map (λ a b. bytes_eq (name_of a) (name_of b) ≡ false) (game_of m (tables_of db.trees)) (tables_of db.trees).games (are_apart db good).games

@@ -26,10 +26,11 @@ use std::rc::Rc;
 /// change is one transaction, made whole or not at all.
 ///
 /// What it has read of games and seats it has in memory too, and reads it no more while nothing changes it: the store is its own,
-/// and nobody else writes to it. It remembers the public parts of at most 1,024 games, each until a paper, and the own parts of at
-/// most 1,024 seats. A letter that changes no own part but its author's (orders, a vote, or only what is kept of it) is done to that
-/// part in memory as to its rows; any other forgets the own parts of its game. An own part whose kept reply is longer than 4,096
-/// bytes isn't remembered, so that all of this stays within some 10 MB for games of the standard map.
+/// and nobody else writes to it. It remembers the public parts of at most 16,384 games, as they were read, opened or, where they were
+/// remembered before, published, and the own parts of at most 1,024 seats. A letter that changes no own part but its author's (orders,
+/// a vote, or only what is kept of it) is done to that part in memory as to its rows; any other forgets the own parts of its game. An
+/// own part whose kept reply is longer than 4,096 bytes isn't remembered, so that all of this stays within some 20 MB for games of the
+/// standard map.
 ///
 /// After `Disk` or `Damaged` the store is to be opened anew, which finds what a crash may leave.
 #[derive(Drop)]
@@ -185,12 +186,13 @@ impl<S: Alter> Keeper for SqlKeeper<S> {
         if !is_writable(map, change) {
             return Err(self.told(KeepFault::Damaged));
         }
-        self.seen.heed(change);
+        let was_seen = self.seen.heed(change);
         let owns = self.owns.take(self.alloc, change.game.as_str());
         let known = known_row(change.author, owns.as_slice());
         match make(&mut self.conn, self.alloc, map, change, known) {
             Ok(()) => {
                 self.owns.keep(self.alloc, change, owns);
+                self.seen.note_behind(self.alloc, change, was_seen);
                 Ok(())
             }
             Err(fault) => Err(self.told_by_store(fault)),

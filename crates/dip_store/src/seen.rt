@@ -1,10 +1,11 @@
-//! What a keeper remembers of the games that it has looked at.
-ghost use Rattle.std.specs.Prelude.{◌≡◌, [], ℕ, List, None, OnErr, OnOk, Some, bytes_eq, if◌then◌else◌, option_map};
+//! What a keeper remembers of the games that it has looked at, and of those that it has changed.
+ghost use Rattle.std.specs.Prelude.{◌≡◌, [], ℕ, List, None, OnErr, OnOk, Some, bytes_eq, if◌then◌else◌, is_some, option_map, true};
 ghost use Rattle.dip_desk_state.specs.ChangeRows as desk_rows;
 ghost use Rattle.dip_desk_state.specs.Rows as rows;
-ghost use Rattle.dip_desk_state.specs.State.{State, public_at};
-ghost use Rattle.dip_store.specs.Seen.{Recalls, gives_part, is_paper, part_of, with_room};
+ghost use Rattle.dip_desk_state.specs.State.{State, public_at, state_after};
+ghost use Rattle.dip_store.specs.Seen.{DifferByName, IsThere, Recalls, gives_part, is_paper, part_of, replaces_part, with_room};
 
+use dip_desk::public_under;
 use dip_desk_state::{Change, Effect, Public};
 use indexmap::IndexMap;
 use std::alloc::{AllocError, Global};
@@ -12,7 +13,7 @@ use std::marker::Model;
 use std::rc::Rc;
 
 /// The most games whose public parts are remembered.
-const MOST_SEEN: usize = 1024;
+const MOST_SEEN: usize = 16_384;
 
 /// Public parts of games, each under its game's name: at most `MOST_SEEN`. Where one more comes, all others are forgotten.
 #[derive(Drop)]
@@ -95,22 +96,62 @@ impl Seen {
         }
     }
 
-    /// Forgets the public part of a game.
-    fn forget(&mut self, name: &str)
-        ensures { (other : List ℕ) → part_of other self.new
-            ≡ (if bytes_eq name.now other then None else part_of other self.old) }
+    /// Remembers a copy of a public part, under this name.
+    fn note_copy(&mut self, alloc: Global, name: &str, public: &Public) -> Result<(), AllocError>
+        ensures { (s : State) → Recalls s self.old
+            → public_at name.now s ≡ Some (record (rows.public public.now) { game = name.now })
+            → Recalls s self.new }
     {
-        self.parts.swap_remove(name);
+        let copy = public_under(alloc, name, public)?;
+        let part = Rc::new(alloc, copy)?;
+        self.note(alloc, name, &part)
     }
 
-    /// Forgets what a change makes anew, whether it will be made or not.
-    pub(crate) fn heed(&mut self, change: &Change)
-        ensures { (name : List ℕ) → part_of name self.new
+    /// Forgets the public part of a game, and says whether it was remembered.
+    fn forget(&mut self, name: &str) -> bool
+        ensures was { result ≡ is_some (part_of name.now self.old) }
+        ensures left { (other : List ℕ) → part_of other self.new
+            ≡ (if bytes_eq name.now other then None else part_of other self.old) }
+    {
+        let part = self.parts.swap_remove(name);
+        part.is_some()
+    }
+
+    /// Forgets what a change makes anew, whether it will be made or not, and says whether it was remembered.
+    pub(crate) fn heed(&mut self, change: &Change) -> bool
+        ensures was { result ≡ replaces_part (desk_rows.change change.now) self.old }
+        ensures left { (name : List ℕ) → part_of name self.new
             ≡ (if gives_part (desk_rows.change change.now) name then None
             else part_of name self.old) }
     {
         if is_new_part(&change.effect) {
-            self.forget(change.game.as_str());
+            return self.forget(change.game.as_str());
+        }
+        false
+    }
+
+    /// Remembers, behind a change that is made, the public part that came with it: of a game that it opens, and with a paper where
+    /// its game is known to be there. Where memory is wanting for it, it isn't remembered, and that is no fault.
+    pub(crate) fn note_behind(&mut self, alloc: Global, change: &Change, is_there: bool)
+        ensures { (s : State) → Recalls (state_after (desk_rows.change change.now) s) self.old
+            → DifferByName (state_after (desk_rows.change change.now) s).games
+            → (is_there ≡ true → IsThere (desk_rows.change change.now).game s)
+            → Recalls (state_after (desk_rows.change change.now) s) self.new }
+    {
+        match &change.effect {
+            Effect::Opens { public, .. } => {
+                let _ = self.note_copy(alloc, public.game.as_str(), public);
+            }
+            Effect::Publishes { public, .. } => {
+                if is_there {
+                    let _ = self.note_copy(alloc, change.game.as_str(), public);
+                }
+            }
+            Effect::Nothing
+            | Effect::Pending(_)
+            | Effect::Votes(_)
+            | Effect::Delivers { .. }
+            | Effect::Seats(_) => {}
         }
     }
 }

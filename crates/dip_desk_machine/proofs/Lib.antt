@@ -1,6 +1,7 @@
 pub mod Counting
 pub mod SeatLemmas
 pub mod OrderingLemmas
+pub mod Standing
 pub mod TickingLemmas
 pub mod PressLemmas
 pub mod WritableLemmas

@@ -18,13 +18,13 @@ use Rattle.dip_desk_machine.specs.Noting.{is_announcement, public_noted}
 use Rattle.dip_desk_machine.specs.Pressing.{are_distinct, is_among, is_to_all, item_of, may_read, named_powers, names_all, other_powers, readers_of, readers_where}
 use Rattle.dip_desk_state.specs.Bounds.{most_papers, most_sent}
 use Rattle.dip_desk_state.specs.State.{State, Game, Author, Nobody, TheMaster, Seat, Effect, Nothing, Part, Pending, Votes, Delivers, Opens, Publishes, Seats, NewSeat, game_at, power_in, seat_at, whole_of}
-use Rattle.dip_desk_machine.specs.Machine.{Decides, DecidesIn, IsPublished, IsSpoiled, MasterDecides, NumberedBy, OnTime, Ticks, Verdict, NotKnown, Again, OutOfTurn, Taken, addressed, are_complete, creation, digest, draw_verdict, has_seat, new_seat, new_seats, notified, old_number, open_game, opening_public, orders_verdict, page_shown, press_to, refusal_verdict, replaced, replacement, seat_command, seen_in, unless, verdict_by, verdict_on, vote_verdict}
-use Rattle.dip_desk_machine.specs.Ordering.{outcome_of_lines}
+use Rattle.dip_desk_machine.specs.Machine.{Decides, DecidesIn, IsPublished, IsSpoiled, MasterDecides, NumberedBy, OnTime, Ticks, Verdict, NotKnown, Again, OutOfTurn, Taken, addressed, are_complete, creation, digest, draw_verdict, has_seat, new_seat, new_seats, notified, old_number, open_game, opening_public, orders_effect, orders_verdict, page_shown, press_to, refusal_verdict, replaced, replacement, seat_command, seen_in, unless, verdict_by, verdict_on, vote_verdict}
+use Rattle.dip_desk_machine.specs.Ordering.{Ordered, kept_orders, outcome_of_lines, same_standings}
 use Rattle.dip_desk_machine.specs.Ticking.{is_due, is_over}
 use Rattle.dip_desk_machine.specs.Voting.{plain_vote, set_of}
 use Rattle.dip_desk_machine.specs.View.{Suits}
 use Rattle.dip_desk_state.specs.Writable.{IsPublicOf}
-use Rattle.dip_desk_state.specs.Records.{Item, Public, Own, Kept, For, Whole}
+use Rattle.dip_desk_state.specs.Records.{Item, Public, Own, Kept, Standing, For, Whole}
 use Rattle.dip_reports.specs.Texts.{opening_paper, paper_line, press_line, refusal_line, replaced_line, vote_line, withdrawn_line}
 use Rattle.dip_reports.specs.declared.refusals.Refusal.{Refusal}
 use Rattle.dip_reports.specs.declared.refusals.Refusal.TheVariants.{GameOver, Malformed, NameTaken, NoGrey, NotDue, NumberUsed, QuotaUsed, Stale, WrongSender}
@@ -92,11 +92,23 @@ unless_holds : (P : Verdict → Type 0) (b : Bool) (r : Refusal) (v : Verdict) �
 unless_holds P true r v stops goes = stops
 unless_holds P false r v stops goes = goes refl
 
+-- orders that stand already change nothing, and others stand then
+orders_hold : (P : Verdict → Type 0) (text : List ℕ) (standing orders : List Standing) → P (Taken text Nothing) → P (Taken text (Pending orders)) → P (Taken text (orders_effect standing orders))
+orders_hold P text standing orders same other = go (same_standings standing orders)
+  where
+    go : (b : Bool) → P (Taken text (cond b Nothing (Pending orders)))
+    go true = same
+    go false = other
+
+-- what ORDERS comes to where other orders stand then
+abbrev pub ordered_anew : Chart → Ordered → Verdict
+ordered_anew m d = Taken d.answers (Pending (kept_orders m d.orders))
+
 -- each kind of verdict on a power's command
 pub record OfPlayer (P : Verdict → Type 0) (m : Chart) (command : Request) (p : Public) (o : Own) : Type 0 where
   pub refused : (r : Refusal) → P (refusal_verdict r)
   pub told : (text : List ℕ) → P (Taken text Nothing)
-  pub ordered : (lines : List (List ℕ)) → P (orders_verdict m (outcome_of_lines m p.board o.power o.pending lines))
+  pub ordered : (lines : List (List ℕ)) → P (ordered_anew m (outcome_of_lines m p.board o.power o.pending lines))
   pub withdrawn : P (Taken withdrawn_line (Pending []))
   pub voted : (draw : Bool) → P (Taken (vote_line m (plain_vote draw)) (Votes (plain_vote draw)))
   pub voted_for : (names : List (List ℕ)) (set : List ℕ) → command ≡ Player (VoteFor names) → set_of m names ≡ Some set → P (Taken (vote_line m (For set)) (Votes (For set)))
@@ -104,8 +116,10 @@ pub record OfPlayer (P : Verdict → Type 0) (m : Chart) (command : Request) (p 
       → nat_le most_sent o.sent ≡ false → P (Taken press_line (Delivers readers (item_of m o.power grey names text)))
 
 pub command_holds : (P : Verdict → Type 0) (m : Chart) (command : Request) (p : Public) (o : Own) (page : List Item) → OfPlayer P m command p o → P (seat_command m command p o page)
-command_holds P m (Player (Orders lines)) p o page h = unless_holds P (is_over p.status) GameOver (orders_verdict m (outcome_of_lines m p.board o.power o.pending lines)) (h.refused GameOver) (λ on. h.ordered lines)
-command_holds P m (Player Withdraw) p o page h = unless_holds P (is_over p.status) GameOver (Taken withdrawn_line (Pending [])) (h.refused GameOver) (λ on. h.withdrawn)
+command_holds P m (Player (Orders lines)) p o page h =
+    unless_holds P (is_over p.status) GameOver (orders_verdict m o (outcome_of_lines m p.board o.power o.pending lines)) (h.refused GameOver)
+    (λ on. orders_hold P _ o.pending _ (h.told _) (h.ordered lines))
+command_holds P m (Player Withdraw) p o page h = unless_holds P (is_over p.status) GameOver (Taken withdrawn_line (orders_effect o.pending [])) (h.refused GameOver) (λ on. orders_hold P _ o.pending [] (h.told _) h.withdrawn)
 command_holds P m (Player (Press grey names text)) p o page h = by (readers_of m o.power names) refl
   where
     by : (found : Option (List ℕ)) → readers_of m o.power names ≡ found → P (addressed found (press_to p o grey (item_of m o.power grey names text)))

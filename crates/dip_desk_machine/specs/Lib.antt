@@ -17,6 +17,7 @@ pub mod Lawful
 pub mod Fitting
 pub mod Titles
 pub mod Handing
+pub mod Standing
 pub mod Intents
 pub mod Repeats
 pub mod Strangers

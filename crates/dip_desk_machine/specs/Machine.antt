@@ -15,7 +15,7 @@ use Rattle.dip_map.specs.Boards.{Position, IsOf, opening}
 use Rattle.dip_desk_machine.specs.Drawing.{drawn_between, public_drawn}
 use Rattle.dip_desk_machine.specs.Mail.{Mail}
 use Rattle.dip_desk_machine.specs.Noting.{CanPublish, is_announcement, public_noted}
-use Rattle.dip_desk_machine.specs.Ordering.{Ordered, has_foreign, kept_orders, outcome_of_lines}
+use Rattle.dip_desk_machine.specs.Ordering.{Ordered, has_foreign, kept_orders, outcome_of_lines, same_standings}
 use Rattle.dip_desk_machine.specs.Pressing.{item_of, readers_of}
 use Rattle.dip_desk_machine.specs.Ticking.{IsPlayable, is_due, is_over, orders_of, public_played}
 use Rattle.dip_desk_machine.specs.Voting.{plain_vote, set_of}
@@ -26,7 +26,7 @@ use Rattle.dip_turn_papers.specs.Papers.{paper_text}
 use Rattle.dip_turn.specs.Reports.{IsPlayed}
 use Rattle.dip_turn.specs.declared.report.Report.{Report}
 use Rattle.dip_reports.specs.Texts.{draw_paper, inbox_text, notice_paper, opening_paper, paper_line, press_line, refusal_line, replaced_line, show_text, vote_line, withdrawn_line}
-use Rattle.dip_desk_state.specs.Records.{Public, Own, Item, Kept, Head, Reply, Running, Vote, For, Whole}
+use Rattle.dip_desk_state.specs.Records.{Public, Own, Item, Kept, Standing, Head, Reply, Running, Vote, For, Whole}
 use Rattle.dip_desk_state.specs.declared.records.Outcome.TheVariants.{Unknown as NoneKnown, OutOfTurn as Refused, Done}
 use Rattle.dip_reports.specs.declared.refusals.Refusal.{Refusal}
 use Rattle.dip_reports.specs.declared.refusals.Refusal.TheVariants.{Malformed, Unknown, Stale, NumberUsed, TooLong, QuotaUsed, NoGrey, GameOver, WrongSender, NotDue, NameTaken}
@@ -106,9 +106,13 @@ seen_in power (Some g) = record { public = Some g.public; seat = seat_at power g
 abbrev pub seen_by : SeatName → State → Seen
 seen_by seat s = seen_in seat.power (game_at seat.game s)
 
+-- what it does to a seat with these standing orders that those stand now: nothing, where they are the same
+abbrev pub orders_effect : List Standing → List Standing → Effect
+orders_effect standing orders = if same_standings standing orders then Nothing else Pending orders
+
 -- what ORDERS comes to: an answer to each line, and the orders that stand now
-abbrev pub orders_verdict : Chart → Ordered → Verdict
-orders_verdict m d = Taken d.answers (Pending (kept_orders m d.orders))
+abbrev pub orders_verdict : Chart → Own → Ordered → Verdict
+orders_verdict m o d = Taken d.answers (orders_effect o.pending (kept_orders m d.orders))
 
 -- refused where that holds
 abbrev pub unless : Bool → Refusal → Verdict → Verdict
@@ -135,8 +139,8 @@ vote_verdict m p v = unless (is_over p.status) GameOver (Taken (vote_line m v) (
 -- what a command of a power comes to, by what its seat sees alone; the page is of its inbox, where the command shows one
 abbrev pub player_verdict : Chart → PlayerRequest → Public → Own → List Item → Verdict
 player_verdict m (Orders lines) p o page =
-    unless (is_over p.status) GameOver (orders_verdict m (outcome_of_lines m p.board o.power o.pending lines))
-player_verdict m Withdraw p o page = unless (is_over p.status) GameOver (Taken withdrawn_line (Pending []))
+    unless (is_over p.status) GameOver (orders_verdict m o (outcome_of_lines m p.board o.power o.pending lines))
+player_verdict m Withdraw p o page = unless (is_over p.status) GameOver (Taken withdrawn_line (orders_effect o.pending []))
 player_verdict m (Press grey names text) p o page =
     addressed (readers_of m o.power names) (press_to p o grey (item_of m o.power grey names text))
 player_verdict m (VoteNote draw) p o page = vote_verdict m p (plain_vote draw)

@@ -8,6 +8,7 @@ ghost use Rattle.dip_desk_machine.specs.Intents.{KeepsIntent, OpensAsAsked};
 ghost use Rattle.dip_desk_machine.specs.Lawful.{IsNeverDamaged, StaysLawful};
 ghost use Rattle.dip_desk_machine.specs.Published.{MovementsAreDecided};
 ghost use Rattle.dip_desk_machine.specs.Repeats.{ActsOnce, ActsOnceLater};
+ghost use Rattle.dip_desk_machine.specs.Standing.{OrdersStand};
 ghost use Rattle.dip_desk_state.specs.State.{State};
 ghost use Rattle.dip_desk_machine.specs.Strangers.{IsToNobodyExactly};
 ghost use Rattle.dip_desk_machine.specs.Thirds.{ThirdSeatsSeeAlike};
@@ -74,6 +75,12 @@ pub fn shown_by_others()
     ensures grey { (m : Chart) → IsGreyUnsigned m }
     ensures alike { (m : Chart) → AreAlike m }
     ensures look_alike { (m : Chart) → HistoriesLookAlike m }
+{}
+
+/// What ORDERS and WITHDRAW leave of a seat are the orders that they come to, whichever stood before: that orders which stand already
+/// change nothing makes no difference.
+pub fn orders_stand_as_given()
+    ensures { OrdersStand }
 {}
 
 /// Two histories that differ only in what some powers order, vote, look at or have refused, in which of these wrote a grey press, and in

@@ -20,8 +20,8 @@ pub use digests::digest_of;
 pub use laws::{
     answered_from_what_is_seen, draws_are_agreed, effects_are_shown, effects_fit,
     games_keep_their_intent, histories_are_one, lawful_states_stay_lawful, letters_act_once,
-    published_movements_are_decided, replies_to_nobody, settled_by_view, shown_by_others,
-    standing_orders_are_given, third_seats_see_alike, titles_tell_what_was_played,
+    orders_stand_as_given, published_movements_are_decided, replies_to_nobody, settled_by_view,
+    shown_by_others, standing_orders_are_given, third_seats_see_alike, titles_tell_what_was_played,
     votes_are_untold,
 };
 pub use mastering::{

@@ -14,7 +14,7 @@ use crate::plans::{Plan, is_quiet, plan_of};
 use crate::reading::{ReadFault, read_head};
 use crate::refusals::HttpRefusal;
 use crate::showing::{show_game, show_paper};
-use crate::table::routes;
+use crate::table::Routes;
 use crate::taking::take_letter;
 use dip_desk::Keeper;
 use dip_desk_state::KeepFault;
@@ -79,6 +79,7 @@ pub fn answer_one<R: Read, W: Write, K: Keeper>(
     writer: &mut W,
     keeper: &mut K,
     map: &Map,
+    routes: &Routes,
 ) -> Result<(), HttpFault>
     requires { K.book.faults keeper.old < u64.MAX }
     ensures keeps { Keeps map.now K.book keeper.old keeper.new result }
@@ -118,10 +119,7 @@ pub fn answer_one<R: Read, W: Write, K: Keeper>(
     }
     match front_of(bytes.as_slice()) {
         Front::Head(front) => {
-            let Ok(router) = routes(alloc) else {
-                return Err(HttpFault::Memory);
-            };
-            let plan = plan_of(&router, &front);
+            let plan = plan_of(routes, &front);
             let quiet = is_quiet(front.method);
             carry_out(
                 alloc,

@@ -6,6 +6,7 @@ ghost use Rattle.dip_http.specs.Ends.{Answered, EndsAt, EndsBy, EndsQuietly, Kee
 
 use crate::answering::answer_one;
 use crate::faults::HttpFault;
+use crate::table::Routes;
 use crate::timed::{MOST_SECONDS, Timed};
 use dip_desk::Keeper;
 use dip_desk_state::KeepFault;
@@ -42,6 +43,7 @@ pub fn serve_one<C: Clock, K: Keeper>(
     stream: &TcpStream,
     keeper: &mut K,
     map: &Map,
+    routes: &Routes,
 ) -> Result<(), HttpFault>
     requires { K.book.faults keeper.old < u64.MAX }
     ensures keeps { Keeps map.now K.book keeper.old keeper.new result }
@@ -77,7 +79,7 @@ pub fn serve_one<C: Clock, K: Keeper>(
         return Err(HttpFault::Read);
     }
     let mut writer = stream;
-    let result = answer_one(alloc, &mut reader, &mut writer, keeper, map);
+    let result = answer_one(alloc, &mut reader, &mut writer, keeper, map, routes);
     if stream.shutdown(Shutdown::Write).is_ok() {
         drop_rest(&mut reader);
     }

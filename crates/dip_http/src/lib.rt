@@ -32,5 +32,6 @@ pub use refusals::HttpRefusal;
 pub use serving::serve_all;
 pub use size::{MOST_BODY, Size};
 pub use state::state_text;
+pub use table::Routes;
 pub use timed::{MOST_SECONDS, Timed};
 pub use writing::{Answer, Unwritten, write_answer};

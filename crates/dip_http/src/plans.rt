@@ -2,7 +2,6 @@
 ghost use Rattle.std.specs.Prelude.{◌≡◌, IfSome, IsAscii, bytes_eq, option_map};
 ghost use Rattle.matchit.specs.Params.{AllText, named};
 ghost use Rattle.dip_http.specs.Fronts.{ask_view};
-ghost use Rattle.dip_http.specs.Table.{table};
 ghost use Rattle.dip_http.specs.Places.{place_of};
 ghost use Rattle.dip_http.specs.Taken.{place_with, taken};
 ghost use Rattle.dip_http.specs.Verdicts.{ask_verdict, is_get, is_head, letter_verdict, only_get, place_verdict};
@@ -11,9 +10,9 @@ ghost use Rattle.dip_http.specs.AnswerViews.{plan_view};
 use crate::front::RequestFront;
 use crate::refusals::HttpRefusal;
 use crate::size::Size;
-use crate::table::Route;
+use crate::table::{Route, Routes};
 use http::Method;
-use matchit::{Params, Router};
+use matchit::Params;
 
 /// What is to be done with a request.
 #[derive(Clone, Copy)]
@@ -102,26 +101,24 @@ fn route_plan<'b>(method: &[u8], size: Size, route: Route, params: &Params<'_, '
 }
 
 /// The plan for a path. Nothing in a path is percent-decoded.
-fn path_plan<'b>(router: &Router<Route>, method: &[u8], size: Size, path: &'b str) -> Plan<'b>
-    requires table { router.now ≡ table }
-    requires ascii { IsAscii path.now }
+fn path_plan<'b>(routes: &Routes, method: &[u8], size: Size, path: &'b str) -> Plan<'b>
+    requires { IsAscii path.now }
     ensures { plan_view result ≡ place_verdict method.now size (place_of path.entry.now) }
 {
-    match router.at(path) {
+    match routes.router.at(path) {
         Ok(found) => route_plan(method, size, *found.value, &found.params),
         Err(_) => Plan::Refuse(HttpRefusal::NotFound),
     }
 }
 
 /// The plan for a request.
-pub fn plan_of<'b>(router: &Router<Route>, front: &RequestFront<'b>) -> Plan<'b>
-    requires table { router.now ≡ table }
-    requires ascii { IfSome front.now.asked (λ a. IsAscii a.path.now) }
+pub fn plan_of<'b>(routes: &Routes, front: &RequestFront<'b>) -> Plan<'b>
+    requires { IfSome front.now.asked (λ a. IsAscii a.path.now) }
     ensures { plan_view result
         ≡ ask_verdict front.now.method.now (option_map ask_view front.now.asked) }
 {
     match front.asked {
         None => Plan::Refuse(HttpRefusal::BadRequest),
-        Some(asked) => path_plan(router, front.method, asked.size, asked.path),
+        Some(asked) => path_plan(routes, front.method, asked.size, asked.path),
     }
 }

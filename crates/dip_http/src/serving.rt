@@ -8,6 +8,7 @@ ghost use Rattle.dip_http.specs.Serving.{IsShut, MeetsAt, MeetsOne, Serves, Serv
 use crate::client::serve_one;
 use crate::faults::HttpFault;
 use crate::laws::connections_are_turns;
+use crate::table::Routes;
 use dip_desk::Keeper;
 use dip_desk_machine::published_movements_are_decided;
 use dip_desk_state::KeepFault;
@@ -26,6 +27,7 @@ fn serve_next<C: Clock, K: Keeper>(
     listener: &TcpListener,
     keeper: &mut K,
     map: &Map,
+    routes: &Routes,
 ) -> Result<(), KeepFault>
     requires { K.book.faults keeper.old < u64.MAX }
     ensures served { K.book.sound map.now keeper.old → K.book.shows keeper.new
@@ -55,7 +57,7 @@ fn serve_next<C: Clock, K: Keeper>(
     let Ok((stream, _)) = listener.accept() else {
         return Ok(());
     };
-    match serve_one(alloc, clock, &stream, keeper, map) {
+    match serve_one(alloc, clock, &stream, keeper, map, routes) {
         Ok(()) => Ok(()),
         Err(HttpFault::Read) => Ok(()),
         Err(HttpFault::Write) => Ok(()),
@@ -78,6 +80,7 @@ pub fn serve_all<C: Clock, K: Keeper>(
     count: u32,
     keeper: &mut K,
     map: &Map,
+    routes: &Routes,
 ) -> Result<(), KeepFault>
     requires { K.book.faults keeper.old < u64.MAX }
     ensures served { K.book.sound map.now keeper.old → K.book.shows keeper.new
@@ -113,7 +116,7 @@ pub fn serve_all<C: Clock, K: Keeper>(
     published_movements_are_decided();
     let mut served = 0;
     'clients: while served < count {
-        serve_next(alloc, clock, listener, keeper, map)?;
+        serve_next(alloc, clock, listener, keeper, map, routes)?;
         served += 1;
     }
     Ok(())

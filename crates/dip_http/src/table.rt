@@ -3,7 +3,7 @@ ghost use Rattle.std.specs.Prelude.{◌≡◌, IfErr, IfOk};
 ghost use Rattle.dip_http.specs.Table.{table};
 
 use matchit::{InsertError, Router};
-use std::alloc::Global;
+use std::alloc::{AllocError, Global};
 
 /// The routes of the service. What their parameters take of a path is a game's name and a paper's number, whether or not there is such a game
 /// or paper.
@@ -17,8 +17,25 @@ pub enum Route {
     Paper,
 }
 
-/// The router. There is no other error than want of memory, since no two of them are in conflict.
-pub fn routes(alloc: Global) -> Result<Router<Route>, InsertError>
+/// The routes of the service as a router has them, made once for all connections.
+#[derive(Drop)]
+pub struct Routes {
+    pub(crate) router: Router<Route>,
+    ghost made: { router ≡ table },
+}
+
+impl Routes {
+    /// The routes. The only error is want of memory.
+    pub fn new(alloc: Global) -> Result<Routes, AllocError> {
+        match router_of(alloc) {
+            Ok(router) => Ok(Routes { router }),
+            Err(_) => Err(AllocError),
+        }
+    }
+}
+
+/// The router. There is no other error than want of memory, since no two routes are in conflict.
+fn router_of(alloc: Global) -> Result<Router<Route>, InsertError>
     ensures ok { IfOk result (λ router. router ≡ table) }
     ensures err { IfErr result (λ e. e ≡ InsertError.OutOfMemory) }
 {

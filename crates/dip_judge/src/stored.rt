@@ -12,7 +12,7 @@ ghost use Rattle.dip_store.specs.Stored.{IsStore};
 
 use crate::failures::Failure;
 use crate::listening::Listening;
-use dip_http::serve_all;
+use dip_http::{Routes, serve_all};
 use dip_judge_runs::run_file;
 use dip_letters::digest;
 use dip_map::Map;
@@ -165,16 +165,21 @@ pub(crate) fn serve_stored<S: Alter>(
     let alloc = rt.alloc();
     match SqlKeeper::open(alloc, store, map, text) {
         Err((fault, store)) => (Err(Failure::Store(fault)), store),
-        Ok(mut keeper) => match TcpListener::bind(rt, ("127.0.0.1", port)) {
-            Err(_) => (Err(Failure::Listen), keeper.into_store()),
-            Ok(listener) => {
-                // a standard error that takes nothing is no reason not to serve
-                let _ = rt.eprint(Listening { port });
-                match serve_all(alloc, rt, &listener, count, &mut keeper, map) {
-                    Ok(()) => (Ok(()), keeper.into_store()),
-                    Err(fault) => (Err(Failure::Serving(fault)), keeper.into_store()),
+        Ok(mut keeper) => {
+            let Ok(routes) = Routes::new(alloc) else {
+                return (Err(Failure::Store(StoreFault::Memory)), keeper.into_store());
+            };
+            match TcpListener::bind(rt, ("127.0.0.1", port)) {
+                Err(_) => (Err(Failure::Listen), keeper.into_store()),
+                Ok(listener) => {
+                    // a standard error that takes nothing is no reason not to serve
+                    let _ = rt.eprint(Listening { port });
+                    match serve_all(alloc, rt, &listener, count, &mut keeper, map, &routes) {
+                        Ok(()) => (Ok(()), keeper.into_store()),
+                        Err(fault) => (Err(Failure::Serving(fault)), keeper.into_store()),
+                    }
                 }
             }
-        },
+        }
     }
 }

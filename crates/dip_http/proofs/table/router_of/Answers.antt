@@ -1,6 +1,6 @@
 use Rattle.std.proofs.Common.{rules}
 use Rattle.dip_http.proofs.TableLemmas.{first_fault, first_row, second_fault, second_row, third_fault, third_row}
-use Rattle.dip_http.proofs.table.routes.Goals as goal
+use Rattle.dip_http.proofs.table.router_of.Goals as goal
 
 pub returns-clause-ok : goal.returns-clause-ok
 returns-clause-ok c =

@@ -3,13 +3,14 @@ use Rattle.std.proofs.Common.{◌≡◌, ◌≢◌, ◌++◌, ◌∙◌, ◌<◌
 use Rattle.std.specs.Prelude.{IfErr, OnErr, OnOk, option_map}
 use Rattle.std.specs.Io.KnownBytes.{Appends, Consumes, IsAtEnd}
 use Rattle.std.specs.Str.{bytes_eq}
+use Rattle.std.proofs.lemmas.Bool.{false≢true}
 use Rattle.std.proofs.lemmas.List.{nil_from_length}
 use Rattle.std.proofs.lemmas.Slice.Eq.{bytes_eq-Decides}
 use Rattle.httparse.specs.Grammar.{RequestHead, print_request}
 use Rattle.dip_map.specs.Charts.{Chart}
 use Rattle.dip_desk_state.specs.State.{State}
 use Rattle.dip_http.specs.Heads.{Ask, HasNoHead, IsHead, ask_of}
-use Rattle.dip_http.specs.Fronts.{IsFront, Shows, ask_view}
+use Rattle.dip_http.specs.Fronts.{IsFront, Shows, ask_view, is_decided}
 use Rattle.dip_http.specs.declared.front.Front.{Front}
 use Rattle.dip_http.specs.declared.front.Front.TheVariants.{Head, More, NoHead}
 use Rattle.dip_http.specs.declared.size.Size.{Size}
@@ -17,7 +18,6 @@ use Rattle.dip_http.specs.declared.size.Size.TheVariants.{Unsaid, Fits, TooLarge
 use Rattle.dip_http.specs.declared.front.RequestFront.{RequestFront}
 use Rattle.dip_http.specs.Places.{Place, letters, game, paper, place_of}
 use Rattle.dip_http.specs.Answers.{IsPart, refusal}
-use Rattle.dip_http.specs.Reading.{IsDecided}
 use Rattle.dip_http.specs.Verdicts.{Verdict, ask_verdict, is_get, is_head, letter_verdict, place_verdict, refuse, show_game, show_paper, take_letter, verdict_of}
 use Rattle.dip_http.specs.Answering.{headed, headless, silent}
 use Rattle.dip_http.specs.Ends.{Answered, Carried, CarriedBy, EndsBy, EndsQuietly, PartRefused, TakesBy, TakesPost, Tells, WasLeft, without_body}
@@ -42,16 +42,14 @@ nothing (Some xs) = sym (append-nil xs)
 
 -- nothing is answered to nothing
 pub silence : (m : Chart) (known left : Option (List ℕ)) (bytes : List ℕ) (desk : State) (before : Option (List ℕ)) → Consumes known left bytes
-    → IsAtEnd left ⊎ (IsDecided bytes × (0 < length bytes)) → length bytes ≡ 0 → Answered m known desk desk before before
-silence m known left bytes desk before c (inl end) empty = record {
+    → IsAtEnd left → length bytes ≡ 0 → Answered m known desk desk before before
+silence m known left bytes desk before c end empty = record {
   input = [];
   read = subst (λ (t : List ℕ). WasLeft known t) (nil_from_length bytes empty) (all_read known left bytes c end);
   answer = [];
   answers = silent desk;
   written = nothing before;
 }
-silence m known left bytes desk before c (inr decided) empty =
-    absurd (let some = decided.1 in omega (arith, some, empty))
 
 -- all that there was has no head, and isn't nothing
 pub record IsHeadless (known : Option (List ℕ)) : Type 0 where
@@ -77,22 +75,22 @@ never_headed known left bytes c some none =
 
 -- there is none so far, and no more to come
 pub frontless : (known left : Option (List ℕ)) (bytes : List ℕ) → Consumes known left bytes
-    → IsAtEnd left ⊎ (IsDecided bytes × (0 < length bytes)) → 0 < length bytes → HasNoHead bytes → IsHeadless known
-frontless known left bytes c (inl end) some none = record {
+    → IsAtEnd left → 0 < length bytes → HasNoHead bytes → IsHeadless known
+frontless known left bytes c end some none = record {
   input = bytes;
   read = all_read known left bytes c end;
   some = λ is. let empty = ap length is in omega (arith, some, empty);
   none = none;
 }
-frontless known left bytes c (inr (inl never, _)) some none = never_headed known left bytes c some never
-frontless known left bytes c (inr (inr found, _)) some none = absurd (none found.0 found.1 found.2)
 
 -- neither a head so far nor one to come
 pub no_front : (known left : Option (List ℕ)) (bytes : List ℕ) (front : Front) → Consumes known left bytes
-    → IsAtEnd left ⊎ (IsDecided bytes × (0 < length bytes)) → 0 < length bytes → IsFront bytes front
+    → IsAtEnd left ⊎ (is_decided front ≡ true) → 0 < length bytes → IsFront bytes front
     → (front ≡ More) ⊎ (front ≡ NoHead) → IsHeadless known
-no_front known left bytes front c settled some is (inl more) =
-    frontless known left bytes c settled some (subst (λ (f : Front). IsFront bytes f) more is).0
+no_front known left bytes front c (inl end) some is (inl more) =
+    frontless known left bytes c end some (subst (λ (f : Front). IsFront bytes f) more is).0
+no_front known left bytes front c (inr decided) some is (inl more) =
+    absurd (false≢true (subst (λ (f : Front). is_decided f ≡ true) more decided))
 no_front known left bytes front c settled some is (inr none) =
     never_headed known left bytes c some (subst (λ (f : Front). IsFront bytes f) none is)
 
@@ -287,3 +285,9 @@ pub fronted_taken : (m : Chart) (known left : Option (List ℕ)) (bytes : List �
 fronted_taken m known left bytes front v start old new c is v_is start_is h =
     posted_by m known left bytes is.1 (drop front.size bytes) old new v c is.2 (v_is ∙ asks front is.1 is.3)
     (subst (λ (s : List ℕ). TakesBy m v s left old new) start_is h)
+
+-- where more may come, there is room for it
+pub undecided : (bytes : List ℕ) (front : Front) → IsFront bytes front → is_decided front ≡ false → length bytes < 8192
+undecided bytes More is may = is.1
+undecided bytes NoHead is may = absurd (false≢true (sym may))
+undecided bytes (Head r) is may = absurd (false≢true (sym may))

@@ -1,6 +1,6 @@
 -- Which of the three answers a connection has.
 use Rattle.std.proofs.Common.{◌≡◌, ◌≢◌, ◌<◌, ◌++◌, ◌∙◌, ◌⊎◌, inl, inr, ℕ, List, [], ◌∷◌, None, false, length, refl, sym, ap, subst, length-append, arith}
-use Rattle.httparse.specs.Grammar.{RequestHead, ReadsRequest, print_blank, print_end, print_request, print_section, print_version}
+use Rattle.httparse.specs.Grammar.{RequestHead, print_blank, print_end, print_request, print_section, print_version}
 use Rattle.httparse.proofs.GrammarLemmas.{request_unique}
 use Rattle.dip_map.specs.Charts.{Chart}
 use Rattle.dip_desk_state.specs.State.{State}

@@ -1,12 +1,9 @@
 -- What was written.
-use Rattle.std.proofs.lemmas.Bool.{false≢true}
-use Rattle.std.proofs.Common.{◌≡◌, ◌+◌, ◌<◌, ◌≤◌, ℕ, List, [], ◌∷◌, ◌++◌, Option, length, take, drop, get_or, sym, ap, subst, ◌∙◌, append-nil, length-append, length-take, take-take, arith, Result, Ok, Err}
-use Rattle.std.specs.List.{flat_map}
+use Rattle.std.proofs.Common.{◌≡◌, ◌+◌, ◌≤◌, ℕ, List, ◌++◌, Option, length, take, sym, subst, ◌∙◌, length-append, length-take, take-take, arith, Result, Ok, Err}
 use Rattle.std.proofs.Math.Seq.{take-append-add}
-use Rattle.std.specs.Prelude.{OnErr, OnOk, is_err, true}
+use Rattle.std.specs.Prelude.{OnErr, OnOk}
 use Rattle.dip_http.specs.Answers.{IsPart}
-use Rattle.std.proofs.lemmas.List.{take-append-drop, take_all, take_more, take-append-le}
-use Rattle.std.proofs.lemmas.List.Concat.{flat_map-append}
+use Rattle.std.proofs.lemmas.List.{take_all, take-append-le}
 use Rattle.std.specs.Io.KnownBytes.{Appends}
 use Rattle.std.proofs.KnownBytes.{Appends-trans}
 

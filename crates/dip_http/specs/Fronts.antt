@@ -1,5 +1,5 @@
 -- What the first bytes of a connection are.
-use Rattle.std.specs.Prelude.{◌≡◌, ◌≤◌, ◌<◌, ℕ, List, ◌++◌, option_map, IfSome, IsAscii, length, drop}
+use Rattle.std.specs.Prelude.{◌≡◌, ◌≤◌, ◌<◌, Bool, true, false, ℕ, List, ◌++◌, option_map, IfSome, IsAscii, length, drop}
 use Rattle.httparse.specs.Grammar.{RequestHead}
 use Rattle.dip_http.specs.Heads.{IsHead, HasNoHead, Ask, ask_of}
 use Rattle.dip_http.specs.declared.front.Asked.{Asked}
@@ -21,3 +21,9 @@ abbrev pub IsFront : List ℕ → Front → Type 0
 IsFront bytes More = HasNoHead bytes × (length bytes < 8192)
 IsFront bytes NoHead = (more : List ℕ) → HasNoHead (bytes ++ more)
 IsFront bytes (Head r) = (r.size ≤ length bytes) × (head : RequestHead) × IsHead bytes head (drop r.size bytes) × Shows r head
+
+-- more bytes don't make another of it
+abbrev pub is_decided : Front → Bool
+is_decided More = false
+is_decided NoHead = true
+is_decided (Head r) = true

@@ -10,7 +10,6 @@ pub mod Table
 pub mod Texts
 pub mod Values
 pub mod Answers
-pub mod Reading
 pub mod Verdicts
 pub mod AnswerViews
 pub mod Answering

@@ -1,17 +1,19 @@
 //! One request and its answer.
-ghost use Rattle.std.specs.Prelude.{◌≡◌, ◌<◌, ◌⊎◌, IfErr, IsErrOf, OnOk};
+ghost use Rattle.std.specs.Prelude.{◌≡◌, ◌<◌, ◌⊎◌, ℕ, List, Option, IfErr, IsErrOf, OnOk, length, true};
+ghost use Rattle.std.specs.Io.KnownBytes.{Consumes, IsAtEnd};
 ghost use Rattle.dip_desk.specs.Keeping.{IsOpen};
 ghost use Rattle.dip_desk_machine.specs.Lawful.{IsLawful};
 ghost use Rattle.dip_desk_state.specs.State.{State};
 ghost use Rattle.dip_http.specs.AnswerViews.{plan_view};
 ghost use Rattle.dip_http.specs.Ends.{Answered, Carried, CarriedBy, EndsAt, EndsBy, EndsQuietly, Keeps, TakesBy, Tells, without_body};
 ghost use Rattle.dip_http.specs.Faults.{OnUnkept};
+ghost use Rattle.dip_http.specs.Fronts.{IsFront, is_decided};
 
 use crate::endings::refuse;
 use crate::faults::HttpFault;
 use crate::front::{Front, front_of};
 use crate::plans::{Plan, is_quiet, plan_of};
-use crate::reading::{ReadFault, read_head};
+use crate::reading::{ReadFault, read_more};
 use crate::refusals::HttpRefusal;
 use crate::showing::{show_game, show_paper};
 use crate::table::Routes;
@@ -67,6 +69,61 @@ fn carry_out<R: Read, W: Write, K: Keeper>(
     }
 }
 
+/// Answers the bytes that were read of a connection, by what they begin with.
+fn answer_front<R: Read, W: Write, K: Keeper>(
+    alloc: Global,
+    reader: &mut R,
+    writer: &mut W,
+    keeper: &mut K,
+    map: &Map,
+    routes: &Routes,
+    bytes: &[u8],
+    front: Front<'_>,
+) -> Result<(), HttpFault>
+    requires count { K.book.faults keeper.old < u64.MAX }
+    requires some { 0 < length bytes.now }
+    requires is { IsFront bytes.now front }
+    requires settled { IsAtEnd (R.remaining reader.old) ⊎ (is_decided front ≡ true) }
+    ensures keeps { Keeps map.now K.book keeper.old keeper.new result }
+    ensures tells { (known : Option (List ℕ)) → Consumes known (R.remaining reader.old) bytes.now
+        → IfErr result (λ f. EndsQuietly f known keeper.old keeper.new
+        (W.contents writer.old) (W.contents writer.new)) }
+    ensures goes { (known : Option (List ℕ)) → Consumes known (R.remaining reader.old) bytes.now
+        → IsOpen map.now K.book keeper.old → K.book.honest keeper.new → OnOk result
+        (IsOpen map.now K.book keeper.new
+        × Answered map.now known (K.book.content map.now keeper.old)
+        (K.book.content map.now keeper.new) (W.contents writer.old) (W.contents writer.new)) }
+    ensures ends { (known : Option (List ℕ)) → Consumes known (R.remaining reader.old) bytes.now
+        → IsOpen map.now K.book keeper.old → K.book.honest keeper.new → IfErr result
+        (λ f. EndsAt map.now K.book f known keeper.old keeper.new
+        (W.contents writer.old) (W.contents writer.new)) }
+    ensures answered { (known : Option (List ℕ)) → Consumes known (R.remaining reader.old) bytes.now
+        → K.book.sound map.now keeper.old → K.book.shows keeper.new → OnOk result
+        (Answered map.now known (K.book.content map.now keeper.old)
+        (K.book.content map.now keeper.new) (W.contents writer.old) (W.contents writer.new)) }
+    ensures ended { (known : Option (List ℕ)) → Consumes known (R.remaining reader.old) bytes.now
+        → K.book.sound map.now keeper.old → K.book.shows keeper.new → IfErr result
+        (λ f. EndsBy map.now f known (K.book.content map.now keeper.old)
+        (K.book.content map.now keeper.new) (W.contents writer.old) (W.contents writer.new)) }
+    ensures lawful { K.book.sound map.now keeper.old → K.book.shows keeper.new
+        → IsLawful map.now (K.book.content map.now keeper.old)
+        → IsLawful map.now (K.book.content map.now keeper.new) }
+    ensures never { K.book.sound map.now keeper.old → K.book.honest keeper.new
+        → K.book.shows keeper.old
+        → IsLawful map.now (K.book.content map.now keeper.old)
+        → IsErrOf result (HttpFault.Keep KeepFault.Damaged) → ⊥ }
+{
+    match front {
+        Front::Head(head) => {
+            let plan = plan_of(routes, &head);
+            let quiet = is_quiet(head.method);
+            let start = &bytes[head.size..];
+            carry_out(alloc, reader, writer, keeper, map, plan, quiet, start)
+        }
+        Front::More | Front::NoHead => refuse(writer, HttpRefusal::BadRequest, false),
+    }
+}
+
 /// Reads one request and answers it: with what was asked for, with the reply to a letter, or with a refusal. Where the input ends before
 /// its first byte, nothing is written. Bytes behind the request aren't looked at.
 ///
@@ -109,29 +166,20 @@ pub fn answer_one<R: Read, W: Write, K: Keeper>(
         → IsLawful map.now (K.book.content map.now keeper.old)
         → IsErrOf result (HttpFault.Keep KeepFault.Damaged) → ⊥ }
 {
-    let bytes = match read_head(alloc, reader) {
-        Ok(bytes) => bytes,
-        Err(ReadFault::Read) => return Err(HttpFault::Read),
-        Err(ReadFault::Memory) => return Err(HttpFault::Memory),
-    };
-    if bytes.is_empty() {
-        return Ok(());
-    }
-    match front_of(bytes.as_slice()) {
-        Front::Head(front) => {
-            let plan = plan_of(routes, &front);
-            let quiet = is_quiet(front.method);
-            carry_out(
-                alloc,
-                reader,
-                writer,
-                keeper,
-                map,
-                plan,
-                quiet,
-                &bytes[front.size..],
-            )
+    let mut bytes = Vec::new(alloc);
+    'reading: loop {
+        let count = match read_more(reader, &mut bytes) {
+            Ok(count) => count,
+            Err(ReadFault::Read) => return Err(HttpFault::Read),
+            Err(ReadFault::Memory) => return Err(HttpFault::Memory),
+        };
+        if bytes.is_empty() {
+            return Ok(());
         }
-        Front::More | Front::NoHead => refuse(writer, HttpRefusal::BadRequest, false),
+        let front = front_of(bytes.as_slice());
+        if count == 0 || front.is_decided() {
+            let bytes = bytes.as_slice();
+            return answer_front(alloc, reader, writer, keeper, map, routes, bytes, front);
+        }
     }
 }

@@ -1,7 +1,7 @@
 //! What the first bytes of a connection are.
 ghost use Rattle.std.specs.Prelude.{◌≡◌, ◌≤◌, All, IfSome, IsAscii, length, map, option_map};
 ghost use Rattle.httparse.specs.Spans.{IsHeaderWithin, IsRequestOf, IsRequestWithin, header_bytes};
-ghost use Rattle.dip_http.specs.Fronts.{IsFront, ask_view};
+ghost use Rattle.dip_http.specs.Fronts.{IsFront, ask_view, is_decided};
 ghost use Rattle.dip_http.specs.Heads.{ask_in};
 
 use crate::fields::{find, has_host};
@@ -44,6 +44,18 @@ pub enum Front<'b> {
     NoHead,
     /// They begin with this head.
     Head(RequestFront<'b>),
+}
+
+impl Front<'_> {
+    /// Whether it stays so whatever follows.
+    pub fn is_decided(self) -> bool
+        ensures { result ≡ is_decided self.entry }
+    {
+        match self {
+            Front::More => false,
+            Front::NoHead | Front::Head(_) => true,
+        }
+    }
 }
 
 /// What the parts of a head ask for; `None` where they are refused.

@@ -27,7 +27,7 @@ pub use client::{MOST_DROPPED, serve_one};
 pub use faults::HttpFault;
 pub use front::{Asked, Front, MOST_FIELDS, MOST_HEAD, front_of};
 pub use laws::{answers_are_one, connections_are_turns, gets_are_public, posts_are_settled};
-pub use reading::{ReadFault, read_body, read_head};
+pub use reading::{ReadFault, read_body, read_more};
 pub use refusals::HttpRefusal;
 pub use serving::serve_all;
 pub use size::{MOST_BODY, Size};

@@ -1,10 +1,7 @@
 //! What is read of a connection.
-ghost use Rattle.std.specs.Prelude.{◌≡◌, ◌≤◌, ◌<◌, ◌⊎◌, ◌++◌, ℕ, List, IfOk, IfSome, IfNone, length, take, true, false};
+ghost use Rattle.std.specs.Prelude.{◌≡◌, ◌≤◌, ◌<◌, ◌++◌, ℕ, List, IfOk, IfSome, IfNone, length, take};
 ghost use Rattle.std.specs.Io.KnownBytes.{Consumes, IsAtEnd};
-ghost use Rattle.dip_http.specs.Heads.{HasNoHead};
-ghost use Rattle.dip_http.specs.Reading.{IsDecided};
 
-use crate::front::{Front, front_of};
 use dip_streams::read_some;
 use std::alloc::Global;
 use std::io::Read;
@@ -18,38 +15,21 @@ pub enum ReadFault {
     Memory,
 }
 
-/// Whether these first bytes decide which head is there, if any.
-fn is_decided(bytes: &[u8]) -> bool
-    ensures decided { result ≡ true → IsDecided bytes.now }
-    ensures open { result ≡ false → HasNoHead bytes.now × (length bytes.now < 8192) }
+/// Reads on behind what was read, at most 1,024 bytes; how many they are, and none only at the end of the input.
+pub fn read_more<R: Read>(reader: &mut R, bytes: &mut Vec<u8>) -> Result<usize, ReadFault>
+    ensures read { IfOk result (λ n. (more : List ℕ) × (length more ≡ n)
+        × Consumes (R.remaining reader.old) (R.remaining reader.new) more
+        × (bytes.new.items ≡ bytes.old.items ++ more)) }
+    ensures ended { IfOk result (λ n. n ≡ 0 → IsAtEnd (R.remaining reader.new)) }
 {
-    match front_of(bytes) {
-        Front::More => false,
-        Front::NoHead | Front::Head(_) => true,
-    }
-}
-
-/// Reads until a head is there, none can come or the input ends; not much more than a head may have.
-pub fn read_head<R: Read>(alloc: Global, reader: &mut R) -> Result<Vec<u8>, ReadFault>
-    ensures read { IfOk result
-        (λ v. Consumes (R.remaining reader.old) (R.remaining reader.new) v.items) }
-    ensures settled { IfOk result (λ v. IsAtEnd (R.remaining reader.new)
-        ⊎ (IsDecided v.items × (0 < length v.items))) }
-{
-    let mut bytes = Vec::new(alloc);
     let mut buffer = [0u8; 1024];
-    'reading: loop {
-        match read_some(reader, &mut buffer) {
-            Err(_) => return Err(ReadFault::Read),
-            Ok(0) => return Ok(bytes),
-            Ok(n) => {
-                if bytes.extend_from_slice(&buffer[..n]).is_err() {
-                    return Err(ReadFault::Memory);
-                }
-                if is_decided(&bytes) {
-                    return Ok(bytes);
-                }
+    match read_some(reader, &mut buffer) {
+        Err(_) => Err(ReadFault::Read),
+        Ok(n) => {
+            if bytes.extend_from_slice(&buffer[..n]).is_err() {
+                return Err(ReadFault::Memory);
             }
+            Ok(n)
         }
     }
 }
@@ -71,16 +51,9 @@ pub fn read_body<R: Read>(
     let Ok(mut bytes) = start.to_vec(alloc) else {
         return Err(ReadFault::Memory);
     };
-    let mut buffer = [0u8; 1024];
     'reading: while bytes.len() < size {
-        match read_some(reader, &mut buffer) {
-            Err(_) => return Err(ReadFault::Read),
-            Ok(0) => return Ok(None),
-            Ok(n) => {
-                if bytes.extend_from_slice(&buffer[..n]).is_err() {
-                    return Err(ReadFault::Memory);
-                }
-            }
+        if read_more(reader, &mut bytes)? == 0 {
+            return Ok(None);
         }
     }
     bytes.truncate(size);

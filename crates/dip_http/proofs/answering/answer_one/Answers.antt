@@ -1,90 +1,92 @@
-use Rattle.std.proofs.Common.{◌≡◌, ◌<◌, ◌∙◌, ap, drop, rules, length}
-use Rattle.std.proofs.lemmas.List.{take_rest}
-use Rattle.dip_http.proofs.AnswerLemmas.{fronted_part, fronted_taken, fronted_tells, fronted_whole, headless_part, headless_whole, no_front, silence}
-use Rattle.dip_http.proofs.OpenLemmas.{ends_fault, goes_open, keeps_unasked, left_weaker, memory_ends, none_unkept, read_ends, written_kept, written_quietly}
+use Rattle.std.proofs.Common.{◌≡◌, ◌∙◌, refl, sym, ap, length, length-append, arith, rules}
+use Rattle.std.specs.Io.KnownBytes.{Consumes}
+use Rattle.std.proofs.KnownBytes.{Consumes-trans}
+use Rattle.dip_http.proofs.AnswerLemmas.{silence, undecided}
+use Rattle.dip_http.proofs.OpenLemmas.{keeps_unasked, memory_ends, read_ends}
 use Rattle.dip_http.proofs.answering.answer_one.Goals as goal
 
-pub returns-then-is_empty-clause-answered : goal.returns-then-is_empty-clause-answered
-returns-then-is_empty-clause-answered g c = λ sound shows.
-    let empty : length c.in-Ok.bytes.items ≡ 0 = search rules in
-    silence c.args.map.now _ _ c.in-Ok.bytes.items _ _ c.in-Ok.ensures.read c.in-Ok.ensures.settled empty
-
-pub returns-then-is_empty-clause-goes : goal.returns-then-is_empty-clause-goes
-returns-then-is_empty-clause-goes g c = λ it honest.
-    let empty : length c.in-Ok.bytes.items ≡ 0 = search rules in
-    (it, silence c.args.map.now _ _ c.in-Ok.bytes.items _ _ c.in-Ok.ensures.read c.in-Ok.ensures.settled empty)
-
-pub returns-in-Err-Read-clause-ends : goal.returns-in-Err-Read-clause-ends
-returns-in-Err-Read-clause-ends g c = λ it honest. read_ends c.args.map.now g.K.Keeper.book _ _ c.args.keeper.now it
-
-pub returns-in-Err-Memory-clause-ends : goal.returns-in-Err-Memory-clause-ends
-returns-in-Err-Memory-clause-ends g c = λ it honest. memory_ends c.args.map.now g.K.Keeper.book _ _ c.args.keeper.now it
-
-pub returns-in-Head-clause-answered : goal.returns-in-Head-clause-answered
-returns-in-Head-clause-answered g c = λ sound shows.
-    let front = rw c.as_slice.ensures.value at c.in-Head.ensures in
-    fronted_whole c.args.map.now _ _ c.in-Ok.bytes.items c.in-Head.front _ _ _ _ _ _ _ c.carry_out.result c.in-Ok.ensures.read front
-    c.plan_of-plan.ensures c.is_quiet-quiet.ensures
-    (take_rest c.deref.result.now c.in-Head.front.size ∙ ap (drop c.in-Head.front.size) c.deref.ensures.value)
-    (c.carry_out.ensures.ok sound shows)
-
-pub returns-in-Head-clause-ended : goal.returns-in-Head-clause-ended
-returns-in-Head-clause-ended g c = λ sound shows.
-    let front = rw c.as_slice.ensures.value at c.in-Head.ensures in
-    fronted_part c.args.map.now _ _ c.in-Ok.bytes.items c.in-Head.front _ _ _ _ _ _ _ c.carry_out.result c.in-Ok.ensures.read front
-    c.plan_of-plan.ensures c.is_quiet-quiet.ensures
-    (take_rest c.deref.result.now c.in-Head.front.size ∙ ap (drop c.in-Head.front.size) c.deref.ensures.value)
-    (c.carry_out.ensures.err sound shows)
-
-pub returns-in-Head-clause-tells : goal.returns-in-Head-clause-tells
-returns-in-Head-clause-tells g c =
-    let front = rw c.as_slice.ensures.value at c.in-Head.ensures in
-    fronted_tells _ _ c.in-Ok.bytes.items c.in-Head.front _ _ _ _ _ _ c.carry_out.result c.in-Ok.ensures.read front
-    c.plan_of-plan.ensures c.is_quiet-quiet.ensures c.carry_out.ensures.tells
-
-pub returns-in-Head-clause-goes : goal.returns-in-Head-clause-goes
-returns-in-Head-clause-goes g c = λ it honest.
-    let front = rw c.as_slice.ensures.value at c.in-Head.ensures in
-    goes_open c.args.map.now g.K.Keeper.book c.args.keeper.now c.carry_out.new.keeper _ _ _ c.carry_out.result c.carry_out.ensures.keeps
-    (λ sound shows. fronted_whole c.args.map.now _ _ c.in-Ok.bytes.items c.in-Head.front _ _ _ _ _ _ _ c.carry_out.result c.in-Ok.ensures.read front
-    c.plan_of-plan.ensures c.is_quiet-quiet.ensures
-    (take_rest c.deref.result.now c.in-Head.front.size ∙ ap (drop c.in-Head.front.size) c.deref.ensures.value)
-    (c.carry_out.ensures.ok sound shows))
-    it honest
-
-pub returns-in-Head-clause-ends : goal.returns-in-Head-clause-ends
-returns-in-Head-clause-ends g c = λ it honest.
-    let front = rw c.as_slice.ensures.value at c.in-Head.ensures in
-    let behind = take_rest c.deref.result.now c.in-Head.front.size ∙ ap (drop c.in-Head.front.size) c.deref.ensures.value in
-    ends_fault c.args.map.now g.K.Keeper.book c.args.keeper.now c.carry_out.new.keeper _ _ _ c.carry_out.result c.carry_out.ensures.keeps
-    (λ sound shows. fronted_part c.args.map.now _ _ c.in-Ok.bytes.items c.in-Head.front _ _ _ _ _ _ _ c.carry_out.result c.in-Ok.ensures.read front
-    c.plan_of-plan.ensures c.is_quiet-quiet.ensures behind (c.carry_out.ensures.err sound shows))
-    (fronted_tells _ _ c.in-Ok.bytes.items c.in-Head.front _ _ _ _ _ _ c.carry_out.result c.in-Ok.ensures.read front
-    c.plan_of-plan.ensures c.is_quiet-quiet.ensures c.carry_out.ensures.tells)
-    (λ sound fair shows. left_weaker c.args.map.now g.K.Keeper.book c.args.keeper.now c.carry_out.new.keeper c.carry_out.result _ _
-    (λ s taken. fronted_taken c.args.map.now _ _ c.in-Ok.bytes.items c.in-Head.front _ _ _ s c.in-Ok.ensures.read front c.plan_of-plan.ensures behind taken)
-    (c.carry_out.ensures.left sound fair shows))
-    it honest
-
-pub returns : goal.returns
-returns g c =
-    let some : 0 < length c.in-Ok.bytes.items = search rules in
-    let bytes = rw c.as_slice.ensures.value at c.front_of.ensures in
-    let is = no_front _ _ c.in-Ok.bytes.items c.front_of.result c.in-Ok.ensures.read c.in-Ok.ensures.settled some bytes c.in-More.is in
+pub returns-in-Err-Read : goal.returns-in-Err-Read
+returns-in-Err-Read g c =
     let m = c.args.map.now in
     let b = g.K.Keeper.book in
-    let k = c.args.keeper.now in
-    let kept = written_kept c.refuse.result c.refuse.ensures.fault in
-    let keeps = keeps_unasked m b k c.refuse.result kept in
-    let part = headless_part m _ (b.content m k) _ _ c.refuse.result is c.refuse.ensures.err c.refuse.ensures.fault in
-    let tells = written_quietly c.refuse.result _ k _ _ c.refuse.ensures.fault in
-    record {
-      keeps = keeps;
-      tells = tells;
-      goes = λ it honest. goes_open m b k k _ _ _ c.refuse.result keeps (λ sound shows. headless_whole m _ _ _ _ c.refuse.result is c.refuse.ensures.ok) it honest;
-      ends = λ it honest. ends_fault m b k k _ _ _ c.refuse.result keeps (λ sound shows. part) tells (λ sound fair shows. none_unkept c.refuse.result _ kept) it honest;
-      answered = λ sound shows. headless_whole c.args.map.now _ _ _ _ c.refuse.result is c.refuse.ensures.ok;
-      ended = λ sound shows. part;
+    rw (c.reading.invariant.keeper, c.reading.invariant.writer) record {
+      keeps = keeps_unasked m b c.args.keeper.now _ tt;
+      tells = (refl, refl);
+      goes = λ it honest. tt;
+      ends = λ it honest. read_ends m b _ _ c.args.keeper.now it;
+      answered = λ sound shows. tt;
+      ended = λ sound shows. (refl, refl);
       lawful = λ sound shows lawful. lawful;
       never = search rules;
+    }
+
+pub returns-in-Err-Memory : goal.returns-in-Err-Memory
+returns-in-Err-Memory g c =
+    let m = c.args.map.now in
+    let b = g.K.Keeper.book in
+    rw (c.reading.invariant.keeper, c.reading.invariant.writer) record {
+      keeps = keeps_unasked m b c.args.keeper.now _ tt;
+      tells = refl;
+      goes = λ it honest. tt;
+      ends = λ it honest. memory_ends m b _ _ c.args.keeper.now it;
+      answered = λ sound shows. tt;
+      ended = λ sound shows. (refl, refl);
+      lawful = λ sound shows lawful. lawful;
+      never = search rules;
+    }
+
+pub returns-then-is_empty : goal.returns-then-is_empty
+returns-then-is_empty g c =
+    let m = c.args.map.now in
+    let b = g.K.Keeper.book in
+    let r = c.in-Ok.ensures.read in
+    let empty : length c.read_more.new.bytes.items ≡ 0 = search rules in
+    let all = ap length r.3 in
+    let parts = length-append c.reading.bytes.items r.0 in
+    let none : c.in-Ok.count ≡ 0 = let size = r.1 in omega (arith, empty, all, parts, size) in
+    let consumed : Consumes (g.R.Read.remaining c.args.reader.now) (g.R.Read.remaining c.read_more.new.reader) c.read_more.new.bytes.items =
+    rw r.3 (Consumes-trans _ _ _ _ _ c.reading.invariant.so_far r.2) in
+    let silent = silence m _ _ c.read_more.new.bytes.items (b.content m c.args.keeper.now) (g.W.Write.contents c.args.writer.now) consumed (c.in-Ok.ensures.ended none) empty in
+    rw (c.reading.invariant.keeper, c.reading.invariant.writer) record {
+      keeps = keeps_unasked m b c.args.keeper.now _ tt;
+      tells = tt;
+      goes = λ it honest. (it, silent);
+      ends = λ it honest. tt;
+      answered = λ sound shows. silent;
+      ended = λ sound shows. tt;
+      lawful = λ sound shows lawful. lawful;
+      never = search rules;
+    }
+
+pub answer_front-requires-clause-count : goal.answer_front-requires-clause-count
+answer_front-requires-clause-count g c = rw c.reading.invariant.keeper c.requires
+
+pub returns-then-count-eq0 : goal.returns-then-count-eq0
+returns-then-count-eq0 g c =
+    let r = c.in-Ok.ensures.read in
+    let consumed : Consumes (g.R.Read.remaining c.args.reader.now) (g.R.Read.remaining c.read_more.new.reader) c.read_more.new.bytes.items =
+    rw r.3 (Consumes-trans _ _ _ _ _ c.reading.invariant.so_far r.2) in
+    let lies : c.as_slice-bytes.result.now ≡ c.read_more.new.bytes.items = c.as_slice-bytes.ensures.value in
+    let known = g.R.Read.remaining c.args.reader.now in
+    let f = c.answer_front.ensures in
+    let read : Consumes known (g.R.Read.remaining c.read_more.new.reader) c.as_slice-bytes.result.now = rw lies consumed in
+    record {
+      keeps = rw c.reading.invariant.keeper at f.keeps;
+      tells = rw (c.reading.invariant.keeper, c.reading.invariant.writer) at (f.tells known read);
+      goes = rw (c.reading.invariant.keeper, c.reading.invariant.writer) at (f.goes known read);
+      ends = rw (c.reading.invariant.keeper, c.reading.invariant.writer) at (f.ends known read);
+      answered = rw (c.reading.invariant.keeper, c.reading.invariant.writer) at (f.answered known read);
+      ended = rw (c.reading.invariant.keeper, c.reading.invariant.writer) at (f.ended known read);
+      lawful = rw c.reading.invariant.keeper at f.lawful;
+      never = rw c.reading.invariant.keeper at f.never;
+    }
+
+pub reading-preserved : goal.reading-preserved
+reading-preserved g c =
+    let r = c.in-Ok.ensures.read in
+    record {
+      so_far = rw r.3 (Consumes-trans _ _ _ _ _ c.reading.invariant.so_far r.2);
+      bound = rw c.as_slice.ensures.value at (undecided _ c.front_of-front.result c.front_of-front.ensures (sym c.is_decided.ensures ∙ c.if-is_decided.false));
+      writer = c.reading.invariant.writer;
+      keeper = c.reading.invariant.keeper;
     }

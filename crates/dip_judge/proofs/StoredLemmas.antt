@@ -14,7 +14,7 @@ use Rattle.dip_judge_runs.specs.declared.run.RunFault.TheVariants.{Read, TooLong
 use Rattle.dip_desk.specs.Keeping.{Ends, IsOpen, Rises}
 use Rattle.dip_desk.proofs.Ending.{ends_open}
 use Rattle.dip_store.specs.Causes.{has_faulted}
-use Rattle.dip_store.specs.Opening.{Holds, OldEnds, Opens, StoreEnds}
+use Rattle.dip_store.specs.Opening.{Holds, HoldsEither, MayRenew, OldEnds, Opens, StoreEnds}
 use Rattle.dip_store.specs.Stored.{book}
 use Rattle.dip_store.proofs.Opened.{ends_held, held_by}
 use Rattle.dip_store.specs.declared.keeper.SqlKeeper.{SqlKeeper}
@@ -116,7 +116,14 @@ holds_still g m old k kept opened still same = subst (λ (s : State). Holds g m 
 
 -- a store whose keeper is open and as it was opened
 pub ends_still : {S : Type 0} (g : Ghosts S) (m : Chart) (Fault : Type 0) (old : State) (new : Held S) (More : State → Type 0) → Holds g m old new → StoreEnds g m Fault new old More
-ends_still g m Fault old new More it = record { left = λ db may. (it.again db may, inl (it.only db may)); shown = λ shows. it; goes = inl it }
+ends_still g m _ old new More it = record { left = λ db may. (it.again db may, inl (it.only db may)); shown = λ shows. it; goes = inl it }
+
+-- the same of one that was made anew from version 1
+pub old_ends_still : {S : Type 0} (g : Ghosts S) (m : Chart) (Fault : Type 0) (old : State) (new : Held S) → Holds g m old new → OldEnds g m Fault new old
+old_ends_still g m _ old new it =
+    let renewed : MayRenew g m new old = λ db may. inr (it.again db may, it.only db may) in
+    let either : HoldsEither g m old new = record { shows = it.desk.shows; idle = it.desk.idle; has = inr (it.desk.wrote, it.says); only = renewed } in
+    record { left = renewed; shown = λ shows. either; goes = inl either }
 
 -- papers that a fault broke off
 pub breaks_off : {S : Type 0} (g : Ghosts S) (m : Chart) (name : List ℕ) (store : Held S) (old : State) (k kept : SqlKeeper S) (fault : PaperFault) (before after : Option (List ℕ)) → Opens g m old k

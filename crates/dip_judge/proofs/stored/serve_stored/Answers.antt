@@ -1,4 +1,4 @@
-use Rattle.dip_judge.proofs.StoredLemmas.{ends_still, holds, is_open, serves_from, serves_up_to}
+use Rattle.dip_judge.proofs.StoredLemmas.{ends_still, holds, is_open, old_ends_still, serves_from, serves_up_to}
 use Rattle.dip_judge.proofs.stored.serve_stored.Goals as goal
 
 pub returns-in-Ok-serve_all-clause-done : goal.returns-in-Ok-serve_all-clause-done
@@ -19,7 +19,7 @@ returns-clause-stops g c =
 
 pub returns-in-Err-bind-clause-stops : goal.returns-in-Err-bind-clause-stops
 returns-in-Err-bind-clause-stops g c =
-    rw c.into_store.ensures
+    rw c.into_store-in-Err-bind.ensures
     (λ clean desk.
     let opened = c.in-Ok.ensures.opened clean desk.wrote in
     ends_still g.S.Store c.args.map.now _ _ c.in-Ok.keeper.conn _ (holds g.S.Store c.args.map.now _ c.in-Ok.keeper opened))
@@ -42,7 +42,21 @@ returns-clause-old_stops g c =
 
 pub returns-in-Err-bind-clause-old_stops : goal.returns-in-Err-bind-clause-old_stops
 returns-in-Err-bind-clause-old_stops g c =
-    rw c.into_store.ensures
+    rw c.into_store-in-Err-bind.ensures
     (λ clean desk.
     let opened = c.in-Ok.ensures.renewed clean desk.wrote in
     ends_still g.S.Store c.args.map.now _ _ c.in-Ok.keeper.conn _ (holds g.S.Store c.args.map.now _ c.in-Ok.keeper opened))
+
+pub returns-in_default-clause-stops : goal.returns-in_default-clause-stops
+returns-in_default-clause-stops g c =
+    rw c.into_store.ensures
+    (λ clean desk.
+    let opened = c.in-Ok.ensures.opened clean desk.wrote in
+    ends_still g.S.Store c.args.map.now _ _ c.in-Ok.keeper.conn _ (holds g.S.Store c.args.map.now _ c.in-Ok.keeper opened))
+
+pub returns-in_default-clause-old_stops : goal.returns-in_default-clause-old_stops
+returns-in_default-clause-old_stops g c =
+    rw c.into_store.ensures
+    (λ clean desk.
+    let opened = c.in-Ok.ensures.renewed clean desk.wrote in
+    old_ends_still g.S.Store c.args.map.now _ _ c.in-Ok.keeper.conn (holds g.S.Store c.args.map.now _ c.in-Ok.keeper opened))

@@ -26,7 +26,9 @@ pub struct Routes {
 
 impl Routes {
     /// The routes. The only error is want of memory.
-    pub fn new(alloc: Global) -> Result<Routes, AllocError> {
+    pub fn new(alloc: Global) -> Result<Routes, AllocError>
+        ensures { IfOk result (λ routes. routes.router ≡ table) }
+    {
         match router_of(alloc) {
             Ok(router) => Ok(Routes { router }),
             Err(_) => Err(AllocError),

@@ -8,14 +8,14 @@ use dip_desk_state::{Item, Own, Public};
 use std::alloc::{AllocError, Global};
 use std::rc::Rc;
 
-/// A public part under this name.
+/// A public part under this name, which shares its board.
 pub fn public_under(alloc: Global, name: &str, public: &Public) -> Result<Public, AllocError>
     ensures { IfOk result
         (λ p. rows.public p ≡ record (rows.public public.now) { game = name.now }) }
 {
     Ok(Public {
         game: String::from_str(alloc, name)?,
-        board: public.board.copy(alloc)?,
+        board: public.board.clone()?,
         status: public.status.copy(alloc)?,
         due: public.due,
         period: public.period,

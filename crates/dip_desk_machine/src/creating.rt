@@ -16,6 +16,7 @@ use dip_map::{Board, Map};
 use dip_names::Power;
 use dip_reports::{Refusal, opening_paper_text, paper_line};
 use std::alloc::{AllocError, Global};
+use std::rc::Rc;
 
 /// The seat of a power, where its name is one of the map's.
 pub fn new_seat(map: &Map, game: &str, seat: &Seat<'_>) -> Option<NewSeat>
@@ -88,7 +89,10 @@ fn opening_public(
 {
     Ok(Public {
         game: String::from_str(alloc, game)?,
-        board: Board::opening(alloc, map)?.with_intent(opening.has_intent()),
+        board: Rc::new(
+            alloc,
+            Board::opening(alloc, map)?.with_intent(opening.has_intent()),
+        )?,
         status: Status::Running,
         due: opening.due,
         period: opening.period,

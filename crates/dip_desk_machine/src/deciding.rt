@@ -78,7 +78,7 @@ fn orders_in_game(
         (rows.public public.now) (rows.own own.now) []) }
     ensures disk { faults_after result 0 ≡ 0 }
     ensures sane { IsErrOf result KeepFault.Damaged
-        → has_foreign map.now public.now.board own.now.power
+        → has_foreign map.now public.now.board.value own.now.power
         (rows.standings own.now.pending.items) ≡ true }
 {
     if is_over(&public.status) {
@@ -114,7 +114,7 @@ fn player_verdict(
         (rows.public public.now) (rows.own own.now) (rows.items page.now)) }
     ensures disk { faults_after result 0 ≡ 0 }
     ensures sane { IsErrOf result KeepFault.Damaged
-        → has_foreign map.now public.now.board own.now.power
+        → has_foreign map.now public.now.board.value own.now.power
         (rows.standings own.now.pending.items) ≡ true }
 {
     match command {

@@ -59,7 +59,7 @@ fn public_noted(alloc: Global, notice: &Notice<'_>, public: &Public) -> Result<P
 {
     Ok(Public {
         game: public.game.clone()?,
-        board: public.board.copy(alloc)?,
+        board: public.board.clone()?,
         status: status_noted(alloc, notice, &public.status)?,
         due: public.due,
         period: period_noted(notice, public.period),

@@ -21,6 +21,7 @@ use dip_reports::{Refusal, paper_line};
 use dip_turn::{Course, Report, advance};
 use dip_turn_papers::paper_text;
 use std::alloc::{AllocError, Global};
+use std::rc::Rc;
 
 /// The orders that stand in these seats; `Damaged` where the line of one is no order on this board.
 fn orders_of_seats(
@@ -93,6 +94,28 @@ fn due_after(tick: u64, due: u64, period: u32, course: Course) -> u64
     }
 }
 
+/// The public part of a game behind a phase that came to this board.
+fn public_played(
+    alloc: Global,
+    tick: u64,
+    public: Public,
+    board: Board,
+    course: Course,
+) -> Result<Public, AllocError>
+    requires timely { tick ≤ 999999999999 }
+    requires room { public.papers < most_papers }
+    ensures { IfOk result (λ p. rows.public p ≡ t.public_played tick (rows.public public) board
+        course) }
+{
+    Ok(Public {
+        board: Rc::new(alloc, board)?,
+        status: status_after(course),
+        due: due_after(tick, public.due, public.period, course),
+        papers: public.papers + 1,
+        ..public
+    })
+}
+
 /// A phase that was adjudicated: its paper is published.
 fn published(
     alloc: Global,
@@ -119,35 +142,19 @@ fn published(
 fn adjudicated(alloc: Global, map: &Map, tick: u64, whole: Whole) -> Result<Verdict, KeepFault>
     requires timely { tick ≤ 999999999999 }
     requires room { whole.public.papers < most_papers }
-    requires board { IsOf map.now whole.public.board }
+    requires board { IsOf map.now whole.public.board.value }
     ensures value { IfOk result (λ v. m.IsPublished map.now tick (rows.whole whole) (verdict v)) }
     ensures disk { faults_after result 0 ≡ 0 }
     ensures sane { IsErrOf result KeepFault.Damaged
         → t.IsPlayable map.now (rows.whole whole) → ⊥ }
 {
     let Whole { public, seats } = whole;
-    let orders = orders_of_seats(alloc, map, &public.board, seats.as_slice())?;
-    let Public {
-        game,
-        board,
-        due,
-        period,
-        grey,
-        papers,
-        ..
-    } = public;
-    match advance(alloc, map, board, orders.as_slice()) {
+    let before = public.board.copy(alloc)?;
+    let orders = orders_of_seats(alloc, map, &before, seats.as_slice())?;
+    match advance(alloc, map, before, orders.as_slice()) {
         Err(_) => Err(KeepFault::Memory),
         Ok((board, report)) => {
-            let behind = Public {
-                game,
-                board,
-                status: status_after(report.course),
-                due: due_after(tick, due, period, report.course),
-                period,
-                grey,
-                papers: papers + 1,
-            };
+            let behind = public_played(alloc, tick, public, board, report.course)?;
             Ok(published(alloc, map, &report, behind)?)
         }
     }

@@ -32,7 +32,7 @@ status (Drawn powers) = r.Drawn powers.items
 abbrev pub public : Public → r.Public
 public p = record {
   game = string_bytes p.game;
-  board = p.board;
+  board = p.board.value;
   status = status p.status;
   due = p.due;
   period = p.period;

@@ -54,8 +54,8 @@ impl Status {
 pub struct Public {
     /// The game's name: 1 to 16 of `a` to `z` and `0` to `9`, a letter first.
     pub game: String,
-    /// Where its units stand, who owns its centres, and its phase.
-    pub board: Board,
+    /// Where its units stand, who owns its centres, and its phase. Copies of this record share it.
+    pub board: Rc<Board>,
     /// How it stands.
     pub status: Status,
     /// The tick from which on its phase may be adjudicated.

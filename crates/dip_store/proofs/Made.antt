@@ -34,8 +34,8 @@ use Rattle.dip_store_changes.specs.declared.faults.MakeFault.{MakeFault}
 use Rattle.dip_store.specs.Faults.{is_of_size, make_fault}
 use Rattle.dip_desk_state.specs.Writable.{IsAuthorOf}
 use Rattle.dip_store_tables.specs.Looking.{OwnIsFound}
-use Rattle.dip_store_changes.specs.Knowing.{IsKeptAs, IsKnown}
-use Rattle.dip_store_changes.specs.declared.known.AuthorRow.{AuthorRow}
+use Rattle.dip_store_changes.specs.Knowing.{IsKeptFor, IsKnown, IsUnordered, is_unordered, row_known}
+use Rattle.dip_store_changes.specs.declared.known.KnownAuthor.{KnownAuthor}
 use Rattle.dip_store.specs.Owns.{Owns, RecallsOwns, known_among, owns_of}
 use Rattle.dip_store.proofs.Owning.{known_of}
 use Rattle.dip_store.specs.Seen.{DifferByName, Parts, Recalls}
@@ -71,9 +71,11 @@ module _ {S : Type 0} (g : Ghosts S) (m : Chart) (k : SqlKeeper S) (c : Change) 
   abbrev Keeps : Type 0
   Keeps = IsKept g k.conn × AreOurs m (tables_in g k.conn) × Recalls (said_by m (state g k.conn).now.trees) k.seen × RecallsOwns (said_by m (state g k.conn).now.trees) k.owns
 
-  -- what is known of the author's row is what the tables have there
-  pub knows : OwnIsFound m → IsAuthorOf m c.author → (known : Option AuthorRow) → known ≡ known_among c.author (owns_of c.game k.owns) → Keeps → IsKeptAs g known m c k.conn
-  knows law author known is keeps = (keeps.0, subst (λ (x : Option AuthorRow). IsKnown x m c.author c.game (tables_in g k.conn).seats) (sym is) (known_of m c.author c.game (tables_in g k.conn) k.owns law keeps.1.coded author keeps.3))
+  -- what is known of the author is what the tables have of it
+  pub knows : OwnIsFound m → IsAuthorOf m c.author → (known : Option KnownAuthor) → known ≡ known_among c.author (owns_of c.game k.owns) → Keeps → IsKeptFor g known m c k.conn
+  knows law author known is keeps =
+      let t = tables_in g k.conn in
+      (keeps.0, subst (λ (x : Option KnownAuthor). IsKnown (row_known x) m c.author c.game t.seats × IsUnordered (is_unordered x) m c.author c.game t.pending) (sym is) (known_of m c.author c.game t k.owns law keeps.1.coded author keeps.3))
 
   module _ (new : Held S) (law : ChangesAreMade m) (fits : IsWritable m c) (wide : HasWidths c) (seen : Parts) (heeds : Heeds c k.seen seen) (owns : Owns) where
     is_made : (kept : Keeps) → IsGood (state g new).now → tables_in g new ≡ changing m c (tables_in g k.conn) → IsMade m c (tables_in g k.conn) (tables_in g new)

@@ -5,8 +5,8 @@ use Rattle.std.specs.Map.{lookup}
 use Rattle.dip_desk_state.specs.Keyed.{at}
 use Rattle.dip_desk_state.specs.Records.{Kept, Own}
 use Rattle.dip_desk_state.specs.State.{Author, Nobody, TheMaster, Seat, Change, Effect, Nothing, Pending, Votes, Delivers, Opens, Publishes, Seats, State, is_seat, own_at, own_effect}
-use Rattle.dip_store_changes.specs.Knowing.{own_row}
-use Rattle.dip_store_changes.specs.declared.known.AuthorRow.{AuthorRow}
+use Rattle.dip_store_changes.specs.Knowing.{known_own}
+use Rattle.dip_store_changes.specs.declared.known.KnownAuthor.{KnownAuthor}
 
 -- own parts of seats, under the names of their games
 abbrev pub Owns : Type 0
@@ -20,11 +20,11 @@ owns_of name ws = unwrap_or (lookup (bytes_eq name) ws) []
 abbrev pub own_among : ℕ → List Own → Option Own
 own_among power os = at (λ a b. a == b) (λ o. o.power) power os
 
--- what they say of the row of a letter's author, where its own part is among them
-abbrev pub known_among : Author → List Own → Option AuthorRow
+-- what they say of a letter's author, where its own part is among them
+abbrev pub known_among : Author → List Own → Option KnownAuthor
 known_among Nobody os = None
 known_among TheMaster os = None
-known_among (Seat power) os = option_map own_row (own_among power os)
+known_among (Seat power) os = option_map known_own (own_among power os)
 
 -- a state has this own part in the game of a name
 abbrev pub HasOwn : State → List ℕ → Own → Type 0

@@ -5,7 +5,7 @@ ghost use Rattle.dip_store.specs.Stored as stored;
 
 use crate::faults::{is_of_size, look_fault, make_fault};
 use crate::fitting_laws::{what_fits_can_be_written, what_fits_finds_place};
-use crate::owns::{SeenOwns, known_row};
+use crate::owns::{SeenOwns, known_author};
 use crate::papers::look_game_paper;
 use crate::seen::Seen;
 use crate::shared::look_shared_public;
@@ -188,7 +188,7 @@ impl<S: Alter> Keeper for SqlKeeper<S> {
         }
         let was_seen = self.seen.heed(change);
         let owns = self.owns.take(self.alloc, change.game.as_str());
-        let known = known_row(change.author, owns.as_slice());
+        let known = known_author(change.author, owns.as_slice());
         match make(&mut self.conn, self.alloc, map, change, known) {
             Ok(()) => {
                 self.owns.keep(self.alloc, change, owns);

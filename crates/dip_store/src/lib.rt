@@ -2,6 +2,7 @@
 #![tactic(auto)]
 
 mod archive;
+mod boards;
 mod checking;
 mod creating;
 mod desk_row;

@@ -8,7 +8,7 @@ ghost use Rattle.dip_store.specs.Owns.{HasOwn, RecallsOwns, is_own, is_short, kn
 
 use dip_desk_state::{Author, Change, Effect, Own, copy_standings};
 use dip_map::Power;
-use dip_store_changes::AuthorRow;
+use dip_store_changes::KnownAuthor;
 use indexmap::IndexMap;
 use std::alloc::{AllocError, Global};
 use std::marker::Model;
@@ -91,15 +91,24 @@ fn own_in(owns: &[Own], power: Power) -> Option<&Own>
     None
 }
 
-/// What the own parts of a game say of the row of a letter's author, where its own is among them.
-pub(crate) fn known_row(author: Author, owns: &[Own]) -> Option<AuthorRow>
+/// Puts an own part behind others, with no more room than it takes: most games have one that is remembered.
+fn push_exact(owns: &mut Vec<Own>, own: Own) -> Result<(), AllocError>
+    ensures { OnOk result (owns.new.items ≡ owns.old.items ++ own ∷ []) }
+{
+    owns.reserve_exact(1)?;
+    owns.push(own)?;
+    Ok(())
+}
+
+/// What the own parts of a game say of a letter's author, where its own is among them.
+pub(crate) fn known_author(author: Author, owns: &[Own]) -> Option<KnownAuthor>
     ensures { result ≡ known_among (desk_rows.author author) (each (λ o. rows.own o) owns.now) }
 {
     match author {
         Author::Nobody | Author::TheMaster => None,
         Author::Seat(power) => {
             let own = own_in(owns, power)?;
-            Some(AuthorRow::of(own))
+            Some(KnownAuthor::of(own))
         }
     }
 }
@@ -223,7 +232,7 @@ impl SeenOwns {
         let copy = own.copy(alloc)?;
         self.make_room();
         let mut owns = self.take(alloc, game);
-        owns.push(copy)?;
+        push_exact(&mut owns, copy)?;
         self.put(alloc, game, owns)
     }
 

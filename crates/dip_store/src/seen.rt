@@ -1,12 +1,14 @@
 //! What a keeper remembers of the games that it has looked at, and of those that it has changed.
-ghost use Rattle.std.specs.Prelude.{◌≡◌, [], ℕ, List, None, OnErr, OnOk, Some, bytes_eq, if◌then◌else◌, is_some, option_map, true};
+ghost use Rattle.std.specs.Prelude.{◌≡◌, [], ℕ, IfOk, List, None, OnErr, OnOk, Some, bytes_eq, if◌then◌else◌, is_some, option_map, true};
 ghost use Rattle.dip_desk_state.specs.ChangeRows as desk_rows;
 ghost use Rattle.dip_desk_state.specs.Rows as rows;
 ghost use Rattle.dip_desk_state.specs.State.{State, public_at, state_after};
 ghost use Rattle.dip_store.specs.Seen.{DifferByName, IsThere, Recalls, gives_part, is_paper, part_of, replaces_part, with_room};
 
+use crate::boards::are_same;
 use dip_desk::public_under;
 use dip_desk_state::{Change, Effect, Public};
+use dip_map::Board;
 use indexmap::IndexMap;
 use std::alloc::{AllocError, Global};
 use std::marker::Model;
@@ -19,6 +21,8 @@ const MOST_SEEN: usize = 16_384;
 #[derive(Drop)]
 pub(crate) struct Seen {
     parts: IndexMap<String, Rc<Public>>,
+    /// The board of the part that was copied last: games that are opened one behind another share theirs.
+    latest: Option<Rc<Board>>,
 }
 
 impl Model for Seen {
@@ -53,6 +57,7 @@ impl Seen {
     {
         Seen {
             parts: IndexMap::new(alloc),
+            latest: None,
         }
     }
 
@@ -96,13 +101,40 @@ impl Seen {
         }
     }
 
+    /// A board equal to this one: the one that came last, where it is the same.
+    fn board_shared(&mut self, board: &Rc<Board>) -> Result<Rc<Board>, AllocError>
+        ensures same { self.new ≡ self.old }
+        ensures board { IfOk result (λ b. b.value ≡ board.now.value) }
+    {
+        if let Some(latest) = &self.latest {
+            if are_same(latest, board) {
+                return latest.clone();
+            }
+        }
+        self.latest = Some(board.clone()?);
+        board.clone()
+    }
+
+    /// A copy of a public part, under this name, which shares its board where it can.
+    fn copied(&mut self, alloc: Global, name: &str, public: &Public) -> Result<Public, AllocError>
+        ensures same { self.new ≡ self.old }
+        ensures copy { IfOk result
+            (λ p. rows.public p ≡ record (rows.public public.now) { game = name.now }) }
+    {
+        let board = self.board_shared(&public.board)?;
+        Ok(Public {
+            board,
+            ..public_under(alloc, name, public)?
+        })
+    }
+
     /// Remembers a copy of a public part, under this name.
     fn note_copy(&mut self, alloc: Global, name: &str, public: &Public) -> Result<(), AllocError>
         ensures { (s : State) → Recalls s self.old
             → public_at name.now s ≡ Some (record (rows.public public.now) { game = name.now })
             → Recalls s self.new }
     {
-        let copy = public_under(alloc, name, public)?;
+        let copy = self.copied(alloc, name, public)?;
         let part = Rc::new(alloc, copy)?;
         self.note(alloc, name, &part)
     }

@@ -1,5 +1,5 @@
 -- A change that is made with the counts before it is the change.
-use Rattle.std.proofs.Common.{◌≡◌, ℕ, ◌+◌, pos, Bool, true, false, cond, ◌&&◌, List, [], ◌∷◌, filter, find, slice_get, Option, Some, None, option_map, bytes_eq, refl, sym, ap, ap₂, subst, ◌∙◌, inl, inr}
+use Rattle.std.proofs.Common.{◌≡◌, ℕ, ◌+◌, pos, Bool, true, false, cond, ◌&&◌, List, [], ◌∷◌, ◌++◌, map, filter, find, slice_get, Option, Some, None, option_map, bytes_eq, refl, sym, ap, ap₂, subst, ◌∙◌, inl, inr}
 use Rattle.std.specs.List.{AllByRecursion}
 use Rattle.std.proofs.lemmas.Bool.{cases_Bool}
 use Rattle.dip_store_tables.proofs.ListLemmas.{ascending-map, ascending_weaker, slice_get-filter}
@@ -8,18 +8,20 @@ use Rattle.sqlite.specs.declared.types.Value.TheVariants.{Int}
 use Rattle.dip_map.specs.Charts.{Chart}
 use Rattle.dip_store_tables.specs.Boards.{power_name}
 use Rattle.dip_desk_state.specs.State.{Author, Nobody, TheMaster, Seat, Effect, Nothing, Pending, Votes, Delivers, Opens, Publishes, Seats, Change}
-use Rattle.dip_desk_state.specs.Records.{Kept}
+use Rattle.dip_desk_state.specs.Records.{Kept, Standing}
 use Rattle.dip_store_sql.specs.Recorded.{AtMostOne}
-use Rattle.dip_store_tables.specs.Changing.{changing, is_reader, noting, ordering, reaching}
+use Rattle.dip_store_tables.specs.Changing.{changing, is_reader, noting, ordering, ordering_by, reaching, with_orders}
 use Rattle.dip_store_tables.specs.Coding.{AreApart, same_seat}
+use Rattle.dip_store_tables.specs.Lists.{delete_where}
 use Rattle.dip_store_tables.specs.Laws.{IsDeliveredOneByOne}
-use Rattle.dip_store_tables.specs.Tables.{SeatRow, Tables, is_seat}
-use Rattle.dip_store_tables.specs.Writing.{as_printed, seat_noted}
+use Rattle.dip_store_tables.specs.Tables.{SeatRow, Tables, is_pending, is_seat}
+use Rattle.dip_store_tables.specs.Writing.{as_printed, pending_row, seat_noted}
 use Rattle.dip_store_changes.specs.Delivering.{AreSeats, ReadersAreSeats}
 use Rattle.dip_store_changes.specs.declared.delivering.Reader.{Reader}
 use Rattle.dip_store_changes.specs.declared.known.AuthorRow.{AuthorRow}
 use Rattle.dip_store_changes.specs.Counts.{AreReaders, Counts}
-use Rattle.dip_store_changes.specs.Making.{changing_row, reaching_all}
+use Rattle.dip_store_changes.specs.Knowing.{IsUnordered}
+use Rattle.dip_store_changes.specs.Making.{changing_row, ordering_by_over, ordering_over, reaching_all, with_orders_over}
 use Rattle.dip_store_changes.proofs.Listed.{still_readers}
 
 module _ {A : Type 0} (p : A → Bool) (Q : A → Type 0) where
@@ -97,7 +99,47 @@ module _ (m : Chart) (each : ReadersAreSeats m) (one : IsDeliveredOneByOne m) (r
   reached (Publishes public paper played) are = refl
   reached (Seats seat) are = refl
 
-pub counted_change : (m : Chart) → ReadersAreSeats m → IsDeliveredOneByOne m → (c : Change) (t : Tables) (row : Option AuthorRow) (rs : List Reader) → AreApart t → Counts row rs m c t → changing_row row rs m c t ≡ changing m c t
-counted_change m each one c t row rs apart counts =
-    ap (λ u. reaching_all rs m c.game c.effect (ordering m c.author c.game c.effect u)) (counts.author c.kept)
+-- nothing is taken out of a list of which nothing passes
+nothing_taken : {A : Type 0} (p : A → Bool) (xs : List A) → filter p xs ≡ [] → delete_where p xs ≡ xs
+nothing_taken p [] none = refl
+nothing_taken p (x ∷ xs) none = elim (cases_Bool (p x)) [
+  | inl e ↦ absurd (let bad = rw e at none in cc)
+  | inr e ↦ rw e (ap (λ ys. x ∷ ys) (nothing_taken p xs (rw e at none)))
+]
+
+-- where none of the author's orders stands, none has to be taken out
+module _ (m : Chart) (name : List ℕ) where
+  given : (none : Bool) (power : ℕ) (orders : List Standing) (t : Tables) → IsUnordered none m (Seat power) name t.pending
+      → with_orders_over none m name (power_name m power) orders t ≡ with_orders m name (power_name m power) orders t
+  given false power orders t is = refl
+  given true power orders t is =
+      ap (λ ps. record t { pending = ps ++ map (pending_row m name (power_name m power)) orders })
+      (sym (nothing_taken (is_pending name (power_name m power)) t.pending (is refl)))
+
+  given_by : (none : Bool) (who : Author) (orders : List Standing) (t : Tables) → IsUnordered none m who name t.pending
+      → ordering_by_over none m who name orders t ≡ ordering_by m who name orders t
+  given_by none Nobody orders t is = refl
+  given_by none TheMaster orders t is = refl
+  given_by none (Seat power) orders t is = given none power orders t is
+
+  pub ordered_over : (none : Bool) (who : Author) (e : Effect) (t : Tables) → IsUnordered none m who name t.pending → ordering_over none m who name e t ≡ ordering m who name e t
+  ordered_over none who Nothing t is = refl
+  ordered_over none who (Pending orders) t is = given_by none who orders t is
+  ordered_over none who (Votes vote) t is = refl
+  ordered_over none who (Delivers readers item) t is = refl
+  ordered_over none who (Opens public paper seats) t is = refl
+  ordered_over none who (Publishes public paper played) t is = refl
+  ordered_over none who (Seats seat) t is = refl
+
+  noted_pending : (who : Author) (k : Kept) (e : Effect) (t : Tables) → (noting m who name k e t).pending ≡ t.pending
+  noted_pending Nobody k e t = refl
+  noted_pending TheMaster k e t = refl
+  noted_pending (Seat power) k e t = refl
+
+pub counted_change : (m : Chart) → ReadersAreSeats m → IsDeliveredOneByOne m → (c : Change) (t : Tables) (row : Option AuthorRow) (none : Bool) (rs : List Reader) → AreApart t → IsUnordered none m c.author c.game t.pending → Counts row rs m c t
+    → changing_row row none rs m c t ≡ changing m c t
+counted_change m each one c t row none rs apart is counts =
+    let noted = noting m c.author c.game c.kept c.effect t in
+    ap (λ u. reaching_all rs m c.game c.effect (ordering_over none m c.author c.game c.effect u)) (counts.author c.kept)
+    ∙ ap (λ u. reaching_all rs m c.game c.effect u) (ordered_over m c.game none c.author c.effect noted (subst (IsUnordered none m c.author c.game) (sym (noted_pending m c.game c.author c.kept c.effect t)) is))
     ∙ reached m each one rs c.author c.game c.kept t apart c.effect counts.readers

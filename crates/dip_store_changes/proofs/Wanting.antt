@@ -1,5 +1,5 @@
 -- A transaction of parts fails for want alone where each of its parts does.
-use Rattle.std.proofs.Common.{◌≡◌, ℕ, List, true, inl, inr, Ok, Err, Result, IsTrue, IfErr, refl, sym, ap, ◌∙◌, arith}
+use Rattle.std.proofs.Common.{◌≡◌, ℕ, Bool, List, true, inl, inr, Ok, Err, Result, IsTrue, IfErr, refl, sym, ap, ◌∙◌, arith}
 use Rattle.dip_store_sql.specs.StoreError.{StoreError}
 use Rattle.dip_store_sql.specs.StoreError.TheVariants.{OutOfMemory, Io, Corrupt, Full, Broken, Unstorable}
 use Rattle.sqlite.specs.declared.error.Error.{Error}
@@ -21,8 +21,7 @@ use Rattle.dip_store_sql.specs.Refusals.{IsBlamed, IsWant}
 use Rattle.dip_store_sql.specs.Transactions.{Does, IsReady}
 use Rattle.dip_store_sql.proofs.Told.{want_weaker}
 use Rattle.dip_store_changes.specs.declared.delivering.Reader.{Reader}
-use Rattle.dip_store_tables.specs.Changing.{ordering}
-use Rattle.dip_store_changes.specs.Making.{GivenOrdersDiffer, reaching_all}
+use Rattle.dip_store_changes.specs.Making.{GivenOrdersDiffer, ordering_over, reaching_all}
 
 -- an open store fails for want
 caused : (old new : State) (e : Error) (cause : StoreError) → e ≡ store_error cause → HasCause old new ⊥ cause → IsTrue old.is_open → IsWant (Faulted old new) e
@@ -64,11 +63,11 @@ want_blames fault (Ok y) want = tt
 want_blames fault (Err e) want = want_blamed fault e want
 
 -- behind a change no key comes twice, so none does of its orders
-pub orders_keyed : (rs : List Reader) (m : Chart) (who : Author) (name : List ℕ) (e : Effect) (t : Tables) → AreKeyed (reaching_all rs m name e (ordering m who name e t)) → GivenOrdersDiffer e (ordering m who name e t)
-orders_keyed rs m who name Nothing t keyed = tt
-orders_keyed rs m who name (Pending orders) t keyed = keyed.pending
-orders_keyed rs m who name (Votes vote) t keyed = tt
-orders_keyed rs m who name (Delivers readers item) t keyed = tt
-orders_keyed rs m who name (Opens public paper seats) t keyed = tt
-orders_keyed rs m who name (Publishes public paper played) t keyed = tt
-orders_keyed rs m who name (Seats seat) t keyed = tt
+pub orders_keyed : (none : Bool) (rs : List Reader) (m : Chart) (who : Author) (name : List ℕ) (e : Effect) (t : Tables) → AreKeyed (reaching_all rs m name e (ordering_over none m who name e t)) → GivenOrdersDiffer e (ordering_over none m who name e t)
+orders_keyed none rs m who name Nothing t keyed = tt
+orders_keyed none rs m who name (Pending orders) t keyed = keyed.pending
+orders_keyed none rs m who name (Votes vote) t keyed = tt
+orders_keyed none rs m who name (Delivers readers item) t keyed = tt
+orders_keyed none rs m who name (Opens public paper seats) t keyed = tt
+orders_keyed none rs m who name (Publishes public paper played) t keyed = tt
+orders_keyed none rs m who name (Seats seat) t keyed = tt

@@ -1,5 +1,5 @@
 -- What is known, or found, of the row of a letter's author.
-use Rattle.std.specs.Prelude.{◌≡◌, ◌<◌, ℕ, ◌+◌, Bool, true, false, List, Option, None, Some, option_map, if◌then◌else◌}
+use Rattle.std.specs.Prelude.{◌≡◌, ◌<◌, ◌==◌, ℕ, ◌+◌, Bool, true, false, List, [], Option, None, Some, length, filter, option_map, if◌then◌else◌}
 use Rattle.std.specs.List.{find}
 use Rattle.sqlite.specs.Order.{Row, bytes, column}
 use Rattle.sqlite.specs.Store.{Ghosts}
@@ -9,10 +9,11 @@ use Rattle.dip_desk_state.specs.Bounds.{most_sent}
 use Rattle.dip_desk_state.specs.Records.{Own}
 use Rattle.dip_desk_state.specs.State.{Author, Nobody, TheMaster, Seat, Effect, Nothing, Pending, Votes, Delivers, Opens, Publishes, Seats, Change}
 use Rattle.dip_store_tables.specs.Boards.{power_name}
-use Rattle.dip_store_tables.specs.Tables.{SeatRow, is_seat}
+use Rattle.dip_store_tables.specs.Tables.{PendingRow, SeatRow, is_pending, is_seat}
 use Rattle.dip_store_sql.specs.Calls.{IsKept, tables_in}
 use Rattle.dip_store_sql.specs.Rows.{number_in}
 use Rattle.dip_store_changes.specs.declared.known.AuthorRow.{AuthorRow}
+use Rattle.dip_store_changes.specs.declared.known.KnownAuthor.{KnownAuthor}
 
 -- of a seat's row, of an own part, and of the row as it is found
 abbrev pub row_of : SeatRow → AuthorRow
@@ -41,6 +42,34 @@ IsKnown (Some row) m who name seats = Some row ≡ author_row m who name seats
 -- tables that a keeper has written, of which this is known
 abbrev pub IsKeptAs : {S : Type 0} → Ghosts S → Option AuthorRow → Chart → Change → Held S → Type 0
 IsKeptAs g known m c h = IsKept g h × IsKnown known m c.author c.game (tables_in g h).seats
+
+-- the orders of a letter's author that stand
+abbrev pub orders_by : Chart → Author → List ℕ → List PendingRow → List PendingRow
+orders_by m Nobody name ps = []
+orders_by m TheMaster name ps = []
+orders_by m (Seat power) name ps = filter (is_pending name (power_name m power)) ps
+
+-- where it is known that none stands, none does
+abbrev pub IsUnordered : Bool → Chart → Author → List ℕ → List PendingRow → Type 0
+IsUnordered none m who name ps = none ≡ true → orders_by m who name ps ≡ []
+
+-- of what is known of a letter's author: its row, and whether none of its orders stands
+abbrev pub row_known : Option KnownAuthor → Option AuthorRow
+row_known None = None
+row_known (Some a) = Some a.row
+
+abbrev pub is_unordered : Option KnownAuthor → Bool
+is_unordered None = false
+is_unordered (Some a) = a.unordered
+
+-- what an own part says of it
+abbrev pub known_own : Own → KnownAuthor
+known_own o = record { row = own_row o; unordered = length o.pending == 0 }
+
+-- tables that a keeper has written, of whose author this is known
+abbrev pub IsKeptFor : {S : Type 0} → Ghosts S → Option KnownAuthor → Chart → Change → Held S → Type 0
+IsKeptFor g known m c h =
+    IsKept g h × (IsKnown (row_known known) m c.author c.game (tables_in g h).seats × IsUnordered (is_unordered known) m c.author c.game (tables_in g h).pending)
 
 abbrev pub is_press : Effect → Bool
 is_press Nothing = false

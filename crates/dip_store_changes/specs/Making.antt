@@ -1,18 +1,22 @@
 -- A change of the tables with its counts handed over, and a call that makes it whole or not at all.
-use Rattle.std.specs.Prelude.{◌≡◌, ◌≤◌, ◌⊎◌, ℕ, false, None, List, Option, Result, OnOk, OnErr}
+use Rattle.std.specs.Prelude.{◌≡◌, ◌≤◌, ◌⊎◌, ℕ, Bool, false, None, List, Option, Result, OnOk, OnErr, map}
 use Rattle.sqlite.specs.Tree.{Trees}
 use Rattle.sqlite.specs.Store.{Ghosts}
 use Rattle.sqlite.specs.Held.{Held, state}
 use Rattle.dip_map.specs.Charts.{Chart}
-use Rattle.dip_desk_state.specs.State.{Effect, Nothing, Pending, Votes, Delivers, Opens, Publishes, Seats, Change}
-use Rattle.dip_store_tables.specs.Changing.{opening, ordering, publishing, replacing}
+use Rattle.dip_desk_state.specs.Records.{Standing}
+use Rattle.dip_desk_state.specs.State.{Author, Nobody, TheMaster, Seat, Effect, Nothing, Pending, Votes, Delivers, Opens, Publishes, Seats, Change}
+use Rattle.dip_store_tables.specs.Boards.{power_name}
+use Rattle.dip_store_tables.specs.Changing.{opening, publishing, replacing, voting_by}
 use Rattle.dip_store_tables.specs.Tables.{Tables}
+use Rattle.dip_store_tables.specs.Writing.{pending_row}
 use Rattle.dip_store_sql.specs.Calls.{IsKept, Lands, does_show, is_honest, tables_in}
 use Rattle.dip_store_sql.specs.Causes.{has_faulted}
 use Rattle.dip_store_sql.specs.Good.{IsGood}
 use Rattle.dip_store_sql.specs.Keys.{OrdersDiffer}
 use Rattle.dip_store_changes.specs.Delivering.{delivering_all}
 use Rattle.dip_store_changes.specs.Noting.{noting_row}
+use Rattle.dip_store_changes.specs.Parts.{more_orders, orders_left}
 use Rattle.dip_store_changes.specs.declared.delivering.Reader.{Reader}
 use Rattle.dip_store_changes.specs.declared.known.AuthorRow.{AuthorRow}
 
@@ -36,10 +40,29 @@ GivenOrdersDiffer (Opens public paper seats) t = Unit {0}
 GivenOrdersDiffer (Publishes public paper played) t = Unit {0}
 GivenOrdersDiffer (Seats seat) t = Unit {0}
 
+-- a seat's standing orders are these; where none stood, none is taken out
+abbrev pub with_orders_over : Bool → Chart → List ℕ → List ℕ → List Standing → Tables → Tables
+with_orders_over none m name power orders t = more_orders (map (pending_row m name power) orders) (orders_left none name power t)
+
+abbrev pub ordering_by_over : Bool → Chart → Author → List ℕ → List Standing → Tables → Tables
+ordering_by_over none m Nobody name orders t = t
+ordering_by_over none m TheMaster name orders t = t
+ordering_by_over none m (Seat power) name orders t = with_orders_over none m name (power_name m power) orders t
+
+-- what the author orders or votes for, where the effect says it
+abbrev pub ordering_over : Bool → Chart → Author → List ℕ → Effect → Tables → Tables
+ordering_over none m who name Nothing t = t
+ordering_over none m who name (Pending orders) t = ordering_by_over none m who name orders t
+ordering_over none m who name (Votes vote) t = voting_by m who name vote t
+ordering_over none m who name (Delivers readers item) t = t
+ordering_over none m who name (Opens public paper seats) t = t
+ordering_over none m who name (Publishes public paper played) t = t
+ordering_over none m who name (Seats seat) t = t
+
 -- a change: its author's row, whose other columns are these, the author's orders, and the effect on the game
-abbrev pub changing_row : Option AuthorRow → List Reader → Chart → Change → Tables → Tables
-changing_row row rs m c t =
-    reaching_all rs m c.game c.effect (ordering m c.author c.game c.effect (noting_row row m c.author c.game c.kept t))
+abbrev pub changing_row : Option AuthorRow → Bool → List Reader → Chart → Change → Tables → Tables
+changing_row row none rs m c t =
+    reaching_all rs m c.game c.effect (ordering_over none m c.author c.game c.effect (noting_row row m c.author c.game c.kept t))
 
 module _ {S : Type 0} (g : Ghosts S) (h : Held S) where
   -- tables of our schema, all of it committed, whether or not papers and items are numbered

@@ -40,8 +40,8 @@ fn season_number(season: Season) -> u32
 fn game_row<'r>(name: &'r str, public: &Public, status: &'r str, standoff: &'r str) -> GameRow<'r>
     ensures { rows.game result ≡ record {
       name = name.now;
-      year = public.now.board.phase.year;
-      phase = season_number public.now.board.phase.season;
+      year = public.now.board.value.phase.year;
+      phase = season_number public.now.board.value.phase.season;
       status = status.now;
       due = public.now.due;
       period = public.now.period;
@@ -131,7 +131,7 @@ pub fn open_game<S: Alter>(
     paper: &str,
     seats: &[NewSeat],
 ) -> Result<(), Error>
-    requires board { IsOf map.now public.now.board }
+    requires board { IsOf map.now public.now.board.value }
     requires due { public.now.due < 2 ^ 63 }
     ensures same_reference { tx.new.conn.ghost_name ≡ tx.old.conn.ghost_name }
     ensures does { Does
@@ -169,7 +169,7 @@ pub fn publish<S: Alter>(
     paper: &str,
     played: bool,
 ) -> Result<(), Error>
-    requires board { IsOf map.now public.now.board }
+    requires board { IsOf map.now public.now.board.value }
     requires due { public.now.due < 2 ^ 63 }
     ensures same_reference { tx.new.conn.ghost_name ≡ tx.old.conn.ghost_name }
     ensures does { Does

@@ -9,7 +9,7 @@ ghost use Rattle.dip_store_sql.specs.Causes.{has_faulted};
 ghost use Rattle.dip_store_sql.specs.Calls.{IsKept, Selects, does_show, is_honest, tables_in};
 ghost use Rattle.dip_store_changes.specs.Counts.{Peeks};
 ghost use Rattle.dip_store_changes.specs.Failing.{FailsFor, IsSeatKept, IsSeatShown};
-ghost use Rattle.dip_store_changes.specs.Knowing.{IsKnown, RowHasRoom, author_row, is_press, own_row, row_behind, row_of, shown_row};
+ghost use Rattle.dip_store_changes.specs.Knowing.{IsKnown, RowHasRoom, author_row, is_press, is_unordered, known_own, own_row, row_behind, row_known, row_of, shown_row};
 
 use crate::faults::MakeFault;
 use dip_desk_state::{Author, Effect, MOST_SENT, Own};
@@ -37,6 +37,47 @@ impl AuthorRow {
             sent: own.sent,
             items: own.items,
         }
+    }
+}
+
+/// What is known of a letter's author before the letter is kept.
+#[derive(Clone, Copy)]
+pub struct KnownAuthor {
+    /// What its row says beside its last letter.
+    pub row: AuthorRow,
+    /// Whether no order of it stands; where this is false, some may.
+    pub unordered: bool,
+}
+
+impl KnownAuthor {
+    /// What an own part says of its seat.
+    pub fn of(own: &Own) -> KnownAuthor
+        ensures { result ≡ known_own (records.own own.now) }
+    {
+        KnownAuthor {
+            row: AuthorRow::of(own),
+            unordered: own.pending.is_empty(),
+        }
+    }
+}
+
+/// What is known of the author's row.
+pub(crate) fn row_known(known: Option<KnownAuthor>) -> Option<AuthorRow>
+    ensures { result ≡ row_known known }
+{
+    match known {
+        Some(author) => Some(author.row),
+        None => None,
+    }
+}
+
+/// Whether it is known that no order of the author stands.
+pub(crate) fn is_unordered(known: Option<KnownAuthor>) -> bool
+    ensures { result ≡ is_unordered known }
+{
+    match known {
+        Some(author) => author.unordered,
+        None => false,
     }
 }
 

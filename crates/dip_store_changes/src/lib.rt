@@ -22,7 +22,7 @@ mod whole;
 pub use authors::next_rows_are_noted;
 pub use boards::put_board;
 pub use faults::MakeFault;
-pub use known::AuthorRow;
+pub use known::{AuthorRow, KnownAuthor};
 pub use laws::changes_are_made;
 pub use making::make;
 pub use whole::make_with;

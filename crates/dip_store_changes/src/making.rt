@@ -9,13 +9,13 @@ ghost use Rattle.dip_store_tables.specs.Legible.{AreOurs};
 ghost use Rattle.dip_store_sql.specs.Causes.{has_faulted};
 ghost use Rattle.dip_store_sql.specs.Calls.{IsKept, does_show, is_honest, tables_in};
 ghost use Rattle.dip_store_changes.specs.Failing.{BlamesFor, FailsFor, HasPlace, MayMake};
-ghost use Rattle.dip_store_changes.specs.Knowing.{IsKeptAs};
+ghost use Rattle.dip_store_changes.specs.Knowing.{IsKeptFor};
 ghost use Rattle.dip_store_changes.specs.Making.{MakesFrom};
 
 use crate::counts::count;
 use crate::delivering::readers_are_seats;
 use crate::faults::MakeFault;
-use crate::known::AuthorRow;
+use crate::known::{KnownAuthor, is_unordered, row_known};
 use crate::whole::make_with;
 use dip_desk_state::Change;
 use dip_map::Map;
@@ -23,8 +23,8 @@ use dip_store_tables::{press_is_delivered_one_by_one, tables_stay_counted};
 use sqlite::{Alter, Connection, Error, ErrorCode};
 use std::alloc::Global;
 
-/// Makes the whole change, or nothing of it. Of a change by a seat, what its row says may be known (`AuthorRow::of`); it isn't asked for
-/// then, and has to be what the row says.
+/// Makes the whole change, or nothing of it. Of a change by a seat, what its row says may be known, and whether an order of it stands
+/// (`KnownAuthor::of`): the row isn't asked for then, nor orders taken out where none stands; it has to be what the tables say.
 ///
 /// # Errors
 /// Want of memory, the database's own, one of a transaction that is open before, and `Misfit` where a count has no room for one more,
@@ -35,32 +35,32 @@ pub fn make<S: Alter>(
     alloc: Global,
     map: &Map,
     change: &Change,
-    known: Option<AuthorRow>,
+    known: Option<KnownAuthor>,
 ) -> Result<(), MakeFault>
     requires { IsWritable map.now (machine.change change.now) }
     ensures makes { MakesFrom
-        (IsKeptAs S.Store known map.now (machine.change change.now) conn.old)
+        (IsKeptFor S.Store known map.now (machine.change change.now) conn.old)
         S.Store (changing map.now (machine.change change.now)) conn.old conn.new result }
-    ensures kept { IsKeptAs S.Store known map.now (machine.change change.now) conn.old
+    ensures kept { IsKeptFor S.Store known map.now (machine.change change.now) conn.old
         → does_show S.Store conn.new → OnOk result (IsKept S.Store conn.new) }
-    ensures place { IsKeptAs S.Store known map.now (machine.change change.now) conn.old
+    ensures place { IsKeptFor S.Store known map.now (machine.change change.now) conn.old
         → does_show S.Store conn.new → OnOk result
         (HasPlace map.now (machine.change change.now) (tables_in S.Store conn.old)) }
     // What a crash may leave of a change that isn't made, but what it might have left before, has
     // place.
-    ensures landed { IsKeptAs S.Store known map.now (machine.change change.now) conn.old
+    ensures landed { IsKeptFor S.Store known map.now (machine.change change.now) conn.old
         → is_honest S.Store conn.new
         → OnErr result ((db : Trees) → (state S.Store conn.new).may_leave db
         → (state S.Store conn.old).may_leave db
         ⊎ HasPlace map.now (machine.change change.now) (tables_in S.Store conn.old)) }
-    ensures fails { IsKeptAs S.Store known map.now (machine.change change.now) conn.old
+    ensures fails { IsKeptFor S.Store known map.now (machine.change change.now) conn.old
         → does_show S.Store conn.old → is_honest S.Store conn.new
         → MayMake map.now (machine.change change.now) (tables_in S.Store conn.old)
         → IfErr result (FailsFor (has_faulted S.Store conn.old conn.new)
         (¬ HasPlace map.now (machine.change change.now)
         (tables_in S.Store conn.old))) }
     // Of any change, whether it fits or not.
-    ensures blames { IsKeptAs S.Store known map.now (machine.change change.now) conn.old
+    ensures blames { IsKeptFor S.Store known map.now (machine.change change.now) conn.old
         → does_show S.Store conn.old → is_honest S.Store conn.new
         → AreOurs map.now (tables_in S.Store conn.old)
         → IfErr result (BlamesFor (has_faulted S.Store conn.old conn.new)) }
@@ -71,13 +71,15 @@ pub fn make<S: Alter>(
     if !conn.is_autocommit() {
         return Err(MakeFault::Sql(Error::SqliteFailure(ErrorCode::TransactionState)));
     }
-    let counted = count(conn, alloc, map, change, known)?;
+    let row = row_known(known);
+    let counted = count(conn, alloc, map, change, row)?;
     match make_with(
         conn,
         alloc,
         map,
         change,
         counted.row,
+        is_unordered(known),
         counted.readers.as_slice(),
     ) {
         Ok(()) => Ok(()),

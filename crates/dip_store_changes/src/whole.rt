@@ -18,30 +18,31 @@ use sqlite::{Alter, Connection, Error};
 use std::alloc::Global;
 
 /// Makes the whole change or nothing of it. The author's row has these columns beside the letter, where the author has a
-/// seat; where it is press, the readers have it.
+/// seat, and it may be known that no order of it stood; where it is press, the readers have it.
 pub fn make_with<S: Alter>(
     conn: &mut Connection<S>,
     alloc: Global,
     map: &Map,
     change: &Change,
     row: Option<AuthorRow>,
+    unordered: bool,
     readers: &[Reader],
 ) -> Result<(), Error>
     requires idle { conn.old.in_transaction ≡ false }
     requires writable { IsWritable map.now (machine.change change.now) }
     requires room { All (λ r. r.items < most_items) readers.now }
     ensures makes { Makes S.Store
-        (changing_row row readers.now map.now (machine.change change.now))
+        (changing_row row unordered readers.now map.now (machine.change change.now))
         conn.old conn.new result }
     ensures wants { IsKept S.Store conn.old → does_show S.Store conn.old
-        → is_honest S.Store conn.new → AreKeyed (changing_row row readers.now map.now
-        (machine.change change.now) (tables_in S.Store conn.old))
+        → is_honest S.Store conn.new → AreKeyed (changing_row row unordered readers.now
+        map.now (machine.change change.now) (tables_in S.Store conn.old))
         → IfErr result (IsWant (has_faulted S.Store conn.old conn.new)) }
     ensures blames { IsKept S.Store conn.old → does_show S.Store conn.old
         → is_honest S.Store conn.new
         → IfErr result (IsBlamed (has_faulted S.Store conn.old conn.new)) }
 {
     let mut tx = conn.transaction();
-    make_parts(alloc, &mut tx, map, change, row, readers)?;
+    make_parts(alloc, &mut tx, map, change, row, unordered, readers)?;
     tx.commit()
 }

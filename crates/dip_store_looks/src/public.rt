@@ -22,6 +22,7 @@ use dip_store_sql::{find_choice, find_game, list_centres, list_units};
 use dip_store_tables::read_status;
 use sqlite::{Alter, Connection, Row};
 use std::alloc::Global;
+use std::rc::Rc;
 
 fn status_in(alloc: Global, map: &Map, row: &Row) -> Result<Status, LookFault>
     ensures value { IfOk result (λ s.
@@ -67,7 +68,7 @@ fn public_in(
     let intent = intent_in(choice)?;
     Ok(Public {
         game: String::from_str(alloc, game)?,
-        board: board_in(alloc, map, row, units, centres, intent)?,
+        board: Rc::new(alloc, board_in(alloc, map, row, units, centres, intent)?)?,
         status: status_in(alloc, map, row)?,
         due: tick_at(row, 3)?,
         period: number_at(row, 4)?,

@@ -15,7 +15,7 @@ use dip_map::Map;
 
 /// Whether the board and the status of a public part are of the map, and its due tick is in bounds.
 fn is_public(map: &Map, public: &Public) -> bool
-    ensures { IsTrue result ↔ (IsOf map.now public.now.board
+    ensures { IsTrue result ↔ (IsOf map.now public.now.board.value
         × IsStatusOf map.now (rows.status public.now.status)
         × (public.now.due < 2 ^ 63)) }
 {

@@ -18,7 +18,7 @@ use Rattle.dip_store_changes.proofs.whole.make_with.Goals as goal
 
 pub returns : goal.returns
 returns g c =
-    let f = changing_row c.args.row c.args.readers.now c.args.map.now (machine.change c.args.change.now) in
+    let f = changing_row c.args.row c.args.unordered c.args.readers.now c.args.map.now (machine.change c.args.change.now) in
     let old = c.args.conn.now in
     let last = c.make_parts.new.tx.conn.now in
     let end = c.commit.new.self.0 in
@@ -40,7 +40,7 @@ returns g c =
 
 pub returns-in_err-make_parts-clause-wants : goal.returns-in_err-make_parts-clause-wants
 returns-in_err-make_parts-clause-wants g c kept shows clean may =
-    let f = changing_row c.args.row c.args.readers.now c.args.map.now (machine.change c.args.change.now) in
+    let f = changing_row c.args.row c.args.unordered c.args.readers.now c.args.map.now (machine.change c.args.change.now) in
     let old = c.args.conn.now in
     let last = c.make_parts.new.tx.conn.now in
     let e = c.in_err-make_parts.field-0.0 in
@@ -52,7 +52,7 @@ returns-in_err-make_parts-clause-wants g c kept shows clean may =
 
 pub returns-in_err-make_parts-clause-blames : goal.returns-in_err-make_parts-clause-blames
 returns-in_err-make_parts-clause-blames g c kept shows clean =
-    let f = changing_row c.args.row c.args.readers.now c.args.map.now (machine.change c.args.change.now) in
+    let f = changing_row c.args.row c.args.unordered c.args.readers.now c.args.map.now (machine.change c.args.change.now) in
     let old = c.args.conn.now in
     let last = c.make_parts.new.tx.conn.now in
     let e = c.in_err-make_parts.field-0.0 in

@@ -16,8 +16,8 @@ returns-in-Ok g c =
     let it = machine.change c.args.change.now in
     let fits : IsWritable m it = c.is_writable.ensures.0 c.if-not-is_writable.false in
     let lies : c.as_slice.result.now ≡ c.take-owns.result.items = search rules in
-    let known : c.known_row-known.result ≡ known_among it.author (owns_of it.game c.args.self.now.owns) = c.known_row-known.ensures ∙ ap (known_among it.author) (ap (map (λ (o : Own). rows.own o)) lies ∙ c.take-owns.ensures.taken ∙ ap (λ (name : List ℕ). owns_of name c.args.self.now.owns) c.as_str.ensures.value) in
-    let has = knows g.S.Store m c.args.self.now it (c.own_is_found.ensures m c.facts.ensures) fits.0.author c.known_row-known.result known in
+    let known : c.known_author-known.result ≡ known_among it.author (owns_of it.game c.args.self.now.owns) = c.known_author-known.ensures ∙ ap (known_among it.author) (ap (map (λ (o : Own). rows.own o)) lies ∙ c.take-owns.ensures.taken ∙ ap (λ (name : List ℕ). owns_of name c.args.self.now.owns) c.as_str.ensures.value) in
+    let has = knows g.S.Store m c.args.self.now it (c.own_is_found.ensures m c.facts.ensures) fits.0.author c.known_author-known.result known in
     changes_well g.S.Store m c.args.self.now it c.make.new.conn (c.changes_are_made.ensures m c.facts.ensures) fits c.has_widths.ensures c.heed-was_seen.new.self (heeded it c.args.self.now.seen c.heed-was_seen.new.self c.heed-was_seen.ensures.left) c.keep.new.self _ _ c.in-Ok.field-0 c.has_texts.ensures (c.tables_stay_legible.ensures m)
     (makes_when g.S.Store _ _ _ _ _ _ _ _ has c.in-Ok.ensures.makes) (λ keeps. c.in-Ok.ensures.kept (has keeps)) (λ keeps. c.in-Ok.ensures.place (has keeps))
     (made_recalls it c.as_str.result.now c.as_str.ensures.value c.args.self.now.owns c.take-owns.new.self c.keep.new.self (owned c.take-owns.result) c.take-owns.ensures.taken c.take-owns.ensures.left c.keep.ensures)
@@ -29,8 +29,8 @@ returns-in-Err g c =
     let it = machine.change c.args.change.now in
     let fits : IsWritable m it = c.is_writable.ensures.0 c.if-not-is_writable.false in
     let lies : c.as_slice.result.now ≡ c.take-owns.result.items = search rules in
-    let known : c.known_row-known.result ≡ known_among it.author (owns_of it.game c.args.self.now.owns) = c.known_row-known.ensures ∙ ap (known_among it.author) (ap (map (λ (o : Own). rows.own o)) lies ∙ c.take-owns.ensures.taken ∙ ap (λ (name : List ℕ). owns_of name c.args.self.now.owns) c.as_str.ensures.value) in
-    let has = knows g.S.Store m c.args.self.now it (c.own_is_found.ensures m c.facts.ensures) fits.0.author c.known_row-known.result known in
+    let known : c.known_author-known.result ≡ known_among it.author (owns_of it.game c.args.self.now.owns) = c.known_author-known.ensures ∙ ap (known_among it.author) (ap (map (λ (o : Own). rows.own o)) lies ∙ c.take-owns.ensures.taken ∙ ap (λ (name : List ℕ). owns_of name c.args.self.now.owns) c.as_str.ensures.value) in
+    let has = knows g.S.Store m c.args.self.now it (c.own_is_found.ensures m c.facts.ensures) fits.0.author c.known_author-known.result known in
     rw (c.told_by_store.ensures.same, c.told_by_store.ensures.told)
     (changes_ill g.S.Store m c.args.self.now it c.make.new.conn (c.changes_are_made.ensures m c.facts.ensures) fits c.has_widths.ensures c.heed-was_seen.new.self (heeded it c.args.self.now.seen c.heed-was_seen.new.self c.heed-was_seen.ensures.left) c.take-owns.new.self _ _ c.in-Err.fault
     (λ s. left_recalls s c.as_str.result.now c.args.self.now.owns c.take-owns.new.self c.take-owns.ensures.left) c.has_texts.ensures (c.tables_stay_legible.ensures m) (c.tables_stay_counted.ensures m)

@@ -8,9 +8,9 @@ use Rattle.dip_store.proofs.owns.SeenOwns.note.Goals as goal
 pub returns-clause-ok : goal.returns-clause-ok
 returns-clause-ok c =
     on_ok_weaker c.put.result
-    (λ put. noted_own c.args.game.now (rows.own c.args.own.now) c.args.self.now c.make_room.new.self c.take-owns.new.self c.put.new.self (owned c.take-owns.result) (owned c.push.new.self)
+    (λ put. noted_own c.args.game.now (rows.own c.args.own.now) c.args.self.now c.make_room.new.self c.take-owns.new.self c.put.new.self (owned c.take-owns.result) (owned c.push_exact.new.owns)
     c.make_room.ensures c.take-owns.ensures.taken c.take-owns.ensures.left put
-    (ap (λ (os : List Own). map (λ o. rows.own o) os) c.in_ok-push.ensures.items ∙ pushed_said c.take-owns.result.items _ (rows.own c.args.own.now) c.in_ok-copy.ensures))
+    (ap (λ (os : List Own). map (λ o. rows.own o) os) c.in_ok-push_exact.ensures ∙ pushed_said c.take-owns.result.items _ (rows.own c.args.own.now) c.in_ok-copy.ensures))
     c.put.ensures.ok
 
 pub returns-clause-err : goal.returns-clause-err
@@ -19,7 +19,7 @@ returns-clause-err c =
     (λ same s. not_noted s c.args.game.now c.args.self.now c.make_room.new.self c.take-owns.new.self c.put.new.self c.make_room.ensures c.take-owns.ensures.left same)
     c.put.ensures.err
 
-pub returns-in_err-push-clause-err : goal.returns-in_err-push-clause-err
-returns-in_err-push-clause-err c =
-    on_err c.from_residual-in_err-push.result
+pub returns-in_err-push_exact-clause-err : goal.returns-in_err-push_exact-clause-err
+returns-in_err-push_exact-clause-err c =
+    on_err c.from_residual-in_err-push_exact.result
     (λ s. not_noted s c.args.game.now c.args.self.now c.make_room.new.self c.take-owns.new.self c.take-owns.new.self c.make_room.ensures c.take-owns.ensures.left refl)

@@ -5,7 +5,7 @@ use Rattle.dip_desk_state.specs.Keyed.{at, change_at}
 use Rattle.dip_desk_state.specs.Records.{Kept, Own}
 use Rattle.dip_desk_state.specs.State.{Author, Nobody, TheMaster, Seat, Change, Effect, Nothing, Pending, Votes, Delivers, Opens, Publishes, Seats, Game, Part, State, game_after, game_at, is_seat, name_of, new_games, own_at, own_effect, own_of, power_in, seat_at, state_after, with_author, with_effect, with_letter}
 use Rattle.dip_desk_state.proofs.KeyedLemmas.{at-append, at-change_at_other, at-change_at_same, names_tell, powers_tell}
-use Rattle.dip_store.specs.Owns.{HasOwn, is_own, own_behind}
+use Rattle.dip_store.specs.Owns.{HasOwn, is_own, own_behind, papered}
 use Rattle.dip_store.proofs.Seeing.{keeps_name}
 
 -- the own part that is found for a power is of that power
@@ -57,19 +57,28 @@ letter_at (Seat p) k e power xs o h = go (p == power) refl
         (ap (λ (x : Option Part). own_of x) (at-change_at_same (λ a b. a == b) power_in power (with_letter k e) xs (keeps_power k e)) ∙ changed (seat_at power xs) h)
     go false is = ap (λ (x : Option Part). own_of x) (at-change_at_other (λ a b. a == b) power_in p power (with_letter k e) xs powers_tell (keeps_power k e) is) ∙ h
 
--- such an effect reaches no seat besides
-not_reached : (e : Effect) → is_own e ≡ true → (x : Part) → with_effect e x ≡ x
-not_reached Nothing own x = refl
-not_reached (Pending orders) own x = refl
-not_reached (Votes vote) own x = refl
-not_reached (Delivers readers item) own x = absurd (let no = own in cc)
-not_reached (Opens public paper seats) own x = absurd (let no = own in cc)
-not_reached (Publishes public paper played) own x = absurd (let no = own in cc)
-not_reached (Seats seat) own x = absurd (let no = own in cc)
+-- what such an effect makes of a seat besides: nothing, but for a paper
+module _ (e : Effect) (own : is_own e ≡ true) where
+  reached : (e : Effect) → is_own e ≡ true → (x : Part) → ((with_effect e x).own ≡ papered e x.own) × (power_in (with_effect e x) ≡ power_in x)
+  reached Nothing own x = (refl, refl)
+  reached (Pending orders) own x = (refl, refl)
+  reached (Votes vote) own x = (refl, refl)
+  reached (Delivers readers item) own x = absurd (let no = own in cc)
+  reached (Opens public paper seats) own x = absurd (let no = own in cc)
+  reached (Publishes public paper true) own x = (refl, refl)
+  reached (Publishes public paper false) own x = (refl, refl)
+  reached (Seats seat) own x = absurd (let no = own in cc)
 
-each_same : (f : Part → Part) → ((x : Part) → f x ≡ x) → (xs : List Part) → map f xs ≡ xs
-each_same f same [] = refl
-each_same f same (x ∷ xs) = ap (λ (y : Part). y ∷ map f xs) (same x) ∙ ap (λ (ys : List Part). x ∷ ys) (each_same f same xs)
+  each_reached : (power : ℕ) (xs : List Part) → own_of (seat_at power (map (with_effect e) xs)) ≡ option_map (papered e) (own_of (seat_at power xs))
+  each_reached power [] = refl
+  each_reached power (x ∷ xs) =
+      ap (λ (p : ℕ). own_of (cond (p == power) (Some (with_effect e x)) (seat_at power (map (with_effect e) xs)))) (reached e own x).1
+      ∙ go (power_in x == power) (each_reached power xs)
+    where
+      go : (b : Bool) → own_of (seat_at power (map (with_effect e) xs)) ≡ option_map (papered e) (own_of (seat_at power xs))
+          → own_of (cond b (Some (with_effect e x)) (seat_at power (map (with_effect e) xs))) ≡ option_map (papered e) (own_of (cond b (Some x) (seat_at power xs)))
+      go true more = ap (λ (o : Own). Some o) (reached e own x).0
+      go false more = more
 
 -- a game that a change leaves there is found behind it
 still_found : (c : Change) (s : State) (name : List ℕ) (power : ℕ) (o : Own)
@@ -98,8 +107,8 @@ own_after c s o own h = still_found c s c.game o.power (own_behind c o)
         → option_and_then (λ g. own_of (seat_at o.power g.seats)) (option_map (game_after c) x) ≡ Some (own_behind c o)
     inside None h = cc
     inside (Some g) h =
-        ap (λ (xs : List Part). own_of (seat_at o.power xs)) (each_same (with_effect c.effect) (not_reached c.effect own) (with_author c.author c.kept c.effect g.seats))
-        ∙ letter_at c.author c.kept c.effect o.power g.seats o h
+        each_reached c.effect own o.power (with_author c.author c.kept c.effect g.seats)
+        ∙ ap (option_map (papered c.effect)) (letter_at c.author c.kept c.effect o.power g.seats o h)
 
 pub letter_stays : (c : Change) (s : State) → is_own c.effect ≡ true → (o : Own) → HasOwn s c.game o → HasOwn (state_after c s) c.game (own_behind c o)
 letter_stays c s own o h = has_own (state_after c s) c.game o.power (own_behind c o) (own_after c s o own h)

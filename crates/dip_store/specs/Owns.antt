@@ -56,16 +56,26 @@ abbrev pub is_short : Option Kept → Bool
 is_short None = true
 is_short (Some k) = nat_le (length k.reply) most_reply
 
--- whether an effect changes no own part but its author's
+-- whether an effect changes no own part but its author's, or is a paper
 abbrev pub is_own : Effect → Bool
 is_own Nothing = true
 is_own (Pending orders) = true
 is_own (Votes vote) = true
 is_own (Delivers readers item) = false
 is_own (Opens public paper seats) = false
-is_own (Publishes public paper played) = false
+is_own (Publishes public paper played) = true
 is_own (Seats seat) = false
+
+-- an own part behind a paper: where a phase was played, it has no standing orders
+abbrev pub papered : Effect → Own → Own
+papered Nothing o = o
+papered (Pending orders) o = o
+papered (Votes vote) o = o
+papered (Delivers readers item) o = o
+papered (Opens public paper seats) o = o
+papered (Publishes public paper played) o = if played then record o { pending = [] } else o
+papered (Seats seat) o = o
 
 -- an own part of its game behind a change of such an effect
 abbrev pub own_behind : Change → Own → Own
-own_behind c o = if is_seat c.author o.power then own_effect c.effect (record o { kept = Some c.kept }) else o
+own_behind c o = papered c.effect (if is_seat c.author o.power then own_effect c.effect (record o { kept = Some c.kept }) else o)

@@ -28,7 +28,8 @@ use std::rc::Rc;
 /// What it has read of games and seats it has in memory too, and reads it no more while nothing changes it: the store is its own,
 /// and nobody else writes to it. It remembers the public parts of at most 16,384 games, as they were read, opened or, where they were
 /// remembered before, published, and the own parts of at most 1,024 seats. A letter that changes no own part but its author's (orders,
-/// a vote, or only what is kept of it) is done to that part in memory as to its rows; any other forgets the own parts of its game. An
+/// a vote, or only what is kept of it) and a paper are done to them in memory as to their rows; press and another secret forget the own
+/// parts of their game. An
 /// own part whose kept reply is longer than 4,096 bytes isn't remembered, so that all of this stays within some 20 MB for games of the
 /// standard map.
 ///

@@ -4,7 +4,7 @@ ghost use Rattle.std.specs.List.{AllByRecursion};
 ghost use Rattle.dip_desk_state.specs.ChangeRows as desk_rows;
 ghost use Rattle.dip_desk_state.specs.Rows as rows;
 ghost use Rattle.dip_desk_state.specs.State.{State, is_seat, own_at, own_effect, state_after};
-ghost use Rattle.dip_store.specs.Owns.{HasOwn, RecallsOwns, is_own, is_short, known_among, many_owns, most_owns, own_among, own_behind, owns_of, owns_with_room};
+ghost use Rattle.dip_store.specs.Owns.{HasOwn, RecallsOwns, is_own, is_short, known_among, many_owns, most_owns, own_among, own_behind, owns_of, owns_with_room, papered};
 
 use dip_desk_state::{Author, Change, Effect, Own, copy_standings};
 use dip_map::Power;
@@ -36,16 +36,13 @@ impl Model for SeenOwns {
     ghost view = { λ s. map (λ e. (string_bytes e.0, map (λ o. rows.own o) e.1.items)) s.games.entries };
 }
 
-/// Whether an effect changes no own part but its author's.
+/// Whether an effect changes no own part but its author's, or is a paper.
 fn is_on_author(effect: &Effect) -> bool
     ensures { result ≡ is_own (desk_rows.effect effect.now) }
 {
     match effect {
-        Effect::Nothing | Effect::Pending(_) | Effect::Votes(_) => true,
-        Effect::Delivers { .. }
-        | Effect::Opens { .. }
-        | Effect::Publishes { .. }
-        | Effect::Seats(_) => false,
+        Effect::Nothing | Effect::Pending(_) | Effect::Votes(_) | Effect::Publishes { .. } => true,
+        Effect::Delivers { .. } | Effect::Opens { .. } | Effect::Seats(_) => false,
     }
 }
 
@@ -132,6 +129,25 @@ fn take_letter(alloc: Global, change: &Change, own: &mut Own) -> Result<(), Allo
     Ok(())
 }
 
+/// What a paper makes of an own part of its game: where a phase was played, no order stands any more.
+fn take_paper(alloc: Global, effect: &Effect, own: &mut Own)
+    ensures { rows.own own.new ≡ papered (desk_rows.effect effect.now) (rows.own own.old) }
+{
+    match effect {
+        Effect::Publishes { played, .. } => {
+            if *played {
+                own.pending = Vec::new(alloc);
+            }
+        }
+        Effect::Nothing
+        | Effect::Pending(_)
+        | Effect::Votes(_)
+        | Effect::Delivers { .. }
+        | Effect::Opens { .. }
+        | Effect::Seats(_) => {}
+    }
+}
+
 /// What a letter makes of an own part of its game, whose author is of this seat or of another.
 fn reach_own(alloc: Global, change: &Change, own: &mut Own) -> Result<(), AllocError>
     requires { is_own (desk_rows.effect change.now.effect) ≡ true }
@@ -139,8 +155,9 @@ fn reach_own(alloc: Global, change: &Change, own: &mut Own) -> Result<(), AllocE
         (rows.own own.new ≡ own_behind (desk_rows.change change.now) (rows.own own.old)) }
 {
     if is_author(change.author, own.power) {
-        return take_letter(alloc, change, own);
+        take_letter(alloc, change, own)?;
     }
+    take_paper(alloc, &change.effect, own);
     Ok(())
 }
 
@@ -272,7 +289,7 @@ impl SeenOwns {
     }
 
     /// Remembers again, behind a change that is made, what it leaves of the own parts of its game that were taken out before it:
-    /// none, where it changes others than its author's. Where memory is wanting for them they aren't remembered, and that is no fault.
+    /// none, where it is press, or changes a secret. Where memory is wanting for them they aren't remembered, and that is no fault.
     pub(crate) fn keep(&mut self, alloc: Global, change: &Change, owns: Vec<Own>)
         ensures { (s : State) → RecallsOwns (state_after (desk_rows.change change.now) s) self.old
             → AllByRecursion (HasOwn s (desk_rows.change change.now).game)

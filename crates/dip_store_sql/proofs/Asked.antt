@@ -30,6 +30,10 @@ pub add_pending : IsAsked (length text.add_pending_text) 4 (understood our_schem
 unfolding understood everything
 add_pending = (refl, refl)
 
+pub add_three_pending : IsAsked (length text.add_three_pending_text) 8 (understood our_schema text.add_three_pending_text)
+unfolding understood everything
+add_three_pending = (refl, refl)
+
 pub add_item : IsAsked (length text.add_item_text) 7 (understood our_schema text.add_item_text)
 unfolding understood everything
 add_item = (refl, refl)

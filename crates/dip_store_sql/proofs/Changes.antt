@@ -12,7 +12,7 @@ use Rattle.sqlite.specs.Kind.TheVariants.{Integer}
 use Rattle.sqlite.specs.Cast.{cast, cast_all, cast_row}
 use Rattle.sqlite.specs.Table.{Table}
 use Rattle.sqlite.specs.Schema.{Schema}
-use Rattle.sqlite.specs.Edit.{edit_of, edited, next_rowid, with_rowid}
+use Rattle.sqlite.specs.Edit.{edit_of, edited, next_rowid, numbered, put_all, with_rowid}
 use Rattle.sqlite_rules.specs.Calls.{ids_of}
 use Rattle.sqlite.specs.Rowids.TheVariants.{Chosen, Given}
 use Rattle.sqlite.specs.Effect.{Database}
@@ -23,7 +23,7 @@ use Rattle.dip_store_sql.specs.Recorded.{IsRising, AtMostOne}
 use Rattle.dip_store_sql.specs.Queries.{passes}
 use Rattle.dip_store_sql.specs.Writes.{Edits}
 use Rattle.dip_store_sql.proofs.Places.{added_last, id_of, ids_in, of_found}
-use Rattle.dip_store_sql.proofs.Edits.{grown, shrunk, renewed, not_renewed}
+use Rattle.dip_store_sql.proofs.Edits.{all_grown, shrunk, renewed, not_renewed, unnumbered}
 use Rattle.dip_store_sql.proofs.Finding.{passing}
 
 either : (b : Bool) (x : Value) → cond b x x ≡ x
@@ -53,17 +53,27 @@ one_in f y [] h = absurd (cc)
 one_in f y (x ∷ []) h = (x, refl)
 one_in f y (x ∷ z ∷ xs) h = absurd (cc)
 
+-- records as they are given are cast to themselves
+pub each_cast : {A : Type 0} (put : A → Row) (table : Table) → ((a : A) → cast_all table.columns (put a) ≡ put a) → (xs : List A) → map (λ s. cast_row table s) (unnumbered put xs) ≡ unnumbered put xs
+each_cast put table casts [] = refl
+each_cast put table casts (x ∷ xs) = ap₂ ◌∷◌ (ap₂ ◌∷◌ cast_null (casts x)) (each_cast put table casts xs)
+
 module _ {A : Type 0} (put : A → Row) (take : Row → A) (back : (v : Value) (a : A) → take (v ∷ put a) ≡ a) (table : Table) (casts : (a : A) → cast_all table.columns (put a) ≡ put a) where
   module _ (schema : Schema) (old new : Database) (it : IsRising put take (old.trees table.tree)) where
-    -- an INSERT puts a record behind the others
+    -- an INSERT puts records behind the others
+    pub insert_all_is : (xs : List A) (sources : List Row) → sources ≡ unnumbered put xs → Edits schema (edit_of old.trees table [] Chosen 0 sources) old new
+        → IsRising put take (new.trees table.tree) × (map take (new.trees table.tree) ≡ map take (old.trees table.tree) ++ xs)
+    insert_all_is xs sources are e =
+        let rows = old.trees table.tree in
+        let is : new.trees table.tree ≡ put_all rows (numbered Chosen rows (unnumbered put xs)) =
+        e.applies.rows ∙ ap (λ all. put_all rows (numbered Chosen rows all)) (ap (map (λ s. cast_row table s)) are ∙ each_cast put table casts xs) in
+        let more = all_grown put take back rows xs it in
+        (subst (IsRising put take) (sym is) more.0, ap (map take) is ∙ more.1)
+
+    -- or one record
     pub insert_is : (a : A) (sources : List Row) → sources ≡ (Null ∷ put a) ∷ [] → Edits schema (edit_of old.trees table [] Chosen 0 sources) old new
         → IsRising put take (new.trees table.tree) × (map take (new.trees table.tree) ≡ map take (old.trees table.tree) ++ a ∷ [])
-    insert_is a sources are e =
-        let rows = old.trees table.tree in
-        let row : cast_row table (Null ∷ put a) ≡ Null ∷ put a = ap₂ ◌∷◌ cast_null (casts a) in
-        let is : new.trees table.tree ≡ put_row (Int (next_rowid rows) ∷ put a) rows =
-        e.applies.rows ∙ ap (λ all. edited old.trees (edit_of old.trees table [] Chosen 0 all)) are ∙ ap (λ r. put_row (with_rowid Chosen rows r) rows) row in
-        grown put take back rows (new.trees table.tree) a it is
+    insert_is a = insert_all_is (a ∷ [])
 
     -- its row stands behind theirs
     pub insert_behind : (a : A) (sources : List Row) → sources ≡ (Null ∷ put a) ∷ [] → Edits schema (edit_of old.trees table [] Chosen 0 sources) old new

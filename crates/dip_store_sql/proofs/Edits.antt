@@ -1,18 +1,23 @@
 -- What the edits of one table make of the records that its rows say.
-use Rattle.std.proofs.Common.{◌≡◌, ℤ, List, [], ◌∷◌, ◌++◌, map, filter, Bool, not, refl, sym, ap, ap₂, subst, ◌∙◌, inl, inr}
+use Rattle.std.proofs.Common.{◌≡◌, ℤ, List, [], ◌∷◌, ◌++◌, map, filter, Bool, not, refl, sym, ap, ap₂, subst, ◌∙◌, inl, inr, append_assoc, append-nil}
 use Rattle.std.specs.List.Sorted.{IsPermutation}
 use Rattle.std.proofs.lemmas.Bool.{cases_Bool}
 use Rattle.std.proofs.lemmas.List.{map-append}
 use Rattle.sqlite.specs.declared.types.Value.{Value}
-use Rattle.sqlite.specs.declared.types.Value.TheVariants.{Int}
+use Rattle.sqlite.specs.declared.types.Value.TheVariants.{Null, Int}
 use Rattle.sqlite.specs.Order.{Row}
 use Rattle.sqlite.specs.Tree.{rowid, put_row, without_rowid, has_rowid}
 use Rattle.sqlite_trees.proofs.TreeLemmas.{IsTable-put_row, all-put_row}
-use Rattle.sqlite.specs.Edit.{id_in, next_rowid, without_all}
+use Rattle.sqlite.specs.Edit.{id_in, next_rowid, numbered, put_all, without_all}
+use Rattle.sqlite.specs.Rowids.TheVariants.{Chosen}
 use Rattle.dip_store_tables.specs.Lists.{update_where, delete_where}
 use Rattle.dip_store_tables.proofs.ListLemmas.{all_weaker, all-filter, ascending-filter, filter-map}
 use Rattle.dip_store_sql.specs.Recorded.{IsRising}
 use Rattle.dip_store_sql.proofs.Places.{HaveIds, id_of, ids_in, added_last, all_taken_out, none_change, of_found, put_back}
+
+-- records as an INSERT is given them, before they have numbers
+abbrev pub unnumbered : {A : Type 0} → (A → Row) → List A → List Row
+unnumbered put xs = map (λ a. Null ∷ put a) xs
 
 module _ {A : Type 0} (put : A → Row) (take : Row → A) (back : (v : Value) (a : A) → take (v ∷ put a) ≡ a) where
   have_ids : (rows : List Row) → IsRising put take rows → HaveIds rows
@@ -26,6 +31,14 @@ module _ {A : Type 0} (put : A → Row) (take : Row → A) (back : (v : Value) (
         subst (IsRising put take) (sym is) (record { typed = all-put_row _ row rows typed it.typed; rising = IsTable-put_row row rows it.rising }),
         ap (map take) (is ∙ added_last rows (put a) (have_ids rows it) it.rising) ∙ map-append take rows (row ∷ []) ∙ ap (λ b. map take rows ++ b ∷ []) (back (Int (next_rowid rows)) a),
       )
+
+  -- rows more, each behind those before it
+  pub all_grown : (rows : List Row) (xs : List A) → IsRising put take rows → IsRising put take (put_all rows (numbered Chosen rows (unnumbered put xs))) × (map take (put_all rows (numbered Chosen rows (unnumbered put xs))) ≡ map take rows ++ xs)
+  all_grown rows [] it = (it, sym (append-nil (map take rows)))
+  all_grown rows (x ∷ xs) it =
+      let one = grown rows (put_row (Int (next_rowid rows) ∷ put x) rows) x it refl in
+      let more = all_grown (put_row (Int (next_rowid rows) ∷ put x) rows) xs one.0 in
+      (more.0, more.1 ∙ ap (λ (ys : List A). ys ++ xs) one.1 ∙ append_assoc (map take rows) (x ∷ []) xs)
 
   -- without the rows that pass a test
   pub shrunk : (p : A → Bool) (rows new : List Row) (ids : List ℤ) → IsRising put take rows → IsPermutation (ids_in (filter (λ r. p (take r)) rows)) ids → new ≡ without_all rows ids

@@ -48,13 +48,14 @@ use Rattle.dip_store_sql.specs.Recorded.{IsRising, AtMostOne}
 use Rattle.dip_store_sql.specs.Queries.{passes, plain_query}
 use Rattle.dip_store_sql.proofs.Answered.{selected}
 use Rattle.dip_store_sql.proofs.Changes.{cast_int, cast_null}
+use Rattle.dip_store_sql.proofs.Edits.{unnumbered}
 use Rattle.dip_store_sql.specs.Causes.{Faulted, IsCaused}
 use Rattle.dip_store_sql.specs.Refusals.{IsWant}
 use Rattle.dip_store_sql.specs.Storing.{CanStandIn}
 use Rattle.dip_store_sql.proofs.Failing.{delete_refused, edits_rows, fails, insert_oversized, insert_refused, mode, update_oversized, update_refused}
 use Rattle.dip_store_sql.proofs.Passing.{AreKept}
 use Rattle.dip_store_sql.proofs.Told.{want_weaker}
-use Rattle.dip_store_sql.proofs.Wanting.{KeysApart, delete_wants, insert_wants, update_wants, whole_wants}
+use Rattle.dip_store_sql.proofs.Wanting.{KeysApart, delete_wants, insert_all_wants, insert_wants, update_wants, whole_wants}
 use Rattle.dip_store_sql.proofs.Faults.{none_any}
 use Rattle.dip_store_sql.proofs.Founding.{each_has}
 use Rattle.dip_store_sql.proofs.Places.{id_of}
@@ -119,15 +120,20 @@ module _ (schema : Schema) (at : ℕ) (table : Table) (listed : slice_get schema
     ]
   ]
 
-  pub insert_sane : (terms : List Term) (width : ℕ) → command_in (understood schema text) (Insert at (Values terms width)) → accepts_terms terms (stamped table params) ≡ true
-      → (a : A) → value_rows (stamped table params) width (length terms / width) terms ≡ (Null ∷ put a) ∷ []
-      → KeysApart put take back schema table casts rules old.now.trees it (map take (old.now.trees table.tree) ++ a ∷ []) → IsWant (Faulted old new) e
-  insert_sane terms width means accepts a are unique = elim (unmet (Insert at (Values terms width)) means refl refl) [
+  pub insert_all_sane : (terms : List Term) (width : ℕ) → command_in (understood schema text) (Insert at (Values terms width)) → accepts_terms terms (stamped table params) ≡ true
+      → (xs : List A) → value_rows (stamped table params) width (length terms / width) terms ≡ unnumbered put xs
+      → KeysApart put take back schema table casts rules old.now.trees it (map take (old.now.trees table.tree) ++ xs) → IsWant (Faulted old new) e
+  insert_all_sane terms width means accepts xs are unique = elim (unmet (Insert at (Values terms width)) means refl refl) [
     | inl w ↦ w
     | inr d ↦
         let r = insert_refused schema at table listed bare calm refers params old.now has d.0 terms width accepts e d.1 in
-        want_weaker ⊥ (Faulted old new) e (λ none. absurd none) (subst (IsWant ⊥) (sym r.2) (insert_wants put take back schema table casts rules old.now.trees it a _ are unique r.0 r.1))
+        want_weaker ⊥ (Faulted old new) e (λ none. absurd none) (subst (IsWant ⊥) (sym r.2) (insert_all_wants put take back schema table casts rules old.now.trees it xs _ are unique r.0 r.1))
   ]
+
+  pub insert_sane : (terms : List Term) (width : ℕ) → command_in (understood schema text) (Insert at (Values terms width)) → accepts_terms terms (stamped table params) ≡ true
+      → (a : A) → value_rows (stamped table params) width (length terms / width) terms ≡ (Null ∷ put a) ∷ []
+      → KeysApart put take back schema table casts rules old.now.trees it (map take (old.now.trees table.tree) ++ a ∷ []) → IsWant (Faulted old new) e
+  insert_sane terms width means accepts a = insert_all_sane terms width means accepts (a ∷ [])
 
   -- where the rows can stand, none is too long, and none lacks a number
   none_long : (edit : Edit) → AllByRecursion (CanStandIn schema table) edit.news → (row : Row) → Has edit.news row → IsOversized schema table row → ⊥

@@ -3,7 +3,7 @@ use Rattle.std.proofs.Common.{◌≡◌, ℕ, pos, List, [], ◌∷◌, Ok, refl
 use Rattle.sqlite.specs.declared.types.Value.TheVariants.{Int, Text as Words, Blob as Bytes}
 use Rattle.sqlite.specs.State.{State, Executes}
 use Rattle.dip_store_sql.proofs.Statements.{inserted, updated, deleted}
-use Rattle.dip_store_sql.proofs.Changes.{insert_is, delete_is, update_is}
+use Rattle.dip_store_sql.proofs.Changes.{insert_all_is, insert_is, delete_is, update_is}
 use Rattle.dip_store_sql.proofs.Whole.{whole_rising}
 use Rattle.dip_store_sql.specs.Schema.{our_schema, desk_table, game_table, seat_table, unit_table, centre_table, pending_table, box_table, paper_table, ballot_table, choice_table}
 use Rattle.dip_store_sql.specs.Asking.{by_one, by_two, by_first}
@@ -14,7 +14,7 @@ use Rattle.dip_store_tables.specs.Boards.{UnitRow, CentreRow}
 use Rattle.dip_store_tables.specs.Tables.{GameRow, PendingRow, BoxRow, PaperRow, BallotRow, ChoiceRow, is_ballot_in, is_choice_in, is_ballot, is_seat_in, is_unit_in, is_centre_in, is_pending_in, is_box_in, is_paper_in, is_named, is_seat, is_pending}
 use Rattle.dip_store_sql.specs.Rows.{tables_of, put_desk, take_desk, put_game, take_game, put_seat, take_seat, put_unit, take_unit, put_centre, take_centre, put_pending, take_pending, put_box, take_box, put_paper, take_paper, put_ballot, take_ballot, put_choice, take_choice}
 use Rattle.dip_store_sql.specs.Good.{IsGood}
-use Rattle.dip_store_sql.specs.TablesAfter.{is_first, on_desk, on_game, on_seat, on_seats, with_desk, with_game, with_seat, with_unit, with_centre, with_order, with_item, with_paper, with_ballot, with_choice, on_ballot, named, no_ballots, no_choices, no_seats, no_units, no_centres, no_pending, no_orders, no_items, no_papers, new_desk, new_seat, desk_with, seat_with, counting, secret_as, game_as}
+use Rattle.dip_store_sql.specs.TablesAfter.{order, is_first, on_desk, on_game, on_seat, on_seats, with_desk, with_game, with_seat, with_unit, with_centre, more_orders, with_item, with_paper, with_ballot, with_choice, on_ballot, named, no_ballots, no_choices, no_seats, no_units, no_centres, no_pending, no_orders, no_items, no_papers, new_desk, new_seat, desk_with, seat_with, counting, secret_as, game_as}
 use Rattle.dip_store_tables.specs.Renewing.{second, voteless}
 use Rattle.dip_store_sql.proofs.Turned.{desk_turned, game_turned, seat_turned, unit_turned, centre_turned, pending_turned, box_turned, paper_turned, ballot_turned, choice_turned}
 use Rattle.dip_store_sql.proofs.Casting.{cast_desk, cast_game, cast_seat, cast_unit, cast_centre, cast_pending, cast_box, cast_paper, cast_ballot, cast_choice}
@@ -47,10 +47,19 @@ module _ (old new : State) (count : ℕ) (good : IsGood old.now) where
       let e = inserted our_schema 4 centre_table refl refl (λ db. refl) (λ olds news. refl) text.add_centre_text means.add_centre.1 old new (put_centre c) count good.schema text.add_centre_values 4 (commanded _ _ means.add_centre.0) h in
       centre_turned old.now new.now good _ e _ refl (insert_is put_centre take_centre (λ v a. refl) centre_table cast_centre our_schema old.now new.now good.centres c _ refl e)
 
-  pub add_pending : (p : PendingRow) → Executes text.add_pending_text (put_pending p) old new (Ok count) → IsGood new.now × (tables_of new.now.trees ≡ with_order p (tables_of old.now.trees))
+  pub add_pending : (p : PendingRow) → Executes text.add_pending_text (put_pending p) old new (Ok count) → IsGood new.now × (tables_of new.now.trees ≡ more_orders (p ∷ []) (tables_of old.now.trees))
   add_pending p h =
       let e = inserted our_schema 5 pending_table refl refl (λ db. refl) (λ olds news. refl) text.add_pending_text means.add_pending.1 old new (put_pending p) count good.schema text.add_pending_values 5 (commanded _ _ means.add_pending.0) h in
       pending_turned old.now new.now good _ e _ refl (insert_is put_pending take_pending (λ v a. refl) pending_table cast_pending our_schema old.now new.now good.pending p _ refl e)
+
+  pub add_three_pending : (game power : List ℕ) (p q r : List ℕ × List ℕ)
+      → Executes text.add_three_pending_text (Words game ∷ Words power ∷ Words p.0 ∷ Words p.1 ∷ Words q.0 ∷ Words q.1 ∷ Words r.0 ∷ Words r.1 ∷ []) old new (Ok count)
+      → IsGood new.now × (tables_of new.now.trees ≡ more_orders (order game power p ∷ order game power q ∷ order game power r ∷ []) (tables_of old.now.trees))
+  add_three_pending game power p q r h =
+      let params = Words game ∷ Words power ∷ Words p.0 ∷ Words p.1 ∷ Words q.0 ∷ Words q.1 ∷ Words r.0 ∷ Words r.1 ∷ [] in
+      let e = inserted our_schema 5 pending_table refl refl (λ db. refl) (λ olds news. refl) text.add_three_pending_text means.add_three_pending.1 old new params count good.schema text.add_three_pending_values 5 (commanded _ _ means.add_three_pending.0) h in
+      pending_turned old.now new.now good _ e _ refl
+      (insert_all_is put_pending take_pending (λ v a. refl) pending_table cast_pending our_schema old.now new.now good.pending (order game power p ∷ order game power q ∷ order game power r ∷ []) _ refl e)
 
   pub add_item : (b : BoxRow) → Executes text.add_item_text (put_box b) old new (Ok count) → IsGood new.now × (tables_of new.now.trees ≡ with_item b (tables_of old.now.trees))
   add_item b h =

@@ -1,5 +1,5 @@
 -- Edits of records whose keys stay apart are refused for want of numbers alone.
-use Rattle.std.proofs.Common.{◌≡◌, inl, inr, ℤ, List, [], ◌∷◌, ◌++◌, map, filter, Bool, false, refl, sym, ap, ap₂, subst, ◌∙◌}
+use Rattle.std.proofs.Common.{◌≡◌, inl, inr, ℤ, List, [], ◌∷◌, ◌++◌, map, filter, Bool, false, refl, sym, ap, ap₂, subst, ◌∙◌, true}
 use Rattle.std.specs.List.{AllByRecursion}
 use Rattle.std.specs.List.Sorted.{IsPermutation}
 use Rattle.std.specs.Ordering.{is_eq}
@@ -13,7 +13,7 @@ use Rattle.sqlite.specs.Term.{Term, col, eval_all}
 use Rattle.sqlite.specs.Cast.{cast_all, cast_row}
 use Rattle.sqlite.specs.Table.{Table}
 use Rattle.sqlite.specs.Schema.{Schema}
-use Rattle.sqlite.specs.Edit.{edit_of, edited, IsRefused, next_rowid, with_rowid, put_all}
+use Rattle.sqlite.specs.Edit.{are_fresh, edit_of, edited, IsRefused, next_rowid, numbered, put_all}
 use Rattle.sqlite_rules.specs.Calls.{ids_of}
 use Rattle.sqlite_rules.specs.declared.error.Refusal.{Refusal}
 use Rattle.sqlite.specs.Rowids.TheVariants.{Chosen, Given}
@@ -26,12 +26,12 @@ use Rattle.dip_store_tables.specs.Lists.{update_where, delete_where}
 use Rattle.dip_store_tables.proofs.ListLemmas.{all_weaker, map-map, filter-map}
 use Rattle.dip_store_sql.specs.Recorded.{IsRising, AtMostOne}
 use Rattle.dip_store_sql.specs.Queries.{passes}
-use Rattle.dip_store_sql.proofs.Changes.{cast_int, cast_null, none_in, nothing_in, one_in}
-use Rattle.dip_store_sql.proofs.Edits.{grown, shrunk, renewed, not_renewed}
+use Rattle.dip_store_sql.proofs.Changes.{cast_int, each_cast, none_in, nothing_in, one_in}
+use Rattle.dip_store_sql.proofs.Edits.{all_grown, grown, shrunk, renewed, not_renewed, unnumbered}
 use Rattle.dip_store_sql.proofs.Finding.{passing}
 use Rattle.dip_store_sql.proofs.Places.{above_next, id_of, ids_in, of_found}
 use Rattle.dip_store_sql.specs.Refusals.{IsWant}
-use Rattle.dip_store_sql.proofs.Passing.{AreKept, fresh, no_record, not_taken, one_record, records}
+use Rattle.dip_store_sql.proofs.Passing.{AreKept, AreRecords, fresh, no_record, not_taken, one_record, records}
 use Rattle.dip_store_sql.proofs.Whole.{whole_fresh, whole_records, whole_rising}
 
 -- what is left behind a filter passes it
@@ -48,19 +48,35 @@ module _ {A : Type 0} (put : A → Row) (take : Row → A) (back : (v : Value) (
   abbrev pub KeysApart : List A → Type 0
   KeysApart xs = (rows : List Row) → IsRising put take rows → map take rows ≡ xs → Keeps Unique schema (with_tree db table.tree rows)
 
-  pub insert_wants : (a : A) (sources : List Row) → sources ≡ (Null ∷ put a) ∷ [] → KeysApart (map take (db table.tree) ++ a ∷ [])
-      → (why : Refusal) → IsRefused schema Enforced db (edit_of db table [] Chosen 0 sources) why → IsWant ⊥ (edit_error why)
-  insert_wants a sources are unique why h =
-      let rows = db table.tree in
-      let edit = edit_of db table [] Chosen 0 sources in
-      let row = Int (next_rowid rows) ∷ put a in
-      let cast : cast_row table (Null ∷ put a) ≡ Null ∷ put a = ap₂ ◌∷◌ cast_null (casts a) in
-      let news : edit.news ≡ row ∷ [] = ap (λ all. (edit_of db table [] Chosen 0 all).news) are ∙ ap (λ r. with_rowid Chosen rows r ∷ []) cast in
-      let same : edited db edit ≡ put_row row rows = ap (put_all rows) news in
+  -- records at numbers of their own
+  all_records : (rows : List Row) (xs : List A) → AreRecords put (numbered Chosen rows (unnumbered put xs))
+  all_records rows [] = tt
+  all_records rows (x ∷ xs) = ((Int (next_rowid rows), x, refl, refl), all_records (put_row (Int (next_rowid rows) ∷ put x) rows) xs)
+
+  -- each of which is above those before it
+  all_fresh : (rows : List Row) (xs : List A) → IsRising put take rows → are_fresh rows (numbered Chosen rows (unnumbered put xs)) ≡ true
+  all_fresh rows [] it = refl
+  all_fresh rows (x ∷ xs) it =
+      let row = Int (next_rowid rows) ∷ put x in
       let ids = all_weaker _ (λ r. rowid r ≡ Int (id_of r)) (λ r e. ap rowid e) rows it.typed in
       let above = all_weaker _ (λ r. is_eq (value_cmp (rowid r) (rowid row)) ≡ false) (λ r e. ap is_eq e) rows (above_next rows ids it.rising) in
-      let g = grown put take back rows (edited db edit) a it same in
-      one_record put take back schema table casts rules db edit (Int (next_rowid rows)) a refl news (fresh row rows (not_taken row rows above)) refl (unique (edited db edit) g.0 g.1) why h
+      let one = grown put take back rows (put_row row rows) x it refl in
+      rw (not_taken row rows above) (all_fresh (put_row row rows) xs one.0)
+
+  pub insert_all_wants : (xs : List A) (sources : List Row) → sources ≡ unnumbered put xs → KeysApart (map take (db table.tree) ++ xs)
+      → (why : Refusal) → IsRefused schema Enforced db (edit_of db table [] Chosen 0 sources) why → IsWant ⊥ (edit_error why)
+  insert_all_wants xs sources are unique why h =
+      let rows = db table.tree in
+      let edit = edit_of db table [] Chosen 0 sources in
+      let news : edit.news ≡ numbered Chosen rows (unnumbered put xs) = ap (numbered Chosen rows) (ap (map (λ s. cast_row table s)) are ∙ each_cast put table casts xs) in
+      let same : edited db edit ≡ put_all rows (numbered Chosen rows (unnumbered put xs)) = ap (put_all rows) news in
+      let more = all_grown put take back rows xs it in
+      records put take back schema table casts rules db edit refl (subst (AreRecords put) (sym news) (all_records rows xs)) (ap (are_fresh rows) news ∙ all_fresh rows xs it)
+      (unique (edited db edit) (subst (IsRising put take) (sym same) more.0) (ap (map take) same ∙ more.1)) why h
+
+  pub insert_wants : (a : A) (sources : List Row) → sources ≡ (Null ∷ put a) ∷ [] → KeysApart (map take (db table.tree) ++ a ∷ [])
+      → (why : Refusal) → IsRefused schema Enforced db (edit_of db table [] Chosen 0 sources) why → IsWant ⊥ (edit_error why)
+  insert_wants a = insert_all_wants (a ∷ [])
 
   module _ (params : Row) (tests : List Term) (p : A → Bool) (tells : (v : Value) (a : A) → passes tests params (v ∷ put a) ≡ p a) where
     same_rows : filter (passes tests params) (db table.tree) ≡ filter (λ r. p (take r)) (db table.tree)

@@ -23,7 +23,7 @@ use Rattle.dip_store_tables.specs.Tables.{GameRow, PendingRow, BoxRow, PaperRow,
 use Rattle.dip_store_sql.specs.Causes.{Faulted, IsCaused}
 use Rattle.dip_store_sql.specs.Good.{IsGood}
 use Rattle.dip_store_sql.specs.Rows.{tables_of, put_desk, take_desk, put_game, take_game, put_seat, take_seat, put_unit, take_unit, put_centre, take_centre, put_pending, take_pending, put_box, take_box, put_paper, take_paper, put_ballot, take_ballot, put_choice, take_choice}
-use Rattle.dip_store_sql.specs.TablesAfter.{is_first, new_desk, new_seat, desk_with, seat_with, named, counting, secret_as, game_as}
+use Rattle.dip_store_sql.specs.TablesAfter.{order, is_first, new_desk, new_seat, desk_with, seat_with, named, counting, secret_as, game_as}
 use Rattle.dip_store_tables.specs.Renewing.{second, voteless}
 use Rattle.dip_store_sql.proofs.Apart.{one_ballot, one_desk, one_game, one_seat}
 use Rattle.dip_store_sql.proofs.Casting.{cast_desk, cast_game, cast_seat, cast_unit, cast_centre, cast_pending, cast_box, cast_paper, cast_ballot, cast_choice}
@@ -35,7 +35,7 @@ use Rattle.dip_store_sql.proofs.Asked as asked
 use Rattle.dip_store_sql.proofs.First.{desk_fits}
 use Rattle.dip_store_sql.proofs.Keyed.{are_keyed}
 use Rattle.dip_store_sql.proofs.Ruled.{desk_rules, game_rules, seat_rules, unit_rules, centre_rules, pending_rules, box_rules, paper_rules, ballot_rules, choice_rules, desk_keyed, games_keyed, seats_keyed, units_keyed, centres_keyed, pending_keyed, boxes_keyed, papers_keyed, ballots_keyed, choices_keyed}
-use Rattle.dip_store_sql.proofs.Sane.{delete_sane, insert_first, insert_fits, insert_sane, update_fits, update_sane, whole_sane}
+use Rattle.dip_store_sql.proofs.Sane.{delete_sane, insert_all_sane, insert_first, insert_fits, insert_sane, update_fits, update_sane, whole_sane}
 use Rattle.dip_store_sql.proofs.Wanting.{update_wants, whole_wants}
 
 -- records that are left, or changed but for their key, still differ
@@ -112,6 +112,13 @@ module _ (old new : State) (good : IsGood old.now) (up : IsTrue old.is_open) (un
   add_pending p apart h =
       insert_sane our_schema 5 pending_table refl refl (λ db. refl) (λ olds news. refl) refers put_pending take_pending (λ v a. refl) cast_pending pending_rules text.add_pending_text means.add_pending.1 (put_pending p) asked.add_pending old new good.schema up unlimited good.pending e h
       text.add_pending_values 5 means.add_pending.0 refl (p) refl (λ rows it are. pending_keyed old.now.trees unique rows it (subst (Differ same_order) (sym are) (apart)))
+
+  pub add_three_pending : (game power : List ℕ) (p q r : List ℕ × List ℕ) → Differ same_order ((tables_of old.now.trees).pending ++ order game power p ∷ order game power q ∷ order game power r ∷ [])
+      → Executes text.add_three_pending_text (Words game ∷ Words power ∷ Words p.0 ∷ Words p.1 ∷ Words q.0 ∷ Words q.1 ∷ Words r.0 ∷ Words r.1 ∷ []) old new (Err e) → IsWant (Faulted old new) e
+  add_three_pending game power p q r apart h =
+      let params = Words game ∷ Words power ∷ Words p.0 ∷ Words p.1 ∷ Words q.0 ∷ Words q.1 ∷ Words r.0 ∷ Words r.1 ∷ [] in
+      insert_all_sane our_schema 5 pending_table refl refl (λ db. refl) (λ olds news. refl) refers put_pending take_pending (λ v a. refl) cast_pending pending_rules text.add_three_pending_text means.add_three_pending.1 params asked.add_three_pending old new good.schema up unlimited good.pending e h
+      text.add_three_pending_values 5 means.add_three_pending.0 refl (order game power p ∷ order game power q ∷ order game power r ∷ []) refl (λ rows it are. pending_keyed old.now.trees unique rows it (subst (Differ same_order) (sym are) (apart)))
 
   pub add_item : (b : BoxRow) → Differ same_item ((tables_of old.now.trees).boxes ++ b ∷ []) → Executes text.add_item_text (put_box b) old new (Err e) → IsWant (Faulted old new) e
   add_item b apart h =

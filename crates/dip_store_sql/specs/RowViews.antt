@@ -1,10 +1,13 @@
 -- What the rows that are handed over say, without where they lie in memory.
+use Rattle.std.specs.Prelude.{ℕ, List}
 use Rattle.dip_store_tables.specs.Boards as boards
 use Rattle.dip_store_tables.specs.Tables as tables
 use Rattle.dip_store_tables.specs.Writing.{number_of}
+use Rattle.dip_store_sql.specs.TablesAfter as after
 use Rattle.dip_store_sql.specs.TablesAfter.{desk_with, seat_with}
 use Rattle.dip_store_sql.specs.declared.rows.GameRow.{GameRow}
 use Rattle.dip_store_sql.specs.declared.rows.UnitRow.{UnitRow}
+use Rattle.dip_store_sql.specs.declared.rows.OrderRow.{OrderRow}
 use Rattle.dip_store_sql.specs.declared.rows.ItemRow.{ItemRow}
 use Rattle.dip_store_sql.specs.declared.rows.LastLetter.{LastLetter}
 use Rattle.dip_store_sql.specs.declared.rows.SeatRow.{SeatRow}
@@ -32,6 +35,10 @@ unit u = record {
   coast = u.coast.now;
   origin = u.origin.now;
 }
+
+-- an order of a seat, by its game and its power's name
+abbrev pub order : List ℕ → List ℕ → OrderRow → tables.PendingRow
+order game power o = after.order game power (o.province.now, o.line.now)
 
 abbrev pub item : ItemRow → tables.BoxRow
 item b = record {

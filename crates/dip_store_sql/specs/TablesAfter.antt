@@ -20,9 +20,6 @@ with_unit u t = record t { units = t.units ++ u ∷ [] }
 abbrev pub with_centre : CentreRow → Tables → Tables
 with_centre c t = record t { centres = t.centres ++ c ∷ [] }
 
-abbrev pub with_order : PendingRow → Tables → Tables
-with_order p t = record t { pending = t.pending ++ p ∷ [] }
-
 abbrev pub with_item : BoxRow → Tables → Tables
 with_item b t = record t { boxes = t.boxes ++ b ∷ [] }
 
@@ -34,6 +31,13 @@ with_ballot b t = record t { ballots = t.ballots ++ b ∷ [] }
 
 abbrev pub with_choice : ChoiceRow → Tables → Tables
 with_choice c t = record t { choices = t.choices ++ c ∷ [] }
+
+-- an order of a seat, by its province and its line; and orders behind the others
+abbrev pub order : List ℕ → List ℕ → (List ℕ × List ℕ) → PendingRow
+order game power o = record { game = game; power = power; province = o.0; line = o.1 }
+
+abbrev pub more_orders : List PendingRow → Tables → Tables
+more_orders ps t = record t { pending = t.pending ++ ps }
 
 -- none of a game, or of a seat
 abbrev pub no_seats : List ℕ → Tables → Tables

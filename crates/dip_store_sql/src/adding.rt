@@ -1,7 +1,7 @@
 //! Rows behind the others of their tables.
-ghost use Rattle.std.specs.Prelude.{◌≡◌, ◌<◌, ◌^◌, [], length};
+ghost use Rattle.std.specs.Prelude.{◌≡◌, ◌<◌, ◌^◌, [], ◌∷◌, length};
 ghost use Rattle.sqlite.specs.Held.{state};
-ghost use Rattle.dip_store_sql.specs.TablesAfter.{new_desk, new_seat, with_centre, with_desk, with_game, with_item, with_order, with_ballot, with_choice, with_paper, with_seat, with_unit};
+ghost use Rattle.dip_store_sql.specs.TablesAfter.{new_desk, new_seat, with_centre, with_desk, with_game, with_item, more_orders, with_ballot, with_choice, with_paper, with_seat, with_unit};
 ghost use Rattle.dip_store_sql.specs.Keys.{BallotsDiffer, CentresDiffer, ChoicesDiffer, DesksDiffer, Differ, GamesDiffer, ItemsDiffer, OrdersDiffer, PapersDiffer, SeatsDiffer, UnitsDiffer, same_ballot, same_choice};
 ghost use Rattle.dip_store_sql.specs.Rows.{put_ballot, put_choice};
 ghost use Rattle.dip_store_sql.specs.Schema.{ballot_table, choice_table};
@@ -10,7 +10,7 @@ ghost use Rattle.dip_store_sql.specs.Transactions.{Does, FailsOutside};
 ghost use Rattle.dip_store_sql.specs.RowViews as rows;
 ghost use Rattle.dip_store_tables.specs.Writing.{choice_row};
 
-use crate::rows::{GameRow, ItemRow, UnitRow};
+use crate::rows::{GameRow, ItemRow, OrderRow, UnitRow};
 use crate::ticks::tick_of;
 use sqlite::types::ToSql;
 use sqlite::{Alter, Error, Transaction, params};
@@ -118,18 +118,44 @@ pub fn add_pending<S: Alter>(
     tx: &mut Transaction<'_, S>,
     game: &str,
     power: &str,
-    province: &str,
-    line: &str,
+    order: &OrderRow<'_>,
 ) -> Result<usize, Error>
     ensures same_reference { tx.new.conn.ghost_name ≡ tx.old.conn.ghost_name }
-    ensures does { Does
-        (with_order
-        (record { game = game.now; power = power.now; province = province.now; line = line.now }))
-        OrdersDiffer (state S.Store tx.old.conn.now) (state S.Store tx.new.conn.now) result }
+    ensures does { Does (more_orders (rows.order game.now power.now order.now ∷ [])) OrdersDiffer
+        (state S.Store tx.old.conn.now) (state S.Store tx.new.conn.now) result }
 {
     tx.execute(
         "INSERT INTO pending (game, power, province, line) VALUES (?1, ?2, ?3, ?4)",
-        params![game, power, province, line],
+        params![game, power, order.province, order.line],
+    )
+}
+
+/// Three standing orders of a seat, one behind the other.
+pub fn add_three_pending<S: Alter>(
+    tx: &mut Transaction<'_, S>,
+    game: &str,
+    power: &str,
+    one: &OrderRow<'_>,
+    other: &OrderRow<'_>,
+    third: &OrderRow<'_>,
+) -> Result<usize, Error>
+    ensures same_reference { tx.new.conn.ghost_name ≡ tx.old.conn.ghost_name }
+    ensures does { Does (more_orders (rows.order game.now power.now one.now
+        ∷ rows.order game.now power.now other.now ∷ rows.order game.now power.now third.now ∷ []))
+        OrdersDiffer (state S.Store tx.old.conn.now) (state S.Store tx.new.conn.now) result }
+{
+    tx.execute(
+        "INSERT INTO pending (game, power, province, line) VALUES (?1, ?2, ?3, ?4), (?1, ?2, ?5, ?6), (?1, ?2, ?7, ?8)",
+        params![
+            game,
+            power,
+            one.province,
+            one.line,
+            other.province,
+            other.line,
+            third.province,
+            third.line
+        ],
     )
 }
 

@@ -12,7 +12,7 @@ mod ticks;
 
 pub use adding::{
     add_ballot, add_centre, add_choice, add_desk, add_game, add_item, add_paper, add_pending,
-    add_seat, add_unit,
+    add_seat, add_three_pending, add_unit,
 };
 pub use dropping::{
     drop_ballots, drop_centres, drop_choices, drop_items, drop_orders, drop_papers, drop_pending,
@@ -26,4 +26,4 @@ pub use noting::{
     clear_votes, count_item, note_ballot, note_desk, renew_game, renew_seat, replace_digest,
     set_version,
 };
-pub use rows::{GameRow, ItemRow, LastLetter, SeatRow, UnitRow};
+pub use rows::{GameRow, ItemRow, LastLetter, OrderRow, SeatRow, UnitRow};

@@ -26,6 +26,13 @@ pub struct UnitRow<'a> {
     pub origin: &'a str,
 }
 
+/// A standing order of a seat: its unit's province, and its line.
+#[derive(Drop)]
+pub struct OrderRow<'a> {
+    pub province: &'a str,
+    pub line: &'a str,
+}
+
 /// An item of a seat's inbox.
 #[derive(Drop)]
 pub struct ItemRow<'a> {

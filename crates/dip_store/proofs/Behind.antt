@@ -29,7 +29,7 @@ pub has_own : (s : State) (name : List ℕ) (power : ℕ) (o : Own) → own_at n
 has_own s name power o h = subst (λ (p : ℕ). own_at name p s ≡ Some o) (sym (own_power s name power o h)) h
 
 -- a letter leaves a seat its power
-keeps_power : (k : Kept) (e : Effect) (x : Part) → power_in (with_letter k e x) ≡ power_in x
+pub keeps_power : (k : Kept) (e : Effect) (x : Part) → power_in (with_letter k e x) ≡ power_in x
 keeps_power k Nothing x = refl
 keeps_power k (Pending orders) x = refl
 keeps_power k (Votes vote) x = refl

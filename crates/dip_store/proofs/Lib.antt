@@ -17,6 +17,7 @@ pub mod Named
 pub mod Behind
 pub mod Seeing
 pub mod Owning
+pub mod Idling
 pub mod Made
 pub mod Opened
 pub mod Outside

@@ -17,6 +17,7 @@ use Rattle.dip_store_sql.specs.Causes.{has_faulted}
 use Rattle.dip_store_sql.specs.Rows.{tables_of}
 use Rattle.dip_store_sql.proofs.Parts.{fails, went}
 use Rattle.dip_store.specs.Faults.{look_fault}
+use Rattle.dip_store.specs.Idle.{Idle, RecallsIdle}
 use Rattle.dip_store.specs.Owns.{Owns, RecallsOwns}
 use Rattle.dip_store.specs.Seen.{Parts, Recalls}
 use Rattle.dip_store.specs.Stored.{book, said_by, telling}
@@ -25,21 +26,22 @@ use Rattle.dip_store.proofs.Outside.{look_blamed, look_outside}
 
 module _ {S : Type 0} (g : Ghosts S) (m : Chart) (k : SqlKeeper S) (c : Held S) where
   -- what is remembered is what the rows say
-  abbrev Remembers : Parts → Owns → Type 0
-  Remembers seen owns = Recalls (said_by m (state g k.conn).now.trees) seen × RecallsOwns (said_by m (state g k.conn).now.trees) owns
+  abbrev Remembers : Parts → Owns → Idle → Type 0
+  Remembers seen owns idle = Recalls (said_by m (state g k.conn).now.trees) seen × RecallsOwns (said_by m (state g k.conn).now.trees) owns × RecallsIdle (said_by m (state g k.conn).now.trees) idle
 
   abbrev Kept : Type 0
-  Kept = IsKept g k.conn × AreOurs m (tables_in g k.conn) × Recalls (said_by m (state g k.conn).now.trees) k.seen × RecallsOwns (said_by m (state g k.conn).now.trees) k.owns
+  Kept = IsKept g k.conn × AreOurs m (tables_in g k.conn) × Recalls (said_by m (state g k.conn).now.trees) k.seen × RecallsOwns (said_by m (state g k.conn).now.trees) k.owns × RecallsIdle (said_by m (state g k.conn).now.trees) k.idle
 
   module _ {X E : Type 0} (r : Result X E) (p : Selects g k.conn c r) (kept : Kept) where
-    sound_on : (seen : Parts) (owns : Owns) → Remembers seen owns → does_show g c
-        → IsKept g c × AreOurs m (tables_in g c) × Recalls (said_by m (state g c).now.trees) seen × RecallsOwns (said_by m (state g c).now.trees) owns
-    sound_on seen owns recalls shows =
+    sound_on : (seen : Parts) (owns : Owns) (idle : Idle) → Remembers seen owns idle → does_show g c
+        → IsKept g c × AreOurs m (tables_in g c) × Recalls (said_by m (state g c).now.trees) seen × RecallsOwns (said_by m (state g c).now.trees) owns × RecallsIdle (said_by m (state g c).now.trees) idle
+    sound_on seen owns idle recalls shows =
         let same = sym (p.same kept.0 shows) in (
           p.kept kept.0 shows,
           subst (λ (d : Database). AreOurs m (tables_of d.trees)) same kept.1,
           subst (λ (d : Database). Recalls (said_by m d.trees) seen) same recalls.0,
           subst (λ (d : Database). RecallsOwns (said_by m d.trees) owns) same recalls.1,
+          subst (λ (d : Database). RecallsIdle (said_by m d.trees) idle) same recalls.2,
         )
 
     same_on : does_show g c → said_by m (state g c).now.trees ≡ said_by m (state g k.conn).now.trees
@@ -49,23 +51,23 @@ module _ {S : Type 0} (g : Ghosts S) (m : Chart) (k : SqlKeeper S) (c : Held S) 
     left_on clean s may = (may.0, p.left kept.0 clean may.0 may.1, may.2)
 
   -- what went well, and of which something is remembered
-  pub looks_learned : (X E : Type 0) (x : X) (Value : X → Type 0) (seen : Parts) (owns : Owns) → Selects g k.conn c (went X E x) → (IsKept g k.conn → AreOurs m (tables_in g k.conn) → is_honest g c → Value x)
-      → (Remembers k.seen k.owns → Value x → Remembers seen owns)
-      → Looks m (book g) k (record k { conn = c; seen = seen; owns = owns }) Value ⊥ (went X KeepFault x)
-  looks_learned X E x Value seen owns p value learns = record {
+  pub looks_learned : (X E : Type 0) (x : X) (Value : X → Type 0) (seen : Parts) (owns : Owns) (idle : Idle) → Selects g k.conn c (went X E x) → (Kept → is_honest g c → Value x)
+      → (Remembers k.seen k.owns k.idle → Value x → Remembers seen owns idle)
+      → Looks m (book g) k (record k { conn = c; seen = seen; owns = owns; idle = idle }) Value ⊥ (went X KeepFault x)
+  looks_learned X E x Value seen owns idle p value learns = record {
     keeps = record {
       count = refl;
       told = p.counts;
       of_size = omega arith;
       fair = p.fair;
       shown = p.shown;
-      sound = λ kept shows. sound_on (went X E x) p kept seen owns (learns (kept.2, kept.3) (value kept.0 kept.1 shows.0)) shows;
-      firm = λ kept clean. sound_on (went X E x) p kept seen owns (learns (kept.2, kept.3) (value kept.0 kept.1 clean)) (p.ok kept.0 clean);
+      sound = λ kept shows. sound_on (went X E x) p kept seen owns idle (learns (kept.2, kept.3, kept.4) (value kept shows.0)) shows;
+      firm = λ kept clean. sound_on (went X E x) p kept seen owns idle (learns (kept.2, kept.3, kept.4) (value kept clean)) (p.ok kept.0 clean);
       stays_open = λ kept clean shows. p.ok kept.0 clean;
       shuts = p.closes;
       again = λ kept clean shows takes db may. takes db (p.left kept.0 clean db may);
     };
-    value = λ kept shows. value kept.0 kept.1 shows.0;
+    value = λ kept shows. value kept shows.0;
     damaged = λ kept clean shows is. absurd (cc);
     failed = λ kept clean shows is. absurd (cc);
     same = same_on (went X E x) p;
@@ -75,7 +77,7 @@ module _ {S : Type 0} (g : Ghosts S) (m : Chart) (k : SqlKeeper S) (c : Held S) 
   -- what went well
   pub looks_well : (X E : Type 0) (x : X) (Value : X → Type 0) → Selects g k.conn c (went X E x) → (IsKept g k.conn → AreOurs m (tables_in g k.conn) → is_honest g c → Value x)
       → Looks m (book g) k (record k { conn = c }) Value ⊥ (went X KeepFault x)
-  looks_well X E x Value p value = looks_learned X E x Value k.seen k.owns p value (λ recalls is. recalls)
+  looks_well X E x Value p value = looks_learned X E x Value k.seen k.owns k.idle p (λ kept. value kept.0 kept.1) (λ recalls is. recalls)
 
   -- what failed, by the fault that is told of it
   looks_told : (X Y E : Type 0) (e : E) (f : KeepFault) (n : ℕ) (Value : X → Type 0) → Selects g k.conn c (fails Y E e) → n ≡ faults_with f k.failures → (Kept → is_honest g c → does_show g k.conn → f ≡ Damaged → ⊥) → (Kept → is_honest g c → does_show g k.conn → f ≡ Disk → has_faulted g k.conn c)
@@ -87,7 +89,7 @@ module _ {S : Type 0} (g : Ghosts S) (m : Chart) (k : SqlKeeper S) (c : Held S) 
       of_size = omega arith;
       fair = p.fair;
       shown = p.shown;
-      sound = λ kept. sound_on (fails Y E e) p kept k.seen k.owns (kept.2, kept.3);
+      sound = λ kept. sound_on (fails Y E e) p kept k.seen k.owns k.idle (kept.2, kept.3, kept.4);
       firm = λ kept clean. tt;
       stays_open = λ kept clean shows. tt;
       shuts = p.closes;
@@ -116,7 +118,7 @@ module _ {S : Type 0} (g : Ghosts S) (m : Chart) (k : SqlKeeper S) (c : Held S) 
 
 -- what is remembered is what the rows say, and they aren't asked
 module _ {S : Type 0} (g : Ghosts S) (m : Chart) (k : SqlKeeper S) where
-  pub looks_recalled : (X : Type 0) (x : X) (Value : X → Type 0) → (Recalls (said_by m (state g k.conn).now.trees) k.seen × RecallsOwns (said_by m (state g k.conn).now.trees) k.owns → Value x)
+  pub looks_recalled : (X : Type 0) (x : X) (Value : X → Type 0) → (Recalls (said_by m (state g k.conn).now.trees) k.seen × RecallsOwns (said_by m (state g k.conn).now.trees) k.owns × RecallsIdle (said_by m (state g k.conn).now.trees) k.idle → Value x)
       → Looks m (book g) k k Value ⊥ (went X KeepFault x)
   looks_recalled X x Value value = record {
     keeps = record {
@@ -131,7 +133,7 @@ module _ {S : Type 0} (g : Ghosts S) (m : Chart) (k : SqlKeeper S) where
       shuts = λ clean shows. inl shows;
       again = λ kept clean shows takes. takes;
     };
-    value = λ kept shows. value (kept.2, kept.3);
+    value = λ kept shows. value (kept.2, kept.3, kept.4);
     damaged = λ kept clean shows is. absurd (cc);
     failed = λ kept clean shows is. absurd (cc);
     same = λ kept shows. refl;

@@ -36,6 +36,7 @@ use Rattle.dip_desk_state.specs.Writable.{IsAuthorOf}
 use Rattle.dip_store_tables.specs.Looking.{OwnIsFound}
 use Rattle.dip_store_changes.specs.Knowing.{IsKeptFor, IsKnown, IsUnordered, is_unordered, row_known}
 use Rattle.dip_store_changes.specs.declared.known.KnownAuthor.{KnownAuthor}
+use Rattle.dip_store.specs.Idle.{Idle, RecallsIdle}
 use Rattle.dip_store.specs.Owns.{Owns, RecallsOwns, known_among, owns_of}
 use Rattle.dip_store.proofs.Owning.{known_of}
 use Rattle.dip_store.specs.Seen.{DifferByName, Parts, Recalls}
@@ -69,7 +70,7 @@ module _ {S : Type 0} (g : Ghosts S) (m : Chart) (k : SqlKeeper S) (c : Change) 
   Settled = (s : S) (db : Trees) → IsTrue (g.view s).is_open → g.recovers s db → db ≡ (g.view s).committed
 
   abbrev Keeps : Type 0
-  Keeps = IsKept g k.conn × AreOurs m (tables_in g k.conn) × Recalls (said_by m (state g k.conn).now.trees) k.seen × RecallsOwns (said_by m (state g k.conn).now.trees) k.owns
+  Keeps = IsKept g k.conn × AreOurs m (tables_in g k.conn) × Recalls (said_by m (state g k.conn).now.trees) k.seen × RecallsOwns (said_by m (state g k.conn).now.trees) k.owns × RecallsIdle (said_by m (state g k.conn).now.trees) k.idle
 
   -- what is known of the author is what the tables have of it
   pub knows : OwnIsFound m → IsAuthorOf m c.author → (known : Option KnownAuthor) → known ≡ known_among c.author (owns_of c.game k.owns) → Keeps → IsKeptFor g known m c k.conn
@@ -77,7 +78,7 @@ module _ {S : Type 0} (g : Ghosts S) (m : Chart) (k : SqlKeeper S) (c : Change) 
       let t = tables_in g k.conn in
       (keeps.0, subst (λ (x : Option KnownAuthor). IsKnown (row_known x) m c.author c.game t.seats × IsUnordered (is_unordered x) m c.author c.game t.pending) (sym is) (known_of m c.author c.game t k.owns law keeps.1.coded author keeps.3))
 
-  module _ (new : Held S) (law : ChangesAreMade m) (fits : IsWritable m c) (wide : HasWidths c) (seen : Parts) (heeds : Heeds c k.seen seen) (owns : Owns) where
+  module _ (new : Held S) (law : ChangesAreMade m) (fits : IsWritable m c) (wide : HasWidths c) (seen : Parts) (heeds : Heeds c k.seen seen) (owns : Owns) (idle : Idle) where
     is_made : (kept : Keeps) → IsGood (state g new).now → tables_in g new ≡ changing m c (tables_in g k.conn) → IsMade m c (tables_in g k.conn) (tables_in g new)
     is_made kept good is = law c (state g k.conn).now (state g new).now fits kept.0.good good is
 
@@ -107,9 +108,10 @@ module _ {S : Type 0} (g : Ghosts S) (m : Chart) (k : SqlKeeper S) (c : Change) 
     pub changes_well : (X E : Type 0) (x : X) → HasTexts c → TablesStayLegible m → MakesFrom Keeps g (changing m c) k.conn new (went X E x) → (Keeps → does_show g new → IsKept g new)
         → (Keeps → does_show g new → HasPlace m c (tables_in g k.conn))
         → ((s : State) → RecallsOwns s k.owns → RecallsOwns (state_after c s) owns)
+        → ((s : State) → RecallsIdle s k.idle → DifferByName (state_after c s).games → RecallsIdle (state_after c s) idle)
         → (later : Parts) → ((s : State) → Recalls s k.seen → Recalls (state_after c s) seen → DifferByName (state_after c s).games → Recalls (state_after c s) later)
-        → Changes m (book g) k (record k { conn = new; seen = later; owns = owns }) (state_after c) (Fits m c) (went X KeepFault x)
-    changes_well X E x texts stay p stays place follows later notes = record {
+        → Changes m (book g) k (record k { conn = new; seen = later; owns = owns; idle = idle }) (state_after c) (Fits m c) (went X KeepFault x)
+    changes_well X E x texts stay p stays place follows stills later notes = record {
       keeps = record {
         count = refl;
         told = p.counts;
@@ -134,7 +136,7 @@ module _ {S : Type 0} (g : Ghosts S) (m : Chart) (k : SqlKeeper S) (c : Change) 
     }
       where
         sound : Keeps → does_show g new
-            → IsKept g new × AreOurs m (tables_in g new) × Recalls (said_by m (state g new).now.trees) later × RecallsOwns (said_by m (state g new).now.trees) owns
+            → IsKept g new × AreOurs m (tables_in g new) × Recalls (said_by m (state g new).now.trees) later × RecallsOwns (said_by m (state g new).now.trees) owns × RecallsIdle (said_by m (state g new).now.trees) idle
         sound kept shows =
             let is = p.done kept shows in
             let before = said_by m (state g k.conn).now.trees in
@@ -144,6 +146,7 @@ module _ {S : Type 0} (g : Ghosts S) (m : Chart) (k : SqlKeeper S) (c : Change) 
               ours kept texts stay (place kept shows) is.0.good is.1,
               subst (λ (s : State). Recalls s later) (sym behind) (notes before kept.2 (heeds before kept.2).1 apart),
               subst (λ (s : State). RecallsOwns s owns) (sym behind) (follows before kept.3),
+              subst (λ (s : State). RecallsIdle s idle) (sym behind) (stills before kept.4 apart),
             )
 
     -- what a crash may leave of a change that isn't made can be opened again
@@ -164,12 +167,12 @@ module _ {S : Type 0} (g : Ghosts S) (m : Chart) (k : SqlKeeper S) (c : Change) 
 
     -- what is remembered where a change isn't made
     abbrev StaysRemembered : Type 0
-    StaysRemembered = (s : State) → RecallsOwns s k.owns → RecallsOwns s owns
+    StaysRemembered = (s : State) → (RecallsOwns s k.owns → RecallsOwns s owns) × (RecallsIdle s k.idle → RecallsIdle s idle)
 
     changes_told : (X Y E : Type 0) (e : E) (f : KeepFault) (n z : ℕ) → StaysRemembered → HasTexts c → TablesStayLegible m → TablesStayCounted m → LandsWell → Settled → MakesFrom Keeps g (changing m c) k.conn new (fails Y E e) → n ≡ faults_with f k.failures → k.of_size ≤ z
         → (Keeps → is_honest g new → does_show g k.conn → Fits m c (said_by m (state g k.conn).now.trees) → f ≡ Damaged → ⊥)
         → (Keeps → is_honest g new → does_show g k.conn → f ≡ Disk → has_faulted g k.conn new ⊎ Rises k.of_size z)
-        → Changes m (book g) k (record k { conn = new; failures = n; of_size = z; seen = seen; owns = owns }) (state_after c) (Fits m c) (fails X KeepFault f)
+        → Changes m (book g) k (record k { conn = new; failures = n; of_size = z; seen = seen; owns = owns; idle = idle }) (state_after c) (Fits m c) (fails X KeepFault f)
     changes_told X Y E e f n z remembered texts legible counted lands_well settled p count sizes never caused = record {
       keeps = record {
         count = count;
@@ -182,7 +185,8 @@ module _ {S : Type 0} (g : Ghosts S) (m : Chart) (k : SqlKeeper S) (c : Change) 
               is.0,
               subst (λ (d : Database). AreOurs m (tables_of d.trees)) (sym is.1) kept.1,
               subst (λ (d : Database). Recalls (said_by m d.trees) seen) (sym is.1) (heeds (said_by m (state g k.conn).now.trees) kept.2).0,
-              subst (λ (d : Database). RecallsOwns (said_by m d.trees) owns) (sym is.1) (remembered (said_by m (state g k.conn).now.trees) kept.3),
+              subst (λ (d : Database). RecallsOwns (said_by m d.trees) owns) (sym is.1) ((remembered (said_by m (state g k.conn).now.trees)).0 kept.3),
+              subst (λ (d : Database). RecallsIdle (said_by m d.trees) idle) (sym is.1) ((remembered (said_by m (state g k.conn).now.trees)).1 kept.4),
             );
         firm = λ kept clean. tt;
         stays_open = λ kept clean shows. tt;
@@ -210,12 +214,12 @@ module _ {S : Type 0} (g : Ghosts S) (m : Chart) (k : SqlKeeper S) (c : Change) 
     changes_counted : (X Y E : Type 0) (e : E) (f : KeepFault) (b : Bool) → StaysRemembered → HasTexts c → TablesStayLegible m → TablesStayCounted m → LandsWell → Settled → MakesFrom Keeps g (changing m c) k.conn new (fails Y E e)
         → (Keeps → is_honest g new → does_show g k.conn → Fits m c (said_by m (state g k.conn).now.trees) → f ≡ Damaged → ⊥)
         → (Keeps → is_honest g new → does_show g k.conn → f ≡ Disk → has_faulted g k.conn new ⊎ (b ≡ true))
-        → Changes m (book g) k (telling f (sizing b (record k { conn = new; seen = seen; owns = owns }))) (state_after c) (Fits m c) (fails X KeepFault f)
+        → Changes m (book g) k (telling f (sizing b (record k { conn = new; seen = seen; owns = owns; idle = idle }))) (state_after c) (Fits m c) (fails X KeepFault f)
     changes_counted X Y E e f b remembered texts legible counted lands settled p never caused = by f never (λ kept clean shows is. size_rose (has_faulted g k.conn new) b k.of_size (caused kept clean shows is))
       where
         by : (f : KeepFault) → (Keeps → is_honest g new → does_show g k.conn → Fits m c (said_by m (state g k.conn).now.trees) → f ≡ Damaged → ⊥)
             → (Keeps → is_honest g new → does_show g k.conn → f ≡ Disk → has_faulted g k.conn new ⊎ Rises k.of_size (sized b k.of_size))
-            → Changes m (book g) k (telling f (sizing b (record k { conn = new; seen = seen; owns = owns }))) (state_after c) (Fits m c) (fails X KeepFault f)
+            → Changes m (book g) k (telling f (sizing b (record k { conn = new; seen = seen; owns = owns; idle = idle }))) (state_after c) (Fits m c) (fails X KeepFault f)
         by Memory never rose = changes_told X Y E e Memory k.failures (sized b k.of_size) remembered texts legible counted lands settled p refl (size_counts b k.of_size) never rose
         by Disk never rose = changes_told X Y E e Disk (k.failures + 1) (sized b k.of_size) remembered texts legible counted lands settled p refl (size_counts b k.of_size) never rose
         by Damaged never rose = changes_told X Y E e Damaged k.failures (sized b k.of_size) remembered texts legible counted lands settled p refl (size_counts b k.of_size) never rose
@@ -224,7 +228,7 @@ module _ {S : Type 0} (g : Ghosts S) (m : Chart) (k : SqlKeeper S) (c : Change) 
     pub changes_ill : (X Y : Type 0) (e : MakeFault) → StaysRemembered → HasTexts c → TablesStayLegible m → TablesStayCounted m → LandsWell → Settled → WhatFitsFindsPlace m → MakesFrom Keeps g (changing m c) k.conn new (fails Y MakeFault e)
         → (Keeps → does_show g k.conn → is_honest g new → MayMake m c (tables_in g k.conn) → FailsFor (has_faulted g k.conn new) (HasPlace m c (tables_in g k.conn) → ⊥) e)
         → (Keeps → does_show g k.conn → is_honest g new → AreOurs m (tables_in g k.conn) → BlamesFor (has_faulted g k.conn new) e)
-        → Changes m (book g) k (telling (make_fault e) (sizing (is_of_size e) (record k { conn = new; seen = seen; owns = owns }))) (state_after c) (Fits m c) (fails X KeepFault (make_fault e))
+        → Changes m (book g) k (telling (make_fault e) (sizing (is_of_size e) (record k { conn = new; seen = seen; owns = owns; idle = idle }))) (state_after c) (Fits m c) (fails X KeepFault (make_fault e))
     changes_ill X Y e remembered texts legible counted lands settled finds p why blames = changes_counted X Y MakeFault e (make_fault e) (is_of_size e) remembered texts legible counted lands settled p (λ kept clean shows fit.
         let place = placed kept fit in
         make_outside (has_faulted g k.conn new) (HasPlace m c (tables_in g k.conn) → ⊥) e (why kept shows clean (record { ours = kept.1; keyed = place.keyed })) (λ none. none (record { paper = place.paper; room = place.room })))

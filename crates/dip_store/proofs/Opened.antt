@@ -20,6 +20,7 @@ use Rattle.dip_store_sql.specs.Schema.{our_schema}
 use Rattle.dip_store.specs.Founding.{Keeps}
 use Rattle.dip_store.specs.Known.{has_table, HasOldTables, HasOurTables, IsOfVersion1}
 use Rattle.dip_store.proofs.Ours.{ours_has_ballots}
+use Rattle.dip_store.proofs.Idling.{recalls_no_idle}
 use Rattle.dip_store.proofs.Owning.{recalls_no_owns}
 use Rattle.dip_store.proofs.Seeing.{recalls_none}
 use Rattle.std.proofs.lemmas.Bool.{false≢true}
@@ -82,7 +83,7 @@ module _ {S : Type 0} (g : Ghosts S) (m : Chart) (alloc : Global) (conn : Held S
   opens_kept s kept ours says shows = record {
     none = refl;
     shows = shows;
-    sound = (kept, ours, recalls_none (said_by m (state g conn).now.trees), recalls_no_owns (said_by m (state g conn).now.trees));
+    sound = (kept, ours, recalls_none (said_by m (state g conn).now.trees), recalls_no_owns (said_by m (state g conn).now.trees), recalls_no_idle (said_by m (state g conn).now.trees));
     says = says;
     only = λ left may. may.2 ∙ ap (said_by m) (there_now kept shows may.0 may.1) ∙ says;
     again = λ db may. ((state g conn).now, sym (there_now kept shows db may), record { good = kept.good; counted = kept.counted; ours = ours });

@@ -175,7 +175,7 @@ last_has P [] x all = all.0
 last_has P (y ∷ ys) x all = last_has P ys x all.1
 
 -- where no two records have one key, the last is found at its own
-at_last : {K A : Type 0} (eq : K → K → Bool) (key : A → K) (xs : List A) (x : A) → Tells eq → IsAscending (λ a b. eq (key a) (key b) ≡ false) (xs ++ x ∷ []) → at eq key (key x) (xs ++ x ∷ []) ≡ Some x
+pub at_last : {K A : Type 0} (eq : K → K → Bool) (key : A → K) (xs : List A) (x : A) → Tells eq → IsAscending (λ a b. eq (key a) (key b) ≡ false) (xs ++ x ∷ []) → at eq key (key x) (xs ++ x ∷ []) ≡ Some x
 at_last eq key [] x tells apart = rw (tells.self (key x)) refl
 at_last eq key (y ∷ ys) x tells apart = rw (last_has (λ b. eq (key y) (key b) ≡ false) ys x apart.0) (at_last eq key ys x tells apart.1)
 

@@ -11,6 +11,7 @@ pub mod Renewing
 pub mod Rewriting
 pub mod Seen
 pub mod Owns
+pub mod Idle
 pub mod Stored
 pub mod Papers
 pub use Rattle.dip_store_sql.specs.Calls

@@ -16,6 +16,7 @@ use Rattle.dip_store_tables.specs.Reading.{state_of}
 use Rattle.dip_store_sql.specs.Calls.{IsKept, is_honest, does_show, tables_in}
 use Rattle.dip_store_sql.specs.Good.{IsGood}
 use Rattle.dip_store_sql.specs.Rows.{tables_of}
+use Rattle.dip_store.specs.Idle.{RecallsIdle}
 use Rattle.dip_store.specs.Owns.{RecallsOwns}
 use Rattle.dip_store.specs.Seen.{Recalls}
 use Rattle.dip_store.specs.declared.keeper.SqlKeeper.{SqlKeeper}
@@ -26,7 +27,7 @@ said_by m db = state_of m (tables_of db)
 
 -- a keeper of a connection's rows that has told of no fault and remembers nothing
 abbrev pub fresh_keeper : {S : Type 0} → Global → Held S → SqlKeeper S
-fresh_keeper alloc conn = record { alloc = alloc; conn = conn; failures = 0; of_size = 0; seen = []; owns = [] }
+fresh_keeper alloc conn = record { alloc = alloc; conn = conn; failures = 0; of_size = 0; seen = []; owns = []; idle = [] }
 
 -- a keeper that has told a fault
 abbrev pub telling : {S : Type 0} → KeepFault → SqlKeeper S → SqlKeeper S
@@ -64,5 +65,6 @@ book g = record {
   of_size = λ k. k.of_size;
   honest = λ k. is_honest g k.conn;
   shows = λ k. does_show g k.conn;
-  sound = λ m k. IsKept g k.conn × AreOurs m (tables_in g k.conn) × Recalls (said_by m (state g k.conn).now.trees) k.seen × RecallsOwns (said_by m (state g k.conn).now.trees) k.owns;
+  sound = λ m k. IsKept g k.conn × AreOurs m (tables_in g k.conn) × Recalls (said_by m (state g k.conn).now.trees) k.seen × RecallsOwns (said_by m (state g k.conn).now.trees) k.owns
+      × RecallsIdle (said_by m (state g k.conn).now.trees) k.idle;
 }

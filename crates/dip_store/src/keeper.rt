@@ -5,6 +5,7 @@ ghost use Rattle.dip_store.specs.Stored as stored;
 
 use crate::faults::{is_of_size, look_fault, make_fault};
 use crate::fitting_laws::{what_fits_can_be_written, what_fits_finds_place};
+use crate::idle::IdleSeats;
 use crate::owns::{SeenOwns, known_author};
 use crate::papers::look_game_paper;
 use crate::seen::Seen;
@@ -29,7 +30,8 @@ use std::rc::Rc;
 /// and nobody else writes to it. It remembers the public parts of at most 16,384 games, as they were read, opened or, where they were
 /// remembered before, published, and the own parts of at most 1,024 seats. A letter that changes no own part but its author's (orders,
 /// a vote, or only what is kept of it) and a paper are done to them in memory as to their rows; press and another secret forget the own
-/// parts of their game. An
+/// parts of their game. Of the
+/// seats of at most 16,384 games that it opened itself it knows which have neither ordered nor voted since: of such a seat the row alone is read. An
 /// own part whose kept reply is longer than 4,096 bytes isn't remembered, so that all of this stays within some 20 MB for games of the
 /// standard map.
 ///
@@ -47,6 +49,8 @@ pub struct SqlKeeper<S: Alter> {
     pub(crate) seen: Seen,
     /// The own parts that it has seen, as its rows have them.
     pub(crate) owns: SeenOwns,
+    /// Seats that have neither ordered nor voted since it opened their games.
+    pub(crate) idle: IdleSeats,
 }
 
 impl<S: Alter> SqlKeeper<S> {
@@ -61,6 +65,7 @@ impl<S: Alter> SqlKeeper<S> {
             of_size: _,
             seen: _,
             owns: _,
+            idle: _,
         } = self;
         conn
     }
@@ -135,7 +140,8 @@ impl<S: Alter> Keeper for SqlKeeper<S> {
         }
         own_is_found();
         map.facts();
-        match look_own(&mut self.conn, self.alloc, map, game, power) {
+        let idle = self.idle.is_idle(game, power);
+        match look_own(&mut self.conn, self.alloc, map, game, power, idle) {
             Ok(own) => {
                 self.owns.learn(self.alloc, game, &own);
                 Ok(own)
@@ -188,11 +194,13 @@ impl<S: Alter> Keeper for SqlKeeper<S> {
             return Err(self.told(KeepFault::Damaged));
         }
         let was_seen = self.seen.heed(change);
+        self.idle.heed(self.alloc, change);
         let owns = self.owns.take(self.alloc, change.game.as_str());
         let known = known_author(change.author, owns.as_slice());
         match make(&mut self.conn, self.alloc, map, change, known) {
             Ok(()) => {
                 self.owns.keep(self.alloc, change, owns);
+                self.idle.note_behind(self.alloc, change);
                 self.seen.note_behind(self.alloc, change, was_seen);
                 Ok(())
             }

@@ -9,6 +9,7 @@ mod desk_row;
 mod faults;
 mod fitting_laws;
 mod founding;
+mod idle;
 mod keeper;
 mod known;
 mod making;

@@ -21,6 +21,7 @@ ghost use Rattle.dip_store_tables.specs.Writing.{new_tables};
 use crate::checking::{check_desk, check_old_desk};
 use crate::faults::{StoreFault, open_fault};
 use crate::founding::found;
+use crate::idle::IdleSeats;
 use crate::keeper::SqlKeeper;
 use crate::known::{has_ballots, knows_none};
 use crate::making::has_32;
@@ -51,6 +52,7 @@ impl<S: Alter> SqlKeeper<S> {
             of_size: 0,
             seen: Seen::new(alloc),
             owns: SeenOwns::new(alloc),
+            idle: IdleSeats::new(alloc),
         }
     }
 

@@ -9,6 +9,7 @@ use Rattle.dip_store_tables.specs.Tables.{BoxRow, Tables}
 use Rattle.dip_store_sql.specs.Keys.{Differ, same_item}
 use Rattle.dip_store_changes.specs.Delivering.{delivering_rows, delivering_to}
 use Rattle.dip_store_changes.specs.declared.delivering.Reader.{Reader}
+use Rattle.dip_store_changes.proofs.Adding.{both_append}
 use Rattle.dip_store_changes.proofs.Centres.{owner_more}
 use Rattle.dip_store_changes.proofs.Handing.{reader_more}
 
@@ -43,6 +44,13 @@ both_apart same h f xs i d low old apart =
     let split : map f xs ≡ map f (take (i + 1) xs) ++ map f (drop (i + 1) xs) = sym (sym (map-append f (take (i + 1) xs) (drop (i + 1) xs)) ∙ ap (map f) (take-append-drop (i + 1) xs)) in
     next_apart same old (map h (map f (take i xs))) (h (f (get_or xs i d)) ∷ []) (map h (map f (take (i + 1) xs))) (map h (map f (drop (i + 1) xs))) (map h (map f xs))
     (ap (map h) split ∙ map-append h (map f (take (i + 1) xs)) (map f (drop (i + 1) xs))) (taken_both h f xs i d low) apart
+
+-- some of a list, behind those in front of them
+pub some_apart : {A B C : Type 0} (same : C → C → Bool) (h : B → C) (f : A → B) (done more rest xs : List A) → xs ≡ done ++ (more ++ rest) → (old : List C) → Differ same (old ++ map h (map f xs))
+    → Differ same ((old ++ map h (map f done)) ++ map h (map f more))
+some_apart same h f done more rest xs is old apart =
+    next_apart same old (map h (map f done)) (map h (map f more)) (map h (map f (done ++ more))) (map h (map f rest)) (map h (map f xs))
+    (ap (λ ys. map h (map f ys)) (is ∙ sym (append_assoc done more rest)) ∙ both_append h f (done ++ more) rest) (both_append h f done more) apart
 
 -- the rows of owned centres
 owners_left : (m : Chart) (name : List ℕ) (p n : ℕ) (os : List (Option ℕ)) → (rest : List CentreRow) × (centre_rows_from m name p os ≡ centre_rows_from m name p (take n os) ++ rest)

@@ -16,7 +16,8 @@ use Rattle.dip_store_sql.specs.Good.{IsGood}
 use Rattle.dip_store_sql.specs.Keys.{OrdersDiffer}
 use Rattle.dip_store_changes.specs.Delivering.{delivering_all}
 use Rattle.dip_store_changes.specs.Noting.{noting_row}
-use Rattle.dip_store_changes.specs.Parts.{more_orders, orders_left}
+use Rattle.dip_store_sql.specs.TablesAfter.{more_orders}
+use Rattle.dip_store_changes.specs.Parts.{orders_left}
 use Rattle.dip_store_changes.specs.declared.delivering.Reader.{Reader}
 use Rattle.dip_store_changes.specs.declared.known.AuthorRow.{AuthorRow}
 

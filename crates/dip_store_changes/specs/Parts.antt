@@ -14,9 +14,6 @@ abbrev pub orders_left : Bool → List ℕ → List ℕ → Tables → Tables
 orders_left none name power t = record t { pending = if none then t.pending else delete_where (is_pending name power) t.pending }
 
 -- records behind the others
-abbrev pub more_orders : List PendingRow → Tables → Tables
-more_orders ps t = record t { pending = t.pending ++ ps }
-
 abbrev pub more_seats : List SeatRow → Tables → Tables
 more_seats ss t = record t { seats = t.seats ++ ss }
 

@@ -1,5 +1,5 @@
 -- What the rows of a seat show is what its records say.
-use Rattle.std.proofs.Common.{◌≡◌, ℕ, ◌<◌, List, [], ◌∷◌, length, map, filter, option_map, Option, Some, None, refl, sym, ap, ap₂, ◌∙◌, inl, inr}
+use Rattle.std.proofs.Common.{◌≡◌, ℕ, ◌<◌, List, [], ◌∷◌, length, map, filter, option_map, Option, Some, None, IfSome, refl, sym, ap, ap₂, ◌∙◌, inl, inr}
 use Rattle.std.specs.List.{find}
 use Rattle.std.proofs.lemmas.Bool.{cases_Bool, and_parts}
 use Rattle.std.proofs.lemmas.Slice.Eq.{bytes_eq-Decides}
@@ -11,7 +11,8 @@ use Rattle.dip_store_tables.specs.Reading.{own_of, pending_of, standing_of}
 use Rattle.dip_store_tables.specs.Tables.{PendingRow, SeatRow, Tables, is_pending, is_seat}
 use Rattle.dip_desk_state.specs.Records.{Vote}
 use Rattle.dip_store_tables.specs.Votes.{vote_in}
-use Rattle.dip_store_looks.specs.Shown.{shown_order, shown_own}
+use Rattle.dip_store_sql.proofs.Changes.{none_in}
+use Rattle.dip_store_looks.specs.Shown.{HasNothing, IsIdle, shown_order, shown_own}
 
 module _ (m : Chart) where
   pub orders_shown : (ps : List PendingRow) → map (λ r. standing_of m (shown_order r)) (map show_order ps) ≡ map (standing_of m) ps
@@ -30,6 +31,21 @@ module _ (m : Chart) where
         ))
     | inr off ↦ rw off (λ is. found_seat name power ss s is)
   ]
+
+  -- a seat whose own part is idle has nothing beside its row
+  pub idle_beside : (t : Tables) (name : List ℕ) (power : ℕ) (row : Row) → Some row ≡ option_map show_seat (find (is_seat name (power_name m power)) t.seats)
+      → IfSome (option_map (own_of m t.pending t.ballots) (find (is_seat name (power_name m power)) t.seats)) IsIdle → HasNothing m t name (power_name m power)
+  idle_beside t name power row shown idle = by_seat (find (is_seat name (power_name m power)) t.seats) refl shown idle
+    where
+      by_seat : (o : Option SeatRow) → find (is_seat name (power_name m power)) t.seats ≡ o → Some row ≡ option_map show_seat o
+          → IfSome (option_map (own_of m t.pending t.ballots) o) IsIdle → HasNothing m t name (power_name m power)
+      by_seat None none shown idle = absurd (cc)
+      by_seat (Some s) found shown idle =
+          let named = found_seat name (power_name m power) t.seats s found in
+          record {
+            vote = sym idle.vote ∙ ap₂ (vote_in m t.ballots) named.0 named.1;
+            orders = sym (none_in (standing_of m) _ (ap₂ (pending_of m t.pending) (sym named.0) (sym named.1) ∙ idle.pending));
+          }
 
   pub own_is : IsMap m → (t : Tables) (name : List ℕ) (power : ℕ) (row : Row) (vote : Vote) (orders : List Row) → power < length m.realms
       → Some row ≡ option_map show_seat (find (is_seat name (power_name m power)) t.seats)

@@ -5,7 +5,7 @@ use Rattle.sqlite.specs.Order.{Row, column, bytes}
 use Rattle.dip_map.specs.Charts.{Chart}
 use Rattle.dip_store_tables.specs.Boards.{UnitRow, CentreRow, board_of, power_in}
 use Rattle.dip_desk_state.specs.State.{Desk}
-use Rattle.dip_desk_state.specs.Records.{Public, Own, Vote}
+use Rattle.dip_desk_state.specs.Records.{Public, Own, Vote, No}
 use Rattle.dip_desk_state.specs.Rows as rows
 use Rattle.dip_store_sql.specs.Rows.{number_in}
 use Rattle.dip_store_sql.specs.Showing.{show_order}
@@ -84,6 +84,15 @@ shown_desk r = record {
   digest = bytes (column r 2);
   kept = kept_of (number_in (column r 3)) (bytes (column r 4)) (bytes (column r 5));
 }
+
+-- an own part that votes for no draw and has no standing orders; and a seat's rows that say so
+pub record IsIdle (o : Own) : Type 0 where
+  pub vote : o.vote ≡ No
+  pub pending : o.pending ≡ []
+
+pub record HasNothing (m : Chart) (t : Tables) (game power : List ℕ) : Type 0 where
+  pub vote : No ≡ vote_in m t.ballots game power
+  pub orders : [] ≡ filter (is_pending game power) t.pending
 
 -- what a seat has beside its row: its vote, and the rows of its orders
 pub record IsBeside (m : Chart) (t : Tables) (game power : List ℕ) (b : Beside) : Type 0 where

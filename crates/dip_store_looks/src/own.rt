@@ -1,11 +1,12 @@
 //! A seat's own part.
-ghost use Rattle.std.specs.Prelude.{◌≡◌, ◌<◌, IfErr, IfOk, length, map as each, option_map};
+ghost use Rattle.std.specs.Prelude.{◌≡◌, ◌<◌, [], IfErr, IfOk, IfSome, length, map as each, option_map, true};
 ghost use Rattle.sqlite.specs.Order.{bytes, column};
 ghost use Rattle.std.specs.List.{AllByRecursion, find};
 ghost use Rattle.dip_store_tables.specs.Boards.{power_name};
 ghost use Rattle.dip_store_looks.specs.Faults.{IsFromOutside};
 ghost use Rattle.dip_store_looks.specs.Readable.{IsBallotReadable, IsOrderReadable, IsSeatReadable};
-ghost use Rattle.dip_store_looks.specs.Shown.{IsBeside, shown_order, shown_own};
+ghost use Rattle.dip_store_looks.specs.Shown.{IsBeside, IsIdle, shown_order, shown_own};
+ghost use Rattle.dip_desk_state.specs.Records.{No};
 ghost use Rattle.dip_store_tables.specs.Legible.{AreOurs};
 ghost use Rattle.dip_desk_state.specs.Rows as rows;
 ghost use Rattle.dip_store_sql.specs.Causes.{has_faulted};
@@ -144,7 +145,20 @@ pub(crate) fn own_in(
     })
 }
 
-/// A seat's own part, all but the items of its inbox; none where there is no such seat.
+/// The own part of a seat that has nothing beside its row: it votes for no draw, and no order of it stands.
+fn idle_own(alloc: Global, map: &Map, power: Power, row: &Row) -> Result<Own, LookFault>
+    ensures value { IfOk result (λ o. rows.own o ≡ shown_own map.now power No 0 row.now []) }
+    ensures own { IsSeatReadable row.now 0 → IfErr result (IsFromOutside ⊥) }
+{
+    let beside = Beside {
+        vote: Vote::No,
+        orders: Vec::new(alloc),
+    };
+    own_in(alloc, map, power, row, 0, beside)
+}
+
+/// A seat's own part, all but the items of its inbox; none where there is no such seat. Where it is known that the seat votes for no
+/// draw and that no order of it stands, its row alone is read.
 ///
 /// # Errors
 /// Want of memory, the database's own, or `Foreign` where a row of it is none that a keeper writes by this map.
@@ -154,9 +168,15 @@ pub fn look_own<S: Alter>(
     map: &Map,
     game: &str,
     power: Power,
+    idle: bool,
 ) -> Result<Option<Own>, LookFault>
     requires { power < length map.now.realms }
-    ensures value { IsKept S.Store conn.old → is_honest S.Store conn.new → IfOk result (λ o.
+    ensures value { IsKept S.Store conn.old → is_honest S.Store conn.new
+        → (idle ≡ true → IfSome (option_map (own_of map.now (tables_in S.Store conn.old).pending
+        (tables_in S.Store conn.old).ballots)
+        (find (is_seat game.now (power_name map.now power)) (tables_in S.Store conn.old).seats))
+        IsIdle)
+        → IfOk result (λ o.
         option_map rows.own o ≡ option_map (own_of map.now (tables_in S.Store conn.old).pending
         (tables_in S.Store conn.old).ballots)
         (find (is_seat game.now (power_name map.now power)) (tables_in S.Store conn.old).seats)) }
@@ -170,6 +190,10 @@ pub fn look_own<S: Alter>(
     let Some(row) = find_seat(conn, game, name)? else {
         return Ok(None);
     };
+    if idle {
+        let alone = idle_own(alloc, map, power, &row)?;
+        return Ok(Some(alone));
+    }
     let beside = look_beside(conn, alloc, map, game, name)?;
     let own = own_in(alloc, map, power, &row, 0, beside)?;
     Ok(Some(own))

@@ -1,0 +1,190 @@
+-- Seats that have neither orders nor a vote.
+use Rattle.std.proofs.Common.{◌≡◌, ◌&&◌, ◌==◌, ◌⊎◌, inl, inr, ℕ, Bool, true, false, not, cond, List, [], ◌∷◌, ◌++◌, Option, None, Some, IfSome, String, Result, Ok, Err, OnOk, OnErr, map, option_map, option_and_then, list_any, refl, sym, ap, subst, ◌∙◌, bytes_eq, string_bytes, get_or, nat_lt, eqb-true}
+use Rattle.std.specs.declared.alloc.Global.{Global}
+use Rattle.std.specs.Map.{lookup}
+use Rattle.std.specs.Option.{option_or}
+use Rattle.std.specs.String.{string_eq}
+use Rattle.std.proofs.lemmas.Slice.Eq.{bytes_eq-Decides}
+use Rattle.indexmap.specs.IndexMap.{IndexMap, UpdatesBy}
+use Rattle.dip_desk_state.specs.Keyed.{at, change_at}
+use Rattle.dip_desk_state.specs.Records.{Item, Kept, No, Own, Public}
+use Rattle.dip_desk_state.specs.State.{Author, Nobody, TheMaster, Seat, Change, Effect, Nothing, Pending, Votes, Delivers, Opens, Publishes, Seats, Game, NewSeat, Part, State, behind_paper, fresh, game_after, game_at, is_seat, name_of, new_games, opening_game, own_at, own_effect, own_of, power_in, seat_at, state_after, with_author, with_digest, with_effect, with_item, with_letter}
+use Rattle.dip_desk_state.proofs.KeyedLemmas.{at-append, at-change_at_other, at-change_at_same, names_tell, powers_tell}
+use Rattle.dip_store_looks.specs.Shown.{IsIdle}
+use Rattle.dip_store.specs.Idle.{Idle, RecallsIdle, is_idle, is_still, is_stirring, most_told, stirs}
+use Rattle.dip_store.specs.Seen.{DifferByName}
+use Rattle.dip_store.proofs.Behind.{keeps_power}
+use Rattle.dip_store.proofs.Named.{found_said, said, updated_said}
+use Rattle.dip_store.proofs.Seeing.{at_last, keeps_name}
+
+-- ---- a seat behind a change
+
+-- an effect leaves each idle seat so, and each its power
+still_idle : (e : Effect) (x : Part) → IsIdle x.own → IsIdle (with_effect e x).own
+still_idle Nothing x idle = idle
+still_idle (Pending orders) x idle = idle
+still_idle (Votes vote) x idle = idle
+still_idle (Delivers readers item) x idle = go (list_any (λ p. p == power_in x) readers)
+  where
+    go : (b : Bool) → IsIdle (cond b (with_item item x) x).own
+    go true = record { vote = idle.vote; pending = idle.pending }
+    go false = idle
+still_idle (Opens public paper seats) x idle = idle
+still_idle (Publishes public paper true) x idle = record { vote = idle.vote; pending = refl }
+still_idle (Publishes public paper false) x idle = idle
+still_idle (Seats seat) x idle = go (seat.power == power_in x)
+  where
+    go : (b : Bool) → IsIdle (cond b (with_digest seat.digest x) x).own
+    go true = record { vote = idle.vote; pending = idle.pending }
+    go false = idle
+
+same_power : (e : Effect) (x : Part) → power_in (with_effect e x) ≡ power_in x
+same_power Nothing x = refl
+same_power (Pending orders) x = refl
+same_power (Votes vote) x = refl
+same_power (Delivers readers item) x = go (list_any (λ p. p == power_in x) readers)
+  where
+    go : (b : Bool) → power_in (cond b (with_item item x) x) ≡ power_in x
+    go true = refl
+    go false = refl
+same_power (Opens public paper seats) x = refl
+same_power (Publishes public paper true) x = refl
+same_power (Publishes public paper false) x = refl
+same_power (Seats seat) x = go (seat.power == power_in x)
+  where
+    go : (b : Bool) → power_in (cond b (with_digest seat.digest x) x) ≡ power_in x
+    go true = refl
+    go false = refl
+
+abbrev SeatIsIdle : Option Part → Type 0
+SeatIsIdle seat = IfSome (own_of seat) IsIdle
+
+each_idle : (e : Effect) (power : ℕ) (xs : List Part) → SeatIsIdle (seat_at power xs) → SeatIsIdle (seat_at power (map (with_effect e) xs))
+each_idle e power [] idle = tt
+each_idle e power (x ∷ xs) idle =
+    subst (λ (p : ℕ). SeatIsIdle (cond (p == power) (Some (with_effect e x)) (seat_at power (map (with_effect e) xs)))) (sym (same_power e x))
+    (go (power_in x == power) idle (each_idle e power xs))
+  where
+    go : (b : Bool) → SeatIsIdle (cond b (Some x) (seat_at power xs)) → (SeatIsIdle (seat_at power xs) → SeatIsIdle (seat_at power (map (with_effect e) xs)))
+        → SeatIsIdle (cond b (Some (with_effect e x)) (seat_at power (map (with_effect e) xs)))
+    go true idle more = still_idle e x idle
+    go false idle more = more idle
+
+-- a letter that gives neither orders nor a vote leaves its author so, and any letter others
+own_still : (e : Effect) (o : Own) → is_stirring e ≡ false → IsIdle o → IsIdle (own_effect e o)
+own_still Nothing o none idle = idle
+own_still (Pending orders) o none idle = absurd (let x = none in cc)
+own_still (Votes vote) o none idle = absurd (let x = none in cc)
+own_still (Delivers readers item) o none idle = record { vote = idle.vote; pending = idle.pending }
+own_still (Opens public paper seats) o none idle = idle
+own_still (Publishes public paper played) o none idle = idle
+own_still (Seats seat) o none idle = idle
+
+letter_idle : (who : Author) (k : Kept) (e : Effect) (power : ℕ) (xs : List Part) → (is_stirring e && is_seat who power) ≡ false → SeatIsIdle (seat_at power xs) → SeatIsIdle (seat_at power (with_author who k e xs))
+letter_idle Nobody k e power xs off idle = idle
+letter_idle TheMaster k e power xs off idle = idle
+letter_idle (Seat p) k e power xs off idle = go (p == power) refl off
+  where
+    and_true : (b : Bool) → (b && true) ≡ false → b ≡ false
+    and_true false h = refl
+    and_true true h = h
+
+    changed : is_stirring e ≡ false → (x : Option Part) → SeatIsIdle x → SeatIsIdle (option_map (with_letter k e) x)
+    changed none None idle = tt
+    changed none (Some x) idle = own_still e (record x.own { kept = Some k }) none (record { vote = idle.vote; pending = idle.pending })
+
+    go : (b : Bool) → (p == power) ≡ b → (is_stirring e && b) ≡ false → SeatIsIdle (seat_at power (change_at (λ a b. a == b) power_in p (with_letter k e) xs))
+    go true is off =
+        subst (λ (q : ℕ). SeatIsIdle (seat_at power (change_at (λ a b. a == b) power_in q (with_letter k e) xs))) (sym (eqb-true p power is))
+        (subst SeatIsIdle (sym (at-change_at_same (λ a b. a == b) power_in power (with_letter k e) xs (keeps_power k e))) (changed (and_true (is_stirring e) off) (seat_at power xs) idle))
+    go false is off = subst SeatIsIdle (sym (at-change_at_other (λ a b. a == b) power_in p power (with_letter k e) xs powers_tell (keeps_power k e) is)) idle
+
+-- a new seat is idle
+fresh_idle : (power : ℕ) (seats : List NewSeat) → SeatIsIdle (seat_at power (map fresh seats))
+fresh_idle power [] = tt
+fresh_idle power (x ∷ xs) = go (x.power == power) (fresh_idle power xs)
+  where
+    go : (b : Bool) → SeatIsIdle (seat_at power (map fresh xs)) → SeatIsIdle (cond b (Some (fresh x)) (seat_at power (map fresh xs)))
+    go true more = record { vote = refl; pending = refl }
+    go false more = more
+
+-- ---- a state behind a change
+
+abbrev GameIsIdle : ℕ → Option Game → Type 0
+GameIsIdle power g = IfSome (option_and_then (λ g. own_of (seat_at power g.seats)) g) IsIdle
+
+new_idle : (e : Effect) (name : List ℕ) (power : ℕ) → GameIsIdle power (at bytes_eq name_of name (new_games e))
+new_idle Nothing name power = tt
+new_idle (Pending orders) name power = tt
+new_idle (Votes vote) name power = tt
+new_idle (Delivers readers item) name power = tt
+new_idle (Opens public paper seats) name power = go (bytes_eq public.game name)
+  where
+    go : (b : Bool) → GameIsIdle power (cond b (Some (opening_game public paper seats)) None)
+    go true = fresh_idle power seats
+    go false = tt
+new_idle (Publishes public paper played) name power = tt
+new_idle (Seats seat) name power = tt
+
+pub idle_stays : (c : Change) (s : State) (name : List ℕ) (power : ℕ) → stirs c name power ≡ false → IfSome (own_at name power s) IsIdle → IfSome (own_at name power (state_after c s)) IsIdle
+idle_stays c s name power off idle =
+    subst (GameIsIdle power) (sym (at-append bytes_eq name_of name (change_at bytes_eq name_of c.game (game_after c) s.games) (new_games c.effect)))
+    (first (at bytes_eq name_of name (change_at bytes_eq name_of c.game (game_after c) s.games)) (changed (bytes_eq c.game name) refl off))
+  where
+    first : (x : Option Game) → GameIsIdle power x → GameIsIdle power (option_or x (at bytes_eq name_of name (new_games c.effect)))
+    first None idle = new_idle c.effect name power
+    first (Some g) idle = idle
+
+    inside : (is_stirring c.effect && is_seat c.author power) ≡ false → (x : Option Game) → GameIsIdle power x → GameIsIdle power (option_map (game_after c) x)
+    inside off None idle = tt
+    inside off (Some g) idle = each_idle c.effect power (with_author c.author c.kept c.effect g.seats) (letter_idle c.author c.kept c.effect power g.seats off idle)
+
+    changed : (b : Bool) → bytes_eq c.game name ≡ b → (is_stirring c.effect && (b && is_seat c.author power)) ≡ false → GameIsIdle power (at bytes_eq name_of name (change_at bytes_eq name_of c.game (game_after c) s.games))
+    changed true is off =
+        let same = (bytes_eq-Decides c.game name).0 is in
+        subst (λ (n : List ℕ). GameIsIdle power (at bytes_eq name_of n (change_at bytes_eq name_of c.game (game_after c) s.games))) same
+        (subst (GameIsIdle power) (sym (at-change_at_same bytes_eq name_of c.game (game_after c) s.games (keeps_name c)))
+        (inside off (game_at c.game s) (subst (λ (n : List ℕ). GameIsIdle power (game_at n s)) (sym same) idle)))
+    changed false is off = subst (GameIsIdle power) (sym (at-change_at_other bytes_eq name_of c.game name (game_after c) s.games names_tell (keeps_name c) is)) idle
+
+-- each seat of a game that is opened is idle
+pub opened_idle : (c : Change) (s : State) (name : List ℕ) (p : Public) (paper : List ℕ) (seats : List NewSeat) → name ≡ p.game → c.effect ≡ Opens p paper seats → DifferByName (state_after c s).games
+    → (power : ℕ) → IfSome (own_at name power (state_after c s)) IsIdle
+opened_idle c s name p paper seats named is apart power = subst (λ (n : List ℕ). IfSome (own_at n power (state_after c s)) IsIdle) (sym named) here
+  where
+    new : new_games c.effect ≡ opening_game p paper seats ∷ []
+    new = ap (λ (e : Effect). new_games e) is
+
+    here : GameIsIdle power (game_at p.game (state_after c s))
+    here =
+        let before = change_at bytes_eq name_of c.game (game_after c) s.games in
+        let found = ap (λ (gs : List Game). at bytes_eq name_of p.game (before ++ gs)) new
+        ∙ at_last bytes_eq name_of before (opening_game p paper seats) names_tell (subst (λ (gs : List Game). DifferByName (before ++ gs)) new apart) in
+        subst (GameIsIdle power) (sym found) (fresh_idle power seats)
+
+-- ---- what is known of them
+
+-- nothing is known wrong where nothing is
+pub recalls_no_idle : (s : State) → RecallsIdle s []
+recalls_no_idle s name power h = absurd (let x = h in cc)
+
+-- of what a state has, what is left before a change is right before it and behind it
+abbrev pub LeavesIdle : Change → Idle → Idle → Type 0
+LeavesIdle c old new = (name : List ℕ) (power : ℕ) → is_idle name power new ≡ true → (is_idle name power old ≡ true) × (stirs c name power ≡ false)
+
+pub idle_before : (c : Change) (old new : Idle) → LeavesIdle c old new → (s : State) → RecallsIdle s old → RecallsIdle s new
+idle_before c old new leaves s recalls name power h = recalls name power (leaves name power h).0
+
+pub idle_behind : (c : Change) (old new : Idle) → LeavesIdle c old new → (s : State) → RecallsIdle s old → RecallsIdle (state_after c s) new
+idle_behind c old new leaves s recalls name power h =
+    let it = leaves name power h in
+    idle_stays c s name power it.1 (recalls name power it.0)
+
+-- and of each seat of a game that is opened
+pub begun_idle : (c : Change) (s : State) (game : List ℕ) (p : Public) (paper : List ℕ) (seats : List NewSeat) (old new : Idle) → game ≡ p.game → c.effect ≡ Opens p paper seats → DifferByName (state_after c s).games
+    → ((name : List ℕ) (power : ℕ) → is_idle name power new ≡ true → (is_idle name power old ≡ true) ⊎ (bytes_eq game name ≡ true))
+    → RecallsIdle (state_after c s) old → RecallsIdle (state_after c s) new
+begun_idle c s game p paper seats old new named is apart begins recalls name power h = elim (begins name power h) [
+  | inl before ↦ recalls name power before
+  | inr here ↦ subst (λ (n : List ℕ). IfSome (own_at n power (state_after c s)) IsIdle) ((bytes_eq-Decides game name).0 here) (opened_idle c s game p paper seats named is apart power)
+]

@@ -1,9 +1,11 @@
 -- Seats that have neither orders nor a vote.
-use Rattle.std.proofs.Common.{◌≡◌, ◌&&◌, ◌==◌, ◌⊎◌, inl, inr, ℕ, Bool, true, false, not, cond, List, [], ◌∷◌, ◌++◌, Option, None, Some, IfSome, String, Result, Ok, Err, OnOk, OnErr, map, option_map, option_and_then, list_any, refl, sym, ap, subst, ◌∙◌, bytes_eq, string_bytes, get_or, nat_lt, eqb-true}
+use Rattle.std.proofs.Common.{◌≡◌, ◌&&◌, ◌==◌, ◌⊎◌, inl, inr, ℕ, zero, suc, Bool, true, false, not, cond, List, [], ◌∷◌, ◌++◌, Option, None, Some, IfSome, String, Result, Ok, Err, OnOk, OnErr, map, option_map, option_and_then, list_any, refl, sym, ap, subst, ◌∙◌, bytes_eq, string_bytes, get_or, nat_lt, slice_set, eqb-true}
 use Rattle.std.specs.declared.alloc.Global.{Global}
 use Rattle.std.specs.Map.{lookup}
 use Rattle.std.specs.Option.{option_or}
 use Rattle.std.specs.String.{string_eq}
+use Rattle.std.proofs.lemmas.Bool.{and_parts, both_ways, eq-eqb}
+use Rattle.std.proofs.lemmas.List.{get_or-set_other}
 use Rattle.std.proofs.lemmas.Slice.Eq.{bytes_eq-Decides}
 use Rattle.indexmap.specs.IndexMap.{IndexMap, UpdatesBy}
 use Rattle.dip_desk_state.specs.Keyed.{at, change_at}
@@ -188,3 +190,89 @@ begun_idle c s game p paper seats old new named is apart begins recalls name pow
   | inl before ↦ recalls name power before
   | inr here ↦ subst (λ (n : List ℕ). IfSome (own_at n power (state_after c s)) IsIdle) ((bytes_eq-Decides game name).0 here) (opened_idle c s game p paper seats named is apart power)
 ]
+
+-- ---- as it lies in memory
+
+-- under a name, what lies there
+pub stirred_found : (name : List ℕ) (es : List (String Global × List Bool)) → lookup (λ k. bytes_eq name (string_bytes k)) es ≡ lookup (bytes_eq name) (said (λ (v : List Bool). v) es)
+stirred_found name es = sym (as_it_is (lookup (λ k. bytes_eq name (string_bytes k)) es)) ∙ found_said (λ (v : List Bool). v) name es
+
+as_it_is : {A : Type 0} (o : Option A) → option_map (λ v. v) o ≡ o
+as_it_is None = refl
+as_it_is (Some x) = refl
+
+-- and what a change at a name leaves under each
+pub stirred_updated : {S : Type 0} (bs : List ℕ) (m n : IndexMap (String Global) (List Bool) S) (w : Option (List Bool)) → UpdatesBy string_eq (λ k. bytes_eq bs (string_bytes k)) m n w
+    → (other : List ℕ) → lookup (bytes_eq other) (said (λ (v : List Bool). v) n.entries) ≡ cond (bytes_eq bs other) w (lookup (bytes_eq other) (said (λ (v : List Bool). v) m.entries))
+stirred_updated bs m n w updates other =
+    updated_said (λ (v : List Bool). v) bs m n w updates other
+    ∙ ap (λ (o : Option (List Bool)). cond (bytes_eq bs other) o (lookup (bytes_eq other) (said (λ (v : List Bool). v) m.entries))) (as_it_is w)
+
+-- a game's marks are written anew, or there is no memory for them
+abbrev IsPut : List ℕ → List Bool → Idle → Idle → Type 0
+IsPut game marks old new = (name : List ℕ) → lookup (bytes_eq name) new ≡ cond (bytes_eq game name) (Some marks) (lookup (bytes_eq name) old)
+
+pub begun : {X E : Type 0} (did : Result X E) (game : List ℕ) (marks : List Bool) (old room new : Idle) → ((name : List ℕ) (power : ℕ) → is_idle name power room ≡ true → is_idle name power old ≡ true)
+    → OnOk did (IsPut game marks room new) → OnErr did (new ≡ room)
+    → (name : List ℕ) (power : ℕ) → is_idle name power new ≡ true → (is_idle name power old ≡ true) ⊎ (bytes_eq game name ≡ true)
+begun (Ok x) game marks old room new roomy ok err name power h = go (bytes_eq game name) refl (ok name)
+  where
+    go : (b : Bool) → bytes_eq game name ≡ b → lookup (bytes_eq name) new ≡ cond b (Some marks) (lookup (bytes_eq name) room) → (is_idle name power old ≡ true) ⊎ (bytes_eq game name ≡ true)
+    go true is put = inr is
+    go false is put = inl (roomy name power (ap (is_still power) (sym put) ∙ h))
+begun (Err e) game marks old room new roomy ok err name power h = inl (roomy name power (subst (λ (ws : Idle). is_idle name power ws ≡ true) err h))
+
+-- a game's marks are taken out
+abbrev IsOut : List ℕ → Idle → Idle → Type 0
+IsOut game old new = (name : List ℕ) → lookup (bytes_eq name) new ≡ cond (bytes_eq game name) None (lookup (bytes_eq name) old)
+
+pub out_left : (game : List ℕ) (power : ℕ) (old new : Idle) → IsOut game old new
+    → (name : List ℕ) (other : ℕ) → is_idle name other new ≡ true → (is_idle name other old ≡ true) × ((bytes_eq game name && (power == other)) ≡ false)
+out_left game power old new out name other h = go (bytes_eq game name) refl (out name)
+  where
+    go : (b : Bool) → bytes_eq game name ≡ b → lookup (bytes_eq name) new ≡ cond b None (lookup (bytes_eq name) old) → (is_idle name other old ≡ true) × ((b && (power == other)) ≡ false)
+    go true is left = absurd (let x = sym (ap (is_still other) left) ∙ h in cc)
+    go false is left = (ap (is_still other) (sym left) ∙ h, refl)
+
+-- and put back with one more
+pub stirred_left : {X E : Type 0} (did : Result X E) (game : List ℕ) (power : ℕ) (marks anew : List Bool) (old out new : Idle) → lookup (bytes_eq game) old ≡ Some marks → IsOut game old out
+    → ((other : ℕ) → is_still other (Some anew) ≡ true → (is_still other (Some marks) ≡ true) × ((power == other) ≡ false))
+    → OnOk did (IsPut game anew out new) → OnErr did (new ≡ out)
+    → (name : List ℕ) (other : ℕ) → is_idle name other new ≡ true → (is_idle name other old ≡ true) × ((bytes_eq game name && (power == other)) ≡ false)
+stirred_left (Ok x) game power marks anew old out new found taken turn ok err name other h = go (bytes_eq game name) refl (ok name) (taken name)
+  where
+    go : (b : Bool) → bytes_eq game name ≡ b → lookup (bytes_eq name) new ≡ cond b (Some anew) (lookup (bytes_eq name) out) → lookup (bytes_eq name) out ≡ cond b None (lookup (bytes_eq name) old)
+        → (is_idle name other old ≡ true) × ((b && (power == other)) ≡ false)
+    go true is put left =
+        let it = turn other (ap (is_still other) (sym put) ∙ h) in
+        let same = (bytes_eq-Decides game name).0 is in
+        (subst (λ (n : List ℕ). is_idle n other old ≡ true) same (ap (is_still other) found ∙ it.0), it.1)
+    go false is put left = (ap (is_still other) (sym left) ∙ ap (is_still other) (sym put) ∙ h, refl)
+stirred_left (Err e) game power marks anew old out new found taken turn ok err name other h = out_left game power old out taken name other (subst (λ (ws : Idle). is_idle name other ws ≡ true) err h)
+
+set_true : (marks : List Bool) (power : ℕ) → get_or (slice_set marks power true) power true ≡ true
+set_true [] power = refl
+set_true (x ∷ xs) zero = refl
+set_true (x ∷ xs) (suc power) = set_true xs power
+
+-- the mark of a power that has one is written: it is still no longer, and the others are as they were
+pub marked : (marks : List Bool) (power other : ℕ) → is_still other (Some (slice_set marks power true)) ≡ true → (is_still other (Some marks) ≡ true) × ((power == other) ≡ false)
+marked marks power other h = go (power == other) refl
+  where
+    go : (b : Bool) → (power == other) ≡ b → (is_still other (Some marks) ≡ true) × (b ≡ false)
+    go true is =
+        let here = (and_parts (nat_lt other most_told) _ h).1 in
+        let there = subst (λ (n : ℕ). get_or (slice_set marks power true) n true ≡ true) (eqb-true power other is) (set_true marks power) in
+        absurd (let x = sym (ap not there) ∙ here in cc)
+    go false is =
+        (ap (λ (b : Bool). nat_lt other most_told && not b) (sym (get_or-set_other marks power other true true (λ same. both_ways _ is (eq-eqb power other (sym same))))) ∙ h, refl)
+
+-- one past these never was
+pub unmarked : (marks : List Bool) (power other : ℕ) → nat_lt power most_told ≡ false → is_still other (Some marks) ≡ true → (is_still other (Some marks) ≡ true) × ((power == other) ≡ false)
+unmarked marks power other past h = (h, go (power == other) refl)
+  where
+    go : (b : Bool) → (power == other) ≡ b → b ≡ false
+    go true is =
+        let low = (and_parts (nat_lt other most_told) _ h).0 in
+        absurd (let x = sym (subst (λ (n : ℕ). nat_lt n most_told ≡ false) (eqb-true power other is) past) ∙ low in cc)
+    go false is = refl

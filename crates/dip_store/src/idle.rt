@@ -66,7 +66,7 @@ impl IdleSeats {
         let Some(stirred) = self.games.get(game) else {
             return false;
         };
-        let index = power.index() as usize;
+        let index = usize::from(power.index());
         index < MOST_TOLD && !stirred[index]
     }
 
@@ -108,7 +108,7 @@ impl IdleSeats {
         let Some(mut stirred) = self.games.swap_remove(game) else {
             return;
         };
-        let index = power.index() as usize;
+        let index = usize::from(power.index());
         if index < MOST_TOLD {
             stirred[index] = true;
         }

@@ -20,9 +20,9 @@ returns-in_err-clone g c =
 pub returns-in-Ok : goal.returns-in-Ok
 returns-in-Ok g c =
     let m = c.args.map.now in
-    looks_learned g.S.Store m c.args.self.now c.look_shared_public.new.conn _ _ c.in-Ok.public _ c.learn.new.self c.args.self.now.owns c.in-Ok.ensures.selects
-    (λ kept ours clean. c.in-Ok.ensures.value kept clean)
-    (λ recalls is. (c.learn.ensures (said_by m (state g.S.Store c.args.self.now.conn).now.trees) recalls.0 is, recalls.1))
+    looks_learned g.S.Store m c.args.self.now c.look_shared_public.new.conn _ _ c.in-Ok.public _ c.learn.new.self c.args.self.now.owns c.args.self.now.idle c.in-Ok.ensures.selects
+    (λ kept clean. c.in-Ok.ensures.value kept.0 clean)
+    (λ recalls is. (c.learn.ensures (said_by m (state g.S.Store c.args.self.now.conn).now.trees) recalls.0 is, recalls.1, recalls.2))
 
 pub returns-in-Err : goal.returns-in-Err
 returns-in-Err g c =

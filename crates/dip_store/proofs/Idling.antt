@@ -1,19 +1,20 @@
 -- Seats that have neither orders nor a vote.
-use Rattle.std.proofs.Common.{◌≡◌, ◌&&◌, ◌==◌, ◌⊎◌, inl, inr, ℕ, zero, suc, Bool, true, false, not, cond, List, [], ◌∷◌, ◌++◌, Option, None, Some, IfSome, String, Result, Ok, Err, OnOk, OnErr, map, option_map, option_and_then, list_any, refl, sym, ap, subst, ◌∙◌, bytes_eq, string_bytes, get_or, nat_lt, slice_set, eqb-true}
+use Rattle.std.proofs.Common.{◌≡◌, ◌&&◌, ◌==◌, ◌⊎◌, inl, inr, ℕ, zero, suc, Bool, true, false, not, cond, List, [], ◌∷◌, ◌++◌, Option, None, Some, IfSome, String, Result, Ok, Err, OnOk, OnErr, map, option_map, option_and_then, refl, sym, ap, subst, ◌∙◌, bytes_eq, string_bytes, get_or, eqb-true}
+use Rattle.std.specs.List.{list_any, slice_set}
 use Rattle.std.specs.declared.alloc.Global.{Global}
 use Rattle.std.specs.Map.{lookup}
 use Rattle.std.specs.Option.{option_or}
 use Rattle.std.specs.String.{string_eq}
-use Rattle.std.proofs.lemmas.Bool.{and_parts, both_ways, eq-eqb}
+use Rattle.std.proofs.lemmas.Bool.{both_ways, eq-eqb}
 use Rattle.std.proofs.lemmas.List.{get_or-set_other}
 use Rattle.std.proofs.lemmas.Slice.Eq.{bytes_eq-Decides}
 use Rattle.indexmap.specs.IndexMap.{IndexMap, UpdatesBy}
 use Rattle.dip_desk_state.specs.Keyed.{at, change_at}
-use Rattle.dip_desk_state.specs.Records.{Item, Kept, No, Own, Public}
-use Rattle.dip_desk_state.specs.State.{Author, Nobody, TheMaster, Seat, Change, Effect, Nothing, Pending, Votes, Delivers, Opens, Publishes, Seats, Game, NewSeat, Part, State, behind_paper, fresh, game_after, game_at, is_seat, name_of, new_games, opening_game, own_at, own_effect, own_of, power_in, seat_at, state_after, with_author, with_digest, with_effect, with_item, with_letter}
+use Rattle.dip_desk_state.specs.Records.{Kept, Own, Public}
+use Rattle.dip_desk_state.specs.State.{Author, Nobody, TheMaster, Seat, Change, Effect, Nothing, Pending, Votes, Delivers, Opens, Publishes, Seats, Game, NewSeat, Part, State, fresh, game_after, game_at, is_seat, name_of, new_games, opening_game, own_at, own_effect, own_of, power_in, seat_at, state_after, with_author, with_digest, with_effect, with_item, with_letter}
 use Rattle.dip_desk_state.proofs.KeyedLemmas.{at-append, at-change_at_other, at-change_at_same, names_tell, powers_tell}
 use Rattle.dip_store_looks.specs.Shown.{IsIdle}
-use Rattle.dip_store.specs.Idle.{Idle, RecallsIdle, is_idle, is_still, is_stirring, most_told, stirs}
+use Rattle.dip_store.specs.Idle.{Idle, RecallsIdle, is_idle, is_still, is_stirring, stirs}
 use Rattle.dip_store.specs.Seen.{DifferByName}
 use Rattle.dip_store.proofs.Behind.{keeps_power}
 use Rattle.dip_store.proofs.Named.{found_said, said, updated_said}
@@ -193,13 +194,13 @@ begun_idle c s game p paper seats old new named is apart begins recalls name pow
 
 -- ---- as it lies in memory
 
--- under a name, what lies there
-pub stirred_found : (name : List ℕ) (es : List (String Global × List Bool)) → lookup (λ k. bytes_eq name (string_bytes k)) es ≡ lookup (bytes_eq name) (said (λ (v : List Bool). v) es)
-stirred_found name es = sym (as_it_is (lookup (λ k. bytes_eq name (string_bytes k)) es)) ∙ found_said (λ (v : List Bool). v) name es
-
 as_it_is : {A : Type 0} (o : Option A) → option_map (λ v. v) o ≡ o
 as_it_is None = refl
 as_it_is (Some x) = refl
+
+-- under a name, what lies there
+pub stirred_found : (name : List ℕ) (es : List (String Global × List Bool)) → lookup (λ k. bytes_eq name (string_bytes k)) es ≡ lookup (bytes_eq name) (said (λ (v : List Bool). v) es)
+stirred_found name es = sym (as_it_is (lookup (λ k. bytes_eq name (string_bytes k)) es)) ∙ found_said (λ (v : List Bool). v) name es
 
 -- and what a change at a name leaves under each
 pub stirred_updated : {S : Type 0} (bs : List ℕ) (m n : IndexMap (String Global) (List Bool) S) (w : Option (List Bool)) → UpdatesBy string_eq (λ k. bytes_eq bs (string_bytes k)) m n w
@@ -207,6 +208,12 @@ pub stirred_updated : {S : Type 0} (bs : List ℕ) (m n : IndexMap (String Globa
 stirred_updated bs m n w updates other =
     updated_said (λ (v : List Bool). v) bs m n w updates other
     ∙ ap (λ (o : Option (List Bool)). cond (bytes_eq bs other) o (lookup (bytes_eq other) (said (λ (v : List Bool). v) m.entries))) (as_it_is w)
+
+-- by the name and what is known that are meant
+pub put_named : (other bs name : List ℕ) (marks : List Bool) (ws vs : Idle) → bs ≡ name → ws ≡ vs
+    → cond (bytes_eq bs other) (Some marks) (lookup (bytes_eq other) ws) ≡ cond (bytes_eq name other) (Some marks) (lookup (bytes_eq other) vs)
+put_named other bs name marks ws vs key same =
+    ap (λ (n : List ℕ). cond (bytes_eq n other) (Some marks) (lookup (bytes_eq other) ws)) key ∙ ap (λ (xs : Idle). cond (bytes_eq name other) (Some marks) (lookup (bytes_eq other) xs)) same
 
 -- a game's marks are written anew, or there is no memory for them
 abbrev IsPut : List ℕ → List Bool → Idle → Idle → Type 0
@@ -223,7 +230,7 @@ begun (Ok x) game marks old room new roomy ok err name power h = go (bytes_eq ga
 begun (Err e) game marks old room new roomy ok err name power h = inl (roomy name power (subst (λ (ws : Idle). is_idle name power ws ≡ true) err h))
 
 -- a game's marks are taken out
-abbrev IsOut : List ℕ → Idle → Idle → Type 0
+abbrev pub IsOut : List ℕ → Idle → Idle → Type 0
 IsOut game old new = (name : List ℕ) → lookup (bytes_eq name) new ≡ cond (bytes_eq game name) None (lookup (bytes_eq name) old)
 
 pub out_left : (game : List ℕ) (power : ℕ) (old new : Idle) → IsOut game old new
@@ -255,24 +262,17 @@ set_true [] power = refl
 set_true (x ∷ xs) zero = refl
 set_true (x ∷ xs) (suc power) = set_true xs power
 
--- the mark of a power that has one is written: it is still no longer, and the others are as they were
+-- the mark of a power is written: it is still no longer, and the others are as they were
 pub marked : (marks : List Bool) (power other : ℕ) → is_still other (Some (slice_set marks power true)) ≡ true → (is_still other (Some marks) ≡ true) × ((power == other) ≡ false)
 marked marks power other h = go (power == other) refl
   where
     go : (b : Bool) → (power == other) ≡ b → (is_still other (Some marks) ≡ true) × (b ≡ false)
     go true is =
-        let here = (and_parts (nat_lt other most_told) _ h).1 in
         let there = subst (λ (n : ℕ). get_or (slice_set marks power true) n true ≡ true) (eqb-true power other is) (set_true marks power) in
-        absurd (let x = sym (ap not there) ∙ here in cc)
+        absurd (let x = sym (ap not there) ∙ h in cc)
     go false is =
-        (ap (λ (b : Bool). nat_lt other most_told && not b) (sym (get_or-set_other marks power other true true (λ same. both_ways _ is (eq-eqb power other (sym same))))) ∙ h, refl)
+        (ap not (sym (get_or-set_other marks power other true true (λ same. both_ways _ is (eq-eqb power other (sym same))))) ∙ h, refl)
 
--- one past these never was
-pub unmarked : (marks : List Bool) (power other : ℕ) → nat_lt power most_told ≡ false → is_still other (Some marks) ≡ true → (is_still other (Some marks) ≡ true) × ((power == other) ≡ false)
-unmarked marks power other past h = (h, go (power == other) refl)
-  where
-    go : (b : Bool) → (power == other) ≡ b → b ≡ false
-    go true is =
-        let low = (and_parts (nat_lt other most_told) _ h).0 in
-        absurd (let x = sym (subst (λ (n : ℕ). nat_lt n most_told ≡ false) (eqb-true power other is) past) ∙ low in cc)
-    go false is = refl
+-- what is found of a power tells it
+pub told_still : (marks : List Bool) (index power : ℕ) (has : Bool) → has ≡ get_or marks index true → index ≡ power → not has ≡ is_still power (Some marks)
+told_still marks index power has is same = ap not is ∙ ap (λ (n : ℕ). not (get_or marks n true)) same

@@ -1,5 +1,5 @@
 -- Which seats of the games that were opened here have neither ordered nor voted since.
-use Rattle.std.specs.Prelude.{◌≡◌, ◌&&◌, ℕ, Bool, true, false, not, List, [], Option, None, Some, IfSome, bytes_eq, get_or, nat_lt}
+use Rattle.std.specs.Prelude.{◌≡◌, ◌&&◌, ℕ, Bool, true, false, not, List, Option, None, Some, IfSome, bytes_eq, get_or}
 use Rattle.std.specs.Map.{lookup}
 use Rattle.dip_desk_state.specs.State.{Change, Effect, Nothing, Pending, Votes, Delivers, Opens, Publishes, Seats, State, is_seat, own_at}
 use Rattle.dip_store_looks.specs.Shown.{IsIdle}
@@ -8,14 +8,10 @@ use Rattle.dip_store_looks.specs.Shown.{IsIdle}
 abbrev pub Idle : Type 0
 Idle = List (List ℕ × List Bool)
 
--- of so many powers of a game at most it is known
-abbrev pub most_told : ℕ
-most_told = 8
-
 -- whether a power hasn't
 abbrev pub is_still : ℕ → Option (List Bool) → Bool
 is_still power None = false
-is_still power (Some stirred) = nat_lt power most_told && not (get_or stirred power true)
+is_still power (Some stirred) = not (get_or stirred power true)
 
 abbrev pub is_idle : List ℕ → ℕ → Idle → Bool
 is_idle name power ws = is_still power (lookup (bytes_eq name) ws)

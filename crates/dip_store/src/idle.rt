@@ -15,10 +15,7 @@ use std::marker::Model;
 /// The most games of which it is known.
 const MOST_IDLE: usize = 16_384;
 
-/// Of so many powers of a game it is known: the first ones.
-const MOST_TOLD: usize = 8;
-
-/// Of each game that was opened here, under its name, which of its first `MOST_TOLD` powers have ordered or voted since: at most
+/// Of each game that was opened here, under its name, which of its first eight powers have ordered or voted since: at most
 /// `MOST_IDLE` games. Where one more comes, all others are forgotten. Of a seat that hasn't no order stands, and it votes for no
 /// draw, so that its row alone is read.
 #[derive(Drop)]
@@ -67,7 +64,10 @@ impl IdleSeats {
             return false;
         };
         let index = usize::from(power.index());
-        index < MOST_TOLD && !stirred[index]
+        match stirred.get(index) {
+            Some(has) => !*has,
+            None => false,
+        }
     }
 
     fn make_room(&mut self)
@@ -99,7 +99,8 @@ impl IdleSeats {
         let _ = self.put(alloc, game, [false; 8]);
     }
 
-    /// Of this seat it is known no longer. Where memory is wanting it is known of no seat of the game.
+    /// Of this seat it is known no longer. Of no seat of the game it is where memory is wanting, or where the power is none of the first
+    /// eight.
     fn stir(&mut self, alloc: Global, game: &str, power: Power)
         ensures { (name : List ℕ) (other : ℕ) → is_idle name other self.new ≡ true
             → (is_idle name other self.old ≡ true)
@@ -109,10 +110,10 @@ impl IdleSeats {
             return;
         };
         let index = usize::from(power.index());
-        if index < MOST_TOLD {
+        if index < stirred.len() {
             stirred[index] = true;
+            let _ = self.put(alloc, game, stirred);
         }
-        let _ = self.put(alloc, game, stirred);
     }
 
     /// Before a change: of its author it is known no longer, where it orders or votes, whether the change will be made or not.

@@ -4,7 +4,7 @@ use Rattle.dip_store_tables.specs.Lists.{delete_where}
 use Rattle.dip_map.specs.Charts.{Chart}
 use Rattle.dip_map.specs.Boards.{Position}
 use Rattle.dip_store_tables.specs.Boards.{UnitRow, CentreRow, unit_rows, centre_rows}
-use Rattle.dip_store_tables.specs.Tables.{BallotRow, PendingRow, SeatRow, Tables, is_ballot_in, is_choice_in, is_unit_in, is_centre_in, is_seat_in, is_pending, is_pending_in, is_box_in, is_paper_in}
+use Rattle.dip_store_tables.specs.Tables.{BallotRow, SeatRow, Tables, is_ballot_in, is_choice_in, is_unit_in, is_centre_in, is_seat_in, is_pending, is_pending_in, is_box_in, is_paper_in}
 use Rattle.dip_desk_state.specs.State.{NewSeat}
 use Rattle.dip_store_tables.specs.Writing.{ballot_row, choice_row}
 use Rattle.dip_store_sql.specs.Keys.{Differ, same_ballot, same_centre, same_choice, same_unit}

@@ -1,4 +1,4 @@
-use Rattle.std.proofs.Common.{rules, ◌≡◌, List, [], ◌∷◌, ap}
+use Rattle.std.proofs.Common.{rules, [], ◌∷◌, ap}
 use Rattle.dip_desk_state.specs.Rows as records
 use Rattle.dip_store_tables.specs.Tables.{PendingRow}
 use Rattle.dip_store_tables.specs.Writing.{pending_row}

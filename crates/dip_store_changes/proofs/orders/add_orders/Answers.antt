@@ -1,4 +1,4 @@
-use Rattle.std.proofs.Common.{rules, refl, sym, ap, arith, ◌∙◌, ◌≡◌, ◌-◌, List, [], ◌∷◌, ◌++◌, append_assoc, drop, length, map, take}
+use Rattle.std.proofs.Common.{rules, refl, sym, ap, ◌∙◌, ◌≡◌, ◌-◌, List, [], ◌∷◌, ◌++◌, append_assoc, drop, length, map, take}
 use Rattle.sqlite.specs.Held.{state}
 use Rattle.dip_desk_state.specs.Rows as records
 use Rattle.dip_desk_state.specs.declared.records.Standing.{Standing}

@@ -23,7 +23,7 @@ returns-in-Ok g c =
     (makes_when g.S.Store _ _ _ _ _ _ _ _ has c.in-Ok.ensures.makes) (λ keeps. c.in-Ok.ensures.kept (has keeps)) (λ keeps. c.in-Ok.ensures.place (has keeps))
     (made_recalls it c.as_str.result.now c.as_str.ensures.value c.args.self.now.owns c.take-owns.new.self c.keep.new.self (owned c.take-owns.result) c.take-owns.ensures.taken c.take-owns.ensures.left c.keep.ensures)
     (λ s before apart. c.note_behind.ensures s (idle_behind it c.args.self.now.idle c.heed.new.self c.heed.ensures s before) apart)
-    c.note_behind-2.new.self (λ s before holds apart. c.note_behind-2.ensures s holds apart (was_there it s c.args.self.now.seen c.heed-was_seen.result c.heed-was_seen.ensures.was before))
+    c.note_behind-in-Ok.new.self (λ s before holds apart. c.note_behind-in-Ok.ensures s holds apart (was_there it s c.args.self.now.seen c.heed-was_seen.result c.heed-was_seen.ensures.was before))
 
 pub returns-in-Err : goal.returns-in-Err
 returns-in-Err g c =

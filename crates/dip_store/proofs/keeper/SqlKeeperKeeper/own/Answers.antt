@@ -5,6 +5,7 @@ use Rattle.dip_desk_state.specs.Rows as rows
 use Rattle.dip_desk_state.specs.Records.{Own}
 use Rattle.dip_store_sql.specs.Calls.{tables_in}
 use Rattle.dip_store_looks.specs.Shown.{IsIdle}
+use Rattle.dip_store_tables.specs.Coding.{AreCoded}
 use Rattle.dip_store.specs.Owns.{own_among, owns_of}
 use Rattle.dip_store.specs.Stored.{said_by}
 use Rattle.dip_store.proofs.Looking.{looks_learned, looks_ill, looks_recalled, looks_wanting}
@@ -26,7 +27,7 @@ pub returns-in-Ok : goal.returns-in-Ok
 returns-in-Ok g c =
     let m = c.args.map.now in
     let name = c.args.game.now in
-    let is = λ coded. c.own_is_found.ensures m c.facts.ensures (tables_in g.S.Store c.args.self.now.conn) name c.args.power coded c.requires.power in
+    let is = λ (coded : AreCoded m (tables_in g.S.Store c.args.self.now.conn)). c.own_is_found.ensures m c.facts.ensures (tables_in g.S.Store c.args.self.now.conn) name c.args.power coded c.requires.power in
     looks_learned g.S.Store m c.args.self.now c.look_own.new.conn _ _ c.in-Ok.own _ c.args.self.now.seen c.learn.new.self c.args.self.now.idle c.in-Ok.ensures.selects
     (λ kept clean. c.in-Ok.ensures.value kept.0 clean
     (λ so. subst (λ (o : Option Own). IfSome o IsIdle) (is kept.1.coded) (kept.4 name c.args.power (sym c.is_idle-idle.ensures ∙ so)))

@@ -1,5 +1,5 @@
 -- Seats that have neither orders nor a vote.
-use Rattle.std.proofs.Common.{◌≡◌, ◌&&◌, ◌==◌, ◌⊎◌, inl, inr, ℕ, zero, suc, Bool, true, false, not, cond, List, [], ◌∷◌, ◌++◌, Option, None, Some, IfSome, String, Result, Ok, Err, OnOk, OnErr, map, option_map, option_and_then, refl, sym, ap, subst, ◌∙◌, bytes_eq, string_bytes, get_or, eqb-true}
+use Rattle.std.proofs.Common.{◌≡◌, ◌&&◌, ◌==◌, ◌⊎◌, inl, inr, ℕ, zero, suc, Bool, true, false, not, cond, List, [], ◌∷◌, ◌++◌, Option, None, Some, IfSome, String, Result, Ok, Err, OnOk, OnErr, map, option_map, option_and_then, refl, sym, ap, subst, ◌∙◌, bytes_eq, string_bytes, get_or, eqb-true, length, nat_lt}
 use Rattle.std.specs.List.{list_any, slice_set}
 use Rattle.std.specs.declared.alloc.Global.{Global}
 use Rattle.std.specs.Map.{lookup}
@@ -14,7 +14,7 @@ use Rattle.dip_desk_state.specs.Records.{Kept, Own, Public}
 use Rattle.dip_desk_state.specs.State.{Author, Nobody, TheMaster, Seat, Change, Effect, Nothing, Pending, Votes, Delivers, Opens, Publishes, Seats, Game, NewSeat, Part, State, fresh, game_after, game_at, is_seat, name_of, new_games, opening_game, own_at, own_effect, own_of, power_in, seat_at, state_after, with_author, with_digest, with_effect, with_item, with_letter}
 use Rattle.dip_desk_state.proofs.KeyedLemmas.{at-append, at-change_at_other, at-change_at_same, names_tell, powers_tell}
 use Rattle.dip_store_looks.specs.Shown.{IsIdle}
-use Rattle.dip_store.specs.Idle.{Idle, RecallsIdle, is_idle, is_still, is_stirring, stirs}
+use Rattle.dip_store.specs.Idle.{Idle, RecallsIdle, idle_with_room, is_idle, is_still, is_stirring, most_idle, stirs}
 use Rattle.dip_store.specs.Seen.{DifferByName}
 use Rattle.dip_store.proofs.Behind.{keeps_power}
 use Rattle.dip_store.proofs.Named.{found_said, said, updated_said}
@@ -183,12 +183,20 @@ idle_behind c old new leaves s recalls name power h =
     let it = leaves name power h in
     idle_stays c s name power it.1 (recalls name power it.0)
 
+-- where room is made no more is known
+room_idle : (ws : Idle) (name : List ℕ) (power : ℕ) → is_idle name power (idle_with_room ws) ≡ true → is_idle name power ws ≡ true
+room_idle ws name power = go (nat_lt (length ws) most_idle)
+  where
+    go : (b : Bool) → is_idle name power (cond b ws []) ≡ true → is_idle name power ws ≡ true
+    go true h = h
+    go false h = absurd (let x = h in cc)
+
 -- and of each seat of a game that is opened
 pub begun_idle : (c : Change) (s : State) (game : List ℕ) (p : Public) (paper : List ℕ) (seats : List NewSeat) (old new : Idle) → game ≡ p.game → c.effect ≡ Opens p paper seats → DifferByName (state_after c s).games
-    → ((name : List ℕ) (power : ℕ) → is_idle name power new ≡ true → (is_idle name power old ≡ true) ⊎ (bytes_eq game name ≡ true))
+    → ((name : List ℕ) (power : ℕ) → is_idle name power new ≡ true → (is_idle name power (idle_with_room old) ≡ true) ⊎ (bytes_eq game name ≡ true))
     → RecallsIdle (state_after c s) old → RecallsIdle (state_after c s) new
 begun_idle c s game p paper seats old new named is apart begins recalls name power h = elim (begins name power h) [
-  | inl before ↦ recalls name power before
+  | inl before ↦ recalls name power (room_idle old name power before)
   | inr here ↦ subst (λ (n : List ℕ). IfSome (own_at n power (state_after c s)) IsIdle) ((bytes_eq-Decides game name).0 here) (opened_idle c s game p paper seats named is apart power)
 ]
 
@@ -219,15 +227,15 @@ put_named other bs name marks ws vs key same =
 abbrev IsPut : List ℕ → List Bool → Idle → Idle → Type 0
 IsPut game marks old new = (name : List ℕ) → lookup (bytes_eq name) new ≡ cond (bytes_eq game name) (Some marks) (lookup (bytes_eq name) old)
 
-pub begun : {X E : Type 0} (did : Result X E) (game : List ℕ) (marks : List Bool) (old room new : Idle) → ((name : List ℕ) (power : ℕ) → is_idle name power room ≡ true → is_idle name power old ≡ true)
+pub begun : {X E : Type 0} (did : Result X E) (game : List ℕ) (marks : List Bool) (old room new : Idle) → room ≡ idle_with_room old
     → OnOk did (IsPut game marks room new) → OnErr did (new ≡ room)
-    → (name : List ℕ) (power : ℕ) → is_idle name power new ≡ true → (is_idle name power old ≡ true) ⊎ (bytes_eq game name ≡ true)
+    → (name : List ℕ) (power : ℕ) → is_idle name power new ≡ true → (is_idle name power (idle_with_room old) ≡ true) ⊎ (bytes_eq game name ≡ true)
 begun (Ok x) game marks old room new roomy ok err name power h = go (bytes_eq game name) refl (ok name)
   where
-    go : (b : Bool) → bytes_eq game name ≡ b → lookup (bytes_eq name) new ≡ cond b (Some marks) (lookup (bytes_eq name) room) → (is_idle name power old ≡ true) ⊎ (bytes_eq game name ≡ true)
+    go : (b : Bool) → bytes_eq game name ≡ b → lookup (bytes_eq name) new ≡ cond b (Some marks) (lookup (bytes_eq name) room) → (is_idle name power (idle_with_room old) ≡ true) ⊎ (bytes_eq game name ≡ true)
     go true is put = inr is
-    go false is put = inl (roomy name power (ap (is_still power) (sym put) ∙ h))
-begun (Err e) game marks old room new roomy ok err name power h = inl (roomy name power (subst (λ (ws : Idle). is_idle name power ws ≡ true) err h))
+    go false is put = inl (subst (λ (ws : Idle). is_idle name power ws ≡ true) roomy (ap (is_still power) (sym put) ∙ h))
+begun (Err e) game marks old room new roomy ok err name power h = inl (subst (λ (ws : Idle). is_idle name power ws ≡ true) (err ∙ roomy) h)
 
 -- a game's marks are taken out
 abbrev pub IsOut : List ℕ → Idle → Idle → Type 0

@@ -1,5 +1,5 @@
 -- Which seats of the games that were opened here have neither ordered nor voted since.
-use Rattle.std.specs.Prelude.{◌≡◌, ◌&&◌, ℕ, Bool, true, false, not, List, Option, None, Some, IfSome, bytes_eq, get_or}
+use Rattle.std.specs.Prelude.{◌≡◌, ◌&&◌, ℕ, Bool, true, false, not, List, [], Option, None, Some, IfSome, bytes_eq, get_or, length, nat_lt, if◌then◌else◌}
 use Rattle.std.specs.Map.{lookup}
 use Rattle.dip_desk_state.specs.State.{Change, Effect, Nothing, Pending, Votes, Delivers, Opens, Publishes, Seats, State, is_seat, own_at}
 use Rattle.dip_store_looks.specs.Shown.{IsIdle}
@@ -15,6 +15,14 @@ is_still power (Some stirred) = not (get_or stirred power true)
 
 abbrev pub is_idle : List ℕ → ℕ → Idle → Bool
 is_idle name power ws = is_still power (lookup (bytes_eq name) ws)
+
+-- of so many games at most it is known
+abbrev pub most_idle : ℕ
+most_idle = 16384
+
+-- what stays known where one more comes: all, or nothing where these are the most
+abbrev pub idle_with_room : Idle → Idle
+idle_with_room ws = if nat_lt (length ws) most_idle then ws else []
 
 -- each seat of which that is known votes for no draw, and no order of it stands
 abbrev pub RecallsIdle : State → Idle → Type 0

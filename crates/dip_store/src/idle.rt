@@ -3,7 +3,7 @@ ghost use Rattle.std.specs.Prelude.{◌≡◌, ◌&&◌, ◌==◌, ◌⊎◌, []
 ghost use Rattle.std.specs.Map.{lookup};
 ghost use Rattle.dip_desk_state.specs.ChangeRows as desk_rows;
 ghost use Rattle.dip_desk_state.specs.State.{State, state_after};
-ghost use Rattle.dip_store.specs.Idle.{RecallsIdle, is_idle, is_stirring, stirs};
+ghost use Rattle.dip_store.specs.Idle.{RecallsIdle, idle_with_room, is_idle, is_stirring, stirs};
 ghost use Rattle.dip_store.specs.Seen.{DifferByName};
 
 use dip_desk_state::{Author, Change, Effect};
@@ -71,8 +71,7 @@ impl IdleSeats {
     }
 
     fn make_room(&mut self)
-        ensures { (name : List ℕ) (power : ℕ) → is_idle name power self.new ≡ true
-            → is_idle name power self.old ≡ true }
+        ensures { self.new ≡ idle_with_room self.old }
     {
         if self.games.len() >= MOST_IDLE {
             self.games.clear();
@@ -93,7 +92,8 @@ impl IdleSeats {
     /// Of each seat of a game that is opened it is known.
     fn begin(&mut self, alloc: Global, game: &str)
         ensures { (name : List ℕ) (power : ℕ) → is_idle name power self.new ≡ true
-            → (is_idle name power self.old ≡ true) ⊎ (bytes_eq game.now name ≡ true) }
+            → (is_idle name power (idle_with_room self.old) ≡ true)
+            ⊎ (bytes_eq game.now name ≡ true) }
     {
         self.make_room();
         let _ = self.put(alloc, game, [false; 8]);

@@ -5,6 +5,7 @@ use Rattle.dip_desk_state.specs.Keyed.{at, change_at}
 use Rattle.dip_desk_state.specs.Records.{Kept, Own}
 use Rattle.dip_desk_state.specs.State.{Author, Nobody, TheMaster, Seat, Change, Effect, Nothing, Pending, Votes, Delivers, Opens, Publishes, Seats, Game, Part, State, game_after, game_at, is_seat, name_of, new_games, own_at, own_effect, own_of, power_in, seat_at, state_after, with_author, with_effect, with_letter}
 use Rattle.dip_desk_state.proofs.KeyedLemmas.{at-append, at-change_at_other, at-change_at_same, names_tell, powers_tell}
+use Rattle.dip_desk_machine.proofs.Seeing.{letter_power}
 use Rattle.dip_store.specs.Owns.{HasOwn, is_own, own_behind, papered}
 use Rattle.dip_store.proofs.Seeing.{keeps_name}
 
@@ -28,16 +29,6 @@ own_power s name power o h = go (game_at name s) h
 pub has_own : (s : State) (name : List ℕ) (power : ℕ) (o : Own) → own_at name power s ≡ Some o → HasOwn s name o
 has_own s name power o h = subst (λ (p : ℕ). own_at name p s ≡ Some o) (sym (own_power s name power o h)) h
 
--- a letter leaves a seat its power
-pub keeps_power : (k : Kept) (e : Effect) (x : Part) → power_in (with_letter k e x) ≡ power_in x
-keeps_power k Nothing x = refl
-keeps_power k (Pending orders) x = refl
-keeps_power k (Votes vote) x = refl
-keeps_power k (Delivers readers item) x = refl
-keeps_power k (Opens public paper seats) x = refl
-keeps_power k (Publishes public paper played) x = refl
-keeps_power k (Seats seat) x = refl
-
 -- what a letter makes of the own part of its author, and of those of others
 letter_at : (who : Author) (k : Kept) (e : Effect) (power : ℕ) (xs : List Part) (o : Own) → own_of (seat_at power xs) ≡ Some o
     → own_of (seat_at power (with_author who k e xs)) ≡ Some (cond (is_seat who power) (own_effect e (record o { kept = Some k })) o)
@@ -54,8 +45,8 @@ letter_at (Seat p) k e power xs o h = go (p == power) refl
     go true is =
         subst (λ (q : ℕ). own_of (seat_at power (change_at (λ a b. a == b) power_in q (with_letter k e) xs)) ≡ Some (own_effect e (record o { kept = Some k })))
         (sym (eqb-true p power is))
-        (ap (λ (x : Option Part). own_of x) (at-change_at_same (λ a b. a == b) power_in power (with_letter k e) xs (keeps_power k e)) ∙ changed (seat_at power xs) h)
-    go false is = ap (λ (x : Option Part). own_of x) (at-change_at_other (λ a b. a == b) power_in p power (with_letter k e) xs powers_tell (keeps_power k e) is) ∙ h
+        (ap (λ (x : Option Part). own_of x) (at-change_at_same (λ a b. a == b) power_in power (with_letter k e) xs (letter_power k e)) ∙ changed (seat_at power xs) h)
+    go false is = ap (λ (x : Option Part). own_of x) (at-change_at_other (λ a b. a == b) power_in p power (with_letter k e) xs powers_tell (letter_power k e) is) ∙ h
 
 -- what such an effect makes of a seat besides: nothing, but for a paper
 module _ (e : Effect) (own : is_own e ≡ true) where

@@ -13,16 +13,16 @@ use Rattle.dip_desk_state.specs.Keyed.{at, change_at}
 use Rattle.dip_desk_state.specs.Records.{Kept, Own, Public}
 use Rattle.dip_desk_state.specs.State.{Author, Nobody, TheMaster, Seat, Change, Effect, Nothing, Pending, Votes, Delivers, Opens, Publishes, Seats, Game, NewSeat, Part, State, fresh, game_after, game_at, is_seat, name_of, new_games, opening_game, own_at, own_effect, own_of, power_in, seat_at, state_after, with_author, with_digest, with_effect, with_item, with_letter}
 use Rattle.dip_desk_state.proofs.KeyedLemmas.{at-append, at-change_at_other, at-change_at_same, names_tell, powers_tell}
+use Rattle.dip_desk_machine.proofs.Seeing.{effect_power, letter_power}
 use Rattle.dip_store_looks.specs.Shown.{IsIdle}
 use Rattle.dip_store.specs.Idle.{Idle, RecallsIdle, idle_with_room, is_idle, is_still, is_stirring, most_idle, stirs}
 use Rattle.dip_store.specs.Seen.{DifferByName}
-use Rattle.dip_store.proofs.Behind.{keeps_power}
 use Rattle.dip_store.proofs.Named.{found_said, said, updated_said}
 use Rattle.dip_store.proofs.Seeing.{at_last, keeps_name}
 
 -- ---- a seat behind a change
 
--- an effect leaves each idle seat so, and each its power
+-- an effect leaves each idle seat so
 still_idle : (e : Effect) (x : Part) → IsIdle x.own → IsIdle (with_effect e x).own
 still_idle Nothing x idle = idle
 still_idle (Pending orders) x idle = idle
@@ -41,31 +41,13 @@ still_idle (Seats seat) x idle = go (seat.power == power_in x)
     go true = record { vote = idle.vote; pending = idle.pending }
     go false = idle
 
-same_power : (e : Effect) (x : Part) → power_in (with_effect e x) ≡ power_in x
-same_power Nothing x = refl
-same_power (Pending orders) x = refl
-same_power (Votes vote) x = refl
-same_power (Delivers readers item) x = go (list_any (λ p. p == power_in x) readers)
-  where
-    go : (b : Bool) → power_in (cond b (with_item item x) x) ≡ power_in x
-    go true = refl
-    go false = refl
-same_power (Opens public paper seats) x = refl
-same_power (Publishes public paper true) x = refl
-same_power (Publishes public paper false) x = refl
-same_power (Seats seat) x = go (seat.power == power_in x)
-  where
-    go : (b : Bool) → power_in (cond b (with_digest seat.digest x) x) ≡ power_in x
-    go true = refl
-    go false = refl
-
 abbrev SeatIsIdle : Option Part → Type 0
 SeatIsIdle seat = IfSome (own_of seat) IsIdle
 
 each_idle : (e : Effect) (power : ℕ) (xs : List Part) → SeatIsIdle (seat_at power xs) → SeatIsIdle (seat_at power (map (with_effect e) xs))
 each_idle e power [] idle = tt
 each_idle e power (x ∷ xs) idle =
-    subst (λ (p : ℕ). SeatIsIdle (cond (p == power) (Some (with_effect e x)) (seat_at power (map (with_effect e) xs)))) (sym (same_power e x))
+    subst (λ (p : ℕ). SeatIsIdle (cond (p == power) (Some (with_effect e x)) (seat_at power (map (with_effect e) xs)))) (sym (effect_power e x))
     (go (power_in x == power) idle (each_idle e power xs))
   where
     go : (b : Bool) → SeatIsIdle (cond b (Some x) (seat_at power xs)) → (SeatIsIdle (seat_at power xs) → SeatIsIdle (seat_at power (map (with_effect e) xs)))
@@ -99,8 +81,8 @@ letter_idle (Seat p) k e power xs off idle = go (p == power) refl off
     go : (b : Bool) → (p == power) ≡ b → (is_stirring e && b) ≡ false → SeatIsIdle (seat_at power (change_at (λ a b. a == b) power_in p (with_letter k e) xs))
     go true is off =
         subst (λ (q : ℕ). SeatIsIdle (seat_at power (change_at (λ a b. a == b) power_in q (with_letter k e) xs))) (sym (eqb-true p power is))
-        (subst SeatIsIdle (sym (at-change_at_same (λ a b. a == b) power_in power (with_letter k e) xs (keeps_power k e))) (changed (and_true (is_stirring e) off) (seat_at power xs) idle))
-    go false is off = subst SeatIsIdle (sym (at-change_at_other (λ a b. a == b) power_in p power (with_letter k e) xs powers_tell (keeps_power k e) is)) idle
+        (subst SeatIsIdle (sym (at-change_at_same (λ a b. a == b) power_in power (with_letter k e) xs (letter_power k e))) (changed (and_true (is_stirring e) off) (seat_at power xs) idle))
+    go false is off = subst SeatIsIdle (sym (at-change_at_other (λ a b. a == b) power_in p power (with_letter k e) xs powers_tell (letter_power k e) is)) idle
 
 -- a new seat is idle
 fresh_idle : (power : ℕ) (seats : List NewSeat) → SeatIsIdle (seat_at power (map fresh seats))

@@ -17,7 +17,7 @@ use std::io::Read;
 use std::net::{Shutdown, TcpStream};
 use std::time::{Clock, Duration};
 
-/// How many reads, of at most 1,024 bytes each, are made of what a client still sends behind its request.
+/// How many reads, of at most 1,024 bytes each, are made of what a client still sends after its request.
 pub const MOST_DROPPED: u32 = 64;
 
 /// Reads what a client still sends, and drops it: a socket that is closed with unread bytes takes back the answer.
@@ -31,12 +31,13 @@ fn drop_rest<R: Read>(reader: &mut R) {
     }
 }
 
-/// Answers one client: its request has `MOST_SECONDS` to come, and each write of the answer as long to be taken. Then no more is written, and
-/// what the client still sends within its time is dropped, at most `MOST_DROPPED` reads of it, so that the answer reaches it.
+/// Answers one client. Its first byte has `MOST_SILENT_SECONDS` to come and its request `MOST_SECONDS`; each write of the answer has as
+/// long to be taken. Then no more is written. What a client that was answered still sends within `MOST_DROPPING_MILLIS` is dropped, at
+/// most `MOST_DROPPED` reads of it, so that the answer reaches it.
 ///
 /// # Errors
 /// Those of `answer_one`: a client that was too slow gives `Read`, and its answer is nothing; a clock or a socket that can't be asked gives `Read`
-/// too. Nothing behind the answer is told of.
+/// too. Nothing after the answer is told of.
 pub fn serve_one<C: Clock, K: Keeper>(
     alloc: Global,
     clock: &C,
@@ -80,7 +81,11 @@ pub fn serve_one<C: Clock, K: Keeper>(
     }
     let mut writer = stream;
     let result = answer_one(alloc, &mut reader, &mut writer, keeper, map, routes);
-    if stream.shutdown(Shutdown::Write).is_ok() {
+    let is_answered = match &result {
+        Err(HttpFault::Read) | Err(HttpFault::Memory) => false,
+        _ => true,
+    };
+    if is_answered && stream.shutdown(Shutdown::Write).is_ok() && reader.begin_dropping().is_ok() {
         drop_rest(&mut reader);
     }
     result

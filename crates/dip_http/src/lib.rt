@@ -33,5 +33,5 @@ pub use serving::serve_all;
 pub use size::{MOST_BODY, Size};
 pub use state::state_text;
 pub use table::Routes;
-pub use timed::{MOST_SECONDS, Timed};
+pub use timed::{MOST_DROPPING_MILLIS, MOST_SECONDS, MOST_SILENT_SECONDS, Timed};
 pub use writing::{Answer, Unwritten, write_answer};

@@ -4,20 +4,30 @@ use std::io::{ErrorKind, Read};
 use std::net::TcpStream;
 use std::time::{Clock, Duration, Instant};
 
-/// How many seconds a client has, from the first look at the clock, for all that is read of it.
+/// How many seconds a client has for its first byte: a browser opens connections that it doesn't use.
+pub const MOST_SILENT_SECONDS: u64 = 2;
+
+/// How many seconds a client has for its whole request, from the first look at the clock.
 pub const MOST_SECONDS: u64 = 10;
 
-/// A reader of a client's bytes that fails, by `TimedOut` or by `WouldBlock`, once the client's time is up; each read waits for the rest of
-/// that time at most, so that a client who writes one byte now and then gains nothing.
+/// How many milliseconds are spent on what a client still sends after its answer.
+pub const MOST_DROPPING_MILLIS: u64 = 500;
+
+/// A reader of a client's bytes that fails, by `TimedOut` or by `WouldBlock`, once the client's time
+/// is up. Each read waits for the rest of that time at most, so that a client who writes one byte
+/// now and then gains nothing.
 #[derive(Drop)]
 pub struct Timed<'a, C: Clock> {
     stream: &'a TcpStream,
     clock: &'a C,
     start: Instant,
+    limit: Duration,
+    is_silent: bool,
 }
 
 impl<'a, C: Clock> Timed<'a, C> {
-    /// The client's time begins.
+    /// The client's time begins: `MOST_SILENT_SECONDS` until its first byte, and then
+    /// `MOST_SECONDS` from the start.
     ///
     /// # Errors
     /// The clock's.
@@ -26,24 +36,42 @@ impl<'a, C: Clock> Timed<'a, C> {
             stream,
             clock,
             start: Instant::now(clock)?,
+            limit: Duration::from_secs(MOST_SILENT_SECONDS),
+            is_silent: true,
         })
     }
 
-    /// What is left of the client's time.
-    fn left(&self) -> io::Result<Duration> {
+    /// The client has its answer: from now on it has `MOST_DROPPING_MILLIS`.
+    ///
+    /// # Errors
+    /// The clock's.
+    pub fn begin_dropping(&mut self) -> io::Result<()> {
+        self.start = Instant::now(self.clock)?;
+        self.limit = Duration::from_millis(MOST_DROPPING_MILLIS);
+        self.is_silent = false;
+        Ok(())
+    }
+
+    /// The time that the client has left.
+    fn time_left(&self) -> io::Result<Duration> {
         let gone = self.start.elapsed(self.clock)?;
-        Ok(Duration::from_secs(MOST_SECONDS).saturating_sub(gone))
+        Ok(self.limit.saturating_sub(gone))
     }
 }
 
 impl<C: Clock> Read for Timed<'_, C> {
     fn read(&mut self, buffer: &mut [u8]) -> io::Result<usize> {
-        let left = self.left()?;
+        let left = self.time_left()?;
         if left.is_zero() {
             return Err(ErrorKind::TimedOut.into());
         }
         let mut stream = self.stream;
         stream.set_read_timeout(Some(left))?;
-        stream.read(buffer)
+        let count = stream.read(buffer)?;
+        if self.is_silent {
+            self.is_silent = false;
+            self.limit = Duration::from_secs(MOST_SECONDS);
+        }
+        Ok(count)
     }
 }

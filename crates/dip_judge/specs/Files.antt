@@ -8,7 +8,7 @@ use Rattle.sqlite.specs.Store.{Ghosts}
 use Rattle.sqlite.specs.Tree.{Trees}
 use Rattle.dip_map.specs.Charts.{Chart}
 use Rattle.dip_judge_words.specs.declared.args.Args.{Args}
-use Rattle.dip_judge_words.specs.declared.args.Args.TheVariants.{Init, Letters, Stored, Serve, Report}
+use Rattle.dip_judge_words.specs.declared.args.Args.TheVariants.{Init, Letters, Stored, Serve, Report, Version}
 use Rattle.dip_desk_state.specs.State.{State}
 use Rattle.dip_store.specs.Calls.{does_show, is_honest}
 use Rattle.dip_store.specs.Opening.{Holds}
@@ -71,13 +71,14 @@ module _ {S : Type 0} (g : Ghosts S) (image : Image) (m : Chart) where
   StopsReportIn game before after failure = FromHeld g image m (λ s new. StopsReport g m (HasFaults g new) game s new before after failure) (λ s new. OldStopsReport g m (HasFaults g new) game s new before after failure)
 
 module _ {S : Type 0} (g : Ghosts S) (image : Image) (m : Chart) (known left before after : Option (List ℕ)) where
-  -- what a command that went well leaves of the store that it opened; over tables in memory there is none
+  -- what a command that went well leaves of the store that it opened; over tables in memory, and of the version, there is none
   abbrev pub LeavesStore : Args → Option (Held S) → Type 0
   LeavesStore (Init path master file) opened = WasOpened opened (MadeIn g m master.now)
   LeavesStore (Letters master file) opened = Unit {0}
   LeavesStore (Stored path file) opened = WasOpened opened (AnswersIn g image m known left before after)
   LeavesStore (Serve path port count file) opened = WasOpened opened (ServesIn g image m count)
   LeavesStore (Report path game file) opened = WasOpened opened (ReportsIn g image m game.now before after)
+  LeavesStore Version opened = Unit {0}
 
   -- and one that ended early of the store that it had opened
   abbrev pub StopsStore : Args → Failure → Held S → Type 0
@@ -86,3 +87,4 @@ module _ {S : Type 0} (g : Ghosts S) (image : Image) (m : Chart) (known left bef
   StopsStore (Stored path file) failure = AnswersUpTo g image m known left before after failure
   StopsStore (Serve path port count file) failure = StopsServingIn g image m count failure
   StopsStore (Report path game file) failure = StopsReportIn g image m game.now before after failure
+  StopsStore Version failure = λ store. Unit {0}

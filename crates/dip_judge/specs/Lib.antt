@@ -1,4 +1,5 @@
 pub mod Stores
 pub mod Failures
+pub mod Version
 pub mod Files
 pub mod Asked

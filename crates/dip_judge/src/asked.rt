@@ -8,8 +8,9 @@ ghost use Rattle.dip_judge.specs.Stores.{IsReportFailure, IsServeFailure, ReadsU
 ghost use Rattle.dip_judge_runs.specs.Runs.{IsReadToEnd};
 
 use crate::failures::Failure;
-use crate::files::{Stored, close_file, open_file, open_present};
+use crate::files::{Stored, close_file, open_new, open_present};
 use crate::stored::{answer_stored, make_desk, report_stored, serve_stored};
+use crate::version::write_version;
 use dip_judge_runs::{answer_letters, read_map, text_said};
 use dip_judge_words::{Args, read_args};
 use dip_map::{Map, STANDARD};
@@ -31,7 +32,7 @@ fn init_file<S: Start>(
         (λ _. IfSome result.1 (UnmadeIn over_files (image_at S.Start))) }
     ensures failed { IfErr result.0 IsInitFailure }
 {
-    match open_file(rt, start, path) {
+    match open_new(rt, start, path) {
         Err(fault) => (Err(Failure::Store(fault)), None),
         Ok(store) => match make_desk(rt.alloc(), store, map, text, master) {
             (Ok(()), store) => (Ok(()), Some(store)),
@@ -160,12 +161,13 @@ fn do_asked<S: Start, R: Read, W: Write>(
         Args::Report { store, game, .. } => {
             report_file(rt, start, store, map, text, game, writer)
         }
+        Args::Version => (write_version(writer), None),
     }
 }
 
 /// Does what the words ask for, the program's own name being the first of them, over the map of the file that is named, or the standard
 /// map: makes a desk in a store; answers the letters of the reader, from a fresh desk on in memory or from a store's desk on; serves
-/// clients; or writes a game's papers. A store lies in the file that is named, of which `start` says what it holds at first. It is
+/// clients; writes a game's papers; or writes what the program is. A store lies in the file that is named, of which `start` says what it holds at first. It is
 /// handed back where it was opened.
 ///
 /// # Errors

@@ -8,6 +8,8 @@ ghost use Rattle.dip_judge.specs.Stores.{IsOpenFault, IsFindFault};
 
 use dip_store::{StoreFault, open_fault};
 use sqlite::{Connection, FileFrom, FileStore, Start};
+use std::fs::OpenOptions;
+use std::os::unix::fs::OpenOptionsExt;
 use std::path::Path;
 use std::{fs, io};
 
@@ -18,11 +20,7 @@ pub type Stored<S> = Connection<FileStore<FileFrom<S>>>;
 ///
 /// # Errors
 /// Want of memory; or the disk, also for a file that isn't a database or that another program has open.
-pub(crate) fn open_file<S: Start>(
-    rt: &HostRuntime,
-    start: S,
-    path: &str,
-) -> Result<Stored<S>, StoreFault>
+fn open_file<S: Start>(rt: &HostRuntime, start: S, path: &str) -> Result<Stored<S>, StoreFault>
     ensures fault { IfErr result IsOpenFault }
     ensures opened { IfOk result (λ c. HasCleanDisk (file_state c) → IsOpened c) }
     ensures found { IfOk result
@@ -51,6 +49,36 @@ fn is_missing(rt: &HostRuntime, path: &str) -> bool {
         Ok(_) => false,
         Err(error) => error.kind() == io::ErrorKind::NotFound && has_folder(rt, path),
     }
+}
+
+/// Makes an empty file that nobody but its owner may read or write, where no file has this name. What is wrong with the name is told when
+/// the store is opened.
+fn make_private(rt: &HostRuntime, path: &str) {
+    if is_missing(rt, path) {
+        let _ = OpenOptions::new()
+            .write(true)
+            .create_new(true)
+            .mode(0o600)
+            .open(rt, path);
+    }
+}
+
+/// Opens the store of a file, which is made where there is none: empty, and for its owner alone. The log beside it gets its rights.
+///
+/// # Errors
+/// Those of `open_file`.
+pub(crate) fn open_new<S: Start>(
+    rt: &HostRuntime,
+    start: S,
+    path: &str,
+) -> Result<Stored<S>, StoreFault>
+    ensures fault { IfErr result IsOpenFault }
+    ensures opened { IfOk result (λ c. HasCleanDisk (file_state c) → IsOpened c) }
+    ensures found { IfOk result
+        (λ c. HasCleanDisk (file_state c) → FindsIn (image_at S.Start) (file_state c)) }
+{
+    make_private(rt, path);
+    open_file(rt, start, path)
 }
 
 /// Opens the store of a file that is there.

@@ -8,6 +8,7 @@ mod files;
 mod listening;
 mod program;
 mod stored;
+mod version;
 
 use crate::program::run_program;
 pub use asked::{do_as_asked, run_as_asked};

@@ -11,7 +11,7 @@ ghost use Rattle.dip_store.specs.Renewing.{IsOldStore, old_said_by};
 ghost use Rattle.dip_store.specs.Stored.{IsStore};
 
 use crate::failures::Failure;
-use crate::listening::Listening;
+use crate::listening::{Listening, listen_on};
 use dip_http::{Routes, serve_all};
 use dip_judge_runs::run_file;
 use dip_letters::digest;
@@ -20,7 +20,6 @@ use dip_store::{SqlKeeper, StoreFault};
 use sqlite::{Alter, Connection};
 use std::alloc::Global;
 use std::io::{Read, Write};
-use std::net::TcpListener;
 
 /// Makes a desk in an empty store, whose master has this secret, for the map of this text. The store is handed back.
 ///
@@ -169,7 +168,7 @@ pub(crate) fn serve_stored<S: Alter>(
             let Ok(routes) = Routes::new(alloc) else {
                 return (Err(Failure::Store(StoreFault::Memory)), keeper.into_store());
             };
-            match TcpListener::bind(rt, ("127.0.0.1", port)) {
+            match listen_on(rt, port) {
                 Err(_) => (Err(Failure::Listen), keeper.into_store()),
                 Ok(listener) => {
                     // a standard error that takes nothing is no reason not to serve

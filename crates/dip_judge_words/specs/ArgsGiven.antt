@@ -1,11 +1,12 @@
 -- What the words ask for.
-use Rattle.std.specs.Prelude.{◌≡◌, ◌≤◌, true, List, Option, None, Some, codes, option_map}
+use Rattle.std.specs.Prelude.{◌≡◌, ◌≤◌, true, List, [], Option, None, Some, codes, option_map}
 use Rattle.std.specs.Fmt.{decimal}
-use Rattle.clap.specs.Words.{Row, Text, first_of, subcommand_of}
+use Rattle.clap.specs.Words.{IsAmong, Row, Text, fault_of, first_of, subcommand_of}
+use Rattle.clap.specs.declared.error.kind.ErrorKind.TheVariants.{DisplayVersion}
 use Rattle.dip_letters.specs.Words.{is_secret}
 use Rattle.dip_judge_words.specs.CommandLine.{judge_command}
 use Rattle.dip_judge_words.specs.declared.args.Args.{Args}
-use Rattle.dip_judge_words.specs.declared.args.Args.TheVariants.{Init, Letters, Stored, Serve, Report}
+use Rattle.dip_judge_words.specs.declared.args.Args.TheVariants.{Init, Letters, Stored, Serve, Report, Version}
 
 -- what clap's definition finds in words that it takes: the command's name, and the values of its options
 abbrev pub Found : Type 0
@@ -22,14 +23,16 @@ map_named (Letters master file) = option_map (λ f. f.now) file
 map_named (Stored store file) = option_map (λ f. f.now) file
 map_named (Serve store port count file) = option_map (λ f. f.now) file
 map_named (Report store game file) = option_map (λ f. f.now) file
+map_named Version = None
 
--- the command's name
+-- the command's name; the version is asked for without one
 abbrev pub name_of : Args → Text
 name_of (Init store master file) = codes "init"
 name_of (Letters master file) = codes "letters"
 name_of (Stored store file) = codes "letters"
 name_of (Serve store port count file) = codes "serve"
 name_of (Report store game file) = codes "report"
+name_of Version = []
 
 -- the values of its options but the map; `letters` has a store or a master, not both
 abbrev pub HasValues : Found → Args → Type 0
@@ -39,6 +42,7 @@ HasValues found (Stored store file) = Has found (codes "store") (Some store.now)
 HasValues found (Serve store port count file) = Has found (codes "store") (Some store.now)
     × Has found (codes "port") (Some (decimal port)) × Has found (codes "count") (Some (decimal count))
 HasValues found (Report store game file) = Has found (codes "store") (Some store.now) × Has found (codes "game") (Some game.now)
+HasValues found Version = ⊥
 
 -- what is found is this command with these values
 pub record Shows (found : Found) (a : Args) : Type 0 where
@@ -46,9 +50,19 @@ pub record Shows (found : Found) (a : Args) : Type 0 where
   pub values : HasValues found a
   pub file : Has found (codes "map") (map_named a)
 
--- clap's definition gives the words this command and these values
+-- clap's definition finds nothing in the words but that they ask for the version
+abbrev pub AsksVersion : List Text → Type 0
+AsksVersion words = IsAmong DisplayVersion (fault_of judge_command words)
+
+-- it takes the words, and gives them this command and these values
+abbrev pub GivesCommand : List Text → Args → Type 0
+GivesCommand words a = (fault_of judge_command words ≡ [])
+    × ((found : Found) × (subcommand_of judge_command words ≡ Some found) × Shows found a)
+
+-- what the words ask for
 abbrev pub IsGiven : List Text → Args → Type 0
-IsGiven words a = (found : Found) × (subcommand_of judge_command words ≡ Some found) × Shows found a
+IsGiven words Version = AsksVersion words
+IsGiven words a = GivesCommand words a
 
 -- the master's secret is one, and the numbers are within bounds
 abbrev pub IsFit : Args → Type 0

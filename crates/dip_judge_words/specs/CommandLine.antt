@@ -35,12 +35,12 @@ abbrev pub report_command : App
 report_command = with_rule (with_rule (with_rule (new_app (codes "report"))
     (required_rule (codes "store"))) (required_rule (codes "game"))) (option_rule (codes "map"))
 
--- the program, which wants a command, with the first two of them
+-- the program, which wants a command or tells its version, with the first two commands
 abbrev pub mail_command : App
 mail_command = with_subcommand (with_subcommand (on_required (new_app (codes "dip_judge"))) init_command.top) letters_command.top
   where
     on_required : App → App
-    on_required a = record a { top = record a.top { subcommand_required = true } }
+    on_required a = record a { top = record a.top { has_version = true; subcommand_required = true } }
 
 -- the program
 abbrev pub judge_command : App

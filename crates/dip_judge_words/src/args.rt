@@ -34,6 +34,8 @@ pub enum Args<'a> {
         game: &'a str,
         map: Option<&'a str>,
     },
+    /// Print what this program is: its version, its standard map, and by what it was proved.
+    Version,
 }
 
 impl<'a> Args<'a> {
@@ -47,6 +49,7 @@ impl<'a> Args<'a> {
             Args::Stored { map, .. } => map,
             Args::Serve { map, .. } => map,
             Args::Report { map, .. } => map,
+            Args::Version => None,
         }
     }
 }

@@ -7,6 +7,7 @@ ghost use Rattle.dip_judge_words.specs.CommandLine.{init_command, judge_command,
 use crate::options::{
     count_arg, game_arg, map_arg, master_arg, port_arg, required_master, required_store, store_arg,
 };
+use crate::version::VERSION;
 use clap::{Arg, Command};
 use std::alloc::{AllocError, Global};
 
@@ -91,6 +92,7 @@ fn mail_command<'a>(alloc: Global) -> Result<Command<'a>, AllocError>
     let init = init_command(alloc)?;
     let letters = letters_command(alloc)?;
     Command::new(alloc, "dip_judge")
+        .version(VERSION)
         .subcommand_required(true)
         .subcommand(init)?
         .subcommand(letters)

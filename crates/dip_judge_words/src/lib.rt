@@ -8,7 +8,9 @@ mod numbers;
 mod options;
 mod reading;
 mod values;
+mod version;
 
 pub use args::Args;
 pub use faults::UsageFault;
 pub use reading::read_args;
+pub use version::VERSION;

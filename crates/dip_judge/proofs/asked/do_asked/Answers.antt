@@ -29,12 +29,12 @@ returns-in-Serve-clause-stops g c =
     stops_as over_files (image_at g.S.Start) c.args.map.now (g.R.Read.remaining c.args.reader.now) (g.R.Read.remaining c.args.reader.now) (g.W.Write.contents c.args.writer.now) (g.W.Write.contents c.args.writer.now)
     c.args.args.now _ c.in-Serve.is c.serve_file.result.1 c.serve_file.result.0 c.serve_file.ensures.stops
 
-pub returns-clause-leaves : goal.returns-clause-leaves
-returns-clause-leaves g c =
+pub returns-in-Report-clause-leaves : goal.returns-in-Report-clause-leaves
+returns-in-Report-clause-leaves g c =
     leaves_as over_files (image_at g.S.Start) c.args.map.now (g.R.Read.remaining c.args.reader.now) (g.R.Read.remaining c.args.reader.now) (g.W.Write.contents c.args.writer.now) (g.W.Write.contents c.report_file.new.writer)
     c.args.args.now _ c.in-Report.is c.report_file.result.1 c.report_file.result.0 c.report_file.ensures.done
 
-pub returns-clause-stops : goal.returns-clause-stops
-returns-clause-stops g c =
+pub returns-in-Report-clause-stops : goal.returns-in-Report-clause-stops
+returns-in-Report-clause-stops g c =
     stops_as over_files (image_at g.S.Start) c.args.map.now (g.R.Read.remaining c.args.reader.now) (g.R.Read.remaining c.args.reader.now) (g.W.Write.contents c.args.writer.now) (g.W.Write.contents c.report_file.new.writer)
     c.args.args.now _ c.in-Report.is c.report_file.result.1 c.report_file.result.0 c.report_file.ensures.stops

@@ -17,9 +17,9 @@ returns-clause-stops g c =
     serves_up_to g.S.Store c.args.map.now c.args.store c.args.count _ c.in-Ok.keeper c.serve_all.new.keeper opened c.in-Ok.ensures.counted
     (c.serve_all.ensures.ends (is_open g.S.Store c.args.map.now _ c.in-Ok.keeper opened) clean))
 
-pub returns-in-Err-bind-clause-stops : goal.returns-in-Err-bind-clause-stops
-returns-in-Err-bind-clause-stops g c =
-    rw c.into_store-in-Err-bind.ensures
+pub returns-in-Err-listen_on-clause-stops : goal.returns-in-Err-listen_on-clause-stops
+returns-in-Err-listen_on-clause-stops g c =
+    rw c.into_store-in-Err-listen_on.ensures
     (λ clean desk.
     let opened = c.in-Ok.ensures.opened clean desk.wrote in
     ends_still g.S.Store c.args.map.now _ _ c.in-Ok.keeper.conn _ (holds g.S.Store c.args.map.now _ c.in-Ok.keeper opened))
@@ -40,9 +40,9 @@ returns-clause-old_stops g c =
     serves_up_to g.S.Store c.args.map.now c.args.store c.args.count _ c.in-Ok.keeper c.serve_all.new.keeper opened c.in-Ok.ensures.counted
     (c.serve_all.ensures.ends (is_open g.S.Store c.args.map.now _ c.in-Ok.keeper opened) clean))
 
-pub returns-in-Err-bind-clause-old_stops : goal.returns-in-Err-bind-clause-old_stops
-returns-in-Err-bind-clause-old_stops g c =
-    rw c.into_store-in-Err-bind.ensures
+pub returns-in-Err-listen_on-clause-old_stops : goal.returns-in-Err-listen_on-clause-old_stops
+returns-in-Err-listen_on-clause-old_stops g c =
+    rw c.into_store-in-Err-listen_on.ensures
     (λ clean desk.
     let opened = c.in-Ok.ensures.renewed clean desk.wrote in
     ends_still g.S.Store c.args.map.now _ _ c.in-Ok.keeper.conn _ (holds g.S.Store c.args.map.now _ c.in-Ok.keeper opened))

@@ -1,8 +1,18 @@
-use Rattle.std.proofs.lemmas.Result.{err_from_is_err_and}
-use Rattle.dip_judge_words.proofs.CommandLineLemmas.{refused_by}
+use Rattle.std.proofs.Common.{rules}
+use Rattle.dip_judge_words.proofs.CommandLineLemmas.{asks_by, refused_by, taken_by}
 use Rattle.dip_judge_words.proofs.reading.matches_of.Goals as goal
 
-pub returns-in_err-matches-clause-faults : goal.returns-in_err-matches-clause-faults
-returns-in_err-matches-clause-faults c =
-    let p = err_from_is_err_and c.from_residual-in_err-matches.result c.from_residual-in_err-matches.ensures.1 in
-    rw (p.1, p.2) (refused_by _ _ c.in_err-matches.field-0.0 c.in_ok-judge_command.ensures c.in_err-matches.ensures.kinds)
+pub returns-in-Ok-clause-taken : goal.returns-in-Ok-clause-taken
+returns-in-Ok-clause-taken c = taken_by _ _ c.in_ok-judge_command.ensures c.in-Ok.ensures.kinds
+
+pub returns-in-DisplayVersion-clause-version : goal.returns-in-DisplayVersion-clause-version
+returns-in-DisplayVersion-clause-version c =
+    asks_by _ _ c.in-Err.error c.in_ok-judge_command.ensures c.in-Err.ensures.kinds (search rules)
+
+pub returns : goal.returns
+returns c = record {
+  taken = tt;
+  found = tt;
+  version = tt;
+  faults = rw (c.from.ensures) (refused_by _ _ c.in-Err.error c.in_ok-judge_command.ensures c.in-Err.ensures.kinds (search rules));
+}

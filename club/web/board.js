@@ -90,7 +90,10 @@ function spotOf(place) {
   const p = MAP.provinces[n];
   return p && (coast && p.coasts?.[coast] ? p.coasts[coast].at : p.at);
 }
-const beside = ([x, y]) => [x + 24 * k, y + 15 * k];
+const beside = ([x, y]) => [x + 29 * k, y + 19 * k];
+
+const STAR = "M" + Array.from({ length: 10 }, (_, i) => [i % 2 ? 4.4 : 10.5, i * Math.PI / 5])
+  .map(([r, a]) => `${(r * Math.sin(a)).toFixed(1)} ${(-r * Math.cos(a)).toFixed(1)}`).join("L") + "Z";
 
 function drawCentres(board, changes) {
   const owner = {};
@@ -101,15 +104,18 @@ function drawCentres(board, changes) {
     owners[n].setAttribute("fill", owner[n] ? `url(#hatch-${owner[n]})` : "none");
     const [x, y] = [p.at[0] + (p.label[0] - p.at[0]) * k, p.at[1] + (p.label[1] - p.at[1]) * k];
     const g = el("g", { class: "label " + p.kind }, layers.labels);
-    const t = el("text", { x: x + (p.centre ? 8 * k : 0), y: y + 7 * k, "font-size": 20 * k }, g,
+    const t = el("text", { x: x + (p.centre ? 10 * k : 0), y: y + 7 * k, "font-size": 20 * k }, g,
       p.kind === "sea" ? n : n.toUpperCase());
     t.setAttribute("stroke-width", 4 * k);
+    for (const c in p.coasts) {
+      el("text", { x: p.coasts[c].at[0], y: p.coasts[c].at[1] + 31 * k, "font-size": 16 * k, class: "coast-name",
+        "stroke-width": 3 * k }, g, c);
+    }
     if (!p.centre) continue;
-    const c = el("g", { class: "centre", transform: `translate(${x - 23 * k} ${y}) scale(${k})`,
+    const c = el("g", { class: "centre", transform: `translate(${x - 26 * k} ${y}) scale(${k})`,
       "data-centre": n, "data-owner": owner[n] || "nobody" }, g);
-    if (changes.some((q) => q.centre === n)) el("circle", { r: 11, class: "changed" }, c);
-    el("circle", { r: 7, class: owner[n] ? "fill-" + owner[n] : "free" }, c);
-    el("circle", { r: 2.4, class: "hub" }, c);
+    if (changes.some((q) => q.centre === n)) el("circle", { r: 14, class: "changed" }, c);
+    el("path", { d: STAR, class: "star " + (owner[n] ? "fill-" + owner[n] : "free") }, c);
   }
 }
 
@@ -283,7 +289,7 @@ export function sample(what) {
     disorder: () => badge("disorder", [60, 24], layers.marks),
     holds: () => { g.setAttribute("class", "order hold"); el("circle", { cx: 60, cy: 24, r: 20, class: "ring" }, g); },
     centre: () => { const c = el("g", { class: "centre", transform: "translate(60 24) scale(1.6)" }, g);
-      el("circle", { r: 7, class: "fill-france" }, c); el("circle", { r: 2.4, class: "hub" }, c); },
+      el("path", { d: STAR, class: "star fill-france" }, c); },
     blocked: () => { el("rect", { x: 30, y: 6, width: 60, height: 36, class: "area blocked" }, g);
       el("rect", { x: 30, y: 6, width: 60, height: 36, fill: "url(#hatch-blocked)" }, g); },
   };

@@ -89,33 +89,37 @@ async function post(bytes, say) {
   return { status: 0, text: "", doubt };
 }
 
-const AWAY = "The judge doesn't answer. It isn't known whether your letter arrived. Wait some minutes and "
-  + "press Send again, or ask Show what stands: for orders and votes that does no harm. Before you send press "
-  + "again, ask your reader.";
+const AWAY = "The judge doesn't answer. It isn't known whether your letter arrived. Wait some minutes, change "
+  + "nothing and press Send again: the same letter goes out then, and counts once.";
+const BETWEEN = "Another letter of yours came between, from another window or device. It isn't known whether this one "
+  + "was taken before. Look with Show; if it wasn't, press Send again.";
+let open = null;     // the letter of which no answer came: whose, its number and its lines
 
 // Sends a letter. Answers {fault} in words, or {text, sent}: the reply, and the letter without its secret.
 export async function send({ game, from, secret, lines }, say) {
   const who = game + " " + from;
-  let number = numberFor(who);
+  const again = open?.who === who && open.lines.join("\n") === lines.join("\n") ? open : null;
+  let number = again ? again.number : numberFor(who);
+  open = null;
   for (let i = 0; i < 4; i++) {
     if (number > LAST) return { fault: "The numbers of your letters are used up. Ask your master." };
     const bytes = letterOf(game, from, secret, number, lines);
     const sent = letterOf(game, from, "(left out)", number, lines);
     if (bytes.length > 16384) return { fault: "The letter is too long: 16,384 characters are the limit. Send it in two." };
     const answer = await post(bytes, say);
-    if (!answer.status) return { fault: AWAY, sent };
+    if (!answer.status) {
+      open = { who, number, lines };
+      return { fault: AWAY, sent };
+    }
     if (answer.status === 413) return { fault: "The letter is too long. Send it in two.", sent };
     if (!answer.text.startsWith("REPLY ")) {
       return { fault: `This address doesn't answer as a judge does (status ${answer.status}). Tell the club's secretary.`, sent };
     }
-    used[who] = Math.max(used[who] || 0, number);
     const refused = answer.text.split("\n")[1] || "";
+    if (!refused.startsWith("L2 ")) used[who] = Math.max(used[who] || 0, number);
     const stale = refused.match(/^L3 stale number, last is (\d+)/);
     if (!stale && !refused.startsWith("L4 ")) return { text: answer.text, sent };
-    if (answer.doubt) {
-      return { fault: "Another letter of yours came between, from another window or device. Your letter may have "
-        + "been taken before that. Look with Show; if it wasn't, press Send again.", sent, text: answer.text };
-    }
+    if (again || answer.doubt) return { fault: BETWEEN, sent, text: answer.text };
     number = (stale ? Math.max(+stale[1], number) : number) + 1;
   }
   return { fault: "Letters of yours come from two places at once. Close the other one and press Send again." };

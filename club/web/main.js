@@ -54,6 +54,7 @@ async function open(name) {
 function close() {
   [game, papers, shown] = [null, [], 0];
   $("play").hidden = $("answer").hidden = true;
+  $("news").textContent = "";
   $("orders").value = $("press").value = "";
   for (const id of ["phase", "status", "due"]) $(id).textContent = "";
   document.title = $("title").textContent = "Diplomacy by mail";
@@ -68,6 +69,10 @@ async function look(mine = turn, name = game?.game) {
     if (mine !== turn) return;
     const fresh = !game;
     if (game && next.papers < papers.length) papers = [];     // the judge went back to a copy
+    if (game && next.phase !== game.phase) {
+      $("orders").value = "";
+      $("news").textContent = `${read.phaseWords(game.phase)} is played. The box for orders is empty again.`;
+    } else if (game && next.papers > game.papers) $("news").textContent = "A new paper is out.";
     game = next;
     board = game.board.map(read.readBoardLine);
     if (board.includes(null)) throw new Error("away");
@@ -99,9 +104,10 @@ function begin() {
   known = draw.isKnown(board);
   document.body.classList.toggle("text-only", !known);
   $("play").hidden = false;
+  $("paper").closest("details").open = !known;
   $("power").replaceChildren(new Option("choose", ""), ...board.map((b) => new Option(read.nameOf(b.power), b.power)));
   form();
-  if (known && $("map").clientWidth < 560) map.middle(640, 830, 900);
+  if (known && $("map").clientWidth < 560) map.middle(650, 830, 800);
 }
 
 function header() {
@@ -110,7 +116,9 @@ function header() {
   $("phase").textContent = read.phaseWords(game.phase) + ".";
   const status = read.statusWords(game.status);
   $("status").textContent = status.replace(/^./, (c) => c.toUpperCase()) + ".";
-  $("due").textContent = /^(running|paused)$/.test(game.status) ? `Deadline: ${read.tickWords(game.due)}.` : "";
+  const past = read.isDate(game.due) && game.due * 60000 < Date.now();
+  $("due").textContent = /^(running|paused)$/.test(game.status)
+    ? `Deadline: ${read.tickWords(game.due)}${past ? ", which is past" : ""}.` : "";
 }
 
 // --- papers, back and forth
@@ -130,6 +138,7 @@ function show(n) {
   shown = n > 0 && n <= papers.length ? n : 0;
   steps();
   drawMap();
+  $("bar").hidden = shown > 0;
   const p = papers[shown - 1];
   tellPaper(p);
   drawPowers(p ? p.board : board);
@@ -219,7 +228,7 @@ function drawYears() {
     for (const y of years) {
       const td = make("td", "", tr);
       const bar = make("span", "", td, `bar area owner-${b.power}`);
-      bar.style.height = `${(y.counts[b.power] || 0) / most * 2.2}em`;
+      bar.style.height = `${(y.counts[b.power] || 0) / most * 1.5}em`;
       make("span", y.counts[b.power] || 0, td);
     }
   }
@@ -343,7 +352,7 @@ const LEGEND = [["army", "army"], ["fleet", "fleet"], ["centre", "supply centre,
   ["blocked", "no unit comes here"], ["moves", "moves"], ["bounced", "bounced"], ["no route", "no route: no convoy path"],
   ["given", "supports"], ["cut", "support cut"], ["void", "void: didn't match"], ["convoys", "convoys"], ["holds", "holds"],
   ["dislodged", "dislodged"], ["destroyed", "dislodged and destroyed"], ["retreats", "retreats"],
-  ["removed", "disbands or is removed"], ["disorder", "removed in disorder"], ["built", "built"], ["draft", "your order, not sent"]];
+  ["removed", "disbands or is removed"], ["disorder", "removed in disorder"], ["built", "built"], ["draft", "an order in your box"]];
 
 function legend() {
   for (const [what, text] of LEGEND) {
@@ -368,7 +377,7 @@ legend();
 let redraw = 0;
 const map = zoomable($("map"), MAP.width, MAP.height, (scale) => {
   // Units and letters keep a size that can be read, up to what the provinces bear.
-  draw.setScale(Math.max(0.7, Math.min(1.5, 0.58 / scale)));
+  draw.setScale(Math.max(0.7, Math.min(1.4, 0.58 / scale)));
   cancelAnimationFrame(redraw);
   redraw = requestAnimationFrame(drawMap);
 });

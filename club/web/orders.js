@@ -152,6 +152,10 @@ function addLine(line) {
   pick = { unit: "", does: "", other: "" };
 }
 
+const START = { M: "Click a unit, then where it goes. Click it twice and it holds.",
+  R: "Click a dislodged unit, then where it retreats to.",
+  A: "Click a free home centre to build there, or a unit to remove it." };
+
 // --- what the player is told next, with buttons under the map
 
 const say = (text) => { $("hint").textContent = text; };
@@ -169,7 +173,7 @@ function quick(buttons) {
 
 function hint() {
   const u = chosen();
-  const cancel = ["Cancel", () => { pick = { unit: "", does: "", other: "" }; say(""); }];
+  const cancel = ["Cancel", () => { pick = { unit: "", does: "", other: "" }; say(START[part()]); }];
   const add = (line) => () => addLine(line);
   const own = u && `${u.kind} ${provinceOf(u.at)}`;
   if (!pick.unit) return quick([]);
@@ -247,7 +251,7 @@ export function clicked(n, at, owner) {
     if (own && ownUnits().includes(own)) pick = { unit: unitWords(own), does: DOES[part()]?.[0][0] || "remove", other: "" };
     else if (part() === "A" && freeHomes().includes(n)) pick = { unit: n, does: "", other: "" };
     else if (here) say(`That unit is ${nameOf(here.power)}'s. You write for ${view.power ? nameOf(view.power) : "nobody yet"}.`);
-    else say(part() === "A" ? "Click a free home centre to build there, or a unit to remove it." : "Click a unit first.");
+    else say(START[part()]);
     return refresh();
   }
   if (!u || part() === "A") { pick = { unit: "", does: "", other: "" }; refresh(); return clicked(n, at, owner); }
@@ -274,7 +278,7 @@ export function setView(next) {
   if (another) pick = { unit: "", does: "", other: "" };
   view = next;
   fill();
-  if (another) { say(""); quick([]); }
+  if (another) { say(START[part()] || ""); quick([]); }
 }
 
 export function begin(onChange) {

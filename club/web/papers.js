@@ -93,10 +93,12 @@ export function statusWords(status) {
 }
 
 // A tick is told as a date where it can be minutes since 1970: from the year 2000 to 2100.
+export const isDate = (tick) => tick >= 15778080 && tick <= 68374080;
+
 export function tickWords(tick) {
-  if (tick < 15778080 || tick > 68374080) return `tick ${tick}`;
-  return new Date(tick * 60000).toLocaleString(undefined, { weekday: "long", day: "numeric",
-    month: "long", year: "numeric", hour: "2-digit", minute: "2-digit", timeZoneName: "short" });
+  if (!isDate(tick)) return `tick ${tick}`;
+  return new Date(tick * 60000).toLocaleString(undefined, { weekday: "short", day: "numeric",
+    month: "short", year: "numeric", hour: "2-digit", minute: "2-digit", timeZoneName: "short" });
 }
 
 // Centres of each power after each year: [{year, counts: {power: centres}}].

@@ -55,7 +55,7 @@ const isSea = (n) => MAP.provinces[n]?.kind === "sea";
 
 export function drawGround(svg) {
   patterns(svg);
-  for (const name of ["areas", "owned", "reach", "borders", "labels", "orders", "units", "marks"]) {
+  for (const name of ["seas", "glow", "areas", "owned", "reach", "borders", "labels", "orders", "units", "marks"]) {
     layers[name] = el("g", { class: "layer-" + name }, svg);
   }
   for (const n in MAP.blocked) {
@@ -66,14 +66,16 @@ export function drawGround(svg) {
   for (const n in MAP.provinces) {
     const p = MAP.provinces[n];
     const d = outline(p.rings);
-    areas[n] = el("path", { d, class: `area ${p.kind}`, "data-province": n }, layers.areas);
+    areas[n] = el("path", { d, class: `area ${p.kind}`, "data-province": n }, isSea(n) ? layers.seas : layers.areas);
     el("title", {}, areas[n], p.name + (p.centre ? ", a supply centre" : ""));
     owners[n] = el("path", { d, class: "passive", fill: "none" }, layers.owned);
   }
   MAP.arcs.forEach(([a, b], i) => {
     if (!a || !b) return;
     const kind = isSea(a) && isSea(b) ? "at-sea" : isSea(a) || isSea(b) ? "coast" : "on-land";
-    el("path", { d: "M" + lines[i].map((p) => p.join(" ")).join("L"), class: "line " + kind }, layers.borders);
+    const d = "M" + lines[i].map((p) => p.join(" ")).join("L");
+    el("path", { d, class: "line " + kind }, layers.borders);
+    if (kind === "coast") el("path", { d, class: "line shallow passive" }, layers.glow);     // the land covers half of it
   });
 }
 

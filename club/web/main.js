@@ -73,17 +73,18 @@ async function look(mine = turn, name = game?.game) {
       $("orders").value = "";
       $("news").textContent = `${read.phaseWords(game.phase)} is played. The box for orders is empty again.`;
     } else if (game && next.papers > game.papers) $("news").textContent = "A new paper is out.";
-    game = next;
-    board = game.board.map(read.readBoardLine);
+    if (fresh || next.board.join() !== game.board.join()) board = next.board.map(read.readBoardLine);
     if (board.includes(null)) throw new Error("away");
+    game = next;
     trouble("");
     if (fresh) begin();
     header();
     if (fresh || !shown) show(0);
     while (papers.length < game.papers) {
-      const text = await (await fetched(`/games/${name}/papers/${papers.length + 1}`)).text();
+      const n = papers.length + 1;
+      const text = await (await fetched(`/games/${name}/papers/${n}`)).text();
       if (mine !== turn) return;
-      papers.push(read.readPaper(text));
+      if (papers.length === n - 1) papers.push(read.readPaper(text));     // else another look was faster
       steps();
     }
     if (!shown) show(0);
@@ -111,6 +112,7 @@ function begin() {
 }
 
 function header() {
+  allowed();
   document.title = `Game ${game.game}: ${read.phaseWords(game.phase)}`;
   $("title").textContent = "Game " + game.game;
   $("phase").textContent = read.phaseWords(game.phase) + ".";

@@ -276,8 +276,9 @@ export function clicked(n, at, owner) {
 export function setView(next) {
   const another = next.power !== view.power || next.phase !== view.phase;
   if (another) pick = { unit: "", does: "", other: "" };
+  const fresh = next.board !== view.board;
   view = next;
-  fill();
+  if (another || fresh) fill();
   if (another) { say(START[part()] || ""); quick([]); }
 }
 

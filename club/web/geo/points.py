@@ -199,11 +199,12 @@ SEAS = {
 }
 # Where a fleet on a coast stands.
 COASTS = {
-    "stp/nc": (67.7, 36.5), "stp/sc": (59.45, 30.4), "spa/nc": (42.9, -5.2), "spa/sc": (38.2, -1.6),
+    "stp/nc": (67.7, 36.5), "stp/sc": (59.7, 31.2), "spa/nc": (42.9, -5.2), "spa/sc": (38.2, -1.6),
     "bul/ec": (42.7, 27.0), "bul/sc": (41.45, 24.9),
 }
 # Where a unit and its label stand, if the place that `make` finds isn't good.
 UNITS = {
+    "stp": ((62.6, 37.5), (61.5, 37.9)),
     "cly": ((58.7, -5.9), (57.75, -6.5)), "edi": ((58.4, -3.7), (57.6, -3.3)),
     "mun": ((49.6, 10.3), (48.75, 10.3)), "nap": ((39.5, 16.3), (38.5, 16.25)), "boh": ((50.05, 15.0), (49.3, 15.0)),
 }

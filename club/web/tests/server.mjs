@@ -30,10 +30,11 @@ export async function judge(program, store, port, master, map) {
 
 // Serves the folder, hands /letters and /games/ to the judge's port, and can be told to lose answers.
 export function files(folder, port, to, games) {
-  const how = { lose: 0, away: false, taken: [] };
+  const how = { lose: 0, away: false, taken: [], made: {} };     // made: answers by path, of games that nobody played
   const server = http.createServer((ask, answer) => {
     const url = new URL(ask.url, "http://x");
     const headers = { "Content-Security-Policy": POLICY, "X-Content-Type-Options": "nosniff", "Cache-Control": "no-cache" };
+    if (how.made[url.pathname]) { answer.writeHead(200, headers); return answer.end(how.made[url.pathname]); }
     if (url.pathname === "/letters" || url.pathname.startsWith("/games/")) {
       const body = [];
       ask.on("data", (d) => body.push(d));

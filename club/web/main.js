@@ -206,8 +206,8 @@ function drawPowers(list) {
     th.scope = "row";
     th.prepend(draw.swatch(b.power));
     if (known) make("small", draw.shortOf(b.power), th);
-    make("td", b.centres, tr);
-    make("td", b.count, tr);
+    make("td", b.centres, tr).dataset.of = "centres";
+    make("td", b.count, tr).dataset.of = "units";
     const td = make("td", b.units.map((u) => read.unitWords(u) + (u.out ? " (dislodged)" : "")).join(", ") || "no units", tr);
     make("br", "", td);
     make("small", b.own.length ? "owns " + b.own.join(" ") : "owns nothing", td);

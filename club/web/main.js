@@ -71,7 +71,7 @@ async function look(mine = turn, name = game?.game) {
     if (game && next.papers < papers.length) papers = [];     // the judge went back to a copy
     if (game && next.phase !== game.phase) {
       $("orders").value = "";
-      $("news").textContent = `${read.phaseWords(game.phase)} is played. The box for orders is empty again.`;
+      $("news").textContent = `${read.phaseWords(game.phase)}: this phase has been played. The box for orders is empty again.`;
     } else if (game && next.papers > game.papers) $("news").textContent = "A new paper is out.";
     if (fresh || next.board.join() !== game.board.join()) board = next.board.map(read.readBoardLine);
     if (board.includes(null)) throw new Error("away");
@@ -299,11 +299,14 @@ async function sendLetter() {
   const lines = letter.explain(got.text, command.orders);
   const bad = lines.filter((l) => !l.ok && l.code).length;
   answer(got.text.startsWith("REPLY nobody") ? "The judge doesn't know whose letter this is."
-    : !bad ? "The judge has taken it." : command.orders && bad < lines.length ? `Taken, but for ${bad} of ${lines.length} lines.`
+    : !bad ? { SHOW: "This is how you stand.", INBOX: "This is your inbox." }[want.what] || "The judge has taken it." : command.orders && bad < lines.length ? `Taken, but for ${bad} of ${lines.length} lines.`
       : command.orders ? "No line was taken." : "The judge refuses.", lines, got.text, got.sent);
   if (want.what === "INBOX") readOn(got.text);
+  if (want.what.startsWith("PRESS") && !bad) $("press").value = "";     // so that nobody sends it twice
   look();
 }
+
+const DONE = { withdrawn: "All your orders are taken back.", press: "Your text lies in its readers' inboxes." };
 
 // The reply in words: orders and refusals line by line, Show and Inbox as they read best.
 function answer(said, lines, raw, sent) {
@@ -323,7 +326,7 @@ function answer(said, lines, raw, sent) {
       if (l.order) make("code", l.order, li);
       make("span", `${l.order ? ": " : ""}${l.why}. `, li);
       make("small", `(${l.code})`, li);
-    } else if (l.ok) make("li", l.line, list, "good");
+    } else if (l.ok) make("li", DONE[l.line] || l.line.replace(/^vote /, "Your vote is now "), list, "good");
     else if (item) {
       make("li", `${item[1]}. ${item[3] ? `From ${read.nameOf(item[3])}` : "Unsigned"}, to ${item[4] === "you" || item[4] === "all" ? item[4] : read.namesOf(item[4].split(" "))}`, list, "item");
     } else if (l.line.startsWith("> ") || l.line === ">") make("li", l.line.slice(2), list, "quote");

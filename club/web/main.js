@@ -283,6 +283,7 @@ function forget() { $("secret").value = ""; }
 async function sendLetter() {
   const from = $("power").value;
   const secret = $("secret").value;
+  if ($("what").value === "ORDERS") $("orders").value = orders.tidied(known);     // what is sent is what is seen
   const want = { what: $("what").value, orders: $("orders").value, press: $("press").value, powers: chosenPowers(),
     vote: document.querySelector("[name=vote]:checked").value, first: $("from-item").value.trim() };
   const command = letter.commandOf(want);

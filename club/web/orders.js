@@ -1,7 +1,8 @@
 // Helps to write orders: five lists say what a unit does, and clicks on the map fill the lists.
 
 import { MAP } from "./map.js";
-import { readOrder, provinceOf, unitWords, nameOf } from "./papers.js";
+import { plain } from "./letter.js";
+import { readOrder, tidyOrder, provinceOf, unitWords, nameOf } from "./papers.js";
 
 const $ = (id) => document.getElementById(id);
 const place = (p) => MAP.provinces[provinceOf(p)];
@@ -139,8 +140,12 @@ function lineOf() {
 
 // --- the text box: a line for a province takes the place of the one before
 
+const NAMES = Object.entries(MAP.provinces).map(([code, p]) => [code, p.name]);
+export const tidied = (known) => plain($("orders").value).split("\n")
+  .map((l) => tidyOrder(l, known ? NAMES : [])).join("\n");
+
 export function draft() {
-  return $("orders").value.split("\n").map((text) => ({ text: text.trim(), power: view.power, ...readOrder(text) }))
+  return tidied(true).split("\n").map((text) => ({ text: text.trim(), power: view.power, ...readOrder(text) }))
     .filter((o) => o.does);
 }
 

@@ -19,7 +19,7 @@ const ORDERS = [
 function order(m, does, more = {}) {
   return { does, kind: m[1].toUpperCase(), at: (m[2] + (m[3] || "")).toLowerCase(),
     ...Object.fromEntries(Object.entries(more).map(([k, v]) =>
-      [k, typeof v === "string" && k !== "kind2" ? v.toLowerCase() : v])) };
+      [k, typeof v !== "string" ? v : k === "kind2" ? v.toUpperCase() : v.toLowerCase()])) };
 }
 
 // An order as a player types it or a paper has it; null where it is none.
@@ -30,6 +30,38 @@ export function readOrder(text) {
     if (m) return make(m);
   }
   return null;
+}
+
+// The one form of an order, as the judge prints it.
+export function orderText(o) {
+  const own = `${o.kind} ${o.at}`;
+  const them = `${o.kind2} ${o.other}${o.to ? " - " + o.to : ""}`;
+  return { hold: `${own} H`, move: `${own} - ${o.to}${o.via ? " VIA" : ""}`, support: `${own} S ${them}`,
+    convoy: `${own} C ${them}`, retreat: `${own} R ${o.to}`, disband: `${own} D`, build: `BUILD ${own}`,
+    remove: `REMOVE ${own}` }[o.does];
+}
+
+// Words that people write in orders, and those of the judge.
+const WORDS = [[/[.;,!]+$/, ""], [/\b(?:via|by) convoy$/, "via"], [/\barmy\b/g, "a"], [/\bfleet\b/g, "f"],
+  [/ ?[-=]*> ?/g, " - "], [/\b(?:moves?|goes)\b(?: to\b)?/g, " - "], [/\bretreats?\b(?: to\b)?/g, "r"],
+  [/\bdisbands?\b/g, "d"], [/\b(?:holds?|stands?)\b/g, "h"], [/\bsupports?\b/g, "s"], [/\bconvoys?\b/g, "c"],
+  [/\bbuilds?\b/g, "build"], [/\bremoves?\b/g, "remove"], [/ to /g, " - "], [/ in /g, " "],
+  [/\b(north|south|east) coast\b/g, (_, c) => c[0] + "c"], [/\b([a-z]{3}) ?[/(]? ?([nse]c)\b\)?/g, "$1/$2"],
+  [/ ?- ?(?:- ?)*/g, " - "], [/( s [af] [a-z]{3}(?:\/[a-z]+)?) h$/, "$1"]];
+const OLD_NAMES = [["romania", "rum"], ["heligoland bight", "hel"], ["heligoland", "hel"], ["gulf of lyons", "lyo"],
+  ["tyrol", "tyr"], ["english channel", "eng"], ["mid atlantic", "mao"]];
+
+// An order that people can read and the judge can't, in its one form; any other line as it is.
+export function tidyOrder(text, names) {
+  if (!text.trim() || readOrder(text)) return text;
+  let line = text.trim().toLowerCase().replace(/\bst\. ?/g, "st ").replace(/\bmid-/g, "mid ").replace(/\s+/g, " ");
+  const known = [...names.map(([code, name]) => [name.toLowerCase().replace("mid-", "mid "), code]), ...OLD_NAMES];
+  for (const [name, code] of known.sort((a, b) => b[0].length - a[0].length)) {
+    line = line.replace(new RegExp(`\\b${name}\\b`, "g"), code);
+  }
+  for (const [from, to] of WORDS) line = line.replace(from, to);
+  const order = readOrder(line);
+  return order ? orderText(order) : text;
 }
 
 export const provinceOf = (place) => place.split("/")[0].replace("*", "");

@@ -4,7 +4,8 @@ import { MAP } from "./map.js";
 import { provinceOf, unitWords, nameOf } from "./papers.js";
 
 const SVG = "http://www.w3.org/2000/svg";
-const SHORT = { austria: "Au", england: "En", france: "Fr", germany: "Ge", italy: "It", russia: "Ru",
+const SHORT = { austria: "Au", england: "En", france: "Fr", germany: "Ge", italy: "It",
+  russia: "Ru",
   turkey: "Tu" };
 export const shortOf = (power) => SHORT[power] || power.slice(0, 2);
 
@@ -18,11 +19,13 @@ export function el(name, attributes = {}, parent = null, text = "") {
 
 // --- the ground: areas and lines, drawn once
 
-const lines = MAP.arcs.map(([, , c]) => c.filter((_, i) => i % 2 === 0).map((x, i) => [x, c[2 * i + 1]]));
+const lines = MAP.arcs.map(([, , c]) => c.filter((_, i) => i % 2 === 0).map((x, i) =>
+  [x, c[2 * i + 1]]));
 
 function outline(rings) {
   return rings.map((ring) => "M" + ring.flatMap((n) =>
-    (n > 0 ? lines[n - 1] : [...lines[-n - 1]].reverse())).map((p) => p.join(" ")).join("L") + "Z").join("");
+    (n > 0 ? lines[n - 1] : [...lines[-n - 1]].reverse())).map((p) => p.join(" ")).join("L")
+      + "Z").join("");
 }
 
 // A pattern for each power, so that colours need not be told apart.
@@ -37,7 +40,8 @@ function patterns(svg) {
       patternUnits: "userSpaceOnUse" }, defs);
     el("path", { d: PATTERNS[power], class: "hatch" }, p);
   }
-  const p = el("pattern", { id: "hatch-blocked", width: 10, height: 10, patternUnits: "userSpaceOnUse" }, defs);
+  const p = el("pattern", { id: "hatch-blocked", width: 10, height: 10,
+    patternUnits: "userSpaceOnUse" }, defs);
   el("path", { d: "M0 10L10 0", class: "hatch strong" }, p);
 }
 
@@ -55,7 +59,8 @@ const isSea = (n) => MAP.provinces[n]?.kind === "sea";
 
 export function drawGround(svg) {
   patterns(svg);
-  for (const name of ["seas", "glow", "areas", "owned", "reach", "borders", "labels", "orders", "units", "marks"]) {
+  for (const name of ["seas", "glow", "areas", "owned", "reach", "borders", "labels", "orders",
+    "units", "marks"]) {
     layers[name] = el("g", { class: "layer-" + name }, svg);
   }
   for (const n in MAP.blocked) {
@@ -66,7 +71,8 @@ export function drawGround(svg) {
   for (const n in MAP.provinces) {
     const p = MAP.provinces[n];
     const d = outline(p.rings);
-    areas[n] = el("path", { d, class: `area ${p.kind}`, "data-province": n }, isSea(n) ? layers.seas : layers.areas);
+    areas[n] = el("path", { d, class: `area ${p.kind}`, "data-province": n }, isSea(n) ? layers.seas
+      : layers.areas);
     el("title", {}, areas[n], p.name + (p.centre ? ", a supply centre" : ""));
     owners[n] = el("path", { d, class: "passive", fill: "none" }, layers.owned);
   }
@@ -75,7 +81,8 @@ export function drawGround(svg) {
     const kind = isSea(a) && isSea(b) ? "at-sea" : isSea(a) || isSea(b) ? "coast" : "on-land";
     const d = "M" + lines[i].map((p) => p.join(" ")).join("L");
     el("path", { d, class: "line " + kind }, layers.borders);
-    if (kind === "coast") el("path", { d, class: "line shallow passive" }, layers.glow);     // the land covers half of it
+    // the land covers half of it
+    if (kind === "coast") el("path", { d, class: "line shallow passive" }, layers.glow);
   });
 }
 
@@ -95,7 +102,8 @@ function spotOf(place) {
 const beside = ([x, y]) => [x + 29 * k, y + 19 * k];
 
 const STAR = "M" + Array.from({ length: 10 }, (_, i) => [i % 2 ? 4.4 : 10.5, i * Math.PI / 5])
-  .map(([r, a]) => `${(r * Math.sin(a)).toFixed(1)} ${(-r * Math.cos(a)).toFixed(1)}`).join("L") + "Z";
+  .map(([r, a]) => `${(r * Math.sin(a)).toFixed(1)} ${(-r * Math.cos(a)).toFixed(1)}`).join("L")
+    + "Z";
 
 function drawCentres(board, changes) {
   const owner = {};
@@ -110,7 +118,8 @@ function drawCentres(board, changes) {
       p.kind === "sea" ? n : n.toUpperCase());
     t.setAttribute("stroke-width", 4 * k);
     for (const c in p.coasts) {
-      el("text", { x: p.coasts[c].at[0], y: p.coasts[c].at[1] + 31 * k, "font-size": 16 * k, class: "coast-name",
+      el("text", { x: p.coasts[c].at[0], y: p.coasts[c].at[1] + 31 * k, "font-size": 16 * k,
+        class: "coast-name",
         "stroke-width": 3 * k }, g, c);
     }
     if (!p.centre) continue;
@@ -146,8 +155,10 @@ function burst([x, y], layer) {
 }
 
 const BADGES = {
-  bounced: "M-5 -5L5 5M5 -5L-5 5", cut: "M-6 4L-1 -6M1 6L6 -4", void: "M-5 0A5 5 0 1 0 5 0A5 5 0 1 0 -5 0",
-  "no route": "M-3 -3A3.5 3.5 0 1 1 1 1L0 2M0 5.5V6", built: "M-6 0H6M0 -6V6", gone: "M-6 -6L6 6M6 -6L-6 6",
+  bounced: "M-5 -5L5 5M5 -5L-5 5", cut: "M-6 4L-1 -6M1 6L6 -4",
+    void: "M-5 0A5 5 0 1 0 5 0A5 5 0 1 0 -5 0",
+  "no route": "M-3 -3A3.5 3.5 0 1 1 1 1L0 2M0 5.5V6", built: "M-6 0H6M0 -6V6",
+    gone: "M-6 -6L6 6M6 -6L-6 6",
   disorder: "M0 -6V1.5M0 5V6",
 };
 function badge(what, [x, y], layer) {
@@ -170,7 +181,7 @@ function curve(a, b, gapA, gapB, bend = 0.1) {
   const angle = Math.atan2(q[1] - c[1], q[0] - c[0]) * 180 / Math.PI;
   const at = (t) => [0, 1].map((i) => (1 - t) ** 2 * p[i] + 2 * t * (1 - t) * c[i] + t * t * q[i]);
   const f = (v) => v.map((z) => z.toFixed(1)).join(" ");
-  return { d: `M${f(p)}Q${f(c)} ${f(q)}`, angle, at, tip: q };
+  return { d: `M${f(p)}Q${f(c)} ${f(q)}`, angle, at, tip: f(q) };
 }
 
 function shaft(g, path, width) {
@@ -178,9 +189,10 @@ function shaft(g, path, width) {
   el("path", { d: path.d, class: "shaft", "stroke-width": width * k }, g);
 }
 function head(g, path, form) {
-  const d = { arrow: "M3 0L-14 9L-10 0L-14 -9Z", open: "M-13 9L0 0L-13 -9", bar: "M0 -12V12", dot: "M-5 0A5 5 0 1 0 5 0A5 5 0 1 0 -5 0" }[form];
+  const d = { arrow: "M3 0L-14 9L-10 0L-14 -9Z", open: "M-13 9L0 0L-13 -9", bar: "M0 -12V12",
+    dot: "M-5 0A5 5 0 1 0 5 0A5 5 0 1 0 -5 0" }[form];
   el("path", { d, class: "head " + form,
-    transform: `translate(${path.tip.map((z) => z.toFixed(1)).join(" ")}) rotate(${path.angle.toFixed(1)}) scale(${k})` }, g);
+    transform: `translate(${path.tip}) rotate(${path.angle.toFixed(1)}) scale(${k})` }, g);
 }
 
 const FAILED = ["bounced", "no route", "cut", "void"];
@@ -197,15 +209,19 @@ function drawOrder(o, orders, stands) {
   const from = spotOf(o.at);
   if (!from) return;
   const failed = FAILED.includes(o.outcome) || (o.does === "retreat" && o.outcome === "disbands");
-  const g = el("g", { class: `order ${o.does} ${failed ? "failed" : "done"} ${(o.outcome || "draft").replace(/ /g, "-")}`,
-    "data-order": o.text, "data-outcome": o.outcome || "draft", "data-fate": o.fate || "" }, layers.orders);
-  el("title", {}, g, `${nameOf(o.power)}: ${o.text}, ${o.outcome || "not sent yet"}${o.fate ? ", " + o.fate : ""}`);
+  const came = (o.outcome || "draft").replace(/ /g, "-");
+  const g = el("g", { class: `order ${o.does} ${failed ? "failed" : "done"} ${came}`,
+    "data-order": o.text, "data-outcome": o.outcome || "draft", "data-fate": o.fate || "" },
+      layers.orders);
+  el("title", {}, g,
+    `${nameOf(o.power)}: ${o.text}, ${o.outcome || "not sent yet"}${o.fate ? ", " + o.fate : ""}`);
   if (o.does === "move" || o.does === "retreat") {
     const path = arrowOf(o, stands);
     if (!path) return;
     shaft(g, path, o.does === "move" ? 5 : 4);
     head(g, path, failed ? "bar" : o.does === "move" ? "arrow" : "open");
-    if (o.outcome === "bounced" || o.outcome === "no route") badge(o.outcome, path.at(0.72), layers.marks);
+    if (o.outcome === "bounced" || o.outcome === "no route") badge(o.outcome, path.at(0.72),
+      layers.marks);
   } else if (o.does === "support" || o.does === "convoy") {
     const mover = o.to && orders.find((q) => q.does === "move" && provinceOf(q.at) === o.other
       && provinceOf(q.to) === o.to);
@@ -226,7 +242,8 @@ function drawOrder(o, orders, stands) {
     badge("built", [from[0] + 20 * k, from[1] - 16 * k], layers.marks);
   }
   if (isGone(o) || ((o.does === "remove" || o.does === "disband") && !o.outcome)) {
-    badge(o.outcome === "removed in disorder" ? "disorder" : "gone", [place[0] + 18 * k, place[1] - 16 * k], layers.marks);
+    badge(o.outcome === "removed in disorder" ? "disorder" : "gone",
+      [place[0] + 18 * k, place[1] - 16 * k], layers.marks);
     el("path", { d: "M-19 -19L19 19M19 -19L-19 19", class: "crossed",
       transform: `translate(${place[0]} ${place[1]}) scale(${k})` }, layers.marks);
   }
@@ -236,17 +253,20 @@ function drawOrder(o, orders, stands) {
 
 // Draws a board with orders on it; `reach` names provinces to be lit, `picked` the unit chosen.
 export function drawBoard(board, { orders = [], changes = [], reach = [], picked = "" } = {}) {
-  for (const name of ["labels", "orders", "units", "marks", "reach"]) layers[name].replaceChildren();
+  for (const name of ["labels", "orders", "units", "marks",
+    "reach"]) layers[name].replaceChildren();
   drawCentres(board, changes);
   for (const n of reach) {
     el("path", { d: outline(MAP.provinces[n].rings), class: "reachable passive" }, layers.reach);
   }
-  const stands = new Set(board.flatMap((b) => b.units.filter((u) => !u.out).map((u) => provinceOf(u.at))));
+  const stands = new Set(board.flatMap((b) => b.units.filter((u) => !u.out).map((u) =>
+    provinceOf(u.at))));
   const all = board.flatMap((b) => b.units);
   for (const u of all.filter((v) => !v.out)) unitMark(layers.units, u, spotOf(u.at));
   for (const u of all.filter((v) => v.out)) unitMark(layers.units, u, beside(spotOf(u.at)), "out");
   const moves = orders.filter((o) => o.does === "move");
-  for (const o of [...moves, ...orders.filter((q) => q.does !== "move")]) drawOrder(o, orders, stands);
+  for (const o of [...moves, ...orders.filter((q) => q.does !== "move")]) drawOrder(o, orders,
+    stands);
   if (picked) {
     const u = all.find((v) => unitWords(v) === picked);
     if (u) {
@@ -289,8 +309,10 @@ export function sample(what) {
     built: () => badge("built", [60, 24], layers.marks),
     removed: () => badge("gone", [60, 24], layers.marks),
     disorder: () => badge("disorder", [60, 24], layers.marks),
-    holds: () => { g.setAttribute("class", "order hold"); el("circle", { cx: 60, cy: 24, r: 20, class: "ring" }, g); },
-    centre: () => { const c = el("g", { class: "centre", transform: "translate(60 24) scale(1.6)" }, g);
+    holds: () => { g.setAttribute("class", "order hold");
+      el("circle", { cx: 60, cy: 24, r: 20, class: "ring" }, g); },
+    centre: () => { const c = el("g", { class: "centre", transform: "translate(60 24) scale(1.6)" },
+      g);
       el("path", { d: STAR, class: "star fill-france" }, c); },
     blocked: () => { el("rect", { x: 30, y: 6, width: 60, height: 36, class: "area blocked" }, g);
       el("rect", { x: 30, y: 6, width: 60, height: 36, fill: "url(#hatch-blocked)" }, g); },

@@ -2,13 +2,17 @@
 
 // The judge reads printable ASCII alone: curly quotes, dashes and accents are written without.
 const FOLDS = { "‘": "'", "’": "'", "‚": "'", "“": '"', "”": '"', "„": '"', "«": '"', "»": '"',
-  "–": "-", "—": "-", "‐": "-", "‑": "-", "−": "-", "…": "...", "→": "-", "ß": "ss", "æ": "ae", "Æ": "Ae",
-  "œ": "oe", "Œ": "Oe", "ø": "o", "Ø": "O", "ł": "l", "Ł": "L", "đ": "d", "ð": "d", "þ": "th", "€": "EUR",
-  "£": "GBP", "ä": "ae", "ö": "oe", "ü": "ue", "Ä": "Ae", "Ö": "Oe", "Ü": "Ue", "\t": " ", "\u00a0": " " };
+  "–": "-", "—": "-", "‐": "-", "‑": "-", "−": "-", "…": "...", "→": "-", "ß": "ss", "æ": "ae",
+    "Æ": "Ae",
+  "œ": "oe", "Œ": "Oe", "ø": "o", "Ø": "O", "ł": "l", "Ł": "L", "đ": "d", "ð": "d", "þ": "th",
+    "€": "EUR",
+  "£": "GBP", "ä": "ae", "ö": "oe", "ü": "ue", "Ä": "Ae", "Ö": "Oe", "Ü": "Ue", "\t": " ",
+    "\u00a0": " " };
 
 export function plain(text) {
   return text.normalize("NFC").replace(/\r\n?/g, "\n").replace(/[^\n -~]/gu, (c) => FOLDS[c] ??
-    (c.normalize("NFKD").replace(/[^ -~]/g, "") || (/\p{M}|\u200b|\u200d|\ufe0f/u.test(c) ? "" : "?")));
+    (c.normalize("NFKD").replace(/[^ -~]/g, "") || (/\p{M}|\u200b|\u200d|\ufe0f/u.test(c) ? ""
+      : "?")));
 }
 
 // Lines of press: at most 200 characters each, cut between words where that can be.
@@ -42,7 +46,9 @@ export function commandOf(want) {
     const lines = pressLines(want.press);
     if (!named.length) return { fault: "Choose at least one reader." };
     if (!want.press.trim()) return { fault: "Write some text first." };
-    if (lines.length > 80) return { fault: `The text has ${lines.length} lines. A letter takes 80: send it in two.` };
+    if (lines.length > 80) {
+      return { fault: `The text has ${lines.length} lines. A letter takes 80: send it in two.` };
+    }
     return { lines: [`${want.what} TO ${named.join(" ")}`, ...lines.map((l) => "> " + l)] };
   }
   if (want.what === "VOTE") {
@@ -51,13 +57,15 @@ export function commandOf(want) {
     return { lines: ["VOTE FOR " + named.join(" ")] };
   }
   if (want.what === "INBOX") {
-    if (!/^[1-9]\d{0,5}$/.test(want.first)) return { fault: "The first item is a number from 1 on." };
+    const number = /^[1-9]\d{0,5}$/.test(want.first);
+    if (!number) return { fault: "The first item is a number from 1 on." };
     return { lines: ["INBOX " + want.first] };
   }
   return { lines: [want.what] };
 }
 
-// Letters are numbered by the clock, in seconds since 2023: two devices seldom take the same number.
+// Letters are numbered by the clock, in seconds since 2023: two devices seldom take the same
+// number.
 const LAST = 999999999;
 const used = {};
 function numberFor(who) {
@@ -65,11 +73,13 @@ function numberFor(who) {
 }
 
 const letterOf = (game, from, secret, number, lines) =>
-  ["LETTER", "GAME " + game, "FROM " + from, "SECRET " + secret, "NUMBER " + number, ...lines, "END", ""].join("\n");
+  ["LETTER", "GAME " + game, "FROM " + from, "SECRET " + secret, "NUMBER " + number, ...lines,
+    "END", ""].join("\n");
 
 const pause = (ms) => new Promise((done) => setTimeout(done, ms));
 
-// Posts the same bytes until somebody answers: the judge takes a letter once, however often it comes.
+// Posts the same bytes until somebody answers: the judge takes a letter once, however often it
+// comes.
 async function post(bytes, say) {
   let doubt = false;
   for (let i = 0; i < 5; i++) {
@@ -89,31 +99,36 @@ async function post(bytes, say) {
   return { status: 0, text: "", doubt };
 }
 
-const AWAY = "The judge doesn't answer. It isn't known whether your letter arrived. Wait some minutes, change "
-  + "nothing and press Send again: the same letter goes out then, and counts once.";
-const BETWEEN = "Another letter of yours came between, from another window or device. It isn't known whether this one "
-  + "was taken before. Look with Show; if it wasn't, press Send again.";
+const AWAY = "The judge doesn't answer. It isn't known whether your letter arrived. Wait some "
+  + "minutes, change nothing and press Send again: the same letter goes out then, and counts once.";
+const BETWEEN = "Another letter of yours came between, from another window or device. It isn't known "
+  + "whether this one was taken before. Look with Show; if it wasn't, press Send again.";
+const TOO_LONG = "The letter is too long: 16,384 characters are the limit. Send it in two.";
+const STRANGE = "This address doesn't answer as a judge does (status N). Tell the club's secretary.";
+const TWO_PLACES = "Letters of yours come from two places at once. Close the other one and press "
+  + "Send again.";
 let open = null;     // the letter of which no answer came: whose, its number and its lines
 
-// Sends a letter. Answers {fault} in words, or {text, sent}: the reply, and the letter without its secret.
+// Sends a letter. Answers {fault} in words, or {text, sent}: the reply, and the letter without its
+// secret.
 export async function send({ game, from, secret, lines }, say) {
   const who = game + " " + from;
   const again = open?.who === who && open.lines.join("\n") === lines.join("\n") ? open : null;
   let number = again ? again.number : numberFor(who);
   open = null;
   for (let i = 0; i < 4; i++) {
-    if (number > LAST) return { fault: "The numbers of your letters are used up. Ask your master." };
+    if (number > LAST) return { fault: "Your letters' numbers are used up. Ask your master." };
     const bytes = letterOf(game, from, secret, number, lines);
     const sent = letterOf(game, from, "(left out)", number, lines);
-    if (bytes.length > 16384) return { fault: "The letter is too long: 16,384 characters are the limit. Send it in two." };
+    if (bytes.length > 16384) return { fault: TOO_LONG };
     const answer = await post(bytes, say);
     if (!answer.status) {
       open = { who, number, lines };
       return { fault: AWAY, sent };
     }
-    if (answer.status === 413) return { fault: "The letter is too long. Send it in two.", sent };
+    if (answer.status === 413) return { fault: TOO_LONG, sent };
     if (!answer.text.startsWith("REPLY ")) {
-      return { fault: `This address doesn't answer as a judge does (status ${answer.status}). Tell the club's secretary.`, sent };
+      return { fault: STRANGE.replace("N", answer.status), sent };
     }
     const refused = answer.text.split("\n")[1] || "";
     if (!refused.startsWith("L2 ")) used[who] = Math.max(used[who] || 0, number);
@@ -122,7 +137,7 @@ export async function send({ game, from, secret, lines }, say) {
     if (again || answer.doubt) return { fault: BETWEEN, sent, text: answer.text };
     number = (stale ? Math.max(+stale[1], number) : number) + 1;
   }
-  return { fault: "Letters of yours come from two places at once. Close the other one and press Send again." };
+  return { fault: TWO_PLACES };
 }
 
 const WHY = {
@@ -139,7 +154,8 @@ const WHY = {
   O11: "this kind of order isn't for this phase",
   O12: "nothing can be built there: it must be a home centre of yours, owned by you and empty",
   O13: "you have ordered as many as you may. Take your orders back first, then order anew",
-  O14: "the unit can't retreat there: somebody is there, the attacker came from there, a standoff was there, or it is too far",
+  O14: "the unit can't retreat there: somebody is there, the attacker came from there, "
+    + "a standoff was there, or it is too far",
   L1: "the letter has a wrong form. Look for strange signs or a name that stands twice",
   L2: "game, power or secret is wrong. The judge doesn't tell which",
   L3: "a later letter of yours was taken before",
@@ -157,7 +173,8 @@ const WHY = {
 export function explain(text, orders = []) {
   return text.split("\n").slice(1).filter((l) => l && l !== "END").map((line) => {
     const m = line.match(/^([OL]\d+)(?: line (\d+):)?/);
-    if (m && WHY[m[1]]) return { ok: false, code: m[1], line, order: m[2] ? orders[m[2] - 1] : "", why: WHY[m[1]] };
+    if (m && WHY[m[1]]) return { ok: false, code: m[1], line, order: m[2] ? orders[m[2] - 1] : "",
+      why: WHY[m[1]] };
     return { ok: line.startsWith("OK "), line: line.replace(/^OK /, "") };
   });
 }

@@ -19,7 +19,8 @@ function reachOf(u) {
 }
 function byConvoy(u) {
   if (u.kind !== "A" || !isCoastal(u.at)) return [];
-  return Object.keys(MAP.provinces).filter((n) => isCoastal(n) && n !== u.at && !place(u.at).army.includes(n));
+  return Object.keys(MAP.provinces).filter((n) => isCoastal(n) && n !== u.at
+    && !place(u.at).army.includes(n));
 }
 
 let view = { board: [], phase: "", power: "" };     // what is on the map now
@@ -75,15 +76,18 @@ function destinations(does, u, other) {
   }
   if (!other) return [];
   const bare = (list) => [...new Set(list.map(provinceOf))].filter((p) => p !== provinceOf(u.at));
-  if (does === "convoy") return [["", there(bare([...byConvoy(other), ...reachOf(other).filter(isCoastal)]))]];
+  if (does === "convoy") return [["",
+    there(bare([...byConvoy(other), ...reachOf(other).filter(isCoastal)]))]];
   const near = new Set(reachOf(u).map(provinceOf));
-  const both = bare([...reachOf(other), ...byConvoy(other)]).filter((p) => near.has(p) && p !== provinceOf(other.at));
+  const both = bare([...reachOf(other), ...byConvoy(other)]).filter((p) => near.has(p)
+    && p !== provinceOf(other.at));
   return [["", [...(near.has(provinceOf(other.at)) ? [["", "where it is"]] : []), ...there(both)]]];
 }
 
 function others() {
   const u = chosen();
-  return standing(view).filter((v) => v !== u && (pick.does === "support" || (v.kind === "A" && isCoastal(v.at))))
+  return standing(view).filter((v) => v !== u
+    && (pick.does === "support" || (v.kind === "A" && isCoastal(v.at))))
     .map((v) => [unitWords(v), `${nameOf(v.power)}: ${unitWords(v)}, ${wordsOf(v.at)}`]);
 }
 
@@ -92,14 +96,17 @@ export function fill() {
   const homes = winter && allowance(view.board, view.power) > 0 ? freeHomes() : [];
   options($("b-unit"), [["", [["", view.power ? "choose" : "choose your power first"]]],
     ...(winter && homes.length ? [["build in", homes.map((n) => [n, wordsOf(n)])]] : []),
-    ...(ownUnits().length ? [[winter ? "remove" : "your units", ownUnits().map((u) => [unitWords(u), `${unitWords(u)}, ${wordsOf(u.at)}`])]] : [])],
+    ...(ownUnits().length
+      ? [[winter ? "remove" : "your units",
+      ownUnits().map((u) => [unitWords(u), `${unitWords(u)}, ${wordsOf(u.at)}`])]] : [])],
     pick.unit);
   const u = chosen();
   if (!winter) options($("b-does"), [["", DOES[part()] || []]], pick.does);
   else if (pick.unit && !u) {
     const p = place(pick.unit);
     options($("b-does"), [["", [["build A", "builds an army"],
-      ...(p.coasts ? Object.keys(p.coasts).map((c) => ["build F/" + c, `builds a fleet, ${COAST[c]}`])
+      ...(p.coasts ? Object.keys(p.coasts).map((c) =>
+        ["build F/" + c, `builds a fleet, ${COAST[c]}`])
         : p.kind === "coast" ? [["build F", "builds a fleet"]] : [])]]], pick.does);
   } else options($("b-does"), [["", [["remove", "is removed"]]]], pick.does);
   pick.does = $("b-does").value;
@@ -116,7 +123,8 @@ export function fill() {
 function showVia() {
   const u = chosen();
   const to = $("b-to").value;
-  $("b-via-label").hidden = !(pick.does === "move" && u?.kind === "A" && to && isCoastal(u.at) && isCoastal(to)
+  $("b-via-label").hidden = !(pick.does === "move" && u?.kind === "A" && to && isCoastal(u.at)
+    && isCoastal(to)
     && reachOf(u).includes(to));
   if ($("b-via-label").hidden) $("b-via").checked = false;
 }
@@ -133,7 +141,8 @@ function lineOf() {
     return pick.unit && kind ? `BUILD ${kind} ${pick.unit}${coast || ""}` : "";
   }
   if (!u) return "";
-  return { hold: `${own} H`, disband: `${own} D`, move: to && `${own} - ${to}${$("b-via").checked ? " VIA" : ""}`,
+  return { hold: `${own} H`, disband: `${own} D`, move: to
+    && `${own} - ${to}${$("b-via").checked ? " VIA" : ""}`,
     retreat: to && `${own} R ${to}`, support: them && `${own} S ${them}${to ? " - " + to : ""}`,
     convoy: them && to && `${own} C ${them} - ${to}` }[pick.does] || "";
 }
@@ -145,13 +154,15 @@ export const tidied = (known) => plain($("orders").value).split("\n")
   .map((l) => tidyOrder(l, known ? NAMES : [])).join("\n");
 
 export function draft() {
-  return tidied(true).split("\n").map((text) => ({ text: text.trim(), power: view.power, ...readOrder(text) }))
+  return tidied(true).split("\n").map((text) =>
+    ({ text: text.trim(), power: view.power, ...readOrder(text) }))
     .filter((o) => o.does);
 }
 
 function addLine(line) {
   const own = provinceOf(readOrder(line).at);
-  const kept = $("orders").value.split("\n").filter((l) => l.trim() && provinceOf(readOrder(l)?.at || "") !== own);
+  const kept = $("orders").value.split("\n").filter((l) => l.trim()
+    && provinceOf(readOrder(l)?.at || "") !== own);
   $("orders").value = [...kept, line].join("\n") + "\n";
   say(`Added: ${line}. Send it when all is written.`);
   pick = { unit: "", does: "", other: "" };
@@ -178,13 +189,15 @@ function quick(buttons) {
 
 function hint() {
   const u = chosen();
-  const cancel = ["Cancel", () => { pick = { unit: "", does: "", other: "" }; say(START[part()]); }];
+  const cancel = ["Cancel", () => { pick = { unit: "", does: "", other: "" }; say(START[part()]);
+    }];
   const add = (line) => () => addLine(line);
   const own = u && `${u.kind} ${provinceOf(u.at)}`;
   if (!pick.unit) return quick([]);
   if (part() === "A" && !u) {
     say(`${wordsOf(pick.unit)}: what do you build?`);
-    return quick([...[...$("b-does").options].map((o) => [o.text, () => { pick.does = o.value; addLine(lineOf()); }]), cancel]);
+    return quick([...[...$("b-does").options].map((o) =>
+      [o.text, () => { pick.does = o.value; addLine(lineOf()); }]), cancel]);
   }
   if (!u) return quick([]);
   if (part() === "A") {
@@ -196,14 +209,16 @@ function hint() {
     return quick([["Disband", add(`${own} D`)], cancel]);
   }
   say({ move: `${own}: click where it moves to.`,
-    support: pick.other ? `${own} supports ${pick.other}: click where that one goes, or click it again if it stays.`
+    support: pick.other
+      ? `${own} supports ${pick.other}: click where that one goes, or click it again if it stays.`
       : `${own} supports: click the unit that it supports.`,
     convoy: pick.other ? `${own} convoys ${pick.other}: click where the army goes.`
       : `${own} convoys: click the army.` }[pick.does] || "");
   const set = (does) => () => { pick.does = does; pick.other = ""; };
   return quick([["Hold", add(`${own} H`)], ["Move", set("move"), pick.does === "move"],
     ["Support", set("support"), pick.does === "support"],
-    ...(u.kind === "F" && place(u.at).kind === "sea" ? [["Convoy", set("convoy"), pick.does === "convoy"]] : []), cancel]);
+    ...(u.kind === "F" && place(u.at).kind === "sea"
+      ? [["Convoy", set("convoy"), pick.does === "convoy"]] : []), cancel]);
 }
 
 // Provinces that may be clicked next.
@@ -211,7 +226,8 @@ export function reach() {
   const u = chosen();
   if (!u || !["move", "retreat", "support", "convoy"].includes(pick.does)) return [];
   if (pick.does === "support" && !pick.other) return [];
-  return destinations(pick.does, u, unitNamed(pick.other, false)).filter(([label]) => label !== "by convoy")
+  return destinations(pick.does, u, unitNamed(pick.other, false)).filter(([label]) =>
+    label !== "by convoy")
     .flatMap(([, list]) => list.map(([p]) => provinceOf(p || pick.other.slice(2))));
 }
 
@@ -238,7 +254,8 @@ function goTo(u, n) {
   const line = `${own} ${word} ${near[0] || n}`;
   addLine(line);
   if (far) say(`Added: ${line}. It goes by convoy: fleets have to carry it.`);
-  else if (pick.does !== "retreat" && u.kind === "A" && isCoastal(u.at) && isCoastal(n) && word === "-") {
+  else if (pick.does !== "retreat" && u.kind === "A" && isCoastal(u.at) && isCoastal(n)
+    && word === "-") {
     refresh();
     quick([["Let it go by convoy (VIA)", () => addLine(line + " VIA")]]);
     return false;
@@ -249,22 +266,30 @@ function goTo(u, n) {
 // A click on a province of the map, perhaps on a unit in it.
 export function clicked(n, at, owner) {
   const u = chosen();
-  const here = at && view.board.flatMap((b) => b.units).find((v) => v.at === at && v.power === owner);
+  const here = at && view.board.flatMap((b) => b.units).find((v) => v.at === at
+    && v.power === owner);
   if (!pick.unit) {
     if (!view.power && here) $("power").value = view.power = owner;
-    const own = (here && here.power === view.power ? here : null) || ownUnits().find((v) => provinceOf(v.at) === n);
-    if (own && ownUnits().includes(own)) pick = { unit: unitWords(own), does: DOES[part()]?.[0][0] || "remove", other: "" };
+    const own = (here && here.power === view.power ? here : null)
+      || ownUnits().find((v) => provinceOf(v.at) === n);
+    if (own && ownUnits().includes(own)) pick = { unit: unitWords(own), does: DOES[part()]?.[0][0]
+      || "remove", other: "" };
     else if (part() === "A" && freeHomes().includes(n)) pick = { unit: n, does: "", other: "" };
-    else if (here) say(`That unit is ${nameOf(here.power)}'s. You write for ${view.power ? nameOf(view.power) : "nobody yet"}.`);
+    else if (here) {
+      say(`That unit is ${nameOf(here.power)}'s. You write for ${nameOf(view.power)}.`);
+    }
     else say(START[part()]);
     return refresh();
   }
-  if (!u || part() === "A") { pick = { unit: "", does: "", other: "" }; refresh(); return clicked(n, at, owner); }
+  if (!u || part() === "A") { pick = { unit: "", does: "", other: "" }; refresh();
+    return clicked(n, at, owner); }
   if (pick.does === "support" || pick.does === "convoy") {
     const unit = here && !here.out ? here : standing(view).find((v) => provinceOf(v.at) === n);
     if (!pick.other) {
-      if (unit && unit !== u && (pick.does === "support" || unit.kind === "A")) pick.other = unitWords(unit);
-      else { hint(); say("Click a unit " + (pick.does === "support" ? "to support." : "that is an army on a coast.")); return changed(); }
+      if (unit && unit !== u
+        && (pick.does === "support" || unit.kind === "A")) pick.other = unitWords(unit);
+      else { hint(); say("Click a unit " + (pick.does === "support" ? "to support."
+        : "that is an army on a coast.")); return changed(); }
       return refresh();
     }
     const other = unitNamed(pick.other, false);
@@ -274,7 +299,8 @@ export function clicked(n, at, owner) {
     else addLine(`${own} S ${them}${n === provinceOf(other.at) ? "" : " - " + n}`);
     return refresh();
   }
-  if (here === u && pick.does === "move") { addLine(`${u.kind} ${provinceOf(u.at)} H`); return refresh(); }
+  if (here === u && pick.does === "move") { addLine(`${u.kind} ${provinceOf(u.at)} H`);
+    return refresh(); }
   if (goTo(u, n)) { const told = $("hint").textContent; refresh(); say(told); } else changed();
 }
 
@@ -289,7 +315,8 @@ export function setView(next) {
 
 export function begin(onChange) {
   changed = onChange;
-  $("b-unit").onchange = () => { pick = { unit: $("b-unit").value, does: "", other: "" }; refresh(); };
+  $("b-unit").onchange = () => { pick = { unit: $("b-unit").value, does: "", other: "" }; refresh();
+    };
   $("b-does").onchange = () => { pick.does = $("b-does").value; pick.other = ""; refresh(); };
   $("b-other").onchange = () => { pick.other = $("b-other").value; refresh(); };
   $("b-to").onchange = showVia;

@@ -6,10 +6,13 @@ const PLACE = "([a-z]{3})(/[a-z]+)?";
 const OTHER = `([AF]) ${PLACE}`;
 const ORDERS = [
   [`^${OTHER} H$`, (m) => order(m, "hold")],
-  [`^${OTHER} - ${PLACE}( VIA)?$`, (m) => order(m, "move", { to: m[4] + (m[5] || ""), via: !!m[6] })],
-  [`^${OTHER} S ${OTHER} - ${PLACE}$`, (m) => order(m, "support", { other: m[5], kind2: m[4], to: m[7] })],
+  [`^${OTHER} - ${PLACE}( VIA)?$`,
+    (m) => order(m, "move", { to: m[4] + (m[5] || ""), via: !!m[6] })],
+  [`^${OTHER} S ${OTHER} - ${PLACE}$`,
+    (m) => order(m, "support", { other: m[5], kind2: m[4], to: m[7] })],
   [`^${OTHER} S ${OTHER}$`, (m) => order(m, "support", { other: m[5], kind2: m[4] })],
-  [`^${OTHER} C ${OTHER} - ${PLACE}$`, (m) => order(m, "convoy", { other: m[5], kind2: m[4], to: m[7] })],
+  [`^${OTHER} C ${OTHER} - ${PLACE}$`,
+    (m) => order(m, "convoy", { other: m[5], kind2: m[4], to: m[7] })],
   [`^${OTHER} R ${PLACE}$`, (m) => order(m, "retreat", { to: m[4] + (m[5] || "") })],
   [`^${OTHER} D$`, (m) => order(m, "disband")],
   [`^BUILD ${OTHER}$`, (m) => order(m, "build")],
@@ -36,26 +39,35 @@ export function readOrder(text) {
 export function orderText(o) {
   const own = `${o.kind} ${o.at}`;
   const them = `${o.kind2} ${o.other}${o.to ? " - " + o.to : ""}`;
-  return { hold: `${own} H`, move: `${own} - ${o.to}${o.via ? " VIA" : ""}`, support: `${own} S ${them}`,
-    convoy: `${own} C ${them}`, retreat: `${own} R ${o.to}`, disband: `${own} D`, build: `BUILD ${own}`,
+  return { hold: `${own} H`, move: `${own} - ${o.to}${o.via ? " VIA" : ""}`,
+    support: `${own} S ${them}`,
+    convoy: `${own} C ${them}`, retreat: `${own} R ${o.to}`, disband: `${own} D`,
+      build: `BUILD ${own}`,
     remove: `REMOVE ${own}` }[o.does];
 }
 
 // Words that people write in orders, and those of the judge.
-const WORDS = [[/[.;,!]+$/, ""], [/\b(?:via|by) convoy$/, "via"], [/\barmy\b/g, "a"], [/\bfleet\b/g, "f"],
-  [/ ?[-=]*> ?/g, " - "], [/\b(?:moves?|goes)\b(?: to\b)?/g, " - "], [/\bretreats?\b(?: to\b)?/g, "r"],
-  [/\bdisbands?\b/g, "d"], [/\b(?:holds?|stands?)\b/g, "h"], [/\bsupports?\b/g, "s"], [/\bconvoys?\b/g, "c"],
+const WORDS = [[/[.;,!]+$/, ""], [/\b(?:via|by) convoy$/, "via"], [/\barmy\b/g, "a"],
+  [/\bfleet\b/g, "f"],
+  [/ ?[-=]*> ?/g, " - "], [/\b(?:moves?|goes)\b(?: to\b)?/g, " - "],
+    [/\bretreats?\b(?: to\b)?/g, "r"],
+  [/\bdisbands?\b/g, "d"], [/\b(?:holds?|stands?)\b/g, "h"], [/\bsupports?\b/g, "s"],
+    [/\bconvoys?\b/g, "c"],
   [/\bbuilds?\b/g, "build"], [/\bremoves?\b/g, "remove"], [/ to /g, " - "], [/ in /g, " "],
-  [/\b(north|south|east) coast\b/g, (_, c) => c[0] + "c"], [/\b([a-z]{3}) ?[/(]? ?([nse]c)\b\)?/g, "$1/$2"],
+  [/\b(north|south|east) coast\b/g, (_, c) => c[0] + "c"],
+    [/\b([a-z]{3}) ?[/(]? ?([nse]c)\b\)?/g, "$1/$2"],
   [/ ?- ?(?:- ?)*/g, " - "], [/( s [af] [a-z]{3}(?:\/[a-z]+)?) h$/, "$1"]];
-const OLD_NAMES = [["romania", "rum"], ["heligoland bight", "hel"], ["heligoland", "hel"], ["gulf of lyons", "lyo"],
+const OLD_NAMES = [["romania", "rum"], ["heligoland bight", "hel"], ["heligoland", "hel"],
+  ["gulf of lyons", "lyo"],
   ["tyrol", "tyr"], ["english channel", "eng"], ["mid atlantic", "mao"]];
 
 // An order that people can read and the judge can't, in its one form; any other line as it is.
 export function tidyOrder(text, names) {
   if (!text.trim() || readOrder(text)) return text;
-  let line = text.trim().toLowerCase().replace(/\bst\. ?/g, "st ").replace(/\bmid-/g, "mid ").replace(/\s+/g, " ");
-  const known = [...names.map(([code, name]) => [name.toLowerCase().replace("mid-", "mid "), code]), ...OLD_NAMES];
+  let line = text.trim().toLowerCase().replace(/\bst\. ?/g, "st ").replace(/\bmid-/g,
+    "mid ").replace(/\s+/g, " ");
+  const known = [...names.map(([code, name]) => [name.toLowerCase().replace("mid-", "mid "), code]),
+    ...OLD_NAMES];
   for (const [name, code] of known.sort((a, b) => b[0].length - a[0].length)) {
     line = line.replace(new RegExp(`\\b${name}\\b`, "g"), code);
   }
@@ -76,7 +88,8 @@ export function readBoardLine(line) {
     return u && { kind: u[1], at: u[2] + (u[3] || ""), out: !!u[4], power: m[1] };
   });
   if (units.includes(null)) return null;
-  return { power: m[1], centres: +m[2], count: +m[3], units, own: m[5] === "-" ? [] : m[5].split(" ") };
+  return { power: m[1], centres: +m[2], count: +m[3], units, own: m[5] === "-" ? []
+    : m[5].split(" ") };
 }
 
 export function readPaper(text) {
@@ -92,7 +105,8 @@ export function readPaper(text) {
     else if ((m = readBoardLine(line))) paper.board.push(m);
     else if ((m = line.match(/^centre ([a-z]+): ([a-z]+)$/))) {
       paper.changes.push({ centre: m[1], power: m[2] });
-    } else if ((m = line.match(/^([a-z]+) waives (\d+)$/))) paper.waived.push({ power: m[1], count: +m[2] });
+    } else if ((m = line.match(/^([a-z]+) waives (\d+)$/))) paper.waived.push({ power: m[1],
+      count: +m[2] });
     else if ((m = line.match(/^([a-z]+) (.+): ([^:]+)$/)) && readOrder(m[2])) {
       const [outcome, fate = ""] = m[3].split(", ");
       paper.orders.push({ power: m[1], text: m[2], ...readOrder(m[2]), outcome, fate });
@@ -119,7 +133,8 @@ export const namesOf = (powers) =>
 
 export function statusWords(status) {
   const m = status.match(/^(won|drawn) by (.*)$/);
-  if (m) return m[1] === "won" ? `${nameOf(m[2])} has won` : `drawn between ${namesOf(m[2].split(" "))}`;
+  if (m) return m[1] === "won" ? `${nameOf(m[2])} has won`
+    : `drawn between ${namesOf(m[2].split(" "))}`;
   return { running: "running", paused: "paused: nothing is played until the master resumes it",
     closed: "closed by the master", ended: "ended: its years are over" }[status] || status;
 }

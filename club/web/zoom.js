@@ -12,7 +12,8 @@ export function zoomable(svg, width, height, onScale) {
     const [w, h] = size();
     view.w = Math.min(fit(), Math.max(width / 8, view.w));
     const high = view.w * h / w;
-    const clamp = (v, room, whole) => (room >= whole ? (whole - room) / 2 : Math.max(0, Math.min(whole - room, v)));
+    const clamp = (v, room, whole) =>
+      (room >= whole ? (whole - room) / 2 : Math.max(0, Math.min(whole - room, v)));
     view.x = clamp(view.x, view.w, width);
     view.y = clamp(view.y, high, height);
     svg.setAttribute("viewBox", [view.x, view.y, view.w, high].map((z) => z.toFixed(1)).join(" "));
@@ -74,9 +75,11 @@ export function zoomable(svg, width, height, onScale) {
     svg.addEventListener(end, (e) => fingers.delete(e.pointerId));
   }
   // A drag is no click.
-  svg.addEventListener("click", (e) => { if (dragged) e.stopImmediatePropagation(); dragged = false; }, true);
+  svg.addEventListener("click", (e) => { if (dragged) e.stopImmediatePropagation(); dragged = false;
+    }, true);
   svg.addEventListener("keydown", (e) => {
-    const step = { ArrowLeft: [-0.1, 0], ArrowRight: [0.1, 0], ArrowUp: [0, -0.1], ArrowDown: [0, 0.1] }[e.key];
+    const step = { ArrowLeft: [-0.1, 0], ArrowRight: [0.1, 0], ArrowUp: [0, -0.1],
+      ArrowDown: [0, 0.1] }[e.key];
     if (e.key === "+" || e.key === "=") zoom(1 / 1.3);
     else if (e.key === "-") zoom(1.3);
     else if (e.key === "0") whole();

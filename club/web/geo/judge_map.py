@@ -2,7 +2,8 @@
 import os
 import re
 
-FILE = os.path.join(os.path.dirname(os.path.abspath(__file__)), "../../../crates/dip_map/src/standard.rt")
+FILE = os.path.join(os.path.dirname(os.path.abspath(__file__)),
+    "../../../crates/dip_map/src/standard.rt")
 
 
 def read_map(path=FILE):
@@ -18,12 +19,14 @@ def read_map(path=FILE):
             elif coasts:
                 here = provinces[name]["coasts"]
             else:
-                here = provinces.setdefault(name, {"name": "", "kind": "", "centre": False, "army": [],
+                here = provinces.setdefault(name, {"name": "", "kind": "", "centre": False,
+                    "army": [],
                                                    "fleet": [], "coasts": {}})
             continue
         pair = re.match(r"(\w+) = (.*)$", line)
         if pair and here is not None:
             word = pair[2]
-            here[pair[1]] = re.findall(r'"([^"]*)"', word) if word[0] == "[" else word == "true" if word in (
+            here[pair[1]] = re.findall(r'"([^"]*)"',
+                word) if word[0] == "[" else word == "true" if word in (
                 "true", "false") else word.strip('"')
     return {"powers": powers, "provinces": provinces}

@@ -7,11 +7,14 @@ import { sleep } from "./driver.mjs";
 
 export const POLICY = "default-src 'none'; script-src 'self'; style-src 'self'; img-src 'self'; connect-src 'self'; "
   + "form-action 'self'; base-uri 'none'; frame-ancestors 'none'";
-const TYPES = { ".html": "text/html", ".js": "text/javascript", ".css": "text/css", ".svg": "image/svg+xml", ".txt": "text/plain" };
+const TYPES = { ".html": "text/html", ".js": "text/javascript", ".css": "text/css",
+  ".svg": "image/svg+xml", ".txt": "text/plain" };
 
 export async function judge(program, store, port, master, map) {
-  if (!fs.existsSync(store)) execFileSync(program, ["init", "--store", store, "--master", master, ...(map ? ["--map", map] : [])]);
-  const child = spawn(program, ["serve", "--store", store, "--port", port, "--count", 999999, ...(map ? ["--map", map] : [])],
+  if (!fs.existsSync(store)) execFileSync(program, ["init", "--store", store, "--master", master,
+    ...(map ? ["--map", map] : [])]);
+  const child = spawn(program, ["serve", "--store", store, "--port", port, "--count", 999999,
+    ...(map ? ["--map", map] : [])],
     { stdio: ["ignore", "ignore", "pipe"] });
   let told = "";
   child.stderr.on("data", (d) => { told += d; });
@@ -21,20 +24,27 @@ export async function judge(program, store, port, master, map) {
   return {
     port,
     master: async (game, ...lines) => {
-      const body = ["LETTER", "GAME " + game, "FROM master", "SECRET " + master, "NUMBER " + ++number, ...lines, "END", ""].join("\n");
+      const body = ["LETTER", "GAME " + game, "FROM master", "SECRET " + master,
+        "NUMBER " + ++number, ...lines, "END", ""].join("\n");
       return (await fetch(`http://127.0.0.1:${port}/letters`, { method: "POST", body })).text();
     },
-    end: async () => { child.kill(); await new Promise((done) => { child.once("exit", done); if (child.exitCode !== null || child.signalCode) done(); }); },
+    end: async () => { child.kill();
+      await new Promise((done) => { child.once("exit", done);
+      if (child.exitCode !== null || child.signalCode) done(); }); },
   };
 }
 
-// Serves the folder, hands /letters and /games/ to the judge's port, and can be told to lose answers.
+// Serves the folder, hands /letters and /games/ to the judge's port, and can be told to lose
+// answers.
 export function files(folder, port, to, games) {
-  const how = { lose: 0, away: false, taken: [], made: {} };     // made: answers by path, of games that nobody played
+  // made: answers by path, of games that nobody played
+  const how = { lose: 0, away: false, taken: [], made: {} };
   const server = http.createServer((ask, answer) => {
     const url = new URL(ask.url, "http://x");
-    const headers = { "Content-Security-Policy": POLICY, "X-Content-Type-Options": "nosniff", "Cache-Control": "no-cache" };
-    if (how.made[url.pathname]) { answer.writeHead(200, headers); return answer.end(how.made[url.pathname]); }
+    const headers = { "Content-Security-Policy": POLICY, "X-Content-Type-Options": "nosniff",
+      "Cache-Control": "no-cache" };
+    if (how.made[url.pathname]) { answer.writeHead(200, headers);
+      return answer.end(how.made[url.pathname]); }
     if (url.pathname === "/letters" || url.pathname.startsWith("/games/")) {
       const body = [];
       ask.on("data", (d) => body.push(d));
@@ -42,10 +52,13 @@ export function files(folder, port, to, games) {
         const bytes = Buffer.concat(body);
         if (url.pathname === "/letters") how.taken.push(bytes.toString());
         if (how.away) { answer.writeHead(502, headers); return answer.end("502"); }
-        const on = http.request({ host: "127.0.0.1", port: how.to ?? to, path: ask.url, method: ask.method, headers: { "Content-Length": bytes.length } }, (got) => {
+        const on = http.request({ host: "127.0.0.1", port: how.to ?? to, path: ask.url,
+          method: ask.method, headers: { "Content-Length": bytes.length } }, (got) => {
           // An answer that is lost on its way: the judge has taken the letter.
-          if (how.lose > 0 && url.pathname === "/letters") { how.lose--; got.resume(); return ask.socket.destroy(); }
-          answer.writeHead(got.statusCode, { ...headers, "Content-Type": got.headers["content-type"] });
+          if (how.lose > 0 && url.pathname === "/letters") { how.lose--; got.resume();
+            return ask.socket.destroy(); }
+          answer.writeHead(got.statusCode,
+            { ...headers, "Content-Type": got.headers["content-type"] });
           got.pipe(answer);
         });
         on.on("error", () => { answer.writeHead(502, headers); answer.end("502"); });
@@ -54,14 +67,20 @@ export function files(folder, port, to, games) {
       return;
     }
     if (url.pathname === "/paper") {
-      answer.writeHead(302, { ...headers, Location: `/games/${url.searchParams.get("game")}/papers/${url.searchParams.get("n")}` });
+      answer.writeHead(302,
+        { ...headers, Location: `/games/${url.searchParams.get("game")}/papers/${url.searchParams.get("n")}` });
       return answer.end();
     }
-    if (url.pathname === "/games.txt" && games) { answer.writeHead(200, { ...headers, "Content-Type": "text/plain" }); return answer.end(games); }
-    const file = path.join(folder, url.pathname === "/" ? "index.html" : path.normalize(url.pathname));
-    if (!file.startsWith(folder) || !fs.existsSync(file) || !fs.statSync(file).isFile()) { answer.writeHead(404, headers); return answer.end("404"); }
-    answer.writeHead(200, { ...headers, "Content-Type": TYPES[path.extname(file)] || "text/plain" });
+    if (url.pathname === "/games.txt" && games) { answer.writeHead(200,
+      { ...headers, "Content-Type": "text/plain" }); return answer.end(games); }
+    const file = path.join(folder, url.pathname === "/" ? "index.html"
+      : path.normalize(url.pathname));
+    if (!file.startsWith(folder) || !fs.existsSync(file)
+      || !fs.statSync(file).isFile()) { answer.writeHead(404, headers); return answer.end("404"); }
+    answer.writeHead(200, { ...headers, "Content-Type": TYPES[path.extname(file)]
+      || "text/plain" });
     fs.createReadStream(file).pipe(answer);
   });
-  return new Promise((done) => server.listen(port, "127.0.0.1", () => done({ how, end: () => { server.closeAllConnections(); server.close(); } })));
+  return new Promise((done) => server.listen(port, "127.0.0.1",
+    () => done({ how, end: () => { server.closeAllConnections(); server.close(); } })));
 }

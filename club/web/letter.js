@@ -101,10 +101,10 @@ async function post(bytes, say) {
 
 const AWAY = "The judge doesn't answer. It isn't known whether your letter arrived. Wait some "
   + "minutes, change nothing and press Send again: the same letter goes out then, and counts once.";
-const BETWEEN = "Another letter of yours came between, from another window or device. It isn't known "
-  + "whether this one was taken before. Look with Show; if it wasn't, press Send again.";
+const BETWEEN = "Another letter of yours came between, from another window or device. It isn't "
+  + "known whether this one was taken before. Look with Show; if it wasn't, press Send again.";
 const TOO_LONG = "The letter is too long: 16,384 characters are the limit. Send it in two.";
-const STRANGE = "This address doesn't answer as a judge does (status N). Tell the club's secretary.";
+const STRANGE = "This address doesn't answer as a judge does (status N). Tell your secretary.";
 const TWO_PLACES = "Letters of yours come from two places at once. Close the other one and press "
   + "Send again.";
 let open = null;     // the letter of which no answer came: whose, its number and its lines

@@ -1,8 +1,8 @@
 """Where the map comes from: coasts and points, each a pair of latitude and longitude.
 
 Land is what lies in one of the rings of LAND and not in one of WATER. A province of the land is the
-union of the land cells nearest its points; a sea is the same with the cells of the water. Straits are
-drawn wider than they are, and Denmark is joined to Sweden, as the map of the game has it.
+union of the land cells nearest its points; a sea is the same with the cells of the water. Straits
+are drawn wider than they are, and Denmark is joined to Sweden, as the map of the game has it.
 """
 
 ARCTIC = [(72, 75), (68.6, 60), (68.3, 54), (67.6, 47.5), (66.9, 46), (68.7, 44.2), (68.6, 43.1),

@@ -26,6 +26,10 @@ import { pathToFileURL } from "node:url";
 
 export const sleep = (ms) => new Promise((done) => setTimeout(done, ms));
 
+const find = (selector) => `document.querySelector(${JSON.stringify(selector)})`;
+const ALL_READ = `!${find("#which")}.textContent.includes(" read)")`;
+const wordsOf = (details) => details.exception?.description || details.text;
+
 export async function browser(port = 8490) {
   const home = fs.mkdtempSync(path.join(os.tmpdir(), "page-"));
   const child = spawn("chromium", ["--headless=new", "--no-sandbox", "--disable-gpu",
@@ -54,7 +58,7 @@ export async function browser(port = 8490) {
     if (m.id) { waiting[m.id]?.(m); delete waiting[m.id]; return; }
     const p = m.params;
     if (m.method === "Network.requestWillBeSent") seen.requests.push(p.request.url);
-    if (m.method === "Runtime.exceptionThrown") seen.errors.push(p.exceptionDetails.exception?.description || p.exceptionDetails.text);
+    if (m.method === "Runtime.exceptionThrown") seen.errors.push(wordsOf(p.exceptionDetails));
     if (m.method === "Runtime.consoleAPICalled"
       && p.type !== "debug") seen.errors.push(p.args.map((a) => a.value
       ?? a.description).join(" "));
@@ -103,7 +107,7 @@ export async function browser(port = 8490) {
     return file;
   }
   const box = (selector) =>
-    evaluate(`(() => { const b = document.querySelector(${JSON.stringify(selector)}).getBoundingClientRect();
+    evaluate(`(() => { const b = ${find(selector)}.getBoundingClientRect();
     return { x: b.x + scrollX, y: b.y + scrollY, width: b.width, height: b.height }; })()`);
   async function click(x, y) {
     for (const type of ["mousePressed", "mouseReleased"]) {
@@ -113,13 +117,14 @@ export async function browser(port = 8490) {
   }
   // Clicks an element in its middle, or the map where a province's unit stands.
   async function clickOn(selector) {
-    const at = await evaluate(`(() => { const e = document.querySelector(${JSON.stringify(selector)});
+    const at = await evaluate(`(() => { const e = ${find(selector)};
       e.scrollIntoView({ block: "center" }); const b = e.getBoundingClientRect();
         return [b.x + b.width / 2, b.y + b.height / 2]; })()`);
     await click(...at);
   }
   async function clickMap(place) {
-    const at = await evaluate(`import("/map.js").then(({ MAP }) => { const [n, c] = ${JSON.stringify(place)}.split("/");
+    const at = await evaluate(`import("/map.js").then(({ MAP }) => {
+      const [n, c] = ${JSON.stringify(place)}.split("/");
       const p = MAP.provinces[n]; const s = document.getElementById("map");
         s.scrollIntoView({ block: "center" });
       const q = new DOMPoint(...(c ? p.coasts[c].at : p.at)).matrixTransform(s.getScreenCTM());
@@ -142,15 +147,15 @@ export async function browser(port = 8490) {
   }
   async function open(game) {
     await evaluate(`location.hash = ${JSON.stringify(game)}`);
-    await until(`document.querySelector("#title").textContent === "Game ${game}" || !document.querySelector("#trouble").hidden`);
-    await until(`!document.querySelector("#trouble").hidden || !document.querySelector("#which").textContent.includes(" read)")`);
+    await until(`${find("#title")}.textContent === "Game ${game}" || !${find("#trouble")}.hidden`);
+    await until(`!${find("#trouble")}.hidden || ${ALL_READ}`);
     return evaluate(`document.querySelector("#state").textContent`);
   }
   async function paper(n) {
     if (n === "now") await evaluate(`document.querySelector("#now").click()`);
     else {
-      await until(`!document.querySelector("#which").textContent.includes(" read)")`);
-      await evaluate(`(() => { document.querySelector("#now").click(); document.querySelector("#first").click();
+      await until(ALL_READ);
+      await evaluate(`(() => { ${find("#now")}.click(); ${find("#first")}.click();
         for (let i = 1; i < ${+n}; i++) document.querySelector("#next").click(); })()`);
     }
     await sleep(150);
@@ -158,7 +163,8 @@ export async function browser(port = 8490) {
   }
   // Fills the form as a player would, and sends it.
   async function post(s) {
-    await evaluate(`(() => { const $ = (i) => document.getElementById(i); const s = ${JSON.stringify(s)};
+    await evaluate(`(() => { const $ = (i) => document.getElementById(i);
+      const s = ${JSON.stringify(s)};
       const set = (e, v, type) => { e.value = v;
         e.dispatchEvent(new Event(type, { bubbles: true })); };
       set($("power"), s.power, "change"); $("secret").value = s.secret;
@@ -172,7 +178,8 @@ export async function browser(port = 8490) {
         || []).includes(b.value);
       if (s.first) $("from-item").value = s.first; $("said").textContent = "Sending ...";
         $("send").click(); })()`);
-    await until(`!document.querySelector("#send").disabled && !/^Sending|^No answer/.test(document.querySelector("#said").textContent)`, 120000);
+    await until(`!${find("#send")}.disabled
+      && !/^Sending|^No answer/.test(${find("#said")}.textContent)`, 120000);
     return evaluate(`({ said: document.querySelector("#said").textContent,
       lines: [...document.querySelectorAll("#reply li")].map((l) => l.textContent),
         raw: document.querySelector("#raw").textContent })`);

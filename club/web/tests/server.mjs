@@ -5,7 +5,8 @@ import http from "node:http";
 import path from "node:path";
 import { sleep } from "./driver.mjs";
 
-export const POLICY = "default-src 'none'; script-src 'self'; style-src 'self'; img-src 'self'; connect-src 'self'; "
+export const POLICY = "default-src 'none'; script-src 'self'; style-src 'self'; img-src 'self'; "
+  + "connect-src 'self'; "
   + "form-action 'self'; base-uri 'none'; frame-ancestors 'none'";
 const TYPES = { ".html": "text/html", ".js": "text/javascript", ".css": "text/css",
   ".svg": "image/svg+xml", ".txt": "text/plain" };
@@ -67,8 +68,9 @@ export function files(folder, port, to, games) {
       return;
     }
     if (url.pathname === "/paper") {
+      const asked = (name) => url.searchParams.get(name);
       answer.writeHead(302,
-        { ...headers, Location: `/games/${url.searchParams.get("game")}/papers/${url.searchParams.get("n")}` });
+        { ...headers, Location: `/games/${asked("game")}/papers/${asked("n")}` });
       return answer.end();
     }
     if (url.pathname === "/games.txt" && games) { answer.writeHead(200,

@@ -268,7 +268,8 @@ export function drawBoard(board, { orders = [], changes = [], reach = [], picked
   for (const o of [...moves, ...orders.filter((q) => q.does !== "move")]) drawOrder(o, orders,
     stands);
   if (picked) {
-    const u = all.find((v) => unitWords(v) === picked);
+    const fit = all.filter((v) => unitWords(v) === picked);
+    const u = fit.find((v) => v.out) || fit[0];
     if (u) {
       const [x, y] = u.out ? beside(spotOf(u.at)) : spotOf(u.at);
       el("circle", { cx: x, cy: y, r: 26 * k, class: "picked" }, layers.marks);

@@ -2,7 +2,7 @@
 
 import { MAP } from "./map.js";
 import { plain } from "./letter.js";
-import { readOrder, tidyOrder, provinceOf, unitWords, nameOf } from "./papers.js";
+import { orderText, readOrder, tidyOrder, provinceOf, unitWords, nameOf } from "./papers.js";
 
 const $ = (id) => document.getElementById(id);
 const place = (p) => MAP.provinces[provinceOf(p)];
@@ -24,7 +24,8 @@ function byConvoy(u) {
 }
 
 let view = { board: [], phase: "", power: "" };     // what is on the map now
-let pick = { unit: "", does: "", other: "" };       // what was chosen so far
+const NONE = { unit: "", does: "", other: "" };
+let pick = { ...NONE };                             // what was chosen so far
 let changed = () => {};
 
 export const picked = () => pick.unit;
@@ -60,91 +61,94 @@ function options(select, groups, kept) {
   if ([...select.options].some((o) => o.value === kept)) select.value = kept;
 }
 
-const DOES = {
-  M: [["move", "moves to"], ["hold", "holds"], ["support", "supports"], ["convoy", "convoys"]],
-  R: [["retreat", "retreats to"], ["disband", "disbands"]],
-};
+const isConvoyer = (u) => u?.kind === "F" && place(u.at).kind === "sea";
 
+function doings() {
+  const u = chosen();
+  if (part() === "R") return [["retreat", "retreats to"], ["disband", "disbands"]];
+  if (part() === "M") {
+    return [["move", "moves to"], ["hold", "holds"], ["support", "supports"],
+      ...(isConvoyer(u) ? [["convoy", "convoys"]] : [])];
+  }
+  if (u || !pick.unit) return [["remove", "is removed"]];
+  const p = place(pick.unit);
+  const fleets = p.coasts
+    ? Object.keys(p.coasts).map((c) => ["build F/" + c, `builds a fleet, ${COAST[c]}`])
+    : p.kind === "coast" ? [["build F", "builds a fleet"]] : [];
+  return [["build A", "builds an army"], ...fleets];
+}
+
+// Where an order may lead, as groups of options.
 function destinations(does, u, other) {
   const there = (list) => list.map((p) => [p, wordsOf(p)]);
   if (!u) return [];
-  if (does === "move" || does === "retreat") {
-    const full = new Set(does === "retreat" ? standing(view).map((v) => provinceOf(v.at)) : []);
-    const near = reachOf(u).filter((p) => !full.has(provinceOf(p)));
-    const far = does === "move" ? byConvoy(u) : [];
-    return [["next to it", there(near)], ...(far.length ? [["by convoy", there(far)]] : [])];
+  if (does === "move") {
+    const far = byConvoy(u);
+    return [["next to it", there(reachOf(u))], ...(far.length ? [["by convoy", there(far)]] : [])];
+  }
+  if (does === "retreat") {
+    const full = new Set(standing(view).map((v) => provinceOf(v.at)));
+    return [["next to it", there(reachOf(u).filter((p) => !full.has(provinceOf(p))))]];
   }
   if (!other) return [];
   const bare = (list) => [...new Set(list.map(provinceOf))].filter((p) => p !== provinceOf(u.at));
-  if (does === "convoy") return [["",
-    there(bare([...byConvoy(other), ...reachOf(other).filter(isCoastal)]))]];
+  if (does === "convoy") {
+    return [["", there(bare([...byConvoy(other), ...reachOf(other).filter(isCoastal)]))]];
+  }
   const near = new Set(reachOf(u).map(provinceOf));
-  const both = bare([...reachOf(other), ...byConvoy(other)]).filter((p) => near.has(p)
-    && p !== provinceOf(other.at));
-  return [["", [...(near.has(provinceOf(other.at)) ? [["", "where it is"]] : []), ...there(both)]]];
+  const home = provinceOf(other.at);
+  const both = bare([...reachOf(other), ...byConvoy(other)])
+    .filter((p) => near.has(p) && p !== home);
+  return [["", [...(near.has(home) ? [["", "where it is"]] : []), ...there(both)]]];
 }
 
 function others() {
   const u = chosen();
-  return standing(view).filter((v) => v !== u
-    && (pick.does === "support" || (v.kind === "A" && isCoastal(v.at))))
+  const fit = (v) => v !== u && (pick.does === "support" || (v.kind === "A" && isCoastal(v.at)));
+  return standing(view).filter(fit)
     .map((v) => [unitWords(v), `${nameOf(v.power)}: ${unitWords(v)}, ${wordsOf(v.at)}`]);
 }
 
 export function fill() {
   const winter = part() === "A";
   const homes = winter && allowance(view.board, view.power) > 0 ? freeHomes() : [];
+  const units = ownUnits().map((u) => [unitWords(u), `${unitWords(u)}, ${wordsOf(u.at)}`]);
   options($("b-unit"), [["", [["", view.power ? "choose" : "choose your power first"]]],
-    ...(winter && homes.length ? [["build in", homes.map((n) => [n, wordsOf(n)])]] : []),
-    ...(ownUnits().length
-      ? [[winter ? "remove" : "your units",
-      ownUnits().map((u) => [unitWords(u), `${unitWords(u)}, ${wordsOf(u.at)}`])]] : [])],
-    pick.unit);
-  const u = chosen();
-  if (!winter) options($("b-does"), [["", DOES[part()] || []]], pick.does);
-  else if (pick.unit && !u) {
-    const p = place(pick.unit);
-    options($("b-does"), [["", [["build A", "builds an army"],
-      ...(p.coasts ? Object.keys(p.coasts).map((c) =>
-        ["build F/" + c, `builds a fleet, ${COAST[c]}`])
-        : p.kind === "coast" ? [["build F", "builds a fleet"]] : [])]]], pick.does);
-  } else options($("b-does"), [["", [["remove", "is removed"]]]], pick.does);
+    ...(homes.length ? [["build in", homes.map((n) => [n, wordsOf(n)])]] : []),
+    ...(units.length ? [[winter ? "remove" : "your units", units]] : [])], pick.unit);
+  options($("b-does"), [["", doings()]], pick.does);
   pick.does = $("b-does").value;
   const pair = pick.does === "support" || pick.does === "convoy";
   $("b-other").hidden = $("b-other-label").hidden = !pair;
   if (pair) options($("b-other"), [["", [["", "choose"], ...others()]]], pick.other);
-  const to = destinations(pick.does, u, pair ? unitNamed(pick.other, false) : null);
-  const kept = $("b-to").value;
+  const to = destinations(pick.does, chosen(), pair ? unitNamed(pick.other, false) : null);
   $("b-to").hidden = $("b-to-label").hidden = !to.length && !pair;
-  options($("b-to"), to, kept);
+  options($("b-to"), to, $("b-to").value);
   showVia();
 }
 
 function showVia() {
   const u = chosen();
   const to = $("b-to").value;
-  $("b-via-label").hidden = !(pick.does === "move" && u?.kind === "A" && to && isCoastal(u.at)
-    && isCoastal(to)
-    && reachOf(u).includes(to));
-  if ($("b-via-label").hidden) $("b-via").checked = false;
+  const may = pick.does === "move" && u?.kind === "A" && to && isCoastal(u.at) && isCoastal(to)
+    && reachOf(u).includes(to);
+  $("b-via-label").hidden = !may;
+  if (!may) $("b-via").checked = false;
 }
 
+// The order that the lists say; nothing where they don't say one.
 function lineOf() {
   const u = chosen();
-  const own = u ? `${u.kind} ${provinceOf(u.at)}` : "";
-  const to = $("b-to").value;
-  const other = unitNamed(pick.other, false);
-  const them = other ? `${other.kind} ${provinceOf(other.at)}` : "";
-  if (part() === "A") {
-    if (u) return `REMOVE ${own}`;
+  if (!u) {
     const [, kind, coast] = pick.does.match(/^build ([AF])(\/\w+)?/) || [];
     return pick.unit && kind ? `BUILD ${kind} ${pick.unit}${coast || ""}` : "";
   }
-  if (!u) return "";
-  return { hold: `${own} H`, disband: `${own} D`, move: to
-    && `${own} - ${to}${$("b-via").checked ? " VIA" : ""}`,
-    retreat: to && `${own} R ${to}`, support: them && `${own} S ${them}${to ? " - " + to : ""}`,
-    convoy: them && to && `${own} C ${them} - ${to}` }[pick.does] || "";
+  const other = unitNamed(pick.other, false);
+  const [to, led] = [$("b-to").value, $("b-to").options.length > 0];
+  const needs = { move: to, retreat: to, support: other && led, convoy: other && to };
+  if (pick.does in needs && !needs[pick.does]) return "";
+  return orderText({ does: pick.does, kind: u.kind, at: provinceOf(u.at), to,
+    via: $("b-via").checked, kind2: other?.kind, other: other && provinceOf(other.at) });
 }
 
 // --- the text box: a line for a province takes the place of the one before
@@ -154,18 +158,18 @@ export const tidied = (known) => plain($("orders").value).split("\n")
   .map((l) => tidyOrder(l, known ? NAMES : [])).join("\n");
 
 export function draft() {
-  return tidied(true).split("\n").map((text) =>
-    ({ text: text.trim(), power: view.power, ...readOrder(text) }))
+  return tidied(true).split("\n")
+    .map((text) => ({ text: text.trim(), power: view.power, ...readOrder(text) }))
     .filter((o) => o.does);
 }
 
 function addLine(line) {
   const own = provinceOf(readOrder(line).at);
-  const kept = $("orders").value.split("\n").filter((l) => l.trim()
-    && provinceOf(readOrder(l)?.at || "") !== own);
+  const kept = tidied(true).split("\n")
+    .filter((l) => l.trim() && provinceOf(readOrder(l)?.at || "") !== own);
   $("orders").value = [...kept, line].join("\n") + "\n";
   say(`Added: ${line}. Send it when all is written.`);
-  pick = { unit: "", does: "", other: "" };
+  pick = { ...NONE };
 }
 
 const START = { M: "Click a unit, then where it goes. Click it twice and it holds.",
@@ -188,47 +192,44 @@ function quick(buttons) {
 }
 
 function hint() {
-  const u = chosen();
-  const cancel = ["Cancel", () => { pick = { unit: "", does: "", other: "" }; say(START[part()]);
-    }];
-  const add = (line) => () => addLine(line);
-  const own = u && `${u.kind} ${provinceOf(u.at)}`;
   if (!pick.unit) return quick([]);
-  if (part() === "A" && !u) {
+  const u = chosen();
+  const own = u && `${u.kind} ${provinceOf(u.at)}`;
+  const cancel = ["Cancel", () => { pick = { ...NONE }; say(START[part()]); }];
+  const add = (text, line) => [text, () => addLine(line)];
+  if (!u) {
     say(`${wordsOf(pick.unit)}: what do you build?`);
-    return quick([...[...$("b-does").options].map((o) =>
-      [o.text, () => { pick.does = o.value; addLine(lineOf()); }]), cancel]);
+    const build = ([does, text]) => [text, () => { pick.does = does; addLine(lineOf()); }];
+    return quick([...doings().map(build), cancel]);
   }
-  if (!u) return quick([]);
   if (part() === "A") {
     say(`${own}: remove it?`);
-    return quick([["Remove", add(`REMOVE ${own}`)], cancel]);
+    return quick([add("Remove", `REMOVE ${own}`), cancel]);
   }
   if (part() === "R") {
     say(`${own} is dislodged: click where it retreats to.`);
-    return quick([["Disband", add(`${own} D`)], cancel]);
+    return quick([add("Disband", `${own} D`), cancel]);
   }
-  say({ move: `${own}: click where it moves to.`,
-    support: pick.other
-      ? `${own} supports ${pick.other}: click where that one goes, or click it again if it stays.`
-      : `${own} supports: click the unit that it supports.`,
-    convoy: pick.other ? `${own} convoys ${pick.other}: click where the army goes.`
-      : `${own} convoys: click the army.` }[pick.does] || "");
-  const set = (does) => () => { pick.does = does; pick.other = ""; };
-  return quick([["Hold", add(`${own} H`)], ["Move", set("move"), pick.does === "move"],
-    ["Support", set("support"), pick.does === "support"],
-    ...(u.kind === "F" && place(u.at).kind === "sea"
-      ? [["Convoy", set("convoy"), pick.does === "convoy"]] : []), cancel]);
+  say({
+    move: `${own}: click where it moves to.`,
+    support: !pick.other ? `${own} supports: click the unit that it supports.`
+      : `${own} supports ${pick.other}: click where that one goes, or click it again if it stays.`,
+    convoy: !pick.other ? `${own} convoys: click the army.`
+      : `${own} convoys ${pick.other}: click where the army goes.`,
+  }[pick.does] || "");
+  const set = (text, does) =>
+    [text, () => { pick.does = does; pick.other = ""; }, pick.does === does];
+  return quick([add("Hold", `${own} H`), set("Move", "move"), set("Support", "support"),
+    ...(isConvoyer(u) ? [set("Convoy", "convoy")] : []), cancel]);
 }
 
 // Provinces that may be clicked next.
 export function reach() {
   const u = chosen();
-  if (!u || !["move", "retreat", "support", "convoy"].includes(pick.does)) return [];
-  if (pick.does === "support" && !pick.other) return [];
-  return destinations(pick.does, u, unitNamed(pick.other, false)).filter(([label]) =>
-    label !== "by convoy")
-    .flatMap(([, list]) => list.map(([p]) => provinceOf(p || pick.other.slice(2))));
+  if (!u || (pick.does === "support" && !pick.other)) return [];
+  return destinations(pick.does, u, unitNamed(pick.other, false))
+    .filter(([label]) => label !== "by convoy")
+    .flatMap(([, list]) => list.map(([p]) => provinceOf(p || unitNamed(pick.other, false).at)));
 }
 
 export function refresh() {
@@ -237,76 +238,72 @@ export function refresh() {
   changed();
 }
 
+// A click says where the unit goes. The last word under the map is of that, not of a new start.
 function goTo(u, n) {
   const near = reachOf(u).filter((p) => provinceOf(p) === n);
-  const own = `${u.kind} ${provinceOf(u.at)}`;
-  const word = pick.does === "retreat" ? "R" : "-";
-  if (near.length > 1) {
-    say(`${own}: which coast of ${place(n).name}?`);
-    quick(near.map((p) => [COAST[p.split("/")[1]], () => addLine(`${own} ${word} ${p}`)]));
-    return false;
-  }
   const far = pick.does === "move" && byConvoy(u).includes(n);
+  const start = `${u.kind} ${provinceOf(u.at)} ${pick.does === "retreat" ? "R" : "-"} `;
+  if (near.length > 1) {
+    say(`${start.slice(0, -3)}: which coast of ${place(n).name}?`);
+    return quick(near.map((p) => [COAST[p.split("/")[1]], () => addLine(start + p)]));
+  }
   if (!near.length && !far) {
-    say(`${own} can't come to ${place(n).name} in one move.`);
-    return false;
+    return say(`${start.slice(0, -3)} can't come to ${place(n).name} in one move.`);
   }
-  const line = `${own} ${word} ${near[0] || n}`;
+  const line = start + (near[0] || n);
+  const walks = pick.does === "move" && !far && u.kind === "A" && isCoastal(u.at) && isCoastal(n);
   addLine(line);
+  refresh();
   if (far) say(`Added: ${line}. It goes by convoy: fleets have to carry it.`);
-  else if (pick.does !== "retreat" && u.kind === "A" && isCoastal(u.at) && isCoastal(n)
-    && word === "-") {
-    refresh();
-    quick([["Let it go by convoy (VIA)", () => addLine(line + " VIA")]]);
-    return false;
-  }
-  return true;
+  if (walks) quick([["Let it go by convoy (VIA)", () => addLine(line + " VIA")]]);
+}
+
+// A first click: on a unit of one's own, or in Winter on a free home centre.
+function choose(n, here) {
+  if (!view.power && here) $("power").value = view.power = here.power;
+  const own = ownUnits().includes(here) ? here : ownUnits().find((v) => provinceOf(v.at) === n);
+  const does = { M: "move", R: "retreat" }[part()] || "";
+  if (own) pick = { ...NONE, unit: unitWords(own), does };
+  else if (part() === "A" && freeHomes().includes(n)) pick = { ...NONE, unit: n };
+  else if (!here) say(START[part()]);
+  else say(`That unit is ${nameOf(here.power)}'s. You write for ${nameOf(view.power)}.`);
+  refresh();
+}
+
+// A click after Support or Convoy: first on a unit, then on where it goes.
+function pair(u, n, here) {
+  const supports = pick.does === "support";
+  const unit = here && !here.out ? here : standing(view).find((v) => provinceOf(v.at) === n);
+  if (pick.other) {
+    const other = unitNamed(pick.other, false);
+    const stays = supports && n === provinceOf(other.at);
+    addLine(orderText({ does: pick.does, kind: u.kind, at: provinceOf(u.at), kind2: other.kind,
+      other: provinceOf(other.at), to: stays ? "" : n }));
+  } else if (unit && unit !== u && (supports || unit.kind === "A")) pick.other = unitWords(unit);
+  else return say(supports ? "Click a unit to support." : "Click an army on a coast.");
+  return refresh();
 }
 
 // A click on a province of the map, perhaps on a unit in it.
 export function clicked(n, at, owner) {
+  const here = at && view.board.flatMap((b) => b.units)
+    .find((v) => v.at === at && v.power === owner);
   const u = chosen();
-  const here = at && view.board.flatMap((b) => b.units).find((v) => v.at === at
-    && v.power === owner);
-  if (!pick.unit) {
-    if (!view.power && here) $("power").value = view.power = owner;
-    const own = (here && here.power === view.power ? here : null)
-      || ownUnits().find((v) => provinceOf(v.at) === n);
-    if (own && ownUnits().includes(own)) pick = { unit: unitWords(own), does: DOES[part()]?.[0][0]
-      || "remove", other: "" };
-    else if (part() === "A" && freeHomes().includes(n)) pick = { unit: n, does: "", other: "" };
-    else if (here) {
-      say(`That unit is ${nameOf(here.power)}'s. You write for ${nameOf(view.power)}.`);
-    }
-    else say(START[part()]);
+  if (!u || part() === "A") {
+    pick = { ...NONE };
+    return choose(n, here);
+  }
+  if (pick.does === "support" || pick.does === "convoy") return pair(u, n, here);
+  if (here === u && pick.does === "move") {
+    addLine(`${u.kind} ${provinceOf(u.at)} H`);
     return refresh();
   }
-  if (!u || part() === "A") { pick = { unit: "", does: "", other: "" }; refresh();
-    return clicked(n, at, owner); }
-  if (pick.does === "support" || pick.does === "convoy") {
-    const unit = here && !here.out ? here : standing(view).find((v) => provinceOf(v.at) === n);
-    if (!pick.other) {
-      if (unit && unit !== u
-        && (pick.does === "support" || unit.kind === "A")) pick.other = unitWords(unit);
-      else { hint(); say("Click a unit " + (pick.does === "support" ? "to support."
-        : "that is an army on a coast.")); return changed(); }
-      return refresh();
-    }
-    const other = unitNamed(pick.other, false);
-    const them = `${other.kind} ${provinceOf(other.at)}`;
-    const own = `${u.kind} ${provinceOf(u.at)}`;
-    if (pick.does === "convoy") addLine(`${own} C ${them} - ${n}`);
-    else addLine(`${own} S ${them}${n === provinceOf(other.at) ? "" : " - " + n}`);
-    return refresh();
-  }
-  if (here === u && pick.does === "move") { addLine(`${u.kind} ${provinceOf(u.at)} H`);
-    return refresh(); }
-  if (goTo(u, n)) { const told = $("hint").textContent; refresh(); say(told); } else changed();
+  return goTo(u, n);
 }
 
 export function setView(next) {
   const another = next.power !== view.power || next.phase !== view.phase;
-  if (another) pick = { unit: "", does: "", other: "" };
+  if (another) pick = { ...NONE };
   const fresh = next.board !== view.board;
   view = next;
   if (another || fresh) fill();
@@ -315,10 +312,10 @@ export function setView(next) {
 
 export function begin(onChange) {
   changed = onChange;
-  $("b-unit").onchange = () => { pick = { unit: $("b-unit").value, does: "", other: "" }; refresh();
-    };
-  $("b-does").onchange = () => { pick.does = $("b-does").value; pick.other = ""; refresh(); };
-  $("b-other").onchange = () => { pick.other = $("b-other").value; refresh(); };
+  const on = (id, act) => { $(id).onchange = () => { act($(id).value); refresh(); }; };
+  on("b-unit", (unit) => { pick = { ...NONE, unit }; });
+  on("b-does", (does) => { pick = { ...pick, does, other: "" }; });
+  on("b-other", (other) => { pick.other = other; });
   $("b-to").onchange = showVia;
   $("b-add").onclick = () => {
     const line = lineOf();

@@ -100,6 +100,7 @@ export async function browser(port = 8490) {
   }
   async function shot(file, how = {}) {
     await size(how);
+    await call("Input.dispatchMouseEvent", { type: "mouseMoved", x: 0, y: 0 });     // nothing lit
     const clip = how.clip && { clip: { ...(await box(how.clip)), scale: 1 } };
     const { data } = await call("Page.captureScreenshot",
       { format: "png", ...clip, captureBeyondViewport: !!clip });

@@ -71,8 +71,8 @@ export function drawGround(svg) {
   for (const n in MAP.provinces) {
     const p = MAP.provinces[n];
     const d = outline(p.rings);
-    areas[n] = el("path", { d, class: `area ${p.kind}`, "data-province": n }, isSea(n) ? layers.seas
-      : layers.areas);
+    areas[n] = el("path", { d, class: `area ${p.kind}`, "data-province": n },
+      isSea(n) ? layers.seas : layers.areas);
     el("title", {}, areas[n], p.name + (p.centre ? ", a supply centre" : ""));
     owners[n] = el("path", { d, class: "passive", fill: "none" }, layers.owned);
   }
@@ -81,7 +81,7 @@ export function drawGround(svg) {
     const kind = isSea(a) && isSea(b) ? "at-sea" : isSea(a) || isSea(b) ? "coast" : "on-land";
     const d = "M" + lines[i].map((p) => p.join(" ")).join("L");
     el("path", { d, class: "line " + kind }, layers.borders);
-    // the land covers half of it
+    // Shallow water along the coast: the land covers the other half of the line.
     if (kind === "coast") el("path", { d, class: "line shallow passive" }, layers.glow);
   });
 }
@@ -102,8 +102,8 @@ function spotOf(place) {
 const beside = ([x, y]) => [x + 29 * k, y + 19 * k];
 
 const STAR = "M" + Array.from({ length: 10 }, (_, i) => [i % 2 ? 4.4 : 10.5, i * Math.PI / 5])
-  .map(([r, a]) => `${(r * Math.sin(a)).toFixed(1)} ${(-r * Math.cos(a)).toFixed(1)}`).join("L")
-    + "Z";
+  .map(([r, a]) => `${(r * Math.sin(a)).toFixed(1)} ${(-r * Math.cos(a)).toFixed(1)}`)
+  .join("L") + "Z";
 
 function drawCentres(board, changes) {
   const owner = {};
@@ -119,8 +119,7 @@ function drawCentres(board, changes) {
     t.setAttribute("stroke-width", 4 * k);
     for (const c in p.coasts) {
       el("text", { x: p.coasts[c].at[0], y: p.coasts[c].at[1] + 31 * k, "font-size": 16 * k,
-        class: "coast-name",
-        "stroke-width": 3 * k }, g, c);
+        class: "coast-name", "stroke-width": 3 * k }, g, c);
     }
     if (!p.centre) continue;
     const c = el("g", { class: "centre", transform: `translate(${x - 26 * k} ${y}) scale(${k})`,
@@ -155,10 +154,12 @@ function burst([x, y], layer) {
 }
 
 const BADGES = {
-  bounced: "M-5 -5L5 5M5 -5L-5 5", cut: "M-6 4L-1 -6M1 6L6 -4",
-    void: "M-5 0A5 5 0 1 0 5 0A5 5 0 1 0 -5 0",
-  "no route": "M-3 -3A3.5 3.5 0 1 1 1 1L0 2M0 5.5V6", built: "M-6 0H6M0 -6V6",
-    gone: "M-6 -6L6 6M6 -6L-6 6",
+  bounced: "M-5 -5L5 5M5 -5L-5 5",
+  cut: "M-6 4L-1 -6M1 6L6 -4",
+  void: "M-5 0A5 5 0 1 0 5 0A5 5 0 1 0 -5 0",
+  "no route": "M-3 -3A3.5 3.5 0 1 1 1 1L0 2M0 5.5V6",
+  built: "M-6 0H6M0 -6V6",
+  gone: "M-6 -6L6 6M6 -6L-6 6",
   disorder: "M0 -6V1.5M0 5V6",
 };
 function badge(what, [x, y], layer) {
@@ -211,17 +212,14 @@ function drawOrder(o, orders, stands) {
   const failed = FAILED.includes(o.outcome) || (o.does === "retreat" && o.outcome === "disbands");
   const came = (o.outcome || "draft").replace(/ /g, "-");
   const g = el("g", { class: `order ${o.does} ${failed ? "failed" : "done"} ${came}`,
-    "data-order": o.text, "data-outcome": o.outcome || "draft", "data-fate": o.fate || "" },
-      layers.orders);
-  el("title", {}, g,
-    `${nameOf(o.power)}: ${o.text}, ${o.outcome || "not sent yet"}${o.fate ? ", " + o.fate : ""}`);
+    "data-order": o.text, "data-outcome": o.outcome || "draft",
+    "data-fate": o.fate || "" }, layers.orders);
   if (o.does === "move" || o.does === "retreat") {
     const path = arrowOf(o, stands);
     if (!path) return;
     shaft(g, path, o.does === "move" ? 5 : 4);
     head(g, path, failed ? "bar" : o.does === "move" ? "arrow" : "open");
-    if (o.outcome === "bounced" || o.outcome === "no route") badge(o.outcome, path.at(0.72),
-      layers.marks);
+    if (FAILED.includes(o.outcome)) badge(o.outcome, path.at(0.72), layers.marks);
   } else if (o.does === "support" || o.does === "convoy") {
     const mover = o.to && orders.find((q) => q.does === "move" && provinceOf(q.at) === o.other
       && provinceOf(q.to) === o.to);
@@ -253,20 +251,18 @@ function drawOrder(o, orders, stands) {
 
 // Draws a board with orders on it; `reach` names provinces to be lit, `picked` the unit chosen.
 export function drawBoard(board, { orders = [], changes = [], reach = [], picked = "" } = {}) {
-  for (const name of ["labels", "orders", "units", "marks",
-    "reach"]) layers[name].replaceChildren();
+  for (const n of ["labels", "orders", "units", "marks", "reach"]) layers[n].replaceChildren();
   drawCentres(board, changes);
   for (const n of reach) {
     el("path", { d: outline(MAP.provinces[n].rings), class: "reachable passive" }, layers.reach);
   }
-  const stands = new Set(board.flatMap((b) => b.units.filter((u) => !u.out).map((u) =>
-    provinceOf(u.at))));
   const all = board.flatMap((b) => b.units);
+  const stands = new Set(all.filter((u) => !u.out).map((u) => provinceOf(u.at)));
   for (const u of all.filter((v) => !v.out)) unitMark(layers.units, u, spotOf(u.at));
   for (const u of all.filter((v) => v.out)) unitMark(layers.units, u, beside(spotOf(u.at)), "out");
   const moves = orders.filter((o) => o.does === "move");
-  for (const o of [...moves, ...orders.filter((q) => q.does !== "move")]) drawOrder(o, orders,
-    stands);
+  const rest = orders.filter((o) => o.does !== "move");
+  for (const o of [...moves, ...rest]) drawOrder(o, orders, stands);
   if (picked) {
     const fit = all.filter((v) => unitWords(v) === picked);
     const u = fit.find((v) => v.out) || fit[0];
@@ -310,13 +306,22 @@ export function sample(what) {
     built: () => badge("built", [60, 24], layers.marks),
     removed: () => badge("gone", [60, 24], layers.marks),
     disorder: () => badge("disorder", [60, 24], layers.marks),
-    holds: () => { g.setAttribute("class", "order hold");
-      el("circle", { cx: 60, cy: 24, r: 20, class: "ring" }, g); },
-    centre: () => { const c = el("g", { class: "centre", transform: "translate(60 24) scale(1.6)" },
-      g);
-      el("path", { d: STAR, class: "star fill-france" }, c); },
-    blocked: () => { el("rect", { x: 30, y: 6, width: 60, height: 36, class: "area blocked" }, g);
-      el("rect", { x: 30, y: 6, width: 60, height: 36, fill: "url(#hatch-blocked)" }, g); },
+    holds: () => {
+      g.setAttribute("class", "order hold");
+      el("circle", { cx: 60, cy: 24, r: 20, class: "ring" }, g);
+    },
+    centre: () => el("path", { d: STAR, class: "star fill-france",
+      transform: "translate(60 24) scale(1.6)" }, g),
+    changed: () => {
+      const c = el("g", { class: "centre", transform: "translate(60 24) scale(1.4)" }, g);
+      el("circle", { r: 14, class: "changed" }, c);
+      el("path", { d: STAR, class: "star free" }, c);
+    },
+    blocked: () => {
+      const area = { x: 30, y: 6, width: 60, height: 36 };
+      el("rect", { ...area, class: "area blocked" }, g);
+      el("rect", { ...area, fill: "url(#hatch-blocked)" }, g);
+    },
   };
   draw[what]();
   [layers.orders, layers.marks, k] = [hold, marks, kept];

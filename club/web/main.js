@@ -18,15 +18,19 @@ let turn = 0;             // counts openings, so that a late answer of another g
 
 // --- fetching
 
+// A server that is busy or counts requests is asked again, some times.
 async function fetched(path) {
-  let answer;
-  try {
-    answer = await fetch(path, { cache: "no-cache", credentials: "omit",
-      signal: AbortSignal.timeout(45000) });
-  } catch { throw new Error("away"); }
-  if (answer.status === 404) throw new Error("none");
-  if (!answer.ok) throw new Error("away");
-  return answer;
+  for (let i = 1; ; i++) {
+    let answer;
+    try {
+      answer = await fetch(path, { cache: "no-cache", credentials: "omit",
+        signal: AbortSignal.timeout(45000) });
+    } catch { throw new Error("away"); }
+    if (answer.ok) return answer;
+    if (answer.status === 404) throw new Error("none");
+    if (![429, 503].includes(answer.status) || i === 6) throw new Error("away");
+    await new Promise((done) => { setTimeout(done, 500 * i); });
+  }
 }
 
 function trouble(text) {
@@ -68,8 +72,9 @@ function news(next) {
 async function look(mine = turn, name = game?.game) {
   if (!name) return;
   try {
-    const next = await (await fetched("/games/" + name)).json();
+    const next = await (await fetched("/games/" + name)).json().catch(() => ({}));
     if (mine !== turn) return;
+    if (next.game !== name) throw new Error("away");
     const fresh = !game;
     if (!fresh) news(next);
     if (fresh || next.board.join() !== game.board.join()) {

@@ -39,38 +39,48 @@ export function readOrder(text) {
 export function orderText(o) {
   const own = `${o.kind} ${o.at}`;
   const them = `${o.kind2} ${o.other}${o.to ? " - " + o.to : ""}`;
-  return { hold: `${own} H`, move: `${own} - ${o.to}${o.via ? " VIA" : ""}`,
-    support: `${own} S ${them}`,
-    convoy: `${own} C ${them}`, retreat: `${own} R ${o.to}`, disband: `${own} D`,
-      build: `BUILD ${own}`,
-    remove: `REMOVE ${own}` }[o.does];
+  return {
+    hold: `${own} H`, disband: `${own} D`, build: `BUILD ${own}`, remove: `REMOVE ${own}`,
+    move: `${own} - ${o.to}${o.via ? " VIA" : ""}`, retreat: `${own} R ${o.to}`,
+    support: `${own} S ${them}`, convoy: `${own} C ${them}`,
+  }[o.does];
 }
 
 // Words that people write in orders, and those of the judge.
-const WORDS = [[/[.;,!]+$/, ""], [/\b(?:via|by) convoy$/, "via"], [/\barmy\b/g, "a"],
+const WORDS = [
+  [/[.;,!]+$/, ""],
+  [/\b(?:via|by) convoy$/, "via"],
+  [/\barmy\b/g, "a"],
   [/\bfleet\b/g, "f"],
-  [/ ?[-=]*> ?/g, " - "], [/\b(?:moves?|goes)\b(?: to\b)?/g, " - "],
-    [/\bretreats?\b(?: to\b)?/g, "r"],
-  [/\bdisbands?\b/g, "d"], [/\b(?:holds?|stands?)\b/g, "h"], [/\bsupports?\b/g, "s"],
-    [/\bconvoys?\b/g, "c"],
-  [/\bbuilds?\b/g, "build"], [/\bremoves?\b/g, "remove"], [/ to /g, " - "], [/ in /g, " "],
+  [/ ?[-=]*> ?/g, " - "],
+  [/\b(?:moves?|goes)\b(?: to\b)?/g, " - "],
+  [/\bretreats?\b(?: to\b)?/g, "r"],
+  [/\bdisbands?\b/g, "d"],
+  [/\b(?:holds?|stands?)\b/g, "h"],
+  [/\bsupports?\b/g, "s"],
+  [/\bconvoys?\b/g, "c"],
+  [/\bbuilds?\b/g, "build"],
+  [/\bremoves?\b/g, "remove"],
+  [/ to /g, " - "],
+  [/ in /g, " "],
   [/\b(north|south|east) coast\b/g, (_, c) => c[0] + "c"],
-    [/\b([a-z]{3}) ?[/(]? ?([nse]c)\b\)?/g, "$1/$2"],
-  [/ ?- ?(?:- ?)*/g, " - "], [/( s [af] [a-z]{3}(?:\/[a-z]+)?) h$/, "$1"]];
+  [/\b([a-z]{3}) ?[/(]? ?([nse]c)\b\)?/g, "$1/$2"],
+  [/ ?- ?(?:- ?)*/g, " - "],
+  [/( s [af] [a-z]{3}(?:\/[a-z]+)?) h$/, "$1"],
+];
 const OLD_NAMES = [["romania", "rum"], ["heligoland bight", "hel"], ["heligoland", "hel"],
-  ["gulf of lyons", "lyo"],
-  ["tyrol", "tyr"], ["english channel", "eng"], ["mid atlantic", "mao"]];
+  ["gulf of lyons", "lyo"], ["tyrol", "tyr"], ["english channel", "eng"], ["mid atlantic", "mao"]];
 
-// An order that people can read and the judge can't, in its one form; any other line as it is.
+// An order that people can read, in the judge's form; any other line as it is. `names` are pairs
+// of a province's code and its name.
 export function tidyOrder(text, names) {
-  if (!text.trim() || readOrder(text)) return text;
-  let line = text.trim().toLowerCase().replace(/\bst\. ?/g, "st ").replace(/\bmid-/g,
-    "mid ").replace(/\s+/g, " ");
-  const known = [...names.map(([code, name]) => [name.toLowerCase().replace("mid-", "mid "), code]),
-    ...OLD_NAMES];
-  for (const [name, code] of known.sort((a, b) => b[0].length - a[0].length)) {
-    line = line.replace(new RegExp(`\\b${name}\\b`, "g"), code);
-  }
+  const read = readOrder(text);
+  if (read || !text.trim()) return read ? orderText(read) : text;
+  const low = (s) => s.toLowerCase().replace(/\bst\. ?/g, "st ").replace(/\bmid-/g, "mid ");
+  const known = [...names.map(([code, name]) => [low(name), code]), ...OLD_NAMES]
+    .sort((a, b) => b[0].length - a[0].length);     // Tyrolia before Tyrol
+  let line = low(text.trim()).replace(/\s+/g, " ");
+  for (const [name, code] of known) line = line.replace(new RegExp(`\\b${name}\\b`, "g"), code);
   for (const [from, to] of WORDS) line = line.replace(from, to);
   const order = readOrder(line);
   return order ? orderText(order) : text;
@@ -88,8 +98,8 @@ export function readBoardLine(line) {
     return u && { kind: u[1], at: u[2] + (u[3] || ""), out: !!u[4], power: m[1] };
   });
   if (units.includes(null)) return null;
-  return { power: m[1], centres: +m[2], count: +m[3], units, own: m[5] === "-" ? []
-    : m[5].split(" ") };
+  const own = m[5] === "-" ? [] : m[5].split(" ");
+  return { power: m[1], centres: +m[2], count: +m[3], units, own };
 }
 
 export function readPaper(text) {
@@ -105,9 +115,9 @@ export function readPaper(text) {
     else if ((m = readBoardLine(line))) paper.board.push(m);
     else if ((m = line.match(/^centre ([a-z]+): ([a-z]+)$/))) {
       paper.changes.push({ centre: m[1], power: m[2] });
-    } else if ((m = line.match(/^([a-z]+) waives (\d+)$/))) paper.waived.push({ power: m[1],
-      count: +m[2] });
-    else if ((m = line.match(/^([a-z]+) (.+): ([^:]+)$/)) && readOrder(m[2])) {
+    } else if ((m = line.match(/^([a-z]+) waives (\d+)$/))) {
+      paper.waived.push({ power: m[1], count: +m[2] });
+    } else if ((m = line.match(/^([a-z]+) (.+): ([^:]+)$/)) && readOrder(m[2])) {
       const [outcome, fate = ""] = m[3].split(", ");
       paper.orders.push({ power: m[1], text: m[2], ...readOrder(m[2]), outcome, fate });
     } else if (line && line !== "END") paper.rest.push(line);
@@ -133,8 +143,8 @@ export const namesOf = (powers) =>
 
 export function statusWords(status) {
   const m = status.match(/^(won|drawn) by (.*)$/);
-  if (m) return m[1] === "won" ? `${nameOf(m[2])} has won`
-    : `drawn between ${namesOf(m[2].split(" "))}`;
+  if (m && m[1] === "won") return `${nameOf(m[2])} has won`;
+  if (m) return `drawn between ${namesOf(m[2].split(" "))}`;
   return { running: "running", paused: "paused: nothing is played until the master resumes it",
     closed: "closed by the master", ended: "ended: its years are over" }[status] || status;
 }

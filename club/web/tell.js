@@ -153,7 +153,8 @@ export function tellReply(said, lines, raw, sent) {
 // --- the legend
 
 const LEGEND = [["army", "army"], ["fleet", "fleet"],
-  ["centre", "supply centre, in its owner's colour"], ["blocked", "no unit comes here"],
+  ["centre", "supply centre, in its owner's colour"],
+  ["changed", "centre that changes hands"], ["blocked", "no unit comes here"],
   ["moves", "moves"], ["bounced", "bounced"], ["no route", "no route: no convoy path"],
   ["given", "supports"], ["cut", "support cut"], ["void", "void: didn't match"],
   ["convoys", "convoys"], ["holds", "holds"], ["dislodged", "dislodged"],

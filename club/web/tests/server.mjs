@@ -39,7 +39,7 @@ export async function judge(program, store, port, master, map) {
 // answers.
 export function files(folder, port, to, games) {
   // made: answers by path, of games that nobody played
-  const how = { lose: 0, away: false, taken: [], made: {} };
+  const how = { busy: 0, lose: 0, away: false, taken: [], made: {} };
   const server = http.createServer((ask, answer) => {
     const url = new URL(ask.url, "http://x");
     const headers = { "Content-Security-Policy": POLICY, "X-Content-Type-Options": "nosniff",
@@ -52,6 +52,7 @@ export function files(folder, port, to, games) {
       ask.on("end", () => {
         const bytes = Buffer.concat(body);
         if (url.pathname === "/letters") how.taken.push(bytes.toString());
+        if (how.busy > 0) { how.busy--; answer.writeHead(503, headers); return answer.end("503"); }
         if (how.away) { answer.writeHead(502, headers); return answer.end("502"); }
         const on = http.request({ host: "127.0.0.1", port: how.to ?? to, path: ask.url,
           method: ask.method, headers: { "Content-Length": bytes.length } }, (got) => {

@@ -52,13 +52,15 @@ Found = Union[Letter, Fault]
 
 WROTE = (r"wrote|writes|schrieb|schreibt|a ecrit|ecrit|escribio|ha scritto|schreef|escreveu|skrev|"
          r"skreiv|pisze|napisal(?:\(a\))?|kirjoitti|napsal(?:\(a\))?|irta")
-ATTRIBUTION = re.compile(rf"(?i)[^>]{{0,400}}\b(?:{WROTE})\b[^:>]{{0,120}}:")
+ATTRIBUTION = re.compile(rf"(?i).{{0,400}}\b(?:{WROTE})\b.{{0,120}}:")
 FIRST_OF_ATTRIBUTION = re.compile(r"(?i)(on|am|le|el|il|op|em|den|dne|w dniu|at|from|pa)\b")
 DASHED = re.compile(r"(?i)-{2,} ?(begin )?(original|forwarded|urspruengliche|weitergeleitete|message|"
                     r"mensaje|messaggio|oorspronkelijk|doorgestuurd|ursprungligt|mensagem)"
                     r"[^-]{0,60}(-{2,}|$)")
 FORWARDED = re.compile(r"(?i)(begin forwarded message|anfang der weitergeleiteten nachricht|"
                        r"debut du message (?:transfere|reexpedie)|inizio messaggio inoltrato)\s*:")
+# Heads of parts stand in a text where a mail's own head is broken: the parts can't be told apart.
+PART_HEAD = re.compile(r"(?i)content-(type|transfer-encoding|disposition):.*")
 HEADER = re.compile(r"\*?[A-Z][A-Za-z-]{0,14} ?:\*?(\s.*)?")
 FROM_HEADER = re.compile(r"(?i)\*?(from|von|de|da|van|fra|fran|od) ?:\*?\s.*")
 SIGNATURE = re.compile(r"--\s?|_{20,}|-{20,}|-----BEGIN PGP SIGNATURE-----")
@@ -103,7 +105,8 @@ def own_lines(lines: List[str]) -> tuple:
         text = line.strip()
         if not text or is_marked(line):
             continue
-        if DASHED.match(text) or FORWARDED.match(text) or begins_header_block(lines, at):
+        if DASHED.match(text) or FORWARDED.match(text) or PART_HEAD.fullmatch(text) \
+                or begins_header_block(lines, at):
             return lines[:at], text
         count = attribution_length(lines, at)
         below = [it for it in lines[at + count:] if it.strip()]

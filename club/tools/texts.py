@@ -89,6 +89,19 @@ def text_in(part: email.message.Message) -> str:
     return text.replace("\r\n", "\n").replace("\r", "\n")
 
 
+KNOWN_ENCODINGS = {"", "7bit", "8bit", "binary", "quoted-printable", "base64", "x-uuencode", "uuencode",
+                   "x-uue", "uue"}
+
+
+def is_readable(part: email.message.Message) -> bool:
+    """Whether the part says once how it is encoded, and in a known way. Else what is quoted in it
+    couldn't be told from what is not."""
+    encodings = part.get_all("Content-Transfer-Encoding") or [""]
+    kinds = part.get_all("Content-Type") or [""]
+    return len(encodings) == 1 and len(kinds) == 1 \
+        and str(encodings[0]).strip().lower() in KNOWN_ENCODINGS
+
+
 # Soft line ends of format=flowed
 
 SHORTEST_WRAPPED = 60
@@ -124,10 +137,9 @@ BLOCKS = {"p", "div", "tr", "li", "ul", "ol", "table", "blockquote", "pre", "h1"
           "h5", "h6", "section", "article", "header", "footer", "center", "address", "body", "hr",
           "dl", "dt", "dd", "tbody", "fieldset", "form", "main"}
 HIDDEN = {"head", "style", "script", "title", "template"}
-QUOTED_CLASS = re.compile(r"(?i)(?:class|id)\s*=\s*[\"']?[^\"'>]*(yahoo_quoted|protonmail_quote|"
-                          r"moz-forward|zmail_extra)")
-REST_QUOTED = re.compile(r"(?i)(?:class|id)\s*=\s*[\"']?[^\"'>]*(divRplyFwdMsg|appendonsend|"
-                         r"OLK_SRC_BODY_SECTION|ms-outlook-mobile-reference-message)")
+QUOTED_CLASS = re.compile(r"(?i)yahoo_quoted|protonmail_quote|moz-forward|zmail_extra")
+REST_QUOTED = re.compile(r"(?i)divRplyFwdMsg|appendonsend|OLK_SRC_BODY_SECTION|"
+                         r"ms-outlook-mobile-reference-message")
 
 
 def without_comments(text: str) -> str:
@@ -228,13 +240,22 @@ def lines_of_html(text: str) -> str:
 LOOKS_LIKE_A_LETTER = re.compile(r"(?im)^[ >]*(letter|secret|game)\b")
 
 
+def without_dashes(text: str) -> str:
+    """The words of a text that PGP signed in clear, where a dash at a line's begin has another."""
+    mark = "-----BEGIN PGP SIGNED MESSAGE-----\n"
+    if mark not in text:
+        return text
+    before, _, signed = text.partition(mark)
+    return before + mark + re.sub(r"(?m)^- ", "", signed)
+
+
 def part_text(part: email.message.Message) -> str:
     text = text_in(part)
     if part.get_content_type() == "text/html":
         return folded(lines_of_html(text))
     if parameter(part, "format") == "flowed":
         return folded(flowed(text, parameter(part, "delsp") == "yes"))
-    return folded(text)
+    return without_dashes(folded(text))
 
 
 def is_closed(part: email.message.Message) -> bool:
@@ -269,6 +290,9 @@ def gather(part: email.message.Message, into: MailText) -> None:
     """Adds the texts of a part that the sender wrote into the mail itself."""
     kind = part.get_content_type()
     into.is_whole = into.is_whole and is_closed(part)
+    if not is_readable(part):
+        into.unread.append("a part whose encoding isn't known")
+        return
     if kind.startswith("message/"):
         into.unread.append("a mail inside your mail")
     elif part.is_multipart():

@@ -233,6 +233,7 @@ class Mail:
                 return AGAIN
             self.record["answered"] = True
             self.save()
+            self.told("answers")
         if not self.notices_sent(contents.found):
             return AGAIN
         self.record["finished"] = True
@@ -335,20 +336,18 @@ class Mail:
         subject = one_line(texts.header(self.head, "Subject"), 100)
         subject = subject if subject.lower().startswith("re:") else f"Re: {subject}"
         secrets = secrets or []
-        is_sent = mailing.send(self.settings, self.sender, mailing.without(subject, secrets),
-                               mailing.without(body, secrets), "auto-replied", self.head)
-        if is_sent:
-            self.told("answers")
-        return is_sent
+        return mailing.send(self.settings, self.sender, mailing.without(subject, secrets),
+                            mailing.without(body, secrets), "auto-replied", self.head)
 
     def may_be_told(self, what: str, seconds: float, most: int) -> bool:
         told = keeping.json_of(self.settings.state / "told.json").get(self.sender, {})
         return sum(1 for it in told.get(what, []) if 0 <= now() - it < seconds) < most
 
-    def told(self, what: str) -> None:
+    def told(self, *kinds: str) -> None:
         path = self.settings.state / "told.json"
         book = keeping.json_of(path)
-        book.setdefault(self.sender, {}).setdefault(what, []).append(now())
+        for kind in kinds:
+            book.setdefault(self.sender, {}).setdefault(kind, []).append(now())
         for who in list(book):
             book[who] = {key: [it for it in times if now() - it < DAY]
                          for key, times in book[who].items()}
@@ -364,7 +363,7 @@ class Mail:
         unread = "".join(f"Not read: {it}.\n" for it in contents.unread)
         if not self.answer("\n".join(it for it in (contents.problem, unread, HELP) if it)):
             return AGAIN
-        self.told("help")
+        self.told("answers", "help")
         self.log.append("no letter; help sent")
         return 0
 

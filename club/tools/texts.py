@@ -102,6 +102,16 @@ def is_readable(part: email.message.Message) -> bool:
         and str(encodings[0]).strip().lower() in KNOWN_ENCODINGS
 
 
+LEFT_ENCODED = re.compile(r"=3D[\"']|[^\s=]=\n")
+
+
+def is_left_encoded(part: email.message.Message) -> bool:
+    """Whether HTML still looks quoted-printable: the header that said so is lost."""
+    encoding = str(part.get("Content-Transfer-Encoding", "")).strip().lower()
+    return part.get_content_type() == "text/html" and encoding != "quoted-printable" \
+        and LEFT_ENCODED.search(text_in(part)) is not None
+
+
 # Soft line ends of format=flowed
 
 SHORTEST_WRAPPED = 60
@@ -131,7 +141,7 @@ def flowed(text: str, takes_space: bool) -> str:
 
 # HTML
 
-TAG = re.compile(r"<(/?)([a-zA-Z][a-zA-Z0-9:]*)([^<>]*)>|<[!?][^<>]*>")
+TAG = re.compile(r"<(/?)([a-zA-Z][a-zA-Z0-9:]*)([^<>]*)>|<[!?/][^<>]*>")
 VOID = {"br", "hr", "img", "input", "meta", "link", "area", "base", "col", "wbr"}
 BLOCKS = {"p", "div", "tr", "li", "ul", "ol", "table", "blockquote", "pre", "h1", "h2", "h3", "h4",
           "h5", "h6", "section", "article", "header", "footer", "center", "address", "body", "hr",
@@ -218,6 +228,8 @@ class Page:
             if self.stack[-back][0] == name:
                 del self.stack[-back:]
                 return
+            if self.stack[-back][3] > self.stack[-back - 1][3]:
+                return  # a tag that closes nothing within a quotation doesn't end the quotation
 
 
 def lines_of_html(text: str) -> str:
@@ -309,6 +321,8 @@ def gather(part: email.message.Message, into: MailText) -> None:
             into.unread.append("an attachment")
     elif "attachment" in str(part.get("Content-Disposition", "")).lower()[:40]:
         into.unread.append("an attachment")
+    elif is_left_encoded(part):
+        into.unread.append("a part whose encoding isn't known")
     elif len(into.texts) < MOST_PARTS:
         into.is_whole = into.is_whole and ends_a_line(part, kind)
         into.texts.append(part_text(part).split("\n"))

@@ -7,7 +7,7 @@ import sys
 import keeping
 import mailing
 from judge import Away, game_state, paper
-from master import AGAIN, Refused, master_lock, sent_by_master
+from master import AGAIN, Refused, clock_noted, guard_clock, master_lock, sent_by_master
 from settings import Settings, minute_now, time_of_tick
 
 # A game that is played late by at most this part of its period keeps its deadlines as they were.
@@ -57,6 +57,9 @@ def game_done(settings: Settings, game: str, may_be_late: bool) -> int:
     try:
         if played(settings, game, may_be_late):
             state = game_state(settings, game) or state
+        elif may_be_late:
+            raise Refused(f"it isn't due: it is {state['status']}, and its deadline is "
+                          f"{time_of_tick(state['due'])}")
     except Refused as refused:
         complain(f"{game}: {refused}")
         status = 1
@@ -75,22 +78,13 @@ def played(settings: Settings, game: str, may_be_late: bool) -> bool:
         guard_clock(settings)
         guard_late(game, state, may_be_late)
         tick = tick_for(state)
-        keeping.write_text(settings.state / "tick.last", f"{minute_now()}\n")
+        clock_noted(settings)
         reply = sent_by_master(settings, game, [f"TICK {tick}"])
     line = reply.lines()[0]
     if not line.startswith("OK"):
         raise Refused(f"it was not played: {line}")
     keeping.log(settings, f"{game}: TICK {tick}: {line}")
     return True
-
-
-def guard_clock(settings: Settings) -> None:
-    text = keeping.text_of(settings.state / "tick.last").strip()
-    last = int(text) if text.isdigit() else 0
-    if minute_now() < last:
-        raise Refused(f"it was not played, since the clock reads {time_of_tick(minute_now())}, and at "
-                      f"the last tick it read {time_of_tick(last)}. Set the clock right. If it is "
-                      f"right, remove the file {settings.state / 'tick.last'}.")
 
 
 def guard_late(game: str, state: dict, may_be_late: bool) -> None:

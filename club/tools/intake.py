@@ -4,6 +4,7 @@ A mail may come twice, since a mail system delivers again what wasn't acknowledg
 letter is posted its number is kept; the second time the same bytes go under the same number, and
 the judge gives its kept reply. Mails are handed in one at a time, in the order of their Date."""
 import contextlib
+import datetime
 import email.message
 import email.utils
 import hashlib
@@ -34,11 +35,11 @@ SECONDS_FOR_READING = 20
 ABOUT_TIME = {"ORDERS": "orders", "WITHDRAW": "orders", "VOTE": "vote"}
 OVERTAKEN = ("It was not handed in. A newer mail of yours has come before this one, and this letter\n"
              "would undo what that one says. If you want it all the same, send it again now.")
-EARLIER = ("It came once more. It was taken earlier, and newer letters of yours came after it, so it\n"
-           "was not handed in again. SHOW tells what stands.")
-UNSURE = ("It came once more, and newer letters of yours came in between. Whether it was taken\n"
-          "the first time can't be told, so it was not handed in again. SHOW tells what stands;\n"
-          "if it isn't what you want, send the letter in a new mail.")
+EARLIER = ("The mail system delivered your mail twice. This letter was taken the first time, and newer\n"
+           "letters of yours came after it, so it was not handed in again. SHOW tells what stands.")
+UNSURE = ("Your mail or this letter was delivered twice, and newer letters of yours came in between.\n"
+          "Whether it was taken the first time can't be told, so it was not handed in again. SHOW tells\n"
+          "what stands; if that isn't what you want, send the letter in a new mail.")
 
 
 def arguments(parser) -> None:
@@ -111,16 +112,18 @@ def hand_in_all(settings: Settings, spool: Path) -> None:
     is_away = False
     for date, _, path, data in sorted(waiting, key=lambda it: it[:2]):
         status = AGAIN
-        if not is_away:
-            try:
-                status = Mail(settings, data, date).handled()
-            except Away:
-                is_away = True
-                keeping.log(settings, "the judge is away: mails wait")
+        try:
+            status = AGAIN if is_away else Mail(settings, data, date).handled()
+        except Away:
+            is_away = True
+            keeping.log(settings, "the judge is away: mails wait")
+        except Exception as error:  # one mail must not keep the others back
+            keeping.log(settings, f"a mail waits: {type(error).__name__}: {error}")
         keeping.write_text(outcome_of(path), str(status))
         if status == 0:
             path.unlink()
     keeping.remove_older(spool, "*.status", DAY)
+    keeping.remove_older(spool, "*.mail", OLDEST_DATE)
     keeping.remove_older(spool, ".*", HOUR)
     keeping.remove_older(settings.state / "mails", "*.json", KEPT_FOR)
 
@@ -128,7 +131,8 @@ def hand_in_all(settings: Settings, spool: Path) -> None:
 def date_of(head: email.message.Message, arrival: float) -> float:
     """When a mail was sent, as it says; when it came, where that can't be."""
     try:
-        date = email.utils.parsedate_to_datetime(str(head.get("Date"))[:200]).timestamp()
+        moment = email.utils.parsedate_to_datetime(str(head.get("Date"))[:200])
+        date = (moment if moment.tzinfo else moment.replace(tzinfo=datetime.timezone.utc)).timestamp()
     except Exception:  # the library raises several kinds
         return arrival
     return date if arrival - OLDEST_DATE <= date <= arrival else arrival

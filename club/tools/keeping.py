@@ -5,6 +5,7 @@ import fcntl
 import json
 import os
 import re
+import sys
 import time
 from pathlib import Path
 
@@ -116,12 +117,15 @@ def change_games(settings: Settings, game: str, is_in: bool) -> None:
 
 
 def write_public(settings: Settings, names: list) -> None:
-    """The list that the web page reads, where it isn't so already."""
+    """The list that the web page reads, where it isn't so already. No game waits for it."""
     if settings.public is None:
         return
     path, text = settings.public / "games.txt", "".join(f"{name}\n" for name in names)
-    if not path.exists() or text_of(path) != text:
-        write_text(path, text, 0o644)
+    try:
+        if not path.exists() or text_of(path) != text:
+            write_text(path, text, 0o644)
+    except OSError as error:
+        print(f"vettonugal: the list of games can't be written: {error}", file=sys.stderr)
 
 
 def addresses(settings: Settings) -> list:

@@ -109,8 +109,8 @@ def own_lines(lines: List[str]) -> tuple:
                 or begins_header_block(lines, at):
             return lines[:at], text
         count = attribution_length(lines, at)
-        below = [it for it in lines[at + count:] if it.strip()]
-        if count and below and not is_marked(below[0]):
+        rest = (lines[it] for it in range(at + count, len(lines))) if count else ()
+        if not is_marked(next((it for it in rest if it.strip()), ">")):
             return lines[:at], text
     return lines, ""
 
@@ -456,12 +456,15 @@ def wrapped(lines: List[str]) -> list:
     """The lines, those of more than 200 characters cut at a blank where there is one."""
     out = []
     for line in lines:
-        while len(line) > LONGEST_PRESS:
-            cut = line.rfind(" ", 1, LONGEST_PRESS + 1)
-            cut = cut if cut > 0 and line[:cut].strip() else LONGEST_PRESS
-            out.append(line[:cut].rstrip())
-            line = line[cut:].lstrip()
-        out.append(line)
+        at = 0
+        while len(line) - at > LONGEST_PRESS:
+            cut = line.rfind(" ", at + 1, at + LONGEST_PRESS + 1)
+            cut = cut if cut > 0 and line[at:cut].strip() else at + LONGEST_PRESS
+            out.append(line[at:cut].rstrip())
+            at = cut
+            while line[at:at + 1] == " ":
+                at += 1
+        out.append(line[at:])
     return out
 
 

@@ -1,7 +1,8 @@
 """Mails that the club sends."""
+import email.message
+import email.utils
 import re
 import subprocess
-import email.message
 from typing import Optional
 
 from folding import folded, one_line
@@ -18,18 +19,20 @@ def is_address(text: str) -> bool:
     return ADDRESS.fullmatch(text) is not None
 
 
-def bare_address(text: str) -> str:
-    """The address in a header, in small letters; nothing where there is none that is usable."""
-    text = text[:1000]
-    inner = re.findall(r"<([^<>\s]{3,320})>", text)
-    words = inner[-1:] or [word for word in re.split(r"[\s,;]+", text) if "@" in word][:1]
-    address = words[0].lower() if words else ""
+def bare_address(mail: email.message.Message, name: str) -> str:
+    """The address in a header, in small letters; nothing where there is none that is usable.
+
+    The header is taken as it stands: decoded first, a name could pass for an address."""
+    try:
+        address = email.utils.parseaddr(str(mail.get(name) or "")[:1000])[1].lower()
+    except Exception:  # the library raises several kinds for a broken header
+        return ""
     return address if is_address(address) else ""
 
 
 def sender_of(mail: email.message.Message) -> str:
     """Where an answer goes."""
-    return bare_address(header(mail, "Reply-To")) or bare_address(header(mail, "From"))
+    return bare_address(mail, "Reply-To") or bare_address(mail, "From")
 
 
 def message_id(mail: email.message.Message) -> str:
@@ -41,13 +44,14 @@ def is_automatic(mail: email.message.Message, own: str) -> bool:
     """Whether a program sent it, as a bounce, a list or a vacation notice: it gets no answer."""
     said = header(mail, "Auto-Submitted").lower().split(";")[0].strip()
     loops = [str(value).strip().lower() for value in mail.get_all("X-Loop") or []]
-    sender = bare_address(header(mail, "From"))
+    sender = bare_address(mail, "From")
     return bool(
         said not in ("", "no")
         or re.match(r"(?i)(bulk|list|junk|auto_reply)", header(mail, "Precedence"))
         or mail.get("List-Id") is not None
         or mail.get("X-Autoreply") or mail.get("X-Autorespond")
         or own.lower() in loops
+        or str(mail.get_unixfrom() or "").startswith("From MAILER-DAEMON")
         or str(mail.get("Return-Path") or "").replace(" ", "").strip() == "<>"
         or mail.get_content_type() == "multipart/report"
         or re.match(r"(mailer-daemon|postmaster|no-?reply|bounces?)[@+-]", sender)

@@ -69,6 +69,21 @@ def guard_due(due: int, may_be_past: bool) -> None:
                       f"it is {minute_now()}. With --past it is sent all the same.")
 
 
+def guard_clock(settings: Settings) -> None:
+    """A clock that went back is wrong now, or was wrong when the last tick was sent."""
+    text = keeping.text_of(settings.state / "tick.last").strip()
+    last = int(text) if text.isdigit() else 0
+    if minute_now() < last:
+        raise Refused(f"The clock reads {time_of_tick(minute_now())}, and at the last tick it read "
+                      f"{time_of_tick(last)}. Nothing was sent. Set the clock right. If it is right, "
+                      f"remove the file {settings.state / 'tick.last'}.")
+
+
+def clock_noted(settings: Settings) -> None:
+    """Keeps what the clock reads as a tick is sent."""
+    keeping.write_text(settings.state / "tick.last", f"{minute_now()}\n")
+
+
 def guard_tick(settings: Settings, game: str, tick: int, may_be_late: bool) -> None:
     """Nothing takes a TICK back, so one that is likely wrong isn't sent."""
     state = game_state(settings, game)
@@ -89,7 +104,9 @@ def guarded(settings: Settings, game: str, command: str, options) -> None:
     if create:
         guard_due(int(create[1]), options.past)
     if tick:
+        guard_clock(settings)
         guard_tick(settings, game, int(tick[1]), options.late)
+        clock_noted(settings)
 
 
 # vettonugal master
@@ -137,6 +154,8 @@ def run_master(options, settings: Settings) -> int:
     body = body_for(command)
     with master_lock(settings):
         guarded(settings, game, command, options)
+        if command.startswith("REPLACE "):
+            forget_seat(settings, game, command.split(" ")[1])
         if command.startswith("CREATE"):
             reply = opened(settings, game, command, body)
         else:
@@ -144,7 +163,7 @@ def run_master(options, settings: Settings) -> int:
     sys.stdout.write(reply.text)
     is_done = reply.lines()[0].startswith("OK")
     if is_done and command.startswith("REPLACE "):
-        forget_seat(settings, game, command.split(" ")[1])
+        forget_seat(settings, game, command.split(" ")[1])   # he may have written in between
         if secret:
             print(f"The new secret of {command.split(' ')[1]} is {secret}")
     return 0 if is_done else 1
@@ -165,7 +184,9 @@ def opened(settings: Settings, game: str, command: str, seats: List[str]) -> Rep
     was_in = game in keeping.games(settings)
     keeping.change_games(settings, game, True)
     reply = sent_by_master(settings, game, [command, *seats])
-    if not reply.lines()[0].startswith("OK") and not was_in and reply.refusal() != "L11":
+    if reply.lines()[0].startswith("OK"):
+        start_papers(settings, game)
+    elif not was_in and reply.refusal() != "L11":
         keeping.change_games(settings, game, False)
     return reply
 
@@ -252,7 +273,6 @@ def run_create(options, settings: Settings) -> int:
     sys.stdout.write(reply.text)
     if not reply.lines()[0].startswith("OK"):
         return 1
-    start_papers(settings, options.game)
     return secrets_given(settings, options.game, given, send_to, due)
 
 

@@ -213,6 +213,30 @@ SINGLE = [
     ("a plain form that says nothing", whole(multipart("alternative", [
         part("text/plain", b"This mail is HTML.\n"), part("text/html", b"<p>" + b"<br>".join(
             line.encode() for line in letter("SHOW")) + b"</p>\n")])), [f"{E}\nSHOW"]),
+    ("quoted by a blockquote alone", only_html(
+        f"<div>Did it arrive?</div><blockquote>{'<br>'.join(OLD)}</blockquote>\n"), []),
+    ("a blockquote with an end tag too many", only_html(
+        f"<div>Hm?<blockquote>Hello</div>{'<br>'.join(OLD)}</blockquote></div>\n"), []),
+    ("a letter below a blockquote", only_html(
+        f"<blockquote>{'<br>'.join(OLD)}</blockquote><div>{'<br>'.join(letter('SHOW'))}</div>\n"),
+     [f"{E}\nSHOW"]),
+    ("press that HTML shows as a quotation", only_html(
+        f"{'<br>'.join(HEAD)}<br>PRESS WHITE TO france<blockquote>Hello<br>you</blockquote>END\n"),
+     [f"{E}\nPRESS WHITE TO france\n> Hello\n> you"]),
+    ("the secret in the subject", plain(*letter("SHOW"), Subject="eeeeeeee is my secret"), [f"{E}\nSHOW"]),
+    ("the secret as a command", plain(*letter("eeeeeeee please")), ["told: \"eeeeeeee please\""]),
+    ("the secret below SHOW", plain(*letter("SHOW", "eeeeeeee")), ["told: stands where END"]),
+    ("lines in the subject", plain(*letter("SHOW"), Subject="=?utf-8?q?a=0D=0ABcc:_x=40y.example=0A=0Ahi?="),
+     [f"{E}\nSHOW"]),
+    ("lines in the name", plain(*letter("SHOW"), From="=?utf-8?q?a=0ABcc:_x=40y.example?= <ann@example.org>"),
+     [f"{E}\nSHOW"]),
+    ("lines in the id", plain(*letter("SHOW"), Message_ID="<a@b>\n\tBcc: x@y.example"), [f"{E}\nSHOW"]),
+    ("a name that passes for an address", plain(*letter("SHOW"),
+                                                From="=?utf-8?q?victim=40example.net=2C?= <ann@example.org>"),
+     [f"{E}\nSHOW"]),
+    ("a broken subject", plain(*letter("SHOW"), Subject="=?utf-8?b?a?="), [f"{E}\nSHOW"]),
+    ("a subject of no charset", plain(*letter("SHOW"), Subject="=?x-none?q?=FF=FE?= =?utf-16?b?/w==?="),
+     [f"{E}\nSHOW"]),
     ("hidden HTML", only_html("<div style='display: none'>" + "<br>".join(OLD) + "</div><p>Hello</p>\n"), []),
     ("a comment of HTML", only_html("<!-- " + "<br>".join(OLD) + " --><p>Hello</p>\n"), []),
     ("encrypted", whole(multipart("encrypted", [

@@ -94,7 +94,8 @@ class Club:
         self.now, self.number = START, 0
         store, port = f"{self.folder}/club.db", free_port()
         subprocess.run([program, "init", "--store", store, "--master", MASTER], check=True)
-        self.judge = subprocess.Popen([program, "serve", "--store", store, "--port", str(port), "--count",
+        self.judge = subprocess.Popen([program, "serve", "--store", store, "--port", str(port),
+                                       "--count",
                                        "999999"], stderr=subprocess.DEVNULL)
         self.judge_url, self.proxy = f"http://127.0.0.1:{port}", Proxy(port)
         self.stub = f"{self.folder}/sendmail"
@@ -108,10 +109,13 @@ class Club:
         self.wait_for_judge()
 
     def write_conf(self, name: str, **changes) -> str:
-        values = {"JUDGE": f"http://127.0.0.1:{self.proxy.port}", "STATE": self.state, "SENDMAIL": self.stub,
-                  "ADDRESS": "judge@club.example", "SETTLE": "0", "PUBLIC": f"{self.folder}/public", **changes}
+        values = {"JUDGE": f"http://127.0.0.1:{self.proxy.port}", "STATE": self.state,
+                  "SENDMAIL": self.stub,
+                  "ADDRESS": "judge@club.example", "SETTLE": "0", "PUBLIC": f"{self.folder}/public",
+                  **changes}
         with open(f"{self.folder}/{name}", "w", encoding="ascii") as out:
-            out.write("# for a test\n" + "".join(f"{key}={value}\n" for key, value in values.items()))
+            out.write("# for a test\n" + "".join(f"{key}={value}\n" for key,
+                                                 value in values.items()))
         return f"{self.folder}/{name}"
 
     def wait_for_judge(self):
@@ -131,12 +135,14 @@ class Club:
     # The tools
 
     def environment(self, **more) -> dict:
-        return {**os.environ, "VETTONUGAL_CONF": self.conf, "VETTONUGAL_NOW": str(self.now), "TZ": "UTC",
+        return {**os.environ, "VETTONUGAL_CONF": self.conf, "VETTONUGAL_NOW": str(self.now),
+                "TZ": "UTC",
                 "VETTONUGAL_TOOLS": TOOLS, **{key: str(value) for key, value in more.items()}}
 
     def tool(self, *words, given: bytes = b"", **more):
         done = subprocess.run([sys.executable, f"{TOOLS}/vettonugal", *words], input=given,
-                              env=self.environment(**more), capture_output=True, timeout=120, check=False)
+                              env=self.environment(**more), capture_output=True, timeout=120,
+                              check=False)
         return self.told(done)
 
     def told(self, done):
@@ -153,14 +159,15 @@ class Club:
         count = f"{self.folder}/steps"
         if os.path.exists(count):
             os.unlink(count)
-        subprocess.run([sys.executable, f"{HERE}/killed.py", *words], input=given, capture_output=True,
+        subprocess.run([sys.executable, f"{HERE}/killed.py", *words], input=given,
+                       capture_output=True,
                        env=self.environment(KILL_AT=at, KILL_COUNT=count), timeout=120, check=False)
         return int(open(count, encoding="ascii").read()) if os.path.exists(count) else 0
 
     # Around them
 
     def sent(self) -> list:
-        """The mails that were sent since this was asked last, in no order: message and arguments."""
+        """The mails that were sent since this was asked last, in no order."""
         out = []
         for name in os.listdir(self.box):
             if name.endswith(".sent") and name not in self.seen:

@@ -9,8 +9,8 @@ import subprocess
 import sys
 
 sys.dont_write_bytecode = True
-TOOLS = os.environ.get("VETTONUGAL_TOOLS") or os.path.join(os.path.dirname(os.path.abspath(__file__)),
-                                                           "..", "tools")
+HERE = os.path.dirname(os.path.abspath(__file__))
+TOOLS = os.environ.get("VETTONUGAL_TOOLS") or os.path.join(HERE, "..", "tools")
 sys.path.insert(0, TOOLS)
 import judge  # noqa: E402
 

@@ -32,7 +32,8 @@ def b64(text: str, charset: str = "utf-8") -> bytes:
 
 
 def part(kind: str, body: bytes, encoding: str = "", more: str = "") -> bytes:
-    fields = [f"Content-Type: {kind}"] + ([f"Content-Transfer-Encoding: {encoding}"] if encoding else [])
+    fields = [f"Content-Type: {kind}"] + ([f"Content-Transfer-Encoding: {encoding}"] if encoding
+                                          else [])
     fields += [more] if more else []
     return "\n".join(fields).encode() + b"\n\n" + body
 
@@ -90,7 +91,8 @@ def windows(lines):
 def latin9(lines):
     return mail(head(Content_Type="text/plain; charset=iso-8859-15",
                      Content_Transfer_Encoding="quoted-printable"),
-                qp(text_of(lines).replace("–", "-").replace("“", '"').replace("”", '"'), "iso-8859-15"))
+                qp(text_of(lines).replace("–", "-").replace("“", '"').replace("”", '"'),
+                   "iso-8859-15"))
 
 
 def utf16(lines):
@@ -136,7 +138,8 @@ def thunderbird(lines):
 def roundcube(lines):
     return mail(head(User_Agent="Roundcube Webmail/1.6.5",
                      Content_Type="text/plain; charset=UTF-8;\n format=flowed",
-                     Content_Transfer_Encoding="quoted-printable"), qp(text_of(flowed_lines(lines))))
+                     Content_Transfer_Encoding="quoted-printable"),
+                     qp(text_of(flowed_lines(lines))))
 
 
 def delsp(lines):
@@ -203,7 +206,8 @@ def outlook(lines):
 def outlook_web(lines):
     body = "".join('<div class="elementToProof" style="font-family: Aptos; font-size: 12pt;">\n'
                    f"{escaped(line) or '<br>'}</div>\n" for line in lines)
-    return only_html(f'<html>\n<head>\n<style type="text/css" style="display:none;"> P {{}} </style>\n'
+    return only_html(f'<html>\n<head>\n<style type="text/css" style="display:none;"> P {{}} '
+                     '</style>\n'
                      f'</head>\n<body dir="ltr">\n{body}</body>\n</html>\n')
 
 
@@ -245,7 +249,8 @@ def attached(lines):
     old = text_of(OLD).encode()
     return whole(multipart("mixed", [
         part("text/plain; charset=utf-8", qp(text_of(lines)), "quoted-printable"),
-        part('text/plain; name="old.txt"', old, "", 'Content-Disposition: attachment; filename="old.txt"'),
+        part('text/plain; name="old.txt"', old, "",
+             'Content-Disposition: attachment; filename="old.txt"'),
         part('image/png; name="map.png"', b64("picture"), "base64",
              'Content-Disposition: attachment; filename="map.png"')]))
 
@@ -255,7 +260,8 @@ def nested(lines):
         part("text/plain; charset=utf-8", qp(text_of(lines)), "quoted-printable"),
         part(*multipart("related", [part("text/html; charset=utf-8", qp(divs(lines)),
                                          "quoted-printable")], "inner2"))], "inner1")
-    return whole(multipart("mixed", [part(*inner), part("application/pdf", b64("pdf"), "base64")], "outer"))
+    return whole(multipart("mixed", [part(*inner), part("application/pdf", b64("pdf"), "base64")],
+                           "outer"))
 
 
 def list_footer(lines):
@@ -269,7 +275,8 @@ def list_footer(lines):
 # With an older mail quoted
 
 def above_quote(lines):
-    return mutt([*lines, "", "On Sat, Nov 28, 2026 at 9:00 AM Judge <judge@club.example> wrote:", ">",
+    return mutt([*lines, "", "On Sat, Nov 28, 2026 at 9:00 AM Judge <judge@club.example> wrote:",
+                 ">",
                  *quoted(OLD)])
 
 
@@ -279,7 +286,8 @@ def wrapped_attribution(lines):
 
 
 def below_quote(lines):
-    return thunderbird_raw(["On 28/11/2026 09:00, Judge wrote:", *quoted(OLD), "", *flowed_lines(lines)])
+    return thunderbird_raw(["On 28/11/2026 09:00, Judge wrote:", *quoted(OLD), "",
+                            *flowed_lines(lines)])
 
 
 def thunderbird_raw(lines):
@@ -289,7 +297,8 @@ def thunderbird_raw(lines):
 
 def outlook_reply(lines):
     return mutt([*lines, "", "-----Original Message-----", "From: Judge <judge@club.example>",
-                 "Sent: Saturday, November 28, 2026 9:00 AM", "To: Ann", "Subject: Re: orders", "", *OLD])
+                 "Sent: Saturday, November 28, 2026 9:00 AM", "To: Ann", "Subject: Re: orders", "",
+                 *OLD])
 
 
 def outlook_mobile(lines):
@@ -300,21 +309,25 @@ def outlook_mobile(lines):
 
 def gmail_reply(lines):
     page = (f'<div dir="ltr">{divs(lines)}</div><br><div class="gmail_quote"><div dir="ltr" '
-            'class="gmail_attr">On Sat, Nov 28, 2026 at 9:00 AM Judge &lt;<a href="mailto:j@c.example">'
-            'j@c.example</a>&gt; wrote:<br></div><blockquote class="gmail_quote" style="margin:0px">'
+            'class="gmail_attr">On Sat, Nov 28, 2026 at 9:00 AM Judge &lt;<a '
+            'href="mailto:j@c.example">'
+            'j@c.example</a>&gt; wrote:<br></div><blockquote class="gmail_quote" '
+            'style="margin:0px">'
             f"{divs(OLD)}</blockquote></div>\n")
     return only_html(page)
 
 
 def outlook_web_reply(lines):
     page = (f'<html><body><div>{divs(lines)}</div><div id="appendonsend"></div><hr tabindex="-1">'
-            '<div id="divRplyFwdMsg" dir="ltr"><font><b>From:</b> Judge<br><b>Sent:</b> Saturday<br>'
+            '<div id="divRplyFwdMsg" dir="ltr"><font><b>From:</b> Judge<br><b>Sent:</b> '
+            'Saturday<br>'
             f"<b>To:</b> Ann<br></font></div><div>{divs(OLD)}</div></body></html>\n")
     return only_html(page)
 
 
 def apple_reply(lines):
-    page = (f'<html><body>{divs(lines)}<div><br><blockquote type="cite"><div>On 28 Nov 2026, at 09:00, '
+    page = (f'<html><body>{divs(lines)}<div><br><blockquote type="cite"><div>On 28 Nov 2026, at '
+            '09:00, '
             f"Judge wrote:</div><div>{divs(OLD)}</div></blockquote></div></body></html>\n")
     return only_html(page)
 

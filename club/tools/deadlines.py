@@ -18,8 +18,10 @@ PUNCTUAL = 10
 def arguments(parser) -> None:
     parser.add_argument("--late", metavar="GAME",
                         help="plays this game, though its deadline is more than a period ago")
-    parser.epilog = ("Run it each minute by cron or a timer. Status 0: all is done. 1: a game could not "
-                     "be played or a mail not be sent, as standard error says. 75: the judge is away.")
+    parser.epilog = ("Run it each minute by cron or a timer. Status 0: all is done. 1: a game "
+                     "could not "
+                     "be played or a mail not be sent, as standard error says. 75: the judge is "
+                     "away.")
 
 
 def run(options, settings: Settings) -> int:
@@ -89,7 +91,8 @@ def played(settings: Settings, game: str, may_be_late: bool) -> bool:
 
 def guard_late(game: str, state: dict, may_be_late: bool) -> None:
     if minute_now() > state["due"] + state["period"] and not may_be_late:
-        raise Refused(f"it was not played, since its deadline, {time_of_tick(state['due'])}, is more "
+        raise Refused(f"it was not played, since its deadline, {time_of_tick(state['due'])}, is "
+                      "more "
                       "than a period ago. Look whether the clock is right and whether the players "
                       f"know. To play it all the same: vettonugal tick --late {game}")
 

@@ -8,7 +8,8 @@ SPELLED = {"ä": "ae", "ö": "oe", "ü": "ue", "Ä": "Ae", "Ö": "Oe", "Ü": "Ue
 QUOTES = {**dict.fromkeys("‘’‚‛′‹›ʼ`´", "'"), **dict.fromkeys("“”„‟″«»", '"')}
 DASHES = dict.fromkeys("‐‑‒–—―−⁃﹘﹣－→⇒➔➙➛➜➝➞⟶⟹↦", "-")
 # Zero-width characters, soft hyphens, marks of direction and of an emoji's look.
-UNSEEN = dict.fromkeys("\u00ad\u034f\u061c\u180e\u200b\u200c\u200d\u200e\u200f\u2060\u2061\u2062\u2063"
+UNSEEN = dict.fromkeys("\u00ad\u034f\u061c\u180e\u200b\u200c\u200d\u200e\u200f"
+                       "\u2060\u2061\u2062\u2063"
                        "\u202a\u202b\u202c\u202d\u202e\u2066\u2067\u2068\u2069\ufeff", "")
 LINE_ENDS = {"\u0085": "\n", "\u2028": "\n", "\u2029": "\n", "\t": " ", "\v": " ", "\f": " "}
 TABLE = str.maketrans({**SPELLED, **QUOTES, **DASHES, **UNSEEN, **LINE_ENDS, "`": "`"})

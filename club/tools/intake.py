@@ -33,17 +33,22 @@ MOST_ANSWERS = 40   # to one address in an hour, so that two robots can't talk f
 OLDEST_DATE = 8 * DAY
 SECONDS_FOR_READING = 20
 ABOUT_TIME = {"ORDERS": "orders", "WITHDRAW": "orders", "VOTE": "vote"}
-OVERTAKEN = ("It was not handed in. A newer mail of yours has come before this one, and this letter\n"
+OVERTAKEN = ("It was not handed in. A newer mail of yours has come before this one, and this "
+             "letter\n"
              "would undo what that one says. If you want it all the same, send it again now.")
-EARLIER = ("The mail system delivered your mail twice. This letter was taken the first time, and newer\n"
+EARLIER = ("The mail system delivered your mail twice. This letter was taken the first time, and "
+           "newer\n"
            "letters of yours came after it, so it was not handed in again. SHOW tells what stands.")
-UNSURE = ("Your mail or this letter was delivered twice, and newer letters of yours came in between.\n"
-          "Whether it was taken the first time can't be told, so it was not handed in again. SHOW tells\n"
+UNSURE = ("Your mail or this letter was delivered twice, and newer letters of yours came in "
+          "between.\n"
+          "Whether it was taken the first time can't be told, so it was not handed in again. SHOW "
+          "tells\n"
           "what stands; if that isn't what you want, send the letter in a new mail.")
 
 
 def arguments(parser) -> None:
-    parser.epilog = ("For maildrop, procmail or .forward. Status 0: done. Status 75: the judge or the "
+    parser.epilog = ("For maildrop, procmail or .forward. Status 0: done. Status 75: the judge or "
+                     "the "
                      "mail system is away; deliver the mail again later.")
 
 
@@ -69,7 +74,8 @@ def taken_in(settings: Settings, stream) -> int:
     while True:
         wait_until_quiet(settings, spool, wait_since)
         with keeping.locked(settings.state / "mail.lock"):
-            if not is_quiet(settings, spool) and time.monotonic() - wait_since < 5 * settings.settle:
+            if not is_quiet(settings,
+                            spool) and time.monotonic() - wait_since < 5 * settings.settle:
                 continue
             if mail.exists() and not outcome_of(mail).exists():
                 hand_in_all(settings, spool)
@@ -96,11 +102,11 @@ def outcome_of(mail: Path) -> Path:
 
 def outcome_taken(mail: Path) -> int:
     """The status of a mail, which its own process takes away with the mail."""
-    status = keeping.text_of(outcome_of(mail))
+    status = keeping.text_of(outcome_of(mail)) or (str(AGAIN) if mail.exists() else "0")
     for path in (mail, outcome_of(mail)):
         with contextlib.suppress(FileNotFoundError):
             path.unlink()
-    return int(status) if status.isdigit() else 0 if not status else AGAIN
+    return int(status) if status.isdigit() else AGAIN
 
 
 def hand_in_all(settings: Settings, spool: Path) -> None:
@@ -132,7 +138,8 @@ def date_of(head: email.message.Message, arrival: float) -> float:
     """When a mail was sent, as it says; when it came, where that can't be."""
     try:
         moment = email.utils.parsedate_to_datetime(str(head.get("Date"))[:200])
-        date = (moment if moment.tzinfo else moment.replace(tzinfo=datetime.timezone.utc)).timestamp()
+        date = (moment if moment.tzinfo
+                else moment.replace(tzinfo=datetime.timezone.utc)).timestamp()
     except Exception:  # the library raises several kinds
         return arrival
     return date if arrival - OLDEST_DATE <= date <= arrival else arrival
@@ -165,7 +172,8 @@ class Contents:
         self.unread: List[str] = []
         self.problem = ""
         if len(data) > texts.MOST_BYTES:
-            self.problem = "Your mail has more than a million characters: send less, without pictures."
+            self.problem = ("Your mail has more than a million characters: send less, without "
+                            "pictures.")
             return
         try:
             with bounded(SECONDS_FOR_READING):
@@ -174,7 +182,8 @@ class Contents:
         except Exception:  # a mail can break the library in many ways; none may stop the others
             self.problem = "Your mail could not be read. Send the letter as plain text."
             return
-        self.unread = sorted(set(text.unread)) + [f"what stands below \"{line[:60]}\"" for line in below]
+        self.unread = sorted(set(text.unread)) + [f"what stands below \"{line[:60]}\""
+                                                  for line in below]
 
 
 def about_letter(found: letters.Found) -> str:
@@ -202,7 +211,8 @@ class Mail:
             status = self.letters_handled(contents)
         else:
             status = self.help_sent(contents)
-        keeping.log(self.settings, f"mail from {self.sender}: {'; '.join(self.log)}; status {status}")
+        keeping.log(self.settings,
+                    f"mail from {self.sender}: {'; '.join(self.log)}; status {status}")
         return status
 
     # What is kept of a mail
@@ -384,8 +394,10 @@ class Mail:
                 if game != letter.game or power == letter.power or not is_reader \
                         or power in slot.get("noticed", []):
                     continue
-                text = (f"There is new press for {power} in game {game}. To read it, send a letter with\n"
-                        "the command INBOX 1, or with a greater number for the later items alone.\n")
+                text = (f"There is new press for {power} in game {game}. To read it, send a "
+                        "letter with\n"
+                        "the command INBOX 1, or with a greater number for the later items "
+                        "alone.\n")
                 if mailing.send(self.settings, address, f"[{game}] press for {power}", text):
                     slot.setdefault("noticed", []).append(power)
                     self.save()

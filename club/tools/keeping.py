@@ -69,7 +69,7 @@ def write_json(path: Path, value: dict) -> None:
 
 @contextlib.contextmanager
 def locked(path: Path, wait: bool = True):
-    """Holds the lock of a file; says whether it was got. The system drops it when a process ends."""
+    """Holds the lock of a file; says whether it was got. The system drops it as a process ends."""
     made_folder(path.parent)
     handle = os.open(path, os.O_RDWR | os.O_CREAT | os.O_CLOEXEC, 0o600)
     try:

@@ -54,7 +54,8 @@ WROTE = (r"wrote|writes|schrieb|schreibt|a ecrit|ecrit|escribio|ha scritto|schre
          r"skreiv|pisze|napisal(?:\(a\))?|kirjoitti|napsal(?:\(a\))?|irta")
 ATTRIBUTION = re.compile(rf"(?i).{{0,400}}\b(?:{WROTE})\b.{{0,120}}:")
 FIRST_OF_ATTRIBUTION = re.compile(r"(?i)(on|am|le|el|il|op|em|den|dne|w dniu|at|from|pa)\b")
-DASHED = re.compile(r"(?i)-{2,} ?(begin )?(original|forwarded|urspruengliche|weitergeleitete|message|"
+DASHED = re.compile(r"(?i)-{2,} ?(begin "
+                    r")?(original|forwarded|urspruengliche|weitergeleitete|message|"
                     r"mensaje|messaggio|oorspronkelijk|doorgestuurd|ursprungligt|mensagem)"
                     r"[^-]{0,60}(-{2,}|$)")
 FORWARDED = re.compile(r"(?i)(begin forwarded message|anfang der weitergeleiteten nachricht|"
@@ -100,7 +101,7 @@ def begins_header_block(lines: List[str], at: int) -> bool:
 
 
 def own_lines(lines: List[str]) -> tuple:
-    """The lines above a mail that is quoted without marks, and the line that shows where it begins."""
+    """The lines above a mail that is quoted without marks, and the line with which it begins."""
     for at, line in enumerate(lines):
         text = line.strip()
         if not text or is_marked(line):
@@ -210,7 +211,8 @@ class Reader:
         if wrong:
             return Fault(wrong, secret.split())
         number = int(values["NUMBER"].rstrip(".")) if "NUMBER" in values else None
-        letter = Letter(values["GAME"].rstrip(".").lower(), values["FROM"].rstrip(".").lower(), secret,
+        letter = Letter(values["GAME"].rstrip(".").lower(), values["FROM"].rstrip(".").lower(),
+                        secret,
                         number, "")
         wrong = self.fill(letter, self.lines[start:end], has_end, stray_end)
         wrong = wrong or fault_of_size(letter)
@@ -255,7 +257,8 @@ class Reader:
             at_end = offset + count >= len(self.lines)
             if at_end and not self.is_whole:
                 return "it has no line END, and the mail is broken off: send it again"
-            letter.notes.append("It had no line END. It was taken as if END stood after its last line.")
+            letter.notes.append("It had no line END. It was taken as if END stood after its last "
+                                "line.")
             if below and letter.kind() == "ORDERS":
                 letter.notes.append("What stands below it was not read.")
         return fill_lines(letter, rest[:count], has_end)
@@ -274,7 +277,8 @@ def fault_of_head(values: dict) -> str:
         if word not in values:
             return f"the line {word} is missing"
     if not GAME.fullmatch(values["GAME"].rstrip(".").lower()):
-        return "the line GAME has no name of a game: a letter first, then letters and digits, 16 at most"
+        return ("the line GAME has no name of a game: a letter first, then letters and digits, "
+                "16 at most")
     if not POWER.fullmatch(values["FROM"].rstrip(".").lower()):
         return "the line FROM has no name of a power: letters alone, 16 at most"
     if not SECRET.fullmatch(values["SECRET"]):
@@ -362,7 +366,8 @@ def fill_lines(letter: Letter, lines: List[str], has_end: bool) -> str:
         return "a line with your secret stands among the orders: END is missing above it"
     gap = gap_without_end(lines)
     if not has_end and gap:
-        return (f"it has no line END, and \"{gap[:60]}\" may be no order: put END below the last order")
+        return (f"it has no line END, and \"{gap[:60]}\" may be no order: put END below the last "
+                "order")
     letter.body = [order_line(line) for line in told]
     if len(letter.body) > MOST_ORDERS:
         return f"it has {len(letter.body)} orders, and 64 are the most: send two letters"
@@ -478,5 +483,6 @@ def letters_in(texts: List[List[str]], is_whole: bool) -> tuple:
         found += Reader(own, is_whole or bool(stop)).read()
     if len(found) > MOST_LETTERS:
         rest = len(found) - MOST_LETTERS
-        found = found[:MOST_LETTERS] + [Fault(f"a mail takes 40 letters: {rest} more were not read")]
+        found = found[:MOST_LETTERS] + [Fault(f"a mail takes 40 letters: {rest} more were not "
+                                              "read")]
     return found, below

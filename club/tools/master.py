@@ -28,7 +28,8 @@ def master_secret(settings: Settings) -> str:
     if secret and path.stat().st_mode & 0o077:
         path.chmod(0o600)
     if not letters.SECRET.fullmatch(secret):
-        raise Refused(f"{path} doesn't hold the master's secret: 8 to 64 characters without a space")
+        raise Refused(f"{path} doesn't hold the master's secret: 8 to 64 characters without a "
+                      "space")
     return secret
 
 
@@ -47,7 +48,8 @@ def sent_by_master(settings: Settings, game: str, lines: List[str]) -> Reply:
         if last is None:
             break
         if reply.refusal() == "L3" and not reply.is_sure:
-            raise Refused("The letter may have acted, but its reply was lost, and a newer letter of "
+            raise Refused("The letter may have acted, but its reply was lost, and a newer letter "
+                          "of "
                           "the master's came after it. Look at the game before you send it again.")
         number = last + 1
     if reply.knows_author():
@@ -64,8 +66,10 @@ def master_lock(settings: Settings):
 def guard_due(due: int, may_be_past: bool) -> None:
     """A game whose first due tick is over would be played at once, with nobody's orders."""
     if due <= minute_now() and not may_be_past:
-        raise Refused(f"The first deadline, {time_of_tick(due)}, is in the past: the first phase would "
-                      "be played at once. Nothing was sent. A due tick counts minutes since 1970; now "
+        raise Refused(f"The first deadline, {time_of_tick(due)}, is in the past: the first phase "
+                      "would "
+                      "be played at once. Nothing was sent. A due tick counts minutes since 1970; "
+                      "now "
                       f"it is {minute_now()}. With --past it is sent all the same.")
 
 
@@ -75,7 +79,8 @@ def guard_clock(settings: Settings) -> None:
     last = int(text) if text.isdigit() else 0
     if minute_now() < last:
         raise Refused(f"The clock reads {time_of_tick(minute_now())}, and at the last tick it read "
-                      f"{time_of_tick(last)}. Nothing was sent. Set the clock right. If it is right, "
+                      f"{time_of_tick(last)}. Nothing was sent. Set the clock right. If it is "
+                      "right, "
                       f"remove the file {settings.state / 'tick.last'}.")
 
 
@@ -90,7 +95,8 @@ def guard_tick(settings: Settings, game: str, tick: int, may_be_late: bool) -> N
     if state is None:
         raise Refused(f"There is no game {game}.")
     if tick > max(minute_now(), state["due"]):
-        raise Refused(f"TICK {tick} is in the future ({time_of_tick(tick)}): the next deadline would "
+        raise Refused(f"TICK {tick} is in the future ({time_of_tick(tick)}): the next deadline "
+                      "would "
                       f"come after that. Nothing was sent. Now it is {minute_now()}.")
     if tick > state["due"] + state["period"] and not may_be_late:
         raise Refused(f"TICK {tick} is more than a period after the deadline of {game}, "
@@ -113,18 +119,23 @@ def guarded(settings: Settings, game: str, command: str, options) -> None:
 
 def arguments_of_master(parser) -> None:
     parser.add_argument("game", help="the game's name")
-    parser.add_argument("command", nargs="+", metavar="COMMAND", help="as PAUSE, RESUME, PERIOD 1440, "
+    parser.add_argument("command", nargs="+", metavar="COMMAND",
+                        help="as PAUSE, RESUME, PERIOD 1440, "
                         "ANNOUNCE, REPLACE england, TICK 29910080, CLOSE, or CREATE with its words")
-    parser.add_argument("--past", action="store_true", help="CREATE also with a deadline in the past")
+    parser.add_argument("--past", action="store_true",
+                        help="CREATE also with a deadline in the past")
     parser.add_argument("--late", action="store_true", help="TICK also more than a period late")
-    parser.epilog = ("The lines of ANNOUNCE and the SEAT lines of CREATE are read from standard input. "
-                     "REPLACE without a secret makes one and prints it once; a secret that you write "
+    parser.epilog = ("The lines of ANNOUNCE and the SEAT lines of CREATE are read from standard "
+                     "input. "
+                     "REPLACE without a secret makes one and prints it once; a secret that you "
+                     "write "
                      "into the command can be seen by others of this machine while it runs.")
 
 
 def body_for(command: str) -> list:
     """The lines that belong to a command, from standard input."""
-    if command.split(" ")[0] not in ("ANNOUNCE", "CREATE") or sys.stdin is None or sys.stdin.isatty():
+    if command.split(" ")[0] not in ("ANNOUNCE",
+                                     "CREATE") or sys.stdin is None or sys.stdin.isatty():
         return []
     text = folded(sys.stdin.buffer.read(1_000_000).decode("utf-8", "replace"))
     lines = [line.rstrip() for line in text.split("\n")]
@@ -194,7 +205,8 @@ def opened(settings: Settings, game: str, command: str, seats: List[str]) -> Rep
 # vettonugal create
 
 def arguments_of_create(parser) -> None:
-    parser.add_argument("game", help="its name: a letter first, then letters and digits, 16 at most")
+    parser.add_argument("game",
+                        help="its name: a letter first, then letters and digits, 16 at most")
     parser.add_argument("--deadline", required=True, metavar="'YYYY-MM-DD HH:MM'",
                         help="the first deadline, in this machine's time zone")
     parser.add_argument("--every", required=True, metavar="TIME",
@@ -243,7 +255,8 @@ def receivers_of(pairs: List[str], powers: List[str]) -> dict:
     for pair in pairs:
         power, _, address = pair.partition("=")
         if power not in powers or power in found or not mailing.is_address(address):
-            raise Refused(f"--send {pair}: write a power of the game and an address, each power once, "
+            raise Refused(f"--send {pair}: write a power of the game and an address, each power "
+                          "once, "
                           "as in england=ann@example.org")
         found[power] = address
     return found
@@ -251,9 +264,11 @@ def receivers_of(pairs: List[str], powers: List[str]) -> dict:
 
 def run_create(options, settings: Settings) -> int:
     if not letters.GAME.fullmatch(options.game):
-        raise Refused(f"'{options.game}' is no name of a game: a small letter first, then letters and "
+        raise Refused(f"'{options.game}' is no name of a game: a small letter first, then letters "
+                      "and "
                       "digits, 16 at most")
-    due, period, powers = tick_of(options.deadline), period_of(options.every), powers_of(options.powers)
+    due, period = tick_of(options.deadline), period_of(options.every)
+    powers = powers_of(options.powers)
     send_to = receivers_of([pair for pairs in options.send for pair in pairs], powers)
     if not 0 <= due <= MOST_TICK:
         raise Refused("the deadline is before 1970")
@@ -266,7 +281,8 @@ def run_create(options, settings: Settings) -> int:
         try:
             reply = opened(settings, options.game, command, seats)
         except Away:
-            print(f"The judge gave no answer. Whether {options.game} is open can't be told. Create it "
+            print(f"The judge gave no answer. Whether {options.game} is open can't be told. "
+                  "Create it "
                   "again later; if the name is taken then (L11), give each seat a new secret by "
                   f"`vettonugal master {options.game} REPLACE england` and so on.", file=sys.stderr)
             return AGAIN

@@ -19,15 +19,18 @@ ORDERS = {
     "O12": "It is no home centre of yours, you don't own it, or a unit is there.",
     "O13": "As many as you may have are ordered already, or you may have none of that kind. "
            "Send WITHDRAW, then your orders anew.",
-    "O14": "Somebody is there, the attacker came from there, a standoff was there, or it is too far.",
+    "O14": "Somebody is there, the attacker came from there, a standoff was there, or it is too "
+    "far.",
 }
 LETTERS = {
     "L1": "A power is named that this game doesn't have, or one is named twice, or you yourself.",
     "L2": "Nobody has that secret under that name in that game. Look at GAME, FROM and SECRET; "
-          "which of them is wrong isn't told. If your secret is lost, ask the master for a new one.",
+          "which of them is wrong isn't told. If your secret is lost, ask the master for a new "
+          "one.",
     "L3": "You have used a greater number. Leave the line NUMBER out, and a right one is put in. "
           "SHOW tells what stands.",
-    "L4": "You have used that number for another letter. Leave the line NUMBER out, and a right one "
+    "L4": "You have used that number for another letter. Leave the line NUMBER out, and a right "
+    "one "
           "is put in.",
     "L5": "The letter is too long: send two.",
     "L6": "You have sent as many press letters as a game allows.",

@@ -18,8 +18,8 @@ MOST_BYTES = 1_048_576
 MOST_CONTAINERS = 30   # parts that hold parts: more is no mail that somebody wrote
 MOST_PARTS = 200
 CONTAINER = re.compile(rb"(?i)content-type:\s*(?:multipart|message)/")
-TEXT_CHARSETS = re.compile(r"(?i)(utf|us-?ascii|ascii|iso|latin|windows|cp|koi8|mac|gb|big5|euc|shift|"
-                           r"hz|ks_c|tis)[\w.:-]*\Z")
+TEXT_CHARSETS = re.compile(r"(?i)(utf|us-?ascii|ascii|iso|latin|windows|cp|koi8|mac|gb|big5|euc|"
+                           r"shift|hz|ks_c|tis)[\w.:-]*\Z")
 
 
 @dataclass
@@ -89,7 +89,8 @@ def text_in(part: email.message.Message) -> str:
     return text.replace("\r\n", "\n").replace("\r", "\n")
 
 
-KNOWN_ENCODINGS = {"", "7bit", "8bit", "binary", "quoted-printable", "base64", "x-uuencode", "uuencode",
+KNOWN_ENCODINGS = {"", "7bit", "8bit", "binary", "quoted-printable", "base64", "x-uuencode",
+                   "uuencode",
                    "x-uue", "uue"}
 
 
@@ -130,7 +131,8 @@ def flowed(text: str, takes_space: bool) -> str:
     for line in text.split("\n"):
         depth, words = depth_and_text(line)
         first = len(words.split(" ")[0])
-        if is_open and out[-1][0] == depth and out[-1][2] + first >= SHORTEST_WRAPPED and words != "-- ":
+        is_long = is_open and out[-1][2] + first >= SHORTEST_WRAPPED
+        if is_long and out[-1][0] == depth and words != "-- ":
             before = out[-1][1][:-1] if takes_space else out[-1][1]
             out[-1][1:] = [before + words, len(words)]
         else:

@@ -19,9 +19,8 @@ def arguments(parser) -> None:
     parser.add_argument("--late", metavar="GAME",
                         help="plays this game, though its deadline is more than a period ago")
     parser.epilog = ("Run it each minute by cron or a timer. Status 0: all is done. 1: a game "
-                     "could not "
-                     "be played or a mail not be sent, as standard error says. 75: the judge is "
-                     "away.")
+                     "could not be played or a mail not be sent, as standard error says. 75: the "
+                     "judge is away.")
 
 
 def run(options, settings: Settings) -> int:
@@ -92,9 +91,8 @@ def played(settings: Settings, game: str, may_be_late: bool) -> bool:
 def guard_late(game: str, state: dict, may_be_late: bool) -> None:
     if minute_now() > state["due"] + state["period"] and not may_be_late:
         raise Refused(f"it was not played, since its deadline, {time_of_tick(state['due'])}, is "
-                      "more "
-                      "than a period ago. Look whether the clock is right and whether the players "
-                      f"know. To play it all the same: vettonugal tick --late {game}")
+                      "more than a period ago. Look whether the clock is right and whether the "
+                      f"players know. To play it all the same: vettonugal tick --late {game}")
 
 
 def tick_for(state: dict) -> int:
@@ -118,25 +116,32 @@ def papers_seen(settings: Settings, game: str, count: int) -> dict:
     return seen
 
 
+def readers(settings: Settings, game: str) -> list:
+    """The addresses of a game's players, each once."""
+    return sorted({row[2] for row in keeping.addresses(settings) if row[0] == game})
+
+
 def papers_mailed(settings: Settings, game: str, seen: dict, count: int) -> int:
     """Mails each paper to each address that hasn't got it; 1 where one couldn't be mailed."""
     path = settings.state / "papers" / f"{game}.json"
     if seen["all"] >= count:
         return 0
+    papers = {number: paper(settings, game, number) for number in range(seen["all"] + 1, count + 1)}
     is_all_sent = True
-    texts = {}
-    for address in sorted({row[2] for row in keeping.addresses(settings) if row[0] == game}):
+    told = readers(settings, game)
+    for address in told:
         for number in range(max(seen["to"].get(address, 0), seen["all"]) + 1, count + 1):
-            text = texts.setdefault(number, paper(settings, game, number))
-            if text is None or not mailed(settings, address, game, text):
+            if papers[number] is None or not mailed(settings, address, game, papers[number]):
                 complain(f"{game}: paper {number} could not be mailed to {address}")
                 is_all_sent = False
                 break
             seen["to"][address] = number
             keeping.write_json(path, seen)
-    if is_all_sent:
+    if not is_all_sent:
+        return 1
+    if readers(settings, game) == told:   # else somebody wrote just now: he is told the next time
         keeping.write_json(path, {"all": count, "to": {}})
-    return 0 if is_all_sent else 1
+    return 0
 
 
 def mailed(settings: Settings, address: str, game: str, text: str) -> bool:

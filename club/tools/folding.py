@@ -1,5 +1,6 @@
 """Any text as the printable ASCII that the judge reads."""
 import re
+import textwrap
 import unicodedata
 
 SPELLED = {"ä": "ae", "ö": "oe", "ü": "ue", "Ä": "Ae", "Ö": "Oe", "Ü": "Ue", "ß": "ss", "ẞ": "SS",
@@ -29,3 +30,9 @@ def folded(text: str) -> str:
 def one_line(text: str, most: int = 200) -> str:
     """A text that can stand in a header or in a log."""
     return " ".join(folded(text).split())[:most]
+
+
+def paragraph(text: str, indent: str = "") -> str:
+    """Prose in lines of at most 76 characters. A long word, as an address, stays whole."""
+    return textwrap.fill(text, 76, initial_indent=indent, subsequent_indent=indent,
+                         break_long_words=False, break_on_hyphens=False)

@@ -21,7 +21,7 @@ import keeping
 import letters
 import mailing
 import texts
-from folding import one_line
+from folding import one_line, paragraph
 from judge import Away, Reply, letter_text, post
 from refusals import HELP, explained
 from settings import Settings, now
@@ -34,22 +34,21 @@ OLDEST_DATE = 8 * DAY
 SECONDS_FOR_READING = 20
 ABOUT_TIME = {"ORDERS": "orders", "WITHDRAW": "orders", "VOTE": "vote"}
 OVERTAKEN = ("It was not handed in. A newer mail of yours has come before this one, and this "
-             "letter\n"
-             "would undo what that one says. If you want it all the same, send it again now.")
+             "letter would undo what that one says. If you want it all the same, send it again "
+             "now.")
 EARLIER = ("The mail system delivered your mail twice. This letter was taken the first time, and "
-           "newer\n"
-           "letters of yours came after it, so it was not handed in again. SHOW tells what stands.")
-UNSURE = ("Your mail or this letter was delivered twice, and newer letters of yours came in "
-          "between.\n"
-          "Whether it was taken the first time can't be told, so it was not handed in again. SHOW "
-          "tells\n"
-          "what stands; if that isn't what you want, send the letter in a new mail.")
+           "newer letters of yours came after it, so it was not handed in again. SHOW tells what "
+           "stands.")
+UNSURE = ("This letter was delivered twice, and newer letters of yours came in between. Whether it "
+          "was taken the first time can't be told, so it was not handed in again. SHOW tells what "
+          "stands; if that isn't what you want, send the letter in a new mail.")
+PRESS_NOTICE = ("There is new press for {power} in game {game}. To read it, send a letter with the "
+                "command INBOX 1, or with a greater number for the later items alone.")
 
 
 def arguments(parser) -> None:
     parser.epilog = ("For maildrop, procmail or .forward. Status 0: done. Status 75: the judge or "
-                     "the "
-                     "mail system is away; deliver the mail again later.")
+                     "the mail system is away; deliver the mail again later.")
 
 
 def run(_options, settings: Settings) -> int:
@@ -74,8 +73,7 @@ def taken_in(settings: Settings, stream) -> int:
     while True:
         wait_until_quiet(settings, spool, wait_since)
         with keeping.locked(settings.state / "mail.lock"):
-            if not is_quiet(settings,
-                            spool) and time.monotonic() - wait_since < 5 * settings.settle:
+            if not is_quiet(settings, spool) and may_wait(settings, wait_since):
                 continue
             if mail.exists() and not outcome_of(mail).exists():
                 hand_in_all(settings, spool)
@@ -91,8 +89,13 @@ def is_quiet(settings: Settings, spool: Path) -> bool:
     return time.time() - newest >= settings.settle
 
 
+def may_wait(settings: Settings, since: float) -> bool:
+    """Mails that come without a pause must not keep each other waiting for ever."""
+    return time.monotonic() - since < 5 * settings.settle
+
+
 def wait_until_quiet(settings: Settings, spool: Path, since: float) -> None:
-    while not is_quiet(settings, spool) and time.monotonic() - since < 5 * settings.settle:
+    while not is_quiet(settings, spool) and may_wait(settings, since):
         time.sleep(min(0.1, settings.settle / 5))
 
 
@@ -172,8 +175,7 @@ class Contents:
         self.unread: List[str] = []
         self.problem = ""
         if len(data) > texts.MOST_BYTES:
-            self.problem = ("Your mail has more than a million characters: send less, without "
-                            "pictures.")
+            self.problem = "Your mail has more than a million characters: send less."
             return
         try:
             with bounded(SECONDS_FOR_READING):
@@ -258,14 +260,15 @@ class Mail:
         """What the answer says of one letter."""
         if isinstance(found, letters.Fault):
             self.log.append("a faulty letter")
-            return f"Letter {at + 1} was not handed in: {found.reason}.\n"
-        lines = [f"Letter {at + 1}, game {found.game}, {found.power}:", *found.notes]
+            return paragraph(f"Letter {at + 1} was not handed in: {found.reason}.") + "\n"
+        lines = [f"Letter {at + 1}, game {found.game}, {found.power}:",
+                 *(paragraph(note) for note in found.notes)]
         slot = self.record["letters"].setdefault(str(at), {})
         reply, remark = self.handed_in(found, slot)
         seat = f"{found.game} {found.power}"
         if reply is None:
             self.log.append(f"{seat} not handed in")
-            return "\n".join([*lines, remark, ""])
+            return "\n".join([*lines, paragraph(remark), ""])
         self.log.append(f"{seat} {slot.get('number', '')} {reply.refusal() or 'taken'}")
         if reply.knows_author():
             self.author_known(found, slot, reply)
@@ -394,10 +397,7 @@ class Mail:
                 if game != letter.game or power == letter.power or not is_reader \
                         or power in slot.get("noticed", []):
                     continue
-                text = (f"There is new press for {power} in game {game}. To read it, send a "
-                        "letter with\n"
-                        "the command INBOX 1, or with a greater number for the later items "
-                        "alone.\n")
+                text = paragraph(PRESS_NOTICE.format(power=power, game=game)) + "\n"
                 if mailing.send(self.settings, address, f"[{game}] press for {power}", text):
                     slot.setdefault("noticed", []).append(power)
                     self.save()

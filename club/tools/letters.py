@@ -277,8 +277,8 @@ def fault_of_head(values: dict) -> str:
         if word not in values:
             return f"the line {word} is missing"
     if not GAME.fullmatch(values["GAME"].rstrip(".").lower()):
-        return ("the line GAME has no name of a game: a letter first, then letters and digits, "
-                "16 at most")
+        return ("the line GAME has no name of a game: a letter first, then letters and digits, 16 "
+                "at most")
     if not POWER.fullmatch(values["FROM"].rstrip(".").lower()):
         return "the line FROM has no name of a power: letters alone, 16 at most"
     if not SECRET.fullmatch(values["SECRET"]):
@@ -337,8 +337,8 @@ def command_of_press(rest: str, power: str) -> tuple:
     found = re.fullmatch(r"(?i)(WHITE|GREY|GRAY)\s+TO\s*:?\s+(.*)", rest)
     names = names_in(found[2]) if found else []
     if not 1 <= len(names) <= 7 or not all(POWER.fullmatch(name) for name in names):
-        return "", ("the line PRESS must say WHITE TO or GREY TO, then one to seven powers, "
-                    "as in: PRESS WHITE TO france italy")
+        return "", ("the line PRESS must say WHITE TO or GREY TO, then one to seven powers, as in: "
+                    "PRESS WHITE TO france italy")
     if len(set(names)) < len(names) or power in names or ("all" in names and len(names) > 1):
         return "", "the line PRESS names you, or a power twice, or others beside all"
     colour = "WHITE" if found[1].upper() == "WHITE" else "GREY"

@@ -49,8 +49,8 @@ def sent_by_master(settings: Settings, game: str, lines: List[str]) -> Reply:
             break
         if reply.refusal() == "L3" and not reply.is_sure:
             raise Refused("The letter may have acted, but its reply was lost, and a newer letter "
-                          "of "
-                          "the master's came after it. Look at the game before you send it again.")
+                          "of the master's came after it. Look at the game before you send it "
+                          "again.")
         number = last + 1
     if reply.knows_author():
         keeping.write_text(path, f"{number}\n")
@@ -67,10 +67,8 @@ def guard_due(due: int, may_be_past: bool) -> None:
     """A game whose first due tick is over would be played at once, with nobody's orders."""
     if due <= minute_now() and not may_be_past:
         raise Refused(f"The first deadline, {time_of_tick(due)}, is in the past: the first phase "
-                      "would "
-                      "be played at once. Nothing was sent. A due tick counts minutes since 1970; "
-                      "now "
-                      f"it is {minute_now()}. With --past it is sent all the same.")
+                      "would be played at once. Nothing was sent. A due tick counts minutes since "
+                      f"1970; now it is {minute_now()}. With --past it is sent all the same.")
 
 
 def guard_clock(settings: Settings) -> None:
@@ -80,8 +78,7 @@ def guard_clock(settings: Settings) -> None:
     if minute_now() < last:
         raise Refused(f"The clock reads {time_of_tick(minute_now())}, and at the last tick it read "
                       f"{time_of_tick(last)}. Nothing was sent. Set the clock right. If it is "
-                      "right, "
-                      f"remove the file {settings.state / 'tick.last'}.")
+                      f"right, remove the file {settings.state / 'tick.last'}.")
 
 
 def clock_noted(settings: Settings) -> None:
@@ -96,8 +93,7 @@ def guard_tick(settings: Settings, game: str, tick: int, may_be_late: bool) -> N
         raise Refused(f"There is no game {game}.")
     if tick > max(minute_now(), state["due"]):
         raise Refused(f"TICK {tick} is in the future ({time_of_tick(tick)}): the next deadline "
-                      "would "
-                      f"come after that. Nothing was sent. Now it is {minute_now()}.")
+                      f"would come after that. Nothing was sent. Now it is {minute_now()}.")
     if tick > state["due"] + state["period"] and not may_be_late:
         raise Refused(f"TICK {tick} is more than a period after the deadline of {game}, "
                       f"{time_of_tick(state['due'])}. Nothing was sent. With --late it is sent all "
@@ -120,27 +116,31 @@ def guarded(settings: Settings, game: str, command: str, options) -> None:
 def arguments_of_master(parser) -> None:
     parser.add_argument("game", help="the game's name")
     parser.add_argument("command", nargs="+", metavar="COMMAND",
-                        help="as PAUSE, RESUME, PERIOD 1440, "
-                        "ANNOUNCE, REPLACE england, TICK 29910080, CLOSE, or CREATE with its words")
+                        help="as PAUSE, RESUME, PERIOD 1440, ANNOUNCE, REPLACE england, TICK "
+                             "29910080, CLOSE, or CREATE with its words")
     parser.add_argument("--past", action="store_true",
                         help="CREATE also with a deadline in the past")
     parser.add_argument("--late", action="store_true", help="TICK also more than a period late")
     parser.epilog = ("The lines of ANNOUNCE and the SEAT lines of CREATE are read from standard "
-                     "input. "
-                     "REPLACE without a secret makes one and prints it once; a secret that you "
-                     "write "
-                     "into the command can be seen by others of this machine while it runs.")
+                     "input. REPLACE without a secret makes one and prints it once; a secret that "
+                     "you write into the command can be seen by others of this machine while it "
+                     "runs.")
 
 
 def body_for(command: str) -> list:
     """The lines that belong to a command, from standard input."""
-    if command.split(" ")[0] not in ("ANNOUNCE",
-                                     "CREATE") or sys.stdin is None or sys.stdin.isatty():
+    word = command.split(" ")[0]
+    if word not in ("ANNOUNCE", "CREATE"):
         return []
-    text = folded(sys.stdin.buffer.read(1_000_000).decode("utf-8", "replace"))
-    lines = [line.rstrip() for line in text.split("\n")]
-    if command.startswith("CREATE") and text.strip():
-        return [" ".join(line.split()) for line in lines if line.strip()]
+    is_given = sys.stdin is not None and not sys.stdin.isatty()
+    given = sys.stdin.buffer.read(1_000_000) if is_given else b""
+    lines = [line.rstrip() for line in folded(given.decode("utf-8", "replace")).split("\n")]
+    if word == "CREATE":
+        seats = [" ".join(line.split()) for line in lines if line.strip()]
+        if not seats:
+            raise Refused("CREATE wants a line SEAT, power and secret, for each power on standard "
+                          "input. Nothing was sent. `vettonugal create` makes the secrets itself.")
+        return seats
     texts = letters.wrapped(letters.press_lines(lines))
     if not 1 <= len(texts) <= letters.MOST_PRESS:
         raise Refused("ANNOUNCE wants 1 to 80 lines of text on standard input. Nothing was sent.")
@@ -162,9 +162,9 @@ def command_line(words: List[str]) -> tuple:
 def run_master(options, settings: Settings) -> int:
     game = options.game
     command, secret = command_line(options.command)
-    body = body_for(command)
     with master_lock(settings):
         guarded(settings, game, command, options)
+        body = body_for(command)
         if command.startswith("REPLACE "):
             forget_seat(settings, game, command.split(" ")[1])
         if command.startswith("CREATE"):
@@ -256,8 +256,7 @@ def receivers_of(pairs: List[str], powers: List[str]) -> dict:
         power, _, address = pair.partition("=")
         if power not in powers or power in found or not mailing.is_address(address):
             raise Refused(f"--send {pair}: write a power of the game and an address, each power "
-                          "once, "
-                          "as in england=ann@example.org")
+                          "once, as in england=ann@example.org")
         found[power] = address
     return found
 
@@ -265,8 +264,7 @@ def receivers_of(pairs: List[str], powers: List[str]) -> dict:
 def run_create(options, settings: Settings) -> int:
     if not letters.GAME.fullmatch(options.game):
         raise Refused(f"'{options.game}' is no name of a game: a small letter first, then letters "
-                      "and "
-                      "digits, 16 at most")
+                      "and digits, 16 at most")
     due, period = tick_of(options.deadline), period_of(options.every)
     powers = powers_of(options.powers)
     send_to = receivers_of([pair for pairs in options.send for pair in pairs], powers)
@@ -281,9 +279,8 @@ def run_create(options, settings: Settings) -> int:
         try:
             reply = opened(settings, options.game, command, seats)
         except Away:
-            print(f"The judge gave no answer. Whether {options.game} is open can't be told. "
-                  "Create it "
-                  "again later; if the name is taken then (L11), give each seat a new secret by "
+            print(f"The judge gave no answer. Whether {options.game} is open can't be told. Create "
+                  "it again later; if the name is taken then (L11), give each seat a new secret by "
                   f"`vettonugal master {options.game} REPLACE england` and so on.", file=sys.stderr)
             return AGAIN
     sys.stdout.write(reply.text)

@@ -2,9 +2,11 @@
 import re
 from typing import List
 
+from folding import paragraph
+
 ORDERS = {
-    "O1": "Write it as in these: A par H, A par - bur, F mao - spa/nc, A gas S A par - bur, "
-          "F nth C A lon - bel, A mun R boh, A mun D, BUILD F stp/nc, REMOVE A par.",
+    "O1": "Write it as in these: A par H, A par - bur, F mao - spa/nc, A gas S A par - bur, F nth "
+          "C A lon - bel, A mun R boh, A mun D, BUILD F stp/nc, REMOVE A par.",
     "O2": "A province has a code of three letters; the player's page lists them.",
     "O3": "You have no unit there. SHOW lists your units; in a retreat it must have a *.",
     "O4": "The unit there is of the other kind: an army is A, a fleet is F. A fleet takes no VIA, "
@@ -17,10 +19,10 @@ ORDERS = {
     "O10": "No chain of fleets in seas could carry the army, or your fleet isn't in a sea.",
     "O11": "Moves are for a phase that ends with M, retreats for R, builds and removals for A.",
     "O12": "It is no home centre of yours, you don't own it, or a unit is there.",
-    "O13": "As many as you may have are ordered already, or you may have none of that kind. "
-           "Send WITHDRAW, then your orders anew.",
+    "O13": "As many as you may have are ordered already, or you may have none of that kind. Send "
+           "WITHDRAW, then your orders anew.",
     "O14": "Somebody is there, the attacker came from there, a standoff was there, or it is too "
-    "far.",
+           "far.",
 }
 LETTERS = {
     "L1": "A power is named that this game doesn't have, or one is named twice, or you yourself.",
@@ -30,8 +32,7 @@ LETTERS = {
     "L3": "You have used a greater number. Leave the line NUMBER out, and a right one is put in. "
           "SHOW tells what stands.",
     "L4": "You have used that number for another letter. Leave the line NUMBER out, and a right "
-    "one "
-          "is put in.",
+          "one is put in.",
     "L5": "The letter is too long: send two.",
     "L6": "You have sent as many press letters as a game allows.",
     "L7": "This game has no grey press. Send it as PRESS WHITE, if you want.",
@@ -52,7 +53,7 @@ def explained(reply_lines: List[str], body: List[str]) -> list:
         found = order or re.match(r"(L\d+) ", line)
         words = {**ORDERS, **LETTERS}.get(found[1]) if found else None
         if words and found[1] not in told:
-            out.append(f"    {words}")
+            out.append(paragraph(words, "    "))
             told.add(found[1])
     return out
 

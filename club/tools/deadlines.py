@@ -8,7 +8,7 @@ import keeping
 import mailing
 from judge import Away, game_state, paper
 from master import AGAIN, Refused, clock_noted, guard_clock, master_lock, sent_by_master
-from settings import Settings, minute_now, time_of_tick
+from settings import Settings, deadline_in, minute_now, time_of_tick
 
 # A game that is played late by at most this part of its period keeps its deadlines as they were.
 # One that is played later gets a full period from now on.
@@ -147,13 +147,5 @@ def papers_mailed(settings: Settings, game: str, seen: dict, count: int) -> int:
 def mailed(settings: Settings, address: str, game: str, text: str) -> bool:
     words = text.split("\n")[0].split(" ")   # PAPER 3 S1901M
     subject = f"[{game}] paper {words[1]}: {words[2]}"
-    return mailing.send(settings, address, subject, f"{text}{next_deadline(text)}")
-
-
-def next_deadline(text: str) -> str:
-    """When the game of a paper is due, in words."""
-    for line in text.split("\n"):
-        words = line.split(" ")
-        if words[0] == "GAME" and len(words) > 4 and words[3:5] == ["running", "DUE"]:
-            return f"\nThe next deadline is {time_of_tick(int(words[5]))}.\n"
-    return ""
+    deadline = "".join(map(deadline_in, text.split("\n")))
+    return mailing.send(settings, address, subject, f"{text}\n{deadline}\n" if deadline else text)

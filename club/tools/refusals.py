@@ -3,6 +3,7 @@ import re
 from typing import List
 
 from folding import paragraph
+from settings import deadline_in
 
 ORDERS = {
     "O1": "Write it as in these: A par H, A par - bur, F mao - spa/nc, A gas S A par - bur, F nth "
@@ -51,6 +52,8 @@ def explained(reply_lines: List[str], body: List[str]) -> list:
         if order and 1 <= int(order[2]) <= len(body):
             out.append(f"    Your line {order[2]}: {body[int(order[2]) - 1]}")
         found = order or re.match(r"(L\d+) ", line)
+        if deadline_in(line):
+            out.append(paragraph(deadline_in(line), "    "))
         words = {**ORDERS, **LETTERS}.get(found[1]) if found else None
         if words and found[1] not in told:
             out.append(paragraph(words, "    "))

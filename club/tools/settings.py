@@ -71,6 +71,14 @@ def minute_now() -> int:
     return int(now() // 60)
 
 
+def deadline_in(line: str) -> str:
+    """What a game line (GAME g1 S1901M running DUE 29910080 ..) says of the deadline, in words."""
+    words = line.split(" ")
+    if words[0] == "GAME" and words[3:5] == ["running", "DUE"] and words[5].isdigit():
+        return f"The next deadline is {time_of_tick(int(words[5]))}."
+    return ""
+
+
 def time_of_tick(tick: int) -> str:
     """A tick in words, in the machine's time zone."""
     try:

@@ -8,7 +8,6 @@ import email.policy
 import email.utils
 import html
 import re
-import urllib.parse
 from dataclasses import dataclass, field
 from typing import List, Optional
 

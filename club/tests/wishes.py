@@ -256,6 +256,8 @@ SINGLE = [
         f"<div>Did it arrive?</div><blockquote>{'<br>'.join(OLD)}</blockquote>\n"), []),
     ("a blockquote with an end tag too many", only_html(
         f"<div>Hm?<blockquote>Hello</div>{'<br>'.join(OLD)}</blockquote></div>\n"), []),
+    ("the end of a blockquote that never began", only_html(
+        f"<div>Hm?</div><div>{'<br>'.join(OLD)}</div></blockquote></div>\n"), []),
     ("a letter below a blockquote", only_html(
         f"<blockquote>{'<br>'.join(OLD)}</blockquote><div>{'<br>'.join(letter('SHOW'))}</div>\n"),
      [f"{E}\nSHOW"]),

@@ -179,6 +179,7 @@ class Page:
         self.line: List[str] = []
         self.stack: List[tuple] = [("", False, False, 0)]   # name, hidden, kept spaces, quoted
         self.rest_is_quoted = False
+        self.is_sound = True   # not where a quotation ends that never began
 
     def end_line(self, is_break: bool = False) -> None:
         text = "".join(self.line)
@@ -231,9 +232,10 @@ class Page:
                 return
             if self.stack[-back][3] > self.stack[-back - 1][3]:
                 return  # a tag that closes nothing within a quotation doesn't end the quotation
+        self.is_sound = self.is_sound and name != "blockquote"
 
 
-def lines_of_html(text: str) -> str:
+def page_of(text: str) -> Page:
     page, at = Page(), 0
     text = without_comments(text)
     for tag in TAG.finditer(text):
@@ -245,7 +247,7 @@ def lines_of_html(text: str) -> str:
             page.open(tag[2].lower(), tag[3][:2000])
     page.add(text[at:])
     page.end_line()
-    return "\n".join(page.lines) + "\n"
+    return page
 
 
 # Parts
@@ -265,7 +267,7 @@ def without_dashes(text: str) -> str:
 def part_text(part: email.message.Message) -> str:
     text = text_in(part)
     if part.get_content_type() == "text/html":
-        return folded(lines_of_html(text))
+        return folded("\n".join(page_of(text).lines) + "\n")
     if parameter(part, "format") == "flowed":
         return folded(flowed(text, parameter(part, "delsp") == "yes"))
     return without_dashes(folded(text))
@@ -322,6 +324,8 @@ def gather(part: email.message.Message, into: MailText) -> None:
             into.unread.append("an attachment")
     elif "attachment" in str(part.get("Content-Disposition", "")).lower()[:40]:
         into.unread.append("an attachment")
+    elif kind == "text/html" and not page_of(text_in(part)).is_sound:
+        into.unread.append("a part whose quotations are broken")
     elif is_left_encoded(part):
         into.unread.append("a part whose encoding isn't known")
     elif len(into.texts) < MOST_PARTS:

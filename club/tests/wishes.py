@@ -267,6 +267,12 @@ SINGLE = [
     ("the secret in the subject", plain(*letter("SHOW"), Subject="eeeeeeee is my secret"),
      [f"{E}\nSHOW"]),
     ("the secret as a command", plain(*letter("eeeeeeee please")), ["told: \"eeeeeeee please\""]),
+    ("a letter in the subject", plain(
+        "", Subject="LETTER GAME g1 FROM england SECRET eeeeeeee SHOW END"), []),
+    ("the secret at the end of a long subject", plain(
+        *letter("SHOW"), Subject="y" * 93 + " eeeeeeee and more"), [f"{E}\nSHOW"]),
+    ("the secret at the end of a long line", plain(*letter("y" * 77 + " eeeeeeee")),
+     ["told: where a command should"]),
     ("the secret below SHOW", plain(*letter("SHOW", "eeeeeeee")), ["told: stands where END"]),
     ("lines in the subject", plain(*letter("SHOW"),
                                    Subject="=?utf-8?q?a=0D=0ABcc:_x=40y.example=0A=0Ahi?="),

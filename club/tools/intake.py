@@ -351,11 +351,13 @@ class Mail:
         if not self.may_be_told("answers", HOUR, MOST_ANSWERS):
             self.log.append("no answer: too many in an hour")
             return True
-        subject = one_line(texts.header(self.head, "Subject"), 100)
-        subject = subject if subject.lower().startswith("re:") else f"Re: {subject}"
         secrets = secrets or []
-        return mailing.send(self.settings, self.sender, mailing.without(subject, secrets),
-                            mailing.without(body, secrets), "auto-replied", self.head)
+        # Secrets are taken out before the subject is cut: a part of one must not stay.
+        subject = mailing.without(one_line(texts.header(self.head, "Subject"), 2000), secrets)
+        subject = re.sub(r"(?i)\bsecret\W+\S+", "SECRET ********", subject)[:100]
+        subject = subject if subject.lower().startswith("re:") else f"Re: {subject}"
+        return mailing.send(self.settings, self.sender, subject, mailing.without(body, secrets),
+                            "auto-replied", self.head)
 
     def may_be_told(self, what: str, seconds: float, most: int) -> bool:
         told = keeping.json_of(self.settings.state / "told.json").get(self.sender, {})

@@ -297,6 +297,16 @@ def fault_of_size(letter: Letter) -> str:
     return "it is longer than 16,384 characters: send two letters" if size > MOST_BYTES else ""
 
 
+def beginning(line: str) -> str:
+    """The first words of a line, for quoting. No word is cut: a part of a secret must not stay."""
+    out = ""
+    for word in line.split():
+        if len(out) + len(word) > 80:
+            return f"{out}..."
+        out += f"{word} "
+    return out.rstrip()
+
+
 def names_in(text: str) -> list:
     """The powers that a line names, whatever stands between them."""
     return [name for name in re.split(r"[\s,;&]+|\band\b", text.lower().rstrip(". ")) if name]
@@ -310,7 +320,7 @@ def command_of(line: str, power: str) -> tuple:
     if first in MASTERS:
         return "", f"{first} is a command of the master, not of a player"
     if first not in PLAYERS:
-        return "", (f"the line \"{' '.join(words)[:80]}\" stands where a command should: ORDERS, "
+        return "", (f"the line \"{beginning(line)}\" stands where a command should: ORDERS, "
                     "WITHDRAW, PRESS, VOTE, SHOW or INBOX")
     if first in ("ORDERS", "WITHDRAW", "SHOW"):
         return (first, "") if not rest.strip(".:") else ("", f"{first} stands alone on its line")
@@ -356,7 +366,7 @@ def fill_lines(letter: Letter, lines: List[str], has_end: bool) -> str:
     told = [line for line in lines if line.strip()]
     if letter.kind() != "ORDERS":
         if told:
-            return f"the line \"{' '.join(told[0].split())[:80]}\" stands where END should"
+            return f"the line \"{beginning(told[0])}\" stands where END should"
         return ""
     if not told:
         return "no order stands below ORDERS"
@@ -366,8 +376,8 @@ def fill_lines(letter: Letter, lines: List[str], has_end: bool) -> str:
         return "a line with your secret stands among the orders: END is missing above it"
     gap = gap_without_end(lines)
     if not has_end and gap:
-        return (f"it has no line END, and \"{gap[:60]}\" may be no order: put END below the last "
-                "order")
+        return (f"it has no line END, and \"{beginning(gap)}\" may be no order: put END below the "
+                "last order")
     letter.body = [order_line(line) for line in told]
     if len(letter.body) > MOST_ORDERS:
         return f"it has {len(letter.body)} orders, and 64 are the most: send two letters"

@@ -354,7 +354,7 @@ class Mail:
         secrets = secrets or []
         # Secrets are taken out before the subject is cut: a part of one must not stay.
         subject = mailing.without(one_line(texts.header(self.head, "Subject"), 2000), secrets)
-        subject = re.sub(r"(?i)\bsecret\W+\S+", "SECRET ********", subject)[:100]
+        subject = re.sub(r"(?i)secret\W+\S+", "SECRET ********", subject)[:100]
         subject = subject if subject.lower().startswith("re:") else f"Re: {subject}"
         return mailing.send(self.settings, self.sender, subject, mailing.without(body, secrets),
                             "auto-replied", self.head)

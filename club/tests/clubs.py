@@ -154,7 +154,7 @@ class Club:
         self.said += done.stdout + done.stderr
         return done
 
-    def killed(self, at: int, *words, given: bytes = b"") -> int:
+    def killed(self, at, *words, given: bytes = b"") -> int:
         """Kills the tool at a step; the number of its steps where it came to its end before."""
         count = f"{self.folder}/steps"
         if os.path.exists(count):

@@ -1,4 +1,5 @@
-"""Runs the tool and kills it after its KILL_AT-th step: a write, a removal, a request or a mail.
+"""Runs the tool and kills it after its KILL_AT-th step: a write, a removal, a request or a mail;
+or, where KILL_AT is `post`, after the first letter that isn't an inquiry for a number.
 
 Writes the number of steps to KILL_COUNT when the tool comes to its end."""
 import atexit
@@ -14,15 +15,22 @@ TOOLS = os.environ.get("VETTONUGAL_TOOLS") or os.path.join(HERE, "..", "tools")
 sys.path.insert(0, TOOLS)
 import judge  # noqa: E402
 
-AT = int(os.environ["KILL_AT"])
+AT = os.environ["KILL_AT"]
 steps = 0
 
 
 def step() -> None:
     global steps
     steps += 1
-    if steps == AT:
+    if str(steps) == AT:
         os.kill(os.getpid(), signal.SIGKILL)
+
+
+def asked_once(settings, method, path, body=None, ask=judge.asked):
+    result = ask(settings, method, path, body)
+    if AT == "post" and method == "POST" and b"INBOX 999999" not in body:
+        os.kill(os.getpid(), signal.SIGKILL)
+    return result
 
 
 def stepped(function):
@@ -41,5 +49,5 @@ def tell() -> None:
 
 
 os.replace, os.unlink = stepped(os.replace), stepped(os.unlink)
-subprocess.run, judge.asked = stepped(subprocess.run), stepped(judge.asked)
+subprocess.run, judge.asked = stepped(subprocess.run), stepped(asked_once)
 runpy.run_path(os.path.join(TOOLS, "vettonugal"), run_name="__main__")

@@ -71,11 +71,14 @@ class Site:
     """nginx with the club's site, as the package has it but for its paths, ports and limits."""
 
     def __init__(self, folder, port, judges, limits):
-        """Of each name one club, whose judge serves on its port; of each limit its new value."""
+        """Of each name one club, whose judge serves on its port; `limits` gives of a name what else
+        of its site is replaced by what."""
         self.folder = str(folder)
         os.makedirs(f"{folder}/log", exist_ok=True)
         os.makedirs(f"{folder}/public", exist_ok=True)
-        sites = "\n".join(self.site(port, name, judge, limits) for name, judge in judges.items())
+        sites = "\n".join(self.site(name, judge, limits) for name, judge in judges.items())
+        sites = sites.replace("listen 80;", f"listen 127.0.0.1:{port} backlog=4096;", 1)
+        sites = sites.replace("listen 80;", f"listen 127.0.0.1:{port};")
         kinds = ("client_body", "proxy", "fastcgi", "uwsgi", "scgi")
         paths = "".join(f"{it}_temp_path {folder}/log/{it};\n" for it in kinds)
         pathlib.Path(folder, "nginx.conf").write_text(
@@ -87,7 +90,7 @@ class Site:
         )
         self.nginx()
 
-    def site(self, port, name, judge, limits):
+    def site(self, name, judge, limits):
         """The site of one club. Each has zones and a judge of its own."""
         text = (CLUB / "nginx/vettonugal").read_text(encoding="ascii")
         changes = {
@@ -97,14 +100,14 @@ class Site:
             "/var/log/nginx": f"{self.folder}/log",
             "judge.club.example": name,
             "vettonugal_": f"{name.split('.')[0]}_",
-            **limits,
+            **limits(name),
         }
         for old, new in changes.items():
             if old not in text:
                 raise SystemExit(f"the site has no {old}")
             text = text.replace(old, new)
         text = re.sub(r"(?m)^ *listen \[::\]:80;\n", "", text)
-        return text.replace("listen 80;", f"listen 127.0.0.1:{port} backlog=4096;", 1)
+        return re.sub(r"(?m)^#.*\n", "", text)
 
     def nginx(self, *words):
         command = ["nginx", "-p", self.folder, "-c", f"{self.folder}/nginx.conf", *words]

@@ -11,6 +11,7 @@ mod noting;
 mod ordering;
 mod pressing;
 mod replacing;
+mod seat_orders;
 mod ticking;
 mod verdicts;
 mod voting;

@@ -41,7 +41,7 @@ fn is_running(status: &Status) -> bool
 }
 
 /// Whether a game's phase may be adjudicated at this tick.
-fn is_due(tick: u64, public: &Public) -> bool
+pub fn is_due(tick: u64, public: &Public) -> bool
     ensures { result ≡ t.is_due tick (rows.public public.now) }
 {
     is_running(&public.status) && public.due <= tick
@@ -70,7 +70,7 @@ fn due_after(tick: u64, due: u64, period: u32, course: Course) -> u64
 }
 
 /// The public part of a game behind a phase that came to this board.
-fn public_played(
+pub fn public_played(
     alloc: Global,
     tick: u64,
     public: Public,

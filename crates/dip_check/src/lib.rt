@@ -7,6 +7,7 @@ mod checking;
 mod differences;
 mod drawing;
 mod given;
+mod laws;
 mod notices;
 mod openings;
 mod phases;
@@ -17,5 +18,9 @@ mod verdict;
 mod words;
 
 pub use checking::check_paper;
+pub use laws::{
+    games_stay_right, movements_are_read_back, other_orders_are_read_back,
+    right_movements_are_decided, what_is_published_is_right,
+};
 pub use openings::check_opening;
 pub use verdict::{Fault, Verdict, Wanted};

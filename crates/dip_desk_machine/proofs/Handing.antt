@@ -23,7 +23,7 @@ use Rattle.dip_desk_machine.specs.Handing.{StandingOrdersAreGiven}
 use Rattle.dip_desk_machine.specs.Lawful.{AreAscending, IsLawfulGame, IsLawfulSeat}
 use Rattle.dip_desk_machine.specs.Ordering.{prov_of, orders_that_stand}
 use Rattle.dip_desk_state.specs.State.{Game, Part, power_in, whole_of}
-use Rattle.dip_desk_machine.specs.Ticking.{orders_of, orders_of_seats}
+use Rattle.dip_desk_machine.specs.Ticking.{by_power, orders_of, orders_of_seats}
 use Rattle.dip_desk_machine.proofs.Seeing.{both}
 
 -- what is found passes
@@ -244,8 +244,86 @@ given_in m g read l = record {
         (all_weaker (λ p. order_of m b (power_in o) s.pending.orders (order_text m p) ≡ Ok p) (IsGiven m b (power_in o) s.pending.orders) s.pending.orders
         (λ p is. (order_text m p, is)) s.pending.each))
 
+-- an element that is kept stands in the list
+kept_from : {A : Type 0} (test : A → Bool) (xs : List A) (x : A) → Contains (filter test xs) x → Contains xs x
+kept_from test [] x (k, low, at) = absurd (omega (arith, low))
+kept_from {A} test (y ∷ ys) x there = go (test y) (kept_from test ys x) there
+  where
+    further : Contains ys x → Contains (y ∷ ys) x
+    further (k, low, at) = (suc k, (omega (arith, low)), at)
+
+    go : (b : Bool) → (Contains (filter test ys) x → Contains ys x) → Contains (cond b (y ∷ filter test ys) (filter test ys)) x → Contains (y ∷ ys) x
+    go true more (zero, low, at) = (zero, (omega arith), at)
+    go true more (suc k, low, at) = further (more (k, (omega (arith, low)), at))
+    go false more there = further (more there)
+
+-- a power's orders among those of a power
+of_one : (q p : ℕ) (orders : List PlacedOrder) → (q == p) ≡ true → orders_of_power q (orders_of_power p orders) ≡ orders_of_power q orders
+of_one q p orders same = subst (λ (r : ℕ). orders_of_power q (orders_of_power r orders) ≡ orders_of_power q orders) (eqb-true q p same) (twice orders)
+  where
+    twice : (os : List PlacedOrder) → orders_of_power q (orders_of_power q os) ≡ orders_of_power q os
+    twice [] = refl
+    twice (o ∷ os) = elim (cases_Bool (o.unit.power == q)) [
+      | inl is ↦ rw is (rw is (ap (λ (ps : List PlacedOrder). o ∷ ps) (twice os)))
+      | inr other ↦ rw other (twice os)
+    ]
+
+of_another : (q p : ℕ) (orders : List PlacedOrder) → (q == p) ≡ false → orders_of_power q (orders_of_power p orders) ≡ []
+of_another q p [] differ = refl
+of_another q p (o ∷ os) differ = elim (cases_Bool (o.unit.power == p)) [
+  | inl is ↦
+      let his : (o.unit.power == q) ≡ false = grind (arith, eqb-true o.unit.power p is, differ) in
+      rw is (rw his (of_another q p os differ))
+  | inr other ↦ rw other (of_another q p os differ)
+]
+
+-- by power, from one on: a power's orders are all of its orders, or none
+module _ (orders : List PlacedOrder) where
+  abbrev from_power : (i n : ℕ) → List PlacedOrder
+  from_power i n = flat_map (λ p. orders_of_power p orders) (range_with_len i n)
+
+  none_before : (q i n : ℕ) → q < i → orders_of_power q (from_power i n) ≡ []
+  none_before q i zero low = refl
+  none_before q i (suc n) low =
+      filter-append (λ o. o.unit.power == q) (orders_of_power i orders) (from_power (i + 1) n)
+      ∙ ap (λ (ps : List PlacedOrder). ps ++ orders_of_power q (from_power (i + 1) n)) (of_another q i orders (grind (arith, low)))
+      ∙ none_before q (i + 1) n (omega (arith, low))
+
+  all_or_none : (P : List PlacedOrder → Type 0) (q i n : ℕ) → P [] → P (orders_of_power q orders) → P (orders_of_power q (from_power i n))
+  all_or_none P q i zero none all = none
+  all_or_none P q i (suc n) none all = go (q == i) refl (all_or_none P q (i + 1) n none all)
+    where
+      cut : orders_of_power q (from_power i (suc n)) ≡ orders_of_power q (orders_of_power i orders) ++ orders_of_power q (from_power (i + 1) n)
+      cut = filter-append (λ o. o.unit.power == q) (orders_of_power i orders) (from_power (i + 1) n)
+
+      go : (b : Bool) → (q == i) ≡ b → P (orders_of_power q (from_power (i + 1) n)) → P (orders_of_power q (from_power i (suc n)))
+      go true is more =
+          let here : q ≡ i = eqb-true q i is in
+          let one : orders_of_power q (from_power i (suc n)) ≡ orders_of_power q orders =
+          cut ∙ ap (λ (ps : List PlacedOrder). ps ++ orders_of_power q (from_power (i + 1) n)) (of_one q i orders is)
+          ∙ ap (λ (ps : List PlacedOrder). orders_of_power q orders ++ ps) (none_before q (i + 1) n (omega (arith, here)))
+          ∙ append-nil (orders_of_power q orders) in
+          subst P (sym one) all
+      go false other more =
+          let one : orders_of_power q (from_power i (suc n)) ≡ orders_of_power q (from_power (i + 1) n) =
+          cut ∙ ap (λ (ps : List PlacedOrder). ps ++ orders_of_power q (from_power (i + 1) n)) (of_another q i orders other) in
+          subst P (sym one) more
+
+-- orders that can be given beside one another can be so by power
+pub given_by_power : (m : Chart) (b : Position) (orders : List PlacedOrder) → AreGiven m b orders → AreGiven m b (by_power m orders)
+given_by_power m b orders given = record {
+  each = λ o here.
+      let q = o.unit.power in
+      all_or_none orders (λ own. Contains own o → IsGiven m b q own o) q 0 (length m.realms) (λ (k, low, at). absurd (omega (arith, low)))
+      (λ own. given.each o (kept_from (λ x. x.unit.power == q) orders o own))
+      (kept_in (λ x. x.unit.power == q) (by_power m orders) o here (same_number q));
+  apart = λ q. all_or_none orders (λ own. are_units_single (units_of own) ≡ true) q 0 (length m.realms) refl (given.apart q);
+}
+
 pub whole_given : (m : Chart) (g : Game) → AreRead m g.public.board → IsLawfulGame m g → AreGiven m g.public.board (orders_of m (whole_of g))
-whole_given m g read l = subst (AreGiven m g.public.board) (sym (whole_orders m g.public.board g.seats)) (given_in m g read l)
+whole_given m g read l =
+    given_by_power m g.public.board (orders_of_seats m g.public.board (map (λ s. s.own) g.seats))
+    (subst (AreGiven m g.public.board) (sym (whole_orders m g.public.board g.seats)) (given_in m g read l))
 
 pub all_given : (m : Chart) → ((b : Position) → IsOf m b → AreRead m b) → StandingOrdersAreGiven m
 all_given m read s l = all_weaker (IsLawfulGame m) (λ g. AreGiven m g.public.board (orders_of m (whole_of g))) s.games (λ g lawful. whole_given m g (read g.public.board lawful.public.board) lawful) l.games

@@ -13,7 +13,7 @@ use Rattle.dip_turn.specs.Reports.{IsPlayed}
 use Rattle.dip_reports.specs.Texts.{press_line, replaced_line}
 use Rattle.dip_desk_machine.specs.Ordering.{orders_that_stand}
 use Rattle.dip_desk_machine.specs.Pressing.{is_among, item_of, readers_of}
-use Rattle.dip_desk_machine.specs.Ticking.{orders_of, orders_of_seats, public_played}
+use Rattle.dip_desk_machine.specs.Ticking.{by_power, orders_of, orders_of_seats, public_played}
 use Rattle.std.specs.Option.{option_or}
 use Rattle.dip_map.specs.Charts.{Chart}
 use Rattle.dip_desk_state.specs.Records.{Grey, Item, Own, Public, Whole}
@@ -482,9 +482,9 @@ votes_untold m tick a b over due v same quiet silent h = go over due h
 
     orders : orders_of m a ≡ orders_of m b
     orders =
-        sym (unvoted_orders m a.public.board a.seats)
+        ap (by_power m) (sym (unvoted_orders m a.public.board a.seats)
         ∙ ap (λ (w : Whole). orders_of_seats m w.public.board w.seats) same
-        ∙ unvoted_orders m b.public.board b.seats
+        ∙ unvoted_orders m b.public.board b.seats)
 
     published : IsPublished m tick a v → IsPublished m tick b v
     published p = record {

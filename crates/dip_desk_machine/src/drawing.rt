@@ -50,7 +50,7 @@ fn has_centre(map: &Map, board: &Board, power: Power) -> bool
 }
 
 /// Whether the power has a unit or an owned centre.
-fn survives(map: &Map, board: &Board, power: Power) -> bool
+pub fn survives(map: &Map, board: &Board, power: Power) -> bool
     ensures { result ≡ d.survives map.now board.now power }
 {
     has_unit(board, power) || has_centre(map, board, power)

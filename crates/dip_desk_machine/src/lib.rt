@@ -11,12 +11,14 @@ mod noting;
 mod ordering;
 mod pressing;
 mod replacing;
+mod seat_orders;
 mod ticking;
 mod verdicts;
 mod voting;
 
 pub use deciding::seat_verdict;
 pub use digests::digest_of;
+pub use drawing::survives;
 pub use laws::{
     answered_from_what_is_seen, draws_are_agreed, effects_are_shown, effects_fit,
     games_keep_their_intent, histories_are_one, lawful_states_stay_lawful, letters_act_once,
@@ -27,4 +29,7 @@ pub use laws::{
 pub use mastering::{
     decide_create, decide_notice, decide_power_command, decide_replace, decide_tick,
 };
+pub use noting::public_noted;
+pub use seat_orders::orders_of_power;
+pub use ticking::{is_due, is_over, public_played};
 pub use verdicts::Verdict;

@@ -51,7 +51,11 @@ fn period_noted(notice: &Notice<'_>, period: u32) -> u32
 }
 
 /// The public part behind the notice.
-fn public_noted(alloc: Global, notice: &Notice<'_>, public: &Public) -> Result<Public, AllocError>
+pub fn public_noted(
+    alloc: Global,
+    notice: &Notice<'_>,
+    public: &Public,
+) -> Result<Public, AllocError>
     requires { public.now.papers < most_papers }
     ensures { IfOk result
         (λ p. rows.public p

@@ -1,49 +1,24 @@
 //! What TICK comes to: the phase of a game that is due is adjudicated with the orders that stand, and its paper published.
-ghost use Rattle.std.specs.Prelude.{◌≡◌, ◌≤◌, ◌<◌, IfOk, IsErrOf, map as each, true};
-ghost use Rattle.std.specs.List.{list_any};
+ghost use Rattle.std.specs.Prelude.{◌≡◌, ◌≤◌, ◌<◌, IfOk, IsErrOf};
 ghost use Rattle.dip_map.specs.Boards.{IsOf};
 ghost use Rattle.dip_desk_machine.specs.Drawing.{drawn_between};
 ghost use Rattle.dip_desk_state.specs.Bounds.{most_papers};
 ghost use Rattle.dip_desk_state.specs.Faults.{faults_after};
 ghost use Rattle.dip_desk_machine.specs.Machine as m;
-ghost use Rattle.dip_desk_machine.specs.Ordering.{has_foreign};
 ghost use Rattle.dip_desk_machine.specs.Ticking as t;
 ghost use Rattle.dip_desk_machine.specs.Verdicts.{verdict};
 ghost use Rattle.dip_desk_state.specs.Rows as rows;
 
 use crate::drawing::{draw_verdict, drawn_between};
-use crate::ordering::standing_orders;
+use crate::seat_orders::orders_of;
 use crate::verdicts::{Verdict, refusal_verdict};
-use dip_desk_state::{Effect, KeepFault, MOST_PAPERS, Own, Public, Status, Whole};
+use dip_desk_state::{Effect, KeepFault, MOST_PAPERS, Public, Status, Whole};
 use dip_map::{Board, Map};
-use dip_orders::PlacedOrder;
 use dip_reports::{Refusal, paper_line};
 use dip_turn::{Course, Report, advance};
 use dip_turn_papers::paper_text;
 use std::alloc::{AllocError, Global};
 use std::rc::Rc;
-
-/// The orders that stand in these seats; `Damaged` where the line of one is no order on this board.
-fn orders_of_seats(
-    alloc: Global,
-    map: &Map,
-    board: &Board,
-    seats: &[Own],
-) -> Result<Vec<PlacedOrder>, KeepFault>
-    ensures value { IfOk result
-        (λ v. v.items ≡ t.orders_of_seats map.now board.now (each (λ o. rows.own o) seats.now)) }
-    ensures disk { faults_after result 0 ≡ 0 }
-    ensures sane { IsErrOf result KeepFault.Damaged
-        → list_any (λ o. has_foreign map.now board.now o.power o.pending)
-        (each (λ o. rows.own o) seats.now) ≡ true }
-{
-    let mut orders = Vec::new(alloc);
-    for seat in seats {
-        let standing = standing_orders(alloc, map, board, seat.power, seat.pending.as_slice())?;
-        orders.extend_from_slice(standing.as_slice())?;
-    }
-    Ok(orders)
-}
 
 /// Whether a game is over: nothing is adjudicated any more, and no orders are taken.
 pub fn is_over(status: &Status) -> bool
@@ -66,7 +41,7 @@ fn is_running(status: &Status) -> bool
 }
 
 /// Whether a game's phase may be adjudicated at this tick.
-fn is_due(tick: u64, public: &Public) -> bool
+pub fn is_due(tick: u64, public: &Public) -> bool
     ensures { result ≡ t.is_due tick (rows.public public.now) }
 {
     is_running(&public.status) && public.due <= tick
@@ -95,7 +70,7 @@ fn due_after(tick: u64, due: u64, period: u32, course: Course) -> u64
 }
 
 /// The public part of a game behind a phase that came to this board.
-fn public_played(
+pub fn public_played(
     alloc: Global,
     tick: u64,
     public: Public,
@@ -150,7 +125,7 @@ fn adjudicated(alloc: Global, map: &Map, tick: u64, whole: Whole) -> Result<Verd
 {
     let Whole { public, seats } = whole;
     let before = public.board.copy(alloc)?;
-    let orders = orders_of_seats(alloc, map, &before, seats.as_slice())?;
+    let orders = orders_of(alloc, map, &before, seats.as_slice())?;
     match advance(alloc, map, before, orders.as_slice()) {
         Err(_) => Err(KeepFault::Memory),
         Ok((board, report)) => {

@@ -1,0 +1,115 @@
+-- What the machine publishes of a game may come next in it.
+use Rattle.std.proofs.Common.{◌≡◌, ◌≤◌, ℕ, Bool, true, false, not, cond, List, [], ◌∷◌, ◌++◌, Option, Some, None, refl, sym, subst, inl, inr}
+use Rattle.std.specs.Prelude.{◌&&◌}
+use Rattle.dip_letters.specs.Letters.{FitsRequest, is_on}
+use Rattle.dip_letters.specs.Notes.{NoticeRequest, Request}
+use Rattle.dip_letters.specs.Notes.MasterRequest.{Create, Tick, Replace, Notify}
+use Rattle.dip_letters.specs.Notes.Request.{Player, Master}
+use Rattle.dip_map.specs.Charts.{Chart}
+use Rattle.dip_desk_state.specs.Records.{Public}
+use Rattle.dip_desk_state.specs.State.{Effect, Nothing, Pending, Votes, Delivers, Opens, Publishes, Seats, Game, NewSeat, whole_of}
+use Rattle.dip_reports.specs.declared.refusals.Refusal.TheVariants.{GameOver, Malformed}
+use Rattle.dip_desk_machine.specs.Drawing.{drawn_between}
+use Rattle.dip_desk_machine.specs.Machine.{DecidesIn, OnTime, Ticks, Verdict, NotKnown, Again, OutOfTurn, Taken, are_complete, creation, has_seat, new_seat, new_seats, notified, notice_verdict, open_game, opening_public, refusal_verdict, replaced, replacement, unless}
+use Rattle.dip_desk_machine.specs.Mail.{Mail}
+use Rattle.dip_desk_machine.specs.Noting.{is_announcement, public_noted}
+use Rattle.dip_desk_machine.specs.Ticking.{is_due, is_over, orders_of}
+use Rattle.dip_check.specs.Games.{AreNext, AreOfGame, IsNext}
+use Rattle.dip_check.specs.Laws.{IsReady, PublishedIsNext}
+
+-- a paper that is published of a game may come next in it
+abbrev pub EffectNext : Chart → Public → Effect → Type 0
+EffectNext m p Nothing = Unit {0}
+EffectNext m p (Pending orders) = Unit {0}
+EffectNext m p (Votes vote) = Unit {0}
+EffectNext m p (Delivers readers item) = Unit {0}
+EffectNext m p (Opens public paper seats) = Unit {0}
+EffectNext m p (Publishes public paper played) = IsNext m p paper public
+EffectNext m p (Seats seat) = Unit {0}
+
+abbrev pub VerdictNext : Chart → Public → Verdict → Type 0
+VerdictNext m p NotKnown = Unit {0}
+VerdictNext m p (Again text) = Unit {0}
+VerdictNext m p (OutOfTurn text) = Unit {0}
+VerdictNext m p (Taken text e) = EffectNext m p e
+
+tick_next : (m : Chart) (tick : ℕ) (g : Game) → IsReady m g → tick ≤ 999999999999 → (over due : Bool) → is_due tick g.public ≡ due → (v : Verdict)
+    → Ticks m tick (whole_of g) over due v → VerdictNext m g.public v
+tick_next m tick g ready timely true due is v h = subst (VerdictNext m g.public) (sym h) tt
+tick_next m tick g ready timely false false is v h = subst (VerdictNext m g.public) (sym h) tt
+tick_next m tick g ready timely false true is v h = go (drawn_between m (whole_of g)) refl h
+  where
+    go : (o : Option (List ℕ)) → drawn_between m (whole_of g) ≡ o → OnTime m tick (whole_of g) o v → VerdictNext m g.public v
+    go (Some set) at on =
+        subst (VerdictNext m g.public) (sym on) (record {
+          room = ready.room;
+          kind = inr (inr (record {
+            tick = tick;
+            ticks = record { timely = timely; due = is };
+            powers = set;
+            named = (ready.draws set at).0;
+            survive = (ready.draws set at).1;
+            after = refl;
+            told = refl;
+          }));
+        })
+    go None at p =
+        subst (VerdictNext m g.public) (sym p.verdict) (record {
+          room = ready.room;
+          kind = inl (record {
+            tick = tick;
+            ticks = record { timely = timely; due = is };
+            orders = orders_of m (whole_of g);
+            given = ready.given;
+            by_place = ready.by_place;
+            board = p.board;
+            report = p.report;
+            played = p.played;
+            after = refl;
+            told = refl;
+          });
+        })
+
+notice_next : (m : Chart) (notice : NoticeRequest) (g : Game) → IsReady m g → FitsRequest (Master (Notify notice)) → VerdictNext m g.public (notice_verdict m notice g.public)
+notice_next m notice g ready fits = go (is_over g.public.status && not (is_announcement notice)) refl
+  where
+    go : (b : Bool) → (is_over g.public.status && not (is_announcement notice)) ≡ b → VerdictNext m g.public (unless b GameOver (notified m notice (public_noted notice g.public)))
+    go true is = tt
+    go false is = record { room = ready.room; kind = inr (inl (record { notice = notice; fits = fits; taken = is; after = refl; told = refl })) }
+
+pub decided_next : (m : Chart) (n : Mail) (command : Request) (g : Game) → IsReady m g → FitsRequest command → (v : Verdict) → DecidesIn m n command g v → VerdictNext m g.public v
+decided_next m n (Player command) g ready fits v d = subst (VerdictNext m g.public) (sym d) tt
+decided_next m n (Master (Create due period grey intent seats)) g ready fits v d = subst (VerdictNext m g.public) (sym d) (by (new_seats m n.note.game seats))
+  where
+    by : (found : Option (List NewSeat)) → VerdictNext m g.public (creation m (opening_public m n.note.game due period grey (is_on intent)) found (Some g))
+    by None = tt
+    by (Some found) = go (are_complete m found)
+      where
+        go : (b : Bool) → VerdictNext m g.public (cond b (open_game m (opening_public m n.note.game due period grey (is_on intent)) found (Some g)) (refusal_verdict Malformed))
+        go true = tt
+        go false = tt
+decided_next m n (Master (Tick tick)) g ready fits v d = tick_next m tick g ready fits (is_over g.public.status) (is_due tick g.public) refl v d
+decided_next m n (Master (Replace note)) g ready fits v d = subst (VerdictNext m g.public) (sym d) (by (has_seat m note.power g) (new_seat m n.note.game note))
+  where
+    by : (b : Bool) (found : Option NewSeat) → VerdictNext m g.public (replacement m n.note.game note b)
+    by true found = go (new_seat m n.note.game note)
+      where
+        go : (s : Option NewSeat) → VerdictNext m g.public (replaced note s)
+        go None = tt
+        go (Some s) = tt
+    by false found = tt
+decided_next m n (Master (Notify notice)) g ready fits v d = subst (VerdictNext m g.public) (sym d) (notice_next m notice g ready fits)
+
+pub published_is_next : (m : Chart) → PublishedIsNext m
+published_is_next m n g mail ready text paper public played d = decided_next m n n.note.command g ready mail.command (Taken text (Publishes public paper played)) d
+
+-- ---- one paper more
+
+one_more : (m : Chart) (p : Public) (ts : List (List ℕ)) (q : Public) (t : List ℕ) (r : Public) → AreNext m p ts q → IsNext m q t r → AreNext m p (ts ++ t ∷ []) r
+one_more m p [] q t r h next = (r, subst (λ (x : Public). IsNext m x t r) h next, refl)
+one_more m p (u ∷ ts) q t r h next = (h.0, h.1, one_more m h.0 ts q t r h.2 next)
+
+-- the papers of a game, and what may come next, are the papers of that game
+pub with_next : (m : Chart) (ts : List (List ℕ)) (q : Public) (t : List ℕ) (r : Public) → AreOfGame m ts q → IsNext m q t r → AreOfGame m (ts ++ t ∷ []) r
+with_next m [] q t r h next = absurd h
+with_next m (u ∷ ts) q t r h next = (h.0, h.1, one_more m h.0 ts q t r h.2 next)

@@ -1,0 +1,41 @@
+//! Laws of checking, each the contract of a function that does nothing.
+ghost use Rattle.dip_map.specs.Charts.{Chart};
+ghost use Rattle.dip_check.specs.Laws.{GivenAreReadBack, MovementsAreDecided, PublishedIsNext, RetreatsAreReadBack, StandingIsReadBack, StandingIsSettled, StaysGames};
+
+use dip_decide::explained_is_lawful;
+use dip_orders::{lawful_orders_are_read, orders_are_read_again};
+
+/// Each movement that is right satisfies the written decision equations for the orders that it prints, explained, with one answer.
+pub fn right_movements_are_decided()
+    ensures { (m : Chart) → MovementsAreDecided m }
+{
+    explained_is_lawful();
+}
+
+/// What the machine decides to publish of a game that is ready may come next in it.
+pub fn what_is_published_is_right()
+    ensures { (m : Chart) → PublishedIsNext m }
+{}
+
+/// After each letter the papers of each game are those of a game, where they were before and each game is ready.
+pub fn games_stay_right()
+    ensures { (m : Chart) → StaysGames m }
+{}
+
+/// What a movement's paper prints of each unit is read back, and orders that hold it come to what stood.
+pub fn movements_are_read_back()
+    ensures read { StandingIsReadBack }
+    ensures settled { StandingIsSettled }
+{
+    orders_are_read_again();
+    lawful_orders_are_read();
+}
+
+/// What a paper prints of the orders of retreats and of a Winter is read back.
+pub fn other_orders_are_read_back()
+    ensures given { GivenAreReadBack }
+    ensures retreats { RetreatsAreReadBack }
+{
+    orders_are_read_again();
+    lawful_orders_are_read();
+}

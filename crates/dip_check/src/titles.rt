@@ -1,0 +1,24 @@
+//! The first line of a paper.
+use dip_desk_state::Public;
+use dip_reports::push_phase;
+use std::alloc::{AllocError, Global};
+
+/// The first line of a text.
+pub(crate) fn first_line(text: &str) -> &str {
+    text.split('\n').next().unwrap_or("")
+}
+
+/// The first line of the paper that comes next, of a kind that isn't a phase.
+pub(crate) fn title_of(alloc: Global, before: &Public, kind: &str) -> Result<String, AllocError> {
+    let number = u64::from(before.papers) + 1;
+    let mut title = String::new(alloc);
+    write!(title, "PAPER {number} {kind}")?;
+    Ok(title)
+}
+
+/// The first line of the paper that comes next, where it tells of the game's phase.
+pub(crate) fn phase_title(alloc: Global, before: &Public) -> Result<String, AllocError> {
+    let mut title = title_of(alloc, before, "")?;
+    push_phase(before.board.phase(), &mut title)?;
+    Ok(title)
+}

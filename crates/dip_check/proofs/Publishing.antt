@@ -1,21 +1,92 @@
 -- What the machine publishes of a game may come next in it.
-use Rattle.std.proofs.Common.{◌≡◌, ◌≤◌, ℕ, Bool, true, false, not, cond, List, [], ◌∷◌, ◌++◌, Option, Some, None, refl, sym, subst, inl, inr}
+use Rattle.std.proofs.Common.{◌≡◌, ◌≤◌, ◌<◌, ◌==◌, ℕ, Bool, true, false, not, cond, length, List, [], ◌∷◌, ◌++◌, map, Option, Some, None, refl, sym, subst, inl, inr, arith, bytes_eq}
 use Rattle.std.specs.Prelude.{◌&&◌}
+use Rattle.std.specs.List.{AllByRecursion}
 use Rattle.dip_letters.specs.Letters.{FitsRequest, is_on}
 use Rattle.dip_letters.specs.Notes.{NoticeRequest, Request}
 use Rattle.dip_letters.specs.Notes.MasterRequest.{Create, Tick, Replace, Notify}
 use Rattle.dip_letters.specs.Notes.Request.{Player, Master}
 use Rattle.dip_map.specs.Charts.{Chart}
-use Rattle.dip_desk_state.specs.Records.{Public}
-use Rattle.dip_desk_state.specs.State.{Effect, Nothing, Pending, Votes, Delivers, Opens, Publishes, Seats, Game, NewSeat, whole_of}
+use Rattle.dip_map.specs.Boards.{IsOf, Position, are_ascending}
+use Rattle.dip_orders.specs.Given.{AreGiven}
+use Rattle.dip_decide.proofs.ResultLaws.{ascending}
+use Rattle.dip_desk_state.specs.Bounds.{most_papers}
+use Rattle.dip_desk_state.specs.Records.{Own, Public, Vote, No, Yes, For}
+use Rattle.dip_desk_state.specs.Writable.{IsVoteOf}
+use Rattle.dip_desk_machine.specs.Draws.{AsksFor, IsAgreedOn, IsSurvivor}
+use Rattle.dip_desk_machine.specs.Handing.{are_by_place}
+use Rattle.dip_desk_machine.specs.Lawful.{IsLawful, IsLawfulGame, IsLawfulSeat, last_number}
+use Rattle.dip_desk_machine.proofs.Counting.{all_weaker}
+use Rattle.dip_desk_machine.proofs.Draws.{drawn_so}
+use Rattle.dip_desk_machine.proofs.Handing.{whole_given, whole_placed}
+use Rattle.dip_desk_machine.proofs.LawfulOrders.{AreRead}
+use Rattle.dip_desk_machine.proofs.ListLemmas.{all_at}
+use Rattle.dip_desk_machine.proofs.NeverDamaged.{new_number}
+use Rattle.dip_desk_machine.proofs.VotingLemmas.{drawn_low}
+use Rattle.dip_desk_state.specs.State.{Effect, Nothing, Pending, Votes, Delivers, Opens, Publishes, Seats, Game, NewSeat, Part, State, game_at, name_of, whole_of}
 use Rattle.dip_reports.specs.declared.refusals.Refusal.TheVariants.{GameOver, Malformed}
-use Rattle.dip_desk_machine.specs.Drawing.{drawn_between}
-use Rattle.dip_desk_machine.specs.Machine.{DecidesIn, OnTime, Ticks, Verdict, NotKnown, Again, OutOfTurn, Taken, are_complete, creation, has_seat, new_seat, new_seats, notified, notice_verdict, open_game, opening_public, refusal_verdict, replaced, replacement, unless}
-use Rattle.dip_desk_machine.specs.Mail.{Mail}
+use Rattle.dip_desk_machine.specs.Drawing.{agreed, drawn_between, survives, survivors, vote_of}
+use Rattle.dip_desk_machine.specs.Machine.{DecidesIn, OnTime, Ticks, Verdict, NotKnown, Again, OutOfTurn, Taken, are_complete, creation, has_seat, new_seat, new_seats, notified, notice_verdict, old_number, open_game, opening_public, refusal_verdict, replaced, replacement, unless}
+use Rattle.dip_desk_machine.specs.Mail.{IsMail, Mail}
 use Rattle.dip_desk_machine.specs.Noting.{is_announcement, public_noted}
 use Rattle.dip_desk_machine.specs.Ticking.{is_due, is_over, orders_of}
 use Rattle.dip_check.specs.Games.{AreNext, AreOfGame, IsNext}
-use Rattle.dip_check.specs.Laws.{IsReady, PublishedIsNext}
+
+-- what is needed of a game that publishes: its orders are given and come by place, there is room for a paper, and whom its votes name
+-- share it by right
+pub record IsReady (m : Chart) (g : Game) : Type 0 where
+  pub given : AreGiven m g.public.board (orders_of m (whole_of g))
+  pub by_place : are_by_place (orders_of m (whole_of g)) ≡ true
+  pub room : g.public.papers < most_papers
+  pub draws : (set : List ℕ) → drawn_between m (whole_of g) ≡ Some set
+      → IsVoteOf m (For set) × AllByRecursion (λ r. survives m g.public.board r ≡ true) set
+
+vote_lawful : (m : Chart) (b : Position) (power : ℕ) (seats : List Part) → AllByRecursion (IsLawfulSeat m b) seats → IsVoteOf m (vote_of (map (λ s. s.own) seats) power)
+vote_lawful m b power [] all = tt
+vote_lawful m b power (s ∷ ss) all = go (s.own.power == power) (vote_lawful m b power ss all.1)
+  where
+    go : (t : Bool) → IsVoteOf m (vote_of (map (λ s. s.own) ss) power) → IsVoteOf m (cond t s.own.vote (vote_of (map (λ s. s.own) ss) power))
+    go true rest = all.0.vote
+    go false rest = rest
+
+-- where somebody shares a game somebody survives
+somebody : (ps : List ℕ) (seats : List Own) (set : List ℕ) → agreed ps seats ≡ Some set → 0 < length ps
+somebody [] seats set is = absurd (cc)
+somebody (p ∷ ps) seats set is = omega arith
+
+-- those who share a lawful game can be named by a vote, and survive
+draws_share : (m : Chart) (g : Game) → IsLawfulGame m g → (set : List ℕ) → drawn_between m (whole_of g) ≡ Some set
+    → IsVoteOf m (For set) × AllByRecursion (λ r. survives m g.public.board r ≡ true) set
+draws_share m g l set is = (
+  by (vote_of (map (λ s. s.own) g.seats) all.survivor.0) (vote_lawful m g.public.board all.survivor.0 g.seats l.seats) (all.asked all.survivor.0 all.survivor.1),
+  all_weaker (IsSurvivor m (whole_of g)) (λ r. survives m g.public.board r ≡ true) set (λ r h. h.1) all.survive,
+)
+  where
+    all : IsAgreedOn m (whole_of g) set
+    all = drawn_so m (whole_of g) set is
+
+    by : (v : Vote) → IsVoteOf m v → AsksFor m (whole_of g) set v → IsVoteOf m (For set)
+    by No lawful asks = absurd asks
+    by Yes lawful asks = (
+      drawn_low m (whole_of g) set is,
+      subst (λ (ps : List ℕ). are_ascending ps ≡ true) (sym asks) (ascending (survives m g.public.board) 0 (length m.realms)),
+      subst (λ (ps : List ℕ). 0 < length ps) (sym asks) (somebody (survivors m g.public.board) (map (λ s. s.own) g.seats) set is),
+    )
+    by (For named) lawful asks = subst (λ (ps : List ℕ). IsVoteOf m (For ps)) (sym asks) lawful
+
+-- a lawful state's game is ready for a letter of the master's that is new
+pub is_ready : (m : Chart) → ((b : Position) → IsOf m b → AreRead m b) → (s : State) (n : Mail) (g : Game) → IsMail n → IsLawful m s → game_at n.note.game s ≡ Some g
+    → old_number n s.desk.kept ≡ None → IsReady m g
+is_ready m read s n g mail l found new =
+    let lg : IsLawfulGame m g = all_at bytes_eq name_of n.note.game (IsLawfulGame m) s.games g l.games found in
+    let few : g.public.papers ≤ last_number s.desk.kept = all_at bytes_eq name_of n.note.game (λ (h : Game). h.public.papers ≤ last_number s.desk.kept) s.games g l.numbered found in
+    let less : last_number s.desk.kept < 999999999 = new_number n s.desk.kept mail new in
+    record {
+      given = whole_given m g (read g.public.board lg.public.board) lg;
+      by_place = whole_placed m g (read g.public.board lg.public.board) lg;
+      room = omega (arith, few, less);
+      draws = draws_share m g lg;
+    }
 
 -- a paper that is published of a game may come next in it
 abbrev pub EffectNext : Chart → Public → Effect → Type 0
@@ -99,9 +170,6 @@ decided_next m n (Master (Replace note)) g ready fits v d = subst (VerdictNext m
         go (Some s) = tt
     by false found = tt
 decided_next m n (Master (Notify notice)) g ready fits v d = subst (VerdictNext m g.public) (sym d) (notice_next m notice g ready fits)
-
-pub published_is_next : (m : Chart) → PublishedIsNext m
-published_is_next m n g mail ready text paper public played d = decided_next m n n.note.command g ready mail.command (Taken text (Publishes public paper played)) d
 
 -- ---- one paper more
 

@@ -6,15 +6,19 @@ use Rattle.dip_letters.specs.Notes.MasterRequest.{Create}
 use Rattle.dip_letters.specs.Notes.Request.{Master}
 use Rattle.dip_map.specs.Charts.{Chart}
 use Rattle.dip_desk_state.specs.Keyed.{change_at}
-use Rattle.dip_desk_state.specs.Records.{Public}
+use Rattle.dip_map.specs.Boards.{IsOf, Position}
+use Rattle.dip_desk_machine.specs.Lawful.{IsLawful, StaysLawful}
+use Rattle.dip_desk_machine.specs.View.{IsRun, Turn, left_by, reply_in}
+use Rattle.dip_desk_machine.proofs.LawfulOrders.{AreRead}
+use Rattle.dip_desk_state.specs.Records.{Kept, Public}
 use Rattle.dip_desk_state.specs.State.{Author, Nobody, TheMaster, Seat, Effect, Nothing, Pending, Votes, Delivers, Opens, Publishes, Seats, Game, NewSeat, State, game_after, game_at, name_of, new_games, papers_after, public_after}
-use Rattle.dip_desk_machine.specs.Machine.{Decides, DecidesIn, MasterDecides, Verdict, NotKnown, Again, OutOfTurn, Taken, after, author, change_of}
+use Rattle.dip_desk_machine.specs.Machine.{Decides, DecidesIn, MasterDecides, NumberedBy, Step, old_number, Verdict, NotKnown, Again, OutOfTurn, Taken, after, author, change_of}
 use Rattle.dip_desk_machine.specs.Mail.{IsMail, Mail}
-use Rattle.dip_desk_machine.proofs.ListLemmas.{all_at, all_change}
+use Rattle.dip_desk_machine.proofs.ListLemmas.{all_change}
 use Rattle.dip_desk_machine.proofs.Suiting.{Comes, IsFitting, decides_suits, master_holds, numbered_holds}
 use Rattle.dip_check.specs.Games.{AreOfGame, IsNext, IsOpening}
-use Rattle.dip_check.specs.Laws.{AreGames, IsReady, StaysGames}
-use Rattle.dip_check.proofs.Publishing.{VerdictNext, decided_next, with_next}
+use Rattle.dip_check.specs.Laws.{AreGames, HistoriesAreRight, PublishedIsNext, StaysGames}
+use Rattle.dip_check.proofs.Publishing.{VerdictNext, decided_next, is_ready, with_next}
 
 abbrev IsRightGame : Chart → Game → Type 0
 IsRightGame m g = AreOfGame m g.papers g.public
@@ -88,20 +92,26 @@ new_right m s n who text e mail d = by e who d (decides_suits m s n who (Taken t
 
 -- ---- a game that is there
 
-master_next : (m : Chart) (s : State) (n : Mail) (g : Game) (v : Verdict) → IsMail n → IsReady m g → game_at n.note.game s ≡ Some g → Decides m s n TheMaster v
-    → VerdictNext m g.public v
-master_next m s n g v mail ready found d = by (game_at n.note.game s) found d
+pub master_next : (m : Chart) → ((b : Position) → IsOf m b → AreRead m b) → (s : State) (n : Mail) (g : Game) (v : Verdict) → IsMail n → IsLawful m s
+    → game_at n.note.game s ≡ Some g → Decides m s n TheMaster v → VerdictNext m g.public v
+master_next m read s n g v mail l found d = by (game_at n.note.game s) found d
   where
-    by : (o : Option Game) → o ≡ Some g → MasterDecides m n s.desk.kept n.note.command o v → VerdictNext m g.public v
-    by None is d = cc
-    by (Some h) is d =
-        let same : h ≡ g = cc in
-        numbered_holds (VerdictNext m g.public) (λ text. tt) (λ text. tt) n s.desk.kept (DecidesIn m n n.note.command h) v
-        (λ new. decided_next m n n.note.command g ready mail.command v (subst (λ (x : Game). DecidesIn m n n.note.command x v) same new)) d
+    k : Option Kept
+    k = s.desk.kept
 
-effect_right : (m : Chart) (s : State) (n : Mail) (who : Author) (text : List ℕ) (e : Effect) (g : Game) → IsMail n → IsReady m g → game_at n.note.game s ≡ Some g
+    by : (o : Option Game) → o ≡ Some g → MasterDecides m n k n.note.command o v → VerdictNext m g.public v
+    by None is d = cc
+    by (Some h) is d = let same : h ≡ g = cc in numbered (old_number n k) refl (subst (λ (x : Game). NumberedBy (old_number n k) (DecidesIn m n n.note.command x) v) same d)
+      where
+        numbered : (o : Option Verdict) → old_number n k ≡ o → NumberedBy o (DecidesIn m n n.note.command g) v → VerdictNext m g.public v
+        numbered None new d = decided_next m n n.note.command g (is_ready m read s n g mail l found new) mail.command v d
+        numbered (Some old) was d =
+            numbered_holds (VerdictNext m g.public) (λ text. tt) (λ text. tt) n k (λ (x : Verdict). ⊥) v (λ bad. absurd bad)
+            (subst (λ (o : Option Verdict). NumberedBy o (λ (x : Verdict). ⊥) v) (sym was) d)
+
+effect_right : (m : Chart) → ((b : Position) → IsOf m b → AreRead m b) → (s : State) (n : Mail) (who : Author) (text : List ℕ) (e : Effect) (g : Game) → IsMail n → IsLawful m s → game_at n.note.game s ≡ Some g
     → Decides m s n who (Taken text e) → IsRightGame m g → AreOfGame m (papers_after e g.papers) (public_after e g.public)
-effect_right m s n who text e g mail ready found d right = by e who d (subst (λ (o : Option Game). IsFitting n.note.game who o e) found (decides_suits m s n who (Taken text e) d))
+effect_right m read s n who text e g mail l found d right = by e who d (subst (λ (o : Option Game). IsFitting n.note.game who o e) found (decides_suits m s n who (Taken text e) d))
   where
     by : (e : Effect) (who : Author) → Decides m s n who (Taken text e) → IsFitting n.note.game who (Some g) e → AreOfGame m (papers_after e g.papers) (public_after e g.public)
     by Nothing who d fits = right
@@ -112,13 +122,13 @@ effect_right m s n who text e g mail ready found d right = by e who d (subst (λ
     by (Publishes public paper played) Nobody d fits = absurd fits.0
     by (Publishes public paper played) (Seat p) d fits = absurd fits.0
     by (Publishes public paper played) TheMaster d fits =
-        let next : IsNext m g.public paper public = master_next m s n g (Taken text (Publishes public paper played)) mail ready found d in
+        let next : IsNext m g.public paper public = master_next m read s n g (Taken text (Publishes public paper played)) mail l found d in
         subst (AreOfGame m (g.papers ++ paper ∷ [])) (ap (λ (name : List ℕ). record public { game = name }) fits.1)
         (with_next m g.papers g.public paper public right next)
     by (Seats seat) who d fits = right
 
-pub stays_games : (m : Chart) → StaysGames m
-stays_games m old n r new mail ready right step = subst (AreGames m) (sym step.3) (by step.0 step.1)
+pub stays_games : (m : Chart) → ((b : Position) → IsOf m b → AreRead m b) → StaysGames m
+stays_games m read old n r new mail l right step = subst (AreGames m) (sym step.3) (by step.0 step.1)
   where
     by : (v : Verdict) → Decides m old n (author m n old) v → AreGames m (after n (author m n old) v old)
     by NotKnown d = right
@@ -128,6 +138,24 @@ stays_games m old n r new mail ready right step = subst (AreGames m) (sym step.3
         let who : Author = author m n old in
         let f : Game → Game = game_after (change_of n who text e) in
         all_append (IsRightGame m) (change_at bytes_eq name_of n.note.game f old.games) (new_games e)
-        (all_change bytes_eq name_of n.note.game f (IsRightGame m) old.games right
-        (λ g found was. effect_right m old n who text e g mail (all_at bytes_eq name_of n.note.game (IsReady m) old.games g ready found) found d was))
+        (all_change bytes_eq name_of n.note.game f (IsRightGame m) old.games right (λ g found was. effect_right m read old n who text e g mail l found d was))
         (new_right m old n who text e mail d)
+
+pub published_is_next : (m : Chart) → ((b : Position) → IsOf m b → AreRead m b) → PublishedIsNext m
+published_is_next m read s n g mail l found text paper public played d = master_next m read s n g (Taken text (Publishes public paper played)) mail l found d
+
+-- ---- histories
+
+run_right : (m : Chart) → StaysLawful m → StaysGames m → (ts : List Turn) (old new : State) → IsLawful m old → AreGames m old
+    → AllByRecursion (λ (t : Turn). IsMail t.letter) ts → IsRun m old ts new → AreGames m new
+run_right m lawful stays [] old new l right all h = subst (AreGames m) (sym h) right
+run_right m lawful stays (t ∷ ts) old new l right all h =
+    let here : IsLawful m t.before = subst (IsLawful m) (sym h.0) l in
+    let were : AreGames m t.before = subst (AreGames m) (sym h.0) right in
+    let step : Step m t.before t.letter (reply_in t) (left_by m t) = (t.verdict, h.1, refl, refl) in
+    run_right m lawful stays ts (left_by m t) new (lawful t.before t.letter (reply_in t) (left_by m t) all.0 here step)
+    (stays t.before t.letter (reply_in t) (left_by m t) all.0 here were step) all.1 h.2
+
+pub histories_right : (m : Chart) → StaysLawful m → StaysGames m → HistoriesAreRight m
+histories_right m lawful stays old new turns l none mail run =
+    run_right m lawful stays turns old new l (subst (AllByRecursion (IsRightGame m)) (sym none) tt) mail run

@@ -1,6 +1,6 @@
 -- The papers of a game: its opening, what may come next, and the chain that these make.
-use Rattle.std.specs.Prelude.{◌≡◌, ◌≤◌, ◌<◌, ◌==◌, ◌&&◌, ◌||◌, ◌⊎◌, not, ℕ, Bool, true, false, List, [], ◌∷◌, nat_lt}
-use Rattle.std.specs.List.{AllByRecursion, list_all}
+use Rattle.std.specs.Prelude.{◌≡◌, ◌≤◌, ◌<◌, ◌&&◌, ◌⊎◌, not, ℕ, Bool, true, false, List, [], ◌∷◌}
+use Rattle.std.specs.List.{AllByRecursion}
 use Rattle.dip_letters.specs.Letters.{FitsNotice}
 use Rattle.dip_letters.specs.Notes.{NoticeRequest}
 use Rattle.dip_letters.specs.Words.{is_game}
@@ -16,18 +16,10 @@ use Rattle.dip_desk_state.specs.Records.{Public, For}
 use Rattle.dip_desk_state.specs.Writable.{IsVoteOf}
 use Rattle.dip_reports.specs.Texts.{draw_paper, notice_paper, opening_paper}
 use Rattle.dip_desk_machine.specs.Drawing.{public_drawn, survives}
+use Rattle.dip_desk_machine.specs.Handing.{are_by_place}
 use Rattle.dip_desk_machine.specs.Machine.{opening_public}
 use Rattle.dip_desk_machine.specs.Noting.{is_announcement, public_noted}
 use Rattle.dip_desk_machine.specs.Ticking.{is_due, is_over, public_played}
-
--- an order comes before another one: by power, and a power's by province
-abbrev pub comes_before : PlacedOrder → PlacedOrder → Bool
-comes_before o x = nat_lt o.unit.power x.unit.power || (o.unit.power == x.unit.power && nat_lt o.unit.place.prov x.unit.place.prov)
-
--- each comes before all that follow, as papers print them
-abbrev pub are_by_place : List PlacedOrder → Bool
-are_by_place [] = true
-are_by_place (o ∷ os) = list_all (comes_before o) os && are_by_place os
 
 -- a tick that a letter may name, at which the game is due
 pub record IsTick (p : Public) (tick : ℕ) : Type 0 where

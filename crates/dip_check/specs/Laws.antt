@@ -1,5 +1,5 @@
 -- The laws of checking, as statements.
-use Rattle.std.specs.Prelude.{◌≡◌, ◌<◌, ℕ, Bool, true, Contains, List, [], Ok, Some}
+use Rattle.std.specs.Prelude.{◌≡◌, ℕ, Bool, true, Contains, List, [], Ok, Some}
 use Rattle.std.specs.List.{AllByRecursion}
 use Rattle.dip_names.specs.declared.names.Unit.{Unit as AUnit}
 use Rattle.dip_map.specs.Boards.{IsOf, Position}
@@ -18,39 +18,33 @@ use Rattle.dip_turn.specs.Retreating.{retreat_order}
 use Rattle.dip_turn.specs.Moving.{after_moves}
 use Rattle.dip_turn.specs.Outcomes.{movement_lines}
 use Rattle.dip_turn.specs.Phases.{follow}
-use Rattle.dip_turn.specs.Reports.{IsPlayed}
-use Rattle.dip_turn.specs.declared.report.Report.{Report}
-use Rattle.dip_turn_papers.specs.Papers.{account_text}
-use Rattle.dip_desk_state.specs.Bounds.{most_papers}
-use Rattle.dip_desk_state.specs.Records.{Public, For, Reply}
-use Rattle.dip_desk_state.specs.State.{Game, Publishes, State, whole_of}
-use Rattle.dip_desk_state.specs.Writable.{IsVoteOf}
+use Rattle.dip_desk_state.specs.Records.{Public, Reply}
+use Rattle.dip_desk_state.specs.State.{Game, Publishes, State, TheMaster, game_at}
 use Rattle.dip_desk_machine.specs.Lawful.{IsLawful}
-use Rattle.dip_desk_machine.specs.Drawing.{drawn_between, survives}
-use Rattle.dip_desk_machine.specs.Machine.{DecidesIn, Step, Taken}
+use Rattle.dip_desk_machine.specs.Machine.{Decides, Step, Taken}
 use Rattle.dip_desk_machine.specs.Mail.{IsMail, Mail}
 use Rattle.dip_desk_machine.specs.Published.{AreDecided, movement_paper}
-use Rattle.dip_desk_machine.specs.Ticking.{orders_of}
 use Rattle.dip_desk_machine.specs.View.{IsRun, Turn}
-use Rattle.dip_check.specs.Games.{AreOfGame, IsNext, IsPhase, are_by_place}
+use Rattle.dip_check.specs.Games.{AreOfGame, IsNext, IsPhase}
 
 -- the papers that a desk keeps of each game are the papers of a game, which stands so
 abbrev pub AreGames : Chart → State → Type 0
 AreGames m s = AllByRecursion (λ g. AreOfGame m g.papers g.public) s.games
 
--- what is needed of a game that publishes: its orders are given and come by place, there is room for a paper, and whom its votes name
--- share it by right
-pub record IsReady (m : Chart) (g : Game) : Type 0 where
-  pub given : AreGiven m g.public.board (orders_of m (whole_of g))
-  pub by_place : are_by_place (orders_of m (whole_of g)) ≡ true
-  pub room : g.public.papers < most_papers
-  pub draws : (set : List ℕ) → drawn_between m (whole_of g) ≡ Some set
-      → IsVoteOf m (For set) × AllByRecursion (λ r. survives m g.public.board r ≡ true) set
+-- what the machine decides to publish of a game of a lawful state may come next in it
+abbrev pub PublishedIsNext : Chart → Type 0
+PublishedIsNext m = (s : State) (n : Mail) (g : Game) → IsMail n → IsLawful m s → game_at n.note.game s ≡ Some g
+    → (text paper : List ℕ) (public : Public) (played : Bool) → Decides m s n TheMaster (Taken text (Publishes public paper played))
+    → IsNext m g.public paper public
 
--- each step of a letter keeps that, from a state whose games are ready
+-- each step of a letter in a lawful state keeps that the papers are those of games
 abbrev pub StaysGames : Chart → Type 0
-StaysGames m = (old : State) (n : Mail) (r : Reply) (new : State) → IsMail n → AllByRecursion (IsReady m) old.games → AreGames m old
-    → Step m old n r new → AreGames m new
+StaysGames m = (old : State) (n : Mail) (r : Reply) (new : State) → IsMail n → IsLawful m old → AreGames m old → Step m old n r new → AreGames m new
+
+-- what the judge publishes is right: in every history from a lawful desk without games on, the papers of each game are those of a game
+abbrev pub HistoriesAreRight : Chart → Type 0
+HistoriesAreRight m = (old new : State) (turns : List Turn) → IsLawful m old → old.games ≡ []
+    → AllByRecursion (λ (t : Turn). IsMail t.letter) turns → IsRun m old turns new → AreGames m new
 
 -- what is right is adjudicated by the rules: values that satisfy the decision equations for these orders, are explained and are the only
 -- ones; the paper prints their outcomes, and the board after it is theirs
@@ -64,11 +58,6 @@ pub record IsDecidedFor (m : Chart) (p : Public) (orders : List PlacedOrder) (te
 abbrev pub MovementsAreDecided : Chart → Type 0
 MovementsAreDecided m = (p new : Public) (text : List ℕ) (h : IsPhase m p text new) → is_movement p.board.phase.season ≡ true
     → IsDecidedFor m p h.orders text new
-
--- the step of that law: what the machine decides to publish of a game may come next in it
-abbrev pub PublishedIsNext : Chart → Type 0
-PublishedIsNext m = (n : Mail) (g : Game) → IsMail n → IsReady m g → (text paper : List ℕ) (public : Public) (played : Bool)
-    → DecidesIn m n n.note.command g (Taken text (Publishes public paper played)) → IsNext m g.public paper public
 
 -- the order that stands for each unit in a movement is read back from its text, with nothing beside it
 abbrev pub StandingIsReadBack : Type 0

@@ -1,9 +1,11 @@
 //! Laws of checking, each the contract of a function that does nothing.
 ghost use Rattle.dip_map.specs.Charts.{Chart};
-ghost use Rattle.dip_check.specs.Laws.{GivenAreReadBack, MovementsAreDecided, PublishedIsNext, RetreatsAreReadBack, StandingIsReadBack, StandingIsSettled, StaysGames};
+ghost use Rattle.dip_check.specs.Laws.{GivenAreReadBack, HistoriesAreRight, MovementsAreDecided, PublishedIsNext, RetreatsAreReadBack, StandingIsReadBack, StandingIsSettled, StaysGames};
 
 use dip_decide::explained_is_lawful;
-use dip_orders::{lawful_orders_are_read, orders_are_read_again};
+use dip_desk_machine::lawful_states_stay_lawful;
+use dip_map::Map;
+use dip_orders::{lawful_orders_are_read, orders_are_lawful, orders_are_read_again};
 
 /// Each movement that is right satisfies the written decision equations for the orders that it prints, explained, with one answer.
 pub fn right_movements_are_decided()
@@ -12,15 +14,28 @@ pub fn right_movements_are_decided()
     explained_is_lawful();
 }
 
-/// What the machine decides to publish of a game that is ready may come next in it.
-pub fn what_is_published_is_right()
-    ensures { (m : Chart) → PublishedIsNext m }
-{}
+/// What the machine decides to publish of a game of a lawful state may come next in it.
+pub fn what_is_published_is_right(map: &Map)
+    ensures { PublishedIsNext map.now }
+{
+    map.facts();
+    orders_are_read_again();
+    orders_are_lawful();
+    lawful_orders_are_read();
+}
 
-/// After each letter the papers of each game are those of a game, where they were before and each game is ready.
-pub fn games_stay_right()
-    ensures { (m : Chart) → StaysGames m }
-{}
+/// After each letter the papers of each game are those of a game, where they were before; so they are after every history that begins
+/// without games.
+pub fn games_stay_right(map: &Map)
+    ensures stays { StaysGames map.now }
+    ensures histories { HistoriesAreRight map.now }
+{
+    map.facts();
+    orders_are_read_again();
+    orders_are_lawful();
+    lawful_orders_are_read();
+    lawful_states_stay_lawful(map);
+}
 
 /// What a movement's paper prints of each unit is read back, and orders that hold it come to what stood.
 pub fn movements_are_read_back()

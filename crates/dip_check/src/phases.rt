@@ -1,7 +1,8 @@
 //! The paper of a phase: its orders are read and played again, and its paper is made and compared.
 ghost use Rattle.std.specs.Prelude.{◌≡◌, ◌<◌, ◌≤◌, IfOk, true};
 ghost use Rattle.dip_check.specs.Checks.{IsRightNext};
-ghost use Rattle.dip_check.specs.Games.{IsTick, are_by_place};
+ghost use Rattle.dip_check.specs.Games.{IsTick};
+ghost use Rattle.dip_desk_machine.specs.Handing.{are_by_place};
 ghost use Rattle.dip_desk_state.specs.Bounds.{most_papers};
 ghost use Rattle.dip_desk_state.specs.Rows as rows;
 ghost use Rattle.dip_map.specs.Boards.{IsOf};

@@ -58,7 +58,7 @@ module _ (m : Chart) (w : Whole) where
   somebody (p ∷ ps) set all is = (p, all.0)
 
   -- a game is drawn between powers on whom all survivors agree
-  drawn_so : (set : List ℕ) → drawn_between m w ≡ Some set → IsAgreedOn m w set
+  pub drawn_so : (set : List ℕ) → drawn_between m w ≡ Some set → IsAgreedOn m w set
   drawn_so set is =
       let ps = survivors m w.public.board in
       let parts = and_parts (list_all (λ p. is_set set (asked ps (vote_of w.seats p))) ps) (list_all (λ p. is_among p ps) set) (agreed_is ps w.seats set is) in

@@ -1,7 +1,7 @@
 -- The orders that stand in a lawful game can be given beside one another.
 use Rattle.std.proofs.Common.{◌≡◌, ℕ, ◌==◌, ◌<◌, ◌≤◌, ◌+◌, ◌&&◌, nat_lt, zero, suc, length, inl, inr, Bool, true, false, cond, List, [], ◌∷◌, ◌++◌, map, filter, flat_map, find, count_by, Some, Ok, refl, sym, ap, subst, ◌∙◌, arith, append-nil}
 use Rattle.std.specs.List.{AllByRecursion, list_all, list_any, range_with_len, Contains}
-use Rattle.std.proofs.lemmas.Bool.{cases_Bool, eqb-true, eqb-false, ltb-true, ltb-false}
+use Rattle.std.proofs.lemmas.Bool.{and_from, cases_Bool, eqb-true, eqb-false, ltb-true, ltb-false}
 use Rattle.std.proofs.lemmas.List.Elements.{filter-append}
 use Rattle.dip_names.specs.declared.names.Unit.{Unit as AUnit}
 use Rattle.dip_map.specs.declared.boards.Dislodged.{Dislodged}
@@ -19,7 +19,7 @@ use Rattle.dip_orders.specs.declared.placed.Order.TheVariants.{Hold, Move, Suppo
 use Rattle.dip_orders.specs.declared.placed.PlacedOrder.{PlacedOrder}
 use Rattle.dip_desk_machine.proofs.Counting.{all_weaker}
 use Rattle.dip_desk_machine.proofs.LawfulOrders.{AreRead, standing_is}
-use Rattle.dip_desk_machine.specs.Handing.{StandingOrdersAreGiven}
+use Rattle.dip_desk_machine.specs.Handing.{StandingOrdersAreGiven, StandingOrdersComeByPlace, are_by_place, comes_before}
 use Rattle.dip_desk_machine.specs.Lawful.{AreAscending, IsLawfulGame, IsLawfulSeat}
 use Rattle.dip_desk_machine.specs.Ordering.{prov_of, orders_that_stand}
 use Rattle.dip_desk_state.specs.State.{Game, Part, power_in, whole_of}
@@ -324,6 +324,77 @@ pub whole_given : (m : Chart) (g : Game) → AreRead m g.public.board → IsLawf
 whole_given m g read l =
     given_by_power m g.public.board (orders_of_seats m g.public.board (map (λ s. s.own) g.seats))
     (subst (AreGiven m g.public.board) (sym (whole_orders m g.public.board g.seats)) (given_in m g read l))
+
+-- ---- orders by power come by place
+
+of_power_are : (power : ℕ) (orders : List PlacedOrder) → AreOf power (orders_of_power power orders)
+of_power_are power [] = tt
+of_power_are power (o ∷ os) = go (o.unit.power == power) refl (of_power_are power os)
+  where
+    go : (b : Bool) → (o.unit.power == power) ≡ b → AreOf power (orders_of_power power os) → AreOf power (cond b (o ∷ orders_of_power power os) (orders_of_power power os))
+    go true is rest = (eqb-true o.unit.power power is, rest)
+    go false is rest = rest
+
+all_joined : {A : Type 0} (P : A → Type 0) (xs ys : List A) → AllByRecursion P xs → AllByRecursion P ys → AllByRecursion P (xs ++ ys)
+all_joined P [] ys one two = two
+all_joined P (x ∷ xs) ys one two = (one.0, all_joined P xs ys one.1 two)
+
+-- an order comes before its power's later ones, and before those of later powers
+before_rest : (p : ℕ) (o : PlacedOrder) (xs ys : List PlacedOrder) → o.unit.power ≡ p → AreOf p xs → AllByRecursion (λ q. prov_of o < q) (map prov_of xs)
+    → AllByRecursion (λ y. p < y.unit.power) ys → list_all (comes_before o) (xs ++ ys) ≡ true
+before_rest p o [] [] his own up later = refl
+before_rest p o [] (y ∷ ys) his own up later =
+    let this : comes_before o y ≡ true = grind (arith, his, later.0) in
+    and_from (comes_before o y) (list_all (comes_before o) ys) this (before_rest p o [] ys his tt tt later.1)
+before_rest p o (x ∷ xs) ys his own up later =
+    let this : comes_before o x ≡ true = grind (arith, his, own.0, up.0) in
+    and_from (comes_before o x) (list_all (comes_before o) (xs ++ ys)) this (before_rest p o xs ys his own.1 up.1 later)
+
+placed_before : (p : ℕ) (xs ys : List PlacedOrder) → AreOf p xs → AreAscending (map prov_of xs) → AllByRecursion (λ y. p < y.unit.power) ys
+    → are_by_place ys ≡ true → are_by_place (xs ++ ys) ≡ true
+placed_before p [] ys own up later placed = placed
+placed_before p (x ∷ xs) ys own up later placed =
+    and_from (list_all (comes_before x) (xs ++ ys)) (are_by_place (xs ++ ys)) (before_rest p x xs ys own.0 own.1 up.0 later) (placed_before p xs ys own.1 up.1 later placed)
+
+module _ (orders : List PlacedOrder) (each : (q : ℕ) → AreAscending (map prov_of (orders_of_power q orders))) where
+  later_powers : (p i n : ℕ) → p < i → AllByRecursion (λ y. p < y.unit.power) (from_power orders i n)
+  later_powers p i zero low = tt
+  later_powers p i (suc n) low =
+      all_joined (λ y. p < y.unit.power) (orders_of_power i orders) (from_power orders (i + 1) n)
+      (all_weaker (λ y. y.unit.power ≡ i) (λ y. p < y.unit.power) (orders_of_power i orders) (λ y is. omega (arith, low, is)) (of_power_are i orders))
+      (later_powers p (i + 1) n (omega (arith, low)))
+
+  placed_from : (i n : ℕ) → are_by_place (from_power orders i n) ≡ true
+  placed_from i zero = refl
+  placed_from i (suc n) =
+      placed_before i (orders_of_power i orders) (from_power orders (i + 1) n) (of_power_are i orders) (each i) (later_powers i (i + 1) n (omega arith)) (placed_from (i + 1) n)
+
+pub whole_placed : (m : Chart) (g : Game) → AreRead m g.public.board → IsLawfulGame m g → are_by_place (orders_of m (whole_of g)) ≡ true
+whole_placed m g read l = placed_from (orders_of_seats m b (map (λ s. s.own) g.seats)) each 0 (length m.realms)
+  where
+    b : Position
+    b = g.public.board
+
+    orders : Part → List PlacedOrder
+    orders o = orders_that_stand m b (power_in o) o.own.pending
+
+    own : AllByRecursion (λ (o : Part). AreOf (power_in o) (orders o)) g.seats
+    own = all_weaker (IsLawfulSeat m b) (λ o. AreOf (power_in o) (orders o)) g.seats
+        (λ o s. subst (AreOf (power_in o)) (sym (standing_is m b (power_in o) o.own.pending read s.pending))
+        (all_weaker (λ p. order_of m b (power_in o) s.pending.orders (order_text m p) ≡ Ok p) (λ p. p.unit.power ≡ power_in o) s.pending.orders
+        (λ p is. allowed_power m b (power_in o) s.pending.orders p.unit p.order (read.lawful (power_in o) s.pending.orders (order_text m p) p is)) s.pending.each)) l.seats
+
+    up : (q : ℕ) → AreAscending (map prov_of (orders_of_power q (flat_map orders g.seats)))
+    up q = somebodys power_in orders (λ os. AreAscending (map prov_of os)) q g.seats own tt
+        (all_weaker (IsLawfulSeat m b) (λ o. power_in o ≡ q → AreAscending (map prov_of (orders o))) g.seats
+        (λ o s is. subst (λ (os : List PlacedOrder). AreAscending (map prov_of os)) (sym (standing_is m b (power_in o) o.own.pending read s.pending)) s.pending.ascending) l.seats)
+        (few m g l q)
+
+    each : (q : ℕ) → AreAscending (map prov_of (orders_of_power q (orders_of_seats m b (map (λ s. s.own) g.seats))))
+    each q = subst (λ (os : List PlacedOrder). AreAscending (map prov_of (orders_of_power q os))) (sym (whole_orders m b g.seats)) (up q)
+
+pub all_placed : (m : Chart) → ((b : Position) → IsOf m b → AreRead m b) → StandingOrdersComeByPlace m
+all_placed m read s l = all_weaker (IsLawfulGame m) (λ g. are_by_place (orders_of m (whole_of g)) ≡ true) s.games (λ g lawful. whole_placed m g (read g.public.board lawful.public.board) lawful) l.games
 
 pub all_given : (m : Chart) → ((b : Position) → IsOf m b → AreRead m b) → StandingOrdersAreGiven m
 all_given m read s l = all_weaker (IsLawfulGame m) (λ g. AreGiven m g.public.board (orders_of m (whole_of g))) s.games (λ g lawful. whole_given m g (read g.public.board lawful.public.board) lawful) l.games

@@ -55,7 +55,7 @@ playable m read s name g l more found =
     }
 
 -- where no old number answers a letter, its author's last number isn't the greatest
-new_number : (n : Mail) (k : Option Kept) → IsMail n → old_number n k ≡ None → last_number k < 999999999
+pub new_number : (n : Mail) (k : Option Kept) → IsMail n → old_number n k ≡ None → last_number k < 999999999
 new_number n k is new =
     let less = numbered_newer n k (λ v. Unit {0}) [] Nothing is (subst (λ (o : Option Verdict). NumberedBy o (λ v. Unit {0}) (Taken [] Nothing)) (sym new) tt) in
     let most = is.number_most in

@@ -3,7 +3,7 @@ ghost use Rattle.std.specs.Prelude.{List};
 ghost use Rattle.dip_map.specs.Charts.{Chart};
 ghost use Rattle.dip_desk_machine.specs.Draws.{DrawsAreAgreed};
 ghost use Rattle.dip_desk_machine.specs.Fitting.{EffectsFit, LawfulEffectsFit};
-ghost use Rattle.dip_desk_machine.specs.Handing.{StandingOrdersAreGiven};
+ghost use Rattle.dip_desk_machine.specs.Handing.{StandingOrdersAreGiven, StandingOrdersComeByPlace};
 ghost use Rattle.dip_desk_machine.specs.Intents.{KeepsIntent, OpensAsAsked};
 ghost use Rattle.dip_desk_machine.specs.Lawful.{IsNeverDamaged, StaysLawful};
 ghost use Rattle.dip_desk_machine.specs.Published.{MovementsAreDecided};
@@ -149,9 +149,10 @@ pub fn effects_fit(map: &Map)
 }
 
 /// In a lawful state the orders that stand in a game are what `advance` of the phases asks for: each can be given beside the others of
-/// its power, and no power has two in one province.
+/// its power, and no power has two in one province. They come by power and province, in whatever order CREATE named the seats.
 pub fn standing_orders_are_given(map: &Map)
-    ensures { StandingOrdersAreGiven map.now }
+    ensures given { StandingOrdersAreGiven map.now }
+    ensures placed { StandingOrdersComeByPlace map.now }
 {
     map.facts();
     orders_are_lawful();

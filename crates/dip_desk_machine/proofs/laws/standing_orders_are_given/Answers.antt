@@ -1,10 +1,10 @@
 use Rattle.dip_map.specs.Boards.{Position, IsOf}
-use Rattle.dip_desk_machine.proofs.Handing.{all_given}
+use Rattle.dip_desk_machine.proofs.Handing.{all_given, all_placed}
 use Rattle.dip_desk_machine.proofs.LawfulOrders.{AreRead}
 use Rattle.dip_desk_machine.proofs.laws.standing_orders_are_given.Goals as goal
 
-pub returns : goal.returns
-returns c =
+pub returns-clause-given : goal.returns-clause-given
+returns-clause-given c =
     let m = c.args.map.now in
     let read : (b : Position) → IsOf m b → AreRead m b = λ b of. record {
       lawful = λ power beside line o is. c.orders_are_lawful.ensures m b power beside line o c.facts.ensures of is;
@@ -12,3 +12,13 @@ returns c =
       alone = λ power beside line o is. c.orders_are_read_again.ensures.alone m b power beside line o is;
     } in
     all_given m read
+
+pub returns-clause-placed : goal.returns-clause-placed
+returns-clause-placed c =
+    let m = c.args.map.now in
+    let read : (b : Position) → IsOf m b → AreRead m b = λ b of. record {
+      lawful = λ power beside line o is. c.orders_are_lawful.ensures m b power beside line o c.facts.ensures of is;
+      read = λ power beside o lawful. c.lawful_orders_are_read.ensures m b power beside o c.facts.ensures of lawful;
+      alone = λ power beside line o is. c.orders_are_read_again.ensures.alone m b power beside line o is;
+    } in
+    all_placed m read

@@ -34,3 +34,14 @@ pub enum Verdict {
     /// It is wrong here: a line that is no order, or else the first line that differs from the paper of what the text prints.
     Wrong(Fault),
 }
+
+/// What is said of texts that are to be the papers of a game, in order.
+#[derive(Drop)]
+pub enum Papers {
+    /// They are, and leave the game so.
+    Right(Public),
+    /// The paper of this number, counted from 1, is the first that is wrong, and it is so here.
+    Wrong(usize, Fault),
+    /// There is no paper.
+    None,
+}

@@ -6,7 +6,9 @@ use dip_desk_state::Public;
 pub enum Wanted {
     /// This line.
     Line(String),
-    /// An order that can be given on the board, beside those of its power above it, and what became of it.
+    /// An order of this unit that can be given on the board, and what became of it: the unit's power, its kind and its place.
+    OrderOf(String),
+    /// In Winter, an order that can be given beside those of its power above it, and stands behind them by province.
     AnOrder,
     /// A line of an announcement, which has 1 to 80: `> ` and up to 200 bytes from the space to `~`.
     AText,

@@ -1,5 +1,5 @@
 //! The paper of an announcement.
-ghost use Rattle.std.specs.Prelude.{◌≡◌, ◌++◌, ◌<◌, IfOk, OnOk, List, [], map as each, string_bytes, true};
+ghost use Rattle.std.specs.Prelude.{◌≡◌, ◌++◌, ◌<◌, IfOk, OnOk, [], map as each, string_bytes, true};
 ghost use Rattle.std.specs.List.{list_all};
 ghost use Rattle.dip_check.specs.Checks.{IsRightNext};
 ghost use Rattle.dip_desk_machine.specs.Noting.{public_noted};
@@ -10,7 +10,7 @@ ghost use Rattle.dip_letters.specs.Notes.NoticeRequest.{Announce};
 ghost use Rattle.dip_letters.specs.Words.{is_text};
 ghost use Rattle.dip_map.specs.Boards.{IsOf};
 ghost use Rattle.dip_names.specs.Forms.{is_printable};
-ghost use Rattle.dip_reports.specs.Texts.{board_lines, game_line, marked_lines, notice_paper, paper_end, paper_title};
+ghost use Rattle.dip_reports.specs.Texts.{marked_lines, notice_paper, paper_end};
 
 use crate::differences::{compared, fault_at};
 use crate::titles::line_of;

@@ -10,7 +10,9 @@ use Rattle.dip_desk_machine.specs.Noting.{is_announcement}
 use Rattle.dip_desk_state.specs.Records.{For, Public}
 use Rattle.dip_desk_state.specs.Rows as rows
 use Rattle.dip_desk_state.specs.Writable.{IsVoteOf}
-use Rattle.dip_check.specs.Games.{IsNext, IsOpening}
+use Rattle.dip_check.specs.Games.{AreNext, AreOfGame, IsNext, IsOpening}
+use Rattle.dip_check.specs.declared.verdict.Papers.{Papers}
+use Rattle.dip_check.specs.declared.verdict.Papers.TheVariants.{None as NoPapers, Right as RightPapers, Wrong as WrongPaper}
 use Rattle.dip_check.specs.declared.verdict.Verdict.{Verdict}
 use Rattle.dip_check.specs.declared.verdict.Verdict.TheVariants.{Right, Wrong}
 
@@ -38,3 +40,15 @@ pub record MayShare (m : Chart) (b : Position) (powers : List ℕ) : Type 0 wher
 pub record IsCommand (notice : NoticeRequest) : Type 0 where
   pub fits : FitsNotice notice
   pub kind : is_announcement notice ≡ false
+
+-- texts are right only where they may come one after the other, and leave the game so
+abbrev pub AreRightFrom : Chart → Public → List (List ℕ) → Papers → Type 0
+AreRightFrom m p texts (RightPapers new) = AreNext m p texts (rows.public new)
+AreRightFrom m p texts (WrongPaper number fault) = Unit {0}
+AreRightFrom m p texts NoPapers = Unit {0}
+
+-- texts are right only where they are the papers of a game, which stands so after them
+abbrev pub AreRightPapers : Chart → List (List ℕ) → Papers → Type 0
+AreRightPapers m texts (RightPapers new) = AreOfGame m texts (rows.public new)
+AreRightPapers m texts (WrongPaper number fault) = Unit {0}
+AreRightPapers m texts NoPapers = Unit {0}

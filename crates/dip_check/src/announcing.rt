@@ -1,5 +1,5 @@
 //! The paper of an announcement.
-ghost use Rattle.std.specs.Prelude.{◌≡◌, ◌++◌, ◌<◌, IfOk, OnOk, List, [], map as each, string_bytes, true};
+ghost use Rattle.std.specs.Prelude.{◌≡◌, ◌++◌, ◌<◌, IfOk, OnOk, [], map as each, string_bytes, true};
 ghost use Rattle.std.specs.List.{list_all};
 ghost use Rattle.dip_check.specs.Checks.{IsRightNext};
 ghost use Rattle.dip_desk_machine.specs.Noting.{public_noted};
@@ -10,9 +10,10 @@ ghost use Rattle.dip_letters.specs.Notes.NoticeRequest.{Announce};
 ghost use Rattle.dip_letters.specs.Words.{is_text};
 ghost use Rattle.dip_map.specs.Boards.{IsOf};
 ghost use Rattle.dip_names.specs.Forms.{is_printable};
-ghost use Rattle.dip_reports.specs.Texts.{board_lines, game_line, marked_lines, notice_paper, paper_end, paper_title};
+ghost use Rattle.dip_reports.specs.Texts.{marked_lines, notice_paper, paper_end};
 
 use crate::differences::{compared, fault_at};
+use crate::titles::line_of;
 use crate::verdict::{Verdict, Wanted};
 use dip_desk_state::Public;
 use dip_map::Map;
@@ -112,16 +113,16 @@ fn public_announced(alloc: Global, before: &Public) -> Result<Public, AllocError
     })
 }
 
-/// The first of these lines, with the number of its line in the paper, that is no line of an announcement.
-fn first_unfit<'a>(lines: &[&'a str]) -> (usize, &'a str) {
+/// The number, in the paper, of the first of these lines that is no line of an announcement.
+fn first_unfit(lines: &[&str]) -> usize {
     let mut number: usize = 2;
     for line in lines {
         if MOST_LINES + 1 < number || !is_text(line) {
-            return (number, line);
+            return number;
         }
         number = number.saturating_add(1);
     }
-    (number, "")
+    number
 }
 
 /// What is said of a text that is to be the paper of an announcement of these lines.
@@ -137,8 +138,9 @@ pub(crate) fn check_announcement(
     ensures { IfOk result (λ v. IsRightNext map.now (rows.public before.now) text.now v) }
 {
     if !fits(lines) {
-        let (number, line) = first_unfit(lines);
-        return Ok(Verdict::Wrong(fault_at(alloc, number, line, Wanted::AText)?));
+        let number = first_unfit(lines);
+        let fault = fault_at(alloc, number, line_of(text, number), Wanted::AText)?;
+        return Ok(Verdict::Wrong(fault));
     }
     let after = public_announced(alloc, before)?;
     let wanted = announcement_text(alloc, map, lines, &after)?;

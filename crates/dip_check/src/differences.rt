@@ -1,5 +1,5 @@
 //! Where a text differs from the one that is wanted.
-ghost use Rattle.std.specs.Prelude.{IfOk, string_bytes};
+ghost use Rattle.std.specs.Prelude.{IfOk};
 ghost use Rattle.dip_check.specs.Checks.{IsCompared};
 ghost use Rattle.dip_desk_state.specs.Rows as rows;
 

@@ -2,7 +2,6 @@
 ghost use Rattle.std.specs.Prelude.{◌≡◌, IfOk, true};
 ghost use Rattle.std.specs.List.{list_all};
 ghost use Rattle.dip_desk_machine.specs.Handing.{are_by_place, comes_before};
-ghost use Rattle.dip_map.specs.Boards.{IsOf};
 ghost use Rattle.dip_orders.specs.Given.{AreGiven, IsEachGiven, orders_of_power};
 ghost use Rattle.dip_orders.specs.Laws.{IsGiven};
 

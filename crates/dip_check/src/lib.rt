@@ -6,6 +6,7 @@ mod announcing;
 mod checking;
 mod differences;
 mod drawing;
+mod games;
 mod given;
 mod laws;
 mod notices;
@@ -18,9 +19,10 @@ mod verdict;
 mod words;
 
 pub use checking::check_paper;
+pub use games::check_papers;
 pub use laws::{
     games_stay_right, movements_are_read_back, other_orders_are_read_back,
     right_movements_are_decided, what_is_published_is_right,
 };
 pub use openings::check_opening;
-pub use verdict::{Fault, Verdict, Wanted};
+pub use verdict::{Fault, Papers, Verdict, Wanted};

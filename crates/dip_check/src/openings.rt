@@ -1,5 +1,5 @@
 //! The first paper of a game.
-ghost use Rattle.std.specs.Prelude.{◌≡◌, ◌&&◌, ◌||◌, ◌≤◌, IfOk, nat_le, true};
+ghost use Rattle.std.specs.Prelude.{◌≡◌, ◌&&◌, ◌||◌, ◌≤◌, IfOk};
 ghost use Rattle.std.specs.List.{list_all};
 ghost use Rattle.dip_check.specs.Checks.{IsRightFirst};
 ghost use Rattle.dip_desk_machine.specs.Machine as machine;

@@ -1,7 +1,12 @@
-//! The first line of a paper.
+//! The first line of a paper, and a line by its number.
 use dip_desk_state::Public;
 use dip_reports::push_phase;
 use std::alloc::{AllocError, Global};
+
+/// The line of a number, counted from 1; nothing where the text has fewer.
+pub(crate) fn line_of(text: &str, number: usize) -> &str {
+    text.split('\n').nth(number.saturating_sub(1)).unwrap_or("")
+}
 
 /// The first line of a text.
 pub(crate) fn first_line(text: &str) -> &str {

@@ -6,7 +6,9 @@ use dip_desk_state::Public;
 pub enum Wanted {
     /// This line.
     Line(String),
-    /// An order that can be given on the board, beside those of its power above it, and what became of it.
+    /// An order of this unit that can be given on the board, and what became of it: the unit's power, its kind and its place.
+    OrderOf(String),
+    /// In Winter, an order that can be given beside those of its power above it, and stands behind them by province.
     AnOrder,
     /// A line of an announcement, which has 1 to 80: `> ` and up to 200 bytes from the space to `~`.
     AText,
@@ -33,4 +35,15 @@ pub enum Verdict {
     Right(Public),
     /// It is wrong here: a line that is no order, or else the first line that differs from the paper of what the text prints.
     Wrong(Fault),
+}
+
+/// What is said of texts that are to be the papers of a game, in order.
+#[derive(Drop)]
+pub enum Papers {
+    /// They are, and leave the game so.
+    Right(Public),
+    /// The paper of this number, counted from 1, is the first that is wrong, and it is so here.
+    Wrong(usize, Fault),
+    /// There is no paper.
+    None,
 }

@@ -1,0 +1,52 @@
+//! All papers of a game, one after the other.
+ghost use Rattle.std.specs.Prelude.{IfOk, map as each};
+ghost use Rattle.dip_check.specs.Checks.{AreRightFrom, AreRightPapers};
+ghost use Rattle.dip_desk_state.specs.Rows as rows;
+ghost use Rattle.dip_map.specs.Boards.{IsOf};
+
+use crate::checking::check_paper;
+use crate::openings::check_opening;
+use crate::verdict::{Papers, Verdict};
+use dip_desk_state::Public;
+use dip_map::Map;
+use std::alloc::{AllocError, Global};
+
+/// What is said of papers that are to come one after the other in a game that stands so after its first.
+fn check_from(
+    alloc: Global,
+    map: &Map,
+    first: Public,
+    papers: &[&str],
+) -> Result<Papers, AllocError>
+    requires { IsOf map.now first.board.value }
+    ensures { IfOk result (λ v. AreRightFrom map.now (rows.public first)
+        (each (λ t. t.now) papers.now) v) }
+{
+    let mut public = first;
+    let mut number: usize = 1;
+    for paper in papers {
+        number = number.saturating_add(1);
+        match check_paper(alloc, map, &public, paper)? {
+            Verdict::Right(after) => public = after,
+            Verdict::Wrong(fault) => return Ok(Papers::Wrong(number, fault)),
+        }
+    }
+    Ok(Papers::Right(public))
+}
+
+/// What is said of texts that are to be the papers of a game, in order: they are right only where the rules give them, from the opening
+/// on, each after the one before it.
+///
+/// # Errors
+/// Want of memory alone.
+pub fn check_papers(alloc: Global, map: &Map, papers: &[&str]) -> Result<Papers, AllocError>
+    ensures { IfOk result (λ v. AreRightPapers map.now (each (λ t. t.now) papers.now) v) }
+{
+    if papers.is_empty() {
+        return Ok(Papers::None);
+    }
+    match check_opening(alloc, map, papers[0])? {
+        Verdict::Right(first) => check_from(alloc, map, first, &papers[1..]),
+        Verdict::Wrong(fault) => Ok(Papers::Wrong(1, fault)),
+    }
+}

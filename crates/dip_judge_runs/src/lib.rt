@@ -9,4 +9,4 @@ mod run;
 pub use fresh::answer_letters;
 pub use map_file::{FileFault, MOST_MAP, NoMap, read_map, read_text, text_said};
 pub use reading::ReadFault;
-pub use run::{MOST_INPUT, RunFault, run_file};
+pub use run::{MOST_INPUT, RunFault, read_input, run_file};

@@ -70,7 +70,10 @@ impl fmt::Display for RunFault {
 impl Error for RunFault {}
 
 /// All that the reader has, at most `MOST_INPUT` bytes.
-fn read_input<R: Read>(alloc: Global, reader: &mut R) -> Result<Vec<u8>, RunFault>
+///
+/// # Errors
+/// `Read`, `TooLong` or `Memory`.
+pub fn read_input<R: Read>(alloc: Global, reader: &mut R) -> Result<Vec<u8>, RunFault>
     ensures whole { IfOk result
         (λ v. IsReadWhole (R.remaining reader.old) (R.remaining reader.new) v.items) }
     ensures long { IsErrOf result RunFault.TooLong

@@ -6,7 +6,7 @@ use Rattle.clap.specs.declared.error.kind.ErrorKind.TheVariants.{DisplayVersion}
 use Rattle.dip_letters.specs.Words.{is_secret}
 use Rattle.dip_judge_words.specs.CommandLine.{judge_command}
 use Rattle.dip_judge_words.specs.declared.args.Args.{Args}
-use Rattle.dip_judge_words.specs.declared.args.Args.TheVariants.{Init, Letters, Stored, Serve, Report, Version}
+use Rattle.dip_judge_words.specs.declared.args.Args.TheVariants.{Init, Letters, Stored, Serve, Report, Check, Version}
 
 -- what clap's definition finds in words that it takes: the command's name, and the values of its options
 abbrev pub Found : Type 0
@@ -23,6 +23,7 @@ map_named (Letters master file) = option_map (λ f. f.now) file
 map_named (Stored store file) = option_map (λ f. f.now) file
 map_named (Serve store port count file) = option_map (λ f. f.now) file
 map_named (Report store game file) = option_map (λ f. f.now) file
+map_named (Check file) = option_map (λ f. f.now) file
 map_named Version = None
 
 -- the command's name; the version is asked for without one
@@ -32,6 +33,7 @@ name_of (Letters master file) = codes "letters"
 name_of (Stored store file) = codes "letters"
 name_of (Serve store port count file) = codes "serve"
 name_of (Report store game file) = codes "report"
+name_of (Check file) = codes "check"
 name_of Version = []
 
 -- the values of its options but the map; `letters` has a store or a master, not both
@@ -42,6 +44,7 @@ HasValues found (Stored store file) = Has found (codes "store") (Some store.now)
 HasValues found (Serve store port count file) = Has found (codes "store") (Some store.now)
     × Has found (codes "port") (Some (decimal port)) × Has found (codes "count") (Some (decimal count))
 HasValues found (Report store game file) = Has found (codes "store") (Some store.now) × Has found (codes "game") (Some game.now)
+HasValues found (Check file) = Unit {0}
 HasValues found Version = ⊥
 
 -- what is found is this command with these values

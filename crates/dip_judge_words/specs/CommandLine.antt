@@ -35,6 +35,10 @@ abbrev pub report_command : App
 report_command = with_rule (with_rule (with_rule (new_app (codes "report"))
     (required_rule (codes "store"))) (required_rule (codes "game"))) (option_rule (codes "map"))
 
+-- `check [--map M]`
+abbrev pub check_command : App
+check_command = with_rule (new_app (codes "check")) (option_rule (codes "map"))
+
 -- the program, which wants a command or tells its version, with the first two commands
 abbrev pub mail_command : App
 mail_command = with_subcommand (with_subcommand (on_required (new_app (codes "dip_judge"))) init_command.top) letters_command.top
@@ -42,6 +46,10 @@ mail_command = with_subcommand (with_subcommand (on_required (new_app (codes "di
     on_required : App → App
     on_required a = record a { top = record a.top { has_version = true; subcommand_required = true } }
 
+-- the same with the commands over a store alone
+abbrev pub desk_command : App
+desk_command = with_subcommand (with_subcommand mail_command serve_command.top) report_command.top
+
 -- the program
 abbrev pub judge_command : App
-judge_command = with_subcommand (with_subcommand mail_command serve_command.top) report_command.top
+judge_command = with_subcommand desk_command check_command.top

@@ -34,6 +34,10 @@ pub enum Args<'a> {
         game: &'a str,
         map: Option<&'a str>,
     },
+    /// Check the papers of a game from standard input, with no tables.
+    Check {
+        map: Option<&'a str>,
+    },
     /// Print what this program is: its version, its standard map, and by what it was proved.
     Version,
 }
@@ -49,6 +53,7 @@ impl<'a> Args<'a> {
             Args::Stored { map, .. } => map,
             Args::Serve { map, .. } => map,
             Args::Report { map, .. } => map,
+            Args::Check { map } => map,
             Args::Version => None,
         }
     }

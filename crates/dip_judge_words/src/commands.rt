@@ -2,7 +2,7 @@
 ghost use Rattle.std.specs.Prelude.{◌≡◌, false, IfOk};
 ghost use Rattle.clap.specs.Words.{app_of, new_app, rule_of, with_rule};
 ghost use Rattle.clap.specs.declared.builder.command.Command.TheViews.{out-Command as fields_of};
-ghost use Rattle.dip_judge_words.specs.CommandLine.{init_command, judge_command, letters_command, listening_command, mail_command, report_command, serve_command};
+ghost use Rattle.dip_judge_words.specs.CommandLine.{check_command, desk_command, init_command, judge_command, letters_command, listening_command, mail_command, report_command, serve_command};
 
 use crate::options::{
     count_arg, game_arg, map_arg, master_arg, port_arg, required_master, required_store, store_arg,
@@ -85,6 +85,15 @@ fn report_command<'a>(alloc: Global) -> Result<Command<'a>, AllocError>
     Ok(command.about("Prints all papers of a game, in order"))
 }
 
+/// The command `check`.
+fn check_command<'a>(alloc: Global) -> Result<Command<'a>, AllocError>
+    ensures app { IfOk result (λ c. app_of c ≡ check_command) }
+    ensures local { IfOk result (λ c. (fields_of c).has_globals ≡ false) }
+{
+    let command = Command::new(alloc, "check").arg(map_arg(alloc))?;
+    Ok(command.about("Checks the papers of a game on standard input, with no tables"))
+}
+
 /// The program's command line, as far as the commands over letters.
 fn mail_command<'a>(alloc: Global) -> Result<Command<'a>, AllocError>
     ensures { IfOk result (λ c. app_of c ≡ mail_command) }
@@ -98,11 +107,19 @@ fn mail_command<'a>(alloc: Global) -> Result<Command<'a>, AllocError>
         .subcommand(letters)
 }
 
-/// The program's command line.
-pub fn judge_command<'a>(alloc: Global) -> Result<Command<'a>, AllocError>
-    ensures { IfOk result (λ c. app_of c ≡ judge_command) }
+/// The program's command line, as far as the commands over a desk.
+fn desk_command<'a>(alloc: Global) -> Result<Command<'a>, AllocError>
+    ensures { IfOk result (λ c. app_of c ≡ desk_command) }
 {
     let serve = serve_command(alloc)?;
     let report = report_command(alloc)?;
     mail_command(alloc)?.subcommand(serve)?.subcommand(report)
+}
+
+/// The program's command line.
+pub fn judge_command<'a>(alloc: Global) -> Result<Command<'a>, AllocError>
+    ensures { IfOk result (λ c. app_of c ≡ judge_command) }
+{
+    let check = check_command(alloc)?;
+    desk_command(alloc)?.subcommand(check)
 }

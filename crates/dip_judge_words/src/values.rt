@@ -1,5 +1,5 @@
 //! What each command asks for, by the values of its options.
-ghost use Rattle.std.specs.Prelude.{◌≡◌, codes, option_map};
+ghost use Rattle.std.specs.Prelude.{◌≡◌, Some, codes, option_map};
 ghost use Rattle.clap.specs.Words.{first_of, found_of, rows_of};
 ghost use Rattle.dip_judge_words.specs.Reading.{Answers};
 
@@ -80,6 +80,15 @@ pub fn serve_of<'a>(found: &ArgMatches<'a>) -> Option<Args<'a>>
         count,
         map,
     })
+}
+
+/// What `check` asks for.
+pub fn check_of<'a>(found: &ArgMatches<'a>) -> Args<'a>
+    ensures { Answers (codes "check", rows_of (found_of found.now)) (Some result) }
+{
+    Args::Check {
+        map: value_of(found, "map"),
+    }
 }
 
 /// What `report` asks for.

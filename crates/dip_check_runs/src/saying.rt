@@ -1,0 +1,70 @@
+//! What is said of bytes that are to come next in a game.
+ghost use Rattle.std.specs.Prelude.{◌≡◌, ◌≤◌, IfOk, IfErr, length};
+ghost use Rattle.dip_check_runs.specs.Runs.{IsSaidFirst, IsSaidNext, IsTellingFault};
+ghost use Rattle.dip_desk_state.specs.Rows as rows;
+ghost use Rattle.dip_map.specs.Boards.{IsOf};
+
+use crate::papers::line_after;
+use dip_check::{Fault, Verdict, check_opening, check_paper};
+use dip_desk_state::Public;
+use dip_judge_runs::RunFault;
+use dip_map::Map;
+use std::alloc::{AllocError, Global};
+use std::str;
+
+/// What is said of bytes that are to come next in a game.
+#[derive(Drop)]
+pub(crate) enum Said {
+    /// They may come next, and leave the game so.
+    Right(Public),
+    /// The text that they are is wrong.
+    Wrong(Fault),
+    /// They are no text: in this line, counted from 1, they are no UTF-8.
+    NoText(usize),
+}
+
+/// The bytes as a text, or the line in which they are none.
+fn text_of(bytes: &[u8]) -> Result<&str, usize>
+    ensures { IfOk result (λ t. t.now ≡ bytes.now) }
+{
+    match str::from_utf8(bytes) {
+        Ok(text) => Ok(text),
+        Err(error) => Err(line_after(bytes.get(..error.valid_up_to()).unwrap_or(bytes))),
+    }
+}
+
+/// What is said of bytes that are to come next in a game that stands so.
+pub(crate) fn say_next(
+    alloc: Global,
+    map: &Map,
+    before: &Public,
+    bytes: &[u8],
+) -> Result<Said, RunFault>
+    requires { IsOf map.now before.now.board.value }
+    ensures said { IfOk result (IsSaidNext map.now (rows.public before.now) bytes.now) }
+    ensures fault { IfErr result IsTellingFault }
+{
+    match text_of(bytes) {
+        Err(line) => Ok(Said::NoText(line)),
+        Ok(text) => match check_paper(alloc, map, before, text) {
+            Err(_) => Err(RunFault::Memory),
+            Ok(Verdict::Right(new)) => Ok(Said::Right(new)),
+            Ok(Verdict::Wrong(fault)) => Ok(Said::Wrong(fault)),
+        },
+    }
+}
+
+/// What is said of bytes that are to come first in a game.
+pub(crate) fn say_first(alloc: Global, map: &Map, bytes: &[u8]) -> Result<Said, RunFault>
+    ensures said { IfOk result (IsSaidFirst map.now bytes.now) }
+    ensures fault { IfErr result IsTellingFault }
+{
+    match text_of(bytes) {
+        Err(line) => Ok(Said::NoText(line)),
+        Ok(text) => match check_opening(alloc, map, text) {
+            Err(_) => Err(RunFault::Memory),
+            Ok(Verdict::Right(new)) => Ok(Said::Right(new)),
+            Ok(Verdict::Wrong(fault)) => Ok(Said::Wrong(fault)),
+        },
+    }
+}

@@ -38,14 +38,22 @@ pub(crate) fn tell_right<W: Write>(writer: &mut W, paper: &[u8]) -> Result<(), R
 }
 
 /// What a line should be, in words.
-fn wanted_words(wanted: &Wanted) -> &str {
+fn wanted_words(alloc: Global, wanted: &Wanted) -> Result<String, AllocError> {
     match wanted {
-        Wanted::Line(line) => line.as_str(),
-        Wanted::AnOrder => "an order that can be given there, and what became of it",
-        Wanted::AText =>
+        Wanted::Line(line) => String::from_str(alloc, line.as_str()),
+        Wanted::OrderOf(unit) => Ok(format!(in alloc;
+            "an order of {unit} that can be given there, and what became of it"
+        )?),
+        Wanted::AnOrder => String::from_str(
+            alloc,
+            "an order that can be given there, and what became of it",
+        ),
+        Wanted::AText => String::from_str(
+            alloc,
             "a line of an announcement: > and a space, and up to 200 printable characters",
-        Wanted::AGameLine => "a game line",
-        Wanted::NoLine => "nothing: the paper should end before it",
+        ),
+        Wanted::AGameLine => String::from_str(alloc, "a game line"),
+        Wanted::NoLine => String::from_str(alloc, "nothing: the paper should end before it"),
     }
 }
 
@@ -85,14 +93,17 @@ pub(crate) fn tell_wrong<W: Write>(
     ensures grows { Grows (W.contents writer.old) (W.contents writer.new) }
     ensures fault { IfErr result IsTellingFault }
 {
-    tell_line(
-        alloc,
-        writer,
-        paper,
-        fault.line,
-        fault.is.as_str(),
-        wanted_words(&fault.wanted),
-    )
+    match wanted_words(alloc, &fault.wanted) {
+        Err(_) => Err(RunFault::Memory),
+        Ok(words) => tell_line(
+            alloc,
+            writer,
+            paper,
+            fault.line,
+            fault.is.as_str(),
+            words.as_str(),
+        ),
+    }
 }
 
 /// Tells that a paper is no text in this line.

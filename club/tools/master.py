@@ -205,8 +205,11 @@ def opened(settings: Settings, game: str, command: str, seats: List[str]) -> Rep
 # vettonugal create
 
 def arguments_of_create(parser) -> None:
+    parser.usage = ("vettonugal create [-h] game --deadline 'YYYY-MM-DD HH:MM' --every TIME\n"
+                    "       [--grey] [--intent] [--powers A,B] [--past]\n"
+                    "       [--send POWER=ADDRESS [POWER=ADDRESS ...]]")
     parser.add_argument("game",
-                        help="its name: a letter first, then letters and digits, 16 at most")
+                        help="its name, before all options: a letter first, then letters and digits")
     parser.add_argument("--deadline", required=True, metavar="'YYYY-MM-DD HH:MM'",
                         help="the first deadline, in this machine's time zone")
     parser.add_argument("--every", required=True, metavar="TIME",
@@ -217,7 +220,8 @@ def arguments_of_create(parser) -> None:
                         help="the powers of the map; the seven of the standard map by default")
     parser.add_argument("--send", action="append", default=[], metavar="POWER=ADDRESS", nargs="+",
                         help="mails this seat's secret to its player, and doesn't print it")
-    parser.add_argument("--past", action="store_true", help="also with a deadline in the past")
+    parser.add_argument("--past", action="store_true",
+                        help="opens it also if the deadline is past: it is played at once")
 
 
 def new_secret() -> str:

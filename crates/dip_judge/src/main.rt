@@ -3,6 +3,7 @@
 #![tactic(auto)]
 
 mod asked;
+mod checking;
 mod failures;
 mod files;
 mod listening;

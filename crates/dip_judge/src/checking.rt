@@ -1,0 +1,33 @@
+//! Papers that are checked.
+ghost use Rattle.std.specs.Prelude.{IfErr, OnOk, true};
+ghost use Rattle.dip_check_runs.specs.Runs.{IsChecked};
+ghost use Rattle.dip_judge.specs.Asked.{FailsCheck};
+
+use crate::failures::Failure;
+use dip_check_runs::check_papers;
+use dip_judge_runs::RunFault;
+use dip_map::Map;
+use std::alloc::Global;
+use std::io::{Read, Write};
+
+/// Checks the papers that the reader has.
+///
+/// # Errors
+/// `NotRight`, and what isn't was written; or what `check_papers` has.
+pub(crate) fn check<R: Read, W: Write>(
+    alloc: Global,
+    reader: &mut R,
+    writer: &mut W,
+    map: &Map,
+) -> Result<(), Failure>
+    ensures right { OnOk result (IsChecked map.now (R.remaining reader.old)
+        (R.remaining reader.new) (W.contents writer.old) (W.contents writer.new) true) }
+    ensures wrong { IfErr result (FailsCheck map.now (R.remaining reader.old)
+        (R.remaining reader.new) (W.contents writer.old) (W.contents writer.new)) }
+{
+    match check_papers(alloc, reader, writer, map) {
+        Ok(true) => Ok(()),
+        Ok(false) => Err(Failure::NotRight),
+        Err(fault) => Err(Failure::Run(fault)),
+    }
+}

@@ -52,7 +52,7 @@ fn fits(lines: &[&str]) -> bool
     1 <= lines.len() && lines.len() <= MOST_LINES && are_texts(lines)
 }
 
-/// Appends lines, each behind its mark.
+/// Appends lines, each after its mark.
 fn push_marked_lines(lines: &[&str], out: &mut String) -> Result<(), AllocError>
     ensures { OnOk result (string_bytes out.new
         ≡ string_bytes out.old ++ marked_lines (each (λ l. l.now) lines.now)) }

@@ -8,7 +8,7 @@ pub enum Wanted {
     Line(String),
     /// An order of this unit that can be given on the board, and what became of it: the unit's power, its kind and its place.
     OrderOf(String),
-    /// In Winter, an order that can be given beside those of its power above it, and stands behind them by province.
+    /// In Winter, an order that can be given beside those of its power above it, and stands after them by province.
     AnOrder,
     /// A line of an announcement, which has 1 to 80: `> ` and up to 200 bytes from the space to `~`.
     AText,

@@ -1,4 +1,4 @@
-//! The game line of a paper, word by word: `GAME`, the game, the phase, how it stands, and its terms, each behind its name.
+//! The game line of a paper, word by word: `GAME`, the game, the phase, how it stands, and its terms, each after its name.
 
 /// The game line: the only line that begins so, or nothing where there is none.
 pub(crate) fn game_line(text: &str) -> &str {
@@ -10,7 +10,7 @@ pub(crate) fn game_line(text: &str) -> &str {
     ""
 }
 
-/// The word behind a word of the line.
+/// The word after a word of the line.
 pub(crate) fn word_behind<'a>(line: &'a str, name: &str) -> Option<&'a str> {
     let mut is_next = false;
     for word in line.split(' ') {
@@ -22,12 +22,12 @@ pub(crate) fn word_behind<'a>(line: &'a str, name: &str) -> Option<&'a str> {
     None
 }
 
-/// The number behind a word of the line.
+/// The number after a word of the line.
 pub(crate) fn number_behind(line: &str, name: &str) -> Option<u64> {
     word_behind(line, name)?.parse::<u64>().ok()
 }
 
-/// Whether the line says YES behind a word.
+/// Whether the line says YES after a word.
 pub(crate) fn says_yes(line: &str, name: &str) -> bool {
     word_behind(line, name) == Some("YES")
 }

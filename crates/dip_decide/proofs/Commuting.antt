@@ -3,12 +3,12 @@ use Rattle.std.proofs.Common.{◌≡◌, [], ◌∷◌, inl, inr}
 use mathlib.Core.Logic.{◌⊎◌}
 use Rattle.std.proofs.lemmas.Bool.{or_left}
 use Rattle.std.specs.Prelude.{true, false}
-use Rattle.dip_decide_table.specs.Deciding.{Known, Assignment, Stands, Step, give}
-use Rattle.dip_decide_table.specs.Deciding.Step.{Forced, Circle, Knot}
-use Rattle.dip_decide_table.specs.Movement.{Situation, rule, mentions}
+use Rattle.dip_decide_rules.specs.Deciding.{Known, Assignment, Stands, Step, give}
+use Rattle.dip_decide_rules.specs.Deciding.Step.{Forced, Circle, Knot}
+use Rattle.dip_decide_rules.specs.Movement.{Situation, rule, mentions}
 use Rattle.dip_decide.specs.Statements.{Commute}
-use Rattle.dip_decide_table.proofs.OneAnswer.{Apart, apart_sym, same_self, same_or_apart, open_one, give_apart, give_same, forced_stays, circle_stays, knots_same}
-use Rattle.dip_decide_table.proofs.OneAnswer.Plain.{alone, ring}
+use Rattle.dip_decide_rules.proofs.OneAnswer.{Apart, apart_sym, same_self, same_or_apart, open_one, give_apart, give_same, forced_stays, circle_stays, knots_same}
+use Rattle.dip_decide_rules.proofs.OneAnswer.Plain.{alone, ring}
 
 module _ (s : Situation) (k : Known) where
   pub commute : (one two : Step) (f g : Assignment) → Stands (rule s) (mentions s) k one f → Stands (rule s) (mentions s) k two g → Commute s k one f two g

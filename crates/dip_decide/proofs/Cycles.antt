@@ -5,27 +5,27 @@ use Rattle.std.specs.List.{list_all}
 use Rattle.std.proofs.lemmas.Bool.{cases_Bool, both_ways, or_cases, or_left, or_right, and_parts, and_from, eqb-true, eq-eqb}
 use Rattle.std.proofs.lemmas.Bool.Decides.{nat_tests}
 use mathlib.Core.Logic.{◌⊎◌}
-use Rattle.dip_decide_table.specs.declared.decisions.Decision.{Decision}
-use Rattle.dip_decide_table.specs.declared.decisions.Decision.TheVariants.{Move, Path, Support}
-use Rattle.dip_decide_table.specs.Deciding.{same, is_among, Assignment, Known, Equation, Mentions, IsForced, Step, give, Explains, is_broken}
-use Rattle.dip_decide_table.specs.Deciding.Step.{Forced, Circle, Knot}
-use Rattle.dip_decide_table.specs.Laws.{AreGoing, IsCycle}
-use Rattle.dip_decide_table.specs.Movement.{Situation, is_listed, goes, has_move, head_to_head, support, support_against, attack, hold, opposition, beats, rule, mentions, at_first, Satisfies}
-use Rattle.dip_decide_table.specs.Results.{AreExplained}
-use Rattle.dip_decide_table.specs.Rings.{first_or, AreOpen}
-use Rattle.dip_decide_table.specs.Steps.{moves_of}
-use Rattle.dip_decide_table.proofs.FromSteps.{satisfied, explains_completes}
-use Rattle.dip_decide_table.proofs.Giving.{single_moves}
-use Rattle.dip_decide_table.proofs.OneAnswer.{same_is, fill, fill_completes, fill_there, give_open}
-use Rattle.dip_decide_table.proofs.Progress.{is_at_is, no_more}
-use Rattle.dip_decide_table.proofs.RingLaws.{among_moves}
+use Rattle.dip_decide_rules.specs.declared.decisions.Decision.{Decision}
+use Rattle.dip_decide_rules.specs.declared.decisions.Decision.TheVariants.{Move, Path, Support}
+use Rattle.dip_decide_rules.specs.Deciding.{same, is_among, Assignment, Known, Equation, Mentions, IsForced, Step, give, Explains, is_broken}
+use Rattle.dip_decide_rules.specs.Deciding.Step.{Forced, Circle, Knot}
+use Rattle.dip_decide_rules.specs.Laws.{AreGoing, IsCycle}
+use Rattle.dip_decide_rules.specs.Movement.{Situation, is_listed, goes, has_move, head_to_head, support, support_against, attack, hold, opposition, beats, rule, mentions, at_first, Satisfies}
+use Rattle.dip_decide_rules.specs.Results.{AreExplained}
+use Rattle.dip_decide_rules.specs.Rings.{first_or, AreOpen}
+use Rattle.dip_decide_rules.specs.Steps.{moves_of}
+use Rattle.dip_decide_rules.proofs.FromSteps.{satisfied, explains_completes}
+use Rattle.dip_decide_rules.proofs.Giving.{single_moves}
+use Rattle.dip_decide_rules.proofs.OneAnswer.{same_is, fill, fill_completes, fill_there, give_open}
+use Rattle.dip_decide_rules.proofs.Progress.{is_at_is, no_more}
+use Rattle.dip_decide_rules.proofs.RingLaws.{among_moves}
 
 less : (m n : ℕ) → m < n → nat_lt m n ≡ true
 less m n h = grind (arith, nat_tests)
 
 -- round the cycle
 
--- what goes on from move to move holds of all behind one of them, and of the end
+-- what goes on from move to move holds of all after one of them, and of the end
 behind : (s : Situation) (P : ℕ → Type 0) → ((x y : ℕ) → goes s x y ≡ true → P x → P y) → (end : ℕ) (ps : List ℕ) → AreGoing s end ps → P (first_or end ps) → P end
 behind s P on end [] g h = h
 behind s P on end (p ∷ ps) g h = behind s P on end ps g.1 (on p (first_or end ps) g.0 h)

@@ -4,11 +4,11 @@ use Rattle.std.specs.List.{list_all}
 use Rattle.std.proofs.lemmas.Bool.{ltb-true, eqb-true, or_cases, cases_Bool, both_ways, and_parts, and_from}
 use Rattle.std.proofs.lemmas.Bool.Decides.{nat_tests}
 use mathlib.Core.Logic.{◌⊎◌}
-use Rattle.dip_decide_table.specs.declared.decisions.Decision.{Decision}
-use Rattle.dip_decide_table.specs.declared.decisions.Decision.TheVariants.{Move}
-use Rattle.dip_decide_table.specs.Deciding.{Assignment}
-use Rattle.dip_decide_table.specs.Movement.{Situation, IsSituation, is_at, goes, has_path, head_to_head, support, support_against, attack, defend, prevent, opposition, beats, succeeds, move_rule, rule, is_listed, Satisfies, OneEnters, NoneDislodgesItsOwn, NoneSwaps}
-use Rattle.dip_decide_table.proofs.Rises.{count_le}
+use Rattle.dip_decide_rules.specs.declared.decisions.Decision.{Decision}
+use Rattle.dip_decide_rules.specs.declared.decisions.Decision.TheVariants.{Move}
+use Rattle.dip_decide_rules.specs.Deciding.{Assignment}
+use Rattle.dip_decide_rules.specs.Movement.{Situation, IsSituation, is_at, goes, has_path, head_to_head, support, support_against, attack, defend, prevent, opposition, beats, succeeds, move_rule, rule, is_listed, Satisfies, OneEnters, NoneDislodgesItsOwn, NoneSwaps}
+use Rattle.dip_decide_rules.proofs.Rises.{count_le}
 
 -- what holds of each holds of one that is listed
 pub all_listed : (t : ℕ → Bool) (ps : List ℕ) (p : ℕ) → list_all t ps ≡ true → is_listed ps p ≡ true → t p ≡ true

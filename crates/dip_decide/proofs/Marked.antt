@@ -6,12 +6,12 @@ use Rattle.std.proofs.lemmas.List.{take_more}
 use Rattle.std.proofs.lemmas.Bool.{cases_Bool, both_ways, eq-eqb, or_left, or_right}
 use mir.Val.{bool_byte}
 use mathlib.Core.Logic.{◌⊎◌}
-use Rattle.dip_decide_table.specs.declared.decisions.Decision.{Decision}
-use Rattle.dip_decide_table.specs.declared.decisions.Decision.TheVariants.{Move, Path, Support}
-use Rattle.dip_decide_table.specs.Deciding.{same, is_among, AreDistinct}
+use Rattle.dip_decide_rules.specs.declared.decisions.Decision.{Decision}
+use Rattle.dip_decide_rules.specs.declared.decisions.Decision.TheVariants.{Move, Path, Support}
+use Rattle.dip_decide_rules.specs.Deciding.{same, is_among, AreDistinct}
 use Rattle.dip_decide.specs.Worklist.{unit_of, mark_of, AreMarked, IsFilled}
-use Rattle.dip_decide_table.proofs.OneAnswer.{same_is, same_self}
-use Rattle.dip_decide_table.proofs.Giving.{among_more}
+use Rattle.dip_decide_rules.proofs.OneAnswer.{same_is, same_self}
+use Rattle.dip_decide_rules.proofs.Giving.{among_more}
 
 unmarked : (n i : ℕ) → slice_index_or (replicate n false) i false ≡ false
 unmarked zero i = refl

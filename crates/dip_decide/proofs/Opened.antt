@@ -9,14 +9,14 @@ use Rattle.std.proofs.lemmas.Bool.{both_ways, cases_Bool, cases_lt, eq-eqb, eqb-
 use Rattle.std.proofs.Math.Path.{fun_ext}
 use mathlib.Core.Logic.{◌⊎◌}
 use Rattle.dip_orders.specs.declared.placed.PlacedOrder.{PlacedOrder}
-use Rattle.dip_decide_table.specs.declared.decisions.Decision.{Decision}
-use Rattle.dip_decide_table.specs.declared.decisions.Decision.TheVariants.{Move, Path, Support}
-use Rattle.dip_decide_table.specs.declared.placed.Table.{Table}
-use Rattle.dip_decide_table.specs.declared.values.Values.{Values}
-use Rattle.dip_decide_table.specs.Given.{at_start, known_of, situation_of, IsOpened}
-use Rattle.dip_decide_table.specs.Matching.{is_convoyed, supports_in, target_of}
-use Rattle.dip_decide_table.specs.Movement.{at_first, is_decided, is_listed}
-use Rattle.dip_decide_table.specs.Placed.{entry}
+use Rattle.dip_decide_rules.specs.declared.decisions.Decision.{Decision}
+use Rattle.dip_decide_rules.specs.declared.decisions.Decision.TheVariants.{Move, Path, Support}
+use Rattle.dip_decide_rules.specs.declared.placed.Table.{Table}
+use Rattle.dip_decide_rules.specs.declared.values.Values.{Values}
+use Rattle.dip_decide_rules.specs.Given.{at_start, known_of, situation_of, IsOpened}
+use Rattle.dip_decide_rules.specs.Matching.{is_convoyed, supports_in, target_of}
+use Rattle.dip_decide_rules.specs.Movement.{at_first, is_decided, is_listed}
+use Rattle.dip_decide_rules.specs.Placed.{entry}
 
 all_false : (k q : ℕ) → slice_index_or (replicate k (Some false)) q (Some false) ≡ Some false
 all_false zero q = refl

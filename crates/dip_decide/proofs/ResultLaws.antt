@@ -13,33 +13,33 @@ use Rattle.dip_names.specs.declared.names.Place.{Place}
 use Rattle.dip_map.specs.Boards.{Position, IsOf, are_ascending}
 use Rattle.dip_map.specs.Charts.{Chart, may_stand, is_unit, are_provs_single}
 use Rattle.dip_orders.specs.Standing.{units_of, are_in_force}
-use Rattle.dip_decide_table.specs.declared.decisions.Resolution.{Resolution}
-use Rattle.dip_decide_table.specs.Deciding as Deciding
-use Rattle.dip_decide_table.specs.Deciding.Step.{Forced as Forces, Circle as Circles, Knot as Knots}
-use Rattle.dip_decide_table.specs.Matching.{order_at, provinces_of, supports_in, situation}
-use Rattle.dip_decide_table.specs.Meaning.{meant_on, situation_on}
-use Rattle.dip_decide_table.proofs.Meanings.{meant_in_force, meant_units}
-use Rattle.dip_decide_table.proofs.TableLaws.{none_behind}
-use Rattle.dip_decide_table.proofs.FromSteps.{known_unbroken, satisfied, knot_open}
-use Rattle.dip_decide_table.proofs.Continuing.{give_grows}
-use Rattle.dip_decide_table.proofs.Counting.{open_among, fewer}
-use Rattle.dip_decide_table.proofs.OneAnswer.{open_one, same_self, one_answer}
-use Rattle.dip_decide_table.proofs.Progress.{no_more, listed_decision, arrives}
-use Rattle.dip_decide_table.proofs.Rises.{count_le}
-use Rattle.dip_decide_table.proofs.Rounds.{knotted}
+use Rattle.dip_decide_rules.specs.declared.decisions.Resolution.{Resolution}
+use Rattle.dip_decide_rules.specs.Deciding as Deciding
+use Rattle.dip_decide_rules.specs.Deciding.Step.{Forced as Forces, Circle as Circles, Knot as Knots}
+use Rattle.dip_decide_rules.specs.Matching.{order_at, provinces_of, supports_in, situation}
+use Rattle.dip_decide_rules.specs.Meaning.{meant_on, situation_on}
+use Rattle.dip_decide_rules.proofs.Meanings.{meant_in_force, meant_units}
+use Rattle.dip_decide_rules.proofs.TableLaws.{none_behind}
+use Rattle.dip_decide_rules.proofs.FromSteps.{known_unbroken, satisfied, knot_open}
+use Rattle.dip_decide_rules.proofs.Continuing.{give_grows}
+use Rattle.dip_decide_rules.proofs.Counting.{open_among, fewer}
+use Rattle.dip_decide_rules.proofs.OneAnswer.{open_one, same_self, one_answer}
+use Rattle.dip_decide_rules.proofs.Progress.{no_more, listed_decision, arrives}
+use Rattle.dip_decide_rules.proofs.Rises.{count_le}
+use Rattle.dip_decide_rules.proofs.Rounds.{knotted}
 use Rattle.dip_decide.proofs.Situated.{situated}
 use Rattle.dip_orders.specs.declared.placed.PlacedOrder.{PlacedOrder}
-use Rattle.dip_decide_table.specs.declared.decisions.Decision.{Decision}
-use Rattle.dip_decide_table.specs.declared.decisions.Decision.TheVariants.{Move, Path, Support}
-use Rattle.dip_decide_table.specs.declared.decisions.Step as Written
-use Rattle.dip_decide_table.specs.declared.decisions.Step.TheVariants.{Forced, Circle, Knot}
-use Rattle.dip_decide_table.specs.Deciding.{Known, Assignment, is_among, is_broken, IsCompletion, Explains, IsCircle, IsKnot, give}
-use Rattle.dip_decide_table.specs.Movement.{Situation, IsSituation, is_listed, is_decided, at_first, rule, mentions, Satisfies}
-use Rattle.dip_decide_table.specs.Results.{is_true, breaks, AreInOrder, AreExplained, IsOnly, values_in, broken_in, decided_in, mentions_in, IsListing}
-use Rattle.dip_decide_table.specs.Steps.{moves_of, paths_of, decisions, is_unknown, steps_of, IsStarted, Advances, IsComplete}
-use Rattle.dip_decide_table.proofs.ChainLaws.{listed_kept}
-use Rattle.dip_decide_table.proofs.Giving.{among_paths, single_moves}
-use Rattle.dip_decide_table.proofs.RingLaws.{among_moves, length_moves}
+use Rattle.dip_decide_rules.specs.declared.decisions.Decision.{Decision}
+use Rattle.dip_decide_rules.specs.declared.decisions.Decision.TheVariants.{Move, Path, Support}
+use Rattle.dip_decide_rules.specs.declared.decisions.Step as Written
+use Rattle.dip_decide_rules.specs.declared.decisions.Step.TheVariants.{Forced, Circle, Knot}
+use Rattle.dip_decide_rules.specs.Deciding.{Known, Assignment, is_among, is_broken, IsCompletion, Explains, IsCircle, IsKnot, give}
+use Rattle.dip_decide_rules.specs.Movement.{Situation, IsSituation, is_listed, is_decided, at_first, rule, mentions, Satisfies}
+use Rattle.dip_decide_rules.specs.Results.{is_true, breaks, AreInOrder, AreExplained, IsOnly, values_in, broken_in, decided_in, mentions_in, IsListing}
+use Rattle.dip_decide_rules.specs.Steps.{moves_of, paths_of, decisions, is_unknown, steps_of, IsStarted, Advances, IsComplete}
+use Rattle.dip_decide_rules.proofs.ChainLaws.{listed_kept}
+use Rattle.dip_decide_rules.proofs.Giving.{among_paths, single_moves}
+use Rattle.dip_decide_rules.proofs.RingLaws.{among_moves, length_moves}
 use Rattle.dip_decide.proofs.Tested.{bounded}
 
 pub broken_any : (steps : List Written.Step) (p : ℕ) → is_broken (steps_of steps) (Path p) ≡ list_any (λ s. breaks s p) steps
@@ -48,7 +48,7 @@ broken_any (Forced d ∷ steps) p = broken_any steps p
 broken_any (Circle ps ∷ steps) p = broken_any steps p
 broken_any (Knot ps ∷ steps) p = rw (among_paths ps.items p, broken_any steps p) refl
 
--- a number is counted where it is none before the first, and there are so many behind it
+-- a number is counted where it is none before the first, and there are so many after it
 listed_number : (a k p : ℕ) → a ≤ p → p < a + k → is_listed (range_with_len a k) p ≡ true
 listed_number a zero p h l = absurd (omega (arith, h, l))
 listed_number a (suc k) p h l = go (cases_Bool (a == p)) (λ g. listed_number (a + 1) k p g (omega (arith, l)))
@@ -57,7 +57,7 @@ listed_number a (suc k) p h l = go (cases_Bool (a == p)) (λ g. listed_number (a
     go (inl e) _ = or_left _ _ e
     go (inr e) f = or_right (a == p) _ (f (grind (arith, nat_tests)))
 
--- the list of those of which something holds says it of each, where it holds of none behind the provinces
+-- the list of those of which something holds says it of each, where it holds of none after the provinces
 pub listed_all : (t : ℕ → Bool) (n p : ℕ) → (n ≤ p → t p ≡ false) → is_listed (filter t (range_with_len 0 n)) p ≡ t p
 listed_all t n p h = listed_kept t (range_with_len 0 n) p ∙ go (cases_lt p n)
   where

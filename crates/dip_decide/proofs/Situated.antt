@@ -12,8 +12,8 @@ use Rattle.dip_orders.specs.Standing.{is_in_force, are_in_force, units_of}
 use Rattle.dip_orders.specs.declared.placed.Order.{Order}
 use Rattle.dip_orders.specs.declared.placed.Order.TheVariants.{Hold, Move, SupportHold, SupportMove, Convoy, Retreat, Disband, Build, Remove}
 use Rattle.dip_orders.specs.declared.placed.PlacedOrder.{PlacedOrder}
-use Rattle.dip_decide_table.specs.Matching.{Standing, order_at, provinces_of, destination, target_of, goes_by_convoy, is_convoyed, is_there, is_matched, supports_in, direction, aim_of, is_carried, convoys_in, situation}
-use Rattle.dip_decide_table.specs.Movement.{IsSituation, is_at, is_listed}
+use Rattle.dip_decide_rules.specs.Matching.{Standing, order_at, provinces_of, destination, target_of, goes_by_convoy, is_convoyed, is_there, is_matched, supports_in, direction, aim_of, is_carried, convoys_in, situation}
+use Rattle.dip_decide_rules.specs.Movement.{IsSituation, is_at, is_listed}
 
 -- the order of a unit is that unit's, in force, and its province is listed
 pub record Found (orders : List PlacedOrder) (p : ℕ) (o : PlacedOrder) : Type 0 where

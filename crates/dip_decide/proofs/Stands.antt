@@ -3,19 +3,19 @@ use Rattle.std.proofs.Common.{◌≡◌, ℕ, List, [], ◌∷◌, refl, inl, in
 use Rattle.std.specs.Prelude.{true, false, None}
 use Rattle.std.proofs.lemmas.Bool.{cases_Bool, both_ways, and_parts, and_from, not-true}
 use mathlib.Core.Logic.{◌⊎◌}
-use Rattle.dip_decide_table.specs.declared.decisions.Decision.{Decision}
-use Rattle.dip_decide_table.specs.declared.decisions.Decision.TheVariants.{Path}
-use Rattle.dip_decide_table.specs.Deciding.{is_among, Assignment, Known, IsKnotted, Step, give, Explains, is_broken}
-use Rattle.dip_decide_table.specs.Deciding.Step.{Forced, Circle, Knot}
-use Rattle.dip_decide_table.specs.Laws.{IsChain, AreJoined, is_undisturbed}
-use Rattle.dip_decide_table.specs.Movement.{Situation, IsSituation, goes, is_entered, serves, rule, mentions, at_first}
-use Rattle.dip_decide_table.specs.Results.{AreExplained}
-use Rattle.dip_decide_table.specs.Steps.{IsStarted, NoneForced}
-use Rattle.dip_decide_table.proofs.Chaining.{chain_found}
-use Rattle.dip_decide_table.proofs.FromSteps.{knot_open}
-use Rattle.dip_decide_table.proofs.Progress.{is_at_is, arrives}
-use Rattle.dip_decide_table.proofs.Rises.{any_le}
-use Rattle.dip_decide_table.proofs.Rounds.{NoCircle, knotted}
+use Rattle.dip_decide_rules.specs.declared.decisions.Decision.{Decision}
+use Rattle.dip_decide_rules.specs.declared.decisions.Decision.TheVariants.{Path}
+use Rattle.dip_decide_rules.specs.Deciding.{is_among, Assignment, Known, IsKnotted, Step, give, Explains, is_broken}
+use Rattle.dip_decide_rules.specs.Deciding.Step.{Forced, Circle, Knot}
+use Rattle.dip_decide_rules.specs.Laws.{IsChain, AreJoined, is_undisturbed}
+use Rattle.dip_decide_rules.specs.Movement.{Situation, IsSituation, goes, is_entered, serves, rule, mentions, at_first}
+use Rattle.dip_decide_rules.specs.Results.{AreExplained}
+use Rattle.dip_decide_rules.specs.Steps.{IsStarted, NoneForced}
+use Rattle.dip_decide_rules.proofs.Chaining.{chain_found}
+use Rattle.dip_decide_rules.proofs.FromSteps.{knot_open}
+use Rattle.dip_decide_rules.proofs.Progress.{is_at_is, arrives}
+use Rattle.dip_decide_rules.proofs.Rises.{any_le}
+use Rattle.dip_decide_rules.proofs.Rounds.{NoCircle, knotted}
 
 -- an undisturbed fleet serves, whatever is decided
 serves_always : (s : Situation) (a : Assignment) (p x : ℕ) → is_undisturbed s p x ≡ true → serves s a p x ≡ true

@@ -4,19 +4,19 @@ use Rattle.std.specs.Prelude.{true, false, ◌&&◌, None}
 use Rattle.std.proofs.lemmas.List.{length_push}
 use Rattle.std.proofs.lemmas.Bool.{cases_Bool, both_ways, or_cases, or_left, or_right, and_parts, and_from}
 use mathlib.Core.Logic.{◌⊎◌}
-use Rattle.dip_decide_table.specs.declared.decisions.Decision.{Decision}
-use Rattle.dip_decide_table.specs.declared.decisions.Decision.TheVariants.{Move}
-use Rattle.dip_decide_table.specs.Deciding.{same, is_among, Known}
-use Rattle.dip_decide_table.specs.Movement.{Situation, IsSituation, is_decided, mentions}
-use Rattle.dip_decide_table.specs.Results.{mentioned_by}
-use Rattle.dip_decide_table.specs.Steps.{moves_of, decisions, IsStarted}
+use Rattle.dip_decide_rules.specs.declared.decisions.Decision.{Decision}
+use Rattle.dip_decide_rules.specs.declared.decisions.Decision.TheVariants.{Move}
+use Rattle.dip_decide_rules.specs.Deciding.{same, is_among, Known}
+use Rattle.dip_decide_rules.specs.Movement.{Situation, IsSituation, is_decided, mentions}
+use Rattle.dip_decide_rules.specs.Results.{mentioned_by}
+use Rattle.dip_decide_rules.specs.Steps.{moves_of, decisions, IsStarted}
 use Rattle.dip_decide.specs.Working.{IsPut, IsTaken, listed_by}
-use Rattle.dip_decide_table.proofs.OneAnswer.{same_is, same_self}
-use Rattle.dip_decide_table.proofs.Progress.{listed_decision}
-use Rattle.dip_decide_table.proofs.Giving.{among_more}
-use Rattle.dip_decide_table.proofs.Counting.{count_lt}
-use Rattle.dip_decide_table.proofs.Rises.{count_le}
-use Rattle.dip_decide_table.proofs.Continuing.{among_either}
+use Rattle.dip_decide_rules.proofs.OneAnswer.{same_is, same_self}
+use Rattle.dip_decide_rules.proofs.Progress.{listed_decision}
+use Rattle.dip_decide_rules.proofs.Giving.{among_more}
+use Rattle.dip_decide_rules.proofs.Counting.{count_lt}
+use Rattle.dip_decide_rules.proofs.Rises.{count_le}
+use Rattle.dip_decide_rules.proofs.Continuing.{among_either}
 use Rattle.dip_decide.proofs.Tested.{one_more, moves_append}
 
 pub nothing_taken : (s : Situation) (k : Known) (e : Decision) (old : List Decision) → IsTaken s k e [] old old

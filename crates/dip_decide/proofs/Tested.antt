@@ -6,23 +6,23 @@ use Rattle.std.proofs.lemmas.List.{length_push, map_more, take_all, take_more}
 use Rattle.std.proofs.lemmas.Bool.{cases_Bool, both_ways, or_cases, or_left, or_right}
 use Rattle.std.proofs.lemmas.List.Sums.{sum_by-cons, length-filter}
 use mathlib.Core.Logic.{◌⊎◌}
-use Rattle.dip_decide_table.specs.declared.decisions.Decision.{Decision}
-use Rattle.dip_decide_table.specs.declared.decisions.Decision.TheVariants.{Move, Path, Support}
-use Rattle.dip_decide_table.specs.Deciding.{same, is_among, AreDistinct, Assignment, Known, Equation, IsCompletion, IsForced, IsCircle, IsKnot, give, Step}
-use Rattle.dip_decide_table.specs.Deciding.Step.{Forced}
-use Rattle.dip_decide_table.specs.Movement.{Situation, IsSituation, is_decided, at_first, rule, mentions}
-use Rattle.dip_decide_table.specs.Corners.{rises}
-use Rattle.dip_decide_table.specs.Steps.{moves_of, paths_of, supports_of, decisions, is_unknown, Grows, IsStarted, IsTurn, NoneForced}
-use Rattle.dip_decide_table.proofs.Progress.{known_or_open, listed_decision}
-use Rattle.dip_decide_table.proofs.Giving.{among_more}
-use Rattle.dip_decide_table.specs.Results.{decided_in, is_forced, forced_in, mentioners, mentions_in}
+use Rattle.dip_decide_rules.specs.declared.decisions.Decision.{Decision}
+use Rattle.dip_decide_rules.specs.declared.decisions.Decision.TheVariants.{Move, Path, Support}
+use Rattle.dip_decide_rules.specs.Deciding.{same, is_among, AreDistinct, Assignment, Known, Equation, IsCompletion, IsForced, IsCircle, IsKnot, give, Step}
+use Rattle.dip_decide_rules.specs.Deciding.Step.{Forced}
+use Rattle.dip_decide_rules.specs.Movement.{Situation, IsSituation, is_decided, at_first, rule, mentions}
+use Rattle.dip_decide_rules.specs.Corners.{rises}
+use Rattle.dip_decide_rules.specs.Steps.{moves_of, paths_of, supports_of, decisions, is_unknown, Grows, IsStarted, IsTurn, NoneForced}
+use Rattle.dip_decide_rules.proofs.Progress.{known_or_open, listed_decision}
+use Rattle.dip_decide_rules.proofs.Giving.{among_more}
+use Rattle.dip_decide_rules.specs.Results.{decided_in, is_forced, forced_in, mentioners, mentions_in}
 use Rattle.dip_decide.specs.Working.{weight, opens, Counts, HasOpen, IsWork, IsPut, IsListed, IsWorked, StaysWork}
 use Rattle.dip_decide.specs.Worklist.{listed_if}
-use Rattle.dip_decide_table.proofs.OneAnswer.{same_is, same_self, open_one}
-use Rattle.dip_decide_table.proofs.CornerLaws.{agree}
-use Rattle.dip_decide_table.proofs.FromSteps.{knot_open}
-use Rattle.dip_decide_table.proofs.Rises.{rule_rises}
-use Rattle.dip_decide_table.proofs.Continuing.{give_grows, one_forced, among_either}
+use Rattle.dip_decide_rules.proofs.OneAnswer.{same_is, same_self, open_one}
+use Rattle.dip_decide_rules.proofs.CornerLaws.{agree}
+use Rattle.dip_decide_rules.proofs.FromSteps.{knot_open}
+use Rattle.dip_decide_rules.proofs.Rises.{rule_rises}
+use Rattle.dip_decide_rules.proofs.Continuing.{give_grows, one_forced, among_either}
 
 -- the rule of each decision depends on those that it mentions alone
 abbrev pub IsExact : Equation → (Decision → Decision → Bool) → Type 0

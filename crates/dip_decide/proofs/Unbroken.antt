@@ -3,9 +3,9 @@ use Rattle.std.proofs.Common.{◌≡◌, ℕ, List, [], ◌∷◌, filter, refl}
 use Rattle.std.specs.Prelude.{true, false}
 use Rattle.std.specs.List.{list_any}
 use Rattle.std.proofs.lemmas.Bool.{both_ways}
-use Rattle.dip_decide_table.specs.declared.decisions.Step as Written
-use Rattle.dip_decide_table.specs.declared.decisions.Step.TheVariants.{Forced, Circle, Knot}
-use Rattle.dip_decide_table.specs.Results.{breaks, is_knot}
+use Rattle.dip_decide_rules.specs.declared.decisions.Step as Written
+use Rattle.dip_decide_rules.specs.declared.decisions.Step.TheVariants.{Forced, Circle, Knot}
+use Rattle.dip_decide_rules.specs.Results.{breaks, is_knot}
 
 unbroken : (steps : List Written.Step) (p : ℕ) → list_any is_knot steps ≡ false → list_any (λ s. breaks s p) steps ≡ false
 unbroken [] p h = refl

@@ -4,21 +4,21 @@ use Rattle.std.specs.Prelude.{true, false, not, ◌&&◌, ◌||◌, Option, None
 use Rattle.std.specs.List.{list_any}
 use Rattle.std.proofs.lemmas.Bool.{eqb-true, both_ways, or_cases, or_left, or_right, and_parts, and_from}
 use mathlib.Core.Logic.{◌⊎◌}
-use Rattle.dip_decide_table.specs.declared.decisions.Decision.{Decision}
-use Rattle.dip_decide_table.specs.declared.decisions.Decision.TheVariants.{Move, Path, Support}
-use Rattle.dip_decide_table.specs.declared.placed.Table.{Table}
-use Rattle.dip_decide_table.specs.Deciding.{same, is_among}
-use Rattle.dip_decide_table.specs.Given.{situation_of}
-use Rattle.dip_decide_table.specs.Matching.{target_of}
-use Rattle.dip_decide_table.specs.Movement.{IsSituation, goes, has_move, head_to_head, is_at, mentions, move_mentions}
-use Rattle.dip_decide_table.specs.Placed.{backed_of, entry, carried_of, keyed_by}
+use Rattle.dip_decide_rules.specs.declared.decisions.Decision.{Decision}
+use Rattle.dip_decide_rules.specs.declared.decisions.Decision.TheVariants.{Move, Path, Support}
+use Rattle.dip_decide_rules.specs.declared.placed.Table.{Table}
+use Rattle.dip_decide_rules.specs.Deciding.{same, is_among}
+use Rattle.dip_decide_rules.specs.Given.{situation_of}
+use Rattle.dip_decide_rules.specs.Matching.{target_of}
+use Rattle.dip_decide_rules.specs.Movement.{IsSituation, goes, has_move, head_to_head, is_at, mentions, move_mentions}
+use Rattle.dip_decide_rules.specs.Placed.{backed_of, entry, carried_of, keyed_by}
 use Rattle.dip_decide.specs.Waking.{moves_into, past_support, woken}
-use Rattle.dip_decide_table.proofs.OneAnswer.{same_self}
-use Rattle.dip_decide_table.proofs.Progress.{is_at_is, at_is, find}
-use Rattle.dip_decide_table.proofs.RingLaws.{among_moves}
-use Rattle.dip_decide_table.proofs.ChainLaws.{listed_kept}
-use Rattle.dip_decide_table.proofs.Among.{convoys_carried}
-use Rattle.dip_decide_table.proofs.Backing.{backs}
+use Rattle.dip_decide_rules.proofs.OneAnswer.{same_self}
+use Rattle.dip_decide_rules.proofs.Progress.{is_at_is, at_is, find}
+use Rattle.dip_decide_rules.proofs.RingLaws.{among_moves}
+use Rattle.dip_decide_rules.proofs.ChainLaws.{listed_kept}
+use Rattle.dip_decide_rules.proofs.Among.{convoys_carried}
+use Rattle.dip_decide_rules.proofs.Backing.{backs}
 
 among_left : (d : Decision) (ds es : List Decision) → is_among d ds ≡ true → is_among d (ds ++ es) ≡ true
 among_left d [] es h = absurd (both_ways false refl h)

@@ -4,16 +4,16 @@ use mathlib.Core.Logic.{◌⊎◌}
 use Rattle.dip_map.specs.Boards.{Position}
 use Rattle.dip_map.specs.Charts.{Chart}
 use Rattle.dip_orders.specs.declared.placed.PlacedOrder.{PlacedOrder}
-use Rattle.dip_decide_table.specs.declared.decisions.Decision.{Decision}
-use Rattle.dip_decide_table.specs.declared.decisions.Decision.TheVariants.{Move, Path}
-use Rattle.dip_decide_table.specs.Deciding.{Assignment, Known, Step, IsForced, IsCircle, IsOpenPath, IsKnotted, Stands, after, is_broken}
-use Rattle.dip_decide_table.specs.Corners.{rises, corner}
-use Rattle.dip_decide_table.specs.Laws.{AreOrders, IsCycle, IsChain, is_undisturbed}
-use Rattle.dip_decide_table.specs.Matching.{situation}
-use Rattle.dip_decide_table.specs.Meaning.{meant_on}
-use Rattle.dip_decide_table.specs.Movement.{Situation, IsSituation, Satisfies, OneEnters, NoneDislodgesItsOwn, NoneSwaps, goes, is_listed, joins, rule, mentions}
-use Rattle.dip_decide_table.specs.Results.{AreExplained}
-use Rattle.dip_decide_table.specs.Steps.{IsStarted, NoneForced}
+use Rattle.dip_decide_rules.specs.declared.decisions.Decision.{Decision}
+use Rattle.dip_decide_rules.specs.declared.decisions.Decision.TheVariants.{Move, Path}
+use Rattle.dip_decide_rules.specs.Deciding.{Assignment, Known, Step, IsForced, IsCircle, IsOpenPath, IsKnotted, Stands, after, is_broken}
+use Rattle.dip_decide_rules.specs.Corners.{rises, corner}
+use Rattle.dip_decide_rules.specs.Laws.{AreOrders, IsCycle, IsChain, is_undisturbed}
+use Rattle.dip_decide_rules.specs.Matching.{situation}
+use Rattle.dip_decide_rules.specs.Meaning.{meant_on}
+use Rattle.dip_decide_rules.specs.Movement.{Situation, IsSituation, Satisfies, OneEnters, NoneDislodgesItsOwn, NoneSwaps, goes, is_listed, joins, rule, mentions}
+use Rattle.dip_decide_rules.specs.Results.{AreExplained}
+use Rattle.dip_decide_rules.specs.Steps.{IsStarted, NoneForced}
 
 -- each board with one order for each unit is a situation
 abbrev pub BoardsAreSituations : Type 0
@@ -96,7 +96,7 @@ KnotsAreAllOpenPaths =
     (s : Situation) (k : Known) (d : Decision) → IsSituation s → IsStarted s k → NoneForced s k
     → ((ds : List Decision) → IsCircle (rule s) k ds → ⊥) → IsOpenPath k d → IsKnotted (mentions s) k d
 
--- two steps give the same, or each may be made behind the other, and both orders give the same
+-- two steps give the same, or each may be made after the other, and both orders give the same
 abbrev pub Commute : Situation → Known → Step → Assignment → Step → Assignment → Type 0
 Commute s k one f two g =
     (after k one f ≡ after k two g)

@@ -1,11 +1,11 @@
 -- Among whom those are that mention a decision: by where units go, and by whom they support and convoy.
 use Rattle.std.specs.Prelude.{ℕ, List, [], ◌∷◌, ◌++◌, Option, None, Some}
-use Rattle.dip_decide_table.specs.declared.decisions.Decision.{Decision}
-use Rattle.dip_decide_table.specs.declared.decisions.Decision.TheVariants.{Move, Path, Support}
-use Rattle.dip_decide_table.specs.declared.placed.Table.{Table}
-use Rattle.dip_decide_table.specs.Matching.{target_of}
-use Rattle.dip_decide_table.specs.Placed.{entry, backed_of, carried_of, keyed_by}
-use Rattle.dip_decide_table.specs.Steps.{moves_of}
+use Rattle.dip_decide_rules.specs.declared.decisions.Decision.{Decision}
+use Rattle.dip_decide_rules.specs.declared.decisions.Decision.TheVariants.{Move, Path, Support}
+use Rattle.dip_decide_rules.specs.declared.placed.Table.{Table}
+use Rattle.dip_decide_rules.specs.Matching.{target_of}
+use Rattle.dip_decide_rules.specs.Placed.{entry, backed_of, carried_of, keyed_by}
+use Rattle.dip_decide_rules.specs.Steps.{moves_of}
 
 -- the moves into q
 abbrev pub moves_into : Table → ℕ → List Decision

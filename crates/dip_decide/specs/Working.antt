@@ -1,12 +1,12 @@
 -- The worklist: which decisions are to be tested, and how many tests that makes.
 use Rattle.std.specs.Prelude.{◌≡◌, ℕ, ◌+◌, ◌≤◌, ◌&&◌, Bool, true, false, List, length, cond, None, filter}
 use Rattle.std.specs.List.{sum_by, count_by}
-use Rattle.dip_decide_table.specs.declared.decisions.Decision.{Decision}
-use Rattle.dip_decide_table.specs.Deciding as Deciding
-use Rattle.dip_decide_table.specs.Deciding.{is_among, Known, IsForced, give}
-use Rattle.dip_decide_table.specs.Movement.{Situation, is_decided, rule, mentions}
-use Rattle.dip_decide_table.specs.Results.{decided_in, forced_in, mentioned_by, mentioners, mentions_in}
-use Rattle.dip_decide_table.specs.Steps.{decisions, is_unknown, Continues, Grows}
+use Rattle.dip_decide_rules.specs.declared.decisions.Decision.{Decision}
+use Rattle.dip_decide_rules.specs.Deciding as Deciding
+use Rattle.dip_decide_rules.specs.Deciding.{is_among, Known, IsForced, give}
+use Rattle.dip_decide_rules.specs.Movement.{Situation, is_decided, rule, mentions}
+use Rattle.dip_decide_rules.specs.Results.{decided_in, forced_in, mentioned_by, mentioners, mentions_in}
+use Rattle.dip_decide_rules.specs.Steps.{decisions, is_unknown, Continues, Grows}
 
 -- what those of these weigh that are open
 abbrev pub weight : (Decision → ℕ) → Known → List Decision → ℕ

@@ -1,13 +1,13 @@
 //! Circles of moves, and the paths of a knot.
 ghost use Rattle.std.specs.Prelude.{◌≡◌, None, IfOk};
 ghost use Rattle.std.specs.List.{list_any};
-ghost use Rattle.dip_decide_table.specs.declared.decisions.Decision.TheVariants.{Move, Path};
-ghost use Rattle.dip_decide_table.specs.Given.{situation_of, known_of};
-ghost use Rattle.dip_decide_table.specs.Movement.{IsSituation};
-ghost use Rattle.dip_decide_table.specs.Rings.{waits_for, from_on, RingOr, RingAt, CircleOr};
-ghost use Rattle.dip_decide_table.specs.Steps.{is_unknown, IsStarted, open_paths};
+ghost use Rattle.dip_decide_rules.specs.declared.decisions.Decision.TheVariants.{Move, Path};
+ghost use Rattle.dip_decide_rules.specs.Given.{situation_of, known_of};
+ghost use Rattle.dip_decide_rules.specs.Movement.{IsSituation};
+ghost use Rattle.dip_decide_rules.specs.Rings.{waits_for, from_on, RingOr, RingAt, CircleOr};
+ghost use Rattle.dip_decide_rules.specs.Steps.{is_unknown, IsStarted, open_paths};
 
-use dip_decide_table::{Decision, Table, Values, copy_of, is_in};
+use dip_decide_rules::{Decision, Table, Values, copy_of, is_in};
 use dip_names::Prov;
 use std::alloc::{AllocError, Global};
 

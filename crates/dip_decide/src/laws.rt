@@ -36,7 +36,7 @@ pub fn one_answer()
     ensures broken { BrokenPathsAreOne }
 {}
 
-/// Of two steps that may be made in one state, either they give the same, or each may be made behind the other, and then it
+/// Of two steps that may be made in one state, either they give the same, or each may be made after the other, and then it
 /// doesn't matter which comes first.
 pub fn steps_commute()
     ensures { StepsCommute }

@@ -4,18 +4,18 @@ ghost use Rattle.std.specs.List.{list_any, slice_set};
 ghost use Rattle.dip_map.specs.Charts.{provs};
 ghost use Rattle.dip_map.specs.Boards.{IsOf};
 ghost use Rattle.dip_orders.specs.Standing.{units_of};
-ghost use Rattle.dip_decide_table.specs.declared.decisions.Decision.{Decision as ADecision};
-ghost use Rattle.dip_decide_table.specs.Deciding.{is_broken};
-ghost use Rattle.dip_decide_table.specs.Given.{known_of};
-ghost use Rattle.dip_decide_table.specs.Meaning.{situation_on};
-ghost use Rattle.dip_decide_table.specs.Movement.{Satisfies};
-ghost use Rattle.dip_decide_table.specs.Results.{values_in, broken_in, AreExplained, IsOnly, AreInOrder, decided_in, forced_in, mentions_in, is_true, trues, breaks, is_knot, IsListing};
-ghost use Rattle.dip_decide_table.specs.Steps.{steps_of};
-ghost use Rattle.dip_decide_table.specs.Marks.{with_all, with_broken};
+ghost use Rattle.dip_decide_rules.specs.declared.decisions.Decision.{Decision as ADecision};
+ghost use Rattle.dip_decide_rules.specs.Deciding.{is_broken};
+ghost use Rattle.dip_decide_rules.specs.Given.{known_of};
+ghost use Rattle.dip_decide_rules.specs.Meaning.{situation_on};
+ghost use Rattle.dip_decide_rules.specs.Movement.{Satisfies};
+ghost use Rattle.dip_decide_rules.specs.Results.{values_in, broken_in, AreExplained, IsOnly, AreInOrder, decided_in, forced_in, mentions_in, is_true, trues, breaks, is_knot, IsListing};
+ghost use Rattle.dip_decide_rules.specs.Steps.{steps_of};
+ghost use Rattle.dip_decide_rules.specs.Marks.{with_all, with_broken};
 
 use crate::starting::values_at_start;
 use crate::turns::explain;
-use dip_decide_table::{Resolution, Step, Tests, Values, all_false, table_on, value_at};
+use dip_decide_rules::{Resolution, Step, Tests, Values, all_false, table_on, value_at};
 use dip_map::{Board, Map};
 use dip_names::Prov;
 use dip_orders::Orders;
@@ -30,7 +30,7 @@ fn is_true(value: Option<bool>) -> bool
     }
 }
 
-/// The provinces of a column with true, by code: each is written behind those so far, and counts or is written over, so that there is no
+/// The provinces of a column with true, by code: each is written after those so far, and counts or is written over, so that there is no
 /// branch that a processor can't foretell.
 fn trues(alloc: Global, map: &Map, column: &[Option<bool>]) -> Result<Vec<Prov>, AllocError>
     ensures { IfOk result (λ v. v.items ≡ trues column.now map.now) }

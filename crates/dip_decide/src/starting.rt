@@ -1,11 +1,11 @@
 //! The values at the start: what is no decision is known to be false.
 ghost use Rattle.std.specs.Prelude.{◌≡◌, Some, false, replicate, IfOk};
 ghost use Rattle.std.specs.List.{slice_set};
-ghost use Rattle.dip_decide_table.specs.Given.{at_start, situation_of, known_of};
-ghost use Rattle.dip_decide_table.specs.declared.decisions.Decision.TheVariants.{Move, Path, Support};
-ghost use Rattle.dip_decide_table.specs.Movement.{at_first, is_decided};
+ghost use Rattle.dip_decide_rules.specs.Given.{at_start, situation_of, known_of};
+ghost use Rattle.dip_decide_rules.specs.declared.decisions.Decision.TheVariants.{Move, Path, Support};
+ghost use Rattle.dip_decide_rules.specs.Movement.{at_first, is_decided};
 
-use dip_decide_table::{Table, Values, all_false};
+use dip_decide_rules::{Table, Values, all_false};
 use dip_names::Prov;
 use std::alloc::{AllocError, Global};
 

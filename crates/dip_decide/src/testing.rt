@@ -2,12 +2,12 @@
 ghost use Rattle.std.specs.Prelude.{◌≡◌, ◌+◌, ◌<◌, ◌^◌, None, IfOk};
 ghost use Rattle.dip_map.specs.Boards.{IsOf};
 ghost use Rattle.dip_orders.specs.Standing.{units_of};
-ghost use Rattle.dip_decide_table.specs.Given.{known_of, IsAnswer};
-ghost use Rattle.dip_decide_table.specs.Meaning.{situation_on};
-ghost use Rattle.dip_decide_table.specs.Movement.{at_first, rule};
+ghost use Rattle.dip_decide_rules.specs.Given.{known_of, IsAnswer};
+ghost use Rattle.dip_decide_rules.specs.Meaning.{situation_on};
+ghost use Rattle.dip_decide_rules.specs.Movement.{at_first, rule};
 
 use crate::starting::values_at_start;
-use dip_decide_table::{Decision, Tests, Values, forced_by_orders, table_on};
+use dip_decide_rules::{Decision, Tests, Values, forced_by_orders, table_on};
 use dip_map::{Board, Map};
 use dip_orders::Orders;
 use std::alloc::{AllocError, Global};

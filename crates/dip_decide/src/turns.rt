@@ -1,17 +1,17 @@
 //! Steps one after the other: what is forced, then a circle, then the knot, until all is decided.
 ghost use Rattle.std.specs.Prelude.{◌≡◌, ◌≤◌, ◌<◌, ◌+◌, ◌^◌, [], IfOk, OnOk, true};
-ghost use Rattle.dip_decide_table.specs.Deciding.{IsCircle, IsKnot};
-ghost use Rattle.dip_decide_table.specs.Given.{situation_of, known_of};
-ghost use Rattle.dip_decide_table.specs.Movement.{at_first, rule, mentions, IsSituation};
-ghost use Rattle.dip_decide_table.specs.Results.{decided_in, forced_in, mentions_in};
-ghost use Rattle.dip_decide_table.specs.Rings.{IsNonEmpty};
-ghost use Rattle.dip_decide_table.specs.Steps.{moves_of, paths_of, steps_of, NoneForced, IsStarted, IsTurn, IsComplete};
+ghost use Rattle.dip_decide_rules.specs.Deciding.{IsCircle, IsKnot};
+ghost use Rattle.dip_decide_rules.specs.Given.{situation_of, known_of};
+ghost use Rattle.dip_decide_rules.specs.Movement.{at_first, rule, mentions, IsSituation};
+ghost use Rattle.dip_decide_rules.specs.Results.{decided_in, forced_in, mentions_in};
+ghost use Rattle.dip_decide_rules.specs.Rings.{IsNonEmpty};
+ghost use Rattle.dip_decide_rules.specs.Steps.{moves_of, paths_of, steps_of, NoneForced, IsStarted, IsTurn, IsComplete};
 ghost use Rattle.dip_decide.specs.Working.{Counts, IsWork, StaysWork};
 
 use crate::circles::{open_paths, ring_in};
 use crate::working::{put_moves, put_paths, work_at_start, work_off};
 use crate::worklist::Worklist;
-use dip_decide_table::{Room, Step, Table, Tests, Values};
+use dip_decide_rules::{Room, Step, Table, Tests, Values};
 use dip_names::Prov;
 use std::alloc::{AllocError, Global};
 

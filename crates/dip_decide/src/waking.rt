@@ -1,13 +1,13 @@
 //! Whom a value wakes: the decisions that mention it come on the worklist, found by where units go and by whom they help.
 ghost use Rattle.std.specs.Prelude.{◌≡◌, ◌∷◌, [], OnOk};
-ghost use Rattle.dip_decide_table.specs.Given.{situation_of, known_of};
-ghost use Rattle.dip_decide_table.specs.Movement.{IsSituation};
-ghost use Rattle.dip_decide_table.specs.Steps.{moves_of, decisions, IsStarted};
+ghost use Rattle.dip_decide_rules.specs.Given.{situation_of, known_of};
+ghost use Rattle.dip_decide_rules.specs.Movement.{IsSituation};
+ghost use Rattle.dip_decide_rules.specs.Steps.{moves_of, decisions, IsStarted};
 ghost use Rattle.dip_decide.specs.Waking.{moves_into, moves_to, path_of, at_target, past_path, past_support};
 ghost use Rattle.dip_decide.specs.Working.{IsPut, IsTaken};
 
 use crate::worklist::Worklist;
-use dip_decide_table::{Decision, Table, Values, mentions};
+use dip_decide_rules::{Decision, Table, Values, mentions};
 use dip_names::Prov;
 use std::alloc::AllocError;
 

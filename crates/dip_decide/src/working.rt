@@ -1,14 +1,14 @@
 //! The worklist: a decision is tested at first, and again when one that its equation mentions got its value.
 ghost use Rattle.std.specs.Prelude.{◌≡◌, ◌<◌, ◌+◌, ◌^◌, ◌∷◌, ◌++◌, [], IfOk, OnOk, length};
-ghost use Rattle.dip_decide_table.specs.Given.{situation_of, known_of};
-ghost use Rattle.dip_decide_table.specs.Movement.{IsSituation};
-ghost use Rattle.dip_decide_table.specs.Results.{decided_in, mentioners, mentions_in};
-ghost use Rattle.dip_decide_table.specs.Steps.{steps_of, moves_of, paths_of, supports_of, decisions, is_unknown, IsStarted};
+ghost use Rattle.dip_decide_rules.specs.Given.{situation_of, known_of};
+ghost use Rattle.dip_decide_rules.specs.Movement.{IsSituation};
+ghost use Rattle.dip_decide_rules.specs.Results.{decided_in, mentioners, mentions_in};
+ghost use Rattle.dip_decide_rules.specs.Steps.{steps_of, moves_of, paths_of, supports_of, decisions, is_unknown, IsStarted};
 ghost use Rattle.dip_decide.specs.Working.{weight, Counts, HasOpen, IsListed, IsWork, IsWorked};
 
 use crate::waking::put;
 use crate::worklist::Worklist;
-use dip_decide_table::{Decision, Room, Step, Table, Tests, Values, forced};
+use dip_decide_rules::{Decision, Room, Step, Table, Tests, Values, forced};
 use dip_names::Prov;
 use std::alloc::{AllocError, Global};
 

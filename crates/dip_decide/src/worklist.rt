@@ -1,9 +1,9 @@
 //! The worklist: the decisions that are to be tested, each once, with a mark for each that is on it.
 ghost use Rattle.std.specs.Prelude.{◌≡◌, ◌<◌, ◌≤◌, ◌+◌, ◌∷◌, ◌++◌, ◌&&◌, [], IfNone, IfOk, IfSome, OnOk, false, length, not, replicate, take};
-ghost use Rattle.dip_decide_table.specs.Deciding.{is_among};
+ghost use Rattle.dip_decide_rules.specs.Deciding.{is_among};
 ghost use Rattle.dip_decide.specs.Worklist.{listed_if, mark_of, unit_of};
 
-use dip_decide_table::Decision;
+use dip_decide_rules::Decision;
 use dip_names::Prov;
 use std::alloc::{AllocError, Global};
 use std::marker::Model;
@@ -11,7 +11,7 @@ use std::marker::Model;
 /// Decisions that are to be tested, each once. The last one comes first.
 #[derive(Drop)]
 pub(crate) struct Worklist {
-    /// So many of these are on the list, and behind them is what may be written over.
+    /// So many of these are on the list, and after them is what may be written over.
     many: usize,
     list: Vec<Decision>,
     /// Whether a decision is on the list, by its mark's number.
@@ -20,7 +20,7 @@ pub(crate) struct Worklist {
 
 impl Model for Worklist {
     ghost use Rattle.std.specs.Prelude.{List, take};
-    ghost use Rattle.dip_decide_table.specs.declared.decisions.Decision.{Decision};
+    ghost use Rattle.dip_decide_rules.specs.declared.decisions.Decision.{Decision};
     ghost use Rattle.dip_decide.specs.Worklist.{IsFilled};
 
     ghost Value = { List Decision };
@@ -103,7 +103,7 @@ impl Worklist {
         Ok(())
     }
 
-    /// Lists a decision, if it is wanted and isn't on the list: it is written behind those so far, and counts or is written over, so that
+    /// Lists a decision, if it is wanted and isn't on the list: it is written after those so far, and counts or is written over, so that
     /// there is no branch that a processor can't foretell.
     pub(crate) fn push_if(&mut self, d: &Decision, is_wanted: bool) -> Result<(), AllocError>
         ensures { OnOk result

@@ -6,7 +6,7 @@ use Rattle.dip_desk_state.specs.State.{State}
 use Rattle.dip_desk_state.specs.declared.faults.KeepFault.{KeepFault}
 
 module _ {K : Type 0} (m : Chart) (b : Book K) (old new : K) where
-  -- behind a call, a keeper that still shows is open
+  -- after a call, a keeper that still shows is open
   open_still : {X R : Type 0} (say : X → R) (Step : State → R → State → Type 0) (Damage : State → Type 0) (result : Result X KeepFault)
       → Steps m b old new say Step Damage result → IsOpen m b old → b.honest new → b.shows new → IsOpen m b new
   open_still say Step Damage result h it honest shows =
@@ -19,7 +19,7 @@ module _ {K : Type 0} (m : Chart) (b : Book K) (old new : K) where
       (open_still say Step Damage (Ok x) h it honest shows, h.done it.sound shows)
   steps_on say Step Damage (Err e) h it honest = tt
 
-  -- behind a fault the state is the old one, or that of one more step
+  -- after a fault the state is the old one, or that of one more step
   pub steps_end : {X R : Type 0} (say : X → R) (Step : State → R → State → Type 0) (Damage : State → Type 0) (result : Result X KeepFault)
       → Steps m b old new say Step Damage result → IsOpen m b old → b.honest new → OnErr result (Ends m b old new (b.content m old) (λ t. (r : R) × Step (b.content m old) r t))
   steps_end say Step Damage (Ok x) h it honest = tt
@@ -40,7 +40,7 @@ module _ {K : Type 0} (m : Chart) (b : Book K) (old new : K) where
 pub ends_open : {K : Type 0} (m : Chart) (b : Book K) (old new : K) (More : State → Type 0) → IsOpen m b new → Ends m b old new (b.content m new) More
 ends_open m b old new More it = record { left = λ t may. inl (it.alone t may); again = it.again; shown = λ shows. (it, refl); goes = inl (it, refl) }
 
--- an end behind calls that told of more, and where what is more is named otherwise
+-- an end after calls that told of more, and where what is more is named otherwise
 pub ends_late : {K : Type 0} (m : Chart) (b : Book K) (first old new : K) (s : State) (More Other : State → Type 0) → b.told first ≤ b.told old
     → ((t : State) → More t → Other t) → Ends m b old new s More → Ends m b first new s Other
 ends_late m b first old new s More Other counts turn h = record {

@@ -209,7 +209,7 @@ paper_there i [] = refl
 paper_there zero (p ∷ ps) = refl
 paper_there (suc i) (p ∷ ps) = paper_there i ps
 
--- the paper that is lent at a place is the one of the number behind it
+-- the paper that is lent at a place is the one of the number after it
 pub paper_lent : (n i : ℕ) (ps : List (String Global)) (r : Option (Bor (String Global))) → n ≡ suc i → IsItemAt ps i r
     → option_map (λ p. string_bytes p.now) r ≡ s.paper_numbered n (rows.lines ps)
 paper_lent n i ps None is item =

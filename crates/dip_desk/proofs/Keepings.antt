@@ -8,7 +8,7 @@ use Rattle.dip_desk_state.specs.State.{State}
 use Rattle.dip_desk_state.specs.declared.faults.KeepFault.{KeepFault}
 use Rattle.dip_desk_state.specs.declared.faults.KeepFault.TheVariants.{Disk, Damaged}
 
--- what is kept by a look and the call behind it
+-- what is kept by a look and the call after it
 pub keeps_then : {K X Y : Type 0} (m : Chart) (b : Book K) (old mid new : K) (x : X) (result : Result Y KeepFault)
     → Keeps {X = X} m b old mid (Ok x) → Keeps m b mid new result → Keeps m b old new result
 keeps_then m b old mid new x result first second = record {
@@ -32,17 +32,17 @@ keeps_then m b old mid new x result first second = record {
       second.again (first.firm sound fair) honest (first.stays_open sound fair shows) (first.again sound fair shows takes);
 }
 
--- what a store told behind a call it told behind what came before too
+-- what a store told after a call it told after what came before too
 pub told_late : {K : Type 0} (b : Book K) (first old new : K) → b.told first ≤ b.told old → b.of_size first ≤ b.of_size old → WasTold b old new → WasTold b first new
 told_late b first old new counts sizes (inl rises) = inl (omega (arith, counts, rises))
 told_late b first old new counts sizes (inr rises) = inr (omega (arith, sizes, rises))
 
--- behind a look a crash leaves what it might have left
+-- after a look a crash leaves what it might have left
 pub look_alone : {K X : Type 0} (m : Chart) (b : Book K) (old new : K) (Value : X → Type 0) (Damage : Type 0) (result : Result X KeepFault)
     → Looks m b old new Value Damage result → Settles m b old new
 look_alone m b old new Value Damage result look sound honest shows alone s may = alone s (look.left sound honest s may) ∙ sym (look.same sound shows)
 
--- a step behind a look is a step of the state that was looked at, where it may be taken of that state, and what the step may be
+-- a step after a look is a step of the state that was looked at, where it may be taken of that state, and what the step may be
 -- Damaged by is laid to that state too
 pub steps_then : {K X Y R : Type 0} (m : Chart) (b : Book K) (old mid new : K) (x : X) (Value : X → Type 0) (Damage : Type 0) (say : Y → R)
     (Near Far : State → R → State → Type 0) (result : Result Y KeepFault)

@@ -1,4 +1,4 @@
--- Seats in memory, behind a change.
+-- Seats in memory, after a change.
 use Rattle.std.proofs.Common.{◌≡◌, ◌<◌, ◌==◌, ◌++◌, ◌+◌, ◌-◌, ◌&&◌, ℕ, nat_le, nat_lt, Bool, true, false, cond, List, [], ◌∷◌, map, Option, None, Some, option_map, Result, Ok, Err, OnOk, Bor, refl, sym, ap, subst, ◌∙◌, slice_set, get_or, length, take, drop, zero, suc, add-one, arith}
 use Rattle.std.specs.List.{AllByRecursion, list_all, list_any}
 use Rattle.std.specs.declared.alloc.Global.{Global}
@@ -23,7 +23,7 @@ pub of_seat : {X : Type 0} (f : Part → X) (r : Option (Bor SeatRow)) (found : 
 of_seat f None found is = ap (option_map f) is
 of_seat f (Some q) found is = ap (option_map f) is
 
--- a page of an inbox: what stands behind a place, and of that at most so many
+-- a page of an inbox: what stands after a place, and of that at most so many
 pub page_shown : (first most place : ℕ) (box front page : List (Rc ItemRow Global)) → place ≡ first - 1 → front ≡ drop place box → page ≡ take most front
     → rows.items page ≡ page_of first most (rows.items box)
 page_shown first most place box front page here behind is =
@@ -70,7 +70,7 @@ press_power readers item p = go (list_any (λ q. q == power_in p) readers)
     go true = refl
     go false = refl
 
--- a seat's own letter may stand before press for it or behind it
+-- a seat's own letter may stand before press for it or after it
 press_letter : (k : Kept) (readers : List ℕ) (item : Item) (p : Part)
     → with_letter k (Delivers readers item) (with_effect (Delivers readers item) p) ≡ with_effect (Delivers readers item) (with_letter k (Delivers readers item) p)
 press_letter k readers item p = go (list_any (λ q. q == power_in p) readers)
@@ -120,7 +120,7 @@ row_after c old new public papers seats key =
     ∙ ap (λ (ps : List Part). record { public = public_after c.effect (game key old).public; papers = papers_after c.effect (rows.lines old.papers.items); seats = ps })
     (seats ∙ seats_after c.author c.kept c.effect (parts old.seats.items))
 
--- a paper with the public part behind it
+-- a paper with the public part after it
 pub page_brings : {E : Type 0} (e : Effect) (public : Public) (paper : List ℕ) (played : Bool) (old new : GameRow) (r : Result (Unit {0}) E) → e ≡ Publishes public paper played
     → OnOk r ((key : List ℕ) → (game key new).public ≡ record public { game = key }) → OnOk r (rows.lines new.papers.items ≡ rows.lines old.papers.items ++ paper ∷ [])
     → new.seats ≡ old.seats → OnOk r (Brings e old new)

@@ -84,7 +84,7 @@ pub record Looks {K X : Type 0} (m : Chart) (b : Book K) (old new : K) (Value : 
 abbrev pub Settles : {K : Type 0} → Chart → Book K → K → K → Type 0
 Settles m b old new = b.sound m old → b.honest new → b.shows new → LeavesAlone m b old → LeavesAlone m b new
 
--- a change that is made whole or not at all; behind a fault a crash may leave it made or not. The disk is told of only where the store told
+-- a change that is made whole or not at all; after a fault a crash may leave it made or not. The disk is told of only where the store told
 -- of a fault
 pub record Changes {K X : Type 0} (m : Chart) (b : Book K) (old new : K) (change : State → State) (Fits : State → Type 0)
     (result : Result X KeepFault) : Type 0 where
@@ -98,8 +98,8 @@ pub record Changes {K X : Type 0} (m : Chart) (b : Book K) (old new : K) (change
   pub left : b.sound m old → b.honest new
       → OnErr result ((s : State) → b.may_leave m new s → b.may_leave m old s ⊎ (s ≡ change (b.content m old)))
 
--- a step of a machine, or none: where an answer is given, the step from the old content to the new one says it, and behind a
--- fault the content stays. A crash leaves the state after an answer, and behind a fault the state before or after a step
+-- a step of a machine, or none: where an answer is given, the step from the old content to the new one says it, and after a
+-- fault the content stays. A crash leaves the state after an answer, and after a fault the state before or after a step
 pub record Steps {K X R : Type 0} (m : Chart) (b : Book K) (old new : K) (say : X → R) (Step : State → R → State → Type 0)
     (Damage : State → Type 0) (result : Result X KeepFault) : Type 0 where
   pub keeps : Keeps m b old new result

@@ -26,7 +26,7 @@ pub record Runs {K X : Type 0} (m : Chart) (b : Book K) (old new : K) (letters :
   pub done : b.sound m old → b.shows new → IfOk result (λ x. Answers m (b.content m old) letters (say x) (b.content m new))
   pub undone : b.sound m old → b.shows new
       → IfErr result (λ e. (n : ℕ) × Answers m (b.content m old) (take n letters) (say e.0) (b.content m new))
-  -- Damaged is told only where the record of the author of the next letter may be it, in the state behind the letters before; and never
+  -- Damaged is told only where the record of the author of the next letter may be it, in the state after the letters before; and never
   -- from a lawful state on, which stays lawful
   pub damaged : b.sound m old → b.honest new → b.shows old
       → IfErr result (λ e. e.1 ≡ Damaged → (n : ℕ) × (s : State) × Answers m (b.content m old) (take n letters) (say e.0) s
@@ -38,7 +38,7 @@ pub record Runs {K X : Type 0} (m : Chart) (b : Book K) (old new : K) (letters :
   pub count : b.faults new ≡ faults_after_run result (b.faults old)
   -- an open keeper stays open, where all were answered
   pub stays_open : IsOpen m b old → b.honest new → OnOk result (IsOpen m b new)
-  -- and up to a fault those before it were, and a crash leaves the state behind them, or that behind the next letter too
+  -- and up to a fault those before it were, and a crash leaves the state after them, or that after the next letter too
   pub ends : IsOpen m b old → b.honest new → IfErr result (λ e. (n : ℕ) × (s : State)
       × Answers m (b.content m old) (take n letters) (say e.0) s
       × Ends m b old new s (λ t. (it : Mail) × (slice_get letters n ≡ Some it) × (r : Reply) × Step m s it r t))

@@ -80,7 +80,7 @@ pub fn find_seat<'a>(games: &'a Games, name: &str, power: Power) -> Option<&'a S
     seat_of(game.seats.as_slice(), power)
 }
 
-/// The items behind a place.
+/// The items after a place.
 fn behind(items: &[Rc<Item>], place: usize) -> &[Rc<Item>]
     ensures { result.now ≡ drop place items.entry.now }
 {

@@ -37,7 +37,7 @@ fn last_of(change: &Change) -> Result<Option<Kept>, AllocError>
     }
 }
 
-/// The master's row behind a letter.
+/// The master's row after a letter.
 fn record_desk(desk: &mut Desk, last: Option<Kept>)
     ensures { desk_rows.desk desk.new ≡ stored.desk_with (option_map rows.kept last)
         (desk_rows.desk desk.old) }

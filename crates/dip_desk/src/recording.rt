@@ -188,8 +188,8 @@ fn finds_room(author: &Author, effect: &Effect, seats: &[SeatRow]) -> bool
     }
 }
 
-/// Press stands behind what was in the inboxes of its readers, who share it. Before the first
-/// inbox changes, each has room for it and a share of it: a seat takes its own behind the rest.
+/// Press stands after what was in the inboxes of its readers, who share it. Before the first
+/// inbox changes, each has room for it and a share of it: a seat takes its own after the rest.
 fn deliver(seats: &mut [SeatRow], readers: &[Power], item: &Rc<Item>) -> Result<(), AllocError>
     requires { list_all (λ p. s.may_get readers.now p.own) (stored.parts seats.old) ≡ true }
     ensures ok { OnOk result (stored.parts seats.new ≡ each (s.with_effect
@@ -210,7 +210,7 @@ fn deliver(seats: &mut [SeatRow], readers: &[Power], item: &Rc<Item>) -> Result<
     Ok(())
 }
 
-/// A paper stands behind the papers that were there, and the public part is the one behind it.
+/// A paper stands after the papers that were there, and the public part is the one after it.
 fn put_page(
     alloc: Global,
     game: &mut GameRow,

@@ -104,7 +104,7 @@ fn lines_kept(change: Change) -> Rc<String>
     change.kept.reply
 }
 
-/// Keeps what was decided, and gives the reply. Nothing grows behind the change.
+/// Keeps what was decided, and gives the reply. Nothing grows after the change.
 fn settle<K: Keeper>(
     alloc: Global,
     keeper: &mut K,

@@ -201,7 +201,7 @@ kept_in test (y ∷ ys) x (suc k, low, at) t =
 same_number : (p : ℕ) → (p == p) ≡ true
 same_number p = grind (arith)
 
--- the orders of all seats of a game, one seat behind the other
+-- the orders of all seats of a game, one seat after the other
 abbrev pub orders_in : Chart → Game → List PlacedOrder
 orders_in m g = flat_map (λ s. orders_that_stand m g.public.board (power_in s) s.own.pending) g.seats
 

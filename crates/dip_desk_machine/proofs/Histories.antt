@@ -23,7 +23,7 @@ answered_from_seen m a b n power v w da db same =
           ∙ sym (step_seen m seat b n (Seat power) w db),
     )
 
--- what a seat sees behind the first step
+-- what a seat sees after the first step
 first_seen : (m : Chart) (seat : SeatName) (t : Turn) (old : State) → t.before ≡ old → Decides m t.before t.letter (author_in m t) t.verdict
     → seen_by seat (left_by m t) ≡ absorb_all m seat.power (seen_by seat old) (events_in m seat t)
 first_seen m seat t old here decides =

@@ -245,7 +245,7 @@ standing_kept : (m : Chart) (b : Position) (power : ℕ) (orders : List PlacedOr
     → orders_that_stand m b power (kept_orders m orders) ≡ orders
 standing_kept m b power orders up all = behind_front [] orders up all
   where
-    -- an order behind all others
+    -- an order after all others
     last : (o : PlacedOrder) (ps : List PlacedOrder) → AllByRecursion (λ p. prov_of p < prov_of o) ps → with_order o ps ≡ ps ++ o ∷ []
     last o [] before = refl
     last o (p ∷ ps) before = rw (lt-ltb (prov_of p) (prov_of o) before.0) (ap (λ (qs : List PlacedOrder). p ∷ qs) (last o ps before.1))

@@ -213,7 +213,7 @@ all_boxed m b seats many powers all boxes =
         let most = sent_within (power_in s) seats (all_weaker (IsReached m b) (λ x. x.own.sent ≤ most_sent) seats (λ x r. r.sent) all) in
         omega (arith, same, most, many, few)
 
--- the seats of a game behind a letter
+-- the seats of a game after a letter
 abbrev seats_after : Change → Game → List Part
 seats_after c g = map (with_effect c.effect) (with_author c.author c.kept c.effect g.seats)
 
@@ -221,7 +221,7 @@ seats_after c g = map (with_effect c.effect) (with_author c.author c.kept c.effe
 abbrev AreSent : List Part → Type 0
 AreSent seats = AllByRecursion (λ s. length s.box ≤ sent_by_others (power_in s) seats) seats
 
--- a game behind a letter, by what the letter does to each seat, to the public part and to the papers
+-- a game after a letter, by what the letter does to each seat, to the public part and to the papers
 game_lawful : (m : Chart) (c : Change) (g : Game) → IsLawfulGame m g → IsPublicOf m (public_after c.effect g.public)
     → ((p : ℕ) → c.author ≡ Seat p → (s : Part) → seat_at p g.seats ≡ Some s → IsLawfulSeat m g.public.board s → IsLawfulSeat m g.public.board (with_letter c.kept c.effect s))
     → ((s : Part) → IsLawfulSeat m g.public.board s → IsReached m (public_after c.effect g.public).board (with_effect c.effect s))
@@ -547,7 +547,7 @@ silent_seat seat = record { sent = sent; box = box; own = λ k s. refl; kept = �
         go true = refl
         go false = refl
 
--- the board behind a phase is one of the map, where its orders could be given, and so is whoever has won
+-- the board after a phase is one of the map, where its orders could be given, and so is whoever has won
 abbrev pub StaysOf : Chart → Type 0
 StaysOf m = (b : Position) (pending : List PlacedOrder) (new : Position) (report : Report) → IsOf m b → AreGiven m b pending → IsPlayed m b pending new report
     → IsOf m new × IsStatusOf m (status_after report.course)
@@ -607,7 +607,7 @@ master_new m n k (Master (Notify notice)) None text e h = let bad : ◌≡◌ {A
 
 -- one step
 
--- the games behind a letter that opens none, where the one that it names stays lawful, and has no more papers than the master has sent letters
+-- the games after a letter that opens none, where the one that it names stays lawful, and has no more papers than the master has sent letters
 games_lawful : (m : Chart) (s : State) (n : Mail) (who : Author) (text : List ℕ) (e : Effect) → IsLawful m s → new_games e ≡ []
     → ((g : Game) → game_at n.note.game s ≡ Some g → IsLawfulGame m g → IsLawfulGame m (game_after (change_of n who text e) g))
     → ((g : Game) → game_at n.note.game s ≡ Some g → g.public.papers ≤ last_number s.desk.kept → (public_after e g.public).papers ≤ last_number (desk_after who (kept_of n text) s.desk).kept)
@@ -733,7 +733,7 @@ lawful_after m fine again stays s n who (Taken text e) is d l = go who e d (deci
         (silent_boxes (change_of n TheMaster text (Seats seat)) g (silent_seat seat) lg.boxes) lg.papers)
         (λ g found. omega arith)
 
-    -- a seat's letter: its own part behind it
+    -- a seat's letter: its own part after it
     own_part : (p : ℕ) (e : Effect) → Decides m s n (Seat p) (Taken text e) → Comes (Seat p) (game_at n.note.game s) e → (g : Game) → game_at n.note.game s ≡ Some g → IsLawfulGame m g
         → (q : ℕ) → Seat p ≡ Seat q → (part : Part) → seat_at q g.seats ≡ Some part → IsLawfulSeat m g.public.board part → IsLawfulSeat m g.public.board (with_letter (kept_of n text) e part)
     own_part p e d comes g found lg q author part there lp =

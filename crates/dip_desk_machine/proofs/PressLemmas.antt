@@ -6,7 +6,7 @@ use Rattle.dip_map.specs.Charts.{Chart, power_of}
 use Rattle.dip_desk_machine.specs.Pressing.{named_powers, with_power}
 use Rattle.dip_desk_state.specs.Rows as rows
 
--- texts so far, and those behind them
+-- texts so far, and those after them
 pub one_text : (found : List (String Global)) (text : String Global) (next : List ℕ) (rest all left : List (List ℕ)) → string_bytes text ≡ next → left ≡ next ∷ rest
     → rows.lines found ++ left ≡ all → rows.lines (found ++ text ∷ []) ++ rest ≡ all
 one_text found text next rest all left is at before =
@@ -16,7 +16,7 @@ one_text found text next rest all left is at before =
     ∙ ap (λ (ls : List (List ℕ)). rows.lines found ++ ls) (sym at)
     ∙ before
 
--- what is found behind these
+-- what is found after these
 abbrev pub behind : List ℕ → Option (List ℕ) → Option (List ℕ)
 behind front None = None
 behind front (Some more) = Some (front ++ more)

@@ -131,7 +131,7 @@ seat_stays m n p s t same is = go (bytes_eq n.note.sender (codes "master")) is
     go true e = absurd (no_seat (bytes_eq (digest (codes "desk") (codes "master") n.note.secret) s.desk.digest) p e)
     go false e = power (power_of m n.note.sender) e
 
--- a seat behind a letter that gives no seat away has its digest
+-- a seat after a letter that gives no seat away has its digest
 letter_digest : (k : Kept) (e : Effect) (s : Part) → (with_letter k e s).own.digest ≡ s.own.digest
 letter_digest k Nothing s = refl
 letter_digest k (Pending orders) s = refl
@@ -286,7 +286,7 @@ pub record IsAgain (m : Chart) (old mid : State) (n : Mail) (first : Reply) : Ty
   pub author : author m n mid ≡ author m n old
   pub untaken : IsUntaken verdict
 
--- what the same letter comes to behind its first step
+-- what the same letter comes to after its first step
 pub repeats : (m : Chart) (old mid : State) (n : Mail) (first : Reply) → Step m old n first mid → IsAgain m old mid n first
 repeats m old mid n first one = go one.0 one.1 one.2 one.3
   where

@@ -1,4 +1,4 @@
--- A letter that comes again behind letters of others.
+-- A letter that comes again after letters of others.
 use Rattle.std.proofs.Common.{◌≡◌, ◌≢◌, ◌==◌, ℕ, Bool, true, false, cond, List, [], ◌∷◌, refl, sym, ap, subst, ◌∙◌, Option, Some, None, option_map, bytes_eq, codes, is_some, unwrap_or}
 use Rattle.std.specs.Prelude.{option_and_then}
 use Rattle.std.specs.List.{AllByRecursion, list_any}
@@ -188,7 +188,7 @@ untaken_again m n p k a b v untaken one other is =
     let here = verdict_at m n p b other.0 other.1 in
     untaken_so m n v _ other.0.own (page_shown n.note.command other.0.box) k other.2 (untaken_by m n v _ one.0.own (page_shown n.note.command one.0.box) k untaken one.2 (is ∙ there)) ∙ sym here
 
--- the master's row, and which games are there, stay behind the letters of others
+-- the master's row, and which games are there, stay after the letters of others
 
 abbrev pub IsKeptFor : List ℕ → State → State → Type 0
 IsKeptFor name s t = (t.desk ≡ s.desk) × (is_some (game_at name t) ≡ is_some (game_at name s))
@@ -223,7 +223,7 @@ master_same m n k command (Some g) (Some h) v untaken same d = go (old_number n 
     go None d = absurd (in_game_taken m n command g v untaken d)
     go (Some old) d = d
 
--- the verdict behind the letters of others
+-- the verdict after the letters of others
 later : (m : Chart) (mid late : State) (n : Mail) (between : List Turn) (v : Verdict) (who : Author) → IsUntaken v → who ≢ Nobody → author m n mid ≡ who → IsRun m mid between late
     → AreOthers m n who between → Decides m mid n who v → Decides m late n who v
 later m mid late n between v Nobody untaken somebody is run others d = absurd (somebody refl)

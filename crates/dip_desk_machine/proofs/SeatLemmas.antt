@@ -5,7 +5,7 @@ use Rattle.dip_letters.specs.Notes.{SeatNote}
 use Rattle.dip_map.specs.Charts.{Chart}
 use Rattle.dip_desk_machine.specs.Machine.{new_seat, new_seats, with_more}
 
--- what is found behind these
+-- what is found after these
 abbrev pub behind : List NewSeat → Option (List NewSeat) → Option (List NewSeat)
 behind front None = None
 behind front (Some more) = Some (front ++ more)

@@ -185,7 +185,7 @@ same_game c s =
     at-append bytes_eq name_of c.game (change_at bytes_eq name_of c.game (game_after c) s.games) (new_games c.effect)
     ∙ ap (λ (o : Option Game). option_or o (at bytes_eq name_of c.game (new_games c.effect))) (at-change_at_same bytes_eq name_of c.game (game_after c) s.games (name_kept c))
 
--- the game that a letter names, behind it
+-- the game that a letter names, after it
 pub game_behind : (c : Change) (s : State) (g : Game) → game_at c.game s ≡ Some g → game_at c.game (state_after c s) ≡ Some (game_after c g)
 game_behind c s g found = same_game c s ∙ ap (λ (x : Option Game). option_or (option_map (game_after c) x) (at bytes_eq name_of c.game (new_games c.effect))) found
 
@@ -282,7 +282,7 @@ pub both : (a b : Bool) → (a && b) ≡ true → (a ≡ true) × (b ≡ true)
 both true b e = (refl, e)
 both false b e = absurd (false≢true e)
 
--- what each seat sees behind an effect is what its events say
+-- what each seat sees after an effect is what its events say
 pub effect_seen : (m : Chart) → AreEffectsShown m
 effect_seen m seat s n who text e suits known = go (bytes_eq n.note.game seat.game) refl known
   where

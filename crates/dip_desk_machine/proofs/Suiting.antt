@@ -151,7 +151,7 @@ ticks_hold P m tick w false true v ended early drawn played h = go (drawn_betwee
     go (Some set) at is = subst P (sym is) (drawn set at)
     go None at is = played is
 
--- a public part with one paper more, on the same board; behind a command of the grammar it is one of the map, where the old one is
+-- a public part with one paper more, on the same board; after a command of the grammar it is one of the map, where the old one is
 pub record IsNext (m : Chart) (command : Request) (p q : Public) : Type 0 where
   pub name : q.game ≡ p.game
   pub board : q.board ≡ p.board

@@ -59,6 +59,6 @@ agreed survivors seats = where_agreed survivors seats (first_asked survivors sea
 abbrev pub drawn_between : Chart → Whole → Option (List ℕ)
 drawn_between m w = agreed (survivors m w.public.board) w.seats
 
--- the public part behind a draw: the powers that share the game; board and due tick stay
+-- the public part after a draw: the powers that share the game; board and due tick stay
 abbrev pub public_drawn : List ℕ → Public → Public
 public_drawn powers p = record p { status = Drawn powers; papers = p.papers + 1 }

@@ -9,7 +9,7 @@ use Rattle.dip_desk_state.specs.State.{Author, Effect, Nothing, Pending, Votes, 
 use Rattle.dip_desk_state.specs.Writable.{IsPlainItem, IsPublicOf, IsVoteOf}
 
 -- provinces and powers are the map's: standing orders are one a province, by province; a vote names powers in order, each once; press can be
--- written; a new game's public part is one of the map, its paper is the first, and each power has one seat; so is the public part behind a
+-- written; a new game's public part is one of the map, its paper is the first, and each power has one seat; so is the public part after a
 -- paper
 abbrev pub FitsMap : Chart → Effect → Type 0
 FitsMap m Nothing = Unit {0}

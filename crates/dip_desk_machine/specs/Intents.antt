@@ -21,7 +21,7 @@ OpensAsAsked m = (s : State) (n : Mail) (who : Author) (text paper : List ℕ) (
     → (due : ℕ) × (period : ℕ) × (grey : Bool) × (intent : Option Bool) × (notes : List SeatNote)
     × (n.note.command ≡ Master (Create due period grey intent notes)) × (public.board.intent ≡ is_on intent)
 
--- behind each step a game that was there has the option where it had it
+-- after each step a game that was there has the option where it had it
 abbrev pub KeepsIntent : Chart → Type 0
 KeepsIntent m = (old : State) (n : Mail) (r : Reply) (new : State) → Step m old n r new
     → (name : List ℕ) (g h : Game) → game_at name old ≡ Some g → game_at name new ≡ Some h → has_intent h ≡ has_intent g

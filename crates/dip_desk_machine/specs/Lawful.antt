@@ -15,7 +15,7 @@ use Rattle.dip_desk_machine.specs.Machine.{MayBeDamaged, Step}
 use Rattle.dip_desk_state.specs.State.{Author, Game, Part, State, name_of, power_in}
 use Rattle.dip_desk_state.specs.Writable.{IsPublicOf, IsVoteOf}
 
--- each is less than all behind it
+-- each is less than all after it
 abbrev pub AreAscending : List ℕ → Type 0
 AreAscending [] = Unit {0}
 AreAscending (p ∷ ps) = AllByRecursion (λ q. p < q) ps × AreAscending ps

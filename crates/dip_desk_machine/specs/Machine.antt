@@ -261,11 +261,11 @@ abbrev pub creation : Chart → Public → Option (List NewSeat) → Option Game
 creation m p None game = refusal_verdict Malformed
 creation m p (Some seats) game = if are_complete m seats then open_game m p seats game else refusal_verdict Malformed
 
--- the paper of a phase is published, with the public part behind it
+-- the paper of a phase is published, with the public part after it
 abbrev pub paper_verdict : Chart → Report → Public → Verdict
 paper_verdict m report public = Taken (paper_line public.papers) (Publishes public (paper_text m report public) true)
 
--- the phase of a game is adjudicated with the orders that stand, all of them: the board behind it and a report, by which its paper is
+-- the phase of a game is adjudicated with the orders that stand, all of them: the board after it and a report, by which its paper is
 -- published
 pub record IsPublished (m : Chart) (tick : ℕ) (w : Whole) (v : Verdict) : Type 0 where
   pub board : Position
@@ -291,7 +291,7 @@ Ticks m tick w false true v = OnTime m tick w (drawn_between m w) v
 abbrev pub TicksIn : Chart → ℕ → Game → Verdict → Type 0
 TicksIn m tick g v = Ticks m tick (whole_of g) (is_over g.public.status) (is_due tick g.public) v
 
--- a notice is published, with the public part behind it
+-- a notice is published, with the public part after it
 abbrev pub notified : Chart → NoticeRequest → Public → Verdict
 notified m notice public = Taken (paper_line public.papers) (Publishes public (notice_paper m notice public) false)
 

@@ -15,7 +15,7 @@ is_announcement (Period period) = false
 is_announcement (Announce text) = true
 is_announcement Close = false
 
--- how a game stands behind a notice
+-- how a game stands after a notice
 abbrev pub status_noted : NoticeRequest → Status → Status
 status_noted Pause s = Paused
 status_noted Resume s = Running
@@ -23,7 +23,7 @@ status_noted (Period period) s = s
 status_noted (Announce text) s = s
 status_noted Close s = Closed
 
--- the ticks from one due tick to the next behind it
+-- the ticks from one due tick to the next after it
 abbrev pub period_noted : NoticeRequest → ℕ → ℕ
 period_noted Pause old = old
 period_noted Resume old = old
@@ -31,7 +31,7 @@ period_noted (Period period) old = period
 period_noted (Announce text) old = old
 period_noted Close old = old
 
--- the public part behind it: board and due tick stay
+-- the public part after it: board and due tick stay
 abbrev pub public_noted : NoticeRequest → Public → Public
 public_noted notice p = record p { status = status_noted notice p.status; period = period_noted notice p.period; papers = p.papers + 1 }
 

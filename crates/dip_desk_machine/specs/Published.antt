@@ -39,7 +39,7 @@ pub record AreDecided (m : Chart) (b : Position) (orders : List PlacedOrder) (va
   pub satisfied : Satisfies (situation_on m b orders) (is_broken steps) values
   pub only : (others : List Step) (a : Assignment) → AreExplained (situation_on m b orders) others a → (d : Decision) → (values d ≡ a d) × (is_broken steps d ≡ is_broken others d)
 
--- the paper of a movement: its orders with their outcomes, the centres that changed hands, and the public part behind it
+-- the paper of a movement: its orders with their outcomes, the centres that changed hands, and the public part after it
 abbrev pub movement_paper : Chart → Phase → List MovementLine → List CentreLine → Public → List ℕ
 movement_paper m phase lines centres public = title public.papers phase
     ++ lines_by_power m (moved_lines lines)
@@ -47,7 +47,7 @@ movement_paper m phase lines centres public = title public.papers phase
     ++ game_line m public ++ board_lines m public.board ++ codes "END\n"
 
 -- a paper prints, for the orders that stood, the outcomes of values that satisfy the decision equations and are explained, of which
--- there are no others; and the board behind it is the one that these values leave
+-- there are no others; and the board after it is the one that these values leave
 pub record TellsMovement (m : Chart) (w : Whole) (public : Public) (paper : List ℕ) : Type 0 where
   pub values : Assignment
   pub decided : AreDecided m w.public.board (orders_stood m w) values

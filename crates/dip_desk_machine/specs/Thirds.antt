@@ -71,7 +71,7 @@ AreLikeTurns m those (t ∷ ts) (u ∷ us) = (IsSameLetter m t u ⊎ IsSameGrey 
 
 -- two histories that differ only in what these powers order, vote, look at or have refused, in which of them wrote grey press, and in
 -- other games, show each seat of the game that is none of theirs the same; and where they began alike for it, it is told the same and
--- sees the same behind them
+-- sees the same after them
 abbrev pub ThirdSeatsSeeAlike : Chart → Type 0
 ThirdSeatsSeeAlike m = (those : ℕ → Bool) (seat : SeatName) (old new first last : State) (ts us : List Turn)
     → IsRun m old ts new → IsRun m first us last

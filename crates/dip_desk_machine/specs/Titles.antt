@@ -12,7 +12,7 @@ abbrev pub is_capital : List ℕ → Bool
 is_capital [] = false
 is_capital (b ∷ bs) = nat_le 65 b && nat_le b 90
 
--- whether the word behind PAPER and the paper's number is the name of a phase: that alone begins with a capital
+-- whether the word after PAPER and the paper's number is the name of a phase: that alone begins with a capital
 abbrev pub names_phase : ℕ → List ℕ → Bool
 names_phase number paper = is_capital (drop 1 (drop (length (decimal number)) (drop 6 paper)))
 

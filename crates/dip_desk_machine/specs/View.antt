@@ -146,7 +146,7 @@ Suits name (Some g) (Opens public paper seats) = ⊥
 Suits name (Some g) (Publishes public paper played) = public.game ≡ g.public.game
 Suits name (Some g) (Seats seat) = (s : Part) × (seat_at seat.power g.seats ≡ Some s)
 
--- what each seat sees behind an effect is what its events say, where the effect may come: the author knows of its own letter, and
+-- what each seat sees after an effect is what its events say, where the effect may come: the author knows of its own letter, and
 -- nobody sees more
 abbrev pub AreEffectsShown : Chart → Type 0
 AreEffectsShown m = (seat : SeatName) (s : State) (n : Mail) (who : Author) (text : List ℕ) (e : Effect) → Suits n.note.game (game_at n.note.game s) e

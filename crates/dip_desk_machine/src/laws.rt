@@ -44,14 +44,14 @@ pub fn histories_are_one()
 }
 
 /// Each movement that is published in a history satisfies the decision equations for the orders that stood at its tick: its paper prints
-/// the outcomes of values that satisfy them and are explained, and the board behind it is the one that these values leave.
+/// the outcomes of values that satisfy them and are explained, and the board after it is the one that these values leave.
 pub fn published_movements_are_decided()
     ensures { (m : Chart) → MovementsAreDecided m }
 {
     explained_is_lawful();
 }
 
-/// A game is opened with the option INTENT exactly where its CREATE says YES of it, and has that option, or has it not, behind each letter
+/// A game is opened with the option INTENT exactly where its CREATE says YES of it, and has that option, or has it not, after each letter
 /// that follows.
 pub fn games_keep_their_intent()
     ensures opened { (m : Chart) → OpensAsAsked m }
@@ -60,7 +60,7 @@ pub fn games_keep_their_intent()
     phases_keep_the_intent();
 }
 
-/// Whatever effect comes to a game that it suits, each seat sees behind it what its events say.
+/// Whatever effect comes to a game that it suits, each seat sees after it what its events say.
 pub fn effects_are_shown()
     ensures { (m : Chart) → AreEffectsShown m }
 {}
@@ -85,7 +85,7 @@ pub fn orders_stand_as_given()
 
 /// Two histories that differ only in what some powers order, vote, look at or have refused, in which of these wrote a grey press, and in
 /// other games, can't be told apart by any other seat of the game: they show it the same, and where they began alike for it, it gets the
-/// same replies and sees the same behind them. All accepted press is the same, in the same order, and what the master's letters come to.
+/// same replies and sees the same after them. All accepted press is the same, in the same order, and what the master's letters come to.
 pub fn third_seats_see_alike()
     ensures { (m : Chart) → ThirdSeatsSeeAlike m }
 {}

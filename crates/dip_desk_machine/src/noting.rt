@@ -26,7 +26,7 @@ fn is_announcement(notice: &Notice<'_>) -> bool
     }
 }
 
-/// How a game stands behind the notice.
+/// How a game stands after the notice.
 fn status_noted(alloc: Global, notice: &Notice<'_>, status: &Status) -> Result<Status, AllocError>
     ensures { IfOk result
         (λ s. rows.status s
@@ -40,7 +40,7 @@ fn status_noted(alloc: Global, notice: &Notice<'_>, status: &Status) -> Result<S
     }
 }
 
-/// The ticks from one due tick to the next behind the notice.
+/// The ticks from one due tick to the next after the notice.
 fn period_noted(notice: &Notice<'_>, period: u32) -> u32
     ensures { result ≡ n.period_noted (notice_request notice.now) period }
 {
@@ -50,7 +50,7 @@ fn period_noted(notice: &Notice<'_>, period: u32) -> u32
     }
 }
 
-/// The public part behind the notice.
+/// The public part after the notice.
 pub fn public_noted(
     alloc: Global,
     notice: &Notice<'_>,

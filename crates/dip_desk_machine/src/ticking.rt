@@ -47,7 +47,7 @@ pub fn is_due(tick: u64, public: &Public) -> bool
     is_running(&public.status) && public.due <= tick
 }
 
-/// How a game stands behind a phase.
+/// How a game stands after a phase.
 fn status_after(course: Course) -> Status
     ensures { rows.status result ≡ t.status_after course }
 {
@@ -58,7 +58,7 @@ fn status_after(course: Course) -> Status
     }
 }
 
-/// The tick from which on the phase behind this one is due; a game that is over keeps the old one.
+/// The tick from which on the phase after this one is due; a game that is over keeps the old one.
 fn due_after(tick: u64, due: u64, period: u32, course: Course) -> u64
     requires { tick ≤ 999999999999 }
     ensures { result ≡ t.due_after tick due period course }
@@ -69,7 +69,7 @@ fn due_after(tick: u64, due: u64, period: u32, course: Course) -> u64
     }
 }
 
-/// The public part of a game behind a phase that came to this board.
+/// The public part of a game after a phase that came to this board.
 pub fn public_played(
     alloc: Global,
     tick: u64,

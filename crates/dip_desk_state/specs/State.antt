@@ -121,7 +121,7 @@ pub data Effect : Type 0 where
   Delivers : (readers : List ℕ) → (item : Item) → Effect
   -- a new game with its first paper
   Opens : (public : Public) → (paper : List ℕ) → (seats : List NewSeat) → Effect
-  -- a paper, and the public part behind it; where a phase was played no order stands any more
+  -- a paper, and the public part after it; where a phase was played no order stands any more
   Publishes : (public : Public) → (paper : List ℕ) → (played : Bool) → Effect
   -- another digest for a seat
   Seats : (seat : NewSeat) → Effect
@@ -161,7 +161,7 @@ with_item item s = record { own = record s.own { items = s.own.items + 1 }; box 
 abbrev pub with_digest : List ℕ → Part → Part
 with_digest by s = record s { own = record s.own { digest = by } }
 
--- a seat behind a paper: where a phase was played, it has no standing orders
+-- a seat after a paper: where a phase was played, it has no standing orders
 abbrev pub behind_paper : Bool → Part → Part
 behind_paper played s = if played then record s { own = record s.own { pending = [] } } else s
 
@@ -181,7 +181,7 @@ with_author Nobody k e seats = seats
 with_author TheMaster k e seats = seats
 with_author (Seat power) k e seats = change_at (λ a b. a == b) power_in power (with_letter k e) seats
 
--- the public part behind an effect; a game keeps its name
+-- the public part after an effect; a game keeps its name
 abbrev pub public_after : Effect → Public → Public
 public_after Nothing p = p
 public_after (Pending orders) p = p
@@ -200,7 +200,7 @@ papers_after (Opens public paper seats) ps = ps
 papers_after (Publishes public paper played) ps = ps ++ paper ∷ []
 papers_after (Seats seat) ps = ps
 
--- the game behind a letter: its author's seat has the letter, and then each seat what the effect does to it
+-- the game after a letter: its author's seat has the letter, and then each seat what the effect does to it
 abbrev pub game_after : Change → Game → Game
 game_after c g = record {
   public = public_after c.effect g.public;

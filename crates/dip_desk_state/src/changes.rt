@@ -63,7 +63,7 @@ pub enum Effect {
         paper: String,
         seats: Vec<NewSeat>,
     },
-    /// A paper and the public part behind it; where a phase was played, no order stands any more.
+    /// A paper and the public part after it; where a phase was played, no order stands any more.
     Publishes {
         public: Public,
         paper: String,

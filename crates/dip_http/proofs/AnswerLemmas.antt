@@ -125,7 +125,7 @@ pub asks : (front : RequestFront) (head : RequestHead) → Shows front head
     → ask_verdict front.method.now (option_map ask_view front.asked) ≡ verdict_of head
 asks front head shows = ap (λ (t : List ℕ). ask_verdict t (option_map ask_view front.asked)) shows.method ∙ ap (ask_verdict head.method) shows.asked
 
--- bytes behind a head are none of it
+-- bytes after a head are none of it
 head_stays : (bytes : List ℕ) (head : RequestHead) (rest more : List ℕ) → IsHead bytes head rest → IsHead (bytes ++ more) head (rest ++ more)
 head_stays bytes head rest more is = record {
   reads = (is.reads.0, ap (λ (t : List ℕ). t ++ more) is.reads.1 ∙ append_assoc (print_request head) rest more);
@@ -245,7 +245,7 @@ posted_by m known left bytes head rest old new (refuse status allow) c is asks h
 posted_by m known left bytes head rest old new (show_game name) c is asks h = absurd h
 posted_by m known left bytes head rest old new (show_paper name number) c is asks h = absurd h
 
--- the same, of what the code found: a front, a plan's verdict, whether it is HEAD, and what stands behind the head
+-- the same, of what the code found: a front, a plan's verdict, whether it is HEAD, and what stands after the head
 pub fronted_whole : (m : Chart) (known left : Option (List ℕ)) (bytes : List ℕ) (front : RequestFront) (v : Verdict) (quiet : Bool) (start : List ℕ)
     (old new : State) (a b : Option (List ℕ)) (r : Result (Unit {0}) HttpFault) → Consumes known left bytes → IsFront bytes (Head front)
     → v ≡ ask_verdict front.method.now (option_map ask_view front.asked) → quiet ≡ is_head front.method.now → start ≡ drop front.size bytes

@@ -25,7 +25,7 @@ longer : (size : ℕ) (start read rest more : List ℕ) → more ≡ read ++ res
 longer size start read rest more is fits =
     omega (arith, fits, length-append start read, length-append start more, ap length is, length-append read rest)
 
--- a body that was read is the one behind the head, and what it is answered is carried by the verdict
+-- a body that was read is the one after the head, and what it is answered is carried by the verdict
 pub body_carried : (m : Chart) (size : ℕ) (start read body : List ℕ) (known left : Option (List ℕ)) (old new : State) (before after : Option (List ℕ)) (r : Result (Unit {0}) HttpFault)
     → Consumes known left read → body ≡ take size (start ++ read) → size ≤ length (start ++ read)
     → OnOk r (PostsTo m body old new before after) → OnOk r (Carried m (take_letter size) false start known old new before after)
@@ -57,7 +57,7 @@ body_part m size start read body known left old new before after (Err Write) con
     }
 body_part m size start read body known left old new before after (Err (Keep f)) cons is fits p = p
 
--- the letter that it is was taken of what stands behind the head
+-- the letter that it is was taken of what stands after the head
 pub body_taken : (m : Chart) (size : ℕ) (start read body : List ℕ) (known left : Option (List ℕ)) (old new : State)
     → Consumes known left read → body ≡ take size (start ++ read) → size ≤ length (start ++ read)
     → TakesMail m body old new → TakesBody m size start known old new

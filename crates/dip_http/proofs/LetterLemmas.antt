@@ -14,7 +14,7 @@ use Rattle.dip_letters.proofs.AgainLemmas.{letter_starts, not_long, only_blank, 
 use Rattle.dip_desk_machine.specs.Mail.{Mail, mail}
 use Rattle.dip_http.specs.Answering.{IsOneLetter}
 
--- a letter behind empty lines is what stands next
+-- a letter after empty lines is what stands next
 found : (body : List ℕ) (n : Note) (rest : List ℕ) (next : Next) → Fits n → Skips body (spelling n ++ rest) → IsNext body next → IsTaken n rest next
 found body n rest (Taken l r) fits skips is =
     let at = text_settles body (spelling (note l) ++ r.now) (spelling n ++ rest) (letter_starts (note l) r.now) (letter_starts n rest) is.1 skips in
@@ -29,7 +29,7 @@ found body n rest End fits skips is = only_blank skips.blank is.blank (spelling 
 pub skips_to : (body : List ℕ) (n : Mail) → (one : IsOneLetter body n) → Skips body (spelling n.note ++ replicate one.after 10)
 skips_to body n one = record { blank = one.before; is = one.is }
 
--- a letter with nothing but empty lines behind it
+-- a letter with nothing but empty lines after it
 pub is_one : (body : List ℕ) (l : Letter) (r : _) → IsNext body (Taken l r) → IsNext r.now End → IsOneLetter body (mail l)
 is_one body l r is end = record {
   fits = is.0.fits;
@@ -46,7 +46,7 @@ no_letter_at_fault body f r is n one = found body n.note (replicate one.after 10
 pub no_letter_at_end : (body : List ℕ) → IsNext body End → (n : Mail) → IsOneLetter body n → ⊥
 no_letter_at_end body is n one = found body n.note (replicate one.after 10) End one.fits (skips_to body n one) is
 
--- something else stands behind the letter
+-- something else stands after the letter
 pub more_behind : (body : List ℕ) (l : Letter) (r : _) (next : Next) → IsNext body (Taken l r) → IsNext r.now next → (n : Mail) → IsOneLetter body n → IsSameNext End next
 more_behind body l r next is behind n one =
     let there = found body n.note (replicate one.after 10) (Taken l r) one.fits (skips_to body n one) is in
@@ -57,7 +57,7 @@ pub none_in_front : (body : List ℕ) (next : Next) → IsNext body next → ((f
 none_in_front body next is (inl e) n one = no_letter_at_fault body e.0 e.1 (subst (IsNext body) e.2 is) n one
 none_in_front body next is (inr e) n one = no_letter_at_end body (subst (IsNext body) e is) n one
 
--- nor one that goes on behind it
+-- nor one that goes on after it
 pub none_behind : (body : List ℕ) (l : Letter) (r : Bor (List ℕ)) (next : Next) → IsNext body (Taken l r) → IsNext r.now next
     → ((x : Letter) × (y : Bor (List ℕ)) × (next ≡ Taken x y)) ⊎ ((f : LetterFault) × (y : Bor (List ℕ)) × (next ≡ Fault f y)) → (n : Mail) → IsOneLetter body n → ⊥
 none_behind body l r next is behind (inl e) n one = subst (IsSameNext End) e.2 (more_behind body l r next is behind n one)

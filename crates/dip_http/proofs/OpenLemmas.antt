@@ -186,7 +186,7 @@ module _ {K : Type 0} (m : Chart) (b : Book K) where
       goes_open (Ok u) k whole it honest = let on = open_answered (Ok u) tt k it honest in (on, whole it.sound on.shows)
       goes_open (Err f) k whole it honest = tt
 
-      -- a fault behind which the keeper answered
+      -- a fault after which the keeper answered
       at_answer : (f : HttpFault) → IsKept {X = Unit {0}} (Err f) → Keeps {X = Unit {0}} m b old new (Err f)
           → (b.sound m old → b.shows new → EndsBy m f known (b.content m old) (b.content m new) before after)
           → IsOpen m b old → b.honest new → EndsAt m b f known old new before after

@@ -84,7 +84,7 @@ one_turn m input n old new answer post p =
     let step = p.step in
     (turn_of old n step.0 ∷ [], (refl, step.1, step.3), record { post = post; carries = p.carries ∙ ap answer_to step.2 })
 
--- what the head of a posted letter asks for, and what stands behind it
+-- what the head of a posted letter asks for, and what stands after it
 posted_as : (input : List ℕ) (head : RequestHead) (rest : List ℕ) (n : Mail) → IsHead input head rest → (post : IsPost input n)
     → (verdict_of head ≡ take_letter post.size) × (rest ≡ post.rest)
 posted_as input head rest n is post =

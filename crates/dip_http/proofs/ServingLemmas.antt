@@ -20,7 +20,7 @@ use Rattle.dip_http.specs.Serving.{Meets, MeetsAt, MeetsOne, MeetsTo, Serves, Se
 pub meets_more : (m : Chart) (n : ℕ) (old mid new : State) → Meets m n old mid → MeetsOne m mid new → Meets m (n + 1) old new
 meets_more m n old mid new so_far one = let is : n + 1 ≡ suc n = omega (arith) in subst (λ k. Meets m k old new) (sym is) (mid, so_far, one)
 
--- one history behind another
+-- one history after another
 run_on : (m : Chart) (ts us : List Turn) (old mid new : State) → IsRun m old ts mid → IsRun m mid us new → IsRun m old (ts ++ us) new
 run_on m [] us old mid new one two = subst (λ (s : State). IsRun m s us new) one two
 run_on m (t ∷ ts) us old mid new one two = (one.0, one.1, run_on m ts us (left_by m t) mid new one.2 two)
@@ -91,7 +91,7 @@ module _ {K : Type 0} (m : Chart) (b : Book K) where
   on_fault : (count : ℕ) (first mid new : K) → MeetsTo m b count first mid → Rises (b.told first) (b.told mid) → b.told mid ≤ b.told new → MeetsTo m b (count + 1) first new
   on_fault count first mid new so rises counts = record { n = so.n; most = omega (arith, so.most); state = so.state; meets = so.meets; ends = inr (omega (arith, rises, counts)) }
 
-  -- what the store told in a call it told behind the calls before
+  -- what the store told in a call it told after the calls before
   pub told_next : (count : ℕ) (first mid new : K) → MeetsTo m b count first mid → b.told first ≤ b.told mid → b.told mid ≤ b.told new → b.of_size first ≤ b.of_size mid → (IsOpen m b mid → WasTold b mid new)
       → WasTold b first new
   told_next count first mid new so early late sizes one = elim so.ends [

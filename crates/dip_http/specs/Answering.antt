@@ -1,4 +1,4 @@
--- What is answered to a request, and what the desk is behind it.
+-- What is answered to a request, and what the desk is after it.
 use Rattle.std.specs.Prelude.{◌≡◌, ◌≢◌, ◌⊎◌, ◌^◌, ◌<◌, ◌≤◌, ℕ, List, [], ◌++◌, Bool, false, Option, Some, None, codes, length, replicate, take}
 use Rattle.std.specs.Fmt.{decimal}
 use Rattle.httparse.specs.Grammar.{RequestHead}
@@ -68,7 +68,7 @@ pub record IsNoLetter (body : List ℕ) (old : State) (answer : List ℕ) (new :
 abbrev pub Posts : Chart → List ℕ → State → List ℕ → State → Type 0
 Posts m body old answer new = ((n : Mail) × IsOneLetter body n × Takes m n old answer new) ⊎ IsNoLetter body old answer new
 
--- what is answered to a request by its verdict, and what the desk is behind it; quiet is HEAD, and the rest is all that follows the head
+-- what is answered to a request by its verdict, and what the desk is after it; quiet is HEAD, and the rest is all that follows the head
 abbrev pub Carries : Chart → Verdict → Bool → List ℕ → State → List ℕ → State → Type 0
 Carries m (refuse status allow) quiet rest old answer new = (answer ≡ refusal status allow quiet) × (new ≡ old)
 Carries m (show_game name) quiet rest old answer new = (answer ≡ game_answer m quiet (public_at name old)) × (new ≡ old)

@@ -70,7 +70,7 @@ PostsToPart m (Keep fault) body old new before after = (new ≡ old) × IsPart b
 abbrev pub WasLeft : Option (List ℕ) → List ℕ → Type 0
 WasLeft known input = IfSome known (λ xs. xs ≡ input)
 
--- a verdict was carried out over what stood behind the head and all that a reader had left, and its answer was written
+-- a verdict was carried out over what stood after the head and all that a reader had left, and its answer was written
 pub record Carried (m : Chart) (verdict : Verdict) (quiet : Bool) (start : List ℕ) (known : Option (List ℕ)) (old new : State)
     (before after : Option (List ℕ)) : Type 0 where
   pub more : List ℕ
@@ -108,7 +108,7 @@ pub record TakesMail (m : Chart) (body : List ℕ) (old new : State) : Type 0 wh
   pub reply : Reply
   pub step : Step m old letter reply new
 
--- the same of a body of this size behind a head
+-- the same of a body of this size after a head
 pub record TakesBody (m : Chart) (size : ℕ) (start : List ℕ) (known : Option (List ℕ)) (old new : State) : Type 0 where
   pub more : List ℕ
   pub left : WasLeft known more
@@ -176,12 +176,12 @@ pub record TakesPost (m : Chart) (known : Option (List ℕ)) (old new : State) :
   pub reply : Reply
   pub step : Step m old letter reply new
 
--- what a crash may leave behind a fault beside the state: where the keeper gave no answer, what the posted letter leaves
+-- what a crash may leave after a fault beside the state: where the keeper gave no answer, what the posted letter leaves
 abbrev pub MayTake : Chart → HttpFault → Option (List ℕ) → State → State → Type 0
 MayTake m (Keep fault) known old new = TakesPost m known old new
 MayTake m _ known old new = ⊥
 
--- how a connection to a keeper that was open ends by a fault: the state behind it is what a crash leaves, or one letter more, whole; and
+-- how a connection to a keeper that was open ends by a fault: the state after it is what a crash leaves, or one letter more, whole; and
 -- the keeper is open and has it, or the store told of a fault
 pub record EndsAt {K : Type 0} (m : Chart) (b : Book K) (fault : HttpFault) (known : Option (List ℕ)) (old new : K)
     (before after : Option (List ℕ)) : Type 0 where

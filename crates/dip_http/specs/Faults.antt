@@ -1,4 +1,4 @@
--- A connection's faults: their names, and how many faults of the disk a keeper has told of behind them.
+-- A connection's faults: their names, and how many faults of the disk a keeper has told of after them.
 use Rattle.std.specs.Prelude.{ℕ, List, Result, Err, codes}
 use Rattle.dip_desk_state.specs.Faults.{faults_with, keep_fault_name}
 use Rattle.dip_http.specs.declared.faults.HttpFault.{HttpFault}

@@ -7,7 +7,7 @@ pub data Place : Type 0 where
   game : List ℕ → Place
   paper : List ℕ → List ℕ → Place
 
--- what stands behind a beginning
+-- what stands after a beginning
 abbrev pub behind : List ℕ → List ℕ → Option (List ℕ)
 behind [] text = Some text
 behind (b ∷ bs) [] = None
@@ -18,7 +18,7 @@ abbrev pub segment : List ℕ → List ℕ
 segment [] = []
 segment (b ∷ bs) = if b == 47 then [] else b ∷ segment bs
 
--- the first slash and what is behind it
+-- the first slash and what is after it
 abbrev pub from_slash : List ℕ → List ℕ
 from_slash [] = []
 from_slash (b ∷ bs) = if b == 47 then b ∷ bs else from_slash bs
@@ -27,11 +27,11 @@ abbrev pub is_empty : List ℕ → Bool
 is_empty [] = true
 is_empty (b ∷ bs) = false
 
--- a number's text behind `/papers/`
+-- a number's text after `/papers/`
 abbrev pub paper_place : List ℕ → List ℕ → Option Place
 paper_place name number = if is_empty number || not (is_empty (from_slash number)) then None else Some (paper name number)
 
--- a game's name, with or without more behind it
+-- a game's name, with or without more after it
 abbrev pub game_place : List ℕ → List ℕ → Option Place
 game_place name [] = if is_empty name then None else Some (game name)
 game_place name (b ∷ bs) = if is_empty name then None else option_and_then (paper_place name) (behind (codes "/papers/") (b ∷ bs))
@@ -39,7 +39,7 @@ game_place name (b ∷ bs) = if is_empty name then None else option_and_then (pa
 abbrev pub games_place : List ℕ → Option Place
 games_place text = game_place (segment text) (from_slash text)
 
--- nothing behind `/letters`
+-- nothing after `/letters`
 abbrev pub letters_place : List ℕ → Option Place
 letters_place [] = Some letters
 letters_place (b ∷ bs) = None

@@ -37,7 +37,7 @@ pub record IsAnsweredIn (m : Chart) (old : State) (turns : List Turn) (new : Sta
 abbrev pub Visits : Chart → State → List Turn → State → Type 0
 Visits m old turns new = ((turns ≡ []) × (new ≡ old)) ⊎ IsAnsweredIn m old turns new
 
--- so many clients, whose turns stand one behind the other
+-- so many clients, whose turns stand one after the other
 abbrev pub VisitAll : Chart → ℕ → State → List Turn → State → Type 0
 VisitAll m zero old turns new = (turns ≡ []) × (new ≡ old)
 VisitAll m (suc n) old turns new =
@@ -55,15 +55,15 @@ pub record Serves (m : Chart) (count : ℕ) (old new : State) : Type 0 where
 abbrev pub TakesOne : Chart → State → State → Type 0
 TakesOne m old new = (it : Mail) × (r : Reply) × Step m old it r new
 
--- one client over a keeper that was open: a crash leaves the state behind it, or behind a letter more
+-- one client over a keeper that was open: a crash leaves the state after it, or after a letter more
 pub record MeetsAt {K : Type 0} (m : Chart) (b : Book K) (old new : K) : Type 0 where
   pub state : State
   pub meets : MeetsOne m (b.content m old) state
   pub ends : Ends m b old new state (TakesOne m state)
 
--- at most so many clients over a keeper that was open, all of them where it still shows what it keeps; a crash leaves the state behind
--- them, or behind a letter more. Or a fault of the disk came with one that was told of want of memory, and nothing is said of a crash
--- behind that
+-- at most so many clients over a keeper that was open, all of them where it still shows what it keeps; a crash leaves the state after
+-- them, or after a letter more. Or a fault of the disk came with one that was told of want of memory, and nothing is said of a crash
+-- after that
 pub record MeetsTo {K : Type 0} (m : Chart) (b : Book K) (count : ℕ) (old new : K) : Type 0 where
   pub n : ℕ
   pub most : n ≤ count
@@ -79,7 +79,7 @@ pub record ServesTo {K : Type 0} (m : Chart) (b : Book K) (count : ℕ) (old new
   pub serves : Serves m n (b.content m old) state
   pub ends : Ends m b old new state (TakesOne m state) ⊎ Rises (b.told old) (b.told new)
 
--- a fault that ends the serving: behind any other the keeper goes on
+-- a fault that ends the serving: after any other the keeper goes on
 abbrev pub IsShut : KeepFault → Type 0
 IsShut Memory = ⊥
 IsShut Disk = Unit {0}

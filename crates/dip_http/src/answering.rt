@@ -125,7 +125,7 @@ fn answer_front<R: Read, W: Write, K: Keeper>(
 }
 
 /// Reads one request and answers it: with what was asked for, with the reply to a letter, or with a refusal. Where the input ends before
-/// its first byte, nothing is written. Bytes behind the request aren't looked at.
+/// its first byte, nothing is written. Bytes after the request aren't looked at.
 ///
 /// # Errors
 /// `Read` and `Memory`: nothing was written, and no letter was taken. `Write`: a beginning of the answer was written, and a letter that was

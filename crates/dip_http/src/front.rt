@@ -31,7 +31,7 @@ pub struct RequestFront<'b> {
     pub method: &'b [u8],
     /// `None` where its fields or its target are refused.
     pub asked: Option<Asked<'b>>,
-    /// How many bytes the head has; behind it the body begins.
+    /// How many bytes the head has; after it the body begins.
     pub size: usize,
 }
 

@@ -26,7 +26,7 @@ pub fn posts_are_settled()
 }
 
 /// A connection that posts a letter is the turn of that letter in a history, and its answer carries the turn's reply with the status of its
-/// kind; any other is no turn, and leaves what was there. So whatever is told of histories of letters holds of connections, one behind the other.
+/// kind; any other is no turn, and leaves what was there. So whatever is told of histories of letters holds of connections, one after the other.
 pub fn connections_are_turns()
     ensures { (m : Chart) → AreTurns m }
 {}

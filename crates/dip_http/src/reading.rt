@@ -15,7 +15,7 @@ pub enum ReadFault {
     Memory,
 }
 
-/// Reads on behind what was read, at most 1,024 bytes; how many they are, and none only at the end of the input.
+/// Reads on after what was read, at most 1,024 bytes; how many they are, and none only at the end of the input.
 pub fn read_more<R: Read>(reader: &mut R, bytes: &mut Vec<u8>) -> Result<usize, ReadFault>
     ensures read { IfOk result (λ n. (more : List ℕ) × (length more ≡ n)
         × Consumes (R.remaining reader.old) (R.remaining reader.new) more
@@ -34,7 +34,7 @@ pub fn read_more<R: Read>(reader: &mut R, bytes: &mut Vec<u8>) -> Result<usize, 
     }
 }
 
-/// Reads until a body of this size is there, which begins with what was read behind the head; `None` where the input ends before.
+/// Reads until a body of this size is there, which begins with what was read after the head; `None` where the input ends before.
 pub fn read_body<R: Read>(
     alloc: Global,
     reader: &mut R,

@@ -91,7 +91,7 @@ fn take_body<W: Write, K: Keeper>(
     }
 }
 
-/// Reads a body of this size, which begins with what was read behind the head, and takes the letter that it is; where the input ends
+/// Reads a body of this size, which begins with what was read after the head, and takes the letter that it is; where the input ends
 /// before, nothing is taken.
 pub fn take_letter<R: Read, W: Write, K: Keeper>(
     alloc: Global,

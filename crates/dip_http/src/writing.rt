@@ -26,7 +26,7 @@ pub struct Answer {
     pub quiet: bool,
 }
 
-/// Writes pieces one behind the other, or a beginning of them.
+/// Writes pieces one after the other, or a beginning of them.
 fn write_pieces<W: Write>(writer: &mut W, pieces: &[&str]) -> Result<(), Unwritten>
     ensures ok { OnOk result (Appends (W.contents writer.old) (W.contents writer.new)
         (flat_map (λ t. t.now) pieces.entry.now)) }

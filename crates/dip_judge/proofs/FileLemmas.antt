@@ -1,4 +1,4 @@
--- From what a file held to what its store says behind a command.
+-- From what a file held to what its store says after a command.
 use Rattle.std.proofs.Common.{◌≡◌, Err, IfErr, IfSome, List, OnOk, Ok, Option, Result, Some, subst, sym, ℕ}
 use Rattle.sqlite_disk.specs.declared.Disk as disk
 use Rattle.sqlite.specs.Store.{Ghosts}

@@ -41,7 +41,7 @@ abbrev pub AnswersFrom : {S : Type 0} → Ghosts S → Chart → State → Held 
 AnswersFrom g m old new known left before after =
     (s : State) × (input : List ℕ) × IsReadWhole known left input × AnswersAll m input old s before after × Holds g m s new
 
--- a front of the input was answered, up to a fault: a crash leaves the state behind the letters so answered, or behind the next one too
+-- a front of the input was answered, up to a fault: a crash leaves the state after the letters so answered, or after the next one too
 pub record StopsIn {S : Type 0} (g : Ghosts S) (m : Chart) (Fault : Type 0) (fault : RunFault) (input : List ℕ) (old : State) (new : Held S)
     (before after : Option (List ℕ)) : Type 0 where
   pub state : State
@@ -104,7 +104,7 @@ IsServeFailure failure = ⊥
 abbrev pub ServesFrom : {S : Type 0} → Ghosts S → Chart → Type 0 → ℕ → State → Held S → Type 0
 ServesFrom g m Fault count old new = ((s : State) × Serves m count old s × Holds g m s new) ⊎ Fault
 
--- at most so many: a crash leaves the state behind them, or behind a letter more; or there was such a fault before
+-- at most so many: a crash leaves the state after them, or after a letter more; or there was such a fault before
 pub record ServesUpTo {S : Type 0} (g : Ghosts S) (m : Chart) (Fault : Type 0) (count : ℕ) (old : State) (new : Held S) : Type 0 where
   pub n : ℕ
   pub most : n ≤ count

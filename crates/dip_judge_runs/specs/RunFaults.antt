@@ -18,14 +18,14 @@ IsTakingFault Memory = Unit {0}
 IsTakingFault (Keep fault) = Unit {0}
 IsTakingFault _ = ⊥
 
--- a fault behind the reading
+-- a fault after the reading
 abbrev pub IsAnsweringFault : RunFault → Type 0
 IsAnsweringFault Write = Unit {0}
 IsAnsweringFault Memory = Unit {0}
 IsAnsweringFault (Keep fault) = Unit {0}
 IsAnsweringFault _ = ⊥
 
--- where a run stops by the fault: while it reads, nothing was written and no letter was taken; behind it the whole input was read
+-- where a run stops by the fault: while it reads, nothing was written and no letter was taken; after it the whole input was read
 abbrev pub StopsBy : {K : Type 0} → RunFault → Option (List ℕ) → Option (List ℕ) → Option (List ℕ) → Option (List ℕ) → K → K → Type 0
 StopsBy Read known left before after old new = IsUntouched before after old new
 StopsBy TooLong known left before after old new = IsUntouched before after old new × IfSome known (λ input. 16777216 < length input)

@@ -36,17 +36,17 @@ IsAnswered m old (Taken l rest) reply new after = Step m old (mail l) reply new 
 IsAnswered m old (Fault fault rest) reply new after = (reply ≡ fault_reply fault) × (new ≡ old) × (rest.now ≡ after)
 IsAnswered m old End reply new after = ⊥
 
--- what stands next in the input is answered, and what is behind it is left
+-- what stands next in the input is answered, and what is after it is left
 abbrev pub IsTurn : Chart → List ℕ → State → Reply → State → List ℕ → Type 0
 IsTurn m input old reply new after = (next : Next) × IsNext input next × IsAnswered m old next reply new after
 
--- behind what stands in an input
+-- after what stands in an input
 abbrev pub behind : Next → List ℕ
 behind (Taken l rest) = rest.now
 behind (Fault fault rest) = rest.now
 behind End = []
 
--- what stands in an input, one behind the other, and the rest behind it
+-- what stands in an input, one after the other, and the rest after it
 abbrev pub Finds : List ℕ → List Next → List ℕ → Type 0
 Finds input [] rest = input ≡ rest
 Finds input (next ∷ nexts) rest = IsNext input next × Finds (behind next) nexts rest
@@ -107,8 +107,8 @@ pub record Stops (m : Chart) (fault : RunFault) (input : List ℕ) (old new : St
   pub front : AnswersFront m input old new replies rest
   pub written : IsWritten fault before after replies
 
--- the same over a keeper that was open: the state behind the letters so answered is what the keeper has and a crash leaves, or that
--- behind the next letter too
+-- the same over a keeper that was open: the state after the letters so answered is what the keeper has and a crash leaves, or that
+-- after the next letter too
 pub record StopsAt {K : Type 0} (m : Chart) (b : Book K) (fault : RunFault) (input : List ℕ) (old new : K) (before after : Option (List ℕ))
     : Type 0 where
   pub state : State

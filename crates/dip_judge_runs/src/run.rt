@@ -131,7 +131,7 @@ fn write_reply<W: Write>(alloc: Global, writer: &mut W, reply: &Reply) -> Result
     }
 }
 
-/// Answers what stands next in the input, and gives what is behind it.
+/// Answers what stands next in the input, and gives what is after it.
 fn step<'a, K: Keeper>(
     alloc: Global,
     keeper: &mut K,

@@ -18,7 +18,7 @@ after_name [] text = Some text
 after_name (n ∷ ns) [] = None
 after_name (n ∷ ns) (b ∷ bs) = if b == n then after_name ns bs else None
 
--- the value behind a name in the first line, and what follows that line
+-- the value after a name in the first line, and what follows that line
 abbrev pub field_at : List ℕ → (List ℕ → Bool) → List ℕ → Option (List ℕ × List ℕ)
 field_at name test text = do
   l ← line_at text
@@ -105,7 +105,7 @@ seat_at line = do
 unfoldable pub seats_at : List ℕ → Option (List SeatNote)
 seats_at body = items_at seat_at 7 body
 
--- what a line of a text says behind its mark
+-- what a line of a text says after its mark
 unfoldable pub text_at : List ℕ → Option (List ℕ)
 text_at line = do
   text ← after_name (codes "> ") line
@@ -143,7 +143,7 @@ period_at text = do
   w ← word_at text
   if is_small_number w.0 then Some (digits_value 10 w.0, w.1) else None
 
--- ---- commands, each by its line and the body behind it
+-- ---- commands, each by its line and the body after it
 
 -- a command that is its name alone, without a body
 abbrev pub plain_at : {A : Type 0} → List ℕ → A → List ℕ → List ℕ → Option A
@@ -206,13 +206,13 @@ unfoldable pub first_answer_at : List ℕ → Option (Bool × List ℕ)
 first_answer_at text =
     option_map (λ rest. (true, rest)) (after_name (codes "YES") text) <|> option_map (λ rest. (false, rest)) (after_name (codes "NO") text)
 
--- an answer behind the name INTENT
+-- an answer after the name INTENT
 unfoldable pub intent_word_at : List ℕ → Option (Option Bool)
 intent_word_at text = do
   word ← after_name (codes " INTENT ") text
   option_map Some (answer_at word)
 
--- what a line says of INTENT: an answer behind its name, or nothing
+-- what a line says of INTENT: an answer after its name, or nothing
 unfoldable pub intent_at : List ℕ → Option (Option Bool)
 intent_at text = if is_empty text then Some None else intent_word_at text
 

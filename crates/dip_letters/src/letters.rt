@@ -152,12 +152,12 @@ impl fmt::Display for LetterFault {
 
 impl Error for LetterFault {}
 
-/// What comes next in an input, and the bytes behind it.
+/// What comes next in an input, and the bytes after it.
 #[derive(Clone, Copy)]
 pub enum Next<'a> {
     /// A letter.
     Taken(Letter<'a>, &'a [u8]),
-    /// No letter; the bytes are those behind the next line `END`.
+    /// No letter; the bytes are those after the next line `END`.
     Fault(LetterFault, &'a [u8]),
     /// Nothing but empty lines.
     End,

@@ -11,7 +11,7 @@ use crate::press::texts_of;
 use crate::words::{is_due, is_small_number, value_of};
 use crate::{MasterCommand, Notice, Opening};
 
-/// The master's command, by its line and the body behind it.
+/// The master's command, by its line and the body after it.
 #[tactic(auto, unfolding(crate::specs::Reading::master_at))]
 pub fn master_of<'a>(line: &'a str, body: &'a str) -> Option<MasterCommand<'a>>
     ensures { option_map master_request result ≡ master_at line.entry.now body.entry.now }
@@ -44,7 +44,7 @@ fn opening_of<'a>(line: &'a str, body: &'a str) -> Option<MasterCommand<'a>>
     }))
 }
 
-/// The tick before the first space, and what is behind that space.
+/// The tick before the first space, and what is after that space.
 #[tactic(auto, unfolding(crate::specs::Reading::due_at), using(crate::proofs::NumberLemmas::due_facts))]
 fn due_of(text: &str) -> Option<(u64, &str)>
     ensures { option_map (λ p. (p.0, p.1.now)) result ≡ due_at text.now }
@@ -57,7 +57,7 @@ fn due_of(text: &str) -> Option<(u64, &str)>
     }
 }
 
-/// The period before the first space, and what is behind that space.
+/// The period before the first space, and what is after that space.
 #[tactic(auto, unfolding(crate::specs::Reading::period_at), using(crate::proofs::NumberLemmas::small_facts))]
 fn period_of(text: &str) -> Option<(u32, &str)>
     ensures { option_map (λ p. (p.0, p.1.now)) result ≡ period_at text.now }
@@ -70,7 +70,7 @@ fn period_of(text: &str) -> Option<(u32, &str)>
     }
 }
 
-/// The answer at the front, and what is behind it.
+/// The answer at the front, and what is after it.
 #[tactic(auto, unfolding(crate::specs::Reading::first_answer_at))]
 fn first_answer_of(text: &str) -> Option<(bool, &str)>
     ensures { option_map (λ p. (p.0, p.1.now)) result ≡ first_answer_at text.now }
@@ -84,7 +84,7 @@ fn first_answer_of(text: &str) -> Option<(bool, &str)>
     }
 }
 
-/// What is said of INTENT: an answer behind its name, or nothing.
+/// What is said of INTENT: an answer after its name, or nothing.
 #[tactic(auto, unfolding(crate::specs::Reading::intent_at))]
 fn intent_of(text: &str) -> Option<Option<bool>>
     ensures { result ≡ intent_at text.now }
@@ -96,7 +96,7 @@ fn intent_of(text: &str) -> Option<Option<bool>>
     }
 }
 
-/// The answer behind the name INTENT.
+/// The answer after the name INTENT.
 #[tactic(auto, unfolding(crate::specs::Reading::intent_word_at))]
 fn intent_word_of(text: &str) -> Option<Option<bool>>
     ensures { result ≡ intent_word_at text.now }
@@ -141,7 +141,7 @@ fn notify_of<'a>(line: &'a str, body: &'a str) -> Option<MasterCommand<'a>>
     Some(MasterCommand::Notify(notice))
 }
 
-/// What a paper is to make known without a phase, by its line and the body behind it.
+/// What a paper is to make known without a phase, by its line and the body after it.
 #[tactic(auto, unfolding(crate::specs::Reading::notice_at))]
 fn notice_of<'a>(line: &'a str, body: &'a str) -> Option<Notice<'a>>
     ensures { option_map notice_request result ≡ notice_at line.entry.now body.entry.now }

@@ -10,7 +10,7 @@ use crate::press::{names_of, texts_of};
 use crate::words::{is_small_number, value_of};
 use crate::{PlayerCommand, Press};
 
-/// A power's command, by its line and the body behind it.
+/// A power's command, by its line and the body after it.
 #[tactic(auto, unfolding(crate::specs::Reading::player_at))]
 pub fn player_of<'a>(line: &'a str, body: &'a str) -> Option<PlayerCommand<'a>>
     ensures { option_map player_request result ≡ player_at line.entry.now body.entry.now }

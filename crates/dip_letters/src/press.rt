@@ -50,7 +50,7 @@ impl<'a> Iterator for Texts<'a> {
     }
 }
 
-/// The first word and what is behind its space.
+/// The first word and what is after its space.
 fn first_word(text: &str) -> Option<(&str, &str)>
     ensures { option_map (λ p. (p.0.now, p.1.now)) result ≡ first_word_at text.now }
 {
@@ -63,7 +63,7 @@ fn first_word(text: &str) -> Option<(&str, &str)>
     }
 }
 
-/// What a line of a text says behind its mark.
+/// What a line of a text says after its mark.
 #[tactic(auto, unfolding(crate::specs::Reading::text_at))]
 fn text_of<'a>(line: &'a str) -> Option<&'a str>
     ensures { option_map (λ t. t.now) result ≡ text_at line.entry.now }

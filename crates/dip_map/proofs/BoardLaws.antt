@@ -18,7 +18,7 @@ left_by : (f : AUnit → Bool) (ds : List Dislodged) → list_any f (map (λ d. 
 left_by f [] = refl
 left_by f (d ∷ ds) = ap (λ (b : Bool). f d.unit || b) (left_by f ds)
 
--- the next of what was dislodged, and what is behind it
+-- the next of what was dislodged, and what is after it
 pub dislodged_step : (ds : List Dislodged) (i : ℕ) (d : Dislodged) → i < length ds → d ≡ get_or ds i d → are_units_single (map (λ x. x.unit) (drop i ds))
     ≡ (not (list_any (λ x. x.unit.place.prov == d.unit.place.prov) (take (length ds - (i + 1)) (drop (i + 1) ds))) && are_units_single (map (λ x. x.unit) (drop (i + 1) ds)))
 dislodged_step ds i d h is =

@@ -39,7 +39,7 @@ is_held b p = list_any (λ u. u.place.prov == p) b.units
 abbrev pub is_standoff : Position → ℕ → Bool
 is_standoff b p = list_any (λ q. q == p) b.standoff
 
--- each is less than all behind it
+-- each is less than all after it
 abbrev pub are_ascending : List ℕ → Bool
 are_ascending [] = true
 are_ascending (p ∷ ps) = list_all (λ q. nat_lt p q) ps && are_ascending ps

@@ -168,7 +168,7 @@ abbrev pub are_units_single : List AUnit → Bool
 are_units_single [] = true
 are_units_single (u ∷ us) = not (list_any (λ v. v.place.prov == u.place.prov) us) && are_units_single us
 
--- each comes before all behind it by its key, a text, whose bytes decide
+-- each comes before all after it by its key, a text, whose bytes decide
 abbrev pub are_ascending_by : {A : Type 0} → (A → List ℕ) → List A → Bool
 are_ascending_by key [] = true
 are_ascending_by key (x ∷ xs) = list_all (λ y. is_lt (slice_cmp nat_cmp (key x) (key y))) xs && are_ascending_by key xs

@@ -21,7 +21,7 @@ use Rattle.dip_names.specs.Results.{◌>>=◌}
 use Rattle.dip_map_file.specs.Files.{coast_in, either_shores, only_shore_at, shore_at, shores_in, site_at, site_in, sites_at, army_at, code_at, codes_at, draft_at, is_sound, keys_of, terrain_in, name_at, power_at, province_at, shores_at, units_at}
 use Rattle.dip_map_file.specs.Tables.{FleetNames, Names, Says, behind_slash, site_text, terrain_word}
 
--- what came of what was read, one behind the other
+-- what came of what was read, one after the other
 pub bind_ok : {A B : Type 0} (r : Result A MapFault) (f : A → Result B MapFault) (y : B) → r >>= f ≡ Ok y → (x : A) × (r ≡ Ok x) × (f x ≡ Ok y)
 bind_ok (Ok x) f y h = (x, refl, h)
 bind_ok (Err e) f y h = absurd (cc)
@@ -278,7 +278,7 @@ flag_is (Some v) b h =
     let is : v ≡ boolean b = is_boolean v b (or_wrong_ok (as_bool v) b h) in
     (λ yes_b. ap (λ x. Some x) (is ∙ ap (λ x. boolean x) yes_b), λ same. let both : Some (boolean b) ≡ Some (boolean true) = ap (λ x. Some x) (sym is) ∙ same in cc)
 
--- what is read of a province's table, one field behind the other
+-- what is read of a province's table, one field after the other
 abbrev with_shores : List ℕ → Members → List ℕ → Terrain → Bool → List (List ℕ) → List ShoreDraft → Result ProvinceDraft MapFault
 with_shores code fields name land centre army shores =
     cond (is_sound code land centre fields) (Ok (record { code = code; name = name; terrain = land; centre = centre; army = army; shores = shores })) (Err WrongField)

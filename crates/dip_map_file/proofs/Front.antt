@@ -5,7 +5,7 @@ use Rattle.dip_names.specs.declared.faults.MapFault.TheVariants.{Memory}
 use Rattle.dip_map_file.specs.Fields.{each_item, each_member}
 use Rattle.dip_names.specs.Results.{◌>>=◌, Fails}
 
--- what is read behind these
+-- what is read after these
 abbrev pub with_front : {A : Type 0} → List A → Result (List A) MapFault → Result (List A) MapFault
 with_front front read = read >>= λ xs. Ok (front ++ xs)
 

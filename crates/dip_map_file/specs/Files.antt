@@ -20,7 +20,7 @@ code_at value = do
   text ← or_wrong (as_str value)
   if is_code text then Ok text else Err WrongField
 
--- what stands behind a place's code: nothing, or a slash and the name of a coast
+-- what stands after a place's code: nothing, or a slash and the name of a coast
 abbrev pub coast_in : List ℕ → Result (List ℕ) MapFault
 coast_in [] = Ok []
 coast_in (b ∷ name) = if (b == 47) && is_coast_name name then Ok name else Err WrongField

@@ -26,7 +26,7 @@ terrain_word Inland = codes "inland"
 terrain_word Coast = codes "coast"
 terrain_word Sea = codes "sea"
 
--- a place as it is written: a code, and behind a slash the name of a coast, if it has one
+-- a place as it is written: a code, and after a slash the name of a coast, if it has one
 abbrev pub behind_slash : List ℕ → List ℕ
 behind_slash [] = []
 behind_slash (b ∷ bs) = 47 ∷ b ∷ bs

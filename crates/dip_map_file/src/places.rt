@@ -22,7 +22,7 @@ fn code_of(value: &Value) -> Result<&str, MapFault>
     Err(MapFault::WrongField)
 }
 
-/// What stands behind a place's code: nothing, or `/` and the name of a coast.
+/// What stands after a place's code: nothing, or `/` and the name of a coast.
 fn coast_of(text: &[u8]) -> Result<&[u8], MapFault>
     ensures { Gives (λ s. s.now) result (coast_in text.now) }
 {

@@ -3,7 +3,7 @@ use Rattle.std.specs.Prelude.{◌≡◌, Result, Ok, Err}
 use Rattle.dip_names.specs.declared.faults.MapFault.{MapFault}
 use Rattle.dip_names.specs.declared.faults.MapFault.TheVariants.{Memory}
 
--- what is read behind what was read, or the first fault
+-- what is read after what was read, or the first fault
 infixl 10 ◌>>=◌
 abbrev pub ◌>>=◌ : {A B E : Type 0} → Result A E → (A → Result B E) → Result B E
 (Ok x) >>= f = f x

@@ -1,4 +1,4 @@
--- Checks in order, and one step behind the other.
+-- Checks in order, and one step after the other.
 use Rattle.std.proofs.Common.{◌≡◌, Bool, true, false, List, [], ◌∷◌, ◌++◌, refl, Option, Some, None, Result, Ok, Err, cond, is_some}
 use Rattle.std.specs.Option.{ok_or, unwrap_or}
 use Rattle.dip_orders.specs.Checks.{Check, must, outcome}
@@ -40,7 +40,7 @@ holds_ok (c ∷ cs) x h = rw h.0 (holds_ok cs x h.1)
 pub record Comes {A : Type 0} (r : Result A OrderFault) (cs : List Check) (x : A) : Type 0 where
   pub is : r ≡ outcome cs x
 
--- a test, and what is behind it
+-- a test, and what is after it
 pub if_step : {A : Type 0} (t : Bool) (e : OrderFault) (r : Result A OrderFault) (cs : List Check) (y : A) → r ≡ outcome cs y → cond t r (Err e) ≡ outcome (must t e ∷ cs) y
 if_step true e r cs y h = h
 if_step false e r cs y h = refl
@@ -53,7 +53,7 @@ pub need_last : {A : Type 0} (t : Bool) (e : OrderFault) (x : A) → Comes (need
 need_last true e x = record { is = refl }
 need_last false e x = record { is = refl }
 
--- a look-up, and what is behind it
+-- a look-up, and what is after it
 pub found_step : {A B : Type 0} (o : Option A) (e : OrderFault) (d : A) (f : A → Result B OrderFault) (cs : List Check) (y : B) → Comes (f (unwrap_or o d)) cs y
     → Comes (ok_or o e >>= f) (must (is_some o) e ∷ cs) y
 found_step None e d f cs y h = record { is = refl }

@@ -297,7 +297,7 @@ hold_again m b power pending u ok of h =
     let unit = told_unit m b power u ok of h.1 in
     make m b power pending (record { unit = u; order = Holds }) tt (both_true unit.told.fine refl) (h.0, (unit.told.on, unit.checks)) (ap (λ (x : AUnit). record { unit = x; order = Holds }) unit.same)
 
--- what is checked of a support or a convoy behind its unit, told by codes alone
+-- what is checked of a support or a convoy after its unit, told by codes alone
 abbrev held_checks : Chart → Position → Kind → AUnit → ℕ → List Check
 held_checks m b k x n = other_checks m b k n None ++ must (could_move m x.kind x.place n) SupportOutOfReach ∷ []
 

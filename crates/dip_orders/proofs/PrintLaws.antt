@@ -1,4 +1,4 @@
--- What printing leaves: the text that stood, which may be cut off from what was printed behind it.
+-- What printing leaves: the text that stood, which may be cut off from what was printed after it.
 use Rattle.std.proofs.Common.{◌≡◌, ℕ, List, length, take, refl, sym, ap, subst, ◌∙◌, Result, Ok, Err}
 use Rattle.std.specs.Prelude.{OnErr}
 use Rattle.std.specs.Str.{IsUtf8, IsCharBoundary}

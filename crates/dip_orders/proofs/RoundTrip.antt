@@ -189,7 +189,7 @@ carried_order : (v unit : AUnit) (r q to there : ℕ) → v ≡ unit → r ≡ q
     → ◌≡◌ {A = PlacedOrder} (record { unit = v; order = Convoys (record { kind = Army; prov = r }) to }) (record { unit = unit; order = Convoys (record { kind = Army; prov = q }) there })
 carried_order v unit r q to there e f g = λ i. record { unit = e i; order = Convoys (record { kind = Army; prov = f i }) (g i) }
 
--- what is checked of a convoy behind its fleet, told by codes alone
+-- what is checked of a convoy after its fleet, told by codes alone
 abbrev again_checks : Chart → Position → AUnit → ℕ → ℕ → List Check
 again_checks m b x r t =
     must (is_kind x.kind Fleet) WrongKind

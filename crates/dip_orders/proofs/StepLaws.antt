@@ -36,7 +36,7 @@ unit_tests true true x f cs y h = h
 unit_tests true false x f cs y h = refl
 unit_tests false c x f cs y h = refl
 
--- the ordered unit, and what is behind it
+-- the ordered unit, and what is after it
 unit_step : {B : Type 0} (m : Chart) (found : Option AUnit) (u : Mention) (f : AUnit → Result B OrderFault) (cs : List Check) (y : B) → Comes (f (unwrap_or found no_unit)) cs y
     → Comes (checked_unit m found u (prov_named m u.at) >>= f) (unit_checks m found u ++ cs) y
 unit_step m None u f cs y h = record { is = refl }
@@ -47,7 +47,7 @@ other_tests : {B : Type 0} (c : Bool) (x : AUnit) (f : AUnit → Result B OrderF
 other_tests true x f cs y h = h
 other_tests false x f cs y h = refl
 
--- the other unit, and what is behind it
+-- the other unit, and what is after it
 other_step : {B : Type 0} (m : Chart) (b : Position) (k : Kind) (p : ℕ) (coast : Option (List ℕ)) (f : AUnit → Result B OrderFault) (cs : List Check) (y : B)
     → Comes (f (unwrap_or (other_at b k p) no_unit)) cs y → Comes (checked_other m b k p coast >>= f) (other_checks m b k p coast ++ cs) y
 other_step m b k p coast f cs y h = record { is = go (other_at b k p) h.is }
@@ -92,7 +92,7 @@ go_last m Fleet a q coast false g = sail_last m (fleet_next m a) q coast OutOfRe
 last : {B : Type 0} {r : Result B OrderFault} {cs : List Check} {y : B} → r ≡ outcome cs y → Comes r cs y
 last h = record { is = h }
 
--- the code of a place, and what is behind it
+-- the code of a place, and what is after it
 code_step : {B : Type 0} (m : Chart) (s : Spot) (f : ℕ → Result B OrderFault) (cs : List Check) (y : B) → Comes (f (prov_named m s)) cs y
     → Comes (prov_at m s >>= f) (must (is_on_map m s) UnknownProvince ∷ cs) y
 code_step m s f cs y h = found_step (prov_of m s.code) UnknownProvince (length m.provinces) f cs y h
@@ -110,7 +110,7 @@ carrier_step m x f cs y h = record { is = go (is_kind x.kind Fleet) }
     go true = at_sea (is_sea (province m x.place.prov).terrain)
     go false = refl
 
--- the place of a unit that is built, and what is behind it
+-- the place of a unit that is built, and what is after it
 site_step : {B : Type 0} (m : Chart) (k : Kind) (p : ℕ) (coast : Option (List ℕ)) (f : Place → Result B OrderFault) (cs : List Check) (y : B) → Comes (f (site m p coast)) cs y
     → Comes (site_at m k p coast >>= f) (site_checks m k p coast ++ cs) y
 site_step m Army p None f cs y h = record { is = h.is }
@@ -165,7 +165,7 @@ build_steps : (m : Chart) (b : Position) (power : ℕ) (pending : List PlacedOrd
     → Comes (build_order m b power pending u) (must (is_on_map m u.at) UnknownProvince ∷ own_checks m b power pending (Build u)) (order_in m b power (Build u))
 build_steps m b power pending u = code_step m u.at _ _ _ (need_step _ _ _ _ _ _ (site_step m u.kind (prov_named m u.at) u.at.coast _ _ _ (need_last _ _ _)))
 
--- the dislodged unit, and what is behind it
+-- the dislodged unit, and what is after it
 dislodged_step : {B : Type 0} (m : Chart) (found : Option Dislodged) (u : Mention) (f : Dislodged → Result B OrderFault) (cs : List Check) (y : B) → Comes (f (unwrap_or found no_dislodged)) cs y
     → Comes (checked_dislodged m found u (prov_named m u.at) >>= f) (unit_checks m (option_map (λ d. d.unit) found) u ++ cs) y
 dislodged_step m None u f cs y h = record { is = refl }

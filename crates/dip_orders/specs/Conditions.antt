@@ -28,7 +28,7 @@ is_movement FallMoves = true
 is_movement FallRetreats = false
 is_movement Winter = false
 
--- dislodged units retreat behind the movement of Spring and of Fall
+-- dislodged units retreat after the movement of Spring and of Fall
 abbrev pub is_retreat : Season → Bool
 is_retreat SpringMoves = false
 is_retreat SpringRetreats = true

@@ -10,7 +10,7 @@ use Rattle.dip_orders.specs.declared.placed.Order.TheVariants.{Hold, Move, Suppo
 use Rattle.dip_orders.specs.declared.placed.PlacedOrder.{PlacedOrder}
 use Rattle.dip_map.specs.Charts.{Chart, province, shore}
 
--- a coast's name behind a slash, nothing where there is none
+-- a coast's name after a slash, nothing where there is none
 abbrev pub behind_slash : List ℕ → List ℕ
 behind_slash [] = []
 behind_slash (b ∷ bs) = 47 ∷ b ∷ bs
@@ -65,7 +65,7 @@ action_text m kind Remove = []
 abbrev pub order_text : Chart → PlacedOrder → List ℕ
 order_text m o = verb_text o.order ++ (kind_letter o.unit.kind ++ (place_text m o.unit.kind o.unit.place ++ action_text m o.unit.kind o.order))
 
--- a text that stood is as it was, and more may stand behind it
+-- a text that stood is as it was, and more may stand after it
 pub record Extends (old new : List ℕ) : Type 0 where
   pub rest : List ℕ
   pub same : new ≡ old ++ rest

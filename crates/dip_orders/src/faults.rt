@@ -39,7 +39,7 @@ pub enum OrderFault {
 }
 
 impl OrderFault {
-    /// The number behind the letter O.
+    /// The number after the letter O.
     pub fn number(self) -> u8
         ensures { result ≡ fault_number self }
     {

@@ -66,7 +66,7 @@ abbrev spaced : List Piece → List Piece
 spaced [] = []
 spaced (p ∷ ps) = record { gap = suc p.gap; token = p.token } ∷ ps
 
--- the spaces behind them
+-- the spaces after them
 abbrev trailed : List Piece → ℕ → ℕ
 trailed [] n = suc n
 trailed (p ∷ ps) n = n

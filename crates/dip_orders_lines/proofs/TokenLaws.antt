@@ -69,7 +69,7 @@ pub scan_run : (t rest : List ℕ) → 1 ≤ length t → list_all is_word_byte 
 scan_run [] rest h a e = absurd (omega arith)
 scan_run (b ∷ bs) rest h a e = scan_word [] (b ∷ bs) rest a ∙ scan_closed b bs rest e
 
--- the word at the front of a text, and what is behind it
+-- the word at the front of a text, and what is after it
 pub word_run : (text : List ℕ) → 1 ≤ word_length text → word_length text ≤ length text
     → (tokens_at text ≡ option_map (λ ts. take (word_length text) text ∷ ts) (tokens_at (drop (word_length text) text))) × (length (drop (word_length text) text) < length text)
 word_run text h low =

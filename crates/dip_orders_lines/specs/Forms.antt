@@ -13,7 +13,7 @@ use Rattle.dip_orders_lines.specs.declared.forms.Form.TheVariants.{Hold, Move, S
 abbrev pub are_letters : ℕ → List ℕ → Bool
 are_letters n text = (length text == n) && list_all is_ascii_lowercase text
 
--- the coast that may be written behind a code: a slash and two letters
+-- the coast that may be written after a code: a slash and two letters
 abbrev pub coast_text : Option (List ℕ) → List ℕ
 coast_text None = []
 coast_text (Some name) = 47 ∷ name

@@ -66,7 +66,7 @@ mention_at kind at = do
   s ← spot_at at
   Some (record { kind = k; at = s })
 
--- a unit, and a word behind it: `A par H`, `A mun D`
+-- a unit, and a word after it: `A par H`, `A mun D`
 abbrev pub closed_at : List ℕ → List ℕ → List ℕ → Option Form
 closed_at kind at last = do
   u ← mention_at kind at
@@ -115,7 +115,7 @@ seven_at u verb kind at sign to = do
   s ← spot_at to
   if is_any_case sign minus then aid_at u verb kind o s else None
 
--- a unit, what it does, and the tokens behind
+-- a unit, what it does, and the tokens after
 abbrev pub done_at : Mention → List ℕ → List (List ℕ) → Option Form
 done_at u verb (to ∷ []) = four_at u verb to
 done_at u verb (a ∷ b ∷ []) = five_at u verb a b

@@ -4,12 +4,12 @@ use Rattle.dip_orders_lines.specs.Tokens.{is_word_byte, minus}
 use Rattle.dip_orders_lines.specs.declared.words.Front.{Front}
 use Rattle.dip_orders_lines.specs.declared.words.Front.TheVariants.{Token, End, Stray}
 
--- a word that ends here comes before the tokens behind it
+-- a word that ends here comes before the tokens after it
 abbrev pub with_word : List ℕ → List (List ℕ) → List (List ℕ)
 with_word [] ts = ts
 with_word (b ∷ bs) ts = (b ∷ bs) ∷ ts
 
--- the tokens of a text behind the beginning of a word
+-- the tokens of a text after the beginning of a word
 abbrev pub scan : List ℕ → List ℕ → Option (List (List ℕ))
 scan w [] = Some (with_word w [])
 scan w (b ∷ bs) =

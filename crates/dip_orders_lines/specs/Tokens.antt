@@ -24,7 +24,7 @@ pub record Piece : Type 0 where
   pub gap : ℕ
   pub token : List ℕ
 
--- the text of these pieces, with so many spaces behind the last
+-- the text of these pieces, with so many spaces after the last
 abbrev pub spelling_of : List Piece → ℕ → List ℕ
 spelling_of [] trail = replicate trail 32
 spelling_of (p ∷ ps) trail = replicate p.gap 32 ++ (p.token ++ spelling_of ps trail)

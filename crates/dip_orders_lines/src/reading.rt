@@ -116,7 +116,7 @@ fn seven_of(
     None
 }
 
-/// A unit, what it does, and the tokens behind.
+/// A unit, what it does, and the tokens after.
 #[tactic(auto, using(crate::proofs::FormLaws::done_long))]
 fn done_of(unit: Mention, verb: &[u8], behind: &[&[u8]]) -> Option<Form>
     ensures { result ≡ done_at unit verb.now (map (λ t. t.now) behind.now) }

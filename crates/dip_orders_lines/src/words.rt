@@ -60,11 +60,11 @@ ghost use Rattle.std.specs.Prelude.{nat_le};
 /// What stands at the front of a text.
 #[derive(Clone, Copy)]
 enum Front<'a> {
-    /// A token, and what is behind it.
+    /// A token, and what is after it.
     Token(&'a [u8], &'a [u8]),
     /// Spaces alone, or nothing.
     End,
-    /// A byte of no token behind the spaces.
+    /// A byte of no token after the spaces.
     Stray,
 }
 

@@ -136,7 +136,7 @@ abbrev pub joined : List ℕ → List (List ℕ) → List ℕ
 joined separator [] = codes "-"
 joined separator (t ∷ ts) = t ++ flat_map (λ u. separator ++ u) ts
 
--- a unit, with `*` behind it where it is dislodged
+-- a unit, with `*` after it where it is dislodged
 abbrev pub force_text : Chart → Force → List ℕ
 force_text m f = unit_text m f.unit ++ (if f.dislodged then codes "*" else [])
 
@@ -153,11 +153,11 @@ board_line m b power = listing m (realm m power).name (centres m b power) (by_pr
 unfoldable pub board_lines : Chart → Position → List ℕ
 board_lines m b = flat_map (board_line m b) (powers m)
 
--- a line of a text as it is printed, behind its mark
+-- a line of a text as it is printed, after its mark
 abbrev pub marked_line : List ℕ → List ℕ
 marked_line l = codes "> " ++ l ++ codes "\n"
 
--- a text as it is printed: each line behind its mark
+-- a text as it is printed: each line after its mark
 abbrev pub marked_lines : List (List ℕ) → List ℕ
 marked_lines text = flat_map marked_line text
 
@@ -173,7 +173,7 @@ notice_lines Close = codes "closed" ∷ []
 abbrev pub paper_title : ℕ → List ℕ → List ℕ
 paper_title number kind = codes "PAPER " ++ decimal number ++ codes " " ++ kind ++ codes "\n"
 
--- how a paper ends: the game as it stands behind it
+-- how a paper ends: the game as it stands after it
 abbrev pub paper_end : Chart → Public → List ℕ
 paper_end m p = game_line m p ++ board_lines m p.board ++ codes "END\n"
 
@@ -202,7 +202,7 @@ own_lines m o = codes "VOTE " ++ vote_text m o.vote ++ codes "\nSENT " ++ decima
 abbrev pub show_text : Chart → Public → Own → List ℕ
 show_text m p o = game_line m p ++ board_lines m p.board ++ own_lines m o
 
--- names, each behind a space
+-- names, each after a space
 abbrev pub spaced : List (List ℕ) → List ℕ
 spaced names = flat_map (λ n. codes " " ++ n) names
 
@@ -220,7 +220,7 @@ item_lines (Grey to_all text) = text
 unfoldable pub item_text : ℕ → Item → List ℕ
 item_text number i = codes "ITEM " ++ decimal number ++ codes " " ++ item_title i ++ codes "\n" ++ marked_lines (item_lines i)
 
--- items one behind the other, numbered from this number on
+-- items one after the other, numbered from this number on
 abbrev pub items_text : ℕ → List Item → List ℕ
 items_text first [] = []
 items_text first (i ∷ is) = item_text first i ++ items_text (first + 1) is

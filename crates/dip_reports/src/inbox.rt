@@ -8,7 +8,7 @@ use dip_desk_state::Item;
 use std::alloc::{AllocError, Global};
 use std::rc::Rc;
 
-/// Appends names, each behind a space.
+/// Appends names, each after a space.
 fn push_names(names: &[String], out: &mut String) -> Result<(), AllocError>
     ensures { OnOk result
         (string_bytes out.new ≡ string_bytes out.old ++ spaced (rows.lines names.now)) }
@@ -20,7 +20,7 @@ fn push_names(names: &[String], out: &mut String) -> Result<(), AllocError>
     Ok(())
 }
 
-/// Appends the lines of a text, each behind its mark.
+/// Appends the lines of a text, each after its mark.
 fn push_marked(text: &[String], out: &mut String) -> Result<(), AllocError>
     ensures { OnOk result
         (string_bytes out.new ≡ string_bytes out.old ++ marked_lines (rows.lines text.now)) }
@@ -74,7 +74,7 @@ fn push_item(number: u64, item: &Item, out: &mut String) -> Result<(), AllocErro
     push_marked(text_of(item), out)
 }
 
-/// Appends items one behind the other, numbered from this number on.
+/// Appends items one after the other, numbered from this number on.
 fn push_items(first: u32, items: &[Rc<Item>], out: &mut String) -> Result<(), AllocError>
     ensures { OnOk result
         (string_bytes out.new ≡ string_bytes out.old ++ items_text first (rows.items items.now)) }

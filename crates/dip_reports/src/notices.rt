@@ -11,7 +11,7 @@ use dip_letters::{Notice, Texts};
 use dip_map::Map;
 use std::alloc::{AllocError, Global};
 
-/// Appends the lines of an announcement, each behind its mark.
+/// Appends the lines of an announcement, each after its mark.
 fn push_announcement(text: Texts<'_>, out: &mut String) -> Result<(), AllocError>
     ensures { OnOk result
         (string_bytes out.new ≡ string_bytes out.old ++ marked_lines (texts_in text.entry)) }
@@ -22,7 +22,7 @@ fn push_announcement(text: Texts<'_>, out: &mut String) -> Result<(), AllocError
     Ok(())
 }
 
-/// Appends the lines of a notice, each behind its mark: the announcement, or what was done with the game.
+/// Appends the lines of a notice, each after its mark: the announcement, or what was done with the game.
 fn push_notice(notice: Notice<'_>, out: &mut String) -> Result<(), AllocError>
     ensures { OnOk result
         (string_bytes out.new ≡ string_bytes out.old ++ marked_lines

@@ -17,14 +17,14 @@ pub fn push_paper_title(number: u32, kind: &str, out: &mut String) -> Result<(),
     write!(out, "PAPER {number} {kind}\n")
 }
 
-/// Appends a line of a text, behind its mark.
+/// Appends a line of a text, after its mark.
 pub fn push_marked_line(line: &str, out: &mut String) -> Result<(), AllocError>
     ensures { OnOk result (string_bytes out.new ≡ string_bytes out.old ++ marked_line line.now) }
 {
     write!(out, "> {line}\n")
 }
 
-/// Appends how a paper ends: the game as it stands behind it.
+/// Appends how a paper ends: the game as it stands after it.
 pub fn push_paper_end(
     alloc: Global,
     map: &Map,

@@ -1,4 +1,4 @@
--- Calls that change nothing, one behind another.
+-- Calls that change nothing, one after another.
 use Rattle.std.proofs.Common.{◌≡◌, ◌⊎◌, IsTrue, Ok, Err, Result, OnOk, refl, ◌∙◌, arith, inl, inr}
 use Rattle.sqlite.specs.Store.{Ghosts}
 use Rattle.sqlite.specs.Held.{Held, state}

@@ -1,4 +1,4 @@
--- Own parts behind a change.
+-- Own parts after a change.
 use Rattle.std.proofs.Common.{◌≡◌, ◌==◌, ℕ, Bool, true, false, cond, List, [], ◌∷◌, Option, None, Some, map, option_map, option_and_then, refl, sym, ap, subst, ◌∙◌, bytes_eq, eqb-true}
 use Rattle.std.specs.Option.{option_or}
 use Rattle.dip_desk_state.specs.Keyed.{at, change_at}
@@ -71,7 +71,7 @@ module _ (e : Effect) (own : is_own e ≡ true) where
       go true more = ap (λ (o : Own). Some o) (reached e own x).0
       go false more = more
 
--- a game that a change leaves there is found behind it
+-- a game that a change leaves there is found after it
 still_found : (c : Change) (s : State) (name : List ℕ) (power : ℕ) (o : Own)
     → option_and_then (λ g. own_of (seat_at power g.seats)) (at bytes_eq name_of name (change_at bytes_eq name_of c.game (game_after c) s.games)) ≡ Some o
     → own_at name power (state_after c s) ≡ Some o

@@ -1,4 +1,4 @@
--- Ballots and choices, one behind another.
+-- Ballots and choices, one after another.
 use Rattle.std.proofs.Common.{◌≡◌, List, [], ◌++◌, ap, sym, ◌∙◌, append_assoc, append-nil}
 use Rattle.dip_store_tables.specs.Tables.{BallotRow, ChoiceRow, Tables}
 use Rattle.dip_store_changes.specs.Parts.{more_ballots}

@@ -20,7 +20,7 @@ use Rattle.dip_store.specs.Seen.{DifferByName}
 use Rattle.dip_store.proofs.Named.{found_said, said, updated_said}
 use Rattle.dip_store.proofs.Seeing.{at_last, keeps_name}
 
--- ---- a seat behind a change
+-- ---- a seat after a change
 
 -- an effect leaves each idle seat so
 still_idle : (e : Effect) (x : Part) → IsIdle x.own → IsIdle (with_effect e x).own
@@ -93,7 +93,7 @@ fresh_idle power (x ∷ xs) = go (x.power == power) (fresh_idle power xs)
     go true more = record { vote = refl; pending = refl }
     go false more = more
 
--- ---- a state behind a change
+-- ---- a state after a change
 
 abbrev GameIsIdle : ℕ → Option Game → Type 0
 GameIsIdle power g = IfSome (option_and_then (λ g. own_of (seat_at power g.seats)) g) IsIdle
@@ -153,7 +153,7 @@ opened_idle c s name p paper seats named is apart power = subst (λ (n : List �
 pub recalls_no_idle : (s : State) → RecallsIdle s []
 recalls_no_idle s name power h = absurd (let x = h in cc)
 
--- of what a state has, what is left before a change is right before it and behind it
+-- of what a state has, what is left before a change is right before it and after it
 abbrev pub LeavesIdle : Change → Idle → Idle → Type 0
 LeavesIdle c old new = (name : List ℕ) (power : ℕ) → is_idle name power new ≡ true → (is_idle name power old ≡ true) × (stirs c name power ≡ false)
 

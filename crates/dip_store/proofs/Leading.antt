@@ -1,4 +1,4 @@
--- Parts of a transaction that make tables, one behind another.
+-- Parts of a transaction that make tables, one after another.
 use Rattle.std.proofs.Common.{◌≡◌, inl, inr, IsTrue, false, ℕ, List, [], Ok, Err, Result, OnOk, sym, subst, ap, ◌∙◌, arith}
 use Rattle.std.proofs.lemmas.Bool.{cases_Bool}
 use Rattle.sqlite.specs.declared.error.Error.{Error}

@@ -99,7 +99,7 @@ module _ {S : Type 0} (g : Ghosts S) (m : Chart) (k : SqlKeeper S) (c : Change) 
     said : (kept : Keeps) → IsGood (state g new).now → tables_in g new ≡ changing m c (tables_in g k.conn) → said_by m (state g new).now.trees ≡ state_after c (said_by m (state g k.conn).now.trees)
     said kept good is = (is_made kept good is).says kept.1.coded
 
-    -- what a crash may leave of the change is the state behind it
+    -- what a crash may leave of the change is the state after it
     landed : (kept : Keeps) (db : Trees) → Lands (changing m c) (state g k.conn) db → said_by m db ≡ state_after c (said_by m (state g k.conn).now.trees)
     landed kept db lands =
         let is = lands.1 kept.0.good in

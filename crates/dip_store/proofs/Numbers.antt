@@ -6,7 +6,7 @@ use Rattle.std.specs.List.{flat_map}
 use Rattle.dip_store.specs.Papers.{papers_of}
 use Rattle.dip_desk_state.specs.State.{Game, State, game_at, paper_at, paper_numbered}
 
--- the paper behind so many others
+-- the paper after so many others
 numbered : (n : ℕ) (ps : List (List ℕ)) (t : List ℕ) → Some t ≡ paper_numbered (suc n) ps → (n < length ps) × (get_or ps n [] ≡ t)
 numbered n [] t is = absurd (cc)
 numbered zero (p ∷ ps) t is = (omega arith, let same : p ≡ t = cc in same)

@@ -152,7 +152,7 @@ put_recalls s name os old new put recalls all other = go (bytes_eq name other) r
     go true same is = subst (AllByRecursion (HasOwn s other)) (sym is) (subst (λ (n : List ℕ). AllByRecursion (HasOwn s n) os) ((bytes_eq-Decides name other).0 same) all)
     go false same is = subst (AllByRecursion (HasOwn s other)) (sym is) (recalls other)
 
--- without the own parts of its game, what is remembered before a change is right behind it
+-- without the own parts of its game, what is remembered before a change is right after it
 pub left_behind : (c : Change) (s : State) (old new : Owns) → IsLeft c.game old new → RecallsOwns s old → RecallsOwns (state_after c s) new
 left_behind c s old new left recalls other = go (bytes_eq c.game other) refl (left other)
   where
@@ -164,7 +164,7 @@ left_behind c s old new left recalls other = go (bytes_eq c.game other) refl (le
 pub taken_had : (s : State) (name : List ℕ) (os : List r.Own) (old : Owns) → os ≡ owns_of name old → RecallsOwns s old → AllByRecursion (HasOwn s name) os
 taken_had s name os old is recalls = subst (AllByRecursion (HasOwn s name)) (sym is) (recalls name)
 
--- what a letter makes of them is what the state behind it has
+-- what a letter makes of them is what the state after it has
 pub reached_had : (c : Change) (s : State) (test : r.Own → Bool) (os : List r.Own) → is_own c.effect ≡ true → AllByRecursion (HasOwn s c.game) os
     → AllByRecursion (HasOwn (state_after c s) c.game) (filter test (map (own_behind c) os))
 reached_had c s test os own all = all_reached (HasOwn s c.game) (HasOwn (state_after c s) c.game) test (own_behind c) (letter_stays c s own) os all

@@ -82,7 +82,7 @@ next_last rows row = go rows (pos 1)
 one_more : (n : ℕ) → pos n +ℤ pos 1 ≡ pos (suc n)
 one_more n = ap pos (let e : n + 1 ≡ suc n = omega arith in e)
 
--- a row behind the others, of a table that is neither the master's nor that of the seats
+-- a row after the others, of a table that is neither the master's nor that of the seats
 module _ {A : Type 0} (table : Table) (off : (0 ≡ table.tree → ⊥) × (4 ≡ table.tree → ⊥)) (put : A → Row) (f : Tables → Tables) (Such : Tables → Type 0) (old : Database) (t : Tables) (x : A) (n : ℕ) (a b : State) where
   at_hand : IsSet (StandsAt table.tree n old t) a → IsReady a
   at_hand set = record { inside = set.inside; up = set.up; unlimited = set.unlimited; good = set.now.0.has.0 }
@@ -172,7 +172,7 @@ module _ (old : Database) (t : Tables) (a b : State) where
 
 -- ---- loops
 
--- among records whose keys are apart, and whose rows can stand, so is each of them behind those before it
+-- among records whose keys are apart, and whose rows can stand, so is each of them after those before it
 apart_next : {A : Type 0} (same : A → A → Bool) (old front next rest all : List A) (x : A) → next ≡ front ++ x ∷ [] → all ≡ next ++ rest → Differ same (old ++ all) → Differ same ((old ++ front) ++ x ∷ [])
 apart_next same old front next rest all x turn is apart =
     let whole : old ++ all ≡ ((old ++ front) ++ x ∷ []) ++ rest =
@@ -223,7 +223,7 @@ stands_all P tree n old t u a b x y is p = record {
   fails = λ clean set. tt;
 }
 
--- ballots behind others: so many of all of them are there
+-- ballots after others: so many of all of them are there
 abbrev pub BallotsAre : {X : Type 0} → List BallotRow → List BallotRow → State → State → Result X Error → Type 0
 BallotsAre all front a b r =
     (old : Database) (t : Tables) → Differ same_ballot (t.ballots ++ all) → AllByRecursion (CanStand ballot_table) (rows_from 1 put_ballot all)

@@ -21,7 +21,7 @@ use Rattle.dip_store.proofs.Renewed.{filled_renewed, were_apart}
 
 module _ {S : Type 0} (g : Ghosts S) (old a b end : Held S) {X Y E F : Type 0} (x : X) (y : Y)
     (first : SelectsFrom (WasKept g) g old a (went X E x)) (next : SelectsFrom (WasKept g) g a b (went Y F y)) (kept : WasKept g old) where
-  -- behind both readings it is kept, with the same rows
+  -- after both readings it is kept, with the same rows
   pub kept_first : is_honest g a → WasKept g a × ((state g a).now ≡ (state g old).now)
   kept_first clean = let shows = first.ok kept clean in (first.kept kept shows, first.same kept shows)
 

@@ -147,7 +147,7 @@ heeded_by : (b : Bool) (o : Option r.Public) (p : r.Public) → cond b None o �
 heeded_by true o p h = absurd (cc)
 heeded_by false o p h = (refl, h)
 
--- what is left of what a state has, it has before a change and behind it
+-- what is left of what a state has, it has before a change and after it
 abbrev pub Heeds : Change → Parts → Parts → Type 0
 Heeds c old new = (s : State) → Recalls s old → Recalls s new × Recalls (state_after c s) new
 

@@ -15,7 +15,7 @@ use Rattle.dip_store_sql.specs.Keys.{AreKeyed}
 abbrev pub FitsIsWritable : Chart → Type 0
 FitsIsWritable m = (c : Change) (s : State) → Fits m c s → IsWritable m c
 
--- behind it no key comes twice, its paper has the next number of its game, and there is room in the counts that it raises
+-- after it no key comes twice, its paper has the next number of its game, and there is room in the counts that it raises
 pub record FindsPlaceInTables (m : Chart) (c : Change) (t : Tables) : Type 0 where
   pub keyed : AreKeyed (changing m c t)
   pub paper : CountsOn c.game c.effect t.games

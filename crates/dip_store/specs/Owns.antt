@@ -66,7 +66,7 @@ is_own (Opens public paper seats) = false
 is_own (Publishes public paper played) = true
 is_own (Seats seat) = false
 
--- an own part behind a paper: where a phase was played, it has no standing orders
+-- an own part after a paper: where a phase was played, it has no standing orders
 abbrev pub papered : Effect → Own → Own
 papered Nothing o = o
 papered (Pending orders) o = o
@@ -76,6 +76,6 @@ papered (Opens public paper seats) o = o
 papered (Publishes public paper played) o = if played then record o { pending = [] } else o
 papered (Seats seat) o = o
 
--- an own part of its game behind a change of such an effect
+-- an own part of its game after a change of such an effect
 abbrev pub own_behind : Change → Own → Own
 own_behind c o = papered c.effect (if is_seat c.author o.power then own_effect c.effect (record o { kept = Some c.kept }) else o)

@@ -20,7 +20,7 @@ abbrev pub papers_of : Option Game → List (List ℕ)
 papers_of None = []
 papers_of (Some g) = g.papers
 
--- one behind the other
+-- one after the other
 abbrev pub papers_text : Option Game → List ℕ
 papers_text g = flat_map (λ p. p) (papers_of g)
 
@@ -33,7 +33,7 @@ AreOut told (Some g) before after = (told ≡ Some (length g.papers)) × Appends
 abbrev pub AreBegun : Option Game → Option (List ℕ) → Option (List ℕ) → Type 0
 AreBegun g before after = (size : ℕ) × Appends before after (take size (papers_text g))
 
--- how many faults of the disk a keeper has told of behind the call
+-- how many faults of the disk a keeper has told of after the call
 abbrev pub faults_told : {X : Type 0} → Result X PaperFault → ℕ → ℕ
 faults_told (Ok x) n = n
 faults_told (Err Write) n = n

@@ -38,7 +38,7 @@ WereStored m trees = (db : Database) × (db.trees ≡ trees) × IsOldStore m db
 abbrev pub old_said_by : Chart → Trees → Content
 old_said_by m db = old_state_of m (old_tables_of db)
 
--- choices behind the others
+-- choices after the others
 abbrev pub more_choices : List ChoiceRow → Tables → Tables
 more_choices cs t = record t { choices = t.choices ++ cs }
 

@@ -1,4 +1,4 @@
-//! The statements that make our tables, one behind another.
+//! The statements that make our tables, one after another.
 ghost use Rattle.std.specs.Prelude.{◌≡◌};
 ghost use Rattle.sqlite.specs.Effect.{Database};
 ghost use Rattle.sqlite.specs.Held.{state};

@@ -7,7 +7,7 @@ pub fn what_fits_can_be_written()
     ensures { (m : Chart) → FitsIsWritable m }
 {}
 
-/// A change that a keeper has no reason to refuse finds place in its tables: no key comes twice behind it, and its counts have room.
+/// A change that a keeper has no reason to refuse finds place in its tables: no key comes twice after it, and its counts have room.
 pub fn what_fits_finds_place()
     ensures { (m : Chart) → WhatFitsFindsPlace m }
 {}

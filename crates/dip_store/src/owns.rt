@@ -88,7 +88,7 @@ fn own_in(owns: &[Own], power: Power) -> Option<&Own>
     None
 }
 
-/// Puts an own part behind others, with no more room than it takes: most games have one that is remembered.
+/// Puts an own part after others, with no more room than it takes: most games have one that is remembered.
 fn push_exact(owns: &mut Vec<Own>, own: Own) -> Result<(), AllocError>
     ensures { OnOk result (owns.new.items ≡ owns.old.items ++ own ∷ []) }
 {
@@ -288,7 +288,7 @@ impl SeenOwns {
         self.put(alloc, change.game.as_str(), short)
     }
 
-    /// Remembers again, behind a change that is made, what it leaves of the own parts of its game that were taken out before it:
+    /// Remembers again, after a change that is made, what it leaves of the own parts of its game that were taken out before it:
     /// none, where it is press, or changes a secret. Where memory is wanting for them they aren't remembered, and that is no fault.
     pub(crate) fn keep(&mut self, alloc: Global, change: &Change, owns: Vec<Own>)
         ensures { (s : State) → RecallsOwns (state_after (desk_rows.change change.now) s) self.old

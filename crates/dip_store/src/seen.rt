@@ -21,7 +21,7 @@ const MOST_SEEN: usize = 16_384;
 #[derive(Drop)]
 pub(crate) struct Seen {
     parts: IndexMap<String, Rc<Public>>,
-    /// The board of the part that was copied last: games that are opened one behind another share theirs.
+    /// The board of the part that was copied last: games that are opened one after another share theirs.
     latest: Option<Rc<Board>>,
 }
 
@@ -162,7 +162,7 @@ impl Seen {
         false
     }
 
-    /// Remembers, behind a change that is made, the public part that came with it: of a game that it opens, and with a paper where
+    /// Remembers, after a change that is made, the public part that came with it: of a game that it opens, and with a paper where
     /// its game is known to be there. Where memory is wanting for it, it isn't remembered, and that is no fault.
     pub(crate) fn note_behind(&mut self, alloc: Global, change: &Change, is_there: bool)
         ensures { (s : State) → Recalls (state_after (desk_rows.change change.now) s) self.old

@@ -1,4 +1,4 @@
--- Records behind the others, some more and none.
+-- Records after the others, some more and none.
 use Rattle.std.proofs.Common.{◌≡◌, ℕ, List, [], ◌∷◌, ◌++◌, map, Option, ap, sym, ◌∙◌, append_assoc, append-nil, arith, ◌≤◌, ◌-◌, length, get_or, take, drop}
 use Rattle.std.proofs.lemmas.List.{map-append, take_all}
 use Rattle.sqlite.specs.State.{State}
@@ -67,7 +67,7 @@ no_units_more t = ap (λ rows. record t { units = rows }) (append-nil t.units)
 pub no_centres_more : (t : Tables) → more_centres [] t ≡ t
 no_centres_more t = ap (λ rows. record t { centres = rows }) (append-nil t.centres)
 
--- the statements of a board, one behind the other
+-- the statements of a board, one after the other
 pub board_put : (m : Chart) (name : List ℕ) (b : Position) (us : List AUnit) (ds : List Dislodged) (os : List (Option ℕ)) → us ≡ b.units → ds ≡ b.dislodged → os ≡ b.owners → (t : Tables)
     → more_centres (centre_rows_from m name 0 os) (no_centres name (more_units (map (dislodged_row m name) ds) (more_units (map (standing_row m name) us) (no_units name t)))) ≡ with_board m name b t
 board_put m name b us ds os u d o t = rw (u, d, o) (ap (λ rows. record t { units = rows; centres = delete_where (is_centre_in name) t.centres ++ centre_rows m name b })

@@ -22,11 +22,11 @@ module _ {A : Type 0} (same : A → A → Bool) where
   front_apart [] ys apart = tt
   front_apart (x ∷ xs) ys apart = (all_front (λ y. same x y ≡ false) xs ys apart.0, front_apart xs ys apart.1)
 
-  -- records behind others, by the first of them
+  -- records after others, by the first of them
   pub first_apart : (old front rest all : List A) → all ≡ front ++ rest → Differ same (old ++ all) → Differ same (old ++ front)
   first_apart old front rest all is apart = front_apart (old ++ front) rest (subst (Differ same) (ap (λ xs. old ++ xs) is ∙ sym (append_assoc old front rest)) apart)
 
-  -- the next record, behind those in front of it
+  -- the next record, after those in front of it
   next_apart : (old front more next rest all : List A) → all ≡ next ++ rest → next ≡ front ++ more → Differ same (old ++ all) → Differ same ((old ++ front) ++ more)
   next_apart old front more next rest all is turn apart =
       subst (Differ same) (ap (λ xs. old ++ xs) turn ∙ sym (append_assoc old front more)) (first_apart old next rest all is apart)
@@ -45,7 +45,7 @@ both_apart same h f xs i d low old apart =
     next_apart same old (map h (map f (take i xs))) (h (f (get_or xs i d)) ∷ []) (map h (map f (take (i + 1) xs))) (map h (map f (drop (i + 1) xs))) (map h (map f xs))
     (ap (map h) split ∙ map-append h (map f (take (i + 1) xs)) (map f (drop (i + 1) xs))) (taken_both h f xs i d low) apart
 
--- some of a list, behind those in front of them
+-- some of a list, after those in front of them
 pub some_apart : {A B C : Type 0} (same : C → C → Bool) (h : B → C) (f : A → B) (done more rest xs : List A) → xs ≡ done ++ (more ++ rest) → (old : List C) → Differ same (old ++ map h (map f xs))
     → Differ same ((old ++ map h (map f done)) ++ map h (map f more))
 some_apart same h f done more rest xs is old apart =
@@ -69,7 +69,7 @@ owners_apart same m name os i d low old apart =
     next_apart same old (centre_rows_from m name 0 (take i os)) (centre_rows_from m name i (get_or os i d ∷ [])) (centre_rows_from m name 0 (take (i + 1) os)) left.0 (centre_rows_from m name 0 os)
     left.1 (owner_more m name os i d low) apart
 
--- the items of an inbox, one reader behind the other
+-- the items of an inbox, one reader after the other
 module _ (m : Chart) (game : List ℕ) (row : List ℕ → ℕ → BoxRow) where
   boxes_apart : (rs : List Reader) (t : Tables) → Differ same_item (delivering_rows m game row rs t).boxes → Differ same_item t.boxes
   boxes_apart [] t apart = apart

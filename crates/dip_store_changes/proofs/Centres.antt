@@ -16,7 +16,7 @@ owner_next m name p q (Some r ∷ os) zero d at low =
 owner_next m name p q (None ∷ os) (suc i) d at low = owner_next m name (suc p) q os i d (omega (arith, at)) (omega (arith, low))
 owner_next m name p q (Some r ∷ os) (suc i) d at low = ap (λ rows. row_of m name p r ∷ rows) (owner_next m name (suc p) q os i d (omega (arith, at)) (omega (arith, low)))
 
--- one more owner behind those before it
+-- one more owner after those before it
 pub owner_more : (m : Chart) (name : List ℕ) (os : List (Option ℕ)) (i : ℕ) (d : Option ℕ) → i < length os
     → centre_rows_from m name 0 (take (i + 1) os) ≡ centre_rows_from m name 0 (take i os) ++ centre_rows_from m name i (get_or os i d ∷ [])
 owner_more m name os i d low =

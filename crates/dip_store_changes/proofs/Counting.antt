@@ -1,4 +1,4 @@
--- A seat's row with its last letter, where its other columns are those behind it.
+-- A seat's row with its last letter, where its other columns are those after it.
 use Rattle.std.proofs.Common.{◌≡◌, ℕ, List, [], ◌∷◌, Option, Some, None, refl, sym, subst, ap, ap₂, ◌∙◌, inl, inr}
 use Rattle.std.specs.List.{AllByRecursion}
 use Rattle.std.proofs.lemmas.Bool.{cases_Bool}

@@ -1,4 +1,4 @@
--- Words joined by a byte: the first, and each other behind that byte.
+-- Words joined by a byte: the first, and each other after that byte.
 use Rattle.std.proofs.Common.{◌≡◌, ℕ, codes, String, string_bytes, ◌<◌, List, [], ◌∷◌, ◌++◌, drop, flat_map, get_or, length, ap, refl, sym, append-nil, arith}
 use Rattle.std.specs.declared.alloc.Global.{Global}
 use Rattle.dip_map.specs.Charts.{Chart}

@@ -1,4 +1,4 @@
--- What is known or found of the author's row, and what it is behind the letter.
+-- What is known or found of the author's row, and what it is after the letter.
 use Rattle.std.proofs.Common.{◌≡◌, ◌<◌, ℕ, true, false, List, Option, Some, None, option_map, refl, sym, ap, subst, ◌∙◌}
 use Rattle.std.specs.List.{AllByRecursion, find}
 use Rattle.sqlite.specs.Order.{Row}
@@ -49,7 +49,7 @@ module _ (m : Chart) (name : List ℕ) (t : Tables) (one : (game power : List �
       found_alone (is_seat name (power_name m power)) (λ s. next ≡ Some (row_of (seat_effect e s))) t.seats (one name (power_name m power))
       (λ s is. behind ∙ ap (option_map (row_behind e)) (found ∙ ap (option_map row_of) is) ∙ ap (λ r. Some r) (behind_is e s))
 
-  -- the row that is written is the author's row behind its letter
+  -- the row that is written is the author's row after its letter
   pub counts_next : (who : Author) (e : Effect) (row next : Option AuthorRow) → row ≡ author_row m who name t.seats → next ≡ option_map (row_behind e) row → CountsRow next m who name e t
   counts_next Nobody e row next found behind k = refl
   counts_next TheMaster e row next found behind k = refl
@@ -99,6 +99,6 @@ own_known m power name pending ballots ss o is = by (find (is_seat name (power_n
     by None is = absurd (cc)
     by (Some s) is = let same : o ≡ own_of m pending ballots s = cc in ap (λ x. Some (own_row x)) same
 
--- what is known is known of the same tables behind a look, and by the same name
+-- what is known is known of the same tables after a look, and by the same name
 pub known_at : (known : Option AuthorRow) (m : Chart) (who : Author) (name game : List ℕ) (t u : Tables) → game ≡ name → u ≡ t → IsKnown known m who name t.seats → IsKnown known m who game u.seats
 known_at known m who name game t u named same is = rw (named, same) is

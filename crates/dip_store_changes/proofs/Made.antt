@@ -246,7 +246,7 @@ module _ {S : Type 0} (g : Ghosts S) where
     left = λ kept clean. k.left (turn kept) clean;
   }
 
-  -- behind what was read
+  -- after what was read
   makes_behind : (X E Y F : Type 0) (f : Tables → Tables) (old mid new : Held S) (x : X) (r : Result Y F) → Selects g old mid (went X E x) → Makes g f mid new r → Makes g f old new r
   makes_behind X E Y F f old mid new x r s k = record {
     fair = λ clean. s.fair (k.fair clean);

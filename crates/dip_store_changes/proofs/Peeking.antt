@@ -1,4 +1,4 @@
--- What is read, or left alone, one call behind another.
+-- What is read, or left alone, one call after another.
 use Rattle.std.proofs.Common.{◌≡◌, ◌≤◌, arith, inl, inr, Ok, Err, Result, refl, sym, ap, subst, ◌∙◌}
 use Rattle.std.specs.Result.{IsErr}
 use Rattle.sqlite.specs.Store.{Ghosts}
@@ -45,7 +45,7 @@ module _ {S : Type 0} (g : Ghosts S) where
       peeks_as {X = Z} {E = G} {Y = W} {F = H} a d z (went W H w)
       (peeks_then {X = Y} {E = F} {Y = Z} {F = G} a c d y (went Z G z) (peeks_then {X = X} {E = E} {Y = Y} {F = F} a b c x (went Y F y) p q) r)
 
-  -- what is kept, and what is shown, behind a call that reads
+  -- what is kept, and what is shown, after a call that reads
   pub peeks_fair : {X E : Type 0} (a b : Held S) (r : Result X E) → Peeks g a b r → is_honest g b → is_honest g a
   peeks_fair a b r (inl s) clean = s.fair clean
   peeks_fair a b r (inr same) clean = subst (λ h. is_honest g h) same clean

@@ -1,4 +1,4 @@
--- The rows of a board, one statement behind the other, where no key comes twice behind all.
+-- The rows of a board, one statement after the other, where no key comes twice after all.
 use Rattle.std.proofs.Common.{◌≡◌, ℕ, List, ◌++◌, map, Option, append_assoc, refl, sym, subst}
 use Rattle.dip_store_tables.specs.Lists.{delete_where}
 use Rattle.dip_names.specs.declared.names.Unit.{Unit as AUnit}

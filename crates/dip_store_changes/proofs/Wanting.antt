@@ -62,7 +62,7 @@ pub want_blames : {Y : Type 0} (fault : Type 0) (r : Result Y Error) → IfErr r
 want_blames fault (Ok y) want = tt
 want_blames fault (Err e) want = want_blamed fault e want
 
--- behind a change no key comes twice, so none does of its orders
+-- after a change no key comes twice, so none does of its orders
 pub orders_keyed : (none : Bool) (rs : List Reader) (m : Chart) (who : Author) (name : List ℕ) (e : Effect) (t : Tables) → AreKeyed (reaching_all rs m name e (ordering_over none m who name e t)) → GivenOrdersDiffer e (ordering_over none m who name e t)
 orders_keyed none rs m who name Nothing t keyed = tt
 orders_keyed none rs m who name (Pending orders) t keyed = keyed.pending

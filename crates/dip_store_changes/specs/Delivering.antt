@@ -1,4 +1,4 @@
--- Press in its readers' inboxes, one reader behind the other.
+-- Press in its readers' inboxes, one reader after the other.
 use Rattle.std.specs.Prelude.{◌≡◌, ℕ, ◌+◌, List, [], ◌∷◌, ◌++◌, Bool, codes, if◌then◌else◌, string_bytes}
 use Rattle.dip_store_tables.specs.Lists.{update_where}
 use Rattle.dip_map.specs.Charts.{Chart}

@@ -30,7 +30,7 @@ BlamesFor fault Memory = Unit {0}
 BlamesFor fault (Sql e) = IsBlamed fault e
 BlamesFor fault Misfit = Unit {0}
 
--- tables of a desk by the map, of which no key comes twice behind the change
+-- tables of a desk by the map, of which no key comes twice after the change
 pub record MayMake (m : Chart) (c : Change) (t : Tables) : Type 0 where
   pub ours : AreOurs m t
   pub keyed : AreKeyed (changing m c t)

@@ -80,7 +80,7 @@ is_press (Opens public paper seats) = false
 is_press (Publishes public paper played) = false
 is_press (Seats seat) = false
 
--- the author's row behind a letter of this effect: it counts press
+-- the author's row after a letter of this effect: it counts press
 abbrev pub row_behind : Effect → AuthorRow → AuthorRow
 row_behind e r = record r { sent = if is_press e then r.sent + 1 else r.sent }
 

@@ -1,4 +1,4 @@
--- What the tables of a database say behind a change that was made of them.
+-- What the tables of a database say after a change that was made of them.
 use Rattle.std.specs.Prelude.{◌≡◌}
 use Rattle.sqlite.specs.Effect.{Database}
 use Rattle.dip_map.specs.Charts.{Chart}

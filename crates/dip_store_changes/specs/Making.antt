@@ -73,7 +73,7 @@ module _ {S : Type 0} (g : Ghosts S) (h : Held S) where
     pub settled : (state g h).now ≡ (state g h).committed
     pub unlimited : h.step_limit ≡ None
 
--- a call that changes the tables so, where this holds of them, whole or not at all; behind an error a crash may leave them changed or not
+-- a call that changes the tables so, where this holds of them, whole or not at all; after an error a crash may leave them changed or not
 pub record MakesFrom {S X E : Type 0} (Kept : Type 0) (g : Ghosts S) (f : Tables → Tables) (old new : Held S) (r : Result X E) : Type 0 where
   pub fair : is_honest g new → is_honest g old
   pub shown : does_show g new → does_show g old

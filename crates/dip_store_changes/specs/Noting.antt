@@ -27,7 +27,7 @@ noting_row row m TheMaster name k t = on_desk (desk_noted (as_printed name (code
 noting_row row m (Seat power) name k t =
     on_row row name (power_name m power) (as_printed name (power_name m power) k) t
 
--- the columns are those of the seat's row behind a letter of this effect
+-- the columns are those of the seat's row after a letter of this effect
 abbrev pub IsNext : Option AuthorRow → Effect → List ℕ → List ℕ → SeatRow → Type 0
 IsNext row e name power s = is_seat name power s ≡ true → row ≡ Some (row_of (seat_effect e s))
 

@@ -13,7 +13,7 @@ use Rattle.dip_store_sql.specs.Keys.{Differ, same_ballot, same_centre, same_choi
 abbrev pub orders_left : Bool → List ℕ → List ℕ → Tables → Tables
 orders_left none name power t = record t { pending = if none then t.pending else delete_where (is_pending name power) t.pending }
 
--- records behind the others
+-- records after the others
 abbrev pub more_seats : List SeatRow → Tables → Tables
 more_seats ss t = record t { seats = t.seats ++ ss }
 

@@ -134,7 +134,7 @@ pub fn note_author<S: Alter>(
     }
 }
 
-/// Where its other columns are those of the author's row behind its letter, this is what noting makes of the tables.
+/// Where its other columns are those of the author's row after its letter, this is what noting makes of the tables.
 pub fn next_rows_are_noted()
     ensures { (m : Chart) → NextRowsAreNoted m }
 {}

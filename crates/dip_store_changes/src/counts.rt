@@ -23,7 +23,7 @@ use dip_store_sql::find_game;
 use sqlite::{Alter, Connection};
 use std::alloc::Global;
 
-/// The author's row behind its letter, but for the letter, where the author has a seat; and the seats that have its press.
+/// The author's row after its letter, but for the letter, where the author has a seat; and the seats that have its press.
 #[derive(Drop)]
 pub(crate) struct Counted {
     pub row: Option<AuthorRow>,
@@ -85,7 +85,7 @@ fn check_paper<S: Alter>(
     }
 }
 
-/// The author's row behind its letter, but for the letter; none where the author has no seat.
+/// The author's row after its letter, but for the letter; none where the author has no seat.
 fn count_author<S: Alter>(
     conn: &mut Connection<S>,
     map: &Map,

@@ -17,7 +17,7 @@ pub(crate) struct ItemTexts {
     pub body: String,
 }
 
-/// Appends words, each behind a space.
+/// Appends words, each after a space.
 fn push_words(words: &[String], out: &mut String) -> Result<(), AllocError>
     ensures { OnOk result (string_bytes out.new
         ≡ string_bytes out.old ++ flat_map (λ v. codes " " ++ v) (records.lines words.now)) }

@@ -186,7 +186,7 @@ fn is_press(effect: &Effect) -> bool
     }
 }
 
-/// The author's row behind a letter of this effect, if it has room to count it.
+/// The author's row after a letter of this effect, if it has room to count it.
 pub(crate) fn row_behind(row: AuthorRow, effect: &Effect) -> Result<AuthorRow, MakeFault>
     ensures value { IfOk result (λ r. r ≡ row_behind (machine.effect effect.now) row) }
     ensures room { OnOk result (RowHasRoom (machine.effect effect.now) row) }

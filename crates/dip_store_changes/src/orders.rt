@@ -26,7 +26,7 @@ fn order_row<'a>(map: &'a Map, order: &'a Standing) -> OrderRow<'a>
     }
 }
 
-/// Three orders, one behind the other.
+/// Three orders, one after the other.
 fn add_three<S: Alter>(
     tx: &mut Transaction<'_, S>,
     map: &Map,

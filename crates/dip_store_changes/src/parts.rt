@@ -1,4 +1,4 @@
-//! The parts of a change, one behind the other in a transaction.
+//! The parts of a change, one after the other in a transaction.
 ghost use Rattle.std.specs.Prelude.{◌≡◌, ◌<◌, All, string_bytes};
 ghost use Rattle.sqlite.specs.Held.{state};
 ghost use Rattle.dip_desk_state.specs.Bounds.{most_items};

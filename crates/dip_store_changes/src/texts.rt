@@ -18,7 +18,7 @@ pub(crate) fn status_text(alloc: Global, map: &Map, status: &Status) -> Result<S
     Ok(out)
 }
 
-/// Appends the codes of provinces, each behind a space.
+/// Appends the codes of provinces, each after a space.
 fn push_codes(map: &Map, provs: &[Prov], out: &mut String) -> Result<(), AllocError>
     ensures { OnOk result (string_bytes out.new
         ≡ string_bytes out.old ++ flat_map (λ p. codes " " ++ code map.now p) provs.now) }

@@ -1,4 +1,4 @@
--- Calls that read on behind others.
+-- Calls that read on after others.
 use Rattle.std.proofs.Common.{◌≡◌, ap, arith, inl, refl, Result}
 use Rattle.sqlite.specs.declared.error.Error.{Error}
 use Rattle.sqlite.specs.Effect.{Database}
@@ -14,7 +14,7 @@ module _ {S : Type 0} (g : Ghosts S) where
   pub goes_on : {X E Y F : Type 0} (a b c : Held S) (x : X) (r : Result Y F) → Selects g a b (went X E x) → SelectsOn g b c r → Selects g a c r
   goes_on a b c x r p on = on a (selects_as g a b x (went (Unit {0}) Error tt) p)
 
-  -- behind a call that went well nothing is read
+  -- after a call that went well nothing is read
   pub stays : {X E : Type 0} (a b : Held S) (x : X) → IsKept g a → Selects g a b (went X E x) → Selects g b b (went (Unit {0}) Error tt)
   stays a b x kept p = record {
     fair = λ clean. clean;

@@ -67,7 +67,7 @@ first_number i b bs e = (cc, cc)
 abbrev numbered : ℕ → List BoxRow → Option BoxRow
 numbered n bs = find (λ (b : BoxRow). b.number == n) bs
 
--- one that isn't the first is found behind it
+-- one that isn't the first is found after it
 behind_first : (i n : ℕ) (b : BoxRow) (bs : List BoxRow) → AreFrom i (b ∷ bs) → suc i ≤ n → numbered n (b ∷ bs) ≡ numbered n bs
 behind_first i n b bs e low =
     let out : (b.number == n) ≡ false = subst (λ k. (k == n) ≡ false) (sym (first_number i b bs e).0) (not_number n i low) in
@@ -156,7 +156,7 @@ page_ends box k most count is =
     let rest : count - k ≡ length (drop k box) = ap (λ n. n - k) (sym is) ∙ sym (length-drop k box) in
     ap (λ n. take (min most n) (drop k box)) rest ∙ take_min most (drop k box)
 
--- a page has no more items than there are behind those that it skips
+-- a page has no more items than there are after those that it skips
 pub page_low : (most count skipped many : ℕ) → many ≡ min most (count - skipped) → many ≤ count - skipped
 page_low most count skipped many is = omega (arith, is)
 

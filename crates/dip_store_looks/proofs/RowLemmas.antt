@@ -56,7 +56,7 @@ paper_readable m t ours name number row shown =
     found_as IsPaperLegible (λ r. HasText r 0) show_paper (is_numbered name number)
     (λ p it. has_text (show_paper p) 0 p.body (omega arith) refl it) t.papers row ours.legible.papers shown
 
--- a line, and behind it END, is a printed reply
+-- a line, and after it END, is a printed reply
 printed : (front lines : List ℕ) → IsPrinted (front ++ 10 ∷ (lines ++ codes "END\n"))
 printed [] lines = ([], lines, tt, refl)
 printed (x ∷ front) lines = elim (cases_Bool (x == 10)) [

@@ -1,4 +1,4 @@
--- What is asked of the tables as they stand, and calls that read on behind others.
+-- What is asked of the tables as they stand, and calls that read on after others.
 use Rattle.std.specs.Prelude.{ℕ, ◌+◌, ◌-◌, List, map, filter, Result, Ok}
 use Rattle.sqlite.specs.declared.error.Error.{Error}
 use Rattle.sqlite.specs.Store.{Ghosts}
@@ -22,7 +22,7 @@ whole_in m t g = record {
   seats = map (own_of m t.pending t.ballots) (filter (is_seat_in g.name) t.seats);
 }
 
--- a call that is made behind one that read and went well: what both come to
+-- a call that is made after one that read and went well: what both come to
 abbrev pub SelectsOn : {S X E : Type 0} → Ghosts S → Held S → Held S → Result X E → Type 0
 SelectsOn {S} {X} {E} g old new r =
     (first : Held S) → Selects {S = S} {X = Unit {0}} {E = Error} g first old (Ok tt) → Selects g first new r

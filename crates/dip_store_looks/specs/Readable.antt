@@ -77,7 +77,7 @@ pub record IsGameReadable (m : Chart) (r : Row) (units centres : List Row) (choi
   pub papers : HasNumber r 6
   pub intent : IsChoiceReadable choice
 
--- an author's last letter, from a column on: its number, and behind the first letter a sum and a printed reply
+-- an author's last letter, from a column on: its number, and after the first letter a sum and a printed reply
 pub record IsKeptReadable (r : Row) (at : ℕ) : Type 0 where
   pub last : HasNumber r at
   pub sum : (number_in (column r at) ≡ 0 → ⊥) → HasDigest r (at + 1)

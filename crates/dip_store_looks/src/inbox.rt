@@ -71,7 +71,7 @@ fn item_at<S: Alter>(
     item_in(alloc, &row)
 }
 
-/// So many items of a seat's inbox behind the first ones.
+/// So many items of a seat's inbox after the first ones.
 fn items_behind<S: Alter>(
     conn: &mut Connection<S>,
     alloc: Global,

@@ -8,7 +8,7 @@ pub caused_weaker : (one two : Type 0) (e : Error) → (one → two) → IsCause
 caused_weaker one two e turn (inl memory) = inl memory
 caused_weaker one two e turn (inr disk) = inr (disk.0, turn disk.1)
 
--- a fault counts behind another call
+-- a fault counts after another call
 pub faulted_late : (a b c : State) → a.faults ≤ b.faults → Faulted b c → Faulted a c
 faulted_late a b c counts more = omega (arith, counts, more)
 

@@ -60,7 +60,7 @@ each_cast put table casts (x ∷ xs) = ap₂ ◌∷◌ (ap₂ ◌∷◌ cast_nul
 
 module _ {A : Type 0} (put : A → Row) (take : Row → A) (back : (v : Value) (a : A) → take (v ∷ put a) ≡ a) (table : Table) (casts : (a : A) → cast_all table.columns (put a) ≡ put a) where
   module _ (schema : Schema) (old new : Database) (it : IsRising put take (old.trees table.tree)) where
-    -- an INSERT puts records behind the others
+    -- an INSERT puts records after the others
     pub insert_all_is : (xs : List A) (sources : List Row) → sources ≡ unnumbered put xs → Edits schema (edit_of old.trees table [] Chosen 0 sources) old new
         → IsRising put take (new.trees table.tree) × (map take (new.trees table.tree) ≡ map take (old.trees table.tree) ++ xs)
     insert_all_is xs sources are e =
@@ -75,7 +75,7 @@ module _ {A : Type 0} (put : A → Row) (take : Row → A) (back : (v : Value) (
         → IsRising put take (new.trees table.tree) × (map take (new.trees table.tree) ≡ map take (old.trees table.tree) ++ a ∷ [])
     insert_is a = insert_all_is (a ∷ [])
 
-    -- its row stands behind theirs
+    -- its row stands after theirs
     pub insert_behind : (a : A) (sources : List Row) → sources ≡ (Null ∷ put a) ∷ [] → Edits schema (edit_of old.trees table [] Chosen 0 sources) old new
         → new.trees table.tree ≡ old.trees table.tree ++ (Int (next_rowid (old.trees table.tree)) ∷ put a) ∷ []
     insert_behind a sources are e =

@@ -1,4 +1,4 @@
--- The texts of the tables, one behind another, make our schema.
+-- The texts of the tables, one after another, make our schema.
 use Rattle.std.proofs.Common.{◌≡◌, ℕ, List, [], ◌∷◌, Ok, refl}
 use Rattle.std.specs.Fmt.{digits}
 use Rattle.sqlite.specs.Schema.{Schema}

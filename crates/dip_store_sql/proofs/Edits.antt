@@ -23,7 +23,7 @@ module _ {A : Type 0} (put : A → Row) (take : Row → A) (back : (v : Value) (
   have_ids : (rows : List Row) → IsRising put take rows → HaveIds rows
   have_ids rows it = all_weaker _ (λ r. rowid r ≡ Int (id_of r)) (λ r h. ap rowid h) rows it.typed
 
-  -- a row more, behind the others
+  -- a row more, after the others
   pub grown : (rows new : List Row) (a : A) → IsRising put take rows → new ≡ put_row (Int (next_rowid rows) ∷ put a) rows → IsRising put take new × (map take new ≡ map take rows ++ a ∷ [])
   grown rows new a it is =
       let row : Row = Int (next_rowid rows) ∷ put a in
@@ -32,7 +32,7 @@ module _ {A : Type 0} (put : A → Row) (take : Row → A) (back : (v : Value) (
         ap (map take) (is ∙ added_last rows (put a) (have_ids rows it) it.rising) ∙ map-append take rows (row ∷ []) ∙ ap (λ b. map take rows ++ b ∷ []) (back (Int (next_rowid rows)) a),
       )
 
-  -- rows more, each behind those before it
+  -- rows more, each after those before it
   pub all_grown : (rows : List Row) (xs : List A) → IsRising put take rows → IsRising put take (put_all rows (numbered Chosen rows (unnumbered put xs))) × (map take (put_all rows (numbered Chosen rows (unnumbered put xs))) ≡ map take rows ++ xs)
   all_grown rows [] it = (it, sym (append-nil (map take rows)))
   all_grown rows (x ∷ xs) it =

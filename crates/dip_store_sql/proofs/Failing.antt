@@ -195,7 +195,7 @@ module _ (schema : Schema) (at : ℕ) (table : Table) (listed : slice_get schema
   abbrev task : Task
   task = record { limit = None; keys = Enforced; schema = schema; table = table; params = params }
 
-  -- nothing stops it behind its rows
+  -- nothing stops it after its rows
   concluded : (w : Written) (e : Error) → Concludes task mode None w (Err (Some e)) → ⊥
   concluded w e (inl s) = tested s.0 s.1
     where
@@ -277,7 +277,7 @@ module _ (schema : Schema) (at : ℕ) (table : Table) (listed : slice_get schema
         ]
       ]
 
-  -- a stop at a row that can't be stored, behind which nothing stops the statement
+  -- a stop at a row that can't be stored, after which nothing stops the statement
   concludes_none : (w : Written) → Concludes task mode None w (Err None) → ⊥
   concludes_none w h = elim (halts (Tested mode (λ among. Refers among schema w.trees)) (λ in_doubt. Then (Gives []) (λ rows. Gives (record { rows = Some (length w.rows); last = w.last; shown = rows; in_doubt = in_doubt }, record { schema = schema; trees = w.trees }))) None h) [
     | inl t ↦ t.0 (refers (due mode) w.trees)

@@ -1,4 +1,4 @@
--- Each of our CREATE TABLE texts, behind those before it, fails for want of memory, or by the disk where the store told of a fault.
+-- Each of our CREATE TABLE texts, after those before it, fails for want of memory, or by the disk where the store told of a fault.
 use Rattle.std.proofs.Common.{◌≡◌, [], ◌∷◌, codes, Err, IsTrue, refl}
 use Rattle.std.specs.Fmt.{digits}
 use Rattle.sqlite.specs.declared.error.Error.{Error}

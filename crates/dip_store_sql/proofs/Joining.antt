@@ -1,4 +1,4 @@
--- Parts of a transaction one behind another: what they do, and that they fail for want alone.
+-- Parts of a transaction one after another: what they do, and that they fail for want alone.
 use Rattle.std.proofs.Common.{◌≡◌, false, true, inl, Result, refl, sym, ap, subst, ◌∙◌, arith}
 use Rattle.sqlite.specs.declared.error.Error.{Error}
 use Rattle.sqlite.specs.declared.error.Error.TheVariants.{SqliteFailure}

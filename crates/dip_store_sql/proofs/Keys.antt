@@ -20,7 +20,7 @@ use Rattle.dip_store_sql.specs.Recorded.{IsRising, AtMostOne}
 use Rattle.dip_store_sql.proofs.Places.{id_of}
 
 module _ {A : Type 0} (same : A → A → Bool) (p : A → Bool) (tied : (a b : A) → p a ≡ true → p b ≡ true → same a b ≡ true) where
-  -- behind one that passes no other does
+  -- after one that passes no other does
   others : (x : A) (xs : List A) → p x ≡ true → AllByRecursion (λ y. same x y ≡ false) xs → filter p xs ≡ []
   others x [] e all = refl
   others x (y ∷ xs) e all = elim (cases_Bool (p y)) [

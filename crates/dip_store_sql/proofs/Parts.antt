@@ -1,4 +1,4 @@
--- Parts of a transaction, one behind another.
+-- Parts of a transaction, one after another.
 use Rattle.std.proofs.Common.{false, ap, ◌≡◌, inl, inr, IsTrue, ℕ, List, [], Ok, Err, Result, OnOk, sym, subst, refl, ◌∙◌, arith, map, take, length, get_or, ◌++◌, ◌∷◌, ◌+◌, ◌<◌, zero, suc}
 use Rattle.std.proofs.lemmas.List.{map-append}
 use Rattle.std.proofs.lemmas.Bool.{cases_Bool}

@@ -148,7 +148,7 @@ module _ (schema : Schema) (at : ℕ) (table : Table) (listed : slice_get schema
       let each = all_weaker (CanStandIn schema table) (λ r. fits_i64 (id_in (rowid r)) ≡ true) (λ r it. it.1) edit.news all in
       absurd (let x = sym (test_from_all (λ r. fits_i64 (id_in (rowid r))) edit.news each) ∙ refused in cc)
 
-  -- a row that can stand behind the others
+  -- a row that can stand after the others
   pub insert_fits : (terms : List Term) (width : ℕ) → command_in (understood schema text) (Insert at (Values terms width)) → accepts_terms terms (stamped table params) ≡ true
       → (a : A) → value_rows (stamped table params) width (length terms / width) terms ≡ (Null ∷ put a) ∷ []
       → KeysApart put take back schema table casts rules old.now.trees it (map take (old.now.trees table.tree) ++ a ∷ [])

@@ -1,4 +1,4 @@
--- What the queries leave, one behind another.
+-- What the queries leave, one after another.
 use Rattle.std.proofs.Common.{false, IsTrue, ◌≡◌, ◌⊎◌, inl, inr, ℕ, List, [], ◌∷◌, Ok, Err, Result, refl, sym, subst, ◌∙◌, arith, OnOk}
 use Rattle.sqlite.specs.declared.error.Error.{Error}
 use Rattle.sqlite.specs.declared.error.Error.TheVariants.{QueryReturnedNoRows}

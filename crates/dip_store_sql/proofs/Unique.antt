@@ -32,7 +32,7 @@ module _ {A : Type 0} (put : A → Row) (take : Row → A) (o : Order) (key : Li
   agreed : (x y : Row) → x ≡ Int (id_of x) ∷ put (take x) → y ≡ Int (id_of y) ∷ put (take y) → agree o key x key y ≡ same (take x) (take y)
   agreed x y e f = ap₂ (λ a b. agree o key a key b) e f ∙ tells (Int (id_of x)) (Int (id_of y)) (take x) (take y)
 
-  -- none behind a row clashes with it
+  -- none after a row clashes with it
   behind : (x : Row) (rows : List Row) → x ≡ Int (id_of x) ∷ put (take x) → AllByRecursion (λ r. r ≡ Int (id_of r) ∷ put (take r)) rows → AllByRecursion (λ b. same (take x) b ≡ false) (map take rows)
       → clashes o key rows x ≡ false
   behind x [] e es apart = refl

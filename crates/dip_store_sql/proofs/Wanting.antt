@@ -34,7 +34,7 @@ use Rattle.dip_store_sql.specs.Refusals.{IsWant}
 use Rattle.dip_store_sql.proofs.Passing.{AreKept, AreRecords, fresh, no_record, not_taken, one_record, records}
 use Rattle.dip_store_sql.proofs.Whole.{whole_fresh, whole_records, whole_rising}
 
--- what is left behind a filter passes it
+-- what is left after a filter passes it
 all_left : (id : ℤ) (rows : List Row) → AllByRecursion (λ r. has_rowid id r ≡ false) (without_rowid id rows)
 all_left id [] = tt
 all_left id (r ∷ rows) = elim (cases_Bool (has_rowid id r)) [
@@ -44,7 +44,7 @@ all_left id (r ∷ rows) = elim (cases_Bool (has_rowid id r)) [
 
 module _ {A : Type 0} (put : A → Row) (take : Row → A) (back : (v : Value) (a : A) → take (v ∷ put a) ≡ a) (schema : Schema) (table : Table) (casts : (a : A) → cast_all table.columns (put a) ≡ put a)
     (rules : AreKept put schema table) (db : Trees) (it : IsRising put take (db table.tree)) where
-  -- where the records are these behind the edit, no two of them agree on their key
+  -- where the records are these after the edit, no two of them agree on their key
   abbrev pub KeysApart : List A → Type 0
   KeysApart xs = (rows : List Row) → IsRising put take rows → map take rows ≡ xs → Keeps Unique schema (with_tree db table.tree rows)
 

@@ -129,7 +129,7 @@ module _ {A : Type 0} (put : A → Row) (take : Row → A) (back : (v : Value) (
   abbrev show : Row → Row
   show r = eval_all shown (params ∷ r ∷ [])
 
-  -- the row behind the UPDATE; and what is shown, in columns
+  -- the row after the UPDATE; and what is shown, in columns
   abbrev anew : Row → Row
   anew r = rowid r ∷ put (f (take r))
 

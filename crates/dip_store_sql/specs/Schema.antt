@@ -155,7 +155,7 @@ choice_table = keyed (codes "choice") 18
     )
     (1 ∷ []) (1 ∷ [])
 
--- what SQL makes of a key: an index behind its table
+-- what SQL makes of a key: an index after its table
 abbrev pub index_of : List ℕ → ℕ → List ℕ → Index
 index_of name table columns = record {
   name = name;

@@ -24,7 +24,7 @@ CanStandIn schema table row = (IsOversized schema table row → ⊥) × (fits_i6
 abbrev pub CanStand : Table → Row → Type 0
 CanStand = CanStandIn our_schema
 
--- a record's row that is to stand behind these
+-- a record's row that is to stand after these
 abbrev pub next_row : {A : Type 0} → (A → Row) → A → List Row → Row
 next_row put x rows = Int (next_rowid rows) ∷ put x
 
@@ -66,7 +66,7 @@ pub record Stores {X : Type 0} (table : Table) (Such : Tables → Type 0) (rows 
       → IfErr r (IsCaused (Faulted old new))
   pub others : HasCleanDisk new → IsReady old → OnOk r (AreSpared table old.now.trees new.now.trees)
 
--- one row, which stands behind the others of its table
+-- one row, which stands after the others of its table
 pub record StoresBehind {X : Type 0} (table : Table) (Such : Tables → Type 0) (row : List Row → Row) (old new : State)
     (r : Result X Error) : Type 0 where
   pub stores : Stores table Such (λ db. row (db table.tree) ∷ []) old new r

@@ -4,7 +4,7 @@ use Rattle.dip_store_tables.specs.Lists.{update_where, delete_where}
 use Rattle.dip_store_tables.specs.Boards.{UnitRow, CentreRow}
 use Rattle.dip_store_tables.specs.Tables.{DeskRow, GameRow, SeatRow, PendingRow, BoxRow, PaperRow, BallotRow, ChoiceRow, Tables, is_seat_in, is_unit_in, is_centre_in, is_pending_in, is_box_in, is_paper_in, is_ballot_in, is_choice_in, is_named, is_seat, is_pending, is_ballot}
 
--- a record behind the others
+-- a record after the others
 abbrev pub with_desk : DeskRow → Tables → Tables
 with_desk d t = record t { desk = t.desk ++ d ∷ [] }
 
@@ -32,7 +32,7 @@ with_ballot b t = record t { ballots = t.ballots ++ b ∷ [] }
 abbrev pub with_choice : ChoiceRow → Tables → Tables
 with_choice c t = record t { choices = t.choices ++ c ∷ [] }
 
--- an order of a seat, by its province and its line; and orders behind the others
+-- an order of a seat, by its province and its line; and orders after the others
 abbrev pub order : List ℕ → List ℕ → (List ℕ × List ℕ) → PendingRow
 order game power o = record { game = game; power = power; province = o.0; line = o.1 }
 

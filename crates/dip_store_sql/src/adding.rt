@@ -1,4 +1,4 @@
-//! Rows behind the others of their tables.
+//! Rows after the others of their tables.
 ghost use Rattle.std.specs.Prelude.{◌≡◌, ◌<◌, ◌^◌, [], ◌∷◌, length};
 ghost use Rattle.sqlite.specs.Held.{state};
 ghost use Rattle.dip_store_sql.specs.TablesAfter.{new_desk, new_seat, with_centre, with_desk, with_game, with_item, more_orders, with_ballot, with_choice, with_paper, with_seat, with_unit};
@@ -35,7 +35,7 @@ pub fn add_desk<S: Alter>(
     )
 }
 
-/// A game behind the others. No other has its name, where that goes well.
+/// A game after the others. No other has its name, where that goes well.
 pub fn add_game<S: Alter>(tx: &mut Transaction<'_, S>, game: &GameRow<'_>) -> Result<usize, Error>
     requires { game.now.due < 2 ^ 63 }
     ensures same_reference { tx.new.conn.ghost_name ≡ tx.old.conn.ghost_name }
@@ -130,7 +130,7 @@ pub fn add_pending<S: Alter>(
     )
 }
 
-/// Three standing orders of a seat, one behind the other.
+/// Three standing orders of a seat, one after the other.
 pub fn add_three_pending<S: Alter>(
     tx: &mut Transaction<'_, S>,
     game: &str,

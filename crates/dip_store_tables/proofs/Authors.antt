@@ -1,4 +1,4 @@
--- What the tables say behind a letter's author's row and orders.
+-- What the tables say after a letter's author's row and orders.
 use Rattle.std.proofs.Common.{◌≡◌, ℕ, ◌<◌, ◌==◌, Bool, true, false, cond, ◌&&◌, List, map, filter, length, bytes_eq, refl, sym, ap, ◌∙◌, inl, inr, map-id}
 use Rattle.std.specs.List.{AllByRecursion}
 use Rattle.std.proofs.lemmas.Bool.{cases_Bool}

@@ -54,7 +54,7 @@ module _ {A : Type 0} (p q : A → Bool) (f : A → A) where
     | inr e ↦ rw e (ap (λ b. q x || b) (any_left apart xs))
   ]
 
--- what stands behind and doesn't pass is not found
+-- what stands after and doesn't pass is not found
 pub found_before : {A : Type 0} (q : A → Bool) (xs ys : List A) → AllByRecursion (λ y. q y ≡ false) ys → find q (xs ++ ys) ≡ find q xs
 found_before q [] [] none = refl
 found_before q [] (y ∷ ys) none = rw none.0 (found_before q [] ys none.1)
@@ -80,14 +80,14 @@ module _ (m : Chart) (ok : IsMap m) where
   there None none v of_map = absurd (let bad = none in cc)
   there (Some b) some v of_map = vote_back m ok v of_map
 
-  -- a seat's vote behind a change of it
+  -- a seat's vote after a change of it
   pub vote_changed : (v : Vote) → IsVoteOf m v → (name power : List ℕ) (ballots : List BallotRow) → HasBallot ballots name power
       → vote_in m (update_where (is_ballot name power) (ballot_noted m v) ballots) name power ≡ v
   vote_changed v of_map name power ballots has =
       ap (vote_on m) (found_changed (is_ballot name power) (is_ballot name power) (ballot_noted m v) (noted_key m v name power) ballots)
       ∙ there (find (is_ballot name power) ballots) (sym (any_is_found (is_ballot name power) ballots) ∙ has) v of_map
 
--- and behind a change of another's
+-- and after a change of another's
 pub vote_far : (m : Chart) (v : Vote) (name power n p : List ℕ) → (bytes_eq n name && bytes_eq p power) ≡ false → (ballots : List BallotRow)
     → vote_in m (update_where (is_ballot name power) (ballot_noted m v) ballots) n p ≡ vote_in m ballots n p
 vote_far m v name power n p far ballots =

@@ -40,7 +40,7 @@ reached_coded m name (Seats seat) t fits all =
     (λ s. either_way (λ r. r.game) (is_seat name (power_name m seat.power) s) (record s { digest = seat.digest }) s refl)
     (λ s. either_way (λ r. r.power) (is_seat name (power_name m seat.power) s) (record s { digest = seat.digest }) s refl) m t.seats all
 
--- a game that is there stays there behind others, and where games keep their names
+-- a game that is there stays there after others, and where games keep their names
 more_games : (games more : List GameRow) (name : List ℕ) → HasGame games name → HasGame (games ++ more) name
 more_games games more name has = list_any-append (is_named name) games more ∙ rw has refl
 

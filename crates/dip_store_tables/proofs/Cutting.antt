@@ -33,7 +33,7 @@ turn b done rest text piece more off kept =
     append_assoc done (piece ∷ []) (pieces b more)
     ∙ ap (λ ps. done ++ ps) (sym (ap (pieces b) off.1 ∙ line_first b piece more off.0)) ∙ kept
 
--- the piece behind the last mark
+-- the piece after the last mark
 pub last : (b : ℕ) (rest : List ℕ) → Lacks b rest → 0 < length rest → pieces b rest ≡ rest ∷ []
 last b [] lacks low = absurd (omega (arith, low))
 last b (x ∷ xs) lacks low = word_alone b (x ∷ xs) lacks

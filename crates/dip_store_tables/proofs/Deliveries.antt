@@ -1,4 +1,4 @@
--- Press that is delivered to one reader behind the other.
+-- Press that is delivered to one reader after the other.
 use Rattle.std.proofs.Common.{◌≡◌, ℕ, ◌+◌, Bool, cond, ◌&&◌, List, [], ◌∷◌, ◌++◌, map, filter, bytes_eq, refl, sym, ap, ap₂, subst, ◌∙◌, inl, inr, append-nil, append_assoc, map-id}
 use Rattle.std.proofs.lemmas.Bool.{cases_Bool}
 use Rattle.sqlite_keyed.proofs.ListLemmas.{all_weaker, filter_same, map-map}
@@ -12,7 +12,7 @@ use Rattle.dip_store_tables.specs.Laws.{IsDeliveredOneByOne}
 use Rattle.dip_store_tables.proofs.Lists.{filters_turned, map_on}
 use Rattle.dip_store_tables.proofs.Seats.{IsAlone, all_alone, both_same, both_tell, keys_turned}
 
--- what a seat's row is behind the readers
+-- what a seat's row is after the readers
 abbrev counted_by : List SeatRow → SeatRow → SeatRow
 counted_by [] x = x
 counted_by (s ∷ ss) x = counted_by ss (cond (is_seat s.game s.power x) (with_items (s.items + 1) x) x)

@@ -1,4 +1,4 @@
--- What the tables say behind an effect on a game.
+-- What the tables say after an effect on a game.
 use Rattle.std.proofs.Common.{◌≡◌, ℕ, ◌<◌, ◌==◌, Bool, true, false, cond, ◌&&◌, List, [], ◌++◌, map, length, bytes_eq, refl, sym, ap, subst, ◌∙◌, inl, inr, map-id, append-nil, arith}
 use Rattle.std.specs.List.{AllByRecursion}
 use Rattle.std.proofs.lemmas.Bool.{cases_Bool}
@@ -30,7 +30,7 @@ use Rattle.dip_store_tables.proofs.Seats.{name_turned, same_power}
 turned : (a b : ℕ) → (a == b) ≡ (b == a)
 turned a b = grind (arith, nat_tests)
 
--- a game behind an effect
+-- a game after an effect
 abbrev pub game_behind : Effect → Game → Game
 game_behind e = with_parts (public_after e) (papers_after e) (with_effect e)
 
@@ -73,7 +73,7 @@ module _ (m : Chart) (ok : IsMap m) (name : List ℕ) (t : Tables) (apart : AreA
     games_replaced = games_changed m t (replacing m name seat t) name (λ p. p) (λ ps. ps) (with_effect (Seats seat)) (λ g. g) (λ s. cond (mine s) (digested s) s) (IsSeatOf m)
         apart.games coded (sym (map-id t.games)) refl (λ g. refl) stays (λ g h. refl) (λ g h. refl) refl (λ n h. refl) near far
 
-  -- a paper, and the public part behind it
+  -- a paper, and the public part after it
   module _ (p : Public) (paper : List ℕ) (played : Bool) (of_map : IsOf m p.board) (status : IsStatusOf m p.status) (coded : AllByRecursion (IsSeatOf m) t.seats) where
     abbrev new : Tables
     new = publishing m name p paper played t

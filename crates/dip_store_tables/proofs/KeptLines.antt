@@ -28,7 +28,7 @@ holds_mark b (x ∷ w) rest lacks = holds_mark b w rest lacks.1
 pub no_line : (text : List ℕ) → Lacks 10 text → IsPrinted text → ⊥
 no_line text lacks printed = holds_mark 10 printed.0 (printed.1 ++ codes "END\n") (subst (Lacks 10) printed.3 lacks)
 
--- and END behind its lines
+-- and END after its lines
 pub no_end : (text head more : List ℕ) → Lacks 10 head × (text ≡ head ++ 10 ∷ more) → ((t : List ℕ) → more ≡ t ++ codes "END\n" → ⊥) → IsPrinted text → ⊥
 no_end text head more off never printed =
     never printed.1

@@ -47,7 +47,7 @@ module _ {K A : Type 0} (eq : K → K → Bool) (key : A → K) (k : K) where
     | inr e ↦ rw e (ap (λ ys. x ∷ ys) (change_at_same f xs same))
   ]
 
-  -- one change behind another
+  -- one change after another
   pub change_at_twice : (f g : A → A) (xs : List A) → ((x : A) → key (f x) ≡ key x)
       → change_at eq key k g (change_at eq key k f xs) ≡ change_at eq key k (λ x. g (f x)) xs
   change_at_twice f g [] keeps = refl
@@ -65,7 +65,7 @@ pub all_passed : {A : Type 0} (p : A → Bool) (xs : List A) → AllByRecursion 
 all_passed p [] = tt
 all_passed p (x ∷ xs) = elim (cases_Bool (p x)) [ inl e ↦ rw e (e, all_passed p xs) | inr e ↦ rw e (all_passed p xs) ]
 
--- what a function doesn't move is found behind it
+-- what a function doesn't move is found after it
 pub filter_through : {A : Type 0} (p : A → Bool) (f : A → A) (xs : List A) → ((x : A) → p (f x) ≡ p x) → filter p (map f xs) ≡ map f (filter p xs)
 filter_through p f xs stays = filter-map p f xs ∙ ap (map f) (filter_same (λ x. p (f x)) p stays xs)
 

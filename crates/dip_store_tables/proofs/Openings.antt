@@ -25,7 +25,7 @@ use Rattle.dip_store_tables.proofs.Ballots.{found_before, found_left, game_far, 
 use Rattle.dip_store_tables.proofs.Records.{power_back}
 use Rattle.dip_store_tables.proofs.Seats.{name_turned}
 
--- a game that stands behind others of other names
+-- a game that stands after others of other names
 pub ends_apart : (gs : List GameRow) (g : GameRow) → IsAscending (λ a b. same_name a b ≡ false) (gs ++ g ∷ []) → AllByRecursion (λ a. bytes_eq a.name g.name ≡ false) gs
 ends_apart [] g up = tt
 ends_apart (a ∷ gs) g up = (last_of gs up.0, ends_apart gs g up.1)

@@ -22,7 +22,7 @@ module _ (m : Chart) (ok : IsMap m) where
   itself : (c : List ℕ) → bytes_eq c c ≡ true
   itself c = (bytes_eq-Decides c c).1 refl
 
-  -- no row behind i has an earlier code
+  -- no row after i has an earlier code
   absent : (game : List ℕ) (i j : ℕ) (os : List (Option ℕ)) → j < i → i + length os ≡ length m.provinces → owner_in m (centre_rows_from m game i os) (code m j) ≡ None
   absent game i j [] low count = refl
   absent game i j (None ∷ os) low count = absent game (suc i) j os (omega (arith, low)) (omega (arith, count))

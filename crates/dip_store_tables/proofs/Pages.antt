@@ -24,7 +24,7 @@ pub counted_from : (n : ℕ) → counted n ≡ from 1 n
 counted_from zero = refl
 counted_from (suc n) = let e : suc n ≡ 1 + n = omega arith in ap₂ (λ ks k. ks ++ k ∷ []) (counted_from n) e ∙ from_more 1 n
 
--- a number below a page, none of an empty page, the first of a page, and those behind it
+-- a number below a page, none of an empty page, the first of a page, and those after it
 too_low : (i k most : ℕ) → is_within (i + suc k) most i ≡ false
 too_low i k most = grind (arith, nat_tests)
 
@@ -66,7 +66,7 @@ module _ {A : Type 0} (number : A → ℕ) where
       let here : i ≤ number x = subst (λ n. i ≤ n) (sym parts.0) (omega arith) in
       (here, all_weaker (λ y. suc i ≤ number y) (λ y. i ≤ number y) (λ y low. omega (arith, low)) xs (not_below (suc i) xs parts.1))
 
-  -- the page that begins behind so many rows
+  -- the page that begins after so many rows
   page_rows : (k most i : ℕ) (xs : List A) → AreFrom i xs → filter (λ x. is_within (i + k) most (number x)) xs ≡ take most (drop k xs)
   page_rows zero zero i [] e = refl
   page_rows zero (suc most) i [] e = refl

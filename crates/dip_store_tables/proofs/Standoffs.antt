@@ -14,7 +14,7 @@ module _ (m : Chart) (ok : IsMap m) where
   three (x ∷ y ∷ z ∷ []) h = (x, y, z, refl)
   three (x ∷ y ∷ z ∷ w ∷ more) h = absurd (let e = eqb-true (length (x ∷ y ∷ z ∷ w ∷ more)) 3 (and_parts _ _ h).0 in omega (arith, e))
 
-  -- a code with more behind it
+  -- a code with more after it
   one_back : (p : ℕ) → p < length m.provinces → (more : List ℕ) → standoff_of m (code m p ++ 32 ∷ more) ≡ p ∷ standoff_of m more
   one_back p low more =
       let it = three (code m p) (and_parts _ _ (ok.provinces p low)).0 in

@@ -30,7 +30,7 @@ drawn_told m names (Drawn powers, of_map, word, is) = subst (ArePowers m) (sym i
 pub drawn_powers : (m : Chart) (word : List ℕ) (names : List (List ℕ)) → bytes_eq word (codes "drawn") ≡ true → IsToldBy m word names → ArePowers m names
 drawn_powers m word names hit told = drawn_told m names (subst (λ w. IsToldBy m w names) ((bytes_eq-Decides word (codes "drawn")).0 hit) told)
 
--- the words behind the first
+-- the words after the first
 pub lines_behind : (ws : List (String Global)) → rows.lines (drop 1 ws) ≡ drop 1 (rows.lines ws)
 lines_behind [] = refl
 lines_behind (w ∷ ws) = refl

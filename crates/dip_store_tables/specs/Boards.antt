@@ -73,7 +73,7 @@ standing_row m game u = unit_row m game 0 None u
 abbrev pub dislodged_row : Chart → List ℕ → Dislodged → UnitRow
 dislodged_row m game d = unit_row m game 1 d.origin d.unit
 
--- the standing units, and behind them the dislodged ones
+-- the standing units, and after them the dislodged ones
 abbrev pub unit_rows : Chart → List ℕ → Position → List UnitRow
 unit_rows m game b = map (standing_row m game) b.units ++ map (dislodged_row m game) b.dislodged
 

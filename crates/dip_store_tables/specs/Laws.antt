@@ -12,7 +12,7 @@ use Rattle.dip_store_tables.specs.Writing.{new_tables}
 use Rattle.dip_store_tables.specs.Written.{AreWritten}
 use Rattle.dip_desk_state.specs.Records.{Item}
 
--- behind the statements of a change the tables say the state after it, where keys are apart before them and behind them
+-- after the statements of a change the tables say the state after it, where keys are apart before them and after them
 abbrev pub StateIsChanged : Chart → Type 0
 StateIsChanged m = (c : Change) (t : Tables) → IsChangeOf m c → AreCoded m t → AreApart t → AreApart (changing m c t)
     → state_of m (changing m c t) ≡ state_after c (state_of m t)
@@ -31,7 +31,7 @@ abbrev pub TablesStayWritten : Chart → Type 0
 TablesStayWritten m = (c : Change) (t : Tables) → IsWritable m c → HasWidths c → AreApart (changing m c t) → AreWritten m t
     → AreWritten m (changing m c t)
 
--- press may be delivered to one reader behind the other
+-- press may be delivered to one reader after the other
 abbrev pub IsDeliveredOneByOne : Chart → Type 0
 IsDeliveredOneByOne m = (name readers : List ℕ) (item : Item) (t : Tables) → AreApart t
     → delivering_each item (filter (is_reader m name readers) t.seats) t ≡ delivering m name readers item t

@@ -10,7 +10,7 @@ use Rattle.dip_store_tables.specs.Legible.{AreLegible}
 use Rattle.dip_store_tables.specs.Room.{HasRoom}
 use Rattle.dip_store_tables.specs.ChangeTexts.{HasTexts}
 
--- behind the statements of a change whose texts are of characters and for whose counts there is room, legible tables are legible
+-- after the statements of a change whose texts are of characters and for whose counts there is room, legible tables are legible
 abbrev pub TablesStayLegible : Chart → Type 0
 TablesStayLegible m = (c : Change) (t : Tables) → IsMap m → IsAuthorOf m c.author → HasTexts c → HasRoom m c.author c.game c.effect t
     → AreLegible t → AreLegible (changing m c t)

@@ -24,7 +24,7 @@ abbrev pub desk_of : List DeskRow → Desk
 desk_of [] = record { digest = []; kept = None }
 desk_of (d ∷ ds) = record { digest = d.digest; kept = kept_of d.last d.kept d.reply }
 
--- a word, and behind "won by" or "drawn by" the powers that won or share the game
+-- a word, and after "won by" or "drawn by" the powers that won or share the game
 abbrev pub status_in : Chart → List ℕ → List (List ℕ) → Status
 status_in m word names =
     if bytes_eq word (codes "paused") then Paused else if bytes_eq word (codes "closed") then Closed

@@ -6,7 +6,7 @@ ghost use Rattle.dip_store_tables.specs.Texts.{pieces};
 
 use std::alloc::{AllocError, Global};
 
-/// What stands before the first such mark, and what stands behind it.
+/// What stands before the first such mark, and what stands after it.
 pub(crate) fn cut_at(text: &str, mark: char) -> Option<(&str, &str)>
     requires { mark < 128 }
     ensures some { IfSome result (λ p.
@@ -16,7 +16,7 @@ pub(crate) fn cut_at(text: &str, mark: char) -> Option<(&str, &str)>
     text.split_once(mark)
 }
 
-/// What stands before each such mark, and what stands behind the last, if anything does.
+/// What stands before each such mark, and what stands after the last, if anything does.
 #[tactic(auto, using(crate::proofs::Cutting::turn, crate::proofs::Cutting::last))]
 pub(crate) fn pieces_of(alloc: Global, text: &str, mark: char) -> Result<Vec<String>, AllocError>
     requires { mark < 128 }

@@ -9,7 +9,7 @@ use dip_desk_state::Kept;
 use std::alloc::{AllocError, Global};
 use std::rc::Rc;
 
-/// The lines of a printed reply, which stand behind its first line and before its `END`; none where it hasn't both.
+/// The lines of a printed reply, which stand after its first line and before its `END`; none where it hasn't both.
 #[tactic(auto, using(crate::proofs::KeptLines::lines_told, crate::proofs::KeptLines::no_line, crate::proofs::KeptLines::no_end))]
 fn lines_of(printed: &str) -> Option<&str>
     ensures value { IfSome result (λ t. t.now ≡ reply_lines printed.now) }

@@ -43,7 +43,7 @@ fn winner(map: &Map, names: &[String]) -> Option<Status>
     Some(Status::Won(power))
 }
 
-/// How a game stands by its first word and the names behind the second.
+/// How a game stands by its first word and the names after the second.
 #[tactic(auto, using(crate::proofs::StatusLemmas::drawn_powers))]
 fn told_by(
     alloc: Global,

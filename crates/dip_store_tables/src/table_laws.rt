@@ -4,7 +4,7 @@ ghost use Rattle.dip_store_tables.specs.Looking.{OwnIsFound, PageIsFound, PaperI
 ghost use Rattle.dip_store_tables.specs.Renewing.{OldTablesAreRenewed};
 ghost use Rattle.dip_store_tables.specs.Laws.{IsDeliveredOneByOne, NewTablesAreNew, StateIsChanged, TablesStayCoded, TablesStayCounted, TablesStayWritten};
 
-/// What the statements of a change do is the change: behind them the tables say the state after it.
+/// What the statements of a change do is the change: after them the tables say the state after it.
 pub fn state_is_changed()
     ensures { (m : Chart) → IsMap m → StateIsChanged m }
 {}
@@ -44,7 +44,7 @@ pub fn paper_is_found()
     ensures { (m : Chart) → PaperIsFound m }
 {}
 
-/// Press may be delivered to one reader behind the other.
+/// Press may be delivered to one reader after the other.
 pub fn press_is_delivered_one_by_one()
     ensures { (m : Chart) → IsDeliveredOneByOne m }
 {}

@@ -16,7 +16,7 @@ use dip_map::Map;
 use dip_names::Power;
 use std::alloc::{AllocError, Global};
 
-/// Appends the names of powers, each behind a space.
+/// Appends the names of powers, each after a space.
 fn push_names(map: &Map, powers: &[Power], out: &mut String) -> Result<(), AllocError>
     ensures { OnOk result (string_bytes out.new
         ≡ string_bytes out.old ++ flat_map (λ p. 32 ∷ power_name map.now p) powers.now) }

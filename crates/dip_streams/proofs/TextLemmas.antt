@@ -1,4 +1,4 @@
--- Texts one behind the other, and a beginning of them.
+-- Texts one after the other, and a beginning of them.
 use Rattle.std.proofs.Common.{◌≡◌, ◌+◌, ◌<◌, ℕ, List, Option, get_or, length, take, drop, sym, ap, subst, ◌∙◌, ◌++◌, ◌∷◌, [], append_assoc, append-nil}
 use Rattle.std.proofs.Math.Seq.{take-append_seam}
 use Rattle.std.proofs.lemmas.List.{take-append-drop, take_more}
@@ -7,7 +7,7 @@ use Rattle.std.specs.List.{flat_map}
 use Rattle.std.specs.Io.KnownBytes.{Appends}
 use Rattle.std.proofs.KnownBytes.{Appends-trans}
 
--- a list of texts is those before one of them, that one and those behind it
+-- a list of texts is those before one of them, that one and those after it
 pub one_of : {X : Type 0} (f : X → List ℕ) (xs : List X) (i : ℕ) (d : X) → i < length xs
     → flat_map f xs ≡ (flat_map f (take i xs) ++ f (get_or xs i d)) ++ flat_map f (drop (i + 1) xs)
 one_of f xs i d inside =
@@ -16,7 +16,7 @@ one_of f xs i d inside =
     ∙ ap (λ t. flat_map f (take i xs) ++ t) (append-nil (f (get_or xs i d))) in
     cut ∙ ap (λ t. t ++ flat_map f (drop (i + 1) xs)) front
 
--- a beginning of the second text behind the first one is a beginning of all
+-- a beginning of the second text after the first one is a beginning of all
 part_of : (p t q : List ℕ) (size : ℕ) → p ++ take size t ≡ take (length (p ++ take size t)) ((p ++ t) ++ q)
 part_of p t q size =
     let same : (p ++ take size t) ++ (drop size t ++ q) ≡ (p ++ t) ++ q =

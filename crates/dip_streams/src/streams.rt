@@ -90,7 +90,7 @@ pub fn write_text<W: Write>(writer: &mut W, text: &[u8]) -> io::Result<()>
     Ok(())
 }
 
-/// Writes texts one behind the other, or a beginning of them.
+/// Writes texts one after the other, or a beginning of them.
 ///
 /// # Errors
 /// What the writer fails with, as of `write_text`.

@@ -76,7 +76,7 @@ given_from {A} {B} h (x ∷ xs) y c = go (h x) refl c (λ among. given_from h xs
           | inr rest ↦ let (z, there, at) = more rest in (z, behind x xs z there, at)
         ]
 
--- of a list of which no two are in one province nobody behind the first is in its province
+-- of a list of which no two are in one province nobody after the first is in its province
 pub alone : (u : AUnit) (us : List AUnit) → are_units_single (u ∷ us) ≡ true → (v : AUnit) → Contains us v → v.place.prov ≢ u.place.prov
 alone u us single v among same =
     let none = not-true (list_any (λ w. w.place.prov == u.place.prov) us) (and_parts (not (list_any (λ w. w.place.prov == u.place.prov) us)) (are_units_single us) single).0 in

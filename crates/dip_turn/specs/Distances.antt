@@ -22,7 +22,7 @@ abbrev pub walks : Chart → Kind → ℕ → Place → ℕ → Bool
 walks m Army r a n = army_walks m r n a.prov
 walks m Fleet r a n = fleet_walks m r n a
 
--- of n numbers from i on the first that passes, or the one behind them
+-- of n numbers from i on the first that passes, or the one after them
 abbrev pub least_from : (ℕ → Bool) → ℕ → ℕ → ℕ
 least_from test i zero = i
 least_from test i (suc n) = if test i then i else least_from test (i + 1) n

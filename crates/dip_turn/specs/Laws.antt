@@ -53,7 +53,7 @@ may_follow FallRetreats SpringMoves = true
 may_follow Winter SpringMoves = true
 may_follow _ _ = false
 
--- the year of a phase in that season behind a phase of that year: Spring is the next year's
+-- the year of a phase in that season after a phase of that year: Spring is the next year's
 abbrev pub year_behind : Season → ℕ → ℕ
 year_behind SpringMoves year = year + 1
 year_behind SpringRetreats year = year
@@ -61,7 +61,7 @@ year_behind FallMoves year = year
 year_behind FallRetreats year = year
 year_behind Winter year = year
 
--- how many phases there are at most behind one, up to the last year's Winter
+-- how many phases there are at most after one, up to the last year's Winter
 abbrev pub phases_left : Phase → ℕ
 phases_left p = 5 * (last_year - p.year) + (4 - season_number p.season)
 

@@ -1,4 +1,4 @@
--- The paper of a phase that was adjudicated: a function of what is told of the phase and of the public part behind it.
+-- The paper of a phase that was adjudicated: a function of what is told of the phase and of the public part after it.
 use Rattle.std.specs.Prelude.{ℕ, Bool, ◌&&◌, ◌==◌, List, [], ◌++◌, codes, if◌then◌else◌, map, filter, flat_map}
 use Rattle.std.specs.Fmt.{decimal}
 use Rattle.dip_names.specs.declared.names.Unit.{Unit as AUnit}

@@ -1,4 +1,4 @@
-//! The papers of phases that were adjudicated: each is a function of the report and of the public part behind it.
+//! The papers of phases that were adjudicated: each is a function of the report and of the public part after it.
 #![tactic(auto)]
 
 mod laws;

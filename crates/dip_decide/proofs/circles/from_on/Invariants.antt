@@ -1,5 +1,5 @@
 use Rattle.std.proofs.Common.{◌≡◌, drop}
-use Rattle.dip_decide_table.specs.Rings.{from_on}
+use Rattle.dip_decide_rules.specs.Rings.{from_on}
 use Rattle.dip_decide.proofs.circles.from_on.Given as goal
 
 abbrev pub invariant-loop-index : goal.invariant-loop-index

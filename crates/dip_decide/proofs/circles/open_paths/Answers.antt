@@ -1,9 +1,9 @@
 use Rattle.std.proofs.Common.{rules, sym, ◌∙◌}
 use Rattle.std.proofs.lemmas.Fn.{filter_same}
-use Rattle.dip_decide_table.specs.declared.decisions.Decision.TheVariants.{Path}
-use Rattle.dip_decide_table.specs.Given.{known_of}
-use Rattle.dip_decide_table.specs.Steps.{is_unknown}
-use Rattle.dip_decide_table.proofs.RingLaws.{none_open}
+use Rattle.dip_decide_rules.specs.declared.decisions.Decision.TheVariants.{Path}
+use Rattle.dip_decide_rules.specs.Given.{known_of}
+use Rattle.dip_decide_rules.specs.Steps.{is_unknown}
+use Rattle.dip_decide_rules.proofs.RingLaws.{none_open}
 use Rattle.dip_decide.proofs.circles.open_paths.Goals as goal
 
 pub returns : goal.returns

@@ -1,8 +1,8 @@
 use Rattle.std.proofs.Common.{arith, length, ◌+◌, ◌≡◌, sym, ◌∙◌, ap, false, true}
 use Rattle.std.proofs.lemmas.List.{length_push}
-use Rattle.dip_decide_table.specs.Given.{situation_of, known_of}
-use Rattle.dip_decide_table.specs.Movement.{is_listed}
-use Rattle.dip_decide_table.proofs.RingLaws.{trail_on, trail_left, trail_round, trail_short}
+use Rattle.dip_decide_rules.specs.Given.{situation_of, known_of}
+use Rattle.dip_decide_rules.specs.Movement.{is_listed}
+use Rattle.dip_decide_rules.proofs.RingLaws.{trail_on, trail_left, trail_round, trail_short}
 use Rattle.dip_decide.proofs.circles.ring_from.Goals as goal
 
 pub walk-smaller : goal.walk-smaller

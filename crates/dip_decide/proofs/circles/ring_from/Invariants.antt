@@ -1,7 +1,7 @@
 use Rattle.std.proofs.Common.{◌-◌, length}
-use Rattle.dip_decide_table.specs.Given.{situation_of, known_of}
-use Rattle.dip_decide_table.specs.Rings.{IsTrail}
-use Rattle.dip_decide_table.specs.Steps.{decisions}
+use Rattle.dip_decide_rules.specs.Given.{situation_of, known_of}
+use Rattle.dip_decide_rules.specs.Rings.{IsTrail}
+use Rattle.dip_decide_rules.specs.Steps.{decisions}
 use Rattle.dip_decide.proofs.circles.ring_from.Given as goal
 
 abbrev pub invariant-walk : goal.invariant-walk

@@ -1,5 +1,5 @@
-use Rattle.dip_decide_table.specs.Given.{situation_of, known_of}
-use Rattle.dip_decide_table.proofs.RingLaws.{leaving_more}
+use Rattle.dip_decide_rules.specs.Given.{situation_of, known_of}
+use Rattle.dip_decide_rules.proofs.RingLaws.{leaving_more}
 use Rattle.dip_decide.proofs.circles.ring_in.Goals as goal
 
 pub loop-place-preserved : goal.loop-place-preserved

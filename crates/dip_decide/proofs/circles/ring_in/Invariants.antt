@@ -1,8 +1,8 @@
 use Rattle.std.proofs.Common.{◌≡◌, ℕ, take, true, None}
-use Rattle.dip_decide_table.specs.declared.decisions.Decision.TheVariants.{Move}
-use Rattle.dip_decide_table.specs.Given.{situation_of, known_of}
-use Rattle.dip_decide_table.specs.Movement.{is_listed}
-use Rattle.dip_decide_table.specs.Rings.{leaves}
+use Rattle.dip_decide_rules.specs.declared.decisions.Decision.TheVariants.{Move}
+use Rattle.dip_decide_rules.specs.Given.{situation_of, known_of}
+use Rattle.dip_decide_rules.specs.Movement.{is_listed}
+use Rattle.dip_decide_rules.specs.Rings.{leaves}
 use Rattle.dip_decide.proofs.circles.ring_in.Given as goal
 
 abbrev pub invariant-loop-place : goal.invariant-loop-place

@@ -1,5 +1,5 @@
 use Rattle.std.proofs.Common.{suc, length}
-use Rattle.dip_decide_table.proofs.Chaining.{found_chain, chain_found}
+use Rattle.dip_decide_rules.proofs.Chaining.{found_chain, chain_found}
 use Rattle.dip_decide.proofs.laws.chains_are_found.Goals as goal
 
 pub returns : goal.returns

@@ -1,7 +1,7 @@
-use Rattle.dip_decide_table.specs.Corners.{rises}
-use Rattle.dip_decide_table.specs.Movement.{rule, mentions}
-use Rattle.dip_decide_table.proofs.CornerLaws.{forced_by_corners, corners_when_forced}
-use Rattle.dip_decide_table.proofs.Rises.{rule_rises}
+use Rattle.dip_decide_rules.specs.Corners.{rises}
+use Rattle.dip_decide_rules.specs.Movement.{rule, mentions}
+use Rattle.dip_decide_rules.proofs.CornerLaws.{forced_by_corners, corners_when_forced}
+use Rattle.dip_decide_rules.proofs.Rises.{rule_rises}
 use Rattle.dip_decide.proofs.laws.corners_decide.Goals as goal
 
 pub returns : goal.returns

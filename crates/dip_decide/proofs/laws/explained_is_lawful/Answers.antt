@@ -1,5 +1,5 @@
 use Rattle.dip_decide.proofs.Cycles.{cycle_moves}
-use Rattle.dip_decide_table.proofs.FromSteps.{satisfied}
+use Rattle.dip_decide_rules.proofs.FromSteps.{satisfied}
 use Rattle.dip_decide.proofs.Stands.{unbroken}
 use Rattle.dip_decide.proofs.laws.explained_is_lawful.Goals as goal
 

@@ -1,4 +1,4 @@
-use Rattle.dip_decide_table.proofs.Rounds.{knotted}
+use Rattle.dip_decide_rules.proofs.Rounds.{knotted}
 use Rattle.dip_decide.proofs.Stands.{some_knotted}
 use Rattle.dip_decide.proofs.laws.knots_are_found.Goals as goal
 

@@ -1,5 +1,5 @@
-use Rattle.dip_decide_table.specs.Movement.{rule, mentions, at_first}
-use Rattle.dip_decide_table.proofs.OneAnswer.{one_answer}
+use Rattle.dip_decide_rules.specs.Movement.{rule, mentions, at_first}
+use Rattle.dip_decide_rules.proofs.OneAnswer.{one_answer}
 use Rattle.dip_decide.proofs.laws.one_answer.Goals as goal
 
 pub returns-clause-values : goal.returns-clause-values

@@ -1,7 +1,7 @@
 use Rattle.std.proofs.Common.{ap}
 use Rattle.std.specs.Prelude.{Bool}
-use Rattle.dip_decide_table.specs.Meaning.{meant}
-use Rattle.dip_decide_table.proofs.Meanings.{meant_are_orders}
+use Rattle.dip_decide_rules.specs.Meaning.{meant}
+use Rattle.dip_decide_rules.proofs.Meanings.{meant_are_orders}
 use Rattle.dip_decide.proofs.laws.orders_are_meant.Goals as goal
 
 pub returns-clause-orders : goal.returns-clause-orders

@@ -1,6 +1,6 @@
 use Rattle.std.proofs.Common.{◌∙◌}
-use Rattle.dip_decide_table.proofs.Columns.{all_marked}
-use Rattle.dip_decide_table.proofs.Rounds.{if_ok_more}
+use Rattle.dip_decide_rules.proofs.Columns.{all_marked}
+use Rattle.dip_decide_rules.proofs.Rounds.{if_ok_more}
 use Rattle.dip_decide.proofs.resolving.broken_in.Goals as goal
 
 pub returns : goal.returns

@@ -1,5 +1,5 @@
 use Rattle.std.proofs.Common.{◌≡◌, drop, length, replicate, Some, false}
-use Rattle.dip_decide_table.specs.Marks.{with_steps}
+use Rattle.dip_decide_rules.specs.Marks.{with_steps}
 use Rattle.dip_decide.proofs.resolving.broken_in.Given as goal
 
 abbrev pub invariant-loop-step : goal.invariant-loop-step

@@ -1,5 +1,5 @@
 use Rattle.std.proofs.Common.{◌≡◌, drop}
-use Rattle.dip_decide_table.specs.Marks.{with_all}
+use Rattle.dip_decide_rules.specs.Marks.{with_all}
 use Rattle.dip_decide.proofs.resolving.mark_all.Given as goal
 
 abbrev pub invariant-loop-p : goal.invariant-loop-p

@@ -1,10 +1,10 @@
 use Rattle.std.proofs.Common.{sym, ◌∙◌, ap, ◌≡◌, ◌≤◌, ◌<◌, ◌+◌, ◌^◌, subst}
-use Rattle.dip_decide_table.specs.Given.{known_of, situation_of}
-use Rattle.dip_decide_table.specs.Meaning.{situation_on}
-use Rattle.dip_decide_table.specs.Movement.{Situation, IsSituation}
-use Rattle.dip_decide_table.specs.Results.{decided_in, mentions_in}
+use Rattle.dip_decide_rules.specs.Given.{known_of, situation_of}
+use Rattle.dip_decide_rules.specs.Meaning.{situation_on}
+use Rattle.dip_decide_rules.specs.Movement.{Situation, IsSituation}
+use Rattle.dip_decide_rules.specs.Results.{decided_in, mentions_in}
 use Rattle.dip_decide.proofs.ResultLaws.{situated_on, within, bounded_board, resolved_board}
-use Rattle.dip_decide_table.proofs.Rounds.{if_ok_more}
+use Rattle.dip_decide_rules.proofs.Rounds.{if_ok_more}
 use Rattle.dip_decide.proofs.resolving.resolve.Goals as goal
 
 pub table_on-requires : goal.table_on-requires

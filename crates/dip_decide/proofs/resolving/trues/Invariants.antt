@@ -1,6 +1,6 @@
 use Rattle.std.proofs.Common.{◌≡◌, ◌≤◌, ◌+◌, ◌++◌, ℕ, filter, length, take, Some, false}
 use Rattle.std.specs.List.{slice_index_or}
-use Rattle.dip_decide_table.specs.Results.{is_true, trues}
+use Rattle.dip_decide_rules.specs.Results.{is_true, trues}
 use Rattle.dip_decide.proofs.resolving.trues.Given as goal
 
 abbrev pub invariant-loop-prov : goal.invariant-loop-prov

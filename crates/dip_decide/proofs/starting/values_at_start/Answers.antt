@@ -1,7 +1,7 @@
 use Rattle.std.proofs.Common.{arith, length, refl}
-use Rattle.dip_decide_table.specs.declared.decisions.Decision.TheVariants.{Move, Path, Support}
-use Rattle.dip_decide_table.specs.Given.{situation_of}
-use Rattle.dip_decide_table.specs.Movement.{is_decided}
+use Rattle.dip_decide_rules.specs.declared.decisions.Decision.TheVariants.{Move, Path, Support}
+use Rattle.dip_decide_rules.specs.Given.{situation_of}
+use Rattle.dip_decide_rules.specs.Movement.{is_decided}
 use Rattle.dip_decide.proofs.Opened.{has_target, helps, no_help, none_opened, opens, row_more, sails}
 use Rattle.dip_decide.proofs.starting.values_at_start.Goals as goal
 

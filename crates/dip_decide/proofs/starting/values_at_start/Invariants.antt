@@ -1,7 +1,7 @@
 use Rattle.std.proofs.Common.{length, take}
-use Rattle.dip_decide_table.specs.declared.decisions.Decision.TheVariants.{Move, Path, Support}
-use Rattle.dip_decide_table.specs.Given.{situation_of, IsOpened}
-use Rattle.dip_decide_table.specs.Movement.{is_decided}
+use Rattle.dip_decide_rules.specs.declared.decisions.Decision.TheVariants.{Move, Path, Support}
+use Rattle.dip_decide_rules.specs.Given.{situation_of, IsOpened}
+use Rattle.dip_decide_rules.specs.Movement.{is_decided}
 use Rattle.dip_decide.proofs.starting.values_at_start.Given as goal
 
 abbrev pub invariant-loop-p : goal.invariant-loop-p

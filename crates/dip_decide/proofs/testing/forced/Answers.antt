@@ -1,9 +1,9 @@
 use Rattle.std.proofs.Common.{List, sym, subst}
 use Rattle.dip_orders.specs.declared.placed.PlacedOrder.{PlacedOrder}
-use Rattle.dip_decide_table.specs.Given.{known_of, IsAnswer}
-use Rattle.dip_decide_table.specs.Meaning.{situation_on}
-use Rattle.dip_decide_table.specs.Movement.{IsSituation, rule}
-use Rattle.dip_decide_table.proofs.Rounds.{if_ok_more}
+use Rattle.dip_decide_rules.specs.Given.{known_of, IsAnswer}
+use Rattle.dip_decide_rules.specs.Meaning.{situation_on}
+use Rattle.dip_decide_rules.specs.Movement.{IsSituation, rule}
+use Rattle.dip_decide_rules.proofs.Rounds.{if_ok_more}
 use Rattle.dip_decide.proofs.ResultLaws.{situated_on, within}
 use Rattle.dip_decide.proofs.testing.forced.Goals as goal
 

@@ -1,9 +1,9 @@
 use Rattle.std.proofs.Common.{◌≡◌, ◌∙◌, ap}
-use Rattle.dip_decide_table.specs.Given.{situation_of}
-use Rattle.dip_decide_table.specs.Meaning.{situation_on}
-use Rattle.dip_decide_table.specs.Movement.{at_first}
+use Rattle.dip_decide_rules.specs.Given.{situation_of}
+use Rattle.dip_decide_rules.specs.Meaning.{situation_on}
+use Rattle.dip_decide_rules.specs.Movement.{at_first}
 use Rattle.dip_decide.proofs.ResultLaws.{within}
-use Rattle.dip_decide_table.proofs.Rounds.{if_ok_more}
+use Rattle.dip_decide_rules.proofs.Rounds.{if_ok_more}
 use Rattle.dip_decide.proofs.testing.known_at_first.Goals as goal
 
 pub table_on-requires : goal.table_on-requires

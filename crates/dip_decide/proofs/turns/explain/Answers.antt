@@ -1,9 +1,9 @@
 use Rattle.std.proofs.Common.{arith}
-use Rattle.dip_decide_table.specs.Given.{situation_of, known_of}
-use Rattle.dip_decide_table.specs.Movement.{at_first, rule, mentions}
-use Rattle.dip_decide_table.specs.Steps.{steps_of}
-use Rattle.dip_decide_table.proofs.Continuing.{nothing_yet, started}
-use Rattle.dip_decide_table.proofs.Rounds.{turn_smaller, turn_reached}
+use Rattle.dip_decide_rules.specs.Given.{situation_of, known_of}
+use Rattle.dip_decide_rules.specs.Movement.{at_first, rule, mentions}
+use Rattle.dip_decide_rules.specs.Steps.{steps_of}
+use Rattle.dip_decide_rules.proofs.Continuing.{nothing_yet, started}
+use Rattle.dip_decide_rules.proofs.Rounds.{turn_smaller, turn_reached}
 use Rattle.dip_decide.proofs.Tested.{work_first, counts_first, few_tests}
 use Rattle.dip_decide.proofs.turns.explain.Goals as goal
 

@@ -1,9 +1,9 @@
 use Rattle.std.proofs.Common.{◌+◌, ◌≤◌, cond}
-use Rattle.dip_decide_table.specs.Given.{situation_of, known_of}
-use Rattle.dip_decide_table.specs.Results.{forced_in}
-use Rattle.dip_decide_table.specs.Steps.{steps_of, decisions, IsReached}
+use Rattle.dip_decide_rules.specs.Given.{situation_of, known_of}
+use Rattle.dip_decide_rules.specs.Results.{forced_in}
+use Rattle.dip_decide_rules.specs.Steps.{steps_of, decisions, IsReached}
 use Rattle.dip_decide.specs.Working.{IsWork}
-use Rattle.dip_decide_table.proofs.Counting.{open_among}
+use Rattle.dip_decide_rules.proofs.Counting.{open_among}
 use Rattle.dip_decide.proofs.turns.explain.Given as goal
 
 abbrev pub invariant-turns : goal.invariant-turns

@@ -1,10 +1,10 @@
 use Rattle.std.proofs.Common.{refl}
 use Rattle.std.proofs.lemmas.List.{map_push}
-use Rattle.dip_decide_table.specs.Given.{situation_of, known_of}
-use Rattle.dip_decide_table.specs.Movement.{rule}
-use Rattle.dip_decide_table.specs.Steps.{steps_of, moves_of}
+use Rattle.dip_decide_rules.specs.Given.{situation_of, known_of}
+use Rattle.dip_decide_rules.specs.Movement.{rule}
+use Rattle.dip_decide_rules.specs.Steps.{steps_of, moves_of}
 use Rattle.dip_decide.proofs.Tested.{circle_started, circle_works, none_more}
-use Rattle.dip_decide_table.proofs.Rounds.{circle_taken, circle_single, circle_open}
+use Rattle.dip_decide_rules.proofs.Rounds.{circle_taken, circle_single, circle_open}
 use Rattle.dip_decide.proofs.turns.take_circle.Goals as goal
 
 pub give_moves-requires-clause-distinct : goal.give_moves-requires-clause-distinct

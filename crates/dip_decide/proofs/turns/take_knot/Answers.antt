@@ -1,10 +1,10 @@
 use Rattle.std.proofs.Common.{refl}
 use Rattle.std.proofs.lemmas.List.{map_push}
-use Rattle.dip_decide_table.specs.Given.{situation_of, known_of}
-use Rattle.dip_decide_table.specs.Movement.{rule, mentions}
-use Rattle.dip_decide_table.specs.Steps.{steps_of, paths_of}
+use Rattle.dip_decide_rules.specs.Given.{situation_of, known_of}
+use Rattle.dip_decide_rules.specs.Movement.{rule, mentions}
+use Rattle.dip_decide_rules.specs.Steps.{steps_of, paths_of}
 use Rattle.dip_decide.proofs.Tested.{knot_started, knot_works, none_more}
-use Rattle.dip_decide_table.proofs.Rounds.{knot_taken, knot_single, knot_opened}
+use Rattle.dip_decide_rules.proofs.Rounds.{knot_taken, knot_single, knot_opened}
 use Rattle.dip_decide.proofs.turns.take_knot.Goals as goal
 
 pub break_paths-requires-clause-distinct : goal.break_paths-requires-clause-distinct

@@ -1,6 +1,6 @@
-use Rattle.dip_decide_table.specs.Given.{situation_of, known_of}
-use Rattle.dip_decide_table.specs.Steps.{steps_of}
-use Rattle.dip_decide_table.proofs.Rounds.{if_ok_more, on_ok_more}
+use Rattle.dip_decide_rules.specs.Given.{situation_of, known_of}
+use Rattle.dip_decide_rules.specs.Steps.{steps_of}
+use Rattle.dip_decide_rules.proofs.Rounds.{if_ok_more, on_ok_more}
 use Rattle.dip_decide.proofs.Tested.{started_on, none_left, turn_after, counts_same}
 use Rattle.dip_decide.proofs.turns.turn.Goals as goal
 

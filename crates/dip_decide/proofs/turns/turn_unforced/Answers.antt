@@ -1,8 +1,8 @@
 use Rattle.std.proofs.Common.{refl, sym, ◌∙◌, length, ◌≡◌}
 use Rattle.std.proofs.lemmas.Bool.{eqb-true}
-use Rattle.dip_decide_table.specs.Given.{situation_of, known_of}
-use Rattle.dip_decide_table.specs.Steps.{steps_of}
-use Rattle.dip_decide_table.proofs.Rounds.{ring_circle, no_circle, open_knot, all_known, last_turn, not_empty, is_nothing, some_open, some_there, NoCircle}
+use Rattle.dip_decide_rules.specs.Given.{situation_of, known_of}
+use Rattle.dip_decide_rules.specs.Steps.{steps_of}
+use Rattle.dip_decide_rules.proofs.Rounds.{ring_circle, no_circle, open_knot, all_known, last_turn, not_empty, is_nothing, some_open, some_there, NoCircle}
 use Rattle.dip_decide.proofs.turns.turn_unforced.Goals as goal
 
 pub take_circle-requires-clause-circle : goal.take_circle-requires-clause-circle

@@ -1,6 +1,6 @@
-use Rattle.dip_decide_table.specs.Given.{situation_of, known_of}
-use Rattle.dip_decide_table.specs.Matching.{target_of}
-use Rattle.dip_decide_table.specs.Placed.{backed_of, entry}
+use Rattle.dip_decide_rules.specs.Given.{situation_of, known_of}
+use Rattle.dip_decide_rules.specs.Matching.{target_of}
+use Rattle.dip_decide_rules.specs.Placed.{backed_of, entry}
 use Rattle.dip_decide.specs.Waking.{moves_into, at_target, past_path, past_support}
 use Rattle.dip_decide.proofs.Taken.{taken_on, taken_put}
 use Rattle.dip_decide.proofs.Woken.{all_woken}

@@ -1,7 +1,7 @@
 use Rattle.std.proofs.Common.{[], ◌∷◌}
-use Rattle.dip_decide_table.specs.declared.decisions.Decision.TheVariants.{Support}
-use Rattle.dip_decide_table.specs.Given.{situation_of, known_of}
-use Rattle.dip_decide_table.specs.Placed.{entry, carried_of}
+use Rattle.dip_decide_rules.specs.declared.decisions.Decision.TheVariants.{Support}
+use Rattle.dip_decide_rules.specs.Given.{situation_of, known_of}
+use Rattle.dip_decide_rules.specs.Placed.{entry, carried_of}
 use Rattle.dip_decide.specs.Waking.{path_of}
 use Rattle.dip_decide.proofs.Taken.{taken_on}
 use Rattle.dip_decide.proofs.waking.put_at.Goals as goal

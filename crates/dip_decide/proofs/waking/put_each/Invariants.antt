@@ -1,6 +1,6 @@
 use Rattle.std.proofs.Common.{take}
-use Rattle.dip_decide_table.specs.Given.{situation_of, known_of}
-use Rattle.dip_decide_table.specs.Steps.{moves_of}
+use Rattle.dip_decide_rules.specs.Given.{situation_of, known_of}
+use Rattle.dip_decide_rules.specs.Steps.{moves_of}
 use Rattle.dip_decide.specs.Working.{IsTaken}
 use Rattle.dip_decide.proofs.waking.put_each.Given as goal
 

@@ -1,8 +1,8 @@
 use Rattle.std.proofs.Common.{◌≡◌, sym, ◌∙◌, false, None}
 use Rattle.std.proofs.lemmas.Bool.{both_ways}
-use Rattle.dip_decide_table.specs.Deciding.{is_among}
-use Rattle.dip_decide_table.specs.Given.{situation_of, known_of}
-use Rattle.dip_decide_table.specs.Movement.{mentions}
+use Rattle.dip_decide_rules.specs.Deciding.{is_among}
+use Rattle.dip_decide_rules.specs.Given.{situation_of, known_of}
+use Rattle.dip_decide_rules.specs.Movement.{mentions}
 use Rattle.dip_decide.proofs.Taken.{one_taken, one_passed}
 use Rattle.dip_decide.proofs.Tested.{is_open, not_none}
 use Rattle.dip_decide.proofs.waking.put_one.Goals as goal

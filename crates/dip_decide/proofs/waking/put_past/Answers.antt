@@ -1,6 +1,6 @@
 use Rattle.std.proofs.Common.{[], ◌∷◌}
-use Rattle.dip_decide_table.specs.declared.decisions.Decision.TheVariants.{Support}
-use Rattle.dip_decide_table.specs.Given.{situation_of, known_of}
+use Rattle.dip_decide_rules.specs.declared.decisions.Decision.TheVariants.{Support}
+use Rattle.dip_decide_rules.specs.Given.{situation_of, known_of}
 use Rattle.dip_decide.specs.Waking.{moves_into}
 use Rattle.dip_decide.proofs.Taken.{taken_on}
 use Rattle.dip_decide.proofs.waking.put_past.Goals as goal

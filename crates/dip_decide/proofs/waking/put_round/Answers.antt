@@ -1,6 +1,6 @@
-use Rattle.dip_decide_table.specs.Given.{situation_of, known_of}
-use Rattle.dip_decide_table.specs.Matching.{target_of}
-use Rattle.dip_decide_table.specs.Placed.{entry}
+use Rattle.dip_decide_rules.specs.Given.{situation_of, known_of}
+use Rattle.dip_decide_rules.specs.Matching.{target_of}
+use Rattle.dip_decide_rules.specs.Placed.{entry}
 use Rattle.dip_decide.specs.Waking.{moves_into, moves_to}
 use Rattle.dip_decide.proofs.Taken.{taken_on}
 use Rattle.dip_decide.proofs.waking.put_round.Goals as goal

@@ -1,5 +1,5 @@
-use Rattle.dip_decide_table.specs.declared.decisions.Decision.TheVariants.{Move}
-use Rattle.dip_decide_table.specs.Given.{known_of}
+use Rattle.dip_decide_rules.specs.declared.decisions.Decision.TheVariants.{Move}
+use Rattle.dip_decide_rules.specs.Given.{known_of}
 use Rattle.dip_decide.proofs.Tested.{kind_all, kind_step, none_listed}
 use Rattle.dip_decide.proofs.working.list_moves.Goals as goal
 

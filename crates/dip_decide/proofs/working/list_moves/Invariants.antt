@@ -1,6 +1,6 @@
 use Rattle.std.proofs.Common.{take}
-use Rattle.dip_decide_table.specs.Given.{known_of}
-use Rattle.dip_decide_table.specs.Steps.{moves_of}
+use Rattle.dip_decide_rules.specs.Given.{known_of}
+use Rattle.dip_decide_rules.specs.Steps.{moves_of}
 use Rattle.dip_decide.specs.Working.{HasOpen}
 use Rattle.dip_decide.proofs.working.list_moves.Given as goal
 

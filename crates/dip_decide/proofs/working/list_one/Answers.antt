@@ -1,5 +1,5 @@
 use Rattle.std.proofs.Common.{sym, ◌∙◌}
-use Rattle.dip_decide_table.specs.Given.{known_of}
+use Rattle.dip_decide_rules.specs.Given.{known_of}
 use Rattle.dip_decide.proofs.Tested.{is_open, open_listed, was_open}
 use Rattle.dip_decide.proofs.working.list_one.Goals as goal
 

@@ -1,4 +1,4 @@
-use Rattle.dip_decide_table.specs.Given.{situation_of, known_of}
+use Rattle.dip_decide_rules.specs.Given.{situation_of, known_of}
 use Rattle.dip_decide.proofs.Tested.{moves_step}
 use Rattle.dip_decide.proofs.working.put_moves.Goals as goal
 

@@ -1,6 +1,6 @@
 use Rattle.std.proofs.Common.{take}
-use Rattle.dip_decide_table.specs.Given.{situation_of, known_of}
-use Rattle.dip_decide_table.specs.Steps.{paths_of}
+use Rattle.dip_decide_rules.specs.Given.{situation_of, known_of}
+use Rattle.dip_decide_rules.specs.Steps.{paths_of}
 use Rattle.dip_decide.specs.Working.{IsListed}
 use Rattle.dip_decide.proofs.working.put_paths.Given as goal
 

@@ -1,4 +1,4 @@
-use Rattle.dip_decide_table.specs.Given.{known_of}
+use Rattle.dip_decide_rules.specs.Given.{known_of}
 use Rattle.dip_decide.proofs.Tested.{kinds_listed}
 use Rattle.dip_decide.proofs.working.work_at_start.Goals as goal
 

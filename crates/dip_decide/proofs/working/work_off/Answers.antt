@@ -1,5 +1,5 @@
-use Rattle.dip_decide_table.specs.Given.{situation_of}
-use Rattle.dip_decide_table.specs.Steps.{steps_of}
+use Rattle.dip_decide_rules.specs.Given.{situation_of}
+use Rattle.dip_decide_rules.specs.Steps.{steps_of}
 use Rattle.dip_decide.proofs.Tested.{worked_on, counts_on}
 use Rattle.dip_decide.proofs.working.work_off.Goals as goal
 

@@ -1,7 +1,7 @@
 use Rattle.std.proofs.Common.{◌+◌, length}
-use Rattle.dip_decide_table.specs.Given.{situation_of, known_of}
-use Rattle.dip_decide_table.specs.Steps.{steps_of, decisions}
-use Rattle.dip_decide_table.specs.Results.{mentioners}
+use Rattle.dip_decide_rules.specs.Given.{situation_of, known_of}
+use Rattle.dip_decide_rules.specs.Steps.{steps_of, decisions}
+use Rattle.dip_decide_rules.specs.Results.{mentioners}
 use Rattle.dip_decide.specs.Working.{weight, Counts, IsWorked}
 use Rattle.dip_decide.proofs.working.work_off.Given as goal
 

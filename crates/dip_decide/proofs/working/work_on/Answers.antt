@@ -1,11 +1,11 @@
 use Rattle.std.proofs.Common.{sym, ◌∙◌, [], ◌∷◌}
 use Rattle.std.proofs.lemmas.List.{map_push}
-use Rattle.dip_decide_table.specs.Given.{situation_of, known_of}
-use Rattle.dip_decide_table.specs.Steps.{steps_of, IsStarted}
-use Rattle.dip_decide_table.specs.Deciding.{give, IsForced}
-use Rattle.dip_decide_table.specs.Movement.{rule}
-use Rattle.dip_decide_table.proofs.OneAnswer.{open_one}
-use Rattle.dip_decide_table.proofs.Continuing.{give_grows}
+use Rattle.dip_decide_rules.specs.Given.{situation_of, known_of}
+use Rattle.dip_decide_rules.specs.Steps.{steps_of, IsStarted}
+use Rattle.dip_decide_rules.specs.Deciding.{give, IsForced}
+use Rattle.dip_decide_rules.specs.Movement.{rule}
+use Rattle.dip_decide_rules.proofs.OneAnswer.{open_one}
+use Rattle.dip_decide_rules.proofs.Continuing.{give_grows}
 use Rattle.dip_decide.proofs.Tested.{worked_known, worked_unforced, worked_forced, less_forced, started_on}
 use Rattle.dip_decide.proofs.working.work_on.Goals as goal
 

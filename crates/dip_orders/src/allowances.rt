@@ -6,7 +6,8 @@ ghost use Rattle.dip_orders.specs.Allowances.{vacant_homes, builds_due, removals
 use dip_map::{Board, Map};
 use dip_names::{Power, Prov};
 
-fn vacant_homes(map: &Map, board: &Board, power: Power) -> usize
+/// How many home centres of a power are its own and vacant.
+pub fn vacant_homes(map: &Map, board: &Board, power: Power) -> usize
     ensures { result ≡ vacant_homes map.now board.now power }
 {
     map.home(power)

@@ -16,7 +16,7 @@ mod supports;
 mod units;
 mod withdrawals;
 
-pub use allowances::{allowance, builds_due, removals_due};
+pub use allowances::{allowance, builds_due, removals_due, vacant_homes};
 pub use builds::{is_build, is_remove};
 pub use dip_orders_lines::{TokenList, tokens};
 pub use faults::OrderFault;
@@ -27,7 +27,7 @@ pub use laws::{
     supporters_could_move,
 };
 pub use placed::{Order, Other, PlacedOrder};
-pub use printing::{print_order, print_unit};
+pub use printing::{print_order, print_place, print_unit};
 pub use reading::read_order;
-pub use retreating::retreats;
+pub use retreating::{is_open, next_places, retreats};
 pub use standing::{Orders, is_same_unit};

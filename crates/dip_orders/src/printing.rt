@@ -20,7 +20,8 @@ fn print_coast(name: &str, out: &mut String) -> Result<(), AllocError>
     out.push_str(name)
 }
 
-fn print_place(map: &Map, kind: Kind, place: Place, out: &mut String) -> Result<(), AllocError>
+/// Appends the place of a unit of this kind: its province's code, and for a fleet the coast. The only error is want of memory.
+pub fn print_place(map: &Map, kind: Kind, place: Place, out: &mut String) -> Result<(), AllocError>
     ensures text { OnOk result
         (string_bytes out.new ≡ string_bytes out.old ++ place_text map.now kind place) }
     ensures more { Extends (string_bytes out.old) (string_bytes out.new) }

@@ -19,7 +19,7 @@ fn is_origin(origin: Option<Prov>, prov: Prov) -> bool
 }
 
 /// Whether a unit whose attacker came from `origin` may retreat to that province.
-pub(crate) fn is_open(board: &Board, origin: Option<Prov>, prov: Prov) -> bool
+pub fn is_open(board: &Board, origin: Option<Prov>, prov: Prov) -> bool
     ensures { result ≡ is_open board.now origin prov }
 {
     !board.is_held(prov) && !is_origin(origin, prov) && !board.standoff().contains(&prov)
@@ -39,8 +39,14 @@ fn on_foot(alloc: Global, provinces: &[Prov]) -> Result<Vec<Place>, AllocError>
     Ok(places)
 }
 
-/// The neighbouring places for a kind of unit.
-fn next_places(alloc: Global, map: &Map, kind: Kind, place: Place) -> Result<Vec<Place>, AllocError>
+/// The neighbouring places for a kind of unit: an army's provinces, which tell no coast, and a fleet's coasts and seas. The only error is
+/// want of memory.
+pub fn next_places(
+    alloc: Global,
+    map: &Map,
+    kind: Kind,
+    place: Place,
+) -> Result<Vec<Place>, AllocError>
     ensures { IfOk result (λ v. v.items ≡ next_places map.now kind place) }
 {
     match kind {

@@ -12,6 +12,7 @@ mod retreating;
 
 pub use dip_orders::{allowance, retreats};
 pub use dip_turn_moves::{Fate, MovementLine, Outcome};
+pub use disorder::{distance_home, first_to_go};
 pub use laws::{
     boards_stay_of_their_map, centres_change_in_fall, only_retreats_have_dislodged, phases_follow,
     phases_have_one_result, phases_keep_the_intent, retreats_are_open, units_are_kept,
@@ -19,3 +20,4 @@ pub use laws::{
 };
 pub use playing::advance;
 pub use report::{Account, Adjustment, CentreLine, Course, Movement, Report, RetreatLine, Waiver};
+pub use retreating::refuge;

@@ -42,7 +42,8 @@ fn retreat_order(pending: &[PlacedOrder], dislodged: &Dislodged) -> Order
     }
 }
 
-fn refuge(order: &Order) -> Option<Place>
+/// Where an order sends a dislodged unit.
+pub fn refuge(order: &Order) -> Option<Place>
     ensures { result ≡ r.refuge order.now }
 {
     match order {

@@ -1,10 +1,21 @@
 -- What is right by what its text was compared with.
-use Rattle.std.proofs.Common.{◌≡◌, ◌&&◌, ℕ, Bool, true, false, List, Result, Ok, Err, IfOk, refl, sym, subst}
-use Rattle.dip_map.specs.Boards.{IsOf}
+use Rattle.std.proofs.Common.{◌≡◌, ◌≢◌, ◌<◌, ◌&&◌, inl, ℕ, Bool, true, false, List, Result, Ok, Err, IfOk, refl, sym, subst}
+use Rattle.dip_map.specs.Boards.{IsOf, Position}
 use Rattle.dip_map.specs.Charts.{Chart}
+use Rattle.dip_desk_state.specs.Bounds.{most_papers}
 use Rattle.dip_desk_state.specs.Records.{Public}
-use Rattle.dip_check.specs.Checks.{IsCompared, IsRightFirst, IsRightNext}
-use Rattle.dip_check.specs.Games.{IsNext, IsOpening}
+use Rattle.dip_desk_state.specs.Rows as rows
+use Rattle.dip_desk_state.specs.declared.records.Public.{Public as Row}
+use Rattle.dip_desk_machine.specs.Ticking.{public_played}
+use Rattle.dip_orders.specs.Conditions.{is_adjustment}
+use Rattle.dip_orders.specs.declared.placed.PlacedOrder.{PlacedOrder}
+use Rattle.dip_turn.specs.Reports.{IsPlayed}
+use Rattle.dip_turn.specs.declared.report.Report.{Report}
+use Rattle.dip_turn_papers.specs.Papers.{paper_text}
+use Rattle.dip_check.specs.Checks.{IsCompared, IsComparedPhase, IsJudged, IsJudgedBy, IsRightFirst, IsRightNext}
+use Rattle.dip_check.specs.Games.{IsNext, IsOpening, IsPhase, IsPhaseOf}
+use Rattle.dip_check.specs.declared.phases.Judged.{Judged}
+use Rattle.dip_check.specs.declared.phases.Judged.TheVariants.{Right as RightPhase, Wrong as WrongPhase}
 use Rattle.dip_check.specs.declared.verdict.Verdict.{Verdict}
 use Rattle.dip_check.specs.declared.verdict.Verdict.TheVariants.{Right, Wrong}
 
@@ -13,6 +24,25 @@ pub next_where_wanted : (m : Chart) (p : Public) (text wanted : List ℕ) (after
     → (text ≡ wanted → IsNext m p text after) → IsOf m after.board → IsRightNext m p text v
 next_where_wanted m p text wanted after (Right new) c next of = (subst (IsNext m p text) (sym c.1) (next c.0), subst (λ (q : Public). IsOf m q.board) (sym c.1) of)
 next_where_wanted m p text wanted after (Wrong fault) c next of = tt
+
+-- a phase's text where it is the wanted one of these orders
+pub judged_by_wanted : (m : Chart) (p : Public) (tick : ℕ) (orders : List PlacedOrder) (text wanted : List ℕ) (report : Report) (after : Row) (j : Judged) → IsComparedPhase text wanted report after j
+    → p.papers < most_papers → (text ≡ wanted → IsPhaseOf m p text report (rows.public after)) → IsOf m after.board.value
+    → (text ≢ wanted → (board : Position) (one : Report) → IsPlayed m p.board orders board one → text ≢ paper_text m one (public_played tick p board one.course))
+    → IsJudgedBy m p tick orders text j
+judged_by_wanted m p tick orders text wanted report after (RightPhase told new) c room phase of none =
+    let here : IsPhaseOf m p text told (rows.public new) =
+    subst (λ (r : Report). IsPhaseOf m p text r (rows.public new)) (sym c.1) (subst (λ (q : Row). IsPhaseOf m p text report (rows.public q)) (sym c.2) (phase c.0)) in
+    (record { room = room; kind = inl (record { report = told; brought = here }) }, here, subst (λ (q : Row). IsOf m q.board.value) (sym c.2) of)
+judged_by_wanted m p tick orders text wanted report after (WrongPhase fault) c room phase of none = none c
+
+-- what is said of these orders is said of the phase, where none others could have the text
+pub judged_weaker : (m : Chart) (p : Public) (tick : ℕ) (orders : List PlacedOrder) (text : List ℕ) (j : Judged) → IsJudgedBy m p tick orders text j
+    → (((board : Position) (one : Report) → IsPlayed m p.board orders board one → text ≢ paper_text m one (public_played tick p board one.course))
+    → (new : Public) → is_adjustment p.board.phase.season ≡ false → IsPhase m p text new → ⊥)
+    → IsJudged m p text j
+judged_weaker m p tick orders text (RightPhase told new) h none = h
+judged_weaker m p tick orders text (WrongPhase fault) h none = none h
 
 -- a text that may come first where it is the wanted one
 pub first_where_wanted : (m : Chart) (text wanted : List ℕ) (after : Public) (v : Verdict) → IsCompared text wanted after v

@@ -28,6 +28,7 @@ use Rattle.dip_turn.specs.declared.report.CentreLine.{CentreLine}
 use Rattle.dip_turn.specs.declared.report.Movement.{Movement}
 use Rattle.dip_turn.specs.declared.report.Report.{Report}
 use Rattle.dip_desk_machine.specs.Published.{AreDecided, movement_paper}
+use Rattle.dip_check.specs.Games.{IsPhaseOf}
 use Rattle.dip_check.specs.Laws.{IsDecidedFor, MovementsAreDecided}
 
 paper_of : (m : Chart) (r : Report) (t : Movement) (p : Public) → r.account ≡ OfMovement t → paper_text m r p ≡ movement_paper m r.phase t.lines.items r.centres.items p
@@ -44,8 +45,11 @@ moved_by m FallRetreats b pending left account is h = absurd (false≢true is)
 moved_by m Winter b pending left account is h = absurd (false≢true is)
 
 pub movements_are_decided : (m : Chart) → ExplainedSatisfies → MovementsAreDecided m
-movements_are_decided m equations q new text p moves = by p.report.account refl (moved_by m b.phase.season b pending p.played.left p.report.account moves p.played.account)
+movements_are_decided m equations q new text whole moves = by whole.report.account refl (moved_by m b.phase.season b pending p.played.left whole.report.account moves p.played.account)
   where
+    p : IsPhaseOf m q text whole.report new
+    p = whole.brought
+
     b : Position
     b = q.board
 
@@ -55,7 +59,7 @@ movements_are_decided m equations q new text p moves = by p.report.account refl 
     board : new.board ≡ p.board
     board = ap (λ (r : Public). r.board) p.after
 
-    by : (account : Account) → p.report.account ≡ account → LeavesMoved m b pending p.played.left account → IsDecidedFor m q p.orders text new
+    by : (account : Account) → whole.report.account ≡ account → LeavesMoved m b pending p.played.left account → IsDecidedFor m q p.orders text new
     by (OfMovement t) is h =
         let decided : AreDecided m b (standing_orders b pending) (values_in t.resolution) =
         subst (λ (os : List PlacedOrder). AreDecided m b os (values_in t.resolution)) h.orders (record {
@@ -66,13 +70,13 @@ movements_are_decided m equations q new text p moves = by p.report.account refl 
         }) in
         let lines : t.lines.items ≡ movement_lines m b (values_in t.resolution) (standing_orders b pending) =
         h.lines ∙ ap (λ (os : List PlacedOrder). movement_lines m b (values_in t.resolution) os) h.orders in
-        let centres : p.report.centres.items ≡ centre_lines m b new.board = p.played.centres ∙ ap (centre_lines m b) (sym board) in
+        let centres : whole.report.centres.items ≡ centre_lines m b new.board = p.played.centres ∙ ap (centre_lines m b) (sym board) in
         record {
           values = values_in t.resolution;
           decided = decided;
-          told = p.told ∙ paper_of m p.report t new is
-              ∙ ap (λ (phase : Phase). movement_paper m phase t.lines.items p.report.centres.items new) p.played.phase
-              ∙ ap (λ (ls : List MovementLine). movement_paper m b.phase ls p.report.centres.items new) lines
+          told = p.told ∙ paper_of m whole.report t new is
+              ∙ ap (λ (phase : Phase). movement_paper m phase t.lines.items whole.report.centres.items new) p.played.phase
+              ∙ ap (λ (ls : List MovementLine). movement_paper m b.phase ls whole.report.centres.items new) lines
               ∙ ap (λ (cs : List CentreLine). movement_paper m b.phase (movement_lines m b (values_in t.resolution) (standing_orders b pending)) cs new) centres;
           board = board ∙ ap (λ (s : Sequel). s.board) p.played.next
               ∙ ap (λ (left : Position). (follow m b.phase.season left).board)

@@ -14,6 +14,14 @@ pub all_mapped : {A B : Type 0} (f : A → B) (p : B → Bool) (xs : List A) →
 all_mapped f p [] h = tt
 all_mapped f p (x ∷ xs) h = let parts = and_parts (p (f x)) (list_all (λ y. p (f y)) xs) h in (parts.0, all_mapped f p xs parts.1)
 
+pub mapped_all : {A B : Type 0} (f : A → B) (p : B → Bool) (xs : List A) → AllByRecursion (λ y. p y ≡ true) (map f xs) → list_all (λ x. p (f x)) xs ≡ true
+mapped_all f p [] h = refl
+mapped_all f p (x ∷ xs) h = rw (h.0, mapped_all f p xs h.1) refl
+
+pub tested_all : {A : Type 0} (p : A → Bool) (xs : List A) → AllByRecursion (λ x. p x ≡ true) xs → list_all p xs ≡ true
+tested_all p [] h = refl
+tested_all p (x ∷ xs) h = rw (h.0, tested_all p xs h.1) refl
+
 pub all_tested : {A : Type 0} (p : A → Bool) (xs : List A) → list_all p xs ≡ true → AllByRecursion (λ x. p x ≡ true) xs
 all_tested p [] h = tt
 all_tested p (x ∷ xs) h = let parts = and_parts (p x) (list_all p xs) h in (parts.0, all_tested p xs parts.1)

@@ -128,16 +128,18 @@ tick_next m tick g ready timely false true is v h = go (drawn_between m (whole_o
         subst (VerdictNext m g.public) (sym p.verdict) (record {
           room = ready.room;
           kind = inl (record {
-            tick = tick;
-            ticks = record { timely = timely; due = is };
-            orders = orders_of m (whole_of g);
-            given = ready.given;
-            by_place = ready.by_place;
-            board = p.board;
             report = p.report;
-            played = p.played;
-            after = refl;
-            told = refl;
+            brought = record {
+              tick = tick;
+              ticks = record { timely = timely; due = is };
+              orders = orders_of m (whole_of g);
+              given = ready.given;
+              by_place = ready.by_place;
+              board = p.board;
+              played = p.played;
+              after = refl;
+              told = refl;
+            };
           });
         })
 

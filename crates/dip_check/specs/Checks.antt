@@ -1,16 +1,27 @@
 -- What is said of a text that is to come next in a game.
-use Rattle.std.specs.Prelude.{◌≡◌, ℕ, List, false, true}
+use Rattle.std.specs.Prelude.{◌≡◌, ◌≢◌, ℕ, List, false, true}
 use Rattle.std.specs.List.{AllByRecursion}
-use Rattle.dip_letters.specs.Letters.{FitsNotice}
+use Rattle.dip_letters.specs.Letters.{FitsNotice, FitsText}
 use Rattle.dip_letters.specs.Notes.{NoticeRequest}
+use Rattle.dip_letters.specs.Notes.NoticeRequest.{Announce}
 use Rattle.dip_map.specs.Boards.{IsOf, Position}
 use Rattle.dip_map.specs.Charts.{Chart}
 use Rattle.dip_desk_machine.specs.Drawing.{survives}
-use Rattle.dip_desk_machine.specs.Noting.{is_announcement}
+use Rattle.dip_desk_machine.specs.Ticking.{public_played}
+use Rattle.dip_desk_machine.specs.Noting.{is_announcement, public_noted}
+use Rattle.dip_reports.specs.Texts.{notice_paper}
 use Rattle.dip_desk_state.specs.Records.{For, Public}
+use Rattle.dip_desk_state.specs.declared.records.Public.{Public as Row}
+use Rattle.dip_orders.specs.Conditions.{is_adjustment}
+use Rattle.dip_orders.specs.declared.placed.PlacedOrder.{PlacedOrder}
+use Rattle.dip_turn.specs.Reports.{IsPlayed}
+use Rattle.dip_turn.specs.declared.report.Report.{Report}
+use Rattle.dip_turn_papers.specs.Papers.{paper_text}
 use Rattle.dip_desk_state.specs.Rows as rows
 use Rattle.dip_desk_state.specs.Writable.{IsVoteOf}
-use Rattle.dip_check.specs.Games.{AreNext, AreOfGame, IsNext, IsOpening}
+use Rattle.dip_check.specs.Games.{AreNext, AreOfGame, IsNext, IsOpening, IsPhase, IsPhaseOf}
+use Rattle.dip_check.specs.declared.phases.Judged.{Judged}
+use Rattle.dip_check.specs.declared.phases.Judged.TheVariants.{Right as RightPhase, Wrong as WrongPhase}
 use Rattle.dip_check.specs.declared.verdict.Papers.{Papers}
 use Rattle.dip_check.specs.declared.verdict.Papers.TheVariants.{None as NoPapers, Right as RightPapers, Wrong as WrongPaper}
 use Rattle.dip_check.specs.declared.verdict.Verdict.{Verdict}
@@ -21,20 +32,62 @@ abbrev pub IsRightNext : Chart → Public → List ℕ → Verdict → Type 0
 IsRightNext m p text (Right new) = IsNext m p text (rows.public new) × IsOf m new.board.value
 IsRightNext m p text (Wrong fault) = Unit {0}
 
+-- a phase's text is right only where the phase brings this report, and leaves the game so, with a board of the map; and where it is wrong,
+-- no paper of the phase has that text
+abbrev pub IsJudged : Chart → Public → List ℕ → Judged → Type 0
+IsJudged m p text (RightPhase report new) = IsNext m p text (rows.public new) × IsPhaseOf m p text report (rows.public new) × IsOf m new.board.value
+IsJudged m p text (WrongPhase fault) = (new : Public) → is_adjustment p.board.phase.season ≡ false → IsPhase m p text new → ⊥
+
+-- the same of these orders, played at this tick
+abbrev pub IsJudgedBy : Chart → Public → ℕ → List PlacedOrder → List ℕ → Judged → Type 0
+IsJudgedBy m p tick orders text (RightPhase report new) = IsNext m p text (rows.public new) × IsPhaseOf m p text report (rows.public new) × IsOf m new.board.value
+IsJudgedBy m p tick orders text (WrongPhase fault) =
+    (board : Position) (report : Report) → IsPlayed m p.board orders board report → text ≢ paper_text m report (public_played tick p board report.course)
+
+-- what is said of a phase's text: right only where it may come next, and wrong only where no paper of the phase has it
+abbrev pub IsSaidOfPhase : Chart → Public → List ℕ → Verdict → Type 0
+IsSaidOfPhase m p text (Right new) = Unit {0}
+IsSaidOfPhase m p text (Wrong fault) = (new : Public) → is_adjustment p.board.phase.season ≡ false → IsPhase m p text new → ⊥
+
+-- a phase's text is right where it is the wanted one, of this report and this public part, and wrong where it isn't
+abbrev pub IsComparedPhase : (text wanted : List ℕ) → Report → Row → Judged → Type 0
+IsComparedPhase text wanted report after (RightPhase told new) = (text ≡ wanted) × (told ≡ report) × (new ≡ after)
+IsComparedPhase text wanted report after (WrongPhase fault) = text ≢ wanted
+
 -- a text is right only where it may come first, and the game stands so, with a board of the map
 abbrev pub IsRightFirst : Chart → List ℕ → Verdict → Type 0
 IsRightFirst m text (Right new) = IsOpening m text (rows.public new) × IsOf m new.board.value
 IsRightFirst m text (Wrong fault) = Unit {0}
 
--- a text is right only where it is the wanted one, and leaves the game so
+-- a text is right where it is the wanted one, and leaves the game so; else it is wrong
 abbrev pub IsCompared : (text wanted : List ℕ) → Public → Verdict → Type 0
 IsCompared text wanted after (Right new) = (text ≡ wanted) × (rows.public new ≡ after)
-IsCompared text wanted after (Wrong fault) = Unit {0}
+IsCompared text wanted after (Wrong fault) = text ≢ wanted
+
+-- a text is right only where it may come next, and leaves the game so, with a board of the map; it is wrong only where there is no
+-- paper of these with that text
+abbrev pub IsJudgedNext : Chart → Public → List ℕ → (Public → Type 0) → Verdict → Type 0
+IsJudgedNext m p text IsPaper (Right new) = IsNext m p text (rows.public new) × IsOf m new.board.value
+IsJudgedNext m p text IsPaper (Wrong fault) = (new : Public) → IsPaper new → ⊥
+
+-- a text is right only where it may come first, and the game stands so, with a board of the map; it is wrong only where it is no opening
+abbrev pub IsJudgedFirst : Chart → List ℕ → Verdict → Type 0
+IsJudgedFirst m text (Right new) = IsOpening m text (rows.public new) × IsOf m new.board.value
+IsJudgedFirst m text (Wrong fault) = (new : Public) → IsOpening m text new → ⊥
 
 -- powers may share a game with this board: they can be named by a vote, and all survive
 pub record MayShare (m : Chart) (b : Position) (powers : List ℕ) : Type 0 where
   pub named : IsVoteOf m (For powers)
   pub survive : AllByRecursion (λ r. survives m b r ≡ true) powers
+
+-- a text is the paper of this notice, which leaves the game so
+pub record IsNoted (m : Chart) (p : Public) (notice : NoticeRequest) (text : List ℕ) (new : Public) : Type 0 where
+  pub after : new ≡ public_noted notice p
+  pub told : text ≡ notice_paper m notice new
+
+-- a text is the paper of an announcement of these lines that a letter may ask for
+abbrev pub IsAnnounced : Chart → Public → List (List ℕ) → List ℕ → Public → Type 0
+IsAnnounced m p lines text new = FitsText lines × IsNoted m p (Announce lines) text new
 
 -- a notice that a letter may ask for, and no announcement
 pub record IsCommand (notice : NoticeRequest) : Type 0 where

@@ -40,18 +40,23 @@ pub record IsOpening (m : Chart) (text : List ℕ) (new : Public) : Type 0 where
   pub after : new ≡ opening_public m game due period grey intent
   pub told : text ≡ opening_paper m new
 
--- the paper of a phase: the board is played by some orders that can be given beside one another, at a tick from the due one on
-pub record IsPhase (m : Chart) (p : Public) (text : List ℕ) (new : Public) : Type 0 where
+-- the paper of a phase that brought this report: the board is played by some orders that can be given beside one another, at a tick from
+-- the due one on
+pub record IsPhaseOf (m : Chart) (p : Public) (text : List ℕ) (report : Report) (new : Public) : Type 0 where
   pub tick : ℕ
   pub ticks : IsTick p tick
   pub orders : List PlacedOrder
   pub given : AreGiven m p.board orders
   pub by_place : are_by_place orders ≡ true
   pub board : Position
-  pub report : Report
   pub played : IsPlayed m p.board orders board report
   pub after : new ≡ public_played tick p board report.course
   pub told : text ≡ paper_text m report new
+
+-- the paper of a phase, with what it brought
+pub record IsPhase (m : Chart) (p : Public) (text : List ℕ) (new : Public) : Type 0 where
+  pub report : Report
+  pub brought : IsPhaseOf m p text report new
 
 -- the paper of a notice that a letter may ask for; in a game that is over, of an announcement
 pub record IsNotice (m : Chart) (p : Public) (text : List ℕ) (new : Public) : Type 0 where

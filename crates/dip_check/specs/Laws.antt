@@ -57,7 +57,7 @@ pub record IsDecidedFor (m : Chart) (p : Public) (orders : List PlacedOrder) (te
 
 abbrev pub MovementsAreDecided : Chart → Type 0
 MovementsAreDecided m = (p new : Public) (text : List ℕ) (h : IsPhase m p text new) → is_movement p.board.phase.season ≡ true
-    → IsDecidedFor m p h.orders text new
+    → IsDecidedFor m p h.brought.orders text new
 
 -- the order that stands for each unit in a movement is read back from its text, with nothing beside it
 abbrev pub StandingIsReadBack : Type 0

@@ -1,7 +1,7 @@
 //! The paper of an announcement.
-ghost use Rattle.std.specs.Prelude.{◌≡◌, ◌++◌, ◌<◌, IfOk, OnOk, [], map as each, string_bytes, true};
+ghost use Rattle.std.specs.Prelude.{◌≡◌, ◌++◌, ◌<◌, IfOk, OnOk, [], map as each, string_bytes, true, false};
 ghost use Rattle.std.specs.List.{list_all};
-ghost use Rattle.dip_check.specs.Checks.{IsRightNext};
+ghost use Rattle.dip_check.specs.Checks.{IsAnnounced, IsJudgedNext};
 ghost use Rattle.dip_desk_machine.specs.Noting.{public_noted};
 ghost use Rattle.dip_desk_state.specs.Bounds.{most_papers};
 ghost use Rattle.dip_desk_state.specs.Rows as rows;
@@ -47,7 +47,8 @@ fn are_texts(lines: &[&str]) -> bool
 
 /// Whether these are the lines of an announcement that a letter may ask for.
 fn fits(lines: &[&str]) -> bool
-    ensures { result ≡ true → FitsText (each (λ l. l.now) lines.now) }
+    ensures fit { result ≡ true → FitsText (each (λ l. l.now) lines.now) }
+    ensures unfit { result ≡ false → FitsText (each (λ l. l.now) lines.now) → ⊥ }
 {
     1 <= lines.len() && lines.len() <= MOST_LINES && are_texts(lines)
 }
@@ -135,7 +136,8 @@ pub(crate) fn check_announcement(
 ) -> Result<Verdict, AllocError>
     requires of_map { IsOf map.now before.now.board.value }
     requires room { before.now.papers < most_papers }
-    ensures { IfOk result (λ v. IsRightNext map.now (rows.public before.now) text.now v) }
+    ensures { IfOk result (λ v. IsJudgedNext map.now (rows.public before.now) text.now
+        (IsAnnounced map.now (rows.public before.now) (each (λ l. l.now) lines.now) text.now) v) }
 {
     if !fits(lines) {
         let number = first_unfit(lines);

@@ -9,7 +9,7 @@ ghost use Rattle.dip_map.specs.Boards.{IsOf};
 use crate::differences::{fault_at, other_line};
 use crate::drawing::check_draw;
 use crate::notices::check_notice;
-use crate::phases::{LAST_TICK, check_phase, tick_told};
+use crate::phases::{LAST_TICK, check_phase};
 use crate::titles::{first_line, phase_title, title_of};
 use crate::verdict::{Verdict, Wanted};
 use dip_desk_machine::is_due;
@@ -30,7 +30,6 @@ fn check_on_time(
     ensures { IfOk result (λ v. IsRightNext map.now (rows.public before.now) text.now v) }
 {
     let title = first_line(text);
-    let tick = tick_told(before, text);
     if title == title_of(alloc, before, "draw")?.as_str() {
         return check_draw(alloc, map, before, LAST_TICK, text);
     }
@@ -38,7 +37,7 @@ fn check_on_time(
     if title != wanted.as_str() {
         return Ok(Verdict::Wrong(other_line(alloc, 1, title, wanted.as_str())?));
     }
-    check_phase(alloc, map, before, tick, text)
+    check_phase(alloc, map, before, text)
 }
 
 /// What is said of a text that is to come next in a game that stands so: by its title it is a notice, a draw or a phase.

@@ -2,13 +2,14 @@
 ghost use Rattle.std.specs.Prelude.{◌≡◌, IfOk, true};
 ghost use Rattle.std.specs.List.{list_all};
 ghost use Rattle.dip_desk_machine.specs.Handing.{are_by_place, comes_before};
+ghost use Rattle.dip_map.specs.Boards.{IsOf};
 ghost use Rattle.dip_orders.specs.Given.{AreGiven, IsEachGiven, orders_of_power};
 ghost use Rattle.dip_orders.specs.Laws.{IsGiven};
 
 use crate::same::is_same;
 use dip_desk_machine::orders_of_power;
 use dip_map::{Board, Map};
-use dip_orders::{PlacedOrder, print_order, read_order};
+use dip_orders::{PlacedOrder, orders_are_read_again, print_order, read_order};
 use std::alloc::{AllocError, Global};
 
 /// Whether an order comes before another one: by power, and a power's by province.
@@ -45,9 +46,14 @@ fn is_given(
     beside: &[PlacedOrder],
     order: &PlacedOrder,
 ) -> Result<bool, AllocError>
-    ensures { IfOk result (λ r. r ≡ true
+    requires of_map { IsOf map.now board.now }
+    ensures given { IfOk result (λ r. r ≡ true
         → IsGiven map.now board.now order.now.unit.power beside.now order.now) }
+    ensures taken { IfOk result (λ r.
+        IsGiven map.now board.now order.now.unit.power beside.now order.now → r ≡ true) }
 {
+    map.facts();
+    orders_are_read_again();
     let mut line = String::new(alloc);
     print_order(map, order, &mut line)?;
     match read_order(map, board, order.unit.power, beside, line.as_str()) {
@@ -63,7 +69,9 @@ pub(crate) fn are_each_given(
     board: &Board,
     orders: &[PlacedOrder],
 ) -> Result<bool, AllocError>
-    ensures { IfOk result (λ r. r ≡ true → IsEachGiven map.now board.now orders.now) }
+    requires of_map { IsOf map.now board.now }
+    ensures given { IfOk result (λ r. r ≡ true → IsEachGiven map.now board.now orders.now) }
+    ensures taken { IfOk result (λ r. IsEachGiven map.now board.now orders.now → r ≡ true) }
 {
     for order in orders {
         let beside = orders_of_power(alloc, orders, order.unit.power)?;
@@ -81,8 +89,11 @@ pub(crate) fn are_given(
     board: &Board,
     orders: &[PlacedOrder],
 ) -> Result<bool, AllocError>
+    requires of_map { IsOf map.now board.now }
     ensures given { IfOk result (λ r. r ≡ true → AreGiven map.now board.now orders.now) }
     ensures placed { IfOk result (λ r. r ≡ true → are_by_place orders.now ≡ true) }
+    ensures taken { IfOk result (λ r. AreGiven map.now board.now orders.now
+        → are_by_place orders.now ≡ true → r ≡ true) }
 {
     if !are_by_place(orders) {
         return Ok(false);

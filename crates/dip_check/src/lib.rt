@@ -9,11 +9,14 @@ mod drawing;
 mod games;
 mod given;
 mod laws;
+mod lines;
 mod notices;
 mod openings;
+mod parts;
 mod phases;
 mod printed;
 mod same;
+mod ticks;
 mod titles;
 mod verdict;
 mod words;
@@ -25,4 +28,5 @@ pub use laws::{
     right_movements_are_decided, what_is_published_is_right,
 };
 pub use openings::check_opening;
+pub use phases::phase_of;
 pub use verdict::{Fault, Papers, Verdict, Wanted};

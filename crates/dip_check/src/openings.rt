@@ -1,15 +1,18 @@
 //! The first paper of a game.
-ghost use Rattle.std.specs.Prelude.{◌≡◌, ◌&&◌, ◌||◌, ◌≤◌, IfOk};
+ghost use Rattle.std.specs.Prelude.{◌≡◌, ◌&&◌, ◌||◌, ◌≤◌, ℕ, IfOk, Some, [], codes, map as each, slice_get, true, unwrap_or};
 ghost use Rattle.std.specs.List.{list_all};
-ghost use Rattle.dip_check.specs.Checks.{IsRightFirst};
+ghost use Rattle.std.specs.Fmt.{decimal};
+ghost use Rattle.dip_check.specs.Checks.{IsJudgedFirst};
+ghost use Rattle.dip_check.specs.Parts.{game_line_in, lines_in, word_after, words_in};
 ghost use Rattle.dip_desk_machine.specs.Machine as machine;
 ghost use Rattle.dip_desk_state.specs.Rows as rows;
 ghost use Rattle.dip_letters.specs.Words.{is_digit, is_game, is_lower};
 
 use crate::differences::{compared, fault_at};
 use crate::phases::LAST_TICK;
+use crate::titles::line_of;
 use crate::verdict::{Verdict, Wanted};
-use crate::words::{game_line, number_behind, says_yes};
+use crate::words::{game_words, number_after, says_yes};
 use dip_desk_state::{Public, Status};
 use dip_map::{Board, Map, openings_are_of_their_map};
 use dip_reports::opening_paper_text;
@@ -17,7 +20,7 @@ use std::alloc::{AllocError, Global};
 use std::rc::Rc;
 
 /// The most ticks from one due tick to the next.
-const LONGEST_PERIOD: u32 = 999_999;
+pub(crate) const LONGEST_PERIOD: u32 = 999_999;
 
 fn is_lower(byte: u8) -> bool
     ensures { result ≡ is_lower byte }
@@ -41,12 +44,21 @@ fn is_game(name: &str) -> bool
     1 <= bytes.len() && bytes.len() <= 16 && is_lower(bytes[0]) && are_lower_or_digits(bytes)
 }
 
+/// The game that a game line names, or nothing.
+fn game_named<'a>(words: &[&'a str]) -> &'a str
+    ensures { result.now ≡ unwrap_or (slice_get (each (λ w. w.now) words.now) 1) [] }
+{
+    if 1 < words.len() { words[1] } else { "" }
+}
+
 /// The period that a game line prints, where a letter may ask for it, or else the least.
-fn period_told(line: &str) -> u32
+fn period_told(words: &[&str]) -> u32
     ensures least { 1 ≤ result }
     ensures most { result ≤ 999999 }
+    ensures told { (n : ℕ) → 1 ≤ n → n ≤ 999999
+        → word_after (codes "PERIOD") (each (λ w. w.now) words.now) ≡ Some (decimal n) → result ≡ n }
 {
-    match number_behind(line, "PERIOD") {
+    match number_after(words, "PERIOD") {
         Some(told) => match u32::try_from(told) {
             Ok(period) if 1 <= period && period <= LONGEST_PERIOD => period,
             _ => 1,
@@ -56,10 +68,12 @@ fn period_told(line: &str) -> u32
 }
 
 /// The due tick that a game line prints, where a letter may ask for it, or else the last.
-fn due_told(line: &str) -> u64
-    ensures { result ≤ 999999999999 }
+fn due_told(words: &[&str]) -> u64
+    ensures timely { result ≤ 999999999999 }
+    ensures told { (n : ℕ) → n ≤ 999999999999
+        → word_after (codes "DUE") (each (λ w. w.now) words.now) ≡ Some (decimal n) → result ≡ n }
 {
-    match number_behind(line, "DUE") {
+    match number_after(words, "DUE") {
         Some(due) if due <= LAST_TICK => due,
         _ => LAST_TICK,
     }
@@ -89,31 +103,42 @@ fn opening_public(
     })
 }
 
-/// What is said of a text that is to be the first paper of a game.
+/// What is said of a text that is to be the first paper of a game by this name, with these words in its game line.
+fn check_terms(
+    alloc: Global,
+    map: &Map,
+    game: &str,
+    words: &[&str],
+    text: &str,
+) -> Result<Verdict, AllocError>
+    requires named { is_game game.now ≡ true }
+    requires words { each (λ w. w.now) words.now ≡ words_in (game_line_in (lines_in text.now)) }
+    requires game { game.now ≡ unwrap_or (slice_get (each (λ w. w.now) words.now) 1) [] }
+    ensures { IfOk result (λ v. IsJudgedFirst map.now text.now v) }
+{
+    map.facts();
+    openings_are_of_their_map();
+    let due = due_told(words);
+    let period = period_told(words);
+    let grey = says_yes(words, "GREY");
+    let intent = says_yes(words, "INTENT");
+    let after = opening_public(alloc, map, game, due, period, grey, intent)?;
+    let wanted = opening_paper_text(alloc, map, &after)?;
+    compared(alloc, text, wanted.as_str(), after)
+}
+
+/// What is said of a text that is to be the first paper of a game. It is wrong only where no letter can open a game by a paper with
+/// that text.
 ///
 /// # Errors
 /// Want of memory alone.
 pub fn check_opening(alloc: Global, map: &Map, text: &str) -> Result<Verdict, AllocError>
-    ensures { IfOk result (λ v. IsRightFirst map.now text.now v) }
+    ensures { IfOk result (λ v. IsJudgedFirst map.now text.now v) }
 {
-    let line = game_line(text);
-    let game = line.split(' ').nth(1).unwrap_or("");
+    let words = game_words(alloc, text)?;
+    let game = game_named(words.as_slice());
     if !is_game(game) {
-        return Ok(Verdict::Wrong(fault_at(alloc, 2, line, Wanted::AGameLine)?));
+        return Ok(Verdict::Wrong(fault_at(alloc, 2, line_of(text, 2), Wanted::AGameLine)?));
     }
-    map.facts();
-    openings_are_of_their_map();
-    let grey = says_yes(line, "GREY");
-    let intent = says_yes(line, "INTENT");
-    let after = opening_public(
-        alloc,
-        map,
-        game,
-        due_told(line),
-        period_told(line),
-        grey,
-        intent,
-    )?;
-    let wanted = opening_paper_text(alloc, map, &after)?;
-    compared(alloc, text, wanted.as_str(), after)
+    check_terms(alloc, map, game, words.as_slice(), text)
 }

@@ -1,45 +1,31 @@
 //! The paper of a phase: its orders are read and played again, and its paper is made and compared.
-ghost use Rattle.std.specs.Prelude.{◌≡◌, ◌<◌, ◌≤◌, IfOk, true};
-ghost use Rattle.dip_check.specs.Checks.{IsRightNext};
-ghost use Rattle.dip_check.specs.Games.{IsTick};
+ghost use Rattle.std.specs.Prelude.{◌≡◌, ◌<◌, IfNone, IfOk, IfSome, false, true};
+ghost use Rattle.dip_check.specs.Checks.{IsComparedPhase, IsJudged, IsJudgedBy, IsRightNext, IsSaidOfPhase};
+ghost use Rattle.dip_check.specs.Games.{IsPhase, IsPhaseOf, IsTick};
 ghost use Rattle.dip_desk_machine.specs.Handing.{are_by_place};
+ghost use Rattle.dip_desk_machine.specs.Ticking.{is_due};
 ghost use Rattle.dip_desk_state.specs.Bounds.{most_papers};
+ghost use Rattle.dip_desk_state.specs.Records as records;
 ghost use Rattle.dip_desk_state.specs.Rows as rows;
 ghost use Rattle.dip_map.specs.Boards.{IsOf};
+ghost use Rattle.dip_orders.specs.Conditions.{is_adjustment};
 ghost use Rattle.dip_orders.specs.Given.{AreGiven};
 
-use crate::differences::{compared, fault_at};
+use crate::differences::{fault_at, first_difference};
 use crate::given::are_given;
 use crate::printed::{Printed, orders_printed};
-use crate::verdict::{Verdict, Wanted};
-use crate::words::{game_line, number_behind};
-use dip_desk_machine::public_played;
-use dip_desk_state::Public;
+use crate::ticks::tick_told;
+use crate::verdict::{Fault, Verdict, Wanted};
+use dip_desk_machine::{is_due, public_played};
+use dip_desk_state::{MOST_PAPERS, Public};
 use dip_map::Map;
-use dip_orders::PlacedOrder;
-use dip_turn::{advance, boards_stay_of_their_map};
+use dip_orders::{PlacedOrder, lawful_orders_are_read, orders_are_lawful, orders_are_read_again};
+use dip_turn::{Report, advance, boards_stay_of_their_map, phases_have_one_result};
 use dip_turn_papers::paper_text;
 use std::alloc::{AllocError, Global};
 
 /// The last tick that a letter may name.
 pub(crate) const LAST_TICK: u64 = 999_999_999_999;
-
-/// The tick at which a phase was played, by the due tick that its paper prints; the first or the last where none leads to that.
-pub(crate) fn tick_told(before: &Public, text: &str) -> u64
-    requires { before.now.due ≤ 999999999999 }
-    ensures timely { result ≤ 999999999999 }
-    ensures due { before.now.due ≤ result }
-{
-    let told = number_behind(game_line(text), "DUE").unwrap_or(0);
-    let tick = told.saturating_sub(u64::from(before.period));
-    if tick < before.due {
-        return before.due;
-    }
-    if LAST_TICK < tick {
-        return LAST_TICK;
-    }
-    tick
-}
 
 /// The same public part, which shares its board.
 fn copied(alloc: Global, public: &Public) -> Result<Public, AllocError>
@@ -56,24 +42,51 @@ fn copied(alloc: Global, public: &Public) -> Result<Public, AllocError>
     })
 }
 
+/// What is said of a text that is to be the paper of a phase.
+#[derive(Drop)]
+pub(crate) enum Judged {
+    /// It is: this is what became of the phase, and the game stands so.
+    Right(Report, Public),
+    /// It is wrong here.
+    Wrong(Fault),
+}
+
+/// What is said of a text that is to be this paper of a phase.
+fn compared_phase(
+    alloc: Global,
+    text: &str,
+    wanted: &str,
+    report: Report,
+    after: Public,
+) -> Result<Judged, AllocError>
+    ensures { IfOk result (λ j. IsComparedPhase text.now wanted.now report after j) }
+{
+    if text == wanted {
+        return Ok(Judged::Right(report, after));
+    }
+    Ok(Judged::Wrong(first_difference(alloc, text, wanted)?))
+}
+
 /// What is said of a text that is to be the paper of these orders.
-fn check_played(
+fn judged_played(
     alloc: Global,
     map: &Map,
     before: &Public,
     tick: u64,
     orders: &[PlacedOrder],
     text: &str,
-) -> Result<Verdict, AllocError>
+) -> Result<Judged, AllocError>
     requires of_map { IsOf map.now before.now.board.value }
     requires room { before.now.papers < most_papers }
     requires ticks { IsTick (rows.public before.now) tick }
     requires given { AreGiven map.now before.now.board.value orders.now }
     requires placed { are_by_place orders.now ≡ true }
-    ensures { IfOk result (λ v. IsRightNext map.now (rows.public before.now) text.now v) }
+    ensures { IfOk result (λ j. IsJudgedBy map.now (rows.public before.now) tick orders.now
+        text.now j) }
 {
     map.facts();
     boards_stay_of_their_map();
+    phases_have_one_result();
     let board = before.board.copy(alloc)?;
     match advance(alloc, map, board, orders) {
         Err((_, error)) => Err(error),
@@ -81,32 +94,78 @@ fn check_played(
             let public = copied(alloc, before)?;
             let after = public_played(alloc, tick, public, board, report.course)?;
             let wanted = paper_text(alloc, map, &report, &after)?;
-            compared(alloc, text, wanted.as_str(), after)
+            compared_phase(alloc, text, wanted.as_str(), report, after)
         }
     }
 }
 
-/// What is said of a text that is to be the paper of the game's phase, played at this tick.
+/// What is said of a text that is to be the paper of the game's phase.
+fn judged_phase(alloc: Global, map: &Map, before: &Public, text: &str) -> Result<Judged, AllocError>
+    requires of_map { IsOf map.now before.now.board.value }
+    requires room { before.now.papers < most_papers }
+    requires due { is_due 999999999999 (rows.public before.now) ≡ true }
+    ensures { IfOk result (λ j. IsJudged map.now (rows.public before.now) text.now j) }
+{
+    map.facts();
+    orders_are_read_again();
+    orders_are_lawful();
+    lawful_orders_are_read();
+    let tick = tick_told(before, text);
+    match orders_printed(alloc, map, &before.board, text)? {
+        Printed::NoOrder(fault) => Ok(Judged::Wrong(fault)),
+        Printed::Orders(orders) => {
+            if are_given(alloc, map, &before.board, orders.as_slice())? {
+                judged_played(alloc, map, before, tick, orders.as_slice(), text)
+            } else {
+                Ok(Judged::Wrong(fault_at(alloc, 2, "", Wanted::AnOrder)?))
+            }
+        }
+    }
+}
+
+/// What is said of a text that is to be the paper of the game's phase: it is right only where it is one, and wrong only where none has
+/// that text.
 pub(crate) fn check_phase(
     alloc: Global,
     map: &Map,
     before: &Public,
-    tick: u64,
     text: &str,
 ) -> Result<Verdict, AllocError>
     requires of_map { IsOf map.now before.now.board.value }
     requires room { before.now.papers < most_papers }
-    requires ticks { IsTick (rows.public before.now) tick }
-    ensures { IfOk result (λ v. IsRightNext map.now (rows.public before.now) text.now v) }
+    requires due { is_due 999999999999 (rows.public before.now) ≡ true }
+    ensures right { IfOk result (λ v. IsRightNext map.now (rows.public before.now) text.now v) }
+    ensures wrong { IfOk result (λ v. IsSaidOfPhase map.now (rows.public before.now) text.now v) }
 {
-    match orders_printed(alloc, map, &before.board, text)? {
-        Printed::Wrong(fault) => Ok(Verdict::Wrong(fault)),
-        Printed::Orders(orders) => {
-            if are_given(alloc, map, &before.board, orders.as_slice())? {
-                check_played(alloc, map, before, tick, orders.as_slice(), text)
-            } else {
-                Ok(Verdict::Wrong(fault_at(alloc, 2, "", Wanted::AnOrder)?))
-            }
-        }
+    match judged_phase(alloc, map, before, text)? {
+        Judged::Right(_report, after) => Ok(Verdict::Right(after)),
+        Judged::Wrong(fault) => Ok(Verdict::Wrong(fault)),
+    }
+}
+
+/// The report of a phase whose paper may come next in a game that stands so: what became of its orders, with the steps that explain it.
+/// Nothing where the text isn't the paper of the game's phase.
+///
+/// # Errors
+/// Want of memory alone.
+pub fn phase_of(
+    alloc: Global,
+    map: &Map,
+    before: &Public,
+    text: &str,
+) -> Result<Option<Report>, AllocError>
+    requires of_map { IsOf map.now before.now.board.value }
+    ensures found { IfOk result (λ found. IfSome found (λ report. (new : records.Public)
+        × IsPhaseOf map.now (rows.public before.now) text.now report new)) }
+    ensures none { IfOk result (λ found. IfNone found ((new : records.Public)
+        → before.now.papers < most_papers → is_adjustment before.now.board.value.phase.season ≡ false
+        → IsPhase map.now (rows.public before.now) text.now new → ⊥)) }
+{
+    if MOST_PAPERS <= before.papers || !is_due(LAST_TICK, before) {
+        return Ok(None);
+    }
+    match judged_phase(alloc, map, before, text)? {
+        Judged::Right(report, _after) => Ok(Some(report)),
+        Judged::Wrong(_fault) => Ok(None),
     }
 }

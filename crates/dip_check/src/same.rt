@@ -5,20 +5,23 @@ use dip_names::Place;
 use dip_orders::{Order, Other, PlacedOrder, is_same_unit};
 
 fn is_same_place(one: Place, other: Place) -> bool
-    ensures { result ≡ true → one ≡ other }
+    ensures same { result ≡ true → one ≡ other }
+    ensures itself { one ≡ other → result ≡ true }
 {
     one.prov == other.prov && one.coast == other.coast
 }
 
 fn is_same_other(one: Other, other: Other) -> bool
-    ensures { result ≡ true → one ≡ other }
+    ensures same { result ≡ true → one ≡ other }
+    ensures itself { one ≡ other → result ≡ true }
 {
     one.kind.is(other.kind) && one.prov == other.prov
 }
 
 /// Whether two orders are one; where it says so they are.
 fn is_same_order(one: &Order, other: &Order) -> bool
-    ensures { result ≡ true → one.now ≡ other.now }
+    ensures same { result ≡ true → one.now ≡ other.now }
+    ensures itself { one.now ≡ other.now → result ≡ true }
 {
     match (*one, *other) {
         (Order::Hold, Order::Hold) => true,
@@ -46,7 +49,8 @@ fn is_same_order(one: &Order, other: &Order) -> bool
 
 /// Whether two units' orders are one; where it says so they are.
 pub(crate) fn is_same(one: &PlacedOrder, other: &PlacedOrder) -> bool
-    ensures { result ≡ true → one.now ≡ other.now }
+    ensures same { result ≡ true → one.now ≡ other.now }
+    ensures itself { one.now ≡ other.now → result ≡ true }
 {
     is_same_unit(&one.unit, &other.unit) && is_same_order(&one.order, &other.order)
 }

@@ -129,7 +129,11 @@ pub(crate) fn tell_no_text<W: Write>(
 /// What is told of a game of so many papers.
 fn count_text(alloc: Global, papers: u32) -> Result<String, AllocError> {
     let mut text = String::new(alloc);
-    write!(text, "{papers} papers right\n")?;
+    if papers == 1 {
+        write!(text, "{papers} paper right\n")?;
+    } else {
+        write!(text, "{papers} papers right\n")?;
+    }
     Ok(text)
 }
 

@@ -1,0 +1,257 @@
+-- Where a phase's text is told wrong, no paper of the phase has it.
+use Rattle.std.proofs.Common.{◌≡◌, ◌≢◌, ◌++◌, ℕ, Bool, true, false, List, map, Some, None, refl, sym, ap, ap₂, subst, ◌∙◌, flat_map, codes}
+use Rattle.std.proofs.lemmas.Bool.{false≢true}
+use Rattle.std.specs.List.{AllByRecursion}
+use Rattle.dip_names.specs.declared.names.Unit.{Unit as AUnit}
+use Rattle.dip_map.specs.Boards.{IsOf, Position}
+use Rattle.dip_map.specs.declared.boards.Dislodged.{Dislodged}
+use Rattle.dip_map.specs.declared.boards.Phase.{Phase}
+use Rattle.dip_map.specs.Charts.{Chart, IsMap}
+use Rattle.dip_map.specs.declared.boards.Season.{Season}
+use Rattle.dip_map.specs.declared.boards.Season.TheVariants.{SpringMoves, SpringRetreats, FallMoves, FallRetreats, Winter}
+use Rattle.dip_orders.specs.Conditions.{is_adjustment, is_movement, is_retreat}
+use Rattle.dip_orders.specs.Given.{AreGiven}
+use Rattle.dip_orders.specs.Standing.{standing_orders}
+use Rattle.dip_orders.specs.declared.placed.Order.TheVariants.{Build, Remove}
+use Rattle.dip_orders.specs.declared.placed.PlacedOrder.{PlacedOrder}
+use Rattle.dip_desk_state.specs.Records.{Public}
+use Rattle.dip_decide.specs.Meaning.{meant_on}
+use Rattle.dip_decide.specs.Results.{values_in}
+use Rattle.dip_turn.specs.Moving.{moved_board}
+use Rattle.dip_turn.specs.Laws.{AreAlike, IsSame, PhasesHaveOneResult}
+use Rattle.dip_turn.specs.Reports.{IsPlayed, Leaves, LeavesMoved, LeavesRetreated}
+use Rattle.dip_turn.specs.declared.report.Account.{Account}
+use Rattle.dip_turn.specs.declared.report.Account.TheVariants.{Movement as OfMovement, Retreats as OfRetreats, Adjustment as OfAdjustment}
+use Rattle.dip_turn.specs.declared.report.CentreLine.{CentreLine}
+use Rattle.dip_turn.specs.declared.report.Course.{Course}
+use Rattle.dip_turn.specs.declared.report.Report.{Report}
+use Rattle.dip_turn.specs.declared.report.RetreatLine.{RetreatLine}
+use Rattle.dip_turn.specs.declared.report.Waiver.{Waiver}
+use Rattle.dip_turn.specs.MovementLine.{MovementLine}
+use Rattle.dip_turn_papers.specs.Papers.{account_text, adjusted_lines, adjusted_with, centre_line, disorder_lines, lines_by_power, moved_lines, paper_text, retreated_lines, title, unit_line}
+use Rattle.dip_turn_papers.specs.declared.lines.Told.TheVariants.{Built, Removed, RemovedInDisorder}
+use Rattle.dip_turn_papers.specs.declared.lines.PaperLine.{PaperLine}
+use Rattle.dip_reports.specs.Texts.{board_lines, game_line}
+use Rattle.dip_desk_machine.specs.Handing.{are_by_place}
+use Rattle.dip_desk_machine.specs.Ticking.{public_played}
+use Rattle.dip_check.specs.Games.{IsPhase, IsTick}
+use Rattle.dip_check.specs.Laws.{order_printed}
+use Rattle.dip_check.specs.Placing.{placed_by, units_by_place}
+use Rattle.dip_check.specs.Printed.{StandFor, first_line_of, orders_printed_at, unit_orders_at}
+use Rattle.dip_check.proofs.MovesBack.{OrderLaws, moved_alike, moved_orders, moves_given, moves_placed, moves_read, stood_back, units_stood}
+use Rattle.dip_check.proofs.PaperParts.{after_title, lines_read, paper_rest}
+use Rattle.dip_check.proofs.RetreatsBack.{left_same, printed_back, retreated_orders, retreats_given, retreats_placed, retreats_read, told_same, units_printed}
+use Rattle.dip_check.proofs.ReadAnywhere.{IsReadBack}
+
+some_of : {A : Type 0} (x y : A) → Some x ≡ Some y → x ≡ y
+some_of x y e = cc
+
+-- what a phase's text prints is read, and stands for the orders that were given
+pub record Reads (m : Chart) (b : Position) (orders : List PlacedOrder) (text : List ℕ) : Type 0 where
+  pub read : List PlacedOrder
+  pub is : orders_printed_at m b text b.phase.season ≡ Some read
+  pub stands : StandFor m b orders read
+
+-- ---- a movement
+
+moves_season : (m : Chart) (b : Position) (text : List ℕ) (s : Season) → is_movement s ≡ true → orders_printed_at m b text s ≡ unit_orders_at m b (units_by_place m b.units) (first_line_of text).1
+moves_season m b text SpringMoves h = refl
+moves_season m b text SpringRetreats h = absurd (false≢true h)
+moves_season m b text FallMoves h = refl
+moves_season m b text FallRetreats h = absurd (false≢true h)
+moves_season m b text Winter h = absurd (false≢true h)
+
+to_moved : (m : Chart) (s : Season) (b : Position) (ps : List PlacedOrder) (left : Position) (a : Account) → is_movement s ≡ true → Leaves m s b ps left a → LeavesMoved m b ps left a
+to_moved m SpringMoves b ps left a moves h = h
+to_moved m SpringRetreats b ps left a moves h = absurd (false≢true moves)
+to_moved m FallMoves b ps left a moves h = h
+to_moved m FallRetreats b ps left a moves h = absurd (false≢true moves)
+to_moved m Winter b ps left a moves h = absurd (false≢true moves)
+
+from_moved : (m : Chart) (s : Season) (b : Position) (ps : List PlacedOrder) (left : Position) (a : Account) → is_movement s ≡ true → LeavesMoved m b ps left a → Leaves m s b ps left a
+from_moved m SpringMoves b ps left a moves h = h
+from_moved m SpringRetreats b ps left a moves h = absurd (false≢true moves)
+from_moved m FallMoves b ps left a moves h = h
+from_moved m FallRetreats b ps left a moves h = absurd (false≢true moves)
+from_moved m Winter b ps left a moves h = absurd (false≢true moves)
+
+retreats_season : (m : Chart) (b : Position) (text : List ℕ) (s : Season) → is_retreat s ≡ true
+    → orders_printed_at m b text s ≡ unit_orders_at m b (units_by_place m (map (λ (d : Dislodged). d.unit) b.dislodged)) (first_line_of text).1
+retreats_season m b text SpringMoves h = absurd (false≢true h)
+retreats_season m b text SpringRetreats h = refl
+retreats_season m b text FallMoves h = absurd (false≢true h)
+retreats_season m b text FallRetreats h = refl
+retreats_season m b text Winter h = absurd (false≢true h)
+
+to_retreated : (m : Chart) (s : Season) (b : Position) (ps : List PlacedOrder) (left : Position) (a : Account) → is_retreat s ≡ true → Leaves m s b ps left a → LeavesRetreated b ps left a
+to_retreated m SpringMoves b ps left a retreats h = absurd (false≢true retreats)
+to_retreated m SpringRetreats b ps left a retreats h = h
+to_retreated m FallMoves b ps left a retreats h = absurd (false≢true retreats)
+to_retreated m FallRetreats b ps left a retreats h = h
+to_retreated m Winter b ps left a retreats h = absurd (false≢true retreats)
+
+from_retreated : (m : Chart) (s : Season) (b : Position) (ps : List PlacedOrder) (left : Position) (a : Account) → is_retreat s ≡ true → LeavesRetreated b ps left a → Leaves m s b ps left a
+from_retreated m SpringMoves b ps left a retreats h = absurd (false≢true retreats)
+from_retreated m SpringRetreats b ps left a retreats h = h
+from_retreated m FallMoves b ps left a retreats h = absurd (false≢true retreats)
+from_retreated m FallRetreats b ps left a retreats h = h
+from_retreated m Winter b ps left a retreats h = absurd (false≢true retreats)
+
+-- lines of orders that are read back
+read_lines : (m : Chart) → IsMap m → (b : Position) (ls : List PaperLine) (os : List PlacedOrder) (us : List AUnit) (rest : List ℕ) → map (λ (l : PaperLine). l.placed) ls ≡ os
+    → map (λ (o : PlacedOrder). o.unit) os ≡ us → AllByRecursion (IsReadBack m b) os
+    → unit_orders_at m b (units_by_place m us) (lines_by_power m ls ++ rest) ≡ Some (placed_by (λ (o : PlacedOrder). o.unit) m os)
+read_lines m laws b ls os us rest same units back =
+    ap (λ (vs : List AUnit). unit_orders_at m b (units_by_place m vs) (lines_by_power m ls ++ rest)) (sym units ∙ ap (map (λ (o : PlacedOrder). o.unit)) (sym same))
+    ∙ lines_read m laws b ls rest (subst (AllByRecursion (IsReadBack m b)) (sym same) back)
+    ∙ ap (λ (zs : List PlacedOrder). Some (placed_by (λ (o : PlacedOrder). o.unit) m zs)) same
+
+module _ (l : OrderLaws) (m : Chart) (b : Position) (ps : List PlacedOrder) (laws : IsMap m) (of : IsOf m b) (given : AreGiven m b ps) where
+  module _ (moves : is_movement b.phase.season ≡ true) where
+    move_alike : (left : Position) (a : Account) → LeavesMoved m b ps left a → LeavesMoved m b (moves_read l m b ps laws of given moves) left a
+    move_alike left (OfMovement t) h = moved_alike l m b ps laws of given moves left t h
+    move_alike left (OfRetreats lines) h = h
+    move_alike left (OfAdjustment t) h = h
+
+    move_stands : StandFor m b ps (moves_read l m b ps laws of given moves)
+    move_stands = record {
+      given = moves_given l m b ps laws of given moves;
+      by_place = moves_placed l m b ps laws of given moves;
+      alike = λ new report h. record {
+        left = h.left;
+        account =
+            from_moved m b.phase.season b (moves_read l m b ps laws of given moves) h.left report.account moves
+            (move_alike h.left report.account (to_moved m b.phase.season b ps h.left report.account moves h.account));
+        next = h.next;
+        phase = h.phase;
+        centres = h.centres;
+      };
+    }
+
+    move_text : (left : Position) (a : Account) (rest : List ℕ) → LeavesMoved m b ps left a
+        → unit_orders_at m b (units_by_place m b.units) (account_text m a ++ rest) ≡ Some (moves_read l m b ps laws of given moves)
+    move_text left (OfMovement t) rest h =
+        let same : map (λ (l : PaperLine). l.placed) (moved_lines t.lines.items) ≡ standing_orders b ps =
+        ap (λ (ls : List MovementLine). map (λ (l : PaperLine). l.placed) (moved_lines ls)) h.lines
+        ∙ moved_orders m (moved_board m b (values_in t.resolution) (meant_on m b t.orders)) (values_in t.resolution) (meant_on m b t.orders) t.orders ∙ h.orders in
+        read_lines m laws b (moved_lines t.lines.items) (standing_orders b ps) b.units rest same (units_stood ps b.units) (stood_back l m b ps laws of given moves)
+    move_text left (OfRetreats lines) rest h = absurd h
+    move_text left (OfAdjustment t) rest h = absurd h
+
+    move_reads : (new : Position) (report : Report) → IsPlayed m b ps new report → (p : Public) → Reads m b ps (paper_text m report p)
+    move_reads new report h p = record {
+      read = moves_read l m b ps laws of given moves;
+      is = moves_season m b (paper_text m report p) b.phase.season moves
+          ∙ ap (λ (x : List ℕ × List ℕ). unit_orders_at m b (units_by_place m b.units) x.1) (after_title m report p)
+          ∙ move_text h.left report.account (paper_rest m report p) (to_moved m b.phase.season b ps h.left report.account moves h.account);
+      stands = move_stands;
+    }
+
+  module _ (retreats : is_retreat b.phase.season ≡ true) where
+    retreat_alike : (left : Position) (a : Account) → LeavesRetreated b ps left a → LeavesRetreated b (retreats_read l m b ps laws of given retreats) left a
+    retreat_alike left (OfMovement t) h = h
+    retreat_alike left (OfRetreats lines) h = (h.0 ∙ sym (left_same l m b ps laws of given retreats), h.1 ∙ sym (told_same l m b ps laws of given retreats))
+    retreat_alike left (OfAdjustment t) h = h
+
+    retreat_stands : StandFor m b ps (retreats_read l m b ps laws of given retreats)
+    retreat_stands = record {
+      given = retreats_given l m b ps laws of given retreats;
+      by_place = retreats_placed l m b ps laws of given retreats;
+      alike = λ new report h. record {
+        left = h.left;
+        account =
+            from_retreated m b.phase.season b (retreats_read l m b ps laws of given retreats) h.left report.account retreats
+            (retreat_alike h.left report.account (to_retreated m b.phase.season b ps h.left report.account retreats h.account));
+        next = h.next;
+        phase = h.phase;
+        centres = h.centres;
+      };
+    }
+
+    retreat_text : (left : Position) (a : Account) (rest : List ℕ) → LeavesRetreated b ps left a
+        → unit_orders_at m b (units_by_place m (map (λ (d : Dislodged). d.unit) b.dislodged)) (account_text m a ++ rest) ≡ Some (retreats_read l m b ps laws of given retreats)
+    retreat_text left (OfMovement t) rest h = absurd h
+    retreat_text left (OfRetreats lines) rest h =
+        let same : map (λ (l : PaperLine). l.placed) (retreated_lines lines.items) ≡ map (order_printed ps) b.dislodged =
+        ap (λ (ls : List RetreatLine). map (λ (l : PaperLine). l.placed) (retreated_lines ls)) h.1 ∙ retreated_orders ps b b.dislodged in
+        read_lines m laws b (retreated_lines lines.items) (map (order_printed ps) b.dislodged) (map (λ (d : Dislodged). d.unit) b.dislodged) rest same (units_printed ps b.dislodged)
+        (printed_back l m b ps laws of given retreats)
+    retreat_text left (OfAdjustment t) rest h = absurd h
+
+    retreat_reads : (new : Position) (report : Report) → IsPlayed m b ps new report → (p : Public) → Reads m b ps (paper_text m report p)
+    retreat_reads new report h p = record {
+      read = retreats_read l m b ps laws of given retreats;
+      is = retreats_season m b (paper_text m report p) b.phase.season retreats
+          ∙ ap (λ (x : List ℕ × List ℕ). unit_orders_at m b (units_by_place m (map (λ (d : Dislodged). d.unit) b.dislodged)) x.1) (after_title m report p)
+          ∙ retreat_text h.left report.account (paper_rest m report p) (to_retreated m b.phase.season b ps h.left report.account retreats h.account);
+      stands = retreat_stands;
+    }
+
+  reads : is_adjustment b.phase.season ≡ false → (new : Position) (report : Report) → IsPlayed m b ps new report → (p : Public) → Reads m b ps (paper_text m report p)
+  reads other new report h p = by b.phase.season refl
+    where
+      by : (s : Season) → b.phase.season ≡ s → Reads m b ps (paper_text m report p)
+      by SpringMoves e = move_reads (ap is_movement e) new report h p
+      by SpringRetreats e = retreat_reads (ap is_retreat e) new report h p
+      by FallMoves e = move_reads (ap is_movement e) new report h p
+      by FallRetreats e = retreat_reads (ap is_retreat e) new report h p
+      by Winter e = absurd (false≢true (sym other ∙ ap is_adjustment e))
+
+-- ---- and so no paper of the phase has a text that is told wrong
+
+module _ (l : OrderLaws) (m : Chart) (p : Public) (text : List ℕ) (laws : IsMap m) (of : IsOf m p.board) (other : is_adjustment p.board.phase.season ≡ false) (new : Public) (h : IsPhase m p text new) where
+  phase_reads : Reads m p.board h.brought.orders text
+  phase_reads = subst (Reads m p.board h.brought.orders) (sym h.brought.told) (reads l m p.board h.brought.orders laws of h.brought.given other h.brought.board h.report h.brought.played new)
+
+  pub unread : orders_printed_at m p.board text p.board.phase.season ≡ None → ⊥
+  unread none = let bad : None ≡ Some phase_reads.read = sym none ∙ phase_reads.is in cc
+
+  stand_for : (qs : List PlacedOrder) → orders_printed_at m p.board text p.board.phase.season ≡ Some qs → StandFor m p.board h.brought.orders qs
+  stand_for qs is =
+      let some : Some phase_reads.read ≡ Some qs = sym phase_reads.is ∙ is in
+      let same : phase_reads.read ≡ qs = some_of phase_reads.read qs some in
+      subst (StandFor m p.board h.brought.orders) same phase_reads.stands
+
+  pub ungiven : (qs : List PlacedOrder) (r : Bool) → orders_printed_at m p.board text p.board.phase.season ≡ Some qs → (AreGiven m p.board qs → are_by_place qs ≡ true → r ≡ true) → r ≡ false → ⊥
+  ungiven qs r is taken refused = let s = stand_for qs is in false≢true (sym refused ∙ taken s.given s.by_place)
+
+  pub unplayed : (qs : List PlacedOrder) (tick : ℕ) → orders_printed_at m p.board text p.board.phase.season ≡ Some qs
+      → ((board : Position) (report : Report) → IsPlayed m p.board qs board report → text ≢ paper_text m report (public_played tick p board report.course))
+      → ((t : ℕ) (board : Position) (report : Report) → IsTick p t → text ≡ paper_text m report (public_played t p board report.course) → public_played tick p board report.course ≡ public_played t p board report.course)
+      → ⊥
+  unplayed qs tick is none told =
+      let s = stand_for qs is in
+      let here : text ≡ paper_text m h.report (public_played h.brought.tick p h.brought.board h.report.course) = h.brought.told ∙ ap (paper_text m h.report) h.brought.after in
+      none h.brought.board h.report (s.alike h.brought.board h.report h.brought.played)
+      (here ∙ ap (paper_text m h.report) (sym (told h.brought.tick h.brought.board h.report h.brought.ticks here)))
+
+-- ---- two reports of a phase with the same orders have one paper
+
+account_same : (m : Chart) (a c : Account) → AreAlike a c → account_text m a ≡ account_text m c
+account_same m (OfMovement s) (OfMovement t) h = ap (λ (ls : List MovementLine). lines_by_power m (moved_lines ls)) h.2
+account_same m (OfMovement s) (OfRetreats t) h = absurd h
+account_same m (OfMovement s) (OfAdjustment t) h = absurd h
+account_same m (OfRetreats s) (OfMovement t) h = absurd h
+account_same m (OfRetreats s) (OfRetreats t) h = ap (λ (ls : List RetreatLine). lines_by_power m (retreated_lines ls)) h
+account_same m (OfRetreats s) (OfAdjustment t) h = absurd h
+account_same m (OfAdjustment s) (OfMovement t) h = absurd h
+account_same m (OfAdjustment s) (OfRetreats t) h = absurd h
+account_same m (OfAdjustment s) (OfAdjustment t) h =
+    ap₂ (λ (built removed : List AUnit). adjusted_with m (map (unit_line Build Built) built ++ map (unit_line Remove Removed) removed) (disorder_lines s) s.waivers.items) h.0 h.1
+    ∙ ap₂ (λ (gone : List AUnit) (ws : List Waiver). adjusted_with m (adjusted_lines t) (map (unit_line Remove RemovedInDisorder) gone) ws) h.2 h.3
+
+pub paper_same : (m : Chart) (new board : Position) (one two : Report) (p : Public) → IsSame new board one two → paper_text m one p ≡ paper_text m two p
+unfolding paper_text
+paper_same m new board one two p same =
+    ap₂ (λ (phase : Phase) (account : List ℕ). title p.papers phase ++ account ++ flat_map (centre_line m) one.centres.items ++ game_line m p ++ board_lines m p.board ++ codes "END\n")
+    same.phase (account_same m one.account two.account same.account)
+    ∙ ap (λ (cs : List CentreLine). title p.papers two.phase ++ account_text m two.account ++ flat_map (centre_line m) cs ++ game_line m p ++ board_lines m p.board ++ codes "END\n") same.centres
+
+-- where the paper that was made isn't the text, none of these orders is
+pub none_of_orders : PhasesHaveOneResult → (m : Chart) (p : Public) (tick : ℕ) (orders : List PlacedOrder) (text wanted : List ℕ) (board : Position) (report : Report)
+    → IsPlayed m p.board orders board report → wanted ≡ paper_text m report (public_played tick p board report.course) → text ≢ wanted
+    → (other : Position) (one : Report) → IsPlayed m p.board orders other one → text ≢ paper_text m one (public_played tick p other one.course)
+none_of_orders one_result m p tick orders text wanted board report played made differ other one h told =
+    let same : IsSame other board one report = one_result m p.board orders other board one report h played in
+    differ (told ∙ paper_same m other board one report (public_played tick p other one.course) same
+    ∙ ap₂ (λ (b : Position) (course : Course). paper_text m report (public_played tick p b course)) same.board same.course ∙ sym made)

@@ -1,0 +1,46 @@
+use Rattle.std.proofs.Common.{◌≡◌, ◌++◌, ◌∷◌, ◌==◌, ◌≢◌, ℕ, List, Option, Some, None, true, not, codes, ap, ◌∙◌, arith}
+use Rattle.std.specs.Fmt.{decimal}
+use Rattle.std.specs.Result.{result_ok}
+use Rattle.std.proofs.lemmas.Bool.Decides.{nat_tests}
+use Rattle.std.proofs.lemmas.Fmt.{parse-decimal}
+use Rattle.dip_letters.specs.Lines.{cut_at}
+use Rattle.dip_letters.specs.Reading.{after_name}
+use Rattle.dip_letters.proofs.LineLemmas.{cut_again}
+use Rattle.dip_letters.proofs.NameLemmas.{after_again}
+use Rattle.dip_check.proofs.LineLemmas.{lacks_by}
+use Rattle.dip_check.proofs.NameTexts.{number_all}
+use Rattle.dip_check.proofs.ticks.due_told.Goals as goal
+
+no_space : (b : ℕ) → not (b == 32) ≡ true → b ≢ 32
+no_space b h same = grind (arith, nat_tests)
+
+cut_number : (due : ℕ) (tail : List ℕ) → cut_at 32 (decimal due ++ 32 ∷ tail) ≡ Some (decimal due, tail)
+cut_number due tail =
+    cut_again 32 (decimal due) tail (lacks_by (λ b. not (b == 32)) 32 no_space (decimal due) (number_all (λ b. not (b == 32)) (λ d low. grind (arith, nat_tests)) due))
+
+some_of : {A : Type 0} (x y : A) → Some x ≡ Some y → x ≡ y
+some_of x y e = cc
+
+pub returns-in_err-rest : goal.returns-in_err-rest
+returns-in_err-rest c = λ head tail due is lacks small.
+    let last = c.after_last_u.ensures head (codes "E " ++ (decimal due ++ 32 ∷ tail)) is lacks in
+    let none : None ≡ Some (decimal due ++ 32 ∷ tail) = c.in_err-rest.ensures ∙ ap (after_name (codes "E ")) last ∙ after_again (codes "E ") (decimal due ++ 32 ∷ tail) in
+    cc
+
+pub returns-in_err-number : goal.returns-in_err-number
+returns-in_err-number c = λ head tail due is lacks small.
+    let last = c.after_last_u.ensures head (codes "E " ++ (decimal due ++ 32 ∷ tail)) is lacks in
+    let rest : Some c.in_ok-rest.rest.now ≡ Some (decimal due ++ 32 ∷ tail) = c.in_ok-rest.ensures ∙ ap (after_name (codes "E ")) last ∙ after_again (codes "E ") (decimal due ++ 32 ∷ tail) in
+    let same : c.in_ok-rest.rest.now ≡ decimal due ++ 32 ∷ tail = some_of c.in_ok-rest.rest.now (decimal due ++ 32 ∷ tail) rest in
+    let none : ◌≡◌ {A = Option (List ℕ × List ℕ)} None (Some (decimal due, tail)) = c.in_err-number.ensures ∙ ap (cut_at 32) same ∙ cut_number due tail in
+    cc
+
+pub returns : goal.returns
+returns c = λ head tail due is lacks small.
+    let last = c.after_last_u.ensures head (codes "E " ++ (decimal due ++ 32 ∷ tail)) is lacks in
+    let rest : Some c.in_ok-rest.rest.now ≡ Some (decimal due ++ 32 ∷ tail) = c.in_ok-rest.ensures ∙ ap (after_name (codes "E ")) last ∙ after_again (codes "E ") (decimal due ++ 32 ∷ tail) in
+    let same : c.in_ok-rest.rest.now ≡ decimal due ++ 32 ∷ tail = some_of c.in_ok-rest.rest.now (decimal due ++ 32 ∷ tail) rest in
+    let parts : ◌≡◌ {A = Option (List ℕ × List ℕ)} (Some (c.in_ok-number.number.now, c.in_ok-number._rest.now)) (Some (decimal due, tail)) = c.in_ok-number.ensures ∙ ap (cut_at 32) same ∙ cut_number due tail in
+    let number : c.in_ok-number.number.now ≡ decimal due =
+    ap (λ (p : List ℕ × List ℕ). p.0) (some_of {A = List ℕ × List ℕ} (c.in_ok-number.number.now, c.in_ok-number._rest.now) (decimal due, tail) parts) in
+    c.ok.ensures.value ∙ ap result_ok (parse-decimal 64 due c.in_ok-number.number.now c.parse.result small small number c.parse.ensures.value.0)

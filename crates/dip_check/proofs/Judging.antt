@@ -1,6 +1,7 @@
 -- Where a phase's text is told wrong, no paper of the phase has it.
-use Rattle.std.proofs.Common.{◌≡◌, ◌≢◌, ◌++◌, ℕ, Bool, true, false, List, map, Some, None, refl, sym, ap, ap₂, subst, ◌∙◌, flat_map, codes}
-use Rattle.std.proofs.lemmas.Bool.{false≢true}
+use Rattle.std.proofs.Common.{◌≡◌, ◌≢◌, ◌++◌, ℕ, Bool, true, false, List, map, Some, None, refl, sym, ap, ap₂, subst, ◌∙◌, flat_map, codes, ◌≤◌, ◌+◌, nat_le, arith}
+use Rattle.std.proofs.lemmas.Bool.{and_from, and_parts, false≢true}
+use Rattle.std.proofs.lemmas.Bool.Decides.{nat_tests}
 use Rattle.std.specs.List.{AllByRecursion}
 use Rattle.dip_names.specs.declared.names.Unit.{Unit as AUnit}
 use Rattle.dip_map.specs.Boards.{IsOf, Position}
@@ -33,11 +34,14 @@ use Rattle.dip_turn_papers.specs.declared.lines.Told.TheVariants.{Built, Removed
 use Rattle.dip_turn_papers.specs.declared.lines.PaperLine.{PaperLine}
 use Rattle.dip_reports.specs.Texts.{board_lines, game_line}
 use Rattle.dip_desk_machine.specs.Handing.{are_by_place}
-use Rattle.dip_desk_machine.specs.Ticking.{public_played}
+use Rattle.dip_desk_machine.specs.Ticking.{is_due, is_running, public_played}
 use Rattle.dip_check.specs.Games.{IsPhase, IsTick}
 use Rattle.dip_check.specs.Laws.{order_printed}
 use Rattle.dip_check.specs.Placing.{placed_by, units_by_place}
-use Rattle.dip_check.specs.Printed.{StandFor, first_line_of, orders_printed_at, unit_orders_at}
+use Rattle.dip_check.specs.Checks.{IsSaidOfPhase}
+use Rattle.dip_check.specs.declared.verdict.Verdict.{Verdict}
+use Rattle.dip_check.specs.declared.verdict.Verdict.TheVariants.{Right, Wrong}
+use Rattle.dip_check.specs.Printed.{title_words, StandFor, first_line_of, orders_printed_at, unit_orders_at}
 use Rattle.dip_check.proofs.MovesBack.{OrderLaws, moved_alike, moved_orders, moves_given, moves_placed, moves_read, stood_back, units_stood}
 use Rattle.dip_check.proofs.PaperParts.{after_title, lines_read, paper_rest}
 use Rattle.dip_check.proofs.RetreatsBack.{left_same, printed_back, retreated_orders, retreats_given, retreats_placed, retreats_read, told_same, units_printed}
@@ -255,3 +259,29 @@ none_of_orders one_result m p tick orders text wanted board report played made d
     let same : IsSame other board one report = one_result m p.board orders other board one report h played in
     differ (told ∙ paper_same m other board one report (public_played tick p other one.course) same
     ∙ ap₂ (λ (b : Position) (course : Course). paper_text m report (public_played tick p b course)) same.board same.course ∙ sym made)
+
+-- ---- a phase's paper begins with the phase's title, and comes where the game is due
+
+pub phase_first : (m : Chart) (p : Public) (text : List ℕ) (new : Public) → IsPhase m p text new → (first_line_of text).0 ≡ title_words (p.papers + 1) p.board.phase
+phase_first m p text new h =
+    ap (λ (t : List ℕ). (first_line_of t).0) h.brought.told
+    ∙ ap (λ (x : List ℕ × List ℕ). x.0) (after_title m h.report new)
+    ∙ ap₂ title_words (ap (λ (q : Public). q.papers) h.brought.after) h.brought.played.phase
+
+low : (a b : ℕ) → nat_le a b ≡ true → a ≤ b
+low a b h = grind (arith, nat_tests)
+
+tested : (a b : ℕ) → a ≤ b → nat_le a b ≡ true
+tested a b h = grind (arith, nat_tests)
+
+pub phase_due : (m : Chart) (p : Public) (text : List ℕ) (new : Public) → IsPhase m p text new → is_due 999999999999 p ≡ true
+phase_due m p text new h =
+    let ticks = h.brought.ticks in
+    let parts = and_parts (is_running p.status) (nat_le p.due h.brought.tick) ticks.due in
+    let due : p.due ≤ h.brought.tick = low p.due h.brought.tick parts.1 in
+    and_from (is_running p.status) (nat_le p.due 999999999999) parts.0 (tested p.due 999999999999 (omega (arith, due, ticks.timely)))
+
+-- where no paper of the phase has the text, whatever is said of it may be
+pub said_of_none : (m : Chart) (p : Public) (text : List ℕ) (v : Verdict) → ((new : Public) → IsPhase m p text new → ⊥) → IsSaidOfPhase m p text v
+said_of_none m p text (Right new) none = tt
+said_of_none m p text (Wrong fault) none = λ new other h. none new h

@@ -19,7 +19,7 @@ use Rattle.dip_turn.specs.declared.report.Report.{Report}
 use Rattle.dip_turn_papers.specs.Papers.{account_text, by_province, centre_line, is_in, line_text, lines_by_power, paper_text}
 use Rattle.dip_turn_papers.specs.declared.lines.PaperLine.{PaperLine}
 use Rattle.dip_check.specs.Placing.{placed_by, units_by_place}
-use Rattle.dip_check.specs.Printed.{first_line_of, unit_orders_at}
+use Rattle.dip_check.specs.Printed.{first_line_of, title_words, unit_orders_at}
 use Rattle.dip_check.proofs.LineLemmas.{AreAll, all_both, lacks_by}
 use Rattle.dip_check.proofs.NameTexts.{number_all}
 use Rattle.dip_check.proofs.OrderLines.{unit_orders_again}
@@ -45,10 +45,6 @@ low_phase p = by p.season (decimal p.year) (low_number p.year)
     by FallMoves year all = low_both (codes "F" ++ decimal p.year) (codes "M") (low_both (codes "F") (decimal p.year) refl (low_number p.year)) refl
     by FallRetreats year all = low_both (codes "F" ++ decimal p.year) (codes "R") (low_both (codes "F") (decimal p.year) refl (low_number p.year)) refl
     by Winter year all = low_both (codes "W" ++ decimal p.year) (codes "A") (low_both (codes "W") (decimal p.year) refl (low_number p.year)) refl
-
--- the title without its LF
-abbrev pub title_words : ℕ → Phase → List ℕ
-title_words n phase = codes "PAPER " ++ decimal n ++ codes " " ++ phase_text phase
 
 pub title_line : (n : ℕ) (phase : Phase) → IsLine (title_words n phase)
 title_line n phase =

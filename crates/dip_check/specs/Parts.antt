@@ -8,10 +8,6 @@ use Rattle.dip_letters.specs.Reading.{after_name}
 abbrev pub lines_in : List ℕ → List (List ℕ)
 lines_in text = slice_split (λ b. b == 10) text
 
--- the first line of a text
-abbrev pub first_line_in : List ℕ → List ℕ
-first_line_in text = unwrap_or (slice_get (lines_in text) 0) []
-
 -- what stands between the spaces of a line
 abbrev pub words_in : List ℕ → List (List ℕ)
 words_in line = slice_split (λ b. b == 32) line

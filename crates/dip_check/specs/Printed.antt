@@ -9,6 +9,9 @@ use Rattle.dip_letters.specs.Lines.{cut_at, line_at, split_lines, word_at}
 use Rattle.dip_letters.specs.Reading.{after_name}
 use Rattle.dip_map.specs.Boards.{Position}
 use Rattle.dip_map.specs.Charts.{Chart, power_of, realm}
+use Rattle.std.specs.Fmt.{decimal}
+use Rattle.dip_reports.specs.Texts.{phase_text}
+use Rattle.dip_map.specs.declared.boards.Phase.{Phase}
 use Rattle.dip_map.specs.declared.boards.Season.{Season}
 use Rattle.dip_map.specs.declared.boards.Season.TheVariants.{SpringMoves, SpringRetreats, FallMoves, FallRetreats, Winter}
 use Rattle.dip_orders.specs.Given.{AreGiven, orders_of_power}
@@ -25,6 +28,10 @@ use Rattle.dip_check.specs.declared.printed.Printed.TheVariants.{Orders, NoOrder
 -- the first line, or all where no line ends, and what is after it
 abbrev pub first_line_of : List ℕ → List ℕ × List ℕ
 first_line_of text = unwrap_or (line_at text) (text, [])
+
+-- the first line of a phase's paper
+abbrev pub title_words : ℕ → Phase → List ℕ
+title_words number phase = codes "PAPER " ++ decimal number ++ codes " " ++ phase_text phase
 
 -- what a line says of a power, after its name and a space
 unfoldable pub words_at : Chart → ℕ → List ℕ → Option (List ℕ)

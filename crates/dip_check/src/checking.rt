@@ -1,10 +1,13 @@
 //! A text that is to come next in a game.
 ghost use Rattle.std.specs.Prelude.{◌≡◌, ◌<◌, IfOk, true};
-ghost use Rattle.dip_check.specs.Checks.{IsRightNext};
+ghost use Rattle.dip_check.specs.Checks.{IsRightNext, IsSaidOfPhase};
+ghost use Rattle.dip_check.specs.Games.{IsPhase};
 ghost use Rattle.dip_desk_machine.specs.Ticking.{is_due};
 ghost use Rattle.dip_desk_state.specs.Bounds.{most_papers};
+ghost use Rattle.dip_desk_state.specs.Records as records;
 ghost use Rattle.dip_desk_state.specs.Rows as rows;
 ghost use Rattle.dip_map.specs.Boards.{IsOf};
+ghost use Rattle.dip_map.specs.Charts.{Chart};
 
 use crate::differences::{fault_at, other_line};
 use crate::drawing::check_draw;
@@ -17,7 +20,16 @@ use dip_desk_state::{MOST_PAPERS, Public};
 use dip_map::Map;
 use std::alloc::{AllocError, Global};
 
-/// What is said of a text that is to come next in a game that goes on and may be due: a draw or a phase.
+/// Whether a text begins with the title of the game's phase, as each paper of the phase does.
+fn has_phase_title(alloc: Global, before: &Public, text: &str) -> Result<bool, AllocError>
+    ensures { IfOk result (λ r. (m : Chart) (new : records.Public)
+        → IsPhase m (rows.public before.now) text.now new → r ≡ true) }
+{
+    let wanted = phase_title(alloc, before)?;
+    Ok(first_line(text) == wanted.as_str())
+}
+
+/// What is said of a text that has another title, and is to come next in a game that goes on and may be due: a draw.
 fn check_on_time(
     alloc: Global,
     map: &Map,
@@ -34,16 +46,30 @@ fn check_on_time(
         return check_draw(alloc, map, before, LAST_TICK, text);
     }
     let wanted = phase_title(alloc, before)?;
-    if title != wanted.as_str() {
-        return Ok(Verdict::Wrong(other_line(alloc, 1, title, wanted.as_str())?));
+    Ok(Verdict::Wrong(other_line(alloc, 1, title, wanted.as_str())?))
+}
+
+/// What is said of a text that is to come next in a game, and is no paper of the game's phase: by its title it is a notice or a draw.
+fn check_other(alloc: Global, map: &Map, before: &Public, text: &str) -> Result<Verdict, AllocError>
+    requires of_map { IsOf map.now before.now.board.value }
+    requires room { before.now.papers < most_papers }
+    ensures { IfOk result (λ v. IsRightNext map.now (rows.public before.now) text.now v) }
+{
+    let title = first_line(text);
+    let wanted = title_of(alloc, before, "notice")?;
+    if title == wanted.as_str() {
+        return check_notice(alloc, map, before, text);
     }
-    check_phase(alloc, map, before, text)
+    if is_due(LAST_TICK, before) {
+        return check_on_time(alloc, map, before, text);
+    }
+    Ok(Verdict::Wrong(other_line(alloc, 1, title, wanted.as_str())?))
 }
 
 /// What is said of a text that is to come next in a game that stands so: by its title it is a notice, a draw or a phase.
 ///
 /// It is right only where it is a paper that the rules give: of a phase that some orders that can be given leave, at a tick from the due
-/// one on; of a draw between survivors; or of a notice that a letter may ask for.
+/// one on; of a draw between survivors; or of a notice that a letter may ask for. A movement's or retreats' paper is never told wrong.
 ///
 /// # Errors
 /// Want of memory alone.
@@ -54,18 +80,19 @@ pub fn check_paper(
     text: &str,
 ) -> Result<Verdict, AllocError>
     requires of_map { IsOf map.now before.now.board.value }
-    ensures { IfOk result (λ v. IsRightNext map.now (rows.public before.now) text.now v) }
+    ensures right { IfOk result (λ v. IsRightNext map.now (rows.public before.now) text.now v) }
+    ensures phases { IfOk result (λ v. before.now.papers < most_papers
+        → IsSaidOfPhase map.now (rows.public before.now) text.now v) }
 {
-    let title = first_line(text);
     if MOST_PAPERS <= before.papers {
+        let title = first_line(text);
         return Ok(Verdict::Wrong(fault_at(alloc, 1, title, Wanted::NoLine)?));
     }
-    let wanted = title_of(alloc, before, "notice")?;
-    if title == wanted.as_str() {
-        return check_notice(alloc, map, before, text);
+    if !has_phase_title(alloc, before, text)? {
+        return check_other(alloc, map, before, text);
     }
-    if is_due(LAST_TICK, before) {
-        return check_on_time(alloc, map, before, text);
+    if !is_due(LAST_TICK, before) {
+        return check_other(alloc, map, before, text);
     }
-    Ok(Verdict::Wrong(other_line(alloc, 1, title, wanted.as_str())?))
+    check_phase(alloc, map, before, text)
 }

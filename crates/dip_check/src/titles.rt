@@ -1,9 +1,9 @@
 //! The first line of a paper, and a line by its number.
 ghost use Rattle.std.specs.Prelude.{◌≡◌, ◌+◌, ◌++◌, IfOk, codes, string_bytes};
 ghost use Rattle.std.specs.Fmt.{decimal};
-ghost use Rattle.dip_check.specs.Parts.{first_line_in};
-ghost use Rattle.dip_reports.specs.Texts.{phase_text};
+ghost use Rattle.dip_check.specs.Printed.{first_line_of, title_words};
 
+use crate::printed::first_and_rest;
 use dip_desk_state::Public;
 use dip_reports::push_phase;
 use std::alloc::{AllocError, Global};
@@ -15,18 +15,15 @@ pub(crate) fn line_of(text: &str, number: usize) -> &str {
 
 /// The first line of a text.
 pub(crate) fn first_line(text: &str) -> &str
-    ensures { result.now ≡ first_line_in text.now }
+    ensures { result.now ≡ (first_line_of text.now).0 }
 {
-    match text.split('\n').nth(0) {
-        Some(line) => line,
-        None => "",
-    }
+    first_and_rest(text).0
 }
 
 /// The first line of the paper that comes next, of a kind that isn't a phase.
 pub(crate) fn title_of(alloc: Global, before: &Public, kind: &str) -> Result<String, AllocError>
-    ensures { IfOk result (λ t. string_bytes t
-        ≡ codes "PAPER " ++ decimal (before.now.papers + 1) ++ codes " " ++ kind.now) }
+    ensures { IfOk result (λ t. string_bytes t ≡ codes "PAPER " ++ decimal (before.now.papers + 1)
+        ++ codes " " ++ kind.now) }
 {
     let number = u64::from(before.papers) + 1;
     let mut title = String::new(alloc);
@@ -37,8 +34,7 @@ pub(crate) fn title_of(alloc: Global, before: &Public, kind: &str) -> Result<Str
 /// The first line of the paper that comes next, where it tells of the game's phase.
 pub(crate) fn phase_title(alloc: Global, before: &Public) -> Result<String, AllocError>
     ensures { IfOk result (λ t. string_bytes t
-        ≡ codes "PAPER " ++ decimal (before.now.papers + 1) ++ codes " "
-        ++ phase_text before.now.board.value.phase) }
+        ≡ title_words (before.now.papers + 1) before.now.board.value.phase) }
 {
     let mut title = title_of(alloc, before, "")?;
     push_phase(before.board.phase(), &mut title)?;

@@ -1,5 +1,5 @@
 -- The parts of a text that is to be a paper: its lines, its game line, and the words of that.
-use Rattle.std.specs.Prelude.{ℕ, ◌==◌, Bool, false, List, [], ◌∷◌, ◌++◌, Option, None, Some, codes, slice_get, option_to_list, unwrap_or, if◌then◌else◌}
+use Rattle.std.specs.Prelude.{ℕ, ◌==◌, Bool, false, List, [], ◌∷◌, ◌++◌, Option, None, Some, codes, slice_get, option_to_list, if◌then◌else◌}
 use Rattle.std.specs.List.{slice_split, starts_with}
 use Rattle.std.specs.Str.{bytes_eq}
 use Rattle.dip_letters.specs.Reading.{after_name}

@@ -101,9 +101,10 @@ fn further(one: Fault, other: Fault) -> Fault {
 
 /// Of two verdicts the right one, or else the one whose text goes on further.
 fn better(one: Verdict, other: Verdict) -> Verdict
-    ensures { (m : Chart) (p : records.Public) (text : List ℕ) (lines : List (List ℕ)) (n : NoticeRequest)
-        → IsJudgedNext m p text (IsAnnounced m p lines text) one → IsJudgedNext m p text (IsNoted m p n text) other
-        → IsJudgedNext m p text (λ new. IsAnnounced m p lines text new ⊎ IsNoted m p n text new) result }
+    ensures { (m : Chart) (p : records.Public) (text : List ℕ) (lines : List (List ℕ))
+        (n : NoticeRequest) → IsJudgedNext m p text (IsAnnounced m p lines text) one
+        → IsJudgedNext m p text (IsNoted m p n text) other → IsJudgedNext m p text
+        (λ new. IsAnnounced m p lines text new ⊎ IsNoted m p n text new) result }
 {
     match one {
         Verdict::Right(public) => Verdict::Right(public),

@@ -56,7 +56,8 @@ fn period_told(words: &[&str]) -> u32
     ensures least { 1 ≤ result }
     ensures most { result ≤ 999999 }
     ensures told { (n : ℕ) → 1 ≤ n → n ≤ 999999
-        → word_after (codes "PERIOD") (each (λ w. w.now) words.now) ≡ Some (decimal n) → result ≡ n }
+        → word_after (codes "PERIOD") (each (λ w. w.now) words.now) ≡ Some (decimal n)
+        → result ≡ n }
 {
     match number_after(words, "PERIOD") {
         Some(told) => match u32::try_from(told) {

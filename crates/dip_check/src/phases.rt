@@ -159,7 +159,8 @@ pub fn phase_of(
         × IsPhaseOf map.now (rows.public before.now) text.now report new)) }
     ensures none { IfOk result (λ found. IfNone found ((new : records.Public)
         → before.now.papers < most_papers
-        → is_adjustment before.now.board.value.phase.season ≡ false → IsPhase map.now (rows.public before.now) text.now new → ⊥)) }
+        → is_adjustment before.now.board.value.phase.season ≡ false
+        → IsPhase map.now (rows.public before.now) text.now new → ⊥)) }
 {
     if MOST_PAPERS <= before.papers || !is_due(LAST_TICK, before) {
         return Ok(None);

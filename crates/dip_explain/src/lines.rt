@@ -155,7 +155,8 @@ impl Case<'_> {
     #[tactic(auto, unfolding(crate::specs::Movement::dislodged_text))]
     fn push_dislodged(&self, x: Prov, out: &mut String) -> Result<(), AllocError>
         ensures { OnOk result
-            (string_bytes out.new ≡ string_bytes out.old ++ m.dislodged_text (matter_of self.now) x) }
+            (string_bytes out.new ≡ string_bytes out.old ++ m.dislodged_text (matter_of self.now)
+            x) }
     {
         out.push_str(dislodged_words())?;
         self.push_enterers(x, out)
@@ -184,7 +185,8 @@ impl Case<'_> {
 
     fn push_saying(&self, saying: &Saying, p: Prov, out: &mut String) -> Result<(), AllocError>
         ensures { OnOk result
-            (string_bytes out.new ≡ string_bytes out.old ++ saying_text (matter_of self.now) saying.now p) }
+            (string_bytes out.new ≡ string_bytes out.old ++ saying_text (matter_of self.now)
+            saying.now p) }
     {
         match *saying {
             Saying::Prevents(q) => self.push_prevent(q, p, out),
@@ -203,7 +205,8 @@ impl Case<'_> {
         out: &mut String,
     ) -> Result<(), AllocError>
         ensures { OnOk result
-            (string_bytes out.new ≡ string_bytes out.old ++ others (saying_text (matter_of self.now) saying.now) units.now) }
+            (string_bytes out.new ≡ string_bytes out.old ++ others (saying_text (matter_of
+            self.now) saying.now) units.now) }
     {
         for p in units {
             out.push_str(", ")?;
@@ -220,7 +223,8 @@ impl Case<'_> {
         out: &mut String,
     ) -> Result<(), AllocError>
         ensures { OnOk result
-            (string_bytes out.new ≡ string_bytes out.old ++ joined (saying_text (matter_of self.now) saying.now) units.now) }
+            (string_bytes out.new ≡ string_bytes out.old ++ joined (saying_text (matter_of
+            self.now) saying.now) units.now) }
     {
         let Some((first, rest)) = units.split_first() else {
             return Ok(());
@@ -282,7 +286,8 @@ impl Case<'_> {
         out: &mut String,
     ) -> Result<(), AllocError>
         ensures { OnOk result
-            (string_bytes out.new ≡ string_bytes out.old ++ m.exceeded_text (matter_of self.now) p q) }
+            (string_bytes out.new ≡ string_bytes out.old ++ m.exceeded_text (matter_of self.now) p
+            q) }
     {
         let rivals = self.rivals(alloc, p, q)?;
         self.push_opposition(p, q, out)?;
@@ -298,7 +303,8 @@ impl Case<'_> {
         out: &mut String,
     ) -> Result<(), AllocError>
         ensures { OnOk result
-            (string_bytes out.new ≡ string_bytes out.old ++ m.unexceeded_text (matter_of self.now) p q) }
+            (string_bytes out.new ≡ string_bytes out.old ++ m.unexceeded_text (matter_of self.now)
+            p q) }
     {
         if self.corner.opposition(p, q) < self.corner.attack(p, q) {
             let unbeaten = self.unbeaten(alloc, p, q)?;
@@ -316,7 +322,8 @@ impl Case<'_> {
         out: &mut String,
     ) -> Result<(), AllocError>
         ensures { OnOk result
-            (string_bytes out.new ≡ string_bytes out.old ++ m.comparison_text (matter_of self.now) p q) }
+            (string_bytes out.new ≡ string_bytes out.old ++ m.comparison_text (matter_of self.now)
+            p q) }
     {
         if self.corner.attack(p, q) == 0 {
             return Ok(());
@@ -333,7 +340,8 @@ impl Case<'_> {
     #[tactic(auto, unfolding(crate::specs::Movement::move_text))]
     fn push_move(&self, alloc: Global, p: Prov, out: &mut String) -> Result<(), AllocError>
         ensures { OnOk result
-            (string_bytes out.new ≡ string_bytes out.old ++ m.move_text (matter_of self.now) p ((situation_of self.now.corner.table.now).target p)) }
+            (string_bytes out.new ≡ string_bytes out.old ++ m.move_text (matter_of self.now) p
+            ((situation_of self.now.corner.table.now).target p)) }
     {
         self.push_order(p, out)?;
         let Some(q) = self.corner.table.target(p) else {
@@ -419,7 +427,8 @@ impl Case<'_> {
     /// The fleets that carry the move of a unit.
     fn servers(&self, alloc: Global, p: Prov) -> Result<Vec<Prov>, AllocError>
         ensures { IfOk result
-            (λ v. v.items ≡ m.servers (situation_of self.now.corner.table.now) (here (matter_of self.now)) p) }
+            (λ v. v.items ≡ m.servers (situation_of self.now.corner.table.now) (here (matter_of
+            self.now)) p) }
     {
         self.corner
             .table
@@ -496,7 +505,8 @@ impl Case<'_> {
     #[tactic(auto, unfolding(crate::specs::Movement::decision_text))]
     pub(crate) fn push_decision(&self, alloc: Global, out: &mut String) -> Result<(), AllocError>
         ensures { OnOk result
-            (string_bytes out.new ≡ string_bytes out.old ++ m.decision_text (matter_of self.now) self.now.corner.of.now) }
+            (string_bytes out.new ≡ string_bytes out.old ++ m.decision_text (matter_of self.now)
+            self.now.corner.of.now) }
     {
         match *self.corner.of {
             Decision::Move(p) => self.push_move(alloc, p, out),

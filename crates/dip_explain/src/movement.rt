@@ -124,7 +124,8 @@ impl Ground<'_> {
 
     fn push_circle(&self, units: &[Prov], out: &mut String) -> Result<(), AllocError>
         ensures { OnOk result
-            (string_bytes out.new ≡ string_bytes out.old ++ codes "circle: " ++ joined (order_in self.now.map.now self.now.orders.now) units.now ++ codes " move together\n") }
+            (string_bytes out.new ≡ string_bytes out.old ++ codes "circle: " ++ joined (order_in
+            self.now.map.now self.now.orders.now) units.now ++ codes " move together\n") }
     {
         out.push_str("circle: ")?;
         push_orders(self.map, self.orders, units, out)?;
@@ -133,7 +134,9 @@ impl Ground<'_> {
 
     fn push_knot(&self, units: &[Prov], out: &mut String) -> Result<(), AllocError>
         ensures { OnOk result
-            (string_bytes out.new ≡ string_bytes out.old ++ codes "knot: " ++ joined (order_in self.now.map.now self.now.orders.now) units.now ++ m.knot_text (length units.now) ++ codes "\n") }
+            (string_bytes out.new ≡ string_bytes out.old ++ codes "knot: " ++ joined (order_in
+            self.now.map.now self.now.orders.now) units.now ++ m.knot_text (length units.now) ++
+            codes "\n") }
     {
         out.push_str("knot: ")?;
         push_orders(self.map, self.orders, units, out)?;
@@ -151,7 +154,9 @@ impl Ground<'_> {
         out: &mut String,
     ) -> Result<(), AllocError>
         ensures { OnOk result
-            (string_bytes out.new ≡ string_bytes out.old ++ m.step_line self.now.map.now self.now.orders.now (situation_of self.now.table.now) (values_in self.now.resolution.now) (known_of known.now) step.now) }
+            (string_bytes out.new ≡ string_bytes out.old ++ m.step_line self.now.map.now
+            self.now.orders.now (situation_of self.now.table.now) (values_in
+            self.now.resolution.now) (known_of known.now) step.now) }
     {
         match step {
             Step::Forced(d) => self.push_forced(alloc, known, d, out),
@@ -172,7 +177,8 @@ impl Ground<'_> {
 
     /// Learns what a step gives.
     fn learn_step(&self, known: &mut Known, step: &Step)
-        ensures { known_of known.new ≡ m.known_after (known_of known.old) step.now (values_in self.now.resolution.now) }
+        ensures { known_of known.new ≡ m.known_after (known_of known.old) step.now (values_in
+            self.now.resolution.now) }
     {
         match step {
             Step::Forced(d) => self.learn_forced(known, d),
@@ -189,7 +195,9 @@ impl Ground<'_> {
         out: &mut String,
     ) -> Result<(), AllocError>
         ensures { OnOk result
-            (string_bytes out.new ≡ string_bytes out.old ++ m.lines_from self.now.map.now self.now.orders.now (situation_of self.now.table.now) (values_in self.now.resolution.now) (known_of known.old) self.now.resolution.now.steps.items) }
+            (string_bytes out.new ≡ string_bytes out.old ++ m.lines_from self.now.map.now
+            self.now.orders.now (situation_of self.now.table.now) (values_in
+            self.now.resolution.now) (known_of known.old) self.now.resolution.now.steps.items) }
     {
         for step in &self.resolution.steps {
             self.push_step(alloc, known, step, out)?;

@@ -157,7 +157,8 @@ fn push_clash(
     prov: Prov,
     out: &mut String,
 ) -> Result<(), AllocError>
-    ensures { OnOk result (string_bytes out.new ≡ string_bytes out.old ++ r.clash_text map.now all.now
+    ensures { OnOk result (string_bytes out.new ≡ string_bytes out.old ++ r.clash_text map.now
+        all.now
         line.now prov) }
 {
     out.push_str(" disbands: another unit retreats there")?;

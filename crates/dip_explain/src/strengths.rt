@@ -401,7 +401,8 @@ impl Case<'_> {
     #[tactic(auto, unfolding(crate::specs::Movement::attack_strength))]
     fn push_attack_strength(&self, p: Prov, q: Prov, out: &mut String) -> Result<(), AllocError>
         ensures { OnOk result
-            (string_bytes out.new ≡ string_bytes out.old ++ m.attack_strength (matter_of self.now) p q) }
+            (string_bytes out.new ≡ string_bytes out.old ++ m.attack_strength (matter_of self.now)
+            p q) }
     {
         let here = self.corner.attack(p, q);
         let there = self.attack_there(p, q);
@@ -476,7 +477,8 @@ impl Case<'_> {
     #[tactic(auto, unfolding(crate::specs::Movement::opposition_strength))]
     fn push_opposition_strength(&self, p: Prov, q: Prov, out: &mut String) -> Result<(), AllocError>
         ensures { OnOk result
-            (string_bytes out.new ≡ string_bytes out.old ++ m.opposition_strength (matter_of self.now) p q) }
+            (string_bytes out.new ≡ string_bytes out.old ++ m.opposition_strength (matter_of
+            self.now) p q) }
     {
         let here = self.corner.opposition(p, q);
         let there = self.opposition_there(p, q);
@@ -503,7 +505,8 @@ impl Case<'_> {
     #[tactic(auto, unfolding(crate::specs::Movement::pathless_text))]
     fn push_pathless(&self, w: Prov, out: &mut String) -> Result<(), AllocError>
         ensures { OnOk result
-            (string_bytes out.new ≡ string_bytes out.old ++ m.pathless_text (matter_of self.now) w) }
+            (string_bytes out.new ≡ string_bytes out.old ++ m.pathless_text (matter_of self.now) w)
+            }
     {
         out.push_str(" (")?;
         self.push_unit(w, out)?;
@@ -541,7 +544,8 @@ impl Case<'_> {
     #[tactic(auto, unfolding(crate::specs::Movement::prevent_strength))]
     fn push_prevent_strength(&self, q: Prov, w: Prov, out: &mut String) -> Result<(), AllocError>
         ensures { OnOk result
-            (string_bytes out.new ≡ string_bytes out.old ++ m.prevent_strength (matter_of self.now) q w) }
+            (string_bytes out.new ≡ string_bytes out.old ++ m.prevent_strength (matter_of self.now)
+            q w) }
     {
         let here = self.corner.prevent(w, q);
         let there = self.prevent_there(w, q);

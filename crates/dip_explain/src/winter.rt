@@ -20,7 +20,8 @@ fn push_builds(map: &Map, board: &Board, power: Power, out: &mut String) -> Resu
     let centres = board.centres_owned(power);
     let units = board.units_counted(power);
     let free = vacant_homes(map, board, power);
-    write!(out,
+    write!(
+        out,
         "{name} may build {due} (centres {centres}, units {units}, free home centres {free})"
     )
 }
@@ -34,7 +35,10 @@ fn push_removals(map: &Map, board: &Board, power: Power, out: &mut String) -> Re
     let due = removals_due(board, power);
     let centres = board.centres_owned(power);
     let units = board.units_counted(power);
-    write!(out, "{name} has to remove {due} (centres {centres}, units {units})")
+    write!(
+        out,
+        "{name} has to remove {due} (centres {centres}, units {units})"
+    )
 }
 
 /// Appends the line of a unit that is built.
@@ -51,7 +55,12 @@ fn push_build(map: &Map, board: &Board, unit: &Unit, out: &mut String) -> Result
 }
 
 /// Appends the line of builds that are waived.
-fn push_waiver(map: &Map, board: &Board, waiver: &Waiver, out: &mut String) -> Result<(), AllocError>
+fn push_waiver(
+    map: &Map,
+    board: &Board,
+    waiver: &Waiver,
+    out: &mut String,
+) -> Result<(), AllocError>
     ensures { OnOk result (string_bytes out.new ≡ string_bytes out.old ++ w.waiver_text map.now
         board.now waiver.now) }
 {
@@ -233,7 +242,9 @@ fn push_disorders(
 fn is_among(units: &[Unit], unit: &Unit) -> bool
     ensures { result ≡ is_among units.now unit.now }
 {
-    units.iter().any(|other| other.place.prov == unit.place.prov)
+    units
+        .iter()
+        .any(|other| other.place.prov == unit.place.prov)
 }
 
 /// The units whose removal wasn't ordered.
@@ -318,7 +329,8 @@ fn push_power_disorder(
     out: &mut String,
 ) -> Result<(), AllocError>
     ensures { OnOk result (string_bytes out.new ≡ string_bytes out.old ++ w.disorder_texts map.now
-        board.now (w.units_left board.now told.now) (units_of_power power told.now.disorder.items)) }
+        board.now (w.units_left board.now told.now) (units_of_power power told.now.disorder.items))
+        }
 {
     let left = units_left(alloc, board, told)?;
     let gone = units_of_power(alloc, power, told.disorder.as_slice())?;

@@ -128,8 +128,8 @@ unfoldable pub pathless_words : List ℕ
 pathless_words = codes " has no route)"
 
 -- a move that has no route prevents nobody
-unfoldable pub pathless_text : Matter → ℕ → List ℕ
-pathless_text c w = codes " (" ++ unit_in c w ++ pathless_words
+unfoldable pub pathless : Matter → ℕ → List ℕ
+pathless c w = codes " (" ++ unit_in c w ++ pathless_words
 
 -- nor does one that lost to the unit in q, head to head
 unfoldable pub loser_text : Matter → ℕ → ℕ → List ℕ
@@ -138,7 +138,7 @@ loser_text c q w = codes " (" ++ unit_in c w ++ codes " lost to " ++ unit_in c q
 -- who prevents other moves to q with w, or why nobody does
 unfoldable pub preventers_text : Matter → ℕ → ℕ → List ℕ
 preventers_text c q w =
-    if not (has_path c.situation (here c) w) then pathless_text c w
+    if not (has_path c.situation (here c) w) then pathless c w
     else if head_to_head c.situation w q && here c (Move q) then loser_text c q w
     else backed_text c w
 

@@ -85,8 +85,8 @@ disorder_texts m b us [] = []
 disorder_texts m b us (u ∷ gone) = disorder_text m b (without u.place.prov us) u ++ disorder_texts m b (without u.place.prov us) gone
 
 -- the units whose removal wasn't ordered
-abbrev pub units_left : Position → Adjustment → List AUnit
-units_left b t = filter (λ u. not (is_among t.removals.items u)) b.units
+abbrev pub kept_in : Position → Adjustment → List AUnit
+kept_in b t = filter (λ u. not (is_among t.removals.items u)) b.units
 
 abbrev pub is_by : ℕ → Waiver → Bool
 is_by r w = w.power == r
@@ -95,7 +95,7 @@ is_by r w = w.power == r
 abbrev pub power_text : Chart → Position → Adjustment → ℕ → List ℕ
 power_text m b t r = flat_map (build_text m b) (units_of_power r t.builds.items)
     ++ flat_map (removal_text m b) (units_of_power r t.removals.items)
-    ++ disorder_texts m b (units_left b t) (units_of_power r t.disorder.items)
+    ++ disorder_texts m b (kept_in b t) (units_of_power r t.disorder.items)
     ++ flat_map (waiver_text m b) (filter (is_by r) t.waivers.items)
 
 -- the explanation of a Winter

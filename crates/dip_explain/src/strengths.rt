@@ -502,11 +502,10 @@ impl Case<'_> {
         self.push_opponents(p, q, out)
     }
 
-    #[tactic(auto, unfolding(crate::specs::Movement::pathless_text))]
+    #[tactic(auto, unfolding(crate::specs::Movement::pathless))]
     fn push_pathless(&self, w: Prov, out: &mut String) -> Result<(), AllocError>
         ensures { OnOk result
-            (string_bytes out.new ≡ string_bytes out.old ++ m.pathless_text (matter_of self.now) w)
-            }
+            (string_bytes out.new ≡ string_bytes out.old ++ m.pathless (matter_of self.now) w) }
     {
         out.push_str(" (")?;
         self.push_unit(w, out)?;

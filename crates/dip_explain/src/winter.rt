@@ -249,7 +249,7 @@ fn is_among(units: &[Unit], unit: &Unit) -> bool
 
 /// The units whose removal wasn't ordered.
 fn units_left(alloc: Global, board: &Board, told: &Adjustment) -> Result<Vec<Unit>, AllocError>
-    ensures { IfOk result (λ v. v.items ≡ w.units_left board.now told.now) }
+    ensures { IfOk result (λ v. v.items ≡ w.kept_in board.now told.now) }
 {
     let removals = told.removals.as_slice();
     board
@@ -329,8 +329,7 @@ fn push_power_disorder(
     out: &mut String,
 ) -> Result<(), AllocError>
     ensures { OnOk result (string_bytes out.new ≡ string_bytes out.old ++ w.disorder_texts map.now
-        board.now (w.units_left board.now told.now) (units_of_power power told.now.disorder.items))
-        }
+        board.now (w.kept_in board.now told.now) (units_of_power power told.now.disorder.items)) }
 {
     let left = units_left(alloc, board, told)?;
     let gone = units_of_power(alloc, power, told.disorder.as_slice())?;

@@ -1,1 +1,3 @@
-pub mod PaperLemmas
+pub mod InputLemmas
+pub mod TitleLemmas
+pub mod RunLemmas

@@ -1,47 +1,50 @@
 -- What a run over papers reads, says and writes.
-use Rattle.std.specs.Prelude.{◌≡◌, ◌++◌, ℕ, Bool, true, List, [], ◌∷◌, Option}
-use Rattle.std.specs.List.{AllByRecursion}
+use Rattle.std.specs.Prelude.{◌≡◌, ◌+◌, ◌++◌, ◌⊎◌, ℕ, Bool, false, true, List, [], ◌∷◌, Option, None, Some, take}
+use Rattle.std.specs.List.{flat_map}
 use Rattle.std.specs.Io.KnownBytes.{Appends}
 use Rattle.dip_map.specs.Boards.{IsOf}
 use Rattle.dip_map.specs.Charts.{Chart}
 use Rattle.dip_desk_state.specs.Records.{Public}
+use Rattle.dip_desk_state.specs.declared.records.Public.{Public as Row}
 use Rattle.dip_desk_state.specs.Rows as rows
-use Rattle.dip_check.specs.Games.{AreNext, AreOfGame, IsNext, IsOpening}
-use Rattle.dip_judge_runs.specs.RunFaults.{StopsBy}
-use Rattle.dip_judge_runs.specs.Runs.{IsReadWhole}
+use Rattle.dip_turn.specs.declared.report.Report.{Report}
+use Rattle.dip_check.specs.Games.{AreOfGame, IsNext, IsOpening, IsPhaseOf}
+use Rattle.dip_explain.specs.Phases.{phase_explained}
 use Rattle.dip_judge_runs.specs.declared.run.RunFault.{RunFault}
-use Rattle.dip_judge_runs.specs.declared.run.RunFault.TheVariants.{Keep, Memory, Write}
+use Rattle.dip_judge_runs.specs.declared.run.RunFault.TheVariants.{Keep, Memory, Read, TooLong, Write}
+use Rattle.dip_check_runs.specs.Input.{AreEmptyLines, HasUsed, HasUsedAll}
+use Rattle.dip_check_runs.specs.Texts.{count_text, empty_text, missing_text, no_phase_text, right_text, said_text}
+use Rattle.dip_check_runs.specs.declared.explaining.Found.{Found}
 use Rattle.dip_check_runs.specs.declared.saying.Said.{Said}
 use Rattle.dip_check_runs.specs.declared.saying.Said.TheVariants.{Right, Wrong, NoText}
 
--- bytes that are nothing but empty lines
-abbrev pub AreEmptyLines : List ℕ → Type 0
-AreEmptyLines bytes = AllByRecursion (λ b. b ≡ 10) bytes
+-- bytes are these texts, one after the other, each after empty lines or none
+abbrev pub AreFronts : List ℕ → List (List ℕ) → Type 0
+AreFronts bytes [] = bytes ≡ []
+AreFronts bytes (t ∷ ts) = (lines rest : List ℕ) × AreEmptyLines lines × (bytes ≡ lines ++ (t ++ rest)) × AreFronts rest ts
 
--- an input is these texts, one after the other, with nothing but empty lines before, between and after them
-abbrev pub AreSpelled : List ℕ → List (List ℕ) → Type 0
-AreSpelled input [] = AreEmptyLines input
-AreSpelled input (t ∷ ts) = (lines rest : List ℕ) × AreEmptyLines lines × (input ≡ lines ++ (t ++ rest)) × AreSpelled rest ts
+-- and nothing but empty lines comes after them
+pub record AreSpelled (bytes : List ℕ) (texts : List (List ℕ)) : Type 0 where
+  pub front : List ℕ
+  pub lines : List ℕ
+  pub fronts : AreFronts front texts
+  pub empty : AreEmptyLines lines
+  pub parts : bytes ≡ front ++ lines
 
--- after the empty lines that the bytes begin with
-abbrev pub IsAfterLines : List ℕ → List ℕ → Type 0
-IsAfterLines bytes rest = (lines : List ℕ) × AreEmptyLines lines × (bytes ≡ lines ++ rest)
+-- no paper was played yet, or these, which are those of a game of the map that stands so
+abbrev pub ArePlayed : Chart → List (List ℕ) → Option Row → Type 0
+ArePlayed m papers None = papers ≡ []
+ArePlayed m papers (Some p) = AreOfGame m papers (rows.public p) × IsOf m p.board.value
 
--- bytes are the papers of a game of the map
-abbrev pub ArePapers : Chart → List ℕ → Type 0
-ArePapers m bytes = (papers : List (List ℕ)) × (new : Public) × AreSpelled bytes papers × AreOfGame m papers new
+-- the board of the game so far is one of the map
+abbrev pub HasBoard : Chart → Option Row → Type 0
+HasBoard m None = Unit {0}
+HasBoard m (Some p) = IsOf m p.board.value
 
--- bytes are papers that come next in a game
-abbrev pub AreFollowing : Chart → Public → List ℕ → Type 0
-AreFollowing m p bytes = (papers : List (List ℕ)) × (new : Public) × AreSpelled bytes papers × AreNext m p papers new
-
--- an input is the papers of a game; the end of its last line may be missing
-abbrev pub IsGame : Chart → List ℕ → Type 0
-IsGame m input = ArePapers m (input ++ 10 ∷ [])
-
--- something was written, and no byte but at the end
-abbrev pub Grows : Option (List ℕ) → Option (List ℕ) → Type 0
-Grows before after = (text : List ℕ) × Appends before after text
+-- how many papers were played
+abbrev pub count_played : Option Row → ℕ
+count_played None = 0
+count_played (Some p) = p.papers
 
 -- bytes are right only where they may come next in a game, and leave it so, with a board of the map
 abbrev pub IsSaidNext : Chart → Public → List ℕ → Said → Type 0
@@ -49,29 +52,181 @@ IsSaidNext m p bytes (Right new) = IsNext m p bytes (rows.public new) × IsOf m 
 IsSaidNext m p bytes (Wrong fault) = Unit {0}
 IsSaidNext m p bytes (NoText line) = Unit {0}
 
--- bytes are right only where they may come first in a game, which stands so, with a board of the map
+-- bytes are right only where they may come first in a game, which stands so, with a board of the map; where a text is wrong, no game
+-- begins with it
 abbrev pub IsSaidFirst : Chart → List ℕ → Said → Type 0
 IsSaidFirst m bytes (Right new) = IsOpening m bytes (rows.public new) × IsOf m new.board.value
-IsSaidFirst m bytes (Wrong fault) = Unit {0}
+IsSaidFirst m bytes (Wrong fault) = (new : Public) → IsOpening m bytes new → ⊥
 IsSaidFirst m bytes (NoText line) = Unit {0}
 
--- a fault of telling what was found
+-- what is said of the bytes that come after the papers that were played
+abbrev pub IsSaid : Chart → Option Row → List ℕ → Said → Type 0
+IsSaid m None bytes said = IsSaidFirst m bytes said
+IsSaid m (Some p) bytes said = IsSaidNext m (rows.public p) bytes said
+
+abbrev pub is_right : Said → Bool
+is_right (Right new) = true
+is_right (Wrong fault) = false
+is_right (NoText line) = false
+
+-- after the papers that were played the input has this one
+pub record ComesNext (known left : Option (List ℕ)) (papers : List (List ℕ)) (paper : List ℕ) : Type 0 where
+  pub used : List ℕ
+  pub part : HasUsed known left used
+  pub fronts : AreFronts used (papers ++ paper ∷ [])
+
+-- the whole input is the papers that were played; the LF of its last line may be missing
+pub record IsAll (known left : Option (List ℕ)) (papers : List (List ℕ)) : Type 0 where
+  pub used : List ℕ
+  pub whole : HasUsedAll known left used
+  pub spelled : AreSpelled used papers
+
+-- after the papers that were played the input has one that isn't right, of which this is told
+pub record IsToldWrong (m : Chart) (known left : Option (List ℕ)) (papers : List (List ℕ)) (game : Option Row) (last : List ℕ) : Type 0 where
+  pub paper : List ℕ
+  pub said : Said
+  pub comes : ComesNext known left papers paper
+  pub is : IsSaid m game paper said
+  pub wrong : is_right said ≡ false
+  pub told : last ≡ said_text paper said
+
+-- the whole input is the papers of a game, of which this is told in the end
+pub record IsToldAll (known left : Option (List ℕ)) (papers : List (List ℕ)) (game : Option Row) (last : List ℕ) : Type 0 where
+  pub public : Row
+  pub some : game ≡ Some public
+  pub all : IsAll known left papers
+  pub told : last ≡ count_text public.papers
+
+-- the whole input has no paper
+pub record IsToldEmpty (known left : Option (List ℕ)) (papers : List (List ℕ)) (game : Option Row) (last : List ℕ) : Type 0 where
+  pub none : game ≡ None
+  pub all : IsAll known left papers
+  pub told : last ≡ empty_text
+
+-- how a check ends: all are right, or not
+abbrev pub EndsCheck : Chart → Option (List ℕ) → Option (List ℕ) → List (List ℕ) → Option Row → List ℕ → Bool → Type 0
+EndsCheck m known left papers game last true = IsToldAll known left papers game last
+EndsCheck m known left papers game last false = IsToldEmpty known left papers game last ⊎ IsToldWrong m known left papers game last
+
+-- each of the first papers of the input was told right, which they are, and then how the check ends
+pub record IsChecked (m : Chart) (known left before after : Option (List ℕ)) (right : Bool) : Type 0 where
+  pub papers : List (List ℕ)
+  pub game : Option Row
+  pub played : ArePlayed m papers game
+  pub last : List ℕ
+  pub ends : EndsCheck m known left papers game last right
+  pub written : Appends before after (flat_map right_text papers ++ last)
+
+-- the paper plays the phase of the game so far, of which this text is the explanation
+abbrev pub IsExplanation : Chart → Option Row → List ℕ → List ℕ → Type 0
+IsExplanation m None paper text = ⊥
+IsExplanation m (Some p) paper text =
+    (report : Report) × (new : Public) × IsPhaseOf m (rows.public p) paper report new × (text ≡ phase_explained m p.board.value report)
+
+-- the paper of this number plays a phase, whose explanation was told
+pub record IsToldWhy (m : Chart) (number : ℕ) (known left : Option (List ℕ)) (papers : List (List ℕ)) (game : Option Row) (last : List ℕ) : Type 0 where
+  pub paper : List ℕ
+  pub comes : ComesNext known left papers paper
+  pub count : count_played game + 1 ≡ number
+  pub is : IsExplanation m game paper last
+
+-- it plays none
+pub record IsToldIdle (m : Chart) (number : ℕ) (known left : Option (List ℕ)) (papers : List (List ℕ)) (game : Option Row) (last : List ℕ) : Type 0 where
+  pub paper : List ℕ
+  pub new : Row
+  pub comes : ComesNext known left papers paper
+  pub count : count_played game + 1 ≡ number
+  pub is : IsSaid m game paper (Right new)
+  pub told : last ≡ no_phase_text paper
+
+-- the whole input has fewer papers
+pub record IsToldMissing (number : ℕ) (known left : Option (List ℕ)) (papers : List (List ℕ)) (game : Option Row) (last : List ℕ) : Type 0 where
+  pub all : IsAll known left papers
+  pub told : last ≡ missing_text number (count_played game)
+
+-- how an explanation ends: with the steps of the paper, or with why there are none
+abbrev pub EndsExplaining : Chart → ℕ → Option (List ℕ) → Option (List ℕ) → List (List ℕ) → Option Row → List ℕ → Bool → Type 0
+EndsExplaining m number known left papers game last true = IsToldWhy m number known left papers game last
+EndsExplaining m number known left papers game last false = IsToldMissing number known left papers game last
+    ⊎ (IsToldIdle m number known left papers game last ⊎ IsToldWrong m known left papers game last)
+
+-- what is to be told of a paper that is to be explained: its explanation; or that it plays no phase, or is wrong
+abbrev pub IsFoundText : Chart → Option Row → List ℕ → List ℕ → Bool → Type 0
+IsFoundText m game paper text true = IsExplanation m game paper text
+IsFoundText m game paper text false = ((new : Row) × IsSaid m game paper (Right new) × (text ≡ no_phase_text paper))
+    ⊎ ((said : Said) × IsSaid m game paper said × (is_right said ≡ false) × (text ≡ said_text paper said))
+
+abbrev pub IsFoundNext : Chart → Option Row → List ℕ → Found → Type 0
+IsFoundNext m game paper found = IsFoundText m game paper found.text.items found.explained
+
+-- the first papers of the input are right, and this is what is to be told
+pub record IsFound (m : Chart) (number : ℕ) (known left : Option (List ℕ)) (last : List ℕ) (done : Bool) : Type 0 where
+  pub papers : List (List ℕ)
+  pub game : Option Row
+  pub played : ArePlayed m papers game
+  pub ends : EndsExplaining m number known left papers game last done
+
+-- what was to be told was, and nothing else
+pub record IsExplained (m : Chart) (number : ℕ) (known left before after : Option (List ℕ)) (done : Bool) : Type 0 where
+  pub last : List ℕ
+  pub found : IsFound m number known left last done
+  pub written : Appends before after last
+
+-- a fault of reading
+abbrev pub IsReadingFault : RunFault → Type 0
+IsReadingFault Read = Unit {0}
+IsReadingFault TooLong = Unit {0}
+IsReadingFault Memory = Unit {0}
+IsReadingFault _ = ⊥
+
+-- a fault of saying and telling
 abbrev pub IsTellingFault : RunFault → Type 0
 IsTellingFault Write = Unit {0}
 IsTellingFault Memory = Unit {0}
 IsTellingFault _ = ⊥
 
--- a keeper's fault is none of a check, which has no keeper
-abbrev pub IsKeepers : RunFault → Type 0
-IsKeepers (Keep fault) = Unit {0}
-IsKeepers _ = ⊥
+-- a keeper's fault is none of a run that has no keeper
+abbrev pub IsRunFault : RunFault → Type 0
+IsRunFault (Keep fault) = ⊥
+IsRunFault _ = Unit {0}
 
--- the whole input was read; only where it is the papers of a game it was found right
-abbrev pub IsChecked : Chart → Option (List ℕ) → Option (List ℕ) → Option (List ℕ) → Option (List ℕ) → Bool → Type 0
-IsChecked m known left before after right =
-    (input : List ℕ) × IsReadWhole known left input × (right ≡ true → IsGame m input) × Grows before after
+-- what is told in the end of the papers that were played
+abbrev pub end_text : Option Row → List ℕ
+end_text None = empty_text
+end_text (Some p) = count_text p.papers
 
--- the input couldn't be read, and nothing was written; or what was found couldn't be told
-abbrev pub EndsChecking : RunFault → Option (List ℕ) → Option (List ℕ) → Option (List ℕ) → Option (List ℕ) → Type 0
-EndsChecking fault known left before after =
-    StopsBy fault known left before after (tt {0}) (tt {0}) × Grows before after × ¬ IsKeepers fault
+-- what a check may tell after the papers that were played
+abbrev pub MayTell : Chart → Option Row → List ℕ → Type 0
+MayTell m game text = ((paper : List ℕ) × (said : Said) × IsSaid m game paper said × (text ≡ said_text paper said)) ⊎ (text ≡ end_text game)
+
+-- what may be told after the papers that were played was begun, or nothing of it was told
+pub record IsBegunAfter (m : Chart) (game : Option Row) (before after : Option (List ℕ)) (fault : RunFault) : Type 0 where
+  pub kind : IsTellingFault fault
+  pub text : List ℕ
+  pub may : MayTell m game text
+  pub size : ℕ
+  pub written : Appends before after (take size text)
+
+-- a check ended early: papers that are right were told so, and what comes next was begun or not
+pub record EndsEarly (m : Chart) (before after : Option (List ℕ)) (fault : RunFault) : Type 0 where
+  pub kind : IsRunFault fault
+  pub papers : List (List ℕ)
+  pub game : Option Row
+  pub played : ArePlayed m papers game
+  pub text : List ℕ
+  pub may : MayTell m game text
+  pub size : ℕ
+  pub written : Appends before after (flat_map right_text papers ++ take size text)
+
+-- a beginning of what was to be told was told
+pub record IsBegun (m : Chart) (number : ℕ) (known left before after : Option (List ℕ)) : Type 0 where
+  pub last : List ℕ
+  pub done : Bool
+  pub found : IsFound m number known left last done
+  pub size : ℕ
+  pub written : Appends before after (take size last)
+
+-- an explanation ended early: nothing was told yet, or it was begun
+pub record EndsBegun (m : Chart) (number : ℕ) (known left before after : Option (List ℕ)) (fault : RunFault) : Type 0 where
+  pub kind : IsRunFault fault
+  pub told : (after ≡ before) ⊎ IsBegun m number known left before after

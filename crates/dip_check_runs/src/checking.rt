@@ -1,106 +1,96 @@
-//! A run over papers: each is made again from the one before it, up to the first wrong one.
-ghost use Rattle.std.specs.Prelude.{◌≡◌, ◌<◌, IfOk, IfErr, length, true};
-ghost use Rattle.dip_check_runs.specs.Runs.{AreFollowing, ArePapers, EndsChecking, Grows, IsChecked, IsTellingFault};
-ghost use Rattle.dip_desk_state.specs.Rows as rows;
-ghost use Rattle.dip_map.specs.Boards.{IsOf};
+//! Papers that are checked: each is made again from the one before it, up to the first wrong one.
+ghost use Rattle.std.specs.Prelude.{◌≡◌, ℕ, IfErr, IfOk, OnErr, OnOk, is_some, string_bytes, take};
+ghost use Rattle.std.specs.Io.KnownBytes.{Appends};
+ghost use Rattle.dip_check_runs.specs.Runs.{EndsEarly, HasBoard, IsBegunAfter, IsChecked, IsSaid, end_text};
+ghost use Rattle.dip_check_runs.specs.Texts as t;
 
-use crate::papers::{after_empty_lines, first_paper};
-use crate::saying::{Said, say_first, say_next};
-use crate::telling::{tell, tell_count, tell_no_text, tell_right, tell_wrong};
+use crate::input::{next_front, nothing_ahead, skip_rest};
+use crate::papers::after_empty_lines;
+use crate::saying::{Said, say};
+use crate::texts::{count_text, said_text};
 use dip_desk_state::Public;
-use dip_judge_runs::{RunFault, read_input};
+use dip_judge_runs::RunFault;
 use dip_map::Map;
-use std::alloc::Global;
+use dip_streams::write_text;
+use std::alloc::{AllocError, Global};
 use std::io::{Read, Write};
 
-/// Checks papers that come next in a game.
-fn check_others<W: Write>(
-    alloc: Global,
-    bytes: &[u8],
-    writer: &mut W,
-    map: &Map,
-    first: Public,
-) -> Result<bool, RunFault>
-    requires { IsOf map.now first.board.value }
-    ensures right { IfOk result
-        (λ right. right ≡ true → AreFollowing map.now (rows.public first) bytes.now) }
-    ensures grows { Grows (W.contents writer.old) (W.contents writer.new) }
-    ensures fault { IfErr result IsTellingFault }
+/// Writes a text, or a beginning of it.
+pub(crate) fn tell<W: Write>(writer: &mut W, text: &[u8]) -> Result<(), RunFault>
+    ensures ok { OnOk result (Appends (W.contents writer.old) (W.contents writer.new) text.now) }
+    ensures err { OnErr result
+        ((size : ℕ)
+        × Appends (W.contents writer.old) (W.contents writer.new) (take size text.now)) }
+    ensures fault { IfErr result (λ f. f ≡ RunFault.Write) }
 {
-    let mut rest = after_empty_lines(bytes);
-    let mut game = first;
-    'papers: while !rest.is_empty() {
-        let (paper, after) = first_paper(rest);
-        match say_next(alloc, map, &game, paper)? {
-            Said::Right(new) => {
-                tell_right(writer, paper)?;
-                game = new;
-                rest = after_empty_lines(after);
-            }
-            Said::Wrong(fault) => {
-                tell_wrong(alloc, writer, paper, &fault)?;
-                return Ok(false);
-            }
-            Said::NoText(line) => {
-                tell_no_text(alloc, writer, paper, line)?;
-                return Ok(false);
-            }
-        }
-    }
-    tell_count(alloc, writer, game.papers)?;
-    Ok(true)
-}
-
-/// Checks the papers of a game from its first on, of which there is one.
-fn check_from_first<W: Write>(
-    alloc: Global,
-    bytes: &[u8],
-    writer: &mut W,
-    map: &Map,
-) -> Result<bool, RunFault>
-    requires { 0 < length bytes.now }
-    ensures right { IfOk result (λ right. right ≡ true → ArePapers map.now bytes.now) }
-    ensures grows { Grows (W.contents writer.old) (W.contents writer.new) }
-    ensures fault { IfErr result IsTellingFault }
-{
-    let (paper, after) = first_paper(bytes);
-    match say_first(alloc, map, paper)? {
-        Said::Right(game) => {
-            tell_right(writer, paper)?;
-            check_others(alloc, after, writer, map, game)
-        }
-        Said::Wrong(fault) => {
-            tell_wrong(alloc, writer, paper, &fault)?;
-            Ok(false)
-        }
-        Said::NoText(line) => {
-            tell_no_text(alloc, writer, paper, line)?;
-            Ok(false)
-        }
+    match write_text(writer, text) {
+        Ok(()) => Ok(()),
+        Err(_) => Err(RunFault::Write),
     }
 }
 
-/// Checks all papers of a game.
-fn check_all<W: Write>(
-    alloc: Global,
-    bytes: &[u8],
-    writer: &mut W,
-    map: &Map,
-) -> Result<bool, RunFault>
-    ensures right { IfOk result (λ right. right ≡ true → ArePapers map.now bytes.now) }
-    ensures grows { Grows (W.contents writer.old) (W.contents writer.new) }
-    ensures fault { IfErr result IsTellingFault }
+/// What is told in the end of the papers that were played.
+fn end_text(alloc: Global, game: &Option<Public>) -> Result<String, AllocError>
+    ensures { IfOk result (λ text. string_bytes text ≡ end_text game.now) }
 {
-    let papers = after_empty_lines(bytes);
-    if papers.is_empty() {
-        tell(writer, b"no paper: the input is empty\n")?;
-        return Ok(false);
+    match game {
+        None => String::from_str(alloc, "no paper: the input is empty\n"),
+        Some(public) => count_text(alloc, public.papers),
     }
-    check_from_first(alloc, papers, writer, map)
 }
 
-/// Reads the whole input, and tells of each paper whether the rules give it next in the game, up to the first that is wrong. Whether all
-/// are right: only where the input is the papers of a game of the map, from its opening on, with nothing but empty lines around them.
+/// Says of the bytes that come after the papers that were played what they are, and tells it.
+fn judge_next<W: Write>(
+    alloc: Global,
+    writer: &mut W,
+    map: &Map,
+    game: &Option<Public>,
+    paper: &[u8],
+) -> Result<Said, RunFault>
+    requires { HasBoard map.now game.now }
+    ensures said { IfOk result (IsSaid map.now game.now paper.now) }
+    ensures told { IfOk result (λ said. Appends (W.contents writer.old) (W.contents writer.new)
+        (t.said_text paper.now said)) }
+    ensures begun { IfErr result
+        (IsBegunAfter map.now game.now (W.contents writer.old) (W.contents writer.new)) }
+{
+    match say(alloc, map, game, paper) {
+        Err(_) => Err(RunFault::Memory),
+        Ok(said) => match said_text(alloc, paper, &said) {
+            Err(_) => Err(RunFault::Memory),
+            Ok(text) => {
+                tell(writer, text.as_slice())?;
+                Ok(said)
+            }
+        },
+    }
+}
+
+/// Tells in the end what the papers that were played are.
+fn tell_end<W: Write>(
+    alloc: Global,
+    writer: &mut W,
+    map: &Map,
+    game: &Option<Public>,
+) -> Result<bool, RunFault>
+    ensures right { IfOk result (λ right. right ≡ is_some game.now) }
+    ensures told { OnOk result
+        (Appends (W.contents writer.old) (W.contents writer.new) (end_text game.now)) }
+    ensures begun { IfErr result
+        (IsBegunAfter map.now game.now (W.contents writer.old) (W.contents writer.new)) }
+{
+    match end_text(alloc, game) {
+        Err(_) => Err(RunFault::Memory),
+        Ok(text) => {
+            tell(writer, text.as_bytes())?;
+            Ok(game.is_some())
+        }
+    }
+}
+
+/// Reads papers, and tells of each whether the rules give it next in the game, up to the first that is wrong. Whether all are right: only
+/// where the input is the papers of a game of the map, from its opening on, with nothing but empty lines around them. One paper and one
+/// board are in memory at a time. What comes after a wrong paper is read and isn't looked at.
 ///
 /// # Errors
 /// `Read`, `TooLong`, `Write` or `Memory`.
@@ -112,12 +102,23 @@ pub fn check_papers<R: Read, W: Write>(
 ) -> Result<bool, RunFault>
     ensures checked { IfOk result (IsChecked map.now (R.remaining reader.old)
         (R.remaining reader.new) (W.contents writer.old) (W.contents writer.new)) }
-    ensures ends { IfErr result (λ f. EndsChecking f (R.remaining reader.old)
-        (R.remaining reader.new) (W.contents writer.old) (W.contents writer.new)) }
+    ensures ends { IfErr result
+        (EndsEarly map.now (W.contents writer.old) (W.contents writer.new)) }
 {
-    let mut input = read_input(alloc, reader)?;
-    match input.push(b'\n') {
-        Err(_) => Err(RunFault::Memory),
-        Ok(()) => check_all(alloc, input.as_slice(), writer, map),
+    let mut ahead = nothing_ahead(alloc);
+    let mut game: Option<Public> = None;
+    'papers: loop {
+        let front = next_front(reader, &mut ahead)?;
+        let paper = after_empty_lines(front.as_slice());
+        if paper.is_empty() {
+            return tell_end(alloc, writer, map, &game);
+        }
+        match judge_next(alloc, writer, map, &game, paper)? {
+            Said::Right(new) => game = Some(new),
+            _ => {
+                skip_rest(reader, &ahead);
+                return Ok(false);
+            }
+        }
     }
 }

@@ -1,8 +1,9 @@
 //! The papers in an input: where each begins and ends.
-ghost use Rattle.std.specs.Prelude.{◌≡◌, ◌<◌, ◌≤◌, ◌++◌, length};
-ghost use Rattle.dip_check_runs.specs.Runs.{IsAfterLines};
+ghost use Rattle.std.specs.Prelude.{◌≡◌, ◌<◌, ◌≤◌, IfSome, length, take};
+ghost use Rattle.dip_check_runs.specs.Input.{HasPaper, IsAfterLines};
+ghost use Rattle.dip_check_runs.specs.Texts as t;
 
-/// Behind the line that begins there, and its end.
+/// After the line that begins there, and its end.
 fn line_end(input: &[u8], start: usize) -> usize
     requires { start < length input.now }
     ensures more { start < result }
@@ -20,8 +21,7 @@ fn line_end(input: &[u8], start: usize) -> usize
 
 /// After the empty lines that the bytes begin with.
 pub(crate) fn after_empty_lines(input: &[u8]) -> &[u8]
-    ensures after { IsAfterLines input.now result.now }
-    ensures most { length result.now ≤ length input.now }
+    ensures { IsAfterLines input.now result.now }
 {
     let mut at = 0;
     'lines: while at < input.len() {
@@ -33,25 +33,26 @@ pub(crate) fn after_empty_lines(input: &[u8]) -> &[u8]
     &input[at..]
 }
 
-/// The paper that the bytes begin with, up to the first line `END` or else all of them, and what comes after it.
-pub(crate) fn first_paper(input: &[u8]) -> (&[u8], &[u8])
-    requires { 0 < length input.now }
-    ensures parts { input.now ≡ result.0.now ++ result.1.now }
-    ensures shorter { length result.1.now < length input.now }
+/// After the first line `END`; nothing where there is none.
+pub(crate) fn paper_end(input: &[u8]) -> Option<usize>
+    ensures most { IfSome result (λ end. end ≤ length input.now) }
+    ensures paper { IfSome result (λ end. HasPaper (take end input.now)) }
 {
     let mut at = 0;
     'lines: while at < input.len() {
         let end = line_end(input, at);
         if &input[at..end] == b"END\n".as_slice() {
-            return input.split_at(end);
+            return Some(end);
         }
         at = end;
     }
-    input.split_at(input.len())
+    None
 }
 
 /// The first line of a paper, up to 80 bytes of it.
-pub(crate) fn title_in(paper: &[u8]) -> &[u8] {
+pub(crate) fn title_in(paper: &[u8]) -> &[u8]
+    ensures { result.now ≡ t.title_in paper.now }
+{
     let mut at = 0;
     'bytes: while at < paper.len() && at < 80 {
         if paper[at] == b'\n' {

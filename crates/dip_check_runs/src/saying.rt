@@ -1,13 +1,12 @@
 //! What is said of bytes that are to come next in a game.
-ghost use Rattle.std.specs.Prelude.{◌≡◌, ◌≤◌, IfOk, IfErr, length};
-ghost use Rattle.dip_check_runs.specs.Runs.{IsSaidFirst, IsSaidNext, IsTellingFault};
+ghost use Rattle.std.specs.Prelude.{◌≡◌, IfOk};
+ghost use Rattle.dip_check_runs.specs.Runs.{HasBoard, IsSaid, IsSaidFirst, IsSaidNext, count_played};
 ghost use Rattle.dip_desk_state.specs.Rows as rows;
 ghost use Rattle.dip_map.specs.Boards.{IsOf};
 
 use crate::papers::line_after;
 use dip_check::{Fault, Verdict, check_opening, check_paper};
 use dip_desk_state::Public;
-use dip_judge_runs::RunFault;
 use dip_map::Map;
 use std::alloc::{AllocError, Global};
 use std::str;
@@ -24,7 +23,7 @@ pub(crate) enum Said {
 }
 
 /// The bytes as a text, or the line in which they are none.
-fn text_of(bytes: &[u8]) -> Result<&str, usize>
+pub(crate) fn text_of(bytes: &[u8]) -> Result<&str, usize>
     ensures { IfOk result (λ t. t.now ≡ bytes.now) }
 {
     match str::from_utf8(bytes) {
@@ -34,37 +33,57 @@ fn text_of(bytes: &[u8]) -> Result<&str, usize>
 }
 
 /// What is said of bytes that are to come next in a game that stands so.
-pub(crate) fn say_next(
-    alloc: Global,
-    map: &Map,
-    before: &Public,
-    bytes: &[u8],
-) -> Result<Said, RunFault>
+fn say_next(alloc: Global, map: &Map, before: &Public, bytes: &[u8]) -> Result<Said, AllocError>
     requires { IsOf map.now before.now.board.value }
-    ensures said { IfOk result (IsSaidNext map.now (rows.public before.now) bytes.now) }
-    ensures fault { IfErr result IsTellingFault }
+    ensures { IfOk result (IsSaidNext map.now (rows.public before.now) bytes.now) }
 {
     match text_of(bytes) {
         Err(line) => Ok(Said::NoText(line)),
-        Ok(text) => match check_paper(alloc, map, before, text) {
-            Err(_) => Err(RunFault::Memory),
-            Ok(Verdict::Right(new)) => Ok(Said::Right(new)),
-            Ok(Verdict::Wrong(fault)) => Ok(Said::Wrong(fault)),
+        Ok(text) => match check_paper(alloc, map, before, text)? {
+            Verdict::Right(new) => Ok(Said::Right(new)),
+            Verdict::Wrong(fault) => Ok(Said::Wrong(fault)),
         },
     }
 }
 
 /// What is said of bytes that are to come first in a game.
-pub(crate) fn say_first(alloc: Global, map: &Map, bytes: &[u8]) -> Result<Said, RunFault>
-    ensures said { IfOk result (IsSaidFirst map.now bytes.now) }
-    ensures fault { IfErr result IsTellingFault }
+fn say_first(alloc: Global, map: &Map, bytes: &[u8]) -> Result<Said, AllocError>
+    ensures { IfOk result (IsSaidFirst map.now bytes.now) }
 {
     match text_of(bytes) {
         Err(line) => Ok(Said::NoText(line)),
-        Ok(text) => match check_opening(alloc, map, text) {
-            Err(_) => Err(RunFault::Memory),
-            Ok(Verdict::Right(new)) => Ok(Said::Right(new)),
-            Ok(Verdict::Wrong(fault)) => Ok(Said::Wrong(fault)),
+        Ok(text) => match check_opening(alloc, map, text)? {
+            Verdict::Right(new) => Ok(Said::Right(new)),
+            Verdict::Wrong(fault) => Ok(Said::Wrong(fault)),
         },
+    }
+}
+
+/// What is said of the bytes that come after the papers that were played.
+///
+/// # Errors
+/// Want of memory alone.
+pub(crate) fn say(
+    alloc: Global,
+    map: &Map,
+    game: &Option<Public>,
+    bytes: &[u8],
+) -> Result<Said, AllocError>
+    requires { HasBoard map.now game.now }
+    ensures { IfOk result (IsSaid map.now game.now bytes.now) }
+{
+    match game {
+        None => say_first(alloc, map, bytes),
+        Some(before) => say_next(alloc, map, before, bytes),
+    }
+}
+
+/// How many papers were played.
+pub(crate) fn count_played(game: &Option<Public>) -> u32
+    ensures { result ≡ count_played game.now }
+{
+    match game {
+        None => 0,
+        Some(public) => public.papers,
     }
 }

@@ -13,9 +13,9 @@ use Rattle.dip_judge_runs.specs.declared.map_file.NoMap.TheVariants as no_map
 use Rattle.dip_judge_runs.specs.declared.run.RunFault.TheVariants as run
 use Rattle.dip_store.specs.Faults.{store_fault_name}
 use Rattle.dip_judge.specs.declared.failures.Failure.{Failure}
-use Rattle.dip_judge.specs.declared.failures.Failure.TheVariants.{Usage, Map, Store, Listen, Run, Serving, NoGame, Papers, NotRight}
+use Rattle.dip_judge.specs.declared.failures.Failure.TheVariants.{Usage, Map, Store, Listen, Run, Serving, NoGame, Papers, Negative}
 
--- the exit status: 1 for papers that aren't right, 2 for the arguments, 3 for the map, 4 for the store, its keeper and a game that isn't there, 5 for a map's file, the
+-- the exit status: 1 where the answer is no, 2 for the arguments, 3 for the map, 4 for the store, its keeper and a game that isn't there, 5 for a map's file, the
 -- port, input, output or other want of memory
 abbrev pub status_of : Failure → ℕ
 status_of (Usage no_words) = 5
@@ -30,7 +30,7 @@ status_of (Serving fault) = 4
 status_of NoGame = 4
 status_of (Papers (paper.Keep fault)) = 4
 status_of (Papers paper.Write) = 5
-status_of NotRight = 1
+status_of Negative = 1
 
 -- the exit status of the program: 0 where it did what was asked
 abbrev pub exit_status : {A : Type 0} → Result A Failure → ℕ
@@ -53,7 +53,7 @@ printed (Run fault) = told (run_name fault)
 printed (Serving fault) = told (keep_fault_name fault)
 printed NoGame = Some (codes "dip_judge: no such game\n")
 printed (Papers fault) = told (paper_fault_name fault)
-printed NotRight = Some []
+printed Negative = Some []
 
 -- what `serve` tells once its port is listened on
 abbrev pub listening_text : ℕ → Option (List ℕ)

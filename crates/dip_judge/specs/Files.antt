@@ -8,7 +8,7 @@ use Rattle.sqlite.specs.Store.{Ghosts}
 use Rattle.sqlite.specs.Tree.{Trees}
 use Rattle.dip_map.specs.Charts.{Chart}
 use Rattle.dip_judge_words.specs.declared.args.Args.{Args}
-use Rattle.dip_judge_words.specs.declared.args.Args.TheVariants.{Init, Letters, Stored, Serve, Report, Check, Version}
+use Rattle.dip_judge_words.specs.declared.args.Args.TheVariants.{Init, Letters, Stored, Serve, Report, Check, Explain, Version}
 use Rattle.dip_desk_state.specs.State.{State}
 use Rattle.dip_store.specs.Calls.{does_show, is_honest}
 use Rattle.dip_store.specs.Opening.{Holds}
@@ -79,6 +79,7 @@ module _ {S : Type 0} (g : Ghosts S) (image : Image) (m : Chart) (known left bef
   LeavesStore (Serve path port count file) opened = WasOpened opened (ServesIn g image m count)
   LeavesStore (Report path game file) opened = WasOpened opened (ReportsIn g image m game.now before after)
   LeavesStore (Check file) opened = Unit {0}
+  LeavesStore (Explain paper file) opened = Unit {0}
   LeavesStore Version opened = Unit {0}
 
   -- and one that ended early of the store that it had opened
@@ -89,4 +90,5 @@ module _ {S : Type 0} (g : Ghosts S) (image : Image) (m : Chart) (known left bef
   StopsStore (Serve path port count file) failure = StopsServingIn g image m count failure
   StopsStore (Report path game file) failure = StopsReportIn g image m game.now before after failure
   StopsStore (Check file) failure = λ store. Unit {0}
+  StopsStore (Explain paper file) failure = λ store. Unit {0}
   StopsStore Version failure = λ store. Unit {0}

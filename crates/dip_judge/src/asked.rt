@@ -7,7 +7,7 @@ ghost use Rattle.dip_judge.specs.Files.{AnswersIn, AnswersUpTo, LeavesStore, Mad
 ghost use Rattle.dip_judge.specs.Stores.{IsReportFailure, IsServeFailure, ReadsUpTo};
 ghost use Rattle.dip_judge_runs.specs.Runs.{IsReadToEnd};
 
-use crate::checking::check;
+use crate::checking::{check, explain};
 use crate::failures::Failure;
 use crate::files::{Stored, close_file, open_new, open_present};
 use crate::stored::{answer_stored, make_desk, report_stored, serve_stored};
@@ -163,13 +163,14 @@ fn do_asked<S: Start, R: Read, W: Write>(
             report_file(rt, start, store, map, text, game, writer)
         }
         Args::Check { .. } => (check(rt.alloc(), reader, writer, map), None),
+        Args::Explain { paper, .. } => (explain(rt.alloc(), reader, writer, map, *paper), None),
         Args::Version => (write_version(writer), None),
     }
 }
 
 /// Does what the words ask for, the program's own name being the first of them, over the map of the file that is named, or the standard
 /// map: makes a desk in a store; answers the letters of the reader, from a fresh desk on in memory or from a store's desk on; serves
-/// clients; writes a game's papers; checks the papers that the reader has; or writes what the program is. A store lies in the file that is named, of which `start` says what it holds at first. It is
+/// clients; writes a game's papers; checks the papers that the reader has, or explains one; or writes what the program is. A store lies in the file that is named, of which `start` says what it holds at first. It is
 /// handed back where it was opened.
 ///
 /// # Errors

@@ -15,7 +15,7 @@ use std::{fmt, io};
 /// Why the program ends early.
 ///
 /// It is printed as `dip_judge: `, its number or name and LF; where `clap` refuses the words or help was asked for, as
-/// `clap` has it. Of papers that aren't right nothing is printed so.
+/// `clap` has it. Where standard output says why the answer is no, nothing is printed so.
 #[derive(Drop)]
 pub enum Failure {
     /// The arguments ask for nothing.
@@ -34,12 +34,12 @@ pub enum Failure {
     NoGame,
     /// A game's papers weren't all written out.
     Papers(PaperFault),
-    /// The papers are no game's; standard output says which isn't right.
-    NotRight,
+    /// The papers aren't right, or there is no explanation; standard output says why.
+    Negative,
 }
 
 impl Failure {
-    /// The exit status: 1 for papers that aren't right, 2 for the arguments, 3 for the map, 4 for the store, its keeper and a game that isn't there, 5 for a map's
+    /// The exit status: 1 where the answer is no, 2 for the arguments, 3 for the map, 4 for the store, its keeper and a game that isn't there, 5 for a map's
     /// file, the port, input, output or other want of memory.
     pub fn status(&self) -> u8
         ensures { result ≡ status_of self.now }
@@ -57,7 +57,7 @@ impl Failure {
             Failure::NoGame => 4,
             Failure::Papers(PaperFault::Keep(_)) => 4,
             Failure::Papers(PaperFault::Write) => 5,
-            Failure::NotRight => 1,
+            Failure::Negative => 1,
         }
     }
 }
@@ -89,7 +89,7 @@ impl fmt::Display for Failure {
             Failure::Serving(fault) => write!(f, "dip_judge: {fault}\n"),
             Failure::NoGame => f.write_str("dip_judge: no such game\n"),
             Failure::Papers(fault) => write!(f, "dip_judge: {fault}\n"),
-            Failure::NotRight => Ok(()),
+            Failure::Negative => Ok(()),
         }
     }
 }

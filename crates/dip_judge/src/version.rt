@@ -9,11 +9,11 @@ use dip_judge_words::VERSION;
 use dip_streams::write_texts;
 use std::io::Write;
 
-/// The standard map by the SHA-256 of its text, as a store keeps it, and the kit and the logic by
-/// which the program was proved.
+/// The standard map by the SHA-256 of its text, as a store keeps it, and the
+/// kit's logic by which the program was proved.
 const MADE_OF: &str =
     "standard map, SHA-256 05d93c6e007d30d189866a8852e703fec2244fcf096b910bd61bfd31cf641efc
-proved by rattle-kit-13f, logic dac8208d650f15bf
+proved by Rattle, logic dac8208d650f15bf
 ";
 
 /// Writes what the program is: its version, its standard map, and by what it was proved.

@@ -6,7 +6,7 @@ use Rattle.clap.specs.declared.error.kind.ErrorKind.TheVariants.{DisplayVersion}
 use Rattle.dip_letters.specs.Words.{is_secret}
 use Rattle.dip_judge_words.specs.CommandLine.{judge_command}
 use Rattle.dip_judge_words.specs.declared.args.Args.{Args}
-use Rattle.dip_judge_words.specs.declared.args.Args.TheVariants.{Init, Letters, Stored, Serve, Report, Check, Version}
+use Rattle.dip_judge_words.specs.declared.args.Args.TheVariants.{Init, Letters, Stored, Serve, Report, Check, Explain, Version}
 
 -- what clap's definition finds in words that it takes: the command's name, and the values of its options
 abbrev pub Found : Type 0
@@ -24,6 +24,7 @@ map_named (Stored store file) = option_map (λ f. f.now) file
 map_named (Serve store port count file) = option_map (λ f. f.now) file
 map_named (Report store game file) = option_map (λ f. f.now) file
 map_named (Check file) = option_map (λ f. f.now) file
+map_named (Explain paper file) = option_map (λ f. f.now) file
 map_named Version = None
 
 -- the command's name; the version is asked for without one
@@ -34,6 +35,7 @@ name_of (Stored store file) = codes "letters"
 name_of (Serve store port count file) = codes "serve"
 name_of (Report store game file) = codes "report"
 name_of (Check file) = codes "check"
+name_of (Explain paper file) = codes "explain"
 name_of Version = []
 
 -- the values of its options but the map; `letters` has a store or a master, not both
@@ -45,6 +47,7 @@ HasValues found (Serve store port count file) = Has found (codes "store") (Some 
     × Has found (codes "port") (Some (decimal port)) × Has found (codes "count") (Some (decimal count))
 HasValues found (Report store game file) = Has found (codes "store") (Some store.now) × Has found (codes "game") (Some game.now)
 HasValues found (Check file) = Unit {0}
+HasValues found (Explain paper file) = Has found (codes "paper") (Some (decimal paper))
 HasValues found Version = ⊥
 
 -- what is found is this command with these values
@@ -72,4 +75,5 @@ abbrev pub IsFit : Args → Type 0
 IsFit (Init store master file) = is_secret master.now ≡ true
 IsFit (Letters master file) = is_secret master.now ≡ true
 IsFit (Serve store port count file) = (1 ≤ port) × (port ≤ 65535) × (1 ≤ count) × (count ≤ 999999)
+IsFit (Explain paper file) = (1 ≤ paper) × (paper ≤ 999999999)
 IsFit _ = Unit {0}

@@ -39,6 +39,11 @@ report_command = with_rule (with_rule (with_rule (new_app (codes "report"))
 abbrev pub check_command : App
 check_command = with_rule (new_app (codes "check")) (option_rule (codes "map"))
 
+-- `explain --paper N [--map M]`
+abbrev pub explain_command : App
+explain_command = with_rule (with_rule (new_app (codes "explain"))
+    (required_rule (codes "paper"))) (option_rule (codes "map"))
+
 -- the program, which wants a command or tells its version, with the first two commands
 abbrev pub mail_command : App
 mail_command = with_subcommand (with_subcommand (on_required (new_app (codes "dip_judge"))) init_command.top) letters_command.top
@@ -52,4 +57,4 @@ desk_command = with_subcommand (with_subcommand mail_command serve_command.top) 
 
 -- the program
 abbrev pub judge_command : App
-judge_command = with_subcommand desk_command check_command.top
+judge_command = with_subcommand (with_subcommand desk_command check_command.top) explain_command.top

@@ -38,6 +38,11 @@ pub enum Args<'a> {
     Check {
         map: Option<&'a str>,
     },
+    /// Explain the paper of this number among the papers of a game from standard input, with no tables.
+    Explain {
+        paper: u32,
+        map: Option<&'a str>,
+    },
     /// Print what this program is: its version, its standard map, and by what it was proved.
     Version,
 }
@@ -54,6 +59,7 @@ impl<'a> Args<'a> {
             Args::Serve { map, .. } => map,
             Args::Report { map, .. } => map,
             Args::Check { map } => map,
+            Args::Explain { map, .. } => map,
             Args::Version => None,
         }
     }

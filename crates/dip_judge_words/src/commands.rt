@@ -2,10 +2,11 @@
 ghost use Rattle.std.specs.Prelude.{◌≡◌, false, IfOk};
 ghost use Rattle.clap.specs.Words.{app_of, new_app, rule_of, with_rule};
 ghost use Rattle.clap.specs.declared.builder.command.Command.TheViews.{out-Command as fields_of};
-ghost use Rattle.dip_judge_words.specs.CommandLine.{check_command, desk_command, init_command, judge_command, letters_command, listening_command, mail_command, report_command, serve_command};
+ghost use Rattle.dip_judge_words.specs.CommandLine.{check_command, desk_command, explain_command, init_command, judge_command, letters_command, listening_command, mail_command, report_command, serve_command};
 
 use crate::options::{
-    count_arg, game_arg, map_arg, master_arg, port_arg, required_master, required_store, store_arg,
+    count_arg, game_arg, map_arg, master_arg, paper_arg, port_arg, required_master, required_store,
+    store_arg,
 };
 use crate::version::VERSION;
 use clap::{Arg, Command};
@@ -94,6 +95,15 @@ fn check_command<'a>(alloc: Global) -> Result<Command<'a>, AllocError>
     Ok(command.about("Checks the papers of a game on standard input, with no tables"))
 }
 
+/// The command `explain`.
+fn explain_command<'a>(alloc: Global) -> Result<Command<'a>, AllocError>
+    ensures app { IfOk result (λ c. app_of c ≡ explain_command) }
+    ensures local { IfOk result (λ c. (fields_of c).has_globals ≡ false) }
+{
+    let command = command_of(alloc, "explain", paper_arg(alloc), map_arg(alloc))?;
+    Ok(command.about("Says why a phase came out as it did, by the papers on standard input"))
+}
+
 /// The program's command line, as far as the commands over letters.
 fn mail_command<'a>(alloc: Global) -> Result<Command<'a>, AllocError>
     ensures { IfOk result (λ c. app_of c ≡ mail_command) }
@@ -121,5 +131,6 @@ pub fn judge_command<'a>(alloc: Global) -> Result<Command<'a>, AllocError>
     ensures { IfOk result (λ c. app_of c ≡ judge_command) }
 {
     let check = check_command(alloc)?;
-    desk_command(alloc)?.subcommand(check)
+    let explain = explain_command(alloc)?;
+    desk_command(alloc)?.subcommand(check)?.subcommand(explain)
 }

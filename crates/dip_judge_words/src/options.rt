@@ -98,6 +98,21 @@ pub fn game_arg<'a>(alloc: Global) -> Arg<'a>
     option_arg(alloc, "game", "GAME", "The game whose papers are printed").required(true)
 }
 
+/// The option `--paper NUMBER`.
+pub fn paper_arg<'a>(alloc: Global) -> Arg<'a>
+    ensures rule { rule_of result ≡ required_rule (codes "paper") }
+    ensures plain { IsPlainArg result }
+    ensures local { result.global ≡ false }
+{
+    option_arg(
+        alloc,
+        "paper",
+        "NUMBER",
+        "The number of the paper: 1 to 999999999",
+    )
+    .required(true)
+}
+
 /// The option `--map FILE`.
 pub fn map_arg<'a>(alloc: Global) -> Arg<'a>
     ensures rule { rule_of result ≡ option_rule (codes "map") }

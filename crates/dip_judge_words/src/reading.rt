@@ -9,7 +9,7 @@ ghost use Rattle.dip_judge_words.specs.UsageFaults.{IsUsageFault};
 use crate::args::Args;
 use crate::commands::judge_command;
 use crate::faults::UsageFault;
-use crate::values::{check_of, init_of, letters_of, report_of, serve_of};
+use crate::values::{check_of, explain_of, init_of, letters_of, report_of, serve_of};
 use clap::ArgMatches;
 use clap::error::ErrorKind;
 use std::alloc::Global;
@@ -54,6 +54,9 @@ fn asked_of<'a>(matches: &ArgMatches<'a>) -> Option<Args<'a>>
     }
     if name == "check" {
         return Some(check_of(found));
+    }
+    if name == "explain" {
+        return explain_of(found);
     }
     None
 }

@@ -91,6 +91,20 @@ pub fn check_of<'a>(found: &ArgMatches<'a>) -> Args<'a>
     }
 }
 
+/// What `explain` asks for.
+pub fn explain_of<'a>(found: &ArgMatches<'a>) -> Option<Args<'a>>
+    ensures { Answers (codes "explain", rows_of (found_of found.now)) result }
+{
+    let map = value_of(found, "map");
+    let Some(paper) = value_of(found, "paper") else {
+        return None;
+    };
+    let Some(paper) = number_of(paper, 999999999) else {
+        return None;
+    };
+    Some(Args::Explain { paper, map })
+}
+
 /// What `report` asks for.
 pub fn report_of<'a>(found: &ArgMatches<'a>) -> Option<Args<'a>>
     ensures { Answers (codes "report", rows_of (found_of found.now)) result }

@@ -1,5 +1,5 @@
 use Rattle.std.proofs.Common.{◌-◌, ◌≤◌, length, take}
-use Rattle.dip_check_runs.specs.Runs.{AreEmptyLines}
+use Rattle.dip_check_runs.specs.Input.{AreEmptyLines}
 use Rattle.dip_check_runs.proofs.papers.after_empty_lines.Given as goal
 
 abbrev pub invariant-lines : goal.invariant-lines

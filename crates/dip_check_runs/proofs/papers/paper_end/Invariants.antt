@@ -1,5 +1,5 @@
 use Rattle.std.proofs.Common.{length, ◌-◌, ◌≤◌}
-use Rattle.dip_check_runs.proofs.papers.first_paper.Given as goal
+use Rattle.dip_check_runs.proofs.papers.paper_end.Given as goal
 
 abbrev pub invariant-lines : goal.invariant-lines
 invariant-lines l = l.at ≤ length l.input

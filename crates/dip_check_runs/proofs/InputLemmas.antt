@@ -1,0 +1,119 @@
+-- What is read of an input, and what of it is used.
+use Rattle.std.proofs.Common.{◌≡◌, ◌≤◌, ◌<◌, ◌++◌, ℕ, zero, suc, Bool, true, false, List, [], ◌∷◌, Option, None, Some, length, take, drop, get_or, refl, ap, sym, ◌∙◌, ◌⊎◌, inl, inr, ◌+◌, ◌-◌, subst, arith}
+use Rattle.std.proofs.lemmas.List.{append-nil, append_assoc}
+use Rattle.std.specs.Io.KnownBytes.{Consumes, Keeps}
+use Rattle.dip_check_runs.specs.Input.{AreEmptyLines, HasUsed, IsNearer, IsRead, closing}
+use Rattle.dip_check_runs.specs.declared.input.Ahead.{Ahead}
+
+-- each byte of empty lines is LF
+pub empty_at : (at size : ℕ) (xs : List ℕ) → at < size → at < length xs → AreEmptyLines (take size xs) → get_or xs at 0 ≡ 10
+empty_at at zero xs few inside empty = absurd (omega arith)
+empty_at at (suc size) [] few inside empty = absurd (omega arith)
+empty_at zero (suc size) (x ∷ xs) few inside empty = empty.0
+empty_at (suc at) (suc size) (x ∷ xs) few inside empty = empty_at at size xs (omega arith) (omega arith) empty.1
+
+-- the first byte of a part
+pub first_of : (at size : ℕ) (xs ys : List ℕ) (y : ℕ) → take size (drop at xs) ≡ y ∷ ys → get_or xs at 0 ≡ y
+first_of zero zero xs ys y is = cc
+first_of zero (suc size) [] ys y is = cc
+first_of zero (suc size) (x ∷ xs) ys y is = ap (λ (l : List ℕ). get_or l 0 0) is
+first_of (suc at) zero [] ys y is = cc
+first_of (suc at) (suc size) [] ys y is = cc
+first_of (suc at) size (x ∷ xs) ys y is = first_of at size xs ys y is
+
+-- what is read twice is read
+pub consumes_more : (a b c : Option (List ℕ)) (x y : List ℕ) → Consumes a b x → Consumes b c y → Consumes a c (x ++ y)
+consumes_more None b c x y first second = tt
+consumes_more (Some xs) None c x y first second = absurd first
+consumes_more (Some xs) (Some ys) None x y first second = absurd second
+consumes_more (Some xs) (Some ys) (Some zs) x y first second = first ∙ ap (λ (r : List ℕ). x ++ r) second ∙ sym (append_assoc x y zs)
+
+-- nothing is read
+pub consumes_none : (a b : Option (List ℕ)) → Keeps a b → Consumes a b []
+consumes_none None b keeps = tt
+consumes_none (Some xs) None keeps = absurd keeps
+consumes_none (Some xs) (Some ys) keeps = sym keeps
+
+-- a piece more is read
+pub read_more : (known now later : Option (List ℕ)) (used bytes : List ℕ) (old new : Ahead) → old.ended ≡ false → new.ended ≡ false
+    → new.bytes.items ≡ old.bytes.items ++ bytes → Consumes now later bytes → IsRead known now used old → IsRead known later used new
+read_more known now later used bytes old new goes still items more r = record {
+  read = r.read ++ bytes;
+  consumed = consumes_more known now later r.read bytes r.consumed more;
+  parts =
+    let before : closing old.ended ≡ [] = ap closing goes in
+    let after : closing new.ended ≡ [] = ap closing still in
+    let so_far : r.read ≡ used ++ old.bytes.items = sym (append-nil r.read) ∙ ap (λ (l : List ℕ). r.read ++ l) (sym before) ∙ r.parts in
+    ap (λ (l : List ℕ). (r.read ++ bytes) ++ l) after ∙ append-nil (r.read ++ bytes) ∙ ap (λ (l : List ℕ). l ++ bytes) so_far
+    ∙ append_assoc used old.bytes.items bytes ∙ ap (λ (l : List ℕ). used ++ l) (sym items);
+  end = λ yes. cc;
+}
+
+-- of an input that hasn't ended, or may not have, these bytes are used
+pub record IsUsed (known left : Option (List ℕ)) (used : List ℕ) : Type 0 where
+  pub input : List ℕ
+  pub consumed : Consumes known left input
+  pub rest : List ℕ
+  pub parts : input ≡ used ++ rest
+
+pub used_open : (known left : Option (List ℕ)) (used : List ℕ) (ahead : Ahead) → ahead.ended ≡ false → IsRead known left used ahead → IsUsed known left used
+used_open known left used ahead goes r = record {
+  input = r.read;
+  consumed = r.consumed;
+  rest = ahead.bytes.items;
+  parts = sym (append-nil r.read) ∙ ap (λ (l : List ℕ). r.read ++ l) (sym (ap closing goes)) ∙ r.parts;
+}
+
+pub used_more : (known now later : Option (List ℕ)) (used bytes : List ℕ) → Consumes now later bytes → IsUsed known now used → IsUsed known later used
+used_more known now later used bytes more u = record {
+  input = u.input ++ bytes;
+  consumed = consumes_more known now later u.input bytes u.consumed more;
+  rest = u.rest ++ bytes;
+  parts = ap (λ (l : List ℕ). l ++ bytes) u.parts ∙ append_assoc used u.rest bytes;
+}
+
+-- an LF comes after what was read
+pub used_closed : (known left : Option (List ℕ)) (used : List ℕ) → IsUsed known left used → HasUsed known left used
+used_closed known left used u = record {
+  input = u.input;
+  consumed = u.consumed;
+  rest = u.rest ++ 10 ∷ [];
+  parts = ap (λ (l : List ℕ). l ++ 10 ∷ []) u.parts ∙ append_assoc used u.rest (10 ∷ []);
+}
+
+-- of an input that has ended
+pub used_ended : (known left : Option (List ℕ)) (used : List ℕ) (ahead : Ahead) → ahead.ended ≡ true → IsRead known left used ahead → HasUsed known left used
+used_ended known left used ahead ended r = record {
+  input = r.read;
+  consumed = r.consumed;
+  rest = ahead.bytes.items;
+  parts = ap (λ (l : List ℕ). r.read ++ l) (sym (ap closing ended)) ∙ r.parts;
+}
+
+-- the first bytes ahead are used
+pub read_front : (known left : Option (List ℕ)) (used front : List ℕ) (old new : Ahead) → new.ended ≡ old.ended → old.bytes.items ≡ front ++ new.bytes.items
+    → IsRead known left used old → IsRead known left (used ++ front) new
+read_front known left used front old new same items r = record {
+  read = r.read;
+  consumed = r.consumed;
+  parts = ap (λ (b : Bool). r.read ++ closing b) same ∙ r.parts ∙ ap (λ (l : List ℕ). used ++ l) items ∙ sym (append_assoc used front new.bytes.items);
+  end = λ yes. r.end (sym same ∙ yes);
+}
+
+-- an input that hasn't ended has so many bytes to come
+abbrev pub left_to_read : Bool → ℕ → ℕ
+left_to_read true size = 0
+left_to_read false size = 1 + (1048577 - size)
+
+fewer_after : (old new : ℕ) → old ≤ 1048576 → old < new → 1 + (1048577 - new) < 1 + (1048577 - old)
+fewer_after old new few more = omega arith
+
+none_after : (old : ℕ) → 0 < 1 + (1048577 - old)
+none_after old = omega arith
+
+pub fewer_to_read : (before after : Bool) (old new : ℕ) → before ≡ false → old ≤ 1048576 → (after ≡ true) ⊎ (old < new)
+    → left_to_read after new < left_to_read before old
+fewer_to_read true after old new goes few near = cc
+fewer_to_read false true old new goes few near = none_after old
+fewer_to_read false false old new goes few (inl ends) = cc
+fewer_to_read false false old new goes few (inr more) = fewer_after old new few more

@@ -1,0 +1,264 @@
+-- How far a run over papers has come, and how it ends.
+use Rattle.std.proofs.Common.{◌≡◌, ◌≤◌, ◌<◌, ◌+◌, ◌-◌, ◌++◌, ◌⊎◌, inl, inr, ℕ, zero, suc, Bool, true, false, List, [], ◌∷◌, Option, None, Some, is_some, length, map, take, refl, ap, sym, subst, ◌∙◌, arith}
+use Rattle.std.proofs.lemmas.List.{append-nil, append_assoc}
+use Rattle.std.specs.List.{flat_map}
+use Rattle.std.specs.Io.KnownBytes.{Appends, Consumes, IsAtEnd}
+use Rattle.dip_map.specs.Boards.{IsOf, Position}
+use Rattle.dip_map.specs.Charts.{Chart}
+use Rattle.dip_desk_state.specs.Records.{Public}
+use Rattle.dip_desk_state.specs.declared.records.Public.{Public as Row}
+use Rattle.dip_desk_state.specs.Rows as rows
+use Rattle.dip_check.specs.Games.{AreNext, AreOfGame, IsDraw, IsNext, IsNotice, IsOpening, IsPhase, IsPhaseOf}
+use Rattle.dip_explain.specs.Phases.{HasOrders}
+use Rattle.dip_names.specs.declared.names.Unit.{Unit as AUnit}
+use Rattle.dip_map.specs.declared.boards.Season.{Season}
+use Rattle.dip_map.specs.declared.boards.Season.TheVariants.{SpringMoves, SpringRetreats, FallMoves, FallRetreats, Winter}
+use Rattle.dip_orders.specs.Standing.{order_among}
+use Rattle.dip_orders.specs.declared.placed.PlacedOrder.{PlacedOrder}
+use Rattle.dip_turn.specs.Reports.{Leaves, LeavesMoved}
+use Rattle.dip_turn.specs.declared.report.Account.{Account}
+use Rattle.dip_turn.specs.declared.report.Account.TheVariants.{Movement as OfMovement, Retreats as OfRetreats, Adjustment as OfAdjustment}
+use Rattle.dip_turn.specs.declared.report.Report.{Report}
+use Rattle.dip_judge_runs.specs.declared.run.RunFault.{RunFault}
+use Rattle.dip_judge_runs.specs.declared.run.RunFault.TheVariants.{Keep, Memory, Read, TooLong, Write}
+use Rattle.dip_check_runs.specs.Input.{AreEmptyLines, HasUsed, HasUsedAll, IsAfterLines, IsRead, IsTakenFront, closing}
+use Rattle.dip_check_runs.specs.Texts.{right_text, said_text}
+use Rattle.dip_check_runs.specs.Runs.{AreFronts, ArePlayed, AreSpelled, ComesNext, EndsCheck, EndsEarly, HasBoard, IsAll, IsBegunAfter, IsChecked, IsReadingFault, IsRunFault, IsSaid, IsTellingFault, MayTell, count_played, end_text, is_right}
+use Rattle.dip_check_runs.specs.declared.input.Ahead.{Ahead}
+use Rattle.dip_check_runs.specs.declared.saying.Said.{Said}
+use Rattle.dip_check_runs.specs.declared.saying.Said.TheVariants.{Right, Wrong, NoText}
+
+-- one paper more at the end of what was used
+pub fronts_more : (bytes lines t : List ℕ) (ts : List (List ℕ)) → AreFronts bytes ts → AreEmptyLines lines → AreFronts (bytes ++ (lines ++ t)) (ts ++ t ∷ [])
+fronts_more bytes lines t [] fronts empty =
+    (lines, [], empty, ap (λ (l : List ℕ). l ++ (lines ++ t)) fronts ∙ ap (λ (l : List ℕ). lines ++ l) (sym (append-nil t)), refl)
+fronts_more bytes lines t (s ∷ ss) fronts empty = (
+  fronts.0,
+  fronts.1 ++ (lines ++ t),
+  fronts.2,
+  ap (λ (l : List ℕ). l ++ (lines ++ t)) fronts.3 ∙ append_assoc fronts.0 (s ++ fronts.1) (lines ++ t)
+      ∙ ap (λ (l : List ℕ). fronts.0 ++ l) (append_assoc s fronts.1 (lines ++ t)),
+  fronts_more fronts.1 lines t ss fronts.4 empty,
+)
+
+-- one paper more that comes next in a game
+pub next_more : (m : Chart) (p q r : Public) (ts : List (List ℕ)) (t : List ℕ) → AreNext m p ts q → IsNext m q t r → AreNext m p (ts ++ t ∷ []) r
+next_more m p q r [] t so_far next = (r, subst (λ (x : Public). IsNext m x t r) so_far next, refl)
+next_more m p q r (s ∷ ss) t so_far next = (so_far.0, so_far.1, next_more m so_far.0 q r ss t so_far.2 next)
+
+pub game_more : (m : Chart) (p q : Public) (ts : List (List ℕ)) (t : List ℕ) → AreOfGame m ts p → IsNext m p t q → AreOfGame m (ts ++ t ∷ []) q
+game_more m p q [] t game next = absurd game
+game_more m p q (s ∷ ss) t game next = (game.0, game.1, next_more m game.0 p q ss t game.2 next)
+
+pub played_more : (m : Chart) (papers : List (List ℕ)) (game : Option Row) (paper : List ℕ) (new : Row) → ArePlayed m papers game
+    → IsSaid m game paper (Right new) → ArePlayed m (papers ++ paper ∷ []) (Some new)
+played_more m papers None paper new played said =
+    (subst (λ (ts : List (List ℕ)). AreOfGame m (ts ++ paper ∷ []) (rows.public new)) (sym played) (rows.public new, said.0, refl), said.1)
+played_more m papers (Some p) paper new played said = (game_more m (rows.public p) (rows.public new) papers paper played.0 said.0, said.1)
+
+-- the count of papers rises by one with each, up to the most
+next_count : (m : Chart) (p new : Public) (text : List ℕ) → IsPhase m p text new ⊎ (IsNotice m p text new ⊎ IsDraw m p text new) → new.papers ≡ p.papers + 1
+next_count m p new text (inl phase) = ap (λ (q : Public). q.papers) phase.brought.after
+next_count m p new text (inr (inl notice)) = ap (λ (q : Public). q.papers) notice.after
+next_count m p new text (inr (inr draw)) = ap (λ (q : Public). q.papers) draw.after
+
+pub count_more : (m : Chart) (game : Option Row) (paper : List ℕ) (new : Row) → IsSaid m game paper (Right new)
+    → (new.papers ≡ count_played game + 1) × (count_played game < 999999999)
+count_more m None paper new said = (ap (λ (q : Public). q.papers) said.0.after, omega arith)
+count_more m (Some p) paper new said = (next_count m (rows.public p) (rows.public new) paper said.0.kind, said.0.room)
+
+-- how many papers may come yet
+pub fewer_left : (m : Chart) (game : Option Row) (paper : List ℕ) (new : Row) → IsSaid m game paper (Right new)
+    → 999999999 - new.papers < 999999999 - count_played game
+fewer_left m game paper new said = let counts = count_more m game paper new said in omega (arith, counts.0, counts.1)
+
+-- the papers that were played, and the part of the input that they are
+pub record Reached (m : Chart) (known left : Option (List ℕ)) (game : Option Row) (ahead : Ahead) : Type 0 where
+  pub papers : List (List ℕ)
+  pub used : List ℕ
+  pub read : IsRead known left used ahead
+  pub fronts : AreFronts used papers
+  pub played : ArePlayed m papers game
+
+pub reached_none : (m : Chart) (known : Option (List ℕ)) (ahead : Ahead) → IsRead known known [] ahead → Reached m known known None ahead
+reached_none m known ahead read = record { papers = []; used = []; read = read; fronts = refl; played = refl }
+
+-- the next paper was taken off, with the empty lines before it
+pub record IsTaken (known left : Option (List ℕ)) (used lines paper : List ℕ) (ahead : Ahead) : Type 0 where
+  pub read : IsRead known left (used ++ (lines ++ paper)) ahead
+  pub empty : AreEmptyLines lines
+
+pub taken : (known now later : Option (List ℕ)) (used front paper : List ℕ) (old new : Ahead) → IsRead known now used old
+    → (IsRead known now used old → IsRead known later (used ++ front) new) → (after : IsAfterLines front paper)
+    → IsTaken known later used after.0 paper new
+taken known now later used front paper old new read more after = record {
+  read = subst (λ (l : List ℕ). IsRead known later (used ++ l) new) after.2 (more read);
+  empty = after.1;
+}
+
+pub reached_more : (m : Chart) (known now later : Option (List ℕ)) (game : Option Row) (old ahead : Ahead) (lines paper : List ℕ) (new : Row)
+    → (r : Reached m known now game old) → IsTaken known later r.used lines paper ahead → IsSaid m game paper (Right new)
+    → Reached m known later (Some new) ahead
+reached_more m known now later game old ahead lines paper new r t said = record {
+  papers = r.papers ++ paper ∷ [];
+  used = r.used ++ (lines ++ paper);
+  read = t.read;
+  fronts = fronts_more r.used lines paper r.papers r.fronts t.empty;
+  played = played_more m r.papers game paper new r.played said;
+}
+
+pub has_board : (m : Chart) (known left : Option (List ℕ)) (game : Option Row) (ahead : Ahead) → Reached m known left game ahead → HasBoard m game
+has_board m known left None ahead r = tt
+has_board m known left (Some p) ahead r = r.played.1
+
+-- the paper that was taken off comes next, whatever was read after it
+pub comes_next : (known left : Option (List ℕ)) (used lines paper : List ℕ) (papers : List (List ℕ)) → AreFronts used papers → AreEmptyLines lines
+    → HasUsed known left (used ++ (lines ++ paper)) → ComesNext known left papers paper
+comes_next known left used lines paper papers fronts empty part = record {
+  used = used ++ (lines ++ paper);
+  part = part;
+  fronts = fronts_more used lines paper papers fronts empty;
+}
+
+-- where no paper is left, all was used
+pub all_used : (known left : Option (List ℕ)) (used front : List ℕ) (papers : List (List ℕ)) (ahead : Ahead) → AreFronts used papers → AreEmptyLines front
+    → IsRead known left (used ++ front) ahead → IsTakenFront front ahead → IsAll known left papers
+all_used known left used front papers ahead fronts empty read (inl paper) = absurd (paper empty)
+all_used known left used front papers ahead fronts empty read (inr end) = record {
+  used = used ++ front;
+  whole = record {
+    input = read.read;
+    consumed = read.consumed;
+    end = read.end end.0;
+    parts = ap (λ (b : Bool). read.read ++ closing b) (sym end.0) ∙ read.parts ∙ ap (λ (l : List ℕ). (used ++ front) ++ l) end.1 ∙ append-nil (used ++ front);
+  };
+  spelled = record { front = used; lines = front; fronts = fronts; empty = empty; parts = refl };
+}
+
+-- what is written twice is written
+pub appends_more : (a b c : Option (List ℕ)) (x y : List ℕ) → Appends a b x → Appends b c y → Appends a c (x ++ y)
+appends_more None b c x y first second = tt
+appends_more (Some xs) None c x y first second = absurd first
+appends_more (Some xs) (Some ys) None x y first second = absurd second
+appends_more (Some xs) (Some ys) (Some zs) x y first second = second ∙ ap (λ (r : List ℕ). r ++ y) first ∙ append_assoc xs x y
+
+pub appends_none : (a : Option (List ℕ)) → Appends a a []
+appends_none None = tt
+appends_none (Some xs) = sym (append-nil xs)
+
+-- a verdict more
+pub texts_more : (papers : List (List ℕ)) (paper : List ℕ) → flat_map right_text papers ++ right_text paper ≡ flat_map right_text (papers ++ paper ∷ [])
+texts_more [] paper = sym (append-nil (right_text paper))
+texts_more (p ∷ ps) paper = append_assoc (right_text p) (flat_map right_text ps) (right_text paper) ∙ ap (λ (l : List ℕ). right_text p ++ l) (texts_more ps paper)
+
+pub written_more : (a b c : Option (List ℕ)) (papers : List (List ℕ)) (paper : List ℕ) → Appends a b (flat_map right_text papers)
+    → Appends b c (right_text paper) → Appends a c (flat_map right_text (papers ++ paper ∷ []))
+written_more a b c papers paper first second =
+    subst (λ (l : List ℕ). Appends a c l) (texts_more papers paper) (appends_more a b c (flat_map right_text papers) (right_text paper) first second)
+
+-- all papers are right, or there is none
+pub checked_all : (m : Chart) (known left before mid after : Option (List ℕ)) (papers : List (List ℕ)) (game : Option Row) (right : Bool) → ArePlayed m papers game
+    → IsAll known left papers → Appends before mid (flat_map right_text papers) → Appends mid after (end_text game) → right ≡ is_some game
+    → IsChecked m known left before after right
+checked_all m known left before mid after papers None right played all so_far told is = subst (λ (b : Bool). IsChecked m known left before after b) (sym is) (record {
+  papers = papers;
+  game = None;
+  played = played;
+  last = end_text None;
+  ends = inl (record { none = refl; all = all; told = refl });
+  written = appends_more before mid after (flat_map right_text papers) (end_text None) so_far told;
+})
+checked_all m known left before mid after papers (Some p) right played all so_far told is = subst (λ (b : Bool). IsChecked m known left before after b) (sym is) (record {
+  papers = papers;
+  game = Some p;
+  played = played;
+  last = end_text (Some p);
+  ends = record { public = p; some = refl; all = all; told = refl };
+  written = appends_more before mid after (flat_map right_text papers) (end_text (Some p)) so_far told;
+})
+
+-- one isn't right
+pub checked_wrong : (m : Chart) (known left before mid after : Option (List ℕ)) (papers : List (List ℕ)) (game : Option Row) (paper : List ℕ) (said : Said)
+    → ArePlayed m papers game → ComesNext known left papers paper → IsSaid m game paper said → is_right said ≡ false
+    → Appends before mid (flat_map right_text papers) → Appends mid after (said_text paper said) → IsChecked m known left before after false
+checked_wrong m known left before mid after papers game paper said played comes is wrong so_far told = record {
+  papers = papers;
+  game = game;
+  played = played;
+  last = said_text paper said;
+  ends = inr (record { paper = paper; said = said; comes = comes; is = is; wrong = wrong; told = refl });
+  written = appends_more before mid after (flat_map right_text papers) (said_text paper said) so_far told;
+}
+
+-- faults
+pub reading_is_run : (f : RunFault) → IsReadingFault f → IsRunFault f
+reading_is_run Read is = tt
+reading_is_run TooLong is = tt
+reading_is_run Memory is = tt
+reading_is_run Write is = absurd is
+reading_is_run (Keep fault) is = absurd is
+
+pub telling_is_run : (f : RunFault) → IsTellingFault f → IsRunFault f
+telling_is_run Write is = tt
+telling_is_run Memory is = tt
+telling_is_run Read is = absurd is
+telling_is_run TooLong is = absurd is
+telling_is_run (Keep fault) is = absurd is
+
+pub ends_reading : (m : Chart) (before after : Option (List ℕ)) (papers : List (List ℕ)) (game : Option Row) (f : RunFault) → ArePlayed m papers game
+    → Appends before after (flat_map right_text papers) → IsReadingFault f → EndsEarly m before after f
+ends_reading m before after papers game f played so_far fault = record {
+  kind = reading_is_run f fault;
+  papers = papers;
+  game = game;
+  played = played;
+  text = end_text game;
+  may = inr refl;
+  size = 0;
+  written = subst (λ (l : List ℕ). Appends before after l) (sym (append-nil (flat_map right_text papers))) so_far;
+}
+
+pub ends_telling : (m : Chart) (before mid after : Option (List ℕ)) (papers : List (List ℕ)) (game : Option Row) (f : RunFault) → ArePlayed m papers game
+    → Appends before mid (flat_map right_text papers) → IsBegunAfter m game mid after f → EndsEarly m before after f
+ends_telling m before mid after papers game f played so_far b = record {
+  kind = telling_is_run f b.kind;
+  papers = papers;
+  game = game;
+  played = played;
+  text = b.text;
+  may = b.may;
+  size = b.size;
+  written = appends_more before mid after (flat_map right_text papers) (take b.size b.text) so_far b.written;
+}
+
+-- a movement's report has an order for each unit
+standing_units : (ps : List PlacedOrder) (us : List AUnit) → map (λ (o : PlacedOrder). o.unit) (map (order_among ps) us) ≡ us
+standing_units ps [] = refl
+standing_units ps (u ∷ us) = ap (λ (vs : List AUnit). u ∷ vs) (standing_units ps us)
+
+moved_units : (m : Chart) (b left : Position) (ps : List PlacedOrder) (account : Account) → LeavesMoved m b ps left account → HasOrders b account
+moved_units m b left ps (OfMovement t) h = ap (λ (os : List PlacedOrder). map (λ (o : PlacedOrder). o.unit) os) h.orders ∙ standing_units ps b.units
+moved_units m b left ps (OfRetreats lines) h = tt
+moved_units m b left ps (OfAdjustment t) h = tt
+
+leaves_units : (m : Chart) (season : Season) (b left : Position) (ps : List PlacedOrder) (account : Account) → Leaves m season b ps left account → HasOrders b account
+leaves_units m SpringMoves b left ps account h = moved_units m b left ps account h
+leaves_units m FallMoves b left ps account h = moved_units m b left ps account h
+leaves_units m season b left ps (OfRetreats lines) h = tt
+leaves_units m season b left ps (OfAdjustment t) h = tt
+leaves_units m SpringRetreats b left ps (OfMovement t) h = absurd h
+leaves_units m FallRetreats b left ps (OfMovement t) h = absurd h
+leaves_units m Winter b left ps (OfMovement t) h = absurd h
+
+pub has_orders : (m : Chart) (p : Public) (text : List ℕ) (report : Report) (new : Public) → IsPhaseOf m p text report new → HasOrders p.board report.account
+has_orders m p text report new h = leaves_units m p.board.phase.season p.board h.played.left h.orders report.account h.played.account
+
+-- what isn't told right isn't
+pub not_right : (said : Said) → ((new : Row) → said ≡ Right new → ⊥) → is_right said ≡ false
+not_right (Right new) other = absurd (other new refl)
+not_right (Wrong fault) other = refl
+not_right (NoText line) other = refl
+
+-- memory ran out before anything was told
+pub begun_none : (m : Chart) (game : Option Row) (a : Option (List ℕ)) → IsBegunAfter m game a a Memory
+begun_none m game a = record { kind = tt; text = end_text game; may = inr refl; size = 0; written = appends_none a }

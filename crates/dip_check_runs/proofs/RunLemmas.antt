@@ -1,5 +1,5 @@
 -- How far a run over papers has come, and how it ends.
-use Rattle.std.proofs.Common.{◌≡◌, ◌≤◌, ◌<◌, ◌+◌, ◌-◌, ◌++◌, ◌⊎◌, inl, inr, ℕ, zero, suc, Bool, true, false, List, [], ◌∷◌, Option, None, Some, is_some, length, map, take, refl, ap, sym, subst, ◌∙◌, arith}
+use Rattle.std.proofs.Common.{◌≡◌, ◌≤◌, ◌<◌, ◌+◌, ◌-◌, ◌++◌, ◌⊎◌, IfSome, inl, inr, ℕ, zero, suc, Bool, true, false, List, [], ◌∷◌, Option, None, Some, is_some, length, map, take, refl, ap, sym, subst, ◌∙◌, arith}
 use Rattle.std.proofs.lemmas.List.{append-nil, append_assoc}
 use Rattle.std.specs.List.{flat_map}
 use Rattle.std.specs.Io.KnownBytes.{Appends, Consumes, IsAtEnd}
@@ -9,7 +9,11 @@ use Rattle.dip_desk_state.specs.Records.{Public}
 use Rattle.dip_desk_state.specs.declared.records.Public.{Public as Row}
 use Rattle.dip_desk_state.specs.Rows as rows
 use Rattle.dip_check.specs.Games.{AreNext, AreOfGame, IsDraw, IsNext, IsNotice, IsOpening, IsPhase, IsPhaseOf}
-use Rattle.dip_explain.specs.Phases.{HasOrders}
+use Rattle.dip_check.specs.Checks.{IsJudgedFirst, IsJudgedPaper}
+use Rattle.dip_check.specs.declared.verdict.Fault.{Fault}
+use Rattle.dip_check.specs.declared.verdict.Verdict.{Verdict}
+use Rattle.dip_check.specs.declared.verdict.Verdict.TheVariants.{Wrong as WrongText}
+use Rattle.dip_explain.specs.Phases.{HasOrders, phase_explained}
 use Rattle.dip_names.specs.declared.names.Unit.{Unit as AUnit}
 use Rattle.dip_map.specs.declared.boards.Season.{Season}
 use Rattle.dip_map.specs.declared.boards.Season.TheVariants.{SpringMoves, SpringRetreats, FallMoves, FallRetreats, Winter}
@@ -22,8 +26,8 @@ use Rattle.dip_turn.specs.declared.report.Report.{Report}
 use Rattle.dip_judge_runs.specs.declared.run.RunFault.{RunFault}
 use Rattle.dip_judge_runs.specs.declared.run.RunFault.TheVariants.{Keep, Memory, Read, TooLong, Write}
 use Rattle.dip_check_runs.specs.Input.{AreEmptyLines, HasUsed, HasUsedAll, IsAfterLines, IsRead, IsTakenFront, closing}
-use Rattle.dip_check_runs.specs.Texts.{right_text, said_text}
-use Rattle.dip_check_runs.specs.Runs.{AreFronts, ArePlayed, AreSpelled, ComesNext, EndsCheck, EndsEarly, HasBoard, IsAll, IsBegunAfter, IsChecked, IsReadingFault, IsRunFault, IsSaid, IsTellingFault, MayTell, count_played, end_text, is_right}
+use Rattle.dip_check_runs.specs.Texts.{no_phase_text, right_text, said_text}
+use Rattle.dip_check_runs.specs.Runs.{AreFronts, ArePlayed, AreSpelled, ComesNext, EndsCheck, EndsEarly, HasBoard, IsAll, IsBegunAfter, IsChecked, IsExplanation, IsFoundText, IsReadingFault, IsRunFault, IsSaid, IsTellingFault, MayTell, count_played, end_text, is_right}
 use Rattle.dip_check_runs.specs.declared.input.Ahead.{Ahead}
 use Rattle.dip_check_runs.specs.declared.saying.Said.{Said}
 use Rattle.dip_check_runs.specs.declared.saying.Said.TheVariants.{Right, Wrong, NoText}
@@ -262,3 +266,38 @@ not_right (NoText line) other = refl
 -- memory ran out before anything was told
 pub begun_none : (m : Chart) (game : Option Row) (a : Option (List ℕ)) → IsBegunAfter m game a a Memory
 begun_none m game a = record { kind = tt; text = end_text game; may = inr refl; size = 0; written = appends_none a }
+
+-- what is said of a text is said of the bytes that it is
+pub first_wrong : (m : Chart) (text bytes : List ℕ) (v : Verdict) (fault : Fault) → IsJudgedFirst m text v → v ≡ WrongText fault → text ≡ bytes
+    → (new : Public) → IsOpening m bytes new → ⊥
+first_wrong m text bytes v fault judged is same new first =
+    subst (λ (x : Verdict). IsJudgedFirst m text x) is judged new (subst (λ (t : List ℕ). IsOpening m t new) (sym same) first)
+
+pub next_wrong : (m : Chart) (p : Public) (text bytes : List ℕ) (v : Verdict) (fault : Fault) → IsJudgedPaper m p text v → v ≡ WrongText fault → text ≡ bytes
+    → (new : Public) → IsNext m p bytes new → ⊥
+next_wrong m p text bytes v fault judged is same new next =
+    subst (λ (x : Verdict). IsJudgedPaper m p text x) is judged new (subst (λ (t : List ℕ). IsNext m p t new) (sym same) next)
+
+-- a phase's report, whose paper the bytes are
+pub report_units : (m : Chart) (p : Row) (text : List ℕ) (found : Option Report) (report : Report) (board : Position) → IfSome found (λ r. (new : Public) × IsPhaseOf m (rows.public p) text r new)
+    → found ≡ Some report → board ≡ p.board.value → HasOrders board report.account
+report_units m p text found report board h is same =
+    let one = subst (λ (f : Option Report). IfSome f (λ r. (new : Public) × IsPhaseOf m (rows.public p) text r new)) is h in
+    subst (λ (b : Position). HasOrders b report.account) (sym same) (has_orders m (rows.public p) text report one.0 one.1)
+
+pub report_text : (m : Chart) (p : Row) (text bytes told : List ℕ) (found : Option Report) (report : Report) (board : Position)
+    → IfSome found (λ r. (new : Public) × IsPhaseOf m (rows.public p) text r new) → found ≡ Some report → text ≡ bytes → board ≡ p.board.value
+    → told ≡ phase_explained m board report → IsExplanation m (Some p) bytes told
+report_text m p text bytes told found report board h is same here says =
+    let one = subst (λ (f : Option Report). IfSome f (λ r. (new : Public) × IsPhaseOf m (rows.public p) text r new)) is h in
+    (report, one.0, subst (λ (t : List ℕ). IsPhaseOf m (rows.public p) t report one.0) same one.1,
+        subst (λ (b : Position). told ≡ phase_explained m b report) here says)
+
+-- what is to be told of a paper that isn't explained
+pub unexplained_idle : (m : Chart) (game : Option Row) (paper : List ℕ) (said : Said) (new : Row) (text : List ℕ) → IsSaid m game paper said → said ≡ Right new
+    → text ≡ no_phase_text paper → IsFoundText m game paper text false
+unexplained_idle m game paper said new text h is told = inl (new, subst (λ (x : Said). IsSaid m game paper x) is h, told)
+
+pub unexplained_wrong : (m : Chart) (game : Option Row) (paper : List ℕ) (said : Said) (text : List ℕ) → IsSaid m game paper said → ((new : Row) → said ≡ Right new → ⊥)
+    → text ≡ said_text paper said → IsFoundText m game paper text false
+unexplained_wrong m game paper said text h other told = inr (said, h, not_right said other, told)

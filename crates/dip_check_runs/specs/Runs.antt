@@ -46,10 +46,11 @@ abbrev pub count_played : Option Row → ℕ
 count_played None = 0
 count_played (Some p) = p.papers
 
--- bytes are right only where they may come next in a game, and leave it so, with a board of the map
+-- bytes are right where they may come next in a game, and leave it so, with a board of the map; where a text is wrong, nothing that may
+-- come next has it
 abbrev pub IsSaidNext : Chart → Public → List ℕ → Said → Type 0
 IsSaidNext m p bytes (Right new) = IsNext m p bytes (rows.public new) × IsOf m new.board.value
-IsSaidNext m p bytes (Wrong fault) = Unit {0}
+IsSaidNext m p bytes (Wrong fault) = (new : Public) → IsNext m p bytes new → ⊥
 IsSaidNext m p bytes (NoText line) = Unit {0}
 
 -- bytes are right only where they may come first in a game, which stands so, with a board of the map; where a text is wrong, no game

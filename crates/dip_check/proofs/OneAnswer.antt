@@ -1,5 +1,5 @@
 -- A text and the public part before it leave one public part at most.
-use Rattle.std.proofs.Common.{◌≡◌, ◌<◌, ◌≤◌, ◌+◌, ◌==◌, ◌^◌, ◌≢◌, inl, inr, ◌⊎◌, ℕ, Bool, true, false, not, List, [], ◌∷◌, ◌++◌, codes, Option, Some, unwrap_or, slice_get, refl, sym, ap, ap₂, subst, ◌∙◌, append_assoc, arith}
+use Rattle.std.proofs.Common.{◌≡◌, ◌<◌, ◌≤◌, ◌+◌, ◌==◌, ◌^◌, ◌≢◌, inl, inr, ◌⊎◌, ℕ, Bool, true, false, not, List, [], ◌∷◌, ◌++◌, codes, Option, Some, refl, sym, ap, ap₂, subst, ◌∙◌, append_assoc, arith}
 use Rattle.std.specs.Fmt.{decimal}
 use Rattle.std.proofs.lemmas.Bool.{cases_Bool, false≢true}
 use Rattle.std.proofs.lemmas.Bool.Decides.{nat_tests}
@@ -22,13 +22,12 @@ use Rattle.dip_desk_state.specs.Bounds.{most_papers}
 use Rattle.dip_desk_state.specs.Records.{Public, Status, Running, Paused, Closed, Ended, Won, Drawn}
 use Rattle.dip_reports.specs.Texts.{board_lines, game_line, intent_text, marked_lines, notice_lines, notice_paper, paper_end, paper_title, phase_text, status_text, terms_text, yes_or_no}
 use Rattle.dip_desk_machine.specs.Drawing.{public_drawn}
-use Rattle.dip_desk_machine.specs.Machine.{opening_public}
 use Rattle.dip_desk_machine.specs.Noting.{is_announcement, public_noted}
 use Rattle.dip_desk_machine.specs.Ticking.{public_played}
 use Rattle.dip_check.specs.Checks.{IsCommand}
 use Rattle.dip_check.specs.Games.{IsDraw, IsNext, IsNotice, IsOpening, IsPhase}
 use Rattle.dip_check.specs.Laws.{OpeningsHaveOneAnswer, PapersHaveOneAnswer}
-use Rattle.dip_check.specs.Parts.{game_line_in, is_yes, lines_in, told_in, word_after, words_in}
+use Rattle.dip_check.specs.Parts.{game_line_in, lines_in, words_in}
 use Rattle.dip_check.specs.Printed.{StandFor}
 use Rattle.dip_check.specs.Shared.{draw_head, sharers}
 use Rattle.dip_check.proofs.DrawLemmas.{draw_begins, draw_rest, sharers_of}

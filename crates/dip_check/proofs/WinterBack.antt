@@ -32,7 +32,6 @@ use Rattle.dip_turn.proofs.CountLemmas.{count_append, count_kept}
 use Rattle.dip_turn.proofs.MapLemmas.{AreEachLawful, each_lawful}
 use Rattle.dip_turn_papers.specs.Papers.{adjusted_lines, adjusted_power, adjusted_text, adjusted_with, by_province, disorder_lines, is_by, is_in, line_text, power_lines, told_text, unit_line, waiver_line}
 use Rattle.dip_turn_papers.specs.declared.lines.PaperLine.{PaperLine}
-use Rattle.dip_turn_papers.specs.declared.lines.Told.{Told}
 use Rattle.dip_turn_papers.specs.declared.lines.Told.TheVariants.{Built, Removed, RemovedInDisorder}
 use Rattle.dip_desk_state.specs.Records.{Public}
 use Rattle.dip_reports.specs.Texts.{game_line, phase_text, status_text, terms_text}

@@ -7,23 +7,14 @@ use Rattle.dip_desk_state.specs.Records.{Public}
 use Rattle.dip_desk_state.specs.Rows as rows
 use Rattle.dip_desk_state.specs.declared.records.Public.{Public as Row}
 use Rattle.dip_desk_machine.specs.Ticking.{public_played}
-use Rattle.dip_orders.specs.Conditions.{is_adjustment}
 use Rattle.dip_orders.specs.declared.placed.PlacedOrder.{PlacedOrder}
 use Rattle.dip_turn.specs.Reports.{IsPlayed}
 use Rattle.dip_turn.specs.declared.report.Report.{Report}
 use Rattle.dip_turn_papers.specs.Papers.{paper_text}
-use Rattle.dip_check.specs.Checks.{IsCompared, IsComparedPhase, IsJudged, IsJudgedBy, IsRightFirst, IsRightNext}
-use Rattle.dip_check.specs.Games.{IsNext, IsOpening, IsPhase, IsPhaseOf}
+use Rattle.dip_check.specs.Checks.{IsComparedPhase, IsJudged, IsJudgedBy}
+use Rattle.dip_check.specs.Games.{IsPhase, IsPhaseOf}
 use Rattle.dip_check.specs.declared.phases.Judged.{Judged}
 use Rattle.dip_check.specs.declared.phases.Judged.TheVariants.{Right as RightPhase, Wrong as WrongPhase}
-use Rattle.dip_check.specs.declared.verdict.Verdict.{Verdict}
-use Rattle.dip_check.specs.declared.verdict.Verdict.TheVariants.{Right, Wrong}
-
--- a text that may come next where it is the wanted one
-pub next_where_wanted : (m : Chart) (p : Public) (text wanted : List ℕ) (after : Public) (v : Verdict) → IsCompared text wanted after v
-    → (text ≡ wanted → IsNext m p text after) → IsOf m after.board → IsRightNext m p text v
-next_where_wanted m p text wanted after (Right new) c next of = (subst (IsNext m p text) (sym c.1) (next c.0), subst (λ (q : Public). IsOf m q.board) (sym c.1) of)
-next_where_wanted m p text wanted after (Wrong fault) c next of = tt
 
 -- a phase's text where it is the wanted one of these orders
 pub judged_by_wanted : (m : Chart) (p : Public) (tick : ℕ) (orders : List PlacedOrder) (text wanted : List ℕ) (report : Report) (after : Row) (j : Judged) → IsComparedPhase text wanted report after j
@@ -39,16 +30,10 @@ judged_by_wanted m p tick orders text wanted report after (WrongPhase fault) c r
 -- what is said of these orders is said of the phase, where none others could have the text
 pub judged_weaker : (m : Chart) (p : Public) (tick : ℕ) (orders : List PlacedOrder) (text : List ℕ) (j : Judged) → IsJudgedBy m p tick orders text j
     → (((board : Position) (one : Report) → IsPlayed m p.board orders board one → text ≢ paper_text m one (public_played tick p board one.course))
-    → (new : Public) → is_adjustment p.board.phase.season ≡ false → IsPhase m p text new → ⊥)
+    → (new : Public) → IsPhase m p text new → ⊥)
     → IsJudged m p text j
 judged_weaker m p tick orders text (RightPhase told new) h none = h
 judged_weaker m p tick orders text (WrongPhase fault) h none = none h
-
--- a text that may come first where it is the wanted one
-pub first_where_wanted : (m : Chart) (text wanted : List ℕ) (after : Public) (v : Verdict) → IsCompared text wanted after v
-    → (text ≡ wanted → IsOpening m text after) → IsOf m after.board → IsRightFirst m text v
-first_where_wanted m text wanted after (Right new) c first of = (subst (IsOpening m text) (sym c.1) (first c.0), subst (λ (q : Public). IsOf m q.board) (sym c.1) of)
-first_where_wanted m text wanted after (Wrong fault) c first of = tt
 
 -- what holds of a value where there is one, and what follows from that
 pub ok_weaker : {A E : Type 0} (P Q : A → Type 0) (r : Result A E) → ((x : A) → P x → Q x) → IfOk r P → IfOk r Q

@@ -89,7 +89,7 @@ either m p (Period period) text new lines is fits noted = inr (record { fits = f
 either m p (Announce text') text new lines is fits noted = inl (subst (λ ls. IsAnnounced m p ls text new) (sym is) (fits, noted))
 either m p Close text new lines is fits noted = inr (record { fits = fits; kind = refl })
 
-noted_of : (m : Chart) (p : Public) (text : List ℕ) (new : Public) (h : IsNotice m p text new) → IsNoted m p h.notice text new
+pub noted_of : (m : Chart) (p : Public) (text : List ℕ) (new : Public) (h : IsNotice m p text new) → IsNoted m p h.notice text new
 noted_of m p text new h = record { after = h.after; told = h.told }
 
 -- where no command can stand beside it, a notice is an announcement

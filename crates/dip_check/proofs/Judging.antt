@@ -1,9 +1,10 @@
 -- Where a phase's text is told wrong, no paper of the phase has it.
-use Rattle.std.proofs.Common.{◌≡◌, ◌≢◌, ◌++◌, ℕ, Bool, true, false, List, map, Some, None, refl, sym, ap, ap₂, subst, ◌∙◌, flat_map, codes, ◌≤◌, ◌+◌, nat_le, arith}
+use Rattle.std.proofs.Common.{◌≡◌, ◌≢◌, ◌++◌, ℕ, Bool, true, false, List, [], map, Some, None, refl, sym, ap, ap₂, subst, ◌∙◌, flat_map, codes, ◌≤◌, ◌+◌, nat_le, arith}
 use Rattle.std.proofs.lemmas.Bool.{and_from, and_parts, false≢true}
 use Rattle.std.proofs.lemmas.Bool.Decides.{nat_tests}
 use Rattle.std.specs.List.{AllByRecursion}
 use Rattle.dip_names.specs.declared.names.Unit.{Unit as AUnit}
+use Rattle.dip_letters.specs.Lines.{split_lines}
 use Rattle.dip_map.specs.Boards.{IsOf, Position}
 use Rattle.dip_map.specs.declared.boards.Dislodged.{Dislodged}
 use Rattle.dip_map.specs.declared.boards.Phase.{Phase}
@@ -20,7 +21,9 @@ use Rattle.dip_decide.specs.Meaning.{meant_on}
 use Rattle.dip_decide.specs.Results.{values_in}
 use Rattle.dip_turn.specs.Moving.{moved_board}
 use Rattle.dip_turn.specs.Laws.{AreAlike, IsSame, PhasesHaveOneResult}
-use Rattle.dip_turn.specs.Reports.{IsPlayed, Leaves, LeavesMoved, LeavesRetreated}
+use Rattle.dip_turn.specs.Centres.{centre_lines}
+use Rattle.dip_turn.specs.Phases.{follow, sequel}
+use Rattle.dip_turn.specs.Reports.{IsPlayed, Leaves, LeavesAdjusted, LeavesMoved, LeavesRetreated}
 use Rattle.dip_turn.specs.declared.report.Account.{Account}
 use Rattle.dip_turn.specs.declared.report.Account.TheVariants.{Movement as OfMovement, Retreats as OfRetreats, Adjustment as OfAdjustment}
 use Rattle.dip_turn.specs.declared.report.CentreLine.{CentreLine}
@@ -38,14 +41,13 @@ use Rattle.dip_desk_machine.specs.Ticking.{is_due, is_running, public_played}
 use Rattle.dip_check.specs.Games.{IsPhase, IsTick}
 use Rattle.dip_check.specs.Laws.{order_printed}
 use Rattle.dip_check.specs.Placing.{placed_by, units_by_place}
-use Rattle.dip_check.specs.Checks.{IsSaidOfPhase}
-use Rattle.dip_check.specs.declared.verdict.Verdict.{Verdict}
-use Rattle.dip_check.specs.declared.verdict.Verdict.TheVariants.{Right, Wrong}
-use Rattle.dip_check.specs.Printed.{title_words, StandFor, first_line_of, orders_printed_at, unit_orders_at}
+use Rattle.dip_check.specs.Printed.{title_words, StandFor, first_line_of, orders_printed_at, unit_orders_at, winter_orders_at}
 use Rattle.dip_check.proofs.MovesBack.{OrderLaws, moved_alike, moved_orders, moves_given, moves_placed, moves_read, stood_back, units_stood}
 use Rattle.dip_check.proofs.PaperParts.{after_title, lines_read, paper_rest}
 use Rattle.dip_check.proofs.RetreatsBack.{left_same, printed_back, retreated_orders, retreats_given, retreats_placed, retreats_read, told_same, units_printed}
 use Rattle.dip_check.proofs.ReadAnywhere.{IsReadBack}
+use Rattle.dip_check.proofs.WinterBack.{account_read, game_ends, read}
+use Rattle.dip_check.proofs.WinterCentres.{winter_centres}
 
 some_of : {A : Type 0} (x y : A) → Some x ≡ Some y → x ≡ y
 some_of x y e = cc
@@ -78,6 +80,20 @@ from_moved m SpringRetreats b ps left a moves h = absurd (false≢true moves)
 from_moved m FallMoves b ps left a moves h = h
 from_moved m FallRetreats b ps left a moves h = absurd (false≢true moves)
 from_moved m Winter b ps left a moves h = absurd (false≢true moves)
+
+winter_season : (m : Chart) (b : Position) (text : List ℕ) (s : Season) → is_adjustment s ≡ true → orders_printed_at m b text s ≡ winter_orders_at m b (split_lines (first_line_of text).1) []
+winter_season m b text SpringMoves h = absurd (false≢true h)
+winter_season m b text SpringRetreats h = absurd (false≢true h)
+winter_season m b text FallMoves h = absurd (false≢true h)
+winter_season m b text FallRetreats h = absurd (false≢true h)
+winter_season m b text Winter h = refl
+
+to_adjusted : (m : Chart) (s : Season) (b : Position) (ps : List PlacedOrder) (left : Position) (a : Account) → is_adjustment s ≡ true → Leaves m s b ps left a → LeavesAdjusted m b ps left a
+to_adjusted m SpringMoves b ps left a winter h = absurd (false≢true winter)
+to_adjusted m SpringRetreats b ps left a winter h = absurd (false≢true winter)
+to_adjusted m FallMoves b ps left a winter h = absurd (false≢true winter)
+to_adjusted m FallRetreats b ps left a winter h = absurd (false≢true winter)
+to_adjusted m Winter b ps left a winter h = h
 
 retreats_season : (m : Chart) (b : Position) (text : List ℕ) (s : Season) → is_retreat s ≡ true
     → orders_printed_at m b text s ≡ unit_orders_at m b (units_by_place m (map (λ (d : Dislodged). d.unit) b.dislodged)) (first_line_of text).1
@@ -191,26 +207,51 @@ module _ (l : OrderLaws) (m : Chart) (b : Position) (ps : List PlacedOrder) (law
       stands = retreat_stands;
     }
 
-  reads : is_adjustment b.phase.season ≡ false → (new : Position) (report : Report) → IsPlayed m b ps new report → (p : Public) → Reads m b ps (paper_text m report p)
-  reads other new report h p = by b.phase.season refl
+  module _ (placed : are_by_place ps ≡ true) (winter : b.phase.season ≡ Winter) where
+    winter_text : (left new : Position) (course : Course) (a : Account) (rest : List ℕ) → LeavesAdjusted m b ps left a → sequel new course ≡ follow m b.phase.season left
+        → (read m b (account_text m a ++ rest) [] ≡ read m b rest ps) × (centre_lines m b new ≡ [])
+    winter_text left new course (OfMovement t) rest h next = absurd h
+    winter_text left new course (OfRetreats lines) rest h next = absurd h
+    winter_text left new course (OfAdjustment t) rest h next = (
+      account_read l m b ps laws of given placed (ap is_adjustment winter) left t rest h,
+      winter_centres m b left new ps course h.board (next ∙ ap (λ (s : Season). follow m s left) winter),
+    )
+
+    winter_reads : (new : Position) (report : Report) → IsPlayed m b ps new report → (p : Public) → Reads m b ps (paper_text m report p)
+    winter_reads new report h p =
+        let parts = winter_text h.left new report.course report.account (paper_rest m report p) (to_adjusted m b.phase.season b ps h.left report.account (ap is_adjustment winter) h.account) h.next in
+        let end = game_line m p ++ (board_lines m p.board ++ codes "END\n") in
+        record {
+          read = ps;
+          is = winter_season m b (paper_text m report p) b.phase.season (ap is_adjustment winter)
+              ∙ ap (λ (x : List ℕ × List ℕ). winter_orders_at m b (split_lines x.1) []) (after_title m report p)
+              ∙ parts.0
+              ∙ ap (λ (cs : List CentreLine). read m b (flat_map (centre_line m) cs ++ end) ps) (h.centres ∙ parts.1)
+              ∙ game_ends m b ps p (board_lines m p.board ++ codes "END\n");
+          stands = record { given = given; by_place = placed; alike = λ board told same. same };
+        }
+
+  reads : are_by_place ps ≡ true → (new : Position) (report : Report) → IsPlayed m b ps new report → (p : Public) → Reads m b ps (paper_text m report p)
+  reads placed new report h p = by b.phase.season refl
     where
       by : (s : Season) → b.phase.season ≡ s → Reads m b ps (paper_text m report p)
       by SpringMoves e = move_reads (ap is_movement e) new report h p
       by SpringRetreats e = retreat_reads (ap is_retreat e) new report h p
       by FallMoves e = move_reads (ap is_movement e) new report h p
       by FallRetreats e = retreat_reads (ap is_retreat e) new report h p
-      by Winter e = absurd (false≢true (sym other ∙ ap is_adjustment e))
+      by Winter e = winter_reads placed e new report h p
 
 -- ---- and so no paper of the phase has a text that is told wrong
 
-module _ (l : OrderLaws) (m : Chart) (p : Public) (text : List ℕ) (laws : IsMap m) (of : IsOf m p.board) (other : is_adjustment p.board.phase.season ≡ false) (new : Public) (h : IsPhase m p text new) where
-  phase_reads : Reads m p.board h.brought.orders text
-  phase_reads = subst (Reads m p.board h.brought.orders) (sym h.brought.told) (reads l m p.board h.brought.orders laws of h.brought.given other h.brought.board h.report h.brought.played new)
+module _ (l : OrderLaws) (m : Chart) (p : Public) (text : List ℕ) (laws : IsMap m) (of : IsOf m p.board) (new : Public) (h : IsPhase m p text new) where
+  -- what the text prints is read
+  pub phase_reads : Reads m p.board h.brought.orders text
+  phase_reads = subst (Reads m p.board h.brought.orders) (sym h.brought.told) (reads l m p.board h.brought.orders laws of h.brought.given h.brought.by_place h.brought.board h.report h.brought.played new)
 
   pub unread : orders_printed_at m p.board text p.board.phase.season ≡ None → ⊥
   unread none = let bad : None ≡ Some phase_reads.read = sym none ∙ phase_reads.is in cc
 
-  stand_for : (qs : List PlacedOrder) → orders_printed_at m p.board text p.board.phase.season ≡ Some qs → StandFor m p.board h.brought.orders qs
+  pub stand_for : (qs : List PlacedOrder) → orders_printed_at m p.board text p.board.phase.season ≡ Some qs → StandFor m p.board h.brought.orders qs
   stand_for qs is =
       let some : Some phase_reads.read ≡ Some qs = sym phase_reads.is ∙ is in
       let same : phase_reads.read ≡ qs = some_of phase_reads.read qs some in
@@ -274,14 +315,12 @@ low a b h = grind (arith, nat_tests)
 tested : (a b : ℕ) → a ≤ b → nat_le a b ≡ true
 tested a b h = grind (arith, nat_tests)
 
-pub phase_due : (m : Chart) (p : Public) (text : List ℕ) (new : Public) → IsPhase m p text new → is_due 999999999999 p ≡ true
-phase_due m p text new h =
-    let ticks = h.brought.ticks in
-    let parts = and_parts (is_running p.status) (nat_le p.due h.brought.tick) ticks.due in
-    let due : p.due ≤ h.brought.tick = low p.due h.brought.tick parts.1 in
+-- a tick that a letter may name is no later than the last
+pub tick_due : (p : Public) (tick : ℕ) → IsTick p tick → is_due 999999999999 p ≡ true
+tick_due p tick ticks =
+    let parts = and_parts (is_running p.status) (nat_le p.due tick) ticks.due in
+    let due : p.due ≤ tick = low p.due tick parts.1 in
     and_from (is_running p.status) (nat_le p.due 999999999999) parts.0 (tested p.due 999999999999 (omega (arith, due, ticks.timely)))
 
--- where no paper of the phase has the text, whatever is said of it may be
-pub said_of_none : (m : Chart) (p : Public) (text : List ℕ) (v : Verdict) → ((new : Public) → IsPhase m p text new → ⊥) → IsSaidOfPhase m p text v
-said_of_none m p text (Right new) none = tt
-said_of_none m p text (Wrong fault) none = λ new other h. none new h
+pub phase_due : (m : Chart) (p : Public) (text : List ℕ) (new : Public) → IsPhase m p text new → is_due 999999999999 p ≡ true
+phase_due m p text new h = tick_due p h.brought.tick h.brought.ticks

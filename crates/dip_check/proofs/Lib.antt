@@ -19,5 +19,10 @@ pub mod OrderLines
 pub mod PaperParts
 pub mod MovesBack
 pub mod RetreatsBack
+pub mod WinterCentres
+pub mod WinterOrders
+pub mod WinterBack
 pub mod Judging
 pub mod Judged
+pub mod KindsApart
+pub mod OneAnswer

@@ -37,7 +37,7 @@ lacks_append mark (x ∷ a) b one two = (one.0, lacks_append mark a b one.1 two)
 
 -- ---- the last such byte
 
-no_mark : (mark : ℕ) (a t : List ℕ) → Lacks mark (a ++ mark ∷ t) → ⊥
+pub no_mark : (mark : ℕ) (a t : List ℕ) → Lacks mark (a ++ mark ∷ t) → ⊥
 no_mark mark [] t lacks = lacks.0 refl
 no_mark mark (x ∷ a) t lacks = no_mark mark a t lacks.1
 

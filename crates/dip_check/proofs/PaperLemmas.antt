@@ -53,7 +53,7 @@ notice_told m notice p low free =
 
 -- ---- what follows a name
 
-some_same : {A : Type 0} (x y : A) → Some x ≡ Some y → x ≡ y
+pub some_same : {A : Type 0} (x y : A) → Some x ≡ Some y → x ≡ y
 some_same x y e = cc
 
 none_some : {A : Type 0} (y : A) → None ≡ Some y → ⊥

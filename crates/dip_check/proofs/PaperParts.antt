@@ -29,10 +29,10 @@ use Rattle.dip_check.proofs.ReadAnywhere.{IsReadBack}
 
 -- ---- the title
 
-low_number : (n : ℕ) → AreAll (nat_le 32) (decimal n)
+pub low_number : (n : ℕ) → AreAll (nat_le 32) (decimal n)
 low_number n = number_all (nat_le 32) (λ d low. grind (arith, nat_tests)) n
 
-low_both : (a b : List ℕ) → AreAll (nat_le 32) a → AreAll (nat_le 32) b → AreAll (nat_le 32) (a ++ b)
+pub low_both : (a b : List ℕ) → AreAll (nat_le 32) a → AreAll (nat_le 32) b → AreAll (nat_le 32) (a ++ b)
 low_both a b one two = all_both (nat_le 32) a b one two
 
 low_phase : (p : Phase) → AreAll (nat_le 32) (phase_text p)
@@ -70,7 +70,7 @@ after_title m r p =
 
 -- ---- the orders by power and province
 
-flat_flat : {A B C : Type 0} (f : B → List C) (g : A → List B) (xs : List A) → flat_map (λ x. flat_map f (g x)) xs ≡ flat_map f (flat_map g xs)
+pub flat_flat : {A B C : Type 0} (f : B → List C) (g : A → List B) (xs : List A) → flat_map (λ x. flat_map f (g x)) xs ≡ flat_map f (flat_map g xs)
 flat_flat f g [] = refl
 flat_flat f g (x ∷ xs) = ap (λ t. flat_map f (g x) ++ t) (flat_flat f g xs) ∙ sym (flat_map-append f (g x) (flat_map g xs))
 
@@ -84,7 +84,7 @@ of_mapped : {A B : Type 0} (P : B → Type 0) (f : A → B) (xs : List A) → Al
 of_mapped P f [] all = tt
 of_mapped P f (x ∷ xs) all = (all.0, of_mapped P f xs all.1)
 
-map_map : {A B C : Type 0} (g : B → C) (f : A → B) (xs : List A) → map g (map f xs) ≡ map (λ x. g (f x)) xs
+pub map_map : {A B C : Type 0} (g : B → C) (f : A → B) (xs : List A) → map g (map f xs) ≡ map (λ x. g (f x)) xs
 map_map g f [] = refl
 map_map g f (x ∷ xs) = ap (λ t. g (f x) ∷ t) (map_map g f xs)
 

@@ -12,7 +12,6 @@ use Rattle.dip_desk_machine.specs.Noting.{is_announcement, public_noted}
 use Rattle.dip_reports.specs.Texts.{notice_paper}
 use Rattle.dip_desk_state.specs.Records.{For, Public}
 use Rattle.dip_desk_state.specs.declared.records.Public.{Public as Row}
-use Rattle.dip_orders.specs.Conditions.{is_adjustment}
 use Rattle.dip_orders.specs.declared.placed.PlacedOrder.{PlacedOrder}
 use Rattle.dip_turn.specs.Reports.{IsPlayed}
 use Rattle.dip_turn.specs.declared.report.Report.{Report}
@@ -27,16 +26,11 @@ use Rattle.dip_check.specs.declared.verdict.Papers.TheVariants.{None as NoPapers
 use Rattle.dip_check.specs.declared.verdict.Verdict.{Verdict}
 use Rattle.dip_check.specs.declared.verdict.Verdict.TheVariants.{Right, Wrong}
 
--- a text is right only where it may come next, and leaves the game so, with a board of the map
-abbrev pub IsRightNext : Chart → Public → List ℕ → Verdict → Type 0
-IsRightNext m p text (Right new) = IsNext m p text (rows.public new) × IsOf m new.board.value
-IsRightNext m p text (Wrong fault) = Unit {0}
-
 -- a phase's text is right only where the phase brings this report, and leaves the game so, with a board of the map; and where it is wrong,
 -- no paper of the phase has that text
 abbrev pub IsJudged : Chart → Public → List ℕ → Judged → Type 0
 IsJudged m p text (RightPhase report new) = IsNext m p text (rows.public new) × IsPhaseOf m p text report (rows.public new) × IsOf m new.board.value
-IsJudged m p text (WrongPhase fault) = (new : Public) → is_adjustment p.board.phase.season ≡ false → IsPhase m p text new → ⊥
+IsJudged m p text (WrongPhase fault) = (new : Public) → IsPhase m p text new → ⊥
 
 -- the same of these orders, played at this tick
 abbrev pub IsJudgedBy : Chart → Public → ℕ → List PlacedOrder → List ℕ → Judged → Type 0
@@ -44,20 +38,10 @@ IsJudgedBy m p tick orders text (RightPhase report new) = IsNext m p text (rows.
 IsJudgedBy m p tick orders text (WrongPhase fault) =
     (board : Position) (report : Report) → IsPlayed m p.board orders board report → text ≢ paper_text m report (public_played tick p board report.course)
 
--- what is said of a phase's text: right only where it may come next, and wrong only where no paper of the phase has it
-abbrev pub IsSaidOfPhase : Chart → Public → List ℕ → Verdict → Type 0
-IsSaidOfPhase m p text (Right new) = Unit {0}
-IsSaidOfPhase m p text (Wrong fault) = (new : Public) → is_adjustment p.board.phase.season ≡ false → IsPhase m p text new → ⊥
-
 -- a phase's text is right where it is the wanted one, of this report and this public part, and wrong where it isn't
 abbrev pub IsComparedPhase : (text wanted : List ℕ) → Report → Row → Judged → Type 0
 IsComparedPhase text wanted report after (RightPhase told new) = (text ≡ wanted) × (told ≡ report) × (new ≡ after)
 IsComparedPhase text wanted report after (WrongPhase fault) = text ≢ wanted
-
--- a text is right only where it may come first, and the game stands so, with a board of the map
-abbrev pub IsRightFirst : Chart → List ℕ → Verdict → Type 0
-IsRightFirst m text (Right new) = IsOpening m text (rows.public new) × IsOf m new.board.value
-IsRightFirst m text (Wrong fault) = Unit {0}
 
 -- a text is right where it is the wanted one, and leaves the game so; else it is wrong
 abbrev pub IsCompared : (text wanted : List ℕ) → Public → Verdict → Type 0
@@ -69,6 +53,11 @@ IsCompared text wanted after (Wrong fault) = text ≢ wanted
 abbrev pub IsJudgedNext : Chart → Public → List ℕ → (Public → Type 0) → Verdict → Type 0
 IsJudgedNext m p text IsPaper (Right new) = IsNext m p text (rows.public new) × IsOf m new.board.value
 IsJudgedNext m p text IsPaper (Wrong fault) = (new : Public) → IsPaper new → ⊥
+
+-- a text is right only where it may come next, and leaves the game so, with a board of the map; it is wrong only where nothing that may
+-- come next has that text
+abbrev pub IsJudgedPaper : Chart → Public → List ℕ → Verdict → Type 0
+IsJudgedPaper m p text v = IsJudgedNext m p text (IsNext m p text) v
 
 -- a text is right only where it may come first, and the game stands so, with a board of the map; it is wrong only where it is no opening
 abbrev pub IsJudgedFirst : Chart → List ℕ → Verdict → Type 0
@@ -94,14 +83,14 @@ pub record IsCommand (notice : NoticeRequest) : Type 0 where
   pub fits : FitsNotice notice
   pub kind : is_announcement notice ≡ false
 
--- texts are right only where they may come one after the other, and leave the game so
-abbrev pub AreRightFrom : Chart → Public → List (List ℕ) → Papers → Type 0
-AreRightFrom m p texts (RightPapers new) = AreNext m p texts (rows.public new)
-AreRightFrom m p texts (WrongPaper number fault) = Unit {0}
-AreRightFrom m p texts NoPapers = Unit {0}
+-- texts are right only where they may come one after the other, and leave the game so; they are wrong only where they leave it no way
+abbrev pub AreJudgedFrom : Chart → Public → List (List ℕ) → Papers → Type 0
+AreJudgedFrom m p texts (RightPapers new) = AreNext m p texts (rows.public new)
+AreJudgedFrom m p texts (WrongPaper number fault) = (new : Public) → AreNext m p texts new → ⊥
+AreJudgedFrom m p texts NoPapers = (new : Public) → AreNext m p texts new → ⊥
 
--- texts are right only where they are the papers of a game, which stands so after them
-abbrev pub AreRightPapers : Chart → List (List ℕ) → Papers → Type 0
-AreRightPapers m texts (RightPapers new) = AreOfGame m texts (rows.public new)
-AreRightPapers m texts (WrongPaper number fault) = Unit {0}
-AreRightPapers m texts NoPapers = Unit {0}
+-- texts are right only where they are the papers of a game, which stands so after them; they are wrong only where they are no game's
+abbrev pub AreJudgedPapers : Chart → List (List ℕ) → Papers → Type 0
+AreJudgedPapers m texts (RightPapers new) = AreOfGame m texts (rows.public new)
+AreJudgedPapers m texts (WrongPaper number fault) = (new : Public) → AreOfGame m texts new → ⊥
+AreJudgedPapers m texts NoPapers = (new : Public) → AreOfGame m texts new → ⊥

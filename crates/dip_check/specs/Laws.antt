@@ -1,5 +1,5 @@
 -- The laws of checking, as statements.
-use Rattle.std.specs.Prelude.{◌≡◌, ℕ, Bool, true, Contains, List, [], Ok, Some}
+use Rattle.std.specs.Prelude.{◌≡◌, ◌≤◌, ℕ, Bool, true, Contains, List, [], Ok, Some}
 use Rattle.std.specs.List.{AllByRecursion}
 use Rattle.dip_names.specs.declared.names.Unit.{Unit as AUnit}
 use Rattle.dip_map.specs.Boards.{IsOf, Position}
@@ -25,11 +25,20 @@ use Rattle.dip_desk_machine.specs.Machine.{Decides, Step, Taken}
 use Rattle.dip_desk_machine.specs.Mail.{IsMail, Mail}
 use Rattle.dip_desk_machine.specs.Published.{AreDecided, movement_paper}
 use Rattle.dip_desk_machine.specs.View.{IsRun, Turn}
-use Rattle.dip_check.specs.Games.{AreOfGame, IsNext, IsPhase}
+use Rattle.dip_check.specs.Games.{AreOfGame, IsNext, IsOpening, IsPhase}
 
 -- the papers that a desk keeps of each game are the papers of a game, which stands so
 abbrev pub AreGames : Chart → State → Type 0
 AreGames m s = AllByRecursion (λ g. AreOfGame m g.papers g.public) s.games
+
+-- a text leaves a game one way at most: the public part before it and the text determine the one after it
+abbrev pub PapersHaveOneAnswer : Chart → Type 0
+PapersHaveOneAnswer m = (p one other : Public) (text : List ℕ) → IsOf m p.board → p.period ≤ 999999 → IsNext m p text one → IsNext m p text other
+    → one ≡ other
+
+-- a text opens one game at most
+abbrev pub OpeningsHaveOneAnswer : Chart → Type 0
+OpeningsHaveOneAnswer m = (one other : Public) (text : List ℕ) → IsOpening m text one → IsOpening m text other → one ≡ other
 
 -- what the machine decides to publish of a game of a lawful state may come next in it
 abbrev pub PublishedIsNext : Chart → Type 0

@@ -1,7 +1,8 @@
 //! A text that is to come next in a game.
-ghost use Rattle.std.specs.Prelude.{◌≡◌, ◌<◌, IfOk, true};
-ghost use Rattle.dip_check.specs.Checks.{IsRightNext, IsSaidOfPhase};
-ghost use Rattle.dip_check.specs.Games.{IsPhase};
+ghost use Rattle.std.specs.Prelude.{◌≡◌, ◌<◌, ◌+◌, ◌⊎◌, IfOk, true};
+ghost use Rattle.dip_check.specs.Checks.{IsJudgedNext, IsJudgedPaper};
+ghost use Rattle.dip_check.specs.Games.{IsDraw, IsNotice, IsPhase};
+ghost use Rattle.dip_check.specs.Printed.{first_line_of, title_words};
 ghost use Rattle.dip_desk_machine.specs.Ticking.{is_due};
 ghost use Rattle.dip_desk_state.specs.Bounds.{most_papers};
 ghost use Rattle.dip_desk_state.specs.Records as records;
@@ -22,14 +23,17 @@ use std::alloc::{AllocError, Global};
 
 /// Whether a text begins with the title of the game's phase, as each paper of the phase does.
 fn has_phase_title(alloc: Global, before: &Public, text: &str) -> Result<bool, AllocError>
-    ensures { IfOk result (λ r. (m : Chart) (new : records.Public)
+    ensures title { IfOk result (λ r. r ≡ true → (first_line_of text.now).0
+        ≡ title_words (before.now.papers + 1) before.now.board.value.phase) }
+    ensures phases { IfOk result (λ r. (m : Chart) (new : records.Public)
         → IsPhase m (rows.public before.now) text.now new → r ≡ true) }
 {
     let wanted = phase_title(alloc, before)?;
     Ok(first_line(text) == wanted.as_str())
 }
 
-/// What is said of a text that has another title, and is to come next in a game that goes on and may be due: a draw.
+/// What is said of a text that has no notice's title, and is to come next in a game that goes on and may be due: it is a draw's paper, or
+/// wrong.
 fn check_on_time(
     alloc: Global,
     map: &Map,
@@ -39,7 +43,8 @@ fn check_on_time(
     requires of_map { IsOf map.now before.now.board.value }
     requires room { before.now.papers < most_papers }
     requires due { is_due 999999999999 (rows.public before.now) ≡ true }
-    ensures { IfOk result (λ v. IsRightNext map.now (rows.public before.now) text.now v) }
+    ensures { IfOk result (λ v. IsJudgedNext map.now (rows.public before.now) text.now
+        (IsDraw map.now (rows.public before.now) text.now) v) }
 {
     let title = first_line(text);
     if title == title_of(alloc, before, "draw")?.as_str() {
@@ -49,11 +54,14 @@ fn check_on_time(
     Ok(Verdict::Wrong(other_line(alloc, 1, title, wanted.as_str())?))
 }
 
-/// What is said of a text that is to come next in a game, and is no paper of the game's phase: by its title it is a notice or a draw.
+/// What is said of a text that is to come next in a game, and is no paper of the game's phase: by its title it is a notice or a draw, and
+/// it is wrong only where it is the paper of neither.
 fn check_other(alloc: Global, map: &Map, before: &Public, text: &str) -> Result<Verdict, AllocError>
     requires of_map { IsOf map.now before.now.board.value }
     requires room { before.now.papers < most_papers }
-    ensures { IfOk result (λ v. IsRightNext map.now (rows.public before.now) text.now v) }
+    ensures { IfOk result (λ v. IsJudgedNext map.now (rows.public before.now) text.now
+        (λ new. IsNotice map.now (rows.public before.now) text.now new
+        ⊎ IsDraw map.now (rows.public before.now) text.now new) v) }
 {
     let title = first_line(text);
     let wanted = title_of(alloc, before, "notice")?;
@@ -68,8 +76,8 @@ fn check_other(alloc: Global, map: &Map, before: &Public, text: &str) -> Result<
 
 /// What is said of a text that is to come next in a game that stands so: by its title it is a notice, a draw or a phase.
 ///
-/// It is right only where it is a paper that the rules give: of a phase that some orders that can be given leave, at a tick from the due
-/// one on; of a draw between survivors; or of a notice that a letter may ask for. A movement's or retreats' paper is never told wrong.
+/// It is right just where it is a paper that the rules give: of a phase that some orders that can be given leave, at a tick from the due
+/// one on; of a draw between survivors; or of a notice that a letter may ask for. Where there is such a paper with that text, it is right.
 ///
 /// # Errors
 /// Want of memory alone.
@@ -80,9 +88,7 @@ pub fn check_paper(
     text: &str,
 ) -> Result<Verdict, AllocError>
     requires of_map { IsOf map.now before.now.board.value }
-    ensures right { IfOk result (λ v. IsRightNext map.now (rows.public before.now) text.now v) }
-    ensures phases { IfOk result (λ v. before.now.papers < most_papers
-        → IsSaidOfPhase map.now (rows.public before.now) text.now v) }
+    ensures { IfOk result (λ v. IsJudgedPaper map.now (rows.public before.now) text.now v) }
 {
     if MOST_PAPERS <= before.papers {
         let title = first_line(text);

@@ -1,10 +1,11 @@
 //! All papers of a game, one after the other.
-ghost use Rattle.std.specs.Prelude.{IfOk, map as each};
-ghost use Rattle.dip_check.specs.Checks.{AreRightFrom, AreRightPapers};
+ghost use Rattle.std.specs.Prelude.{◌≤◌, IfOk, map as each};
+ghost use Rattle.dip_check.specs.Checks.{AreJudgedFrom, AreJudgedPapers};
 ghost use Rattle.dip_desk_state.specs.Rows as rows;
 ghost use Rattle.dip_map.specs.Boards.{IsOf};
 
 use crate::checking::check_paper;
+use crate::laws::papers_have_one_answer;
 use crate::openings::check_opening;
 use crate::verdict::{Papers, Verdict};
 use dip_desk_state::Public;
@@ -18,10 +19,12 @@ fn check_from(
     first: Public,
     papers: &[&str],
 ) -> Result<Papers, AllocError>
-    requires { IsOf map.now first.board.value }
-    ensures { IfOk result (λ v. AreRightFrom map.now (rows.public first)
+    requires of_map { IsOf map.now first.board.value }
+    requires short { first.period ≤ 999999 }
+    ensures { IfOk result (λ v. AreJudgedFrom map.now (rows.public first)
         (each (λ t. t.now) papers.now) v) }
 {
+    papers_have_one_answer(map);
     let mut public = first;
     let mut number: usize = 1;
     for paper in papers {
@@ -34,14 +37,15 @@ fn check_from(
     Ok(Papers::Right(public))
 }
 
-/// What is said of texts that are to be the papers of a game, in order: they are right only where the rules give them, from the opening
-/// on, each after the one before it.
+/// What is said of texts that are to be the papers of a game, in order: they are right just where the rules give them, from the opening
+/// on, each after the one before it. Where no game has these papers, the first that is wrong is told.
 ///
 /// # Errors
 /// Want of memory alone.
 pub fn check_papers(alloc: Global, map: &Map, papers: &[&str]) -> Result<Papers, AllocError>
-    ensures { IfOk result (λ v. AreRightPapers map.now (each (λ t. t.now) papers.now) v) }
+    ensures { IfOk result (λ v. AreJudgedPapers map.now (each (λ t. t.now) papers.now) v) }
 {
+    papers_have_one_answer(map);
     if papers.is_empty() {
         return Ok(Papers::None);
     }

@@ -1,17 +1,31 @@
 //! Laws of checking, each the contract of a function that does nothing.
 ghost use Rattle.dip_map.specs.Charts.{Chart};
-ghost use Rattle.dip_check.specs.Laws.{GivenAreReadBack, HistoriesAreRight, MovementsAreDecided, PublishedIsNext, RetreatsAreReadBack, StandingIsReadBack, StandingIsSettled, StaysGames};
+ghost use Rattle.dip_check.specs.Laws.{GivenAreReadBack, HistoriesAreRight, MovementsAreDecided, OpeningsHaveOneAnswer, PapersHaveOneAnswer, PublishedIsNext, RetreatsAreReadBack, StandingIsReadBack, StandingIsSettled, StaysGames};
 
 use dip_decide::explained_is_lawful;
 use dip_desk_machine::lawful_states_stay_lawful;
 use dip_map::Map;
 use dip_orders::{lawful_orders_are_read, orders_are_lawful, orders_are_read_again};
+use dip_turn::phases_have_one_result;
 
 /// Each movement that is right satisfies the written decision equations for the orders that it prints, explained, with one answer.
 pub fn right_movements_are_decided()
     ensures { (m : Chart) → MovementsAreDecided m }
 {
     explained_is_lawful();
+}
+
+/// A text that may come next leaves a game one way at most, and one that may come first opens one game at most: the papers up to one
+/// determine how the game stands after it.
+pub fn papers_have_one_answer(map: &Map)
+    ensures next { PapersHaveOneAnswer map.now }
+    ensures first { OpeningsHaveOneAnswer map.now }
+{
+    map.facts();
+    orders_are_read_again();
+    orders_are_lawful();
+    lawful_orders_are_read();
+    phases_have_one_result();
 }
 
 /// What the machine decides to publish of a game of a lawful state may come next in it.

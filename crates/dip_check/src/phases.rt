@@ -1,6 +1,6 @@
 //! The paper of a phase: its orders are read and played again, and its paper is made and compared.
-ghost use Rattle.std.specs.Prelude.{◌≡◌, ◌<◌, IfNone, IfOk, IfSome, false, true};
-ghost use Rattle.dip_check.specs.Checks.{IsComparedPhase, IsJudged, IsJudgedBy, IsRightNext, IsSaidOfPhase};
+ghost use Rattle.std.specs.Prelude.{◌≡◌, ◌<◌, IfNone, IfOk, IfSome, true};
+ghost use Rattle.dip_check.specs.Checks.{IsComparedPhase, IsJudged, IsJudgedBy, IsJudgedNext};
 ghost use Rattle.dip_check.specs.Games.{IsPhase, IsPhaseOf, IsTick};
 ghost use Rattle.dip_desk_machine.specs.Handing.{are_by_place};
 ghost use Rattle.dip_desk_machine.specs.Ticking.{is_due};
@@ -8,7 +8,6 @@ ghost use Rattle.dip_desk_state.specs.Bounds.{most_papers};
 ghost use Rattle.dip_desk_state.specs.Records as records;
 ghost use Rattle.dip_desk_state.specs.Rows as rows;
 ghost use Rattle.dip_map.specs.Boards.{IsOf};
-ghost use Rattle.dip_orders.specs.Conditions.{is_adjustment};
 ghost use Rattle.dip_orders.specs.Given.{AreGiven};
 
 use crate::differences::{fault_at, first_difference};
@@ -134,8 +133,8 @@ pub(crate) fn check_phase(
     requires of_map { IsOf map.now before.now.board.value }
     requires room { before.now.papers < most_papers }
     requires due { is_due 999999999999 (rows.public before.now) ≡ true }
-    ensures right { IfOk result (λ v. IsRightNext map.now (rows.public before.now) text.now v) }
-    ensures wrong { IfOk result (λ v. IsSaidOfPhase map.now (rows.public before.now) text.now v) }
+    ensures { IfOk result (λ v. IsJudgedNext map.now (rows.public before.now) text.now
+        (IsPhase map.now (rows.public before.now) text.now) v) }
 {
     match judged_phase(alloc, map, before, text)? {
         Judged::Right(_report, after) => Ok(Verdict::Right(after)),
@@ -159,7 +158,6 @@ pub fn phase_of(
         × IsPhaseOf map.now (rows.public before.now) text.now report new)) }
     ensures none { IfOk result (λ found. IfNone found ((new : records.Public)
         → before.now.papers < most_papers
-        → is_adjustment before.now.board.value.phase.season ≡ false
         → IsPhase map.now (rows.public before.now) text.now new → ⊥)) }
 {
     if MOST_PAPERS <= before.papers || !is_due(LAST_TICK, before) {

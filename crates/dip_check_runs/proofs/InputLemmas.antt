@@ -1,8 +1,8 @@
 -- What is read of an input, and what of it is used.
-use Rattle.std.proofs.Common.{◌≡◌, ◌≤◌, ◌<◌, ◌++◌, ℕ, zero, suc, Bool, true, false, List, [], ◌∷◌, Option, None, Some, length, take, drop, get_or, refl, ap, sym, ◌∙◌, ◌⊎◌, inl, inr, ◌+◌, ◌-◌, subst, arith}
+use Rattle.std.proofs.Common.{◌≡◌, ◌≤◌, ◌<◌, ◌++◌, ℕ, zero, suc, Bool, true, false, List, [], ◌∷◌, Option, None, Some, length, take, drop, get_or, ap, sym, ◌∙◌, ◌⊎◌, inl, inr, ◌+◌, ◌-◌, arith}
 use Rattle.std.proofs.lemmas.List.{append-nil, append_assoc}
 use Rattle.std.specs.Io.KnownBytes.{Consumes, Keeps}
-use Rattle.dip_check_runs.specs.Input.{AreEmptyLines, HasUsed, IsNearer, IsRead, closing}
+use Rattle.dip_check_runs.specs.Input.{AreEmptyLines, HasUsed, IsRead, closing}
 use Rattle.dip_check_runs.specs.declared.input.Ahead.{Ahead}
 
 -- each byte of empty lines is LF
@@ -41,11 +41,11 @@ read_more known now later used bytes old new goes still items more r = record {
   read = r.read ++ bytes;
   consumed = consumes_more known now later r.read bytes r.consumed more;
   parts =
-    let before : closing old.ended ≡ [] = ap closing goes in
-    let after : closing new.ended ≡ [] = ap closing still in
-    let so_far : r.read ≡ used ++ old.bytes.items = sym (append-nil r.read) ∙ ap (λ (l : List ℕ). r.read ++ l) (sym before) ∙ r.parts in
-    ap (λ (l : List ℕ). (r.read ++ bytes) ++ l) after ∙ append-nil (r.read ++ bytes) ∙ ap (λ (l : List ℕ). l ++ bytes) so_far
-    ∙ append_assoc used old.bytes.items bytes ∙ ap (λ (l : List ℕ). used ++ l) (sym items);
+      let before : closing old.ended ≡ [] = ap closing goes in
+      let after : closing new.ended ≡ [] = ap closing still in
+      let so_far : r.read ≡ used ++ old.bytes.items = sym (append-nil r.read) ∙ ap (λ (l : List ℕ). r.read ++ l) (sym before) ∙ r.parts in
+      ap (λ (l : List ℕ). (r.read ++ bytes) ++ l) after ∙ append-nil (r.read ++ bytes) ∙ ap (λ (l : List ℕ). l ++ bytes) so_far
+      ∙ append_assoc used old.bytes.items bytes ∙ ap (λ (l : List ℕ). used ++ l) (sym items);
   end = λ yes. cc;
 }
 

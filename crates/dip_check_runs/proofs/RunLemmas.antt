@@ -1,9 +1,11 @@
 -- How far a run over papers has come, and how it ends.
-use Rattle.std.proofs.Common.{◌≡◌, ◌≤◌, ◌<◌, ◌+◌, ◌-◌, ◌++◌, ◌⊎◌, IfSome, inl, inr, ℕ, zero, suc, Bool, true, false, List, [], ◌∷◌, Option, None, Some, is_some, length, map, take, refl, ap, sym, subst, ◌∙◌, arith}
+use Rattle.std.proofs.Common.{◌≡◌, ◌<◌, ◌==◌, ◌+◌, ◌-◌, ◌++◌, ◌⊎◌, IfErr, IfOk, IfSome, OnOk, Result, Ok, Err, String, Global, string_bytes, inl, inr, ℕ, Bool, true, false, List, [], ◌∷◌, Option, None, Some, is_some, length, map, take, refl, ap, sym, subst, ◌∙◌, arith}
+use Rattle.std.proofs.Math.Dec.{eqb-suc-zero}
+use Rattle.std.proofs.lemmas.Bool.{true≢false}
 use Rattle.std.proofs.lemmas.List.{append-nil, append_assoc}
 use Rattle.std.specs.List.{flat_map}
-use Rattle.std.specs.Io.KnownBytes.{Appends, Consumes, IsAtEnd}
-use Rattle.dip_map.specs.Boards.{IsOf, Position}
+use Rattle.std.specs.Io.KnownBytes.{Appends}
+use Rattle.dip_map.specs.Boards.{Position}
 use Rattle.dip_map.specs.Charts.{Chart}
 use Rattle.dip_desk_state.specs.Records.{Public}
 use Rattle.dip_desk_state.specs.declared.records.Public.{Public as Row}
@@ -25,9 +27,10 @@ use Rattle.dip_turn.specs.declared.report.Account.TheVariants.{Movement as OfMov
 use Rattle.dip_turn.specs.declared.report.Report.{Report}
 use Rattle.dip_judge_runs.specs.declared.run.RunFault.{RunFault}
 use Rattle.dip_judge_runs.specs.declared.run.RunFault.TheVariants.{Keep, Memory, Read, TooLong, Write}
-use Rattle.dip_check_runs.specs.Input.{AreEmptyLines, HasUsed, HasUsedAll, IsAfterLines, IsRead, IsTakenFront, closing}
-use Rattle.dip_check_runs.specs.Texts.{no_phase_text, right_text, said_text}
-use Rattle.dip_check_runs.specs.Runs.{AreFronts, ArePlayed, AreSpelled, ComesNext, EndsCheck, EndsEarly, HasBoard, IsAll, IsBegunAfter, IsChecked, IsExplanation, IsFoundText, IsReadingFault, IsRunFault, IsSaid, IsTellingFault, MayTell, count_played, end_text, is_right}
+use Rattle.dip_check_runs.specs.Input.{AreEmptyLines, HasUsed, IsAfterLines, IsRead, IsTakenFront, closing}
+use Rattle.dip_check_runs.specs.Texts.{missing_text, no_phase_text, right_text, said_text}
+use Rattle.dip_check_runs.specs.Runs.{AreFronts, ArePlayed, ComesNext, EndsBegun, EndsEarly, EndsExplaining, HasBoard, IsAll, IsBegunAfter, IsChecked, IsExplanation, IsFound, IsFoundNext, IsFoundText, IsReadingFault, IsRunFault, IsSaid, IsTellingFault, count_played, end_text, is_right}
+use Rattle.dip_check_runs.specs.declared.explaining.Found.{Found}
 use Rattle.dip_check_runs.specs.declared.input.Ahead.{Ahead}
 use Rattle.dip_check_runs.specs.declared.saying.Said.{Said}
 use Rattle.dip_check_runs.specs.declared.saying.Said.TheVariants.{Right, Wrong, NoText}
@@ -84,7 +87,7 @@ pub record Reached (m : Chart) (known left : Option (List ℕ)) (game : Option R
   pub fronts : AreFronts used papers
   pub played : ArePlayed m papers game
 
-pub reached_none : (m : Chart) (known : Option (List ℕ)) (ahead : Ahead) → IsRead known known [] ahead → Reached m known known None ahead
+abbrev pub reached_none : (m : Chart) (known : Option (List ℕ)) (ahead : Ahead) → IsRead known known [] ahead → Reached m known known None ahead
 reached_none m known ahead read = record { papers = []; used = []; read = read; fronts = refl; played = refl }
 
 -- the next paper was taken off, with the empty lines before it
@@ -100,7 +103,7 @@ taken known now later used front paper old new read more after = record {
   empty = after.1;
 }
 
-pub reached_more : (m : Chart) (known now later : Option (List ℕ)) (game : Option Row) (old ahead : Ahead) (lines paper : List ℕ) (new : Row)
+abbrev pub reached_more : (m : Chart) (known now later : Option (List ℕ)) (game : Option Row) (old ahead : Ahead) (lines paper : List ℕ) (new : Row)
     → (r : Reached m known now game old) → IsTaken known later r.used lines paper ahead → IsSaid m game paper (Right new)
     → Reached m known later (Some new) ahead
 reached_more m known now later game old ahead lines paper new r t said = record {
@@ -289,9 +292,12 @@ pub report_text : (m : Chart) (p : Row) (text bytes told : List ℕ) (found : Op
     → IfSome found (λ r. (new : Public) × IsPhaseOf m (rows.public p) text r new) → found ≡ Some report → text ≡ bytes → board ≡ p.board.value
     → told ≡ phase_explained m board report → IsExplanation m (Some p) bytes told
 report_text m p text bytes told found report board h is same here says =
-    let one = subst (λ (f : Option Report). IfSome f (λ r. (new : Public) × IsPhaseOf m (rows.public p) text r new)) is h in
-    (report, one.0, subst (λ (t : List ℕ). IsPhaseOf m (rows.public p) t report one.0) same one.1,
-        subst (λ (b : Position). told ≡ phase_explained m b report) here says)
+    let one = subst (λ (f : Option Report). IfSome f (λ r. (new : Public) × IsPhaseOf m (rows.public p) text r new)) is h in (
+      report,
+      one.0,
+      subst (λ (t : List ℕ). IsPhaseOf m (rows.public p) t report one.0) same one.1,
+      subst (λ (b : Position). told ≡ phase_explained m b report) here says,
+    )
 
 -- what is to be told of a paper that isn't explained
 pub unexplained_idle : (m : Chart) (game : Option Row) (paper : List ℕ) (said : Said) (new : Row) (text : List ℕ) → IsSaid m game paper said → said ≡ Right new
@@ -301,3 +307,94 @@ unexplained_idle m game paper said new text h is told = inl (new, subst (λ (x :
 pub unexplained_wrong : (m : Chart) (game : Option Row) (paper : List ℕ) (said : Said) (text : List ℕ) → IsSaid m game paper said → ((new : Row) → said ≡ Right new → ⊥)
     → text ≡ said_text paper said → IsFoundText m game paper text false
 unexplained_wrong m game paper said text h other told = inr (said, h, not_right said other, told)
+
+-- what is so of what was found is so of what came through
+pub through : {A E F : Type 0} (P : A → Type 0) (r : Result A E) (o : Result A F) → IfOk o (λ f. r ≡ Ok f) → IfOk r P → IfOk o P
+through P r (Ok f) same h = subst (λ x. IfOk x P) same h
+through P r (Err e) same h = tt
+
+pub on_ok : {A E : Type 0} (P Q : A → Type 0) (r : Result A E) → IfOk r P → ((a : A) → P a → Q a) → IfOk r Q
+on_ok P Q (Ok a) h more = more a h
+on_ok P Q (Err e) h more = tt
+
+-- no paper is left: bytes that begin with empty lines and nothing after them
+pub empty_front : (front slice paper : List ℕ) → slice ≡ front → (after : IsAfterLines slice paper) → true ≡ (length paper == 0) → AreEmptyLines front
+empty_front front slice [] same after none =
+    subst (λ (l : List ℕ). AreEmptyLines l) (sym (append-nil after.0) ∙ sym after.2 ∙ same) after.1
+empty_front front slice (x ∷ xs) same after none = absurd (true≢false (none ∙ eqb-suc-zero (length xs)))
+
+-- a check's end
+pub ends_all : (m : Chart) (known left before mid after : Option (List ℕ)) (papers : List (List ℕ)) (game : Option Row) (r : Result Bool RunFault) → ArePlayed m papers game
+    → IsAll known left papers → Appends before mid (flat_map right_text papers) → OnOk r (Appends mid after (end_text game)) → IfOk r (λ right. right ≡ is_some game)
+    → IfOk r (IsChecked m known left before after)
+ends_all m known left before mid after papers game (Ok right) played all so_far told is = checked_all m known left before mid after papers game right played all so_far told is
+ends_all m known left before mid after papers game (Err f) played all so_far told is = tt
+
+pub ends_begun : (m : Chart) (before mid after : Option (List ℕ)) (papers : List (List ℕ)) (game : Option Row) (r : Result Bool RunFault) → ArePlayed m papers game
+    → Appends before mid (flat_map right_text papers) → IfErr r (IsBegunAfter m game mid after) → IfErr r (EndsEarly m before after)
+ends_begun m before mid after papers game (Ok right) played so_far begun = tt
+ends_begun m before mid after papers game (Err f) played so_far begun = ends_telling m before mid after papers game f played so_far begun
+
+-- the explanation as it is handed over
+pub found_text : (m : Chart) (game : Option Row) (before : Row) (paper : List ℕ) (found : Option (String Global)) (text : String Global) (told : List ℕ)
+    → IfSome found (λ t. IsExplanation m (Some before) paper (string_bytes t)) → found ≡ Some text → game ≡ Some before → told ≡ string_bytes text
+    → IsExplanation m game paper told
+found_text m game before paper found text told h is same here =
+    let one = subst (λ f. IfSome f (λ t. IsExplanation m (Some before) paper (string_bytes t))) is h in
+    subst (λ (x : Option Row). IsExplanation m x paper told) (sym same) (subst (λ (t : List ℕ). IsExplanation m (Some before) paper t) (sym here) one)
+
+-- how an explanation ends
+pub is_missing : (m : Chart) (number : ℕ) (known left : Option (List ℕ)) (papers : List (List ℕ)) (game : Option Row) (f : Found) → ArePlayed m papers game
+    → IsAll known left papers → (f.explained ≡ false) × (f.text.items ≡ missing_text number (count_played game)) → IsFound m number known left f.text.items f.explained
+is_missing m number known left papers game f played all h = subst (λ (b : Bool). IsFound m number known left f.text.items b) (sym h.0) (record {
+  papers = papers;
+  game = game;
+  played = played;
+  ends = inl (record { all = all; told = h.1 });
+})
+
+pub is_wrong : (m : Chart) (number : ℕ) (known left : Option (List ℕ)) (papers : List (List ℕ)) (game : Option Row) (paper : List ℕ) (said : Said) (f : Found)
+    → ArePlayed m papers game → ComesNext known left papers paper → IsSaid m game paper said → is_right said ≡ false
+    → (f.explained ≡ false) × (f.text.items ≡ said_text paper said) → IsFound m number known left f.text.items f.explained
+is_wrong m number known left papers game paper said f played comes is wrong h = subst (λ (b : Bool). IsFound m number known left f.text.items b) (sym h.0) (record {
+  papers = papers;
+  game = game;
+  played = played;
+  ends = inr (inr (record { paper = paper; said = said; comes = comes; is = is; wrong = wrong; told = h.1 }));
+})
+
+found_ends : (m : Chart) (number : ℕ) (known left : Option (List ℕ)) (papers : List (List ℕ)) (game : Option Row) (paper text : List ℕ) (explained : Bool)
+    → ComesNext known left papers paper → count_played game + 1 ≡ number → IsFoundText m game paper text explained
+    → EndsExplaining m number known left papers game text explained
+found_ends m number known left papers game paper text true comes count h = record { paper = paper; comes = comes; count = count; is = h }
+found_ends m number known left papers game paper text false comes count (inl h) =
+    inr (inl (record { paper = paper; new = h.0; comes = comes; count = count; is = h.1; told = h.2 }))
+found_ends m number known left papers game paper text false comes count (inr h) =
+    inr (inr (record { paper = paper; said = h.0; comes = comes; is = h.1; wrong = h.2; told = h.3 }))
+
+pub is_found : (m : Chart) (number : ℕ) (known left : Option (List ℕ)) (papers : List (List ℕ)) (game : Option Row) (paper : List ℕ) (f : Found)
+    → ArePlayed m papers game → ComesNext known left papers paper → count_played game + 1 ≡ number → IsFoundNext m game paper f
+    → IsFound m number known left f.text.items f.explained
+is_found m number known left papers game paper f played comes count h = record {
+  papers = papers;
+  game = game;
+  played = played;
+  ends = found_ends m number known left papers game paper f.text.items f.explained comes count h;
+}
+
+-- an explanation that was told, or begun, or not come to
+pub begun_nothing : (m : Chart) (number : ℕ) (known left before after : Option (List ℕ)) (f : RunFault) → after ≡ before → IsReadingFault f
+    → EndsBegun m number known left before after f
+begun_nothing m number known left before after f same fault = record { kind = reading_is_run f fault; told = inl same }
+
+pub begun_some : (m : Chart) (number : ℕ) (known left before after : Option (List ℕ)) (f : RunFault) (text : List ℕ) (explained : Bool) → f ≡ Write
+    → IsFound m number known left text explained → (size : ℕ) × Appends before after (take size text) → EndsBegun m number known left before after f
+begun_some m number known left before after f text explained is found begun = record {
+  kind = subst (λ (x : RunFault). IsRunFault x) (sym is) tt;
+  told = inr (record { last = text; done = explained; found = found; size = begun.0; written = begun.1 });
+}
+
+-- want of memory is a fault of reading too
+pub memory_reads : {A : Type 0} (r : Result A RunFault) → IfErr r (λ f. f ≡ Memory) → IfErr r IsReadingFault
+memory_reads (Ok a) h = tt
+memory_reads (Err f) h = subst (λ (x : RunFault). IsReadingFault x) (sym h) tt

@@ -1,7 +1,6 @@
 -- What a run over papers tells.
 use Rattle.std.specs.Prelude.{ℕ, zero, suc, ◌==◌, ◌++◌, List, [], ◌∷◌, codes, string_bytes, if◌then◌else◌}
 use Rattle.std.specs.Fmt.{decimal}
-use Rattle.dip_check.specs.declared.verdict.Fault.{Fault}
 use Rattle.dip_check.specs.declared.verdict.Wanted.{Wanted}
 use Rattle.dip_check.specs.declared.verdict.Wanted.TheVariants.{Line, OrderOf, AnOrder, AText, AGameLine, NoLine}
 use Rattle.dip_check_runs.specs.declared.saying.Said.{Said}

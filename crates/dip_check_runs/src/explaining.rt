@@ -1,6 +1,6 @@
 //! A paper that is explained: those before it are played, and then its phase's steps are told.
 ghost use Rattle.std.specs.Prelude.{◌≡◌, Ok, Some, IfErr, IfOk, IfSome, false, string_bytes};
-ghost use Rattle.dip_check_runs.specs.Runs.{EndsBegun, HasBoard, IsExplained, IsExplanation, IsFound, IsFoundNext, IsReadingFault, count_played};
+ghost use Rattle.dip_check_runs.specs.Runs.{EndsBegun, HasBoard, IsExplained, IsExplanation, IsFound, IsFoundNext, IsReadingFault, IsSaid, count_played};
 ghost use Rattle.dip_check_runs.specs.Texts as t;
 ghost use Rattle.dip_map.specs.Boards.{IsOf};
 
@@ -125,6 +125,23 @@ fn or_memory(found: Result<Found, AllocError>) -> Result<Found, RunFault>
     }
 }
 
+/// What is said of the bytes that come after the papers that were played, or that memory ran out.
+fn say_or_fault(
+    alloc: Global,
+    map: &Map,
+    game: &Option<Public>,
+    paper: &[u8],
+) -> Result<Said, RunFault>
+    requires { HasBoard map.now game.now }
+    ensures said { IfOk result (IsSaid map.now game.now paper.now) }
+    ensures fault { IfErr result (λ f. f ≡ RunFault.Memory) }
+{
+    match say(alloc, map, game, paper) {
+        Ok(said) => Ok(said),
+        Err(_) => Err(RunFault::Memory),
+    }
+}
+
 /// Reads papers up to the one of the number, or the first that is wrong, and finds what is to be told.
 fn find<R: Read>(alloc: Global, reader: &mut R, map: &Map, number: u32) -> Result<Found, RunFault>
     ensures found { IfOk result (λ f. IsFound map.now number (R.remaining reader.old)
@@ -143,10 +160,9 @@ fn find<R: Read>(alloc: Global, reader: &mut R, map: &Map, number: u32) -> Resul
             skip_rest(reader, &ahead);
             return or_memory(found_next(alloc, map, &game, paper));
         }
-        match say(alloc, map, &game, paper) {
-            Err(_) => return Err(RunFault::Memory),
-            Ok(Said::Right(new)) => game = Some(new),
-            Ok(said) => {
+        match say_or_fault(alloc, map, &game, paper)? {
+            Said::Right(new) => game = Some(new),
+            said => {
                 skip_rest(reader, &ahead);
                 return or_memory(found_wrong(alloc, paper, &said));
             }

@@ -1,24 +1,62 @@
-use Rattle.std.proofs.Common.{List, ℕ, Option}
-use Rattle.dip_check_runs.proofs.RunLemmas.{appends_none, reached_none}
+use Rattle.std.proofs.Common.{rules, subst}
+use Rattle.dip_check_runs.specs.Texts.{said_text}
+use Rattle.dip_check_runs.specs.declared.saying.Said.{Said}
+use Rattle.std.specs.Io.KnownBytes.{Appends}
+use Rattle.dip_check_runs.specs.Runs.{EndsEarly, IsSaid}
+use Rattle.dip_check_runs.proofs.RunLemmas.{all_used, appends_none, checked_wrong, comes_next, empty_front, ends_all, ends_begun, ends_reading, ends_telling, not_right, reached_more, reached_none, taken, written_more}
 use Rattle.dip_check_runs.proofs.checking.check_papers.Goals as goal
 
 pub papers-init : goal.papers-init
 papers-init g c = (reached_none _ _ _ (c.nothing_ahead-ahead.ensures _), appends_none _)
 
 pub returns-in_err-front-clause-ends : goal.returns-in_err-front-clause-ends
-returns-in_err-front-clause-ends g c = let a = c.from_residual.ensures in let b = c.in_err-front.ensures.fault in let d = c.in_err-front.field-0 in ?
+returns-in_err-front-clause-ends g c =
+    let r = c.papers.invariant.0 in
+    let ends : EndsEarly c.args.map.now (g.W.Write.contents c.args.writer.now) (g.W.Write.contents c.papers.writer) c.in_err-front.field-0.0 =
+    ends_reading c.args.map.now _ _ r.papers c.papers.game _ r.played c.papers.invariant.1 c.in_err-front.ensures.fault in
+    search rules
 
 pub returns-then-is_empty-clause-checked : goal.returns-then-is_empty-clause-checked
-returns-then-is_empty-clause-checked g c = let a = c.if-is_empty.true in let b = c.if-is_empty.ensures in let d = c.after_empty_lines-paper.ensures in let e = c.as_slice.ensures in ?
+returns-then-is_empty-clause-checked g c =
+    let r = c.papers.invariant.0 in
+    let empty = empty_front _ _ _ c.as_slice.ensures.value c.after_empty_lines-paper.ensures c.if-is_empty.ensures in
+    let all = all_used _ _ r.used _ r.papers _ r.fronts empty (c.in_ok-front.ensures.read _ _ r.read) c.in_ok-front.ensures.front in
+    ends_all c.args.map.now _ _ _ _ _ r.papers c.papers.game c.tell_end.result r.played all c.papers.invariant.1 c.tell_end.ensures.told c.tell_end.ensures.right
 
 pub returns-then-is_empty-clause-ends : goal.returns-then-is_empty-clause-ends
-returns-then-is_empty-clause-ends g c = ?
+returns-then-is_empty-clause-ends g c =
+    let r = c.papers.invariant.0 in
+    ends_begun c.args.map.now _ _ _ r.papers c.papers.game c.tell_end.result r.played c.papers.invariant.1 c.tell_end.ensures.begun
 
 pub returns-in_err-new-clause-ends : goal.returns-in_err-new-clause-ends
-returns-in_err-new-clause-ends g c = let a = c.from_residual-in_err-new.ensures in let b = c.in_err-new.ensures.begun in ?
+returns-in_err-new-clause-ends g c =
+    let r = c.papers.invariant.0 in
+    let ends : EndsEarly c.args.map.now (g.W.Write.contents c.args.writer.now) (g.W.Write.contents c.judge_next.new.writer) c.in_err-new.field-0.0 =
+    ends_telling c.args.map.now _ _ _ r.papers c.papers.game _ r.played c.papers.invariant.1 c.in_err-new.ensures.begun in
+    search rules
 
 pub returns-in_default : goal.returns-in_default
-returns-in_default g c = let a = c.in_default.not-Right in let b = c.in_ok-new.ensures in let d = c.skip_rest.ensures in ?
+returns-in_default g c =
+    let r = c.papers.invariant.0 in
+    let t = taken (g.R.Read.remaining c.args.reader.now) (g.R.Read.remaining c.papers.reader) (g.R.Read.remaining c.next_front.new.reader) r.used c.as_slice.result.now
+    c.after_empty_lines-paper.result.now c.papers.ahead c.next_front.new.ahead r.read (λ read. rw (c.as_slice.ensures.value) (c.in_ok-front.ensures.read _ _ read))
+    c.after_empty_lines-paper.ensures in
+    let comes = comes_next _ _ r.used _ c.after_empty_lines-paper.result.now r.papers r.fronts t.empty (c.skip_rest.ensures _ _ t.read) in
+    record {
+      checked = checked_wrong c.args.map.now _ _ _ _ _ r.papers c.papers.game _ c.in_ok-new.field-0 r.played comes c.in_ok-new.ensures.said
+          (not_right _ c.in_default.not-Right) c.papers.invariant.1 c.in_ok-new.ensures.told;
+      ends = tt;
+    }
 
 pub papers-preserved : goal.papers-preserved
-papers-preserved g c = let a = c.in-Right.is in let b = c.in_ok-new.ensures.told in ?
+papers-preserved g c =
+    let r = c.papers.invariant.0 in
+    let t = taken (g.R.Read.remaining c.args.reader.now) (g.R.Read.remaining c.papers.reader) (g.R.Read.remaining c.next_front.new.reader) r.used c.as_slice.result.now
+    c.after_empty_lines-paper.result.now c.papers.ahead c.next_front.new.ahead r.read (λ read. rw (c.as_slice.ensures.value) (c.in_ok-front.ensures.read _ _ read))
+    c.after_empty_lines-paper.ensures in
+    let said = subst (λ (x : Said). IsSaid c.args.map.now c.papers.game c.after_empty_lines-paper.result.now x) c.in-Right.is c.in_ok-new.ensures.said in
+    let told = subst (λ (x : Said). Appends (g.W.Write.contents c.papers.writer) (g.W.Write.contents c.judge_next.new.writer) (said_text c.after_empty_lines-paper.result.now x))
+    c.in-Right.is c.in_ok-new.ensures.told in (
+      reached_more c.args.map.now _ _ _ c.papers.game c.papers.ahead _ _ _ c.in-Right.new r t said,
+      written_more _ _ _ r.papers c.after_empty_lines-paper.result.now c.papers.invariant.1 told,
+    )

@@ -1,4 +1,4 @@
-use Rattle.std.proofs.Common.{◌-◌, List, flat_map}
+use Rattle.std.proofs.Common.{◌-◌, flat_map}
 use Rattle.std.specs.Io.KnownBytes.{Appends}
 use Rattle.dip_check_runs.specs.Runs.{count_played}
 use Rattle.dip_check_runs.specs.Texts.{right_text}

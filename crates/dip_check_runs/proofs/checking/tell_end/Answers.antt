@@ -1,4 +1,3 @@
-use Rattle.std.proofs.Common.{inr, refl, sym, subst}
 use Rattle.dip_check_runs.proofs.RunLemmas.{begun_none}
 use Rattle.dip_check_runs.proofs.checking.tell_end.Goals as goal
 

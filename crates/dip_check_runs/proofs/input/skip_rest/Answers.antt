@@ -1,4 +1,4 @@
-use Rattle.dip_check_runs.proofs.InputLemmas.{consumes_none, used_closed, used_ended, used_more, used_open}
+use Rattle.dip_check_runs.proofs.InputLemmas.{consumes_none, used_closed, used_more, used_open}
 use Rattle.dip_check_runs.proofs.input.skip_rest.Goals as goal
 
 pub reading-init : goal.reading-init

@@ -1,4 +1,4 @@
-use Rattle.std.proofs.Common.{◌≡◌, ◌∷◌, [], List, ℕ, arith, sym, ◌∙◌, get_or, take, drop, ◌-◌}
+use Rattle.std.proofs.Common.{◌≡◌, ◌∷◌, [], arith, sym, ◌∙◌, get_or, take, drop, ◌-◌}
 use Rattle.std.specs.Cmp.Lexicographic.{same_text}
 use Rattle.dip_check_runs.proofs.InputLemmas.{empty_at, first_of}
 use Rattle.dip_check_runs.proofs.papers.paper_end.Goals as goal

@@ -8,6 +8,6 @@ returns-then-paper-at-eq10 c =
 
 pub returns : goal.returns
 returns c = elim c.bytes-test.branch [
-  then-bytes-test+else-at-lt80 w ↦ front_to_most 80 c.bytes.at c.args.paper.now c.bytes.invariant.few w.if-at-lt80.false c.bytes.invariant.line
+  | then-bytes-test+else-at-lt80 w ↦ front_to_most 80 c.bytes.at c.args.paper.now c.bytes.invariant.few w.if-at-lt80.false c.bytes.invariant.line
   | else-bytes-test w ↦ front_to_last 80 c.bytes.at c.args.paper.now c.bytes.invariant.few w.bytes-test.false c.bytes.invariant.line
 ]

@@ -23,6 +23,8 @@ pub mod WinterCentres
 pub mod WinterOrders
 pub mod WinterBack
 pub mod Judging
+pub mod DifferenceLemmas
 pub mod Judged
 pub mod KindsApart
 pub mod OneAnswer
+pub mod Chains

@@ -1,5 +1,5 @@
 -- What is said of a text that is to come next in a game.
-use Rattle.std.specs.Prelude.{◌≡◌, ◌≢◌, ℕ, List, false, true}
+use Rattle.std.specs.Prelude.{◌≡◌, ◌≢◌, ◌≤◌, ◌-◌, ◌⊎◌, ℕ, List, [], length, take, false, true}
 use Rattle.std.specs.List.{AllByRecursion}
 use Rattle.dip_letters.specs.Letters.{FitsNotice, FitsText}
 use Rattle.dip_letters.specs.Notes.{NoticeRequest}
@@ -18,7 +18,7 @@ use Rattle.dip_turn.specs.declared.report.Report.{Report}
 use Rattle.dip_turn_papers.specs.Papers.{paper_text}
 use Rattle.dip_desk_state.specs.Rows as rows
 use Rattle.dip_desk_state.specs.Writable.{IsVoteOf}
-use Rattle.dip_check.specs.Games.{AreNext, AreOfGame, IsNext, IsOpening, IsPhase, IsPhaseOf}
+use Rattle.dip_check.specs.Games.{IsNext, IsOpening, IsPhase, IsPhaseOf}
 use Rattle.dip_check.specs.declared.phases.Judged.{Judged}
 use Rattle.dip_check.specs.declared.phases.Judged.TheVariants.{Right as RightPhase, Wrong as WrongPhase}
 use Rattle.dip_check.specs.declared.verdict.Papers.{Papers}
@@ -83,14 +83,16 @@ pub record IsCommand (notice : NoticeRequest) : Type 0 where
   pub fits : FitsNotice notice
   pub kind : is_announcement notice ≡ false
 
--- texts are right only where they may come one after the other, and leave the game so; they are wrong only where they leave it no way
-abbrev pub AreJudgedFrom : Chart → Public → List (List ℕ) → Papers → Type 0
-AreJudgedFrom m p texts (RightPapers new) = AreNext m p texts (rows.public new)
-AreJudgedFrom m p texts (WrongPaper number fault) = (new : Public) → AreNext m p texts new → ⊥
-AreJudgedFrom m p texts NoPapers = (new : Public) → AreNext m p texts new → ⊥
+-- the paper of this number, counted from 1, is the first wrong one of these texts: it is the first of all, or those before it are right;
+-- and with it they no longer are
+pub record IsFirstWrong (Are : List (List ℕ) → Public → Type 0) (texts : List (List ℕ)) (number : ℕ) : Type 0 where
+  pub least : 1 ≤ number
+  pub there : number ≤ length texts
+  pub before : (number ≡ 1) ⊎ ((old : Public) × Are (take (number - 1) texts) old)
+  pub none : (new : Public) → Are (take number texts) new → ⊥
 
--- texts are right only where they are the papers of a game, which stands so after them; they are wrong only where they are no game's
-abbrev pub AreJudgedPapers : Chart → List (List ℕ) → Papers → Type 0
-AreJudgedPapers m texts (RightPapers new) = AreOfGame m texts (rows.public new)
-AreJudgedPapers m texts (WrongPaper number fault) = (new : Public) → AreOfGame m texts new → ⊥
-AreJudgedPapers m texts NoPapers = (new : Public) → AreOfGame m texts new → ⊥
+-- texts are right only where they are the papers meant, and leave the game so; else they are no such papers, and the first wrong one is told
+abbrev pub AreJudged : (List (List ℕ) → Public → Type 0) → List (List ℕ) → Papers → Type 0
+AreJudged Are texts (RightPapers new) = Are texts (rows.public new)
+AreJudged Are texts (WrongPaper number fault) = ((new : Public) → Are texts new → ⊥) × IsFirstWrong Are texts number
+AreJudged Are texts NoPapers = (texts ≡ []) × ((new : Public) → Are texts new → ⊥)

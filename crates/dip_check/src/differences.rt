@@ -1,8 +1,11 @@
 //! Where a text differs from the one that is wanted.
-ghost use Rattle.std.specs.Prelude.{IfOk};
+ghost use Rattle.std.specs.Prelude.{◌≡◌, ◌+◌, IfOk, map as each};
 ghost use Rattle.dip_check.specs.Checks.{IsCompared};
+ghost use Rattle.dip_check.specs.Differing.{alike};
+ghost use Rattle.dip_check.specs.Parts.{lines_in};
 ghost use Rattle.dip_desk_state.specs.Rows as rows;
 
+use crate::parts::lines_of;
 use crate::verdict::{Fault, Verdict, Wanted};
 use dip_desk_state::Public;
 use std::alloc::{AllocError, Global};
@@ -13,7 +16,9 @@ pub(crate) fn other_line(
     line: usize,
     is: &str,
     wanted: &str,
-) -> Result<Fault, AllocError> {
+) -> Result<Fault, AllocError>
+    ensures { IfOk result (λ f. f.line ≡ line) }
+{
     let wanted = Wanted::Line(String::from_str(alloc, wanted)?);
     fault_at(alloc, line, is, wanted)
 }
@@ -24,31 +29,40 @@ pub(crate) fn fault_at(
     line: usize,
     is: &str,
     wanted: Wanted,
-) -> Result<Fault, AllocError> {
+) -> Result<Fault, AllocError>
+    ensures { IfOk result (λ f. f.line ≡ line) }
+{
     let is = String::from_str(alloc, is)?;
     Ok(Fault { line, is, wanted })
 }
 
-/// The first line in which two texts differ.
-pub(crate) fn first_difference(
-    alloc: Global,
-    text: &str,
-    wanted: &str,
-) -> Result<Fault, AllocError> {
-    let mut line: usize = 1;
-    let mut others = wanted.split('\n');
-    for one in text.split('\n') {
-        match others.next() {
-            Some(other) => {
-                if one != other {
-                    return other_line(alloc, line, one, other);
-                }
-            }
-            None => return fault_at(alloc, line, one, Wanted::NoLine),
+/// How many lines two texts have alike at the front.
+fn lines_alike(lines: &[&str], others: &[&str]) -> usize
+    ensures { result ≡ alike (each (λ l. l.now) lines.now) (each (λ l. l.now) others.now) }
+{
+    for (number, line) in lines.iter().enumerate() {
+        if others.len() <= number {
+            return number;
         }
-        line = line.saturating_add(1);
+        if *line != others[number] {
+            return number;
+        }
     }
-    other_line(alloc, line, "", others.next().unwrap_or(""))
+    lines.len()
+}
+
+/// The first line in which two texts differ: the one after those that are alike.
+pub(crate) fn first_difference(alloc: Global, text: &str, wanted: &str) -> Result<Fault, AllocError>
+    ensures { IfOk result (λ f. f.line ≡ alike (lines_in text.now) (lines_in wanted.now) + 1) }
+{
+    let lines = lines_of(alloc, text)?;
+    let others = lines_of(alloc, wanted)?;
+    let number = lines_alike(lines.as_slice(), others.as_slice());
+    let is = lines.get(number).copied().unwrap_or("");
+    match others.get(number) {
+        Some(other) => other_line(alloc, number + 1, is, other),
+        None => fault_at(alloc, number + 1, is, Wanted::NoLine),
+    }
 }
 
 /// Right where the text is the wanted one, which leaves the game so.

@@ -1,0 +1,121 @@
+-- What the laws of explained movements speak of: the units that a text names, the decisions that lines tell, and what a line rests on.
+use Rattle.std.specs.Prelude.{◌≡◌, ℕ, ◌<◌, ◌≤◌, ◌⊎◌, ◌++◌, Bool, true, false, not, List, [], ◌∷◌, codes, None}
+use Rattle.std.specs.Fmt.{decimal}
+use Rattle.dip_map.specs.Charts.{Chart}
+use Rattle.dip_orders.specs.declared.placed.PlacedOrder.{PlacedOrder}
+use Rattle.dip_decide_rules.specs.declared.decisions.Decision.{Decision}
+use Rattle.dip_decide_rules.specs.declared.decisions.Decision.TheVariants.{Move, Support}
+use Rattle.dip_decide_rules.specs.declared.decisions.Step.{Step}
+use Rattle.dip_decide_rules.specs.declared.decisions.Step.TheVariants.{Forced, Circle, Knot}
+use Rattle.dip_decide_rules.specs.Deciding.{Assignment, IsCompletion, Known}
+use Rattle.dip_decide_rules.specs.Laws.{IsChain}
+use Rattle.dip_decide_rules.specs.Movement.{Situation, at_first, attack, has_path, is_at, is_decided, is_listed, opposition, prevent, rule}
+use Rattle.dip_decide_rules.specs.Results.{AreExplained}
+use Rattle.dip_decide_rules.specs.Steps.{moves_of, paths_of, steps_of}
+use Rattle.dip_explain.specs.Matters.{Matter, here, joined, others, unit_in}
+use Rattle.dip_explain.specs.Movement.{backer_text, coming_text, comparison_text, known_after, opposition_text, own_power_text, prevent_text, rivals, servers, sparing_text, unbeaten}
+
+-- these units, named: the first, and those that support it
+abbrev pub named_text : Matter → List ℕ → List ℕ
+named_text c [] = []
+named_text c (p ∷ hs) = codes " (" ++ unit_in c p ++ others (backer_text c) hs
+
+-- after the units that count the text ends, or tells of one that is left out
+abbrev pub IsEnd : List ℕ → Type 0
+IsEnd rest = (rest ≡ codes ")") ⊎ ((more : List ℕ) × (rest ≡ codes "; without " ++ more))
+
+-- the units that the text names, before any that are left out, are just these
+pub record NamesJust (c : Matter) (ps text : List ℕ) : Type 0 where
+  pub rest : List ℕ
+  pub names : text ≡ named_text c ps ++ rest
+  pub ends : IsEnd rest
+
+-- the decisions that the line of a step tells
+abbrev pub told : Step → List Decision
+told (Forced d) = d ∷ []
+told (Circle ps) = moves_of ps.items
+told (Knot ps) = paths_of ps.items
+
+-- the decisions that the lines of these steps tell, line by line
+abbrev pub told_in : List Step → List Decision
+told_in [] = []
+told_in (step ∷ steps) = told step ++ told_in steps
+
+-- what is known after the lines of these steps
+abbrev pub known_along : Known → List Step → Assignment → Known
+known_along k [] a = k
+known_along k (step ∷ steps) a = known_along (known_after k step a) steps a
+
+-- the step has a line of the explanation, and k is known from the lines above it
+pub record IsLine (s : Situation) (steps : List Step) (a : Assignment) (k : Known) (step : Step) : Type 0 where
+  pub above : List Step
+  pub below : List Step
+  pub placed : steps ≡ above ++ step ∷ below
+  pub known : k ≡ known_along (at_first s) above a
+
+-- what the line of a decision is about, where the decision came out so
+abbrev pub matter_at : Chart → List PlacedOrder → Situation → Known → Decision → Bool → Matter
+matter_at m orders s k d value = record { map = m; orders = orders; situation = s; known = k; of = d; high = not value }
+
+-- a line of an explained movement tells of this matter
+pub record IsTold (steps : List Step) (a : Assignment) (c : Matter) : Type 0 where
+  pub explained : AreExplained c.situation (steps_of steps) a
+  pub line : IsLine c.situation steps a c.known (Forced c.of)
+  pub high : c.high ≡ not (a c.of)
+
+-- nothing above the line tells the decision; its rule gives this value at the completion at which the line is told, and at any other
+pub record IsVerdict (c : Matter) (value : Bool) : Type 0 where
+  pub is_new : c.known c.of ≡ None
+  pub decided : is_decided c.situation c.of ≡ true
+  pub told_value : rule c.situation c.of (here c) ≡ value
+  pub always : (f : Assignment) → IsCompletion c.known f → rule c.situation c.of f ≡ value
+
+-- a move succeeds as its line shows: its attack exceeds what is in q, and each other move there, and the line names them all
+pub record Exceeds (c : Matter) (p q : ℕ) : Type 0 where
+  pub destination : opposition c.situation (here c) p q < attack c.situation (here c) p q
+  pub each_rival : (w : ℕ) → is_listed (rivals c.situation p q) w ≡ true → prevent c.situation (here c) w q < attack c.situation (here c) p q
+  pub shown : comparison_text c p q ≡ codes " against " ++ opposition_text c p q ++ others (prevent_text c q) (rivals c.situation p q)
+
+-- a move fails as its line shows: it has no attack; or no more than what is in q has; or no more than some other moves there
+pub data FallsShort (c : Matter) (p q : ℕ) : Type 0 where
+  powerless : attack c.situation (here c) p q ≡ 0 → comparison_text c p q ≡ [] → FallsShort c p q
+  held :
+      attack c.situation (here c) p q ≤ opposition c.situation (here c) p q
+      → comparison_text c p q ≡ codes " against " ++ opposition_text c p q → FallsShort c p q
+  prevented :
+      (w : ℕ) → is_listed (unbeaten c.situation (here c) p q) w ≡ true
+      → comparison_text c p q ≡ codes " against " ++ joined (prevent_text c q) (unbeaten c.situation (here c) p q) → FallsShort c p q
+
+-- the move of x spares the support of h as the line shows: it is of its own power; or it comes from where the support goes, and fails; or
+-- it has no route
+pub data Spares (c : Matter) (h x : ℕ) : Type 0 where
+  own : c.situation.same_power x h ≡ true → sparing_text c h x ≡ codes " is of its own power" → Spares c h x
+  beaten :
+      is_at (c.situation.aim h) x ≡ true → here c (Move x) ≡ false
+      → sparing_text c h x ≡ coming_text c.map x (codes "fails") → Spares c h x
+  stranded : has_path c.situation (here c) x ≡ false → sparing_text c h x ≡ codes " has no route" → Spares c h x
+
+-- some of the fleets that carry the move of p make a chain to q
+abbrev pub HasRoute : Situation → Assignment → ℕ → ℕ → Type 0
+HasRoute s a p q = (fleets : List ℕ) × IsChain (is_listed (servers s a p)) s.next q p fleets
+
+-- a strength is as the text says: just n, at least n, or at most n
+pub data IsSaid (text : List ℕ) (n strength : ℕ) : Type 0 where
+  just : text ≡ decimal n → strength ≡ n → IsSaid text n strength
+  at_least : text ≡ codes "at least " ++ decimal n → n ≤ strength → IsSaid text n strength
+  at_most : text ≡ codes "at most " ++ decimal n → strength ≤ n → IsSaid text n strength
+
+-- what is said of a supporter that counts: it gave its support, or it gives it if it isn't cut
+pub data IsCounted (c : Matter) (a : Assignment) (h : ℕ) : Type 0 where
+  given : backer_text c h ≡ unit_in c h → a (Support h) ≡ true → IsCounted c a h
+  uncertain : backer_text c h ≡ unit_in c h ++ codes " if uncut" → c.known (Support h) ≡ None → IsCounted c a h
+
+-- what is said of one that doesn't: its support was cut, or may be
+pub data IsLeftOut (c : Matter) (a : Assignment) (h : ℕ) (reason : List ℕ) : Type 0 where
+  cut : reason ≡ codes ", cut" → a (Support h) ≡ false → IsLeftOut c a h reason
+  uncertain : reason ≡ codes ", which may be cut" → c.known (Support h) ≡ None → IsLeftOut c a h reason
+
+-- against the unit in q: that, or it is of that unit's power
+abbrev pub IsLeftOutAgainst : Matter → Assignment → ℕ → ℕ → List ℕ → Type 0
+IsLeftOutAgainst c a q h reason =
+    IsLeftOut c a h reason ⊎ ((reason ≡ own_power_text c.map q) × (c.situation.same_power h q ≡ true))

@@ -13,7 +13,7 @@ use Rattle.dip_explain.specs.Matters.{Matter, here, there}
 use Rattle.dip_explain.specs.Movement.{attack_strength, opposition_strength, prevent_strength, rivals, strength_text}
 use Rattle.dip_explain_laws.specs.Words.{IsSaid}
 use Rattle.dip_explain_laws.specs.Words.IsSaid.{just, at_least, at_most}
-use Rattle.dip_explain_laws.proofs.VerdictLemmas.{rival_parts}
+use Rattle.dip_explain_laws.proofs.MoveLemmas.{rival_parts}
 
 -- where the decisions with which a move rises are at least so, and the others at most, its attack is at least so, and what is against it at most
 module _ (s : Situation) (i : IsSituation s) (p q : ℕ) (g : goes s p q ≡ true) (a b : Assignment) (h : Higher (λ e. true) (rises s (Move p)) a b) where

@@ -1,5 +1,5 @@
 -- What is said of supporters is so.
-use Rattle.std.proofs.Common.{◌≡◌, ◌∙◌, ℕ, List, filter, refl, sym, inl, inr}
+use Rattle.std.proofs.Common.{◌≡◌, ℕ, List, refl, inl, inr}
 use Rattle.std.proofs.lemmas.List.{append-nil}
 use Rattle.std.specs.Prelude.{Bool, true, false, not, ◌&&◌, Option, None, Some}
 use Rattle.std.proofs.lemmas.Bool.{and_parts, both_ways, cases_Bool, not-true}
@@ -10,7 +10,6 @@ use Rattle.dip_decide_rules.specs.declared.decisions.Step.TheVariants.{Forced}
 use Rattle.dip_decide_rules.specs.Corners.{at_corner, rises}
 use Rattle.dip_decide_rules.specs.Deciding.{Assignment, IsCompletion}
 use Rattle.dip_decide_rules.specs.Movement.{is_listed}
-use Rattle.dip_decide_rules.proofs.ChainLaws.{listed_kept}
 use Rattle.dip_explain.specs.Matters.{Matter, here, unit_in}
 use Rattle.dip_explain.specs.Movement.{backer_text, lack_against_text, lack_text}
 use Rattle.dip_explain.specs.Strengths.{backers, backers_against, backs, backs_against, is_left_out, is_left_out_against, left_out, left_out_against}
@@ -18,10 +17,7 @@ use Rattle.dip_explain_laws.specs.Words.{IsCounted, IsLeftOut, IsLeftOutAgainst,
 use Rattle.dip_explain_laws.specs.Words.IsCounted.{given, uncertain}
 use Rattle.dip_explain_laws.specs.Words.IsLeftOut.{cut, uncertain as unsure}
 use Rattle.dip_explain_laws.proofs.LineLemmas.{line_agrees}
-
--- whoever a filter keeps passes it
-kept : (t : ℕ → Bool) (xs : List ℕ) (x : ℕ) → is_listed (filter t xs) x ≡ true → t x ≡ true
-kept t xs x h = (and_parts (t x) (is_listed xs x) (sym (listed_kept t xs x) ∙ h)).0
+use Rattle.dip_explain_laws.proofs.ListLemmas.{kept}
 
 module _ (steps : List Step) (a : Assignment) (c : Matter) (t : IsTold steps a c) where
   agrees : IsCompletion c.known a

@@ -1,25 +1,14 @@
 -- Strengths as lengths, and whose supports count.
-use Rattle.std.proofs.Common.{◌≡◌, ◌∙◌, ℕ, ◌+◌, List, [], ◌∷◌, filter, length, refl, inl, inr, arith}
-use Rattle.std.specs.Prelude.{Bool, true, false, not, ◌&&◌, ◌||◌, cond, if◌then◌else◌}
-use Rattle.std.specs.List.{count_by}
-use Rattle.std.proofs.lemmas.Bool.{cases_Bool, both_ways, and_parts, not-true}
-use Rattle.std.proofs.lemmas.List.Sums.{sum_by-cons}
+use Rattle.std.proofs.Common.{◌≡◌, ◌∙◌, ℕ, ◌+◌, List, [], ◌∷◌, length, refl, inl, inr, arith}
+use Rattle.std.specs.Prelude.{Bool, true, false, not, ◌&&◌, ◌||◌, if◌then◌else◌}
+use Rattle.std.proofs.lemmas.Bool.{cases_Bool, both_ways, and_parts}
 use mathlib.Core.Logic.{◌⊎◌}
 use Rattle.dip_map.specs.Charts.{are_provs_single}
-use Rattle.dip_decide_rules.specs.declared.decisions.Decision.TheVariants.{Move, Support}
 use Rattle.dip_decide_rules.specs.Deciding.{Assignment}
 use Rattle.dip_decide_rules.specs.Movement.{Situation, IsSituation, attack, goes, hold, has_move, has_path, head_to_head, is_listed, opposition, prevent, support, support_against}
-use Rattle.dip_decide_rules.proofs.ChainLaws.{listed_kept}
+use Rattle.dip_decide_rules.specs.declared.decisions.Decision.TheVariants.{Move, Support}
 use Rattle.dip_explain.specs.Strengths.{attackers, backers, backers_against, backs, backs_against, holders, is_free, is_left_out, is_left_out_against, left_out, left_out_against, opponents, preventers}
-
--- a count is how many a filter keeps
-pub counted : (f : ℕ → Bool) (xs : List ℕ) → count_by f xs ≡ length (filter f xs)
-counted f [] = refl
-counted f (x ∷ xs) = sum_by-cons (λ y. cond (f y) 1 0) x xs ∙ go (f x) (counted f xs)
-  where
-    go : (b : Bool) → count_by f xs ≡ length (filter f xs) → cond b 1 0 + count_by f xs ≡ length (cond b (x ∷ filter f xs) (filter f xs))
-    go true e = omega arith
-    go false e = omega arith
+use Rattle.dip_explain_laws.proofs.ListLemmas.{counted, kept_single, passing}
 
 module _ (s : Situation) (a : Assignment) where
   backing : (p : ℕ) → support s a p ≡ length (backers s a p)
@@ -65,14 +54,6 @@ module _ (s : Situation) (a : Assignment) where
       go true e = refl
       go false e = omega arith
 
--- who passes a test that has one stand somewhere is listed where it passes
-pub passing : (t : ℕ → Bool) (places : List ℕ) (h : ℕ) → (t h ≡ true → is_listed places h ≡ true) → is_listed (filter t places) h ≡ t h
-passing t places h f = listed_kept t places h ∙ go (t h) f
-  where
-    go : (b : Bool) → (b ≡ true → is_listed places h ≡ true) → (b && is_listed places h) ≡ b
-    go true f = f refl
-    go false f = refl
-
 module _ (s : Situation) (i : IsSituation s) (a : Assignment) where
   pub backer : (p h : ℕ) → is_listed (backers s a p) h ≡ (s.supports h p && a (Support h))
   unfolding backs
@@ -112,21 +93,6 @@ module _ (s : Situation) (i : IsSituation s) (a : Assignment) where
       go false z = refl
 
 -- no unit is counted twice
-
-apart_from : (t : ℕ → Bool) (xs : List ℕ) (x : ℕ) → is_listed xs x ≡ false → is_listed (filter t xs) x ≡ false
-apart_from t xs x n = listed_kept t xs x ∙ rw n (go (t x))
-  where
-    go : (b : Bool) → (b && false) ≡ false
-    go true = refl
-    go false = refl
-
-kept_single : (t : ℕ → Bool) (xs : List ℕ) → are_provs_single xs ≡ true → are_provs_single (filter t xs) ≡ true
-kept_single t [] h = h
-kept_single t (x ∷ xs) h = let e = and_parts _ _ h in go (t x) (apart_from t xs x (not-true _ e.0)) (kept_single t xs e.1)
-  where
-    go : (b : Bool) → is_listed (filter t xs) x ≡ false → are_provs_single (filter t xs) ≡ true → are_provs_single (cond b (x ∷ filter t xs) (filter t xs)) ≡ true
-    go true n r = rw (n, r) refl
-    go false n r = r
 
 module _ (s : Situation) (i : IsSituation s) (a : Assignment) where
   -- whoever isn't a supporter of its own is counted once

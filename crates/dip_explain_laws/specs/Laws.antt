@@ -12,13 +12,13 @@ use Rattle.dip_decide_rules.specs.declared.decisions.Step.TheVariants.{Forced, C
 use Rattle.dip_decide_rules.specs.Deciding.{AreDistinct, Assignment, IsCompletion, Known, Stands, after, is_among}
 use Rattle.dip_decide_rules.specs.Laws.{AreOrders}
 use Rattle.dip_decide_rules.specs.Meaning.{meant_on, situation_on}
-use Rattle.dip_decide_rules.specs.Movement.{IsSituation, Situation, at_first, attack, cuts, goes, hold, is_entered, is_decided, is_listed, mentions, opposition, prevent, rule}
+use Rattle.dip_decide_rules.specs.Movement.{IsSituation, Situation, at_first, attack, cuts, goes, head_to_head, hold, is_entered, is_decided, is_listed, mentions, opposition, prevent, rule}
 use Rattle.dip_decide_rules.specs.Results.{AreExplained, values_in}
 use Rattle.dip_decide_rules.specs.Steps.{step_of, steps_of}
 use Rattle.dip_explain.specs.Matters.{Matter, here, joined, order_in, unit_in}
-use Rattle.dip_explain.specs.Movement.{attack_strength, attack_text, attackers_text, carriers, comparison_text, cut_text, cutters, decision_text, enterers, explanation, given_text, known_after, lack_against_text, lack_text, lines_from, movers, opponents_text, opposition_strength, prevent_strength, preventers_text, rivals, servers, step_line, stranded_text, unbeaten}
+use Rattle.dip_explain.specs.Movement.{attack_strength, attack_text, attackers_text, carriers, comparison_text, cut_text, cutters, decision_text, enterers, explanation, given_text, known_after, lack_against_text, lack_text, lines_from, movers, opponents_text, opposition_strength, opposition_text, prevent_strength, prevent_text, preventers_text, rivals, servers, step_line, stranded_text, unbeaten}
 use Rattle.dip_explain.specs.Strengths.{attackers, backers, backers_against, holders, left_out, left_out_against, opponents, preventers}
-use Rattle.dip_explain_laws.specs.Words.{Exceeds, HasRoute, IsCounted, IsLeftOut, IsLeftOutAgainst, IsLine, IsSaid, IsTold, IsVerdict, FallsShort, NamesJust, Spares, known_along, matter_at, told_in}
+use Rattle.dip_explain_laws.specs.Words.{AttackedByNone, Exceeds, HasRoute, IsCounted, IsLeftOut, IsLeftOutAgainst, IsLine, IsSaid, IsTold, IsVerdict, FallsShort, NamesJust, OpposedByNone, PreventedByNone, Spares, known_along, matter_at, told_in}
 
 -- the laws below that are of situations are of each board with an order for each unit
 abbrev pub BoardsHaveSituations : Type 0
@@ -58,6 +58,35 @@ abbrev pub OpponentsAreSingle : Type 0
 OpponentsAreSingle =
     (s : Situation) (a : Assignment) (p q : ℕ) → IsSituation s → s.supports q q ≡ false
     → are_provs_single (opponents s a p q) ≡ true
+
+-- an attack is told with its number, and then the units that make it
+abbrev pub AttacksAreShown : Type 0
+AttacksAreShown =
+    (c : Matter) (p q : ℕ) → attack_text c p q ≡ codes "attack " ++ attack_strength c p q ++ attackers_text c p q
+
+-- so is what the destination sets against a move: units head to head defend, and others are held
+abbrev pub OppositionIsShown : Type 0
+OppositionIsShown =
+    (c : Matter) (p q : ℕ)
+    → opposition_text c p q
+    ≡ (if head_to_head c.situation p q then codes "defend " else codes "hold ") ++ opposition_strength c p q ++ opponents_text c p q
+
+-- and what another move there sets against it
+abbrev pub RivalsAreShown : Type 0
+RivalsAreShown =
+    (c : Matter) (q w : ℕ) → prevent_text c q w ≡ codes "prevent " ++ prevent_strength c q w ++ preventers_text c q w
+
+-- where an attack is 0, the text tells why, and that is so
+abbrev pub NoAttackHasAReason : Type 0
+NoAttackHasAReason = (c : Matter) (p q : ℕ) → attack c.situation (here c) p q ≡ 0 → AttackedByNone c p q
+
+-- and so where nothing is set against a move
+abbrev pub NoOppositionHasAReason : Type 0
+NoOppositionHasAReason = (c : Matter) (p q : ℕ) → opposition c.situation (here c) p q ≡ 0 → OpposedByNone c p q
+
+-- and where a move prevents nobody
+abbrev pub NoPreventHasAReason : Type 0
+NoPreventHasAReason = (c : Matter) (q w : ℕ) → prevent c.situation (here c) w q ≡ 0 → PreventedByNone c q w
 
 -- where an attack isn't 0, the text names just the units that attack
 abbrev pub AttackersAreNamed : Type 0

@@ -9,11 +9,11 @@ use Rattle.dip_decide_rules.specs.declared.decisions.Step.{Step}
 use Rattle.dip_decide_rules.specs.declared.decisions.Step.TheVariants.{Forced, Circle, Knot}
 use Rattle.dip_decide_rules.specs.Deciding.{Assignment, IsCompletion, Known}
 use Rattle.dip_decide_rules.specs.Laws.{IsChain}
-use Rattle.dip_decide_rules.specs.Movement.{Situation, at_first, attack, has_path, is_at, is_decided, is_listed, opposition, prevent, rule}
+use Rattle.dip_decide_rules.specs.Movement.{Situation, at_first, attack, has_path, head_to_head, is_at, is_decided, is_listed, opposition, prevent, rule}
 use Rattle.dip_decide_rules.specs.Results.{AreExplained}
 use Rattle.dip_decide_rules.specs.Steps.{moves_of, paths_of, steps_of}
 use Rattle.dip_explain.specs.Matters.{Matter, here, joined, others, unit_in}
-use Rattle.dip_explain.specs.Movement.{backer_text, coming_text, comparison_text, known_after, opposition_text, own_power_text, prevent_text, rivals, servers, sparing_text, unbeaten}
+use Rattle.dip_explain.specs.Movement.{attackers_text, backer_text, coming_text, comparison_text, known_after, opponents_text, opposition_text, own_power_text, prevent_text, preventers_text, rivals, servers, sparing_text, unbeaten}
 
 -- these units, named: the first, and those that support it
 abbrev pub named_text : Matter → List ℕ → List ℕ
@@ -29,6 +29,33 @@ pub record NamesJust (c : Matter) (ps text : List ℕ) : Type 0 where
   pub rest : List ℕ
   pub names : text ≡ named_text c ps ++ rest
   pub ends : IsEnd rest
+
+-- why nobody attacks q with p, as the line tells: the move has no route, or goes to a unit of its own power that comes the other way, or
+-- that stays there
+pub data AttackedByNone (c : Matter) (p q : ℕ) : Type 0 where
+  stranded :
+      has_path c.situation (here c) p ≡ false → attackers_text c p q ≡ codes ", since it has no route" → AttackedByNone c p q
+  met :
+      c.situation.same_power p q ≡ true → head_to_head c.situation p q ≡ true
+      → attackers_text c p q ≡ codes ", since " ++ unit_in c q ++ codes ", of its own power, comes the other way" → AttackedByNone c p q
+  stopped :
+      c.situation.same_power p q ≡ true → here c (Move q) ≡ false
+      → attackers_text c p q ≡ codes ", since " ++ unit_in c q ++ codes ", of its own power, stays there" → AttackedByNone c p q
+
+-- why nobody sets itself against the move from p in q: nobody is there, or the unit there leaves
+pub data OpposedByNone (c : Matter) (p q : ℕ) : Type 0 where
+  empty : c.situation.is_occupied q ≡ false → opponents_text c p q ≡ [] → OpposedByNone c p q
+  left : here c (Move q) ≡ true → opponents_text c p q ≡ codes " (" ++ unit_in c q ++ codes " leaves)" → OpposedByNone c p q
+
+-- why nobody prevents other moves to q with w: its move has no route, or lost to the unit there, head to head
+pub data PreventedByNone (c : Matter) (q w : ℕ) : Type 0 where
+  stranded :
+      has_path c.situation (here c) w ≡ false → preventers_text c q w ≡ codes " (" ++ unit_in c w ++ codes " has no route)"
+      → PreventedByNone c q w
+  lost :
+      head_to_head c.situation w q ≡ true → here c (Move q) ≡ true
+      → preventers_text c q w ≡ codes " (" ++ unit_in c w ++ codes " lost to " ++ unit_in c q ++ codes " head to head)"
+      → PreventedByNone c q w
 
 -- the decisions that the line of a step tells
 abbrev pub told : Step → List Decision

@@ -1,5 +1,5 @@
 //! Laws of explained movements, each the contract of a function that does nothing.
-ghost use Rattle.dip_explain_laws.specs.Laws.{AttackCounts, AttackersAreNamed, AttackersAreSingle, AttacksAreAsSaid, BackersAgainstAreGiven, BackersAreGiven, BoardsHaveSituations, CarriersMatch, CirclesMove, CountedAgainstAreAsSaid, CountedAreAsSaid, CutSupportsAreCut, CuttersCut, EnterersEnter, ExplanationsAreLines, FailingMovesLack, GivenSupportsAreSpared, HoldCounts, JustDecisionsAreTold, KnotsBreak, LeftOutAgainstAreAsSaid, LeftOutAgainstArentGiven, LeftOutAreAsSaid, LeftOutArentGiven, LinesFollow, LinesGiveTheirSteps, LinesRestOnThoseAbove, LinesStandInOrder, LinesTellTheirMatters, MattersAreTold, MoveLinesAreSo, NoneIsToldTwice, OpponentsAreNamed, OpponentsAreSingle, OppositionCounts, OppositionIsAsSaid, PathLinesAreSo, PreventCounts, PreventersAreNamed, PreventersAreSingle, RivalsAreAsSaid, RoutesAreThere, ServersServe, StrandedHaveNoRoute, SucceedingMovesExceed, SupportLinesAreSo, SupportersAreParted, SupportersArePartedAgainst, ToldMovesGoSomewhere, UnbeatenPrevent, ValuesComplete, VerdictsAreAsTold};
+ghost use Rattle.dip_explain_laws.specs.Laws.{AttackCounts, AttackersAreNamed, AttackersAreSingle, AttacksAreAsSaid, AttacksAreShown, BackersAgainstAreGiven, BackersAreGiven, BoardsHaveSituations, CarriersMatch, CirclesMove, CountedAgainstAreAsSaid, CountedAreAsSaid, CutSupportsAreCut, CuttersCut, EnterersEnter, ExplanationsAreLines, FailingMovesLack, GivenSupportsAreSpared, HoldCounts, JustDecisionsAreTold, KnotsBreak, LeftOutAgainstAreAsSaid, LeftOutAgainstArentGiven, LeftOutAreAsSaid, LeftOutArentGiven, LinesFollow, LinesGiveTheirSteps, LinesRestOnThoseAbove, LinesStandInOrder, LinesTellTheirMatters, MattersAreTold, MoveLinesAreSo, NoAttackHasAReason, NoOppositionHasAReason, NoPreventHasAReason, NoneIsToldTwice, OpponentsAreNamed, OpponentsAreSingle, OppositionCounts, OppositionIsAsSaid, OppositionIsShown, PathLinesAreSo, PreventCounts, PreventersAreNamed, PreventersAreSingle, RivalsAreAsSaid, RivalsAreShown, RoutesAreThere, ServersServe, StrandedHaveNoRoute, SucceedingMovesExceed, SupportLinesAreSo, SupportersAreParted, SupportersArePartedAgainst, ToldMovesGoSomewhere, UnbeatenPrevent, ValuesComplete, VerdictsAreAsTold};
 
 use dip_decide::{boards_are_situations, orders_are_meant};
 
@@ -25,6 +25,17 @@ pub fn each_unit_is_counted_once()
     ensures attackers { AttackersAreSingle }
     ensures preventers { PreventersAreSingle }
     ensures opponents { OpponentsAreSingle }
+{}
+
+/// Each number of a line stands before the text of the units that make it up; where it is 0 the text tells why, and that is so. A law: it
+/// does nothing.
+pub fn numbers_stand_before_their_units()
+    ensures attack { AttacksAreShown }
+    ensures opposition { OppositionIsShown }
+    ensures prevent { RivalsAreShown }
+    ensures no_attack { NoAttackHasAReason }
+    ensures no_opposition { NoOppositionHasAReason }
+    ensures no_prevent { NoPreventHasAReason }
 {}
 
 /// And just these units are named: where a strength isn't 0, the text after it names them, each once and in order, before it tells

@@ -1,4 +1,5 @@
-use Rattle.dip_explain_laws.proofs.VerdictLemmas.{goes_somewhere, told_fails, told_succeeds, unbeaten_is}
+use Rattle.dip_explain_laws.proofs.MoveLemmas.{unbeaten_is}
+use Rattle.dip_explain_laws.proofs.VerdictLemmas.{goes_somewhere, told_fails, told_succeeds}
 use Rattle.dip_explain_laws.proofs.laws.numbers_decide_moves.Goals as goal
 
 pub returns-clause-goes : goal.returns-clause-goes

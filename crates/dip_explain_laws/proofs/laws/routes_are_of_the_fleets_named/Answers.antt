@@ -1,4 +1,5 @@
-use Rattle.dip_explain_laws.proofs.VerdictLemmas.{carrier_matches, enterer_enters, server_serves, told_carried, told_stranded}
+use Rattle.dip_explain_laws.proofs.RouteLemmas.{carrier_matches, enterer_enters, server_serves}
+use Rattle.dip_explain_laws.proofs.VerdictLemmas.{told_carried, told_stranded}
 use Rattle.dip_explain_laws.proofs.laws.routes_are_of_the_fleets_named.Goals as goal
 
 pub returns-clause-there : goal.returns-clause-there

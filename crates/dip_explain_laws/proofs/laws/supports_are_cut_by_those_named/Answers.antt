@@ -1,4 +1,5 @@
-use Rattle.dip_explain_laws.proofs.VerdictLemmas.{cutter_cuts, told_cut, told_given}
+use Rattle.dip_explain_laws.proofs.SupportLemmas.{cutter_cuts}
+use Rattle.dip_explain_laws.proofs.VerdictLemmas.{told_cut, told_given}
 use Rattle.dip_explain_laws.proofs.laws.supports_are_cut_by_those_named.Goals as goal
 
 pub returns-clause-cut : goal.returns-clause-cut

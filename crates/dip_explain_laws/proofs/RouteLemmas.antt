@@ -1,0 +1,40 @@
+-- The fleets that a line names, and the routes that they make.
+use Rattle.std.proofs.Common.{◌≡◌, ◌∙◌, ℕ, List, [], ◌∷◌, length, sym, suc}
+use Rattle.std.specs.Prelude.{true, not, ◌&&◌, Some}
+use Rattle.std.proofs.lemmas.Bool.{and_parts, and_from}
+use Rattle.dip_decide_rules.specs.Deciding.{Assignment}
+use Rattle.dip_decide_rules.specs.Laws.{AreJoined}
+use Rattle.dip_decide_rules.specs.Movement.{Situation, IsSituation, goes, is_listed, is_entered, path_rule, serves}
+use Rattle.dip_decide_rules.specs.declared.decisions.Decision.TheVariants.{Move}
+use Rattle.dip_decide_rules.proofs.ChainLaws.{listed_kept}
+use Rattle.dip_decide_rules.proofs.Chaining.{found_chain, chain_found}
+use Rattle.dip_explain.specs.Movement.{carriers, enterers, enters, servers}
+use Rattle.dip_explain_laws.specs.Words.{HasRoute}
+use Rattle.dip_explain_laws.proofs.ListLemmas.{passing}
+
+server_listed : (s : Situation) → IsSituation s → (a : Assignment) (p x : ℕ) → serves s a p x ≡ true → is_listed s.places x ≡ true
+server_listed s i a p x h = i.carrier_listed x p (and_parts _ _ h).0
+
+pub server_serves : (s : Situation) → IsSituation s → (a : Assignment) (p x : ℕ) → is_listed (servers s a p) x ≡ (s.convoys x p && not (is_entered s a x))
+server_serves s i a p x = passing (serves s a p) s.places x (server_listed s i a p x)
+
+pub carrier_matches : (s : Situation) → IsSituation s → (p x : ℕ) → is_listed (carriers s p) x ≡ s.convoys x p
+carrier_matches s i p x = passing (λ y. s.convoys y p) s.places x (i.carrier_listed x p)
+
+pub enterer_enters : (s : Situation) → IsSituation s → (a : Assignment) (x n : ℕ) → is_listed (enterers s a x) n ≡ (goes s n x && a (Move n))
+unfolding enters
+enterer_enters s i a x n = passing (enters s a x) s.places n (λ h. i.listed n x (and_parts _ _ h).0)
+
+named_joined : (s : Situation) → IsSituation s → (a : Assignment) (p q : ℕ) (xs : List ℕ) (y : ℕ) → AreJoined (serves s a p) s.next q y xs → AreJoined (is_listed (servers s a p)) s.next q y xs
+named_joined s i a p q [] y j = j
+named_joined s i a p q (x ∷ xs) y j = (listed_kept (serves s a p) s.places x ∙ and_from _ _ j.0 (server_listed s i a p x j.0), j.1, named_joined s i a p q xs x j.2)
+
+joined_named : (s : Situation) (a : Assignment) (p q : ℕ) (xs : List ℕ) (y : ℕ) → AreJoined (is_listed (servers s a p)) s.next q y xs → AreJoined (serves s a p) s.next q y xs
+joined_named s a p q [] y j = j
+joined_named s a p q (x ∷ xs) y j = ((and_parts (serves s a p x) (is_listed s.places x) (sym (listed_kept (serves s a p) s.places x) ∙ j.0)).0, j.1, joined_named s a p q xs x j.2)
+
+pub route_found : (s : Situation) → IsSituation s → (a : Assignment) (p q : ℕ) → path_rule s a p (Some q) ≡ true → HasRoute s a p q
+route_found s i a p q h = let f = found_chain (serves s a p) s.next s.places q (suc (length s.places)) p h in (f.0, (f.1.0, named_joined s i a p q f.0 p f.1.1))
+
+pub route_leads : (s : Situation) → IsSituation s → (a : Assignment) (p q : ℕ) → HasRoute s a p q → path_rule s a p (Some q) ≡ true
+route_leads s i a p q r = chain_found (serves s a p) s.next s.places q (λ x h. server_listed s i a p x h) p r.0 (r.1.0, joined_named s a p q r.0 p r.1.1)

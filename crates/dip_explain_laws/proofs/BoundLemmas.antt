@@ -1,6 +1,6 @@
 -- Strengths between the least completion and the greatest.
 use Rattle.std.proofs.Common.{◌≡◌, ℕ, ◌≤◌, subst, refl, inl, inr, arith}
-use Rattle.std.specs.Prelude.{◌==◌, Bool, true, false, not, Some, if◌then◌else◌}
+use Rattle.std.specs.Prelude.{◌==◌, Bool, true, false, not, if◌then◌else◌}
 use Rattle.std.proofs.lemmas.Bool.{cases_Bool, both_ways, and_parts, and_from, eqb-true, eq-eqb}
 use mathlib.Core.Logic.{◌⊎◌}
 use Rattle.dip_decide_rules.specs.declared.decisions.Decision.TheVariants.{Move, Path, Support}
@@ -11,7 +11,7 @@ use Rattle.dip_decide_rules.proofs.CornerLaws.{Higher, above_least, below_greate
 use Rattle.dip_decide_rules.proofs.Rises.{attack_le, count_le, hold_le, path_le, prevent_le}
 use Rattle.dip_explain.specs.Matters.{Matter, here, there}
 use Rattle.dip_explain.specs.Movement.{attack_strength, opposition_strength, prevent_strength, rivals, strength_text}
-use Rattle.dip_explain_laws.specs.Words.{IsSaid}
+use Rattle.dip_explain_laws.specs.Words.{IsOfMove, IsSaid}
 use Rattle.dip_explain_laws.specs.Words.IsSaid.{just, at_least, at_most}
 use Rattle.dip_explain_laws.proofs.MoveLemmas.{rival_parts}
 
@@ -104,27 +104,27 @@ module _ (s : Situation) (i : IsSituation s) (p q : ℕ) (g : goes s p q ≡ tru
   prevent_bounds w n b = falling b (λ x. prevent s (corner (rises s (Move p)) k x) w q) _ (prevent_down s i p q g f _ high w n) (prevent_down s i p q g _ f low w n)
 
 -- of the move that a line is about
-module _ (c : Matter) (p q : ℕ) (f : Assignment) (i : IsSituation c.situation) (m : c.of ≡ Move p) (e : c.situation.target p ≡ Some q) (k : IsCompletion c.known f) where
+module _ (c : Matter) (p q : ℕ) (f : Assignment) (i : IsSituation c.situation) (o : IsOfMove c p q) (k : IsCompletion c.known f) where
   there_it_goes : goes c.situation p q ≡ true
-  there_it_goes = rw e (eq-eqb q q refl)
+  there_it_goes = rw o.goes (eq-eqb q q refl)
 
   pub attack_told : IsSaid (attack_strength c p q) (attack c.situation (here c) p q) (attack c.situation f p q)
   unfolding attack_strength
   attack_told = said (not c.high) _ _ _ bounds
     where
       bounds : AreBounds (not c.high) (attack c.situation (here c) p q) (attack c.situation (there c) p q) (attack c.situation f p q)
-      bounds = rw m (attack_bounds c.situation i p q there_it_goes c.known f k c.high)
+      bounds = rw o.move (attack_bounds c.situation i p q there_it_goes c.known f k c.high)
 
   pub opposition_told : IsSaid (opposition_strength c p q) (opposition c.situation (here c) p q) (opposition c.situation f p q)
   unfolding opposition_strength
   opposition_told = said c.high _ _ _ bounds
     where
       bounds : AreBounds c.high (opposition c.situation (here c) p q) (opposition c.situation (there c) p q) (opposition c.situation f p q)
-      bounds = rw m (opposition_bounds c.situation i p q there_it_goes c.known f k c.high)
+      bounds = rw o.move (opposition_bounds c.situation i p q there_it_goes c.known f k c.high)
 
   pub prevent_told : (w : ℕ) → is_listed (rivals c.situation p q) w ≡ true → IsSaid (prevent_strength c q w) (prevent c.situation (here c) w q) (prevent c.situation f w q)
   unfolding prevent_strength
   prevent_told w r = said c.high _ _ _ bounds
     where
       bounds : AreBounds c.high (prevent c.situation (here c) w q) (prevent c.situation (there c) w q) (prevent c.situation f w q)
-      bounds = rw m (prevent_bounds c.situation i p q there_it_goes c.known f k w (rival_parts c.situation p q w r).0 c.high)
+      bounds = rw o.move (prevent_bounds c.situation i p q there_it_goes c.known f k w (rival_parts c.situation p q w r).0 c.high)

@@ -1,9 +1,8 @@
 -- Lists: those that pass a test, how many they are, and that each is listed once.
 use Rattle.std.proofs.Common.{◌≡◌, ◌∙◌, ℕ, ◌+◌, List, [], ◌∷◌, filter, length, refl, inl, inr, arith, sym, subst}
-use Rattle.std.specs.List.{count_by, list_all}
+use Rattle.std.specs.List.{count_by, list_all, list_any}
 use Rattle.std.specs.Prelude.{Bool, true, false, ◌&&◌, cond, ◌==◌}
-use Rattle.std.proofs.lemmas.Bool.{cases_Bool, both_ways, and_parts, not-true, or_cases, or_left, or_right, eqb-true}
-use Rattle.std.proofs.lemmas.Bool.Decides.{nat_tests}
+use Rattle.std.proofs.lemmas.Bool.{cases_Bool, both_ways, and_parts, not-true, or_cases, or_left, or_right, eqb-true, eq-eqb}
 use Rattle.std.proofs.lemmas.List.Sums.{sum_by-cons}
 use mathlib.Core.Logic.{◌⊎◌}
 use Rattle.dip_map.specs.Charts.{are_provs_single}
@@ -61,8 +60,14 @@ some_fails f [] h = absurd (both_ways true h refl)
 some_fails f (y ∷ xs) h = go (cases_Bool (f y)) (some_fails f xs)
   where
     go : (f y ≡ true) ⊎ (f y ≡ false) → (list_all f xs ≡ false → (x : ℕ) × (is_listed xs x ≡ true) × (f x ≡ false)) → (x : ℕ) × (is_listed (y ∷ xs) x ≡ true) × (f x ≡ false)
-    go (inr n) r = (y, or_left _ _ (self y), n)
-      where
-        self : (z : ℕ) → (z == z) ≡ true
-        self z = grind (arith, nat_tests)
+    go (inr n) r = (y, or_left _ _ (eq-eqb y y refl), n)
     go (inl n) r = let w = r (rw n at h) in (w.0, or_right (y == w.0) _ w.1, w.2)
+
+-- what holds of some holds of one that is listed
+pub some_passes : (f : ℕ → Bool) (xs : List ℕ) → list_any f xs ≡ true → (x : ℕ) × (is_listed xs x ≡ true) × (f x ≡ true)
+some_passes f [] h = absurd (both_ways false refl h)
+some_passes f (y ∷ xs) h = go (or_cases _ _ h) (some_passes f xs)
+  where
+    go : (f y ≡ true) ⊎ (list_any f xs ≡ true) → (list_any f xs ≡ true → (x : ℕ) × (is_listed xs x ≡ true) × (f x ≡ true)) → (x : ℕ) × (is_listed (y ∷ xs) x ≡ true) × (f x ≡ true)
+    go (inl e) r = (y, or_left _ _ (eq-eqb y y refl), e)
+    go (inr m) r = let w = r m in (w.0, or_right (y == w.0) _ w.1, w.2)

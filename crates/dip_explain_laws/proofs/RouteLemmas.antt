@@ -1,16 +1,19 @@
 -- The fleets that a line names, and the routes that they make.
-use Rattle.std.proofs.Common.{◌≡◌, ◌∙◌, ℕ, List, [], ◌∷◌, length, sym, suc}
-use Rattle.std.specs.Prelude.{true, not, ◌&&◌, Some}
-use Rattle.std.proofs.lemmas.Bool.{and_parts, and_from}
+use Rattle.std.proofs.Common.{◌≡◌, ◌∙◌, ℕ, List, [], ◌∷◌, inl, inr, length, refl, sym, suc}
+use Rattle.std.specs.Prelude.{true, false, not, ◌&&◌, Some}
+use Rattle.std.proofs.lemmas.Bool.{and_parts, and_from, cases_Bool}
+use mathlib.Core.Logic.{◌⊎◌}
 use Rattle.dip_decide_rules.specs.Deciding.{Assignment}
 use Rattle.dip_decide_rules.specs.Laws.{AreJoined}
 use Rattle.dip_decide_rules.specs.Movement.{Situation, IsSituation, goes, is_listed, is_entered, path_rule, serves}
 use Rattle.dip_decide_rules.specs.declared.decisions.Decision.TheVariants.{Move}
 use Rattle.dip_decide_rules.proofs.ChainLaws.{listed_kept}
 use Rattle.dip_decide_rules.proofs.Chaining.{found_chain, chain_found}
-use Rattle.dip_explain.specs.Movement.{carriers, enterers, enters, servers}
-use Rattle.dip_explain_laws.specs.Words.{HasRoute}
-use Rattle.dip_explain_laws.proofs.ListLemmas.{passing}
+use Rattle.dip_explain.specs.Matters.{Matter, here}
+use Rattle.dip_explain.specs.Movement.{carriers, dislodged_text, dislodged_words, enterer_text, fleet_text, enterers, enters, servers}
+use Rattle.dip_explain_laws.specs.Words.{HasRoute, IsFleetSaid}
+use Rattle.dip_explain_laws.specs.Words.IsFleetSaid.{dislodged, idle}
+use Rattle.dip_explain_laws.proofs.ListLemmas.{some_passes, passing}
 
 server_listed : (s : Situation) → IsSituation s → (a : Assignment) (p x : ℕ) → serves s a p x ≡ true → is_listed s.places x ≡ true
 server_listed s i a p x h = i.carrier_listed x p (and_parts _ _ h).0
@@ -38,3 +41,15 @@ route_found s i a p q h = let f = found_chain (serves s a p) s.next s.places q (
 
 pub route_leads : (s : Situation) → IsSituation s → (a : Assignment) (p q : ℕ) → HasRoute s a p q → path_rule s a p (Some q) ≡ true
 route_leads s i a p q r = chain_found (serves s a p) s.next s.places q (λ x h. server_listed s i a p x h) p r.0 (r.1.0, joined_named s a p q r.0 p r.1.1)
+
+-- what is said of a fleet
+
+pub fleet_said : (c : Matter) (x : ℕ) → IsFleetSaid c x
+unfolding fleet_text dislodged_text dislodged_words enterer_text enters
+fleet_said c x = go (cases_Bool (is_entered c.situation (here c) x))
+  where
+    go : (is_entered c.situation (here c) x ≡ true) ⊎ (is_entered c.situation (here c) x ≡ false) → IsFleetSaid c x
+    go (inr n) = idle n (rw n refl)
+    go (inl y) =
+        let w = some_passes (enters c.situation (here c) x) c.situation.places y in
+        dislodged w.0 (listed_kept (enters c.situation (here c) x) c.situation.places w.0 ∙ and_from _ _ w.2 w.1) (rw y refl)

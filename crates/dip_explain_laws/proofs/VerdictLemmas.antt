@@ -16,9 +16,9 @@ use Rattle.dip_decide_rules.proofs.Giving.{among_paths}
 use Rattle.dip_decide_rules.proofs.OneAnswer.{same_self}
 use Rattle.dip_decide_rules.proofs.Progress.{some_is}
 use Rattle.dip_decide_rules.proofs.RingLaws.{among_moves}
-use Rattle.dip_explain.specs.Matters.{Matter, here, joined, order_in, unit_in}
-use Rattle.dip_explain.specs.Movement.{attack_text, comparison_text, cut_text, cutters, decision_text, given_text, move_text, movers, no_route_text, no_route_words, path_text, route_text, route_words, servers, stranded_text, support_text}
-use Rattle.dip_explain_laws.specs.Words.{Exceeds, FallsShort, HasRoute, IsLine, IsTold, IsVerdict, Spares}
+use Rattle.dip_explain.specs.Matters.{Matter, code, here, joined, joined_or, order_in, unit_in}
+use Rattle.dip_explain.specs.Movement.{attack_text, comparison_text, cut_text, cutting_text, carrier_text, spared_text, sparing_text, fleet_text, carriers, cutters, decision_text, given_text, move_text, movers, no_route_text, no_route_words, path_text, route_text, route_words, servers, stranded_text, support_text}
+use Rattle.dip_explain_laws.specs.Words.{Exceeds, FallsShort, HasRoute, IsLine, IsOfMove, IsOfPath, IsTold, IsVerdict, Spares, named, ordered}
 use Rattle.dip_explain_laws.proofs.LineLemmas.{line_completes, line_decided, line_stands}
 use Rattle.dip_explain_laws.proofs.MoveLemmas.{exceeds, falls_short}
 use Rattle.dip_explain_laws.proofs.RouteLemmas.{route_found, route_leads}
@@ -43,71 +43,68 @@ module _ (steps : List Step) (a : Assignment) (c : Matter) (t : IsTold steps a c
     always = stands.value;
   }
 
-  -- a line told at the least completion tells of one that came out true, and one told at the greatest of one that came out false
-  by_rule : (d : Decision) → c.of ≡ d → rule c.situation d (here c) ≡ not c.high
-  by_rule d e = subst (λ (x : Decision). rule c.situation x (here c) ≡ not c.high) e (verdict.told_value ∙ rw t.high (twice (a c.of)))
-    where
-      twice : (b : Bool) → b ≡ not (not b)
-      twice true = refl
-      twice false = refl
+  by_rule : (d : Decision) → c.of ≡ d → rule c.situation d (here c) ≡ a d
+  by_rule d e = subst (λ (x : Decision). rule c.situation x (here c) ≡ a x) e verdict.told_value
 
+  -- one that came out false is told at the greatest completion, and one that came out true at the least
   came_out : (d : Decision) → c.of ≡ d → c.high ≡ not (a d)
   came_out d e = t.high ∙ ap (λ (x : Decision). not (a x)) e
 
   is_decided_of : (d : Decision) → c.of ≡ d → is_decided c.situation d ≡ true
   is_decided_of d e = subst (λ (x : Decision). is_decided c.situation x ≡ true) e verdict.decided
 
-  module _ (p : ℕ) (m : c.of ≡ Move p) where
-    pub goes_somewhere : (q : ℕ) × (c.situation.target p ≡ Some q)
-    goes_somewhere = some_is (c.situation.target p) (is_decided_of (Move p) m)
+  pub goes_somewhere : (p : ℕ) → c.of ≡ Move p → (q : ℕ) × IsOfMove c p q
+  goes_somewhere p m = let w = some_is (c.situation.target p) (is_decided_of (Move p) m) in (w.0, record { move = m; goes = w.1 })
 
-    pub shows_move : (q : ℕ) → c.situation.target p ≡ Some q
-        → decision_text c (Move p) ≡ order_in c.map c.orders p ++ (if a (Move p) then codes " succeeds: " else codes " fails: ") ++ attack_text c p q ++ comparison_text c p q
+  module _ (p q : ℕ) (o : IsOfMove c p q) where
+    pub shows_move : decision_text c (Move p) ≡ order_in c.map c.orders p ++ (if a (Move p) then codes " succeeds: " else codes " fails: ") ++ attack_text c p q ++ comparison_text c p q
     unfolding decision_text move_text
-    shows_move q e =
-        ap (move_text c p) e
-        ∙ ap (λ (x : List ℕ). order_in c.map c.orders p ++ x ++ attack_text c p q ++ comparison_text c p q) (other_way c.high (a (Move p)) (codes " fails: ") (codes " succeeds: ") (came_out (Move p) m))
+    shows_move =
+        ap (move_text c p) o.goes
+        ∙ ap (λ (x : List ℕ). order_in c.map c.orders p ++ x ++ attack_text c p q ++ comparison_text c p q) (other_way c.high (a (Move p)) (codes " fails: ") (codes " succeeds: ") (came_out (Move p) o.move))
 
-    comes : (q : ℕ) → c.situation.target p ≡ Some q → succeeds c.situation (here c) p q ≡ not c.high
-    comes q e = ap (move_rule c.situation (here c) p) (sym e) ∙ by_rule (Move p) m
+    comes : succeeds c.situation (here c) p q ≡ a (Move p)
+    comes = ap (move_rule c.situation (here c) p) (sym o.goes) ∙ by_rule (Move p) o.move
 
-    pub told_succeeds : (q : ℕ) → c.situation.target p ≡ Some q → c.high ≡ false → Exceeds c p q
-    told_succeeds q e l = exceeds c p q l (comes q e ∙ ap not l)
+    pub told_succeeds : a (Move p) ≡ true → Exceeds c p q
+    told_succeeds y = exceeds c p q (came_out (Move p) o.move ∙ ap not y) (comes ∙ y)
 
-    pub told_fails : (q : ℕ) → c.situation.target p ≡ Some q → c.high ≡ true → FallsShort c p q
-    told_fails q e l = falls_short c p q l (comes q e ∙ ap not l)
+    pub told_fails : a (Move p) ≡ false → FallsShort c p q
+    told_fails n = falls_short c p q (came_out (Move p) o.move ∙ ap not n) (comes ∙ n)
 
   module _ (h : ℕ) (m : c.of ≡ Support h) where
     pub shows_support : decision_text c (Support h)
-        ≡ order_in c.map c.orders h ++ (if a (Support h) then codes " is given: " ++ given_text c h else codes " is cut: " ++ joined (cut_text c h) (cutters c.situation (here c) h))
-    unfolding decision_text support_text
+        ≡ order_in c.map c.orders h
+        ++ (if a (Support h) then codes " is given: " ++ joined_or (codes "no move goes to " ++ code c.map h) (ordered c (sparing_text c h)) (movers c.situation h)
+        else codes " is cut: " ++ joined (ordered c (cutting_text c h)) (cutters c.situation (here c) h))
+    unfolding decision_text support_text given_text spared_text cut_text
     shows_support = ap (λ (x : List ℕ). order_in c.map c.orders h ++ x) (other_way c.high (a (Support h)) _ _ (came_out (Support h) m))
 
-    uncut : list_all (λ x. not (cuts c.situation (here c) h x)) c.situation.places ≡ not c.high
+    uncut : list_all (λ x. not (cuts c.situation (here c) h x)) c.situation.places ≡ a (Support h)
     uncut = rw (is_decided_of (Support h) m) at (by_rule (Support h) m)
 
-    pub told_cut : c.high ≡ true → (x : ℕ) × (is_listed (cutters c.situation (here c) h) x ≡ true)
-    told_cut l = cut_by c.situation (here c) h (uncut ∙ ap not l)
+    pub told_cut : a (Support h) ≡ false → (x : ℕ) × (is_listed (cutters c.situation (here c) h) x ≡ true)
+    told_cut n = cut_by c.situation (here c) h (uncut ∙ n)
 
-    pub told_given : c.high ≡ false → (x : ℕ) → is_listed (movers c.situation h) x ≡ true → Spares c h x
-    told_given l x n = spared c h x (uncut ∙ ap not l) n
+    pub told_given : a (Support h) ≡ true → (x : ℕ) → is_listed (movers c.situation h) x ≡ true → Spares c h x
+    told_given y x l = spared c h x (uncut ∙ y) l
 
-  module _ (i : IsSituation c.situation) (p q : ℕ) (m : c.of ≡ Path p) (e : c.situation.target p ≡ Some q) where
-    carried : path_rule c.situation (here c) p (Some q) ≡ not c.high
-    carried = ap (path_rule c.situation (here c) p) (sym e) ∙ rw (is_decided_of (Path p) m) at (by_rule (Path p) m)
+  pub shows_path : (p : ℕ) → c.of ≡ Path p → decision_text c (Path p)
+      ≡ order_in c.map c.orders p
+      ++ (if a (Path p) then codes " has a route: carried by " ++ joined (unit_in c) (servers c.situation (here c) p)
+      else codes " has no route: " ++ joined_or (codes "no fleet carries it") (named c (fleet_text c)) (carriers c.situation p))
+  unfolding decision_text path_text route_text route_words no_route_text no_route_words stranded_text carrier_text
+  shows_path p m = ap (λ (x : List ℕ). order_in c.map c.orders p ++ x) (other_way c.high (a (Path p)) _ _ (came_out (Path p) m))
 
-    pub told_carried : c.high ≡ false → HasRoute c.situation (here c) p q
-    told_carried l = route_found c.situation i (here c) p q (carried ∙ ap not l)
+  module _ (i : IsSituation c.situation) (p q : ℕ) (o : IsOfPath c p q) where
+    carried : path_rule c.situation (here c) p (Some q) ≡ a (Path p)
+    carried = ap (path_rule c.situation (here c) p) (sym o.goes) ∙ rw (is_decided_of (Path p) o.path) at (by_rule (Path p) o.path)
 
-    pub told_stranded : c.high ≡ true → HasRoute c.situation (here c) p q → ⊥
-    told_stranded l r = both_ways _ (carried ∙ ap not l) (route_leads c.situation i (here c) p q r)
+    pub told_carried : a (Path p) ≡ true → HasRoute c.situation (here c) p q
+    told_carried y = route_found c.situation i (here c) p q (carried ∙ y)
 
--- the line of a route
-
-pub shows_path : (steps : List Step) (a : Assignment) (c : Matter) (t : IsTold steps a c) (p : ℕ) → c.of ≡ Path p → decision_text c (Path p)
-    ≡ order_in c.map c.orders p ++ (if a (Path p) then codes " has a route: carried by " ++ joined (unit_in c) (servers c.situation (here c) p) else codes " has no route: " ++ stranded_text c p)
-unfolding decision_text path_text route_text route_words no_route_text no_route_words
-shows_path steps a c t p m = ap (λ (x : List ℕ). order_in c.map c.orders p ++ x) (other_way c.high (a (Path p)) _ _ (came_out steps a c t (Path p) m))
+    pub told_stranded : a (Path p) ≡ false → HasRoute c.situation (here c) p q → ⊥
+    told_stranded n r = both_ways _ (carried ∙ n) (route_leads c.situation i (here c) p q r)
 
 -- the moves of a circle succeed, and those of a knot have no path
 

@@ -12,13 +12,13 @@ use Rattle.dip_decide_rules.specs.declared.decisions.Step.TheVariants.{Forced, C
 use Rattle.dip_decide_rules.specs.Deciding.{AreDistinct, Assignment, IsCompletion, Known, Stands, after, is_among}
 use Rattle.dip_decide_rules.specs.Laws.{AreOrders}
 use Rattle.dip_decide_rules.specs.Meaning.{meant_on, situation_on}
-use Rattle.dip_decide_rules.specs.Movement.{IsSituation, Situation, at_first, attack, cuts, goes, head_to_head, hold, is_entered, is_decided, is_listed, mentions, opposition, prevent, rule}
+use Rattle.dip_decide_rules.specs.Movement.{IsSituation, Situation, at_first, attack, goes, head_to_head, hold, is_entered, is_decided, is_listed, mentions, opposition, prevent, rule}
 use Rattle.dip_decide_rules.specs.Results.{AreExplained, values_in}
 use Rattle.dip_decide_rules.specs.Steps.{step_of, steps_of}
-use Rattle.dip_explain.specs.Matters.{Matter, here, joined, order_in, unit_in}
-use Rattle.dip_explain.specs.Movement.{attack_strength, attack_text, attackers_text, carriers, comparison_text, cut_text, cutters, decision_text, enterers, explanation, given_text, known_after, lack_against_text, lack_text, lines_from, movers, opponents_text, opposition_strength, opposition_text, prevent_strength, prevent_text, preventers_text, rivals, servers, step_line, stranded_text, unbeaten}
+use Rattle.dip_explain.specs.Matters.{Matter, code, here, joined, joined_or, order_in, unit_in}
+use Rattle.dip_explain.specs.Movement.{attack_strength, attack_text, attackers_text, carriers, comparison_text, cutters, cutting_text, decision_text, enterers, explanation, fleet_text, known_after, knot_text, lack_against_text, lack_text, lines_from, movers, opponents_text, opposition_strength, opposition_text, prevent_strength, prevent_text, preventers_text, rivals, servers, sparing_text, step_line, unbeaten}
 use Rattle.dip_explain.specs.Strengths.{attackers, backers, backers_against, holders, left_out, left_out_against, opponents, preventers}
-use Rattle.dip_explain_laws.specs.Words.{AttackedByNone, Exceeds, HasRoute, IsCounted, IsLeftOut, IsLeftOutAgainst, IsLine, IsSaid, IsTold, IsVerdict, FallsShort, NamesJust, OpposedByNone, PreventedByNone, Spares, known_along, matter_at, told_in}
+use Rattle.dip_explain_laws.specs.Words.{AttackedByNone, Cuts, Exceeds, FallsShort, HasRoute, IsCounted, IsFleetSaid, IsLeftOut, IsLeftOutAgainst, IsLine, IsOfMove, IsOfPath, IsSaid, IsTold, IsVerdict, NamesJust, OpposedByNone, PreventedByNone, Spares, known_along, matter_at, named, ordered, told_in}
 
 -- the laws below that are of situations are of each board with an order for each unit
 abbrev pub BoardsHaveSituations : Type 0
@@ -224,45 +224,60 @@ KnotsBreak =
 -- the line of a move says that it succeeds just where it did, and shows its attack and what that is compared with
 abbrev pub MoveLinesAreSo : Type 0
 MoveLinesAreSo =
-    (steps : List Step) (a : Assignment) (c : Matter) (p q : ℕ) → IsTold steps a c → c.of ≡ Move p → c.situation.target p ≡ Some q
+    (steps : List Step) (a : Assignment) (c : Matter) (p q : ℕ) → IsTold steps a c → IsOfMove c p q
     → decision_text c (Move p)
-    ≡ order_in c.map c.orders p ++ (if a (Move p) then codes " succeeds: " else codes " fails: ") ++ attack_text c p q ++ comparison_text c p q
+    ≡ order_in c.map c.orders p ++ (if a (Move p) then codes " succeeds: " else codes " fails: ") ++ attack_text c p q
+    ++ comparison_text c p q
 
--- the line of a support says that it is given just where it was, or names who cuts it
+-- the line of a support says that it is given just where it was, with what each move to the supporter comes to, or names who cuts it
 abbrev pub SupportLinesAreSo : Type 0
 SupportLinesAreSo =
     (steps : List Step) (a : Assignment) (c : Matter) (h : ℕ) → IsTold steps a c → c.of ≡ Support h
     → decision_text c (Support h)
     ≡ order_in c.map c.orders h
-    ++ (if a (Support h) then codes " is given: " ++ given_text c h
-    else codes " is cut: " ++ joined (cut_text c h) (cutters c.situation (here c) h))
+    ++ (if a (Support h)
+    then codes " is given: " ++ joined_or (codes "no move goes to " ++ code c.map h) (ordered c (sparing_text c h)) (movers c.situation h)
+    else codes " is cut: " ++ joined (ordered c (cutting_text c h)) (cutters c.situation (here c) h))
 
--- the line of a path says that there is a route just where there was one, and names the fleets that carry
+-- the line of a path says that there is a route just where there was one, and names the fleets that carry or were to
 abbrev pub PathLinesAreSo : Type 0
 PathLinesAreSo =
     (steps : List Step) (a : Assignment) (c : Matter) (p : ℕ) → IsTold steps a c → c.of ≡ Path p
     → decision_text c (Path p)
     ≡ order_in c.map c.orders p
     ++ (if a (Path p) then codes " has a route: carried by " ++ joined (unit_in c) (servers c.situation (here c) p)
-    else codes " has no route: " ++ stranded_text c p)
+    else codes " has no route: " ++ joined_or (codes "no fleet carries it") (named c (fleet_text c)) (carriers c.situation p))
+
+-- the line of a circle names its moves
+abbrev pub CirclesAreNamed : Type 0
+CirclesAreNamed =
+    (m : Chart) (orders : List PlacedOrder) (s : Situation) (a : Assignment) (k : Known) (ps : Vec ℕ Global)
+    → step_line m orders s a k (Circle ps) ≡ codes "circle: " ++ joined (order_in m orders) ps.items ++ codes " move together\n"
+
+-- the line of a knot names its moves
+abbrev pub KnotsAreNamed : Type 0
+KnotsAreNamed =
+    (m : Chart) (orders : List PlacedOrder) (s : Situation) (a : Assignment) (k : Known) (ps : Vec ℕ Global)
+    → step_line m orders s a k (Knot ps)
+    ≡ codes "knot: " ++ joined (order_in m orders) ps.items ++ knot_text (length ps.items) ++ codes "\n"
 
 -- whose move is told of has a move
 abbrev pub ToldMovesGoSomewhere : Type 0
 ToldMovesGoSomewhere =
     (steps : List Step) (a : Assignment) (c : Matter) (p : ℕ) → IsTold steps a c → c.of ≡ Move p
-    → (q : ℕ) × (c.situation.target p ≡ Some q)
+    → (q : ℕ) × IsOfMove c p q
 
 -- where a move is told to succeed, its attack in the line exceeds all the rest in the line
 abbrev pub SucceedingMovesExceed : Type 0
 SucceedingMovesExceed =
-    (steps : List Step) (a : Assignment) (c : Matter) (p q : ℕ) → IsTold steps a c → c.of ≡ Move p → c.situation.target p ≡ Some q
-    → c.high ≡ false → Exceeds c p q
+    (steps : List Step) (a : Assignment) (c : Matter) (p q : ℕ) → IsTold steps a c → IsOfMove c p q
+    → a (Move p) ≡ true → Exceeds c p q
 
 -- where it is told to fail, its attack doesn't exceed what is in the destination, or there is another move that it doesn't exceed
 abbrev pub FailingMovesLack : Type 0
 FailingMovesLack =
-    (steps : List Step) (a : Assignment) (c : Matter) (p q : ℕ) → IsTold steps a c → c.of ≡ Move p → c.situation.target p ≡ Some q
-    → c.high ≡ true → FallsShort c p q
+    (steps : List Step) (a : Assignment) (c : Matter) (p q : ℕ) → IsTold steps a c → IsOfMove c p q
+    → a (Move p) ≡ false → FallsShort c p q
 
 -- each move that the line names for that goes there too, and has as much to prevent it at least
 abbrev pub UnbeatenPrevent : Type 0
@@ -273,18 +288,21 @@ UnbeatenPrevent =
 -- where a support is told to be cut, a move that cuts it is named
 abbrev pub CutSupportsAreCut : Type 0
 CutSupportsAreCut =
-    (steps : List Step) (a : Assignment) (c : Matter) (h : ℕ) → IsTold steps a c → c.of ≡ Support h → c.high ≡ true
+    (steps : List Step) (a : Assignment) (c : Matter) (h : ℕ) → IsTold steps a c → c.of ≡ Support h
+    → a (Support h) ≡ false
     → (x : ℕ) × (is_listed (cutters c.situation (here c) h) x ≡ true)
 
--- whoever is named for that cuts it
+-- whoever is named for that goes to the supporter, is of another power, and cuts it as told
 abbrev pub CuttersCut : Type 0
-CuttersCut = (s : Situation) (a : Assignment) (h x : ℕ) → is_listed (cutters s a h) x ≡ true → cuts s a h x ≡ true
+CuttersCut =
+    (c : Matter) (h x : ℕ) → is_listed (cutters c.situation (here c) h) x ≡ true
+    → (goes c.situation x h ≡ true) × (c.situation.same_power x h ≡ false) × Cuts c h x
 
 -- where it is told to be given, each move to the supporter spares it
 abbrev pub GivenSupportsAreSpared : Type 0
 GivenSupportsAreSpared =
-    (steps : List Step) (a : Assignment) (c : Matter) (h x : ℕ) → IsTold steps a c → c.of ≡ Support h → c.high ≡ false
-    → is_listed (movers c.situation h) x ≡ true → Spares c h x
+    (steps : List Step) (a : Assignment) (c : Matter) (h x : ℕ) → IsTold steps a c → c.of ≡ Support h
+    → a (Support h) ≡ true → is_listed (movers c.situation h) x ≡ true → Spares c h x
 
 -- the fleets that a line names as carrying a move are just those that do, and aren't dislodged
 abbrev pub ServersServe : Type 0
@@ -301,34 +319,38 @@ abbrev pub EnterersEnter : Type 0
 EnterersEnter =
     (s : Situation) (a : Assignment) (x n : ℕ) → IsSituation s → is_listed (enterers s a x) n ≡ (goes s n x && a (Move n))
 
+-- what is said of a fleet that is to carry a move without a route is so
+abbrev pub FleetsAreAsSaid : Type 0
+FleetsAreAsSaid = (c : Matter) (x : ℕ) → IsFleetSaid c x
+
 -- where a move is told to have a route, some of the fleets that are named make it
 abbrev pub RoutesAreThere : Type 0
 RoutesAreThere =
-    (steps : List Step) (a : Assignment) (c : Matter) (p q : ℕ) → IsSituation c.situation → IsTold steps a c → c.of ≡ Path p
-    → c.situation.target p ≡ Some q → c.high ≡ false → HasRoute c.situation (here c) p q
+    (steps : List Step) (a : Assignment) (c : Matter) (p q : ℕ) → IsSituation c.situation → IsTold steps a c
+    → IsOfPath c p q → a (Path p) ≡ true → HasRoute c.situation (here c) p q
 
 -- where it is told to have none, there is none
 abbrev pub StrandedHaveNoRoute : Type 0
 StrandedHaveNoRoute =
-    (steps : List Step) (a : Assignment) (c : Matter) (p q : ℕ) → IsSituation c.situation → IsTold steps a c → c.of ≡ Path p
-    → c.situation.target p ≡ Some q → c.high ≡ true → HasRoute c.situation (here c) p q → ⊥
+    (steps : List Step) (a : Assignment) (c : Matter) (p q : ℕ) → IsSituation c.situation → IsTold steps a c
+    → IsOfPath c p q → a (Path p) ≡ false → HasRoute c.situation (here c) p q → ⊥
 
 -- whatever is open, the attack of the move that a line is about is as the line says
 abbrev pub AttacksAreAsSaid : Type 0
 AttacksAreAsSaid =
-    (c : Matter) (p q : ℕ) (f : Assignment) → IsSituation c.situation → c.of ≡ Move p → c.situation.target p ≡ Some q → IsCompletion c.known f
+    (c : Matter) (p q : ℕ) (f : Assignment) → IsSituation c.situation → IsOfMove c p q → IsCompletion c.known f
     → IsSaid (attack_strength c p q) (attack c.situation (here c) p q) (attack c.situation f p q)
 
 -- and so is what the destination sets against it
 abbrev pub OppositionIsAsSaid : Type 0
 OppositionIsAsSaid =
-    (c : Matter) (p q : ℕ) (f : Assignment) → IsSituation c.situation → c.of ≡ Move p → c.situation.target p ≡ Some q → IsCompletion c.known f
+    (c : Matter) (p q : ℕ) (f : Assignment) → IsSituation c.situation → IsOfMove c p q → IsCompletion c.known f
     → IsSaid (opposition_strength c p q) (opposition c.situation (here c) p q) (opposition c.situation f p q)
 
 -- and what each other move there sets against it
 abbrev pub RivalsAreAsSaid : Type 0
 RivalsAreAsSaid =
-    (c : Matter) (p q w : ℕ) (f : Assignment) → IsSituation c.situation → c.of ≡ Move p → c.situation.target p ≡ Some q → IsCompletion c.known f
+    (c : Matter) (p q w : ℕ) (f : Assignment) → IsSituation c.situation → IsOfMove c p q → IsCompletion c.known f
     → is_listed (rivals c.situation p q) w ≡ true
     → IsSaid (prevent_strength c q w) (prevent c.situation (here c) w q) (prevent c.situation f w q)
 

@@ -1,19 +1,19 @@
 -- What the laws of explained movements speak of: the units that a text names, the decisions that lines tell, and what a line rests on.
-use Rattle.std.specs.Prelude.{◌≡◌, ℕ, ◌<◌, ◌≤◌, ◌⊎◌, ◌++◌, Bool, true, false, not, List, [], ◌∷◌, codes, None}
+use Rattle.std.specs.Prelude.{◌≡◌, ℕ, ◌<◌, ◌≤◌, ◌⊎◌, ◌++◌, Bool, true, false, not, List, [], ◌∷◌, Some, None, codes, flat_map}
 use Rattle.std.specs.Fmt.{decimal}
 use Rattle.dip_map.specs.Charts.{Chart}
 use Rattle.dip_orders.specs.declared.placed.PlacedOrder.{PlacedOrder}
 use Rattle.dip_decide_rules.specs.declared.decisions.Decision.{Decision}
-use Rattle.dip_decide_rules.specs.declared.decisions.Decision.TheVariants.{Move, Support}
+use Rattle.dip_decide_rules.specs.declared.decisions.Decision.TheVariants.{Move, Path, Support}
 use Rattle.dip_decide_rules.specs.declared.decisions.Step.{Step}
 use Rattle.dip_decide_rules.specs.declared.decisions.Step.TheVariants.{Forced, Circle, Knot}
 use Rattle.dip_decide_rules.specs.Deciding.{Assignment, IsCompletion, Known}
 use Rattle.dip_decide_rules.specs.Laws.{IsChain}
-use Rattle.dip_decide_rules.specs.Movement.{Situation, at_first, attack, has_path, head_to_head, is_at, is_decided, is_listed, opposition, prevent, rule}
+use Rattle.dip_decide_rules.specs.Movement.{Situation, at_first, attack, has_path, head_to_head, is_at, is_decided, is_entered, is_listed, opposition, prevent, rule}
 use Rattle.dip_decide_rules.specs.Results.{AreExplained}
 use Rattle.dip_decide_rules.specs.Steps.{moves_of, paths_of, steps_of}
-use Rattle.dip_explain.specs.Matters.{Matter, here, joined, others, unit_in}
-use Rattle.dip_explain.specs.Movement.{attackers_text, backer_text, coming_text, comparison_text, known_after, opponents_text, opposition_text, own_power_text, prevent_text, preventers_text, rivals, servers, sparing_text, unbeaten}
+use Rattle.dip_explain.specs.Matters.{Matter, here, joined, order_in, others, unit_in}
+use Rattle.dip_explain.specs.Movement.{attackers_text, backer_text, coming_text, comparison_text, cutting_text, enterers, fleet_text, known_after, opponents_text, opposition_text, own_power_text, prevent_text, preventers_text, rivals, servers, sparing_text, unbeaten}
 
 -- these units, named: the first, and those that support it
 abbrev pub named_text : Matter → List ℕ → List ℕ
@@ -90,12 +90,30 @@ pub record IsTold (steps : List Step) (a : Assignment) (c : Matter) : Type 0 whe
   pub line : IsLine c.situation steps a c.known (Forced c.of)
   pub high : c.high ≡ not (a c.of)
 
+-- the line is about the move from p to q
+pub record IsOfMove (c : Matter) (p q : ℕ) : Type 0 where
+  pub move : c.of ≡ Move p
+  pub goes : c.situation.target p ≡ Some q
+
+-- the line is about whether the move from p to q has a route by convoy
+pub record IsOfPath (c : Matter) (p q : ℕ) : Type 0 where
+  pub path : c.of ≡ Path p
+  pub goes : c.situation.target p ≡ Some q
+
 -- nothing above the line tells the decision; its rule gives this value at the completion at which the line is told, and at any other
 pub record IsVerdict (c : Matter) (value : Bool) : Type 0 where
   pub is_new : c.known c.of ≡ None
   pub decided : is_decided c.situation c.of ≡ true
   pub told_value : rule c.situation c.of (here c) ≡ value
   pub always : (f : Assignment) → IsCompletion c.known f → rule c.situation c.of f ≡ value
+
+-- the order of a unit, and what is said of it
+abbrev pub ordered : Matter → (ℕ → List ℕ) → ℕ → List ℕ
+ordered c said x = order_in c.map c.orders x ++ said x
+
+-- a unit, and what is said of it
+abbrev pub named : Matter → (ℕ → List ℕ) → ℕ → List ℕ
+named c said x = unit_in c x ++ said x
 
 -- a move succeeds as its line shows: its attack exceeds what is in q, and each other move there, and the line names them all
 pub record Exceeds (c : Matter) (p q : ℕ) : Type 0 where
@@ -121,6 +139,23 @@ pub data Spares (c : Matter) (h x : ℕ) : Type 0 where
       is_at (c.situation.aim h) x ≡ true → here c (Move x) ≡ false
       → sparing_text c h x ≡ coming_text c.map x (codes "fails") → Spares c h x
   stranded : has_path c.situation (here c) x ≡ false → sparing_text c h x ≡ codes " has no route" → Spares c h x
+
+-- the move of x cuts the support of h as the line shows: it attacks the supporter, or comes from where the support goes, and succeeds
+pub data Cuts (c : Matter) (h x : ℕ) : Type 0 where
+  attacks :
+      is_at (c.situation.aim h) x ≡ false → has_path c.situation (here c) x ≡ true → cutting_text c h x ≡ codes " attacks it"
+      → Cuts c h x
+  dislodges :
+      is_at (c.situation.aim h) x ≡ true → here c (Move x) ≡ true
+      → cutting_text c h x ≡ coming_text c.map x (codes "succeeds") → Cuts c h x
+
+-- what the line shows of a fleet that is to carry a move without a route: moves that dislodge it, or that none does
+pub data IsFleetSaid (c : Matter) (x : ℕ) : Type 0 where
+  dislodged :
+      (n : ℕ) → is_listed (enterers c.situation (here c) x) n ≡ true
+      → fleet_text c x ≡ codes " is dislodged" ++ flat_map (λ m. codes " by " ++ order_in c.map c.orders m) (enterers c.situation (here c) x)
+      → IsFleetSaid c x
+  idle : is_entered c.situation (here c) x ≡ false → fleet_text c x ≡ codes " completes no chain" → IsFleetSaid c x
 
 -- some of the fleets that carry the move of p make a chain to q
 abbrev pub HasRoute : Situation → Assignment → ℕ → ℕ → Type 0

@@ -1,5 +1,5 @@
 //! Laws of explained movements, each the contract of a function that does nothing.
-ghost use Rattle.dip_explain_laws.specs.Laws.{AttackCounts, AttackersAreNamed, AttackersAreSingle, AttacksAreAsSaid, AttacksAreShown, BackersAgainstAreGiven, BackersAreGiven, BoardsHaveSituations, CarriersMatch, CirclesMove, CountedAgainstAreAsSaid, CountedAreAsSaid, CutSupportsAreCut, CuttersCut, EnterersEnter, ExplanationsAreLines, FailingMovesLack, GivenSupportsAreSpared, HoldCounts, JustDecisionsAreTold, KnotsBreak, LeftOutAgainstAreAsSaid, LeftOutAgainstArentGiven, LeftOutAreAsSaid, LeftOutArentGiven, LinesFollow, LinesGiveTheirSteps, LinesRestOnThoseAbove, LinesStandInOrder, LinesTellTheirMatters, MattersAreTold, MoveLinesAreSo, NoAttackHasAReason, NoOppositionHasAReason, NoPreventHasAReason, NoneIsToldTwice, OpponentsAreNamed, OpponentsAreSingle, OppositionCounts, OppositionIsAsSaid, OppositionIsShown, PathLinesAreSo, PreventCounts, PreventersAreNamed, PreventersAreSingle, RivalsAreAsSaid, RivalsAreShown, RoutesAreThere, ServersServe, StrandedHaveNoRoute, SucceedingMovesExceed, SupportLinesAreSo, SupportersAreParted, SupportersArePartedAgainst, ToldMovesGoSomewhere, UnbeatenPrevent, ValuesComplete, VerdictsAreAsTold};
+ghost use Rattle.dip_explain_laws.specs.Laws.{AttackCounts, AttackersAreNamed, AttackersAreSingle, AttacksAreAsSaid, AttacksAreShown, BackersAgainstAreGiven, BackersAreGiven, BoardsHaveSituations, CarriersMatch, CirclesAreNamed, CirclesMove, CountedAgainstAreAsSaid, CountedAreAsSaid, CutSupportsAreCut, CuttersCut, EnterersEnter, ExplanationsAreLines, FailingMovesLack, FleetsAreAsSaid, GivenSupportsAreSpared, HoldCounts, JustDecisionsAreTold, KnotsAreNamed, KnotsBreak, LeftOutAgainstAreAsSaid, LeftOutAgainstArentGiven, LeftOutAreAsSaid, LeftOutArentGiven, LinesFollow, LinesGiveTheirSteps, LinesRestOnThoseAbove, LinesStandInOrder, LinesTellTheirMatters, MattersAreTold, MoveLinesAreSo, NoAttackHasAReason, NoOppositionHasAReason, NoPreventHasAReason, NoneIsToldTwice, OpponentsAreNamed, OpponentsAreSingle, OppositionCounts, OppositionIsAsSaid, OppositionIsShown, PathLinesAreSo, PreventCounts, PreventersAreNamed, PreventersAreSingle, RivalsAreAsSaid, RivalsAreShown, RoutesAreThere, ServersServe, StrandedHaveNoRoute, SucceedingMovesExceed, SupportLinesAreSo, SupportersAreParted, SupportersArePartedAgainst, ToldMovesGoSomewhere, UnbeatenPrevent, ValuesComplete, VerdictsAreAsTold};
 
 use dip_decide::{boards_are_situations, orders_are_meant};
 
@@ -86,12 +86,14 @@ pub fn verdicts_are_as_told()
     ensures knots { KnotsBreak }
 {}
 
-/// A line says what came out: that a move succeeds, that a support is given or that there is a route just where that was so. A law: it does
-/// nothing.
+/// A line says what came out: that a move succeeds, that a support is given or that there is a route just where that was so; and a line of
+/// a circle or of a knot names its moves. A law: it does nothing.
 pub fn lines_say_what_came_out()
     ensures moves { MoveLinesAreSo }
     ensures supports { SupportLinesAreSo }
     ensures paths { PathLinesAreSo }
+    ensures circles { CirclesAreNamed }
+    ensures knots { KnotsAreNamed }
 {}
 
 /// The numbers of a line decide the move that it is about: where it is told to succeed, its attack exceeds all that stands against it; where
@@ -111,13 +113,15 @@ pub fn supports_are_cut_by_those_named()
     ensures given { GivenSupportsAreSpared }
 {}
 
-/// A move that is told to have a route has one by fleets that are named; one that is told to have none has none. A law: it does nothing.
+/// A move that is told to have a route has one by fleets that are named; one that is told to have none has none, and what is said of the
+/// fleets that are to carry it is so. A law: it does nothing.
 pub fn routes_are_of_the_fleets_named()
     ensures there { RoutesAreThere }
     ensures none { StrandedHaveNoRoute }
     ensures servers { ServersServe }
     ensures carriers { CarriersMatch }
     ensures enterers { EnterersEnter }
+    ensures fleets { FleetsAreAsSaid }
 {}
 
 /// Of the move that a line is about, "at least" and "at most" are true whatever the open decisions come to, and so is a bare number:

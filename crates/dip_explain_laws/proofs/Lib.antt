@@ -3,6 +3,7 @@ pub mod StrengthLemmas
 pub mod NameLemmas
 pub mod ReasonLemmas
 pub mod LineLemmas
+pub mod SureLemmas
 pub mod MoveLemmas
 pub mod SupportLemmas
 pub mod RouteLemmas

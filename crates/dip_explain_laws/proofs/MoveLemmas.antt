@@ -87,8 +87,8 @@ module _ (c : Matter) (p q : ℕ) where
           → (nat_lt (opposition c.situation (here c) p q) (attack c.situation (here c) p q) ≡ true) ⊎ (nat_lt (opposition c.situation (here c) p q) (attack c.situation (here c) p q) ≡ false)
           → (list_all (beats c.situation (here c) p q) c.situation.places ≡ false) ⊎ (nat_lt (opposition c.situation (here c) p q) (attack c.situation (here c) p q) ≡ false) → FallsShort c p q
       go (inl z) _ _ = powerless (nothing _ z) (rw z refl)
-      go (inr z) (inr n) _ = held (not_less _ _ n) (compared _ c.high _ false _ _ _ z l n)
+      go (inr z) (inr n) _ = held (some_of _ z) (not_less _ _ n) (compared _ c.high _ false _ _ _ z l n)
       go (inr z) (inl y) (inr n) = absurd (both_ways _ n y)
       go (inr z) (inl y) (inl n) =
           let w = some_fails (beats c.situation (here c) p q) c.situation.places n in
-          prevented w.0 (listed_kept (is_unbeaten c.situation (here c) p q) c.situation.places w.0 ∙ rw (w.1, w.2) refl) (compared _ c.high _ true _ _ _ z l y)
+          prevented (some_of _ z) w.0 (listed_kept (is_unbeaten c.situation (here c) p q) c.situation.places w.0 ∙ rw (w.1, w.2) refl) (compared _ c.high _ true _ _ _ z l y)

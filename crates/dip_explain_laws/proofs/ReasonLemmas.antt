@@ -3,6 +3,7 @@ use Rattle.std.proofs.Common.{◌≡◌, ◌∙◌, ℕ, ◌+◌, ◌++◌, List
 use Rattle.std.specs.Prelude.{Bool, true, false, not, ◌&&◌, ◌||◌, codes, if◌then◌else◌}
 use mathlib.Core.Logic.{◌⊎◌}
 use Rattle.dip_decide_rules.specs.declared.decisions.Decision.TheVariants.{Move}
+use Rattle.dip_decide_rules.specs.Deciding.{Assignment}
 use Rattle.dip_decide_rules.specs.Movement.{attack, has_move, has_path, head_to_head, opposition, prevent, support, support_against}
 use Rattle.dip_explain.specs.Matters.{Matter, here, unit_in}
 use Rattle.dip_explain.specs.Movement.{alone_text, attackers_text, backed_against_text, backed_text, holders_text, leaver_text, loser_text, opponents_text, own_text, own_way_text, own_way_words, own_words, pathless, pathless_words, preventers_text, since_text}
@@ -55,37 +56,39 @@ module _ (c : Matter) where
   unfolding own_text since_text own_way_text own_way_words own_words
   own_stays p q h = rw h refl
 
-  pub no_attack : (p q : ℕ) → attack c.situation (here c) p q ≡ 0 → AttackedByNone c p q
+  pub no_attack : (a : Assignment) (p q : ℕ) → (has_path c.situation (here c) p ≡ false → has_path c.situation a p ≡ false) → (here c (Move q) ≡ false → a (Move q) ≡ false)
+      → attack c.situation (here c) p q ≡ 0 → AttackedByNone c a p q
   unfolding attackers_text
-  no_attack p q none =
+  no_attack a p q way stay none =
       go (no_attack_by (has_path c.situation (here c) p) (c.situation.is_occupied q) (here c (Move q)) (head_to_head c.situation p q) (c.situation.same_power p q)
       (support c.situation (here c) p) (support_against c.situation (here c) p q) (codes ", since it has no route") (backed_text c p) (own_text c p q) (backed_against_text c p q) none)
     where
       go : ((has_path c.situation (here c) p ≡ false) × (attackers_text c p q ≡ codes ", since it has no route"))
           ⊎ (((c.situation.same_power p q ≡ true) × ((head_to_head c.situation p q ≡ true) ⊎ ((head_to_head c.situation p q ≡ false) × (here c (Move q) ≡ false)))) × (attackers_text c p q ≡ own_text c p q))
-          → AttackedByNone c p q
-      go (inl h) = stranded h.0 h.1
+          → AttackedByNone c a p q
+      go (inl h) = stranded (way h.0) h.1
       go (inr h) = which h.0.1
         where
-          which : (head_to_head c.situation p q ≡ true) ⊎ ((head_to_head c.situation p q ≡ false) × (here c (Move q) ≡ false)) → AttackedByNone c p q
+          which : (head_to_head c.situation p q ≡ true) ⊎ ((head_to_head c.situation p q ≡ false) × (here c (Move q) ≡ false)) → AttackedByNone c a p q
           which (inl t) = met h.0.0 t (h.1 ∙ own_meets p q t)
-          which (inr t) = stopped h.0.0 t.1 (h.1 ∙ own_stays p q t.0)
+          which (inr t) = stopped h.0.0 (stay t.1) (h.1 ∙ own_stays p q t.0)
 
-  pub no_opposition : (p q : ℕ) → opposition c.situation (here c) p q ≡ 0 → OpposedByNone c p q
+  pub no_opposition : (a : Assignment) (p q : ℕ) → (here c (Move q) ≡ true → a (Move q) ≡ true) → opposition c.situation (here c) p q ≡ 0 → OpposedByNone c a p q
   unfolding opponents_text holders_text leaver_text
-  no_opposition p q none =
+  no_opposition a p q leave none =
       go (no_opposition_by (head_to_head c.situation p q) (c.situation.is_occupied q) (here c (Move q)) (has_move c.situation q) (support c.situation (here c) q) (leaver_text c q) (alone_text c q) (backed_text c q) none)
     where
-      go : ((c.situation.is_occupied q ≡ false) × (opponents_text c p q ≡ [])) ⊎ ((here c (Move q) ≡ true) × (opponents_text c p q ≡ leaver_text c q)) → OpposedByNone c p q
+      go : ((c.situation.is_occupied q ≡ false) × (opponents_text c p q ≡ [])) ⊎ ((here c (Move q) ≡ true) × (opponents_text c p q ≡ leaver_text c q)) → OpposedByNone c a p q
       go (inl h) = empty h.0 h.1
-      go (inr h) = left h.0 h.1
+      go (inr h) = left (leave h.0) h.1
 
-  pub no_prevent : (q w : ℕ) → prevent c.situation (here c) w q ≡ 0 → PreventedByNone c q w
+  pub no_prevent : (a : Assignment) (q w : ℕ) → (has_path c.situation (here c) w ≡ false → has_path c.situation a w ≡ false) → (here c (Move q) ≡ true → a (Move q) ≡ true)
+      → prevent c.situation (here c) w q ≡ 0 → PreventedByNone c a q w
   unfolding preventers_text pathless pathless_words loser_text
-  no_prevent q w none =
+  no_prevent a q w way leave none =
       go (no_prevent_by (has_path c.situation (here c) w) (head_to_head c.situation w q) (here c (Move q)) (support c.situation (here c) w) (pathless c w) (loser_text c q w) (backed_text c w) none)
     where
       go : ((has_path c.situation (here c) w ≡ false) × (preventers_text c q w ≡ pathless c w))
-          ⊎ ((head_to_head c.situation w q ≡ true) × (here c (Move q) ≡ true) × (preventers_text c q w ≡ loser_text c q w)) → PreventedByNone c q w
-      go (inl h) = routeless h.0 h.1
-      go (inr h) = lost h.0 h.1 h.2
+          ⊎ ((head_to_head c.situation w q ≡ true) × (here c (Move q) ≡ true) × (preventers_text c q w ≡ loser_text c q w)) → PreventedByNone c a q w
+      go (inl h) = routeless (way h.0) h.1
+      go (inr h) = lost h.0 (leave h.1) h.2

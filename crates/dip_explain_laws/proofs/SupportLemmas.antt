@@ -23,27 +23,29 @@ cut_by s a h n =
     (w.0, listed_kept (is_cut_by s a h) s.places w.0 ∙ and_from _ _ (not-false _ w.2) w.1)
 
 -- who is listed as one that cuts a support cuts it
-pub cutter_cuts : (c : Matter) (h x : ℕ) → is_listed (cutters c.situation (here c) h) x ≡ true
-    → (goes c.situation x h ≡ true) × (c.situation.same_power x h ≡ false) × Cuts c h x
+pub cutter_cuts : (c : Matter) (a : Assignment) (h x : ℕ) → (here c (Move x) ≡ true → a (Move x) ≡ true) → (has_path c.situation (here c) x ≡ true → has_path c.situation a x ≡ true)
+    → is_listed (cutters c.situation (here c) h) x ≡ true
+    → (goes c.situation x h ≡ true) × (c.situation.same_power x h ≡ false) × Cuts c a h x
 unfolding is_cut_by cutting_text
-cutter_cuts c h x l =
+cutter_cuts c a h x won way l =
     let e = and_parts (goes c.situation x h && not (c.situation.same_power x h)) _ (kept (is_cut_by c.situation (here c) h) c.situation.places x l) in
     let f = and_parts (goes c.situation x h) (not (c.situation.same_power x h)) e.0 in
     (f.0, not-true _ f.1, go (cases_Bool (is_at (c.situation.aim h) x)) e.1)
   where
     go : (is_at (c.situation.aim h) x ≡ true) ⊎ (is_at (c.situation.aim h) x ≡ false)
-        → (if is_at (c.situation.aim h) x then here c (Move x) else has_path c.situation (here c) x) ≡ true → Cuts c h x
-    go (inl y) k = dislodges y (rw y at k) (rw y refl)
-    go (inr y) k = attacks y (rw y at k) (rw y refl)
+        → (if is_at (c.situation.aim h) x then here c (Move x) else has_path c.situation (here c) x) ≡ true → Cuts c a h x
+    go (inl y) k = dislodges y (won (rw y at k)) (rw y refl)
+    go (inr y) k = attacks y (way (rw y at k)) (rw y refl)
 
-pub spared : (c : Matter) (h x : ℕ) → list_all (λ y. not (cuts c.situation (here c) h y)) c.situation.places ≡ true → is_listed (movers c.situation h) x ≡ true → Spares c h x
+pub spared : (c : Matter) (a : Assignment) (h x : ℕ) → (here c (Move x) ≡ false → a (Move x) ≡ false) → (has_path c.situation (here c) x ≡ false → has_path c.situation a x ≡ false)
+    → list_all (λ y. not (cuts c.situation (here c) h y)) c.situation.places ≡ true → is_listed (movers c.situation h) x ≡ true → Spares c a h x
 unfolding sparing_text
-spared c h x n l =
+spared c a h x lost way n l =
     let e = and_parts (goes c.situation x h) (is_listed c.situation.places x) (sym (listed_kept (λ y. goes c.situation y h) c.situation.places x) ∙ l) in
     go (cases_Bool (c.situation.same_power x h)) (cases_Bool (is_at (c.situation.aim h) x)) e.0 (not-true _ (all_at (λ y. not (cuts c.situation (here c) h y)) c.situation.places x n e.1))
   where
     go : (c.situation.same_power x h ≡ true) ⊎ (c.situation.same_power x h ≡ false) → (is_at (c.situation.aim h) x ≡ true) ⊎ (is_at (c.situation.aim h) x ≡ false)
-        → goes c.situation x h ≡ true → cuts c.situation (here c) h x ≡ false → Spares c h x
+        → goes c.situation x h ≡ true → cuts c.situation (here c) h x ≡ false → Spares c a h x
     go (inl y) _ g f = own y (rw y refl)
-    go (inr o) (inl y) g f = beaten y (rw (g, o, y) at f) (rw (o, y) refl)
-    go (inr o) (inr y) g f = stranded (rw (g, o, y) at f) (rw (o, y) refl)
+    go (inr o) (inl y) g f = beaten y (lost (rw (g, o, y) at f)) (rw (o, y) refl)
+    go (inr o) (inr y) g f = stranded (way (rw (g, o, y) at f)) (rw (o, y) refl)

@@ -16,7 +16,7 @@ use Rattle.dip_decide_rules.specs.Movement.{IsSituation, Situation, at_first, at
 use Rattle.dip_decide_rules.specs.Results.{AreExplained, values_in}
 use Rattle.dip_decide_rules.specs.Steps.{step_of, steps_of}
 use Rattle.dip_explain.specs.Matters.{Matter, code, here, joined, joined_or, order_in, unit_in}
-use Rattle.dip_explain.specs.Movement.{attack_strength, attack_text, attackers_text, carriers, comparison_text, cutters, cutting_text, decision_text, enterers, explanation, fleet_text, known_after, knot_text, lack_against_text, lack_text, lines_from, movers, opponents_text, opposition_strength, opposition_text, prevent_strength, prevent_text, preventers_text, rivals, servers, sparing_text, step_line, unbeaten}
+use Rattle.dip_explain.specs.Movement.{attack_strength, attack_text, attackers_text, carriers, comparison_text, cutters, cutting_text, decision_text, explanation, fleet_text, known_after, knot_text, lack_against_text, lack_text, lines_from, movers, opponents_text, opposition_strength, opposition_text, prevent_strength, prevent_text, preventers_text, rivals, servers, sparing_text, step_line, unbeaten}
 use Rattle.dip_explain.specs.Strengths.{attackers, backers, backers_against, holders, left_out, left_out_against, opponents, preventers}
 use Rattle.dip_explain_laws.specs.Words.{AttackedByNone, Cuts, Exceeds, FallsShort, HasRoute, IsCounted, IsFleetSaid, IsLeftOut, IsLeftOutAgainst, IsLine, IsOfMove, IsOfPath, IsSaid, IsTold, IsVerdict, NamesJust, OpposedByNone, PreventedByNone, Spares, known_along, matter_at, named, ordered, told_in}
 
@@ -76,17 +76,23 @@ abbrev pub RivalsAreShown : Type 0
 RivalsAreShown =
     (c : Matter) (q w : ℕ) → prevent_text c q w ≡ codes "prevent " ++ prevent_strength c q w ++ preventers_text c q w
 
--- where an attack is 0, the text tells why, and that is so
+-- where the attack of the move that a line is about is 0, the line tells why, and that came out so
 abbrev pub NoAttackHasAReason : Type 0
-NoAttackHasAReason = (c : Matter) (p q : ℕ) → attack c.situation (here c) p q ≡ 0 → AttackedByNone c p q
+NoAttackHasAReason =
+    (steps : List Step) (a : Assignment) (c : Matter) (p q : ℕ) → IsTold steps a c → IsOfMove c p q
+    → attack c.situation (here c) p q ≡ 0 → AttackedByNone c a p q
 
--- and so where nothing is set against a move
+-- and so where nothing is set against a move that succeeds
 abbrev pub NoOppositionHasAReason : Type 0
-NoOppositionHasAReason = (c : Matter) (p q : ℕ) → opposition c.situation (here c) p q ≡ 0 → OpposedByNone c p q
+NoOppositionHasAReason =
+    (steps : List Step) (a : Assignment) (c : Matter) (p q : ℕ) → IsTold steps a c → IsOfMove c p q → a (Move p) ≡ true
+    → opposition c.situation (here c) p q ≡ 0 → OpposedByNone c a p q
 
--- and where a move prevents nobody
+-- and where another move there doesn't prevent it
 abbrev pub NoPreventHasAReason : Type 0
-NoPreventHasAReason = (c : Matter) (q w : ℕ) → prevent c.situation (here c) w q ≡ 0 → PreventedByNone c q w
+NoPreventHasAReason =
+    (steps : List Step) (a : Assignment) (c : Matter) (p q w : ℕ) → IsTold steps a c → IsOfMove c p q → a (Move p) ≡ true
+    → is_listed (rivals c.situation p q) w ≡ true → prevent c.situation (here c) w q ≡ 0 → PreventedByNone c a q w
 
 -- where an attack isn't 0, the text names just the units that attack
 abbrev pub AttackersAreNamed : Type 0
@@ -295,33 +301,31 @@ CutSupportsAreCut =
 -- whoever is named for that goes to the supporter, is of another power, and cuts it as told
 abbrev pub CuttersCut : Type 0
 CuttersCut =
-    (c : Matter) (h x : ℕ) → is_listed (cutters c.situation (here c) h) x ≡ true
-    → (goes c.situation x h ≡ true) × (c.situation.same_power x h ≡ false) × Cuts c h x
+    (steps : List Step) (a : Assignment) (c : Matter) (h x : ℕ) → IsTold steps a c → c.of ≡ Support h
+    → a (Support h) ≡ false → is_listed (cutters c.situation (here c) h) x ≡ true
+    → (goes c.situation x h ≡ true) × (c.situation.same_power x h ≡ false) × Cuts c a h x
 
 -- where it is told to be given, each move to the supporter spares it
 abbrev pub GivenSupportsAreSpared : Type 0
 GivenSupportsAreSpared =
     (steps : List Step) (a : Assignment) (c : Matter) (h x : ℕ) → IsTold steps a c → c.of ≡ Support h
-    → a (Support h) ≡ true → is_listed (movers c.situation h) x ≡ true → Spares c h x
+    → a (Support h) ≡ true → is_listed (movers c.situation h) x ≡ true → Spares c a h x
 
--- the fleets that a line names as carrying a move are just those that do, and aren't dislodged
-abbrev pub ServersServe : Type 0
-ServersServe =
-    (s : Situation) (a : Assignment) (p x : ℕ) → IsSituation s
-    → is_listed (servers s a p) x ≡ (s.convoys x p && not (is_entered s a x))
+-- the fleets that a line names as carrying a move are ordered to, and weren't dislodged
+abbrev pub NamedFleetsCarry : Type 0
+NamedFleetsCarry =
+    (steps : List Step) (a : Assignment) (c : Matter) (p x : ℕ) → IsTold steps a c → c.of ≡ Path p → a (Path p) ≡ true
+    → is_listed (servers c.situation (here c) p) x ≡ true → (c.situation.convoys x p ≡ true) × (is_entered c.situation a x ≡ false)
 
--- those that it names as ordered to are just those whose convoys match
+-- the fleets that it names as ordered to carry a move are just those whose convoys match
 abbrev pub CarriersMatch : Type 0
 CarriersMatch = (s : Situation) (p x : ℕ) → IsSituation s → is_listed (carriers s p) x ≡ s.convoys x p
 
--- the moves by which it says that a fleet is dislodged are just those that enter its province
-abbrev pub EnterersEnter : Type 0
-EnterersEnter =
-    (s : Situation) (a : Assignment) (x n : ℕ) → IsSituation s → is_listed (enterers s a x) n ≡ (goes s n x && a (Move n))
-
--- what is said of a fleet that is to carry a move without a route is so
+-- what is said of them where they make no route came out so
 abbrev pub FleetsAreAsSaid : Type 0
-FleetsAreAsSaid = (c : Matter) (x : ℕ) → IsFleetSaid c x
+FleetsAreAsSaid =
+    (steps : List Step) (a : Assignment) (c : Matter) (p x : ℕ) → IsTold steps a c → c.of ≡ Path p → a (Path p) ≡ false
+    → IsFleetSaid c a x
 
 -- where a move is told to have a route, some of the fleets that are named make it
 abbrev pub RoutesAreThere : Type 0

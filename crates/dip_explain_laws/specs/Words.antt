@@ -9,7 +9,7 @@ use Rattle.dip_decide_rules.specs.declared.decisions.Step.{Step}
 use Rattle.dip_decide_rules.specs.declared.decisions.Step.TheVariants.{Forced, Circle, Knot}
 use Rattle.dip_decide_rules.specs.Deciding.{Assignment, IsCompletion, Known}
 use Rattle.dip_decide_rules.specs.Laws.{IsChain}
-use Rattle.dip_decide_rules.specs.Movement.{Situation, at_first, attack, has_path, head_to_head, is_at, is_decided, is_entered, is_listed, opposition, prevent, rule}
+use Rattle.dip_decide_rules.specs.Movement.{Situation, at_first, attack, goes, has_path, head_to_head, is_at, is_decided, is_listed, opposition, prevent, rule}
 use Rattle.dip_decide_rules.specs.Results.{AreExplained}
 use Rattle.dip_decide_rules.specs.Steps.{moves_of, paths_of, steps_of}
 use Rattle.dip_explain.specs.Matters.{Matter, here, joined, order_in, others, unit_in}
@@ -32,30 +32,30 @@ pub record NamesJust (c : Matter) (ps text : List ℕ) : Type 0 where
 
 -- why nobody attacks q with p, as the line tells: the move has no route, or goes to a unit of its own power that comes the other way, or
 -- that stays there
-pub data AttackedByNone (c : Matter) (p q : ℕ) : Type 0 where
+pub data AttackedByNone (c : Matter) (a : Assignment) (p q : ℕ) : Type 0 where
   stranded :
-      has_path c.situation (here c) p ≡ false → attackers_text c p q ≡ codes ", since it has no route" → AttackedByNone c p q
+      has_path c.situation a p ≡ false → attackers_text c p q ≡ codes ", since it has no route" → AttackedByNone c a p q
   met :
       c.situation.same_power p q ≡ true → head_to_head c.situation p q ≡ true
-      → attackers_text c p q ≡ codes ", since " ++ unit_in c q ++ codes ", of its own power, comes the other way" → AttackedByNone c p q
+      → attackers_text c p q ≡ codes ", since " ++ unit_in c q ++ codes ", of its own power, comes the other way" → AttackedByNone c a p q
   stopped :
-      c.situation.same_power p q ≡ true → here c (Move q) ≡ false
-      → attackers_text c p q ≡ codes ", since " ++ unit_in c q ++ codes ", of its own power, stays there" → AttackedByNone c p q
+      c.situation.same_power p q ≡ true → a (Move q) ≡ false
+      → attackers_text c p q ≡ codes ", since " ++ unit_in c q ++ codes ", of its own power, stays there" → AttackedByNone c a p q
 
 -- why nobody sets itself against the move from p in q: nobody is there, or the unit there leaves
-pub data OpposedByNone (c : Matter) (p q : ℕ) : Type 0 where
-  empty : c.situation.is_occupied q ≡ false → opponents_text c p q ≡ [] → OpposedByNone c p q
-  left : here c (Move q) ≡ true → opponents_text c p q ≡ codes " (" ++ unit_in c q ++ codes " leaves)" → OpposedByNone c p q
+pub data OpposedByNone (c : Matter) (a : Assignment) (p q : ℕ) : Type 0 where
+  empty : c.situation.is_occupied q ≡ false → opponents_text c p q ≡ [] → OpposedByNone c a p q
+  left : a (Move q) ≡ true → opponents_text c p q ≡ codes " (" ++ unit_in c q ++ codes " leaves)" → OpposedByNone c a p q
 
 -- why nobody prevents other moves to q with w: its move has no route, or lost to the unit there, head to head
-pub data PreventedByNone (c : Matter) (q w : ℕ) : Type 0 where
+pub data PreventedByNone (c : Matter) (a : Assignment) (q w : ℕ) : Type 0 where
   stranded :
-      has_path c.situation (here c) w ≡ false → preventers_text c q w ≡ codes " (" ++ unit_in c w ++ codes " has no route)"
-      → PreventedByNone c q w
+      has_path c.situation a w ≡ false → preventers_text c q w ≡ codes " (" ++ unit_in c w ++ codes " has no route)"
+      → PreventedByNone c a q w
   lost :
-      head_to_head c.situation w q ≡ true → here c (Move q) ≡ true
+      head_to_head c.situation w q ≡ true → a (Move q) ≡ true
       → preventers_text c q w ≡ codes " (" ++ unit_in c w ++ codes " lost to " ++ unit_in c q ++ codes " head to head)"
-      → PreventedByNone c q w
+      → PreventedByNone c a q w
 
 -- the decisions that the line of a step tells
 abbrev pub told : Step → List Decision
@@ -125,37 +125,39 @@ pub record Exceeds (c : Matter) (p q : ℕ) : Type 0 where
 pub data FallsShort (c : Matter) (p q : ℕ) : Type 0 where
   powerless : attack c.situation (here c) p q ≡ 0 → comparison_text c p q ≡ [] → FallsShort c p q
   held :
-      attack c.situation (here c) p q ≤ opposition c.situation (here c) p q
+      1 ≤ attack c.situation (here c) p q → attack c.situation (here c) p q ≤ opposition c.situation (here c) p q
       → comparison_text c p q ≡ codes " against " ++ opposition_text c p q → FallsShort c p q
   prevented :
-      (w : ℕ) → is_listed (unbeaten c.situation (here c) p q) w ≡ true
+      1 ≤ attack c.situation (here c) p q → (w : ℕ) → is_listed (unbeaten c.situation (here c) p q) w ≡ true
       → comparison_text c p q ≡ codes " against " ++ joined (prevent_text c q) (unbeaten c.situation (here c) p q) → FallsShort c p q
 
 -- the move of x spares the support of h as the line shows: it is of its own power; or it comes from where the support goes, and fails; or
 -- it has no route
-pub data Spares (c : Matter) (h x : ℕ) : Type 0 where
-  own : c.situation.same_power x h ≡ true → sparing_text c h x ≡ codes " is of its own power" → Spares c h x
+pub data Spares (c : Matter) (a : Assignment) (h x : ℕ) : Type 0 where
+  own : c.situation.same_power x h ≡ true → sparing_text c h x ≡ codes " is of its own power" → Spares c a h x
   beaten :
-      is_at (c.situation.aim h) x ≡ true → here c (Move x) ≡ false
-      → sparing_text c h x ≡ coming_text c.map x (codes "fails") → Spares c h x
-  stranded : has_path c.situation (here c) x ≡ false → sparing_text c h x ≡ codes " has no route" → Spares c h x
+      is_at (c.situation.aim h) x ≡ true → a (Move x) ≡ false
+      → sparing_text c h x ≡ coming_text c.map x (codes "fails") → Spares c a h x
+  stranded : has_path c.situation a x ≡ false → sparing_text c h x ≡ codes " has no route" → Spares c a h x
 
 -- the move of x cuts the support of h as the line shows: it attacks the supporter, or comes from where the support goes, and succeeds
-pub data Cuts (c : Matter) (h x : ℕ) : Type 0 where
+pub data Cuts (c : Matter) (a : Assignment) (h x : ℕ) : Type 0 where
   attacks :
-      is_at (c.situation.aim h) x ≡ false → has_path c.situation (here c) x ≡ true → cutting_text c h x ≡ codes " attacks it"
-      → Cuts c h x
+      is_at (c.situation.aim h) x ≡ false → has_path c.situation a x ≡ true → cutting_text c h x ≡ codes " attacks it"
+      → Cuts c a h x
   dislodges :
-      is_at (c.situation.aim h) x ≡ true → here c (Move x) ≡ true
-      → cutting_text c h x ≡ coming_text c.map x (codes "succeeds") → Cuts c h x
+      is_at (c.situation.aim h) x ≡ true → a (Move x) ≡ true
+      → cutting_text c h x ≡ coming_text c.map x (codes "succeeds") → Cuts c a h x
 
--- what the line shows of a fleet that is to carry a move without a route: moves that dislodge it, or that none does
-pub data IsFleetSaid (c : Matter) (x : ℕ) : Type 0 where
+-- what the line shows of a fleet that is to carry a move without a route: that moves came to it and dislodged it, or that it completes no
+-- chain
+pub data IsFleetSaid (c : Matter) (a : Assignment) (x : ℕ) : Type 0 where
   dislodged :
       (n : ℕ) → is_listed (enterers c.situation (here c) x) n ≡ true
+      → ((m : ℕ) → is_listed (enterers c.situation (here c) x) m ≡ true → (goes c.situation m x ≡ true) × (a (Move m) ≡ true))
       → fleet_text c x ≡ codes " is dislodged" ++ flat_map (λ m. codes " by " ++ order_in c.map c.orders m) (enterers c.situation (here c) x)
-      → IsFleetSaid c x
-  idle : is_entered c.situation (here c) x ≡ false → fleet_text c x ≡ codes " completes no chain" → IsFleetSaid c x
+      → IsFleetSaid c a x
+  idle : fleet_text c x ≡ codes " completes no chain" → IsFleetSaid c a x
 
 -- some of the fleets that carry the move of p make a chain to q
 abbrev pub HasRoute : Situation → Assignment → ℕ → ℕ → Type 0

@@ -1,5 +1,5 @@
 //! Laws of explained movements, each the contract of a function that does nothing.
-ghost use Rattle.dip_explain_laws.specs.Laws.{AttackCounts, AttackersAreNamed, AttackersAreSingle, AttacksAreAsSaid, AttacksAreShown, BackersAgainstAreGiven, BackersAreGiven, BoardsHaveSituations, CarriersMatch, CirclesAreNamed, CirclesMove, CountedAgainstAreAsSaid, CountedAreAsSaid, CutSupportsAreCut, CuttersCut, EnterersEnter, ExplanationsAreLines, FailingMovesLack, FleetsAreAsSaid, GivenSupportsAreSpared, HoldCounts, JustDecisionsAreTold, KnotsAreNamed, KnotsBreak, LeftOutAgainstAreAsSaid, LeftOutAgainstArentGiven, LeftOutAreAsSaid, LeftOutArentGiven, LinesFollow, LinesGiveTheirSteps, LinesRestOnThoseAbove, LinesStandInOrder, LinesTellTheirMatters, MattersAreTold, MoveLinesAreSo, NoAttackHasAReason, NoOppositionHasAReason, NoPreventHasAReason, NoneIsToldTwice, OpponentsAreNamed, OpponentsAreSingle, OppositionCounts, OppositionIsAsSaid, OppositionIsShown, PathLinesAreSo, PreventCounts, PreventersAreNamed, PreventersAreSingle, RivalsAreAsSaid, RivalsAreShown, RoutesAreThere, ServersServe, StrandedHaveNoRoute, SucceedingMovesExceed, SupportLinesAreSo, SupportersAreParted, SupportersArePartedAgainst, ToldMovesGoSomewhere, UnbeatenPrevent, ValuesComplete, VerdictsAreAsTold};
+ghost use Rattle.dip_explain_laws.specs.Laws.{AttackCounts, AttackersAreNamed, AttackersAreSingle, AttacksAreAsSaid, AttacksAreShown, BackersAgainstAreGiven, BackersAreGiven, BoardsHaveSituations, CarriersMatch, CirclesAreNamed, CirclesMove, CountedAgainstAreAsSaid, CountedAreAsSaid, CutSupportsAreCut, CuttersCut, ExplanationsAreLines, FailingMovesLack, FleetsAreAsSaid, GivenSupportsAreSpared, HoldCounts, JustDecisionsAreTold, KnotsAreNamed, KnotsBreak, LeftOutAgainstAreAsSaid, LeftOutAgainstArentGiven, LeftOutAreAsSaid, LeftOutArentGiven, LinesFollow, LinesGiveTheirSteps, LinesRestOnThoseAbove, LinesStandInOrder, LinesTellTheirMatters, MattersAreTold, MoveLinesAreSo, NamedFleetsCarry, NoAttackHasAReason, NoOppositionHasAReason, NoPreventHasAReason, NoneIsToldTwice, OpponentsAreNamed, OpponentsAreSingle, OppositionCounts, OppositionIsAsSaid, OppositionIsShown, PathLinesAreSo, PreventCounts, PreventersAreNamed, PreventersAreSingle, RivalsAreAsSaid, RivalsAreShown, RoutesAreThere, StrandedHaveNoRoute, SucceedingMovesExceed, SupportLinesAreSo, SupportersAreParted, SupportersArePartedAgainst, ToldMovesGoSomewhere, UnbeatenPrevent, ValuesComplete, VerdictsAreAsTold};
 
 use dip_decide::{boards_are_situations, orders_are_meant};
 
@@ -27,8 +27,8 @@ pub fn each_unit_is_counted_once()
     ensures opponents { OpponentsAreSingle }
 {}
 
-/// Each number of a line stands before the text of the units that make it up; where it is 0 the text tells why, and that is so. A law: it
-/// does nothing.
+/// Each number of a line stands before the text of the units that make it up; where it is 0 the line tells why, and that came out so. A
+/// law: it does nothing.
 pub fn numbers_stand_before_their_units()
     ensures attack { AttacksAreShown }
     ensures opposition { OppositionIsShown }
@@ -106,21 +106,20 @@ pub fn numbers_decide_moves()
 {}
 
 /// A support that is told to be cut is cut by those named, and there is one; one that is told to be given is spared by each move to the
-/// supporter, for the reason told. A law: it does nothing.
+/// supporter. Either is for the reason told, which came out so. A law: it does nothing.
 pub fn supports_are_cut_by_those_named()
     ensures cut { CutSupportsAreCut }
     ensures cutters { CuttersCut }
     ensures given { GivenSupportsAreSpared }
 {}
 
-/// A move that is told to have a route has one by fleets that are named; one that is told to have none has none, and what is said of the
-/// fleets that are to carry it is so. A law: it does nothing.
+/// A move that is told to have a route has one by fleets that are named, none of which was dislodged; one that is told to have none has
+/// none, and what is said of the fleets that are to carry it came out so. A law: it does nothing.
 pub fn routes_are_of_the_fleets_named()
     ensures there { RoutesAreThere }
     ensures none { StrandedHaveNoRoute }
-    ensures servers { ServersServe }
+    ensures named { NamedFleetsCarry }
     ensures carriers { CarriersMatch }
-    ensures enterers { EnterersEnter }
     ensures fleets { FleetsAreAsSaid }
 {}
 

@@ -1,6 +1,6 @@
 use Rattle.std.proofs.Common.{refl}
 use Rattle.dip_explain.specs.Movement.{attack_text, opposition_text, opposition_word, prevent_text}
-use Rattle.dip_explain_laws.proofs.ReasonLemmas as reason
+use Rattle.dip_explain_laws.proofs.VerdictLemmas.{no_attack_told, no_opposition_told, no_prevent_told}
 use Rattle.dip_explain_laws.proofs.laws.numbers_stand_before_their_units.Goals as goal
 
 pub returns-clause-attack : goal.returns-clause-attack
@@ -16,10 +16,10 @@ unfolding prevent_text
 returns-clause-prevent c line q w = refl
 
 pub returns-clause-no_attack : goal.returns-clause-no_attack
-returns-clause-no_attack c line p q none = reason.no_attack line p q none
+returns-clause-no_attack c steps a line p q t o none = no_attack_told steps a line t p q o none
 
 pub returns-clause-no_opposition : goal.returns-clause-no_opposition
-returns-clause-no_opposition c line p q none = reason.no_opposition line p q none
+returns-clause-no_opposition c steps a line p q t o y none = no_opposition_told steps a line t p q o y none
 
 pub returns-clause-no_prevent : goal.returns-clause-no_prevent
-returns-clause-no_prevent c line q w none = reason.no_prevent line q w none
+returns-clause-no_prevent c steps a line p q w t o y r none = no_prevent_told steps a line t p q o w y r none

@@ -18,7 +18,7 @@ use Rattle.dip_decide_rules.specs.Steps.{step_of, steps_of}
 use Rattle.dip_explain.specs.Matters.{Matter, code, here, joined, joined_or, order_in, unit_in}
 use Rattle.dip_explain.specs.Movement.{attack_strength, attack_text, attackers_text, carriers, comparison_text, cutters, cutting_text, decision_text, explanation, fleet_text, known_after, knot_text, lack_against_text, lack_text, lines_from, movers, opponents_text, opposition_strength, opposition_text, prevent_strength, prevent_text, preventers_text, rivals, servers, sparing_text, step_line, unbeaten}
 use Rattle.dip_explain.specs.Strengths.{attackers, backers, backers_against, holders, left_out, left_out_against, opponents, preventers}
-use Rattle.dip_explain_laws.specs.Words.{AttackedByNone, Cuts, Exceeds, FallsShort, HasRoute, IsCounted, IsFleetSaid, IsLeftOut, IsLeftOutAgainst, IsLine, IsOfMove, IsOfPath, IsSaid, IsTold, IsVerdict, NamesJust, OpposedByNone, PreventedByNone, Spares, known_along, matter_at, named, ordered, told_in}
+use Rattle.dip_explain_laws.specs.Words.{AttackedByNone, Cuts, Exceeds, FallsShort, HasRoute, IsCounted, IsFleetSaid, IsLeftOut, IsLeftOutAgainst, IsLine, IsOfMove, IsOfPath, IsSaid, IsTold, IsVerdict, OpposedByNone, PreventedByNone, Spares, attack_lack, known_along, matter_at, missing_attackers, missing_opponents, named, named_text, ordered, told_in}
 
 -- the laws below that are of situations are of each board with an order for each unit
 abbrev pub BoardsHaveSituations : Type 0
@@ -94,23 +94,23 @@ NoPreventHasAReason =
     (steps : List Step) (a : Assignment) (c : Matter) (p q w : ℕ) → IsTold steps a c → IsOfMove c p q → a (Move p) ≡ true
     → is_listed (rivals c.situation p q) w ≡ true → prevent c.situation (here c) w q ≡ 0 → PreventedByNone c a q w
 
--- where an attack isn't 0, the text names just the units that attack
+-- where an attack isn't 0, the text names just the units that attack, and who is left out
 abbrev pub AttackersAreNamed : Type 0
 AttackersAreNamed =
     (c : Matter) (p q : ℕ) → 1 ≤ attack c.situation (here c) p q
-    → NamesJust c (attackers c.situation (here c) p q) (attackers_text c p q)
+    → attackers_text c p q ≡ named_text c (attackers c.situation (here c) p q) (missing_attackers c p q) (attack_lack c p q)
 
 -- and so of the units that set themselves against a move in its destination
 abbrev pub OpponentsAreNamed : Type 0
 OpponentsAreNamed =
     (c : Matter) (p q : ℕ) → 1 ≤ opposition c.situation (here c) p q
-    → NamesJust c (opponents c.situation (here c) p q) (opponents_text c p q)
+    → opponents_text c p q ≡ named_text c (opponents c.situation (here c) p q) (missing_opponents c p q) (lack_text c)
 
 -- and of the units that prevent other moves
 abbrev pub PreventersAreNamed : Type 0
 PreventersAreNamed =
     (c : Matter) (q w : ℕ) → 1 ≤ prevent c.situation (here c) w q
-    → NamesJust c (preventers c.situation (here c) w q) (preventers_text c q w)
+    → preventers_text c q w ≡ named_text c (preventers c.situation (here c) w q) (left_out c.situation (here c) w) (lack_text c)
 
 -- whose supports of a unit count: just those that match and are given
 abbrev pub BackersAreGiven : Type 0
@@ -280,8 +280,8 @@ SucceedingMovesExceed =
     → a (Move p) ≡ true → Exceeds c p q
 
 -- where it is told to fail, its attack doesn't exceed what is in the destination, or there is another move that it doesn't exceed
-abbrev pub FailingMovesLack : Type 0
-FailingMovesLack =
+abbrev pub FailingMovesFallShort : Type 0
+FailingMovesFallShort =
     (steps : List Step) (a : Assignment) (c : Matter) (p q : ℕ) → IsTold steps a c → IsOfMove c p q
     → a (Move p) ≡ false → FallsShort c p q
 

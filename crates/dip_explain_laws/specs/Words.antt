@@ -1,5 +1,5 @@
 -- What the laws of explained movements speak of: the units that a text names, the decisions that lines tell, and what a line rests on.
-use Rattle.std.specs.Prelude.{◌≡◌, ℕ, ◌<◌, ◌≤◌, ◌⊎◌, ◌++◌, Bool, true, false, not, List, [], ◌∷◌, Some, None, codes, flat_map}
+use Rattle.std.specs.Prelude.{◌≡◌, ℕ, ◌<◌, ◌≤◌, ◌⊎◌, ◌||◌, ◌++◌, if◌then◌else◌, Bool, true, false, not, List, [], ◌∷◌, Some, None, codes, flat_map}
 use Rattle.std.specs.Fmt.{decimal}
 use Rattle.dip_map.specs.Charts.{Chart}
 use Rattle.dip_orders.specs.declared.placed.PlacedOrder.{PlacedOrder}
@@ -9,26 +9,31 @@ use Rattle.dip_decide_rules.specs.declared.decisions.Step.{Step}
 use Rattle.dip_decide_rules.specs.declared.decisions.Step.TheVariants.{Forced, Circle, Knot}
 use Rattle.dip_decide_rules.specs.Deciding.{Assignment, IsCompletion, Known}
 use Rattle.dip_decide_rules.specs.Laws.{IsChain}
-use Rattle.dip_decide_rules.specs.Movement.{Situation, at_first, attack, goes, has_path, head_to_head, is_at, is_decided, is_listed, opposition, prevent, rule}
+use Rattle.dip_decide_rules.specs.Movement.{Situation, at_first, attack, goes, has_move, has_path, head_to_head, is_at, is_decided, is_listed, opposition, prevent, rule}
 use Rattle.dip_decide_rules.specs.Results.{AreExplained}
 use Rattle.dip_decide_rules.specs.Steps.{moves_of, paths_of, steps_of}
 use Rattle.dip_explain.specs.Matters.{Matter, here, joined, order_in, others, unit_in}
-use Rattle.dip_explain.specs.Movement.{attackers_text, backer_text, coming_text, comparison_text, cutting_text, enterers, fleet_text, known_after, opponents_text, opposition_text, own_power_text, prevent_text, preventers_text, rivals, servers, sparing_text, unbeaten}
+use Rattle.dip_explain.specs.Strengths.{is_free, left_out, left_out_against}
+use Rattle.dip_explain.specs.Movement.{attackers_text, backer_text, coming_text, comparison_text, cutting_text, enterers, fleet_text, known_after, lack_against_text, lack_text, opponents_text, opposition_text, own_power_text, prevent_text, preventers_text, rivals, servers, sparing_text, unbeaten}
 
--- these units, named: the first, and those that support it
-abbrev pub named_text : Matter → List ℕ → List ℕ
-named_text c [] = []
-named_text c (p ∷ hs) = codes " (" ++ unit_in c p ++ others (backer_text c) hs
+-- units named in a line: the first, those that support it, and who is left out, with the reason
+abbrev pub named_text : Matter → List ℕ → List ℕ → (ℕ → List ℕ) → List ℕ
+named_text c [] left reason = []
+named_text c (p ∷ hs) left reason =
+    codes " (" ++ unit_in c p ++ others (backer_text c) hs ++ flat_map (λ h. codes "; without " ++ unit_in c h ++ reason h) left ++ codes ")"
 
--- after the units that count the text ends, or tells of one that is left out
-abbrev pub IsEnd : List ℕ → Type 0
-IsEnd rest = (rest ≡ codes ")") ⊎ ((more : List ℕ) × (rest ≡ codes "; without " ++ more))
+-- who is left out of the attack from p to q, where the unit in q stays also for its power, and the reason
+abbrev pub missing_attackers : Matter → ℕ → ℕ → List ℕ
+missing_attackers c p q =
+    if is_free c.situation (here c) p q then left_out c.situation (here c) p else left_out_against c.situation (here c) p q
 
--- the units that the text names, before any that are left out, are just these
-pub record NamesJust (c : Matter) (ps text : List ℕ) : Type 0 where
-  pub rest : List ℕ
-  pub names : text ≡ named_text c ps ++ rest
-  pub ends : IsEnd rest
+abbrev pub attack_lack : Matter → ℕ → ℕ → ℕ → List ℕ
+attack_lack c p q h = if is_free c.situation (here c) p q then lack_text c h else lack_against_text c q h
+
+-- who is left out of what is in q: nobody where a unit is on its way and doesn't meet the move from p
+abbrev pub missing_opponents : Matter → ℕ → ℕ → List ℕ
+missing_opponents c p q =
+    if head_to_head c.situation p q || not (has_move c.situation q) then left_out c.situation (here c) q else []
 
 -- why nobody attacks q with p, as the line tells: the move has no route, or goes to a unit of its own power that comes the other way, or
 -- that stays there

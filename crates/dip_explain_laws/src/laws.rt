@@ -1,5 +1,5 @@
 //! Laws of explained movements, each the contract of a function that does nothing.
-ghost use Rattle.dip_explain_laws.specs.Laws.{AttackCounts, AttackersAreNamed, AttackersAreSingle, AttacksAreAsSaid, AttacksAreShown, BackersAgainstAreGiven, BackersAreGiven, BoardsHaveSituations, CarriersMatch, CirclesAreNamed, CirclesMove, CountedAgainstAreAsSaid, CountedAreAsSaid, CutSupportsAreCut, CuttersCut, ExplanationsAreLines, FailingMovesLack, FleetsAreAsSaid, GivenSupportsAreSpared, HoldCounts, JustDecisionsAreTold, KnotsAreNamed, KnotsBreak, LeftOutAgainstAreAsSaid, LeftOutAgainstArentGiven, LeftOutAreAsSaid, LeftOutArentGiven, LinesFollow, LinesGiveTheirSteps, LinesRestOnThoseAbove, LinesStandInOrder, LinesTellTheirMatters, MattersAreTold, MoveLinesAreSo, NamedFleetsCarry, NoAttackHasAReason, NoOppositionHasAReason, NoPreventHasAReason, NoneIsToldTwice, OpponentsAreNamed, OpponentsAreSingle, OppositionCounts, OppositionIsAsSaid, OppositionIsShown, PathLinesAreSo, PreventCounts, PreventersAreNamed, PreventersAreSingle, RivalsAreAsSaid, RivalsAreShown, RoutesAreThere, StrandedHaveNoRoute, SucceedingMovesExceed, SupportLinesAreSo, SupportersAreParted, SupportersArePartedAgainst, ToldMovesGoSomewhere, UnbeatenPrevent, ValuesComplete, VerdictsAreAsTold};
+ghost use Rattle.dip_explain_laws.specs.Laws.{AttackCounts, AttackersAreNamed, AttackersAreSingle, AttacksAreAsSaid, AttacksAreShown, BackersAgainstAreGiven, BackersAreGiven, BoardsHaveSituations, CarriersMatch, CirclesAreNamed, CirclesMove, CountedAgainstAreAsSaid, CountedAreAsSaid, CutSupportsAreCut, CuttersCut, ExplanationsAreLines, FailingMovesFallShort, FleetsAreAsSaid, GivenSupportsAreSpared, HoldCounts, JustDecisionsAreTold, KnotsAreNamed, KnotsBreak, LeftOutAgainstAreAsSaid, LeftOutAgainstArentGiven, LeftOutAreAsSaid, LeftOutArentGiven, LinesFollow, LinesGiveTheirSteps, LinesRestOnThoseAbove, LinesStandInOrder, LinesTellTheirMatters, MattersAreTold, MoveLinesAreSo, NamedFleetsCarry, NoAttackHasAReason, NoOppositionHasAReason, NoPreventHasAReason, NoneIsToldTwice, OpponentsAreNamed, OpponentsAreSingle, OppositionCounts, OppositionIsAsSaid, OppositionIsShown, PathLinesAreSo, PreventCounts, PreventersAreNamed, PreventersAreSingle, RivalsAreAsSaid, RivalsAreShown, RoutesAreThere, StrandedHaveNoRoute, SucceedingMovesExceed, SupportLinesAreSo, SupportersAreParted, SupportersArePartedAgainst, ToldMovesGoSomewhere, UnbeatenPrevent, ValuesComplete, VerdictsAreAsTold};
 
 use dip_decide::{boards_are_situations, orders_are_meant};
 
@@ -38,8 +38,8 @@ pub fn numbers_stand_before_their_units()
     ensures no_prevent { NoPreventHasAReason }
 {}
 
-/// And just these units are named: where a strength isn't 0, the text after it names them, each once and in order, before it tells
-/// who is left out. A law: it does nothing.
+/// And just these units are named: where a strength isn't 0, the text after it names them, and then those that are left out, and nobody
+/// else. A law: it does nothing.
 pub fn names_are_of_the_units_counted()
     ensures attackers { AttackersAreNamed }
     ensures opponents { OpponentsAreNamed }
@@ -101,7 +101,7 @@ pub fn lines_say_what_came_out()
 pub fn numbers_decide_moves()
     ensures goes { ToldMovesGoSomewhere }
     ensures succeeding { SucceedingMovesExceed }
-    ensures failing { FailingMovesLack }
+    ensures failing { FailingMovesFallShort }
     ensures unbeaten { UnbeatenPrevent }
 {}
 

@@ -22,11 +22,12 @@ named_text c [] left reason = []
 named_text c (p ∷ hs) left reason =
     codes " (" ++ unit_in c p ++ others (backer_text c) hs ++ flat_map (λ h. codes "; without " ++ unit_in c h ++ reason h) left ++ codes ")"
 
--- who is left out of the attack from p to q, where the unit in q stays also for its power, and the reason
+-- who is left out of the attack from p to q: where it meets the unit in q, also supporters of that unit's power
 abbrev pub missing_attackers : Matter → ℕ → ℕ → List ℕ
 missing_attackers c p q =
     if is_free c.situation (here c) p q then left_out c.situation (here c) p else left_out_against c.situation (here c) p q
 
+-- and why each of them is
 abbrev pub attack_lack : Matter → ℕ → ℕ → ℕ → List ℕ
 attack_lack c p q h = if is_free c.situation (here c) p q then lack_text c h else lack_against_text c q h
 

@@ -1,0 +1,12 @@
+pub mod ListLemmas
+pub mod StrengthLemmas
+pub mod NameLemmas
+pub mod ReasonLemmas
+pub mod LineLemmas
+pub mod SureLemmas
+pub mod MoveLemmas
+pub mod SupportLemmas
+pub mod RouteLemmas
+pub mod VerdictLemmas
+pub mod BoundLemmas
+pub mod SayingLemmas

@@ -292,14 +292,14 @@ paper_same m new board one two p same =
     same.phase (account_same m one.account two.account same.account)
     ∙ ap (λ (cs : List CentreLine). title p.papers two.phase ++ account_text m two.account ++ flat_map (centre_line m) cs ++ game_line m p ++ board_lines m p.board ++ codes "END\n") same.centres
 
--- where the paper that was made isn't the text, none of these orders is
-pub none_of_orders : PhasesHaveOneResult → (m : Chart) (p : Public) (tick : ℕ) (orders : List PlacedOrder) (text wanted : List ℕ) (board : Position) (report : Report)
-    → IsPlayed m p.board orders board report → wanted ≡ paper_text m report (public_played tick p board report.course) → text ≢ wanted
-    → (other : Position) (one : Report) → IsPlayed m p.board orders other one → text ≢ paper_text m one (public_played tick p other one.course)
-none_of_orders one_result m p tick orders text wanted board report played made differ other one h told =
+-- the paper that was made of these orders is that of whatever they come to
+pub one_of_orders : PhasesHaveOneResult → (m : Chart) (p : Public) (tick : ℕ) (orders : List PlacedOrder) (wanted : List ℕ) (board : Position) (report : Report)
+    → IsPlayed m p.board orders board report → wanted ≡ paper_text m report (public_played tick p board report.course)
+    → (other : Position) (one : Report) → IsPlayed m p.board orders other one → wanted ≡ paper_text m one (public_played tick p other one.course)
+one_of_orders one_result m p tick orders wanted board report played made other one h =
     let same : IsSame other board one report = one_result m p.board orders other board one report h played in
-    differ (told ∙ paper_same m other board one report (public_played tick p other one.course) same
-    ∙ ap₂ (λ (b : Position) (course : Course). paper_text m report (public_played tick p b course)) same.board same.course ∙ sym made)
+    made ∙ sym (paper_same m other board one report (public_played tick p other one.course) same
+    ∙ ap₂ (λ (b : Position) (course : Course). paper_text m report (public_played tick p b course)) same.board same.course)
 
 -- ---- a phase's paper begins with the phase's title, and comes where the game is due
 

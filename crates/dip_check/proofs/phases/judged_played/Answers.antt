@@ -6,7 +6,7 @@ use Rattle.dip_desk_state.specs.Rows as rows
 use Rattle.dip_turn.specs.Reports.{IsPlayed}
 use Rattle.dip_turn_papers.specs.Papers.{paper_text}
 use Rattle.dip_check.proofs.Coming.{judged_by_wanted, ok_weaker}
-use Rattle.dip_check.proofs.Judging.{none_of_orders}
+use Rattle.dip_check.proofs.Judging.{one_of_orders}
 use Rattle.dip_check.specs.Checks.{IsComparedPhase, IsJudgedBy}
 use Rattle.dip_check.proofs.phases.judged_played.Goals as goal
 
@@ -39,5 +39,5 @@ returns c =
       told = is ∙ told;
     })
     (subst (λ (q : Public). IsOf m q.board) (sym after) of)
-    (none_of_orders c.phases_have_one_result.ensures m p c.args.tick c.args.orders.now text wanted c.in-Ok.board c.in-Ok.report played (told ∙ ap (paper_text m c.in-Ok.report) after)))
+    (one_of_orders c.phases_have_one_result.ensures m p c.args.tick c.args.orders.now wanted c.in-Ok.board c.in-Ok.report played (told ∙ ap (paper_text m c.in-Ok.report) after)))
     c.compared_phase.ensures

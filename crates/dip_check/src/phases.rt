@@ -1,6 +1,6 @@
 //! The paper of a phase: its orders are read and played again, and its paper is made and compared.
 ghost use Rattle.std.specs.Prelude.{◌≡◌, ◌<◌, IfNone, IfOk, IfSome, true};
-ghost use Rattle.dip_check.specs.Checks.{IsComparedPhase, IsJudged, IsJudgedBy, IsJudgedNext};
+ghost use Rattle.dip_check.specs.Checks.{IsComparedPhase, IsJudged, IsJudgedBy, IsJudgedNext, IsToldWrong};
 ghost use Rattle.dip_check.specs.Games.{IsPhase, IsPhaseOf, IsTick};
 ghost use Rattle.dip_desk_machine.specs.Handing.{are_by_place};
 ghost use Rattle.dip_desk_machine.specs.Ticking.{is_due};
@@ -123,7 +123,7 @@ fn judged_phase(alloc: Global, map: &Map, before: &Public, text: &str) -> Result
 }
 
 /// What is said of a text that is to be the paper of the game's phase: it is right only where it is one, and wrong only where none has
-/// that text.
+/// that text. Where it prints orders that can be given, the line told is the first in which it differs from their paper at some tick.
 pub(crate) fn check_phase(
     alloc: Global,
     map: &Map,
@@ -133,8 +133,9 @@ pub(crate) fn check_phase(
     requires of_map { IsOf map.now before.now.board.value }
     requires room { before.now.papers < most_papers }
     requires due { is_due 999999999999 (rows.public before.now) ≡ true }
-    ensures { IfOk result (λ v. IsJudgedNext map.now (rows.public before.now) text.now
+    ensures judged { IfOk result (λ v. IsJudgedNext map.now (rows.public before.now) text.now
         (IsPhase map.now (rows.public before.now) text.now) v) }
+    ensures told { IfOk result (λ v. IsToldWrong map.now (rows.public before.now) text.now v) }
 {
     match judged_phase(alloc, map, before, text)? {
         Judged::Right(_report, after) => Ok(Verdict::Right(after)),

@@ -76,8 +76,8 @@ fn check_other(alloc: Global, map: &Map, before: &Public, text: &str) -> Result<
 ///
 /// It is right just where it is a paper that the rules give: of a phase that some orders that can be given leave, at a tick from the due
 /// one on; of a draw between survivors; or of a notice that a letter may ask for. Where there is such a paper with that text, it is right.
-/// Of a wrong text with the phase's title, in a game that may be due, the line told is the first in which it differs from the paper that
-/// the orders which it prints have at some tick, where they can be given.
+/// Of a wrong text with the phase's title, in a game that may be due, each paper that the orders which it prints may have, at whatever
+/// tick, differs from it in the line told or before it.
 ///
 /// # Errors
 /// Want of memory alone.

@@ -8,7 +8,6 @@ use Rattle.dip_orders.specs.Given.{AreGiven}
 use Rattle.dip_orders.specs.Laws.{LawfulOrdersAreRead, OrdersAreLawful, OrdersStandAlone, TextsAreReadAgain}
 use Rattle.dip_orders.specs.declared.placed.PlacedOrder.{PlacedOrder}
 use Rattle.dip_check.specs.Checks.{IsJudged, IsJudgedBy}
-use Rattle.dip_check.specs.Games.{IsTick}
 use Rattle.dip_check.specs.Printed.{IsPrinted, orders_printed_at}
 use Rattle.dip_check.specs.declared.printed.Printed.{Printed}
 use Rattle.dip_check.specs.declared.printed.Printed.TheVariants.{NoOrder, Orders}
@@ -43,19 +42,14 @@ returns-then-branch c =
     let m = c.args.map.now in
     let p : Public = rows.public c.args.before.now in
     let text : List ℕ = c.args.text.now in
-    let tick = c.tick_told-tick.result in
     let os : List PlacedOrder = c.as_slice-then-branch.result.now in
     let lies : c.deref.result.now ≡ c.args.before.now.board.value = search rules in
     let l = order_laws c.orders_are_read_again.ensures.again c.orders_are_read_again.ensures.alone c.orders_are_lawful.ensures c.lawful_orders_are_read.ensures in
     let some : orders_printed_at m p.board text p.board.phase.season ≡ Some c.in-Orders.orders.items =
     printed_on m text p.board c.deref.result.now c.in_ok-fault.field-0 (Orders c.in-Orders.orders) lies c.in-Orders.is c.in_ok-fault.ensures in
     let is : orders_printed_at m p.board text p.board.phase.season ≡ Some os = some ∙ ap (λ (xs : List PlacedOrder). Some xs) (sym c.as_slice-then-branch.ensures.value) in
-    let ticks : IsTick p tick = search rules in
-    ok_weaker (IsJudgedBy m p tick os text) (IsJudged m p text) c.judged_played.result
-    (λ j said. judged_weaker m p tick os text j said ticks is
-    (λ none new h. unplayed l m p text c.facts.ensures c.requires.of_map new h os tick is none
-    (λ t board report ticks same. c.tick_told-tick.ensures.told m t board report c.facts.ensures ticks same)))
-    c.judged_played.ensures
+    ok_weaker (IsJudgedBy m p os text) (IsJudged m p text) c.judged_played.result
+    (λ j said. judged_weaker m p os text j said is (λ fault told new h. unplayed l m p text c.facts.ensures c.requires.of_map new h os is told.none)) c.judged_played.ensures
 
 pub returns : goal.returns
 returns c =

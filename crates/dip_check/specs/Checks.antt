@@ -35,8 +35,8 @@ use Rattle.dip_check.specs.declared.verdict.Verdict.TheVariants.{Right, Wrong}
 abbrev pub paper_at : Chart → Public → ℕ → Position → Report → List ℕ
 paper_at m p tick board report = paper_text m report (public_played tick p board report.course)
 
--- a fault is told of a text beside all papers that orders have in a phase, at ticks from the due one on: the text is none of them, each
--- differs from it in the line told or before it, and those of one tick first there
+-- a fault is told of a text beside all papers that orders may have in a phase, at ticks from the due one on: the text is none of them,
+-- each differs from it in the line told or before it, and the one of some tick first in that line
 pub record IsToldOf (m : Chart) (p : Public) (orders : List PlacedOrder) (text : List ℕ) (fault : Fault) : Type 0 where
   pub none : (tick : ℕ) (board : Position) (report : Report) → IsTick p tick → IsPlayed m p.board orders board report
       → text ≢ paper_at m p tick board report
@@ -51,12 +51,12 @@ IsToldOfPhase m p text fault = (orders : List PlacedOrder) → orders_printed_at
     → AreGiven m p.board orders → are_by_place orders ≡ true → IsToldOf m p orders text fault
 
 -- a phase's text is right only where the phase brings this report, and leaves the game so, with a board of the map; and where it is wrong,
--- no paper of the phase has that text
+-- no paper of the phase has that text, and the fault is told beside the papers of the orders that it prints
 abbrev pub IsJudged : Chart → Public → List ℕ → Judged → Type 0
 IsJudged m p text (RightPhase report new) = IsNext m p text (rows.public new) × IsPhaseOf m p text report (rows.public new) × IsOf m new.board.value
 IsJudged m p text (WrongPhase fault) = ((new : Public) → IsPhase m p text new → ⊥) × IsToldOfPhase m p text fault
 
--- the same of these orders
+-- the same of these orders: a wrong text's fault is told beside their papers
 abbrev pub IsJudgedBy : Chart → Public → List PlacedOrder → List ℕ → Judged → Type 0
 IsJudgedBy m p orders text (RightPhase report new) = IsNext m p text (rows.public new) × IsPhaseOf m p text report (rows.public new) × IsOf m new.board.value
 IsJudgedBy m p orders text (WrongPhase fault) = IsToldOf m p orders text fault

@@ -1,39 +1,56 @@
 -- What is right by what its text was compared with.
-use Rattle.std.proofs.Common.{◌≡◌, ◌≢◌, ◌<◌, ◌&&◌, inl, ℕ, Bool, true, false, List, Result, Ok, Err, IfOk, refl, sym, subst}
-use Rattle.dip_map.specs.Boards.{IsOf, Position}
+use Rattle.std.proofs.Common.{◌≡◌, ◌≢◌, ◌<◌, ◌&&◌, ◌∙◌, inl, ℕ, Bool, true, false, List, None, Some, Result, Ok, Err, IfOk, ap, refl, sym, subst}
+use Rattle.std.proofs.lemmas.Bool.{false≢true}
+use Rattle.dip_map.specs.Boards.{IsOf}
 use Rattle.dip_map.specs.Charts.{Chart}
 use Rattle.dip_desk_state.specs.Bounds.{most_papers}
 use Rattle.dip_desk_state.specs.Records.{Public}
 use Rattle.dip_desk_state.specs.Rows as rows
 use Rattle.dip_desk_state.specs.declared.records.Public.{Public as Row}
-use Rattle.dip_desk_machine.specs.Ticking.{public_played}
+use Rattle.dip_desk_machine.specs.Handing.{are_by_place}
+use Rattle.dip_orders.specs.Given.{AreGiven}
 use Rattle.dip_orders.specs.declared.placed.PlacedOrder.{PlacedOrder}
-use Rattle.dip_turn.specs.Reports.{IsPlayed}
 use Rattle.dip_turn.specs.declared.report.Report.{Report}
-use Rattle.dip_turn_papers.specs.Papers.{paper_text}
-use Rattle.dip_check.specs.Checks.{IsComparedPhase, IsJudged, IsJudgedBy}
+use Rattle.dip_check.specs.Checks.{IsComparedPhase, IsJudged, IsJudgedBy, IsToldOf, IsToldOfPhase}
 use Rattle.dip_check.specs.Games.{IsPhase, IsPhaseOf}
+use Rattle.dip_check.specs.Differing.{first_other}
+use Rattle.dip_check.specs.Printed.{orders_printed_at}
+use Rattle.dip_check.specs.declared.verdict.Fault.{Fault}
 use Rattle.dip_check.specs.declared.phases.Judged.{Judged}
 use Rattle.dip_check.specs.declared.phases.Judged.TheVariants.{Right as RightPhase, Wrong as WrongPhase}
 
 -- a phase's text where it is the wanted one of these orders
-pub judged_by_wanted : (m : Chart) (p : Public) (tick : ℕ) (orders : List PlacedOrder) (text wanted : List ℕ) (report : Report) (after : Row) (j : Judged) → IsComparedPhase text wanted report after j
+pub judged_by_wanted : (m : Chart) (p : Public) (orders : List PlacedOrder) (text wanted : List ℕ) (report : Report) (after : Row) (j : Judged) → IsComparedPhase text wanted report after j
     → p.papers < most_papers → (text ≡ wanted → IsPhaseOf m p text report (rows.public after)) → IsOf m after.board.value
-    → (text ≢ wanted → (board : Position) (one : Report) → IsPlayed m p.board orders board one → text ≢ paper_text m one (public_played tick p board one.course))
-    → IsJudgedBy m p tick orders text j
-judged_by_wanted m p tick orders text wanted report after (RightPhase told new) c room phase of none =
+    → ((fault : Fault) → text ≢ wanted → fault.line ≡ first_other text wanted → IsToldOf m p orders text fault) → IsJudgedBy m p orders text j
+judged_by_wanted m p orders text wanted report after (RightPhase told new) c room phase of wrong =
     let here : IsPhaseOf m p text told (rows.public new) =
     subst (λ (r : Report). IsPhaseOf m p text r (rows.public new)) (sym c.1) (subst (λ (q : Row). IsPhaseOf m p text report (rows.public q)) (sym c.2) (phase c.0)) in
     (record { room = room; kind = inl (record { report = told; brought = here }) }, here, subst (λ (q : Row). IsOf m q.board.value) (sym c.2) of)
-judged_by_wanted m p tick orders text wanted report after (WrongPhase fault) c room phase of none = none c
+judged_by_wanted m p orders text wanted report after (WrongPhase fault) c room phase of wrong = wrong fault c.0 c.1
 
 -- what is said of these orders is said of the phase, where none others could have the text
-pub judged_weaker : (m : Chart) (p : Public) (tick : ℕ) (orders : List PlacedOrder) (text : List ℕ) (j : Judged) → IsJudgedBy m p tick orders text j
-    → (((board : Position) (one : Report) → IsPlayed m p.board orders board one → text ≢ paper_text m one (public_played tick p board one.course))
-    → (new : Public) → IsPhase m p text new → ⊥)
-    → IsJudged m p text j
-judged_weaker m p tick orders text (RightPhase told new) h none = h
-judged_weaker m p tick orders text (WrongPhase fault) h none = none h
+pub judged_weaker : (m : Chart) (p : Public) (orders : List PlacedOrder) (text : List ℕ) (j : Judged) → IsJudgedBy m p orders text j
+    → orders_printed_at m p.board text p.board.phase.season ≡ Some orders → ((fault : Fault) → IsToldOf m p orders text fault → (new : Public) → IsPhase m p text new → ⊥) → IsJudged m p text j
+judged_weaker m p orders text (RightPhase told new) h is none = h
+judged_weaker m p orders text (WrongPhase fault) h is none = (
+  none fault h,
+  λ qs read given placed.
+      let some : Some orders ≡ Some qs = sym is ∙ read in
+      let same : orders ≡ qs = cc in
+      subst (λ (os : List PlacedOrder). IsToldOf m p os text fault) same h,
+)
+
+-- where a text prints no orders, or none that can be given, its fault may be any
+pub told_unread : (m : Chart) (p : Public) (text : List ℕ) (fault : Fault) → orders_printed_at m p.board text p.board.phase.season ≡ None → IsToldOfPhase m p text fault
+told_unread m p text fault none = λ qs read given placed. let bad : None ≡ Some qs = sym none ∙ read in absurd (cc)
+
+pub told_ungiven : (m : Chart) (p : Public) (text : List ℕ) (fault : Fault) (orders : List PlacedOrder) (r : Bool) → orders_printed_at m p.board text p.board.phase.season ≡ Some orders
+    → (AreGiven m p.board orders → are_by_place orders ≡ true → r ≡ true) → r ≡ false → IsToldOfPhase m p text fault
+told_ungiven m p text fault orders r is taken refused = λ qs read given placed.
+    let some : Some orders ≡ Some qs = sym is ∙ read in
+    let same : orders ≡ qs = cc in
+    absurd (false≢true (sym refused ∙ taken (subst (AreGiven m p.board) (sym same) given) (ap are_by_place same ∙ placed)))
 
 -- what holds of a value where there is one, and what follows from that
 pub ok_weaker : {A E : Type 0} (P Q : A → Type 0) (r : Result A E) → ((x : A) → P x → Q x) → IfOk r P → IfOk r Q

@@ -31,7 +31,7 @@ pub judged_where_wanted : (m : Chart) (p : Public) (text wanted : List ℕ) (aft
     → IsOf m after.board → IsJudgedNext m p text IsPaper v
 judged_where_wanted m p text wanted after IsPaper (Right new) c next only of =
     (subst (IsNext m p text) (sym c.1) (next c.0), subst (λ (q : Public). IsOf m q.board) (sym c.1) of)
-judged_where_wanted m p text wanted after IsPaper (Wrong fault) c next only of = λ new paper. c (only new paper)
+judged_where_wanted m p text wanted after IsPaper (Wrong fault) c next only of = λ new paper. c.0 (only new paper)
 
 -- a text that may come first where it is the wanted one, and each opening's text is the wanted one
 pub judged_first_where_wanted : (m : Chart) (text wanted : List ℕ) (after : Public) (v : Verdict) → IsCompared text wanted after v
@@ -39,7 +39,7 @@ pub judged_first_where_wanted : (m : Chart) (text wanted : List ℕ) (after : Pu
     → IsJudgedFirst m text v
 judged_first_where_wanted m text wanted after (Right new) c first only of =
     (subst (IsOpening m text) (sym c.1) (first c.0), subst (λ (q : Public). IsOf m q.board) (sym c.1) of)
-judged_first_where_wanted m text wanted after (Wrong fault) c first only of = λ new paper. c (only new paper)
+judged_first_where_wanted m text wanted after (Wrong fault) c first only of = λ new paper. c.0 (only new paper)
 
 -- where there are fewer papers, what is wrong is wrong
 pub judged_fewer : (m : Chart) (p : Public) (text : List ℕ) (Many Few : Public → Type 0) (v : Verdict) → ((new : Public) → Few new → Many new)

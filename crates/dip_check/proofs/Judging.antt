@@ -38,6 +38,7 @@ use Rattle.dip_turn_papers.specs.declared.lines.PaperLine.{PaperLine}
 use Rattle.dip_reports.specs.Texts.{board_lines, game_line}
 use Rattle.dip_desk_machine.specs.Handing.{are_by_place}
 use Rattle.dip_desk_machine.specs.Ticking.{is_due, is_running, public_played}
+use Rattle.dip_check.specs.Checks.{paper_at}
 use Rattle.dip_check.specs.Games.{IsPhase, IsTick}
 use Rattle.dip_check.specs.Laws.{order_printed}
 use Rattle.dip_check.specs.Placing.{placed_by, units_by_place}
@@ -260,15 +261,10 @@ module _ (l : OrderLaws) (m : Chart) (p : Public) (text : List ℕ) (laws : IsMa
   pub ungiven : (qs : List PlacedOrder) (r : Bool) → orders_printed_at m p.board text p.board.phase.season ≡ Some qs → (AreGiven m p.board qs → are_by_place qs ≡ true → r ≡ true) → r ≡ false → ⊥
   ungiven qs r is taken refused = let s = stand_for qs is in false≢true (sym refused ∙ taken s.given s.by_place)
 
-  pub unplayed : (qs : List PlacedOrder) (tick : ℕ) → orders_printed_at m p.board text p.board.phase.season ≡ Some qs
-      → ((board : Position) (report : Report) → IsPlayed m p.board qs board report → text ≢ paper_text m report (public_played tick p board report.course))
-      → ((t : ℕ) (board : Position) (report : Report) → IsTick p t → text ≡ paper_text m report (public_played t p board report.course) → public_played tick p board report.course ≡ public_played t p board report.course)
-      → ⊥
-  unplayed qs tick is none told =
-      let s = stand_for qs is in
-      let here : text ≡ paper_text m h.report (public_played h.brought.tick p h.brought.board h.report.course) = h.brought.told ∙ ap (paper_text m h.report) h.brought.after in
-      none h.brought.board h.report (s.alike h.brought.board h.report h.brought.played)
-      (here ∙ ap (paper_text m h.report) (sym (told h.brought.tick h.brought.board h.report h.brought.ticks here)))
+  pub unplayed : (qs : List PlacedOrder) → orders_printed_at m p.board text p.board.phase.season ≡ Some qs
+      → ((tick : ℕ) (board : Position) (report : Report) → IsTick p tick → IsPlayed m p.board qs board report → text ≢ paper_at m p tick board report) → ⊥
+  unplayed qs is none =
+      none h.brought.tick h.brought.board h.report h.brought.ticks ((stand_for qs is).alike h.brought.board h.report h.brought.played) (h.brought.told ∙ ap (paper_text m h.report) h.brought.after)
 
 -- ---- two reports of a phase with the same orders have one paper
 
@@ -292,14 +288,14 @@ paper_same m new board one two p same =
     same.phase (account_same m one.account two.account same.account)
     ∙ ap (λ (cs : List CentreLine). title p.papers two.phase ++ account_text m two.account ++ flat_map (centre_line m) cs ++ game_line m p ++ board_lines m p.board ++ codes "END\n") same.centres
 
--- where the paper that was made isn't the text, none of these orders is
-pub none_of_orders : PhasesHaveOneResult → (m : Chart) (p : Public) (tick : ℕ) (orders : List PlacedOrder) (text wanted : List ℕ) (board : Position) (report : Report)
-    → IsPlayed m p.board orders board report → wanted ≡ paper_text m report (public_played tick p board report.course) → text ≢ wanted
-    → (other : Position) (one : Report) → IsPlayed m p.board orders other one → text ≢ paper_text m one (public_played tick p other one.course)
-none_of_orders one_result m p tick orders text wanted board report played made differ other one h told =
+-- the paper that was made of these orders is that of whatever they come to
+pub one_of_orders : PhasesHaveOneResult → (m : Chart) (p : Public) (tick : ℕ) (orders : List PlacedOrder) (wanted : List ℕ) (board : Position) (report : Report)
+    → IsPlayed m p.board orders board report → wanted ≡ paper_text m report (public_played tick p board report.course)
+    → (other : Position) (one : Report) → IsPlayed m p.board orders other one → wanted ≡ paper_text m one (public_played tick p other one.course)
+one_of_orders one_result m p tick orders wanted board report played made other one h =
     let same : IsSame other board one report = one_result m p.board orders other board one report h played in
-    differ (told ∙ paper_same m other board one report (public_played tick p other one.course) same
-    ∙ ap₂ (λ (b : Position) (course : Course). paper_text m report (public_played tick p b course)) same.board same.course ∙ sym made)
+    made ∙ sym (paper_same m other board one report (public_played tick p other one.course) same
+    ∙ ap₂ (λ (b : Position) (course : Course). paper_text m report (public_played tick p b course)) same.board same.course)
 
 -- ---- a phase's paper begins with the phase's title, and comes where the game is due
 
@@ -314,6 +310,16 @@ low a b h = grind (arith, nat_tests)
 
 tested : (a b : ℕ) → a ≤ b → nat_le a b ≡ true
 tested a b h = grind (arith, nat_tests)
+
+pub tick_low : (p : Public) (tick : ℕ) → IsTick p tick → p.due ≤ tick
+tick_low p tick ticks = low p.due tick (and_parts (is_running p.status) (nat_le p.due tick) ticks.due).1
+
+-- a tick from the due one on, of a game that may be due
+pub later_tick : (p : Public) (tick : ℕ) → is_due 999999999999 p ≡ true → p.due ≤ tick → tick ≤ 999999999999 → IsTick p tick
+later_tick p tick due low timely = record {
+  timely = timely;
+  due = and_from (is_running p.status) (nat_le p.due tick) (and_parts (is_running p.status) (nat_le p.due 999999999999) due).0 (tested p.due tick low);
+}
 
 -- a tick that a letter may name is no later than the last
 pub tick_due : (p : Public) (tick : ℕ) → IsTick p tick → is_due 999999999999 p ≡ true

@@ -27,4 +27,6 @@ pub mod DifferenceLemmas
 pub mod Judged
 pub mod KindsApart
 pub mod OneAnswer
+pub mod ToldLines
+pub mod ToldPapers
 pub mod Chains

@@ -42,7 +42,7 @@ no_mark mark [] t lacks = lacks.0 refl
 no_mark mark (x ∷ a) t lacks = no_mark mark a t lacks.1
 
 -- after a cut at the first mark, what is after the last one is all, or is after a mark again
-next_mark : (mark : ℕ) (a rest h tail : List ℕ) → Lacks mark a → a ++ mark ∷ rest ≡ h ++ mark ∷ tail → (rest ≡ tail) ⊎ ((k : List ℕ) × (rest ≡ k ++ mark ∷ tail))
+pub next_mark : (mark : ℕ) (a rest h tail : List ℕ) → Lacks mark a → a ++ mark ∷ rest ≡ h ++ mark ∷ tail → (rest ≡ tail) ⊎ ((k : List ℕ) × (rest ≡ k ++ mark ∷ tail))
 next_mark mark [] rest [] tail lacks same = inl (cc)
 next_mark mark [] rest (x ∷ h) tail lacks same = inr (h, cc)
 next_mark mark (y ∷ a) rest [] tail lacks same = let first : y ≡ mark = cc in absurd (lacks.0 first)
@@ -72,7 +72,7 @@ uncut mark (b ∷ bs) e = go (b == mark) refl (λ h. uncut mark bs h) e
     go true is ih e = cc
     go false is ih e = ((λ same. eqb-false b mark is same), ih (nothing _ (cut_at mark bs) e))
 
-some_cut : (mark : ℕ) (h t : List ℕ) → cut_at mark (h ++ mark ∷ t) ≡ None → ⊥
+pub some_cut : (mark : ℕ) (h t : List ℕ) → cut_at mark (h ++ mark ∷ t) ≡ None → ⊥
 some_cut mark h t none = by (cut_at mark (h ++ mark ∷ t)) refl none
   where
     by : (o : Option (List ℕ × List ℕ)) → cut_at mark (h ++ mark ∷ t) ≡ o → o ≡ None → ⊥

@@ -76,7 +76,7 @@ module _ (m : Chart) (laws : IsMap m) where
       (append_cancel_left (codes "E ") (decimal a.due ++ 32 ∷ due_tail m a) (decimal c.due ++ 32 ∷ due_tail m c) ends)
 
 -- two ticks leave one public part, where they are one or the game is over
-same_part : (p : Public) (t k : ℕ) (board : Position) (course : Course) → (course ≡ GoesOn → t ≡ k) → public_played t p board course ≡ public_played k p board course
+pub same_part : (p : Public) (t k : ℕ) (board : Position) (course : Course) → (course ≡ GoesOn → t ≡ k) → public_played t p board course ≡ public_played k p board course
 same_part p t k board GoesOn same = ap (λ (n : ℕ). public_played n p board GoesOn) (same refl)
 same_part p t k board (WonBy power) same = refl
 same_part p t k board AtAnEnd same = refl

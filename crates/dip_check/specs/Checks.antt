@@ -1,5 +1,5 @@
 -- What is said of a text that is to come next in a game.
-use Rattle.std.specs.Prelude.{◌≡◌, ◌≢◌, ◌≤◌, ◌-◌, ◌⊎◌, ℕ, List, [], length, take, false, true}
+use Rattle.std.specs.Prelude.{◌≡◌, ◌≢◌, ◌≤◌, ◌-◌, ◌⊎◌, ℕ, List, [], Some, length, take, false, true}
 use Rattle.std.specs.List.{AllByRecursion}
 use Rattle.dip_letters.specs.Letters.{FitsNotice, FitsText}
 use Rattle.dip_letters.specs.Notes.{NoticeRequest}
@@ -7,46 +7,74 @@ use Rattle.dip_letters.specs.Notes.NoticeRequest.{Announce}
 use Rattle.dip_map.specs.Boards.{IsOf, Position}
 use Rattle.dip_map.specs.Charts.{Chart}
 use Rattle.dip_desk_machine.specs.Drawing.{survives}
+use Rattle.dip_desk_machine.specs.Handing.{are_by_place}
 use Rattle.dip_desk_machine.specs.Ticking.{public_played}
 use Rattle.dip_desk_machine.specs.Noting.{is_announcement, public_noted}
 use Rattle.dip_reports.specs.Texts.{notice_paper}
 use Rattle.dip_desk_state.specs.Records.{For, Public}
 use Rattle.dip_desk_state.specs.declared.records.Public.{Public as Row}
+use Rattle.dip_orders.specs.Given.{AreGiven}
 use Rattle.dip_orders.specs.declared.placed.PlacedOrder.{PlacedOrder}
 use Rattle.dip_turn.specs.Reports.{IsPlayed}
 use Rattle.dip_turn.specs.declared.report.Report.{Report}
 use Rattle.dip_turn_papers.specs.Papers.{paper_text}
 use Rattle.dip_desk_state.specs.Rows as rows
 use Rattle.dip_desk_state.specs.Writable.{IsVoteOf}
-use Rattle.dip_check.specs.Games.{IsNext, IsOpening, IsPhase, IsPhaseOf}
+use Rattle.dip_check.specs.Games.{IsNext, IsOpening, IsPhase, IsPhaseOf, IsTick}
 use Rattle.dip_check.specs.declared.phases.Judged.{Judged}
 use Rattle.dip_check.specs.declared.phases.Judged.TheVariants.{Right as RightPhase, Wrong as WrongPhase}
+use Rattle.dip_check.specs.Differing.{first_other}
+use Rattle.dip_check.specs.Printed.{orders_printed_at}
+use Rattle.dip_check.specs.declared.verdict.Fault.{Fault}
 use Rattle.dip_check.specs.declared.verdict.Papers.{Papers}
 use Rattle.dip_check.specs.declared.verdict.Papers.TheVariants.{None as NoPapers, Right as RightPapers, Wrong as WrongPaper}
 use Rattle.dip_check.specs.declared.verdict.Verdict.{Verdict}
 use Rattle.dip_check.specs.declared.verdict.Verdict.TheVariants.{Right, Wrong}
 
+-- the paper of a phase that was played at this tick, and brought this
+abbrev pub paper_at : Chart → Public → ℕ → Position → Report → List ℕ
+paper_at m p tick board report = paper_text m report (public_played tick p board report.course)
+
+-- a fault is told of a text beside all papers that orders may have in a phase, at ticks from the due one on: the text is none of them,
+-- each differs from it in the line told or before it, and the one of some tick first in that line
+pub record IsToldOf (m : Chart) (p : Public) (orders : List PlacedOrder) (text : List ℕ) (fault : Fault) : Type 0 where
+  pub none : (tick : ℕ) (board : Position) (report : Report) → IsTick p tick → IsPlayed m p.board orders board report
+      → text ≢ paper_at m p tick board report
+  pub furthest : (tick : ℕ) (board : Position) (report : Report) → IsTick p tick → IsPlayed m p.board orders board report
+      → first_other text (paper_at m p tick board report) ≤ fault.line
+  pub first : (tick : ℕ) × IsTick p tick × ((board : Position) (report : Report) → IsPlayed m p.board orders board report
+      → fault.line ≡ first_other text (paper_at m p tick board report))
+
+-- where a text prints orders that can be given in the phase, the fault is told beside their papers
+abbrev pub IsToldOfPhase : Chart → Public → List ℕ → Fault → Type 0
+IsToldOfPhase m p text fault = (orders : List PlacedOrder) → orders_printed_at m p.board text p.board.phase.season ≡ Some orders
+    → AreGiven m p.board orders → are_by_place orders ≡ true → IsToldOf m p orders text fault
+
 -- a phase's text is right only where the phase brings this report, and leaves the game so, with a board of the map; and where it is wrong,
--- no paper of the phase has that text
+-- no paper of the phase has that text, and the fault is told beside the papers of the orders that it prints
 abbrev pub IsJudged : Chart → Public → List ℕ → Judged → Type 0
 IsJudged m p text (RightPhase report new) = IsNext m p text (rows.public new) × IsPhaseOf m p text report (rows.public new) × IsOf m new.board.value
-IsJudged m p text (WrongPhase fault) = (new : Public) → IsPhase m p text new → ⊥
+IsJudged m p text (WrongPhase fault) = ((new : Public) → IsPhase m p text new → ⊥) × IsToldOfPhase m p text fault
 
--- the same of these orders, played at this tick
-abbrev pub IsJudgedBy : Chart → Public → ℕ → List PlacedOrder → List ℕ → Judged → Type 0
-IsJudgedBy m p tick orders text (RightPhase report new) = IsNext m p text (rows.public new) × IsPhaseOf m p text report (rows.public new) × IsOf m new.board.value
-IsJudgedBy m p tick orders text (WrongPhase fault) =
-    (board : Position) (report : Report) → IsPlayed m p.board orders board report → text ≢ paper_text m report (public_played tick p board report.course)
+-- the same of these orders: a wrong text's fault is told beside their papers
+abbrev pub IsJudgedBy : Chart → Public → List PlacedOrder → List ℕ → Judged → Type 0
+IsJudgedBy m p orders text (RightPhase report new) = IsNext m p text (rows.public new) × IsPhaseOf m p text report (rows.public new) × IsOf m new.board.value
+IsJudgedBy m p orders text (WrongPhase fault) = IsToldOf m p orders text fault
 
--- a phase's text is right where it is the wanted one, of this report and this public part, and wrong where it isn't
+-- what is told of a wrong text of a phase
+abbrev pub IsToldWrong : Chart → Public → List ℕ → Verdict → Type 0
+IsToldWrong m p text (Right new) = Unit {0}
+IsToldWrong m p text (Wrong fault) = IsToldOfPhase m p text fault
+
+-- a phase's text is right where it is the wanted one, of this report and this public part, and else wrong where it first differs from it
 abbrev pub IsComparedPhase : (text wanted : List ℕ) → Report → Row → Judged → Type 0
 IsComparedPhase text wanted report after (RightPhase told new) = (text ≡ wanted) × (told ≡ report) × (new ≡ after)
-IsComparedPhase text wanted report after (WrongPhase fault) = text ≢ wanted
+IsComparedPhase text wanted report after (WrongPhase fault) = (text ≢ wanted) × (fault.line ≡ first_other text wanted)
 
--- a text is right where it is the wanted one, and leaves the game so; else it is wrong
+-- a text is right where it is the wanted one, and leaves the game so; else it is wrong where it first differs from it
 abbrev pub IsCompared : (text wanted : List ℕ) → Public → Verdict → Type 0
 IsCompared text wanted after (Right new) = (text ≡ wanted) × (rows.public new ≡ after)
-IsCompared text wanted after (Wrong fault) = text ≢ wanted
+IsCompared text wanted after (Wrong fault) = (text ≢ wanted) × (fault.line ≡ first_other text wanted)
 
 -- a text is right only where it may come next, and leaves the game so, with a board of the map; it is wrong only where there is no
 -- paper of these with that text

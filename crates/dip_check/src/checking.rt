@@ -1,14 +1,12 @@
 //! A text that is to come next in a game.
 ghost use Rattle.std.specs.Prelude.{◌≡◌, ◌<◌, ◌+◌, ◌⊎◌, IfOk, true};
-ghost use Rattle.dip_check.specs.Checks.{IsJudgedNext, IsJudgedPaper};
-ghost use Rattle.dip_check.specs.Games.{IsDraw, IsNotice, IsPhase};
+ghost use Rattle.dip_check.specs.Checks.{IsJudgedNext, IsJudgedPaper, IsToldWrong};
+ghost use Rattle.dip_check.specs.Games.{IsDraw, IsNotice};
 ghost use Rattle.dip_check.specs.Printed.{first_line_of, title_words};
 ghost use Rattle.dip_desk_machine.specs.Ticking.{is_due};
 ghost use Rattle.dip_desk_state.specs.Bounds.{most_papers};
-ghost use Rattle.dip_desk_state.specs.Records as records;
 ghost use Rattle.dip_desk_state.specs.Rows as rows;
 ghost use Rattle.dip_map.specs.Boards.{IsOf};
-ghost use Rattle.dip_map.specs.Charts.{Chart};
 
 use crate::differences::{fault_at, other_line};
 use crate::drawing::check_draw;
@@ -25,8 +23,8 @@ use std::alloc::{AllocError, Global};
 fn has_phase_title(alloc: Global, before: &Public, text: &str) -> Result<bool, AllocError>
     ensures title { IfOk result (λ r. r ≡ true → (first_line_of text.now).0
         ≡ title_words (before.now.papers + 1) before.now.board.value.phase) }
-    ensures phases { IfOk result (λ r. (m : Chart) (new : records.Public)
-        → IsPhase m (rows.public before.now) text.now new → r ≡ true) }
+    ensures titled { IfOk result (λ r. (first_line_of text.now).0
+        ≡ title_words (before.now.papers + 1) before.now.board.value.phase → r ≡ true) }
 {
     let wanted = phase_title(alloc, before)?;
     Ok(first_line(text) == wanted.as_str())
@@ -78,6 +76,8 @@ fn check_other(alloc: Global, map: &Map, before: &Public, text: &str) -> Result<
 ///
 /// It is right just where it is a paper that the rules give: of a phase that some orders that can be given leave, at a tick from the due
 /// one on; of a draw between survivors; or of a notice that a letter may ask for. Where there is such a paper with that text, it is right.
+/// Of a wrong text with the phase's title, in a game that may be due, each paper that the orders which it prints may have, at whatever
+/// tick, differs from it in the line told or before it.
 ///
 /// # Errors
 /// Want of memory alone.
@@ -88,7 +88,11 @@ pub fn check_paper(
     text: &str,
 ) -> Result<Verdict, AllocError>
     requires of_map { IsOf map.now before.now.board.value }
-    ensures { IfOk result (λ v. IsJudgedPaper map.now (rows.public before.now) text.now v) }
+    ensures judged { IfOk result (λ v. IsJudgedPaper map.now (rows.public before.now) text.now v) }
+    ensures told { IfOk result (λ v. before.now.papers < most_papers
+        → is_due 999999999999 (rows.public before.now) ≡ true → (first_line_of text.now).0
+        ≡ title_words (before.now.papers + 1) before.now.board.value.phase
+        → IsToldWrong map.now (rows.public before.now) text.now v) }
 {
     if MOST_PAPERS <= before.papers {
         let title = first_line(text);

@@ -1,8 +1,7 @@
 //! Where a text differs from the one that is wanted.
-ghost use Rattle.std.specs.Prelude.{◌≡◌, ◌+◌, IfOk, map as each};
+ghost use Rattle.std.specs.Prelude.{◌≡◌, IfOk, map as each};
 ghost use Rattle.dip_check.specs.Checks.{IsCompared};
-ghost use Rattle.dip_check.specs.Differing.{alike};
-ghost use Rattle.dip_check.specs.Parts.{lines_in};
+ghost use Rattle.dip_check.specs.Differing.{alike, first_other};
 ghost use Rattle.dip_desk_state.specs.Rows as rows;
 
 use crate::parts::lines_of;
@@ -53,7 +52,7 @@ fn lines_alike(lines: &[&str], others: &[&str]) -> usize
 
 /// The first line in which two texts differ: the one after those that are alike.
 pub(crate) fn first_difference(alloc: Global, text: &str, wanted: &str) -> Result<Fault, AllocError>
-    ensures { IfOk result (λ f. f.line ≡ alike (lines_in text.now) (lines_in wanted.now) + 1) }
+    ensures { IfOk result (λ f. f.line ≡ first_other text.now wanted.now) }
 {
     let lines = lines_of(alloc, text)?;
     let others = lines_of(alloc, wanted)?;

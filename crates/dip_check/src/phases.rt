@@ -1,8 +1,9 @@
 //! The paper of a phase: its orders are read and played again, and its paper is made and compared.
-ghost use Rattle.std.specs.Prelude.{◌≡◌, ◌<◌, IfNone, IfOk, IfSome, true};
-ghost use Rattle.dip_check.specs.Checks.{IsComparedPhase, IsJudged, IsJudgedBy, IsJudgedNext};
-ghost use Rattle.dip_check.specs.Games.{IsPhase, IsPhaseOf, IsTick};
+ghost use Rattle.std.specs.Prelude.{◌≡◌, ◌≤◌, ◌<◌, IfNone, IfOk, IfSome, string_bytes, true};
+ghost use Rattle.dip_check.specs.Checks.{IsComparedPhase, IsJudged, IsJudgedBy, IsJudgedNext, IsToldWrong, paper_at};
+ghost use Rattle.dip_check.specs.Games.{IsPhase, IsPhaseOf};
 ghost use Rattle.dip_desk_machine.specs.Handing.{are_by_place};
+ghost use Rattle.dip_desk_machine.specs.Ticking as played;
 ghost use Rattle.dip_desk_machine.specs.Ticking.{is_due};
 ghost use Rattle.dip_desk_state.specs.Bounds.{most_papers};
 ghost use Rattle.dip_desk_state.specs.Records as records;
@@ -17,7 +18,7 @@ use crate::ticks::tick_told;
 use crate::verdict::{Fault, Verdict, Wanted};
 use dip_desk_machine::{is_due, public_played};
 use dip_desk_state::{MOST_PAPERS, Public};
-use dip_map::Map;
+use dip_map::{Board, Map};
 use dip_orders::{PlacedOrder, lawful_orders_are_read, orders_are_lawful, orders_are_read_again};
 use dip_turn::{Report, advance, boards_stay_of_their_map, phases_have_one_result};
 use dip_turn_papers::paper_text;
@@ -66,22 +67,43 @@ fn compared_phase(
     Ok(Judged::Wrong(first_difference(alloc, text, wanted)?))
 }
 
-/// What is said of a text that is to be the paper of these orders.
-fn judged_played(
+/// The public part after a phase that was played at this tick and came to this board, and its paper.
+fn played_at(
     alloc: Global,
     map: &Map,
     before: &Public,
     tick: u64,
+    board: Board,
+    report: &Report,
+) -> Result<(Public, String), AllocError>
+    requires timely { tick ≤ 999999999999 }
+    requires room { before.now.papers < most_papers }
+    ensures after { IfOk result (λ r. rows.public r.0
+        ≡ played.public_played tick (rows.public before.now) board report.now.course) }
+    ensures paper { IfOk result (λ r. string_bytes r.1
+        ≡ paper_at map.now (rows.public before.now) tick board report.now) }
+{
+    let public = copied(alloc, before)?;
+    let after = public_played(alloc, tick, public, board, report.course)?;
+    let paper = paper_text(alloc, map, report, &after)?;
+    Ok((after, paper))
+}
+
+/// What is said of a text that is to be the paper of these orders. It is compared with their paper at the tick that it tells where their
+/// papers tell theirs, so that no other one is like it further.
+fn judged_played(
+    alloc: Global,
+    map: &Map,
+    before: &Public,
     orders: &[PlacedOrder],
     text: &str,
 ) -> Result<Judged, AllocError>
     requires of_map { IsOf map.now before.now.board.value }
     requires room { before.now.papers < most_papers }
-    requires ticks { IsTick (rows.public before.now) tick }
+    requires due { is_due 999999999999 (rows.public before.now) ≡ true }
     requires given { AreGiven map.now before.now.board.value orders.now }
     requires placed { are_by_place orders.now ≡ true }
-    ensures { IfOk result (λ j. IsJudgedBy map.now (rows.public before.now) tick orders.now
-        text.now j) }
+    ensures { IfOk result (λ j. IsJudgedBy map.now (rows.public before.now) orders.now text.now j) }
 {
     map.facts();
     boards_stay_of_their_map();
@@ -90,9 +112,10 @@ fn judged_played(
     match advance(alloc, map, board, orders) {
         Err((_, error)) => Err(error),
         Ok((board, report)) => {
-            let public = copied(alloc, before)?;
-            let after = public_played(alloc, tick, public, board, report.course)?;
-            let wanted = paper_text(alloc, map, &report, &after)?;
+            let again = board.copy(alloc)?;
+            let (_first, earliest) = played_at(alloc, map, before, before.due, again, &report)?;
+            let tick = tick_told(before, earliest.as_str(), text);
+            let (after, wanted) = played_at(alloc, map, before, tick, board, &report)?;
             compared_phase(alloc, text, wanted.as_str(), report, after)
         }
     }
@@ -109,12 +132,11 @@ fn judged_phase(alloc: Global, map: &Map, before: &Public, text: &str) -> Result
     orders_are_read_again();
     orders_are_lawful();
     lawful_orders_are_read();
-    let tick = tick_told(before, text);
     match orders_printed(alloc, map, &before.board, text)? {
         Printed::NoOrder(fault) => Ok(Judged::Wrong(fault)),
         Printed::Orders(orders) => {
             if are_given(alloc, map, &before.board, orders.as_slice())? {
-                judged_played(alloc, map, before, tick, orders.as_slice(), text)
+                judged_played(alloc, map, before, orders.as_slice(), text)
             } else {
                 Ok(Judged::Wrong(fault_at(alloc, 2, "", Wanted::AnOrder)?))
             }
@@ -123,7 +145,7 @@ fn judged_phase(alloc: Global, map: &Map, before: &Public, text: &str) -> Result
 }
 
 /// What is said of a text that is to be the paper of the game's phase: it is right only where it is one, and wrong only where none has
-/// that text.
+/// that text. Where it prints orders that can be given, each of their papers differs from it in the line told or before it.
 pub(crate) fn check_phase(
     alloc: Global,
     map: &Map,
@@ -133,8 +155,9 @@ pub(crate) fn check_phase(
     requires of_map { IsOf map.now before.now.board.value }
     requires room { before.now.papers < most_papers }
     requires due { is_due 999999999999 (rows.public before.now) ≡ true }
-    ensures { IfOk result (λ v. IsJudgedNext map.now (rows.public before.now) text.now
+    ensures judged { IfOk result (λ v. IsJudgedNext map.now (rows.public before.now) text.now
         (IsPhase map.now (rows.public before.now) text.now) v) }
+    ensures told { IfOk result (λ v. IsToldWrong map.now (rows.public before.now) text.now v) }
 {
     match judged_phase(alloc, map, before, text)? {
         Judged::Right(_report, after) => Ok(Verdict::Right(after)),

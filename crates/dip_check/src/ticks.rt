@@ -1,14 +1,8 @@
 //! The tick at which a phase was played, by the due tick that its paper prints.
-ghost use Rattle.std.specs.Prelude.{◌≡◌, ◌≤◌, ◌<◌, ◌+◌, ◌^◌, ◌++◌, ◌∷◌, ℕ, List, Some, codes, option_map};
+ghost use Rattle.std.specs.Prelude.{◌≡◌, ◌≤◌, ◌<◌, ◌+◌, ◌^◌, ◌++◌, ◌∷◌, [], ℕ, List, Some, codes, option_map};
 ghost use Rattle.std.specs.Fmt.{decimal};
-ghost use Rattle.dip_check.specs.Games.{IsTick};
-ghost use Rattle.dip_desk_machine.specs.Ticking.{public_played};
-ghost use Rattle.dip_desk_state.specs.Rows as rows;
 ghost use Rattle.dip_letters.specs.Lines.{Lacks, cut_at};
-ghost use Rattle.dip_map.specs.Boards.{Position};
-ghost use Rattle.dip_map.specs.Charts.{Chart, IsMap};
-ghost use Rattle.dip_turn.specs.declared.report.Report.{Report};
-ghost use Rattle.dip_turn_papers.specs.Papers.{paper_text};
+ghost use Rattle.dip_letters.specs.Reading.{after_name};
 
 use crate::lines::{after, word_of};
 use crate::phases::LAST_TICK;
@@ -21,26 +15,30 @@ fn at_u(text: &str) -> Option<(&str, &str)>
     text.split_once('U')
 }
 
-/// What is after the last U of a text; all where there is none.
-fn after_last_u(text: &str) -> &str
-    ensures { (head tail : List ℕ) → text.entry.now ≡ head ++ 85 ∷ tail → Lacks 85 tail
-        → result.now ≡ tail }
+/// What follows in a text where a paper has its last U; nothing where the text differs from the paper before it.
+fn after_last_u<'a>(paper: &str, text: &'a str) -> Option<&'a str>
+    ensures { (head tail : List ℕ) → paper.entry.now ≡ head ++ 85 ∷ tail → Lacks 85 tail
+        → option_map (λ s. s.now) result ≡ after_name (head ++ 85 ∷ []) text.entry.now }
 {
-    let mut at = text;
-    while let Some((_before, rest)) = at_u(at) {
+    let mut at = paper;
+    let mut left = text;
+    while let Some((before, rest)) = at_u(at) {
+        let more = after(before, left)?;
+        left = after("U", more)?;
         at = rest;
     }
-    at
+    Some(left)
 }
 
-/// The due tick that a paper prints. Its ` DUE ` has the last U of a paper: none is in its later words, in names of powers or in codes.
-fn due_told(text: &str) -> Option<u64>
-    ensures { (head tail : List ℕ) (due : ℕ)
-        → text.now ≡ head ++ 85 ∷ (codes "E " ++ (decimal due ++ 32 ∷ tail))
-        → Lacks 85 (codes "E " ++ (decimal due ++ 32 ∷ tail)) → due < 2 ^ 64
+/// The due tick that a text prints where a paper prints its own. Its ` DUE ` has the last U of a paper: none is in its later words, in
+/// names of powers or in codes.
+fn due_told(paper: &str, text: &str) -> Option<u64>
+    ensures { (head tail rest : List ℕ) (due : ℕ)
+        → paper.now ≡ head ++ 85 ∷ tail → Lacks 85 tail
+        → text.now ≡ head ++ 85 ∷ (codes "E " ++ (decimal due ++ 32 ∷ rest)) → due < 2 ^ 64
         → result ≡ Some due }
 {
-    let rest = after("E ", after_last_u(text))?;
+    let rest = after("E ", after_last_u(paper, text)?)?;
     let (number, _rest) = word_of(rest)?;
     number.parse::<u64>().ok()
 }
@@ -64,18 +62,16 @@ fn tick_before(before: &Public, due: u64) -> u64
     tick
 }
 
-/// The tick at which a phase was played, by the due tick that its paper prints; the first or the last where none leads to that. A phase's
-/// paper is the same played at that tick.
-pub(crate) fn tick_told(before: &Public, text: &str) -> u64
+/// The tick at which a phase was played, by the due tick that a text prints where this paper of the phase prints its own; the first or
+/// the last where none leads to that.
+pub(crate) fn tick_told(before: &Public, paper: &str, text: &str) -> u64
     requires { before.now.due ≤ 999999999999 }
     ensures timely { result ≤ 999999999999 }
     ensures due { before.now.due ≤ result }
-    ensures told { (m : Chart) (tick : ℕ) (board : Position) (report : Report) → IsMap m
-        → IsTick (rows.public before.now) tick
-        → text.now ≡ paper_text m report
-        (public_played tick (rows.public before.now) board report.course)
-        → public_played result (rows.public before.now) board report.course
-        ≡ public_played tick (rows.public before.now) board report.course }
+    ensures told { (head tail rest : List ℕ) (tick : ℕ) → paper.now ≡ head ++ 85 ∷ tail
+        → Lacks 85 tail → text.now
+        ≡ head ++ 85 ∷ (codes "E " ++ (decimal (tick + before.now.period) ++ 32 ∷ rest))
+        → before.now.due ≤ tick → tick ≤ 999999999999 → result ≡ tick }
 {
-    tick_before(before, due_told(text).unwrap_or(0))
+    tick_before(before, due_told(paper, text).unwrap_or(0))
 }

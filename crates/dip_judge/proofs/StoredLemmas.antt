@@ -21,7 +21,7 @@ use Rattle.dip_store.specs.declared.keeper.SqlKeeper.{SqlKeeper}
 use Rattle.dip_judge.specs.Stores.{AnswersFrom, OldStopsFrom, OldStopsReport, OldStopsServing, ReadsUpTo, Reports, ServesFrom, ServesUpTo, StopsFrom, StopsIn, StopsReport, StopsServing}
 use Rattle.dip_http.specs.Serving.{Serves, ServesTo}
 use Rattle.dip_judge.specs.declared.failures.Failure.{Failure}
-use Rattle.dip_judge.specs.declared.failures.Failure.TheVariants.{Listen, Map, NoGame, NotRight, Papers, Run, Serving, Store, Usage}
+use Rattle.dip_judge.specs.declared.failures.Failure.TheVariants.{Listen, Map, NoGame, Negative, Papers, Run, Serving, Store, Usage}
 
 -- an opened keeper is open
 pub is_open : {S : Type 0} (g : Ghosts S) (m : Chart) (s : State) (k : SqlKeeper S) → Opens g m s k → IsOpen m (book g) k
@@ -75,7 +75,7 @@ module _ {S : Type 0} (g : Ghosts S) (m : Chart) (F G : Type 0) (turn : F → G)
   stops_as_of Listen it = absurd it
   stops_as_of (Serving fault) it = absurd it
   stops_as_of NoGame it = absurd it
-  stops_as_of NotRight it = absurd it
+  stops_as_of Negative it = absurd it
   stops_as_of (Papers fault) it = absurd it
 
 -- and of a store of version 1
@@ -91,7 +91,7 @@ module _ {S : Type 0} (g : Ghosts S) (m : Chart) (F G : Type 0) (turn : F → G)
   old_stops_as_of Listen it = absurd it
   old_stops_as_of (Serving fault) it = absurd it
   old_stops_as_of NoGame it = absurd it
-  old_stops_as_of NotRight it = absurd it
+  old_stops_as_of Negative it = absurd it
   old_stops_as_of (Papers fault) it = absurd it
 
 -- more faults than before are some
@@ -178,7 +178,7 @@ module _ {S : Type 0} (g : Ghosts S) (m : Chart) (F G : Type 0) (turn : F → G)
   serving_as count (Map fault) it = absurd it
   serving_as count (Run fault) it = absurd it
   serving_as count NoGame it = absurd it
-  serving_as count NotRight it = absurd it
+  serving_as count Negative it = absurd it
   serving_as count (Papers fault) it = absurd it
 
 -- of a store of version 1
@@ -186,7 +186,7 @@ module _ {S : Type 0} (g : Ghosts S) (m : Chart) (F G : Type 0) (turn : F → G)
   pub old_report_as : (name : List ℕ) (before after : Option (List ℕ)) (failure : Failure) → OldStopsReport g m F name old new before after failure → OldStopsReport g m G name old new before after failure
   old_report_as name before after (Store fault) it = (it.0, old_ends_as g m F G new old turn it.1)
   old_report_as name before after NoGame it = report_as g m F G turn old new name before after NoGame it
-  old_report_as name before after NotRight it = report_as g m F G turn old new name before after NotRight it
+  old_report_as name before after Negative it = report_as g m F G turn old new name before after Negative it
   old_report_as name before after (Papers fault) it = report_as g m F G turn old new name before after (Papers fault) it
   old_report_as name before after (Usage fault) it = report_as g m F G turn old new name before after (Usage fault) it
   old_report_as name before after (Map fault) it = report_as g m F G turn old new name before after (Map fault) it
@@ -202,7 +202,7 @@ module _ {S : Type 0} (g : Ghosts S) (m : Chart) (F G : Type 0) (turn : F → G)
   old_serving_as count (Map fault) it = absurd it
   old_serving_as count (Run fault) it = absurd it
   old_serving_as count NoGame it = absurd it
-  old_serving_as count NotRight it = absurd it
+  old_serving_as count Negative it = absurd it
   old_serving_as count (Papers fault) it = absurd it
 
 -- papers that are out are a report

@@ -7,23 +7,23 @@ use Rattle.dip_check.specs.Games.{IsDraw, IsNext, IsNotice, IsPhase}
 use Rattle.dip_check.specs.Printed.{first_line_of, title_words}
 use Rattle.dip_check.proofs.Coming.{ok_weaker}
 use Rattle.dip_check.proofs.Judged.{judged_fewer}
-use Rattle.dip_check.proofs.Judging.{phase_due}
+use Rattle.dip_check.proofs.Judging.{phase_due, phase_first}
 use Rattle.dip_check.proofs.KindsApart.{phase_no_draw, phase_no_notice}
 use Rattle.dip_check.proofs.checking.check_paper.Goals as goal
 
-pub returns-then-not-branch : goal.returns-then-not-branch
-returns-then-not-branch c =
+pub returns-then-not-branch-clause-judged : goal.returns-then-not-branch-clause-judged
+returns-then-not-branch-clause-judged c =
     let m = c.args.map.now in
     let p : Public = rows.public c.args.before.now in
     let text : List ℕ = c.args.text.now in
     ok_weaker (IsJudgedNext m p text (λ new. IsNotice m p text new ⊎ IsDraw m p text new)) (IsJudgedPaper m p text) c.check_other.result
     (λ v said. judged_fewer m p text (λ new. IsNotice m p text new ⊎ IsDraw m p text new) (IsNext m p text) v (λ new h. elim h.kind [
-      | inl phase ↦ absurd (false≢true (sym c.if-not-branch.true ∙ c.in_ok-has_phase_title.ensures.phases m new phase))
+      | inl phase ↦ absurd (false≢true (sym c.if-not-branch.true ∙ c.in_ok-has_phase_title.ensures.titled (phase_first m p text new phase)))
       | inr other ↦ other
     ]) said) c.check_other.ensures
 
-pub returns-then-not-is_due : goal.returns-then-not-is_due
-returns-then-not-is_due c =
+pub returns-then-not-is_due-clause-judged : goal.returns-then-not-is_due-clause-judged
+returns-then-not-is_due-clause-judged c =
     let m = c.args.map.now in
     let p : Public = rows.public c.args.before.now in
     let text : List ℕ = c.args.text.now in
@@ -33,8 +33,8 @@ returns-then-not-is_due c =
       | inr other ↦ other
     ]) said) c.check_other-then-not-is_due.ensures
 
-pub returns : goal.returns
-returns c =
+pub returns-clause-judged : goal.returns-clause-judged
+returns-clause-judged c =
     let m = c.args.map.now in
     let p : Public = rows.public c.args.before.now in
     let text : List ℕ = c.args.text.now in
@@ -44,4 +44,4 @@ returns c =
       | inl phase ↦ phase
       | inr (inl notice) ↦ absurd (phase_no_notice m p text new title notice)
       | inr (inr draw) ↦ absurd (phase_no_draw m p text new title draw)
-    ]) said) c.check_phase.ensures
+    ]) said) c.check_phase.ensures.judged

@@ -36,7 +36,7 @@ returns-in-Wrong c =
     let k = c.loop-number.number in
     let q : Public = rows.public c.loop-number.public in
     let ls = c.args.papers.now in
-    let wrong : IsJudgedPaper m q (at ls k).now (Wrong c.in-Wrong.fault) = subst (IsJudgedPaper m q (at ls k).now) c.in-Wrong.is c.in_ok-after.ensures in
+    let wrong : IsJudgedPaper m q (at ls k).now (Wrong c.in-Wrong.fault) = subst (IsJudgedPaper m q (at ls k).now) c.in-Wrong.is c.in_ok-after.ensures.judged in
     first_wrong m (rows.public c.args.first) (texts ls) k q (omega (arith, count ls, c.loop-number-test.true)) c.loop-number.invariant.stands
     (λ other h. wrong other (subst (λ (t : List ℕ). IsNext m q t other) (paper_at ls k c.loop-number-test.true) h))
 
@@ -48,7 +48,7 @@ loop-number-preserved c =
     let after : Public = rows.public c.in-Right.after in
     let ls = c.args.papers.now in
     let here = paper_at ls k c.loop-number-test.true in
-    let right : IsNext m q (at ls k).now after × IsOf m c.in-Right.after.board.value = subst (IsJudgedPaper m q (at ls k).now) c.in-Right.is c.in_ok-after.ensures in
+    let right : IsNext m q (at ls k).now after × IsOf m c.in-Right.after.board.value = subst (IsJudgedPaper m q (at ls k).now) c.in-Right.is c.in_ok-after.ensures.judged in
     record {
       of = right.1;
       short = next_period m q (at ls k).now after right.0 c.loop-number.invariant.short;

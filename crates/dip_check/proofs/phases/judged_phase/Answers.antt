@@ -11,7 +11,7 @@ use Rattle.dip_check.specs.Checks.{IsJudged, IsJudgedBy}
 use Rattle.dip_check.specs.Printed.{IsPrinted, orders_printed_at}
 use Rattle.dip_check.specs.declared.printed.Printed.{Printed}
 use Rattle.dip_check.specs.declared.printed.Printed.TheVariants.{NoOrder, Orders}
-use Rattle.dip_check.proofs.Coming.{judged_weaker, ok_weaker}
+use Rattle.dip_check.proofs.Coming.{judged_weaker, ok_weaker, told_unread, told_ungiven}
 use Rattle.dip_check.proofs.Judging.{ungiven, unplayed, unread}
 use Rattle.dip_check.proofs.MovesBack.{OrderLaws}
 use Rattle.dip_check.proofs.phases.judged_phase.Goals as goal
@@ -28,35 +28,31 @@ taken_on m b d os qs r same orders h given placed =
     h (subst (λ (e : Position). AreGiven m e qs) (sym same) (subst (AreGiven m b) (sym orders) given)) (ap are_by_place orders ∙ placed)
 
 pub returns-in-NoOrder : goal.returns-in-NoOrder
-returns-in-NoOrder c = λ new h.
+returns-in-NoOrder c =
     let m = c.args.map.now in
     let p : Public = rows.public c.args.before.now in
     let lies : c.deref.result.now ≡ c.args.before.now.board.value = search rules in
     let l = order_laws c.orders_are_read_again.ensures.again c.orders_are_read_again.ensures.alone c.orders_are_lawful.ensures c.lawful_orders_are_read.ensures in
     let none : orders_printed_at m p.board c.args.text.now p.board.phase.season ≡ None =
     printed_on m c.args.text.now p.board c.deref.result.now c.in_ok-fault.field-0 (NoOrder c.in-NoOrder.fault) lies c.in-NoOrder.is c.in_ok-fault.ensures in
-    unread l m p c.args.text.now c.facts.ensures c.requires.of_map new h none
+    ((λ new h. unread l m p c.args.text.now c.facts.ensures c.requires.of_map new h none), told_unread m p c.args.text.now c.in-NoOrder.fault none)
 
 pub returns-then-branch : goal.returns-then-branch
 returns-then-branch c =
     let m = c.args.map.now in
     let p : Public = rows.public c.args.before.now in
     let text : List ℕ = c.args.text.now in
-    let tick = c.tick_told-tick.result in
     let os : List PlacedOrder = c.as_slice-then-branch.result.now in
     let lies : c.deref.result.now ≡ c.args.before.now.board.value = search rules in
     let l = order_laws c.orders_are_read_again.ensures.again c.orders_are_read_again.ensures.alone c.orders_are_lawful.ensures c.lawful_orders_are_read.ensures in
     let some : orders_printed_at m p.board text p.board.phase.season ≡ Some c.in-Orders.orders.items =
     printed_on m text p.board c.deref.result.now c.in_ok-fault.field-0 (Orders c.in-Orders.orders) lies c.in-Orders.is c.in_ok-fault.ensures in
     let is : orders_printed_at m p.board text p.board.phase.season ≡ Some os = some ∙ ap (λ (xs : List PlacedOrder). Some xs) (sym c.as_slice-then-branch.ensures.value) in
-    ok_weaker (IsJudgedBy m p tick os text) (IsJudged m p text) c.judged_played.result
-    (λ j said. judged_weaker m p tick os text j said
-    (λ none new h. unplayed l m p text c.facts.ensures c.requires.of_map new h os tick is none
-    (λ t board report ticks same. c.tick_told-tick.ensures.told m t board report c.facts.ensures ticks same)))
-    c.judged_played.ensures
+    ok_weaker (IsJudgedBy m p os text) (IsJudged m p text) c.judged_played.result
+    (λ j said. judged_weaker m p os text j said is (λ fault told new h. unplayed l m p text c.facts.ensures c.requires.of_map new h os is told.none)) c.judged_played.ensures
 
 pub returns : goal.returns
-returns c = λ new h.
+returns c =
     let m = c.args.map.now in
     let p : Public = rows.public c.args.before.now in
     let text : List ℕ = c.args.text.now in
@@ -65,6 +61,7 @@ returns c = λ new h.
     let l = order_laws c.orders_are_read_again.ensures.again c.orders_are_read_again.ensures.alone c.orders_are_lawful.ensures c.lawful_orders_are_read.ensures in
     let some : orders_printed_at m p.board text p.board.phase.season ≡ Some c.in-Orders.orders.items =
     printed_on m text p.board c.deref.result.now c.in_ok-fault.field-0 (Orders c.in-Orders.orders) lies c.in-Orders.is c.in_ok-fault.ensures in
-    ungiven l m p text c.facts.ensures c.requires.of_map new h c.in-Orders.orders.items c.in_ok-are_given-in-Orders.field-0 some
-    (taken_on m p.board c.deref-in-Orders.result.now c.in-Orders.orders.items c.as_slice.result.now c.in_ok-are_given-in-Orders.field-0 lies_there c.as_slice.ensures.value c.in_ok-are_given-in-Orders.ensures.taken)
-    c.if-branch.false
+    let taken = taken_on m p.board c.deref-in-Orders.result.now c.in-Orders.orders.items c.as_slice.result.now c.in_ok-are_given-in-Orders.field-0 lies_there c.as_slice.ensures.value c.in_ok-are_given-in-Orders.ensures.taken in (
+      (λ new h. ungiven l m p text c.facts.ensures c.requires.of_map new h c.in-Orders.orders.items c.in_ok-are_given-in-Orders.field-0 some taken c.if-branch.false),
+      told_ungiven m p text c.in_ok-fault_at-in-Orders.field-0 c.in-Orders.orders.items c.in_ok-are_given-in-Orders.field-0 some taken c.if-branch.false,
+    )

@@ -10,4 +10,4 @@ returns-in-Wrong-clause-none c = λ new room h.
     let m = c.args.map.now in
     let p : Public = rows.public c.args.before.now in
     let wrong : IsJudged m p c.args.text.now (Wrong c.in-Wrong._fault) = subst (IsJudged m p c.args.text.now) c.in-Wrong.is c.in_ok-report.ensures in
-    wrong new h
+    wrong.0 new h

@@ -1,4 +1,4 @@
-use Rattle.std.proofs.Common.{◌≡◌, ◌++◌, ◌∷◌, ◌==◌, ◌≢◌, ℕ, List, Option, Some, None, true, not, codes, ap, ◌∙◌, arith}
+use Rattle.std.proofs.Common.{◌≡◌, ◌++◌, ◌∷◌, [], ◌==◌, ◌≢◌, append_assoc, sym, ℕ, List, Option, Some, None, true, not, codes, ap, ◌∙◌, arith}
 use Rattle.std.specs.Fmt.{decimal}
 use Rattle.std.specs.Result.{result_ok}
 use Rattle.std.proofs.lemmas.Bool.Decides.{nat_tests}
@@ -21,26 +21,38 @@ cut_number due tail =
 some_of : {A : Type 0} (x y : A) → Some x ≡ Some y → x ≡ y
 some_of x y e = cc
 
+-- what is after the paper's last U
+text_after : (head text more : List ℕ) → text ≡ head ++ 85 ∷ more → after_name (head ++ 85 ∷ []) text ≡ Some more
+text_after head text more is = ap (after_name (head ++ 85 ∷ [])) (is ∙ sym (append_assoc head (85 ∷ []) more)) ∙ after_again (head ++ 85 ∷ []) more
+
+pub returns-in_err-after_last_u : goal.returns-in_err-after_last_u
+returns-in_err-after_last_u c = λ head tail rest due is lacks text small.
+    let none : None ≡ Some (codes "E " ++ (decimal due ++ 32 ∷ rest)) = c.in_err-after_last_u.ensures head tail is lacks ∙ text_after head c.args.text.now (codes "E " ++ (decimal due ++ 32 ∷ rest)) text in
+    cc
+
 pub returns-in_err-rest : goal.returns-in_err-rest
-returns-in_err-rest c = λ head tail due is lacks small.
-    let last = c.after_last_u.ensures head (codes "E " ++ (decimal due ++ 32 ∷ tail)) is lacks in
-    let none : None ≡ Some (decimal due ++ 32 ∷ tail) = c.in_err-rest.ensures ∙ ap (after_name (codes "E ")) last ∙ after_again (codes "E ") (decimal due ++ 32 ∷ tail) in
+returns-in_err-rest c = λ head tail rest due is lacks text small.
+    let more : List ℕ = codes "E " ++ (decimal due ++ 32 ∷ rest) in
+    let last : c.in_ok-after_last_u.field-0.now ≡ more = some_of c.in_ok-after_last_u.field-0.now more (c.in_ok-after_last_u.ensures head tail is lacks ∙ text_after head c.args.text.now more text) in
+    let none : None ≡ Some (decimal due ++ 32 ∷ rest) = c.in_err-rest.ensures ∙ ap (after_name (codes "E ")) last ∙ after_again (codes "E ") (decimal due ++ 32 ∷ rest) in
     cc
 
 pub returns-in_err-number : goal.returns-in_err-number
-returns-in_err-number c = λ head tail due is lacks small.
-    let last = c.after_last_u.ensures head (codes "E " ++ (decimal due ++ 32 ∷ tail)) is lacks in
-    let rest : Some c.in_ok-rest.rest.now ≡ Some (decimal due ++ 32 ∷ tail) = c.in_ok-rest.ensures ∙ ap (after_name (codes "E ")) last ∙ after_again (codes "E ") (decimal due ++ 32 ∷ tail) in
-    let same : c.in_ok-rest.rest.now ≡ decimal due ++ 32 ∷ tail = some_of c.in_ok-rest.rest.now (decimal due ++ 32 ∷ tail) rest in
-    let none : ◌≡◌ {A = Option (List ℕ × List ℕ)} None (Some (decimal due, tail)) = c.in_err-number.ensures ∙ ap (cut_at 32) same ∙ cut_number due tail in
+returns-in_err-number c = λ head tail rest due is lacks text small.
+    let more : List ℕ = codes "E " ++ (decimal due ++ 32 ∷ rest) in
+    let last : c.in_ok-after_last_u.field-0.now ≡ more = some_of c.in_ok-after_last_u.field-0.now more (c.in_ok-after_last_u.ensures head tail is lacks ∙ text_after head c.args.text.now more text) in
+    let read : Some c.in_ok-rest.rest.now ≡ Some (decimal due ++ 32 ∷ rest) = c.in_ok-rest.ensures ∙ ap (after_name (codes "E ")) last ∙ after_again (codes "E ") (decimal due ++ 32 ∷ rest) in
+    let same : c.in_ok-rest.rest.now ≡ decimal due ++ 32 ∷ rest = some_of c.in_ok-rest.rest.now (decimal due ++ 32 ∷ rest) read in
+    let none : ◌≡◌ {A = Option (List ℕ × List ℕ)} None (Some (decimal due, rest)) = c.in_err-number.ensures ∙ ap (cut_at 32) same ∙ cut_number due rest in
     cc
 
 pub returns : goal.returns
-returns c = λ head tail due is lacks small.
-    let last = c.after_last_u.ensures head (codes "E " ++ (decimal due ++ 32 ∷ tail)) is lacks in
-    let rest : Some c.in_ok-rest.rest.now ≡ Some (decimal due ++ 32 ∷ tail) = c.in_ok-rest.ensures ∙ ap (after_name (codes "E ")) last ∙ after_again (codes "E ") (decimal due ++ 32 ∷ tail) in
-    let same : c.in_ok-rest.rest.now ≡ decimal due ++ 32 ∷ tail = some_of c.in_ok-rest.rest.now (decimal due ++ 32 ∷ tail) rest in
-    let parts : ◌≡◌ {A = Option (List ℕ × List ℕ)} (Some (c.in_ok-number.number.now, c.in_ok-number._rest.now)) (Some (decimal due, tail)) = c.in_ok-number.ensures ∙ ap (cut_at 32) same ∙ cut_number due tail in
+returns c = λ head tail rest due is lacks text small.
+    let more : List ℕ = codes "E " ++ (decimal due ++ 32 ∷ rest) in
+    let last : c.in_ok-after_last_u.field-0.now ≡ more = some_of c.in_ok-after_last_u.field-0.now more (c.in_ok-after_last_u.ensures head tail is lacks ∙ text_after head c.args.text.now more text) in
+    let read : Some c.in_ok-rest.rest.now ≡ Some (decimal due ++ 32 ∷ rest) = c.in_ok-rest.ensures ∙ ap (after_name (codes "E ")) last ∙ after_again (codes "E ") (decimal due ++ 32 ∷ rest) in
+    let same : c.in_ok-rest.rest.now ≡ decimal due ++ 32 ∷ rest = some_of c.in_ok-rest.rest.now (decimal due ++ 32 ∷ rest) read in
+    let parts : ◌≡◌ {A = Option (List ℕ × List ℕ)} (Some (c.in_ok-number.number.now, c.in_ok-number._rest.now)) (Some (decimal due, rest)) = c.in_ok-number.ensures ∙ ap (cut_at 32) same ∙ cut_number due rest in
     let number : c.in_ok-number.number.now ≡ decimal due =
-    ap (λ (p : List ℕ × List ℕ). p.0) (some_of {A = List ℕ × List ℕ} (c.in_ok-number.number.now, c.in_ok-number._rest.now) (decimal due, tail) parts) in
+    ap (λ (p : List ℕ × List ℕ). p.0) (some_of {A = List ℕ × List ℕ} (c.in_ok-number.number.now, c.in_ok-number._rest.now) (decimal due, rest) parts) in
     c.ok.ensures.value ∙ ap result_ok (parse-decimal 64 due c.in_ok-number.number.now c.parse.result small small number c.parse.ensures.value.0)

@@ -28,3 +28,4 @@ pub mod Judged
 pub mod KindsApart
 pub mod OneAnswer
 pub mod Chains
+pub mod PaperLines

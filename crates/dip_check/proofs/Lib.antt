@@ -29,3 +29,4 @@ pub mod KindsApart
 pub mod OneAnswer
 pub mod Chains
 pub mod PaperLines
+pub mod EndLemmas

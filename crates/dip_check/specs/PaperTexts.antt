@@ -2,7 +2,7 @@
 use Rattle.std.specs.Prelude.{◌≡◌, ◌++◌, List, ℕ, true, codes}
 use Rattle.std.specs.List.{AllByRecursion, list_all}
 use Rattle.dip_names.specs.Forms.{is_printable}
-use Rattle.dip_letters.specs.Lines.{AreInner, end_line, text_of}
+pub use Rattle.dip_letters.specs.Lines.{AreInner, CutsAt, HasNoEnd, end_line, line_at, text_of}
 use Rattle.dip_map.specs.Charts.{Chart}
 use Rattle.dip_desk_state.specs.Records.{Public}
 use Rattle.dip_check.specs.Games.{AreOfGame}

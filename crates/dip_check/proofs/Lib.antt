@@ -30,3 +30,5 @@ pub mod OneAnswer
 pub mod ToldLines
 pub mod ToldPapers
 pub mod Chains
+pub mod PaperLines
+pub mod EndLemmas

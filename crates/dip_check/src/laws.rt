@@ -1,5 +1,6 @@
 //! Laws of checking, each the contract of a function that does nothing.
 ghost use Rattle.dip_map.specs.Charts.{Chart};
+ghost use Rattle.dip_check.specs.PaperTexts.{PapersAreLines};
 ghost use Rattle.dip_check.specs.Laws.{GivenAreReadBack, HistoriesAreRight, MovementsAreDecided, OpeningsHaveOneAnswer, PapersHaveOneAnswer, PublishedIsNext, RetreatsAreReadBack, StandingIsReadBack, StandingIsSettled, StaysGames};
 
 use dip_decide::explained_is_lawful;
@@ -67,4 +68,11 @@ pub fn other_orders_are_read_back()
 {
     orders_are_read_again();
     lawful_orders_are_read();
+}
+
+/// Each paper of a game is lines of printable characters, of which the last one, and no other, is `END`; the first begins with `PAPER `.
+pub fn papers_are_lines(map: &Map)
+    ensures { PapersAreLines map.now }
+{
+    map.facts();
 }

@@ -24,8 +24,8 @@ mod words;
 pub use checking::check_paper;
 pub use games::check_papers;
 pub use laws::{
-    games_stay_right, movements_are_read_back, other_orders_are_read_back, papers_have_one_answer,
-    right_movements_are_decided, what_is_published_is_right,
+    games_stay_right, movements_are_read_back, other_orders_are_read_back, papers_are_lines,
+    papers_have_one_answer, right_movements_are_decided, what_is_published_is_right,
 };
 pub use openings::check_opening;
 pub use phases::phase_of;

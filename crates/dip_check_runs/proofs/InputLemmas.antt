@@ -1,25 +1,21 @@
 -- What is read of an input, and what of it is used.
-use Rattle.std.proofs.Common.{◌≡◌, ◌≤◌, ◌<◌, ◌++◌, ℕ, zero, suc, Bool, true, false, List, [], ◌∷◌, Option, None, Some, length, take, drop, get_or, ap, sym, ◌∙◌, ◌⊎◌, inl, inr, ◌+◌, ◌-◌, arith}
+use Rattle.std.proofs.Common.{◌≡◌, ◌≤◌, ◌<◌, ◌++◌, ℕ, Bool, true, false, List, [], ◌∷◌, Option, None, Some, ap, sym, subst, ◌∙◌, ◌⊎◌, inl, inr, ◌+◌, ◌-◌, arith}
 use Rattle.std.proofs.lemmas.List.{append-nil, append_assoc}
 use Rattle.std.specs.Io.KnownBytes.{Consumes, Keeps}
-use Rattle.dip_check_runs.specs.Input.{AreEmptyLines, HasUsed, IsRead, closing}
+use Rattle.dip_check.specs.PaperTexts.{text_of}
+use Rattle.dip_check_runs.specs.Input.{AreEmptyLines, EndsOnce, HasUsed, IsRead, closing}
 use Rattle.dip_check_runs.specs.declared.input.Ahead.{Ahead}
 
 -- each byte of empty lines is LF
-pub empty_at : (at size : ℕ) (xs : List ℕ) → at < size → at < length xs → AreEmptyLines (take size xs) → get_or xs at 0 ≡ 10
-empty_at at zero xs few inside empty = absurd (omega arith)
-empty_at at (suc size) [] few inside empty = absurd (omega arith)
-empty_at zero (suc size) (x ∷ xs) few inside empty = empty.0
-empty_at (suc at) (suc size) (x ∷ xs) few inside empty = empty_at at size xs (omega arith) (omega arith) empty.1
+pub lines_hold : (a : List ℕ) (x : ℕ) (b : List ℕ) → AreEmptyLines (a ++ x ∷ b) → x ≡ 10
+lines_hold [] x b empty = empty.0
+lines_hold (y ∷ a) x b empty = lines_hold a x b empty.1
 
--- the first byte of a part
-pub first_of : (at size : ℕ) (xs ys : List ℕ) (y : ℕ) → take size (drop at xs) ≡ y ∷ ys → get_or xs at 0 ≡ y
-first_of zero zero xs ys y is = cc
-first_of zero (suc size) [] ys y is = cc
-first_of zero (suc size) (x ∷ xs) ys y is = ap (λ (l : List ℕ). get_or l 0 0) is
-first_of (suc at) zero [] ys y is = cc
-first_of (suc at) (suc size) [] ys y is = cc
-first_of (suc at) size (x ∷ xs) ys y is = first_of at size xs ys y is
+-- so a line `END` is no empty one
+pub no_lines : (bytes : List ℕ) → EndsOnce bytes → AreEmptyLines bytes → ⊥
+no_lines bytes cut empty =
+    let lf : 69 ≡ 10 = lines_hold (text_of cut.inner) 69 (78 ∷ 68 ∷ 10 ∷ []) (subst (λ (l : List ℕ). AreEmptyLines l) cut.is empty) in
+    absurd (omega (arith, lf))
 
 -- what is read twice is read
 pub consumes_more : (a b c : Option (List ℕ)) (x y : List ℕ) → Consumes a b x → Consumes b c y → Consumes a c (x ++ y)

@@ -1,3 +1,4 @@
 pub mod InputLemmas
 pub mod TitleLemmas
 pub mod RunLemmas
+pub mod ExactLemmas

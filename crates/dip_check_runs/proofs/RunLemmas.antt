@@ -30,6 +30,7 @@ use Rattle.dip_judge_runs.specs.declared.run.RunFault.TheVariants.{Keep, Memory,
 use Rattle.dip_check_runs.specs.Input.{AreEmptyLines, HasUsed, IsAfterLines, IsRead, IsTakenFront, closing}
 use Rattle.dip_check_runs.specs.Texts.{missing_text, no_phase_text, right_text, said_text}
 use Rattle.dip_check_runs.specs.Runs.{AreFronts, ArePlayed, ComesNext, EndsBegun, EndsEarly, EndsExplaining, HasBoard, IsAll, IsBegunAfter, IsChecked, IsExplanation, IsFound, IsFoundNext, IsFoundText, IsReadingFault, IsRunFault, IsSaid, IsTellingFault, count_played, end_text, is_right}
+use Rattle.dip_check_runs.proofs.InputLemmas.{no_lines}
 use Rattle.dip_check_runs.specs.declared.explaining.Found.{Found}
 use Rattle.dip_check_runs.specs.declared.input.Ahead.{Ahead}
 use Rattle.dip_check_runs.specs.declared.saying.Said.{Said}
@@ -130,14 +131,14 @@ comes_next known left used lines paper papers fronts empty part = record {
 -- where no paper is left, all was used
 pub all_used : (known left : Option (List ℕ)) (used front : List ℕ) (papers : List (List ℕ)) (ahead : Ahead) → AreFronts used papers → AreEmptyLines front
     → IsRead known left (used ++ front) ahead → IsTakenFront front ahead → IsAll known left papers
-all_used known left used front papers ahead fronts empty read (inl paper) = absurd (paper empty)
+all_used known left used front papers ahead fronts empty read (inl cut) = absurd (no_lines front cut empty)
 all_used known left used front papers ahead fronts empty read (inr end) = record {
   used = used ++ front;
   whole = record {
     input = read.read;
     consumed = read.consumed;
-    end = read.end end.0;
-    parts = ap (λ (b : Bool). read.read ++ closing b) (sym end.0) ∙ read.parts ∙ ap (λ (l : List ℕ). (used ++ front) ++ l) end.1 ∙ append-nil (used ++ front);
+    end = read.end end.1;
+    parts = ap (λ (b : Bool). read.read ++ closing b) (sym end.1) ∙ read.parts ∙ ap (λ (l : List ℕ). (used ++ front) ++ l) end.2 ∙ append-nil (used ++ front);
   };
   spelled = record { front = used; lines = front; fronts = fronts; empty = empty; parts = refl };
 }

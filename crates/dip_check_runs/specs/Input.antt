@@ -1,20 +1,23 @@
 -- An input that is read piece by piece: what was read of it, what of that was used, and what is ahead.
-use Rattle.std.specs.Prelude.{◌≡◌, ◌≤◌, ◌<◌, ◌⊎◌, ◌++◌, ℕ, Bool, false, true, List, [], ◌∷◌, Option, length, take}
+use Rattle.std.specs.Prelude.{◌≡◌, ◌≢◌, ◌≤◌, ◌<◌, ◌⊎◌, ◌++◌, ℕ, Bool, false, true, List, [], ◌∷◌, Option, length, slice_index, take}
 use Rattle.std.specs.List.{AllByRecursion}
 use Rattle.std.specs.Io.KnownBytes.{Consumes, IsAtEnd}
+use Rattle.dip_check.specs.PaperTexts.{AreInner, HasNoEnd, end_line, text_of}
 use Rattle.dip_check_runs.specs.declared.input.Ahead.{Ahead}
 
 -- bytes that are nothing but empty lines
 abbrev pub AreEmptyLines : List ℕ → Type 0
 AreEmptyLines bytes = AllByRecursion (λ b. b ≡ 10) bytes
 
--- after the empty lines that the bytes begin with
+-- after all empty lines that the bytes begin with
 abbrev pub IsAfterLines : List ℕ → List ℕ → Type 0
-IsAfterLines bytes rest = (lines : List ℕ) × AreEmptyLines lines × (bytes ≡ lines ++ rest)
+IsAfterLines bytes rest = (lines : List ℕ) × AreEmptyLines lines × (bytes ≡ lines ++ rest) × (slice_index rest 0 ≢ 10)
 
--- bytes that are more than empty lines
-abbrev pub HasPaper : List ℕ → Type 0
-HasPaper bytes = AreEmptyLines bytes → ⊥
+-- bytes are lines of which the last one, and no other, is `END`
+pub record EndsOnce (bytes : List ℕ) : Type 0 where
+  pub inner : List (List ℕ)
+  pub lines : AreInner inner
+  pub is : bytes ≡ text_of inner ++ end_line
 
 -- at the end of an input an LF is put after it, which its last line may lack
 abbrev pub closing : Bool → List ℕ
@@ -32,14 +35,14 @@ pub record IsRead (known left : Option (List ℕ)) (used : List ℕ) (ahead : Ah
 abbrev pub IsNearer : Ahead → Ahead → Type 0
 IsNearer old new = (new.ended ≡ true) ⊎ (length old.bytes.items < length new.bytes.items)
 
--- so many bytes ahead have a paper, or are all that is left of an input that has ended
+-- so many bytes ahead end with the first line `END`; or they are all that is left of an input that has ended, and have no such line
 abbrev pub IsFront : Ahead → ℕ → Type 0
 IsFront ahead size = (size ≤ length ahead.bytes.items)
-    × (HasPaper (take size ahead.bytes.items) ⊎ ((ahead.ended ≡ true) × (size ≡ length ahead.bytes.items)))
+    × (EndsOnce (take size ahead.bytes.items) ⊎ (HasNoEnd (take size ahead.bytes.items) × (ahead.ended ≡ true) × (size ≡ length ahead.bytes.items)))
 
--- these bytes have a paper, or the input has ended and nothing is ahead
+-- these bytes end with the first line `END`; or they have none, the input has ended and nothing is ahead
 abbrev pub IsTakenFront : List ℕ → Ahead → Type 0
-IsTakenFront front ahead = HasPaper front ⊎ ((ahead.ended ≡ true) × (ahead.bytes.items ≡ []))
+IsTakenFront front ahead = EndsOnce front ⊎ (HasNoEnd front × (ahead.ended ≡ true) × (ahead.bytes.items ≡ []))
 
 -- an input was read, up to its end or not, of which these bytes are used; an LF is put after it
 pub record HasUsed (known left : Option (List ℕ)) (used : List ℕ) : Type 0 where

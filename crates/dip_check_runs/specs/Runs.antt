@@ -2,6 +2,7 @@
 use Rattle.std.specs.Prelude.{◌≡◌, ◌+◌, ◌++◌, ◌⊎◌, ℕ, Bool, false, true, List, [], ◌∷◌, Option, None, Some, take}
 use Rattle.std.specs.List.{flat_map}
 use Rattle.std.specs.Io.KnownBytes.{Appends}
+use Rattle.std.specs.Str.{IsUtf8}
 use Rattle.dip_map.specs.Boards.{IsOf}
 use Rattle.dip_map.specs.Charts.{Chart}
 use Rattle.dip_desk_state.specs.Records.{Public}
@@ -36,6 +37,11 @@ abbrev pub ArePlayed : Chart → List (List ℕ) → Option Row → Type 0
 ArePlayed m papers None = papers ≡ []
 ArePlayed m papers (Some p) = AreOfGame m papers (rows.public p) × IsOf m p.board.value
 
+-- the input, where it is known, is the papers of no game of the map; an LF is put after it, which its last line may lack
+abbrev pub IsNoGame : Chart → Option (List ℕ) → Type 0
+IsNoGame m None = Unit {0}
+IsNoGame m (Some input) = (papers : List (List ℕ)) (new : Public) → AreSpelled (input ++ 10 ∷ []) papers → AreOfGame m papers new → ⊥
+
 -- the board of the game so far is one of the map
 abbrev pub HasBoard : Chart → Option Row → Type 0
 HasBoard m None = Unit {0}
@@ -47,18 +53,18 @@ count_played None = 0
 count_played (Some p) = p.papers
 
 -- bytes are right where they may come next in a game, and leave it so, with a board of the map; where a text is wrong, nothing that may
--- come next has it
+-- come next has it; and where they are no text, they are no UTF-8
 abbrev pub IsSaidNext : Chart → Public → List ℕ → Said → Type 0
 IsSaidNext m p bytes (Right new) = IsNext m p bytes (rows.public new) × IsOf m new.board.value
 IsSaidNext m p bytes (Wrong fault) = (new : Public) → IsNext m p bytes new → ⊥
-IsSaidNext m p bytes (NoText line) = Unit {0}
+IsSaidNext m p bytes (NoText line) = ¬ IsUtf8 bytes
 
 -- bytes are right only where they may come first in a game, which stands so, with a board of the map; where a text is wrong, no game
--- begins with it
+-- begins with it; and where they are no text, they are no UTF-8
 abbrev pub IsSaidFirst : Chart → List ℕ → Said → Type 0
 IsSaidFirst m bytes (Right new) = IsOpening m bytes (rows.public new) × IsOf m new.board.value
 IsSaidFirst m bytes (Wrong fault) = (new : Public) → IsOpening m bytes new → ⊥
-IsSaidFirst m bytes (NoText line) = Unit {0}
+IsSaidFirst m bytes (NoText line) = ¬ IsUtf8 bytes
 
 -- what is said of the bytes that come after the papers that were played
 abbrev pub IsSaid : Chart → Option Row → List ℕ → Said → Type 0

@@ -1,13 +1,14 @@
 //! Papers that are checked: each is made again from the one before it, up to the first wrong one.
-ghost use Rattle.std.specs.Prelude.{◌≡◌, ℕ, IfErr, IfOk, OnErr, OnOk, is_some, string_bytes, take};
+ghost use Rattle.std.specs.Prelude.{◌≡◌, ℕ, IfErr, IfOk, OnErr, OnOk, false, is_some, string_bytes, take};
 ghost use Rattle.std.specs.Io.KnownBytes.{Appends};
-ghost use Rattle.dip_check_runs.specs.Runs.{EndsEarly, HasBoard, IsBegunAfter, IsChecked, IsSaid, end_text};
+ghost use Rattle.dip_check_runs.specs.Runs.{EndsEarly, HasBoard, IsBegunAfter, IsChecked, IsNoGame, IsSaid, end_text};
 ghost use Rattle.dip_check_runs.specs.Texts as t;
 
 use crate::input::{next_front, nothing_ahead, skip_rest};
 use crate::papers::after_empty_lines;
 use crate::saying::{Said, say};
 use crate::texts::{count_text, said_text};
+use dip_check::{papers_are_lines, papers_have_one_answer};
 use dip_desk_state::Public;
 use dip_judge_runs::RunFault;
 use dip_map::Map;
@@ -88,7 +89,7 @@ fn tell_end<W: Write>(
     }
 }
 
-/// Reads papers, and tells of each whether the rules give it next in the game, up to the first that is wrong. Whether all are right: only
+/// Reads papers, and tells of each whether the rules give it next in the game, up to the first that is wrong. Whether all are right: just
 /// where the input is the papers of a game of the map, from its opening on, with nothing but empty lines around them. One paper and one
 /// board are in memory at a time. What comes after a wrong paper is read and isn't looked at.
 ///
@@ -102,9 +103,13 @@ pub fn check_papers<R: Read, W: Write>(
 ) -> Result<bool, RunFault>
     ensures checked { IfOk result (IsChecked map.now (R.remaining reader.old)
         (R.remaining reader.new) (W.contents writer.old) (W.contents writer.new)) }
+    ensures wrong { IfOk result
+        (λ right. right ≡ false → IsNoGame map.now (R.remaining reader.old)) }
     ensures ends { IfErr result
         (EndsEarly map.now (W.contents writer.old) (W.contents writer.new)) }
 {
+    papers_are_lines(map);
+    papers_have_one_answer(map);
     let mut ahead = nothing_ahead(alloc);
     let mut game: Option<Public> = None;
     'papers: loop {

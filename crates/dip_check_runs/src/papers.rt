@@ -1,22 +1,22 @@
 //! The papers in an input: where each begins and ends.
-ghost use Rattle.std.specs.Prelude.{◌≡◌, ◌<◌, ◌≤◌, IfSome, length, take};
-ghost use Rattle.dip_check_runs.specs.Input.{HasPaper, IsAfterLines};
+ghost use Rattle.std.specs.Prelude.{◌≡◌, ◌==◌, ◌≤◌, IfNone, IfSome, length, option_map, position, take};
+ghost use Rattle.dip_check.specs.PaperTexts.{HasNoEnd, line_at};
+ghost use Rattle.dip_check_runs.specs.Input.{EndsOnce, IsAfterLines};
 ghost use Rattle.dip_check_runs.specs.Texts as t;
 
-/// After the line that begins there, and its end.
-fn line_end(input: &[u8], start: usize) -> usize
-    requires { start < length input.now }
-    ensures more { start < result }
-    ensures most { result ≤ length input.now }
+/// The place of the first LF.
+fn line_end(bytes: &[u8]) -> Option<usize>
+    ensures { result ≡ position (λ b. b == 10) bytes.now }
 {
-    let mut at = start;
-    'bytes: while at < input.len() {
-        at += 1;
-        if input[at - 1] == b'\n' {
-            return at;
-        }
-    }
-    at
+    bytes.iter().position(|b| *b == b'\n')
+}
+
+/// The first line and what is after its LF.
+fn line_of(bytes: &[u8]) -> Option<(&[u8], &[u8])>
+    ensures { option_map (λ p. (p.0.now, p.1.now)) result ≡ line_at bytes.now }
+{
+    let end = line_end(bytes)?;
+    Some((&bytes[..end], &bytes[end + 1..]))
 }
 
 /// After the empty lines that the bytes begin with.
@@ -36,15 +36,15 @@ pub(crate) fn after_empty_lines(input: &[u8]) -> &[u8]
 /// After the first line `END`; nothing where there is none.
 pub(crate) fn paper_end(input: &[u8]) -> Option<usize>
     ensures most { IfSome result (λ end. end ≤ length input.now) }
-    ensures paper { IfSome result (λ end. HasPaper (take end input.now)) }
+    ensures ends { IfSome result (λ end. EndsOnce (take end input.now)) }
+    ensures none { IfNone result (HasNoEnd input.now) }
 {
-    let mut at = 0;
-    'lines: while at < input.len() {
-        let end = line_end(input, at);
-        if &input[at..end] == b"END\n".as_slice() {
-            return Some(end);
+    let mut at = input;
+    while let Some((line, rest)) = line_of(at) {
+        if line == b"END".as_slice() {
+            return Some(input.len() - rest.len());
         }
-        at = end;
+        at = rest;
     }
     None
 }

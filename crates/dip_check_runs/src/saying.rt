@@ -1,5 +1,6 @@
 //! What is said of bytes that are to come next in a game.
-ghost use Rattle.std.specs.Prelude.{◌≡◌, IfOk};
+ghost use Rattle.std.specs.Prelude.{◌≡◌, IfOk, OnErr};
+ghost use Rattle.std.specs.Str.{IsUtf8};
 ghost use Rattle.dip_check_runs.specs.Runs.{HasBoard, IsSaid, IsSaidFirst, IsSaidNext, count_played};
 ghost use Rattle.dip_desk_state.specs.Rows as rows;
 ghost use Rattle.dip_map.specs.Boards.{IsOf};
@@ -24,7 +25,8 @@ pub(crate) enum Said {
 
 /// The bytes as a text, or the line in which they are none.
 pub(crate) fn text_of(bytes: &[u8]) -> Result<&str, usize>
-    ensures { IfOk result (λ t. t.now ≡ bytes.now) }
+    ensures text { IfOk result (λ t. t.now ≡ bytes.now) }
+    ensures none { OnErr result (¬ IsUtf8 bytes.now) }
 {
     match str::from_utf8(bytes) {
         Ok(text) => Ok(text),

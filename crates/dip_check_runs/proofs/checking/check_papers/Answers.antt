@@ -3,11 +3,12 @@ use Rattle.dip_check_runs.specs.Texts.{said_text}
 use Rattle.dip_check_runs.specs.declared.saying.Said.{Said}
 use Rattle.std.specs.Io.KnownBytes.{Appends}
 use Rattle.dip_check_runs.specs.Runs.{EndsEarly, IsSaid}
-use Rattle.dip_check_runs.proofs.RunLemmas.{all_used, appends_none, checked_wrong, comes_next, empty_front, ends_all, ends_begun, ends_reading, ends_telling, not_right, reached_more, reached_none, taken, written_more}
+use Rattle.dip_check_runs.proofs.ExactLemmas.{end_is_none, some_bytes, stands_more, stands_none, wrong_is_none}
+use Rattle.dip_check_runs.proofs.RunLemmas.{all_used, appends_none, checked_wrong, comes_next, empty_front, ends_all, ends_begun, ends_reading, ends_telling, has_board, not_right, reached_more, reached_none, taken, written_more}
 use Rattle.dip_check_runs.proofs.checking.check_papers.Goals as goal
 
 pub papers-init : goal.papers-init
-papers-init g c = (reached_none _ _ _ (c.nothing_ahead-ahead.ensures _), appends_none _)
+papers-init g c = (reached_none _ _ _ (c.nothing_ahead-ahead.ensures _), appends_none _, stands_none c.args.map.now)
 
 pub returns-in_err-front-clause-ends : goal.returns-in_err-front-clause-ends
 returns-in_err-front-clause-ends g c =
@@ -22,6 +23,13 @@ returns-then-is_empty-clause-checked g c =
     let empty = empty_front _ _ _ c.as_slice.ensures.value c.after_empty_lines-paper.ensures c.if-is_empty.ensures in
     let all = all_used _ _ r.used _ r.papers _ r.fronts empty (c.in_ok-front.ensures.read _ _ r.read) c.in_ok-front.ensures.front in
     ends_all c.args.map.now _ _ _ _ _ r.papers c.papers.game c.tell_end.result r.played all c.papers.invariant.1 c.tell_end.ensures.told c.tell_end.ensures.right
+
+pub returns-then-is_empty-clause-wrong : goal.returns-then-is_empty-clause-wrong
+returns-then-is_empty-clause-wrong g c =
+    let r = c.papers.invariant.0 in
+    let empty = empty_front _ _ _ c.as_slice.ensures.value c.after_empty_lines-paper.ensures c.if-is_empty.ensures in
+    end_is_none c.args.map.now c.papers_are_lines.ensures _ _ r.used _ r.papers c.papers.game _ c.tell_end.result r.played r.fronts empty (c.in_ok-front.ensures.read _ _ r.read)
+    c.in_ok-front.ensures.front c.tell_end.ensures.right
 
 pub returns-then-is_empty-clause-ends : goal.returns-then-is_empty-clause-ends
 returns-then-is_empty-clause-ends g c =
@@ -45,6 +53,10 @@ returns-in_default g c =
     record {
       checked = checked_wrong c.args.map.now _ _ _ _ _ r.papers c.papers.game _ c.in_ok-new.field-0 r.played comes c.in_ok-new.ensures.said
           (not_right _ c.in_default.not-Right) c.papers.invariant.1 c.in_ok-new.ensures.told;
+      wrong = λ told.
+          wrong_is_none c.args.map.now c.papers_are_lines.ensures _ _ r.used _ _ c.after_empty_lines-paper.result.now r.papers c.papers.game _ c.in_ok-new.field-0 r.played
+          c.papers.invariant.2 r.fronts (c.in_ok-front.ensures.read _ _ r.read) c.in_ok-front.ensures.front c.as_slice.ensures.value c.after_empty_lines-paper.ensures
+          (some_bytes _ c.if-is_empty.ensures) c.in_ok-new.ensures.said (not_right _ c.in_default.not-Right);
       ends = tt;
     }
 
@@ -59,4 +71,6 @@ papers-preserved g c =
     c.in-Right.is c.in_ok-new.ensures.told in (
       reached_more c.args.map.now _ _ _ c.papers.game c.papers.ahead _ _ _ c.in-Right.new r t said,
       written_more _ _ _ r.papers c.after_empty_lines-paper.result.now c.papers.invariant.1 told,
+      stands_more c.args.map.now c.papers_have_one_answer.ensures.next c.papers_have_one_answer.ensures.first r.papers c.papers.game c.after_empty_lines-paper.result.now c.in-Right.new
+          (has_board _ _ _ _ _ r) said c.papers.invariant.2,
     )

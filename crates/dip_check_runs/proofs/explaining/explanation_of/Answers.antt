@@ -8,4 +8,4 @@ explain_phase-requires-clause-orders c =
 pub returns-in_ok-text-in-Some : goal.returns-in_ok-text-in-Some
 returns-in_ok-text-in-Some c =
     report_text c.args.map.now c.args.before.now c.in-Ok.text.now c.args.paper.now _ _ c.in-Some.report c.deref.result.now c.in_ok-phase_of-in-Ok.ensures.found
-    c.in-Some.is c.in-Ok.ensures c.deref.ensures c.in_ok-text-in-Some.ensures
+    c.in-Some.is c.in-Ok.ensures.text c.deref.ensures c.in_ok-text-in-Some.ensures

@@ -1,13 +1,24 @@
-use Rattle.std.proofs.Common.{◌≡◌, ◌∷◌, [], arith, sym, ◌∙◌, get_or, take, drop, ◌-◌}
-use Rattle.std.specs.Cmp.Lexicographic.{same_text}
-use Rattle.dip_check_runs.proofs.InputLemmas.{empty_at, first_of}
+use Rattle.std.proofs.Common.{ap, arith, length, length-append}
+use Rattle.dip_check.specs.PaperTexts.{text_of}
+use Rattle.dip_check.proofs.EndLemmas.{cut_size, end_found, end_missing, line_shorter, reaches_more}
 use Rattle.dip_check_runs.proofs.papers.paper_end.Goals as goal
 
-pub returns-then-eq-clause-paper : goal.returns-then-eq-clause-paper
-returns-then-eq-clause-paper c = λ empty.
-    let input = c.args.input.now in
-    let part = take (c.line_end-end.result - c.lines.at) (drop c.lines.at input) in
-    let same : part ≡ 69 ∷ 78 ∷ 68 ∷ 10 ∷ [] = same_text part c.as_slice.result.now (sym c.if-eq.true ∙ c.eq.ensures) ∙ c.as_slice.ensures in
-    let letter : get_or input c.lines.at 0 ≡ 69 = first_of c.lines.at (c.line_end-end.result - c.lines.at) input (78 ∷ 68 ∷ 10 ∷ []) 69 same in
-    let lf : get_or input c.lines.at 0 ≡ 10 = empty_at c.lines.at c.line_end-end.result input c.line_end-end.ensures.more c.lines-test.true empty in
-    absurd (omega arith)
+pub overflow_sub-result : goal.overflow_sub-result
+overflow_sub-result c =
+    let shorter = line_shorter c.loop-line.at.now c.in-Some.line.now c.in-Some.rest.now c.in-Some.ensures in
+    let all = ap length c.loop-line.invariant.2 in
+    omega (arith, shorter, all, length-append (text_of c.loop-line.invariant.0) c.loop-line.at.now)
+
+pub returns-then-eq-clause-ends : goal.returns-then-eq-clause-ends
+returns-then-eq-clause-ends c =
+    let found = end_found c.args.input.now c.loop-line.at.now c.in-Some.line.now c.in-Some.rest.now c.loop-line.invariant c.in-Some.ensures (rw c.as_slice.ensures at c.if-eq.ensures) in
+    record { inner = found.0; lines = found.2.0; is = cut_size c.args.input.now found.0 c.in-Some.rest.now found.2 }
+
+pub loop-line-smaller : goal.loop-line-smaller
+loop-line-smaller c = line_shorter c.loop-line.at.now c.in-Some.line.now c.in-Some.rest.now c.in-Some.ensures
+
+pub loop-line-preserved : goal.loop-line-preserved
+loop-line-preserved c = reaches_more c.args.input.now c.loop-line.at.now c.in-Some.line.now c.in-Some.rest.now c.loop-line.invariant c.in-Some.ensures (rw c.as_slice.ensures at c.if-eq.ensures)
+
+pub returns-clause-none : goal.returns-clause-none
+returns-clause-none c = end_missing c.args.input.now c.loop-line.at.now c.loop-line.invariant c.in_default.ensures

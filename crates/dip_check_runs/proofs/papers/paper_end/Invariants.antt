@@ -1,8 +1,9 @@
-use Rattle.std.proofs.Common.{length, ◌-◌, ◌≤◌}
+use Rattle.std.proofs.Common.{length}
+use Rattle.dip_check.proofs.EndLemmas.{Reaches}
 use Rattle.dip_check_runs.proofs.papers.paper_end.Given as goal
 
-abbrev pub invariant-lines : goal.invariant-lines
-invariant-lines l = l.at ≤ length l.input
+abbrev pub invariant-loop-line : goal.invariant-loop-line
+invariant-loop-line l = Reaches l.input l.at
 
-abbrev pub decreases-lines : goal.decreases-lines
-decreases-lines l = length l.input - l.at
+abbrev pub decreases-loop-line : goal.decreases-loop-line
+decreases-loop-line l = length l.at

@@ -4,4 +4,4 @@ use Rattle.dip_check_runs.proofs.saying.say_next.Goals as goal
 
 pub returns-in-Wrong : goal.returns-in-Wrong
 returns-in-Wrong c =
-    next_wrong c.args.map.now (rows.public c.args.before.now) c.in-Ok.text.now c.args.bytes.now _ c.in-Wrong.fault c.in_ok-new-in-Ok.ensures.judged c.in-Wrong.is c.in-Ok.ensures
+    next_wrong c.args.map.now (rows.public c.args.before.now) c.in-Ok.text.now c.args.bytes.now _ c.in-Wrong.fault c.in_ok-new-in-Ok.ensures.judged c.in-Wrong.is c.in-Ok.ensures.text

@@ -11,7 +11,7 @@ use Rattle.dip_judge_runs.specs.MapFiles.{IsMapOf, IsNoMapOf}
 use Rattle.dip_judge_runs.specs.Runs.{IsReadToEnd}
 use Rattle.dip_judge_runs.specs.Fresh.{AnswersFresh, IsCutShort}
 use Rattle.dip_judge.specs.Stores.{IsIdle, IsReportFailure, IsServeFailure, ReadsUpTo}
-use Rattle.dip_check_runs.specs.Runs.{EndsBegun, EndsEarly, IsChecked, IsExplained}
+use Rattle.dip_check_runs.specs.Runs.{EndsBegun, EndsEarly, IsChecked, IsExplained, IsNoGame}
 use Rattle.dip_judge.specs.Version.{FailsVersion, version_text}
 use Rattle.dip_judge.specs.declared.failures.Failure.{Failure}
 use Rattle.dip_judge.specs.declared.failures.Failure.TheVariants.{Negative, Usage, Map, Store, Run}
@@ -50,9 +50,9 @@ abbrev pub EndsFresh : Chart → Text → Option (List ℕ) → Option (List ℕ
 EndsFresh m secret known left before after (Run fault) = IsCutShort m secret fault known left before after
 EndsFresh m secret known left before after failure = ⊥
 
--- papers weren't found right, which was told; or it couldn't be told
+-- papers weren't found right, which was told, and they are no game's; or it couldn't be told
 abbrev pub FailsCheck : Chart → Option (List ℕ) → Option (List ℕ) → Option (List ℕ) → Option (List ℕ) → Failure → Type 0
-FailsCheck m known left before after Negative = IsChecked m known left before after false
+FailsCheck m known left before after Negative = IsChecked m known left before after false × IsNoGame m known
 FailsCheck m known left before after (Run fault) = EndsEarly m before after fault
 FailsCheck m known left before after failure = ⊥
 

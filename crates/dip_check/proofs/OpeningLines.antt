@@ -44,21 +44,31 @@ opening_free m text new h =
     line_lacks m (opening_public m h.game h.due h.period h.grey h.intent) (game_lacks 10 h.game refl h.named) (omega arith) refl
     (record { due = omega (arith, h.timely); period = omega (arith, h.most); papers = omega arith })
 
+-- the first two lines of an opening, and its others
+others : Chart → Public → List (List ℕ)
+others m p = lines_in (board_lines m p.board ++ codes "END\n")
+
+first_two : (m : Chart) (p : Public) → lacks 10 (line_text m p) ≡ true → lines_in (opening_paper m p) ≡ codes "PAPER 1 opening" ∷ line_text m p ∷ others m p
+unfolding others
+first_two m p free = opening_lines m p ∙ ap (λ (ls : List (List ℕ)). codes "PAPER 1 opening" ∷ ls) (end_lines m p free)
+
+-- a text with two lines alike has them
+two_alike : (ls ks : List (List ℕ)) (a c : List ℕ) (rest : List (List ℕ)) → ks ≡ a ∷ c ∷ rest → 2 ≤ alike ls ks → (more : List (List ℕ)) × (ls ≡ a ∷ c ∷ more)
+two_alike ls ks a c rest is far =
+    let two : 2 ≤ alike ls (a ∷ c ∷ rest) = subst (λ (xs : List (List ℕ)). 2 ≤ alike ls xs) is far in
+    let first = front_alike ls a (c ∷ rest) (omega (arith, two)) in
+    let second = front_alike first.0 c rest (omega (arith, two, first.2)) in
+    (second.0, first.1 ∙ ap (λ (xs : List (List ℕ)). a ∷ xs) second.1)
+
 -- a text that is like an opening up to its game line says its terms
 pub said_so_far : (m : Chart) (text paper : List ℕ) (new : Public) (h : IsOpening m paper new) → 2 ≤ alike (lines_in text) (lines_in paper)
     → AreSaid (words_in (game_line_in (lines_in text))) h.game h.due h.period h.grey h.intent
 said_so_far m text paper new h far =
     let p : Public = opening_public m h.game h.due h.period h.grey h.intent in
-    let line = line_text m p in
-    let rest = lines_in (board_lines m p.board ++ codes "END\n") in
-    let lines : lines_in (opening_paper m p) ≡ codes "PAPER 1 opening" ∷ line ∷ rest = opening_lines m p ∙ ap (λ (ls : List (List ℕ)). codes "PAPER 1 opening" ∷ ls) (end_lines m p (opening_free m paper new h)) in
-    let whole : lines_in paper ≡ codes "PAPER 1 opening" ∷ line ∷ rest = ap lines_in (h.told ∙ ap (opening_paper m) h.after) ∙ lines in
-    let two : 2 ≤ alike (lines_in text) (codes "PAPER 1 opening" ∷ line ∷ rest) = subst (λ (ls : List (List ℕ)). 2 ≤ alike (lines_in text) ls) whole far in
-    let first = front_alike (lines_in text) (codes "PAPER 1 opening") (line ∷ rest) (omega (arith, two)) in
-    let second = front_alike first.0 line rest (omega (arith, two, first.2)) in
-    let same : lines_in text ≡ codes "PAPER 1 opening" ∷ line ∷ second.0 = first.1 ∙ ap (λ (ls : List (List ℕ)). codes "PAPER 1 opening" ∷ ls) second.1 in
-    let read : game_line_in (lines_in text) ≡ line = ap game_line_in same in
-    let own : game_line_in (lines_in (opening_paper m p)) ≡ line = ap game_line_in lines in
+    let lines : lines_in (opening_paper m p) ≡ codes "PAPER 1 opening" ∷ line_text m p ∷ others m p = first_two m p (opening_free m paper new h) in
+    let same = two_alike (lines_in text) (lines_in paper) (codes "PAPER 1 opening") (line_text m p) (others m p) (ap lines_in (h.told ∙ ap (opening_paper m) h.after) ∙ lines) far in
+    let read : game_line_in (lines_in text) ≡ line_text m p = ap game_line_in same.1 in
+    let own : game_line_in (lines_in (opening_paper m p)) ≡ line_text m p = ap game_line_in lines in
     subst (λ (l : List ℕ). AreSaid (words_in l) h.game h.due h.period h.grey h.intent) (own ∙ sym read) (opening_said m h.game h.due h.period h.grey h.intent h.named h.timely h.most)
 
 -- and one with the first line of an opening alike has it alike with all

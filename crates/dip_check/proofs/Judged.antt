@@ -18,6 +18,7 @@ use Rattle.dip_desk_state.specs.Records.{Public}
 use Rattle.dip_names.specs.Forms.{is_printable}
 use Rattle.dip_reports.specs.Texts.{notice_lines}
 use Rattle.dip_check.specs.Checks.{IsAnnounced, IsCommand, IsCompared, IsJudgedNext, IsJudgedFirst, IsNoted}
+use Rattle.dip_check.specs.Differing.{first_other}
 use Rattle.dip_check.specs.Games.{IsNext, IsNotice, IsOpening}
 use Rattle.dip_check.specs.Parts.{lines_in, told_in}
 use Rattle.dip_check.specs.declared.verdict.Verdict.{Verdict}
@@ -33,13 +34,14 @@ judged_where_wanted m p text wanted after IsPaper (Right new) c next only of =
     (subst (IsNext m p text) (sym c.1) (next c.0), subst (λ (q : Public). IsOf m q.board) (sym c.1) of)
 judged_where_wanted m p text wanted after IsPaper (Wrong fault) c next only of = λ new paper. c.0 (only new paper)
 
--- a text that may come first where it is the wanted one, and each opening's text is the wanted one
+-- a text that may come first where it is the wanted one, where each opening's text is the wanted one, and none is like it further
 pub judged_first_where_wanted : (m : Chart) (text wanted : List ℕ) (after : Public) (v : Verdict) → IsCompared text wanted after v
-    → (text ≡ wanted → IsOpening m text after) → ((new : Public) → IsOpening m text new → text ≡ wanted) → IsOf m after.board
+    → (text ≡ wanted → IsOpening m text after) → ((new : Public) → IsOpening m text new → text ≡ wanted)
+    → ((paper : List ℕ) (new : Public) → IsOpening m paper new → first_other text paper ≤ first_other text wanted) → IsOf m after.board
     → IsJudgedFirst m text v
-judged_first_where_wanted m text wanted after (Right new) c first only of =
+judged_first_where_wanted m text wanted after (Right new) c first only furthest of =
     (subst (IsOpening m text) (sym c.1) (first c.0), subst (λ (q : Public). IsOf m q.board) (sym c.1) of)
-judged_first_where_wanted m text wanted after (Wrong fault) c first only of = λ new paper. c.0 (only new paper)
+judged_first_where_wanted m text wanted after (Wrong fault) c first only furthest of = ((λ new paper. c.0 (only new paper)), λ paper new h. omega (arith, c.1, furthest paper new h))
 
 -- where there are fewer papers, what is wrong is wrong
 pub judged_fewer : (m : Chart) (p : Public) (text : List ℕ) (Many Few : Public → Type 0) (v : Verdict) → ((new : Public) → Few new → Many new)

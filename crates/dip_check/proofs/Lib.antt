@@ -8,6 +8,7 @@ pub mod PaperLemmas
 pub mod GameLines
 pub mod DrawLemmas
 pub mod OpeningLemmas
+pub mod OpeningLines
 pub mod Listed
 pub mod Coming
 pub mod Publishing

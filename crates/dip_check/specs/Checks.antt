@@ -87,10 +87,12 @@ IsJudgedNext m p text IsPaper (Wrong fault) = (new : Public) → IsPaper new →
 abbrev pub IsJudgedPaper : Chart → Public → List ℕ → Verdict → Type 0
 IsJudgedPaper m p text v = IsJudgedNext m p text (IsNext m p text) v
 
--- a text is right only where it may come first, and the game stands so, with a board of the map; it is wrong only where it is no opening
+-- a text is right only where it may come first, and the game stands so, with a board of the map; it is wrong only where it is no opening,
+-- and each opening differs from it in the line told or before it
 abbrev pub IsJudgedFirst : Chart → List ℕ → Verdict → Type 0
 IsJudgedFirst m text (Right new) = IsOpening m text (rows.public new) × IsOf m new.board.value
-IsJudgedFirst m text (Wrong fault) = (new : Public) → IsOpening m text new → ⊥
+IsJudgedFirst m text (Wrong fault) = ((new : Public) → IsOpening m text new → ⊥)
+    × ((paper : List ℕ) (new : Public) → IsOpening m paper new → first_other text paper ≤ fault.line)
 
 -- powers may share a game with this board: they can be named by a vote, and all survive
 pub record MayShare (m : Chart) (b : Position) (powers : List ℕ) : Type 0 where

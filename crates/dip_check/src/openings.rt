@@ -129,7 +129,7 @@ fn check_terms(
 }
 
 /// What is said of a text that is to be the first paper of a game. It is wrong only where no letter can open a game by a paper with
-/// that text.
+/// that text, and each paper by which one can differs from it in the line told or before it.
 ///
 /// # Errors
 /// Want of memory alone.

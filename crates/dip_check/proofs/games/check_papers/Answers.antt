@@ -55,4 +55,4 @@ returns-in-Wrong c =
     let t : List ℕ = (first_of ls).now in
     let is : ls ≡ first_of ls ∷ drop 1 ls = whole ls (λ none. false≢true (c.if-is_empty.ensures ∙ eq-eqb (length ls) 0 none)) in
     let wrong : IsJudgedFirst m t (Wrong c.in-Wrong.fault) = subst (IsJudgedFirst m t) c.in-Wrong.is c.in_ok-first.ensures in
-    subst (λ (xs : List (Bor (List ℕ))). ((new : Public) → AreOfGame m (texts xs) new → ⊥) × IsFirstWrong (AreOfGame m) (texts xs) 1) (sym is) (opening_wrong m t (texts (drop 1 ls)) wrong)
+    subst (λ (xs : List (Bor (List ℕ))). ((new : Public) → AreOfGame m (texts xs) new → ⊥) × IsFirstWrong (AreOfGame m) (texts xs) 1) (sym is) (opening_wrong m t (texts (drop 1 ls)) wrong.0)

@@ -275,7 +275,7 @@ begun_none m game a = record { kind = tt; text = end_text game; may = inr refl; 
 pub first_wrong : (m : Chart) (text bytes : List ℕ) (v : Verdict) (fault : Fault) → IsJudgedFirst m text v → v ≡ WrongText fault → text ≡ bytes
     → (new : Public) → IsOpening m bytes new → ⊥
 first_wrong m text bytes v fault judged is same new first =
-    subst (λ (x : Verdict). IsJudgedFirst m text x) is judged new (subst (λ (t : List ℕ). IsOpening m t new) (sym same) first)
+    let none = subst (λ (x : Verdict). IsJudgedFirst m text x) is judged in none.0 new (subst (λ (t : List ℕ). IsOpening m t new) (sym same) first)
 
 pub next_wrong : (m : Chart) (p : Public) (text bytes : List ℕ) (v : Verdict) (fault : Fault) → IsJudgedPaper m p text v → v ≡ WrongText fault → text ≡ bytes
     → (new : Public) → IsNext m p bytes new → ⊥

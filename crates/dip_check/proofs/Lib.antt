@@ -1,4 +1,5 @@
 pub mod LineLemmas
+pub mod EndLemmas
 pub mod NameTexts
 pub mod Placing
 pub mod OrderTexts
@@ -17,6 +18,7 @@ pub mod Staying
 pub mod GameTexts
 pub mod OrderLines
 pub mod PaperParts
+pub mod PaperLines
 pub mod MovesBack
 pub mod RetreatsBack
 pub mod WinterCentres
@@ -28,5 +30,3 @@ pub mod Judged
 pub mod KindsApart
 pub mod OneAnswer
 pub mod Chains
-pub mod PaperLines
-pub mod EndLemmas

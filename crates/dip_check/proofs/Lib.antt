@@ -1,4 +1,5 @@
 pub mod LineLemmas
+pub mod EndLemmas
 pub mod NameTexts
 pub mod Placing
 pub mod OrderTexts
@@ -18,6 +19,7 @@ pub mod Staying
 pub mod GameTexts
 pub mod OrderLines
 pub mod PaperParts
+pub mod PaperLines
 pub mod MovesBack
 pub mod RetreatsBack
 pub mod WinterCentres
@@ -31,5 +33,3 @@ pub mod OneAnswer
 pub mod ToldLines
 pub mod ToldPapers
 pub mod Chains
-pub mod PaperLines
-pub mod EndLemmas

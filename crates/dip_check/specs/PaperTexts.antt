@@ -2,10 +2,11 @@
 use Rattle.std.specs.Prelude.{◌≡◌, ◌++◌, List, ℕ, true, codes}
 use Rattle.std.specs.List.{AllByRecursion, list_all}
 use Rattle.dip_names.specs.Forms.{is_printable}
-pub use Rattle.dip_letters.specs.Lines.{AreInner, CutsAt, HasNoEnd, end_line, line_at, text_of}
 use Rattle.dip_map.specs.Charts.{Chart}
 use Rattle.dip_desk_state.specs.Records.{Public}
 use Rattle.dip_check.specs.Games.{AreOfGame}
+-- the words of letters for lines and for the first line `END`, passed on to those who cut papers
+pub use Rattle.dip_letters.specs.Lines.{AreInner, HasNoEnd, end_line, line_at, text_of}
 
 -- a text that begins with `PAPER `: lines of printable characters, of which the last one, and no other, is `END`
 pub record IsPaperText (text : List ℕ) : Type 0 where

@@ -1,6 +1,6 @@
 //! Laws of checking, each the contract of a function that does nothing.
-ghost use Rattle.dip_map.specs.Charts.{Chart};
 ghost use Rattle.dip_check.specs.PaperTexts.{PapersAreLines};
+ghost use Rattle.dip_map.specs.Charts.{Chart};
 ghost use Rattle.dip_check.specs.Laws.{GivenAreReadBack, HistoriesAreRight, MovementsAreDecided, OpeningsHaveOneAnswer, PapersHaveOneAnswer, PublishedIsNext, RetreatsAreReadBack, StandingIsReadBack, StandingIsSettled, StaysGames};
 
 use dip_decide::explained_is_lawful;

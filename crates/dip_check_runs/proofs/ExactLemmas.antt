@@ -17,7 +17,7 @@ use Rattle.dip_check.proofs.EndLemmas.{ArePrintable, cut_unique, text_ascii}
 use Rattle.dip_check.proofs.OneAnswer.{next_period}
 use Rattle.dip_judge_runs.specs.declared.run.RunFault.{RunFault}
 use Rattle.dip_check_runs.specs.Input.{AreEmptyLines, EndsOnce, IsAfterLines, IsRead, IsTakenFront, closing}
-use Rattle.dip_check_runs.specs.Runs.{AreFronts, ArePlayed, HasBoard, IsNoGame, IsSaid, is_right}
+use Rattle.dip_check_runs.specs.Runs.{AreFronts, ArePlayed, HasBoard, TellsIfGame, IsSaid, is_right}
 use Rattle.dip_check_runs.specs.declared.input.Ahead.{Ahead}
 use Rattle.dip_check_runs.specs.declared.saying.Said.{Said}
 use Rattle.dip_check_runs.specs.declared.saying.Said.TheVariants.{Right, Wrong, NoText}
@@ -236,14 +236,18 @@ some_bytes t some is = false≢true (some ∙ ap (λ (l : List ℕ). length l ==
 
 pub wrong_is_none : (m : Chart) → PapersAreLines m → (known left : Option (List ℕ)) (used front slice paper : List ℕ) (papers : List (List ℕ)) (game : Option Row) (ahead : Ahead) (said : Said)
     → ArePlayed m papers game → StandsSo m papers game → AreFronts used papers → IsRead known left (used ++ front) ahead → IsTakenFront front ahead
-    → slice ≡ front → IsAfterLines slice paper → paper ≢ [] → IsSaid m game paper said → is_right said ≡ false → IsNoGame m known
+    → slice ≡ front → IsAfterLines slice paper → paper ≢ [] → IsSaid m game paper said → is_right said ≡ false → TellsIfGame m known false
 wrong_is_none m texts None left used front slice paper papers game ahead said played stands fronts read taken same after some is wrong = tt
-wrong_is_none m texts (Some xs) left used front slice paper papers game ahead said played stands fronts read taken same after some is wrong = λ others new spelled game_of.
+wrong_is_none m texts (Some xs) left used front slice paper papers game ahead said played stands fronts read taken same after some is wrong = λ g.
+    let others = g.papers in
+    let new = g.public in
+    let spelled = g.spelled in
+    let game_of = g.are in
     let p = parts xs left (used ++ front) ahead read in
     let those = texts others new game_of in
     let all : used ++ (front ++ p.rest) ≡ spelled.front ++ spelled.lines = sym (append_assoc used front p.rest) ∙ sym p.is ∙ spelled.parts in
-    let g = goes papers others used spelled.front (front ++ p.rest) spelled.lines (played_texts m texts papers game played) those fronts spelled.fronts spelled.empty all in
-    let comes = next_paper papers others front after.0 paper p.rest spelled.lines (sym same ∙ after.2) after.1 after.3 some spelled.empty those g (is_taken front p.rest ahead taken p.none) in
+    let found = goes papers others used spelled.front (front ++ p.rest) spelled.lines (played_texts m texts papers game played) those fronts spelled.fronts spelled.empty all in
+    let comes = next_paper papers others front after.0 paper p.rest spelled.lines (sym same ∙ after.2) after.1 after.3 some spelled.empty those found (is_taken front p.rest ahead taken p.none) in
     not_next m game paper said comes.later new is wrong comes.text (stands.only (paper ∷ comes.later) new (subst (λ (ls : List (List ℕ)). AreOfGame m ls new) comes.are game_of))
 
 -- ---- an input of empty lines alone
@@ -259,23 +263,47 @@ none_used used [] is fronts = fronts
 none_used used (t ∷ ts) is fronts = cc
 
 empty_is_none : (m : Chart) → PapersAreLines m → (known left : Option (List ℕ)) (used front : List ℕ) (papers : List (List ℕ)) (ahead : Ahead) → papers ≡ [] → AreFronts used papers
-    → AreEmptyLines front → IsRead known left (used ++ front) ahead → IsTakenFront front ahead → IsNoGame m known
+    → AreEmptyLines front → IsRead known left (used ++ front) ahead → IsTakenFront front ahead → TellsIfGame m known false
 empty_is_none m texts None left used front papers ahead played fronts empty read taken = tt
 empty_is_none m texts (Some xs) left used front papers ahead played fronts empty read (inl cut) = absurd (no_lines front cut empty)
-empty_is_none m texts (Some xs) left used front papers ahead played fronts empty read (inr end) = λ others new spelled game_of.
+empty_is_none m texts (Some xs) left used front papers ahead played fronts empty read (inr end) = λ g.
+    let others = g.papers in
+    let new = g.public in
+    let spelled = g.spelled in
+    let game_of = g.are in
     let p = parts xs left (used ++ front) ahead read in
     let whole : front ≡ spelled.front ++ spelled.lines =
     ap (λ (l : List ℕ). l ++ front) (sym (none_used used papers played fronts)) ∙ sym (append-nil (used ++ front)) ∙ ap (λ (l : List ℕ). (used ++ front) ++ l) (sym (p.none end.1 end.2)) ∙ sym p.is ∙ spelled.parts in
     no_front spelled.front spelled.lines front others m new (texts others new game_of) spelled.fronts empty whole game_of
 
-told_empty : (m : Chart) → PapersAreLines m → (known left : Option (List ℕ)) (used front : List ℕ) (papers : List (List ℕ)) (game : Option Row) (ahead : Ahead) → ArePlayed m papers game
-    → AreFronts used papers → AreEmptyLines front → IsRead known left (used ++ front) ahead → IsTakenFront front ahead → is_some game ≡ false → IsNoGame m known
-told_empty m texts known left used front papers None ahead played fronts empty read taken none = empty_is_none m texts known left used front papers ahead played fronts empty read taken
-told_empty m texts known left used front papers (Some p) ahead played fronts empty read taken none = absurd (true≢false none)
+-- what is told in the end is so: the input is a game's papers, or there is no paper
+all_is_game : (m : Chart) (known left : Option (List ℕ)) (used front : List ℕ) (papers : List (List ℕ)) (p : Row) (ahead : Ahead) → AreOfGame m papers (rows.public p) → AreFronts used papers
+    → AreEmptyLines front → IsRead known left (used ++ front) ahead → IsTakenFront front ahead → TellsIfGame m known true
+all_is_game m None left used front papers p ahead are fronts empty read taken = tt
+all_is_game m (Some xs) left used front papers p ahead are fronts empty read (inl cut) = absurd (no_lines front cut empty)
+all_is_game m (Some xs) left used front papers p ahead are fronts empty read (inr end) =
+    let whole = parts xs left (used ++ front) ahead read in
+    record {
+      papers = papers;
+      public = rows.public p;
+      spelled = record {
+        front = used;
+        lines = front;
+        fronts = fronts;
+        empty = empty;
+        parts = whole.is ∙ ap (λ (l : List ℕ). (used ++ front) ++ l) (whole.none end.1 end.2) ∙ append-nil (used ++ front);
+      };
+      are = are;
+    }
 
-pub end_is_none : (m : Chart) → PapersAreLines m → (known left : Option (List ℕ)) (used front : List ℕ) (papers : List (List ℕ)) (game : Option Row) (ahead : Ahead) (r : Result Bool RunFault)
+told_end : (m : Chart) → PapersAreLines m → (known left : Option (List ℕ)) (used front : List ℕ) (papers : List (List ℕ)) (game : Option Row) (ahead : Ahead) → ArePlayed m papers game
+    → AreFronts used papers → AreEmptyLines front → IsRead known left (used ++ front) ahead → IsTakenFront front ahead → TellsIfGame m known (is_some game)
+told_end m texts known left used front papers None ahead played fronts empty read taken = empty_is_none m texts known left used front papers ahead played fronts empty read taken
+told_end m texts known left used front papers (Some p) ahead played fronts empty read taken = all_is_game m known left used front papers p ahead played.0 fronts empty read taken
+
+pub end_is_exact : (m : Chart) → PapersAreLines m → (known left : Option (List ℕ)) (used front : List ℕ) (papers : List (List ℕ)) (game : Option Row) (ahead : Ahead) (r : Result Bool RunFault)
     → ArePlayed m papers game → AreFronts used papers → AreEmptyLines front → IsRead known left (used ++ front) ahead → IsTakenFront front ahead
-    → IfOk r (λ right. right ≡ is_some game) → IfOk r (λ right. right ≡ false → IsNoGame m known)
-end_is_none m texts known left used front papers game ahead r played fronts empty read taken is =
-    on_ok (λ right. right ≡ is_some game) (λ right. right ≡ false → IsNoGame m known) r is
-    (λ right same wrong. told_empty m texts known left used front papers game ahead played fronts empty read taken (sym same ∙ wrong))
+    → IfOk r (λ right. right ≡ is_some game) → IfOk r (TellsIfGame m known)
+end_is_exact m texts known left used front papers game ahead r played fronts empty read taken is =
+    on_ok (λ right. right ≡ is_some game) (TellsIfGame m known) r is
+    (λ right same. subst (λ (b : Bool). TellsIfGame m known b) (sym same) (told_end m texts known left used front papers game ahead played fronts empty read taken))

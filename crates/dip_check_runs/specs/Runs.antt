@@ -37,10 +37,18 @@ abbrev pub ArePlayed : Chart → List (List ℕ) → Option Row → Type 0
 ArePlayed m papers None = papers ≡ []
 ArePlayed m papers (Some p) = AreOfGame m papers (rows.public p) × IsOf m p.board.value
 
--- the input, where it is known, is the papers of no game of the map; an LF is put after it, which its last line may lack
-abbrev pub IsNoGame : Chart → Option (List ℕ) → Type 0
-IsNoGame m None = Unit {0}
-IsNoGame m (Some input) = (papers : List (List ℕ)) (new : Public) → AreSpelled (input ++ 10 ∷ []) papers → AreOfGame m papers new → ⊥
+-- an input is the papers of a game of the map, with nothing but empty lines around them; the LF of its last line may be missing
+pub record IsGame (m : Chart) (input : List ℕ) : Type 0 where
+  pub papers : List (List ℕ)
+  pub public : Public
+  pub spelled : AreSpelled (input ++ 10 ∷ []) papers
+  pub are : AreOfGame m papers public
+
+-- the answer to whether an input is that, where it is known: right where it is, and wrong where it isn't
+abbrev pub TellsIfGame : Chart → Option (List ℕ) → Bool → Type 0
+TellsIfGame m None right = Unit {0}
+TellsIfGame m (Some input) true = IsGame m input
+TellsIfGame m (Some input) false = ¬ IsGame m input
 
 -- the board of the game so far is one of the map
 abbrev pub HasBoard : Chart → Option Row → Type 0

@@ -1,7 +1,7 @@
 //! Papers that are checked: each is made again from the one before it, up to the first wrong one.
-ghost use Rattle.std.specs.Prelude.{◌≡◌, ℕ, IfErr, IfOk, OnErr, OnOk, false, is_some, string_bytes, take};
+ghost use Rattle.std.specs.Prelude.{◌≡◌, ℕ, IfErr, IfOk, OnErr, OnOk, is_some, string_bytes, take};
 ghost use Rattle.std.specs.Io.KnownBytes.{Appends};
-ghost use Rattle.dip_check_runs.specs.Runs.{EndsEarly, HasBoard, IsBegunAfter, IsChecked, IsNoGame, IsSaid, end_text};
+ghost use Rattle.dip_check_runs.specs.Runs.{EndsEarly, HasBoard, TellsIfGame, IsBegunAfter, IsChecked, IsSaid, end_text};
 ghost use Rattle.dip_check_runs.specs.Texts as t;
 
 use crate::input::{next_front, nothing_ahead, skip_rest};
@@ -103,8 +103,7 @@ pub fn check_papers<R: Read, W: Write>(
 ) -> Result<bool, RunFault>
     ensures checked { IfOk result (IsChecked map.now (R.remaining reader.old)
         (R.remaining reader.new) (W.contents writer.old) (W.contents writer.new)) }
-    ensures wrong { IfOk result
-        (λ right. right ≡ false → IsNoGame map.now (R.remaining reader.old)) }
+    ensures exact { IfOk result (TellsIfGame map.now (R.remaining reader.old)) }
     ensures ends { IfErr result
         (EndsEarly map.now (W.contents writer.old) (W.contents writer.new)) }
 {

@@ -11,7 +11,7 @@ use Rattle.dip_judge_runs.specs.MapFiles.{IsMapOf, IsNoMapOf}
 use Rattle.dip_judge_runs.specs.Runs.{IsReadToEnd}
 use Rattle.dip_judge_runs.specs.Fresh.{AnswersFresh, IsCutShort}
 use Rattle.dip_judge.specs.Stores.{IsIdle, IsReportFailure, IsServeFailure, ReadsUpTo}
-use Rattle.dip_check_runs.specs.Runs.{EndsBegun, EndsEarly, IsChecked, IsExplained, IsNoGame}
+use Rattle.dip_check_runs.specs.Runs.{EndsBegun, EndsEarly, IsChecked, IsExplained, TellsIfGame}
 use Rattle.dip_judge.specs.Version.{FailsVersion, version_text}
 use Rattle.dip_judge.specs.declared.failures.Failure.{Failure}
 use Rattle.dip_judge.specs.declared.failures.Failure.TheVariants.{Negative, Usage, Map, Store, Run}
@@ -28,7 +28,7 @@ Streams m known left before after (Letters master file) = AnswersFresh m master.
 Streams m known left before after (Stored store file) = IsReadToEnd known left
 Streams m known left before after (Serve store port count file) = IsIdle known left before after
 Streams m known left before after (Report store game file) = left ≡ known
-Streams m known left before after (Check file) = IsChecked m known left before after true
+Streams m known left before after (Check file) = IsChecked m known left before after true × TellsIfGame m known true
 Streams m known left before after (Explain paper file) = IsExplained m paper known left before after true
 Streams m known left before after Version = (left ≡ known) × Appends before after version_text
 
@@ -52,7 +52,7 @@ EndsFresh m secret known left before after failure = ⊥
 
 -- papers weren't found right, which was told, and they are no game's; or it couldn't be told
 abbrev pub FailsCheck : Chart → Option (List ℕ) → Option (List ℕ) → Option (List ℕ) → Option (List ℕ) → Failure → Type 0
-FailsCheck m known left before after Negative = IsChecked m known left before after false × IsNoGame m known
+FailsCheck m known left before after Negative = IsChecked m known left before after false × TellsIfGame m known false
 FailsCheck m known left before after (Run fault) = EndsEarly m before after fault
 FailsCheck m known left before after failure = ⊥
 

@@ -1,6 +1,6 @@
 //! Papers that are checked, or explained.
 ghost use Rattle.std.specs.Prelude.{IfErr, OnOk, true};
-ghost use Rattle.dip_check_runs.specs.Runs.{IsChecked, IsExplained};
+ghost use Rattle.dip_check_runs.specs.Runs.{IsChecked, IsExplained, TellsIfGame};
 ghost use Rattle.dip_judge.specs.Asked.{FailsCheck, FailsExplaining};
 
 use crate::failures::Failure;
@@ -21,7 +21,8 @@ pub(crate) fn check<R: Read, W: Write>(
     map: &Map,
 ) -> Result<(), Failure>
     ensures right { OnOk result (IsChecked map.now (R.remaining reader.old)
-        (R.remaining reader.new) (W.contents writer.old) (W.contents writer.new) true) }
+        (R.remaining reader.new) (W.contents writer.old) (W.contents writer.new) true
+        × TellsIfGame map.now (R.remaining reader.old) true) }
     ensures wrong { IfErr result (FailsCheck map.now (R.remaining reader.old)
         (R.remaining reader.new) (W.contents writer.old) (W.contents writer.new)) }
 {

@@ -3,7 +3,7 @@ use Rattle.dip_check_runs.specs.Texts.{said_text}
 use Rattle.dip_check_runs.specs.declared.saying.Said.{Said}
 use Rattle.std.specs.Io.KnownBytes.{Appends}
 use Rattle.dip_check_runs.specs.Runs.{EndsEarly, IsSaid}
-use Rattle.dip_check_runs.proofs.ExactLemmas.{end_is_none, some_bytes, stands_more, stands_none, wrong_is_none}
+use Rattle.dip_check_runs.proofs.ExactLemmas.{end_is_exact, some_bytes, stands_more, stands_none, wrong_is_none}
 use Rattle.dip_check_runs.proofs.RunLemmas.{all_used, appends_none, checked_wrong, comes_next, empty_front, ends_all, ends_begun, ends_reading, ends_telling, has_board, not_right, reached_more, reached_none, taken, written_more}
 use Rattle.dip_check_runs.proofs.checking.check_papers.Goals as goal
 
@@ -24,11 +24,11 @@ returns-then-is_empty-clause-checked g c =
     let all = all_used _ _ r.used _ r.papers _ r.fronts empty (c.in_ok-front.ensures.read _ _ r.read) c.in_ok-front.ensures.front in
     ends_all c.args.map.now _ _ _ _ _ r.papers c.papers.game c.tell_end.result r.played all c.papers.invariant.1 c.tell_end.ensures.told c.tell_end.ensures.right
 
-pub returns-then-is_empty-clause-wrong : goal.returns-then-is_empty-clause-wrong
-returns-then-is_empty-clause-wrong g c =
+pub returns-then-is_empty-clause-exact : goal.returns-then-is_empty-clause-exact
+returns-then-is_empty-clause-exact g c =
     let r = c.papers.invariant.0 in
     let empty = empty_front _ _ _ c.as_slice.ensures.value c.after_empty_lines-paper.ensures c.if-is_empty.ensures in
-    end_is_none c.args.map.now c.papers_are_lines.ensures _ _ r.used _ r.papers c.papers.game _ c.tell_end.result r.played r.fronts empty (c.in_ok-front.ensures.read _ _ r.read)
+    end_is_exact c.args.map.now c.papers_are_lines.ensures _ _ r.used _ r.papers c.papers.game _ c.tell_end.result r.played r.fronts empty (c.in_ok-front.ensures.read _ _ r.read)
     c.in_ok-front.ensures.front c.tell_end.ensures.right
 
 pub returns-then-is_empty-clause-ends : goal.returns-then-is_empty-clause-ends
@@ -53,7 +53,7 @@ returns-in_default g c =
     record {
       checked = checked_wrong c.args.map.now _ _ _ _ _ r.papers c.papers.game _ c.in_ok-new.field-0 r.played comes c.in_ok-new.ensures.said
           (not_right _ c.in_default.not-Right) c.papers.invariant.1 c.in_ok-new.ensures.told;
-      wrong = λ told.
+      exact =
           wrong_is_none c.args.map.now c.papers_are_lines.ensures _ _ r.used _ _ c.after_empty_lines-paper.result.now r.papers c.papers.game _ c.in_ok-new.field-0 r.played
           c.papers.invariant.2 r.fronts (c.in_ok-front.ensures.read _ _ r.read) c.in_ok-front.ensures.front c.as_slice.ensures.value c.after_empty_lines-paper.ensures
           (some_bytes _ c.if-is_empty.ensures) c.in_ok-new.ensures.said (not_right _ c.in_default.not-Right);

@@ -49,7 +49,8 @@ def wrong_movement(paper, lines):
 
 def wrong_retreats(paper, lines):
     wanted = [f"{order} {outcome}" for order, outcome in order_lines(paper)]
-    return [f"{it} has no line of its own" for it, line in zip(wanted, lines) if not line.startswith(it)] + (["lines"] if len(wanted) != len(lines) else [])
+    wrong = [f"{it} has no line of its own" for it in wanted if sum(line.startswith(it) for line in lines) != 1]
+    return wrong + (["lines"] if len(wanted) != len(lines) else [])
 
 
 def wrong_winter(paper, lines):

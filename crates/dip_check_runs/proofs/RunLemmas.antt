@@ -1,5 +1,5 @@
 -- How far a run over papers has come, and how it ends.
-use Rattle.std.proofs.Common.{◌≡◌, ◌<◌, ◌==◌, ◌+◌, ◌-◌, ◌++◌, ◌⊎◌, IfErr, IfOk, IfSome, OnOk, Result, Ok, Err, String, Global, string_bytes, inl, inr, ℕ, Bool, true, false, List, [], ◌∷◌, Option, None, Some, is_some, length, map, take, refl, ap, sym, subst, ◌∙◌, arith}
+use Rattle.std.proofs.Common.{◌≡◌, ◌<◌, ◌==◌, ◌+◌, ◌-◌, ◌++◌, ◌⊎◌, IfErr, IfOk, IfSome, OnOk, Result, Ok, Err, String, Global, string_bytes, inl, inr, ℕ, Bool, true, false, List, [], ◌∷◌, Option, None, Some, is_some, length, map, take, take_all, refl, ap, sym, subst, ◌∙◌, arith}
 use Rattle.std.proofs.Math.Dec.{eqb-suc-zero}
 use Rattle.std.proofs.lemmas.Bool.{true≢false}
 use Rattle.std.proofs.lemmas.List.{append-nil, append_assoc}
@@ -28,8 +28,8 @@ use Rattle.dip_turn.specs.declared.report.Report.{Report}
 use Rattle.dip_judge_runs.specs.declared.run.RunFault.{RunFault}
 use Rattle.dip_judge_runs.specs.declared.run.RunFault.TheVariants.{Keep, Memory, Read, TooLong, Write}
 use Rattle.dip_check_runs.specs.Input.{AreEmptyLines, HasUsed, IsAfterLines, IsRead, IsTakenFront, closing}
-use Rattle.dip_check_runs.specs.Texts.{missing_text, no_phase_text, right_text, said_text}
-use Rattle.dip_check_runs.specs.Runs.{AreFronts, ArePlayed, ComesNext, EndsBegun, EndsEarly, EndsExplaining, HasBoard, IsAll, IsBegunAfter, IsChecked, IsExplanation, IsFound, IsFoundNext, IsFoundText, IsReadingFault, IsRunFault, IsSaid, IsTellingFault, count_played, end_text, is_right}
+use Rattle.dip_check_runs.specs.Texts.{missing_text, no_phase_text, right_text, said_text, too_long_text}
+use Rattle.dip_check_runs.specs.Runs.{AreFronts, ArePlayed, ComesNext, EndsBegun, EndsEarly, EndsExplaining, HasBoard, IsAll, IsBegunAfter, IsChecked, IsExplanation, IsFound, IsFoundNext, IsFoundText, IsReadingFault, IsRunFault, IsSaid, count_played, end_text, is_right}
 use Rattle.dip_check_runs.proofs.InputLemmas.{no_lines}
 use Rattle.dip_check_runs.specs.declared.explaining.Found.{Found}
 use Rattle.dip_check_runs.specs.declared.input.Ahead.{Ahead}
@@ -206,13 +206,6 @@ reading_is_run Memory is = tt
 reading_is_run Write is = absurd is
 reading_is_run (Keep fault) is = absurd is
 
-pub telling_is_run : (f : RunFault) → IsTellingFault f → IsRunFault f
-telling_is_run Write is = tt
-telling_is_run Memory is = tt
-telling_is_run Read is = absurd is
-telling_is_run TooLong is = absurd is
-telling_is_run (Keep fault) is = absurd is
-
 pub ends_reading : (m : Chart) (before after : Option (List ℕ)) (papers : List (List ℕ)) (game : Option Row) (f : RunFault) → ArePlayed m papers game
     → Appends before after (flat_map right_text papers) → IsReadingFault f → EndsEarly m before after f
 ends_reading m before after papers game f played so_far fault = record {
@@ -221,7 +214,7 @@ ends_reading m before after papers game f played so_far fault = record {
   game = game;
   played = played;
   text = end_text game;
-  may = inr refl;
+  may = inr (inl refl);
   size = 0;
   written = subst (λ (l : List ℕ). Appends before after l) (sym (append-nil (flat_map right_text papers))) so_far;
 }
@@ -229,7 +222,7 @@ ends_reading m before after papers game f played so_far fault = record {
 pub ends_telling : (m : Chart) (before mid after : Option (List ℕ)) (papers : List (List ℕ)) (game : Option Row) (f : RunFault) → ArePlayed m papers game
     → Appends before mid (flat_map right_text papers) → IsBegunAfter m game mid after f → EndsEarly m before after f
 ends_telling m before mid after papers game f played so_far b = record {
-  kind = telling_is_run f b.kind;
+  kind = b.kind;
   papers = papers;
   game = game;
   played = played;
@@ -269,7 +262,7 @@ not_right (NoText line) other = refl
 
 -- memory ran out before anything was told
 pub begun_none : (m : Chart) (game : Option Row) (a : Option (List ℕ)) → IsBegunAfter m game a a Memory
-begun_none m game a = record { kind = tt; text = end_text game; may = inr refl; size = 0; written = appends_none a }
+begun_none m game a = record { kind = tt; text = end_text game; may = inr (inl refl); size = 0; written = appends_none a }
 
 -- what is said of a text is said of the bytes that it is
 pub first_wrong : (m : Chart) (text bytes : List ℕ) (v : Verdict) (fault : Fault) → IsJudgedFirst m text v → v ≡ WrongText fault → text ≡ bytes
@@ -399,3 +392,22 @@ begun_some m number known left before after f text explained is found begun = re
 pub memory_reads : {A : Type 0} (r : Result A RunFault) → IfErr r (λ f. f ≡ Memory) → IfErr r IsReadingFault
 memory_reads (Ok a) h = tt
 memory_reads (Err f) h = subst (λ (x : RunFault). IsReadingFault x) (sym h) tt
+
+-- what stopped the reading was told, or nothing had to be told
+pub stopped_silently : (f : RunFault) (a : Option (List ℕ)) → IsReadingFault f → (m : Chart) (game : Option Row) → IsBegunAfter m game a a f
+stopped_silently f a fault m game =
+    record { kind = reading_is_run f fault; text = end_text game; may = inr (inl refl); size = 0; written = appends_none a }
+
+pub stopped_long : (f : RunFault) (front paper text : List ℕ) (a b : Option (List ℕ)) → IsRunFault f → IsAfterLines front paper → 1048576 < length front
+    → text ≡ too_long_text paper → (size : ℕ) × Appends a b (take size text) → (m : Chart) (game : Option Row) → IsBegunAfter m game a b f
+stopped_long f front paper text a b fault after long told begun m game = record {
+  kind = fault;
+  text = text;
+  may = inr (inr (record { front = front; paper = paper; after = after; long = long; told = told }));
+  size = begun.0;
+  written = begun.1;
+}
+
+-- a text that was told whole
+pub whole_text : (a b : Option (List ℕ)) (text : List ℕ) → Appends a b text → (size : ℕ) × Appends a b (take size text)
+whole_text a b text told = (length text, subst (λ (l : List ℕ). Appends a b l) (sym (take_all (length text) text (omega arith))) told)

@@ -1,5 +1,5 @@
 -- What a run over papers reads, says and writes.
-use Rattle.std.specs.Prelude.{◌≡◌, ◌+◌, ◌++◌, ◌⊎◌, ℕ, Bool, false, true, List, [], ◌∷◌, Option, None, Some, take}
+use Rattle.std.specs.Prelude.{◌≡◌, ◌<◌, ◌+◌, ◌++◌, ◌⊎◌, length, ℕ, Bool, false, true, List, [], ◌∷◌, Option, None, Some, take}
 use Rattle.std.specs.List.{flat_map}
 use Rattle.std.specs.Io.KnownBytes.{Appends}
 use Rattle.std.specs.Str.{IsUtf8}
@@ -12,9 +12,9 @@ use Rattle.dip_turn.specs.declared.report.Report.{Report}
 use Rattle.dip_check.specs.Games.{AreOfGame, IsNext, IsOpening, IsPhaseOf}
 use Rattle.dip_explain.specs.Phases.{phase_explained}
 use Rattle.dip_judge_runs.specs.declared.run.RunFault.{RunFault}
-use Rattle.dip_judge_runs.specs.declared.run.RunFault.TheVariants.{Keep, Memory, Read, TooLong, Write}
-use Rattle.dip_check_runs.specs.Input.{AreEmptyLines, HasUsed, HasUsedAll}
-use Rattle.dip_check_runs.specs.Texts.{count_text, empty_text, missing_text, no_phase_text, right_text, said_text}
+use Rattle.dip_judge_runs.specs.declared.run.RunFault.TheVariants.{Keep, Memory, Read, TooLong}
+use Rattle.dip_check_runs.specs.Input.{AreEmptyLines, HasUsed, HasUsedAll, IsAfterLines}
+use Rattle.dip_check_runs.specs.Texts.{count_text, empty_text, missing_text, no_phase_text, right_text, said_text, too_long_text}
 use Rattle.dip_check_runs.specs.declared.explaining.Found.{Found}
 use Rattle.dip_check_runs.specs.declared.saying.Said.{Said}
 use Rattle.dip_check_runs.specs.declared.saying.Said.TheVariants.{Right, Wrong, NoText}
@@ -194,12 +194,6 @@ IsReadingFault TooLong = Unit {0}
 IsReadingFault Memory = Unit {0}
 IsReadingFault _ = ⊥
 
--- a fault of saying and telling
-abbrev pub IsTellingFault : RunFault → Type 0
-IsTellingFault Write = Unit {0}
-IsTellingFault Memory = Unit {0}
-IsTellingFault _ = ⊥
-
 -- a keeper's fault is none of a run that has no keeper
 abbrev pub IsRunFault : RunFault → Type 0
 IsRunFault (Keep fault) = ⊥
@@ -210,13 +204,21 @@ abbrev pub end_text : Option Row → List ℕ
 end_text None = empty_text
 end_text (Some p) = count_text p.papers
 
+-- what is told of bytes that are longer than a paper with the empty lines before it may be
+pub record IsTooLong (text : List ℕ) : Type 0 where
+  pub front : List ℕ
+  pub paper : List ℕ
+  pub after : IsAfterLines front paper
+  pub long : 1048576 < length front
+  pub told : text ≡ too_long_text paper
+
 -- what a check may tell after the papers that were played
 abbrev pub MayTell : Chart → Option Row → List ℕ → Type 0
-MayTell m game text = ((paper : List ℕ) × (said : Said) × IsSaid m game paper said × (text ≡ said_text paper said)) ⊎ (text ≡ end_text game)
+MayTell m game text = ((paper : List ℕ) × (said : Said) × IsSaid m game paper said × (text ≡ said_text paper said)) ⊎ ((text ≡ end_text game) ⊎ IsTooLong text)
 
 -- what may be told after the papers that were played was begun, or nothing of it was told
 pub record IsBegunAfter (m : Chart) (game : Option Row) (before after : Option (List ℕ)) (fault : RunFault) : Type 0 where
-  pub kind : IsTellingFault fault
+  pub kind : IsRunFault fault
   pub text : List ℕ
   pub may : MayTell m game text
   pub size : ℕ

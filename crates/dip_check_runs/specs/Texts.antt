@@ -1,6 +1,7 @@
 -- What a run over papers tells.
-use Rattle.std.specs.Prelude.{ℕ, zero, suc, ◌==◌, ◌++◌, List, [], ◌∷◌, codes, string_bytes, if◌then◌else◌}
+use Rattle.std.specs.Prelude.{ℕ, zero, suc, ◌==◌, ◌+◌, ◌++◌, take, List, [], ◌∷◌, codes, string_bytes, if◌then◌else◌}
 use Rattle.std.specs.Fmt.{decimal}
+use Rattle.std.specs.List.{count_by}
 use Rattle.dip_check.specs.declared.verdict.Wanted.{Wanted}
 use Rattle.dip_check.specs.declared.verdict.Wanted.TheVariants.{Line, OrderOf, AnOrder, AText, AGameLine, NoLine}
 use Rattle.dip_check_runs.specs.declared.saying.Said.{Said}
@@ -55,6 +56,14 @@ empty_text = codes "no paper: the input is empty\n"
 -- what is told where the input has so many papers, and not the one of this number
 unfoldable pub missing_text : ℕ → ℕ → List ℕ
 missing_text number papers = codes "no paper " ++ (decimal number ++ (codes ": the input has " ++ (decimal papers ++ codes "\n")))
+
+-- the line, counted from 1, in which the byte after these stands
+abbrev pub line_after : List ℕ → ℕ
+line_after bytes = count_by (λ b. b == 10) bytes + 1
+
+-- what is told of a paper that is longer than may be: the line that goes past the most bytes
+unfoldable pub too_long_text : List ℕ → List ℕ
+too_long_text paper = title_in paper ++ (codes " is too long: line " ++ (decimal (line_after (take 1048576 paper)) ++ codes " goes past 1048576 bytes\n"))
 
 -- what is told of a paper that plays no phase
 abbrev pub no_phase_text : List ℕ → List ℕ

@@ -1,13 +1,15 @@
 //! Papers that are checked: each is made again from the one before it, up to the first wrong one.
-ghost use Rattle.std.specs.Prelude.{◌≡◌, ℕ, IfErr, IfOk, OnErr, OnOk, is_some, string_bytes, take};
+ghost use Rattle.std.specs.Prelude.{◌≡◌, ◌<◌, ℕ, Option, IfErr, IfOk, OnErr, OnOk, is_some, length, string_bytes, take};
 ghost use Rattle.std.specs.Io.KnownBytes.{Appends};
-ghost use Rattle.dip_check_runs.specs.Runs.{EndsEarly, HasBoard, TellsIfGame, IsBegunAfter, IsChecked, IsSaid, end_text};
+ghost use Rattle.dip_check_runs.specs.Runs.{EndsEarly, HasBoard, IsReadingFault, TellsIfGame, IsBegunAfter, IsChecked, IsSaid, end_text};
 ghost use Rattle.dip_check_runs.specs.Texts as t;
+ghost use Rattle.dip_desk_state.specs.declared.records.Public.{Public as Row};
+ghost use Rattle.dip_map.specs.Charts.{Chart};
 
-use crate::input::{next_front, nothing_ahead, skip_rest};
+use crate::input::{Ahead, MOST_PAPER, next_front, nothing_ahead, skip_rest};
 use crate::papers::after_empty_lines;
 use crate::saying::{Said, say};
-use crate::texts::{count_text, said_text};
+use crate::texts::{count_text, said_text, too_long_text};
 use dip_check::{papers_are_lines, papers_have_one_answer};
 use dip_desk_state::Public;
 use dip_judge_runs::RunFault;
@@ -89,12 +91,33 @@ fn tell_end<W: Write>(
     }
 }
 
+/// Tells of a paper that is longer than may be, where that is why the reading stops. The fault with which the check ends.
+fn tell_stop<W: Write>(alloc: Global, writer: &mut W, ahead: &Ahead, fault: RunFault) -> RunFault
+    requires kind { IsReadingFault fault }
+    requires long { fault ≡ RunFault.TooLong → MOST_PAPER < length ahead.now.bytes.items }
+    ensures { (m : Chart) (game : Option Row)
+        → IsBegunAfter m game (W.contents writer.old) (W.contents writer.new) result }
+{
+    match fault {
+        RunFault::TooLong => {
+            match too_long_text(alloc, after_empty_lines(ahead.bytes.as_slice())) {
+                Err(_) => RunFault::Memory,
+                Ok(text) => match tell(writer, text.as_slice()) {
+                    Err(fault) => fault,
+                    Ok(()) => RunFault::TooLong,
+                },
+            }
+        }
+        _ => fault,
+    }
+}
+
 /// Reads papers, and tells of each whether the rules give it next in the game, up to the first that is wrong. Whether all are right: just
 /// where the input is the papers of a game of the map, from its opening on, with nothing but empty lines around them. One paper and one
 /// board are in memory at a time. What comes after a wrong paper is read and isn't looked at.
 ///
 /// # Errors
-/// `Read`, `TooLong`, `Write` or `Memory`.
+/// `Read`; `TooLong` where a paper has more than `MOST_PAPER` bytes, of which it tells the line; `Write` or `Memory`.
 pub fn check_papers<R: Read, W: Write>(
     alloc: Global,
     reader: &mut R,
@@ -112,7 +135,10 @@ pub fn check_papers<R: Read, W: Write>(
     let mut ahead = nothing_ahead(alloc);
     let mut game: Option<Public> = None;
     'papers: loop {
-        let front = next_front(reader, &mut ahead)?;
+        let front = match next_front(reader, &mut ahead) {
+            Ok(front) => front,
+            Err(fault) => return Err(tell_stop(alloc, writer, &ahead, fault)),
+        };
         let paper = after_empty_lines(front.as_slice());
         if paper.is_empty() {
             return tell_end(alloc, writer, map, &game);

@@ -1,5 +1,5 @@
 //! An input that is read piece by piece: papers, each with the empty lines before it.
-ghost use Rattle.std.specs.Prelude.{◌≡◌, ◌++◌, ℕ, List, Option, [], IfErr, IfOk, OnOk, false};
+ghost use Rattle.std.specs.Prelude.{◌≡◌, ◌<◌, ◌++◌, ℕ, List, Option, [], IfErr, IfOk, IsErrOf, OnOk, false, length};
 ghost use Rattle.dip_check_runs.specs.Input.{HasUsed, IsFront, IsNearer, IsRead, IsTakenFront};
 ghost use Rattle.dip_check_runs.specs.Runs.{IsReadingFault};
 
@@ -38,6 +38,7 @@ fn read_piece<R: Read>(reader: &mut R, ahead: &mut Ahead) -> Result<(), RunFault
         → IsRead known (R.remaining reader.old) used ahead.old
         → IsRead known (R.remaining reader.new) used ahead.new) }
     ensures nearer { OnOk result (IsNearer ahead.old ahead.new) }
+    ensures short { IsErrOf result RunFault.TooLong → ⊥ }
     ensures fault { IfErr result IsReadingFault }
 {
     let mut buffer = [0u8; 16384];
@@ -63,6 +64,7 @@ fn front_size<R: Read>(reader: &mut R, ahead: &mut Ahead) -> Result<usize, RunFa
         → IsRead known (R.remaining reader.old) used ahead.old
         → IsRead known (R.remaining reader.new) used ahead.new) }
     ensures front { IfOk result (IsFront ahead.new) }
+    ensures long { IsErrOf result RunFault.TooLong → MOST_PAPER < length ahead.new.bytes.items }
     ensures fault { IfErr result IsReadingFault }
 {
     'pieces: loop {
@@ -88,6 +90,7 @@ pub(crate) fn next_front<R: Read>(reader: &mut R, ahead: &mut Ahead) -> Result<V
         → IsRead known (R.remaining reader.old) used ahead.old
         → IsRead known (R.remaining reader.new) (used ++ v.items) ahead.new) }
     ensures front { IfOk result (λ v. IsTakenFront v.items ahead.new) }
+    ensures long { IsErrOf result RunFault.TooLong → MOST_PAPER < length ahead.new.bytes.items }
     ensures fault { IfErr result IsReadingFault }
 {
     let size = front_size(reader, ahead)?;

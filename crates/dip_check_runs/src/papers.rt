@@ -64,12 +64,16 @@ pub(crate) fn title_in(paper: &[u8]) -> &[u8]
 }
 
 /// The line, counted from 1, in which the byte after these stands.
-pub(crate) fn line_after(bytes: &[u8]) -> usize {
+pub(crate) fn line_after(bytes: &[u8]) -> usize
+    ensures { result ≡ t.line_after bytes.now }
+{
     let mut line: usize = 1;
-    for byte in bytes {
-        if *byte == b'\n' {
-            line = line.saturating_add(1);
+    let mut at = 0;
+    'bytes: while at < bytes.len() {
+        if bytes[at] == b'\n' {
+            line += 1;
         }
+        at += 1;
     }
     line
 }

@@ -1,8 +1,10 @@
 //! What is told of papers.
-ghost use Rattle.std.specs.Prelude.{◌≡◌, ◌++◌, IfOk, string_bytes};
+ghost use Rattle.std.specs.Prelude.{◌≡◌, ◌++◌, IfOk, codes, string_bytes, take};
+ghost use Rattle.std.specs.Fmt.{decimal};
 ghost use Rattle.dip_check_runs.specs.Texts as t;
 
-use crate::papers::title_in;
+use crate::input::MOST_PAPER;
+use crate::papers::{line_after, title_in};
 use crate::saying::Said;
 use dip_check::{Fault, Wanted};
 use std::alloc::{AllocError, Global};
@@ -75,6 +77,33 @@ pub(crate) fn said_text(alloc: Global, paper: &[u8], said: &Said) -> Result<Vec<
     ensures { IfOk result (λ told. told.items ≡ t.said_text paper.now said.now) }
 {
     let text = verdict_text(alloc, said)?;
+    titled(alloc, paper, text.as_str())
+}
+
+/// What is told after the title of a paper of which this line goes past the most bytes.
+fn past_text(alloc: Global, line: usize) -> Result<String, AllocError>
+    ensures { IfOk result (λ text. string_bytes text ≡ codes " is too long: line "
+        ++ (decimal line ++ codes " goes past 1048576 bytes\n")) }
+{
+    format!(in alloc; " is too long: line {line} goes past 1048576 bytes\n")
+}
+
+/// The bytes of a paper, up to the most that it may have.
+fn within_most(paper: &[u8]) -> &[u8]
+    ensures { result.now ≡ take 1048576 paper.now }
+{
+    if paper.len() <= MOST_PAPER {
+        return paper;
+    }
+    &paper[..MOST_PAPER]
+}
+
+/// What is told of a paper that is longer than may be.
+#[tactic(auto, unfolding(crate::specs::Texts::too_long_text))]
+pub(crate) fn too_long_text(alloc: Global, paper: &[u8]) -> Result<Vec<u8>, AllocError>
+    ensures { IfOk result (λ told. told.items ≡ t.too_long_text paper.now) }
+{
+    let text = past_text(alloc, line_after(within_most(paper)))?;
     titled(alloc, paper, text.as_str())
 }
 

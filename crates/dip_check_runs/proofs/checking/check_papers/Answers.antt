@@ -4,32 +4,30 @@ use Rattle.dip_check_runs.specs.declared.saying.Said.{Said}
 use Rattle.std.specs.Io.KnownBytes.{Appends}
 use Rattle.dip_check_runs.specs.Runs.{EndsEarly, IsSaid}
 use Rattle.dip_check_runs.proofs.ExactLemmas.{end_is_exact, some_bytes, stands_more, stands_none, wrong_is_none}
-use Rattle.dip_check_runs.proofs.RunLemmas.{all_used, appends_none, checked_wrong, comes_next, empty_front, ends_all, ends_begun, ends_reading, ends_telling, has_board, not_right, reached_more, reached_none, taken, written_more}
+use Rattle.dip_check_runs.proofs.RunLemmas.{all_used, appends_none, checked_wrong, comes_next, empty_front, ends_all, ends_begun, ends_telling, has_board, not_right, reached_more, reached_none, taken, written_more}
 use Rattle.dip_check_runs.proofs.checking.check_papers.Goals as goal
 
 pub papers-init : goal.papers-init
 papers-init g c = (reached_none _ _ _ (c.nothing_ahead-ahead.ensures _), appends_none _, stands_none c.args.map.now)
 
-pub returns-in_err-front-clause-ends : goal.returns-in_err-front-clause-ends
-returns-in_err-front-clause-ends g c =
+pub returns-in-Err-clause-ends : goal.returns-in-Err-clause-ends
+returns-in-Err-clause-ends g c =
     let r = c.papers.invariant.0 in
-    let ends : EndsEarly c.args.map.now (g.W.Write.contents c.args.writer.now) (g.W.Write.contents c.papers.writer) c.in_err-front.field-0.0 =
-    ends_reading c.args.map.now _ _ r.papers c.papers.game _ r.played c.papers.invariant.1 c.in_err-front.ensures.fault in
-    search rules
+    ends_telling c.args.map.now _ _ _ r.papers c.papers.game _ r.played c.papers.invariant.1 (c.tell_stop.ensures c.args.map.now c.papers.game)
 
 pub returns-then-is_empty-clause-checked : goal.returns-then-is_empty-clause-checked
 returns-then-is_empty-clause-checked g c =
     let r = c.papers.invariant.0 in
     let empty = empty_front _ _ _ c.as_slice.ensures.value c.after_empty_lines-paper.ensures c.if-is_empty.ensures in
-    let all = all_used _ _ r.used _ r.papers _ r.fronts empty (c.in_ok-front.ensures.read _ _ r.read) c.in_ok-front.ensures.front in
+    let all = all_used _ _ r.used _ r.papers _ r.fronts empty (c.in-Ok.ensures.read _ _ r.read) c.in-Ok.ensures.front in
     ends_all c.args.map.now _ _ _ _ _ r.papers c.papers.game c.tell_end.result r.played all c.papers.invariant.1 c.tell_end.ensures.told c.tell_end.ensures.right
 
 pub returns-then-is_empty-clause-exact : goal.returns-then-is_empty-clause-exact
 returns-then-is_empty-clause-exact g c =
     let r = c.papers.invariant.0 in
     let empty = empty_front _ _ _ c.as_slice.ensures.value c.after_empty_lines-paper.ensures c.if-is_empty.ensures in
-    end_is_exact c.args.map.now c.papers_are_lines.ensures _ _ r.used _ r.papers c.papers.game _ c.tell_end.result r.played r.fronts empty (c.in_ok-front.ensures.read _ _ r.read)
-    c.in_ok-front.ensures.front c.tell_end.ensures.right
+    end_is_exact c.args.map.now c.papers_are_lines.ensures _ _ r.used _ r.papers c.papers.game _ c.tell_end.result r.played r.fronts empty (c.in-Ok.ensures.read _ _ r.read)
+    c.in-Ok.ensures.front c.tell_end.ensures.right
 
 pub returns-then-is_empty-clause-ends : goal.returns-then-is_empty-clause-ends
 returns-then-is_empty-clause-ends g c =
@@ -47,7 +45,7 @@ pub returns-in_default : goal.returns-in_default
 returns-in_default g c =
     let r = c.papers.invariant.0 in
     let t = taken (g.R.Read.remaining c.args.reader.now) (g.R.Read.remaining c.papers.reader) (g.R.Read.remaining c.next_front.new.reader) r.used c.as_slice.result.now
-    c.after_empty_lines-paper.result.now c.papers.ahead c.next_front.new.ahead r.read (λ read. rw (c.as_slice.ensures.value) (c.in_ok-front.ensures.read _ _ read))
+    c.after_empty_lines-paper.result.now c.papers.ahead c.next_front.new.ahead r.read (λ read. rw (c.as_slice.ensures.value) (c.in-Ok.ensures.read _ _ read))
     c.after_empty_lines-paper.ensures in
     let comes = comes_next _ _ r.used _ c.after_empty_lines-paper.result.now r.papers r.fronts t.empty (c.skip_rest.ensures _ _ t.read) in
     record {
@@ -55,7 +53,7 @@ returns-in_default g c =
           (not_right _ c.in_default.not-Right) c.papers.invariant.1 c.in_ok-new.ensures.told;
       exact =
           wrong_is_none c.args.map.now c.papers_are_lines.ensures _ _ r.used _ _ c.after_empty_lines-paper.result.now r.papers c.papers.game _ c.in_ok-new.field-0 r.played
-          c.papers.invariant.2 r.fronts (c.in_ok-front.ensures.read _ _ r.read) c.in_ok-front.ensures.front c.as_slice.ensures.value c.after_empty_lines-paper.ensures
+          c.papers.invariant.2 r.fronts (c.in-Ok.ensures.read _ _ r.read) c.in-Ok.ensures.front c.as_slice.ensures.value c.after_empty_lines-paper.ensures
           (some_bytes _ c.if-is_empty.ensures) c.in_ok-new.ensures.said (not_right _ c.in_default.not-Right);
       ends = tt;
     }
@@ -64,7 +62,7 @@ pub papers-preserved : goal.papers-preserved
 papers-preserved g c =
     let r = c.papers.invariant.0 in
     let t = taken (g.R.Read.remaining c.args.reader.now) (g.R.Read.remaining c.papers.reader) (g.R.Read.remaining c.next_front.new.reader) r.used c.as_slice.result.now
-    c.after_empty_lines-paper.result.now c.papers.ahead c.next_front.new.ahead r.read (λ read. rw (c.as_slice.ensures.value) (c.in_ok-front.ensures.read _ _ read))
+    c.after_empty_lines-paper.result.now c.papers.ahead c.next_front.new.ahead r.read (λ read. rw (c.as_slice.ensures.value) (c.in-Ok.ensures.read _ _ read))
     c.after_empty_lines-paper.ensures in
     let said = subst (λ (x : Said). IsSaid c.args.map.now c.papers.game c.after_empty_lines-paper.result.now x) c.in-Right.is c.in_ok-new.ensures.said in
     let told = subst (λ (x : Said). Appends (g.W.Write.contents c.papers.writer) (g.W.Write.contents c.judge_next.new.writer) (said_text c.after_empty_lines-paper.result.now x))

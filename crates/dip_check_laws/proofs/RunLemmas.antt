@@ -1,5 +1,6 @@
 -- What is printed of a game, and what runs over letters keep.
 use Rattle.std.proofs.Common.{◌≡◌, ◌⊎◌, inl, inr, ℕ, List, [], ◌∷◌, Option, Some, refl, sym, subst, map, arith, bytes_eq}
+use Rattle.std.specs.Prelude.{Bool, true, false}
 use Rattle.std.specs.List.{AllByRecursion, flat_map}
 use Rattle.dip_letters.specs.declared.letters.Next.{Next}
 use Rattle.dip_letters.specs.declared.letters.Next.TheVariants.{Taken, Fault, End}
@@ -16,7 +17,7 @@ use Rattle.dip_judge_runs.specs.Fresh.{fresh_desk}
 use Rattle.dip_judge_runs.specs.Runs.{AnswersAll, AnswersFront, Finds, TakesNext, letters_in}
 use Rattle.dip_check.specs.Games.{AreOfGame}
 use Rattle.dip_check.specs.Laws.{AreGames, StaysGames}
-use Rattle.dip_check_runs.specs.Runs.{AreFronts, IsGame}
+use Rattle.dip_check_runs.specs.Runs.{AreFronts, IsGame, TellsIfGame}
 use Rattle.dip_check_laws.specs.Laws.{AreRuns, Leaves, LeavesAtFault}
 
 -- what is printed
@@ -32,6 +33,10 @@ printed m s name g right found = record {
   spelled = record { front = papers_text (Some g); lines = 10 ∷ []; fronts = fronts g.papers; empty = (refl, tt); parts = refl };
   are = all_at bytes_eq name_of name (λ (g : Game). AreOfGame m g.papers g.public) s.games g right found;
 }
+
+pub found_right : (m : Chart) (input : List ℕ) (right : Bool) → IsGame m input → TellsIfGame m (Some input) right → right ≡ true
+found_right m input true is told = refl
+found_right m input false is told = absurd (told is)
 
 -- a new desk
 

@@ -1,5 +1,5 @@
 -- The laws of what is reported, as statements.
-use Rattle.std.specs.Prelude.{◌≡◌, ◌⊎◌, ℕ, List, [], ◌∷◌, Option, Some}
+use Rattle.std.specs.Prelude.{◌≡◌, ◌⊎◌, ℕ, Bool, true, List, [], ◌∷◌, Option, Some}
 use Rattle.dip_map.specs.Charts.{Chart}
 use Rattle.dip_desk_state.specs.State.{Game, State, game_at}
 use Rattle.dip_desk_machine.specs.Lawful.{IsLawful}
@@ -8,7 +8,7 @@ use Rattle.dip_judge_runs.specs.Fresh.{fresh_desk}
 use Rattle.dip_judge_runs.specs.Runs.{AnswersAll, Stops, TakesNext}
 use Rattle.dip_judge_runs.specs.declared.run.RunFault.{RunFault}
 use Rattle.dip_check.specs.Laws.{AreGames}
-use Rattle.dip_check_runs.specs.Runs.{IsGame}
+use Rattle.dip_check_runs.specs.Runs.{IsGame, TellsIfGame}
 
 -- a run that a fault ended leaves the state after the letters that it answered, or that after the next letter too
 pub record LeavesAtFault (m : Chart) (input : List ℕ) (old new : State) : Type 0 where
@@ -31,6 +31,10 @@ AreRuns m old (input ∷ inputs) new = (next : State) × Leaves m input old next
 -- where a desk's papers of each game are those of a game, so is what is printed of one
 abbrev pub ReportsAreRight : Type 0
 ReportsAreRight = (m : Chart) (s : State) (name : List ℕ) (g : Game) → AreGames m s → game_at name s ≡ Some g → IsGame m (papers_text (Some g))
+
+-- and of the papers of a game `check` answers true
+abbrev pub GamesAreFoundRight : Type 0
+GamesAreFoundRight = (m : Chart) (input : List ℕ) (right : Bool) → IsGame m input → TellsIfGame m (Some input) right → right ≡ true
 
 -- a run that answers each letter of an input keeps that, from a lawful state on, which stays lawful
 abbrev pub RunsKeepGames : Chart → Type 0

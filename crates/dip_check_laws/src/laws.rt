@@ -1,5 +1,5 @@
 //! Laws of what is reported, each the contract of a function that does nothing.
-ghost use Rattle.dip_check_laws.specs.Laws.{FaultsKeepGames, FreshDesksAreRight, ReportsAreRight, ReportsStayRight, RunsKeepGames};
+ghost use Rattle.dip_check_laws.specs.Laws.{FaultsKeepGames, FreshDesksAreRight, GamesAreFoundRight, ReportsAreRight, ReportsStayRight, RunsKeepGames};
 
 use dip_check::games_stay_right;
 use dip_desk_machine::lawful_states_stay_lawful;
@@ -8,7 +8,8 @@ use dip_map::Map;
 /// Where the papers that a desk keeps of each game are those of a game, what `report` prints of one is the papers of a game, which `check`
 /// finds right. A law: it does nothing.
 pub fn reports_are_right()
-    ensures { ReportsAreRight }
+    ensures printed { ReportsAreRight }
+    ensures found { GamesAreFoundRight }
 {}
 
 /// And so they are after a run over letters, whatever the letters say, where they were before it in a lawful state, which stays

@@ -1,5 +1,5 @@
 -- What is printed of a game, and what runs over letters keep.
-use Rattle.std.proofs.Common.{◌≡◌, ◌⊎◌, inl, inr, ℕ, List, [], ◌∷◌, Option, Some, refl, sym, subst, map, arith, bytes_eq}
+use Rattle.std.proofs.Common.{◌≡◌, ◌⊎◌, inl, inr, ℕ, List, [], ◌∷◌, ◌++◌, zero, suc, Option, Some, refl, sym, subst, map, arith, bytes_eq}
 use Rattle.std.specs.Prelude.{Bool, true, false}
 use Rattle.std.specs.List.{AllByRecursion, flat_map}
 use Rattle.dip_letters.specs.declared.letters.Next.{Next}
@@ -13,12 +13,15 @@ use Rattle.dip_desk_machine.specs.Mail.{IsMail, Mail, mail}
 use Rattle.dip_desk_machine.specs.View.{IsRun, Turn, left_by, reply_in}
 use Rattle.dip_desk_machine.proofs.ListLemmas.{all_at}
 use Rattle.dip_store.specs.Papers.{papers_text}
+use Rattle.dip_http.specs.Laws.{AreTurnsOf}
+use Rattle.dip_http.specs.Serving.{Serves, VisitAll, Visits}
 use Rattle.dip_judge_runs.specs.Fresh.{fresh_desk}
 use Rattle.dip_judge_runs.specs.Runs.{AnswersAll, AnswersFront, Finds, TakesNext, letters_in}
 use Rattle.dip_check.specs.Games.{AreOfGame}
 use Rattle.dip_check.specs.Laws.{AreGames, StaysGames}
 use Rattle.dip_check_runs.specs.Runs.{AreFronts, IsGame, TellsIfGame}
-use Rattle.dip_check_laws.specs.Laws.{AreRuns, Leaves, LeavesAtFault}
+use Rattle.dip_check_laws.specs.Laws.{AreRuns, Leaves, LeavesAtFault, Run}
+use Rattle.dip_check_laws.specs.Laws.Run.{Clients, Letters}
 
 -- what is printed
 
@@ -54,6 +57,27 @@ mails input (Taken l more ∷ nexts) rest h = (h.0.0.fits, mails more.now nexts 
 mails input (Fault fault more ∷ nexts) rest h = mails more.now nexts rest h.1
 mails input (End ∷ nexts) rest h = mails [] nexts rest h.1
 
+abbrev Mailed : List Turn → Type 0
+Mailed ts = AllByRecursion IsMail (map (λ (t : Turn). t.letter) ts)
+
+mailed_both : (xs ys : List Turn) → Mailed xs → Mailed ys → Mailed (xs ++ ys)
+mailed_both [] ys one two = two
+mailed_both (x ∷ xs) ys one two = (one.0, mailed_both xs ys one.1 two)
+
+posted : (input answer : List ℕ) (ts : List Turn) → AreTurnsOf input answer ts → Mailed ts
+posted input answer [] h = tt
+posted input answer (t ∷ []) h = (h.post.letter.fits, tt)
+posted input answer (t ∷ u ∷ ts) h = absurd h
+
+visit_mailed : (m : Chart) (old new : State) (ts : List Turn) → Visits m old ts new → Mailed ts
+visit_mailed m old new ts (inl idle) = subst Mailed (sym idle.0) tt
+visit_mailed m old new ts (inr visit) = posted visit.input visit.answer ts visit.turns_of
+
+visits_mailed : (m : Chart) (count : ℕ) (old new : State) (ts : List Turn) → VisitAll m count old ts new → Mailed ts
+visits_mailed m zero old new ts h = subst Mailed (sym h.0) tt
+visits_mailed m (suc n) old new ts h =
+    subst Mailed (sym h.3) (mailed_both h.1 h.2 (visits_mailed m n old h.0 h.1 h.4) (visit_mailed m h.0 new h.2 h.5))
+
 abbrev IsRight : Chart → State → Type 0
 IsRight m s = IsLawful m s × AreGames m s
 
@@ -61,8 +85,7 @@ module _ (m : Chart) (lawful : StaysLawful m) (games : StaysGames m) where
   step_right : (old new : State) (n : Mail) (r : Reply) → IsMail n → Step m old n r new → IsRight m old → IsRight m new
   step_right old new n r is step right = (lawful old n r new is right.0 step, games old n r new is right.0 right.1 step)
 
-  run_right : (ts : List Turn) (old new : State) → AllByRecursion IsMail (map (λ (t : Turn). t.letter) ts) → IsRun m old ts new
-      → IsRight m old → IsRight m new
+  run_right : (ts : List Turn) (old new : State) → Mailed ts → IsRun m old ts new → IsRight m old → IsRight m new
   run_right [] old new all run right = subst (IsRight m) (sym run) right
   run_right (t ∷ ts) old new all run right =
       run_right ts (left_by m t) new all.1 run.2
@@ -94,10 +117,14 @@ module _ (m : Chart) (lawful : StaysLawful m) (games : StaysGames m) where
       by (inl same) = subst (IsRight m) (sym same) there
       by (inr next) = next_right run.stops.rest run.state new next there
 
-  leaves_right : (input : List ℕ) (old new : State) → Leaves m input old new → IsRight m old → IsRight m new
-  leaves_right input old new (inl run) right = all_right input old new run.0 run.1 run.2 right
-  leaves_right input old new (inr run) right = fault_right input old new run right
+  pub serving_right : (count : ℕ) (old new : State) → Serves m count old new → IsRight m old → IsRight m new
+  serving_right count old new served right = run_right served.turns old new (visits_mailed m count old new served.turns served.visits) served.run right
 
-  pub runs_right : (inputs : List (List ℕ)) (old new : State) → AreRuns m old inputs new → IsRight m old → IsRight m new
-  runs_right [] old new runs right = subst (IsRight m) (sym runs) right
-  runs_right (input ∷ inputs) old new runs right = runs_right inputs runs.0 new runs.2 (leaves_right input old runs.0 runs.1 right)
+  leaves_right : (run : Run) (old new : State) → Leaves m run old new → IsRight m old → IsRight m new
+  leaves_right (Letters input) old new (inl run) right = all_right input old new run.0 run.1 run.2 right
+  leaves_right (Letters input) old new (inr run) right = fault_right input old new run right
+  leaves_right (Clients count) old new served right = serving_right count old new served right
+
+  pub runs_right : (runs : List Run) (old new : State) → AreRuns m old runs new → IsRight m old → IsRight m new
+  runs_right [] old new are right = subst (IsRight m) (sym are) right
+  runs_right (run ∷ runs) old new are right = runs_right runs are.0 new are.2 (leaves_right run old are.0 are.1 right)

@@ -4,6 +4,7 @@ use Rattle.dip_map.specs.Charts.{Chart}
 use Rattle.dip_desk_state.specs.State.{Game, State, game_at}
 use Rattle.dip_desk_machine.specs.Lawful.{IsLawful}
 use Rattle.dip_store.specs.Papers.{papers_text}
+use Rattle.dip_http.specs.Serving.{Serves}
 use Rattle.dip_judge_runs.specs.Fresh.{fresh_desk}
 use Rattle.dip_judge_runs.specs.Runs.{AnswersAll, Stops, TakesNext}
 use Rattle.dip_judge_runs.specs.declared.run.RunFault.{RunFault}
@@ -19,14 +20,20 @@ pub record LeavesAtFault (m : Chart) (input : List ℕ) (old new : State) : Type
   pub stops : Stops m fault input old state before after
   pub is : (new ≡ state) ⊎ TakesNext m stops.rest state new
 
--- a run over an input leaves this state: each letter of it was answered, or a fault ended the run
-abbrev pub Leaves : Chart → List ℕ → State → State → Type 0
-Leaves m input old new = ((before after : Option (List ℕ)) × AnswersAll m input old new before after) ⊎ LeavesAtFault m input old new
+-- a run of the judge: over the letters of an input, or serving so many clients
+pub data Run : Type 0 where
+  Letters : (input : List ℕ) → Run
+  Clients : (count : ℕ) → Run
 
--- runs over these inputs, each from the state that the last one left
-abbrev pub AreRuns : Chart → State → List (List ℕ) → State → Type 0
+-- a run leaves this state: each letter of an input was answered, or a fault ended that; or clients were served
+abbrev pub Leaves : Chart → Run → State → State → Type 0
+Leaves m (Letters input) old new = ((before after : Option (List ℕ)) × AnswersAll m input old new before after) ⊎ LeavesAtFault m input old new
+Leaves m (Clients count) old new = Serves m count old new
+
+-- runs, each from the state that the last one left
+abbrev pub AreRuns : Chart → State → List Run → State → Type 0
 AreRuns m old [] new = new ≡ old
-AreRuns m old (input ∷ inputs) new = (next : State) × Leaves m input old next × AreRuns m next inputs new
+AreRuns m old (run ∷ runs) new = (next : State) × Leaves m run old next × AreRuns m next runs new
 
 -- where a desk's papers of each game are those of a game, so is what is printed of one
 abbrev pub ReportsAreRight : Type 0
@@ -46,11 +53,16 @@ abbrev pub FaultsKeepGames : Chart → Type 0
 FaultsKeepGames m = (input : List ℕ) (old new : State) → IsLawful m old → AreGames m old
     → LeavesAtFault m input old new → IsLawful m new × AreGames m new
 
+-- and serving clients
+abbrev pub ServingKeepsGames : Chart → Type 0
+ServingKeepsGames m = (count : ℕ) (old new : State) → IsLawful m old → AreGames m old
+    → Serves m count old new → IsLawful m new × AreGames m new
+
 -- a new desk has no game whose papers are wrong, and is lawful
 abbrev pub FreshDesksAreRight : Type 0
 FreshDesksAreRight = (m : Chart) (master : List ℕ) → AreGames m (fresh_desk master) × IsLawful m (fresh_desk master)
 
 -- whatever runs there were since a desk was made, what is printed of a game is the papers of a game
 abbrev pub ReportsStayRight : Chart → Type 0
-ReportsStayRight m = (master : List ℕ) (inputs : List (List ℕ)) (s : State) (name : List ℕ) (g : Game)
-    → AreRuns m (fresh_desk master) inputs s → game_at name s ≡ Some g → IsGame m (papers_text (Some g))
+ReportsStayRight m = (master : List ℕ) (runs : List Run) (s : State) (name : List ℕ) (g : Game)
+    → AreRuns m (fresh_desk master) runs s → game_at name s ≡ Some g → IsGame m (papers_text (Some g))

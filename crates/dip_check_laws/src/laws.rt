@@ -1,5 +1,5 @@
 //! Laws of what is reported, each the contract of a function that does nothing.
-ghost use Rattle.dip_check_laws.specs.Laws.{FaultsKeepGames, FreshDesksAreRight, GamesAreFoundRight, ReportsAreRight, ReportsStayRight, RunsKeepGames};
+ghost use Rattle.dip_check_laws.specs.Laws.{FaultsKeepGames, FreshDesksAreRight, GamesAreFoundRight, ReportsAreRight, ReportsStayRight, RunsKeepGames, ServingKeepsGames};
 
 use dip_check::games_stay_right;
 use dip_desk_machine::lawful_states_stay_lawful;
@@ -12,11 +12,12 @@ pub fn reports_are_right()
     ensures found { GamesAreFoundRight }
 {}
 
-/// And so they are after a run over letters, whatever the letters say, where they were before it in a lawful state, which stays
-/// lawful: where all were answered, and where a fault ended the run. A law: it does nothing.
+/// And so they are after a run, whatever its letters say, where they were before it in a lawful state, which stays lawful: where all
+/// letters of an input were answered, where a fault ended that, and where clients were served. A law: it does nothing.
 pub fn runs_keep_games_right(map: &Map)
     ensures answered { RunsKeepGames map.now }
     ensures stopped { FaultsKeepGames map.now }
+    ensures served { ServingKeepsGames map.now }
 {
     lawful_states_stay_lawful(map);
     games_stay_right(map);

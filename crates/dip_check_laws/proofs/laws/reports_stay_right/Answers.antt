@@ -3,8 +3,8 @@ use Rattle.dip_check_laws.proofs.RunLemmas.{fresh_games, fresh_lawful, printed, 
 use Rattle.dip_check_laws.proofs.laws.reports_stay_right.Goals as goal
 
 pub returns : goal.returns
-returns c master inputs s name g runs found =
+returns c master runs s name g are found =
     let m = c.args.map.now in
-    let right = runs_right m c.lawful_states_stay_lawful.ensures.stays c.games_stay_right.ensures.stays inputs (fresh_desk master) s runs
+    let right = runs_right m c.lawful_states_stay_lawful.ensures.stays c.games_stay_right.ensures.stays runs (fresh_desk master) s are
     (fresh_lawful m master, fresh_games m master) in
     printed m s name g right.1 found

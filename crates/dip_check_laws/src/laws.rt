@@ -1,0 +1,38 @@
+//! Laws of what is reported, each the contract of a function that does nothing.
+ghost use Rattle.dip_check_laws.specs.Laws.{FaultsKeepGames, FreshDesksAreRight, GamesAreFoundRight, ReportsAreRight, ReportsStayRight, RunsKeepGames, ServingKeepsGames};
+
+use dip_check::games_stay_right;
+use dip_desk_machine::lawful_states_stay_lawful;
+use dip_map::Map;
+
+/// Where the papers that a desk keeps of each game are those of a game, what `report` prints of one is the papers of a game, which `check`
+/// finds right. A law: it does nothing.
+pub fn reports_are_right()
+    ensures printed { ReportsAreRight }
+    ensures found { GamesAreFoundRight }
+{}
+
+/// And so they are after a run, whatever its letters say, where they were before it in a lawful state, which stays lawful: where all
+/// letters of an input were answered, where a fault ended that, and where clients were served. A law: it does nothing.
+pub fn runs_keep_games_right(map: &Map)
+    ensures answered { RunsKeepGames map.now }
+    ensures stopped { FaultsKeepGames map.now }
+    ensures served { ServingKeepsGames map.now }
+{
+    lawful_states_stay_lawful(map);
+    games_stay_right(map);
+}
+
+/// A new desk begins so: it is lawful, and has no game. A law: it does nothing.
+pub fn fresh_desks_have_no_wrong_game()
+    ensures { FreshDesksAreRight }
+{}
+
+/// So whatever letters were answered since a desk was made, in however many runs, what `report` prints of a game is the papers of a game,
+/// which `check` finds right. A law: it does nothing.
+pub fn reports_stay_right(map: &Map)
+    ensures { ReportsStayRight map.now }
+{
+    lawful_states_stay_lawful(map);
+    games_stay_right(map);
+}

@@ -14,13 +14,13 @@ use Rattle.dip_desk_machine.specs.View.{IsRun, Turn, left_by, reply_in}
 use Rattle.dip_desk_machine.proofs.ListLemmas.{all_at}
 use Rattle.dip_store.specs.Papers.{papers_text}
 use Rattle.dip_http.specs.Laws.{AreTurnsOf}
-use Rattle.dip_http.specs.Serving.{Serves, VisitAll, Visits}
+use Rattle.dip_http.specs.Serving.{Serves, TakesOne, VisitAll, Visits}
 use Rattle.dip_judge_runs.specs.Fresh.{fresh_desk}
 use Rattle.dip_judge_runs.specs.Runs.{AnswersAll, AnswersFront, Finds, TakesNext, letters_in}
 use Rattle.dip_check.specs.Games.{AreOfGame}
 use Rattle.dip_check.specs.Laws.{AreGames, StaysGames}
 use Rattle.dip_check_runs.specs.Runs.{AreFronts, IsGame, TellsIfGame}
-use Rattle.dip_check_laws.specs.Laws.{AreRuns, Leaves, LeavesAtFault, Run}
+use Rattle.dip_check_laws.specs.Laws.{AreRuns, Leaves, LeavesAtFault, LeavesServing, Run}
 use Rattle.dip_check_laws.specs.Laws.Run.{Clients, Letters}
 
 -- what is printed
@@ -117,8 +117,18 @@ module _ (m : Chart) (lawful : StaysLawful m) (games : StaysGames m) where
       by (inl same) = subst (IsRight m) (sym same) there
       by (inr next) = next_right run.stops.rest run.state new next there
 
-  pub serving_right : (count : ℕ) (old new : State) → Serves m count old new → IsRight m old → IsRight m new
-  serving_right count old new served right = run_right served.turns old new (visits_mailed m count old new served.turns served.visits) served.run right
+  served_right : (count : ℕ) (old new : State) → Serves m count old new → IsRight m old → IsRight m new
+  served_right count old new served right = run_right served.turns old new (visits_mailed m count old new served.turns served.visits) served.run right
+
+  pub serving_right : (count : ℕ) (old new : State) → LeavesServing m count old new → IsRight m old → IsRight m new
+  serving_right count old new run right = by run.is
+    where
+      there : IsRight m run.state
+      there = served_right run.n old run.state run.serves right
+
+      by : (new ≡ run.state) ⊎ TakesOne m run.state new → IsRight m new
+      by (inl same) = subst (IsRight m) (sym same) there
+      by (inr (it, r, is, step)) = step_right run.state new it r is step there
 
   leaves_right : (run : Run) (old new : State) → Leaves m run old new → IsRight m old → IsRight m new
   leaves_right (Letters input) old new (inl run) right = all_right input old new run.0 run.1 run.2 right

@@ -1,10 +1,10 @@
 -- The laws of what is reported, as statements.
-use Rattle.std.specs.Prelude.{◌≡◌, ◌⊎◌, ℕ, Bool, true, List, [], ◌∷◌, Option, Some}
+use Rattle.std.specs.Prelude.{◌≡◌, ◌≤◌, ◌⊎◌, ℕ, Bool, true, List, [], ◌∷◌, Option, Some}
 use Rattle.dip_map.specs.Charts.{Chart}
 use Rattle.dip_desk_state.specs.State.{Game, State, game_at}
 use Rattle.dip_desk_machine.specs.Lawful.{IsLawful}
 use Rattle.dip_store.specs.Papers.{papers_text}
-use Rattle.dip_http.specs.Serving.{Serves}
+use Rattle.dip_http.specs.Serving.{Serves, TakesOne}
 use Rattle.dip_judge_runs.specs.Fresh.{fresh_desk}
 use Rattle.dip_judge_runs.specs.Runs.{AnswersAll, Stops, TakesNext}
 use Rattle.dip_judge_runs.specs.declared.run.RunFault.{RunFault}
@@ -20,15 +20,23 @@ pub record LeavesAtFault (m : Chart) (input : List ℕ) (old new : State) : Type
   pub stops : Stops m fault input old state before after
   pub is : (new ≡ state) ⊎ TakesNext m stops.rest state new
 
+-- so many clients were served, or fewer where a fault ended that, which leaves the state after them, or that after a letter more
+pub record LeavesServing (m : Chart) (count : ℕ) (old new : State) : Type 0 where
+  pub n : ℕ
+  pub most : n ≤ count
+  pub state : State
+  pub serves : Serves m n old state
+  pub is : (new ≡ state) ⊎ TakesOne m state new
+
 -- a run of the judge: over the letters of an input, or serving so many clients
 pub data Run : Type 0 where
   Letters : (input : List ℕ) → Run
   Clients : (count : ℕ) → Run
 
--- a run leaves this state: each letter of an input was answered, or a fault ended that; or clients were served
+-- a run leaves this state: each letter of an input was answered, or a fault ended that; or clients were served, all or up to a fault
 abbrev pub Leaves : Chart → Run → State → State → Type 0
 Leaves m (Letters input) old new = ((before after : Option (List ℕ)) × AnswersAll m input old new before after) ⊎ LeavesAtFault m input old new
-Leaves m (Clients count) old new = Serves m count old new
+Leaves m (Clients count) old new = LeavesServing m count old new
 
 -- runs, each from the state that the last one left
 abbrev pub AreRuns : Chart → State → List Run → State → Type 0
@@ -53,10 +61,10 @@ abbrev pub FaultsKeepGames : Chart → Type 0
 FaultsKeepGames m = (input : List ℕ) (old new : State) → IsLawful m old → AreGames m old
     → LeavesAtFault m input old new → IsLawful m new × AreGames m new
 
--- and serving clients
+-- and serving clients, all or up to a fault
 abbrev pub ServingKeepsGames : Chart → Type 0
 ServingKeepsGames m = (count : ℕ) (old new : State) → IsLawful m old → AreGames m old
-    → Serves m count old new → IsLawful m new × AreGames m new
+    → LeavesServing m count old new → IsLawful m new × AreGames m new
 
 -- a new desk has no game whose papers are wrong, and is lawful
 abbrev pub FreshDesksAreRight : Type 0

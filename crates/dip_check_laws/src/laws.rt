@@ -13,7 +13,7 @@ pub fn reports_are_right()
 {}
 
 /// And so they are after a run, whatever its letters say, where they were before it in a lawful state, which stays lawful: where all
-/// letters of an input were answered, where a fault ended that, and where clients were served. A law: it does nothing.
+/// letters of an input were answered, where clients were served, and where a fault or a crash ended either. A law: it does nothing.
 pub fn runs_keep_games_right(map: &Map)
     ensures answered { RunsKeepGames map.now }
     ensures stopped { FaultsKeepGames map.now }

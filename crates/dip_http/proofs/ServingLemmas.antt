@@ -53,7 +53,7 @@ pub takes_one : (m : Chart) (fault : HttpFault) (old s : State) → EndsBy m fau
 takes_one m Read old s by t may = absurd may
 takes_one m Memory old s by t may = absurd may
 takes_one m Write old s by t may = absurd may
-takes_one m (Keep fault) old s by t may = (may.letter, may.reply, subst (λ (o : State). Step m o may.letter may.reply t) (sym by.0) may.step)
+takes_one m (Keep fault) old s by t may = (may.letter, may.reply, may.post.letter.fits, subst (λ (o : State). Step m o may.letter may.reply t) (sym by.0) may.step)
 
 module _ {K : Type 0} (m : Chart) (b : Book K) where
   -- a client whose call isn't taken

@@ -3,7 +3,7 @@ use Rattle.std.specs.Prelude.{◌≡◌, ◌≤◌, ◌⊎◌, ℕ, zero, suc, N
 use Rattle.dip_map.specs.Charts.{Chart}
 use Rattle.dip_desk.specs.Keeping.{Book, Ends, Rises}
 use Rattle.dip_desk_machine.specs.Machine.{Step}
-use Rattle.dip_desk_machine.specs.Mail.{Mail}
+use Rattle.dip_desk_machine.specs.Mail.{IsMail, Mail}
 use Rattle.dip_desk_machine.specs.Published.{IsFair}
 use Rattle.dip_desk_state.specs.Records.{Reply}
 use Rattle.dip_desk_machine.specs.View.{IsRun, Turn}
@@ -53,7 +53,7 @@ pub record Serves (m : Chart) (count : ℕ) (old new : State) : Type 0 where
 
 -- a letter more was taken
 abbrev pub TakesOne : Chart → State → State → Type 0
-TakesOne m old new = (it : Mail) × (r : Reply) × Step m old it r new
+TakesOne m old new = (it : Mail) × (r : Reply) × IsMail it × Step m old it r new
 
 -- one client over a keeper that was open: a crash leaves the state after it, or after a letter more
 pub record MeetsAt {K : Type 0} (m : Chart) (b : Book K) (old new : K) : Type 0 where

@@ -1,4 +1,4 @@
-"""Reads the wrong bodies of `edits/`, which the prover has to refuse, and makes them in the sources.
+"""Reads the wrong bodies of `edits/`, which the prover has to refuse, and makes them in sources.
 
 The file `edits/CRATE` has those of a crate, sorted by name, with an empty line after each:
 
@@ -6,13 +6,14 @@ The file `edits/CRATE` has those of a crate, sorted by name, with an empty line 
     of: Reader::read
     why: one line, only where the name alone doesn't say why the body is wrong
     file: src/reading.rt
-    old: a text that stands in this file exactly once
+    old: a text that is in this file exactly once
     new: the text that takes its place
 
-`of:` names the function that it changes, or the definition, law or constant: `.ci/pages mend` writes
-that line. More `old:` and `new:` lines may follow, which are made one after the other, and more
-`file:` lines, each for the changes after it.
+`of:` names the function that it changes, or the definition, law or constant: `.ci/pages mend`
+writes that line. More `old:` and `new:` lines may follow, which are made one after the other, and
+more `file:` lines, each for the changes after it.
 """
+
 import dataclasses
 import functools
 import os
@@ -22,7 +23,7 @@ TOP = os.path.dirname(os.path.dirname(os.path.abspath(__file__)))
 FUNCTION = re.compile(r"(?m)^([ \t]*)(?:pub(?:\([^)]*\))? )?(?:const )?(?:unsafe )?fn (\w+)")
 # An item of a source that is no function, by its first words.
 ITEM = re.compile(r"(?m)^(?:pub(?:\([^)]*\))? )?(?:const|static|struct|enum|trait|impl|use)\b")
-# The head of an impl or a trait, with the type or the trait whose functions stand in it.
+# The head of an impl or a trait, with the type or the trait whose functions are in it.
 OWNER = re.compile(r"(?m)^(?:pub )?(?:impl(?:<.*?>)? (?:.* for )?|trait )&?(?:'\w+ )?([\w:]+)")
 # What begins a definition, a law or a lemma.
 DEFINED = re.compile(r"(?m)^(?:(?:pub|abbrev|record|data|pattern|law|lemma) )*(\w+)")
@@ -143,10 +144,11 @@ def function_at(text, head):
 
 
 def is_in_body(text, head, at):
-    """Whether a place after a function's head is in its body, and not in its signature or contract."""
+    """Whether a place after a function's head is in its body: not in its signature or contract."""
     before = text[head.start() : at]
-    signature = re.split(r"\n\s*(?:requires|ensures)\b", before)[0]
-    return re.search(rf"(?m)^{head[1]}\{{$| \{{\n", before if signature != before else signature) is not None
+    has_clauses = re.search(r"\n\s*(?:requires|ensures)\b", before)
+    opens = rf"(?m)^{head[1]}\{{$" if has_clauses else rf"(?m)^{head[1]}\{{$| \{{\n"
+    return re.search(opens, before) is not None
 
 
 def item_named(text):

@@ -4,7 +4,7 @@ The file `edits/CRATE` has those of a crate, sorted by name, with an empty line 
 
     a_reader_may_lie
     of: Reader::read
-    why: one line, only where the name alone doesn't say why the body is wrong
+    why: one line, only if the name alone doesn't say why the body is wrong
     file: src/reading.rt
     old: a text that is in this file exactly once
     new: the text that takes its place
@@ -101,7 +101,7 @@ def steps(folder, changes):
 
 
 def fault_of(folder, body):
-    """Why a wrong body can't be made in the sources of its crate; nothing where it can."""
+    """Why a wrong body can't be made in the sources of its crate; nothing if it can."""
     if not body.changes:
         return "it changes nothing"
     for file, old, text in steps(folder, body.changes):
@@ -113,7 +113,7 @@ def fault_of(folder, body):
 
 
 def texts_with(folder, changes):
-    """The files with these changes, made in turn; None where one can't be made."""
+    """The files with these changes, made in turn; None if one can't be made."""
     made = {}
     for (file, old, text), (_, _, new) in zip(steps(folder, changes), changes):
         if text.count(old) != 1:
@@ -175,7 +175,7 @@ def parts_of(folder, body):
 
 
 def named_parts(folder, body):
-    """The line `of:` of a wrong body; imports and proofs alone where it changes nothing else."""
+    """The line `of:` of a wrong body; imports and proofs only if it changes nothing else."""
     found = [(file, part_of(file, text, old)[0]) for file, old, text in steps(folder, body.changes)]
     own = [name for file, name in found if name != IMPORTS and not file.startswith("proofs/")]
     return ", ".join(dict.fromkeys(own or [name for _, name in found]))

@@ -1,11 +1,3 @@
-pub mod Alone
-pub mod Prepared
-pub mod Leading
-pub mod Trying
-pub mod Listed
-pub mod Quiet
-pub mod LastMade
-pub mod Ours
 pub mod Apart
 pub mod New
 pub mod Place
@@ -21,13 +13,7 @@ pub mod Idling
 pub mod Made
 pub mod Opened
 pub mod Outside
-pub mod Refused
 pub mod Numbers
 pub mod Parts
 pub mod Walking
-pub mod Filling
-pub mod Renewed
 pub mod Renewal
-pub mod Rewritten
-pub mod Refilling
-pub mod Short

@@ -5,11 +5,7 @@ pub mod Writable
 pub mod Asked
 pub mod Finding
 pub mod Looking
-pub mod Named
-pub mod Behind
-pub mod Seeing
-pub mod Owning
-pub mod Idling
+pub mod Authors
 pub mod Made
 pub mod Opened
 pub mod Outside

@@ -1,9 +1,7 @@
+pub mod Authors
 pub mod Laws
 pub mod Faults
 pub mod Opening
-pub mod Seen
-pub mod Owns
-pub mod Idle
 pub mod Stored
 pub mod Papers
 pub use Rattle.dip_store_schema.specs.Renewing

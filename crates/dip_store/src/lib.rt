@@ -2,16 +2,13 @@
 #![tactic(auto)]
 
 mod archive;
-mod boards;
+mod authors;
 mod faults;
 mod fitting_laws;
-mod idle;
 mod keeper;
 mod opening;
-mod owns;
 mod paper_faults;
 mod papers;
-mod seen;
 mod shared;
 
 pub use archive::write_papers;

@@ -18,12 +18,10 @@ ghost use Rattle.dip_store_schema.specs.Refusing.{IsOutage, IsRefused, IsRefused
 ghost use Rattle.dip_store.specs.Stored.{IsStore, book, fresh_keeper, said_by};
 ghost use Rattle.dip_store_tables.specs.Writing.{new_tables};
 
-use crate::idle::IdleSeats;
 use crate::keeper::SqlKeeper;
-use crate::owns::SeenOwns;
-use crate::seen::Seen;
 use dip_letters::sum;
 use dip_map::Map;
+use dip_store_memory::{IdleSeats, SeenGames, SeenOwns};
 use dip_store_schema::{
     StoreFault, check_desk, check_old_desk, has_32, has_ballots, knows_none, open_fault, renew,
     set_up_tables,
@@ -48,7 +46,7 @@ impl<S: Alter> SqlKeeper<S> {
             conn,
             failures: 0,
             of_size: 0,
-            seen: Seen::new(alloc),
+            seen: SeenGames::new(alloc),
             owns: SeenOwns::new(alloc),
             idle: IdleSeats::new(alloc),
         }

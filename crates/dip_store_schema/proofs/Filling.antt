@@ -1,7 +1,7 @@
 -- Ballots and choices, one after another.
 use Rattle.std.proofs.Common.{◌≡◌, List, [], ◌++◌, ap, sym, ◌∙◌, append_assoc, append-nil}
 use Rattle.dip_store_tables.specs.Tables.{BallotRow, ChoiceRow, Tables}
-use Rattle.dip_store_changes.specs.Parts.{more_ballots}
+use Rattle.dip_store_sql.specs.TablesAfter.{more_ballots}
 use Rattle.dip_store_schema.specs.Renewing.{more_choices}
 
 pub ballots_on : (bs cs ds : List BallotRow) → ds ≡ bs ++ cs → (t : Tables) → more_ballots cs (more_ballots bs t) ≡ more_ballots ds t

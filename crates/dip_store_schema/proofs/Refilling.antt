@@ -18,8 +18,8 @@ use Rattle.dip_desk_state.specs.Rows.{lines}
 use Rattle.dip_store_tables.proofs.ListLemmas.{ascending-map, map-map}
 use Rattle.dip_store_tables.specs.Tables.{BallotRow, ChoiceRow, GameRow, Tables}
 use Rattle.dip_store_tables.specs.Renewing.{old_ballot, old_choice, second, voteless}
-use Rattle.dip_store_changes.proofs.Apart.{front_apart}
-use Rattle.dip_store_changes.specs.Parts.{more_ballots}
+use Rattle.dip_store_sql.proofs.Keyed.{are_keyed, front_apart}
+use Rattle.dip_store_sql.specs.TablesAfter.{more_ballots, on_desk, on_seats, with_ballot, with_choice}
 use Rattle.dip_store_sql.specs.Calls.{Turns, WasKept, Writes, does_show}
 use Rattle.dip_store_sql.specs.Causes.{Faulted, IsCaused, has_faulted}
 use Rattle.dip_store_sql.specs.Creating.{create_ballot, create_choice}
@@ -28,14 +28,12 @@ use Rattle.dip_store_sql.specs.Old.{HasOld, WasGood, nine_schema, old_schema, ol
 use Rattle.dip_store_sql.specs.Rows.{put_ballot, put_choice, take_ballot, take_choice}
 use Rattle.dip_store_sql.specs.Schema.{ballot_table, choice_table, desk_table, seat_table}
 use Rattle.dip_store_sql.specs.Storing.{AreSpared, CanStand, Stores, StoresBehind, next_row, second_row, voteless_row}
-use Rattle.dip_store_sql.specs.TablesAfter.{on_desk, on_seats, with_ballot, with_choice}
 use Rattle.dip_store_sql.specs.Transactions.{Does, IsReady, always}
 use Rattle.dip_store_sql.proofs.Caused.{faulted_late}
 use Rattle.dip_store_sql.proofs.Created.{ballot_makes, choice_makes}
 use Rattle.dip_store_sql.proofs.Creating.{table_more}
 use Rattle.dip_store_sql.proofs.Defined.{ballot_defined, choice_defined}
 use Rattle.dip_store_sql.proofs.Grown.{ballot_over, ballot_over_caused, choice_over}
-use Rattle.dip_store_sql.proofs.Keyed.{are_keyed}
 use Rattle.dip_store_sql.proofs.Parts.{take_more, taken_both, went}
 use Rattle.dip_store_sql.proofs.Wants.{rows_of_none}
 use Rattle.dip_store_schema.specs.Making.{HasTables, IsSet, Tries}

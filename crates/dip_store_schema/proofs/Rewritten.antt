@@ -8,13 +8,11 @@ use Rattle.sqlite.specs.State.{Survives}
 use Rattle.dip_map.specs.Charts.{Chart}
 use Rattle.dip_store_tables.specs.Counting.{AreCounted}
 use Rattle.dip_store_tables.specs.Tables.{BallotRow, Tables}
-use Rattle.dip_store_changes.specs.Making.{IsLaid}
-use Rattle.dip_store_sql.specs.Calls.{is_honest, tables_in}
+use Rattle.dip_store_sql.specs.Calls.{IsLaid, SelectsFrom, WasKept, is_honest, old_tables_in, tables_in}
 use Rattle.dip_store_sql.proofs.Parts.{went}
 use Rattle.dip_store_schema.specs.Founding.{Keeps}
 use Rattle.dip_store_schema.specs.Making.{HasTables}
 use Rattle.dip_store_sql.specs.Old.{WasGood, old_tables_of}
-use Rattle.dip_store_sql.specs.Calls.{SelectsFrom, WasKept, old_tables_in}
 use Rattle.dip_store_tables.specs.Renewing.{OldTablesAreRenewed, old_ballot, renewed}
 use Rattle.dip_store_schema.specs.Renewing.{AreRead, Fills, IsOldStore, Renews, filled}
 use Rattle.dip_store_schema.proofs.Renewed.{filled_renewed, were_apart}

@@ -13,11 +13,10 @@ use Rattle.dip_desk_state.specs.State.{State as Content}
 use Rattle.dip_store_tables.specs.Counting.{AreCounted}
 use Rattle.dip_store_tables.specs.Tables.{BallotRow, ChoiceRow, Tables}
 use Rattle.dip_store_looks.specs.Readable.{HasText}
-use Rattle.dip_store_changes.specs.Parts.{more_ballots}
+use Rattle.dip_store_sql.specs.TablesAfter.{more_ballots, on_desk, on_seats}
 use Rattle.dip_store_sql.specs.Rows.{number_in, put_ballot, put_choice}
 use Rattle.dip_store_sql.specs.Schema.{ballot_table, choice_table, desk_table, seat_table}
 use Rattle.dip_store_sql.specs.Storing.{CanStand, IsShortDesk, IsShortSeat, second_row, voteless_row}
-use Rattle.dip_store_sql.specs.TablesAfter.{on_desk, on_seats}
 use Rattle.dip_store_schema.specs.Desk.{DeskSays}
 use Rattle.dip_store_schema.specs.Known.{IsOfVersion1}
 use Rattle.dip_store_schema.specs.Making.{HasTables}

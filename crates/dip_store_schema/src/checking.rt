@@ -8,12 +8,11 @@ ghost use Rattle.dip_store_sql.specs.Schema.{our_schema};
 ghost use Rattle.dip_store_schema.specs.Desk.{DeskSays};
 ghost use Rattle.dip_store_schema.specs.Known.{HasOldTables, HasOurTables};
 ghost use Rattle.dip_store_tables.specs.Legible.{AreOurs};
-ghost use Rattle.dip_store_sql.specs.Calls.{IsKept, Selects, does_show, is_honest, tables_in};
+ghost use Rattle.dip_store_sql.specs.Calls.{IsKept, Selects, SelectsFrom, WasKept, does_show, is_honest, old_tables_in, tables_in};
 ghost use Rattle.dip_store_sql.specs.Causes.{has_faulted};
 ghost use Rattle.dip_store_sql.specs.TablesAfter.{is_first};
 ghost use Rattle.dip_store_schema.specs.Refusing.{Differs, IsOutage, IsRefused, IsRefusedAs};
 ghost use Rattle.dip_store_sql.specs.Old.{old_schema};
-ghost use Rattle.dip_store_sql.specs.Calls.{SelectsFrom, WasKept, old_tables_in};
 ghost use Rattle.dip_store_tables.specs.Renewing.{WereOurs};
 
 use crate::desk_row::{DeskColumns, read_desk};

@@ -3,7 +3,7 @@ use Rattle.sqlite.specs.declared.error.Error.{Error}
 use Rattle.sqlite.specs.Held.{state}
 use Rattle.dip_store_sql.specs.Calls.{Writes}
 use Rattle.dip_store_sql.proofs.Parts.{fails, take_more, went, writes_more}
-use Rattle.dip_store_changes.specs.Parts.{more_ballots}
+use Rattle.dip_store_sql.specs.TablesAfter.{more_ballots}
 use Rattle.dip_store_schema.proofs.Filling.{ballots_on}
 use Rattle.dip_store_schema.proofs.Refilling.{BallotIs, ballots_next}
 use Rattle.dip_store_schema.specs.Rewriting.{Stands}

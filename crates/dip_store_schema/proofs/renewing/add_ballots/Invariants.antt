@@ -3,7 +3,7 @@ use Rattle.sqlite.specs.Held.{state}
 use Rattle.sqlite.specs.declared.error.Error.{Error}
 use Rattle.dip_store_sql.specs.Calls.{Writes}
 use Rattle.dip_store_sql.proofs.Parts.{went}
-use Rattle.dip_store_changes.specs.Parts.{more_ballots}
+use Rattle.dip_store_sql.specs.TablesAfter.{more_ballots}
 use Rattle.dip_store_schema.proofs.Refilling.{BallotsAre}
 use Rattle.dip_store_schema.proofs.renewing.add_ballots.Given as goal
 

@@ -4,8 +4,7 @@ use Rattle.sqlite.specs.declared.error.Error.{Error}
 use Rattle.dip_desk_state.specs.Rows.{lines}
 use Rattle.dip_store_sql.specs.Calls.{old_tables_in}
 use Rattle.dip_store_sql.specs.Old.{HasOld, old_tables_of}
-use Rattle.dip_store_sql.specs.TablesAfter.{on_desk, on_seats}
-use Rattle.dip_store_changes.specs.Parts.{more_ballots}
+use Rattle.dip_store_sql.specs.TablesAfter.{more_ballots, on_desk, on_seats}
 use Rattle.dip_store_tables.specs.Renewing.{old_choice, second, voteless}
 use Rattle.dip_store_sql.proofs.Parts.{fails, went, writes_and, writes_as}
 use Rattle.dip_store_schema.specs.Making.{HasTables}

@@ -1,5 +1,5 @@
 -- Each schema knows its own tables.
-use Rattle.std.proofs.Common.{◌≡◌, IsTrue, ℕ, Bool, true, codes, List, Ok, Err, Result, IfOk, refl, sym, subst}
+use Rattle.std.proofs.Common.{◌≡◌, IsTrue, ℕ, Bool, true, false, codes, List, Ok, Err, Result, IfOk, refl, sym, subst}
 use Rattle.sqlite.specs.declared.error.Error.{Error}
 use Rattle.sqlite.specs.Command.{Command}
 use Rattle.sqlite.specs.Query.{Query}

@@ -5,7 +5,7 @@ pub mod Writable
 pub mod Asked
 pub mod Finding
 pub mod Looking
-pub mod Authors
+pub mod Authoring
 pub mod Made
 pub mod Opened
 pub mod Outside

@@ -46,7 +46,7 @@ use Rattle.dip_store.specs.declared.keeper.SqlKeeper.{SqlKeeper}
 use Rattle.dip_store.proofs.Outside.{make_caused, make_outside}
 use Rattle.dip_store_memory.proofs.Seeing.{Heeds}
 use Rattle.dip_store.specs.Authors.{known_among}
-use Rattle.dip_store.proofs.Authors.{known_of}
+use Rattle.dip_store.proofs.Authoring.{known_of}
 
 -- in what tables say no two games have one name
 differ_by_name : (m : Chart) (db : Database) → IsGood db → DifferByName (said_by m db.trees).games

@@ -4,7 +4,7 @@ use Rattle.sqlite.specs.Held.{state}
 use Rattle.dip_desk_state.specs.Rows as rows
 use Rattle.dip_desk_state.specs.Records.{Own}
 use Rattle.dip_store_sql.specs.Calls.{tables_in}
-use Rattle.dip_store_looks.specs.Shown.{IsIdle}
+use Rattle.dip_desk_state.specs.State.{IsIdle}
 use Rattle.dip_store_tables.specs.Coding.{AreCoded}
 use Rattle.dip_store_memory.specs.Owns.{own_among, owns_of}
 use Rattle.dip_store.specs.Stored.{said_by}

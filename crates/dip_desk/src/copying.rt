@@ -4,25 +4,9 @@ ghost use Rattle.dip_desk_state.specs.Rows as rows;
 ghost use Rattle.dip_desk.specs.Stored as stored;
 
 use crate::games::SeatRow;
-use dip_desk_state::{Item, Own, Public};
+use dip_desk_state::{Item, Own};
 use std::alloc::{AllocError, Global};
 use std::rc::Rc;
-
-/// A public part under this name, which shares its board.
-pub fn public_under(alloc: Global, name: &str, public: &Public) -> Result<Public, AllocError>
-    ensures { IfOk result
-        (λ p. rows.public p ≡ record (rows.public public.now) { game = name.now }) }
-{
-    Ok(Public {
-        game: String::from_str(alloc, name)?,
-        board: public.board.clone()?,
-        status: public.status.copy(alloc)?,
-        due: public.due,
-        period: public.period,
-        grey: public.grey,
-        papers: public.papers,
-    })
-}
 
 /// The own parts of seats.
 pub fn owns_copy(alloc: Global, seats: &[SeatRow]) -> Result<Vec<Own>, AllocError>

@@ -5,7 +5,7 @@ ghost use Rattle.dip_desk_state.specs.State as s;
 ghost use Rattle.dip_desk_state.specs.Rows as rows;
 ghost use Rattle.dip_desk.specs.Stored as stored;
 
-use crate::copying::{items_shared, owns_copy, public_under};
+use crate::copying::{items_shared, owns_copy};
 use dip_desk_state::{Item, Own, Public, Whole};
 use dip_names::Power;
 use indexmap::IndexMap;
@@ -37,7 +37,7 @@ pub fn whole_of(alloc: Global, name: &str, game: &GameRow) -> Result<Whole, Allo
     ensures { IfOk result (λ w. rows.whole w ≡ s.whole_of (stored.game name.now game.now)) }
 {
     Ok(Whole {
-        public: public_under(alloc, name, &game.public)?,
+        public: game.public.copy_under(alloc, name)?,
         seats: owns_copy(alloc, game.seats.as_slice())?,
     })
 }

@@ -7,7 +7,6 @@ ghost use Rattle.dip_desk_state.specs.ChangeRows as desk_rows;
 ghost use Rattle.dip_desk_state.specs.Rows as rows;
 ghost use Rattle.dip_desk.specs.Stored as stored;
 
-use crate::copying::public_under;
 use crate::games::{GameRow, Games, SeatRow};
 use dip_desk_state::{KeepFault, NewSeat, Own, Public, Vote};
 use std::alloc::{AllocError, Global};
@@ -58,7 +57,7 @@ fn game_of(
     let mut papers = Vec::new(alloc);
     papers.push(paper.clone()?)?;
     Ok(GameRow {
-        public: Rc::new(alloc, public_under(alloc, public.game.as_str(), public)?)?,
+        public: Rc::new(alloc, public.copy_under(alloc, public.game.as_str())?)?,
         papers,
         seats: fresh_seats(alloc, seats)?,
     })

@@ -9,7 +9,6 @@ ghost use Rattle.dip_desk_state.specs.ChangeRows as desk_rows;
 ghost use Rattle.dip_desk_state.specs.Rows as rows;
 ghost use Rattle.dip_desk.specs.Stored as stored;
 
-use crate::copying::public_under;
 use crate::games::{GameRow, Games, SeatRow};
 use crate::opening::add_game;
 use dip_desk_state::{
@@ -226,10 +225,7 @@ fn put_page(
     ensures err { OnErr result ((key : List ℕ) → stored.game key game.new ≡ stored.game key
         game.old) }
 {
-    let behind = Rc::new(
-        alloc,
-        public_under(alloc, game.public.game.as_str(), public)?,
-    )?;
+    let behind = Rc::new(alloc, public.copy_under(alloc, game.public.game.as_str())?)?;
     game.papers.push(paper.clone()?)?;
     game.public = behind;
     Ok(())

@@ -35,7 +35,7 @@ use Rattle.dip_desk_state.proofs.KeyedLemmas.{at-append, names_tell, powers_tell
 use Rattle.dip_desk_machine.proofs.LawfulOrders.{AreRead, ordered_standing}
 use Rattle.dip_desk_machine.proofs.Counting.{all_both, all_weaker}
 use Rattle.dip_desk_machine.proofs.ListLemmas.{all_at, all_change, all_last, all_map, all_same, count_change, count_map}
-use Rattle.dip_desk_machine.proofs.Seeing.{effect_power, letter_power, name_kept}
+use Rattle.dip_desk_state.proofs.KeptKeys.{effect_power, letter_power, name_kept}
 use Rattle.dip_desk_machine.proofs.Suiting.{Comes, IsFitting, IsPosted, command_holds, decides_suits, master_holds, master_posted, master_where, seat_holds}
 use Rattle.dip_desk_machine.proofs.Handing.{each_counted, whole_given}
 use Rattle.dip_desk_machine.proofs.VotingLemmas.{plain_fits, set_fits}

@@ -5,13 +5,14 @@ use Rattle.std.specs.List.{list_any}
 use Rattle.std.specs.Option.{option_or}
 use Rattle.std.proofs.lemmas.Bool.{false≢true}
 use Rattle.dip_map.specs.Charts.{Chart}
-use Rattle.dip_desk_state.specs.Records.{Item, Kept, Own, Public, Reply}
+use Rattle.dip_desk_state.specs.Records.{Item, Kept, Public, Reply}
 use Rattle.dip_desk_state.specs.Keyed.{at, change_at}
 use Rattle.dip_desk_machine.specs.Mail.{Mail}
-use Rattle.dip_desk_state.specs.State.{State, Game, Part, Author, Nobody, TheMaster, Seat, is_seat, Effect, Nothing, Pending, Votes, Delivers, Opens, Publishes, Seats, NewSeat, Change, behind_paper, fresh, game_after, game_at, name_of, new_games, own_effect, power_in, public_after, seat_at, state_after, with_author, with_digest, with_effect, with_item, with_letter}
+use Rattle.dip_desk_state.specs.State.{State, Game, Part, Author, Nobody, TheMaster, Seat, is_seat, Effect, Nothing, Pending, Votes, Delivers, Opens, Publishes, Seats, NewSeat, Change, behind_paper, fresh, game_after, game_at, name_of, new_games, power_in, public_after, seat_at, state_after, with_author, with_digest, with_effect, with_item, with_letter}
 use Rattle.dip_desk_machine.specs.Machine.{Decides, SeatName, Seen, Verdict, NotKnown, Again, OutOfTurn, Taken, after, change_of, kept_of, reply_of, seen_by, seen_in, verdict_on}
 use Rattle.dip_desk_machine.specs.View.{AreEffectsShown, Event, OwnLetter, Heard, Published, Seated, Suits, absorb, absorb_all, effect_events, own_events, part_by, seat_events, events_for, replies_to_events, replies_at, verdict_events, writes}
 use Rattle.dip_desk_state.proofs.KeyedLemmas.{at_key, at-append, at-change_at_other, at-change_at_same, at-map, names_tell, powers_tell}
+use Rattle.dip_desk_state.proofs.KeptKeys.{effect_power, letter_power, name_kept}
 use Rattle.dip_desk_machine.proofs.Suiting.{decides_suits}
 
 -- events one after another
@@ -41,39 +42,6 @@ effect_absorbed m name (Opens public paper seats) g s h = absurd h
 effect_absorbed m name (Publishes public paper played) g s h =
     ap (λ (x : List ℕ). at_one (Some (record public { game = x })) (behind_paper played s)) (sym h)
 effect_absorbed m name (Seats seat) g s h = sym (seated_one m (power_in s) (seat.power == power_in s) (Some g.public) s seat.digest)
-
-pub own_power : (e : Effect) (o : Own) → (own_effect e o).power ≡ o.power
-own_power Nothing o = refl
-own_power (Pending orders) o = refl
-own_power (Votes vote) o = refl
-own_power (Delivers readers item) o = refl
-own_power (Opens public paper seats) o = refl
-own_power (Publishes public paper played) o = refl
-own_power (Seats seat) o = refl
-
-pub effect_power : (e : Effect) (s : Part) → power_in (with_effect e s) ≡ power_in s
-effect_power Nothing s = refl
-effect_power (Pending orders) s = refl
-effect_power (Votes vote) s = refl
-effect_power (Delivers readers item) s = go (list_any (λ p. p == power_in s) readers)
-  where
-    go : (t : Bool) → power_in (cond t (with_item item s) s) ≡ power_in s
-    go true = refl
-    go false = refl
-effect_power (Opens public paper seats) s = refl
-effect_power (Publishes public paper played) s = go played
-  where
-    go : (t : Bool) → power_in (behind_paper t s) ≡ power_in s
-    go true = refl
-    go false = refl
-effect_power (Seats seat) s = go (seat.power == power_in s)
-  where
-    go : (t : Bool) → power_in (cond t (with_digest seat.digest s) s) ≡ power_in s
-    go true = refl
-    go false = refl
-
-pub letter_power : (k : Kept) (e : Effect) (s : Part) → power_in (with_letter k e s) ≡ power_in s
-letter_power k e s = own_power e (record s.own { kept = Some k })
 
 -- the author's seat has the letter
 abbrev pub author_part : Author → Kept → Effect → ℕ → Part → Part
@@ -166,19 +134,6 @@ game_absorbed m power n who text e g suits own =
 pub option_or-none : {A : Type 0} (o : Option A) → option_or o None ≡ o
 option_or-none None = refl
 option_or-none (Some x) = refl
-
--- a game keeps its name under any change
-pub name_kept : (c : Change) (g : Game) → name_of (game_after c g) ≡ name_of g
-name_kept c g = go c.effect
-  where
-    go : (e : Effect) → (public_after e g.public).game ≡ g.public.game
-    go Nothing = refl
-    go (Pending orders) = refl
-    go (Votes vote) = refl
-    go (Delivers readers item) = refl
-    go (Opens public paper seats) = refl
-    go (Publishes public paper played) = refl
-    go (Seats seat) = refl
 
 pub same_game : (c : Change) (s : State) → game_at c.game (state_after c s) ≡ option_or (option_map (game_after c) (game_at c.game s)) (at bytes_eq name_of c.game (new_games c.effect))
 same_game c s =

@@ -1,1 +1,2 @@
 pub mod KeyedLemmas
+pub mod KeptKeys

@@ -1,5 +1,5 @@
 -- What the desk keeps, its named parts, and what a change makes of it.
-use Rattle.std.specs.Prelude.{ℕ, zero, suc, ◌+◌, ◌-◌, ◌==◌, Bool, true, false, List, [], ◌∷◌, ◌++◌, Option, None, Some, option_map, option_and_then, map, nat_lt, take, drop, bytes_eq, if◌then◌else◌, ◌&&◌}
+use Rattle.std.specs.Prelude.{◌≡◌, ℕ, zero, suc, ◌+◌, ◌-◌, ◌==◌, Bool, true, false, List, [], ◌∷◌, ◌++◌, Option, None, Some, option_map, option_and_then, map, nat_lt, take, drop, bytes_eq, if◌then◌else◌, ◌&&◌}
 use Rattle.std.specs.List.{list_all, list_any}
 use Rattle.dip_desk_state.specs.Bounds.{most_items, most_sent}
 use Rattle.dip_desk_state.specs.Keyed.{at, change_at}
@@ -53,6 +53,11 @@ public_at name s = option_map (λ g. g.public) (game_at name s)
 
 abbrev pub own_at : List ℕ → ℕ → State → Option Own
 own_at name power s = option_and_then (λ g. own_of (seat_at power g.seats)) (game_at name s)
+
+-- an own part that votes for no draw and has no standing orders
+pub record IsIdle (o : Own) : Type 0 where
+  pub vote : o.vote ≡ No
+  pub pending : o.pending ≡ []
 
 -- the items of a box from a number on, at most so many; their numbers count from 1
 abbrev pub page_of : ℕ → ℕ → List Item → List Item

@@ -68,6 +68,24 @@ pub struct Public {
     pub papers: u32,
 }
 
+impl Public {
+    /// A copy of it under this name, which shares its board.
+    pub fn copy_under(&self, alloc: Global, name: &str) -> Result<Public, AllocError>
+        ensures { IfOk result
+            (λ p. rows.public p ≡ record (rows.public self.now) { game = name.now }) }
+    {
+        Ok(Public {
+            game: String::from_str(alloc, name)?,
+            board: self.board.clone()?,
+            status: self.status.copy(alloc)?,
+            due: self.due,
+            period: self.period,
+            grey: self.grey,
+            papers: self.papers,
+        })
+    }
+}
+
 /// The last letter of an author that was recorded, and its reply.
 #[derive(Drop)]
 pub struct Kept {

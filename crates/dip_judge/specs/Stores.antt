@@ -8,8 +8,8 @@ use Rattle.dip_desk_state.specs.State.{State, game_at}
 use Rattle.dip_store.specs.Papers.{AreBegun, papers_text}
 use Rattle.dip_store.specs.Opening.{Holds, OldEnds, StoreEnds}
 use Rattle.dip_store.specs.Stored.{said_by}
-use Rattle.dip_store.specs.declared.faults.StoreFault.{StoreFault}
-use Rattle.dip_store.specs.declared.faults.StoreFault.TheVariants.{Memory, Disk, OtherSchema}
+use Rattle.dip_store.specs.StoreFault.{StoreFault}
+use Rattle.dip_store.specs.StoreFault.TheVariants.{Memory, Disk, OtherSchema}
 use Rattle.dip_judge_runs.specs.RunFaults.{StopsBy}
 use Rattle.dip_judge_runs.specs.Runs.{AnswersAll, IsReadWhole, Stops, TakesNext}
 use Rattle.dip_judge_runs.specs.declared.run.RunFault.{RunFault}

@@ -17,9 +17,9 @@ use Rattle.dip_store_sql.specs.Causes.{has_faulted}
 use Rattle.dip_store_sql.specs.Rows.{tables_of}
 use Rattle.dip_store_sql.proofs.Parts.{fails, went}
 use Rattle.dip_store.specs.Faults.{look_fault}
-use Rattle.dip_store.specs.Idle.{Idle, RecallsIdle}
-use Rattle.dip_store.specs.Owns.{Owns, RecallsOwns}
-use Rattle.dip_store.specs.Seen.{Parts, Recalls}
+use Rattle.dip_store_memory.specs.Idle.{Idle, RecallsIdle}
+use Rattle.dip_store_memory.specs.Owns.{Owns, RecallsOwns}
+use Rattle.dip_store_memory.specs.Seen.{Parts, Recalls}
 use Rattle.dip_store.specs.Stored.{book, said_by, telling}
 use Rattle.dip_store.specs.declared.keeper.SqlKeeper.{SqlKeeper}
 use Rattle.dip_store.proofs.Outside.{look_blamed, look_outside}

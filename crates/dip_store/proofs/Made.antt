@@ -1,5 +1,5 @@
 -- A change of the rows is the change of their keeper.
-use Rattle.std.proofs.Common.{◌≡◌, ◌≤◌, ◌⊎◌, ◌-◌, ◌^◌, Bool, true, false, nat_lt, IsTrue, arith, inl, inr, ◌+◌, ℕ, Option, refl, sym, ap, subst, ◌∙◌}
+use Rattle.std.proofs.Common.{◌≡◌, bytes_eq, ◌≤◌, ◌⊎◌, ◌-◌, ◌^◌, Bool, true, false, nat_lt, IsTrue, arith, inl, inr, ◌+◌, ℕ, Option, refl, sym, ap, subst, ◌∙◌}
 use Rattle.std.proofs.lemmas.Bool.{cases_Bool, ltb-false}
 use Rattle.sqlite.specs.Effect.{Database}
 use Rattle.sqlite.specs.Tree.{Trees}
@@ -16,10 +16,12 @@ use Rattle.dip_store_tables.specs.Counting.{AreCounted}
 use Rattle.dip_store_tables.specs.Coding.{AreApart}
 use Rattle.dip_store_tables.specs.ChangeTexts.{HasTexts}
 use Rattle.dip_desk_state.specs.Faults.{faults_with}
-use Rattle.dip_desk_state.specs.State.{Change, State, state_after}
+use Rattle.dip_desk_state.specs.State.{Change, State, name_of, state_after}
 use Rattle.dip_desk_state.specs.declared.faults.KeepFault.{KeepFault}
 use Rattle.dip_desk_state.specs.declared.faults.KeepFault.TheVariants.{Memory, Disk, Damaged}
 use Rattle.dip_store_tables.specs.Changing.{changing}
+use Rattle.dip_store_tables.specs.Reading.{game_of}
+use Rattle.dip_store_tables.proofs.ListLemmas.{ascending-map}
 use Rattle.dip_store_tables.specs.ChangeColumns.{HasWidths, IsWritable}
 use Rattle.dip_store_sql.proofs.Keyed.{are_apart, are_keyed}
 use Rattle.dip_store_sql.specs.Calls.{IsKept, Lands, does_show, is_honest, tables_in}
@@ -36,14 +38,19 @@ use Rattle.dip_desk_state.specs.Writable.{IsAuthorOf}
 use Rattle.dip_store_tables.specs.Looking.{OwnIsFound}
 use Rattle.dip_store_changes.specs.Knowing.{IsKeptFor, IsKnown, IsUnordered, is_unordered, row_known}
 use Rattle.dip_store_changes.specs.declared.known.KnownAuthor.{KnownAuthor}
-use Rattle.dip_store.specs.Idle.{Idle, RecallsIdle}
-use Rattle.dip_store.specs.Owns.{Owns, RecallsOwns, known_among, owns_of}
-use Rattle.dip_store.proofs.Owning.{known_of}
-use Rattle.dip_store.specs.Seen.{DifferByName, Parts, Recalls}
+use Rattle.dip_store_memory.specs.Idle.{Idle, RecallsIdle}
+use Rattle.dip_store_memory.specs.Owns.{Owns, RecallsOwns, owns_of}
+use Rattle.dip_store_memory.specs.Seen.{DifferByName, Parts, Recalls}
 use Rattle.dip_store.specs.Stored.{AreStored, book, said_by, sized, sizing, telling}
 use Rattle.dip_store.specs.declared.keeper.SqlKeeper.{SqlKeeper}
 use Rattle.dip_store.proofs.Outside.{make_caused, make_outside}
-use Rattle.dip_store.proofs.Seeing.{Heeds, differ_by_name}
+use Rattle.dip_store_memory.proofs.Seeing.{Heeds}
+use Rattle.dip_store.specs.Authors.{known_among}
+use Rattle.dip_store.proofs.Authoring.{known_of}
+
+-- in what tables say no two games have one name
+differ_by_name : (m : Chart) (db : Database) → IsGood db → DifferByName (said_by m db.trees).games
+differ_by_name m db good = ascending-map (λ a b. bytes_eq (name_of a) (name_of b) ≡ false) (game_of m (tables_of db.trees)) (tables_of db.trees).games (are_apart db good).games
 
 -- a count of faults of size doesn't fall, and where it counts one it rises
 size_counts : (b : Bool) (n : ℕ) → n ≤ sized b n

@@ -17,12 +17,12 @@ use Rattle.dip_store_sql.specs.Causes.{has_faulted}
 use Rattle.dip_store_sql.specs.Rows.{tables_of}
 use Rattle.dip_store_sql.proofs.Parts.{fails, went}
 use Rattle.dip_store_sql.specs.Schema.{our_schema}
-use Rattle.dip_store.specs.Founding.{Keeps}
-use Rattle.dip_store.specs.Known.{has_table, HasOldTables, HasOurTables, IsOfVersion1}
-use Rattle.dip_store.proofs.Ours.{ours_has_ballots}
-use Rattle.dip_store.proofs.Idling.{recalls_no_idle}
-use Rattle.dip_store.proofs.Owning.{recalls_no_owns}
-use Rattle.dip_store.proofs.Seeing.{recalls_none}
+use Rattle.dip_store_schema.specs.Founding.{Keeps}
+use Rattle.dip_store_schema.specs.Known.{has_table, HasOldTables, HasOurTables, IsOfVersion1}
+use Rattle.dip_store_schema.proofs.Ours.{ours_has_ballots}
+use Rattle.dip_store_memory.proofs.Idling.{recalls_no_idle}
+use Rattle.dip_store_memory.proofs.Owning.{recalls_no_owns}
+use Rattle.dip_store_memory.proofs.Seeing.{recalls_none}
 use Rattle.std.proofs.lemmas.Bool.{false≢true}
 use Rattle.dip_store.specs.Opening.{Holds, IsDesk, Opens, StoreEnds}
 use Rattle.dip_desk.specs.Keeping.{Ends, IsOpen}

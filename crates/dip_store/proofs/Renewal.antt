@@ -2,7 +2,6 @@
 use Rattle.std.proofs.Common.{◌≡◌, ◌⊎◌, inl, inr, Bool, true, false, not, codes, None, Ok, Err, Result, IfOk, IfErr, IsTrue, refl, sym, ap, subst, ◌∙◌}
 use Rattle.std.proofs.lemmas.Bool.{false≢true}
 use Rattle.sqlite.specs.Effect.{Database}
-use Rattle.sqlite.specs.Schema.{Schema}
 use Rattle.sqlite.specs.Tree.{Trees}
 use Rattle.sqlite.specs.Store.{Ghosts}
 use Rattle.sqlite.specs.Held.{Held, state}
@@ -11,26 +10,18 @@ use Rattle.dip_store_sql.specs.Calls.{SelectsFrom, does_show, is_honest}
 use Rattle.dip_store_tables.specs.Reading.{state_of}
 use Rattle.dip_store_tables.specs.Counting.{AreCounted}
 use Rattle.dip_store_tables.specs.Legible.{AreOurs}
-use Rattle.dip_store.specs.Known.{has_table}
-use Rattle.dip_store_sql.specs.Old.{old_schema}
+use Rattle.dip_store_schema.specs.Known.{has_table}
 use Rattle.dip_store_sql.specs.Calls.{WasKept, old_tables_in}
 use Rattle.dip_store_tables.specs.Renewing.{OldTablesAreRenewed, renewed}
 use Rattle.dip_store.specs.Opening.{HoldsEither, IsOldDesk, MayRenew, OldEnds, Opens}
-use Rattle.dip_store.specs.Renewing.{IsOldStore, Renews, WereStored, old_said_by}
+use Rattle.dip_store_schema.specs.Renewing.{IsOldStore, Renews, WereStored, old_said_by}
 use Rattle.dip_store.specs.Stored.{AreStored, fresh_keeper, said_by}
-use Rattle.dip_store_looks.specs.Faults.{IsFromOutside}
-use Rattle.dip_store_looks.specs.declared.faults.LookFault.{LookFault}
-use Rattle.dip_store_looks.specs.declared.faults.LookFault.TheVariants as looks
-use Rattle.dip_store_sql.proofs.Caused.{caused_weaker}
 use Rattle.std.specs.declared.alloc.Global.{Global}
 use Rattle.dip_store_sql.proofs.Parts.{went}
-use Rattle.dip_store.specs.Founding.{Keeps}
+use Rattle.dip_store_schema.specs.Founding.{Keeps}
 use Rattle.dip_store.proofs.Opened.{opens_kept}
-use Rattle.dip_store.proofs.Renewed.{were_apart}
-
--- such a store has no ballots
-pub old_has_none : (schema : Schema) → schema ≡ old_schema → has_table (codes "ballot") schema ≡ false
-old_has_none schema is = subst (λ (s : Schema). has_table (codes "ballot") s ≡ false) (sym is) refl
+use Rattle.dip_store_schema.proofs.Ours.{old_has_none}
+use Rattle.dip_store_schema.proofs.Renewed.{were_apart}
 
 module _ {S : Type 0} (g : Ghosts S) (m : Chart) (store : Held S) where
   abbrev unlimited : Held S
@@ -75,13 +66,6 @@ err_both P Q R (Err e) both p q = both e p q
 pub err_all : {X E : Type 0} (P Q R : E → Type 0) (r : Result X E) → IfErr r P → IfErr r Q → IfErr r R → IfErr r (λ e. P e × Q e × R e)
 err_all P Q R (Ok x) p q t = tt
 err_all P Q R (Err e) p q t = (p, q, t)
-
--- want of memory and the disk are no more to blame where there was a fault
-pub outside_more : {X : Type 0} (fault : Type 0) (r : Result X LookFault) → IfErr r (IsFromOutside ⊥) → IfErr r (IsFromOutside fault)
-outside_more fault (Ok x) own = tt
-outside_more fault (Err looks.Memory) own = tt
-outside_more fault (Err (looks.Query e)) own = caused_weaker ⊥ fault e (λ none. absurd none) own
-outside_more fault (Err looks.Foreign) own = absurd own
 
 -- what a crash may leave of it is tables that say the same
 module _ {S : Type 0} (g : Ghosts S) (m : Chart) (law : OldTablesAreRenewed m) (store : Held S) (desk : IsOldDesk g m store) where

@@ -1,18 +1,16 @@
--- How a fault of the database is told.
-use Rattle.std.specs.Prelude.{ℕ, Bool, true, false, List, codes}
+-- The keeper's fault for a fault of the database.
+use Rattle.std.specs.Prelude.{Bool, true, false}
 use Rattle.sqlite.specs.declared.error.Error.{Error}
 use Rattle.sqlite.specs.declared.error.Error.TheVariants.{SqliteFailure}
 use Rattle.sqlite.specs.declared.error.ErrorCode.{ErrorCode}
 use Rattle.sqlite.specs.declared.error.ErrorCode.TheVariants.{OutOfMemory, SystemIoFailure, DatabaseCorrupt, DiskFull, TooBig, NoRowid, Closed}
-use Rattle.dip_store_sql.specs.Refusals.{IsBlamed}
 use Rattle.dip_store_looks.specs.declared.faults.LookFault.{LookFault}
 use Rattle.dip_store_looks.specs.declared.faults.LookFault.TheVariants as looks
 use Rattle.dip_desk_state.specs.declared.faults.KeepFault.{KeepFault}
 use Rattle.dip_desk_state.specs.declared.faults.KeepFault.TheVariants.{Memory, Disk, Damaged}
 use Rattle.dip_store_changes.specs.declared.faults.MakeFault.{MakeFault}
 use Rattle.dip_store_changes.specs.declared.faults.MakeFault.TheVariants as makes
-use Rattle.dip_store.specs.declared.faults.StoreFault.{StoreFault}
-use Rattle.dip_store.specs.declared.faults.StoreFault.TheVariants as stores
+pub use Rattle.dip_store_schema.specs.Faults.{store_fault_name}
 
 -- want of memory; a fault of the disk, want of room on it, or a store that such a fault has shut before; anything else shows that the tables
 -- aren't a desk's
@@ -56,42 +54,3 @@ abbrev pub is_of_size : MakeFault → Bool
 is_of_size makes.Memory = false
 is_of_size (makes.Sql error) = is_error_of_size error
 is_of_size makes.Misfit = false
-
--- a fault's number, as a program tells it
-abbrev pub store_fault_name : StoreFault → List ℕ
-store_fault_name stores.Memory = codes "S1"
-store_fault_name stores.Disk = codes "S2"
-store_fault_name stores.OtherMap = codes "S3"
-store_fault_name stores.OtherSchema = codes "S4"
-
--- of a database that is opened or made
-abbrev pub open_code_fault : ErrorCode → StoreFault
-open_code_fault OutOfMemory = stores.Memory
-open_code_fault _ = stores.Disk
-
-abbrev pub open_fault : Error → StoreFault
-open_fault (SqliteFailure code) = open_code_fault code
-open_fault _ = stores.Disk
-
--- and of its rows: anything else shows that the tables aren't a desk's
-abbrev pub row_code_fault : ErrorCode → StoreFault
-row_code_fault OutOfMemory = stores.Memory
-row_code_fault SystemIoFailure = stores.Disk
-row_code_fault DatabaseCorrupt = stores.Disk
-row_code_fault DiskFull = stores.Disk
-row_code_fault Closed = stores.Disk
-row_code_fault _ = stores.OtherSchema
-
-abbrev pub row_fault : Error → StoreFault
-row_fault (SqliteFailure code) = row_code_fault code
-row_fault _ = stores.OtherSchema
-
-abbrev pub desk_fault : LookFault → StoreFault
-desk_fault looks.Memory = stores.Memory
-desk_fault (looks.Query error) = row_fault error
-desk_fault looks.Foreign = stores.OtherSchema
-
--- the disk is told of only where there was this fault of it
-abbrev pub IsLookBlamed : Type 0 → LookFault → Type 0
-IsLookBlamed fault (looks.Query error) = IsBlamed fault error
-IsLookBlamed fault _ = Unit {0}

@@ -6,9 +6,9 @@ use Rattle.sqlite.specs.Tree.{Trees}
 use Rattle.dip_map.specs.Charts.{Chart}
 use Rattle.dip_desk_state.specs.State.{State}
 use Rattle.dip_store_tables.specs.Tables.{Tables}
-use Rattle.dip_store.specs.Founding.{Founds}
+use Rattle.dip_store_schema.specs.Founding.{Founds}
 use Rattle.dip_store_sql.specs.Calls.{does_show, is_honest}
-use Rattle.dip_store.specs.Renewing.{IsOldStore, WereStored, old_said_by}
+use Rattle.dip_store_schema.specs.Renewing.{IsOldStore, WereStored, old_said_by}
 use Rattle.dip_store.specs.Stored.{AreStored, IsStore, book, said_by}
 use Rattle.dip_store.specs.declared.keeper.SqlKeeper.{SqlKeeper}
 

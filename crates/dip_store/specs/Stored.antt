@@ -16,9 +16,9 @@ use Rattle.dip_store_tables.specs.Reading.{state_of}
 use Rattle.dip_store_sql.specs.Calls.{IsKept, is_honest, does_show, tables_in}
 use Rattle.dip_store_sql.specs.Good.{IsGood}
 use Rattle.dip_store_sql.specs.Rows.{tables_of}
-use Rattle.dip_store.specs.Idle.{RecallsIdle}
-use Rattle.dip_store.specs.Owns.{RecallsOwns}
-use Rattle.dip_store.specs.Seen.{Recalls}
+use Rattle.dip_store_memory.specs.Idle.{RecallsIdle}
+use Rattle.dip_store_memory.specs.Owns.{RecallsOwns}
+use Rattle.dip_store_memory.specs.Seen.{Recalls}
 use Rattle.dip_store.specs.declared.keeper.SqlKeeper.{SqlKeeper}
 
 -- the state that the rows of a database say by a map

@@ -3,18 +3,17 @@ ghost use Rattle.std.specs.Prelude.{◌≡◌, ◌<◌};
 ghost use Rattle.dip_store.specs.Faults as told;
 ghost use Rattle.dip_store.specs.Stored as stored;
 
+use crate::authors::known_author;
 use crate::faults::{is_of_size, look_fault, make_fault};
 use crate::fitting_laws::{what_fits_can_be_written, what_fits_finds_place};
-use crate::idle::IdleSeats;
-use crate::owns::{SeenOwns, known_author};
 use crate::papers::look_game_paper;
-use crate::seen::Seen;
 use crate::shared::look_shared_public;
 use dip_desk::Keeper;
 use dip_desk_state::{Change, Desk, Item, KeepFault, Own, Public, Whole};
 use dip_map::{Map, Power};
 use dip_store_changes::{MakeFault, changes_are_made, make};
 use dip_store_looks::{look_desk, look_items, look_own, look_whole};
+use dip_store_memory::{IdleSeats, SeenGames, SeenOwns};
 use dip_store_tables::{
     has_texts, has_widths, is_writable, own_is_found, page_is_found, tables_stay_counted,
     tables_stay_legible,
@@ -46,7 +45,7 @@ pub struct SqlKeeper<S: Alter> {
     /// `told_by_store` raises it, and it stops at its greatest.
     pub(crate) of_size: u64,
     /// The public parts that it has seen, as its rows have them.
-    pub(crate) seen: Seen,
+    pub(crate) seen: SeenGames,
     /// The own parts that it has seen, as its rows have them.
     pub(crate) owns: SeenOwns,
     /// Seats that have neither ordered nor voted since it opened their games.
@@ -193,15 +192,15 @@ impl<S: Alter> Keeper for SqlKeeper<S> {
         if !is_writable(map, change) {
             return Err(self.told(KeepFault::Damaged));
         }
-        let was_seen = self.seen.heed(change);
-        self.idle.heed(self.alloc, change);
+        let was_seen = self.seen.forget_replaced(change);
+        self.idle.stir_author(self.alloc, change);
         let owns = self.owns.take(self.alloc, change.game.as_str());
         let known = known_author(change.author, owns.as_slice());
         match make(&mut self.conn, self.alloc, map, change, known) {
             Ok(()) => {
                 self.owns.keep(self.alloc, change, owns);
-                self.idle.note_behind(self.alloc, change);
-                self.seen.note_behind(self.alloc, change, was_seen);
+                self.idle.note_after(self.alloc, change);
+                self.seen.note_after(self.alloc, change, was_seen);
                 Ok(())
             }
             Err(fault) => Err(self.told_by_store(fault)),

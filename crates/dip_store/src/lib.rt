@@ -2,32 +2,16 @@
 #![tactic(auto)]
 
 mod archive;
-mod boards;
-mod checking;
-mod creating;
-mod desk_row;
+mod authors;
 mod faults;
 mod fitting_laws;
-mod founding;
-mod idle;
 mod keeper;
-mod known;
-mod making;
-mod old_rows;
 mod opening;
-mod owns;
 mod paper_faults;
 mod papers;
-mod renewing;
-mod seen;
 mod shared;
 
 pub use archive::write_papers;
-pub use checking::VERSION;
-pub use desk_row::read_desk;
-pub use faults::{StoreFault, open_fault};
-pub use founding::found;
+pub use dip_store_schema::{StoreFault, open_fault};
 pub use keeper::SqlKeeper;
-pub use known::{is_known, knows_all, knows_none};
-pub use making::make_tables;
 pub use paper_faults::PaperFault;

@@ -5,31 +5,27 @@ ghost use Rattle.sha2.specs.Sha256.{sha256};
 ghost use Rattle.sqlite.specs.Held.{state};
 ghost use Rattle.sqlite.specs.Tree.{Trees};
 ghost use Rattle.dip_store_sql.specs.Creating.{no_schema};
-ghost use Rattle.dip_store.specs.Desk.{DeskSays};
-ghost use Rattle.dip_store.specs.Known.{HasOldTables, HasOurTables};
+ghost use Rattle.dip_store_schema.specs.Desk.{DeskSays};
+ghost use Rattle.dip_store_schema.specs.Known.{HasOldTables, HasOurTables};
 ghost use Rattle.dip_store_sql.specs.Calls.{does_show, is_honest, tables_in};
 ghost use Rattle.dip_store_sql.specs.Causes.{has_faulted};
 ghost use Rattle.dip_store_sql.specs.TablesAfter.{is_first};
 ghost use Rattle.dip_store_sql.specs.Calls.{WasKept, old_tables_in};
 ghost use Rattle.dip_store_tables.specs.Renewing.{WereOurs};
 ghost use Rattle.dip_store.specs.Opening.{IsDesk, IsOldDesk, MayFound, MayRenew, OldEnds, Opens, StoreEnds};
-ghost use Rattle.dip_store.specs.Renewing.{AreShort, IsLeftOld, IsOldStore, IsTooFullFor, old_said_by};
-ghost use Rattle.dip_store.specs.Refusing.{IsOutage, IsRefused, IsRefusedAs};
+ghost use Rattle.dip_store_schema.specs.Renewing.{AreShort, IsLeftOld, IsOldStore, IsTooFullFor, old_said_by};
+ghost use Rattle.dip_store_schema.specs.Refusing.{IsOutage, IsRefused, IsRefusedAs};
 ghost use Rattle.dip_store.specs.Stored.{IsStore, book, fresh_keeper, said_by};
 ghost use Rattle.dip_store_tables.specs.Writing.{new_tables};
 
-use crate::checking::{check_desk, check_old_desk};
-use crate::faults::{StoreFault, open_fault};
-use crate::founding::found;
-use crate::idle::IdleSeats;
 use crate::keeper::SqlKeeper;
-use crate::known::{has_ballots, knows_none};
-use crate::making::has_32;
-use crate::owns::SeenOwns;
-use crate::renewing::renew;
-use crate::seen::Seen;
 use dip_letters::sum;
 use dip_map::Map;
+use dip_store_memory::{IdleSeats, SeenGames, SeenOwns};
+use dip_store_schema::{
+    StoreFault, check_desk, check_old_desk, has_32, has_ballots, knows_none, open_fault, renew,
+    set_up_tables,
+};
 use dip_store_tables::{new_tables_are_legible, new_tables_are_new, old_tables_are_renewed};
 use sqlite::{Alter, Connection};
 use std::alloc::Global;
@@ -50,7 +46,7 @@ impl<S: Alter> SqlKeeper<S> {
             conn,
             failures: 0,
             of_size: 0,
-            seen: Seen::new(alloc),
+            seen: SeenGames::new(alloc),
             owns: SeenOwns::new(alloc),
             idle: IdleSeats::new(alloc),
         }
@@ -104,7 +100,7 @@ impl<S: Alter> SqlKeeper<S> {
         if !knows_none(&conn) {
             return Err((StoreFault::OtherSchema, conn));
         }
-        match found(&mut conn, &sum(map_text.as_bytes()), digest) {
+        match set_up_tables(&mut conn, &sum(map_text.as_bytes()), digest) {
             Ok(()) => {
                 commits_last(&conn);
                 Ok(SqlKeeper::over(alloc, conn))

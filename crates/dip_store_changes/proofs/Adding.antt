@@ -11,9 +11,9 @@ use Rattle.dip_map.specs.Charts.{Chart}
 use Rattle.dip_map.specs.Boards.{Position}
 use Rattle.dip_map.specs.declared.boards.Dislodged.{Dislodged}
 use Rattle.dip_store_tables.specs.Boards.{UnitRow, CentreRow, centre_rows, centre_rows_from, dislodged_row, standing_row}
-use Rattle.dip_store_sql.specs.TablesAfter.{more_orders, no_centres, no_units}
+use Rattle.dip_store_sql.specs.TablesAfter.{more_ballots, more_orders, no_centres, no_units}
 use Rattle.dip_store_tables.specs.Tables.{BallotRow, PendingRow, SeatRow, Tables, is_unit_in, is_centre_in}
-use Rattle.dip_store_changes.specs.Parts.{more_ballots, more_seats, more_units, more_centres, with_board}
+use Rattle.dip_store_changes.specs.Parts.{more_seats, more_units, more_centres, with_board}
 
 pub orders_more : (ps qs rs : List PendingRow) → rs ≡ ps ++ qs → (t : Tables) → more_orders qs (more_orders ps t) ≡ more_orders rs t
 orders_more ps qs rs is t = ap (λ rows. record t { pending = rows }) (append_assoc t.pending ps qs ∙ ap (λ xs. t.pending ++ xs) (sym is))

@@ -1,9 +1,9 @@
 -- No key comes twice among the first of more records.
-use Rattle.std.proofs.Common.{◌≡◌, ℕ, zero, suc, ◌+◌, ◌<◌, Bool, false, List, [], ◌∷◌, ◌++◌, map, take, drop, get_or, Option, Some, None, append_assoc, length, refl, sym, ap, subst, ◌∙◌}
-use Rattle.std.specs.List.{AllByRecursion}
+use Rattle.std.proofs.Common.{◌≡◌, ℕ, zero, suc, ◌+◌, ◌<◌, Bool, List, [], ◌∷◌, ◌++◌, map, take, drop, get_or, Option, Some, None, append_assoc, length, refl, sym, ap, subst, ◌∙◌}
 use Rattle.std.proofs.lemmas.List.{map-append, take-append-drop}
 use Rattle.dip_map.specs.Charts.{Chart}
 use Rattle.dip_store_tables.specs.Boards.{CentreRow, centre_rows_from, code, power_name}
+use Rattle.dip_store_sql.proofs.Keyed.{front_apart}
 use Rattle.dip_store_sql.proofs.Parts.{taken_both, taken_more}
 use Rattle.dip_store_tables.specs.Tables.{BoxRow, Tables}
 use Rattle.dip_store_sql.specs.Keys.{Differ, same_item}
@@ -14,17 +14,9 @@ use Rattle.dip_store_changes.proofs.Centres.{owner_more}
 use Rattle.dip_store_changes.proofs.Handing.{reader_more}
 
 module _ {A : Type 0} (same : A → A → Bool) where
-  all_front : (P : A → Type 0) (xs ys : List A) → AllByRecursion P (xs ++ ys) → AllByRecursion P xs
-  all_front P [] ys all = tt
-  all_front P (x ∷ xs) ys all = (all.0, all_front P xs ys all.1)
-
-  pub front_apart : (xs ys : List A) → Differ same (xs ++ ys) → Differ same xs
-  front_apart [] ys apart = tt
-  front_apart (x ∷ xs) ys apart = (all_front (λ y. same x y ≡ false) xs ys apart.0, front_apart xs ys apart.1)
-
   -- records after others, by the first of them
   pub first_apart : (old front rest all : List A) → all ≡ front ++ rest → Differ same (old ++ all) → Differ same (old ++ front)
-  first_apart old front rest all is apart = front_apart (old ++ front) rest (subst (Differ same) (ap (λ xs. old ++ xs) is ∙ sym (append_assoc old front rest)) apart)
+  first_apart old front rest all is apart = front_apart same (old ++ front) rest (subst (Differ same) (ap (λ xs. old ++ xs) is ∙ sym (append_assoc old front rest)) apart)
 
   -- the next record, after those in front of it
   next_apart : (old front more next rest all : List A) → all ≡ next ++ rest → next ≡ front ++ more → Differ same (old ++ all) → Differ same ((old ++ front) ++ more)

@@ -11,12 +11,12 @@ use Rattle.dip_store_tables.specs.Tables.{Tables}
 use Rattle.dip_store_tables.specs.Counting.{AreCounted}
 use Rattle.dip_store_sql.specs.Rows.{tables_of}
 use Rattle.dip_store_sql.specs.Good.{IsGood}
-use Rattle.dip_store_sql.specs.Calls.{IsKept, Selects, Writes, does_show, is_honest, tables_in}
+use Rattle.dip_store_sql.specs.Calls.{IsKept, IsLaid, Selects, Writes, does_show, is_honest, tables_in}
 use Rattle.dip_store_sql.specs.Causes.{has_faulted}
 use Rattle.dip_store_sql.proofs.Caused.{faulted_early, faulted_late}
 use Rattle.dip_store_sql.proofs.Parts.{failed_commit, fails, undone_all, undone_base, went}
 use Rattle.dip_store_changes.specs.Counts.{Peeks}
-use Rattle.dip_store_changes.specs.Making.{IsLaid, Makes, MakesFrom}
+use Rattle.dip_store_changes.specs.Making.{Makes, MakesFrom}
 
 -- both went well, or neither
 abbrev pub AreAlike : {X E F : Type 0} → Result X E → Result X F → Type 0

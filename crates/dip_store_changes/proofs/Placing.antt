@@ -9,7 +9,7 @@ use Rattle.dip_store_tables.specs.Boards.{centre_rows_from, dislodged_row, stand
 use Rattle.dip_store_tables.specs.Tables.{Tables, is_centre_in, is_unit_in}
 use Rattle.dip_store_sql.specs.Keys.{Differ, same_centre, same_unit}
 use Rattle.dip_store_changes.specs.Parts.{BoardsDiffer, with_board}
-use Rattle.dip_store_changes.proofs.Apart.{front_apart}
+use Rattle.dip_store_sql.proofs.Keyed.{front_apart}
 
 module _ (m : Chart) (name : List ℕ) (b : Position) (t : Tables) (apart : BoardsDiffer (with_board m name b t)) where
   pub fallen_apart : (us : List AUnit) (ds : List Dislodged) → us ≡ b.units → ds ≡ b.dislodged

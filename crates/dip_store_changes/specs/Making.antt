@@ -1,5 +1,5 @@
 -- A change of the tables with its counts handed over, and a call that makes it whole or not at all.
-use Rattle.std.specs.Prelude.{◌≡◌, ◌≤◌, ◌⊎◌, ℕ, Bool, false, None, List, Option, Result, OnOk, OnErr, map}
+use Rattle.std.specs.Prelude.{◌≡◌, ◌≤◌, ◌⊎◌, ℕ, Bool, false, List, Option, Result, OnOk, OnErr, map}
 use Rattle.sqlite.specs.Tree.{Trees}
 use Rattle.sqlite.specs.Store.{Ghosts}
 use Rattle.sqlite.specs.Held.{Held, state}
@@ -10,9 +10,8 @@ use Rattle.dip_store_tables.specs.Boards.{power_name}
 use Rattle.dip_store_tables.specs.Changing.{opening, publishing, replacing, voting_by}
 use Rattle.dip_store_tables.specs.Tables.{Tables}
 use Rattle.dip_store_tables.specs.Writing.{pending_row}
-use Rattle.dip_store_sql.specs.Calls.{IsKept, Lands, does_show, is_honest, tables_in}
+use Rattle.dip_store_sql.specs.Calls.{IsKept, IsLaid, Lands, does_show, is_honest, tables_in}
 use Rattle.dip_store_sql.specs.Causes.{has_faulted}
-use Rattle.dip_store_sql.specs.Good.{IsGood}
 use Rattle.dip_store_sql.specs.Keys.{OrdersDiffer}
 use Rattle.dip_store_changes.specs.Delivering.{delivering_all}
 use Rattle.dip_store_changes.specs.Noting.{noting_row}
@@ -64,14 +63,6 @@ ordering_over none m who name (Seats seat) t = t
 abbrev pub changing_row : Option AuthorRow → Bool → List Reader → Chart → Change → Tables → Tables
 changing_row row none rs m c t =
     reaching_all rs m c.game c.effect (ordering_over none m c.author c.game c.effect (noting_row row m c.author c.game c.kept t))
-
-module _ {S : Type 0} (g : Ghosts S) (h : Held S) where
-  -- tables of our schema, all of it committed, whether or not papers and items are numbered
-  pub record IsLaid : Type 0 where
-    pub good : IsGood (state g h).now
-    pub idle : (state g h).in_transaction ≡ false
-    pub settled : (state g h).now ≡ (state g h).committed
-    pub unlimited : h.step_limit ≡ None
 
 -- a call that changes the tables so, where this holds of them, whole or not at all; after an error a crash may leave them changed or not
 pub record MakesFrom {S X E : Type 0} (Kept : Type 0) (g : Ghosts S) (f : Tables → Tables) (old new : Held S) (r : Result X E) : Type 0 where

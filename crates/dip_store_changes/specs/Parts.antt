@@ -4,7 +4,7 @@ use Rattle.dip_store_tables.specs.Lists.{delete_where}
 use Rattle.dip_map.specs.Charts.{Chart}
 use Rattle.dip_map.specs.Boards.{Position}
 use Rattle.dip_store_tables.specs.Boards.{UnitRow, CentreRow, unit_rows, centre_rows}
-use Rattle.dip_store_tables.specs.Tables.{BallotRow, SeatRow, Tables, is_ballot_in, is_choice_in, is_unit_in, is_centre_in, is_seat_in, is_pending, is_pending_in, is_box_in, is_paper_in}
+use Rattle.dip_store_tables.specs.Tables.{SeatRow, Tables, is_ballot_in, is_choice_in, is_unit_in, is_centre_in, is_seat_in, is_pending, is_pending_in, is_box_in, is_paper_in}
 use Rattle.dip_desk_state.specs.State.{NewSeat}
 use Rattle.dip_store_tables.specs.Writing.{ballot_row, choice_row}
 use Rattle.dip_store_sql.specs.Keys.{Differ, same_ballot, same_centre, same_choice, same_unit}
@@ -29,9 +29,6 @@ with_board m game b t = record t {
   units = delete_where (is_unit_in game) t.units ++ unit_rows m game b;
   centres = delete_where (is_centre_in game) t.centres ++ centre_rows m game b;
 }
-
-abbrev pub more_ballots : List BallotRow → Tables → Tables
-more_ballots bs t = record t { ballots = t.ballots ++ bs }
 
 -- a game's choice is this
 abbrev pub choosing : List ℕ → Bool → Tables → Tables

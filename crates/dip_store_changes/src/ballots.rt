@@ -8,7 +8,8 @@ ghost use Rattle.dip_store_tables.specs.Changing.{with_vote};
 ghost use Rattle.dip_store_tables.specs.Writing.{ballot_row};
 ghost use Rattle.dip_store_sql.specs.Keys.{BallotsDiffer, ChoicesDiffer};
 ghost use Rattle.dip_store_sql.specs.Transactions.{Does, always};
-ghost use Rattle.dip_store_changes.specs.Parts.{VotesDiffer, choosing, more_ballots, with_votes};
+ghost use Rattle.dip_store_sql.specs.TablesAfter.{more_ballots};
+ghost use Rattle.dip_store_changes.specs.Parts.{VotesDiffer, choosing, with_votes};
 
 use dip_desk_state::{NewSeat, Vote};
 use dip_map::{Board, Map};

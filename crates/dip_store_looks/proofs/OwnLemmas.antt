@@ -12,7 +12,8 @@ use Rattle.dip_store_tables.specs.Tables.{PendingRow, SeatRow, Tables, is_pendin
 use Rattle.dip_desk_state.specs.Records.{Vote}
 use Rattle.dip_store_tables.specs.Votes.{vote_in}
 use Rattle.dip_store_sql.proofs.Changes.{none_in}
-use Rattle.dip_store_looks.specs.Shown.{HasNothing, IsIdle, shown_order, shown_own}
+use Rattle.dip_desk_state.specs.State.{IsIdle}
+use Rattle.dip_store_looks.specs.Shown.{HasNothing, shown_order, shown_own}
 
 module _ (m : Chart) where
   pub orders_shown : (ps : List PendingRow) → map (λ r. standing_of m (shown_order r)) (map show_order ps) ≡ map (standing_of m) ps

@@ -85,11 +85,7 @@ shown_desk r = record {
   kept = kept_of (number_in (column r 3)) (bytes (column r 4)) (bytes (column r 5));
 }
 
--- an own part that votes for no draw and has no standing orders; and a seat's rows that say so
-pub record IsIdle (o : Own) : Type 0 where
-  pub vote : o.vote ≡ No
-  pub pending : o.pending ≡ []
-
+-- a seat's rows that say of its own part that it is idle
 pub record HasNothing (m : Chart) (t : Tables) (game power : List ℕ) : Type 0 where
   pub vote : No ≡ vote_in m t.ballots game power
   pub orders : [] ≡ filter (is_pending game power) t.pending

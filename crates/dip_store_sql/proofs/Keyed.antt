@@ -1,5 +1,6 @@
 -- In the tables of a database no key comes twice.
-use Rattle.std.proofs.Common.{◌≡◌, ℕ, List, Bool, ◌==◌, ◌&&◌, inl, inr, [], ◌∷◌, map, true, bytes_eq, refl, ap, ap₂, subst, ◌∙◌}
+use Rattle.std.proofs.Common.{◌≡◌, ℕ, List, Bool, ◌==◌, ◌&&◌, inl, inr, [], ◌∷◌, ◌++◌, map, true, false, bytes_eq, refl, ap, ap₂, subst, ◌∙◌}
+use Rattle.std.specs.List.{AllByRecursion}
 use Rattle.sqlite.specs.Effect.{Database, IsDatabase}
 use Rattle.sqlite.specs.Order.{Row}
 use Rattle.sqlite.specs.Schema.{Schema}
@@ -121,3 +122,13 @@ module _ (db : Database) (good : IsGood db) where
   -- no two games have one name, and no two seats of a game one power
   pub are_apart : AreApart (tables_of db.trees)
   are_apart = record { games = games_differ; seats = seats_differ }
+
+-- nor does one among the first of more records
+module _ {A : Type 0} (same : A → A → Bool) where
+  all_front : (P : A → Type 0) (xs ys : List A) → AllByRecursion P (xs ++ ys) → AllByRecursion P xs
+  all_front P [] ys all = tt
+  all_front P (x ∷ xs) ys all = (all.0, all_front P xs ys all.1)
+
+  pub front_apart : (xs ys : List A) → Differ same (xs ++ ys) → Differ same xs
+  front_apart [] ys apart = tt
+  front_apart (x ∷ xs) ys apart = (all_front (λ y. same x y ≡ false) xs ys apart.0, front_apart xs ys apart.1)

@@ -49,6 +49,13 @@ module _ {S : Type 0} (g : Ghosts S) (h : Held S) where
     pub settled : (state g h).now ≡ (state g h).committed
     pub unlimited : h.step_limit ≡ None
 
+  -- tables of our schema, all of it committed, whether or not papers and items are numbered
+  pub record IsLaid : Type 0 where
+    pub good : IsGood (state g h).now
+    pub idle : (state g h).in_transaction ≡ false
+    pub settled : (state g h).now ≡ (state g h).committed
+    pub unlimited : h.step_limit ≡ None
+
   -- rows that a keeper of version 1 has written, all of them committed; and its tables
   pub record WasKept : Type 0 where
     pub good : WasGood (state g h).now

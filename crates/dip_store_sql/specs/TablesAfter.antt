@@ -32,6 +32,10 @@ with_ballot b t = record t { ballots = t.ballots ++ b ∷ [] }
 abbrev pub with_choice : ChoiceRow → Tables → Tables
 with_choice c t = record t { choices = t.choices ++ c ∷ [] }
 
+-- ballots after the others
+abbrev pub more_ballots : List BallotRow → Tables → Tables
+more_ballots bs t = record t { ballots = t.ballots ++ bs }
+
 -- an order of a seat, by its province and its line; and orders after the others
 abbrev pub order : List ℕ → List ℕ → (List ℕ × List ℕ) → PendingRow
 order game power o = record { game = game; power = power; province = o.0; line = o.1 }

@@ -9,6 +9,6 @@ use Rattle.dip_desk.proofs.games.whole_of.Goals as goal
 pub returns : goal.returns
 returns c =
     let same : c.deref.result.now ≡ c.args.game.now.public.value = search rules in
-    whole_shown c.args.name.now c.args.game.now (rows.public c.in_ok-public_under.field-0) (map (λ o. rows.own o) c.in_ok-owns_copy.field-0.items)
-    (c.in_ok-public_under.ensures ∙ ap (λ (p : Public). record (rows.public p) { game = c.args.name.now }) same)
+    whole_shown c.args.name.now c.args.game.now (rows.public c.in_ok-copy_under.field-0) (map (λ o. rows.own o) c.in_ok-owns_copy.field-0.items)
+    (c.in_ok-copy_under.ensures ∙ ap (λ (p : Public). record (rows.public p) { game = c.args.name.now }) same)
     (c.in_ok-owns_copy.ensures ∙ ap (λ (xs : List SeatRow). map (λ p. p.own) (parts xs)) c.as_slice.ensures.value)

@@ -3,7 +3,7 @@ use Rattle.dip_desk_state.specs.ChangeRows as machine
 use Rattle.dip_store_tables.specs.Writing.{ballot_row}
 use Rattle.dip_store_sql.proofs.Joining.{does_and, does_fail, does_more}
 use Rattle.dip_store_sql.specs.Keys.{BallotsDiffer, same_ballot}
-use Rattle.dip_store_changes.specs.Parts.{more_ballots}
+use Rattle.dip_store_sql.specs.TablesAfter.{more_ballots}
 use Rattle.dip_store_changes.proofs.Apart.{both_apart}
 use Rattle.dip_store_changes.proofs.Adding.{ballots_more}
 use Rattle.dip_store_sql.proofs.Parts.{taken_both}

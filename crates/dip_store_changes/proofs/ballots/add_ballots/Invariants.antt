@@ -5,7 +5,7 @@ use Rattle.dip_desk_state.specs.ChangeRows as machine
 use Rattle.dip_store_tables.specs.Writing.{ballot_row}
 use Rattle.dip_store_sql.proofs.Parts.{went}
 use Rattle.dip_store_sql.specs.Transactions.{Does, always}
-use Rattle.dip_store_changes.specs.Parts.{more_ballots}
+use Rattle.dip_store_sql.specs.TablesAfter.{more_ballots}
 use Rattle.dip_store_changes.proofs.ballots.add_ballots.Given as goal
 
 abbrev pub invariant-loop-seat : goal.invariant-loop-seat

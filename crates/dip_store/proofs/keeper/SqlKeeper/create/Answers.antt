@@ -3,10 +3,10 @@ use Rattle.sha2.specs.Sha256.{sha256}
 use Rattle.sqlite.specs.Held.{Held, state}
 use Rattle.dip_store_sql.specs.Calls.{does_show}
 use Rattle.dip_store_sql.specs.Causes.{has_faulted}
-use Rattle.dip_store.specs.Founding.{Founds, IsNewStore}
+use Rattle.dip_store_schema.specs.Founding.{Founds, IsNewStore}
 use Rattle.dip_store_tables.specs.Writing.{new_tables}
 use Rattle.dip_store.proofs.Opened.{opens_new}
-use Rattle.dip_store.proofs.Refused.{open_blamed}
+use Rattle.dip_store_schema.proofs.Refused.{open_blamed}
 use Rattle.dip_store.proofs.keeper.SqlKeeper.create.Goals as goal
 
 pub returns-in-Ok-clause-opened : goal.returns-in-Ok-clause-opened
@@ -16,7 +16,7 @@ returns-in-Ok-clause-opened g c =
       unlimited = rw c.set_step_limit.ensures refl;
     } in
     rw c.over.ensures
-    (λ clean. opens_new g.S.Store c.args.map.now c.args.alloc c.found.new.conn c.commits_last.ensures _ c.args.digest.now c.facts.ensures (c.new_tables_are_new.ensures c.args.map.now) c.new_tables_are_legible.ensures c.has_32.ensures
+    (λ clean. opens_new g.S.Store c.args.map.now c.args.alloc c.set_up_tables.new.conn c.commits_last.ensures _ c.args.digest.now c.facts.ensures (c.new_tables_are_new.ensures c.args.map.now) c.new_tables_are_legible.ensures c.has_32.ensures
     (c.in-Ok.ensures.kept new clean) (c.in-Ok.ensures.ok clean))
 
 -- the limit of steps is nothing that a crash could leave
@@ -38,4 +38,4 @@ returns-in-Err-clause-caused g c clean shows is =
       unlimited = rw c.set_step_limit.ensures refl;
     } in
     let there : does_show g.S.Store h = rw c.set_step_limit.ensures shows in
-    inr (subst (λ (h : Held _). has_faulted g.S.Store h c.found.new.conn) c.set_step_limit.ensures (open_blamed _ c.in-Err.error (c.in-Err.ensures.fails new there clean) (sym c.open_fault.ensures ∙ is)))
+    inr (subst (λ (h : Held _). has_faulted g.S.Store h c.set_up_tables.new.conn) c.set_step_limit.ensures (open_blamed _ c.in-Err.error (c.in-Err.ensures.fails new there clean) (sym c.open_fault.ensures ∙ is)))

@@ -2,7 +2,7 @@ use Rattle.std.proofs.Common.{◌⊎◌, inl, inr, Err, ap, arith, subst, sym, �
 use Rattle.std.specs.List.{find}
 use Rattle.sha2.specs.Sha256.{sha256}
 use Rattle.sqlite.specs.Held.{Held, state}
-use Rattle.dip_store.specs.Desk.{DeskSays}
+use Rattle.dip_store_schema.specs.Desk.{DeskSays}
 use Rattle.dip_store_sql.specs.Calls.{does_show, old_tables_in, tables_in}
 use Rattle.dip_store_sql.specs.Causes.{has_faulted}
 use Rattle.dip_store_sql.specs.TablesAfter.{is_first}
@@ -11,14 +11,14 @@ use Rattle.sqlite.specs.Effect.{Database}
 use Rattle.dip_store_sql.specs.Old.{old_tables_of}
 use Rattle.dip_store_tables.specs.Renewing.{WereOurs}
 use Rattle.dip_store.specs.Opening.{MayRenew, Opens}
-use Rattle.dip_store.specs.Renewing.{HasRoomAnew, IsOldStore, IsTooFullFor, old_said_by}
-use Rattle.dip_store.specs.Refusing.{IsRefused, IsRefusedAs}
+use Rattle.dip_store_schema.specs.Renewing.{HasRoomAnew, IsOldStore, IsTooFullFor, old_said_by}
+use Rattle.dip_store_schema.specs.Refusing.{IsRefused, IsRefusedAs}
 use Rattle.dip_store.proofs.Opened.{ends_refused, err_turned, faulted_there, has_them, if_err, kept_from, known_there, of_version_1, ok_turned, old_there, opens_old, there}
-use Rattle.dip_store.proofs.Refilling.{decided}
-use Rattle.dip_store.proofs.Refused.{own_outage}
-use Rattle.dip_store.proofs.Short.{short_room}
+use Rattle.dip_store_schema.proofs.Refilling.{decided}
+use Rattle.dip_store_schema.proofs.Refused.{own_outage}
+use Rattle.dip_store_schema.proofs.Short.{short_room}
 use Rattle.dip_store.proofs.Renewal.{desk_still, ends_either, err_all, err_both, has_none, ok_both, same_base, same_store, was_kept}
-use Rattle.dip_store.specs.declared.faults.StoreFault.{StoreFault}
+use Rattle.dip_store_schema.specs.declared.faults.StoreFault.{StoreFault}
 use Rattle.dip_store.proofs.keeper.SqlKeeper.open.Goals as goal
 
 pub returns-in-Ok-clause-opened : goal.returns-in-Ok-clause-opened

@@ -4,8 +4,8 @@ use Rattle.sqlite.specs.Held.{state}
 use Rattle.dip_store_sql.specs.Old.{old_tables_of}
 use Rattle.dip_store_sql.proofs.Caused.{faulted_late}
 use Rattle.dip_store_tables.specs.Renewing.{WereOurs}
-use Rattle.dip_store.specs.Renewing.{Outgrows, Renews}
-use Rattle.dip_store.specs.declared.faults.StoreFault.{StoreFault}
+use Rattle.dip_store_schema.specs.Renewing.{Outgrows, Renews}
+use Rattle.dip_store_schema.specs.declared.faults.StoreFault.{StoreFault}
 use Rattle.dip_store.proofs.Renewal.{may_renew, opens_renewed}
 use Rattle.dip_store.proofs.keeper.SqlKeeper.open_old.Goals as goal
 

@@ -4,11 +4,12 @@ use Rattle.dip_desk_state.specs.Rows as rows
 use Rattle.dip_desk_state.specs.declared.records.Own.{Own}
 use Rattle.dip_store_tables.specs.ChangeColumns.{IsWritable}
 use Rattle.dip_store_changes.proofs.Made.{makes_when}
-use Rattle.dip_store.specs.Owns.{known_among, owns_of}
+use Rattle.dip_store_memory.specs.Owns.{owns_of}
+use Rattle.dip_store.specs.Authors.{known_among}
 use Rattle.dip_store.proofs.Made.{changes_well, changes_ill, changes_none, knows}
-use Rattle.dip_store.proofs.Idling.{idle_before, idle_behind}
-use Rattle.dip_store.proofs.Owning.{left_recalls, made_recalls, owned}
-use Rattle.dip_store.proofs.Seeing.{heeded, was_there}
+use Rattle.dip_store_memory.proofs.Idling.{idle_before, idle_after}
+use Rattle.dip_store_memory.proofs.Owning.{left_recalls, made_recalls, owned}
+use Rattle.dip_store_memory.proofs.Seeing.{heeded, was_there}
 use Rattle.dip_store.proofs.keeper.SqlKeeperKeeper.apply.Goals as goal
 
 pub returns-in-Ok : goal.returns-in-Ok
@@ -19,11 +20,11 @@ returns-in-Ok g c =
     let lies : c.as_slice.result.now ≡ c.take-owns.result.items = search rules in
     let known : c.known_author-known.result ≡ known_among it.author (owns_of it.game c.args.self.now.owns) = c.known_author-known.ensures ∙ ap (known_among it.author) (ap (map (λ (o : Own). rows.own o)) lies ∙ c.take-owns.ensures.taken ∙ ap (λ (name : List ℕ). owns_of name c.args.self.now.owns) c.as_str.ensures.value) in
     let has = knows g.S.Store m c.args.self.now it (c.own_is_found.ensures m c.facts.ensures) fits.0.author c.known_author-known.result known in
-    changes_well g.S.Store m c.args.self.now it c.make.new.conn (c.changes_are_made.ensures m c.facts.ensures) fits c.has_widths.ensures c.heed-was_seen.new.self (heeded it c.args.self.now.seen c.heed-was_seen.new.self c.heed-was_seen.ensures.left) c.keep.new.self c.note_behind.new.self _ _ c.in-Ok.field-0 c.has_texts.ensures (c.tables_stay_legible.ensures m)
+    changes_well g.S.Store m c.args.self.now it c.make.new.conn (c.changes_are_made.ensures m c.facts.ensures) fits c.has_widths.ensures c.forget_replaced-was_seen.new.self (heeded it c.args.self.now.seen c.forget_replaced-was_seen.new.self c.forget_replaced-was_seen.ensures.left) c.keep.new.self c.note_after.new.self _ _ c.in-Ok.field-0 c.has_texts.ensures (c.tables_stay_legible.ensures m)
     (makes_when g.S.Store _ _ _ _ _ _ _ _ has c.in-Ok.ensures.makes) (λ keeps. c.in-Ok.ensures.kept (has keeps)) (λ keeps. c.in-Ok.ensures.place (has keeps))
     (made_recalls it c.as_str.result.now c.as_str.ensures.value c.args.self.now.owns c.take-owns.new.self c.keep.new.self (owned c.take-owns.result) c.take-owns.ensures.taken c.take-owns.ensures.left c.keep.ensures)
-    (λ s before apart. c.note_behind.ensures s (idle_behind it c.args.self.now.idle c.heed.new.self c.heed.ensures s before) apart)
-    c.note_behind-in-Ok.new.self (λ s before holds apart. c.note_behind-in-Ok.ensures s holds apart (was_there it s c.args.self.now.seen c.heed-was_seen.result c.heed-was_seen.ensures.was before))
+    (λ s before apart. c.note_after.ensures s (idle_after it c.args.self.now.idle c.stir_author.new.self c.stir_author.ensures s before) apart)
+    c.note_after-in-Ok.new.self (λ s before holds apart. c.note_after-in-Ok.ensures s holds apart (was_there it s c.args.self.now.seen c.forget_replaced-was_seen.result c.forget_replaced-was_seen.ensures.was before))
 
 pub returns-in-Err : goal.returns-in-Err
 returns-in-Err g c =
@@ -34,8 +35,8 @@ returns-in-Err g c =
     let known : c.known_author-known.result ≡ known_among it.author (owns_of it.game c.args.self.now.owns) = c.known_author-known.ensures ∙ ap (known_among it.author) (ap (map (λ (o : Own). rows.own o)) lies ∙ c.take-owns.ensures.taken ∙ ap (λ (name : List ℕ). owns_of name c.args.self.now.owns) c.as_str.ensures.value) in
     let has = knows g.S.Store m c.args.self.now it (c.own_is_found.ensures m c.facts.ensures) fits.0.author c.known_author-known.result known in
     rw (c.told_by_store.ensures.same, c.told_by_store.ensures.told)
-    (changes_ill g.S.Store m c.args.self.now it c.make.new.conn (c.changes_are_made.ensures m c.facts.ensures) fits c.has_widths.ensures c.heed-was_seen.new.self (heeded it c.args.self.now.seen c.heed-was_seen.new.self c.heed-was_seen.ensures.left) c.take-owns.new.self c.heed.new.self _ _ c.in-Err.fault
-    (λ s. (left_recalls s c.as_str.result.now c.args.self.now.owns c.take-owns.new.self c.take-owns.ensures.left, idle_before it c.args.self.now.idle c.heed.new.self c.heed.ensures s)) c.has_texts.ensures (c.tables_stay_legible.ensures m) (c.tables_stay_counted.ensures m)
+    (changes_ill g.S.Store m c.args.self.now it c.make.new.conn (c.changes_are_made.ensures m c.facts.ensures) fits c.has_widths.ensures c.forget_replaced-was_seen.new.self (heeded it c.args.self.now.seen c.forget_replaced-was_seen.new.self c.forget_replaced-was_seen.ensures.left) c.take-owns.new.self c.stir_author.new.self _ _ c.in-Err.fault
+    (λ s. (left_recalls s c.as_str.result.now c.args.self.now.owns c.take-owns.new.self c.take-owns.ensures.left, idle_before it c.args.self.now.idle c.stir_author.new.self c.stir_author.ensures s)) c.has_texts.ensures (c.tables_stay_legible.ensures m) (c.tables_stay_counted.ensures m)
     (λ keeps. c.in-Err.ensures.landed (has keeps)) g.met.S.Store.settled (c.what_fits_finds_place.ensures m)
     (makes_when g.S.Store _ _ _ _ _ _ _ _ has c.in-Err.ensures.makes) (λ keeps. c.in-Err.ensures.fails (has keeps)) (λ keeps. c.in-Err.ensures.blames (has keeps)))
 

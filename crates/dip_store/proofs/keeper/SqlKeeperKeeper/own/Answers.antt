@@ -4,12 +4,12 @@ use Rattle.sqlite.specs.Held.{state}
 use Rattle.dip_desk_state.specs.Rows as rows
 use Rattle.dip_desk_state.specs.Records.{Own}
 use Rattle.dip_store_sql.specs.Calls.{tables_in}
-use Rattle.dip_store_looks.specs.Shown.{IsIdle}
+use Rattle.dip_desk_state.specs.State.{IsIdle}
 use Rattle.dip_store_tables.specs.Coding.{AreCoded}
-use Rattle.dip_store.specs.Owns.{own_among, owns_of}
+use Rattle.dip_store_memory.specs.Owns.{own_among, owns_of}
 use Rattle.dip_store.specs.Stored.{said_by}
 use Rattle.dip_store.proofs.Looking.{looks_learned, looks_ill, looks_recalled, looks_wanting}
-use Rattle.dip_store.proofs.Owning.{recalled_own}
+use Rattle.dip_store_memory.proofs.Owning.{recalled_own}
 use Rattle.dip_store.proofs.keeper.SqlKeeperKeeper.own.Goals as goal
 
 pub returns-in-Some : goal.returns-in-Some

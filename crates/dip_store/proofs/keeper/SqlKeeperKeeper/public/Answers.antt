@@ -2,7 +2,7 @@ use Rattle.std.proofs.Common.{rules, ◌≡◌, Some, sym}
 use Rattle.std.proofs.lemmas.Result.{err_from_is_err_and}
 use Rattle.sqlite.specs.Held.{state}
 use Rattle.dip_desk_state.specs.Rows as rows
-use Rattle.dip_store.specs.Seen.{part_of}
+use Rattle.dip_store_memory.specs.Seen.{part_of}
 use Rattle.dip_store.specs.Stored.{said_by}
 use Rattle.dip_store.proofs.Looking.{looks_learned, looks_ill, looks_recalled, looks_wanting}
 use Rattle.dip_store.proofs.keeper.SqlKeeperKeeper.public.Goals as goal

@@ -1,0 +1,5 @@
+pub mod Named
+pub mod Seeing
+pub mod After
+pub mod Owning
+pub mod Idling

@@ -1,0 +1,73 @@
+-- What is remembered of seats.
+use Rattle.std.specs.Prelude.{◌≡◌, ◌==◌, ◌+◌, ℕ, Bool, true, false, List, [], ◌∷◌, Option, None, Some, length, nat_le, bytes_eq, option_map, unwrap_or, if◌then◌else◌}
+use Rattle.std.specs.List.{AllByRecursion}
+use Rattle.std.specs.Map.{lookup}
+use Rattle.dip_desk_state.specs.Keyed.{at}
+use Rattle.dip_desk_state.specs.Records.{Kept, Own}
+use Rattle.dip_desk_state.specs.State.{Author, Nobody, TheMaster, Seat, Change, Effect, Nothing, Pending, Votes, Delivers, Opens, Publishes, Seats, State, is_seat, own_at, own_effect}
+
+-- own parts of seats, under the names of their games
+abbrev pub Owns : Type 0
+Owns = List (List ℕ × List Own)
+
+-- those that are remembered of the game of a name
+abbrev pub owns_of : List ℕ → Owns → List Own
+owns_of name ws = unwrap_or (lookup (bytes_eq name) ws) []
+
+-- the own part of a power among them
+abbrev pub own_among : ℕ → List Own → Option Own
+own_among power os = at (λ a b. a == b) (λ o. o.power) power os
+
+-- a state has this own part in the game of a name
+abbrev pub HasOwn : State → List ℕ → Own → Type 0
+HasOwn s name o = own_at name o.power s ≡ Some o
+
+-- each own part that is remembered is the one that a state has
+abbrev pub RecallsOwns : State → Owns → Type 0
+RecallsOwns s ws = (name : List ℕ) → AllByRecursion (HasOwn s name) (owns_of name ws)
+
+-- so many own parts are remembered at most
+abbrev pub most_owns : ℕ
+most_owns = 1024
+
+-- how many are
+abbrev pub many_owns : Owns → ℕ
+many_owns [] = 0
+many_owns (g ∷ gs) = length g.1 + many_owns gs
+
+-- those that stay where one more comes: all, or none where these are the most
+abbrev pub owns_with_room : Owns → Owns
+owns_with_room ws = if nat_le most_owns (many_owns ws) then [] else ws
+
+-- a reply is remembered with its own part up to so many bytes
+abbrev pub most_reply : ℕ
+most_reply = 4096
+
+-- whether what is kept is of them
+abbrev pub is_short : Option Kept → Bool
+is_short None = true
+is_short (Some k) = nat_le (length k.reply) most_reply
+
+-- whether an effect changes no own part but its author's, or is a paper
+abbrev pub is_own : Effect → Bool
+is_own Nothing = true
+is_own (Pending orders) = true
+is_own (Votes vote) = true
+is_own (Delivers readers item) = false
+is_own (Opens public paper seats) = false
+is_own (Publishes public paper played) = true
+is_own (Seats seat) = false
+
+-- an own part after a paper: where a phase was played, it has no standing orders
+abbrev pub papered : Effect → Own → Own
+papered Nothing o = o
+papered (Pending orders) o = o
+papered (Votes vote) o = o
+papered (Delivers readers item) o = o
+papered (Opens public paper seats) o = o
+papered (Publishes public paper played) o = if played then record o { pending = [] } else o
+papered (Seats seat) o = o
+
+-- an own part of its game after a change of such an effect
+abbrev pub own_after : Change → Own → Own
+own_after c o = papered c.effect (if is_seat c.author o.power then own_effect c.effect (record o { kept = Some c.kept }) else o)

@@ -1,0 +1,40 @@
+//! Boards that are equal part by part.
+ghost use Rattle.std.specs.Prelude.{◌≡◌, IsTrue};
+
+use dip_map::{Board, Dislodged, Power, Prov, Unit};
+
+fn same_units(these: &[Unit], those: &[Unit]) -> bool
+    ensures { IsTrue result → these.now ≡ those.now }
+{
+    these == those
+}
+
+fn same_dislodged(these: &[Dislodged], those: &[Dislodged]) -> bool
+    ensures { IsTrue result → these.now ≡ those.now }
+{
+    these == those
+}
+
+fn same_provinces(these: &[Prov], those: &[Prov]) -> bool
+    ensures { IsTrue result → these.now ≡ those.now }
+{
+    these == those
+}
+
+fn same_owners(these: &[Option<Power>], those: &[Option<Power>]) -> bool
+    ensures { IsTrue result → these.now ≡ those.now }
+{
+    these == those
+}
+
+/// Whether two boards are the same.
+pub(crate) fn are_same(one: &Board, other: &Board) -> bool
+    ensures { IsTrue result → one.now ≡ other.now }
+{
+    one.phase() == other.phase()
+        && one.intent() == other.intent()
+        && same_units(one.units(), other.units())
+        && same_dislodged(one.dislodged(), other.dislodged())
+        && same_provinces(one.standoff(), other.standoff())
+        && same_owners(one.owners(), other.owners())
+}

@@ -1,0 +1,14 @@
+pub mod Alone
+pub mod Prepared
+pub mod Leading
+pub mod Trying
+pub mod Listed
+pub mod Quiet
+pub mod LastMade
+pub mod Ours
+pub mod Refused
+pub mod Filling
+pub mod Renewed
+pub mod Rewritten
+pub mod Refilling
+pub mod Short

@@ -1,0 +1,9 @@
+pub mod Alone
+pub mod Desk
+pub mod Faults
+pub mod Founding
+pub mod Known
+pub mod Making
+pub mod Refusing
+pub mod Renewing
+pub mod Rewriting

@@ -27,7 +27,7 @@ use std::alloc::{AllocError, Global};
 /// The last tick that a letter may name.
 pub(crate) const LAST_TICK: u64 = 999_999_999_999;
 
-/// The same public part, which shares its board.
+/// A second copy of a public part; both share the board.
 fn copied(alloc: Global, public: &Public) -> Result<Public, AllocError>
     ensures { IfOk result (λ p. rows.public p ≡ rows.public public.now) }
 {

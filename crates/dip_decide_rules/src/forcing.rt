@@ -117,7 +117,8 @@ fn ground_of<'a>(
     Ok((table, room))
 }
 
-/// The same over a table of its own.
+/// Whether the equations force a decision's value, where the others have these values; the call
+/// makes the table of the movement and room for the search itself.
 pub fn forced_by_orders(
     alloc: Global,
     map: &Map,

@@ -19,7 +19,8 @@ pub struct Values {
     pub supports: Vec<Option<bool>>,
 }
 
-/// A value of a list. Behind its end there is nothing to decide.
+/// A decision's value in a list by province: `None` while it is open. A province past the list's
+/// end has nothing to decide, which counts as false.
 pub fn value_at(list: &[Option<bool>], p: Prov) -> Option<bool>
     ensures { result ≡ slice_index_or list.now p (Some false) }
 {

@@ -36,7 +36,7 @@ pub fn owns_copy(alloc: Global, seats: &[SeatRow]) -> Result<Vec<Own>, AllocErro
     Ok(copy)
 }
 
-/// The same items once more: they are shared, and no text is copied.
+/// Shares the items with another list: no text is copied.
 pub fn items_shared(alloc: Global, items: &[Rc<Item>]) -> Result<Vec<Rc<Item>>, AllocError>
     ensures { IfOk result (λ v. rows.items v.items ≡ rows.items items.now) }
 {

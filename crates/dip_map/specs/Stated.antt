@@ -28,7 +28,7 @@ each f (x ∷ xs) = do
   ys ← each f xs
   Ok (y ∷ ys)
 
--- the same, for what stands in a list from number k on
+-- each of a list, looked up with its number, where the first one has number k
 abbrev pub each_from : {A B : Type 0} → (ℕ → A → Result B MapFault) → ℕ → List A → Result (List B) MapFault
 each_from f k [] = Ok []
 each_from f k (x ∷ xs) = do

@@ -32,7 +32,7 @@ fn needs_adjustment(map: &Map, board: &Board) -> bool
     false
 }
 
-/// The same board in another phase.
+/// The board with everything as it stands, in another phase.
 fn in_phase(alloc: Global, board: &Board, year: u16, season: Season) -> Result<Board, AllocError>
     ensures { IfOk result (λ b. b ≡ p.in_phase board.now year season) }
 {

@@ -37,7 +37,7 @@ impl Tests {
         Tests { count: 0 }
     }
 
-    /// How many.
+    /// How many tests were made.
     pub fn count(&self) -> u64
         ensures { result ≡ self.now }
     {

@@ -74,7 +74,7 @@ impl Values {
         }
     }
 
-    /// Gives true to these moves.
+    /// These moves, which were open, succeed from now on.
     pub fn give_moves(&mut self, units: &[Prov])
         requires distinct { are_provs_single units.now ≡ true }
         requires unknown { AreOpen (known_of self.old) units.now }

@@ -24,7 +24,7 @@ pub fn public_under(alloc: Global, name: &str, public: &Public) -> Result<Public
     })
 }
 
-/// The own parts of seats.
+/// Copies the own parts of these seats, in their order, without their inboxes.
 pub fn owns_copy(alloc: Global, seats: &[SeatRow]) -> Result<Vec<Own>, AllocError>
     ensures { IfOk result
         (λ v. each (λ o. rows.own o) v.items ≡ each (λ p. p.own) (stored.parts seats.now)) }

@@ -28,7 +28,7 @@ pub(crate) enum Given {
     Vote(Vote),
 }
 
-/// The place of the seat of that power, or the length.
+/// Where the power's seat stands in this list; its length, where the power has none.
 fn seat_place(seats: &[SeatRow], power: Power) -> usize
     ensures { result ≡ place (λ a b. a == b) s.power_in power (stored.parts seats.now) }
 {

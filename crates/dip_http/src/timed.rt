@@ -52,7 +52,7 @@ impl<'a, C: Clock> Timed<'a, C> {
         Ok(())
     }
 
-    /// The time that the client has left.
+    /// What is left of the limit by the clock, which is nothing once it has passed.
     fn time_left(&self) -> io::Result<Duration> {
         let gone = self.start.elapsed(self.clock)?;
         Ok(self.limit.saturating_sub(gone))

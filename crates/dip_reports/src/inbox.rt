@@ -52,7 +52,6 @@ fn push_title(item: &Item, out: &mut String) -> Result<(), AllocError>
     }
 }
 
-/// The lines of press.
 fn text_of(item: &Item) -> &[String]
     ensures { rows.lines result.now ≡ item_lines (rows.item item.now) }
 {

@@ -11,7 +11,7 @@ use dip_names::Power;
 use dip_orders::{builds_due, removals_due};
 use std::alloc::{AllocError, Global};
 
-/// The last year of a game.
+/// The last year of a game: after its last phase the game ends, if nobody has won.
 const LAST_YEAR: u16 = 2900;
 
 /// Whether a power has to build or remove.

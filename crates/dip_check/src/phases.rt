@@ -47,7 +47,7 @@ fn copied(alloc: Global, public: &Public) -> Result<Public, AllocError>
 pub(crate) enum Judged {
     /// It is: this is what became of the phase, and the game stands so.
     Right(Report, Public),
-    /// It is wrong here.
+    /// It isn't: the text is wrong in this line.
     Wrong(Fault),
 }
 

@@ -23,7 +23,7 @@ pub enum Saying {
     Cuts(Prov),
     /// By its move the support of this unit isn't cut.
     Spares(Prov),
-    /// It carries an army.
+    /// As a fleet it carries an army that has a route.
     Serves,
     /// It is to carry an army that has no route.
     Strands,
@@ -380,7 +380,7 @@ impl Case<'_> {
             .collect(alloc)
     }
 
-    /// The moves to a province.
+    /// The units whose orders send them into the province, in the table's order.
     fn movers(&self, alloc: Global, h: Prov) -> Result<Vec<Prov>, AllocError>
         ensures { IfOk result
             (λ v. v.items ≡ m.movers (situation_of self.now.corner.table.now) h) }

@@ -25,7 +25,7 @@ pub enum HttpRefusal {
 }
 
 impl HttpRefusal {
-    /// The answer's status: 405 for both `OnlyPost` and `OnlyGet`.
+    /// The answer's status. `OnlyPost` and `OnlyGet` both have 405.
     pub fn status(self) -> StatusCode
         ensures { result ≡ status_number self }
     {

@@ -26,7 +26,7 @@ pub struct Timed<'a, C: Clock> {
 }
 
 impl<'a, C: Clock> Timed<'a, C> {
-    /// The client's time begins: `MOST_SILENT_SECONDS` until its first byte, and then
+    /// The client's time begins. It has `MOST_SILENT_SECONDS` until its first byte, and then
     /// `MOST_SECONDS` from the start.
     ///
     /// # Errors

@@ -61,7 +61,7 @@ impl OrderFault {
         }
     }
 
-    /// The fault as an answer tells it after its code, in lower case with no full stop.
+    /// What is wrong, in words. An answer has them after the code, in lower case with no full stop.
     pub fn words(self) -> &'static str
         ensures { result.now ≡ fault_words self }
     {

@@ -46,7 +46,7 @@ impl Orders {
         Ok(Orders { placed })
     }
 
-    /// These orders in their order, each of them in force.
+    /// These orders, each of them in force.
     pub fn as_slice(&self) -> &[PlacedOrder]
         ensures { result.now ≡ self.now }
     {

@@ -85,7 +85,8 @@ fn push_items(first: u32, items: &[Rc<Item>], out: &mut String) -> Result<(), Al
     Ok(())
 }
 
-/// What INBOX answers: how many items the inbox has, and the items that are shown, of which the first has this number.
+/// What INBOX answers: how many items the inbox has, and those shown. The first of these has this
+/// number.
 pub fn inbox_text(
     alloc: Global,
     total: u32,

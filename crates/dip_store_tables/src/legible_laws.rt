@@ -8,7 +8,7 @@ pub fn tables_stay_legible()
     ensures { (m : Chart) → TablesStayLegible m }
 {}
 
-/// The tables of a new desk are legible.
+/// The tables with which a desk begins are legible: there is only the master's row.
 pub fn new_tables_are_legible()
     ensures { NewTablesAreLegible }
 {}

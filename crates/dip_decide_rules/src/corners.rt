@@ -288,8 +288,7 @@ impl Corner<'_> {
         }
     }
 
-    /// The value that a decision's equation gives it, where the others have the values of this
-    /// corner.
+    /// The value that a decision's equation gives it by the others' values at this corner.
     pub(crate) fn rule(&self, room: &mut Room, d: &Decision) -> Result<bool, AllocError>
         requires situation { IsSituation (situation_of self.now.table.now) }
         ensures { IfOk result

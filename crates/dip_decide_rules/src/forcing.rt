@@ -117,8 +117,7 @@ fn ground_of<'a>(
     Ok((table, room))
 }
 
-/// Whether the equations force a decision's value, where the others have these values; the call
-/// makes the table of the movement and room for the search itself.
+/// Tests an open decision as `forced` does, over a table and a room that it makes itself.
 pub fn forced_by_orders(
     alloc: Global,
     map: &Map,

@@ -198,8 +198,7 @@ fn carriers_of(
     by_key(alloc, places, carried)
 }
 
-/// The table of these orders, made once for all equations of a movement. Each order's unit has to
-/// stand in a province of the map.
+/// The table of these orders, made once for a movement. Their units are in provinces of the map.
 pub fn table_of<'a>(
     alloc: Global,
     map: &'a Map,

@@ -19,8 +19,8 @@ pub struct Values {
     pub supports: Vec<Option<bool>>,
 }
 
-/// A decision's value in a list by province: `None` while it is open. A province past the list's
-/// end has nothing to decide, which counts as false.
+/// A decision's value by its province, if it has one; false where the province is past the list's
+/// end.
 pub fn value_at(list: &[Option<bool>], p: Prov) -> Option<bool>
     ensures { result ≡ slice_index_or list.now p (Some false) }
 {

@@ -1,12 +1,14 @@
-/* Stands before the C library's allocator (LD_PRELOAD), and refuses one call of a program, or each in turn.
+/* Is loaded before the C library's allocator (LD_PRELOAD), and refuses one call of a program, or
+ * each in turn.
  *
- * REFUSE_COUNT=file              the calls are counted in the file's first eight bytes, as they come
- * REFUSE_AT=n                    the nth call is refused, and no other
- * REFUSE_STEP=m REFUSE_TALK=fd   the first call is refused, and each mth behind it, and each of those behind the first read of the input that is a
- * REFUSE_INPUT=m                 multiple of this other m, each in a run of its own: there the program is split, and a child
- * REFUSE_FOLDER=folder           goes on in that folder, which has copies of all files of the folder that the program runs in; those that are open
- *                                (input, output, a store) are open again as they were. How it ends is told on fd as "n status"; once a byte
- *                                comes back the program itself goes on, as if nothing had been refused. */
+ * REFUSE_COUNT=file              the calls are counted in the file's first eight bytes, as they
+ * come REFUSE_AT=n                    the nth call is refused, and no other REFUSE_STEP=m
+ * REFUSE_TALK=fd   the first call is refused, and each mth after it; after the first read
+ * REFUSE_INPUT=m                 of the input each multiple of this other m. Each is refused in a
+ * run of its own: there the program is split, and a child goes on REFUSE_FOLDER=folder           in
+ * that folder, which has copies of all files of the folder that the program runs in. Those that are
+ * open (input, output, a store) are open again as they were. How it ends is told on fd as "n
+ * status". Once a byte comes back the program itself goes on, as if nothing had been refused. */
 #define _GNU_SOURCE
 #include <dirent.h>
 #include <errno.h>
@@ -28,7 +30,7 @@ extern void *__libc_calloc(size_t, size_t);
 extern void *__libc_realloc(void *, size_t);
 extern void *__libc_memalign(size_t, size_t);
 
-static long uncounted, *calls = &uncounted, at, step, step_behind;
+static long uncounted, *calls = &uncounted, at, step, later_step;
 static const char *there;
 static char here[PATH_MAX];
 static int talk, is_child;
@@ -54,7 +56,7 @@ __attribute__((constructor)) static void begin(void) {
     if (!count) return;
     at = number_of("REFUSE_AT", 0);
     step = number_of("REFUSE_STEP", 0);
-    step_behind = number_of("REFUSE_INPUT", step);
+    later_step = number_of("REFUSE_INPUT", step);
     talk = (int)number_of("REFUSE_TALK", -1);
     there = getenv("REFUSE_FOLDER");
     file = open(count, O_RDWR | O_CREAT | O_CLOEXEC, 0644);
@@ -92,7 +94,8 @@ static void copy_files(void) {
     closedir(files);
 }
 
-/* Opens what is open of these files once more, in the new folder, at the same place and under the same number. */
+/* Opens what is open of these files once more, in the new folder, at the same place and under the
+ * same number. */
 static void open_again(int number) {
     char link[PATH_MAX], path[PATH_MAX];
     size_t size = strlen(here);
@@ -106,7 +109,9 @@ static void open_again(int number) {
     join(link, there, path + size + 1);
     file = open(link, fcntl(number, F_GETFL) & (O_ACCMODE | O_APPEND));
     place = lseek(number, 0, SEEK_CUR);
-    if (file < 0 || place < 0 || lseek(file, place, SEEK_SET) != place || dup2(file, number) != number) cannot(link);
+    if (file < 0 || place < 0 || lseek(file, place, SEEK_SET) != place ||
+        dup2(file, number) != number)
+        cannot(link);
     close(file);
 }
 
@@ -132,14 +137,15 @@ static int split(long n) {
         return 1;
     }
     if (waitpid(child, &status, 0) != child) cannot("waitpid");
-    size = snprintf(line, sizeof line, "%ld %d\n", n, WIFEXITED(status) ? WEXITSTATUS(status) : KILLED + WTERMSIG(status));
+    size = snprintf(line, sizeof line, "%ld %d\n", n,
+                    WIFEXITED(status) ? WEXITSTATUS(status) : KILLED + WTERMSIG(status));
     if (write(talk, line, (size_t)size) != size || read(talk, line, 1) != 1) cannot("REFUSE_TALK");
     return 0;
 }
 
 /* A read, as it is; the first of the input is noted. */
 ssize_t read(int number, void *bytes, size_t size) {
-    if (number == 0) step = step_behind;
+    if (number == 0) step = later_step;
     return syscall(SYS_read, number, bytes, size);
 }
 
@@ -155,9 +161,15 @@ static int is_refused(void) {
 
 void *malloc(size_t size) { return is_refused() ? NULL : __libc_malloc(size); }
 void *calloc(size_t count, size_t size) { return is_refused() ? NULL : __libc_calloc(count, size); }
-void *realloc(void *block, size_t size) { return is_refused() ? NULL : __libc_realloc(block, size); }
-void *memalign(size_t align, size_t size) { return is_refused() ? NULL : __libc_memalign(align, size); }
-void *aligned_alloc(size_t align, size_t size) { return is_refused() ? NULL : __libc_memalign(align, size); }
+void *realloc(void *block, size_t size) {
+    return is_refused() ? NULL : __libc_realloc(block, size);
+}
+void *memalign(size_t align, size_t size) {
+    return is_refused() ? NULL : __libc_memalign(align, size);
+}
+void *aligned_alloc(size_t align, size_t size) {
+    return is_refused() ? NULL : __libc_memalign(align, size);
+}
 
 int posix_memalign(void **block, size_t align, size_t size) {
     void *found = is_refused() ? NULL : __libc_memalign(align, size);

@@ -1,20 +1,23 @@
-/* Stands before the C library (LD_PRELOAD) and makes the calls of a program fail, as a disk, a pipe or a client that is gone.
+/* Is loaded before the C library (LD_PRELOAD) and makes the calls of a program fail, as if a disk,
+ * a pipe or a client were gone.
  *
- * STOP_FILES=db|wal|both  which of the two files of the store club.db, in the folder where the program runs, fails: from its call number
- * STOP_AT=k               k on, every call on it answers EIO and does nothing; `both` counts the calls on both, and on their folder
- * STOP_NOTES=file         what is done with the two files goes there, call by call, so that their bytes at each sync can be told
- * STOP_INPUT=k            standard input gives k bytes and fails then
- * STOP_OUTPUT=k           standard output takes k bytes and fails then
- * STOP_REQUEST=k          the first client gives k bytes and is gone then
+ * STOP_FILES=db|wal|both  which of the two files of the store club.db fails, in the folder where
+ * the program runs; `both` counts the calls on both, and on their folder STOP_AT=k from its call
+ * number k on every call on it answers EIO and does nothing STOP_NOTES=file         gets what is
+ * done with the two files, call by call, so that their bytes at each sync can be told STOP_INPUT=k
+ * standard input gives k bytes and fails then STOP_OUTPUT=k           standard output takes k bytes
+ * and fails then STOP_REQUEST=k          the first client gives k bytes and is gone then
  * STOP_ANSWER=k           the first client takes k bytes and is gone then
  * STOP_MAP=k              the map's file map.toml gives k bytes and fails then
- * STOP_PIECE=n            one read or write moves at most n bytes, of these four and of the map's file
- * STOP_SIGNAL=k           a signal interrupts the call number k of these, before it does anything; 0 for each of them
- * STOP_SIGNALS=n          so many signals, one behind another, in place of one
+ * STOP_PIECE=n            one read or write moves at most n bytes, of these four and of the map's
+ * file STOP_SIGNAL=k           a signal interrupts the call number k of these, before it does
+ * anything; 0 for each of them STOP_SIGNALS=n          so many signals, one after the other,
+ * instead of one
  *
- * A note is a line, `write db 4096 24`, with so many bytes behind it; or `size db 4096 0`, `sync db`, `made db`, `half db 4096 24` of a write that
- * failed, with its bytes, `stop` where the first call failed, and `calls 17` and `moves 9` at the end. Bytes by chance are the same in each run, and so the
- * files of two runs are alike up to where one is stopped. */
+ * A note is a line, `write db 4096 24`, with so many bytes after it; or `size db 4096 0`, `sync
+ * db`, `made db`, `half db 4096 24` of a write that failed, with its bytes, `stop` when the first
+ * call failed, and `calls 17` and `moves 9` at the end. Bytes by chance are the same in each run,
+ * so the files of two runs are alike up to where one is stopped. */
 #define _GNU_SOURCE
 #include <dlfcn.h>
 #include <errno.h>
@@ -37,7 +40,8 @@ static const char *const NAMES[] = {"none", "db", "wal", "folder", "map"};
 static char folder[PATH_MAX];
 static unsigned char of[4096];
 static int fails[5], notes = -1, client = -1, clients, stopped;
-static long calls, stop_at, input, piece, output, request, answer, map, moves, signal_at, signals, came;
+static long calls, stop_at, input, piece, output, request, answer, map, moves, signal_at, signals,
+    came;
 
 static long number(const char *name) {
     const char *text = getenv(name);
@@ -109,7 +113,10 @@ static int of_path(const char *path) {
     if (!strcmp(path, folder)) return FOLDER;
     const char *name = strrchr(path, '/');
     name = name ? name + 1 : path;
-    return !strcmp(name, "club.db") ? DB : !strcmp(name, "club.db-wal") ? WAL : !strcmp(name, "map.toml") ? MAP : NONE;
+    return !strcmp(name, "club.db")       ? DB
+           : !strcmp(name, "club.db-wal") ? WAL
+           : !strcmp(name, "map.toml")    ? MAP
+                                          : NONE;
 }
 
 static int open_as(int at, const char *path, int flags, int mode) {
@@ -131,10 +138,18 @@ static int open_as(int at, const char *path, int flags, int mode) {
         mode = va_arg(rest, int);                                      \
         va_end(rest);                                                  \
     }
-int open(const char *path, int flags, ...) { MODE(flags, flags) return open_as(AT_FDCWD, path, flags, mode); }
-int open64(const char *path, int flags, ...) { MODE(flags, flags) return open_as(AT_FDCWD, path, flags, mode); }
-int openat(int at, const char *path, int flags, ...) { MODE(flags, flags) return open_as(at, path, flags, mode); }
-int openat64(int at, const char *path, int flags, ...) { MODE(flags, flags) return open_as(at, path, flags, mode); }
+int open(const char *path, int flags, ...) {
+    MODE(flags, flags) return open_as(AT_FDCWD, path, flags, mode);
+}
+int open64(const char *path, int flags, ...) {
+    MODE(flags, flags) return open_as(AT_FDCWD, path, flags, mode);
+}
+int openat(int at, const char *path, int flags, ...) {
+    MODE(flags, flags) return open_as(at, path, flags, mode);
+}
+int openat64(int at, const char *path, int flags, ...) {
+    MODE(flags, flags) return open_as(at, path, flags, mode);
+}
 
 int close(int fd) {
     if (fd >= 0 && fd < (int)sizeof of) of[fd] = NONE;
@@ -142,7 +157,9 @@ int close(int fd) {
     return syscall(SYS_close, fd);
 }
 
-ssize_t pread(int fd, void *bytes, size_t size, off_t at) { return fails_now(of_fd(fd)) ? -1 : syscall(SYS_pread64, fd, bytes, size, at); }
+ssize_t pread(int fd, void *bytes, size_t size, off_t at) {
+    return fails_now(of_fd(fd)) ? -1 : syscall(SYS_pread64, fd, bytes, size, at);
+}
 ssize_t pread64(int fd, void *bytes, size_t size, off_t at) { return pread(fd, bytes, size, at); }
 
 ssize_t pwrite(int fd, const void *bytes, size_t size, off_t at) {
@@ -156,7 +173,9 @@ ssize_t pwrite(int fd, const void *bytes, size_t size, off_t at) {
     if (put > 0 && which) note_bytes("write", which, at, bytes, put);
     return put;
 }
-ssize_t pwrite64(int fd, const void *bytes, size_t size, off_t at) { return pwrite(fd, bytes, size, at); }
+ssize_t pwrite64(int fd, const void *bytes, size_t size, off_t at) {
+    return pwrite(fd, bytes, size, at);
+}
 
 int ftruncate(int fd, off_t size) {
     int which = of_fd(fd);
@@ -177,8 +196,12 @@ static int sync_by(long call, int fd) {
 int fsync(int fd) { return sync_by(SYS_fsync, fd); }
 int fdatasync(int fd) { return sync_by(SYS_fdatasync, fd); }
 
-int posix_fadvise(int fd, off_t at, off_t size, int advice) { return fails_now(of_fd(fd)) ? EIO : syscall(SYS_fadvise64, fd, at, size, advice) ? errno : 0; }
-int posix_fadvise64(int fd, off_t at, off_t size, int advice) { return posix_fadvise(fd, at, size, advice); }
+int posix_fadvise(int fd, off_t at, off_t size, int advice) {
+    return fails_now(of_fd(fd)) ? EIO : syscall(SYS_fadvise64, fd, at, size, advice) ? errno : 0;
+}
+int posix_fadvise64(int fd, off_t at, off_t size, int advice) {
+    return posix_fadvise(fd, at, size, advice);
+}
 
 int statx(int at, const char *path, int flags, unsigned mask, struct statx *found) {
     int which = *path ? of_path(path) : of_fd(at);
@@ -191,7 +214,9 @@ char *realpath(const char *path, char *found) {
     return fails_now(of_path(path)) ? NULL : real(path, found);
 }
 
-static int fcntl_as(int fd, int command, void *rest) { return fails_now(of_fd(fd)) ? -1 : syscall(SYS_fcntl, fd, command, rest); }
+static int fcntl_as(int fd, int command, void *rest) {
+    return fails_now(of_fd(fd)) ? -1 : syscall(SYS_fcntl, fd, command, rest);
+}
 #define REST(last)                      \
     va_list rest;                       \
     va_start(rest, last);               \
@@ -200,8 +225,12 @@ static int fcntl_as(int fd, int command, void *rest) { return fails_now(of_fd(fd
 int fcntl(int fd, int command, ...) { REST(command) return fcntl_as(fd, command, given); }
 int fcntl64(int fd, int command, ...) { REST(command) return fcntl_as(fd, command, given); }
 
-int fchown(int fd, uid_t owner, gid_t group) { return fails_now(of_fd(fd)) ? -1 : syscall(SYS_fchown, fd, owner, group); }
-int fchmod(int fd, mode_t mode) { return fails_now(of_fd(fd)) ? -1 : syscall(SYS_fchmod, fd, mode); }
+int fchown(int fd, uid_t owner, gid_t group) {
+    return fails_now(of_fd(fd)) ? -1 : syscall(SYS_fchown, fd, owner, group);
+}
+int fchmod(int fd, mode_t mode) {
+    return fails_now(of_fd(fd)) ? -1 : syscall(SYS_fchmod, fd, mode);
+}
 
 static unsigned long chance = 1901;
 
@@ -243,33 +272,54 @@ static int is_interrupted(void) {
 }
 
 static ssize_t take(long call, int fd, void *bytes, size_t size, int flags) {
-    long *left = fd == 0 && call == SYS_read ? &input : of_fd(fd) == MAP ? &map : fd == client && client >= 0 && clients == 1 ? &request : NULL;
-    if (!left) return call == SYS_read ? syscall(call, fd, bytes, size) : syscall(call, fd, bytes, size, flags, NULL, NULL);
+    long *left = fd == 0 && call == SYS_read                   ? &input
+                 : of_fd(fd) == MAP                            ? &map
+                 : fd == client && client >= 0 && clients == 1 ? &request
+                                                               : NULL;
+    if (!left)
+        return call == SYS_read ? syscall(call, fd, bytes, size)
+                                : syscall(call, fd, bytes, size, flags, NULL, NULL);
     if (is_interrupted()) return -1;
     long most = passing(*left, size, piece);
-    if (most < 0) return gone(left == &input || left == &map || number("STOP_REQUEST") % 2 ? EIO : ECONNRESET);
-    ssize_t got = call == SYS_read ? syscall(call, fd, bytes, most) : syscall(call, fd, bytes, most, flags, NULL, NULL);
+    if (most < 0)
+        return gone(left == &input || left == &map || number("STOP_REQUEST") % 2 ? EIO
+                                                                                 : ECONNRESET);
+    ssize_t got = call == SYS_read ? syscall(call, fd, bytes, most)
+                                   : syscall(call, fd, bytes, most, flags, NULL, NULL);
     if (got > 0 && *left > 0) *left -= got;
     return got;
 }
 ssize_t read(int fd, void *bytes, size_t size) {
     return fails_now(of_fd(fd)) ? -1 : take(SYS_read, fd, bytes, size, 0);
 }
-ssize_t recv(int fd, void *bytes, size_t size, int flags) { return take(SYS_recvfrom, fd, bytes, size, flags); }
+ssize_t recv(int fd, void *bytes, size_t size, int flags) {
+    return take(SYS_recvfrom, fd, bytes, size, flags);
+}
 
 static ssize_t give(long call, int fd, const void *bytes, size_t size, int flags) {
-    long *left = fd == 1 && call == SYS_write ? &output : fd == client && client >= 0 && clients == 1 ? &answer : NULL;
-    if (!left) return call == SYS_write ? syscall(call, fd, bytes, size) : syscall(call, fd, bytes, size, flags, NULL, 0);
+    long *left = fd == 1 && call == SYS_write                  ? &output
+                 : fd == client && client >= 0 && clients == 1 ? &answer
+                                                               : NULL;
+    if (!left)
+        return call == SYS_write ? syscall(call, fd, bytes, size)
+                                 : syscall(call, fd, bytes, size, flags, NULL, 0);
     if (is_interrupted()) return -1;
     long most = passing(*left, size, piece);
     if (most < 0) return gone(fd == 1 || number("STOP_ANSWER") % 2 ? EIO : ECONNRESET);
-    ssize_t put = call == SYS_write ? syscall(call, fd, bytes, most) : syscall(call, fd, bytes, most, flags, NULL, 0);
+    ssize_t put = call == SYS_write ? syscall(call, fd, bytes, most)
+                                    : syscall(call, fd, bytes, most, flags, NULL, 0);
     if (put > 0 && *left > 0) *left -= put;
     return put;
 }
-ssize_t write(int fd, const void *bytes, size_t size) { return give(SYS_write, fd, bytes, size, 0); }
-ssize_t __write(int fd, const void *bytes, size_t size) { return give(SYS_write, fd, bytes, size, 0); }
-ssize_t send(int fd, const void *bytes, size_t size, int flags) { return give(SYS_sendto, fd, bytes, size, flags); }
+ssize_t write(int fd, const void *bytes, size_t size) {
+    return give(SYS_write, fd, bytes, size, 0);
+}
+ssize_t __write(int fd, const void *bytes, size_t size) {
+    return give(SYS_write, fd, bytes, size, 0);
+}
+ssize_t send(int fd, const void *bytes, size_t size, int flags) {
+    return give(SYS_sendto, fd, bytes, size, flags);
+}
 
 static int accepted(int fd) {
     if (fd >= 0) {
@@ -278,5 +328,9 @@ static int accepted(int fd) {
     }
     return fd;
 }
-int accept4(int fd, struct sockaddr *address, socklen_t *size, int flags) { return accepted(syscall(SYS_accept4, fd, address, size, flags)); }
-int accept(int fd, struct sockaddr *address, socklen_t *size) { return accepted(syscall(SYS_accept4, fd, address, size, 0)); }
+int accept4(int fd, struct sockaddr *address, socklen_t *size, int flags) {
+    return accepted(syscall(SYS_accept4, fd, address, size, flags));
+}
+int accept(int fd, struct sockaddr *address, socklen_t *size) {
+    return accepted(syscall(SYS_accept4, fd, address, size, 0));
+}

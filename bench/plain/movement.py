@@ -1,4 +1,13 @@
-"""How a movement is decided: its decisions get the value that their equations force, then circles move, then the paths of a knot break."""
+"""How a movement is decided: its decisions get the value that their equations force, then circles
+move, then the paths of a knot break.
+
+Two completions decide what is forced: the worst for a decision and the best. If few decisions are
+open, all completions are tried too, and have to give the same."""
+
+import itertools
+
+# Of at most so many open decisions all completions are tried.
+MOST_TRIED = 7
 
 
 class Movement:
@@ -120,9 +129,22 @@ class Movement:
         return self.equation(lambda it: known[it] if it in known else self.favours(decision, it) == is_best, decision)
 
     def forced(self, decision):
-        """The value that its equation gives whatever the open decisions are; None where there is none."""
+        """The value that its equation gives whatever the open decisions are; None if there is none."""
         worst = self.corner(decision, False)
-        return worst if worst == self.corner(decision, True) else None
+        value = worst if worst == self.corner(decision, True) else None
+        for first in self.completions()[:1]:
+            told = self.equation(first.__getitem__, decision)
+            same = all(self.equation(it.__getitem__, decision) == told for it in self.completions())
+            assert value == (told if same else None), f"{decision}: {value} by two completions alone"
+        return value
+
+    def completions(self):
+        """Each way to give the open decisions a value, with what is known; none if many are open."""
+        left = [it for it in self.decisions if it not in self.known]
+        if len(left) > MOST_TRIED:
+            return []
+        ways = itertools.product((False, True), repeat=len(left))
+        return [{**self.known, **dict(zip(left, values))} for values in ways]
 
     def followed(self, unit):
         """The unit whose open move this unit's open move always equals; None where there is none."""
@@ -130,6 +152,10 @@ class Movement:
         if other not in self.decisions or other in self.known:
             return None
         follows = self.corner(("M", unit), False, {other: True}) and not self.corner(("M", unit), True, {other: False})
+        if completions := self.completions():
+            move = ("M", unit)
+            equal = all(self.equation(it.__getitem__, move) == it[other] for it in completions)
+            assert follows == equal, f"{unit} follows {other}: {equal} by all completions"
         return other[1] if follows else None
 
     def circle(self):

@@ -3,8 +3,8 @@ use Rattle.std.proofs.Common.{◌≡◌, ◌<◌, ◌≤◌, ◌+◌, ◌-◌, �
 use Rattle.std.proofs.lemmas.List.{drop_more, take-append-drop, take_all, take_more}
 use Rattle.dip_map.specs.Charts.{Chart}
 use Rattle.dip_desk_state.specs.Records.{Public}
-use Rattle.dip_check.specs.Checks.{IsFirstWrong}
-use Rattle.dip_check.specs.Games.{AreNext, AreOfGame, IsNext, IsOpening}
+use Rattle.dip_check_papers.specs.Checks.{IsFirstWrong}
+use Rattle.dip_check_papers.specs.Games.{AreNext, AreOfGame, IsNext, IsOpening}
 
 -- after these papers a game stands so, and in no other way
 pub record Stands (m : Chart) (p : Public) (done : List (List ℕ)) (q : Public) : Type 0 where

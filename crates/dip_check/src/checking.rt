@@ -1,19 +1,18 @@
 //! A text that is to come next in a game.
 ghost use Rattle.std.specs.Prelude.{◌≡◌, ◌<◌, ◌+◌, ◌⊎◌, IfOk, true};
-ghost use Rattle.dip_check.specs.Checks.{IsJudgedNext, IsJudgedPaper, IsToldWrong};
-ghost use Rattle.dip_check.specs.Games.{IsDraw, IsNotice};
-ghost use Rattle.dip_check.specs.Printed.{first_line_of, title_words};
+ghost use Rattle.dip_check_papers.specs.Checks.{IsJudgedNext, IsJudgedPaper, IsToldWrong};
+ghost use Rattle.dip_check_papers.specs.Games.{IsDraw, IsNotice};
+ghost use Rattle.dip_check_papers.specs.Printed.{first_line_of, title_words};
 ghost use Rattle.dip_desk_machine.specs.Ticking.{is_due};
 ghost use Rattle.dip_desk_state.specs.Bounds.{most_papers};
 ghost use Rattle.dip_desk_state.specs.Rows as rows;
 ghost use Rattle.dip_map.specs.Boards.{IsOf};
 
-use crate::differences::{fault_at, other_line};
-use crate::drawing::check_draw;
-use crate::notices::check_notice;
-use crate::phases::{LAST_TICK, check_phase};
-use crate::titles::{first_line, phase_title, title_of};
-use crate::verdict::{Verdict, Wanted};
+use crate::phases::check_phase;
+use dip_check_papers::{
+    LAST_TICK, Verdict, Wanted, check_draw, check_notice, fault_at, first_line, other_line,
+    phase_title, title_of,
+};
 use dip_desk_machine::is_due;
 use dip_desk_state::{MOST_PAPERS, Public};
 use dip_map::Map;

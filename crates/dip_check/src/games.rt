@@ -1,14 +1,12 @@
 //! All papers of a game, one after the other.
 ghost use Rattle.std.specs.Prelude.{◌≤◌, IfOk, map as each};
-ghost use Rattle.dip_check.specs.Checks.{AreJudged};
-ghost use Rattle.dip_check.specs.Games.{AreNext, AreOfGame};
+ghost use Rattle.dip_check_papers.specs.Checks.{AreJudged};
+ghost use Rattle.dip_check_papers.specs.Games.{AreNext, AreOfGame};
 ghost use Rattle.dip_desk_state.specs.Rows as rows;
 ghost use Rattle.dip_map.specs.Boards.{IsOf};
 
 use crate::checking::check_paper;
-use crate::laws::papers_have_one_answer;
-use crate::openings::check_opening;
-use crate::verdict::{Papers, Verdict};
+use dip_check_papers::{Papers, Verdict, check_opening, papers_have_one_answer};
 use dip_desk_state::Public;
 use dip_map::Map;
 use std::alloc::{AllocError, Global};

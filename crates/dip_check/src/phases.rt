@@ -1,7 +1,8 @@
 //! The paper of a phase: its orders are read and played again, and its paper is made and compared.
 ghost use Rattle.std.specs.Prelude.{◌≡◌, ◌≤◌, ◌<◌, IfNone, IfOk, IfSome, string_bytes, true};
-ghost use Rattle.dip_check.specs.Checks.{IsComparedPhase, IsJudged, IsJudgedBy, IsJudgedNext, IsToldWrong, paper_at};
-ghost use Rattle.dip_check.specs.Games.{IsPhase, IsPhaseOf};
+ghost use Rattle.dip_check_papers.specs.Checks.{IsJudgedNext, IsToldWrong, paper_at};
+ghost use Rattle.dip_check.specs.Phases.{IsComparedPhase, IsJudged, IsJudgedBy};
+ghost use Rattle.dip_check_papers.specs.Games.{IsPhase, IsPhaseOf};
 ghost use Rattle.dip_desk_machine.specs.Handing.{are_by_place};
 ghost use Rattle.dip_desk_machine.specs.Ticking as played;
 ghost use Rattle.dip_desk_machine.specs.Ticking.{is_due};
@@ -11,11 +12,10 @@ ghost use Rattle.dip_desk_state.specs.Rows as rows;
 ghost use Rattle.dip_map.specs.Boards.{IsOf};
 ghost use Rattle.dip_orders.specs.Given.{AreGiven};
 
-use crate::differences::{fault_at, first_difference};
-use crate::given::are_given;
-use crate::printed::{Printed, orders_printed};
-use crate::ticks::tick_told;
-use crate::verdict::{Fault, Verdict, Wanted};
+use dip_check_papers::{
+    Fault, LAST_TICK, Printed, Verdict, Wanted, are_given, fault_at, first_difference,
+    orders_printed, tick_told,
+};
 use dip_desk_machine::{is_due, public_played};
 use dip_desk_state::{MOST_PAPERS, Public};
 use dip_map::{Board, Map};
@@ -23,9 +23,6 @@ use dip_orders::{PlacedOrder, lawful_orders_are_read, orders_are_lawful, orders_
 use dip_turn::{Report, advance, boards_stay_of_their_map, phases_have_one_result};
 use dip_turn_papers::paper_text;
 use std::alloc::{AllocError, Global};
-
-/// The last tick that a letter may name.
-pub(crate) const LAST_TICK: u64 = 999_999_999_999;
 
 /// A second copy of a public part; both share the board.
 fn copied(alloc: Global, public: &Public) -> Result<Public, AllocError>

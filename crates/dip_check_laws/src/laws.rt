@@ -1,7 +1,7 @@
 //! Laws of what is reported, each the contract of a function that does nothing.
 ghost use Rattle.dip_check_laws.specs.Laws.{FaultsKeepGames, FreshDesksAreRight, GamesAreFoundRight, ReportsAreRight, ReportsStayRight, RunsKeepGames, ServingKeepsGames};
 
-use dip_check::games_stay_right;
+use dip_check_papers::games_stay_right;
 use dip_desk_machine::lawful_states_stay_lawful;
 use dip_map::Map;
 

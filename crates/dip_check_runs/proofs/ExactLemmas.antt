@@ -10,11 +10,11 @@ use Rattle.dip_map.specs.Charts.{Chart}
 use Rattle.dip_desk_state.specs.Records.{Public}
 use Rattle.dip_desk_state.specs.declared.records.Public.{Public as Row}
 use Rattle.dip_desk_state.specs.Rows as rows
-use Rattle.dip_check.specs.Games.{AreNext, AreOfGame}
-use Rattle.dip_check.specs.Laws.{OpeningsHaveOneAnswer, PapersHaveOneAnswer}
-use Rattle.dip_check.specs.PaperTexts.{HasNoEnd, IsPaperText, PapersAreLines, end_line, text_of}
-use Rattle.dip_check.proofs.EndLemmas.{ArePrintable, cut_unique, text_ascii}
-use Rattle.dip_check.proofs.OneAnswer.{next_period}
+use Rattle.dip_check_papers.specs.Games.{AreNext, AreOfGame}
+use Rattle.dip_check_papers.specs.Laws.{OpeningsHaveOneAnswer, PapersHaveOneAnswer}
+use Rattle.dip_check_papers.specs.PaperTexts.{HasNoEnd, IsPaperText, PapersAreLines, end_line, text_of}
+use Rattle.dip_check_papers.proofs.EndLemmas.{ArePrintable, cut_unique, text_ascii}
+use Rattle.dip_check_papers.proofs.OneAnswer.{next_period}
 use Rattle.dip_judge_runs.specs.declared.run.RunFault.{RunFault}
 use Rattle.dip_check_runs.specs.Input.{AreEmptyLines, EndsOnce, IsAfterLines, IsRead, IsTakenFront, closing}
 use Rattle.dip_check_runs.specs.Runs.{AreFronts, ArePlayed, HasBoard, TellsIfGame, IsSaid, is_right}

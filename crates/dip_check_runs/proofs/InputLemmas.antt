@@ -2,7 +2,7 @@
 use Rattle.std.proofs.Common.{◌≡◌, ◌≤◌, ◌<◌, ◌++◌, ℕ, Bool, true, false, List, [], ◌∷◌, Option, None, Some, ap, sym, subst, ◌∙◌, ◌⊎◌, inl, inr, ◌+◌, ◌-◌, arith}
 use Rattle.std.proofs.lemmas.List.{append-nil, append_assoc}
 use Rattle.std.specs.Io.KnownBytes.{Consumes, Keeps}
-use Rattle.dip_check.specs.PaperTexts.{text_of}
+use Rattle.dip_check_papers.specs.PaperTexts.{text_of}
 use Rattle.dip_check_runs.specs.Input.{AreEmptyLines, EndsOnce, HasUsed, IsRead, closing}
 use Rattle.dip_check_runs.specs.declared.input.Ahead.{Ahead}
 
@@ -68,22 +68,32 @@ used_more known now later used bytes more u = record {
   parts = ap (λ (l : List ℕ). l ++ bytes) u.parts ∙ append_assoc used u.rest bytes;
 }
 
--- an LF comes after what was read
-pub used_closed : (known left : Option (List ℕ)) (used : List ℕ) → IsUsed known left used → HasUsed known left used
-used_closed known left used u = record {
+-- whether it has ended or not
+pub used_part : (known left : Option (List ℕ)) (used : List ℕ) → IsUsed known left used → HasUsed known left used
+used_part known left used u = record {
   input = u.input;
   consumed = u.consumed;
-  rest = u.rest ++ 10 ∷ [];
-  parts = ap (λ (l : List ℕ). l ++ 10 ∷ []) u.parts ∙ append_assoc used u.rest (10 ∷ []);
+  ended = false;
+  end = λ yes. cc;
+  rest = u.rest;
+  parts = append-nil u.input ∙ u.parts;
 }
 
--- of an input that has ended
-pub used_ended : (known left : Option (List ℕ)) (used : List ℕ) (ahead : Ahead) → ahead.ended ≡ true → IsRead known left used ahead → HasUsed known left used
-used_ended known left used ahead ended r = record {
+-- what was read ahead isn't used yet
+pub used_read : (known left : Option (List ℕ)) (used : List ℕ) (ahead : Ahead) → IsRead known left used ahead → HasUsed known left used
+used_read known left used ahead r =
+    record { input = r.read; consumed = r.consumed; ended = ahead.ended; end = r.end; rest = ahead.bytes.items; parts = r.parts }
+
+-- or all of it is
+pub used_ahead : (known left : Option (List ℕ)) (used front : List ℕ) (ahead : Ahead) → front ≡ ahead.bytes.items → IsRead known left used ahead
+    → HasUsed known left (used ++ front)
+used_ahead known left used front ahead same r = record {
   input = r.read;
   consumed = r.consumed;
-  rest = ahead.bytes.items;
-  parts = ap (λ (l : List ℕ). r.read ++ l) (sym (ap closing ended)) ∙ r.parts;
+  ended = ahead.ended;
+  end = r.end;
+  rest = [];
+  parts = r.parts ∙ ap (λ (l : List ℕ). used ++ l) (sym same) ∙ sym (append-nil (used ++ front));
 }
 
 -- the first bytes ahead are used

@@ -1,5 +1,5 @@
 -- How far a run over papers has come, and how it ends.
-use Rattle.std.proofs.Common.{◌≡◌, ◌<◌, ◌==◌, ◌+◌, ◌-◌, ◌++◌, ◌⊎◌, IfErr, IfOk, IfSome, OnOk, Result, Ok, Err, String, Global, string_bytes, inl, inr, ℕ, Bool, true, false, List, [], ◌∷◌, Option, None, Some, is_some, length, map, take, take_all, refl, ap, sym, subst, ◌∙◌, arith}
+use Rattle.std.proofs.Common.{◌≡◌, ◌<◌, ◌==◌, ◌+◌, ◌-◌, ◌++◌, ◌⊎◌, IfErr, IfOk, IfSome, OnOk, Result, Ok, Err, String, Global, string_bytes, inl, inr, ℕ, Bool, true, false, List, [], ◌∷◌, Option, None, Some, is_some, length, map, take, refl, ap, sym, subst, ◌∙◌, arith}
 use Rattle.std.proofs.Math.Dec.{eqb-suc-zero}
 use Rattle.std.proofs.lemmas.Bool.{true≢false}
 use Rattle.std.proofs.lemmas.List.{append-nil, append_assoc}
@@ -10,11 +10,11 @@ use Rattle.dip_map.specs.Charts.{Chart}
 use Rattle.dip_desk_state.specs.Records.{Public}
 use Rattle.dip_desk_state.specs.declared.records.Public.{Public as Row}
 use Rattle.dip_desk_state.specs.Rows as rows
-use Rattle.dip_check.specs.Games.{AreNext, AreOfGame, IsDraw, IsNext, IsNotice, IsOpening, IsPhase, IsPhaseOf}
-use Rattle.dip_check.specs.Checks.{IsJudgedFirst, IsJudgedPaper}
-use Rattle.dip_check.specs.declared.verdict.Fault.{Fault}
-use Rattle.dip_check.specs.declared.verdict.Verdict.{Verdict}
-use Rattle.dip_check.specs.declared.verdict.Verdict.TheVariants.{Wrong as WrongText}
+use Rattle.dip_check_papers.specs.Games.{AreNext, AreOfGame, IsDraw, IsNext, IsNotice, IsOpening, IsPhase, IsPhaseOf}
+use Rattle.dip_check_papers.specs.Checks.{IsJudgedFirst, IsJudgedPaper}
+use Rattle.dip_check_papers.specs.declared.verdict.Fault.{Fault}
+use Rattle.dip_check_papers.specs.declared.verdict.Verdict.{Verdict}
+use Rattle.dip_check_papers.specs.declared.verdict.Verdict.TheVariants.{Wrong as WrongText}
 use Rattle.dip_explain.specs.Phases.{HasOrders, phase_explained}
 use Rattle.dip_names.specs.declared.names.Unit.{Unit as AUnit}
 use Rattle.dip_map.specs.declared.boards.Season.{Season}
@@ -27,10 +27,11 @@ use Rattle.dip_turn.specs.declared.report.Account.TheVariants.{Movement as OfMov
 use Rattle.dip_turn.specs.declared.report.Report.{Report}
 use Rattle.dip_judge_runs.specs.declared.run.RunFault.{RunFault}
 use Rattle.dip_judge_runs.specs.declared.run.RunFault.TheVariants.{Keep, Memory, Read, TooLong, Write}
-use Rattle.dip_check_runs.specs.Input.{AreEmptyLines, HasUsed, IsAfterLines, IsRead, IsTakenFront, closing}
-use Rattle.dip_check_runs.specs.Texts.{missing_text, no_phase_text, right_text, said_text, too_long_text}
-use Rattle.dip_check_runs.specs.Runs.{AreFronts, ArePlayed, ComesNext, EndsBegun, EndsEarly, EndsExplaining, HasBoard, IsAll, IsBegunAfter, IsChecked, IsExplanation, IsFound, IsFoundNext, IsFoundText, IsReadingFault, IsRunFault, IsSaid, count_played, end_text, is_right}
-use Rattle.dip_check_runs.proofs.InputLemmas.{no_lines}
+use Rattle.dip_check_papers.specs.PaperTexts.{HasNoEnd}
+use Rattle.dip_check_runs.specs.Input.{AreEmptyLines, HasUsed, IsAfterLines, IsRead, IsTakenFront, IsTooMuch, closing}
+use Rattle.dip_check_runs.specs.Texts.{missing_text, no_phase_text, right_text, said_text}
+use Rattle.dip_check_runs.specs.Runs.{AreFronts, ArePlayed, Begins, BeginsWith, ComesNext, EndsBegun, EndsEarly, EndsExplaining, HasBoard, IsAll, IsChecked, IsExplanation, IsFound, IsFoundNext, IsFoundText, IsReadingFault, IsSaid, IsToTell, IsTooLong, StopsAfter, StopsReading, StopsTelling, TellsTooLong, count_played, end_text, is_right}
+use Rattle.dip_check_runs.proofs.InputLemmas.{no_lines, used_ahead, used_read}
 use Rattle.dip_check_runs.specs.declared.explaining.Found.{Found}
 use Rattle.dip_check_runs.specs.declared.input.Ahead.{Ahead}
 use Rattle.dip_check_runs.specs.declared.saying.Said.{Said}
@@ -198,39 +199,94 @@ checked_wrong m known left before mid after papers game paper said played comes 
   written = appends_more before mid after (flat_map right_text papers) (said_text paper said) so_far told;
 }
 
--- faults
-pub reading_is_run : (f : RunFault) → IsReadingFault f → IsRunFault f
-reading_is_run Read is = tt
-reading_is_run TooLong is = tt
-reading_is_run Memory is = tt
-reading_is_run Write is = absurd is
-reading_is_run (Keep fault) is = absurd is
-
-pub ends_reading : (m : Chart) (before after : Option (List ℕ)) (papers : List (List ℕ)) (game : Option Row) (f : RunFault) → ArePlayed m papers game
-    → Appends before after (flat_map right_text papers) → IsReadingFault f → EndsEarly m before after f
-ends_reading m before after papers game f played so_far fault = record {
-  kind = reading_is_run f fault;
-  papers = papers;
-  game = game;
-  played = played;
-  text = end_text game;
-  may = inr (inl refl);
-  size = 0;
-  written = subst (λ (l : List ℕ). Appends before after l) (sym (append-nil (flat_map right_text papers))) so_far;
+-- the input begins with the papers that were played
+pub begins_played : (m : Chart) (known left : Option (List ℕ)) (game : Option Row) (ahead : Ahead) → (r : Reached m known left game ahead) → BeginsWith known r.papers []
+begins_played m known left game ahead r = record {
+  left = left;
+  used = r.used;
+  part = subst (λ (l : List ℕ). HasUsed known left l) (sym (append-nil r.used)) (used_read known left r.used ahead r.read);
+  fronts = r.fronts;
 }
 
-pub ends_telling : (m : Chart) (before mid after : Option (List ℕ)) (papers : List (List ℕ)) (game : Option Row) (f : RunFault) → ArePlayed m papers game
-    → Appends before mid (flat_map right_text papers) → IsBegunAfter m game mid after f → EndsEarly m before after f
-ends_telling m before mid after papers game f played so_far b = record {
-  kind = b.kind;
-  papers = papers;
-  game = game;
-  played = played;
-  text = b.text;
-  may = b.may;
-  size = b.size;
-  written = appends_more before mid after (flat_map right_text papers) (take b.size b.text) so_far b.written;
+-- and with the next one, which was taken off
+pub begins_next : (known left : Option (List ℕ)) (used lines paper : List ℕ) (papers : List (List ℕ)) (ahead : Ahead) → AreFronts used papers
+    → IsTaken known left used lines paper ahead → BeginsWith known (papers ++ paper ∷ []) []
+begins_next known left used lines paper papers ahead fronts t = record {
+  left = left;
+  used = used ++ (lines ++ paper);
+  part = subst (λ (l : List ℕ). HasUsed known left l) (sym (append-nil (used ++ (lines ++ paper)))) (used_read known left (used ++ (lines ++ paper)) ahead t.read);
+  fronts = fronts_more used lines paper papers fronts t.empty;
 }
+
+-- or with more than a paper may have
+pub too_long : (known left : Option (List ℕ)) (used front text : List ℕ) (papers : List (List ℕ)) (ahead : Ahead) → AreFronts used papers → IsRead known left used ahead
+    → IsTooMuch ahead → front ≡ ahead.bytes.items → TellsTooLong front text → IsTooLong known papers text
+too_long known left used front text papers ahead fronts read much same tells = record {
+  front = front;
+  begins = record { left = left; used = used; part = used_ahead known left used front ahead same read; fronts = fronts };
+  endless = subst (λ (l : List ℕ). HasNoEnd l) (sym same) much.1;
+  long = subst (λ (l : List ℕ). 1048576 < length l) (sym same) much.0;
+  tells = tells;
+}
+
+-- a text of one kind was begun, which is of another
+begins_as : (P Q : List ℕ → Type 0) (a b : Option (List ℕ)) → ((t : List ℕ) → P t → Q t) → Begins P a b → Begins Q a b
+begins_as P Q a b weaker begun = (begun.0, weaker begun.0 begun.1, begun.2)
+
+-- a fault ended the telling of what was to be told
+pub stops_telling : (m : Chart) (known : Option (List ℕ)) (papers : List (List ℕ)) (game : Option Row) (P : List ℕ → Type 0) (a b : Option (List ℕ)) (f : RunFault)
+    → ((t : List ℕ) → P t → IsToTell m known papers game t) → StopsTelling P a b f → StopsAfter m known papers game a b f
+stops_telling m known papers game P a b Memory weaker h = h
+stops_telling m known papers game P a b Write weaker h = begins_as P (IsToTell m known papers game) a b weaker h
+stops_telling m known papers game P a b Read weaker h = absurd h
+stops_telling m known papers game P a b TooLong weaker h = absurd h
+stops_telling m known papers game P a b (Keep fault) weaker h = absurd h
+
+-- a fault ended the reading of what comes next
+pub stops_reading : (m : Chart) (known : Option (List ℕ)) (papers : List (List ℕ)) (game : Option Row) (P : List ℕ → Type 0) (a b : Option (List ℕ)) (f g : RunFault)
+    → (f ≡ TooLong → (t : List ℕ) → P t → IsTooLong known papers t) → StopsReading f P a b g → StopsAfter m known papers game a b g
+stops_reading m known papers game P a b TooLong TooLong weaker h = (h.0, weaker refl h.0 h.1, h.2)
+stops_reading m known papers game P a b TooLong Memory weaker h = h
+stops_reading m known papers game P a b TooLong Write weaker h = begins_as P (IsToTell m known papers game) a b (λ t is. inr (inl (weaker refl t is))) h
+stops_reading m known papers game P a b TooLong Read weaker h = absurd h
+stops_reading m known papers game P a b TooLong (Keep fault) weaker h = absurd h
+stops_reading m known papers game P a b Read Read weaker h = h
+stops_reading m known papers game P a b Read TooLong weaker h = absurd h
+stops_reading m known papers game P a b Read Memory weaker h = absurd h
+stops_reading m known papers game P a b Read Write weaker h = absurd h
+stops_reading m known papers game P a b Read (Keep fault) weaker h = absurd h
+stops_reading m known papers game P a b Memory Memory weaker h = h
+stops_reading m known papers game P a b Memory TooLong weaker h = absurd h
+stops_reading m known papers game P a b Memory Read weaker h = absurd h
+stops_reading m known papers game P a b Memory Write weaker h = absurd h
+stops_reading m known papers game P a b Memory (Keep fault) weaker h = absurd h
+stops_reading m known papers game P a b Write TooLong weaker h = absurd h
+stops_reading m known papers game P a b Write Memory weaker h = absurd h
+stops_reading m known papers game P a b Write Read weaker h = absurd h
+stops_reading m known papers game P a b Write Write weaker h = absurd h
+stops_reading m known papers game P a b Write (Keep fault) weaker h = absurd h
+stops_reading m known papers game P a b (Keep of) TooLong weaker h = absurd h
+stops_reading m known papers game P a b (Keep of) Memory weaker h = absurd h
+stops_reading m known papers game P a b (Keep of) Read weaker h = absurd h
+stops_reading m known papers game P a b (Keep of) Write weaker h = absurd h
+stops_reading m known papers game P a b (Keep of) (Keep fault) weaker h = absurd h
+
+pub ends_early : (m : Chart) (known left before mid after : Option (List ℕ)) (game : Option Row) (ahead : Ahead) (f : RunFault) → (r : Reached m known left game ahead)
+    → Appends before mid (flat_map right_text r.papers) → StopsAfter m known r.papers game mid after f → EndsEarly m known before after f
+ends_early m known left before mid after game ahead f r right stops = record {
+  papers = r.papers;
+  game = game;
+  played = r.played;
+  begins = begins_played m known left game ahead r;
+  mid = mid;
+  right = right;
+  stops = stops;
+}
+
+-- writing failed
+pub stops_writing : (P : List ℕ → Type 0) (a b : Option (List ℕ)) (f : RunFault) (text : List ℕ) → f ≡ Write → P text → (size : ℕ) × Appends a b (take size text)
+    → StopsTelling P a b f
+stops_writing P a b f text is of begun = subst (λ (x : RunFault). StopsTelling P a b x) (sym is) (text, of, begun)
 
 -- a movement's report has an order for each unit
 standing_units : (ps : List PlacedOrder) (us : List AUnit) → map (λ (o : PlacedOrder). o.unit) (map (order_among ps) us) ≡ us
@@ -259,10 +315,6 @@ pub not_right : (said : Said) → ((new : Row) → said ≡ Right new → ⊥) �
 not_right (Right new) other = absurd (other new refl)
 not_right (Wrong fault) other = refl
 not_right (NoText line) other = refl
-
--- memory ran out before anything was told
-pub begun_none : (m : Chart) (game : Option Row) (a : Option (List ℕ)) → IsBegunAfter m game a a Memory
-begun_none m game a = record { kind = tt; text = end_text game; may = inr (inl refl); size = 0; written = appends_none a }
 
 -- what is said of a text is said of the bytes that it is
 pub first_wrong : (m : Chart) (text bytes : List ℕ) (v : Verdict) (fault : Fault) → IsJudgedFirst m text v → v ≡ WrongText fault → text ≡ bytes
@@ -324,10 +376,12 @@ pub ends_all : (m : Chart) (known left before mid after : Option (List ℕ)) (pa
 ends_all m known left before mid after papers game (Ok right) played all so_far told is = checked_all m known left before mid after papers game right played all so_far told is
 ends_all m known left before mid after papers game (Err f) played all so_far told is = tt
 
-pub ends_begun : (m : Chart) (before mid after : Option (List ℕ)) (papers : List (List ℕ)) (game : Option Row) (r : Result Bool RunFault) → ArePlayed m papers game
-    → Appends before mid (flat_map right_text papers) → IfErr r (IsBegunAfter m game mid after) → IfErr r (EndsEarly m before after)
-ends_begun m before mid after papers game (Ok right) played so_far begun = tt
-ends_begun m before mid after papers game (Err f) played so_far begun = ends_telling m before mid after papers game f played so_far begun
+pub ends_telling : (m : Chart) (known left before mid after : Option (List ℕ)) (game : Option Row) (ahead : Ahead) (P : List ℕ → Type 0) (o : Result Bool RunFault)
+    → (r : Reached m known left game ahead) → Appends before mid (flat_map right_text r.papers) → ((t : List ℕ) → P t → IsToTell m known r.papers game t)
+    → IfErr o (StopsTelling P mid after) → IfErr o (EndsEarly m known before after)
+ends_telling m known left before mid after game ahead P (Ok right) r so_far weaker stops = tt
+ends_telling m known left before mid after game ahead P (Err f) r so_far weaker stops =
+    ends_early m known left before mid after game ahead f r so_far (stops_telling m known r.papers game P mid after f weaker stops)
 
 -- the explanation as it is handed over
 pub found_text : (m : Chart) (game : Option Row) (before : Row) (paper : List ℕ) (found : Option (String Global)) (text : String Global) (told : List ℕ)
@@ -376,38 +430,22 @@ is_found m number known left papers game paper f played comes count h = record {
   ends = found_ends m number known left papers game paper f.text.items f.explained comes count h;
 }
 
--- an explanation that was told, or begun, or not come to
+-- an explanation that was begun, or not come to
 pub begun_nothing : (m : Chart) (number : ℕ) (known left before after : Option (List ℕ)) (f : RunFault) → after ≡ before → IsReadingFault f
     → EndsBegun m number known left before after f
-begun_nothing m number known left before after f same fault = record { kind = reading_is_run f fault; told = inl same }
+begun_nothing m number known left before after Read same is = same
+begun_nothing m number known left before after TooLong same is = same
+begun_nothing m number known left before after Memory same is = same
+begun_nothing m number known left before after Write same is = absurd is
+begun_nothing m number known left before after (Keep fault) same is = absurd is
 
 pub begun_some : (m : Chart) (number : ℕ) (known left before after : Option (List ℕ)) (f : RunFault) (text : List ℕ) (explained : Bool) → f ≡ Write
     → IsFound m number known left text explained → (size : ℕ) × Appends before after (take size text) → EndsBegun m number known left before after f
-begun_some m number known left before after f text explained is found begun = record {
-  kind = subst (λ (x : RunFault). IsRunFault x) (sym is) tt;
-  told = inr (record { last = text; done = explained; found = found; size = begun.0; written = begun.1 });
-}
+begun_some m number known left before after f text explained is found begun =
+    subst (λ (x : RunFault). EndsBegun m number known left before after x) (sym is)
+    (record { last = text; done = explained; found = found; size = begun.0; written = begun.1 })
 
 -- want of memory is a fault of reading too
 pub memory_reads : {A : Type 0} (r : Result A RunFault) → IfErr r (λ f. f ≡ Memory) → IfErr r IsReadingFault
 memory_reads (Ok a) h = tt
 memory_reads (Err f) h = subst (λ (x : RunFault). IsReadingFault x) (sym h) tt
-
--- what stopped the reading was told, or nothing had to be told
-pub stopped_silently : (f : RunFault) (a : Option (List ℕ)) → IsReadingFault f → (m : Chart) (game : Option Row) → IsBegunAfter m game a a f
-stopped_silently f a fault m game =
-    record { kind = reading_is_run f fault; text = end_text game; may = inr (inl refl); size = 0; written = appends_none a }
-
-pub stopped_long : (f : RunFault) (front paper text : List ℕ) (a b : Option (List ℕ)) → IsRunFault f → IsAfterLines front paper → 1048576 < length front
-    → text ≡ too_long_text paper → (size : ℕ) × Appends a b (take size text) → (m : Chart) (game : Option Row) → IsBegunAfter m game a b f
-stopped_long f front paper text a b fault after long told begun m game = record {
-  kind = fault;
-  text = text;
-  may = inr (inr (record { front = front; paper = paper; after = after; long = long; told = told }));
-  size = begun.0;
-  written = begun.1;
-}
-
--- a text that was told whole
-pub whole_text : (a b : Option (List ℕ)) (text : List ℕ) → Appends a b text → (size : ℕ) × Appends a b (take size text)
-whole_text a b text told = (length text, subst (λ (l : List ℕ). Appends a b l) (sym (take_all (length text) text (omega arith))) told)

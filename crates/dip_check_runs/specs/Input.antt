@@ -2,7 +2,7 @@
 use Rattle.std.specs.Prelude.{◌≡◌, ◌≢◌, ◌≤◌, ◌<◌, ◌⊎◌, ◌++◌, ℕ, Bool, false, true, List, [], ◌∷◌, Option, length, slice_index, take}
 use Rattle.std.specs.List.{AllByRecursion}
 use Rattle.std.specs.Io.KnownBytes.{Consumes, IsAtEnd}
-use Rattle.dip_check.specs.PaperTexts.{AreInner, HasNoEnd, end_line, text_of}
+use Rattle.dip_check_papers.specs.PaperTexts.{AreInner, HasNoEnd, end_line, text_of}
 use Rattle.dip_check_runs.specs.declared.input.Ahead.{Ahead}
 
 -- bytes that are nothing but empty lines
@@ -40,16 +40,22 @@ abbrev pub IsFront : Ahead → ℕ → Type 0
 IsFront ahead size = (size ≤ length ahead.bytes.items)
     × (EndsOnce (take size ahead.bytes.items) ⊎ (HasNoEnd (take size ahead.bytes.items) × (ahead.ended ≡ true) × (size ≡ length ahead.bytes.items)))
 
+-- more bytes than a paper may have are ahead, and no line `END` is among them
+abbrev pub IsTooMuch : Ahead → Type 0
+IsTooMuch ahead = (1048576 < length ahead.bytes.items) × HasNoEnd ahead.bytes.items
+
 -- these bytes end with the first line `END`; or they have none, the input has ended and nothing is ahead
 abbrev pub IsTakenFront : List ℕ → Ahead → Type 0
 IsTakenFront front ahead = EndsOnce front ⊎ (HasNoEnd front × (ahead.ended ≡ true) × (ahead.bytes.items ≡ []))
 
--- an input was read, up to its end or not, of which these bytes are used; an LF is put after it
+-- an input was read, up to its end or not, of which these bytes are used; at its end an LF is put after it
 pub record HasUsed (known left : Option (List ℕ)) (used : List ℕ) : Type 0 where
   pub input : List ℕ
   pub consumed : Consumes known left input
+  pub ended : Bool
+  pub end : ended ≡ true → IsAtEnd left
   pub rest : List ℕ
-  pub parts : input ++ 10 ∷ [] ≡ used ++ rest
+  pub parts : input ++ closing ended ≡ used ++ rest
 
 -- the whole input was read, and all of it is used with an LF after it
 pub record HasUsedAll (known left : Option (List ℕ)) (used : List ℕ) : Type 0 where

@@ -9,10 +9,11 @@ use Rattle.dip_desk_state.specs.Records.{Public}
 use Rattle.dip_desk_state.specs.declared.records.Public.{Public as Row}
 use Rattle.dip_desk_state.specs.Rows as rows
 use Rattle.dip_turn.specs.declared.report.Report.{Report}
-use Rattle.dip_check.specs.Games.{AreOfGame, IsNext, IsOpening, IsPhaseOf}
+use Rattle.dip_check_papers.specs.Games.{AreOfGame, IsNext, IsOpening, IsPhaseOf}
+use Rattle.dip_check_papers.specs.PaperTexts.{HasNoEnd}
 use Rattle.dip_explain.specs.Phases.{phase_explained}
 use Rattle.dip_judge_runs.specs.declared.run.RunFault.{RunFault}
-use Rattle.dip_judge_runs.specs.declared.run.RunFault.TheVariants.{Keep, Memory, Read, TooLong}
+use Rattle.dip_judge_runs.specs.declared.run.RunFault.TheVariants.{Keep, Memory, Read, TooLong, Write}
 use Rattle.dip_check_runs.specs.Input.{AreEmptyLines, HasUsed, HasUsedAll, IsAfterLines}
 use Rattle.dip_check_runs.specs.Texts.{count_text, empty_text, missing_text, no_phase_text, right_text, said_text, too_long_text}
 use Rattle.dip_check_runs.specs.declared.explaining.Found.{Found}
@@ -194,46 +195,89 @@ IsReadingFault TooLong = Unit {0}
 IsReadingFault Memory = Unit {0}
 IsReadingFault _ = ⊥
 
--- a keeper's fault is none of a run that has no keeper
-abbrev pub IsRunFault : RunFault → Type 0
-IsRunFault (Keep fault) = ⊥
-IsRunFault _ = Unit {0}
-
 -- what is told in the end of the papers that were played
 abbrev pub end_text : Option Row → List ℕ
 end_text None = empty_text
 end_text (Some p) = count_text p.papers
 
+-- the input begins with these papers, and with these bytes after them
+pub record BeginsWith (known : Option (List ℕ)) (papers : List (List ℕ)) (front : List ℕ) : Type 0 where
+  pub left : Option (List ℕ)
+  pub used : List ℕ
+  pub part : HasUsed known left (used ++ front)
+  pub fronts : AreFronts used papers
+
 -- what is told of bytes that are longer than a paper with the empty lines before it may be
-pub record IsTooLong (text : List ℕ) : Type 0 where
-  pub front : List ℕ
+pub record TellsTooLong (front text : List ℕ) : Type 0 where
   pub paper : List ℕ
   pub after : IsAfterLines front paper
-  pub long : 1048576 < length front
   pub told : text ≡ too_long_text paper
 
--- what a check may tell after the papers that were played
-abbrev pub MayTell : Chart → Option Row → List ℕ → Type 0
-MayTell m game text = ((paper : List ℕ) × (said : Said) × IsSaid m game paper said × (text ≡ said_text paper said)) ⊎ ((text ≡ end_text game) ⊎ IsTooLong text)
+-- after the papers that were played the input has more bytes without an end of a paper than a paper may have, of which this is told
+pub record IsTooLong (known : Option (List ℕ)) (papers : List (List ℕ)) (text : List ℕ) : Type 0 where
+  pub front : List ℕ
+  pub begins : BeginsWith known papers front
+  pub endless : HasNoEnd front
+  pub long : 1048576 < length front
+  pub tells : TellsTooLong front text
 
--- what may be told after the papers that were played was begun, or nothing of it was told
-pub record IsBegunAfter (m : Chart) (game : Option Row) (before after : Option (List ℕ)) (fault : RunFault) : Type 0 where
-  pub kind : IsRunFault fault
-  pub text : List ℕ
-  pub may : MayTell m game text
-  pub size : ℕ
-  pub written : Appends before after (take size text)
+-- what is said of bytes is told of them
+abbrev pub TellsOf : Chart → Option Row → List ℕ → List ℕ → Type 0
+TellsOf m game paper text = (said : Said) × IsSaid m game paper said × (text ≡ said_text paper said)
 
--- a check ended early: papers that are right were told so, and what comes next was begun or not
-pub record EndsEarly (m : Chart) (before after : Option (List ℕ)) (fault : RunFault) : Type 0 where
-  pub kind : IsRunFault fault
+-- after the papers that were played the input has another, of which this is told
+pub record IsToldNext (m : Chart) (known : Option (List ℕ)) (papers : List (List ℕ)) (game : Option Row) (text : List ℕ) : Type 0 where
+  pub paper : List ℕ
+  pub begins : BeginsWith known (papers ++ paper ∷ []) []
+  pub tells : TellsOf m game paper text
+
+-- the whole input is the papers that were played, of which this is told in the end
+pub record IsToldLast (known : Option (List ℕ)) (papers : List (List ℕ)) (game : Option Row) (text : List ℕ) : Type 0 where
+  pub left : Option (List ℕ)
+  pub all : IsAll known left papers
+  pub told : text ≡ end_text game
+
+-- what is to be told after the papers that were played: of the next one, of bytes that are too long, or in the end
+abbrev pub IsToTell : Chart → Option (List ℕ) → List (List ℕ) → Option Row → List ℕ → Type 0
+IsToTell m known papers game text =
+    IsToldNext m known papers game text ⊎ (IsTooLong known papers text ⊎ IsToldLast known papers game text)
+
+-- such a text was begun
+abbrev pub Begins : (List ℕ → Type 0) → Option (List ℕ) → Option (List ℕ) → Type 0
+Begins IsText before after = (text : List ℕ) × IsText text × ((size : ℕ) × Appends before after (take size text))
+
+-- a fault ended the telling of such a text: memory ran out before it, or writing failed
+abbrev pub StopsTelling : (List ℕ → Type 0) → Option (List ℕ) → Option (List ℕ) → RunFault → Type 0
+StopsTelling IsText before after Memory = after ≡ before
+StopsTelling IsText before after Write = Begins IsText before after
+StopsTelling IsText before after _ = ⊥
+
+-- reading stopped with a fault: nothing is told of it, but that bytes are too long, if that can be told
+abbrev pub StopsReading : RunFault → (List ℕ → Type 0) → Option (List ℕ) → Option (List ℕ) → RunFault → Type 0
+StopsReading TooLong IsText before after TooLong = (text : List ℕ) × IsText text × Appends before after text
+StopsReading TooLong IsText before after fault = StopsTelling IsText before after fault
+StopsReading Read IsText before after Read = after ≡ before
+StopsReading Memory IsText before after Memory = after ≡ before
+StopsReading _ IsText before after _ = ⊥
+
+-- after the papers that were played a fault ended the check: nothing was told of what comes next; or that it is too long; or, where writing
+-- failed, a beginning of what was to be told
+abbrev pub StopsAfter : Chart → Option (List ℕ) → List (List ℕ) → Option Row → Option (List ℕ) → Option (List ℕ) → RunFault → Type 0
+StopsAfter m known papers game before after Read = after ≡ before
+StopsAfter m known papers game before after Memory = after ≡ before
+StopsAfter m known papers game before after TooLong = (text : List ℕ) × IsTooLong known papers text × Appends before after text
+StopsAfter m known papers game before after Write = Begins (IsToTell m known papers game) before after
+StopsAfter m known papers game before after (Keep fault) = ⊥
+
+-- a check ended early: each of the first papers of the input was told right, which they are, and then a fault ended it
+pub record EndsEarly (m : Chart) (known before after : Option (List ℕ)) (fault : RunFault) : Type 0 where
   pub papers : List (List ℕ)
   pub game : Option Row
   pub played : ArePlayed m papers game
-  pub text : List ℕ
-  pub may : MayTell m game text
-  pub size : ℕ
-  pub written : Appends before after (flat_map right_text papers ++ take size text)
+  pub begins : BeginsWith known papers []
+  pub mid : Option (List ℕ)
+  pub right : Appends before mid (flat_map right_text papers)
+  pub stops : StopsAfter m known papers game mid after fault
 
 -- a beginning of what was to be told was told
 pub record IsBegun (m : Chart) (number : ℕ) (known left before after : Option (List ℕ)) : Type 0 where
@@ -243,7 +287,10 @@ pub record IsBegun (m : Chart) (number : ℕ) (known left before after : Option 
   pub size : ℕ
   pub written : Appends before after (take size last)
 
--- an explanation ended early: nothing was told yet, or it was begun
-pub record EndsBegun (m : Chart) (number : ℕ) (known left before after : Option (List ℕ)) (fault : RunFault) : Type 0 where
-  pub kind : IsRunFault fault
-  pub told : (after ≡ before) ⊎ IsBegun m number known left before after
+-- an explanation ended early: nothing was told; or, where writing failed, a beginning of what was to be told
+abbrev pub EndsBegun : Chart → ℕ → Option (List ℕ) → Option (List ℕ) → Option (List ℕ) → Option (List ℕ) → RunFault → Type 0
+EndsBegun m number known left before after Read = after ≡ before
+EndsBegun m number known left before after TooLong = after ≡ before
+EndsBegun m number known left before after Memory = after ≡ before
+EndsBegun m number known left before after Write = IsBegun m number known left before after
+EndsBegun m number known left before after (Keep fault) = ⊥

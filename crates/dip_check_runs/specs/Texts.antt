@@ -2,8 +2,8 @@
 use Rattle.std.specs.Prelude.{ℕ, zero, suc, ◌==◌, ◌+◌, ◌++◌, take, List, [], ◌∷◌, codes, string_bytes, if◌then◌else◌}
 use Rattle.std.specs.Fmt.{decimal}
 use Rattle.std.specs.List.{count_by}
-use Rattle.dip_check.specs.declared.verdict.Wanted.{Wanted}
-use Rattle.dip_check.specs.declared.verdict.Wanted.TheVariants.{Line, OrderOf, AnOrder, AText, AGameLine, NoLine}
+use Rattle.dip_check_papers.specs.declared.verdict.Wanted.{Wanted}
+use Rattle.dip_check_papers.specs.declared.verdict.Wanted.TheVariants.{Line, OrderOf, AnOrder, AText, AGameLine, NoLine}
 use Rattle.dip_check_runs.specs.declared.saying.Said.{Said}
 use Rattle.dip_check_runs.specs.declared.saying.Said.TheVariants.{Right, Wrong, NoText}
 

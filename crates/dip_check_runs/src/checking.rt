@@ -1,16 +1,14 @@
 //! Papers that are checked: each is made again from the one before it, up to the first wrong one.
-ghost use Rattle.std.specs.Prelude.{◌≡◌, ◌<◌, ℕ, Option, IfErr, IfOk, OnErr, OnOk, is_some, length, string_bytes, take};
+ghost use Rattle.std.specs.Prelude.{◌≡◌, ℕ, IfErr, IfOk, OnErr, OnOk, is_some, string_bytes, take};
 ghost use Rattle.std.specs.Io.KnownBytes.{Appends};
-ghost use Rattle.dip_check_runs.specs.Runs.{EndsEarly, HasBoard, IsReadingFault, TellsIfGame, IsBegunAfter, IsChecked, IsSaid, end_text};
+ghost use Rattle.dip_check_runs.specs.Runs.{EndsEarly, HasBoard, IsChecked, IsReadingFault, IsSaid, StopsReading, StopsTelling, TellsIfGame, TellsOf, TellsTooLong, end_text};
 ghost use Rattle.dip_check_runs.specs.Texts as t;
-ghost use Rattle.dip_desk_state.specs.declared.records.Public.{Public as Row};
-ghost use Rattle.dip_map.specs.Charts.{Chart};
 
-use crate::input::{Ahead, MOST_PAPER, next_front, nothing_ahead, skip_rest};
+use crate::input::{Ahead, next_front, nothing_ahead, skip_rest};
 use crate::papers::after_empty_lines;
 use crate::saying::{Said, say};
 use crate::texts::{count_text, said_text, too_long_text};
-use dip_check::{papers_are_lines, papers_have_one_answer};
+use dip_check_papers::{papers_are_lines, papers_have_one_answer};
 use dip_desk_state::Public;
 use dip_judge_runs::RunFault;
 use dip_map::Map;
@@ -54,8 +52,8 @@ fn judge_next<W: Write>(
     ensures said { IfOk result (IsSaid map.now game.now paper.now) }
     ensures told { IfOk result (λ said. Appends (W.contents writer.old) (W.contents writer.new)
         (t.said_text paper.now said)) }
-    ensures begun { IfErr result
-        (IsBegunAfter map.now game.now (W.contents writer.old) (W.contents writer.new)) }
+    ensures stopped { IfErr result (StopsTelling (TellsOf map.now game.now paper.now)
+        (W.contents writer.old) (W.contents writer.new)) }
 {
     match say(alloc, map, game, paper) {
         Err(_) => Err(RunFault::Memory),
@@ -79,8 +77,8 @@ fn tell_end<W: Write>(
     ensures right { IfOk result (λ right. right ≡ is_some game.now) }
     ensures told { OnOk result
         (Appends (W.contents writer.old) (W.contents writer.new) (end_text game.now)) }
-    ensures begun { IfErr result
-        (IsBegunAfter map.now game.now (W.contents writer.old) (W.contents writer.new)) }
+    ensures stopped { IfErr result (StopsTelling (λ text. text ≡ end_text game.now)
+        (W.contents writer.old) (W.contents writer.new)) }
 {
     match end_text(alloc, game) {
         Err(_) => Err(RunFault::Memory),
@@ -93,10 +91,9 @@ fn tell_end<W: Write>(
 
 /// Tells of a paper that is longer than may be, where that is why the reading stops. The fault with which the check ends.
 fn tell_stop<W: Write>(alloc: Global, writer: &mut W, ahead: &Ahead, fault: RunFault) -> RunFault
-    requires kind { IsReadingFault fault }
-    requires long { fault ≡ RunFault.TooLong → MOST_PAPER < length ahead.now.bytes.items }
-    ensures { (m : Chart) (game : Option Row)
-        → IsBegunAfter m game (W.contents writer.old) (W.contents writer.new) result }
+    requires { IsReadingFault fault }
+    ensures { StopsReading fault (TellsTooLong ahead.now.bytes.items) (W.contents writer.old)
+        (W.contents writer.new) result }
 {
     match fault {
         RunFault::TooLong => {
@@ -127,8 +124,8 @@ pub fn check_papers<R: Read, W: Write>(
     ensures checked { IfOk result (IsChecked map.now (R.remaining reader.old)
         (R.remaining reader.new) (W.contents writer.old) (W.contents writer.new)) }
     ensures exact { IfOk result (TellsIfGame map.now (R.remaining reader.old)) }
-    ensures ends { IfErr result
-        (EndsEarly map.now (W.contents writer.old) (W.contents writer.new)) }
+    ensures ends { IfErr result (EndsEarly map.now (R.remaining reader.old)
+        (W.contents writer.old) (W.contents writer.new)) }
 {
     papers_are_lines(map);
     papers_have_one_answer(map);

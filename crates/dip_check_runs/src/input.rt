@@ -1,6 +1,6 @@
 //! An input that is read piece by piece: papers, each with the empty lines before it.
-ghost use Rattle.std.specs.Prelude.{◌≡◌, ◌<◌, ◌++◌, ℕ, List, Option, [], IfErr, IfOk, IsErrOf, OnOk, false, length};
-ghost use Rattle.dip_check_runs.specs.Input.{HasUsed, IsFront, IsNearer, IsRead, IsTakenFront};
+ghost use Rattle.std.specs.Prelude.{◌≡◌, ◌++◌, ℕ, List, Option, [], IfErr, IfOk, IsErrOf, OnOk, false};
+ghost use Rattle.dip_check_runs.specs.Input.{HasUsed, IsFront, IsNearer, IsRead, IsTakenFront, IsTooMuch};
 ghost use Rattle.dip_check_runs.specs.Runs.{IsReadingFault};
 
 use crate::papers::paper_end;
@@ -64,7 +64,10 @@ fn front_size<R: Read>(reader: &mut R, ahead: &mut Ahead) -> Result<usize, RunFa
         → IsRead known (R.remaining reader.old) used ahead.old
         → IsRead known (R.remaining reader.new) used ahead.new) }
     ensures front { IfOk result (IsFront ahead.new) }
-    ensures long { IsErrOf result RunFault.TooLong → MOST_PAPER < length ahead.new.bytes.items }
+    ensures long { IsErrOf result RunFault.TooLong → IsTooMuch ahead.new }
+    ensures still { IsErrOf result RunFault.TooLong → (known : Option (List ℕ)) (used : List ℕ)
+        → IsRead known (R.remaining reader.old) used ahead.old
+        → IsRead known (R.remaining reader.new) used ahead.new }
     ensures fault { IfErr result IsReadingFault }
 {
     'pieces: loop {
@@ -90,7 +93,10 @@ pub(crate) fn next_front<R: Read>(reader: &mut R, ahead: &mut Ahead) -> Result<V
         → IsRead known (R.remaining reader.old) used ahead.old
         → IsRead known (R.remaining reader.new) (used ++ v.items) ahead.new) }
     ensures front { IfOk result (λ v. IsTakenFront v.items ahead.new) }
-    ensures long { IsErrOf result RunFault.TooLong → MOST_PAPER < length ahead.new.bytes.items }
+    ensures long { IsErrOf result RunFault.TooLong → IsTooMuch ahead.new }
+    ensures still { IsErrOf result RunFault.TooLong → (known : Option (List ℕ)) (used : List ℕ)
+        → IsRead known (R.remaining reader.old) used ahead.old
+        → IsRead known (R.remaining reader.new) used ahead.new }
     ensures fault { IfErr result IsReadingFault }
 {
     let size = front_size(reader, ahead)?;

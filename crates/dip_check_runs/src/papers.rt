@@ -1,6 +1,6 @@
 //! The papers in an input: where each begins and ends.
 ghost use Rattle.std.specs.Prelude.{◌≡◌, ◌==◌, ◌≤◌, IfNone, IfSome, length, option_map, position, take};
-ghost use Rattle.dip_check.specs.PaperTexts.{HasNoEnd, line_at};
+ghost use Rattle.dip_check_papers.specs.PaperTexts.{HasNoEnd, line_at};
 ghost use Rattle.dip_check_runs.specs.Input.{EndsOnce, IsAfterLines};
 ghost use Rattle.dip_check_runs.specs.Texts as t;
 

@@ -6,7 +6,8 @@ ghost use Rattle.dip_desk_state.specs.Rows as rows;
 ghost use Rattle.dip_map.specs.Boards.{IsOf};
 
 use crate::papers::line_after;
-use dip_check::{Fault, Verdict, check_opening, check_paper};
+use dip_check::check_paper;
+use dip_check_papers::{Fault, Verdict, check_opening};
 use dip_desk_state::Public;
 use dip_map::Map;
 use std::alloc::{AllocError, Global};

@@ -6,7 +6,7 @@ ghost use Rattle.dip_check_runs.specs.Texts as t;
 use crate::input::MOST_PAPER;
 use crate::papers::{line_after, title_in};
 use crate::saying::Said;
-use dip_check::{Fault, Wanted};
+use dip_check_papers::{Fault, Wanted};
 use std::alloc::{AllocError, Global};
 
 /// What a line should be, in words.

@@ -19,8 +19,7 @@ pub struct Values {
     pub supports: Vec<Option<bool>>,
 }
 
-/// A decision's value by its province, if it has one; false where the province is past the list's
-/// end.
+/// A decision's value by its province, if it has one. Past the list's end each is false.
 pub fn value_at(list: &[Option<bool>], p: Prov) -> Option<bool>
     ensures { result ≡ slice_index_or list.now p (Some false) }
 {

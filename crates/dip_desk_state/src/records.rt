@@ -232,15 +232,15 @@ pub enum Outcome {
 /// Whose letter a reply answers.
 #[derive(Drop)]
 pub struct Head {
-    /// The letter's game.
+    /// The game's name, as the letter has it.
     pub game: String,
-    /// The letter's sender.
+    /// The power's name, or `master`.
     pub sender: String,
-    /// The letter's number.
+    /// The number that the sender gave the letter.
     pub number: u32,
 }
 
-/// An answer to a letter.
+/// What is answered to a letter, or to bytes that are no letter.
 #[derive(Drop)]
 pub struct Reply {
     /// What became of the letter.

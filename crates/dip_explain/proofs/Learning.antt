@@ -1,6 +1,5 @@
--- The next of a list, and what an explanation rests on.
-use Rattle.std.proofs.Common.{◌≡◌, ◌∙◌, ◌<◌, ◌+◌, ◌++◌, ℕ, Bool, true, false, List, [], ◌∷◌, ap, append_assoc, cond, drop, filter, flat_map, get_or, length, refl, sym}
-use Rattle.std.proofs.lemmas.List.{append-nil}
+-- What an explanation rests on, step by step.
+use Rattle.std.proofs.Common.{◌≡◌, ◌∙◌, ◌<◌, ◌+◌, ◌++◌, ℕ, List, ◌∷◌, ap, append_assoc, drop, get_or, length, sym}
 use Rattle.std.proofs.lemmas.List.{at_drop_more}
 use Rattle.dip_map.specs.Charts.{Chart}
 use Rattle.dip_orders.specs.declared.placed.PlacedOrder.{PlacedOrder}
@@ -9,33 +8,12 @@ use Rattle.dip_decide_rules.specs.Deciding.{Assignment, Known}
 use Rattle.dip_decide_rules.specs.Movement.{Situation}
 use Rattle.dip_explain.specs.Movement.{known_after, lines_from, step_line}
 
--- from a place on there is the one at it, and those from the next on
-pub item_next : (xs : List ℕ) (i x : ℕ) → i < length xs → x ≡ get_or xs i x → drop i xs ≡ x ∷ drop (i + 1) xs
-item_next xs i x low is = at_drop_more (λ (ys : List ℕ). ys) xs i x low ∙ ap (λ (y : ℕ). y ∷ drop (i + 1) xs) (sym is)
-
 pub told_same : (m : Chart) (a : Assignment) (steps : List Step) (o p : List PlacedOrder) (s t : Situation) (k l : Known) → o ≡ p → s ≡ t → k ≡ l
     → lines_from m o s a k steps ≡ lines_from m p t a l steps
 told_same m a steps o p s t k l e f g =
     ap (λ (x : List PlacedOrder). lines_from m x s a k steps) e
     ∙ ap (λ (x : Situation). lines_from m p x a k steps) f
     ∙ ap (λ (x : Known). lines_from m p t a x steps) g
-
--- what a filter leaves of a list, printed, goes on by one
-pub filtered_next : (F : ℕ → Bool) (T : ℕ → List ℕ) (x : ℕ) (xs : List ℕ) (b : Bool) → F x ≡ b → flat_map T (filter F (x ∷ xs)) ≡ cond b (T x) [] ++ flat_map T (filter F xs)
-filtered_next F T x xs true e = rw e refl
-filtered_next F T x xs false e = rw e refl
-
-pub step_kept : (F : ℕ → Bool) (T : ℕ → List ℕ) (xs : List ℕ) (i x : ℕ) (b : Bool) (old new R : List ℕ) → i < length xs → x ≡ get_or xs i x → F x ≡ b
-    → new ≡ old ++ cond b (T x) [] → old ++ flat_map T (filter F (drop i xs)) ≡ R → new ++ flat_map T (filter F (drop (i + 1) xs)) ≡ R
-step_kept F T xs i x b old new R low is test made before =
-    ap (λ (t : List ℕ). t ++ flat_map T (filter F (drop (i + 1) xs))) made
-    ∙ append_assoc old (cond b (T x) []) (flat_map T (filter F (drop (i + 1) xs)))
-    ∙ ap (λ (t : List ℕ). old ++ t) (sym (filtered_next F T x (drop (i + 1) xs) b test))
-    ∙ ap (λ (ys : List ℕ). old ++ flat_map T (filter F ys)) (sym (item_next xs i x low is))
-    ∙ before
-
-pub nothing_more : (old new : List ℕ) → new ≡ old → new ≡ old ++ []
-nothing_more old new e = e ∙ sym (append-nil old)
 
 -- the lines of steps go on by one
 pub steps_kept : (m : Chart) (o : List PlacedOrder) (s : Situation) (a : Assignment) (xs : List Step) (i : ℕ) (x : Step) (k l : Known) (old new R : List ℕ) → i < length xs → x ≡ get_or xs i x

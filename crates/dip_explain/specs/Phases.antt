@@ -7,8 +7,8 @@ use Rattle.dip_turn.specs.declared.report.Account.{Account}
 use Rattle.dip_turn.specs.declared.report.Account.TheVariants.{Movement as OfMovement, Retreats as OfRetreats, Adjustment as OfAdjustment}
 use Rattle.dip_turn.specs.declared.report.Report.{Report}
 use Rattle.dip_explain.specs.Movement.{explanation}
-use Rattle.dip_explain.specs.Retreats.{retreats_explained}
-use Rattle.dip_explain.specs.Winter.{winter_explained}
+use Rattle.dip_explain_lines.specs.Retreats.{retreats_explained}
+use Rattle.dip_explain_lines.specs.Winter.{winter_explained}
 
 -- the lines that explain what is told of a phase
 abbrev pub lines_of : Chart → Position → Account → List ℕ

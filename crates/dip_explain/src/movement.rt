@@ -5,13 +5,13 @@ ghost use Rattle.dip_orders.specs.Standing.{units_of};
 ghost use Rattle.dip_decide_rules.specs.Given.{known_of, situation_of};
 ghost use Rattle.dip_decide_rules.specs.Results.{values_in};
 ghost use Rattle.dip_decide_rules.specs.Steps.{moves_of, paths_of};
-ghost use Rattle.dip_explain.specs.Matters.{joined, order_in};
+ghost use Rattle.dip_explain_strengths.specs.Matters.{joined, order_in};
 ghost use Rattle.dip_explain.specs.Movement as m;
 
-use crate::cases::Case;
-use crate::lists::push_orders;
 use dip_decide::{known_at_first, meant};
 use dip_decide_rules::{Corner, Decision, Known, Resolution, Step, Table, is_in, table_on};
+use dip_explain_lines::push_decision;
+use dip_explain_strengths::{Case, push_orders};
 use dip_map::{Board, Map};
 use dip_names::Prov;
 use dip_orders::{Orders, PlacedOrder};
@@ -102,7 +102,7 @@ impl Ground<'_> {
                 high: !value,
             },
         };
-        case.push_decision(alloc, out)?;
+        push_decision(&case, alloc, out)?;
         out.push_str("\n")
     }
 

@@ -4,8 +4,7 @@ ghost use Rattle.dip_map.specs.Boards.{IsOf};
 ghost use Rattle.dip_explain.specs.Phases.{HasOrders, lines_of, phase_explained};
 
 use crate::movement::explain_movement;
-use crate::retreating::push_retreats;
-use crate::winter::push_winter;
+use dip_explain_lines::{push_retreats, push_winter};
 use dip_map::{Board, Map};
 use dip_turn::{Account, Report};
 use std::alloc::{AllocError, Global};

@@ -9,8 +9,9 @@ use Rattle.dip_decide_rules.specs.Deciding.{Assignment, IsCompletion, Known}
 use Rattle.dip_decide_rules.specs.Movement.{IsSituation, Situation, attack, defend, goes, has_move, has_path, head_to_head, hold, is_listed, opposition, prevent, support, support_against}
 use Rattle.dip_decide_rules.proofs.CornerLaws.{Higher, above_least, below_greatest}
 use Rattle.dip_decide_rules.proofs.Rises.{attack_le, count_le, hold_le, path_le, prevent_le}
-use Rattle.dip_explain.specs.Matters.{Matter, here, there}
-use Rattle.dip_explain.specs.Movement.{attack_strength, opposition_strength, prevent_strength, rivals, strength_text}
+use Rattle.dip_explain_strengths.specs.Matters.{Matter, here, there}
+use Rattle.dip_explain_strengths.specs.StrengthTexts.{attack_strength, opposition_strength, prevent_strength, strength_text}
+use Rattle.dip_explain_lines.specs.Lines.{rivals}
 use Rattle.dip_explain_laws.specs.Words.{IsOfMove, IsSaid}
 use Rattle.dip_explain_laws.specs.Words.IsSaid.{just, at_least, at_most}
 use Rattle.dip_explain_laws.proofs.MoveLemmas.{rival_parts}

@@ -8,8 +8,9 @@ use mathlib.Core.Logic.{◌⊎◌}
 use Rattle.dip_decide_rules.specs.Deciding.{Assignment}
 use Rattle.dip_decide_rules.specs.Movement.{Situation, attack, goes, is_listed, opposition, prevent, beats, succeeds}
 use Rattle.dip_decide_rules.proofs.ChainLaws.{listed_kept}
-use Rattle.dip_explain.specs.Matters.{Matter, here, others}
-use Rattle.dip_explain.specs.Movement.{comparison_text, exceeded_text, is_rival, is_unbeaten, opposition_text, prevent_text, rivals, unbeaten, unexceeded_text}
+use Rattle.dip_explain_strengths.specs.Matters.{Matter, here, others}
+use Rattle.dip_explain_lines.specs.Lines.{comparison_text, exceeded_text, is_rival, is_unbeaten, rivals, unbeaten, unexceeded_text}
+use Rattle.dip_explain_strengths.specs.StrengthTexts.{opposition_text, prevent_text}
 use Rattle.dip_explain_laws.specs.Words.{Exceeds, FallsShort}
 use Rattle.dip_explain_laws.specs.Words.FallsShort.{held, powerless, prevented}
 use Rattle.dip_explain_laws.proofs.ListLemmas.{all_at, some_fails}

@@ -4,9 +4,9 @@ use Rattle.std.proofs.lemmas.List.{append-nil}
 use Rattle.std.specs.Prelude.{Bool, true, false, not, ◌&&◌, ◌||◌, codes, if◌then◌else◌}
 use Rattle.dip_decide_rules.specs.declared.decisions.Decision.TheVariants.{Move}
 use Rattle.dip_decide_rules.specs.Movement.{attack, has_move, has_path, head_to_head, opposition, prevent, support, support_against}
-use Rattle.dip_explain.specs.Matters.{Matter, here, unit_in}
-use Rattle.dip_explain.specs.Movement.{alone_text, attackers_text, backed_against_text, backed_text, holders_text, lack_against_text, lack_text, leaver_text, left_out_against_text, left_out_text, loser_text, opponents_text, own_text, pathless, preventers_text}
-use Rattle.dip_explain.specs.Strengths.{attackers, backers, backers_against, left_out, left_out_against, opponents, preventers}
+use Rattle.dip_explain_strengths.specs.Matters.{Matter, here, unit_in}
+use Rattle.dip_explain_strengths.specs.StrengthTexts.{alone_text, attackers_text, backed_against_text, backed_text, holders_text, lack_against_text, lack_text, leaver_text, left_out_against_text, left_out_text, loser_text, opponents_text, own_text, pathless, preventers_text}
+use Rattle.dip_explain_strengths.specs.Strengths.{attackers, backers, backers_against, left_out, left_out_against, opponents, preventers}
 use Rattle.dip_explain_laws.specs.Words.{attack_lack, missing_attackers, missing_opponents, named_text}
 
 module _ (c : Matter) where

@@ -5,8 +5,8 @@ use mathlib.Core.Logic.{◌⊎◌}
 use Rattle.dip_decide_rules.specs.declared.decisions.Decision.TheVariants.{Move}
 use Rattle.dip_decide_rules.specs.Deciding.{Assignment}
 use Rattle.dip_decide_rules.specs.Movement.{attack, has_move, has_path, head_to_head, opposition, prevent, support, support_against}
-use Rattle.dip_explain.specs.Matters.{Matter, here, unit_in}
-use Rattle.dip_explain.specs.Movement.{alone_text, attackers_text, backed_against_text, backed_text, holders_text, leaver_text, loser_text, opponents_text, own_text, own_way_text, own_way_words, own_words, pathless, pathless_words, preventers_text, since_text}
+use Rattle.dip_explain_strengths.specs.Matters.{Matter, here, unit_in}
+use Rattle.dip_explain_strengths.specs.StrengthTexts.{alone_text, attackers_text, backed_against_text, backed_text, holders_text, leaver_text, loser_text, opponents_text, own_text, own_way_text, own_way_words, own_words, pathless, pathless_words, preventers_text, since_text}
 use Rattle.dip_explain_laws.specs.Words.{AttackedByNone, OpposedByNone, PreventedByNone}
 use Rattle.dip_explain_laws.specs.Words.AttackedByNone.{met, stopped, stranded}
 use Rattle.dip_explain_laws.specs.Words.OpposedByNone.{empty, left}

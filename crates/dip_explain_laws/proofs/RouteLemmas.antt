@@ -10,8 +10,8 @@ use Rattle.dip_decide_rules.specs.declared.decisions.Decision.TheVariants.{Move}
 use Rattle.dip_decide_rules.proofs.ChainLaws.{listed_kept}
 use Rattle.dip_decide_rules.proofs.Rises.{entered_rises}
 use Rattle.dip_decide_rules.proofs.Chaining.{found_chain, chain_found}
-use Rattle.dip_explain.specs.Matters.{Matter, here}
-use Rattle.dip_explain.specs.Movement.{carriers, dislodged_text, dislodged_words, enterer_text, fleet_text, enterers, enters, servers}
+use Rattle.dip_explain_strengths.specs.Matters.{Matter, here}
+use Rattle.dip_explain_lines.specs.Lines.{carriers, dislodged_text, dislodged_words, enterer_text, fleet_text, enterers, enters, servers}
 use Rattle.dip_explain_laws.specs.Words.{HasRoute, IsFleetSaid}
 use Rattle.dip_explain_laws.specs.Words.IsFleetSaid.{dislodged, idle}
 use Rattle.dip_explain_laws.proofs.ListLemmas.{kept, some_passes, passing}

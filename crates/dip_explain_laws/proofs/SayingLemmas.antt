@@ -10,9 +10,9 @@ use Rattle.dip_decide_rules.specs.declared.decisions.Step.TheVariants.{Forced}
 use Rattle.dip_decide_rules.specs.Corners.{at_corner, rises}
 use Rattle.dip_decide_rules.specs.Deciding.{Assignment, IsCompletion}
 use Rattle.dip_decide_rules.specs.Movement.{is_listed}
-use Rattle.dip_explain.specs.Matters.{Matter, here, unit_in}
-use Rattle.dip_explain.specs.Movement.{backer_text, lack_against_text, lack_text}
-use Rattle.dip_explain.specs.Strengths.{backers, backers_against, backs, backs_against, is_left_out, is_left_out_against, left_out, left_out_against}
+use Rattle.dip_explain_strengths.specs.Matters.{Matter, here, unit_in}
+use Rattle.dip_explain_strengths.specs.StrengthTexts.{backer_text, lack_against_text, lack_text}
+use Rattle.dip_explain_strengths.specs.Strengths.{backers, backers_against, backs, backs_against, is_left_out, is_left_out_against, left_out, left_out_against}
 use Rattle.dip_explain_laws.specs.Words.{IsCounted, IsLeftOut, IsLeftOutAgainst, IsTold}
 use Rattle.dip_explain_laws.specs.Words.IsCounted.{given, uncertain}
 use Rattle.dip_explain_laws.specs.Words.IsLeftOut.{cut, uncertain as unsure}

@@ -7,7 +7,7 @@ use Rattle.dip_map.specs.Charts.{are_provs_single}
 use Rattle.dip_decide_rules.specs.Deciding.{Assignment}
 use Rattle.dip_decide_rules.specs.Movement.{Situation, IsSituation, attack, goes, hold, has_move, has_path, head_to_head, is_listed, opposition, prevent, support, support_against}
 use Rattle.dip_decide_rules.specs.declared.decisions.Decision.TheVariants.{Move, Support}
-use Rattle.dip_explain.specs.Strengths.{attackers, backers, backers_against, backs, backs_against, holders, is_free, is_left_out, is_left_out_against, left_out, left_out_against, opponents, preventers}
+use Rattle.dip_explain_strengths.specs.Strengths.{attackers, backers, backers_against, backs, backs_against, holders, is_free, is_left_out, is_left_out_against, left_out, left_out_against, opponents, preventers}
 use Rattle.dip_explain_laws.proofs.ListLemmas.{counted, kept_single, passing}
 
 module _ (s : Situation) (a : Assignment) where

@@ -8,8 +8,8 @@ use Rattle.dip_decide_rules.specs.declared.decisions.Decision.TheVariants.{Move}
 use Rattle.dip_decide_rules.specs.Deciding.{Assignment}
 use Rattle.dip_decide_rules.specs.Movement.{Situation, cuts, goes, has_path, is_at, is_listed}
 use Rattle.dip_decide_rules.proofs.ChainLaws.{listed_kept}
-use Rattle.dip_explain.specs.Matters.{Matter, here}
-use Rattle.dip_explain.specs.Movement.{cutters, cutting_text, is_cut_by, movers, sparing_text}
+use Rattle.dip_explain_strengths.specs.Matters.{Matter, here}
+use Rattle.dip_explain_lines.specs.Lines.{cutters, cutting_text, is_cut_by, movers, sparing_text}
 use Rattle.dip_explain_laws.specs.Words.{Cuts, Spares}
 use Rattle.dip_explain_laws.specs.Words.Cuts.{attacks, dislodges}
 use Rattle.dip_explain_laws.specs.Words.Spares.{beaten, own, stranded}

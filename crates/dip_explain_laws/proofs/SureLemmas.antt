@@ -7,7 +7,7 @@ use Rattle.dip_decide_rules.specs.declared.decisions.Decision.TheVariants.{Path}
 use Rattle.dip_decide_rules.specs.Corners.{at_corner, rises}
 use Rattle.dip_decide_rules.specs.Deciding.{Assignment, IsCompletion}
 use Rattle.dip_decide_rules.specs.Movement.{has_path}
-use Rattle.dip_explain.specs.Matters.{Matter, here}
+use Rattle.dip_explain_strengths.specs.Matters.{Matter, here}
 
 against_true : (r high : Bool) → r ≡ not high → (if r then high else not high) ≡ true → ⊥
 against_true r true e h = both_ways false refl (rw e at h)

@@ -18,8 +18,9 @@ use Rattle.dip_decide_rules.proofs.Giving.{among_paths}
 use Rattle.dip_decide_rules.proofs.OneAnswer.{same_self}
 use Rattle.dip_decide_rules.proofs.Progress.{some_is}
 use Rattle.dip_decide_rules.proofs.RingLaws.{among_moves}
-use Rattle.dip_explain.specs.Matters.{Matter, code, here, joined, joined_or, order_in, unit_in}
-use Rattle.dip_explain.specs.Movement.{attack_text, comparison_text, cut_text, cutting_text, carrier_text, spared_text, sparing_text, fleet_text, carriers, cutters, decision_text, given_text, move_text, movers, no_route_text, no_route_words, path_text, rivals, route_text, route_words, servers, stranded_text, support_text}
+use Rattle.dip_explain_strengths.specs.Matters.{Matter, code, here, joined, joined_or, order_in, unit_in}
+use Rattle.dip_explain_strengths.specs.StrengthTexts.{attack_text}
+use Rattle.dip_explain_lines.specs.Lines.{comparison_text, cut_text, cutting_text, carrier_text, spared_text, sparing_text, fleet_text, carriers, cutters, decision_text, given_text, move_text, movers, no_route_text, no_route_words, path_text, rivals, route_text, route_words, servers, stranded_text, support_text}
 use Rattle.dip_explain_laws.specs.Words.{AttackedByNone, Cuts, Exceeds, FallsShort, HasRoute, IsFleetSaid, IsLine, IsOfMove, IsOfPath, IsTold, IsVerdict, OpposedByNone, PreventedByNone, Spares, named, ordered}
 use Rattle.dip_explain_laws.proofs.LineLemmas.{line_agrees, line_completes, line_decided, line_stands}
 use Rattle.dip_explain_laws.proofs.MoveLemmas.{exceeds, falls_short, rival_parts}

@@ -15,9 +15,11 @@ use Rattle.dip_decide_rules.specs.Meaning.{meant_on, situation_on}
 use Rattle.dip_decide_rules.specs.Movement.{IsSituation, Situation, at_first, attack, goes, head_to_head, hold, is_entered, is_decided, is_listed, mentions, opposition, prevent, rule}
 use Rattle.dip_decide_rules.specs.Results.{AreExplained, values_in}
 use Rattle.dip_decide_rules.specs.Steps.{step_of, steps_of}
-use Rattle.dip_explain.specs.Matters.{Matter, code, here, joined, joined_or, order_in, unit_in}
-use Rattle.dip_explain.specs.Movement.{attack_strength, attack_text, attackers_text, carriers, comparison_text, cutters, cutting_text, decision_text, explanation, fleet_text, known_after, knot_text, lack_against_text, lack_text, lines_from, movers, opponents_text, opposition_strength, opposition_text, prevent_strength, prevent_text, preventers_text, rivals, servers, sparing_text, step_line, unbeaten}
-use Rattle.dip_explain.specs.Strengths.{attackers, backers, backers_against, holders, left_out, left_out_against, opponents, preventers}
+use Rattle.dip_explain_strengths.specs.Matters.{Matter, code, here, joined, joined_or, order_in, unit_in}
+use Rattle.dip_explain_strengths.specs.StrengthTexts.{attack_strength, attack_text, attackers_text, lack_against_text, lack_text, opponents_text, opposition_strength, opposition_text, prevent_strength, prevent_text, preventers_text}
+use Rattle.dip_explain_lines.specs.Lines.{carriers, comparison_text, cutters, cutting_text, decision_text, fleet_text, movers, rivals, servers, sparing_text, unbeaten}
+use Rattle.dip_explain.specs.Movement.{explanation, known_after, knot_text, lines_from, step_line}
+use Rattle.dip_explain_strengths.specs.Strengths.{attackers, backers, backers_against, holders, left_out, left_out_against, opponents, preventers}
 use Rattle.dip_explain_laws.specs.Words.{AttackedByNone, Cuts, Exceeds, FallsShort, HasRoute, IsCounted, IsFleetSaid, IsLeftOut, IsLeftOutAgainst, IsLine, IsOfMove, IsOfPath, IsSaid, IsTold, IsVerdict, OpposedByNone, PreventedByNone, Spares, attack_lack, known_along, matter_at, missing_attackers, missing_opponents, named, named_text, ordered, told_in}
 
 -- the laws below that are of situations are of each board with an order for each unit

@@ -12,9 +12,11 @@ use Rattle.dip_decide_rules.specs.Laws.{IsChain}
 use Rattle.dip_decide_rules.specs.Movement.{Situation, at_first, attack, goes, has_move, has_path, head_to_head, is_at, is_decided, is_listed, opposition, prevent, rule}
 use Rattle.dip_decide_rules.specs.Results.{AreExplained}
 use Rattle.dip_decide_rules.specs.Steps.{moves_of, paths_of, steps_of}
-use Rattle.dip_explain.specs.Matters.{Matter, here, joined, order_in, others, unit_in}
-use Rattle.dip_explain.specs.Strengths.{is_free, left_out, left_out_against}
-use Rattle.dip_explain.specs.Movement.{attackers_text, backer_text, coming_text, comparison_text, cutting_text, enterers, fleet_text, known_after, lack_against_text, lack_text, opponents_text, opposition_text, own_power_text, prevent_text, preventers_text, rivals, servers, sparing_text, unbeaten}
+use Rattle.dip_explain_strengths.specs.Matters.{Matter, here, joined, order_in, others, unit_in}
+use Rattle.dip_explain_strengths.specs.Strengths.{is_free, left_out, left_out_against}
+use Rattle.dip_explain_strengths.specs.StrengthTexts.{attackers_text, backer_text, lack_against_text, lack_text, opponents_text, opposition_text, own_power_text, prevent_text, preventers_text}
+use Rattle.dip_explain_lines.specs.Lines.{coming_text, comparison_text, cutting_text, enterers, fleet_text, rivals, servers, sparing_text, unbeaten}
+use Rattle.dip_explain.specs.Movement.{known_after}
 
 -- units named in a line: the first, those that support it, and who is left out, with the reason
 abbrev pub named_text : Matter → List ℕ → List ℕ → (ℕ → List ℕ) → List ℕ

@@ -53,7 +53,7 @@ EndsFresh m secret known left before after failure = ⊥
 -- papers weren't found right, which was told, and they are no game's; or it couldn't be told
 abbrev pub FailsCheck : Chart → Option (List ℕ) → Option (List ℕ) → Option (List ℕ) → Option (List ℕ) → Failure → Type 0
 FailsCheck m known left before after Negative = IsChecked m known left before after false × TellsIfGame m known false
-FailsCheck m known left before after (Run fault) = EndsEarly m before after fault
+FailsCheck m known left before after (Run fault) = EndsEarly m known before after fault
 FailsCheck m known left before after failure = ⊥
 
 -- there was no explanation, and why was told; or it couldn't be told

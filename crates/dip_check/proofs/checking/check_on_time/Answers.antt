@@ -3,7 +3,7 @@ use Rattle.std.proofs.lemmas.Bool.{false≢true}
 use Rattle.std.proofs.lemmas.Slice.Eq.{bytes_eq-Decides}
 use Rattle.dip_desk_state.specs.Records.{Public}
 use Rattle.dip_desk_state.specs.Rows as rows
-use Rattle.dip_check.proofs.KindsApart.{draw_first, kind_words}
+use Rattle.dip_check_papers.proofs.KindsApart.{draw_first, kind_words}
 use Rattle.dip_check.proofs.checking.check_on_time.Goals as goal
 
 pub returns : goal.returns

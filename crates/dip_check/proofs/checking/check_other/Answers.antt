@@ -3,13 +3,13 @@ use Rattle.std.proofs.lemmas.Bool.{false≢true}
 use Rattle.std.proofs.lemmas.Slice.Eq.{bytes_eq-Decides}
 use Rattle.dip_desk_state.specs.Records.{Public}
 use Rattle.dip_desk_state.specs.Rows as rows
-use Rattle.dip_check.specs.Checks.{IsJudgedNext}
-use Rattle.dip_check.specs.Games.{IsDraw, IsNotice}
-use Rattle.dip_check.specs.Printed.{first_line_of}
-use Rattle.dip_check.proofs.Coming.{ok_weaker}
-use Rattle.dip_check.proofs.Judged.{judged_fewer}
-use Rattle.dip_check.proofs.Judging.{tick_due}
-use Rattle.dip_check.proofs.KindsApart.{kind_words, notice_first, notice_no_draw}
+use Rattle.dip_check_papers.specs.Checks.{IsJudgedNext}
+use Rattle.dip_check_papers.specs.Games.{IsDraw, IsNotice}
+use Rattle.dip_check_papers.specs.Printed.{first_line_of}
+use Rattle.dip_check_papers.proofs.Coming.{ok_weaker}
+use Rattle.dip_check_papers.proofs.Judged.{judged_fewer}
+use Rattle.dip_check_papers.proofs.Judging.{tick_due}
+use Rattle.dip_check_papers.proofs.KindsApart.{kind_words, notice_first, notice_no_draw}
 use Rattle.dip_check.proofs.checking.check_other.Goals as goal
 
 pub returns-then-eq : goal.returns-then-eq

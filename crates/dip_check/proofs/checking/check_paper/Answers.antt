@@ -2,13 +2,13 @@ use Rattle.std.proofs.Common.{◌≡◌, ◌+◌, ◌⊎◌, inl, inr, List, ℕ
 use Rattle.std.proofs.lemmas.Bool.{false≢true}
 use Rattle.dip_desk_state.specs.Records.{Public}
 use Rattle.dip_desk_state.specs.Rows as rows
-use Rattle.dip_check.specs.Checks.{IsJudgedNext, IsJudgedPaper}
-use Rattle.dip_check.specs.Games.{IsDraw, IsNext, IsNotice, IsPhase}
-use Rattle.dip_check.specs.Printed.{first_line_of, title_words}
-use Rattle.dip_check.proofs.Coming.{ok_weaker}
-use Rattle.dip_check.proofs.Judged.{judged_fewer}
-use Rattle.dip_check.proofs.Judging.{phase_due, phase_first}
-use Rattle.dip_check.proofs.KindsApart.{phase_no_draw, phase_no_notice}
+use Rattle.dip_check_papers.specs.Checks.{IsJudgedNext, IsJudgedPaper}
+use Rattle.dip_check_papers.specs.Games.{IsDraw, IsNext, IsNotice, IsPhase}
+use Rattle.dip_check_papers.specs.Printed.{first_line_of, title_words}
+use Rattle.dip_check_papers.proofs.Coming.{ok_weaker}
+use Rattle.dip_check_papers.proofs.Judged.{judged_fewer}
+use Rattle.dip_check_papers.proofs.Judging.{phase_due, phase_first}
+use Rattle.dip_check_papers.proofs.KindsApart.{phase_no_draw, phase_no_notice}
 use Rattle.dip_check.proofs.checking.check_paper.Goals as goal
 
 pub returns-then-not-branch-clause-judged : goal.returns-then-not-branch-clause-judged

@@ -3,11 +3,11 @@ use Rattle.std.proofs.lemmas.List.{get_or-map, length-map}
 use Rattle.dip_map.specs.Boards.{IsOf}
 use Rattle.dip_desk_state.specs.Records.{Public}
 use Rattle.dip_desk_state.specs.Rows as rows
-use Rattle.dip_check.specs.Checks.{IsJudgedPaper}
-use Rattle.dip_check.specs.Games.{IsNext}
-use Rattle.dip_check.specs.declared.verdict.Verdict.TheVariants.{Wrong}
+use Rattle.dip_check_papers.specs.Checks.{IsJudgedPaper}
+use Rattle.dip_check_papers.specs.Games.{IsNext}
+use Rattle.dip_check_papers.specs.declared.verdict.Verdict.TheVariants.{Wrong}
 use Rattle.dip_check.proofs.Chains.{all_right, first_wrong, none_done, one_more}
-use Rattle.dip_check.proofs.OneAnswer.{next_period}
+use Rattle.dip_check_papers.proofs.OneAnswer.{next_period}
 use Rattle.dip_check.proofs.games.check_from.Goals as goal
 
 abbrev texts : List (Bor (List ℕ)) → List (List ℕ)

@@ -4,10 +4,10 @@ use Rattle.std.proofs.lemmas.List.{take_rest}
 use Rattle.dip_map.specs.Boards.{IsOf}
 use Rattle.dip_desk_state.specs.Records.{Public}
 use Rattle.dip_desk_state.specs.Rows as rows
-use Rattle.dip_check.specs.Checks.{AreJudged, IsFirstWrong, IsJudgedFirst}
-use Rattle.dip_check.specs.Games.{AreNext, AreOfGame, IsOpening}
-use Rattle.dip_check.specs.declared.verdict.Papers.TheVariants.{None as NoPapers, Wrong as WrongPaper}
-use Rattle.dip_check.specs.declared.verdict.Verdict.TheVariants.{Wrong}
+use Rattle.dip_check_papers.specs.Checks.{AreJudged, IsFirstWrong, IsJudgedFirst}
+use Rattle.dip_check_papers.specs.Games.{AreNext, AreOfGame, IsOpening}
+use Rattle.dip_check_papers.specs.declared.verdict.Papers.TheVariants.{None as NoPapers, Wrong as WrongPaper}
+use Rattle.dip_check_papers.specs.declared.verdict.Verdict.TheVariants.{Wrong}
 use Rattle.dip_check.proofs.Chains.{nothing_from, opening_wrong, wrong_from}
 use Rattle.dip_check.proofs.games.check_papers.Goals as goal
 

@@ -7,13 +7,14 @@ use Rattle.dip_desk_machine.specs.Handing.{are_by_place}
 use Rattle.dip_orders.specs.Given.{AreGiven}
 use Rattle.dip_orders.specs.Laws.{LawfulOrdersAreRead, OrdersAreLawful, OrdersStandAlone, TextsAreReadAgain}
 use Rattle.dip_orders.specs.declared.placed.PlacedOrder.{PlacedOrder}
-use Rattle.dip_check.specs.Checks.{IsJudged, IsJudgedBy}
-use Rattle.dip_check.specs.Printed.{IsPrinted, orders_printed_at}
-use Rattle.dip_check.specs.declared.printed.Printed.{Printed}
-use Rattle.dip_check.specs.declared.printed.Printed.TheVariants.{NoOrder, Orders}
-use Rattle.dip_check.proofs.Coming.{judged_weaker, ok_weaker, told_unread, told_ungiven}
-use Rattle.dip_check.proofs.Judging.{ungiven, unplayed, unread}
-use Rattle.dip_check.proofs.MovesBack.{OrderLaws}
+use Rattle.dip_check.specs.Phases.{IsJudged, IsJudgedBy}
+use Rattle.dip_check_papers.specs.Printed.{IsPrinted, orders_printed_at}
+use Rattle.dip_check_papers.specs.declared.printed.Printed.{Printed}
+use Rattle.dip_check_papers.specs.declared.printed.Printed.TheVariants.{NoOrder, Orders}
+use Rattle.dip_check.proofs.Coming.{judged_weaker}
+use Rattle.dip_check_papers.proofs.Coming.{ok_weaker, told_unread, told_ungiven}
+use Rattle.dip_check_papers.proofs.Judging.{ungiven, unplayed, unread}
+use Rattle.dip_check_papers.proofs.MovesBack.{OrderLaws}
 use Rattle.dip_check.proofs.phases.judged_phase.Goals as goal
 
 order_laws : TextsAreReadAgain → OrdersStandAlone → OrdersAreLawful → LawfulOrdersAreRead → OrderLaws

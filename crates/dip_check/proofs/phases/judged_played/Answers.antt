@@ -6,13 +6,15 @@ use Rattle.dip_desk_state.specs.Records.{Public}
 use Rattle.dip_desk_state.specs.Rows as rows
 use Rattle.dip_turn.specs.Reports.{IsPlayed}
 use Rattle.dip_turn_papers.specs.Papers.{paper_text}
-use Rattle.dip_check.proofs.Coming.{judged_by_wanted, ok_weaker}
-use Rattle.dip_check.proofs.GameTexts.{due_head, due_in, due_tail, tail_no_u}
-use Rattle.dip_check.proofs.Judging.{later_tick}
-use Rattle.dip_check.proofs.ToldPapers.{Reads, told_of}
-use Rattle.dip_check.specs.Checks.{IsComparedPhase, IsJudgedBy, paper_at}
-use Rattle.dip_check.specs.Differing.{first_other}
-use Rattle.dip_check.specs.Games.{IsTick}
+use Rattle.dip_check.proofs.Coming.{judged_by_wanted}
+use Rattle.dip_check_papers.proofs.Coming.{ok_weaker}
+use Rattle.dip_check_papers.proofs.GameTexts.{due_head, due_in, due_tail, tail_no_u}
+use Rattle.dip_check_papers.proofs.Judging.{later_tick}
+use Rattle.dip_check_papers.proofs.ToldPapers.{Reads, told_of}
+use Rattle.dip_check.specs.Phases.{IsComparedPhase, IsJudgedBy}
+use Rattle.dip_check_papers.specs.Checks.{paper_at}
+use Rattle.dip_check_papers.specs.Differing.{first_other}
+use Rattle.dip_check_papers.specs.Games.{IsTick}
 use Rattle.dip_check.proofs.phases.judged_played.Goals as goal
 
 pub returns : goal.returns

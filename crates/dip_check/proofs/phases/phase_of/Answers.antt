@@ -1,7 +1,7 @@
 use Rattle.std.proofs.Common.{subst}
 use Rattle.dip_desk_state.specs.Records.{Public}
 use Rattle.dip_desk_state.specs.Rows as rows
-use Rattle.dip_check.specs.Checks.{IsJudged}
+use Rattle.dip_check.specs.Phases.{IsJudged}
 use Rattle.dip_check.specs.declared.phases.Judged.TheVariants.{Wrong}
 use Rattle.dip_check.proofs.phases.phase_of.Goals as goal
 

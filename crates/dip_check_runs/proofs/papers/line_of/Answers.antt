@@ -1,6 +1,6 @@
 use Rattle.std.proofs.Common.{sym, add-one, ◌+◌}
 use Rattle.std.proofs.lemmas.List.{take_rest}
-use Rattle.dip_check.proofs.EndLemmas.{line_found, line_missing}
+use Rattle.dip_check_papers.proofs.EndLemmas.{line_found, line_missing}
 use Rattle.dip_check_runs.proofs.papers.line_of.Goals as goal
 
 pub returns-in_err-end : goal.returns-in_err-end

@@ -1,6 +1,6 @@
 use Rattle.std.proofs.Common.{ap, arith, length, length-append}
-use Rattle.dip_check.specs.PaperTexts.{text_of}
-use Rattle.dip_check.proofs.EndLemmas.{cut_size, end_found, end_missing, line_shorter, reaches_more}
+use Rattle.dip_check_papers.specs.PaperTexts.{text_of}
+use Rattle.dip_check_papers.proofs.EndLemmas.{cut_size, end_found, end_missing, line_shorter, reaches_more}
 use Rattle.dip_check_runs.proofs.papers.paper_end.Goals as goal
 
 pub overflow_sub-result : goal.overflow_sub-result

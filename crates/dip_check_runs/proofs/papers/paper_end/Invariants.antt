@@ -1,5 +1,5 @@
 use Rattle.std.proofs.Common.{length}
-use Rattle.dip_check.proofs.EndLemmas.{Reaches}
+use Rattle.dip_check_papers.proofs.EndLemmas.{Reaches}
 use Rattle.dip_check_runs.proofs.papers.paper_end.Given as goal
 
 abbrev pub invariant-loop-line : goal.invariant-loop-line

@@ -1,10 +1,10 @@
-use Rattle.std.proofs.Common.{◌≡◌, ◌∙◌, ap, sym, ◌∷◌, [], ◌+◌, List, ℕ, drop, true}
-use Rattle.std.proofs.lemmas.List.{at_drop_all, at_drop_more}
+use Rattle.std.proofs.Common.{◌∙◌, ap, sym, ◌+◌, List, ℕ, drop, true}
+use Rattle.std.proofs.lemmas.List.{at_drop_all}
 use Rattle.dip_decide_rules.specs.Deciding.{Known}
 use Rattle.dip_decide_rules.specs.Given.{known_of}
 use Rattle.dip_decide_rules.specs.Steps.{moves_of}
 use Rattle.dip_explain.specs.Movement.{learned}
-use Rattle.dip_explain.proofs.Learning.{item_next}
+use Rattle.dip_explain_strengths.proofs.Filtering.{item_next}
 use Rattle.dip_explain.proofs.movement.learn_moves.Goals as goal
 
 pub loop-p-preserved : goal.loop-p-preserved

@@ -1,5 +1,5 @@
 use Rattle.std.proofs.Common.{refl}
-use Rattle.dip_explain.specs.Movement.{attack_text, opposition_text, opposition_word, prevent_text}
+use Rattle.dip_explain_strengths.specs.StrengthTexts.{attack_text, opposition_text, opposition_word, prevent_text}
 use Rattle.dip_explain_laws.proofs.VerdictLemmas.{no_attack_told, no_opposition_told, no_prevent_told}
 use Rattle.dip_explain_laws.proofs.laws.numbers_stand_before_their_units.Goals as goal
 

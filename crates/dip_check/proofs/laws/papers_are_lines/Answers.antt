@@ -1,5 +1,0 @@
-use Rattle.dip_check.proofs.PaperLines.{papers_are_lines}
-use Rattle.dip_check.proofs.laws.papers_are_lines.Goals as goal
-
-pub returns : goal.returns
-returns c = papers_are_lines c.args.map.now c.facts.ensures

@@ -1,0 +1,9 @@
+pub mod Games
+pub mod Placing
+pub mod Printed
+pub mod Checks
+pub mod Laws
+pub mod PaperTexts
+pub mod Parts
+pub mod Differing
+pub mod Shared

@@ -1,6 +1,0 @@
-use Rattle.std.proofs.Common.{◌≡◌, ◌++◌, codes, drop, filter, flat_map, string_bytes}
-use Rattle.dip_explain.specs.Matters.{order_in, others}
-use Rattle.dip_explain.proofs.lists.push_other_orders.Given as goal
-
-abbrev pub invariant-loop-p : goal.invariant-loop-p
-invariant-loop-p l = string_bytes l.out ++ others (order_in l.map l.orders) (drop l.p-index l.units) ≡ string_bytes l.initial.out ++ others (order_in l.map l.orders) (l.units)

@@ -1,7 +1,0 @@
-use Rattle.std.proofs.Common.{◌≡◌, ◌++◌, drop, flat_map, string_bytes}
-use Rattle.dip_explain.specs.Winter.{build_text}
-use Rattle.dip_explain.proofs.winter.push_all_builds.Given as goal
-
-abbrev pub invariant-loop-unit : goal.invariant-loop-unit
-invariant-loop-unit l =
-    string_bytes l.out ++ flat_map (build_text l.map l.board) (drop l.unit-index l.units) ≡ string_bytes l.initial.out ++ flat_map (build_text l.map l.board) l.units

@@ -1,6 +1,0 @@
-use Rattle.dip_explain.specs.Winter.{distance_text}
-use Rattle.dip_explain.proofs.winter.push_distance.Goals as goal
-
-pub returns : goal.returns
-unfolding distance_text
-returns c = rw (c.distance_home-distance.ensures) at c.write.ensures.bytes

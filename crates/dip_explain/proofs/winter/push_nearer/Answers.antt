@@ -1,6 +1,0 @@
-use Rattle.dip_explain.specs.Winter.{nearer_text}
-use Rattle.dip_explain.proofs.winter.push_nearer.Goals as goal
-
-pub returns : goal.returns
-unfolding nearer_text
-returns c = rw (c.distance_home-distance.ensures) at c.write.ensures.bytes

@@ -1,0 +1,4 @@
+pub mod Lines
+pub mod Sayings
+pub mod Retreats
+pub mod Winter

@@ -1,0 +1,3 @@
+pub mod Matters
+pub mod Strengths
+pub mod StrengthTexts

@@ -87,7 +87,7 @@ abbrev pub OldStopsReport : {S : Type 0} → Ghosts S → Chart → Type 0 → L
 OldStopsReport g m Fault game s new before after (Store fault) = (after ≡ before) × OldEnds g m Fault new s
 OldStopsReport g m Fault game s new before after failure = StopsReport g m Fault game s new before after failure
 
--- a failure of a report
+-- a report may fail by its store, by a game that isn't there, or while papers are written
 abbrev pub IsReportFailure : Failure → Type 0
 IsReportFailure (Store fault) = Unit {0}
 IsReportFailure NoGame = Unit {0}

@@ -548,7 +548,7 @@ impl Desk {
     }
 }
 
-/// The end of the first letter: behind its first line that is END.
+/// The end of the first letter: the byte after its first line that is END.
 fn end_of(all: &str) -> usize {
     let mut at = 0;
     while let Some(line) = all[at..].find('\n') {

@@ -225,7 +225,7 @@ class Players:
                 self.write(name, power, all_of or f"VOTE FOR {' '.join(self.dice.sample(named, len(named)))}\n")
 
     def play(self, names, turns, chatter=5):
-        """The letters of so many turns of each game, and what all powers are shown behind them."""
+        """The letters of so many turns of each game, and what all powers are shown after them."""
         for name in names:
             self.create(name)
         for _ in range(turns):

@@ -110,7 +110,7 @@ def letter_in(data):
 
 
 def next_letter(data, at):
-    """What stands from a place on: a letter or a fault's line, and the place behind it. None at the end."""
+    """What stands from a place on: a letter or a fault's line, and the place after it. None at the end."""
     while data[at : at + 1] == b"\n":
         at += 1
     if at == len(data):

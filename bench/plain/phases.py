@@ -97,7 +97,7 @@ PLAYS = [play_movement, play_retreats, play_movement, play_retreats, play_winter
 
 
 def advance(chart, board, pending):
-    """Plays the board's phase: the lines of its paper, and the game's status behind it."""
+    """Plays the board's phase: the lines of its paper, and the game's status after it."""
     season = board.season
     lines = PLAYS[season](chart, board, pending)
     after = season + 1 if season % 2 or season == 4 or board.dislodged else season + 2

@@ -19,7 +19,7 @@ abbrev pub IsJudged : Chart → Public → List ℕ → Judged → Type 0
 IsJudged m p text (RightPhase report new) = IsNext m p text (rows.public new) × IsPhaseOf m p text report (rows.public new) × IsOf m new.board.value
 IsJudged m p text (WrongPhase fault) = ((new : Public) → IsPhase m p text new → ⊥) × IsToldOfPhase m p text fault
 
--- of these orders: a wrong text's fault is told beside their papers
+-- a phase's text is right only where the phase brings this report; where it is wrong, its fault is told beside the papers of these orders
 abbrev pub IsJudgedBy : Chart → Public → List PlacedOrder → List ℕ → Judged → Type 0
 IsJudgedBy m p orders text (RightPhase report new) = IsNext m p text (rows.public new) × IsPhaseOf m p text report (rows.public new) × IsOf m new.board.value
 IsJudgedBy m p orders text (WrongPhase fault) = IsToldOf m p orders text fault

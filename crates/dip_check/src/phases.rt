@@ -24,7 +24,7 @@ use dip_turn::{Report, advance, boards_stay_of_their_map, phases_have_one_result
 use dip_turn_papers::paper_text;
 use std::alloc::{AllocError, Global};
 
-/// The same public part, which shares its board.
+/// A second copy of a public part; both share the board.
 fn copied(alloc: Global, public: &Public) -> Result<Public, AllocError>
     ensures { IfOk result (λ p. rows.public p ≡ rows.public public.now) }
 {
@@ -44,7 +44,7 @@ fn copied(alloc: Global, public: &Public) -> Result<Public, AllocError>
 pub(crate) enum Judged {
     /// It is: this is what became of the phase, and the game stands so.
     Right(Report, Public),
-    /// It is wrong here.
+    /// It isn't: the text is wrong in this line.
     Wrong(Fault),
 }
 

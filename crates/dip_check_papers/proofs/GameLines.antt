@@ -46,7 +46,7 @@ grey_words true false papers low = ap (λ ws. codes "YES" ∷ codes "PAPERS" ∷
 grey_words false true papers low = ap (λ ws. codes "NO" ∷ codes "INTENT" ∷ codes "YES" ∷ codes "PAPERS" ∷ ws) (last_part 32 (decimal papers) (number_lacks 32 papers refl low))
 grey_words false false papers low = ap (λ ws. codes "NO" ∷ codes "PAPERS" ∷ ws) (last_part 32 (decimal papers) (number_lacks 32 papers refl low))
 
--- the words of the terms
+-- `DUE`, `PERIOD`, `GREY`, `INTENT` where that is on, and `PAPERS`, each with its value
 abbrev pub terms_words : Public → List (List ℕ)
 terms_words p = codes "DUE" ∷ decimal p.due ∷ codes "PERIOD" ∷ decimal p.period ∷ codes "GREY" ∷ yes_or_no p.grey
     ∷ with_intent p.board.intent (codes "PAPERS" ∷ decimal p.papers ∷ [])
@@ -135,7 +135,7 @@ game_line_found m p free =
     ∙ append_assoc (line_text m p) (codes "\n") (board_lines m p.board ++ codes "END\n"))
     ∙ ap game_line_in (part_again 10 (line_text m p) (board_lines m p.board ++ codes "END\n") free)
 
--- the words of the game line
+-- `GAME`, the game's name, the phase, and then the words of its status and its terms
 pub line_words : (m : Chart) (p : Public) → lacks 32 p.game ≡ true → p.board.phase.year < 2 ^ 64
     → words_in (line_text m p) ≡ codes "GAME" ∷ p.game ∷ phase_text p.board.phase ∷ words_in (status_text m p.status ++ terms_text p)
 line_words m p game year =

@@ -64,7 +64,7 @@ fn push_marked_lines(lines: &[&str], out: &mut String) -> Result<(), AllocError>
     Ok(())
 }
 
-/// Appends how a paper ends.
+/// Appends the game line, the board lines and `END`.
 fn push_paper_end(
     alloc: Global,
     map: &Map,
@@ -79,7 +79,7 @@ fn push_paper_end(
     out.push_str("END\n")
 }
 
-/// The paper of an announcement of these lines.
+/// The paper that announces these lines, with the public part after it.
 fn announcement_text(
     alloc: Global,
     map: &Map,

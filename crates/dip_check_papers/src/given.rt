@@ -82,7 +82,8 @@ pub(crate) fn are_each_given(
     Ok(true)
 }
 
-/// Whether orders can be given beside one another, and come as papers print them.
+/// Whether each order can be given beside the others of its power, no power has two in one
+/// province, and they are in a paper's order.
 pub fn are_given(
     alloc: Global,
     map: &Map,

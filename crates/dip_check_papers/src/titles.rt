@@ -13,7 +13,7 @@ pub(crate) fn line_of(text: &str, number: usize) -> &str {
     text.split('\n').nth(number.saturating_sub(1)).unwrap_or("")
 }
 
-/// The first line of a text.
+/// What is before a text's first LF; all of it where no line ends.
 pub fn first_line(text: &str) -> &str
     ensures { result.now ≡ (first_line_of text.now).0 }
 {

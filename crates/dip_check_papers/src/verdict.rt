@@ -4,7 +4,7 @@ use dip_desk_state::Public;
 /// What a line should be.
 #[derive(Drop)]
 pub enum Wanted {
-    /// This line.
+    /// Exactly this line.
     Line(String),
     /// An order of this unit that can be given on the board, and what became of it: the unit's power, its kind and its place.
     OrderOf(String),

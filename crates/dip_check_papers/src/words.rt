@@ -22,7 +22,7 @@ pub(crate) fn game_words<'a>(alloc: Global, text: &'a str) -> Result<Vec<&'a str
     words_of(alloc, game_line(lines.as_slice()))
 }
 
-/// The word after the first one that is this.
+/// The word after the first `name` among these words, if there is one.
 fn word_after<'a>(words: &[&'a str], name: &str) -> Option<&'a str>
     ensures { option_map (λ w. w.now) result
         ≡ word_after name.now (each (λ w. w.now) words.now) }
@@ -35,7 +35,8 @@ fn word_after<'a>(words: &[&'a str], name: &str) -> Option<&'a str>
     None
 }
 
-/// The number after a word, as numbers are printed.
+/// The number after the first `name` among these words, in decimal digits; none where that is no
+/// number below 2^64.
 pub(crate) fn number_after(words: &[&str], name: &str) -> Option<u64>
     ensures { (n : ℕ) → n < 2 ^ 64
         → word_after name.now (each (λ w. w.now) words.now) ≡ Some (decimal n) → result ≡ Some n }

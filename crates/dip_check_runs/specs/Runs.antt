@@ -188,7 +188,7 @@ pub record IsExplained (m : Chart) (number : ℕ) (known left before after : Opt
   pub found : IsFound m number known left last done
   pub written : Appends before after last
 
--- a fault of reading
+-- the input can't be read: by the reader's fault, its size, or want of memory
 abbrev pub IsReadingFault : RunFault → Type 0
 IsReadingFault Read = Unit {0}
 IsReadingFault TooLong = Unit {0}

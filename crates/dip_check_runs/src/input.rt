@@ -21,7 +21,7 @@ pub(crate) struct Ahead {
     pub(crate) ended: bool,
 }
 
-/// Nothing read yet.
+/// An input of which nothing was read yet.
 pub(crate) fn nothing_ahead(alloc: Global) -> Ahead
     ensures { (known : Option (List ℕ)) → IsRead known known [] result }
 {

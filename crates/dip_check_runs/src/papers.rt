@@ -19,7 +19,7 @@ fn line_of(bytes: &[u8]) -> Option<(&[u8], &[u8])>
     Some((&bytes[..end], &bytes[end + 1..]))
 }
 
-/// After the empty lines that the bytes begin with.
+/// What is left of the bytes after the empty lines at their front.
 pub(crate) fn after_empty_lines(input: &[u8]) -> &[u8]
     ensures { IsAfterLines input.now result.now }
 {

@@ -13,12 +13,12 @@ use dip_map::Map;
 use std::alloc::{AllocError, Global};
 use std::str;
 
-/// What is said of bytes that are to come next in a game.
+/// The judgement on bytes that should be a game's next paper.
 #[derive(Drop)]
 pub(crate) enum Said {
     /// They may come next, and leave the game so.
     Right(Public),
-    /// The text that they are is wrong.
+    /// They are a text that can't come next, and this is what is wrong in it.
     Wrong(Fault),
     /// They are no text: in this line, counted from 1, they are no UTF-8.
     NoText(usize),
@@ -35,7 +35,7 @@ pub(crate) fn text_of(bytes: &[u8]) -> Result<&str, usize>
     }
 }
 
-/// What is said of bytes that are to come next in a game that stands so.
+/// Judges bytes that should be the next paper of a game that stands so.
 fn say_next(alloc: Global, map: &Map, before: &Public, bytes: &[u8]) -> Result<Said, AllocError>
     requires { IsOf map.now before.now.board.value }
     ensures { IfOk result (IsSaidNext map.now (rows.public before.now) bytes.now) }
@@ -49,7 +49,7 @@ fn say_next(alloc: Global, map: &Map, before: &Public, bytes: &[u8]) -> Result<S
     }
 }
 
-/// What is said of bytes that are to come first in a game.
+/// Judges bytes that should be a game's first paper, that of its opening.
 fn say_first(alloc: Global, map: &Map, bytes: &[u8]) -> Result<Said, AllocError>
     ensures { IfOk result (IsSaidFirst map.now bytes.now) }
 {

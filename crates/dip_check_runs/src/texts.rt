@@ -72,7 +72,7 @@ fn titled(alloc: Global, paper: &[u8], text: &str) -> Result<Vec<u8>, AllocError
     Ok(told)
 }
 
-/// What is told of a paper of which that is said.
+/// The line or lines that the program prints of a paper: its title, and what is said of it.
 pub(crate) fn said_text(alloc: Global, paper: &[u8], said: &Said) -> Result<Vec<u8>, AllocError>
     ensures { IfOk result (λ told. told.items ≡ t.said_text paper.now said.now) }
 {

@@ -118,7 +118,8 @@ fn has_open_path(table: &Table, values: &Values) -> bool
         .any(|p| is_open(values, &Decision::Path(*p)))
 }
 
-/// The units whose path is open.
+/// The units of which it is open whether their move by convoy has a path, in the table's order.
+/// Where there are none, no list is copied.
 pub(crate) fn open_paths(
     alloc: Global,
     table: &Table,

@@ -44,7 +44,8 @@ fn take_circle(
     Ok(())
 }
 
-/// The paths of a knot are broken.
+/// Takes the step of a knot: these units' paths are false from now on, and what mentions them is
+/// listed.
 fn take_knot(
     table: &Table,
     values: &mut Values,

@@ -51,7 +51,7 @@ fn put_each(
     Ok(())
 }
 
-/// The same of the moves into a province.
+/// Lists those of the moves into a province that are open and mention a decision.
 fn put_into(
     table: &Table,
     values: &Values,
@@ -69,7 +69,8 @@ fn put_into(
     Ok(())
 }
 
-/// The same of the moves to where a unit goes, if it goes somewhere.
+/// Lists those of the moves to where a unit goes that are open and mention a decision: none, if it
+/// goes nowhere.
 fn put_to(
     table: &Table,
     values: &Values,
@@ -92,7 +93,8 @@ fn put_to(
     }
 }
 
-/// The same of the path of the army that a fleet convoys, if it convoys one.
+/// Lists the path of the army that a fleet convoys, if it convoys one, and if that path is open and
+/// mentions a decision.
 fn put_path(
     table: &Table,
     values: &Values,
@@ -115,7 +117,8 @@ fn put_path(
     }
 }
 
-/// The same of what the unit supports or convoys to which a move goes.
+/// Of a unit to whose province a move goes, lists its support and the path of the army that it
+/// convoys, where they are open and mention a decision.
 fn put_at(
     table: &Table,
     values: &Values,
@@ -139,7 +142,8 @@ fn put_at(
     }
 }
 
-/// The same of the moves to where a move by convoy goes, and of the support of the unit there.
+/// Where a move by convoy goes, lists the moves to there and the support by the unit there, where
+/// they are open and mention a decision.
 fn put_past(
     table: &Table,
     values: &Values,
@@ -163,7 +167,8 @@ fn put_past(
     }
 }
 
-/// The same of the moves to a unit that is supported, and to where it goes.
+/// Lists the moves to a unit that is supported, and those to where it goes, that are open and
+/// mention a decision.
 fn put_round(
     table: &Table,
     values: &Values,

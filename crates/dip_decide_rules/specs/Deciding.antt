@@ -95,7 +95,7 @@ Leads mentions k d (c ∷ cs) e = (mentions d c ≡ true) × (k c ≡ None) × L
 abbrev pub Reaches : Mentions → Known → Decision → Decision → Type 0
 Reaches mentions k d e = (between : List Decision) × Leads mentions k d between e
 
--- an open path
+-- the decision is a path, and has no value yet
 abbrev pub IsOpenPath : Known → Decision → Type 0
 IsOpenPath k d = (is_path d ≡ true) × (k d ≡ None)
 

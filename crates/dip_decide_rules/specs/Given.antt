@@ -16,7 +16,7 @@ use Rattle.dip_decide_rules.specs.Placed.{entry}
 abbrev pub rows_of : List PlacedOrder → Chart → List (Option PlacedOrder)
 rows_of orders m = map (order_at orders) (provs m)
 
--- the same row for each province
+-- a column in which each province has this one row
 abbrev pub alike_rows : Option PlacedOrder → Chart → List (Option PlacedOrder)
 alike_rows row m = map (λ p. row) (provs m)
 

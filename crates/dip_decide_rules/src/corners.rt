@@ -157,7 +157,7 @@ impl Corner<'_> {
         w == p || !self.table.goes(w, q) || self.prevent(w, q) < strength
     }
 
-    /// Whether it beats all of these.
+    /// Whether an attack of this strength from p on q beats each of these units.
     fn beats_all(&self, p: Prov, q: Prov, strength: usize, others: &[Prov]) -> bool
         requires attack { strength
             ≡ attack (situation_of self.now.table.now) (values self.now) p q }
@@ -196,7 +196,7 @@ impl Corner<'_> {
             }
     }
 
-    /// Whether none of these cuts a support.
+    /// Whether no attack of these movers cuts the support of the unit in h.
     fn none_cuts(&self, h: Prov, movers: &[Prov]) -> bool
         ensures { result ≡ list_all
             (λ x. not (cuts (situation_of self.now.table.now) (values self.now) h x)) movers.now }
@@ -228,7 +228,7 @@ impl Corner<'_> {
         }
     }
 
-    /// Whether one of these enters a province.
+    /// Whether one of these movers goes to the province and its move succeeds.
     fn one_enters(&self, movers: &[Prov], x: Prov) -> bool
         ensures { result ≡ list_any
             (λ m. goes (situation_of self.now.table.now) m x && values self.now (Move m))
@@ -288,7 +288,7 @@ impl Corner<'_> {
         }
     }
 
-    /// The equation of a decision.
+    /// The value that a decision's equation gives it by the others' values at this corner.
     pub(crate) fn rule(&self, room: &mut Room, d: &Decision) -> Result<bool, AllocError>
         requires situation { IsSituation (situation_of self.now.table.now) }
         ensures { IfOk result

@@ -5,7 +5,7 @@ use dip_names::Prov;
 /// What is decided of the unit in a province.
 #[derive(Clone, Copy, PartialEq, Eq, Debug)]
 pub enum Decision {
-    /// Its move succeeds.
+    /// The move of the unit in this province succeeds.
     Move(Prov),
     /// Its move by convoy has a path: a chain of fleets that carry it.
     Path(Prov),
@@ -13,7 +13,7 @@ pub enum Decision {
     Support(Prov),
 }
 
-/// A step of an explanation.
+/// A step that gives decisions their values, by the steps before it.
 #[derive(Drop, Debug)]
 pub enum Step {
     /// The decision has one value, whatever the open ones come to.
@@ -27,15 +27,15 @@ pub enum Step {
 /// What came of the orders of a movement: provinces of units, in the order of their codes, and why.
 #[derive(Drop, Debug)]
 pub struct Resolution {
-    /// Whose move succeeds.
+    /// The units whose move succeeds, by their provinces.
     pub moves: Vec<Prov>,
-    /// Whose move by convoy has a path.
+    /// The units whose move by convoy has a path.
     pub paths: Vec<Prov>,
-    /// Whose support is given.
+    /// The units whose support is given.
     pub supports: Vec<Prov>,
-    /// Whose move by convoy was broken.
+    /// The units whose move by convoy a knot broke.
     pub broken: Vec<Prov>,
-    /// The steps that explain it, in order.
+    /// Steps that give each decision its value, each by those before it.
     pub steps: Vec<Step>,
     /// How often the equation of an open decision was tested.
     pub tests: Tests,

@@ -37,7 +37,7 @@ impl Tests {
         Tests { count: 0 }
     }
 
-    /// How many.
+    /// How many tests were made.
     pub fn count(&self) -> u64
         ensures { result ≡ self.now }
     {
@@ -117,7 +117,7 @@ fn ground_of<'a>(
     Ok((table, room))
 }
 
-/// The same over a table of its own.
+/// Tests an open decision as `forced` does, over a table and a room that it makes itself.
 pub fn forced_by_orders(
     alloc: Global,
     map: &Map,

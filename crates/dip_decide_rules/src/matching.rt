@@ -180,7 +180,7 @@ fn is_sea_next(map: &Map, p: Prov, q: Prov) -> bool
 }
 
 impl Table<'_> {
-    /// The order of the unit in a province.
+    /// The order of the unit in a province, in the table's row of it.
     fn order(&self, p: Prov) -> Option<PlacedOrder>
         ensures { result ≡ entry self.now.rows.items p }
     {

@@ -14,7 +14,7 @@ use dip_orders::PlacedOrder;
 #[derive(Drop)]
 pub struct Table<'a> {
     pub map: &'a Map,
-    /// The provinces with a unit.
+    /// The provinces whose units have an order, in the orders' order.
     pub places: Vec<Prov>,
     /// The order of the unit in each province.
     pub rows: Vec<Option<PlacedOrder>>,

@@ -5,9 +5,9 @@ use std::alloc::{AllocError, Global};
 /// Room for the searches of a board; what is in it says nothing between two of them.
 #[derive(Drop)]
 pub struct Room {
-    /// Fleets that serve a move.
+    /// The fleets that serve a move by convoy, while its path is looked for.
     pub fleets: Vec<Prov>,
-    /// Provinces that a search came to.
+    /// The provinces that the search came to so far.
     pub trail: Vec<Prov>,
 }
 

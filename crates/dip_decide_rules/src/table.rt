@@ -53,7 +53,7 @@ fn no_orders(
     Ok(rows)
 }
 
-/// A column that names nobody.
+/// A column of so many provinces, none of which names anybody.
 fn nobody(alloc: Global, count: usize) -> Result<Vec<Option<Prov>>, AllocError>
     ensures { IfOk result (λ v. v.items ≡ replicate count None) }
 {
@@ -69,7 +69,7 @@ fn nowhere(alloc: Global, count: usize) -> Result<Vec<bool>, AllocError>
     Ok(column)
 }
 
-/// Puts a name at a province.
+/// Writes whom the unit in a province names. A province past the column's end is left out.
 fn put_name(column: &mut Vec<Option<Prov>>, p: Prov, name: Option<Prov>)
     ensures { column.new.items ≡ slice_set column.old.items p name }
 {
@@ -198,7 +198,7 @@ fn carriers_of(
     by_key(alloc, places, carried)
 }
 
-/// The table of these orders.
+/// The table of these orders, made once for a movement. Their units are in provinces of the map.
 pub fn table_of<'a>(
     alloc: Global,
     map: &'a Map,

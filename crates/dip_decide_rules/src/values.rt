@@ -19,7 +19,7 @@ pub struct Values {
     pub supports: Vec<Option<bool>>,
 }
 
-/// A value of a list. Behind its end there is nothing to decide.
+/// A decision's value by its province, if it has one. Past the list's end each is false.
 pub fn value_at(list: &[Option<bool>], p: Prov) -> Option<bool>
     ensures { result ≡ slice_index_or list.now p (Some false) }
 {
@@ -73,7 +73,7 @@ impl Values {
         }
     }
 
-    /// Gives true to these moves.
+    /// These moves, which were open, succeed from now on.
     pub fn give_moves(&mut self, units: &[Prov])
         requires distinct { are_provs_single units.now ≡ true }
         requires unknown { AreOpen (known_of self.old) units.now }

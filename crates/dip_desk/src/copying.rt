@@ -8,7 +8,7 @@ use dip_desk_state::{Item, Own};
 use std::alloc::{AllocError, Global};
 use std::rc::Rc;
 
-/// The own parts of seats.
+/// Copies the own parts of these seats, in their order, without their inboxes.
 pub fn owns_copy(alloc: Global, seats: &[SeatRow]) -> Result<Vec<Own>, AllocError>
     ensures { IfOk result
         (λ v. each (λ o. rows.own o) v.items ≡ each (λ p. p.own) (stored.parts seats.now)) }
@@ -20,7 +20,7 @@ pub fn owns_copy(alloc: Global, seats: &[SeatRow]) -> Result<Vec<Own>, AllocErro
     Ok(copy)
 }
 
-/// The same items once more: they are shared, and no text is copied.
+/// Shares the items with another list: no text is copied.
 pub fn items_shared(alloc: Global, items: &[Rc<Item>]) -> Result<Vec<Rc<Item>>, AllocError>
     ensures { IfOk result (λ v. rows.items v.items ≡ rows.items items.now) }
 {

@@ -42,7 +42,7 @@ pub fn whole_of(alloc: Global, name: &str, game: &GameRow) -> Result<Whole, Allo
     })
 }
 
-/// The game of that name.
+/// The game of that name, if one was opened.
 pub fn find_game<'a>(games: &'a Games, name: &str) -> Option<&'a GameRow>
     ensures found { option_map (λ g. stored.game name.now g.now) result
         ≡ at bytes_eq s.name_of name.now (stored.games games.entry.now.entries) }
@@ -52,7 +52,7 @@ pub fn find_game<'a>(games: &'a Games, name: &str) -> Option<&'a GameRow>
     games.get(name)
 }
 
-/// The seat of that power.
+/// The first of these seats that the power plays, if it plays one.
 fn seat_of(seats: &[SeatRow], power: Power) -> Option<&SeatRow>
     ensures { option_map (λ r. stored.part r.now) result ≡ s.seat_at power
         (stored.parts seats.entry.now) }

@@ -41,7 +41,7 @@ fn fresh_seats(alloc: Global, seats: &[NewSeat]) -> Result<Vec<SeatRow>, AllocEr
     Ok(new_rows)
 }
 
-/// A new game.
+/// The game as CREATE leaves it: its first paper, and seats that have sent nothing and got nothing.
 fn game_of(
     alloc: Global,
     public: &Public,

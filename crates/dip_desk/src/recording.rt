@@ -27,7 +27,7 @@ pub(crate) enum Given {
     Vote(Vote),
 }
 
-/// The place of the seat of that power, or the length.
+/// Where the power's seat stands in this list; its length, where the power has none.
 fn seat_place(seats: &[SeatRow], power: Power) -> usize
     ensures { result ≡ place (λ a b. a == b) s.power_in power (stored.parts seats.now) }
 {
@@ -288,7 +288,8 @@ fn record_row(alloc: Global, game: &mut GameRow, change: &Change) -> Result<(), 
     Ok(())
 }
 
-/// The same, where each count that it raises has room for it.
+/// Makes the change in the game that it names, after a look whether each count that it raises has
+/// room. Where one has none, the fault is `Damaged` and the game stays as it was.
 fn record_fitting(alloc: Global, game: &mut GameRow, change: &Change) -> Result<(), KeepFault>
     ensures ok { OnOk result ((key : List ℕ) → stored.game key game.new ≡ s.game_after
         (desk_rows.change change.now) (stored.game key game.old)) }

@@ -97,7 +97,8 @@ fn change_of(
     })
 }
 
-/// The lines that are kept of a letter.
+/// The reply's lines, out of the change that kept them. No copy is made, which could want memory
+/// after the letter is taken.
 fn lines_kept(change: Change) -> Rc<String>
     ensures { result ≡ change.kept.reply }
 {

@@ -22,7 +22,8 @@ use dip_names::Power;
 use std::alloc::Global;
 use std::rc::Rc;
 
-/// A keeper of which nothing can be asked but one seat's own part, its inbox and the public part of its game.
+/// A keeper as a seat's letter may ask it: what decides the letter can read that seat's own part,
+/// ten items of its inbox and its game's public part, and nothing of another seat.
 #[derive(Drop)]
 pub(crate) struct SeatView<'k, K> {
     keeper: &'k mut K,

@@ -76,7 +76,7 @@ numbered_holds P again out n (Some k) New v new h = go (nat_lt n.note.number k.n
     go false true false is = subst P (sym is) (out (refusal_line (NumberUsed k.number)))
     go false false c is = new is
 
--- the same of a seat's verdict
+-- what holds of each answer to an old number, and of a seat's verdict on a new one
 pub seat_holds : (P : Verdict → Type 0) → ((text : List ℕ) → P (Again text)) → ((text : List ℕ) → P (OutOfTurn text)) → (n : Mail) (k : Option Kept) (v : Verdict)
     → P v → P (unwrap_or (old_number n k) v)
 seat_holds P again out n None v h = h

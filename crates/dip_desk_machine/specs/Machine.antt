@@ -459,7 +459,7 @@ abbrev pub fault_reply : LetterFault → Reply
 fault_reply Unreadable = record { outcome = NoneKnown; head = None; text = refusal_line Malformed }
 fault_reply OverLong = record { outcome = NoneKnown; head = None; text = refusal_line TooLong }
 
--- the same of a letter's author in a state
+-- what the record of the author whom a letter has in a state may be Damaged by
 abbrev pub IsDamagedBy : Chart → Mail → State → Type 0
 IsDamagedBy m n s = MayBeDamaged m s n (author m n s)
 

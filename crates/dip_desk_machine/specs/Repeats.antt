@@ -8,7 +8,7 @@ use Rattle.dip_desk_machine.specs.Mail.{Mail}
 use Rattle.dip_desk_state.specs.State.{Author, Nobody, Seat, State, TheMaster, is_seat}
 use Rattle.dip_desk_machine.specs.View.{IsRun, Turn, author_in}
 
--- the same letter again at once gets the same reply, and changes nothing
+-- a letter that comes again at once gets its old reply, and changes nothing
 abbrev pub ActsOnce : Chart → Type 0
 ActsOnce m = (old mid new : State) (n : Mail) (first again : Reply) → Step m old n first mid → Step m mid n again new → (again ≡ first) × (new ≡ mid)
 

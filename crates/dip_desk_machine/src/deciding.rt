@@ -38,7 +38,8 @@ fn orders_effect(standing: &[Standing], orders: Vec<Standing>) -> Effect
     Effect::Pending(orders)
 }
 
-/// What ORDERS comes to.
+/// The answer to ORDERS in a game that goes on, and the orders that stand then. `Damaged` where a
+/// line that stood is no order of this power on this board.
 fn orders_verdict(
     alloc: Global,
     map: &Map,
@@ -134,7 +135,9 @@ fn player_verdict(
     }
 }
 
-/// What a seat's letter comes to, by what the seat sees alone.
+/// The verdict on a seat's letter. A number that isn't above the last one gets the old answer or is
+/// refused; a new letter's command is decided by what the seat sees alone, and a command of the
+/// master's is refused.
 pub fn seat_verdict(
     alloc: Global,
     map: &Map,

@@ -4,7 +4,7 @@ ghost use Rattle.dip_desk_machine.specs.Machine.{digest};
 
 use dip_letters::digest;
 
-/// The digest of a secret.
+/// SHA-256 of a game, a sender and a secret, by which a letter's author is known.
 #[tactic(auto, unfolding(crate::specs::Machine::digest))]
 pub fn digest_of(game: &str, sender: &str, secret: &str) -> [u8; 32]
     ensures { result ≡ digest game.now sender.now secret.now }

@@ -118,7 +118,8 @@ fn all_survive(survivors: &[Power], set: &[Power]) -> bool
     true
 }
 
-/// Whether every survivor asks for a draw between these powers, and all of them survive.
+/// Whether this set is agreed on: each survivor's vote asks for a draw between exactly these
+/// powers, and all of them survive.
 fn is_agreed(survivors: &[Power], seats: &[Own], set: &[Power]) -> bool
     ensures { result ≡ d.is_agreed survivors.now (each (λ o. rows.own o) seats.now) set.now }
 {

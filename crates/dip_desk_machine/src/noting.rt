@@ -72,7 +72,8 @@ pub fn public_noted(
     })
 }
 
-/// A notice is published.
+/// The verdict that publishes the notice as the game's next paper. No phase is played, so that
+/// orders and votes stay.
 fn notified(
     alloc: Global,
     map: &Map,

@@ -17,7 +17,7 @@ pub struct Desk {
 }
 
 impl Desk {
-    /// A copy of it.
+    /// Copies the row; the lines of the last reply are shared.
     pub fn copy(&self) -> Result<Desk, AllocError>
         ensures { IfOk result (λ d. rows.desk d ≡ rows.desk self.now) }
     {
@@ -46,11 +46,12 @@ pub struct NewSeat {
 /// What a letter does to its game.
 #[derive(Drop)]
 pub enum Effect {
-    /// Nothing.
+    /// It stays as it is: the letter was refused, asked a question, or asked for what stands
+    /// already.
     Nothing,
     /// The author's standing orders are these.
     Pending(Vec<Standing>),
-    /// What the author votes for.
+    /// From now on the author votes for this.
     Votes(Vote),
     /// Press for the inboxes of these powers. It lies in memory once, however many have it.
     Delivers {
@@ -69,14 +70,14 @@ pub enum Effect {
         paper: String,
         played: bool,
     },
-    /// Another digest for a seat.
+    /// The seat of this power has this digest from now on, so that another secret opens it.
     Seats(NewSeat),
 }
 
-/// What an accepted letter changes.
+/// All that a letter changes if a known author sent it in turn: its author's row, and its game.
 #[derive(Drop)]
 pub struct Change {
-    /// The letter's game.
+    /// The game that the letter names, and the only one that changes.
     pub game: String,
     pub author: Author,
     /// What is kept of the letter, for its author.

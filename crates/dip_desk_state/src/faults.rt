@@ -9,7 +9,7 @@ use std::fmt;
 /// Why a keeper doesn't answer. Nothing has changed.
 #[derive(Clone, Copy, PartialEq, Eq, Debug)]
 pub enum KeepFault {
-    /// Want of memory.
+    /// Memory ran out.
     Memory,
     /// A fault of the disk, or want of room on it.
     Disk,

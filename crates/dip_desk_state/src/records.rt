@@ -7,7 +7,7 @@ use dip_names::{Power, Prov};
 use std::alloc::{AllocError, Global};
 use std::rc::Rc;
 
-/// A copy of a list of powers.
+/// Copies a list of powers; the only error is want of memory.
 pub fn copy_powers(alloc: Global, powers: &[Power]) -> Result<Vec<Power>, AllocError>
     ensures { IfOk result (λ v. v.items ≡ powers.now) }
 {
@@ -23,18 +23,18 @@ pub enum Status {
     Running,
     /// No tick adjudicates its phase until the master lets it go on.
     Paused,
-    /// The master closed it.
+    /// The master's CLOSE ended it.
     Closed,
     /// Its last year is over, and nobody has won.
     Ended,
-    /// This power has won.
+    /// This power has won: it owns more than half of all centres.
     Won(Power),
-    /// These powers share it.
+    /// Its survivors agreed on a draw: these powers share it.
     Drawn(Vec<Power>),
 }
 
 impl Status {
-    /// A copy of it.
+    /// Copies the status, with the list of those who share a draw.
     pub fn copy(&self, alloc: Global) -> Result<Status, AllocError>
         ensures { IfOk result (λ s. rows.status s ≡ rows.status self.now) }
     {
@@ -56,7 +56,7 @@ pub struct Public {
     pub game: String,
     /// Where its units stand, who owns its centres, and its phase. Copies of this record share it.
     pub board: Rc<Board>,
-    /// How it stands.
+    /// Whether it goes on, and else how it ended.
     pub status: Status,
     /// The tick from which on its phase may be adjudicated.
     pub due: u64,
@@ -89,7 +89,7 @@ impl Public {
 /// The last letter of an author that was recorded, and its reply.
 #[derive(Drop)]
 pub struct Kept {
-    /// The letter's number.
+    /// The letter's number: a new letter of this author has to have a greater one.
     pub number: u32,
     /// SHA-256 of the letter's bytes.
     pub sum: [u8; 32],
@@ -120,17 +120,17 @@ pub(crate) fn last_copy(kept: &Option<Kept>) -> Result<Option<Kept>, AllocError>
     }
 }
 
-/// A standing order.
+/// An order that stands for the next phase, as its seat's row keeps it.
 #[derive(Drop)]
 pub struct Standing {
-    /// The province of its unit.
+    /// The province of its unit: of a seat's orders each has another one.
     pub prov: Prov,
-    /// Its canonical line.
+    /// The order as the judge prints it, which reads back as the same order.
     pub line: String,
 }
 
 impl Standing {
-    /// A copy of it.
+    /// Copies the order with its line.
     pub fn copy(&self) -> Result<Standing, AllocError>
         ensures { IfOk result (λ s. rows.standing s ≡ rows.standing self.now) }
     {
@@ -141,7 +141,7 @@ impl Standing {
     }
 }
 
-/// A copy of standing orders.
+/// Copies standing orders in their order.
 pub fn copy_standings(alloc: Global, pending: &[Standing]) -> Result<Vec<Standing>, AllocError>
     ensures { IfOk result (λ v. rows.standings v.items ≡ rows.standings pending.now) }
 {
@@ -152,10 +152,10 @@ pub fn copy_standings(alloc: Global, pending: &[Standing]) -> Result<Vec<Standin
     Ok(copy)
 }
 
-/// What a seat votes for.
+/// A seat's vote. A due tick draws the game where the votes of all survivors ask for the same draw.
 #[derive(Drop)]
 pub enum Vote {
-    /// No draw.
+    /// No draw, as every seat votes at first.
     No,
     /// A draw between all who survive at the tick.
     Yes,
@@ -164,7 +164,7 @@ pub enum Vote {
 }
 
 impl Vote {
-    /// A copy of it.
+    /// Copies the vote with its list of powers.
     pub fn copy(&self, alloc: Global) -> Result<Vote, AllocError>
         ensures { IfOk result (λ v. rows.vote v ≡ rows.vote self.now) }
     {
@@ -195,11 +195,11 @@ pub enum Item {
 /// What a seat may know beside the public part: its own part, but for the items of its inbox.
 #[derive(Drop)]
 pub struct Own {
-    /// The power that the seat plays.
+    /// The power that the seat plays; no other seat of its game plays it.
     pub power: Power,
     /// SHA-256 of the game, the power and the seat's secret.
     pub digest: [u8; 32],
-    /// What it votes for.
+    /// Its vote. It isn't changed when a phase is played.
     pub vote: Vote,
     /// Its standing orders, by province.
     pub pending: Vec<Standing>,
@@ -212,7 +212,7 @@ pub struct Own {
 }
 
 impl Own {
-    /// A copy of it.
+    /// Copies the own part; the lines of the last reply are shared.
     pub fn copy(&self, alloc: Global) -> Result<Own, AllocError>
         ensures { IfOk result (λ o. rows.own o ≡ rows.own self.now) }
     {
@@ -250,15 +250,15 @@ pub enum Outcome {
 /// Whose letter a reply answers.
 #[derive(Drop)]
 pub struct Head {
-    /// The letter's game.
+    /// The game's name, as the letter has it.
     pub game: String,
-    /// The letter's sender.
+    /// The power's name, or `master`.
     pub sender: String,
-    /// The letter's number.
+    /// The number that the sender gave the letter.
     pub number: u32,
 }
 
-/// An answer to a letter.
+/// What is answered to a letter, or to bytes that are no letter.
 #[derive(Drop)]
 pub struct Reply {
     /// What became of the letter.

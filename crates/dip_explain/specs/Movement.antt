@@ -24,7 +24,7 @@ forced_line m orders s k d value =
 unfoldable pub knot_text : ℕ → List ℕ
 knot_text n = if n == 1 then codes " has no route: it hangs on its own convoy" else codes " have no route: they hang on one another"
 
--- the line of a step
+-- a step's line: a decision that was forced, a circle of moves, or a knot of convoys
 unfoldable pub step_line : Chart → List PlacedOrder → Situation → Assignment → Known → Step → List ℕ
 step_line m orders s a k (Forced d) = forced_line m orders s k d (a d)
 step_line m orders s a k (Circle ps) = codes "circle: " ++ joined (order_in m orders) ps.items ++ codes " move together\n"

@@ -26,7 +26,7 @@ struct Ground<'a> {
     resolution: &'a Resolution,
 }
 
-/// The value of a decision in a resolution.
+/// The value that a resolution gives a decision: true where it lists the unit, and else false.
 fn value_in(resolution: &Resolution, d: &Decision) -> bool
     ensures { result ≡ values_in resolution.now d.now }
 {
@@ -48,7 +48,7 @@ fn learn(known: &mut Known, d: &Decision, value: bool)
     }
 }
 
-/// Gives these moves that they succeed.
+/// Notes that these moves succeed, where they are open.
 fn learn_moves(known: &mut Known, units: &[Prov])
     ensures { known_of known.new ≡ m.learned (known_of known.old) (moves_of units.now) true }
 {
@@ -57,7 +57,7 @@ fn learn_moves(known: &mut Known, units: &[Prov])
     }
 }
 
-/// Gives these moves that they have no route.
+/// Notes that these moves have no route, where that is open.
 fn learn_no_paths(known: &mut Known, units: &[Prov])
     ensures { known_of known.new ≡ m.learned (known_of known.old) (paths_of units.now) false }
 {
@@ -144,7 +144,7 @@ impl Ground<'_> {
         out.push_str("\n")
     }
 
-    /// Appends the line of a step.
+    /// Appends the line of a step: a decision that was forced, a circle, or a knot.
     #[tactic(auto, unfolding(crate::specs::Movement::step_line))]
     fn push_step(
         &self,
@@ -165,7 +165,7 @@ impl Ground<'_> {
         }
     }
 
-    /// Learns the value of a decision.
+    /// Notes the value that the resolution gives a decision, if it is open.
     fn learn_forced(&self, known: &mut Known, d: &Decision)
         ensures { known_of known.new
             ≡ m.given_to (known_of known.old) d.now (values_in self.now.resolution.now d.now)
@@ -175,7 +175,8 @@ impl Ground<'_> {
         learn(known, d, value);
     }
 
-    /// Learns what a step gives.
+    /// Notes what a step gives: the decision that it forces, the moves of its circle, or the lost
+    /// routes of its knot.
     fn learn_step(&self, known: &mut Known, step: &Step)
         ensures { known_of known.new ≡ m.known_after (known_of known.old) step.now (values_in
             self.now.resolution.now) }

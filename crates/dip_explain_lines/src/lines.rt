@@ -22,7 +22,7 @@ pub enum Saying {
     Cuts(Prov),
     /// By its move the support of this unit isn't cut.
     Spares(Prov),
-    /// It carries an army.
+    /// As a fleet it carries an army that has a route.
     Serves,
     /// It is to carry an army that has no route.
     Strands,
@@ -375,7 +375,7 @@ fn cutters(case: &Case<'_>, alloc: Global, h: Prov) -> Result<Vec<Prov>, AllocEr
         .collect(alloc)
 }
 
-/// The moves to a province.
+/// The units whose orders send them into the province, in the table's order.
 fn movers(case: &Case<'_>, alloc: Global, h: Prov) -> Result<Vec<Prov>, AllocError>
     ensures { IfOk result
         (λ v. v.items ≡ m.movers (situation_of case.now.corner.table.now) h) }

@@ -157,7 +157,7 @@ fn push_next(map: &Map, unit: &Unit, left: &[Unit], out: &mut String) -> Result<
     }
 }
 
-/// The units of a power among these.
+/// Those of these units that are the power's, in their order.
 fn units_of_power(alloc: Global, power: Power, units: &[Unit]) -> Result<Vec<Unit>, AllocError>
     ensures { IfOk result (λ v. v.items ≡ units_of_power power units.now) }
 {
@@ -208,7 +208,7 @@ fn push_disorder(
     out.push_str("\n")
 }
 
-/// The units without that of a province.
+/// Those of these units that stand in other provinces.
 fn without(alloc: Global, prov: Prov, units: &[Unit]) -> Result<Vec<Unit>, AllocError>
     ensures { IfOk result (λ v. v.items ≡ without prov units.now) }
 {
@@ -292,7 +292,7 @@ fn push_all_removals(
     Ok(())
 }
 
-/// Appends the lines of waivers.
+/// Appends a line for each power that let builds go.
 fn push_all_waivers(
     map: &Map,
     board: &Board,
@@ -308,7 +308,7 @@ fn push_all_waivers(
     Ok(())
 }
 
-/// The waivers of a power.
+/// Those of these waivers that are the power's.
 fn waivers_of(alloc: Global, power: Power, waivers: &[Waiver]) -> Result<Vec<Waiver>, AllocError>
     ensures { IfOk result (λ v. v.items ≡ filter (w.is_by power) waivers.now) }
 {

@@ -71,7 +71,7 @@ abbrev pub joined : (ℕ → List ℕ) → List ℕ → List ℕ
 joined text [] = []
 joined text (p ∷ ps) = text p ++ others text ps
 
--- the same, and another text where there are none
+-- these texts with commas between them; where there are none, another text
 abbrev pub joined_or : List ℕ → (ℕ → List ℕ) → List ℕ → List ℕ
 joined_or none text [] = none
 joined_or none text (p ∷ ps) = text p ++ others text ps

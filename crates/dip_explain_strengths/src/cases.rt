@@ -7,7 +7,7 @@ use dip_orders::PlacedOrder;
 #[derive(Clone, Copy)]
 pub struct Case<'a> {
     pub map: &'a Map,
-    /// The orders as they are meant.
+    /// The orders of the movement as they are meant on its board (`meant`).
     pub orders: &'a [PlacedOrder],
     /// The completion at which the line is told: the greatest for a decision that came out false, else the least.
     pub corner: Corner<'a>,

@@ -8,7 +8,7 @@ use dip_names::Prov;
 use dip_orders::{PlacedOrder, print_order, print_unit};
 use std::alloc::AllocError;
 
-/// The order of the unit in a province.
+/// The first of these orders whose unit stands in the province, if there is one.
 fn order_at(orders: &[PlacedOrder], p: Prov) -> Option<PlacedOrder>
     ensures { result ≡ order_at orders.now p }
 {
@@ -20,7 +20,7 @@ fn order_at(orders: &[PlacedOrder], p: Prov) -> Option<PlacedOrder>
     None
 }
 
-/// Appends the unit in a province.
+/// Appends the unit in a province, or the province's code where none has an order.
 pub(crate) fn push_unit(
     map: &Map,
     orders: &[PlacedOrder],
@@ -37,7 +37,7 @@ pub(crate) fn push_unit(
     }
 }
 
-/// Appends the order of the unit in a province.
+/// Appends the order of the unit in a province, or the province's code where none has an order.
 #[tactic(auto, unfolding(crate::specs::Matters::order_in))]
 pub fn push_order(
     map: &Map,

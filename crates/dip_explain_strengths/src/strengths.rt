@@ -122,7 +122,7 @@ impl Case<'_> {
         corner.prevent(p, q)
     }
 
-    /// Appends the unit in a province.
+    /// Appends the unit in a province, or the province's code where none has an order.
     #[tactic(auto, unfolding(crate::specs::Matters::unit_in))]
     pub fn push_unit(&self, p: Prov, out: &mut String) -> Result<(), AllocError>
         ensures { OnOk result
@@ -131,7 +131,7 @@ impl Case<'_> {
         push_unit(self.map, self.orders, p, out)
     }
 
-    /// Appends the code of a province.
+    /// Appends a province's code, by which lines name a province.
     pub fn push_code(&self, p: Prov, out: &mut String) -> Result<(), AllocError>
         ensures { OnOk result
             (string_bytes out.new ≡ string_bytes out.old ++ code self.now.map.now p) }

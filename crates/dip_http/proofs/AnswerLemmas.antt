@@ -245,7 +245,7 @@ posted_by m known left bytes head rest old new (refuse status allow) c is asks h
 posted_by m known left bytes head rest old new (show_game name) c is asks h = absurd h
 posted_by m known left bytes head rest old new (show_paper name number) c is asks h = absurd h
 
--- the same, of what the code found: a front, a plan's verdict, whether it is HEAD, and what stands after the head
+-- an answer that carries out a verdict on a request's front, as the code found it, is the answer to all that the connection gives
 pub fronted_whole : (m : Chart) (known left : Option (List ℕ)) (bytes : List ℕ) (front : RequestFront) (v : Verdict) (quiet : Bool) (start : List ℕ)
     (old new : State) (a b : Option (List ℕ)) (r : Result (Unit {0}) HttpFault) → Consumes known left bytes → IsFront bytes (Head front)
     → v ≡ ask_verdict front.method.now (option_map ask_view front.asked) → quiet ≡ is_head front.method.now → start ≡ drop front.size bytes

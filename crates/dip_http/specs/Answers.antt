@@ -22,7 +22,8 @@ head_of status words kind size allow =
     ++ (codes "\r\nContent-Length: " ++ (size
     ++ (allow ++ codes "\r\nConnection: close\r\n\r\n"))))))))
 
--- the same of a status, a type, the methods that are allowed and the size of a body
+-- the head of an answer: its status in digits with its phrase, its type, the size of its body in digits, and the methods that are allowed, where
+-- there is such a field
 abbrev pub head_bytes : ℕ → List ℕ → Option (List ℕ) → ℕ → List ℕ
 head_bytes status kind allow size = head_of (decimal status) (phrase status) kind (decimal size) (allow_field allow)
 

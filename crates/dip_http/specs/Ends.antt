@@ -48,7 +48,7 @@ pub record Shows (text : List ℕ) (old new : State) (before after : Option (Lis
   pub same : new ≡ old
   pub written : Appends before after text
 
--- the same, ended by a fault: a beginning of the text was written, nothing or a beginning of the 503
+-- the desk stays, and a fault ended the showing of this text: a beginning of the text was written, or nothing, or a beginning of the 503
 abbrev pub ShowsPart : HttpFault → Bool → List ℕ → State → State → Option (List ℕ) → Option (List ℕ) → Type 0
 ShowsPart Read quiet text old new before after = (new ≡ old) × (after ≡ before)
 ShowsPart Memory quiet text old new before after = (new ≡ old) × (after ≡ before)
@@ -59,7 +59,8 @@ ShowsPart (Keep fault) quiet text old new before after = (new ≡ old) × IsPart
 abbrev pub PostsTo : Chart → List ℕ → State → State → Option (List ℕ) → Option (List ℕ) → Type 0
 PostsTo m body old new before after = (answer : List ℕ) × Posts m body old answer new × Appends before after answer
 
--- the same, ended by a fault
+-- the answering of a body ended by a fault: the reader's or want of memory before anything was written, the writer's after the letter was taken, or
+-- the keeper's with a beginning of the 503
 abbrev pub PostsToPart : Chart → HttpFault → List ℕ → State → State → Option (List ℕ) → Option (List ℕ) → Type 0
 PostsToPart m Read body old new before after = (new ≡ old) × (after ≡ before)
 PostsToPart m Memory body old new before after = (new ≡ old) × (after ≡ before)
@@ -79,7 +80,7 @@ pub record Carried (m : Chart) (verdict : Verdict) (quiet : Bool) (start : List 
   pub carries : Carries m verdict quiet (start ++ more) old answer new
   pub written : Appends before after answer
 
--- the same, with a beginning of the answer written
+-- a verdict was carried out over what stood after the head and all that a reader had left, and a beginning of its answer was written
 pub record PartCarried (m : Chart) (verdict : Verdict) (quiet : Bool) (start : List ℕ) (known : Option (List ℕ)) (old new : State)
     (before after : Option (List ℕ)) : Type 0 where
   pub more : List ℕ
@@ -108,14 +109,14 @@ pub record TakesMail (m : Chart) (body : List ℕ) (old new : State) : Type 0 wh
   pub reply : Reply
   pub step : Step m old letter reply new
 
--- the same of a body of this size after a head
+-- the letter that a body of this size after a head is was taken by a step
 pub record TakesBody (m : Chart) (size : ℕ) (start : List ℕ) (known : Option (List ℕ)) (old new : State) : Type 0 where
   pub more : List ℕ
   pub left : WasLeft known more
   pub whole : size ≤ length (start ++ more)
   pub takes : TakesMail m (take size (start ++ more)) old new
 
--- and of the body that a verdict takes; others take none
+-- the letter that is the body which a verdict takes was taken by a step; verdicts other than take_letter take none
 abbrev pub TakesBy : Chart → Verdict → List ℕ → Option (List ℕ) → State → State → Type 0
 TakesBy m (take_letter size) start known old new = TakesBody m size start known old new
 TakesBy m _ start known old new = ⊥
@@ -124,7 +125,7 @@ TakesBy m _ start known old new = ⊥
 abbrev pub ReadsBody : Chart → ℕ → List ℕ → Option (List ℕ) → State → State → Option (List ℕ) → Option (List ℕ) → Type 0
 ReadsBody m size start known old new before after = Carried m (take_letter size) false start known old new before after
 
--- the same, ended by a fault
+-- the reading and answering of a body ended by a fault
 abbrev pub ReadsBodyPart : Chart → HttpFault → ℕ → List ℕ → Option (List ℕ) → State → State → Option (List ℕ) → Option (List ℕ) → Type 0
 ReadsBodyPart m fault size start known old new before after = CarriedBy m fault (take_letter size) false start known old new before after
 

@@ -71,7 +71,8 @@ pub record MeetsTo {K : Type 0} (m : Chart) (b : Book K) (count : ℕ) (old new 
   pub meets : Meets m n (b.content m old) state
   pub ends : (Ends m b old new state (TakesOne m state) × (b.shows new → n ≡ count)) ⊎ Rises (b.told old) (b.told new)
 
--- the same by the history that they make
+-- at most so many clients, over a keeper that was open, made one history of letters, and a crash leaves the state after it, or after a letter more.
+-- Or a fault of the disk came with one that was told of want of memory, and nothing is said of a crash after that
 pub record ServesTo {K : Type 0} (m : Chart) (b : Book K) (count : ℕ) (old new : K) : Type 0 where
   pub n : ℕ
   pub most : n ≤ count

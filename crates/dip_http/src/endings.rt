@@ -16,7 +16,8 @@ use http::StatusCode;
 use itoa::Buffer;
 use std::io::Write;
 
-/// Writes a refusal.
+/// Writes a refusal as a whole answer; a quiet one leaves its body out. The only fault is the
+/// writer's, which may leave a beginning of the answer.
 pub fn refuse<W: Write>(writer: &mut W, why: HttpRefusal, quiet: bool) -> Result<(), HttpFault>
     ensures ok { OnOk result (Appends (W.contents writer.old) (W.contents writer.new)
         (refusal (status_number why) (allowed why) quiet)) }

@@ -6,7 +6,8 @@ use dip_desk_state::KeepFault;
 use std::error::Error;
 use std::fmt;
 
-/// Why a connection ends early.
+/// Why a connection ended by a fault. Each case says what was written by then, and whether a letter
+/// was taken.
 #[derive(Clone, Copy, Debug, PartialEq, Eq)]
 pub enum HttpFault {
     /// The reader failed; nothing was written, and no letter was taken.

@@ -25,7 +25,7 @@ fn is_named(field: &[u8], name: &[u8]) -> bool
     field.eq_ignore_ascii_case(name)
 }
 
-/// With one field more of that name.
+/// Counts one field more of that name: from the second one on they are `Often`.
 fn one_more<'b>(found: Found<'b>, value: &'b [u8]) -> Found<'b>
     ensures { found_view result ≡ found_more (found_view found.entry) value.entry.now }
 {

@@ -12,7 +12,7 @@ use httparse::spans::{EMPTY_HEADER_SPAN, HeaderSpan, RequestSpans, parse_request
 
 /// The most bytes of a head, with its first line and the empty line at its end.
 pub const MOST_HEAD: usize = 8192;
-/// The most fields of a head.
+/// The most fields of a head: with more of them the bytes are no head.
 pub const MOST_FIELDS: usize = 32;
 
 /// What a head asks for.
@@ -35,14 +35,14 @@ pub struct RequestFront<'b> {
     pub size: usize,
 }
 
-/// What the first bytes of a connection are.
+/// Whether the bytes that were read so far begin with a head.
 #[derive(Clone, Copy)]
 pub enum Front<'b> {
     /// No head yet; one may come with more bytes.
     More,
     /// No head, whatever follows.
     NoHead,
-    /// They begin with this head.
+    /// A whole head, of at most `MOST_HEAD` bytes and `MOST_FIELDS` fields; a body may follow.
     Head(RequestFront<'b>),
 }
 
@@ -95,7 +95,8 @@ fn parts_of<'b>(buf: &'b [u8], headers: &[HeaderSpan], head: &RequestSpans) -> R
     }
 }
 
-/// What the first bytes of a connection are.
+/// Looks for a head at the beginning of these bytes. It is decided once it is found, once the bytes
+/// can't become one, and at `MOST_HEAD` bytes without one.
 pub fn front_of(buf: &[u8]) -> Front<'_>
     ensures { IsFront buf.entry.now result }
 {

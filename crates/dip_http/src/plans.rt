@@ -14,10 +14,10 @@ use crate::table::{Route, Routes};
 use http::Method;
 use matchit::Params;
 
-/// What is to be done with a request.
+/// How a request is to be answered, as far as its head tells; the desk hasn't been asked yet.
 #[derive(Clone, Copy)]
 pub enum Plan<'b> {
-    /// It is refused.
+    /// The head alone is reason enough to refuse it.
     Refuse(HttpRefusal),
     /// The public part of the game of this name is shown.
     Game(&'b str),
@@ -111,7 +111,8 @@ fn path_plan<'b>(routes: &Routes, method: &[u8], size: Size, path: &'b str) -> P
     }
 }
 
-/// The plan for a request.
+/// The plan for a request, by its method, its path and the size of its body. It is refused with 400
+/// where its fields or its target are refused.
 pub fn plan_of<'b>(routes: &Routes, front: &RequestFront<'b>) -> Plan<'b>
     requires { IfSome front.now.asked (λ a. IsAscii a.path.now) }
     ensures { plan_view result

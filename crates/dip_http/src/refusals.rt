@@ -5,7 +5,7 @@ ghost use Rattle.dip_http.specs.AnswerViews.{allowed, status_number};
 
 use http::StatusCode;
 
-/// Why a request is refused.
+/// The reasons to refuse a request, each with the status that its answer has.
 #[derive(Clone, Copy, Debug, PartialEq, Eq)]
 pub enum HttpRefusal {
     /// 400: there is no head within the limits, its fields or its target are refused, or the input ends early.
@@ -25,7 +25,7 @@ pub enum HttpRefusal {
 }
 
 impl HttpRefusal {
-    /// The status of the answer.
+    /// The answer's status. `OnlyPost` and `OnlyGet` both have 405.
     pub fn status(self) -> StatusCode
         ensures { result ≡ status_number self }
     {

@@ -64,7 +64,7 @@ pub fn show_game<W: Write, K: Keeper>(
     }
 }
 
-/// Shows the paper of a number.
+/// Shows the game's paper of that number as text; it is 404 where there is no such game or paper.
 fn show_numbered<W: Write, K: Keeper>(
     writer: &mut W,
     keeper: &mut K,

@@ -8,10 +8,10 @@ ghost use Rattle.dip_http.specs.HeadViews.{found_view};
 
 use crate::fields::Found;
 
-/// The most bytes of a body.
+/// The most bytes of a body, which are those of a letter: a larger one is refused with 413.
 pub const MOST_BODY: usize = 16384;
 
-/// How long a head says that its body is.
+/// The size of a body by its Content-Length, compared with the limit.
 #[derive(Clone, Copy, Debug, PartialEq, Eq)]
 pub enum Size {
     /// It has no Content-Length.

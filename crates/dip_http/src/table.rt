@@ -9,11 +9,11 @@ use std::alloc::{AllocError, Global};
 /// or paper.
 #[derive(Clone, Copy, Debug, PartialEq, Eq)]
 pub enum Route {
-    /// Where letters are handed in.
+    /// `/letters`, where letters are handed in.
     Letters,
-    /// A game, by its name.
+    /// `/games/{game}`: a game, by its name.
     Game,
-    /// A paper, by the name of its game and its number.
+    /// `/games/{game}/papers/{number}`: a paper, by the name of its game and its number.
     Paper,
 }
 

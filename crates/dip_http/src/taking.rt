@@ -36,7 +36,8 @@ fn letter_in(body: &[u8]) -> Option<Letter<'_>>
     }
 }
 
-/// The status of a reply.
+/// The status of a reply: 200 where the letter was done or refused by the rules, 403 where nobody
+/// is known as its author, and 409 where its number is out of turn.
 fn status_of(outcome: Outcome) -> StatusCode
     ensures { result ≡ status_of outcome }
 {

@@ -26,7 +26,7 @@ pub struct Timed<'a, C: Clock> {
 }
 
 impl<'a, C: Clock> Timed<'a, C> {
-    /// The client's time begins: `MOST_SILENT_SECONDS` until its first byte, and then
+    /// The client's time begins. It has `MOST_SILENT_SECONDS` until its first byte, and then
     /// `MOST_SECONDS` from the start.
     ///
     /// # Errors
@@ -52,7 +52,7 @@ impl<'a, C: Clock> Timed<'a, C> {
         Ok(())
     }
 
-    /// The time that the client has left.
+    /// What is left of the limit by the clock, which is nothing once it has passed.
     fn time_left(&self) -> io::Result<Duration> {
         let gone = self.start.elapsed(self.clock)?;
         Ok(self.limit.saturating_sub(gone))

@@ -10,7 +10,7 @@ use http::StatusCode;
 use itoa::Buffer;
 use std::io::Write;
 
-/// The writer failed.
+/// The writer failed; it may have taken a beginning of the bytes.
 #[derive(Clone, Copy, Debug, PartialEq, Eq)]
 pub struct Unwritten;
 
@@ -18,7 +18,7 @@ pub struct Unwritten;
 #[derive(Clone, Copy)]
 pub struct Answer {
     pub status: StatusCode,
-    /// The Content-Type.
+    /// What the field Content-Type says: `application/json` of a game, `text/plain` of all else.
     pub kind: &'static str,
     /// The methods that are allowed, where another one was used.
     pub allow: Option<&'static str>,

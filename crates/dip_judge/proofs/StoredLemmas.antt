@@ -120,7 +120,7 @@ holds_still g m old k kept opened still same = subst (λ (s : State). Holds g m 
 pub ends_still : {S : Type 0} (g : Ghosts S) (m : Chart) (Fault : Type 0) (old : State) (new : Held S) (More : State → Type 0) → Holds g m old new → StoreEnds g m Fault new old More
 ends_still g m _ old new More it = record { left = λ db may. (it.again db may, inl (it.only db may)); shown = λ shows. it; goes = inl it }
 
--- the same of one that was made anew from version 1
+-- a store that was made anew from version 1, whose keeper is open and as it was opened
 pub old_ends_still : {S : Type 0} (g : Ghosts S) (m : Chart) (Fault : Type 0) (old : State) (new : Held S) → Holds g m old new → OldEnds g m Fault new old
 old_ends_still g m _ old new it =
     let renewed : MayRenew g m new old = λ db may. inr (it.again db may, it.only db may) in

@@ -23,7 +23,7 @@ IsOpenFault Memory = Unit {0}
 IsOpenFault Disk = Unit {0}
 IsOpenFault _ = ⊥
 
--- the same, or there is no file
+-- a file that isn't found or isn't opened: there is no such file, or want of memory, or the disk
 abbrev pub IsFindFault : StoreFault → Type 0
 IsFindFault OtherSchema = Unit {0}
 IsFindFault fault = IsOpenFault fault
@@ -48,7 +48,8 @@ pub record StopsIn {S : Type 0} (g : Ghosts S) (m : Chart) (Fault : Type 0) (fau
   pub stops : Stops m fault input old state before after
   pub ends : StoreEnds g m Fault new state (TakesNext m stops.rest state)
 
--- the same up to a failure: of the store, and nothing was read; or of the run, and nothing was written, or a front of the input was answered
+-- answering from a store stopped at a failure: of the store, and nothing was read; or of the run, and nothing was written, or a front of the input
+-- was answered
 abbrev pub StopsFrom : {S : Type 0} → Ghosts S → Chart → Type 0 → State → Held S → Option (List ℕ) → Option (List ℕ) → Option (List ℕ) → Option (List ℕ) → Failure → Type 0
 StopsFrom g m Fault old new known left before after (Store fault) =
     IsIdle known left before after × StoreEnds g m Fault new old (λ _. ⊥)
@@ -86,7 +87,7 @@ abbrev pub OldStopsReport : {S : Type 0} → Ghosts S → Chart → Type 0 → L
 OldStopsReport g m Fault game s new before after (Store fault) = (after ≡ before) × OldEnds g m Fault new s
 OldStopsReport g m Fault game s new before after failure = StopsReport g m Fault game s new before after failure
 
--- a failure of a report
+-- a report may fail by its store, by a game that isn't there, or while papers are written
 abbrev pub IsReportFailure : Failure → Type 0
 IsReportFailure (Store fault) = Unit {0}
 IsReportFailure NoGame = Unit {0}

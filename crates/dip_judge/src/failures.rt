@@ -20,7 +20,7 @@ use std::{fmt, io};
 pub enum Failure {
     /// The arguments ask for nothing.
     Usage(UsageFault),
-    /// There is no map.
+    /// The map's file can't be read, or its text says no map.
     Map(NoMap),
     /// The store isn't opened, or no desk is made in it.
     Store(StoreFault),

@@ -5,7 +5,7 @@ use Rattle.dip_judge_runs.specs.Runs.{IsReadToEnd, IsUntouched}
 use Rattle.dip_judge_runs.specs.declared.run.RunFault.{RunFault}
 use Rattle.dip_judge_runs.specs.declared.run.RunFault.TheVariants.{Read, TooLong, Write, Memory, Keep}
 
--- a fault of reading
+-- the input can't be read: by the reader's fault, its size, or want of memory
 abbrev pub IsReadingFault : RunFault → Type 0
 IsReadingFault Read = Unit {0}
 IsReadingFault TooLong = Unit {0}

@@ -21,7 +21,7 @@ use Rattle.dip_judge_runs.specs.declared.run.RunFault.TheVariants.{Write}
 abbrev pub IsReadWhole : Option (List ℕ) → Option (List ℕ) → List ℕ → Type 0
 IsReadWhole before after input = IsReadWithin 16777216 before after input
 
--- the same of some input
+-- the reader gave some whole input, which is within the limit, and nothing is left
 abbrev pub IsReadToEnd : Option (List ℕ) → Option (List ℕ) → Type 0
 IsReadToEnd before after = (input : List ℕ) × IsReadWhole before after input
 
@@ -107,8 +107,8 @@ pub record Stops (m : Chart) (fault : RunFault) (input : List ℕ) (old new : St
   pub front : AnswersFront m input old new replies rest
   pub written : IsWritten fault before after replies
 
--- the same over a keeper that was open: the state after the letters so answered is what the keeper has and a crash leaves, or that
--- after the next letter too
+-- a front of the input was answered over a keeper that was open, up to a fault: the keeper has the state after the letters so answered, and a crash
+-- leaves that one or the one after the next letter too
 pub record StopsAt {K : Type 0} (m : Chart) (b : Book K) (fault : RunFault) (input : List ℕ) (old new : K) (before after : Option (List ℕ))
     : Type 0 where
   pub state : State

@@ -50,7 +50,7 @@ impl fmt::Display for FileFault {
 
 impl Error for FileFault {}
 
-/// The text that these bytes are.
+/// Takes the bytes for a text if they are UTF-8.
 fn text_of(bytes: Vec<u8>) -> Result<String, FileFault>
     ensures text { IfOk result (λ t. string_bytes t ≡ bytes.items) }
     ensures fault { IfErr result (λ f. (f ≡ FileFault.NotUtf8) × ¬ IsUtf8 bytes.items) }

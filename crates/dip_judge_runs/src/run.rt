@@ -24,7 +24,7 @@ use std::error::Error;
 use std::fmt;
 use std::io::{Read, Write};
 
-/// The most bytes of an input.
+/// The most bytes of an input, 16 MiB: of a longer one no letter is taken.
 pub const MOST_INPUT: usize = 16_777_216;
 
 /// Why a run ended early.

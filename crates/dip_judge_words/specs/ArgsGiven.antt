@@ -65,7 +65,7 @@ abbrev pub GivesCommand : List Text → Args → Type 0
 GivesCommand words a = (fault_of judge_command words ≡ [])
     × ((found : Found) × (subcommand_of judge_command words ≡ Some found) × Shows found a)
 
--- what the words ask for
+-- the words ask for the version, or give a command with its values
 abbrev pub IsGiven : List Text → Args → Type 0
 IsGiven words Version = AsksVersion words
 IsGiven words a = GivesCommand words a

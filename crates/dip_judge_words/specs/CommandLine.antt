@@ -6,7 +6,7 @@ use Rattle.clap.specs.Words.{App, Rule, Text, new_app, new_rule, with_rule, with
 abbrev pub option_rule : Text → Rule
 option_rule name = record (new_rule name) { long = Some name; value_names = 1 }
 
--- the same of a command that wants it
+-- the option of that name, with one value, which its command requires
 abbrev pub required_rule : Text → Rule
 required_rule name = record (option_rule name) { required = true }
 
@@ -51,7 +51,7 @@ mail_command = with_subcommand (with_subcommand (on_required (new_app (codes "di
     on_required : App → App
     on_required a = record a { top = record a.top { has_version = true; subcommand_required = true } }
 
--- the same with the commands over a store alone
+-- the program with the first four commands: `serve` and `report` work over a store alone
 abbrev pub desk_command : App
 desk_command = with_subcommand (with_subcommand mail_command serve_command.top) report_command.top
 

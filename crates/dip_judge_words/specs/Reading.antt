@@ -8,7 +8,7 @@ abbrev pub Answers : Found → Option Args → Type 0
 Answers found (Some a) = Shows found a × IsFit a
 Answers found None = (a : Args) → Shows found a → IsFit a → ⊥
 
--- the same where nothing may be found
+-- the answer is what was found, where something was found and is fit, and else none
 abbrev pub AnswersAt : Option Found → Option Args → Type 0
 AnswersAt given (Some a) = (found : Found) × (given ≡ Some found) × Shows found a × IsFit a
 AnswersAt given None = (found : Found) (a : Args) → given ≡ Some found → Shows found a → IsFit a → ⊥

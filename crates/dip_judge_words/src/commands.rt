@@ -27,7 +27,7 @@ fn command_of<'a>(
     Command::new(alloc, name).arg(first)?.arg(second)
 }
 
-/// The command `init`.
+/// `init --store F --master S [--map M]`, as in `CommandLine.antt`, with its help.
 fn init_command<'a>(alloc: Global) -> Result<Command<'a>, AllocError>
     ensures app { IfOk result (λ c. app_of c ≡ init_command) }
     ensures local { IfOk result (λ c. (fields_of c).has_globals ≡ false) }
@@ -37,7 +37,8 @@ fn init_command<'a>(alloc: Global) -> Result<Command<'a>, AllocError>
     Ok(command.about("Makes the judge's tables in a file"))
 }
 
-/// The command `letters`, as far as its options.
+/// `letters [--store F] [--master S] [--map M]`: clap takes it with both of the first two and with
+/// neither, and `letters_of` wants exactly one.
 fn letters_options<'a>(alloc: Global) -> Result<Command<'a>, AllocError>
     ensures app { IfOk result (λ c. app_of c ≡ letters_command) }
     ensures local { IfOk result (λ c. (fields_of c).has_globals ≡ false) }
@@ -45,7 +46,7 @@ fn letters_options<'a>(alloc: Global) -> Result<Command<'a>, AllocError>
     command_of(alloc, "letters", store_arg(alloc), master_arg(alloc))?.arg(map_arg(alloc))
 }
 
-/// The command `letters`.
+/// `letters` with its help, whose usage says that one of store and master is needed.
 fn letters_command<'a>(alloc: Global) -> Result<Command<'a>, AllocError>
     ensures app { IfOk result (λ c. app_of c ≡ letters_command) }
     ensures local { IfOk result (λ c. (fields_of c).has_globals ≡ false) }
@@ -58,7 +59,7 @@ fn letters_command<'a>(alloc: Global) -> Result<Command<'a>, AllocError>
     ))
 }
 
-/// The command `serve`.
+/// `serve --store F --port P --count N [--map M]`, with its help.
 fn serve_command<'a>(alloc: Global) -> Result<Command<'a>, AllocError>
     ensures app { IfOk result (λ c. app_of c ≡ serve_command) }
     ensures local { IfOk result (λ c. (fields_of c).has_globals ≡ false) }
@@ -68,7 +69,7 @@ fn serve_command<'a>(alloc: Global) -> Result<Command<'a>, AllocError>
     Ok(command.about("Serves HTTP connections on 127.0.0.1, one after the other"))
 }
 
-/// The command `serve`, as far as its store and port.
+/// The beginning of `serve`: its store and its port, both required.
 fn listening_command<'a>(alloc: Global) -> Result<Command<'a>, AllocError>
     ensures app { IfOk result (λ c. app_of c ≡ listening_command) }
     ensures local { IfOk result (λ c. (fields_of c).has_globals ≡ false) }
@@ -76,7 +77,7 @@ fn listening_command<'a>(alloc: Global) -> Result<Command<'a>, AllocError>
     command_of(alloc, "serve", required_store(alloc), port_arg(alloc))
 }
 
-/// The command `report`.
+/// `report --store F --game G [--map M]`, with its help.
 fn report_command<'a>(alloc: Global) -> Result<Command<'a>, AllocError>
     ensures app { IfOk result (λ c. app_of c ≡ report_command) }
     ensures local { IfOk result (λ c. (fields_of c).has_globals ≡ false) }
@@ -86,7 +87,7 @@ fn report_command<'a>(alloc: Global) -> Result<Command<'a>, AllocError>
     Ok(command.about("Prints all papers of a game, in order"))
 }
 
-/// The command `check`.
+/// `check [--map M]`, with its help. It opens no store.
 fn check_command<'a>(alloc: Global) -> Result<Command<'a>, AllocError>
     ensures app { IfOk result (λ c. app_of c ≡ check_command) }
     ensures local { IfOk result (λ c. (fields_of c).has_globals ≡ false) }
@@ -95,7 +96,7 @@ fn check_command<'a>(alloc: Global) -> Result<Command<'a>, AllocError>
     Ok(command.about("Checks the papers of a game on standard input, with no tables"))
 }
 
-/// The command `explain`.
+/// `explain --paper N [--map M]`, with its help. It opens no store.
 fn explain_command<'a>(alloc: Global) -> Result<Command<'a>, AllocError>
     ensures app { IfOk result (λ c. app_of c ≡ explain_command) }
     ensures local { IfOk result (λ c. (fields_of c).has_globals ≡ false) }

@@ -8,7 +8,7 @@ use clap::error::ErrorKind;
 use std::alloc::AllocError;
 use std::fmt;
 
-/// Why the words ask for nothing.
+/// Why no command can be run by these arguments.
 #[derive(Drop)]
 pub enum UsageFault {
     /// `clap` refuses the words, or help was asked for; its text says which.

@@ -59,7 +59,8 @@ pub fn required_master<'a>(alloc: Global) -> Arg<'a>
     master_arg(alloc).required(true)
 }
 
-/// The option `--port PORT`.
+/// The option `--port PORT`, which its command needs. clap takes any text; `serve_of` checks the
+/// number.
 pub fn port_arg<'a>(alloc: Global) -> Arg<'a>
     ensures rule { rule_of result ≡ required_rule (codes "port") }
     ensures plain { IsPlainArg result }
@@ -74,7 +75,8 @@ pub fn port_arg<'a>(alloc: Global) -> Arg<'a>
     .required(true)
 }
 
-/// The option `--count NUMBER`.
+/// The option `--count NUMBER`, which its command needs. clap takes any text; `serve_of` checks the
+/// number.
 pub fn count_arg<'a>(alloc: Global) -> Arg<'a>
     ensures rule { rule_of result ≡ required_rule (codes "count") }
     ensures plain { IsPlainArg result }
@@ -89,7 +91,8 @@ pub fn count_arg<'a>(alloc: Global) -> Arg<'a>
     .required(true)
 }
 
-/// The option `--game GAME`.
+/// The option `--game GAME`, which its command needs. Any text is taken: one that names no game is
+/// found in no store.
 pub fn game_arg<'a>(alloc: Global) -> Arg<'a>
     ensures rule { rule_of result ≡ required_rule (codes "game") }
     ensures plain { IsPlainArg result }
@@ -98,7 +101,8 @@ pub fn game_arg<'a>(alloc: Global) -> Arg<'a>
     option_arg(alloc, "game", "GAME", "The game whose papers are printed").required(true)
 }
 
-/// The option `--paper NUMBER`.
+/// The option `--paper NUMBER`, which its command needs. clap takes any text; `explain_of` checks
+/// the number.
 pub fn paper_arg<'a>(alloc: Global) -> Arg<'a>
     ensures rule { rule_of result ≡ required_rule (codes "paper") }
     ensures plain { IsPlainArg result }
@@ -113,7 +117,8 @@ pub fn paper_arg<'a>(alloc: Global) -> Arg<'a>
     .required(true)
 }
 
-/// The option `--map FILE`.
+/// The option `--map FILE`, which every command has and may go without: then the map is the
+/// standard one.
 pub fn map_arg<'a>(alloc: Global) -> Arg<'a>
     ensures rule { rule_of result ≡ option_rule (codes "map") }
     ensures plain { IsPlainArg result }

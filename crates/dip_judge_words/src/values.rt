@@ -8,14 +8,15 @@ use crate::numbers::number_of;
 use clap::ArgMatches;
 use dip_letters::is_secret;
 
-/// The value of an option.
+/// The first value that clap found for an option, if it found one.
 fn value_of<'a>(found: &ArgMatches<'a>, option: &str) -> Option<&'a str>
     ensures { option_map (λ s. s.now) result ≡ first_of option.now (rows_of (found_of found.now)) }
 {
     found.get_str(option)
 }
 
-/// What `init` asks for.
+/// A desk to be made in a store, for a master with a secret. `None` without both, or where the
+/// secret isn't 8 to 64 printable ASCII characters without a space.
 pub fn init_of<'a>(found: &ArgMatches<'a>) -> Option<Args<'a>>
     ensures { Answers (codes "init", rows_of (found_of found.now)) result }
 {
@@ -32,7 +33,8 @@ pub fn init_of<'a>(found: &ArgMatches<'a>) -> Option<Args<'a>>
     Some(Args::Init { store, master, map })
 }
 
-/// What `letters` asks for: letters over a store, or in memory.
+/// Letters to be taken over a store, or in memory for a master with a secret. `None` where store
+/// and master are both named or both missing, or where the secret is none.
 pub fn letters_of<'a>(found: &ArgMatches<'a>) -> Option<Args<'a>>
     ensures { Answers (codes "letters", rows_of (found_of found.now)) result }
 {
@@ -53,7 +55,8 @@ pub fn letters_of<'a>(found: &ArgMatches<'a>) -> Option<Args<'a>>
     Some(Args::Stored { store, map })
 }
 
-/// What `serve` asks for.
+/// Connections to be served over a store. `None` where an option is missing, the port isn't 1 to
+/// 65535 or the count isn't 1 to 999999.
 pub fn serve_of<'a>(found: &ArgMatches<'a>) -> Option<Args<'a>>
     ensures { Answers (codes "serve", rows_of (found_of found.now)) result }
 {
@@ -82,7 +85,8 @@ pub fn serve_of<'a>(found: &ArgMatches<'a>) -> Option<Args<'a>>
     })
 }
 
-/// What `check` asks for.
+/// Papers to be checked by the map that is named, or else by the standard one. Nothing else is
+/// asked for, so that there is always an answer.
 pub fn check_of<'a>(found: &ArgMatches<'a>) -> Args<'a>
     ensures { Answers (codes "check", rows_of (found_of found.now)) (Some result) }
 {
@@ -91,7 +95,8 @@ pub fn check_of<'a>(found: &ArgMatches<'a>) -> Args<'a>
     }
 }
 
-/// What `explain` asks for.
+/// The paper to be explained, whose number is 1 to 999999999; `None` where it is missing or
+/// another.
 pub fn explain_of<'a>(found: &ArgMatches<'a>) -> Option<Args<'a>>
     ensures { Answers (codes "explain", rows_of (found_of found.now)) result }
 {
@@ -105,7 +110,7 @@ pub fn explain_of<'a>(found: &ArgMatches<'a>) -> Option<Args<'a>>
     Some(Args::Explain { paper, map })
 }
 
-/// What `report` asks for.
+/// The papers of a game to be printed from a store; `None` where store or game is missing.
 pub fn report_of<'a>(found: &ArgMatches<'a>) -> Option<Args<'a>>
     ensures { Answers (codes "report", rows_of (found_of found.now)) result }
 {

@@ -128,7 +128,7 @@ words_fit test (suc n) text = word_fits test (words_fit test n) text (word_at te
 unfoldable pub names_at : List ℕ → Option (List (List ℕ))
 names_at text = if words_fit is_name 6 text then Some (split_words text) else None
 
--- an answer
+-- whether a word is YES, where it is YES or NO
 abbrev pub answer_at : List ℕ → Option Bool
 answer_at text = if bytes_eq text (codes "YES") then Some true else (if bytes_eq text (codes "NO") then Some false else None)
 

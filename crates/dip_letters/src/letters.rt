@@ -3,7 +3,7 @@ use crate::{Lines, Names, Seats, Texts};
 use std::error::Error;
 use std::fmt;
 
-/// One letter.
+/// A letter that follows the grammar. Its parts are cut out of its bytes, and nothing is copied.
 #[derive(Clone, Copy)]
 pub struct Letter<'a> {
     /// 1 to 16 of `a` to `z` and `0` to `9`, a letter first.
@@ -12,9 +12,9 @@ pub struct Letter<'a> {
     pub sender: &'a str,
     /// 8 to 64 bytes from `!` to `~`.
     pub secret: &'a str,
-    /// 1 to 999999999.
+    /// Its sender's number for it, 1 to 999999999.
     pub number: u32,
-    /// What is asked for.
+    /// What it asks for: a power's command or the master's, whoever sends it.
     pub command: Command<'a>,
     /// The whole letter, from `LETTER` to the LF of `END`.
     pub bytes: &'a [u8],
@@ -23,9 +23,9 @@ pub struct Letter<'a> {
 /// What a letter asks for: each command is a power's or the master's.
 #[derive(Clone, Copy)]
 pub enum Command<'a> {
-    /// A command for powers.
+    /// A command for powers; from the master it is refused.
     Player(PlayerCommand<'a>),
-    /// A command for the master.
+    /// A command for the master; from a power it is refused.
     Master(MasterCommand<'a>),
 }
 
@@ -36,13 +36,13 @@ pub enum PlayerCommand<'a> {
     Orders(Lines<'a>),
     /// All standing orders go.
     Withdraw,
-    /// Press to other powers.
+    /// Press: its text goes into the inboxes of the powers that it names.
     Press(Press<'a>),
     /// Whether the power votes for a draw between all who survive, from now on.
     Vote(bool),
     /// A vote for a draw between these powers alone, from now on: 1 to 7 names.
     VoteFor(Names<'a>),
-    /// The state of the game.
+    /// The game is shown, with what the seat has of its own.
     Show,
     /// The items of its inbox from this number on, 1 to 999999; the first item has the number 1.
     Inbox(u32),
@@ -62,7 +62,7 @@ pub struct Press<'a> {
 /// What the master asks for.
 #[derive(Clone, Copy)]
 pub enum MasterCommand<'a> {
-    /// A new game.
+    /// A new game is opened, of the name that the letter has.
     Create(Opening<'a>),
     /// The time, 0 to 999999999999: the game's phase is adjudicated where it is due.
     Tick(u64),
@@ -83,11 +83,11 @@ pub enum Notice<'a> {
     Period(u32),
     /// An announcement of 1 to 80 lines of 0 to 200 bytes from a space to `~`.
     Announce(Texts<'a>),
-    /// The game is over.
+    /// The game ends, and nobody has won.
     Close,
 }
 
-/// A game to be opened.
+/// What CREATE says of the game that it opens.
 #[derive(Clone, Copy)]
 pub struct Opening<'a> {
     /// The tick from which the first phase is due, 0 to 999999999999.
@@ -98,7 +98,7 @@ pub struct Opening<'a> {
     pub grey: bool,
     /// What is said of INTENT: nothing means that it is off.
     pub intent: Option<bool>,
-    /// 1 to 7 seats.
+    /// 1 to 7 seats, each of a power with the secret that it is given.
     pub seats: Seats<'a>,
 }
 
@@ -117,7 +117,7 @@ impl<'a> Opening<'a> {
     }
 }
 
-/// A seat of a new game.
+/// A power and the secret by which its letters are known: of a new game, or a new one of REPLACE.
 #[derive(Clone, Copy)]
 pub struct Seat<'a> {
     /// 1 to 16 of `a` to `z`.
@@ -155,7 +155,7 @@ impl Error for LetterFault {}
 /// What comes next in an input, and the bytes after it.
 #[derive(Clone, Copy)]
 pub enum Next<'a> {
-    /// A letter.
+    /// A letter that follows the grammar, and the bytes after it.
     Taken(Letter<'a>, &'a [u8]),
     /// No letter; the bytes are those after the next line `END`.
     Fault(LetterFault, &'a [u8]),

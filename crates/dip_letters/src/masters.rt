@@ -22,7 +22,7 @@ pub fn master_of<'a>(line: &'a str, body: &'a str) -> Option<MasterCommand<'a>>
         .or(notify_of(line, body))
 }
 
-/// The game that is asked for.
+/// What CREATE asks for, by its line and the lines of its seats.
 #[tactic(auto, unfolding(crate::specs::Reading::opening_at))]
 fn opening_of<'a>(line: &'a str, body: &'a str) -> Option<MasterCommand<'a>>
     ensures { option_map master_request result ≡ opening_at line.entry.now body.entry.now }

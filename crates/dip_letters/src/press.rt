@@ -100,7 +100,7 @@ fn names_fit(text: &str) -> bool
     is_name(at)
 }
 
-/// The text that a body is.
+/// The text that a body is: 1 to 80 lines that begin with `> `, and no other lines.
 #[tactic(auto, unfolding(crate::specs::Reading::texts_at, crate::specs::Views::texts_in))]
 pub fn texts_of(body: &str) -> Option<Texts<'_>>
     ensures { option_map texts_in result ≡ texts_at body.now }
@@ -128,7 +128,6 @@ fn texts_fit(body: &str) -> bool
     at.is_empty()
 }
 
-/// Whether the line is one of a text.
 fn is_text_line(line: &str) -> bool
     ensures { result ≡ is_some (text_at line.now) }
 {

@@ -185,7 +185,7 @@ fn yes_or_no(answer: bool) -> &'static str
     if answer { "YES" } else { "NO" }
 }
 
-/// Appends the lines of orders.
+/// Appends order lines as they were written, each ended by LF.
 fn push_lines(text: &mut String, lines: Lines<'_>) -> Result<(), AllocError>
     ensures { OnOk result
         (string_bytes text.new ≡ string_bytes text.old ++ text_of (lines_in lines.entry)) }
@@ -196,7 +196,7 @@ fn push_lines(text: &mut String, lines: Lines<'_>) -> Result<(), AllocError>
     Ok(())
 }
 
-/// Appends the lines of seats.
+/// Appends a line `SEAT` for each seat.
 fn push_seats(text: &mut String, seats: Seats<'_>) -> Result<(), AllocError>
     ensures { OnOk result
         (string_bytes text.new ≡ string_bytes text.old ++ text_of
@@ -219,7 +219,7 @@ fn push_seat(text: &mut String, name: &str, seat: Seat<'_>) -> Result<(), AllocE
     push_line(text, " ", seat.secret)
 }
 
-/// Appends the lines of a text.
+/// Appends each line of a text after `> `.
 fn push_texts(text: &mut String, lines: Texts<'_>) -> Result<(), AllocError>
     ensures { OnOk result
         (string_bytes text.new ≡ string_bytes text.old ++ text_of

@@ -56,7 +56,7 @@ owned_home_at m ok i zero k h = absurd (false≢true h)
 owned_home_at m ok i (suc n) zero h = let e : i + 0 ≡ i = omega arith in rw e (owned_home m ok i h)
 owned_home_at m ok i (suc n) (suc k) h = let e : i + suc k ≡ (i + 1) + k = omega arith in rw e (owned_home_at m ok (i + 1) n k h)
 
--- the board of the opening is one of its map
+-- its units stand each at a place of the map and alone, and home centres have their owners
 pub opening_law : (m : Chart) → IsMap m → IsOf m (opening m)
 opening_law m ok = record {
   units = ok.units;

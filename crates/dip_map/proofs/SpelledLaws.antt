@@ -426,6 +426,6 @@ stated text m ok spells =
     let (file, parsed, is) = spells in
     rw (file_found text file parsed, file_back file (map_draft m) is (draft_form m ok), chart_back m ok) refl
 
--- a text states a map just where it spells it
+-- both ways: what a text states it spells, and what it spells it states
 pub states_what_it_spells : StatesWhatItSpells
 states_what_it_spells text m ok = (spelled text m, stated text m ok)

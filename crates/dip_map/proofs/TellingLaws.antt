@@ -445,7 +445,7 @@ pub parsed_file : (text : List ℕ) (file : Members) → files.file_in text ≡ 
 unfolding files.file_in
 parsed_file text file h = found_file (parse_document text) file h
 
--- a text states only the map that its file tells
+-- what is read of a text is what its file tells, table by table
 pub states_what_it_tells : StatesWhatItTells
 unfolding map_in
 states_what_it_tells text m ok h =

@@ -28,7 +28,7 @@ each f (x ∷ xs) = do
   ys ← each f xs
   Ok (y ∷ ys)
 
--- the same, for what stands in a list from number k on
+-- each of a list, looked up with its number, where the first one has number k
 abbrev pub each_from : {A B : Type 0} → (ℕ → A → Result B MapFault) → ℕ → List A → Result (List B) MapFault
 each_from f k [] = Ok []
 each_from f k (x ∷ xs) = do
@@ -63,20 +63,20 @@ unit_of d r Fleet s = do
 abbrev pub unit_at : Draft → ℕ → UnitDraft → Result AUnit MapFault
 unit_at d r u = unit_of d r u.kind u.site
 
--- a coast
+-- a coast with its neighbours looked up
 unfoldable pub shore_at : Draft → ShoreDraft → Result Shore MapFault
 shore_at d s = do
   next ← each (place_at d) s.next
   Ok (record { name = s.name; next = next })
 
--- a province
+-- a province with the neighbours of armies and of fleets looked up
 unfoldable pub province_at : Draft → ProvinceDraft → Result Province MapFault
 province_at d p = do
   next ← each (prov_at d) p.army
   shores ← each (shore_at d) p.shores
   Ok (record { code = p.code; name = p.name; terrain = p.terrain; centre = p.centre; army = next; shores = shores })
 
--- a power
+-- a power with its home centres and its units at the opening looked up
 unfoldable pub realm_at : Draft → ℕ → PowerDraft → Result Realm MapFault
 realm_at d r p = do
   home ← each (prov_at d) p.home

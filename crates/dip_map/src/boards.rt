@@ -17,7 +17,7 @@ pub struct Dislodged {
     pub origin: Option<Prov>,
 }
 
-/// The season of a phase.
+/// The five kinds of phases, in the order in which a year has them.
 #[derive(Clone, Copy, PartialEq, Eq, PartialOrd, Ord, Debug)]
 pub enum Season {
     SpringMoves,
@@ -27,7 +27,7 @@ pub enum Season {
     Winter,
 }
 
-/// A phase of a game.
+/// A phase, by its year and its season: earlier phases are less than later ones.
 #[derive(Clone, Copy, PartialEq, Eq, PartialOrd, Ord, Debug)]
 pub struct Phase {
     pub year: u16,
@@ -83,7 +83,7 @@ impl Board {
         }
     }
 
-    /// This board in another phase.
+    /// This board in another phase. Everything else stays.
     pub fn with_phase(self, phase: Phase) -> Board
         ensures { result ≡ record self { phase = phase } }
     {
@@ -158,7 +158,7 @@ impl Board {
         self.units.as_slice()
     }
 
-    /// The dislodged units.
+    /// The dislodged units. They have to retreat or disband, and aren't among `units`.
     pub fn dislodged(&self) -> &[Dislodged]
         ensures { result.now ≡ self.now.dislodged }
     {
@@ -179,7 +179,7 @@ impl Board {
         self.owners.as_slice()
     }
 
-    /// The phase to be played.
+    /// The phase to be played. A game that is over keeps its last one.
     pub fn phase(&self) -> Phase
         ensures { result ≡ self.now.phase }
     {

@@ -148,7 +148,7 @@ impl Map {
         self.parts.is_fleet_next(a, b)
     }
 
-    /// What kind of province it is.
+    /// What a province is: inland, a coast or open sea.
     pub fn kind(&self, p: Prov) -> Terrain
         ensures { result ≡ (province self.now p).terrain }
     {
@@ -169,14 +169,15 @@ impl Map {
         self.parts.code(p)
     }
 
-    /// The full name of a province.
+    /// A province's full name. Where disorder has to choose between units that are alike, these
+    /// names do.
     pub fn name(&self, p: Prov) -> &str
         ensures { result.now ≡ (province self.now p).name }
     {
         self.parts.name(p)
     }
 
-    /// The province with a code.
+    /// The province with this code, if the map has one.
     pub fn prov(&self, code: &[u8]) -> Option<Prov>
         ensures { result ≡ prov_of self.now code.now }
     {
@@ -211,7 +212,7 @@ impl Map {
         }
     }
 
-    /// The home centres of a power.
+    /// A power's home centres. It may build in those that it owns.
     pub fn home(&self, power: Power) -> &[Prov]
         ensures list { result.now ≡ home self.now power }
         ensures within { All (λ p. p < length self.now.provinces) result.now }
@@ -226,14 +227,14 @@ impl Map {
         self.parts.is_home(power, p)
     }
 
-    /// The name of a power.
+    /// A power's name. It has small letters alone, as in letters and papers.
     pub fn power_name(&self, power: Power) -> &str
         ensures { result.now ≡ (realm self.now power).name }
     {
         self.parts.power_name(power)
     }
 
-    /// The power with a name.
+    /// The power with this name, if the map has one.
     pub fn power(&self, name: &str) -> Option<Power>
         ensures { result ≡ power_of self.now name.now }
     {

@@ -119,7 +119,7 @@ fn units_of(
     Ok(found)
 }
 
-/// A coast.
+/// A coast with its neighbours looked up; `UnknownName` where one isn't defined.
 #[tactic(auto, unfolding(crate::specs::Stated::shore_at))]
 fn shore_of(alloc: Global, draft: &Draft<'_>, shore: &ShoreDraft<'_>) -> Result<Shore, MapFault>
     requires few { length draft.now.provinces ≤ 200 }
@@ -146,7 +146,8 @@ fn each_shore_of(
     Ok(found)
 }
 
-/// A province.
+/// A province with the neighbours of armies and of fleets looked up; `UnknownName` where one isn't
+/// defined.
 #[tactic(auto, unfolding(crate::specs::Stated::province_at))]
 fn province_of(
     alloc: Global,
@@ -182,7 +183,8 @@ fn provinces_of(alloc: Global, draft: &Draft<'_>) -> Result<Vec<Province>, MapFa
     Ok(provinces)
 }
 
-/// A power.
+/// A power with its home centres and its units at the opening looked up; `UnknownName` where one
+/// isn't defined.
 #[tactic(auto, unfolding(crate::specs::Stated::realm_at))]
 fn realm_of(
     alloc: Global,

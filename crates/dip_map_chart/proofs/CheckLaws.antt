@@ -23,7 +23,7 @@ all_at : {A : Type 0} (f : A → Bool) (xs : List A) (d : A) → ((k : ℕ) → 
 all_at f [] d h = refl
 all_at f (x ∷ xs) d h = and_from _ _ (h 0 (omega arith)) (all_at f xs d (λ k low. h (suc k) (omega (arith, low))))
 
--- the same, from what it says of each number and each place that is found
+-- a test of each element, from what it says of each number that is found among them
 all_found : (f : ℕ → Bool) (xs : List ℕ) → ((q : ℕ) → list_any (λ x. x == q) xs ≡ true → f q ≡ true) → list_all f xs ≡ true
 all_found f [] h = refl
 all_found f (x ∷ xs) h =

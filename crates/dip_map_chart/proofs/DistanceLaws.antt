@@ -65,7 +65,7 @@ tables_step m kind n tables table before new = record {
       ];
 }
 
--- the same, as a loop has it
+-- one more table of least distances after those of the powers before it, in the terms of the loop that makes them
 pub tables_more : (m : Chart) (kind : Kind) (n r : ℕ) (front : List (Vec ℕ Global)) (table : Vec ℕ Global) (g : List (List ℕ)) (h : List Bool) → AreTables m kind n (rows_of front)
     → g ≡ graph m kind → h ≡ homes m kind r → r ≡ n → AreLeast g h table.items → AreTables m kind (n + 1) (rows_of (front ++ table ∷ []))
 tables_more m kind n r front table g h before same_graph same_homes same new =

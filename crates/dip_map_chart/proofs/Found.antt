@@ -10,7 +10,7 @@ test_at f [] k d a h = absurd (omega arith)
 test_at f (x ∷ xs) zero d a h = (and_parts (f x) (list_all f xs) a).0
 test_at f (x ∷ xs) (suc k) d a h = let low : k < length xs = omega arith in test_at f xs k d (and_parts (f x) (list_all f xs) a).1 low
 
--- the same at any index, where the test says it of what stands for no element
+-- what a test says of each element, and of the value that stands for no element, it says of what is found at any index
 pub test_or : {A : Type 0} (f : A → Bool) (xs : List A) (k : ℕ) (d : A) → list_all f xs ≡ true → f d ≡ true → f (get_or xs k d) ≡ true
 test_or f [] k d a h = h
 test_or f (x ∷ xs) zero d a h = (and_parts (f x) (list_all f xs) a).0
@@ -29,7 +29,7 @@ test_found f (x ∷ xs) q a h =
 pub place_eq : (x q : Place) → x.prov ≡ q.prov → x.coast ≡ q.coast → x ≡ q
 place_eq x q e f = λ i. record { prov = e i; coast = f i }
 
--- the same of places
+-- what a test says of each place it says of one that is found
 pub place_found : (f : Place → Bool) (xs : List Place) (q : Place) → list_all f xs ≡ true → list_any (λ x. (x.prov == q.prov) && (x.coast == q.coast)) xs ≡ true → f q ≡ true
 place_found f [] q a h = absurd (false≢true h)
 place_found f (x ∷ xs) q a h =

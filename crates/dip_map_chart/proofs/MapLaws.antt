@@ -153,7 +153,7 @@ own_law m t r k d h =
     let own : list_all (λ u. u.power == r) (get_or m.realms r no_realm).units ≡ true = subst (λ n. list_all (λ u. u.power == n) (get_or m.realms r no_realm).units ≡ true) (zero-add r) (own_rest 0 m.realms r t) in
     eqb-true (get_or (get_or m.realms r no_realm).units k d).power r (test_at (λ u. u.power == r) (get_or m.realms r no_realm).units k d own h)
 
--- parts that pass each test are a map
+-- each test gives its part of what a map is: limits, forms, allowed neighbours, distinct names, nothing twice, neighbours that name one another
 pub map_law : (m : Chart) → is_within_limits m ≡ true → is_well_formed m ≡ true → is_allowed m ≡ true → is_distinct m ≡ true → is_single m ≡ true → is_mutual m ≡ true → IsMap m
 map_law m limits formed allowed distinct single back =
     let few = limits_law m limits in

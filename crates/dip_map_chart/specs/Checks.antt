@@ -33,7 +33,7 @@ abbrev pub rest_of_shores : Chart → ℕ → ℕ → List Shore → Bool
 rest_of_shores m p k [] = true
 rest_of_shores m p k (s ∷ ss) = answers (coast_of m p s.name) k && rest_of_shores m p (k + 1) ss
 
--- the same of the coasts of these provinces, the first of which is number p
+-- each coast's name is that of no coast before it in its province; the first of these provinces is number p
 abbrev pub rest_of_coasts : Chart → ℕ → List Province → Bool
 rest_of_coasts m p [] = true
 rest_of_coasts m p (r ∷ rs) = rest_of_shores m p 0 r.shores && rest_of_coasts m (p + 1) rs
@@ -60,7 +60,7 @@ abbrev pub rest_of_shores_is_mutual : Chart → ℕ → ℕ → List Shore → B
 rest_of_shores_is_mutual m p k [] = true
 rest_of_shores_is_mutual m p k (s ∷ ss) = are_named_back m (record { prov = p; coast = k }) s.next && rest_of_shores_is_mutual m p (k + 1) ss
 
--- the same of the coasts of these provinces, the first of which is number p
+-- each neighbour of a coast of these provinces names that coast back; the first of these provinces is number p
 abbrev pub rest_is_mutual_by_sea : Chart → ℕ → List Province → Bool
 rest_is_mutual_by_sea m p [] = true
 rest_is_mutual_by_sea m p (r ∷ rs) = rest_of_shores_is_mutual m p 0 r.shores && rest_is_mutual_by_sea m (p + 1) rs

@@ -44,7 +44,8 @@ impl Distances {
         Ok(Distances { armies, fleets })
     }
 
-    /// The distance that is noted for a place.
+    /// The distance from a place to the nearest home centre of a power, for a unit of this kind. It
+    /// decides who is removed in disorder.
     pub fn noted(&self, kind: Kind, place: Place, power: Power) -> u16
         ensures { result ≡ distance_in self.now kind place power }
     {

@@ -25,7 +25,8 @@ impl Model for Shore {
     ghost view = { λ s. record { name = string_bytes s.name; next = s.next.items } };
 }
 
-/// A province of a map.
+/// A province of a map: its code and full name, what it is, whether it is a centre, and where
+/// armies and fleets go from it.
 #[derive(Drop)]
 pub struct Province {
     pub code: String,
@@ -91,7 +92,7 @@ impl Parts {
         }
     }
 
-    /// The coasts of a province.
+    /// The coasts from which fleets go; none inland, and none of a province that isn't of the map.
     pub fn shores(&self, p: Prov) -> &[Shore]
         ensures { result.now ≡ (province self.now p).shores }
     {
@@ -111,7 +112,7 @@ impl Parts {
         }
     }
 
-    /// The name of a place's coast.
+    /// The name of a place's coast, empty where the province has no coasts of its own.
     pub fn coast_name(&self, a: Place) -> &str
         ensures { result.now ≡ (shore self.now a).name }
     {
@@ -128,7 +129,7 @@ impl Parts {
         self.shores(p).len()
     }
 
-    /// What a province is.
+    /// Whether a province is inland, a coast or open sea.
     pub fn terrain(&self, p: Prov) -> Terrain
         ensures { result ≡ (province self.now p).terrain }
     {
@@ -148,7 +149,7 @@ impl Parts {
         }
     }
 
-    /// The code of a province.
+    /// A province's code, three letters; empty of one that isn't of the map.
     pub fn code(&self, p: Prov) -> &str
         ensures { result.now ≡ (province self.now p).code }
     {
@@ -158,7 +159,7 @@ impl Parts {
         }
     }
 
-    /// The full name of a province.
+    /// A province's full name; empty of one that isn't of the map.
     pub fn name(&self, p: Prov) -> &str
         ensures { result.now ≡ (province self.now p).name }
     {
@@ -168,7 +169,7 @@ impl Parts {
         }
     }
 
-    /// The home centres of a power.
+    /// The home centres of a power; none of one that isn't of the map.
     pub fn home(&self, r: Power) -> &[Prov]
         ensures { result.now ≡ home self.now r }
     {
@@ -185,7 +186,7 @@ impl Parts {
         self.home(r).contains(&p)
     }
 
-    /// The name of a power.
+    /// A power's name; empty of one that isn't of the map.
     pub fn power_name(&self, r: Power) -> &str
         ensures { result.now ≡ (realm self.now r).name }
     {
@@ -195,7 +196,8 @@ impl Parts {
         }
     }
 
-    /// The number of the power with a name.
+    /// The number of the power with this name, if the map has one: it is its place in the order of
+    /// names.
     pub fn power_index(&self, name: &str) -> Option<usize>
         ensures { result ≡ power_of self.now name.now }
     {

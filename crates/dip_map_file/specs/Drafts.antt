@@ -13,7 +13,7 @@ pub record ShoreDraft : Type 0 where
   pub name : List ℕ
   pub next : List Site
 
--- a province
+-- a province as a file writes it: its neighbours are still codes
 pub record ProvinceDraft : Type 0 where
   pub code : List ℕ
   pub name : List ℕ
@@ -27,7 +27,7 @@ pub record UnitDraft : Type 0 where
   pub kind : Kind
   pub site : Site
 
--- a power
+-- a power as a file writes it: its home centres and its units are still codes
 pub record PowerDraft : Type 0 where
   pub name : List ℕ
   pub home : List (List ℕ)

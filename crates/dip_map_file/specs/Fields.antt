@@ -32,13 +32,13 @@ each_member f (member key d ds) = do
 unfoldable pub field_at : List ℕ → Members → Result Data MapFault
 field_at key fields = or_wrong (get_member key fields)
 
--- a text
+-- the field of a key, which has to be a text
 unfoldable pub text_at : List ℕ → Members → Result (List ℕ) MapFault
 text_at key fields = do
   value ← field_at key fields
   or_wrong (as_str value)
 
--- a table
+-- the field of a key, which has to be a table
 unfoldable pub table_at : List ℕ → Members → Result Members MapFault
 table_at key fields = do
   value ← field_at key fields

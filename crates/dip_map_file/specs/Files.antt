@@ -138,7 +138,7 @@ may_be_centre terrain = true
 abbrev pub is_sound : List ℕ → Terrain → Bool → Members → Bool
 is_sound code terrain centre fields = is_code code && (keys_are_among (keys_of terrain) fields && (not centre || may_be_centre terrain))
 
--- a province
+-- a province by its code and its table: the keys that its kind has, and no others
 unfoldable pub province_at : List ℕ → Data → Result ProvinceDraft MapFault
 province_at code value = do
   fields ← or_wrong (as_table value)
@@ -152,7 +152,7 @@ province_at code value = do
       then Ok (record { code = code; name = name; terrain = terrain; centre = centre; army = army; shores = shores })
       else Err WrongField
 
--- a power
+-- a power by its name and its table: `home` and `units`, and no other keys
 unfoldable pub power_at : List ℕ → Data → Result PowerDraft MapFault
 power_at name value = do
   fields ← or_wrong (as_table value)

@@ -20,7 +20,7 @@ abbrev pub HasTable : Members → List ℕ → List ℕ → Members → Type 0
 HasTable file group key t =
     (all : Members) × (get_member group file ≡ Some (table all)) × (get_member key all ≡ Some (table t))
 
--- the word of a terrain
+-- what a file writes of a province's kind
 abbrev pub terrain_word : Terrain → List ℕ
 terrain_word Inland = codes "inland"
 terrain_word Coast = codes "coast"

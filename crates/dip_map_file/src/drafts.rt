@@ -38,7 +38,7 @@ impl<'a> Model for ShoreDraft<'a> {
     ghost view = { λ s. record { name = s.name.now; next = s.next.items } };
 }
 
-/// A province.
+/// A province as a file writes it: its neighbours are still codes.
 #[derive(Drop)]
 pub struct ProvinceDraft<'a> {
     pub code: &'a str,
@@ -80,7 +80,7 @@ fn coast_index(shores: &[ShoreDraft<'_>], name: &[u8]) -> Option<usize>
         .position(|shore| shore.name.as_bytes() == name)
 }
 
-/// A unit of the opening.
+/// A unit with which a power begins, at a place that is still a code.
 #[derive(Drop)]
 pub struct UnitDraft<'a> {
     pub kind: Kind,

@@ -10,7 +10,7 @@ ghost use Rattle.dip_names.specs.Results.{Gives};
 use dip_names::MapFault;
 use toml::value::{Array, Table, Value};
 
-/// The value of a key.
+/// The value of a key, if the table has that key.
 pub(crate) fn member<'a>(table: &'a Table, key: &str) -> Option<&'a Value>
     ensures { option_map (λ v. view v.now) result ≡ get_member key.now (table_view table.now) }
 {
@@ -28,7 +28,7 @@ pub(crate) fn field_of<'a>(table: &'a Table, key: &str) -> Result<&'a Value, Map
     }
 }
 
-/// The text that a value is.
+/// The text that a value is; `WrongField` where it is of another type.
 pub(crate) fn text_in(value: &Value) -> Result<&str, MapFault>
     ensures { Gives (λ s. s.now) result (or_wrong (as_str (view value.now))) }
 {
@@ -38,7 +38,7 @@ pub(crate) fn text_in(value: &Value) -> Result<&str, MapFault>
     }
 }
 
-/// The table that a value is.
+/// The table that a value is; `WrongField` where it is of another type.
 pub(crate) fn table_in(value: &Value) -> Result<&Table, MapFault>
     ensures { Gives (λ t. table_view t.now) result (or_wrong (as_table (view value.now))) }
 {
@@ -48,7 +48,7 @@ pub(crate) fn table_in(value: &Value) -> Result<&Table, MapFault>
     }
 }
 
-/// The array that a value is.
+/// The array that a value is; `WrongField` where it is of another type.
 pub(crate) fn array_in(value: &Value) -> Result<&Array, MapFault>
     ensures { Gives (λ a. array_view a.now) result (or_wrong (as_array (view value.now))) }
 {
@@ -58,7 +58,7 @@ pub(crate) fn array_in(value: &Value) -> Result<&Array, MapFault>
     }
 }
 
-/// A field that is a text.
+/// A field that has to be there and be a text.
 #[tactic(auto, unfolding(crate::specs::Fields::text_at))]
 pub(crate) fn text_of<'a>(table: &'a Table, key: &str) -> Result<&'a str, MapFault>
     ensures { Gives (λ s. s.now) result (text_at key.now (table_view table.now)) }
@@ -67,7 +67,7 @@ pub(crate) fn text_of<'a>(table: &'a Table, key: &str) -> Result<&'a str, MapFau
     text_in(value)
 }
 
-/// A field that is a table.
+/// A field that has to be there and be a table.
 #[tactic(auto, unfolding(crate::specs::Fields::table_at))]
 pub(crate) fn table_of<'a>(table: &'a Table, key: &str) -> Result<&'a Table, MapFault>
     ensures { Gives (λ t. table_view t.now) result (table_at key.now (table_view table.now)) }

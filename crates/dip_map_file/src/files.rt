@@ -106,7 +106,7 @@ fn only_shore_of(alloc: Global, value: &Value) -> Result<Vec<ShoreDraft<'_>>, Ma
     Ok(shores)
 }
 
-/// A coast with a name.
+/// A coast by its name of two letters, and the places where a fleet goes from it.
 #[tactic(auto, unfolding(crate::specs::Files::shore_at))]
 fn shore_of<'a>(alloc: Global, name: &'a str, value: &'a Value) -> Result<ShoreDraft<'a>, MapFault>
     ensures { Gives (λ s. s) result (shore_at name.now (view value.now)) }
@@ -167,7 +167,7 @@ fn shores_of(
     }
 }
 
-/// A province.
+/// A province by its code and its table: the keys that its kind has, and no others.
 #[tactic(auto, unfolding(crate::specs::Files::province_at))]
 fn province_of<'a>(
     alloc: Global,
@@ -196,7 +196,7 @@ fn province_of<'a>(
     })
 }
 
-/// A power.
+/// A power by its name and its table: `home` and `units`, and no other keys.
 #[tactic(auto, unfolding(crate::specs::Files::power_at))]
 fn power_of<'a>(alloc: Global, name: &'a str, value: &'a Value) -> Result<PowerDraft<'a>, MapFault>
     ensures { Gives (λ p. p) result (power_at name.now (view value.now)) }

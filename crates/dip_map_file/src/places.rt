@@ -51,7 +51,7 @@ fn site_of_text(text: &[u8]) -> Result<Site<'_>, MapFault>
     Ok(Site { code, coast })
 }
 
-/// A place of a list.
+/// A place that a value writes: a code, and a coast or none.
 #[tactic(auto, unfolding(crate::specs::Files::site_at))]
 fn site_of(value: &Value) -> Result<Site<'_>, MapFault>
     ensures { Gives (λ s. s) result (site_at (view value.now)) }
@@ -125,7 +125,7 @@ fn units_in<'a>(alloc: Global, array: &'a Array) -> Result<Vec<UnitDraft<'a>>, M
     Ok(units)
 }
 
-/// A list of codes.
+/// An array of provinces' codes; `WrongField` where it has anything else.
 #[tactic(auto, unfolding(crate::specs::Files::codes_at))]
 pub(crate) fn codes_of(alloc: Global, value: &Value) -> Result<Vec<&str>, MapFault>
     ensures { Gives (λ v. map (λ s. s.now) v.items) result (codes_at (view value.now)) }
@@ -134,7 +134,7 @@ pub(crate) fn codes_of(alloc: Global, value: &Value) -> Result<Vec<&str>, MapFau
     codes_in(alloc, array)
 }
 
-/// A list of places.
+/// An array of places; `WrongField` where it has anything else.
 #[tactic(auto, unfolding(crate::specs::Files::sites_at))]
 pub(crate) fn sites_of(alloc: Global, value: &Value) -> Result<Vec<Site<'_>>, MapFault>
     ensures { Gives (λ v. v.items) result (sites_at (view value.now)) }
@@ -143,7 +143,7 @@ pub(crate) fn sites_of(alloc: Global, value: &Value) -> Result<Vec<Site<'_>>, Ma
     sites_in(alloc, array)
 }
 
-/// A list of units.
+/// An array of units; `WrongField` where it has anything else.
 #[tactic(auto, unfolding(crate::specs::Files::units_at))]
 pub(crate) fn units_of(alloc: Global, value: &Value) -> Result<Vec<UnitDraft<'_>>, MapFault>
     ensures { Gives (λ v. v.items) result (units_at (view value.now)) }

@@ -6,7 +6,7 @@ use std::alloc::{AllocError, AllocFailed};
 use std::error::Error;
 use std::fmt;
 
-/// Why there is no map.
+/// Why a map's file says no map, by the numbers `M1` to `M7`.
 #[derive(Clone, Copy, PartialEq, Eq, Debug)]
 pub enum MapFault {
     /// The text isn't TOML.
@@ -22,7 +22,7 @@ pub enum MapFault {
     DoubledName,
     /// No power or more than 7, no province or more than 200.
     OverLimit,
-    /// Want of memory.
+    /// Memory ran out.
     Memory,
 }
 

@@ -23,7 +23,7 @@ impl Model for Prov {
 }
 
 impl Prov {
-    /// The province of that number.
+    /// The province of that number. Whether a map has so many isn't asked here.
     pub fn new(index: u8) -> Prov
         ensures { result ≡ index }
     {
@@ -57,7 +57,7 @@ impl Model for Power {
 }
 
 impl Power {
-    /// The power of that number.
+    /// The power of that number. Whether a map has so many isn't asked here.
     pub fn new(index: u8) -> Power
         ensures { result ≡ index }
     {
@@ -79,7 +79,7 @@ pub struct Place {
     pub coast: u8,
 }
 
-/// What a unit is.
+/// Armies stand inland and on coasts, fleets on coasts and at sea.
 #[derive(Clone, Copy, PartialEq, Eq, PartialOrd, Ord, Debug)]
 pub enum Kind {
     Army,
@@ -98,7 +98,7 @@ impl Kind {
     }
 }
 
-/// What a province is.
+/// What a province is: inland it takes armies, at sea fleets, and on a coast both.
 #[derive(Clone, Copy, PartialEq, Eq, PartialOrd, Ord, Debug)]
 pub enum Terrain {
     Inland,
@@ -107,7 +107,7 @@ pub enum Terrain {
 }
 
 impl Terrain {
-    /// Whether it is the open sea.
+    /// Whether it is the open sea. Only fleets stand there.
     pub fn is_sea(self) -> bool
         ensures { result ≡ is_sea self }
     {
@@ -117,7 +117,7 @@ impl Terrain {
         }
     }
 
-    /// Whether it is a coast.
+    /// Whether it is a coast. Armies and fleets stand there.
     pub fn is_coastal(self) -> bool
         ensures { result ≡ is_coastal self }
     {
@@ -128,7 +128,7 @@ impl Terrain {
     }
 }
 
-/// A unit on the board.
+/// A unit of a power, and where it stands or was dislodged.
 #[derive(Clone, Copy, PartialEq, Eq, PartialOrd, Ord, Debug)]
 pub struct Unit {
     pub power: Power,

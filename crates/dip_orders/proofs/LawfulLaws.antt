@@ -170,7 +170,7 @@ lawful_form m b power pending (Remove u) ok of fine h =
       },
     )
 
--- an order that was read is lawful
+-- the order that a line states on a board of the map, beside those that stand, is lawful there
 pub read_lawful : Forms → (m : Chart) (b : Position) (power : ℕ) (pending : List PlacedOrder) (line : List ℕ) (o : PlacedOrder) → IsMap m → IsOf m b → order_of m b power pending line ≡ Ok o
     → IsLawful m b power pending o
 read_lawful forms m b power pending line o ok of h =

@@ -438,7 +438,7 @@ allowed_again m b power pending u Disbands ok of h = disband_again m b power pen
 allowed_again m b power pending u Builds ok of h = built_again m b power pending u ok h.0 h.1.power h.1
 allowed_again m b power pending u Removes ok of h = remove_again m b power pending u ok of h
 
--- each lawful order is read from its own text
+-- for every form of order: its canonical text is read as that order
 pub lawful_read : Forms → LawfulOrdersAreRead
 lawful_read forms m b power pending o ok of h =
     let again : Again m b power pending o = allowed_again m b power pending o.unit o.order ok of h in

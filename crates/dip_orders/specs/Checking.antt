@@ -182,6 +182,6 @@ order_steps m b power pending (Disband u) = disband_order m b power u
 order_steps m b power pending (Build u) = build_order m b power pending u
 order_steps m b power pending (Remove u) = remove_order m b power pending u
 
--- the same, after the check of the phase
+-- the order that a form is on this board, if such a form is given in this kind of phase; else the fault NotInThisPhase
 abbrev pub in_phase : Chart → Position → ℕ → List PlacedOrder → Form → Result PlacedOrder OrderFault
 in_phase m b power pending d = if is_in_phase d b.phase.season then order_steps m b power pending d else Err NotInThisPhase

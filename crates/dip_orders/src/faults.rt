@@ -61,7 +61,7 @@ impl OrderFault {
         }
     }
 
-    /// What is wrong, in words.
+    /// What is wrong, in words. An answer has them after the code, in lower case with no full stop.
     pub fn words(self) -> &'static str
         ensures { result.now ≡ fault_words self }
     {

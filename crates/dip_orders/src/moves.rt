@@ -50,7 +50,7 @@ fn march_to(
     Ok(Place { prov: q, coast: 0 })
 }
 
-/// The first of these places that is in a province.
+/// The first of these places that lies in the province, if one does: with coasts there may be two.
 fn first_in(places: &[Place], q: Prov) -> Option<Place>
     ensures { result ≡ first_in places.now q }
 {

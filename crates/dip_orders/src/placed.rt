@@ -11,7 +11,7 @@ pub struct Other {
 /// What a unit is to do.
 #[derive(Clone, Copy, PartialEq, Eq, Debug)]
 pub enum Order {
-    /// Stay where it is.
+    /// Stay where it is; a unit that has no order does so too.
     Hold,
     /// Go to a place; an army goes by convoy where `via` says so, or where it can't walk there.
     Move { to: Place, via: bool },

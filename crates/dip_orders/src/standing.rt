@@ -46,7 +46,7 @@ impl Orders {
         Ok(Orders { placed })
     }
 
-    /// The orders as a slice.
+    /// These orders, each of them in force.
     pub fn as_slice(&self) -> &[PlacedOrder]
         ensures { result.now ≡ self.now }
     {

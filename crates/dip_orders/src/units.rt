@@ -86,7 +86,8 @@ pub(crate) fn checked_unit(
     }
 }
 
-/// The same of a dislodged unit.
+/// The dislodged unit that was found: it is of the kind written, and the coast written is one of
+/// the province where it was dislodged.
 pub(crate) fn checked_dislodged(
     map: &Map,
     found: Option<Dislodged>,

@@ -136,7 +136,7 @@ pieces_tokens : (ts : List (List ℕ)) → map (λ p. p.token) (pieces_of ts) �
 pieces_tokens [] = refl
 pieces_tokens (t ∷ ts) = ap (λ x. t ∷ x) (behind_tokens ts)
 
--- the canonical text of a form says it
+-- the tokens of the canonical text are those of the form, so that it says that form
 pub canonical_says : (d : Form) → is_form d ≡ true → Says (canonical_text d) d
 canonical_says d ok =
     let all = printed d ok in

@@ -55,7 +55,7 @@ spot_at _ = None
 abbrev pub is_any_case : List ℕ → List ℕ → Bool
 is_any_case token word = bytes_eq (small token) word
 
--- a kind
+-- an army by `a` or `A`, a fleet by `f` or `F`
 abbrev pub kind_at : List ℕ → Option Kind
 kind_at t = if is_any_case t (codes "a") then Some Army else if is_any_case t (codes "f") then Some Fleet else None
 

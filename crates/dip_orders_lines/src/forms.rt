@@ -10,12 +10,12 @@ pub struct Spot {
     pub coast: Option<[u8; 2]>,
 }
 
-/// A unit as written.
+/// A unit as a line names it. Nobody has looked yet whether there is such a unit.
 #[derive(Clone, Copy)]
 pub struct Mention {
-    /// Army or fleet.
+    /// The kind that the line says: `A` or `F`.
     pub kind: Kind,
-    /// Where it stands.
+    /// The province's code that the line says, with a coast or without.
     pub at: Spot,
 }
 

@@ -47,7 +47,7 @@ impl<'a> TokenList<'a> {
         self.count += 1;
     }
 
-    /// The tokens as a slice.
+    /// The tokens in the line's order.
     pub fn as_slice(&self) -> &[&'a [u8]]
         ensures { map (λ t. t.now) result.now ≡ self.now }
     {

@@ -107,7 +107,7 @@ unfoldable pub terms_text : Public → List ℕ
 terms_text p = codes " DUE " ++ decimal p.due ++ codes " PERIOD " ++ decimal p.period ++ codes " GREY " ++ yes_or_no p.grey
     ++ intent_text p.board.intent ++ codes " PAPERS " ++ decimal p.papers
 
--- the game line
+-- the game, its phase, how it stands, and its terms, ended by LF
 unfoldable pub game_line : Chart → Public → List ℕ
 game_line m p = codes "GAME " ++ p.game ++ codes " " ++ phase_text p.board.phase ++ codes " " ++ status_text m p.status
     ++ terms_text p ++ codes "\n"

@@ -7,7 +7,7 @@ use dip_map::Map;
 use dip_orders::{OrderFault, PlacedOrder, print_order};
 use std::alloc::{AllocError, Global};
 
-/// The line of a refusal.
+/// The line of a refusal. It has the refusal's code and what is wrong, and ends with LF.
 pub fn refusal_line(alloc: Global, refusal: Refusal) -> Result<String, AllocError>
     ensures { IfOk result (λ line. string_bytes line ≡ refusal_line refusal) }
 {
@@ -21,14 +21,14 @@ pub fn paper_line(alloc: Global, number: u32) -> Result<String, AllocError>
     format!(in alloc; "OK paper {number}\n")
 }
 
-/// The line of WITHDRAW.
+/// The line `OK withdrawn`. It answers WITHDRAW, whether or not an order stood.
 pub fn withdrawn_line(alloc: Global) -> Result<String, AllocError>
     ensures { IfOk result (λ line. string_bytes line ≡ withdrawn_line) }
 {
     String::from_str(alloc, "OK withdrawn\n")
 }
 
-/// The line of press that was sent.
+/// The line `OK press`. It answers press that was delivered.
 pub fn press_line(alloc: Global) -> Result<String, AllocError>
     ensures { IfOk result (λ line. string_bytes line ≡ press_line) }
 {

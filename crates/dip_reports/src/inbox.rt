@@ -52,7 +52,6 @@ fn push_title(item: &Item, out: &mut String) -> Result<(), AllocError>
     }
 }
 
-/// The lines of press.
 fn text_of(item: &Item) -> &[String]
     ensures { rows.lines result.now ≡ item_lines (rows.item item.now) }
 {
@@ -86,7 +85,8 @@ fn push_items(first: u32, items: &[Rc<Item>], out: &mut String) -> Result<(), Al
     Ok(())
 }
 
-/// What INBOX answers: how many items the inbox has, and the items that are shown, of which the first has this number.
+/// What INBOX answers: how many items the inbox has, and those shown. The first of these has this
+/// number.
 pub fn inbox_text(
     alloc: Global,
     total: u32,

@@ -37,7 +37,7 @@ fn push_notice(notice: Notice<'_>, out: &mut String) -> Result<(), AllocError>
     }
 }
 
-/// The text of a notice's paper.
+/// The paper of a notice: its title, what the notice makes known, and the public part after it.
 pub fn notice_paper_text(
     alloc: Global,
     map: &Map,
@@ -55,7 +55,8 @@ pub fn notice_paper_text(
     Ok(out)
 }
 
-/// The text of the paper that tells of a draw.
+/// The paper of a draw: its title and the public part after it, whose status names those who share
+/// it.
 pub fn draw_paper_text(alloc: Global, map: &Map, public: &Public) -> Result<String, AllocError>
     ensures { IfOk result
         (λ text. string_bytes text ≡ draw_paper map.now (rows.public public.now)) }

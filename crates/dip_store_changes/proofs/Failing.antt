@@ -66,7 +66,7 @@ pub result_blames : {X : Type 0} (fault misfit : Type 0) (r : Result X MakeFault
 result_blames fault misfit (Ok x) fails = tt
 result_blames fault misfit (Err e) fails = fails_blame fault misfit e fails
 
--- the same, as a whole answer
+-- an answer whose fault is one of a part
 pub result_fails : {X : Type 0} (f g one two : Type 0) (r : Result X MakeFault) → (f → g) → (one → two) → IfErr r (FailsFor f one) → IfErr r (FailsFor g two)
 result_fails f g one two (Ok x) late turn fails = tt
 result_fails f g one two (Err e) late turn fails = fault_fails f g one two e late turn fails

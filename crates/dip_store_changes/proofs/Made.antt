@@ -212,7 +212,8 @@ module _ {S : Type 0} (g : Ghosts S) where
   alike_itself (Ok y) = tt
   alike_itself (Err e) = tt
 
-  -- the same by another name, where more is known, answered in other words
+  -- a call's whole effect under another name for its function, where what is known at its start makes the two functions equal; the answer may be in
+  -- other words
   pub makes_named : (K Y F G : Type 0) (h f : Tables → Tables) (old new : Held S) (r : Result Y F) (q : Result Y G) → AreAlike r q
       → (IsKept g old × K → is_honest g new → h (tables_in g old) ≡ f (tables_in g old)) → Makes g h old new r → MakesFrom (IsKept g old × K) g f old new q
   makes_named K Y F G h f old new r q alike same k = record {

@@ -31,7 +31,7 @@ AreReaders m name (Opens public paper seats) ss rs = Unit {0}
 AreReaders m name (Publishes public paper played) ss rs = Unit {0}
 AreReaders m name (Seats seat) ss rs = Unit {0}
 
--- the counts that a change is made with
+-- a change has its place in the tables: its paper has the next number, its author's row has room, and so has each reader's
 pub record Counts (row : Option AuthorRow) (rs : List Reader) (m : Chart) (c : Change) (t : Tables) : Type 0 where
   pub paper : CountsOn c.game c.effect t.games
   pub author : CountsRow row m c.author c.game c.effect t

@@ -89,7 +89,8 @@ fn note_row<S: Alter>(
     Ok(())
 }
 
-/// The same, where there is such a seat.
+/// Writes what is kept of the letter into the row of its author's seat. Without a row there is no
+/// such seat, and nothing is written.
 fn note_own<S: Alter>(
     alloc: Global,
     tx: &mut Transaction<'_, S>,

@@ -157,7 +157,8 @@ fn add_owners<S: Alter>(
     Ok(())
 }
 
-/// The game's units and owned centres are those of the board.
+/// Writes a board into the tables: the rows of the game's units and owned centres are deleted, and
+/// those of the board inserted.
 pub fn put_board<S: Alter>(
     tx: &mut Transaction<'_, S>,
     map: &Map,

@@ -150,7 +150,8 @@ fn readers_of<S: Alter>(
     }
 }
 
-/// The counts that the change is made with.
+/// Counts before the change is made: what the author's row will say, and which seats get its press.
+/// `Misfit` where a count is full or a paper hasn't the next number.
 pub(crate) fn count<S: Alter>(
     conn: &mut Connection<S>,
     alloc: Global,

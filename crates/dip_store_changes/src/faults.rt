@@ -4,7 +4,8 @@ ghost use Rattle.std.specs.Prelude.{◌≡◌};
 use sqlite::Error;
 use std::alloc::{AllocError, AllocFailed};
 
-/// Why a change isn't made.
+/// A fault in making a change: of memory, of the database, or of a change that doesn't fit the
+/// rows.
 #[derive(Drop)]
 pub enum MakeFault {
     /// Memory ran out.

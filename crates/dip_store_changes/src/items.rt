@@ -8,7 +8,7 @@ ghost use Rattle.dip_store_changes.specs.Delivering.{boxed, readers_word};
 use dip_desk_state::Item;
 use std::alloc::{AllocError, Global};
 
-/// An item, with a text for each of its columns.
+/// A press item as its row has it: names in one text, and lines in another.
 #[derive(Drop)]
 pub(crate) struct ItemTexts {
     pub grey: bool,
@@ -36,7 +36,7 @@ fn rest(words: &[String]) -> &[String]
     &words[1..]
 }
 
-/// The words, joined by spaces.
+/// The words with a space between any two; nothing where there are none.
 #[tactic(auto, using(crate::proofs::Joining::words_none))]
 fn joined(alloc: Global, words: &[String]) -> Result<String, AllocError>
     ensures { IfOk result (λ t. string_bytes t ≡ joined 32 (records.lines words.now)) }
@@ -68,7 +68,8 @@ fn readers_word(to_all: bool) -> &'static str
     if to_all { "all" } else { "you" }
 }
 
-/// The texts of an item's columns.
+/// Makes the columns of an item's row. Grey press has an empty writer, and `all` or `you` in the
+/// place of its addressees.
 pub(crate) fn item_texts(alloc: Global, item: &Item) -> Result<ItemTexts, AllocError>
     ensures { IfOk result (λ x. (game power : List ℕ) (number : ℕ)
         → boxed game power number x ≡ box_row game power number (records.item item.now)) }

@@ -40,7 +40,7 @@ impl AuthorRow {
     }
 }
 
-/// What is known of a letter's author before the letter is kept.
+/// What a look told of a letter's author, so that its row needn't be read again.
 #[derive(Clone, Copy)]
 pub struct KnownAuthor {
     /// What its row says beside its last letter.
@@ -61,7 +61,7 @@ impl KnownAuthor {
     }
 }
 
-/// What is known of the author's row.
+/// The author's row, if it is known without a look.
 pub(crate) fn row_known(known: Option<KnownAuthor>) -> Option<AuthorRow>
     ensures { result ≡ row_known known }
 {

@@ -6,7 +6,8 @@ use dip_store_tables::{
     state_is_changed, tables_stay_coded, tables_stay_counted, tables_stay_written,
 };
 
-/// Behind a change that was made the tables say the state after it, and are still such as a keeper wrote.
+/// After a change that was made, the tables say the state after it, and are still tables such as a
+/// keeper writes.
 pub fn changes_are_made()
     ensures { (m : Chart) → IsMap m → ChangesAreMade m }
 {

@@ -15,7 +15,7 @@ use dip_map::Map;
 use dip_store_sql::{OrderRow, add_pending, add_three_pending, drop_orders};
 use sqlite::{Alter, Error, Transaction};
 
-/// An order, as its row has it.
+/// The columns of an order: its province's code, and its line.
 fn order_row<'a>(map: &'a Map, order: &'a Standing) -> OrderRow<'a>
     ensures { (game : List ℕ) (power : List ℕ) → row_views.order game power result
         ≡ pending_row map.now game power (records.standing order.now) }

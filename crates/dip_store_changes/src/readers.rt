@@ -65,7 +65,7 @@ fn is_in(powers: &[Power], power: Power) -> bool
     powers.contains(&power)
 }
 
-/// Those of these powers.
+/// The readers whose power is among these, in the order of their seats.
 fn chosen(mut readers: Vec<Reader>, powers: &[Power]) -> Vec<Reader>
     ensures { result.items ≡ filter (λ r. list_any (λ p. p == r.power) powers.now) readers.items }
 {

@@ -92,9 +92,9 @@ fn look_vote<S: Alter>(
 /// What a seat has beside its row.
 #[derive(Drop)]
 pub(crate) struct Beside {
-    /// What it votes for.
+    /// The vote on its ballot; `No` where it has no ballot.
     pub vote: Vote,
-    /// The rows of its orders.
+    /// The rows of its standing orders, in the order in which they were inserted.
     pub orders: Vec<Row>,
 }
 

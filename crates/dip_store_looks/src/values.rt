@@ -14,7 +14,7 @@ pub(crate) fn text_at(row: &Row, at: usize) -> Result<String, Error>
     row.get(at)
 }
 
-/// A number of 32 bits.
+/// The number in this column, which has to be one of 32 bits.
 pub(crate) fn number_at(row: &Row, at: usize) -> Result<u32, Error>
     ensures value { IfOk result (λ n. column row.now at ≡ Int (pos n)) }
     ensures own { HasNumber row.now at → IfErr result (IsCaused ⊥) }

@@ -129,7 +129,7 @@ stops : {A B : Type 0} (First : Part A) (Next : A → Part B) (e : Error) → Th
 stops First Next e (inl s) = let x = s.2 in let same : s.0 ≡ Some e = cc in inl (subst (λ (stop : Option Error). First (Err stop)) same s.1)
 stops First Next e (inr on) = inr on
 
--- the same, where it may stop at a row that can't be stored too
+-- it stopped at the first part, or at the second; the stop may be at a row that can't be stored
 halts : {A B : Type 0} (First : Part A) (Next : A → Part B) (stop : Option Error) → Then First Next (Err stop) → First (Err stop) ⊎ ((a : A) × First (Ok a) × Next a (Err stop))
 halts First Next stop (inl s) = let x = s.2 in let same : s.0 ≡ stop = cc in inl (subst (λ (stop : Option Error). First (Err stop)) same s.1)
 halts First Next stop (inr on) = inr on

@@ -40,7 +40,7 @@ pub record IsMaker (r : Result Compiled CompileError) (sql : List ℕ) : Type 0 
   pub clock : it.formats ≡ []
   pub text : text_of sql it ≡ sql
 
--- the same, by what the text is understood as
+-- such a text, told from what compiling it gives: one CREATE TABLE, without parameters, up to its end
 abbrev pub IsMade : List ℕ → Result Compiled CompileError → Type 0
 IsMade sql (Ok c) = (c.command ≡ CreateTable) × (nat_le (length sql) c.tail ≡ true) × ([] ≡ c.names) × (c.returning ≡ None) × (c.formats ≡ []) × (text_of sql c ≡ sql)
 IsMade sql (Err e) = ⊥

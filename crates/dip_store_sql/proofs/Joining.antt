@@ -33,7 +33,7 @@ does_fail {a} Y h L p asks = record {
   blames = p.blames;
 }
 
--- the same part by another name
+-- a part of a transaction that does one function of the tables does each function that equals it
 pub does_as : {X : Type 0} {f h : Tables → Tables} {K : Tables → Type 0} {a b : State} {r : Result X Error} → Does f K a b r → ((t : Tables) → f t ≡ h t) → Does h K a b r
 does_as {X} {f} {h} {K} {a} {b} {r} p same = record {
   writes = writes_as X Error f h a b r same p.writes;

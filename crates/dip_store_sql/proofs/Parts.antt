@@ -88,7 +88,7 @@ writes_none f a X E x same = record {
   runs = λ clean. record { inside = λ was. was; good = λ good. (good, sym (same _)) };
 }
 
--- the same part by another name
+-- a part that does one function of the tables does each function that equals it
 pub writes_as : (X E : Type 0) (f h : Tables → Tables) (a b : State) (r : Result X E) → ((t : Tables) → f t ≡ h t) → Writes f a b r → Writes h a b r
 writes_as X E f h a b (Ok x) same p = record { survives = p.survives; keeps = p.keeps; runs = λ clean. turns_as f h a b same (p.runs clean) }
 writes_as X E f h a b (Err e) same p = record { survives = p.survives; keeps = p.keeps; runs = λ clean. tt }

@@ -68,7 +68,7 @@ pub record AsksIn (schema : Schema) (text : List ℕ) (count : ℕ) (q : Query) 
 abbrev pub AcceptsIn : Schema → Query → Row → Type 0
 AcceptsIn schema q params = accepts_program schema [] q params ≡ true
 
--- the same against our schema
+-- against our schema the text is this command
 abbrev pub Means : List ℕ → Command → Type 0
 Means = MeansIn our_schema
 

@@ -33,7 +33,7 @@ same_choice a b = bytes_eq a.game b.game
 abbrev pub Differ : {A : Type 0} → (A → A → Bool) → List A → Type 0
 Differ same xs = IsAscending (λ a b. same a b ≡ false) xs
 
--- the same of a table
+-- a table by its key, one definition for each of the ten
 abbrev pub DesksDiffer : Tables → Type 0
 DesksDiffer t = Differ same_desk t.desk
 

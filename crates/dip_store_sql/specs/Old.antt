@@ -37,7 +37,7 @@ old_tables_of db = record (tables_of db) { ballots = []; choices = [] }
 abbrev pub HasOld : Tables → Database → Type 0
 HasOld t db = WasGood db × (old_tables_of db.trees ≡ t)
 
--- the same, and the table of ballots, which has no row
+-- a database of version 1 with these tables and with the table of ballots, which has no row
 pub record HasNine (t : Tables) (db : Database) : Type 0 where
   pub schema : db.schema ≡ nine_schema
   pub sound : IsDatabase db

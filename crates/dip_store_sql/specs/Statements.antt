@@ -55,7 +55,7 @@ add_pending_text =
 abbrev pub add_pending_values : List Term
 add_pending_values = lit Null ∷ col 0 0 ∷ col 0 1 ∷ col 0 2 ∷ col 0 3 ∷ []
 
--- the same of three orders of a seat
+-- three standing orders of a seat in one INSERT
 abbrev pub add_three_pending_text : List ℕ
 add_three_pending_text =
     codes "INSERT INTO pending (game, power, province, line) VALUES (?1, ?2, ?3, ?4), (?1, ?2, ?5, ?6), (?1, ?2, ?7, ?8)"

@@ -75,7 +75,7 @@ pub fn add_seat<S: Alter>(
     )
 }
 
-/// A unit of a game's board.
+/// Inserts a unit of a game's board, standing or dislodged.
 pub fn add_unit<S: Alter>(tx: &mut Transaction<'_, S>, unit: &UnitRow<'_>) -> Result<usize, Error>
     ensures same_reference { tx.new.conn.ghost_name ≡ tx.old.conn.ghost_name }
     ensures does { Does (with_unit (rows.unit unit.now)) UnitsDiffer
@@ -95,7 +95,7 @@ pub fn add_unit<S: Alter>(tx: &mut Transaction<'_, S>, unit: &UnitRow<'_>) -> Re
     )
 }
 
-/// A centre with its owner.
+/// Inserts a centre of a game, by its province's code, with its owner's name.
 pub fn add_centre<S: Alter>(
     tx: &mut Transaction<'_, S>,
     game: &str,
@@ -113,7 +113,7 @@ pub fn add_centre<S: Alter>(
     )
 }
 
-/// A standing order of a seat.
+/// Inserts a standing order of a seat, by its province's code.
 pub fn add_pending<S: Alter>(
     tx: &mut Transaction<'_, S>,
     game: &str,
@@ -159,7 +159,7 @@ pub fn add_three_pending<S: Alter>(
     )
 }
 
-/// An item of a seat's inbox.
+/// Inserts an item of a seat's inbox, by its number.
 pub fn add_item<S: Alter>(tx: &mut Transaction<'_, S>, item: &ItemRow<'_>) -> Result<usize, Error>
     ensures same_reference { tx.new.conn.ghost_name ≡ tx.old.conn.ghost_name }
     ensures does { Does (with_item (rows.item item.now)) ItemsDiffer
@@ -179,7 +179,7 @@ pub fn add_item<S: Alter>(tx: &mut Transaction<'_, S>, item: &ItemRow<'_>) -> Re
     )
 }
 
-/// A paper of a game.
+/// Inserts a paper of a game, by its number.
 pub fn add_paper<S: Alter>(
     tx: &mut Transaction<'_, S>,
     game: &str,

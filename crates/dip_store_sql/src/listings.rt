@@ -7,7 +7,7 @@ ghost use Rattle.dip_store_sql.specs.Showing.{show_centre, show_listed, show_nam
 
 use sqlite::{Alter, Connection, Error, Row, params};
 
-/// The seats of a game.
+/// The rows of a game's seats, in the order in which CREATE named them.
 pub fn list_seats<S: Alter>(conn: &mut Connection<S>, game: &str) -> Result<Vec<Row>, Error>
     ensures value { IsKept S.Store conn.old → is_honest S.Store conn.new → IfOk result (λ v. v.items
         ≡ map show_listed (filter (is_seat_in game.now) (tables_in S.Store conn.old).seats)) }
@@ -43,7 +43,7 @@ pub fn list_units<S: Alter>(conn: &mut Connection<S>, game: &str) -> Result<Vec<
     }
 }
 
-/// The owned centres of a game.
+/// The centres of a game that have an owner, as they were put in.
 pub fn list_centres<S: Alter>(conn: &mut Connection<S>, game: &str) -> Result<Vec<Row>, Error>
     ensures value { IsKept S.Store conn.old → is_honest S.Store conn.new → IfOk result (λ v. v.items
         ≡ map show_centre (filter (is_centre_in game.now) (tables_in S.Store conn.old).centres)) }
@@ -61,7 +61,7 @@ pub fn list_centres<S: Alter>(conn: &mut Connection<S>, game: &str) -> Result<Ve
     }
 }
 
-/// The standing orders of a seat.
+/// The orders that stand for a seat, as they were put in.
 pub fn list_orders<S: Alter>(
     conn: &mut Connection<S>,
     game: &str,

@@ -38,7 +38,7 @@ pub fn find_desk<S: Alter>(conn: &mut Connection<S>) -> Result<Option<Row>, Erro
     }
 }
 
-/// A game's row.
+/// The row of the game of this name, if there is one.
 pub fn find_game<S: Alter>(conn: &mut Connection<S>, game: &str) -> Result<Option<Row>, Error>
     ensures value { IsKept S.Store conn.old → is_honest S.Store conn.new → IfOk result (λ o. o
         ≡ option_map show_game (find (is_named game.now) (tables_in S.Store conn.old).games)) }
@@ -56,7 +56,7 @@ pub fn find_game<S: Alter>(conn: &mut Connection<S>, game: &str) -> Result<Optio
     }
 }
 
-/// A seat's row.
+/// The row of a power's seat in a game, if there is one.
 pub fn find_seat<S: Alter>(
     conn: &mut Connection<S>,
     game: &str,
@@ -79,7 +79,7 @@ pub fn find_seat<S: Alter>(
     }
 }
 
-/// A seat's ballot.
+/// The row with a seat's vote, if there is one.
 pub fn find_ballot<S: Alter>(
     conn: &mut Connection<S>,
     game: &str,
@@ -102,7 +102,7 @@ pub fn find_ballot<S: Alter>(
     }
 }
 
-/// The choice of a game.
+/// The row that says whether a game has the option INTENT, if there is one.
 pub fn find_choice<S: Alter>(conn: &mut Connection<S>, game: &str) -> Result<Option<Row>, Error>
     ensures value { IsKept S.Store conn.old → is_honest S.Store conn.new → IfOk result (λ o. o
         ≡ option_map show_choice
@@ -142,7 +142,7 @@ pub fn find_item<S: Alter>(
     }
 }
 
-/// A paper of a game.
+/// The game's paper of this number, if there is one.
 pub fn find_paper<S: Alter>(
     conn: &mut Connection<S>,
     game: &str,

@@ -83,7 +83,7 @@ pub fn clear_votes<S: Alter>(tx: &mut Transaction<'_, S>) -> Result<usize, Error
     tx.execute("UPDATE seat SET vote = 0", &[])
 }
 
-/// The tables are of version 2.
+/// Writes that the tables are of version 2, as the last step in renewing those of version 1.
 pub fn set_version<S: Alter>(tx: &mut Transaction<'_, S>) -> Result<usize, Error>
     ensures same_reference { tx.new.conn.ghost_name ≡ tx.old.conn.ghost_name }
     ensures does { Does (on_desk second) always

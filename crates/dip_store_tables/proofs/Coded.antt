@@ -1,4 +1,4 @@
--- Behind a change the rows are still such as a keeper wrote.
+-- After a change the rows are still such as a keeper wrote.
 use Rattle.dip_desk_state.proofs.KeyedLemmas.{names_tell}
 use Rattle.std.proofs.Common.{◌||◌, inl, inr, Bool, ap₂, ◌≡◌, ℕ, ◌<◌, true, false, cond, not, List, [], ◌∷◌, ◌++◌, map, length, bytes_eq, refl, sym, ap, subst, ◌∙◌}
 use Rattle.std.specs.List.{AllByRecursion, list_any}

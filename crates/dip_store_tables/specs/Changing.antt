@@ -104,7 +104,7 @@ reaching m name (Seats seat) t = replacing m name seat t
 abbrev pub changing : Chart → Change → Tables → Tables
 changing m c t = reaching m c.game c.effect (ordering m c.author c.game c.effect (noting m c.author c.game c.kept c.effect t))
 
--- the same, reader by reader: an item more in the inbox, and its number in the seat's row
+-- press, delivered reader by reader: each inbox has an item more, and the reader's row counts it
 abbrev pub with_items : ℕ → SeatRow → SeatRow
 with_items n s = record s { items = n }
 

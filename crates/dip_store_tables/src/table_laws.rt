@@ -9,7 +9,7 @@ pub fn state_is_changed()
     ensures { (m : Chart) → IsMap m → StateIsChanged m }
 {}
 
-/// Behind the statements of a change the tables are still such as a keeper wrote.
+/// After the statements of a change the tables are still such as a keeper wrote.
 pub fn tables_stay_coded()
     ensures { (m : Chart) → TablesStayCoded m }
 {}

@@ -11,7 +11,7 @@ use Rattle.dip_orders.specs.declared.placed.PlacedOrder.{PlacedOrder}
 use Rattle.dip_turn.specs.Disorder.{in_disorder}
 use Rattle.dip_turn.specs.declared.report.Waiver.{Waiver}
 
--- the units that are built
+-- the units of the builds among these orders
 abbrev pub units_built : List PlacedOrder → List AUnit
 units_built pending = map (λ o. o.unit) (filter (λ o. is_build o.order) pending)
 
@@ -38,7 +38,7 @@ removals_given pending power = count_by (λ o. is_remove o.order && (o.unit.powe
 abbrev pub removals_owed : Position → List PlacedOrder → ℕ → ℕ
 removals_owed b pending power = removals_due b power - removals_given pending power
 
--- these units of a power
+-- those of these units that are the power's
 abbrev pub units_of_power : ℕ → List AUnit → List AUnit
 units_of_power power us = filter (λ u. u.power == power) us
 

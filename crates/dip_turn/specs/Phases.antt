@@ -30,7 +30,7 @@ pub record Sequel : Type 0 where
 abbrev pub sequel : Position → Course → Sequel
 sequel b c = record { board = b; course = c }
 
--- the same board in another phase
+-- the board with everything as it stands, in another phase
 abbrev pub in_phase : Position → ℕ → Season → Position
 in_phase b year season = record b { phase = record { year = year; season = season } }
 

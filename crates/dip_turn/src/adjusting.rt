@@ -12,7 +12,7 @@ use dip_names::{Power, Unit};
 use dip_orders::{PlacedOrder, builds_due, is_build, is_remove, is_same_unit, removals_due};
 use std::alloc::{AllocError, Global};
 
-/// The units that are built.
+/// The units of the builds among these orders, in their order.
 pub(crate) fn units_built(alloc: Global, pending: &[PlacedOrder]) -> Result<Vec<Unit>, AllocError>
     ensures { IfOk result (λ v. v.items ≡ a.units_built pending.now) }
 {
@@ -143,7 +143,7 @@ fn is_among(units: &[Unit], unit: &Unit) -> bool
         .any(|other| other.place.prov == unit.place.prov)
 }
 
-/// The units but for these.
+/// The units that stand in none of the provinces of the others.
 fn without(alloc: Global, units: &[Unit], gone: &[Unit]) -> Result<Vec<Unit>, AllocError>
     ensures { IfOk result (λ v. v.items ≡ filter (λ u. not (a.is_among gone.now u)) units.now) }
 {
@@ -156,7 +156,8 @@ fn without(alloc: Global, units: &[Unit], gone: &[Unit]) -> Result<Vec<Unit>, Al
     Ok(left)
 }
 
-/// The units after the builds and removals.
+/// The units after a Winter: those that no order and no disorder removes, and then those that were
+/// built.
 fn units_after(
     alloc: Global,
     map: &Map,
@@ -174,7 +175,7 @@ fn units_after(
     Ok(units)
 }
 
-/// The board after the builds and removals.
+/// The board after a Winter: its units are those of `units_after`, and owners and phase stay.
 pub(crate) fn after_adjustment(
     alloc: Global,
     map: &Map,

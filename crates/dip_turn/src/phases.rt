@@ -11,7 +11,7 @@ use dip_names::Power;
 use dip_orders::{builds_due, removals_due};
 use std::alloc::{AllocError, Global};
 
-/// The last year of a game.
+/// The last year of a game: after its last phase the game ends, if nobody has won.
 const LAST_YEAR: u16 = 2900;
 
 /// Whether a power has to build or remove.
@@ -32,7 +32,7 @@ fn needs_adjustment(map: &Map, board: &Board) -> bool
     false
 }
 
-/// The same board in another phase.
+/// The board with everything as it stands, in another phase.
 fn in_phase(alloc: Global, board: &Board, year: u16, season: Season) -> Result<Board, AllocError>
     ensures { IfOk result (λ b. b ≡ p.in_phase board.now year season) }
 {

@@ -5,14 +5,14 @@ use dip_names::{Power, Prov, Unit};
 use dip_orders::{Orders, PlacedOrder};
 use dip_turn_moves::MovementLine;
 
-/// What is told of a movement.
+/// The account of a movement: what was ordered and decided, and what became of each order and unit.
 #[derive(Drop)]
 pub struct Movement {
     /// One order for each unit that stood, in the board's order.
     pub orders: Orders,
     /// What was decided, and the steps that explain it.
     pub resolution: Resolution,
-    /// A line for each of the orders.
+    /// What became of each order and its unit, in the same order as `orders`.
     pub lines: Vec<MovementLine>,
 }
 
@@ -52,7 +52,7 @@ pub struct CentreLine {
     pub power: Power,
 }
 
-/// What is told of a phase, by its kind.
+/// The account of a movement, of retreats, or of a Winter.
 #[derive(Drop)]
 pub enum Account {
     Movement(Movement),
@@ -72,10 +72,10 @@ pub enum Course {
     Ended,
 }
 
-/// What is told of a phase that was adjudicated.
+/// All that the adjudication of a phase says beside the board after it. A paper prints it.
 #[derive(Drop)]
 pub struct Report {
-    /// The phase that was adjudicated.
+    /// The phase that was played; the board after it has the next one.
     pub phase: Phase,
     pub account: Account,
     /// The centres that changed hands, by code.

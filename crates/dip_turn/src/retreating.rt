@@ -101,7 +101,7 @@ fn after_retreat(pending: &[PlacedOrder], all: &[Dislodged], dislodged: &Dislodg
     }
 }
 
-/// The units after the retreats.
+/// The units that stood, and then those that retreated, each at its new place.
 fn units_after(
     alloc: Global,
     board: &Board,
@@ -118,7 +118,7 @@ fn units_after(
     Ok(units)
 }
 
-/// The board after the retreats.
+/// The board after the retreats, with nobody dislodged and no standoffs; owners and phase stay.
 pub(crate) fn after_retreats(
     alloc: Global,
     board: &Board,

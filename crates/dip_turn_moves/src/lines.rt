@@ -7,13 +7,13 @@ use dip_orders::PlacedOrder;
 pub enum Outcome {
     /// The unit had no order but to stay.
     Holds,
-    /// The move succeeded.
+    /// The move succeeded: the unit stands at its destination.
     Moves,
-    /// The move failed.
+    /// The move had a way and failed: the unit stays, unless it is dislodged.
     Bounced,
     /// The move was to go by convoy, and there was no chain of fleets to carry it.
     NoRoute,
-    /// The support counted.
+    /// The support matched an order, and nothing cut it.
     Given,
     /// The support matched, and an attack cut it.
     Cut,

@@ -36,7 +36,7 @@ pub(crate) fn is_listed(list: &[Prov], prov: Prov) -> bool
     list.contains(&prov)
 }
 
-/// The order of the unit in a province.
+/// The first of these orders whose unit stands in the province, if there is one.
 pub(crate) fn order_at(orders: &[PlacedOrder], prov: Prov) -> Option<PlacedOrder>
     ensures { result ≡ order_at orders.now prov }
 {

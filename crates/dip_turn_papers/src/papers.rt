@@ -139,9 +139,9 @@ fn push_title(number: u32, phase: Phase, out: &mut String) -> Result<(), AllocEr
     out.push_str("\n")
 }
 
-/// The paper of a phase that was adjudicated: its number is that of the game's papers, itself among them. Behind its first line
-/// stand the orders with what became of them, the centres that changed hands, and the game line and the board lines that stand
-/// after it.
+/// The paper of a phase that was adjudicated. Its number is the count of the game's papers, itself
+/// among them. After its first line come the orders with what became of them, the centres that
+/// changed hands, and the game line and the board lines of the public part.
 ///
 /// # Errors
 /// Want of memory alone.

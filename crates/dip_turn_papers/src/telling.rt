@@ -8,7 +8,7 @@ use dip_orders::{Order, PlacedOrder};
 use dip_turn::{Adjustment, MovementLine, RetreatLine};
 use std::alloc::{AllocError, Global};
 
-/// The lines of a movement.
+/// A paper's lines for the orders of a movement, in their order.
 pub(crate) fn moved_lines(
     alloc: Global,
     lines: &[MovementLine],
@@ -25,7 +25,7 @@ pub(crate) fn moved_lines(
     Ok(made)
 }
 
-/// The lines of retreats.
+/// A paper's lines for the dislodged units, in their order: each retreated or disbanded.
 pub(crate) fn retreated_lines(
     alloc: Global,
     lines: &[RetreatLine],
@@ -87,7 +87,7 @@ pub(crate) fn adjusted_lines(alloc: Global, told: &Adjustment) -> Result<Vec<Pap
     Ok(lines)
 }
 
-/// The lines of removals in disorder.
+/// A paper's lines for the units that were removed since their power owed removals and gave none.
 pub(crate) fn disorder_lines(alloc: Global, told: &Adjustment) -> Result<Vec<PaperLine>, AllocError>
     ensures { IfOk result (λ v. v.items ≡ disorder_lines told.now) }
 {

@@ -1,5 +1,5 @@
 -- What was written of papers, so far.
-use Rattle.std.proofs.Common.{◌≡◌, ◌+◌, ◌<◌, ◌≤◌, ℕ, List, Option, get_or, length, take, drop, sym, ap, subst, ◌∙◌, ◌++◌, [], append_assoc}
+use Rattle.std.proofs.Common.{◌≡◌, ◌+◌, ◌<◌, ◌≤◌, ℕ, List, Option, get_or, length, take, drop, sym, ap, subst, ◌∙◌, ◌++◌, []}
 use Rattle.std.proofs.Math.Seq.{take-append_seam}
 use Rattle.std.proofs.lemmas.List.{take-append-drop, take_all}
 use Rattle.std.proofs.lemmas.List.Concat.{flat_map-append}

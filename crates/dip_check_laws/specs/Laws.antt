@@ -47,7 +47,7 @@ AreRuns m old (run ∷ runs) new = (next : State) × Leaves m run old next × Ar
 abbrev pub ReportsAreRight : Type 0
 ReportsAreRight = (m : Chart) (s : State) (name : List ℕ) (g : Game) → AreGames m s → game_at name s ≡ Some g → IsGame m (papers_text (Some g))
 
--- and of the papers of a game `check` answers true
+-- of an input that is the papers of a game `check` answers true
 abbrev pub GamesAreFoundRight : Type 0
 GamesAreFoundRight = (m : Chart) (input : List ℕ) (right : Bool) → IsGame m input → TellsIfGame m (Some input) right → right ≡ true
 
@@ -56,12 +56,12 @@ abbrev pub RunsKeepGames : Chart → Type 0
 RunsKeepGames m = (input : List ℕ) (old new : State) (before after : Option (List ℕ)) → IsLawful m old → AreGames m old
     → AnswersAll m input old new before after → IsLawful m new × AreGames m new
 
--- so does one that a fault ended
+-- a run that a fault ended leaves a lawful state with the papers of games, where it began with one
 abbrev pub FaultsKeepGames : Chart → Type 0
 FaultsKeepGames m = (input : List ℕ) (old new : State) → IsLawful m old → AreGames m old
     → LeavesAtFault m input old new → IsLawful m new × AreGames m new
 
--- and serving clients, all or up to a fault
+-- serving clients, all or up to a fault, leaves a lawful state with the papers of games, where it began with one
 abbrev pub ServingKeepsGames : Chart → Type 0
 ServingKeepsGames m = (count : ℕ) (old new : State) → IsLawful m old → AreGames m old
     → LeavesServing m count old new → IsLawful m new × AreGames m new

@@ -12,8 +12,9 @@ pub fn reports_are_right()
     ensures found { GamesAreFoundRight }
 {}
 
-/// And so they are after a run, whatever its letters say, where they were before it in a lawful state, which stays lawful: where all
-/// letters of an input were answered, where clients were served, and where a fault or a crash ended either. A law: it does nothing.
+/// From a lawful state in which the papers of each game are those of a game, a run leads to such a
+/// state, whatever its letters say: where all letters of an input were answered, where clients were
+/// served, and where a fault or a crash ended either. A law: it does nothing.
 pub fn runs_keep_games_right(map: &Map)
     ensures answered { RunsKeepGames map.now }
     ensures stopped { FaultsKeepGames map.now }
@@ -23,13 +24,14 @@ pub fn runs_keep_games_right(map: &Map)
     games_stay_right(map);
 }
 
-/// A new desk begins so: it is lawful, and has no game. A law: it does nothing.
+/// A new desk is lawful, and has no game, so that none of its games has wrong papers. A law: it
+/// does nothing.
 pub fn fresh_desks_have_no_wrong_game()
     ensures { FreshDesksAreRight }
 {}
 
-/// So whatever letters were answered since a desk was made, in however many runs, what `report` prints of a game is the papers of a game,
-/// which `check` finds right. A law: it does nothing.
+/// Whatever letters were answered since a desk was made, in however many runs, what `report` prints
+/// of a game is the papers of a game, which `check` finds right. A law: it does nothing.
 pub fn reports_stay_right(map: &Map)
     ensures { ReportsStayRight map.now }
 {

@@ -73,7 +73,7 @@ abbrev pub StandingIsReadBack : Type 0
 StandingIsReadBack = (m : Chart) (b : Position) (orders : List PlacedOrder) (u : AUnit) → IsMap m → IsOf m b → is_movement b.phase.season ≡ true
     → AreGiven m b orders → Contains b.units u → order_of m b u.power [] (order_text m (order_among orders u)) ≡ Ok (order_among orders u)
 
--- and orders among which that of each unit is just the one that stood come to what stood
+-- orders among which that of each unit is just the one that stood come to what stood
 abbrev pub StandingIsSettled : Type 0
 StandingIsSettled = (b : Position) (ps qs : List PlacedOrder)
     → ((u : AUnit) → Contains b.units u → found_order qs u ≡ Some (order_among ps u)) → standing_orders b qs ≡ standing_orders b ps
@@ -87,7 +87,7 @@ GivenAreReadBack = (m : Chart) (b : Position) (orders : List PlacedOrder) (o : P
 abbrev pub order_printed : List PlacedOrder → Dislodged → PlacedOrder
 order_printed orders d = record { unit = d.unit; order = retreat_order orders d }
 
--- and that one is read back too
+-- the order that a paper prints of a dislodged unit is read back from its text, with nothing beside it
 abbrev pub RetreatsAreReadBack : Type 0
 RetreatsAreReadBack = (m : Chart) (b : Position) (orders : List PlacedOrder) (d : Dislodged) → IsMap m → IsOf m b → is_retreat b.phase.season ≡ true
     → AreGiven m b orders → Contains b.dislodged d → order_of m b d.unit.power [] (order_text m (order_printed orders d)) ≡ Ok (order_printed orders d)

@@ -25,7 +25,7 @@ abbrev pub AreFronts : List ℕ → List (List ℕ) → Type 0
 AreFronts bytes [] = bytes ≡ []
 AreFronts bytes (t ∷ ts) = (lines rest : List ℕ) × AreEmptyLines lines × (bytes ≡ lines ++ (t ++ rest)) × AreFronts rest ts
 
--- and nothing but empty lines comes after them
+-- bytes are these texts, each after empty lines or none, and nothing but empty lines comes after the last
 pub record AreSpelled (bytes : List ℕ) (texts : List (List ℕ)) : Type 0 where
   pub front : List ℕ
   pub lines : List ℕ

@@ -15,7 +15,7 @@ with_broken (Forced d) column = column
 with_broken (Circle ps) column = column
 with_broken (Knot ps) column = with_all ps.items column
 
--- or any of these steps
+-- with those marked whose paths any of these steps breaks
 abbrev pub with_steps : List Written.Step → List (Option Bool) → List (Option Bool)
 with_steps [] column = column
 with_steps (s ∷ steps) column = with_steps steps (with_broken s column)

@@ -68,7 +68,7 @@ abbrev pub RingOr : Situation → Known → ℕ → Option (Vec ℕ Global) → 
 RingOr s k start None = (n : ℕ) × (leaves s k n start ≡ true)
 RingOr s k start (Some ring) = IsRing s k ring.items
 
--- a ring that was found from a unit on, or that from it on one comes into none, if its move is open: the move may be known
+-- a ring that was found; or, where the unit's move is open, that from it on one comes into none
 abbrev pub RingAt : Situation → Known → ℕ → Option (Vec ℕ Global) → Type 0
 RingAt s k p None = k (Move p) ≡ None → (n : ℕ) × (leaves s k n p ≡ true)
 RingAt s k p (Some ring) = IsRing s k ring.items

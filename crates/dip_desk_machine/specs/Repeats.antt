@@ -27,7 +27,8 @@ has_author n (Seat power) other who = bytes_eq other.note.game n.note.game && is
 abbrev pub AreOthers : Chart → Mail → Author → List Turn → Type 0
 AreOthers m n who ts = AllByRecursion (λ t. has_author n who t.letter (author_in m t) ≡ false) ts
 
--- so does the same letter where other authors' letters came between, as long as it has its author: REPLACE gives a seat another secret
+-- a letter that comes again after other authors' letters gets its old reply, and changes nothing, as long as it has its author: REPLACE gives a seat
+-- another secret
 abbrev pub ActsOnceLater : Chart → Type 0
 ActsOnceLater m = (old mid late new : State) (n : Mail) (first again : Reply) (between : List Turn) → author m n old ≢ Nobody → Step m old n first mid
     → IsRun m mid between late → AreOthers m n (author m n old) between → author m n late ≡ author m n old

@@ -49,13 +49,13 @@ AttackersAreSingle =
     (s : Situation) (a : Assignment) (p q : ℕ) → IsSituation s → goes s p q ≡ true
     → are_provs_single (attackers s a p q) ≡ true
 
--- nor in what prevents other moves
+-- no unit is counted twice in what prevents other moves
 abbrev pub PreventersAreSingle : Type 0
 PreventersAreSingle =
     (s : Situation) (a : Assignment) (p q : ℕ) → IsSituation s → goes s p q ≡ true
     → are_provs_single (preventers s a p q) ≡ true
 
--- nor in what the destination sets against a move, unless a unit supports itself
+-- no unit is counted twice in what the destination sets against a move, unless a unit supports itself
 abbrev pub OpponentsAreSingle : Type 0
 OpponentsAreSingle =
     (s : Situation) (a : Assignment) (p q : ℕ) → IsSituation s → s.supports q q ≡ false
@@ -66,14 +66,14 @@ abbrev pub AttacksAreShown : Type 0
 AttacksAreShown =
     (c : Matter) (p q : ℕ) → attack_text c p q ≡ codes "attack " ++ attack_strength c p q ++ attackers_text c p q
 
--- so is what the destination sets against a move: units head to head defend, and others are held
+-- what the destination sets against a move is told with its number, and then its units: units head to head defend, and others are held
 abbrev pub OppositionIsShown : Type 0
 OppositionIsShown =
     (c : Matter) (p q : ℕ)
     → opposition_text c p q
     ≡ (if head_to_head c.situation p q then codes "defend " else codes "hold ") ++ opposition_strength c p q ++ opponents_text c p q
 
--- and what another move there sets against it
+-- what another move to the same destination sets against it is told with its number, and then its units
 abbrev pub RivalsAreShown : Type 0
 RivalsAreShown =
     (c : Matter) (q w : ℕ) → prevent_text c q w ≡ codes "prevent " ++ prevent_strength c q w ++ preventers_text c q w
@@ -84,13 +84,13 @@ NoAttackHasAReason =
     (steps : List Step) (a : Assignment) (c : Matter) (p q : ℕ) → IsTold steps a c → IsOfMove c p q
     → attack c.situation (here c) p q ≡ 0 → AttackedByNone c a p q
 
--- and so where nothing is set against a move that succeeds
+-- where nothing is set against a move that succeeds, its line tells why, and that came out so
 abbrev pub NoOppositionHasAReason : Type 0
 NoOppositionHasAReason =
     (steps : List Step) (a : Assignment) (c : Matter) (p q : ℕ) → IsTold steps a c → IsOfMove c p q → a (Move p) ≡ true
     → opposition c.situation (here c) p q ≡ 0 → OpposedByNone c a p q
 
--- and where another move there doesn't prevent it
+-- where another move there doesn't prevent a move that succeeds, its line tells why, and that came out so
 abbrev pub NoPreventHasAReason : Type 0
 NoPreventHasAReason =
     (steps : List Step) (a : Assignment) (c : Matter) (p q w : ℕ) → IsTold steps a c → IsOfMove c p q → a (Move p) ≡ true
@@ -102,13 +102,13 @@ AttackersAreNamed =
     (c : Matter) (p q : ℕ) → 1 ≤ attack c.situation (here c) p q
     → attackers_text c p q ≡ named_text c (attackers c.situation (here c) p q) (missing_attackers c p q) (attack_lack c p q)
 
--- and so of the units that set themselves against a move in its destination
+-- where the destination sets something against a move, the text names just the units that do, and who is left out
 abbrev pub OpponentsAreNamed : Type 0
 OpponentsAreNamed =
     (c : Matter) (p q : ℕ) → 1 ≤ opposition c.situation (here c) p q
     → opponents_text c p q ≡ named_text c (opponents c.situation (here c) p q) (missing_opponents c p q) (lack_text c)
 
--- and of the units that prevent other moves
+-- where another move prevents, the text names just the units that do, and who is left out
 abbrev pub PreventersAreNamed : Type 0
 PreventersAreNamed =
     (c : Matter) (q w : ℕ) → 1 ≤ prevent c.situation (here c) w q
@@ -144,7 +144,7 @@ SupportersAreParted =
     (s : Situation) (a : Assignment) (p h : ℕ) → IsSituation s → s.supports h p ≡ true
     → is_listed (left_out s a p) h ≡ not (is_listed (backers s a p) h)
 
--- and so against the unit in q
+-- against the unit in q, whose support matches is either counted or left out, and never both
 abbrev pub SupportersArePartedAgainst : Type 0
 SupportersArePartedAgainst =
     (s : Situation) (a : Assignment) (p q h : ℕ) → IsSituation s → s.supports h p ≡ true
@@ -183,7 +183,7 @@ LinesRestOnThoseAbove =
     → AreExplained s (steps_of steps) a
     → k d ≡ (if is_among d (told_in l.above) then Some (a d) else if is_decided s d then None else Some false)
 
--- and from that alone the step may be made
+-- from what a line rests on alone its step may be made
 abbrev pub LinesFollow : Type 0
 LinesFollow =
     (s : Situation) (steps : List Step) (a : Assignment) (k : Known) (step : Step) → IsLine s steps a k step
@@ -207,7 +207,7 @@ LinesTellTheirMatters =
     (m : Chart) (orders : List PlacedOrder) (s : Situation) (a : Assignment) (k : Known) (d : Decision)
     → step_line m orders s a k (Forced d) ≡ decision_text (matter_at m orders s k d (a d)) d ++ codes "\n"
 
--- and that matter is one of which the laws below speak
+-- the matter of a decision's line is one of which the laws below speak
 abbrev pub MattersAreTold : Type 0
 MattersAreTold =
     (m : Chart) (orders : List PlacedOrder) (s : Situation) (steps : List Step) (a : Assignment) (k : Known) (d : Decision)
@@ -347,13 +347,13 @@ AttacksAreAsSaid =
     (c : Matter) (p q : ℕ) (f : Assignment) → IsSituation c.situation → IsOfMove c p q → IsCompletion c.known f
     → IsSaid (attack_strength c p q) (attack c.situation (here c) p q) (attack c.situation f p q)
 
--- and so is what the destination sets against it
+-- whatever is open, what the destination sets against the move is as the line says
 abbrev pub OppositionIsAsSaid : Type 0
 OppositionIsAsSaid =
     (c : Matter) (p q : ℕ) (f : Assignment) → IsSituation c.situation → IsOfMove c p q → IsCompletion c.known f
     → IsSaid (opposition_strength c p q) (opposition c.situation (here c) p q) (opposition c.situation f p q)
 
--- and what each other move there sets against it
+-- whatever is open, what each other move there sets against it is as the line says
 abbrev pub RivalsAreAsSaid : Type 0
 RivalsAreAsSaid =
     (c : Matter) (p q w : ℕ) (f : Assignment) → IsSituation c.situation → IsOfMove c p q → IsCompletion c.known f
@@ -366,19 +366,19 @@ CountedAreAsSaid =
     (steps : List Step) (a : Assignment) (c : Matter) (p h : ℕ) → IsTold steps a c
     → is_listed (backers c.situation (here c) p) h ≡ true → IsCounted c a h
 
--- and of each that counts against the unit in q
+-- what is said of each supporter that counts against the unit in q is so
 abbrev pub CountedAgainstAreAsSaid : Type 0
 CountedAgainstAreAsSaid =
     (steps : List Step) (a : Assignment) (c : Matter) (p q h : ℕ) → IsTold steps a c
     → is_listed (backers_against c.situation (here c) p q) h ≡ true → IsCounted c a h
 
--- and of each that is left out
+-- what is said of each supporter that is left out is so
 abbrev pub LeftOutAreAsSaid : Type 0
 LeftOutAreAsSaid =
     (steps : List Step) (a : Assignment) (c : Matter) (p h : ℕ) → IsTold steps a c
     → is_listed (left_out c.situation (here c) p) h ≡ true → IsLeftOut c a h (lack_text c h)
 
--- and of each that is left out against the unit in q
+-- what is said of each supporter that is left out against the unit in q is so
 abbrev pub LeftOutAgainstAreAsSaid : Type 0
 LeftOutAgainstAreAsSaid =
     (steps : List Step) (a : Assignment) (c : Matter) (p q h : ℕ) → IsTold steps a c

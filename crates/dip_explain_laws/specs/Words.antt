@@ -29,7 +29,7 @@ abbrev pub missing_attackers : Matter → ℕ → ℕ → List ℕ
 missing_attackers c p q =
     if is_free c.situation (here c) p q then left_out c.situation (here c) p else left_out_against c.situation (here c) p q
 
--- and why each of them is
+-- why a supporter is left out of the attack from p to q
 abbrev pub attack_lack : Matter → ℕ → ℕ → ℕ → List ℕ
 attack_lack c p q h = if is_free c.situation (here c) p q then lack_text c h else lack_against_text c q h
 

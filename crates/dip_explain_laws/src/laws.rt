@@ -38,8 +38,8 @@ pub fn numbers_stand_before_their_units()
     ensures no_prevent { NoPreventHasAReason }
 {}
 
-/// And just these units are named: where a strength isn't 0, the text after it names them, and then those that are left out, and nobody
-/// else. A law: it does nothing.
+/// Where a strength isn't 0, the text after it names just the units that make it up, and then those
+/// that are left out, and nobody else. A law: it does nothing.
 pub fn names_are_of_the_units_counted()
     ensures attackers { AttackersAreNamed }
     ensures opponents { OpponentsAreNamed }

@@ -22,7 +22,7 @@ pub enum Saying {
     Cuts(Prov),
     /// By its move the support of this unit isn't cut.
     Spares(Prov),
-    /// As a fleet it carries an army that has a route.
+    /// It carries an army, which has a route.
     Serves,
     /// It is to carry an army that has no route.
     Strands,

@@ -45,7 +45,7 @@ backed_text c p =
     codes " (" ++ unit_in c p ++ others (backer_text c) (backers c.situation (here c) p)
     ++ flat_map (left_out_text c) (left_out c.situation (here c) p) ++ codes ")"
 
--- and against the unit in q
+-- a unit with those that support it against the unit in q
 unfoldable pub backed_against_text : Matter → ℕ → ℕ → List ℕ
 backed_against_text c p q =
     codes " (" ++ unit_in c p ++ others (backer_text c) (backers_against c.situation (here c) p q)
@@ -122,7 +122,7 @@ pathless_words = codes " has no route)"
 unfoldable pub pathless : Matter → ℕ → List ℕ
 pathless c w = codes " (" ++ unit_in c w ++ pathless_words
 
--- nor does one that lost to the unit in q, head to head
+-- a move that lost to the unit in q, head to head, prevents nobody
 unfoldable pub loser_text : Matter → ℕ → ℕ → List ℕ
 loser_text c q w = codes " (" ++ unit_in c w ++ codes " lost to " ++ unit_in c q ++ codes " head to head)"
 

@@ -8,7 +8,7 @@ use Rattle.dip_decide_rules.specs.Movement.{Situation, has_move, has_path, head_
 unfoldable pub backs : Situation → Assignment → ℕ → ℕ → Bool
 backs s a p h = s.supports h p && a (Support h)
 
--- and is of another power than the unit in q
+-- h has a given support of the unit in p, and is of another power than the unit in q
 unfoldable pub backs_against : Situation → Assignment → ℕ → ℕ → ℕ → Bool
 backs_against s a p q h = backs s a p h && not (s.same_power h q)
 

@@ -59,8 +59,8 @@ ShowsPart (Keep fault) quiet text old new before after = (new ≡ old) × IsPart
 abbrev pub PostsTo : Chart → List ℕ → State → State → Option (List ℕ) → Option (List ℕ) → Type 0
 PostsTo m body old new before after = (answer : List ℕ) × Posts m body old answer new × Appends before after answer
 
--- the answering of a body ended by a fault: the reader's or want of memory before anything was written, the writer's after the letter was taken, or
--- the keeper's with a beginning of the 503
+-- the answering of a body ended by a fault: of the reader or of memory, and nothing was written; of the writer, with a beginning of the answer; or of
+-- the keeper, with a beginning of the 503
 abbrev pub PostsToPart : Chart → HttpFault → List ℕ → State → State → Option (List ℕ) → Option (List ℕ) → Type 0
 PostsToPart m Read body old new before after = (new ≡ old) × (after ≡ before)
 PostsToPart m Memory body old new before after = (new ≡ old) × (after ≡ before)
@@ -109,14 +109,14 @@ pub record TakesMail (m : Chart) (body : List ℕ) (old new : State) : Type 0 wh
   pub reply : Reply
   pub step : Step m old letter reply new
 
--- the letter that a body of this size after a head is was taken by a step
+-- the body of this size after a head is a letter, which was taken by a step
 pub record TakesBody (m : Chart) (size : ℕ) (start : List ℕ) (known : Option (List ℕ)) (old new : State) : Type 0 where
   pub more : List ℕ
   pub left : WasLeft known more
   pub whole : size ≤ length (start ++ more)
   pub takes : TakesMail m (take size (start ++ more)) old new
 
--- the letter that is the body which a verdict takes was taken by a step; verdicts other than take_letter take none
+-- the body that a verdict takes is a letter, which was taken by a step; verdicts other than take_letter take none
 abbrev pub TakesBy : Chart → Verdict → List ℕ → Option (List ℕ) → State → State → Type 0
 TakesBy m (take_letter size) start known old new = TakesBody m size start known old new
 TakesBy m _ start known old new = ⊥

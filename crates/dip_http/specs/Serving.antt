@@ -33,7 +33,7 @@ pub record IsAnsweredIn (m : Chart) (old : State) (turns : List Turn) (new : Sta
   pub answers : IsAnswer m input old answer new
   pub turns_of : AreTurnsOf input answer turns
 
--- or a client of which nothing was taken
+-- a client who was answered, with the turn that he posted; or one of whom nothing was taken
 abbrev pub Visits : Chart → State → List Turn → State → Type 0
 Visits m old turns new = ((turns ≡ []) × (new ≡ old)) ⊎ IsAnsweredIn m old turns new
 

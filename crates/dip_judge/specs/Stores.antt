@@ -79,7 +79,7 @@ ReportsUpTo game s before after NoGame = (game_at game s ≡ None) × (after ≡
 ReportsUpTo game s before after (Papers fault) = AreBegun (game_at game s) before after
 ReportsUpTo game s before after failure = ⊥
 
--- and nothing changed
+-- a report failed so, and the store ends as it was
 abbrev pub StopsReport : {S : Type 0} → Ghosts S → Chart → Type 0 → List ℕ → State → Held S → Option (List ℕ) → Option (List ℕ) → Failure → Type 0
 StopsReport g m Fault game s new before after failure = ReportsUpTo game s before after failure × StoreEnds g m Fault new s (λ _. ⊥)
 

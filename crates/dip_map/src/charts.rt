@@ -169,8 +169,7 @@ impl Map {
         self.parts.code(p)
     }
 
-    /// A province's full name. Where disorder has to choose between units that are alike, these
-    /// names do.
+    /// A province's full name. Between units that disorder could remove alike, these names decide.
     pub fn name(&self, p: Prov) -> &str
         ensures { result.now ≡ (province self.now p).name }
     {

@@ -79,7 +79,7 @@ pub struct Place {
     pub coast: u8,
 }
 
-/// Armies stand inland and on coasts, fleets on coasts and at sea.
+/// An army or a fleet: armies stand inland and on coasts, fleets on coasts and at sea.
 #[derive(Clone, Copy, PartialEq, Eq, PartialOrd, Ord, Debug)]
 pub enum Kind {
     Army,

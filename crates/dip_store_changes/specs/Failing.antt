@@ -68,7 +68,7 @@ PressHasRoom m who name (Opens public paper seats) ss = Unit {0}
 PressHasRoom m who name (Publishes public paper played) ss = Unit {0}
 PressHasRoom m who name (Seats seat) ss = Unit {0}
 
--- and in the rows of its readers
+-- the inbox of each reader of press has room for one item more
 abbrev pub InboxesHaveRoom : Chart → List ℕ → Effect → List SeatRow → Type 0
 InboxesHaveRoom m name Nothing ss = Unit {0}
 InboxesHaveRoom m name (Pending orders) ss = Unit {0}

@@ -60,7 +60,7 @@ shown_own m power vote at r orders = record {
   items = number_in (column r (at + 6));
 }
 
--- and that of a seat whose row begins with its power's name, in a game of that name
+-- the own part of a seat whose row begins with its power's name, in a game of that name
 abbrev pub listed_own : Chart → Tables → List ℕ → Row → Own
 listed_own m t game r =
     let name = bytes (column r 0) in

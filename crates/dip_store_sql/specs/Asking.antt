@@ -57,7 +57,7 @@ pub record IsWhole (text : List ℕ) : Type 0 where
 abbrev pub MeansIn : Schema → List ℕ → Command → Type 0
 MeansIn schema text command = command_in (understood schema text) command × IsPlain (understood schema text)
 
--- and this query, of so many parameters
+-- against this schema the text is this query, of so many parameters
 pub record AsksIn (schema : Schema) (text : List ℕ) (count : ℕ) (q : Query) (names : List (List ℕ))
     : Type 0 where
   pub means : MeansIn schema text (Select (record { lets = []; body = q }) names)

@@ -17,16 +17,16 @@ abbrev pub StateIsChanged : Chart → Type 0
 StateIsChanged m = (c : Change) (t : Tables) → IsChangeOf m c → AreCoded m t → AreApart t → AreApart (changing m c t)
     → state_of m (changing m c t) ≡ state_after c (state_of m t)
 
--- and they are still such as a keeper wrote
+-- after the statements of a change tables are still such as a keeper wrote
 abbrev pub TablesStayCoded : Chart → Type 0
 TablesStayCoded m = (c : Change) (t : Tables) → IsChangeOf m c → AreCoded m t → AreCoded m (changing m c t)
 
--- and numbered, where the paper of the change has the next number
+-- after the statements of a change papers and items are still numbered from 1, where the change's paper has the next number
 abbrev pub TablesStayCounted : Chart → Type 0
 TablesStayCounted m = (c : Change) (t : Tables) → CountsOn c.game c.effect t.games → AreCounted t → AreApart t → AreApart (changing m c t)
     → AreCounted (changing m c t)
 
--- and each row is still that of a record of the map
+-- after the statements of a change each row is still that of a record of the map
 abbrev pub TablesStayWritten : Chart → Type 0
 TablesStayWritten m = (c : Change) (t : Tables) → IsWritable m c → HasWidths c → AreApart (changing m c t) → AreWritten m t
     → AreWritten m (changing m c t)

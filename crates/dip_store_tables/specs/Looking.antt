@@ -13,7 +13,7 @@ use Rattle.dip_store_tables.specs.Tables.{GameRow, SeatRow, Tables, is_box, is_n
 abbrev pub PublicIsFound : Chart → Type 0
 PublicIsFound m = (t : Tables) (name : List ℕ) → public_at name (state_of m t) ≡ option_map (public_of m t.units t.centres t.choices) (find (is_named name) t.games)
 
--- and a seat's own part is what the first row of its game and its power's name says
+-- a seat's own part is what the first row of its game and its power's name says
 abbrev pub OwnIsFound : Chart → Type 0
 OwnIsFound m = (t : Tables) (name : List ℕ) (power : ℕ) → AreCoded m t → power < length m.realms
     → own_at name power (state_of m t) ≡ option_map (own_of m t.pending t.ballots) (find (is_seat name (power_name m power)) t.seats)
@@ -27,7 +27,7 @@ abbrev pub PageIsFound : Chart → Type 0
 PageIsFound m = (t : Tables) (s : SeatRow) (first most : ℕ) → item_numbers t.boxes s.game s.power ≡ counted s.items → 1 ≤ first
     → page_of first most (part_of m t s).box ≡ map item_of (filter (λ b. is_within first most b.number) (filter (is_box s.game s.power) t.boxes))
 
--- and a paper of a game with counted papers is the first row of its number
+-- a paper of a game with counted papers is the first row of its number
 abbrev pub PaperIsFound : Chart → Type 0
 PaperIsFound m = (t : Tables) (g : GameRow) (n : ℕ) → paper_numbers t.papers g.name ≡ counted g.papers
     → paper_numbered n (game_of m t g).papers ≡ option_map (λ p. p.body) (find (λ p. p.number == n) (filter (is_paper_in g.name) t.papers))

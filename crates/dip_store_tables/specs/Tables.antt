@@ -108,7 +108,7 @@ is_ballot_in name b = bytes_eq b.game name
 abbrev pub is_choice_in : List ℕ → ChoiceRow → Bool
 is_choice_in name c = bytes_eq c.game name
 
--- and which are of a seat, by its power's name
+-- which rows are of a seat, by its game's name and its power's
 abbrev pub is_seat : List ℕ → List ℕ → SeatRow → Bool
 is_seat name power s = bytes_eq s.game name && bytes_eq s.power power
 

@@ -14,7 +14,7 @@ ballot_text m No = codes "NO"
 ballot_text m Yes = codes "YES"
 ballot_text m (For powers) = joined 32 (map (power_name m) powers)
 
--- and the vote of such a text
+-- the vote that a ballot's text says
 abbrev pub vote_of : Chart → List ℕ → Vote
 vote_of m text =
     if bytes_eq text (codes "NO") then No else if bytes_eq text (codes "YES") then Yes

@@ -14,12 +14,14 @@ pub fn tables_stay_coded()
     ensures { (m : Chart) → TablesStayCoded m }
 {}
 
-/// And papers and items are still numbered from 1, where a change's paper has the next number of its game.
+/// After the statements of a change papers and items are still numbered from 1, where a change's
+/// paper has the next number of its game.
 pub fn tables_stay_counted()
     ensures { (m : Chart) → TablesStayCounted m }
 {}
 
-/// And each row is still that of a record of the map, so that it can be read back.
+/// After the statements of a change each row is still that of a record of the map, so that it can
+/// be read back.
 pub fn tables_stay_written()
     ensures { (m : Chart) → TablesStayWritten m }
 {}

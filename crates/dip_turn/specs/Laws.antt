@@ -95,7 +95,7 @@ WinnersOwnMore =
     (m : Chart) (b : Position) (pending : List PlacedOrder) (new : Position) (report : Report) (power : ℕ)
     → IsPlayed m b pending new report → report.course ≡ Won power → has_won m new power ≡ true
 
--- and nobody else does
+-- at most one power owns more than half of all centres
 abbrev pub WinnersAreOne : Type 0
 WinnersAreOne =
     (m : Chart) (b : Position) (pending : List PlacedOrder) (new : Position) (report : Report) (power other : ℕ)

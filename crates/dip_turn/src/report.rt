@@ -75,7 +75,7 @@ pub enum Course {
 /// All that the adjudication of a phase says beside the board after it. A paper prints it.
 #[derive(Drop)]
 pub struct Report {
-    /// The phase that was played; the board after it has the next one.
+    /// The phase that was played; a game that goes on has the next one on its board.
     pub phase: Phase,
     pub account: Account,
     /// The centres that changed hands, by code.

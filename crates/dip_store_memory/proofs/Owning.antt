@@ -1,7 +1,7 @@
 -- Own parts that are remembered.
-use Rattle.std.proofs.Common.{◌≡◌, ◌<◌, ◌==◌, ◌+◌, ◌++◌, ℕ, zero, suc, Bool, true, false, cond, nat_le, List, [], ◌∷◌, Option, None, Some, Result, Ok, Err, OnOk, OnErr, map, filter, take, drop, get_or, length, option_map, unwrap_or, refl, sym, ap, subst, ◌∙◌, inl, inr, arith, add-one, bytes_eq, String, string_bytes, Vec, vec_len, slice_set, eqb-true}
+use Rattle.std.proofs.Common.{◌≡◌, ◌<◌, ◌==◌, ◌+◌, ◌++◌, ℕ, zero, suc, Bool, true, false, cond, nat_le, List, [], ◌∷◌, Option, Some, Result, Ok, Err, OnOk, OnErr, map, filter, take, drop, get_or, length, option_map, unwrap_or, refl, sym, ap, subst, ◌∙◌, arith, add-one, bytes_eq, String, string_bytes, Vec, vec_len, slice_set, eqb-true}
 use Rattle.std.specs.declared.alloc.Global.{Global}
-use Rattle.std.specs.List.{AllByRecursion, find}
+use Rattle.std.specs.List.{AllByRecursion}
 use Rattle.std.specs.Map.{lookup, values_of}
 use Rattle.std.specs.String.{string_eq}
 use Rattle.indexmap.specs.IndexMap.{IndexMap, UpdatesBy}

@@ -1,10 +1,10 @@
 -- What is remembered of seats.
-use Rattle.std.specs.Prelude.{◌≡◌, ◌==◌, ◌+◌, ℕ, Bool, true, false, List, [], ◌∷◌, Option, None, Some, length, nat_le, bytes_eq, option_map, unwrap_or, if◌then◌else◌}
+use Rattle.std.specs.Prelude.{◌≡◌, ◌==◌, ◌+◌, ℕ, Bool, true, false, List, [], ◌∷◌, Option, None, Some, length, nat_le, bytes_eq, unwrap_or, if◌then◌else◌}
 use Rattle.std.specs.List.{AllByRecursion}
 use Rattle.std.specs.Map.{lookup}
 use Rattle.dip_desk_state.specs.Keyed.{at}
 use Rattle.dip_desk_state.specs.Records.{Kept, Own}
-use Rattle.dip_desk_state.specs.State.{Author, Nobody, TheMaster, Seat, Change, Effect, Nothing, Pending, Votes, Delivers, Opens, Publishes, Seats, State, is_seat, own_at, own_effect}
+use Rattle.dip_desk_state.specs.State.{Change, Effect, Nothing, Pending, Votes, Delivers, Opens, Publishes, Seats, State, is_seat, own_at, own_effect}
 
 -- own parts of seats, under the names of their games
 abbrev pub Owns : Type 0

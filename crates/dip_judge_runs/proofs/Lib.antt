@@ -1,2 +1,3 @@
 pub mod TurnLemmas
+pub mod StepLemmas
 pub mod FreshLemmas

@@ -1,21 +1,24 @@
 -- What a run reads and writes.
-use Rattle.std.specs.Prelude.{◌≡◌, ℕ, List, [], ◌∷◌, ◌++◌, Option, take}
+use Rattle.std.specs.Prelude.{◌≡◌, ℕ, List, [], ◌∷◌, ◌++◌, Option, Result, Ok, Err, take}
 use Rattle.std.specs.List.{flat_map}
 use Rattle.std.specs.Io.KnownBytes.{Appends}
 use Rattle.dip_letters.specs.Input.{IsNext}
 use Rattle.dip_desk_machine.specs.Mail.{Mail, mail}
-use Rattle.dip_desk.specs.Keeping.{Book, Ends}
+use Rattle.dip_desk.specs.Keeping.{Book, Ends, Steps}
 use Rattle.dip_desk.specs.Running.{Answers}
 use Rattle.dip_letters.specs.declared.letters.Next.{Next}
 use Rattle.dip_letters.specs.declared.letters.Next.TheVariants.{Taken, Fault, End}
-use Rattle.dip_desk_machine.specs.Machine.{Step, fault_reply}
+use Rattle.dip_desk_machine.specs.Machine.{IsDamagedBy, Step, fault_reply}
 use Rattle.dip_map.specs.Charts.{Chart}
 use Rattle.dip_desk_state.specs.State.{State}
 use Rattle.dip_reports.specs.Texts.{reply_text}
 use Rattle.dip_desk_state.specs.Records.{Reply}
+use Rattle.dip_desk_state.specs.Rows as rows
+use Rattle.dip_desk_state.specs.declared.faults.KeepFault.{KeepFault}
+use Rattle.dip_desk_state.specs.declared.records.Reply.{Reply as Row}
 use Rattle.dip_judge_runs.specs.Reading.{IsReadWithin}
 use Rattle.dip_judge_runs.specs.declared.run.RunFault.{RunFault}
-use Rattle.dip_judge_runs.specs.declared.run.RunFault.TheVariants.{Write}
+use Rattle.dip_judge_runs.specs.declared.run.RunFault.TheVariants.{Keep, Memory, Write}
 
 -- the reader gave the whole input, which is within the limit, and nothing is left
 abbrev pub IsReadWhole : Option (List ℕ) → Option (List ℕ) → List ℕ → Type 0
@@ -99,6 +102,33 @@ IsTakenBy m old End new = ⊥
 -- what stands next in the input is a letter, and is taken by a step
 abbrev pub TakesNext : Chart → List ℕ → State → State → Type 0
 TakesNext m input old new = (next : Next) × IsNext input next × IsTakenBy m old next new
+
+-- a letter is taken by the desk, over a keeper
+abbrev pub TakesLetter : {K : Type 0} → Chart → Book K → Mail → K → K → Result Row KeepFault → Type 0
+TakesLetter m b n old new result = Steps m b old new (λ r. rows.reply r) (λ s r t. Step m s n r t) (IsDamagedBy m n) result
+
+-- what was found is answered over a keeper, and what is after it is left: a letter is taken; a fault of the reading is answered by nobody, and
+-- the keeper isn't asked
+abbrev pub IsAnsweredOver : {K : Type 0} → Chart → Book K → K → K → Row → List ℕ → Next → Type 0
+IsAnsweredOver m b old new reply after (Taken l rest) = TakesLetter m b (mail l) old new (Ok reply) × (rest.now ≡ after)
+IsAnsweredOver m b old new reply after (Fault fault rest) = (rows.reply reply ≡ fault_reply fault) × (new ≡ old) × (rest.now ≡ after)
+IsAnsweredOver m b old new reply after End = ⊥
+
+-- what stands next in the input is answered over a keeper, and what is after it is left
+abbrev pub AnswersNext : {K : Type 0} → Chart → Book K → List ℕ → K → K → Row → List ℕ → Type 0
+AnswersNext m b input old new reply after = (next : Next) × IsNext input next × IsAnsweredOver m b old new reply after next
+
+-- what was found is a letter to which the keeper gave no answer
+abbrev pub IsUnanswered : {K : Type 0} → Chart → Book K → K → K → KeepFault → Next → Type 0
+IsUnanswered m b old new fault (Taken l rest) = TakesLetter m b (mail l) old new (Err fault)
+IsUnanswered m b old new fault _ = ⊥
+
+-- what stands next in the input has no answer: memory ran out for that to a fault of the reading, and the keeper wasn't asked; or the keeper
+-- gave none to a letter
+abbrev pub FailsNext : {K : Type 0} → Chart → Book K → List ℕ → K → K → RunFault → Type 0
+FailsNext m b input old new Memory = new ≡ old
+FailsNext m b input old new (Keep fault) = (next : Next) × IsNext input next × IsUnanswered m b old new fault next
+FailsNext m b input old new _ = ⊥
 
 -- a front of the input was answered, up to a fault
 pub record Stops (m : Chart) (fault : RunFault) (input : List ℕ) (old new : State) (before after : Option (List ℕ)) : Type 0 where

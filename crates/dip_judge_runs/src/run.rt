@@ -1,14 +1,14 @@
 //! A run over a reader and a writer: letters in, replies out.
-ghost use Rattle.std.specs.Prelude.{◌≡◌, ◌<◌, ◌≤◌, ◌⊎◌, ℕ, List, IfOk, IfErr, IfSome, IfNone, OnOk, OnErr, IsErrOf, length, take as first};
+ghost use Rattle.std.specs.Prelude.{◌≡◌, ◌<◌, ◌⊎◌, ℕ, List, IfOk, IfErr, IfSome, IfNone, OnOk, OnErr, IsErrOf, length, take as first};
 ghost use Rattle.std.specs.Io.KnownBytes.{Appends};
 ghost use Rattle.dip_letters.specs.Input.{IsNext};
-ghost use Rattle.dip_desk.specs.Keeping.{Ends, IsOpen, WasTold};
+ghost use Rattle.dip_desk.specs.Keeping.{IsOpen, WasTold};
 ghost use Rattle.dip_desk_machine.specs.Lawful.{IsLawful};
 ghost use Rattle.dip_reports.specs.Texts.{reply_text};
 ghost use Rattle.dip_desk_state.specs.Rows as rows;
 ghost use Rattle.dip_judge_runs.specs.Names.{run_name};
-ghost use Rattle.dip_judge_runs.specs.Runs.{AnswersAll, IsReadToEnd, IsReadWhole, IsTurn, IsUntouched, Stops, StopsAt, TakesNext};
-ghost use Rattle.dip_judge_runs.specs.RunFaults.{IsAnsweringFault, IsReadingFault, IsTakingFault, StopsBy, faults_after_run};
+ghost use Rattle.dip_judge_runs.specs.Runs.{AnswersAll, AnswersNext, FailsNext, IsReadToEnd, IsReadWhole, IsUntouched, Stops, StopsAt};
+ghost use Rattle.dip_judge_runs.specs.RunFaults.{IsAnsweringFault, IsReadingFault, StopsBy, faults_after_run};
 
 use crate::reading::{ReadFault, read_whole};
 use dip_desk::{Keeper, fault_reply, take};
@@ -139,39 +139,14 @@ fn step<'a, K: Keeper>(
     input: &'a [u8],
 ) -> Result<Option<(Reply, &'a [u8])>, RunFault>
     requires { K.book.faults keeper.old < u64.MAX }
-    ensures some { K.book.sound map.now keeper.old → K.book.shows keeper.new
-        → IfOk result
-        (λ o. IfSome o
-        (λ p. IsTurn map.now input.entry.now (K.book.content map.now keeper.old) (rows.reply p.0)
-        (K.book.content map.now keeper.new) p.1.now)) }
+    ensures answered { IfOk result (λ o. IfSome o (λ p. AnswersNext map.now K.book
+        input.entry.now keeper.old keeper.new p.0 p.1.now)) }
     ensures shorter { IfOk result (λ o. IfSome o (λ p. length p.1.now < length input.entry.now)) }
-    ensures err { K.book.sound map.now keeper.old → K.book.shows keeper.new
-        → OnErr result (K.book.content map.now keeper.new ≡ K.book.content map.now keeper.old) }
-    ensures lawful { K.book.sound map.now keeper.old → K.book.shows keeper.new
-        → IsLawful map.now (K.book.content map.now keeper.old)
-        → IsLawful map.now (K.book.content map.now keeper.new) }
-    ensures never { IsOpen map.now K.book keeper.old → K.book.honest keeper.new
-        → IsLawful map.now (K.book.content map.now keeper.old)
-        → IsErrOf result (RunFault.Keep KeepFault.Damaged) → ⊥ }
-    ensures failed { IsOpen map.now K.book keeper.old → K.book.honest keeper.new
-        → IsErrOf result (RunFault.Keep KeepFault.Disk) → WasTold K.book keeper.old keeper.new }
-    ensures goes { IsOpen map.now K.book keeper.old → K.book.honest keeper.new
-        → OnOk result (IsOpen map.now K.book keeper.new) }
-    ensures ends { IsOpen map.now K.book keeper.old → K.book.honest keeper.new → OnErr result
-        (Ends map.now K.book keeper.old keeper.new (K.book.content map.now keeper.old)
-        (TakesNext map.now input.entry.now (K.book.content map.now keeper.old))) }
-    ensures fair { K.book.honest keeper.new → K.book.honest keeper.old }
-    ensures told { K.book.told keeper.old ≤ K.book.told keeper.new }
-    ensures of_size { K.book.of_size keeper.old ≤ K.book.of_size keeper.new }
     ensures none { IfOk result
         (λ o. IfNone o (IsNext input.entry.now Next.End × (keeper.new ≡ keeper.old))) }
-    ensures fault { IfErr result IsTakingFault }
-    ensures count { K.book.faults keeper.new ≡ faults_after_run result (K.book.faults keeper.old) }
-    ensures shown { K.book.shows keeper.new → K.book.shows keeper.old }
-    ensures sound { K.book.sound map.now keeper.old → K.book.shows keeper.new
-        → K.book.sound map.now keeper.new }
+    ensures failed { IfErr result
+        (FailsNext map.now K.book input.entry.now keeper.old keeper.new) }
 {
-    lawful_states_stay_lawful(map);
     match next_letter(input) {
         Next::End => Ok(None),
         Next::Fault(fault, rest) => match fault_reply(alloc, fault) {
@@ -217,6 +192,7 @@ fn answer_all<W: Write, K: Keeper>(
     ensures fair { K.book.honest keeper.new → K.book.honest keeper.old }
     ensures shown { K.book.shows keeper.new → K.book.shows keeper.old }
 {
+    lawful_states_stay_lawful(map);
     published_movements_are_decided();
     let mut rest = input;
     'letters: loop {

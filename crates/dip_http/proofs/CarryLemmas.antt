@@ -76,18 +76,17 @@ game_part m name quiet start known old new a b (Ok u) h = tt
 game_part m name quiet start known old new a b (Err e) h = part_of_game m name quiet start known old new a b e h
 
 -- a paper was shown
-pub paper_whole : (m : Chart) (name number : List ℕ) (quiet : Bool) (start : List ℕ) (known : Option (List ℕ)) (old new : State) (a b : Option (List ℕ))
-    (r : Result (Unit {0}) HttpFault)
-    → OnOk r ((n : Option ℕ) × IsNumber number n × Shows (paper_answer quiet (paper_named name n old)) old new a b)
+pub paper_whole : (m : Chart) (name number : List ℕ) (n : Option ℕ) (quiet : Bool) (start : List ℕ) (known : Option (List ℕ)) (old new : State) (a b : Option (List ℕ))
+    (r : Result (Unit {0}) HttpFault) → IsNumber number n → OnOk r (Shows (paper_answer quiet (paper_named name n old)) old new a b)
     → OnOk r (Carried m (show_paper name number) quiet start known old new a b)
-paper_whole m name number quiet start known old new a b (Ok u) h = record {
+paper_whole m name number n quiet start known old new a b (Ok u) is h = record {
   more = (left_of known).0;
   left = (left_of known).1;
-  answer = paper_answer quiet (paper_named name h.0 old);
-  carries = (h.0, h.1, refl, h.2.same);
-  written = h.2.written;
+  answer = paper_answer quiet (paper_named name n old);
+  carries = (n, is, refl, h.same);
+  written = h.written;
 }
-paper_whole m name number quiet start known old new a b (Err e) h = tt
+paper_whole m name number n quiet start known old new a b (Err e) is h = tt
 
 part_of_paper : (m : Chart) (name number : List ℕ) (quiet : Bool) (start : List ℕ) (known : Option (List ℕ)) (old new : State) (a b : Option (List ℕ)) (f : HttpFault)
     (n : Option ℕ) → IsNumber number n → ShowsPart f quiet (paper_answer quiet (paper_named name n old)) old new a b
@@ -103,12 +102,12 @@ part_of_paper m name number quiet start known old new a b Write n is h = record 
 }
 part_of_paper m name number quiet start known old new a b (Keep fault) n is h = h
 
-pub paper_part : (m : Chart) (name number : List ℕ) (quiet : Bool) (start : List ℕ) (known : Option (List ℕ)) (old new : State) (a b : Option (List ℕ))
-    (r : Result (Unit {0}) HttpFault)
-    → IfErr r (λ f. (n : Option ℕ) × IsNumber number n × ShowsPart f quiet (paper_answer quiet (paper_named name n old)) old new a b)
+pub paper_part : (m : Chart) (name number : List ℕ) (n : Option ℕ) (quiet : Bool) (start : List ℕ) (known : Option (List ℕ)) (old new : State) (a b : Option (List ℕ))
+    (r : Result (Unit {0}) HttpFault) → IsNumber number n
+    → IfErr r (λ f. ShowsPart f quiet (paper_answer quiet (paper_named name n old)) old new a b)
     → IfErr r (λ f. CarriedBy m f (show_paper name number) quiet start known old new a b)
-paper_part m name number quiet start known old new a b (Ok u) h = tt
-paper_part m name number quiet start known old new a b (Err e) h = part_of_paper m name number quiet start known old new a b e h.0 h.1 h.2
+paper_part m name number n quiet start known old new a b (Ok u) is h = tt
+paper_part m name number n quiet start known old new a b (Err e) is h = part_of_paper m name number quiet start known old new a b e n is h
 
 -- a letter was taken, whatever the method
 pub letter_whole : (m : Chart) (size : ℕ) (quiet : Bool) (start : List ℕ) (known : Option (List ℕ)) (old new : State) (a b : Option (List ℕ))

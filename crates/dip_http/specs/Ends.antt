@@ -1,20 +1,21 @@
 -- How a connection and its parts end: what was written, and what the desk is.
-use Rattle.std.specs.Prelude.{◌≡◌, ◌≤◌, ◌⊎◌, ℕ, List, ◌++◌, Bool, false, Option, None, IfSome, IsErrOf, Result, length, take}
+use Rattle.std.specs.Prelude.{◌≡◌, ◌≤◌, ◌⊎◌, ℕ, List, ◌++◌, Bool, false, Option, None, IfErr, IfSome, IsErrOf, OnOk, Result, length, take}
 use Rattle.std.specs.Io.KnownBytes.{Appends}
 use Rattle.httparse.specs.Grammar.{RequestHead}
 use Rattle.dip_map.specs.Charts.{Chart}
 use Rattle.dip_desk.specs.Keeping.{Book, Ends, Rises, Settles, WasTold}
+use Rattle.dip_desk_machine.specs.Lawful.{IsLawful}
 use Rattle.dip_desk_machine.specs.Machine.{Step}
 use Rattle.dip_desk_machine.specs.Mail.{Mail}
 use Rattle.dip_desk_state.specs.Records.{Reply}
 use Rattle.dip_desk_state.specs.State.{State}
-use Rattle.dip_desk_state.specs.declared.faults.KeepFault.TheVariants.{Disk}
+use Rattle.dip_desk_state.specs.declared.faults.KeepFault.TheVariants.{Damaged, Disk}
 use Rattle.dip_http.specs.Heads.{IsHead}
 use Rattle.dip_http.specs.Answers.{IsPart, refusal}
 use Rattle.dip_http.specs.Verdicts.{Verdict, is_head, take_letter}
 use Rattle.dip_http.specs.Answering.{Carries, IsAnswer, IsOneLetter, Posts}
 use Rattle.dip_http.specs.Laws.{IsPost}
-use Rattle.dip_http.specs.Faults.{OnKept, faults_after_answer}
+use Rattle.dip_http.specs.Faults.{OnKept, OnUnkept, faults_after_answer}
 use Rattle.dip_http.specs.declared.faults.HttpFault.{HttpFault}
 use Rattle.dip_http.specs.declared.faults.HttpFault.TheVariants.{Read, Write, Memory, Keep}
 
@@ -43,6 +44,20 @@ Tells Memory quiet old new before after = after ≡ before
 Tells Write quiet old new before after = Unit {0}
 Tells (Keep fault) quiet old new before after = IsPart before after (refusal 503 None quiet)
 
+-- how a request is answered over a keeper: what is kept of it, what a fault tells, and what a crash leaves where the keeper gave no answer; while
+-- the keeper shows what it keeps, what was done, or by which fault a part of it; a lawful content stays lawful, and nothing is Damaged over one
+pub record Serves {K : Type 0} (m : Chart) (b : Book K) (quiet : Bool) (old new : K) (before after : Option (List ℕ))
+    (Done : State → State → Type 0) (Part : HttpFault → State → State → Type 0) (Takes : State → State → Type 0)
+    (result : Result (Unit {0}) HttpFault) : Type 0 where
+  pub keeps : Keeps m b old new result
+  pub tells : IfErr result (λ f. Tells f quiet old new before after)
+  pub left : b.sound m old → b.honest new → b.shows old → OnUnkept result ((s : State) → b.may_leave m new s
+      → b.may_leave m old s ⊎ Takes (b.content m old) s)
+  pub ok : b.sound m old → b.shows new → OnOk result (Done (b.content m old) (b.content m new))
+  pub err : b.sound m old → b.shows new → IfErr result (λ f. Part f (b.content m old) (b.content m new))
+  pub lawful : b.sound m old → b.shows new → IsLawful m (b.content m old) → IsLawful m (b.content m new)
+  pub never : b.sound m old → b.honest new → b.shows old → IsLawful m (b.content m old) → IsErrOf result (Keep Damaged) → ⊥
+
 -- the desk stays, and this text was written
 pub record Shows (text : List ℕ) (old new : State) (before after : Option (List ℕ)) : Type 0 where
   pub same : new ≡ old
@@ -54,6 +69,11 @@ ShowsPart Read quiet text old new before after = (new ≡ old) × (after ≡ bef
 ShowsPart Memory quiet text old new before after = (new ≡ old) × (after ≡ before)
 ShowsPart Write quiet text old new before after = (new ≡ old) × IsPart before after text
 ShowsPart (Keep fault) quiet text old new before after = (new ≡ old) × IsPart before after (refusal 503 None quiet)
+
+-- a text of the desk is shown, and no letter is taken
+abbrev pub ServesText : {K : Type 0} → Chart → Book K → Bool → (State → List ℕ) → K → K → Option (List ℕ) → Option (List ℕ) → Result (Unit {0}) HttpFault → Type 0
+ServesText m b quiet text old new before after result =
+    Serves m b quiet old new before after (λ s t. Shows (text s) s t before after) (λ f s t. ShowsPart f quiet (text s) s t before after) (λ s t. ⊥) result
 
 -- a body was answered
 abbrev pub PostsTo : Chart → List ℕ → State → State → Option (List ℕ) → Option (List ℕ) → Type 0

@@ -5,8 +5,7 @@ ghost use Rattle.dip_desk.specs.Keeping.{IsOpen};
 ghost use Rattle.dip_desk_machine.specs.Lawful.{IsLawful};
 ghost use Rattle.dip_desk_state.specs.State.{State};
 ghost use Rattle.dip_http.specs.AnswerViews.{plan_view};
-ghost use Rattle.dip_http.specs.Ends.{Answered, Carried, CarriedBy, EndsAt, EndsBy, EndsQuietly, Keeps, TakesBy, Tells, without_body};
-ghost use Rattle.dip_http.specs.Faults.{OnUnkept};
+ghost use Rattle.dip_http.specs.Ends.{Answered, Carried, CarriedBy, EndsAt, EndsBy, EndsQuietly, Keeps, Serves, TakesBy, without_body};
 ghost use Rattle.dip_http.specs.Fronts.{IsFront, is_decided};
 
 use crate::endings::refuse;
@@ -36,30 +35,14 @@ fn carry_out<R: Read, W: Write, K: Keeper>(
     start: &[u8],
 ) -> Result<(), HttpFault>
     requires { K.book.faults keeper.old < u64.MAX }
-    ensures keeps { Keeps map.now K.book keeper.old keeper.new result }
-    ensures tells { IfErr result (λ f. Tells f (without_body (plan_view plan.entry) quiet)
-        keeper.old keeper.new (W.contents writer.old) (W.contents writer.new)) }
-    ensures left { K.book.sound map.now keeper.old → K.book.honest keeper.new
-        → K.book.shows keeper.old → OnUnkept result
-        ((s : State) → K.book.may_leave map.now keeper.new s
-        → K.book.may_leave map.now keeper.old s
-        ⊎ TakesBy map.now (plan_view plan.entry) start.now (R.remaining reader.old)
-        (K.book.content map.now keeper.old) s) }
-    ensures ok { K.book.sound map.now keeper.old → K.book.shows keeper.new → OnOk result
-        (Carried map.now (plan_view plan.entry) quiet start.now (R.remaining reader.old)
-        (K.book.content map.now keeper.old) (K.book.content map.now keeper.new)
-        (W.contents writer.old) (W.contents writer.new)) }
-    ensures err { K.book.sound map.now keeper.old → K.book.shows keeper.new → IfErr result
-        (λ f. CarriedBy map.now f (plan_view plan.entry) quiet start.now (R.remaining reader.old)
-        (K.book.content map.now keeper.old) (K.book.content map.now keeper.new)
-        (W.contents writer.old) (W.contents writer.new)) }
-    ensures lawful { K.book.sound map.now keeper.old → K.book.shows keeper.new
-        → IsLawful map.now (K.book.content map.now keeper.old)
-        → IsLawful map.now (K.book.content map.now keeper.new) }
-    ensures never { K.book.sound map.now keeper.old → K.book.honest keeper.new
-        → K.book.shows keeper.old
-        → IsLawful map.now (K.book.content map.now keeper.old)
-        → IsErrOf result (HttpFault.Keep KeepFault.Damaged) → ⊥ }
+    ensures { Serves map.now K.book (without_body (plan_view plan.entry) quiet) keeper.old
+        keeper.new (W.contents writer.old) (W.contents writer.new)
+        (λ s t. Carried map.now (plan_view plan.entry) quiet start.now (R.remaining reader.old) s t
+        (W.contents writer.old) (W.contents writer.new))
+        (λ f s t. CarriedBy map.now f (plan_view plan.entry) quiet start.now
+        (R.remaining reader.old) s t (W.contents writer.old) (W.contents writer.new))
+        (λ s t. TakesBy map.now (plan_view plan.entry) start.now (R.remaining reader.old) s t)
+        result }
 {
     match plan {
         Plan::Refuse(why) => refuse(writer, why, quiet),

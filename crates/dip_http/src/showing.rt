@@ -1,8 +1,8 @@
 //! What GET and HEAD are answered: the public part of a game, or a paper.
-ghost use Rattle.std.specs.Prelude.{◌<◌, ℕ, IfErr, IsErrOf, OnOk, Option};
-ghost use Rattle.dip_desk_state.specs.State.{State, paper_at, public_at};
+ghost use Rattle.std.specs.Prelude.{◌<◌, ℕ, Option};
+ghost use Rattle.dip_desk_state.specs.State.{paper_at, public_at};
 ghost use Rattle.dip_http.specs.Answering.{IsNumber, game_answer, paper_answer, paper_named};
-ghost use Rattle.dip_http.specs.Ends.{Keeps, Shows, ShowsPart, Tells};
+ghost use Rattle.dip_http.specs.Ends.{ServesText};
 
 use crate::endings::{refuse, unavailable, write_found};
 use crate::faults::HttpFault;
@@ -10,7 +10,6 @@ use crate::numbers::number_of;
 use crate::refusals::HttpRefusal;
 use crate::state::state_text;
 use dip_desk::Keeper;
-use dip_desk_state::KeepFault;
 use dip_map::Map;
 use http::StatusCode;
 use std::alloc::Global;
@@ -26,27 +25,9 @@ pub fn show_game<W: Write, K: Keeper>(
     name: &str,
 ) -> Result<(), HttpFault>
     requires { K.book.faults keeper.old < u64.MAX }
-    ensures keeps { Keeps map.now K.book keeper.old keeper.new result }
-    ensures tells { IfErr result (λ f. Tells f quiet keeper.old keeper.new
-        (W.contents writer.old) (W.contents writer.new)) }
-    ensures left { K.book.sound map.now keeper.old → K.book.honest keeper.new
-        → (s : State) → K.book.may_leave map.now keeper.new s
-        → K.book.may_leave map.now keeper.old s }
-    ensures ok { K.book.sound map.now keeper.old → K.book.shows keeper.new → OnOk result
-        (Shows (game_answer map.now quiet
-        (public_at name.now (K.book.content map.now keeper.old)))
-        (K.book.content map.now keeper.old) (K.book.content map.now keeper.new)
-        (W.contents writer.old) (W.contents writer.new)) }
-    ensures err { K.book.sound map.now keeper.old → K.book.shows keeper.new → IfErr result
-        (λ f. ShowsPart f quiet (game_answer map.now quiet
-        (public_at name.now (K.book.content map.now keeper.old)))
-        (K.book.content map.now keeper.old) (K.book.content map.now keeper.new)
-        (W.contents writer.old) (W.contents writer.new)) }
-    ensures never { K.book.sound map.now keeper.old → K.book.honest keeper.new
-        → K.book.shows keeper.old
-        → IsErrOf result (HttpFault.Keep KeepFault.Damaged) → ⊥ }
-    // Nothing is read here.
-    ensures unread { IsErrOf result HttpFault.Read → ⊥ }
+    ensures { ServesText map.now K.book quiet
+        (λ s. game_answer map.now quiet (public_at name.now s)) keeper.old keeper.new
+        (W.contents writer.old) (W.contents writer.new) result }
 {
     match keeper.public(map, name) {
         Err(fault) => Err(unavailable(writer, quiet, fault)),
@@ -74,27 +55,9 @@ fn show_numbered<W: Write, K: Keeper>(
     number: u32,
 ) -> Result<(), HttpFault>
     requires { K.book.faults keeper.old < u64.MAX }
-    ensures keeps { Keeps map.now K.book keeper.old keeper.new result }
-    ensures tells { IfErr result (λ f. Tells f quiet keeper.old keeper.new
-        (W.contents writer.old) (W.contents writer.new)) }
-    ensures left { K.book.sound map.now keeper.old → K.book.honest keeper.new
-        → (s : State) → K.book.may_leave map.now keeper.new s
-        → K.book.may_leave map.now keeper.old s }
-    ensures ok { K.book.sound map.now keeper.old → K.book.shows keeper.new → OnOk result
-        (Shows (paper_answer quiet
-        (paper_at name.now number (K.book.content map.now keeper.old)))
-        (K.book.content map.now keeper.old) (K.book.content map.now keeper.new)
-        (W.contents writer.old) (W.contents writer.new)) }
-    ensures err { K.book.sound map.now keeper.old → K.book.shows keeper.new → IfErr result
-        (λ f. ShowsPart f quiet (paper_answer quiet
-        (paper_at name.now number (K.book.content map.now keeper.old)))
-        (K.book.content map.now keeper.old) (K.book.content map.now keeper.new)
-        (W.contents writer.old) (W.contents writer.new)) }
-    ensures never { K.book.sound map.now keeper.old → K.book.honest keeper.new
-        → K.book.shows keeper.old
-        → IsErrOf result (HttpFault.Keep KeepFault.Damaged) → ⊥ }
-    // Nothing is read here.
-    ensures unread { IsErrOf result HttpFault.Read → ⊥ }
+    ensures { ServesText map.now K.book quiet
+        (λ s. paper_answer quiet (paper_at name.now number s)) keeper.old keeper.new
+        (W.contents writer.old) (W.contents writer.new) result }
 {
     match keeper.paper(map, name, number) {
         Err(fault) => Err(unavailable(writer, quiet, fault)),
@@ -119,29 +82,9 @@ pub fn show_paper<W: Write, K: Keeper>(
     number: &str,
 ) -> Result<(), HttpFault>
     requires { K.book.faults keeper.old < u64.MAX }
-    ensures keeps { Keeps map.now K.book keeper.old keeper.new result }
-    ensures tells { IfErr result (λ f. Tells f quiet keeper.old keeper.new
-        (W.contents writer.old) (W.contents writer.new)) }
-    ensures left { K.book.sound map.now keeper.old → K.book.honest keeper.new
-        → (s : State) → K.book.may_leave map.now keeper.new s
-        → K.book.may_leave map.now keeper.old s }
-    ensures ok { K.book.sound map.now keeper.old → K.book.shows keeper.new
-        → OnOk result ((n : Option ℕ) × IsNumber number.now n
-        × Shows (paper_answer quiet
-        (paper_named name.now n (K.book.content map.now keeper.old)))
-        (K.book.content map.now keeper.old) (K.book.content map.now keeper.new)
-        (W.contents writer.old) (W.contents writer.new)) }
-    ensures err { K.book.sound map.now keeper.old → K.book.shows keeper.new
-        → IfErr result (λ f. (n : Option ℕ) × IsNumber number.now n
-        × ShowsPart f quiet (paper_answer quiet
-        (paper_named name.now n (K.book.content map.now keeper.old)))
-        (K.book.content map.now keeper.old) (K.book.content map.now keeper.new)
-        (W.contents writer.old) (W.contents writer.new)) }
-    ensures never { K.book.sound map.now keeper.old → K.book.honest keeper.new
-        → K.book.shows keeper.old
-        → IsErrOf result (HttpFault.Keep KeepFault.Damaged) → ⊥ }
-    // Nothing is read here.
-    ensures unread { IsErrOf result HttpFault.Read → ⊥ }
+    ensures { (n : Option ℕ) × IsNumber number.now n × ServesText map.now K.book quiet
+        (λ s. paper_answer quiet (paper_named name.now n s)) keeper.old keeper.new
+        (W.contents writer.old) (W.contents writer.new) result }
 {
     match number_of(number) {
         None => refuse(writer, HttpRefusal::NotFound, quiet),

@@ -4,8 +4,7 @@ ghost use Rattle.dip_desk_machine.specs.Lawful.{IsLawful};
 ghost use Rattle.dip_desk_machine.specs.Mail.{IsMail, Mail, mail};
 ghost use Rattle.dip_desk_state.specs.State.{State};
 ghost use Rattle.dip_http.specs.Answering.{IsOneLetter, status_of};
-ghost use Rattle.dip_http.specs.Ends.{Keeps, PostsTo, PostsToPart, ReadsBody, ReadsBodyPart, TakesBody, TakesMail, Tells};
-ghost use Rattle.dip_http.specs.Faults.{OnUnkept};
+ghost use Rattle.dip_http.specs.Ends.{PostsTo, PostsToPart, ReadsBody, ReadsBodyPart, Serves, TakesBody, TakesMail};
 
 use crate::endings::{refuse, unavailable, write_reply};
 use crate::faults::HttpFault;
@@ -57,27 +56,11 @@ fn take_body<W: Write, K: Keeper>(
     body: &[u8],
 ) -> Result<(), HttpFault>
     requires { K.book.faults keeper.old < u64.MAX }
-    ensures keeps { Keeps map.now K.book keeper.old keeper.new result }
-    ensures tells { IfErr result (λ f. Tells f false keeper.old keeper.new
-        (W.contents writer.old) (W.contents writer.new)) }
-    ensures left { K.book.sound map.now keeper.old → K.book.honest keeper.new
-        → K.book.shows keeper.old → OnUnkept result
-        ((s : State) → K.book.may_leave map.now keeper.new s
-        → K.book.may_leave map.now keeper.old s
-        ⊎ TakesMail map.now body.now (K.book.content map.now keeper.old) s) }
-    ensures ok { K.book.sound map.now keeper.old → K.book.shows keeper.new → OnOk result
-        (PostsTo map.now body.now (K.book.content map.now keeper.old)
-        (K.book.content map.now keeper.new) (W.contents writer.old) (W.contents writer.new)) }
-    ensures err { K.book.sound map.now keeper.old → K.book.shows keeper.new → IfErr result
-        (λ f. PostsToPart map.now f body.now (K.book.content map.now keeper.old)
-        (K.book.content map.now keeper.new) (W.contents writer.old) (W.contents writer.new)) }
-    ensures lawful { K.book.sound map.now keeper.old → K.book.shows keeper.new
-        → IsLawful map.now (K.book.content map.now keeper.old)
-        → IsLawful map.now (K.book.content map.now keeper.new) }
-    ensures never { K.book.sound map.now keeper.old → K.book.honest keeper.new
-        → K.book.shows keeper.old
-        → IsLawful map.now (K.book.content map.now keeper.old)
-        → IsErrOf result (HttpFault.Keep KeepFault.Damaged) → ⊥ }
+    ensures { Serves map.now K.book false keeper.old keeper.new
+        (W.contents writer.old) (W.contents writer.new)
+        (λ s t. PostsTo map.now body.now s t (W.contents writer.old) (W.contents writer.new))
+        (λ f s t. PostsToPart map.now f body.now s t (W.contents writer.old)
+        (W.contents writer.new)) (λ s t. TakesMail map.now body.now s t) result }
 {
     lawful_states_stay_lawful(map);
     match letter_in(body) {
@@ -104,30 +87,13 @@ pub fn take_letter<R: Read, W: Write, K: Keeper>(
     size: usize,
 ) -> Result<(), HttpFault>
     requires { K.book.faults keeper.old < u64.MAX }
-    ensures keeps { Keeps map.now K.book keeper.old keeper.new result }
-    ensures tells { IfErr result (λ f. Tells f false keeper.old keeper.new
-        (W.contents writer.old) (W.contents writer.new)) }
-    ensures left { K.book.sound map.now keeper.old → K.book.honest keeper.new
-        → K.book.shows keeper.old → OnUnkept result
-        ((s : State) → K.book.may_leave map.now keeper.new s
-        → K.book.may_leave map.now keeper.old s
-        ⊎ TakesBody map.now size start.now (R.remaining reader.old)
-        (K.book.content map.now keeper.old) s) }
-    ensures ok { K.book.sound map.now keeper.old → K.book.shows keeper.new → OnOk result
-        (ReadsBody map.now size start.now (R.remaining reader.old)
-        (K.book.content map.now keeper.old) (K.book.content map.now keeper.new)
-        (W.contents writer.old) (W.contents writer.new)) }
-    ensures err { K.book.sound map.now keeper.old → K.book.shows keeper.new → IfErr result
-        (λ f. ReadsBodyPart map.now f size start.now (R.remaining reader.old)
-        (K.book.content map.now keeper.old) (K.book.content map.now keeper.new)
-        (W.contents writer.old) (W.contents writer.new)) }
-    ensures lawful { K.book.sound map.now keeper.old → K.book.shows keeper.new
-        → IsLawful map.now (K.book.content map.now keeper.old)
-        → IsLawful map.now (K.book.content map.now keeper.new) }
-    ensures never { K.book.sound map.now keeper.old → K.book.honest keeper.new
-        → K.book.shows keeper.old
-        → IsLawful map.now (K.book.content map.now keeper.old)
-        → IsErrOf result (HttpFault.Keep KeepFault.Damaged) → ⊥ }
+    ensures { Serves map.now K.book false keeper.old keeper.new
+        (W.contents writer.old) (W.contents writer.new)
+        (λ s t. ReadsBody map.now size start.now (R.remaining reader.old) s t
+        (W.contents writer.old) (W.contents writer.new))
+        (λ f s t. ReadsBodyPart map.now f size start.now (R.remaining reader.old) s t
+        (W.contents writer.old) (W.contents writer.new))
+        (λ s t. TakesBody map.now size start.now (R.remaining reader.old) s t) result }
 {
     match read_body(alloc, reader, start, size) {
         Err(ReadFault::Read) => Err(HttpFault::Read),

@@ -16,7 +16,7 @@ pub mod BodyLemmas
 pub mod CarryLemmas
 pub mod EndLemmas
 pub mod OpenLemmas
-pub mod ServesLemmas
+pub mod RespondLemmas
 pub mod LetterLemmas
 pub mod TextNumbers
 pub mod Cases

@@ -46,7 +46,7 @@ Tells (Keep fault) quiet old new before after = IsPart before after (refusal 503
 
 -- how a request is answered over a keeper: what is kept of it, what a fault tells, and what a crash leaves where the keeper gave no answer; while
 -- the keeper shows what it keeps, what was done, or by which fault a part of it; a lawful content stays lawful, and nothing is Damaged over one
-pub record Serves {K : Type 0} (m : Chart) (b : Book K) (quiet : Bool) (old new : K) (before after : Option (List ℕ))
+pub record Responds {K : Type 0} (m : Chart) (b : Book K) (quiet : Bool) (old new : K) (before after : Option (List ℕ))
     (Done : State → State → Type 0) (Part : HttpFault → State → State → Type 0) (Takes : State → State → Type 0)
     (result : Result (Unit {0}) HttpFault) : Type 0 where
   pub keeps : Keeps m b old new result
@@ -71,9 +71,9 @@ ShowsPart Write quiet text old new before after = (new ≡ old) × IsPart before
 ShowsPart (Keep fault) quiet text old new before after = (new ≡ old) × IsPart before after (refusal 503 None quiet)
 
 -- a text of the desk is shown, and no letter is taken
-abbrev pub ServesText : {K : Type 0} → Chart → Book K → Bool → (State → List ℕ) → K → K → Option (List ℕ) → Option (List ℕ) → Result (Unit {0}) HttpFault → Type 0
-ServesText m b quiet text old new before after result =
-    Serves m b quiet old new before after (λ s t. Shows (text s) s t before after) (λ f s t. ShowsPart f quiet (text s) s t before after) (λ s t. ⊥) result
+abbrev pub ShowsText : {K : Type 0} → Chart → Book K → Bool → (State → List ℕ) → K → K → Option (List ℕ) → Option (List ℕ) → Result (Unit {0}) HttpFault → Type 0
+ShowsText m b quiet text old new before after result =
+    Responds m b quiet old new before after (λ s t. Shows (text s) s t before after) (λ f s t. ShowsPart f quiet (text s) s t before after) (λ s t. ⊥) result
 
 -- a body was answered
 abbrev pub PostsTo : Chart → List ℕ → State → State → Option (List ℕ) → Option (List ℕ) → Type 0

@@ -1,12 +1,14 @@
 -- What serving clients does to a desk.
-use Rattle.std.specs.Prelude.{◌≡◌, ◌≤◌, ◌⊎◌, ℕ, zero, suc, None, List, [], ◌++◌}
+use Rattle.std.specs.Prelude.{◌≡◌, ◌≤◌, ◌⊎◌, ℕ, zero, suc, None, List, [], ◌++◌, IfErr, IsErrOf, Result}
 use Rattle.dip_map.specs.Charts.{Chart}
-use Rattle.dip_desk.specs.Keeping.{Book, Ends, Rises}
+use Rattle.dip_desk.specs.Keeping.{Book, Ends, IsOpen, Rises, WasTold}
+use Rattle.dip_desk_machine.specs.Lawful.{IsLawful}
 use Rattle.dip_desk_machine.specs.Machine.{Step}
 use Rattle.dip_desk_machine.specs.Mail.{IsMail, Mail}
 use Rattle.dip_desk_machine.specs.Published.{IsFair}
 use Rattle.dip_desk_state.specs.Records.{Reply}
 use Rattle.dip_desk_machine.specs.View.{IsRun, Turn}
+use Rattle.dip_desk_state.specs.Faults.{faults_after}
 use Rattle.dip_desk_state.specs.State.{State}
 use Rattle.dip_desk_state.specs.declared.faults.KeepFault.{KeepFault}
 use Rattle.dip_desk_state.specs.declared.faults.KeepFault.TheVariants.{Memory, Disk, Damaged}
@@ -71,6 +73,28 @@ pub record MeetsTo {K : Type 0} (m : Chart) (b : Book K) (count : ℕ) (old new 
   pub meets : Meets m n (b.content m old) state
   pub ends : (Ends m b old new state (TakesOne m state) × (b.shows new → n ≡ count)) ⊎ Rises (b.told old) (b.told new)
 
+-- a fault that ends the serving: after any other the keeper goes on
+abbrev pub IsShut : KeepFault → Type 0
+IsShut Memory = ⊥
+IsShut Disk = Unit {0}
+IsShut Damaged = Unit {0}
+
+-- a keeper after one client: what was met, and what is kept of it; the serving goes on but for a fault of the disk, or rows that no judge wrote
+pub record MeetsNext {K : Type 0} (m : Chart) (b : Book K) (old new : K) (result : Result (Unit {0}) KeepFault) : Type 0 where
+  pub served : b.sound m old → b.shows new → MeetsOne m (b.content m old) (b.content m new)
+  pub lawful : b.sound m old → b.shows new → IsLawful m (b.content m old) → IsLawful m (b.content m new)
+  pub never : b.sound m old → b.honest new → b.shows old → IsLawful m (b.content m old) → IsErrOf result Damaged → ⊥
+  -- from an open keeper on, over an honest disk
+  pub ends : IsOpen m b old → b.honest new → MeetsAt m b old new
+  pub failed : IsOpen m b old → b.honest new → IsErrOf result Disk → WasTold b old new
+  pub shut : IfErr result IsShut
+  pub count : b.faults new ≡ faults_after result (b.faults old)
+  pub told : b.told old ≤ b.told new
+  pub of_size : b.of_size old ≤ b.of_size new
+  pub fair : b.honest new → b.honest old
+  pub shown : b.shows new → b.shows old
+  pub sound : b.sound m old → b.shows new → b.sound m new
+
 -- at most so many clients, over a keeper that was open, made one history of letters, and a crash leaves the state after it, or after a letter more.
 -- Or a fault of the disk came with one that was told of want of memory, and nothing is said of a crash after that
 pub record ServesTo {K : Type 0} (m : Chart) (b : Book K) (count : ℕ) (old new : K) : Type 0 where
@@ -79,9 +103,3 @@ pub record ServesTo {K : Type 0} (m : Chart) (b : Book K) (count : ℕ) (old new
   pub state : State
   pub serves : Serves m n (b.content m old) state
   pub ends : Ends m b old new state (TakesOne m state) ⊎ Rises (b.told old) (b.told new)
-
--- a fault that ends the serving: after any other the keeper goes on
-abbrev pub IsShut : KeepFault → Type 0
-IsShut Memory = ⊥
-IsShut Disk = Unit {0}
-IsShut Damaged = Unit {0}

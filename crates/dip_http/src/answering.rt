@@ -5,7 +5,7 @@ ghost use Rattle.dip_desk.specs.Keeping.{IsOpen};
 ghost use Rattle.dip_desk_machine.specs.Lawful.{IsLawful};
 ghost use Rattle.dip_desk_state.specs.State.{State};
 ghost use Rattle.dip_http.specs.AnswerViews.{plan_view};
-ghost use Rattle.dip_http.specs.Ends.{Answered, Carried, CarriedBy, EndsAt, EndsBy, EndsQuietly, Keeps, Serves, TakesBy, without_body};
+ghost use Rattle.dip_http.specs.Ends.{Answered, Carried, CarriedBy, EndsAt, EndsBy, EndsQuietly, Keeps, Responds, TakesBy, without_body};
 ghost use Rattle.dip_http.specs.Fronts.{IsFront, is_decided};
 
 use crate::endings::refuse;
@@ -35,7 +35,7 @@ fn carry_out<R: Read, W: Write, K: Keeper>(
     start: &[u8],
 ) -> Result<(), HttpFault>
     requires { K.book.faults keeper.old < u64.MAX }
-    ensures { Serves map.now K.book (without_body (plan_view plan.entry) quiet) keeper.old
+    ensures { Responds map.now K.book (without_body (plan_view plan.entry) quiet) keeper.old
         keeper.new (W.contents writer.old) (W.contents writer.new)
         (λ s t. Carried map.now (plan_view plan.entry) quiet start.now (R.remaining reader.old) s t
         (W.contents writer.old) (W.contents writer.new))

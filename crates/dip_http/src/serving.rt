@@ -3,7 +3,7 @@ ghost use Rattle.std.specs.Prelude.{◌≡◌, ◌<◌, ◌≤◌, ◌⊎◌, �
 ghost use Rattle.dip_desk.specs.Keeping.{IsOpen, Rises, WasTold};
 ghost use Rattle.dip_desk_state.specs.Faults.{faults_after};
 ghost use Rattle.dip_desk_machine.specs.Lawful.{IsLawful};
-ghost use Rattle.dip_http.specs.Serving.{IsShut, MeetsAt, MeetsOne, Serves, ServesTo};
+ghost use Rattle.dip_http.specs.Serving.{IsShut, MeetsNext, Serves, ServesTo};
 
 use crate::client::serve_one;
 use crate::faults::HttpFault;
@@ -30,29 +30,7 @@ fn serve_next<C: Clock, K: Keeper>(
     routes: &Routes,
 ) -> Result<(), KeepFault>
     requires { K.book.faults keeper.old < u64.MAX }
-    ensures served { K.book.sound map.now keeper.old → K.book.shows keeper.new
-        → MeetsOne map.now (K.book.content map.now keeper.old)
-        (K.book.content map.now keeper.new) }
-    ensures lawful { K.book.sound map.now keeper.old → K.book.shows keeper.new
-        → IsLawful map.now (K.book.content map.now keeper.old)
-        → IsLawful map.now (K.book.content map.now keeper.new) }
-    ensures never { K.book.sound map.now keeper.old → K.book.honest keeper.new
-        → K.book.shows keeper.old
-        → IsLawful map.now (K.book.content map.now keeper.old)
-        → IsErrOf result KeepFault.Damaged → ⊥ }
-    // From an open keeper on, over an honest disk.
-    ensures ends { IsOpen map.now K.book keeper.old → K.book.honest keeper.new
-        → MeetsAt map.now K.book keeper.old keeper.new }
-    ensures fair { K.book.honest keeper.new → K.book.honest keeper.old }
-    ensures failed { IsOpen map.now K.book keeper.old → K.book.honest keeper.new
-        → IsErrOf result KeepFault.Disk → WasTold K.book keeper.old keeper.new }
-    ensures told { K.book.told keeper.old ≤ K.book.told keeper.new }
-    ensures of_size { K.book.of_size keeper.old ≤ K.book.of_size keeper.new }
-    ensures shut { IfErr result IsShut }
-    ensures count { K.book.faults keeper.new ≡ faults_after result (K.book.faults keeper.old) }
-    ensures shown { K.book.shows keeper.new → K.book.shows keeper.old }
-    ensures sound { K.book.sound map.now keeper.old → K.book.shows keeper.new
-        → K.book.sound map.now keeper.new }
+    ensures { MeetsNext map.now K.book keeper.old keeper.new result }
 {
     let Ok((stream, _)) = listener.accept() else {
         return Ok(());

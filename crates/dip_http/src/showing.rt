@@ -2,7 +2,7 @@
 ghost use Rattle.std.specs.Prelude.{◌<◌, ℕ, Option};
 ghost use Rattle.dip_desk_state.specs.State.{paper_at, public_at};
 ghost use Rattle.dip_http.specs.Answering.{IsNumber, game_answer, paper_answer, paper_named};
-ghost use Rattle.dip_http.specs.Ends.{ServesText};
+ghost use Rattle.dip_http.specs.Ends.{ShowsText};
 
 use crate::endings::{refuse, unavailable, write_found};
 use crate::faults::HttpFault;
@@ -25,7 +25,7 @@ pub fn show_game<W: Write, K: Keeper>(
     name: &str,
 ) -> Result<(), HttpFault>
     requires { K.book.faults keeper.old < u64.MAX }
-    ensures { ServesText map.now K.book quiet
+    ensures { ShowsText map.now K.book quiet
         (λ s. game_answer map.now quiet (public_at name.now s)) keeper.old keeper.new
         (W.contents writer.old) (W.contents writer.new) result }
 {
@@ -55,7 +55,7 @@ fn show_numbered<W: Write, K: Keeper>(
     number: u32,
 ) -> Result<(), HttpFault>
     requires { K.book.faults keeper.old < u64.MAX }
-    ensures { ServesText map.now K.book quiet
+    ensures { ShowsText map.now K.book quiet
         (λ s. paper_answer quiet (paper_at name.now number s)) keeper.old keeper.new
         (W.contents writer.old) (W.contents writer.new) result }
 {
@@ -82,7 +82,7 @@ pub fn show_paper<W: Write, K: Keeper>(
     number: &str,
 ) -> Result<(), HttpFault>
     requires { K.book.faults keeper.old < u64.MAX }
-    ensures { (n : Option ℕ) × IsNumber number.now n × ServesText map.now K.book quiet
+    ensures { (n : Option ℕ) × IsNumber number.now n × ShowsText map.now K.book quiet
         (λ s. paper_answer quiet (paper_named name.now n s)) keeper.old keeper.new
         (W.contents writer.old) (W.contents writer.new) result }
 {

@@ -4,7 +4,7 @@ ghost use Rattle.dip_desk_machine.specs.Lawful.{IsLawful};
 ghost use Rattle.dip_desk_machine.specs.Mail.{IsMail, Mail, mail};
 ghost use Rattle.dip_desk_state.specs.State.{State};
 ghost use Rattle.dip_http.specs.Answering.{IsOneLetter, status_of};
-ghost use Rattle.dip_http.specs.Ends.{PostsTo, PostsToPart, ReadsBody, ReadsBodyPart, Serves, TakesBody, TakesMail};
+ghost use Rattle.dip_http.specs.Ends.{PostsTo, PostsToPart, ReadsBody, ReadsBodyPart, Responds, TakesBody, TakesMail};
 
 use crate::endings::{refuse, unavailable, write_reply};
 use crate::faults::HttpFault;
@@ -56,7 +56,7 @@ fn take_body<W: Write, K: Keeper>(
     body: &[u8],
 ) -> Result<(), HttpFault>
     requires { K.book.faults keeper.old < u64.MAX }
-    ensures { Serves map.now K.book false keeper.old keeper.new
+    ensures { Responds map.now K.book false keeper.old keeper.new
         (W.contents writer.old) (W.contents writer.new)
         (λ s t. PostsTo map.now body.now s t (W.contents writer.old) (W.contents writer.new))
         (λ f s t. PostsToPart map.now f body.now s t (W.contents writer.old)
@@ -87,7 +87,7 @@ pub fn take_letter<R: Read, W: Write, K: Keeper>(
     size: usize,
 ) -> Result<(), HttpFault>
     requires { K.book.faults keeper.old < u64.MAX }
-    ensures { Serves map.now K.book false keeper.old keeper.new
+    ensures { Responds map.now K.book false keeper.old keeper.new
         (W.contents writer.old) (W.contents writer.new)
         (λ s t. ReadsBody map.now size start.now (R.remaining reader.old) s t
         (W.contents writer.old) (W.contents writer.new))

@@ -1,5 +1,19 @@
+use Rattle.std.proofs.Common.{rules}
 use Rattle.dip_http.proofs.ServingLemmas.{met_nobody}
 use Rattle.dip_http.proofs.serving.serve_next.Goals as goal
 
-pub returns-in_default-clause-ends : goal.returns-in_default-clause-ends
-returns-in_default-clause-ends g c it honest = met_nobody c.args.map.now g.K.Keeper.book c.args.keeper.now it
+pub returns-in_default : goal.returns-in_default
+returns-in_default g c = record {
+  served = search rules;
+  lawful = search rules;
+  never = search rules;
+  ends = λ it honest. met_nobody c.args.map.now g.K.Keeper.book c.args.keeper.now it;
+  failed = search rules;
+  shut = search rules;
+  count = search rules;
+  told = search rules;
+  of_size = search rules;
+  fair = search rules;
+  shown = search rules;
+  sound = search rules;
+}

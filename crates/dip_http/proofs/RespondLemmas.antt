@@ -8,7 +8,7 @@ use Rattle.dip_desk_state.specs.State.{State}
 use Rattle.dip_desk_state.specs.declared.faults.KeepFault.{KeepFault}
 use Rattle.dip_desk_state.specs.declared.faults.KeepFault.TheVariants.{Damaged}
 use Rattle.dip_http.specs.Answers.{IsPart, refusal}
-use Rattle.dip_http.specs.Ends.{Serves, Tells}
+use Rattle.dip_http.specs.Ends.{Responds, Tells}
 use Rattle.dip_http.specs.declared.faults.HttpFault.{HttpFault}
 use Rattle.dip_http.specs.declared.faults.HttpFault.TheVariants.{Read, Write, Memory, Keep}
 use Rattle.dip_http.proofs.OpenLemmas.{IsKept, keeps_unasked, left_weaker, look_answered, look_unanswered, none_unkept, step_answered, step_unanswered, written_kept}
@@ -29,11 +29,11 @@ writing_tells (Err f) quiet old new a b is = subst (λ (h : HttpFault). Tells h 
 
 module _ {K : Type 0} (m : Chart) (b : Book K) (quiet : Bool) (before after : Option (List ℕ)) where
   -- the same answer under other words
-  pub serves_as : (old new : K) (Done Done2 : State → State → Type 0) (Part Part2 : HttpFault → State → State → Type 0) (Takes Takes2 : State → State → Type 0)
+  pub responds_as : (old new : K) (Done Done2 : State → State → Type 0) (Part Part2 : HttpFault → State → State → Type 0) (Takes Takes2 : State → State → Type 0)
       (r : Result (Unit {0}) HttpFault) → ((s t : State) → OnOk r (Done s t) → OnOk r (Done2 s t))
       → ((s t : State) → IfErr r (λ f. Part f s t) → IfErr r (λ f. Part2 f s t)) → ((s t : State) → Takes s t → Takes2 s t)
-      → Serves m b quiet old new before after Done Part Takes r → Serves m b quiet old new before after Done2 Part2 Takes2 r
-  serves_as old new Done Done2 Part Part2 Takes Takes2 r done part takes h = record {
+      → Responds m b quiet old new before after Done Part Takes r → Responds m b quiet old new before after Done2 Part2 Takes2 r
+  responds_as old new Done Done2 Part Part2 Takes Takes2 r done part takes h = record {
     keeps = h.keeps;
     tells = h.tells;
     left = λ sound honest shows. left_weaker m b old new r _ _ (λ s is. takes (b.content m old) s is) (h.left sound honest shows);
@@ -45,9 +45,9 @@ module _ {K : Type 0} (m : Chart) (b : Book K) (quiet : Bool) (before after : Op
 
   module _ (Done : State → State → Type 0) (Part : HttpFault → State → State → Type 0) (Takes : State → State → Type 0) where
     -- the keeper wasn't asked
-    pub serves_unasked : (k : K) (r : Result (Unit {0}) HttpFault) → IsKept r → IfErr r (λ f. Tells f quiet k k before after)
-        → ((s : State) → OnOk r (Done s s)) → ((s : State) → IfErr r (λ f. Part f s s)) → Serves m b quiet k k before after Done Part Takes r
-    serves_unasked k r kept tells done part = record {
+    pub responds_unasked : (k : K) (r : Result (Unit {0}) HttpFault) → IsKept r → IfErr r (λ f. Tells f quiet k k before after)
+        → ((s : State) → OnOk r (Done s s)) → ((s : State) → IfErr r (λ f. Part f s s)) → Responds m b quiet k k before after Done Part Takes r
+    responds_unasked k r kept tells done part = record {
       keeps = keeps_unasked m b k r kept;
       tells = tells;
       left = λ sound honest shows. none_unkept r _ kept;
@@ -58,16 +58,16 @@ module _ {K : Type 0} (m : Chart) (b : Book K) (quiet : Bool) (before after : Op
     }
 
     -- and a text was written
-    pub serves_written : (k : K) (r : Result (Unit {0}) HttpFault) → IfErr r (λ f. f ≡ Write)
-        → ((s : State) → OnOk r (Done s s)) → ((s : State) → IfErr r (λ f. Part f s s)) → Serves m b quiet k k before after Done Part Takes r
-    serves_written k r fault done part = serves_unasked k r (written_kept r fault) (writing_tells r quiet k k before after fault) done part
+    pub responds_written : (k : K) (r : Result (Unit {0}) HttpFault) → IfErr r (λ f. f ≡ Write)
+        → ((s : State) → OnOk r (Done s s)) → ((s : State) → IfErr r (λ f. Part f s s)) → Responds m b quiet k k before after Done Part Takes r
+    responds_written k r fault done part = responds_unasked k r (written_kept r fault) (writing_tells r quiet k k before after fault) done part
 
     module _ (old new : K) where
       -- the keeper was looked at
-      pub serves_looked : {Y : Type 0} (Value : Y → Type 0) (Damage : Type 0) (y : Y) (r : Result (Unit {0}) HttpFault) → Looks m b old new Value Damage (Ok y) → IsKept r
+      pub responds_looked : {Y : Type 0} (Value : Y → Type 0) (Damage : Type 0) (y : Y) (r : Result (Unit {0}) HttpFault) → Looks m b old new Value Damage (Ok y) → IsKept r
           → IfErr r (λ f. Tells f quiet old new before after) → (b.sound m old → b.shows new → OnOk r (Done (b.content m old) (b.content m new)))
-          → (b.sound m old → b.shows new → IfErr r (λ f. Part f (b.content m old) (b.content m new))) → Serves m b quiet old new before after Done Part Takes r
-      serves_looked Value Damage y r look kept tells done part = record {
+          → (b.sound m old → b.shows new → IfErr r (λ f. Part f (b.content m old) (b.content m new))) → Responds m b quiet old new before after Done Part Takes r
+      responds_looked Value Damage y r look kept tells done part = record {
         keeps = look_answered m b old new Value Damage y r kept look;
         tells = tells;
         left = λ sound honest shows. none_unkept r _ kept;
@@ -78,17 +78,17 @@ module _ {K : Type 0} (m : Chart) (b : Book K) (quiet : Bool) (before after : Op
       }
 
       -- and a text was written
-      pub serves_shown : {Y : Type 0} (Value : Y → Type 0) (Damage : Type 0) (y : Y) (r : Result (Unit {0}) HttpFault) → Looks m b old new Value Damage (Ok y)
+      pub responds_shown : {Y : Type 0} (Value : Y → Type 0) (Damage : Type 0) (y : Y) (r : Result (Unit {0}) HttpFault) → Looks m b old new Value Damage (Ok y)
           → IfErr r (λ f. f ≡ Write) → (b.sound m old → b.shows new → OnOk r (Done (b.content m old) (b.content m new)))
-          → (b.sound m old → b.shows new → IfErr r (λ f. Part f (b.content m old) (b.content m new))) → Serves m b quiet old new before after Done Part Takes r
-      serves_shown Value Damage y r look fault done part =
-          serves_looked Value Damage y r look (written_kept r fault) (writing_tells r quiet old new before after fault) done part
+          → (b.sound m old → b.shows new → IfErr r (λ f. Part f (b.content m old) (b.content m new))) → Responds m b quiet old new before after Done Part Takes r
+      responds_shown Value Damage y r look fault done part =
+          responds_looked Value Damage y r look (written_kept r fault) (writing_tells r quiet old new before after fault) done part
 
       -- or gave no answer
-      pub serves_unlooked : {Y : Type 0} (Value : Y → Type 0) (f : KeepFault) (h : HttpFault) → h ≡ Keep f → Looks m b old new Value ⊥ (Err f)
+      pub responds_unlooked : {Y : Type 0} (Value : Y → Type 0) (f : KeepFault) (h : HttpFault) → h ≡ Keep f → Looks m b old new Value ⊥ (Err f)
           → IsPart before after (refusal 503 None quiet) → (b.sound m old → b.shows new → Part (Keep f) (b.content m old) (b.content m new))
-          → Serves m b quiet old new before after Done Part Takes (Err h)
-      serves_unlooked Value f h is look told part = subst (λ (g : HttpFault). Serves m b quiet old new before after Done Part Takes (Err g)) (sym is) record {
+          → Responds m b quiet old new before after Done Part Takes (Err h)
+      responds_unlooked Value f h is look told part = subst (λ (g : HttpFault). Responds m b quiet old new before after Done Part Takes (Err g)) (sym is) record {
         keeps = look_unanswered m b old new Value ⊥ f (Keep f) refl look;
         tells = told;
         left = λ sound honest shows s may. inl (look.left sound honest s may);
@@ -100,11 +100,11 @@ module _ {K : Type 0} (m : Chart) (b : Book K) (quiet : Bool) (before after : Op
 
       module _ {Y R : Type 0} (say : Y → R) (Step : State → R → State → Type 0) (Damage : State → Type 0) where
         -- a letter was taken, and its reply written
-        pub serves_taken : (y : Y) (r : Result (Unit {0}) HttpFault) → Steps m b old new say Step Damage (Ok y) → IfErr r (λ f. f ≡ Write)
+        pub responds_taken : (y : Y) (r : Result (Unit {0}) HttpFault) → Steps m b old new say Step Damage (Ok y) → IfErr r (λ f. f ≡ Write)
             → (b.sound m old → b.shows new → OnOk r (Done (b.content m old) (b.content m new)))
             → (b.sound m old → b.shows new → IfErr r (λ f. Part f (b.content m old) (b.content m new)))
-            → (b.sound m old → b.shows new → IsLawful m (b.content m old) → IsLawful m (b.content m new)) → Serves m b quiet old new before after Done Part Takes r
-        serves_taken y r step fault done part lawful = record {
+            → (b.sound m old → b.shows new → IsLawful m (b.content m old) → IsLawful m (b.content m new)) → Responds m b quiet old new before after Done Part Takes r
+        responds_taken y r step fault done part lawful = record {
           keeps = step_answered m b old new say Step Damage y r (written_kept r fault) step;
           tells = writing_tells r quiet old new before after fault;
           left = λ sound honest shows. none_unkept r _ (written_kept r fault);
@@ -115,10 +115,10 @@ module _ {K : Type 0} (m : Chart) (b : Book K) (quiet : Bool) (before after : Op
         }
 
         -- or the keeper gave no answer
-        pub serves_untaken : (f : KeepFault) (h : HttpFault) → h ≡ Keep f → Steps m b old new say Step Damage (Err f) → IsPart before after (refusal 503 None quiet)
+        pub responds_untaken : (f : KeepFault) (h : HttpFault) → h ≡ Keep f → Steps m b old new say Step Damage (Err f) → IsPart before after (refusal 503 None quiet)
             → (b.sound m old → b.shows new → Part (Keep f) (b.content m old) (b.content m new)) → ((s : State) (x : R) → Step (b.content m old) x s → Takes (b.content m old) s)
-            → (IsLawful m (b.content m old) → Damage (b.content m old) → ⊥) → Serves m b quiet old new before after Done Part Takes (Err h)
-        serves_untaken f h is step told part takes sane = subst (λ (g : HttpFault). Serves m b quiet old new before after Done Part Takes (Err g)) (sym is) record {
+            → (IsLawful m (b.content m old) → Damage (b.content m old) → ⊥) → Responds m b quiet old new before after Done Part Takes (Err h)
+        responds_untaken f h is step told part takes sane = subst (λ (g : HttpFault). Responds m b quiet old new before after Done Part Takes (Err g)) (sym is) record {
           keeps = step_unanswered m b old new say Step Damage f (Keep f) refl step;
           tells = told;
           left = λ sound honest shows s may. elim (step.left sound honest shows s may) [

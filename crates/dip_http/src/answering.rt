@@ -5,7 +5,7 @@ ghost use Rattle.dip_desk.specs.Keeping.{IsOpen};
 ghost use Rattle.dip_desk_machine.specs.Lawful.{IsLawful};
 ghost use Rattle.dip_desk_state.specs.State.{State};
 ghost use Rattle.dip_http.specs.AnswerViews.{plan_view};
-ghost use Rattle.dip_http.specs.Ends.{Answered, Carried, CarriedBy, EndsAt, EndsBy, EndsQuietly, Keeps, Responds, TakesBy, without_body};
+ghost use Rattle.dip_http.specs.Ends.{AnswersOne, Carried, CarriedBy, Responds, TakesBy, without_body};
 ghost use Rattle.dip_http.specs.Fronts.{IsFront, is_decided};
 
 use crate::endings::refuse;
@@ -67,34 +67,9 @@ fn answer_front<R: Read, W: Write, K: Keeper>(
     requires some { 0 < length bytes.now }
     requires is { IsFront bytes.now front }
     requires settled { IsAtEnd (R.remaining reader.old) ⊎ (is_decided front ≡ true) }
-    ensures keeps { Keeps map.now K.book keeper.old keeper.new result }
-    ensures tells { (known : Option (List ℕ)) → Consumes known (R.remaining reader.old) bytes.now
-        → IfErr result (λ f. EndsQuietly f known keeper.old keeper.new
-        (W.contents writer.old) (W.contents writer.new)) }
-    ensures goes { (known : Option (List ℕ)) → Consumes known (R.remaining reader.old) bytes.now
-        → IsOpen map.now K.book keeper.old → K.book.honest keeper.new → OnOk result
-        (IsOpen map.now K.book keeper.new
-        × Answered map.now known (K.book.content map.now keeper.old)
-        (K.book.content map.now keeper.new) (W.contents writer.old) (W.contents writer.new)) }
-    ensures ends { (known : Option (List ℕ)) → Consumes known (R.remaining reader.old) bytes.now
-        → IsOpen map.now K.book keeper.old → K.book.honest keeper.new → IfErr result
-        (λ f. EndsAt map.now K.book f known keeper.old keeper.new
-        (W.contents writer.old) (W.contents writer.new)) }
-    ensures answered { (known : Option (List ℕ)) → Consumes known (R.remaining reader.old) bytes.now
-        → K.book.sound map.now keeper.old → K.book.shows keeper.new → OnOk result
-        (Answered map.now known (K.book.content map.now keeper.old)
-        (K.book.content map.now keeper.new) (W.contents writer.old) (W.contents writer.new)) }
-    ensures ended { (known : Option (List ℕ)) → Consumes known (R.remaining reader.old) bytes.now
-        → K.book.sound map.now keeper.old → K.book.shows keeper.new → IfErr result
-        (λ f. EndsBy map.now f known (K.book.content map.now keeper.old)
-        (K.book.content map.now keeper.new) (W.contents writer.old) (W.contents writer.new)) }
-    ensures lawful { K.book.sound map.now keeper.old → K.book.shows keeper.new
-        → IsLawful map.now (K.book.content map.now keeper.old)
-        → IsLawful map.now (K.book.content map.now keeper.new) }
-    ensures never { K.book.sound map.now keeper.old → K.book.honest keeper.new
-        → K.book.shows keeper.old
-        → IsLawful map.now (K.book.content map.now keeper.old)
-        → IsErrOf result (HttpFault.Keep KeepFault.Damaged) → ⊥ }
+    ensures { (known : Option (List ℕ)) → Consumes known (R.remaining reader.old) bytes.now
+        → AnswersOne map.now K.book known keeper.old keeper.new
+        (W.contents writer.old) (W.contents writer.new) result }
 {
     match front {
         Front::Head(head) => {
@@ -122,32 +97,8 @@ pub fn answer_one<R: Read, W: Write, K: Keeper>(
     routes: &Routes,
 ) -> Result<(), HttpFault>
     requires { K.book.faults keeper.old < u64.MAX }
-    ensures keeps { Keeps map.now K.book keeper.old keeper.new result }
-    // What a fault tells whatever the keeper shows.
-    ensures tells { IfErr result (λ f. EndsQuietly f (R.remaining reader.old) keeper.old keeper.new
-        (W.contents writer.old) (W.contents writer.new)) }
-    // From an open keeper on, over an honest disk.
-    ensures goes { IsOpen map.now K.book keeper.old → K.book.honest keeper.new → OnOk result
-        (IsOpen map.now K.book keeper.new
-        × Answered map.now (R.remaining reader.old) (K.book.content map.now keeper.old)
-        (K.book.content map.now keeper.new) (W.contents writer.old) (W.contents writer.new)) }
-    ensures ends { IsOpen map.now K.book keeper.old → K.book.honest keeper.new → IfErr result
-        (λ f. EndsAt map.now K.book f (R.remaining reader.old) keeper.old keeper.new
-        (W.contents writer.old) (W.contents writer.new)) }
-    ensures answered { K.book.sound map.now keeper.old → K.book.shows keeper.new → OnOk result
-        (Answered map.now (R.remaining reader.old) (K.book.content map.now keeper.old)
-        (K.book.content map.now keeper.new) (W.contents writer.old) (W.contents writer.new)) }
-    ensures ended { K.book.sound map.now keeper.old → K.book.shows keeper.new → IfErr result
-        (λ f. EndsBy map.now f (R.remaining reader.old) (K.book.content map.now keeper.old)
-        (K.book.content map.now keeper.new) (W.contents writer.old) (W.contents writer.new)) }
-    ensures lawful { K.book.sound map.now keeper.old → K.book.shows keeper.new
-        → IsLawful map.now (K.book.content map.now keeper.old)
-        → IsLawful map.now (K.book.content map.now keeper.new) }
-    // From a lawful content on, as an empty desk is, Damaged is never told.
-    ensures never { K.book.sound map.now keeper.old → K.book.honest keeper.new
-        → K.book.shows keeper.old
-        → IsLawful map.now (K.book.content map.now keeper.old)
-        → IsErrOf result (HttpFault.Keep KeepFault.Damaged) → ⊥ }
+    ensures { AnswersOne map.now K.book (R.remaining reader.old) keeper.old keeper.new
+        (W.contents writer.old) (W.contents writer.new) result }
 {
     let mut bytes = Vec::new(alloc);
     'reading: loop {

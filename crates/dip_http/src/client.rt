@@ -1,8 +1,6 @@
 //! One client, from its first byte to the end of its socket.
-ghost use Rattle.std.specs.Prelude.{◌<◌, IfErr, IsErrOf, None, OnOk};
-ghost use Rattle.dip_desk.specs.Keeping.{IsOpen};
-ghost use Rattle.dip_desk_machine.specs.Lawful.{IsLawful};
-ghost use Rattle.dip_http.specs.Ends.{Answered, EndsAt, EndsBy, EndsQuietly, Keeps};
+ghost use Rattle.std.specs.Prelude.{◌<◌, None};
+ghost use Rattle.dip_http.specs.Ends.{AnswersOne};
 
 use crate::answering::answer_one;
 use crate::faults::HttpFault;
@@ -47,30 +45,8 @@ pub fn serve_one<C: Clock, K: Keeper>(
     routes: &Routes,
 ) -> Result<(), HttpFault>
     requires { K.book.faults keeper.old < u64.MAX }
-    ensures keeps { Keeps map.now K.book keeper.old keeper.new result }
-    ensures tells { IfErr result (λ f. EndsQuietly f None keeper.old keeper.new None None) }
-    // From an open keeper on, over an honest disk.
-    ensures goes { IsOpen map.now K.book keeper.old → K.book.honest keeper.new → OnOk result
-        (IsOpen map.now K.book keeper.new
-        × Answered map.now None (K.book.content map.now keeper.old)
-        (K.book.content map.now keeper.new) None None) }
-    ensures ends { IsOpen map.now K.book keeper.old → K.book.honest keeper.new → IfErr result
-        (λ f. EndsAt map.now K.book f None keeper.old keeper.new None None) }
-    // Some request was answered as it is to be, as far as the desk goes: what went over the socket
-    // the system alone knows.
-    ensures answered { K.book.sound map.now keeper.old → K.book.shows keeper.new → OnOk result
-        (Answered map.now None (K.book.content map.now keeper.old)
-        (K.book.content map.now keeper.new) None None) }
-    ensures ended { K.book.sound map.now keeper.old → K.book.shows keeper.new → IfErr result
-        (λ f. EndsBy map.now f None (K.book.content map.now keeper.old)
-        (K.book.content map.now keeper.new) None None) }
-    ensures lawful { K.book.sound map.now keeper.old → K.book.shows keeper.new
-        → IsLawful map.now (K.book.content map.now keeper.old)
-        → IsLawful map.now (K.book.content map.now keeper.new) }
-    ensures never { K.book.sound map.now keeper.old → K.book.honest keeper.new
-        → K.book.shows keeper.old
-        → IsLawful map.now (K.book.content map.now keeper.old)
-        → IsErrOf result (HttpFault.Keep KeepFault.Damaged) → ⊥ }
+    // What went over the socket the system alone knows.
+    ensures { AnswersOne map.now K.book None keeper.old keeper.new None None result }
 {
     let Ok(mut reader) = Timed::new(stream, clock) else {
         return Err(HttpFault::Read);

@@ -70,16 +70,7 @@ returns-then-count-eq0 g c =
     let known = g.R.Read.remaining c.args.reader.now in
     let f = c.answer_front.ensures in
     let read : Consumes known (g.R.Read.remaining c.read_more.new.reader) c.as_slice-bytes.result.now = rw lies consumed in
-    record {
-      keeps = rw c.reading.invariant.keeper at f.keeps;
-      tells = rw (c.reading.invariant.keeper, c.reading.invariant.writer) at (f.tells known read);
-      goes = rw (c.reading.invariant.keeper, c.reading.invariant.writer) at (f.goes known read);
-      ends = rw (c.reading.invariant.keeper, c.reading.invariant.writer) at (f.ends known read);
-      answered = rw (c.reading.invariant.keeper, c.reading.invariant.writer) at (f.answered known read);
-      ended = rw (c.reading.invariant.keeper, c.reading.invariant.writer) at (f.ended known read);
-      lawful = rw c.reading.invariant.keeper at f.lawful;
-      never = rw c.reading.invariant.keeper at f.never;
-    }
+    rw (c.reading.invariant.keeper, c.reading.invariant.writer) at (f known read)
 
 pub reading-preserved : goal.reading-preserved
 reading-preserved g c =

@@ -2,13 +2,11 @@
 ghost use Rattle.std.specs.Prelude.{◌≡◌, ◌<◌, ◌⊎◌, ℕ, List, IfOk, IfErr, IfSome, IfNone, OnOk, OnErr, IsErrOf, length, take as first};
 ghost use Rattle.std.specs.Io.KnownBytes.{Appends};
 ghost use Rattle.dip_letters.specs.Input.{IsNext};
-ghost use Rattle.dip_desk.specs.Keeping.{IsOpen, WasTold};
-ghost use Rattle.dip_desk_machine.specs.Lawful.{IsLawful};
 ghost use Rattle.dip_reports.specs.Texts.{reply_text};
 ghost use Rattle.dip_desk_state.specs.Rows as rows;
 ghost use Rattle.dip_judge_runs.specs.Names.{run_name};
-ghost use Rattle.dip_judge_runs.specs.Runs.{AnswersAll, AnswersNext, FailsNext, IsReadToEnd, IsReadWhole, IsUntouched, Stops, StopsAt};
-ghost use Rattle.dip_judge_runs.specs.RunFaults.{IsAnsweringFault, IsReadingFault, StopsBy, faults_after_run};
+ghost use Rattle.dip_judge_runs.specs.Runs.{AnswersNext, FailsNext, IsReadWhole};
+ghost use Rattle.dip_judge_runs.specs.RunFaults.{AnswersInput, IsReadingFault, RunsFile};
 
 use crate::reading::{ReadFault, read_whole};
 use dip_desk::{Keeper, fault_reply, take};
@@ -169,28 +167,8 @@ fn answer_all<W: Write, K: Keeper>(
     map: &Map,
 ) -> Result<(), RunFault>
     requires { K.book.faults keeper.old < u64.MAX }
-    ensures answers { K.book.sound map.now keeper.old → K.book.shows keeper.new
-        → OnOk result
-        (AnswersAll map.now input.now (K.book.content map.now keeper.old)
-        (K.book.content map.now keeper.new) (W.contents writer.old) (W.contents writer.new)) }
-    ensures stops { K.book.sound map.now keeper.old → K.book.shows keeper.new
-        → IfErr result
-        (λ f. Stops map.now f input.now (K.book.content map.now keeper.old)
-        (K.book.content map.now keeper.new) (W.contents writer.old) (W.contents writer.new)) }
-    ensures never { IsOpen map.now K.book keeper.old → K.book.honest keeper.new
-        → IsLawful map.now (K.book.content map.now keeper.old)
-        → IsErrOf result (RunFault.Keep KeepFault.Damaged) → ⊥ }
-    ensures failed { IsOpen map.now K.book keeper.old → K.book.honest keeper.new
-        → IsErrOf result (RunFault.Keep KeepFault.Disk) → WasTold K.book keeper.old keeper.new }
-    ensures goes { IsOpen map.now K.book keeper.old → K.book.honest keeper.new
-        → OnOk result (IsOpen map.now K.book keeper.new) }
-    ensures ends { IsOpen map.now K.book keeper.old → K.book.honest keeper.new
-        → IfErr result (λ f. StopsAt map.now K.book f input.now keeper.old keeper.new
-        (W.contents writer.old) (W.contents writer.new)) }
-    ensures fault { IfErr result IsAnsweringFault }
-    ensures count { K.book.faults keeper.new ≡ faults_after_run result (K.book.faults keeper.old) }
-    ensures fair { K.book.honest keeper.new → K.book.honest keeper.old }
-    ensures shown { K.book.shows keeper.new → K.book.shows keeper.old }
+    ensures { AnswersInput map.now K.book input.now keeper.old keeper.new
+        (W.contents writer.old) (W.contents writer.new) result }
 {
     lawful_states_stay_lawful(map);
     published_movements_are_decided();
@@ -217,40 +195,8 @@ pub fn run_file<R: Read, W: Write, K: Keeper>(
     map: &Map,
 ) -> Result<(), RunFault>
     requires { K.book.faults keeper.old < u64.MAX }
-    ensures answers { K.book.sound map.now keeper.old → K.book.shows keeper.new
-        → OnOk result
-        ((input : List ℕ) × IsReadWhole (R.remaining reader.old) (R.remaining reader.new) input
-        × AnswersAll map.now input (K.book.content map.now keeper.old)
-        (K.book.content map.now keeper.new) (W.contents writer.old) (W.contents writer.new)) }
-    ensures ok { OnOk result (IsReadToEnd (R.remaining reader.old) (R.remaining reader.new)) }
-    ensures err { IfErr result (λ f. StopsBy f (R.remaining reader.old) (R.remaining reader.new)
-        (W.contents writer.old) (W.contents writer.new) keeper.old keeper.new) }
-    ensures stops { K.book.sound map.now keeper.old → K.book.shows keeper.new
-        → IfErr result
-        (λ f. IsUntouched (W.contents writer.old) (W.contents writer.new) keeper.old keeper.new
-        ⊎
-        ((input : List ℕ) × IsReadWhole (R.remaining reader.old) (R.remaining reader.new) input
-        × Stops map.now f input (K.book.content map.now keeper.old)
-        (K.book.content map.now keeper.new) (W.contents writer.old) (W.contents writer.new))) }
-    ensures goes { IsOpen map.now K.book keeper.old → K.book.honest keeper.new
-        → OnOk result (IsOpen map.now K.book keeper.new) }
-    ensures ends { IsOpen map.now K.book keeper.old → K.book.honest keeper.new
-        → IfErr result
-        (λ f. IsUntouched (W.contents writer.old) (W.contents writer.new) keeper.old keeper.new
-        ⊎
-        ((input : List ℕ) × IsReadWhole (R.remaining reader.old) (R.remaining reader.new) input
-        × StopsAt map.now K.book f input keeper.old keeper.new (W.contents writer.old)
-        (W.contents writer.new))) }
-    // From a lawful content on, as an empty desk is, Damaged is never told.
-    ensures never { IsOpen map.now K.book keeper.old → K.book.honest keeper.new
-        → IsLawful map.now (K.book.content map.now keeper.old)
-        → IsErrOf result (RunFault.Keep KeepFault.Damaged) → ⊥ }
-    // The disk is told of only where the store told of a fault.
-    ensures failed { IsOpen map.now K.book keeper.old → K.book.honest keeper.new
-        → IsErrOf result (RunFault.Keep KeepFault.Disk) → WasTold K.book keeper.old keeper.new }
-    ensures count { K.book.faults keeper.new ≡ faults_after_run result (K.book.faults keeper.old) }
-    ensures fair { K.book.honest keeper.new → K.book.honest keeper.old }
-    ensures shown { K.book.shows keeper.new → K.book.shows keeper.old }
+    ensures { RunsFile map.now K.book (R.remaining reader.old) (R.remaining reader.new) keeper.old
+        keeper.new (W.contents writer.old) (W.contents writer.new) result }
 {
     let input = read_input(alloc, reader)?;
     answer_all(alloc, input.as_slice(), writer, keeper, map)

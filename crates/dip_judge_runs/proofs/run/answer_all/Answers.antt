@@ -81,33 +81,38 @@ returns-in_err-step g c =
       shown = λ shows. i.shown (f.shown shows);
     }
 
-pub returns-in_err-write_reply-in-Some-clause-stops : goal.returns-in_err-write_reply-in-Some-clause-stops
-returns-in_err-write_reply-in-Some-clause-stops g c = λ sound shows.
+-- the writing of a reply failed
+pub returns-in_err-write_reply-in-Some : goal.returns-in_err-write_reply-in-Some
+returns-in_err-write_reply-in-Some g c =
     let m = c.args.map.now in
     let b = g.K.Keeper.book in
+    let i = c.letters.invariant in
     let next = rw c.in-Some.is at c.in_ok-step.ensures.answered in
     let goes = goes_on m b c.letters.keeper c.step.new.keeper c.in-Some.reply c.in-Some.after.now c.letters.rest.now c.lawful_states_stay_lawful.ensures.stays next in
-    let before = goes.shown shows in
-    let so_far = c.letters.invariant.so_far sound before in
     let p = err_from_is_err_and c.from_residual-in_err-write_reply-in-Some.result c.from_residual-in_err-write_reply-in-Some.ensures.1 in
-    let turn = turn_of m b c.letters.keeper c.step.new.keeper c.in-Some.reply c.in-Some.after.now c.letters.rest.now next (c.letters.invariant.sound sound before) shows in
-    let part = c.in_err-write_reply-in-Some.ensures.err in
-    rw (p.1, p.2, c.in_err-write_reply-in-Some.ensures.fault) (stops_in_write _ (c.published_movements_are_decided.ensures m) c.args.input.now _ so_far.0 _ c.letters.rest.now (rows.reply c.in-Some.reply) _ c.in-Some.after.now _ _ _ part.0 so_far.1 turn so_far.2 part.1)
-
-pub returns-in_err-write_reply-in-Some-clause-ends : goal.returns-in_err-write_reply-in-Some-clause-ends
-returns-in_err-write_reply-in-Some-clause-ends g c = λ it honest.
-    let m = c.args.map.now in
-    let b = g.K.Keeper.book in
-    let next = rw c.in-Some.is at c.in_ok-step.ensures.answered in
-    let goes = goes_on m b c.letters.keeper c.step.new.keeper c.in-Some.reply c.in-Some.after.now c.letters.rest.now c.lawful_states_stay_lawful.ensures.stays next in
-    let on = c.letters.invariant.goes it (goes.fair honest) in
-    let after = goes.opens on honest in
-    let so_far = c.letters.invariant.so_far it.sound on.shows in
-    let p = err_from_is_err_and c.from_residual-in_err-write_reply-in-Some.result c.from_residual-in_err-write_reply-in-Some.ensures.1 in
-    let turn = turn_of m b c.letters.keeper c.step.new.keeper c.in-Some.reply c.in-Some.after.now c.letters.rest.now next on.sound after.shows in
     let part = c.in_err-write_reply-in-Some.ensures.err in
     rw (p.1, p.2, c.in_err-write_reply-in-Some.ensures.fault) record {
-      state = b.content m c.step.new.keeper;
-      stops = stops_in_write m (c.published_movements_are_decided.ensures m) c.args.input.now _ so_far.0 _ c.letters.rest.now (rows.reply c.in-Some.reply) _ c.in-Some.after.now _ _ _ part.0 so_far.1 turn so_far.2 part.1;
-      ends = ends_open m b c.args.keeper.now c.step.new.keeper _ after;
+      answers = λ sound shows. tt;
+      stops = λ sound shows.
+          let before = goes.shown shows in
+          let so_far = i.so_far sound before in
+          let turn = turn_of m b c.letters.keeper c.step.new.keeper c.in-Some.reply c.in-Some.after.now c.letters.rest.now next (i.sound sound before) shows in
+          stops_in_write _ (c.published_movements_are_decided.ensures m) c.args.input.now _ so_far.0 _ c.letters.rest.now (rows.reply c.in-Some.reply) _ c.in-Some.after.now _ _ _ part.0 so_far.1 turn so_far.2 part.1;
+      goes = λ it honest. tt;
+      ends = λ it honest.
+          let on = i.goes it (goes.fair honest) in
+          let after = goes.opens on honest in
+          let so_far = i.so_far it.sound on.shows in
+          let turn = turn_of m b c.letters.keeper c.step.new.keeper c.in-Some.reply c.in-Some.after.now c.letters.rest.now next on.sound after.shows in
+          record {
+            state = b.content m c.step.new.keeper;
+            stops = stops_in_write m (c.published_movements_are_decided.ensures m) c.args.input.now _ so_far.0 _ c.letters.rest.now (rows.reply c.in-Some.reply) _ c.in-Some.after.now _ _ _ part.0 so_far.1 turn so_far.2 part.1;
+            ends = ends_open m b c.args.keeper.now c.step.new.keeper _ after;
+          };
+      never = λ it honest lawful bad. absurd (cc);
+      failed = λ it honest bad. absurd (cc);
+      fault = tt;
+      count = goes.count ∙ i.count;
+      fair = λ honest. i.fair (goes.fair honest);
+      shown = λ shows. i.shown (goes.shown shows);
     }

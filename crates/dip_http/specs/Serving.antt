@@ -1,5 +1,5 @@
 -- What serving clients does to a desk.
-use Rattle.std.specs.Prelude.{◌≡◌, ◌≤◌, ◌⊎◌, ℕ, zero, suc, None, List, [], ◌++◌, IfErr, IsErrOf, Result}
+use Rattle.std.specs.Prelude.{◌≡◌, ◌≤◌, ◌⊎◌, ℕ, zero, suc, None, List, [], ◌++◌, IfErr, IsErrOf, OnOk, Result}
 use Rattle.dip_map.specs.Charts.{Chart}
 use Rattle.dip_desk.specs.Keeping.{Book, Ends, IsOpen, Rises, WasTold}
 use Rattle.dip_desk_machine.specs.Lawful.{IsLawful}
@@ -103,3 +103,21 @@ pub record ServesTo {K : Type 0} (m : Chart) (b : Book K) (count : ℕ) (old new
   pub state : State
   pub serves : Serves m n (b.content m old) state
   pub ends : Ends m b old new state (TakesOne m state) ⊎ Rises (b.told old) (b.told new)
+
+-- how so many clients are served, one after the other: whom, while the keeper shows what it keeps; from an open keeper on, over an honest disk,
+-- that it is open, or that the disk told of a fault that came with want of memory; which faults there are, and what is kept of the keeper
+pub record ServesAll {K : Type 0} (m : Chart) (b : Book K) (clients : ℕ) (old new : K) (result : Result (Unit {0}) KeepFault) : Type 0 where
+  pub served : b.sound m old → b.shows new → OnOk result (Serves m clients (b.content m old) (b.content m new))
+  pub ended : b.sound m old → b.shows new
+      → IfErr result (λ _. (n : ℕ) × (n ≤ clients) × Serves m n (b.content m old) (b.content m new))
+  pub goes : IsOpen m b old → b.honest new
+      → OnOk result ((IsOpen m b new × Serves m clients (b.content m old) (b.content m new)) ⊎ Rises (b.told old) (b.told new))
+  pub ends : IsOpen m b old → b.honest new → ServesTo m b clients old new
+  -- from a lawful content on, as an empty desk is, Damaged is never told
+  pub never : b.sound m old → b.honest new → b.shows new → IsLawful m (b.content m old) → IsErrOf result Damaged → ⊥
+  -- the disk is told of only where the store told of a fault
+  pub failed : IsOpen m b old → b.honest new → IsErrOf result Disk → WasTold b old new
+  pub shut : IfErr result IsShut
+  pub count : b.faults new ≡ faults_after result (b.faults old)
+  pub fair : b.honest new → b.honest old
+  pub shown : b.shows new → b.shows old

@@ -15,11 +15,11 @@ returns-in-Head g c = λ known read.
     let k = c.args.keeper.now in
     let left = c.carry_out.new.keeper in
     let whole : b.sound m k → b.shows left → OnOk c.carry_out.result (Answered m known (b.content m k) (b.content m left)
-        (g.W.Write.contents c.args.writer.now) (g.W.Write.contents c.carry_out.new.writer)) =
+    (g.W.Write.contents c.args.writer.now) (g.W.Write.contents c.carry_out.new.writer)) =
     λ sound shows. fronted_whole m known _ c.args.bytes.now c.in-Head.head _ _ _ _ _ _ _ c.carry_out.result read front
     c.plan_of-plan.ensures c.is_quiet-quiet.ensures rest (out.ok sound shows) in
     let part : b.sound m k → b.shows left → IfErr c.carry_out.result (λ f. EndsBy m f known (b.content m k) (b.content m left)
-        (g.W.Write.contents c.args.writer.now) (g.W.Write.contents c.carry_out.new.writer)) =
+    (g.W.Write.contents c.args.writer.now) (g.W.Write.contents c.carry_out.new.writer)) =
     λ sound shows. fronted_part m known _ c.args.bytes.now c.in-Head.head _ _ _ _ _ _ _ c.carry_out.result read front
     c.plan_of-plan.ensures c.is_quiet-quiet.ensures rest (out.err sound shows) in
     let tells = fronted_tells known _ c.args.bytes.now c.in-Head.head _ _ _ _ _ _ c.carry_out.result read front c.plan_of-plan.ensures c.is_quiet-quiet.ensures out.tells in
@@ -47,10 +47,10 @@ returns-in-More g c = λ known read.
     let tells = written_quietly c.refuse.result known k _ _ c.refuse.ensures.fault in
     let none : IsHeadless known = no_front known _ c.args.bytes.now c.args.front read c.requires.settled c.requires.some c.requires.is c.in-More.is in
     let whole : b.sound m k → b.shows k → OnOk c.refuse.result (Answered m known (b.content m k) (b.content m k)
-        (g.W.Write.contents c.args.writer.now) (g.W.Write.contents c.refuse.new.writer)) =
+    (g.W.Write.contents c.args.writer.now) (g.W.Write.contents c.refuse.new.writer)) =
     λ sound shows. headless_whole m known _ _ _ c.refuse.result none c.refuse.ensures.ok in
     let part : b.sound m k → b.shows k → IfErr c.refuse.result (λ f. EndsBy m f known (b.content m k) (b.content m k)
-        (g.W.Write.contents c.args.writer.now) (g.W.Write.contents c.refuse.new.writer)) =
+    (g.W.Write.contents c.args.writer.now) (g.W.Write.contents c.refuse.new.writer)) =
     λ sound shows. headless_part m known (b.content m k) _ _ c.refuse.result none c.refuse.ensures.err c.refuse.ensures.fault in
     record {
       keeps = keeps;

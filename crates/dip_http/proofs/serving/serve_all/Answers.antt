@@ -1,52 +1,65 @@
-use Rattle.std.proofs.Common.{◌≡◌, ◌∙◌, ◌+◌, ◌⊎◌, ℕ, subst, arith}
+use Rattle.std.proofs.Common.{◌≡◌, ◌∙◌, ◌+◌, ◌⊎◌, ℕ, subst, arith, rules}
 use Rattle.std.proofs.lemmas.Result.{err_from_is_err_and}
 use Rattle.dip_http.proofs.ServingLemmas.{meets_more, meets_next, serves, serves_all, serves_to, told_next}
 use Rattle.dip_desk.specs.Keeping.{IsOpen, Rises}
 use Rattle.dip_http.specs.Serving.{Serves}
 use Rattle.dip_http.proofs.serving.serve_all.Goals as goal
 
-pub returns-clause-served : goal.returns-clause-served
-returns-clause-served g c = λ sound shows.
+pub returns : goal.returns
+returns g c =
     let m = c.args.map.now in
     let b = g.K.Keeper.book in
-    let is : c.clients.served ≡ c.args.count = omega (arith, c.clients-test.false, c.clients.invariant.most) in
-    subst (λ (n : ℕ). Serves m n (b.content m c.args.keeper.now) (b.content m c.clients.keeper)) is
-    (serves m (c.connections_are_turns.ensures m) (c.published_movements_are_decided.ensures m) c.clients.served _ _ (c.clients.invariant.so_far sound shows))
+    let i = c.clients.invariant in
+    let turns = c.connections_are_turns.ensures m in
+    let decided = c.published_movements_are_decided.ensures m in
+    let is : c.clients.served ≡ c.args.count = omega (arith, c.clients-test.false, i.most) in
+    record {
+      served = λ sound shows. subst (λ (n : ℕ). Serves m n (b.content m c.args.keeper.now) (b.content m c.clients.keeper)) is
+          (serves m turns decided c.clients.served _ _ (i.so_far sound shows));
+      ended = λ sound shows. tt;
+      goes = λ it honest.
+          subst (λ (n : ℕ). (IsOpen m b c.clients.keeper × Serves m n (b.content m c.args.keeper.now) (b.content m c.clients.keeper)) ⊎ Rises (b.told c.args.keeper.now) (b.told c.clients.keeper)) is
+          (serves_all m b turns decided c.clients.served _ _ (i.ends it honest));
+      ends = λ it honest. serves_to m b turns decided c.clients.served c.args.count _ _ i.most (i.ends it honest);
+      never = λ sound honest shows lawful bad. absurd (cc);
+      failed = λ it honest bad. absurd (cc);
+      shut = tt;
+      count = i.count;
+      fair = i.fair;
+      shown = i.shown;
+    }
 
-pub returns-in_err-serve_next-clause-ended : goal.returns-in_err-serve_next-clause-ended
-returns-in_err-serve_next-clause-ended g c = λ sound shows.
+pub returns-in_err-serve_next : goal.returns-in_err-serve_next
+returns-in_err-serve_next g c =
     let m = c.args.map.now in
-    let before = c.serve_next.ensures.shown shows in
-    let so_far = c.clients.invariant.so_far sound before in
-    let one = c.serve_next.ensures.served (c.clients.invariant.sound sound before) shows in
+    let b = g.K.Keeper.book in
+    let i = c.clients.invariant in
+    let call = c.in_err-serve_next.ensures in
+    let turns = c.connections_are_turns.ensures m in
+    let decided = c.published_movements_are_decided.ensures m in
     let p = err_from_is_err_and c.from_residual.result c.from_residual.ensures.1 in
-    let all = meets_more m c.clients.served _ _ _ so_far one in
-    rw p.1 (
-      c.clients.served + 1,
-      omega (arith, c.clients-test.true),
-      serves m (c.connections_are_turns.ensures m) (c.published_movements_are_decided.ensures m) (c.clients.served + 1) _ _ all,
-    )
-
-pub returns-clause-goes : goal.returns-clause-goes
-returns-clause-goes g c = λ it honest.
-    let m = c.args.map.now in
-    let b = g.K.Keeper.book in
-    let is : c.clients.served ≡ c.args.count = omega (arith, c.clients-test.false, c.clients.invariant.most) in
-    subst (λ (n : ℕ). (IsOpen m b c.clients.keeper × Serves m n (b.content m c.args.keeper.now) (b.content m c.clients.keeper)) ⊎ Rises (b.told c.args.keeper.now) (b.told c.clients.keeper)) is
-    (serves_all m b (c.connections_are_turns.ensures m) (c.published_movements_are_decided.ensures m) c.clients.served _ _ (c.clients.invariant.ends it honest))
-
-pub returns-clause-ends : goal.returns-clause-ends
-returns-clause-ends g c = λ it honest.
-    let m = c.args.map.now in
-    serves_to m g.K.Keeper.book (c.connections_are_turns.ensures m) (c.published_movements_are_decided.ensures m) c.clients.served c.args.count _ _ c.clients.invariant.most (c.clients.invariant.ends it honest)
-
-pub returns-in_err-serve_next-clause-ends : goal.returns-in_err-serve_next-clause-ends
-returns-in_err-serve_next-clause-ends g c = λ it honest.
-    let m = c.args.map.now in
-    let b = g.K.Keeper.book in
-    let so = c.clients.invariant.ends it (c.serve_next.ensures.fair honest) in
-    serves_to m b (c.connections_are_turns.ensures m) (c.published_movements_are_decided.ensures m) (c.clients.served + 1) c.args.count _ _ (omega (arith, c.clients-test.true))
-    (meets_next m b c.clients.served c.args.keeper.now c.clients.keeper c.serve_next.new.keeper so c.clients.invariant.told c.serve_next.ensures.told (λ mid. c.serve_next.ensures.ends mid honest))
+    rw (p.1, p.2) record {
+      served = λ sound shows. tt;
+      ended = λ sound shows.
+          let before = call.shown shows in
+          let all = meets_more m c.clients.served _ _ _ (i.so_far sound before) (call.served (i.sound sound before) shows) in
+          (c.clients.served + 1, omega (arith, c.clients-test.true), serves m turns decided (c.clients.served + 1) _ _ all);
+      goes = λ it honest. tt;
+      ends = λ it honest.
+          let so = i.ends it (call.fair honest) in
+          serves_to m b turns decided (c.clients.served + 1) c.args.count _ _ (omega (arith, c.clients-test.true))
+          (meets_next m b c.clients.served c.args.keeper.now c.clients.keeper c.serve_next.new.keeper so i.told call.told (λ mid. call.ends mid honest));
+      never = λ sound honest shows lawful bad.
+          let before = call.shown shows in
+          call.never (i.sound sound before) honest before (i.lawful sound before lawful) (cc);
+      failed = λ it honest bad.
+          let so = i.ends it (call.fair honest) in
+          told_next m b c.clients.served c.args.keeper.now c.clients.keeper c.serve_next.new.keeper so i.told call.told i.of_size (λ mid. call.failed mid honest (cc));
+      shut = call.shut;
+      count = search rules;
+      fair = λ honest. i.fair (call.fair honest);
+      shown = λ shows. i.shown (call.shown shows);
+    }
 
 pub clients-preserved : goal.clients-preserved
 clients-preserved g c =
@@ -68,12 +81,3 @@ clients-preserved g c =
           let at = call.shown shows in
           meets_more m c.clients.served _ _ _ (before.so_far sound at) (call.served (before.sound sound at) shows);
     }
-
-pub returns-in_err-serve_next-clause-failed : goal.returns-in_err-serve_next-clause-failed
-returns-in_err-serve_next-clause-failed g c = λ it honest.
-    let m = c.args.map.now in
-    let b = g.K.Keeper.book in
-    let so = c.clients.invariant.ends it (c.serve_next.ensures.fair honest) in
-    let p = err_from_is_err_and c.from_residual.result c.from_residual.ensures.1 in
-    rw (p.1, p.2) (λ disk. told_next m b c.clients.served c.args.keeper.now c.clients.keeper c.serve_next.new.keeper so c.clients.invariant.told c.serve_next.ensures.told c.clients.invariant.of_size
-    (λ mid. c.in_err-serve_next.ensures.failed mid honest disk))

@@ -12,7 +12,7 @@ ghost use Rattle.dip_store_sql.specs.Causes.{has_faulted};
 ghost use Rattle.dip_store_sql.specs.TablesAfter.{is_first};
 ghost use Rattle.dip_store_sql.specs.Calls.{WasKept, old_tables_in};
 ghost use Rattle.dip_store_tables.specs.Renewing.{WereOurs};
-ghost use Rattle.dip_store.specs.Opening.{IsDesk, IsOldDesk, MayFound, MayRenew, OldEnds, Opens, StoreEnds};
+ghost use Rattle.dip_store.specs.Opening.{MakesStore, OpensOldStore, OpensStore};
 ghost use Rattle.dip_store_schema.specs.Renewing.{AreShort, IsLeftOld, IsOldStore, IsTooFullFor, old_said_by};
 ghost use Rattle.dip_store_schema.specs.Refusing.{IsOutage, IsRefused, IsRefusedAs};
 ghost use Rattle.dip_store.specs.Stored.{IsStore, book, fresh_keeper, said_by};
@@ -67,26 +67,7 @@ impl<S: Alter> SqlKeeper<S> {
         map_text: &str,
         digest: &[u8; 32],
     ) -> Result<SqlKeeper<S>, (StoreFault, Connection<S>)>
-        ensures opened { IfOk result (λ k. is_honest S.Store k.conn → Opens S.Store map.now
-            (record { desk = record { digest = digest.now; kept = None }; games = [] }) k) }
-        ensures told { IfOk result (λ k. (book S.Store).faults k ≡ 0) }
-        ensures empty { IfOk result (λ _. (state S.Store store).now.schema ≡ no_schema) }
-        ensures taken { IfErr result (λ e. e.0 ≡ StoreFault.OtherSchema
-            → (state S.Store store).now.schema ≡ no_schema → ⊥) }
-        ensures refused { IfErr result (λ e. e.0 ≡ StoreFault.OtherMap → ⊥) }
-        // The disk is told of only where a transaction was under way, or the store told of a fault
-        // of it.
-        ensures caused { IfErr result (λ e. is_honest S.Store e.1 → does_show S.Store store
-            → e.0 ≡ StoreFault.Disk
-            → IsTrue store.in_transaction ⊎ has_faulted S.Store store e.1) }
-        ensures same { IfErr result (λ e. does_show S.Store e.1
-            → (state S.Store e.1).committed ≡ (state S.Store store).committed) }
-        ensures fair { IfOk result (λ k. is_honest S.Store k.conn → is_honest S.Store store) }
-        ensures fair_still { IfErr result (λ e. is_honest S.Store e.1 → is_honest S.Store store) }
-        ensures crash { IfOk result (λ k. MayFound S.Store
-            (new_tables (sha256 map_text.now) digest.now) store k.conn) }
-        ensures crash_still { IfErr result (λ e. MayFound S.Store
-            (new_tables (sha256 map_text.now) digest.now) store e.1) }
+        ensures { MakesStore S.Store map.now map_text.now digest.now store result }
     {
         new_tables_are_new();
         new_tables_are_legible();
@@ -117,46 +98,7 @@ impl<S: Alter> SqlKeeper<S> {
         map_text: &str,
     ) -> Result<SqlKeeper<S>, (StoreFault, Connection<S>)>
         requires { store.in_transaction ≡ false }
-        ensures opened { IfOk result (λ k. is_honest S.Store k.conn → WasKept S.Store store
-            → IsOldStore map.now (state S.Store store).now → Opens S.Store map.now
-            (old_said_by map.now (state S.Store store).now.trees) k) }
-        ensures told { IfOk result (λ k. (book S.Store).faults k ≡ 0) }
-        ensures says { IfOk result (λ k. is_honest S.Store k.conn → WasKept S.Store store
-            → DeskSays 1 (sha256 map_text.now) (old_tables_in S.Store store)) }
-        ensures known { IfOk result (λ k. is_honest S.Store k.conn
-            → HasOldTables (state S.Store store).now.schema) }
-        ensures known_first { IfErr result (λ e. is_honest S.Store e.1
-            → e.0 ≡ StoreFault.OtherMap → HasOldTables (state S.Store store).now.schema) }
-        ensures refused { IfErr result (λ e. is_honest S.Store e.1 → WasKept S.Store store
-            → does_show S.Store store → WereOurs map.now (old_tables_in S.Store store)
-            → IsRefusedAs 1 (sha256 map_text.now)
-            (find is_first (old_tables_in S.Store store).desk) e.0) }
-        // The disk is told of only where the store told of a fault of it, but for a store that is
-        // made anew.
-        ensures caused { IfErr result (λ e. is_honest S.Store e.1 → does_show S.Store store
-            → e.0 ≡ StoreFault.Disk → has_faulted S.Store store e.1
-            ⊎ HasOldTables (state S.Store store).now.schema) }
-        // There a row may also be too long to be stored, or without a number.
-        ensures caused_of_ours { IfErr result (λ e. is_honest S.Store e.1 → WasKept S.Store store
-            → does_show S.Store store → WereOurs map.now (old_tables_in S.Store store)
-            → e.0 ≡ StoreFault.Disk → has_faulted S.Store store e.1
-            ⊎ IsTooFullFor (sha256 map_text.now) (state S.Store store).now.trees) }
-        ensures same { IfErr result (λ e. does_show S.Store e.1 → WasKept S.Store store
-            → (state S.Store e.1).committed ≡ (state S.Store store).committed) }
-        ensures left { IfErr result (λ e. is_honest S.Store e.1 → WasKept S.Store store
-            → IsOldDesk S.Store map.now store
-            → MayRenew S.Store map.now e.1 (old_said_by map.now (state S.Store store).now.trees)) }
-        ensures still { IfErr result (λ e. does_show S.Store e.1 → WasKept S.Store store
-            → (state S.Store e.1).now ≡ (state S.Store store).now) }
-        ensures idle { IfErr result (λ e. e.1.in_transaction ≡ false) }
-        ensures shown { IfOk result (λ k. is_honest S.Store k.conn → does_show S.Store store) }
-        ensures shown_still { IfErr result (λ e. does_show S.Store e.1 → does_show S.Store store) }
-        ensures fair { IfOk result (λ k. is_honest S.Store k.conn → is_honest S.Store store) }
-        ensures fair_still { IfErr result (λ e. is_honest S.Store e.1 → is_honest S.Store store) }
-        ensures counted { IfOk result (λ k.
-            (state S.Store store).faults ≤ (state S.Store k.conn).faults) }
-        ensures closes { IfErr result (λ e. is_honest S.Store e.1 → does_show S.Store store
-            → does_show S.Store e.1 ⊎ has_faulted S.Store store e.1) }
+        ensures { OpensOldStore S.Store map.now map_text.now store result }
     {
         old_tables_are_renewed();
         let mut conn = store;
@@ -188,76 +130,7 @@ impl<S: Alter> SqlKeeper<S> {
         map: &Map,
         map_text: &str,
     ) -> Result<SqlKeeper<S>, (StoreFault, Connection<S>)>
-        ensures opened { IfOk result (λ k. is_honest S.Store k.conn
-            → IsStore map.now (state S.Store store).now
-            → Opens S.Store map.now (said_by map.now (state S.Store store).now.trees) k) }
-        ensures told { IfOk result (λ k. (book S.Store).faults k ≡ 0) }
-        ensures says { IfOk result (λ k. is_honest S.Store k.conn
-            → IsStore map.now (state S.Store store).now
-            → DeskSays 2 (sha256 map_text.now) (tables_in S.Store store)) }
-        ensures known { IfOk result (λ k. is_honest S.Store k.conn
-            → HasOurTables (state S.Store store).now.schema
-            ⊎ HasOldTables (state S.Store store).now.schema) }
-        ensures known_first { IfErr result (λ e. is_honest S.Store e.1
-            → e.0 ≡ StoreFault.OtherMap → HasOurTables (state S.Store store).now.schema
-            ⊎ HasOldTables (state S.Store store).now.schema) }
-        ensures refused { IfErr result (λ e. is_honest S.Store e.1
-            → IsStore map.now (state S.Store store).now → IsRefused (sha256 map_text.now)
-            (find is_first (tables_in S.Store store).desk) e.0) }
-        ensures own { IfErr result (λ e. is_honest S.Store e.1
-            → IsStore map.now (state S.Store store).now
-            → DeskSays 2 (sha256 map_text.now) (tables_in S.Store store) → IsOutage e.0) }
-        // Whatever a store has, the disk is told of only where a transaction was under way, or the
-        // store told of a fault of it, or it has tables of version 1 that no keeper of that version
-        // wrote, or that can't be made anew.
-        ensures caused { IfErr result (λ e. is_honest S.Store e.1 → does_show S.Store store
-            → e.0 ≡ StoreFault.Disk → IsTrue store.in_transaction
-            ⊎ (has_faulted S.Store store e.1
-            ⊎ IsLeftOld map.now (sha256 map_text.now) (state S.Store store).now)) }
-        ensures same { IfErr result (λ e. does_show S.Store e.1
-            → IsStore map.now (state S.Store store).now
-            → (state S.Store e.1).committed ≡ (state S.Store store).committed) }
-        ensures fair { IfOk result (λ k. is_honest S.Store k.conn → is_honest S.Store store) }
-        ensures fair_still { IfErr result (λ e. is_honest S.Store e.1 → is_honest S.Store store) }
-        ensures counted { IfOk result (λ k.
-            (state S.Store store).faults ≤ (state S.Store k.conn).faults) }
-        // A store of version 1 is opened as one of version 2 that says the same.
-        ensures renewed { IfOk result (λ k. is_honest S.Store k.conn
-            → IsOldStore map.now (state S.Store store).now → Opens S.Store map.now
-            (old_said_by map.now (state S.Store store).now.trees) k) }
-        ensures old_says { IfOk result (λ k. is_honest S.Store k.conn
-            → IsOldStore map.now (state S.Store store).now
-            → DeskSays 1 (sha256 map_text.now) (old_tables_in S.Store store)) }
-        ensures old_refused { IfErr result (λ e. is_honest S.Store e.1
-            → IsOldDesk S.Store map.now store → IsRefusedAs 1 (sha256 map_text.now)
-            (find is_first (old_tables_in S.Store store).desk) e.0) }
-        ensures old_own { IfErr result (λ e. is_honest S.Store e.1
-            → IsOldDesk S.Store map.now store
-            → DeskSays 1 (sha256 map_text.now) (old_tables_in S.Store store) → IsOutage e.0) }
-        // Of a desk of version 1 the disk is told of only where the store told of a fault of it, or
-        // where its master's row let it be made anew, and one of the rows that this writes is too
-        // long to be stored, or without a number.
-        ensures old_caused { IfErr result (λ e. is_honest S.Store e.1
-            → IsOldDesk S.Store map.now store
-            → e.0 ≡ StoreFault.Disk → has_faulted S.Store store e.1
-            ⊎ IsTooFullFor (sha256 map_text.now) (state S.Store store).now.trees) }
-        // So of one whose texts are short it is told only where the store told of a fault.
-        ensures old_short { IfErr result (λ e. is_honest S.Store e.1
-            → IsOldDesk S.Store map.now store → AreShort (state S.Store store).now.trees
-            → e.0 ≡ StoreFault.Disk → has_faulted S.Store store e.1) }
-        ensures old_same { IfErr result (λ e. does_show S.Store e.1
-            → IsOldStore map.now (state S.Store store).now
-            → (state S.Store e.1).committed ≡ (state S.Store store).committed) }
-        // Of one that isn't opened a crash leaves the tables of version 1, or those of version 2 that
-        // say the same, whole.
-        ensures old_ends { IfErr result (λ e. is_honest S.Store e.1
-            → IsOldDesk S.Store map.now store
-            → OldEnds S.Store map.now (has_faulted S.Store store e.1) e.1
-            (old_said_by map.now (state S.Store store).now.trees)) }
-        // A store that isn't opened holds what it held, or told of a fault of the disk.
-        ensures ends { IfErr result (λ e. is_honest S.Store e.1 → IsDesk S.Store map.now store
-            → StoreEnds S.Store map.now (has_faulted S.Store store e.1) e.1
-            (said_by map.now (state S.Store store).now.trees) (λ _. ⊥)) }
+        ensures { OpensStore S.Store map.now map_text.now store result }
     {
         let mut conn = store;
         conn.set_step_limit(None);

@@ -9,33 +9,53 @@ use Rattle.dip_store.proofs.Opened.{opens_new}
 use Rattle.dip_store_schema.proofs.Refused.{open_blamed}
 use Rattle.dip_store.proofs.keeper.SqlKeeper.create.Goals as goal
 
-pub returns-in-Ok-clause-opened : goal.returns-in-Ok-clause-opened
-returns-in-Ok-clause-opened g c =
-    let new : IsNewStore g.S.Store c.set_step_limit.new.self = record {
-      empty = c.knows_none.ensures.value.0 c.if-not-knows_none.false;
-      unlimited = rw c.set_step_limit.ensures refl;
-    } in
-    rw c.over.ensures
-    (λ clean. opens_new g.S.Store c.args.map.now c.args.alloc c.set_up_tables.new.conn c.commits_last.ensures _ c.args.digest.now c.facts.ensures (c.new_tables_are_new.ensures c.args.map.now) c.new_tables_are_legible.ensures c.has_32.ensures
-    (c.in-Ok.ensures.kept new clean) (c.in-Ok.ensures.ok clean))
+pub returns-in-Ok : goal.returns-in-Ok
+returns-in-Ok g c = record {
+  opened =
+      let new : IsNewStore g.S.Store c.set_step_limit.new.self = record {
+        empty = c.knows_none.ensures.value.0 c.if-not-knows_none.false;
+        unlimited = rw c.set_step_limit.ensures refl;
+      } in
+      rw c.over.ensures
+      (λ clean. opens_new g.S.Store c.args.map.now c.args.alloc c.set_up_tables.new.conn c.commits_last.ensures _ c.args.digest.now c.facts.ensures (c.new_tables_are_new.ensures c.args.map.now) c.new_tables_are_legible.ensures c.has_32.ensures
+      (c.in-Ok.ensures.kept new clean) (c.in-Ok.ensures.ok clean));
+  told = search rules;
+  empty = search rules;
+  taken = search rules;
+  refused = search rules;
+  caused = search rules;
+  same = search rules;
+  fair = search rules;
+  fair_still = search rules;
+  crash =
+      let h = c.set_step_limit.new.self in
+      let sum : c.sum.result ≡ sha256 c.args.map_text.now = search rules in
+      rw c.over.ensures
+      (λ clean db may. subst (λ (h : Held _). (state g.S.Store h).may_leave db ⊎ Founds (new_tables (sha256 c.args.map_text.now) c.args.digest.now) (state g.S.Store h) db)
+      c.set_step_limit.ensures
+      (subst (λ (s : List ℕ). (state g.S.Store h).may_leave db ⊎ Founds (new_tables s c.args.digest.now) (state g.S.Store h) db) sum
+      (c.in-Ok.ensures.crash.crash clean db may)));
+  crash_still = search rules;
+}
 
--- the limit of steps is nothing that a crash could leave
-pub returns-in-Ok-clause-crash : goal.returns-in-Ok-clause-crash
-returns-in-Ok-clause-crash g c =
-    let h = c.set_step_limit.new.self in
-    let sum : c.sum.result ≡ sha256 c.args.map_text.now = search rules in
-    rw c.over.ensures
-    (λ clean db may. subst (λ (h : Held _). (state g.S.Store h).may_leave db ⊎ Founds (new_tables (sha256 c.args.map_text.now) c.args.digest.now) (state g.S.Store h) db)
-    c.set_step_limit.ensures
-    (subst (λ (s : List ℕ). (state g.S.Store h).may_leave db ⊎ Founds (new_tables s c.args.digest.now) (state g.S.Store h) db) sum
-    (c.in-Ok.ensures.crash.crash clean db may)))
-
-pub returns-in-Err-clause-caused : goal.returns-in-Err-clause-caused
-returns-in-Err-clause-caused g c clean shows is =
-    let h = c.set_step_limit.new.self in
-    let new : IsNewStore g.S.Store h = record {
-      empty = c.knows_none.ensures.value.0 c.if-not-knows_none.false;
-      unlimited = rw c.set_step_limit.ensures refl;
-    } in
-    let there : does_show g.S.Store h = rw c.set_step_limit.ensures shows in
-    inr (subst (λ (h : Held _). has_faulted g.S.Store h c.set_up_tables.new.conn) c.set_step_limit.ensures (open_blamed _ c.in-Err.error (c.in-Err.ensures.fails new there clean) (sym c.open_fault.ensures ∙ is)))
+pub returns-in-Err : goal.returns-in-Err
+returns-in-Err g c = record {
+  opened = search rules;
+  told = search rules;
+  empty = search rules;
+  taken = search rules;
+  refused = search rules;
+  caused = λ clean shows is.
+      let h = c.set_step_limit.new.self in
+      let new : IsNewStore g.S.Store h = record {
+        empty = c.knows_none.ensures.value.0 c.if-not-knows_none.false;
+        unlimited = rw c.set_step_limit.ensures refl;
+      } in
+      let there : does_show g.S.Store h = rw c.set_step_limit.ensures shows in
+      inr (subst (λ (h : Held _). has_faulted g.S.Store h c.set_up_tables.new.conn) c.set_step_limit.ensures (open_blamed _ c.in-Err.error (c.in-Err.ensures.fails new there clean) (sym c.open_fault.ensures ∙ is)));
+  same = search rules;
+  fair = search rules;
+  fair_still = search rules;
+  crash = search rules;
+  crash_still = search rules;
+}

@@ -6,4 +6,5 @@ pub mod Known
 pub mod Making
 pub mod Refusing
 pub mod Renewing
+pub mod Renewals
 pub mod Rewriting

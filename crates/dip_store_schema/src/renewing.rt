@@ -22,6 +22,7 @@ ghost use Rattle.dip_store_sql.specs.Old.{HasOld, WasGood, old_tables_of};
 ghost use Rattle.dip_store_tables.specs.Renewing.{WereOurs, old_ballot, old_choice, renewed};
 ghost use Rattle.dip_store_schema.specs.Refusing.{IsOutage};
 ghost use Rattle.dip_store_schema.specs.Renewing.{AreRead, Fills, HasRoomAnew, IsOldStore, Outgrows, Renews, filled, more_choices, rows_from};
+ghost use Rattle.dip_store_schema.specs.Renewals.{FillsStore, RenewsStore};
 ghost use Rattle.dip_store_schema.specs.Rewriting.{Stands, StandsAt};
 ghost use Rattle.dip_store_tables.specs.Tables.{Tables};
 
@@ -133,26 +134,7 @@ fn fill<S: Alter>(
     ballots: &[NewBallot],
 ) -> Result<(), Error>
     requires { conn.old.in_transaction ≡ false }
-    ensures laid { WasGood (state S.Store conn.old).now → conn.old.step_limit ≡ None
-        → is_honest S.Store conn.new → OnOk result (IsLaid S.Store conn.new
-        × (tables_in S.Store conn.new
-        ≡ filled (lines games.now) ballots.now (old_tables_in S.Store conn.old))) }
-    ensures ok { is_honest S.Store conn.new → OnOk result (does_show S.Store conn.new) }
-    ensures shown { does_show S.Store conn.new → does_show S.Store conn.old }
-    ensures idle { conn.new.in_transaction ≡ false }
-    ensures base { does_show S.Store conn.new → OnErr result
-        ((state S.Store conn.new).committed ≡ (state S.Store conn.old).committed) }
-    ensures err { does_show S.Store conn.new → OnErr result
-        ((state S.Store conn.new).now ≡ (state S.Store conn.old).committed) }
-    // Where each row can be stored, and has a number, it fails for want of memory, or by the disk
-    // where the store told of a fault of it.
-    ensures fails { WasKept S.Store conn.old → does_show S.Store conn.old
-        → is_honest S.Store conn.new
-        → AreRead (lines games.now) ballots.now (old_tables_in S.Store conn.old)
-        → HasRoomAnew (state S.Store conn.old).now.trees
-        → IfErr result (IsCaused (has_faulted S.Store conn.old conn.new)) }
-    ensures crash { Survives (state S.Store conn.old) (state S.Store conn.new)
-        (Fills (lines games.now) ballots.now (state S.Store conn.old)) }
+    ensures { FillsStore S.Store (lines games.now) ballots.now conn.old conn.new result }
 {
     let mut tx = conn.transaction();
     renew_tables(&mut tx, games, ballots)?;
@@ -197,32 +179,7 @@ fn old_ballots<S: Alter>(
 /// stored or has no number left; `OtherSchema` for a vote that no keeper wrote. Then what was committed is as before.
 pub fn renew<S: Alter>(conn: &mut Connection<S>, alloc: Global) -> Result<(), StoreFault>
     requires { conn.old.in_transaction ≡ false }
-    ensures kept { WasKept S.Store conn.old → (m : Chart)
-        → IsOldStore m (state S.Store conn.old).now → is_honest S.Store conn.new
-        → OnOk result (Keeps S.Store conn.new (renewed (old_tables_in S.Store conn.old))) }
-    ensures own { WasKept S.Store conn.old → does_show S.Store conn.old
-        → is_honest S.Store conn.new → (m : Chart) → WereOurs m (old_tables_in S.Store conn.old)
-        → IfErr result IsOutage }
-    // The disk is told of only where the store told of a fault of it, or a row is too long to be
-    // stored, or without a number.
-    ensures caused { WasKept S.Store conn.old → does_show S.Store conn.old
-        → is_honest S.Store conn.new → (m : Chart) → WereOurs m (old_tables_in S.Store conn.old)
-        → IsErrOf result StoreFault.Disk → has_faulted S.Store conn.old conn.new
-        ⊎ Outgrows (state S.Store conn.old).now.trees }
-    ensures ok { is_honest S.Store conn.new → OnOk result (does_show S.Store conn.new) }
-    ensures fair { is_honest S.Store conn.new → is_honest S.Store conn.old }
-    ensures shown { does_show S.Store conn.new → does_show S.Store conn.old }
-    ensures counted { (state S.Store conn.old).faults ≤ (state S.Store conn.new).faults }
-    ensures idle { conn.new.in_transaction ≡ false }
-    ensures base { WasKept S.Store conn.old → does_show S.Store conn.new → OnErr result
-        ((state S.Store conn.new).committed ≡ (state S.Store conn.old).committed) }
-    ensures still { WasKept S.Store conn.old → does_show S.Store conn.new → OnErr result
-        ((state S.Store conn.new).now ≡ (state S.Store conn.old).now) }
-    ensures closes { is_honest S.Store conn.new → does_show S.Store conn.old
-        → does_show S.Store conn.new ⊎ has_faulted S.Store conn.old conn.new }
-    ensures left { WasKept S.Store conn.old → is_honest S.Store conn.new → (db : Trees)
-        → (state S.Store conn.new).may_leave db → (state S.Store conn.old).may_leave db
-        ⊎ Renews (old_tables_in S.Store conn.old) db }
+    ensures { RenewsStore S.Store conn.old conn.new result }
 {
     old_tables_are_renewed();
     let games = match old_games(conn, alloc) {

@@ -14,54 +14,78 @@ use Rattle.dip_store_schema.specs.Making.{HasFirst, HasTables}
 use Rattle.dip_store_schema.proofs.Trying.{begun_set, commit_caused, parts_caused}
 use Rattle.dip_store_schema.proofs.founding.set_up_tables.Goals as goal
 
-pub returns-clause-crash : goal.returns-clause-crash
-returns-clause-crash g c =
-    let old = c.args.conn.now in
-    let last = c.make_tables.new.tx.conn.now in
-    let end = c.commit.new.self.0 in
-    let same : end ≡ c.conn-2-1.given.0 = search rules in
-    let P = Founds (new_tables c.args.map_sum.now c.args.digest.now) (state g.S.Store old) in
-    let part = rw c.transaction-tx.ensures.begun at c.in_ok-make_tables.ensures.leads in
-    let whole = survives_then (state g.S.Store old) (state g.S.Store last) (state g.S.Store end) _ _ P (λ _ db none. absurd none)
-    (λ late db is. (_, λ empty. (part.runs (omega (arith, late, c.commit.ensures.survives.clean))).now (record { schema_is = empty; empty = tt }), is))
-    (survives_begin g.S.Store old (state g.S.Store last) _ part.survives) c.commit.ensures.survives in
-    subst (λ (h : Held _). Survives (state g.S.Store old) (state g.S.Store h) P) same whole
+pub returns : goal.returns
+returns g c = record {
+  kept = search rules;
+  ok = search rules;
+  shown = search rules;
+  idle = search rules;
+  base = search rules;
+  err = search rules;
+  fails = search rules;
+  crash =
+      let old = c.args.conn.now in
+      let last = c.make_tables.new.tx.conn.now in
+      let end = c.commit.new.self.0 in
+      let same : end ≡ c.conn-2-1.given.0 = search rules in
+      let P = Founds (new_tables c.args.map_sum.now c.args.digest.now) (state g.S.Store old) in
+      let part = rw c.transaction-tx.ensures.begun at c.in_ok-make_tables.ensures.leads in
+      let whole = survives_then (state g.S.Store old) (state g.S.Store last) (state g.S.Store end) _ _ P (λ _ db none. absurd none)
+      (λ late db is. (_, λ empty. (part.runs (omega (arith, late, c.commit.ensures.survives.clean))).now (record { schema_is = empty; empty = tt }), is))
+      (survives_begin g.S.Store old (state g.S.Store last) _ part.survives) c.commit.ensures.survives in
+      subst (λ (h : Held _). Survives (state g.S.Store old) (state g.S.Store h) P) same whole;
+}
 
-pub returns-in_err-commit-clause-crash : goal.returns-in_err-commit-clause-crash
-returns-in_err-commit-clause-crash g c =
-    let old = c.args.conn.now in
-    let last = c.make_tables.new.tx.conn.now in
-    let end = c.commit.new.self.0 in
-    let same : end ≡ c.conn-2-1.given.0 = search rules in
-    let P = Founds (new_tables c.args.map_sum.now c.args.digest.now) (state g.S.Store old) in
-    let part = rw c.transaction-tx.ensures.begun at c.in_ok-make_tables.ensures.leads in
-    let whole = survives_then (state g.S.Store old) (state g.S.Store last) (state g.S.Store end) _ _ P (λ _ db none. absurd none)
-    (λ late db is. (_, λ empty. (part.runs (omega (arith, late, c.commit.ensures.survives.clean))).now (record { schema_is = empty; empty = tt }), is))
-    (survives_begin g.S.Store old (state g.S.Store last) _ part.survives) c.commit.ensures.survives in
-    subst (λ (h : Held _). Survives (state g.S.Store old) (state g.S.Store h) P) same whole
+pub returns-in_err-commit : goal.returns-in_err-commit
+returns-in_err-commit g c = record {
+  kept = search rules;
+  ok = search rules;
+  shown = search rules;
+  idle = search rules;
+  base = search rules;
+  err = search rules;
+  fails = λ new shows clean.
+      let old = c.args.conn.now in
+      let last = c.make_tables.new.tx.conn.now in
+      let end = c.commit.new.self.0 in
+      let same : end ≡ c.conn-2-1.given.0 = search rules in
+      let honest : is_honest g.S.Store end = search (rules, clean) in
+      let t = new_tables c.args.map_sum.now c.args.digest.now in
+      let tries = rw c.transaction-tx.ensures.begun at c.in_ok-make_tables.ensures.tries in
+      let error = c.in_err-commit.field-0.0 in
+      let cause : IsCaused (has_faulted g.S.Store old end) error =
+      commit_caused g.S.Store (HasFirst 0) (HasTables t) old last end (begun_set g.S.Store old new shows) (Unit {0}) (Unit {0}) c.in_ok-make_tables.field-0 (fails (Unit {0}) Error error) _ tries c.commit.ensures.survives c.in_err-commit.ensures.err honest in
+      let there = subst (λ (h : Held _). IsCaused (has_faulted g.S.Store old h) error) same cause in
+      search (rules, there);
+  crash =
+      let old = c.args.conn.now in
+      let last = c.make_tables.new.tx.conn.now in
+      let end = c.commit.new.self.0 in
+      let same : end ≡ c.conn-2-1.given.0 = search rules in
+      let P = Founds (new_tables c.args.map_sum.now c.args.digest.now) (state g.S.Store old) in
+      let part = rw c.transaction-tx.ensures.begun at c.in_ok-make_tables.ensures.leads in
+      let whole = survives_then (state g.S.Store old) (state g.S.Store last) (state g.S.Store end) _ _ P (λ _ db none. absurd none)
+      (λ late db is. (_, λ empty. (part.runs (omega (arith, late, c.commit.ensures.survives.clean))).now (record { schema_is = empty; empty = tt }), is))
+      (survives_begin g.S.Store old (state g.S.Store last) _ part.survives) c.commit.ensures.survives in
+      subst (λ (h : Held _). Survives (state g.S.Store old) (state g.S.Store h) P) same whole;
+}
 
-pub returns-in_err-commit-clause-fails : goal.returns-in_err-commit-clause-fails
-returns-in_err-commit-clause-fails g c new shows clean =
-    let old = c.args.conn.now in
-    let last = c.make_tables.new.tx.conn.now in
-    let end = c.commit.new.self.0 in
-    let same : end ≡ c.conn-2-1.given.0 = search rules in
-    let honest : is_honest g.S.Store end = search (rules, clean) in
-    let t = new_tables c.args.map_sum.now c.args.digest.now in
-    let tries = rw c.transaction-tx.ensures.begun at c.in_ok-make_tables.ensures.tries in
-    let error = c.in_err-commit.field-0.0 in
-    let cause : IsCaused (has_faulted g.S.Store old end) error =
-    commit_caused g.S.Store (HasFirst 0) (HasTables t) old last end (begun_set g.S.Store old new shows) (Unit {0}) (Unit {0}) c.in_ok-make_tables.field-0 (fails (Unit {0}) Error error) _ tries c.commit.ensures.survives c.in_err-commit.ensures.err honest in
-    let there = subst (λ (h : Held _). IsCaused (has_faulted g.S.Store old h) error) same cause in
-    search (rules, there)
-
-pub returns-in_err-make_tables-clause-fails : goal.returns-in_err-make_tables-clause-fails
-returns-in_err-make_tables-clause-fails g c new shows clean =
-    let old = c.args.conn.now in
-    let last = c.make_tables.new.tx.conn.now in
-    let honest : is_honest g.S.Store c.drop-tx.new.self.0 = search (rules, clean) in
-    let t = new_tables c.args.map_sum.now c.args.digest.now in
-    let tries = rw c.transaction-tx.ensures.begun at c.in_err-make_tables.ensures.tries in
-    let cause = parts_caused g.S.Store (HasFirst 0) (HasTables t) old last last (begun_set g.S.Store old new shows) (Unit {0}) c.in_err-make_tables.field-0.0 tries (omega (arith, honest, c.drop-tx.ensures.survives.clean)) in
-    let late = caused_weaker _ _ c.in_err-make_tables.field-0.0 (faulted_early (state g.S.Store old) (state g.S.Store last) (state g.S.Store c.drop-tx.new.self.0) c.drop-tx.ensures.survives.counts) cause in
-    search (rules, late)
+pub returns-in_err-make_tables : goal.returns-in_err-make_tables
+returns-in_err-make_tables g c = record {
+  kept = search rules;
+  ok = search rules;
+  shown = search rules;
+  idle = search rules;
+  base = search rules;
+  err = search rules;
+  fails = λ new shows clean.
+      let old = c.args.conn.now in
+      let last = c.make_tables.new.tx.conn.now in
+      let honest : is_honest g.S.Store c.drop-tx.new.self.0 = search (rules, clean) in
+      let t = new_tables c.args.map_sum.now c.args.digest.now in
+      let tries = rw c.transaction-tx.ensures.begun at c.in_err-make_tables.ensures.tries in
+      let cause = parts_caused g.S.Store (HasFirst 0) (HasTables t) old last last (begun_set g.S.Store old new shows) (Unit {0}) c.in_err-make_tables.field-0.0 tries (omega (arith, honest, c.drop-tx.ensures.survives.clean)) in
+      let late = caused_weaker _ _ c.in_err-make_tables.field-0.0 (faulted_early (state g.S.Store old) (state g.S.Store last) (state g.S.Store c.drop-tx.new.self.0) c.drop-tx.ensures.survives.counts) cause in
+      search (rules, late);
+  crash = search rules;
+}

@@ -1,5 +1,5 @@
 //! What GET and HEAD are answered: the public part of a game, or a paper.
-ghost use Rattle.std.specs.Prelude.{◌<◌, ℕ, Option};
+ghost use Rattle.std.specs.Prelude.{◌<◌, ℕ, IsErrOf, Option};
 ghost use Rattle.dip_desk_state.specs.State.{paper_at, public_at};
 ghost use Rattle.dip_http.specs.Answering.{IsNumber, game_answer, paper_answer, paper_named};
 ghost use Rattle.dip_http.specs.Ends.{ShowsText};
@@ -25,9 +25,11 @@ pub fn show_game<W: Write, K: Keeper>(
     name: &str,
 ) -> Result<(), HttpFault>
     requires { K.book.faults keeper.old < u64.MAX }
-    ensures { ShowsText map.now K.book quiet
+    ensures shows { ShowsText map.now K.book quiet
         (λ s. game_answer map.now quiet (public_at name.now s)) keeper.old keeper.new
         (W.contents writer.old) (W.contents writer.new) result }
+    // Nothing is read here.
+    ensures unread { IsErrOf result HttpFault.Read → ⊥ }
 {
     match keeper.public(map, name) {
         Err(fault) => Err(unavailable(writer, quiet, fault)),
@@ -55,9 +57,11 @@ fn show_numbered<W: Write, K: Keeper>(
     number: u32,
 ) -> Result<(), HttpFault>
     requires { K.book.faults keeper.old < u64.MAX }
-    ensures { ShowsText map.now K.book quiet
+    ensures shows { ShowsText map.now K.book quiet
         (λ s. paper_answer quiet (paper_at name.now number s)) keeper.old keeper.new
         (W.contents writer.old) (W.contents writer.new) result }
+    // Nothing is read here.
+    ensures unread { IsErrOf result HttpFault.Read → ⊥ }
 {
     match keeper.paper(map, name, number) {
         Err(fault) => Err(unavailable(writer, quiet, fault)),
@@ -82,9 +86,11 @@ pub fn show_paper<W: Write, K: Keeper>(
     number: &str,
 ) -> Result<(), HttpFault>
     requires { K.book.faults keeper.old < u64.MAX }
-    ensures { (n : Option ℕ) × IsNumber number.now n × ShowsText map.now K.book quiet
+    ensures shows { (n : Option ℕ) × IsNumber number.now n × ShowsText map.now K.book quiet
         (λ s. paper_answer quiet (paper_named name.now n s)) keeper.old keeper.new
         (W.contents writer.old) (W.contents writer.new) result }
+    // Nothing is read here.
+    ensures unread { IsErrOf result HttpFault.Read → ⊥ }
 {
     match number_of(number) {
         None => refuse(writer, HttpRefusal::NotFound, quiet),

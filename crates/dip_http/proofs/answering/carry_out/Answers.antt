@@ -13,11 +13,11 @@ returns-in-Game g c = rw c.in-Game.is
     (responds_as c.args.map.now g.K.Keeper.book c.args.quiet _ _ c.args.keeper.now c.show_game.new.keeper _ _ _ _ _ _ c.show_game.result
     (λ s t. game_whole c.args.map.now c.in-Game.name.now c.args.quiet c.args.start.now _ s t _ _ c.show_game.result)
     (λ s t. game_part c.args.map.now c.in-Game.name.now c.args.quiet c.args.start.now _ s t _ _ c.show_game.result)
-    (λ s t taken. absurd taken) c.show_game.ensures)
+    (λ s t taken. absurd taken) c.show_game.ensures.shows)
 
 pub returns-in-Paper : goal.returns-in-Paper
 returns-in-Paper g c =
-    let told = c.show_paper.ensures in
+    let told = c.show_paper.ensures.shows in
     rw c.in-Paper.is
     (responds_as c.args.map.now g.K.Keeper.book c.args.quiet _ _ c.args.keeper.now c.show_paper.new.keeper _ _ _ _ _ _ c.show_paper.result
     (λ s t. paper_whole c.args.map.now c.in-Paper.name.now c.in-Paper.number.now told.0 c.args.quiet c.args.start.now _ s t _ _ c.show_paper.result told.1)

@@ -8,8 +8,8 @@ use Rattle.dip_http.proofs.EndLemmas.{shown_part, shown_whole}
 use Rattle.dip_http.proofs.RespondLemmas.{responds_shown}
 use Rattle.dip_http.proofs.showing.show_game.Goals as goal
 
-pub returns : goal.returns
-returns g c =
+pub returns-clause-shows : goal.returns-clause-shows
+returns-clause-shows g c =
     let b = g.K.Keeper.book in
     let lent : c.deref.result.now ≡ c.in-Ok-Some.public.value = search rules in
     let text = c.in-Ok.ensures ∙ ap (λ (p : Public). state_text c.args.map.now (rows.public p)) lent in

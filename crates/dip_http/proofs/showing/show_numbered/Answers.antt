@@ -5,8 +5,8 @@ use Rattle.dip_http.proofs.EndLemmas.{shown_part, shown_whole}
 use Rattle.dip_http.proofs.RespondLemmas.{responds_shown}
 use Rattle.dip_http.proofs.showing.show_numbered.Goals as goal
 
-pub returns-in-Ok-Some : goal.returns-in-Ok-Some
-returns-in-Ok-Some g c =
+pub returns-in-Ok-Some-clause-shows : goal.returns-in-Ok-Some-clause-shows
+returns-in-Ok-Some-clause-shows g c =
     let b = g.K.Keeper.book in
     let bytes = ap (λ (t : List ℕ). answer_bytes 200 plain None c.args.quiet t) (append-nil c.as_str.result.now ∙ c.as_str.ensures.value) in
     responds_shown c.args.map.now b c.args.quiet _ _ _ _ _ c.args.keeper.now c.paper.new.self _ _ _ c.write_found.result (rw c.in-Ok-Some.field-0-is at c.in-Ok-Some.ensures) c.write_found.ensures.fault

@@ -1,7 +1,7 @@
 -- What each call of a keeper keeps.
-use Rattle.std.specs.Prelude.{◌≡◌, ◌≤◌, ◌⊎◌, ◌+◌, ◌-◌, ◌^◌, min, ℕ, Result, OnOk, OnErr, IfOk, IsErrOf}
+use Rattle.std.specs.Prelude.{◌≡◌, ◌≤◌, ◌⊎◌, ℕ, Result, OnOk, OnErr, IfOk, IsErrOf}
 use Rattle.dip_map.specs.Charts.{Chart}
-use Rattle.dip_desk_state.specs.Faults.{faults_after}
+use Rattle.dip_desk_state.specs.Faults.{faults_after, next_count}
 use Rattle.dip_desk_state.specs.State.{State}
 use Rattle.dip_desk_state.specs.declared.faults.KeepFault.{KeepFault}
 use Rattle.dip_desk_state.specs.declared.faults.KeepFault.TheVariants.{Damaged, Disk}
@@ -29,7 +29,7 @@ pub record Book (K : Type 0) : Type 1 where
 
 -- a count that rose, where it was not at its greatest
 abbrev pub Rises : ℕ → ℕ → Type 0
-Rises old new = min (old + 1) (2 ^ 64 - 1) ≤ new
+Rises old new = next_count old ≤ new
 
 -- between these two its store told of a fault: of the disk, or of size
 abbrev pub WasTold : {K : Type 0} → Book K → K → K → Type 0

@@ -19,26 +19,24 @@ abbrev pub Answers : Chart → State → List Mail → List Reply → State → 
 Answers m old letters replies new =
     (turns : List Turn) × IsHistory m old letters replies new turns × IsFair m old turns new
 
--- letters taken in turn, up to the first that the keeper gives no answer to
+-- letters taken in turn, up to the first that the keeper gives no answer to: from an open keeper on, over an honest
+-- disk, what is answered, or how a fault ends it; which faults there are, and how many of the disk
 pub record Runs {K X : Type 0} (m : Chart) (b : Book K) (old new : K) (letters : List Mail) (say : X → List Reply)
     (result : Result X (X × KeepFault)) : Type 0 where
-  -- all letters are answered, or up to a fault those before it
-  pub done : b.sound m old → b.shows new → IfOk result (λ x. Answers m (b.content m old) letters (say x) (b.content m new))
-  pub undone : b.sound m old → b.shows new
-      → IfErr result (λ e. (n : ℕ) × Answers m (b.content m old) (take n letters) (say e.0) (b.content m new))
-  -- Damaged is told only where the record of the author of the next letter may be it, in the state after the letters before; and never
-  -- from a lawful state on, which stays lawful
-  pub damaged : b.sound m old → b.honest new → b.shows old
-      → IfErr result (λ e. e.1 ≡ Damaged → (n : ℕ) × (s : State) × Answers m (b.content m old) (take n letters) (say e.0) s
-      × (it : Mail) × (slice_get letters n ≡ Some it) × IsDamagedBy m it s)
-  pub never : b.sound m old → b.honest new → b.shows old → IsLawful m (b.content m old) → IfErr result (λ e. e.1 ≡ Damaged → ⊥)
-  -- Disk is told only where the store told of a fault
-  pub failed : b.sound m old → b.honest new → b.shows old → IfErr result (λ e. e.1 ≡ Disk → WasTold b old new)
-  pub lawful : b.sound m old → b.shows new → IsLawful m (b.content m old) → IsLawful m (b.content m new)
-  pub count : b.faults new ≡ faults_after_run result (b.faults old)
-  -- an open keeper stays open, where all were answered
-  pub stays_open : IsOpen m b old → b.honest new → OnOk result (IsOpen m b new)
-  -- and up to a fault those before it were, and a crash leaves the state after them, or that after the next letter too
+  -- all letters are answered, and the keeper is open again
+  pub done : IsOpen m b old → b.honest new
+      → IfOk result (λ x. IsOpen m b new × Answers m (b.content m old) letters (say x) (b.content m new))
+  -- or up to a fault those before it, and a crash leaves the state after them, or that after the next letter too
   pub ends : IsOpen m b old → b.honest new → IfErr result (λ e. (n : ℕ) × (s : State)
       × Answers m (b.content m old) (take n letters) (say e.0) s
       × Ends m b old new s (λ t. (it : Mail) × (slice_get letters n ≡ Some it) × (r : Reply) × Step m s it r t))
+  -- Damaged is told only where the record of the author of the next letter may be it, in the state after the letters before; and never
+  -- from a lawful state on, which stays lawful, where the keeper shows it still
+  pub damaged : IsOpen m b old → b.honest new
+      → IfErr result (λ e. e.1 ≡ Damaged → (n : ℕ) × (s : State) × Answers m (b.content m old) (take n letters) (say e.0) s
+      × (it : Mail) × (slice_get letters n ≡ Some it) × IsDamagedBy m it s)
+  pub never : IsOpen m b old → b.honest new → IsLawful m (b.content m old) → IfErr result (λ e. e.1 ≡ Damaged → ⊥)
+  -- Disk is told only where the store told of a fault
+  pub failed : IsOpen m b old → b.honest new → IfErr result (λ e. e.1 ≡ Disk → WasTold b old new)
+  pub lawful : IsOpen m b old → b.honest new → b.shows new → IsLawful m (b.content m old) → IsLawful m (b.content m new)
+  pub count : b.faults new ≡ faults_after_run result (b.faults old)

@@ -23,21 +23,18 @@ pub trait Keeper {
 
     /// The master's row.
     fn desk(&mut self) -> Result<Desk, KeepFault>
-        requires { book.faults self.old < u64.MAX }
         ensures { (m : Chart) → Looks m book self.old self.new
             (λ d. desk_rows.desk d ≡ (book.content m self.old).desk) ⊥ result };
 
     /// The public part of a game, which the keeper may share; `None` where there is no such game.
     fn public(&mut self, map: &Map, game: &str) -> Result<Option<Rc<Public>>, KeepFault>
-        requires { book.faults self.old < u64.MAX }
         ensures { Looks map.now book self.old self.new
             (λ p. option_map (λ r. rows.public r.value) p
             ≡ public_at game.now (book.content map.now self.old)) ⊥ result };
 
     /// A seat's own part, all but the items of its inbox; `None` where there is no such seat.
     fn own(&mut self, map: &Map, game: &str, power: Power) -> Result<Option<Own>, KeepFault>
-        requires room { book.faults self.old < u64.MAX }
-        requires power { power < length map.now.realms }
+        requires { power < length map.now.realms }
         ensures { Looks map.now book self.old self.new
             (λ o. option_map rows.own o ≡ own_at game.now power (book.content map.now self.old)) ⊥
             result };
@@ -52,8 +49,7 @@ pub trait Keeper {
         first: u32,
         most: u32,
     ) -> Result<Option<Vec<Rc<Item>>>, KeepFault>
-        requires room { book.faults self.old < u64.MAX }
-        requires power { power < length map.now.realms }
+        requires { power < length map.now.realms }
         ensures { Looks map.now book self.old self.new
             (λ o. option_map (λ v. rows.items v.items) o
             ≡ items_at game.now power first most (book.content map.now self.old)) ⊥ result };
@@ -64,7 +60,6 @@ pub trait Keeper {
     /// # Errors
     /// The keeper's fault, never `Damaged` where what is kept is sound. Nothing is changed.
     fn whole(&mut self, map: &Map, game: &str) -> Result<Option<Whole>, KeepFault>
-        requires { book.faults self.old < u64.MAX }
         ensures { Looks map.now book self.old self.new
             (λ w. option_map rows.whole w ≡ whole_at game.now (book.content map.now self.old)) ⊥
             result };
@@ -75,14 +70,12 @@ pub trait Keeper {
     /// # Errors
     /// The keeper's fault, never `Damaged` where what is kept is sound. Nothing is changed.
     fn paper(&mut self, map: &Map, game: &str, number: u32) -> Result<Option<String>, KeepFault>
-        requires { book.faults self.old < u64.MAX }
         ensures { Looks map.now book self.old self.new
             (λ p. option_map string_bytes p ≡ paper_at game.now number
             (book.content map.now self.old)) ⊥ result };
 
     /// Makes the change whole or not at all.
     fn apply(&mut self, map: &Map, change: &Change) -> Result<(), KeepFault>
-        requires { book.faults self.old < u64.MAX }
         ensures { Changes map.now book self.old self.new (state_after (desk_rows.change change.now))
             (Fits map.now (desk_rows.change change.now)) result };
 }

@@ -43,8 +43,7 @@ fn decide_as_master<K: Keeper>(
     view: &mut MasterView<'_, K>,
     letter: &Letter<'_>,
 ) -> Result<(Author, Verdict), KeepFault>
-    requires room { K.book.faults view.old.keeper.now < u64.MAX }
-    requires timely { IsTimely (request letter.now.command) }
+    requires { IsTimely (request letter.now.command) }
     ensures same_reference { view.new.keeper.ghost_name ≡ view.old.keeper.ghost_name }
     ensures decides { DecidesBy view.old.map.now K.book view.old.keeper.now view.new.keeper.now
         (mail letter.now) (master_sight view.old.map.now (mail letter.now)
@@ -66,8 +65,7 @@ fn look_at_page<K: Keeper>(
     view: &mut SeatView<'_, K>,
     command: &Command<'_>,
 ) -> Result<Vec<Rc<Item>>, KeepFault>
-    requires room { K.book.faults view.old.keeper.now < u64.MAX }
-    requires power { view.old.power < length view.old.map.now.realms }
+    requires { view.old.power < length view.old.map.now.realms }
     ensures same_reference { view.new.keeper.ghost_name ≡ view.old.keeper.ghost_name }
     ensures map { view.new.map.now ≡ view.old.map.now }
     ensures game { view.new.game.now ≡ view.old.game.now }
@@ -92,7 +90,6 @@ fn look_as_seat<K: Keeper>(
     view: &mut SeatView<'_, K>,
     letter: &Letter<'_>,
 ) -> Result<Option<SeatSight>, KeepFault>
-    requires room { K.book.faults view.old.keeper.now < u64.MAX }
     requires game { view.old.game.now ≡ letter.now.game.now }
     requires power { view.old.power < length view.old.map.now.realms }
     ensures same_reference { view.new.keeper.ghost_name ≡ view.old.keeper.ghost_name }
@@ -145,8 +142,7 @@ pub fn decide<K: Keeper>(
     map: &Map,
     letter: &Letter<'_>,
 ) -> Result<(Author, Verdict), KeepFault>
-    requires room { K.book.faults keeper.old < u64.MAX }
-    requires timely { IsTimely (request letter.now.command) }
+    requires { IsTimely (request letter.now.command) }
     ensures { DecidesBy map.now K.book keeper.old keeper.new (mail letter.now)
         (sight_of map.now (mail letter.now) (K.book.content map.now keeper.old))
         (λ sight d. DecidedFor map.now (mail letter.now) sight (desk_rows.author d.0)

@@ -49,6 +49,7 @@ fn record_desk(desk: &mut Desk, last: Option<Kept>)
 
 impl MemoryKeeper {
     ghost use Rattle.dip_desk.specs.InMemory as in_memory;
+    ghost use Rattle.dip_desk.specs.Keeping.{IsOpen};
     ghost use Rattle.dip_desk_machine.specs.Lawful.{IsLawful};
     ghost use Rattle.dip_desk_state.specs.State.{State};
     ghost use Rattle.dip_map.specs.Charts.{Chart};
@@ -58,6 +59,7 @@ impl MemoryKeeper {
         ensures empty { in_memory.state result ≡ record
             { desk = record { digest = digest; kept = None }; games = [] } }
         ensures lawful { (m : Chart) → IsLawful m (in_memory.state result) }
+        ensures is_open { (m : Chart) → IsOpen m in_memory.book result }
     {
         MemoryKeeper {
             alloc,

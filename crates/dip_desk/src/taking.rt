@@ -1,5 +1,5 @@
 //! One letter at a time: look and decide, keep.
-ghost use Rattle.std.specs.Prelude.{◌≡◌, ◌<◌, IfOk, None, Some, map as each, string_bytes};
+ghost use Rattle.std.specs.Prelude.{◌≡◌, IfOk, None, Some, map as each, string_bytes};
 ghost use Rattle.dip_desk.specs.Fitting.{VerdictFits};
 ghost use Rattle.dip_desk.specs.Keeping.{Steps};
 ghost use Rattle.dip_desk_machine.specs.Mail.{IsMail, mail};
@@ -114,7 +114,6 @@ fn settle<K: Keeper>(
     author: Author,
     decided: Verdict,
 ) -> Result<Reply, KeepFault>
-    requires { K.book.faults keeper.old < u64.MAX }
     ensures { Steps map.now K.book keeper.old keeper.new (λ r. rows.reply r)
         (m.Settles (mail letter.now) (desk_rows.author author) (verdict decided))
         (λ s. VerdictFits map.now (mail letter.now) (desk_rows.author author) (verdict decided) s
@@ -149,8 +148,7 @@ pub fn take<K: Keeper>(
     map: &Map,
     letter: &Letter<'_>,
 ) -> Result<Reply, KeepFault>
-    requires room { K.book.faults keeper.old < u64.MAX }
-    requires letter { IsMail (mail letter.now) }
+    requires { IsMail (mail letter.now) }
     ensures { Steps map.now K.book keeper.old keeper.new (λ r. rows.reply r)
         (λ old r new. m.Step map.now old (mail letter.now) r new)
         (m.IsDamagedBy map.now (mail letter.now)) result }
@@ -172,8 +170,7 @@ pub fn run<K: Keeper>(
     map: &Map,
     letters: &[Letter<'_>],
 ) -> Result<Vec<Reply>, (Vec<Reply>, KeepFault)>
-    requires room { K.book.faults keeper.old < u64.MAX }
-    requires letters { AllByRecursion IsMail (each (λ l. mail l) letters.now) }
+    requires { AllByRecursion IsMail (each (λ l. mail l) letters.now) }
     ensures { Runs map.now K.book keeper.old keeper.new (each (λ l. mail l) letters.now)
         (λ replies. each (λ r. rows.reply r) replies.items) result }
 {

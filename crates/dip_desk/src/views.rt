@@ -55,8 +55,7 @@ impl<'k, K: Keeper> SeatView<'k, K> {
 
     /// The seat's own part, all but the items of its inbox; `None` where there is no such seat.
     pub(crate) fn own(&mut self) -> Result<Option<Own>, KeepFault>
-        requires room { K.book.faults self.old.keeper.now < u64.MAX }
-        requires power { self.old.power < length self.old.map.now.realms }
+        requires { self.old.power < length self.old.map.now.realms }
         ensures same_reference { self.new.keeper.ghost_name ≡ self.old.keeper.ghost_name }
         ensures map { self.new.map.now ≡ self.old.map.now }
         ensures game { self.new.game.now ≡ self.old.game.now }
@@ -70,8 +69,7 @@ impl<'k, K: Keeper> SeatView<'k, K> {
 
     /// At most ten items of the seat's inbox, from a number on; `None` where there is no such seat.
     pub(crate) fn page(&mut self, first: u32) -> Result<Option<Vec<Rc<Item>>>, KeepFault>
-        requires room { K.book.faults self.old.keeper.now < u64.MAX }
-        requires power { self.old.power < length self.old.map.now.realms }
+        requires { self.old.power < length self.old.map.now.realms }
         ensures same_reference { self.new.keeper.ghost_name ≡ self.old.keeper.ghost_name }
         ensures map { self.new.map.now ≡ self.old.map.now }
         ensures game { self.new.game.now ≡ self.old.game.now }
@@ -87,7 +85,6 @@ impl<'k, K: Keeper> SeatView<'k, K> {
 
     /// The public part of the seat's game; `None` where there is no such game.
     pub(crate) fn public(&mut self) -> Result<Option<Rc<Public>>, KeepFault>
-        requires { K.book.faults self.old.keeper.now < u64.MAX }
         ensures same_reference { self.new.keeper.ghost_name ≡ self.old.keeper.ghost_name }
         ensures map { self.new.map.now ≡ self.old.map.now }
         ensures game { self.new.game.now ≡ self.old.game.now }
@@ -109,7 +106,6 @@ pub(crate) struct MasterView<'k, K> {
 
 /// Whether there is a game of that name, which is all that some commands need of it.
 fn look_for_game<K: Keeper>(keeper: &mut K, map: &Map, game: &str) -> Result<bool, KeepFault>
-    requires { K.book.faults keeper.old < u64.MAX }
     ensures { Looks map.now K.book keeper.old keeper.new
         (λ b. b ≡ is_some (game_at game.now (K.book.content map.now keeper.old))) ⊥ result }
 {
@@ -123,7 +119,6 @@ fn look_for_seat<K: Keeper>(
     game: &str,
     name: &str,
 ) -> Result<Option<bool>, KeepFault>
-    requires { K.book.faults keeper.old < u64.MAX }
     ensures { Looks map.now K.book keeper.old keeper.new
         (λ x. x ≡ option_map (has_seat map.now name.now)
         (game_at game.now (K.book.content map.now keeper.old))) ⊥ result }
@@ -145,8 +140,7 @@ fn decide_as_needed<K: Keeper>(
     letter: &Letter<'_>,
     kept: &Option<Kept>,
 ) -> Result<Verdict, KeepFault>
-    requires room { K.book.faults keeper.old < u64.MAX }
-    requires timely { IsTimely (request letter.now.command) }
+    requires { IsTimely (request letter.now.command) }
     ensures { DecidesBy map.now K.book keeper.old keeper.new (mail letter.now)
         (master_seen map.now (mail letter.now) (option_map rows.kept kept.now)
         (K.book.content map.now keeper.old))
@@ -187,7 +181,6 @@ impl<'k, K: Keeper> MasterView<'k, K> {
 
     /// The master's row.
     pub(crate) fn desk(&mut self) -> Result<Desk, KeepFault>
-        requires { K.book.faults self.old.keeper.now < u64.MAX }
         ensures same_reference { self.new.keeper.ghost_name ≡ self.old.keeper.ghost_name }
         ensures map { self.new.map.now ≡ self.old.map.now }
         ensures looks { Looks self.old.map.now K.book self.old.keeper.now self.new.keeper.now
@@ -204,8 +197,7 @@ impl<'k, K: Keeper> MasterView<'k, K> {
         letter: &Letter<'_>,
         kept: &Option<Kept>,
     ) -> Result<Verdict, KeepFault>
-        requires room { K.book.faults self.old.keeper.now < u64.MAX }
-        requires timely { IsTimely (request letter.now.command) }
+        requires { IsTimely (request letter.now.command) }
         ensures same_reference { self.new.keeper.ghost_name ≡ self.old.keeper.ghost_name }
         ensures decides { DecidesBy self.old.map.now K.book self.old.keeper.now
             self.new.keeper.now (mail letter.now) (master_seen self.old.map.now (mail letter.now)

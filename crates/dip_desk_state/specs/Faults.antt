@@ -1,5 +1,5 @@
 -- A keeper's faults: their names, and how many faults of the disk it has told of.
-use Rattle.std.specs.Prelude.{ℕ, ◌+◌, List, Result, Ok, Err, codes}
+use Rattle.std.specs.Prelude.{ℕ, ◌+◌, ◌-◌, ◌^◌, min, List, Result, Ok, Err, codes}
 use Rattle.dip_desk_state.specs.declared.faults.KeepFault.{KeepFault}
 use Rattle.dip_desk_state.specs.declared.faults.KeepFault.TheVariants.{Memory, Disk, Damaged}
 
@@ -9,10 +9,14 @@ keep_fault_name Memory = codes "Memory"
 keep_fault_name Disk = codes "Disk"
 keep_fault_name Damaged = codes "Damaged"
 
--- the count after a fault: a fault of the disk raises it by one
+-- a count of faults with one more: it stops at its greatest
+abbrev pub next_count : ℕ → ℕ
+next_count n = min (n + 1) (2 ^ 64 - 1)
+
+-- the count after a fault: one of the disk raises it
 abbrev pub faults_with : KeepFault → ℕ → ℕ
 faults_with Memory n = n
-faults_with Disk n = n + 1
+faults_with Disk n = next_count n
 faults_with Damaged n = n
 
 -- the count after a call

@@ -4,6 +4,7 @@ use Rattle.dip_map.specs.Charts.{Chart}
 use Rattle.dip_desk.specs.Keeping.{Book, IsOpen, Rises, WasTold}
 use Rattle.dip_desk.proofs.Keepings.{told_late}
 use Rattle.dip_desk.proofs.Ending.{ends_late, ends_open}
+use Rattle.dip_desk_machine.specs.Lawful.{IsLawful}
 use Rattle.dip_desk_machine.specs.Machine.{Step}
 use Rattle.dip_desk_machine.specs.Published.{MovementsAreDecided}
 use Rattle.dip_desk_machine.specs.View.{IsRun, Turn, left_by}
@@ -14,11 +15,28 @@ use Rattle.dip_http.specs.Ends.{Answered, EndsAt, EndsBy, MayTake}
 use Rattle.dip_http.specs.Laws.{AreTurns}
 use Rattle.dip_http.specs.declared.faults.HttpFault.{HttpFault}
 use Rattle.dip_http.specs.declared.faults.HttpFault.TheVariants.{Read, Write, Memory, Keep}
-use Rattle.dip_http.specs.Serving.{Meets, MeetsAt, MeetsOne, MeetsTo, Serves, ServesTo, TakesOne, VisitAll, Visits}
+use Rattle.dip_http.specs.Serving.{Meets, MeetsAt, MeetsOne, MeetsTo, Serves, ServesEach, ServesTo, TakesOne, VisitAll, Visits}
 
 -- one client more
 pub meets_more : (m : Chart) (n : ℕ) (old mid new : State) → Meets m n old mid → MeetsOne m mid new → Meets m (n + 1) old new
 meets_more m n old mid new so_far one = let is : n + 1 ≡ suc n = omega (arith) in subst (λ k. Meets m k old new) (sym is) (mid, so_far, one)
+
+-- a keeper that shows what it keeps after so many clients
+pub record HasMet {K : Type 0} (m : Chart) (b : Book K) (n : ℕ) (first now : K) : Type 0 where
+  pub opens : IsOpen m b now
+  pub meets : Meets m n (b.content m first) (b.content m now)
+  pub lawful : IsLawful m (b.content m first) → IsLawful m (b.content m now)
+
+-- and after one more
+pub met_more : {K : Type 0} (m : Chart) (b : Book K) (n : ℕ) (first mid new : K) → HasMet m b n first mid → MeetsAt m b mid new
+    → (IsLawful m (b.content m mid) → IsLawful m (b.content m new)) → b.shows new → HasMet m b (n + 1) first new
+met_more m b n first mid new so one stays shows =
+    let is = one.ends.shown shows in
+    record {
+      opens = is.0;
+      meets = meets_more m n _ _ _ so.meets (subst (λ (s : State). MeetsOne m (b.content m mid) s) (sym is.1) one.meets);
+      lawful = λ lawful. stays (so.lawful lawful);
+    }
 
 -- one history after another
 run_on : (m : Chart) (ts us : List Turn) (old mid new : State) → IsRun m old ts mid → IsRun m mid us new → IsRun m old (ts ++ us) new
@@ -74,17 +92,17 @@ module _ {K : Type 0} (m : Chart) (b : Book K) where
 
   -- nobody yet
   pub meets_none : (first : K) → IsOpen m b first → MeetsTo m b 0 first first
-  meets_none first it = record { n = 0; most = omega arith; state = b.content m first; meets = refl; ends = inl (ends_open m b first first _ it, λ shows. refl) }
+  meets_none first it = record { n = 0; most = omega arith; state = b.content m first; meets = refl; ends = inl (ends_open m b first first _ it) }
 
   -- one client more, where the keeper was open
-  on_open : (count : ℕ) (first mid new : K) (so : MeetsTo m b count first mid) → so.n ≡ count → b.content m mid ≡ so.state → b.told first ≤ b.told mid → MeetsAt m b mid new
+  on_open : (count : ℕ) (first mid new : K) (so : MeetsTo m b count first mid) → b.content m mid ≡ so.state → b.told first ≤ b.told mid → MeetsAt m b mid new
       → MeetsTo m b (count + 1) first new
-  on_open count first mid new so full same counts one = record {
+  on_open count first mid new so same counts one = record {
     n = so.n + 1;
     most = omega (arith, so.most);
     state = one.state;
     meets = meets_more m so.n (b.content m first) so.state one.state so.meets (subst (λ (s : State). MeetsOne m s one.state) same one.meets);
-    ends = inl (ends_late m b first mid new one.state _ _ counts (λ t more. more) one.ends, λ shows. omega (arith, full));
+    ends = inl (ends_late m b first mid new one.state _ _ counts (λ t more. more) one.ends);
   }
 
   -- or where the disk may have shut it
@@ -95,7 +113,7 @@ module _ {K : Type 0} (m : Chart) (b : Book K) where
   pub told_next : (count : ℕ) (first mid new : K) → MeetsTo m b count first mid → b.told first ≤ b.told mid → b.told mid ≤ b.told new → b.of_size first ≤ b.of_size mid → (IsOpen m b mid → WasTold b mid new)
       → WasTold b first new
   told_next count first mid new so early late sizes one = elim so.ends [
-    | inl both ↦ elim both.0.goes [
+    | inl ends ↦ elim ends.goes [
       | inl goes ↦ told_late b first mid new early sizes (one goes.0)
       | inr rises ↦ inl (omega (arith, rises, late))
     ]
@@ -105,8 +123,8 @@ module _ {K : Type 0} (m : Chart) (b : Book K) where
   pub meets_next : (count : ℕ) (first mid new : K) → MeetsTo m b count first mid → b.told first ≤ b.told mid → b.told mid ≤ b.told new → (IsOpen m b mid → MeetsAt m b mid new)
       → MeetsTo m b (count + 1) first new
   meets_next count first mid new so early late one = elim so.ends [
-    | inl both ↦ elim both.0.goes [
-      | inl goes ↦ on_open count first mid new so (both.1 goes.0.shows) goes.1 early (one goes.0)
+    | inl ends ↦ elim ends.goes [
+      | inl goes ↦ on_open count first mid new so goes.1 early (one goes.0)
       | inr rises ↦ on_fault count first mid new so rises late
     ]
     | inr rises ↦ on_fault count first mid new so rises late
@@ -128,26 +146,26 @@ serves m law decided n old new so =
 
 -- at most so many more make a history too
 pub serves_to : {K : Type 0} (m : Chart) (b : Book K) → AreTurns m → MovementsAreDecided m → (count most : ℕ) (old new : K) → count ≤ most → MeetsTo m b count old new
-    → ServesTo m b most old new
-serves_to m b law decided count most old new low so = record {
+    → (b.shows new → HasMet m b count old new) → ServesTo m b most old new
+serves_to m b law decided count most old new low so met = record {
+  shown = λ shows. (count, low, serves m law decided count _ _ (met shows).meets);
   n = so.n;
   most = omega (arith, so.most, low);
   state = so.state;
   serves = serves m law decided so.n _ _ so.meets;
-  ends = elim so.ends [ inl both ↦ inl both.0 | inr rises ↦ inr rises ];
+  ends = so.ends;
 }
 
--- and all of them, where the keeper is open
-pub serves_all : {K : Type 0} (m : Chart) (b : Book K) → AreTurns m → MovementsAreDecided m → (count : ℕ) (old new : K) → MeetsTo m b count old new
-    → (IsOpen m b new × Serves m count (b.content m old) (b.content m new)) ⊎ Rises (b.told old) (b.told new)
-serves_all m b law decided count old new so = elim so.ends [
-  | inl both ↦ elim both.0.goes [
-    | inl goes ↦ inl (
-      goes.0,
-      subst (λ (s : State). Serves m count (b.content m old) s) (sym goes.1)
-          (serves m law decided count _ _ (subst (λ (n : ℕ). Meets m n (b.content m old) so.state) (both.1 goes.0.shows) so.meets)),
-    )
+-- and all of them
+pub serves_each : {K : Type 0} (m : Chart) (b : Book K) → AreTurns m → MovementsAreDecided m → (count : ℕ) (old new : K) → MeetsTo m b count old new
+    → (b.shows new → HasMet m b count old new) → ServesEach m b count old new
+serves_each m b law decided count old new so met = record {
+  shown = λ shows. let it = met shows in (it.opens, serves m law decided count _ _ it.meets);
+  goes = elim so.ends [
+    | inl ends ↦ elim ends.goes [
+      | inl goes ↦ inl goes.0.shows
+      | inr rises ↦ inr rises
+    ]
     | inr rises ↦ inr rises
-  ]
-  | inr rises ↦ inr rises
-]
+  ];
+}

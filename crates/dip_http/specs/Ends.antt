@@ -210,16 +210,18 @@ pub record EndsAt {K : Type 0} (m : Chart) (b : Book K) (fault : HttpFault) (kno
   pub by : EndsBy m fault known (b.content m old) state before after
   pub ends : Ends m b old new state (MayTake m fault known (b.content m old))
 
--- how a connection is answered over a keeper: what is kept of it, and what a fault tells, whatever it shows; from an open keeper on, over an
--- honest disk, and else while it shows what it keeps, what was answered, or how a fault ended it; a lawful content stays lawful, and nothing is
--- Damaged over one, as an empty desk is
+-- how a connection is answered over a keeper: what is kept of it, and what a fault tells, whatever it shows; from
+-- an open keeper on, over an honest disk, what was answered, or how a fault ended it
 pub record AnswersOne {K : Type 0} (m : Chart) (b : Book K) (known : Option (List ℕ)) (old new : K) (before after : Option (List ℕ))
     (result : Result (Unit {0}) HttpFault) : Type 0 where
   pub keeps : Keeps m b old new result
   pub tells : IfErr result (λ f. EndsQuietly f known old new before after)
-  pub goes : IsOpen m b old → b.honest new → OnOk result (IsOpen m b new × Answered m known (b.content m old) (b.content m new) before after)
+  -- all was answered, and the keeper is open again
+  pub answered : IsOpen m b old → b.honest new
+      → OnOk result (IsOpen m b new × Answered m known (b.content m old) (b.content m new) before after)
+  -- or up to a fault
   pub ends : IsOpen m b old → b.honest new → IfErr result (λ f. EndsAt m b f known old new before after)
-  pub answered : b.sound m old → b.shows new → OnOk result (Answered m known (b.content m old) (b.content m new) before after)
-  pub ended : b.sound m old → b.shows new → IfErr result (λ f. EndsBy m f known (b.content m old) (b.content m new) before after)
-  pub lawful : b.sound m old → b.shows new → IsLawful m (b.content m old) → IsLawful m (b.content m new)
-  pub never : b.sound m old → b.honest new → b.shows old → IsLawful m (b.content m old) → IsErrOf result (Keep Damaged) → ⊥
+  -- a lawful content stays lawful, where the keeper shows it still, and nothing is Damaged over one, as an empty
+  -- desk's is
+  pub lawful : IsOpen m b old → b.honest new → b.shows new → IsLawful m (b.content m old) → IsLawful m (b.content m new)
+  pub never : IsOpen m b old → b.honest new → IsLawful m (b.content m old) → IsErrOf result (Keep Damaged) → ⊥

@@ -11,7 +11,7 @@ http_name Write = codes "Write"
 http_name Memory = codes "Memory"
 http_name (Keep fault) = keep_fault_name fault
 
--- the count of the keeper's faults after a connection: it rises by one with a fault of the disk
+-- the count of the keeper's faults after a connection: a fault of the disk raises it
 abbrev pub faults_after_answer : {X : Type 0} → Result X HttpFault → ℕ → ℕ
 faults_after_answer (Err (Keep fault)) n = faults_with fault n
 faults_after_answer _ n = n

@@ -63,15 +63,14 @@ pub record MeetsAt {K : Type 0} (m : Chart) (b : Book K) (old new : K) : Type 0 
   pub meets : MeetsOne m (b.content m old) state
   pub ends : Ends m b old new state (TakesOne m state)
 
--- at most so many clients over a keeper that was open, all of them where it still shows what it keeps; a crash leaves the state after
--- them, or after a letter more. Or a fault of the disk came with one that was told of want of memory, and nothing is said of a crash
--- after that
+-- at most so many clients over a keeper that was open: a crash leaves the state after them, or after a letter more. Or
+-- a fault of the disk came with one that was told of want of memory, and nothing is said of a crash after that
 pub record MeetsTo {K : Type 0} (m : Chart) (b : Book K) (count : ℕ) (old new : K) : Type 0 where
   pub n : ℕ
   pub most : n ≤ count
   pub state : State
   pub meets : Meets m n (b.content m old) state
-  pub ends : (Ends m b old new state (TakesOne m state) × (b.shows new → n ≡ count)) ⊎ Rises (b.told old) (b.told new)
+  pub ends : Ends m b old new state (TakesOne m state) ⊎ Rises (b.told old) (b.told new)
 
 -- a fault that ends the serving: after any other the keeper goes on
 abbrev pub IsShut : KeepFault → Type 0
@@ -81,11 +80,9 @@ IsShut Damaged = Unit {0}
 
 -- a keeper after one client: what was met, and what is kept of it; the serving goes on but for a fault of the disk, or rows that no judge wrote
 pub record MeetsNext {K : Type 0} (m : Chart) (b : Book K) (old new : K) (result : Result (Unit {0}) KeepFault) : Type 0 where
-  pub served : b.sound m old → b.shows new → MeetsOne m (b.content m old) (b.content m new)
-  pub lawful : b.sound m old → b.shows new → IsLawful m (b.content m old) → IsLawful m (b.content m new)
-  pub never : b.sound m old → b.honest new → b.shows old → IsLawful m (b.content m old) → IsErrOf result Damaged → ⊥
-  -- from an open keeper on, over an honest disk
   pub ends : IsOpen m b old → b.honest new → MeetsAt m b old new
+  pub lawful : IsOpen m b old → b.honest new → b.shows new → IsLawful m (b.content m old) → IsLawful m (b.content m new)
+  pub never : IsOpen m b old → b.honest new → IsLawful m (b.content m old) → IsErrOf result Damaged → ⊥
   pub failed : IsOpen m b old → b.honest new → IsErrOf result Disk → WasTold b old new
   pub shut : IfErr result IsShut
   pub count : b.faults new ≡ faults_after result (b.faults old)
@@ -93,31 +90,33 @@ pub record MeetsNext {K : Type 0} (m : Chart) (b : Book K) (old new : K) (result
   pub of_size : b.of_size old ≤ b.of_size new
   pub fair : b.honest new → b.honest old
   pub shown : b.shows new → b.shows old
-  pub sound : b.sound m old → b.shows new → b.sound m new
+
+-- all of so many clients, over a keeper that was open: where it shows what it keeps still, it is open, and they made
+-- one history of letters; and it does, or a fault of the disk came with one that was told of want of memory
+pub record ServesEach {K : Type 0} (m : Chart) (b : Book K) (count : ℕ) (old new : K) : Type 0 where
+  pub shown : b.shows new → IsOpen m b new × Serves m count (b.content m old) (b.content m new)
+  pub goes : b.shows new ⊎ Rises (b.told old) (b.told new)
 
 -- at most so many clients, over a keeper that was open, made one history of letters, and a crash leaves the state after it, or after a letter more.
--- Or a fault of the disk came with one that was told of want of memory, and nothing is said of a crash after that
+-- Or a fault of the disk came with one that was told of want of memory, and nothing is said of a crash after that; but where the keeper shows what
+-- it keeps still, it has the state after at most so many
 pub record ServesTo {K : Type 0} (m : Chart) (b : Book K) (count : ℕ) (old new : K) : Type 0 where
+  pub shown : b.shows new → (k : ℕ) × (k ≤ count) × Serves m k (b.content m old) (b.content m new)
   pub n : ℕ
   pub most : n ≤ count
   pub state : State
   pub serves : Serves m n (b.content m old) state
   pub ends : Ends m b old new state (TakesOne m state) ⊎ Rises (b.told old) (b.told new)
 
--- how so many clients are served, one after the other: whom, while the keeper shows what it keeps; from an open keeper on, over an honest disk,
--- that it is open, or that the disk told of a fault that came with want of memory; which faults there are, and what is kept of the keeper
+-- how so many clients are served, one after the other: from an open keeper on, over an honest disk, all of them, or
+-- some up to a fault; which faults there are, and how many of the disk
 pub record ServesAll {K : Type 0} (m : Chart) (b : Book K) (clients : ℕ) (old new : K) (result : Result (Unit {0}) KeepFault) : Type 0 where
-  pub served : b.sound m old → b.shows new → OnOk result (Serves m clients (b.content m old) (b.content m new))
-  pub ended : b.sound m old → b.shows new
-      → IfErr result (λ _. (n : ℕ) × (n ≤ clients) × Serves m n (b.content m old) (b.content m new))
-  pub goes : IsOpen m b old → b.honest new
-      → OnOk result ((IsOpen m b new × Serves m clients (b.content m old) (b.content m new)) ⊎ Rises (b.told old) (b.told new))
+  pub goes : IsOpen m b old → b.honest new → OnOk result (ServesEach m b clients old new)
   pub ends : IsOpen m b old → b.honest new → ServesTo m b clients old new
-  -- from a lawful content on, as an empty desk is, Damaged is never told
-  pub never : b.sound m old → b.honest new → b.shows new → IsLawful m (b.content m old) → IsErrOf result Damaged → ⊥
+  -- from a lawful content on, as an empty desk is, Damaged is never told, where the keeper shows what it keeps still
+  pub never : IsOpen m b old → b.honest new → b.shows new → IsLawful m (b.content m old) → IsErrOf result Damaged → ⊥
   -- the disk is told of only where the store told of a fault
   pub failed : IsOpen m b old → b.honest new → IsErrOf result Disk → WasTold b old new
   pub shut : IfErr result IsShut
   pub count : b.faults new ≡ faults_after result (b.faults old)
   pub fair : b.honest new → b.honest old
-  pub shown : b.shows new → b.shows old

@@ -34,7 +34,6 @@ fn carry_out<R: Read, W: Write, K: Keeper>(
     quiet: bool,
     start: &[u8],
 ) -> Result<(), HttpFault>
-    requires { K.book.faults keeper.old < u64.MAX }
     ensures { Responds map.now K.book (without_body (plan_view plan.entry) quiet) keeper.old
         keeper.new (W.contents writer.old) (W.contents writer.new)
         (λ s t. Carried map.now (plan_view plan.entry) quiet start.now (R.remaining reader.old) s t
@@ -63,7 +62,6 @@ fn answer_front<R: Read, W: Write, K: Keeper>(
     bytes: &[u8],
     front: Front<'_>,
 ) -> Result<(), HttpFault>
-    requires count { K.book.faults keeper.old < u64.MAX }
     requires some { 0 < length bytes.now }
     requires is { IsFront bytes.now front }
     requires settled { IsAtEnd (R.remaining reader.old) ⊎ (is_decided front ≡ true) }
@@ -96,7 +94,6 @@ pub fn answer_one<R: Read, W: Write, K: Keeper>(
     map: &Map,
     routes: &Routes,
 ) -> Result<(), HttpFault>
-    requires { K.book.faults keeper.old < u64.MAX }
     ensures { AnswersOne map.now K.book (R.remaining reader.old) keeper.old keeper.new
         (W.contents writer.old) (W.contents writer.new) result }
 {

@@ -1,5 +1,5 @@
 //! One client, from its first byte to the end of its socket.
-ghost use Rattle.std.specs.Prelude.{◌<◌, None};
+ghost use Rattle.std.specs.Prelude.{None};
 ghost use Rattle.dip_http.specs.Ends.{AnswersOne};
 
 use crate::answering::answer_one;
@@ -44,7 +44,6 @@ pub fn serve_one<C: Clock, K: Keeper>(
     map: &Map,
     routes: &Routes,
 ) -> Result<(), HttpFault>
-    requires { K.book.faults keeper.old < u64.MAX }
     // What went over the socket the system alone knows.
     ensures { AnswersOne map.now K.book None keeper.old keeper.new None None result }
 {

@@ -1,5 +1,4 @@
 //! Clients over a socket, one after the other.
-ghost use Rattle.std.specs.Prelude.{◌<◌};
 ghost use Rattle.dip_http.specs.Serving.{MeetsNext, ServesAll};
 
 use crate::client::serve_one;
@@ -26,7 +25,6 @@ fn serve_next<C: Clock, K: Keeper>(
     map: &Map,
     routes: &Routes,
 ) -> Result<(), KeepFault>
-    requires { K.book.faults keeper.old < u64.MAX }
     ensures { MeetsNext map.now K.book keeper.old keeper.new result }
 {
     let Ok((stream, _)) = listener.accept() else {
@@ -57,7 +55,6 @@ pub fn serve_all<C: Clock, K: Keeper>(
     map: &Map,
     routes: &Routes,
 ) -> Result<(), KeepFault>
-    requires { K.book.faults keeper.old < u64.MAX }
     ensures { ServesAll map.now K.book count keeper.old keeper.new result }
 {
     connections_are_turns();

@@ -1,5 +1,5 @@
 //! What GET and HEAD are answered: the public part of a game, or a paper.
-ghost use Rattle.std.specs.Prelude.{◌<◌, ℕ, IsErrOf, Option};
+ghost use Rattle.std.specs.Prelude.{ℕ, IsErrOf, Option};
 ghost use Rattle.dip_desk_state.specs.State.{paper_at, public_at};
 ghost use Rattle.dip_http.specs.Answering.{IsNumber, game_answer, paper_answer, paper_named};
 ghost use Rattle.dip_http.specs.Ends.{ShowsText};
@@ -24,7 +24,6 @@ pub fn show_game<W: Write, K: Keeper>(
     quiet: bool,
     name: &str,
 ) -> Result<(), HttpFault>
-    requires { K.book.faults keeper.old < u64.MAX }
     ensures shows { ShowsText map.now K.book quiet
         (λ s. game_answer map.now quiet (public_at name.now s)) keeper.old keeper.new
         (W.contents writer.old) (W.contents writer.new) result }
@@ -56,7 +55,6 @@ fn show_numbered<W: Write, K: Keeper>(
     name: &str,
     number: u32,
 ) -> Result<(), HttpFault>
-    requires { K.book.faults keeper.old < u64.MAX }
     ensures shows { ShowsText map.now K.book quiet
         (λ s. paper_answer quiet (paper_at name.now number s)) keeper.old keeper.new
         (W.contents writer.old) (W.contents writer.new) result }
@@ -85,7 +83,6 @@ pub fn show_paper<W: Write, K: Keeper>(
     name: &str,
     number: &str,
 ) -> Result<(), HttpFault>
-    requires { K.book.faults keeper.old < u64.MAX }
     ensures shows { (n : Option ℕ) × IsNumber number.now n × ShowsText map.now K.book quiet
         (λ s. paper_answer quiet (paper_named name.now n s)) keeper.old keeper.new
         (W.contents writer.old) (W.contents writer.new) result }

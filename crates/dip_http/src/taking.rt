@@ -1,5 +1,5 @@
 //! What POST is answered: the letter that is its body is taken.
-ghost use Rattle.std.specs.Prelude.{◌≡◌, ◌<◌, ◌++◌, ◌⊎◌, ℕ, List, IfErr, IfNone, IfSome, IsErrOf, OnOk, false};
+ghost use Rattle.std.specs.Prelude.{◌≡◌, ◌++◌, ◌⊎◌, ℕ, List, IfErr, IfNone, IfSome, IsErrOf, OnOk, false};
 ghost use Rattle.dip_desk_machine.specs.Lawful.{IsLawful};
 ghost use Rattle.dip_desk_machine.specs.Mail.{IsMail, Mail, mail};
 ghost use Rattle.dip_desk_state.specs.State.{State};
@@ -55,7 +55,6 @@ fn take_body<W: Write, K: Keeper>(
     map: &Map,
     body: &[u8],
 ) -> Result<(), HttpFault>
-    requires { K.book.faults keeper.old < u64.MAX }
     ensures { Responds map.now K.book false keeper.old keeper.new
         (W.contents writer.old) (W.contents writer.new)
         (λ s t. PostsTo map.now body.now s t (W.contents writer.old) (W.contents writer.new))
@@ -86,7 +85,6 @@ pub fn take_letter<R: Read, W: Write, K: Keeper>(
     start: &[u8],
     size: usize,
 ) -> Result<(), HttpFault>
-    requires { K.book.faults keeper.old < u64.MAX }
     ensures { Responds map.now K.book false keeper.old keeper.new
         (W.contents writer.old) (W.contents writer.new)
         (λ s t. ReadsBody map.now size start.now (R.remaining reader.old) s t

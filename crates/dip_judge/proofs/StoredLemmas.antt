@@ -11,7 +11,7 @@ use Rattle.dip_judge_runs.specs.RunFaults.{StopsBy}
 use Rattle.dip_judge_runs.specs.Runs.{AnswersAll, IsReadWhole, IsUntouched, Stops, StopsAt, TakesNext}
 use Rattle.dip_judge_runs.specs.declared.run.RunFault.{RunFault}
 use Rattle.dip_judge_runs.specs.declared.run.RunFault.TheVariants.{Read, TooLong, Write, Memory, Keep}
-use Rattle.dip_desk.specs.Keeping.{Ends, IsOpen, Rises}
+use Rattle.dip_desk.specs.Keeping.{Ends, IsOpen}
 use Rattle.dip_desk.proofs.Ending.{ends_open}
 use Rattle.dip_store.specs.Causes.{has_faulted}
 use Rattle.dip_store.specs.Opening.{Holds, HoldsEither, MayRenew, OldEnds, Opens, StoreEnds}
@@ -19,7 +19,7 @@ use Rattle.dip_store.specs.Stored.{book}
 use Rattle.dip_store.proofs.Opened.{ends_held, held_by}
 use Rattle.dip_store.specs.declared.keeper.SqlKeeper.{SqlKeeper}
 use Rattle.dip_judge.specs.Stores.{AnswersFrom, OldStopsFrom, OldStopsReport, OldStopsServing, ReadsUpTo, Reports, ServesFrom, ServesUpTo, StopsFrom, StopsIn, StopsReport, StopsServing}
-use Rattle.dip_http.specs.Serving.{Serves, ServesTo}
+use Rattle.dip_http.specs.Serving.{Serves, ServesEach, ServesTo}
 use Rattle.dip_judge.specs.declared.failures.Failure.{Failure}
 use Rattle.dip_judge.specs.declared.failures.Failure.TheVariants.{Listen, Map, NoGame, Negative, Papers, Run, Serving, Store, Usage}
 
@@ -138,10 +138,13 @@ breaks_off g m name store old k kept fault before after opened counted it = (
 
 -- clients served by a keeper that opened
 module _ {S : Type 0} (g : Ghosts S) (m : Chart) (store : Held S) (count : ℕ) (old : State) (k kept : SqlKeeper S) (opened : Opens g m old k) (counted : (state g store).faults ≤ (state g k.conn).faults) where
-  pub serves_from : (IsOpen m (book g) kept × Serves m count ((book g).content m k) ((book g).content m kept)) ⊎ Rises (state g k.conn).faults (state g kept.conn).faults
-      → ServesFrom g m (has_faulted g store kept.conn) count old kept.conn
-  serves_from (inl all) = inl ((book g).content m kept, subst (λ (s : State). Serves m count s ((book g).content m kept)) opened.says all.1, held_by g m kept all.0)
-  serves_from (inr rises) = inr (omega (arith, counted, rises))
+  pub serves_from : ServesEach m (book g) count k kept → ServesFrom g m (has_faulted g store kept.conn) count old kept.conn
+  serves_from each = elim each.goes [
+    | inl shows ↦
+        let all = each.shown shows in
+        inl ((book g).content m kept, subst (λ (s : State). Serves m count s ((book g).content m kept)) opened.says all.1, held_by g m kept all.0)
+    | inr rises ↦ inr (omega (arith, counted, rises))
+  ]
 
   pub serves_up_to : ServesTo m (book g) count k kept → ServesUpTo g m (has_faulted g store kept.conn) count old kept.conn
   serves_up_to so = record {

@@ -7,7 +7,6 @@ use Rattle.dip_desk_machine.specs.Mail.{mail}
 use Rattle.dip_desk_state.specs.Rows as rows
 use Rattle.dip_desk_state.specs.declared.faults.KeepFault.{KeepFault}
 use Rattle.dip_desk_state.specs.declared.faults.KeepFault.TheVariants.{Damaged, Disk}
-use Rattle.dip_desk_state.specs.declared.faults.KeepFault.TheVariants as kept
 use Rattle.dip_desk_state.specs.declared.records.Reply.{Reply as Row}
 use Rattle.dip_letters.specs.Input.{IsNext}
 use Rattle.dip_letters.specs.declared.letters.Next.{Next}
@@ -18,67 +17,54 @@ use Rattle.dip_judge_runs.specs.Runs.{AnswersNext, FailsNext, IsAnsweredOver, Is
 use Rattle.dip_judge_runs.specs.declared.run.RunFault.{RunFault}
 use Rattle.dip_judge_runs.specs.declared.run.RunFault.TheVariants.{Keep, Memory, Read, TooLong, Write}
 
--- a keeper goes on
-pub record GoesOn {K : Type 0} (m : Chart) (b : Book K) (old new : K) : Type 0 where
+-- a keeper goes on after an answer: an open one stays open, and what its desk did is a turn
+pub record GoesOn {K : Type 0} (m : Chart) (b : Book K) (input : List ℕ) (old new : K) (reply : Row) (after : List ℕ) : Type 0 where
   pub count : b.faults new ≡ b.faults old
   pub told : b.told old ≤ b.told new
   pub of_size : b.of_size old ≤ b.of_size new
   pub fair : b.honest new → b.honest old
-  pub shown : b.shows new → b.shows old
-  pub sound : b.sound m old → b.shows new → b.sound m new
   pub opens : IsOpen m b old → b.honest new → IsOpen m b new
-  pub lawful : b.sound m old → b.shows new → IsLawful m (b.content m old) → IsLawful m (b.content m new)
+  pub turn : IsOpen m b old → b.honest new → IsTurn m input (b.content m old) (rows.reply reply) (b.content m new) after
+  pub lawful : IsOpen m b old → b.honest new → IsLawful m (b.content m old) → IsLawful m (b.content m new)
 
 -- as one that wasn't asked does
-stays : {K : Type 0} (m : Chart) (b : Book K) (k : K) → GoesOn m b k k
-stays m b k = record {
+stays : {K : Type 0} (m : Chart) (b : Book K) (input : List ℕ) (k : K) (reply : Row) (after : List ℕ)
+    → IsTurn m input (b.content m k) (rows.reply reply) (b.content m k) after → GoesOn m b input k k reply after
+stays m b input k reply after turn = record {
   count = refl;
   told = omega arith;
   of_size = omega arith;
   fair = λ honest. honest;
-  shown = λ shows. shows;
-  sound = λ sound shows. sound;
   opens = λ it honest. it;
-  lawful = λ sound shows lawful. lawful;
+  turn = λ it honest. turn;
+  lawful = λ it honest lawful. lawful;
 }
 
--- after an answer
+-- or one that took a letter
 goes_with : {K : Type 0} (m : Chart) (b : Book K) (old new : K) (reply : Row) (after input : List ℕ) (next : Next) → StaysLawful m → IsNext input next
-    → IsAnsweredOver m b old new reply after next → GoesOn m b old new
+    → IsAnsweredOver m b old new reply after next → GoesOn m b input old new reply after
 goes_with m b old new reply after input (Taken l rest) laws is h = record {
   count = h.0.keeps.count;
   told = h.0.keeps.told;
   of_size = h.0.keeps.of_size;
   fair = h.0.keeps.fair;
-  shown = h.0.keeps.shown;
-  sound = h.0.keeps.sound;
   opens = λ it honest. (steps_on m b old new (λ r. rows.reply r) _ _ (Ok reply) h.0 it honest).0;
-  lawful = λ sound shows lawful. laws (b.content m old) (mail l) (rows.reply reply) (b.content m new) is.0.fits lawful (h.0.done sound shows);
+  turn = λ it honest. (Taken l rest, is, ((steps_on m b old new (λ r. rows.reply r) _ _ (Ok reply) h.0 it honest).1, h.1));
+  lawful = λ it honest lawful. laws (b.content m old) (mail l) (rows.reply reply) (b.content m new) is.0.fits lawful
+      (steps_on m b old new (λ r. rows.reply r) _ _ (Ok reply) h.0 it honest).1;
 }
-goes_with m b old new reply after input (Fault fault rest) laws is h = subst (λ k. GoesOn m b old k) (sym h.1) (stays m b old)
+goes_with m b old new reply after input (Fault fault rest) laws is h =
+    subst (λ k. GoesOn m b input old k reply after) (sym h.1) (stays m b input old reply after (Fault fault rest, is, (h.0, refl, h.2)))
 goes_with m b old new reply after input End laws is h = absurd h
 
 pub goes_on : {K : Type 0} (m : Chart) (b : Book K) (old new : K) (reply : Row) (after input : List ℕ) → StaysLawful m
-    → AnswersNext m b input old new reply after → GoesOn m b old new
+    → AnswersNext m b input old new reply after → GoesOn m b input old new reply after
 goes_on m b old new reply after input laws h = goes_with m b old new reply after input h.0 laws h.1 h.2
-
--- what the desk did
-turn_with : {K : Type 0} (m : Chart) (b : Book K) (old new : K) (reply : Row) (after input : List ℕ) (next : Next) → IsNext input next
-    → IsAnsweredOver m b old new reply after next → b.sound m old → b.shows new → IsTurn m input (b.content m old) (rows.reply reply) (b.content m new) after
-turn_with m b old new reply after input (Taken l rest) is h sound shows = (Taken l rest, is, (h.0.done sound shows, h.1))
-turn_with m b old new reply after input (Fault fault rest) is h sound shows = (Fault fault rest, is, (h.0, ap (λ k. b.content m k) h.1, h.2))
-turn_with m b old new reply after input End is h sound shows = absurd h
-
-pub turn_of : {K : Type 0} (m : Chart) (b : Book K) (old new : K) (reply : Row) (after input : List ℕ) → AnswersNext m b input old new reply after
-    → b.sound m old → b.shows new → IsTurn m input (b.content m old) (rows.reply reply) (b.content m new) after
-turn_of m b old new reply after input h = turn_with m b old new reply after input h.0 h.1 h.2
 
 -- a keeper after what has no answer
 pub record Fails {K : Type 0} (m : Chart) (b : Book K) (input : List ℕ) (old new : K) (fault : RunFault) : Type 0 where
   pub kind : IsTakingFault fault
   pub fair : b.honest new → b.honest old
-  pub shown : b.shows new → b.shows old
-  pub same : b.sound m old → b.shows new → b.content m new ≡ b.content m old
   pub told : IsOpen m b old → b.honest new → fault ≡ Keep Disk → WasTold b old new
   pub never : IsOpen m b old → b.honest new → IsLawful m (b.content m old) → fault ≡ Keep Damaged → ⊥
   pub ends : IsOpen m b old → b.honest new → Ends m b old new (b.content m old) (TakesNext m input (b.content m old))
@@ -88,8 +74,6 @@ unasked : {K : Type 0} (m : Chart) (b : Book K) (input : List ℕ) (k : K) → F
 unasked m b input k = record {
   kind = tt;
   fair = λ honest. honest;
-  shown = λ shows. shows;
-  same = λ sound shows. refl;
   told = λ it honest is. absurd (cc);
   never = λ it honest lawful is. cc;
   ends = λ it honest. ends_open m b k k _ it;
@@ -101,8 +85,6 @@ fails_with : {K : Type 0} (m : Chart) (b : Book K) (input : List ℕ) (old new :
 fails_with m b input old new fault (Taken l rest) sane is h = record {
   kind = tt;
   fair = h.keeps.fair;
-  shown = h.keeps.shown;
-  same = h.undone;
   told = λ it honest disk. let same : fault ≡ Disk = cc in h.failed it.sound honest it.shows (ap (λ (e : KeepFault). Err e) same);
   never = λ it honest lawful damaged.
       let same : fault ≡ Damaged = cc in
@@ -125,9 +107,7 @@ fails_so m b input old new Write sane h = absurd h
 -- the count of the keeper's faults
 count_with : {K : Type 0} (A : Type 0) (m : Chart) (b : Book K) (old new : K) (fault : KeepFault) (next : Next) → IsUnanswered m b old new fault next
     → b.faults new ≡ faults_after_run {A = A} (Err (Keep fault)) (b.faults old)
-count_with A m b old new kept.Disk (Taken l rest) h = h.keeps.count
-count_with A m b old new kept.Memory (Taken l rest) h = h.keeps.count
-count_with A m b old new kept.Damaged (Taken l rest) h = h.keeps.count
+count_with A m b old new fault (Taken l rest) h = h.keeps.count
 count_with A m b old new fault (Fault f rest) h = absurd h
 count_with A m b old new fault End h = absurd h
 

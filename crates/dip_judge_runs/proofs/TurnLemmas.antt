@@ -91,11 +91,6 @@ pub written_more : (a b c : Option (List ℕ)) (replies : List Reply) (reply : R
     → Appends a c (flat_map reply_text (replies ++ reply ∷ []))
 written_more a b c replies reply first second = subst (λ (t : List ℕ). Appends a c t) (texts_more replies reply) (Appends-trans a b c _ _ first second)
 
--- a turn that failed changed nothing
-pub front_same : (m : Chart) (input : List ℕ) (old mid new : State) (all : List Reply) (rest : List ℕ)
-    → AnswersFront m input old mid all rest → new ≡ mid → AnswersFront m input old new all rest
-front_same m input old mid new all rest front same = subst (λ (s : State). AnswersFront m input old s all rest) (sym same) front
-
 -- a write that failed wrote a beginning of the last reply
 pub stops_in_write : (m : Chart) → MovementsAreDecided m → (input : List ℕ) (old : State) (replies : List Reply) (mid : State) (rest : List ℕ) (reply : Reply) (new : State) (after : List ℕ)
     (a b c : Option (List ℕ)) (size : ℕ) → AnswersFront m input old mid replies rest → IsTurn m rest mid reply new after
@@ -107,20 +102,7 @@ stops_in_write m decided input old replies mid rest reply new after a b c size f
   written = (replies, reply, size, refl, Appends-trans a b c _ _ first second);
 }
 
--- between two letters all replies were written
-pub stops_before : (m : Chart) (fault : RunFault) (input : List ℕ) (old mid new : State) (replies : List Reply) (rest : List ℕ) (a b : Option (List ℕ))
-    → IsTakingFault fault → AnswersFront m input old mid replies rest → Appends a b (flat_map reply_text replies) → new ≡ mid → Stops m fault input old new a b
-stops_before m fault input old mid new replies rest a b kind front written same =
-    record { replies = replies; rest = rest; front = front_same m input old mid new replies rest front same; written = go fault kind }
-  where
-    go : (f : RunFault) → IsTakingFault f → IsWritten f a b replies
-    go Memory k = written
-    go (Keep g) k = written
-    go Write k = absurd k
-    go Read k = absurd k
-    go TooLong k = absurd k
-
--- a run that stopped between two letters, over a keeper that was open
+-- a run that stopped between two letters, of which all replies were written, over a keeper that was open
 pub stopped_before : {K : Type 0} (m : Chart) (b : Book K) (fault : RunFault) (input : List ℕ) (first new : K) (mid : State) (replies : List Reply) (rest : List ℕ) (a c : Option (List ℕ))
     → IsTakingFault fault → AnswersFront m input (b.content m first) mid replies rest → Appends a c (flat_map reply_text replies)
     → Ends m b first new mid (TakesNext m rest mid) → StopsAt m b fault input first new a c

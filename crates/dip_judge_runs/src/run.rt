@@ -136,7 +136,6 @@ fn step<'a, K: Keeper>(
     map: &Map,
     input: &'a [u8],
 ) -> Result<Option<(Reply, &'a [u8])>, RunFault>
-    requires { K.book.faults keeper.old < u64.MAX }
     ensures answered { IfOk result (λ o. IfSome o (λ p. AnswersNext map.now K.book
         input.entry.now keeper.old keeper.new p.0 p.1.now)) }
     ensures shorter { IfOk result (λ o. IfSome o (λ p. length p.1.now < length input.entry.now)) }
@@ -166,7 +165,6 @@ fn answer_all<W: Write, K: Keeper>(
     keeper: &mut K,
     map: &Map,
 ) -> Result<(), RunFault>
-    requires { K.book.faults keeper.old < u64.MAX }
     ensures { AnswersInput map.now K.book input.now keeper.old keeper.new
         (W.contents writer.old) (W.contents writer.new) result }
 {
@@ -194,7 +192,6 @@ pub fn run_file<R: Read, W: Write, K: Keeper>(
     keeper: &mut K,
     map: &Map,
 ) -> Result<(), RunFault>
-    requires { K.book.faults keeper.old < u64.MAX }
     ensures { RunsFile map.now K.book (R.remaining reader.old) (R.remaining reader.new) keeper.old
         keeper.new (W.contents writer.old) (W.contents writer.new) result }
 {

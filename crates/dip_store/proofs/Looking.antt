@@ -8,7 +8,7 @@ use Rattle.dip_desk.specs.Keeping.{Looks}
 use Rattle.dip_store_looks.specs.Faults.{IsFromOutside}
 use Rattle.dip_store_looks.specs.declared.faults.LookFault.{LookFault}
 use Rattle.dip_store_tables.specs.Legible.{AreOurs}
-use Rattle.dip_desk_state.specs.Faults.{faults_with}
+use Rattle.dip_desk_state.specs.Faults.{faults_with, next_count}
 use Rattle.dip_desk_state.specs.State.{State}
 use Rattle.dip_desk_state.specs.declared.faults.KeepFault.{KeepFault}
 use Rattle.dip_desk_state.specs.declared.faults.KeepFault.TheVariants.{Memory, Disk, Damaged}
@@ -105,7 +105,7 @@ module _ {S : Type 0} (g : Ghosts S) (m : Chart) (k : SqlKeeper S) (c : Held S) 
   looks_counted : (X Y E : Type 0) (e : E) (f : KeepFault) (Value : X → Type 0) → Selects g k.conn c (fails Y E e) → (Kept → is_honest g c → does_show g k.conn → f ≡ Damaged → ⊥) → (Kept → is_honest g c → does_show g k.conn → f ≡ Disk → has_faulted g k.conn c)
       → Looks m (book g) k (telling f (record k { conn = c })) Value ⊥ (fails X KeepFault f)
   looks_counted X Y E e Memory Value p never blamed = looks_told X Y E e Memory k.failures Value p refl never blamed
-  looks_counted X Y E e Disk Value p never blamed = looks_told X Y E e Disk (k.failures + 1) Value p refl never blamed
+  looks_counted X Y E e Disk Value p never blamed = looks_told X Y E e Disk (next_count k.failures) Value p refl never blamed
   looks_counted X Y E e Damaged Value p never blamed = looks_told X Y E e Damaged k.failures Value p refl never blamed
 
   -- a look at rows that a keeper wrote fails for want alone

@@ -15,7 +15,7 @@ use Rattle.dip_store_tables.specs.Laws.{TablesStayCounted}
 use Rattle.dip_store_tables.specs.Counting.{AreCounted}
 use Rattle.dip_store_tables.specs.Coding.{AreApart}
 use Rattle.dip_store_tables.specs.ChangeTexts.{HasTexts}
-use Rattle.dip_desk_state.specs.Faults.{faults_with}
+use Rattle.dip_desk_state.specs.Faults.{faults_with, next_count}
 use Rattle.dip_desk_state.specs.State.{Change, State, name_of, state_after}
 use Rattle.dip_desk_state.specs.declared.faults.KeepFault.{KeepFault}
 use Rattle.dip_desk_state.specs.declared.faults.KeepFault.TheVariants.{Memory, Disk, Damaged}
@@ -228,7 +228,7 @@ module _ {S : Type 0} (g : Ghosts S) (m : Chart) (k : SqlKeeper S) (c : Change) 
             → (Keeps → is_honest g new → does_show g k.conn → f ≡ Disk → has_faulted g k.conn new ⊎ Rises k.of_size (sized b k.of_size))
             → Changes m (book g) k (telling f (sizing b (record k { conn = new; seen = seen; owns = owns; idle = idle }))) (state_after c) (Fits m c) (fails X KeepFault f)
         by Memory never rose = changes_told X Y E e Memory k.failures (sized b k.of_size) remembered texts legible counted lands settled p refl (size_counts b k.of_size) never rose
-        by Disk never rose = changes_told X Y E e Disk (k.failures + 1) (sized b k.of_size) remembered texts legible counted lands settled p refl (size_counts b k.of_size) never rose
+        by Disk never rose = changes_told X Y E e Disk (next_count k.failures) (sized b k.of_size) remembered texts legible counted lands settled p refl (size_counts b k.of_size) never rose
         by Damaged never rose = changes_told X Y E e Damaged k.failures (sized b k.of_size) remembered texts legible counted lands settled p refl (size_counts b k.of_size) never rose
 
     -- a change that fits isn't made for want alone, and of any change the disk is told of only where the store told of a fault

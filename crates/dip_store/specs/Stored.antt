@@ -9,6 +9,7 @@ use Rattle.dip_map.specs.Charts.{Chart}
 use Rattle.dip_desk.specs.Keeping.{Book}
 use Rattle.dip_store_tables.specs.Counting.{AreCounted}
 use Rattle.dip_store_tables.specs.Legible.{AreOurs}
+use Rattle.dip_desk_state.specs.Faults.{next_count}
 use Rattle.dip_desk_state.specs.State.{State}
 use Rattle.dip_desk_state.specs.declared.faults.KeepFault.{KeepFault}
 use Rattle.dip_desk_state.specs.declared.faults.KeepFault.TheVariants.{Memory, Disk, Damaged}
@@ -32,7 +33,7 @@ fresh_keeper alloc conn = record { alloc = alloc; conn = conn; failures = 0; of_
 -- a keeper that has told a fault
 abbrev pub telling : {S : Type 0} → KeepFault → SqlKeeper S → SqlKeeper S
 telling Memory k = k
-telling Disk k = record k { failures = k.failures + 1 }
+telling Disk k = record k { failures = next_count k.failures }
 telling Damaged k = k
 
 -- a count with one more fault of size, up to its greatest

@@ -37,7 +37,6 @@ fn write_all<K: Keeper, W: Write>(
     map: &Map,
     game: &str,
 ) -> Result<u64, PaperFault>
-    requires { K.book.faults keeper.old < u64.MAX }
     ensures all { K.book.sound map.now keeper.old → K.book.shows keeper.new → IfOk result (λ n.
         (n ≡ length (papers_of (game_at game.now (K.book.content map.now keeper.old))))
         × Appends (W.contents writer.old) (W.contents writer.new)
@@ -78,7 +77,6 @@ pub fn write_papers<K: Keeper, W: Write>(
     map: &Map,
     game: &str,
 ) -> Result<Option<u64>, PaperFault>
-    requires { K.book.faults keeper.old < u64.MAX }
     ensures out { K.book.sound map.now keeper.old → K.book.shows keeper.new → IfOk result (λ o.
         AreOut o (game_at game.now (K.book.content map.now keeper.old)) (W.contents writer.old)
         (W.contents writer.new)) }
@@ -117,7 +115,6 @@ impl<S: Alter> SqlKeeper<S> {
         game: &str,
         writer: &mut W,
     ) -> Result<Option<u64>, PaperFault>
-        requires { self.old.failures < u64.MAX }
         ensures out { (book S.Store).sound map.now self.old → (book S.Store).shows self.new
             → IfOk result (λ o. AreOut o
             (game_at game.now ((book S.Store).content map.now self.old)) (W.contents writer.old)

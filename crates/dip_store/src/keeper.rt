@@ -1,5 +1,5 @@
 //! A keeper over an SQL store.
-ghost use Rattle.std.specs.Prelude.{◌≡◌, ◌<◌};
+ghost use Rattle.std.specs.Prelude.{◌≡◌};
 ghost use Rattle.dip_store.specs.Faults as told;
 ghost use Rattle.dip_store.specs.Stored as stored;
 
@@ -71,13 +71,12 @@ impl<S: Alter> SqlKeeper<S> {
 
     /// Tells a fault, and counts those of the disk.
     fn told(&mut self, fault: KeepFault) -> KeepFault
-        requires { self.old.failures < u64.MAX }
         ensures same { result ≡ fault }
         ensures told { self.new ≡ stored.telling fault self.old }
     {
         match fault {
             KeepFault::Memory => {}
-            KeepFault::Disk => self.failures += 1,
+            KeepFault::Disk => self.failures = self.failures.saturating_add(1),
             KeepFault::Damaged => {}
         }
         fault
@@ -96,7 +95,6 @@ impl<S: Alter> SqlKeeper<S> {
 
     /// Tells what the store told of a change.
     fn told_by_store(&mut self, fault: MakeFault) -> KeepFault
-        requires { self.old.failures < u64.MAX }
         ensures same { result ≡ told.make_fault fault }
         ensures told { self.new ≡ stored.telling (told.make_fault fault)
             (stored.sizing (told.is_of_size fault) self.old) }

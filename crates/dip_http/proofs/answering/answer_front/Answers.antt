@@ -26,15 +26,13 @@ returns-in-Head g c = λ known read.
     record {
       keeps = out.keeps;
       tells = tells;
-      goes = goes_open m b c.args.keeper.now c.carry_out.new.keeper _ _ _ c.carry_out.result out.keeps whole;
+      answered = goes_open m b c.args.keeper.now c.carry_out.new.keeper _ _ _ c.carry_out.result out.keeps whole;
       ends = ends_fault m b c.args.keeper.now c.carry_out.new.keeper _ _ _ c.carry_out.result out.keeps part tells
           (λ sound fair shows. left_weaker m b c.args.keeper.now c.carry_out.new.keeper c.carry_out.result _ _
           (λ s taken. fronted_taken m known _ c.args.bytes.now c.in-Head.head _ _ _ s read front c.plan_of-plan.ensures rest taken)
           (out.left sound fair shows));
-      answered = whole;
-      ended = part;
-      lawful = out.lawful;
-      never = out.never;
+      lawful = λ it honest shows. out.lawful it.sound shows;
+      never = λ it honest. out.never it.sound honest it.shows;
     }
 
 pub returns-in-More : goal.returns-in-More
@@ -55,10 +53,8 @@ returns-in-More g c = λ known read.
     record {
       keeps = keeps;
       tells = tells;
-      goes = goes_open m b k k _ _ _ c.refuse.result keeps whole;
+      answered = goes_open m b k k _ _ _ c.refuse.result keeps whole;
       ends = ends_fault m b k k _ _ _ c.refuse.result keeps part tells (λ sound fair shows. none_unkept c.refuse.result _ kept);
-      answered = whole;
-      ended = part;
-      lawful = λ sound shows lawful. lawful;
+      lawful = λ it honest shows lawful. lawful;
       never = search rules;
     }

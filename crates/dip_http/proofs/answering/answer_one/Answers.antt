@@ -12,11 +12,9 @@ returns-in-Err-Read g c =
     rw (c.reading.invariant.keeper, c.reading.invariant.writer) record {
       keeps = keeps_unasked m b c.args.keeper.now _ tt;
       tells = (refl, refl);
-      goes = λ it honest. tt;
+      answered = λ it honest. tt;
       ends = λ it honest. read_ends m b _ _ c.args.keeper.now it;
-      answered = λ sound shows. tt;
-      ended = λ sound shows. (refl, refl);
-      lawful = λ sound shows lawful. lawful;
+      lawful = λ it honest shows lawful. lawful;
       never = search rules;
     }
 
@@ -27,11 +25,9 @@ returns-in-Err-Memory g c =
     rw (c.reading.invariant.keeper, c.reading.invariant.writer) record {
       keeps = keeps_unasked m b c.args.keeper.now _ tt;
       tells = refl;
-      goes = λ it honest. tt;
+      answered = λ it honest. tt;
       ends = λ it honest. memory_ends m b _ _ c.args.keeper.now it;
-      answered = λ sound shows. tt;
-      ended = λ sound shows. (refl, refl);
-      lawful = λ sound shows lawful. lawful;
+      lawful = λ it honest shows lawful. lawful;
       never = search rules;
     }
 
@@ -50,16 +46,11 @@ returns-then-is_empty g c =
     rw (c.reading.invariant.keeper, c.reading.invariant.writer) record {
       keeps = keeps_unasked m b c.args.keeper.now _ tt;
       tells = tt;
-      goes = λ it honest. (it, silent);
+      answered = λ it honest. (it, silent);
       ends = λ it honest. tt;
-      answered = λ sound shows. silent;
-      ended = λ sound shows. tt;
-      lawful = λ sound shows lawful. lawful;
+      lawful = λ it honest shows lawful. lawful;
       never = search rules;
     }
-
-pub answer_front-requires-clause-count : goal.answer_front-requires-clause-count
-answer_front-requires-clause-count g c = rw c.reading.invariant.keeper c.requires
 
 pub returns-then-count-eq0 : goal.returns-then-count-eq0
 returns-then-count-eq0 g c =

@@ -4,10 +4,9 @@ use Rattle.dip_http.proofs.serving.serve_next.Goals as goal
 
 pub returns-in_default : goal.returns-in_default
 returns-in_default g c = record {
-  served = search rules;
+  ends = λ it honest. met_nobody c.args.map.now g.K.Keeper.book c.args.keeper.now it;
   lawful = search rules;
   never = search rules;
-  ends = λ it honest. met_nobody c.args.map.now g.K.Keeper.book c.args.keeper.now it;
   failed = search rules;
   shut = search rules;
   count = search rules;
@@ -15,5 +14,4 @@ returns-in_default g c = record {
   of_size = search rules;
   fair = search rules;
   shown = search rules;
-  sound = search rules;
 }

@@ -6,8 +6,8 @@ returns-in-Ok-run_file-clause-done g c =
     rw c.into_store.ensures
     (λ clean own.
     let opened = c.in-Ok.ensures.opened (c.run_file.ensures.fair clean) own in
-    let goes = c.in-Ok-run_file.ensures.goes (is_open g.S.Store c.args.map.now _ c.in-Ok.keeper opened) clean in
-    answers_from g.S.Store c.args.map.now _ c.in-Ok.keeper c.run_file.new.keeper _ _ _ _ opened (c.in-Ok-run_file.ensures.answers opened.sound goes.shows) goes)
+    let run = c.in-Ok-run_file.ensures.answers (is_open g.S.Store c.args.map.now _ c.in-Ok.keeper opened) clean in
+    answers_from g.S.Store c.args.map.now _ c.in-Ok.keeper c.run_file.new.keeper _ _ _ _ opened (run.1, run.2, run.3) run.0)
 
 pub returns-in-Err-run_file-clause-stops : goal.returns-in-Err-run_file-clause-stops
 returns-in-Err-run_file-clause-stops g c =
@@ -22,8 +22,8 @@ returns-in-Ok-run_file-clause-renewed g c =
     rw c.into_store.ensures
     (λ clean own.
     let opened = c.in-Ok.ensures.renewed (c.run_file.ensures.fair clean) own in
-    let goes = c.in-Ok-run_file.ensures.goes (is_open g.S.Store c.args.map.now _ c.in-Ok.keeper opened) clean in
-    answers_from g.S.Store c.args.map.now _ c.in-Ok.keeper c.run_file.new.keeper _ _ _ _ opened (c.in-Ok-run_file.ensures.answers opened.sound goes.shows) goes)
+    let run = c.in-Ok-run_file.ensures.answers (is_open g.S.Store c.args.map.now _ c.in-Ok.keeper opened) clean in
+    answers_from g.S.Store c.args.map.now _ c.in-Ok.keeper c.run_file.new.keeper _ _ _ _ opened (run.1, run.2, run.3) run.0)
 
 pub returns-in-Err-run_file-clause-old_stops : goal.returns-in-Err-run_file-clause-old_stops
 returns-in-Err-run_file-clause-old_stops g c =

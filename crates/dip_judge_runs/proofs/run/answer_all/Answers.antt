@@ -4,8 +4,8 @@ use Rattle.dip_desk.proofs.Ending.{ends_late, ends_open}
 use Rattle.dip_desk.proofs.Keepings.{told_late}
 use Rattle.std.proofs.lemmas.Result.{err_from_is_err_and}
 use Rattle.dip_judge_runs.specs.RunFaults.{faults_after_run}
-use Rattle.dip_judge_runs.proofs.StepLemmas.{count_so, fails_so, goes_on, turn_of}
-use Rattle.dip_judge_runs.proofs.TurnLemmas.{front_more, front_of, stopped_before, stops_before, stops_in_write, written_more}
+use Rattle.dip_judge_runs.proofs.StepLemmas.{count_so, fails_so, goes_on}
+use Rattle.dip_judge_runs.proofs.TurnLemmas.{front_more, front_of, stopped_before, stops_in_write, written_more}
 use Rattle.dip_judge_runs.proofs.run.answer_all.Goals as goal
 
 pub letters-preserved : goal.letters-preserved
@@ -17,20 +17,17 @@ letters-preserved g c =
     let i = c.letters.invariant in
     record {
       count = goes.count ∙ i.count;
-      shown = λ shows. i.shown (goes.shown shows);
       fair = λ honest. i.fair (goes.fair honest);
-      sound = λ sound shows. goes.sound (i.sound sound (goes.shown shows)) shows;
       goes = λ it honest. goes.opens (i.goes it (goes.fair honest)) honest;
       told = omega (arith, i.told, goes.told);
       of_size = omega (arith, i.of_size, goes.of_size);
-      lawful = λ sound shows lawful. let before = goes.shown shows in goes.lawful (i.sound sound before) shows (i.lawful sound before lawful);
-      so_far = λ sound shows.
-          let before = goes.shown shows in
-          let so_far = i.so_far sound before in
-          let reply = rows.reply c.in-Some.reply in
-          let turn = turn_of m b c.letters.keeper c.step.new.keeper c.in-Some.reply c.in-Some.after.now c.letters.rest.now next (i.sound sound before) shows in (
+      lawful = λ it honest lawful. let before = goes.fair honest in goes.lawful (i.goes it before) honest (i.lawful it before lawful);
+      so_far = λ it honest.
+          let before = goes.fair honest in
+          let so_far = i.so_far it before in
+          let reply = rows.reply c.in-Some.reply in (
             so_far.0 ++ reply ∷ [],
-            front_more m (c.published_movements_are_decided.ensures m) c.args.input.now _ so_far.0 _ c.letters.rest.now reply _ c.in-Some.after.now so_far.1 turn,
+            front_more m (c.published_movements_are_decided.ensures m) c.args.input.now _ so_far.0 _ c.letters.rest.now reply _ c.in-Some.after.now so_far.1 (goes.turn (i.goes it before) honest),
             written_more _ _ _ so_far.0 reply so_far.2 c.in_ok-write_reply-in-Some.ensures.ok,
           );
     }
@@ -38,14 +35,12 @@ letters-preserved g c =
 pub letters-init : goal.letters-init
 letters-init g c = record {
   count = refl;
-  shown = λ shows. shows;
   fair = λ honest. honest;
-  sound = λ sound shows. sound;
   goes = λ it honest. it;
   told = omega arith;
   of_size = omega arith;
-  lawful = λ sound shows lawful. lawful;
-  so_far = λ sound shows. ([], front_of c.args.map.now (c.published_movements_are_decided.ensures c.args.map.now) c.args.input.now _, search rules);
+  lawful = λ it honest lawful. lawful;
+  so_far = λ it honest. ([], front_of c.args.map.now (c.published_movements_are_decided.ensures c.args.map.now) c.args.input.now _, search rules);
 }
 
 -- a letter or a fault has no answer
@@ -57,28 +52,22 @@ returns-in_err-step g c =
     let p = err_from_is_err_and c.from_residual.result c.from_residual.ensures.1 in
     let f = fails_so m b c.letters.rest.now c.letters.keeper c.step.new.keeper c.in_err-step.field-0.0 c.lawful_states_stay_lawful.ensures.sane c.in_err-step.ensures.failed in
     rw (p.1, p.2) record {
-      answers = λ sound shows. tt;
-      stops = λ sound shows.
-          let before = f.shown shows in
-          let so_far = i.so_far sound before in
-          stops_before _ _ c.args.input.now _ _ _ so_far.0 c.letters.rest.now _ _ f.kind so_far.1 so_far.2 (f.same (i.sound sound before) shows);
+      answers = λ it honest. tt;
       never = λ it honest lawful damaged.
           let on = i.goes it (f.fair honest) in
-          f.never on honest (i.lawful it.sound on.shows lawful) (cc);
+          f.never on honest (i.lawful it (f.fair honest) lawful) (cc);
       failed = λ it honest disk.
           let on = i.goes it (f.fair honest) in
           told_late b c.args.keeper.now c.letters.keeper c.step.new.keeper i.told i.of_size (f.told on honest (cc));
-      goes = λ it honest. tt;
       ends = λ it honest.
           let on = i.goes it (f.fair honest) in
-          let so_far = i.so_far it.sound on.shows in
+          let so_far = i.so_far it (f.fair honest) in
           stopped_before m b _ c.args.input.now c.args.keeper.now c.step.new.keeper _ so_far.0 c.letters.rest.now _ _ f.kind so_far.1 so_far.2
           (ends_late m b c.args.keeper.now c.letters.keeper c.step.new.keeper _ _ _ i.told (λ t more. more) (f.ends on honest));
       fault = search rules;
       count = count_so (Unit {0}) m b c.letters.rest.now c.letters.keeper c.step.new.keeper c.in_err-step.field-0.0 c.in_err-step.ensures.failed
           ∙ ap (λ (n : ℕ). faults_after_run {A = Unit {0}} (Err c.in_err-step.field-0.0) n) i.count;
       fair = λ honest. i.fair (f.fair honest);
-      shown = λ shows. i.shown (f.shown shows);
     }
 
 -- the writing of a reply failed
@@ -92,27 +81,18 @@ returns-in_err-write_reply-in-Some g c =
     let p = err_from_is_err_and c.from_residual-in_err-write_reply-in-Some.result c.from_residual-in_err-write_reply-in-Some.ensures.1 in
     let part = c.in_err-write_reply-in-Some.ensures.err in
     rw (p.1, p.2, c.in_err-write_reply-in-Some.ensures.fault) record {
-      answers = λ sound shows. tt;
-      stops = λ sound shows.
-          let before = goes.shown shows in
-          let so_far = i.so_far sound before in
-          let turn = turn_of m b c.letters.keeper c.step.new.keeper c.in-Some.reply c.in-Some.after.now c.letters.rest.now next (i.sound sound before) shows in
-          stops_in_write _ (c.published_movements_are_decided.ensures m) c.args.input.now _ so_far.0 _ c.letters.rest.now (rows.reply c.in-Some.reply) _ c.in-Some.after.now _ _ _ part.0 so_far.1 turn so_far.2 part.1;
-      goes = λ it honest. tt;
+      answers = λ it honest. tt;
       ends = λ it honest.
           let on = i.goes it (goes.fair honest) in
-          let after = goes.opens on honest in
-          let so_far = i.so_far it.sound on.shows in
-          let turn = turn_of m b c.letters.keeper c.step.new.keeper c.in-Some.reply c.in-Some.after.now c.letters.rest.now next on.sound after.shows in
+          let so_far = i.so_far it (goes.fair honest) in
           record {
             state = b.content m c.step.new.keeper;
-            stops = stops_in_write m (c.published_movements_are_decided.ensures m) c.args.input.now _ so_far.0 _ c.letters.rest.now (rows.reply c.in-Some.reply) _ c.in-Some.after.now _ _ _ part.0 so_far.1 turn so_far.2 part.1;
-            ends = ends_open m b c.args.keeper.now c.step.new.keeper _ after;
+            stops = stops_in_write m (c.published_movements_are_decided.ensures m) c.args.input.now _ so_far.0 _ c.letters.rest.now (rows.reply c.in-Some.reply) _ c.in-Some.after.now _ _ _ part.0 so_far.1 (goes.turn on honest) so_far.2 part.1;
+            ends = ends_open m b c.args.keeper.now c.step.new.keeper _ (goes.opens on honest);
           };
       never = λ it honest lawful bad. absurd (cc);
       failed = λ it honest bad. absurd (cc);
       fault = tt;
       count = goes.count ∙ i.count;
       fair = λ honest. i.fair (goes.fair honest);
-      shown = λ shows. i.shown (goes.shown shows);
     }

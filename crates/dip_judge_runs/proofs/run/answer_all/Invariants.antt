@@ -11,14 +11,12 @@ use Rattle.dip_judge_runs.proofs.run.answer_all.Given as goal
 abbrev pub invariant-letters : goal.invariant-letters
 invariant-letters g l = let b = g.K.Keeper.book in record {
   count : b.faults l.keeper ≡ b.faults l.fn.keeper;
-  shown : b.shows l.keeper → b.shows l.fn.keeper;
   fair : b.honest l.keeper → b.honest l.fn.keeper;
-  sound : b.sound l.fn.map l.fn.keeper → b.shows l.keeper → b.sound l.fn.map l.keeper;
   goes : IsOpen l.fn.map b l.fn.keeper → b.honest l.keeper → IsOpen l.fn.map b l.keeper;
   told : b.told l.fn.keeper ≤ b.told l.keeper;
   of_size : b.of_size l.fn.keeper ≤ b.of_size l.keeper;
-  lawful : b.sound l.fn.map l.fn.keeper → b.shows l.keeper → IsLawful l.fn.map (b.content l.fn.map l.fn.keeper) → IsLawful l.fn.map (b.content l.fn.map l.keeper);
-  so_far : b.sound l.fn.map l.fn.keeper → b.shows l.keeper → (replies : List Reply)
+  lawful : IsOpen l.fn.map b l.fn.keeper → b.honest l.keeper → IsLawful l.fn.map (b.content l.fn.map l.fn.keeper) → IsLawful l.fn.map (b.content l.fn.map l.keeper);
+  so_far : IsOpen l.fn.map b l.fn.keeper → b.honest l.keeper → (replies : List Reply)
       × AnswersFront l.fn.map l.fn.input (b.content l.fn.map l.fn.keeper) (b.content l.fn.map l.keeper) replies l.rest
       × Appends (g.W.Write.contents l.fn.writer) (g.W.Write.contents l.writer) (flat_map reply_text replies);
 }

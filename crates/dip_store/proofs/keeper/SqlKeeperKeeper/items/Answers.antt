@@ -9,7 +9,7 @@ returns-in-Ok g c =
     let m = c.args.map.now in
     looks_well g.S.Store m c.args.self.now c.look_items.new.conn _ _ c.in-Ok.items _ c.in-Ok.ensures.selects
     (λ kept ours clean. c.in-Ok.ensures.value kept clean
-    ∙ page_found m c.facts.ensures (c.page_is_found.ensures m) (tables_in g.S.Store c.args.self.now.conn) ours.coded kept.counted c.args.game.now c.args.power c.args.first c.args.most c.requires.power)
+    ∙ page_found m c.facts.ensures (c.page_is_found.ensures m) (tables_in g.S.Store c.args.self.now.conn) ours.coded kept.counted c.args.game.now c.args.power c.args.first c.args.most c.requires)
 
 pub returns-in-Err : goal.returns-in-Err
 returns-in-Err g c =

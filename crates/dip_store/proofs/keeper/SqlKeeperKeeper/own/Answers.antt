@@ -27,7 +27,7 @@ pub returns-in-Ok : goal.returns-in-Ok
 returns-in-Ok g c =
     let m = c.args.map.now in
     let name = c.args.game.now in
-    let is = λ (coded : AreCoded m (tables_in g.S.Store c.args.self.now.conn)). c.own_is_found.ensures m c.facts.ensures (tables_in g.S.Store c.args.self.now.conn) name c.args.power coded c.requires.power in
+    let is = λ (coded : AreCoded m (tables_in g.S.Store c.args.self.now.conn)). c.own_is_found.ensures m c.facts.ensures (tables_in g.S.Store c.args.self.now.conn) name c.args.power coded c.requires in
     looks_learned g.S.Store m c.args.self.now c.look_own.new.conn _ _ c.in-Ok.own _ c.args.self.now.seen c.learn.new.self c.args.self.now.idle c.in-Ok.ensures.selects
     (λ kept clean. c.in-Ok.ensures.value kept.0 clean
     (λ so. subst (λ (o : Option Own). IfSome o IsIdle) (is kept.1.coded) (kept.4 name c.args.power (sym c.is_idle-idle.ensures ∙ so)))

@@ -1,5 +1,6 @@
 -- A store that a keeper leaves.
 use Rattle.std.proofs.Common.{◌≡◌, ◌≤◌, ◌⊎◌, inl, inr, ℕ, List, Option, Some, None, IsSome, refl, sym, subst, ◌∙◌, arith}
+use Rattle.sqlite.specs.Effect.{Database}
 use Rattle.sqlite.specs.Store.{Ghosts}
 use Rattle.sqlite.specs.Held.{Held, state}
 use Rattle.dip_map.specs.Charts.{Chart}
@@ -14,11 +15,11 @@ use Rattle.dip_judge_runs.specs.declared.run.RunFault.TheVariants.{Read, TooLong
 use Rattle.dip_desk.specs.Keeping.{Ends, IsOpen}
 use Rattle.dip_desk.proofs.Ending.{ends_open}
 use Rattle.dip_store.specs.Causes.{has_faulted}
-use Rattle.dip_store.specs.Opening.{Holds, HoldsEither, MayRenew, OldEnds, Opens, StoreEnds}
-use Rattle.dip_store.specs.Stored.{book}
+use Rattle.dip_store.specs.Opening.{EndsSo, HasOnly, Holds, IsSameOrRenewed, Opens, StaysShut, StoreEnds}
+use Rattle.dip_store.specs.Stored.{IsStoreOf, book}
 use Rattle.dip_store.proofs.Opened.{ends_held, held_by}
 use Rattle.dip_store.specs.declared.keeper.SqlKeeper.{SqlKeeper}
-use Rattle.dip_judge.specs.Stores.{AnswersFrom, OldStopsFrom, OldStopsReport, OldStopsServing, ReadsUpTo, Reports, ServesFrom, ServesUpTo, StopsFrom, StopsIn, StopsReport, StopsServing}
+use Rattle.dip_judge.specs.Stores.{AnswersFrom, ReadsUpTo, Reports, ServesFrom, ServesUpTo, StopsFrom, StopsIn, StopsReport, StopsServing}
 use Rattle.dip_http.specs.Serving.{Serves, ServesEach, ServesTo}
 use Rattle.dip_judge.specs.declared.failures.Failure.{Failure}
 use Rattle.dip_judge.specs.declared.failures.Failure.TheVariants.{Listen, Map, NoGame, Negative, Papers, Run, Serving, Store, Usage}
@@ -38,7 +39,7 @@ module _ {S : Type 0} (g : Ghosts S) (m : Chart) (old : State) (k kept : SqlKeep
   answers_from run open_still =
       ((book g).content m kept, run.0, run.1, subst (λ s. AnswersAll m run.0 s ((book g).content m kept) before after) opened.says run.2, held_by g m kept open_still)
 
-  module _ (store : Held S) (counted : (state g store).faults ≤ (state g k.conn).faults) (fault : RunFault) where
+  module _ (Was : Database → Type 0) (store : Held S) (counted : (state g store).faults ≤ (state g k.conn).faults) (fault : RunFault) where
     abbrev Fault : Type 0
     Fault = has_faulted g store kept.conn
 
@@ -53,7 +54,7 @@ module _ {S : Type 0} (g : Ghosts S) (m : Chart) (old : State) (k kept : SqlKeep
 
     -- a run that stopped
     pub stops_from : IsUntouched before after k kept ⊎ ((input : List ℕ) × IsReadWhole known left input × StopsAt m (book g) fault input k kept before after)
-        → StopsFrom g m Fault old kept.conn known left before after (Run fault)
+        → StopsFrom g m Fault Was old kept.conn known left before after (Run fault)
     stops_from (inl nothing) = inl (
       nothing.written,
       ends_held g m store k kept old (λ _. ⊥) counted
@@ -61,15 +62,39 @@ module _ {S : Type 0} (g : Ghosts S) (m : Chart) (old : State) (k kept : SqlKeep
     )
     stops_from (inr run) = inr (run.0, run.1, stopped run.0 run.2)
 
--- a fault by another name
-ends_as : {S : Type 0} (g : Ghosts S) (m : Chart) (F G : Type 0) (new : Held S) (s : State) (More : State → Type 0) → (F → G) → StoreEnds g m F new s More → StoreEnds g m G new s More
-ends_as g m F G new s More turn it = record { left = it.left; shown = it.shown; goes = elim it.goes [ inl holds_it ↦ inl holds_it | inr fault ↦ inr (turn fault) ] }
+-- by another name of the fault, and of what was there
+module _ {S : Type 0} (g : Ghosts S) (m : Chart) (F G : Type 0) (turn : F → G) (new : Held S) where
+  has_as : (Such So : Database → Type 0) → ((db : Database) → Such db → So db) → HasOnly g Such new → HasOnly g So new
+  has_as Such So so it = record {
+    shows = it.shows;
+    idle = it.idle;
+    now = so _ it.now;
+    left = λ trees may. let at = it.left trees may in (at.0, at.1, so at.0 at.2);
+  }
 
-module _ {S : Type 0} (g : Ghosts S) (m : Chart) (F G : Type 0) (turn : F → G) (old : State) (new : Held S) (known left before after : Option (List ℕ)) where
-  pub stops_as_of : (failure : Failure) → StopsFrom g m F old new known left before after failure → StopsFrom g m G old new known left before after failure
-  stops_as_of (Store fault) it = (it.0, ends_as g m F G new old _ turn it.1)
-  stops_as_of (Run fault) (inl it) = inl (it.0, ends_as g m F G new old _ turn it.1)
-  stops_as_of (Run fault) (inr it) = inr (it.0, it.1, record { state = it.2.state; stops = it.2.stops; ends = ends_as g m F G new it.2.state _ turn it.2.ends })
+  ends_so_as : (Such So : Database → Type 0) (More : State → Type 0) → ((db : Database) → Such db → So db) → EndsSo g m F new Such More → EndsSo g m G new So More
+  ends_so_as Such So More so it = record {
+    left = λ trees may. elim (it.left trees may) [ inl at ↦ inl (at.0, at.1, so at.0 at.2) | inr more ↦ inr more ];
+    shown = λ shows. has_as Such So so (it.shown shows);
+    goes = elim it.goes [ inl has ↦ inl (has_as Such So so has) | inr fault ↦ inr (turn fault) ];
+  }
+
+  pub ends_as : (s : State) (More : State → Type 0) → StoreEnds g m F new s More → StoreEnds g m G new s More
+  ends_as s More it = ends_so_as (IsStoreOf m s) (IsStoreOf m s) More (λ db such. such) it
+
+  pub shut_as : (s : State) (Was Will : Database → Type 0) → ((db : Database) → Was db → Will db) → StaysShut g m F new s Was → StaysShut g m G new s Will
+  shut_as s Was Will will it = ends_so_as (IsSameOrRenewed m s Was) (IsSameOrRenewed m s Will) (λ _. ⊥) so it
+    where
+      so : (db : Database) → IsSameOrRenewed m s Was db → IsSameOrRenewed m s Will db
+      so db (inl was) = inl (will db was)
+      so db (inr renewed) = inr renewed
+
+module _ {S : Type 0} (g : Ghosts S) (m : Chart) (F G : Type 0) (turn : F → G) (Was Will : Database → Type 0) (will : (db : Database) → Was db → Will db) (old : State) (new : Held S)
+    (known left before after : Option (List ℕ)) where
+  pub stops_as_of : (failure : Failure) → StopsFrom g m F Was old new known left before after failure → StopsFrom g m G Will old new known left before after failure
+  stops_as_of (Store fault) it = (it.0, shut_as g m F G turn new old Was Will will it.1)
+  stops_as_of (Run fault) (inl it) = inl (it.0, ends_as g m F G turn new old _ it.1)
+  stops_as_of (Run fault) (inr it) = inr (it.0, it.1, record { state = it.2.state; stops = it.2.stops; ends = ends_as g m F G turn new it.2.state _ it.2.ends })
   stops_as_of (Usage fault) it = absurd it
   stops_as_of (Map fault) it = absurd it
   stops_as_of Listen it = absurd it
@@ -77,22 +102,6 @@ module _ {S : Type 0} (g : Ghosts S) (m : Chart) (F G : Type 0) (turn : F → G)
   stops_as_of NoGame it = absurd it
   stops_as_of Negative it = absurd it
   stops_as_of (Papers fault) it = absurd it
-
--- and of a store of version 1
-old_ends_as : {S : Type 0} (g : Ghosts S) (m : Chart) (F G : Type 0) (new : Held S) (s : State) → (F → G) → OldEnds g m F new s → OldEnds g m G new s
-old_ends_as g m F G new s turn it = record { left = it.left; shown = it.shown; goes = elim it.goes [ inl holds_it ↦ inl holds_it | inr fault ↦ inr (turn fault) ] }
-
-module _ {S : Type 0} (g : Ghosts S) (m : Chart) (F G : Type 0) (turn : F → G) (old : State) (new : Held S) (known left before after : Option (List ℕ)) where
-  pub old_stops_as_of : (failure : Failure) → OldStopsFrom g m F old new known left before after failure → OldStopsFrom g m G old new known left before after failure
-  old_stops_as_of (Store fault) it = (it.0, old_ends_as g m F G new old turn it.1)
-  old_stops_as_of (Run fault) it = stops_as_of g m F G turn old new known left before after (Run fault) it
-  old_stops_as_of (Usage fault) it = absurd it
-  old_stops_as_of (Map fault) it = absurd it
-  old_stops_as_of Listen it = absurd it
-  old_stops_as_of (Serving fault) it = absurd it
-  old_stops_as_of NoGame it = absurd it
-  old_stops_as_of Negative it = absurd it
-  old_stops_as_of (Papers fault) it = absurd it
 
 -- more faults than before are some
 pub some_fault : {S : Type 0} (g : Ghosts S) (old new : Held S) → has_faulted g old new → 1 ≤ (state g new).faults
@@ -118,20 +127,18 @@ holds_still g m old k kept opened still same = subst (λ (s : State). Holds g m 
 
 -- a store whose keeper is open and as it was opened
 pub ends_still : {S : Type 0} (g : Ghosts S) (m : Chart) (Fault : Type 0) (old : State) (new : Held S) (More : State → Type 0) → Holds g m old new → StoreEnds g m Fault new old More
-ends_still g m _ old new More it = record { left = λ db may. (it.again db may, inl (it.only db may)); shown = λ shows. it; goes = inl it }
+ends_still g m _ old new More it = record { left = λ trees may. inl (it.left trees may); shown = λ shows. it; goes = inl it }
 
--- a store that was made anew from version 1, whose keeper is open and as it was opened
-pub old_ends_still : {S : Type 0} (g : Ghosts S) (m : Chart) (Fault : Type 0) (old : State) (new : Held S) → Holds g m old new → OldEnds g m Fault new old
-old_ends_still g m _ old new it =
-    let renewed : MayRenew g m new old = λ db may. inr (it.again db may, it.only db may) in
-    let either : HoldsEither g m old new = record { shows = it.desk.shows; idle = it.desk.idle; has = inr (it.desk.wrote, it.says); only = renewed } in
-    record { left = renewed; shown = λ shows. either; goes = inl either }
+-- it needn't have been opened
+pub shut_still : {S : Type 0} (g : Ghosts S) (m : Chart) (Fault : Type 0) (old : State) (new : Held S) (Was : Database → Type 0) → Holds g m old new → StaysShut g m Fault new old Was
+shut_still g m Fault old new Was it =
+    ends_so_as g m Fault Fault (λ fault. fault) new (IsStoreOf m old) (IsSameOrRenewed m old Was) (λ _. ⊥) (λ db such. inr such) (ends_still g m Fault old new (λ _. ⊥) it)
 
 -- papers that a fault broke off
-pub breaks_off : {S : Type 0} (g : Ghosts S) (m : Chart) (name : List ℕ) (store : Held S) (old : State) (k kept : SqlKeeper S) (fault : PaperFault) (before after : Option (List ℕ)) → Opens g m old k
+pub breaks_off : {S : Type 0} (g : Ghosts S) (m : Chart) (name : List ℕ) (Was : Database → Type 0) (store : Held S) (old : State) (k kept : SqlKeeper S) (fault : PaperFault) (before after : Option (List ℕ)) → Opens g m old k
     → (state g store).faults ≤ (state g k.conn).faults → BreaksOff m (book g) name k kept before after
-    → StopsReport g m (has_faulted g store kept.conn) name old kept.conn before after (Papers fault)
-breaks_off g m name store old k kept fault before after opened counted it = (
+    → StopsReport g m (has_faulted g store kept.conn) Was name old kept.conn before after (Papers fault)
+breaks_off g m name Was store old k kept fault before after opened counted it = (
   subst (λ (s : State). AreBegun (game_at name s) before after) opened.says it.begun,
   ends_held g m store k kept old (λ _. ⊥) counted (subst (λ (s : State). Ends m (book g) k kept s (λ _. ⊥)) opened.says it.ends),
 )
@@ -158,24 +165,32 @@ module _ {S : Type 0} (g : Ghosts S) (m : Chart) (store : Held S) (count : ℕ) 
     ];
   }
 
--- by another name of the fault
-module _ {S : Type 0} (g : Ghosts S) (m : Chart) (F G : Type 0) (turn : F → G) (old : State) (new : Held S) where
-  pub report_as : (name : List ℕ) (before after : Option (List ℕ)) (failure : Failure) → StopsReport g m F name old new before after failure → StopsReport g m G name old new before after failure
-  report_as name before after failure it = (it.0, ends_as g m F G new old _ turn it.1)
+-- by another name of the fault, and of what was there
+pub serves_as : {S : Type 0} (g : Ghosts S) (m : Chart) (F G : Type 0) → (F → G) → (old : State) (new : Held S) (count : ℕ) → ServesFrom g m F count old new → ServesFrom g m G count old new
+serves_as g m F G turn old new count (inl all) = inl all
+serves_as g m F G turn old new count (inr fault) = inr (turn fault)
 
-  pub serves_as : (count : ℕ) → ServesFrom g m F count old new → ServesFrom g m G count old new
-  serves_as count (inl all) = inl all
-  serves_as count (inr fault) = inr (turn fault)
+module _ {S : Type 0} (g : Ghosts S) (m : Chart) (F G : Type 0) (turn : F → G) (Was Will : Database → Type 0) (will : (db : Database) → Was db → Will db) (old : State) (new : Held S) where
+  pub report_as : (name : List ℕ) (before after : Option (List ℕ)) (failure : Failure) → StopsReport g m F Was name old new before after failure → StopsReport g m G Will name old new before after failure
+  report_as name before after (Store fault) it = (it.0, shut_as g m F G turn new old Was Will will it.1)
+  report_as name before after NoGame it = (it.0, ends_as g m F G turn new old _ it.1)
+  report_as name before after (Papers fault) it = (it.0, ends_as g m F G turn new old _ it.1)
+  report_as name before after (Usage fault) it = absurd it.0
+  report_as name before after (Map fault) it = absurd it.0
+  report_as name before after (Run fault) it = absurd it.0
+  report_as name before after Listen it = absurd it.0
+  report_as name before after (Serving fault) it = absurd it.0
+  report_as name before after Negative it = absurd it.0
 
-  pub serving_as : (count : ℕ) (failure : Failure) → StopsServing g m F count old new failure → StopsServing g m G count old new failure
-  serving_as count (Store fault) it = ends_as g m F G new old _ turn it
-  serving_as count Listen it = ends_as g m F G new old _ turn it
+  pub serving_as : (count : ℕ) (failure : Failure) → StopsServing g m F Was count old new failure → StopsServing g m G Will count old new failure
+  serving_as count (Store fault) it = shut_as g m F G turn new old Was Will will it
+  serving_as count Listen it = ends_as g m F G turn new old _ it
   serving_as count (Serving fault) it = record {
     n = it.n;
     most = it.most;
     state = it.state;
     serves = it.serves;
-    ends = elim it.ends [ inl ends ↦ inl (ends_as g m F G new it.state _ turn ends) | inr fault ↦ inr (turn fault) ];
+    ends = elim it.ends [ inl ends ↦ inl (ends_as g m F G turn new it.state _ ends) | inr fault ↦ inr (turn fault) ];
   }
   serving_as count (Usage fault) it = absurd it
   serving_as count (Map fault) it = absurd it
@@ -183,30 +198,6 @@ module _ {S : Type 0} (g : Ghosts S) (m : Chart) (F G : Type 0) (turn : F → G)
   serving_as count NoGame it = absurd it
   serving_as count Negative it = absurd it
   serving_as count (Papers fault) it = absurd it
-
--- of a store of version 1
-module _ {S : Type 0} (g : Ghosts S) (m : Chart) (F G : Type 0) (turn : F → G) (old : State) (new : Held S) where
-  pub old_report_as : (name : List ℕ) (before after : Option (List ℕ)) (failure : Failure) → OldStopsReport g m F name old new before after failure → OldStopsReport g m G name old new before after failure
-  old_report_as name before after (Store fault) it = (it.0, old_ends_as g m F G new old turn it.1)
-  old_report_as name before after NoGame it = report_as g m F G turn old new name before after NoGame it
-  old_report_as name before after Negative it = report_as g m F G turn old new name before after Negative it
-  old_report_as name before after (Papers fault) it = report_as g m F G turn old new name before after (Papers fault) it
-  old_report_as name before after (Usage fault) it = report_as g m F G turn old new name before after (Usage fault) it
-  old_report_as name before after (Map fault) it = report_as g m F G turn old new name before after (Map fault) it
-  old_report_as name before after (Run fault) it = report_as g m F G turn old new name before after (Run fault) it
-  old_report_as name before after Listen it = report_as g m F G turn old new name before after Listen it
-  old_report_as name before after (Serving fault) it = report_as g m F G turn old new name before after (Serving fault) it
-
-  pub old_serving_as : (count : ℕ) (failure : Failure) → OldStopsServing g m F count old new failure → OldStopsServing g m G count old new failure
-  old_serving_as count (Store fault) it = old_ends_as g m F G new old turn it
-  old_serving_as count Listen it = serving_as g m F G turn old new count Listen it
-  old_serving_as count (Serving fault) it = serving_as g m F G turn old new count (Serving fault) it
-  old_serving_as count (Usage fault) it = absurd it
-  old_serving_as count (Map fault) it = absurd it
-  old_serving_as count (Run fault) it = absurd it
-  old_serving_as count NoGame it = absurd it
-  old_serving_as count Negative it = absurd it
-  old_serving_as count (Papers fault) it = absurd it
 
 -- papers that are out are a report
 pub reports : (name : List ℕ) (s old : State) (n : ℕ) (before after : Option (List ℕ)) → s ≡ old → AreOut (Some n) (game_at name s) before after → Reports name old before after

@@ -11,30 +11,28 @@ use Rattle.dip_judge_words.specs.declared.args.Args.{Args}
 use Rattle.dip_judge_words.specs.declared.args.Args.TheVariants.{Init, Letters, Stored, Serve, Report, Check, Explain, Version}
 use Rattle.dip_desk_state.specs.State.{State}
 use Rattle.dip_store.specs.Calls.{does_show, is_honest}
-use Rattle.dip_store.specs.Opening.{Holds}
-use Rattle.dip_store.specs.Renewing.{IsOldStore, old_said_by}
-use Rattle.dip_store.specs.Stored.{IsStore, said_by}
+use Rattle.dip_store.specs.Opening.{Holds, Says}
 use Rattle.dip_judge_runs.specs.Fresh.{fresh_desk}
-use Rattle.dip_judge.specs.Stores.{AnswersFrom, OldStopsFrom, OldStopsReport, OldStopsServing, Reports, ServesFrom, StopsFrom, StopsReport, StopsServing}
+use Rattle.dip_judge.specs.Stores.{AnswersFrom, Reports, ServesFrom, StopsFrom, StopsReport, StopsServing}
 use Rattle.dip_judge.specs.declared.failures.Failure.{Failure}
 
--- the file held a desk of this state by the map: whatever database is found in it is one
-abbrev pub HeldDesk : Image → Chart → State → Type 0
-HeldDesk image m s = (db : Database) → IsDatabase db → AreFoundIn image db.trees → IsStore m db × (said_by m db.trees ≡ s)
+-- the database is found in the file
+abbrev pub IsFoundIn : Image → Database → Type 0
+IsFoundIn image db = IsDatabase db × AreFoundIn image db.trees
 
--- a desk of version 1 of this state
-abbrev pub HeldOld : Image → Chart → State → Type 0
-HeldOld image m s = (db : Database) → IsDatabase db → AreFoundIn image db.trees → IsOldStore m db × (old_said_by m db.trees ≡ s)
+-- the file held a desk of this state by the map: whatever database is found in it says this state
+abbrev pub HeldDesk : Image → Chart → State → Type 0
+HeldDesk image m s = (db : Database) → IsFoundIn image db → Says m s db
 
 -- a store was opened, and this is so of it as it is handed back
 abbrev pub WasOpened : {H : Type 0} → Option H → (H → Type 0) → Type 0
 WasOpened None P = ⊥
 WasOpened (Some store) P = P store
 
--- while the disk returns what was written: from the state that the file held to what the store has, and so from a desk of version 1
-abbrev pub FromHeld : {S : Type 0} → Ghosts S → Image → Chart → (State → Held S → Type 0) → (State → Held S → Type 0) → Held S → Type 0
-FromHeld g image m P Old store = is_honest g store
-    → ((s : State) → HeldDesk image m s → P s store) × ((s : State) → HeldOld image m s → Old s store)
+-- while the disk returns what was written: from the state that the file held to what the store has
+abbrev pub FromHeld : {S : Type 0} → Ghosts S → Image → Chart → (State → Held S → Type 0) → Held S
+    → Type 0
+FromHeld g image m P store = is_honest g store → (s : State) → HeldDesk image m s → P s store
 
 -- the store told of a fault of the disk
 abbrev pub HasFaults : {S : Type 0} → Ghosts S → Held S → Type 0
@@ -50,25 +48,29 @@ UnmadeIn g image store = does_show g store → (db : Trees) → HoldsDatabase im
 module _ {S : Type 0} (g : Ghosts S) (image : Image) (m : Chart) (known left before after : Option (List ℕ)) where
   -- letters were answered, all or up to a failure
   abbrev pub AnswersIn : Held S → Type 0
-  AnswersIn = FromHeld g image m (λ s new. AnswersFrom g m s new known left before after) (λ s new. AnswersFrom g m s new known left before after)
+  AnswersIn = FromHeld g image m (λ s new. AnswersFrom g m s new known left before after)
 
   abbrev pub AnswersUpTo : Failure → Held S → Type 0
-  AnswersUpTo failure = FromHeld g image m (λ s new. StopsFrom g m (HasFaults g new) s new known left before after failure) (λ s new. OldStopsFrom g m (HasFaults g new) s new known left before after failure)
+  AnswersUpTo failure = FromHeld g image m (λ s new.
+      StopsFrom g m (HasFaults g new) (IsFoundIn image) s new known left before after failure)
 
 module _ {S : Type 0} (g : Ghosts S) (image : Image) (m : Chart) where
   -- clients were served, so many or up to a failure
   abbrev pub ServesIn : ℕ → Held S → Type 0
-  ServesIn count = FromHeld g image m (λ s new. ServesFrom g m (HasFaults g new) count s new) (λ s new. ServesFrom g m (HasFaults g new) count s new)
+  ServesIn count = FromHeld g image m (λ s new. ServesFrom g m (HasFaults g new) count s new)
 
   abbrev pub StopsServingIn : ℕ → Failure → Held S → Type 0
-  StopsServingIn count failure = FromHeld g image m (λ s new. StopsServing g m (HasFaults g new) count s new failure) (λ s new. OldStopsServing g m (HasFaults g new) count s new failure)
+  StopsServingIn count failure = FromHeld g image m (λ s new.
+      StopsServing g m (HasFaults g new) (IsFoundIn image) count s new failure)
 
   -- a game's papers were written, and nothing changed; or they were not all written
   abbrev pub ReportsIn : List ℕ → Option (List ℕ) → Option (List ℕ) → Held S → Type 0
-  ReportsIn game before after = FromHeld g image m (λ s new. Reports game s before after × Holds g m s new) (λ s new. Reports game s before after × Holds g m s new)
+  ReportsIn game before after =
+      FromHeld g image m (λ s new. Reports game s before after × Holds g m s new)
 
   abbrev pub StopsReportIn : List ℕ → Option (List ℕ) → Option (List ℕ) → Failure → Held S → Type 0
-  StopsReportIn game before after failure = FromHeld g image m (λ s new. StopsReport g m (HasFaults g new) game s new before after failure) (λ s new. OldStopsReport g m (HasFaults g new) game s new before after failure)
+  StopsReportIn game before after failure = FromHeld g image m (λ s new.
+      StopsReport g m (HasFaults g new) (IsFoundIn image) game s new before after failure)
 
 module _ {S : Type 0} (g : Ghosts S) (image : Image) (m : Chart) (known left before after : Option (List ℕ)) where
   -- what a command that went well leaves of the store that it opened; over tables in memory, and of the version, there is none

@@ -1,13 +1,13 @@
 -- What is done over a store.
 use Rattle.std.specs.Prelude.{◌≡◌, ◌≤◌, ◌⊎◌, ℕ, List, Option, None, IsSome}
 use Rattle.std.specs.Io.KnownBytes.{Appends}
+use Rattle.sqlite.specs.Effect.{Database}
 use Rattle.sqlite.specs.Store.{Ghosts}
-use Rattle.sqlite.specs.Held.{Held, state}
+use Rattle.sqlite.specs.Held.{Held}
 use Rattle.dip_map.specs.Charts.{Chart}
 use Rattle.dip_desk_state.specs.State.{State, game_at}
 use Rattle.dip_store.specs.Papers.{AreBegun, papers_text}
-use Rattle.dip_store.specs.Opening.{Holds, OldEnds, StoreEnds}
-use Rattle.dip_store.specs.Stored.{said_by}
+use Rattle.dip_store.specs.Opening.{Holds, StaysShut, StoreEnds}
 use Rattle.dip_store.specs.StoreFault.{StoreFault}
 use Rattle.dip_store.specs.StoreFault.TheVariants.{Memory, Disk, OtherSchema}
 use Rattle.dip_judge_runs.specs.RunFaults.{StopsBy}
@@ -28,10 +28,6 @@ abbrev pub IsFindFault : StoreFault → Type 0
 IsFindFault OtherSchema = Unit {0}
 IsFindFault fault = IsOpenFault fault
 
--- the state that a store's rows say by a map
-abbrev pub desk_in : {S : Type 0} → Ghosts S → Chart → Held S → State
-desk_in g m store = said_by m (state g store).now.trees
-
 -- nothing was read, and nothing written
 abbrev pub IsIdle : Option (List ℕ) → Option (List ℕ) → Option (List ℕ) → Option (List ℕ) → Type 0
 IsIdle known left before after = (left ≡ known) × (after ≡ before)
@@ -48,19 +44,18 @@ pub record StopsIn {S : Type 0} (g : Ghosts S) (m : Chart) (Fault : Type 0) (fau
   pub stops : Stops m fault input old state before after
   pub ends : StoreEnds g m Fault new state (TakesNext m stops.rest state)
 
--- answering from a store stopped at a failure: of the store, and nothing was read; or of the run, and nothing was written, or a front of the input
--- was answered
-abbrev pub StopsFrom : {S : Type 0} → Ghosts S → Chart → Type 0 → State → Held S → Option (List ℕ) → Option (List ℕ) → Option (List ℕ) → Option (List ℕ) → Failure → Type 0
-StopsFrom g m Fault old new known left before after (Store fault) =
-    IsIdle known left before after × StoreEnds g m Fault new old (λ _. ⊥)
-StopsFrom g m Fault old new known left before after (Run fault) = ((after ≡ before) × StoreEnds g m Fault new old (λ _. ⊥))
-    ⊎ ((input : List ℕ) × IsReadWhole known left input × StopsIn g m Fault fault input old new before after)
-StopsFrom g m Fault old new known left before after failure = ⊥
-
--- of a store of version 1: where it isn't opened it may be one still
-abbrev pub OldStopsFrom : {S : Type 0} → Ghosts S → Chart → Type 0 → State → Held S → Option (List ℕ) → Option (List ℕ) → Option (List ℕ) → Option (List ℕ) → Failure → Type 0
-OldStopsFrom g m Fault old new known left before after (Store fault) = IsIdle known left before after × OldEnds g m Fault new old
-OldStopsFrom g m Fault old new known left before after failure = StopsFrom g m Fault old new known left before after failure
+-- answering from a store stopped at a failure: of the store, which isn't opened, and nothing was
+-- read; or of the run, and nothing was written, or a front of the input was answered
+abbrev pub StopsFrom : {S : Type 0} → Ghosts S → Chart → Type 0 → (Database → Type 0) → State
+    → Held S → Option (List ℕ) → Option (List ℕ) → Option (List ℕ) → Option (List ℕ) → Failure
+    → Type 0
+StopsFrom g m Fault Was old new known left before after (Store fault) =
+    IsIdle known left before after × StaysShut g m Fault new old Was
+StopsFrom g m Fault Was old new known left before after (Run fault) =
+    ((after ≡ before) × StoreEnds g m Fault new old (λ _. ⊥))
+    ⊎ ((input : List ℕ) × IsReadWhole known left input
+    × StopsIn g m Fault fault input old new before after)
+StopsFrom g m Fault Was old new known left before after failure = ⊥
 
 -- what is read and written up to a fault, whatever the store has
 abbrev pub ReadsUpTo : Option (List ℕ) → Option (List ℕ) → Option (List ℕ) → Option (List ℕ) → Failure → Type 0
@@ -74,18 +69,17 @@ Reports game s before after = IsSome (game_at game s) × Appends before after (p
 
 -- there is no such game; or a beginning of its papers was written
 abbrev pub ReportsUpTo : List ℕ → State → Option (List ℕ) → Option (List ℕ) → Failure → Type 0
-ReportsUpTo game s before after (Store fault) = after ≡ before
 ReportsUpTo game s before after NoGame = (game_at game s ≡ None) × (after ≡ before)
 ReportsUpTo game s before after (Papers fault) = AreBegun (game_at game s) before after
 ReportsUpTo game s before after failure = ⊥
 
--- a report failed so, and the store ends as it was
-abbrev pub StopsReport : {S : Type 0} → Ghosts S → Chart → Type 0 → List ℕ → State → Held S → Option (List ℕ) → Option (List ℕ) → Failure → Type 0
-StopsReport g m Fault game s new before after failure = ReportsUpTo game s before after failure × StoreEnds g m Fault new s (λ _. ⊥)
-
-abbrev pub OldStopsReport : {S : Type 0} → Ghosts S → Chart → Type 0 → List ℕ → State → Held S → Option (List ℕ) → Option (List ℕ) → Failure → Type 0
-OldStopsReport g m Fault game s new before after (Store fault) = (after ≡ before) × OldEnds g m Fault new s
-OldStopsReport g m Fault game s new before after failure = StopsReport g m Fault game s new before after failure
+-- a report failed: the store isn't opened, and nothing was written; or it was, and ends as it was
+abbrev pub StopsReport : {S : Type 0} → Ghosts S → Chart → Type 0 → (Database → Type 0) → List ℕ
+    → State → Held S → Option (List ℕ) → Option (List ℕ) → Failure → Type 0
+StopsReport g m Fault Was game s new before after (Store fault) =
+    (after ≡ before) × StaysShut g m Fault new s Was
+StopsReport g m Fault Was game s new before after failure =
+    ReportsUpTo game s before after failure × StoreEnds g m Fault new s (λ _. ⊥)
 
 -- a report may fail by its store, by a game that isn't there, or while papers are written
 abbrev pub IsReportFailure : Failure → Type 0
@@ -113,13 +107,10 @@ pub record ServesUpTo {S : Type 0} (g : Ghosts S) (m : Chart) (Fault : Type 0) (
   pub serves : Serves m n old state
   pub ends : StoreEnds g m Fault new state (TakesOne m state) ⊎ Fault
 
--- nobody was served; or at most so many
-abbrev pub StopsServing : {S : Type 0} → Ghosts S → Chart → Type 0 → ℕ → State → Held S → Failure → Type 0
-StopsServing g m Fault count old new (Store fault) = StoreEnds g m Fault new old (λ _. ⊥)
-StopsServing g m Fault count old new Listen = StoreEnds g m Fault new old (λ _. ⊥)
-StopsServing g m Fault count old new (Serving fault) = ServesUpTo g m Fault count old new
-StopsServing g m Fault count old new failure = ⊥
-
-abbrev pub OldStopsServing : {S : Type 0} → Ghosts S → Chart → Type 0 → ℕ → State → Held S → Failure → Type 0
-OldStopsServing g m Fault count old new (Store fault) = OldEnds g m Fault new old
-OldStopsServing g m Fault count old new failure = StopsServing g m Fault count old new failure
+-- nobody was served, and the store isn't opened or ends as it was; or at most so many
+abbrev pub StopsServing : {S : Type 0} → Ghosts S → Chart → Type 0 → (Database → Type 0) → ℕ
+    → State → Held S → Failure → Type 0
+StopsServing g m Fault Was count old new (Store fault) = StaysShut g m Fault new old Was
+StopsServing g m Fault Was count old new Listen = StoreEnds g m Fault new old (λ _. ⊥)
+StopsServing g m Fault Was count old new (Serving fault) = ServesUpTo g m Fault count old new
+StopsServing g m Fault Was count old new failure = ⊥

@@ -1,14 +1,13 @@
 //! What is done over a store: a desk is made, letters are answered, clients served, a game's papers written out.
 ghost use Rattle.std.specs.Prelude.{◌≡◌, IfErr, OnErr, OnOk};
 ghost use Rattle.sqlite.specs.Held.{state};
+ghost use Rattle.dip_desk_state.specs.State.{State};
 ghost use Rattle.dip_judge_runs.specs.Fresh.{fresh_desk};
-ghost use Rattle.dip_judge.specs.Stores.{AnswersFrom, OldStopsFrom, OldStopsReport, OldStopsServing, IsReportFailure, IsServeFailure, ReadsUpTo, Reports, ServesFrom, StopsFrom, StopsReport, StopsServing, desk_in};
+ghost use Rattle.dip_judge.specs.Stores.{AnswersFrom, IsReportFailure, IsServeFailure, ReadsUpTo, Reports, ServesFrom, StopsFrom, StopsReport, StopsServing};
 ghost use Rattle.dip_store.specs.Calls.{does_show, is_honest};
 ghost use Rattle.dip_judge_runs.specs.Runs.{IsReadToEnd};
 ghost use Rattle.dip_store.specs.Causes.{has_faulted};
-ghost use Rattle.dip_store.specs.Opening.{Holds, IsDesk, IsOldDesk};
-ghost use Rattle.dip_store.specs.Renewing.{IsOldStore, old_said_by};
-ghost use Rattle.dip_store.specs.Stored.{IsStore};
+ghost use Rattle.dip_store.specs.Opening.{Holds, IsDesk, IsNowOf, Says};
 
 use crate::failures::Failure;
 use crate::listening::{Listening, listen_on};
@@ -57,24 +56,14 @@ pub fn answer_stored<S: Alter, R: Read, W: Write>(
     reader: &mut R,
     writer: &mut W,
 ) -> (Result<(), Failure>, Connection<S>)
-    ensures done { is_honest S.Store result.1 → IsStore map.now (state S.Store store).now
-        → OnOk result.0 (AnswersFrom S.Store map.now (desk_in S.Store map.now store) result.1
-        (R.remaining reader.old) (R.remaining reader.new) (W.contents writer.old)
+    ensures done { is_honest S.Store result.1 → (s : State)
+        → Says map.now s (state S.Store store).now → OnOk result.0 (AnswersFrom S.Store map.now s
+        result.1 (R.remaining reader.old) (R.remaining reader.new) (W.contents writer.old)
         (W.contents writer.new)) }
-    // So it is from what a store of version 1 says.
-    ensures renewed { is_honest S.Store result.1
-        → IsOldStore map.now (state S.Store store).now → OnOk result.0 (AnswersFrom S.Store map.now
-        (old_said_by map.now (state S.Store store).now.trees) result.1
-        (R.remaining reader.old) (R.remaining reader.new) (W.contents writer.old)
-        (W.contents writer.new)) }
-    ensures stops { is_honest S.Store result.1 → IsDesk S.Store map.now store → IfErr result.0
-        (StopsFrom S.Store map.now (has_faulted S.Store store result.1)
-        (desk_in S.Store map.now store) result.1 (R.remaining reader.old)
-        (R.remaining reader.new) (W.contents writer.old) (W.contents writer.new)) }
-    ensures old_stops { is_honest S.Store result.1 → IsOldDesk S.Store map.now store
-        → IfErr result.0 (OldStopsFrom S.Store map.now (has_faulted S.Store store result.1)
-        (old_said_by map.now (state S.Store store).now.trees) result.1 (R.remaining reader.old)
-        (R.remaining reader.new) (W.contents writer.old) (W.contents writer.new)) }
+    ensures stops { is_honest S.Store result.1 → (s : State) → IsDesk S.Store map.now s store
+        → IfErr result.0 (StopsFrom S.Store map.now (has_faulted S.Store store result.1)
+        (IsNowOf S.Store store) s result.1 (R.remaining reader.old) (R.remaining reader.new)
+        (W.contents writer.old) (W.contents writer.new)) }
     ensures read { OnOk result.0 (IsReadToEnd (R.remaining reader.old) (R.remaining reader.new)) }
     ensures failed { IfErr result.0
         (ReadsUpTo (R.remaining reader.old) (R.remaining reader.new) (W.contents writer.old)
@@ -102,23 +91,13 @@ pub fn report_stored<S: Alter, W: Write>(
     game: &str,
     writer: &mut W,
 ) -> (Result<(), Failure>, Connection<S>)
-    ensures done { is_honest S.Store result.1 → IsStore map.now (state S.Store store).now
-        → OnOk result.0 (Reports game.now (desk_in S.Store map.now store) (W.contents writer.old)
-        (W.contents writer.new)
-        × Holds S.Store map.now (desk_in S.Store map.now store) result.1) }
-    ensures renewed { is_honest S.Store result.1
-        → IsOldStore map.now (state S.Store store).now → OnOk result.0 (Reports game.now
-        (old_said_by map.now (state S.Store store).now.trees) (W.contents writer.old)
-        (W.contents writer.new) × Holds S.Store map.now
-        (old_said_by map.now (state S.Store store).now.trees) result.1) }
-    ensures stops { is_honest S.Store result.1 → IsDesk S.Store map.now store → IfErr result.0
-        (StopsReport S.Store map.now (has_faulted S.Store store result.1) game.now
-        (desk_in S.Store map.now store) result.1 (W.contents writer.old)
+    ensures done { is_honest S.Store result.1 → (s : State)
+        → Says map.now s (state S.Store store).now → OnOk result.0 (Reports game.now s
+        (W.contents writer.old) (W.contents writer.new) × Holds S.Store map.now s result.1) }
+    ensures stops { is_honest S.Store result.1 → (s : State) → IsDesk S.Store map.now s store
+        → IfErr result.0 (StopsReport S.Store map.now (has_faulted S.Store store result.1)
+        (IsNowOf S.Store store) game.now s result.1 (W.contents writer.old)
         (W.contents writer.new)) }
-    ensures old_stops { is_honest S.Store result.1 → IsOldDesk S.Store map.now store
-        → IfErr result.0 (OldStopsReport S.Store map.now (has_faulted S.Store store result.1)
-        game.now (old_said_by map.now (state S.Store store).now.trees) result.1
-        (W.contents writer.old) (W.contents writer.new)) }
     ensures failed { IfErr result.0 IsReportFailure }
     ensures fair { is_honest S.Store result.1 → is_honest S.Store store }
 {
@@ -145,19 +124,12 @@ pub(crate) fn serve_stored<S: Alter>(
     port: u16,
     count: u32,
 ) -> (Result<(), Failure>, Connection<S>)
-    ensures done { is_honest S.Store result.1 → IsStore map.now (state S.Store store).now
-        → OnOk result.0 (ServesFrom S.Store map.now (has_faulted S.Store store result.1) count
-        (desk_in S.Store map.now store) result.1) }
-    ensures renewed { is_honest S.Store result.1
-        → IsOldStore map.now (state S.Store store).now → OnOk result.0 (ServesFrom S.Store map.now
-        (has_faulted S.Store store result.1) count
-        (old_said_by map.now (state S.Store store).now.trees) result.1) }
-    ensures stops { is_honest S.Store result.1 → IsDesk S.Store map.now store → IfErr result.0
-        (StopsServing S.Store map.now (has_faulted S.Store store result.1) count
-        (desk_in S.Store map.now store) result.1) }
-    ensures old_stops { is_honest S.Store result.1 → IsOldDesk S.Store map.now store
-        → IfErr result.0 (OldStopsServing S.Store map.now (has_faulted S.Store store result.1)
-        count (old_said_by map.now (state S.Store store).now.trees) result.1) }
+    ensures done { is_honest S.Store result.1 → (s : State)
+        → Says map.now s (state S.Store store).now → OnOk result.0 (ServesFrom S.Store map.now
+        (has_faulted S.Store store result.1) count s result.1) }
+    ensures stops { is_honest S.Store result.1 → (s : State) → IsDesk S.Store map.now s store
+        → IfErr result.0 (StopsServing S.Store map.now (has_faulted S.Store store result.1)
+        (IsNowOf S.Store store) count s result.1) }
     ensures failed { IfErr result.0 IsServeFailure }
     ensures fair { is_honest S.Store result.1 → is_honest S.Store store }
 {

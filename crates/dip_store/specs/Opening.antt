@@ -1,77 +1,87 @@
 -- What a keeper has that was made or opened.
-use Rattle.std.specs.Prelude.{◌≡◌, ◌≤◌, ◌⊎◌, ℕ, [], false, IfErr, IfOk, IsTrue, List, None, Result}
+use Rattle.std.specs.Prelude.{◌≡◌, ◌≤◌, ◌⊎◌, ℕ, [], false, Err, IfErr, IfOk, IsTrue, List, None, Ok, Result}
 use Rattle.std.specs.List.{find}
 use Rattle.sha2.specs.Sha256.{sha256}
+use Rattle.sqlite.specs.Effect.{Database}
 use Rattle.sqlite.specs.Store.{Ghosts}
 use Rattle.sqlite.specs.Held.{Held, state}
 use Rattle.sqlite.specs.Tree.{Trees}
 use Rattle.dip_map.specs.Charts.{Chart}
 use Rattle.dip_desk_state.specs.State.{State}
-use Rattle.dip_store_tables.specs.Renewing.{WereOurs}
 use Rattle.dip_store_tables.specs.Tables.{Tables}
 use Rattle.dip_store_tables.specs.Writing.{new_tables}
 use Rattle.dip_store_schema.specs.Desk.{DeskSays}
 use Rattle.dip_store_schema.specs.Founding.{Founds}
 use Rattle.dip_store_schema.specs.Known.{HasOldTables, HasOurTables}
 use Rattle.dip_store_schema.specs.Refusing.{IsOutage, IsRefused, IsRefusedAs}
-use Rattle.dip_store_schema.specs.Renewing.{AreShort, IsLeftOld, IsOldStore, IsTooFullFor, WereStored, old_said_by}
+use Rattle.dip_store_schema.specs.Renewing.{IsLeftOld, IsOldStore, old_said_by}
 use Rattle.dip_store_schema.specs.declared.faults.StoreFault.{StoreFault}
 use Rattle.dip_store_schema.specs.declared.faults.StoreFault.TheVariants as faults
-use Rattle.dip_store_sql.specs.Calls.{WasKept, does_show, is_honest, old_tables_in, tables_in}
+use Rattle.dip_store_sql.specs.Calls.{does_show, is_honest}
 use Rattle.dip_store_sql.specs.Causes.{has_faulted}
 use Rattle.dip_store_sql.specs.Creating.{no_schema}
+use Rattle.dip_store_sql.specs.Old.{old_tables_of}
+use Rattle.dip_store_sql.specs.Rows.{tables_of}
 use Rattle.dip_store_sql.specs.TablesAfter.{is_first}
-use Rattle.dip_store.specs.Stored.{AreStored, IsStore, book, said_by}
+use Rattle.dip_store.specs.Stored.{AreStored, IsStore, IsStoreOf, book, said_by}
 use Rattle.dip_store.specs.declared.keeper.SqlKeeper.{SqlKeeper}
 
--- a database that keepers wrote is in a store that is open, and no change of it is under way: so a store can be opened
-pub record IsDesk {S : Type 0} (g : Ghosts S) (m : Chart) (store : Held S) : Type 0 where
+-- keepers of this version, or of version 1 alone, wrote the database by the map, and its rows say
+-- this state
+abbrev pub Says : Chart → State → Database → Type 0
+Says m s db = IsStoreOf m s db ⊎ (IsOldStore m db × (old_said_by m db.trees ≡ s))
+
+-- it was so before, or it is of this version and says the state
+abbrev pub IsSameOrRenewed : Chart → State → (Database → Type 0) → Database → Type 0
+IsSameOrRenewed m s Was db = Was db ⊎ IsStoreOf m s db
+
+-- the trees are those of such a database
+abbrev pub AreOf : (Database → Type 0) → Trees → Type 0
+AreOf Such trees = (db : Database) × (db.trees ≡ trees) × Such db
+
+-- the store is open, no change of it is under way, and its rows say this state: so it can be
+-- opened
+pub record IsDesk {S : Type 0} (g : Ghosts S) (m : Chart) (s : State) (store : Held S) : Type 0 where
   pub shows : does_show g store
   pub idle : store.in_transaction ≡ false
-  pub wrote : IsStore m (state g store).now
+  pub says : Says m s (state g store).now
 
--- it is, of this state, and a crash leaves this state alone, to be opened again
-pub record Holds {S : Type 0} (g : Ghosts S) (m : Chart) (s : State) (store : Held S) : Type 0 where
-  pub desk : IsDesk g m store
-  pub says : said_by m (state g store).now.trees ≡ s
-  pub only : (db : Trees) → (state g store).may_leave db → said_by m db ≡ s
-  pub again : (db : Trees) → (state g store).may_leave db → AreStored m db
-
--- how what is done over a store ends, in a state: a crash leaves that, or one that is more, to be opened again; where the store shows what it keeps still, it
--- holds that state; and it does, or there was this fault of the disk
-pub record StoreEnds {S : Type 0} (g : Ghosts S) (m : Chart) (Fault : Type 0) (new : Held S) (s : State) (More : State → Type 0)
+-- the store is open, no change of it is under way, it has such a database, and a crash leaves only
+-- such ones
+pub record HasOnly {S : Type 0} (g : Ghosts S) (Such : Database → Type 0) (store : Held S)
     : Type 0 where
-  pub left : (db : Trees) → (state g new).may_leave db → AreStored m db × ((said_by m db ≡ s) ⊎ More (said_by m db))
-  pub shown : does_show g new → Holds g m s new
-  pub goes : Holds g m s new ⊎ Fault
-
--- a database that keepers of version 1 alone have written is in a store that is open, and no change of it is under way
-pub record IsOldDesk {S : Type 0} (g : Ghosts S) (m : Chart) (store : Held S) : Type 0 where
   pub shows : does_show g store
   pub idle : store.in_transaction ≡ false
-  pub wrote : IsOldStore m (state g store).now
+  pub now : Such (state g store).now
+  pub left : (trees : Trees) → (state g store).may_leave trees → AreOf Such trees
 
--- tables of version 1 or of version 2, to be opened, that say this state
-abbrev pub AreHeld : Chart → Trees → State → Type 0
-AreHeld m db s = (WereStored m db × (old_said_by m db ≡ s)) ⊎ (AreStored m db × (said_by m db ≡ s))
+-- it holds this state, in tables of this version
+abbrev pub Holds : {S : Type 0} → Ghosts S → Chart → State → Held S → Type 0
+Holds g m s store = HasOnly g (IsStoreOf m s) store
 
--- a crash leaves such tables
-abbrev pub MayRenew : {S : Type 0} → Ghosts S → Chart → Held S → State → Type 0
-MayRenew g m new s = (db : Trees) → (state g new).may_leave db → AreHeld m db s
-
--- the store is open, no change of it is under way, and it has such tables
-pub record HoldsEither {S : Type 0} (g : Ghosts S) (m : Chart) (s : State) (store : Held S) : Type 0 where
-  pub shows : does_show g store
-  pub idle : store.in_transaction ≡ false
-  pub has : (IsOldStore m (state g store).now × (old_said_by m (state g store).now.trees ≡ s)) ⊎ (IsStore m (state g store).now × (said_by m (state g store).now.trees ≡ s))
-  pub only : MayRenew g m store s
-
--- how a store of version 1 ends that isn't opened: a crash leaves such tables; where it shows what it keeps still, it has them; and it does, or there was this fault of
+-- how what is done over a store ends: a crash leaves such a database, or one that says more; where
+-- the store shows what it keeps still, it has such a one; and it does, or there was this fault of
 -- the disk
-pub record OldEnds {S : Type 0} (g : Ghosts S) (m : Chart) (Fault : Type 0) (new : Held S) (s : State) : Type 0 where
-  pub left : MayRenew g m new s
-  pub shown : does_show g new → HoldsEither g m s new
-  pub goes : HoldsEither g m s new ⊎ Fault
+pub record EndsSo {S : Type 0} (g : Ghosts S) (m : Chart) (Fault : Type 0) (new : Held S)
+    (Such : Database → Type 0) (More : State → Type 0) : Type 0 where
+  pub left : (trees : Trees) → (state g new).may_leave trees
+      → AreOf Such trees ⊎ (AreStored m trees × More (said_by m trees))
+  pub shown : does_show g new → HasOnly g Such new
+  pub goes : HasOnly g Such new ⊎ Fault
+
+-- it ends in a state
+abbrev pub StoreEnds : {S : Type 0} → Ghosts S → Chart → Type 0 → Held S → State → (State → Type 0)
+    → Type 0
+StoreEnds g m Fault new s More = EndsSo g m Fault new (IsStoreOf m s) More
+
+-- it isn't opened: it has what it had, or, renewed, a database of this version that says the same
+abbrev pub StaysShut : {S : Type 0} → Ghosts S → Chart → Type 0 → Held S → State
+    → (Database → Type 0) → Type 0
+StaysShut g m Fault new s Was = EndsSo g m Fault new (IsSameOrRenewed m s Was) (λ _. ⊥)
+
+-- the database is the one that the store has
+abbrev pub IsNowOf : {S : Type 0} → Ghosts S → Held S → Database → Type 0
+IsNowOf g store db = db ≡ (state g store).now
 
 -- the keeper has told of no fault, says this state, and a crash leaves this state alone, to be opened again
 pub record Opens {S : Type 0} (g : Ghosts S) (m : Chart) (s : State) (k : SqlKeeper S) : Type 0 where
@@ -87,60 +97,62 @@ abbrev pub MayFound : {S : Type 0} → Ghosts S → Tables → Held S → Held S
 MayFound g t old new = is_honest g new → (db : Trees) → (state g new).may_leave db
     → (state g old).may_leave db ⊎ Founds t (state g old) db
 
--- how a store of version 1 is opened, which becomes one of version 2
-pub record OpensOldStore {S : Type 0} (g : Ghosts S) (m : Chart) (text : List ℕ) (store : Held S)
-    (result : Result (SqlKeeper S) (StoreFault × Held S)) : Type 0 where
-  pub opened : IfOk result (λ k. is_honest g k.conn → WasKept g store → IsOldStore m (state g store).now → Opens g m (old_said_by m (state g store).now.trees) k)
-  pub told : IfOk result (λ k. (book g).faults k ≡ 0)
-  pub says : IfOk result (λ k. is_honest g k.conn → WasKept g store → DeskSays 1 (sha256 text) (old_tables_in g store))
-  pub known : IfOk result (λ k. is_honest g k.conn → HasOldTables (state g store).now.schema)
-  pub known_first : IfErr result (λ e. is_honest g e.1 → e.0 ≡ faults.OtherMap → HasOldTables (state g store).now.schema)
-  pub refused : IfErr result (λ e. is_honest g e.1 → WasKept g store → does_show g store → WereOurs m (old_tables_in g store) → IsRefusedAs 1 (sha256 text) (find is_first (old_tables_in g store).desk) e.0)
-  -- the disk is told of only where the store told of a fault of it, but for a store that is made anew
-  pub caused : IfErr result (λ e. is_honest g e.1 → does_show g store → e.0 ≡ faults.Disk → has_faulted g store e.1 ⊎ HasOldTables (state g store).now.schema)
-  -- there a row may also be too long to be stored, or without a number
-  pub caused_of_ours : IfErr result (λ e. is_honest g e.1 → WasKept g store → does_show g store → WereOurs m (old_tables_in g store) → e.0 ≡ faults.Disk → has_faulted g store e.1 ⊎ IsTooFullFor (sha256 text) (state g store).now.trees)
-  pub same : IfErr result (λ e. does_show g e.1 → WasKept g store → (state g e.1).committed ≡ (state g store).committed)
-  pub left : IfErr result (λ e. is_honest g e.1 → WasKept g store → IsOldDesk g m store → MayRenew g m e.1 (old_said_by m (state g store).now.trees))
-  pub still : IfErr result (λ e. does_show g e.1 → WasKept g store → (state g e.1).now ≡ (state g store).now)
-  pub idle : IfErr result (λ e. e.1.in_transaction ≡ false)
-  pub shown : IfOk result (λ k. is_honest g k.conn → does_show g store)
-  pub shown_still : IfErr result (λ e. does_show g e.1 → does_show g store)
-  pub fair : IfOk result (λ k. is_honest g k.conn → is_honest g store)
-  pub fair_still : IfErr result (λ e. is_honest g e.1 → is_honest g store)
-  pub counted : IfOk result (λ k. (state g store).faults ≤ (state g k.conn).faults)
-  pub closes : IfErr result (λ e. is_honest g e.1 → does_show g store → does_show g e.1 ⊎ has_faulted g store e.1)
+-- a store that can be read from: no change of it is under way, so all of it is committed, and
+-- statements have no limit
+pub record IsSettled {S : Type 0} (g : Ghosts S) (store : Held S) : Type 0 where
+  pub idle : store.in_transaction ≡ false
+  pub settled : IsTrue (state g store).is_open → (state g store).now ≡ (state g store).committed
+  pub unlimited : store.step_limit ≡ None
 
--- how a store is opened
+-- the master's row of a database that keepers wrote is of the version of its tables, and says this
+-- map
+pub record IsMadeFor (m : Chart) (map_sum : List ℕ) (db : Database) : Type 0 where
+  pub new : IsStore m db → DeskSays 2 map_sum (tables_of db.trees)
+  pub old : IsOldStore m db → DeskSays 1 map_sum (old_tables_of db.trees)
+
+-- the fault is none of another map, nor of another version, but where that row says so
+pub record IsRefusedBy (m : Chart) (map_sum : List ℕ) (db : Database) (fault : StoreFault)
+    : Type 0 where
+  pub new : IsStore m db → IsRefused map_sum (find is_first (tables_of db.trees).desk) fault
+  pub old : IsOldStore m db
+      → IsRefusedAs 1 map_sum (find is_first (old_tables_of db.trees).desk) fault
+
+-- the store as it is handed back
+abbrev pub store_in : {S : Type 0} → Result (SqlKeeper S) (StoreFault × Held S) → Held S
+store_in (Ok k) = k.conn
+store_in (Err e) = e.1
+
+-- the answer tells of the store's map: it is opened, or has another one
+abbrev pub TellsOfMap : {S : Type 0} → Result (SqlKeeper S) (StoreFault × Held S) → Type 0
+TellsOfMap (Ok k) = Unit {0}
+TellsOfMap (Err e) = e.0 ≡ faults.OtherMap
+
+-- how a store is opened, of whatever version
 pub record OpensStore {S : Type 0} (g : Ghosts S) (m : Chart) (text : List ℕ) (store : Held S)
     (result : Result (SqlKeeper S) (StoreFault × Held S)) : Type 0 where
-  pub opened : IfOk result (λ k. is_honest g k.conn → IsStore m (state g store).now → Opens g m (said_by m (state g store).now.trees) k)
+  pub opened : IfOk result (λ k. is_honest g k.conn → (s : State)
+      → Says m s (state g store).now → Opens g m s k)
   pub told : IfOk result (λ k. (book g).faults k ≡ 0)
-  pub says : IfOk result (λ k. is_honest g k.conn → IsStore m (state g store).now → DeskSays 2 (sha256 text) (tables_in g store))
-  pub known : IfOk result (λ k. is_honest g k.conn → HasOurTables (state g store).now.schema ⊎ HasOldTables (state g store).now.schema)
-  pub known_first : IfErr result (λ e. is_honest g e.1 → e.0 ≡ faults.OtherMap → HasOurTables (state g store).now.schema ⊎ HasOldTables (state g store).now.schema)
-  pub refused : IfErr result (λ e. is_honest g e.1 → IsStore m (state g store).now → IsRefused (sha256 text) (find is_first (tables_in g store).desk) e.0)
-  pub own : IfErr result (λ e. is_honest g e.1 → IsStore m (state g store).now → DeskSays 2 (sha256 text) (tables_in g store) → IsOutage e.0)
-  -- whatever a store has, the disk is told of only where a transaction was under way, or the store told of a fault of it, or it has tables of version 1 that no keeper of that version wrote, or that can't be made anew
-  pub caused : IfErr result (λ e. is_honest g e.1 → does_show g store → e.0 ≡ faults.Disk → IsTrue store.in_transaction ⊎ (has_faulted g store e.1 ⊎ IsLeftOld m (sha256 text) (state g store).now))
-  pub same : IfErr result (λ e. does_show g e.1 → IsStore m (state g store).now → (state g e.1).committed ≡ (state g store).committed)
-  pub fair : IfOk result (λ k. is_honest g k.conn → is_honest g store)
-  pub fair_still : IfErr result (λ e. is_honest g e.1 → is_honest g store)
-  pub counted : IfOk result (λ k. (state g store).faults ≤ (state g k.conn).faults)
-  -- a store of version 1 is opened as one of version 2 that says the same
-  pub renewed : IfOk result (λ k. is_honest g k.conn → IsOldStore m (state g store).now → Opens g m (old_said_by m (state g store).now.trees) k)
-  pub old_says : IfOk result (λ k. is_honest g k.conn → IsOldStore m (state g store).now → DeskSays 1 (sha256 text) (old_tables_in g store))
-  pub old_refused : IfErr result (λ e. is_honest g e.1 → IsOldDesk g m store → IsRefusedAs 1 (sha256 text) (find is_first (old_tables_in g store).desk) e.0)
-  pub old_own : IfErr result (λ e. is_honest g e.1 → IsOldDesk g m store → DeskSays 1 (sha256 text) (old_tables_in g store) → IsOutage e.0)
-  -- of a desk of version 1 the disk is told of only where the store told of a fault of it, or where its master's row let it be made anew, and one of the rows that this writes is too long to be stored, or without a number
-  pub old_caused : IfErr result (λ e. is_honest g e.1 → IsOldDesk g m store → e.0 ≡ faults.Disk → has_faulted g store e.1 ⊎ IsTooFullFor (sha256 text) (state g store).now.trees)
-  -- so of one whose texts are short it is told only where the store told of a fault
-  pub old_short : IfErr result (λ e. is_honest g e.1 → IsOldDesk g m store → AreShort (state g store).now.trees → e.0 ≡ faults.Disk → has_faulted g store e.1)
-  pub old_same : IfErr result (λ e. does_show g e.1 → IsOldStore m (state g store).now → (state g e.1).committed ≡ (state g store).committed)
-  -- of one that isn't opened a crash leaves the tables of version 1, or those of version 2 that say the same, whole
-  pub old_ends : IfErr result (λ e. is_honest g e.1 → IsOldDesk g m store → OldEnds g m (has_faulted g store e.1) e.1 (old_said_by m (state g store).now.trees))
-  -- a store that isn't opened holds what it held, or told of a fault of the disk
-  pub ends : IfErr result (λ e. is_honest g e.1 → IsDesk g m store → StoreEnds g m (has_faulted g store e.1) e.1 (said_by m (state g store).now.trees) (λ _. ⊥))
+  pub made : IfOk result (λ k. is_honest g k.conn
+      → IsMadeFor m (sha256 text) (state g store).now)
+  pub known : is_honest g (store_in result) → TellsOfMap result
+      → HasOurTables (state g store).now.schema ⊎ HasOldTables (state g store).now.schema
+  pub refused : IfErr result (λ e. is_honest g e.1
+      → IsRefusedBy m (sha256 text) (state g store).now e.0)
+  pub own : IfErr result (λ e. is_honest g e.1 → (s : State) → Says m s (state g store).now
+      → IsMadeFor m (sha256 text) (state g store).now → IsOutage e.0)
+  -- whatever a store has, the disk is told of only where a transaction was under way, or the store
+  -- told of a fault of it, or it has tables of version 1 that no keeper of that version wrote, or
+  -- that can't be made anew
+  pub caused : IfErr result (λ e. is_honest g e.1 → does_show g store → e.0 ≡ faults.Disk
+      → IsTrue store.in_transaction ⊎ (has_faulted g store e.1
+      ⊎ IsLeftOld m (sha256 text) (state g store).now))
+  pub same : IfErr result (λ e. does_show g e.1 → (s : State) → Says m s (state g store).now
+      → (state g e.1).committed ≡ (state g store).committed)
+  pub ends : IfErr result (λ e. is_honest g e.1 → (s : State) → IsDesk g m s store
+      → StaysShut g m (has_faulted g store e.1) e.1 s (IsNowOf g store))
+  pub fair : is_honest g (store_in result) → is_honest g store
+  pub counted : (state g store).faults ≤ (state g (store_in result)).faults
 
 -- how a desk's tables are made in a store, whose text is this map's and whose master's digest is this one
 pub record MakesStore {S : Type 0} (g : Ghosts S) (m : Chart) (text digest : List ℕ) (store : Held S)
@@ -153,7 +165,5 @@ pub record MakesStore {S : Type 0} (g : Ghosts S) (m : Chart) (text digest : Lis
   -- the disk is told of only where a transaction was under way, or the store told of a fault of it
   pub caused : IfErr result (λ e. is_honest g e.1 → does_show g store → e.0 ≡ faults.Disk → IsTrue store.in_transaction ⊎ has_faulted g store e.1)
   pub same : IfErr result (λ e. does_show g e.1 → (state g e.1).committed ≡ (state g store).committed)
-  pub fair : IfOk result (λ k. is_honest g k.conn → is_honest g store)
-  pub fair_still : IfErr result (λ e. is_honest g e.1 → is_honest g store)
-  pub crash : IfOk result (λ k. MayFound g (new_tables (sha256 text) digest) store k.conn)
-  pub crash_still : IfErr result (λ e. MayFound g (new_tables (sha256 text) digest) store e.1)
+  pub fair : is_honest g (store_in result) → is_honest g store
+  pub crash : MayFound g (new_tables (sha256 text) digest) store (store_in result)

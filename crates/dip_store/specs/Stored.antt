@@ -51,6 +51,10 @@ pub record IsStore (m : Chart) (db : Database) : Type 0 where
   pub counted : AreCounted (tables_of db.trees)
   pub ours : AreOurs m (tables_of db.trees)
 
+-- such a database, whose rows say this state
+abbrev pub IsStoreOf : Chart → State → Database → Type 0
+IsStoreOf m s db = IsStore m db × (said_by m db.trees ≡ s)
+
 -- the trees are those of such a database
 abbrev pub AreStored : Chart → Trees → Type 0
 AreStored m trees = (db : Database) × (db.trees ≡ trees) × IsStore m db

@@ -1,22 +1,10 @@
 //! A keeper over a store that is made, or opened.
-ghost use Rattle.std.specs.Prelude.{◌≡◌, ◌≤◌, ◌⊎◌, [], IfErr, IfOk, IsTrue, None, false};
-ghost use Rattle.std.specs.List.{find};
-ghost use Rattle.sha2.specs.Sha256.{sha256};
+ghost use Rattle.std.specs.Prelude.{◌≡◌, codes, false, IsTrue, true};
 ghost use Rattle.sqlite.specs.Held.{state};
 ghost use Rattle.sqlite.specs.Tree.{Trees};
-ghost use Rattle.dip_store_sql.specs.Creating.{no_schema};
-ghost use Rattle.dip_store_schema.specs.Desk.{DeskSays};
-ghost use Rattle.dip_store_schema.specs.Known.{HasOldTables, HasOurTables};
-ghost use Rattle.dip_store_sql.specs.Calls.{does_show, is_honest, tables_in};
-ghost use Rattle.dip_store_sql.specs.Causes.{has_faulted};
-ghost use Rattle.dip_store_sql.specs.TablesAfter.{is_first};
-ghost use Rattle.dip_store_sql.specs.Calls.{WasKept, old_tables_in};
-ghost use Rattle.dip_store_tables.specs.Renewing.{WereOurs};
-ghost use Rattle.dip_store.specs.Opening.{MakesStore, OpensOldStore, OpensStore};
-ghost use Rattle.dip_store_schema.specs.Renewing.{AreShort, IsLeftOld, IsOldStore, IsTooFullFor, old_said_by};
-ghost use Rattle.dip_store_schema.specs.Refusing.{IsOutage, IsRefused, IsRefusedAs};
-ghost use Rattle.dip_store.specs.Stored.{IsStore, book, fresh_keeper, said_by};
-ghost use Rattle.dip_store_tables.specs.Writing.{new_tables};
+ghost use Rattle.dip_store_schema.specs.Known.{has_table};
+ghost use Rattle.dip_store.specs.Opening.{IsSettled, MakesStore, OpensStore};
+ghost use Rattle.dip_store.specs.Stored.{fresh_keeper};
 
 use crate::keeper::SqlKeeper;
 use dip_letters::sum;
@@ -97,8 +85,9 @@ impl<S: Alter> SqlKeeper<S> {
         map: &Map,
         map_text: &str,
     ) -> Result<SqlKeeper<S>, (StoreFault, Connection<S>)>
-        requires { store.in_transaction ≡ false }
-        ensures { OpensOldStore S.Store map.now map_text.now store result }
+        requires ready { IsSettled S.Store store }
+        requires none { has_table (codes "ballot") (state S.Store store).now.schema ≡ false }
+        ensures { OpensStore S.Store map.now map_text.now store result }
     {
         old_tables_are_renewed();
         let mut conn = store;
@@ -115,15 +104,40 @@ impl<S: Alter> SqlKeeper<S> {
         }
     }
 
-    /// Opens a store in which `create` has made a desk's tables with this map's text. One of version 1 is made one of version 2 first,
-    /// in one transaction: its votes become ballots, and all else stays.
+    /// Opens a store that isn't of version 1.
+    fn open_new(
+        alloc: Global,
+        store: Connection<S>,
+        map: &Map,
+        map_text: &str,
+    ) -> Result<SqlKeeper<S>, (StoreFault, Connection<S>)>
+        requires ready { IsSettled S.Store store }
+        requires ballots { has_table (codes "ballot") (state S.Store store).now.schema ≡ true }
+        ensures { OpensStore S.Store map.now map_text.now store result }
+    {
+        let mut conn = store;
+        commits_last(&conn);
+        match check_desk(&mut conn, map_text) {
+            Ok(()) => {
+                commits_last(&conn);
+                Ok(SqlKeeper::over(alloc, conn))
+            }
+            Err(fault) => Err((fault, conn)),
+        }
+    }
+
+    /// Opens a store in which `create` has made a desk's tables with this map's text. One of
+    /// version 1 is made one of version 2 first, in one transaction: its votes become ballots, and
+    /// all else stays.
     ///
     /// # Errors
-    /// `OtherSchema` where a table isn't there, or the master's row isn't, doesn't read or is of another version; `OtherMap` where that
-    /// row says another map. Of a store that keepers wrote these are told nowhere else. `Memory`; `Disk` also for a store with a
-    /// transaction under way, and else only where the store told of a fault of the disk, or its tables of version 1 can't be made anew:
-    /// no keeper of that version wrote them, or one of the rows that are written is past 10^9 bytes, or without a number of 64 bits.
-    /// The store is handed back, and nothing of it changes.
+    /// `OtherSchema` where a table isn't there, or the master's row isn't, doesn't read or is of
+    /// another version; `OtherMap` where that row says another map. Of a store that keepers wrote
+    /// these are told nowhere else. `Memory`; `Disk` also for a store with a transaction under way,
+    /// and else only where the store told of a fault of the disk, or its tables of version 1 can't
+    /// be made anew: no keeper of that version wrote them, or one of the rows that are written is
+    /// past 10^9 bytes, or without a number of 64 bits. The store is handed back with what it had,
+    /// or renewed.
     pub fn open(
         alloc: Global,
         store: Connection<S>,
@@ -140,13 +154,6 @@ impl<S: Alter> SqlKeeper<S> {
         if !has_ballots(&conn) {
             return SqlKeeper::open_old(alloc, conn, map, map_text);
         }
-        commits_last(&conn);
-        match check_desk(&mut conn, map_text) {
-            Ok(()) => {
-                commits_last(&conn);
-                Ok(SqlKeeper::over(alloc, conn))
-            }
-            Err(fault) => Err((fault, conn)),
-        }
+        SqlKeeper::open_new(alloc, conn, map, map_text)
     }
 }

@@ -1,4 +1,5 @@
 pub mod Alone
+pub mod Checking
 pub mod Desk
 pub mod Faults
 pub mod Founding

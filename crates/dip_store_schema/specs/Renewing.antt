@@ -97,9 +97,11 @@ pub record AreShort (db : Trees) : Type 0 where
   pub few_games : length (old_tables_of db).games < 2 ^ 63
   pub few_seats : length (old_tables_of db).seats < 2 ^ 63
 
--- the master's row is of version 1 and says this map, and they can't be made anew
-abbrev pub IsTooFullFor : List ℕ → Trees → Type 0
-IsTooFullFor map_sum db = DeskSays 1 map_sum (old_tables_of db) × Outgrows db
+-- the master's row is of version 1 and says this map, and they can't be made anew; so they aren't short
+pub record IsTooFullFor (map_sum : List ℕ) (db : Trees) : Type 0 where
+  pub says : DeskSays 1 map_sum (old_tables_of db)
+  pub outgrows : Outgrows db
+  pub long : AreShort db → ⊥
 
 -- tables of version 1 that aren't made anew for a reason of their own: no keeper of that version wrote them, or they can't be
 abbrev pub IsLeftOld : Chart → List ℕ → Database → Type 0

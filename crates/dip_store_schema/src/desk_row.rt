@@ -1,17 +1,15 @@
 //! The master's row, as one who opens the store reads it.
-ghost use Rattle.std.specs.Prelude.{◌≡◌, ◌<◌, ◌^◌, ℕ, IfErr, IfOk, IfSome, List, length, option_map, pos};
-ghost use Rattle.std.specs.List.{find};
+ghost use Rattle.std.specs.Prelude.{◌≡◌, ◌<◌, ◌^◌, ℕ, IfErr, IfOk, List, length, pos};
 ghost use Rattle.sqlite.specs.declared.types.Value.TheVariants.{Int, Blob as Bytes};
 ghost use Rattle.sqlite.specs.Order.{bytes, column};
-ghost use Rattle.dip_map.specs.Charts.{Chart};
-ghost use Rattle.dip_store_schema.specs.Desk.{IsMarked, columns_of, shown_columns};
+ghost use Rattle.dip_store_schema.specs.Checking.{ReadsDesk};
+ghost use Rattle.dip_store_schema.specs.Desk.{IsMarked, shown_columns};
 ghost use Rattle.dip_store_schema.specs.Faults.{IsLookBlamed};
 ghost use Rattle.dip_store_sql.specs.Refusals.{IsBlamed};
 ghost use Rattle.dip_store_looks.specs.Faults.{IsFromOutside};
 ghost use Rattle.dip_store_tables.specs.Legible.{AreOurs};
-ghost use Rattle.dip_store_sql.specs.Calls.{IsKept, Selects, SelectsFrom, WasKept, does_show, is_honest, old_tables_in, tables_in};
+ghost use Rattle.dip_store_sql.specs.Calls.{IsKept, WasKept, does_show, is_honest, old_tables_in, tables_in};
 ghost use Rattle.dip_store_sql.specs.Showing.{show_desk};
-ghost use Rattle.dip_store_sql.specs.TablesAfter.{is_first};
 ghost use Rattle.dip_store_sql.specs.Causes.{IsCaused, has_faulted};
 ghost use Rattle.dip_store_tables.specs.Renewing.{WereOurs};
 ghost use Rattle.dip_store_tables.specs.Tables.{DeskRow};
@@ -83,24 +81,13 @@ fn columns_in(row: &Row) -> Result<DeskColumns, LookFault>
 /// # Errors
 /// Want of memory, the database's own, or a column that no keeper writes.
 pub fn read_desk<S: Alter>(conn: &mut Connection<S>) -> Result<Option<DeskColumns>, LookFault>
-    ensures value { IsKept S.Store conn.old → is_honest S.Store conn.new → IfOk result (λ o. o
-        ≡ option_map columns_of (find is_first (tables_in S.Store conn.old).desk)) }
-    ensures selects { Selects S.Store conn.old conn.new result }
-    ensures own { IsKept S.Store conn.old → does_show S.Store conn.old → is_honest S.Store conn.new
-        → (m : Chart) → AreOurs m (tables_in S.Store conn.old)
-        → IfSome (find is_first (tables_in S.Store conn.old).desk) IsMarked
-        → IfErr result (IsFromOutside (has_faulted S.Store conn.old conn.new)) }
+    ensures new { ReadsDesk S.Store (IsKept S.Store) AreOurs (tables_in S.Store) conn.old conn.new
+        result }
+    ensures old { ReadsDesk S.Store (WasKept S.Store) WereOurs (old_tables_in S.Store) conn.old
+        conn.new result }
     // Whatever the store has, the disk is told of only where it told of a fault of it.
     ensures blames { does_show S.Store conn.old → is_honest S.Store conn.new
         → IfErr result (IsLookBlamed (has_faulted S.Store conn.old conn.new)) }
-    // And of a store of version 1.
-    ensures old_value { WasKept S.Store conn.old → is_honest S.Store conn.new → IfOk result (λ o. o
-        ≡ option_map columns_of (find is_first (old_tables_in S.Store conn.old).desk)) }
-    ensures old_selects { SelectsFrom (WasKept S.Store) S.Store conn.old conn.new result }
-    ensures old_own { WasKept S.Store conn.old → does_show S.Store conn.old
-        → is_honest S.Store conn.new → (m : Chart) → WereOurs m (old_tables_in S.Store conn.old)
-        → IfSome (find is_first (old_tables_in S.Store conn.old).desk) IsMarked
-        → IfErr result (IsFromOutside (has_faulted S.Store conn.old conn.new)) }
 {
     let Some(row) = find_desk(conn)? else {
         return Ok(None);

@@ -6,7 +6,8 @@ ghost use Rattle.sqlite.specs.State.{HasCleanDisk, IsLive};
 ghost use Rattle.dip_store_sql.specs.Creating.{no_schema};
 ghost use Rattle.dip_store_sql.specs.Schema.{our_schema};
 ghost use Rattle.dip_store_sql.specs.Causes.{IsCaused, has_faulted};
-ghost use Rattle.dip_store_sql.specs.Calls.{Selects, SelectsFrom, WasKept};
+ghost use Rattle.dip_store_sql.specs.Calls.{IsKept, WasKept};
+ghost use Rattle.dip_store_schema.specs.Checking.{Knows};
 ghost use Rattle.dip_store_schema.specs.Alone.{LeavesAlone};
 ghost use Rattle.dip_store_sql.specs.Old.{old_schema};
 ghost use Rattle.dip_store_schema.specs.Known as told;
@@ -85,17 +86,7 @@ fn knows_each<S: Alter>(conn: &mut Connection<S>, texts: &[&str]) -> Result<bool
 /// # Errors
 /// Want of memory, or a fault of the disk.
 pub(crate) fn knows_old<S: Alter>(conn: &mut Connection<S>) -> Result<bool, Error>
-    ensures answer { HasCleanDisk (state S.Store conn.new) → IfOk result (λ b.
-        IsTrue b ↔ HasOldTables (state S.Store conn.old).now.schema) }
-    ensures old { HasCleanDisk (state S.Store conn.new)
-        → (state S.Store conn.old).now.schema ≡ old_schema → IfOk result IsTrue }
-    ensures selects { SelectsFrom (WasKept S.Store) S.Store conn.old conn.new result }
-    ensures alone { LeavesAlone S.Store conn.old conn.new result }
-    ensures shown { HasCleanDisk (state S.Store conn.new)
-        → OnOk result (IsTrue (state S.Store conn.new).is_open) }
-    ensures outside { HasCleanDisk (state S.Store conn.new)
-        → IsTrue (state S.Store conn.old).is_open
-        → IfErr result (IsCaused (has_faulted S.Store conn.old conn.new)) }
+    ensures { Knows S.Store HasOldTables old_schema (WasKept S.Store) conn.old conn.new result }
 {
     let old_texts = [
         "SELECT version, map, digest, last, kept, reply FROM desk WHERE id = 1",
@@ -125,17 +116,7 @@ pub fn has_ballots<S: Alter>(conn: &Connection<S>) -> bool
 /// # Errors
 /// Want of memory, or a fault of the disk.
 pub fn knows_all<S: Alter>(conn: &mut Connection<S>) -> Result<bool, Error>
-    ensures answer { HasCleanDisk (state S.Store conn.new) → IfOk result (λ b.
-        IsTrue b ↔ HasOurTables (state S.Store conn.old).now.schema) }
-    ensures ours { HasCleanDisk (state S.Store conn.new)
-        → (state S.Store conn.old).now.schema ≡ our_schema → IfOk result IsTrue }
-    ensures selects { Selects S.Store conn.old conn.new result }
-    ensures alone { LeavesAlone S.Store conn.old conn.new result }
-    ensures shown { HasCleanDisk (state S.Store conn.new)
-        → OnOk result (IsTrue (state S.Store conn.new).is_open) }
-    ensures outside { HasCleanDisk (state S.Store conn.new)
-        → IsTrue (state S.Store conn.old).is_open
-        → IfErr result (IsCaused (has_faulted S.Store conn.old conn.new)) }
+    ensures { Knows S.Store HasOurTables our_schema (IsKept S.Store) conn.old conn.new result }
 {
     let texts = [
         "SELECT version, map, digest, last, kept, reply FROM desk WHERE id = 1",

@@ -1,16 +1,18 @@
 -- What the calls of statements leave.
-use Rattle.std.specs.Prelude.{◌≡◌, ◌≤◌, ◌⊎◌, false, IsTrue, None, Result, OnOk}
+use Rattle.std.specs.Prelude.{◌≡◌, ◌≤◌, ◌⊎◌, false, IfErr, IfOk, IsTrue, None, OnOk, Option, Result}
 use Rattle.sqlite.specs.Tree.{Trees}
 use Rattle.sqlite.specs.Effect.{Database}
 use Rattle.sqlite.specs.Store.{Ghosts}
 use Rattle.sqlite.specs.Held.{Held, state}
+use Rattle.sqlite.specs.Order.{Row}
 use Rattle.sqlite.specs.State.{State, HasCleanDisk, Survives, KeepsCommit}
+use Rattle.sqlite.specs.declared.error.Error.{Error}
 use Rattle.dip_store_tables.specs.Tables.{Tables}
 use Rattle.dip_store_tables.specs.Counting.{AreCounted}
 use Rattle.dip_store_sql.specs.Rows.{tables_of}
 use Rattle.dip_store_sql.specs.Good.{IsGood}
 use Rattle.dip_store_sql.specs.Old.{WasGood, old_tables_of}
-use Rattle.dip_store_sql.specs.Causes.{has_faulted}
+use Rattle.dip_store_sql.specs.Causes.{IsCaused, has_faulted}
 
 -- the tables become these, and a transaction goes on
 pub record Turns (f : Tables → Tables) (old new : State) : Type 0 where
@@ -83,3 +85,13 @@ pub record SelectsFrom {S X E : Type 0} (Kept : Held S → Type 0) (g : Ghosts S
 -- what a keeper has written
 abbrev pub Selects : {S X E : Type 0} → Ghosts S → Held S → Held S → Result X E → Type 0
 Selects {S} {X} {E} g old new r = SelectsFrom {S = S} {X = X} {E = E} (IsKept g) g old new r
+
+-- how a row is found, in tables that are kept so: the call fails for want of memory, or by the disk
+-- where the store told of a fault of it
+pub record FindsRow {S : Type 0} (g : Ghosts S) (Kept : Held S → Type 0)
+    (row : Held S → Option Row) (old new : Held S) (result : Result (Option Row) Error)
+    : Type 0 where
+  pub value : Kept old → is_honest g new → IfOk result (λ o. o ≡ row old)
+  pub selects : SelectsFrom Kept g old new result
+  pub caused : Kept old → does_show g old → is_honest g new
+      → IfErr result (IsCaused (has_faulted g old new))

@@ -2,7 +2,7 @@
 ghost use Rattle.std.specs.Prelude.{◌≡◌, IfErr, IfOk, option_map};
 ghost use Rattle.std.specs.List.{find};
 ghost use Rattle.dip_store_tables.specs.Tables.{is_ballot, is_choice_in, is_named, is_seat};
-ghost use Rattle.dip_store_sql.specs.Calls.{IsKept, Selects, SelectsFrom, WasKept, does_show, is_honest, old_tables_in, tables_in};
+ghost use Rattle.dip_store_sql.specs.Calls.{FindsRow, IsKept, Selects, WasKept, does_show, is_honest, old_tables_in, tables_in};
 ghost use Rattle.dip_store_sql.specs.Causes.{IsCaused, has_faulted};
 ghost use Rattle.dip_store_sql.specs.Refusals.{IsBlamed};
 ghost use Rattle.dip_store_sql.specs.Showing.{is_item, is_numbered, show_ballot, show_choice, show_desk, show_game, show_item, show_paper, show_seat};
@@ -13,18 +13,12 @@ use sqlite::{Alter, Connection, Error, Row, params};
 
 /// The master's row; a store of version 1 has it too.
 pub fn find_desk<S: Alter>(conn: &mut Connection<S>) -> Result<Option<Row>, Error>
-    ensures value { IsKept S.Store conn.old → is_honest S.Store conn.new → IfOk result (λ o. o
-        ≡ option_map show_desk (find is_first (tables_in S.Store conn.old).desk)) }
-    ensures selects { Selects S.Store conn.old conn.new result }
-    ensures caused { IsKept S.Store conn.old → does_show S.Store conn.old
-        → is_honest S.Store conn.new
-        → IfErr result (IsCaused (has_faulted S.Store conn.old conn.new)) }
-    ensures old_value { WasKept S.Store conn.old → is_honest S.Store conn.new → IfOk result (λ o. o
-        ≡ option_map show_desk (find is_first (old_tables_in S.Store conn.old).desk)) }
-    ensures old_selects { SelectsFrom (WasKept S.Store) S.Store conn.old conn.new result }
-    ensures old_caused { WasKept S.Store conn.old → does_show S.Store conn.old
-        → is_honest S.Store conn.new
-        → IfErr result (IsCaused (has_faulted S.Store conn.old conn.new)) }
+    ensures new { FindsRow S.Store (IsKept S.Store)
+        (λ h. option_map show_desk (find is_first (tables_in S.Store h).desk)) conn.old conn.new
+        result }
+    ensures old { FindsRow S.Store (WasKept S.Store)
+        (λ h. option_map show_desk (find is_first (old_tables_in S.Store h).desk)) conn.old conn.new
+        result }
     // Whatever the store has, the disk is told of only where it told of a fault of it.
     ensures blames { does_show S.Store conn.old → is_honest S.Store conn.new
         → IfErr result (IsBlamed (has_faulted S.Store conn.old conn.new)) }

@@ -6,13 +6,15 @@ use Rattle.dip_store_sql.proofs.Fronts as whole
 use Rattle.dip_store_schema.proofs.Ours.{all_known, known_of_ours}
 use Rattle.dip_store_schema.proofs.known.knows_all.Goals as goal
 
-pub returns-clause-ours : goal.returns-clause-ours
-returns-clause-ours g c clean is =
-    all_known c.knows_each.result (HasOurTables c.args.conn.now.schema) (c.knows_each.ensures.answer clean) (known_of_ours c.args.conn.now.schema is)
-
-pub returns-clause-outside : goal.returns-clause-outside
-returns-clause-outside g c clean up =
-    c.knows_each.ensures.outside clean up (whole.find_desk, (whole.find_game, (whole.list_seats, (whole.list_units, (whole.list_centres, (whole.list_orders, (whole.find_item, (whole.find_paper, (whole.find_ballot, (whole.find_choice, tt))))))))))
-
-pub returns-clause-selects : goal.returns-clause-selects
-returns-clause-selects g c = alone_selects g.S.Store (kept_lasts g.S.Store) c.args.conn.now c.knows_each.new.conn c.knows_each.result c.knows_each.ensures.alone (λ clean. c.knows_each.ensures.shown clean (omega arith))
+pub returns : goal.returns
+returns g c =
+    let it = c.knows_each.ensures in
+    record {
+      answer = it.answer;
+      ours = λ clean is. all_known c.knows_each.result (HasOurTables c.args.conn.now.schema) (it.answer clean) (known_of_ours c.args.conn.now.schema is);
+      selects = alone_selects g.S.Store (kept_lasts g.S.Store) c.args.conn.now c.knows_each.new.conn c.knows_each.result it.alone (λ clean. it.shown clean (omega arith));
+      alone = it.alone;
+      shown = λ clean. it.shown clean (omega arith);
+      outside = λ clean up.
+          it.outside clean up (whole.find_desk, (whole.find_game, (whole.list_seats, (whole.list_units, (whole.list_centres, (whole.list_orders, (whole.find_item, (whole.find_paper, (whole.find_ballot, (whole.find_choice, tt))))))))));
+    }

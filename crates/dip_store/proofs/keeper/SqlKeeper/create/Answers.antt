@@ -26,7 +26,6 @@ returns-in-Ok g c = record {
   caused = search rules;
   same = search rules;
   fair = search rules;
-  fair_still = search rules;
   crash =
       let h = c.set_step_limit.new.self in
       let sum : c.sum.result ≡ sha256 c.args.map_text.now = search rules in
@@ -35,7 +34,6 @@ returns-in-Ok g c = record {
       c.set_step_limit.ensures
       (subst (λ (s : List ℕ). (state g.S.Store h).may_leave db ⊎ Founds (new_tables s c.args.digest.now) (state g.S.Store h) db) sum
       (c.in-Ok.ensures.crash.crash clean db may)));
-  crash_still = search rules;
 }
 
 pub returns-in-Err : goal.returns-in-Err
@@ -55,7 +53,5 @@ returns-in-Err g c = record {
       inr (subst (λ (h : Held _). has_faulted g.S.Store h c.set_up_tables.new.conn) c.set_step_limit.ensures (open_blamed _ c.in-Err.error (c.in-Err.ensures.fails new there clean) (sym c.open_fault.ensures ∙ is)));
   same = search rules;
   fair = search rules;
-  fair_still = search rules;
   crash = search rules;
-  crash_still = search rules;
 }

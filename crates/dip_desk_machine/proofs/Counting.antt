@@ -46,12 +46,12 @@ unlike a b less = go (a == b) refl
 
 -- no key is this one
 pub elsewhere_all : {A : Type 0} (key : A → ℕ) (kind : A → Bool) (k : ℕ) (xs : List A) → AllByRecursion (λ q. k < q) (map key xs) → elsewhere key kind k xs ≡ count_by kind xs
-elsewhere_all key kind k [] behind = refl
-elsewhere_all key kind k (x ∷ xs) behind =
-    let other : (key x == k) ≡ false = go (key x == k) refl behind.0 in
+elsewhere_all key kind k [] rest = refl
+elsewhere_all key kind k (x ∷ xs) rest =
+    let other : (key x == k) ≡ false = go (key x == k) refl rest.0 in
     count_cons (λ x. kind x && not (key x == k)) x xs
     ∙ ap (λ (n : ℕ). n + elsewhere key kind k xs) (kind_apart (kind x) (key x == k) other)
-    ∙ ap (λ (n : ℕ). one (kind x) + n) (elsewhere_all key kind k xs behind.1)
+    ∙ ap (λ (n : ℕ). one (kind x) + n) (elsewhere_all key kind k xs rest.1)
     ∙ sym (count_cons kind x xs)
   where
     go : (b : Bool) → (key x == k) ≡ b → k < key x → b ≡ false

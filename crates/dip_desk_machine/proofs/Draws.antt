@@ -4,11 +4,11 @@ use Rattle.std.specs.Prelude.{◌&&◌, ◌↔◌, filter}
 use Rattle.std.specs.List.{AllByRecursion, list_all}
 use Rattle.std.proofs.lemmas.Bool.{and_parts, false≢true}
 use Rattle.dip_map.specs.Charts.{Chart, powers}
-use Rattle.dip_desk_machine.specs.Drawing.{agreed, asked, drawn_between, first_asked, is_set, survives, survivors, vote_of, where_agreed}
+use Rattle.dip_desk_commands.specs.Drawing.{agreed, asked, drawn_between, first_asked, is_set, survives, survivors, vote_of, where_agreed}
 use Rattle.dip_desk_machine.specs.Draws.{AsksFor, Draws, DrawsAreAgreed, IsAgreedOn, IsSurvivor}
 use Rattle.dip_desk_machine.specs.Machine.{OnTime}
-use Rattle.dip_desk_machine.specs.Pressing.{is_among}
-use Rattle.dip_desk_machine.specs.Ticking.{status_after}
+use Rattle.dip_desk_commands.specs.Pressing.{is_among}
+use Rattle.dip_desk_commands.specs.Ticking.{status_after}
 use Rattle.dip_turn.specs.declared.report.Course.{Course}
 use Rattle.dip_turn.specs.declared.report.Course.TheVariants.{GoesOn, Won as WonBy, Ended as AtAnEnd}
 use Rattle.dip_desk_state.proofs.KeyedLemmas.{names_tell}

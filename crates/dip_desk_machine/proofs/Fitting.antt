@@ -26,10 +26,10 @@ use Rattle.dip_desk_machine.specs.Fitting.{EffectsFit, FitsMap, LawfulEffectsFit
 use Rattle.dip_desk_machine.specs.Lawful.{AreAscending}
 use Rattle.dip_desk_machine.specs.Machine.{IsOffMap, IsPublished, IsSpoiledIn, Verdict, NotKnown, Again, OutOfTurn, Taken, page_shown, seat_command, seen_in, verdict_by, verdict_on}
 use Rattle.dip_desk_machine.specs.Mail.{IsMail, Mail}
-use Rattle.dip_desk_machine.specs.Ordering.{Ordered, after_line, after_lines, kept_orders, orders_after, orders_that_stand, outcome_of_lines, prov_of, standing_with}
-use Rattle.dip_desk_machine.specs.Pressing.{readers_of}
+use Rattle.dip_desk_commands.specs.Ordering.{Ordered, after_line, after_lines, kept_orders, orders_after, orders_that_stand, outcome_of_lines, prov_of, standing_with}
+use Rattle.dip_desk_commands.specs.Pressing.{readers_of}
 use Rattle.dip_desk_state.specs.State.{Effect, Game, Nobody, Nothing, Part, Pending, Votes, Delivers, Opens, Publishes, Seats, Seat, TheMaster, game_at, seat_at, whole_of}
-use Rattle.dip_desk_machine.specs.Ticking.{IsPlayable, orders_of, public_played}
+use Rattle.dip_desk_commands.specs.Ticking.{IsPlayable, orders_of, public_played}
 use Rattle.dip_desk_state.specs.Writable.{IsPublicOf}
 use Rattle.dip_desk_machine.proofs.LawfulOrders.{AreRead, all_with_order, with_order_ascending}
 use Rattle.dip_desk_machine.proofs.LawfulStates.{OpensLawful, StaysOf, master_lawful, master_new, master_newer}
@@ -153,9 +153,9 @@ seat_fits m n p (Some x) is ok of read =
 ticked_fits : (m : Chart) (tick : ℕ) (g : Game) (text paper : List ℕ) (public : Public) (played : Bool) → StaysOf m → tick ≤ 999999999999 → IsPlayable m (whole_of g)
     → IsPublicOf m g.public → IsPublished m tick (whole_of g) (Taken text (Publishes public paper played)) → IsPublicOf m public
 ticked_fits m tick g text paper public played stays timely can of p =
-    let behind : public ≡ public_played tick g.public p.board p.report.course = cc in
+    let after_phase : public ≡ public_played tick g.public p.board p.report.course = cc in
     let on = stays g.public.board (orders_of m (whole_of g)) p.board p.report can.board can.given p.played in
-    subst (IsPublicOf m) (sym behind) (of_played m tick g.public p.board p.report.course timely of on.0 on.1)
+    subst (IsPublicOf m) (sym after_phase) (of_played m tick g.public p.board p.report.course timely of on.0 on.1)
 
 -- the master's letters fit, but in a game where its command can't be done
 master_fits : (m : Chart) (command : Request) (game : Option Game) (text : List ℕ) (e : Effect) → FitsRequest command → IsOf m (opening m) → StaysOf m → Comes TheMaster game e → OpensLawful m command (Taken text e)

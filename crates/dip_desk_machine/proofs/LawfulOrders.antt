@@ -18,7 +18,7 @@ use Rattle.dip_orders.specs.declared.placed.Order.TheVariants.{Hold, Move, Suppo
 use Rattle.dip_orders.specs.declared.placed.PlacedOrder.{PlacedOrder}
 use Rattle.dip_desk_state.specs.Records.{Standing}
 use Rattle.dip_desk_machine.specs.Lawful.{AreAscending, AreStanding}
-use Rattle.dip_desk_machine.specs.Ordering.{Ordered, after_line, after_lines, has_foreign, kept_orders, outcome_of_lines, orders_after, prov_of, orders_that_stand, standing_with, with_order}
+use Rattle.dip_desk_commands.specs.Ordering.{Ordered, after_line, after_lines, has_foreign, kept_orders, outcome_of_lines, orders_after, prov_of, orders_that_stand, standing_with, with_order}
 use Rattle.dip_desk_machine.proofs.Counting.{all_both, all_weaker, each_but_itself, elsewhere, elsewhere_all, elsewhere_but_one, elsewhere_few, kind_apart, one, unlike}
 
 -- how orders on a board are read: what is read is lawful, what is lawful is read from its text, and what is read beside others is
@@ -46,9 +46,9 @@ all_with_order P o (p ∷ ps) one all =
     ]
     in go (nat_lt (prov_of p) (prov_of o))
 
-behind_all : (p : ℕ) (o : PlacedOrder) (ps : List PlacedOrder) → p < prov_of o → AllByRecursion (λ q. p < q) (map prov_of ps) → AllByRecursion (λ q. p < q) (map prov_of (with_order o ps))
-behind_all p o [] lt all = (lt, tt)
-behind_all p o (r ∷ rs) lt all = go (nat_lt (prov_of r) (prov_of o)) (behind_all p o rs lt all.1)
+below_all : (p : ℕ) (o : PlacedOrder) (ps : List PlacedOrder) → p < prov_of o → AllByRecursion (λ q. p < q) (map prov_of ps) → AllByRecursion (λ q. p < q) (map prov_of (with_order o ps))
+below_all p o [] lt all = (lt, tt)
+below_all p o (r ∷ rs) lt all = go (nat_lt (prov_of r) (prov_of o)) (below_all p o rs lt all.1)
   where
     here : (b : Bool) → AllByRecursion (λ q. p < q) (map prov_of (cond b (o ∷ rs) (o ∷ r ∷ rs)))
     here true = (lt, all.1)
@@ -59,9 +59,9 @@ behind_all p o (r ∷ rs) lt all = go (nat_lt (prov_of r) (prov_of o)) (behind_a
     go true rest = (all.0, rest)
     go false rest = here (prov_of r == prov_of o)
 
-all_behind : (p q : ℕ) (ps : List ℕ) → p < q → AllByRecursion (λ r. q < r) ps → AllByRecursion (λ r. p < r) ps
-all_behind p q [] lt all = tt
-all_behind p q (r ∷ rs) lt all = let first : q < r = all.0 in (omega (arith, lt, first), all_behind p q rs lt all.1)
+all_above : (p q : ℕ) (ps : List ℕ) → p < q → AllByRecursion (λ r. q < r) ps → AllByRecursion (λ r. p < r) ps
+all_above p q [] lt all = tt
+all_above p q (r ∷ rs) lt all = let first : q < r = all.0 in (omega (arith, lt, first), all_above p q rs lt all.1)
 
 pub with_order_ascending : (o : PlacedOrder) (ps : List PlacedOrder) → AreAscending (map prov_of ps) → AreAscending (map prov_of (with_order o ps))
 with_order_ascending o [] all = (tt, tt)
@@ -72,10 +72,10 @@ with_order_ascending o (r ∷ rs) all = go (nat_lt (prov_of r) (prov_of o)) refl
         (subst (λ (q : ℕ). AllByRecursion (λ (x : ℕ). q < x) (map prov_of rs)) is all.0, all.1)
     here false differ not_less =
         let less : prov_of o < prov_of r = omega (arith, ltb-false (prov_of r) (prov_of o) not_less, eqb-false (prov_of r) (prov_of o) differ) in
-        ((less, all_behind (prov_of o) (prov_of r) (map prov_of rs) less all.0), (all.0, all.1))
+        ((less, all_above (prov_of o) (prov_of r) (map prov_of rs) less all.0), (all.0, all.1))
 
     go : (a : Bool) → nat_lt (prov_of r) (prov_of o) ≡ a → AreAscending (map prov_of (with_order o rs)) → AreAscending (map prov_of (cond a (r ∷ with_order o rs) (cond (prov_of r == prov_of o) (o ∷ rs) (o ∷ r ∷ rs))))
-    go true less rest = (behind_all (prov_of r) o rs (ltb-true (prov_of r) (prov_of o) less) all.0, rest)
+    go true less rest = (below_all (prov_of r) o rs (ltb-true (prov_of r) (prov_of o) less) all.0, rest)
     go false not_less rest = here (prov_of r == prov_of o) refl not_less
 
 -- builds and removals are no more than are due
@@ -160,7 +160,7 @@ with_order_count kind o (p ∷ ps) up = go (nat_lt (prov_of p) (prov_of o)) refl
         omega (arith, head, first, rest)
     here false differ not_less =
         let less : prov_of o < prov_of p = omega (arith, ltb-false (prov_of p) (prov_of o) not_less, eqb-false (prov_of p) (prov_of o) differ) in
-        let rest : elsewhere prov_of kind (prov_of o) ps ≡ count_by kind ps = elsewhere_all prov_of kind (prov_of o) ps (all_behind (prov_of o) (prov_of p) (map prov_of ps) less up.0) in
+        let rest : elsewhere prov_of kind (prov_of o) ps ≡ count_by kind ps = elsewhere_all prov_of kind (prov_of o) ps (all_above (prov_of o) (prov_of p) (map prov_of ps) less up.0) in
         let this : one (kind p && not (prov_of p == prov_of o)) ≡ one (kind p) = kind_apart (kind p) (prov_of p == prov_of o) differ in
         let first = count_cons kind o (p ∷ ps) in
         let next = count_cons kind p ps in
@@ -243,7 +243,7 @@ order_together m b power line o orders read is t =
 -- what is kept of orders that can be given by themselves is read as these orders
 standing_kept : (m : Chart) (b : Position) (power : ℕ) (orders : List PlacedOrder) → AreAscending (map prov_of orders) → AllByRecursion (IsBeside m b power []) orders
     → orders_that_stand m b power (kept_orders m orders) ≡ orders
-standing_kept m b power orders up all = behind_front [] orders up all
+standing_kept m b power orders up all = kept_with_front [] orders up all
   where
     -- an order after all others
     last : (o : PlacedOrder) (ps : List PlacedOrder) → AllByRecursion (λ p. prov_of p < prov_of o) ps → with_order o ps ≡ ps ++ o ∷ []
@@ -258,15 +258,15 @@ standing_kept m b power orders up all = behind_front [] orders up all
     before o [] os up = tt
     before o (f ∷ fs) os up = (among (prov_of f) o fs os up.0, before o fs os up.1)
 
-    behind_front : (front orders : List PlacedOrder) → AreAscending (map prov_of (front ++ orders)) → AllByRecursion (IsBeside m b power []) orders
+    kept_with_front : (front orders : List PlacedOrder) → AreAscending (map prov_of (front ++ orders)) → AllByRecursion (IsBeside m b power []) orders
         → standing_with m b power front (kept_orders m orders) ≡ front ++ orders
-    behind_front front [] up all = sym (append-nil front)
-    behind_front front (o ∷ os) up all =
+    kept_with_front front [] up all = sym (append-nil front)
+    kept_with_front front (o ∷ os) up all =
         let read : order_of m b power [] (order_text m o) ≡ Ok o = all.0 in
         let apart : (front ++ o ∷ []) ++ os ≡ front ++ o ∷ os = append_assoc front (o ∷ []) os in
         ap (λ (r : Result PlacedOrder OrderFault). standing_with m b power (orders_after r front) (kept_orders m os)) read
         ∙ ap (λ (ps : List PlacedOrder). standing_with m b power ps (kept_orders m os)) (last o front (before o front os up))
-        ∙ behind_front (front ++ o ∷ []) os (subst (λ (ps : List PlacedOrder). AreAscending (map prov_of ps)) (sym apart) up) all.1 ∙ apart
+        ∙ kept_with_front (front ++ o ∷ []) os (subst (λ (ps : List PlacedOrder). AreAscending (map prov_of ps)) (sym apart) up) all.1 ∙ apart
 
 own_kept : (m : Chart) (b : Position) (power : ℕ) (orders : List PlacedOrder) → AllByRecursion (IsBeside m b power []) orders → has_foreign m b power (kept_orders m orders) ≡ false
 own_kept m b power [] all = refl

@@ -21,10 +21,10 @@ use Rattle.dip_desk_state.specs.Keyed.{at, change_at}
 use Rattle.dip_desk_machine.specs.Lawful.{AreNamedApart, AreStanding, IsLawful, IsLawfulGame, IsLawfulSeat, StaysLawful, last_number, sent_by_others}
 use Rattle.dip_desk_machine.specs.Machine.{Decides, DecidesIn, change_of, Verdict, MasterDecides, NumberedBy, NotKnown, Again, OutOfTurn, Taken, after, are_complete, author, creation, digest, kept_of, new_seat, new_seats, old_number, with_more, opening_public, page_shown, seat_command, seat_verdict, seen_in, verdict_by, verdict_on}
 use Rattle.dip_desk_machine.specs.Mail.{IsMail, Mail}
-use Rattle.dip_desk_machine.specs.Pressing.{is_among}
+use Rattle.dip_desk_commands.specs.Pressing.{is_among}
 use Rattle.dip_desk_state.specs.State.{State, Game, Part, Author, Nobody, TheMaster, Seat, Change, Effect, Nothing, Pending, Votes, Delivers, Opens, Publishes, Seats, NewSeat, behind_paper, desk_after, fresh, game_after, game_at, name_of, new_games, opening_game, papers_after, power_in, public_after, seat_at, whole_of, with_author, with_digest, with_effect, with_item, with_letter}
 use Rattle.dip_desk_state.specs.Writable.{IsPublicOf, IsStatusOf, IsVoteOf}
-use Rattle.dip_desk_machine.specs.Ticking.{orders_of, public_played, status_after}
+use Rattle.dip_desk_commands.specs.Ticking.{orders_of, public_played, status_after}
 use Rattle.dip_orders.proofs.KeptLaws.{count_cons}
 use Rattle.dip_orders.specs.Given.{AreGiven}
 use Rattle.dip_orders.specs.declared.placed.PlacedOrder.{PlacedOrder}
@@ -692,15 +692,15 @@ lawful_after m fine again stays s n who (Taken text e) is d l = go who e d (deci
         → IsPosted m n.note.command (game_at n.note.game s) (Taken text (Publishes public paper true)) → IsLawful m (after n TheMaster (Taken text (Publishes public paper true)) s)
     playing public paper d by =
         let p = by.4 in
-        let behind : public ≡ public_played by.0 by.1.public p.board p.report.course = cc in
-        let counted : public.papers ≡ by.1.public.papers + 1 = ap (λ (q : Public). q.papers) behind in
+        let after_phase : public ≡ public_played by.0 by.1.public p.board p.report.course = cc in
+        let counted : public.papers ≡ by.1.public.papers + 1 = ap (λ (q : Public). q.papers) after_phase in
         by_master (Publishes public paper true) d refl
         (λ g found lg.
         let same : g ≡ by.1 = found_one by.1 g by.3 found in
         let lh : IsLawfulGame m by.1 = subst (IsLawfulGame m) same lg in
         let timely : by.0 ≤ 999999999999 = subst FitsRequest by.2 is.command in
         let on = stays by.1.public.board (orders_of m (whole_of by.1)) p.board p.report lh.public.board (whole_given m by.1 (again by.1.public.board lh.public.board) lh) p.played in
-        let of : IsPublicOf m public = subst (IsPublicOf m) (sym behind) (of_played m by.0 by.1.public p.board p.report.course timely lh.public on.0 on.1) in
+        let of : IsPublicOf m public = subst (IsPublicOf m) (sym after_phase) (of_played m by.0 by.1.public p.board p.report.course timely lh.public on.0 on.1) in
         game_lawful m (change_of n TheMaster text (Publishes public paper true)) g lg (of_renamed m g.public.game public of) (λ p author part there lp. absurd (none_here p author))
         (reached_played m g.public.board public.board)
         (silent_boxes (change_of n TheMaster text (Publishes public paper true)) g (silent_paper public paper true) lg.boxes)

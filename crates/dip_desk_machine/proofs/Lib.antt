@@ -1,9 +1,4 @@
 pub mod Counting
-pub mod SeatLemmas
-pub mod OrderingLemmas
-pub mod Standing
-pub mod TickingLemmas
-pub mod PressLemmas
 pub mod WritableLemmas
 pub mod VotingLemmas
 pub mod Titles
@@ -11,8 +6,6 @@ pub mod Suiting
 pub mod Titled
 pub mod Seeing
 pub mod Draws
-pub mod Others
-pub mod Stranging
 pub mod ListLemmas
 pub mod LawfulOrders
 pub mod Handing
@@ -20,9 +13,5 @@ pub mod LawfulStates
 pub mod NeverDamaged
 pub mod Fitting
 pub mod Histories
-pub mod Thirds
 pub mod Publishing
-pub mod Intents
 pub mod Once
-pub mod Repeating
-pub mod RepeatingLater

@@ -21,11 +21,11 @@ use Rattle.dip_turn.specs.declared.report.Course.{Course}
 use Rattle.dip_turn.specs.declared.report.Report.{Report}
 use Rattle.dip_turn.specs.declared.report.RetreatLine.{RetreatLine}
 use Rattle.dip_turn.specs.declared.report.Waiver.{Waiver}
-use Rattle.dip_desk_machine.specs.Drawing.{drawn_between}
+use Rattle.dip_desk_commands.specs.Drawing.{drawn_between}
 use Rattle.dip_desk_machine.specs.Machine.{Decides, DecidesIn, DecidesNew, IsPublished, MasterDecides, NumberedBy, OnTime, Taken, Ticks, Verdict, author, old_number, paper_verdict}
 use Rattle.dip_desk_machine.specs.Mail.{Mail}
 use Rattle.dip_desk_state.specs.State.{Game, Nobody, Publishes, Seat, State, TheMaster, game_at, whole_of}
-use Rattle.dip_desk_machine.specs.Ticking.{is_due, is_over, orders_of, public_played}
+use Rattle.dip_desk_commands.specs.Ticking.{is_due, is_over, orders_of, public_played}
 use Rattle.dip_desk_machine.specs.View.{HistoriesAreOne, IsDecidedOnce, IsRun, Turn, left_by}
 
 -- what is told alike has one text
@@ -55,10 +55,10 @@ paper_same m r t p phase account centres =
 published_once : (m : Chart) → PhasesHaveOneResult → (tick : ℕ) (w : Whole) (v u : Verdict) → IsPublished m tick w v → IsPublished m tick w u → v ≡ u
 published_once m one tick w v u p q =
     let same : IsSame p.board q.board p.report q.report = one m w.public.board (orders_of m w) p.board q.board p.report q.report p.played q.played in
-    let behind : public_played tick w.public p.board p.report.course ≡ public_played tick w.public q.board q.report.course =
+    let after_phase : public_played tick w.public p.board p.report.course ≡ public_played tick w.public q.board q.report.course =
     ap (λ (b : Position). public_played tick w.public b p.report.course) same.board ∙ ap (λ (c : Course). public_played tick w.public q.board c) same.course in
     p.verdict
-    ∙ ap (paper_verdict m p.report) behind
+    ∙ ap (paper_verdict m p.report) after_phase
     ∙ retold (public_played tick w.public q.board q.report.course) (paper_same m p.report q.report (public_played tick w.public q.board q.report.course) same.phase same.account same.centres)
     ∙ sym q.verdict
   where

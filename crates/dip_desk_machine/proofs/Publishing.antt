@@ -30,7 +30,7 @@ use Rattle.dip_desk_machine.specs.Machine.{Decides, IsPublished, NotKnown, Taken
 use Rattle.dip_orders.specs.Conditions.{is_movement}
 use Rattle.dip_desk_machine.specs.Published.{AreDecided, IsFair, MovementsAreDecided, TellsMovement, movement_paper, orders_stood}
 use Rattle.dip_desk_state.specs.State.{Author, Game, Nobody, Publishes, Seat, State, TheMaster, game_at, whole_of}
-use Rattle.dip_desk_machine.specs.Ticking.{orders_of, public_played}
+use Rattle.dip_desk_commands.specs.Ticking.{orders_of, public_played}
 use Rattle.dip_desk_machine.specs.View.{IsRun, Turn, author_in, left_by}
 use Rattle.dip_desk_machine.proofs.Histories.{settled}
 use Rattle.dip_desk_machine.proofs.Suiting.{Comes, decides_suits, master_posted}
@@ -59,14 +59,14 @@ told m equations tick g text paper public moves p = by p.report.account refl (mo
     pending : List PlacedOrder
     pending = orders_of m (whole_of g)
 
-    behind : public ≡ public_played tick g.public p.board p.report.course
-    behind = cc
+    after_phase : public ≡ public_played tick g.public p.board p.report.course
+    after_phase = cc
 
     printed : paper ≡ paper_text m p.report (public_played tick g.public p.board p.report.course)
     printed = cc
 
     board : public.board ≡ p.board
-    board = ap (λ (q : Public). q.board) behind
+    board = ap (λ (q : Public). q.board) after_phase
 
     by : (account : Account) → p.report.account ≡ account → LeavesMoved m b pending p.played.left account → TellsMovement m (whole_of g) public paper
     by (OfMovement t) is h =
@@ -83,7 +83,7 @@ told m equations tick g text paper public moves p = by p.report.account refl (mo
         record {
           values = values_in t.resolution;
           decided = decided;
-          text = printed ∙ ap (paper_text m p.report) (sym behind) ∙ paper_of m p.report t public is
+          text = printed ∙ ap (paper_text m p.report) (sym after_phase) ∙ paper_of m p.report t public is
               ∙ ap (λ (phase : Phase). movement_paper m phase t.lines.items p.report.centres.items public) p.played.phase
               ∙ ap (λ (ls : List MovementLine). movement_paper m b.phase ls p.report.centres.items public) lines
               ∙ ap (λ (cs : List CentreLine). movement_paper m b.phase (movement_lines m b (values_in t.resolution) (orders_stood m (whole_of g))) cs public) centres;

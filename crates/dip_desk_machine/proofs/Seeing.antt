@@ -141,13 +141,13 @@ same_game c s =
     ∙ ap (λ (o : Option Game). option_or o (at bytes_eq name_of c.game (new_games c.effect))) (at-change_at_same bytes_eq name_of c.game (game_after c) s.games (name_kept c))
 
 -- the game that a letter names, after it
-pub game_behind : (c : Change) (s : State) (g : Game) → game_at c.game s ≡ Some g → game_at c.game (state_after c s) ≡ Some (game_after c g)
-game_behind c s g found = same_game c s ∙ ap (λ (x : Option Game). option_or (option_map (game_after c) x) (at bytes_eq name_of c.game (new_games c.effect))) found
+pub game_left : (c : Change) (s : State) (g : Game) → game_at c.game s ≡ Some g → game_at c.game (state_after c s) ≡ Some (game_after c g)
+game_left c s g found = same_game c s ∙ ap (λ (x : Option Game). option_or (option_map (game_after c) x) (at bytes_eq name_of c.game (new_games c.effect))) found
 
 -- a seat of it
-pub seat_behind : (c : Change) (g : Game) (power : ℕ)
+pub seat_left : (c : Change) (g : Game) (power : ℕ)
     → seat_at power (game_after c g).seats ≡ option_map (with_effect c.effect) (option_map (author_part c.author c.kept c.effect power) (seat_at power g.seats))
-seat_behind c g power =
+seat_left c g power =
     at-map eqb power_in power (with_effect c.effect) (with_author c.author c.kept c.effect g.seats) (effect_power c.effect)
     ∙ ap (option_map (with_effect c.effect)) (author_found c.author c.kept c.effect power g.seats)
 

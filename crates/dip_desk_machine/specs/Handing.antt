@@ -6,7 +6,7 @@ use Rattle.dip_orders.specs.Given.{AreGiven}
 use Rattle.dip_orders.specs.declared.placed.PlacedOrder.{PlacedOrder}
 use Rattle.dip_desk_machine.specs.Lawful.{IsLawful}
 use Rattle.dip_desk_state.specs.State.{State, whole_of}
-use Rattle.dip_desk_machine.specs.Ticking.{orders_of}
+use Rattle.dip_desk_commands.specs.Ticking.{orders_of}
 
 -- in a lawful state the orders of each game are ones that can be given beside one another on its board
 abbrev pub StandingOrdersAreGiven : Chart → Type 0

@@ -19,6 +19,6 @@ whole_seen None = NoGame
 whole_seen (Some whole) = TheWhole whole
 
 -- whether a power has a seat in it
-abbrev pub seat_seen : Option Bool → Sees
-seat_seen None = NoGame
-seat_seen (Some is_there) = ASeat is_there
+abbrev pub seating_seen : Option Bool → Sees
+seating_seen None = NoGame
+seating_seen (Some is_there) = ASeat is_there

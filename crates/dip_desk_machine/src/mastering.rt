@@ -8,15 +8,14 @@ ghost use Rattle.dip_letters.specs.Views.{notice_request, seat_note, seats_in};
 ghost use Rattle.dip_desk_state.specs.Faults.{faults_after};
 ghost use Rattle.dip_desk_machine.specs.Mail.{mail};
 ghost use Rattle.dip_desk_machine.specs.Machine.{IsDamagedSight, MasterDecidesBy, OfMaster};
-ghost use Rattle.dip_desk_machine.specs.Sights.{game_seen, public_seen, seat_seen, whole_seen};
-ghost use Rattle.dip_desk_machine.specs.Verdicts.{verdict};
+ghost use Rattle.dip_desk_machine.specs.Sights.{game_seen, public_seen, seating_seen, whole_seen};
+ghost use Rattle.dip_desk_commands.specs.Verdicts.{verdict};
 ghost use Rattle.dip_desk_state.specs.Rows as rows;
 
-use crate::creating::creation;
-use crate::noting::notice_verdict;
-use crate::replacing::replacement;
-use crate::ticking::tick_verdict;
-use crate::verdicts::{Verdict, old_number, refusal_verdict};
+use crate::numbers::old_number;
+use dip_desk_commands::{
+    Verdict, creation, notice_verdict, refusal_verdict, replacement, tick_verdict,
+};
 use dip_desk_state::{KeepFault, Kept, Public, Whole};
 use dip_letters::{Letter, Notice, Opening, Seat};
 use dip_map::Map;
@@ -102,7 +101,7 @@ pub fn decide_replace(
 ) -> Result<Verdict, AllocError>
     ensures { IfOk result
         (λ v. MasterDecidesBy map.now (mail letter.now) (option_map rows.kept kept.now)
-        (Master (Replace (seat_note seat.now))) (seat_seen is_seated) (verdict v)) }
+        (Master (Replace (seat_note seat.now))) (seating_seen is_seated) (verdict v)) }
 {
     let Some(is_seated) = is_seated else {
         return Ok(Verdict::NotKnown);

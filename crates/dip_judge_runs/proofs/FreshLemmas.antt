@@ -16,7 +16,7 @@ module _ (m : Chart) (secret : List ℕ) (old new : MemoryKeeper) (known left be
   pub answered : {A E : Type 0} (r : Result A E)
       → OnOk r (IsOpen m book new × ((input : List ℕ) × IsReadWhole known left input × AnswersAll m input (state old) (state new) before after))
       → OnOk r (AnswersFresh m secret known left before after)
-  answered (Ok x) run = (run.1, state new, run.2, subst (λ s. AnswersAll m run.1 s (state new) before after) is_fresh run.3)
+  answered (Ok x) run = (run.1.0, state new, run.1.1, subst (λ s. AnswersAll m run.1.0 s (state new) before after) is_fresh run.1.2)
   answered (Err e) run = tt
 
   stopped : (f : RunFault)

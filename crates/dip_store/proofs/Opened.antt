@@ -141,7 +141,7 @@ module _ {S : Type 0} (g : Ghosts S) (m : Chart) where
 
   -- and how a keeper ends, its store does, from where it was opened on
   pub ends_held : (store : Held S) (old new : SqlKeeper S) (s : State) (More : State → Type 0) → (state g store).faults ≤ (state g old.conn).faults
-      → Ends m (book g) old new s More → StoreEnds g m (has_faulted g store new.conn) new.conn (IsStoreOf m s) More
+      → Ends m (book g) old new s More → StoreEnds g m (has_faulted g store new.conn) new.conn s More
   ends_held store old new s More counted it = record {
     left = λ db may. elim (it.left (said_by m db) (db, may, refl)) [
       | inl says ↦ inl (of_state s db (it.again db may) says)

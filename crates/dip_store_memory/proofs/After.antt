@@ -6,7 +6,7 @@ use Rattle.dip_desk_state.specs.Records.{Kept, Own}
 use Rattle.dip_desk_state.specs.State.{Author, Nobody, TheMaster, Seat, Change, Effect, Nothing, Pending, Votes, Delivers, Opens, Publishes, Seats, Game, Part, State, game_after, game_at, is_seat, name_of, new_games, own_at, own_effect, own_of, power_in, seat_at, state_after, with_author, with_effect, with_letter}
 use Rattle.dip_desk_state.proofs.KeyedLemmas.{at-append, at-change_at_other, at-change_at_same, names_tell, powers_tell}
 use Rattle.dip_desk_state.proofs.KeptKeys.{letter_power, name_kept}
-use Rattle.dip_store_memory.specs.Owns.{HasOwn, is_own, own_after, papered}
+use Rattle.dip_store_memory.specs.Owns.{HasOwn, leaves_owns_known, own_after, papered}
 
 -- the own part that is found for a power is of that power
 seat_power : (power : ℕ) (xs : List Part) (o : Own) → own_of (seat_at power xs) ≡ Some o → o.power ≡ power
@@ -48,8 +48,8 @@ letter_at (Seat p) k e power xs o h = go (p == power) refl
     go false is = ap (λ (x : Option Part). own_of x) (at-change_at_other (λ a b. a == b) power_in p power (with_letter k e) xs powers_tell (letter_power k e) is) ∙ h
 
 -- what such an effect makes of a seat besides: nothing, but for a paper
-module _ (e : Effect) (own : is_own e ≡ true) where
-  reached : (e : Effect) → is_own e ≡ true → (x : Part) → ((with_effect e x).own ≡ papered e x.own) × (power_in (with_effect e x) ≡ power_in x)
+module _ (e : Effect) (own : leaves_owns_known e ≡ true) where
+  reached : (e : Effect) → leaves_owns_known e ≡ true → (x : Part) → ((with_effect e x).own ≡ papered e x.own) × (power_in (with_effect e x) ≡ power_in x)
   reached Nothing own x = (refl, refl)
   reached (Pending orders) own x = (refl, refl)
   reached (Votes vote) own x = (refl, refl)
@@ -89,7 +89,7 @@ other_stays c s name other o h = still_found c s name o.power o
     (ap (λ (x : Option Game). option_and_then (λ g. own_of (seat_at o.power g.seats)) x) (at-change_at_other bytes_eq name_of c.game name (game_after c) s.games names_tell (name_kept c) other) ∙ h)
 
 -- one of the same game is what a letter makes of it
-own_reached : (c : Change) (s : State) (o : Own) → is_own c.effect ≡ true → HasOwn s c.game o → own_at c.game o.power (state_after c s) ≡ Some (own_after c o)
+own_reached : (c : Change) (s : State) (o : Own) → leaves_owns_known c.effect ≡ true → HasOwn s c.game o → own_at c.game o.power (state_after c s) ≡ Some (own_after c o)
 own_reached c s o own h = still_found c s c.game o.power (own_after c o)
     (ap (λ (x : Option Game). option_and_then (λ g. own_of (seat_at o.power g.seats)) x) (at-change_at_same bytes_eq name_of c.game (game_after c) s.games (name_kept c)) ∙ inside (game_at c.game s) h)
   where
@@ -100,5 +100,5 @@ own_reached c s o own h = still_found c s c.game o.power (own_after c o)
         each_reached c.effect own o.power (with_author c.author c.kept c.effect g.seats)
         ∙ ap (option_map (papered c.effect)) (letter_at c.author c.kept c.effect o.power g.seats o h)
 
-pub letter_stays : (c : Change) (s : State) → is_own c.effect ≡ true → (o : Own) → HasOwn s c.game o → HasOwn (state_after c s) c.game (own_after c o)
+pub letter_stays : (c : Change) (s : State) → leaves_owns_known c.effect ≡ true → (o : Own) → HasOwn s c.game o → HasOwn (state_after c s) c.game (own_after c o)
 letter_stays c s own o h = has_own (state_after c s) c.game o.power (own_after c o) (own_reached c s o own h)

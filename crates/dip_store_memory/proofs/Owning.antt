@@ -11,7 +11,7 @@ use Rattle.dip_desk_state.specs.Records as r
 use Rattle.dip_desk_state.specs.Rows as rows
 use Rattle.dip_desk_state.specs.State.{Change, State, own_at, state_after}
 use Rattle.dip_desk_state.specs.declared.records.Own.{Own}
-use Rattle.dip_store_memory.specs.Owns.{HasOwn, Owns, RecallsOwns, is_own, many_owns, most_owns, own_among, own_after, owns_of, owns_with_room}
+use Rattle.dip_store_memory.specs.Owns.{HasOwn, Owns, RecallsOwns, leaves_owns_known, many_owns, most_owns, own_among, own_after, owns_of, owns_with_room}
 use Rattle.dip_store_memory.proofs.After.{has_own, letter_stays, other_stays}
 use Rattle.dip_store_memory.proofs.Named.{found_said, said, updated_said}
 
@@ -156,7 +156,7 @@ pub taken_had : (s : State) (name : List ℕ) (os : List r.Own) (old : Owns) →
 taken_had s name os old is recalls = subst (AllByRecursion (HasOwn s name)) (sym is) (recalls name)
 
 -- what a letter makes of them is what the state after it has
-pub reached_had : (c : Change) (s : State) (test : r.Own → Bool) (os : List r.Own) → is_own c.effect ≡ true → AllByRecursion (HasOwn s c.game) os
+pub reached_had : (c : Change) (s : State) (test : r.Own → Bool) (os : List r.Own) → leaves_owns_known c.effect ≡ true → AllByRecursion (HasOwn s c.game) os
     → AllByRecursion (HasOwn (state_after c s) c.game) (filter test (map (own_after c) os))
 reached_had c s test os own all = all_reached (HasOwn s c.game) (HasOwn (state_after c s) c.game) test (own_after c) (letter_stays c s own) os all
 
@@ -183,7 +183,7 @@ made_recalls c name is old left new os took out keeps s recalls =
     (taken_had s c.game os old (took ∙ ap (λ (n : List ℕ). owns_of n old) is) recalls)
 
 -- and what a letter makes of them put back
-pub letter_recalls : {X E : Type 0} (did : Result X E) (c : Change) (s : State) (name : List ℕ) → name ≡ c.game → (test : r.Own → Bool) (os reached short : List r.Own) (old new : Owns) → is_own c.effect ≡ true
+pub letter_recalls : {X E : Type 0} (did : Result X E) (c : Change) (s : State) (name : List ℕ) → name ≡ c.game → (test : r.Own → Bool) (os reached short : List r.Own) (old new : Owns) → leaves_owns_known c.effect ≡ true
     → reached ≡ map (own_after c) os → short ≡ filter test reached → OnOk did (IsPut name short old new) → OnErr did (new ≡ old)
     → RecallsOwns (state_after c s) old → AllByRecursion (HasOwn s c.game) os → RecallsOwns (state_after c s) new
 letter_recalls did c s name is test os reached short old new own reaches passes ok err recalls all =

@@ -132,13 +132,13 @@ abbrev pub Heeds : Change → Parts → Parts → Type 0
 Heeds c old new = (s : State) → Recalls s old → Recalls s new × Recalls (state_after c s) new
 
 pub heeded : (c : Change) (old new : Parts) → IsHeeded c old new → Heeds c old new
-heeded c old new is s holds = (before, behind)
+heeded c old new is s holds = (before, later)
   where
     before : Recalls s new
     before name p h = holds name p (heeded_by (gives_part c name) (part_of name old) p (sym (is name) ∙ h)).1
 
-    behind : Recalls (state_after c s) new
-    behind name p h =
+    later : Recalls (state_after c s) new
+    later name p h =
         let it = heeded_by (gives_part c name) (part_of name old) p (sym (is name) ∙ h) in
         part_stays c s name p it.0 (holds name p it.1)
 

@@ -49,14 +49,14 @@ is_short None = true
 is_short (Some k) = nat_le (length k.reply) most_reply
 
 -- whether an effect changes no own part but its author's, or is a paper
-abbrev pub is_own : Effect → Bool
-is_own Nothing = true
-is_own (Pending orders) = true
-is_own (Votes vote) = true
-is_own (Delivers readers item) = false
-is_own (Opens public paper seats) = false
-is_own (Publishes public paper played) = true
-is_own (Seats seat) = false
+abbrev pub leaves_owns_known : Effect → Bool
+leaves_owns_known Nothing = true
+leaves_owns_known (Pending orders) = true
+leaves_owns_known (Votes vote) = true
+leaves_owns_known (Delivers readers item) = false
+leaves_owns_known (Opens public paper seats) = false
+leaves_owns_known (Publishes public paper played) = true
+leaves_owns_known (Seats seat) = false
 
 -- an own part after a paper: where a phase was played, it has no standing orders
 abbrev pub papered : Effect → Own → Own

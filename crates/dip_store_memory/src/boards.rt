@@ -27,8 +27,8 @@ fn same_owners(these: &[Option<Power>], those: &[Option<Power>]) -> bool
     these == those
 }
 
-/// Whether two boards are the same.
-pub(crate) fn are_same(one: &Board, other: &Board) -> bool
+/// Whether two boards are equal in each part. Where they are not, nothing is known.
+pub(crate) fn are_surely_same(one: &Board, other: &Board) -> bool
     ensures { IsTrue result → one.now ≡ other.now }
 {
     one.phase() == other.phase()

@@ -4,7 +4,7 @@ ghost use Rattle.std.specs.List.{AllByRecursion};
 ghost use Rattle.dip_desk_state.specs.ChangeRows as desk_rows;
 ghost use Rattle.dip_desk_state.specs.Rows as rows;
 ghost use Rattle.dip_desk_state.specs.State.{State, is_seat, own_at, own_effect, state_after};
-ghost use Rattle.dip_store_memory.specs.Owns.{HasOwn, RecallsOwns, is_own, is_short, many_owns, most_owns, own_among, own_after, owns_of, owns_with_room, papered};
+ghost use Rattle.dip_store_memory.specs.Owns.{HasOwn, RecallsOwns, leaves_owns_known, is_short, many_owns, most_owns, own_among, own_after, owns_of, owns_with_room, papered};
 
 use dip_desk_state::{Author, Change, Effect, Own, copy_standings};
 use dip_map::Power;
@@ -36,8 +36,8 @@ impl Model for SeenOwns {
 }
 
 /// Whether an effect changes no own part but its author's, or is a paper.
-fn is_on_author(effect: &Effect) -> bool
-    ensures { result ≡ is_own (desk_rows.effect effect.now) }
+fn leaves_owns_known(effect: &Effect) -> bool
+    ensures { result ≡ leaves_owns_known (desk_rows.effect effect.now) }
 {
     match effect {
         Effect::Nothing | Effect::Pending(_) | Effect::Votes(_) | Effect::Publishes { .. } => true,
@@ -98,7 +98,7 @@ fn push_exact(owns: &mut Vec<Own>, own: Own) -> Result<(), AllocError>
 
 /// What a letter of its own makes of an own part.
 fn take_letter(alloc: Global, change: &Change, own: &mut Own) -> Result<(), AllocError>
-    requires { is_own (desk_rows.effect change.now.effect) ≡ true }
+    requires { leaves_owns_known (desk_rows.effect change.now.effect) ≡ true }
     ensures { OnOk result (rows.own own.new ≡ own_effect (desk_rows.effect change.now.effect)
         (record (rows.own own.old) { kept = Some (rows.kept change.now.kept) })) }
 {
@@ -136,7 +136,7 @@ fn take_paper(alloc: Global, effect: &Effect, own: &mut Own)
 
 /// What a letter makes of an own part of its game, whose author is of this seat or of another.
 fn reach_own(alloc: Global, change: &Change, own: &mut Own) -> Result<(), AllocError>
-    requires { is_own (desk_rows.effect change.now.effect) ≡ true }
+    requires { leaves_owns_known (desk_rows.effect change.now.effect) ≡ true }
     ensures { OnOk result
         (rows.own own.new ≡ own_after (desk_rows.change change.now) (rows.own own.old)) }
 {
@@ -149,7 +149,7 @@ fn reach_own(alloc: Global, change: &Change, own: &mut Own) -> Result<(), AllocE
 
 /// What a letter makes of own parts of its game.
 fn reach_owns(alloc: Global, change: &Change, owns: &mut Vec<Own>) -> Result<(), AllocError>
-    requires { is_own (desk_rows.effect change.now.effect) ≡ true }
+    requires { leaves_owns_known (desk_rows.effect change.now.effect) ≡ true }
     ensures { OnOk result (each (λ o. rows.own o) owns.new.items
         ≡ each (own_after (desk_rows.change change.now)) (each (λ o. rows.own o) owns.old.items)) }
 {
@@ -261,7 +261,7 @@ impl SeenOwns {
         change: &Change,
         mut owns: Vec<Own>,
     ) -> Result<(), AllocError>
-        requires { is_own (desk_rows.effect change.now.effect) ≡ true }
+        requires { leaves_owns_known (desk_rows.effect change.now.effect) ≡ true }
         ensures { (s : State) → RecallsOwns (state_after (desk_rows.change change.now) s) self.old
             → AllByRecursion (HasOwn s (desk_rows.change change.now).game)
             (each (λ o. rows.own o) owns.items)
@@ -283,7 +283,7 @@ impl SeenOwns {
             (each (λ o. rows.own o) owns.items)
             → RecallsOwns (state_after (desk_rows.change change.now) s) self.new }
     {
-        if is_on_author(&change.effect) {
+        if leaves_owns_known(&change.effect) {
             let _ = self.put_after(alloc, change, owns);
         }
     }

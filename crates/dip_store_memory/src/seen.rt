@@ -5,7 +5,7 @@ ghost use Rattle.dip_desk_state.specs.Rows as rows;
 ghost use Rattle.dip_desk_state.specs.State.{State, public_at, state_after};
 ghost use Rattle.dip_store_memory.specs.Seen.{DifferByName, IsThere, Recalls, gives_part, is_paper, part_of, replaces_part, with_room};
 
-use crate::boards::are_same;
+use crate::boards::are_surely_same;
 use dip_desk_state::{Change, Effect, Public};
 use dip_map::Board;
 use indexmap::IndexMap;
@@ -107,7 +107,7 @@ impl SeenGames {
         ensures board { IfOk result (λ b. b.value ≡ board.now.value) }
     {
         if let Some(latest) = &self.latest {
-            if are_same(latest, board) {
+            if are_surely_same(latest, board) {
                 return latest.clone();
             }
         }

@@ -8,8 +8,8 @@ returns-in-Ok-run_file-clause-done g c =
     rw c.into_store.ensures
     (λ clean s says.
     let opened = c.in-Ok.ensures.opened (c.run_file.ensures.fair clean) s says in
-    let all = c.in-Ok-run_file.ensures.answers (is_open g.S.Store m s k opened) clean in
-    answers_from g.S.Store m s k c.run_file.new.keeper _ _ _ _ opened (all.1, all.2, all.3) all.0)
+    let run = c.in-Ok-run_file.ensures.answers (is_open g.S.Store m s k opened) clean in
+    answers_from g.S.Store m s k c.run_file.new.keeper _ _ _ _ opened run.1 run.0)
 
 pub returns-in-Err-run_file-clause-stops : goal.returns-in-Err-run_file-clause-stops
 returns-in-Err-run_file-clause-stops g c =

@@ -3,10 +3,10 @@ use Rattle.dip_judge_runs.proofs.fresh.answer_letters.Goals as goal
 
 pub returns-clause-done : goal.returns-clause-done
 returns-clause-done g c =
-    answered _ _ _ _ _ _ _ _ (rw (← c.digest.ensures) c.new-keeper.ensures.empty) _ (c.run_file.ensures.answers (c.new-keeper.ensures.is_open _) tt)
+    answered c.args.map.now c.args.master.now c.new-keeper.result c.run_file.new.keeper _ _ _ _ (rw (← c.digest.ensures) c.new-keeper.ensures.empty) _ (c.run_file.ensures.answers (c.new-keeper.ensures.is_open c.args.map.now) tt)
 
 pub returns-clause-cut : goal.returns-clause-cut
 returns-clause-cut g c =
     let on = c.new-keeper.ensures.is_open c.args.map.now in
-    cut_short _ _ _ _ _ _ _ _ (rw (← c.digest.ensures) c.new-keeper.ensures.empty) _
+    cut_short c.args.map.now c.args.master.now c.new-keeper.result c.run_file.new.keeper _ _ _ _ (rw (← c.digest.ensures) c.new-keeper.ensures.empty) _
     c.run_file.ensures.count (c.run_file.ensures.never on tt (c.new-keeper.ensures.lawful _)) (c.run_file.ensures.ends on tt)

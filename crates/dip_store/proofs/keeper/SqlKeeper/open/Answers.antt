@@ -1,4 +1,3 @@
-use Rattle.std.proofs.Common.{rules, sym, ◌∙◌}
 use Rattle.dip_store.proofs.Opened.{opens_limited}
 use Rattle.dip_store.proofs.keeper.SqlKeeper.open.Goals as goal
 

@@ -1,4 +1,4 @@
-use Rattle.std.proofs.Common.{rules, inl, inr, Err, ap, arith, sym, ◌∙◌}
+use Rattle.std.proofs.Common.{inl, inr, Err, ap, arith, refl, sym, ◌∙◌}
 use Rattle.sqlite.specs.Held.{state}
 use Rattle.dip_store_sql.specs.Calls.{tables_in}
 use Rattle.dip_store_schema.specs.declared.faults.StoreFault.{StoreFault}
@@ -16,7 +16,7 @@ returns-in-Ok g c =
     rw c.over.ensures
     (record {
       opened = λ clean s says. opens_same g.S.Store m c.args.alloc c.check_desk.new.conn c.commits_last-in-Ok.ensures c.in-Ok.field-0 store ready s (says_new m now s c.requires.ballots says) (it.shown clean) it.selects clean;
-      told = search rules;
+      told = refl;
       made = λ clean. record {
         new = λ own. it.says (kept_by g.S.Store m store ready own (it.shown clean)) clean;
         old = λ own. absurd (none_old m now c.requires.ballots own);

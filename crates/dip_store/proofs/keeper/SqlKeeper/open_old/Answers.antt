@@ -1,4 +1,4 @@
-use Rattle.std.proofs.Common.{rules, Err, inl, inr, ap, arith, sym, ◌∙◌}
+use Rattle.std.proofs.Common.{Err, inl, inr, ap, arith, refl, sym, ◌∙◌}
 use Rattle.sha2.specs.Sha256.{sha256}
 use Rattle.sqlite.specs.Held.{state}
 use Rattle.dip_store_sql.specs.Calls.{old_tables_in}
@@ -25,7 +25,7 @@ returns-in-Ok g c =
           let honest = renews.fair clean in
           opens_renewed g.S.Store m (c.old_tables_are_renewed.ensures m) store own.0 s own.1 c.in_default.field-0 c.args.alloc c.check_old_desk.new.conn c.renew.new.conn c.commits_last-in-Ok.ensures
           it.selects ready (it.shown honest) honest (λ kept here. renews.kept kept m here clean) (renews.ok clean);
-      told = search rules;
+      told = refl;
       made = λ clean. record {
         new = λ own. absurd (none_new m now c.requires.none own);
         old = λ own.

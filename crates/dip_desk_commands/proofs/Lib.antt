@@ -1,0 +1,4 @@
+pub mod OrderingLemmas
+pub mod PressLemmas
+pub mod SeatLemmas
+pub mod TickingLemmas

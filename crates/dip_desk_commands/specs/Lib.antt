@@ -1,0 +1,9 @@
+pub mod Ordering
+pub mod Ticking
+pub mod Pressing
+pub mod Voting
+pub mod Drawing
+pub mod Noting
+pub mod OrderingRows
+pub mod Commands
+pub mod Verdicts

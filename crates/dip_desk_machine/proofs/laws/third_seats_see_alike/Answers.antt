@@ -1,5 +1,0 @@
-use Rattle.dip_desk_machine.proofs.Thirds.{thirds_alike}
-use Rattle.dip_desk_machine.proofs.laws.third_seats_see_alike.Goals as goal
-
-pub returns : goal.returns
-returns c = thirds_alike

@@ -1,4 +1,3 @@
-use Rattle.std.proofs.Common.{◌×◌}
 use Rattle.std.proofs.lemmas.Result.{IfErr-weaker}
 use Rattle.sqlite.specs.Files.{over_files}
 use Rattle.sqlite.specs.WalFiles.{image_at}

@@ -1,4 +1,6 @@
+use Rattle.std.specs.Prelude.{refl}
 use Rattle.dip_judge.proofs.StoredLemmas.{answers_from, is_open, stops_from}
+use Rattle.dip_store.specs.Opening.{IsNowOf}
 use Rattle.dip_judge.proofs.stored.answer_stored.Goals as goal
 
 pub returns-in-Ok-run_file-clause-done : goal.returns-in-Ok-run_file-clause-done
@@ -18,5 +20,8 @@ returns-in-Err-run_file-clause-stops g c =
     rw c.into_store-in-Err-run_file.ensures
     (λ clean s desk.
     let opened = c.in-Ok.ensures.opened (c.run_file.ensures.fair clean) s desk.says in
-    stops_from g.S.Store m s k c.run_file.new.keeper _ _ _ _ opened _ c.args.store c.in-Ok.ensures.counted c.in-Err-run_file.fault
+    stops_from g.S.Store m s k c.run_file.new.keeper _ _ _ _ opened (IsNowOf g.S.Store c.args.store) c.args.store c.in-Ok.ensures.counted c.in-Err-run_file.fault
     (c.in-Err-run_file.ensures.ends (is_open g.S.Store m s k opened) clean))
+
+pub returns-in-Err-clause-stops : goal.returns-in-Err-clause-stops
+returns-in-Err-clause-stops g c = λ honest s desk. ((refl, refl), c.in-Err.ensures.ends honest s desk)

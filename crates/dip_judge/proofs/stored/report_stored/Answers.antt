@@ -1,4 +1,6 @@
+use Rattle.std.specs.Prelude.{refl}
 use Rattle.dip_judge.proofs.StoredLemmas.{breaks_off, ends_still, holds_still, is_open, reports, reports_none}
+use Rattle.dip_store.specs.Opening.{IsNowOf}
 use Rattle.dip_judge.proofs.stored.report_stored.Goals as goal
 
 pub returns-in-Ok-Some-clause-done : goal.returns-in-Ok-Some-clause-done
@@ -31,5 +33,8 @@ returns-in-Err-write_papers-clause-stops g c =
     rw c.into_store-in-Err-write_papers.ensures
     (λ clean s desk.
     let opened = c.in-Ok.ensures.opened (c.write_papers.ensures.walks.fair clean) s desk.says in
-    breaks_off g.S.Store m c.args.game.now _ c.args.store s k c.write_papers.new.self c.in-Err-write_papers.fault _ _ opened c.in-Ok.ensures.counted
+    breaks_off g.S.Store m c.args.game.now (IsNowOf g.S.Store c.args.store) c.args.store s k c.write_papers.new.self c.in-Err-write_papers.fault _ _ opened c.in-Ok.ensures.counted
     (c.in-Err-write_papers.ensures.ends (is_open g.S.Store m s k opened) clean))
+
+pub returns-in-Err-clause-stops : goal.returns-in-Err-clause-stops
+returns-in-Err-clause-stops g c = λ honest s desk. (refl, c.in-Err.ensures.ends honest s desk)

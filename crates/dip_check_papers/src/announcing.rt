@@ -25,6 +25,7 @@ const MOST_LINES: usize = 80;
 
 const MOST_BYTES: usize = 200;
 
+/// Whether each byte is printable.
 fn are_printable(bytes: &[u8]) -> bool
     ensures { result ≡ list_all is_printable bytes.now }
 {
@@ -39,6 +40,7 @@ fn is_text(line: &str) -> bool
     bytes.len() <= MOST_BYTES && are_printable(bytes)
 }
 
+/// Whether each line can be a line of an announced text.
 fn are_texts(lines: &[&str]) -> bool
     ensures { result ≡ list_all (λ l. is_text l.now) lines.now }
 {

@@ -109,6 +109,7 @@ fn are_of(map: &Map, powers: &[Power]) -> bool
         .all(|power| usize::from(power.index()) < map.power_count())
 }
 
+/// Whether the power comes before each of the others.
 fn is_before_all(power: Power, others: &[Power]) -> bool
     ensures { result ≡ list_all (λ q. nat_lt power q) others.now }
 {
@@ -127,6 +128,7 @@ fn are_ascending(powers: &[Power]) -> bool
     true
 }
 
+/// Whether each of these powers has units or centres on the board, so that it can share a draw.
 fn all_survive(map: &Map, board: &Board, powers: &[Power]) -> bool
     ensures { result ≡ list_all (d.survives map.now board.now) powers.now }
 {

@@ -20,6 +20,7 @@ fn comes_before(one: &PlacedOrder, other: &PlacedOrder) -> bool
         || (one.unit.power == other.unit.power && one.unit.place.prov < other.unit.place.prov)
 }
 
+/// Whether the order comes before each of the others, by its unit's province.
 fn is_before_all(one: &PlacedOrder, others: &[PlacedOrder]) -> bool
     ensures { result ≡ list_all (comes_before one.now) others.now }
 {

@@ -22,12 +22,14 @@ use std::rc::Rc;
 /// The most ticks from one due tick to the next.
 pub(crate) const LONGEST_PERIOD: u32 = 999_999;
 
+/// Whether the byte is a small letter.
 fn is_lower(byte: u8) -> bool
     ensures { result ≡ is_lower byte }
 {
     b'a' <= byte && byte <= b'z'
 }
 
+/// Whether each byte is a small letter or a digit.
 fn are_lower_or_digits(bytes: &[u8]) -> bool
     ensures { result ≡ list_all (λ b. is_lower b || is_digit b) bytes.now }
 {

@@ -4,6 +4,7 @@ ghost use Rattle.std.specs.Prelude.{◌≡◌, true};
 use dip_names::Place;
 use dip_orders::{Order, Other, PlacedOrder, is_same_unit};
 
+/// Whether the two are one place.
 fn is_same_place(one: Place, other: Place) -> bool
     ensures same { result ≡ true → one ≡ other }
     ensures itself { one ≡ other → result ≡ true }
@@ -11,6 +12,7 @@ fn is_same_place(one: Place, other: Place) -> bool
     one.prov == other.prov && one.coast == other.coast
 }
 
+/// Whether the two mention one other unit.
 fn is_same_other(one: Other, other: Other) -> bool
     ensures same { result ≡ true → one ≡ other }
     ensures itself { one ≡ other → result ≡ true }

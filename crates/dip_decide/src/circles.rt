@@ -11,6 +11,7 @@ use dip_decide_rules::{Decision, Table, Values, copy_of, is_in};
 use dip_names::Prov;
 use std::alloc::{AllocError, Global};
 
+/// Whether the decision has no value yet.
 fn is_open(values: &Values, d: &Decision) -> bool
     ensures { result ≡ is_unknown (known_of values.now d.now) }
 {

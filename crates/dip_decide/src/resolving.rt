@@ -21,6 +21,7 @@ use dip_names::Prov;
 use dip_orders::Orders;
 use std::alloc::{AllocError, Global};
 
+/// Whether the value is known and true.
 fn is_true(value: Option<bool>) -> bool
     ensures { result ≡ is_true value }
 {
@@ -85,6 +86,7 @@ fn broken_in(alloc: Global, map: &Map, steps: &[Step]) -> Result<Vec<Prov>, Allo
     trues(alloc, map, marks.as_slice())
 }
 
+/// Whether the step is a knot.
 fn is_knot(step: &Step) -> bool
     ensures { result ≡ is_knot step.now }
 {
@@ -94,6 +96,7 @@ fn is_knot(step: &Step) -> bool
     }
 }
 
+/// Whether a knot is among the steps.
 fn has_knot(steps: &[Step]) -> bool
     ensures { result ≡ list_any is_knot steps.now }
 {

@@ -43,6 +43,7 @@ fn mark_of(d: &Decision) -> usize
     }
 }
 
+/// No mark for any decision.
 fn no_marks() -> [bool; 768]
     ensures { result ≡ replicate 768 false }
 {
@@ -79,6 +80,7 @@ impl Worklist {
         })
     }
 
+    /// How many decisions are on the list.
     pub(crate) fn len(&self) -> usize
         ensures { result ≡ length self.now }
     {

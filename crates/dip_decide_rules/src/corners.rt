@@ -25,6 +25,7 @@ pub struct Corner<'a> {
 }
 
 impl Corner<'_> {
+    /// Whether the rule of the corner's decision rises with this one.
     fn rises(&self, d: &Decision) -> bool
         ensures { result ≡ rises (situation_of self.now.table.now) self.now.of.now d.now }
     {
@@ -34,6 +35,7 @@ impl Corner<'_> {
         }
     }
 
+    /// Whether the rule of the move of a unit rises with this decision.
     fn move_rises(&self, p: Prov, d: &Decision) -> bool
         ensures { result ≡ rises (situation_of self.now.table.now) (Move p) d.now }
     {
@@ -72,6 +74,7 @@ impl Corner<'_> {
             .count()
     }
 
+    /// How many given supports the unit in `p` has; each counts 1.
     fn support(&self, p: Prov) -> usize
         ensures { result ≡ support (situation_of self.now.table.now) (values self.now) p }
     {
@@ -90,6 +93,7 @@ impl Corner<'_> {
             .count()
     }
 
+    /// How many of the given supports of the unit in `p` are of other powers than the unit in `q`.
     fn support_against(&self, p: Prov, q: Prov) -> usize
         ensures { result ≡ support_against (situation_of self.now.table.now) (values self.now) p q }
     {
@@ -113,6 +117,7 @@ impl Corner<'_> {
         }
     }
 
+    /// The strength of what is in `q` against moves into it.
     fn hold(&self, q: Prov) -> usize
         ensures { result ≡ hold (situation_of self.now.table.now) (values self.now) q }
     {
@@ -167,6 +172,7 @@ impl Corner<'_> {
         others.iter().all(|w| self.beats(p, q, strength, *w))
     }
 
+    /// Whether a strength beats what each other unit has to prevent it from entering `q`.
     fn are_free(&self, p: Prov, q: Prov, strength: usize) -> bool
         requires attack { strength
             ≡ attack (situation_of self.now.table.now) (values self.now) p q }
@@ -176,6 +182,8 @@ impl Corner<'_> {
         self.beats_all(p, q, strength, self.table.movers_to(q))
     }
 
+    /// Whether the move from `p` to `q` exceeds what each other move has to prevent it, and what
+    /// the destination sets against it.
     fn succeeds(&self, p: Prov, q: Prov) -> bool
         ensures { result ≡ succeeds (situation_of self.now.table.now) (values self.now) p q }
     {
@@ -204,6 +212,7 @@ impl Corner<'_> {
         movers.iter().all(|x| !self.cuts(h, *x))
     }
 
+    /// Whether no move cuts the support of the unit in `h`.
     fn is_uncut(&self, h: Prov) -> bool
         ensures { result ≡ list_all
             (λ x. not (cuts (situation_of self.now.table.now) (values self.now) h x))
@@ -212,6 +221,7 @@ impl Corner<'_> {
         self.none_cuts(h, self.table.movers_to(h))
     }
 
+    /// Whether the unit in `h` has a support that matches.
     fn is_support(&self, h: Prov) -> bool
         ensures { result ≡ is_support (situation_of self.now.table.now) h }
     {

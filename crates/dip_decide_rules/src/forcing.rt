@@ -44,6 +44,7 @@ impl Tests {
         self.count
     }
 
+    /// Adds one to a count.
     fn raise(&mut self)
         requires { self.old + 1 < 2 ^ 64 }
         ensures { self.new ≡ self.old + 1 }

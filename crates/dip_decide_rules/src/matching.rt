@@ -209,12 +209,14 @@ impl Table<'_> {
         self.carriers.of(p)
     }
 
+    /// Whether a unit stands in the province.
     pub fn is_occupied(&self, p: Prov) -> bool
         ensures { result ≡ (situation_of self.now).is_occupied p }
     {
         self.order(p).is_some()
     }
 
+    /// Whether units of one power stand in both provinces; not where one of them is empty.
     pub fn same_power(&self, p: Prov, q: Prov) -> bool
         ensures { result ≡ (situation_of self.now).same_power p q }
     {
@@ -224,6 +226,7 @@ impl Table<'_> {
         }
     }
 
+    /// Where the unit in a province is ordered to move to; nothing where it isn't.
     pub fn target(&self, p: Prov) -> Option<Prov>
         ensures { result ≡ (situation_of self.now).target p }
     {
@@ -250,6 +253,7 @@ impl Table<'_> {
         carried_of(&self.order(x))
     }
 
+    /// Whether the unit in a province moves by convoy.
     pub fn is_convoyed(&self, p: Prov) -> bool
         ensures { result ≡ (situation_of self.now).convoyed p }
     {
@@ -259,6 +263,7 @@ impl Table<'_> {
         }
     }
 
+    /// Whether the unit in `h` supports the one in `p`, and the orders match.
     pub fn supports(&self, h: Prov, p: Prov) -> bool
         ensures { result ≡ (situation_of self.now).supports h p }
     {
@@ -275,6 +280,7 @@ impl Table<'_> {
         self.backed(h).is_some()
     }
 
+    /// Whether an order is to convoy the army in `p`, and the army makes that very move by convoy.
     fn is_carried(&self, order: Order, p: Prov) -> bool
         ensures { result ≡ is_carried self.now.map.now (entry self.now.rows.items) order p }
     {
@@ -299,6 +305,7 @@ impl Table<'_> {
             && self.is_carried(placed.order, p)
     }
 
+    /// Whether the fleet in `x` convoys the army in `p`, and the orders match.
     pub fn convoys(&self, x: Prov, p: Prov) -> bool
         ensures { result ≡ (situation_of self.now).convoys x p }
     {
@@ -308,12 +315,14 @@ impl Table<'_> {
         }
     }
 
+    /// Whether a fleet goes from one province to the other, from any coast to any.
     pub fn is_next(&self, p: Prov, q: Prov) -> bool
         ensures { result ≡ (situation_of self.now).next p q }
     {
         is_sea_next(self.map, p, q)
     }
 
+    /// The province into which the unit in `h` supports a move.
     fn aim(&self, h: Prov) -> Option<Prov>
         ensures { result ≡ (situation_of self.now).aim h }
     {
@@ -323,6 +332,7 @@ impl Table<'_> {
         }
     }
 
+    /// Whether the unit in `h` supports a move into `p`.
     pub fn aims(&self, h: Prov, p: Prov) -> bool
         ensures { result ≡ is_at ((situation_of self.now).aim h) p }
     {
@@ -332,6 +342,7 @@ impl Table<'_> {
         }
     }
 
+    /// Whether the unit in `p` has a move to `q`.
     pub fn goes(&self, p: Prov, q: Prov) -> bool
         ensures { result ≡ goes (situation_of self.now) p q }
     {
@@ -341,12 +352,14 @@ impl Table<'_> {
         }
     }
 
+    /// Whether the unit in `p` has a move.
     pub fn has_move(&self, p: Prov) -> bool
         ensures { result ≡ has_move (situation_of self.now) p }
     {
         self.target(p).is_some()
     }
 
+    /// Whether the two units go to one another's provinces, neither by convoy.
     pub fn head_to_head(&self, p: Prov, q: Prov) -> bool
         ensures { result ≡ head_to_head (situation_of self.now) p q }
     {

@@ -11,6 +11,7 @@ use dip_names::{Kind, Power, Prov, Unit};
 use dip_orders::{Order, PlacedOrder};
 use std::alloc::{AllocError, Global};
 
+/// Whether the order is to convoy the army in one province to the other.
 fn is_convoy_of(from: Prov, to: Prov, order: &Order) -> bool
     ensures { result ≡ m.is_convoy_of from to order.now }
 {
@@ -30,6 +31,8 @@ fn carries_for(map: &Map, power: Power, from: Prov, to: Prov, placed: &PlacedOrd
         && is_convoy_of(from, to, &placed.order)
 }
 
+/// Whether a fleet of that power in a sea is ordered to convoy the army from one province to the
+/// other.
 fn is_carried_for(map: &Map, orders: &[PlacedOrder], power: Power, from: Prov, to: Prov) -> bool
     ensures { result ≡ list_any (m.carries_for map.now power from to) orders.now }
 {
@@ -64,6 +67,7 @@ fn meant_of(map: &Map, orders: &[PlacedOrder], placed: &PlacedOrder) -> PlacedOr
     }
 }
 
+/// The orders as the option INTENT reads them: which moves go by convoy.
 fn meant_by_sea(
     alloc: Global,
     map: &Map,

@@ -29,6 +29,7 @@ pub struct Columns {
     pub carried: Vec<Option<Prov>>,
 }
 
+/// No order for a province.
 fn no_order() -> Option<PlacedOrder>
     ensures { result ≡ None }
 {
@@ -104,6 +105,7 @@ fn put_order(columns: &mut Columns, map: &Map, placed: &PlacedOrder)
     put_name(&mut columns.carried, p, carried_of(&order));
 }
 
+/// Columns of a table in which no province has an order yet.
 fn no_columns(alloc: Global, map: &Map, orders: &[PlacedOrder]) -> Result<Columns, AllocError>
     ensures rows { IfOk result (λ c. c.rows.items ≡ alike_rows None map.now) }
     ensures targets { IfOk result
@@ -159,6 +161,7 @@ fn backed(
     Ok(backed)
 }
 
+/// The provinces of the units that have orders.
 fn places_of(alloc: Global, orders: &[PlacedOrder]) -> Result<Vec<Prov>, AllocError>
     ensures { IfOk result (λ v. v.items ≡ provinces_of orders.now) }
 {

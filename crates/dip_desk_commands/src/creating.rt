@@ -52,12 +52,14 @@ fn new_seats(
     Ok(Some(found))
 }
 
+/// How many of the seats are the power's.
 fn seats_of(seats: &[NewSeat], power: Power) -> usize
     ensures { result ≡ count_by (λ s. s.power == power) (each desk_rows.new_seat seats.now) }
 {
     seats.iter().filter(|seat| seat.power == power).count()
 }
 
+/// Whether just one of the seats is the power's.
 fn has_one_seat(seats: &[NewSeat], power: Power) -> bool
     ensures { result ≡ (count_by (λ s. s.power == power) (each desk_rows.new_seat seats.now) == 1) }
 {

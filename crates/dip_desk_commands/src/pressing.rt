@@ -41,6 +41,7 @@ fn texts_of(alloc: Global, lines: Texts<'_>) -> Result<Vec<String>, AllocError>
     Ok(found)
 }
 
+/// Whether the name stands for all other powers.
 fn names_all(name: &String) -> bool
     ensures { result ≡ p.names_all (string_bytes name.now) }
 {

@@ -30,6 +30,7 @@ pub fn is_over(status: &Status) -> bool
     }
 }
 
+/// Whether the game is running.
 fn is_running(status: &Status) -> bool
     ensures { result ≡ t.is_running (rows.status status.now) }
 {

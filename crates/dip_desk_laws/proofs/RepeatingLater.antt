@@ -10,7 +10,7 @@ use Rattle.dip_desk_state.specs.Keyed.{at}
 use Rattle.dip_desk_machine.specs.Machine.{Decides, DecidesIn, MasterDecides, change_of, NumberedBy, SeatName, Seen, Verdict, NotKnown, Again, OutOfTurn, Taken, after, author, digest, master_author, old_number, page_shown, power_author, reply_of, seat_author, seat_command, seat_verdict, seen_by, seen_in, verdict_by, verdict_on}
 use Rattle.dip_desk_machine.specs.Mail.{Mail}
 use Rattle.dip_desk_laws.specs.Repeats.{ActsOnceLater, AreOthers, has_author}
-use Rattle.dip_desk_state.specs.State.{State, Game, Author, Nobody, TheMaster, Seat, Effect, Nothing, Pending, Votes, Delivers, Opens, Publishes, Seats, NewSeat, Part, behind_paper, game_after, game_at, name_of, new_games, own_of, seat_at, with_digest, with_item}
+use Rattle.dip_desk_state.specs.State.{State, Game, Author, Nobody, TheMaster, Seat, Effect, Nothing, Pending, Votes, Delivers, Opens, Publishes, Seats, NewSeat, Part, after_paper, game_after, game_at, name_of, new_games, own_of, seat_at, with_digest, with_item}
 use Rattle.dip_desk_machine.specs.View.{Event, Heard, IsRun, OwnLetter, Published, Seated, Suits, Turn, absorb, absorb_all, author_in, events_for, left_by, seat_events, seat_with_digest, verdict_events, writes}
 use Rattle.dip_desk_state.proofs.KeyedLemmas.{names_tell}
 use Rattle.dip_desk_laws.proofs.Others.{seat_unpublished, shown_of}
@@ -53,9 +53,9 @@ Remembers k seat = (x : Part) × (seat ≡ Some x) × (x.own.kept ≡ k)
 one_remembered : (m : Chart) (power : ℕ) (k : Option Kept) (s : Seen) (e : Event) → IsNotOwn e → Remembers k s.seat → Remembers k (absorb m power s e).seat
 one_remembered m power k s (OwnLetter n) other there = absurd other
 one_remembered m power k s (Heard item) other there = (with_item item there.0, ap (option_map (with_item item)) there.1, there.2)
-one_remembered m power k s (Published public paper played) other there = (behind_paper played there.0, ap (option_map (behind_paper played)) there.1, go played)
+one_remembered m power k s (Published public paper played) other there = (after_paper played there.0, ap (option_map (after_paper played)) there.1, go played)
   where
-    go : (t : Bool) → (behind_paper t there.0).own.kept ≡ k
+    go : (t : Bool) → (after_paper t there.0).own.kept ≡ k
     go true = there.2
     go false = there.2
 one_remembered m power k s (Seated by) other there = (with_digest by there.0, ap (seat_with_digest power by) there.1, there.2)

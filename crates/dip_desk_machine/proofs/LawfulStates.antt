@@ -22,7 +22,7 @@ use Rattle.dip_desk_machine.specs.Lawful.{AreNamedApart, AreStanding, IsLawful, 
 use Rattle.dip_desk_machine.specs.Machine.{Decides, DecidesIn, change_of, Verdict, MasterDecides, NumberedBy, NotKnown, Again, OutOfTurn, Taken, after, are_complete, author, creation, digest, kept_of, new_seat, new_seats, old_number, with_more, opening_public, page_shown, seat_command, seat_verdict, seen_in, verdict_by, verdict_on}
 use Rattle.dip_desk_machine.specs.Mail.{IsMail, Mail}
 use Rattle.dip_desk_commands.specs.Pressing.{is_among}
-use Rattle.dip_desk_state.specs.State.{State, Game, Part, Author, Nobody, TheMaster, Seat, Change, Effect, Nothing, Pending, Votes, Delivers, Opens, Publishes, Seats, NewSeat, behind_paper, desk_after, fresh, game_after, game_at, name_of, new_games, opening_game, papers_after, power_in, public_after, seat_at, whole_of, with_author, with_digest, with_effect, with_item, with_letter}
+use Rattle.dip_desk_state.specs.State.{State, Game, Part, Author, Nobody, TheMaster, Seat, Change, Effect, Nothing, Pending, Votes, Delivers, Opens, Publishes, Seats, NewSeat, after_paper, desk_after, fresh, game_after, game_at, name_of, new_games, opening_game, papers_after, power_in, public_after, seat_at, whole_of, with_author, with_digest, with_effect, with_item, with_letter}
 use Rattle.dip_desk_state.specs.Writable.{IsPublicOf, IsStatusOf, IsVoteOf}
 use Rattle.dip_desk_commands.specs.Ticking.{orders_of, public_played, status_after}
 use Rattle.dip_orders.proofs.KeptLaws.{count_cons}
@@ -514,7 +514,7 @@ reached_delivered m b readers item s l = go (is_among (power_in s) readers)
     go false = reached_same m b s l
 
 -- a seat whose orders are gone, on any board
-reached_played : (m : Chart) (b c : Position) (s : Part) → IsLawfulSeat m b s → IsReached m c (behind_paper true s)
+reached_played : (m : Chart) (b c : Position) (s : Part) → IsLawfulSeat m b s → IsReached m c (after_paper true s)
 reached_played m b c s l = record { power = l.power; vote = l.vote; pending = none_standing m c (power_in s); last = l.last; sent = l.sent; items = l.items }
 
 reached_seated : (m : Chart) (b : Position) (seat : NewSeat) (s : Part) → IsLawfulSeat m b s → IsReached m b (with_effect (Seats seat) s)

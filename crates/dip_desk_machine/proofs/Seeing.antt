@@ -8,7 +8,7 @@ use Rattle.dip_map.specs.Charts.{Chart}
 use Rattle.dip_desk_state.specs.Records.{Item, Kept, Public, Reply}
 use Rattle.dip_desk_state.specs.Keyed.{at, change_at}
 use Rattle.dip_desk_machine.specs.Mail.{Mail}
-use Rattle.dip_desk_state.specs.State.{State, Game, Part, Author, Nobody, TheMaster, Seat, is_seat, Effect, Nothing, Pending, Votes, Delivers, Opens, Publishes, Seats, NewSeat, Change, behind_paper, fresh, game_after, game_at, name_of, new_games, power_in, public_after, seat_at, state_after, with_author, with_digest, with_effect, with_item, with_letter}
+use Rattle.dip_desk_state.specs.State.{State, Game, Part, Author, Nobody, TheMaster, Seat, is_seat, Effect, Nothing, Pending, Votes, Delivers, Opens, Publishes, Seats, NewSeat, Change, after_paper, fresh, game_after, game_at, name_of, new_games, power_in, public_after, seat_at, state_after, with_author, with_digest, with_effect, with_item, with_letter}
 use Rattle.dip_desk_machine.specs.Machine.{Decides, SeatName, Seen, Verdict, NotKnown, Again, OutOfTurn, Taken, after, change_of, kept_of, reply_of, seen_by, seen_in, verdict_on}
 use Rattle.dip_desk_machine.specs.View.{AreEffectsShown, Event, OwnLetter, Heard, Published, Seated, Suits, absorb, absorb_all, effect_events, own_events, part_by, seat_events, events_for, replies_to_events, replies_at, verdict_events, writes}
 use Rattle.dip_desk_state.proofs.KeyedLemmas.{at_key, at-append, at-change_at_other, at-change_at_same, at-map, names_tell, powers_tell}
@@ -40,7 +40,7 @@ effect_absorbed m name (Votes vote) g s h = refl
 effect_absorbed m name (Delivers readers item) g s h = sym (heard_one m (power_in s) (list_any (λ p. p == power_in s) readers) (Some g.public) s item)
 effect_absorbed m name (Opens public paper seats) g s h = absurd h
 effect_absorbed m name (Publishes public paper played) g s h =
-    ap (λ (x : List ℕ). at_one (Some (record public { game = x })) (behind_paper played s)) (sym h)
+    ap (λ (x : List ℕ). at_one (Some (record public { game = x })) (after_paper played s)) (sym h)
 effect_absorbed m name (Seats seat) g s h = sym (seated_one m (power_in s) (seat.power == power_in s) (Some g.public) s seat.digest)
 
 -- the author's seat has the letter

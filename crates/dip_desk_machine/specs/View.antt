@@ -3,7 +3,7 @@ use Rattle.std.specs.Prelude.{ℕ, ◌≡◌, ◌==◌, ◌&&◌, Bool, true, fa
 use Rattle.std.specs.List.{list_any}
 use Rattle.dip_desk_machine.specs.Mail.{Mail}
 use Rattle.dip_map.specs.Charts.{Chart}
-use Rattle.dip_desk_state.specs.State.{State, Game, Author, Seat, Effect, Nothing, Pending, Votes, Delivers, Opens, Publishes, Seats, NewSeat, Part, behind_paper, fresh, game_at, is_seat, seat_at, with_digest, with_item, with_letter}
+use Rattle.dip_desk_state.specs.State.{State, Game, Author, Seat, Effect, Nothing, Pending, Votes, Delivers, Opens, Publishes, Seats, NewSeat, Part, after_paper, fresh, game_at, is_seat, seat_at, with_digest, with_item, with_letter}
 use Rattle.dip_desk_machine.specs.Machine.{Decides, SeatName, Seen, Verdict, NotKnown, Again, OutOfTurn, Taken, after, author, kept_of, reply_of, seen_by, verdict_on}
 use Rattle.dip_desk_state.specs.Records.{Item, Public, Reply}
 
@@ -97,7 +97,7 @@ seat_with_digest power by (Some s) = Some (with_digest by s)
 abbrev pub absorb : Chart → ℕ → Seen → Event → Seen
 absorb m power s (OwnLetter n) = record { public = s.public; seat = option_map (part_by n (verdict_on m n s)) s.seat }
 absorb m power s (Heard item) = record { public = s.public; seat = option_map (with_item item) s.seat }
-absorb m power s (Published public paper played) = record { public = Some public; seat = option_map (behind_paper played) s.seat }
+absorb m power s (Published public paper played) = record { public = Some public; seat = option_map (after_paper played) s.seat }
 absorb m power s (Seated by) = record { public = s.public; seat = seat_with_digest power by s.seat }
 
 abbrev pub absorb_all : Chart → ℕ → Seen → List Event → Seen

@@ -2,7 +2,7 @@
 use Rattle.std.proofs.Common.{◌≡◌, ◌==◌, Bool, true, false, cond, Some, refl}
 use Rattle.std.specs.List.{list_any}
 use Rattle.dip_desk_state.specs.Records.{Kept, Own}
-use Rattle.dip_desk_state.specs.State.{Change, Effect, Nothing, Pending, Votes, Delivers, Opens, Publishes, Seats, Game, Part, behind_paper, game_after, name_of, own_effect, power_in, public_after, with_digest, with_effect, with_item, with_letter}
+use Rattle.dip_desk_state.specs.State.{Change, Effect, Nothing, Pending, Votes, Delivers, Opens, Publishes, Seats, Game, Part, after_paper, game_after, name_of, own_effect, power_in, public_after, with_digest, with_effect, with_item, with_letter}
 
 -- an own part and a seat keep their power
 pub own_power : (e : Effect) (o : Own) → (own_effect e o).power ≡ o.power
@@ -26,7 +26,7 @@ effect_power (Delivers readers item) s = go (list_any (λ p. p == power_in s) re
 effect_power (Opens public paper seats) s = refl
 effect_power (Publishes public paper played) s = go played
   where
-    go : (t : Bool) → power_in (behind_paper t s) ≡ power_in s
+    go : (t : Bool) → power_in (after_paper t s) ≡ power_in s
     go true = refl
     go false = refl
 effect_power (Seats seat) s = go (seat.power == power_in s)

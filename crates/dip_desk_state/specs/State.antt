@@ -167,8 +167,8 @@ abbrev pub with_digest : List ℕ → Part → Part
 with_digest by s = record s { own = record s.own { digest = by } }
 
 -- a seat after a paper: where a phase was played, it has no standing orders
-abbrev pub behind_paper : Bool → Part → Part
-behind_paper played s = if played then record s { own = record s.own { pending = [] } } else s
+abbrev pub after_paper : Bool → Part → Part
+after_paper played s = if played then record s { own = record s.own { pending = [] } } else s
 
 -- what an effect does to each seat of its game
 abbrev pub with_effect : Effect → Part → Part
@@ -177,7 +177,7 @@ with_effect (Pending orders) s = s
 with_effect (Votes vote) s = s
 with_effect (Delivers readers item) s = if list_any (λ p. p == power_in s) readers then with_item item s else s
 with_effect (Opens public paper seats) s = s
-with_effect (Publishes public paper played) s = behind_paper played s
+with_effect (Publishes public paper played) s = after_paper played s
 with_effect (Seats seat) s = if seat.power == power_in s then with_digest seat.digest s else s
 
 -- the seats with a letter of one of them

@@ -66,6 +66,7 @@ fn learn_no_paths(known: &mut Known, units: &[Prov])
     }
 }
 
+/// Why the moves of a knot have no route.
 #[tactic(auto, unfolding(crate::specs::Movement::knot_text))]
 fn knot_words(count: usize) -> &'static str
     ensures { result.now ≡ m.knot_text count }
@@ -78,6 +79,7 @@ fn knot_words(count: usize) -> &'static str
 }
 
 impl Ground<'_> {
+    /// Appends the line of a decision that came out with this value.
     #[tactic(auto, unfolding(crate::specs::Movement::forced_line))]
     fn push_valued(
         &self,
@@ -122,6 +124,7 @@ impl Ground<'_> {
         self.push_valued(alloc, known, d, value_in(self.resolution, d), out)
     }
 
+    /// Appends the line of a circle: the moves that go together.
     fn push_circle(&self, units: &[Prov], out: &mut String) -> Result<(), AllocError>
         ensures { OnOk result
             (string_bytes out.new ≡ string_bytes out.old ++ codes "circle: " ++ joined (order_in
@@ -132,6 +135,7 @@ impl Ground<'_> {
         out.push_str(" move together\n")
     }
 
+    /// Appends the line of a knot: its moves, and why they have no route.
     fn push_knot(&self, units: &[Prov], out: &mut String) -> Result<(), AllocError>
         ensures { OnOk result
             (string_bytes out.new ≡ string_bytes out.old ++ codes "knot: " ++ joined (order_in

@@ -28,6 +28,7 @@ pub enum Saying {
     Strands,
 }
 
+/// What a line says of a move before the fleets that carry it.
 #[tactic(auto, unfolding(crate::specs::Lines::route_words))]
 fn route_words() -> &'static str
     ensures { result.now ≡ m.route_words }
@@ -35,6 +36,7 @@ fn route_words() -> &'static str
     " has a route: carried by "
 }
 
+/// What a line says of a unit that a move has dislodged.
 #[tactic(auto, unfolding(crate::specs::Lines::dislodged_words))]
 fn dislodged_words() -> &'static str
     ensures { result.now ≡ m.dislodged_words }
@@ -42,6 +44,7 @@ fn dislodged_words() -> &'static str
     " is dislodged"
 }
 
+/// What a line says of a move before the reason why nothing carries it.
 #[tactic(auto, unfolding(crate::specs::Lines::no_route_words))]
 fn no_route_words() -> &'static str
     ensures { result.now ≡ m.no_route_words }
@@ -62,6 +65,7 @@ fn push_coming(case: &Case<'_>, x: Prov, became: &str, out: &mut String) -> Resu
     out.push_str(became)
 }
 
+/// Appends how the move of `x` cuts the support of `h`.
 #[tactic(auto, unfolding(crate::specs::Lines::cutting_text))]
 fn push_cutting(case: &Case<'_>, h: Prov, x: Prov, out: &mut String) -> Result<(), AllocError>
     ensures { OnOk result
@@ -74,6 +78,7 @@ fn push_cutting(case: &Case<'_>, h: Prov, x: Prov, out: &mut String) -> Result<(
     out.push_str(" attacks it")
 }
 
+/// Appends the move of `x`, by which the support of `h` is cut.
 #[tactic(auto, unfolding(crate::specs::Lines::cut_text))]
 fn push_cut(case: &Case<'_>, h: Prov, x: Prov, out: &mut String) -> Result<(), AllocError>
     ensures { OnOk result
@@ -83,6 +88,7 @@ fn push_cut(case: &Case<'_>, h: Prov, x: Prov, out: &mut String) -> Result<(), A
     push_cutting(case, h, x, out)
 }
 
+/// Appends why the move of `x` doesn't cut the support of `h`.
 #[tactic(auto, unfolding(crate::specs::Lines::sparing_text))]
 fn push_sparing(case: &Case<'_>, h: Prov, x: Prov, out: &mut String) -> Result<(), AllocError>
     ensures { OnOk result
@@ -98,6 +104,7 @@ fn push_sparing(case: &Case<'_>, h: Prov, x: Prov, out: &mut String) -> Result<(
     out.push_str(" has no route")
 }
 
+/// Appends the move of `x`, by which the support of `h` isn't cut.
 #[tactic(auto, unfolding(crate::specs::Lines::spared_text))]
 fn push_spared(case: &Case<'_>, h: Prov, x: Prov, out: &mut String) -> Result<(), AllocError>
     ensures { OnOk result
@@ -117,6 +124,7 @@ fn enters(case: &Case<'_>, x: Prov, n: Prov) -> bool
     case.corner.table.goes(n, x) && case.corner.value(&Decision::Move(n))
 }
 
+/// Appends by whose move a fleet is dislodged.
 #[tactic(auto, unfolding(crate::specs::Lines::enterer_text))]
 fn push_enterer(case: &Case<'_>, n: Prov, out: &mut String) -> Result<(), AllocError>
     ensures { OnOk result
@@ -142,6 +150,7 @@ fn push_enterers(case: &Case<'_>, x: Prov, out: &mut String) -> Result<(), Alloc
     Ok(())
 }
 
+/// Appends that a fleet is dislodged, and by whom.
 #[tactic(auto, unfolding(crate::specs::Lines::dislodged_text))]
 fn push_dislodged(case: &Case<'_>, x: Prov, out: &mut String) -> Result<(), AllocError>
     ensures { OnOk result
@@ -152,6 +161,7 @@ fn push_dislodged(case: &Case<'_>, x: Prov, out: &mut String) -> Result<(), Allo
     push_enterers(case, x, out)
 }
 
+/// Appends what has become of a fleet that is to carry a move without a route.
 #[tactic(auto, unfolding(crate::specs::Lines::fleet_text))]
 fn push_fleet(case: &Case<'_>, x: Prov, out: &mut String) -> Result<(), AllocError>
     ensures { OnOk result
@@ -163,6 +173,7 @@ fn push_fleet(case: &Case<'_>, x: Prov, out: &mut String) -> Result<(), AllocErr
     out.push_str(" completes no chain")
 }
 
+/// Appends a fleet that is to carry a move without a route.
 #[tactic(auto, unfolding(crate::specs::Lines::carrier_text))]
 fn push_carrier(case: &Case<'_>, x: Prov, out: &mut String) -> Result<(), AllocError>
     ensures { OnOk result
@@ -173,6 +184,7 @@ fn push_carrier(case: &Case<'_>, x: Prov, out: &mut String) -> Result<(), AllocE
     push_fleet(case, x, out)
 }
 
+/// Appends what a line says of one unit.
 fn push_saying(
     case: &Case<'_>,
     saying: &Saying,
@@ -228,6 +240,7 @@ fn push_joined(
     push_others(case, saying, rest, out)
 }
 
+/// Whether the unit in `w` is another one than that in `p`, and moves to `q` too.
 fn is_rival(case: &Case<'_>, p: Prov, q: Prov, w: Prov) -> bool
     ensures { result ≡ m.is_rival (situation_of case.now.corner.table.now) p q w }
 {
@@ -272,6 +285,7 @@ fn unbeaten(case: &Case<'_>, alloc: Global, p: Prov, q: Prov) -> Result<Vec<Prov
         .collect(alloc)
 }
 
+/// Appends all that the attack exceeds.
 #[tactic(auto, unfolding(crate::specs::Lines::exceeded_text))]
 fn push_exceeded(
     case: &Case<'_>,
@@ -289,6 +303,8 @@ fn push_exceeded(
     push_others(case, &Saying::Prevents(q), rivals.as_slice(), out)
 }
 
+/// Appends what the attack doesn't exceed: what the destination sets against it, else each other
+/// move that prevents it.
 #[tactic(auto, unfolding(crate::specs::Lines::unexceeded_text))]
 fn push_unexceeded(
     case: &Case<'_>,
@@ -308,6 +324,8 @@ fn push_unexceeded(
     case.push_opposition(p, q, out)
 }
 
+/// Appends what the attack of the move from `p` to `q` is measured against, after `against`: what it
+/// exceeds or, where it fails, what it does not exceed. An attack of nothing appends nothing.
 #[tactic(auto, unfolding(crate::specs::Lines::comparison_text))]
 fn push_comparison(
     case: &Case<'_>,
@@ -389,6 +407,7 @@ fn movers(case: &Case<'_>, alloc: Global, h: Prov) -> Result<Vec<Prov>, AllocErr
         .collect(alloc)
 }
 
+/// Appends why the support of `h` is given.
 #[tactic(auto, unfolding(crate::specs::Lines::given_text))]
 fn push_given(case: &Case<'_>, alloc: Global, h: Prov, out: &mut String) -> Result<(), AllocError>
     ensures { OnOk result
@@ -448,6 +467,7 @@ fn carriers(case: &Case<'_>, alloc: Global, p: Prov) -> Result<Vec<Prov>, AllocE
         .collect(alloc)
 }
 
+/// Appends why the move of `p` has no route.
 #[tactic(auto, unfolding(crate::specs::Lines::stranded_text))]
 fn push_stranded(
     case: &Case<'_>,
@@ -467,6 +487,7 @@ fn push_stranded(
     push_others(case, &Saying::Strands, rest, out)
 }
 
+/// Appends that the move of `p` has no route, and why.
 #[tactic(auto, unfolding(crate::specs::Lines::no_route_text))]
 fn push_no_route(
     case: &Case<'_>,
@@ -482,6 +503,7 @@ fn push_no_route(
     push_stranded(case, alloc, p, out)
 }
 
+/// Appends that the move of `p` has a route, and by which fleets.
 #[tactic(auto, unfolding(crate::specs::Lines::route_text))]
 fn push_route(case: &Case<'_>, alloc: Global, p: Prov, out: &mut String) -> Result<(), AllocError>
     ensures { OnOk result

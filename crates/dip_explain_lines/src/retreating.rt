@@ -11,6 +11,7 @@ use dip_orders::{is_open, is_same_unit, next_places, print_order, print_place};
 use dip_turn::{RetreatLine, refuge};
 use std::alloc::{AllocError, Global};
 
+/// Whether the place is in that province.
 fn is_in(place: Option<Place>, prov: Prov) -> bool
     ensures { result ≡ is_in place prov }
 {
@@ -20,6 +21,7 @@ fn is_in(place: Option<Place>, prov: Prov) -> bool
     }
 }
 
+/// Whether the attacker came from that province; one that came by convoy closes none.
 fn is_origin(origin: Option<Prov>, prov: Prov) -> bool
     ensures { result ≡ is_origin origin prov }
 {
@@ -42,6 +44,8 @@ fn closing_text(board: &Board, dislodged: &Dislodged, prov: Prov) -> &'static st
     }
 }
 
+/// Whether a dislodged unit may retreat to the province: it is empty, no standoff, and not where
+/// the attacker came from.
 fn is_open_to(board: &Board, dislodged: &Dislodged, prov: Prov) -> bool
     ensures { result ≡ is_open board.now dislodged.now.origin prov }
 {

@@ -239,6 +239,7 @@ fn push_disorders(
     Ok(())
 }
 
+/// Whether the unit is one of these.
 fn is_among(units: &[Unit], unit: &Unit) -> bool
     ensures { result ≡ is_among units.now unit.now }
 {

@@ -31,6 +31,7 @@ fn push_strength(
     write!(out, "{here}")
 }
 
+/// What a unit of the mover's own power does that doesn't make way.
 #[tactic(auto, unfolding(crate::specs::StrengthTexts::own_words))]
 fn own_words(meets: bool) -> &'static str
     ensures { result.now ≡ m.own_words meets }
@@ -42,6 +43,7 @@ fn own_words(meets: bool) -> &'static str
     }
 }
 
+/// Appends that a unit is of the mover's own power, and what it does.
 #[tactic(auto, unfolding(crate::specs::StrengthTexts::own_way_text))]
 fn push_own_way(meets: bool, out: &mut String) -> Result<(), AllocError>
     ensures { OnOk result
@@ -51,6 +53,7 @@ fn push_own_way(meets: bool, out: &mut String) -> Result<(), AllocError>
     out.push_str(own_words(meets))
 }
 
+/// What stands before the province in which a supporter's own power is attacked.
 #[tactic(auto, unfolding(crate::specs::StrengthTexts::own_power_words))]
 fn own_power_words() -> &'static str
     ensures { result.now ≡ m.own_power_words }
@@ -58,6 +61,7 @@ fn own_power_words() -> &'static str
     ", whose own power stands in "
 }
 
+/// The word for what a move meets: units head to head defend, and others hold.
 #[tactic(auto, unfolding(crate::specs::StrengthTexts::opposition_word))]
 fn opposition_word(meets: bool) -> &'static str
     ensures { result.now ≡ m.opposition_word meets }
@@ -65,6 +69,7 @@ fn opposition_word(meets: bool) -> &'static str
     if meets { "defend " } else { "hold " }
 }
 
+/// What stands before the words on a unit of the mover's own power.
 #[tactic(auto, unfolding(crate::specs::StrengthTexts::own_way_words))]
 fn own_way_words() -> &'static str
     ensures { result.now ≡ m.own_way_words }
@@ -72,6 +77,7 @@ fn own_way_words() -> &'static str
     ", of its own power, "
 }
 
+/// What is said of a move that has no route.
 #[tactic(auto, unfolding(crate::specs::StrengthTexts::pathless_words))]
 fn pathless_words() -> &'static str
     ensures { result.now ≡ m.pathless_words }
@@ -182,6 +188,7 @@ impl Case<'_> {
         self.corner.table.supports(h, p) && !self.backs_against(p, q, h)
     }
 
+    /// Appends a unit whose support counts.
     #[tactic(auto, unfolding(crate::specs::StrengthTexts::backer_text))]
     fn push_backer(&self, h: Prov, out: &mut String) -> Result<(), AllocError>
         ensures { OnOk result
@@ -194,6 +201,7 @@ impl Case<'_> {
         Ok(())
     }
 
+    /// Appends a further unit whose support counts, after a comma.
     fn push_other_backer(&self, h: Prov, out: &mut String) -> Result<(), AllocError>
         ensures { OnOk result
             (string_bytes out.new ≡ string_bytes out.old ++ (codes ", " ++ m.backer_text
@@ -234,6 +242,7 @@ impl Case<'_> {
         Ok(())
     }
 
+    /// Appends why a support doesn't count.
     #[tactic(auto, unfolding(crate::specs::StrengthTexts::lack_text))]
     fn push_lack(&self, h: Prov, out: &mut String) -> Result<(), AllocError>
         ensures { OnOk result
@@ -246,6 +255,7 @@ impl Case<'_> {
         })
     }
 
+    /// Appends a unit whose support doesn't count, with the reason.
     #[tactic(auto, unfolding(crate::specs::StrengthTexts::left_out_text))]
     fn push_left_out(&self, h: Prov, out: &mut String) -> Result<(), AllocError>
         ensures { OnOk result
@@ -257,6 +267,7 @@ impl Case<'_> {
         self.push_lack(h, out)
     }
 
+    /// Appends that a support is by the power of the unit in `q`.
     #[tactic(auto, unfolding(crate::specs::StrengthTexts::own_power_text))]
     fn push_own_power(&self, q: Prov, out: &mut String) -> Result<(), AllocError>
         ensures { OnOk result
@@ -266,6 +277,7 @@ impl Case<'_> {
         self.push_code(q, out)
     }
 
+    /// Appends why a support doesn't count against the unit in `q`.
     #[tactic(auto, unfolding(crate::specs::StrengthTexts::lack_against_text))]
     fn push_lack_against(&self, q: Prov, h: Prov, out: &mut String) -> Result<(), AllocError>
         ensures { OnOk result
@@ -278,6 +290,7 @@ impl Case<'_> {
         self.push_lack(h, out)
     }
 
+    /// Appends a unit whose support doesn't count against the unit in `q`, with the reason.
     #[tactic(auto, unfolding(crate::specs::StrengthTexts::left_out_against_text))]
     fn push_left_out_against(&self, q: Prov, h: Prov, out: &mut String) -> Result<(), AllocError>
         ensures { OnOk result
@@ -352,6 +365,7 @@ impl Case<'_> {
         out.push_str(")")
     }
 
+    /// Appends that the unit in `q` is the reason.
     #[tactic(auto, unfolding(crate::specs::StrengthTexts::since_text))]
     fn push_since(&self, q: Prov, out: &mut String) -> Result<(), AllocError>
         ensures { OnOk result
@@ -361,6 +375,7 @@ impl Case<'_> {
         self.push_unit(q, out)
     }
 
+    /// Appends that the move goes to a unit of its own power, which doesn't make way.
     #[tactic(auto, unfolding(crate::specs::StrengthTexts::own_text))]
     fn push_own(&self, p: Prov, q: Prov, out: &mut String) -> Result<(), AllocError>
         ensures { OnOk result
@@ -370,6 +385,8 @@ impl Case<'_> {
         push_own_way(self.corner.table.head_to_head(p, q), out)
     }
 
+    /// Whether the move from `p` to `q` meets nobody: nobody is there, or the unit there leaves and
+    /// doesn't come the other way.
     fn is_free(&self, p: Prov, q: Prov) -> bool
         ensures { result ≡ is_free (situation_of self.now.corner.table.now)
             (here (matter_of self.now)) p q }
@@ -398,6 +415,7 @@ impl Case<'_> {
         self.push_backed_against(p, q, out)
     }
 
+    /// Appends how strong the move from `p` to `q` is.
     #[tactic(auto, unfolding(crate::specs::StrengthTexts::attack_strength))]
     fn push_attack_strength(&self, p: Prov, q: Prov, out: &mut String) -> Result<(), AllocError>
         ensures { OnOk result
@@ -421,6 +439,7 @@ impl Case<'_> {
         self.push_attackers(p, q, out)
     }
 
+    /// Appends that the unit in `q` leaves.
     #[tactic(auto, unfolding(crate::specs::StrengthTexts::leaver_text))]
     fn push_leaver(&self, q: Prov, out: &mut String) -> Result<(), AllocError>
         ensures { OnOk result
@@ -431,6 +450,7 @@ impl Case<'_> {
         out.push_str(" leaves)")
     }
 
+    /// Appends the unit in `q`, which nobody supports.
     #[tactic(auto, unfolding(crate::specs::StrengthTexts::alone_text))]
     fn push_alone(&self, q: Prov, out: &mut String) -> Result<(), AllocError>
         ensures { OnOk result
@@ -474,6 +494,7 @@ impl Case<'_> {
         }
     }
 
+    /// Appends how strong that is which the destination sets against the move from `p` to `q`.
     #[tactic(auto, unfolding(crate::specs::StrengthTexts::opposition_strength))]
     fn push_opposition_strength(&self, p: Prov, q: Prov, out: &mut String) -> Result<(), AllocError>
         ensures { OnOk result
@@ -497,6 +518,7 @@ impl Case<'_> {
         self.push_opponents(p, q, out)
     }
 
+    /// Appends that the move of `w` has no route.
     #[tactic(auto, unfolding(crate::specs::StrengthTexts::pathless))]
     fn push_pathless(&self, w: Prov, out: &mut String) -> Result<(), AllocError>
         ensures { OnOk result
@@ -507,6 +529,7 @@ impl Case<'_> {
         out.push_str(pathless_words())
     }
 
+    /// Appends that the move of `w` lost head to head against the unit in `q`.
     #[tactic(auto, unfolding(crate::specs::StrengthTexts::loser_text))]
     fn push_loser(&self, q: Prov, w: Prov, out: &mut String) -> Result<(), AllocError>
         ensures { OnOk result
@@ -535,6 +558,7 @@ impl Case<'_> {
         self.push_backed(w, out)
     }
 
+    /// Appends how strong the move of `w` is against other moves to `q`.
     #[tactic(auto, unfolding(crate::specs::StrengthTexts::prevent_strength))]
     fn push_prevent_strength(&self, q: Prov, w: Prov, out: &mut String) -> Result<(), AllocError>
         ensures { OnOk result

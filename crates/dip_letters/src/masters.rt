@@ -106,6 +106,7 @@ fn intent_word_of(text: &str) -> Option<Option<bool>>
     Some(Some(answer))
 }
 
+/// The command TICK, where the line and the body after it are one.
 #[tactic(auto, unfolding(crate::specs::Reading::tick_at), using(crate::proofs::NumberLemmas::due_facts))]
 fn tick_of<'a>(line: &'a str, body: &'a str) -> Option<MasterCommand<'a>>
     ensures { option_map master_request result ≡ tick_at line.entry.now body.entry.now }
@@ -166,6 +167,7 @@ fn new_period_of<'a>(line: &'a str, body: &'a str) -> Option<Notice<'a>>
     }
 }
 
+/// The notice ANNOUNCE, where the line and the body after it are one.
 #[tactic(auto, unfolding(crate::specs::Reading::announce_at))]
 fn announce_of<'a>(line: &'a str, body: &'a str) -> Option<Notice<'a>>
     ensures { option_map notice_request result ≡ announce_at line.entry.now body.entry.now }

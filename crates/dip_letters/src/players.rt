@@ -25,6 +25,7 @@ pub fn player_of<'a>(line: &'a str, body: &'a str) -> Option<PlayerCommand<'a>>
         .or(inbox_of(line, body))
 }
 
+/// The command ORDERS, where the line and the body after it are one.
 #[tactic(auto, unfolding(crate::specs::Reading::orders_at))]
 fn orders_of<'a>(line: &'a str, body: &'a str) -> Option<PlayerCommand<'a>>
     ensures { option_map player_request result ≡ orders_at line.entry.now body.entry.now }
@@ -53,6 +54,7 @@ fn press_of<'a>(grey: bool, name: &str, line: &'a str, body: &'a str) -> Option<
     }))
 }
 
+/// The command VOTE, where the line and the body after it are one.
 #[tactic(auto, unfolding(crate::specs::Reading::vote_at))]
 fn vote_of<'a>(line: &'a str, body: &'a str) -> Option<PlayerCommand<'a>>
     ensures { option_map player_request result ≡ vote_at line.entry.now body.entry.now }
@@ -66,6 +68,7 @@ fn vote_of<'a>(line: &'a str, body: &'a str) -> Option<PlayerCommand<'a>>
     }
 }
 
+/// The command VOTE FOR, where the line and the body after it are one.
 #[tactic(auto, unfolding(crate::specs::Reading::vote_for_at))]
 fn vote_for_of<'a>(line: &'a str, body: &'a str) -> Option<PlayerCommand<'a>>
     ensures { option_map player_request result ≡ vote_for_at line.entry.now body.entry.now }
@@ -79,6 +82,7 @@ fn vote_for_of<'a>(line: &'a str, body: &'a str) -> Option<PlayerCommand<'a>>
     }
 }
 
+/// The command INBOX, where the line and the body after it are one.
 #[tactic(auto, unfolding(crate::specs::Reading::inbox_at), using(crate::proofs::NumberLemmas::small_facts))]
 fn inbox_of<'a>(line: &'a str, body: &'a str) -> Option<PlayerCommand<'a>>
     ensures { option_map player_request result ≡ inbox_at line.entry.now body.entry.now }

@@ -128,6 +128,7 @@ fn texts_fit(body: &str) -> bool
     at.is_empty()
 }
 
+/// Whether the line is one of a text: it begins with its mark.
 fn is_text_line(line: &str) -> bool
     ensures { result ≡ is_some (text_at line.now) }
 {

@@ -102,6 +102,7 @@ fn push_press(text: &mut String, press: Press<'_>) -> Result<(), AllocError>
     push_texts(text, press.text)
 }
 
+/// What the addressees of press follow: `PRESS` or `GREY`.
 fn press_name(grey: bool) -> &'static str
     ensures { result.now ≡ press_name grey }
 {
@@ -179,7 +180,8 @@ fn intent_words(intent: Option<bool>) -> &'static str
     }
 }
 
-fn yes_or_no(answer: bool) -> &'static str
+/// How an answer is written: `YES` or `NO`.
+pub fn yes_or_no(answer: bool) -> &'static str
     ensures { result.now ≡ yes_or_no answer }
 {
     if answer { "YES" } else { "NO" }

@@ -1,7 +1,8 @@
 -- What a board is, what is asked of it, and which boards are of a map.
 use Rattle.std.specs.Prelude.{◌≡◌, ℕ, ◌<◌, ◌==◌, ◌+◌, nat_lt, ◌&&◌, Bool, true, false, All, List, [], ◌∷◌, map, length, Option, None, Some, is_some, not, count_by}
 use Rattle.std.specs.List.{list_any, list_all, position, slice_index_or}
-use Rattle.dip_map.specs.declared.boards.Season.TheVariants.{SpringMoves}
+use Rattle.dip_map.specs.declared.boards.Season.{Season}
+use Rattle.dip_map.specs.declared.boards.Season.TheVariants.{SpringMoves, SpringRetreats, FallMoves, FallRetreats, Winter}
 use Rattle.dip_names.specs.declared.names.Unit.{Unit as AUnit}
 use Rattle.dip_map.specs.declared.boards.Dislodged.{Dislodged}
 use Rattle.dip_map.specs.declared.boards.Phase.{Phase}
@@ -16,6 +17,14 @@ pub record Position : Type 0 where
   pub phase : Phase
   -- the game's option: an army goes by convoy also where a fleet of its own power is ordered to carry it
   pub intent : Bool
+
+-- the place of a season in its year
+abbrev pub season_number : Season → ℕ
+season_number SpringMoves = 0
+season_number SpringRetreats = 1
+season_number FallMoves = 2
+season_number FallRetreats = 3
+season_number Winter = 4
 
 -- a province that may be none is one of the map
 abbrev pub is_prov_if_any : Chart → Option ℕ → Bool

@@ -195,18 +195,21 @@ impl Board {
     }
 }
 
+/// Whether a province is a home centre of the power.
 fn is_home(realm: &Realm, p: Prov) -> bool
     ensures { result ≡ list_any (λ x. x == p) realm.now.home }
 {
     realm.home.as_slice().contains(&p)
 }
 
+/// The number of the power whose home centre the province is.
 fn owner_index(realms: &[Realm], p: Prov) -> Option<usize>
     ensures { result ≡ position (λ r. list_any (λ x. x == p) r.home) realms.now }
 {
     realms.iter().position(|realm| is_home(realm, p))
 }
 
+/// The power that owns a province at the opening: the one whose home centre it is.
 fn owner_of(map: &Map, p: Prov) -> Option<Power>
     ensures { result ≡ owner_at map.now p }
 {
@@ -217,6 +220,7 @@ fn owner_of(map: &Map, p: Prov) -> Option<Power>
     }
 }
 
+/// The owners of all provinces at the opening.
 fn owners_of(alloc: Global, map: &Map) -> Result<Vec<Option<Power>>, AllocError>
     ensures { IfOk result (λ v. v.items ≡ each (owner_at map.now) (provs map.now)) }
 {
@@ -227,6 +231,7 @@ fn owners_of(alloc: Global, map: &Map) -> Result<Vec<Option<Power>>, AllocError>
     Ok(owners)
 }
 
+/// The units of all powers at the opening.
 fn opening_units_of(alloc: Global, map: &Map) -> Result<Vec<Unit>, AllocError>
     ensures { IfOk result (λ v. v.items ≡ opening_units map.now) }
 {

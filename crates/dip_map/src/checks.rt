@@ -45,6 +45,7 @@ impl Board {
         are_owners_of_centres(map, self.owners())
     }
 
+    /// Whether no unit stands in any of these provinces.
     fn are_empty(&self, provinces: &[Prov]) -> bool
         ensures { IsTrue result ↔ All (λ p. is_held self.now p ≡ false) provinces.now }
     {
@@ -57,6 +58,7 @@ impl Board {
     }
 }
 
+/// Whether the province, if there is one, is of the map.
 fn is_prov_if_any(map: &Map, p: Option<Prov>) -> bool
     ensures { result ≡ is_prov_if_any map.now p }
 {
@@ -66,6 +68,7 @@ fn is_prov_if_any(map: &Map, p: Option<Prov>) -> bool
     }
 }
 
+/// Whether the power, if there is one, is of the map.
 fn is_power_if_any(map: &Map, power: Option<Power>) -> bool
     ensures { result ≡ is_power_if_any map.now power }
 {
@@ -75,12 +78,14 @@ fn is_power_if_any(map: &Map, power: Option<Power>) -> bool
     }
 }
 
+/// Whether the dislodged unit and its attacker's origin are of the map.
 fn is_dislodged_of(map: &Map, dislodged: &Dislodged) -> bool
     ensures { result ≡ is_dislodged map.now dislodged.now }
 {
     map.is_unit(&dislodged.unit) && is_prov_if_any(map, dislodged.origin)
 }
 
+/// Whether all these units are of the map.
 fn are_units_of(map: &Map, units: &[Unit]) -> bool
     ensures { IsTrue result ↔ All (λ u. is_unit map.now u ≡ true) units.now }
 {
@@ -92,6 +97,7 @@ fn are_units_of(map: &Map, units: &[Unit]) -> bool
     true
 }
 
+/// Whether all these dislodged units are of the map.
 fn are_dislodged_of(map: &Map, units: &[Dislodged]) -> bool
     ensures { IsTrue result ↔ All (λ d. is_dislodged map.now d ≡ true) units.now }
 {
@@ -103,12 +109,14 @@ fn are_dislodged_of(map: &Map, units: &[Dislodged]) -> bool
     true
 }
 
+/// Whether a unit was dislodged from the province.
 fn is_left_by(units: &[Dislodged], p: Prov) -> bool
     ensures { result ≡ list_any (λ d. d.unit.place.prov == p) units.now }
 {
     units.iter().any(|dislodged| dislodged.unit.place.prov == p)
 }
 
+/// Whether no two of these were dislodged from one province.
 fn are_dislodged_single(units: &[Dislodged]) -> bool
     ensures { result ≡ are_units_single (map (λ d. d.unit) units.now) }
 {
@@ -120,6 +128,7 @@ fn are_dislodged_single(units: &[Dislodged]) -> bool
     true
 }
 
+/// Whether all these provinces are of the map.
 fn are_provinces_of(map: &Map, provinces: &[Prov]) -> bool
     ensures { IsTrue result ↔ All (λ p. p < length map.now.provinces) provinces.now }
 {
@@ -131,12 +140,14 @@ fn are_provinces_of(map: &Map, provinces: &[Prov]) -> bool
     true
 }
 
+/// Whether the province comes before all of these.
 fn is_before(p: Prov, provinces: &[Prov]) -> bool
     ensures { result ≡ list_all (λ q. nat_lt p q) provinces.now }
 {
     provinces.iter().all(|later| p < *later)
 }
 
+/// Whether each of these provinces comes before all after it.
 fn are_ascending(provinces: &[Prov]) -> bool
     ensures { result ≡ are_ascending provinces.now }
 {
@@ -148,6 +159,7 @@ fn are_ascending(provinces: &[Prov]) -> bool
     true
 }
 
+/// Whether only centres are owned.
 fn are_owners_of_centres(map: &Map, owners: &[Option<Power>]) -> bool
     requires { length owners.now ≡ length map.now.provinces }
     ensures { IsTrue result
@@ -163,6 +175,7 @@ fn are_owners_of_centres(map: &Map, owners: &[Option<Power>]) -> bool
     true
 }
 
+/// Whether all these owners are of the map.
 fn are_owners_of(map: &Map, owners: &[Option<Power>]) -> bool
     ensures { IsTrue result ↔ All (λ o. is_power_if_any map.now o ≡ true) owners.now }
 {

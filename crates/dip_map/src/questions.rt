@@ -5,6 +5,7 @@ ghost use Rattle.dip_map.specs.Boards.{is_held, is_standoff, is_left, is_vacant,
 use crate::boards::Board;
 use dip_names::{Power, Prov};
 
+/// Whether the owner, if there is one, is the power.
 fn is_power(power: Power, owner: Option<Power>) -> bool
     ensures { result ≡ is_power power owner }
 {
@@ -79,6 +80,7 @@ impl Board {
         self.standing_counted(power) + self.dislodged_counted(power)
     }
 
+    /// How many units of the power stand on the board.
     fn standing_counted(&self, power: Power) -> usize
         ensures value { result ≡ count_by (λ u. u.power == power) self.now.units }
         ensures bound { result < 2 ^ 63 }
@@ -89,6 +91,7 @@ impl Board {
             .count()
     }
 
+    /// How many units of the power are dislodged.
     fn dislodged_counted(&self, power: Power) -> usize
         ensures value { result ≡ count_by (λ d. d.unit.power == power) self.now.dislodged }
         ensures bound { result < 2 ^ 63 }

@@ -10,6 +10,7 @@ use dip_map_file::{Draft, PowerDraft, ProvinceDraft, ShoreDraft, Site, UnitDraft
 use dip_names::{Kind, MapFault, Place, Power, Prov, Unit};
 use std::alloc::Global;
 
+/// The province with a code.
 #[tactic(auto, unfolding(crate::specs::Stated::prov_at))]
 fn prov_of(draft: &Draft<'_>, code: &[u8]) -> Result<Prov, MapFault>
     requires { length draft.now.provinces ≤ 200 }
@@ -21,6 +22,7 @@ fn prov_of(draft: &Draft<'_>, code: &[u8]) -> Result<Prov, MapFault>
     }
 }
 
+/// The number of the province with a code.
 fn prov_index(draft: &Draft<'_>, code: &[u8]) -> Option<usize>
     ensures { result ≡ position (λ p. bytes_eq p.code code.now) draft.now.provinces }
 {
@@ -30,6 +32,7 @@ fn prov_index(draft: &Draft<'_>, code: &[u8]) -> Option<usize>
         .position(|province| province.code.as_bytes() == code)
 }
 
+/// The number of the coast with a name, of a province.
 #[tactic(auto, unfolding(crate::specs::Stated::coast_at))]
 fn coast_of(draft: &Draft<'_>, p: Prov, name: &[u8]) -> Result<u8, MapFault>
     ensures { Gives (λ k. k) result (coast_at draft.now p name.now) }
@@ -54,6 +57,7 @@ fn place_of(draft: &Draft<'_>, site: &Site<'_>) -> Result<Place, MapFault>
     Ok(Place { prov, coast })
 }
 
+/// The unit of a power that the file states.
 fn unit_of(draft: &Draft<'_>, power: Power, unit: &UnitDraft<'_>) -> Result<Unit, MapFault>
     requires few { length draft.now.provinces ≤ 200 }
     ensures { Gives (λ u. u) result (unit_at draft.now power unit.now) }
@@ -78,6 +82,7 @@ fn unit_of(draft: &Draft<'_>, power: Power, unit: &UnitDraft<'_>) -> Result<Unit
     }
 }
 
+/// The provinces with these codes.
 fn provs_of(alloc: Global, draft: &Draft<'_>, codes: &[&str]) -> Result<Vec<Prov>, MapFault>
     requires { length draft.now.provinces ≤ 200 }
     ensures { Gives (λ v. v.items) result (each (prov_at draft.now) (map (λ s. s.now) codes.now)) }
@@ -90,6 +95,7 @@ fn provs_of(alloc: Global, draft: &Draft<'_>, codes: &[&str]) -> Result<Vec<Prov
     Ok(provs)
 }
 
+/// The places that the file states.
 fn places_of(alloc: Global, draft: &Draft<'_>, sites: &[Site<'_>]) -> Result<Vec<Place>, MapFault>
     requires few { length draft.now.provinces ≤ 200 }
     ensures { Gives (λ v. v.items) result (each (place_at draft.now) sites.now) }
@@ -102,6 +108,7 @@ fn places_of(alloc: Global, draft: &Draft<'_>, sites: &[Site<'_>]) -> Result<Vec
     Ok(places)
 }
 
+/// The units of a power that the file states.
 fn units_of(
     alloc: Global,
     draft: &Draft<'_>,
@@ -130,6 +137,7 @@ fn shore_of(alloc: Global, draft: &Draft<'_>, shore: &ShoreDraft<'_>) -> Result<
     Ok(Shore { name, next })
 }
 
+/// The coasts of a province that the file states.
 fn each_shore_of(
     alloc: Global,
     draft: &Draft<'_>,
@@ -171,6 +179,7 @@ fn province_of(
     })
 }
 
+/// The provinces that the file states.
 fn provinces_of(alloc: Global, draft: &Draft<'_>) -> Result<Vec<Province>, MapFault>
     requires few { length draft.now.provinces ≤ 200 }
     ensures { Gives (λ v. v.items) result (each (province_at draft.now) draft.now.provinces) }
@@ -201,6 +210,7 @@ fn realm_of(
     Ok(Realm { name, home, units })
 }
 
+/// The powers that the file states.
 fn realms_of(alloc: Global, draft: &Draft<'_>) -> Result<Vec<Realm>, MapFault>
     requires few { length draft.now.provinces ≤ 200 }
     requires sides { length draft.now.powers ≤ 7 }

@@ -15,12 +15,14 @@ use dip_names::{
 };
 
 impl Shore {
+    /// Whether the coast has a name.
     fn is_named(&self) -> bool
         ensures { result ≡ is_coast_name self.now.name }
     {
         is_coast_name(self.name.as_bytes())
     }
 
+    /// Whether the coast has no name.
     fn is_unnamed(&self) -> bool
         ensures { result ≡ (length self.now.name == 0) }
     {
@@ -28,24 +30,28 @@ impl Shore {
     }
 }
 
+/// Whether none of these coasts has a name.
 fn are_unnamed(shores: &[Shore]) -> bool
     ensures { result ≡ list_all (λ s. length s.name == 0) shores.now }
 {
     shores.iter().all(|shore| shore.is_unnamed())
 }
 
+/// Whether each of these coasts has a name.
 fn are_named(shores: &[Shore]) -> bool
     ensures { result ≡ list_all (λ s. is_coast_name s.name) shores.now }
 {
     shores.iter().all(|shore| shore.is_named())
 }
 
+/// Whether there is one coast, without a name.
 fn has_one_shore(shores: &[Shore]) -> bool
     ensures { result ≡ has_one_shore shores.now }
 {
     shores.len() == 1 && are_unnamed(shores)
 }
 
+/// Whether there are two to four coasts, with names.
 fn has_named_shores(shores: &[Shore]) -> bool
     ensures { result ≡ has_named_shores shores.now }
 {
@@ -53,6 +59,7 @@ fn has_named_shores(shores: &[Shore]) -> bool
 }
 
 impl Province {
+    /// Whether the coasts and the army's neighbours are such as the terrain has them.
     fn is_shaped(&self) -> bool
         ensures { result ≡ is_shaped self.now.terrain self.now }
     {
@@ -64,6 +71,7 @@ impl Province {
         }
     }
 
+    /// Whether the province is well formed.
     fn is_well_formed(&self) -> bool
         ensures { result ≡ is_province self.now }
     {
@@ -71,6 +79,7 @@ impl Province {
     }
 }
 
+/// Whether a look-up answered this number.
 fn answers(found: Option<usize>, number: usize) -> bool
     ensures { result ≡ answers found number }
 {
@@ -80,6 +89,7 @@ fn answers(found: Option<usize>, number: usize) -> bool
     }
 }
 
+/// Whether the code comes before those of all these provinces.
 fn is_before_codes(code: &str, provinces: &[Province]) -> bool
     ensures { result ≡ list_all (λ r. is_lt (slice_cmp nat_cmp code.now r.code)) provinces.now }
 {
@@ -88,6 +98,7 @@ fn is_before_codes(code: &str, provinces: &[Province]) -> bool
         .all(|province| code < province.code.as_str())
 }
 
+/// Whether the name comes before those of all these powers.
 fn is_before_names(name: &str, realms: &[Realm]) -> bool
     ensures { result ≡ list_all (λ r. is_lt (slice_cmp nat_cmp name.now r.name)) realms.now }
 {
@@ -102,6 +113,7 @@ fn are_of(units: &[Unit], power: Power) -> bool
 }
 
 impl Parts {
+    /// Whether there are no more powers, provinces and coasts than a map may have, and no fewer.
     fn is_within_limits(&self) -> bool
         ensures { result ≡ is_within_limits self.now }
     {
@@ -110,6 +122,7 @@ impl Parts {
         1 <= powers && powers <= 7 && 1 <= provinces && provinces <= 200
     }
 
+    /// Whether each province is well formed.
     fn are_provinces(&self) -> bool
         ensures { result ≡ list_all is_province self.now.provinces }
     {
@@ -118,18 +131,21 @@ impl Parts {
             .all(|province| province.is_well_formed())
     }
 
+    /// Whether each of these provinces is a centre.
     fn are_centres(&self, list: &[Prov]) -> bool
         ensures { result ≡ list_all (λ p. is_centre self.now p) list.now }
     {
         list.iter().all(|p| self.is_centre(*p))
     }
 
+    /// Whether each of these units is of the map.
     fn are_units(&self, units: &[Unit]) -> bool
         ensures { result ≡ list_all (λ u. is_unit self.now u) units.now }
     {
         units.iter().all(|unit| self.is_unit(unit))
     }
 
+    /// Whether the power is well formed.
     fn is_realm(&self, realm: &Realm) -> bool
         ensures { result ≡ is_realm self.now realm.now }
     {
@@ -138,12 +154,14 @@ impl Parts {
             && self.are_units(realm.units.as_slice())
     }
 
+    /// Whether each power is well formed.
     fn are_realms(&self) -> bool
         ensures { result ≡ list_all (λ r. is_realm self.now r) self.now.realms }
     {
         self.realms.iter().all(|realm| self.is_realm(realm))
     }
 
+    /// Whether each power's units are its own.
     fn has_own_units(&self) -> bool
         requires { length self.now.realms ≤ 7 }
         ensures { result ≡ rest_has_own_units 0 self.now.realms }
@@ -156,6 +174,7 @@ impl Parts {
         true
     }
 
+    /// Whether each province and each power is well formed, and a power's units are its own.
     fn is_well_formed(&self) -> bool
         requires { length self.now.realms ≤ 7 }
         ensures { result ≡ is_well_formed self.now }
@@ -163,6 +182,7 @@ impl Parts {
         self.are_provinces() && self.are_realms() && self.has_own_units()
     }
 
+    /// Whether codes ascend, so that none stands twice.
     fn has_ascending_codes(&self) -> bool
         ensures { result ≡ are_ascending_by (λ r. r.code) self.now.provinces }
     {
@@ -175,6 +195,7 @@ impl Parts {
         true
     }
 
+    /// Whether powers' names ascend, so that none stands twice.
     fn has_ascending_names(&self) -> bool
         ensures { result ≡ are_ascending_by (λ r. r.name) self.now.realms }
     {
@@ -187,6 +208,7 @@ impl Parts {
         true
     }
 
+    /// Whether no name of a coast stands twice among these of a province.
     fn has_distinct_shores(&self, p: Prov, shores: &[Shore]) -> bool
         ensures { result ≡ rest_of_shores self.now p 0 shores.now }
     {
@@ -198,6 +220,7 @@ impl Parts {
         true
     }
 
+    /// Whether no name of a coast stands twice in any province.
     fn has_distinct_coasts(&self) -> bool
         requires { length self.now.provinces ≤ 200 }
         ensures { result ≡ rest_of_coasts self.now 0 self.now.provinces }
@@ -210,6 +233,7 @@ impl Parts {
         true
     }
 
+    /// Whether codes and powers' names ascend, and no coast's name stands twice in a province.
     fn is_distinct(&self) -> bool
         requires { length self.now.provinces ≤ 200 }
         ensures { result ≡ is_distinct self.now }
@@ -217,12 +241,14 @@ impl Parts {
         self.has_ascending_codes() && self.has_ascending_names() && self.has_distinct_coasts()
     }
 
+    /// Whether each of these provinces has `p` among its neighbours of armies.
     fn is_named_back(&self, p: Prov, list: &[Prov]) -> bool
         ensures { result ≡ is_named_back self.now p list.now }
     {
         list.iter().all(|q| self.is_army_next(*q, p))
     }
 
+    /// Whether each neighbour of armies names its neighbour back.
     fn is_mutual_by_land(&self) -> bool
         requires { length self.now.provinces ≤ 200 }
         ensures { result ≡ rest_is_mutual self.now 0 self.now.provinces }
@@ -235,12 +261,14 @@ impl Parts {
         true
     }
 
+    /// Whether each of these places has `a` among its neighbours of fleets.
     fn are_named_back(&self, a: Place, list: &[Place]) -> bool
         ensures { result ≡ are_named_back self.now a list.now }
     {
         list.iter().all(|b| self.is_fleet_next(*b, a))
     }
 
+    /// Whether each neighbour of these coasts names that coast back.
     fn are_shores_mutual(&self, prov: Prov, shores: &[Shore]) -> bool
         requires { length shores.now ≤ 4 }
         ensures { result ≡ rest_of_shores_is_mutual self.now prov 0 shores.now }
@@ -257,6 +285,7 @@ impl Parts {
         true
     }
 
+    /// Whether each neighbour of fleets names its neighbour back.
     fn is_mutual_by_sea(&self) -> bool
         requires few { length self.now.provinces ≤ 200 }
         requires well_formed { is_well_formed self.now ≡ true }
@@ -271,6 +300,7 @@ impl Parts {
         true
     }
 
+    /// Whether each neighbour names its neighbour back.
     fn is_mutual(&self) -> bool
         requires few { length self.now.provinces ≤ 200 }
         requires well_formed { is_well_formed self.now ≡ true }

@@ -55,6 +55,7 @@ impl Distances {
         }
     }
 
+    /// How far a fleet at the place is from the home centres of the power.
     fn noted_of_fleets(&self, place: Place, power: Power) -> u16
         ensures { result ≡ distance_in self.now Fleet place power }
     {
@@ -66,6 +67,7 @@ impl Distances {
     }
 }
 
+/// What a power's table has for a vertex.
 fn noted_at(tables: &[Vec<u16>], power: Power, vertex: usize) -> u16
     ensures { result ≡ noted_at (rows_of tables.now) power vertex }
 {
@@ -75,12 +77,14 @@ fn noted_at(tables: &[Vec<u16>], power: Power, vertex: usize) -> u16
     }
 }
 
+/// The vertex of a place in the graph of fleets, which has four for each province.
 fn vertex(place: Place) -> usize
     ensures { result ≡ vertex place }
 {
     (place.prov.index() as usize) * 4 + place.coast as usize
 }
 
+/// The place of a vertex in the graph of fleets.
 fn place_at(vertex: usize) -> Place
     requires { vertex < 1000 }
     ensures { result ≡ place_at vertex }
@@ -91,6 +95,7 @@ fn place_at(vertex: usize) -> Place
     }
 }
 
+/// Appends the numbers of these provinces.
 fn push_provinces(row: &mut Vec<usize>, provinces: &[Prov]) -> Result<(), AllocError>
     ensures { IfOk result (λ _. row.new.items ≡ row.old.items ++ provinces.now) }
 {
@@ -100,6 +105,7 @@ fn push_provinces(row: &mut Vec<usize>, provinces: &[Prov]) -> Result<(), AllocE
     Ok(())
 }
 
+/// Appends the numbers of the provinces of these places.
 fn push_provinces_of(row: &mut Vec<usize>, places: &[Place]) -> Result<(), AllocError>
     ensures { IfOk result (λ _. row.new.items ≡ row.old.items ++ map (λ b. b.prov) places.now) }
 {
@@ -109,6 +115,7 @@ fn push_provinces_of(row: &mut Vec<usize>, places: &[Place]) -> Result<(), Alloc
     Ok(())
 }
 
+/// Where an army's way may go on from a province: to neighbours of either kind.
 fn ways(alloc: Global, parts: &Parts, p: Prov) -> Result<Vec<usize>, AllocError>
     ensures { IfOk result (λ v. v.items ≡ ways parts.now p) }
 {
@@ -120,6 +127,7 @@ fn ways(alloc: Global, parts: &Parts, p: Prov) -> Result<Vec<usize>, AllocError>
     Ok(row)
 }
 
+/// Where a fleet's way may go on from a place.
 fn ways_by_sea(alloc: Global, parts: &Parts, a: Place) -> Result<Vec<usize>, AllocError>
     ensures { IfOk result (λ v. v.items ≡ map (λ b. vertex b) (fleet_next parts.now a)) }
 {
@@ -130,6 +138,7 @@ fn ways_by_sea(alloc: Global, parts: &Parts, a: Place) -> Result<Vec<usize>, All
     Ok(row)
 }
 
+/// Whether a fleet at the place is in a home centre of the power.
 fn is_haven(parts: &Parts, power: Power, a: Place) -> bool
     ensures { result ≡ is_haven parts.now power a }
 {
@@ -137,6 +146,7 @@ fn is_haven(parts: &Parts, power: Power, a: Place) -> bool
     parts.is_fleet_place(a) && parts.is_home(power, prov)
 }
 
+/// How many vertices the graph of a kind of unit has: the provinces, or four for each.
 fn vertices(parts: &Parts, kind: Kind) -> usize
     requires { length parts.now.provinces ≤ 200 }
     ensures { result ≡ vertices parts.now kind }
@@ -147,6 +157,7 @@ fn vertices(parts: &Parts, kind: Kind) -> usize
     }
 }
 
+/// The vertices next to one, for a kind of unit.
 fn row_of(alloc: Global, parts: &Parts, kind: Kind, vertex: usize) -> Result<Vec<usize>, AllocError>
     requires few { length parts.now.provinces ≤ 200 }
     requires within { vertex < vertices parts.now kind }
@@ -158,6 +169,7 @@ fn row_of(alloc: Global, parts: &Parts, kind: Kind, vertex: usize) -> Result<Vec
     }
 }
 
+/// Whether a vertex is in a home centre of the power.
 fn is_home_at(parts: &Parts, kind: Kind, power: Power, vertex: usize) -> bool
     requires few { length parts.now.provinces ≤ 200 }
     requires within { vertex < vertices parts.now kind }
@@ -169,6 +181,7 @@ fn is_home_at(parts: &Parts, kind: Kind, power: Power, vertex: usize) -> bool
     }
 }
 
+/// The graph of a kind of unit: for each vertex those next to it.
 fn graph_of(alloc: Global, parts: &Parts, kind: Kind) -> Result<Vec<Vec<usize>>, AllocError>
     requires { length parts.now.provinces ≤ 200 }
     ensures { IfOk result (λ v. rows_of v.items ≡ graph parts.now kind) }
@@ -181,6 +194,7 @@ fn graph_of(alloc: Global, parts: &Parts, kind: Kind) -> Result<Vec<Vec<usize>>,
     Ok(graph)
 }
 
+/// For each vertex whether it is in a home centre of the power.
 fn homes_of(alloc: Global, parts: &Parts, kind: Kind, power: Power) -> Result<Vec<bool>, AllocError>
     requires { length parts.now.provinces ≤ 200 }
     ensures { IfOk result (λ v. v.items ≡ homes parts.now kind power) }
@@ -192,6 +206,7 @@ fn homes_of(alloc: Global, parts: &Parts, kind: Kind, power: Power) -> Result<Ve
     Ok(homes)
 }
 
+/// For each power how far each vertex is from its home centres.
 fn tables_of(alloc: Global, parts: &Parts, kind: Kind) -> Result<Vec<Vec<u16>>, AllocError>
     requires { IsMap parts.now }
     ensures { IfOk result

@@ -9,12 +9,14 @@ ghost use Rattle.dip_map_chart.specs.Checks.{has_single_neighbours, is_home_of, 
 use crate::parts::{Parts, Province, Realm, Shore};
 use dip_names::{Place, Prov, Unit};
 
+/// Whether all these places are in other provinces than `p`.
 fn leads_away(p: Prov, next: &[Place]) -> bool
     ensures { result ≡ list_all (λ b. not (b.prov == p)) next.now }
 {
     next.iter().all(|b| b.prov != p)
 }
 
+/// Whether these coasts lead to other provinces than `p`.
 fn lead_away(p: Prov, shores: &[Shore]) -> bool
     ensures { result ≡ lead_away p shores.now }
 {
@@ -23,6 +25,7 @@ fn lead_away(p: Prov, shores: &[Shore]) -> bool
         .all(|shore| leads_away(p, shore.next.as_slice()))
 }
 
+/// Whether no province stands twice in the list.
 fn are_provs_single(provs: &[Prov]) -> bool
     ensures { result ≡ are_provs_single provs.now }
 {
@@ -34,6 +37,7 @@ fn are_provs_single(provs: &[Prov]) -> bool
     true
 }
 
+/// Whether no place stands twice in the list.
 fn are_places_single(places: &[Place]) -> bool
     ensures { result ≡ are_places_single places.now }
 {
@@ -45,6 +49,7 @@ fn are_places_single(places: &[Place]) -> bool
     true
 }
 
+/// Whether one of these provinces has the full name.
 fn is_name_of(provinces: &[Province], name: &str) -> bool
     ensures { result ≡ list_any (λ t. bytes_eq t.name name.now) provinces.now }
 {
@@ -53,6 +58,7 @@ fn is_name_of(provinces: &[Province], name: &str) -> bool
         .any(|province| province.name.as_str() == name)
 }
 
+/// Whether no full name stands twice in the list.
 fn are_names_single(provinces: &[Province]) -> bool
     ensures { result ≡ are_names_single provinces.now }
 {
@@ -64,6 +70,7 @@ fn are_names_single(provinces: &[Province]) -> bool
     true
 }
 
+/// Whether one of these units stands in the province.
 fn is_held(units: &[Unit], p: Prov) -> bool
     ensures { result ≡ list_any (λ u. u.place.prov == p) units.now }
 {
@@ -82,6 +89,7 @@ pub fn are_units_single(units: &[Unit]) -> bool
     true
 }
 
+/// Whether no neighbour stands twice for any of these coasts.
 fn are_shores_single(shores: &[Shore]) -> bool
     ensures { result ≡ list_all (λ s. are_places_single s.next) shores.now }
 {
@@ -90,12 +98,14 @@ fn are_shores_single(shores: &[Shore]) -> bool
         .all(|shore| are_places_single(shore.next.as_slice()))
 }
 
+/// Whether no neighbour of the province stands twice in a list of it.
 fn has_single_neighbours(province: &Province) -> bool
     ensures { result ≡ has_single_neighbours province.now }
 {
     are_provs_single(province.army.as_slice()) && are_shores_single(province.shores.as_slice())
 }
 
+/// Whether no neighbour stands twice in a list of any of these provinces.
 fn have_single_neighbours(provinces: &[Province]) -> bool
     ensures { result ≡ list_all has_single_neighbours provinces.now }
 {
@@ -104,6 +114,7 @@ fn have_single_neighbours(provinces: &[Province]) -> bool
         .all(|province| has_single_neighbours(province))
 }
 
+/// Whether the province is a home centre of one of these powers.
 fn is_home_of(realms: &[Realm], p: Prov) -> bool
     ensures { result ≡ is_home_of realms.now p }
 {
@@ -112,12 +123,14 @@ fn is_home_of(realms: &[Realm], p: Prov) -> bool
         .any(|realm| realm.home.as_slice().contains(&p))
 }
 
+/// Whether any of these provinces is a home centre of one of these powers.
 fn is_any_home_of(realms: &[Realm], homes: &[Prov]) -> bool
     ensures { result ≡ list_any (λ p. is_home_of realms.now p) homes.now }
 {
     homes.iter().any(|p| is_home_of(realms, *p))
 }
 
+/// Whether a unit of one of these powers stands in the province at the opening.
 fn is_held_by(realms: &[Realm], p: Prov) -> bool
     ensures { result ≡ is_held_by realms.now p }
 {
@@ -126,12 +139,14 @@ fn is_held_by(realms: &[Realm], p: Prov) -> bool
         .any(|realm| is_held(realm.units.as_slice(), p))
 }
 
+/// Whether any of these units stands where a unit of one of these powers does.
 fn is_any_held_by(realms: &[Realm], units: &[Unit]) -> bool
     ensures { result ≡ list_any (λ u. is_held_by realms.now u.place.prov) units.now }
 {
     units.iter().any(|unit| is_held_by(realms, unit.place.prov))
 }
 
+/// Whether no home centre stands twice, in a power's list or in those of two powers.
 fn are_homes_single(realms: &[Realm]) -> bool
     ensures { result ≡ are_homes_single realms.now }
 {
@@ -144,6 +159,7 @@ fn are_homes_single(realms: &[Realm]) -> bool
     true
 }
 
+/// Whether no two opening units of these powers stand in one province.
 fn are_openings_single(realms: &[Realm]) -> bool
     ensures { result ≡ are_openings_single realms.now }
 {
@@ -157,12 +173,14 @@ fn are_openings_single(realms: &[Realm]) -> bool
 }
 
 impl Parts {
+    /// Whether an army goes from `p` to this neighbour: another province, and no sea.
     fn may_march(&self, p: Prov, q: Prov) -> bool
         ensures { result ≡ may_march self.now p q }
     {
         q != p && !self.terrain(q).is_sea()
     }
 
+    /// Whether an army goes from `p` to each of these neighbours.
     fn may_march_to(&self, p: Prov, list: &[Prov]) -> bool
         ensures { result ≡ list_all (λ q. may_march self.now p q) list.now }
     {

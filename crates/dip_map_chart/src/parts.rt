@@ -236,6 +236,7 @@ impl Parts {
         (a.prov.index() as usize) < self.provinces.len() && (a.coast as usize) < self.coasts(a.prov)
     }
 
+    /// Whether the place is one of the map where an army may be: it has no coast, and is no sea.
     fn is_army_place(&self, a: Place) -> bool
         ensures { result ≡ is_army_place self.now a }
     {

@@ -24,12 +24,12 @@ abbrev pub place_text : Site → List ℕ
 place_text s = site_text s.code s.coast
 
 -- a unit as it is written: its letter, a space and its place
-abbrev pub kind_text : Kind → List ℕ
-kind_text Army = codes "A "
-kind_text Fleet = codes "F "
+abbrev pub kind_prefix : Kind → List ℕ
+kind_prefix Army = codes "A "
+kind_prefix Fleet = codes "F "
 
 abbrev pub unit_text : UnitDraft → List ℕ
-unit_text u = kind_text u.kind ++ place_text u.site
+unit_text u = kind_prefix u.kind ++ place_text u.site
 
 -- where a fleet goes from each of these coasts, by the coast's name
 abbrev pub coast_lists : List ShoreDraft → Members

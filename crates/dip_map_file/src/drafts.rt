@@ -72,6 +72,7 @@ impl<'a> ProvinceDraft<'a> {
     }
 }
 
+/// The number of the coast with a name.
 fn coast_index(shores: &[ShoreDraft<'_>], name: &[u8]) -> Option<usize>
     ensures { result ≡ position (λ s. bytes_eq s.name name.now) shores.now }
 {

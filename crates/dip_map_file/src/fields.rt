@@ -89,6 +89,7 @@ pub(crate) fn flag_in(table: &Table, key: &str) -> Result<bool, MapFault>
     }
 }
 
+/// Whether the key is one of these.
 fn is_among(keys: &[&str], key: &str) -> bool
     ensures { result ≡ list_any (λ k. bytes_eq k key.now) (map (λ s. s.now) keys.now) }
 {

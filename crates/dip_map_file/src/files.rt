@@ -50,6 +50,7 @@ fn terrain_of(word: &str) -> Result<Terrain, MapFault>
     }
 }
 
+/// Whether the fields of a province have only keys that its terrain may have.
 fn has_keys_of(terrain: Terrain, fields: &Table) -> bool
     ensures { result ≡ keys_are_among (keys_of terrain) (table_view fields.now) }
 {
@@ -65,6 +66,7 @@ fn has_keys_of(terrain: Terrain, fields: &Table) -> bool
     }
 }
 
+/// Whether a province of this terrain may be a centre.
 fn may_be_centre(terrain: Terrain) -> bool
     ensures { result ≡ may_be_centre terrain }
 {
@@ -74,6 +76,7 @@ fn may_be_centre(terrain: Terrain) -> bool
     }
 }
 
+/// Whether a province has a code, no field but its own, and is a centre only on land.
 fn is_sound(code: &str, terrain: Terrain, centre: bool, fields: &Table) -> bool
     ensures { result ≡ is_sound code.now terrain centre (table_view fields.now) }
 {
@@ -212,6 +215,7 @@ fn power_of<'a>(alloc: Global, name: &'a str, value: &'a Value) -> Result<PowerD
     Err(MapFault::WrongField)
 }
 
+/// The provinces that the file states, in its order.
 fn provinces_of(alloc: Global, lands: &Table) -> Result<Vec<ProvinceDraft<'_>>, MapFault>
     ensures { Gives (λ v. v.items) result (each_member province_at (table_view lands.now)) }
 {
@@ -223,6 +227,7 @@ fn provinces_of(alloc: Global, lands: &Table) -> Result<Vec<ProvinceDraft<'_>>, 
     Ok(provinces)
 }
 
+/// The powers that the file states, in its order.
 fn powers_of(alloc: Global, realms: &Table) -> Result<Vec<PowerDraft<'_>>, MapFault>
     ensures { Gives (λ v. v.items) result (each_member power_at (table_view realms.now)) }
 {

@@ -11,6 +11,7 @@ use dip_names::{Kind, MapFault, is_coast_name, is_code};
 use std::alloc::Global;
 use toml::value::{Array, Value};
 
+/// The code that a value spells.
 #[tactic(auto, unfolding(crate::specs::Files::code_at))]
 fn code_of(value: &Value) -> Result<&str, MapFault>
     ensures { Gives (λ s. s.now) result (code_at (view value.now)) }
@@ -83,6 +84,7 @@ fn unit_of_text(text: &[u8]) -> Result<UnitDraft<'_>, MapFault>
     Err(MapFault::WrongField)
 }
 
+/// The unit that a value spells.
 #[tactic(auto, unfolding(crate::specs::Files::unit_at))]
 fn unit_of(value: &Value) -> Result<UnitDraft<'_>, MapFault>
     ensures { Gives (λ u. u) result (unit_at (view value.now)) }
@@ -91,6 +93,7 @@ fn unit_of(value: &Value) -> Result<UnitDraft<'_>, MapFault>
     unit_of_text(text.as_bytes())
 }
 
+/// The codes that the values of an array spell.
 fn codes_in<'a>(alloc: Global, array: &'a Array) -> Result<Vec<&'a str>, MapFault>
     ensures { Gives (λ v. map (λ s. s.now) v.items) result
         (each_item code_at (array_view array.now)) }
@@ -103,6 +106,7 @@ fn codes_in<'a>(alloc: Global, array: &'a Array) -> Result<Vec<&'a str>, MapFaul
     Ok(codes)
 }
 
+/// The places that the values of an array spell.
 fn sites_in<'a>(alloc: Global, array: &'a Array) -> Result<Vec<Site<'a>>, MapFault>
     ensures { Gives (λ v. v.items) result (each_item site_at (array_view array.now)) }
 {
@@ -114,6 +118,7 @@ fn sites_in<'a>(alloc: Global, array: &'a Array) -> Result<Vec<Site<'a>>, MapFau
     Ok(sites)
 }
 
+/// The units that the values of an array spell.
 fn units_in<'a>(alloc: Global, array: &'a Array) -> Result<Vec<UnitDraft<'a>>, MapFault>
     ensures { Gives (λ v. v.items) result (each_item unit_at (array_view array.now)) }
 {

@@ -4,18 +4,21 @@ ghost use Rattle.std.specs.List.{list_all};
 ghost use Rattle.std.specs.Char.{is_ascii_lowercase};
 ghost use Rattle.dip_names.specs.Forms.{is_printable, is_taken, is_code, is_coast_name, is_full_name, is_power_name};
 
+/// Whether each byte is a small letter.
 fn is_lowercase(text: &[u8]) -> bool
     ensures { result ≡ list_all is_ascii_lowercase text.now }
 {
     text.iter().all(|b| b.is_ascii_lowercase())
 }
 
+/// Whether the byte is printable.
 fn is_printable_byte(b: u8) -> bool
     ensures { result ≡ is_printable b }
 {
     32 <= b && b <= 126
 }
 
+/// Whether each byte is printable.
 fn is_printable(text: &[u8]) -> bool
     ensures { result ≡ list_all is_printable text.now }
 {

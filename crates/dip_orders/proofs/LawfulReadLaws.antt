@@ -21,7 +21,7 @@ use Rattle.dip_orders.specs.Laws.{LawfulOrdersAreRead}
 use Rattle.dip_orders.specs.Lawful.{IsAllowed, IsSite, IsThere, MayAid, MayCarry, MayCome, Reaches, Stands}
 use Rattle.dip_orders.specs.Retreats.{is_place_among, next_places, on_foot, retreats_of}
 use Rattle.dip_orders.specs.Rules.{checks_of, unit_checks, move_checks, move_place, other_checks, order_in, retreat_checks, site, site_checks, is_supportable, unit_of, the_unit, dislodged_of, the_dislodged}
-use Rattle.dip_orders.specs.Conditions.{is_adjustment, is_retreat, army_place, could_move, first_in, is_on_map, may_build, may_convoy, may_march, no_dislodged, no_place, no_unit, other_at, place_in, prov_named, unit_at, dislodged_at, knows_coast, builds_elsewhere, removals_elsewhere}
+use Rattle.dip_orders.specs.Conditions.{is_adjustment, is_retreat, army_place, could_move, first_in, is_on_map, may_build, may_convoy, may_travel, no_dislodged, no_place, no_unit, other_at, place_in, prov_named, unit_at, dislodged_at, knows_coast, builds_elsewhere, removals_elsewhere}
 use Rattle.dip_names.specs.Kinds.{is_sea, is_coastal, is_kind}
 use Rattle.dip_orders.specs.Texts.{order_text}
 use Rattle.dip_orders.specs.declared.faults.OrderFault.TheVariants.{OutOfReach, SupportOutOfReach, WrongKind, NoBuildThere, NoConvoyThere, WrongCoast, AllowanceUsed, NoSuchRetreat}
@@ -156,7 +156,7 @@ record ToldMove (m : Chart) (k : Kind) (a to : Place) (via : Bool) : Type 0 wher
   pub checks : Hold (move_checks m k a to.prov (coast_for m k to) via)
   pub same : move_place m k a to.prov (coast_for m k to) ≡ to
 
-march_low : (m : Chart) (p q : ℕ) → IsMap m → may_march m p q ≡ true → q < length m.provinces
+march_low : (m : Chart) (p q : ℕ) → IsMap m → may_travel m p q ≡ true → q < length m.provinces
 march_low m p q ok h =
     elim (cases_Bool (is_army_next m p q)) [
       | inl near ↦ next_low m p q ok near

@@ -13,7 +13,7 @@ use Rattle.dip_map.specs.declared.boards.Season.TheVariants.{SpringMoves, Spring
 use Rattle.dip_map.specs.Charts.{Chart, IsMap, province, is_army_next}
 use Rattle.dip_map.specs.Boards.{Position}
 use Rattle.dip_orders.specs.Lawful.{IsLawful, IsAllowed, Reaches}
-use Rattle.dip_orders.specs.Conditions.{is_movement, is_retreat, is_adjustment, may_convoy, may_march}
+use Rattle.dip_orders.specs.Conditions.{is_movement, is_retreat, is_adjustment, may_convoy, may_travel}
 use Rattle.dip_names.specs.Kinds.{is_kind, is_coastal}
 use Rattle.dip_orders.specs.Standing.{is_done_from, is_in_force, are_in_force, is_same_unit, found_order, order_among, standing_orders, units_of, IsOnly}
 use Rattle.dip_orders.specs.declared.placed.Order.{Order}
@@ -122,7 +122,7 @@ convoy_away m p q h e =
       | inr other ↦ absurd (other.1 (sym e))
     ]
 
-march_away : (m : Chart) → IsMap m → (p q : ℕ) → may_march m p q ≡ true → q ≢ p
+march_away : (m : Chart) → IsMap m → (p q : ℕ) → may_travel m p q ≡ true → q ≢ p
 march_away m laws p q h =
     elim (cases_Bool (is_army_next m p q)) [
       | inl next ↦ (laws.army_away p q next).0

@@ -20,7 +20,7 @@ use Rattle.dip_orders.specs.Retreats.{is_open, next_places, on_foot}
 use Rattle.dip_orders.specs.Rules.{unit_checks, sail_checks, move_checks, move_place, other_checks, site_checks, site, unit_of, the_unit, dislodged_of, the_dislodged, retreat_checks, own_checks, order_in, answer}
 use Rattle.dip_orders.specs.Checking.{need, prov_at, checked_unit, sail_to, go_to, checked_other, site_at, order_steps, in_phase, hold_order, move_order, support_hold_order, support_move_order, convoy_order, carrier, build_order, remove_order, checked_dislodged, leave_to, retreat_order, disband_order}
 use Rattle.dip_names.specs.Results.{◌>>=◌}
-use Rattle.dip_orders.specs.Conditions.{is_in_phase, is_on_map, prov_named, no_place, no_unit, no_dislodged, army_place, other_at, knows_coast, first_in, count_in, named_in, place_in, may_convoy, may_march}
+use Rattle.dip_orders.specs.Conditions.{is_in_phase, is_on_map, prov_named, no_place, no_unit, no_dislodged, army_place, other_at, knows_coast, first_in, count_in, named_in, place_in, may_convoy, may_travel}
 use Rattle.dip_names.specs.Kinds.{is_kind, is_sea}
 use Rattle.dip_orders.specs.declared.faults.OrderFault.{OrderFault}
 use Rattle.dip_orders.specs.declared.faults.OrderFault.TheVariants.{UnknownProvince, WrongKind, OutOfReach, CoastNeeded, WrongCoast, NoSuchUnit, NoConvoyThere, NotInThisPhase, NoSuchRetreat}
@@ -85,7 +85,7 @@ march_tests false t e q g = refl
 go_last : {B : Type 0} (m : Chart) (k : Kind) (a : Place) (q : ℕ) (coast : Option (List ℕ)) (via : Bool) (g : Place → B)
     → (go_to m k a q coast via >>= (λ x. Ok (g x))) ≡ outcome (move_checks m k a q coast via) (g (move_place m k a q coast))
 go_last m Army a q coast true g = march_tests (is_none coast) (may_convoy m a.prov q) NoConvoyThere q g
-go_last m Army a q coast false g = march_tests (is_none coast) (may_march m a.prov q) OutOfReach q g
+go_last m Army a q coast false g = march_tests (is_none coast) (may_travel m a.prov q) OutOfReach q g
 go_last m Fleet a q coast true g = refl
 go_last m Fleet a q coast false g = sail_last m (fleet_next m a) q coast OutOfReach g
 

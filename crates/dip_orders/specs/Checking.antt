@@ -15,7 +15,7 @@ use Rattle.dip_orders_lines.specs.declared.forms.Form.TheVariants.{Hold, Move, S
 use Rattle.dip_orders.specs.Allowances.{builds_due, removals_due}
 use Rattle.dip_orders.specs.Retreats.{is_open}
 use Rattle.dip_orders.specs.Rules.{is_supportable}
-use Rattle.dip_orders.specs.Conditions.{is_in_phase, army_place, unit_at, dislodged_at, other_at, knows_coast, first_in, count_in, named_in, could_move, may_convoy, may_march, may_build, builds_elsewhere, removals_elsewhere}
+use Rattle.dip_orders.specs.Conditions.{is_in_phase, army_place, unit_at, dislodged_at, other_at, knows_coast, first_in, count_in, named_in, could_move, may_convoy, may_travel, may_build, builds_elsewhere, removals_elsewhere}
 use Rattle.dip_names.specs.Kinds.{is_kind, is_sea}
 use Rattle.dip_orders.specs.declared.faults.OrderFault.{OrderFault}
 use Rattle.dip_orders.specs.declared.faults.OrderFault.TheVariants.{UnknownProvince, NoUnitThere, WrongKind, OutOfReach, CoastNeeded, WrongCoast, NoSuchUnit, SupportOutOfReach, NoConvoyThere, NotInThisPhase, NoBuildThere, AllowanceUsed, NoSuchRetreat}
@@ -46,7 +46,7 @@ march_to m p q coast true = do
   need (may_convoy m p q) NoConvoyThere (army_place bare)
 march_to m p q coast false = do
   bare ← need (is_none coast) WrongCoast q
-  need (may_march m p q) OutOfReach (army_place bare)
+  need (may_travel m p q) OutOfReach (army_place bare)
 
 -- where a fleet goes, of the places of a province that it can come to
 abbrev pub coast_to : Chart → List Place → ℕ → Option (List ℕ) → Place → Result Place OrderFault

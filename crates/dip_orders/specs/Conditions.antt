@@ -129,9 +129,9 @@ could_move m Fleet a q = is_some (first_in (fleet_next m a) q)
 abbrev pub may_convoy : Chart → ℕ → ℕ → Bool
 may_convoy m p q = is_coastal (province m p).terrain && (is_coastal (province m q).terrain && not (p == q))
 
--- an army may march from p to q: on foot, or by convoy
-abbrev pub may_march : Chart → ℕ → ℕ → Bool
-may_march m p q = is_army_next m p q || may_convoy m p q
+-- an army may travel from p to q: on foot, or by convoy
+abbrev pub may_travel : Chart → ℕ → ℕ → Bool
+may_travel m p q = is_army_next m p q || may_convoy m p q
 
 -- a unit could come to a province: it could move there, or is an army that a convoy may take there
 abbrev pub could_come : Chart → AUnit → ℕ → Bool

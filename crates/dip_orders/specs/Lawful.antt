@@ -9,7 +9,7 @@ use Rattle.dip_map.specs.Charts.{Chart, province, is_fleet_next, is_fleet_place}
 use Rattle.dip_map.specs.Boards.{Position}
 use Rattle.dip_orders.specs.Allowances.{builds_due, removals_due}
 use Rattle.dip_orders.specs.Retreats.{is_place_among, retreats_of}
-use Rattle.dip_orders.specs.Conditions.{is_movement, is_retreat, is_adjustment, army_place, unit_at, dislodged_at, other_at, could_move, could_come, may_convoy, may_march, may_build, builds_elsewhere, removals_elsewhere}
+use Rattle.dip_orders.specs.Conditions.{is_movement, is_retreat, is_adjustment, army_place, unit_at, dislodged_at, other_at, could_move, could_come, may_convoy, may_travel, may_build, builds_elsewhere, removals_elsewhere}
 use Rattle.dip_names.specs.Kinds.{is_sea}
 use Rattle.dip_orders.specs.declared.placed.Other.{Other}
 use Rattle.dip_orders.specs.declared.placed.Order.{Order}
@@ -18,7 +18,7 @@ use Rattle.dip_orders.specs.declared.placed.PlacedOrder.{PlacedOrder}
 
 -- a destination can be reached: an army's by land or by a convoy between two coasts, a fleet's by one of its neighbours
 abbrev pub Reaches : Chart → Kind → Place → Place → Bool → Type 0
-Reaches m Army a to via = (to ≡ army_place to.prov) × ((if via then may_convoy m a.prov to.prov else may_march m a.prov to.prov) ≡ true)
+Reaches m Army a to via = (to ≡ army_place to.prov) × ((if via then may_convoy m a.prov to.prov else may_travel m a.prov to.prov) ≡ true)
 Reaches m Fleet a to via = (not via ≡ true) × (is_fleet_next m a to ≡ true)
 
 -- the power's standing unit

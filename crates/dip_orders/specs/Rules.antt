@@ -15,7 +15,7 @@ use Rattle.dip_orders_lines.specs.declared.forms.Form.TheVariants.{Hold, Move, S
 use Rattle.dip_orders.specs.Allowances.{builds_due, removals_due}
 use Rattle.dip_orders.specs.Checks.{Check, must, outcome}
 use Rattle.dip_orders.specs.Retreats.{retreats_of}
-use Rattle.dip_orders.specs.Conditions.{is_in_phase, is_on_map, prov_named, no_unit, no_dislodged, army_place, unit_at, dislodged_at, other_at, knows_coast, first_in, has_coast_in, is_settled_in, place_in, could_move, may_convoy, may_march, could_come, may_build, builds_elsewhere, removals_elsewhere}
+use Rattle.dip_orders.specs.Conditions.{is_in_phase, is_on_map, prov_named, no_unit, no_dislodged, army_place, unit_at, dislodged_at, other_at, knows_coast, first_in, has_coast_in, is_settled_in, place_in, could_move, may_convoy, may_travel, could_come, may_build, builds_elsewhere, removals_elsewhere}
 use Rattle.dip_names.specs.Kinds.{is_kind, is_sea}
 use Rattle.dip_orders.specs.declared.faults.OrderFault.{OrderFault}
 use Rattle.dip_orders.specs.declared.faults.OrderFault.TheVariants.{CannotBeRead, UnknownProvince, NoUnitThere, WrongKind, OutOfReach, CoastNeeded, WrongCoast, NoSuchUnit, SupportOutOfReach, NoConvoyThere, NotInThisPhase, NoBuildThere, AllowanceUsed, NoSuchRetreat}
@@ -38,7 +38,7 @@ unit_checks m found u =
 abbrev pub march_checks : Chart → ℕ → ℕ → Option (List ℕ) → Bool → List Check
 march_checks m p q coast via =
     must (is_none coast) WrongCoast
-    ∷ (if via then must (may_convoy m p q) NoConvoyThere else must (may_march m p q) OutOfReach)
+    ∷ (if via then must (may_convoy m p q) NoConvoyThere else must (may_travel m p q) OutOfReach)
     ∷ []
 
 -- a fleet comes to one of these places in the province: that of the coast that is written, or the only one

@@ -87,6 +87,7 @@ fn removals_elsewhere(pending: &[PlacedOrder], p: Prov) -> usize
         .count()
 }
 
+/// The order to build a unit, or the first check that it fails.
 pub(crate) fn build_of(
     map: &Map,
     board: &Board,
@@ -115,6 +116,7 @@ pub(crate) fn build_of(
     })
 }
 
+/// The order to remove a unit, or the first check that it fails.
 pub(crate) fn remove_of(
     map: &Map,
     board: &Board,

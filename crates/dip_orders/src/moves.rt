@@ -3,7 +3,7 @@ ghost use Rattle.std.specs.Prelude.{◌≡◌, ◌==◌, ◌&&◌};
 ghost use Rattle.std.specs.Str.{bytes_eq};
 ghost use Rattle.dip_map.specs.Charts.{province, shore};
 ghost use Rattle.dip_orders.specs.Checking.{march_to, coast_to, sail_to, go_to, hold_order, move_order};
-ghost use Rattle.dip_orders.specs.Conditions.{may_convoy, may_march, first_in, count_in, named_in, could_move, could_come};
+ghost use Rattle.dip_orders.specs.Conditions.{may_convoy, may_travel, first_in, count_in, named_in, could_move, could_come};
 
 use crate::faults::OrderFault;
 use crate::placed::{Order, PlacedOrder};
@@ -20,12 +20,13 @@ pub(crate) fn may_convoy(map: &Map, p: Prov, q: Prov) -> bool
 }
 
 /// Whether an army may march from p to q, on foot or by convoy.
-fn may_march(map: &Map, p: Prov, q: Prov) -> bool
-    ensures { result ≡ may_march map.now p q }
+fn may_travel(map: &Map, p: Prov, q: Prov) -> bool
+    ensures { result ≡ may_travel map.now p q }
 {
     map.is_army_next(p, q) || may_convoy(map, p, q)
 }
 
+/// Where an army goes that is sent to a province.
 fn march_to(
     map: &Map,
     p: Prov,
@@ -44,7 +45,7 @@ fn march_to(
         }
         return Ok(Place { prov: q, coast: 0 });
     }
-    if !may_march(map, p, q) {
+    if !may_travel(map, p, q) {
         return Err(OrderFault::OutOfReach);
     }
     Ok(Place { prov: q, coast: 0 })
@@ -62,12 +63,14 @@ fn first_in(places: &[Place], q: Prov) -> Option<Place>
     None
 }
 
+/// How many of these places are in a province.
 fn count_in(places: &[Place], q: Prov) -> usize
     ensures { result ≡ count_in places.now q }
 {
     places.iter().filter(|place| place.prov == q).count()
 }
 
+/// Whether the place is in the province, at the coast with this name.
 fn is_named(map: &Map, place: Place, q: Prov, name: [u8; 2]) -> bool
     ensures { result ≡ ((place.prov == q) && bytes_eq (shore map.now place).name name) }
 {
@@ -126,6 +129,7 @@ pub(crate) fn sail_to(
     }
 }
 
+/// Where a unit goes that is sent to a province.
 fn go_to(
     map: &Map,
     unit: &Unit,
@@ -164,6 +168,7 @@ pub(crate) fn could_come(map: &Map, unit: &Unit, q: Prov) -> bool
     could_move(map, unit, q) || unit.kind.is(Kind::Army) && may_convoy(map, unit.place.prov, q)
 }
 
+/// The order to hold, or the first check that it fails.
 pub(crate) fn hold_of(
     map: &Map,
     board: &Board,
@@ -180,6 +185,7 @@ pub(crate) fn hold_of(
     })
 }
 
+/// The order to move, or the first check that it fails.
 pub(crate) fn move_of(
     map: &Map,
     board: &Board,

@@ -5,6 +5,7 @@ ghost use Rattle.dip_orders.specs.Conditions.{is_movement, is_retreat, is_adjust
 use dip_map::Season;
 use dip_orders_lines::Form;
 
+/// Whether units move in this season.
 fn is_movement(season: Season) -> bool
     ensures { result ≡ is_movement season }
 {
@@ -14,6 +15,7 @@ fn is_movement(season: Season) -> bool
     }
 }
 
+/// Whether dislodged units retreat in this season.
 fn is_retreat(season: Season) -> bool
     ensures { result ≡ is_retreat season }
 {
@@ -23,6 +25,7 @@ fn is_retreat(season: Season) -> bool
     }
 }
 
+/// Whether units are built and removed in this season.
 fn is_adjustment(season: Season) -> bool
     ensures { result ≡ is_adjustment season }
 {

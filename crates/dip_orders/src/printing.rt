@@ -8,6 +8,7 @@ use dip_map::Map;
 use dip_names::{Kind, Place, Prov, Unit};
 use std::alloc::AllocError;
 
+/// Appends a slash and the coast's name; nothing where it has none.
 fn print_coast(name: &str, out: &mut String) -> Result<(), AllocError>
     ensures text { OnOk result
         (string_bytes out.new ≡ string_bytes out.old ++ behind_slash name.now) }
@@ -33,6 +34,7 @@ pub fn print_place(map: &Map, kind: Kind, place: Place, out: &mut String) -> Res
     }
 }
 
+/// The letter of a kind of unit.
 fn kind_text(kind: Kind) -> &'static str
     ensures { result.now ≡ kind_letter kind }
 {
@@ -42,6 +44,7 @@ fn kind_text(kind: Kind) -> &'static str
     }
 }
 
+/// Appends a unit: its letter and its place.
 #[tactic(auto, unfolding(crate::specs::Texts::unit_text))]
 fn append_unit(map: &Map, unit: &Unit, out: &mut String) -> Result<(), AllocError>
     ensures text { OnOk result
@@ -66,6 +69,7 @@ pub fn print_unit(map: &Map, unit: &Unit, out: &mut String) -> Result<(), AllocE
     printed
 }
 
+/// Appends the unit that an order mentions.
 fn print_other(map: &Map, at: Other, out: &mut String) -> Result<(), AllocError>
     ensures text { OnOk result
         (string_bytes out.new ≡ string_bytes out.old ++ other_text map.now at) }
@@ -75,12 +79,14 @@ fn print_other(map: &Map, at: Other, out: &mut String) -> Result<(), AllocError>
     out.push_str(map.code(at.prov))
 }
 
+/// What follows a move that goes by convoy.
 fn via_text(via: bool) -> &'static str
     ensures { result.now ≡ via_text via }
 {
     if via { " VIA" } else { "" }
 }
 
+/// Appends where a supported or convoyed unit goes.
 fn print_to(map: &Map, to: Prov, out: &mut String) -> Result<(), AllocError>
     ensures text { OnOk result
         (string_bytes out.new ≡ string_bytes out.old ++ codes " - " ++ (province map.now to).code) }
@@ -90,6 +96,7 @@ fn print_to(map: &Map, to: Prov, out: &mut String) -> Result<(), AllocError>
     out.push_str(map.code(to))
 }
 
+/// Appends where a unit moves, and whether by convoy.
 fn print_move(
     map: &Map,
     kind: Kind,
@@ -107,6 +114,7 @@ fn print_move(
     out.push_str(via_text(via))
 }
 
+/// Appends a support or a convoy: its verb, and the unit that it mentions.
 fn print_help(map: &Map, verb: &str, at: Other, out: &mut String) -> Result<(), AllocError>
     ensures text { OnOk result
         (string_bytes out.new ≡ string_bytes out.old ++ verb.now ++ other_text map.now at) }
@@ -116,6 +124,7 @@ fn print_help(map: &Map, verb: &str, at: Other, out: &mut String) -> Result<(), 
     print_other(map, at, out)
 }
 
+/// Appends where a unit retreats.
 fn print_retreat(map: &Map, kind: Kind, to: Place, out: &mut String) -> Result<(), AllocError>
     ensures text { OnOk result
         (string_bytes out.new ≡ string_bytes out.old ++ codes " R " ++ place_text map.now kind to) }
@@ -125,6 +134,7 @@ fn print_retreat(map: &Map, kind: Kind, to: Place, out: &mut String) -> Result<(
     print_place(map, kind, to, out)
 }
 
+/// Appends what a unit is ordered to do.
 fn print_action(map: &Map, kind: Kind, order: Order, out: &mut String) -> Result<(), AllocError>
     ensures text { OnOk result
         (string_bytes out.new ≡ string_bytes out.old ++ action_text map.now kind order) }
@@ -148,6 +158,7 @@ fn print_action(map: &Map, kind: Kind, order: Order, out: &mut String) -> Result
     }
 }
 
+/// What stands before a unit that is built or removed.
 fn verb_text(order: &Order) -> &'static str
     ensures { result.now ≡ verb_text order.now }
 {
@@ -160,6 +171,7 @@ fn verb_text(order: &Order) -> &'static str
     }
 }
 
+/// Appends an order, as its line is printed.
 fn append_order(map: &Map, placed: &PlacedOrder, out: &mut String) -> Result<(), AllocError>
     ensures text { OnOk result
         (string_bytes out.new ≡ string_bytes out.old ++ order_text map.now placed.now) }

@@ -15,6 +15,7 @@ use dip_map::{Board, Map, Phase};
 use dip_names::Power;
 use dip_orders_lines::{Form, form_of_line};
 
+/// The order that a form is on this board, or the first check that it fails.
 fn placed_of(
     map: &Map,
     board: &Board,
@@ -39,6 +40,8 @@ fn placed_of(
     }
 }
 
+/// The order that a form is on this board, if such a form is given in this kind of phase; else the
+/// fault `NotInThisPhase`.
 fn in_phase(
     map: &Map,
     board: &Board,

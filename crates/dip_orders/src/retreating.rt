@@ -9,6 +9,7 @@ use dip_map::{Board, Dislodged, Map};
 use dip_names::{Kind, Place, Prov};
 use std::alloc::{AllocError, Global};
 
+/// Whether the attacker came from that province; one that came by convoy closes none.
 fn is_origin(origin: Option<Prov>, prov: Prov) -> bool
     ensures { result ≡ is_origin origin prov }
 {

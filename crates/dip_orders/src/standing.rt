@@ -102,6 +102,7 @@ fn found_order(pending: &[PlacedOrder], unit: &Unit) -> Option<PlacedOrder>
     None
 }
 
+/// The order of a unit: the first that stands and is its own, else it holds.
 fn order_among(pending: &[PlacedOrder], unit: &Unit) -> PlacedOrder
     ensures { result ≡ order_among pending.now unit.now }
 {
@@ -112,6 +113,7 @@ fn order_among(pending: &[PlacedOrder], unit: &Unit) -> PlacedOrder
     PlacedOrder { unit: *unit, order }
 }
 
+/// An order for each of these units, in their order.
 fn orders_of(
     alloc: Global,
     units: &[Unit],

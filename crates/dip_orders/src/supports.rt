@@ -12,6 +12,7 @@ use dip_map::{Board, Map};
 use dip_names::{Kind, Power, Prov, Unit};
 use dip_orders_lines::{Mention, Spot};
 
+/// The order to support a unit that stays, or the first check that it fails.
 pub(crate) fn support_hold_of(
     map: &Map,
     board: &Board,
@@ -45,6 +46,7 @@ fn is_supportable(map: &Map, unit: &Unit, other: &Unit, q: Prov) -> bool
     could_move(map, unit, q) && other.place.prov != unit.place.prov && could_come(map, other, q)
 }
 
+/// The order to support a move, or the first check that it fails.
 pub(crate) fn support_move_of(
     map: &Map,
     board: &Board,
@@ -86,6 +88,7 @@ fn carrier(map: &Map, unit: &Unit) -> Result<Unit, OrderFault>
     Ok(*unit)
 }
 
+/// The order to convoy an army, or the first check that it fails.
 pub(crate) fn convoy_of(
     map: &Map,
     board: &Board,

@@ -9,6 +9,7 @@ use dip_map::{Board, Dislodged, Map};
 use dip_names::{Kind, Power, Prov, Unit};
 use dip_orders_lines::{Mention, Spot};
 
+/// The province with a code.
 pub(crate) fn prov_of(map: &Map, spot: Spot) -> Result<Prov, OrderFault>
     ensures { result ≡ prov_at map.now spot }
 {
@@ -54,6 +55,7 @@ fn other_at(board: &Board, kind: Kind, prov: Prov) -> Option<Unit>
     None
 }
 
+/// Whether the province has the coast that is named, if one is.
 pub(crate) fn has_coast(map: &Map, prov: Prov, coast: Option<[u8; 2]>) -> bool
     ensures { result ≡ knows_coast map.now prov coast }
 {

@@ -32,6 +32,7 @@ fn leave_to(map: &Map, unit: &Unit, q: Prov, coast: Option<[u8; 2]>) -> Result<P
     }
 }
 
+/// Where a dislodged unit retreats that is sent to a province.
 fn withdraw_to(
     map: &Map,
     board: &Board,
@@ -47,6 +48,7 @@ fn withdraw_to(
     leave_to(map, &dislodged.unit, q, coast)
 }
 
+/// The order to retreat, or the first check that it fails.
 pub(crate) fn retreat_of(
     map: &Map,
     board: &Board,
@@ -67,6 +69,7 @@ pub(crate) fn retreat_of(
     })
 }
 
+/// The order to disband, or the first check that it fails.
 pub(crate) fn disband_of(
     map: &Map,
     board: &Board,

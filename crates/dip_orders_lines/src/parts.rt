@@ -6,6 +6,7 @@ ghost use Rattle.dip_orders_lines.specs.Forms.{small};
 use crate::forms::{Mention, Spot};
 use dip_names::Kind;
 
+/// The small letter that a byte is, of either case.
 fn letter_of(b: u8) -> Option<u8>
     ensures { result ≡ letter_at b }
 {
@@ -17,6 +18,7 @@ fn letter_of(b: u8) -> Option<u8>
     }
 }
 
+/// The code that three bytes spell.
 fn code_of(a: u8, b: u8, c: u8) -> Option<[u8; 3]>
     ensures { result ≡ code_at a b c }
 {
@@ -26,6 +28,7 @@ fn code_of(a: u8, b: u8, c: u8) -> Option<[u8; 3]>
     Some([a, b, c])
 }
 
+/// The coast that two bytes spell.
 fn coast_of(a: u8, b: u8) -> Option<[u8; 2]>
     ensures { result ≡ coast_at a b }
 {
@@ -65,6 +68,7 @@ pub fn is_any_case(token: &[u8], word: &[u8]) -> bool
     token.eq_ignore_ascii_case(word)
 }
 
+/// The kind of unit that a word names.
 fn kind_of(token: &[u8]) -> Option<Kind>
     ensures { result ≡ kind_at token.now }
 {

@@ -130,6 +130,7 @@ fn done_of(unit: Mention, verb: &[u8], behind: &[&[u8]]) -> Option<Form>
     }
 }
 
+/// The form of an order that these tokens have.
 fn form_of(tokens: &[&[u8]]) -> Option<Form>
     ensures { result ≡ form_at (map (λ t. t.now) tokens.now) }
 {

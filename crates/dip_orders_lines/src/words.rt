@@ -24,6 +24,7 @@ impl<'a> Model for TokenList<'a> {
 }
 
 impl<'a> TokenList<'a> {
+    /// No tokens.
     fn new() -> TokenList<'a>
         ensures { result ≡ [] }
     {
@@ -33,12 +34,14 @@ impl<'a> TokenList<'a> {
         }
     }
 
+    /// Whether eight tokens are there, which no order exceeds.
     fn is_full(&self) -> bool
         ensures { result ≡ nat_le 8 (length self.now) }
     {
         self.count >= 8
     }
 
+    /// Adds a token at the end.
     fn push(&mut self, token: &'a [u8])
         requires { length self.old < 8 }
         ensures { self.new ≡ self.old ++ token.entry.now ∷ [] }
@@ -68,12 +71,14 @@ enum Front<'a> {
     Stray,
 }
 
+/// Whether the byte is one of a word: a letter or a slash.
 fn is_word_byte(b: u8) -> bool
     ensures { result ≡ is_word_byte b }
 {
     b.is_ascii_alphabetic() || b == b'/'
 }
 
+/// The text after its first spaces.
 fn skip_spaces(text: &[u8]) -> &[u8]
     ensures same { tokens_at result.now ≡ tokens_at text.now }
     ensures shorter { length result.now ≤ length text.now }
@@ -88,6 +93,7 @@ fn skip_spaces(text: &[u8]) -> &[u8]
 
 ghost use Rattle.std.specs.Prelude.{◌≤◌, ◌≢◌, slice_get};
 
+/// How many bytes the word has with which the text begins.
 fn word_len(text: &[u8]) -> usize
     ensures value { result ≡ word_length text.now }
     ensures bound { result ≤ length text.now }
@@ -102,6 +108,7 @@ fn word_len(text: &[u8]) -> usize
     length
 }
 
+/// The word with which the text begins, and what follows it.
 fn word_front(text: &[u8]) -> Front<'_>
     requires { 1 ≤ word_length text.now }
     ensures { IsFront text.now result }
@@ -110,6 +117,7 @@ fn word_front(text: &[u8]) -> Front<'_>
     Front::Token(parts.0, parts.1)
 }
 
+/// The token with which the text begins, and what follows it.
 #[tactic(auto, using(crate::proofs::TokenLaws::word_first))]
 fn front_of(text: &[u8]) -> Front<'_>
     ensures { IsFront text.now result }
@@ -127,6 +135,7 @@ fn front_of(text: &[u8]) -> Front<'_>
     }
 }
 
+/// The tokens of a line; nothing where a byte is of none, or there are too many.
 fn scan(line: &[u8]) -> Option<TokenList<'_>>
     ensures { option_map (λ ts. ts) result ≡ few (tokens_at line.now) }
 {

@@ -52,6 +52,7 @@ fn push_title(item: &Item, out: &mut String) -> Result<(), AllocError>
     }
 }
 
+/// The lines of an item.
 fn text_of(item: &Item) -> &[String]
     ensures { rows.lines result.now ≡ item_lines (rows.item item.now) }
 {

@@ -1,7 +1,8 @@
 -- A game's row, and what the statements of a paper come to.
 use Rattle.std.proofs.Common.{◌≡◌, ℕ, List, map, Bool, true, false, refl, sym, subst}
 use Rattle.dip_map.specs.Charts.{Chart}
-use Rattle.dip_store_tables.specs.Boards.{season_number, standoff_text}
+use Rattle.dip_store_tables.specs.Boards.{standoff_text}
+use Rattle.dip_map.specs.Boards.{season_number}
 use Rattle.dip_desk_state.specs.Records.{Public}
 use Rattle.dip_desk_state.specs.State.{NewSeat}
 use Rattle.dip_reports.specs.Texts.{status_text}

@@ -1,8 +1,7 @@
 //! A game's row, a new game, and a paper.
 ghost use Rattle.std.specs.Prelude.{◌≡◌, ◌<◌, ◌^◌, map as each, string_bytes};
 ghost use Rattle.sqlite.specs.Held.{state};
-ghost use Rattle.dip_map.specs.Boards.{IsOf};
-ghost use Rattle.dip_store_tables.specs.Boards.{season_number};
+ghost use Rattle.dip_map.specs.Boards.{IsOf, season_number};
 ghost use Rattle.dip_desk_state.specs.ChangeRows as machine;
 ghost use Rattle.dip_desk_state.specs.Rows as records;
 ghost use Rattle.dip_store_tables.specs.Changing.{opening, publishing};

@@ -5,11 +5,11 @@ use Rattle.std.proofs.lemmas.Bool.{and_parts, cases_Bool, eqb-true, or_cases}
 use Rattle.std.proofs.lemmas.List.Elements.{recursion_from_All}
 use Rattle.sqlite.specs.Order.{Row}
 use Rattle.dip_store_tables.proofs.ListLemmas.{all-append, all_map, all_weaker}
-use Rattle.dip_map.specs.Boards.{Position, IsOf, is_dislodged, is_power_if_any, is_prov_if_any}
+use Rattle.dip_map.specs.Boards.{Position, IsOf, is_dislodged, is_power_if_any, is_prov_if_any, season_number}
 use Rattle.dip_map.specs.declared.boards.Dislodged.{Dislodged}
 use Rattle.dip_map.specs.declared.boards.Season.{Season}
 use Rattle.dip_map.specs.declared.boards.Season.TheVariants.{SpringMoves, SpringRetreats, FallMoves, FallRetreats, Winter}
-use Rattle.dip_store_tables.specs.Boards.{CentreRow, UnitRow, centre_rows, centre_rows_from, coast_text, code, dislodged_row, kind_number, power_name, season_number, standing_row, unit_row, unit_rows}
+use Rattle.dip_store_tables.specs.Boards.{CentreRow, UnitRow, centre_rows, centre_rows_from, coast_text, code, dislodged_row, kind_number, power_name, standing_row, unit_row, unit_rows}
 use Rattle.dip_store_tables.specs.WrittenBoards.{IsCentreRow, IsUnitRow}
 use Rattle.dip_map.specs.Charts.{Chart, IsMap, Shore, has_named_shores, has_one_shore, is_coast_name, is_shaped, is_unit, may_stand, no_shore, province}
 use Rattle.dip_store_tables.specs.Legible.{AreOurs, IsText}

@@ -7,8 +7,8 @@ use Rattle.sqlite_keyed.specs.Lists.{delete_where}
 use Rattle.sqlite_keyed.proofs.ListLemmas.{all-append, all-map, all_weaker, filter_all, filter_none}
 use Rattle.sqlite_keyed.proofs.SliceLemmas.{slice-delete_other}
 use Rattle.dip_map.specs.Charts.{Chart, IsMap}
-use Rattle.dip_map.specs.Boards.{Position, IsOf}
-use Rattle.dip_store_tables.specs.Boards.{UnitRow, CentreRow, unit_rows, centre_rows, centre_rows_from, standing_row, dislodged_row, standoff_text, season_number, board_of}
+use Rattle.dip_map.specs.Boards.{Position, IsOf, season_number}
+use Rattle.dip_store_tables.specs.Boards.{UnitRow, CentreRow, unit_rows, centre_rows, centre_rows_from, standing_row, dislodged_row, standoff_text, board_of}
 use Rattle.dip_store_tables.proofs.Returns.{board_back}
 use Rattle.dip_desk_state.proofs.KeyedLemmas.{names_tell}
 use Rattle.dip_desk_state.specs.Records.{Public}

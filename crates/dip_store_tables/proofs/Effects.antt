@@ -10,7 +10,7 @@ use Rattle.dip_map.specs.Charts.{Chart, IsMap}
 use Rattle.dip_map.specs.Boards.{IsOf}
 use Rattle.dip_store_tables.specs.Boards.{UnitRow, CentreRow, power_name, power_in as power_numbered, board_of, unit_rows, centre_rows}
 use Rattle.dip_desk_state.specs.Keyed.{change_at}
-use Rattle.dip_desk_state.specs.State.{Game, Part, NewSeat, Effect, Nothing, Pending, Votes, Delivers, Opens, Publishes, Seats, name_of, public_after, papers_after, with_effect, with_digest, behind_paper, new_games}
+use Rattle.dip_desk_state.specs.State.{Game, Part, NewSeat, Effect, Nothing, Pending, Votes, Delivers, Opens, Publishes, Seats, name_of, public_after, papers_after, with_effect, with_digest, after_paper, new_games}
 use Rattle.dip_desk_state.proofs.KeyedLemmas.{names_tell}
 use Rattle.dip_desk_state.specs.Records.{Public, Standing}
 use Rattle.dip_store_tables.specs.Tables.{GameRow, SeatRow, PendingRow, PaperRow, Tables, is_named, is_seat, is_pending_in, is_paper_in}
@@ -125,7 +125,7 @@ module _ (m : Chart) (ok : IsMap m) (name : List ℕ) (t : Tables) (apart : AreA
       box = items_of t.boxes s.game s.power;
     }
 
-    behind : (b : Bool) (s : SeatRow) → ordered s (cond b [] (pending_of m t.pending s.game s.power)) ≡ behind_paper b (part_of m t s)
+    behind : (b : Bool) (s : SeatRow) → ordered s (cond b [] (pending_of m t.pending s.game s.power)) ≡ after_paper b (part_of m t s)
     behind true s = refl
     behind false s = refl
 

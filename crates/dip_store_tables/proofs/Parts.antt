@@ -9,7 +9,8 @@ use Rattle.dip_names.specs.declared.names.Unit.{Unit as AUnit}
 use Rattle.dip_map.specs.Charts.{Chart, IsMap, shore, coast_of, is_unit, may_stand}
 use Rattle.dip_map.specs.declared.boards.Season.{Season}
 use Rattle.dip_map.specs.declared.boards.Season.TheVariants.{SpringMoves, SpringRetreats, FallMoves, FallRetreats, Winter}
-use Rattle.dip_store_tables.specs.Boards.{code, power_name, kind_number, season_number, coast_text, unit_row, or_zero, prov_in, power_in, kind_of, season_of, place_of, unit_of}
+use Rattle.dip_store_tables.specs.Boards.{code, power_name, kind_number, coast_text, unit_row, or_zero, prov_in, power_in, kind_of, season_of, place_of, unit_of}
+use Rattle.dip_map.specs.Boards.{season_number}
 
 -- what holds of each holds of the first and of the others
 pub all_parts : {A : Type 0} (P : A → Type 0) (x : A) (xs : List A) → All P (x ∷ xs) → P x × All P xs

@@ -1,8 +1,8 @@
 -- A board is read back.
 use Rattle.std.proofs.Common.{◌≡◌, ℕ, List, ◌++◌, map, filter, ap, ◌∙◌, append-nil}
 use Rattle.dip_map.specs.Charts.{Chart, IsMap}
-use Rattle.dip_map.specs.Boards.{Position, IsOf}
-use Rattle.dip_store_tables.specs.Boards.{season_number, standing_row, dislodged_row, unit_rows, centre_rows, standoff_text, unit_of, dislodged_of, stands, fell, board_of}
+use Rattle.dip_map.specs.Boards.{Position, IsOf, season_number}
+use Rattle.dip_store_tables.specs.Boards.{standing_row, dislodged_row, unit_rows, centre_rows, standoff_text, unit_of, dislodged_of, stands, fell, board_of}
 use Rattle.dip_store_tables.proofs.Parts.{season_back}
 use Rattle.dip_store_tables.proofs.BoardPieces.{units_back, fallen_back, standing, not_standing, not_fallen, fallen}
 use Rattle.dip_store_tables.proofs.Owners.{owners_back}

@@ -6,7 +6,7 @@ use Rattle.dip_names.specs.declared.names.Kind.TheVariants.{Army, Fleet}
 use Rattle.dip_names.specs.declared.names.Place.{Place}
 use Rattle.dip_names.specs.declared.names.Unit.{Unit as AUnit}
 use Rattle.dip_map.specs.Charts.{Chart, province, realm, shore, prov_of, power_of, coast_of}
-use Rattle.dip_map.specs.Boards.{Position, IsOf}
+use Rattle.dip_map.specs.Boards.{Position, IsOf, season_number}
 use Rattle.dip_map.specs.declared.boards.Dislodged.{Dislodged}
 use Rattle.dip_map.specs.declared.boards.Season.{Season}
 use Rattle.dip_map.specs.declared.boards.Season.TheVariants.{SpringMoves, SpringRetreats, FallMoves, FallRetreats, Winter}
@@ -35,17 +35,10 @@ code m p = (province m p).code
 abbrev pub power_name : Chart → ℕ → List ℕ
 power_name m r = (realm m r).name
 
--- the number of a kind, and of a season
+-- the number of a kind
 abbrev pub kind_number : Kind → ℕ
 kind_number Army = 0
 kind_number Fleet = 1
-
-abbrev pub season_number : Season → ℕ
-season_number SpringMoves = 0
-season_number SpringRetreats = 1
-season_number FallMoves = 2
-season_number FallRetreats = 3
-season_number Winter = 4
 
 -- an army's coast is not told
 abbrev pub coast_text : Chart → Kind → Place → List ℕ

@@ -1,7 +1,8 @@
 -- The rows in which records are written, by a map.
 use Rattle.std.specs.Prelude.{ℕ, ◌+◌, Bool, List, [], ◌∷◌, codes, Some, if◌then◌else◌}
 use Rattle.dip_map.specs.Charts.{Chart}
-use Rattle.dip_store_tables.specs.Boards.{code, power_name, season_number, standoff_text}
+use Rattle.dip_store_tables.specs.Boards.{code, power_name, standoff_text}
+use Rattle.dip_map.specs.Boards.{season_number}
 use Rattle.dip_desk_state.specs.declared.records.Outcome.TheVariants.{Done}
 use Rattle.dip_desk_state.specs.Records.{Public, Item, White, Grey, Kept, Standing, Vote}
 use Rattle.dip_reports.specs.Texts.{reply_text, status_text}

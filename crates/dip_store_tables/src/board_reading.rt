@@ -10,6 +10,7 @@ use crate::units::{fallen, standing};
 use dip_map::{Board, Map, Phase, Season};
 use std::alloc::{AllocError, Global};
 
+/// The season of a number, from 0 for the movement of Spring to 4 for Winter.
 fn season_in(number: u32) -> Option<Season>
     ensures value { IfSome result (λ s. s ≡ season_of number) }
     ensures none { IfNone result (4 < number) }

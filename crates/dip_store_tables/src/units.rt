@@ -11,6 +11,7 @@ use dip_map::{Dislodged, Map};
 use dip_names::{Kind, Place, Prov, Unit};
 use std::alloc::{AllocError, Global};
 
+/// The kind of a number: 0 is an army, 1 a fleet.
 fn kind_in(number: u32) -> Option<Kind>
     ensures value { IfSome result (λ k. k ≡ kind_of number) }
     ensures none { IfNone result (1 < number) }
@@ -22,6 +23,7 @@ fn kind_in(number: u32) -> Option<Kind>
     }
 }
 
+/// The place that is meant: the province at the coast written, else the only one there.
 fn place_in(map: &Map, kind: Kind, prov: Prov, coast: &str) -> Option<Place>
     ensures value { IfSome result (λ a. a ≡ place_of map.now kind prov coast.now) }
     ensures fleet { IfNone result (kind ≡ Fleet) }

@@ -82,12 +82,14 @@ pub fn read_vote(alloc: Global, map: &Map, text: &str) -> Result<Option<Vote>, A
     }
 }
 
+/// Whether the power comes before all of these.
 fn is_before(power: Power, powers: &[Power]) -> bool
     ensures { result ≡ list_all (λ q. nat_lt power q) powers.now }
 {
     powers.iter().all(|later| power < *later)
 }
 
+/// Whether each of these powers comes before all after it.
 fn are_ascending(powers: &[Power]) -> bool
     ensures { result ≡ are_ascending powers.now }
 {

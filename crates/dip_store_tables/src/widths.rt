@@ -7,12 +7,14 @@ ghost use Rattle.dip_store_tables.specs.ChangeColumns.{HasWidths, IsEffectNarrow
 
 use dip_desk_state::{Change, Effect, NewSeat, Public};
 
+/// A digest has 32 bytes.
 fn has_32(digest: [u8; 32])
     ensures { length digest ≡ 32 }
 {
     let _digest = digest;
 }
 
+/// The digest of each seat has 32 bytes.
 fn seats_have_32(seats: &[NewSeat])
     ensures { AllByRecursion (λ s. length s.digest ≡ 32) seats.now }
 {
@@ -21,6 +23,7 @@ fn seats_have_32(seats: &[NewSeat])
     }
 }
 
+/// Numbers of a public part fit their columns.
 fn is_narrow(public: &Public)
     ensures { IsNarrow (rows.public public.now) }
 {
@@ -29,6 +32,7 @@ fn is_narrow(public: &Public)
     let _papers = public.papers;
 }
 
+/// Numbers of an effect fit their columns.
 fn is_effect_narrow(effect: &Effect)
     ensures { IsEffectNarrow (desk_rows.effect effect.now) }
 {

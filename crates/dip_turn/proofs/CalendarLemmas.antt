@@ -6,10 +6,10 @@ use Rattle.dip_map.specs.Charts.{Chart, powers}
 use Rattle.dip_map.specs.declared.boards.Phase.{Phase}
 use Rattle.dip_map.specs.declared.boards.Season.{Season}
 use Rattle.dip_map.specs.declared.boards.Season.TheVariants.{SpringMoves, SpringRetreats, FallMoves, FallRetreats, Winter}
-use Rattle.dip_map.specs.Boards.{Position}
+use Rattle.dip_map.specs.Boards.{Position, season_number}
 use Rattle.dip_orders.specs.declared.placed.PlacedOrder.{PlacedOrder}
 use Rattle.dip_turn.specs.Centres.{winner, with_owners, has_won}
-use Rattle.dip_turn.specs.Laws.{IsAfter, may_follow, season_number, year_behind}
+use Rattle.dip_turn.specs.Laws.{IsAfter, may_follow, year_after}
 use Rattle.dip_turn.specs.Phases.{Sequel, after_count, follow, goes_on, has_dislodged, last_year, needs_adjustment, new_year, sequel, year_end}
 use Rattle.dip_turn.specs.Reports.{IsPlayed, Leaves, LeavesAdjusted, LeavesMoved, LeavesRetreated}
 use Rattle.dip_turn.specs.declared.report.Account.{Account}
@@ -26,7 +26,7 @@ by_either p true x y first second = first
 by_either p false x y first second = second
 
 -- another season of the year
-later : (b : Position) (season next : Season) → b.phase.season ≡ season → may_follow season next ≡ true → year_behind next b.phase.year ≡ b.phase.year
+later : (b : Position) (season next : Season) → b.phase.season ≡ season → may_follow season next ≡ true → year_after next b.phase.year ≡ b.phase.year
     → season_number season < season_number next → season_number next ≤ 4 → IsAfterBy b.phase (goes_on b next)
 later b season next is may year less most = record {
   season = ap (λ (s : Season). may_follow s next) is ∙ may;

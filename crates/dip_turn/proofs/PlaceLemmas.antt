@@ -13,7 +13,7 @@ use Rattle.dip_names.specs.declared.names.Unit.{Unit as AUnit}
 use Rattle.dip_map.specs.Charts.{Chart, IsMap, Province, Realm, army_next, home, is_army_next, is_army_place, is_centre, is_shaped, is_unit, may_stand, no_realm, province, realm}
 use Rattle.dip_map.specs.declared.boards.Dislodged.{Dislodged}
 use Rattle.dip_map.specs.Boards.{Position}
-use Rattle.dip_orders.specs.Conditions.{army_place, may_convoy, may_march}
+use Rattle.dip_orders.specs.Conditions.{army_place, may_convoy, may_travel}
 use Rattle.dip_orders.specs.Lawful.{IsAllowed, IsSite, MayCome, Reaches}
 use Rattle.dip_orders.specs.Retreats.{is_place_among, next_places, retreats_of}
 use Rattle.dip_orders.specs.declared.placed.Order.{Order}
@@ -46,7 +46,7 @@ convoy_stands m p to at h =
 walk_stands : (m : Chart) (p : ℕ) (to : Place) → IsMap m → to.coast ≡ 0 → is_army_next m p to.prov ≡ true → is_army_place m to ≡ true
 walk_stands m p to ok at h = army_stands m to (next_low m p to.prov ok h) at (ok.army_away p to.prov h).1
 
-march_stands : (m : Chart) (p : ℕ) (to : Place) → IsMap m → to ≡ army_place to.prov → may_march m p to.prov ≡ true → is_army_place m to ≡ true
+march_stands : (m : Chart) (p : ℕ) (to : Place) → IsMap m → to ≡ army_place to.prov → may_travel m p to.prov ≡ true → is_army_place m to ≡ true
 march_stands m p to ok at h =
     elim (cases_Bool (is_army_next m p to.prov)) [
       | inl near ↦ walk_stands m p to ok (ap (λ (x : Place). x.coast) at) near

@@ -6,7 +6,7 @@ use Rattle.dip_map.specs.declared.boards.Dislodged.{Dislodged}
 use Rattle.dip_map.specs.declared.boards.Phase.{Phase}
 use Rattle.dip_map.specs.declared.boards.Season.{Season}
 use Rattle.dip_map.specs.declared.boards.Season.TheVariants.{SpringMoves, SpringRetreats, FallMoves, FallRetreats, Winter}
-use Rattle.dip_map.specs.Boards.{Position, IsOf, centres_owned, owner, units_counted}
+use Rattle.dip_map.specs.Boards.{Position, IsOf, centres_owned, owner, season_number, units_counted}
 use Rattle.dip_orders.specs.Given.{AreGiven, IsEachGiven}
 use Rattle.dip_orders.specs.Laws.{IsEmpty}
 use Rattle.dip_orders.specs.declared.placed.Order.TheVariants.{Build}
@@ -23,14 +23,6 @@ use Rattle.dip_turn.specs.declared.report.Account.TheVariants.{Movement as OfMov
 use Rattle.dip_turn.specs.declared.report.Course.{Course}
 use Rattle.dip_turn.specs.declared.report.Course.TheVariants.{GoesOn, Won, Ended}
 use Rattle.dip_turn.specs.declared.report.Report.{Report}
-
--- the place of a season in its year
-abbrev pub season_number : Season → ℕ
-season_number SpringMoves = 0
-season_number SpringRetreats = 1
-season_number FallMoves = 2
-season_number FallRetreats = 3
-season_number Winter = 4
 
 -- the movement of Fall and its retreats
 abbrev pub is_fall : Season → Bool
@@ -54,12 +46,12 @@ may_follow Winter SpringMoves = true
 may_follow _ _ = false
 
 -- the year of a phase in that season after a phase of that year: Spring is the next year's
-abbrev pub year_behind : Season → ℕ → ℕ
-year_behind SpringMoves year = year + 1
-year_behind SpringRetreats year = year
-year_behind FallMoves year = year
-year_behind FallRetreats year = year
-year_behind Winter year = year
+abbrev pub year_after : Season → ℕ → ℕ
+year_after SpringMoves year = year + 1
+year_after SpringRetreats year = year
+year_after FallMoves year = year
+year_after FallRetreats year = year
+year_after Winter year = year
 
 -- how many phases there are at most after one, up to the last year's Winter
 abbrev pub phases_left : Phase → ℕ
@@ -68,7 +60,7 @@ phases_left p = 5 * (last_year - p.year) + (4 - season_number p.season)
 -- the second phase is the next one of a game
 pub record IsNext (p q : Phase) : Type 0 where
   pub season : may_follow p.season q.season ≡ true
-  pub year : q.year ≡ year_behind q.season p.year
+  pub year : q.year ≡ year_after q.season p.year
   pub fewer : phases_left q < phases_left p
 
 -- the phase of a board after a phase: a game that goes on has the next one, and one that is over keeps its last

@@ -25,6 +25,7 @@ pub(crate) fn units_built(alloc: Global, pending: &[PlacedOrder]) -> Result<Vec<
     Ok(units)
 }
 
+/// Whether the removal of the unit was ordered.
 fn is_given(pending: &[PlacedOrder], unit: &Unit) -> bool
     ensures { result ≡ a.is_given pending.now unit.now }
 {
@@ -48,6 +49,7 @@ pub(crate) fn units_given(
     Ok(units)
 }
 
+/// The units without those that were ordered to be removed.
 fn units_kept(
     alloc: Global,
     board: &Board,
@@ -64,6 +66,7 @@ fn units_kept(
     Ok(units)
 }
 
+/// How many builds of the power were ordered.
 fn builds_given(pending: &[PlacedOrder], power: Power) -> usize
     ensures { result ≡ a.builds_given pending.now power }
 {
@@ -73,6 +76,7 @@ fn builds_given(pending: &[PlacedOrder], power: Power) -> usize
         .count()
 }
 
+/// How many removals of the power were ordered.
 fn removals_given(pending: &[PlacedOrder], power: Power) -> usize
     ensures { result ≡ a.removals_given pending.now power }
 {
@@ -90,6 +94,7 @@ fn removals_owed(board: &Board, pending: &[PlacedOrder], power: Power) -> usize
     due.saturating_sub(removals_given(pending, power))
 }
 
+/// Those of these units that are the power's.
 fn units_of_power(alloc: Global, units: &[Unit], power: Power) -> Result<Vec<Unit>, AllocError>
     ensures { IfOk result (λ v. v.items ≡ a.units_of_power power units.now) }
 {
@@ -135,6 +140,7 @@ pub(crate) fn disorder(
     Ok(all)
 }
 
+/// Whether one of these stands where the unit does.
 fn is_among(units: &[Unit], unit: &Unit) -> bool
     ensures { result ≡ a.is_among units.now unit.now }
 {
@@ -204,6 +210,7 @@ fn builds_waived(map: &Map, board: &Board, pending: &[PlacedOrder], power: Power
     due.saturating_sub(builds_given(pending, power))
 }
 
+/// What a power waives: builds that it may have and didn't order; nothing where there is none.
 fn waiver_of(map: &Map, board: &Board, pending: &[PlacedOrder], power: Power) -> Option<Waiver>
     ensures { result ≡ a.waiver map.now board.now pending.now power }
 {

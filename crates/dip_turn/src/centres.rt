@@ -21,6 +21,7 @@ fn holder(units: &[Unit], prov: Prov) -> Option<Unit>
     None
 }
 
+/// Who owns a province after the centres changed hands: only a centre changes hands.
 fn owner_after(map: &Map, units: &[Unit], prov: Prov, owner: Option<Power>) -> Option<Power>
     ensures { result ≡ c.owner_after map.now units.now prov owner }
 {
@@ -33,6 +34,7 @@ fn owner_after(map: &Map, units: &[Unit], prov: Prov, owner: Option<Power>) -> O
     }
 }
 
+/// The owners of all provinces after the centres changed hands.
 fn owners_after(alloc: Global, map: &Map, board: &Board) -> Result<Vec<Option<Power>>, AllocError>
     requires owners { length board.now.owners ≡ length map.now.provinces }
     ensures { IfOk result
@@ -102,6 +104,7 @@ pub(crate) fn winner(map: &Map, board: &Board) -> Option<Power>
     None
 }
 
+/// Whether the two are one power, or nobody.
 fn is_same_owner(one: Option<Power>, other: Option<Power>) -> bool
     ensures { result ≡ c.is_same_owner one other }
 {
@@ -112,6 +115,7 @@ fn is_same_owner(one: Option<Power>, other: Option<Power>) -> bool
     }
 }
 
+/// The line of a province that another power owns than before.
 fn centre_line(board: &Board, new: &Board, prov: Prov) -> Option<CentreLine>
     ensures { result ≡ c.centre_line board.now new.now prov }
 {

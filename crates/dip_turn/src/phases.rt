@@ -21,6 +21,7 @@ fn is_uneven(map: &Map, board: &Board, power: Power) -> bool
     !(builds_due(map, board, power) == 0 && removals_due(board, power) == 0)
 }
 
+/// Whether some power has to build or to remove.
 fn needs_adjustment(map: &Map, board: &Board) -> bool
     ensures { result ≡ p.needs_adjustment map.now board.now }
 {
@@ -50,6 +51,7 @@ fn in_phase(alloc: Global, board: &Board, year: u16, season: Season) -> Result<B
     ))
 }
 
+/// The board in another season of the year.
 fn goes_on(alloc: Global, board: &Board, season: Season) -> Result<(Board, Course), AllocError>
     ensures { IfOk result (λ r. p.sequel r.0 r.1 ≡ p.goes_on board.now season) }
 {
@@ -58,6 +60,8 @@ fn goes_on(alloc: Global, board: &Board, season: Season) -> Result<(Board, Cours
     Ok((next, Course::GoesOn))
 }
 
+/// What follows the last phase of a year: the next year's Spring; or the game's end, which keeps
+/// its phase.
 fn new_year(alloc: Global, board: Board) -> Result<(Board, Course), AllocError>
     ensures { IfOk result (λ r. p.sequel r.0 r.1 ≡ p.new_year board) }
 {
@@ -69,6 +73,8 @@ fn new_year(alloc: Global, board: Board) -> Result<(Board, Course), AllocError>
     Ok((next, Course::GoesOn))
 }
 
+/// What follows once the centres changed hands: a game that is won keeps its phase, and Winter is
+/// skipped where nobody builds or removes.
 fn after_count(alloc: Global, map: &Map, board: Board) -> Result<(Board, Course), AllocError>
     ensures { IfOk result
         (λ r. p.sequel r.0 r.1 ≡ p.after_count map.now board (c.winner map.now board)) }
@@ -83,6 +89,7 @@ fn after_count(alloc: Global, map: &Map, board: Board) -> Result<(Board, Course)
     }
 }
 
+/// What follows Fall and its retreats: the centres change hands.
 fn year_end(alloc: Global, map: &Map, board: &Board) -> Result<(Board, Course), AllocError>
     requires owners { length board.now.owners ≡ length map.now.provinces }
     ensures { IfOk result (λ r. p.sequel r.0 r.1 ≡ p.year_end map.now board.now) }
@@ -91,6 +98,7 @@ fn year_end(alloc: Global, map: &Map, board: &Board) -> Result<(Board, Course), 
     after_count(alloc, map, next)
 }
 
+/// Whether a unit is dislodged.
 fn has_dislodged(board: &Board) -> bool
     ensures { result ≡ p.has_dislodged board.now }
 {

@@ -74,6 +74,7 @@ fn adjust_units(
     ))
 }
 
+/// Plays a movement: the board that it leaves, and what is told of it.
 fn play_movement(
     alloc: Global,
     map: &Map,
@@ -87,6 +88,7 @@ fn play_movement(
     Ok((left, Account::Movement(movement)))
 }
 
+/// Plays retreats: the board that they leave, and what is told of them.
 fn play_retreats(
     alloc: Global,
     board: &Board,
@@ -99,6 +101,7 @@ fn play_retreats(
     Ok((left, Account::Retreats(lines)))
 }
 
+/// Plays a Winter: the board that it leaves, and what is told of it.
 fn play_adjustment(
     alloc: Global,
     map: &Map,
@@ -129,6 +132,7 @@ fn left_by(
     }
 }
 
+/// Plays the phase of the board by these orders: the next board, and its report.
 fn play(
     alloc: Global,
     map: &Map,

@@ -10,6 +10,7 @@ use dip_names::{Place, Prov, Unit};
 use dip_orders::{Order, PlacedOrder, is_same_unit};
 use std::alloc::{AllocError, Global};
 
+/// Whether the order is one for a dislodged unit.
 fn is_for_dislodged(order: &Order) -> bool
     ensures { result ≡ r.is_for_dislodged order.now }
 {
@@ -21,6 +22,7 @@ fn is_for_dislodged(order: &Order) -> bool
     }
 }
 
+/// The first order to retreat or disband that is the unit's own.
 fn found_retreat(pending: &[PlacedOrder], dislodged: &Dislodged) -> Option<PlacedOrder>
     ensures { result ≡ r.found_retreat pending.now dislodged.now }
 {
@@ -61,6 +63,7 @@ fn goal(pending: &[PlacedOrder], dislodged: &Dislodged) -> Option<Place>
     refuge(&retreat_order(pending, dislodged))
 }
 
+/// Whether the place is in that province.
 fn is_in(place: Option<Place>, prov: Prov) -> bool
     ensures { result ≡ r.is_in place prov }
 {

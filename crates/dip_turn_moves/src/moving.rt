@@ -11,6 +11,7 @@ use dip_names::{Place, Prov, Unit};
 use dip_orders::{Order, PlacedOrder, retreats};
 use std::alloc::{AllocError, Global};
 
+/// Where an order leads a unit from its place.
 fn leads_to(place: Place, order: &Order) -> Place
     ensures { result ≡ m.leads_to place order.now }
 {
@@ -44,6 +45,7 @@ fn unit_after(resolution: &Resolution, placed: &PlacedOrder) -> Unit
     }
 }
 
+/// Whether the order is a move into that province that succeeds.
 fn enters(resolution: &Resolution, prov: Prov, placed: &PlacedOrder) -> bool
     ensures { result ≡ m.enters (values_in resolution.now) prov placed.now }
 {
@@ -105,6 +107,7 @@ pub(crate) fn dislodged_unit(
     }
 }
 
+/// The units that stand after the movement.
 fn standing_after(
     alloc: Global,
     resolution: &Resolution,
@@ -119,6 +122,7 @@ fn standing_after(
         .collect(alloc)
 }
 
+/// The units that the movement dislodged.
 fn dislodged_after(
     alloc: Global,
     map: &Map,

@@ -12,6 +12,7 @@ use dip_map::Map;
 use dip_names::{Kind, Prov};
 use dip_orders::{Order, Other, PlacedOrder};
 
+/// Where an order sends its unit.
 pub(crate) fn destination(order: &Order) -> Option<Prov>
     ensures { result ≡ destination order.now }
 {
@@ -21,6 +22,7 @@ pub(crate) fn destination(order: &Order) -> Option<Prov>
     }
 }
 
+/// Whether a unit goes to that province.
 pub(crate) fn is_at(target: Option<Prov>, prov: Prov) -> bool
     ensures { result ≡ is_at target prov }
 {
@@ -30,6 +32,7 @@ pub(crate) fn is_at(target: Option<Prov>, prov: Prov) -> bool
     }
 }
 
+/// Whether the province is one of these.
 pub(crate) fn is_listed(list: &[Prov], prov: Prov) -> bool
     ensures { result ≡ is_listed list.now prov }
 {
@@ -48,6 +51,7 @@ pub(crate) fn order_at(orders: &[PlacedOrder], prov: Prov) -> Option<PlacedOrder
     None
 }
 
+/// Where the unit in a province is ordered to move to.
 fn target(orders: &[PlacedOrder], prov: Prov) -> Option<Prov>
     ensures { result ≡ target_of (order_at orders.now prov) }
 {
@@ -57,6 +61,7 @@ fn target(orders: &[PlacedOrder], prov: Prov) -> Option<Prov>
     }
 }
 
+/// Whether the order is a move by convoy.
 pub(crate) fn is_convoyed(map: &Map, placed: &PlacedOrder) -> bool
     ensures { result ≡ is_convoyed map.now (Some placed.now) }
 {
@@ -68,6 +73,7 @@ pub(crate) fn is_convoyed(map: &Map, placed: &PlacedOrder) -> bool
     }
 }
 
+/// Whether the unit in a province moves by convoy.
 pub(crate) fn is_convoyed_from(map: &Map, orders: &[PlacedOrder], prov: Prov) -> bool
     ensures { result ≡ is_convoyed map.now (order_at orders.now prov) }
 {
@@ -77,6 +83,7 @@ pub(crate) fn is_convoyed_from(map: &Map, orders: &[PlacedOrder], prov: Prov) ->
     }
 }
 
+/// Whether units of the two provinces go to one another's, neither by convoy.
 pub(crate) fn is_head_to_head(map: &Map, orders: &[PlacedOrder], one: Prov, other: Prov) -> bool
     ensures { result ≡ head_to_head (situation map.now orders.now) one other }
 {
@@ -111,6 +118,7 @@ fn is_matched(orders: &[PlacedOrder], order: &Order, prov: Prov) -> bool
     }
 }
 
+/// Whether a support matches the order of a unit.
 fn matches_any(orders: &[PlacedOrder], order: &Order) -> bool
     ensures { result ≡ list_any (λ o. is_matched (order_at orders.now) order.now o.unit.place.prov)
         orders.now }
@@ -155,6 +163,7 @@ fn is_sailing(map: &Map, placed: &PlacedOrder) -> bool
     placed.unit.kind.is(Kind::Fleet) && map.kind(placed.unit.place.prov).is_sea()
 }
 
+/// Whether a convoy matches the order of an army.
 fn carries_any(map: &Map, orders: &[PlacedOrder], order: &Order) -> bool
     ensures { result ≡ list_any
         (λ o. is_carried map.now (order_at orders.now) order.now o.unit.place.prov) orders.now }

@@ -14,6 +14,7 @@ use dip_map::{Board, Map};
 use dip_orders::{Order, PlacedOrder};
 use std::alloc::{AllocError, Global};
 
+/// What becomes of a move: it succeeds, has a path and fails, or has none.
 fn move_outcome(
     map: &Map,
     resolution: &Resolution,
@@ -53,6 +54,7 @@ fn support_outcome(
     }
 }
 
+/// What becomes of a convoy: it matches, or doesn't.
 fn convoy_outcome(map: &Map, orders: &[PlacedOrder], placed: &PlacedOrder) -> Outcome
     ensures { result ≡ o.convoy_outcome (situation map.now orders.now) placed.now }
 {
@@ -106,6 +108,7 @@ fn fate_of(
     }
 }
 
+/// The line of an order, with what became of it.
 fn movement_line(
     alloc: Global,
     map: &Map,

@@ -57,12 +57,14 @@ fn contends(
         && prevents(map, resolution, orders, placed.unit.place.prov, prov)
 }
 
+/// Whether one of these units stands in the province.
 fn is_held_by(units: &[Unit], prov: Prov) -> bool
     ensures { result ≡ list_any (λ u. u.place.prov == prov) units.now }
 {
     units.iter().any(|unit| unit.place.prov == prov)
 }
 
+/// Whether a move into the province failed that had strength to prevent others.
 fn is_contended(map: &Map, resolution: &Resolution, orders: &[PlacedOrder], prov: Prov) -> bool
     ensures { result ≡ list_any (m.contends map.now (values_in resolution.now) orders.now prov)
         orders.now }
@@ -72,6 +74,8 @@ fn is_contended(map: &Map, resolution: &Resolution, orders: &[PlacedOrder], prov
         .any(|placed| contends(map, resolution, orders, prov, placed))
 }
 
+/// Whether a standoff closes the province: a failed move into it had strength to prevent others,
+/// and nobody stands there after the movement.
 fn is_standoff_after(
     map: &Map,
     resolution: &Resolution,

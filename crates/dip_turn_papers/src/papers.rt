@@ -54,6 +54,7 @@ fn push_adjusted_power(
     push_waivers(map, waivers, power, out)
 }
 
+/// Appends the lines of a Winter: orders, removals in disorder, waivers.
 fn push_adjusted_with(
     map: &Map,
     orders: &[PaperLine],

@@ -46,6 +46,7 @@ pub(crate) fn retreated_lines(
     Ok(made)
 }
 
+/// Appends a line for each of these units, with this order.
 fn add_units(
     lines: &mut Vec<PaperLine>,
     units: &[Unit],

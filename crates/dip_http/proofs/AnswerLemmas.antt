@@ -9,16 +9,16 @@ use Rattle.std.proofs.lemmas.Slice.Eq.{bytes_eq-Decides}
 use Rattle.httparse.specs.Grammar.{RequestHead, print_request}
 use Rattle.dip_map.specs.Charts.{Chart}
 use Rattle.dip_desk_state.specs.State.{State}
-use Rattle.dip_http.specs.Heads.{Ask, HasNoHead, IsHead, ask_of}
-use Rattle.dip_http.specs.Fronts.{IsFront, Shows, ask_view, is_decided}
-use Rattle.dip_http.specs.declared.front.Front.{Front}
-use Rattle.dip_http.specs.declared.front.Front.TheVariants.{Head, More, NoHead}
-use Rattle.dip_http.specs.declared.size.Size.{Size}
-use Rattle.dip_http.specs.declared.size.Size.TheVariants.{Unsaid, Fits, TooLarge}
-use Rattle.dip_http.specs.declared.front.RequestFront.{RequestFront}
-use Rattle.dip_http.specs.Places.{Place, letters, game, paper, place_of}
-use Rattle.dip_http.specs.Answers.{IsPart, refusal}
-use Rattle.dip_http.specs.Verdicts.{Verdict, ask_verdict, is_get, is_head, letter_verdict, place_verdict, refuse, show_game, show_paper, take_letter, verdict_of}
+use Rattle.dip_http_messages.specs.Heads.{Ask, HasNoHead, IsHead, ask_of}
+use Rattle.dip_http_messages.specs.Fronts.{IsFront, Shows, ask_view, is_decided}
+use Rattle.dip_http_messages.specs.declared.front.Front.{Front}
+use Rattle.dip_http_messages.specs.declared.front.Front.TheVariants.{Head, More, NoHead}
+use Rattle.dip_http_messages.specs.declared.size.Size.{Size}
+use Rattle.dip_http_messages.specs.declared.size.Size.TheVariants.{Unsaid, Fits, TooLarge}
+use Rattle.dip_http_messages.specs.declared.front.RequestFront.{RequestFront}
+use Rattle.dip_http_messages.specs.Places.{Place, letters, game, paper, place_of}
+use Rattle.dip_http_messages.specs.Answers.{IsPart, refusal}
+use Rattle.dip_http_messages.specs.Verdicts.{Verdict, ask_verdict, is_get, is_head, letter_verdict, place_verdict, refuse, show_game, show_paper, take_letter, verdict_of}
 use Rattle.dip_http.specs.Answering.{headed, headless, silent}
 use Rattle.dip_http.specs.Ends.{Answered, Carried, CarriedBy, EndsBy, EndsQuietly, PartRefused, TakesBy, TakesPost, Tells, WasLeft, without_body}
 use Rattle.dip_http.specs.declared.faults.HttpFault.{HttpFault}

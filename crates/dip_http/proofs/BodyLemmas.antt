@@ -5,7 +5,7 @@ use Rattle.std.specs.Io.KnownBytes.{Consumes}
 use Rattle.std.proofs.lemmas.List.{take-append-le}
 use Rattle.dip_map.specs.Charts.{Chart}
 use Rattle.dip_desk_state.specs.State.{State}
-use Rattle.dip_http.specs.Verdicts.Verdict.{take_letter}
+use Rattle.dip_http_messages.specs.Verdicts.Verdict.{take_letter}
 use Rattle.dip_http.specs.Answering.{Posts}
 use Rattle.dip_http.specs.Ends.{Carried, CarriedBy, PostsTo, PostsToPart, TakesBody, TakesMail, WasLeft}
 use Rattle.dip_http.specs.declared.faults.HttpFault.{HttpFault}

@@ -4,9 +4,10 @@ use Rattle.std.specs.Prelude.{IfErr, OnErr, OnOk}
 use Rattle.std.specs.Io.KnownBytes.{Appends}
 use Rattle.dip_map.specs.Charts.{Chart}
 use Rattle.dip_desk_state.specs.State.{State, public_at}
-use Rattle.dip_http.specs.Answers.{IsPart, refusal}
-use Rattle.dip_http.specs.Verdicts.{refuse, show_game, show_paper, take_letter}
-use Rattle.dip_http.specs.Answering.{IsNumber, game_answer, paper_answer, paper_named}
+use Rattle.dip_http_messages.specs.Answers.{IsPart, refusal}
+use Rattle.dip_http_messages.specs.Verdicts.{refuse, show_game, show_paper, take_letter}
+use Rattle.dip_http.specs.Answering.{game_answer, paper_answer, paper_named}
+use Rattle.dip_http_messages.specs.Numbers.{IsNumber}
 use Rattle.dip_http.specs.Ends.{Carried, CarriedBy, Shows, ShowsPart, WasLeft}
 use Rattle.dip_http.specs.declared.faults.HttpFault.{HttpFault}
 use Rattle.dip_http.specs.declared.faults.HttpFault.TheVariants.{Read, Write, Memory, Keep}

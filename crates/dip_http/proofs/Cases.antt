@@ -4,9 +4,9 @@ use Rattle.httparse.specs.Grammar.{RequestHead, print_blank, print_end, print_re
 use Rattle.httparse.proofs.GrammarLemmas.{request_unique}
 use Rattle.dip_map.specs.Charts.{Chart}
 use Rattle.dip_desk_state.specs.State.{State}
-use Rattle.dip_http.specs.Heads.{HasNoHead, IsHead}
-use Rattle.dip_http.specs.Answers.{refusal}
-use Rattle.dip_http.specs.Verdicts.{is_head, verdict_of}
+use Rattle.dip_http_messages.specs.Heads.{HasNoHead, IsHead}
+use Rattle.dip_http_messages.specs.Answers.{refusal}
+use Rattle.dip_http_messages.specs.Verdicts.{is_head, verdict_of}
 use Rattle.dip_http.specs.Answering.{Carries, IsAnswer, headed, headless, silent}
 
 pub record IsSilent (input : List ℕ) (old : State) (answer : List ℕ) (new : State) : Type 0 where

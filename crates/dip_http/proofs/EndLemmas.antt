@@ -4,7 +4,7 @@ use Rattle.std.specs.Prelude.{IfErr, OnErr, OnOk}
 use Rattle.std.specs.Io.KnownBytes.{Appends}
 use Rattle.std.proofs.Math.Seq.{take-length}
 use Rattle.dip_desk_state.specs.State.{State}
-use Rattle.dip_http.specs.Answers.{IsPart}
+use Rattle.dip_http_messages.specs.Answers.{IsPart}
 use Rattle.dip_map.specs.Charts.{Chart}
 use Rattle.dip_http.specs.Answering.{Posts}
 use Rattle.dip_http.specs.Ends.{PostsTo, PostsToPart, Shows, ShowsPart}

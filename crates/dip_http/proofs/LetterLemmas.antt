@@ -47,10 +47,10 @@ pub no_letter_at_end : (body : List ℕ) → IsNext body End → (n : Mail) → 
 no_letter_at_end body is n one = found body n.note (replicate one.after 10) End one.fits (skips_to body n one) is
 
 -- something else stands after the letter
-pub more_behind : (body : List ℕ) (l : Letter) (r : _) (next : Next) → IsNext body (Taken l r) → IsNext r.now next → (n : Mail) → IsOneLetter body n → IsSameNext End next
-more_behind body l r next is behind n one =
+pub more_after : (body : List ℕ) (l : Letter) (r : _) (next : Next) → IsNext body (Taken l r) → IsNext r.now next → (n : Mail) → IsOneLetter body n → IsSameNext End next
+more_after body l r next is goes_on n one =
     let there = found body n.note (replicate one.after 10) (Taken l r) one.fits (skips_to body n one) is in
-    same_next r.now End next (record { blank = one.after; is = there.2 ∙ sym (append-nil (replicate one.after 10)) }) behind
+    same_next r.now End next (record { blank = one.after; is = there.2 ∙ sym (append-nil (replicate one.after 10)) }) goes_on
 
 -- so no body is one letter that begins with none
 pub none_in_front : (body : List ℕ) (next : Next) → IsNext body next → ((f : LetterFault) × (r : Bor (List ℕ)) × (next ≡ Fault f r)) ⊎ (next ≡ End) → (n : Mail) → IsOneLetter body n → ⊥
@@ -58,7 +58,7 @@ none_in_front body next is (inl e) n one = no_letter_at_fault body e.0 e.1 (subs
 none_in_front body next is (inr e) n one = no_letter_at_end body (subst (IsNext body) e is) n one
 
 -- nor one that goes on after it
-pub none_behind : (body : List ℕ) (l : Letter) (r : Bor (List ℕ)) (next : Next) → IsNext body (Taken l r) → IsNext r.now next
+pub none_after : (body : List ℕ) (l : Letter) (r : Bor (List ℕ)) (next : Next) → IsNext body (Taken l r) → IsNext r.now next
     → ((x : Letter) × (y : Bor (List ℕ)) × (next ≡ Taken x y)) ⊎ ((f : LetterFault) × (y : Bor (List ℕ)) × (next ≡ Fault f y)) → (n : Mail) → IsOneLetter body n → ⊥
-none_behind body l r next is behind (inl e) n one = subst (IsSameNext End) e.2 (more_behind body l r next is behind n one)
-none_behind body l r next is behind (inr e) n one = subst (IsSameNext End) e.2 (more_behind body l r next is behind n one)
+none_after body l r next is goes_on (inl e) n one = subst (IsSameNext End) e.2 (more_after body l r next is goes_on n one)
+none_after body l r next is goes_on (inr e) n one = subst (IsSameNext End) e.2 (more_after body l r next is goes_on n one)

@@ -1,16 +1,3 @@
-pub mod FieldLemmas
-pub mod HeadLemmas
-pub mod HeadNumbers
-pub mod TargetLemmas
-pub mod FoundLemmas
-pub mod PlaceLemmas
-pub mod SeekLemmas
-pub mod SlashLemmas
-pub mod TableLemmas
-pub mod WalkLemmas
-pub mod TextLemmas
-pub mod RefusalNumbers
-pub mod WriteLemmas
 pub mod AnswerLemmas
 pub mod BodyLemmas
 pub mod CarryLemmas
@@ -18,7 +5,6 @@ pub mod EndLemmas
 pub mod OpenLemmas
 pub mod RespondLemmas
 pub mod LetterLemmas
-pub mod TextNumbers
 pub mod Cases
 pub mod OneAnswer
 pub mod PublicAnswers

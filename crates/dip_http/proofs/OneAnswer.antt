@@ -1,9 +1,5 @@
 -- An answer is one.
-use Rattle.std.proofs.Common.{◌≡◌, ◌<◌, ◌^◌, ◌∙◌, ◌⊎◌, ◌++◌, inl, inr, ℕ, Bool, List, Option, None, Some, false, replicate, take, refl, sym, ap, subst, arith}
-use Rattle.std.specs.Fmt.{decimal}
-use Rattle.std.specs.Str.Parse.{AllDigits, digits_value}
-use Rattle.std.proofs.lemmas.Fmt.{digits_value-decimal}
-use Rattle.std.proofs.lemmas.Str.Parse.{IsNumeralModel, numerals_by_value, tells_digits}
+use Rattle.std.proofs.Common.{◌≡◌, ◌∙◌, ◌⊎◌, ◌++◌, inl, inr, ℕ, Bool, List, Option, None, false, replicate, take, sym, ap, subst, arith}
 use Rattle.sha2.specs.Sha256.{sha256}
 use Rattle.dip_map.specs.Charts.{Chart}
 use Rattle.dip_letters.specs.Letters.{spelling}
@@ -15,26 +11,13 @@ use Rattle.dip_desk_state.specs.State.{State}
 use Rattle.dip_desk_machine.specs.View.{IsDecidedOnce}
 use Rattle.dip_desk_state.specs.Records.{Reply}
 use Rattle.dip_reports.specs.Texts.{reply_text}
-use Rattle.dip_http.specs.Answers.{answer_bytes, plain}
-use Rattle.dip_http.specs.Verdicts.{Verdict as Asked, refuse, show_game, show_paper, take_letter}
-use Rattle.dip_http.specs.Answering.{Carries, IsAnswer, IsNumber, IsOneLetter, Posts, Takes, paper_answer, paper_named, status_of}
+use Rattle.dip_http_messages.specs.Answers.{answer_bytes, plain}
+use Rattle.dip_http_messages.specs.Verdicts.{Verdict as Asked, refuse, show_game, show_paper, take_letter}
+use Rattle.dip_http.specs.Answering.{Carries, IsAnswer, IsOneLetter, Posts, Takes, paper_answer, paper_named, status_of}
+use Rattle.dip_http_messages.proofs.TextNumbers.{number_one}
 use Rattle.dip_http.proofs.LetterLemmas.{skips_to}
 use Rattle.dip_http.specs.Laws.{HasOneAnswer}
 use Rattle.dip_http.proofs.Cases.{IsHeaded, IsHeadless, IsSilent, carried, cases, no_head}
-
-pub own : IsNumeralModel (AllDigits 10) (digits_value 10)
-own = numerals_by_value _ tells_digits
-
-same_number : (n k : ℕ) → n < 2 ^ 32 → k < 2 ^ 32 → decimal n ≡ decimal k → n ≡ k
-same_number n k small fits same =
-    sym (digits_value-decimal own n (omega (arith, small))) ∙ ap (digits_value 10) same ∙ digits_value-decimal own k (omega (arith, fits))
-
--- a text is one number, or none
-pub number_one : (text : List ℕ) (a b : Option ℕ) → IsNumber text a → IsNumber text b → a ≡ b
-number_one text None None x y = refl
-number_one text None (Some k) x y = absurd (x k y.1 y.0)
-number_one text (Some n) None x y = absurd (y n x.1 x.0)
-number_one text (Some n) (Some k) x y = ap Some (same_number n k x.1 y.1 (x.0 ∙ sym y.0))
 
 abbrev mail_of : Note → List ℕ → Mail
 mail_of note sum = record { note = note; sum = sum }

@@ -9,10 +9,10 @@ use Rattle.dip_desk_state.specs.State.{Author, Seat, State}
 use Rattle.dip_desk_machine.specs.View.{IsAnsweredFromSeen, IsRun, Turn}
 use Rattle.dip_desk_state.specs.Records.{Reply}
 use Rattle.dip_reports.specs.Texts.{reply_text}
-use Rattle.dip_http.specs.Answers.{answer_bytes, plain}
-use Rattle.dip_http.specs.Verdicts.{Verdict as Asked, is_head, refuse, show_game, show_paper, take_letter, verdict_of}
+use Rattle.dip_http_messages.specs.Answers.{answer_bytes, plain}
+use Rattle.dip_http_messages.specs.Verdicts.{Verdict as Asked, is_head, refuse, show_game, show_paper, take_letter, verdict_of}
 use Rattle.dip_http.specs.Answering.{Carries, IsAnswer, IsOneLetter, Posts, Takes, status_of}
-use Rattle.dip_http.specs.Heads.{IsHead}
+use Rattle.dip_http_messages.specs.Heads.{IsHead}
 use Rattle.dip_http.specs.Laws.{AreTurns, AreTurnsOf, IsPost, IsPostSettled}
 use Rattle.dip_http.proofs.Cases.{IsHeaded, IsHeadless, IsSilent, carried, cases, no_head}
 use Rattle.dip_http.proofs.OneAnswer.{letter_one}

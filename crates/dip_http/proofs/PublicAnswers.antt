@@ -5,14 +5,14 @@ use Rattle.std.proofs.lemmas.Bool.{false≢true}
 use Rattle.std.proofs.lemmas.Slice.Eq.{bytes_eq-Decides}
 use Rattle.dip_map.specs.Charts.{Chart}
 use Rattle.dip_desk_state.specs.State.{State}
-use Rattle.dip_http.specs.Heads.{Ask, ask_of}
-use Rattle.dip_http.specs.declared.size.Size.{Size}
-use Rattle.dip_http.specs.Places.{Place, letters, game, paper, place_of}
-use Rattle.dip_http.specs.Verdicts.{Verdict, ask_verdict, is_get, letter_verdict, place_verdict, refuse, show_game, show_paper, take_letter}
+use Rattle.dip_http_messages.specs.Heads.{Ask, ask_of}
+use Rattle.dip_http_messages.specs.declared.size.Size.{Size}
+use Rattle.dip_http_messages.specs.Places.{Place, letters, game, paper, place_of}
+use Rattle.dip_http_messages.specs.Verdicts.{Verdict, ask_verdict, is_get, letter_verdict, place_verdict, refuse, show_game, show_paper, take_letter}
 use Rattle.dip_http.specs.Answering.{Carries, game_answer, paper_answer, paper_named}
 use Rattle.dip_http.specs.Laws.{IsAnsweredFromPublic, TellAlike}
 use Rattle.dip_http.proofs.Cases.{carried}
-use Rattle.dip_http.proofs.OneAnswer.{number_one}
+use Rattle.dip_http_messages.proofs.TextNumbers.{number_one}
 
 -- everything but a letter
 abbrev pub IsPublic : Verdict → Type 0

@@ -7,7 +7,7 @@ use Rattle.dip_desk_machine.specs.Lawful.{IsLawful}
 use Rattle.dip_desk_state.specs.State.{State}
 use Rattle.dip_desk_state.specs.declared.faults.KeepFault.{KeepFault}
 use Rattle.dip_desk_state.specs.declared.faults.KeepFault.TheVariants.{Damaged}
-use Rattle.dip_http.specs.Answers.{IsPart, refusal}
+use Rattle.dip_http_messages.specs.Answers.{IsPart, refusal}
 use Rattle.dip_http.specs.Ends.{Responds, Tells}
 use Rattle.dip_http.specs.declared.faults.HttpFault.{HttpFault}
 use Rattle.dip_http.specs.declared.faults.HttpFault.TheVariants.{Read, Write, Memory, Keep}

@@ -1,6 +1,5 @@
 -- What is answered to a request, and what the desk is after it.
-use Rattle.std.specs.Prelude.{◌≡◌, ◌≢◌, ◌⊎◌, ◌^◌, ◌<◌, ◌≤◌, ℕ, List, [], ◌++◌, Bool, false, Option, Some, None, codes, length, replicate, take}
-use Rattle.std.specs.Fmt.{decimal}
+use Rattle.std.specs.Prelude.{◌≡◌, ◌≢◌, ◌⊎◌, ◌<◌, ◌≤◌, ℕ, List, [], ◌++◌, Bool, false, Option, Some, None, codes, length, replicate, take}
 use Rattle.httparse.specs.Grammar.{RequestHead}
 use Rattle.sha2.specs.Sha256.{sha256}
 use Rattle.dip_map.specs.Charts.{Chart}
@@ -13,10 +12,11 @@ use Rattle.dip_reports.specs.Texts.{reply_text}
 use Rattle.dip_desk_machine.specs.Machine.{Step, fault_reply}
 use Rattle.dip_desk_machine.specs.Mail.{IsMail, Mail}
 use Rattle.dip_desk_state.specs.State.{State, paper_at, public_at}
-use Rattle.dip_http.specs.Heads.{IsHead, HasNoHead}
-use Rattle.dip_http.specs.Texts.{state_text}
-use Rattle.dip_http.specs.Answers.{answer_bytes, plain, refusal}
-use Rattle.dip_http.specs.Verdicts.{Verdict, refuse, show_game, show_paper, take_letter, verdict_of, is_head}
+use Rattle.dip_http_messages.specs.Heads.{IsHead, HasNoHead}
+use Rattle.dip_http_messages.specs.Numbers.{IsNumber}
+use Rattle.dip_http_messages.specs.Texts.{state_text}
+use Rattle.dip_http_messages.specs.Answers.{answer_bytes, plain, refusal}
+use Rattle.dip_http_messages.specs.Verdicts.{Verdict, refuse, show_game, show_paper, take_letter, verdict_of, is_head}
 
 -- the public part of a game; 404 where there is no such game
 abbrev pub game_answer : Chart → Bool → Option Public → List ℕ
@@ -27,11 +27,6 @@ game_answer m quiet (Some p) = answer_bytes 200 (codes "application/json") None 
 abbrev pub paper_answer : Bool → Option (List ℕ) → List ℕ
 paper_answer quiet None = refusal 404 None quiet
 paper_answer quiet (Some text) = answer_bytes 200 plain None quiet text
-
--- the number of 32 bits that is printed as the text; none where there is none
-abbrev pub IsNumber : List ℕ → Option ℕ → Type 0
-IsNumber text None = (n : ℕ) → n < 2 ^ 32 → decimal n ≢ text
-IsNumber text (Some n) = (decimal n ≡ text) × (n < 2 ^ 32)
 
 -- the paper of a number, if there is a number
 abbrev pub paper_named : List ℕ → Option ℕ → State → Option (List ℕ)

@@ -10,9 +10,9 @@ use Rattle.dip_desk_machine.specs.Mail.{Mail}
 use Rattle.dip_desk_state.specs.Records.{Reply}
 use Rattle.dip_desk_state.specs.State.{State}
 use Rattle.dip_desk_state.specs.declared.faults.KeepFault.TheVariants.{Damaged, Disk}
-use Rattle.dip_http.specs.Heads.{IsHead}
-use Rattle.dip_http.specs.Answers.{IsPart, refusal}
-use Rattle.dip_http.specs.Verdicts.{Verdict, is_head, take_letter}
+use Rattle.dip_http_messages.specs.Heads.{IsHead}
+use Rattle.dip_http_messages.specs.Answers.{IsPart, refusal}
+use Rattle.dip_http_messages.specs.Verdicts.{Verdict, is_head, take_letter}
 use Rattle.dip_http.specs.Answering.{Carries, IsAnswer, IsOneLetter, Posts}
 use Rattle.dip_http.specs.Laws.{IsPost}
 use Rattle.dip_http.specs.Faults.{OnKept, OnUnkept, faults_after_answer}

@@ -7,9 +7,9 @@ use Rattle.dip_desk_machine.specs.Mail.{Mail}
 use Rattle.dip_desk_state.specs.State.{Seat, State, paper_at, public_at}
 use Rattle.dip_desk_machine.specs.View.{IsRun, Turn, reply_in}
 use Rattle.dip_reports.specs.Texts.{reply_text}
-use Rattle.dip_http.specs.Answers.{answer_bytes, plain}
-use Rattle.dip_http.specs.Heads.{IsHead}
-use Rattle.dip_http.specs.Verdicts.{is_get, take_letter, verdict_of}
+use Rattle.dip_http_messages.specs.Answers.{answer_bytes, plain}
+use Rattle.dip_http_messages.specs.Heads.{IsHead}
+use Rattle.dip_http_messages.specs.Verdicts.{is_get, take_letter, verdict_of}
 use Rattle.dip_http.specs.Answering.{IsAnswer, IsOneLetter, status_of}
 
 -- the bytes of a connection have one answer, and leave one content

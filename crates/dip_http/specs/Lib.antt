@@ -1,17 +1,3 @@
-pub mod Fields
-pub mod Sizes
-pub mod Targets
-pub mod Heads
-pub mod Fronts
-pub mod HeadViews
-pub mod Taken
-pub mod Places
-pub mod Table
-pub mod Texts
-pub mod Values
-pub mod Answers
-pub mod Verdicts
-pub mod AnswerViews
 pub mod Answering
 pub mod Ends
 pub mod Faults

@@ -4,22 +4,19 @@ ghost use Rattle.std.specs.Io.KnownBytes.{Consumes, IsAtEnd};
 ghost use Rattle.dip_desk.specs.Keeping.{IsOpen};
 ghost use Rattle.dip_desk_machine.specs.Lawful.{IsLawful};
 ghost use Rattle.dip_desk_state.specs.State.{State};
-ghost use Rattle.dip_http.specs.AnswerViews.{plan_view};
+ghost use Rattle.dip_http_messages.specs.AnswerViews.{plan_view};
 ghost use Rattle.dip_http.specs.Ends.{AnswersOne, Carried, CarriedBy, Responds, TakesBy, without_body};
-ghost use Rattle.dip_http.specs.Fronts.{IsFront, is_decided};
+ghost use Rattle.dip_http_messages.specs.Fronts.{IsFront, is_decided};
 
 use crate::endings::refuse;
 use crate::faults::HttpFault;
-use crate::front::{Front, front_of};
-use crate::plans::{Plan, is_quiet, plan_of};
-use crate::reading::{ReadFault, read_more};
-use crate::refusals::HttpRefusal;
 use crate::showing::{show_game, show_paper};
-use crate::table::Routes;
 use crate::taking::take_letter;
 use dip_desk::Keeper;
 use dip_desk_state::KeepFault;
+use dip_http_messages::{Front, HttpRefusal, Plan, Routes, front_of, is_quiet, plan_of};
 use dip_map::Map;
+use dip_streams::{ReadFault, read_more};
 use std::alloc::Global;
 use std::io::{Read, Write};
 

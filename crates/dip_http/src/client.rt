@@ -4,10 +4,10 @@ ghost use Rattle.dip_http.specs.Ends.{AnswersOne};
 
 use crate::answering::answer_one;
 use crate::faults::HttpFault;
-use crate::table::Routes;
 use crate::timed::{MOST_SECONDS, Timed};
 use dip_desk::Keeper;
 use dip_desk_state::KeepFault;
+use dip_http_messages::Routes;
 use dip_map::Map;
 use dip_streams::read_some;
 use std::alloc::Global;

@@ -4,13 +4,12 @@ ghost use Rattle.std.specs.List.{flat_map};
 ghost use Rattle.std.specs.Io.KnownBytes.{Appends};
 ghost use Rattle.dip_desk_state.specs.Rows as rows;
 ghost use Rattle.dip_reports.specs.Texts.{reply_text};
-ghost use Rattle.dip_http.specs.Answers.{IsPart, answer_bytes, plain, refusal};
-ghost use Rattle.dip_http.specs.AnswerViews.{allowed, status_number};
+ghost use Rattle.dip_http_messages.specs.Answers.{IsPart, answer_bytes, plain, refusal};
+ghost use Rattle.dip_http_messages.specs.AnswerViews.{allowed, status_number};
 
 use crate::faults::HttpFault;
-use crate::refusals::HttpRefusal;
-use crate::writing::{Answer, write_answer};
 use dip_desk_state::{KeepFault, Reply};
+use dip_http_messages::{Answer, HttpRefusal, write_answer};
 use dip_reports::reply_pieces;
 use http::StatusCode;
 use itoa::Buffer;

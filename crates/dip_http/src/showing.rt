@@ -1,15 +1,14 @@
 //! What GET and HEAD are answered: the public part of a game, or a paper.
 ghost use Rattle.std.specs.Prelude.{ℕ, IsErrOf, Option};
 ghost use Rattle.dip_desk_state.specs.State.{paper_at, public_at};
-ghost use Rattle.dip_http.specs.Answering.{IsNumber, game_answer, paper_answer, paper_named};
+ghost use Rattle.dip_http.specs.Answering.{game_answer, paper_answer, paper_named};
 ghost use Rattle.dip_http.specs.Ends.{ShowsText};
+ghost use Rattle.dip_http_messages.specs.Numbers.{IsNumber};
 
 use crate::endings::{refuse, unavailable, write_found};
 use crate::faults::HttpFault;
-use crate::numbers::number_of;
-use crate::refusals::HttpRefusal;
-use crate::state::state_text;
 use dip_desk::Keeper;
+use dip_http_messages::{HttpRefusal, number_of, state_text};
 use dip_map::Map;
 use http::StatusCode;
 use std::alloc::Global;

@@ -8,13 +8,13 @@ ghost use Rattle.dip_http.specs.Ends.{PostsTo, PostsToPart, ReadsBody, ReadsBody
 
 use crate::endings::{refuse, unavailable, write_reply};
 use crate::faults::HttpFault;
-use crate::reading::{ReadFault, read_body};
-use crate::refusals::HttpRefusal;
 use dip_desk::{Keeper, fault_reply, take};
 use dip_desk_machine::lawful_states_stay_lawful;
 use dip_desk_state::{KeepFault, Outcome};
+use dip_http_messages::HttpRefusal;
 use dip_letters::{Letter, LetterFault, Next, next_letter, one_answer};
 use dip_map::Map;
+use dip_streams::{ReadFault, read_body};
 use http::StatusCode;
 use std::alloc::Global;
 use std::io::{Read, Write};

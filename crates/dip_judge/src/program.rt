@@ -1,7 +1,6 @@
 //! The program over what the system hands it.
 
-use crate::asked::run_as_asked;
-use crate::failures::{Failure, status_of};
+use dip_judge_commands::{Failure, run_as_asked, status_of};
 use sqlite::Unknown;
 use std::{env, io};
 

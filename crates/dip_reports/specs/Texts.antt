@@ -9,7 +9,6 @@ use Rattle.dip_reports.specs.declared.refusals.Refusal.{Refusal}
 use Rattle.dip_reports.specs.declared.refusals.Refusal.TheVariants.{Malformed, Unknown, Stale, NumberUsed, TooLong, QuotaUsed, NoGrey, GameOver, WrongSender, NotDue, NameTaken}
 use Rattle.dip_desk_state.specs.Records.{Public, Own, Item, White, Grey, Head, Reply, Standing, Status, Running, Paused, Closed, Ended, Won, Drawn, Vote, No, Yes, For}
 use Rattle.dip_map.specs.Charts.{Chart, powers, province, provs, realm}
-use Rattle.dip_letters.specs.Letters.{yes_or_no}
 use Rattle.dip_letters.specs.Notes.{NoticeRequest}
 use Rattle.dip_letters.specs.Notes.NoticeRequest.{Announce, Close, Pause, Period, Resume}
 use Rattle.dip_orders.specs.Faults.{fault_number, fault_words}
@@ -38,6 +37,9 @@ status_text m Closed = codes "closed"
 status_text m Ended = codes "ended"
 status_text m (Won power) = codes "won by " ++ (realm m power).name
 status_text m (Drawn powers) = codes "drawn by" ++ flat_map (λ p. codes " " ++ (realm m p).name) powers
+
+abbrev pub yes_or_no : Bool → List ℕ
+yes_or_no b = if b then codes "YES" else codes "NO"
 
 unfoldable pub refusal_text : Refusal → List ℕ
 refusal_text Malformed = codes "L1 malformed letter"

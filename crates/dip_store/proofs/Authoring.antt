@@ -12,7 +12,7 @@ use Rattle.dip_store_tables.specs.Coding.{AreCoded}
 use Rattle.dip_store_tables.specs.Looking.{OwnIsFound}
 use Rattle.dip_store_tables.specs.Reading.{own_of, standing_of, state_of}
 use Rattle.dip_store_tables.specs.Tables.{SeatRow, Tables, is_pending, is_seat}
-use Rattle.dip_store_changes.specs.Knowing.{IsKnown, IsUnordered, is_unordered, known_own, own_row, row_known, row_of}
+use Rattle.dip_store_counts.specs.Knowing.{IsKnown, IsUnordered, is_unordered, known_own, own_row, row_known, row_of}
 use Rattle.dip_store_memory.specs.Owns.{Owns, RecallsOwns, own_among, owns_of}
 use Rattle.dip_store_memory.proofs.Owning.{recalled_own}
 use Rattle.dip_store.specs.Authors.{known_among}

@@ -5,8 +5,8 @@ use Rattle.sqlite.specs.Store.{Ghosts}
 use Rattle.sqlite.specs.Held.{Held, state}
 use Rattle.dip_map.specs.Charts.{Chart}
 use Rattle.dip_desk.specs.Keeping.{Looks}
-use Rattle.dip_store_looks.specs.Faults.{IsFromOutside}
-use Rattle.dip_store_looks.specs.declared.faults.LookFault.{LookFault}
+use Rattle.dip_store_sql.specs.RowFaults.{IsFromOutside}
+use Rattle.dip_store_sql.specs.declared.row_faults.RowFault.{RowFault}
 use Rattle.dip_store_tables.specs.Legible.{AreOurs}
 use Rattle.dip_desk_state.specs.Faults.{faults_with, next_count}
 use Rattle.dip_desk_state.specs.State.{State}
@@ -16,7 +16,7 @@ use Rattle.dip_store_sql.specs.Calls.{IsKept, Selects, is_honest, does_show, tab
 use Rattle.dip_store_sql.specs.Causes.{has_faulted}
 use Rattle.dip_store_sql.specs.Rows.{tables_of}
 use Rattle.dip_store_sql.proofs.Parts.{fails, went}
-use Rattle.dip_store.specs.Faults.{look_fault}
+use Rattle.dip_store.specs.Faults.{row_fault}
 use Rattle.dip_store_memory.specs.Idle.{Idle, RecallsIdle}
 use Rattle.dip_store_memory.specs.Owns.{Owns, RecallsOwns}
 use Rattle.dip_store_memory.specs.Seen.{Parts, Recalls}
@@ -109,10 +109,10 @@ module _ {S : Type 0} (g : Ghosts S) (m : Chart) (k : SqlKeeper S) (c : Held S) 
   looks_counted X Y E e Damaged Value p never blamed = looks_told X Y E e Damaged k.failures Value p refl never blamed
 
   -- a look at rows that a keeper wrote fails for want alone
-  pub looks_ill : (X Y : Type 0) (e : LookFault) (Value : X → Type 0) → Selects g k.conn c (fails Y LookFault e)
+  pub looks_ill : (X Y : Type 0) (e : RowFault) (Value : X → Type 0) → Selects g k.conn c (fails Y RowFault e)
       → (IsKept g k.conn → does_show g k.conn → is_honest g c → AreOurs m (tables_in g k.conn) → IsFromOutside (has_faulted g k.conn c) e)
-      → Looks m (book g) k (telling (look_fault e) (record k { conn = c })) Value ⊥ (fails X KeepFault (look_fault e))
-  looks_ill X Y e Value p own = looks_counted X Y LookFault e (look_fault e) Value p
+      → Looks m (book g) k (telling (row_fault e) (record k { conn = c })) Value ⊥ (fails X KeepFault (row_fault e))
+  looks_ill X Y e Value p own = looks_counted X Y RowFault e (row_fault e) Value p
       (λ kept clean shows. look_outside (has_faulted g k.conn c) e (own kept.0 shows clean kept.1))
       (λ kept clean shows. look_blamed (has_faulted g k.conn c) e (own kept.0 shows clean kept.1))
 

@@ -29,15 +29,16 @@ use Rattle.dip_store_sql.specs.Causes.{has_faulted}
 use Rattle.dip_store_sql.specs.Good.{IsGood}
 use Rattle.dip_store_sql.specs.Rows.{tables_of}
 use Rattle.dip_store_sql.proofs.Parts.{fails, went}
-use Rattle.dip_store_changes.specs.Failing.{BlamesFor, FailsFor, HasPlace, MayMake}
+use Rattle.dip_store_counts.specs.Failing.{HasPlace}
+use Rattle.dip_store_sql.specs.RowFaults.{BlamesFor, FailsFor}
 use Rattle.dip_store_changes.specs.Laws.{ChangesAreMade, IsMade}
-use Rattle.dip_store_changes.specs.Making.{MakesFrom}
-use Rattle.dip_store_changes.specs.declared.faults.MakeFault.{MakeFault}
-use Rattle.dip_store.specs.Faults.{is_of_size, make_fault}
+use Rattle.dip_store_changes.specs.Making.{MakesFrom, MayMake}
+use Rattle.dip_store_sql.specs.declared.row_faults.RowFault.{RowFault}
+use Rattle.dip_store.specs.Faults.{is_of_size, row_fault}
 use Rattle.dip_desk_state.specs.Writable.{IsAuthorOf}
 use Rattle.dip_store_tables.specs.Looking.{OwnIsFound}
-use Rattle.dip_store_changes.specs.Knowing.{IsKeptFor, IsKnown, IsUnordered, is_unordered, row_known}
-use Rattle.dip_store_changes.specs.declared.known.KnownAuthor.{KnownAuthor}
+use Rattle.dip_store_counts.specs.Knowing.{IsKeptFor, IsKnown, IsUnordered, is_unordered, row_known}
+use Rattle.dip_store_counts.specs.declared.known.KnownAuthor.{KnownAuthor}
 use Rattle.dip_store_memory.specs.Idle.{Idle, RecallsIdle}
 use Rattle.dip_store_memory.specs.Owns.{Owns, RecallsOwns, owns_of}
 use Rattle.dip_store_memory.specs.Seen.{DifferByName, Parts, Recalls}
@@ -147,13 +148,13 @@ module _ {S : Type 0} (g : Ghosts S) (m : Chart) (k : SqlKeeper S) (c : Change) 
         sound kept shows =
             let is = p.done kept shows in
             let before = said_by m (state g k.conn).now.trees in
-            let behind : said_by m (state g new).now.trees ≡ state_after c before = said kept is.0.good is.1 in
-            let apart : DifferByName (state_after c before).games = subst (λ (s : State). DifferByName s.games) behind (differ_by_name m (state g new).now is.0.good) in (
+            let said_after : said_by m (state g new).now.trees ≡ state_after c before = said kept is.0.good is.1 in
+            let apart : DifferByName (state_after c before).games = subst (λ (s : State). DifferByName s.games) said_after (differ_by_name m (state g new).now is.0.good) in (
               stays kept shows,
               ours kept texts stay (place kept shows) is.0.good is.1,
-              subst (λ (s : State). Recalls s later) (sym behind) (notes before kept.2 (heeds before kept.2).1 apart),
-              subst (λ (s : State). RecallsOwns s owns) (sym behind) (follows before kept.3),
-              subst (λ (s : State). RecallsIdle s idle) (sym behind) (stills before kept.4 apart),
+              subst (λ (s : State). Recalls s later) (sym said_after) (notes before kept.2 (heeds before kept.2).1 apart),
+              subst (λ (s : State). RecallsOwns s owns) (sym said_after) (follows before kept.3),
+              subst (λ (s : State). RecallsIdle s idle) (sym said_after) (stills before kept.4 apart),
             )
 
     -- what a crash may leave of a change that isn't made can be opened again
@@ -232,11 +233,11 @@ module _ {S : Type 0} (g : Ghosts S) (m : Chart) (k : SqlKeeper S) (c : Change) 
         by Damaged never rose = changes_told X Y E e Damaged k.failures (sized b k.of_size) remembered texts legible counted lands settled p refl (size_counts b k.of_size) never rose
 
     -- a change that fits isn't made for want alone, and of any change the disk is told of only where the store told of a fault
-    pub changes_ill : (X Y : Type 0) (e : MakeFault) → StaysRemembered → HasTexts c → TablesStayLegible m → TablesStayCounted m → LandsWell → Settled → WhatFitsFindsPlace m → MakesFrom Keeps g (changing m c) k.conn new (fails Y MakeFault e)
+    pub changes_ill : (X Y : Type 0) (e : RowFault) → StaysRemembered → HasTexts c → TablesStayLegible m → TablesStayCounted m → LandsWell → Settled → WhatFitsFindsPlace m → MakesFrom Keeps g (changing m c) k.conn new (fails Y RowFault e)
         → (Keeps → does_show g k.conn → is_honest g new → MayMake m c (tables_in g k.conn) → FailsFor (has_faulted g k.conn new) (HasPlace m c (tables_in g k.conn) → ⊥) e)
         → (Keeps → does_show g k.conn → is_honest g new → AreOurs m (tables_in g k.conn) → BlamesFor (has_faulted g k.conn new) e)
-        → Changes m (book g) k (telling (make_fault e) (sizing (is_of_size e) (record k { conn = new; seen = seen; owns = owns; idle = idle }))) (state_after c) (Fits m c) (fails X KeepFault (make_fault e))
-    changes_ill X Y e remembered texts legible counted lands settled finds p why blames = changes_counted X Y MakeFault e (make_fault e) (is_of_size e) remembered texts legible counted lands settled p (λ kept clean shows fit.
+        → Changes m (book g) k (telling (row_fault e) (sizing (is_of_size e) (record k { conn = new; seen = seen; owns = owns; idle = idle }))) (state_after c) (Fits m c) (fails X KeepFault (row_fault e))
+    changes_ill X Y e remembered texts legible counted lands settled finds p why blames = changes_counted X Y RowFault e (row_fault e) (is_of_size e) remembered texts legible counted lands settled p (λ kept clean shows fit.
         let place = placed kept fit in
         make_outside (has_faulted g k.conn new) (HasPlace m c (tables_in g k.conn) → ⊥) e (why kept shows clean (record { ours = kept.1; keyed = place.keyed })) (λ none. none (record { paper = place.paper; room = place.room })))
         (λ kept clean shows. make_caused (has_faulted g k.conn new) e (blames kept shows clean kept.1))

@@ -53,30 +53,30 @@ module _ (m : Chart) (ok : IsMap m) (name : List ℕ) where
     abbrev order_row : Standing → PendingRow
     order_row o = pending_row m name power o
 
-    orders_behind : (p : ℕ) (o : Standing) (os : List Standing) → o.province ≡ p → p < length m.provinces → AllByRecursion (λ q. p < q) (map (λ x. x.province) os) → AllByRecursion (λ x. x.province < length m.provinces) os
+    orders_after : (p : ℕ) (o : Standing) (os : List Standing) → o.province ≡ p → p < length m.provinces → AllByRecursion (λ q. p < q) (map (λ x. x.province) os) → AllByRecursion (λ x. x.province < length m.provinces) os
         → AllByRecursion (λ y. same_order (order_row o) y ≡ false) (map order_row os)
-    orders_behind p o [] is low above all = tt
-    orders_behind p o (x ∷ xs) is low above all = (
+    orders_after p o [] is low above all = tt
+    orders_after p o (x ∷ xs) is low above all = (
       second_off (bytes_eq name name) (bytes_eq power power && bytes_eq (code m o.province) (code m x.province))
           (second_off (bytes_eq power power) (bytes_eq (code m o.province) (code m x.province)) (code_apart o.province x.province (omega (arith, is, low)) all.0 (λ same. omega (arith, is, same, above.0)))),
-      orders_behind p o xs is low above.1 all.1,
+      orders_after p o xs is low above.1 all.1,
     )
 
     pub orders_new : (os : List Standing) → AreAscending (map (λ x. x.province) os) → AllByRecursion (λ x. x.province < length m.provinces) os → Differ same_order (map order_row os)
     orders_new [] up all = tt
-    orders_new (o ∷ os) up all = (orders_behind o.province o os refl all.0 up.0 all.1, orders_new os up.1 all.1)
+    orders_new (o ∷ os) up all = (orders_after o.province o os refl all.0 up.0 all.1, orders_new os up.1 all.1)
 
   -- seats, one a power
-  seats_behind : (s : NewSeat) (ss : List NewSeat) → s.power < length m.realms → count_by (λ x. x.power == s.power) ss ≡ 0 → AllByRecursion (λ x. x.power < length m.realms) ss
+  seats_after : (s : NewSeat) (ss : List NewSeat) → s.power < length m.realms → count_by (λ x. x.power == s.power) ss ≡ 0 → AllByRecursion (λ x. x.power < length m.realms) ss
       → AllByRecursion (λ y. same_seat (seat_row m name s) y ≡ false) (map (seat_row m name) ss)
-  seats_behind s [] low none all = tt
-  seats_behind s (x ∷ xs) low none all =
+  seats_after s [] low none all = tt
+  seats_after s (x ∷ xs) low none all =
       let split = count_cons (λ (y : NewSeat). y.power == s.power) x xs in
       elim (cases_Bool (x.power == s.power)) [
         | inl e ↦ absurd (omega (arith, split, counts_one (x.power == s.power) e, none))
         | inr e ↦ (
           second_off (bytes_eq name name) (bytes_eq (power_name m s.power) (power_name m x.power)) (name_apart s.power x.power low all.0 (λ same. eqb-false x.power s.power e (sym same))),
-          seats_behind s xs low (omega (arith, split, none)) all.1,
+          seats_after s xs low (omega (arith, split, none)) all.1,
         )
       ]
 
@@ -86,7 +86,7 @@ module _ (m : Chart) (ok : IsMap m) (name : List ℕ) where
       let own = counts_one (s.power == s.power) (eq-eqb s.power s.power refl) in
       let split = count_cons (λ (x : NewSeat). x.power == s.power) s ss in
       let one = few s.power all.0 in (
-        seats_behind s ss all.0 (omega (arith, split, own, one)) all.1,
+        seats_after s ss all.0 (omega (arith, split, own, one)) all.1,
         seats_few ss (λ p low. let most = few p low in let more = count_cons (λ (x : NewSeat). x.power == p) s ss in omega (arith, most, more)) all.1,
       )
 
@@ -112,20 +112,20 @@ module _ (m : Chart) (ok : IsMap m) (name : List ℕ) where
       place Fleet is = ltb-true _ _ (and_parts (nat_lt u.place.prov (length m.provinces)) _ is).0
 
   module _ {A : Type 0} (unit : A → AUnit) (row : A → UnitRow) (coded : (a : A) → (row a).province ≡ code m (unit a).place.prov) where
-    units_behind : (a : A) (xs : List A) → (unit a).place.prov < length m.provinces → AllByRecursion (λ v. (v.place.prov == (unit a).place.prov) ≡ false) (map unit xs) → AllByRecursion (λ x. (unit x).place.prov < length m.provinces) xs
+    units_after : (a : A) (xs : List A) → (unit a).place.prov < length m.provinces → AllByRecursion (λ v. (v.place.prov == (unit a).place.prov) ≡ false) (map unit xs) → AllByRecursion (λ x. (unit x).place.prov < length m.provinces) xs
         → AllByRecursion (λ y. same_unit (row a) y ≡ false) (map row xs)
-    units_behind a [] low far all = tt
-    units_behind a (x ∷ xs) low far all =
+    units_after a [] low far all = tt
+    units_after a (x ∷ xs) low far all =
         let apart : bytes_eq (row a).province (row x).province ≡ false = rw (coded a, coded x) (code_apart (unit a).place.prov (unit x).place.prov low all.0 (λ same. eqb-false _ _ far.0 (sym same))) in (
           second_off (bytes_eq (row a).game (row x).game) (bytes_eq (row a).province (row x).province && ((row a).dislodged == (row x).dislodged)) (first_off (bytes_eq (row a).province (row x).province) ((row a).dislodged == (row x).dislodged) apart),
-          units_behind a xs low far.1 all.1,
+          units_after a xs low far.1 all.1,
         )
 
     units_of : (xs : List A) → are_units_single (map unit xs) ≡ true → AllByRecursion (λ x. (unit x).place.prov < length m.provinces) xs → Differ same_unit (map row xs)
     units_of [] single all = tt
     units_of (a ∷ xs) single all =
         let both = and_parts (not (list_any (λ v. v.place.prov == (unit a).place.prov) (map unit xs))) (are_units_single (map unit xs)) single in
-        (units_behind a xs all.0 (none_from_any (λ v. v.place.prov == (unit a).place.prov) (map unit xs) (not-true _ both.0)) all.1, units_of xs both.1 all.1)
+        (units_after a xs all.0 (none_from_any (λ v. v.place.prov == (unit a).place.prov) (map unit xs) (not-true _ both.0)) all.1, units_of xs both.1 all.1)
 
   pub units_new : (b : Position) → IsOf m b → Differ same_unit (unit_rows m name b)
   units_new b of =
@@ -142,16 +142,16 @@ module _ (m : Chart) (ok : IsMap m) (name : List ℕ) where
       map_itself (u ∷ us) = ap (λ vs. u ∷ vs) (map_itself us)
 
   -- owned centres, province by province
-  centres_behind : (k r p : ℕ) (os : List (Option ℕ)) → k < p → p + length os ≤ length m.provinces
+  centres_after : (k r p : ℕ) (os : List (Option ℕ)) → k < p → p + length os ≤ length m.provinces
       → AllByRecursion (λ y. same_centre (record { game = name; province = code m k; power = power_name m r }) y ≡ false) (centre_rows_from m name p os)
-  centres_behind k r p [] low within = tt
-  centres_behind k r p (None ∷ os) low within = centres_behind k r (suc p) os (omega (arith, low)) (omega (arith, within))
-  centres_behind k r p (Some q ∷ os) low within = (
+  centres_after k r p [] low within = tt
+  centres_after k r p (None ∷ os) low within = centres_after k r (suc p) os (omega (arith, low)) (omega (arith, within))
+  centres_after k r p (Some q ∷ os) low within = (
     second_off (bytes_eq name name) (bytes_eq (code m k) (code m p)) (code_apart k p (omega (arith, low, within)) (omega (arith, within)) (λ same. omega (arith, same, low))),
-    centres_behind k r (suc p) os (omega (arith, low)) (omega (arith, within)),
+    centres_after k r (suc p) os (omega (arith, low)) (omega (arith, within)),
   )
 
   pub centres_new : (p : ℕ) (os : List (Option ℕ)) → p + length os ≤ length m.provinces → Differ same_centre (centre_rows_from m name p os)
   centres_new p [] within = tt
   centres_new p (None ∷ os) within = centres_new (suc p) os (omega (arith, within))
-  centres_new p (Some q ∷ os) within = (centres_behind p q (suc p) os (omega arith) (omega (arith, within)), centres_new (suc p) os (omega (arith, within)))
+  centres_new p (Some q ∷ os) within = (centres_after p q (suc p) os (omega arith) (omega (arith, within)), centres_new (suc p) os (omega (arith, within)))

@@ -17,6 +17,7 @@ use Rattle.dip_store_sql.specs.Calls.{IsKept, Selects, WasKept, is_honest, does_
 use Rattle.dip_store_sql.specs.Causes.{has_faulted}
 use Rattle.dip_store_sql.specs.Rows.{tables_of}
 use Rattle.dip_store_sql.proofs.Parts.{went}
+use Rattle.dip_store_schema.specs.Desk.{DeskSays}
 use Rattle.dip_store_schema.specs.Founding.{Keeps}
 use Rattle.dip_store_schema.specs.Known.{has_table}
 use Rattle.dip_store_schema.specs.Renewing.{IsOldStore, old_said_by}
@@ -29,6 +30,15 @@ use Rattle.dip_store.specs.Opening.{AreOf, HasOnly, Holds, IsDesk, IsNowOf, IsSe
 use Rattle.dip_desk.specs.Keeping.{Ends, IsOpen}
 use Rattle.dip_store.specs.Stored.{AreStored, IsStore, IsStoreOf, book, fresh_keeper, said_by}
 use Rattle.dip_store.specs.declared.keeper.SqlKeeper.{SqlKeeper}
+
+-- the master's row of new tables is of this version, and says their map
+pub new_desk_says : (map_sum digest : List ℕ) → DeskSays 2 map_sum (new_tables map_sum digest)
+new_desk_says map_sum digest = record {
+  desk = record { id = 1; version = 2; map = map_sum; digest = digest; last = 0; kept = []; reply = [] };
+  found = refl;
+  version_is = refl;
+  map_is = refl;
+}
 
 -- a store that is ready is kept, if keepers wrote it
 module _ {S : Type 0} (g : Ghosts S) (m : Chart) (store : Held S) (ready : IsSettled g store) where

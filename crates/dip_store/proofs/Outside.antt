@@ -5,17 +5,14 @@ use Rattle.sqlite.specs.declared.error.Error.{Error}
 use Rattle.sqlite.specs.declared.error.Error.TheVariants.{SqliteFailure}
 use Rattle.sqlite.specs.declared.error.ErrorCode.{ErrorCode}
 use Rattle.sqlite.specs.declared.error.ErrorCode.TheVariants.{OutOfMemory, SystemIoFailure, DatabaseCorrupt, DiskFull, TooBig, NoRowid, Closed}
-use Rattle.dip_store_looks.specs.Faults.{IsFromOutside}
-use Rattle.dip_store_looks.specs.declared.faults.LookFault.{LookFault}
-use Rattle.dip_store_looks.specs.declared.faults.LookFault.TheVariants as looks
+use Rattle.dip_store_sql.specs.RowFaults.{BlamesFor, FailsFor, IsFromOutside}
+use Rattle.dip_store_sql.specs.declared.row_faults.RowFault.{RowFault}
+use Rattle.dip_store_sql.specs.declared.row_faults.RowFault.TheVariants as rows
 use Rattle.dip_desk_state.specs.declared.faults.KeepFault.{KeepFault}
 use Rattle.dip_desk_state.specs.declared.faults.KeepFault.TheVariants.{Memory, Disk, Damaged}
-use Rattle.dip_store_changes.specs.Failing.{BlamesFor, FailsFor}
-use Rattle.dip_store_changes.specs.declared.faults.MakeFault.{MakeFault}
-use Rattle.dip_store_changes.specs.declared.faults.MakeFault.TheVariants as makes
 use Rattle.dip_store_sql.specs.Refusals.{IsBlamed, IsWant}
 use Rattle.dip_store_sql.specs.Causes.{IsCaused}
-use Rattle.dip_store.specs.Faults.{code_fault, error_fault, is_code_of_size, is_error_of_size, is_of_size, look_fault, make_fault}
+use Rattle.dip_store.specs.Faults.{code_fault, error_fault, is_code_of_size, is_error_of_size, is_of_size, row_fault}
 
 not_memory : Memory ≡ Damaged → ⊥
 not_memory is = absurd (cc)
@@ -53,21 +50,21 @@ error_blamed fault e (inl memory) is = absurd (let bad : Memory ≡ Disk = ap er
 error_blamed fault e (inr disk) is = disk.1
 
 -- of a look
-pub look_outside : (fault : Type 0) (e : LookFault) → IsFromOutside fault e → look_fault e ≡ Damaged → ⊥
-look_outside fault looks.Memory own is = not_memory is
-look_outside fault (looks.Query e) own is = error_outside fault e own is
-look_outside fault looks.Foreign own is = absurd own
+pub look_outside : (fault : Type 0) (e : RowFault) → IsFromOutside fault e → row_fault e ≡ Damaged → ⊥
+look_outside fault rows.Memory own is = not_memory is
+look_outside fault (rows.Sql e) own is = error_outside fault e own is
+look_outside fault rows.Misfit own is = absurd own
 
-pub look_blamed : (fault : Type 0) (e : LookFault) → IsFromOutside fault e → look_fault e ≡ Disk → fault
-look_blamed fault looks.Memory own is = absurd (let bad : Memory ≡ Disk = is in cc)
-look_blamed fault (looks.Query e) own is = error_blamed fault e own is
-look_blamed fault looks.Foreign own is = absurd own
+pub look_blamed : (fault : Type 0) (e : RowFault) → IsFromOutside fault e → row_fault e ≡ Disk → fault
+look_blamed fault rows.Memory own is = absurd (let bad : Memory ≡ Disk = is in cc)
+look_blamed fault (rows.Sql e) own is = error_blamed fault e own is
+look_blamed fault rows.Misfit own is = absurd own
 
 -- and of a change that is no misfit
-pub make_outside : (fault Misfit : Type 0) (e : MakeFault) → FailsFor fault Misfit e → (Misfit → ⊥) → make_fault e ≡ Damaged → ⊥
-make_outside fault Misfit makes.Memory fails fits is = not_memory is
-make_outside fault Misfit (makes.Sql e) fails fits is = error_wanting fault e fails is
-make_outside fault Misfit makes.Misfit fails fits is = fits fails
+pub make_outside : (fault Misfit : Type 0) (e : RowFault) → FailsFor fault Misfit e → (Misfit → ⊥) → row_fault e ≡ Damaged → ⊥
+make_outside fault Misfit rows.Memory fails fits is = not_memory is
+make_outside fault Misfit (rows.Sql e) fails fits is = error_wanting fault e fails is
+make_outside fault Misfit rows.Misfit fails fits is = fits fails
 
 -- a change tells of the disk where there was a fault of it, or one of size
 code_caused : (fault : Type 0) (c : ErrorCode) → IsBlamed fault (SqliteFailure c) → code_fault c ≡ Disk → fault ⊎ (is_code_of_size c ≡ true)
@@ -84,7 +81,7 @@ error_caused : (fault : Type 0) (e : Error) → IsBlamed fault e → error_fault
 error_caused fault (SqliteFailure c) blamed is = code_caused fault c blamed is
 error_caused fault _ blamed is = absurd (let bad : Damaged ≡ Disk = is in cc)
 
-pub make_caused : (fault : Type 0) (e : MakeFault) → BlamesFor fault e → make_fault e ≡ Disk → fault ⊎ (is_of_size e ≡ true)
-make_caused fault makes.Memory blamed is = absurd (let bad : Memory ≡ Disk = is in cc)
-make_caused fault (makes.Sql e) blamed is = error_caused fault e blamed is
-make_caused fault makes.Misfit blamed is = absurd (let bad : Damaged ≡ Disk = is in cc)
+pub make_caused : (fault : Type 0) (e : RowFault) → BlamesFor fault e → row_fault e ≡ Disk → fault ⊎ (is_of_size e ≡ true)
+make_caused fault rows.Memory blamed is = absurd (let bad : Memory ≡ Disk = is in cc)
+make_caused fault (rows.Sql e) blamed is = error_caused fault e blamed is
+make_caused fault rows.Misfit blamed is = absurd (let bad : Damaged ≡ Disk = is in cc)

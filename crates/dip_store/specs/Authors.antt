@@ -2,8 +2,8 @@
 use Rattle.std.specs.Prelude.{List, Option, None, option_map}
 use Rattle.dip_desk_state.specs.Records.{Own}
 use Rattle.dip_desk_state.specs.State.{Author, Nobody, TheMaster, Seat}
-use Rattle.dip_store_changes.specs.Knowing.{known_own}
-use Rattle.dip_store_changes.specs.declared.known.KnownAuthor.{KnownAuthor}
+use Rattle.dip_store_counts.specs.Knowing.{known_own}
+use Rattle.dip_store_counts.specs.declared.known.KnownAuthor.{KnownAuthor}
 use Rattle.dip_store_memory.specs.Owns.{own_among}
 
 -- what own parts of a game say of a letter's author, where its own is among them

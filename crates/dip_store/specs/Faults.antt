@@ -4,12 +4,10 @@ use Rattle.sqlite.specs.declared.error.Error.{Error}
 use Rattle.sqlite.specs.declared.error.Error.TheVariants.{SqliteFailure}
 use Rattle.sqlite.specs.declared.error.ErrorCode.{ErrorCode}
 use Rattle.sqlite.specs.declared.error.ErrorCode.TheVariants.{OutOfMemory, SystemIoFailure, DatabaseCorrupt, DiskFull, TooBig, NoRowid, Closed}
-use Rattle.dip_store_looks.specs.declared.faults.LookFault.{LookFault}
-use Rattle.dip_store_looks.specs.declared.faults.LookFault.TheVariants as looks
+use Rattle.dip_store_sql.specs.declared.row_faults.RowFault.{RowFault}
+use Rattle.dip_store_sql.specs.declared.row_faults.RowFault.TheVariants as rows
 use Rattle.dip_desk_state.specs.declared.faults.KeepFault.{KeepFault}
 use Rattle.dip_desk_state.specs.declared.faults.KeepFault.TheVariants.{Memory, Disk, Damaged}
-use Rattle.dip_store_changes.specs.declared.faults.MakeFault.{MakeFault}
-use Rattle.dip_store_changes.specs.declared.faults.MakeFault.TheVariants as makes
 pub use Rattle.dip_store_schema.specs.Faults.{store_fault_name}
 
 -- want of memory; a fault of the disk, want of room on it, or a store that such a fault has shut before; anything else shows that the tables
@@ -28,17 +26,11 @@ abbrev pub error_fault : Error → KeepFault
 error_fault (SqliteFailure code) = code_fault code
 error_fault _ = Damaged
 
--- of a look
-abbrev pub look_fault : LookFault → KeepFault
-look_fault looks.Memory = Memory
-look_fault (looks.Query error) = error_fault error
-look_fault looks.Foreign = Damaged
-
--- and of a change
-abbrev pub make_fault : MakeFault → KeepFault
-make_fault makes.Memory = Memory
-make_fault (makes.Sql error) = error_fault error
-make_fault makes.Misfit = Damaged
+-- of a look or a change
+abbrev pub row_fault : RowFault → KeepFault
+row_fault rows.Memory = Memory
+row_fault (rows.Sql error) = error_fault error
+row_fault rows.Misfit = Damaged
 
 -- a row that is too long to be stored, or no number left for one
 abbrev pub is_code_of_size : ErrorCode → Bool
@@ -50,7 +42,7 @@ abbrev pub is_error_of_size : Error → Bool
 is_error_of_size (SqliteFailure code) = is_code_of_size code
 is_error_of_size _ = false
 
-abbrev pub is_of_size : MakeFault → Bool
-is_of_size makes.Memory = false
-is_of_size (makes.Sql error) = is_error_of_size error
-is_of_size makes.Misfit = false
+abbrev pub is_of_size : RowFault → Bool
+is_of_size rows.Memory = false
+is_of_size (rows.Sql error) = is_error_of_size error
+is_of_size rows.Misfit = false

@@ -154,11 +154,44 @@ pub record OpensStore {S : Type 0} (g : Ghosts S) (m : Chart) (text : List ℕ) 
   pub fair : is_honest g (store_in result) → is_honest g store
   pub counted : (state g store).faults ≤ (state g (store_in result)).faults
 
+-- the database was made for the map of this text
+abbrev pub IsMadeForText : Chart → List ℕ → Database → Type 0
+IsMadeForText m text db = IsMadeFor m (sha256 text) db
+
+-- why a store isn't opened by the map of this text. It is of another version or map only where its
+-- master's row says so, and where keepers wrote it for this map only memory or the disk is told
+-- of. The disk is told of only where a transaction was under way, or the store told of a fault of
+-- it, or its tables of version 1 can't be made anew
+pub record IsShutBy {S : Type 0} (g : Ghosts S) (m : Chart) (text : List ℕ) (store new : Held S)
+    (fault : StoreFault) : Type 0 where
+  pub refused : is_honest g new → IsRefusedBy m (sha256 text) (state g store).now fault
+  pub own : is_honest g new → (s : State) → Says m s (state g store).now
+      → IsMadeForText m text (state g store).now → IsOutage fault
+  pub known : is_honest g new → fault ≡ faults.OtherMap
+      → HasOurTables (state g store).now.schema ⊎ HasOldTables (state g store).now.schema
+  pub caused : is_honest g new → does_show g store → fault ≡ faults.Disk
+      → IsTrue store.in_transaction ⊎ (has_faulted g store new
+      ⊎ IsLeftOld m (sha256 text) (state g store).now)
+
+-- why no desk is made in a store. It has a table, or memory ran out, or the disk failed, which is
+-- told of only where a transaction was under way, or the store told of a fault of it
+pub record IsUnmadeBy {S : Type 0} (g : Ghosts S) (store new : Held S) (fault : StoreFault)
+    : Type 0 where
+  pub taken : fault ≡ faults.OtherSchema → (state g store).now.schema ≡ no_schema → ⊥
+  pub refused : fault ≡ faults.OtherMap → ⊥
+  pub caused : is_honest g new → does_show g store → fault ≡ faults.Disk
+      → IsTrue store.in_transaction ⊎ has_faulted g store new
+
+-- the master's row of a store says the map of this text
+abbrev pub SaysText : {S : Type 0} → Ghosts S → List ℕ → Held S → Type 0
+SaysText g text store = DeskSays 2 (sha256 text) (tables_of (state g store).now.trees)
+
 -- how a desk's tables are made in a store, whose text is this map's and whose master's digest is this one
 pub record MakesStore {S : Type 0} (g : Ghosts S) (m : Chart) (text digest : List ℕ) (store : Held S)
     (result : Result (SqlKeeper S) (StoreFault × Held S)) : Type 0 where
   pub opened : IfOk result (λ k. is_honest g k.conn → Opens g m (record { desk = record { digest = digest; kept = None }; games = [] }) k)
   pub told : IfOk result (λ k. (book g).faults k ≡ 0)
+  pub made : IfOk result (λ k. is_honest g k.conn → SaysText g text k.conn)
   pub empty : IfOk result (λ _. (state g store).now.schema ≡ no_schema)
   pub taken : IfErr result (λ e. e.0 ≡ faults.OtherSchema → (state g store).now.schema ≡ no_schema → ⊥)
   pub refused : IfErr result (λ e. e.0 ≡ faults.OtherMap → ⊥)

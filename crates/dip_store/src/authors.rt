@@ -5,7 +5,7 @@ ghost use Rattle.dip_desk_state.specs.Rows as rows;
 ghost use Rattle.dip_store.specs.Authors.{known_among};
 
 use dip_desk_state::{Author, Own};
-use dip_store_changes::KnownAuthor;
+use dip_store_counts::KnownAuthor;
 use dip_store_memory::own_in;
 
 /// What the own parts of a game say of a letter's author, where its own is among them.

@@ -3,8 +3,7 @@ ghost use Rattle.std.specs.Prelude.{◌≡◌};
 ghost use Rattle.dip_store.specs.Faults as told;
 
 use dip_desk_state::KeepFault;
-use dip_store_changes::MakeFault;
-use dip_store_looks::LookFault;
+use dip_store_sql::RowFault;
 use sqlite::{Error, ErrorCode};
 
 /// The keeper's fault for a failure of the database: want of memory, a fault of the disk or want of room on it, or that a fault of the
@@ -34,25 +33,14 @@ fn error_fault(error: Error) -> KeepFault
     }
 }
 
-/// The keeper's fault for that of a look.
-pub(crate) fn look_fault(fault: LookFault) -> KeepFault
-    ensures { result ≡ told.look_fault fault }
+/// The keeper's fault for that of a look or of a change.
+pub(crate) fn row_fault(fault: RowFault) -> KeepFault
+    ensures { result ≡ told.row_fault fault }
 {
     match fault {
-        LookFault::Memory => KeepFault::Memory,
-        LookFault::Query(error) => error_fault(error),
-        LookFault::Foreign => KeepFault::Damaged,
-    }
-}
-
-/// The keeper's fault for that of a change.
-pub(crate) fn make_fault(fault: MakeFault) -> KeepFault
-    ensures { result ≡ told.make_fault fault }
-{
-    match fault {
-        MakeFault::Memory => KeepFault::Memory,
-        MakeFault::Sql(error) => error_fault(error),
-        MakeFault::Misfit => KeepFault::Damaged,
+        RowFault::Memory => KeepFault::Memory,
+        RowFault::Sql(error) => error_fault(error),
+        RowFault::Misfit => KeepFault::Damaged,
     }
 }
 
@@ -77,11 +65,11 @@ fn is_error_of_size(error: &Error) -> bool
 }
 
 /// Whether a change met a fault of size.
-pub(crate) fn is_of_size(fault: &MakeFault) -> bool
+pub(crate) fn is_of_size(fault: &RowFault) -> bool
     ensures { result ≡ told.is_of_size fault.now }
 {
     match fault {
-        MakeFault::Sql(error) => is_error_of_size(error),
-        MakeFault::Memory | MakeFault::Misfit => false,
+        RowFault::Sql(error) => is_error_of_size(error),
+        RowFault::Memory | RowFault::Misfit => false,
     }
 }

@@ -4,16 +4,17 @@ ghost use Rattle.dip_store.specs.Faults as told;
 ghost use Rattle.dip_store.specs.Stored as stored;
 
 use crate::authors::known_author;
-use crate::faults::{is_of_size, look_fault, make_fault};
+use crate::faults::{is_of_size, row_fault};
 use crate::fitting_laws::{what_fits_can_be_written, what_fits_finds_place};
 use crate::papers::look_game_paper;
 use crate::shared::look_shared_public;
 use dip_desk::Keeper;
 use dip_desk_state::{Change, Desk, Item, KeepFault, Own, Public, Whole};
 use dip_map::{Map, Power};
-use dip_store_changes::{MakeFault, changes_are_made, make};
+use dip_store_changes::{changes_are_made, make};
 use dip_store_looks::{look_desk, look_items, look_own, look_whole};
 use dip_store_memory::{IdleSeats, SeenGames, SeenOwns};
+use dip_store_sql::RowFault;
 use dip_store_tables::{
     has_texts, has_widths, is_writable, own_is_found, page_is_found, tables_stay_counted,
     tables_stay_legible,
@@ -94,13 +95,13 @@ impl<S: Alter> SqlKeeper<S> {
     }
 
     /// Tells what the store told of a change.
-    fn told_by_store(&mut self, fault: MakeFault) -> KeepFault
-        ensures same { result ≡ told.make_fault fault }
-        ensures told { self.new ≡ stored.telling (told.make_fault fault)
+    fn told_by_store(&mut self, fault: RowFault) -> KeepFault
+        ensures same { result ≡ told.row_fault fault }
+        ensures told { self.new ≡ stored.telling (told.row_fault fault)
             (stored.sizing (told.is_of_size fault) self.old) }
     {
         self.count_size(is_of_size(&fault));
-        self.told(make_fault(fault))
+        self.told(row_fault(fault))
     }
 }
 
@@ -114,7 +115,7 @@ impl<S: Alter> Keeper for SqlKeeper<S> {
     fn desk(&mut self) -> Result<Desk, KeepFault> {
         match look_desk(&mut self.conn, self.alloc) {
             Ok(desk) => Ok(desk),
-            Err(fault) => Err(self.told(look_fault(fault))),
+            Err(fault) => Err(self.told(row_fault(fault))),
         }
     }
 
@@ -127,7 +128,7 @@ impl<S: Alter> Keeper for SqlKeeper<S> {
                 self.seen.learn(self.alloc, game, &public);
                 Ok(public)
             }
-            Err(fault) => Err(self.told(look_fault(fault))),
+            Err(fault) => Err(self.told(row_fault(fault))),
         }
     }
 
@@ -143,7 +144,7 @@ impl<S: Alter> Keeper for SqlKeeper<S> {
                 self.owns.learn(self.alloc, game, &own);
                 Ok(own)
             }
-            Err(fault) => Err(self.told(look_fault(fault))),
+            Err(fault) => Err(self.told(row_fault(fault))),
         }
     }
 
@@ -159,21 +160,21 @@ impl<S: Alter> Keeper for SqlKeeper<S> {
         map.facts();
         match look_items(&mut self.conn, self.alloc, map, game, power, first, most) {
             Ok(items) => Ok(items),
-            Err(fault) => Err(self.told(look_fault(fault))),
+            Err(fault) => Err(self.told(row_fault(fault))),
         }
     }
 
     fn whole(&mut self, map: &Map, game: &str) -> Result<Option<Whole>, KeepFault> {
         match look_whole(&mut self.conn, self.alloc, map, game) {
             Ok(whole) => Ok(whole),
-            Err(fault) => Err(self.told(look_fault(fault))),
+            Err(fault) => Err(self.told(row_fault(fault))),
         }
     }
 
     fn paper(&mut self, _map: &Map, game: &str, number: u32) -> Result<Option<String>, KeepFault> {
         match look_game_paper(&mut self.conn, game, number) {
             Ok(paper) => Ok(paper),
-            Err(fault) => Err(self.told(look_fault(fault))),
+            Err(fault) => Err(self.told(row_fault(fault))),
         }
     }
 

@@ -1,15 +1,15 @@
 //! A paper of a game that is there.
 ghost use Rattle.std.specs.Prelude.{◌≡◌, IfErr, IfOk, option_map, string_bytes};
 ghost use Rattle.dip_map.specs.Charts.{Chart};
-ghost use Rattle.dip_store_looks.specs.Faults.{IsFromOutside};
+ghost use Rattle.dip_store_sql.specs.RowFaults.{IsFromOutside};
 ghost use Rattle.dip_store_tables.specs.Legible.{AreOurs};
 ghost use Rattle.dip_desk_state.specs.State.{paper_at};
 ghost use Rattle.dip_store_sql.specs.Causes.{has_faulted};
 ghost use Rattle.dip_store_sql.specs.Calls.{IsKept, Selects, does_show, is_honest, tables_in};
 ghost use Rattle.dip_store_tables.specs.Reading.{state_of};
 
-use dip_store_looks::{LookFault, look_paper};
-use dip_store_sql::find_game;
+use dip_store_looks::look_paper;
+use dip_store_sql::{RowFault, find_game};
 use dip_store_tables::paper_is_found;
 use sqlite::{Alter, Connection};
 
@@ -22,7 +22,7 @@ pub(crate) fn look_game_paper<S: Alter>(
     conn: &mut Connection<S>,
     game: &str,
     number: u32,
-) -> Result<Option<String>, LookFault>
+) -> Result<Option<String>, RowFault>
     ensures value { IsKept S.Store conn.old → is_honest S.Store conn.new → IfOk result (λ o.
         (m : Chart) → option_map string_bytes o
         ≡ paper_at game.now number (state_of m (tables_in S.Store conn.old))) }

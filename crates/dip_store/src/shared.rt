@@ -1,6 +1,6 @@
 //! The public part of a game, as it is shared.
 ghost use Rattle.std.specs.Prelude.{◌≡◌, IfErr, IfOk, option_map};
-ghost use Rattle.dip_store_looks.specs.Faults.{IsFromOutside};
+ghost use Rattle.dip_store_sql.specs.RowFaults.{IsFromOutside};
 ghost use Rattle.dip_store_tables.specs.Legible.{AreOurs};
 ghost use Rattle.dip_desk_state.specs.Rows as rows;
 ghost use Rattle.dip_desk_state.specs.State.{public_at};
@@ -10,7 +10,8 @@ ghost use Rattle.dip_store_tables.specs.Reading.{state_of};
 
 use dip_desk_state::Public;
 use dip_map::Map;
-use dip_store_looks::{LookFault, look_public};
+use dip_store_looks::look_public;
+use dip_store_sql::RowFault;
 use dip_store_tables::public_is_found;
 use sqlite::{Alter, Connection};
 use std::alloc::Global;
@@ -19,13 +20,13 @@ use std::rc::Rc;
 /// The public part of a game, to be shared; `None` where there is no such game.
 ///
 /// # Errors
-/// Want of memory, the database's own, or `Foreign` where a row of it is none that a keeper writes by this map.
+/// Want of memory, the database's own, or `Misfit` where a row of it is none that a keeper writes by this map.
 pub(crate) fn look_shared_public<S: Alter>(
     conn: &mut Connection<S>,
     alloc: Global,
     map: &Map,
     game: &str,
-) -> Result<Option<Rc<Public>>, LookFault>
+) -> Result<Option<Rc<Public>>, RowFault>
     ensures value { IsKept S.Store conn.old → is_honest S.Store conn.new → IfOk result (λ o.
         option_map (λ p. rows.public p.value) o
         ≡ public_at game.now (state_of map.now (tables_in S.Store conn.old))) }

@@ -1,16 +1,4 @@
-pub mod Adding
-pub mod Apart
-pub mod Centres
-pub mod Counting
-pub mod Gaming
-pub mod Handing
-pub mod Joining
-pub mod Knowing
-pub mod Placing
 pub mod Counted
-pub mod Failing
-pub mod Listed
+pub mod Handing
 pub mod Made
-pub mod Peeking
-pub mod Placed
 pub mod Wanting

@@ -15,7 +15,7 @@ use Rattle.dip_store_sql.specs.Calls.{IsKept, IsLaid, Selects, Writes, does_show
 use Rattle.dip_store_sql.specs.Causes.{has_faulted}
 use Rattle.dip_store_sql.proofs.Caused.{faulted_early, faulted_late}
 use Rattle.dip_store_sql.proofs.Parts.{failed_commit, fails, undone_all, undone_base, went}
-use Rattle.dip_store_changes.specs.Counts.{Peeks}
+use Rattle.dip_store_counts.specs.Counts.{Peeks}
 use Rattle.dip_store_changes.specs.Making.{Makes, MakesFrom}
 
 -- both went well, or neither
@@ -248,8 +248,8 @@ module _ {S : Type 0} (g : Ghosts S) where
   }
 
   -- after what was read
-  makes_behind : (X E Y F : Type 0) (f : Tables → Tables) (old mid new : Held S) (x : X) (r : Result Y F) → Selects g old mid (went X E x) → Makes g f mid new r → Makes g f old new r
-  makes_behind X E Y F f old mid new x r s k = record {
+  makes_after : (X E Y F : Type 0) (f : Tables → Tables) (old mid new : Held S) (x : X) (r : Result Y F) → Selects g old mid (went X E x) → Makes g f mid new r → Makes g f old new r
+  makes_after X E Y F f old mid new x r s k = record {
     fair = λ clean. s.fair (k.fair clean);
     shown = λ up. s.shown (k.shown up);
     mode = λ idle. k.mode (s.mode idle);
@@ -257,7 +257,7 @@ module _ {S : Type 0} (g : Ghosts S) where
     done = λ kept up. let at = k.shown up in on_ok r r (alike_itself r) (λ it. (it.0, it.1 ∙ renamed kept at)) (k.done (s.kept kept at) up);
     undone = λ kept up. let at = k.shown up in on_err r r (alike_itself r) (λ it. (it.0, it.1 ∙ s.same kept at)) (k.undone (s.kept kept at) up);
     ok = λ kept clean. k.ok (mid_kept kept clean) clean;
-    closes = λ clean up. closes_behind (s.closes (k.fair clean) up) clean;
+    closes = λ clean up. closes_after (s.closes (k.fair clean) up) clean;
     kept = λ kept clean. k.kept (mid_kept kept clean) clean;
     left = λ kept clean. on_err r r (alike_itself r) (λ it db may. elim (it db may) [
       | inl before ↦ inl (s.left kept (k.fair clean) db before)
@@ -265,12 +265,12 @@ module _ {S : Type 0} (g : Ghosts S) where
     ]) (k.left (mid_kept kept clean) clean);
   }
     where
-      closes_behind : does_show g mid ⊎ has_faulted g old mid → is_honest g new → does_show g new ⊎ has_faulted g old new
-      closes_behind (inl up) clean = elim (k.closes clean up) [
+      closes_after : does_show g mid ⊎ has_faulted g old mid → is_honest g new → does_show g new ⊎ has_faulted g old new
+      closes_after (inl up) clean = elim (k.closes clean up) [
         | inl still ↦ inl still
         | inr more ↦ inr (faulted_late (state g old) (state g mid) (state g new) s.counts more)
       ]
-      closes_behind (inr more) clean = inr (faulted_early (state g old) (state g mid) (state g new) k.counts more)
+      closes_after (inr more) clean = inr (faulted_early (state g old) (state g mid) (state g new) k.counts more)
 
       mid_kept : IsKept g old → is_honest g new → IsKept g mid
       mid_kept kept clean = s.kept kept (s.ok kept (k.fair clean))
@@ -279,7 +279,7 @@ module _ {S : Type 0} (g : Ghosts S) where
       renamed kept at = ap (λ (d : Database). f (tables_of d.trees)) (s.same kept at)
 
   pub makes_peeked : (X E Y F : Type 0) (f : Tables → Tables) (old mid new : Held S) (x : X) (r : Result Y F) → Peeks g old mid (went X E x) → Makes g f mid new r → Makes g f old new r
-  makes_peeked X E Y F f old mid new x r (inl s) k = makes_behind X E Y F f old mid new x r s k
+  makes_peeked X E Y F f old mid new x r (inl s) k = makes_after X E Y F f old mid new x r s k
   makes_peeked X E Y F f old mid new x r (inr same) k = subst (λ h. Makes g f h new r) same k
 
   -- tables that are laid, and counted too, are a keeper's

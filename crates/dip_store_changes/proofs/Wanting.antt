@@ -20,7 +20,7 @@ use Rattle.dip_store_sql.specs.Keys.{AreKeyed}
 use Rattle.dip_store_sql.specs.Refusals.{IsBlamed, IsWant}
 use Rattle.dip_store_sql.specs.Transactions.{Does, IsReady}
 use Rattle.dip_store_sql.proofs.Told.{want_weaker}
-use Rattle.dip_store_changes.specs.declared.delivering.Reader.{Reader}
+use Rattle.dip_store_counts.specs.declared.readers.Reader.{Reader}
 use Rattle.dip_store_changes.specs.Making.{GivenOrdersDiffer, ordering_over, reaching_all}
 
 -- an open store fails for want

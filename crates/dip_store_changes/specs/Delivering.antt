@@ -1,30 +1,13 @@
 -- Press in its readers' inboxes, one reader after the other.
-use Rattle.std.specs.Prelude.{◌≡◌, ℕ, ◌+◌, List, [], ◌∷◌, ◌++◌, Bool, codes, if◌then◌else◌, string_bytes}
+use Rattle.std.specs.Prelude.{◌≡◌, ℕ, ◌+◌, List, [], ◌∷◌, ◌++◌}
 use Rattle.dip_store_tables.specs.Lists.{update_where}
 use Rattle.dip_map.specs.Charts.{Chart}
 use Rattle.dip_store_tables.specs.Boards.{power_name}
 use Rattle.dip_desk_state.specs.Records.{Item}
 use Rattle.dip_store_tables.specs.Changing.{delivering_each, with_items}
 use Rattle.dip_store_tables.specs.Tables.{BoxRow, SeatRow, Tables, is_seat}
-use Rattle.dip_store_tables.specs.Writing.{box_row, number_of}
-use Rattle.dip_store_changes.specs.declared.delivering.Reader.{Reader}
-use Rattle.dip_store_changes.specs.declared.items.ItemTexts.{ItemTexts}
-
--- an item of an inbox, by the texts of its columns
-abbrev pub boxed : List ℕ → List ℕ → ℕ → ItemTexts → BoxRow
-boxed game power number x = record {
-  game = game;
-  power = power;
-  number = number;
-  grey = number_of x.grey;
-  writer = string_bytes x.writer;
-  addressees = string_bytes x.addressees;
-  body = string_bytes x.body;
-}
-
--- whom grey press is for
-abbrev pub readers_word : Bool → List ℕ
-readers_word to_all = if to_all then codes "all" else codes "you"
+use Rattle.dip_store_tables.specs.Writing.{box_row}
+use Rattle.dip_store_counts.specs.declared.readers.Reader.{Reader}
 
 -- a reader's seat counts the item, and its inbox has it
 abbrev pub putting : List ℕ → List ℕ → BoxRow → ℕ → Tables → Tables
@@ -45,14 +28,6 @@ delivering_rows m game row (r ∷ rs) t = delivering_rows m game row rs (deliver
 -- press to its readers: each seat counts the item, and its inbox has it
 abbrev pub delivering_all : Chart → List ℕ → Item → List Reader → Tables → Tables
 delivering_all m game item rs t = delivering_rows m game (λ power n. box_row game power n item) rs t
-
--- the readers are these seats of the game
-abbrev pub AreSeats : Chart → List ℕ → List SeatRow → List Reader → Type 0
-AreSeats m game [] [] = Unit {0}
-AreSeats m game [] (r ∷ rs) = ⊥
-AreSeats m game (s ∷ ss) [] = ⊥
-AreSeats m game (s ∷ ss) (r ∷ rs) =
-    (s.game ≡ game) × (s.power ≡ power_name m r.power) × (s.items ≡ r.items) × AreSeats m game ss rs
 
 -- what is delivered to readers is delivered to each of their seats
 abbrev pub ReadersAreSeats : Chart → Type 0

@@ -1,9 +1,4 @@
 pub mod Delivering
-pub mod Knowing
-pub mod Noting
-pub mod Parts
-pub mod Counts
-pub mod Failing
 pub mod Laws
 pub mod Making
 pub use Rattle.dip_names.specs.declared.names.Kind

@@ -7,18 +7,16 @@ use Rattle.dip_map.specs.Charts.{Chart}
 use Rattle.dip_desk_state.specs.Records.{Standing}
 use Rattle.dip_desk_state.specs.State.{Author, Nobody, TheMaster, Seat, Effect, Nothing, Pending, Votes, Delivers, Opens, Publishes, Seats, Change}
 use Rattle.dip_store_tables.specs.Boards.{power_name}
-use Rattle.dip_store_tables.specs.Changing.{opening, publishing, replacing, voting_by}
+use Rattle.dip_store_tables.specs.Changing.{changing, opening, publishing, replacing, voting_by}
 use Rattle.dip_store_tables.specs.Tables.{Tables}
-use Rattle.dip_store_tables.specs.Writing.{pending_row}
 use Rattle.dip_store_sql.specs.Calls.{IsKept, IsLaid, Lands, does_show, is_honest, tables_in}
 use Rattle.dip_store_sql.specs.Causes.{has_faulted}
-use Rattle.dip_store_sql.specs.Keys.{OrdersDiffer}
+use Rattle.dip_store_sql.specs.Keys.{AreKeyed, OrdersDiffer}
 use Rattle.dip_store_changes.specs.Delivering.{delivering_all}
-use Rattle.dip_store_changes.specs.Noting.{noting_row}
-use Rattle.dip_store_sql.specs.TablesAfter.{more_orders}
-use Rattle.dip_store_changes.specs.Parts.{orders_left}
-use Rattle.dip_store_changes.specs.declared.delivering.Reader.{Reader}
-use Rattle.dip_store_changes.specs.declared.known.AuthorRow.{AuthorRow}
+use Rattle.dip_store_counts.specs.Noting.{noting_row}
+use Rattle.dip_store_counts.specs.declared.readers.Reader.{Reader}
+use Rattle.dip_store_counts.specs.declared.known.AuthorRow.{AuthorRow}
+use Rattle.dip_store_tables.specs.Legible.{AreOurs}
 
 -- the effect on its game, where press goes to these readers
 abbrev pub reaching_all : List Reader → Chart → List ℕ → Effect → Tables → Tables
@@ -39,10 +37,6 @@ GivenOrdersDiffer (Delivers readers item) t = Unit {0}
 GivenOrdersDiffer (Opens public paper seats) t = Unit {0}
 GivenOrdersDiffer (Publishes public paper played) t = Unit {0}
 GivenOrdersDiffer (Seats seat) t = Unit {0}
-
--- a seat's standing orders are these; where none stood, none is taken out
-abbrev pub with_orders_over : Bool → Chart → List ℕ → List ℕ → List Standing → Tables → Tables
-with_orders_over none m name power orders t = more_orders (map (pending_row m name power) orders) (orders_left none name power t)
 
 abbrev pub ordering_by_over : Bool → Chart → Author → List ℕ → List Standing → Tables → Tables
 ordering_by_over none m Nobody name orders t = t
@@ -83,3 +77,8 @@ pub record MakesFrom {S X E : Type 0} (Kept : Type 0) (g : Ghosts S) (f : Tables
 -- what a keeper has written
 abbrev pub Makes : {S X E : Type 0} → Ghosts S → (Tables → Tables) → Held S → Held S → Result X E → Type 0
 Makes {S} {X} {E} g f old new r = MakesFrom {S = S} {X = X} {E = E} (IsKept g old) g f old new r
+
+-- tables of a desk by the map, of which no key comes twice after the change
+pub record MayMake (m : Chart) (c : Change) (t : Tables) : Type 0 where
+  pub ours : AreOurs m t
+  pub keyed : AreKeyed (changing m c t)

@@ -7,12 +7,12 @@ ghost use Rattle.dip_map.specs.Charts.{Chart};
 ghost use Rattle.dip_store_tables.specs.Writing.{as_printed, desk_noted, whole_reply};
 ghost use Rattle.dip_store_sql.specs.TablesAfter.{on_desk, on_seat};
 ghost use Rattle.dip_store_sql.specs.Transactions.{Does, always};
-ghost use Rattle.dip_store_changes.specs.Noting.{NextRowsAreNoted, noting_row, on_row, row_noted};
+ghost use Rattle.dip_store_counts.specs.Noting.{NextRowsAreNoted, noting_row, on_row, row_noted};
 
-use crate::known::AuthorRow;
 use dip_desk_state::{Author, Change, Head, Kept, Outcome, Reply};
 use dip_map::Map;
 use dip_reports::reply_text;
+use dip_store_counts::AuthorRow;
 use dip_store_sql::{LastLetter, SeatRow, note_desk, renew_seat};
 use sqlite::{Alter, Error, Transaction};
 use std::alloc::{AllocError, Global};

@@ -8,17 +8,17 @@ ghost use Rattle.dip_store_tables.specs.ChangeColumns.{IsWritable};
 ghost use Rattle.dip_store_tables.specs.Legible.{AreOurs};
 ghost use Rattle.dip_store_sql.specs.Causes.{has_faulted};
 ghost use Rattle.dip_store_sql.specs.Calls.{IsKept, does_show, is_honest, tables_in};
-ghost use Rattle.dip_store_changes.specs.Failing.{BlamesFor, FailsFor, HasPlace, MayMake};
-ghost use Rattle.dip_store_changes.specs.Knowing.{IsKeptFor};
-ghost use Rattle.dip_store_changes.specs.Making.{MakesFrom};
+ghost use Rattle.dip_store_counts.specs.Failing.{HasPlace};
+ghost use Rattle.dip_store_changes.specs.Making.{MakesFrom, MayMake};
+ghost use Rattle.dip_store_sql.specs.RowFaults.{BlamesFor, FailsFor};
+ghost use Rattle.dip_store_counts.specs.Knowing.{IsKeptFor};
 
-use crate::counts::count;
 use crate::delivering::readers_are_seats;
-use crate::faults::MakeFault;
-use crate::known::{KnownAuthor, is_unordered, row_known};
 use crate::whole::make_with;
 use dip_desk_state::Change;
 use dip_map::Map;
+use dip_store_counts::{KnownAuthor, count, is_unordered, row_known};
+use dip_store_sql::RowFault;
 use dip_store_tables::{press_is_delivered_one_by_one, tables_stay_counted};
 use sqlite::{Alter, Connection, Error, ErrorCode};
 use std::alloc::Global;
@@ -36,7 +36,7 @@ pub fn make<S: Alter>(
     map: &Map,
     change: &Change,
     known: Option<KnownAuthor>,
-) -> Result<(), MakeFault>
+) -> Result<(), RowFault>
     requires { IsWritable map.now (machine.change change.now) }
     ensures makes { MakesFrom
         (IsKeptFor S.Store known map.now (machine.change change.now) conn.old)
@@ -69,7 +69,7 @@ pub fn make<S: Alter>(
     press_is_delivered_one_by_one();
     tables_stay_counted();
     if !conn.is_autocommit() {
-        return Err(MakeFault::Sql(Error::SqliteFailure(ErrorCode::TransactionState)));
+        return Err(RowFault::Sql(Error::SqliteFailure(ErrorCode::TransactionState)));
     }
     let row = row_known(known);
     let counted = count(conn, alloc, map, change, row)?;
@@ -83,6 +83,6 @@ pub fn make<S: Alter>(
         counted.readers.as_slice(),
     ) {
         Ok(()) => Ok(()),
-        Err(error) => Err(MakeFault::Sql(error)),
+        Err(error) => Err(RowFault::Sql(error)),
     }
 }

@@ -12,14 +12,11 @@ ghost use Rattle.dip_store_sql.specs.Transactions.{Does, always};
 ghost use Rattle.dip_store_changes.specs.Making.{GivenOrdersDiffer, changing_row, ordering_by_over, ordering_over, reaching_all};
 
 use crate::authors::note_author;
-use crate::ballots::put_vote;
-use crate::delivering::{Reader, deliver};
-use crate::games::{open_game, publish};
-use crate::known::AuthorRow;
-use crate::orders::put_orders;
-use crate::seats::replace;
+use crate::delivering::deliver;
 use dip_desk_state::{Author, Change, Effect, Standing, Vote};
 use dip_map::Map;
+use dip_store_counts::{AuthorRow, Reader};
+use dip_store_rows::{open_game, publish, put_orders, put_vote, replace};
 use sqlite::{Alter, Error, Transaction};
 use std::alloc::Global;
 use std::rc::Rc;

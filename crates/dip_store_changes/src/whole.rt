@@ -9,11 +9,10 @@ ghost use Rattle.dip_store_sql.specs.Keys.{AreKeyed};
 ghost use Rattle.dip_store_sql.specs.Refusals.{IsBlamed, IsWant};
 ghost use Rattle.dip_store_changes.specs.Making.{Makes, changing_row};
 
-use crate::delivering::Reader;
-use crate::known::AuthorRow;
 use crate::parts::make_parts;
 use dip_desk_state::Change;
 use dip_map::Map;
+use dip_store_counts::{AuthorRow, Reader};
 use sqlite::{Alter, Connection, Error};
 use std::alloc::Global;
 

@@ -1,4 +1,3 @@
-pub mod Blaming
 pub mod BoardRows
 pub mod Onward
 pub mod OwnLemmas

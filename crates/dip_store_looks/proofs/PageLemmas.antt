@@ -68,8 +68,8 @@ abbrev numbered : ℕ → List BoxRow → Option BoxRow
 numbered n bs = find (λ (b : BoxRow). b.number == n) bs
 
 -- one that isn't the first is found after it
-behind_first : (i n : ℕ) (b : BoxRow) (bs : List BoxRow) → AreFrom i (b ∷ bs) → suc i ≤ n → numbered n (b ∷ bs) ≡ numbered n bs
-behind_first i n b bs e low =
+after_first : (i n : ℕ) (b : BoxRow) (bs : List BoxRow) → AreFrom i (b ∷ bs) → suc i ≤ n → numbered n (b ∷ bs) ≡ numbered n bs
+after_first i n b bs e low =
     let out : (b.number == n) ≡ false = subst (λ k. (k == n) ≡ false) (sym (first_number i b bs e).0) (not_number n i low) in
     rw out refl
 
@@ -81,7 +81,7 @@ next_item j (suc k) i (b ∷ bs) x e is =
     let low : suc i ≤ i + (suc k + j) = omega arith in
     let same : i + (suc k + j) ≡ suc i + (k + j) = omega arith in
     next_item j k (suc i) bs x (first_number i b bs e).1
-    (is ∙ ap (option_map item_of) (behind_first i (i + (suc k + j)) b bs e low ∙ ap (λ n. numbered n bs) same))
+    (is ∙ ap (option_map item_of) (after_first i (i + (suc k + j)) b bs e low ∙ ap (λ n. numbered n bs) same))
 next_item zero zero i (b ∷ bs) x e is =
     let same : i + 0 ≡ i = omega arith in
     let hit : (b.number == i + 0) ≡ true = subst (λ n. (n == i + 0) ≡ true) (same ∙ sym (first_number i b bs e).0) (one_number (i + 0)) in
@@ -92,7 +92,7 @@ next_item (suc j) zero i (b ∷ bs) x e is =
     let low : suc i ≤ i + (0 + suc j) = omega arith in
     let same : i + (0 + suc j) ≡ suc i + (0 + j) = omega arith in
     ap (λ ys. item_of b ∷ ys) (next_item j zero (suc i) bs x (first_number i b bs e).1
-    (is ∙ ap (option_map item_of) (behind_first i (i + (0 + suc j)) b bs e low ∙ ap (λ n. numbered n bs) same)))
+    (is ∙ ap (option_map item_of) (after_first i (i + (0 + suc j)) b bs e low ∙ ap (λ n. numbered n bs) same)))
 
 pub item_more : (boxes : List BoxRow) (game power : List ℕ) (skipped j n : ℕ) (x : Item) → item_numbers boxes game power ≡ counted n
     → Some x ≡ option_map item_of (find (is_item game power (skipped + j + 1)) boxes)

@@ -2,28 +2,28 @@
 ghost use Rattle.std.specs.Prelude.{◌≡◌, ◌<◌, ◌^◌, IfErr, IfOk, map as each};
 ghost use Rattle.sqlite.specs.Order.{bytes, column};
 ghost use Rattle.dip_store_tables.specs.Boards.{board_of};
-ghost use Rattle.dip_store_looks.specs.Faults.{IsFromOutside};
+ghost use Rattle.dip_store_sql.specs.RowFaults.{IsFromOutside};
 ghost use Rattle.dip_store_looks.specs.Readable.{HasNumber, IsBoardReadable};
 ghost use Rattle.dip_store_looks.specs.Shown.{shown_centre, shown_unit};
 ghost use Rattle.dip_store_sql.specs.Rows.{number_in};
 
 use crate::columns::{centres_of, units_of};
-use crate::faults::LookFault;
 use crate::values::{number_at, text_at};
 use dip_map::{Board, Map};
+use dip_store_sql::RowFault;
 use dip_store_tables::read_board;
 use sqlite::Row;
 use std::alloc::Global;
 
 /// The year of a game's row.
-fn year_of(row: &Row) -> Result<u16, LookFault>
+fn year_of(row: &Row) -> Result<u16, RowFault>
     ensures value { IfOk result (λ y. y ≡ number_in (column row.now 0)) }
     ensures own { HasNumber row.now 0 → number_in (column row.now 0) < 2 ^ 16
         → IfErr result (IsFromOutside ⊥) }
 {
     match u16::try_from(number_at(row, 0)?) {
         Ok(year) => Ok(year),
-        Err(_) => Err(LookFault::Foreign),
+        Err(_) => Err(RowFault::Misfit),
     }
 }
 
@@ -35,7 +35,7 @@ pub(crate) fn board_in(
     units: &[Row],
     centres: &[Row],
     intent: bool,
-) -> Result<Board, LookFault>
+) -> Result<Board, RowFault>
     ensures value { IfOk result (λ b. b ≡ board_of map.now (each shown_unit units.now)
         (each shown_centre centres.now) (bytes (column row.now 7)) (number_in (column row.now 0))
         (number_in (column row.now 1)) intent) }
@@ -58,6 +58,6 @@ pub(crate) fn board_in(
     )?;
     match read {
         Some(board) => Ok(board),
-        None => Err(LookFault::Foreign),
+        None => Err(RowFault::Misfit),
     }
 }

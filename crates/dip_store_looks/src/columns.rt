@@ -1,13 +1,13 @@
 //! Rows as their columns.
 ghost use Rattle.std.specs.Prelude.{◌≡◌, IfErr, IfOk, map as each};
 ghost use Rattle.std.specs.List.{AllByRecursion};
-ghost use Rattle.dip_store_looks.specs.Faults.{IsFromOutside};
+ghost use Rattle.dip_store_sql.specs.RowFaults.{IsFromOutside};
 ghost use Rattle.dip_store_looks.specs.Readable.{IsCentreReadable, IsUnitReadable};
 ghost use Rattle.dip_store_looks.specs.Shown.{shown_centre, shown_unit};
 ghost use Rattle.dip_store_sql.specs.Causes.{IsCaused};
 
-use crate::faults::LookFault;
 use crate::values::{number_at, text_at};
+use dip_store_sql::RowFault;
 use dip_store_tables::{CentreColumns, UnitColumns};
 use sqlite::{Error, Row};
 use std::alloc::Global;
@@ -36,7 +36,7 @@ fn centre_of(row: &Row) -> Result<CentreColumns, Error>
     })
 }
 
-pub(crate) fn units_of(alloc: Global, rows: &[Row]) -> Result<Vec<UnitColumns>, LookFault>
+pub(crate) fn units_of(alloc: Global, rows: &[Row]) -> Result<Vec<UnitColumns>, RowFault>
     ensures value { IfOk result (λ v. v.items ≡ each shown_unit rows.now) }
     ensures own { AllByRecursion IsUnitReadable rows.now → IfErr result (IsFromOutside ⊥) }
 {
@@ -47,7 +47,7 @@ pub(crate) fn units_of(alloc: Global, rows: &[Row]) -> Result<Vec<UnitColumns>, 
     Ok(units)
 }
 
-pub(crate) fn centres_of(alloc: Global, rows: &[Row]) -> Result<Vec<CentreColumns>, LookFault>
+pub(crate) fn centres_of(alloc: Global, rows: &[Row]) -> Result<Vec<CentreColumns>, RowFault>
     ensures value { IfOk result (λ v. v.items ≡ each shown_centre rows.now) }
     ensures own { AllByRecursion IsCentreReadable rows.now → IfErr result (IsFromOutside ⊥) }
 {

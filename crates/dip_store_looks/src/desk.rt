@@ -1,7 +1,7 @@
 //! The master's row.
 ghost use Rattle.std.specs.Prelude.{◌≡◌, IfErr, IfOk};
 ghost use Rattle.dip_map.specs.Charts.{Chart};
-ghost use Rattle.dip_store_looks.specs.Faults.{IsFromOutside};
+ghost use Rattle.dip_store_sql.specs.RowFaults.{IsFromOutside};
 ghost use Rattle.dip_store_looks.specs.Readable.{IsDeskReadable};
 ghost use Rattle.dip_store_looks.specs.Shown.{shown_desk};
 ghost use Rattle.dip_store_tables.specs.Legible.{AreOurs};
@@ -11,14 +11,13 @@ ghost use Rattle.dip_store_sql.specs.Calls.{IsKept, Selects, does_show, is_hones
 ghost use Rattle.dip_store_tables.specs.Coding.{AreCoded};
 ghost use Rattle.dip_store_tables.specs.Reading.{state_of};
 
-use crate::faults::LookFault;
 use crate::letters::{digest_in, kept_in};
 use dip_desk_state::Desk;
-use dip_store_sql::find_desk;
+use dip_store_sql::{RowFault, find_desk};
 use sqlite::{Alter, Connection, Row};
 use std::alloc::Global;
 
-fn desk_in(alloc: Global, row: &Row) -> Result<Desk, LookFault>
+fn desk_in(alloc: Global, row: &Row) -> Result<Desk, RowFault>
     ensures value { IfOk result (λ d. desk_rows.desk d ≡ shown_desk row.now) }
     ensures own { IsDeskReadable row.now → IfErr result (IsFromOutside ⊥) }
 {
@@ -31,8 +30,8 @@ fn desk_in(alloc: Global, row: &Row) -> Result<Desk, LookFault>
 /// The digest of the master's secret, and the master's last letter.
 ///
 /// # Errors
-/// Want of memory, the database's own, or `Foreign` where the row isn't there or is none that a keeper writes.
-pub fn look_desk<S: Alter>(conn: &mut Connection<S>, alloc: Global) -> Result<Desk, LookFault>
+/// Want of memory, the database's own, or `Misfit` where the row isn't there or is none that a keeper writes.
+pub fn look_desk<S: Alter>(conn: &mut Connection<S>, alloc: Global) -> Result<Desk, RowFault>
     ensures value { IsKept S.Store conn.old → is_honest S.Store conn.new → IfOk result (λ d.
         (m : Chart) → AreCoded m (tables_in S.Store conn.old)
         → desk_rows.desk d ≡ (state_of m (tables_in S.Store conn.old)).desk) }
@@ -42,7 +41,7 @@ pub fn look_desk<S: Alter>(conn: &mut Connection<S>, alloc: Global) -> Result<De
         → IfErr result (IsFromOutside (has_faulted S.Store conn.old conn.new)) }
 {
     let Some(row) = find_desk(conn)? else {
-        return Err(LookFault::Foreign);
+        return Err(RowFault::Misfit);
     };
     desk_in(alloc, &row)
 }

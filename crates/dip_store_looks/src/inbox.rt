@@ -4,7 +4,7 @@ ghost use Rattle.std.specs.List.{find};
 ghost use Rattle.dip_store_tables.specs.Boards.{power_name};
 ghost use Rattle.dip_map.specs.Charts.{Chart};
 ghost use Rattle.dip_store_looks.specs.Asked.{SelectsOn, page_in};
-ghost use Rattle.dip_store_looks.specs.Faults.{IsFromOutside};
+ghost use Rattle.dip_store_sql.specs.RowFaults.{IsFromOutside};
 ghost use Rattle.dip_store_looks.specs.Readable.{IsItemReadable};
 ghost use Rattle.dip_store_looks.specs.Shown.{shown_item};
 ghost use Rattle.dip_store_tables.specs.Legible.{AreOurs};
@@ -16,12 +16,11 @@ ghost use Rattle.dip_store_tables.specs.Counting.{counted, item_numbers};
 ghost use Rattle.dip_store_tables.specs.Reading.{item_of, items_of};
 ghost use Rattle.dip_store_tables.specs.Tables.{is_seat};
 
-use crate::faults::LookFault;
 use crate::values::{number_at, text_at};
 use dip_desk_state::Item;
 use dip_map::Map;
 use dip_names::Power;
-use dip_store_sql::{find_item, find_seat};
+use dip_store_sql::{RowFault, find_item, find_seat};
 use dip_store_tables::{ItemColumns, page_is_found, read_item};
 use sqlite::{Alter, Connection, Error, Row};
 use std::alloc::Global;
@@ -39,7 +38,7 @@ fn columns_of(row: &Row) -> Result<ItemColumns, Error>
     })
 }
 
-fn item_in(alloc: Global, row: &Row) -> Result<Rc<Item>, LookFault>
+fn item_in(alloc: Global, row: &Row) -> Result<Rc<Item>, RowFault>
     ensures value { IfOk result (λ i. rows.item i.value ≡ item_of (shown_item row.now)) }
     ensures own { IsItemReadable row.now → IfErr result (IsFromOutside ⊥) }
 {
@@ -54,7 +53,7 @@ fn item_at<S: Alter>(
     game: &str,
     power: &str,
     number: u32,
-) -> Result<Rc<Item>, LookFault>
+) -> Result<Rc<Item>, RowFault>
     ensures value { IsKept S.Store conn.old → is_honest S.Store conn.new → IfOk result (λ i.
         Some (rows.item i.value) ≡ option_map item_of
         (find (is_item game.now power.now number) (tables_in S.Store conn.old).boxes)) }
@@ -66,20 +65,20 @@ fn item_at<S: Alter>(
         → IfErr result (IsFromOutside (has_faulted S.Store conn.old conn.new)) }
 {
     let Some(row) = find_item(conn, game, power, number)? else {
-        return Err(LookFault::Foreign);
+        return Err(RowFault::Misfit);
     };
     item_in(alloc, &row)
 }
 
 /// So many items of a seat's inbox after the first ones.
-fn items_behind<S: Alter>(
+fn items_after<S: Alter>(
     conn: &mut Connection<S>,
     alloc: Global,
     game: &str,
     power: &str,
     skipped: u32,
     many: u32,
-) -> Result<Vec<Rc<Item>>, LookFault>
+) -> Result<Vec<Rc<Item>>, RowFault>
     requires { skipped + many < 2 ^ 32 }
     ensures value { IsKept S.Store conn.old → is_honest S.Store conn.new → IfOk result (λ v.
         (n : ℕ) → item_numbers (tables_in S.Store conn.old).boxes game.now power.now ≡ counted n
@@ -102,7 +101,7 @@ fn items_behind<S: Alter>(
 /// The items of a seat's inbox from a number on, at most so many; none where there is no such seat. The first item has the number 1.
 ///
 /// # Errors
-/// Want of memory, the database's own, or `Foreign` where an item that the seat counts isn't there.
+/// Want of memory, the database's own, or `Misfit` where an item that the seat counts isn't there.
 pub fn look_items<S: Alter>(
     conn: &mut Connection<S>,
     alloc: Global,
@@ -111,7 +110,7 @@ pub fn look_items<S: Alter>(
     power: Power,
     first: u32,
     most: u32,
-) -> Result<Option<Vec<Rc<Item>>>, LookFault>
+) -> Result<Option<Vec<Rc<Item>>>, RowFault>
     requires { power < length map.now.realms }
     ensures value { IsKept S.Store conn.old → is_honest S.Store conn.new → IfOk result (λ o.
         option_map (λ v. rows.items v.items) o
@@ -130,7 +129,7 @@ pub fn look_items<S: Alter>(
     let skipped = first.saturating_sub(1);
     let many = most.min(count.saturating_sub(skipped));
     page_is_found();
-    match items_behind(conn, alloc, game, name, skipped, many) {
+    match items_after(conn, alloc, game, name, skipped, many) {
         Ok(items) => Ok(Some(items)),
         Err(fault) => Err(fault),
     }

@@ -4,7 +4,6 @@
 mod board;
 mod columns;
 mod desk;
-mod faults;
 mod inbox;
 mod letters;
 mod own;
@@ -14,7 +13,6 @@ mod values;
 mod whole;
 
 pub use desk::look_desk;
-pub use faults::LookFault;
 pub use inbox::look_items;
 pub use own::look_own;
 pub use papers::look_paper;

@@ -3,7 +3,7 @@ ghost use Rattle.std.specs.Prelude.{◌≡◌, ◌<◌, [], IfErr, IfOk, IfSome,
 ghost use Rattle.sqlite.specs.Order.{bytes, column};
 ghost use Rattle.std.specs.List.{AllByRecursion, find};
 ghost use Rattle.dip_store_tables.specs.Boards.{power_name};
-ghost use Rattle.dip_store_looks.specs.Faults.{IsFromOutside};
+ghost use Rattle.dip_store_sql.specs.RowFaults.{IsFromOutside};
 ghost use Rattle.dip_store_looks.specs.Readable.{IsBallotReadable, IsOrderReadable, IsSeatReadable};
 ghost use Rattle.dip_desk_state.specs.State.{IsIdle};
 ghost use Rattle.dip_store_looks.specs.Shown.{IsBeside, shown_order, shown_own};
@@ -16,18 +16,17 @@ ghost use Rattle.dip_store_tables.specs.Reading.{own_of, standing_of};
 ghost use Rattle.dip_store_tables.specs.Tables.{is_seat};
 ghost use Rattle.dip_store_tables.specs.Votes.{vote_in, vote_of};
 
-use crate::faults::LookFault;
 use crate::letters::{digest_in, kept_in};
 use crate::values::{number_at, text_at};
 use dip_desk_state::{Own, Standing, Vote};
 use dip_map::Map;
 use dip_names::Power;
-use dip_store_sql::{find_ballot, find_seat, list_orders};
+use dip_store_sql::{RowFault, find_ballot, find_seat, list_orders};
 use dip_store_tables::read_vote;
 use sqlite::{Alter, Connection, Row};
 use std::alloc::Global;
 
-fn standing_in(map: &Map, row: &Row) -> Result<Standing, LookFault>
+fn standing_in(map: &Map, row: &Row) -> Result<Standing, RowFault>
     ensures value { IfOk result (λ s.
         rows.standing s ≡ standing_of map.now (shown_order row.now)) }
     ensures own { IsOrderReadable map.now row.now → IfErr result (IsFromOutside ⊥) }
@@ -35,7 +34,7 @@ fn standing_in(map: &Map, row: &Row) -> Result<Standing, LookFault>
     map.facts();
     let province = text_at(row, 0)?;
     let Some(prov) = map.prov(province.as_bytes()) else {
-        return Err(LookFault::Foreign);
+        return Err(RowFault::Misfit);
     };
     Ok(Standing {
         prov,
@@ -43,7 +42,7 @@ fn standing_in(map: &Map, row: &Row) -> Result<Standing, LookFault>
     })
 }
 
-fn standings_in(alloc: Global, map: &Map, orders: &[Row]) -> Result<Vec<Standing>, LookFault>
+fn standings_in(alloc: Global, map: &Map, orders: &[Row]) -> Result<Vec<Standing>, RowFault>
     ensures value { IfOk result (λ v. rows.standings v.items
         ≡ each (λ r. standing_of map.now (shown_order r)) orders.now) }
     ensures own { AllByRecursion (IsOrderReadable map.now) orders.now
@@ -57,14 +56,14 @@ fn standings_in(alloc: Global, map: &Map, orders: &[Row]) -> Result<Vec<Standing
 }
 
 /// What a ballot's row says.
-fn vote_on(alloc: Global, map: &Map, row: &Row) -> Result<Vote, LookFault>
+fn vote_on(alloc: Global, map: &Map, row: &Row) -> Result<Vote, RowFault>
     ensures value { IfOk result (λ v. rows.vote v ≡ vote_of map.now (bytes (column row.now 0))) }
     ensures own { IsBallotReadable map.now row.now → IfErr result (IsFromOutside ⊥) }
 {
     let names = text_at(row, 0)?;
     match read_vote(alloc, map, names.as_str())? {
         Some(vote) => Ok(vote),
-        None => Err(LookFault::Foreign),
+        None => Err(RowFault::Misfit),
     }
 }
 
@@ -75,7 +74,7 @@ fn look_vote<S: Alter>(
     map: &Map,
     game: &str,
     power: &str,
-) -> Result<Vote, LookFault>
+) -> Result<Vote, RowFault>
     ensures value { IsKept S.Store conn.old → is_honest S.Store conn.new → IfOk result (λ v.
         rows.vote v ≡ vote_in map.now (tables_in S.Store conn.old).ballots game.now power.now) }
     ensures selects { Selects S.Store conn.old conn.new result }
@@ -105,7 +104,7 @@ pub(crate) fn look_beside<S: Alter>(
     map: &Map,
     game: &str,
     power: &str,
-) -> Result<Beside, LookFault>
+) -> Result<Beside, RowFault>
     ensures value { IsKept S.Store conn.old → is_honest S.Store conn.new → IfOk result (λ b.
         IsBeside map.now (tables_in S.Store conn.old) game.now power.now b) }
     ensures selects { Selects S.Store conn.old conn.new result }
@@ -126,7 +125,7 @@ pub(crate) fn own_in(
     row: &Row,
     at: usize,
     beside: Beside,
-) -> Result<Own, LookFault>
+) -> Result<Own, RowFault>
     requires { at < 2 }
     ensures value { IfOk result (λ o. rows.own o
         ≡ shown_own map.now power (rows.vote beside.vote) at row.now beside.orders.items) }
@@ -147,7 +146,7 @@ pub(crate) fn own_in(
 }
 
 /// The own part of a seat that has nothing beside its row: it votes for no draw, and no order of it stands.
-fn idle_own(alloc: Global, map: &Map, power: Power, row: &Row) -> Result<Own, LookFault>
+fn idle_own(alloc: Global, map: &Map, power: Power, row: &Row) -> Result<Own, RowFault>
     ensures value { IfOk result (λ o. rows.own o ≡ shown_own map.now power No 0 row.now []) }
     ensures own { IsSeatReadable row.now 0 → IfErr result (IsFromOutside ⊥) }
 {
@@ -162,7 +161,7 @@ fn idle_own(alloc: Global, map: &Map, power: Power, row: &Row) -> Result<Own, Lo
 /// draw and that no order of it stands, its row alone is read.
 ///
 /// # Errors
-/// Want of memory, the database's own, or `Foreign` where a row of it is none that a keeper writes by this map.
+/// Want of memory, the database's own, or `Misfit` where a row of it is none that a keeper writes by this map.
 pub fn look_own<S: Alter>(
     conn: &mut Connection<S>,
     alloc: Global,
@@ -170,7 +169,7 @@ pub fn look_own<S: Alter>(
     game: &str,
     power: Power,
     idle: bool,
-) -> Result<Option<Own>, LookFault>
+) -> Result<Option<Own>, RowFault>
     requires { power < length map.now.realms }
     ensures value { IsKept S.Store conn.old → is_honest S.Store conn.new
         → (idle ≡ true → IfSome (option_map (own_of map.now (tables_in S.Store conn.old).pending

@@ -2,15 +2,14 @@
 ghost use Rattle.std.specs.Prelude.{◌≡◌, IfErr, IfOk, option_map, string_bytes};
 ghost use Rattle.std.specs.List.{find};
 ghost use Rattle.dip_map.specs.Charts.{Chart};
-ghost use Rattle.dip_store_looks.specs.Faults.{IsFromOutside};
+ghost use Rattle.dip_store_sql.specs.RowFaults.{IsFromOutside};
 ghost use Rattle.dip_store_tables.specs.Legible.{AreOurs};
 ghost use Rattle.dip_store_sql.specs.Causes.{has_faulted};
 ghost use Rattle.dip_store_sql.specs.Calls.{IsKept, Selects, does_show, is_honest, tables_in};
 ghost use Rattle.dip_store_sql.specs.Showing.{is_numbered};
 
-use crate::faults::LookFault;
 use crate::values::text_at;
-use dip_store_sql::find_paper;
+use dip_store_sql::{RowFault, find_paper};
 use sqlite::{Alter, Connection};
 
 /// The text of a game's paper by its number; none where there is no such game or paper.
@@ -21,7 +20,7 @@ pub fn look_paper<S: Alter>(
     conn: &mut Connection<S>,
     game: &str,
     number: u32,
-) -> Result<Option<String>, LookFault>
+) -> Result<Option<String>, RowFault>
     ensures value { IsKept S.Store conn.old → is_honest S.Store conn.new → IfOk result (λ o.
         option_map string_bytes o ≡ option_map (λ p. p.body)
         (find (is_numbered game.now number) (tables_in S.Store conn.old).papers)) }

@@ -3,7 +3,7 @@ ghost use Rattle.std.specs.Prelude.{◌≡◌, IfErr, IfOk, option_map};
 ghost use Rattle.std.specs.List.{find};
 ghost use Rattle.sqlite.specs.Order.{bytes, column};
 ghost use Rattle.dip_store_tables.specs.Columns.{IsStatusText};
-ghost use Rattle.dip_store_looks.specs.Faults.{IsFromOutside};
+ghost use Rattle.dip_store_sql.specs.RowFaults.{IsFromOutside};
 ghost use Rattle.dip_store_looks.specs.Readable.{HasText, IsChoiceReadable, IsGameReadable};
 ghost use Rattle.dip_store_looks.specs.Shown.{shown_intent, shown_public};
 ghost use Rattle.dip_store_tables.specs.Legible.{AreOurs};
@@ -14,17 +14,16 @@ ghost use Rattle.dip_store_tables.specs.Reading.{public_of, status_of};
 ghost use Rattle.dip_store_tables.specs.Tables.{is_named};
 
 use crate::board::board_in;
-use crate::faults::LookFault;
 use crate::values::{number_at, text_at, tick_at};
 use dip_desk_state::{Public, Status};
 use dip_map::Map;
-use dip_store_sql::{find_choice, find_game, list_centres, list_units};
+use dip_store_sql::{RowFault, find_choice, find_game, list_centres, list_units};
 use dip_store_tables::read_status;
 use sqlite::{Alter, Connection, Row};
 use std::alloc::Global;
 use std::rc::Rc;
 
-fn status_in(alloc: Global, map: &Map, row: &Row) -> Result<Status, LookFault>
+fn status_in(alloc: Global, map: &Map, row: &Row) -> Result<Status, RowFault>
     ensures value { IfOk result (λ s.
         rows.status s ≡ status_of map.now (bytes (column row.now 2))) }
     ensures own { HasText row.now 2 → IsStatusText map.now (bytes (column row.now 2))
@@ -33,12 +32,12 @@ fn status_in(alloc: Global, map: &Map, row: &Row) -> Result<Status, LookFault>
     let text = text_at(row, 2)?;
     match read_status(alloc, map, text.as_str())? {
         Some(status) => Ok(status),
-        None => Err(LookFault::Foreign),
+        None => Err(RowFault::Misfit),
     }
 }
 
 /// Whether a game has the option INTENT, by the row of its choice; without such a row it hasn't.
-fn intent_in(choice: Option<Row>) -> Result<bool, LookFault>
+fn intent_in(choice: Option<Row>) -> Result<bool, RowFault>
     ensures value { IfOk result (λ b. b ≡ shown_intent choice) }
     ensures own { IsChoiceReadable choice → IfErr result (IsFromOutside ⊥) }
 {
@@ -57,7 +56,7 @@ fn public_in(
     units: &[Row],
     centres: &[Row],
     choice: Option<Row>,
-) -> Result<Public, LookFault>
+) -> Result<Public, RowFault>
     ensures value { IfOk result (λ p.
         rows.public p
         ≡ shown_public map.now game.now row.now units.now centres.now choice) }
@@ -80,13 +79,13 @@ fn public_in(
 /// The public part of a game; none where there is no such game.
 ///
 /// # Errors
-/// Want of memory, the database's own, or `Foreign` where a row of it is none that a keeper writes by this map.
+/// Want of memory, the database's own, or `Misfit` where a row of it is none that a keeper writes by this map.
 pub fn look_public<S: Alter>(
     conn: &mut Connection<S>,
     alloc: Global,
     map: &Map,
     game: &str,
-) -> Result<Option<Public>, LookFault>
+) -> Result<Option<Public>, RowFault>
     ensures value { IsKept S.Store conn.old → is_honest S.Store conn.new → IfOk result (λ o.
         option_map rows.public o ≡ option_map
         (public_of map.now (tables_in S.Store conn.old).units (tables_in S.Store conn.old).centres

@@ -2,7 +2,7 @@
 ghost use Rattle.std.specs.Prelude.{◌≡◌, IfErr, IfOk, map as each, option_map};
 ghost use Rattle.std.specs.List.{AllByRecursion, find};
 ghost use Rattle.dip_store_looks.specs.Asked.{SelectsOn, whole_in};
-ghost use Rattle.dip_store_looks.specs.Faults.{IsFromOutside};
+ghost use Rattle.dip_store_sql.specs.RowFaults.{IsFromOutside};
 ghost use Rattle.dip_store_looks.specs.Readable.{IsListedReadable};
 ghost use Rattle.dip_store_looks.specs.Shown.{listed_own};
 ghost use Rattle.dip_store_tables.specs.Legible.{AreOurs};
@@ -11,13 +11,12 @@ ghost use Rattle.dip_store_sql.specs.Causes.{has_faulted};
 ghost use Rattle.dip_store_sql.specs.Calls.{IsKept, Selects, does_show, is_honest, tables_in};
 ghost use Rattle.dip_store_tables.specs.Tables.{is_named};
 
-use crate::faults::LookFault;
 use crate::own::{look_beside, own_in};
 use crate::public::look_public;
 use crate::values::text_at;
 use dip_desk_state::{Own, Whole};
 use dip_map::Map;
-use dip_store_sql::list_seats;
+use dip_store_sql::{RowFault, list_seats};
 use sqlite::{Alter, Connection, Row};
 use std::alloc::Global;
 
@@ -28,7 +27,7 @@ fn own_of<S: Alter>(
     map: &Map,
     game: &str,
     row: &Row,
-) -> Result<Own, LookFault>
+) -> Result<Own, RowFault>
     ensures value { IsKept S.Store conn.old → is_honest S.Store conn.new → IfOk result (λ o.
         rows.own o
         ≡ listed_own map.now (tables_in S.Store conn.old) game.now row.now) }
@@ -40,7 +39,7 @@ fn own_of<S: Alter>(
     map.facts();
     let name = text_at(row, 0)?;
     let Some(power) = map.power(name.as_str()) else {
-        return Err(LookFault::Foreign);
+        return Err(RowFault::Misfit);
     };
     let beside = look_beside(conn, alloc, map, game, name.as_str())?;
     own_in(alloc, map, power, row, 1, beside)
@@ -52,7 +51,7 @@ fn owns_of<S: Alter>(
     map: &Map,
     game: &str,
     seats: &[Row],
-) -> Result<Vec<Own>, LookFault>
+) -> Result<Vec<Own>, RowFault>
     ensures value { IsKept S.Store conn.old → is_honest S.Store conn.new → IfOk result (λ v.
         each rows.own v.items
         ≡ each (listed_own map.now (tables_in S.Store conn.old) game.now) seats.now) }
@@ -73,13 +72,13 @@ fn owns_of<S: Alter>(
 /// where there is no such game.
 ///
 /// # Errors
-/// Want of memory, the database's own, or `Foreign` where a row of it is none that a keeper writes by this map.
+/// Want of memory, the database's own, or `Misfit` where a row of it is none that a keeper writes by this map.
 pub fn look_whole<S: Alter>(
     conn: &mut Connection<S>,
     alloc: Global,
     map: &Map,
     game: &str,
-) -> Result<Option<Whole>, LookFault>
+) -> Result<Option<Whole>, RowFault>
     ensures value { IsKept S.Store conn.old → is_honest S.Store conn.new → IfOk result (λ o.
         option_map rows.whole o ≡ option_map (whole_in map.now (tables_in S.Store conn.old))
         (find (is_named game.now) (tables_in S.Store conn.old).games)) }

@@ -9,10 +9,10 @@ use Rattle.sqlite.specs.declared.error.ErrorCode.{ErrorCode}
 use Rattle.sqlite.specs.declared.error.ErrorCode.TheVariants as code
 use Rattle.sqlite.specs.State.{is_disk_error}
 use Rattle.dip_store_schema.specs.Desk.{DeskSays, IsMarked, columns_of}
-use Rattle.dip_store_looks.specs.Faults.{IsFromOutside}
+use Rattle.dip_store_sql.specs.RowFaults.{BlamesFor, IsFromOutside}
 use Rattle.dip_store_schema.specs.declared.desk_row.DeskColumns.{DeskColumns}
-use Rattle.dip_store_looks.specs.declared.faults.LookFault.{LookFault}
-use Rattle.dip_store_looks.specs.declared.faults.LookFault.TheVariants as looks
+use Rattle.dip_store_sql.specs.declared.row_faults.RowFault.{RowFault}
+use Rattle.dip_store_sql.specs.declared.row_faults.RowFault.TheVariants as rows
 use Rattle.dip_store_sql.specs.Causes.{IsCaused}
 use Rattle.dip_store_sql.proofs.Caused.{caused_weaker}
 use Rattle.dip_store_sql.specs.TablesAfter.{is_first}
@@ -20,7 +20,7 @@ use Rattle.dip_store_tables.specs.Tables.{DeskRow, Tables}
 use Rattle.dip_store_sql.specs.Refusals.{IsBlamed, is_outage}
 use Rattle.sqlite.specs.Reading.{IsReadError}
 use Rattle.sqlite.specs.declared.types.Value.{Value}
-use Rattle.dip_store_schema.specs.Faults.{IsLookBlamed, desk_fault, open_code_fault, open_fault, row_code_fault, row_fault}
+use Rattle.dip_store_schema.specs.Faults.{desk_fault, open_code_fault, open_fault, row_code_fault, row_fault}
 use Rattle.dip_store_schema.specs.Refusing.{IsRefusedAs, Differs, IsOutage}
 use Rattle.dip_store_schema.specs.declared.faults.StoreFault.{StoreFault}
 use Rattle.dip_store_schema.specs.declared.faults.StoreFault.TheVariants.{Memory, Disk, OtherMap, OtherSchema}
@@ -51,20 +51,20 @@ row_told : (fault : Type 0) (e : Error) → IsBlamed fault e → row_fault e ≡
 row_told fault (SqliteFailure c) blamed is = code_told fault c blamed is
 row_told fault _ blamed is = absurd (let x : OtherSchema ≡ Disk = is in cc)
 
-pub desk_told : (fault : Type 0) (e : LookFault) → IsLookBlamed fault e → desk_fault e ≡ Disk → fault
-desk_told fault looks.Memory blamed is = absurd (let x : Memory ≡ Disk = is in cc)
-desk_told fault (looks.Query e) blamed is = row_told fault e blamed is
-desk_told fault looks.Foreign blamed is = absurd (let x : OtherSchema ≡ Disk = is in cc)
+pub desk_told : (fault : Type 0) (e : RowFault) → BlamesFor fault e → desk_fault e ≡ Disk → fault
+desk_told fault rows.Memory blamed is = absurd (let x : Memory ≡ Disk = is in cc)
+desk_told fault (rows.Sql e) blamed is = row_told fault e blamed is
+desk_told fault rows.Misfit blamed is = absurd (let x : OtherSchema ≡ Disk = is in cc)
 
 -- so is it where the rows are those of a desk
 row_caused : (fault : Type 0) (e : Error) → IsCaused fault e → row_fault e ≡ Disk → fault
 row_caused fault e (inl memory) is = absurd (let bad : Memory ≡ Disk = ap row_fault (sym memory) ∙ is in cc)
 row_caused fault e (inr disk) is = disk.1
 
-pub desk_caused : (fault : Type 0) (e : LookFault) → IsFromOutside fault e → desk_fault e ≡ Disk → fault
-desk_caused fault looks.Memory own is = absurd (let x : Memory ≡ Disk = is in cc)
-desk_caused fault (looks.Query e) own is = row_caused fault e own is
-desk_caused fault looks.Foreign own is = absurd own
+pub desk_caused : (fault : Type 0) (e : RowFault) → IsFromOutside fault e → desk_fault e ≡ Disk → fault
+desk_caused fault rows.Memory own is = absurd (let x : Memory ≡ Disk = is in cc)
+desk_caused fault (rows.Sql e) own is = row_caused fault e own is
+desk_caused fault rows.Misfit own is = absurd own
 
 -- an error of reading a column is none of the disk
 unblamed : (at : ℕ) (v : Value) (e : Error) → IsReadError at v e → IsBlamed ⊥ e
@@ -78,17 +78,17 @@ pub read_unblamed : {X : Type 0} (r : Result X Error) (at : ℕ) (v : Value) →
 read_unblamed (Ok x) at v named = tt
 read_unblamed (Err e) at v named = unblamed at v e named
 
-pub look_blamed_more : (fault : Type 0) (e : LookFault) → IsLookBlamed ⊥ e → IsLookBlamed fault e
-look_blamed_more fault looks.Memory blamed = tt
-look_blamed_more fault (looks.Query e) blamed = λ out. absurd (blamed out)
-look_blamed_more fault looks.Foreign blamed = tt
+pub look_blamed_more : (fault : Type 0) (e : RowFault) → BlamesFor ⊥ e → BlamesFor fault e
+look_blamed_more fault rows.Memory blamed = tt
+look_blamed_more fault (rows.Sql e) blamed = λ out. absurd (blamed out)
+look_blamed_more fault rows.Misfit blamed = tt
 
 -- want of memory and the disk are no more to blame where there was a fault
-pub outside_more : {X : Type 0} (fault : Type 0) (r : Result X LookFault) → IfErr r (IsFromOutside ⊥) → IfErr r (IsFromOutside fault)
+pub outside_more : {X : Type 0} (fault : Type 0) (r : Result X RowFault) → IfErr r (IsFromOutside ⊥) → IfErr r (IsFromOutside fault)
 outside_more fault (Ok x) own = tt
-outside_more fault (Err looks.Memory) own = tt
-outside_more fault (Err (looks.Query e)) own = caused_weaker ⊥ fault e (λ none. absurd none) own
-outside_more fault (Err looks.Foreign) own = absurd own
+outside_more fault (Err rows.Memory) own = tt
+outside_more fault (Err (rows.Sql e)) own = caused_weaker ⊥ fault e (λ none. absurd none) own
+outside_more fault (Err rows.Misfit) own = absurd own
 
 -- an outage is no word on the map, and refuses whatever the master's row says
 pub outage_no_map : (f : StoreFault) → IsOutage f → f ≡ OtherMap → ⊥
@@ -114,10 +114,10 @@ caused_outage fault e (inl memory) = subst (λ (x : Error). IsOutage (row_fault 
 caused_outage fault (SqliteFailure c) (inr disk) = disk_outage c disk.0
 caused_outage fault _ (inr disk) = absurd (let x : false ≡ true = disk.0 in cc)
 
-desk_outage : (fault : Type 0) (e : LookFault) → IsFromOutside fault e → IsOutage (desk_fault e)
-desk_outage fault looks.Memory own = tt
-desk_outage fault (looks.Query e) own = caused_outage fault e own
-desk_outage fault looks.Foreign own = absurd own
+desk_outage : (fault : Type 0) (e : RowFault) → IsFromOutside fault e → IsOutage (desk_fault e)
+desk_outage fault rows.Memory own = tt
+desk_outage fault (rows.Sql e) own = caused_outage fault e own
+desk_outage fault rows.Misfit own = absurd own
 
 code_no_map : (c : ErrorCode) → row_code_fault c ≡ OtherMap → ⊥
 code_no_map code.OutOfMemory is = absurd (let x : Memory ≡ OtherMap = is in cc)
@@ -131,13 +131,13 @@ row_no_map : (e : Error) → row_fault e ≡ OtherMap → ⊥
 row_no_map (SqliteFailure c) is = code_no_map c is
 row_no_map _ is = absurd (let x : OtherSchema ≡ OtherMap = is in cc)
 
-desk_no_map : (e : LookFault) → desk_fault e ≡ OtherMap → ⊥
-desk_no_map looks.Memory is = absurd (let x : Memory ≡ OtherMap = is in cc)
-desk_no_map (looks.Query e) is = row_no_map e is
-desk_no_map looks.Foreign is = absurd (let x : OtherSchema ≡ OtherMap = is in cc)
+desk_no_map : (e : RowFault) → desk_fault e ≡ OtherMap → ⊥
+desk_no_map rows.Memory is = absurd (let x : Memory ≡ OtherMap = is in cc)
+desk_no_map (rows.Sql e) is = row_no_map e is
+desk_no_map rows.Misfit is = absurd (let x : OtherSchema ≡ OtherMap = is in cc)
 
 -- where the master's row wasn't read
-pub unread_refused : (fault : Type 0) (version : ℕ) (map_sum : List ℕ) (row : Option DeskRow) (e : LookFault) → (IfSome row IsMarked → IsFromOutside fault e) → IsRefusedAs version map_sum row (desk_fault e)
+pub unread_refused : (fault : Type 0) (version : ℕ) (map_sum : List ℕ) (row : Option DeskRow) (e : RowFault) → (IfSome row IsMarked → IsFromOutside fault e) → IsRefusedAs version map_sum row (desk_fault e)
 unread_refused fault version map_sum row e h = which (desk_fault e) refl
   where
     which : (f : StoreFault) → desk_fault e ≡ f → IsRefusedAs version map_sum row f

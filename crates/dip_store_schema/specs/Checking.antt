@@ -7,8 +7,8 @@ use Rattle.sqlite.specs.Store.{Ghosts}
 use Rattle.sqlite.specs.declared.error.Error.{Error}
 use Rattle.dip_map.specs.Charts.{Chart}
 use Rattle.dip_store_tables.specs.Tables.{Tables}
-use Rattle.dip_store_looks.specs.Faults.{IsFromOutside}
-use Rattle.dip_store_looks.specs.declared.faults.LookFault.{LookFault}
+use Rattle.dip_store_sql.specs.RowFaults.{IsFromOutside}
+use Rattle.dip_store_sql.specs.declared.row_faults.RowFault.{RowFault}
 use Rattle.dip_store_sql.specs.Calls.{SelectsFrom, does_show, is_honest}
 use Rattle.dip_store_sql.specs.Causes.{IsCaused, has_faulted}
 use Rattle.dip_store_sql.specs.TablesAfter.{is_first}
@@ -33,7 +33,7 @@ pub record Knows {S : Type 0} (g : Ghosts S) (Known : Schema → Type 0) (own : 
 -- how the master's row is read, of tables that are kept so
 pub record ReadsDesk {S : Type 0} (g : Ghosts S) (Kept : Held S → Type 0)
     (Ours : Chart → Tables → Type 0) (tables : Held S → Tables) (old new : Held S)
-    (result : Result (Option DeskColumns) LookFault) : Type 0 where
+    (result : Result (Option DeskColumns) RowFault) : Type 0 where
   pub value : Kept old → is_honest g new
       → IfOk result (λ o. o ≡ option_map columns_of (find is_first (tables old).desk))
   pub selects : SelectsFrom Kept g old new result

@@ -4,9 +4,8 @@ use Rattle.sqlite.specs.declared.error.Error.{Error}
 use Rattle.sqlite.specs.declared.error.Error.TheVariants.{SqliteFailure}
 use Rattle.sqlite.specs.declared.error.ErrorCode.{ErrorCode}
 use Rattle.sqlite.specs.declared.error.ErrorCode.TheVariants.{OutOfMemory, SystemIoFailure, DatabaseCorrupt, DiskFull, Closed}
-use Rattle.dip_store_sql.specs.Refusals.{IsBlamed}
-use Rattle.dip_store_looks.specs.declared.faults.LookFault.{LookFault}
-use Rattle.dip_store_looks.specs.declared.faults.LookFault.TheVariants as looks
+use Rattle.dip_store_sql.specs.declared.row_faults.RowFault.{RowFault}
+use Rattle.dip_store_sql.specs.declared.row_faults.RowFault.TheVariants as rows
 use Rattle.dip_store_schema.specs.declared.faults.StoreFault.{StoreFault}
 use Rattle.dip_store_schema.specs.declared.faults.StoreFault.TheVariants as stores
 
@@ -39,12 +38,7 @@ abbrev pub row_fault : Error → StoreFault
 row_fault (SqliteFailure code) = row_code_fault code
 row_fault _ = stores.OtherSchema
 
-abbrev pub desk_fault : LookFault → StoreFault
-desk_fault looks.Memory = stores.Memory
-desk_fault (looks.Query error) = row_fault error
-desk_fault looks.Foreign = stores.OtherSchema
-
--- the disk is told of only where there was this fault of it
-abbrev pub IsLookBlamed : Type 0 → LookFault → Type 0
-IsLookBlamed fault (looks.Query error) = IsBlamed fault error
-IsLookBlamed fault _ = Unit {0}
+abbrev pub desk_fault : RowFault → StoreFault
+desk_fault rows.Memory = stores.Memory
+desk_fault (rows.Sql error) = row_fault error
+desk_fault rows.Misfit = stores.OtherSchema

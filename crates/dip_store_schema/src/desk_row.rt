@@ -4,9 +4,8 @@ ghost use Rattle.sqlite.specs.declared.types.Value.TheVariants.{Int, Blob as Byt
 ghost use Rattle.sqlite.specs.Order.{bytes, column};
 ghost use Rattle.dip_store_schema.specs.Checking.{ReadsDesk};
 ghost use Rattle.dip_store_schema.specs.Desk.{IsMarked, shown_columns};
-ghost use Rattle.dip_store_schema.specs.Faults.{IsLookBlamed};
 ghost use Rattle.dip_store_sql.specs.Refusals.{IsBlamed};
-ghost use Rattle.dip_store_looks.specs.Faults.{IsFromOutside};
+ghost use Rattle.dip_store_sql.specs.RowFaults.{BlamesFor, IsFromOutside};
 ghost use Rattle.dip_store_tables.specs.Legible.{AreOurs};
 ghost use Rattle.dip_store_sql.specs.Calls.{IsKept, WasKept, does_show, is_honest, old_tables_in, tables_in};
 ghost use Rattle.dip_store_sql.specs.Showing.{show_desk};
@@ -15,8 +14,7 @@ ghost use Rattle.dip_store_tables.specs.Renewing.{WereOurs};
 ghost use Rattle.dip_store_tables.specs.Tables.{DeskRow};
 ghost use Rattle.dip_store_tables.specs.Written.{IsDeskWritten};
 
-use dip_store_looks::LookFault;
-use dip_store_sql::find_desk;
+use dip_store_sql::{RowFault, find_desk};
 use sqlite::{Alter, Connection, Error, Row};
 
 /// What the master's row says: the version of the tables, the SHA-256 of the map's text, the master's digest, and the number of the
@@ -49,24 +47,24 @@ fn bytes_at(row: &Row, at: usize) -> Result<Vec<u8>, Error>
 }
 
 /// The 32 bytes of a column.
-fn digest_in(row: &Row, at: usize) -> Result<[u8; 32], LookFault>
+fn digest_in(row: &Row, at: usize) -> Result<[u8; 32], RowFault>
     ensures value { IfOk result (λ d. d ≡ bytes (column row.now at)) }
     ensures own { (b : List ℕ) → at < length row.now → column row.now at ≡ Bytes b
         → length b ≡ 32 → IfErr result (IsFromOutside ⊥) }
-    ensures blames { IfErr result (IsLookBlamed ⊥) }
+    ensures blames { IfErr result (BlamesFor ⊥) }
 {
     let found = bytes_at(row, at)?;
     match <[u8; 32]>::try_from(found.as_slice()) {
         Ok(digest) => Ok(digest),
-        Err(_) => Err(LookFault::Foreign),
+        Err(_) => Err(RowFault::Misfit),
     }
 }
 
-fn columns_in(row: &Row) -> Result<DeskColumns, LookFault>
+fn columns_in(row: &Row) -> Result<DeskColumns, RowFault>
     ensures value { IfOk result (λ d. d ≡ shown_columns row.now) }
     ensures own { (d : DeskRow) → row.now ≡ show_desk d → IsMarked d → IsDeskWritten d
         → IfErr result (IsFromOutside ⊥) }
-    ensures blames { IfErr result (IsLookBlamed ⊥) }
+    ensures blames { IfErr result (BlamesFor ⊥) }
 {
     Ok(DeskColumns {
         version: number_at(row, 0)?,
@@ -80,14 +78,14 @@ fn columns_in(row: &Row) -> Result<DeskColumns, LookFault>
 ///
 /// # Errors
 /// Want of memory, the database's own, or a column that no keeper writes.
-pub fn read_desk<S: Alter>(conn: &mut Connection<S>) -> Result<Option<DeskColumns>, LookFault>
+pub fn read_desk<S: Alter>(conn: &mut Connection<S>) -> Result<Option<DeskColumns>, RowFault>
     ensures new { ReadsDesk S.Store (IsKept S.Store) AreOurs (tables_in S.Store) conn.old conn.new
         result }
     ensures old { ReadsDesk S.Store (WasKept S.Store) WereOurs (old_tables_in S.Store) conn.old
         conn.new result }
     // Whatever the store has, the disk is told of only where it told of a fault of it.
     ensures blames { does_show S.Store conn.old → is_honest S.Store conn.new
-        → IfErr result (IsLookBlamed (has_faulted S.Store conn.old conn.new)) }
+        → IfErr result (BlamesFor (has_faulted S.Store conn.old conn.new)) }
 {
     let Some(row) = find_desk(conn)? else {
         return Ok(None);

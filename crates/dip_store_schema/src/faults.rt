@@ -2,7 +2,7 @@
 ghost use Rattle.std.specs.Prelude.{◌≡◌};
 ghost use Rattle.dip_store_schema.specs.Faults as told;
 
-use dip_store_looks::LookFault;
+use dip_store_sql::RowFault;
 use sqlite::{Error, ErrorCode};
 use std::error::Error as AnyError;
 use std::fmt;
@@ -93,12 +93,12 @@ fn row_fault(error: Error) -> StoreFault
 }
 
 /// The fault for why the master's row isn't read: where it isn't the disk nor want of memory, the row is none of this version.
-pub(crate) fn desk_fault(fault: LookFault) -> StoreFault
+pub(crate) fn desk_fault(fault: RowFault) -> StoreFault
     ensures { result ≡ told.desk_fault fault }
 {
     match fault {
-        LookFault::Memory => StoreFault::Memory,
-        LookFault::Query(error) => row_fault(error),
-        LookFault::Foreign => StoreFault::OtherSchema,
+        RowFault::Memory => StoreFault::Memory,
+        RowFault::Sql(error) => row_fault(error),
+        RowFault::Misfit => StoreFault::OtherSchema,
     }
 }

@@ -4,13 +4,13 @@ ghost use Rattle.std.specs.List.{AllByRecursion};
 ghost use Rattle.sqlite.specs.declared.types.Value.TheVariants.{Text as Words};
 ghost use Rattle.sqlite.specs.Order.{column};
 ghost use Rattle.dip_desk_state.specs.Rows.{lines};
-ghost use Rattle.dip_store_looks.specs.Faults.{IsFromOutside};
+ghost use Rattle.dip_store_sql.specs.RowFaults.{IsFromOutside};
 ghost use Rattle.dip_store_looks.specs.Readable.{HasText};
 ghost use Rattle.dip_store_sql.specs.Causes.{IsCaused};
 ghost use Rattle.dip_store_schema.specs.Renewing.{IsVoteReadable, shown_ballot, shown_name};
 
 use crate::desk_row::number_at;
-use dip_store_looks::LookFault;
+use dip_store_sql::RowFault;
 use sqlite::{Error, Row};
 use std::alloc::Global;
 use std::marker::Model;
@@ -40,7 +40,7 @@ fn text_at(row: &Row, at: usize) -> Result<String, Error>
 }
 
 /// The names of games, each in a row.
-pub(crate) fn names_in(alloc: Global, rows: &[Row]) -> Result<Vec<String>, LookFault>
+pub(crate) fn names_in(alloc: Global, rows: &[Row]) -> Result<Vec<String>, RowFault>
     ensures value { IfOk result (λ v. lines v.items ≡ each shown_name rows.now) }
     ensures own { AllByRecursion (λ r. HasText r 0) rows.now → IfErr result (IsFromOutside ⊥) }
 {
@@ -52,19 +52,19 @@ pub(crate) fn names_in(alloc: Global, rows: &[Row]) -> Result<Vec<String>, LookF
 }
 
 /// Whether a vote, as version 1 numbers it, is for a draw.
-fn is_for_draw(vote: u32) -> Result<bool, LookFault>
+fn is_for_draw(vote: u32) -> Result<bool, RowFault>
     ensures value { IfOk result (λ b. b ≡ not (vote == 0)) }
     ensures own { (vote ≡ 0) ⊎ (vote ≡ 1) → IfErr result (IsFromOutside ⊥) }
 {
     match vote {
         0 => Ok(false),
         1 => Ok(true),
-        _ => Err(LookFault::Foreign),
+        _ => Err(RowFault::Misfit),
     }
 }
 
 /// A seat's ballot, of its game, its power and its vote in a row.
-fn ballot_in(row: &Row) -> Result<NewBallot, LookFault>
+fn ballot_in(row: &Row) -> Result<NewBallot, RowFault>
     ensures value { IfOk result (λ b. b ≡ shown_ballot row.now) }
     ensures own { IsVoteReadable row.now → IfErr result (IsFromOutside ⊥) }
 {
@@ -76,7 +76,7 @@ fn ballot_in(row: &Row) -> Result<NewBallot, LookFault>
 }
 
 /// The ballots of seats, each in a row.
-pub(crate) fn ballots_in(alloc: Global, rows: &[Row]) -> Result<Vec<NewBallot>, LookFault>
+pub(crate) fn ballots_in(alloc: Global, rows: &[Row]) -> Result<Vec<NewBallot>, RowFault>
     ensures value { IfOk result (λ v. v.items ≡ each shown_ballot rows.now) }
     ensures own { AllByRecursion IsVoteReadable rows.now → IfErr result (IsFromOutside ⊥) }
 {

@@ -8,7 +8,7 @@ ghost use Rattle.sqlite.specs.State.{Survives};
 ghost use Rattle.dip_desk_state.specs.Rows.{lines};
 ghost use Rattle.dip_store_sql.specs.TablesAfter.{more_ballots, with_ballot, with_choice};
 ghost use Rattle.dip_store_sql.specs.Calls.{IsLaid, SelectsFrom, WasKept, Writes, does_show, is_honest, old_tables_in, tables_in};
-ghost use Rattle.dip_store_looks.specs.Faults.{IsFromOutside};
+ghost use Rattle.dip_store_sql.specs.RowFaults.{IsFromOutside};
 ghost use Rattle.dip_store_sql.specs.Causes.{IsCaused, has_faulted};
 ghost use Rattle.dip_store_sql.specs.Keys.{Differ, same_ballot, same_choice};
 ghost use Rattle.dip_store_sql.specs.Rows.{put_ballot, put_choice};
@@ -29,8 +29,9 @@ ghost use Rattle.dip_store_tables.specs.Tables.{Tables};
 use crate::creating::create_choices;
 use crate::faults::{StoreFault, desk_fault, open_fault};
 use crate::old_rows::{NewBallot, ballots_in, names_in};
-use dip_store_looks::LookFault;
-use dip_store_sql::{add_ballot, add_choice, clear_votes, list_games, list_votes, set_version};
+use dip_store_sql::{
+    RowFault, add_ballot, add_choice, clear_votes, list_games, list_votes, set_version,
+};
 use dip_store_tables::old_tables_are_renewed;
 use sqlite::{Alter, Connection, Error, Transaction};
 use std::alloc::Global;
@@ -143,7 +144,7 @@ fn fill<S: Alter>(
 }
 
 /// The names of all games of a store of version 1.
-fn old_games<S: Alter>(conn: &mut Connection<S>, alloc: Global) -> Result<Vec<String>, LookFault>
+fn old_games<S: Alter>(conn: &mut Connection<S>, alloc: Global) -> Result<Vec<String>, RowFault>
     ensures value { WasKept S.Store conn.old → is_honest S.Store conn.new → IfOk result (λ v.
         lines v.items ≡ each (λ g. g.name) (old_tables_in S.Store conn.old).games) }
     ensures own { WasKept S.Store conn.old → does_show S.Store conn.old
@@ -159,7 +160,7 @@ fn old_games<S: Alter>(conn: &mut Connection<S>, alloc: Global) -> Result<Vec<St
 fn old_ballots<S: Alter>(
     conn: &mut Connection<S>,
     alloc: Global,
-) -> Result<Vec<NewBallot>, LookFault>
+) -> Result<Vec<NewBallot>, RowFault>
     ensures value { WasKept S.Store conn.old → is_honest S.Store conn.new → IfOk result (λ v.
         v.items ≡ each old_ballot (old_tables_in S.Store conn.old).seats) }
     ensures own { WasKept S.Store conn.old → does_show S.Store conn.old

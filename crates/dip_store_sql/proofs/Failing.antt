@@ -225,12 +225,12 @@ module _ (schema : Schema) (at : ℕ) (table : Table) (listed : slice_get schema
   abbrev made : Edit → Trees → Part Written
   made edit next = Gives (record { trees = next; rows = edit.news; last = last_id edit.news })
 
-  abbrev behind_edit : Option Row → Edit → Trees → Part Written
-  behind_edit counter edit mid = Then (Counts task mid counter (fold higher (count_of counter) edit.news)) (made edit)
+  abbrev after_edit : Option Row → Edit → Trees → Part Written
+  after_edit counter edit mid = Then (Counts task mid counter (fold higher (count_of counter) edit.news)) (made edit)
 
-  abbrev behind_rows : List Row → Option Row → Part Written
-  behind_rows rows counter =
-      let edit = edit_of old.trees table [] (rowids_for table (count_of counter)) 0 rows in Then (Edited schema Enforced old.trees edit) (behind_edit counter edit)
+  abbrev after_rows : List Row → Option Row → Part Written
+  after_rows rows counter =
+      let edit = edit_of old.trees table [] (rowids_for table (count_of counter)) 0 rows in Then (Edited schema Enforced old.trees edit) (after_edit counter edit)
 
   abbrev found : Program → Part (List Row)
   found q = Queried None (record { schema = schema; trees = old.trees }) q params
@@ -250,7 +250,7 @@ module _ (schema : Schema) (at : ℕ) (table : Table) (listed : slice_get schema
   -- an INSERT of values of their kinds
   pub insert_refused : (terms : List Term) (width : ℕ) → accepts_terms terms (stamped table params) ≡ true → (e : Error) → Does None mode params old text None (Insert at (Values terms width)) (Err (Some e))
       → (why : Refusal) × IsRefused schema Enforced old.trees (edit_of old.trees table [] Chosen 0 (value_rows (stamped table params) width (length terms / width) terms)) why × (e ≡ edit_error why)
-  insert_refused terms width accepts e h = elim (stops (Sourced None (record { schema = schema; trees = old.trees }) (stamped table params) (Values terms width)) (λ rows. Then (Counter task old.trees) (behind_rows rows)) e (on_table (Insert at (Values terms width)) e h)) [
+  insert_refused terms width accepts e h = elim (stops (Sourced None (record { schema = schema; trees = old.trees }) (stamped table params) (Values terms width)) (λ rows. Then (Counter task old.trees) (after_rows rows)) e (on_table (Insert at (Values terms width)) e h)) [
     | inl s ↦ absurd (sourced s)
     | inr rows ↦ counted rows.0 rows.1 rows.2
   ]
@@ -260,11 +260,11 @@ module _ (schema : Schema) (at : ℕ) (table : Table) (listed : slice_get schema
       sourced (inr s) = let x = s.1 in cc
 
       counted : (rows : List Row) → Sourced None (record { schema = schema; trees = old.trees }) (stamped table params) (Values terms width) (Ok rows)
-          → Then (Counter task old.trees) (behind_rows rows) (Err (Some e))
+          → Then (Counter task old.trees) (after_rows rows) (Err (Some e))
           → (why : Refusal) × IsRefused schema Enforced old.trees (edit_of old.trees table [] Chosen 0 (value_rows (stamped table params) width (length terms / width) terms)) why × (e ≡ edit_error why)
-      counted rows from h = elim (stops (Counter task old.trees) (behind_rows rows) e h) [
+      counted rows from h = elim (stops (Counter task old.trees) (after_rows rows) e h) [
         | inl s ↦ absurd (no_stop None (Some e) (unmatched _ _ table.is_counted bare s))
-        | inr counter ↦ let edit = edit_of old.trees table [] (rowids_for table (count_of counter.0)) 0 rows in elim (stops (Edited schema Enforced old.trees edit) (behind_edit counter.0 edit) e counter.2) [
+        | inr counter ↦ let edit = edit_of old.trees table [] (rowids_for table (count_of counter.0)) 0 rows in elim (stops (Edited schema Enforced old.trees edit) (after_edit counter.0 edit) e counter.2) [
           | inl s ↦
               let chosen : rowids_for table (count_of counter.0) ≡ Chosen = no_above table.is_counted (count_of counter.0) bare in
               let whole : edit_of old.trees table [] (rowids_for table (count_of counter.0)) 0 rows ≡ edit_of old.trees table [] Chosen 0 (value_rows (stamped table params) width (length terms / width) terms) =
@@ -292,7 +292,7 @@ module _ (schema : Schema) (at : ℕ) (table : Table) (listed : slice_get schema
   insert_oversized terms width h =
       let there : OnRows task mode None (Insert at (Values terms width)) old.trees (Err None) = rw listed at (subst (λ s. OnTable None mode params (record old { schema = s }) at (λ t. OnRows t mode None (Insert at (Values terms width)) old.trees) (Err None)) has h) in
       elim (halts (WritesRows task old.trees (Insert at (Values terms width))) (Concludes task mode None) None there) [
-        | inl s ↦ elim (halts (Sourced None (record { schema = schema; trees = old.trees }) (stamped table params) (Values terms width)) (λ rows. Then (Counter task old.trees) (behind_rows rows)) None s) [
+        | inl s ↦ elim (halts (Sourced None (record { schema = schema; trees = old.trees }) (stamped table params) (Values terms width)) (λ rows. Then (Counter task old.trees) (after_rows rows)) None s) [
           | inl none ↦ absurd none
           | inr rows ↦ counted rows.0 rows.1 rows.2
         ]
@@ -300,11 +300,11 @@ module _ (schema : Schema) (at : ℕ) (table : Table) (listed : slice_get schema
       ]
     where
       counted : (rows : List Row) → Sourced None (record { schema = schema; trees = old.trees }) (stamped table params) (Values terms width) (Ok rows)
-          → Then (Counter task old.trees) (behind_rows rows) (Err None)
+          → Then (Counter task old.trees) (after_rows rows) (Err None)
           → (row : Row) × Has (edit_of old.trees table [] Chosen 0 (value_rows (stamped table params) width (length terms / width) terms)).news row × IsOversized schema table row
-      counted rows from h = elim (halts (Counter task old.trees) (behind_rows rows) None h) [
+      counted rows from h = elim (halts (Counter task old.trees) (after_rows rows) None h) [
         | inl s ↦ absurd (no_stop None None (unmatched _ _ table.is_counted bare s))
-        | inr counter ↦ let edit = edit_of old.trees table [] (rowids_for table (count_of counter.0)) 0 rows in elim (halts (Edited schema Enforced old.trees edit) (behind_edit counter.0 edit) None counter.2) [
+        | inr counter ↦ let edit = edit_of old.trees table [] (rowids_for table (count_of counter.0)) 0 rows in elim (halts (Edited schema Enforced old.trees edit) (after_edit counter.0 edit) None counter.2) [
           | inl s ↦
               let chosen : rowids_for table (count_of counter.0) ≡ Chosen = no_above table.is_counted (count_of counter.0) bare in
               let whole : edit_of old.trees table [] (rowids_for table (count_of counter.0)) 0 rows ≡ edit_of old.trees table [] Chosen 0 (value_rows (stamped table params) width (length terms / width) terms) =

@@ -8,6 +8,7 @@ pub mod Keys
 pub mod Tests
 pub mod Reading
 pub mod Faults
+pub mod RowFaults
 pub mod Missing
 pub mod Creating
 pub mod Accepted

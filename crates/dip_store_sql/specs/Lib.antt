@@ -1,5 +1,6 @@
 pub mod NewTables
 pub mod Faults
+pub mod RowFaults
 pub mod Queries
 pub mod Recorded
 pub mod Writes

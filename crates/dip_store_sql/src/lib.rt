@@ -7,6 +7,7 @@ mod listings;
 mod lookups;
 mod noting;
 mod only;
+mod row_faults;
 mod rows;
 mod ticks;
 
@@ -26,4 +27,5 @@ pub use noting::{
     clear_votes, count_item, note_ballot, note_desk, renew_game, renew_seat, replace_digest,
     set_version,
 };
+pub use row_faults::RowFault;
 pub use rows::{GameRow, ItemRow, LastLetter, OrderRow, SeatRow, UnitRow};

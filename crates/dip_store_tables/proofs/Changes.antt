@@ -16,7 +16,7 @@ use Rattle.dip_store_tables.specs.Changing.{noting, reaching, changing}
 use Rattle.dip_store_tables.specs.Coding.{AreApart, IsSeatOf, same_name, same_seat}
 use Rattle.dip_store_tables.specs.Laws.{StateIsChanged}
 use Rattle.dip_store_tables.proofs.Authors.{authored, with_seats, games_authored, ordering_alone, noted_keys}
-use Rattle.dip_store_tables.proofs.Effects.{game_behind, games_reached}
+use Rattle.dip_store_tables.proofs.Effects.{game_reached, games_reached}
 use Rattle.dip_store_tables.proofs.Lists.{change_at_twice}
 use Rattle.dip_store_tables.proofs.Replies.{printed_back, tested}
 use Rattle.dip_store_tables.proofs.Seats.{coded_map, apart_map, either_way}
@@ -106,6 +106,6 @@ state_changed m ok c t fits coded apart later =
     let games : map (game_of m (changing m c t)) (changing m c t).games ≡ change_at bytes_eq name_of c.game (game_after c) (map (game_of m t) t.games) ++ new_games c.effect =
     games_reached m ok c.game u (mid_apart m c.game c.kept c.effect t c.author apart) c.effect fits.effect (mid_coded m c.game c.kept c.effect t c.author coded.seats) later
     ∙ ap (λ gs. gs ++ new_games c.effect)
-    (ap (change_at bytes_eq name_of c.game (game_behind c.effect)) first
-    ∙ change_at_twice bytes_eq name_of c.game (with_seats c.author c.kept c.effect) (game_behind c.effect) (map (game_of m t) t.games) (λ g. refl)) in
+    (ap (change_at bytes_eq name_of c.game (game_reached c.effect)) first
+    ∙ change_at_twice bytes_eq name_of c.game (with_seats c.author c.kept c.effect) (game_reached c.effect) (map (game_of m t) t.games) (λ g. refl)) in
     λ i. record { desk = desk i; games = games i }

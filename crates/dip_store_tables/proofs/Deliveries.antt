@@ -17,16 +17,16 @@ abbrev counted_by : List SeatRow → SeatRow → SeatRow
 counted_by [] x = x
 counted_by (s ∷ ss) x = counted_by ss (cond (is_seat s.game s.power x) (with_items (s.items + 1) x) x)
 
-rows_behind : (ss xs : List SeatRow) (item : Item) (t : Tables) → t.seats ≡ xs → (delivering_each item ss t).seats ≡ map (counted_by ss) xs
-rows_behind [] xs item t is = is ∙ sym (map-id xs)
-rows_behind (s ∷ ss) xs item t is =
-    rows_behind ss (map (λ x. cond (is_seat s.game s.power x) (with_items (s.items + 1) x) x) xs) item (delivering_one item s t)
+rows_after : (ss xs : List SeatRow) (item : Item) (t : Tables) → t.seats ≡ xs → (delivering_each item ss t).seats ≡ map (counted_by ss) xs
+rows_after [] xs item t is = is ∙ sym (map-id xs)
+rows_after (s ∷ ss) xs item t is =
+    rows_after ss (map (λ x. cond (is_seat s.game s.power x) (with_items (s.items + 1) x) x) xs) item (delivering_one item s t)
     (ap (map (λ x. cond (is_seat s.game s.power x) (with_items (s.items + 1) x) x)) is)
     ∙ map-map (counted_by ss) (λ x. cond (is_seat s.game s.power x) (with_items (s.items + 1) x) x) xs
 
-boxes_behind : (ss : List SeatRow) (item : Item) (t : Tables) → (delivering_each item ss t).boxes ≡ t.boxes ++ map (next_row item) ss
-boxes_behind [] item t = sym (append-nil t.boxes)
-boxes_behind (s ∷ ss) item t = boxes_behind ss item (delivering_one item s t) ∙ append_assoc t.boxes (next_row item s ∷ []) (map (next_row item) ss)
+boxes_after : (ss : List SeatRow) (item : Item) (t : Tables) → (delivering_each item ss t).boxes ≡ t.boxes ++ map (next_row item) ss
+boxes_after [] item t = sym (append-nil t.boxes)
+boxes_after (s ∷ ss) item t = boxes_after ss item (delivering_one item s t) ∙ append_assoc t.boxes (next_row item s ∷ []) (map (next_row item) ss)
 
 -- the other tables stay
 others_stay : (ss : List SeatRow) (item : Item) (t : Tables) → delivering_each item ss t ≡ record t { seats = (delivering_each item ss t).seats; boxes = (delivering_each item ss t).boxes }
@@ -87,10 +87,10 @@ module _ (m : Chart) (name readers : List ℕ) (item : Item) (t : Tables) (apart
   delivered : delivering_each item (filter reads t.seats) t ≡ delivering m name readers item t
   delivered =
       let seats : (delivering_each item (filter reads t.seats) t).seats ≡ map (λ x. cond (reads x) (one_more x) x) t.seats =
-      rows_behind (filter reads t.seats) t.seats item t refl
+      rows_after (filter reads t.seats) t.seats item t refl
       ∙ map_on (counted_by (filter reads t.seats)) (λ x. cond (reads x) (one_more x) x) t.seats
       (all_weaker (IsAlone t.seats) (λ x. counted_by (filter reads t.seats) x ≡ cond (reads x) (one_more x) x) each_row t.seats (all_alone t.seats apart.seats)) in
-      others_stay (filter reads t.seats) item t ∙ ap₂ (λ ss bs. record t { seats = ss; boxes = bs }) seats (boxes_behind (filter reads t.seats) item t)
+      others_stay (filter reads t.seats) item t ∙ ap₂ (λ ss bs. record t { seats = ss; boxes = bs }) seats (boxes_after (filter reads t.seats) item t)
 
 pub one_by_one : (m : Chart) → IsDeliveredOneByOne m
 one_by_one m name readers item t apart = delivered m name readers item t apart

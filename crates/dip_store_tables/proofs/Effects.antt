@@ -31,16 +31,16 @@ turned : (a b : ℕ) → (a == b) ≡ (b == a)
 turned a b = grind (arith, nat_tests)
 
 -- a game after an effect
-abbrev pub game_behind : Effect → Game → Game
-game_behind e = with_parts (public_after e) (papers_after e) (with_effect e)
+abbrev pub game_reached : Effect → Game → Game
+game_reached e = with_parts (public_after e) (papers_after e) (with_effect e)
 
 -- an effect that is none on games that are there
 still : {A : Type 0} (f : A → A) (xs : List A) → ((x : A) → f x ≡ x) → map f xs ≡ xs
 still f xs same = map_same f (λ x. x) same xs ∙ map-id xs
 
 unmoved : (e : Effect) (name : List ℕ) (gs : List Game) → ((p : Public) → public_after e p ≡ p) → ((ps : List (List ℕ)) → papers_after e ps ≡ ps) → ((s : Part) → with_effect e s ≡ s)
-    → change_at bytes_eq name_of name (game_behind e) gs ≡ gs
-unmoved e name gs public papers seats = change_at_same bytes_eq name_of name (game_behind e) gs
+    → change_at bytes_eq name_of name (game_reached e) gs ≡ gs
+unmoved e name gs public papers seats = change_at_same bytes_eq name_of name (game_reached e) gs
     (λ g. λ i. record { public = public g.public i; papers = papers g.papers i; seats = still (with_effect e) g.seats seats i })
 
 module _ (m : Chart) (ok : IsMap m) (name : List ℕ) (t : Tables) (apart : AreApart t) where
@@ -69,7 +69,7 @@ module _ (m : Chart) (ok : IsMap m) (name : List ℕ) (t : Tables) (apart : AreA
     stays : (s : SeatRow) → (cond (mine s) (digested s) s).game ≡ s.game
     stays s = elim (cases_Bool (mine s)) [ inl e ↦ rw e refl | inr e ↦ rw e refl ]
 
-    pub games_replaced : map (game_of m (replacing m name seat t)) t.games ≡ change_at bytes_eq name_of name (game_behind (Seats seat)) (map (game_of m t) t.games)
+    pub games_replaced : map (game_of m (replacing m name seat t)) t.games ≡ change_at bytes_eq name_of name (game_reached (Seats seat)) (map (game_of m t) t.games)
     games_replaced = games_changed m t (replacing m name seat t) name (λ p. p) (λ ps. ps) (with_effect (Seats seat)) (λ g. g) (λ s. cond (mine s) (digested s) s) (IsSeatOf m)
         apart.games coded (sym (map-id t.games)) refl (λ g. refl) stays (λ g h. refl) (λ g h. refl) refl (λ n h. refl) near far
 
@@ -129,7 +129,7 @@ module _ (m : Chart) (ok : IsMap m) (name : List ℕ) (t : Tables) (apart : AreA
     behind true s = refl
     behind false s = refl
 
-    pub games_published : map (game_of m new) new.games ≡ change_at bytes_eq name_of name (game_behind (Publishes p paper played)) (map (game_of m t) t.games)
+    pub games_published : map (game_of m new) new.games ≡ change_at bytes_eq name_of name (game_reached (Publishes p paper played)) (map (game_of m t) t.games)
     games_published = games_changed m t new name (public_after (Publishes p paper played)) (papers_after (Publishes p paper played)) (with_effect (Publishes p paper played)) renewed (λ s. s) (IsSeatOf m)
         apart.games coded refl (sym (map-id t.seats)) named (λ s. refl) my_public other_public
         (slice-push_mine (is_paper_in name) (λ (r : PaperRow). r.body) t.papers (paper_row name p.papers paper) (names_tell.self name))
@@ -141,7 +141,7 @@ module _ (m : Chart) (ok : IsMap m) (name : List ℕ) (t : Tables) (apart : AreA
         named g = elim (cases_Bool (is_named name g)) [ inl e ↦ rw e refl | inr e ↦ rw e refl ]
 
   pub games_reached : (e : Effect) → IsEffectOf m e → AllByRecursion (IsSeatOf m) t.seats → AreApart (reaching m name e t)
-      → map (game_of m (reaching m name e t)) (reaching m name e t).games ≡ change_at bytes_eq name_of name (game_behind e) (map (game_of m t) t.games) ++ new_games e
+      → map (game_of m (reaching m name e t)) (reaching m name e t).games ≡ change_at bytes_eq name_of name (game_reached e) (map (game_of m t) t.games) ++ new_games e
   games_reached Nothing fits coded later = sym (append-nil _ ∙ unmoved Nothing name (map (game_of m t) t.games) (λ p. refl) (λ ps. refl) (λ s. refl))
   games_reached (Pending orders) fits coded later = sym (append-nil _ ∙ unmoved (Pending orders) name (map (game_of m t) t.games) (λ p. refl) (λ ps. refl) (λ s. refl))
   games_reached (Votes vote) fits coded later = sym (append-nil _ ∙ unmoved (Votes vote) name (map (game_of m t) t.games) (λ p. refl) (λ ps. refl) (λ s. refl))

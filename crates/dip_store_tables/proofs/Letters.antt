@@ -27,14 +27,14 @@ number_back true = refl
 number_back false = refl
 
 -- the orders that an effect gives a seat, or those that it has
-abbrev pub orders_behind : Effect → List Standing → List Standing
-orders_behind Nothing ls = ls
-orders_behind (Pending orders) ls = orders
-orders_behind (Votes vote) ls = ls
-orders_behind (Delivers readers item) ls = ls
-orders_behind (Opens public paper seats) ls = ls
-orders_behind (Publishes public paper played) ls = ls
-orders_behind (Seats seat) ls = ls
+abbrev pub orders_after : Effect → List Standing → List Standing
+orders_after Nothing ls = ls
+orders_after (Pending orders) ls = orders
+orders_after (Votes vote) ls = ls
+orders_after (Delivers readers item) ls = ls
+orders_after (Opens public paper seats) ls = ls
+orders_after (Publishes public paper played) ls = ls
+orders_after (Seats seat) ls = ls
 
 module _ (m : Chart) (ok : IsMap m) (name power : List ℕ) where
   -- rows of the seat say the orders
@@ -80,7 +80,7 @@ module _ (m : Chart) (ok : IsMap m) (name : List ℕ) (plain : Lacks 10 name) (k
   noted e t = ordering m (Seat power) name e (noting m (Seat power) name k e t)
 
   my_orders : (e : Effect) (t : Tables) → IsEffectOf m e → (s : SeatRow) → is_seat name (power_name m power) s ≡ true
-      → pending_of m (noted e t).pending s.game s.power ≡ orders_behind e (pending_of m t.pending s.game s.power)
+      → pending_of m (noted e t).pending s.game s.power ≡ orders_after e (pending_of m t.pending s.game s.power)
   my_orders (Pending orders) t fits s mine =
       let same = both_same s.game s.power name (power_name m power) mine in
       ap₂ (pending_of m (noted (Pending orders) t).pending) same.0 same.1 ∙ orders_given m ok name (power_name m power) orders t.pending fits

@@ -128,17 +128,17 @@ module _ (m : Chart) (ok : IsMap m) (name : List ℕ) (named : IsText name) (k :
       let all : AllByRecursion Has t.seats =
       pairs Is (λ s. is_seat name mine s ≡ true → MaySend e s) t.seats (pairs IsSeatLegible (MayGet m name e) t.seats it.seats (may_get m (Seat power) name e t room)) (may_send m power name e t room) in
       let words = reply_text name mine k named (power_text m ok power is) told in
-      let behind = all_changed Has Is (is_seat name mine) (seat_noted (as_printed name mine k) e)
+      let after = all_changed Has Is (is_seat name mine) (seat_noted (as_printed name mine k) e)
       (λ s hit has. noted_seat m name (as_printed name mine k) e s words (has.1 hit) has.0.0 has.0.1) (λ s has. has.0) t.seats all in
       record {
         legible = record {
           desk = it.desk;
-          seats = all_weaker Is IsSeatLegible (λ s has. has.0) _ behind;
+          seats = all_weaker Is IsSeatLegible (λ s has. has.0) _ after;
           pending = it.pending;
           boxes = it.boxes;
           papers = it.papers;
         };
-        room = all_weaker Is (MayGet m name e) (λ s has. has.1) _ behind;
+        room = all_weaker Is (MayGet m name e) (λ s has. has.1) _ after;
       }
 
 order_rows : (m : Chart) (name power : List ℕ) (os : List Standing) → AllByRecursion (λ o. IsText o.line) os → AllByRecursion IsOrderLegible (map (pending_row m name power) os)

@@ -1,6 +1,6 @@
 use Rattle.std.proofs.Common.{List, ℕ, subst, ◌∙◌, append-nil}
-use Rattle.dip_http.specs.Answers.{IsPart, answer_bytes, plain}
-use Rattle.dip_http.specs.AnswerViews.{allowed, status_number}
+use Rattle.dip_http_messages.specs.Answers.{IsPart, answer_bytes, plain}
+use Rattle.dip_http_messages.specs.AnswerViews.{allowed, status_number}
 use Rattle.dip_http.proofs.endings.refuse.Goals as goal
 
 pub returns-in-Err-clause-err : goal.returns-in-Err-clause-err

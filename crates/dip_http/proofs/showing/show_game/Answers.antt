@@ -1,7 +1,7 @@
 use Rattle.std.proofs.Common.{None, List, ℕ, ap, append-nil, codes, rules, ◌≡◌, ◌∙◌}
-use Rattle.dip_http.specs.Answers.{answer_bytes}
+use Rattle.dip_http_messages.specs.Answers.{answer_bytes}
 use Rattle.dip_http.specs.Answering.{game_answer}
-use Rattle.dip_http.specs.Texts.{state_text}
+use Rattle.dip_http_messages.specs.Texts.{state_text}
 use Rattle.dip_desk_state.specs.Rows as rows
 use Rattle.dip_desk_state.specs.declared.records.Public.{Public}
 use Rattle.dip_http.proofs.EndLemmas.{shown_part, shown_whole}

@@ -1,5 +1,5 @@
 use Rattle.std.proofs.Common.{None, List, ℕ, ap, append-nil, ◌∙◌}
-use Rattle.dip_http.specs.Answers.{answer_bytes, plain}
+use Rattle.dip_http_messages.specs.Answers.{answer_bytes, plain}
 use Rattle.dip_http.specs.Answering.{paper_answer}
 use Rattle.dip_http.proofs.EndLemmas.{shown_part, shown_whole}
 use Rattle.dip_http.proofs.RespondLemmas.{responds_shown}

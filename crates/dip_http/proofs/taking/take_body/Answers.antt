@@ -3,7 +3,7 @@ use Rattle.dip_desk_state.specs.Records.{Reply}
 use Rattle.dip_desk_state.specs.Rows as rows
 use Rattle.dip_reports.specs.Texts.{reply_text}
 use Rattle.dip_desk_machine.specs.Mail.{mail}
-use Rattle.dip_http.specs.Answers.{answer_bytes, plain}
+use Rattle.dip_http_messages.specs.Answers.{answer_bytes, plain}
 use Rattle.dip_http.specs.Answering.{status_of}
 use Rattle.dip_http.proofs.EndLemmas.{posted_part, posted_whole}
 use Rattle.dip_http.proofs.RespondLemmas.{responds_taken, responds_untaken, responds_written}

@@ -4,7 +4,7 @@ use Rattle.dip_store_tables.specs.Legible.{AreOurs}
 use Rattle.dip_store_sql.specs.Calls.{tables_in}
 use Rattle.dip_store_sql.specs.Showing.{is_numbered}
 use Rattle.dip_store_tables.specs.Tables.{Tables}
-use Rattle.dip_store_looks.proofs.Blaming.{outside_weaker}
+use Rattle.dip_store_sql.proofs.RowFaults.{outside_weaker}
 use Rattle.dip_store_looks.proofs.Onward.{leaves}
 use Rattle.dip_store_sql.proofs.Caused.{faulted_late}
 use Rattle.sqlite.specs.Held.{state}

@@ -2,7 +2,7 @@ use Rattle.std.proofs.Common.{ap, string_bytes}
 use Rattle.dip_desk_state.specs.ChangeRows as machine
 use Rattle.dip_desk_state.specs.Rows as records
 use Rattle.dip_store_sql.proofs.Joining.{does_as}
-use Rattle.dip_store_changes.proofs.Counting.{noted_as}
+use Rattle.dip_store_counts.proofs.Counting.{noted_as}
 use Rattle.dip_store_changes.proofs.authors.note_author.Goals as goal
 
 pub returns-in-Seat-clause-does : goal.returns-in-Seat-clause-does

@@ -2,7 +2,7 @@ use Rattle.std.proofs.Common.{ap, ◌∙◌}
 use Rattle.dip_desk_state.specs.Rows as records
 use Rattle.dip_store_sql.specs.TablesAfter.{on_seat}
 use Rattle.dip_store_sql.proofs.Joining.{does_as, does_ok}
-use Rattle.dip_store_changes.specs.Noting.{row_noted}
+use Rattle.dip_store_counts.specs.Noting.{row_noted}
 use Rattle.dip_store_changes.proofs.authors.note_row.Goals as goal
 
 pub returns-clause-does : goal.returns-clause-does

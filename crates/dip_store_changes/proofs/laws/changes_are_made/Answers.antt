@@ -11,10 +11,10 @@ pub returns : goal.returns
 returns g m ok c old new fits good later is =
     let t = tables_of old.trees in
     let apart = are_apart old good in
-    let behind = subst AreApart is (are_apart new later) in
+    let after = subst AreApart is (are_apart new later) in
     record {
-      says = λ coded. ap (state_of m) is ∙ g.state_is_changed.ensures m ok c t fits.0 coded apart behind;
+      says = λ coded. ap (state_of m) is ∙ g.state_is_changed.ensures m ok c t fits.0 coded apart after;
       coded = λ coded. subst (AreCoded m) (sym is) (g.tables_stay_coded.ensures m c t fits.0 coded);
-      written = λ wide all. subst (AreWritten m) (sym is) (g.tables_stay_written.ensures m c t fits wide behind all);
-      counted = λ next all. subst AreCounted (sym is) (g.tables_stay_counted.ensures m c t next all apart behind);
+      written = λ wide all. subst (AreWritten m) (sym is) (g.tables_stay_written.ensures m c t fits wide after all);
+      counted = λ next all. subst AreCounted (sym is) (g.tables_stay_counted.ensures m c t next all apart after);
     }

@@ -15,17 +15,17 @@ use Rattle.dip_store_sql.proofs.Told.{want_weaker}
 use Rattle.dip_store_sql.proofs.Keyed.{are_apart}
 use Rattle.dip_store_tables.specs.Tables.{Tables}
 use Rattle.dip_store_sql.specs.Keys.{AreKeyed}
-use Rattle.dip_store_changes.specs.declared.delivering.Reader.{Reader}
-use Rattle.dip_store_changes.specs.Counts.{Counts}
-use Rattle.dip_store_changes.specs.Knowing.{IsKeptAs, IsKeptFor, IsKnown, IsUnordered, is_unordered, row_known}
+use Rattle.dip_store_counts.specs.declared.readers.Reader.{Reader}
+use Rattle.dip_store_counts.specs.Counts.{Counts}
+use Rattle.dip_store_counts.specs.Knowing.{IsKeptAs, IsKeptFor, IsKnown, IsUnordered, is_unordered, row_known}
 use Rattle.dip_store_changes.specs.Making.{changing_row}
-use Rattle.dip_store_changes.specs.declared.known.AuthorRow.{AuthorRow}
-use Rattle.dip_store_changes.specs.declared.known.KnownAuthor.{KnownAuthor}
-use Rattle.dip_store_changes.specs.declared.faults.MakeFault.{MakeFault}
+use Rattle.dip_store_counts.specs.declared.known.AuthorRow.{AuthorRow}
+use Rattle.dip_store_counts.specs.declared.known.KnownAuthor.{KnownAuthor}
+use Rattle.dip_store_sql.specs.declared.row_faults.RowFault.{RowFault}
 use Rattle.dip_store_changes.proofs.Counted.{counted_change}
-use Rattle.dip_store_changes.specs.declared.counts.Counted.{Counted}
+use Rattle.dip_store_counts.specs.declared.counts.Counted.{Counted}
 use Rattle.dip_store_changes.proofs.Made.{laid_kept, makes_named, makes_peeked}
-use Rattle.dip_store_changes.proofs.Peeking.{peeks_counts, peeks_kept, peeks_shows}
+use Rattle.dip_store_counts.proofs.Peeking.{peeks_counts, peeks_kept, peeks_shows}
 use Rattle.dip_store_changes.proofs.making.make.Goals as goal
 
 -- what `count` asks for, of what is known of the author
@@ -47,7 +47,7 @@ returns-in-Ok-clause-makes g c =
     let none = c.is_unordered.result in
     let row = at_row g.S.Store c.args.known c.row_known-row.result m it old c.row_known-row.ensures in
     let orders = at_orders g.S.Store c.args.known none m it old c.is_unordered.ensures in
-    makes_named g.S.Store (IsKnown (row_known c.args.known) m it.author it.game (tables_in g.S.Store old).seats × IsUnordered (is_unordered c.args.known) m it.author it.game (tables_in g.S.Store old).pending) (Unit {0}) Error MakeFault (changing_row n none rs m it) (changing m it) old c.make_with.new.conn (Ok c.in-Ok.field-0) _ tt
+    makes_named g.S.Store (IsKnown (row_known c.args.known) m it.author it.game (tables_in g.S.Store old).seats × IsUnordered (is_unordered c.args.known) m it.author it.game (tables_in g.S.Store old).pending) (Unit {0}) Error RowFault (changing_row n none rs m it) (changing m it) old c.make_with.new.conn (Ok c.in-Ok.field-0) _ tt
     (λ kept clean. counted_change m (c.readers_are_seats.ensures m) (c.press_is_delivered_one_by_one.ensures m) it (tables_in g.S.Store old) n none rs (are_apart (state g.S.Store old).now kept.0.good) (orders kept)
     (subst (λ (rs : List Reader). Counts n rs m it (tables_in g.S.Store old)) (sym c.as_slice.ensures.value) (c.in_ok-counted.ensures.value (row kept) (k.fair clean))))
     (makes_peeked g.S.Store _ _ _ _ (changing_row n none rs m it) old c.count.new.conn c.make_with.new.conn c.in_ok-counted.counted _ c.in_ok-counted.ensures.peeks k)
@@ -77,7 +77,7 @@ returns-clause-makes g c =
     let none = c.is_unordered.result in
     let row = at_row g.S.Store c.args.known c.row_known-row.result m it old c.row_known-row.ensures in
     let orders = at_orders g.S.Store c.args.known none m it old c.is_unordered.ensures in
-    makes_named g.S.Store (IsKnown (row_known c.args.known) m it.author it.game (tables_in g.S.Store old).seats × IsUnordered (is_unordered c.args.known) m it.author it.game (tables_in g.S.Store old).pending) (Unit {0}) Error MakeFault (changing_row n none rs m it) (changing m it) old c.make_with.new.conn (Err c.in-Err.error) _ tt
+    makes_named g.S.Store (IsKnown (row_known c.args.known) m it.author it.game (tables_in g.S.Store old).seats × IsUnordered (is_unordered c.args.known) m it.author it.game (tables_in g.S.Store old).pending) (Unit {0}) Error RowFault (changing_row n none rs m it) (changing m it) old c.make_with.new.conn (Err c.in-Err.error) _ tt
     (λ kept clean. counted_change m (c.readers_are_seats.ensures m) (c.press_is_delivered_one_by_one.ensures m) it (tables_in g.S.Store old) n none rs (are_apart (state g.S.Store old).now kept.0.good) (orders kept)
     (subst (λ (rs : List Reader). Counts n rs m it (tables_in g.S.Store old)) (sym c.as_slice.ensures.value) (c.in_ok-counted.ensures.value (row kept) (k.fair clean))))
     (makes_peeked g.S.Store _ _ _ _ (changing_row n none rs m it) old c.count.new.conn c.make_with.new.conn c.in_ok-counted.counted _ c.in_ok-counted.ensures.peeks k)
@@ -103,11 +103,11 @@ returns-clause-fails g c kept shows clean may =
     let n = c.in_ok-counted.counted.row in
     let rs = c.as_slice.result.now in
     let honest = c.in-Err.ensures.makes.fair clean in
-    let there = peeks_kept g.S.Store {X = Counted} {E = MakeFault} old mid c.in_ok-counted.counted c.in_ok-counted.ensures.peeks kept.0 honest in
-    let up = peeks_shows g.S.Store {X = Counted} {E = MakeFault} old mid c.in_ok-counted.counted c.in_ok-counted.ensures.peeks kept.0 shows honest in
+    let there = peeks_kept g.S.Store {X = Counted} {E = RowFault} old mid c.in_ok-counted.counted c.in_ok-counted.ensures.peeks kept.0 honest in
+    let up = peeks_shows g.S.Store {X = Counted} {E = RowFault} old mid c.in_ok-counted.counted c.in_ok-counted.ensures.peeks kept.0 shows honest in
     let counts = subst (λ (rs : List Reader). Counts n rs m it t) (sym c.as_slice.ensures.value) (c.in_ok-counted.ensures.value row honest) in
     let same = counted_change m (c.readers_are_seats.ensures m) (c.press_is_delivered_one_by_one.ensures m) it t n none rs (are_apart (state g.S.Store old).now kept.0.good) orders counts in
-    let late = faulted_late (state g.S.Store old) (state g.S.Store mid) (state g.S.Store c.make_with.new.conn) (peeks_counts g.S.Store {X = Counted} {E = MakeFault} old mid c.in_ok-counted.counted c.in_ok-counted.ensures.peeks) in
+    let late = faulted_late (state g.S.Store old) (state g.S.Store mid) (state g.S.Store c.make_with.new.conn) (peeks_counts g.S.Store {X = Counted} {E = RowFault} old mid c.in_ok-counted.counted c.in_ok-counted.ensures.peeks) in
     want_weaker _ _ c.in-Err.error late (c.in-Err.ensures.wants there.0 up clean (subst (λ (u : Tables). AreKeyed (changing_row n none rs m it u)) (sym there.1) (subst AreKeyed (sym same) may.keyed)))
 
 pub returns-clause-blames : goal.returns-clause-blames
@@ -115,7 +115,7 @@ returns-clause-blames g c kept shows clean ours =
     let old = c.args.conn.now in
     let mid = c.count.new.conn in
     let honest = c.in-Err.ensures.makes.fair clean in
-    let there = peeks_kept g.S.Store {X = Counted} {E = MakeFault} old mid c.in_ok-counted.counted c.in_ok-counted.ensures.peeks kept.0 honest in
-    let up = peeks_shows g.S.Store {X = Counted} {E = MakeFault} old mid c.in_ok-counted.counted c.in_ok-counted.ensures.peeks kept.0 shows honest in
-    let late = faulted_late (state g.S.Store old) (state g.S.Store mid) (state g.S.Store c.make_with.new.conn) (peeks_counts g.S.Store {X = Counted} {E = MakeFault} old mid c.in_ok-counted.counted c.in_ok-counted.ensures.peeks) in
+    let there = peeks_kept g.S.Store {X = Counted} {E = RowFault} old mid c.in_ok-counted.counted c.in_ok-counted.ensures.peeks kept.0 honest in
+    let up = peeks_shows g.S.Store {X = Counted} {E = RowFault} old mid c.in_ok-counted.counted c.in_ok-counted.ensures.peeks kept.0 shows honest in
+    let late = faulted_late (state g.S.Store old) (state g.S.Store mid) (state g.S.Store c.make_with.new.conn) (peeks_counts g.S.Store {X = Counted} {E = RowFault} old mid c.in_ok-counted.counted c.in_ok-counted.ensures.peeks) in
     blamed_weaker _ _ c.in-Err.error late (c.in-Err.ensures.blames there.0 up clean)

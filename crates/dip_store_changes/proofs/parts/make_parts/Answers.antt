@@ -1,7 +1,7 @@
 use Rattle.std.proofs.Common.{rules, List, ℕ, ap, subst, sym}
 use Rattle.dip_desk_state.specs.ChangeRows as machine
 use Rattle.dip_store_tables.specs.Tables.{Tables}
-use Rattle.dip_store_changes.specs.Noting.{noting_row}
+use Rattle.dip_store_counts.specs.Noting.{noting_row}
 use Rattle.dip_store_sql.specs.Keys.{AreKeyed}
 use Rattle.dip_store_sql.proofs.Joining.{does_and, does_as, does_fail}
 use Rattle.dip_store_changes.specs.Making.{changing_row, ordering_over, reaching_all}

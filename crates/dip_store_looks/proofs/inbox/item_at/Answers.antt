@@ -6,7 +6,7 @@ use Rattle.dip_store_sql.specs.Calls.{tables_in}
 use Rattle.dip_store_sql.specs.Showing.{is_item}
 use Rattle.dip_store_tables.specs.Reading.{item_of}
 use Rattle.dip_store_looks.specs.Shown.{shown_item}
-use Rattle.dip_store_looks.proofs.Blaming.{read_of}
+use Rattle.dip_store_sql.proofs.RowFaults.{read_of}
 use Rattle.dip_store_looks.proofs.PageLemmas.{item_shown, item_there}
 use Rattle.dip_store_looks.proofs.RowLemmas.{item_found_readable}
 use Rattle.dip_store_looks.proofs.inbox.item_at.Goals as goal

@@ -8,7 +8,7 @@ use Rattle.dip_store_sql.proofs.Selecting.{selects_as, selects_fails}
 use Rattle.dip_store_tables.specs.Counting.{counted, item_numbers}
 use Rattle.dip_store_tables.specs.Reading.{items_of}
 use Rattle.dip_store_tables.specs.Tables.{Tables}
-use Rattle.dip_store_looks.proofs.Blaming.{outside_weaker}
+use Rattle.dip_store_sql.proofs.RowFaults.{outside_weaker}
 use Rattle.dip_store_sql.proofs.Caused.{caused_weaker, faulted_late}
 use Rattle.sqlite.specs.Held.{state}
 use Rattle.dip_store_looks.proofs.Onward.{goes_on, leaves, stays}
@@ -61,5 +61,5 @@ returns-clause-own g c kept shows clean ours =
     let counts = seat_counts m (tables_in g.S.Store c.args.conn.now) name power count c.in-Some.row kept.counted row c.in_ok-count.ensures.value in
     let low = page_low c.args.most count c.saturating_sub-skipped.result c.min-many.result (rw c.saturating_sub.ensures at c.min-many.ensures) in
     let fails = rw c.power_name-name.ensures at (c.in-Err.ensures.own here.0 (seat.ok kept first) clean m (subst (AreOurs m) (sym here.1) ours) count) in
-    let late = faulted_late (state g.S.Store c.args.conn.now) (state g.S.Store c.find_seat.new.conn) (state g.S.Store c.items_behind.new.conn) seat.counts in
+    let late = faulted_late (state g.S.Store c.args.conn.now) (state g.S.Store c.find_seat.new.conn) (state g.S.Store c.items_after.new.conn) seat.counts in
     outside_weaker _ _ c.in-Err.fault late (fails (subst (λ (t : Tables). item_numbers t.boxes name power ≡ counted count) (sym here.1) counts) low)

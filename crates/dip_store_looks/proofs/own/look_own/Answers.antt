@@ -9,7 +9,7 @@ use Rattle.dip_desk_state.specs.Records.{No}
 use Rattle.dip_store_sql.specs.Showing.{show_order}
 use Rattle.dip_store_sql.specs.Rows.{tables_of}
 use Rattle.dip_store_looks.specs.Shown.{IsBeside}
-use Rattle.dip_store_looks.proofs.Blaming.{outside_weaker}
+use Rattle.dip_store_sql.proofs.RowFaults.{outside_weaker}
 use Rattle.dip_store_sql.proofs.Caused.{faulted_late}
 use Rattle.sqlite.specs.Held.{state}
 use Rattle.dip_store_looks.proofs.OwnLemmas.{idle_beside, own_is}

@@ -1,5 +1,5 @@
 use Rattle.dip_store_sql.specs.Calls.{tables_in}
-use Rattle.dip_store_looks.proofs.Blaming.{read_of}
+use Rattle.dip_store_sql.proofs.RowFaults.{read_of}
 use Rattle.dip_store_looks.proofs.RowLemmas.{ballot_found_readable}
 use Rattle.dip_store_looks.proofs.own.look_vote.Goals as goal
 

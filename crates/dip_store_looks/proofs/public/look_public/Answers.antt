@@ -6,7 +6,7 @@ use Rattle.dip_store_sql.specs.Calls.{tables_in}
 use Rattle.dip_store_sql.specs.Rows.{tables_of}
 use Rattle.dip_store_sql.specs.Showing.{show_centre, show_choice, show_unit}
 use Rattle.dip_store_tables.specs.Tables.{is_unit_in, is_centre_in, is_choice_in}
-use Rattle.dip_store_looks.proofs.Blaming.{outside_weaker, told_on}
+use Rattle.dip_store_sql.proofs.RowFaults.{outside_weaker, told_on}
 use Rattle.dip_store_sql.proofs.Caused.{faulted_late}
 use Rattle.sqlite.specs.Held.{state}
 use Rattle.dip_store_looks.proofs.BoardRows.{game_found_readable}

@@ -7,7 +7,7 @@ use Rattle.dip_store_sql.specs.Showing.{show_listed}
 use Rattle.dip_store_sql.proofs.Selecting.{selects_as, selects_fails, selects_then}
 use Rattle.dip_store_tables.specs.Tables.{Tables, is_seat_in}
 use Rattle.dip_store_looks.specs.Shown.{listed_own}
-use Rattle.dip_store_looks.proofs.Blaming.{outside_weaker}
+use Rattle.dip_store_sql.proofs.RowFaults.{outside_weaker}
 use Rattle.dip_store_sql.proofs.Caused.{caused_weaker, faulted_late}
 use Rattle.sqlite.specs.Held.{state}
 use Rattle.dip_store_looks.proofs.Onward.{goes_on, leaves, stays}

@@ -1,5 +1,5 @@
 use Rattle.dip_store_sql.specs.Calls.{tables_in}
-use Rattle.dip_store_looks.proofs.Blaming.{read_of, told_on}
+use Rattle.dip_store_sql.proofs.RowFaults.{read_of, told_on}
 use Rattle.dip_store_looks.proofs.RowLemmas.{orders_readable}
 use Rattle.dip_store_looks.proofs.whole.own_of.Goals as goal
 

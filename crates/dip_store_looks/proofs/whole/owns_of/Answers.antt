@@ -7,7 +7,7 @@ use Rattle.dip_store_sql.specs.Calls.{tables_in}
 use Rattle.dip_store_sql.proofs.Parts.{taken_more}
 use Rattle.dip_store_tables.specs.Tables.{Tables}
 use Rattle.dip_store_looks.specs.Shown.{listed_own}
-use Rattle.dip_store_looks.specs.declared.faults.LookFault.{LookFault}
+use Rattle.dip_store_sql.specs.declared.row_faults.RowFault.{RowFault}
 use Rattle.dip_store_looks.proofs.Onward.{leaves, turns_on}
 use Rattle.dip_store_looks.proofs.whole.owns_of.Goals as goal
 
@@ -29,9 +29,9 @@ loop-seat-preserved g c =
           ∙ sym (taken_more (listed_own c.args.map.now t c.args.game.now) c.args.seats.now c.loop-seat.seat-index _ (omega arith));
       same = λ kept clean.
           let before = so_far.same kept (p.fair clean) in
-          let on = leaves g.S.Store {X = Own} {E = LookFault} _ _ own p before.0 clean in
+          let on = leaves g.S.Store {X = Own} {E = RowFault} _ _ own p before.0 clean in
           (on.0, on.1 ∙ before.1);
       shows = λ kept shows clean. p.ok (so_far.same kept (p.fair clean)).0 clean;
-      selects = turns_on g.S.Store {X = Unit {0}} {E = Error} {Y = Own} {F = LookFault} _ _ _ tt own so_far.selects p;
+      selects = turns_on g.S.Store {X = Unit {0}} {E = Error} {Y = Own} {F = RowFault} _ _ _ tt own so_far.selects p;
       counts = omega (arith, so_far.counts, p.counts);
     }

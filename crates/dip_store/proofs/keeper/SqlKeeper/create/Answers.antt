@@ -3,9 +3,11 @@ use Rattle.sha2.specs.Sha256.{sha256}
 use Rattle.sqlite.specs.Held.{Held, state}
 use Rattle.dip_store_sql.specs.Calls.{does_show}
 use Rattle.dip_store_sql.specs.Causes.{has_faulted}
+use Rattle.dip_store_sql.specs.Rows.{tables_of}
+use Rattle.dip_store_schema.specs.Desk.{DeskSays}
 use Rattle.dip_store_schema.specs.Founding.{Founds, IsNewStore}
 use Rattle.dip_store_tables.specs.Writing.{new_tables}
-use Rattle.dip_store.proofs.Opened.{opens_new}
+use Rattle.dip_store.proofs.Opened.{new_desk_says, opens_new}
 use Rattle.dip_store_schema.proofs.Refused.{open_blamed}
 use Rattle.dip_store.proofs.keeper.SqlKeeper.create.Goals as goal
 
@@ -20,6 +22,15 @@ returns-in-Ok g c = record {
       (λ clean. opens_new g.S.Store c.args.map.now c.args.alloc c.set_up_tables.new.conn c.commits_last.ensures _ c.args.digest.now c.facts.ensures (c.new_tables_are_new.ensures c.args.map.now) c.new_tables_are_legible.ensures c.has_32.ensures
       (c.in-Ok.ensures.kept new clean) (c.in-Ok.ensures.ok clean));
   told = search rules;
+  made =
+      let new : IsNewStore g.S.Store c.set_step_limit.new.self = record {
+        empty = c.knows_none.ensures.value.0 c.if-not-knows_none.false;
+        unlimited = rw c.set_step_limit.ensures refl;
+      } in
+      let sum : c.sum.result ≡ sha256 c.args.map_text.now = search rules in
+      rw c.over.ensures
+      (λ clean. subst (λ (s : List ℕ). DeskSays 2 s (tables_of (state g.S.Store c.set_up_tables.new.conn).now.trees)) sum
+      (subst (DeskSays 2 c.sum.result) (sym (c.in-Ok.ensures.kept new clean).tables) (new_desk_says c.sum.result c.args.digest.now)));
   empty = search rules;
   taken = search rules;
   refused = search rules;
@@ -40,6 +51,7 @@ pub returns-in-Err : goal.returns-in-Err
 returns-in-Err g c = record {
   opened = search rules;
   told = search rules;
+  made = search rules;
   empty = search rules;
   taken = search rules;
   refused = search rules;

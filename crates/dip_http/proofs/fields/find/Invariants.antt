@@ -1,8 +1,0 @@
-use Rattle.std.proofs.Common.{◌≡◌, map, take}
-use Rattle.httparse.specs.Spans.{header_bytes}
-use Rattle.dip_http.specs.Fields.{field_of}
-use Rattle.dip_http.specs.HeadViews.{found_view}
-use Rattle.dip_http.proofs.fields.find.Given as goal
-
-abbrev pub invariant-fields : goal.invariant-fields
-invariant-fields l = found_view l.found ≡ field_of l.name (map (header_bytes l.buf) (take l.header-index l.headers))

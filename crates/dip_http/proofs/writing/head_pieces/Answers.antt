@@ -1,5 +1,0 @@
-use Rattle.std.proofs.Common.{append_assoc, refl}
-use Rattle.dip_http.proofs.writing.head_pieces.Goals as goal
-
-pub returns : goal.returns
-returns c = rw (append_assoc c.args.allow.0.now) refl

@@ -1,0 +1,14 @@
+pub mod FieldLemmas
+pub mod HeadLemmas
+pub mod HeadNumbers
+pub mod TargetLemmas
+pub mod FoundLemmas
+pub mod PlaceLemmas
+pub mod SeekLemmas
+pub mod SlashLemmas
+pub mod TableLemmas
+pub mod WalkLemmas
+pub mod TextLemmas
+pub mod RefusalNumbers
+pub mod WriteLemmas
+pub mod TextNumbers

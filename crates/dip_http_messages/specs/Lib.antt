@@ -1,0 +1,15 @@
+pub mod Fields
+pub mod Sizes
+pub mod Targets
+pub mod Heads
+pub mod Fronts
+pub mod HeadViews
+pub mod Taken
+pub mod Places
+pub mod Numbers
+pub mod Table
+pub mod Texts
+pub mod Values
+pub mod Answers
+pub mod Verdicts
+pub mod AnswerViews

@@ -1,0 +1,59 @@
+-- From what a file held to what its store says after a command.
+use Rattle.std.proofs.Common.{◌≡◌, Err, IfErr, IfSome, List, OnOk, Ok, Option, Result, Some, subst, sym, ℕ}
+use Rattle.sqlite_disk.specs.declared.Disk as disk
+use Rattle.sqlite.specs.Store.{Ghosts}
+use Rattle.sqlite.specs.declared.FileStore.{FileStore}
+use Rattle.sqlite.specs.Effect.{Database}
+use Rattle.sqlite.specs.Files.{AreFoundIn, IsOpened, file_state, over_files}
+use Rattle.sqlite.specs.Held.{Held}
+use Rattle.sqlite.specs.Recovery.{Image}
+use Rattle.sqlite.specs.Start.{FindsIn}
+use Rattle.sqlite.specs.State.{HasCleanDisk}
+use Rattle.dip_map.specs.Charts.{Chart}
+use Rattle.dip_desk_state.specs.State.{State}
+use Rattle.dip_store.specs.Calls.{is_honest}
+use Rattle.dip_store.specs.Opening.{IsDesk, IsNowOf}
+use Rattle.dip_judge_words.specs.declared.args.Args.{Args}
+use Rattle.dip_judge_commands.specs.Files.{FromHeld, HeldDesk, IsFoundIn, LeavesStore, StopsStore, WasOpened}
+use Rattle.dip_judge_commands.specs.declared.failures.Failure.{Failure}
+
+module _ {D : Type 0} {g : disk.Ghosts D} (image : Image) (m : Chart) (first : Held (FileStore D g)) (opened : HasCleanDisk (file_state first) → IsOpened first)
+    (found : HasCleanDisk (file_state first) → FindsIn image (file_state first)) where
+  -- what was opened was found in the file
+  is_found : HasCleanDisk (file_state first) → IsFoundIn image (file_state first).now
+  is_found clean =
+      let it = opened clean in
+      ((it.1 it.0.is_open).0, subst (λ (d : Database). AreFoundIn image d.trees) (sym it.0.clean) (found clean).reads)
+
+  pub found_there : HasCleanDisk (file_state first) → (db : Database) → IsNowOf over_files first db → IsFoundIn image db
+  found_there clean db is = subst (IsFoundIn image) (sym is) (is_found clean)
+
+  -- it is the desk that the file held
+  is_held : HasCleanDisk (file_state first) → (s : State) → HeldDesk image m s → IsDesk over_files m s first
+  is_held clean s held =
+      let it = opened clean in
+      record { shows = (clean, it.0.is_open); idle = it.0.autocommit; says = held (file_state first).now (is_found clean) }
+
+  module _ (last : Held (FileStore D g)) (fair : is_honest over_files last → HasCleanDisk (file_state first)) where
+    from_held : (P : State → Held (FileStore D g) → Type 0) → (is_honest over_files last → (s : State) → IsDesk over_files m s first → P s last) → FromHeld over_files image m P last
+    from_held P does clean s held = does clean s (is_held (fair clean) s held)
+
+    pub ok_held : {A E : Type 0} (r : Result A E) (P : State → Held (FileStore D g) → Type 0)
+        → (is_honest over_files last → (s : State) → IsDesk over_files m s first → OnOk r (P s last))
+        → OnOk r (WasOpened (Some last) (FromHeld over_files image m P))
+    ok_held (Ok x) P does = from_held P does
+    ok_held (Err e) P does = tt
+
+    pub err_held : {A E : Type 0} (r : Result A E) (P : E → State → Held (FileStore D g) → Type 0)
+        → (is_honest over_files last → (s : State) → IsDesk over_files m s first → IfErr r (λ e. P e s last))
+        → IfErr r (λ e. FromHeld over_files image m (P e) last)
+    err_held (Ok x) P does = tt
+    err_held (Err e) P does = from_held (P e) does
+
+module _ {S : Type 0} (g : Ghosts S) (image : Image) (m : Chart) (known left before after : Option (List ℕ)) (a b : Args) (is : a ≡ b) (opened : Option (Held S)) (r : Result (Unit {0}) Failure) where
+  -- what is asked for, by another name
+  pub leaves_as : OnOk r (LeavesStore g image m known left before after b opened) → OnOk r (LeavesStore g image m known left before after a opened)
+  leaves_as leaves = subst (λ a. OnOk r (LeavesStore g image m known left before after a opened)) (sym is) leaves
+
+  pub stops_as : IfErr r (λ f. IfSome opened (StopsStore g image m known left before after b f)) → IfErr r (λ f. IfSome opened (StopsStore g image m known left before after a f))
+  stops_as stops = subst (λ a. IfErr r (λ f. IfSome opened (StopsStore g image m known left before after a f))) (sym is) stops

@@ -1,0 +1,31 @@
+use Rattle.std.proofs.lemmas.Result.{IfErr-weaker}
+use Rattle.sqlite.specs.Files.{over_files}
+use Rattle.sqlite.specs.WalFiles.{image_at}
+use Rattle.dip_store.specs.Causes.{has_faulted}
+use Rattle.dip_store.specs.Opening.{IsNowOf}
+use Rattle.dip_judge_commands.specs.Files.{HasFaults, IsFoundIn}
+use Rattle.dip_judge_commands.specs.Stores.{AnswersFrom, StopsFrom}
+use Rattle.dip_judge_commands.proofs.FileLemmas.{err_held, found_there, ok_held}
+use Rattle.dip_judge_commands.proofs.StoredLemmas.{some_fault, stops_as_of}
+use Rattle.dip_judge_commands.proofs.asked.answer_file.Goals as goal
+
+pub returns-in-Ok-clause-done : goal.returns-in-Ok-clause-done
+returns-in-Ok-clause-done g c =
+    let call = c.answer_stored-answered in
+    ok_held (image_at g.S.Start) c.args.map.now c.in-Ok.store c.in-Ok.ensures.opened c.in-Ok.ensures.found call.result.1 call.ensures.fair call.result.0
+    (λ s new. AnswersFrom over_files c.args.map.now s new (g.R.Read.remaining c.args.reader.now) (g.R.Read.remaining call.new.reader) (g.W.Write.contents c.args.writer.now) (g.W.Write.contents call.new.writer))
+    (λ clean s desk. call.ensures.done clean s desk.says)
+
+pub returns-in-Ok-clause-stops : goal.returns-in-Ok-clause-stops
+returns-in-Ok-clause-stops g c =
+    let call = c.answer_stored-answered in
+    let image = image_at g.S.Start in
+    let m = c.args.map.now in
+    let first = c.in-Ok.store in
+    let last = call.result.1 in
+    err_held image m first c.in-Ok.ensures.opened c.in-Ok.ensures.found last call.ensures.fair call.result.0
+    (λ f s new. StopsFrom over_files m (HasFaults over_files new) (IsFoundIn image) s new (g.R.Read.remaining c.args.reader.now) (g.R.Read.remaining call.new.reader) (g.W.Write.contents c.args.writer.now) (g.W.Write.contents call.new.writer) f)
+    (λ clean s desk. IfErr-weaker call.result.0 _ _
+    (stops_as_of over_files m (has_faulted over_files first last) (HasFaults over_files last) (some_fault over_files first last) (IsNowOf over_files first) (IsFoundIn image)
+    (found_there image m first c.in-Ok.ensures.opened c.in-Ok.ensures.found (call.ensures.fair clean)) s last _ _ _ _)
+    (call.ensures.stops clean s desk))

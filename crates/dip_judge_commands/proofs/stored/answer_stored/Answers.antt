@@ -1,0 +1,37 @@
+use Rattle.std.specs.Prelude.{refl}
+use Rattle.dip_judge_commands.proofs.StoredLemmas.{answers_from, is_open, shut_by, stops_from}
+use Rattle.dip_store.specs.Opening.{IsNowOf}
+use Rattle.dip_judge_commands.proofs.stored.answer_stored.Goals as goal
+
+pub returns-in-Ok-run_file-clause-done : goal.returns-in-Ok-run_file-clause-done
+returns-in-Ok-run_file-clause-done g c =
+    let m = c.args.map.now in
+    let k = c.in-Ok.keeper in
+    rw c.into_store.ensures
+    (λ clean s says.
+    let opened = c.in-Ok.ensures.opened (c.run_file.ensures.fair clean) s says in
+    let run = c.in-Ok-run_file.ensures.answers (is_open g.S.Store m s k opened) clean in
+    answers_from g.S.Store m s k c.run_file.new.keeper _ _ _ _ opened run.1 run.0)
+
+pub returns-in-Err-run_file-clause-stops : goal.returns-in-Err-run_file-clause-stops
+returns-in-Err-run_file-clause-stops g c =
+    let m = c.args.map.now in
+    let k = c.in-Ok.keeper in
+    rw c.into_store-in-Err-run_file.ensures
+    (λ clean s desk.
+    let opened = c.in-Ok.ensures.opened (c.run_file.ensures.fair clean) s desk.says in
+    stops_from g.S.Store m s k c.run_file.new.keeper _ _ _ _ opened (IsNowOf g.S.Store c.args.store) c.args.store c.in-Ok.ensures.counted c.in-Err-run_file.fault
+    (c.in-Err-run_file.ensures.ends (is_open g.S.Store m s k opened) clean))
+
+pub returns-in-Err-clause-stops : goal.returns-in-Err-clause-stops
+returns-in-Err-clause-stops g c = λ honest s desk. ((refl, refl), c.in-Err.ensures.ends honest s desk)
+
+pub returns-in-Ok-run_file-clause-tells : goal.returns-in-Ok-run_file-clause-tells
+returns-in-Ok-run_file-clause-tells g c = rw c.into_store.ensures (λ clean. c.in-Ok.ensures.made (c.run_file.ensures.fair clean))
+
+pub returns-in-Err-run_file-clause-tells : goal.returns-in-Err-run_file-clause-tells
+returns-in-Err-run_file-clause-tells g c =
+    rw c.into_store-in-Err-run_file.ensures (λ clean. c.in-Ok.ensures.made (c.run_file.ensures.fair clean))
+
+pub returns-in-Err-clause-tells : goal.returns-in-Err-clause-tells
+returns-in-Err-clause-tells g c = shut_by g.S.Store c.args.map.now c.args.text.now c.args.store _ _ c.in-Err.ensures

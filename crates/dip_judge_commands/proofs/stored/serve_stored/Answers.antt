@@ -1,0 +1,53 @@
+use Rattle.dip_judge_commands.proofs.StoredLemmas.{ends_still, holds, is_open, serves_from, serves_up_to, shut_by}
+use Rattle.dip_judge_commands.proofs.stored.serve_stored.Goals as goal
+
+pub returns-in-Ok-serve_all-clause-done : goal.returns-in-Ok-serve_all-clause-done
+returns-in-Ok-serve_all-clause-done g c =
+    let m = c.args.map.now in
+    let k = c.in-Ok.keeper in
+    rw c.into_store-in-Ok-serve_all.ensures
+    (λ clean s says.
+    let opened = c.in-Ok.ensures.opened (c.serve_all.ensures.fair clean) s says in
+    serves_from g.S.Store m c.args.store c.args.count s k c.serve_all.new.keeper opened c.in-Ok.ensures.counted
+    (c.in-Ok-serve_all.ensures.goes (is_open g.S.Store m s k opened) clean))
+
+pub returns-clause-stops : goal.returns-clause-stops
+returns-clause-stops g c =
+    let m = c.args.map.now in
+    let k = c.in-Ok.keeper in
+    rw c.into_store-in-Err-serve_all.ensures
+    (λ clean s desk.
+    let opened = c.in-Ok.ensures.opened (c.serve_all.ensures.fair clean) s desk.says in
+    serves_up_to g.S.Store m c.args.store c.args.count s k c.serve_all.new.keeper opened c.in-Ok.ensures.counted
+    (c.serve_all.ensures.ends (is_open g.S.Store m s k opened) clean))
+
+pub returns-in-Err-listen_on-clause-stops : goal.returns-in-Err-listen_on-clause-stops
+returns-in-Err-listen_on-clause-stops g c =
+    let m = c.args.map.now in
+    let k = c.in-Ok.keeper in
+    rw c.into_store-in-Err-listen_on.ensures
+    (λ clean s desk. ends_still g.S.Store m _ _ k.conn _ (holds g.S.Store m s k (c.in-Ok.ensures.opened clean s desk.says)))
+
+pub returns-in_default-clause-stops : goal.returns-in_default-clause-stops
+returns-in_default-clause-stops g c =
+    let m = c.args.map.now in
+    let k = c.in-Ok.keeper in
+    rw c.into_store.ensures
+    (λ clean s desk. ends_still g.S.Store m _ _ k.conn _ (holds g.S.Store m s k (c.in-Ok.ensures.opened clean s desk.says)))
+
+pub returns-in-Ok-serve_all-clause-tells : goal.returns-in-Ok-serve_all-clause-tells
+returns-in-Ok-serve_all-clause-tells g c =
+    rw c.into_store-in-Ok-serve_all.ensures (λ clean. c.in-Ok.ensures.made (c.serve_all.ensures.fair clean))
+
+pub returns-clause-tells : goal.returns-clause-tells
+returns-clause-tells g c =
+    rw c.into_store-in-Err-serve_all.ensures (λ clean. c.in-Ok.ensures.made (c.serve_all.ensures.fair clean))
+
+pub returns-in-Err-listen_on-clause-tells : goal.returns-in-Err-listen_on-clause-tells
+returns-in-Err-listen_on-clause-tells g c = rw c.into_store-in-Err-listen_on.ensures c.in-Ok.ensures.made
+
+pub returns-in_default-clause-tells : goal.returns-in_default-clause-tells
+returns-in_default-clause-tells g c = rw c.into_store.ensures c.in-Ok.ensures.made
+
+pub returns-in-Err-clause-tells : goal.returns-in-Err-clause-tells
+returns-in-Err-clause-tells g c = shut_by g.S.Store c.args.map.now c.args.text.now c.args.store _ _ c.in-Err.ensures

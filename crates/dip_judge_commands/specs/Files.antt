@@ -1,0 +1,96 @@
+-- What a command leaves of the store in a file, from what the file held on.
+use Rattle.std.specs.Prelude.{◌≡◌, ◌≤◌, ℕ, List, Option, None, Some}
+use Rattle.sqlite.specs.Effect.{Database, IsDatabase}
+use Rattle.sqlite.specs.Files.{AreFoundIn, HoldsDatabase}
+use Rattle.sqlite.specs.Held.{Held, state}
+use Rattle.sqlite.specs.Recovery.{Image}
+use Rattle.sqlite.specs.Store.{Ghosts}
+use Rattle.sqlite.specs.Tree.{Trees}
+use Rattle.dip_map.specs.Charts.{Chart}
+use Rattle.dip_judge_words.specs.declared.args.Args.{Args}
+use Rattle.dip_judge_words.specs.declared.args.Args.TheVariants.{Init, Letters, Stored, Serve, Report, Check, Explain, Version}
+use Rattle.dip_desk_state.specs.State.{State}
+use Rattle.dip_store.specs.Calls.{does_show, is_honest}
+use Rattle.dip_store.specs.Opening.{Holds, Says}
+use Rattle.dip_judge_runs.specs.Fresh.{fresh_desk}
+use Rattle.dip_judge_commands.specs.Stores.{AnswersFrom, Reports, ServesFrom, StopsFrom, StopsReport, StopsServing}
+use Rattle.dip_judge_commands.specs.declared.failures.Failure.{Failure}
+
+-- the database is found in the file
+abbrev pub IsFoundIn : Image → Database → Type 0
+IsFoundIn image db = IsDatabase db × AreFoundIn image db.trees
+
+-- the file held a desk of this state by the map: whatever database is found in it says this state
+abbrev pub HeldDesk : Image → Chart → State → Type 0
+HeldDesk image m s = (db : Database) → IsFoundIn image db → Says m s db
+
+-- a store was opened, and this is so of it as it is handed back
+abbrev pub WasOpened : {H : Type 0} → Option H → (H → Type 0) → Type 0
+WasOpened None P = ⊥
+WasOpened (Some store) P = P store
+
+-- while the disk returns what was written: from the state that the file held to what the store has
+abbrev pub FromHeld : {S : Type 0} → Ghosts S → Image → Chart → (State → Held S → Type 0) → Held S
+    → Type 0
+FromHeld g image m P store = is_honest g store → (s : State) → HeldDesk image m s → P s store
+
+-- the store told of a fault of the disk
+abbrev pub HasFaults : {S : Type 0} → Ghosts S → Held S → Type 0
+HasFaults g store = 1 ≤ (state g store).faults
+
+-- a new desk is there, whose master has this secret; or what was committed is as the file held it
+abbrev pub MadeIn : {S : Type 0} → Ghosts S → Chart → List ℕ → Held S → Type 0
+MadeIn g m master store = is_honest g store → Holds g m (fresh_desk master) store
+
+abbrev pub UnmadeIn : {S : Type 0} → Ghosts S → Image → Held S → Type 0
+UnmadeIn g image store = does_show g store → (db : Trees) → HoldsDatabase image db → (state g store).committed.trees ≡ db
+
+module _ {S : Type 0} (g : Ghosts S) (image : Image) (m : Chart) (known left before after : Option (List ℕ)) where
+  -- letters were answered, all or up to a failure
+  abbrev pub AnswersIn : Held S → Type 0
+  AnswersIn = FromHeld g image m (λ s new. AnswersFrom g m s new known left before after)
+
+  abbrev pub AnswersUpTo : Failure → Held S → Type 0
+  AnswersUpTo failure = FromHeld g image m (λ s new.
+      StopsFrom g m (HasFaults g new) (IsFoundIn image) s new known left before after failure)
+
+module _ {S : Type 0} (g : Ghosts S) (image : Image) (m : Chart) where
+  -- clients were served, so many or up to a failure
+  abbrev pub ServesIn : ℕ → Held S → Type 0
+  ServesIn count = FromHeld g image m (λ s new. ServesFrom g m (HasFaults g new) count s new)
+
+  abbrev pub StopsServingIn : ℕ → Failure → Held S → Type 0
+  StopsServingIn count failure = FromHeld g image m (λ s new.
+      StopsServing g m (HasFaults g new) (IsFoundIn image) count s new failure)
+
+  -- a game's papers were written, and nothing changed; or they were not all written
+  abbrev pub ReportsIn : List ℕ → Option (List ℕ) → Option (List ℕ) → Held S → Type 0
+  ReportsIn game before after =
+      FromHeld g image m (λ s new. Reports game s before after × Holds g m s new)
+
+  abbrev pub StopsReportIn : List ℕ → Option (List ℕ) → Option (List ℕ) → Failure → Held S → Type 0
+  StopsReportIn game before after failure = FromHeld g image m (λ s new.
+      StopsReport g m (HasFaults g new) (IsFoundIn image) game s new before after failure)
+
+module _ {S : Type 0} (g : Ghosts S) (image : Image) (m : Chart) (known left before after : Option (List ℕ)) where
+  -- what a command that went well leaves of the store that it opened; over tables in memory, and of the version, there is none
+  abbrev pub LeavesStore : Args → Option (Held S) → Type 0
+  LeavesStore (Init path master file) opened = WasOpened opened (MadeIn g m master.now)
+  LeavesStore (Letters master file) opened = Unit {0}
+  LeavesStore (Stored path file) opened = WasOpened opened (AnswersIn g image m known left before after)
+  LeavesStore (Serve path port count file) opened = WasOpened opened (ServesIn g image m count)
+  LeavesStore (Report path game file) opened = WasOpened opened (ReportsIn g image m game.now before after)
+  LeavesStore (Check file) opened = Unit {0}
+  LeavesStore (Explain paper file) opened = Unit {0}
+  LeavesStore Version opened = Unit {0}
+
+  -- and one that ended early of the store that it had opened
+  abbrev pub StopsStore : Args → Failure → Held S → Type 0
+  StopsStore (Init path master file) failure = UnmadeIn g image
+  StopsStore (Letters master file) failure = λ store. Unit {0}
+  StopsStore (Stored path file) failure = AnswersUpTo g image m known left before after failure
+  StopsStore (Serve path port count file) failure = StopsServingIn g image m count failure
+  StopsStore (Report path game file) failure = StopsReportIn g image m game.now before after failure
+  StopsStore (Check file) failure = λ store. Unit {0}
+  StopsStore (Explain paper file) failure = λ store. Unit {0}
+  StopsStore Version failure = λ store. Unit {0}

@@ -1,0 +1,235 @@
+//! What the program does with its words: over any files, input and output.
+ghost use Rattle.std.specs.Prelude.{map as each, IfErr, IfSome, OnOk};
+ghost use Rattle.sqlite.specs.Files.{over_files};
+ghost use Rattle.sqlite.specs.WalFiles.{image_at};
+ghost use Rattle.dip_judge_commands.specs.Asked.{Fails, IsAskedFor, IsDone, IsFailed, IsInitFailure, Streams};
+ghost use Rattle.dip_judge_commands.specs.Files.{AnswersIn, AnswersUpTo, LeavesStore, MadeIn, ReportsIn, ServesIn, StopsReportIn, StopsServingIn, StopsStore, UnmadeIn, WasOpened};
+ghost use Rattle.dip_judge_commands.specs.Stores.{IsReportFailure, IsServeFailure, ReadsUpTo};
+ghost use Rattle.dip_judge_runs.specs.Runs.{IsReadToEnd};
+
+use crate::checking::{check, explain};
+use crate::failures::Failure;
+use crate::files::{Stored, close_file, open_new, open_present};
+use crate::stored::{answer_stored, make_desk, report_stored, serve_stored};
+use crate::version::write_version;
+use dip_judge_runs::{answer_letters, read_map, text_said};
+use dip_judge_words::{Args, read_args};
+use dip_map::{Map, STANDARD};
+use sqlite::Start;
+use std::io::{Read, Write};
+
+/// Makes a desk in the store of a file, which is handed back where it was opened.
+fn init_file<S: Start>(
+    rt: &HostRuntime,
+    start: S,
+    path: &str,
+    map: &Map,
+    text: &str,
+    master: &str,
+) -> (Result<(), Failure>, Option<Stored<S>>)
+    ensures made { OnOk result.0
+        (WasOpened result.1 (MadeIn over_files map.now master.now)) }
+    ensures unmade { IfErr result.0
+        (λ _. IfSome result.1 (UnmadeIn over_files (image_at S.Start))) }
+    ensures failed { IfErr result.0 IsInitFailure }
+{
+    match open_new(rt, start, path) {
+        Err(fault) => (Err(Failure::Store(fault)), None),
+        Ok(store) => match make_desk(rt.alloc(), store, map, text, master) {
+            (Ok(()), store) => (Ok(()), Some(store)),
+            (Err(fault), store) => (Err(Failure::Store(fault)), Some(store)),
+        },
+    }
+}
+
+/// Answers the letters of a reader from the desk of a file on. The store is handed back where it was opened.
+fn answer_file<S: Start, R: Read, W: Write>(
+    rt: &HostRuntime,
+    start: S,
+    path: &str,
+    map: &Map,
+    text: &str,
+    reader: &mut R,
+    writer: &mut W,
+) -> (Result<(), Failure>, Option<Stored<S>>)
+    ensures done { OnOk result.0 (WasOpened result.1 (AnswersIn over_files (image_at S.Start)
+        map.now (R.remaining reader.old) (R.remaining reader.new) (W.contents writer.old)
+        (W.contents writer.new))) }
+    ensures stops { IfErr result.0 (λ f. IfSome result.1
+        (AnswersUpTo over_files (image_at S.Start) map.now (R.remaining reader.old)
+        (R.remaining reader.new) (W.contents writer.old) (W.contents writer.new) f)) }
+    ensures read { OnOk result.0 (IsReadToEnd (R.remaining reader.old) (R.remaining reader.new)) }
+    ensures failed { IfErr result.0
+        (ReadsUpTo (R.remaining reader.old) (R.remaining reader.new) (W.contents writer.old)
+        (W.contents writer.new)) }
+{
+    match open_present(rt, start, path) {
+        Err(fault) => (Err(Failure::Store(fault)), None),
+        Ok(store) => {
+            let (answered, store) = answer_stored(rt.alloc(), store, map, text, reader, writer);
+            (answered, Some(store))
+        }
+    }
+}
+
+/// Serves so many clients on a port from the desk of a file on. The store is handed back where it was opened.
+fn serve_file<S: Start>(
+    rt: &HostRuntime,
+    start: S,
+    path: &str,
+    map: &Map,
+    text: &str,
+    port: u16,
+    count: u32,
+) -> (Result<(), Failure>, Option<Stored<S>>)
+    ensures done { OnOk result.0
+        (WasOpened result.1 (ServesIn over_files (image_at S.Start) map.now count)) }
+    ensures stops { IfErr result.0 (λ f. IfSome result.1
+        (StopsServingIn over_files (image_at S.Start) map.now count f)) }
+    ensures failed { IfErr result.0 IsServeFailure }
+{
+    match open_present(rt, start, path) {
+        Err(fault) => (Err(Failure::Store(fault)), None),
+        Ok(store) => {
+            let (served, store) = serve_stored(rt, store, map, text, port, count);
+            (served, Some(store))
+        }
+    }
+}
+
+/// Writes all papers of a game of the desk of a file. The store is handed back where it was opened.
+fn report_file<S: Start, W: Write>(
+    rt: &HostRuntime,
+    start: S,
+    path: &str,
+    map: &Map,
+    text: &str,
+    game: &str,
+    writer: &mut W,
+) -> (Result<(), Failure>, Option<Stored<S>>)
+    ensures done { OnOk result.0 (WasOpened result.1 (ReportsIn over_files (image_at S.Start)
+        map.now game.now (W.contents writer.old) (W.contents writer.new))) }
+    ensures stops { IfErr result.0 (λ f. IfSome result.1
+        (StopsReportIn over_files (image_at S.Start) map.now game.now (W.contents writer.old)
+        (W.contents writer.new) f)) }
+    ensures failed { IfErr result.0 IsReportFailure }
+{
+    match open_present(rt, start, path) {
+        Err(fault) => (Err(Failure::Store(fault)), None),
+        Ok(store) => {
+            let (reported, store) = report_stored(rt.alloc(), store, map, text, game, writer);
+            (reported, Some(store))
+        }
+    }
+}
+
+/// Does what is asked for, over a map of which this is the text.
+fn do_asked<S: Start, R: Read, W: Write>(
+    rt: &HostRuntime,
+    start: S,
+    args: &Args<'_>,
+    map: &Map,
+    text: &str,
+    reader: &mut R,
+    writer: &mut W,
+) -> (Result<(), Failure>, Option<Stored<S>>)
+    ensures done { OnOk result.0 (Streams map.now (R.remaining reader.old) (R.remaining reader.new)
+        (W.contents writer.old) (W.contents writer.new) args.now) }
+    ensures failed { IfErr result.0 (Fails map.now (R.remaining reader.old)
+        (R.remaining reader.new) (W.contents writer.old) (W.contents writer.new) args.now) }
+    ensures leaves { OnOk result.0 (LeavesStore over_files (image_at S.Start) map.now
+        (R.remaining reader.old) (R.remaining reader.new) (W.contents writer.old)
+        (W.contents writer.new) args.now result.1) }
+    ensures stops { IfErr result.0 (λ f. IfSome result.1 (StopsStore over_files (image_at S.Start)
+        map.now (R.remaining reader.old) (R.remaining reader.new) (W.contents writer.old)
+        (W.contents writer.new) args.now f)) }
+{
+    match args {
+        Args::Init { store, master, .. } => init_file(rt, start, store, map, text, master),
+        Args::Letters { master, .. } => {
+            match answer_letters(rt.alloc(), reader, writer, master, map) {
+                Ok(()) => (Ok(()), None),
+                Err(fault) => (Err(Failure::Run(fault)), None),
+            }
+        }
+        Args::Stored { store, .. } => answer_file(rt, start, store, map, text, reader, writer),
+        Args::Serve {
+            store,
+            port,
+            count,
+            ..
+        } => serve_file(rt, start, store, map, text, *port, *count),
+        Args::Report { store, game, .. } => {
+            report_file(rt, start, store, map, text, game, writer)
+        }
+        Args::Check { .. } => (check(rt.alloc(), reader, writer, map), None),
+        Args::Explain { paper, .. } => (explain(rt.alloc(), reader, writer, map, *paper), None),
+        Args::Version => (write_version(writer), None),
+    }
+}
+
+/// Does what the words ask for, the program's own name being the first of them, over the map of the file that is named, or the standard
+/// map: makes a desk in a store; answers the letters of the reader, from a fresh desk on in memory or from a store's desk on; serves
+/// clients; writes a game's papers; checks the papers that the reader has, or explains one; or writes what the program is. A store lies in the file that is named, of which `start` says what it holds at first. It is
+/// handed back where it was opened.
+///
+/// # Errors
+/// The first that is found of: what is wrong with the words, with the map's file, with the map; and nothing is read or written.
+/// Else what is wrong with the store, the port, the game, the input or the output.
+pub fn do_as_asked<S: Start, R: Read, W: Write>(
+    rt: &HostRuntime,
+    start: S,
+    words: &[&str],
+    reader: &mut R,
+    writer: &mut W,
+) -> (Result<(), Failure>, Option<Stored<S>>)
+    ensures done { OnOk result.0 (IsDone STANDARD.now (each (λ w. w.now) words.entry.now)
+        (R.remaining reader.old) (R.remaining reader.new) (W.contents writer.old)
+        (W.contents writer.new)) }
+    ensures failed { IfErr result.0 (IsFailed STANDARD.now (each (λ w. w.now) words.entry.now)
+        (R.remaining reader.old) (R.remaining reader.new) (W.contents writer.old)
+        (W.contents writer.new)) }
+    ensures leaves { OnOk result.0 (IsAskedFor STANDARD.now (each (λ w. w.now) words.entry.now)
+        (λ a m. LeavesStore over_files (image_at S.Start) m (R.remaining reader.old)
+        (R.remaining reader.new) (W.contents writer.old) (W.contents writer.new) a result.1)) }
+    ensures stops { IfErr result.0 (λ f. IfSome result.1 (λ store. IsAskedFor STANDARD.now
+        (each (λ w. w.now) words.entry.now) (λ a m. StopsStore over_files (image_at S.Start) m
+        (R.remaining reader.old) (R.remaining reader.new) (W.contents writer.old)
+        (W.contents writer.new) a f store))) }
+{
+    let alloc = rt.alloc();
+    match read_args(alloc, words) {
+        Err(fault) => (Err(Failure::Usage(fault)), None),
+        Ok(args) => match read_map(rt, alloc, args.map()) {
+            Err(fault) => (Err(Failure::Map(fault)), None),
+            Ok((map, said)) => {
+                do_asked(rt, start, &args, &map, text_said(&said), reader, writer)
+            }
+        },
+    }
+}
+
+/// Does what the words ask for, and closes the store's file.
+///
+/// # Errors
+/// Those of `do_as_asked`.
+pub fn run_as_asked<S: Start, R: Read, W: Write>(
+    rt: &HostRuntime,
+    start: S,
+    words: &[&str],
+    reader: &mut R,
+    writer: &mut W,
+) -> Result<(), Failure>
+    ensures done { OnOk result (IsDone STANDARD.now (each (λ w. w.now) words.entry.now)
+        (R.remaining reader.old) (R.remaining reader.new) (W.contents writer.old)
+        (W.contents writer.new)) }
+    ensures failed { IfErr result (IsFailed STANDARD.now (each (λ w. w.now) words.entry.now)
+        (R.remaining reader.old) (R.remaining reader.new) (W.contents writer.old)
+        (W.contents writer.new)) }
+{
+    let (outcome, store) = do_as_asked(rt, start, words, reader, writer);
+    if let Some(store) = store {
+        close_file(store);
+    }
+    outcome
+}

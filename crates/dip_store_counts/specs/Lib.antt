@@ -1,0 +1,4 @@
+pub mod Counts
+pub mod Failing
+pub mod Knowing
+pub mod Noting

@@ -26,7 +26,8 @@ use Rattle.dip_desk_machine.proofs.VotingLemmas.{drawn_low}
 use Rattle.dip_desk_state.specs.State.{Effect, Nothing, Pending, Votes, Delivers, Opens, Publishes, Seats, Game, NewSeat, Part, State, game_at, name_of, whole_of}
 use Rattle.dip_reports.specs.declared.refusals.Refusal.TheVariants.{GameOver, Malformed}
 use Rattle.dip_desk_machine.specs.Drawing.{agreed, drawn_between, survives, survivors, vote_of}
-use Rattle.dip_desk_machine.specs.Machine.{DecidesIn, OnTime, Ticks, Verdict, NotKnown, Again, OutOfTurn, Taken, are_complete, creation, has_seat, new_seat, new_seats, notified, notice_verdict, old_number, open_game, opening_public, refusal_verdict, replaced, replacement, unless}
+use Rattle.dip_desk_machine.specs.Machine.{DecidesIn, OnTime, Ticks, Verdict, NotKnown, Again, OutOfTurn, Taken, creation, has_seat, new_seat, new_seats, notified, notice_verdict, old_number, open_game, opening_public, refusal_verdict, replaced, replacement, unless}
+use Rattle.dip_desk_state.specs.Fitting.{are_complete}
 use Rattle.dip_desk_machine.specs.Mail.{IsMail, Mail}
 use Rattle.dip_desk_machine.specs.Noting.{is_announcement, public_noted}
 use Rattle.dip_desk_machine.specs.Ticking.{is_due, is_over, orders_of}

@@ -1,20 +1,21 @@
 -- What is decided by an author's sight is what the machine decides.
 use Rattle.std.proofs.Common.{◌≡◌, ℕ, ◌<◌, ◌+◌, ◌⊎◌, arith, nat_lt, Bool, true, false, cond, List, Option, None, Some, option_map, refl, sym, ◌∙◌, ap, subst, inl, inr, bytes_eq, codes}
 use Rattle.std.specs.Prelude.{option_and_then}
-use Rattle.std.proofs.lemmas.Bool.{false≢true, ltb-false, ltb-true}
+use Rattle.std.proofs.lemmas.Bool.{ltb-false, ltb-true}
 use Rattle.dip_letters.specs.Notes.{Request}
 use Rattle.dip_letters.specs.Notes.MasterRequest.{Create, Tick, Replace, Notify}
 use Rattle.dip_letters.specs.Notes.Request.{Player, Master}
 use Rattle.dip_map.specs.Charts.{Chart, power_of}
 use Rattle.dip_desk_state.specs.Bounds.{most_papers}
 use Rattle.dip_desk_state.specs.Records.{Item, Public, Reply}
+use Rattle.dip_desk_keeper.specs.Fitting.{FindsPlace, Fits, FitsGame}
 use Rattle.dip_desk_machine.specs.Machine.{DecidedBy, Decides, IsDamagedBy, IsDamagedGame, IsForeign, IsDamagedSight, IsForeignTo, IsFull, IsSpoiledIn, MayBeDamaged, Settles, Step, after, OfMaster, OfNobody, OfSeat, Sight, Verdict, NotKnown, Again, OutOfTurn, Taken, author, author_of, change_of, digest, master_author, master_sees, master_sight, page_shown, power_author, power_sight, seat_author, seat_sight, seen_in, sight_of, verdict_by, verdict_on}
 use Rattle.dip_desk_machine.specs.Fitting.{EffectsFit, LawfulEffectsFit}
 use Rattle.dip_desk_machine.specs.Lawful.{IsNeverDamaged}
 use Rattle.dip_desk_machine.specs.Mail.{IsMail, Mail}
-use Rattle.dip_desk_state.specs.State.{Author, Change, Effect, Game, have_room, Nobody, Nothing, Part, Pending, Votes, Delivers, Opens, Publishes, Seats, Seat, State, TheMaster, game_at, own_of, seat_at}
+use Rattle.dip_desk_state.specs.State.{Author, Effect, Game, have_room, Nobody, Nothing, Part, Pending, Votes, Delivers, Opens, Publishes, Seats, Seat, State, TheMaster, game_at, own_of, seat_at}
 use Rattle.dip_desk_machine.specs.Ticking.{public_played}
-use Rattle.dip_desk.specs.Fitting.{ChangesFit, FindsPlace, Fits, FitsGame, LacksPlace, VerdictFits}
+use Rattle.dip_desk.specs.Fitting.{ChangesFit, VerdictFits}
 use Rattle.dip_desk.specs.Looked.{DecidedFor}
 use Rattle.dip_desk_machine.proofs.LawfulStates.{master_new}
 use Rattle.dip_desk_machine.proofs.Suiting.{Comes, IsPosted, decides_suits, master_posted, opens_where}
@@ -87,8 +88,8 @@ paper_place : (m : Chart) (name : List ℕ) (who : Author) (command : Request) (
     → IsPosted m command game (Taken text (Publishes public paper played)) → FindsPlace name who (Publishes public paper played) game ⊎ IsSpoiledIn m command game
 paper_place m name who command game text public paper true by =
     let p = by.4 in
-    let behind : public ≡ public_played by.0 by.1.public p.board p.report.course = cc in
-    let next : public.papers ≡ by.1.public.papers + 1 = ap (λ (q : Public). q.papers) behind in
+    let played_on : public ≡ public_played by.0 by.1.public p.board p.report.course = cc in
+    let next : public.papers ≡ by.1.public.papers + 1 = ap (λ (q : Public). q.papers) played_on in
     subst (λ (x : Option Game). FindsPlace name who (Publishes public paper true) x ⊎ IsSpoiledIn m command x) (sym by.3)
     (subst (λ (c : Request). FindsPlace name who (Publishes public paper true) (Some by.1) ⊎ IsSpoiledIn m c (Some by.1)) (sym by.2)
     (elim (few_papers by.1.public.papers) [
@@ -178,27 +179,6 @@ unfit_by_sight m n s who v fit is_mail decided unfit =
       | inr damaged ↦ damaged
     ]
 
--- a change that fits doesn't lack place
-pub fits_in_place : (m : Chart) (c : Change) (s : State) → Fits m c s → LacksPlace c.game c.author c.effect (game_at c.game s) → ⊥
-fits_in_place m c s fits = by c.effect (game_at c.game s) fits.effect
-  where
-    by : (e : Effect) (game : Option Game) → FitsGame m c.game c.author e game → LacksPlace c.game c.author e game → ⊥
-    by Nothing game fit lacks = lacks
-    by (Pending orders) game fit lacks = lacks
-    by (Votes vote) game fit lacks = lacks
-    by (Delivers readers item) None fit lacks = lacks
-    by (Delivers readers item) (Some g) fit lacks = false≢true (sym lacks ∙ fit.1)
-    by (Opens public paper seats) game fit lacks = elim lacks [
-      | inl other ↦ other fit.1.0
-      | inr more ↦ elim more [
-        | inl many ↦ let one = fit.0.1 in omega (arith, one, many)
-        | inr taken ↦ taken fit.1.1
-      ]
-    ]
-    by (Publishes public paper played) None fit lacks = lacks
-    by (Publishes public paper played) (Some g) fit lacks = let most = fit.1.1 in omega (arith, most, lacks)
-    by (Seats seat) game fit lacks = lacks
-
--- and a fault of the sight is one of the letter's author
+-- a fault of the sight is one of the letter's author
 pub blamed_by_sight : (m : Chart) (n : Mail) (s : State) → IsDamagedSight m n (sight_of m n s) → IsDamagedBy m n s
 blamed_by_sight m n s bad = let right = is_right m n s in right.2 bad

@@ -1,7 +1,7 @@
 -- What is seen of a state for a letter, and what is decided by it.
 use Rattle.std.specs.Prelude.{◌≡◌, ℕ, Option, None, Some, Result}
 use Rattle.dip_map.specs.Charts.{Chart}
-use Rattle.dip_desk.specs.Keeping.{Book, Looks}
+use Rattle.dip_desk_keeper.specs.Keeping.{Book, Looks}
 use Rattle.dip_desk.specs.declared.looking.SeatSight.{SeatSight}
 use Rattle.dip_desk_machine.specs.Machine.{DecidedBy, IsDamagedSight, OfMaster, OfNobody, OfSeat, Sight, Verdict, author_of, master_sees}
 use Rattle.dip_desk_machine.specs.Mail.{Mail}

@@ -3,7 +3,7 @@ use Rattle.std.specs.Prelude.{◌≡◌, ℕ, List, Result, OnOk, IfOk, IfErr, t
 use Rattle.dip_map.specs.Charts.{Chart}
 use Rattle.dip_desk_state.specs.Records.{Reply}
 use Rattle.dip_desk_state.specs.Faults.{faults_after_run}
-use Rattle.dip_desk.specs.Keeping.{Book, Ends, IsOpen, WasTold}
+use Rattle.dip_desk_keeper.specs.Keeping.{Book, Ends, IsOpen, WasTold}
 use Rattle.dip_desk_machine.specs.Lawful.{IsLawful}
 use Rattle.dip_desk_machine.specs.Machine.{IsDamagedBy, Step}
 use Rattle.dip_desk_machine.specs.Mail.{Mail}

@@ -1,6 +1,6 @@
 //! Looking up what the author of a letter sees, and deciding by that.
 ghost use Rattle.std.specs.Prelude.{◌≡◌, ◌<◌, Some, IfOk, IsErrOf, bytes_eq, length};
-ghost use Rattle.dip_desk.specs.Keeping.{Looks};
+ghost use Rattle.dip_desk_keeper.specs.Keeping.{Looks};
 ghost use Rattle.dip_desk.specs.Looked.{DecidedFor, DecidesBy, seat_seen};
 ghost use Rattle.dip_letters.specs.Views.{request};
 ghost use Rattle.dip_desk_machine.specs.Machine.{IsDamagedSight, IsTimely, digest, master_sight, page_shown, power_sight, sight_of};
@@ -11,8 +11,8 @@ ghost use Rattle.dip_desk_state.specs.Faults.{faults_after};
 ghost use Rattle.dip_desk_state.specs.State.{Part, part_at};
 ghost use Rattle.dip_desk_state.specs.Rows as rows;
 
-use crate::keeper::Keeper;
 use crate::views::{MasterView, SeatView};
+use dip_desk_keeper::Keeper;
 use dip_desk_machine::{Verdict, digest_of, seat_verdict};
 use dip_desk_state::{Author, Item, KeepFault, Own, Public};
 use dip_letters::{Command, Letter, PlayerCommand};
@@ -55,7 +55,7 @@ fn decide_as_master<K: Keeper>(
     if !opens(letter, "desk", "master", &desk.digest) {
         return Ok((Author::Nobody, Verdict::NotKnown));
     }
-    let decided = view.decided(alloc, letter, &desk.kept)?;
+    let decided = view.verdict_of(alloc, letter, &desk.kept)?;
     Ok((Author::TheMaster, decided))
 }
 

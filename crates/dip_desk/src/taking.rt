@@ -1,7 +1,7 @@
 //! One letter at a time: look and decide, keep.
 ghost use Rattle.std.specs.Prelude.{◌≡◌, IfOk, None, Some, map as each, string_bytes};
 ghost use Rattle.dip_desk.specs.Fitting.{VerdictFits};
-ghost use Rattle.dip_desk.specs.Keeping.{Steps};
+ghost use Rattle.dip_desk_keeper.specs.Keeping.{Steps};
 ghost use Rattle.dip_desk_machine.specs.Mail.{IsMail, mail};
 ghost use Rattle.std.specs.List.{AllByRecursion};
 ghost use Rattle.dip_desk_machine.specs.Machine as m;
@@ -11,8 +11,8 @@ ghost use Rattle.dip_desk_machine.specs.Verdicts.{verdict};
 ghost use Rattle.dip_desk_state.specs.Rows as rows;
 ghost use Rattle.dip_reports.specs.Texts.{refusal_line};
 
-use crate::keeper::Keeper;
 use crate::looking::decide;
+use dip_desk_keeper::Keeper;
 use dip_desk_machine::{
     Verdict, effects_fit, lawful_states_stay_lawful, published_movements_are_decided,
 };
@@ -35,7 +35,7 @@ fn head_of(alloc: Global, letter: &Letter<'_>) -> Result<Head, AllocError>
 }
 
 /// The reply to a letter whose game, sender or secret isn't known.
-fn not_known(alloc: Global) -> Result<Reply, AllocError>
+fn unknown_reply(alloc: Global) -> Result<Reply, AllocError>
     ensures { IfOk result
         (λ r. rows.reply r ≡ record
         { outcome = Outcome.Unknown; head = None; text = refusal_line Refusal.Unknown }) }
@@ -120,7 +120,7 @@ fn settle<K: Keeper>(
         → ⊥) result }
 {
     match decided {
-        Verdict::NotKnown => Ok(not_known(alloc)?),
+        Verdict::NotKnown => Ok(unknown_reply(alloc)?),
         Verdict::Again(text) => Ok(reply_with(alloc, letter, Outcome::Done, text)?),
         Verdict::OutOfTurn(text) => {
             let text = Rc::new(alloc, text)?;

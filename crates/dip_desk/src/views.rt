@@ -1,7 +1,7 @@
 //! What can be asked of a keeper for a letter: for a seat's its own part, its inbox and the public part of its game, and for the
 //! master's what it comes to by what its command needs.
 ghost use Rattle.std.specs.Prelude.{◌≡◌, ◌<◌, is_some, length, option_map};
-ghost use Rattle.dip_desk.specs.Keeping.{Looks};
+ghost use Rattle.dip_desk_keeper.specs.Keeping.{Looks};
 ghost use Rattle.dip_desk.specs.Looked.{DecidesBy, master_seen};
 ghost use Rattle.dip_letters.specs.Views.{request};
 ghost use Rattle.dip_desk_machine.specs.Machine.{DecidedBy, IsTimely, has_seat};
@@ -11,7 +11,7 @@ ghost use Rattle.dip_desk_state.specs.ChangeRows as desk_rows;
 ghost use Rattle.dip_desk_state.specs.Rows as rows;
 ghost use Rattle.dip_desk_state.specs.State.{game_at, items_at, own_at, public_at};
 
-use crate::keeper::Keeper;
+use dip_desk_keeper::Keeper;
 use dip_desk_machine::{
     Verdict, decide_create, decide_notice, decide_power_command, decide_replace, decide_tick,
 };
@@ -191,7 +191,7 @@ impl<'k, K: Keeper> MasterView<'k, K> {
     }
 
     /// What a letter of the master comes to, by what its command needs of its game.
-    pub(crate) fn decided(
+    pub(crate) fn verdict_of(
         &mut self,
         alloc: Global,
         letter: &Letter<'_>,

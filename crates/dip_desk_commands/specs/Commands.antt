@@ -1,16 +1,16 @@
 -- What each command comes to, in a game that is there or with no game of its name.
-use Rattle.std.specs.Prelude.{true, false, ℕ, ◌≡◌, ◌==◌, ◌&&◌, not, Bool, List, [], ◌∷◌, Option, None, Some, option_map, nat_le, if◌then◌else◌, count_by}
-use Rattle.std.specs.List.{list_all}
+use Rattle.std.specs.Prelude.{true, false, ℕ, ◌≡◌, ◌&&◌, not, Bool, List, [], ◌∷◌, Option, None, Some, option_map, nat_le, if◌then◌else◌}
 use Rattle.sha2.specs.Sha256.{sha256}
 use Rattle.dip_letters.specs.Digests.{seat_text}
 use Rattle.dip_letters.specs.Notes.{NoticeRequest, SeatNote}
-use Rattle.dip_map.specs.Charts.{Chart, power_of, powers}
+use Rattle.dip_map.specs.Charts.{Chart, power_of}
 use Rattle.dip_map.specs.Boards.{Position, opening}
 use Rattle.dip_desk_commands.specs.Drawing.{drawn_between, public_drawn}
 use Rattle.dip_desk_commands.specs.Noting.{is_announcement, public_noted}
 use Rattle.dip_desk_commands.specs.Ordering.{Ordered, kept_orders, same_standings}
 use Rattle.dip_desk_commands.specs.Ticking.{is_over, orders_of, public_played}
 use Rattle.dip_desk_state.specs.Bounds.{most_sent}
+use Rattle.dip_desk_state.specs.Fitting.{are_complete}
 use Rattle.dip_desk_state.specs.State.{Game, Effect, Nothing, Pending, Votes, Delivers, Opens, Publishes, Seats, NewSeat}
 use Rattle.dip_turn_papers.specs.Papers.{paper_text}
 use Rattle.dip_turn.specs.Reports.{IsPlayed}
@@ -78,10 +78,6 @@ with_more None more = None
 abbrev pub new_seats : Chart → List ℕ → List SeatNote → Option (List NewSeat)
 new_seats m game [] = Some []
 new_seats m game (s ∷ ss) = with_more (new_seat m game s) (new_seats m game ss)
-
--- whether each power of the map has one seat
-abbrev pub are_complete : Chart → List NewSeat → Bool
-are_complete m seats = list_all (λ p. count_by (λ s. s.power == p) seats == 1) (powers m)
 
 -- the public part of a new game
 abbrev pub opening_public : Chart → List ℕ → ℕ → ℕ → (grey intent : Bool) → Public

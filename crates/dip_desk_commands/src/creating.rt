@@ -4,6 +4,7 @@ ghost use Rattle.dip_letters.specs.Letters.{is_on};
 ghost use Rattle.dip_letters.specs.Views.{seat_note, seats_in};
 ghost use Rattle.dip_desk_state.specs.State as s;
 ghost use Rattle.dip_desk_commands.specs.Commands as c;
+ghost use Rattle.dip_desk_state.specs.Fitting.{are_complete};
 ghost use Rattle.dip_desk_state.specs.ChangeRows as desk_rows;
 ghost use Rattle.dip_desk_commands.specs.Verdicts.{verdict};
 ghost use Rattle.dip_desk_state.specs.Rows as rows;
@@ -68,7 +69,7 @@ fn has_one_seat(seats: &[NewSeat], power: Power) -> bool
 
 /// Whether each power of the map has one seat.
 fn are_complete(map: &Map, seats: &[NewSeat]) -> bool
-    ensures { result ≡ c.are_complete map.now (each desk_rows.new_seat seats.now) }
+    ensures { result ≡ are_complete map.now (each desk_rows.new_seat seats.now) }
 {
     for power in map.each_power() {
         if !has_one_seat(seats, power) {

@@ -10,7 +10,8 @@ use Rattle.dip_letters.specs.Notes.Request.{Player, Master}
 use Rattle.dip_map.specs.Charts.{Chart, power_of}
 use Rattle.dip_desk_state.specs.Records.{Own, Kept, Public, Reply}
 use Rattle.dip_reports.specs.declared.refusals.Refusal.TheVariants.{Malformed, NumberUsed, Stale}
-use Rattle.dip_desk_machine.specs.Machine.{Decides, DecidesIn, DecidesNew, MasterDecides, are_complete, change_of, open_game, NumberedBy, Step, Verdict, NotKnown, Again, OutOfTurn, Taken, after, author, creation, digest, kept_of, master_author, new_seats, old_number, opening_public, page_shown, power_author, refusal_verdict, repeat_verdict, reply_of, seat_author, seat_command, seen_in, verdict_by, verdict_on}
+use Rattle.dip_desk_machine.specs.Machine.{Decides, DecidesIn, DecidesNew, MasterDecides, change_of, open_game, NumberedBy, Step, Verdict, NotKnown, Again, OutOfTurn, Taken, after, author, creation, digest, kept_of, master_author, new_seats, old_number, opening_public, page_shown, power_author, refusal_verdict, repeat_verdict, reply_of, seat_author, seat_command, seen_in, verdict_by, verdict_on}
+use Rattle.dip_desk_state.specs.Fitting.{are_complete}
 use Rattle.dip_reports.specs.Texts.{refusal_line}
 use Rattle.dip_desk_machine.specs.Mail.{Mail}
 use Rattle.dip_desk_laws.specs.Repeats.{ActsOnce}

@@ -8,7 +8,8 @@ use Rattle.dip_letters.specs.Notes.Request.{Player, Master}
 use Rattle.dip_map.specs.Charts.{Chart, power_of}
 use Rattle.dip_desk_state.specs.Records.{Head, Item, Kept, Own, Public, Reply}
 use Rattle.dip_reports.specs.declared.refusals.Refusal.TheVariants.{Malformed}
-use Rattle.dip_desk_machine.specs.Machine.{Decides, DecidesIn, MasterDecides, NotKnown, Again, OutOfTurn, Taken, Verdict, are_complete, author, creation, digest, head_of, master_author, new_seats, open_game, opening_public, page_shown, power_author, refusal_verdict, reply_of, seat_author, seat_command, seen_in, verdict_by, verdict_on}
+use Rattle.dip_desk_machine.specs.Machine.{Decides, DecidesIn, MasterDecides, NotKnown, Again, OutOfTurn, Taken, Verdict, author, creation, digest, head_of, master_author, new_seats, open_game, opening_public, page_shown, power_author, refusal_verdict, reply_of, seat_author, seat_command, seen_in, verdict_by, verdict_on}
+use Rattle.dip_desk_state.specs.Fitting.{are_complete}
 use Rattle.dip_desk_machine.specs.Mail.{Mail}
 use Rattle.dip_desk_state.specs.State.{Author, Game, NewSeat, Nobody, Part, Seat, State, TheMaster, game_at, own_of, seat_at}
 use Rattle.dip_desk_laws.specs.Strangers.{IsNobodys, IsToNobodyExactly, is_create}

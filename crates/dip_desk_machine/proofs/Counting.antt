@@ -4,7 +4,7 @@ use Rattle.std.specs.Prelude.{◌&&◌, not, count_by}
 use Rattle.std.specs.List.{AllByRecursion}
 use Rattle.std.proofs.lemmas.Bool.{eq-eqb, eqb-true}
 use Rattle.dip_orders.proofs.KeptLaws.{count_cons}
-use Rattle.dip_desk_machine.specs.Lawful.{AreAscending}
+use Rattle.dip_desk_state.specs.Fitting.{AreAscending}
 
 -- what holds of each of two kinds holds of both together
 pub all_both : {A : Type 0} (P Q R : A → Type 0) (xs : List A) → ((x : A) → P x → Q x → R x) → AllByRecursion P xs → AllByRecursion Q xs → AllByRecursion R xs

@@ -22,8 +22,8 @@ use Rattle.dip_orders.specs.declared.placed.Order.{Order}
 use Rattle.dip_orders.specs.declared.placed.Order.TheVariants.{Hold, Move, SupportHold, SupportMove, Convoy, Retreat, Disband, Build, Remove}
 use Rattle.dip_orders.specs.declared.placed.PlacedOrder.{PlacedOrder}
 use Rattle.dip_desk_state.specs.Records.{Item, Own, Public, Standing}
-use Rattle.dip_desk_machine.specs.Fitting.{EffectsFit, FitsMap, LawfulEffectsFit}
-use Rattle.dip_desk_machine.specs.Lawful.{AreAscending}
+use Rattle.dip_desk_machine.specs.Fitting.{EffectsFit, LawfulEffectsFit}
+use Rattle.dip_desk_state.specs.Fitting.{AreAscending, FitsMap}
 use Rattle.dip_desk_machine.specs.Machine.{IsOffMap, IsPublished, IsSpoiledIn, Verdict, NotKnown, Again, OutOfTurn, Taken, page_shown, seat_command, seen_in, verdict_by, verdict_on}
 use Rattle.dip_desk_machine.specs.Mail.{IsMail, Mail}
 use Rattle.dip_desk_commands.specs.Ordering.{Ordered, after_line, after_lines, kept_orders, orders_after, orders_that_stand, outcome_of_lines, prov_of, standing_with}

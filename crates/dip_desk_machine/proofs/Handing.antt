@@ -20,7 +20,8 @@ use Rattle.dip_orders.specs.declared.placed.PlacedOrder.{PlacedOrder}
 use Rattle.dip_desk_machine.proofs.Counting.{all_weaker}
 use Rattle.dip_desk_machine.proofs.LawfulOrders.{AreRead, standing_is}
 use Rattle.dip_desk_machine.specs.Handing.{StandingOrdersAreGiven, StandingOrdersComeByPlace, are_by_place, comes_before}
-use Rattle.dip_desk_machine.specs.Lawful.{AreAscending, IsLawfulGame, IsLawfulSeat}
+use Rattle.dip_desk_machine.specs.Lawful.{IsLawfulGame, IsLawfulSeat}
+use Rattle.dip_desk_state.specs.Fitting.{AreAscending}
 use Rattle.dip_desk_commands.specs.Ordering.{prov_of, orders_that_stand}
 use Rattle.dip_desk_state.specs.State.{Game, Part, power_in, whole_of}
 use Rattle.dip_desk_commands.specs.Ticking.{by_power, orders_of, orders_of_seats}

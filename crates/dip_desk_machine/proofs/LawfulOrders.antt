@@ -17,7 +17,8 @@ use Rattle.dip_orders.specs.declared.placed.Order.{Order}
 use Rattle.dip_orders.specs.declared.placed.Order.TheVariants.{Hold, Move, SupportHold, SupportMove, Convoy, Retreat, Disband, Build, Remove}
 use Rattle.dip_orders.specs.declared.placed.PlacedOrder.{PlacedOrder}
 use Rattle.dip_desk_state.specs.Records.{Standing}
-use Rattle.dip_desk_machine.specs.Lawful.{AreAscending, AreStanding}
+use Rattle.dip_desk_machine.specs.Lawful.{AreStanding}
+use Rattle.dip_desk_state.specs.Fitting.{AreAscending}
 use Rattle.dip_desk_commands.specs.Ordering.{Ordered, after_line, after_lines, has_foreign, kept_orders, outcome_of_lines, orders_after, prov_of, orders_that_stand, standing_with, with_order}
 use Rattle.dip_desk_machine.proofs.Counting.{all_both, all_weaker, each_but_itself, elsewhere, elsewhere_all, elsewhere_but_one, elsewhere_few, kind_apart, one, unlike}
 

@@ -8,17 +8,13 @@ use Rattle.dip_orders.specs.Texts.{order_text}
 use Rattle.dip_orders.specs.declared.placed.PlacedOrder.{PlacedOrder}
 use Rattle.dip_desk_state.specs.Bounds.{most_items, most_sent}
 use Rattle.dip_desk_state.specs.Records.{Kept, Standing, Reply}
+use Rattle.dip_desk_state.specs.Fitting.{AreAscending}
 use Rattle.dip_desk_state.specs.Keyed.{at}
 use Rattle.dip_desk_machine.specs.Mail.{IsMail, Mail}
 use Rattle.dip_desk_commands.specs.Ordering.{kept_orders, prov_of}
 use Rattle.dip_desk_machine.specs.Machine.{MayBeDamaged, Step}
 use Rattle.dip_desk_state.specs.State.{Author, Game, Part, State, name_of, power_in}
 use Rattle.dip_desk_state.specs.Writable.{IsPublicOf, IsVoteOf}
-
--- each is less than all after it
-abbrev pub AreAscending : List ℕ → Type 0
-AreAscending [] = Unit {0}
-AreAscending (p ∷ ps) = AllByRecursion (λ q. p < q) ps × AreAscending ps
 
 -- what is kept stands together: it is orders of the power on the board, one a province, by province, and each can be given beside
 -- all of them
@@ -71,6 +67,10 @@ pub record IsLawful (m : Chart) (s : State) : Type 0 where
   pub names : AreNamedApart s.games
   pub numbered : AllByRecursion (λ g. g.public.papers ≤ last_number s.desk.kept) s.games
   pub last : last_number s.desk.kept ≤ 999999999
+
+-- a state without games, whose master has had no letter, is lawful
+abbrev pub IsLawfulAtFirst : Chart → Type 0
+IsLawfulAtFirst m = (digest : List ℕ) → IsLawful m (record { desk = record { digest = digest; kept = None }; games = [] })
 
 -- each step of a letter leads from a lawful state to a lawful one
 abbrev pub StaysLawful : Chart → Type 0

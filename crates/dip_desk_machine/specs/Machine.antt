@@ -21,7 +21,7 @@ use Rattle.dip_reports.specs.Texts.{inbox_text, refusal_line, show_text, withdra
 use Rattle.dip_desk_state.specs.Records.{Public, Own, Item, Kept, Head, Reply, For, Whole}
 use Rattle.dip_desk_state.specs.declared.records.Outcome.TheVariants.{Unknown as NoneKnown, OutOfTurn as Refused, Done}
 use Rattle.dip_reports.specs.declared.refusals.Refusal.TheVariants.{Malformed, Unknown, Stale, NumberUsed, TooLong, GameOver, WrongSender}
-pub use Rattle.dip_desk_commands.specs.Commands.{digest, Verdict, NotKnown, Again, OutOfTurn, Taken, refusal_verdict, orders_effect, orders_verdict, unless, press_to, addressed, vote_verdict, new_seat, with_more, new_seats, are_complete, opening_public, open_game, creation, paper_verdict, IsPublished, draw_verdict, OnTime, Ticks, notified, notice_verdict, replaced, replacement}
+pub use Rattle.dip_desk_commands.specs.Commands.{digest, Verdict, NotKnown, Again, OutOfTurn, Taken, refusal_verdict, orders_effect, orders_verdict, unless, press_to, addressed, vote_verdict, new_seat, with_more, new_seats, opening_public, open_game, creation, paper_verdict, IsPublished, draw_verdict, OnTime, Ticks, notified, notice_verdict, replaced, replacement}
 
 -- the master, where the desk has the digest of the letter's secret
 abbrev pub master_author : Mail → State → Author

@@ -4,7 +4,7 @@ ghost use Rattle.dip_map.specs.Charts.{Chart};
 ghost use Rattle.dip_desk_machine.specs.Draws.{DrawsAreAgreed};
 ghost use Rattle.dip_desk_machine.specs.Fitting.{EffectsFit, LawfulEffectsFit};
 ghost use Rattle.dip_desk_machine.specs.Handing.{StandingOrdersAreGiven, StandingOrdersComeByPlace};
-ghost use Rattle.dip_desk_machine.specs.Lawful.{IsNeverDamaged, StaysLawful};
+ghost use Rattle.dip_desk_machine.specs.Lawful.{IsLawfulAtFirst, IsNeverDamaged, StaysLawful};
 ghost use Rattle.dip_desk_machine.specs.Published.{MovementsAreDecided};
 ghost use Rattle.dip_desk_state.specs.State.{State};
 ghost use Rattle.dip_desk_machine.specs.Titles.{TitlesTell};
@@ -59,6 +59,11 @@ pub fn draws_are_agreed()
 /// read in the paper itself.
 pub fn titles_tell_what_was_played()
     ensures { (m : Chart) → TitlesTell m }
+{}
+
+/// A desk without games is lawful, whose master has had no letter.
+pub fn new_desks_are_lawful()
+    ensures { (m : Chart) → IsLawfulAtFirst m }
 {}
 
 /// Each letter leads from a lawful state to a lawful one, and in a lawful state nothing is Damaged.

@@ -12,8 +12,9 @@ pub use dip_desk_commands::{
 };
 pub use laws::{
     answered_from_what_is_seen, draws_are_agreed, effects_are_shown, effects_fit,
-    histories_are_one, lawful_states_stay_lawful, published_movements_are_decided, settled_by_view,
-    standing_orders_are_given, titles_tell_what_was_played,
+    histories_are_one, lawful_states_stay_lawful, new_desks_are_lawful,
+    published_movements_are_decided, settled_by_view, standing_orders_are_given,
+    titles_tell_what_was_played,
 };
 pub use mastering::{
     decide_create, decide_notice, decide_power_command, decide_replace, decide_tick,

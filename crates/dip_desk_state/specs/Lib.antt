@@ -6,3 +6,4 @@ pub mod State
 pub mod Writable
 pub mod Faults
 pub mod ChangeRows
+pub mod Fitting

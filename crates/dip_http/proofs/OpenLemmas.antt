@@ -2,10 +2,10 @@
 use Rattle.std.proofs.Common.{◌≡◌, ◌⊎◌, inl, inr, ℕ, Bool, List, Option, Result, Ok, Err, refl, sym, ap, subst, ◌∙◌, arith}
 use Rattle.std.specs.Prelude.{IfErr, IsErrOf, OnOk}
 use Rattle.dip_map.specs.Charts.{Chart}
-use Rattle.dip_desk.specs.Keeping.{Book, IsOpen, Looks, Settles, Steps, WasTold}
-use Rattle.dip_desk.specs.Keeping as desk
-use Rattle.dip_desk.proofs.Ending.{ends_open}
-use Rattle.dip_desk.proofs.Keepings.{look_alone}
+use Rattle.dip_desk_keeper.specs.Keeping.{Book, IsOpen, Looks, Settles, Steps, WasTold}
+use Rattle.dip_desk_keeper.specs.Keeping as desk
+use Rattle.dip_desk_keeper.proofs.Ending.{ends_open}
+use Rattle.dip_desk_keeper.proofs.Keepings.{look_alone}
 use Rattle.dip_desk_state.specs.State.{State}
 use Rattle.dip_desk_state.specs.declared.faults.KeepFault.{KeepFault}
 use Rattle.dip_desk_state.specs.declared.faults.KeepFault.TheVariants.{Disk}

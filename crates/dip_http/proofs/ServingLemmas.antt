@@ -1,9 +1,9 @@
 -- Clients, one after the other, and the history that they make.
 use Rattle.std.proofs.Common.{◌≡◌, ◌≤◌, ◌+◌, ◌⊎◌, inl, inr, ℕ, zero, suc, List, [], ◌∷◌, ◌++◌, None, refl, subst, sym, arith}
 use Rattle.dip_map.specs.Charts.{Chart}
-use Rattle.dip_desk.specs.Keeping.{Book, IsOpen, Rises, WasTold}
-use Rattle.dip_desk.proofs.Keepings.{told_late}
-use Rattle.dip_desk.proofs.Ending.{ends_late, ends_open}
+use Rattle.dip_desk_keeper.specs.Keeping.{Book, IsOpen, Rises, WasTold}
+use Rattle.dip_desk_keeper.proofs.Keepings.{told_late}
+use Rattle.dip_desk_keeper.proofs.Ending.{ends_late, ends_open}
 use Rattle.dip_desk_machine.specs.Lawful.{IsLawful}
 use Rattle.dip_desk_machine.specs.Machine.{Step}
 use Rattle.dip_desk_machine.specs.Published.{MovementsAreDecided}

@@ -3,7 +3,7 @@ use Rattle.std.specs.Prelude.{◌≡◌, ◌≤◌, ◌⊎◌, ℕ, List, ◌++�
 use Rattle.std.specs.Io.KnownBytes.{Appends}
 use Rattle.httparse.specs.Grammar.{RequestHead}
 use Rattle.dip_map.specs.Charts.{Chart}
-use Rattle.dip_desk.specs.Keeping.{Book, Ends, IsOpen, Rises, Settles, WasTold}
+use Rattle.dip_desk_keeper.specs.Keeping.{Book, Ends, IsOpen, Rises, Settles, WasTold}
 use Rattle.dip_desk_machine.specs.Lawful.{IsLawful}
 use Rattle.dip_desk_machine.specs.Machine.{Step}
 use Rattle.dip_desk_machine.specs.Mail.{Mail}

@@ -1,7 +1,7 @@
 -- What serving clients does to a desk.
 use Rattle.std.specs.Prelude.{◌≡◌, ◌≤◌, ◌⊎◌, ℕ, zero, suc, None, List, [], ◌++◌, IfErr, IsErrOf, OnOk, Result}
 use Rattle.dip_map.specs.Charts.{Chart}
-use Rattle.dip_desk.specs.Keeping.{Book, Ends, IsOpen, Rises, WasTold}
+use Rattle.dip_desk_keeper.specs.Keeping.{Book, Ends, IsOpen, Rises, WasTold}
 use Rattle.dip_desk_machine.specs.Lawful.{IsLawful}
 use Rattle.dip_desk_machine.specs.Machine.{Step}
 use Rattle.dip_desk_machine.specs.Mail.{IsMail, Mail}

@@ -1,7 +1,7 @@
 //! One request and its answer.
 ghost use Rattle.std.specs.Prelude.{◌≡◌, ◌<◌, ◌⊎◌, ℕ, List, Option, IfErr, IsErrOf, OnOk, length, true};
 ghost use Rattle.std.specs.Io.KnownBytes.{Consumes, IsAtEnd};
-ghost use Rattle.dip_desk.specs.Keeping.{IsOpen};
+ghost use Rattle.dip_desk_keeper.specs.Keeping.{IsOpen};
 ghost use Rattle.dip_desk_machine.specs.Lawful.{IsLawful};
 ghost use Rattle.dip_desk_state.specs.State.{State};
 ghost use Rattle.dip_http_messages.specs.AnswerViews.{plan_view};
@@ -12,7 +12,7 @@ use crate::endings::refuse;
 use crate::faults::HttpFault;
 use crate::showing::{show_game, show_paper};
 use crate::taking::take_letter;
-use dip_desk::Keeper;
+use dip_desk_keeper::Keeper;
 use dip_desk_state::KeepFault;
 use dip_http_messages::{Front, HttpRefusal, Plan, Routes, front_of, is_quiet, plan_of};
 use dip_map::Map;

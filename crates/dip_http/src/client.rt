@@ -5,7 +5,7 @@ ghost use Rattle.dip_http.specs.Ends.{AnswersOne};
 use crate::answering::answer_one;
 use crate::faults::HttpFault;
 use crate::timed::{MOST_SECONDS, Timed};
-use dip_desk::Keeper;
+use dip_desk_keeper::Keeper;
 use dip_desk_state::KeepFault;
 use dip_http_messages::Routes;
 use dip_map::Map;

@@ -4,7 +4,7 @@ ghost use Rattle.dip_http.specs.Serving.{MeetsNext, ServesAll};
 use crate::client::serve_one;
 use crate::faults::HttpFault;
 use crate::laws::connections_are_turns;
-use dip_desk::Keeper;
+use dip_desk_keeper::Keeper;
 use dip_desk_machine::published_movements_are_decided;
 use dip_desk_state::KeepFault;
 use dip_http_messages::Routes;

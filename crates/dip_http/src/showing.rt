@@ -7,7 +7,7 @@ ghost use Rattle.dip_http_messages.specs.Numbers.{IsNumber};
 
 use crate::endings::{refuse, unavailable, write_found};
 use crate::faults::HttpFault;
-use dip_desk::Keeper;
+use dip_desk_keeper::Keeper;
 use dip_http_messages::{HttpRefusal, number_of, state_text};
 use dip_map::Map;
 use http::StatusCode;

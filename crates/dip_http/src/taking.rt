@@ -8,7 +8,8 @@ ghost use Rattle.dip_http.specs.Ends.{PostsTo, PostsToPart, ReadsBody, ReadsBody
 
 use crate::endings::{refuse, unavailable, write_reply};
 use crate::faults::HttpFault;
-use dip_desk::{Keeper, fault_reply, take};
+use dip_desk::{fault_reply, take};
+use dip_desk_keeper::Keeper;
 use dip_desk_machine::lawful_states_stay_lawful;
 use dip_desk_state::{KeepFault, Outcome};
 use dip_http_messages::HttpRefusal;

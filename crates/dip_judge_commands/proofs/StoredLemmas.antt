@@ -12,8 +12,8 @@ use Rattle.dip_judge_runs.specs.RunFaults.{StopsBy}
 use Rattle.dip_judge_runs.specs.Runs.{AnswersAll, IsReadWhole, IsUntouched, Stops, StopsAt, TakesNext}
 use Rattle.dip_judge_runs.specs.declared.run.RunFault.{RunFault}
 use Rattle.dip_judge_runs.specs.declared.run.RunFault.TheVariants.{Read, TooLong, Write, Memory, Keep}
-use Rattle.dip_desk.specs.Keeping.{Ends, IsOpen}
-use Rattle.dip_desk.proofs.Ending.{ends_open}
+use Rattle.dip_desk_keeper.specs.Keeping.{Ends, IsOpen}
+use Rattle.dip_desk_keeper.proofs.Ending.{ends_open}
 use Rattle.dip_store.specs.Causes.{has_faulted}
 use Rattle.dip_store.specs.Opening.{EndsSo, HasOnly, Holds, IsSameOrRenewed, IsShutBy, IsUnmadeBy, MakesStore, Opens, OpensStore, StaysShut, StoreEnds}
 use Rattle.dip_store.specs.StoreFault.{StoreFault}

@@ -1,9 +1,9 @@
 -- A run from a fresh desk on.
 use Rattle.std.proofs.Common.{◌≡◌, ◌⊎◌, inl, inr, ℕ, List, Option, Result, Ok, Err, IfErr, OnOk, IsErrOf, refl, subst, ap}
 use Rattle.dip_map.specs.Charts.{Chart}
-use Rattle.dip_desk.specs.InMemory.{book, state}
-use Rattle.dip_desk.specs.Keeping.{IsOpen}
-use Rattle.dip_desk.specs.declared.memory.MemoryKeeper.{MemoryKeeper}
+use Rattle.dip_desk_memory.specs.InMemory.{book, state}
+use Rattle.dip_desk_keeper.specs.Keeping.{IsOpen}
+use Rattle.dip_desk_memory.specs.declared.memory.MemoryKeeper.{MemoryKeeper}
 use Rattle.dip_desk_state.specs.State.{State}
 use Rattle.dip_desk_state.specs.declared.faults.KeepFault.TheVariants.{Memory as no_room, Disk, Damaged}
 use Rattle.dip_judge_runs.specs.Fresh.{AnswersFresh, IsCutShort, IsMemoryFault, fresh_desk}

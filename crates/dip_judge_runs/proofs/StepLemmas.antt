@@ -1,7 +1,7 @@
 -- What follows where what stands next in an input was answered over a keeper, or has no answer.
 use Rattle.std.proofs.Common.{◌≡◌, ◌≤◌, ℕ, List, Ok, Err, ap, arith, refl, subst, sym}
-use Rattle.dip_desk.proofs.Ending.{ends_late, ends_open, steps_end, steps_on}
-use Rattle.dip_desk.specs.Keeping.{Book, Ends, IsOpen, WasTold}
+use Rattle.dip_desk_keeper.proofs.Ending.{ends_late, ends_open, steps_end, steps_on}
+use Rattle.dip_desk_keeper.specs.Keeping.{Book, Ends, IsOpen, WasTold}
 use Rattle.dip_desk_machine.specs.Lawful.{IsLawful, IsNeverDamaged, StaysLawful}
 use Rattle.dip_desk_machine.specs.Mail.{mail}
 use Rattle.dip_desk_state.specs.Rows as rows

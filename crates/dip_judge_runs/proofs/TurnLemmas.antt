@@ -9,7 +9,7 @@ use Rattle.dip_letters.specs.declared.letters.Next.{Next}
 use Rattle.dip_letters.specs.declared.letters.Next.TheVariants.{Taken, Fault, End}
 use Rattle.dip_map.specs.Charts.{Chart}
 use Rattle.dip_desk_machine.specs.Mail.{Mail, mail}
-use Rattle.dip_desk.specs.Keeping.{Book, Ends}
+use Rattle.dip_desk_keeper.specs.Keeping.{Book, Ends}
 use Rattle.dip_desk.specs.Running.{Answers}
 use Rattle.dip_desk_state.specs.State.{State}
 use Rattle.dip_desk_machine.specs.View.{IsHistory}

@@ -1,7 +1,7 @@
 -- Which faults a call may answer, and how a run goes.
 use Rattle.std.specs.Prelude.{◌≡◌, ℕ, List, Option, ◌<◌, ◌⊎◌, IfErr, IfSome, IsErrOf, OnOk, Result, Err, length}
 use Rattle.dip_map.specs.Charts.{Chart}
-use Rattle.dip_desk.specs.Keeping.{Book, IsOpen, WasTold}
+use Rattle.dip_desk_keeper.specs.Keeping.{Book, IsOpen, WasTold}
 use Rattle.dip_desk_machine.specs.Lawful.{IsLawful}
 use Rattle.dip_desk_state.specs.Faults.{faults_with}
 use Rattle.dip_desk_state.specs.declared.faults.KeepFault.TheVariants.{Damaged, Disk}

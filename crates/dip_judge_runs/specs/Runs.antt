@@ -4,7 +4,7 @@ use Rattle.std.specs.List.{flat_map}
 use Rattle.std.specs.Io.KnownBytes.{Appends}
 use Rattle.dip_letters.specs.Input.{IsNext}
 use Rattle.dip_desk_machine.specs.Mail.{Mail, mail}
-use Rattle.dip_desk.specs.Keeping.{Book, Ends, Steps}
+use Rattle.dip_desk_keeper.specs.Keeping.{Book, Ends, Steps}
 use Rattle.dip_desk.specs.Running.{Answers}
 use Rattle.dip_letters.specs.declared.letters.Next.{Next}
 use Rattle.dip_letters.specs.declared.letters.Next.TheVariants.{Taken, Fault, End}

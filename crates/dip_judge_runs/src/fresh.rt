@@ -3,7 +3,8 @@ ghost use Rattle.std.specs.Prelude.{IfErr, OnOk};
 ghost use Rattle.dip_judge_runs.specs.Fresh.{AnswersFresh, IsCutShort};
 
 use crate::run::{RunFault, run_file};
-use dip_desk::MemoryKeeper;
+use dip_desk_machine::new_desks_are_lawful;
+use dip_desk_memory::MemoryKeeper;
 use dip_letters::digest;
 use dip_map::Map;
 use std::alloc::Global;
@@ -25,6 +26,7 @@ pub fn answer_letters<R: Read, W: Write>(
     ensures cut { IfErr result (λ f. IsCutShort map.now master.now f (R.remaining reader.old)
         (R.remaining reader.new) (W.contents writer.old) (W.contents writer.new)) }
 {
+    new_desks_are_lawful();
     let mut keeper = MemoryKeeper::new(alloc, digest("desk", "master", master));
     run_file(alloc, reader, writer, &mut keeper, map)
 }

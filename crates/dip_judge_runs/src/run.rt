@@ -9,7 +9,8 @@ ghost use Rattle.dip_judge_runs.specs.Runs.{AnswersNext, FailsNext, IsReadWhole}
 ghost use Rattle.dip_judge_runs.specs.RunFaults.{AnswersInput, IsReadingFault, RunsFile};
 
 use crate::reading::{ReadFault, read_whole};
-use dip_desk::{Keeper, fault_reply, take};
+use dip_desk::{fault_reply, take};
+use dip_desk_keeper::Keeper;
 use dip_desk_machine::{lawful_states_stay_lawful, published_movements_are_decided};
 use dip_desk_state::{KeepFault, Reply};
 use dip_letters::{Next, next_letter};

@@ -4,7 +4,7 @@ use Rattle.sqlite.specs.Effect.{Database}
 use Rattle.sqlite.specs.Store.{Ghosts}
 use Rattle.sqlite.specs.Held.{Held, state}
 use Rattle.dip_map.specs.Charts.{Chart}
-use Rattle.dip_desk.specs.Keeping.{Looks}
+use Rattle.dip_desk_keeper.specs.Keeping.{Looks}
 use Rattle.dip_store_sql.specs.RowFaults.{IsFromOutside}
 use Rattle.dip_store_sql.specs.declared.row_faults.RowFault.{RowFault}
 use Rattle.dip_store_tables.specs.Legible.{AreOurs}

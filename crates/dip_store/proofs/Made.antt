@@ -6,8 +6,8 @@ use Rattle.sqlite.specs.Tree.{Trees}
 use Rattle.sqlite.specs.Store.{Ghosts}
 use Rattle.sqlite.specs.Held.{Held, state}
 use Rattle.dip_map.specs.Charts.{Chart}
-use Rattle.dip_desk.specs.Fitting.{Fits}
-use Rattle.dip_desk.specs.Keeping.{Changes, Rises}
+use Rattle.dip_desk_keeper.specs.Fitting.{Fits}
+use Rattle.dip_desk_keeper.specs.Keeping.{Changes, Rises}
 use Rattle.dip_store.specs.Laws.{FindsPlaceInTables, FitsIsWritable, WhatFitsFindsPlace}
 use Rattle.dip_store_tables.specs.LegibleLaws.{TablesStayLegible}
 use Rattle.dip_store_tables.specs.Legible.{AreLegible, AreOurs}

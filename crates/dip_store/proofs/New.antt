@@ -12,8 +12,7 @@ use Rattle.dip_map.specs.Charts.{Chart, IsMap, are_units_single, is_unit, may_st
 use Rattle.dip_map.specs.Boards.{IsOf, Position, is_dislodged, is_prov_if_any}
 use Rattle.dip_map.specs.declared.boards.Dislodged.{Dislodged}
 use Rattle.dip_store_tables.specs.Boards.{UnitRow, centre_rows_from, code, dislodged_row, power_name, standing_row, unit_rows}
-use Rattle.dip_desk_machine.specs.Lawful.{AreAscending}
-use Rattle.dip_desk_machine.specs.Machine.{are_complete}
+use Rattle.dip_desk_state.specs.Fitting.{AreAscending, are_complete}
 use Rattle.dip_desk_state.specs.State.{NewSeat}
 use Rattle.dip_desk_state.specs.Records.{Standing}
 use Rattle.dip_store_tables.specs.Coding.{same_seat}

@@ -27,7 +27,7 @@ use Rattle.dip_store_memory.proofs.Idling.{recalls_no_idle}
 use Rattle.dip_store_memory.proofs.Owning.{recalls_no_owns}
 use Rattle.dip_store_memory.proofs.Seeing.{recalls_none}
 use Rattle.dip_store.specs.Opening.{AreOf, HasOnly, Holds, IsDesk, IsNowOf, IsSettled, IsSameOrRenewed, Opens, OpensStore, Says, StaysShut, StoreEnds}
-use Rattle.dip_desk.specs.Keeping.{Ends, IsOpen}
+use Rattle.dip_desk_keeper.specs.Keeping.{Ends, IsOpen}
 use Rattle.dip_store.specs.Stored.{AreStored, IsStore, IsStoreOf, book, fresh_keeper, said_by}
 use Rattle.dip_store.specs.declared.keeper.SqlKeeper.{SqlKeeper}
 

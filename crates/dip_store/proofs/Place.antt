@@ -8,9 +8,9 @@ use Rattle.dip_store_tables.proofs.SliceLemmas.{any_is_found}
 use Rattle.dip_map.specs.Charts.{Chart, IsMap}
 use Rattle.dip_map.specs.Boards.{IsOf, Position}
 use Rattle.dip_store_tables.specs.Boards.{CentreRow, UnitRow, centre_rows, centre_rows_from, dislodged_row, power_in, power_name, standing_row, unit_rows}
-use Rattle.dip_desk.specs.Fitting.{FindsPlace}
+use Rattle.dip_desk_keeper.specs.Fitting.{FindsPlace}
 use Rattle.dip_store_tables.specs.Room.{HasRoom, SentHasRoom}
-use Rattle.dip_desk_machine.specs.Fitting.{FitsMap}
+use Rattle.dip_desk_state.specs.Fitting.{FitsMap}
 use Rattle.dip_desk_state.specs.Bounds.{most_items, most_sent}
 use Rattle.dip_desk_state.specs.Keyed.{at}
 use Rattle.dip_desk_state.specs.Writable.{IsAuthorOf}

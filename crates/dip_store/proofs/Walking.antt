@@ -4,7 +4,7 @@ use Rattle.dip_store.specs.Papers.{Walks}
 use Rattle.dip_store.specs.declared.paper_faults.PaperFault.{PaperFault}
 use Rattle.dip_store.specs.declared.paper_faults.PaperFault.TheVariants.{Write, Keep}
 use Rattle.dip_map.specs.Charts.{Chart}
-use Rattle.dip_desk.specs.Keeping.{Book, Ends, IsOpen, Looks, Rises}
+use Rattle.dip_desk_keeper.specs.Keeping.{Book, Ends, IsOpen, Looks, Rises}
 use Rattle.dip_desk_state.specs.Faults.{faults_with}
 use Rattle.dip_desk_state.specs.declared.faults.KeepFault.{KeepFault}
 use Rattle.dip_desk_state.specs.declared.faults.KeepFault.TheVariants.{Disk}

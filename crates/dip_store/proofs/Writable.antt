@@ -4,7 +4,7 @@ use Rattle.std.specs.List.{list_all}
 use Rattle.std.proofs.lemmas.Bool.{cases_Bool, and_parts, eqb-true}
 use Rattle.dip_map.specs.Charts.{Chart}
 use Rattle.dip_letters.specs.Words.{is_digit, is_game, is_lower}
-use Rattle.dip_desk_machine.specs.Fitting.{FitsMap}
+use Rattle.dip_desk_state.specs.Fitting.{FitsMap}
 use Rattle.dip_desk_state.specs.State.{Effect, Nothing, Pending, Votes, Delivers, Opens, Publishes, Seats}
 use Rattle.dip_desk_state.specs.Writable.{Lacks}
 use Rattle.dip_store_tables.specs.Coding.{IsEffectOf}

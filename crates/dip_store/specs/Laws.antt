@@ -1,6 +1,6 @@
 -- What follows for the tables where a change fits.
 use Rattle.dip_map.specs.Charts.{Chart, IsMap}
-use Rattle.dip_desk.specs.Fitting.{Fits}
+use Rattle.dip_desk_keeper.specs.Fitting.{Fits}
 use Rattle.dip_store_tables.specs.Room.{HasRoom}
 use Rattle.dip_desk_state.specs.State.{Change, State}
 use Rattle.dip_store_tables.specs.Changing.{changing}

@@ -5,7 +5,7 @@ use Rattle.std.specs.Io.KnownBytes.{Appends}
 use Rattle.dip_store.specs.declared.paper_faults.PaperFault.{PaperFault}
 use Rattle.dip_store.specs.declared.paper_faults.PaperFault.TheVariants.{Write, Keep}
 use Rattle.dip_map.specs.Charts.{Chart}
-use Rattle.dip_desk.specs.Keeping.{Book, Ends, Rises}
+use Rattle.dip_desk_keeper.specs.Keeping.{Book, Ends, Rises}
 use Rattle.dip_desk_state.specs.Faults.{faults_with, keep_fault_name}
 use Rattle.dip_desk_state.specs.State.{Game, State, game_at}
 use Rattle.dip_desk_state.specs.declared.faults.KeepFault.TheVariants.{Disk}

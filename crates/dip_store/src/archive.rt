@@ -1,7 +1,7 @@
 //! All papers of a game, in their order.
 ghost use Rattle.std.specs.Prelude.{◌≡◌, ◌<◌, ℕ, OnErr, OnOk, IfErr, IfOk, IsErrOf, length, take as first};
 ghost use Rattle.std.specs.Io.KnownBytes.{Appends};
-ghost use Rattle.dip_desk.specs.Keeping.{IsOpen};
+ghost use Rattle.dip_desk_keeper.specs.Keeping.{IsOpen};
 ghost use Rattle.dip_store.specs.Papers.{AreBegun, AreOut, BreaksOff, Walks, papers_of, papers_text};
 ghost use Rattle.dip_desk_state.specs.Bounds.{most_papers};
 ghost use Rattle.dip_desk_state.specs.State.{game_at};
@@ -9,7 +9,7 @@ ghost use Rattle.dip_store.specs.Stored.{book};
 
 use crate::keeper::SqlKeeper;
 use crate::paper_faults::PaperFault;
-use dip_desk::Keeper;
+use dip_desk_keeper::Keeper;
 use dip_desk_state::{KeepFault, MOST_PAPERS};
 use dip_map::Map;
 use dip_streams::write_text;

@@ -8,7 +8,7 @@ use crate::faults::{is_of_size, row_fault};
 use crate::fitting_laws::{what_fits_can_be_written, what_fits_finds_place};
 use crate::papers::look_game_paper;
 use crate::shared::look_shared_public;
-use dip_desk::Keeper;
+use dip_desk_keeper::Keeper;
 use dip_desk_state::{Change, Desk, Item, KeepFault, Own, Public, Whole};
 use dip_map::{Map, Power};
 use dip_store_changes::{changes_are_made, make};

@@ -7,6 +7,7 @@ use Rattle.dip_desk_state.specs.Records.{Item}
 use Rattle.dip_store_tables.specs.Changing.{delivering_each, with_items}
 use Rattle.dip_store_tables.specs.Tables.{BoxRow, SeatRow, Tables, is_seat}
 use Rattle.dip_store_tables.specs.Writing.{box_row}
+use Rattle.dip_store_counts.specs.Counts.{AreSeats}
 use Rattle.dip_store_counts.specs.declared.readers.Reader.{Reader}
 
 -- a reader's seat counts the item, and its inbox has it

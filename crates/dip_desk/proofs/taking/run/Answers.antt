@@ -4,13 +4,13 @@ use Rattle.dip_desk_state.specs.Faults.{faults_with}
 use Rattle.dip_desk_machine.specs.Lawful.{IsLawful}
 use Rattle.dip_desk_machine.specs.Machine.{Step}
 use Rattle.dip_desk_machine.specs.Mail.{IsMail, mail}
-use Rattle.dip_desk.specs.Keeping.{IsOpen}
+use Rattle.dip_desk_keeper.specs.Keeping.{IsOpen}
 use Rattle.dip_desk.specs.Running.{Answers}
 use Rattle.dip_desk_state.specs.State.{State}
 use Rattle.dip_desk_state.specs.declared.faults.KeepFault.{KeepFault}
 use Rattle.dip_desk_state.specs.Rows as rows
-use Rattle.dip_desk.proofs.Keepings.{keeps_as, keeps_then, told_late}
-use Rattle.dip_desk.proofs.Ending.{ends_late, ends_open, said_at, steps_end, steps_on}
+use Rattle.dip_desk_keeper.proofs.Keepings.{keeps_as, keeps_then, told_late}
+use Rattle.dip_desk_keeper.proofs.Ending.{ends_late, ends_open, said_at, steps_end, steps_on}
 use Rattle.dip_desk_machine.proofs.Histories.{history_more, map_more, said_each, taken_more}
 use Rattle.dip_desk_machine.proofs.Publishing.{fair}
 use Rattle.dip_desk.proofs.taking.run.Goals as goal

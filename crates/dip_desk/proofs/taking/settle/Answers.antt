@@ -6,7 +6,7 @@ use Rattle.dip_desk_state.specs.ChangeRows as desk_rows
 use Rattle.dip_desk_state.specs.State.{Change, state_after}
 use Rattle.dip_desk_machine.specs.Verdicts.{verdict}
 use Rattle.dip_desk_state.specs.Rows as rows
-use Rattle.dip_desk.proofs.Keepings.{unmade}
+use Rattle.dip_desk_keeper.proofs.Keepings.{unmade}
 use Rattle.dip_desk.proofs.taking.settle.Goals as goal
 
 pub returns-in-Err : goal.returns-in-Err

@@ -1,5 +1,5 @@
 use Rattle.std.proofs.Common.{◌≡◌, ◌≤◌, ◌-◌}
-use Rattle.dip_desk.specs.Keeping.{IsOpen}
+use Rattle.dip_desk_keeper.specs.Keeping.{IsOpen}
 use Rattle.dip_http.proofs.ServingLemmas.{HasMet}
 use Rattle.dip_http.specs.Serving.{MeetsTo}
 use Rattle.dip_http.proofs.serving.serve_all.Given as goal

@@ -1,7 +1,7 @@
 use Rattle.std.proofs.Common.{ℕ, Err, ap, rules, arith, refl, ◌++◌, ◌∷◌, [], ◌∙◌}
 use Rattle.dip_desk_state.specs.Rows as rows
-use Rattle.dip_desk.proofs.Ending.{ends_late, ends_open}
-use Rattle.dip_desk.proofs.Keepings.{told_late}
+use Rattle.dip_desk_keeper.proofs.Ending.{ends_late, ends_open}
+use Rattle.dip_desk_keeper.proofs.Keepings.{told_late}
 use Rattle.std.proofs.lemmas.Result.{err_from_is_err_and}
 use Rattle.dip_judge_runs.specs.RunFaults.{faults_after_run}
 use Rattle.dip_judge_runs.proofs.StepLemmas.{count_so, fails_so, goes_on}

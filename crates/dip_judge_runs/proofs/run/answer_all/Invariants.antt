@@ -1,7 +1,7 @@
 use Rattle.std.proofs.Common.{◌≡◌, ◌≤◌, List, length}
 use Rattle.std.specs.List.{flat_map}
 use Rattle.std.specs.Io.KnownBytes.{Appends}
-use Rattle.dip_desk.specs.Keeping.{IsOpen}
+use Rattle.dip_desk_keeper.specs.Keeping.{IsOpen}
 use Rattle.dip_desk_machine.specs.Lawful.{IsLawful}
 use Rattle.dip_reports.specs.Texts.{reply_text}
 use Rattle.dip_desk_state.specs.Records.{Reply}

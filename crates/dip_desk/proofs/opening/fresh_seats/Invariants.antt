@@ -1,8 +1,0 @@
-use Rattle.std.proofs.Common.{◌≡◌, take, map}
-use Rattle.dip_desk_state.specs.ChangeRows as desk_rows
-use Rattle.dip_desk_state.specs.State.{fresh}
-use Rattle.dip_desk.specs.Stored.{parts}
-use Rattle.dip_desk.proofs.opening.fresh_seats.Given as goal
-
-abbrev pub invariant-loop-seat : goal.invariant-loop-seat
-invariant-loop-seat l = parts l.new_rows.items ≡ map fresh (map (λ n. desk_rows.new_seat n) (take l.seat-index l.seats))

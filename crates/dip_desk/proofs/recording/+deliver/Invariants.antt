@@ -1,5 +1,0 @@
-use Rattle.std.proofs.Common.{length}
-use Rattle.dip_desk.proofs.recording.+deliver.Given as goal
-
-abbrev pub decreases-deliver : goal.decreases-deliver
-decreases-deliver l = length l.seats.now

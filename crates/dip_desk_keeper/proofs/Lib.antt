@@ -1,0 +1,2 @@
+pub mod Keepings
+pub mod Ending

@@ -1,0 +1,3 @@
+pub mod GamesLemmas
+pub mod PartLemmas
+pub mod Placing

@@ -1,0 +1,3 @@
+pub mod Lacking
+pub mod Stored
+pub mod InMemory

@@ -1,5 +1,5 @@
 -- What fits finds place in memory.
-use Rattle.std.proofs.Common.{Option, None, Some, arith, sym, ◌∙◌}
+use Rattle.std.proofs.Common.{Option, None, Some, arith, inl, inr, sym, ◌∙◌}
 use Rattle.std.proofs.lemmas.Bool.{false≢true}
 use Rattle.dip_map.specs.Charts.{Chart}
 use Rattle.dip_desk_keeper.specs.Fitting.{Fits, FitsGame}

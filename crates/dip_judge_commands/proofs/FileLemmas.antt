@@ -1,5 +1,6 @@
 -- From what a file held to what its store says after a command.
-use Rattle.std.proofs.Common.{◌≡◌, Err, IfErr, IfSome, List, OnOk, Ok, Option, Result, Some, subst, sym, ℕ}
+use Rattle.std.proofs.Common.{◌≡◌, ◌∙◌, Err, IfErr, IfSome, List, OnOk, Ok, Option, Result, Some, inl, inr, subst, sym, ℕ}
+use Rattle.std.proofs.lemmas.Bool.{false≢true}
 use Rattle.sqlite_disk.specs.declared.Disk as disk
 use Rattle.sqlite.specs.Store.{Ghosts}
 use Rattle.sqlite.specs.declared.FileStore.{FileStore}
@@ -12,10 +13,14 @@ use Rattle.sqlite.specs.State.{HasCleanDisk}
 use Rattle.dip_map.specs.Charts.{Chart}
 use Rattle.dip_desk_state.specs.State.{State}
 use Rattle.dip_store.specs.Calls.{is_honest}
-use Rattle.dip_store.specs.Opening.{IsDesk, IsNowOf}
+use Rattle.dip_store.specs.Opening.{IsDesk, IsMadeForText, IsNowOf, IsShutBy, IsShutFor}
+use Rattle.dip_store.specs.StoreFault.{StoreFault}
 use Rattle.dip_judge_words.specs.declared.args.Args.{Args}
-use Rattle.dip_judge_commands.specs.Files.{FromHeld, HeldDesk, IsFoundIn, LeavesStore, StopsStore, WasOpened}
+use Rattle.dip_judge_commands.proofs.StoredLemmas.{some_fault}
+use Rattle.dip_judge_commands.specs.Files.{FromHeld, HasFaults, HeldDesk, IsFoundIn, LeavesStore, StopsStore, TellsOfFile, TellsStore, WasMadeFor, WasOpened, WasShutFor}
+use Rattle.dip_judge_commands.specs.Stores.{TellsOfStore}
 use Rattle.dip_judge_commands.specs.declared.failures.Failure.{Failure}
+use Rattle.dip_judge_commands.specs.declared.failures.Failure.TheVariants.{Listen, Map, NoGame, NoMemory, Negative, Papers, Run, Serving, Store, Usage}
 
 module _ {D : Type 0} {g : disk.Ghosts D} (image : Image) (m : Chart) (first : Held (FileStore D g)) (opened : HasCleanDisk (file_state first) → IsOpened first)
     (found : HasCleanDisk (file_state first) → FindsIn image (file_state first)) where
@@ -33,6 +38,42 @@ module _ {D : Type 0} {g : disk.Ghosts D} (image : Image) (m : Chart) (first : H
   is_held clean s held =
       let it = opened clean in
       record { shows = (clean, it.0.is_open); idle = it.0.autocommit; says = held (file_state first).now (is_found clean) }
+
+  -- what an answer over it tells of the map, the file tells
+  module _ (text : List ℕ) (last : Held (FileStore D g)) (fair : is_honest over_files last → HasCleanDisk (file_state first)) where
+    was_made_for : (is_honest over_files last → IsMadeForText m text (file_state first).now) → is_honest over_files last → WasMadeFor image m text
+    was_made_for made clean = ((file_state first).now, is_found (fair clean), made clean)
+
+    was_shut_for : (fault : StoreFault) → IsShutBy over_files m text first last fault → is_honest over_files last → WasShutFor image m text (HasFaults over_files last) fault
+    was_shut_for fault shut clean =
+        let it = opened (fair clean) in
+        let why = shut clean (fair clean, it.0.is_open) in (
+          (file_state first).now,
+          is_found (fair clean),
+          record {
+            refused = why.refused;
+            own = why.own;
+            known = why.known;
+            caused = λ is. elim (why.caused is) [
+              | inl (inl under) ↦ absurd (false≢true (sym it.0.autocommit ∙ under))
+              | inl (inr told) ↦ inl (some_fault over_files first last told)
+              | inr left ↦ inr left
+            ];
+          },
+        )
+
+    pub tells_of_file : (r : Result (Unit {0}) Failure) → TellsOfStore over_files m text first last r → TellsOfFile over_files image m text last r
+    tells_of_file (Ok done) made = was_made_for made
+    tells_of_file (Err (Store fault)) shut = was_shut_for fault shut
+    tells_of_file (Err (Usage fault)) made = was_made_for made
+    tells_of_file (Err (Map fault)) made = was_made_for made
+    tells_of_file (Err NoMemory) made = was_made_for made
+    tells_of_file (Err Listen) made = was_made_for made
+    tells_of_file (Err (Run fault)) made = was_made_for made
+    tells_of_file (Err (Serving fault)) made = was_made_for made
+    tells_of_file (Err NoGame) made = was_made_for made
+    tells_of_file (Err Negative) made = was_made_for made
+    tells_of_file (Err (Papers fault)) made = was_made_for made
 
   module _ (last : Held (FileStore D g)) (fair : is_honest over_files last → HasCleanDisk (file_state first)) where
     from_held : (P : State → Held (FileStore D g) → Type 0) → (is_honest over_files last → (s : State) → IsDesk over_files m s first → P s last) → FromHeld over_files image m P last
@@ -52,6 +93,9 @@ module _ {D : Type 0} {g : disk.Ghosts D} (image : Image) (m : Chart) (first : H
 
 module _ {S : Type 0} (g : Ghosts S) (image : Image) (m : Chart) (known left before after : Option (List ℕ)) (a b : Args) (is : a ≡ b) (opened : Option (Held S)) (r : Result (Unit {0}) Failure) where
   -- what is asked for, by another name
+  pub tells_as : (text : List ℕ) → IfSome opened (λ store. TellsStore g image m text b store r) → IfSome opened (λ store. TellsStore g image m text a store r)
+  tells_as text tells = subst (λ a. IfSome opened (λ store. TellsStore g image m text a store r)) (sym is) tells
+
   pub leaves_as : OnOk r (LeavesStore g image m known left before after b opened) → OnOk r (LeavesStore g image m known left before after a opened)
   leaves_as leaves = subst (λ a. OnOk r (LeavesStore g image m known left before after a opened)) (sym is) leaves
 

@@ -1,5 +1,5 @@
 -- A store that a keeper leaves.
-use Rattle.std.proofs.Common.{◌≡◌, ◌≤◌, ◌⊎◌, inl, inr, ℕ, List, Option, Some, None, IsSome, refl, sym, subst, ◌∙◌, arith}
+use Rattle.std.proofs.Common.{◌≡◌, ◌≤◌, ◌⊎◌, Err, inl, inr, ℕ, List, Option, Some, None, IsSome, refl, sym, subst, ◌∙◌, arith}
 use Rattle.sqlite.specs.Effect.{Database}
 use Rattle.sqlite.specs.Store.{Ghosts}
 use Rattle.sqlite.specs.Held.{Held, state}
@@ -66,8 +66,16 @@ module _ {S : Type 0} (g : Ghosts S) (m : Chart) (old : State) (k kept : SqlKeep
 -- why a store isn't opened
 pub shut_by : {S : Type 0} (g : Ghosts S) (m : Chart) (text : List ℕ) (store : Held S) (fault : StoreFault) (new : Held S)
     → OpensStore g m text store (Err (fault, new)) → IsShutBy g m text store new fault
-shut_by g m text store fault new it =
-    record { refused = it.refused; own = it.own; known = λ honest is. it.known honest is; caused = it.caused }
+shut_by g m text store fault new it honest shows = record {
+  refused = it.refused honest;
+  own = it.own honest;
+  known = λ is. it.known honest is;
+  caused = λ is. elim (it.caused honest shows is) [
+    | inl under ↦ inl (inl under)
+    | inr (inl told) ↦ inl (inr told)
+    | inr (inr left) ↦ inr left
+  ];
+}
 
 -- why no desk is made in it
 pub unmade_by : {S : Type 0} (g : Ghosts S) (m : Chart) (text digest : List ℕ) (store : Held S) (fault : StoreFault) (new : Held S)

@@ -36,6 +36,11 @@ Streams m known left before after Version = (left ≡ known) × Appends before a
 abbrev pub IsAskedFor : List ℕ → List Text → (Args → Chart → Type 0) → Type 0
 IsAskedFor standard words P = (a : Args) × (m : Chart) × IsAsked standard words a m × P a m
 
+-- the words ask for something, by the map of a text, of which this is so
+abbrev pub IsAskedOver : List ℕ → List Text → (Args → Chart → List ℕ → Type 0) → Type 0
+IsAskedOver standard words P = (a : Args) × (m : Chart) × (text : List ℕ) × IsGiven words a × IsFit a
+    × IsMapOf standard (map_named a) text m × P a m text
+
 -- it was done as the words ask
 abbrev pub IsDone : List ℕ → List Text → Option (List ℕ) → Option (List ℕ) → Option (List ℕ) → Option (List ℕ) → Type 0
 IsDone standard words known left before after = IsAskedFor standard words (λ a m. Streams m known left before after a)

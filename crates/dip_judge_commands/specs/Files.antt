@@ -1,5 +1,5 @@
 -- What a command leaves of the store in a file, from what the file held on.
-use Rattle.std.specs.Prelude.{◌≡◌, ◌≤◌, ℕ, List, Option, None, Some}
+use Rattle.std.specs.Prelude.{◌≡◌, ◌≤◌, ℕ, Err, List, None, OnOk, Option, Result, Some}
 use Rattle.sqlite.specs.Effect.{Database, IsDatabase}
 use Rattle.sqlite.specs.Files.{AreFoundIn, HoldsDatabase}
 use Rattle.sqlite.specs.Held.{Held, state}
@@ -11,10 +11,12 @@ use Rattle.dip_judge_words.specs.declared.args.Args.{Args}
 use Rattle.dip_judge_words.specs.declared.args.Args.TheVariants.{Init, Letters, Stored, Serve, Report, Check, Explain, Version}
 use Rattle.dip_desk_state.specs.State.{State}
 use Rattle.dip_store.specs.Calls.{does_show, is_honest}
-use Rattle.dip_store.specs.Opening.{Holds, Says}
+use Rattle.dip_store.specs.Opening.{Holds, IsMadeForText, IsShutFor, Says, SaysText}
+use Rattle.dip_store.specs.StoreFault.{StoreFault}
 use Rattle.dip_judge_runs.specs.Fresh.{fresh_desk}
 use Rattle.dip_judge_commands.specs.Stores.{AnswersFrom, Reports, ServesFrom, StopsFrom, StopsReport, StopsServing}
 use Rattle.dip_judge_commands.specs.declared.failures.Failure.{Failure}
+use Rattle.dip_judge_commands.specs.declared.failures.Failure.TheVariants.{Store}
 
 -- the database is found in the file
 abbrev pub IsFoundIn : Image → Database → Type 0
@@ -37,6 +39,23 @@ FromHeld g image m P store = is_honest g store → (s : State) → HeldDesk imag
 -- the store told of a fault of the disk
 abbrev pub HasFaults : {S : Type 0} → Ghosts S → Held S → Type 0
 HasFaults g store = 1 ≤ (state g store).faults
+
+-- a database that is found in the file was made for the map of this text
+abbrev pub WasMadeFor : Image → Chart → List ℕ → Type 0
+WasMadeFor image m text = (db : Database) × IsFoundIn image db × IsMadeForText m text db
+
+-- one that is found in it isn't opened by the map of this text, for such a reason
+abbrev pub WasShutFor : Image → Chart → List ℕ → Type 0 → StoreFault → Type 0
+WasShutFor image m text Fault fault =
+    (db : Database) × IsFoundIn image db × IsShutFor m text db Fault fault
+
+-- what a command over a store tells of the map: the store isn't opened, for such a reason; else it
+-- was made for the map of this text
+abbrev pub TellsOfFile : {S : Type 0} → Ghosts S → Image → Chart → List ℕ → Held S
+    → Result (Unit {0}) Failure → Type 0
+TellsOfFile g image m text new (Err (Store fault)) =
+    is_honest g new → WasShutFor image m text (HasFaults g new) fault
+TellsOfFile g image m text new result = is_honest g new → WasMadeFor image m text
 
 -- a new desk is there, whose master has this secret; or what was committed is as the file held it
 abbrev pub MadeIn : {S : Type 0} → Ghosts S → Chart → List ℕ → Held S → Type 0
@@ -94,3 +113,19 @@ module _ {S : Type 0} (g : Ghosts S) (image : Image) (m : Chart) (known left bef
   StopsStore (Check file) failure = λ store. Unit {0}
   StopsStore (Explain paper file) failure = λ store. Unit {0}
   StopsStore Version failure = λ store. Unit {0}
+
+-- what a command tells of the store that it opened, by the map of this text: a new desk is of that
+-- text; the others tell whether the file's desk is
+abbrev pub TellsStore : {S : Type 0} → Ghosts S → Image → Chart → List ℕ → Args → Held S
+    → Result (Unit {0}) Failure → Type 0
+TellsStore g image m text (Init path master file) new result =
+    is_honest g new → OnOk result (SaysText g text new)
+TellsStore g image m text (Letters master file) new result = Unit {0}
+TellsStore g image m text (Stored path file) new result = TellsOfFile g image m text new result
+TellsStore g image m text (Serve path port count file) new result =
+    TellsOfFile g image m text new result
+TellsStore g image m text (Report path game file) new result =
+    TellsOfFile g image m text new result
+TellsStore g image m text (Check file) new result = Unit {0}
+TellsStore g image m text (Explain paper file) new result = Unit {0}
+TellsStore g image m text Version new result = Unit {0}

@@ -2,10 +2,12 @@
 ghost use Rattle.std.specs.Prelude.{map as each, IfErr, IfSome, OnOk};
 ghost use Rattle.sqlite.specs.Files.{over_files};
 ghost use Rattle.sqlite.specs.WalFiles.{image_at};
-ghost use Rattle.dip_judge_commands.specs.Asked.{Fails, IsAskedFor, IsDone, IsFailed, IsInitFailure, Streams};
-ghost use Rattle.dip_judge_commands.specs.Files.{AnswersIn, AnswersUpTo, LeavesStore, MadeIn, ReportsIn, ServesIn, StopsReportIn, StopsServingIn, StopsStore, UnmadeIn, WasOpened};
+ghost use Rattle.dip_judge_commands.specs.Asked.{Fails, IsAskedFor, IsAskedOver, IsDone, IsFailed, IsInitFailure, Streams};
+ghost use Rattle.dip_judge_commands.specs.Files.{AnswersIn, AnswersUpTo, LeavesStore, MadeIn, ReportsIn, ServesIn, StopsReportIn, StopsServingIn, StopsStore, TellsOfFile, TellsStore, UnmadeIn, WasOpened};
 ghost use Rattle.dip_judge_commands.specs.Stores.{IsReportFailure, IsServeFailure, ReadsUpTo};
 ghost use Rattle.dip_judge_runs.specs.Runs.{IsReadToEnd};
+ghost use Rattle.dip_store.specs.Calls.{is_honest};
+ghost use Rattle.dip_store.specs.Opening.{SaysText};
 
 use crate::checking::{check, explain};
 use crate::failures::Failure;
@@ -32,6 +34,8 @@ fn init_file<S: Start>(
     ensures unmade { IfErr result.0
         (λ _. IfSome result.1 (UnmadeIn over_files (image_at S.Start))) }
     ensures failed { IfErr result.0 IsInitFailure }
+    ensures tells { IfSome result.1 (λ store. is_honest over_files store
+        → OnOk result.0 (SaysText over_files text.now store)) }
 {
     match open_new(rt, start, path) {
         Err(fault) => (Err(Failure::Store(fault)), None),
@@ -62,6 +66,8 @@ fn answer_file<S: Start, R: Read, W: Write>(
     ensures failed { IfErr result.0
         (ReadsUpTo (R.remaining reader.old) (R.remaining reader.new) (W.contents writer.old)
         (W.contents writer.new)) }
+    ensures tells { IfSome result.1 (λ store.
+        TellsOfFile over_files (image_at S.Start) map.now text.now store result.0) }
 {
     match open_present(rt, start, path) {
         Err(fault) => (Err(Failure::Store(fault)), None),
@@ -87,6 +93,8 @@ fn serve_file<S: Start>(
     ensures stops { IfErr result.0 (λ f. IfSome result.1
         (StopsServingIn over_files (image_at S.Start) map.now count f)) }
     ensures failed { IfErr result.0 IsServeFailure }
+    ensures tells { IfSome result.1 (λ store.
+        TellsOfFile over_files (image_at S.Start) map.now text.now store result.0) }
 {
     match open_present(rt, start, path) {
         Err(fault) => (Err(Failure::Store(fault)), None),
@@ -113,6 +121,8 @@ fn report_file<S: Start, W: Write>(
         (StopsReportIn over_files (image_at S.Start) map.now game.now (W.contents writer.old)
         (W.contents writer.new) f)) }
     ensures failed { IfErr result.0 IsReportFailure }
+    ensures tells { IfSome result.1 (λ store.
+        TellsOfFile over_files (image_at S.Start) map.now text.now store result.0) }
 {
     match open_present(rt, start, path) {
         Err(fault) => (Err(Failure::Store(fault)), None),
@@ -143,6 +153,8 @@ fn do_asked<S: Start, R: Read, W: Write>(
     ensures stops { IfErr result.0 (λ f. IfSome result.1 (StopsStore over_files (image_at S.Start)
         map.now (R.remaining reader.old) (R.remaining reader.new) (W.contents writer.old)
         (W.contents writer.new) args.now f)) }
+    ensures tells { IfSome result.1 (λ store.
+        TellsStore over_files (image_at S.Start) map.now text.now args.now store result.0) }
 {
     match args {
         Args::Init { store, master, .. } => init_file(rt, start, store, map, text, master),
@@ -192,6 +204,9 @@ pub fn do_as_asked<S: Start, R: Read, W: Write>(
     ensures leaves { OnOk result.0 (IsAskedFor STANDARD.now (each (λ w. w.now) words.entry.now)
         (λ a m. LeavesStore over_files (image_at S.Start) m (R.remaining reader.old)
         (R.remaining reader.new) (W.contents writer.old) (W.contents writer.new) a result.1)) }
+    ensures tells { IfSome result.1 (λ store. IsAskedOver STANDARD.now
+        (each (λ w. w.now) words.entry.now)
+        (λ a m text. TellsStore over_files (image_at S.Start) m text a store result.0)) }
     ensures stops { IfErr result.0 (λ f. IfSome result.1 (λ store. IsAskedFor STANDARD.now
         (each (λ w. w.now) words.entry.now) (λ a m. StopsStore over_files (image_at S.Start) m
         (R.remaining reader.old) (R.remaining reader.new) (W.contents writer.old)

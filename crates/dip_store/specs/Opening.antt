@@ -158,20 +158,24 @@ pub record OpensStore {S : Type 0} (g : Ghosts S) (m : Chart) (text : List ℕ) 
 abbrev pub IsMadeForText : Chart → List ℕ → Database → Type 0
 IsMadeForText m text db = IsMadeFor m (sha256 text) db
 
--- why a store isn't opened by the map of this text. It is of another version or map only where its
--- master's row says so, and where keepers wrote it for this map only memory or the disk is told
--- of. The disk is told of only where a transaction was under way, or the store told of a fault of
--- it, or its tables of version 1 can't be made anew
-pub record IsShutBy {S : Type 0} (g : Ghosts S) (m : Chart) (text : List ℕ) (store new : Held S)
+-- why a database isn't opened by the map of this text. It is of another version or map only where
+-- its master's row says so, and where keepers wrote it for this map only memory or the disk is
+-- told of. The disk is told of only where there was a fault of it, or tables of version 1 can't be
+-- made anew
+pub record IsShutFor (m : Chart) (text : List ℕ) (db : Database) (Fault : Type 0)
     (fault : StoreFault) : Type 0 where
-  pub refused : is_honest g new → IsRefusedBy m (sha256 text) (state g store).now fault
-  pub own : is_honest g new → (s : State) → Says m s (state g store).now
-      → IsMadeForText m text (state g store).now → IsOutage fault
-  pub known : is_honest g new → fault ≡ faults.OtherMap
-      → HasOurTables (state g store).now.schema ⊎ HasOldTables (state g store).now.schema
-  pub caused : is_honest g new → does_show g store → fault ≡ faults.Disk
-      → IsTrue store.in_transaction ⊎ (has_faulted g store new
-      ⊎ IsLeftOld m (sha256 text) (state g store).now)
+  pub refused : IsRefusedBy m (sha256 text) db fault
+  pub own : (s : State) → Says m s db → IsMadeForText m text db → IsOutage fault
+  pub known : fault ≡ faults.OtherMap → HasOurTables db.schema ⊎ HasOldTables db.schema
+  pub caused : fault ≡ faults.Disk → Fault ⊎ IsLeftOld m (sha256 text) db
+
+-- why an open store isn't opened as a desk's: a fault of the disk is one that the store told of, or
+-- a transaction under way
+abbrev pub IsShutBy : {S : Type 0} → Ghosts S → Chart → List ℕ → Held S → Held S → StoreFault
+    → Type 0
+IsShutBy g m text store new fault = is_honest g new → does_show g store
+    → IsShutFor m text (state g store).now (IsTrue store.in_transaction ⊎ has_faulted g store new)
+    fault
 
 -- why no desk is made in a store. It has a table, or memory ran out, or the disk failed, which is
 -- told of only where a transaction was under way, or the store told of a fault of it

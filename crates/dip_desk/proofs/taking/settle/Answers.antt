@@ -1,5 +1,6 @@
 use Rattle.std.proofs.Common.{◌≡◌, ap, sym, refl, subst, ◌∙◌, string_bytes}
-use Rattle.dip_desk.specs.Fitting.{Fits, VerdictFits}
+use Rattle.dip_desk.specs.Fitting.{VerdictFits}
+use Rattle.dip_desk_keeper.specs.Fitting.{Fits}
 use Rattle.dip_desk_machine.specs.Machine as m
 use Rattle.dip_desk_machine.specs.Mail.{mail}
 use Rattle.dip_desk_state.specs.ChangeRows as desk_rows

@@ -5,7 +5,7 @@ use Rattle.dip_store.specs.Causes.{has_faulted}
 use Rattle.dip_store.specs.Opening.{IsNowOf}
 use Rattle.dip_judge_commands.specs.Files.{HasFaults, IsFoundIn}
 use Rattle.dip_judge_commands.specs.Stores.{AnswersFrom, StopsFrom}
-use Rattle.dip_judge_commands.proofs.FileLemmas.{err_held, found_there, ok_held}
+use Rattle.dip_judge_commands.proofs.FileLemmas.{err_held, found_there, ok_held, tells_of_file}
 use Rattle.dip_judge_commands.proofs.StoredLemmas.{some_fault, stops_as_of}
 use Rattle.dip_judge_commands.proofs.asked.answer_file.Goals as goal
 
@@ -29,3 +29,8 @@ returns-in-Ok-clause-stops g c =
     (stops_as_of over_files m (has_faulted over_files first last) (HasFaults over_files last) (some_fault over_files first last) (IsNowOf over_files first) (IsFoundIn image)
     (found_there image m first c.in-Ok.ensures.opened c.in-Ok.ensures.found (call.ensures.fair clean)) s last _ _ _ _)
     (call.ensures.stops clean s desk))
+
+pub returns-in-Ok-clause-tells : goal.returns-in-Ok-clause-tells
+returns-in-Ok-clause-tells g c =
+    let call = c.answer_stored-answered in
+    tells_of_file (image_at g.S.Start) c.args.map.now c.in-Ok.store c.in-Ok.ensures.opened c.in-Ok.ensures.found c.args.text.now call.result.1 call.ensures.fair call.result.0 call.ensures.tells

@@ -8,7 +8,7 @@ returns-in-Ok-clause-made g c =
     rw c.into_store.ensures
     (λ honest. (
       holds g.S.Store c.args.map.now _ c.in-Ok.keeper
-      (subst (λ d. Opens g.S.Store c.args.map.now (record { desk = record { digest = d; kept = None }; games = [] }) c.in-Ok.keeper) c.digest-digest.ensures (c.in-Ok.ensures.opened honest)),
+          (subst (λ d. Opens g.S.Store c.args.map.now (record { desk = record { digest = d; kept = None }; games = [] }) c.in-Ok.keeper) c.digest-digest.ensures (c.in-Ok.ensures.opened honest)),
       c.in-Ok.ensures.made honest,
     ))
 

@@ -1,0 +1,20 @@
+use Rattle.std.proofs.Common.{List, Option, subst, sym, ℕ}
+use Rattle.std.specs.Prelude.{option_map}
+use Rattle.std.proofs.lemmas.Option.{IfSome_then}
+use Rattle.dip_map.specs.declared.standard.TheConstants.{STANDARD}
+use Rattle.dip_judge_runs.specs.MapFiles.{IsMapOf}
+use Rattle.dip_judge_commands.proofs.asked.do_as_asked.Goals as goal
+
+pub returns-in-Ok-read_map-clause-tells : goal.returns-in-Ok-read_map-clause-tells
+returns-in-Ok-read_map-clause-tells g c =
+    IfSome_then c.do_asked.result.1 c.do_asked.ensures.tells
+    (λ store tells. (
+      c.in-Ok.args,
+      c.in-Ok-read_map.map,
+      c.text_said.result.now,
+      c.in-Ok.ensures.given,
+      c.in-Ok.ensures.checks,
+      subst (λ (path : Option (List ℕ)). IsMapOf STANDARD.now path c.text_said.result.now c.in-Ok-read_map.map) c.map.ensures
+          (subst (λ (text : List ℕ). IsMapOf STANDARD.now (option_map (λ p. p.now) c.map.result) text c.in-Ok-read_map.map) (sym c.text_said.ensures) c.in-Ok-read_map.ensures.map),
+      tells,
+    ))

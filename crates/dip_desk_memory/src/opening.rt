@@ -75,12 +75,11 @@ pub fn add_game(
     ensures ok { OnOk result (stored.games games.new.entries ≡ stored.games games.old.entries
         ++ s.opening_game (rows.public public.now) (string_bytes paper.now)
         (each (λ n. desk_rows.new_seat n) seats.now) ∷ []) }
-    ensures free { OnOk result ((f : s.Game → s.Game) → stored.games games.old.entries
+    ensures free { OnOk result
+        ((at bytes_eq s.name_of (string_bytes public.now.game) (stored.games games.old.entries)
+        ≡ None) × ((f : s.Game → s.Game) → stored.games games.old.entries
         ≡ change_at bytes_eq s.name_of (string_bytes public.now.game) f
-        (stored.games games.old.entries)) }
-    ensures new { OnOk result
-        (at bytes_eq s.name_of (string_bytes public.now.game) (stored.games games.old.entries)
-        ≡ None) }
+        (stored.games games.old.entries))) }
     ensures err { OnErr result
         (stored.games games.new.entries ≡ stored.games games.old.entries) }
     ensures named { stored.are_named games.old.entries ≡ true

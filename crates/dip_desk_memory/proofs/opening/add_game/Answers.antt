@@ -32,14 +32,9 @@ returns-clause-named c named =
     ∙ named_added c.in_ok-clone.field-0 c.in_ok-game.game es (c.in_ok-game.ensures.name ∙ sym same) (ap (λ (n : List ℕ). is_some (lookup (is_named n) es)) same ∙ free) named
 
 pub returns-clause-free : goal.returns-clause-free
-returns-clause-free c f =
+returns-clause-free c =
     let name = string_bytes c.args.public.now.game in
     let es = c.args.games.now.entries in
     let free : is_some (lookup (is_named name) es) ≡ false =
     ap (λ (n : List ℕ). is_some (lookup (is_named n) es)) (sym c.as_str.ensures.value) ∙ sym c.if-contains_key.ensures in
-    game_kept name f es free
-
-pub returns-clause-new : goal.returns-clause-new
-returns-clause-new c =
-    let es = c.args.games.now.entries in
-    none_named (string_bytes c.args.public.now.game) es (ap (λ (n : List ℕ). is_some (lookup (is_named n) es)) (sym c.as_str.ensures.value) ∙ sym c.if-contains_key.ensures)
+    (none_named name es free, λ f. game_kept name f es free)
